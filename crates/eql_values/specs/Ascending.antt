@@ -1,0 +1,17 @@
+-- Events in their order.
+use Rattle.std.specs.Prelude.{◌≡◌, List, [], ◌∷◌}
+use Rattle.std.specs.declared.cmp.Ordering.TheVariants.{Less}
+use Rattle.eql_values.specs.declared.order.OrderKey.{OrderKey}
+use Rattle.eql_values.specs.declared.item.Item.{Item}
+use Rattle.eql_values.specs.OrderKeys.{order_cmp}
+use Rattle.eql_values.specs.Routes.{RoutesInOrder}
+
+-- each of the items comes after this event
+abbrev pub AllAfter : OrderKey → List Item → Type 0
+AllAfter event [] = Unit {0}
+AllAfter event (item ∷ items) = (order_cmp event item.order ≡ Less) × AllAfter event items
+
+-- the items ascend strictly, and the routes of each by key
+abbrev pub Ascending : List Item → Type 0
+Ascending [] = Unit {0}
+Ascending (item ∷ items) = RoutesInOrder item.routes × AllAfter item.order items × Ascending items

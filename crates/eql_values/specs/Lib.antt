@@ -1,0 +1,17 @@
+pub mod Wants
+pub mod Agreement
+pub mod Orders
+pub mod OrderKeys
+pub mod Masks
+pub mod Routes
+pub mod Ascending
+pub mod Marks
+pub mod Ordered
+pub mod Lines
+pub mod Reading
+pub mod Accepted
+pub mod Chains
+pub mod Matching
+pub mod Routing
+pub mod Numbering
+pub mod Examples

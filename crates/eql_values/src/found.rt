@@ -1,0 +1,231 @@
+//! Pending sequences and matches.
+ghost use Rattle.std.specs.Prelude.{◌≡◌};
+ghost use Rattle.eql_values.specs.OrderKeys.{EventsAscend};
+
+use crate::order::OrderKey;
+use crate::value::Key;
+use std::marker::Model;
+
+/// The events of a sequence, in strictly ascending order.
+#[derive(Debug, Drop)]
+pub struct Chain {
+    items: Vec<OrderKey>,
+}
+
+impl Model for Chain {
+    ghost use Rattle.std.specs.Prelude.{List};
+    ghost use Rattle.eql_values.specs.declared.order.OrderKey.{OrderKey};
+    ghost use Rattle.eql_values.specs.OrderKeys.{EventsAscend};
+
+    ghost Value = { List OrderKey };
+
+    ghost view = { λ l. l.items.items };
+
+    ghost invariant = { λ l. EventsAscend l.items.items };
+}
+
+impl Chain {
+    /// The list of these events.
+    pub fn of(items: Vec<OrderKey>) -> Chain
+        requires ascend { EventsAscend items.items }
+        ensures { result ≡ items.items }
+    {
+        Chain { items }
+    }
+
+    /// The events, lent.
+    pub fn items(&self) -> &Vec<OrderKey>
+        ensures { result.now.items ≡ self.now }
+    {
+        &self.items
+    }
+
+    /// The events, taken out.
+    pub fn into_items(self) -> Vec<OrderKey>
+        ensures { result.items ≡ self }
+    {
+        self.items
+    }
+}
+
+/// A sequence that has its event for the last stage.
+#[derive(Debug, Drop)]
+pub struct Match {
+    /// The key whose machine found it.
+    pub key: Key,
+    /// Its events, one for each stage.
+    pub chain: Chain,
+}
+
+/// A list of matches.
+#[derive(Debug, Drop)]
+pub struct Matches {
+    items: Vec<Match>,
+}
+
+impl Model for Matches {
+    ghost use Rattle.std.specs.Prelude.{List};
+    ghost use Rattle.eql_values.specs.declared.found.Match.{Match};
+
+    ghost Value = { List Match };
+
+    ghost view = { λ l. l.items.items };
+}
+
+impl Matches {
+    /// The list of these matches.
+    pub fn of(items: Vec<Match>) -> Matches
+        ensures { result ≡ items.items }
+    {
+        Matches { items }
+    }
+
+    /// The matches, lent.
+    pub fn items(&self) -> &Vec<Match>
+        ensures { result.now.items ≡ self.now }
+    {
+        &self.items
+    }
+
+    /// The matches, taken out.
+    pub fn into_items(self) -> Vec<Match>
+        ensures { result.items ≡ self }
+    {
+        self.items
+    }
+}
+
+/// A match with its number in the listing, from 1.
+#[derive(Debug, Drop)]
+pub struct Numbered {
+    /// The number.
+    pub number: u64,
+    /// The match.
+    pub found: Match,
+}
+
+/// A list of numbered matches.
+#[derive(Debug, Drop)]
+pub struct Numbereds {
+    items: Vec<Numbered>,
+}
+
+impl Model for Numbereds {
+    ghost use Rattle.std.specs.Prelude.{List};
+    ghost use Rattle.eql_values.specs.declared.found.Numbered.{Numbered};
+
+    ghost Value = { List Numbered };
+
+    ghost view = { λ l. l.items.items };
+}
+
+impl Numbereds {
+    /// The list of these matches.
+    pub fn of(items: Vec<Numbered>) -> Numbereds
+        ensures { result ≡ items.items }
+    {
+        Numbereds { items }
+    }
+
+    /// The matches, lent.
+    pub fn items(&self) -> &Vec<Numbered>
+        ensures { result.now.items ≡ self.now }
+    {
+        &self.items
+    }
+
+    /// The matches, taken out.
+    pub fn into_items(self) -> Vec<Numbered>
+        ensures { result.items ≡ self }
+    {
+        self.items
+    }
+}
+
+/// A pending sequence: its key, the last stage that it has an event for, and its events.
+#[derive(Debug, Drop)]
+pub struct Holder {
+    /// The key.
+    pub key: Key,
+    /// The last stage that it has an event for, from 1.
+    pub stage: u32,
+    /// Its events, one for each stage up to that one.
+    pub chain: Chain,
+}
+
+/// A list of pending sequences.
+#[derive(Debug, Drop)]
+pub struct Holders {
+    items: Vec<Holder>,
+}
+
+impl Model for Holders {
+    ghost use Rattle.std.specs.Prelude.{List};
+    ghost use Rattle.eql_values.specs.declared.found.Holder.{Holder};
+
+    ghost Value = { List Holder };
+
+    ghost view = { λ l. l.items.items };
+}
+
+impl Holders {
+    /// The list of these sequences.
+    pub fn of(items: Vec<Holder>) -> Holders
+        ensures { result ≡ items.items }
+    {
+        Holders { items }
+    }
+
+    /// The sequences, lent.
+    pub fn items(&self) -> &Vec<Holder>
+        ensures { result.now.items ≡ self.now }
+    {
+        &self.items
+    }
+
+    /// The sequences, taken out.
+    pub fn into_items(self) -> Vec<Holder>
+        ensures { result.items ≡ self }
+    {
+        self.items
+    }
+}
+
+/// The pending sequences of one key: stages with their chains.
+#[derive(Debug, Drop)]
+pub struct StageChains {
+    items: Vec<(u32, Chain)>,
+}
+
+impl Model for StageChains {
+    ghost use Rattle.std.specs.Prelude.{List};
+    ghost use Rattle.std.specs.Prelude.{ℕ};
+    ghost use Rattle.eql_values.specs.declared.order.OrderKey.{OrderKey};
+
+    ghost Value = { List (ℕ × List OrderKey) };
+
+    ghost view = { λ l. l.items.items };
+}
+
+impl StageChains {
+    /// The list of these pairs.
+    pub fn of(items: Vec<(u32, Chain)>) -> StageChains
+        ensures { result ≡ items.items }
+    {
+        StageChains { items }
+    }
+
+    /// The pairs, lent.
+    pub fn items(&self) -> &Vec<(u32, Chain)>
+        ensures { result.now.items ≡ self.now }
+    {
+        &self.items
+    }
+
+    /// The pairs, taken out.
+    pub fn into_items(self) -> Vec<(u32, Chain)>
+        ensures { result.items ≡ self }
+    {
+        self.items
+    }
+}
