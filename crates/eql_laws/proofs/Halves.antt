@@ -1,0 +1,57 @@
+-- Items in two parts: the second part goes on from the pending sequences after the first.
+use Rattle.std.proofs.Common.{◌≡◌, ℕ, zero, suc, ◌<◌, ◌≤◌, ℤ, cond, List, [], ◌∷◌, ◌++◌, Option, None, refl, sym, ap, ◌∙◌, arith}
+use Rattle.std.specs.Prelude.{not, ◌&&◌, ◌||◌}
+use Rattle.eql_values.specs.declared.order.OrderKey.{OrderKey}
+use Rattle.eql_values.specs.declared.item.Act.{Act}
+use Rattle.eql_values.specs.Chains.{fits_after, latest, chain, held_of, holder, here_or}
+use Rattle.eql_laws.specs.Slots.{Slots, moved, arrived, stepped}
+use Rattle.eql_values.specs.Ordered.{found_or}
+use Rattle.eql_laws.proofs.Stepping.{chain_step, holder_step, holder_start}
+
+module _ (span : Option ℤ) where
+  no_stage_zero : (opening : Slots) (past : List Act) → latest (chain span opening zero) past ≡ None
+  no_stage_zero opening [] = refl
+  no_stage_zero opening (item ∷ past) = ap (here_or None item) (no_stage_zero opening past)
+
+  pub holder_zero : (opening : Slots) (past : List Act) → holder span opening zero past ≡ None
+  holder_zero opening past = ap (held_of zero) (no_stage_zero opening past)
+
+  pub holder_append : (opening : Slots) (new old : List Act) (k : ℕ)
+      → holder span opening k (new ++ old) ≡ holder span (λ j. holder span opening j old) k new
+  holder_append opening [] old zero = holder_zero opening old
+  holder_append opening [] old (suc k) = sym (holder_start span (λ j. holder span opening j old) k)
+  holder_append opening (item ∷ new) old k =
+      holder_step span opening k item (new ++ old)
+      ∙ (λ i. stepped span (λ j. holder_append opening new old j i) item k)
+      ∙ sym (holder_step span (λ j. holder span opening j old) k item new)
+
+  pub chain_append : (opening : Slots) (k : ℕ) (item : Act) (new old : List Act)
+      → chain span opening k (item ∷ (new ++ old)) ≡ chain span (λ j. holder span opening j old) k (item ∷ new)
+  chain_append opening k item new old =
+      chain_step span opening k item (new ++ old)
+      ∙ (λ i. arrived span (λ j. holder_append opening new old j i) item k)
+      ∙ sym (chain_step span (λ j. holder span opening j old) k item new)
+
+  -- slots that agree on the stages below m go on alike there
+  arrived_alike : (a b : Slots) (item : Act) (m k : ℕ) → k ≤ m → ((j : ℕ) → suc j < m → a (suc j) ≡ b (suc j))
+      → arrived span a item k ≡ arrived span b item k
+  arrived_alike a b item m zero le same = refl
+  arrived_alike a b item m (suc zero) le same = refl
+  arrived_alike a b item m (suc (suc k)) le same =
+      ap (λ (o : Option (List OrderKey)). cond (fits_after (suc k) item && not item.until) (moved span o item) None) (same k (omega arith))
+
+  pub holder_alike : (a b : Slots) (m : ℕ) (past : List Act) (k : ℕ) → suc k < m → ((j : ℕ) → suc j < m → a (suc j) ≡ b (suc j))
+      → holder span a (suc k) past ≡ holder span b (suc k) past
+  holder_alike a b m [] k lt same = holder_start span a k ∙ same k lt ∙ sym (holder_start span b k)
+  holder_alike a b m (item ∷ past) k lt same =
+      holder_step span a (suc k) item past
+      ∙ (λ i. found_or (arrived_alike (λ j. holder span a j past) (λ j. holder span b j past) item m (suc k) (omega arith) (λ j l. holder_alike a b m past j l same) i)
+      (cond (fits_after (suc k) item || item.until) None (holder_alike a b m past k lt same i)))
+      ∙ sym (holder_step span b (suc k) item past)
+
+  pub chain_alike : (a b : Slots) (m : ℕ) (item : Act) (past : List Act) → ((j : ℕ) → suc j < m → a (suc j) ≡ b (suc j))
+      → chain span a m (item ∷ past) ≡ chain span b m (item ∷ past)
+  chain_alike a b m item past same =
+      chain_step span a m item past
+      ∙ arrived_alike (λ j. holder span a j past) (λ j. holder span b j past) item m m (omega arith) (λ j l. holder_alike a b m past j l same)
+      ∙ sym (chain_step span b m item past)

@@ -1,0 +1,187 @@
+-- The list of pending sequences has what the look-back gives, each at its key and stage.
+use Rattle.std.proofs.Common.{◌≡◌, ℕ, zero, suc, ◌-◌, ℤ, Bool, true, false, cond, List, [], ◌∷◌, map, Option, Some, None, refl, sym, ap, ◌∙◌, arith}
+use Rattle.std.proofs.lemmas.List.Folds.{list_any-append}
+use Rattle.eql_laws.proofs.Stepping.{holder_start}
+use Rattle.std.proofs.lemmas.List.Elements.{filter_map-append}
+use Rattle.std.proofs.lemmas.Bool.Decides.{nat_tests}
+use Rattle.std.specs.List.{cons_option}
+use Rattle.std.specs.declared.cmp.Ordering.{Ordering}
+use Rattle.std.specs.Prelude.{◌&&◌, ◌||◌, if◌then◌else◌, find, nat_le, nat_lt}
+use Rattle.std.specs.List.{filter_map, flat_map, list_any}
+use Rattle.std.specs.Option.{option_map}
+use Rattle.std.specs.Ordering.{nat_cmp, eq_by_cmp, is_eq, ordering_then}
+use Rattle.std.specs.Cmp.{IsTotalOrder}
+use Rattle.std.specs.FinMap.{nat_cmp-IsAntisymmetric}
+use Rattle.std.specs.FinMap.Entries.{find as find_entry}
+use Rattle.std.specs.declared.cmp.Ordering.TheVariants.{Less, Equal, Greater}
+use Rattle.std.proofs.lemmas.Cmp.{on_total, then_total, nat_cmp_total}
+use Rattle.eql_values.specs.declared.order.OrderKey.{OrderKey}
+use Rattle.eql_values.specs.declared.value.Value.{Value}
+use Rattle.eql_values.specs.declared.item.Route.{Route}
+use Rattle.eql_values.specs.declared.item.Item.{Item}
+use Rattle.eql_values.specs.declared.found.Holder.{Holder}
+use Rattle.eql_values.specs.declared.item.Act.{Act}
+use Rattle.eql_values.specs.Chains.{holder}
+use Rattle.eql_values.specs.Ordered.{in_order, found_or, both_none, find-append, find-in_order}
+use Rattle.eql_values.specs.Orders.{key_eq, key_cmp, key_cmp_total, key_same}
+use Rattle.eql_values.specs.Matching.{Openings, Slot, slot_cmp, act_by, acts_of, onto, opening_of, held_after, stages_to, entries_of, keys_in, after}
+
+abbrev pub Entry : Type 0
+Entry = Slot × List OrderKey
+
+pub slot_cmp_total : IsTotalOrder slot_cmp
+slot_cmp_total = then_total (on_total (λ s. s.0) key_cmp_total) (on_total (λ s. s.1) nat_cmp_total)
+
+abbrev pub as_entry : Holder → Entry
+as_entry h = ((h.key, h.stage), h.chain)
+
+abbrev pub as_holder : Entry → Holder
+as_holder e = record { key = e.0.0; stage = e.0.1; chain = e.1 }
+
+entries_back : (es : List Entry) → map as_entry (map as_holder es) ≡ es
+entries_back [] = refl
+entries_back (e ∷ es) = ap (λ (rest : List Entry). e ∷ rest) (entries_back es)
+
+-- what there is of a slot, at the stages up to n
+abbrev pub up_to : ℕ → Openings → Slot → Option (List OrderKey)
+up_to n slots q = if nat_lt 0 q.1 && nat_le q.1 n then slots q.0 q.1 else None
+
+-- the one entry of a key and a stage
+pub slots_tie : (a : Ordering) (b : Ordering) → is_eq (ordering_then a b) ≡ (is_eq a && is_eq b)
+slots_tie Less b = refl
+slots_tie Equal b = refl
+slots_tie Greater b = refl
+
+pub is_equal : (o : Ordering) → is_eq o ≡ true → o ≡ Equal
+is_equal Less e = cc
+is_equal Equal e = refl
+is_equal Greater e = cc
+
+found_one : (key : List Value) (stage : ℕ) (q : Slot) (o : Option (List OrderKey))
+    → find_entry slot_cmp q (cons_option (option_map (λ c. ((key, stage), c)) o) []) ≡ cond (eq_by_cmp slot_cmp q (key, stage)) o None
+found_one key stage q None = sym (both_none (eq_by_cmp slot_cmp q (key, stage)))
+found_one key stage q (Some c) = refl
+
+same_slot : (slots : Openings) (key : List Value) (stage : ℕ) (q : Slot) (a b : Bool) → key_eq q.0 key ≡ a → is_eq (nat_cmp q.1 stage) ≡ b
+    → cond (a && b) (slots key stage) None ≡ cond (a && b) (slots q.0 q.1) None
+same_slot slots key stage q true true k s =
+    let keys = sym (key_same q.0 key (is_equal (key_cmp q.0 key) k)) in
+    let stages = sym (nat_cmp-IsAntisymmetric q.1 stage (is_equal (nat_cmp q.1 stage) s)) in
+    λ i. slots (keys i) (stages i)
+same_slot slots key stage q true false k s = refl
+same_slot slots key stage q false b k s = refl
+
+find-one : (slots : Openings) (key : List Value) (stage : ℕ) (q : Slot)
+    → find_entry slot_cmp q (cons_option (option_map (λ c. ((key, stage), c)) (slots key stage)) [])
+    ≡ cond (key_eq q.0 key && is_eq (nat_cmp q.1 stage)) (slots q.0 q.1) None
+find-one slots key stage q =
+    found_one key stage q (slots key stage)
+    ∙ ap (λ (b : Bool). cond b (slots key stage) None) (slots_tie (key_cmp q.0 key) (nat_cmp q.1 stage))
+    ∙ same_slot slots key stage q (key_eq q.0 key) (is_eq (nat_cmp q.1 stage)) refl refl
+
+stage_more : (q n : ℕ) (S : Option (List OrderKey))
+    → found_or (cond (nat_lt 0 q && nat_le q n) S None) (cond (is_eq (nat_cmp q (suc n))) S None) ≡ cond (nat_lt 0 q && nat_le q (suc n)) S None
+stage_more q n S = grind (arith, nat_tests)
+
+no_stage : (q : ℕ) → (nat_lt 0 q && nat_le q 0) ≡ false
+no_stage q = grind (arith, nat_tests)
+
+one_key : (a b : Bool) (x y z S : Option (List OrderKey)) → x ≡ cond a y None → found_or y (cond b S None) ≡ z → found_or x (cond (a && b) S None) ≡ cond a z None
+one_key true b x y z S e f = ap (λ (o : Option (List OrderKey)). found_or o (cond b S None)) e ∙ f
+one_key false b x y z S e f = ap (λ (o : Option (List OrderKey)). found_or o None) e
+
+abbrev entry_at : Openings → List Value → ℕ → Option Entry
+entry_at slots key stage = option_map (λ c. ((key, stage), c)) (slots key stage)
+
+-- the entries of one key
+find-entries : (slots : Openings) (key : List Value) (q : Slot) (n : ℕ)
+    → find_entry slot_cmp q (filter_map (entry_at slots key) (stages_to n)) ≡ cond (key_eq q.0 key) (up_to n slots q) None
+find-entries slots key q zero = sym (ap (λ (b : Bool). cond (key_eq q.0 key) (cond b (slots q.0 q.1) None) None) (no_stage q.1) ∙ both_none (key_eq q.0 key))
+find-entries slots key q (suc n) =
+    ap (find_entry slot_cmp q) (filter_map-append (entry_at slots key) (stages_to n) (suc n ∷ []))
+    ∙ find-append slot_cmp q (filter_map (entry_at slots key) (stages_to n)) (filter_map (entry_at slots key) (suc n ∷ []))
+    ∙ ap (λ (o : Option (List OrderKey)). found_or (find_entry slot_cmp q (filter_map (entry_at slots key) (stages_to n))) o) (find-one slots key (suc n) q)
+    ∙ one_key (key_eq q.0 key) (is_eq (nat_cmp q.1 (suc n))) _ (up_to n slots q) _ (slots q.0 q.1) (find-entries slots key q n) (stage_more q.1 n (slots q.0 q.1))
+
+any_key : (a b : Bool) (U : Option (List OrderKey)) → found_or (cond a U None) (cond b U None) ≡ cond (a || b) U None
+any_key false b U = refl
+any_key true b None = both_none b
+any_key true b (Some c) = refl
+
+-- the entries of several keys
+find-keys : (slots : Openings) (m : ℕ) (q : Slot) (keys : List (List Value))
+    → find_entry slot_cmp q (flat_map (entries_of m slots) keys) ≡ cond (list_any (key_eq q.0) keys) (up_to (m - 1) slots q) None
+find-keys slots m q [] = refl
+find-keys slots m q (key ∷ keys) =
+    find-append slot_cmp q (entries_of m slots key) (flat_map (entries_of m slots) keys)
+    ∙ (λ i. found_or (find-entries slots key q (m - 1) i) (find-keys slots m q keys i))
+    ∙ any_key (key_eq q.0 key) (list_any (key_eq q.0) keys) (up_to (m - 1) slots q)
+
+any_false : (a b : Bool) → (a || b) ≡ false → (a ≡ false) × (b ≡ false)
+any_false true b e = cc
+any_false false b e = (refl, e)
+
+-- a key that no holder has
+no_opening : (holders : List Holder) (key : List Value) (stage : ℕ) → list_any (key_eq key) (map (λ (h : Holder). h.key) holders) ≡ false
+    → opening_of holders key stage ≡ None
+no_opening [] key stage e = refl
+no_opening (h ∷ holders) key stage e =
+    let apart = any_false _ _ e in
+    ap (λ (b : Bool). cond b (Some h.chain) (opening_of holders key stage))
+    (slots_tie (key_cmp key h.key) (nat_cmp stage h.stage) ∙ ap (λ (b : Bool). b && is_eq (nat_cmp stage h.stage)) apart.0)
+    ∙ no_opening holders key stage apart.1
+
+no_route : (routes : List Route) (key : List Value) → list_any (key_eq key) (map (λ (r : Route). r.key) routes) ≡ false
+    → find (λ (r : Route). key_eq key r.key) routes ≡ None
+no_route [] key e = refl
+no_route (r ∷ routes) key e =
+    let apart = any_false _ _ e in
+    ap (λ (b : Bool). cond b (Some r) (find (λ (r : Route). key_eq key r.key) routes)) apart.0 ∙ no_route routes key apart.1
+
+abbrev route_keys : Item → List (List Value)
+route_keys item = map (λ (r : Route). r.key) item.routes
+
+no_acts : (items past : List Item) (key : List Value) → list_any (key_eq key) (flat_map route_keys items) ≡ false
+    → acts_of key past ≡ [] → acts_of key (onto items past) ≡ []
+no_acts [] past key e none = none
+no_acts (item ∷ items) past key e none =
+    let apart = any_false _ _ (sym (list_any-append (key_eq key) (route_keys item) (flat_map route_keys items)) ∙ e) in
+    no_acts items (item ∷ past) key apart.1
+    (ap (λ (o : Option Route). cons_option (option_map (act_by item.order) o) (acts_of key past)) (no_route item.routes key apart.0) ∙ none)
+
+-- a key that nothing has
+no_holder : (span : Option ℤ) (holders : List Holder) (items : List Item) (key : List Value) (k : ℕ)
+    → list_any (key_eq key) (keys_in holders items) ≡ false → held_after span (opening_of holders) items key (suc k) ≡ None
+no_holder span holders items key k e =
+    let apart = any_false _ _ (sym (list_any-append (key_eq key) (map (λ (h : Holder). h.key) holders) (flat_map route_keys items)) ∙ e) in
+    ap (λ (acts : List Act). holder span (opening_of holders key) (suc k) acts) (no_acts items [] key apart.1 refl)
+    ∙ holder_start span (opening_of holders key) k
+    ∙ no_opening holders key (suc k) apart.0
+
+-- so each key that has something is among the keys
+all_keys : (span : Option ℤ) (holders : List Holder) (items : List Item) (q : Slot) (n : ℕ)
+    → cond (list_any (key_eq q.0) (keys_in holders items)) (up_to n (held_after span (opening_of holders) items) q) None
+    ≡ up_to n (held_after span (opening_of holders) items) q
+all_keys span holders items (key, zero) n = both_none (list_any (key_eq key) (keys_in holders items))
+all_keys span holders items (key, suc k) n =
+    elim (list_any (key_eq key) (keys_in holders items)) as (λ b. list_any (key_eq key) (keys_in holders items) ≡ b
+    → cond b (up_to n (held_after span (opening_of holders) items) (key, suc k)) None ≡ up_to n (held_after span (opening_of holders) items) (key, suc k)) [
+      | true ↦ λ e. refl
+      | false ↦ λ e. sym (ap (λ (o : Option (List OrderKey)). if nat_lt 0 (suc k) && nat_le (suc k) n then o else None) (no_holder span holders items key k e) ∙ both_none (nat_lt 0 (suc k) && nat_le (suc k) n))
+    ] refl
+
+-- what there is of a slot in the list in order
+pub find-held : (m : ℕ) (span : Option ℤ) (holders : List Holder) (items : List Item) (q : Slot)
+    → find_entry slot_cmp q (in_order slot_cmp (flat_map (entries_of m (held_after span (opening_of holders) items)) (keys_in holders items)))
+    ≡ up_to (m - 1) (held_after span (opening_of holders) items) q
+find-held m span holders items q =
+    find-in_order slot_cmp slot_cmp_total q (flat_map (entries_of m (held_after span (opening_of holders) items)) (keys_in holders items))
+    ∙ find-keys (held_after span (opening_of holders) items) m q (keys_in holders items)
+    ∙ all_keys span holders items q (m - 1)
+
+-- what the list after the items has of a slot
+pub find-after : (m : ℕ) (span : Option ℤ) (holders : List Holder) (items : List Item) (q : Slot)
+    → find_entry slot_cmp q (map as_entry (after m span holders items)) ≡ up_to (m - 1) (held_after span (opening_of holders) items) q
+find-after m span holders items q =
+    ap (find_entry slot_cmp q) (entries_back (in_order slot_cmp (flat_map (entries_of m (held_after span (opening_of holders) items)) (keys_in holders items))))
+    ∙ find-held m span holders items q

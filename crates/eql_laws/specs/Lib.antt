@@ -1,0 +1,4 @@
+pub mod Slots
+pub mod InWords
+pub mod Steps
+pub mod Splits

@@ -1,0 +1,26 @@
+-- The slots of the machine of one key, and what an item does to all of them at once.
+use Rattle.std.specs.Prelude.{ℕ, zero, suc, ℤ, if◌then◌else◌, not, ◌&&◌, ◌||◌, List, [], ◌∷◌, ◌++◌, Option, Some, None}
+use Rattle.eql_values.specs.declared.order.OrderKey.{OrderKey}
+use Rattle.eql_values.specs.declared.item.Act.{Act}
+use Rattle.eql_values.specs.Chains.{fits_after, in_time}
+use Rattle.eql_values.specs.Ordered.{found_or}
+
+-- the pending sequence of each stage, where there is one
+abbrev pub Slots : Type 0
+Slots = ℕ → Option (List OrderKey)
+
+module _ (span : Option ℤ) where
+  -- a sequence that the item moves on, where it is in time
+  abbrev pub moved : Option (List OrderKey) → Act → Option (List OrderKey)
+  moved None item = None
+  moved (Some chain) item = if in_time span chain item.order.ts then Some (chain ++ item.order ∷ []) else None
+
+  -- what comes to a stage with the item: to stage 1 the item alone, to a later one the sequence of the stage before, unless the item ends the key
+  abbrev pub arrived : Slots → Act → Slots
+  arrived slots item zero = None
+  arrived slots item (suc zero) = if fits_after 0 item then Some (item.order ∷ []) else None
+  arrived slots item (suc (suc k)) = if fits_after (suc k) item && not item.until then moved (slots (suc k)) item else None
+
+  -- the slots after the item: what came; else what was there, unless the item fits the next stage, to which it went, or ends the key
+  abbrev pub stepped : Slots → Act → Slots
+  stepped slots item k = found_or (arrived slots item k) (if fits_after k item || item.until then None else slots k)
