@@ -33,7 +33,7 @@ module _ (span : Option ℤ) where
       ∙ sym (chain_step span (λ j. holder span opening j old) k item new)
 
   -- slots that agree on the stages below m go on alike there
-  arrived_alike : (a b : Slots) (item : Act) (m k : ℕ) → k ≤ m → ((j : ℕ) → suc j < m → a (suc j) ≡ b (suc j))
+  pub arrived_alike : (a b : Slots) (item : Act) (m k : ℕ) → k ≤ m → ((j : ℕ) → suc j < m → a (suc j) ≡ b (suc j))
       → arrived span a item k ≡ arrived span b item k
   arrived_alike a b item m zero le same = refl
   arrived_alike a b item m (suc zero) le same = refl

@@ -2,18 +2,18 @@
 use Rattle.std.proofs.Common.{◌≡◌, ℕ, zero, suc, ◌-◌, ℤ, Bool, true, false, cond, List, [], ◌∷◌, map, Option, Some, None, refl, sym, ap, ◌∙◌, arith}
 use Rattle.std.proofs.lemmas.List.Folds.{list_any-append}
 use Rattle.eql_laws.proofs.Stepping.{holder_start}
+use Rattle.eql_laws.proofs.Facts.{any_false, is_equal, ties_both, both_equal}
+use Rattle.eql_laws.specs.Merging.{by_slot, holder_of}
 use Rattle.std.proofs.lemmas.List.Elements.{filter_map-append}
 use Rattle.std.proofs.lemmas.Bool.Decides.{nat_tests}
 use Rattle.std.specs.List.{cons_option}
-use Rattle.std.specs.declared.cmp.Ordering.{Ordering}
 use Rattle.std.specs.Prelude.{◌&&◌, ◌||◌, if◌then◌else◌, find, nat_le, nat_lt}
 use Rattle.std.specs.List.{filter_map, flat_map, list_any}
 use Rattle.std.specs.Option.{option_map}
-use Rattle.std.specs.Ordering.{nat_cmp, eq_by_cmp, is_eq, ordering_then}
+use Rattle.std.specs.Ordering.{nat_cmp, eq_by_cmp, is_eq}
 use Rattle.std.specs.Cmp.{IsTotalOrder}
-use Rattle.std.specs.FinMap.{nat_cmp-IsAntisymmetric}
+use Rattle.std.specs.FinMap.{IsAntisymmetric, nat_cmp-IsAntisymmetric}
 use Rattle.std.specs.FinMap.Entries.{find as find_entry}
-use Rattle.std.specs.declared.cmp.Ordering.TheVariants.{Less, Equal, Greater}
 use Rattle.std.proofs.lemmas.Cmp.{on_total, then_total, nat_cmp_total}
 use Rattle.eql_values.specs.declared.order.OrderKey.{OrderKey}
 use Rattle.eql_values.specs.declared.value.Value.{Value}
@@ -32,30 +32,23 @@ Entry = Slot × List OrderKey
 pub slot_cmp_total : IsTotalOrder slot_cmp
 slot_cmp_total = then_total (on_total (λ s. s.0) key_cmp_total) (on_total (λ s. s.1) nat_cmp_total)
 
-abbrev pub as_entry : Holder → Entry
-as_entry h = ((h.key, h.stage), h.chain)
+pub slots_back : (es : List Entry) → map by_slot (map holder_of es) ≡ es
+slots_back [] = refl
+slots_back (e ∷ es) = ap (λ (rest : List Entry). e ∷ rest) (slots_back es)
 
-abbrev pub as_holder : Entry → Holder
-as_holder e = record { key = e.0.0; stage = e.0.1; chain = e.1 }
+-- slots that compare as equal are equal
+pub slot_same : IsAntisymmetric slot_cmp
+slot_same x y e =
+    let both = both_equal (key_cmp x.0 y.0) (nat_cmp x.1 y.1) e in
+    λ i. (key_same x.0 y.0 both.0 i, nat_cmp-IsAntisymmetric x.1 y.1 both.1 i)
 
-entries_back : (es : List Entry) → map as_entry (map as_holder es) ≡ es
-entries_back [] = refl
-entries_back (e ∷ es) = ap (λ (rest : List Entry). e ∷ rest) (entries_back es)
+-- what there is of all slots after the items
+abbrev pub all_entries : ℕ → Option ℤ → List Holder → List Item → List Entry
+all_entries m span holders items = flat_map (entries_of m (held_after span (opening_of holders) items)) (keys_in holders items)
 
 -- what there is of a slot, at the stages up to n
 abbrev pub up_to : ℕ → Openings → Slot → Option (List OrderKey)
 up_to n slots q = if nat_lt 0 q.1 && nat_le q.1 n then slots q.0 q.1 else None
-
--- the one entry of a key and a stage
-pub slots_tie : (a : Ordering) (b : Ordering) → is_eq (ordering_then a b) ≡ (is_eq a && is_eq b)
-slots_tie Less b = refl
-slots_tie Equal b = refl
-slots_tie Greater b = refl
-
-pub is_equal : (o : Ordering) → is_eq o ≡ true → o ≡ Equal
-is_equal Less e = cc
-is_equal Equal e = refl
-is_equal Greater e = cc
 
 found_one : (key : List Value) (stage : ℕ) (q : Slot) (o : Option (List OrderKey))
     → find_entry slot_cmp q (cons_option (option_map (λ c. ((key, stage), c)) o) []) ≡ cond (eq_by_cmp slot_cmp q (key, stage)) o None
@@ -76,7 +69,7 @@ find-one : (slots : Openings) (key : List Value) (stage : ℕ) (q : Slot)
     ≡ cond (key_eq q.0 key && is_eq (nat_cmp q.1 stage)) (slots q.0 q.1) None
 find-one slots key stage q =
     found_one key stage q (slots key stage)
-    ∙ ap (λ (b : Bool). cond b (slots key stage) None) (slots_tie (key_cmp q.0 key) (nat_cmp q.1 stage))
+    ∙ ap (λ (b : Bool). cond b (slots key stage) None) (ties_both (key_cmp q.0 key) (nat_cmp q.1 stage))
     ∙ same_slot slots key stage q (key_eq q.0 key) (is_eq (nat_cmp q.1 stage)) refl refl
 
 stage_more : (q n : ℕ) (S : Option (List OrderKey))
@@ -117,10 +110,6 @@ find-keys slots m q (key ∷ keys) =
     ∙ (λ i. found_or (find-entries slots key q (m - 1) i) (find-keys slots m q keys i))
     ∙ any_key (key_eq q.0 key) (list_any (key_eq q.0) keys) (up_to (m - 1) slots q)
 
-any_false : (a b : Bool) → (a || b) ≡ false → (a ≡ false) × (b ≡ false)
-any_false true b e = cc
-any_false false b e = (refl, e)
-
 -- a key that no holder has
 no_opening : (holders : List Holder) (key : List Value) (stage : ℕ) → list_any (key_eq key) (map (λ (h : Holder). h.key) holders) ≡ false
     → opening_of holders key stage ≡ None
@@ -128,7 +117,7 @@ no_opening [] key stage e = refl
 no_opening (h ∷ holders) key stage e =
     let apart = any_false _ _ e in
     ap (λ (b : Bool). cond b (Some h.chain) (opening_of holders key stage))
-    (slots_tie (key_cmp key h.key) (nat_cmp stage h.stage) ∙ ap (λ (b : Bool). b && is_eq (nat_cmp stage h.stage)) apart.0)
+    (ties_both (key_cmp key h.key) (nat_cmp stage h.stage) ∙ ap (λ (b : Bool). b && is_eq (nat_cmp stage h.stage)) apart.0)
     ∙ no_opening holders key stage apart.1
 
 no_route : (routes : List Route) (key : List Value) → list_any (key_eq key) (map (λ (r : Route). r.key) routes) ≡ false
@@ -181,7 +170,7 @@ find-held m span holders items q =
 
 -- what the list after the items has of a slot
 pub find-after : (m : ℕ) (span : Option ℤ) (holders : List Holder) (items : List Item) (q : Slot)
-    → find_entry slot_cmp q (map as_entry (after m span holders items)) ≡ up_to (m - 1) (held_after span (opening_of holders) items) q
+    → find_entry slot_cmp q (map by_slot (after m span holders items)) ≡ up_to (m - 1) (held_after span (opening_of holders) items) q
 find-after m span holders items q =
-    ap (find_entry slot_cmp q) (entries_back (in_order slot_cmp (flat_map (entries_of m (held_after span (opening_of holders) items)) (keys_in holders items))))
+    ap (find_entry slot_cmp q) (slots_back (in_order slot_cmp (flat_map (entries_of m (held_after span (opening_of holders) items)) (keys_in holders items))))
     ∙ find-held m span holders items q

@@ -2,3 +2,11 @@ pub mod Slots
 pub mod InWords
 pub mod Steps
 pub mod Splits
+pub mod Alive
+pub mod Merging
+pub mod Parts
+pub mod Lateness
+pub mod Places
+pub mod Belows
+pub mod Shapes
+pub mod OneEvent

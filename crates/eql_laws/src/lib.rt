@@ -2,8 +2,27 @@
 //! handled where, or when stale sequences are dropped. Each law is the contract of a function that does nothing.
 #![tactic(auto)]
 
+mod alive;
+mod belows;
+mod lateness;
+mod one_event;
+mod parts;
+mod places;
+mod shapes;
 mod splits;
 mod steps;
 
+pub use alive::{after_in_order, dead_after, dead_alike, dead_for_good, dead_matches};
+pub use belows::{accepted_are, below_ascends, below_grows, open_low, sorted_together};
+pub use lateness::{
+    accepted_by_best, accepted_split, best_goes_on, late_by_best, low_rises, none_comes_below,
+};
+pub use one_event::{after_looks_up, after_none, one_more_event, same_holders};
+pub use parts::{after_routed, keys_gather, keys_merge, matches_routed, own_holders, part_apart};
+pub use places::{accepted_goes_on, late, lines_go_on, readable_goes_on};
+pub use shapes::{
+    chains_are_full, chains_ascend, events_and_keys_stay, first_events_fall, matches_in_order,
+    opening_finds,
+};
 pub use splits::{after_split, matches_split};
 pub use steps::{chain_reads, chain_step, slot_start, slot_step};

@@ -2,3 +2,5 @@ pub mod Tree
 pub mod View
 pub mod QueryTree
 pub mod First
+pub mod FirstItems
+pub mod FirstExamples

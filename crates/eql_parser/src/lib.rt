@@ -4,7 +4,10 @@
 mod expr;
 mod first;
 mod query;
+#[cfg(test)]
+mod tests;
+mod word;
 
 pub use expr::{CmpOp, Expr, Exprs, FieldRef, FieldRefs, MathOp, PatOp};
-pub use first::parse_first;
+pub use first::{first_query_is_one, parse_first};
 pub use query::{Body, PipeText, PipeTexts, Query, Span, Term, Terms, Unit};

@@ -1,0 +1,99 @@
+-- The lines of a text before and after a place.
+use Rattle.std.proofs.Common.{◌≡◌, ℕ, suc, ◌+◌, Bool, true, false, cond, List, [], ◌∷◌, ◌++◌, length, refl, sym, ap, ◌∙◌, arith}
+use Rattle.std.specs.Prelude.{◌==◌, IsTrue}
+use Rattle.std.proofs.lemmas.List.{append-nil}
+use Rattle.std.proofs.Common.{length-append}
+use Rattle.eql_values.specs.Lines.{Line, begin_with, lines_of, numbered_lines}
+use Rattle.eql_laws.specs.Places.{ends_line, is_line_end, lines_after, LinesGoOn, LinesStepOn}
+
+-- a byte goes to the first line, of which there is one
+begin_one : (byte next : ℕ) (c : Bool) (lines more : List (List ℕ))
+    → begin_with byte (cond c ([] ∷ lines) (begin_with next lines) ++ more) ≡ begin_with byte (cond c ([] ∷ lines) (begin_with next lines)) ++ more
+begin_one byte next true lines more = refl
+begin_one byte next false [] more = refl
+begin_one byte next false (line ∷ lines) more = refl
+
+one_byte : (byte : ℕ) (b : List ℕ) (c : Bool) → c ≡ true
+    → cond c ([] ∷ lines_of b) (begin_with byte (lines_of b)) ≡ cond c ([] ∷ []) (begin_with byte []) ++ lines_of b
+one_byte byte b true h = refl
+one_byte byte b false h = cc
+
+more_bytes : (byte next : ℕ) (c d : Bool) (whole lines more : List (List ℕ)) → whole ≡ cond d ([] ∷ lines) (begin_with next lines) ++ more
+    → cond c ([] ∷ whole) (begin_with byte whole)
+    ≡ cond c ([] ∷ cond d ([] ∷ lines) (begin_with next lines)) (begin_with byte (cond d ([] ∷ lines) (begin_with next lines))) ++ more
+more_bytes byte next true d whole lines more e = ap (λ (l : List (List ℕ)). [] ∷ l) e
+more_bytes byte next false d whole lines more e = ap (begin_with byte) e ∙ begin_one byte next d lines more
+
+lines_on : (a b : List ℕ) → IsTrue (ends_line a) → lines_of (a ++ b) ≡ lines_of a ++ lines_of b
+lines_on [] b h = refl
+lines_on (byte ∷ []) b h = one_byte byte b (byte == 10) h
+lines_on (byte ∷ next ∷ a) b h =
+    more_bytes byte next (byte == 10) (next == 10) (lines_of (next ∷ (a ++ b))) (lines_of a) (lines_of b) (lines_on (next ∷ a) b h)
+
+-- the bytes of lines with their line feeds
+abbrev width : List (List ℕ) → ℕ
+width [] = 0
+width (line ∷ lines) = length line + 1 + width lines
+
+wider : (byte : ℕ) (c : Bool) (line : List ℕ) (lines : List (List ℕ)) (n : ℕ) → width (line ∷ lines) ≡ n
+    → width (cond c ([] ∷ line ∷ lines) (begin_with byte (line ∷ lines))) ≡ suc n
+wider byte true line lines n h = omega (arith, h)
+wider byte false line lines n h = omega (arith, h)
+
+wider_all : (byte next : ℕ) (c d : Bool) (lines : List (List ℕ)) (n : ℕ) → width (cond d ([] ∷ lines) (begin_with next lines)) ≡ n
+    → width (cond c ([] ∷ cond d ([] ∷ lines) (begin_with next lines)) (begin_with byte (cond d ([] ∷ lines) (begin_with next lines)))) ≡ suc n
+wider_all byte next c true lines n h = wider byte c [] lines n h
+wider_all byte next c false [] n h = wider byte c (next ∷ []) [] n h
+wider_all byte next c false (line ∷ lines) n h = wider byte c (next ∷ line) lines n h
+
+one_width : (byte : ℕ) (c : Bool) → c ≡ true → width (cond c ([] ∷ []) (begin_with byte [])) ≡ 1
+one_width byte true h = refl
+one_width byte false h = cc
+
+width_is : (a : List ℕ) → IsTrue (ends_line a) → width (lines_of a) ≡ length a
+width_is [] h = refl
+width_is (byte ∷ []) h = one_width byte (byte == 10) h
+width_is (byte ∷ next ∷ a) h = wider_all byte next (byte == 10) (next == 10) (lines_of a) (length (next ∷ a)) (width_is (next ∷ a) h)
+
+numbered_on : (number at : ℕ) (xs ys : List (List ℕ))
+    → numbered_lines number at (xs ++ ys) ≡ numbered_lines number at xs ++ numbered_lines (number + length xs) (at + width xs) ys
+numbered_on number at [] ys = λ i. numbered_lines (same number i) (same at i) ys
+  where
+    same : (n : ℕ) → n ≡ n + 0
+    same n = omega arith
+numbered_on number at (line ∷ xs) ys =
+    ap (λ (l : List Line). record { number = number; at = at; bytes = line } ∷ l)
+    (numbered_on (number + 1) (at + length line + 1) xs ys
+    ∙ ap (λ (l : List Line). numbered_lines (number + 1) (at + length line + 1) xs ++ l) (λ i. numbered_lines (one_more number (length xs) i) (wide_more at (length line) (width xs) i) ys))
+  where
+    one_more : (n k : ℕ) → n + 1 + k ≡ n + suc k
+    one_more n k = omega arith
+
+    wide_more : (n k w : ℕ) → n + k + 1 + w ≡ n + (k + 1 + w)
+    wide_more n k w = omega arith
+
+sum_of_three : (n k l : ℕ) (whole : ℕ) → whole ≡ k + l → n + k + l ≡ n + whole
+sum_of_three n k l whole e = omega (arith, e)
+
+-- the place after a text and the start of more that isn't empty
+ends_there : (a : List ℕ) (byte : ℕ) (b c : List ℕ) → IsTrue (is_line_end a (b ++ byte ∷ c)) → IsTrue (ends_line a)
+ends_there a byte [] c h = h
+ends_there a byte (x ∷ b) c h = h
+
+pub lines_step_on : LinesStepOn
+lines_step_on a b [] h k =
+    ap (lines_after a) (append-nil b) ∙ sym (append-nil (lines_after a b))
+lines_step_on a b (byte ∷ c) h k =
+    let ended : IsTrue (ends_line a) = ends_there a byte b c h in
+    ap (numbered_lines (1 + length (lines_of a)) (length a)) (lines_on b (byte ∷ c) k)
+    ∙ numbered_on (1 + length (lines_of a)) (length a) (lines_of b) (lines_of (byte ∷ c))
+    ∙ ap (λ (l : List Line). lines_after a b ++ l) (λ i. numbered_lines
+    (sum_of_three 1 (length (lines_of a)) (length (lines_of b)) (length (lines_of (a ++ b))) (ap (λ (l : List (List ℕ)). length l) (lines_on a b ended) ∙ length-append (lines_of a) (lines_of b)) i)
+    ((ap (λ (w : ℕ). length a + w) (width_is b k) ∙ sym (length-append a b)) i) (lines_of (byte ∷ c)))
+
+pub lines_go_on : LinesGoOn
+lines_go_on a b h = lines_step_on [] a b (from_start (a ++ b)) h
+  where
+    from_start : (l : List ℕ) → IsTrue (is_line_end [] l)
+    from_start [] = refl
+    from_start (x ∷ l) = refl

@@ -1,0 +1,56 @@
+-- Pending sequences that can still match by their span.
+use Rattle.std.specs.Prelude.{◌≡◌, List, [], ◌∷◌, Option, Some, None, ℕ, ℤ, ◌≤ℤ◌, pos, filter, map, IsTrue}
+use Rattle.std.specs.FinMap.Entries.{is_sorted}
+use Rattle.eql_values.specs.Matching.{slot_cmp, matches, after}
+use Rattle.eql_values.specs.declared.item.Item.{Item}
+use Rattle.eql_values.specs.declared.found.Holder.{Holder}
+use Rattle.eql_values.specs.Chains.{in_time}
+
+-- a span is no negative time
+abbrev pub IsSpan : Option ℤ → Type 0
+IsSpan None = Unit {0}
+IsSpan (Some span) = pos 0 ≤ℤ span
+
+-- each item comes at this time or later
+abbrev pub ItemsFrom : ℤ → List Item → Type 0
+ItemsFrom t [] = Unit {0}
+ItemsFrom t (item ∷ items) = (t ≤ℤ item.order.ts) × ItemsFrom t items
+
+-- the holders that are alive at a time: the time from their first event is at most the span
+abbrev pub alive_holders : Option ℤ → ℤ → List Holder → List Holder
+alive_holders span t = filter (λ (h : Holder). in_time span h.chain t)
+
+-- the holders ascend strictly by key and stage
+abbrev pub HoldersInOrder : List Holder → Type 0
+HoldersInOrder holders = IsTrue (is_sorted slot_cmp (map (λ (h : Holder). ((h.key, h.stage), h.chain)) holders))
+
+-- the dead at a time may be left out before items from that time on: no match changes
+abbrev pub DeadMatches : Type 0
+DeadMatches = (m : ℕ) (span : Option ℤ) (t : ℤ) (holders : List Holder) (items : List Item)
+    → IsSpan span → HoldersInOrder holders → ItemsFrom t items
+    → matches m span (alive_holders span t holders) items ≡ matches m span holders items
+
+-- and those that are alive then are the same after the items
+abbrev pub DeadAfter : Type 0
+DeadAfter = (m : ℕ) (span : Option ℤ) (t : ℤ) (holders : List Holder) (items : List Item)
+    → IsSpan span → HoldersInOrder holders → ItemsFrom t items
+    → after m span (alive_holders span t holders) items ≡ alive_holders span t (after m span holders items)
+
+-- who is dead stays dead
+abbrev pub DeadForGood : Type 0
+DeadForGood = (span : Option ℤ) (t later : ℤ) (holders : List Holder) → t ≤ℤ later
+    → alive_holders span later (alive_holders span t holders) ≡ alive_holders span later holders
+
+-- what is pending after items stands in order
+abbrev pub AfterInOrder : Type 0
+AfterInOrder = (m : ℕ) (span : Option ℤ) (holders : List Holder) (items : List Item) → HoldersInOrder (after m span holders items)
+
+-- the living of holders in order stand in order
+abbrev pub AliveInOrder : Type 0
+AliveInOrder = (span : Option ℤ) (t : ℤ) (holders : List Holder) → HoldersInOrder holders → HoldersInOrder (alive_holders span t holders)
+
+-- holders that differ by dead ones alone find the same from then on, and go on differing by dead ones alone
+abbrev pub DeadAlike : Type 0
+DeadAlike = (m : ℕ) (span : Option ℤ) (t : ℤ) (a b : List Holder) (items : List Item)
+    → IsSpan span → HoldersInOrder a → HoldersInOrder b → alive_holders span t a ≡ alive_holders span t b → ItemsFrom t items
+    → (matches m span a items ≡ matches m span b items) × (alive_holders span t (after m span a items) ≡ alive_holders span t (after m span b items))

@@ -1,0 +1,82 @@
+-- Laws of texts that were read up to a place: the lines before it and after it, and what below a safe mark is known there.
+use Rattle.std.specs.Prelude.{◌≡◌, ℕ, ◌+◌, ℤ, Bool, true, List, [], ◌∷◌, ◌++◌, ◌==◌, Option, map, filter, length, IsTrue}
+use Rattle.eql_values.specs.declared.order.Mark.{Mark}
+use Rattle.eql_values.specs.Accepted.{Reads, readable, accepted, below}
+use Rattle.eql_values.specs.Lines.{Line, lines_of, numbered_lines, lines_in}
+use Rattle.eql_values.specs.Marks.{is_below, low_of, is_safe}
+use Rattle.eql_laws.specs.Lateness.{best_of, accepted_by, AtMost}
+
+-- the text is empty or ends with a line feed
+abbrev pub ends_line : List ℕ → Bool
+ends_line [] = true
+ends_line (byte ∷ []) = byte == 10
+ends_line (byte ∷ next ∷ bytes) = ends_line (next ∷ bytes)
+
+-- the place after the first text is the start or the end of a line of both texts together
+abbrev pub is_line_end : (first rest : List ℕ) → Bool
+is_line_end first [] = true
+is_line_end first (byte ∷ bytes) = ends_line first
+
+-- the lines of the rest, numbered and placed on after those of the first text
+abbrev pub lines_after : (first rest : List ℕ) → List Line
+lines_after first rest = numbered_lines (1 + length (lines_of first)) (length first) (lines_of rest)
+
+-- the lines of two texts are those of the first, and those of the second numbered and placed on
+abbrev pub LinesGoOn : Type 0
+LinesGoOn = (a b : List ℕ) → IsTrue (is_line_end a b) → lines_in (a ++ b) ≡ lines_in a ++ lines_after a b
+
+-- and so step by step
+abbrev pub LinesStepOn : Type 0
+LinesStepOn = (a b c : List ℕ) → IsTrue (is_line_end a (b ++ c)) → IsTrue (is_line_end b c)
+    → lines_after a (b ++ c) ≡ lines_after a b ++ lines_after (a ++ b) c
+
+-- the readable events of two texts
+abbrev pub ReadableGoesOn : Type 0
+ReadableGoesOn = (reads : Reads) (shard : ℕ) (a b : List ℕ) → IsTrue (is_line_end a b)
+    → readable reads shard (lines_in (a ++ b)) ≡ readable reads shard (lines_in a) ++ readable reads shard (lines_after a b)
+
+-- the accepted events of two texts: those of the first, and those of the second with the greatest time of the first kept
+abbrev pub AcceptedGoesOn : Type 0
+AcceptedGoesOn = (reads : Reads) (slack : Option ℤ) (shard : ℕ) (a b : List ℕ) → IsTrue (is_line_end a b)
+    → accepted reads slack shard (a ++ b)
+    ≡ accepted reads slack shard a ++ accepted_by slack (best_of (readable reads shard (lines_in a))) (readable reads shard (lines_after a b))
+
+-- a shard that was read up to a place: the bytes before it, those after it, and whether it was closed there
+pub record ReadTo : Type 0 where
+  pub first : List ℕ
+  pub rest : List ℕ
+  pub closed : Bool
+
+-- the whole text of the shard
+abbrev pub whole : ReadTo → List ℕ
+whole r = r.first ++ r.rest
+
+-- the place is the start or the end of a line, and where the shard was closed its text's end
+pub record IsPlace (r : ReadTo) : Type 0 where
+  pub line_end : IsTrue (is_line_end r.first r.rest)
+  pub at_end : r.closed ≡ true → r.rest ≡ []
+
+-- the low of a shard at its place
+abbrev pub low_at : Reads → Option ℤ → ℕ → ReadTo → Mark
+low_at reads slack shard r = low_of r.closed slack (best_of (readable reads shard (lines_in r.first)))
+
+-- the lows of shards, of which the first is this one
+abbrev pub lows_from : Reads → Option ℤ → ℕ → List ReadTo → List Mark
+lows_from reads slack shard [] = []
+lows_from reads slack shard (r ∷ shards) = low_at reads slack shard r ∷ lows_from reads slack (shard + 1) shards
+
+-- each shard was read up to a place
+abbrev pub ArePlaces : List ReadTo → Type 0
+ArePlaces [] = Unit {0}
+ArePlaces (r ∷ shards) = IsPlace r × ArePlaces shards
+
+-- every accepted event of a shard below a mark that is at most its low stands before the place
+abbrev pub LateOfShard : Type 0
+LateOfShard = (reads : Reads) (slack : Option ℤ) (shard : ℕ) (mark : Mark) (r : ReadTo) → IsPlace r → AtMost mark (low_at reads slack shard r)
+    → filter (is_below mark) (accepted reads slack shard (whole r)) ≡ filter (is_below mark) (accepted reads slack shard r.first)
+
+-- every accepted event below a safe mark stands before the places at which the mark is safe
+abbrev pub Late : Type 0
+Late = (reads : Reads) (slack : Option ℤ) (mark : Mark) (shards : List ReadTo) → ArePlaces shards
+    → IsTrue (is_safe mark (lows_from reads slack 0 shards))
+    → below reads slack (map whole shards) mark ≡ below reads slack (map (λ (r : ReadTo). r.first) shards) mark

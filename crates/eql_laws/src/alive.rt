@@ -1,0 +1,28 @@
+//! Laws of stale sequences: when they are dropped doesn't matter.
+ghost use Rattle.eql_laws.specs.Alive.{DeadMatches, DeadAfter, DeadForGood, AfterInOrder, AliveInOrder, DeadAlike};
+
+/// Sequences that are dead at a time may be left out before events from that time on: no match changes.
+pub fn dead_matches()
+    ensures { DeadMatches }
+{}
+
+/// What is alive after the events doesn't depend on sequences that were dead before them.
+pub fn dead_after()
+    ensures { DeadAfter }
+{}
+
+/// A sequence that is dead stays dead.
+pub fn dead_for_good()
+    ensures { DeadForGood }
+{}
+
+/// What is pending after events ascends strictly by key and stage, and so do the living of what does.
+pub fn after_in_order()
+    ensures after { AfterInOrder }
+    ensures alive { AliveInOrder }
+{}
+
+/// Sequences that differ by dead ones alone find the same from then on.
+pub fn dead_alike()
+    ensures { DeadAlike }
+{}

@@ -1,0 +1,32 @@
+//! Laws of the events below a mark: they stand in order, and grow by what lies between two marks.
+ghost use Rattle.eql_laws.specs.Belows.{SortedAscends, BelowAscends, SortedEach, SortedMore, SortedBelow, BelowGrows, AcceptedOfText, BelowAre, OpenLow, OpenLowAtLeast};
+
+/// Events put in order ascend, and so do those below a mark.
+pub fn below_ascends()
+    ensures sorted { SortedAscends }
+    ensures below { BelowAscends }
+{}
+
+/// Putting events in order goes together with doing so list by list, with more events, and with leaving out by a mark.
+pub fn sorted_together()
+    ensures each { SortedEach }
+    ensures more { SortedMore }
+    ensures below { SortedBelow }
+{}
+
+/// The events below the greater of two marks are those below the lesser, followed by those between.
+pub fn below_grows()
+    ensures { BelowGrows }
+{}
+
+/// What each accepted event of a text is, and each event below a mark.
+pub fn accepted_are()
+    ensures of_text { AcceptedOfText }
+    ensures below { BelowAre }
+{}
+
+/// The low of an open shard: the greatest timestamp less the slack.
+pub fn open_low()
+    ensures in_range { OpenLow }
+    ensures at_least { OpenLowAtLeast }
+{}

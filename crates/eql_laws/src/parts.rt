@@ -1,0 +1,32 @@
+//! Laws of keys in parts: which keys are handled where doesn't matter.
+ghost use Rattle.eql_laws.specs.Parts.{KeysMerge, KeysGather, MatchesRouted, OwnHolders, AfterRouted, PartApart};
+
+/// The matches are those by the events routed to each part of the keys, merged by last event and then by key.
+pub fn keys_merge()
+    ensures { KeysMerge }
+{}
+
+/// What is pending is what is pending of each part's keys after the events routed to the part, by key and stage.
+pub fn keys_gather()
+    ensures { KeysGather }
+{}
+
+/// The matches by a part's events are the matches of the part's keys.
+pub fn matches_routed()
+    ensures { MatchesRouted }
+{}
+
+/// For a part's events the part's pending sequences are enough.
+pub fn own_holders()
+    ensures { OwnHolders }
+{}
+
+/// What is pending of a part's keys is what is pending after the part's events, from the part's sequences.
+pub fn after_routed()
+    ensures { AfterRouted }
+{}
+
+/// A part's later matches depend on its own opening sequences and its own earlier events alone.
+pub fn part_apart()
+    ensures { PartApart }
+{}
