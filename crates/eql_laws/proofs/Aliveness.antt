@@ -7,15 +7,10 @@ use Rattle.eql_values.specs.declared.order.OrderKey.{OrderKey}
 use Rattle.eql_values.specs.declared.item.Act.{Act}
 use Rattle.eql_values.specs.Chains.{fits_after, in_time, chain, holder}
 use Rattle.eql_laws.specs.Slots.{Slots, moved, arrived, stepped}
-use Rattle.eql_laws.specs.Alive.{IsSpan}
+use Rattle.eql_laws.specs.Alive.{IsSpan, alive_at}
 use Rattle.eql_values.specs.Ordered.{found_or}
 use Rattle.eql_laws.proofs.Stepping.{chain_step, holder_step, holder_start}
 use Rattle.eql_laws.proofs.Halves.{holder_zero}
-
--- a pending sequence where it is alive at a time
-abbrev pub alive_at : Option ℤ → ℤ → Option (List OrderKey) → Option (List OrderKey)
-alive_at span t None = None
-alive_at span t (Some chain) = cond (in_time span chain t) (Some chain) None
 
 -- each item comes at this time or later
 abbrev pub AllFrom : ℤ → List Act → Type 0

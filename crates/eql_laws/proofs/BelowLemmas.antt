@@ -26,6 +26,7 @@ use Rattle.eql_values.specs.Reading.{IsTime, IsReadAt}
 use Rattle.eql_values.specs.Routes.{RoutesInOrder, RoutesStand}
 use Rattle.eql_laws.specs.Belows.{IsReading, HasRoutesInOrder, SortedAscends, BelowAscends, SortedEach, SortedMore, SortedBelow, BelowGrows, IsAcceptedOf, AcceptedOfText, IsBelow, BelowAre, OpenLow, OpenLowAtLeast, IsMarkTime, greatest_slack}
 use Rattle.eql_laws.specs.Lateness.{AtMost, larger, best_of}
+use Rattle.eql_laws.proofs.Lists.{filter_implied}
 use Rattle.eql_laws.proofs.Elements.{All-filter_map, All-passed, All-in_order}
 use Rattle.eql_laws.proofs.Facts.{left_holds, right_holds, is_less}
 use Rattle.eql_laws.proofs.MarkLemmas.{below_up, times_le}
@@ -89,16 +90,6 @@ module _ (m : Mark) where
   split_sorted [] h = refl
   split_sorted (e ∷ es) h = split_one e es (is_below m (back e)) refl (left_holds _ _ h) (split_sorted es (right_holds _ _ h))
 
-both_one : (from to : Mark) → AtMost from to → (x : Item) (xs : List Item) (a : Bool) → is_below from x ≡ a → filter (is_below to) xs ≡ xs
-    → filter (is_below to) (cond a (x ∷ xs) xs) ≡ cond a (x ∷ xs) xs
-both_one from to le x xs true e h =
-    ap (λ (c : Bool). cond c (x ∷ filter (is_below to) xs) (filter (is_below to) xs)) (below_up from to x le e) ∙ ap (λ (l : List Item). x ∷ l) h
-both_one from to le x xs false e h = h
-
-below_both : (from to : Mark) → AtMost from to → (xs : List Item) → filter (is_below to) (filter (is_below from) xs) ≡ filter (is_below from) xs
-below_both from to le [] = refl
-below_both from to le (x ∷ xs) = both_one from to le x (filter (is_below from) xs) (is_below from x) refl (below_both from to le xs)
-
 sorted_grows : (items : List Item) (from to : Mark) → AtMost from to
     → sorted_items (filter (is_below to) items) ≡ sorted_items (filter (is_below from) items) ++ sorted_items (filter (is_below to) (filter (λ i. not (is_below from i)) items))
 sorted_grows items from to le =
@@ -106,7 +97,7 @@ sorted_grows items from to le =
     sym (filter_sorted (is_below to) (of_place to) items)
     ∙ ap (filter (is_below to)) (split_sorted from (in_order order_cmp (map pair items)) (in_order-sorted order_cmp order_cmp_total (map pair items)))
     ∙ filter-append (is_below to) (filter (is_below from) s) (filter (λ i. not (is_below from i)) s)
-    ∙ (λ i. (below_both from to le s ∙ filter_sorted (is_below from) (of_place from) items) i
+    ∙ (λ i. (filter_implied (is_below to) (is_below from) (λ item e. below_up from to item le e) s ∙ filter_sorted (is_below from) (of_place from) items) i
     ++ (ap (filter (is_below to)) (filter_sorted (λ j. not (is_below from j)) (not_of_place from) items)
     ∙ filter_sorted (is_below to) (of_place to) (filter (λ j. not (is_below from j)) items)) i)
 
@@ -205,7 +196,7 @@ module _ (reads : Reads) (shard : ℕ) (text : List ℕ) (reading : IsReading re
       All-filter_map (IsLineOf 1 0 (length (lines_of text)) (length text)) (IsAcceptedOf shard text) (λ (line : Line). event_at line.at (reads shard line.number line.bytes))
       (λ line h. event_stands line (reads shard line.number line.bytes) refl h) (lines_in text) (lines_stand 1 0 text)
 
-All-accepted : (P : Item → Type 0) (slack : Option ℤ) (earlier items : List Item) → All P items → All P (accepted_after slack earlier items)
+pub All-accepted : (P : Item → Type 0) (slack : Option ℤ) (earlier items : List Item) → All P items → All P (accepted_after slack earlier items)
 All-accepted P slack earlier [] h = h
 All-accepted P slack earlier (item ∷ items) h = one (is_late slack earlier item) (accepted_after slack (item ∷ earlier) items) (All-accepted P slack (item ∷ earlier) items (All-tail P item items h))
   where

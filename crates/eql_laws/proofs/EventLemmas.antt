@@ -18,6 +18,7 @@ use Rattle.eql_laws.specs.Merging.{by_slot, holder_of}
 use Rattle.eql_laws.specs.OneEvent.{AfterLooksUp, AfterHasNoOther, SameHolders, turned, AfterOne, MatchesOne, AfterNone}
 use Rattle.eql_laws.specs.Shapes.{HasStageBefore}
 use Rattle.eql_laws.specs.Slots.{Slots, arrived}
+use Rattle.eql_laws.proofs.Lists.{map_back}
 use Rattle.eql_laws.proofs.Carried.{opening_is}
 use Rattle.eql_laws.proofs.Halves.{arrived_alike}
 use Rattle.eql_laws.proofs.Held.{find-after, slot_cmp_total, slot_same}
@@ -38,15 +39,11 @@ after_has_no_other m span holders items key = (
       ∙ ap (λ (b : Bool). cond b (held_after span (opening_of holders) items key k) None) (no_stage_above m k lt),
 )
 
-holders_back : (holders : List Holder) → map holder_of (map by_slot holders) ≡ holders
-holders_back [] = refl
-holders_back (h ∷ holders) = ap (λ (l : List Holder). h ∷ l) (holders_back holders)
-
 pub same_holders : SameHolders
 same_holders a b order_a order_b same =
-    sym (holders_back a)
+    sym (map_back holder_of by_slot (λ h. refl) a)
     ∙ ap (map holder_of) (same_entries slot_cmp slot_cmp_total slot_same (map by_slot a) (map by_slot b) (subst T (sym order_a) tt) (subst T (sym order_b) tt) (λ q. same q.0 q.1))
-    ∙ holders_back b
+    ∙ map_back holder_of by_slot (λ h. refl) b
 
 module _ (span : Option ℤ) (opening : Slots) where
   -- of one item alone

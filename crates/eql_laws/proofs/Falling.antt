@@ -29,9 +29,9 @@ use Rattle.eql_laws.proofs.Held.{find-after, slot_cmp_total}
 use Rattle.eql_laws.proofs.Carried.{first_of, LeadsTo, all_held, acts_lead, lead_onto}
 use Rattle.eql_laws.proofs.Shaping.{ComesBefore, AscendsBefore, AscendsTo, AllBefore, alone, goes_to, made_before, still_before, before_before, ascending_rises, ready_openings, held_full}
 
-cond_some : {X : Type 0} (b : Bool) (o : Option X) (x : X) → cond b o None ≡ Some x → (b ≡ true) × (o ≡ Some x)
-cond_some true o x e = (refl, e)
-cond_some false o x e = cc
+pub when_some : {X : Type 0} (b : Bool) (o : Option X) (x : X) → cond b o None ≡ Some x → (b ≡ true) × (o ≡ Some x)
+when_some true o x e = (refl, e)
+when_some false o x e = cc
 
 found_some : (a b : Option (List OrderKey)) (c : List OrderKey) → found_or a b ≡ Some c → (a ≡ Some c) ⊎ (b ≡ Some c)
 found_some (Some y) b c e = inl e
@@ -70,7 +70,7 @@ module _ (span : Option ℤ) (slots : Slots) (item : Act) where
   moved_from : (k : ℕ) (o : Option (List OrderKey)) (c : List OrderKey) → slots (suc k) ≡ o → fits_after (suc k) item ≡ true → moved span o item ≡ Some c → MovedOn k c
   moved_from k None c is fits e = cc
   moved_from k (Some from) c is fits e =
-      record { from = from; fits = fits; was = is; is = some_same (from ++ item.order ∷ []) c (cond_some (in_time span from item.order.ts) (Some (from ++ item.order ∷ [])) c e).1 }
+      record { from = from; fits = fits; was = is; is = some_same (from ++ item.order ∷ []) c (when_some (in_time span from item.order.ts) (Some (from ++ item.order ∷ [])) c e).1 }
 
   came_kept : (k : ℕ) (c : List OrderKey) → cond (fits_after (suc k) item || item.until) None (slots (suc k)) ≡ Some c → Kept k c
   came_kept k c e = let both = kept_some (fits_after (suc k) item) item.until (slots (suc k)) c e in record { stays = both.0; was = both.1 }
@@ -78,12 +78,12 @@ module _ (span : Option ℤ) (slots : Slots) (item : Act) where
   came : (k : ℕ) (c : List OrderKey) → stepped span slots item (suc k) ≡ Some c → Came k c
   came zero c e =
       elim (found_some (arrived span slots item 1) (cond (fits_after 1 item || item.until) None (slots 1)) c e) [
-        | inl a ↦ inr (some_same (item.order ∷ []) c (cond_some (fits_after 0 item) (Some (item.order ∷ [])) c a).1)
+        | inl a ↦ inr (some_same (item.order ∷ []) c (when_some (fits_after 0 item) (Some (item.order ∷ [])) c a).1)
         | inr b ↦ inl (came_kept zero c b)
       ]
   came (suc k) c e =
       elim (found_some (arrived span slots item (suc (suc k))) (cond (fits_after (suc (suc k)) item || item.until) None (slots (suc (suc k)))) c e) [
-        | inl a ↦ (let both = cond_some (fits_after (suc k) item && not item.until) (moved span (slots (suc k)) item) c a in
+        | inl a ↦ (let both = when_some (fits_after (suc k) item && not item.until) (moved span (slots (suc k)) item) c a in
             inr (moved_from k (slots (suc k)) c refl (fits_too (fits_after (suc k) item) item.until both.0) both.1))
         | inr b ↦ inl (came_kept (suc k) c b)
       ]
@@ -171,11 +171,11 @@ module _ (m : ℕ) (span : Option ℤ) (holders : List Holder) (items : List Ite
   -- what the list has of a slot is what is held there
   is_held : (key : List Value) (k : ℕ) (c : List OrderKey) → opening_of (after m span holders items) key k ≡ Some c → held_after span (opening_of holders) items key k ≡ Some c
   is_held key k c e =
-      (cond_some (nat_lt 0 k && nat_le k (m - 1)) (held_after span (opening_of holders) items key k) c (sym (find-after m span holders items (key, k)) ∙ e)).1
+      (when_some (nat_lt 0 k && nat_le k (m - 1)) (held_after span (opening_of holders) items key k) c (sym (find-after m span holders items (key, k)) ∙ e)).1
 
   no_zero : (key : List Value) (c : List OrderKey) → opening_of (after m span holders items) key zero ≡ Some c → ⊥
   no_zero key c e =
-      let never = (cond_some (nat_lt 0 0 && nat_le 0 (m - 1)) (held_after span (opening_of holders) items key zero) c (sym (find-after m span holders items (key, zero)) ∙ e)).0 in cc
+      let never = (when_some (nat_lt 0 0 && nat_le 0 (m - 1)) (held_after span (opening_of holders) items key zero) c (sym (find-after m span holders items (key, zero)) ∙ e)).0 in cc
 
   falls_from : (key : List Value) (j k : ℕ) (c d : List OrderKey) → j < k
       → opening_of (after m span holders items) key j ≡ Some c → opening_of (after m span holders items) key k ≡ Some d → FirstBefore d c

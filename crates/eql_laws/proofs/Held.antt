@@ -1,6 +1,7 @@
 -- The list of pending sequences has what the look-back gives, each at its key and stage.
 use Rattle.std.proofs.Common.{◌≡◌, ℕ, zero, suc, ◌-◌, ℤ, Bool, true, false, cond, List, [], ◌∷◌, map, Option, Some, None, refl, sym, ap, ◌∙◌, arith}
 use Rattle.std.proofs.lemmas.List.Folds.{list_any-append}
+use Rattle.eql_laws.proofs.Lists.{map_back}
 use Rattle.eql_laws.proofs.Stepping.{holder_start}
 use Rattle.eql_laws.proofs.Facts.{any_false, is_equal, ties_both, both_equal}
 use Rattle.eql_laws.specs.Merging.{by_slot, holder_of}
@@ -31,10 +32,6 @@ Entry = Slot × List OrderKey
 
 pub slot_cmp_total : IsTotalOrder slot_cmp
 slot_cmp_total = then_total (on_total (λ s. s.0) key_cmp_total) (on_total (λ s. s.1) nat_cmp_total)
-
-pub slots_back : (es : List Entry) → map by_slot (map holder_of es) ≡ es
-slots_back [] = refl
-slots_back (e ∷ es) = ap (λ (rest : List Entry). e ∷ rest) (slots_back es)
 
 -- slots that compare as equal are equal
 pub slot_same : IsAntisymmetric slot_cmp
@@ -172,5 +169,5 @@ find-held m span holders items q =
 pub find-after : (m : ℕ) (span : Option ℤ) (holders : List Holder) (items : List Item) (q : Slot)
     → find_entry slot_cmp q (map by_slot (after m span holders items)) ≡ up_to (m - 1) (held_after span (opening_of holders) items) q
 find-after m span holders items q =
-    ap (find_entry slot_cmp q) (slots_back (in_order slot_cmp (flat_map (entries_of m (held_after span (opening_of holders) items)) (keys_in holders items))))
+    ap (find_entry slot_cmp q) (map_back by_slot holder_of (λ e. refl) (in_order slot_cmp (flat_map (entries_of m (held_after span (opening_of holders) items)) (keys_in holders items))))
     ∙ find-held m span holders items q

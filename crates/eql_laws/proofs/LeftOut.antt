@@ -12,12 +12,13 @@ use Rattle.eql_values.specs.declared.found.Holder.{Holder}
 use Rattle.eql_values.specs.Chains.{in_time}
 use Rattle.eql_values.specs.Orders.{key_eq}
 use Rattle.eql_values.specs.Matching.{matches, after, Openings, Slot, slot_cmp, act_by, acts_of, onto, opening_of, held_after, matches_after}
-use Rattle.eql_laws.specs.Alive.{alive_holders, ItemsFrom, IsSpan, HoldersInOrder, DeadMatches, DeadAfter, DeadForGood, AfterInOrder, AliveInOrder, DeadAlike}
+use Rattle.eql_laws.specs.Alive.{alive_at, alive_holders, ItemsFrom, IsSpan, HoldersInOrder, DeadMatches, DeadAfter, DeadForGood, AfterInOrder, AliveInOrder, DeadAlike, AliveLooksUp, SteppedAlive}
 use Rattle.eql_values.specs.Ordered.{in_order, in_order-sorted}
 use Rattle.eql_laws.specs.Merging.{by_slot, holder_of}
+use Rattle.eql_laws.proofs.Lists.{map_back, map_filter}
 use Rattle.eql_laws.proofs.Facts.{holds_true, both_hold, left_holds, right_holds, less_not_equal, is_equal}
-use Rattle.eql_laws.proofs.Held.{Entry, up_to, find-held, slot_cmp_total, slot_same, all_entries, slots_back}
-use Rattle.eql_laws.proofs.Aliveness.{alive_at, AllFrom, in_time_before, chain_alive, holder_alive}
+use Rattle.eql_laws.proofs.Held.{Entry, up_to, find-held, slot_cmp_total, slot_same, all_entries}
+use Rattle.eql_laws.proofs.Aliveness.{stepped_alive, AllFrom, in_time_before, chain_alive, holder_alive}
 
 -- look-ups in filtered entries
 module _ (span : Option ℤ) (t : ℤ) where
@@ -69,22 +70,10 @@ module _ (span : Option ℤ) (t : ℤ) where
       kept_one e q es (eq_by_cmp slot_cmp q e.0) (in_time span e.1 t) (left_holds _ _ h) refl refl (find_filter q es (right_holds _ _ h))
 
   entries_filter : (holders : List Holder) → map by_slot (alive_holders span t holders) ≡ filter (alive_entry span t) (map by_slot holders)
-  entries_filter [] = refl
-  entries_filter (h ∷ holders) =
-      elim (in_time span h.chain t) as (λ b. map by_slot (cond b (h ∷ alive_holders span t holders) (alive_holders span t holders))
-      ≡ cond b (by_slot h ∷ filter (alive_entry span t) (map by_slot holders)) (filter (alive_entry span t) (map by_slot holders))) [
-        | true ↦ ap (λ (es : List Entry). by_slot h ∷ es) (entries_filter holders)
-        | false ↦ entries_filter holders
-      ]
+  entries_filter holders = map_filter by_slot (λ h. in_time span h.chain t) (alive_entry span t) (λ h. refl) holders
 
   holders_filter : (es : List Entry) → map holder_of (filter (alive_entry span t) es) ≡ alive_holders span t (map holder_of es)
-  holders_filter [] = refl
-  holders_filter (e ∷ es) =
-      elim (in_time span e.1 t) as (λ b. map holder_of (cond b (e ∷ filter (alive_entry span t) es) (filter (alive_entry span t) es))
-      ≡ cond b (holder_of e ∷ alive_holders span t (map holder_of es)) (alive_holders span t (map holder_of es))) [
-        | true ↦ ap (λ (hs : List Holder). holder_of e ∷ hs) (holders_filter es)
-        | false ↦ holders_filter es
-      ]
+  holders_filter es = map_filter holder_of (alive_entry span t) (λ h. in_time span h.chain t) (λ e. refl) es
 
   pub opening_alive : (holders : List Holder) → HoldersInOrder holders → (key : List Value) (stage : ℕ)
       → opening_of (alive_holders span t holders) key stage ≡ alive_at span t (opening_of holders key stage)
@@ -154,7 +143,7 @@ dead_for_good span t later (h ∷ hs) le =
 
 pub after_in_order : AfterInOrder
 after_in_order m span holders items =
-    holds_true _ (subst (λ (es : List Entry). T (is_sorted slot_cmp es)) (sym (slots_back (in_order slot_cmp (all_entries m span holders items))))
+    holds_true _ (subst (λ (es : List Entry). T (is_sorted slot_cmp es)) (sym (map_back by_slot holder_of (λ e. refl) (in_order slot_cmp (all_entries m span holders items))))
     (in_order-sorted slot_cmp slot_cmp_total (all_entries m span holders items)))
 
 pub alive_in_order : AliveInOrder
@@ -167,3 +156,9 @@ dead_alike m span t a b items s order_a order_b alike from = (
   sym (dead_matches m span t a items s order_a from) ∙ ap (λ (h : List Holder). matches m span h items) alike ∙ dead_matches m span t b items s order_b from,
   sym (dead_after m span t a items s order_a from) ∙ ap (λ (h : List Holder). after m span h items) alike ∙ dead_after m span t b items s order_b from,
 )
+
+pub alive_looks_up : AliveLooksUp
+alive_looks_up span t holders order key stage = opening_alive span t holders order key stage
+
+pub slots_alive : SteppedAlive
+slots_alive span t slots item k s le = stepped_alive span s t slots item k le

@@ -1,4 +1,5 @@
 pub mod Facts
+pub mod Lists
 pub mod Stepping
 pub mod ReadingBack
 pub mod Halves
@@ -20,3 +21,6 @@ pub mod Carried
 pub mod Shaping
 pub mod Falling
 pub mod EventLemmas
+pub mod Distinct
+pub mod CutLemmas
+pub mod Handing

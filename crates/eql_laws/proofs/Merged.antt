@@ -1,19 +1,18 @@
 -- The matches of all keys are those of each part's keys, merged.
 use Rattle.std.proofs.Common.{◌≡◌, ℕ, zero, suc, ◌<◌, ℤ, Bool, true, false, cond, List, [], ◌∷◌, ◌++◌, map, Option, Some, None, refl, sym, ap, ◌∙◌, arith, T, subst}
-use Rattle.std.specs.Prelude.{◌==◌, nat_lt}
+use Rattle.std.specs.Prelude.{nat_lt}
 use Rattle.std.specs.List.{filter_map, cons_option, flat_map}
 use Rattle.std.specs.Option.{option_map}
 use Rattle.std.specs.Ordering.{is_lt, ordering_then}
 use Rattle.std.specs.Cmp.{IsTotalOrder, tied_itself}
 use Rattle.std.specs.Cmp.Lexicographic.{slice_cmp}
 use Rattle.std.specs.FinMap.{IsAntisymmetric, slice_cmp-IsAntisymmetric}
-use Rattle.std.specs.FinMap.Entries.{find, is_sorted, below_all, where_key, find-where_key}
+use Rattle.std.specs.FinMap.Entries.{find, is_sorted, below_all}
 use Rattle.std.specs.declared.cmp.Ordering.{Ordering}
 use Rattle.std.specs.declared.cmp.Ordering.TheVariants.{Less, Equal}
 use Rattle.std.proofs.lemmas.Cmp.{on_total, then_total, lists_total}
 use Rattle.std.proofs.lemmas.Bool.Decides.{nat_tests}
-use Rattle.std.proofs.lemmas.List.{map-append, append-nil}
-use Rattle.std.proofs.lemmas.Grind.{flat_map-append}
+use Rattle.std.proofs.lemmas.List.{map-append}
 use Rattle.eql_values.specs.declared.order.OrderKey.{OrderKey}
 use Rattle.eql_values.specs.declared.value.Value.{Value}
 use Rattle.eql_values.specs.declared.item.Act.{Act}
@@ -24,19 +23,20 @@ use Rattle.eql_values.specs.Chains.{chain, fits_after}
 use Rattle.eql_laws.specs.Slots.{Slots, moved, arrived}
 use Rattle.eql_values.specs.Orders.{key_cmp, key_cmp_total, key_same}
 use Rattle.eql_values.specs.OrderKeys.{order_cmp, order_cmp_total, order_same}
-use Rattle.eql_values.specs.Ordered.{found_or, numbers, find-append, is_in_order}
+use Rattle.eql_values.specs.Ordered.{numbers, is_in_order}
 use Rattle.eql_values.specs.Matching.{Openings, act_by, acts_of, match_by, matches_after, matches, opening_of}
 use Rattle.eql_values.specs.Routing.{routed}
 use Rattle.eql_values.specs.Ascending.{AllAfter, Ascending}
 use Rattle.eql_laws.specs.Merging.{last_of, Ending, ending_cmp, by_ending, match_of, by_slot, holder_of}
 use Rattle.eql_laws.specs.Shapes.{MatchesInOrder}
-use Rattle.eql_laws.specs.Parts.{KeysMerge, KeysGather, matches_in, holders_in}
+use Rattle.eql_laws.specs.Parts.{KeysMerge, KeysGather, holders_in}
+use Rattle.eql_laws.proofs.Lists.{map_back, find_kinds}
 use Rattle.eql_laws.proofs.Stepping.{chain_step, slots_after}
-use Rattle.eql_laws.proofs.PartMatches.{routed_matches, after_routed, holders_where, find_where}
+use Rattle.eql_laws.proofs.PartMatches.{routed_matches, after_routed}
 use Rattle.eql_values.specs.declared.found.Holder.{Holder}
 use Rattle.eql_values.specs.Ordered.{in_order, in_order-sorted}
-use Rattle.eql_values.specs.Matching.{Slot, slot_cmp, after}
-use Rattle.eql_laws.proofs.Held.{slot_cmp_total, slot_same, slots_back, all_entries}
+use Rattle.eql_values.specs.Matching.{slot_cmp, after}
+use Rattle.eql_laws.proofs.Held.{slot_cmp_total, slot_same, all_entries}
 use Rattle.eql_laws.proofs.Facts.{holds_true, both_hold, left_holds, right_holds, both_equal, less_is}
 
 abbrev EndingEntry : Type 0
@@ -168,46 +168,8 @@ module _ (m : ℕ) (span : Option ℤ) (openings : Openings) where
       sorted_item item.order past item.routes (ends_after (item ∷ past) items) (subst T (sym up.0) tt)
       (λ key. below_all_later item.order key (item ∷ past) items up.1) (ends_sorted (item ∷ past) items up.2)
 
--- look-ups in parts
-never : (k : ℕ) → nat_lt k 0 ≡ false
-never k = grind (arith, nat_tests)
-
 within : (k n : ℕ) → k < n → nat_lt k n ≡ true
 within k n h = grind (arith, nat_tests)
-
-ends_filter : (part : List Value → ℕ) (p : ℕ) (ms : List Match)
-    → map by_ending (matches_in part p ms) ≡ where_key ending_cmp (λ k. part k.1 == p) (map by_ending ms)
-ends_filter part p [] = refl
-ends_filter part p (m ∷ ms) =
-    elim (part m.key == p) as (λ b. map by_ending (cond b (m ∷ matches_in part p ms) (matches_in part p ms))
-    ≡ cond b (by_ending m ∷ where_key ending_cmp (λ k. part k.1 == p) (map by_ending ms)) (where_key ending_cmp (λ k. part k.1 == p) (map by_ending ms))) [
-      | true ↦ ap (λ (es : List EndingEntry). by_ending m ∷ es) (ends_filter part p ms)
-      | false ↦ ends_filter part p ms
-    ]
-
-find_part : (part : List Value → ℕ) (p : ℕ) (ms : List Match) (q : Ending)
-    → find ending_cmp q (map by_ending (matches_in part p ms)) ≡ cond (part q.1 == p) (find ending_cmp q (map by_ending ms)) None
-find_part part p ms q =
-    ap (find ending_cmp q) (ends_filter part p ms)
-    ∙ find-where_key ending_cmp (λ k. part k.1 == p) q (λ x e. ap (λ (k : Ending). part k.1 == p) (sym (ending_same q x e))) (map by_ending ms)
-
-one_more_part : (k n : ℕ) (F : Option (List OrderKey)) → found_or (cond (nat_lt k n) F None) (cond (k == n) F None) ≡ cond (nat_lt k (suc n)) F None
-one_more_part k n F = grind (arith, nat_tests)
-
-ends_back : (ms : List Match) → map match_of (map by_ending ms) ≡ ms
-ends_back [] = refl
-ends_back (m ∷ ms) = ap (λ (rest : List Match). m ∷ rest) (ends_back ms)
-
-find_parts : (part : List Value → ℕ) (ms : List Match) (each : ℕ → List Match) (q : Ending)
-    → ((p : ℕ) → each p ≡ matches_in part p ms)
-    → (n : ℕ) → find ending_cmp q (map by_ending (flat_map each (numbers n))) ≡ cond (nat_lt (part q.1) n) (find ending_cmp q (map by_ending ms)) None
-find_parts part ms each q is zero = sym (ap (λ (b : Bool). cond b (find ending_cmp q (map by_ending ms)) None) (never (part q.1)))
-find_parts part ms each q is (suc n) =
-    ap (λ (xs : List Match). find ending_cmp q (map by_ending xs)) (flat_map-append each (numbers n) (n ∷ []) ∙ ap (λ (xs : List Match). flat_map each (numbers n) ++ xs) (append-nil (each n)))
-    ∙ ap (find ending_cmp q) (map-append by_ending (flat_map each (numbers n)) (each n))
-    ∙ find-append ending_cmp q (map by_ending (flat_map each (numbers n))) (map by_ending (each n))
-    ∙ (λ i. found_or (find_parts part ms each q is n i) ((ap (λ (xs : List Match). find ending_cmp q (map by_ending xs)) (is n) ∙ find_part part n ms q) i))
-    ∙ one_more_part (part q.1) n (find ending_cmp q (map by_ending ms))
 
 -- the matches ascend by last event, and then by key
 pub endings_ascend : (m : ℕ) (span : Option ℤ) (holders : List Holder) (items : List Item) → Ascending items
@@ -220,33 +182,20 @@ matches_in_order m span holders items up = holds_true _ (endings_ascend m span h
 
 pub keys_merge : KeysMerge
 keys_merge m span part n holders items parts up =
-    sym (ends_back (matches m span holders items))
+    sym (map_back match_of by_ending (λ m. refl) (matches m span holders items))
     ∙ ap (map match_of) (is_in_order ending_cmp ending_cmp_total ending_same (map by_ending (matches m span holders items))
     (map by_ending (flat_map (λ p. matches m span holders (routed part p items)) (numbers n)))
     (endings_ascend m span holders items up)
-    (λ q. sym (find_parts part (matches m span holders items) (λ p. matches m span holders (routed part p items)) q
-    (λ p. routed_matches part p m span holders items) n
+    (λ q. sym (find_kinds ending_cmp ending_same by_ending (λ k. part k.1) (matches m span holders items) (λ p. matches m span holders (routed part p items))
+    (λ p. routed_matches part p m span holders items) q n
     ∙ ap (λ (b : Bool). cond b (find ending_cmp q (map by_ending (matches m span holders items))) None) (within (part q.1) n (parts q.1)))))
-
--- the pending sequences of several parts
-find_gathered : (part : List Value → ℕ) (hs : List Holder) (each : ℕ → List Holder) (q : Slot)
-    → ((p : ℕ) → each p ≡ holders_in part p hs)
-    → (n : ℕ) → find slot_cmp q (map by_slot (flat_map each (numbers n))) ≡ cond (nat_lt (part q.0) n) (find slot_cmp q (map by_slot hs)) None
-find_gathered part hs each q is zero = sym (ap (λ (b : Bool). cond b (find slot_cmp q (map by_slot hs)) None) (never (part q.0)))
-find_gathered part hs each q is (suc n) =
-    ap (λ (xs : List Holder). find slot_cmp q (map by_slot xs)) (flat_map-append each (numbers n) (n ∷ []) ∙ ap (λ (xs : List Holder). flat_map each (numbers n) ++ xs) (append-nil (each n)))
-    ∙ ap (find slot_cmp q) (map-append by_slot (flat_map each (numbers n)) (each n))
-    ∙ find-append slot_cmp q (map by_slot (flat_map each (numbers n))) (map by_slot (each n))
-    ∙ (λ i. found_or (find_gathered part hs each q is n i) ((ap (λ (xs : List Holder). find slot_cmp q (map by_slot xs)) (is n)
-    ∙ ap (find slot_cmp q) (holders_where part n hs) ∙ find_where part n q (map by_slot hs)) i))
-    ∙ one_more_part (part q.0) n (find slot_cmp q (map by_slot hs))
 
 pub keys_gather : KeysGather
 keys_gather m span part n holders items parts =
     ap (map holder_of) (is_in_order slot_cmp slot_cmp_total slot_same (in_order slot_cmp (all_entries m span holders items))
     (map by_slot (flat_map (λ p. after m span (holders_in part p holders) (routed part p items)) (numbers n)))
     (in_order-sorted slot_cmp slot_cmp_total (all_entries m span holders items))
-    (λ q. ap (find slot_cmp q) (sym (slots_back (in_order slot_cmp (all_entries m span holders items))))
-    ∙ sym (find_gathered part (after m span holders items) (λ p. after m span (holders_in part p holders) (routed part p items)) q
-    (λ p. after_routed part p m span holders items) n
+    (λ q. ap (find slot_cmp q) (sym (map_back by_slot holder_of (λ e. refl) (in_order slot_cmp (all_entries m span holders items))))
+    ∙ sym (find_kinds slot_cmp slot_same by_slot (λ k. part k.0) (after m span holders items) (λ p. after m span (holders_in part p holders) (routed part p items))
+    (λ p. after_routed part p m span holders items) q n
     ∙ ap (λ (b : Bool). cond b (find slot_cmp q (map by_slot (after m span holders items))) None) (within (part q.0) n (parts q.0)))))

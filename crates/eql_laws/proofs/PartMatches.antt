@@ -23,6 +23,7 @@ use Rattle.eql_values.specs.Ordered.{both_none, in_order, in_order-sorted}
 use Rattle.eql_values.specs.Matching.{Slot, slot_cmp, onto, opening_of, held_after, matches, after}
 use Rattle.eql_laws.specs.Merging.{by_slot, holder_of}
 use Rattle.eql_laws.specs.Parts.{matches_in, holders_in}
+use Rattle.eql_laws.proofs.Lists.{map_filter}
 use Rattle.eql_laws.proofs.Stepping.{holder_start}
 use Rattle.eql_laws.proofs.Held.{Entry, up_to, all_entries, find-held, slot_cmp_total, slot_same}
 use Rattle.eql_laws.proofs.Facts.{is_equal}
@@ -121,22 +122,10 @@ module _ (part : List Value → ℕ) (p : ℕ) where
   slot_of_part s = part s.0 == p
 
   pub holders_where : (holders : List Holder) → map by_slot (holders_in part p holders) ≡ where_key slot_cmp slot_of_part (map by_slot holders)
-  holders_where [] = refl
-  holders_where (h ∷ holders) =
-      elim (part h.key == p) as (λ b. map by_slot (cond b (h ∷ holders_in part p holders) (holders_in part p holders))
-      ≡ cond b (by_slot h ∷ where_key slot_cmp slot_of_part (map by_slot holders)) (where_key slot_cmp slot_of_part (map by_slot holders))) [
-        | true ↦ ap (λ (es : List Entry). by_slot h ∷ es) (holders_where holders)
-        | false ↦ holders_where holders
-      ]
+  holders_where holders = map_filter by_slot (λ h. part h.key == p) (λ e. part e.0.0 == p) (λ h. refl) holders
 
   entries_where : (es : List Entry) → map holder_of (where_key slot_cmp slot_of_part es) ≡ holders_in part p (map holder_of es)
-  entries_where [] = refl
-  entries_where (e ∷ es) =
-      elim (part e.0.0 == p) as (λ b. map holder_of (cond b (e ∷ where_key slot_cmp slot_of_part es) (where_key slot_cmp slot_of_part es))
-      ≡ cond b (holder_of e ∷ holders_in part p (map holder_of es)) (holders_in part p (map holder_of es))) [
-        | true ↦ ap (λ (hs : List Holder). holder_of e ∷ hs) (entries_where es)
-        | false ↦ entries_where es
-      ]
+  entries_where es = map_filter holder_of (λ e. part e.0.0 == p) (λ h. part h.key == p) (λ e. refl) es
 
   pub find_where : (q : Slot) (es : List Entry) → find_entry slot_cmp q (where_key slot_cmp slot_of_part es) ≡ cond (part q.0 == p) (find_entry slot_cmp q es) None
   find_where q es = find-where_key slot_cmp slot_of_part q (λ x e. ap slot_of_part (sym (slot_same q x e))) es

@@ -1,5 +1,5 @@
 -- Items in the order of their places.
-use Rattle.std.proofs.Common.{◌≡◌, Bool, true, false, cond, List, [], ◌∷◌, ◌++◌, map, Option, None, refl, sym, ap, ◌∙◌}
+use Rattle.std.proofs.Common.{◌≡◌, Bool, cond, List, [], ◌∷◌, ◌++◌, map, Option, None, refl, sym, ap, ◌∙◌}
 use Rattle.std.specs.Prelude.{filter}
 use Rattle.std.specs.List.{flat_map}
 use Rattle.std.specs.declared.cmp.Ordering.TheVariants.{Equal}
@@ -11,6 +11,7 @@ use Rattle.eql_values.specs.declared.item.Item.{Item}
 use Rattle.eql_values.specs.OrderKeys.{order_cmp, order_cmp_total, order_same}
 use Rattle.eql_values.specs.Ordered.{in_order, found_or, find-append, find-in_order, in_order-sorted, is_in_order}
 use Rattle.eql_values.specs.Accepted.{sorted_items}
+use Rattle.eql_laws.proofs.Lists.{map_back, map_filter}
 
 abbrev pub Entry : Type 0
 Entry = OrderKey × List Route
@@ -24,10 +25,6 @@ back e = record { order = e.0; routes = e.1 }
 abbrev pub bare : OrderKey → Item
 bare k = record { order = k; routes = [] }
 
-pub paired_back : (es : List Entry) → map pair (map back es) ≡ es
-paired_back [] = refl
-paired_back (e ∷ es) = ap (λ (fs : List Entry). e ∷ fs) (paired_back es)
-
 pub alike : (es fs : List Entry) → ((q : OrderKey) → find order_cmp q es ≡ find order_cmp q fs) → in_order order_cmp es ≡ in_order order_cmp fs
 alike es fs h = is_in_order order_cmp order_cmp_total order_same (in_order order_cmp es) fs (in_order-sorted order_cmp order_cmp_total es) (λ q. find-in_order order_cmp order_cmp_total q es ∙ h q)
 
@@ -36,7 +33,7 @@ pub sorted_alike : (xs ys : List Item) → ((q : OrderKey) → find order_cmp q 
 sorted_alike xs ys h = ap (map back) (alike (map pair xs) (map pair ys) h)
 
 pub find_sorted : (q : OrderKey) (xs : List Item) → find order_cmp q (map pair (sorted_items xs)) ≡ find order_cmp q (map pair xs)
-find_sorted q xs = ap (find order_cmp q) (paired_back (in_order order_cmp (map pair xs))) ∙ find-in_order order_cmp order_cmp_total q (map pair xs)
+find_sorted q xs = ap (find order_cmp q) (map_back pair back (λ e. refl) (in_order order_cmp (map pair xs))) ∙ find-in_order order_cmp order_cmp_total q (map pair xs)
 
 pub find_more : (q : OrderKey) (xs ys : List Item) → find order_cmp q (map pair (xs ++ ys)) ≡ found_or (find order_cmp q (map pair xs)) (find order_cmp q (map pair ys))
 find_more q xs ys = ap (find order_cmp q) (map-append pair xs ys) ∙ find-append order_cmp q (map pair xs) (map pair ys)
@@ -62,22 +59,10 @@ OfPlace p = (i : Item) → p i ≡ p (bare i.order)
 
 module _ (p : Item → Bool) (place : OfPlace p) where
   pub filter_back : (es : List Entry) → filter p (map back es) ≡ map back (where_key order_cmp (λ k. p (bare k)) es)
-  filter_back [] = refl
-  filter_back (e ∷ es) =
-      ap (λ (b : Bool). cond b (back e ∷ filter p (map back es)) (filter p (map back es))) (place (back e))
-      ∙ elim (p (bare e.0)) as (λ b. cond b (back e ∷ filter p (map back es)) (filter p (map back es)) ≡ map back (cond b (e ∷ where_key order_cmp (λ k. p (bare k)) es) (where_key order_cmp (λ k. p (bare k)) es))) [
-        | true ↦ ap (λ (xs : List Item). back e ∷ xs) (filter_back es)
-        | false ↦ filter_back es
-      ]
+  filter_back es = sym (map_filter back (λ e. p (bare e.0)) p (λ e. sym (place (back e))) es)
 
   pub filter_pair : (xs : List Item) → map pair (filter p xs) ≡ where_key order_cmp (λ k. p (bare k)) (map pair xs)
-  filter_pair [] = refl
-  filter_pair (x ∷ xs) =
-      ap (λ (b : Bool). map pair (cond b (x ∷ filter p xs) (filter p xs))) (place x)
-      ∙ elim (p (bare x.order)) as (λ b. map pair (cond b (x ∷ filter p xs) (filter p xs)) ≡ cond b (pair x ∷ where_key order_cmp (λ k. p (bare k)) (map pair xs)) (where_key order_cmp (λ k. p (bare k)) (map pair xs))) [
-        | true ↦ ap (λ (es : List Entry). pair x ∷ es) (filter_pair xs)
-        | false ↦ filter_pair xs
-      ]
+  filter_pair xs = map_filter pair p (λ e. p (bare e.0)) place xs
 
   same_test : (q x : OrderKey) → order_cmp q x ≡ Equal → p (bare x) ≡ p (bare q)
   same_test q x e = ap (λ (k : OrderKey). p (bare k)) (sym (order_same q x e))

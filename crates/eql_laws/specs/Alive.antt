@@ -1,10 +1,15 @@
 -- Pending sequences that can still match by their span.
-use Rattle.std.specs.Prelude.{◌≡◌, List, [], ◌∷◌, Option, Some, None, ℕ, ℤ, ◌≤ℤ◌, pos, filter, map, IsTrue}
+use Rattle.std.specs.Prelude.{◌≡◌, if◌then◌else◌, List, [], ◌∷◌, Option, Some, None, ℕ, ℤ, ◌≤ℤ◌, pos, filter, map, IsTrue}
 use Rattle.std.specs.FinMap.Entries.{is_sorted}
-use Rattle.eql_values.specs.Matching.{slot_cmp, matches, after}
+use Rattle.eql_values.specs.Matching.{slot_cmp, opening_of, matches, after}
 use Rattle.eql_values.specs.declared.item.Item.{Item}
 use Rattle.eql_values.specs.declared.found.Holder.{Holder}
 use Rattle.eql_values.specs.Chains.{in_time}
+use Rattle.eql_values.specs.declared.order.OrderKey.{OrderKey}
+use Rattle.eql_values.specs.declared.value.Value.{Value}
+use Rattle.eql_values.specs.declared.item.Act.{Act}
+use Rattle.eql_laws.specs.Slots.{Slots, stepped}
+use Rattle.eql_laws.specs.Merging.{by_slot}
 
 -- a span is no negative time
 abbrev pub IsSpan : Option ℤ → Type 0
@@ -20,9 +25,14 @@ ItemsFrom t (item ∷ items) = (t ≤ℤ item.order.ts) × ItemsFrom t items
 abbrev pub alive_holders : Option ℤ → ℤ → List Holder → List Holder
 alive_holders span t = filter (λ (h : Holder). in_time span h.chain t)
 
+-- a pending sequence where it is alive at a time
+abbrev pub alive_at : Option ℤ → ℤ → Option (List OrderKey) → Option (List OrderKey)
+alive_at span t None = None
+alive_at span t (Some chain) = if in_time span chain t then Some chain else None
+
 -- the holders ascend strictly by key and stage
 abbrev pub HoldersInOrder : List Holder → Type 0
-HoldersInOrder holders = IsTrue (is_sorted slot_cmp (map (λ (h : Holder). ((h.key, h.stage), h.chain)) holders))
+HoldersInOrder holders = IsTrue (is_sorted slot_cmp (map by_slot holders))
 
 -- the dead at a time may be left out before items from that time on: no match changes
 abbrev pub DeadMatches : Type 0
@@ -35,6 +45,16 @@ abbrev pub DeadAfter : Type 0
 DeadAfter = (m : ℕ) (span : Option ℤ) (t : ℤ) (holders : List Holder) (items : List Item)
     → IsSpan span → HoldersInOrder holders → ItemsFrom t items
     → after m span (alive_holders span t holders) items ≡ alive_holders span t (after m span holders items)
+
+-- a look-up in the living of holders in order finds what a look-up in all finds, where it is alive
+abbrev pub AliveLooksUp : Type 0
+AliveLooksUp = (span : Option ℤ) (t : ℤ) (holders : List Holder) → HoldersInOrder holders → (key : List Value) (stage : ℕ)
+    → opening_of (alive_holders span t holders) key stage ≡ alive_at span t (opening_of holders key stage)
+
+-- leaving out the dead before an item that comes from that time on is leaving them out after it
+abbrev pub SteppedAlive : Type 0
+SteppedAlive = (span : Option ℤ) (t : ℤ) (slots : Slots) (item : Act) (k : ℕ) → IsSpan span → t ≤ℤ item.order.ts
+    → stepped span (λ j. alive_at span t (slots j)) item k ≡ alive_at span t (stepped span slots item k)
 
 -- who is dead stays dead
 abbrev pub DeadForGood : Type 0

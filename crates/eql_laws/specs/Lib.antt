@@ -10,3 +10,5 @@ pub mod Places
 pub mod Belows
 pub mod Shapes
 pub mod OneEvent
+pub mod Cuts
+pub mod Taking

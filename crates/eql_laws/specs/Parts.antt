@@ -1,12 +1,12 @@
 -- Laws of keys in parts: which keys are handled where doesn't matter.
-use Rattle.std.specs.Prelude.{◌≡◌, ◌==◌, ◌<◌, ℕ, ℤ, List, filter, Option}
+use Rattle.std.specs.Prelude.{if◌then◌else◌, None, ◌≡◌, ◌==◌, ◌<◌, ℕ, ℤ, List, filter, Option}
 use Rattle.std.specs.List.{flat_map}
 use Rattle.eql_values.specs.declared.value.Value.{Value}
 use Rattle.eql_values.specs.declared.item.Item.{Item}
 use Rattle.eql_values.specs.declared.found.Match.{Match}
 use Rattle.eql_values.specs.declared.found.Holder.{Holder}
 use Rattle.eql_values.specs.Ascending.{Ascending}
-use Rattle.eql_values.specs.Matching.{matches, after}
+use Rattle.eql_values.specs.Matching.{opening_of, matches, after}
 use Rattle.eql_values.specs.Ordered.{numbers}
 use Rattle.eql_values.specs.Routing.{routed}
 use Rattle.eql_laws.specs.Merging.{merged, gathered}
@@ -30,6 +30,11 @@ abbrev pub KeysGather : Type 0
 KeysGather = (m : ℕ) (span : Option ℤ) (part : List Value → ℕ) (n : ℕ) (holders : List Holder) (items : List Item)
     → ((key : List Value) → part key < n)
     → after m span holders items ≡ gathered (flat_map (λ p. after m span (holders_in part p holders) (routed part p items)) (numbers n))
+
+-- a part's pending sequences are those that a look-up finds at the part's keys
+abbrev pub PartLooksUp : Type 0
+PartLooksUp = (part : List Value → ℕ) (p : ℕ) (holders : List Holder) (key : List Value) (stage : ℕ)
+    → opening_of (holders_in part p holders) key stage ≡ (if part key == p then opening_of holders key stage else None)
 
 -- the matches by a part's items are the matches of the part's keys
 abbrev pub MatchesRouted : Type 0

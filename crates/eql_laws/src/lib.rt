@@ -4,6 +4,7 @@
 
 mod alive;
 mod belows;
+mod cuts;
 mod lateness;
 mod one_event;
 mod parts;
@@ -11,14 +12,20 @@ mod places;
 mod shapes;
 mod splits;
 mod steps;
+mod taking;
 
-pub use alive::{after_in_order, dead_after, dead_alike, dead_for_good, dead_matches};
+pub use alive::{
+    after_in_order, dead_after, dead_alike, dead_by_slot, dead_for_good, dead_matches,
+};
 pub use belows::{accepted_are, below_ascends, below_grows, open_low, sorted_together};
+pub use cuts::{found_fits, held_back_fits, none_is_lost, pending_fits, routes_stay};
 pub use lateness::{
     accepted_by_best, accepted_split, best_goes_on, late_by_best, low_rises, none_comes_below,
 };
 pub use one_event::{after_looks_up, after_none, one_more_event, same_holders};
-pub use parts::{after_routed, keys_gather, keys_merge, matches_routed, own_holders, part_apart};
+pub use parts::{
+    after_routed, keys_gather, keys_merge, matches_routed, own_holders, part_apart, part_looks_up,
+};
 pub use places::{accepted_goes_on, late, lines_go_on, readable_goes_on};
 pub use shapes::{
     chains_are_full, chains_ascend, events_and_keys_stay, first_events_fall, matches_in_order,
@@ -26,3 +33,4 @@ pub use shapes::{
 };
 pub use splits::{after_split, matches_split};
 pub use steps::{chain_reads, chain_step, slot_start, slot_step};
+pub use taking::{between_by_shard, held_back_grows, late_between, take_splits};

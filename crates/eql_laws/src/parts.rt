@@ -1,5 +1,5 @@
 //! Laws of keys in parts: which keys are handled where doesn't matter.
-ghost use Rattle.eql_laws.specs.Parts.{KeysMerge, KeysGather, MatchesRouted, OwnHolders, AfterRouted, PartApart};
+ghost use Rattle.eql_laws.specs.Parts.{KeysMerge, KeysGather, MatchesRouted, OwnHolders, AfterRouted, PartApart, PartLooksUp};
 
 /// The matches are those by the events routed to each part of the keys, merged by last event and then by key.
 pub fn keys_merge()
@@ -29,4 +29,9 @@ pub fn after_routed()
 /// A part's later matches depend on its own opening sequences and its own earlier events alone.
 pub fn part_apart()
     ensures { PartApart }
+{}
+
+/// A look-up in a part's pending sequences finds those of the part's keys.
+pub fn part_looks_up()
+    ensures { PartLooksUp }
 {}

@@ -1,0 +1,22 @@
+//! Laws of what shards hold back and hand out from mark to mark.
+ghost use Rattle.eql_laws.specs.Taking.{BetweenByShard, TakeSplits, LateBetween, HeldBackGrows};
+
+/// What all shards hand out between two marks, put in order, is what lies between them.
+pub fn between_by_shard()
+    ensures { BetweenByShard }
+{}
+
+/// Of what a shard holds back at one mark it hands out what is below a greater one, and holds back the rest.
+pub fn take_splits()
+    ensures { TakeSplits }
+{}
+
+/// What a shard hands out up to its low doesn't depend on the text after its place.
+pub fn late_between()
+    ensures { LateBetween }
+{}
+
+/// With more text a shard holds back what it held back and what more was accepted.
+pub fn held_back_grows()
+    ensures { HeldBackGrows }
+{}

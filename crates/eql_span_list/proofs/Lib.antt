@@ -1,0 +1,10 @@
+pub mod Apart
+pub mod Crosses
+pub mod Cuts
+pub mod EntryLemmas
+pub mod LooseValues
+pub mod Memory
+pub mod Pointers
+pub mod Relinked
+pub mod Sharing
+pub mod TicketValues

@@ -1,0 +1,5 @@
+pub mod Chain
+pub mod Entries
+pub mod Lends
+pub mod Ownership
+pub mod PlacedNode
