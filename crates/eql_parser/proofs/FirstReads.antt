@@ -1,12 +1,12 @@
 -- How a text of the first form is read, item by item.
-use Rattle.std.proofs.Common.{◌≡◌, ◌≢◌, ◌≤◌, ◌<◌, ◌+◌, ℕ, List, [], ◌∷◌, ◌++◌, length, take, drop, map, true, false, ◌&&◌, IsTrue, refl, sym, ap, subst, ◌∙◌, arith, codes, None, inl, inr}
+use Rattle.std.proofs.Common.{◌≡◌, ◌≢◌, ◌≤◌, ◌<◌, ◌+◌, ℕ, List, [], ◌∷◌, ◌++◌, length, take, drop, map, true, false, ◌&&◌, IsTrue, refl, sym, ap, subst, ◌∙◌, arith, codes, inl, inr}
 use Rattle.std.specs.List.{list_all, prefix_len}
 use Rattle.std.proofs.lemmas.Bool.{and_parts, false≢true}
 use Rattle.std.proofs.lemmas.List.{append_assoc, take_at, drop_at, append-nil, length-append, length-map, map-append}
 use Rattle.std.proofs.lemmas.List.Folds.{list_all-append}
-use Rattle.eql_parser.specs.QueryTree.{TermTree, QueryTree, sequence}
+use Rattle.eql_parser.specs.QueryTree.{TermTree, QueryTree}
 use Rattle.eql_parser.specs.First.{is_category, is_word_byte, items_text, first_term, first_tree, IsFirst, IsFirstQuery}
-use Rattle.eql_parser.specs.FirstItems.{BeginsWithItem, IsEnd, AreItems, NoItems, SpellsItems}
+use Rattle.eql_parser.specs.FirstItems.{BeginsWithItem, IsEnd, AreItems, NoItems}
 use Rattle.eql_parser.proofs.Words.{category_bytes, same_word, word_front}
 
 abbrev pub item_text : List ℕ → List ℕ
@@ -40,9 +40,6 @@ pub no_item_named : (text inner front : List ℕ) → text ≡ codes " [" ++ inn
     → is_category front ≡ false → (category rest : List ℕ) → BeginsWithItem text category rest → ⊥
 no_item_named text inner front e cut none category rest item =
     false≢true (sym none ∙ ap is_category (cut ∙ (item_cut text inner category rest e item).0) ∙ item.named)
-
-pub no_item_before : (text : List ℕ) → ((inner : List ℕ) → text ≢ codes " [" ++ inner) → (category rest : List ℕ) → BeginsWithItem text category rest → ⊥
-no_item_before text none category rest item = none (category ++ codes " where true]" ++ rest) item.text_is
 
 pub item_found : (text inner front behind rest : List ℕ) → text ≡ codes " [" ++ inner → inner ≡ front ++ behind → behind ≡ codes " where true]" ++ rest
     → is_category front ≡ true → BeginsWithItem text front rest
@@ -90,9 +87,6 @@ pub record ReadSoFar (text rest : List ℕ) (terms : List TermTree) : Type 0 whe
   pub terms_are : terms ≡ map first_term categories
   pub to_eight : length terms ≤ 8
 
-pub none_read : (text : List ℕ) → ReadSoFar text text []
-none_read text = record { categories = []; text_is = refl; each = refl; terms_are = refl; to_eight = omega arith }
-
 as_many : (text rest : List ℕ) (terms : List TermTree) (read : ReadSoFar text rest terms) → length terms ≡ length read.categories
 as_many text rest terms read = ap length read.terms_are ∙ length-map read.categories first_term
 
@@ -125,19 +119,6 @@ further text rest terms categories read items =
 pub no_more : (rest end : List ℕ) (more : List (List ℕ)) → IsEnd rest → rest ≡ items_text more ++ end → more ≡ []
 no_more rest end [] stop e = refl
 no_more rest end (category ∷ more) stop e = absurd (end_no_item rest category (items_text more ++ end) stop (e ∙ items_front category more end))
-
-pub items_found : (text rest : List ℕ) (terms : List TermTree) → ReadSoFar text rest terms → IsEnd rest → 2 ≤ length terms → SpellsItems text terms
-items_found text rest terms read stop enough =
-    let count = as_many text rest terms read in
-    let items : AreItems text read.categories = record {
-      end = rest;
-      end_is = stop;
-      text_is = read.text_is;
-      from_two = omega (arith, count, enough);
-      to_eight = omega (arith, count, read.to_eight);
-      each = read.each;
-    } in
-    record { categories = read.categories; spelled = items; items_are = read.terms_are }
 
 pub too_few : (text rest : List ℕ) (terms : List TermTree) → ReadSoFar text rest terms → IsEnd rest → length terms < 2
     → (categories : List (List ℕ)) → AreItems text categories → ⊥
@@ -185,17 +166,6 @@ items_behind text rest categories e first =
     let front = front_is text categories first in
     record { end = first.end; end_is = first.end_is; text_is = cc; from_two = first.from_two; to_eight = first.to_eight; each = first.each }
 
-pub first_found : (text rest : List ℕ) (categories : List (List ℕ)) → text ≡ codes "sequence" ++ rest → length text ≤ 65536 → AreItems rest categories → IsFirst text categories
-first_found text rest categories e short items = record {
-  end = items.end;
-  end_is = items.end_is;
-  text_is = e ∙ ap (λ l. codes "sequence" ++ l) items.text_is;
-  short = short;
-  from_two = items.from_two;
-  to_eight = items.to_eight;
-  each = items.each;
-}
-
 same_behind : (text rest other : List ℕ) → text ≡ codes "sequence" ++ rest → text ≡ codes "sequence" ++ other → rest ≡ other
 same_behind text rest other e f = cc
 
@@ -206,14 +176,6 @@ one_list text categories others first other =
     let on = goes_on categories others first.end other.end first.each other.each same other.end_is in
     let done = no_more first.end other.end on.more first.end_is on.rest_is in
     sym (on.all_is ∙ ap (λ l. categories ++ l) done ∙ append-nil categories)
-
-pub query_found : (text rest : List ℕ) (terms : List TermTree) → text ≡ codes "sequence" ++ rest → length text ≤ 65536 → SpellsItems rest terms
-    → IsFirstQuery text (record { body = sequence [] None terms None; pipes = [] })
-query_found text rest terms e short items = record {
-  categories = items.categories;
-  spelled = first_found text rest items.categories e short items.spelled;
-  query_is = ap (λ l. record { body = sequence [] None l None; pipes = [] }) items.items_are;
-}
 
 pub no_query : (text rest : List ℕ) → text ≡ codes "sequence" ++ rest → NoItems rest
     → (query : QueryTree) → IsFirstQuery text query → ⊥

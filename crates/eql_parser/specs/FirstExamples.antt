@@ -25,7 +25,7 @@ any_and_large : first_tree (codes "any" ∷ codes "Process_1" ∷ [])
     ≡ record {
       body = sequence [] None (
           record { category = None; cond = t.bool true; by = []; runs = pos 1 }
-          ∷ record { category = Some (80 ∷ 114 ∷ 111 ∷ 99 ∷ 101 ∷ 115 ∷ 115 ∷ 95 ∷ 49 ∷ []); cond = t.bool true; by = []; runs = pos 1 } ∷ []) None;
+          ∷ record { category = Some (codes "Process_1"); cond = t.bool true; by = []; runs = pos 1 } ∷ []) None;
       pipes = [];
     }
 unfolding chars
@@ -44,8 +44,8 @@ keyword_is_none = refl
 digit_begins_none : is_category (codes "1a") ≡ false
 digit_begins_none = refl
 
-line_begins_none : is_category (codes "_a") ≡ false
-line_begins_none = refl
+underscore_begins_none : is_category (codes "_a") ≡ false
+underscore_begins_none = refl
 
 empty_is_none : is_category [] ≡ false
 empty_is_none = refl

@@ -25,6 +25,7 @@ const MAX_ITEMS: usize = 8;
 /// Reads a query of the first form. `None` comes exactly where the text hasn't this form: `sequence`, then two to
 /// eight times ` [CATEGORY where true]` with these single spaces, then at most one line feed, in at most 65,536
 /// bytes. A category is an ASCII letter followed by ASCII letters, digits and `_`, and is `any` or no keyword.
+/// `Memory` says that memory ran out.
 pub fn parse_first(alloc: Global, text: &[u8]) -> Result<Option<Query>, Memory>
     ensures { IfOk result (λ read. MatchOption read (NoFirstQuery text.now) (λ query. IsFirstQuery text.now (query_tree query))) }
 {
@@ -56,7 +57,7 @@ fn sequence(alloc: Global, items: Vec<Term>) -> Query
     }
 }
 
-/// The items that a text is made of, up to the line feed that may end it.
+/// The items that a text is made of, up to the line feed that may end it, where there are two to eight of them.
 fn items(alloc: Global, text: &[u8]) -> Result<Option<Vec<Term>>, Memory>
     ensures { IfOk result (λ read. MatchOption read (NoItems text.now) (λ items. SpellsItems text.now (map term_tree items.items))) }
 {
@@ -85,7 +86,7 @@ fn is_end(rest: &[u8]) -> bool
     rest.is_empty() || rest == b"\n".as_slice()
 }
 
-/// The category of the item at the front, and what follows the item.
+/// The category of the item at the front and what follows the item, where the text begins with one.
 fn item(text: &[u8]) -> Option<(&[u8], &[u8])>
     ensures { MatchOption result (BeginsWithNoItem text.now) (λ found. BeginsWithItem text.now found.0.now found.1.now) }
 {
@@ -99,7 +100,7 @@ fn item(text: &[u8]) -> Option<(&[u8], &[u8])>
     }
 }
 
-/// What follows these bytes at the front.
+/// What follows these bytes at the front, where the text begins with them.
 fn after<'a>(text: &'a [u8], front: &[u8]) -> Option<&'a [u8]>
     ensures { MatchOption result ((rest : List ℕ) → text.now ≢ front.now ++ rest) (λ rest. text.now ≡ front.now ++ rest.now) }
 {
