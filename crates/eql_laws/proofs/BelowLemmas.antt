@@ -9,7 +9,7 @@ use Rattle.std.specs.declared.cmp.Ordering.TheVariants.{Less, Equal, Greater}
 use Rattle.std.specs.FinMap.Entries.{is_sorted, below_all}
 use Rattle.std.proofs.lemmas.Int.{ints}
 use Rattle.std.proofs.lemmas.Cmp.{int_ranked}
-use Rattle.std.proofs.lemmas.List.Elements.{All-nil, All-cons, All-head, All-tail, All-append, All-map, All-weaker, filter-append}
+use Rattle.std.proofs.lemmas.List.Elements.{All-nil, All-cons, All-head, All-tail, All-append, All-map, All-filter, All-weaker, filter-append}
 use Rattle.eql_values.specs.declared.order.OrderKey.{OrderKey}
 use Rattle.eql_values.specs.declared.order.Mark.{Mark}
 use Rattle.eql_values.specs.declared.order.Mark.TheVariants.{Start, At, End}
@@ -271,10 +271,14 @@ below_are reads slack texts mark reading =
     (λ item h below. record { shard_is = (let a = h.shard_is in omega (arith, a)); line_from = h.line_from; in_range = h.in_range; routes_stand = h.routes_stand; below = below })
     (accepted_from reads slack 0 texts) (all_from reads slack 0 texts reading))
 
+pub routes_in_order : (reads : Reads) (slack : Option ℤ) (shard : ℕ) (texts : List (List ℕ)) → IsReading reads → All HasRoutesInOrder (accepted_from reads slack shard texts)
+routes_in_order reads slack shard texts reading =
+    All-weaker (IsFrom shard (length texts)) HasRoutesInOrder (λ item h. h.routes_stand.0) (accepted_from reads slack shard texts) (all_from reads slack shard texts reading)
+
 pub below_ascends : BelowAscends
 below_ascends reads slack texts mark reading =
     sorted_ascends (filter (is_below mark) (accepted_from reads slack 0 texts))
-    (All-passed (IsFrom 0 (length texts)) HasRoutesInOrder (is_below mark) (λ item h below. h.routes_stand.0) (accepted_from reads slack 0 texts) (all_from reads slack 0 texts reading))
+    (All-filter (is_below mark) HasRoutesInOrder (accepted_from reads slack 0 texts) (routes_in_order reads slack 0 texts reading))
 
 low_in_range : (slack b : ℤ) → pos 0 ≤ℤ slack → slack ≤ℤ greatest_slack → IsTime b → IsMarkTime (b -ℤ slack)
 low_in_range slack b from to h = let l = h.0 in let u = h.1 in (omega (arith, ints, l, u, from, to), omega (arith, ints, l, u, from, to))

@@ -24,3 +24,4 @@ pub mod EventLemmas
 pub mod Distinct
 pub mod CutLemmas
 pub mod Handing
+pub mod PieceLemmas

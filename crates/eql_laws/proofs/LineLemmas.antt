@@ -4,7 +4,10 @@ use Rattle.std.specs.Prelude.{◌==◌, IsTrue}
 use Rattle.std.proofs.lemmas.List.{append-nil}
 use Rattle.std.proofs.Common.{length-append}
 use Rattle.eql_values.specs.Lines.{Line, begin_with, lines_of, numbered_lines}
-use Rattle.eql_laws.specs.Places.{ends_line, is_line_end, lines_after, LinesGoOn, LinesStepOn}
+use Rattle.eql_laws.specs.Places.{ends_line, is_line_end, is_one_line, lines_after, NextLine, LinesGoOn, LinesStepOn, LineByLine}
+use Rattle.eql_laws.proofs.Facts.{both_true}
+use Rattle.std.proofs.Common.{◌≢◌, append_assoc}
+use Rattle.std.specs.Prelude.{not}
 
 -- a byte goes to the first line, of which there is one
 begin_one : (byte next : ℕ) (c : Bool) (lines more : List (List ℕ))
@@ -97,3 +100,64 @@ lines_go_on a b h = lines_step_on [] a b (from_start (a ++ b)) h
     from_start : (l : List ℕ) → IsTrue (is_line_end [] l)
     from_start [] = refl
     from_start (x ∷ l) = refl
+
+-- one line, up to its line feed
+one_line_fed : (line rest : List ℕ) → IsTrue (is_one_line line) → lines_of (line ++ 10 ∷ rest) ≡ line ∷ lines_of rest
+one_line_fed [] rest h = refl
+one_line_fed (byte ∷ line) rest h =
+    let both = both_true _ _ h in
+    no_feed byte line (lines_of (line ++ 10 ∷ rest)) (lines_of rest) (byte == 10) both.0 (one_line_fed line rest both.1)
+  where
+    no_feed : (byte : ℕ) (line : List ℕ) (whole lines : List (List ℕ)) (c : Bool) → not c ≡ true → whole ≡ line ∷ lines
+        → cond c ([] ∷ whole) (begin_with byte whole) ≡ (byte ∷ line) ∷ lines
+    no_feed byte line whole lines true n e = cc
+    no_feed byte line whole lines false n e = ap (begin_with byte) e
+
+one_line_alone : (byte : ℕ) (line : List ℕ) → IsTrue (is_one_line (byte ∷ line)) → lines_of (byte ∷ line) ≡ (byte ∷ line) ∷ []
+one_line_alone byte [] h = alone (byte == 10) (both_true _ _ h).0
+  where
+    alone : (c : Bool) → not c ≡ true → cond c ([] ∷ []) ((byte ∷ []) ∷ []) ≡ (byte ∷ []) ∷ []
+    alone true n = cc
+    alone false n = refl
+one_line_alone byte (next ∷ line) h =
+    let both = both_true _ _ h in more (byte == 10) both.0 (lines_of (next ∷ line)) (one_line_alone next line both.1)
+  where
+    more : (c : Bool) → not c ≡ true → (lines : List (List ℕ)) → lines ≡ (next ∷ line) ∷ [] → cond c ([] ∷ lines) (begin_with byte lines) ≡ (byte ∷ next ∷ line) ∷ []
+    more true n lines e = cc
+    more false n lines e = ap (begin_with byte) e
+
+feed_ends : (a : List ℕ) → IsTrue (ends_line (a ++ 10 ∷ []))
+feed_ends [] = refl
+feed_ends (byte ∷ []) = refl
+feed_ends (byte ∷ next ∷ a) = feed_ends (next ∷ a)
+
+module _ (first line rest : List ℕ) (start : IsTrue (ends_line first)) (one : IsTrue (is_one_line line)) where
+  counted : length (lines_of (first ++ line ++ 10 ∷ [])) ≡ length (lines_of first) + 1
+  counted =
+      ap (λ (l : List ℕ). length (lines_of l)) (append_assoc first line (10 ∷ []))
+      ∙ ap (λ (l : List (List ℕ)). length l) (lines_on first (line ++ 10 ∷ []) start ∙ ap (λ (l : List (List ℕ)). lines_of first ++ l) (one_line_fed line [] one))
+      ∙ length-append (lines_of first) (line ∷ [])
+
+  placed : length (first ++ line ++ 10 ∷ []) ≡ length first + length line + 1
+  placed =
+      let a = length-append (first ++ line) (10 ∷ []) in let b = length-append first line in omega (arith, a, b)
+
+  next_number : 1 + length (lines_of first) + 1 ≡ 1 + length (lines_of (first ++ line ++ 10 ∷ []))
+  next_number = let a = counted in omega (arith, a)
+
+  pub next_line : NextLine first line rest
+  next_line = record {
+    with_feed =
+        ap (numbered_lines (1 + length (lines_of first)) (length first)) (one_line_fed line rest one)
+        ∙ ap (λ (l : List Line). record { number = 1 + length (lines_of first); at = length first; bytes = line } ∷ l)
+        (λ i. numbered_lines (next_number i) (sym placed i) (lines_of rest));
+    next_starts = feed_ends (first ++ line);
+    last = last_is line one;
+  }
+    where
+      last_is : (line : List ℕ) → IsTrue (is_one_line line) → line ≢ [] → lines_after first line ≡ record { number = 1 + length (lines_of first); at = length first; bytes = line } ∷ []
+      last_is [] one some = absurd (some refl)
+      last_is (byte ∷ line) one some = ap (numbered_lines (1 + length (lines_of first)) (length first)) (one_line_alone byte line one)
+
+pub line_by_line : LineByLine
+line_by_line first line rest start one = next_line first line rest start one

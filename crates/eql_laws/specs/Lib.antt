@@ -12,3 +12,5 @@ pub mod Shapes
 pub mod OneEvent
 pub mod Cuts
 pub mod Taking
+pub mod Pieces
+pub mod Examples

@@ -1,5 +1,6 @@
 -- Laws of texts that were read up to a place: the lines before it and after it, and what below a safe mark is known there.
-use Rattle.std.specs.Prelude.{◌≡◌, ℕ, ◌+◌, ℤ, Bool, true, List, [], ◌∷◌, ◌++◌, ◌==◌, Option, map, filter, length, IsTrue}
+use Rattle.std.specs.Prelude.{◌≡◌, ◌≢◌, not, codes, refl, ℕ, ◌+◌, ℤ, Bool, true, List, [], ◌∷◌, ◌++◌, ◌==◌, Option, map, filter, length, IsTrue}
+use Rattle.std.specs.List.{list_all}
 use Rattle.eql_values.specs.declared.order.Mark.{Mark}
 use Rattle.eql_values.specs.Accepted.{Reads, readable, accepted, below}
 use Rattle.eql_values.specs.Lines.{Line, lines_of, numbered_lines, lines_in}
@@ -21,6 +22,11 @@ is_line_end first (byte ∷ bytes) = ends_line first
 abbrev pub lines_after : (first rest : List ℕ) → List Line
 lines_after first rest = numbered_lines (1 + length (lines_of first)) (length first) (lines_of rest)
 
+lines_after_two : lines_after (codes "ab\n\n") (codes "c\nd")
+    ≡ record { number = 3; at = 4; bytes = codes "c" } ∷ record { number = 4; at = 6; bytes = codes "d" } ∷ []
+unfolding lib.Utf8.encode
+lines_after_two = refl
+
 -- the lines of two texts are those of the first, and those of the second numbered and placed on
 abbrev pub LinesGoOn : Type 0
 LinesGoOn = (a b : List ℕ) → IsTrue (is_line_end a b) → lines_in (a ++ b) ≡ lines_in a ++ lines_after a b
@@ -29,6 +35,20 @@ LinesGoOn = (a b : List ℕ) → IsTrue (is_line_end a b) → lines_in (a ++ b) 
 abbrev pub LinesStepOn : Type 0
 LinesStepOn = (a b c : List ℕ) → IsTrue (is_line_end a (b ++ c)) → IsTrue (is_line_end b c)
     → lines_after a (b ++ c) ≡ lines_after a b ++ lines_after (a ++ b) c
+
+-- the bytes have no line feed
+abbrev pub is_one_line : List ℕ → Bool
+is_one_line bytes = list_all (λ byte. not (byte == 10)) bytes
+
+-- the first line after a place that is a line's start: up to the line feed, after which the next line starts; or, where bytes remain, up to the end
+pub record NextLine (first line rest : List ℕ) : Type 0 where
+  pub with_feed : lines_after first (line ++ 10 ∷ rest)
+      ≡ record { number = 1 + length (lines_of first); at = length first; bytes = line } ∷ lines_after (first ++ line ++ 10 ∷ []) rest
+  pub next_starts : IsTrue (ends_line (first ++ line ++ 10 ∷ []))
+  pub last : line ≢ [] → lines_after first line ≡ record { number = 1 + length (lines_of first); at = length first; bytes = line } ∷ []
+
+abbrev pub LineByLine : Type 0
+LineByLine = (first line rest : List ℕ) → IsTrue (ends_line first) → IsTrue (is_one_line line) → NextLine first line rest
 
 -- the readable events of two texts
 abbrev pub ReadableGoesOn : Type 0

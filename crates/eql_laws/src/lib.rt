@@ -8,6 +8,7 @@ mod cuts;
 mod lateness;
 mod one_event;
 mod parts;
+mod pieces;
 mod places;
 mod shapes;
 mod splits;
@@ -26,6 +27,7 @@ pub use one_event::{after_looks_up, after_none, one_more_event, same_holders};
 pub use parts::{
     after_routed, keys_gather, keys_merge, matches_routed, own_holders, part_apart, part_looks_up,
 };
+pub use pieces::{pieces_ascend, routed_pieces, times_keep};
 pub use places::{accepted_goes_on, late, lines_go_on, readable_goes_on};
 pub use shapes::{
     chains_are_full, chains_ascend, events_and_keys_stay, first_events_fall, matches_in_order,

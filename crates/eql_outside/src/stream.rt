@@ -1,10 +1,11 @@
-//! The sink over a standard stream. What stands behind the stream is trusted, so this tells nothing of content; it
-//! keeps its count, and nothing else.
-ghost use Rattle.std.specs.Prelude.{◌≡◌, None};
+//! The sink over a standard stream. What stands behind the stream is trusted: it tells nothing of content, and so
+//! this tells nothing of it either. Over a writer that tells its bytes, as a `Vec<u8>` does, it tells them.
+ghost use Rattle.std.specs.Prelude.{◌≡◌, ◌++◌, Some, OnOk, OnErr, IfSome};
+ghost use Rattle.eql_outside.specs.Outside.{AppendsSome};
 
-use crate::outside::{OutRefused, Sink};
+use crate::outside::{Failed, OutRefused, Sink};
 use std::alloc::Global;
-use std::io::Write;
+use std::io::{ErrorKind, Write};
 
 /// A sink over a standard stream, or over any other writer that keeps nothing back.
 #[derive(Drop)]
@@ -16,26 +17,48 @@ pub struct StdSink<W> {
 impl<W: Write> StdSink<W> {
     /// A sink that writes there.
     pub fn new(to: W) -> StdSink<W>
-        ensures { ⟦<StdSink<W> as Sink>⟧.fault_count result ≡ 0 }
+        ensures written { ⟦<StdSink<W> as Sink>⟧.written result ≡ W.contents to }
+        ensures faults { ⟦<StdSink<W> as Sink>⟧.fault_count result ≡ 0 }
     {
         StdSink { to, faults: 0 }
     }
 }
 
+// Writes on after a short write and after a signal, until all is written. A write that takes nothing of a piece that
+// isn't empty is a failure.
+fn write_on<W: Write>(to: &mut W, bytes: &[u8]) -> Result<(), Failed>
+    ensures ok { OnOk result (IfSome (W.contents to.old) (λ w. W.contents to.new ≡ Some (w ++ bytes.now))) }
+    ensures prefix { OnErr result (IfSome (W.contents to.old) (λ w. AppendsSome w bytes.now (W.contents to.new))) }
+{
+    let mut at = 0;
+    for _ in 0..u64::MAX {
+        if at == bytes.len() {
+            return Ok(());
+        }
+        match to.write(&bytes[at..]) {
+            Ok(0) => break,
+            Ok(n) => at += n,
+            Err(error) => if error.kind() != ErrorKind::Interrupted {
+                break;
+            },
+        }
+    }
+    Err(Failed)
+}
+
 impl<W: Write> Sink for StdSink<W> {
     ghost use Rattle.eql_outside.specs.Outside.{Rose, AppendsSome};
 
-    ghost written = { λ _. None };
+    ghost written = { λ s. W.contents s.to };
 
     ghost fault_count = { λ s. s.faults };
 
-    // std goes on after a short write and after a signal, and takes a write of nothing for an error.
     fn write(&mut self, _alloc: Global, bytes: &[u8]) -> Result<(), OutRefused> {
-        match self.to.write_all(bytes) {
+        match write_on(&mut self.to, bytes) {
             Ok(()) => Ok(()),
-            Err(_) => {
+            Err(failed) => {
                 self.faults = self.faults.saturating_add(1);
-                Err(OutRefused::Failed)
+                Err(OutRefused::from(failed))
             }
         }
     }

@@ -6,3 +6,6 @@ returns-clause-once c = lines.lines_go_on
 
 pub returns-clause-step_by_step : goal.returns-clause-step_by_step
 returns-clause-step_by_step c = lines.lines_step_on
+
+pub returns-clause-line_by_line : goal.returns-clause-line_by_line
+returns-clause-line_by_line c = lines.line_by_line

@@ -1,0 +1,13 @@
+mod FrontLemmas
+mod ToldLemmas
+mod InputLemmas
+mod RunLemmas
+mod RefusalLemmas
+mod EndLemmas
+mod LineCuts
+mod StageBits
+mod SlotMoves
+mod SortedEntries
+mod ShardEvents
+mod Printing
+mod ListingSteps

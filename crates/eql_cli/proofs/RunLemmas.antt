@@ -1,0 +1,66 @@
+-- The steps of a run, put together.
+use Rattle.std.proofs.Common.{◌≡◌, ℕ, inl, inr, List, Option, Some, None, refl, ap, map, [], ◌∷◌}
+use Rattle.eql_values.specs.Lines.{lines_in}
+use Rattle.eql_parser.specs.QueryTree.{term_tree}
+use Rattle.eql_parser.specs.declared.query.Term.{Term}
+use Rattle.eql_cli.specs.declared.halt.Refused.TheVariants as refused
+use Rattle.eql_cli.specs.declared.halt.Halt.{Halt}
+use Rattle.eql_cli.specs.declared.halt.Halt.TheVariants as halt
+use Rattle.eql_cli.specs.FirstSearch.{wanted_by, first_other, first_listing, WroteWhole, WrotePart}
+use Rattle.eql_cli.specs.Halts.{HasCause}
+use Rattle.eql_cli.specs.Runs.{Names, Files, Lists, Refuses}
+use Rattle.eql_cli.specs.Runs as run
+use Rattle.eql_cli.specs.Steps.{GotItems, GotFields, GotShard, StoppedSearching, RanWhole, RanPart}
+
+-- the categories of terms are those of their trees
+pub wanted_trees : (items : List Term) → wanted_by items ≡ map (λ t. t.category) (map term_tree items)
+wanted_trees [] = refl
+wanted_trees (item ∷ items) = ap (λ rest. item.category ∷ rest) (wanted_trees items)
+
+-- the three files give a listing
+pub lists_of : (names : Names) (files : Files) (items : List Term) (text : List ℕ) → GotItems names (Some files) items → GotFields names (Some files) → GotShard names (Some files) text
+    → first_other (lines_in text) ≡ None → Lists names files (first_listing (wanted_by items) text)
+lists_of names files items text got fields shard lines = record {
+  query = got.query;
+  has_query = got.got;
+  has_fields = fields;
+  text = text;
+  has_shard = shard;
+  lines = lines;
+  bytes_are = ap (λ w. first_listing w text) got.wanted;
+}
+
+pub ran_whole : (names : Names) (files : Option Files) (items : List Term) (text : List ℕ) (before now : Option (List ℕ))
+    → GotItems names files items → GotFields names files → GotShard names files text → first_other (lines_in text) ≡ None
+    → WroteWhole (first_listing (wanted_by items) text) before now → RanWhole names files before now
+ran_whole names None items text before now got fields shard lines wrote = tt
+ran_whole names (Some fs) items text before now got fields shard lines wrote =
+    (first_listing (wanted_by items) text, lists_of names fs items text got fields shard lines, wrote)
+
+pub ran_part : (names : Names) (files : Option Files) (items : List Term) (text : List ℕ) (before now : Option (List ℕ))
+    → GotItems names files items → GotFields names files → GotShard names files text
+    → WrotePart (first_other (lines_in text)) (first_listing (wanted_by items) text) before now → RanPart names files before now
+ran_part names None items text before now got fields shard wrote = tt
+ran_part names (Some fs) items text None now got fields shard wrote = tt
+ran_part names (Some fs) items text (Some w) now got fields shard (inl same) = inl same
+ran_part names (Some fs) items text (Some w) now got fields shard (inr some) =
+    inr (first_listing (wanted_by items) text, lists_of names fs items text got fields shard some.0, some.1)
+
+-- nothing is a part
+pub ran_none : (names : Names) (files : Option Files) (before : Option (List ℕ)) → RanPart names files before before
+ran_none names None before = tt
+ran_none names (Some fs) None = tt
+ran_none names (Some fs) (Some w) = inl refl
+
+pub search_cause : (names : Names) (files : Option Files) (items : List Term) (text : List ℕ) (h : Halt) → GotItems names files items → GotFields names files → GotShard names files text
+    → StoppedSearching (first_other (lines_in text)) h → HasCause names files h
+search_cause names None items text (halt.Refused r) got fields shard stop = tt
+search_cause names (Some fs) items text (halt.Refused (refused.NoFile r)) got fields shard stop = absurd stop
+search_cause names (Some fs) items text (halt.Refused refused.Query) got fields shard stop = absurd stop
+search_cause names (Some fs) items text (halt.Refused refused.Fields) got fields shard stop = absurd stop
+search_cause names (Some fs) items text (halt.Refused refused.Shard) got fields shard stop = absurd stop
+search_cause names (Some fs) items text (halt.Refused (refused.Line n)) got fields shard stop = run.other_line got.query got.got fields text shard n stop
+search_cause names files items text (halt.Read r) got fields shard stop = tt
+search_cause names None items text halt.Write got fields shard stop = tt
+search_cause names (Some fs) items text halt.Write got fields shard stop = (first_listing (wanted_by items) text, lists_of names fs items text got fields shard stop)
+search_cause names files items text halt.Memory got fields shard stop = tt

@@ -1,0 +1,37 @@
+-- What is read of a file: its first bytes.
+use Rattle.std.specs.Prelude.{◌≡◌, ◌≤◌, ◌++◌, ℕ, List, [], take, drop, length, Option, Some, None, IfSome}
+use Rattle.eql_outside.specs.Outside.{Reading, file_named}
+
+-- the bytes are the first of the file of this name, as many of them as are kept at most
+pub record FrontOf (name : List ℕ) (files : List (List ℕ × List ℕ)) (most : ℕ) (bytes : List ℕ) : Type 0 where
+  pub text : List ℕ
+  pub there : file_named name files ≡ Some text
+  pub front : bytes ≡ take most text
+
+-- the same, where the shelf tells its files
+abbrev pub IsFrontOf : List ℕ → Option (List (List ℕ × List ℕ)) → ℕ → List ℕ → Type 0
+IsFrontOf name files most bytes = IfSome files (λ fs. FrontOf name fs most bytes)
+
+-- no file has this name, where the shelf tells its files
+abbrev pub IsMissing : List ℕ → Option (List (List ℕ × List ℕ)) → Type 0
+IsMissing name files = IfSome files (λ fs. file_named name fs ≡ None)
+
+-- where the source tells, the bytes are the first of those that were left
+abbrev pub TakesFront : Option Reading → ℕ → List ℕ → Type 0
+TakesFront reading most bytes = IfSome reading (λ r. bytes ≡ take most r.left)
+
+-- the next n bytes of a source were put at the end of a text
+pub record HasTaken (r : Reading) (now : Option Reading) (before after : List ℕ) : Type 0 where
+  pub n : ℕ
+  pub taken : List ℕ
+  pub there : n ≤ length r.left
+  pub left : now ≡ Some (record { taken = taken; left = drop n r.left })
+  pub text : after ≡ before ++ take n r.left
+
+-- the same, where the source tells
+abbrev pub HasRead : Option Reading → Option Reading → List ℕ → List ℕ → Type 0
+HasRead reading now before after = IfSome reading (λ r. HasTaken r now before after)
+
+-- where the source tells, nothing is left
+abbrev pub IsAtEnd : Option Reading → Type 0
+IsAtEnd reading = IfSome reading (λ r. r.left ≡ [])

@@ -1,0 +1,10 @@
+pub mod Listing
+pub mod FirstSearch
+pub mod Events
+pub mod Moves
+pub mod Pages
+pub mod Runs
+pub mod Fronts
+pub mod Halts
+pub mod Steps
+pub mod RunLaws

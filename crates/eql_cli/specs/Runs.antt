@@ -1,0 +1,163 @@
+-- What a run of the program reads, writes and refuses.
+use Rattle.std.specs.Prelude.{◌≡◌, ◌≤◌, ◌<◌, ◌⊎◌, ◌++◌, ℕ, ◌+◌, ◌/◌, ◌%◌, Bool, false, not, ◌&&◌, ◌||◌, ◌==◌, nat_lt, if◌then◌else◌, List, [], ◌∷◌, map, length, Option, Some, None, IfSome, IsSomeAnd, String, string_bytes, codes}
+use Rattle.std.specs.declared.alloc.Global.{Global}
+use Rattle.std.specs.Fmt.{decimal}
+use Rattle.std.specs.List.{flat_map}
+use Rattle.std.specs.Str.{bytes_eq}
+use Rattle.eql_values.specs.Lines.{lines_in}
+use Rattle.eql_outside.specs.Outside.{file_named, AppendsSome}
+use Rattle.eql_parser.specs.QueryTree.{QueryTree}
+use Rattle.eql_parser.specs.First.{IsFirstQuery, NoFirstQuery}
+use Rattle.eql_cli.specs.FirstSearch.{first_other, first_listing, categories_of}
+
+-- the words of a run, as their bytes
+abbrev pub bytes_of : List (String Global) → List (List ℕ)
+bytes_of words = map (λ word. string_bytes word) words
+
+-- the files that the words name
+pub record Names : Type 0 where
+  pub query : List ℕ
+  pub fields : List ℕ
+  pub shard : List ℕ
+
+-- a name isn't empty and doesn't begin with `-`
+abbrev pub is_name : List ℕ → Bool
+is_name [] = false
+is_name (byte ∷ bytes) = not (byte == 45)
+
+-- the command `find --query FILE --fields FILE SHARD`
+abbrev pub command_of : List (List ℕ) → Option Names
+command_of (verb ∷ first ∷ query ∷ second ∷ fields ∷ shard ∷ []) =
+    if bytes_eq verb (codes "find") && bytes_eq first (codes "--query") && is_name query && bytes_eq second (codes "--fields") && is_name fields && is_name shard
+    then Some (record { query = query; fields = fields; shard = shard })
+    else None
+command_of _ = None
+
+-- the names and bytes of the files of a shelf
+abbrev pub Files : Type 0
+Files = List (List ℕ × List ℕ)
+
+-- a mapping without fields, with at most one line feed after it
+abbrev pub IsNoFields : List ℕ → Type 0
+IsNoFields text = (text ≡ codes "{}") ⊎ (text ≡ codes "{}\n")
+
+-- the query file is there and spells this query in the first form
+pub record HasQuery (names : Names) (files : Files) (query : QueryTree) : Type 0 where
+  pub text : List ℕ
+  pub there : file_named names.query files ≡ Some text
+  pub spells : IsFirstQuery text query
+
+-- the fields file is there and names no fields
+pub record HasFields (names : Names) (files : Files) : Type 0 where
+  pub text : List ℕ
+  pub there : file_named names.fields files ≡ Some text
+  pub empty : IsNoFields text
+
+-- the shard is there with this text, of at most 16,777,216 bytes
+pub record HasShard (names : Names) (files : Files) (text : List ℕ) : Type 0 where
+  pub there : file_named names.shard files ≡ Some text
+  pub short : length text ≤ 16777216
+
+-- a run over the files of these names writes these bytes: the three files are there and have the first forms, and the bytes are the
+-- listing of the query over the shard
+pub record Lists (names : Names) (files : Files) (bytes : List ℕ) : Type 0 where
+  pub query : QueryTree
+  pub has_query : HasQuery names files query
+  pub has_fields : HasFields names files
+  pub text : List ℕ
+  pub has_shard : HasShard names files text
+  pub lines : first_other (lines_in text) ≡ None
+  pub bytes_are : bytes ≡ first_listing (categories_of query) text
+
+-- a run of the words over the files writes these bytes: the words are the command, and their files give the bytes
+pub record Writes (words : List (List ℕ)) (files : Files) (bytes : List ℕ) : Type 0 where
+  pub names : Names
+  pub command : command_of words ≡ Some names
+  pub lists : Lists names files bytes
+
+-- why files are refused
+pub data Refusal : Type 0 where
+  no_file : List ℕ → Refusal
+  query : Refusal
+  fields : Refusal
+  shard : Refusal
+  line : ℕ → Refusal
+
+-- the files of these names are refused for this cause: of all causes that there are, the first in this order
+pub data Refuses (names : Names) (files : Files) : Refusal → Type 0 where
+  no_query : file_named names.query files ≡ None → Refuses names files (no_file names.query)
+  other_query : (text : List ℕ) → file_named names.query files ≡ Some text → NoFirstQuery text → Refuses names files query
+  no_fields : (q : QueryTree) → HasQuery names files q → file_named names.fields files ≡ None → Refuses names files (no_file names.fields)
+  other_fields : (q : QueryTree) → HasQuery names files q → (text : List ℕ) → file_named names.fields files ≡ Some text → ¬ (IsNoFields text) → Refuses names files fields
+  no_shard : (q : QueryTree) → HasQuery names files q → HasFields names files → file_named names.shard files ≡ None → Refuses names files (no_file names.shard)
+  long_shard : (q : QueryTree) → HasQuery names files q → HasFields names files → (text : List ℕ) → file_named names.shard files ≡ Some text → 16777216 < length text → Refuses names files shard
+  other_line : (q : QueryTree) → HasQuery names files q → HasFields names files → (text : List ℕ) → HasShard names files text → (n : ℕ) → first_other (lines_in text) ≡ Some n → Refuses names files (line n)
+
+-- a control character as it is printed: by the escapes of canonical strings, so that a text stays one line
+abbrev pub hex_glyph : ℕ → ℕ
+hex_glyph n = if nat_lt n 10 then 48 + n else 87 + n
+
+abbrev pub printed_byte : ℕ → List ℕ
+printed_byte byte =
+    if byte == 10 then codes "\\n"
+    else if byte == 13 then codes "\\r"
+    else if byte == 9 then codes "\\t"
+    else if nat_lt byte 32 || (byte == 127) then codes "\\u{" ++ hex_glyph (byte / 16) ∷ hex_glyph (byte % 16) ∷ codes "}"
+    else byte ∷ []
+
+-- a name as it is printed
+abbrev pub printed_name : List ℕ → List ℕ
+printed_name name = flat_map printed_byte name
+
+abbrev pub usage_text : List ℕ
+usage_text = codes "usage: eql find --query FILE --fields FILE SHARD\n"
+
+-- what is told of a refusal
+abbrev pub refusal_text : Refusal → List ℕ
+refusal_text (no_file name) = codes "no file " ++ printed_name name ++ codes "\n"
+refusal_text query = codes "unbuilt: query\n"
+refusal_text fields = codes "unbuilt: fields\n"
+refusal_text shard = codes "unbuilt: shard\n"
+refusal_text (line n) = codes "unbuilt: line " ++ decimal n ++ codes "\n"
+
+-- the status of a refusal: 1 where a file isn't there, and 3 where a form isn't built
+abbrev pub refusal_status : Refusal → ℕ
+refusal_status (no_file name) = 1
+refusal_status _ = 3
+
+abbrev pub IsNamed : Names → List ℕ → Type 0
+IsNamed names name = (name ≡ names.query) ⊎ (name ≡ names.fields) ⊎ (name ≡ names.shard)
+
+-- a run of these words that ends with this status, above 0, has this text to tell: its cause holds of the words and, where the shelf tells
+-- its files, of them
+pub data Tells (words : List (List ℕ)) (files : Option Files) : ℕ → List ℕ → Type 0 where
+  usage : command_of words ≡ None → Tells words files 2 usage_text
+  refused : (names : Names) → command_of words ≡ Some names → (refusal : Refusal) → IfSome files (λ fs. Refuses names fs refusal)
+      → Tells words files (refusal_status refusal) (refusal_text refusal)
+  read_fault : (names : Names) → command_of words ≡ Some names → (name : List ℕ) → IsNamed names name
+      → Tells words files 4 (codes "read fault: " ++ printed_name name ++ codes "\n")
+  write_fault : (names : Names) → command_of words ≡ Some names → Tells words files 5 (codes "write fault\n")
+  memory : (names : Names) → command_of words ≡ Some names → Tells words files 8 (codes "out of memory\n")
+
+-- where the shelf tells its files, the run was one that writes bytes, and where the sink tells too, it got just these
+abbrev pub WroteAll : List (List ℕ) → Option Files → Option (List ℕ) → Option (List ℕ) → Type 0
+WroteAll words files before now = IfSome files (λ fs. (bytes : List ℕ) × Writes words fs bytes × IfSome before (λ w. now ≡ Some (w ++ bytes)))
+
+-- where both tell, the sink got nothing, or a prefix of what the run writes
+abbrev pub WroteSome : List (List ℕ) → Option Files → Option (List ℕ) → Option (List ℕ) → Type 0
+WroteSome words files before now =
+    IfSome files (λ fs. IfSome before (λ w. (now ≡ Some w) ⊎ ((bytes : List ℕ) × Writes words fs bytes × AppendsSome w bytes now)))
+
+-- a run of this status told a text whose cause holds, or a prefix of it where the sink refused the rest
+abbrev pub Told : List (List ℕ) → Option Files → ℕ → Option (List ℕ) → Option (List ℕ) → Type 0
+Told words files status before now = (text : List ℕ) × Tells words files status text × IfSome before (λ w. AppendsSome w text now)
+
+-- the words and files are such that a run writes bytes
+abbrev pub IsReady : List (List ℕ) → Option Files → Type 0
+IsReady words files = IsSomeAnd files (λ fs. (bytes : List ℕ) × Writes words fs bytes)
+
+-- where files are refused, the status is that of the cause, or memory ran out
+abbrev pub RefusedAs : List (List ℕ) → Option Files → ℕ → Type 0
+RefusedAs words files status =
+    (names : Names) (fs : Files) (refusal : Refusal) → command_of words ≡ Some names → files ≡ Some fs → Refuses names fs refusal
+    → (status ≡ refusal_status refusal) ⊎ (status ≡ 8)

@@ -1,0 +1,43 @@
+-- Laws of pieces of lists of events: what a part, a beginning or a rest keeps of the order and the times of the whole.
+use Rattle.std.specs.Prelude.{◌≡◌, ◌≤◌, ℕ, ℤ, ◌≤ℤ◌, List, ◌++◌, Option, length}
+use Rattle.eql_values.specs.declared.order.OrderKey.{OrderKey}
+use Rattle.eql_values.specs.declared.order.Mark.{Mark}
+use Rattle.eql_values.specs.declared.order.Mark.TheVariants.{At}
+use Rattle.eql_values.specs.declared.value.Value.{Value}
+use Rattle.eql_values.specs.declared.item.Item.{Item}
+use Rattle.eql_values.specs.Accepted.{Reads}
+use Rattle.eql_values.specs.Ascending.{AllAfter, Ascending}
+use Rattle.eql_values.specs.Routing.{routed}
+use Rattle.eql_laws.specs.Alive.{ItemsFrom}
+use Rattle.eql_laws.specs.Belows.{IsReading, between}
+
+-- a beginning of ascending items ascends, and so does the rest
+abbrev pub AscendingPieces : Type 0
+AscendingPieces = (a b : List Item) → Ascending (a ++ b) → Ascending a × Ascending b
+
+-- what lies between two marks ascends
+abbrev pub BetweenAscends : Type 0
+BetweenAscends = (reads : Reads) (slack : Option ℤ) (texts : List (List ℕ)) (from to : Mark) → IsReading reads → Ascending (between reads slack texts from to)
+
+-- the items of a part: those of two lists one after the other, no more than all, and ascending where all ascend
+pub record RoutedKeeps (part : List Value → ℕ) (p : ℕ) : Type 0 where
+  pub pieces : (a b : List Item) → routed part p (a ++ b) ≡ routed part p a ++ routed part p b
+  pub fewer : (items : List Item) → length (routed part p items) ≤ length items
+  pub ascends : (items : List Item) → Ascending items → Ascending (routed part p items)
+  pub times : (t : ℤ) (items : List Item) → ItemsFrom t items → ItemsFrom t (routed part p items)
+
+abbrev pub RoutedPieces : Type 0
+RoutedPieces = (part : List Value → ℕ) (p : ℕ) → RoutedKeeps part p
+
+-- items that come at a time or later: pieces of them do, and they come at each lesser time or later
+pub record TimesKeep : Type 0 where
+  pub pieces : (t : ℤ) (a b : List Item) → ItemsFrom t (a ++ b) → ItemsFrom t a × ItemsFrom t b
+  pub lesser : (t u : ℤ) (items : List Item) → t ≤ℤ u → ItemsFrom u items → ItemsFrom t items
+
+-- items after an event come at its time or later
+abbrev pub TimesAfter : Type 0
+TimesAfter = (event : OrderKey) (items : List Item) → AllAfter event items → ItemsFrom event.ts items
+
+-- and what lies from a mark on comes at the mark's time or later
+abbrev pub TimesBetween : Type 0
+TimesBetween = (reads : Reads) (slack : Option ℤ) (texts : List (List ℕ)) (t : ℤ) (to : Mark) → ItemsFrom t (between reads slack texts (At t) to)

@@ -1,0 +1,6 @@
+pub mod Histories
+pub mod Views
+pub mod Counts
+pub mod Keeps
+pub mod Turns
+pub mod Sends

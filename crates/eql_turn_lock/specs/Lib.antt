@@ -1,0 +1,5 @@
+pub mod History
+pub mod Passes
+pub mod Locks
+pub mod Calls
+pub mod Rule

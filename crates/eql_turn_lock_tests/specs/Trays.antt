@@ -1,0 +1,73 @@
+-- What a tray of letters does, and what becomes of the letters that are delivered.
+use Rattle.std.specs.Prelude.{◌≡◌, ℕ, ◌<◌, ◌≤◌, Bool, true, false, List, [], ◌∷◌, ◌++◌, Some, None, ⊤}
+use Rattle.std.specs.Option.{option_to_list}
+use Rattle.std.specs.VecDeque.{deque_len, deque_capacity}
+use mathlib.Core.Path.{sym, subst}
+use mathlib.Core.Bool.{true≢false}
+use native.Mathlib.Nat.{lt_of_le_of_lt}
+use Rattle.eql_turn_lock.specs.declared.history.Entry.{Entry}
+use Rattle.eql_turn_lock.specs.declared.view.View.{View}
+use Rattle.eql_turn_lock.specs.History.{StartsWith}
+use Rattle.eql_turn_lock_tests.specs.declared.tray.Tray.{Tray}
+use Rattle.eql_turn_lock_tests.specs.declared.tray.TrayOp.{TrayOp}
+use Rattle.eql_turn_lock_tests.specs.declared.tray.TrayOp.TheVariants.{Deliver, Take}
+use Rattle.eql_turn_lock_tests.specs.declared.tray.TrayReply.{TrayReply}
+use Rattle.eql_turn_lock_tests.specs.declared.tray.TrayReply.TheVariants.{Delivered, Taken}
+
+-- a letter is delivered only where there is room
+abbrev pub tray_allows : Tray → TrayOp → Type 0
+tray_allows x (Deliver letter) = deque_len x.letters < deque_capacity x.letters
+tray_allows x Take = ⊤
+
+-- everyone may take a letter
+abbrev pub tray_open : TrayOp → Bool
+tray_open (Deliver letter) = false
+tray_open Take = true
+
+abbrev pub SameRoom : Tray → Tray → Type 0
+SameRoom x y = deque_capacity y.letters ≡ deque_capacity x.letters
+
+-- A letter that is delivered is the last one. The first one is taken, and none only where there is none.
+abbrev pub tray_step : Tray → TrayOp → TrayReply → Tray → Type 0
+tray_step x (Deliver letter) Delivered y = (y.letters.items ≡ x.letters.items ++ letter ∷ []) × SameRoom x y
+tray_step x Take (Taken letter) y = (x.letters.items ≡ option_to_list letter ++ y.letters.items) × (letter ≡ None → deque_len x.letters ≡ 0) × (deque_len y.letters ≤ deque_len x.letters) × SameRoom x y
+tray_step x (Deliver letter) (Taken taken) y = ⊥
+tray_step x Take Delivered y = ⊥
+
+pub tray_opens : (x : Tray) (op : TrayOp) → tray_open op ≡ true → tray_allows x op
+tray_opens x (Deliver letter) open_is = absurd (true≢false (sym open_is))
+tray_opens x Take open_is = tt
+
+pub tray_stays_allowed : (x y : Tray) (op later : TrayOp) (reply : TrayReply) → tray_open op ≡ true → tray_step x op reply y → tray_allows x later → tray_allows y later
+tray_stays_allowed x y (Deliver letter) later reply open_is step may = absurd (true≢false (sym open_is))
+tray_stays_allowed x y Take Take reply open_is step may = tt
+tray_stays_allowed x y Take (Deliver letter) (Taken taken) open_is step may = subst (λ (n : ℕ). deque_len y.letters < n) (sym step.3) (lt_of_le_of_lt step.2 may)
+tray_stays_allowed x y Take (Deliver letter) Delivered open_is step may = absurd step
+
+-- the pass has the number that it had, and split off and took in no other
+abbrev pub IsSamePass : {T O R : Type 0} → View T O R → View T O R → Type 0
+IsSamePass v w = (w.number ≡ v.number) × (w.made ≡ v.made) × (w.ended ≡ v.ended)
+
+-- the letters that an operation delivers
+abbrev pub letters_in : TrayOp → List ℕ
+letters_in (Deliver letter) = letter ∷ []
+letters_in Take = []
+
+-- the letters that a reply hands out
+abbrev pub letters_out : TrayReply → List ℕ
+letters_out Delivered = []
+letters_out (Taken letter) = option_to_list letter
+
+-- the letters that the entries delivered, in order
+abbrev pub delivered : List (Entry TrayOp TrayReply) → List ℕ
+delivered [] = []
+delivered (e ∷ es) = letters_in e.op ++ delivered es
+
+-- the letters that the entries took out, in order
+abbrev pub taken : List (Entry TrayOp TrayReply) → List ℕ
+taken [] = []
+taken (e ∷ es) = letters_out e.reply ++ taken es
+
+-- Every letter that the first pass delivered was taken out in the one history or is still in the tray, in order. So none is lost because someone held the turn.
+abbrev pub NothingLost : View Tray TrayOp TrayReply → Tray → Type 0
+NothingLost v tray = (log : List (Entry TrayOp TrayReply)) × (opening : Tray) × (v.opening ≡ Some opening) × StartsWith log v.seen × (opening.letters.items ++ delivered v.mine ≡ taken log ++ tray.letters.items)

@@ -1,0 +1,67 @@
+//! Callers of a tray under a lock.
+ghost use Rattle.std.specs.Prelude.{◌≡◌, [], MatchResult};
+ghost use Rattle.eql_turn_lock.specs.Locks.{IsPassOf, view_of};
+ghost use Rattle.eql_turn_lock.specs.Calls.{MayPlay, Plays, PlaysOnce, Refuses, RefusesWorn};
+ghost use Rattle.eql_turn_lock_tests.specs.Trays.{tray_allows, tray_step, tray_open, NothingLost};
+
+use crate::tray::{Tray, TrayOp, TrayReply};
+use eql_turn_lock::{NotNow, Pass, TurnLock};
+use std::sync::Wait;
+
+/// Tries once to deliver a letter.
+pub fn deliver(
+    lock: &TurnLock<Tray>,
+    pass: &mut Pass<Tray>,
+    letter: u32,
+) -> Result<TrayReply, NotNow<TrayOp>>
+    requires own { IsPassOf lock.now pass.old }
+    requires may { MayPlay tray_allows tray_step tray_open (view_of pass.old) (TrayOp.Deliver letter) }
+    ensures own { IsPassOf lock.now pass.new }
+    ensures played { MatchResult
+        result
+        (λ reply. PlaysOnce tray_step tray_open (view_of pass.old) (TrayOp.Deliver letter) reply (view_of pass.new))
+        (λ refused. Refuses (view_of pass.old) (TrayOp.Deliver letter) refused (view_of pass.new)) }
+{
+    lock.try_call(pass, TrayOp::Deliver { letter })
+}
+
+/// Tries once to take a letter.
+pub fn take(lock: &TurnLock<Tray>, pass: &mut Pass<Tray>) -> Result<TrayReply, NotNow<TrayOp>>
+    requires own { IsPassOf lock.now pass.old }
+    ensures own { IsPassOf lock.now pass.new }
+    ensures played { MatchResult
+        result
+        (λ reply. PlaysOnce tray_step tray_open (view_of pass.old) TrayOp.Take reply (view_of pass.new))
+        (λ refused. Refuses (view_of pass.old) TrayOp.Take refused (view_of pass.new)) }
+{
+    lock.try_call(pass, TrayOp::Take)
+}
+
+/// Delivers a letter, however long others hold the turn.
+pub fn deliver_waiting<R: Wait>(
+    rt: &R,
+    lock: &TurnLock<Tray>,
+    pass: &mut Pass<Tray>,
+    letter: u32,
+) -> Result<TrayReply, NotNow<TrayOp>>
+    requires own { IsPassOf lock.now pass.old }
+    requires may { MayPlay tray_allows tray_step tray_open (view_of pass.old) (TrayOp.Deliver letter) }
+    ensures own { IsPassOf lock.now pass.new }
+    ensures played { MatchResult
+        result
+        (λ reply. Plays tray_step tray_open (view_of pass.old) (TrayOp.Deliver letter) reply (view_of pass.new))
+        (λ refused. RefusesWorn (view_of pass.old) (TrayOp.Deliver letter) refused (view_of pass.new)) }
+{
+    lock.call(rt, pass, TrayOp::Deliver { letter })
+}
+
+/// Joins the other pass in and closes the lock. No letter was lost.
+pub fn close_tray(lock: TurnLock<Tray>, mut first: Pass<Tray>, other: Pass<Tray>) -> Tray
+    requires own { IsPassOf lock first × IsPassOf lock other }
+    requires first { (view_of first).number ≡ 0 }
+    requires one_other { ((view_of first).made ≡ 1) × ((view_of first).ended ≡ []) }
+    ensures { NothingLost (view_of first) result }
+{
+    lock.join(&mut first, other);
+    lock.close(first)
+}

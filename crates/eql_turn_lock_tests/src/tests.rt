@@ -1,0 +1,118 @@
+//! A free lock answers and closes, and a held one turns callers away.
+ghost use Rattle.std.specs.Prelude.{◌≡◌, []};
+ghost use Rattle.eql_turn_lock.specs.Locks.{IsPassOf, view_of};
+ghost use Rattle.eql_turn_lock_tests.specs.Trays.{IsSamePass};
+
+use crate::meeting::{Flag, sees};
+use crate::{
+    Meeting, MeetingOp, Tray, TrayOp, TrayReply, close_tray, deliver, deliver_waiting, take,
+};
+use eql_turn_lock::{NotNow, Pass, TurnLock};
+use std::collections::VecDeque;
+use std::sync::Arc;
+use std::sync::atomic::{AtomicBool, Ordering};
+use std::test::Fail;
+use std::thread;
+
+#[test]
+fn a_free_lock_answers_and_closes(rt: HostRuntime) -> Result<(), Fail> {
+    let letters = VecDeque::with_capacity(rt.alloc(), 2).expect(&rt, "memory");
+    let made = TurnLock::make(rt.alloc(), Tray { letters });
+    let Ok((lock, mut first)) = made else {
+        panic!(rt; "no memory")
+    };
+    let reply = deliver(&lock, &mut first, 7);
+    assert!(rt; matches!(&reply, Ok(TrayReply::Delivered)));
+    let mut other = lock.split(&mut first);
+    let reply = take(&lock, &mut other);
+    assert!(rt; matches!(&reply, Ok(TrayReply::Taken { letter: Some(7) })));
+    let reply = lock.call(&rt, &mut other, TrayOp::Take);
+    assert!(rt; matches!(&reply, Ok(TrayReply::Taken { letter: None })));
+    let tray = close_tray(lock, first, other);
+    assert!(rt; tray.letters.is_empty());
+    Ok(())
+}
+
+#[test]
+fn a_waiting_delivery_is_in(rt: HostRuntime) -> Result<(), Fail> {
+    let letters = VecDeque::with_capacity(rt.alloc(), 1).expect(&rt, "memory");
+    let made = TurnLock::make(rt.alloc(), Tray { letters });
+    let Ok((lock, mut first)) = made else {
+        panic!(rt; "no memory")
+    };
+    let reply = deliver_waiting(&rt, &lock, &mut first, 9);
+    assert!(rt; matches!(&reply, Ok(TrayReply::Delivered)));
+    let tray = lock.close(first);
+    assert_eq!(rt; tray.letters.front(), Some(&9));
+    Ok(())
+}
+
+/// Plays while the other caller stays in its turn, and says whether it was turned away.
+fn comes_late(
+    lock: &TurnLock<Meeting>,
+    mut pass: Pass<Meeting>,
+    held: &Flag,
+    turned_away: &Flag,
+) -> (bool, Pass<Meeting>)
+    requires { IsPassOf lock.now pass }
+    ensures { IsPassOf lock.now result.1 }
+{
+    if !sees(held) {
+        return (false, pass);
+    }
+    let answer = lock.try_call(&mut pass, MeetingOp::Leave);
+    turned_away.store(true, Ordering::SeqCst);
+    let is_busy = matches!(
+        &answer,
+        Err(NotNow::Busy {
+            word: 1,
+            op: MeetingOp::Leave,
+        }),
+    );
+    (is_busy, pass)
+}
+
+/// Stays in its turn, and says whether the other caller was turned away meanwhile.
+fn comes_first(lock: &TurnLock<Meeting>, mut pass: Pass<Meeting>) -> (bool, Pass<Meeting>)
+    requires { IsPassOf lock.now pass }
+    ensures own { IsPassOf lock.now result.1 }
+    ensures same { IsSamePass (view_of pass) (view_of result.1) }
+{
+    let answer = lock.try_call(&mut pass, MeetingOp::Stay);
+    let is_seen = matches!(&answer, Ok(true));
+    (is_seen, pass)
+}
+
+#[test]
+fn a_held_lock_turns_callers_away(rt: HostRuntime) -> Result<(), Fail> {
+    let held = Arc::new(rt.alloc(), AtomicBool::new(false)).expect(&rt, "memory");
+    let away = Arc::new(rt.alloc(), AtomicBool::new(false)).expect(&rt, "memory");
+    let meeting = Meeting {
+        held: Arc::try_clone(&held).expect(&rt, "few owners"),
+        turned_away: Arc::try_clone(&away).expect(&rt, "few owners"),
+        played: 0,
+    };
+    let made = TurnLock::make(rt.alloc(), meeting);
+    let Ok((lock, mut first)) = made else {
+        panic!(rt; "no memory")
+    };
+    let other = lock.split(&mut first);
+    let shared = &lock;
+    let ((is_seen, mut first), (is_busy, other)) = thread::join(
+        &rt,
+        || -> (bool, Pass<Meeting>)
+            requires { IsPassOf shared.now first × ((view_of first).number ≡ 0) × ((view_of first).made ≡ 1) × ((view_of first).ended ≡ []) }
+            ensures { IsPassOf shared.entry.now result.1 × IsSamePass (view_of first) (view_of result.1) }
+        { comes_first(shared, first) },
+        || -> (bool, Pass<Meeting>)
+            requires { IsPassOf shared.now other }
+            ensures { IsPassOf shared.entry.now result.1 }
+        { comes_late(shared, other, &held, &away) },
+    );
+    assert!(rt; is_seen);
+    assert!(rt; is_busy);
+    lock.join(&mut first, other);
+    let meeting = lock.close(first);
+    assert_eq!(rt; meeting.played, 1);
+    Ok(())
+}
