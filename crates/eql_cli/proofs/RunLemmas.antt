@@ -1,5 +1,5 @@
 -- The steps of a run, put together.
-use Rattle.std.proofs.Common.{◌≡◌, ℕ, inl, inr, List, Option, Some, None, refl, ap, map, [], ◌∷◌}
+use Rattle.std.proofs.Common.{◌≡◌, ℕ, inl, inr, List, Option, Some, None, refl, ap, ◌∙◌, subst, map, [], ◌∷◌}
 use Rattle.eql_values.specs.Lines.{lines_in}
 use Rattle.eql_parser.specs.QueryTree.{term_tree}
 use Rattle.eql_parser.specs.declared.query.Term.{Term}
@@ -16,6 +16,14 @@ use Rattle.eql_cli.specs.Steps.{GotItems, GotFields, GotShard, StoppedSearching,
 pub wanted_trees : (items : List Term) → wanted_by items ≡ map (λ t. t.category) (map term_tree items)
 wanted_trees [] = refl
 wanted_trees (item ∷ items) = ap (λ rest. item.category ∷ rest) (wanted_trees items)
+
+-- what was read later, of a shelf that keeps its files
+pub got_later : (names : Names) (first second third : Option Files) (text : List ℕ) → second ≡ first → third ≡ second → GotFields names second → GotShard names third text
+    → GotFields names first × GotShard names first text
+got_later names first second third text kept later fields shard = (
+  subst (λ (x : Option Files). GotFields names x) kept fields,
+  subst (λ (x : Option Files). GotShard names x text) (later ∙ kept) shard,
+)
 
 -- the three files give a listing
 pub lists_of : (names : Names) (files : Files) (items : List Term) (text : List ℕ) → GotItems names (Some files) items → GotFields names (Some files) → GotShard names (Some files) text

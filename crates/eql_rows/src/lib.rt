@@ -6,3 +6,5 @@
 mod first_path;
 #[cfg(test)]
 mod run;
+#[cfg(test)]
+mod values;

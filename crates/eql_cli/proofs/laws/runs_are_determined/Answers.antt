@@ -5,9 +5,9 @@ use Rattle.eql_cli.proofs.RefusalLemmas.{one_listing, one_refusal, listed_or_ref
 use Rattle.eql_cli.proofs.laws.runs_are_determined.Goals as goal
 
 pub returns-clause-listing : goal.returns-clause-listing
-returns-clause-listing c = λ one words files bytes other first second.
+returns-clause-listing c = λ words files bytes other first second.
     let same = one_command words first.names second.names first.command second.command in
-    one_listing one second.names files bytes other (subst (λ (x : Names). Lists x files bytes) same first.lists) second.lists
+    one_listing c.first_query_is_one.ensures second.names files bytes other (subst (λ (x : Names). Lists x files bytes) same first.lists) second.lists
 
 pub returns-clause-refusal : goal.returns-clause-refusal
 returns-clause-refusal c = λ names files refusal other first second. one_refusal names files first second
