@@ -46,6 +46,13 @@ impl Chain {
     {
         self.items
     }
+
+    /// The events of every chain ascend. It does nothing.
+    pub fn ascends(&self)
+        ensures { EventsAscend self.now }
+    {
+        let _ = &self.items;
+    }
 }
 
 /// A sequence that has its event for the last stage.
