@@ -1,0 +1,6 @@
+pub mod Bits
+pub mod Written
+pub mod Moving
+pub mod Tags
+pub mod Sweeping
+pub mod Turning

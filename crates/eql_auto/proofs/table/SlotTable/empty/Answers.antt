@@ -1,0 +1,17 @@
+use Rattle.std.proofs.Common.{Some, None, ap, ◌∙◌, sym, arith, length, ◌<◌, ◌≡◌, ◌+◌, ◌-◌}
+use Rattle.eql_auto.proofs.Written.{shown_length, tags_written, emptied_out, get_or_any}
+use Rattle.eql_auto.proofs.table.SlotTable.empty.Goals as goal
+
+pub returns-clause-slots : goal.returns-clause-slots
+returns-clause-slots g c =
+    let from = c.requires.from in let to = c.requires.to in
+    let len = shown_length c.self.inside.slots.items c.args.self.now c.self.view_is in
+    emptied_out c.self.inside.slots.items c.take_slot.new.slots.items c.args.self.now (c.args.stage - 1) c.args.which c.index.result.now c.spares.result
+    c.self.view_is c.take_slot.ensures.left (c.index.ensures ∙ get_or_any c.self.inside.slots.items (c.args.stage - 1) c.index.result.now None (omega arith)) c.spares.ensures c.if-spares.false
+
+pub returns-clause-ceased : goal.returns-clause-ceased
+returns-clause-ceased g c =
+    let len = shown_length c.self.inside.slots.items c.args.self.now c.self.view_is in
+    let from = c.requires.from in let to = c.requires.to in
+    tags_written c.self.inside.slots.items c.take_slot.new.slots.items c.args.self.now (c.args.stage - 1) None c.take_slot.result c.tag_of.result
+    c.self.view_is (omega arith) c.take_slot.ensures.left c.take_slot.ensures.taken c.tag_of.ensures

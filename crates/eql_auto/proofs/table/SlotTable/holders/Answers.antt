@@ -1,0 +1,25 @@
+use Rattle.std.proofs.Common.{ap, ◌∙◌, sym, arith, length, get_or, List, Option, None, ◌<◌, ◌≤◌, ◌≡◌, ◌+◌, ◌++◌, ℕ, refl}
+use Rattle.std.specs.Option.{option_map, option_to_list}
+use Rattle.eql_values.specs.declared.order.OrderKey.{OrderKey}
+use Rattle.eql_auto.specs.Machine.{chains_to}
+use Rattle.eql_auto.proofs.Written.{shown_length, chains_more, get_or_any}
+use Rattle.eql_auto.proofs.table.SlotTable.holders.Goals as goal
+
+pub loop-place-preserved : goal.loop-place-preserved
+loop-place-preserved g c =
+    let place = c.loop-place.place in
+    let slots = c.self.inside.slots.items in
+    let here : c.slot-item.result ≡ get_or slots place None =
+    c.slot-item.is ∙ get_or_any c.deref-slot-items.result.now place c.slot-item.result None c.loop-place-test.true ∙ ap (λ xs. get_or xs place None) c.deref-slot-items.ensures.value in
+    (c.in_ok-add_holder.ensures {u = tt})
+    ∙ ap (λ (l : List (ℕ × List OrderKey)). l ++ option_to_list (option_map (λ p. (place + 1, p.events.items)) c.slot-item.result)) c.loop-place.invariant
+    ∙ chains_more slots c.args.self.now place (place + 1) c.slot-item.result c.self.view_is refl here
+
+pub returns : goal.returns
+returns g c =
+    let len = shown_length c.self.inside.slots.items c.args.self.now c.self.view_is in
+    let same = ap length c.deref-slot-items.ensures.value in
+    let past = c.loop-place-test.false in
+    let within = c.loop-place.auto.place-end in
+    let whole : c.loop-place.place ≡ length c.args.self.now = omega arith in
+    c.of.ensures ∙ c.loop-place.invariant ∙ ap (chains_to c.args.self.now) whole

@@ -1,0 +1,4 @@
+pub mod Movers
+pub mod Machine
+pub mod Kept
+pub mod Moves

@@ -1,0 +1,339 @@
+//! The slot table of the machine of one key. The slots are looked at by three calls alone, each of which is one probe.
+ghost use Rattle.std.specs.Prelude.{◌≡◌, ◌+◌, ◌-◌, ◌<◌, ◌≤◌, ◌++◌, ◌∷◌, ◌==◌, [], length, vec_len, vec_capacity, if◌then◌else◌, Some, None, IfOk, IfSome, MatchBool, replicate, slice_index_or, slice_set, IsPermutation};
+ghost use Rattle.std.specs.Option.{option_map, option_to_list};
+ghost use Rattle.eql_values.specs.Chains.{in_time};
+ghost use Rattle.eql_values.specs.Ordered.{found_or};
+ghost use Rattle.eql_values.specs.OrderKeys.{EventsAscend};
+ghost use Rattle.eql_auto.specs.Machine.{AllBefore, ComesAfter, tags_of, went_on, stage_chains};
+ghost use Rattle.eql_auto.specs.Moves.{chain_in, emptied};
+ghost use Rattle.eql_auto.specs.Kept.{seen};
+
+use crate::steps::Steps;
+use eql_values::{Chain, Memory, OrderKey, StageChains};
+use std::alloc::Global;
+use std::marker::Model;
+use std::sync::ledger::Ledger;
+
+/// A pending sequence, with room for an event of each stage.
+#[derive(Drop)]
+struct Pending<T> {
+    events: Vec<OrderKey>,
+    tag: T,
+}
+
+/// The slots of the stages before the last, by stage.
+#[derive(Drop)]
+pub(crate) struct SlotTable<T> {
+    slots: Vec<Option<Pending<T>>>,
+}
+
+impl<T> Model for SlotTable<T> {
+    ghost use Rattle.std.specs.Prelude.{List, Option};
+    ghost use Rattle.eql_values.specs.declared.order.OrderKey.{OrderKey};
+    ghost use Rattle.eql_auto.specs.Kept.{shown, AreKept};
+
+    ghost Value = { List (Option (List OrderKey × T)) };
+
+    ghost view = { λ t. shown t.slots.items };
+
+    ghost invariant = { λ t. AreKept t.slots.items };
+}
+
+/// Which sequences an emptying drops.
+#[derive(Clone, Copy)]
+pub(crate) enum Which {
+    /// Every one.
+    All,
+    /// One whose first timestamp plus the span is below `reach`, both in nanoseconds.
+    Stale {
+        /// The span.
+        span: i128,
+        /// The time.
+        reach: i128,
+    },
+}
+
+impl Which {
+    /// Whether the emptying leaves what a slot has.
+    fn spares<T>(self, slot: &Option<Pending<T>>) -> bool
+        ensures { MatchBool result (emptied self (option_map seen slot.now) ≡ option_map seen slot.now) (emptied self (option_map seen slot.now) ≡ None) }
+    {
+        match (self, slot) {
+            (Which::Stale { span, reach }, Some(held)) => {
+                is_in_time(Some(span), &held.events, reach)
+            }
+            _ => false,
+        }
+    }
+}
+
+/// What came out of the table.
+#[derive(Drop)]
+pub(crate) struct Out<T> {
+    /// The chain of a sequence that has its event for the last stage.
+    pub completed: Option<Chain>,
+    /// The tag of the sequence that ceased.
+    pub ceased: Option<T>,
+}
+
+/// Whether a time is within the span from the first of the events.
+fn is_in_time(span: Option<i128>, events: &Vec<OrderKey>, now: i128) -> bool
+    ensures { result ≡ in_time span events.now.items now }
+{
+    match span {
+        None => true,
+        Some(span) => match events.first() {
+            None => true,
+            Some(first) => match now.checked_sub(first.ts) {
+                Some(passed) => passed <= span,
+                None => now < first.ts,
+            },
+        },
+    }
+}
+
+/// Whether an event comes in time for a sequence with these events.
+fn is_early(span: Option<i128>, events: &Vec<OrderKey>, event: &OrderKey) -> bool
+    ensures { result ≡ in_time span events.now.items event.now.ts }
+{
+    is_in_time(span, events, event.ts)
+}
+
+/// So many empty slots.
+fn empty_slots<T: Copy>(alloc: Global, count: usize) -> Result<Vec<Option<Pending<T>>>, Memory>
+    ensures { IfOk result (λ slots. slots.items ≡ replicate count None) }
+{
+    let mut slots = Vec::with_capacity(alloc, count)?;
+    for _ in 0..count {
+        slots.push(None)?;
+    }
+    Ok(slots)
+}
+
+/// Takes what a slot has.
+fn take_slot<T>(slots: &mut Vec<Option<Pending<T>>>, place: usize) -> Option<Pending<T>>
+    requires { place < vec_len slots.old }
+    ensures taken { result ≡ slice_index_or slots.old.items place None }
+    ensures left { slots.new.items ≡ slice_set slots.old.items place None }
+    ensures len { vec_len slots.new ≡ vec_len slots.old }
+{
+    std::mem::replace(&mut slots[place], None)
+}
+
+/// Puts a sequence into a slot, and takes out what was there.
+fn replace_slot<T>(
+    slots: &mut Vec<Option<Pending<T>>>,
+    place: usize,
+    pending: Pending<T>,
+) -> Option<Pending<T>>
+    requires { place < vec_len slots.old }
+    ensures taken { result ≡ slice_index_or slots.old.items place None }
+    ensures left { slots.new.items ≡ slice_set slots.old.items place (Some pending) }
+    ensures len { vec_len slots.new ≡ vec_len slots.old }
+{
+    std::mem::replace(&mut slots[place], Some(pending))
+}
+
+/// Adds an event where there is room, which takes no memory.
+fn push_in_room(events: &mut Vec<OrderKey>, event: OrderKey)
+    requires { vec_len events.old < vec_capacity events.old }
+    ensures items { events.new.items ≡ events.old.items ++ event ∷ [] }
+    ensures len { vec_len events.new ≡ vec_len events.old + 1 }
+    ensures room { vec_capacity events.old ≤ vec_capacity events.new }
+{
+    match events.push(event) {
+        Ok(()) => {}
+        Err(_) => unreachable!(),
+    }
+}
+
+/// The tag of a sequence.
+fn tag_of<T: Copy>(pending: Option<Pending<T>>) -> Option<T>
+    ensures { result ≡ option_map (λ p. p.tag) pending }
+{
+    match pending {
+        None => None,
+        Some(pending) => Some(pending.tag),
+    }
+}
+
+impl<T: Copy> SlotTable<T> {
+    /// A table with this many empty slots.
+    pub fn new(alloc: Global, count: usize) -> Result<SlotTable<T>, Memory>
+        ensures { IfOk result (λ t. t ≡ replicate count None) }
+    {
+        let slots = empty_slots(alloc, count)?;
+        Ok(SlotTable { slots })
+    }
+
+    /// How many slots there are.
+    pub fn len(&self) -> usize
+        ensures { result ≡ length self.now }
+    {
+        self.slots.len()
+    }
+
+    /// Puts a sequence with its last event into the slot of that event's stage, or out of the table after the last slot.
+    fn settle(&mut self, place: usize, pending: Pending<T>) -> Out<T>
+        requires within { place ≤ length self.old }
+        requires full { vec_len pending.events ≡ place + 1 }
+        requires room { length self.old < vec_capacity pending.events }
+        requires ascends { EventsAscend pending.events.items }
+        ensures slots { self.new ≡ slice_set self.old place (Some (pending.events.items, pending.tag)) }
+        ensures completed { result.completed ≡ (if place == length self.old then Some pending.events.items else None) }
+        ensures ceased { IsPermutation (option_to_list result.ceased ++ tags_of self.new) (pending.tag ∷ tags_of self.old) }
+    {
+        if place == self.slots.len() {
+            return Out {
+                completed: Some(Chain::of(pending.events)),
+                ceased: Some(pending.tag),
+            };
+        }
+        let older = replace_slot(&mut self.slots, place, pending);
+        Out {
+            completed: None,
+            ceased: tag_of(older),
+        }
+    }
+
+    /// Moves what the slot of a stage holds on to the next stage by one event, or out of the table after the last slot.
+    /// A sequence that the event comes too late for is dropped. One probe.
+    pub fn advance<L: Ledger>(
+        &mut self,
+        stage: u32,
+        span: Option<i128>,
+        event: OrderKey,
+        steps: &mut Steps<L>,
+    ) -> Out<T>
+        requires from { 1 ≤ stage }
+        requires to { stage ≤ length self.old }
+        requires later { ComesAfter event (slice_index_or self.old (stage - 1) None) }
+        ensures slots { self.new ≡ slice_set (slice_set self.old (stage - 1) None) stage (found_or (went_on span event (slice_index_or self.old (stage - 1) None)) (slice_index_or self.old stage None)) }
+        ensures completed { result.completed ≡ (if stage == length self.old then chain_in (went_on span event (slice_index_or self.old (stage - 1) None)) else None) }
+        ensures ceased { IsPermutation (option_to_list result.ceased ++ tags_of self.new) (tags_of self.old) }
+        ensures probe { steps.new ≡ steps.old + 1 }
+    {
+        steps.tick();
+        let place = stage as usize;
+        match take_slot(&mut self.slots, place - 1) {
+            None => Out {
+                completed: None,
+                ceased: None,
+            },
+            Some(held) => {
+                let mut held = held;
+                if !is_early(span, &held.events, &event) {
+                    return Out {
+                        completed: None,
+                        ceased: Some(held.tag),
+                    };
+                }
+                push_in_room(&mut held.events, event);
+                self.settle(place, held)
+            }
+        }
+    }
+
+    /// Begins a sequence of one event, in the room given: in the slot of stage 1, or out of a table without slots.
+    /// One probe.
+    pub fn begin<L: Ledger>(
+        &mut self,
+        room: Vec<OrderKey>,
+        event: OrderKey,
+        tag: T,
+        steps: &mut Steps<L>,
+    ) -> Out<T>
+        requires empty { room.items ≡ [] }
+        requires none { vec_len room ≡ 0 }
+        requires room { length self.old < vec_capacity room }
+        ensures slots { self.new ≡ slice_set self.old 0 (Some (event ∷ [], tag)) }
+        ensures completed { result.completed ≡ (if 0 == length self.old then Some (event ∷ []) else None) }
+        ensures ceased { IsPermutation (option_to_list result.ceased ++ tags_of self.new) (tag ∷ tags_of self.old) }
+        ensures probe { steps.new ≡ steps.old + 1 }
+    {
+        steps.tick();
+        let mut events = room;
+        push_in_room(&mut events, event);
+        self.settle(0, Pending { events, tag })
+    }
+
+    /// Empties the slot of a stage of every sequence, or of a stale one alone, and answers the tag of what it dropped.
+    /// One probe.
+    pub fn empty<L: Ledger>(&mut self, stage: u32, which: Which, steps: &mut Steps<L>) -> Option<T>
+        requires from { 1 ≤ stage }
+        requires to { stage ≤ length self.old }
+        ensures slots { self.new ≡ slice_set self.old (stage - 1) (emptied which (slice_index_or self.old (stage - 1) None)) }
+        ensures ceased { IsPermutation (option_to_list result ++ tags_of self.new) (tags_of self.old) }
+        ensures probe { steps.new ≡ steps.old + 1 }
+    {
+        steps.tick();
+        let place = stage as usize - 1;
+        if which.spares(&self.slots[place]) {
+            return None;
+        }
+        tag_of(take_slot(&mut self.slots, place))
+    }
+
+    /// Puts a sequence with all its events into the empty slot of its stage, in the room given.
+    pub fn put(&mut self, stage: u32, room: Vec<OrderKey>, chain: &Chain, tag: T)
+        requires from { 1 ≤ stage }
+        requires to { stage ≤ length self.old }
+        requires open { slice_index_or self.old (stage - 1) None ≡ None }
+        requires full { length chain.now ≡ stage }
+        requires empty { room.items ≡ [] }
+        requires none { vec_len room ≡ 0 }
+        requires room { length self.old < vec_capacity room }
+        ensures slots { self.new ≡ slice_set self.old (stage - 1) (Some (chain.now, tag)) }
+        ensures tags { IsPermutation (tags_of self.new) (tag ∷ tags_of self.old) }
+    {
+        let mut events = room;
+        copy_in_room(&mut events, chain.items());
+        chain.ascends();
+        replace_slot(&mut self.slots, stage as usize - 1, Pending { events, tag });
+    }
+
+    /// The pending sequences with their stages, by stage.
+    pub fn holders(&self, alloc: Global) -> Result<StageChains, Memory>
+        requires { length self.now < 256 }
+        ensures { IfOk result (λ found. found ≡ stage_chains self.now) }
+    {
+        let mut found = Vec::new(alloc);
+        for (place, slot) in self.slots.iter().enumerate() {
+            add_holder(alloc, &mut found, place as u32 + 1, slot)?;
+        }
+        Ok(StageChains::of(found))
+    }
+}
+
+/// Adds a copy of the chain of a slot, if it has a sequence.
+fn add_holder<T: Copy>(
+    alloc: Global,
+    found: &mut Vec<(u32, Chain)>,
+    stage: u32,
+    slot: &Option<Pending<T>>,
+) -> Result<(), Memory>
+    requires { IfSome slot.now (λ p. EventsAscend p.events.items) }
+    ensures { IfOk result (λ _. found.new.items ≡ found.old.items ++ option_to_list (option_map (λ p. (stage, p.events.items)) slot.now)) }
+{
+    if let Some(pending) = slot {
+        let mut events = Vec::new(alloc);
+        events.extend_from_slice(&pending.events)?;
+        found.push((stage, Chain::of(events)))?;
+    }
+    Ok(())
+}
+
+/// Copies events to where there is room, which takes no memory.
+fn copy_in_room(room: &mut Vec<OrderKey>, events: &Vec<OrderKey>)
+    requires empty { room.old.items ≡ [] }
+    requires none { vec_len room.old ≡ 0 }
+    requires fits { length events.now.items ≤ vec_capacity room.old }
+    ensures items { room.new.items ≡ events.now.items }
+    ensures len { vec_len room.new ≡ length events.now.items }
+    ensures room { vec_capacity room.old ≤ vec_capacity room.new }
+{
+    match room.extend_from_slice(events) {
+        Ok(()) => {}
+        Err(_) => unreachable!(),
+    }
+}

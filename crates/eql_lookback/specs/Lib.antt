@@ -1,0 +1,2 @@
+pub mod KeyActs
+pub mod Places

@@ -1,0 +1,113 @@
+//! The chains of one stage at all places, from those of the stage before.
+ghost use Rattle.std.specs.Prelude.{◌≡◌, ◌≤◌, ◌<◌, suc, not, ◌&&◌, ◌||◌, if◌then◌else◌, List, [], ◌∷◌, Some, None, IfOk};
+ghost use Rattle.std.specs.BTreeMap.{get};
+ghost use Rattle.eql_values.specs.declared.value.Value.{Value};
+ghost use Rattle.eql_values.specs.Orders.{key_cmp, key_eq};
+ghost use Rattle.eql_values.specs.Chains.{fits_after};
+ghost use Rattle.eql_values.specs.Ordered.{found_or};
+ghost use Rattle.eql_laws.specs.Slots.{moved};
+ghost use Rattle.eql_lookback.specs.Places.{chains_at};
+
+use crate::key_act::{KeyAct, fits_next};
+use crate::sequence::Sequence;
+use eql_values::{Key, Memory};
+use std::alloc::Global;
+use std::collections::BTreeMap;
+
+/// The event alone, where it fits stage 1.
+fn alone(alloc: Global, one: &KeyAct) -> Result<Option<Sequence>, Memory>
+    ensures { IfOk result (λ found. found ≡ (if fits_after 0 one.now.act then Some (one.now.act.order ∷ []) else None)) }
+{
+    if fits_next(&one.act, 0) {
+        Ok(Some(Sequence::of(alloc, one.act.order)?))
+    } else {
+        Ok(None)
+    }
+}
+
+/// The chains of stage 1 at all places.
+pub fn first_stage(alloc: Global, all: &[KeyAct]) -> Result<Vec<Option<Sequence>>, Memory>
+    ensures { IfOk result (λ chains. chains.items ≡ chains_at None 1 [] all.now) }
+{
+    let mut chains = Vec::new(alloc);
+    for one in all {
+        let chain = alone(alloc, one)?;
+        chains.push(chain)?;
+    }
+    Ok(chains)
+}
+
+/// The latest chain of this stage, followed by the event, where it is pending and the event fits the next
+/// stage, ends nothing and is in time.
+fn followed(
+    span: Option<i128>,
+    stage: u32,
+    pending: &BTreeMap<Key, Sequence>,
+    one: &KeyAct,
+) -> Result<Option<Sequence>, Memory>
+    requires { stage < 256 }
+    ensures { IfOk result (λ found. found ≡ (if fits_after stage one.now.act && not one.now.act.until then moved span (get key_cmp pending.now one.now.key) one.now.act else None)) }
+{
+    if !fits_next(&one.act, stage) || one.act.until {
+        return Ok(None);
+    }
+    match pending.get(&one.key) {
+        None => Ok(None),
+        Some(chain) => {
+            if chain.is_in_time(span, one.act.order.ts) {
+                Ok(Some(chain.followed_by(one.act.order)?))
+            } else {
+                Ok(None)
+            }
+        }
+    }
+}
+
+/// Takes the pending chains of this stage past an event: the chain of its place comes in the place of an earlier
+/// one; else an event that fits the next stage or ends the key leaves none.
+fn pass(
+    stage: u32,
+    pending: &mut BTreeMap<Key, Sequence>,
+    one: &KeyAct,
+    here: &Option<Sequence>,
+) -> Result<(), Memory>
+    requires { stage < 256 }
+    ensures { IfOk result (λ _. (key : List Value) → get key_cmp pending.new key ≡ (if key_eq one.now.key key then found_or here.now (if fits_after stage one.now.act || one.now.act.until then None else get key_cmp pending.old key) else get key_cmp pending.old key)) }
+{
+    match here {
+        Some(chain) => {
+            let key = one.key.clone()?;
+            let chain = chain.clone()?;
+            pending.insert(key, chain)?;
+        }
+        None => {
+            if fits_next(&one.act, stage) || one.act.until {
+                pending.remove(&one.key);
+            }
+        }
+    }
+    Ok(())
+}
+
+/// The chains of the next stage at all places.
+pub fn next_stage(
+    alloc: Global,
+    span: Option<i128>,
+    stage: u32,
+    all: &[KeyAct],
+    chains: &[Option<Sequence>],
+) -> Result<Vec<Option<Sequence>>, Memory>
+    requires from { 1 ≤ stage }
+    requires to { stage < 256 }
+    requires these { chains.now ≡ chains_at span stage [] all.now }
+    ensures { IfOk result (λ next. next.items ≡ chains_at span (suc stage) [] all.now) }
+{
+    let mut pending = BTreeMap::new(alloc);
+    let mut next = Vec::new(alloc);
+    for (i, one) in all.iter().enumerate() {
+        let chain = followed(span, stage, &pending, one)?;
+        next.push(chain)?;
+        pass(stage, &mut pending, one, &chains[i])?;
+    }
+    Ok(next)
+}
