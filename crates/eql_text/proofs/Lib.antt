@@ -1,0 +1,10 @@
+pub mod Dropping
+pub mod Characters
+pub mod Equality
+pub mod Endings
+pub mod Finding
+pub mod Fitting
+pub mod Reading
+pub mod Splitting
+pub mod Addressing
+pub mod Parting

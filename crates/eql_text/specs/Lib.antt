@@ -1,0 +1,9 @@
+pub mod Folding
+pub mod Comparing
+pub mod Placing
+pub mod Cutting
+pub mod Wildcards
+pub mod Fronts
+pub mod Numbers
+pub mod Addresses
+pub mod Examples

@@ -1,0 +1,20 @@
+//! The string functions of the Event Query Language: wildcards, comparing with and without case folding,
+//! places and parts of texts, and numbers and IPv4 addresses read from texts. Places and lengths count
+//! characters from 0. Folding compares characters by their simple case foldings (The Unicode Standard,
+//! section 3.13). What each function answers is defined on lists of characters, in specs/.
+#![tactic(auto)]
+
+mod addresses;
+mod compare;
+mod numbers;
+mod parts;
+mod pattern;
+mod places;
+mod walk;
+
+pub use addresses::{Block, in_block, parse_block, parse_ip4};
+pub use compare::{contains, ends, equal, starts};
+pub use numbers::{LongRead, parse_long, parse_number};
+pub use parts::{between, substring};
+pub use pattern::wildcard;
+pub use places::index_of;
