@@ -33,8 +33,8 @@ refused_status names (refused.Line n) = refl
 pub halt_tells : (words : List (List ℕ)) (names : Names) (files : Option Files) (h : Halt) → command_of words ≡ Some names → HasCause names files h → Tells words files (status_of h) (text_of names h)
 halt_tells words names files (halt.Refused r) command cause =
     subst (λ n. Tells words files n (text_of names (halt.Refused r))) (refused_status names r) (run.refused names command (refusal_of names r) cause)
-halt_tells words names files (halt.Read r) command cause = run.read_fault names command (name_of names r) (is_named names r)
-halt_tells words names files halt.Write command cause = run.write_fault names command
+halt_tells words names files (halt.Read r) command cause = run.read_fault names command (name_of names r) (is_named names r) cause
+halt_tells words names files halt.Write command cause = run.write_fault names command cause
 halt_tells words names files halt.Memory command cause = run.memory names command
 
 -- a part of what a run over the files writes is one of what a run of the words writes

@@ -11,7 +11,7 @@ use Rattle.eql_cli.specs.declared.halt.Halt.{Halt}
 use Rattle.eql_cli.specs.declared.halt.Halt.TheVariants as halt
 use Rattle.eql_cli.specs.Fronts.{IsFrontOf, IsMissing}
 use Rattle.eql_cli.specs.Halts.{name_of, HasCause}
-use Rattle.eql_cli.specs.Runs.{Names, Files, IsNoFields, HasQuery, HasFields, HasShard, Refuses, no_file}
+use Rattle.eql_cli.specs.Runs.{Names, Files, IsNoFields, HasQuery, HasFields, HasShard, Refuses, no_file, Reaches}
 use Rattle.eql_cli.specs.Runs as run
 use Rattle.eql_cli.specs.Steps.{GotQuery, GotFields, GotShard, StoppedReading}
 
@@ -71,17 +71,19 @@ shard_refused names (Some fs) bytes query front many got fields =
 
 -- where a file isn't there, it is refused; so it is the cause of a halt
 pub unread_cause : (names : Names) (files : Option Files) (r : Role) (h : Halt) → StoppedReading r (IsMissing (name_of names r) files) h
-    → IfSome files (λ fs. file_named (name_of names r) fs ≡ None → Refuses names fs (no_file (name_of names r))) → HasCause names files h
-unread_cause names None r (halt.Refused cause) stop rule = tt
-unread_cause names (Some fs) r (halt.Refused (refused.NoFile q)) stop rule =
+    → IfSome files (λ fs. file_named (name_of names r) fs ≡ None → Refuses names fs (no_file (name_of names r)))
+    → IfSome files (λ fs. Reaches names fs (name_of names r)) → HasCause names files h
+unread_cause names None r (halt.Refused cause) stop rule reach = tt
+unread_cause names (Some fs) r (halt.Refused (refused.NoFile q)) stop rule reach =
     subst (λ (x : Role). Refuses names fs (no_file (name_of names x))) (sym stop.0) (rule stop.1)
-unread_cause names (Some fs) r (halt.Refused refused.Query) stop rule = absurd stop
-unread_cause names (Some fs) r (halt.Refused refused.Fields) stop rule = absurd stop
-unread_cause names (Some fs) r (halt.Refused refused.Shard) stop rule = absurd stop
-unread_cause names (Some fs) r (halt.Refused (refused.Line n)) stop rule = absurd stop
-unread_cause names files r (halt.Read q) stop rule = tt
-unread_cause names files r halt.Write stop rule = absurd stop
-unread_cause names files r halt.Memory stop rule = tt
+unread_cause names (Some fs) r (halt.Refused refused.Query) stop rule reach = absurd stop
+unread_cause names (Some fs) r (halt.Refused refused.Fields) stop rule reach = absurd stop
+unread_cause names (Some fs) r (halt.Refused refused.Shard) stop rule reach = absurd stop
+unread_cause names (Some fs) r (halt.Refused (refused.Line n)) stop rule reach = absurd stop
+unread_cause names None r (halt.Read q) stop rule reach = tt
+unread_cause names (Some fs) r (halt.Read q) stop rule reach = subst (λ (x : Role). Reaches names fs (name_of names x)) (sym stop) reach
+unread_cause names files r halt.Write stop rule reach = absurd stop
+unread_cause names files r halt.Memory stop rule reach = tt
 
 pub query_rule : (names : Names) (files : Option Files) → IfSome files (λ fs. file_named names.query fs ≡ None → Refuses names fs (no_file names.query))
 query_rule names None = tt
@@ -96,3 +98,15 @@ pub shard_rule : (names : Names) (files : Option Files) (query : QueryTree) → 
     → IfSome files (λ fs. file_named names.shard fs ≡ None → Refuses names fs (no_file names.shard))
 shard_rule names None query got fields = tt
 shard_rule names (Some fs) query got fields = λ none. run.no_shard query got fields none
+
+pub query_reached : (names : Names) (files : Option Files) → IfSome files (λ fs. Reaches names fs names.query)
+query_reached names None = tt
+query_reached names (Some fs) = run.query_file
+
+pub fields_reached : (names : Names) (files : Option Files) (query : QueryTree) → GotQuery names files query → IfSome files (λ fs. Reaches names fs names.fields)
+fields_reached names None query got = tt
+fields_reached names (Some fs) query got = run.fields_file query got
+
+pub shard_reached : (names : Names) (files : Option Files) (query : QueryTree) → GotQuery names files query → GotFields names files → IfSome files (λ fs. Reaches names fs names.shard)
+shard_reached names None query got fields = tt
+shard_reached names (Some fs) query got fields = run.shard_file query got fields

@@ -68,7 +68,7 @@ search_cause names (Some fs) items text (halt.Refused refused.Query) got fields 
 search_cause names (Some fs) items text (halt.Refused refused.Fields) got fields shard stop = absurd stop
 search_cause names (Some fs) items text (halt.Refused refused.Shard) got fields shard stop = absurd stop
 search_cause names (Some fs) items text (halt.Refused (refused.Line n)) got fields shard stop = run.other_line got.query got.got fields text shard n stop
-search_cause names files items text (halt.Read r) got fields shard stop = tt
+search_cause names files items text (halt.Read r) got fields shard stop = absurd stop
 search_cause names None items text halt.Write got fields shard stop = tt
 search_cause names (Some fs) items text halt.Write got fields shard stop = (first_listing (wanted_by items) text, lists_of names fs items text got fields shard stop)
 search_cause names files items text halt.Memory got fields shard stop = tt

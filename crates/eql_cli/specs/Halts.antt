@@ -8,7 +8,7 @@ use Rattle.eql_cli.specs.declared.halt.Refused.{Refused}
 use Rattle.eql_cli.specs.declared.halt.Refused.TheVariants as refused
 use Rattle.eql_cli.specs.declared.halt.Halt.{Halt}
 use Rattle.eql_cli.specs.declared.halt.Halt.TheVariants as halt
-use Rattle.eql_cli.specs.Runs.{Names, Files, Refusal, Refuses, refusal_text, refusal_status, printed_name, Lists}
+use Rattle.eql_cli.specs.Runs.{Names, Files, Refusal, Refuses, refusal_text, refusal_status, printed_name, Lists, Reaches}
 use Rattle.eql_cli.specs.Runs as run
 
 -- the names of a command
@@ -70,6 +70,6 @@ OnFault halt.Memory absent read write = Unit {0}
 -- where the shelf tells its files, the cause holds of them
 abbrev pub HasCause : Names → Option Files → Halt → Type 0
 HasCause names files (halt.Refused r) = IfSome files (λ fs. Refuses names fs (refusal_of names r))
-HasCause names files (halt.Read r) = Unit {0}
+HasCause names files (halt.Read r) = IfSome files (λ fs. Reaches names fs (name_of names r))
 HasCause names files halt.Write = IfSome files (λ fs. (bytes : List ℕ) × Lists names fs bytes)
 HasCause names files halt.Memory = Unit {0}

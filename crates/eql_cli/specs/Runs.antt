@@ -93,6 +93,12 @@ pub data Refuses (names : Names) (files : Files) : Refusal → Type 0 where
   long_shard : (q : QueryTree) → HasQuery names files q → HasFields names files → (text : List ℕ) → file_named names.shard files ≡ Some text → 16777216 < length text → Refuses names files shard
   other_line : (q : QueryTree) → HasQuery names files q → HasFields names files → (text : List ℕ) → HasShard names files text → (n : ℕ) → first_other (lines_in text) ≡ Some n → Refuses names files (line n)
 
+-- a run comes to the file of this name: the files before it are there and have their forms
+pub data Reaches (names : Names) (files : Files) : List ℕ → Type 0 where
+  query_file : Reaches names files names.query
+  fields_file : (q : QueryTree) → HasQuery names files q → Reaches names files names.fields
+  shard_file : (q : QueryTree) → HasQuery names files q → HasFields names files → Reaches names files names.shard
+
 -- a control character as it is printed: by the escapes of canonical strings, so that a text stays one line
 abbrev pub hex_glyph : ℕ → ℕ
 hex_glyph n = if nat_lt n 10 then 48 + n else 87 + n
@@ -134,9 +140,9 @@ pub data Tells (words : List (List ℕ)) (files : Option Files) : ℕ → List �
   usage : command_of words ≡ None → Tells words files 2 usage_text
   refused : (names : Names) → command_of words ≡ Some names → (refusal : Refusal) → IfSome files (λ fs. Refuses names fs refusal)
       → Tells words files (refusal_status refusal) (refusal_text refusal)
-  read_fault : (names : Names) → command_of words ≡ Some names → (name : List ℕ) → IsNamed names name
+  read_fault : (names : Names) → command_of words ≡ Some names → (name : List ℕ) → IsNamed names name → IfSome files (λ fs. Reaches names fs name)
       → Tells words files 4 (codes "read fault: " ++ printed_name name ++ codes "\n")
-  write_fault : (names : Names) → command_of words ≡ Some names → Tells words files 5 (codes "write fault\n")
+  write_fault : (names : Names) → command_of words ≡ Some names → IfSome files (λ fs. (bytes : List ℕ) × Lists names fs bytes) → Tells words files 5 (codes "write fault\n")
   memory : (names : Names) → command_of words ≡ Some names → Tells words files 8 (codes "out of memory\n")
 
 -- where the shelf tells its files, the run was one that writes bytes, and where the sink tells too, it got just these
@@ -148,7 +154,7 @@ abbrev pub WroteSome : List (List ℕ) → Option Files → Option (List ℕ) �
 WroteSome words files before now =
     IfSome files (λ fs. IfSome before (λ w. (now ≡ Some w) ⊎ ((bytes : List ℕ) × Writes words fs bytes × AppendsSome w bytes now)))
 
--- a run of this status told a text whose cause holds, or a prefix of it where the sink refused the rest
+-- a run of this status told a text whose cause holds, or a prefix of it, which may be empty; that it is told whole is only tested
 abbrev pub Told : List (List ℕ) → Option Files → ℕ → Option (List ℕ) → Option (List ℕ) → Type 0
 Told words files status before now = (text : List ℕ) × Tells words files status text × IfSome before (λ w. AppendsSome w text now)
 

@@ -38,7 +38,7 @@ StoppedReading role missing (halt.Refused refused.Query) = ⊥
 StoppedReading role missing (halt.Refused refused.Fields) = ⊥
 StoppedReading role missing (halt.Refused refused.Shard) = ⊥
 StoppedReading role missing (halt.Refused (refused.Line n)) = ⊥
-StoppedReading role missing (halt.Read r) = Unit {0}
+StoppedReading role missing (halt.Read r) = r ≡ role
 StoppedReading role missing halt.Write = ⊥
 StoppedReading role missing halt.Memory = Unit {0}
 

@@ -70,6 +70,7 @@ fn run<H: Shelf, K: Sink>(
     ensures fault { IfErr result (λ halt. OnFault halt (Rose (H.absent_count shelf.old) (H.absent_count shelf.new)) (Rose (H.fault_count shelf.old) (H.fault_count shelf.new)) (Rose (K.fault_count out.old) (K.fault_count out.new))) }
     ensures kept { H.files shelf.new ≡ H.files shelf.old }
     ensures counts { (H.fault_count shelf.old ≤ H.fault_count shelf.new)
+        × (H.absent_count shelf.old ≤ H.absent_count shelf.new)
         × (K.fault_count out.old ≤ K.fault_count out.new) }
 {
     let items = read_query(alloc, command, shelf)?;
@@ -82,7 +83,7 @@ fn run<H: Shelf, K: Sink>(
 ///
 /// `find --query FILE --fields FILE SHARD` writes the listing of the query's matches in the shard to `out`. On status
 /// 0 it is there whole and `err` got nothing. On every other status `out` got a prefix of it, nothing at all where the
-/// words or the files are refused, and `err` one line with the cause.
+/// words or the files are refused, and `err` a prefix of one line with the cause.
 pub fn eql_main<R: Threads + Wait + Sync, H: Shelf, K: Sink, E: Sink, G: Gate + Sync>(
     _rt: &R,
     alloc: Global,
@@ -124,6 +125,7 @@ pub fn eql_main<R: Threads + Wait + Sync, H: Shelf, K: Sink, E: Sink, G: Gate + 
     // The shelf keeps its files, and no count falls.
     ensures kept { H.files shelf.new ≡ H.files shelf.old }
     ensures counts { (H.fault_count shelf.old ≤ H.fault_count shelf.new)
+        × (H.absent_count shelf.old ≤ H.absent_count shelf.new)
         × (K.fault_count out ≤ K.fault_count result.out)
         × (E.fault_count err ≤ E.fault_count result.err) }
 {

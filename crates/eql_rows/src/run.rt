@@ -12,6 +12,10 @@ use std::thread::Threads;
 pub(crate) enum Fault {
     /// None fails.
     Nothing,
+    /// The first take of the query file.
+    QueryTake,
+    /// The first take of the fields file.
+    FieldsTake,
     /// The first take of the shard.
     ShardTake,
     /// The first write of the output.
@@ -92,8 +96,8 @@ pub(crate) fn run<R: Threads + Wait + Sync>(
 /// The three files of a row.
 pub(crate) fn files_of(alloc: Global, row: &Row) -> Result<Vec<MemFile>, Fail> {
     let mut files = Vec::new(alloc);
-    files.push(file(alloc, "q", row.query, false)?)?;
-    files.push(file(alloc, "f", row.fields, false)?)?;
+    files.push(file(alloc, "q", row.query, row.fault == Fault::QueryTake)?)?;
+    files.push(file(alloc, "f", row.fields, row.fault == Fault::FieldsTake)?)?;
     files.push(file(alloc, "s", row.shard, row.fault == Fault::ShardTake)?)?;
     Ok(files)
 }
