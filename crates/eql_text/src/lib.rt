@@ -10,6 +10,8 @@ mod numbers;
 mod parts;
 mod pattern;
 mod places;
+#[cfg(test)]
+mod tests;
 mod walk;
 
 pub use addresses::{Block, in_block, parse_block, parse_ip4};

@@ -39,16 +39,16 @@ pub fn find_last(s: &str, t: &str, fold: bool) -> Option<u64>
     ensures place { result ≡ last_place_from fold 0 (chars s.now) (chars t.now) }
 {
     let mut found = None;
-    let mut place = 0;
+    let mut at = 0;
     let mut rest = s;
     'places: loop {
         if strip(rest, t, fold).is_some() {
-            found = Some(place);
+            found = Some(at);
         }
         let Some((_, next)) = first_char(rest) else {
             return found;
         };
-        place += 1;
+        at += 1;
         rest = next;
     }
 }
