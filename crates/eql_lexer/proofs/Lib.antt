@@ -1,0 +1,9 @@
+pub mod Numbers
+pub mod Unique
+pub mod Closing
+pub mod Refusals
+pub mod Utf8
+pub mod Steps
+pub mod Tails
+pub mod Places
+pub mod SignsFound

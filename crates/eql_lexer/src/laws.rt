@@ -1,0 +1,16 @@
+//! Laws of spelling, for any text: each is the contract of a function that does nothing.
+ghost use Rattle.std.specs.Prelude.{◌≡◌, ℕ, List};
+ghost use Rattle.eql_lexer.specs.declared.token.Token.{Token};
+ghost use Rattle.eql_lexer.specs.declared.refusal.Rule.{Rule};
+ghost use Rattle.eql_lexer.specs.Spelling.{Spells};
+ghost use Rattle.eql_lexer.specs.Refusing.{BreaksAt};
+
+/// A text spells one list of tokens at most.
+pub fn one_list()
+    ensures { (text : List ℕ) (ts us : List Token) → Spells text ts → Spells text us → ts ≡ us }
+{}
+
+/// A text in which a rule is broken spells no tokens.
+pub fn none_spelled()
+    ensures { (text : List ℕ) (r : Rule) (at : ℕ) (us : List Token) → BreaksAt text r at → Spells text us → ⊥ }
+{}
