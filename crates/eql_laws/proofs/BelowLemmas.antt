@@ -129,10 +129,10 @@ sorted_ascends items h =
     (All-in_order order_cmp order_same (λ (e : Entry). RoutesInOrder e.1) (map pair items) (All-map (λ (e : Entry). RoutesInOrder e.1) pair items h))
 
 -- where a line of a text may stand
-record IsLineOf (number at lines bytes : ℕ) (line : Line) : Type 0 where
-  number_from : number ≤ line.number
-  number_to : line.number < number + lines
-  at_to : line.at < at + bytes
+pub record IsLineOf (number at lines bytes : ℕ) (line : Line) : Type 0 where
+  pub number_from : number ≤ line.number
+  pub number_to : line.number < number + lines
+  pub at_to : line.at < at + bytes
 
 module _ (number at lines bytes : ℕ) where
   one_line_on : (line : Line) → IsLineOf (number + 1) (at + 0 + 1) lines bytes line → IsLineOf number at (suc lines) (suc bytes) line
@@ -170,7 +170,7 @@ by_byte number at byte true lines bytes h k =
     (numbered_lines (number + 1) (at + 0 + 1) lines) h)
 by_byte number at byte false lines bytes h k = begun number at byte lines bytes k
 
-lines_stand : (number at : ℕ) (text : List ℕ) → All (IsLineOf number at (length (lines_of text)) (length text)) (numbered_lines number at (lines_of text))
+pub lines_stand : (number at : ℕ) (text : List ℕ) → All (IsLineOf number at (length (lines_of text)) (length text)) (numbered_lines number at (lines_of text))
 lines_stand number at [] = All-nil (IsLineOf number at 0 0)
 lines_stand number at (byte ∷ bytes) =
     by_byte number at byte (byte == 10) (lines_of bytes) (length bytes) (lines_stand (number + 1) (at + 0 + 1) bytes) (lines_stand number (at + 1) bytes)
@@ -204,7 +204,7 @@ All-accepted P slack earlier (item ∷ items) h = one (is_late slack earlier ite
     one true others rest = rest
     one false others rest = All-cons P item others (All-head P item items h) rest
 
-fewer_accepted : (slack : Option ℤ) (earlier items : List Item) → length (accepted_after slack earlier items) ≤ length items
+pub fewer_accepted : (slack : Option ℤ) (earlier items : List Item) → length (accepted_after slack earlier items) ≤ length items
 fewer_accepted slack earlier [] = omega arith
 fewer_accepted slack earlier (item ∷ items) = one (is_late slack earlier item) (length items) (fewer_accepted slack (item ∷ earlier) items)
   where
@@ -217,7 +217,7 @@ fewer_one : (o : Option Item) (items : List Item) (n : ℕ) → length items ≤
 fewer_one None items n h = omega (arith, h)
 fewer_one (Some item) items n h = omega (arith, h)
 
-fewer_readable : (reads : Reads) (shard number at : ℕ) (lines : List (List ℕ)) → length (readable reads shard (numbered_lines number at lines)) ≤ length lines
+pub fewer_readable : (reads : Reads) (shard number at : ℕ) (lines : List (List ℕ)) → length (readable reads shard (numbered_lines number at lines)) ≤ length lines
 fewer_readable reads shard number at [] = omega arith
 fewer_readable reads shard number at (bytes ∷ lines) =
     fewer_one (event_at at (reads shard number bytes)) (readable reads shard (numbered_lines (number + 1) (at + length bytes + 1) lines)) (length lines)

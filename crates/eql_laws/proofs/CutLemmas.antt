@@ -23,7 +23,7 @@ use Rattle.eql_values.specs.OrderKeys.{order_cmp, order_cmp_total}
 use Rattle.eql_values.specs.Ordered.{in_order, in_order-sorted}
 use Rattle.eql_laws.specs.Alive.{alive_at, HoldersInOrder, alive_holders}
 use Rattle.eql_laws.specs.Belows.{IsReading, IsAcceptedOf, IsBelow, HasRoutesInOrder}
-use Rattle.eql_laws.specs.Cuts.{IsHeldBack, HeldBackFits, is_of, IsPending, PendingFits, IsFound, FoundFits, RoutesKeep, RoutesStay}
+use Rattle.eql_laws.specs.Cuts.{held_back, IsHeldBack, HeldBackFits, is_of, IsPending, PendingFits, IsFound, FoundFits, RoutesStay}
 use Rattle.eql_laws.specs.Shapes.{IsReady, IsFull, EventsPass, EventsKeep, FirstsFall}
 use Rattle.eql_laws.proofs.BelowLemmas.{All-sorted, All-accepted, accepted_of_text, below_are, below_ascends, sorted_ascends}
 use Rattle.eql_laws.proofs.Elements.{All-filter_map, All-passed}
@@ -33,7 +33,7 @@ use Rattle.eql_laws.proofs.LeftOut.{after_in_order, alive_in_order, opening_aliv
 use Rattle.eql_laws.proofs.Shaping.{matches_ascend, after_is_ready, matches_are_full, after_is_full, after_has_stages, events_stay}
 use Rattle.eql_laws.proofs.Sorting.{Entry, pair, back}
 
-filter_fewer : (p : Item → Bool) (items : List Item) → length (filter p items) ≤ length items
+pub filter_fewer : (p : Item → Bool) (items : List Item) → length (filter p items) ≤ length items
 filter_fewer p [] = omega arith
 filter_fewer p (item ∷ items) = one (p item) (length items) (filter_fewer p items)
   where
@@ -51,7 +51,7 @@ in_order_fewer (e ∷ es) =
     one true n l whole e h = omega (arith, e, h)
     one false n l whole e h = omega (arith, e, h)
 
-sorted_fewer : (items : List Item) → length (sorted_items items) ≤ length items
+pub sorted_fewer : (items : List Item) → length (sorted_items items) ≤ length items
 sorted_fewer items =
     let a : length (sorted_items items) ≡ length (in_order order_cmp (map pair items)) = length-map (in_order order_cmp (map pair items)) back in
     let b : length (map pair items) ≡ length items = length-map items pair in
@@ -151,10 +151,11 @@ pending_fits m span t reads slack texts mark reading =
 pub found_fits : FoundFits
 found_fits m span reads slack texts mark reading = all_found m span (pos 0) reads slack texts mark reading
 
-module _ (reads : Reads) (slack : Option ℤ) (test : List Route → Bool)
-    (passes : (shard line : ℕ) (bytes : List ℕ) (item : Item) → reads shard line bytes ≡ got.Item item → IsTrue (test item.routes)) where
+-- what holds of the routes of each event that is read
+module _ (reads : Reads) (slack : Option ℤ) (P : List Route → Type 0)
+    (passes : (shard line : ℕ) (bytes : List ℕ) (item : Item) → reads shard line bytes ≡ got.Item item → P item.routes) where
   abbrev Passing : Item → Type 0
-  Passing item = IsTrue (test item.routes)
+  Passing item = P item.routes
 
   event_passes : (shard line at : ℕ) (bytes : List ℕ) (g : LineGot) → reads shard line bytes ≡ g → IfSome (event_at at g) Passing
   event_passes shard line at bytes (got.Item item) e = passes shard line bytes item e
@@ -171,12 +172,17 @@ module _ (reads : Reads) (slack : Option ℤ) (test : List Route → Bool)
   all_pass shard [] = All-nil Passing
   all_pass shard (text ∷ texts) = All-append Passing (accepted reads slack shard text) (accepted_from reads slack (shard + 1) texts) (accepted_pass shard text) (all_pass (shard + 1) texts)
 
-  routes_keep : (texts : List (List ℕ)) (mark : Mark) → RoutesKeep reads slack test texts mark
-  routes_keep texts mark = record {
-    held_back = λ shard text. All-sorted Passing (filter (λ item. not (is_below mark item)) (accepted reads slack shard text))
-        (All-filter (λ item. not (is_below mark item)) Passing (accepted reads slack shard text) (accepted_pass shard text));
-    below = All-sorted Passing (filter (is_below mark) (accepted_from reads slack 0 texts)) (All-filter (is_below mark) Passing (accepted_from reads slack 0 texts) (all_pass 0 texts));
-  }
+  pub held_back_pass : (shard : ℕ) (text : List ℕ) (mark : Mark) → All (λ (item : Item). P item.routes) (held_back reads slack shard text mark)
+  held_back_pass shard text mark =
+      All-sorted Passing (filter (λ item. not (is_below mark item)) (accepted reads slack shard text))
+      (All-filter (λ item. not (is_below mark item)) Passing (accepted reads slack shard text) (accepted_pass shard text))
+
+  pub below_pass : (texts : List (List ℕ)) (mark : Mark) → All (λ (item : Item). P item.routes) (below reads slack texts mark)
+  below_pass texts mark =
+      All-sorted Passing (filter (is_below mark) (accepted_from reads slack 0 texts)) (All-filter (is_below mark) Passing (accepted_from reads slack 0 texts) (all_pass 0 texts))
 
 pub routes_stay : RoutesStay
-routes_stay reads slack test texts mark passes = routes_keep reads slack test passes texts mark
+routes_stay reads slack test texts mark passes = record {
+  held_back = λ shard text. held_back_pass reads slack (λ routes. IsTrue (test routes)) passes shard text mark;
+  below = below_pass reads slack (λ routes. IsTrue (test routes)) passes texts mark;
+}

@@ -25,3 +25,8 @@ pub mod Distinct
 pub mod CutLemmas
 pub mod Handing
 pub mod PieceLemmas
+pub mod Counted
+pub mod KeptLanes
+pub mod KeptBounds
+pub mod KeptBooks
+pub mod KeptCuts

@@ -13,4 +13,10 @@ pub mod OneEvent
 pub mod Cuts
 pub mod Taking
 pub mod Pieces
+pub mod Counting
+pub mod Lanes
+pub mod Bounds
+pub mod Books
+pub mod Fitting
 pub mod Examples
+pub mod CutExamples

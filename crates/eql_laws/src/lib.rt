@@ -1,10 +1,16 @@
 //! Laws over the definitions of matching: the listing doesn't depend on where the log is cut, which keys are
-//! handled where, or when stale sequences are dropped. Each law is the contract of a function that does nothing.
+//! handled where, or when stale sequences are dropped; and what a cut keeps is as a checkpoint is to say it. Each law
+//! is the contract of a function that does nothing.
 #![tactic(auto)]
 
 mod alive;
 mod belows;
+mod books;
+mod bounds;
+mod counts;
 mod cuts;
+mod fitting;
+mod lanes;
 mod lateness;
 mod one_event;
 mod parts;
@@ -19,7 +25,12 @@ pub use alive::{
     after_in_order, dead_after, dead_alike, dead_by_slot, dead_for_good, dead_matches,
 };
 pub use belows::{accepted_are, below_ascends, below_grows, open_low, sorted_together};
+pub use books::{book_fits, found_by_events, found_is_few, pipes_go_on};
+pub use bounds::{keys_fit, masks_fit, times_fit};
+pub use counts::{fronts_fit, lines_are_counted};
 pub use cuts::{found_fits, held_back_fits, none_is_lost, pending_fits, routes_stay};
+pub use fitting::cuts_fit;
+pub use lanes::{lanes_fit, marks_fit};
 pub use lateness::{
     accepted_by_best, accepted_split, best_goes_on, late_by_best, low_rises, none_comes_below,
 };

@@ -1,0 +1,28 @@
+//! Laws of what a cut keeps of the output: how many matches there can be, and what pipes have seen.
+ghost use Rattle.eql_laws.specs.Books.{InputsGoOn, BookOfFits, KeptPass, FoundByRoutes, FoundByEvents, BelowsAreFew, FoundIsFew};
+
+/// What is kept of the output is as a checkpoint is to have it: no more is listed than was found, and there is a state
+/// for each pipe, of its kind, that keeps what it may.
+pub fn book_fits()
+    ensures { BookOfFits }
+{}
+
+/// The input of a pipe goes on from that of the pipe before; and what a test says of each match that was found, it says
+/// of each that a pipe keeps.
+pub fn pipes_go_on()
+    ensures inputs { InputsGoOn }
+    ensures kept { KeptPass }
+{}
+
+/// No more matches are found than events have routes of the last stage, and no more than events, where each has at
+/// most one.
+pub fn found_by_events()
+    ensures routes { FoundByRoutes }
+    ensures events { FoundByEvents }
+{}
+
+/// There are no more events below a mark than lines, nor than bytes, and so no more matches than a checkpoint may say.
+pub fn found_is_few()
+    ensures events { BelowsAreFew }
+    ensures found { FoundIsFew }
+{}
