@@ -3,4 +3,5 @@ pub mod Views
 pub mod Counts
 pub mod Keeps
 pub mod Turns
+pub mod Readings
 pub mod Sends

@@ -1,5 +1,5 @@
 -- What a turn gives its caller.
-use Rattle.std.proofs.Common.{◌≡◌, ◌≢◌, ℕ, ◌+◌, ◌*◌, ◌<◌, ◌≤◌, ◌^◌, Bool, true, List, [], ◌∷◌, ◌++◌, length, refl, sym, ap, ◌∙◌, subst, arith, append-nil, length-append}
+use Rattle.std.proofs.Common.{◌≡◌, ◌≢◌, ℕ, ◌+◌, ◌*◌, ◌<◌, ◌≤◌, ◌^◌, ◌%◌, Bool, true, List, [], ◌∷◌, ◌++◌, length, refl, sym, ap, ◌∙◌, subst, arith, append-nil, length-append}
 use Rattle.std.proofs.lemmas.List.{append_assoc}
 use Rattle.std.proofs.lemmas.List.Elements.{All-nil, All-head, All-weaker}
 use Rattle.std.specs.Prelude.{All, Some}
@@ -12,14 +12,41 @@ use Rattle.eql_turn_lock.specs.declared.view.View.{View}
 use Rattle.eql_turn_lock.specs.History.{StartsWith, entry, calls_by, OthersOpen, IsLegal}
 use Rattle.eql_turn_lock.specs.Passes.{EndedIn, first_view, split_view, new_view, ended_of, joined_view, KnowsHistory}
 use Rattle.eql_turn_lock.specs.Rule.{looked_at, played, HoldsTurn, IsSameBut}
+use Rattle.eql_turn_lock.specs.Tries.{LostTry, held, moved, IsLost, words_of}
 use Rattle.eql_turn_lock.specs.Calls.{MayPlay, Plays, PlaysOnce, PlaysLooking, IsUnplayed}
 use Rattle.eql_turn_lock.proofs.Histories.{all_right, all_snoc, calls_mine, calls_other, starts_longer, legal_snoc, legal_split, rest_is_of_others, still_allowed}
 use Rattle.eql_turn_lock.proofs.Views.{calls_none}
 
+words_more : (tries : List LostTry) (last : LostTry) → words_of (tries ++ last ∷ []) ≡ words_of tries ++ words_of (last ∷ [])
+words_more [] last = refl
+words_more (held loaded ∷ tries) last = ap (λ (l : List ℕ). loaded ∷ l) (words_more tries last)
+words_more (moved loaded found ∷ tries) last = ap (λ (l : List ℕ). loaded ∷ found ∷ l) (words_more tries last)
+
 module _ {T O R : Type 0} where
-  -- more words were met, and nothing else was done
-  abbrev pub OnlyLooked : View T O R → View T O R → Type 0
-  OnlyLooked v w = IsUnplayed v w × (w.turn ≡ v.turn) × StartsWith w.looked v.looked
+  -- tries took no turn, and nothing else was done
+  abbrev pub OnlyTried : View T O R → View T O R → Type 0
+  OnlyTried v w = IsUnplayed v w × (w.turn ≡ v.turn) × ((tries : List LostTry) × All IsLost tries × (w.looked ≡ v.looked ++ words_of tries))
+
+  tried_more : (v a : View T O R) (last : LostTry) → OnlyTried v a → IsLost last → OnlyTried v (record a { looked = a.looked ++ words_of (last ∷ []) })
+  tried_more v a last only lost = let tries = only.2.0 in let more = words_of (last ∷ []) in (
+    only.0,
+    only.1,
+    (
+      tries ++ last ∷ [],
+      all_snoc IsLost tries last only.2.1 lost,
+      ap (λ (l : List ℕ). l ++ more) only.2.2 ∙ (append_assoc v.looked (words_of tries) more ∙ ap (λ (l : List ℕ). v.looked ++ l) (sym (words_more tries last))),
+    ),
+  )
+
+  -- the turn was held once more
+  pub tried_held : (v a b : View T O R) (n : ℕ) → OnlyTried v a → n < 2 ^ 63 → n % 2 ≡ 1 → b ≡ looked_at n a → OnlyTried v b
+  tried_held v a b n only low odd is = subst (OnlyTried v) (sym is) (tried_more v a (held n) only (low, odd))
+
+  -- the word moved once more
+  pub tried_moved : (v a b : View T O R) (n found : ℕ) → OnlyTried v a → n < 2 ^ 63 → n % 2 ≡ 0 → found ≢ n → b ≡ looked_at found (looked_at n a) → OnlyTried v b
+  tried_moved v a b n found only low even other is = subst (OnlyTried v)
+      (sym (is ∙ ap (λ (l : List ℕ). record a { looked = l }) (append_assoc a.looked (n ∷ []) (found ∷ []))))
+      (tried_more v a (moved n found) only (low, even, other))
 
 module _ {O R : Type 0} where
   -- the word goes up by two with the entry
@@ -105,17 +132,18 @@ module _ {T O R : Type 0} (allows : T → O → Type 0) (step_of : T → O → R
   unplayed_but v a b n start same = (same.2 ∙ start.0, same.3 ∙ start.1, same.0 ∙ start.2, same.1 ∙ start.3, same.5 ∙ start.4, same.6 ∙ start.5)
 
   -- the last word that was met is small, and so are those before it
-  pub played_after : (v a b : View T O R) (n : ℕ) (op : O) (reply : R) (w : View T O R) → OnlyLooked v a → All (λ (k : ℕ). k ≤ n) a.looked → n < 2 ^ 63 → IsSameBut (looked_at n a) b
+  pub played_after : (v a b : View T O R) (n : ℕ) (op : O) (reply : R) (w : View T O R) → OnlyTried v a → All (λ (k : ℕ). k ≤ n) a.looked → n < 2 ^ 63 → IsSameBut (looked_at n a) b
       → PlaysLooking [] step_of is_open b op reply w → n + 2 ≡ 2 * length w.seen → Plays step_of is_open v op reply w
-  played_after v a b n op reply w only small low same p counted = let more = only.2 in (
-    more.0,
+  played_after v a b n op reply w only small low same p counted = let tries = only.2.0 in let words = words_of tries in let met = only.2.2 in (
+    tries,
     n,
-    played_looking v b (more.0 ++ n ∷ []) op reply w (unplayed_but v a b n only.0 same) (same.4 ∙ (ap (λ (l : List ℕ). l ++ n ∷ []) more.1 ∙ append_assoc v.looked more.0 (n ∷ []))) p,
-    all_snoc (λ (k : ℕ). k < 2 ^ 63) more.0 n
-        (All-weaker (λ (k : ℕ). k ≤ n) (λ (k : ℕ). k < 2 ^ 63) (λ k le. omega arith) more.0
-        (all_right (λ (k : ℕ). k ≤ n) v.looked more.0 (subst (λ (l : List ℕ). All (λ (k : ℕ). k ≤ n) l) more.1 small)))
+    played_looking v b (words ++ n ∷ []) op reply w (unplayed_but v a b n only.0 same) (same.4 ∙ (ap (λ (l : List ℕ). l ++ n ∷ []) met ∙ append_assoc v.looked words (n ∷ []))) p,
+    all_snoc (λ (k : ℕ). k < 2 ^ 63) words n
+        (All-weaker (λ (k : ℕ). k ≤ n) (λ (k : ℕ). k < 2 ^ 63) (λ k le. omega arith) words
+        (all_right (λ (k : ℕ). k ≤ n) v.looked words (subst (λ (l : List ℕ). All (λ (k : ℕ). k ≤ n) l) met small)))
         low,
     counted,
+    only.2.1,
   )
 
   pub played_once : (v b : View T O R) (n : ℕ) (op : O) (reply : R) (w : View T O R) → n < 2 ^ 63 → IsSameBut (looked_at n v) b → PlaysLooking [] step_of is_open b op reply w → n + 2 ≡ 2 * length w.seen → PlaysOnce step_of is_open v op reply w

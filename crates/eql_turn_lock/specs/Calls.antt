@@ -7,6 +7,7 @@ use Rattle.eql_turn_lock.specs.declared.refused.NotNow.{NotNow}
 use Rattle.eql_turn_lock.specs.declared.refused.NotNow.TheVariants.{Busy, Worn}
 use Rattle.eql_turn_lock.specs.History.{StartsWith, entry, calls_by, OthersOpen, IsLegal}
 use Rattle.eql_turn_lock.specs.Passes.{EndedIn, HasEnded, AreDistinct, KnowsHistory}
+use Rattle.eql_turn_lock.specs.Tries.{LostTry, IsLost, words_of}
 
 module _ {T O R : Type 0} where
   -- The operation is open, or the pass is the first one and the operation is allowed in every state to which what it has seen can lead.
@@ -24,9 +25,9 @@ module _ {T O R : Type 0} where
     pub same : (w.number ≡ v.number) × (w.opening ≡ v.opening) × (w.made ≡ v.made) × (w.ended ≡ v.ended)
     pub looked_is : w.looked ≡ v.looked ++ looked
 
-  -- The call was answered. The last word that it met is twice the length of the history that it came after, and none is worn.
+  -- The call was answered, after tries that took no turn. The last word that it loaded is twice the length of the history that it came after, and no word that it met is worn.
   abbrev pub Plays : (T → O → R → T → Type 0) → (O → Bool) → View T O R → O → R → View T O R → Type 0
-  Plays step_of is_open v op reply w = (before : List ℕ) × (word : ℕ) × PlaysLooking (before ++ word ∷ []) step_of is_open v op reply w × All (λ n. n < 2 ^ 63) (before ++ word ∷ []) × (word + 2 ≡ 2 * length w.seen)
+  Plays step_of is_open v op reply w = (tries : List LostTry) × (word : ℕ) × PlaysLooking (words_of tries ++ word ∷ []) step_of is_open v op reply w × All (λ n. n < 2 ^ 63) (words_of tries ++ word ∷ []) × (word + 2 ≡ 2 * length w.seen) × All IsLost tries
 
   -- the call was answered at its one try
   abbrev pub PlaysOnce : (T → O → R → T → Type 0) → (O → Bool) → View T O R → O → R → View T O R → Type 0
@@ -49,10 +50,10 @@ module _ {T O R : Type 0} where
   Refuses v op (Busy word back) w = (back ≡ op) × IsUnplayed v w × (MetHeld v word w ⊎ MetMoved v word w)
   Refuses v op (Worn word back) w = (back ≡ op) × IsUnplayed v w × (2 ^ 63 ≤ word) × (w.looked ≡ v.looked ++ word ∷ [])
 
-  -- As many tries as are needed: the call is never refused but for a worn word, which it met last.
+  -- As many tries as are needed: the call is never refused but for a worn word. It loaded this word last, after tries that took no turn, and none of these loaded a worn one.
   abbrev pub RefusesWorn : View T O R → O → NotNow O → View T O R → Type 0
   RefusesWorn v op (Busy word back) w = ⊥
-  RefusesWorn v op (Worn word back) w = (back ≡ op) × IsUnplayed v w × (2 ^ 63 ≤ word) × ((before : List ℕ) × (w.looked ≡ (v.looked ++ before) ++ word ∷ []))
+  RefusesWorn v op (Worn word back) w = (back ≡ op) × IsUnplayed v w × (2 ^ 63 ≤ word) × ((tries : List LostTry) × All IsLost tries × (w.looked ≡ (v.looked ++ words_of tries) ++ word ∷ []))
 
   -- The value at the end of the one history, once all other passes were joined in.
   pub record Closes (step_of : T → O → R → T → Type 0) (is_open : O → Bool) (v : View T O R) (value : T) : Type 0 where

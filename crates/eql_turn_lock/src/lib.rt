@@ -8,6 +8,7 @@
 
 mod calls;
 mod history;
+mod laws;
 mod lock;
 mod refused;
 mod rule;
@@ -16,6 +17,7 @@ mod turned;
 mod view;
 
 pub use history::Entry;
+pub use laws::loads_are_told;
 pub use lock::{Pass, TurnLock};
 pub use refused::{Memory, NotNow};
 pub use turned::Turned;

@@ -7,7 +7,7 @@
 pub enum NotNow<O> {
     /// The turn is held, or was taken since the word was loaded.
     Busy { word: u64, op: O },
-    /// The word is at least 2^63, so the lock takes no further turn.
+    /// The word is at least 2^63, and the call loaded it: the lock takes no further turn.
     Worn { word: u64, op: O },
 }
 
