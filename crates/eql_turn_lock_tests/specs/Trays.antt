@@ -1,5 +1,5 @@
 -- What a tray of letters does, and what becomes of the letters that are delivered.
-use Rattle.std.specs.Prelude.{◌≡◌, ℕ, ◌<◌, ◌≤◌, Bool, true, false, List, [], ◌∷◌, ◌++◌, Some, None, ⊤}
+use Rattle.std.specs.Prelude.{◌≡◌, ℕ, ◌+◌, ◌<◌, ◌≤◌, Bool, true, false, List, [], ◌∷◌, ◌++◌, length, Some, None, ⊤}
 use Rattle.std.specs.Option.{option_to_list}
 use Rattle.std.specs.VecDeque.{deque_len, deque_capacity}
 use mathlib.Core.Path.{sym, subst}
@@ -71,3 +71,7 @@ taken (e ∷ es) = letters_out e.reply ++ taken es
 -- Every letter that the first pass delivered was taken out in the one history or is still in the tray, in order. So none is lost because someone held the turn.
 abbrev pub NothingLost : View Tray TrayOp TrayReply → Tray → Type 0
 NothingLost v tray = (log : List (Entry TrayOp TrayReply)) × (opening : Tray) × (v.opening ≡ Some opening) × StartsWith log v.seen × (opening.letters.items ++ delivered v.mine ≡ taken log ++ tray.letters.items)
+
+-- The tray has room for a letter more than the first pass delivered, once those are out that the other pass saw go out.
+abbrev pub SawRoom : View Tray TrayOp TrayReply → View Tray TrayOp TrayReply → Type 0
+SawRoom first other = (opening : Tray) → first.opening ≡ Some opening → length opening.letters.items + length (delivered first.mine) < deque_capacity opening.letters + length (taken other.seen)

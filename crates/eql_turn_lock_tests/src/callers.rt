@@ -1,8 +1,9 @@
 //! Callers of a tray under a lock.
 ghost use Rattle.std.specs.Prelude.{◌≡◌, [], MatchResult};
+ghost use Rattle.eql_turn_lock.specs.Passes.{joined_view};
 ghost use Rattle.eql_turn_lock.specs.Locks.{IsPassOf, view_of};
 ghost use Rattle.eql_turn_lock.specs.Calls.{MayPlay, Plays, PlaysOnce, Refuses, RefusesWorn};
-ghost use Rattle.eql_turn_lock_tests.specs.Trays.{tray_allows, tray_step, tray_open, NothingLost};
+ghost use Rattle.eql_turn_lock_tests.specs.Trays.{tray_allows, tray_step, tray_open, NothingLost, SawRoom};
 
 use crate::tray::{Tray, TrayOp, TrayReply};
 use eql_turn_lock::{NotNow, Pass, TurnLock};
@@ -53,6 +54,29 @@ pub fn deliver_waiting<R: Wait>(
         (λ refused. RefusesWorn (view_of pass.old) (TrayOp.Deliver letter) refused (view_of pass.new)) }
 {
     lock.call(rt, pass, TrayOp::Deliver { letter })
+}
+
+/// Joins the other pass in, and tries once to deliver a letter into the room that it saw.
+///
+/// The first pass may do so only after it took over what the other one had seen: by what it had
+/// seen itself, the tray may be full.
+pub fn deliver_after(
+    lock: &TurnLock<Tray>,
+    first: &mut Pass<Tray>,
+    other: Pass<Tray>,
+    letter: u32,
+) -> Result<TrayReply, NotNow<TrayOp>>
+    requires own { IsPassOf lock.now first.old × IsPassOf lock.now other }
+    requires first { (view_of first.old).number ≡ 0 }
+    requires room { SawRoom (view_of first.old) (view_of other) }
+    ensures own { IsPassOf lock.now first.new }
+    ensures played { MatchResult
+        result
+        (λ reply. PlaysOnce tray_step tray_open (joined_view (view_of first.old) (view_of other)) (TrayOp.Deliver letter) reply (view_of first.new))
+        (λ refused. Refuses (joined_view (view_of first.old) (view_of other)) (TrayOp.Deliver letter) refused (view_of first.new)) }
+{
+    lock.join(first, other);
+    lock.try_call(first, TrayOp::Deliver { letter })
 }
 
 /// Joins the other pass in and closes the lock. No letter was lost.

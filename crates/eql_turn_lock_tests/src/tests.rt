@@ -5,7 +5,8 @@ ghost use Rattle.eql_turn_lock_tests.specs.Trays.{IsSamePass};
 
 use crate::meeting::{Flag, sees};
 use crate::{
-    Meeting, MeetingOp, Tray, TrayOp, TrayReply, close_tray, deliver, deliver_waiting, take,
+    Meeting, MeetingOp, Tray, TrayOp, TrayReply, close_tray, deliver, deliver_after,
+    deliver_waiting, take,
 };
 use eql_turn_lock::{NotNow, Pass, TurnLock};
 use std::collections::VecDeque;
@@ -44,6 +45,36 @@ fn a_waiting_delivery_is_in(rt: HostRuntime) -> Result<(), Fail> {
     assert!(rt; matches!(&reply, Ok(TrayReply::Delivered)));
     let tray = lock.close(first);
     assert_eq!(rt; tray.letters.front(), Some(&9));
+    Ok(())
+}
+
+#[test]
+fn a_joined_pass_made_room(rt: HostRuntime) -> Result<(), Fail> {
+    let letters = VecDeque::with_capacity(rt.alloc(), 1).expect(&rt, "memory");
+    let made = TurnLock::make(rt.alloc(), Tray { letters });
+    let Ok((lock, mut first)) = made else {
+        panic!(rt; "no memory")
+    };
+    let mut other = lock.split(&mut first);
+    let Ok(_) = deliver(&lock, &mut first, 7) else {
+        panic!(rt; "no delivery")
+    };
+    let Ok(
+        TrayReply::Taken {
+            letter: Some(letter),
+        },
+    ) = take(&lock, &mut other)
+    else {
+        panic!(rt; "no letter")
+    };
+    assert_eq!(rt; letter, 7);
+    let Ok(reply) = deliver_after(&lock, &mut first, other, 8) else {
+        panic!(rt; "no second delivery")
+    };
+    assert!(rt; matches!(&reply, TrayReply::Delivered));
+    let tray = lock.close(first);
+    assert_eq!(rt; tray.letters.front(), Some(&8));
+    assert_eq!(rt; tray.letters.len(), 1);
     Ok(())
 }
 
