@@ -10,3 +10,6 @@ mod table;
 
 pub use auto::Auto;
 pub use steps::Steps;
+
+#[cfg(test)]
+mod tests;
