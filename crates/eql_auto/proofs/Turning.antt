@@ -1,5 +1,5 @@
 -- Emptying, moving on and beginning are one act on all slots.
-use Rattle.std.proofs.Common.{◌≡◌, ◌≢◌, ℕ, zero, suc, ◌<◌, ◌≤◌, ◌+◌, ◌-◌, ℤ, Bool, true, false, cond, List, [], ◌∷◌, ◌++◌, Option, Some, None, refl, sym, ap, ◌∙◌, arith, subst, length, set, get_or, map, inl, inr, IfSome}
+use Rattle.std.proofs.Common.{◌≡◌, ℕ, zero, suc, ◌<◌, ◌≤◌, ◌+◌, ℤ, Bool, true, false, cond, List, [], ◌∷◌, ◌++◌, Option, Some, None, refl, sym, ap, ◌∙◌, arith, subst, length, get_or, map, inl, inr, IfSome}
 use Rattle.std.specs.Prelude.{not, ◌||◌, ◌&&◌, ◌==◌, is_some}
 use Rattle.std.specs.Option.{option_map, option_or, option_to_list}
 use Rattle.std.proofs.lemmas.Bool.Decides.{nat_tests}
@@ -17,8 +17,8 @@ use Rattle.eql_values.specs.OrderKeys.{order_cmp, order_cmp_total}
 use Rattle.std.specs.declared.cmp.Ordering.TheVariants.{Less}
 use Rattle.eql_values.specs.Ordered.{found_or}
 use Rattle.eql_laws.specs.Slots.{Slots, moved, arrived, stepped}
-use Rattle.eql_laws.proofs.Stepping.{holder_step, chain_step}
-use Rattle.eql_auto.specs.Machine.{AllBefore, ComesAfter, Sequence, Machine, act_of, alive_in, arrived_at, chains_of, slot_at, slot_after, tags_of, went_on}
+use Rattle.eql_laws.specs.Steps.{SlotStep, ChainStep}
+use Rattle.eql_auto.specs.Machine.{AllBefore, ComesAfter, Sequence, act_of, alive_in, arrived_at, chains_of, slot_at, slot_after, tags_of, went_on}
 use Rattle.eql_auto.specs.Moves.{begun, chain_in, come, moved_to}
 use Rattle.eql_auto.proofs.Written.{get_or_any}
 
@@ -148,17 +148,17 @@ arrived_alike span s t act zero same = refl
 arrived_alike span s t act (suc zero) same = refl
 arrived_alike span s t act (suc (suc k)) same = ap (λ (o : Option (List OrderKey)). cond (fits_after (suc k) act && not act.until) (moved span o act) None) (same (suc k) (omega arith) (omega arith))
 
-pub slots_go_on : (span : Option ℤ) (opening s : Slots) (act : Act) (past : List Act) (k : ℕ) → 1 ≤ k → ((j : ℕ) → 1 ≤ j → j < suc k → s j ≡ holder span opening j past)
+pub slots_go_on : SlotStep → (span : Option ℤ) (opening s : Slots) (act : Act) (past : List Act) (k : ℕ) → 1 ≤ k → ((j : ℕ) → 1 ≤ j → j < suc k → s j ≡ holder span opening j past)
     → stepped span s act k ≡ holder span opening k (act ∷ past)
-slots_go_on span opening s act past k low same =
+slots_go_on law span opening s act past k low same =
     (λ i. found_or (arrived_alike span s (λ j. holder span opening j past) act k (λ j from below. same j from (omega arith)) i)
     (cond (fits_after k act || act.until) None (same k low (omega arith) i)))
-    ∙ sym (holder_step span opening k act past)
+    ∙ sym (law span opening k act past)
 
-pub answer_goes_on : (span : Option ℤ) (opening s : Slots) (act : Act) (past : List Act) (m : ℕ) → ((j : ℕ) → 1 ≤ j → j < m → s j ≡ holder span opening j past)
+pub answer_goes_on : ChainStep → (span : Option ℤ) (opening s : Slots) (act : Act) (past : List Act) (m : ℕ) → ((j : ℕ) → 1 ≤ j → j < m → s j ≡ holder span opening j past)
     → arrived span s act m ≡ chain span opening m (act ∷ past)
-answer_goes_on span opening s act past m same =
-    arrived_alike span s (λ j. holder span opening j past) act m same ∙ sym (chain_step span opening m act past)
+answer_goes_on law span opening s act past m same =
+    arrived_alike span s (λ j. holder span opening j past) act m same ∙ sym (law span opening m act past)
 
 -- there are at most as many tags as slots
 pub few_tags : {T : Type 0} (slots : List (Option (Sequence T))) → length (tags_of slots) ≤ length slots

@@ -12,6 +12,7 @@ ghost use Rattle.eql_auto.specs.Machine.{ComesAfter, IsAfterTurn, act_of, alive_
 use crate::moves::{advance_all, begin_new, empty_at_end, empty_stale};
 use crate::steps::Steps;
 use crate::table::SlotTable;
+use eql_laws::{chain_step, slot_step};
 use eql_values::{Chain, Mask, Memory, OrderKey, StageChains};
 use std::alloc::Global;
 use std::marker::Model;
@@ -101,6 +102,8 @@ impl<T: Copy> Auto<T> {
         ensures ready { self.new.is_ready ≡ not (has_after 0 mask) }
         ensures probes { steps.new ≤ steps.old + stages_in mask (stages self.old) + (if until then length self.old.slots else 0) }
     {
+        slot_step();
+        chain_step();
         empty_at_end(&mut self.table, &mut self.gone, until, steps);
         let completed = advance_all(
             &mut self.table,

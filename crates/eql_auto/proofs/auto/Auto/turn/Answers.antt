@@ -1,12 +1,11 @@
-use Rattle.std.proofs.Common.{◌≡◌, ◌<◌, ◌≤◌, ◌+◌, ◌++◌, ◌∷◌, [], ℕ, suc, cond, None, zero-add, length, List, Option, get_or, map, ap, ◌∙◌, sym, subst, arith, IfSome}
+use Rattle.std.proofs.Common.{◌≡◌, ◌<◌, ◌≤◌, ◌+◌, ◌++◌, ◌∷◌, [], ℕ, suc, cond, None, zero-add, length, List, Option, get_or, ap, ◌∙◌, sym, subst, arith, IfSome}
 use Rattle.std.specs.Prelude.{is_some, ◌==◌}
 use Rattle.std.specs.List.{All}
 use Rattle.std.specs.List.Sorted.{IsPermutation}
 use Rattle.std.specs.Option.{option_map, option_to_list}
-use Rattle.eql_values.specs.declared.order.OrderKey.{OrderKey}
 use Rattle.eql_values.specs.Chains.{holder}
 use Rattle.eql_values.specs.Masks.{has_after}
-use Rattle.eql_laws.specs.Slots.{stepped, arrived}
+use Rattle.eql_laws.specs.Slots.{arrived}
 use Rattle.eql_auto.specs.Kept.{IsRoom}
 use Rattle.eql_auto.specs.Machine.{Machine, Sequence, ComesAfter, act_of, chains_of, slot_at, slot_after, stages, stages_in, tags_of}
 use Rattle.eql_auto.specs.Moves.{chain_in, come}
@@ -100,9 +99,9 @@ returns-clause-after g c = λ opening past holds.
     let act = act_of c.args.order c.args.mask c.args.until in
     let len = returns-clause-stages g c in (
       λ k low high. returns-clause-slots g c k low (omega arith)
-          ∙ slots_go_on c.args.self.now.span opening (chains_of c.args.self.now.slots) act past k low (λ j from below. holds j from (omega arith))
+          ∙ slots_go_on c.slot_step.ensures c.args.self.now.span opening (chains_of c.args.self.now.slots) act past k low (λ j from below. holds j from (omega arith))
           ∙ ap (λ (a : Machine g.row.T.Denot). holder a.span opening k (act ∷ past)) (sym c.self.view_is),
-      returns-clause-answer g c ∙ answer_goes_on c.args.self.now.span opening (chains_of c.args.self.now.slots) act past (stages c.args.self.now) holds,
+      returns-clause-answer g c ∙ answer_goes_on c.chain_step.ensures c.args.self.now.span opening (chains_of c.args.self.now.slots) act past (stages c.args.self.now) holds,
     )
 
 pub returns-clause-gone : goal.returns-clause-gone
