@@ -1,5 +1,5 @@
 -- A list of which each element is changed in turn.
-use Rattle.std.proofs.Common.{◌≡◌, ◌<◌, ◌+◌, ◌-◌, ℕ, zero, suc, List, [], ◌∷◌, length, set, get_or, map, refl, ap, ◌∙◌, sym, arith}
+use Rattle.std.proofs.Common.{◌≡◌, ◌<◌, ◌+◌, ℕ, zero, suc, List, [], ◌∷◌, length, set, get_or, map, refl, ap, ◌∙◌, sym, arith}
 
 module _ {X : Type 0} (f : X → X) (d : X) where
   -- the list with its first n elements changed

@@ -1,16 +1,15 @@
 -- What writing a slot does to what a table shows, and to its tags.
-use Rattle.std.proofs.Common.{◌≡◌, ◌≢◌, ◌<◌, ◌≤◌, ◌+◌, ◌-◌, ℕ, zero, suc, ℤ, Bool, true, false, cond, List, [], ◌∷◌, ◌++◌, length, set, get_or, Option, Some, None, map, replicate, refl, sym, ap, ◌∙◌, arith, subst, IfSome, inl, inr, vec_len, vec_capacity}
-use Rattle.std.specs.Prelude.{◌==◌, nat_lt, ◌&&◌, slice_index_or, slice_set, MatchBool}
+use Rattle.std.proofs.Common.{◌≡◌, ◌≢◌, ◌<◌, ◌+◌, ℕ, zero, suc, ℤ, Bool, true, false, cond, List, [], ◌∷◌, ◌++◌, length, set, get_or, Option, Some, None, replicate, refl, sym, ap, ◌∙◌, arith, subst, IfSome, inl, inr}
+use Rattle.std.specs.Prelude.{◌==◌, ◌&&◌, MatchBool}
 use Rattle.std.specs.Option.{option_map, option_to_list}
-use Rattle.std.specs.List.{All, filter_map, cons_option}
+use Rattle.std.specs.List.{cons_option}
 use Rattle.std.specs.List.Sorted.{IsPermutation}
 use Rattle.std.specs.Ordering.{is_lt}
 use Rattle.std.specs.declared.cmp.Ordering.TheVariants.{Less}
 use Rattle.std.proofs.lemmas.Bool.{cases_order, cases_lt}
-use Rattle.std.proofs.lemmas.Bool.Decides.{nat_tests}
-use Rattle.std.proofs.lemmas.List.{map-set, set-set, set-get_or, get_or-set_same, get_or-set_other, length-set, length-map, set_past, append-nil, append_assoc}
+use Rattle.std.proofs.lemmas.List.{map-set, set-get_or, get_or-set_same, get_or-set_other, length-set, length-map, set_past, append_assoc}
 use Rattle.std.proofs.lemmas.List.Elements.{filter_map-append}
-use Rattle.std.proofs.lemmas.List.Sorted.{IsPermutation-refl, IsPermutation-sym, IsPermutation-trans, IsPermutation-append_right, IsPermutation-append_left, IsPermutation-append_comm, length_permutation}
+use Rattle.std.proofs.lemmas.List.Sorted.{IsPermutation-trans, IsPermutation-append_right, IsPermutation-append_left, IsPermutation-append_comm}
 use Rattle.std.proofs.Math.ListN.{get_or-map}
 use Rattle.eql_values.specs.declared.order.OrderKey.{OrderKey}
 use Rattle.eql_values.specs.Chains.{in_time}
@@ -19,7 +18,7 @@ use Rattle.eql_values.specs.OrderKeys.{order_cmp, before_all, events_ascend, Eve
 use Rattle.eql_values.specs.Ordered.{found_or}
 use Rattle.eql_auto.specs.declared.table.Pending.{Pending}
 use Rattle.eql_auto.specs.declared.table.Which.{Which}
-use Rattle.eql_auto.specs.Machine.{Sequence, AllBefore, ComesAfter, tags_of, went_on, alive_in, chains_of, chains_to, stage_chains, slot_at}
+use Rattle.eql_auto.specs.Machine.{Sequence, AllBefore, ComesAfter, tags_of, went_on, chains_of, chains_to}
 use Rattle.eql_auto.specs.Moves.{chain_in, emptied}
 use Rattle.eql_auto.specs.Kept.{IsKept, seen, shown, AreKept}
 

@@ -1,4 +1,4 @@
-use Rattle.std.proofs.Common.{◌≡◌, ◌≤◌, ◌+◌, ◌++◌, ℕ, suc, length, None, vec_len, vec_capacity}
+use Rattle.std.proofs.Common.{◌≡◌, ◌≤◌, ◌+◌, ◌++◌, ℕ, suc, length, vec_len, vec_capacity}
 use Rattle.std.specs.List.Sorted.{IsPermutation}
 use Rattle.eql_auto.specs.Machine.{tags_of, slot_at, stages_in}
 use Rattle.eql_auto.proofs.Moving.{partly, completed_from}

@@ -1,4 +1,4 @@
-use Rattle.std.proofs.Common.{◌++◌, ◌∷◌, Option, List, sym, subst, IsPermutation}
+use Rattle.std.proofs.Common.{◌++◌, ◌∷◌, Option, sym, subst, IsPermutation}
 use Rattle.std.proofs.lemmas.List.Sorted.{IsPermutation-middle}
 use Rattle.std.specs.Option.{option_to_list}
 use Rattle.eql_auto.specs.Machine.{tags_of}

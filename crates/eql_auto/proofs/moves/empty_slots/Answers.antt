@@ -1,8 +1,8 @@
-use Rattle.std.proofs.Common.{◌≡◌, ◌+◌, ◌-◌, ◌<◌, ◌≤◌, length, None, ap, ◌∙◌, sym, arith}
+use Rattle.std.proofs.Common.{◌+◌, ◌-◌, length, None, ap, ◌∙◌, arith}
 use Rattle.std.specs.Option.{option_to_list}
 use Rattle.eql_auto.specs.Machine.{tags_of}
 use Rattle.eql_auto.specs.Moves.{emptied}
-use Rattle.eql_auto.proofs.Sweeping.{swept, length-swept, swept_one, swept_all}
+use Rattle.eql_auto.proofs.Sweeping.{length-swept, swept_one, swept_all}
 use Rattle.eql_auto.proofs.Tags.{goes_over, as_many}
 use Rattle.eql_auto.proofs.moves.empty_slots.Goals as goal
 

@@ -1,6 +1,5 @@
-use Rattle.std.proofs.Common.{Some, None, ap, ◌∙◌, sym, arith, length, ◌<◌, ◌≡◌, ◌+◌, ◌-◌}
+use Rattle.std.proofs.Common.{◌∙◌, sym, arith, ◌-◌}
 use Rattle.std.proofs.lemmas.List.Sorted.{IsPermutation-trans}
-use Rattle.eql_auto.specs.Kept.{shown}
 use Rattle.eql_auto.proofs.Written.{shown_length, taken_tags, dropped, carried, carried_out, goes_in_order, kept_at}
 use Rattle.eql_auto.proofs.table.SlotTable.advance.Goals as goal
 

@@ -1,4 +1,4 @@
-use Rattle.std.proofs.Common.{Some, None, ap, ◌∙◌, sym, arith, length, ◌<◌, ◌≡◌, ◌+◌, ◌-◌}
+use Rattle.std.proofs.Common.{None, ◌∙◌, arith, ◌-◌}
 use Rattle.eql_auto.proofs.Written.{shown_length, tags_written, emptied_out, get_or_any}
 use Rattle.eql_auto.proofs.table.SlotTable.empty.Goals as goal
 

@@ -1,4 +1,4 @@
-use Rattle.std.proofs.Common.{ap, ◌∙◌, sym, arith, length, get_or, List, Option, None, ◌<◌, ◌≤◌, ◌≡◌, ◌+◌, ◌++◌, ℕ, refl}
+use Rattle.std.proofs.Common.{ap, ◌∙◌, arith, length, get_or, List, None, ◌≡◌, ◌+◌, ◌++◌, ℕ, refl}
 use Rattle.std.specs.Option.{option_map, option_to_list}
 use Rattle.eql_values.specs.declared.order.OrderKey.{OrderKey}
 use Rattle.eql_auto.specs.Machine.{chains_to}

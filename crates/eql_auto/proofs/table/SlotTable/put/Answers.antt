@@ -1,4 +1,4 @@
-use Rattle.std.proofs.Common.{Some, None, ap, ◌∙◌, sym, arith, length, ◌<◌, ◌≡◌, ◌+◌, ◌-◌}
+use Rattle.std.proofs.Common.{◌∙◌, arith, ◌-◌}
 use Rattle.eql_auto.proofs.Written.{shown_length, wrote, wrote_tags}
 use Rattle.eql_auto.proofs.table.SlotTable.put.Goals as goal
 

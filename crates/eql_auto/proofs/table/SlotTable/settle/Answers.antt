@@ -1,4 +1,4 @@
-use Rattle.std.proofs.Common.{Some, ap, ◌∙◌, arith, length, ◌<◌}
+use Rattle.std.proofs.Common.{Some, ap, ◌∙◌, arith}
 use Rattle.eql_auto.specs.Kept.{shown}
 use Rattle.eql_auto.proofs.Written.{shown_set, shown_length, tags_written}
 use Rattle.eql_auto.proofs.table.SlotTable.settle.Goals as goal
