@@ -5,6 +5,8 @@
 #[cfg(test)]
 mod first_path;
 #[cfg(test)]
+mod machine;
+#[cfg(test)]
 mod run;
 #[cfg(test)]
 mod values;
