@@ -1,0 +1,16 @@
+mod Rows
+mod Turned
+mod Naming
+mod Differing
+mod Tagging
+mod Leaving
+mod Linking
+mod Stepped
+mod Onward
+mod Routing
+mod Playing
+mod Held
+mod Taken
+mod Joining
+mod Expiring
+mod Putting

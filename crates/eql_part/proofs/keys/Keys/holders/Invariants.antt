@@ -1,0 +1,6 @@
+use Rattle.std.proofs.Common.{◌≡◌, ◌++◌}
+use Rattle.eql_part.specs.KeyTables.{holders_in}
+use Rattle.eql_part.proofs.keys.Keys.holders.Given as goal
+
+abbrev pub invariant-loop-key : goal.invariant-loop-key
+invariant-loop-key l = l.found.items ++ holders_in l.key-iterator ≡ l.self.holders

@@ -1,0 +1,4 @@
+pub mod KeyTables
+pub mod Links
+pub mod Routed
+pub mod Kept

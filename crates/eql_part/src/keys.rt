@@ -1,0 +1,148 @@
+//! The pending sequences of all keys: a machine for each key, and a list of first timestamps.
+ghost use Rattle.std.specs.Prelude.{◌≡◌, ◌+◌, ◌-◌, ◌*◌, ◌≤◌, [], ◌∷◌, ◌++◌, All, IfOk, OnErr, length};
+ghost use Rattle.eql_values.specs.Matching.{after, matches};
+ghost use Rattle.eql_laws.specs.Alive.{HoldersInOrder, alive_holders};
+ghost use Rattle.eql_laws.specs.Shapes.{FirstsFall, HasStageBefore, IsFull};
+ghost use Rattle.eql_part.specs.KeyTables.{ComesAfterAll, holders_of, probes_of_all};
+
+use crate::listing::Start;
+use crate::machine::KeyMachine;
+use crate::puts::{put_all, sort_by_start};
+use crate::rooms::Shape;
+use crate::routes::{keys_ascend, play};
+use crate::sweeps::sweep_all;
+use eql_auto::Steps;
+use eql_laws::{
+    after_in_order, after_looks_up, dead_by_slot, one_more_event, opening_finds, same_holders,
+};
+use eql_span_list::SpanList;
+use eql_values::{Holder, Holders, Item, Key, Matches, Memory};
+use std::alloc::Global;
+use std::collections::BTreeMap;
+use std::marker::Model;
+use std::sync::ledger::Ledger;
+
+/// The pending sequences of all keys.
+///
+/// Contracts see it as the number of its stages, its span in nanoseconds, and its pending sequences by key and stage.
+#[derive(Drop)]
+pub struct Keys {
+    shape: Shape,
+    machines: BTreeMap<Key, KeyMachine>,
+    list: SpanList<Start>,
+}
+
+impl Model for Keys {
+    ghost use Rattle.eql_part.specs.KeyTables.{Pendings, holders_in};
+    ghost use Rattle.eql_part.specs.Kept.{IsKept};
+
+    ghost Value = { Pendings };
+
+    ghost view = { λ k. record { stages = k.shape.stages; span = k.shape.span; holders = holders_in k.machines.entries } };
+
+    ghost invariant = { λ k. IsKept k.shape.stages k.shape.span k.machines k.list };
+}
+
+impl Keys {
+    /// The sequences of 1 to 256 stages that are pending at the start. The span is in nanoseconds.
+    pub fn new(alloc: Global, m: u32, span: Option<i128>, holders: Holders) -> Result<Keys, Memory>
+        requires from { 1 ≤ m }
+        requires to { m ≤ 256 }
+        requires order { HoldersInOrder holders }
+        requires stages { All (HasStageBefore m) holders }
+        requires full { All IsFull holders }
+        requires falls { FirstsFall holders }
+        ensures { IfOk result (λ keys. keys ≡ record { stages = m; span = span; holders = holders }) }
+    {
+        opening_finds();
+        same_holders();
+        let shape = Shape {
+            alloc,
+            stages: m,
+            span,
+        };
+        let mut machines = BTreeMap::new(alloc);
+        let mut list = SpanList::new(alloc);
+        let mut holders = holders.into_items();
+        sort_by_start(&mut holders)?;
+        put_all(&mut machines, &mut list, shape, holders)?;
+        Ok(Keys {
+            shape,
+            machines,
+            list,
+        })
+    }
+
+    /// Plays an event that comes after all events of the pending sequences, and answers the matches that it completes, in
+    /// the order of its routes. After want of memory nothing has changed.
+    pub fn take<L: Ledger>(&mut self, item: &Item, steps: &mut Steps<L>) -> Result<Matches, Memory>
+        requires later { ComesAfterAll item.now.order self.old.holders }
+        ensures holders { IfOk result (λ _. self.new ≡ record self.old { holders = after self.old.stages self.old.span self.old.holders (item.now ∷ []) }) }
+        ensures matches { IfOk result (λ found. found ≡ matches self.old.stages self.old.span self.old.holders (item.now ∷ [])) }
+        ensures unchanged { OnErr result (self.new ≡ self.old) }
+        ensures probes { steps.new ≤ steps.old + probes_of_all self.old.stages item.now.routes }
+    {
+        one_more_event();
+        after_looks_up();
+        after_in_order();
+        same_holders();
+        let routes = item.routes.items();
+        // The type `Routes` has them ascend; the test says so here.
+        if !keys_ascend(routes) {
+            return Err(Memory);
+        }
+        let mut found = Vec::with_capacity(self.shape.alloc, routes.len())?;
+        play(
+            &mut self.machines,
+            &mut self.list,
+            self.shape,
+            item.order,
+            routes,
+            &mut found,
+            steps,
+        )?;
+        Ok(Matches::of(found))
+    }
+
+    /// Drops the pending sequences that are no longer alive at `reach`: those whose first timestamp plus the span is below
+    /// it, in nanoseconds, and none where there is no span. It takes no memory, and looks at those of the earliest first
+    /// events alone.
+    pub fn sweep<L: Ledger>(&mut self, reach: i128, steps: &mut Steps<L>)
+        ensures holders { self.new ≡ record self.old { holders = alive_holders self.old.span reach self.old.holders } }
+        ensures probes { steps.new ≤ steps.old + (self.old.stages - 1) * (length self.old.holders - length self.new.holders) }
+    {
+        after_in_order();
+        dead_by_slot();
+        same_holders();
+        sweep_all(&mut self.machines, &mut self.list, self.shape, reach, steps);
+    }
+
+    /// The pending sequences, by key and stage.
+    pub fn holders(&self) -> Result<Holders, Memory>
+        ensures holders { IfOk result (λ found. found ≡ self.now.holders) }
+        ensures order { IfOk result (λ found. HoldersInOrder found) }
+    {
+        let mut found = Vec::new(self.shape.alloc);
+        for (key, machine) in &self.machines {
+            add_holders(self.shape.alloc, &mut found, key, machine)?;
+        }
+        Ok(Holders::of(found))
+    }
+}
+
+/// Adds copies of the pending sequences of a machine, by stage.
+fn add_holders(
+    alloc: Global,
+    found: &mut Vec<Holder>,
+    key: &Key,
+    machine: &KeyMachine,
+) -> Result<(), Memory>
+    ensures { IfOk result (λ _. found.new.items ≡ found.old.items ++ holders_of (key.now, machine.now)) }
+{
+    let chains = machine.holders(alloc)?;
+    for (stage, chain) in chains.into_items() {
+        let key = key.clone()?;
+        found.push(Holder { key, stage, chain })?;
+    }
+    Ok(())
+}

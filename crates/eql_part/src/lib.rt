@@ -1,0 +1,17 @@
+//! The conductor's parts: the pending sequences of all keys of a part, and what an event does to them.
+#![tactic(auto)]
+
+mod keys;
+mod listing;
+mod machine;
+mod prepared;
+mod puts;
+mod rooms;
+mod routes;
+mod sweeps;
+mod turns;
+
+pub use keys::Keys;
+
+#[cfg(test)]
+mod tests;

@@ -1,0 +1,142 @@
+//! The machine of one key, whose sequences are on the list of first timestamps by their tags.
+ghost use Rattle.std.specs.Prelude.{◌≡◌, ℕ, ◌+◌, ◌-◌, ◌<◌, ◌≤◌, ◌++◌, ◌∷◌, [], All, IfOk, OnErr, IsTrue, None, Some, is_some, length, map, replicate, slice_set, IsPermutation, MatchOption, true, false};
+ghost use Rattle.std.specs.Option.{option_to_list};
+ghost use Rattle.eql_values.specs.Masks.{has_after};
+ghost use Rattle.eql_values.specs.Matching.{act_by};
+ghost use Rattle.eql_laws.specs.Slots.{arrived, stepped};
+ghost use Rattle.eql_auto.specs.Machine.{ComesAfter, alive_in, chains_of, slot_after, slot_at, stage_chains, stages, tags_of};
+ghost use Rattle.eql_span_list.specs.Entries.{HasTicket};
+ghost use Rattle.eql_part.specs.KeyTables.{probes_of};
+ghost use Rattle.eql_part.specs.Links.{Differ, IsOneOf, LeaveList};
+
+use crate::listing::{Start, TakenOff, take_off};
+use eql_auto::{Auto, Steps};
+use eql_span_list::{SpanList, Ticket};
+use eql_values::{Chain, Memory, OrderKey, Route, StageChains};
+use std::alloc::Global;
+use std::marker::Model;
+use std::sync::ledger::Ledger;
+
+/// The machine of one key, with the number of its pending sequences. The tag of each is its ticket.
+#[derive(Drop)]
+pub(crate) struct KeyMachine {
+    auto: Auto<Ticket>,
+    pending: u32,
+}
+
+impl Model for KeyMachine {
+    ghost use Rattle.std.specs.Prelude.{◌≡◌, length};
+    ghost use Rattle.eql_auto.specs.Machine.{Machine, tags_of};
+    ghost use Rattle.eql_span_list.specs.declared.node.Ticket.{Ticket};
+
+    ghost Value = { Machine Ticket };
+
+    ghost view = { λ k. k.auto };
+
+    ghost invariant = { λ k. k.pending ≡ length (tags_of k.auto.slots) };
+}
+
+impl KeyMachine {
+    /// A machine of 1 to 256 stages with no pending sequence. The span is in nanoseconds.
+    pub fn new(alloc: Global, m: u32, span: Option<i128>) -> Result<KeyMachine, Memory>
+        requires from { 1 ≤ m }
+        requires to { m ≤ 256 }
+        ensures { IfOk result (λ a. a ≡ record { span = span; slots = replicate (m - 1) None; gone = []; is_ready = false }) }
+    {
+        let auto = Auto::new(alloc, m, span)?;
+        Ok(KeyMachine { auto, pending: 0 })
+    }
+
+    /// Takes the room for one more chain. After want of memory nothing has changed.
+    pub fn ready(&mut self, alloc: Global) -> Result<(), Memory>
+        ensures ok { IfOk result (λ _. self.new ≡ record self.old { is_ready = true }) }
+        ensures err { OnErr result (self.new ≡ self.old) }
+    {
+        self.auto.ready(alloc)
+    }
+
+    /// Whether no sequence is pending.
+    pub fn is_empty(&self) -> bool
+        ensures { IsTrue result → tags_of self.now.slots ≡ [] }
+    {
+        self.pending == 0
+    }
+
+    /// Plays what an event says to the key, in the room taken before, and takes the sequences that ceased off the list.
+    pub fn turn<L: Ledger>(
+        &mut self,
+        list: &mut SpanList<Start>,
+        order: OrderKey,
+        route: &Route,
+        tag: Option<Ticket>,
+        steps: &mut Steps<L>,
+    ) -> Option<Chain>
+        requires ready { IsTrue self.old.is_ready }
+        requires read { self.old.gone ≡ [] }
+        requires few { stages self.old ≤ 256 }
+        requires later { All (ComesAfter order) self.old.slots }
+        requires tagged { is_some tag ≡ has_after 0 route.now.mask }
+        requires listed { All (HasTicket list.old) (option_to_list tag ++ tags_of self.old.slots) }
+        requires apart { Differ (option_to_list tag ++ tags_of self.old.slots) }
+        ensures span { self.new.span ≡ self.old.span }
+        ensures stages { length self.new.slots ≡ length self.old.slots }
+        ensures read { self.new.gone ≡ [] }
+        ensures sequences { (k : ℕ) → 1 ≤ k → k < stages self.old → slot_at self.new.slots k ≡ slot_after self.old.span tag (act_by order route.now) self.old.slots k }
+        ensures slots { (k : ℕ) → 1 ≤ k → k < stages self.old → chains_of self.new.slots k ≡ stepped self.old.span (chains_of self.old.slots) (act_by order route.now) k }
+        ensures answer { result ≡ arrived self.old.span (chains_of self.old.slots) (act_by order route.now) (stages self.old) }
+        ensures list { LeaveList (option_to_list tag ++ tags_of self.old.slots) (tags_of self.new.slots) list.old list.new }
+        ensures probes { steps.new ≤ steps.old + probes_of (stages self.old) route.now }
+    {
+        let completed = self.auto.turn(order, route.mask, route.until, tag, steps);
+        let taken = take_off(&mut self.auto, list);
+        self.pending = self.pending + u32::from(tag.is_some()) - taken.count;
+        completed
+    }
+
+    /// Drops the sequences whose first timestamp plus the span is below `reach`, in nanoseconds, and takes them off the
+    /// list. It answers what the list had of one of them, if any.
+    pub fn expire<L: Ledger>(
+        &mut self,
+        list: &mut SpanList<Start>,
+        reach: i128,
+        steps: &mut Steps<L>,
+    ) -> Option<Start>
+        requires read { self.old.gone ≡ [] }
+        requires few { stages self.old ≤ 256 }
+        requires listed { All (HasTicket list.old) (tags_of self.old.slots) }
+        requires apart { Differ (tags_of self.old.slots) }
+        ensures span { self.new.span ≡ self.old.span }
+        ensures read { self.new.gone ≡ [] }
+        ensures slots { self.new.slots ≡ map (alive_in self.old.span reach) self.old.slots }
+        ensures list { LeaveList (tags_of self.old.slots) (tags_of self.new.slots) list.old list.new }
+        ensures answer { MatchOption result (length (tags_of self.new.slots) ≡ length (tags_of self.old.slots)) (λ start. IsOneOf (tags_of self.old.slots) list.old start) }
+        ensures probes { steps.new ≤ steps.old + length self.old.slots }
+    {
+        self.auto.expire(reach, steps);
+        let taken = take_off(&mut self.auto, list);
+        self.pending -= taken.count;
+        taken.last
+    }
+
+    /// Puts a pending sequence into the empty slot of its stage, in the room taken before.
+    pub fn put(&mut self, stage: u32, chain: Chain, ticket: Ticket)
+        requires ready { IsTrue self.old.is_ready }
+        requires few { stages self.old ≤ 256 }
+        requires from { 1 ≤ stage }
+        requires to { stage < stages self.old }
+        requires empty { slot_at self.old.slots stage ≡ None }
+        requires full { length chain ≡ stage }
+        ensures holders { self.new ≡ record self.old { slots = slice_set self.old.slots (stage - 1) (Some (chain, ticket)); is_ready = false } }
+        ensures tags { IsPermutation (tags_of self.new.slots) (ticket ∷ tags_of self.old.slots) }
+    {
+        self.auto.put_holder(stage, chain, ticket);
+        self.pending += 1;
+    }
+
+    /// The pending sequences with their stages, by stage.
+    pub fn holders(&self, alloc: Global) -> Result<StageChains, Memory>
+        ensures { IfOk result (λ found. found ≡ stage_chains self.now.slots) }
+    {
+        self.auto.holders(alloc)
+    }
+}

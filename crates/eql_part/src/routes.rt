@@ -1,0 +1,127 @@
+//! An event played to all keys that it has a route of.
+ghost use Rattle.std.specs.Prelude.{◌≡◌, ℕ, suc, ◌+◌, ◌<◌, ◌≤◌, ◌++◌, [], List, IfSome, IsSome, IsTrue, OnErr, OnOk, length, vec_len, vec_capacity, find};
+ghost use Rattle.std.specs.BTreeMap.{IsOrdered};
+ghost use Rattle.std.specs.List.{filter_map};
+ghost use Rattle.std.specs.Option.{option_map, option_to_list};
+ghost use Rattle.eql_values.specs.declared.item.Route.{Route};
+ghost use Rattle.eql_values.specs.declared.value.Value.{Value};
+ghost use Rattle.eql_values.specs.Orders.{key_cmp, key_eq};
+ghost use Rattle.eql_laws.specs.OneEvent.{turned};
+ghost use Rattle.eql_part.specs.KeyTables.{AreOf, AreReadyFor, IsLaterAt, KeepsSequences, probes_of_all, sequences_in, slots_in};
+ghost use Rattle.eql_part.specs.Links.{IsLinked};
+ghost use Rattle.eql_part.specs.Routed.{ArePrepared, KeysAscend, all_begun, match_there};
+
+use crate::listing::{Start, tickets_differ};
+use crate::machine::KeyMachine;
+use crate::prepared::{Prepared, drop_all_empty, prepare_all, push_in_room};
+use crate::rooms::Shape;
+use crate::turns::turn_key;
+use eql_auto::Steps;
+use eql_span_list::SpanList;
+use eql_values::{Chain, Key, Match, Memory, OrderKey, Route};
+use std::collections::BTreeMap;
+use std::sync::ledger::Ledger;
+
+/// Whether the keys of routes ascend strictly.
+pub(crate) fn keys_ascend(routes: &Vec<Route>) -> bool
+    ensures { IsTrue result → KeysAscend routes.now.items }
+{
+    for place in 1..routes.len() {
+        if !routes[place - 1].key.cmp(&routes[place].key).is_lt() {
+            return false;
+        }
+    }
+    true
+}
+
+/// Adds the match of a key that has its event for the last stage, where there is one, in the room taken before.
+fn add_match(found: &mut Vec<Match>, key: Option<Key>, completed: Option<Chain>)
+    requires keyed { IfSome completed (λ _. IsSome key) }
+    requires room { vec_len found.old < vec_capacity found.old }
+    ensures items { (q : List Value) → IfSome key (λ k. k ≡ q) → found.new.items ≡ found.old.items ++ option_to_list (option_map (λ c. record { key = q; chain = c }) completed) }
+    ensures len { vec_len found.new ≤ vec_len found.old + 1 }
+    ensures room { vec_capacity found.old ≤ vec_capacity found.new }
+{
+    if let (Some(key), Some(chain)) = (key, completed) {
+        push_in_room(found, Match { key, chain });
+    }
+}
+
+/// Plays an event to the keys of its routes, in the room taken before, and adds the matches that it completes.
+pub(crate) fn turn_all<L: Ledger>(
+    machines: &mut BTreeMap<Key, KeyMachine>,
+    list: &mut SpanList<Start>,
+    shape: Shape,
+    order: OrderKey,
+    routes: &Vec<Route>,
+    prepared: Vec<Prepared>,
+    found: &mut Vec<Match>,
+    steps: &mut Steps<L>,
+)
+    requires to { shape.stages ≤ 256 }
+    requires of { AreOf shape.stages shape.span machines.old.entries }
+    requires ordered { IsOrdered key_cmp machines.old }
+    requires ascend { KeysAscend routes.now.items }
+    requires ready { AreReadyFor routes.now.items machines.old.entries }
+    requires later { (key : List Value) → IsLaterAt order machines.old.entries key }
+    requires prepared { ArePrepared shape.stages routes.now.items prepared.items }
+    requires linked { IsLinked (all_begun order routes.now.items prepared.items) (sequences_in machines.old.entries) list.old }
+    requires room { vec_len found.old + length routes.now.items ≤ vec_capacity found.old }
+    ensures of { AreOf shape.stages shape.span machines.new.entries }
+    ensures ordered { IsOrdered key_cmp machines.new }
+    ensures slots { (key : List Value) (k : ℕ) → suc k < shape.stages → slots_in machines.new.entries key (suc k) ≡ turned shape.span order (find (λ (route : Route). key_eq key route.key) routes.now.items) (slots_in machines.old.entries key) (suc k) }
+    ensures found { found.new.items ≡ found.old.items ++ filter_map (match_there shape.stages shape.span (slots_in machines.old.entries) order) routes.now.items }
+    ensures linked { IsLinked [] (sequences_in machines.new.entries) list.new }
+    ensures probes { steps.new ≤ steps.old + probes_of_all shape.stages routes.now.items }
+{
+    let mut prepared = prepared.into_iter();
+    for route in routes {
+        match prepared.next() {
+            None => unreachable!(),
+            Some(ready) => {
+                let completed = turn_key(machines, list, shape, order, route, ready.begun, steps);
+                add_match(found, ready.key, completed);
+            }
+        }
+    }
+}
+
+/// Plays an event that comes after all that is pending, and adds the matches that it completes. After want of memory the
+/// pending sequences are as they were.
+pub(crate) fn play<L: Ledger>(
+    machines: &mut BTreeMap<Key, KeyMachine>,
+    list: &mut SpanList<Start>,
+    shape: Shape,
+    order: OrderKey,
+    routes: &Vec<Route>,
+    found: &mut Vec<Match>,
+    steps: &mut Steps<L>,
+) -> Result<(), Memory>
+    requires from { 1 ≤ shape.stages }
+    requires to { shape.stages ≤ 256 }
+    requires of { AreOf shape.stages shape.span machines.old.entries }
+    requires ordered { IsOrdered key_cmp machines.old }
+    requires ascend { KeysAscend routes.now.items }
+    requires later { (key : List Value) → IsLaterAt order machines.old.entries key }
+    requires linked { IsLinked [] (sequences_in machines.old.entries) list.old }
+    requires room { vec_len found.old + length routes.now.items ≤ vec_capacity found.old }
+    ensures of { AreOf shape.stages shape.span machines.new.entries }
+    ensures ordered { IsOrdered key_cmp machines.new }
+    ensures slots { OnOk result ((key : List Value) (k : ℕ) → suc k < shape.stages → slots_in machines.new.entries key (suc k) ≡ turned shape.span order (find (λ (route : Route). key_eq key route.key) routes.now.items) (slots_in machines.old.entries key) (suc k)) }
+    ensures found { OnOk result (found.new.items ≡ found.old.items ++ filter_map (match_there shape.stages shape.span (slots_in machines.old.entries) order) routes.now.items) }
+    ensures linked { IsLinked [] (sequences_in machines.new.entries) list.new }
+    ensures unchanged { OnErr result (KeepsSequences machines.old.entries machines.new.entries) }
+    ensures probes { steps.new ≤ steps.old + probes_of_all shape.stages routes.now.items }
+{
+    match prepare_all(machines, list, shape, order, routes) {
+        Ok(prepared) => {
+            tickets_differ(list);
+            turn_all(machines, list, shape, order, routes, prepared, found, steps);
+            Ok(())
+        }
+        Err(memory) => {
+            drop_all_empty(machines, shape, routes);
+            Err(memory)
+        }
+    }
+}
