@@ -1,5 +1,6 @@
 mod FrontLemmas
 mod ToldLemmas
+mod QueryLemmas
 mod InputLemmas
 mod RunLemmas
 mod RefusalLemmas

@@ -64,6 +64,8 @@ pub search_cause : (names : Names) (files : Option Files) (items : List Term) (t
     → StoppedSearching (first_other (lines_in text)) h → HasCause names files h
 search_cause names None items text (halt.Refused r) got fields shard stop = tt
 search_cause names (Some fs) items text (halt.Refused (refused.NoFile r)) got fields shard stop = absurd stop
+search_cause names (Some fs) items text (halt.Refused (refused.Lex r)) got fields shard stop = absurd stop
+search_cause names (Some fs) items text (halt.Refused (refused.Parse r)) got fields shard stop = absurd stop
 search_cause names (Some fs) items text (halt.Refused refused.Query) got fields shard stop = absurd stop
 search_cause names (Some fs) items text (halt.Refused refused.Fields) got fields shard stop = absurd stop
 search_cause names (Some fs) items text (halt.Refused refused.Shard) got fields shard stop = absurd stop

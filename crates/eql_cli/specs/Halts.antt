@@ -23,6 +23,8 @@ name_of names role.Shard = names.shard
 -- the refusal of the files of these names
 abbrev pub refusal_of : Names → Refused → Refusal
 refusal_of names (refused.NoFile r) = run.no_file (name_of names r)
+refusal_of names (refused.Lex r) = run.lex r
+refusal_of names (refused.Parse r) = run.parse r
 refusal_of names refused.Query = run.query
 refusal_of names refused.Fields = run.fields
 refusal_of names refused.Shard = run.shard
@@ -30,6 +32,8 @@ refusal_of names (refused.Line n) = run.line n
 
 abbrev pub status_of : Halt → ℕ
 status_of (halt.Refused (refused.NoFile r)) = 1
+status_of (halt.Refused (refused.Lex r)) = 3
+status_of (halt.Refused (refused.Parse r)) = 3
 status_of (halt.Refused refused.Query) = 3
 status_of (halt.Refused refused.Fields) = 3
 status_of (halt.Refused refused.Shard) = 3
@@ -59,6 +63,8 @@ OnRefused halt.Memory fact = Unit {0}
 -- what holds where a file isn't there, where a source failed, and where a write was refused
 abbrev pub OnFault : Halt → Type 0 → Type 0 → Type 0 → Type 0
 OnFault (halt.Refused (refused.NoFile r)) absent read write = absent
+OnFault (halt.Refused (refused.Lex r)) absent read write = Unit {0}
+OnFault (halt.Refused (refused.Parse r)) absent read write = Unit {0}
 OnFault (halt.Refused refused.Query) absent read write = Unit {0}
 OnFault (halt.Refused refused.Fields) absent read write = Unit {0}
 OnFault (halt.Refused refused.Shard) absent read write = Unit {0}

@@ -3,6 +3,7 @@ pub mod FirstSearch
 pub mod Events
 pub mod Moves
 pub mod Pages
+pub mod Plain
 pub mod Runs
 pub mod Fronts
 pub mod Halts

@@ -1,14 +1,25 @@
 -- What a run of the program reads, writes and refuses.
-use Rattle.std.specs.Prelude.{◌≡◌, ◌≤◌, ◌<◌, ◌⊎◌, ◌++◌, ℕ, ◌+◌, ◌/◌, ◌%◌, Bool, false, not, ◌&&◌, ◌||◌, ◌==◌, nat_lt, if◌then◌else◌, List, [], ◌∷◌, map, length, Option, Some, None, IfSome, IsSomeAnd, String, string_bytes, codes}
+use Rattle.std.specs.Prelude.{◌≡◌, ◌≤◌, ◌<◌, ◌⊎◌, ◌++◌, ℕ, ◌+◌, ◌/◌, ◌%◌, Bool, false, not, ◌&&◌, ◌||◌, ◌==◌, nat_lt, if◌then◌else◌, List, [], ◌∷◌, map, length, Option, Some, None, IfSome, IsSomeAnd, String, string_bytes, codes, encode_utf8_all}
 use Rattle.std.specs.declared.alloc.Global.{Global}
 use Rattle.std.specs.Fmt.{decimal}
 use Rattle.std.specs.List.{flat_map}
-use Rattle.std.specs.Str.{bytes_eq}
+use Rattle.std.specs.Str.{bytes_eq, IsUtf8}
 use Rattle.eql_values.specs.Lines.{lines_in}
 use Rattle.eql_outside.specs.Outside.{file_named, AppendsSome}
+use Rattle.eql_lexer.specs.declared.token.Token.{Token}
+use Rattle.eql_lexer.specs.declared.refusal.Rule.{Rule}
+use Rattle.eql_lexer.specs.declared.refusal.LexRefused.{LexRefused}
+use Rattle.eql_lexer.specs.declared.refusal.LexRefused.TheVariants as lexed
+use Rattle.eql_lexer.specs.Spelling.{Spells}
+use Rattle.eql_lexer.specs.Refusing.{BreaksAt, refusal_of}
+use Rattle.eql_parser.specs.declared.refusal.ParseRefused.{ParseRefused}
+use Rattle.eql_parser.specs.declared.refusal.ParseRefused.TheVariants as parsed
 use Rattle.eql_parser.specs.QueryTree.{QueryTree}
-use Rattle.eql_parser.specs.First.{IsFirstQuery, NoFirstQuery}
+use Rattle.eql_parser.specs.QueryGrammar.{IsQuery}
+use Rattle.eql_parser.specs.Limits.{levels, OpensAtMost}
+use Rattle.eql_parser.specs.Refusing.{Refused, IsMemory}
 use Rattle.eql_cli.specs.FirstSearch.{first_other, first_listing, categories_of}
+use Rattle.eql_cli.specs.Plain.{IsPlain}
 
 -- the words of a run, as their bytes
 abbrev pub bytes_of : List (String Global) → List (List ℕ)
@@ -41,11 +52,44 @@ Files = List (List ℕ × List ℕ)
 abbrev pub IsNoFields : List ℕ → Type 0
 IsNoFields text = (text ≡ codes "{}") ⊎ (text ≡ codes "{}\n")
 
--- the query file is there and spells this query in the first form
-pub record HasQuery (names : Names) (files : Files) (query : QueryTree) : Type 0 where
+-- a text of at most 65,536 bytes, in UTF-8, spells these tokens
+pub record HasTokens (text : List ℕ) (tokens : List Token) : Type 0 where
+  pub short : length text ≤ 65536
+  pub utf8 : IsUtf8 text
+  pub spells : Spells text tokens
+
+-- why a text has no tokens: it is too long, or it isn't UTF-8, or it breaks a rule of tokens at a place
+pub data NoTokens (text : List ℕ) : LexRefused → Type 0 where
+  too_long : 65536 < length text → NoTokens text lexed.TooLong
+  not_utf8 : length text ≤ 65536 → ¬ (IsUtf8 text) → NoTokens text lexed.NotUtf8
+  breaks : length text ≤ 65536 → IsUtf8 text → (rule : Rule) (at : ℕ) → BreaksAt text rule at → NoTokens text (refusal_of rule at)
+
+-- the tokens are this query, which has at most 64 levels, and in them at most 128 parentheses stand open
+pub record ReadAs (tokens : List Token) (query : QueryTree) : Type 0 where
+  pub is_query : IsQuery tokens query
+  pub shallow : levels query ≤ 64
+  pub few_open : OpensAtMost 128 tokens
+
+-- why tokens are no query within these limits
+abbrev pub NotRead : List Token → ParseRefused → Type 0
+NotRead tokens r = Refused tokens r × ¬ (IsMemory r)
+
+-- the query file is there, and its text spells these tokens
+pub record HasQueryTokens (names : Names) (files : Files) (tokens : List Token) : Type 0 where
   pub text : List ℕ
   pub there : file_named names.query files ≡ Some text
-  pub spells : IsFirstQuery text query
+  pub has : HasTokens text tokens
+
+-- the query file is there and is this query
+pub record HasAnyQuery (names : Names) (files : Files) (query : QueryTree) : Type 0 where
+  pub tokens : List Token
+  pub spelled : HasQueryTokens names files tokens
+  pub read : ReadAs tokens query
+
+-- the query file is there and is this query, which is one that is searched
+pub record HasQuery (names : Names) (files : Files) (query : QueryTree) : Type 0 where
+  pub any : HasAnyQuery names files query
+  pub plain : IsPlain query
 
 -- the fields file is there and names no fields
 pub record HasFields (names : Names) (files : Files) : Type 0 where
@@ -58,8 +102,8 @@ pub record HasShard (names : Names) (files : Files) (text : List ℕ) : Type 0 w
   pub there : file_named names.shard files ≡ Some text
   pub short : length text ≤ 16777216
 
--- a run over the files of these names writes these bytes: the three files are there and have the first forms, and the bytes are the
--- listing of the query over the shard
+-- a run over the files of these names writes these bytes: the three files are there and have the forms that are built, and the bytes are
+-- the listing of the query over the shard
 pub record Lists (names : Names) (files : Files) (bytes : List ℕ) : Type 0 where
   pub query : QueryTree
   pub has_query : HasQuery names files query
@@ -78,6 +122,8 @@ pub record Writes (words : List (List ℕ)) (files : Files) (bytes : List ℕ) :
 -- why files are refused
 pub data Refusal : Type 0 where
   no_file : List ℕ → Refusal
+  lex : LexRefused → Refusal
+  parse : ParseRefused → Refusal
   query : Refusal
   fields : Refusal
   shard : Refusal
@@ -86,7 +132,9 @@ pub data Refusal : Type 0 where
 -- the files of these names are refused for this cause: of all causes that there are, the first in this order
 pub data Refuses (names : Names) (files : Files) : Refusal → Type 0 where
   no_query : file_named names.query files ≡ None → Refuses names files (no_file names.query)
-  other_query : (text : List ℕ) → file_named names.query files ≡ Some text → NoFirstQuery text → Refuses names files query
+  not_spelled : (text : List ℕ) → file_named names.query files ≡ Some text → (r : LexRefused) → NoTokens text r → Refuses names files (lex r)
+  not_read : (tokens : List Token) → HasQueryTokens names files tokens → (r : ParseRefused) → NotRead tokens r → Refuses names files (parse r)
+  not_plain : (q : QueryTree) → HasAnyQuery names files q → ¬ (IsPlain q) → Refuses names files query
   no_fields : (q : QueryTree) → HasQuery names files q → file_named names.fields files ≡ None → Refuses names files (no_file names.fields)
   other_fields : (q : QueryTree) → HasQuery names files q → (text : List ℕ) → file_named names.fields files ≡ Some text → ¬ (IsNoFields text) → Refuses names files fields
   no_shard : (q : QueryTree) → HasQuery names files q → HasFields names files → file_named names.shard files ≡ None → Refuses names files (no_file names.shard)
@@ -118,15 +166,41 @@ printed_name name = flat_map printed_byte name
 abbrev pub usage_text : List ℕ
 usage_text = codes "usage: eql find --query FILE --fields FILE SHARD\n"
 
+-- what was refused and where, in a line
+abbrev pub at_place : List ℕ → ℕ → List ℕ
+at_place what at = what ++ codes " at " ++ decimal at ++ codes "\n"
+
+-- why a text has no tokens, as it is told; want of memory is the cause of no refusal
+abbrev pub lex_text : LexRefused → List ℕ
+lex_text (lexed.BadByte at) = at_place (codes "lex: BadByte") at
+lex_text (lexed.OpenString at) = at_place (codes "lex: OpenString") at
+lex_text (lexed.BadEscape at) = at_place (codes "lex: BadEscape") at
+lex_text (lexed.Fraction at) = at_place (codes "lex: Fraction") at
+lex_text (lexed.SingleQuote at) = at_place (codes "lex: SingleQuote") at
+lex_text (lexed.NumberRange at) = at_place (codes "lex: NumberRange") at
+lex_text lexed.TooLong = codes "lex: TooLong\n"
+lex_text (lexed.OpenComment at) = at_place (codes "lex: OpenComment") at
+lex_text lexed.NotUtf8 = codes "lex: NotUtf8\n"
+lex_text lexed.Memory = codes "lex: Memory\n"
+
+-- why tokens are no query, as it is told; want of memory is the cause of no refusal
+abbrev pub parse_text : ParseRefused → List ℕ
+parse_text (parsed.Syntax at) = at_place (codes "parse: Syntax") at
+parse_text (parsed.LeftOut word at) = at_place (codes "parse: LeftOut " ++ printed_name (encode_utf8_all word)) at
+parse_text (parsed.TooDeep at) = at_place (codes "parse: TooDeep") at
+parse_text parsed.Memory = codes "parse: Memory\n"
+
 -- what is told of a refusal
 abbrev pub refusal_text : Refusal → List ℕ
 refusal_text (no_file name) = codes "no file " ++ printed_name name ++ codes "\n"
+refusal_text (lex r) = lex_text r
+refusal_text (parse r) = parse_text r
 refusal_text query = codes "unbuilt: query\n"
 refusal_text fields = codes "unbuilt: fields\n"
 refusal_text shard = codes "unbuilt: shard\n"
 refusal_text (line n) = codes "unbuilt: line " ++ decimal n ++ codes "\n"
 
--- the status of a refusal: 1 where a file isn't there, and 3 where a form isn't built
+-- the status of a refusal: 1 where a file isn't there, and 3 where the query can't be read or a form isn't built
 abbrev pub refusal_status : Refusal → ℕ
 refusal_status (no_file name) = 1
 refusal_status _ = 3

@@ -1,21 +1,22 @@
 -- What the steps of a run find.
 use Rattle.std.specs.Prelude.{◌≡◌, ◌⊎◌, ◌++◌, ℕ, List, Option, Some, None, IfSome}
 use Rattle.eql_outside.specs.Outside.{AppendsSome}
+use Rattle.eql_lexer.specs.declared.token.Token.{Token}
+use Rattle.eql_lexer.specs.declared.refusal.LexRefused.{LexRefused}
+use Rattle.eql_lexer.specs.declared.refusal.LexRefused.TheVariants as lexed
 use Rattle.eql_parser.specs.QueryTree.{QueryTree}
-use Rattle.eql_parser.specs.First.{IsFirstQuery}
 use Rattle.eql_parser.specs.declared.query.Term.{Term}
 use Rattle.eql_cli.specs.declared.halt.Role.{Role}
 use Rattle.eql_cli.specs.declared.halt.Refused.TheVariants as refused
 use Rattle.eql_cli.specs.declared.halt.Halt.{Halt}
 use Rattle.eql_cli.specs.declared.halt.Halt.TheVariants as halt
 use Rattle.eql_cli.specs.FirstSearch.{wanted_by, categories_of}
-use Rattle.eql_cli.specs.Runs.{Names, Files, HasQuery, HasFields, HasShard, Lists}
+use Rattle.eql_cli.specs.Runs.{Names, Files, NoTokens, NotRead, HasQueryTokens, HasQuery, HasFields, HasShard, Lists}
 
--- a query of the first form
-abbrev pub IsFirstTree : QueryTree → Type 0
-IsFirstTree query = (text : List ℕ) × IsFirstQuery text query
+-- where the shelf tells its files, the tokens, the query, the fields and the text are those of the files
+abbrev pub GotTokens : Names → Option Files → List Token → Type 0
+GotTokens names files tokens = IfSome files (λ fs. HasQueryTokens names fs tokens)
 
--- where the shelf tells its files, the query, the fields and the text are those of the files
 abbrev pub GotQuery : Names → Option Files → QueryTree → Type 0
 GotQuery names files query = IfSome files (λ fs. HasQuery names fs query)
 
@@ -34,6 +35,8 @@ GotShard names files text = IfSome files (λ fs. HasShard names fs text)
 -- the reading of a file stopped so; `missing` holds where the file isn't there
 abbrev pub StoppedReading : Role → Type 0 → Halt → Type 0
 StoppedReading role missing (halt.Refused (refused.NoFile r)) = (r ≡ role) × missing
+StoppedReading role missing (halt.Refused (refused.Lex r)) = ⊥
+StoppedReading role missing (halt.Refused (refused.Parse r)) = ⊥
 StoppedReading role missing (halt.Refused refused.Query) = ⊥
 StoppedReading role missing (halt.Refused refused.Fields) = ⊥
 StoppedReading role missing (halt.Refused refused.Shard) = ⊥
@@ -42,9 +45,28 @@ StoppedReading role missing (halt.Read r) = r ≡ role
 StoppedReading role missing halt.Write = ⊥
 StoppedReading role missing halt.Memory = Unit {0}
 
+-- the halt of a text that has no tokens
+abbrev pub unspelled : LexRefused → Halt
+unspelled lexed.Memory = halt.Memory
+unspelled r = halt.Refused (refused.Lex r)
+
+-- a text has no tokens, and a run stopped so
+abbrev pub StoppedSpelling : List ℕ → Halt → Type 0
+StoppedSpelling text (halt.Refused (refused.Lex r)) = NoTokens text r
+StoppedSpelling text halt.Memory = Unit {0}
+StoppedSpelling text _ = ⊥
+
+-- tokens are no query, and a run stopped so
+abbrev pub StoppedParsing : List Token → Halt → Type 0
+StoppedParsing tokens (halt.Refused (refused.Parse r)) = NotRead tokens r
+StoppedParsing tokens halt.Memory = Unit {0}
+StoppedParsing tokens _ = ⊥
+
 -- the search of a shard stopped so, by the number of its first line of another form
 abbrev pub StoppedSearching : Option ℕ → Halt → Type 0
 StoppedSearching other (halt.Refused (refused.NoFile r)) = ⊥
+StoppedSearching other (halt.Refused (refused.Lex r)) = ⊥
+StoppedSearching other (halt.Refused (refused.Parse r)) = ⊥
 StoppedSearching other (halt.Refused refused.Query) = ⊥
 StoppedSearching other (halt.Refused refused.Fields) = ⊥
 StoppedSearching other (halt.Refused refused.Shard) = ⊥

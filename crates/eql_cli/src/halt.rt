@@ -2,6 +2,9 @@
 ghost use Rattle.std.specs.Prelude.{◌≡◌};
 ghost use Rattle.eql_cli.specs.Halts.{status_of};
 
+use eql_lexer::LexRefused;
+use eql_parser::ParseRefused;
+
 /// A file that the words of a run name.
 #[derive(Clone, Copy, Debug, PartialEq, Eq)]
 pub(crate) enum Role {
@@ -14,11 +17,15 @@ pub(crate) enum Role {
 }
 
 /// Why files are refused.
-#[derive(Clone, Copy, Debug, PartialEq, Eq)]
+#[derive(Debug, Drop)]
 pub(crate) enum Refused {
     /// The file isn't there.
     NoFile(Role),
-    /// The query hasn't the first form.
+    /// The query's text has no tokens.
+    Lex(LexRefused),
+    /// Its tokens are no query.
+    Parse(ParseRefused),
+    /// The query isn't one that is searched.
     Query,
     /// The fields file names fields.
     Fields,
@@ -29,7 +36,7 @@ pub(crate) enum Refused {
 }
 
 /// Why a run stopped.
-#[derive(Clone, Copy, Debug, PartialEq, Eq)]
+#[derive(Debug, Drop)]
 pub(crate) enum Halt {
     /// The files are refused.
     Refused(Refused),
@@ -43,8 +50,8 @@ pub(crate) enum Halt {
 
 impl Halt {
     /// The status of a run that stopped so.
-    pub(crate) fn status(self) -> u8
-        ensures { result ≡ status_of self }
+    pub(crate) fn status(&self) -> u8
+        ensures { result ≡ status_of self.now }
     {
         match self {
             Halt::Refused(Refused::NoFile(_)) => 1,

@@ -1,18 +1,19 @@
 //! The three files of a run: the query, the fields and the shard.
 ghost use Rattle.std.specs.Prelude.{◌≡◌, ◌≤◌, ◌<◌, ◌↔◌, IfOk, IfErr, IsOk, IsTrue, length, string_bytes};
 ghost use Rattle.eql_outside.specs.Outside.{Rose};
-ghost use Rattle.eql_parser.specs.QueryTree.{QueryTree, query_tree};
-ghost use Rattle.eql_cli.specs.FirstSearch.{wanted_by, categories_of};
+ghost use Rattle.eql_parser.specs.QueryTree.{QueryTree};
 ghost use Rattle.eql_cli.specs.Fronts.{IsFrontOf, IsMissing};
 ghost use Rattle.eql_cli.specs.Halts.{names_in, name_of, OnFault, HasCause};
 ghost use Rattle.eql_cli.specs.Runs.{IsNoFields};
-ghost use Rattle.eql_cli.specs.Steps.{IsFirstTree, GotItems, GotQuery, GotFields, GotShard, StoppedReading};
+ghost use Rattle.eql_cli.specs.Steps.{GotTokens, GotItems, GotQuery, GotFields, GotShard, StoppedReading};
 
 use crate::files::{FileRefused, read_file};
 use crate::halt::{Halt, Refused, Role};
+use crate::query::{is_plain, items_of, query_of, tokens_of};
 use crate::words::Command;
+use eql_lexer::Tokens;
 use eql_outside::Shelf;
-use eql_parser::{Body, Query, Terms, parse_first};
+use eql_parser::Terms;
 use std::alloc::Global;
 
 /// How many bytes a query has at most.
@@ -49,24 +50,21 @@ fn read_named<H: Shelf>(
     }
 }
 
-/// The items of a query of the first form.
-fn items_of(query: Query) -> Terms
-    requires { IsFirstTree (query_tree query) }
-    ensures some { 1 ≤ length result }
-    ensures few { length result ≤ 8 }
-    ensures wanted { wanted_by result ≡ categories_of (query_tree query) }
+/// Reads the query file, and gives its tokens. One byte more than it may have is kept, which shows that there are too
+/// many.
+fn read_tokens<H: Shelf>(alloc: Global, command: &Command, shelf: &mut H) -> Result<Tokens, Halt>
+    ensures tokens { IfOk result (λ tokens. GotTokens (names_in command.now) (H.files shelf.old) tokens) }
+    ensures cause { IfErr result (HasCause (names_in command.now) (H.files shelf.old)) }
+    ensures fault { IfErr result (λ halt. OnFault halt (Rose (H.absent_count shelf.old) (H.absent_count shelf.new)) (Rose (H.fault_count shelf.old) (H.fault_count shelf.new)) ⊥) }
+    ensures kept { H.files shelf.new ≡ H.files shelf.old }
+    ensures counts { (H.fault_count shelf.old ≤ H.fault_count shelf.new)
+        × (H.absent_count shelf.old ≤ H.absent_count shelf.new) }
 {
-    let Query {
-        body,
-        pipes: _pipes,
-    } = query;
-    match body {
-        Body::Sequence { items, .. } => items,
-        Body::Event(_) => unreachable!(),
-    }
+    let text = read_named(alloc, command, Role::Query, shelf, QUERY_BYTES + 1)?;
+    tokens_of(alloc, text.as_slice())
 }
 
-/// Reads the query, and gives its items. One byte more than it may have is kept, which shows that there are too many.
+/// Reads the query, and gives its items.
 pub(crate) fn read_query<H: Shelf>(
     alloc: Global,
     command: &Command,
@@ -81,11 +79,12 @@ pub(crate) fn read_query<H: Shelf>(
     ensures counts { (H.fault_count shelf.old ≤ H.fault_count shelf.new)
         × (H.absent_count shelf.old ≤ H.absent_count shelf.new) }
 {
-    let text = read_named(alloc, command, Role::Query, shelf, QUERY_BYTES + 1)?;
-    match parse_first(alloc, text.as_slice()) {
-        Ok(Some(query)) => Ok(items_of(query)),
-        Ok(None) => Err(Halt::Refused(Refused::Query)),
-        Err(_) => Err(Halt::Memory),
+    let tokens = read_tokens(alloc, command, shelf)?;
+    let query = query_of(alloc, &tokens)?;
+    if is_plain(&query) {
+        Ok(items_of(query))
+    } else {
+        Err(Halt::Refused(Refused::Query))
     }
 }
 

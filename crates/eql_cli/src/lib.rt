@@ -7,6 +7,7 @@ mod halt;
 mod inputs;
 mod laws;
 mod program;
+mod query;
 mod search;
 mod tell;
 mod words;

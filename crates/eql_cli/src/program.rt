@@ -10,6 +10,7 @@ ghost use Rattle.eql_cli.specs.Steps.{RanWhole, RanPart, StoppedSearching};
 use crate::gate::Gate;
 use crate::halt::{Halt, Refused};
 use crate::inputs::{check_fields, read_query, read_shard};
+use crate::laws::runs_are_determined;
 use crate::search::{Stop, search_shard};
 use crate::tell::{tell, tell_halt};
 use crate::words::{Command, command_in};
@@ -22,8 +23,8 @@ use std::thread::Threads;
 /// How a run ended: its status, and the sinks that it was given.
 #[derive(Drop)]
 pub struct Ended<K, E> {
-    /// 0 done; 1 a file isn't there; 2 the words aren't the command; 3 a form isn't built; 4 a read fault; 5 a
-    /// write fault; 8 out of memory.
+    /// 0 done; 1 a file isn't there; 2 the words aren't the command; 3 the query can't be read or a form isn't built;
+    /// 4 a read fault; 5 a write fault; 8 out of memory.
     pub status: u8,
     /// The output, with the listing.
     pub out: K,
@@ -114,7 +115,7 @@ pub fn eql_main<R: Threads + Wait + Sync, H: Shelf, K: Sink, E: Sink, G: Gate + 
         → Rose (H.fault_count shelf.old) (H.fault_count shelf.new) }
     ensures write { result.status ≡ 5
         → Rose (K.fault_count out) (K.fault_count result.out) }
-    // A run with good words, files of the first forms and no fault is done, unless memory ran out.
+    // A run with good words, files of the forms that are built and no fault is done, unless memory ran out.
     ensures complete { IsReady (bytes_of words.now.items) (H.files shelf.old)
         → ¬ (Rose (H.fault_count shelf.old) (H.fault_count shelf.new))
         → ¬ (Rose (K.fault_count out) (K.fault_count result.out))
@@ -129,6 +130,7 @@ pub fn eql_main<R: Threads + Wait + Sync, H: Shelf, K: Sink, E: Sink, G: Gate + 
         × (K.fault_count out ≤ K.fault_count result.out)
         × (E.fault_count err ≤ E.fault_count result.err) }
 {
+    runs_are_determined();
     let Some(command) = command_in(words) else {
         tell(
             alloc,
@@ -148,7 +150,7 @@ pub fn eql_main<R: Threads + Wait + Sync, H: Shelf, K: Sink, E: Sink, G: Gate + 
             err,
         },
         Err(halt) => {
-            tell_halt(alloc, &command, halt, &mut err);
+            tell_halt(alloc, &command, &halt, &mut err);
             Ended {
                 status: halt.status(),
                 out,

@@ -1,13 +1,16 @@
 //! What a run tells on `err`: one line in one write. Where memory runs out as a line with a name or a number is made,
 //! nothing is told.
-ghost use Rattle.std.specs.Prelude.{◌≡◌, ◌≤◌, ◌<◌, ◌++◌, IfOk, OnOk, codes, string_bytes};
+ghost use Rattle.std.specs.Prelude.{◌≡◌, ◌≤◌, ◌<◌, ◌++◌, IfOk, OnOk, codes, string_bytes, encode_utf8_all};
 ghost use Rattle.std.specs.Fmt.{decimal};
 ghost use Rattle.eql_cli.specs.Halts.{names_in, refusal_of, text_of, WroteFront};
-ghost use Rattle.eql_cli.specs.Runs.{hex_glyph, printed_byte, printed_name, refusal_text};
+ghost use Rattle.eql_cli.specs.Runs.{hex_glyph, printed_byte, printed_name, at_place, lex_text, parse_text, refusal_text};
 
 use crate::halt::{Halt, Refused};
 use crate::words::Command;
+use eql_lexer::LexRefused;
 use eql_outside::Sink;
+use eql_parser::ParseRefused;
+use eql_values::Text;
 use std::alloc::{AllocError, Global};
 
 /// The hexadecimal digit of a number.
@@ -86,28 +89,101 @@ fn tell_number<E: Sink>(alloc: Global, number: u32, err: &mut E)
     }
 }
 
-/// Tells why the files are refused.
-fn tell_refused<E: Sink>(alloc: Global, command: &Command, refused: Refused, err: &mut E)
-    ensures told { WroteFront (refusal_text (refusal_of (names_in command.now) refused)) (E.written err.old) (E.written err.new) }
+/// A line of what was refused and the place, in bytes from 0.
+fn place_line(alloc: Global, what: &[u8], at: u32) -> Result<Vec<u8>, AllocError>
+    ensures { IfOk result (λ line. line.items ≡ at_place what.now at) }
+{
+    let place = format!(in alloc; " at {at}\n")?;
+    let mut line = Vec::from_slice(alloc, what)?;
+    line.extend_from_slice(place.as_bytes())?;
+    Ok(line)
+}
+
+/// Tells of a place in the query.
+fn tell_place<E: Sink>(alloc: Global, what: &[u8], at: u32, err: &mut E)
+    ensures told { WroteFront (at_place what.now at) (E.written err.old) (E.written err.new) }
+    ensures counts { E.fault_count err.old ≤ E.fault_count err.new }
+{
+    if let Ok(line) = place_line(alloc, what, at) {
+        tell(alloc, line.as_slice(), err);
+    }
+}
+
+/// Tells why the query's text has no tokens.
+fn tell_lex<E: Sink>(alloc: Global, refused: LexRefused, err: &mut E)
+    ensures told { WroteFront (lex_text refused) (E.written err.old) (E.written err.new) }
     ensures counts { E.fault_count err.old ≤ E.fault_count err.new }
 {
     match refused {
-        Refused::NoFile(role) => tell_name(alloc, b"no file ", command.name(role), err),
+        LexRefused::BadByte { at } => tell_place(alloc, b"lex: BadByte", at, err),
+        LexRefused::OpenString { at } => tell_place(alloc, b"lex: OpenString", at, err),
+        LexRefused::BadEscape { at } => tell_place(alloc, b"lex: BadEscape", at, err),
+        LexRefused::Fraction { at } => tell_place(alloc, b"lex: Fraction", at, err),
+        LexRefused::SingleQuote { at } => tell_place(alloc, b"lex: SingleQuote", at, err),
+        LexRefused::NumberRange { at } => tell_place(alloc, b"lex: NumberRange", at, err),
+        LexRefused::TooLong => tell(alloc, b"lex: TooLong\n", err),
+        LexRefused::OpenComment { at } => tell_place(alloc, b"lex: OpenComment", at, err),
+        LexRefused::NotUtf8 => tell(alloc, b"lex: NotUtf8\n", err),
+        LexRefused::Memory => tell(alloc, b"lex: Memory\n", err),
+    }
+}
+
+/// What is refused as left out, by the word for it.
+fn left_out(alloc: Global, word: &Text) -> Result<Vec<u8>, AllocError>
+    ensures { IfOk result (λ what. what.items ≡ codes "parse: LeftOut " ++ printed_name (encode_utf8_all word.now)) }
+{
+    let mut what = Vec::from_slice(alloc, b"parse: LeftOut ")?;
+    push_name(&mut what, word.text().as_bytes())?;
+    Ok(what)
+}
+
+/// Tells of a form that is left out.
+fn tell_left_out<E: Sink>(alloc: Global, word: &Text, at: u32, err: &mut E)
+    ensures told { WroteFront (at_place (codes "parse: LeftOut " ++ printed_name (encode_utf8_all word.now)) at) (E.written err.old) (E.written err.new) }
+    ensures counts { E.fault_count err.old ≤ E.fault_count err.new }
+{
+    if let Ok(what) = left_out(alloc, word) {
+        tell_place(alloc, what.as_slice(), at, err);
+    }
+}
+
+/// Tells why the query's tokens are no query.
+fn tell_parse<E: Sink>(alloc: Global, refused: &ParseRefused, err: &mut E)
+    ensures told { WroteFront (parse_text refused.now) (E.written err.old) (E.written err.new) }
+    ensures counts { E.fault_count err.old ≤ E.fault_count err.new }
+{
+    match refused {
+        ParseRefused::Syntax { at } => tell_place(alloc, b"parse: Syntax", *at, err),
+        ParseRefused::LeftOut { word, at } => tell_left_out(alloc, word, *at, err),
+        ParseRefused::TooDeep { at } => tell_place(alloc, b"parse: TooDeep", *at, err),
+        ParseRefused::Memory => tell(alloc, b"parse: Memory\n", err),
+    }
+}
+
+/// Tells why the files are refused.
+fn tell_refused<E: Sink>(alloc: Global, command: &Command, refused: &Refused, err: &mut E)
+    ensures told { WroteFront (refusal_text (refusal_of (names_in command.now) refused.now)) (E.written err.old) (E.written err.new) }
+    ensures counts { E.fault_count err.old ≤ E.fault_count err.new }
+{
+    match refused {
+        Refused::NoFile(role) => tell_name(alloc, b"no file ", command.name(*role), err),
+        Refused::Lex(refused) => tell_lex(alloc, *refused, err),
+        Refused::Parse(refused) => tell_parse(alloc, refused, err),
         Refused::Query => tell(alloc, b"unbuilt: query\n", err),
         Refused::Fields => tell(alloc, b"unbuilt: fields\n", err),
         Refused::Shard => tell(alloc, b"unbuilt: shard\n", err),
-        Refused::Line(number) => tell_number(alloc, number, err),
+        Refused::Line(number) => tell_number(alloc, *number, err),
     }
 }
 
 /// Tells why a run stopped.
-pub(crate) fn tell_halt<E: Sink>(alloc: Global, command: &Command, halt: Halt, err: &mut E)
-    ensures told { WroteFront (text_of (names_in command.now) halt) (E.written err.old) (E.written err.new) }
+pub(crate) fn tell_halt<E: Sink>(alloc: Global, command: &Command, halt: &Halt, err: &mut E)
+    ensures told { WroteFront (text_of (names_in command.now) halt.now) (E.written err.old) (E.written err.new) }
     ensures counts { E.fault_count err.old ≤ E.fault_count err.new }
 {
     match halt {
         Halt::Refused(refused) => tell_refused(alloc, command, refused, err),
-        Halt::Read(role) => tell_name(alloc, b"read fault: ", command.name(role), err),
+        Halt::Read(role) => tell_name(alloc, b"read fault: ", command.name(*role), err),
         Halt::Write => tell(alloc, b"write fault\n", err),
         Halt::Memory => tell(alloc, b"out of memory\n", err),
     }

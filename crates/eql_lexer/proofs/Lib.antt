@@ -2,6 +2,7 @@ pub mod Numbers
 pub mod Unique
 pub mod Closing
 pub mod Refusals
+pub mod Breaks
 pub mod Utf8
 pub mod Steps
 pub mod Tails

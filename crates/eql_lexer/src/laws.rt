@@ -14,3 +14,8 @@ pub fn one_list()
 pub fn none_spelled()
     ensures { (text : List ℕ) (r : Rule) (at : ℕ) (us : List Token) → BreaksAt text r at → Spells text us → ⊥ }
 {}
+
+/// A text breaks one rule of tokens at one place at most, as `lex` reads it: that of the first token that it lacks.
+pub fn one_break()
+    ensures { (text : List ℕ) (r s : Rule) (at to : ℕ) → BreaksAt text r at → BreaksAt text s to → (r ≡ s) × (at ≡ to) }
+{}

@@ -16,7 +16,7 @@ mod sign;
 mod tests;
 mod token;
 
-pub use laws::{none_spelled, one_list};
+pub use laws::{none_spelled, one_break, one_list};
 pub use refusal::LexRefused;
 pub use scan::lex;
 pub use token::{Sign, Tok, Token, Tokens};

@@ -1,13 +1,17 @@
-//! Queries: their types, the tree that a query stands for, and the reading of the first form of query.
+//! Queries: their types, the tree that a query stands for, the reading of a query from its tokens by a recursive
+//! descent, and its canonical text.
 #![tactic(auto)]
 
 mod expr;
-mod first;
+mod laws;
+mod parser;
+mod printing;
 mod query;
-#[cfg(test)]
-mod tests;
-mod word;
+mod refusal;
 
 pub use expr::{CmpOp, Expr, Exprs, FieldRef, FieldRefs, MathOp, PatOp};
-pub use first::{first_query_is_one, parse_first};
+pub use laws::{one_query, prints_back};
+pub use parser::parse;
+pub use printing::print;
 pub use query::{Body, PipeText, PipeTexts, Query, Span, Term, Terms, Unit};
+pub use refusal::ParseRefused;

@@ -7,6 +7,8 @@ mod first_path;
 #[cfg(test)]
 mod machine;
 #[cfg(test)]
+mod query_text;
+#[cfg(test)]
 mod run;
 #[cfg(test)]
 mod values;

@@ -102,6 +102,15 @@ pub(crate) fn files_of(alloc: Global, row: &Row) -> Result<Vec<MemFile>, Fail> {
     Ok(files)
 }
 
+/// The three files of a search by a query of this text, without fields and over no events.
+pub(crate) fn searched(alloc: Global, query: &[u8]) -> Result<Vec<MemFile>, Fail> {
+    let mut files = Vec::new(alloc);
+    files.push(file(alloc, "q", query, false)?)?;
+    files.push(file(alloc, "f", b"{}", false)?)?;
+    files.push(file(alloc, "s", b"", false)?)?;
+    Ok(files)
+}
+
 /// Runs the rows of a table, and compares what each gives.
 pub(crate) fn check<R: Threads + Wait + Sync + Abort>(
     rt: &R,

@@ -9,7 +9,7 @@ pub returns-in_default-clause-told : goal.returns-in_default-clause-told
 returns-in_default-clause-told g c = λ _. (usage_text, run.usage c.in_default.ensures, c.tell.ensures.told)
 
 pub returns-in-Ok-clause-exact : goal.returns-in-Ok-clause-exact
-returns-in-Ok-clause-exact g c = λ _. done_exact (bytes_of c.args.words.now.items) _ _ _ _ 0 c.in-Some.ensures (c.in-Ok.ensures.done refl)
+returns-in-Ok-clause-exact g c = λ _. done_exact c.runs_are_determined.ensures.apart (bytes_of c.args.words.now.items) _ _ _ _ 0 c.in-Some.ensures (c.in-Ok.ensures.done refl)
 
 pub returns-in-Err-clause-prefix : goal.returns-in-Err-clause-prefix
 returns-in-Err-clause-prefix g c = λ _. part_wrote _ _ _ _ _ c.in-Some.ensures (c.in-Err.ensures.prefix refl)
@@ -23,8 +23,8 @@ returns-in-Err-clause-told g c = λ _.
 
 pub returns-in-Err-clause-complete : goal.returns-in-Err-clause-complete
 returns-in-Err-clause-complete g c = λ ready read write.
-    rw c.status.ensures (halt_complete _ _ _ (bytes_of c.args.words.now.items) (names_in c.in-Some.command) _ c.in-Err.halt c.in-Some.ensures c.in-Err.ensures.cause c.in-Err.ensures.fault ready read write)
+    rw c.status.ensures (halt_complete c.runs_are_determined.ensures.apart _ _ _ (bytes_of c.args.words.now.items) (names_in c.in-Some.command) _ c.in-Err.halt c.in-Some.ensures c.in-Err.ensures.cause c.in-Err.ensures.fault ready read write)
 
 pub returns-in-Err-clause-exact : goal.returns-in-Err-clause-exact
 returns-in-Err-clause-exact g c = λ calm.
-    rw c.status.ensures (halt_exact _ _ _ (bytes_of c.args.words.now.items) (names_in c.in-Some.command) _ c.in-Err.halt c.in-Some.ensures c.in-Err.ensures.cause c.in-Err.ensures.fault calm)
+    rw c.status.ensures (halt_exact c.runs_are_determined.ensures.refusal c.runs_are_determined.ensures.apart _ _ _ (bytes_of c.args.words.now.items) (names_in c.in-Some.command) _ c.in-Err.halt c.in-Some.ensures c.in-Err.ensures.cause c.in-Err.ensures.fault calm)

@@ -1,5 +1,0 @@
-use Rattle.eql_cli.proofs.RunLemmas.{wanted_trees}
-use Rattle.eql_cli.proofs.inputs.items_of.Goals as goal
-
-pub returns-clause-wanted : goal.returns-clause-wanted
-returns-clause-wanted c = rw c.in-Sequence.is (wanted_trees c.in-Sequence.items)

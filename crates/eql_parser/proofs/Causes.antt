@@ -1,0 +1,200 @@
+-- The cause of each refusal, and that every query within the limits is answered.
+use Rattle.std.proofs.Common.{◌≡◌, ℕ, suc, ◌<◌, ◌≤◌, max, inl, inr, ⊎_elim, List, [], ◌∷◌, ◌++◌, length, Ok, Err, refl, sym, ap, subst, ◌∙◌, arith, length-append, append_assoc, append-nil}
+use Rattle.eql_lexer.specs.declared.token.Token.{Token}
+use Rattle.eql_parser.specs.QueryTree.{QueryTree}
+use Rattle.eql_parser.specs.Kinds.{Kind, kind, kinds, open_}
+use Rattle.eql_parser.specs.QueryGrammar.{Reads}
+use Rattle.eql_parser.specs.Limits.{levels, open_behind}
+use Rattle.eql_parser.specs.Refusing.{Begins, NoQueryBegins, IsDeeperThan, Split, end_of, IsSyntax, IsLeftOutAt, IsTooDeep}
+use Rattle.eql_parser.specs.Reading.{Fail, Syntax, LeftOut, TooDeep, TooOpen, Res, expr}
+use Rattle.eql_parser.specs.QueryReading.{query, query_by}
+use Rattle.eql_parser.proofs.Complete.{query_all, query_complete}
+use Rattle.eql_parser.proofs.ExprGrows.{Same}
+use Rattle.eql_parser.proofs.Grows.{query_grows}
+use Rattle.eql_parser.proofs.Told.{Because, Told}
+use Rattle.eql_parser.proofs.Agrees.{Refuses, which}
+use Rattle.eql_parser.proofs.Local.{query_stops}
+use Rattle.eql_parser.proofs.Opened.{told_of, opened}
+use Rattle.eql_parser.proofs.Starts.{place_of, first_of, Follows}
+use Rattle.eql_parser.proofs.StartsQuery.{begun}
+
+-- a refusal that stays with more parentheses and levels allowed
+abbrev Stays : Fail → Type 0
+Stays (Syntax n) = Unit {0}
+Stays (LeftOut w n) = Unit {0}
+Stays (TooDeep n) = ⊥
+Stays (TooOpen n) = ⊥
+
+stays_refused : (r s : Res QueryTree) (e : Fail) → Stays e → r ≡ Err e → Same r s → s ≡ Err e
+stays_refused r s (Syntax n) h k i = subst (λ t. Same t s) k i
+stays_refused r s (LeftOut w n) h k i = subst (λ t. Same t s) k i
+stays_refused r s (TooDeep n) h k i = absurd h
+stays_refused r s (TooOpen n) h k i = absurd h
+
+two_answers : (r : Res QueryTree) (q : QueryTree) (e : Fail) → r ≡ Ok (q, []) → r ≡ Err e → ⊥
+two_answers r q e h k = let two : ◌≡◌ {A = Res QueryTree} (Ok (q, [])) (Err e) = sym h ∙ k in cc
+
+-- tokens that are refused so are no query
+pub none_read : (ts : List Kind) (e : Fail) → Stays e → query ts ≡ Err e → (q : QueryTree) → Reads ts q → ⊥
+none_read ts e s h q read =
+    let all = query_all (max 64 (levels q)) ts q read (omega arith) in
+    let d : ℕ = max 128 all.0 in
+    two_answers (query_by (expr d (max 64 (levels q))) ts) q e (all.1 d (omega arith))
+    (stays_refused (query ts) (query_by (expr d (max 64 (levels q))) ts) e s h (query_grows 128 d 64 (max 64 (levels q)) ts (omega arith) (omega arith)))
+
+refuses_none : (r : Res QueryTree) (q : QueryTree) → r ≡ Ok (q, []) → Refuses r → ⊥
+refuses_none r q h k = subst Refuses h k
+
+-- no query begins with the tokens through the one at which Syntax comes: m through it, and x behind it
+pub none_begins : (m x : List Kind) (n : ℕ) → query (m ++ x) ≡ Err (Syntax n) → length x < n → NoQueryBegins m
+none_begins m x n h i y q read =
+    let l : ℕ = max 64 (levels q) in
+    let all = query_all l (m ++ y) q read (omega arith) in
+    let d : ℕ = max 128 all.0 in
+    let here : query_by (expr 128 l) (m ++ x) ≡ Err (Syntax n) =
+    stays_refused (query (m ++ x)) (query_by (expr 128 l) (m ++ x)) (Syntax n) tt h (query_grows 128 128 64 l (m ++ x) (omega arith) (omega arith)) in
+    refuses_none (query_by (expr d l) (m ++ y)) q (all.1 d (omega arith)) (query_stops x y 128 d l m (Syntax n) (omega arith) here i)
+
+-- each query that begins with the tokens through the one at which TooDeep comes has more levels than are allowed
+pub deeper : (m x : List Kind) (n : ℕ) → query (m ++ x) ≡ Err (TooDeep n) → length x < n → IsDeeperThan 64 m
+deeper m x n h i y q read = ⊎_elim (λ more. more) (λ few. absurd (not_read few)) (which 64 (levels q))
+  where
+    not_read : levels q ≤ 64 → ⊥
+    not_read few =
+        let all = query_complete (m ++ y) q read few in
+        let d : ℕ = max 128 all.0 in
+        refuses_none (query_by (expr d 64) (m ++ y)) q (all.1 d (omega arith)) (query_stops x y 128 d 64 m (TooDeep n) (omega arith) h i)
+
+-- what a query says of the answer of the first run
+answers_it : (ts : List Kind) (q : QueryTree) (r s : Res QueryTree) → query ts ≡ r → s ≡ Ok (q, []) → Same r s → Reads ts q → levels q ≤ 64
+    → ((before behind : List Kind) → ts ≡ before ++ behind → open_behind 0 before ≤ 128) → r ≡ Ok (q, [])
+answers_it ts q (Ok p) s e f i read few calm = sym i ∙ f
+answers_it ts q (Err (Syntax n)) s e f i read few calm = absurd (two_answers s q (Syntax n) f i)
+answers_it ts q (Err (LeftOut w n)) s e f i read few calm = absurd (two_answers s q (LeftOut w n) f i)
+answers_it ts q (Err (TooDeep n)) s e f i read few calm =
+    let place = subst (λ s. Told 128 ts s) e (told_of ts) in
+    let whole : Reads (ts ++ []) q = subst (λ l. Reads l q) (sym (append-nil ts)) read in
+    let deep = deeper ts [] n (ap query (append-nil ts) ∙ e) (omega (arith, place.0)) [] q whole in
+    absurd (omega (arith, few, deep))
+answers_it ts q (Err (TooOpen n)) s e f i read few calm =
+    let place = opened ts n e in
+    let cut : ts ≡ (place.0 ++ open_ ∷ []) ++ place.1 = place.2 ∙ sym (append_assoc place.0 (open_ ∷ []) place.1) in
+    absurd (omega (arith, place.4, calm (place.0 ++ open_ ∷ []) place.1 cut))
+
+-- a query within the limits is answered
+pub answered : (ts : List Kind) (q : QueryTree) → Reads ts q → levels q ≤ 64 → ((before behind : List Kind) → ts ≡ before ++ behind → open_behind 0 before ≤ 128) → query ts ≡ Ok (q, [])
+answered ts q read few calm =
+    let all = query_complete ts q read few in
+    let d : ℕ = max 128 all.0 in
+    answers_it ts q (query ts) (query_by (expr d 64) ts) refl (all.1 d (omega arith)) (query_grows 128 d 64 64 ts (omega arith) (omega arith)) read few calm
+
+kinds_length : (tokens : List Token) → length (kinds tokens) ≡ length tokens
+kinds_length [] = refl
+kinds_length (t ∷ ts) = ap suc (kinds_length ts)
+
+pub kinds_both : (before behind : List Token) → kinds (before ++ behind) ≡ kinds before ++ kinds behind
+kinds_both [] behind = refl
+kinds_both (t ∷ before) behind = ap (λ l. kind t.tok ∷ l) (kinds_both before behind)
+
+-- no more tokens are left at the place than were given
+pub place_within : (tokens : List Token) (e : Fail) → query (kinds tokens) ≡ Err e → place_of e ≤ length tokens
+place_within tokens e h =
+    let b = begun (kinds tokens) e h in
+    omega (arith, ap length b.cut, length-append b.front b.behind, b.count, kinds_length tokens)
+
+-- only at the end may Syntax come with no token left
+abbrev pub IsInside : Fail → Type 0
+IsInside (Syntax n) = Unit {0}
+IsInside e = 0 < place_of e
+
+is_inside : (ts : List Kind) (e : Fail) → Because 128 ts e → IsInside e
+is_inside ts (Syntax n) h = tt
+is_inside ts (LeftOut w n) h = h.0
+is_inside ts (TooDeep n) h = h.0
+is_inside ts (TooOpen n) h = omega (arith, h.3)
+
+pub place_inside : (tokens : List Token) (e : Fail) → query (kinds tokens) ≡ Err e → IsInside e
+place_inside tokens e h = is_inside (kinds tokens) e (subst (λ r. Told 128 (kinds tokens) r) h (told_of (kinds tokens)))
+
+-- what begins with more tokens begins with fewer
+begins_front : (front others : List Kind) → Begins (front ++ others) → Begins front
+begins_front front others b = record { rest = others ++ b.rest; query = b.query; reads = subst (λ l. Reads l b.query) (append_assoc front others b.rest) b.reads }
+
+-- two ways to cut a list at one place
+same_cut : (a b c d : List Kind) → a ++ c ≡ b ++ d → length c ≡ length d → (a ≡ b) × (c ≡ d)
+same_cut [] [] c d e l = (refl, e)
+same_cut [] (y ∷ b) c d e l = absurd (omega (arith, ap length e, l, length-append b d))
+same_cut (x ∷ a) [] c d e l = absurd (omega (arith, ap length e, l, length-append a c))
+same_cut (x ∷ a) (y ∷ b) c d e l =
+    let tails : a ++ c ≡ b ++ d = cc in
+    let rest = same_cut a b c d tails l in
+    let heads : x ≡ y = cc in
+    (ap (λ z. z ∷ a) heads ∙ ap (λ m. y ∷ m) rest.0, rest.1)
+
+-- The tokens are some before, one at the place of the refusal, and some behind it.
+module _ (tokens before behind : List Token) (here : Token) (whole : tokens ≡ before ++ here ∷ behind) where
+  abbrev the_split : Split tokens here.start
+  the_split = record { before = before; here = here; behind = behind; whole = whole; starts = refl }
+
+  kinds_cut : kinds tokens ≡ kinds before ++ kind here.tok ∷ kinds behind
+  kinds_cut = ap kinds whole ∙ kinds_both before (here ∷ behind)
+
+  kinds_through : kinds tokens ≡ (kinds before ++ kinds (here ∷ [])) ++ kinds behind
+  kinds_through = kinds_cut ∙ sym (append_assoc (kinds before) (kinds (here ∷ [])) (kinds behind))
+
+  there : (e : Fail) → query (kinds tokens) ≡ Err e → query ((kinds before ++ kinds (here ∷ [])) ++ kinds behind) ≡ Err e
+  there e h = ap query (sym kinds_through) ∙ h
+
+  -- what could follow the tokens before the place
+  goes_on_there : (e : Fail) → place_of e ≡ suc (length behind) → query (kinds tokens) ≡ Err e
+      → (follows : List Kind) × Begins (kinds before ++ follows) × Follows [] e (kinds before) (kinds (here ∷ behind)) follows
+  goes_on_there e p h =
+      let b = begun (kinds tokens) e h in
+      let same = same_cut b.front (kinds before) b.behind (kinds (here ∷ behind)) (sym b.cut ∙ kinds_cut) (b.count ∙ p ∙ ap suc (sym (kinds_length behind))) in (
+        b.follows,
+        subst (λ m. Begins (m ++ b.follows)) same.0 b.begins,
+        subst (λ f. Follows [] e (kinds before) f b.follows) same.1 (subst (λ m. Follows [] e m b.behind b.follows) same.0 b.why),
+      )
+
+  pub syntax_cause : query (kinds tokens) ≡ Err (Syntax (suc (length behind))) → IsSyntax tokens here.start
+  syntax_cause h =
+      let on = goes_on_there (Syntax (suc (length behind))) refl h in
+      inl (
+        the_split,
+        begins_front (kinds before) on.0 on.1,
+        none_begins (kinds before ++ kinds (here ∷ [])) (kinds behind) (suc (length behind)) (there (Syntax (suc (length behind))) h) (omega (arith, kinds_length behind)),
+      )
+
+  pub left_out_cause : (w : List ℕ) → query (kinds tokens) ≡ Err (LeftOut w (suc (length behind))) → IsLeftOutAt tokens w here.start
+  left_out_cause w h =
+      let on = goes_on_there (LeftOut w (suc (length behind))) refl h in
+      ((the_split, on.0, on.2, on.1), none_read (kinds tokens) (LeftOut w (suc (length behind))) tt h)
+
+  pub too_deep_cause : query (kinds tokens) ≡ Err (TooDeep (suc (length behind))) → IsTooDeep tokens here.start
+  too_deep_cause h =
+      let on = goes_on_there (TooDeep (suc (length behind))) refl h in (
+        the_split,
+        subst (λ f. Begins (kinds before ++ f)) on.2 on.1,
+        inr (deeper (kinds before ++ kinds (here ∷ [])) (kinds behind) (suc (length behind)) (there (TooDeep (suc (length behind))) h) (omega (arith, kinds_length behind))),
+      )
+
+  pub too_open_cause : query (kinds tokens) ≡ Err (TooOpen (suc (length behind))) → IsTooDeep tokens here.start
+  too_open_cause h =
+      let on = goes_on_there (TooOpen (suc (length behind))) refl h in
+      let out = opened (kinds tokens) (suc (length behind)) h in
+      let same = same_cut out.0 (kinds before) (open_ ∷ out.1) (kinds (here ∷ behind)) (sym out.2 ∙ kinds_cut) (out.3 ∙ ap suc (sym (kinds_length behind))) in
+      let heads : open_ ∷ [] ≡ kinds (here ∷ []) = ap first_of same.1 in
+      let opens : open_behind 0 (kinds before ++ kinds (here ∷ [])) ≡ 129 =
+      subst (λ f. open_behind 0 (kinds before ++ f) ≡ 129) heads (subst (λ b. open_behind 0 (b ++ open_ ∷ []) ≡ 129) same.0 out.4) in
+      (the_split, subst (λ f. Begins (kinds before ++ f)) on.2 on.1, inl (omega (arith, opens)))
+
+no_token : (l : List Kind) → length l ≡ 0 → l ≡ []
+no_token [] h = refl
+no_token (k ∷ l) h = absurd (omega (arith, h))
+
+-- where the tokens end too early
+pub early_cause : (tokens : List Token) → query (kinds tokens) ≡ Err (Syntax 0) → IsSyntax tokens (end_of tokens)
+early_cause tokens h =
+    let b = begun (kinds tokens) (Syntax 0) h in
+    let whole : b.front ≡ kinds tokens = sym (b.cut ∙ ap (λ l. b.front ++ l) (no_token b.behind b.count) ∙ append-nil b.front) in
+    inr (refl, subst Begins whole (begins_front b.front b.follows b.begins), none_read (kinds tokens) (Syntax 0) tt h)

@@ -1,0 +1,6 @@
+use Rattle.std.proofs.Common.{refl}
+use Rattle.eql_parser.proofs.Pages.{page_grows}
+use Rattle.eql_parser.proofs.printing.page.Page.put_name.Goals as goal
+
+pub returns : goal.returns
+returns c = page_grows c.self.inside.text _ _ _ _ c.self.view_is c.in_ok-push_str.ensures.bytes refl

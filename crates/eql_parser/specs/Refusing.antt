@@ -1,0 +1,86 @@
+-- Why tokens are no query within the limits.
+use Rattle.std.specs.Prelude.{◌≡◌, ℕ, ◌<◌, ◌++◌, ℤ, true, false, ◌⊎◌, List, [], ◌∷◌, None, codes}
+use Rattle.std.specs.Str.{bytes_eq}
+use Rattle.eql_lexer.specs.declared.token.Token.{Token}
+use Rattle.eql_parser.specs.declared.expr.PatOp.TheVariants.{Colon}
+use Rattle.eql_parser.specs.declared.refusal.ParseRefused.{ParseRefused}
+use Rattle.eql_parser.specs.declared.refusal.ParseRefused.TheVariants as refused
+use Rattle.eql_parser.specs.Tree.{Tree, none, more}
+use Rattle.eql_parser.specs.QueryTree.{QueryTree}
+use Rattle.eql_parser.specs.Kinds.{Kind, bang_, bar_, join_, matches, regex_, sample_, sequence_, name, number, open_, open_item_, kinds}
+use Rattle.eql_parser.specs.Grammar.{IsArguments}
+use Rattle.eql_parser.specs.QueryGrammar.{IsQuery, Reads, is_fine_unit, pipe_of}
+use Rattle.eql_parser.specs.Limits.{levels, open_behind}
+
+-- some query begins with these tokens
+pub record Begins (front : List Kind) : Type 0 where
+  pub rest : List Kind
+  pub query : QueryTree
+  pub reads : Reads (front ++ rest) query
+
+-- no query begins with these tokens
+abbrev pub NoQueryBegins : List Kind → Type 0
+NoQueryBegins front = (rest : List Kind) (query : QueryTree) → Reads (front ++ rest) query → ⊥
+
+-- each query that begins with these tokens has more levels than this
+abbrev pub IsDeeperThan : ℕ → List Kind → Type 0
+IsDeeperThan most front = (rest : List Kind) (query : QueryTree) → Reads (front ++ rest) query → most < levels query
+
+-- `from`, behind `before`, begins with a form that the language has and this grammar leaves out, called by `word`. A form that this grammar has in its
+-- place begins with `instead`.
+pub data IsLeftOut : (before from : List Kind) → (word : List ℕ) → (instead : List Kind) → Type 0 where
+  samples : {ts : List Kind} → IsLeftOut [] (sample_ ∷ ts) (codes "sample") (sequence_ ∷ [])
+  joins : {ts : List Kind} → IsLeftOut [] (join_ ∷ ts) (codes "join") (sequence_ ∷ [])
+  missing_event : {before ts : List Kind} → IsLeftOut before (bang_ ∷ open_item_ ∷ ts) (codes "!") (open_item_ ∷ [])
+  regex : {before ts : List Kind} → IsLeftOut before (regex_ false ∷ ts) (codes "regex") (matches Colon ∷ [])
+  folding_regex : {before ts : List Kind} → IsLeftOut before (regex_ true ∷ ts) (codes "regex~") (matches Colon ∷ [])
+  fine_unit : {before ts : List Kind} {w : List ℕ} (front : List Kind) (n : ℤ) → before ≡ front ++ number n ∷ [] → is_fine_unit w ≡ true
+      → IsLeftOut before (name w ∷ ts) w (name (codes "s") ∷ [])
+  other_pipe : {before ts : List Kind} {w : List ℕ} (front : List Kind) → before ≡ front ++ bar_ ∷ [] → pipe_of w ≡ None → IsLeftOut before (name w ∷ ts) w (name (codes "head") ∷ [])
+  number_with_base : {before us rest : List Kind} {w : List ℕ} {a b : Tree} → bytes_eq w (codes "number") ≡ true → IsArguments us (more a (more b none)) rest
+      → IsLeftOut before (name w ∷ open_ ∷ us) (codes "number") (name w ∷ open_ ∷ [])
+
+-- the end of the last token, or 0
+abbrev pub end_of : List Token → ℕ
+end_of [] = 0
+end_of (t ∷ []) = t.end
+end_of (t ∷ u ∷ ts) = end_of (u ∷ ts)
+
+-- tokens up to one that starts at a place, and those behind it
+pub record Split (tokens : List Token) (at : ℕ) : Type 0 where
+  pub before : List Token
+  pub here : Token
+  pub behind : List Token
+  pub whole : tokens ≡ before ++ here ∷ behind
+  pub starts : here.start ≡ at
+
+-- the kinds of the tokens through the one at the place
+abbrev pub through : {tokens : List Token} {at : ℕ} → Split tokens at → List Kind
+through s = kinds s.before ++ kinds (s.here ∷ [])
+
+-- Some query begins with the tokens before the place, and none with those through it. Or the tokens end too early: some query begins with them, and
+-- they are none.
+abbrev pub IsSyntax : List Token → ℕ → Type 0
+IsSyntax tokens at =
+    ((s : Split tokens at) × Begins (kinds s.before) × NoQueryBegins (through s)) ⊎ ((at ≡ end_of tokens) × Begins (kinds tokens) × ((query : QueryTree) → IsQuery tokens query → ⊥))
+
+-- A left-out form begins at the place, some query goes on there with another form in its stead, and the tokens are no query.
+abbrev pub IsLeftOutAt : List Token → List ℕ → ℕ → Type 0
+IsLeftOutAt tokens word at =
+    ((s : Split tokens at) × (instead : List Kind) × IsLeftOut (kinds s.before) (kinds (s.here ∷ s.behind)) word instead × Begins (kinds s.before ++ instead))
+    × ((query : QueryTree) → IsQuery tokens query → ⊥)
+
+-- Some query begins with the tokens through the place, and there more than 128 parentheses stand open, or each such query has more than 64 levels.
+abbrev pub IsTooDeep : List Token → ℕ → Type 0
+IsTooDeep tokens at = (s : Split tokens at) × Begins (through s) × ((128 < open_behind 0 (through s)) ⊎ IsDeeperThan 64 (through s))
+
+-- the cause of each refusal
+abbrev pub Refused : List Token → ParseRefused → Type 0
+Refused tokens refused.Memory = Unit {0}
+Refused tokens (refused.Syntax at) = IsSyntax tokens at
+Refused tokens (refused.LeftOut word at) = IsLeftOutAt tokens word at
+Refused tokens (refused.TooDeep at) = IsTooDeep tokens at
+
+abbrev pub IsMemory : ParseRefused → Type 0
+IsMemory refused.Memory = Unit {0}
+IsMemory _ = ⊥

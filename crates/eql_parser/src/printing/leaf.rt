@@ -1,0 +1,108 @@
+//! How strings, names of fields, and literals are written.
+ghost use Rattle.std.specs.Prelude.{◌≡◌, ◌<◌, ◌++◌, ◌∷◌, ◌/◌, ◌%◌, codes, OnOk};
+ghost use Rattle.std.specs.Str.{chars};
+ghost use Rattle.eql_parser.specs.Adding.{Adds};
+ghost use Rattle.eql_parser.specs.Printed.{hex_digit, is_control, escaped, all_escaped, quoted, doubled, field_shown, literal_shown};
+
+use super::page::Page;
+use super::symbol::bool_text;
+use crate::expr::FieldRef;
+use eql_values::{Memory, Text, Value};
+
+/// A hexadecimal digit in lower case.
+fn hex_digit(number: u8) -> char
+    requires { number < 16 }
+    ensures { result ≡ hex_digit number }
+{
+    if number < 10 {
+        char::from(b'0' + number)
+    } else {
+        char::from(b'a' - 10 + number)
+    }
+}
+
+/// Whether a character is a control character of ASCII.
+fn is_control(c: char) -> bool
+    ensures { result ≡ is_control c }
+{
+    c < ' ' || c == '\u{7f}'
+}
+
+/// Writes a character by its number.
+fn put_code(page: &mut Page, code: u8) -> Result<(), Memory>
+    ensures { OnOk result (Adds page.old page.new (λ rest. codes "\\u{" ++ hex_digit (code / 16) ∷ hex_digit (code % 16) ∷ 125 ∷ rest)) }
+{
+    page.put("\\u{")?;
+    page.put_char(hex_digit(code / 16))?;
+    page.put_char(hex_digit(code % 16))?;
+    page.put("}")
+}
+
+/// Writes a character of a string.
+fn put_escaped(page: &mut Page, c: char) -> Result<(), Memory>
+    ensures { OnOk result (Adds page.old page.new (escaped c)) }
+{
+    match c {
+        '\n' => page.put("\\n"),
+        '\r' => page.put("\\r"),
+        '\t' => page.put("\\t"),
+        '\\' => page.put("\\\\"),
+        '"' => page.put("\\\""),
+        c if is_control(c) => put_code(page, c as u8),
+        c => page.put_char(c),
+    }
+}
+
+/// Writes the characters of a string.
+fn put_all_escaped(page: &mut Page, text: &str) -> Result<(), Memory>
+    ensures { OnOk result (Adds page.old page.new (all_escaped (chars text.now))) }
+{
+    for c in text.chars() {
+        put_escaped(page, c)?;
+    }
+    Ok(())
+}
+
+/// Writes a string in quotes.
+pub(crate) fn put_quoted(page: &mut Page, text: &Text) -> Result<(), Memory>
+    ensures { OnOk result (Adds page.old page.new (quoted text.now)) }
+{
+    page.put("\"")?;
+    put_all_escaped(page, text.text().as_str())?;
+    page.put("\"")
+}
+
+/// Writes a name, with each backtick doubled.
+fn put_doubled(page: &mut Page, name: &str) -> Result<(), Memory>
+    ensures { OnOk result (Adds page.old page.new (doubled (chars name.now))) }
+{
+    for c in name.chars() {
+        if c == '`' {
+            page.put("``")?;
+        } else {
+            page.put_char(c)?;
+        }
+    }
+    Ok(())
+}
+
+/// Writes a field: its whole name in backticks.
+pub(crate) fn put_field(page: &mut Page, field: &FieldRef) -> Result<(), Memory>
+    ensures { OnOk result (Adds page.old page.new (field_shown field.now.name field.now.optional)) }
+{
+    page.put(if field.optional { "?`" } else { "`" })?;
+    put_doubled(page, field.name.text().as_str())?;
+    page.put("`")
+}
+
+/// Writes a literal of a list.
+pub(crate) fn put_literal(page: &mut Page, literal: &Value) -> Result<(), Memory>
+    ensures { OnOk result (Adds page.old page.new (literal_shown literal.now)) }
+{
+    match literal {
+        Value::Bool(value) => page.put(bool_text(*value)),
+        Value::Long(number) => page.put_number(number),
+        Value::Text(text) => put_quoted(page, text),
+        _ => page.put("null"),
+    }
+}
