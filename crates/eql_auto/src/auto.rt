@@ -133,6 +133,7 @@ impl<T: Copy> Auto<T> {
         ensures gone { IsPermutation (self.new.gone ++ tags_of self.new.slots) (tags_of self.old.slots) }
         ensures ready { self.new.is_ready ≡ self.old.is_ready }
         ensures probes { steps.new ≤ steps.old + length self.old.slots }
+        ensures idle { self.old.span ≡ None → steps.new ≡ steps.old }
     {
         empty_stale(&mut self.table, &mut self.gone, self.span, reach, steps);
     }

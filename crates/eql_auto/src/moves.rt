@@ -146,6 +146,7 @@ pub(crate) fn empty_stale<T: Copy, L: Ledger>(
     ensures tags { IsPermutation (gone.new.items ++ tags_of table.new) (gone.old.items ++ tags_of table.old) }
     ensures room { vec_capacity gone.old ≤ vec_capacity gone.new }
     ensures probes { steps.new ≤ steps.old + length table.old }
+    ensures idle { span ≡ None → steps.new ≡ steps.old }
 {
     if let Some(span) = span {
         empty_slots(table, gone, Which::Stale { span, reach }, steps);

@@ -1,12 +1,13 @@
 -- What the keys of an event's routes come to, route by route.
-use Rattle.std.proofs.Common.{◌≡◌, ◌<◌, ◌≤◌, ◌+◌, ℕ, zero, suc, ℤ, Bool, true, false, cond, List, [], ◌∷◌, ◌++◌, map, length, drop, get_or, Option, Some, None, refl, sym, ap, ◌∙◌, subst, arith}
+use Rattle.std.proofs.Common.{◌≡◌, ◌<◌, ◌≤◌, ◌+◌, ℕ, zero, suc, ℤ, Bool, true, false, cond, List, [], ◌∷◌, ◌++◌, map, length, drop, get_or, Option, Some, None, refl, sym, ap, ◌∙◌, subst, arith, T}
 use Rattle.std.specs.Prelude.{All, find, IfSome, IsSome, not, ◌&&◌}
 use Rattle.std.specs.List.{cons_option, AllByRecursion}
 use Rattle.std.specs.Option.{option_to_list}
 use Rattle.std.specs.declared.cmp.Ordering.TheVariants.{Less}
-use Rattle.std.proofs.lemmas.List.{append_assoc, drop_more, get_or-map, length-map}
+use Rattle.std.proofs.lemmas.List.{append_assoc, drop_more}
 use Rattle.std.proofs.lemmas.List.Elements.{All-nil, All-cons, All-head, All-tail}
-use Rattle.std.proofs.lemmas.Map.Keys.{sorted_head, sorted_from_all_adjacent}
+use Rattle.std.specs.FinMap.Entries.{below_all, is_sorted}
+use Rattle.std.specs.Ordering.{is_lt}
 use Rattle.eql_values.specs.declared.order.OrderKey.{OrderKey}
 use Rattle.eql_values.specs.declared.value.Value.{Value}
 use Rattle.eql_values.specs.declared.item.Route.{Route}
@@ -14,27 +15,37 @@ use Rattle.eql_values.specs.declared.item.Act.{Act}
 use Rattle.eql_values.specs.Chains.{fits_after}
 use Rattle.eql_values.specs.Masks.{has_stage}
 use Rattle.eql_values.specs.Matching.{act_by}
-use Rattle.eql_values.specs.Orders.{key_cmp, key_cmp_total, key_eq}
+use Rattle.eql_values.specs.Orders.{key_cmp, key_eq}
+use Rattle.eql_values.specs.Routes.{RoutesInOrder}
 use Rattle.eql_laws.specs.OneEvent.{turned}
 use Rattle.eql_laws.specs.Slots.{Slots, arrived, stepped, moved}
-use Rattle.eql_laws.proofs.Facts.{less_is, less_not_equal}
+use Rattle.eql_laws.proofs.Facts.{both_true, is_less, less_is, less_not_equal}
 use Rattle.eql_auto.specs.Machine.{Machine}
 use Rattle.eql_span_list.specs.declared.node.Ticket.{Ticket}
 use Rattle.eql_part.specs.KeyTables.{KeepsOtherKeys, machine_of, slots_in, slots_of}
 use Rattle.eql_part.specs.declared.prepared.Prepared.{Prepared}
 use Rattle.eql_part.specs.Links.{IsLinked, Listed, Sequences, begun_by}
-use Rattle.eql_part.specs.Routed.{ArePrepared, IsPrepared, KeysAscend, all_begun}
+use Rattle.eql_part.specs.Routed.{ArePrepared, IsPrepared, all_begun}
 use Rattle.eql_part.proofs.Rows.{Row}
 use Rattle.eql_part.proofs.Linking.{own_key, same_key}
 
--- keys of which each comes before the next ascend
-pub ascend_by_place : (routes : List Route) → ((k : ℕ) (d : Route) → k + 1 < length routes → key_cmp (get_or routes k d).key (get_or routes (k + 1) d).key ≡ Less) → KeysAscend routes
-ascend_by_place routes h =
-    let keys = λ (route : Route). route.key in
-    let len = length-map routes keys in
-    sorted_from_all_adjacent key_cmp_total (map keys routes) [] (λ k lt.
-    let d : Route = record { key = []; mask = record { low = 0; high = 0 }; until = false } in
-    (λ i. key_cmp (get_or-map keys routes k d [] (omega arith) i) (get_or-map keys routes (k + 1) d [] (omega arith) i)) ∙ h k d (omega arith))
+-- routes by their keys
+abbrev by_key : List Route → List (List Value × Route)
+by_key = map (λ (r : Route). (r.key, r))
+
+-- the keys of routes that all come after this one
+keys_after : (key : List Value) (routes : List Route) → below_all key_cmp key (by_key routes) ≡ true → AllByRecursion (λ (y : List Value). key_cmp key y ≡ Less) (map (λ (r : Route). r.key) routes)
+keys_after key [] e = tt
+keys_after key (route ∷ routes) e =
+    let both = both_true (is_lt (key_cmp key route.key)) (below_all key_cmp key (by_key routes)) e in
+    (is_less (key_cmp key route.key) (subst T (sym both.0) tt), keys_after key routes both.1)
+
+-- the routes behind the first of routes in order have later keys, and stand in order
+pub later_keys : (route : Route) (routes : List Route) → RoutesInOrder (route ∷ routes) → AllByRecursion (λ (y : List Value). key_cmp route.key y ≡ Less) (map (λ (r : Route). r.key) routes)
+later_keys route routes e = keys_after route.key routes (both_true (below_all key_cmp route.key (by_key routes)) (is_sorted key_cmp (by_key routes)) e).0
+
+pub rest_in_order : (route : Route) (routes : List Route) → RoutesInOrder (route ∷ routes) → RoutesInOrder routes
+rest_in_order route routes e = (both_true (below_all key_cmp route.key (by_key routes)) (is_sorted key_cmp (by_key routes)) e).1
 
 -- another key comes after
 other_after : (key q : List Value) → key_cmp key q ≡ Less → key_eq key q ≡ false
@@ -65,11 +76,11 @@ later_same key (route ∷ routes) start cur new h others same =
     (later_same key routes start cur new h.1 others (All-tail was route routes same))
 
 -- what is left to do to a key, one route on
-pub one_on : (m : ℕ) (span : Option ℤ) (order : OrderKey) (route : Route) (routes : List Route) (cur new : List (Row Ticket)) → KeysAscend (route ∷ routes) → KeepsOtherKeys route.key cur new
+pub one_on : (m : ℕ) (span : Option ℤ) (order : OrderKey) (route : Route) (routes : List Route) (cur new : List (Row Ticket)) → RoutesInOrder (route ∷ routes) → KeepsOtherKeys route.key cur new
     → ((k : ℕ) → 1 ≤ k → k < m → slots_in new route.key k ≡ stepped span (slots_in cur route.key) (act_by order route) k)
     → (key : List Value) (k : ℕ) → suc k < m
     → turned span order (find (λ (r : Route). key_eq key r.key) routes) (slots_in new key) (suc k) ≡ turned span order (find (λ (r : Route). key_eq key r.key) (route ∷ routes)) (slots_in cur key) (suc k)
-one_on m span order route routes cur new ascend others moved key k lt = by (key_eq key route.key) refl
+one_on m span order route routes cur new in_order others moved key k lt = by (key_eq key route.key) refl
   where
     rest : Option Route
     rest = find (λ (r : Route). key_eq key r.key) routes
@@ -77,7 +88,7 @@ one_on m span order route routes cur new ascend others moved key k lt = by (key_
     by : (b : Bool) → key_eq key route.key ≡ b → turned span order rest (slots_in new key) (suc k) ≡ turned span order (cond b (Some route) rest) (slots_in cur key) (suc k)
     by true e =
         let same = same_key key route.key e in
-        ap (λ (o : Option Route). turned span order o (slots_in new key) (suc k)) (none_found route.key key routes same (sorted_head key_cmp route.key (map (λ (r : Route). r.key) routes) ascend))
+        ap (λ (o : Option Route). turned span order o (slots_in new key) (suc k)) (none_found route.key key routes same (later_keys route routes in_order))
         ∙ ap (λ (q : List Value). slots_in new q (suc k)) same
         ∙ moved (suc k) (omega arith) lt
         ∙ ap (λ (q : List Value). stepped span (slots_in cur q) (act_by order route) (suc k)) (sym same)

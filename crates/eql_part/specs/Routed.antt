@@ -1,13 +1,11 @@
 -- What the routes of an event need and do, route by route.
-use Rattle.std.specs.Prelude.{◌≡◌, ℕ, ℤ, List, [], ◌∷◌, ◌++◌, Option, Some, None, if◌then◌else◌, is_some, map}
+use Rattle.std.specs.Prelude.{◌≡◌, ℕ, ℤ, List, [], ◌∷◌, ◌++◌, Option, Some, None, if◌then◌else◌, is_some}
 use Rattle.std.specs.List.{filter_map}
-use Rattle.std.specs.List.Sorted.{IsStrictlySortedBy}
 use Rattle.std.specs.Option.{option_map}
 use Rattle.eql_values.specs.declared.order.OrderKey.{OrderKey}
 use Rattle.eql_values.specs.declared.item.Route.{Route}
 use Rattle.eql_values.specs.declared.found.Match.{Match}
 use Rattle.eql_values.specs.declared.value.Value.{Value}
-use Rattle.eql_values.specs.Orders.{key_cmp}
 use Rattle.eql_values.specs.Masks.{has_after, has_stage}
 use Rattle.eql_values.specs.Matching.{act_by}
 use Rattle.eql_laws.specs.Slots.{Slots, arrived}
@@ -40,7 +38,3 @@ tickets_in = filter_map (λ ready. ready.begun)
 -- the match that comes to the last stage of a route's key
 abbrev pub match_there : ℕ → Option ℤ → (List Value → Slots) → OrderKey → Route → Option Match
 match_there m span slots order route = option_map (λ c. record { key = route.key; chain = c }) (arrived span (slots route.key) (act_by order route) m)
-
--- the keys of the routes ascend strictly
-abbrev pub KeysAscend : List Route → Type 0
-KeysAscend routes = IsStrictlySortedBy key_cmp (map (λ (route : Route). route.key) routes)

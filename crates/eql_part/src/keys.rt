@@ -9,7 +9,7 @@ use crate::listing::Start;
 use crate::machine::KeyMachine;
 use crate::puts::{put_all, sort_by_start};
 use crate::rooms::Shape;
-use crate::routes::{keys_ascend, play};
+use crate::routes::play;
 use crate::sweeps::sweep_all;
 use eql_auto::Steps;
 use eql_laws::{
@@ -86,11 +86,8 @@ impl Keys {
         after_looks_up();
         after_in_order();
         same_holders();
+        item.routes.stand();
         let routes = item.routes.items();
-        // The type `Routes` has them ascend; the test says so here.
-        if !keys_ascend(routes) {
-            return Err(Memory);
-        }
         let mut found = Vec::with_capacity(self.shape.alloc, routes.len())?;
         play(
             &mut self.machines,

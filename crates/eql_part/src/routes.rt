@@ -1,15 +1,16 @@
 //! An event played to all keys that it has a route of.
-ghost use Rattle.std.specs.Prelude.{◌≡◌, ℕ, suc, ◌+◌, ◌<◌, ◌≤◌, ◌++◌, [], List, IfSome, IsSome, IsTrue, OnErr, OnOk, length, vec_len, vec_capacity, find};
+ghost use Rattle.std.specs.Prelude.{◌≡◌, ℕ, suc, ◌+◌, ◌<◌, ◌≤◌, ◌++◌, [], List, IfSome, IsSome, OnErr, OnOk, length, vec_len, vec_capacity, find};
 ghost use Rattle.std.specs.BTreeMap.{IsOrdered};
 ghost use Rattle.std.specs.List.{filter_map};
 ghost use Rattle.std.specs.Option.{option_map, option_to_list};
 ghost use Rattle.eql_values.specs.declared.item.Route.{Route};
 ghost use Rattle.eql_values.specs.declared.value.Value.{Value};
 ghost use Rattle.eql_values.specs.Orders.{key_cmp, key_eq};
+ghost use Rattle.eql_values.specs.Routes.{RoutesInOrder};
 ghost use Rattle.eql_laws.specs.OneEvent.{turned};
 ghost use Rattle.eql_part.specs.KeyTables.{AreOf, AreReadyFor, IsLaterAt, KeepsSequences, probes_of_all, sequences_in, slots_in};
 ghost use Rattle.eql_part.specs.Links.{IsLinked};
-ghost use Rattle.eql_part.specs.Routed.{ArePrepared, KeysAscend, all_begun, match_there};
+ghost use Rattle.eql_part.specs.Routed.{ArePrepared, all_begun, match_there};
 
 use crate::listing::{Start, tickets_differ};
 use crate::machine::KeyMachine;
@@ -21,18 +22,6 @@ use eql_span_list::SpanList;
 use eql_values::{Chain, Key, Match, Memory, OrderKey, Route};
 use std::collections::BTreeMap;
 use std::sync::ledger::Ledger;
-
-/// Whether the keys of routes ascend strictly.
-pub(crate) fn keys_ascend(routes: &Vec<Route>) -> bool
-    ensures { IsTrue result → KeysAscend routes.now.items }
-{
-    for place in 1..routes.len() {
-        if !routes[place - 1].key.cmp(&routes[place].key).is_lt() {
-            return false;
-        }
-    }
-    true
-}
 
 /// Adds the match of a key that has its event for the last stage, where there is one, in the room taken before.
 fn add_match(found: &mut Vec<Match>, key: Option<Key>, completed: Option<Chain>)
@@ -61,7 +50,7 @@ pub(crate) fn turn_all<L: Ledger>(
     requires to { shape.stages ≤ 256 }
     requires of { AreOf shape.stages shape.span machines.old.entries }
     requires ordered { IsOrdered key_cmp machines.old }
-    requires ascend { KeysAscend routes.now.items }
+    requires order { RoutesInOrder routes.now.items }
     requires ready { AreReadyFor routes.now.items machines.old.entries }
     requires later { (key : List Value) → IsLaterAt order machines.old.entries key }
     requires prepared { ArePrepared shape.stages routes.now.items prepared.items }
@@ -101,7 +90,7 @@ pub(crate) fn play<L: Ledger>(
     requires to { shape.stages ≤ 256 }
     requires of { AreOf shape.stages shape.span machines.old.entries }
     requires ordered { IsOrdered key_cmp machines.old }
-    requires ascend { KeysAscend routes.now.items }
+    requires order { RoutesInOrder routes.now.items }
     requires later { (key : List Value) → IsLaterAt order machines.old.entries key }
     requires linked { IsLinked [] (sequences_in machines.old.entries) list.old }
     requires room { vec_len found.old + length routes.now.items ≤ vec_capacity found.old }

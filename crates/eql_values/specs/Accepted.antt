@@ -1,4 +1,5 @@
 -- Which events of a text count, and the events of all texts below a mark.
+-- Times are in nanoseconds since the epoch, and a slack is in nanoseconds.
 use Rattle.std.specs.Prelude.{◌≡◌, ℕ, ◌+◌, ℤ, pos, ◌-ℤ◌, Bool, false, if◌then◌else◌, List, [], ◌∷◌, ◌++◌, map, filter, Option, Some, None, refl}
 use Rattle.std.specs.List.{list_any, filter_map}
 use Rattle.std.specs.Int.Signed.{lt_z}
@@ -69,7 +70,7 @@ below reads slack texts mark = sorted_items (filter (is_below mark) (accepted_fr
 abbrev pub all_events : Reads → Option ℤ → List (List ℕ) → List Item
 all_events reads slack texts = below reads slack texts End
 
--- a reader for the examples: the first byte is the time in seconds, and a second one the tiebreaker; a line of three bytes is rejected
+-- a reader for the examples: the first byte is the time, and a second one the tiebreaker; a line of no bytes, or of three or more, is blank
 abbrev event_of : ℤ → Option ℤ → ℕ → ℕ → LineGot
 event_of ts tie shard line =
     got.Item (record { order = record { ts = ts; tie = tie; shard = shard; line = line; at = 0 }; routes = record { key = []; mask = record { low = 1; high = 0 }; until = false } ∷ [] })
@@ -84,7 +85,7 @@ abbrev placed : ℤ → Option ℤ → ℕ → ℕ → ℕ → Item
 placed ts tie shard line at =
     record { order = record { ts = ts; tie = tie; shard = shard; line = line; at = at }; routes = record { key = []; mask = record { low = 1; high = 0 }; until = false } ∷ [] }
 
--- with a slack of 5 the second event, 7 before the first, is late, and the third, 4 before it, isn't
+-- with a slack of 5 nanoseconds the second event, 7 before the first, is late, and the third, 4 before it, isn't
 late_lines : all_events by_bytes (Some (pos 5)) ((20 ∷ 10 ∷ 13 ∷ 10 ∷ 16 ∷ 10 ∷ []) ∷ []) ≡ placed (pos 16) None 0 3 4 ∷ placed (pos 20) None 0 1 0 ∷ []
 late_lines = refl
 

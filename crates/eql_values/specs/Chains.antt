@@ -1,5 +1,6 @@
 -- How sequences are matched: what the machine of one key has after some items, by looking back over them.
 -- A past is a list of items with the latest first, so that a place i in a list of items is the past of length i.
+-- Times are in nanoseconds since the epoch, and a span is in nanoseconds.
 use Rattle.std.specs.Prelude.{ℕ, zero, suc, ℤ, ◌-ℤ◌, Bool, true, if◌then◌else◌, not, ◌&&◌, List, [], ◌∷◌, ◌++◌, Option, Some, None}
 use Rattle.std.specs.List.{list_any}
 use Rattle.std.specs.Int.Signed.{le_z}

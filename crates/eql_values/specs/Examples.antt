@@ -1,11 +1,11 @@
--- Worked examples of matching, computed. Each event is its line, and its time is as many seconds.
-use Rattle.std.specs.Prelude.{◌≡◌, ℕ, ◌*◌, pos, Bool, true, false, List, [], ◌∷◌, Some, None, refl, codes}
+-- Worked examples of matching, computed. Each event is its line, and its time is as many seconds after the epoch, in nanoseconds.
+use Rattle.std.specs.Prelude.{◌≡◌, ℕ, ◌*◌, ◌^◌, pos, Bool, true, false, List, [], ◌∷◌, map, Some, None, refl, codes}
 use Rattle.eql_values.specs.declared.order.OrderKey.{OrderKey}
 use Rattle.eql_values.specs.declared.value.Value.{Value}
 use Rattle.eql_values.specs.declared.value.Value.TheVariants as value
 use Rattle.eql_values.specs.declared.item.Item.{Item}
 use Rattle.eql_values.specs.declared.found.Holder.{Holder}
-use Rattle.eql_values.specs.Matching.{matches, after}
+use Rattle.eql_values.specs.Matching.{matches, after, stages_to}
 
 abbrev at : ℕ → OrderKey
 at line = record { ts = pos (line * 1000000000); tie = None; shard = 0; line = line; at = 0 }
@@ -41,7 +41,7 @@ runs : matches 4 None [] (says 1 [] 7 false ∷ says 2 [] 7 false ∷ says 3 [] 
     ≡ record { key = []; chain = at 2 ∷ at 3 ∷ at 4 ∷ at 5 ∷ [] } ∷ []
 runs = refl
 
--- the span is inclusive
+-- the span, of ten seconds, is inclusive
 maxspan_inclusive : matches 2 (Some (pos 10000000000)) [] (says 1 [] 1 false ∷ says 11 [] 2 false ∷ [])
     ≡ record { key = []; chain = at 1 ∷ at 11 ∷ [] } ∷ []
 maxspan_inclusive = refl
@@ -82,3 +82,16 @@ opening_holders_after = refl
 -- an event that ends the key empties what was pending
 opening_holders_until : matches 2 None (holds 1 [] (at 1 ∷ []) ∷ []) (says 2 [] 0 true ∷ says 3 [] 2 false ∷ []) ≡ []
 opening_holders_until = refl
+
+-- an event that fits stage 256 alone completes what is pending at stage 255, and nothing where nothing is
+abbrev says_256 : ℕ → Item
+says_256 line = record { order = at line; routes = record { key = []; mask = record { low = 0; high = 2 ^ 127 }; until = false } ∷ [] }
+
+stage_256 : matches 256 None (holds 255 [] (map at (stages_to 255)) ∷ []) (says_256 256 ∷ []) ≡ record { key = []; chain = map at (stages_to 256) } ∷ []
+stage_256 = refl
+
+stage_256_after : after 256 None (holds 255 [] (map at (stages_to 255)) ∷ []) (says_256 256 ∷ []) ≡ []
+stage_256_after = refl
+
+stage_256_alone : matches 256 None [] (says_256 256 ∷ []) ≡ []
+stage_256_alone = refl

@@ -1,4 +1,5 @@
 -- The order of bounds in time, what lies below one, and the bounds that are safe.
+-- Times are in nanoseconds since the epoch, and a slack is in nanoseconds.
 use Rattle.std.specs.Prelude.{ℕ, ℤ, pos, ◌-ℤ◌, Bool, true, false, List, Option, Some, None}
 use Rattle.std.specs.List.{list_all}
 use Rattle.std.specs.Int.Signed.{lt_z}

@@ -1,4 +1,4 @@
--- What a list of items gives: its matches, and the pending sequences after it.
+-- What a list of items gives: its matches, and the pending sequences after it. A span is in nanoseconds.
 use Rattle.std.specs.Prelude.{ℕ, zero, suc, ◌-◌, ℤ, List, [], ◌∷◌, ◌++◌, map, find, Option}
 use Rattle.std.specs.List.{filter_map, flat_map}
 use Rattle.std.specs.Option.{option_map}

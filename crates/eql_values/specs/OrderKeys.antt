@@ -1,4 +1,4 @@
--- The order of events.
+-- The order of events. Times are in nanoseconds since the epoch.
 use Rattle.std.specs.Prelude.{ℤ, Bool, true, ◌&&◌, List, [], ◌∷◌, Option, Some, None, IsTrue}
 use Rattle.std.specs.Ordering.{on, then_cmp, eq_by_cmp, is_lt, nat_cmp, int_cmp, ordering_reverse, ordering_then}
 use Rattle.std.specs.FinMap.{IsAntisymmetric, nat_cmp-IsAntisymmetric, int_cmp-IsAntisymmetric}

@@ -11,7 +11,7 @@ use Rattle.eql_values.specs.Routes.{RoutesStand}
 abbrev pub time_bound : ℤ
 time_bound = pos 9223372036854775808000000
 
--- the time lies within the bound
+-- the time, in nanoseconds since the epoch, lies within the bound
 abbrev pub IsTime : ℤ → Type 0
 IsTime t = (neg_ℤ time_bound ≤ℤ t) × (t ≤ℤ time_bound)
 

@@ -93,6 +93,13 @@ impl Routes {
     {
         self.items
     }
+
+    /// The routes of every event ascend strictly by their keys, and each has a stage or `until`. It does nothing.
+    pub fn stand(&self)
+        ensures { RoutesStand self.now }
+    {
+        let _ = &self.items;
+    }
 }
 
 /// An event: its place in the order, and its routes.

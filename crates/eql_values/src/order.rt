@@ -81,12 +81,12 @@ impl PartialOrd for OrderKey {
 }
 
 /// A bound in time. `Start` is below all events and `End` above all; `At` bounds the events of lesser
-/// timestamps, in nanoseconds since the epoch.
+/// timestamps.
 #[derive(Clone, Copy, Debug)]
 pub enum Mark {
     /// No event is below it.
     Start,
-    /// The events of a lesser timestamp are below it.
+    /// The events of a lesser timestamp, in nanoseconds since the epoch, are below it.
     At(i128),
     /// Every event is below it.
     End,

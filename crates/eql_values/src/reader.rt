@@ -29,8 +29,8 @@ pub trait LineReader {
     fn read(&self, alloc: Global, shard: u32, line: u32, bytes: &[u8]) -> Result<LineGot, Memory>
         ensures { IfOk result (λ got. got ≡ read_of self.now shard line bytes.now) };
 
-    // An event has the shard and the line that it was read at, the place 0, a timestamp that whole milliseconds
-    // of 64 signed bits can say, and routes in order.
+    // An event has the shard and the line that it was read at, the place 0, a timestamp in nanoseconds since the
+    // epoch that whole milliseconds of 64 signed bits can say, and routes in order.
     ghost reads_at: { (reader : Self) (shard line : ℕ) (bytes : List ℕ) (event : Event) → read_of reader shard line bytes ≡ Got.Item event → IsReadAt shard line event };
 
     // A line of more than 1,048,576 bytes is blank, or too long.

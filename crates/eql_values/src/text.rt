@@ -127,3 +127,12 @@ impl Texts {
         self.items
     }
 }
+
+impl Clone for Texts {
+    ghost is_clone = { λ old new. new ≡ old };
+
+    fn clone(&self) -> Result<Texts, AllocError> {
+        let items = self.items.clone()?;
+        Ok(Texts { items })
+    }
+}

@@ -1,17 +1,17 @@
-use Rattle.std.proofs.Common.{◌≡◌, ◌+◌, ◌++◌, ◌∷◌, [], ℕ, suc, List, Option, drop, length, map, refl, sym, ap, ◌∙◌, subst, arith}
+use Rattle.std.proofs.Common.{◌≡◌, ◌+◌, ◌++◌, ◌∷◌, [], ℕ, suc, List, Option, drop, length, refl, sym, ap, ◌∙◌, subst, arith}
 use Rattle.std.specs.Prelude.{All, IfSome, IsTrue, find}
 use Rattle.std.specs.List.{filter_map}
 use Rattle.std.specs.Option.{IsSomeAnd, option_map, option_to_list}
 use Rattle.std.specs.Vec.Iter.{into_iter_items}
 use Rattle.std.proofs.lemmas.List.{append-nil, drop_all}
 use Rattle.std.proofs.lemmas.List.Elements.{All-drop, All-head, All-tail}
-use Rattle.std.proofs.lemmas.Map.Keys.{sorted_head, sorted_tail}
 use Rattle.eql_values.specs.declared.found.Match.{Match}
 use Rattle.eql_values.specs.declared.item.Route.{Route}
 use Rattle.eql_values.specs.declared.order.OrderKey.{OrderKey}
 use Rattle.eql_values.specs.Masks.{has_stage}
 use Rattle.eql_values.specs.Matching.{act_by}
-use Rattle.eql_values.specs.Orders.{key_cmp, key_eq}
+use Rattle.eql_values.specs.Orders.{key_eq}
+use Rattle.eql_values.specs.Routes.{RoutesInOrder}
 use Rattle.eql_laws.specs.OneEvent.{turned}
 use Rattle.eql_laws.specs.Slots.{arrived}
 use Rattle.eql_auto.specs.Machine.{Machine, AllBefore}
@@ -19,8 +19,8 @@ use Rattle.eql_span_list.specs.declared.node.Ticket.{Ticket}
 use Rattle.eql_part.specs.KeyTables.{IsReadyIn, machine_of, probes_of_all, sequences_in, slots_in, slots_of}
 use Rattle.eql_part.specs.Links.{IsLinked}
 use Rattle.eql_part.specs.declared.prepared.Prepared.{Prepared}
-use Rattle.eql_part.specs.Routed.{ArePrepared, KeysAscend, all_begun, match_there}
-use Rattle.eql_part.proofs.Playing.{one_left, as_many, next_prepared, next_linked, later_same, one_on, keyed_if_completed, if_keyed, append_one}
+use Rattle.eql_part.specs.Routed.{ArePrepared, all_begun, match_there}
+use Rattle.eql_part.proofs.Playing.{later_keys, rest_in_order, one_left, as_many, next_prepared, next_linked, later_same, one_on, keyed_if_completed, if_keyed, append_one}
 use Rattle.eql_part.proofs.routes.turn_all.Goals as goal
 
 pub loop-route-init : goal.loop-route-init
@@ -32,7 +32,7 @@ loop-route-init g c =
     record {
       of = c.requires.of;
       ordered = c.requires.ordered;
-      ascend = c.requires.ascend;
+      order = c.requires.order;
       same = λ k d l. refl;
       slots = λ key k l. refl;
       found = refl;
@@ -114,7 +114,7 @@ loop-route-preserved g c =
     let here = All-head (λ (r : Route). machine_of c.loop-route.machines.entries r.key ≡ machine_of c.args.machines.now.entries r.key) route rest
     (subst (All (λ (r : Route). machine_of c.loop-route.machines.entries r.key ≡ machine_of c.args.machines.now.entries r.key)) more c.loop-route.invariant.same) in
     let same = subst (All (λ (r : Route). machine_of c.loop-route.machines.entries r.key ≡ machine_of c.args.machines.now.entries r.key)) more c.loop-route.invariant.same in
-    let ascend : KeysAscend (route ∷ rest) = subst KeysAscend more c.loop-route.invariant.ascend in
+    let in_order : RoutesInOrder (route ∷ rest) = subst RoutesInOrder more c.loop-route.invariant.order in
     let count = c.loop-route.invariant.count in let room = c.loop-route.invariant.room in let left = c.loop-route.invariant.left in
     let longer = c.add_match.ensures.len in let grown = c.add_match.ensures.room in
     let fewer = (c.in-Some.ensures {u = tt}).cases.1 in
@@ -127,10 +127,10 @@ loop-route-preserved g c =
     record {
       of = c.turn_key-completed.ensures.of;
       ordered = c.turn_key-completed.ensures.ordered;
-      ascend = sorted_tail key_cmp route.key (map (λ (r : Route). r.key) rest) ascend;
-      same = later_same route.key rest start cur new (sorted_head key_cmp route.key (map (λ (r : Route). r.key) rest) ascend) c.turn_key-completed.ensures.others
+      order = rest_in_order route rest in_order;
+      same = later_same route.key rest start cur new (later_keys route rest in_order) c.turn_key-completed.ensures.others
           (All-tail (λ (r : Route). machine_of cur r.key ≡ machine_of start r.key) route rest same);
-      slots = λ key k lt. one_on m c.args.shape.span c.args.order route rest cur new ascend c.turn_key-completed.ensures.others c.turn_key-completed.ensures.slots key k lt
+      slots = λ key k lt. one_on m c.args.shape.span c.args.order route rest cur new in_order c.turn_key-completed.ensures.others c.turn_key-completed.ensures.slots key k lt
           ∙ ap (λ (l : List Route). turned c.args.shape.span c.args.order (find (λ (r : Route). key_eq key r.key) l) (slots_in cur key) (suc k)) (sym more)
           ∙ c.loop-route.invariant.slots key k lt;
       found = ap (λ (l : List Match). l ++ filter_map (match_there m c.args.shape.span (slots_in start) c.args.order) rest)

@@ -6,17 +6,18 @@ use Rattle.std.specs.Vec.Iter.{into_iter_items, into_iter_len}
 use Rattle.eql_values.specs.declared.item.Route.{Route}
 use Rattle.eql_values.specs.declared.value.Value.{Value}
 use Rattle.eql_values.specs.Orders.{key_cmp, key_eq}
+use Rattle.eql_values.specs.Routes.{RoutesInOrder}
 use Rattle.eql_laws.specs.OneEvent.{turned}
 use Rattle.eql_part.specs.KeyTables.{AreOf, machine_of, probes_of_all, sequences_in, slots_in}
 use Rattle.eql_part.specs.Links.{IsLinked}
-use Rattle.eql_part.specs.Routed.{ArePrepared, KeysAscend, all_begun, match_there}
+use Rattle.eql_part.specs.Routed.{ArePrepared, all_begun, match_there}
 use Rattle.eql_part.proofs.routes.turn_all.Given as goal
 
 abbrev pub invariant-loop-route : goal.invariant-loop-route
 invariant-loop-route g l = record {
   of : AreOf l.shape.stages l.shape.span l.machines.entries;
   ordered : IsOrdered key_cmp l.machines;
-  ascend : KeysAscend (drop l.route-index l.routes.items);
+  order : RoutesInOrder (drop l.route-index l.routes.items);
   same : All (λ (route : Route). machine_of l.machines.entries route.key ≡ machine_of l.fn.machines.entries route.key) (drop l.route-index l.routes.items);
   slots : (key : List Value) (k : ℕ) → suc k < l.shape.stages
       → turned l.shape.span l.order (find (λ (route : Route). key_eq key route.key) (drop l.route-index l.routes.items)) (slots_in l.machines.entries key) (suc k)
