@@ -1,0 +1,10 @@
+use Rattle.std.proofs.Common.{◌≡◌, ◌+◌, [], drop}
+use Rattle.eql_check.specs.Kinds.{kind_at}
+use Rattle.eql_check.specs.Rules.{kinds_broken}
+use Rattle.eql_check.specs.Entries.{terms_in}
+use Rattle.eql_check.proofs.keys.check_kinds.Given as goal
+
+abbrev pub invariant-loop-index : goal.invariant-loop-index
+invariant-loop-index l =
+    kinds_broken (kind_at l.mapping) l.before.items (l.index + 1) (terms_in (drop l.index l.items))
+    ≡ kinds_broken (kind_at l.mapping) [] 1 (terms_in l.items)

@@ -1,0 +1,29 @@
+//! The kinds of expressions, and the check of a query against a mapping. specs/ also defines what conditions mean: Truth,
+//! with Functions, Comparisons, Arithmetic and ThreeValued.
+#![tactic(auto)]
+
+mod calls;
+mod checked;
+mod copy;
+mod expression;
+mod function;
+mod items;
+mod judge;
+mod keys;
+mod kinds;
+mod laws;
+mod limits;
+mod mapping;
+mod parts;
+mod refused;
+mod used;
+
+pub use checked::{Checked, conditions_are_bool, operators_meet_kinds};
+pub use function::Function;
+pub use judge::{can_check, check};
+pub use laws::{
+    check_is_exact, connectives_read, floors_are_exact, kinds_are_exact, kinds_are_kept,
+    kinds_are_met, texts_by_characters,
+};
+pub use mapping::{MapRefused, Mapping};
+pub use refused::CheckRefused;

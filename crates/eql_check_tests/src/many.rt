@@ -1,0 +1,167 @@
+//! The limits of how many fields, names, items and bytes there may be.
+use crate::answer::answers;
+use crate::mappings::read;
+use eql_check::Mapping;
+use std::alloc::Global;
+use std::test::Fail;
+
+/// The text of a mapping in which `f0`, `f1` and so on, so many, are Boolean fields.
+fn mapping_text(alloc: Global, count: usize) -> Result<String, Fail> {
+    let mut text = String::from_str(alloc, "{")?;
+    for n in 0..count {
+        if n > 0 {
+            text.push(',')?;
+        }
+        text.push_str(format!(in alloc; "\"f{n}\":\"boolean\"")?.as_str())?;
+    }
+    text.push('}')?;
+    Ok(text)
+}
+
+/// The names of these fields, with this between two.
+fn names(alloc: Global, count: usize, between: &str) -> Result<String, Fail> {
+    let mut text = String::new(alloc);
+    for n in 0..count {
+        if n > 0 {
+            text.push_str(between)?;
+        }
+        text.push_str(format!(in alloc; "f{n}")?.as_str())?;
+    }
+    Ok(text)
+}
+
+/// A mapping of 70 of these fields.
+fn mapping(alloc: Global) -> Result<Mapping, Fail> {
+    let text = mapping_text(alloc, 70)?;
+    Ok(Mapping::read(alloc, text.as_str().as_bytes())?)
+}
+
+#[test]
+fn most_fields(rt: HostRuntime) -> Result<(), Fail> {
+    let alloc = rt.alloc();
+    let mapping = mapping(alloc)?;
+    let any = names(alloc, 64, " or ")?;
+    let used = format!(in alloc; "0 keys {}", names(alloc, 64, " ")?)?;
+    // a field that is used twice counts once, and one that the mapping doesn't have never
+    for more in ["", " or f0 or f63", " or ?x"] {
+        let text = format!(in alloc; "any where {any}{more}")?;
+        answers(&rt, alloc, &mapping, text.as_str(), used.as_str())?;
+    }
+    Ok(())
+}
+
+#[test]
+fn many_fields(rt: HostRuntime) -> Result<(), Fail> {
+    let alloc = rt.alloc();
+    let mapping = mapping(alloc)?;
+    let any = names(alloc, 64, " or ")?;
+    let rows = [
+        ("any where ", " or f64"),
+        ("sequence by f64 [any where ", "] [any where true]"),
+        ("sequence [any where ", "] [any where f64]"),
+        // the field limit comes before those of spans and pipes
+        (
+            "sequence with maxspan=0s [any where f64 or ",
+            "] [any where true] | head 1000001",
+        ),
+    ];
+    for (front, behind) in rows {
+        let text = format!(in alloc; "{front}{any}{behind}")?;
+        answers(&rt, alloc, &mapping, text.as_str(), "ManyFields 65")?;
+    }
+    Ok(())
+}
+
+#[test]
+fn key_limit_comes_before_field_limit(rt: HostRuntime) -> Result<(), Fail> {
+    let alloc = rt.alloc();
+    let mapping = mapping(alloc)?;
+    let any = names(alloc, 65, " or ")?;
+    for (keys, wanted) in [(8, "ManyFields 65"), (9, "ManyKeys 9")] {
+        let keys = names(alloc, keys, ", ")?;
+        let text = format!(in alloc; "sequence by {keys} [any where {any}] [any where true]")?;
+        answers(&rt, alloc, &mapping, text.as_str(), wanted)?;
+    }
+    Ok(())
+}
+
+/// A sequence of so many items.
+fn sequence(alloc: Global, count: usize) -> Result<String, Fail> {
+    let mut text = String::from_str(alloc, "sequence")?;
+    for _ in 0..count {
+        text.push_str(" [any where true]")?;
+    }
+    Ok(text)
+}
+
+#[test]
+fn many_items(rt: HostRuntime) -> Result<(), Fail> {
+    let alloc = rt.alloc();
+    let mapping = mapping(alloc)?;
+    for (count, wanted) in [
+        (1, "FewStages"),
+        (2, "0 keys"),
+        (256, "0 keys"),
+        (257, "ManyStages 257"),
+    ] {
+        let text = sequence(alloc, count)?;
+        answers(&rt, alloc, &mapping, text.as_str(), wanted)?;
+    }
+    Ok(())
+}
+
+/// So many optional fields that the mapping doesn't have, with commas between.
+fn optional_fields(alloc: Global, count: usize) -> Result<String, Fail> {
+    let mut text = String::from_str(alloc, "?x")?;
+    for _ in 1..count {
+        text.push_str(",?x")?;
+    }
+    Ok(text)
+}
+
+/// The rules of keys by item are judged before there is a limit on their number.
+#[test]
+fn many_keys_of_items(rt: HostRuntime) -> Result<(), Fail> {
+    let alloc = rt.alloc();
+    let mapping = mapping(alloc)?;
+    let keys = optional_fields(alloc, 10_000)?;
+    for (behind, wanted) in [("", "ManyKeys 10000"), (",f0", "KeyCount 2")] {
+        let text = format!(in alloc;
+            "sequence [any where true] by {keys} [any where true] by {keys}{behind}"
+        )?;
+        answers(&rt, alloc, &mapping, text.as_str(), wanted)?;
+    }
+    Ok(())
+}
+
+#[test]
+fn many_names(rt: HostRuntime) -> Result<(), Fail> {
+    let alloc = rt.alloc();
+    for (count, wanted) in [(0, "0 names"), (1024, "1024 names"), (1025, "MapMany")] {
+        let text = mapping_text(alloc, count)?;
+        let got = read(alloc, text.as_str().as_bytes())?;
+        assert_eq!(rt; got.as_str(), wanted);
+    }
+    Ok(())
+}
+
+/// Mappings with blanks behind them: the limit of bytes comes before that of names.
+#[test]
+fn long_mappings(rt: HostRuntime) -> Result<(), Fail> {
+    let alloc = rt.alloc();
+    for (count, bytes, wanted) in [
+        (0, 4_194_304, "0 names"),
+        (0, 4_194_305, "MapLong"),
+        (1025, 4_194_304, "MapMany"),
+        (1025, 4_194_305, "MapLong"),
+    ] {
+        let mut text = mapping_text(alloc, count)?
+            .as_str()
+            .as_bytes()
+            .to_vec(alloc)?;
+        text.resize(bytes, b' ')?;
+        let got = read(alloc, &text)?;
+        assert_eq!(rt; got.as_str(), wanted, "{count} names in {bytes} bytes");
+    }
+    Ok(())
+}

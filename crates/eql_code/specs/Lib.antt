@@ -1,0 +1,5 @@
+pub mod Machine
+pub mod Code
+pub mod Folds
+pub mod Stack
+pub mod CodeExamples
