@@ -5,7 +5,7 @@ use Rattle.std.proofs.lemmas.Int.{ints}
 use Rattle.serde_json.specs.Data.{Data, null, boolean, number, string, array, object, no_members, member}
 use Rattle.serde_json.specs.Find.{as_integer}
 use Rattle.eql_values.specs.Reading.{IsTime, is_blank}
-use Rattle.eql_lines.specs.Json.{json_of}
+use Rattle.eql_json.specs.Json.{json_of}
 use Rattle.eql_lines.specs.First.{fits_long, event_at, event_with, event_of, line_of, first_line, IsInTime}
 use Rattle.eql_lines.specs.declared.first.FirstLine.{FirstLine}
 use Rattle.eql_lines.specs.declared.first.FirstLine.TheVariants.{Blank, Event, Other}

@@ -1,2 +1,1 @@
 pub mod InTime
-pub mod JsonLemmas

@@ -4,7 +4,7 @@ use Rattle.std.specs.Str.{bytes_eq, chars}
 use Rattle.serde_json.specs.Data.{Data, number, string, object, no_members, member}
 use Rattle.serde_json.specs.Find.{as_integer}
 use Rattle.eql_values.specs.Reading.{is_blank, IsTime}
-use Rattle.eql_lines.specs.Json.{json_of}
+use Rattle.eql_json.specs.Json.{json_of}
 use Rattle.eql_lines.specs.declared.first.FirstLine.{FirstLine}
 use Rattle.eql_lines.specs.declared.first.FirstLine.TheVariants.{Blank, Event, Other}
 

@@ -3,10 +3,11 @@ ghost use Rattle.std.specs.Prelude.{◌≡◌, ◌≤◌, IfOk, OnErr, false, le
 ghost use Rattle.serde_json.specs.View.{view, number_view};
 ghost use Rattle.serde_json.specs.Find.{as_integer};
 ghost use Rattle.eql_values.specs.Reading.{is_blank as is_blank_line};
-ghost use Rattle.eql_lines.specs.First.{first_line, event_of as event_in, event_with as event_under, IsInTime};
+ghost use Rattle.eql_lines.specs.First.{first_line, event_of as event_in};
+ghost use Rattle.eql_lines.specs.First.{event_with as event_under, IsInTime};
 
 use crate::blank::is_blank;
-use crate::json::read_json;
+use eql_json::read_json;
 use eql_values::{Memory, Text};
 use serde_json::{Number, Value};
 use std::alloc::Global;
@@ -33,14 +34,16 @@ pub enum FirstLine {
     Other,
 }
 
-/// Reads a line, given without its line feed. An event is a JSON object of at most 1,048,576 bytes with exactly the
-/// names `@timestamp`, a whole number of milliseconds since the epoch that fits 64 signed bits, and `event`, an
-/// object with the one name `category`, a text.
+/// Reads a line, given without its line feed. An event is a JSON object of at most 1,048,576 bytes
+/// with exactly the names `@timestamp`, a whole number of milliseconds since the epoch that fits 64
+/// signed bits, and `event`, an object with the one name `category`, a text. The timestamp of an
+/// event is within what those milliseconds can say. `Memory` is reported only for a line that is
+/// read as JSON.
 pub fn read_first(alloc: Global, bytes: &[u8]) -> Result<FirstLine, Memory>
     ensures line { IfOk result (λ line. line ≡ first_line bytes.now) }
     ensures in_time { IfOk result IsInTime }
 
-    // Memory is wanted only for a line that is read as JSON.
+    // Memory runs out only at a line that is read as JSON.
     ensures memory_not_blank { OnErr result (is_blank_line bytes.now ≡ false) }
     ensures memory_not_long { OnErr result (length bytes.now ≤ 1048576) }
 {
@@ -73,7 +76,8 @@ fn event_of(value: &Value) -> Result<FirstLine, Memory>
 
 /// The event at a number of milliseconds, with what stands under `event`.
 fn event_with(time: &Number, event: &Value) -> Result<FirstLine, Memory>
-    ensures { IfOk result (λ line. line ≡ event_under (as_integer (number_view time.now)) (view event.now)) }
+    ensures { let millis = as_integer (number_view time.now) in
+        IfOk result (λ line. line ≡ event_under millis (view event.now)) }
 {
     let Value::Object(members) = event else {
         return Ok(FirstLine::Other);

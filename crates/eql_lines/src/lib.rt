@@ -3,9 +3,5 @@
 
 mod blank;
 mod first;
-mod json;
 
 pub use first::{FirstLine, read_first};
-
-#[cfg(test)]
-mod tests;

@@ -1,6 +1,7 @@
 pub mod Wants
 pub mod Agreement
 pub mod Orders
+pub mod Names
 pub mod OrderKeys
 pub mod Masks
 pub mod Routes
@@ -12,6 +13,10 @@ pub mod Reading
 pub mod Accepted
 pub mod Chains
 pub mod Matching
+pub mod Totals
 pub mod Routing
+pub mod Adjacent
+pub mod Shown
 pub mod Numbering
 pub mod Examples
+pub mod Fitting

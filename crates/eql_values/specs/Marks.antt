@@ -4,11 +4,7 @@ use Rattle.std.specs.Prelude.{ℕ, ℤ, pos, ◌-ℤ◌, Bool, true, false, List
 use Rattle.std.specs.List.{list_all}
 use Rattle.std.specs.Int.Signed.{lt_z}
 use Rattle.std.specs.Ordering.{on, then_cmp, eq_by_cmp, is_le, nat_cmp, int_cmp}
-use Rattle.std.specs.Cmp.{IsTotalOrder}
-use Rattle.std.specs.FinMap.{IsAntisymmetric, int_cmp-IsAntisymmetric}
 use Rattle.std.specs.declared.cmp.Ordering.{Ordering}
-use Rattle.std.proofs.lemmas.Cmp.{on_total, then_total, nat_cmp_total, int_cmp_total}
-use Rattle.std.proofs.Common.{refl, ap}
 use Rattle.eql_values.specs.declared.item.Item.{Item}
 use Rattle.eql_values.specs.declared.order.Mark.{Mark}
 use Rattle.eql_values.specs.declared.order.Mark.TheVariants.{Start, At, End}
@@ -29,16 +25,6 @@ mark_cmp = then_cmp (on mark_rank nat_cmp) (on time_in int_cmp)
 
 abbrev pub mark_eq : Mark → Mark → Bool
 mark_eq = eq_by_cmp mark_cmp
-
-pub mark_cmp_total : IsTotalOrder mark_cmp
-mark_cmp_total = then_total (on_total mark_rank nat_cmp_total) (on_total time_in int_cmp_total)
-
--- marks that compare as equal are equal
-pub mark_same : IsAntisymmetric mark_cmp
-mark_same Start Start e = refl
-mark_same (At t) (At u) e = ap At (int_cmp-IsAntisymmetric t u e)
-mark_same End End e = refl
-mark_same _ _ e = cc
 
 -- the item lies below the mark: it has a lesser timestamp; every item is below the end, and none below the start
 abbrev pub is_below : Mark → Item → Bool

@@ -3,10 +3,11 @@ ghost use Rattle.std.specs.Prelude.{◌≡◌};
 
 use crate::found::Numbereds;
 use crate::item::Items;
+use std::alloc::AllocError;
 use std::marker::Model;
 
-/// Why a line is rejected. Of several reasons the first in this order is told, but for the last three,
-/// which come with the field that is refused first.
+/// Why a line is rejected. Of several reasons the first in this order is told, but for the last
+/// three, which come with the field that is refused first.
 #[derive(Clone, Copy, Debug, PartialEq, Eq)]
 pub enum Reason {
     /// It has more than 1,048,576 bytes without its line feed.
@@ -52,7 +53,7 @@ pub struct Counts {
 }
 
 /// What is kept of a shard between two rounds of a run.
-#[derive(Debug, Drop)]
+#[derive(Drop)]
 pub struct LaneCut {
     /// The bytes of the lines that were read, with their line ends.
     pub offset: u64,
@@ -66,8 +67,23 @@ pub struct LaneCut {
     pub items: Items,
 }
 
+impl Clone for LaneCut {
+    ghost is_clone = { λ old new. new ≡ old };
+
+    fn clone(&self) -> Result<LaneCut, AllocError> {
+        let items = self.items.clone()?;
+        Ok(LaneCut {
+            offset: self.offset,
+            closed: self.closed,
+            best: self.best,
+            counts: self.counts,
+            items,
+        })
+    }
+}
+
 /// What is kept of each shard.
-#[derive(Debug, Drop)]
+#[derive(Drop)]
 pub struct LaneCuts {
     items: Vec<LaneCut>,
 }
@@ -104,6 +120,15 @@ impl LaneCuts {
     }
 }
 
+impl Clone for LaneCuts {
+    ghost is_clone = { λ old new. new ≡ old };
+
+    fn clone(&self) -> Result<LaneCuts, AllocError> {
+        let items = self.items.clone()?;
+        Ok(LaneCuts { items })
+    }
+}
+
 /// A pipe at the end of a query.
 #[derive(Clone, Copy, Debug, PartialEq, Eq)]
 pub enum Pipe {
@@ -114,7 +139,7 @@ pub enum Pipe {
 }
 
 /// The pipes of a query, from left to right.
-#[derive(Debug, Drop)]
+#[derive(Drop)]
 pub struct Pipes {
     items: Vec<Pipe>,
 }
@@ -151,8 +176,17 @@ impl Pipes {
     }
 }
 
+impl Clone for Pipes {
+    ghost is_clone = { λ old new. new ≡ old };
+
+    fn clone(&self) -> Result<Pipes, AllocError> {
+        let items = self.items.clone()?;
+        Ok(Pipes { items })
+    }
+}
+
 /// What a pipe has seen of its input.
-#[derive(Debug, Drop)]
+#[derive(Drop)]
 pub enum PipeState {
     /// How many matches a head let through.
     Head {
@@ -166,8 +200,22 @@ pub enum PipeState {
     },
 }
 
+impl Clone for PipeState {
+    ghost is_clone = { λ old new. new ≡ old };
+
+    fn clone(&self) -> Result<PipeState, AllocError> {
+        match self {
+            PipeState::Head { passed } => Ok(PipeState::Head { passed: *passed }),
+            PipeState::Tail { kept } => {
+                let kept = kept.clone()?;
+                Ok(PipeState::Tail { kept })
+            }
+        }
+    }
+}
+
 /// What each pipe has seen, from left to right.
-#[derive(Debug, Drop)]
+#[derive(Drop)]
 pub struct PipeStates {
     items: Vec<PipeState>,
 }
@@ -204,8 +252,17 @@ impl PipeStates {
     }
 }
 
+impl Clone for PipeStates {
+    ghost is_clone = { λ old new. new ≡ old };
+
+    fn clone(&self) -> Result<PipeStates, AllocError> {
+        let items = self.items.clone()?;
+        Ok(PipeStates { items })
+    }
+}
+
 /// What is kept of the output between two rounds of a run.
-#[derive(Debug, Drop)]
+#[derive(Drop)]
 pub struct BookCut {
     /// How many matches were found.
     pub found: u64,
@@ -213,4 +270,17 @@ pub struct BookCut {
     pub listed: u64,
     /// What each pipe has seen.
     pub pipes: PipeStates,
+}
+
+impl Clone for BookCut {
+    ghost is_clone = { λ old new. new ≡ old };
+
+    fn clone(&self) -> Result<BookCut, AllocError> {
+        let pipes = self.pipes.clone()?;
+        Ok(BookCut {
+            found: self.found,
+            listed: self.listed,
+            pipes,
+        })
+    }
 }

@@ -4,10 +4,11 @@ ghost use Rattle.eql_values.specs.OrderKeys.{EventsAscend};
 
 use crate::order::OrderKey;
 use crate::value::Key;
+use std::alloc::AllocError;
 use std::marker::Model;
 
 /// The events of a sequence, in strictly ascending order.
-#[derive(Debug, Drop)]
+#[derive(Drop)]
 pub struct Chain {
     items: Vec<OrderKey>,
 }
@@ -55,8 +56,17 @@ impl Chain {
     }
 }
 
+impl Clone for Chain {
+    ghost is_clone = { λ old new. new ≡ old };
+
+    fn clone(&self) -> Result<Chain, AllocError> {
+        let items = self.items.clone()?;
+        Ok(Chain { items })
+    }
+}
+
 /// A sequence that has its event for the last stage.
-#[derive(Debug, Drop)]
+#[derive(Drop)]
 pub struct Match {
     /// The key whose machine found it.
     pub key: Key,
@@ -64,8 +74,18 @@ pub struct Match {
     pub chain: Chain,
 }
 
+impl Clone for Match {
+    ghost is_clone = { λ old new. new ≡ old };
+
+    fn clone(&self) -> Result<Match, AllocError> {
+        let key = self.key.clone()?;
+        let chain = self.chain.clone()?;
+        Ok(Match { key, chain })
+    }
+}
+
 /// A list of matches.
-#[derive(Debug, Drop)]
+#[derive(Drop)]
 pub struct Matches {
     items: Vec<Match>,
 }
@@ -102,8 +122,17 @@ impl Matches {
     }
 }
 
+impl Clone for Matches {
+    ghost is_clone = { λ old new. new ≡ old };
+
+    fn clone(&self) -> Result<Matches, AllocError> {
+        let items = self.items.clone()?;
+        Ok(Matches { items })
+    }
+}
+
 /// A match with its number in the listing, from 1.
-#[derive(Debug, Drop)]
+#[derive(Drop)]
 pub struct Numbered {
     /// The number.
     pub number: u64,
@@ -111,8 +140,20 @@ pub struct Numbered {
     pub found: Match,
 }
 
+impl Clone for Numbered {
+    ghost is_clone = { λ old new. new ≡ old };
+
+    fn clone(&self) -> Result<Numbered, AllocError> {
+        let found = self.found.clone()?;
+        Ok(Numbered {
+            number: self.number,
+            found,
+        })
+    }
+}
+
 /// A list of numbered matches.
-#[derive(Debug, Drop)]
+#[derive(Drop)]
 pub struct Numbereds {
     items: Vec<Numbered>,
 }
@@ -149,8 +190,17 @@ impl Numbereds {
     }
 }
 
+impl Clone for Numbereds {
+    ghost is_clone = { λ old new. new ≡ old };
+
+    fn clone(&self) -> Result<Numbereds, AllocError> {
+        let items = self.items.clone()?;
+        Ok(Numbereds { items })
+    }
+}
+
 /// A pending sequence: its key, the last stage that it has an event for, and its events.
-#[derive(Debug, Drop)]
+#[derive(Drop)]
 pub struct Holder {
     /// The key.
     pub key: Key,
@@ -160,8 +210,22 @@ pub struct Holder {
     pub chain: Chain,
 }
 
+impl Clone for Holder {
+    ghost is_clone = { λ old new. new ≡ old };
+
+    fn clone(&self) -> Result<Holder, AllocError> {
+        let key = self.key.clone()?;
+        let chain = self.chain.clone()?;
+        Ok(Holder {
+            key,
+            stage: self.stage,
+            chain,
+        })
+    }
+}
+
 /// A list of pending sequences.
-#[derive(Debug, Drop)]
+#[derive(Drop)]
 pub struct Holders {
     items: Vec<Holder>,
 }
@@ -198,8 +262,17 @@ impl Holders {
     }
 }
 
+impl Clone for Holders {
+    ghost is_clone = { λ old new. new ≡ old };
+
+    fn clone(&self) -> Result<Holders, AllocError> {
+        let items = self.items.clone()?;
+        Ok(Holders { items })
+    }
+}
+
 /// The pending sequences of one key: stages with their chains.
-#[derive(Debug, Drop)]
+#[derive(Drop)]
 pub struct StageChains {
     items: Vec<(u32, Chain)>,
 }

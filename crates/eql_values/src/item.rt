@@ -5,10 +5,11 @@ ghost use Rattle.eql_values.specs.Routes.{RoutesStand};
 
 use crate::order::OrderKey;
 use crate::value::Key;
+use std::alloc::AllocError;
 use std::marker::Model;
 
 /// The stages, from 1 to 256, that an event fits.
-#[derive(Clone, Copy, Debug)]
+#[derive(Clone, Copy, PartialEq, Eq)]
 pub struct Mask {
     /// Bit k - 1 is stage k, for stages 1 to 128.
     pub low: u128,
@@ -32,7 +33,7 @@ impl Mask {
 }
 
 /// What an event says to the machine of one key.
-#[derive(Debug, Drop)]
+#[derive(Drop)]
 pub struct Route {
     /// The key.
     pub key: Key,
@@ -42,8 +43,21 @@ pub struct Route {
     pub until: bool,
 }
 
+impl Clone for Route {
+    ghost is_clone = { λ old new. new ≡ old };
+
+    fn clone(&self) -> Result<Route, AllocError> {
+        let key = self.key.clone()?;
+        Ok(Route {
+            key,
+            mask: self.mask,
+            until: self.until,
+        })
+    }
+}
+
 /// What an event says by one of its routes, with the event's place in the order.
-#[derive(Clone, Copy, Debug)]
+#[derive(Clone, Copy)]
 pub struct Act {
     /// The event's place in the order.
     pub order: OrderKey,
@@ -53,8 +67,9 @@ pub struct Act {
     pub until: bool,
 }
 
-/// The routes of an event, in strictly ascending order of their keys, each with a stage or `until`.
-#[derive(Debug, Drop)]
+/// The routes of an event, in strictly ascending order of their keys, each with a stage or
+/// `until`.
+#[derive(Drop)]
 pub struct Routes {
     items: Vec<Route>,
 }
@@ -94,7 +109,8 @@ impl Routes {
         self.items
     }
 
-    /// The routes of every event ascend strictly by their keys, and each has a stage or `until`. It does nothing.
+    /// The routes of every event ascend strictly by their keys, and each has a stage or `until`.
+    /// It does nothing.
     pub fn stand(&self)
         ensures { RoutesStand self.now }
     {
@@ -102,8 +118,17 @@ impl Routes {
     }
 }
 
+impl Clone for Routes {
+    ghost is_clone = { λ old new. new ≡ old };
+
+    fn clone(&self) -> Result<Routes, AllocError> {
+        let items = self.items.clone()?;
+        Ok(Routes { items })
+    }
+}
+
 /// An event: its place in the order, and its routes.
-#[derive(Debug, Drop)]
+#[derive(Drop)]
 pub struct Item {
     /// The place in the order.
     pub order: OrderKey,
@@ -111,8 +136,20 @@ pub struct Item {
     pub routes: Routes,
 }
 
+impl Clone for Item {
+    ghost is_clone = { λ old new. new ≡ old };
+
+    fn clone(&self) -> Result<Item, AllocError> {
+        let routes = self.routes.clone()?;
+        Ok(Item {
+            order: self.order,
+            routes,
+        })
+    }
+}
+
 /// A list of events.
-#[derive(Debug, Drop)]
+#[derive(Drop)]
 pub struct Items {
     items: Vec<Item>,
 }
@@ -149,8 +186,17 @@ impl Items {
     }
 }
 
+impl Clone for Items {
+    ghost is_clone = { λ old new. new ≡ old };
+
+    fn clone(&self) -> Result<Items, AllocError> {
+        let items = self.items.clone()?;
+        Ok(Items { items })
+    }
+}
+
 /// A list of lists of events.
-#[derive(Debug, Drop)]
+#[derive(Drop)]
 pub struct ItemLists {
     items: Vec<Items>,
 }
@@ -184,5 +230,14 @@ impl ItemLists {
         ensures { result.items ≡ self }
     {
         self.items
+    }
+}
+
+impl Clone for ItemLists {
+    ghost is_clone = { λ old new. new ≡ old };
+
+    fn clone(&self) -> Result<ItemLists, AllocError> {
+        let items = self.items.clone()?;
+        Ok(ItemLists { items })
     }
 }

@@ -1,6 +1,7 @@
-//! The values that all rooms of the house share: the values of fields and the keys made of them, the order of
-//! events, events with what they say to each key, pending sequences and matches, the pipes, the counts of
-//! lines, and the trait of a reader of lines. The definitions of matching stand in specs/.
+//! The values that all crates share: the values of fields and the keys made of them, the order of
+//! events, events with what they say to each key, pending sequences and matches, the pipes, the
+//! counts of lines, the trait of a reader of lines, the test of a span, and how texts are shown in
+//! messages. The definitions of matching stand in specs/.
 #![tactic(auto)]
 
 mod cut;
@@ -10,6 +11,8 @@ mod laws;
 mod memory;
 mod order;
 mod reader;
+mod shown;
+mod span;
 mod text;
 mod value;
 
@@ -18,9 +21,11 @@ pub use cut::{
 };
 pub use found::{Chain, Holder, Holders, Match, Matches, Numbered, Numbereds, StageChains};
 pub use item::{Act, Item, ItemLists, Items, Mask, Route, Routes};
-pub use laws::orders_agree_with_equality;
+pub use laws::{order_from_next, orders_agree_with_equality, orders_told_alike};
 pub use memory::Memory;
 pub use order::{Mark, OrderKey};
 pub use reader::{LineGot, LineReader};
+pub use shown::push_shown;
+pub use span::is_in_time;
 pub use text::{Text, Texts};
 pub use value::{Key, Kind, Literals, NameKinds, Slots, Value};

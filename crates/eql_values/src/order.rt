@@ -1,11 +1,13 @@
 //! The order of events, and bounds in time.
 ghost use Rattle.std.specs.Prelude.{◌≡◌};
 ghost use Rattle.std.proofs.Common.{rules};
-ghost use Rattle.std.specs.Cmp.{partial_order_from_total, partial_equiv_from_equiv, eq_by_cmp_equiv};
+ghost use Rattle.std.specs.Cmp.{partial_order_from_total};
+ghost use Rattle.std.specs.Cmp.{partial_equiv_from_equiv, eq_by_cmp_equiv};
 ghost use Rattle.std.specs.Cmp.Rules.{comparing};
 ghost use Rattle.std.specs.Ordering.{as_partial_cmp};
-ghost use Rattle.eql_values.specs.OrderKeys.{tie_cmp, order_cmp, order_eq, order_cmp_total};
-ghost use Rattle.eql_values.specs.Marks.{mark_rank, mark_cmp, mark_eq, mark_cmp_total};
+ghost use Rattle.eql_values.specs.OrderKeys.{tie_cmp, order_cmp, order_eq};
+ghost use Rattle.eql_values.specs.Totals.{order_cmp_total, mark_cmp_total};
+ghost use Rattle.eql_values.specs.Marks.{mark_rank, mark_cmp, mark_eq};
 
 use std::cmp::Ordering;
 
@@ -80,8 +82,8 @@ impl PartialOrd for OrderKey {
     }
 }
 
-/// A bound in time. `Start` is below all events and `End` above all; `At` bounds the events of lesser
-/// timestamps.
+/// A bound in time. `Start` is below all events and `End` above all; `At` bounds the events of
+/// lesser timestamps.
 #[derive(Clone, Copy, Debug)]
 pub enum Mark {
     /// No event is below it.

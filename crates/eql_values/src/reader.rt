@@ -10,7 +10,7 @@ use crate::memory::Memory;
 use std::alloc::Global;
 
 /// What a line gives.
-#[derive(Debug, Drop)]
+#[derive(Drop)]
 pub enum LineGot {
     /// It has nothing but spaces, tabs and carriage returns.
     Blank,
@@ -22,17 +22,30 @@ pub enum LineGot {
 
 /// A reader of lines.
 pub trait LineReader {
-    /// What a line gives, by its shard (from 0), its number (from 1) and its bytes without the line feed.
+    /// What a line gives, by its shard (from 0), its number (from 1) and its bytes without the
+    /// line feed.
     ghost read_of: { Self → ℕ → ℕ → List ℕ → Got };
 
-    /// Reads a line, given by its shard (from 0), its number (from 1) and its bytes without the line feed.
-    fn read(&self, alloc: Global, shard: u32, line: u32, bytes: &[u8]) -> Result<LineGot, Memory>
-        ensures { IfOk result (λ got. got ≡ read_of self.now shard line bytes.now) };
+    /// Reads a line, given by its shard (from 0), its number (from 1) and its bytes without the
+    /// line feed.
+    /// The reader may change, but not in what it reads.
+    fn read(
+        &mut self,
+        alloc: Global,
+        shard: u32,
+        line: u32,
+        bytes: &[u8],
+    ) -> Result<LineGot, Memory>
+        ensures got { IfOk result (λ got. got ≡ read_of self.old shard line bytes.now) }
+        ensures stays { read_of self.new ≡ read_of self.old };
 
-    // An event has the shard and the line that it was read at, the place 0, a timestamp in nanoseconds since the
-    // epoch that whole milliseconds of 64 signed bits can say, and routes in order.
-    ghost reads_at: { (reader : Self) (shard line : ℕ) (bytes : List ℕ) (event : Event) → read_of reader shard line bytes ≡ Got.Item event → IsReadAt shard line event };
+    // An event has the shard and the line that it was read at, the place 0, a timestamp in
+    // nanoseconds since the epoch that whole milliseconds of 64 signed bits can say, and routes in
+    // order.
+    ghost reads_at: { (reader : Self) (shard line : ℕ) (bytes : List ℕ) (event : Event)
+        → read_of reader shard line bytes ≡ Got.Item event → IsReadAt shard line event };
 
     // A line of more than 1,048,576 bytes is blank, or too long.
-    ghost reads_long: { (reader : Self) (shard line : ℕ) (bytes : List ℕ) → 1048576 < length bytes → read_of reader shard line bytes ≡ too_long bytes };
+    ghost reads_long: { (reader : Self) (shard line : ℕ) (bytes : List ℕ) → 1048576 < length bytes
+        → read_of reader shard line bytes ≡ too_long bytes };
 }

@@ -11,8 +11,8 @@ use std::alloc::AllocError;
 use std::cmp::Ordering;
 use std::marker::Model;
 
-/// A text. Contracts see it as the list of its characters, each by its Unicode scalar value. Texts are
-/// ordered by their characters, which is the order of their UTF-8 bytes.
+/// A text. Contracts see it as the list of its characters, each by its Unicode scalar value. Texts
+/// are ordered by their characters, which is the order of their UTF-8 bytes.
 #[derive(Debug, Drop)]
 pub struct Text {
     text: String,
@@ -83,7 +83,8 @@ impl Ord for Text {
 impl PartialOrd for Text {
     ghost partial_cmp = { as_partial_cmp text_cmp };
 
-    ghost laws = { partial_order_from_own_ties (Prim.search (comparing, rules)) (Prim.search (comparing, rules)) };
+    ghost laws = { partial_order_from_own_ties
+        (Prim.search (comparing, rules)) (Prim.search (comparing, rules)) };
 
     fn partial_cmp(&self, other: &Text) -> Option<Ordering> {
         Some(self.cmp(other))
@@ -91,7 +92,7 @@ impl PartialOrd for Text {
 }
 
 /// A list of texts.
-#[derive(Debug, Drop)]
+#[derive(Drop)]
 pub struct Texts {
     items: Vec<Text>,
 }

@@ -1,10 +1,13 @@
 //! Values of fields, and the lists of values that events and queries hold.
 ghost use Rattle.std.specs.Prelude.{◌≡◌};
 ghost use Rattle.std.proofs.Common.{rules};
-ghost use Rattle.std.specs.Cmp.{partial_order_from_total, partial_equiv_from_equiv, eq_by_cmp_equiv};
+ghost use Rattle.std.specs.Cmp.{partial_order_from_total};
+ghost use Rattle.std.specs.Cmp.{partial_equiv_from_equiv, eq_by_cmp_equiv};
 ghost use Rattle.std.specs.Cmp.Rules.{comparing};
 ghost use Rattle.std.specs.Ordering.{as_partial_cmp};
-ghost use Rattle.eql_values.specs.Orders.{kind_rank, value_cmp, value_eq, value_cmp_total, key_cmp, key_eq, key_cmp_total};
+ghost use Rattle.eql_values.specs.Names.{names_eq};
+ghost use Rattle.eql_values.specs.Orders.{kind_rank, value_cmp, value_eq, key_cmp, key_eq};
+ghost use Rattle.eql_values.specs.Totals.{value_cmp_total, key_cmp_total, names_eq_equiv};
 
 use crate::text::Text;
 use std::alloc::AllocError;
@@ -26,7 +29,7 @@ pub enum Kind {
 
 /// The value of a field of an event. Values are ordered as the variants stand here, and within
 /// one variant by what it holds.
-#[derive(Debug, Drop)]
+#[derive(Drop)]
 pub enum Value {
     /// The field is missing or has no single value.
     Null,
@@ -117,7 +120,7 @@ impl PartialOrd for Value {
 }
 
 /// A join key: the values of the key fields, in their order. Keys are ordered as lists.
-#[derive(Debug, Drop)]
+#[derive(Drop)]
 pub struct Key {
     items: Vec<Value>,
 }
@@ -202,7 +205,7 @@ impl PartialOrd for Key {
 }
 
 /// The values of the used fields of an event, in the order of the fields.
-#[derive(Debug, Drop)]
+#[derive(Drop)]
 pub struct Slots {
     items: Vec<Value>,
 }
@@ -239,8 +242,17 @@ impl Slots {
     }
 }
 
+impl Clone for Slots {
+    ghost is_clone = { λ old new. new ≡ old };
+
+    fn clone(&self) -> Result<Slots, AllocError> {
+        let items = self.items.clone()?;
+        Ok(Slots { items })
+    }
+}
+
 /// The literals of a list test.
-#[derive(Debug, Drop)]
+#[derive(Drop)]
 pub struct Literals {
     items: Vec<Value>,
 }
@@ -287,7 +299,7 @@ impl Clone for Literals {
 }
 
 /// Names of fields with their kinds.
-#[derive(Debug, Drop)]
+#[derive(Drop)]
 pub struct NameKinds {
     items: Vec<(Text, Kind)>,
 }
@@ -322,5 +334,28 @@ impl NameKinds {
         ensures { result.items ≡ self }
     {
         self.items
+    }
+}
+
+impl PartialEq for NameKinds {
+    ghost eq = { names_eq };
+
+    ghost laws = { partial_equiv_from_equiv names_eq_equiv };
+
+    fn eq(&self, other: &NameKinds) -> bool {
+        self.items == other.items
+    }
+}
+
+impl Eq for NameKinds {
+    ghost laws = { names_eq_equiv };
+}
+
+impl Clone for NameKinds {
+    ghost is_clone = { λ old new. new ≡ old };
+
+    fn clone(&self) -> Result<NameKinds, AllocError> {
+        let items = self.items.clone()?;
+        Ok(NameKinds { items })
     }
 }
