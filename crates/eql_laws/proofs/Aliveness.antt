@@ -6,7 +6,7 @@ use Rattle.std.proofs.lemmas.Int.{ints}
 use Rattle.eql_values.specs.declared.order.OrderKey.{OrderKey}
 use Rattle.eql_values.specs.declared.item.Act.{Act}
 use Rattle.eql_values.specs.Chains.{fits_after, in_time, chain, holder}
-use Rattle.eql_laws.specs.Slots.{Slots, moved, arrived, stepped}
+use Rattle.eql_laws.specs.Slots.{Slots, chain_moved_on, chain_coming, slots_after}
 use Rattle.eql_laws.specs.Alive.{IsSpan, alive_at}
 use Rattle.eql_values.specs.Ordered.{found_or}
 use Rattle.eql_laws.proofs.Stepping.{chain_step, holder_step, holder_start}
@@ -46,21 +46,21 @@ module _ (span : Option ℤ) (is_span : IsSpan span) (t : ℤ) where
   one_moves c item true h le = ap (λ (a : Bool). cond a (Some (c ++ item.order ∷ [])) None) (in_time_on span c t item.order is_span le h)
   one_moves c item false h le = refl
 
-  moved_alive : (o : Option (List OrderKey)) (item : Act) → t ≤ℤ item.order.ts → alive_at span t (moved span o item) ≡ moved span o item
+  moved_alive : (o : Option (List OrderKey)) (item : Act) → t ≤ℤ item.order.ts → alive_at span t (chain_moved_on span o item) ≡ chain_moved_on span o item
   moved_alive None item le = refl
   moved_alive (Some c) item le = one_moves c item (in_time span c item.order.ts) refl le
 
   one_kept : (c : List OrderKey) (item : Act) (a b : Bool) → in_time span c t ≡ a → in_time span c item.order.ts ≡ b → t ≤ℤ item.order.ts
-      → moved span (cond a (Some c) None) item ≡ cond b (Some (c ++ item.order ∷ [])) None
+      → chain_moved_on span (cond a (Some c) None) item ≡ cond b (Some (c ++ item.order ∷ [])) None
   one_kept c item true b g h le = ap (λ (x : Bool). cond x (Some (c ++ item.order ∷ [])) None) h
   one_kept c item false false g h le = refl
   one_kept c item false true g h le = let k = in_time_before span c t item.order.ts le h in cc
 
-  moved_kept : (o : Option (List OrderKey)) (item : Act) → t ≤ℤ item.order.ts → moved span (alive_at span t o) item ≡ moved span o item
+  moved_kept : (o : Option (List OrderKey)) (item : Act) → t ≤ℤ item.order.ts → chain_moved_on span (alive_at span t o) item ≡ chain_moved_on span o item
   moved_kept None item le = refl
   moved_kept (Some c) item le = one_kept c item (in_time span c t) (in_time span c item.order.ts) refl refl le
 
-  arrived_kept : (slots : Slots) (item : Act) (k : ℕ) → t ≤ℤ item.order.ts → arrived span (λ j. alive_at span t (slots j)) item k ≡ arrived span slots item k
+  arrived_kept : (slots : Slots) (item : Act) (k : ℕ) → t ≤ℤ item.order.ts → chain_coming span (λ j. alive_at span t (slots j)) item k ≡ chain_coming span slots item k
   arrived_kept slots item zero le = refl
   arrived_kept slots item (suc zero) le = refl
   arrived_kept slots item (suc (suc k)) le =
@@ -70,11 +70,11 @@ module _ (span : Option ℤ) (is_span : IsSpan span) (t : ℤ) where
   cond_alive true o h = h
   cond_alive false o h = refl
 
-  arrived_alive : (slots : Slots) (item : Act) (k : ℕ) → t ≤ℤ item.order.ts → alive_at span t (arrived span slots item k) ≡ arrived span slots item k
+  arrived_alive : (slots : Slots) (item : Act) (k : ℕ) → t ≤ℤ item.order.ts → alive_at span t (chain_coming span slots item k) ≡ chain_coming span slots item k
   arrived_alive slots item zero le = refl
   arrived_alive slots item (suc zero) le =
       cond_alive (fits_after 0 item) (Some (item.order ∷ [])) (ap (λ (b : Bool). cond b (Some (item.order ∷ [])) None) (new_in_time span t item.order is_span le))
-  arrived_alive slots item (suc (suc k)) le = cond_alive (fits_after (suc k) item && not item.until) (moved span (slots (suc k)) item) (moved_alive (slots (suc k)) item le)
+  arrived_alive slots item (suc (suc k)) le = cond_alive (fits_after (suc k) item && not item.until) (chain_moved_on span (slots (suc k)) item) (moved_alive (slots (suc k)) item le)
 
   either_alive : (a r : Option (List OrderKey)) → alive_at span t a ≡ a → alive_at span t (found_or a r) ≡ found_or a (alive_at span t r)
   either_alive None r h = refl
@@ -85,12 +85,12 @@ module _ (span : Option ℤ) (is_span : IsSpan span) (t : ℤ) where
   stays_alive false o = refl
 
   -- leaving out before an item what is dead, and after it, is the same
-  pub stepped_alive : (slots : Slots) (item : Act) (k : ℕ) → t ≤ℤ item.order.ts
-      → stepped span (λ j. alive_at span t (slots j)) item k ≡ alive_at span t (stepped span slots item k)
-  stepped_alive slots item k le =
+  pub slots_after_alive : (slots : Slots) (item : Act) (k : ℕ) → t ≤ℤ item.order.ts
+      → slots_after span (λ j. alive_at span t (slots j)) item k ≡ alive_at span t (slots_after span slots item k)
+  slots_after_alive slots item k le =
       ap (λ (a : Option (List OrderKey)). found_or a (cond (fits_after k item || item.until) None (alive_at span t (slots k)))) (arrived_kept slots item k le)
-      ∙ ap (found_or (arrived span slots item k)) (sym (stays_alive (fits_after k item || item.until) (slots k)))
-      ∙ sym (either_alive (arrived span slots item k) (cond (fits_after k item || item.until) None (slots k)) (arrived_alive slots item k le))
+      ∙ ap (found_or (chain_coming span slots item k)) (sym (stays_alive (fits_after k item || item.until) (slots k)))
+      ∙ sym (either_alive (chain_coming span slots item k) (cond (fits_after k item || item.until) None (slots k)) (arrived_alive slots item k le))
 
   pub holder_alive : (opening : Slots) (past : List Act) (k : ℕ) → AllFrom t past
       → holder span (λ j. alive_at span t (opening j)) k past ≡ alive_at span t (holder span opening k past)
@@ -98,8 +98,8 @@ module _ (span : Option ℤ) (is_span : IsSpan span) (t : ℤ) where
   holder_alive opening [] (suc k) from = holder_start span (λ j. alive_at span t (opening j)) k ∙ sym (ap (alive_at span t) (holder_start span opening k))
   holder_alive opening (item ∷ past) k from =
       holder_step span (λ j. alive_at span t (opening j)) k item past
-      ∙ (λ i. stepped span (λ j. holder_alive opening past j from.1 i) item k)
-      ∙ stepped_alive (λ j. holder span opening j past) item k from.0
+      ∙ (λ i. slots_after span (λ j. holder_alive opening past j from.1 i) item k)
+      ∙ slots_after_alive (λ j. holder span opening j past) item k from.0
       ∙ sym (ap (alive_at span t) (holder_step span opening k item past))
 
   -- no match by later items needs a dead sequence
@@ -107,6 +107,6 @@ module _ (span : Option ℤ) (is_span : IsSpan span) (t : ℤ) where
       → chain span (λ j. alive_at span t (opening j)) k (item ∷ past) ≡ chain span opening k (item ∷ past)
   chain_alive opening item past k from =
       chain_step span (λ j. alive_at span t (opening j)) k item past
-      ∙ (λ i. arrived span (λ j. holder_alive opening past j from.1 i) item k)
+      ∙ (λ i. chain_coming span (λ j. holder_alive opening past j from.1 i) item k)
       ∙ arrived_kept (λ j. holder span opening j past) item k from.0
       ∙ sym (chain_step span opening k item past)

@@ -20,8 +20,11 @@ use Rattle.eql_values.specs.Accepted.{Reads, event_at, readable, is_late, accept
 use Rattle.eql_values.specs.Ascending.{AllAfter, Ascending}
 use Rattle.eql_values.specs.Lines.{Line, begin_with, lines_of, numbered_lines, lines_in}
 use Rattle.eql_values.specs.Marks.{is_below}
-use Rattle.eql_values.specs.OrderKeys.{order_cmp, order_cmp_total, order_same}
-use Rattle.eql_values.specs.Ordered.{in_order, in_order-sorted}
+use Rattle.eql_values.specs.OrderKeys.{order_cmp}
+use Rattle.eql_values.specs.Totals.{order_cmp_total}
+use Rattle.eql_values.proofs.Same.{order_same}
+use Rattle.eql_values.specs.Ordered.{in_order}
+use Rattle.eql_values.proofs.InOrder.{in_order-sorted}
 use Rattle.eql_values.specs.Reading.{IsTime, IsReadAt}
 use Rattle.eql_values.specs.Routes.{RoutesInOrder, RoutesStand}
 use Rattle.eql_laws.specs.Belows.{IsReading, HasRoutesInOrder, SortedAscends, BelowAscends, SortedEach, SortedMore, SortedBelow, BelowGrows, IsAcceptedOf, AcceptedOfText, IsBelow, BelowAre, OpenLow, OpenLowAtLeast, IsMarkTime, greatest_slack}

@@ -16,7 +16,7 @@ use Rattle.eql_values.specs.Chains.{fits_after, in_time, chain, holder}
 use Rattle.eql_values.specs.Orders.{key_eq}
 use Rattle.eql_values.specs.Ordered.{found_or, in_order}
 use Rattle.eql_values.specs.Matching.{Openings, Slot, slot_cmp, act_by, acts_of, onto, opening_of, held_after, stages_to, entries_of, keys_in, after, match_by, matches_after}
-use Rattle.eql_laws.specs.Slots.{Slots, moved, arrived, stepped}
+use Rattle.eql_laws.specs.Slots.{Slots, chain_moved_on, chain_coming, slots_after}
 use Rattle.eql_laws.specs.Merging.{holder_of}
 use Rattle.eql_laws.proofs.Stepping.{chain_step, holder_step, holder_start}
 use Rattle.eql_laws.proofs.Elements.{All-filter_map, All-flat_map, All-in_order}
@@ -70,21 +70,21 @@ module _
   abbrev pub AllHeld : Option OrderKey → Slots → Type 0
   AllHeld bound slots = (k : ℕ) → IfSome (slots (suc k)) (Held bound (suc k))
 
-  moved_made : (item : Act) (k : ℕ) (o : Option (List OrderKey)) → IfSome o (Held (Some item.order) (suc k)) → IfSome (moved span o item) (Made item.order (suc (suc k)))
+  moved_made : (item : Act) (k : ℕ) (o : Option (List OrderKey)) → IfSome o (Held (Some item.order) (suc k)) → IfSome (chain_moved_on span o item) (Made item.order (suc (suc k)))
   moved_made item k None h = tt
   moved_made item k (Some c) h =
       if_then (Made item.order (suc (suc k))) (in_time span c item.order.ts) (Some (c ++ item.order ∷ [])) (extend item.order k c h)
 
-  arrived_made : (item : Act) (slots : Slots) → AllHeld (Some item.order) slots → (k : ℕ) → IfSome (arrived span slots item k) (Made item.order k)
+  arrived_made : (item : Act) (slots : Slots) → AllHeld (Some item.order) slots → (k : ℕ) → IfSome (chain_coming span slots item k) (Made item.order k)
   arrived_made item slots h zero = tt
   arrived_made item slots h (suc zero) = if_then (Made item.order 1) (fits_after 0 item) (Some (item.order ∷ [])) (single item.order)
   arrived_made item slots h (suc (suc k)) =
-      if_then (Made item.order (suc (suc k))) (fits_after (suc k) item && not item.until) (moved span (slots (suc k)) item) (moved_made item k (slots (suc k)) (h k))
+      if_then (Made item.order (suc (suc k))) (fits_after (suc k) item && not item.until) (chain_moved_on span (slots (suc k)) item) (moved_made item k (slots (suc k)) (h k))
 
-  stepped_held : (item : Act) (bound : Option OrderKey) (slots : Slots) → AllHeld (Some item.order) slots → Before item.order bound → AllHeld bound (stepped span slots item)
+  stepped_held : (item : Act) (bound : Option OrderKey) (slots : Slots) → AllHeld (Some item.order) slots → Before item.order bound → AllHeld bound (slots_after span slots item)
   stepped_held item bound slots h before k =
-      if_found (Held bound (suc k)) (arrived span slots item (suc k)) (cond (fits_after (suc k) item || item.until) None (slots (suc k)))
-      (if_more (Made item.order (suc k)) (Held bound (suc k)) (arrived span slots item (suc k)) (λ c made. later item.order bound (suc k) c made before) (arrived_made item slots h (suc k)))
+      if_found (Held bound (suc k)) (chain_coming span slots item (suc k)) (cond (fits_after (suc k) item || item.until) None (slots (suc k)))
+      (if_more (Made item.order (suc k)) (Held bound (suc k)) (chain_coming span slots item (suc k)) (λ c made. later item.order bound (suc k) c made before) (arrived_made item slots h (suc k)))
       (if_else (Held bound (suc k)) (fits_after (suc k) item || item.until) (slots (suc k))
       (if_more (Held (Some item.order) (suc k)) (Held bound (suc k)) (slots (suc k)) (λ c held. weaken item.order bound (suc k) c held before) (h k)))
 

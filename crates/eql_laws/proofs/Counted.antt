@@ -9,7 +9,7 @@ use Rattle.eql_values.specs.declared.reader.LineGot.{LineGot}
 use Rattle.eql_values.specs.declared.reader.LineGot.TheVariants as got
 use Rattle.eql_values.specs.Accepted.{Reads, event_at, readable, is_late, accepted_after}
 use Rattle.eql_values.specs.Lines.{Line, begin_with, lines_of, numbered_lines, lines_in}
-use Rattle.eql_laws.specs.Counting.{is_blank_line, blank, bad_at, rejected, late_after, first_in, CountsOfStand, LinesAreOfFour, FirstBadIsLine, IsShardText, front, FrontsWithin, FrontsFit}
+use Rattle.eql_laws.specs.Counting.{is_blank_line, blank, bad_at, rejections, late_after, first_in, CountsOfStand, LinesAreOfFour, FirstBadIsLine, IsShardText, front, FrontsWithin, FrontsFit}
 use Rattle.eql_laws.specs.Places.{ReadTo, whole}
 use Rattle.eql_laws.proofs.BelowLemmas.{IsLineOf, lines_stand}
 use Rattle.eql_laws.proofs.Elements.{All-filter_map}
@@ -23,12 +23,12 @@ one_of_three (got.Bad reason) line blanks events bads n e = omega (arith, e)
 -- each line is blank, readable or rejected
 of_three : (reads : Reads) (shard number at : ℕ) (lines : List (List ℕ))
     → length lines ≡ length (blank reads shard (numbered_lines number at lines)) + length (readable reads shard (numbered_lines number at lines))
-    + length (rejected reads shard (numbered_lines number at lines))
+    + length (rejections reads shard (numbered_lines number at lines))
 of_three reads shard number at [] = refl
 of_three reads shard number at (bytes ∷ lines) =
     one_of_three (reads shard number bytes) (record { number = number; at = at; bytes = bytes })
     (blank reads shard (numbered_lines (number + 1) (at + length bytes + 1) lines)) (readable reads shard (numbered_lines (number + 1) (at + length bytes + 1) lines))
-    (rejected reads shard (numbered_lines (number + 1) (at + length bytes + 1) lines)) (length lines) (of_three reads shard (number + 1) (at + length bytes + 1) lines)
+    (rejections reads shard (numbered_lines (number + 1) (at + length bytes + 1) lines)) (length lines) (of_three reads shard (number + 1) (at + length bytes + 1) lines)
 
 -- each event is accepted or late
 of_two : (slack : Option ℤ) (earlier items : List Item) → length items ≡ length (accepted_after slack earlier items) + length (late_after slack earlier items)
@@ -51,7 +51,7 @@ none_first (bad ∷ bads) = (λ e. cc, λ e. absurd (omega (arith, e)))
 pub counts_of_stand : CountsOfStand
 counts_of_stand reads slack shard text = record {
   fewer = (let four = lines_are_of_four reads slack shard text in omega (arith, four));
-  first_bad = none_first (rejected reads shard (lines_in text));
+  first_bad = none_first (rejections reads shard (lines_in text));
 }
 
 -- a line of the text
@@ -69,7 +69,7 @@ first_is P (bad ∷ bads) h = All-head P bad bads h
 
 pub first_bad_is_line : FirstBadIsLine
 first_bad_is_line reads slack shard text =
-    first_is (IsLineTo (length (lines_of text))) (rejected reads shard (lines_in text))
+    first_is (IsLineTo (length (lines_of text))) (rejections reads shard (lines_in text))
     (All-filter_map (IsLineOf 1 0 (length (lines_of text)) (length text)) (IsLineTo (length (lines_of text))) (λ (line : Line). bad_at line.number (reads shard line.number line.bytes))
     (λ line h. bad_is_line (length (lines_of text)) (length text) line (reads shard line.number line.bytes) h) (lines_in text) (lines_stand 1 0 text))
 

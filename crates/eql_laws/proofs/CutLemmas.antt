@@ -19,8 +19,10 @@ use Rattle.eql_values.specs.Ascending.{Ascending}
 use Rattle.eql_values.specs.Lines.{Line, lines_in}
 use Rattle.eql_values.specs.Marks.{is_below}
 use Rattle.eql_values.specs.Matching.{matches, after, opening_of}
-use Rattle.eql_values.specs.OrderKeys.{order_cmp, order_cmp_total}
-use Rattle.eql_values.specs.Ordered.{in_order, in_order-sorted}
+use Rattle.eql_values.specs.OrderKeys.{order_cmp}
+use Rattle.eql_values.specs.Totals.{order_cmp_total}
+use Rattle.eql_values.specs.Ordered.{in_order}
+use Rattle.eql_values.proofs.InOrder.{in_order-sorted}
 use Rattle.eql_laws.specs.Alive.{alive_at, HoldersInOrder, alive_holders}
 use Rattle.eql_laws.specs.Belows.{IsReading, IsAcceptedOf, IsBelow, HasRoutesInOrder}
 use Rattle.eql_laws.specs.Cuts.{held_back, IsHeldBack, HeldBackFits, is_of, IsPending, PendingFits, IsFound, FoundFits, RoutesStay}

@@ -16,8 +16,11 @@ use Rattle.eql_values.specs.declared.reader.LineGot.TheVariants as got
 use Rattle.eql_values.specs.Accepted.{Reads, event_at, readable, is_late, accepted, accepted_after, accepted_from, sorted_items}
 use Rattle.eql_values.specs.Lines.{lines_of, numbered_lines, lines_in}
 use Rattle.eql_values.specs.Marks.{is_below}
-use Rattle.eql_values.specs.OrderKeys.{order_cmp, order_cmp_total, order_same}
-use Rattle.eql_values.specs.Ordered.{in_order, find-in_order}
+use Rattle.eql_values.specs.OrderKeys.{order_cmp}
+use Rattle.eql_values.specs.Totals.{order_cmp_total}
+use Rattle.eql_values.proofs.Same.{order_same}
+use Rattle.eql_values.specs.Ordered.{in_order}
+use Rattle.eql_values.proofs.InOrder.{find-in_order}
 use Rattle.eql_laws.specs.Belows.{IsReading, IsAcceptedOf}
 use Rattle.eql_laws.specs.Cuts.{PlacesDiffer, SortedKeepsAll, BelowKeepsAll}
 use Rattle.eql_laws.proofs.Lists.{map_back}

@@ -20,7 +20,7 @@ use Rattle.eql_values.specs.Matching.{Slot, slot_cmp, onto, acts_of, opening_of,
 use Rattle.eql_values.specs.OrderKeys.{order_cmp}
 use Rattle.eql_values.specs.Ordered.{found_or}
 use Rattle.eql_laws.specs.Merging.{by_slot}
-use Rattle.eql_laws.specs.Slots.{Slots, moved, arrived, stepped}
+use Rattle.eql_laws.specs.Slots.{Slots, chain_moved_on, chain_coming, slots_after}
 use Rattle.eql_laws.specs.Shapes.{IsReady, IsFull, FirstBefore, FirstsFall, AfterFalls, OpeningFinds}
 use Rattle.eql_laws.proofs.Stepping.{holder_step, holder_start}
 use Rattle.eql_laws.proofs.Elements.{some_is}
@@ -67,7 +67,7 @@ module _ (span : Option ℤ) (slots : Slots) (item : Act) where
   Came zero c = Kept zero c ⊎ (c ≡ item.order ∷ [])
   Came (suc k) c = Kept (suc k) c ⊎ MovedOn k c
 
-  moved_from : (k : ℕ) (o : Option (List OrderKey)) (c : List OrderKey) → slots (suc k) ≡ o → fits_after (suc k) item ≡ true → moved span o item ≡ Some c → MovedOn k c
+  moved_from : (k : ℕ) (o : Option (List OrderKey)) (c : List OrderKey) → slots (suc k) ≡ o → fits_after (suc k) item ≡ true → chain_moved_on span o item ≡ Some c → MovedOn k c
   moved_from k None c is fits e = cc
   moved_from k (Some from) c is fits e =
       record { from = from; fits = fits; was = is; is = some_same (from ++ item.order ∷ []) c (when_some (in_time span from item.order.ts) (Some (from ++ item.order ∷ [])) c e).1 }
@@ -75,15 +75,15 @@ module _ (span : Option ℤ) (slots : Slots) (item : Act) where
   came_kept : (k : ℕ) (c : List OrderKey) → cond (fits_after (suc k) item || item.until) None (slots (suc k)) ≡ Some c → Kept k c
   came_kept k c e = let both = kept_some (fits_after (suc k) item) item.until (slots (suc k)) c e in record { stays = both.0; was = both.1 }
 
-  came : (k : ℕ) (c : List OrderKey) → stepped span slots item (suc k) ≡ Some c → Came k c
+  came : (k : ℕ) (c : List OrderKey) → slots_after span slots item (suc k) ≡ Some c → Came k c
   came zero c e =
-      elim (found_some (arrived span slots item 1) (cond (fits_after 1 item || item.until) None (slots 1)) c e) [
+      elim (found_some (chain_coming span slots item 1) (cond (fits_after 1 item || item.until) None (slots 1)) c e) [
         | inl a ↦ inr (some_same (item.order ∷ []) c (when_some (fits_after 0 item) (Some (item.order ∷ [])) c a).1)
         | inr b ↦ inl (came_kept zero c b)
       ]
   came (suc k) c e =
-      elim (found_some (arrived span slots item (suc (suc k))) (cond (fits_after (suc (suc k)) item || item.until) None (slots (suc (suc k)))) c e) [
-        | inl a ↦ (let both = when_some (fits_after (suc k) item && not item.until) (moved span (slots (suc k)) item) c a in
+      elim (found_some (chain_coming span slots item (suc (suc k))) (cond (fits_after (suc (suc k)) item || item.until) None (slots (suc (suc k)))) c e) [
+        | inl a ↦ (let both = when_some (fits_after (suc k) item && not item.until) (chain_moved_on span (slots (suc k)) item) c a in
             inr (moved_from k (slots (suc k)) c refl (fits_too (fits_after (suc k) item) item.until both.0) both.1))
         | inr b ↦ inl (came_kept (suc k) c b)
       ]
@@ -144,7 +144,7 @@ module _ (span : Option ℤ) (slots : Slots) (item : Act) (falls : Falls slots)
       (first_on_left b.from (a.from ++ item.order ∷ []) (item.order ∷ [])
       (first_on_right b.from a.from (item.order ∷ []) (falls j k a.from b.from (omega (arith, lt)) a.was b.was))))
 
-  falls_stepped : Falls (stepped span slots item)
+  falls_stepped : Falls (slots_after span slots item)
   falls_stepped j k c d lt e f = falls_came j k c d lt (came span slots item j c e) (came span slots item k d f)
 
 module _ (m : ℕ) (span : Option ℤ) (holders : List Holder) (items : List Item) (up : Ascending items) (ready : All (IsReady items) holders) (full : All IsFull holders) (first_falls : FirstsFall holders) where

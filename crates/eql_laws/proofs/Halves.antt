@@ -4,7 +4,7 @@ use Rattle.std.specs.Prelude.{not, ◌&&◌, ◌||◌}
 use Rattle.eql_values.specs.declared.order.OrderKey.{OrderKey}
 use Rattle.eql_values.specs.declared.item.Act.{Act}
 use Rattle.eql_values.specs.Chains.{fits_after, latest, chain, held_of, holder, here_or}
-use Rattle.eql_laws.specs.Slots.{Slots, moved, arrived, stepped}
+use Rattle.eql_laws.specs.Slots.{Slots, chain_moved_on, chain_coming, slots_after}
 use Rattle.eql_values.specs.Ordered.{found_or}
 use Rattle.eql_laws.proofs.Stepping.{chain_step, holder_step, holder_start}
 
@@ -22,23 +22,23 @@ module _ (span : Option ℤ) where
   holder_append opening [] old (suc k) = sym (holder_start span (λ j. holder span opening j old) k)
   holder_append opening (item ∷ new) old k =
       holder_step span opening k item (new ++ old)
-      ∙ (λ i. stepped span (λ j. holder_append opening new old j i) item k)
+      ∙ (λ i. slots_after span (λ j. holder_append opening new old j i) item k)
       ∙ sym (holder_step span (λ j. holder span opening j old) k item new)
 
   pub chain_append : (opening : Slots) (k : ℕ) (item : Act) (new old : List Act)
       → chain span opening k (item ∷ (new ++ old)) ≡ chain span (λ j. holder span opening j old) k (item ∷ new)
   chain_append opening k item new old =
       chain_step span opening k item (new ++ old)
-      ∙ (λ i. arrived span (λ j. holder_append opening new old j i) item k)
+      ∙ (λ i. chain_coming span (λ j. holder_append opening new old j i) item k)
       ∙ sym (chain_step span (λ j. holder span opening j old) k item new)
 
   -- slots that agree on the stages below m go on alike there
   pub arrived_alike : (a b : Slots) (item : Act) (m k : ℕ) → k ≤ m → ((j : ℕ) → suc j < m → a (suc j) ≡ b (suc j))
-      → arrived span a item k ≡ arrived span b item k
+      → chain_coming span a item k ≡ chain_coming span b item k
   arrived_alike a b item m zero le same = refl
   arrived_alike a b item m (suc zero) le same = refl
   arrived_alike a b item m (suc (suc k)) le same =
-      ap (λ (o : Option (List OrderKey)). cond (fits_after (suc k) item && not item.until) (moved span o item) None) (same k (omega arith))
+      ap (λ (o : Option (List OrderKey)). cond (fits_after (suc k) item && not item.until) (chain_moved_on span o item) None) (same k (omega arith))
 
   pub holder_alike : (a b : Slots) (m : ℕ) (past : List Act) (k : ℕ) → suc k < m → ((j : ℕ) → suc j < m → a (suc j) ≡ b (suc j))
       → holder span a (suc k) past ≡ holder span b (suc k) past

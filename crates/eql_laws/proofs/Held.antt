@@ -23,8 +23,11 @@ use Rattle.eql_values.specs.declared.item.Item.{Item}
 use Rattle.eql_values.specs.declared.found.Holder.{Holder}
 use Rattle.eql_values.specs.declared.item.Act.{Act}
 use Rattle.eql_values.specs.Chains.{holder}
-use Rattle.eql_values.specs.Ordered.{in_order, found_or, both_none, find-append, find-in_order}
-use Rattle.eql_values.specs.Orders.{key_eq, key_cmp, key_cmp_total, key_same}
+use Rattle.eql_values.specs.Ordered.{in_order, found_or}
+use Rattle.eql_values.proofs.InOrder.{both_none, find-append, find-in_order}
+use Rattle.eql_values.specs.Orders.{key_eq, key_cmp}
+use Rattle.eql_values.specs.Totals.{key_cmp_total}
+use Rattle.eql_values.proofs.Same.{key_same}
 use Rattle.eql_values.specs.Matching.{Openings, Slot, slot_cmp, act_by, acts_of, onto, opening_of, held_after, stages_to, entries_of, keys_in, after}
 
 abbrev pub Entry : Type 0

@@ -9,7 +9,7 @@ use Rattle.eql_values.specs.declared.order.Mark.{Mark}
 use Rattle.eql_values.specs.declared.item.Item.{Item}
 use Rattle.eql_values.specs.Marks.{is_below, low_of}
 use Rattle.eql_values.specs.Matching.{onto}
-use Rattle.eql_laws.specs.Lateness.{larger, best_of, best_from, late_by, accepted_by, AtMost, LateByBest, AcceptedByBest, BestGoesOn, AcceptedSplit, LowRises, NoneComesBelow}
+use Rattle.eql_laws.specs.Lateness.{larger, best_of, best_from, late_by, accepted_by, AtMost, LateByBest, AcceptedByBest, BestGoesOn, BestFromGoesOn, AcceptedSplit, LowRises, NoneComesBelow}
 use Rattle.eql_laws.proofs.MarkLemmas.{at_most_self, at_most_trans, at_most_end, low_up, accepted_above}
 
 larger_late : (slack t u now : ℤ) → lt_z slack ((cond (lt_z t u) u t) -ℤ now) ≡ (lt_z slack (t -ℤ now) || lt_z slack (u -ℤ now))
@@ -75,6 +75,10 @@ best_onto a (item ∷ b) = best_onto (item ∷ a) b
 
 pub best_goes_on : BestGoesOn
 best_goes_on a b = (best_append a b ∙ sym (best_is (best_of a) b), best_onto a b)
+
+pub best_from_goes_on : BestFromGoesOn
+best_from_goes_on best [] b = refl
+best_from_goes_on best (item ∷ a) b = best_from_goes_on (Some (larger item.order.ts best)) a b
 
 in_turn : (c : Bool) (item : Item) (xs ys zs : List Item) → zs ≡ xs ++ ys → cond c zs (item ∷ zs) ≡ cond c xs (item ∷ xs) ++ ys
 in_turn true item xs ys zs e = e

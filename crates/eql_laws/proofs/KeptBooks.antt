@@ -23,9 +23,12 @@ use Rattle.eql_values.specs.Marks.{is_below}
 use Rattle.eql_values.specs.Masks.{has_stage}
 use Rattle.eql_values.specs.Matching.{Openings, opening_of, act_by, acts_of, match_by, matches_after, matches}
 use Rattle.eql_values.specs.Numbering.{numbered_from, numbered, through, piped, is_head, emitted}
-use Rattle.eql_laws.specs.Books.{book_of, state_of, states_after, InputsGoOn, kept_of, KeptPass, NumbersAscend, IsKeptMatch, StateFits, BookOfFits, completing, FoundByRoutes, CompletesOnce, FoundByEvents, BelowsAreFew, greatest_shards, greatest_found, FoundIsFew}
+use Rattle.eql_laws.specs.Books.{book_of, state_of, states_after, InputsGoOn, kept_of, KeptPass, NumbersAscend, IsKeptMatch, StateFits, BookOfFits, StateStands, BookOfStands, completing, FoundByRoutes, CompletesOnce, FoundByEvents, BelowsAreFew, greatest_shards, greatest_found, FoundIsFew}
 use Rattle.eql_laws.specs.Counting.{IsShardText, greatest_lines}
-use Rattle.eql_laws.specs.Cuts.{IsFound}
+use Rattle.eql_laws.specs.Cuts.{IsFound, is_of, is_of_shards}
+use Rattle.eql_laws.specs.Shapes.{EventsPass}
+use Rattle.eql_values.specs.OrderKeys.{EventsAscend}
+use Rattle.eql_laws.proofs.Facts.{both_true, true_both}
 use Rattle.eql_laws.proofs.BelowLemmas.{fewer_accepted, fewer_readable}
 use Rattle.eql_laws.proofs.Counted.{lines_by_bytes}
 use Rattle.eql_laws.proofs.CutLemmas.{filter_fewer, sorted_fewer, found_fits, below_pass}
@@ -40,7 +43,7 @@ numbers_ascend : (n : ℕ) (found : List Match) → NumbersAscend (numbered_from
 numbers_ascend n [] = tt
 numbers_ascend n (m ∷ found) = (numbers_after n (n + 1) (omega arith) found, numbers_ascend (n + 1) found)
 
-length-numbered : (n : ℕ) (found : List Match) → length (numbered_from n found) ≡ length found
+pub length-numbered : (n : ℕ) (found : List Match) → length (numbered_from n found) ≡ length found
 length-numbered n [] = refl
 length-numbered n (m ∷ found) = ap suc (length-numbered (n + 1) found)
 
@@ -115,30 +118,34 @@ kept_of_found P pipes found h = kept_of_all (λ (x : Numbered). P x.found) [] pi
 pub kept_pass : KeptPass
 kept_pass test pipes found h = kept_of_found (λ (m : Match). test m ≡ true) pipes found h
 
-module _ (m shards : ℕ) (mark : Mark) (total : ℕ) where
-  -- matches as they may be kept
-  abbrev AreKept : List Numbered → Type 0
-  AreKept list = NumbersAscend list × All (IsKeptMatch m shards mark total) list
+of_shards : (shards : ℕ) (mark : Mark) (chain : List OrderKey) → EventsPass (is_of shards mark) chain → EventsPass (is_of_shards shards) chain
+of_shards shards mark [] h = refl
+of_shards shards mark (event ∷ chain) h =
+    let both = both_true _ _ h in
+    true_both _ _ (both_true (is_below mark (record { order = event; routes = [] })) _ both.0).1 (of_shards shards mark chain both.1)
 
-  kept_numbered : (n : ℕ) (found : List Match) → 1 ≤ n → n + length found ≤ total + 1 → All (IsFound m shards mark) found → All (IsKeptMatch m shards mark total) (numbered_from n found)
-  kept_numbered n [] from to h = All-nil (IsKeptMatch m shards mark total)
+module _ (m shards : ℕ) (mark : Mark) (total : ℕ) where
+  kept_one : (n : ℕ) (x : Match) → 1 ≤ n → n ≤ total → IsFound m shards mark x → IsKeptMatch m shards total (record { number = n; found = x })
+  kept_one n x from to h = record { number_from = from; number_to = to; full = h.full; of_shards = of_shards shards mark x.chain h.events }
+
+  kept_numbered : (n : ℕ) (found : List Match) → 1 ≤ n → n + length found ≤ total + 1 → All (IsFound m shards mark) found → All (IsKeptMatch m shards total) (numbered_from n found)
+  kept_numbered n [] from to h = All-nil (IsKeptMatch m shards total)
   kept_numbered n (x ∷ found) from to h =
-      All-cons (IsKeptMatch m shards mark total) (record { number = n; found = x }) (numbered_from (n + 1) found)
-      (record { number_from = from; number_to = omega (arith, to); is_found = All-head (IsFound m shards mark) x found h })
+      All-cons (IsKeptMatch m shards total) (record { number = n; found = x }) (numbered_from (n + 1) found)
+      (kept_one n x from (omega (arith, to)) (All-head (IsFound m shards mark) x found h))
       (kept_numbered (n + 1) found (omega arith) (omega (arith, to)) (All-tail (IsFound m shards mark) x found h))
 
-  kept_through : (p : Pipe) (list : List Numbered) → AreKept list → AreKept (through p list)
-  kept_through p list h = (ascend_through p list h.0, all_through (IsKeptMatch m shards mark total) p list h.1)
-
-  state_fits : (p : Pipe) (input : List Numbered) → AreKept input → StateFits m shards mark total p (state_of p input)
+  state_fits : (p : Pipe) (input : List Numbered) → All (IsKeptMatch m shards total) input → StateFits m shards total p (state_of p input)
   state_fits (pipe.Head count) input h = omega arith
   state_fits (pipe.Tail count) input h =
-      let kept = kept_through (pipe.Tail count) input h in let a = length-drop (length input - count) input in (omega (arith, a), kept.0, kept.1)
+      let a = length-drop (length input - count) input in (omega (arith, a), all_through (IsKeptMatch m shards total) (pipe.Tail count) input h)
 
-  states_fit : (before pipes : List Pipe) (list : List Numbered) → AreKept list → AllZip (StateFits m shards mark total) pipes (states_after before pipes list)
+  states_fit : (before pipes : List Pipe) (list : List Numbered) → All (IsKeptMatch m shards total) list → AllZip (StateFits m shards total) pipes (states_after before pipes list)
   states_fit before [] list h = tt
-  states_fit before (p ∷ pipes) list h =
-      (state_fits p (emitted before list) (emitted_holds AreKept (tt, All-nil (IsKeptMatch m shards mark total)) kept_through before list h), states_fit (before ++ p ∷ []) pipes list h)
+  states_fit before (p ∷ pipes) list h = (
+    state_fits p (emitted before list) (emitted_holds (All (IsKeptMatch m shards total)) (All-nil (IsKeptMatch m shards total)) (all_through (IsKeptMatch m shards total)) before list h),
+    states_fit (before ++ p ∷ []) pipes list h,
+  )
 
 pub book_of_fits : BookOfFits
 book_of_fits m span reads slack texts mark pipes reading =
@@ -146,7 +153,38 @@ book_of_fits m span reads slack texts mark pipes reading =
     record {
       listed_to = (let a = fewer_emitted pipes (numbered found) in let b = length-numbered 1 found in omega (arith, a, b));
       states = states_fit m (length texts) mark (length found) [] pipes (numbered found)
-          (numbers_ascend 1 found, kept_numbered m (length texts) mark (length found) 1 found (omega arith) (omega arith) (found_fits m span reads slack texts mark reading));
+          (kept_numbered m (length texts) mark (length found) 1 found (omega arith) (omega arith) (found_fits m span reads slack texts mark reading));
+    }
+
+-- numbered matches as a pipe may keep them: in order, and with ascending events
+abbrev Stand : List Numbered → Type 0
+Stand list = NumbersAscend list × All (λ (n : Numbered). EventsAscend n.found.chain) list
+
+stand_through : (p : Pipe) (list : List Numbered) → Stand list → Stand (through p list)
+stand_through p list h = (ascend_through p list h.0, all_through (λ (n : Numbered). EventsAscend n.found.chain) p list h.1)
+
+state_stands : (p : Pipe) (input : List Numbered) → Stand input → StateStands (state_of p input)
+state_stands (pipe.Head count) input h = (tt, All-nil (λ (n : Numbered). EventsAscend n.found.chain))
+state_stands (pipe.Tail count) input h = stand_through (pipe.Tail count) input h
+
+states_stand : (before pipes : List Pipe) (list : List Numbered) → Stand list → All StateStands (states_after before pipes list)
+states_stand before [] list h = All-nil StateStands
+states_stand before (p ∷ pipes) list h =
+    All-cons StateStands (state_of p (emitted before list)) (states_after (before ++ p ∷ []) pipes list)
+    (state_stands p (emitted before list) (emitted_holds Stand (tt, All-nil (λ (n : Numbered). EventsAscend n.found.chain)) stand_through before list h))
+    (states_stand (before ++ p ∷ []) pipes list h)
+
+pub book_of_stands : BookOfStands
+book_of_stands m span reads slack texts mark pipes reading =
+    let found : List Match = matches m span [] (below reads slack texts mark) in
+    let are = found_fits m span reads slack texts mark reading in
+    record {
+      in_order = states_stand [] pipes (numbered found) (
+        numbers_ascend 1 found,
+        all_numbered (λ (x : Match). EventsAscend x.chain) 1 found
+            (All-weaker (IsFound m (length texts) mark) (λ (x : Match). EventsAscend x.chain) (λ x h. h.ascends) found are),
+      );
+      are_found = kept_of_found (IsFound m (length texts) mark) pipes found are;
     }
 
 heads_on : (before : List Pipe) (p : Pipe) → list_all is_head (before ++ p ∷ []) ≡ (list_all is_head before && is_head p)

@@ -2,7 +2,7 @@
 use Rattle.std.proofs.Common.{◌≡◌, ◌≤◌, ◌+◌, ℕ, suc, ℤ, List, [], ◌∷◌, map, length, Option, Some, refl, ap, sym, subst}
 use Rattle.std.specs.Prelude.{All}
 use Rattle.std.proofs.lemmas.List.{length-map}
-use Rattle.std.proofs.lemmas.List.Elements.{All-nil, All-cons}
+use Rattle.std.proofs.lemmas.List.Elements.{All-nil, All-cons, All-weaker}
 use Rattle.eql_values.specs.declared.order.Mark.{Mark}
 use Rattle.eql_values.specs.declared.order.Mark.TheVariants.{At}
 use Rattle.eql_values.specs.declared.cut.LaneCut.{LaneCut}
@@ -10,16 +10,19 @@ use Rattle.eql_values.specs.declared.item.Item.{Item}
 use Rattle.eql_values.specs.declared.found.Holder.{Holder}
 use Rattle.eql_values.specs.declared.found.Match.{Match}
 use Rattle.eql_values.specs.Accepted.{Reads, below}
+use Rattle.eql_values.specs.Ascending.{Ascending}
 use Rattle.eql_values.specs.Matching.{matches}
+use Rattle.eql_values.specs.OrderKeys.{EventsAscend}
+use Rattle.eql_values.specs.Routes.{RoutesStand}
 use Rattle.eql_laws.specs.Books.{book_of, BookFits, greatest_shards, greatest_found}
 use Rattle.eql_laws.specs.Counting.{front}
 use Rattle.eql_laws.specs.Bounds.{KeysHave, MasksTo, HasTimes}
-use Rattle.eql_laws.specs.Cuts.{pending_at, PendingAre}
-use Rattle.eql_laws.specs.Fitting.{CutsFit}
+use Rattle.eql_laws.specs.Cuts.{held_back, IsHeldBack, pending_at, IsPending, PendingAre}
+use Rattle.eql_laws.specs.Fitting.{CutsFit, CutsStand}
 use Rattle.eql_laws.specs.Lanes.{lane_at, lanes_from}
 use Rattle.eql_laws.specs.Places.{ReadTo, whole}
-use Rattle.eql_laws.proofs.CutLemmas.{pending_fits}
-use Rattle.eql_laws.proofs.KeptBooks.{book_of_fits, kept_of_found, found_is_few}
+use Rattle.eql_laws.proofs.CutLemmas.{held_back_fits, pending_fits}
+use Rattle.eql_laws.proofs.KeptBooks.{book_of_fits, book_of_stands, kept_of_found, found_is_few}
 use Rattle.eql_laws.proofs.KeptBounds.{keys_fit, masks_fit, times_fit}
 use Rattle.eql_laws.proofs.KeptLanes.{lanes_of_fit}
 use Rattle.eql_laws.proofs.SafePlaces.{late}
@@ -54,11 +57,27 @@ cuts_fit run reads t shards for places texts few safe range =
       holders = subst (λ (n : ℕ). PendingAre run.stages n (At t) holders) as_many (pending_fits run.stages run.span t reads slack whole_texts (At t) for.reading);
       holder_times = times.pending;
       holder_keys = keys.pending;
-      book = subst (λ (n : ℕ). BookFits run.stages n (At t) run.pipes (book_of run.pipes found)) as_many
+      book = subst (λ (n : ℕ). BookFits run.stages n run.pipes (book_of run.pipes found)) as_many
           (book_of_fits run.stages run.span reads slack whole_texts (At t) run.pipes for.reading);
       found_to = subst (λ (items : List Item). length (matches run.stages run.span [] items) ≤ greatest_found) (sym (late reads slack (At t) shards places safe))
           (found_is_few run.stages run.span reads slack (map front shards) (At t) (λ shard line bytes item e. (for.each shard line bytes item e).once) texts
           (subst (λ (n : ℕ). n ≤ greatest_shards) (sym (length-map shards front)) few));
       book_times = kept_of_found (λ (m : Match). HasTimes m.chain) run.pipes found times.found;
       book_keys = kept_of_found (λ (m : Match). length m.key ≡ run.values) run.pipes found keys.found;
+    }
+
+pub cuts_stand : CutsStand
+cuts_stand run reads t shards reading =
+    let slack : Option ℤ = Some run.slack in
+    let whole_texts : List (List ℕ) = map whole shards in
+    let pending = pending_fits run.stages run.span t reads slack whole_texts (At t) reading in
+    record {
+      lane_for_each = length-lanes reads slack (At t) 0 shards;
+      items = all_lanes reads slack (At t) (λ (lane : LaneCut). Ascending lane.items × All (λ (item : Item). RoutesStand item.routes) lane.items)
+          (λ shard r. let held = held_back_fits reads slack shard r.first (At t) reading in
+          (held.ascending, All-weaker (IsHeldBack shard r.first (At t)) (λ (item : Item). RoutesStand item.routes) (λ item h. h.accepted.routes_stand) (held_back reads slack shard r.first (At t)) held.all)) 0 shards;
+      holders = pending.in_order;
+      chains = All-weaker (IsPending run.stages (length whole_texts) (At t)) (λ (h : Holder). (length h.chain ≡ h.stage) × EventsAscend h.chain) (λ h is. (is.full, is.ascends))
+          (pending_at run.stages run.span t reads slack whole_texts (At t)) pending.all;
+      book = (book_of_stands run.stages run.span reads slack whole_texts (At t) run.pipes reading).in_order;
     }

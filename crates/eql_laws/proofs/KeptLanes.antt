@@ -11,7 +11,8 @@ use Rattle.eql_values.specs.declared.order.Mark.{Mark}
 use Rattle.eql_values.specs.declared.order.Mark.TheVariants.{At, End}
 use Rattle.eql_values.specs.Accepted.{Reads, readable}
 use Rattle.eql_values.specs.Lines.{lines_in}
-use Rattle.eql_values.specs.Marks.{mark_cmp, mark_cmp_total, low_of, is_safe}
+use Rattle.eql_values.specs.Marks.{mark_cmp, low_of, is_safe}
+use Rattle.eql_values.specs.Totals.{mark_cmp_total}
 use Rattle.eql_values.specs.Reading.{IsTime, time_bound}
 use Rattle.eql_laws.specs.Belows.{IsReading, IsMarkTime, greatest_slack}
 use Rattle.eql_laws.specs.Counting.{counts_of, IsShardText, front}

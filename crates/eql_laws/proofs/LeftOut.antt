@@ -12,13 +12,14 @@ use Rattle.eql_values.specs.declared.found.Holder.{Holder}
 use Rattle.eql_values.specs.Chains.{in_time}
 use Rattle.eql_values.specs.Orders.{key_eq}
 use Rattle.eql_values.specs.Matching.{matches, after, Openings, Slot, slot_cmp, act_by, acts_of, onto, opening_of, held_after, matches_after}
-use Rattle.eql_laws.specs.Alive.{alive_at, alive_holders, ItemsFrom, IsSpan, HoldersInOrder, DeadMatches, DeadAfter, DeadForGood, AfterInOrder, AliveInOrder, DeadAlike, AliveLooksUp, SteppedAlive}
-use Rattle.eql_values.specs.Ordered.{in_order, in_order-sorted}
+use Rattle.eql_laws.specs.Alive.{alive_at, alive_holders, ItemsFrom, IsSpan, HoldersInOrder, DeadMatches, DeadAfter, DeadForGood, AfterInOrder, AliveInOrder, DeadAlike, AliveLooksUp, SlotsAfterAlive}
+use Rattle.eql_values.specs.Ordered.{in_order}
+use Rattle.eql_values.proofs.InOrder.{in_order-sorted}
 use Rattle.eql_laws.specs.Merging.{by_slot, holder_of}
 use Rattle.eql_laws.proofs.Lists.{map_back, map_filter}
 use Rattle.eql_laws.proofs.Facts.{holds_true, both_hold, left_holds, right_holds, less_not_equal, is_equal}
 use Rattle.eql_laws.proofs.Held.{Entry, up_to, find-held, slot_cmp_total, slot_same, all_entries}
-use Rattle.eql_laws.proofs.Aliveness.{stepped_alive, AllFrom, in_time_before, chain_alive, holder_alive}
+use Rattle.eql_laws.proofs.Aliveness.{slots_after_alive, AllFrom, in_time_before, chain_alive, holder_alive}
 
 -- look-ups in filtered entries
 module _ (span : Option ℤ) (t : ℤ) where
@@ -160,5 +161,5 @@ dead_alike m span t a b items s order_a order_b alike from = (
 pub alive_looks_up : AliveLooksUp
 alive_looks_up span t holders order key stage = opening_alive span t holders order key stage
 
-pub slots_alive : SteppedAlive
-slots_alive span t slots item k s le = stepped_alive span s t slots item k le
+pub slots_alive : SlotsAfterAlive
+slots_alive span t slots item k s le = slots_after_alive span s t slots item k le

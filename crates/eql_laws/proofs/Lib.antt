@@ -26,7 +26,12 @@ pub mod CutLemmas
 pub mod Handing
 pub mod PieceLemmas
 pub mod Counted
+pub mod CountsOn
 pub mod KeptLanes
 pub mod KeptBounds
 pub mod KeptBooks
 pub mod KeptCuts
+pub mod Togethers
+pub mod Resumed
+pub mod Aparts
+pub mod PartsWhole

@@ -1,10 +1,10 @@
 -- The lines of a text before and after a place.
-use Rattle.std.proofs.Common.{◌≡◌, ℕ, suc, ◌+◌, Bool, true, false, cond, List, [], ◌∷◌, ◌++◌, length, refl, sym, ap, ◌∙◌, arith}
+use Rattle.std.proofs.Common.{◌≡◌, ℕ, suc, ◌+◌, Bool, true, false, cond, List, [], ◌∷◌, ◌++◌, length, refl, sym, ap, ◌∙◌, subst, arith}
 use Rattle.std.specs.Prelude.{◌==◌, IsTrue}
 use Rattle.std.proofs.lemmas.List.{append-nil}
 use Rattle.std.proofs.Common.{length-append}
 use Rattle.eql_values.specs.Lines.{Line, begin_with, lines_of, numbered_lines}
-use Rattle.eql_laws.specs.Places.{ends_line, is_line_end, is_one_line, lines_after, NextLine, LinesGoOn, LinesStepOn, LineByLine}
+use Rattle.eql_laws.specs.Places.{ends_line, is_line_end, is_one_line, lines_after, NextLine, LinesGoOn, LinesStepOn, LineByLine, NumberedGoOn, LinesAreOne, LinesEndOn}
 use Rattle.eql_laws.proofs.Facts.{both_true}
 use Rattle.std.proofs.Common.{◌≢◌, append_assoc}
 use Rattle.std.specs.Prelude.{not}
@@ -161,3 +161,27 @@ module _ (first line rest : List ℕ) (start : IsTrue (ends_line first)) (one : 
 
 pub line_by_line : LineByLine
 line_by_line first line rest start one = next_line first line rest start one
+
+pub numbered_go_on : NumberedGoOn
+numbered_go_on number at a [] h =
+    ap (λ (l : List ℕ). numbered_lines number at (lines_of l)) (append-nil a) ∙ sym (append-nil (numbered_lines number at (lines_of a)))
+numbered_go_on number at a (byte ∷ b) h =
+    ap (numbered_lines number at) (lines_on a (byte ∷ b) h)
+    ∙ numbered_on number at (lines_of a) (lines_of (byte ∷ b))
+    ∙ ap (λ (w : ℕ). numbered_lines number at (lines_of a) ++ numbered_lines (number + length (lines_of a)) (at + w) (lines_of (byte ∷ b))) (width_is a h)
+
+pub lines_are_one : LinesAreOne
+lines_are_one line one = record { with_feed = one_line_fed line [] one; next_starts = feed_ends line; without = alone line one }
+  where
+    alone : (line : List ℕ) → IsTrue (is_one_line line) → line ≢ [] → lines_of line ≡ line ∷ []
+    alone [] one some = absurd (some refl)
+    alone (byte ∷ line) one some = one_line_alone byte line one
+
+ends_last : (a : List ℕ) (x : ℕ) (b : List ℕ) → IsTrue (ends_line (x ∷ b)) → IsTrue (ends_line (a ++ x ∷ b))
+ends_last [] x b h = h
+ends_last (y ∷ []) x b h = h
+ends_last (y ∷ z ∷ a) x b h = ends_last (z ∷ a) x b h
+
+pub lines_end_on : LinesEndOn
+lines_end_on a [] h k = subst (λ (l : List ℕ). IsTrue (ends_line l)) (sym (append-nil a)) h
+lines_end_on a (x ∷ b) h k = ends_last a x b k

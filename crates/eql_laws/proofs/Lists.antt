@@ -8,7 +8,8 @@ use Rattle.std.specs.declared.cmp.Ordering.{Ordering}
 use Rattle.std.proofs.lemmas.Bool.Decides.{nat_tests}
 use Rattle.std.proofs.lemmas.List.{map-append, append-nil}
 use Rattle.std.proofs.lemmas.Grind.{flat_map-append}
-use Rattle.eql_values.specs.Ordered.{found_or, numbers, find-append}
+use Rattle.eql_values.specs.Ordered.{found_or, numbers}
+use Rattle.eql_values.proofs.InOrder.{find-append}
 
 pub map_back : {A B : Type 0} (f : A → B) (g : B → A) → ((y : B) → f (g y) ≡ y) → (ys : List B) → map f (map g ys) ≡ ys
 map_back f g back [] = refl

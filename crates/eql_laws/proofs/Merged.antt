@@ -4,13 +4,12 @@ use Rattle.std.specs.Prelude.{nat_lt}
 use Rattle.std.specs.List.{filter_map, cons_option, flat_map}
 use Rattle.std.specs.Option.{option_map}
 use Rattle.std.specs.Ordering.{is_lt, ordering_then}
-use Rattle.std.specs.Cmp.{IsTotalOrder, tied_itself}
+use Rattle.std.specs.Cmp.{tied_itself}
 use Rattle.std.specs.Cmp.Lexicographic.{slice_cmp}
 use Rattle.std.specs.FinMap.{IsAntisymmetric, slice_cmp-IsAntisymmetric}
 use Rattle.std.specs.FinMap.Entries.{find, is_sorted, below_all}
 use Rattle.std.specs.declared.cmp.Ordering.{Ordering}
 use Rattle.std.specs.declared.cmp.Ordering.TheVariants.{Less, Equal}
-use Rattle.std.proofs.lemmas.Cmp.{on_total, then_total, lists_total}
 use Rattle.std.proofs.lemmas.Bool.Decides.{nat_tests}
 use Rattle.std.proofs.lemmas.List.{map-append}
 use Rattle.eql_values.specs.declared.order.OrderKey.{OrderKey}
@@ -20,10 +19,13 @@ use Rattle.eql_values.specs.declared.item.Route.{Route}
 use Rattle.eql_values.specs.declared.item.Item.{Item}
 use Rattle.eql_values.specs.declared.found.Match.{Match}
 use Rattle.eql_values.specs.Chains.{chain, fits_after}
-use Rattle.eql_laws.specs.Slots.{Slots, moved, arrived}
-use Rattle.eql_values.specs.Orders.{key_cmp, key_cmp_total, key_same}
-use Rattle.eql_values.specs.OrderKeys.{order_cmp, order_cmp_total, order_same}
-use Rattle.eql_values.specs.Ordered.{numbers, is_in_order}
+use Rattle.eql_laws.specs.Slots.{Slots, chain_moved_on, chain_coming}
+use Rattle.eql_values.specs.Orders.{key_cmp}
+use Rattle.eql_values.specs.Totals.{order_cmp_total}
+use Rattle.eql_values.proofs.Same.{key_same, order_same}
+use Rattle.eql_values.specs.OrderKeys.{order_cmp}
+use Rattle.eql_values.specs.Ordered.{numbers}
+use Rattle.eql_values.proofs.InOrder.{is_in_order, in_order-sorted}
 use Rattle.eql_values.specs.Matching.{Openings, act_by, acts_of, match_by, matches_after, matches, opening_of}
 use Rattle.eql_values.specs.Routing.{routed}
 use Rattle.eql_values.specs.Ascending.{AllAfter, Ascending}
@@ -31,21 +33,19 @@ use Rattle.eql_laws.specs.Merging.{last_of, Ending, ending_cmp, by_ending, match
 use Rattle.eql_laws.specs.Shapes.{MatchesInOrder}
 use Rattle.eql_laws.specs.Parts.{KeysMerge, KeysGather, holders_in}
 use Rattle.eql_laws.proofs.Lists.{map_back, find_kinds}
-use Rattle.eql_laws.proofs.Stepping.{chain_step, slots_after}
+use Rattle.eql_laws.proofs.Stepping.{chain_step, slots_of_past}
 use Rattle.eql_laws.proofs.PartMatches.{routed_matches, after_routed}
 use Rattle.eql_values.specs.declared.found.Holder.{Holder}
-use Rattle.eql_values.specs.Ordered.{in_order, in_order-sorted}
+use Rattle.eql_values.specs.Ordered.{in_order}
 use Rattle.eql_values.specs.Matching.{slot_cmp, after}
 use Rattle.eql_laws.proofs.Held.{slot_cmp_total, slot_same, all_entries}
+use Rattle.eql_laws.specs.Totals.{ending_cmp_total}
 use Rattle.eql_laws.proofs.Facts.{holds_true, both_hold, left_holds, right_holds, both_equal, less_is}
 
 abbrev EndingEntry : Type 0
 EndingEntry = Ending × List OrderKey
 
-ending_cmp_total : IsTotalOrder ending_cmp
-ending_cmp_total = then_total (on_total (λ e. e.0) (lists_total order_cmp_total)) (on_total (λ e. e.1) key_cmp_total)
-
-ending_same : IsAntisymmetric ending_cmp
+pub ending_same : IsAntisymmetric ending_cmp
 ending_same x y e =
     let both = both_equal (slice_cmp order_cmp x.0 y.0) (key_cmp x.1 y.1) e in
     λ i. (slice_cmp-IsAntisymmetric order_same x.0 y.0 both.0 i, key_same x.1 y.1 both.1 i)
@@ -65,18 +65,18 @@ ends_if : (own : OrderKey) (b : Bool) (o : Option (List OrderKey)) → EndsWith 
 ends_if own true o h = h
 ends_if own false o h = tt
 
-ends_moved : (span : Option ℤ) (o : Option (List OrderKey)) (item : Act) → EndsWith item.order (moved span o item)
+ends_moved : (span : Option ℤ) (o : Option (List OrderKey)) (item : Act) → EndsWith item.order (chain_moved_on span o item)
 ends_moved span None item = tt
 ends_moved span (Some c) item = ends_if item.order _ (Some (c ++ item.order ∷ [])) (last-append c item.order)
 
-ends_arrived : (span : Option ℤ) (slots : Slots) (item : Act) (k : ℕ) → EndsWith item.order (arrived span slots item k)
+ends_arrived : (span : Option ℤ) (slots : Slots) (item : Act) (k : ℕ) → EndsWith item.order (chain_coming span slots item k)
 ends_arrived span slots item zero = tt
 ends_arrived span slots item (suc zero) = ends_if item.order (fits_after 0 item) (Some (item.order ∷ [])) refl
-ends_arrived span slots item (suc (suc k)) = ends_if item.order _ (moved span (slots (suc k)) item) (ends_moved span (slots (suc k)) item)
+ends_arrived span slots item (suc (suc k)) = ends_if item.order _ (chain_moved_on span (slots (suc k)) item) (ends_moved span (slots (suc k)) item)
 
 ends_chain : (span : Option ℤ) (opening : Slots) (k : ℕ) (item : Act) (past : List Act) → EndsWith item.order (chain span opening k (item ∷ past))
 ends_chain span opening k item past =
-    subst (EndsWith item.order) (sym (chain_step span opening k item past)) (ends_arrived span (slots_after span opening past) item k)
+    subst (EndsWith item.order) (sym (chain_step span opening k item past)) (ends_arrived span (slots_of_past span opening past) item k)
 
 -- the matches ascend
 cons_option-append : (o : Option EndingEntry) (xs ys : List EndingEntry) → cons_option o xs ++ ys ≡ cons_option o (xs ++ ys)

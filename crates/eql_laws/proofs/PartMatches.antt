@@ -11,7 +11,8 @@ use Rattle.eql_values.specs.declared.item.Route.{Route}
 use Rattle.eql_values.specs.declared.item.Item.{Item}
 use Rattle.eql_values.specs.declared.found.Match.{Match}
 use Rattle.eql_values.specs.Chains.{chain}
-use Rattle.eql_values.specs.Orders.{key_eq, key_cmp, key_same}
+use Rattle.eql_values.specs.Orders.{key_eq, key_cmp}
+use Rattle.eql_values.proofs.Same.{key_same}
 use Rattle.eql_values.specs.Matching.{Openings, act_by, acts_of, match_by, matches_after}
 use Rattle.eql_values.specs.Routing.{with_routes, routed}
 use Rattle.std.specs.Prelude.{◌-◌, ◌&&◌, nat_le, nat_lt}
@@ -19,7 +20,8 @@ use Rattle.std.proofs.Common.{map, zero, suc}
 use Rattle.std.specs.FinMap.Entries.{find as find_entry, where_key, find-where_key, is_sorted-where_key, same_entries}
 use Rattle.eql_values.specs.declared.found.Holder.{Holder}
 use Rattle.eql_values.specs.Chains.{holder}
-use Rattle.eql_values.specs.Ordered.{both_none, in_order, in_order-sorted}
+use Rattle.eql_values.specs.Ordered.{in_order}
+use Rattle.eql_values.proofs.InOrder.{both_none, in_order-sorted}
 use Rattle.eql_values.specs.Matching.{Slot, slot_cmp, onto, opening_of, held_after, matches, after}
 use Rattle.eql_laws.specs.Merging.{by_slot, holder_of}
 use Rattle.eql_laws.specs.Parts.{matches_in, holders_in}

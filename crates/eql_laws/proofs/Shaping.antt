@@ -20,7 +20,8 @@ use Rattle.std.proofs.lemmas.List.{append-nil}
 use Rattle.std.proofs.lemmas.List.Sums.{AllPass-from_list_all}
 use Rattle.eql_values.specs.declared.item.Act.{Act}
 use Rattle.eql_values.specs.Chains.{chain, holder}
-use Rattle.eql_values.specs.OrderKeys.{order_cmp, order_cmp_total, before_all, EventsAscend}
+use Rattle.eql_values.specs.OrderKeys.{order_cmp, before_all, EventsAscend}
+use Rattle.eql_values.specs.Totals.{order_cmp_total}
 use Rattle.eql_laws.specs.Shapes.{IsReady, MatchAscends, MatchesAscend, AfterIsReady, IsFull, HasEvents, MatchesAreFull, AfterIsFull, HasStageBefore, AfterHasStages, EventsPass, EventsKeep, EventsStay, RoutesPass, KeysStay}
 use Rattle.eql_laws.proofs.Elements.{All-filter_map, All-flat_map}
 use Rattle.eql_laws.proofs.Facts.{both_true, true_both}

@@ -8,8 +8,11 @@ use Rattle.std.proofs.lemmas.List.{map-append}
 use Rattle.eql_values.specs.declared.order.OrderKey.{OrderKey}
 use Rattle.eql_values.specs.declared.item.Route.{Route}
 use Rattle.eql_values.specs.declared.item.Item.{Item}
-use Rattle.eql_values.specs.OrderKeys.{order_cmp, order_cmp_total, order_same}
-use Rattle.eql_values.specs.Ordered.{in_order, found_or, find-append, find-in_order, in_order-sorted, is_in_order}
+use Rattle.eql_values.specs.OrderKeys.{order_cmp}
+use Rattle.eql_values.specs.Totals.{order_cmp_total}
+use Rattle.eql_values.proofs.Same.{order_same}
+use Rattle.eql_values.specs.Ordered.{in_order, found_or}
+use Rattle.eql_values.proofs.InOrder.{find-append, find-in_order, in_order-sorted, is_in_order}
 use Rattle.eql_values.specs.Accepted.{sorted_items}
 use Rattle.eql_laws.proofs.Lists.{map_back, map_filter}
 

@@ -13,7 +13,7 @@ use Rattle.eql_values.specs.Chains.{holder}
 use Rattle.eql_values.specs.Matching.{Openings, Slot, slot_cmp, acts_of, onto, opening_of, held_after, after, matches}
 use Rattle.eql_laws.specs.Merging.{holder_of}
 use Rattle.eql_laws.specs.Splits.{MatchesSplit, AfterSplit}
-use Rattle.eql_values.specs.Ordered.{in_order-sorted}
+use Rattle.eql_values.proofs.InOrder.{in_order-sorted}
 use Rattle.eql_laws.proofs.Halves.{holder_append, holder_alike}
 use Rattle.eql_laws.proofs.Onward.{split_openings, matches_alike, acts_append}
 use Rattle.eql_laws.proofs.Held.{all_entries, slot_same, up_to, find-held, find-after, slot_cmp_total}

@@ -8,7 +8,7 @@ use Rattle.eql_values.specs.Chains.{in_time}
 use Rattle.eql_values.specs.declared.order.OrderKey.{OrderKey}
 use Rattle.eql_values.specs.declared.value.Value.{Value}
 use Rattle.eql_values.specs.declared.item.Act.{Act}
-use Rattle.eql_laws.specs.Slots.{Slots, stepped}
+use Rattle.eql_laws.specs.Slots.{Slots, slots_after}
 use Rattle.eql_laws.specs.Merging.{by_slot}
 
 -- a span is no negative time
@@ -52,9 +52,9 @@ AliveLooksUp = (span : Option ℤ) (t : ℤ) (holders : List Holder) → Holders
     → opening_of (alive_holders span t holders) key stage ≡ alive_at span t (opening_of holders key stage)
 
 -- leaving out the dead before an item that comes from that time on is leaving them out after it
-abbrev pub SteppedAlive : Type 0
-SteppedAlive = (span : Option ℤ) (t : ℤ) (slots : Slots) (item : Act) (k : ℕ) → IsSpan span → t ≤ℤ item.order.ts
-    → stepped span (λ j. alive_at span t (slots j)) item k ≡ alive_at span t (stepped span slots item k)
+abbrev pub SlotsAfterAlive : Type 0
+SlotsAfterAlive = (span : Option ℤ) (t : ℤ) (slots : Slots) (item : Act) (k : ℕ) → IsSpan span → t ≤ℤ item.order.ts
+    → slots_after span (λ j. alive_at span t (slots j)) item k ≡ alive_at span t (slots_after span slots item k)
 
 -- who is dead stays dead
 abbrev pub DeadForGood : Type 0

@@ -18,9 +18,11 @@ use Rattle.eql_values.specs.Lines.{lines_of}
 use Rattle.eql_values.specs.Masks.{has_stage}
 use Rattle.eql_values.specs.Matching.{matches}
 use Rattle.eql_values.specs.Numbering.{numbered, through, emitted}
+use Rattle.eql_values.specs.OrderKeys.{EventsAscend}
 use Rattle.eql_laws.specs.Belows.{IsReading}
 use Rattle.eql_laws.specs.Counting.{IsShardText}
-use Rattle.eql_laws.specs.Cuts.{IsFound}
+use Rattle.eql_laws.specs.Cuts.{IsFound, is_of_shards}
+use Rattle.eql_laws.specs.Shapes.{EventsPass}
 
 -- what a pipe has seen of this input: a head let through as many as its count, or all where there are fewer; a tail keeps the last, as many as its count, or all
 abbrev pub state_of : Pipe → List Numbered → PipeState
@@ -59,28 +61,41 @@ abbrev pub NumbersAscend : List Numbered → Type 0
 NumbersAscend [] = Unit {0}
 NumbersAscend (n ∷ list) = All (λ (next : Numbered). n.number < next.number) list × NumbersAscend list
 
--- a kept match: its number is from 1 to the number of those found, and it is a match of the events of shards below a mark
-pub record IsKeptMatch (m shards : ℕ) (mark : Mark) (found : ℕ) (n : Numbered) : Type 0 where
+-- a kept match as a checkpoint is to have it: its number is from 1 to the number of those found, and its chain has an event for each stage, each of one of the shards
+pub record IsKeptMatch (m shards found : ℕ) (n : Numbered) : Type 0 where
   pub number_from : 1 ≤ n.number
   pub number_to : n.number ≤ found
-  pub is_found : IsFound m shards mark n.found
+  pub full : length n.found.chain ≡ m
+  pub of_shards : EventsPass (is_of_shards shards) n.found.chain
 
 -- a pipe's state as a checkpoint is to have it: it is of the pipe's kind; a head has let through no more than its count, and a tail keeps no more than its count
-abbrev pub StateFits : (m shards : ℕ) → Mark → (found : ℕ) → Pipe → PipeState → Type 0
-StateFits m shards mark found (pipe.Head count) (state.Head passed) = passed ≤ count
-StateFits m shards mark found (pipe.Tail count) (state.Tail kept) =
-    (length kept ≤ count) × NumbersAscend kept × All (IsKeptMatch m shards mark found) kept
-StateFits m shards mark found (pipe.Head count) (state.Tail kept) = ⊥
-StateFits m shards mark found (pipe.Tail count) (state.Head passed) = ⊥
+abbrev pub StateFits : (m shards found : ℕ) → Pipe → PipeState → Type 0
+StateFits m shards found (pipe.Head count) (state.Head passed) = passed ≤ count
+StateFits m shards found (pipe.Tail count) (state.Tail kept) = (length kept ≤ count) × All (IsKeptMatch m shards found) kept
+StateFits m shards found (pipe.Head count) (state.Tail kept) = ⊥
+StateFits m shards found (pipe.Tail count) (state.Head passed) = ⊥
 
 -- what is kept of the output as a checkpoint is to have it: no more is listed than was found, and the states are as many as the pipes and fit them
-pub record BookFits (m shards : ℕ) (mark : Mark) (pipes : List Pipe) (book : BookCut) : Type 0 where
+pub record BookFits (m shards : ℕ) (pipes : List Pipe) (book : BookCut) : Type 0 where
   pub listed_to : book.listed ≤ book.found
-  pub states : AllZip (StateFits m shards mark book.found) pipes book.pipes
+  pub states : AllZip (StateFits m shards book.found) pipes book.pipes
 
 abbrev pub BookOfFits : Type 0
 BookOfFits = (m : ℕ) (span : Option ℤ) (reads : Reads) (slack : Option ℤ) (texts : List (List ℕ)) (mark : Mark) (pipes : List Pipe) → IsReading reads
-    → BookFits m (length texts) mark pipes (book_of pipes (matches m span [] (below reads slack texts mark)))
+    → BookFits m (length texts) pipes (book_of pipes (matches m span [] (below reads slack texts mark)))
+
+-- what a pipe keeps stands in order: the numbers ascend, and so do the events of each match
+abbrev pub StateStands : PipeState → Type 0
+StateStands s = NumbersAscend (kept_of s) × All (λ (n : Numbered). EventsAscend n.found.chain) (kept_of s)
+
+-- what pipes keep of the matches below a mark stands in order, and is of matches below that mark
+pub record BookStands (m shards : ℕ) (mark : Mark) (book : BookCut) : Type 0 where
+  pub in_order : All StateStands book.pipes
+  pub are_found : All (λ (s : PipeState). All (λ (n : Numbered). IsFound m shards mark n.found) (kept_of s)) book.pipes
+
+abbrev pub BookOfStands : Type 0
+BookOfStands = (m : ℕ) (span : Option ℤ) (reads : Reads) (slack : Option ℤ) (texts : List (List ℕ)) (mark : Mark) (pipes : List Pipe) → IsReading reads
+    → BookStands m (length texts) mark (book_of pipes (matches m span [] (below reads slack texts mark)))
 
 -- the routes that fit the last stage
 abbrev pub completing : ℕ → List Route → List Route

@@ -13,10 +13,10 @@ use Rattle.eql_values.specs.declared.reader.LineGot.TheVariants as got
 use Rattle.eql_values.specs.Accepted.{Reads}
 use Rattle.eql_values.specs.Lines.{lines_in}
 use Rattle.eql_laws.specs.Books.{book_of, completing}
-use Rattle.eql_laws.specs.Counting.{counts_of, blank}
+use Rattle.eql_laws.specs.Counting.{counts_of, counts_from, blank}
 use Rattle.eql_laws.specs.Fitting.{Run, cut_of}
 use Rattle.eql_laws.specs.Lanes.{lane_at, least_of}
-use Rattle.eql_laws.specs.Places.{ReadTo}
+use Rattle.eql_laws.specs.Places.{ReadTo, lines_after}
 
 abbrev order_at : ℕ → ℕ → ℕ → ℕ → OrderKey
 order_at ts shard line at = record { ts = pos ts; tie = None; shard = shard; line = line; at = at }
@@ -38,6 +38,12 @@ six = 20 ∷ 10 ∷ 13 ∷ 10 ∷ 10 ∷ 1 ∷ 10 ∷ 1 ∷ 2 ∷ 10 ∷ 16 ∷ 
 
 six_lines : counts_of by_bytes (Some (pos 5)) 0 six ≡ record { lines = 6; accepted = 2; late = 1; rejected = 2; first = Some (record { line = 4; reason = NotJson }) }
 six_lines = refl
+
+-- the same six, read on from the second line's end with 20 as the greatest time
+six_read_on : counts_from by_bytes (Some (pos 5)) 0 (Some (pos 20)) (record { lines = 2; accepted = 1; late = 1; rejected = 0; first = None })
+    (lines_after (20 ∷ 10 ∷ 13 ∷ 10 ∷ []) (10 ∷ 1 ∷ 10 ∷ 1 ∷ 2 ∷ 10 ∷ 16 ∷ []))
+    ≡ record { lines = 6; accepted = 2; late = 1; rejected = 2; first = Some (record { line = 4; reason = NotJson }) }
+six_read_on = refl
 
 one_blank : blank by_bytes 0 (lines_in six) ≡ record { number = 3; at = 4; bytes = [] } ∷ []
 one_blank = refl

@@ -49,9 +49,13 @@ abbrev pub HeldBackFits : Type 0
 HeldBackFits = (reads : Reads) (slack : Option ℤ) (shard : ℕ) (text : List ℕ) (mark : Mark) → IsReading reads
     → HeldBackAre reads slack shard text mark
 
+-- the event is of one of the shards
+abbrev pub is_of_shards : (shards : ℕ) → OrderKey → Bool
+is_of_shards shards event = nat_lt event.shard shards
+
 -- the event is below the mark, and of one of the shards
 abbrev pub is_of : (shards : ℕ) → Mark → OrderKey → Bool
-is_of shards mark event = is_below mark (record { order = event; routes = [] }) && nat_lt event.shard shards
+is_of shards mark event = is_below mark (record { order = event; routes = [] }) && is_of_shards shards event
 
 -- a pending sequence of the events of shards below a mark, of a query of m stages
 pub record IsPending (m shards : ℕ) (mark : Mark) (h : Holder) : Type 0 where

@@ -13,8 +13,8 @@ use Rattle.eql_values.specs.Ordered.{numbers}
 use Rattle.eql_values.specs.Routing.{routed}
 use Rattle.eql_laws.specs.Alive.{alive_holders}
 use Rattle.eql_laws.specs.Lateness.{accepted_by}
-use Rattle.eql_laws.specs.Merging.{merged, gathered}
-use Rattle.eql_laws.specs.Slots.{Slots, stepped}
+use Rattle.eql_laws.specs.Merging.{in_match_order, in_slot_order}
+use Rattle.eql_laws.specs.Slots.{Slots, slots_after}
 
 abbrev seconds : ℕ → ℤ
 seconds n = pos (n * 1000000000)
@@ -49,14 +49,14 @@ both_parts = refl
 first_part : matches 2 None [] (routed part_of 0 six) ≡ pair_of 0 1 4 ∷ []
 first_part = refl
 
-parts_merged : merged (flat_map (λ p. matches 2 None [] (routed part_of p six)) (numbers 2)) ≡ pair_of 1 2 3 ∷ pair_of 0 1 4 ∷ []
+parts_merged : in_match_order (flat_map (λ p. matches 2 None [] (routed part_of p six)) (numbers 2)) ≡ pair_of 1 2 3 ∷ pair_of 0 1 4 ∷ []
 parts_merged = refl
 
 -- what is pending comes by key
-parts_gathered : gathered (after 2 None [] (routed part_of 1 six)) ≡ holds 1 5 ∷ []
+parts_gathered : in_slot_order (after 2 None [] (routed part_of 1 six)) ≡ holds 1 5 ∷ []
 parts_gathered = refl
 
-gathered_by_key : gathered (holds 1 5 ∷ holds 0 6 ∷ []) ≡ holds 0 6 ∷ holds 1 5 ∷ []
+gathered_by_key : in_slot_order (holds 1 5 ∷ holds 0 6 ∷ []) ≡ holds 0 6 ∷ holds 1 5 ∷ []
 gathered_by_key = refl
 
 -- with a span of ten seconds a sequence from second 1 is alive at second 11 and dead at second 12
@@ -78,8 +78,8 @@ pending_one _ = None
 abbrev fits_both : Act
 fits_both = record { order = at 2; mask = record { low = 3; high = 0 }; until = false }
 
-new_at_one : stepped None pending_one fits_both 1 ≡ Some (at 2 ∷ [])
+new_at_one : slots_after None pending_one fits_both 1 ≡ Some (at 2 ∷ [])
 new_at_one = refl
 
-moved_to_two : stepped None pending_one fits_both 2 ≡ Some (at 1 ∷ at 2 ∷ [])
+moved_to_two : slots_after None pending_one fits_both 2 ≡ Some (at 1 ∷ at 2 ∷ [])
 moved_to_two = refl

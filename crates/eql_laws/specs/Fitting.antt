@@ -12,8 +12,12 @@ use Rattle.eql_values.specs.declared.reader.LineGot.TheVariants as got
 use Rattle.eql_values.specs.Accepted.{Reads, below}
 use Rattle.eql_values.specs.Marks.{is_safe}
 use Rattle.eql_values.specs.Matching.{matches}
+use Rattle.eql_values.specs.Ascending.{Ascending}
+use Rattle.eql_values.specs.OrderKeys.{EventsAscend}
+use Rattle.eql_values.specs.Routes.{RoutesStand}
+use Rattle.eql_laws.specs.Alive.{HoldersInOrder}
 use Rattle.eql_laws.specs.Belows.{IsReading, IsMarkTime}
-use Rattle.eql_laws.specs.Books.{book_of, kept_of, BookFits, CompletesOnce, greatest_shards, greatest_found}
+use Rattle.eql_laws.specs.Books.{book_of, kept_of, BookFits, StateStands, CompletesOnce, greatest_shards, greatest_found}
 use Rattle.eql_laws.specs.Bounds.{KeysHave, MasksTo, HasTimes}
 use Rattle.eql_laws.specs.Counting.{IsShardText, front}
 use Rattle.eql_laws.specs.Cuts.{pending_at, PendingAre}
@@ -67,7 +71,7 @@ pub record Fits (run : Run) (shards : ℕ) (kept : Kept) : Type 0 where
   pub holders : PendingAre run.stages shards (At kept.time) kept.holders
   pub holder_times : All (λ (h : Holder). HasTimes h.chain) kept.holders
   pub holder_keys : All (λ (h : Holder). length h.key ≡ run.values) kept.holders
-  pub book : BookFits run.stages shards (At kept.time) run.pipes kept.book
+  pub book : BookFits run.stages shards run.pipes kept.book
   pub found_to : kept.book.found ≤ greatest_found
   pub book_times : All (λ (s : PipeState). All (λ (n : Numbered). HasTimes n.found.chain) (kept_of s)) kept.book.pipes
   pub book_keys : All (λ (s : PipeState). All (λ (n : Numbered). length n.found.key ≡ run.values) (kept_of s)) kept.book.pipes
@@ -78,3 +82,17 @@ CutsFit = (run : Run) (reads : Reads) (t : ℤ) (shards : List ReadTo) → Reads
     → ArePlaces shards → All IsShardText (map front shards) → length shards ≤ greatest_shards
     → IsTrue (is_safe (At t) (lows_from reads (Some run.slack) 0 shards)) → IsMarkTime t
     → Fits run (length shards) (cut_of run reads t shards)
+
+-- a cut of so many shards in the orders and counts that its text has: a lane for each shard, its events in order and each with routes in order that
+-- say something; the pending sequences by key and stage, each with as many events as its stage, in order; what pipes keep by number, each with
+-- its events in order
+pub record StandsInOrder (shards : ℕ) (kept : Kept) : Type 0 where
+  pub lane_for_each : length kept.lanes ≡ shards
+  pub items : All (λ (lane : LaneCut). Ascending lane.items × All (λ (item : Item). RoutesStand item.routes) lane.items) kept.lanes
+  pub holders : HoldersInOrder kept.holders
+  pub chains : All (λ (h : Holder). (length h.chain ≡ h.stage) × EventsAscend h.chain) kept.holders
+  pub book : All StateStands kept.book.pipes
+
+-- what a cut keeps is in those orders and counts
+abbrev pub CutsStand : Type 0
+CutsStand = (run : Run) (reads : Reads) (t : ℤ) (shards : List ReadTo) → IsReading reads → StandsInOrder (length shards) (cut_of run reads t shards)

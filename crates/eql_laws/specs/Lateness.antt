@@ -53,6 +53,10 @@ AcceptedByBest = (slack : Option ℤ) (earlier items : List Item) → accepted_a
 abbrev pub BestGoesOn : Type 0
 BestGoesOn = (a b : List Item) → (best_of (a ++ b) ≡ best_from (best_of a) b) × (best_of (onto b a) ≡ best_from (best_of a) b)
 
+-- and so it goes on from any kept time
+abbrev pub BestFromGoesOn : Type 0
+BestFromGoesOn = (best : Option ℤ) (a b : List Item) → best_from best (a ++ b) ≡ best_from (best_from best a) b
+
 -- the accepted events of two lists are those of the first, and those of the second with the time going on
 abbrev pub AcceptedSplit : Type 0
 AcceptedSplit = (slack best : Option ℤ) (a b : List Item)

@@ -20,3 +20,7 @@ pub mod Books
 pub mod Fitting
 pub mod Examples
 pub mod CutExamples
+pub mod Together
+pub mod Resuming
+pub mod Apart
+pub mod Totals

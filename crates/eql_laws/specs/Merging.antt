@@ -35,8 +35,8 @@ abbrev pub match_of : Ending × List OrderKey → Match
 match_of e = record { key = e.0.1; chain = e.1 }
 
 -- the matches by last event, then by key
-abbrev pub merged : List Match → List Match
-merged matches = map match_of (in_order ending_cmp (map by_ending matches))
+abbrev pub in_match_order : List Match → List Match
+in_match_order matches = map match_of (in_order ending_cmp (map by_ending matches))
 
 -- a pending sequence with its slot
 abbrev pub by_slot : Holder → Slot × List OrderKey
@@ -47,5 +47,5 @@ abbrev pub holder_of : Slot × List OrderKey → Holder
 holder_of e = record { key = e.0.0; stage = e.0.1; chain = e.1 }
 
 -- the pending sequences by key, then by stage
-abbrev pub gathered : List Holder → List Holder
-gathered holders = map holder_of (in_order slot_cmp (map by_slot holders))
+abbrev pub in_slot_order : List Holder → List Holder
+in_slot_order holders = map holder_of (in_order slot_cmp (map by_slot holders))

@@ -12,7 +12,7 @@ use Rattle.eql_values.specs.Orders.{key_eq}
 use Rattle.eql_values.specs.Matching.{act_by, opening_of, held_after, matches, after}
 use Rattle.eql_laws.specs.Alive.{HoldersInOrder}
 use Rattle.eql_laws.specs.Shapes.{HasStageBefore}
-use Rattle.eql_laws.specs.Slots.{Slots, arrived, stepped}
+use Rattle.eql_laws.specs.Slots.{Slots, chain_coming, slots_after}
 
 -- at a stage from 1 to the one before the last, a look-up in what is pending after items finds what the look-back gives
 abbrev pub AfterLooksUp : Type 0
@@ -31,20 +31,20 @@ SameHolders = (a b : List Holder) → HoldersInOrder a → HoldersInOrder b
     → ((key : List Value) (stage : ℕ) → opening_of a key stage ≡ opening_of b key stage) → a ≡ b
 
 -- what an item does to the slots of a key, by the route that it has of the key, if any
-abbrev pub turned : Option ℤ → OrderKey → Option Route → Slots → Slots
-turned span order None slots = slots
-turned span order (Some route) slots = stepped span slots (act_by order route)
+abbrev pub slots_after_event : Option ℤ → OrderKey → Option Route → Slots → Slots
+slots_after_event span order None slots = slots
+slots_after_event span order (Some route) slots = slots_after span slots (act_by order route)
 
 -- after one item the slots of each key are those before it, moved where the item has a route of the key
 abbrev pub AfterOne : Type 0
 AfterOne = (m : ℕ) (span : Option ℤ) (holders : List Holder) (item : Item) (key : List Value) (k : ℕ) → suc k < m
     → opening_of (after m span holders (item ∷ [])) key (suc k)
-    ≡ turned span item.order (find (λ (route : Route). key_eq key route.key) item.routes) (opening_of holders key) (suc k)
+    ≡ slots_after_event span item.order (find (λ (route : Route). key_eq key route.key) item.routes) (opening_of holders key) (suc k)
 
 -- the match that comes to the last stage of a key by a route, where one comes
 abbrev pub match_at : ℕ → Option ℤ → List Holder → OrderKey → Route → Option Match
 match_at m span holders order route =
-    option_map (λ c. record { key = route.key; chain = c }) (arrived span (opening_of holders route.key) (act_by order route) m)
+    option_map (λ c. record { key = route.key; chain = c }) (chain_coming span (opening_of holders route.key) (act_by order route) m)
 
 -- the matches by one item are what comes to the last stage of each key that it has a route of
 abbrev pub MatchesOne : Type 0

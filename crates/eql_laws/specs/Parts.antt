@@ -1,5 +1,5 @@
 -- Laws of keys in parts: which keys are handled where doesn't matter.
-use Rattle.std.specs.Prelude.{if◌then◌else◌, None, ◌≡◌, ◌==◌, ◌<◌, ℕ, ℤ, List, filter, Option}
+use Rattle.std.specs.Prelude.{if◌then◌else◌, None, ◌≡◌, ◌==◌, ◌<◌, ℕ, ℤ, List, filter, map, All, IsPermutation, Option}
 use Rattle.std.specs.List.{flat_map}
 use Rattle.eql_values.specs.declared.value.Value.{Value}
 use Rattle.eql_values.specs.declared.item.Item.{Item}
@@ -9,13 +9,15 @@ use Rattle.eql_values.specs.Ascending.{Ascending}
 use Rattle.eql_values.specs.Matching.{opening_of, matches, after}
 use Rattle.eql_values.specs.Ordered.{numbers}
 use Rattle.eql_values.specs.Routing.{routed}
-use Rattle.eql_laws.specs.Merging.{merged, gathered}
+use Rattle.eql_laws.specs.Alive.{HoldersInOrder, alive_holders}
+use Rattle.eql_laws.specs.Apart.{joined, InMatchOrder, MatchesApart}
+use Rattle.eql_laws.specs.Merging.{in_match_order, in_slot_order}
 
 -- keys in n parts: the matches are those by the items routed to each part, merged
 abbrev pub KeysMerge : Type 0
 KeysMerge = (m : ℕ) (span : Option ℤ) (part : List Value → ℕ) (n : ℕ) (holders : List Holder) (items : List Item)
     → ((key : List Value) → part key < n) → Ascending items
-    → matches m span holders items ≡ merged (flat_map (λ p. matches m span holders (routed part p items)) (numbers n))
+    → matches m span holders items ≡ in_match_order (flat_map (λ p. matches m span holders (routed part p items)) (numbers n))
 
 -- the matches of a part's keys
 abbrev pub matches_in : (List Value → ℕ) → ℕ → List Match → List Match
@@ -29,7 +31,7 @@ holders_in part p = filter (λ (h : Holder). part h.key == p)
 abbrev pub KeysGather : Type 0
 KeysGather = (m : ℕ) (span : Option ℤ) (part : List Value → ℕ) (n : ℕ) (holders : List Holder) (items : List Item)
     → ((key : List Value) → part key < n)
-    → after m span holders items ≡ gathered (flat_map (λ p. after m span (holders_in part p holders) (routed part p items)) (numbers n))
+    → after m span holders items ≡ in_slot_order (flat_map (λ p. after m span (holders_in part p holders) (routed part p items)) (numbers n))
 
 -- a part's pending sequences are those that a look-up finds at the part's keys
 abbrev pub PartLooksUp : Type 0
@@ -56,3 +58,33 @@ abbrev pub PartApart : Type 0
 PartApart = (part : List Value → ℕ) (p m : ℕ) (span : Option ℤ) (holders : List Holder) (a b : List Item)
     → matches m span (after m span (holders_in part p holders) (routed part p a)) (routed part p b)
     ≡ matches m span (after m span holders a) (routed part p b)
+
+-- the matches by the items routed to each part, part by part
+abbrev pub found_by_parts : (m : ℕ) (span : Option ℤ) (part : List Value → ℕ) (n : ℕ) → List Holder → List Item → List (List Match)
+found_by_parts m span part n holders items = map (λ p. matches m span holders (routed part p items)) (numbers n)
+
+-- the matches of all parts are those of the whole, each once
+pub record PartsFind (m : ℕ) (span : Option ℤ) (part : List Value → ℕ) (n : ℕ) (holders : List Holder) (items : List Item) : Type 0 where
+  pub all : IsPermutation (joined (found_by_parts m span part n holders items)) (matches m span holders items)
+  pub merged : matches m span holders items ≡ in_match_order (joined (found_by_parts m span part n holders items))
+  pub in_order : All InMatchOrder (found_by_parts m span part n holders items)
+  pub apart : MatchesApart (found_by_parts m span part n holders items)
+
+abbrev pub PartsFindAll : Type 0
+PartsFindAll = (m : ℕ) (span : Option ℤ) (part : List Value → ℕ) (n : ℕ) (holders : List Holder) (items : List Item)
+    → ((key : List Value) → part key < n) → Ascending items → PartsFind m span part n holders items
+
+-- what is pending of a part's keys and alive
+abbrev pub alive_in : (span : Option ℤ) (t : ℤ) (part : List Value → ℕ) (p : ℕ) → List Holder → List Holder
+alive_in span t part p holders = alive_holders span t (holders_in part p holders)
+
+-- what is pending of all parts and alive, put together, is what is pending of the whole and alive; and each part's stands in order
+pub record PartsHold (m : ℕ) (span : Option ℤ) (t : ℤ) (part : List Value → ℕ) (n : ℕ) (holders : List Holder) (items : List Item) : Type 0 where
+  pub all : in_slot_order (flat_map (λ p. alive_in span t part p (after m span holders items)) (numbers n))
+      ≡ alive_holders span t (after m span holders items)
+  pub part_in_order : (p : ℕ) → HoldersInOrder (alive_in span t part p (after m span holders items))
+  pub in_order : HoldersInOrder (alive_holders span t (after m span holders items))
+
+abbrev pub PartsGather : Type 0
+PartsGather = (m : ℕ) (span : Option ℤ) (t : ℤ) (part : List Value → ℕ) (n : ℕ) (holders : List Holder) (items : List Item)
+    → ((key : List Value) → part key < n) → PartsHold m span t part n holders items

@@ -50,6 +50,25 @@ pub record NextLine (first line rest : List ℕ) : Type 0 where
 abbrev pub LineByLine : Type 0
 LineByLine = (first line rest : List ℕ) → IsTrue (ends_line first) → IsTrue (is_one_line line) → NextLine first line rest
 
+-- the lines of two texts with any number and place for the first line: those of the first text, and those of the second numbered and placed on
+abbrev pub NumberedGoOn : Type 0
+NumberedGoOn = (number at : ℕ) (a b : List ℕ) → IsTrue (is_line_end a b)
+    → numbered_lines number at (lines_of (a ++ b))
+    ≡ numbered_lines number at (lines_of a) ++ numbered_lines (number + length (lines_of a)) (at + length a) (lines_of b)
+
+-- one line with its line feed is one line, after which another may start, and so is one without it, where it has bytes
+pub record OneLine (line : List ℕ) : Type 0 where
+  pub with_feed : lines_of (line ++ 10 ∷ []) ≡ line ∷ []
+  pub next_starts : IsTrue (ends_line (line ++ 10 ∷ []))
+  pub without : line ≢ [] → lines_of line ≡ line ∷ []
+
+abbrev pub LinesAreOne : Type 0
+LinesAreOne = (line : List ℕ) → IsTrue (is_one_line line) → OneLine line
+
+-- texts that end with a line, one after the other, end with a line
+abbrev pub LinesEndOn : Type 0
+LinesEndOn = (a b : List ℕ) → IsTrue (ends_line a) → IsTrue (ends_line b) → IsTrue (ends_line (a ++ b))
+
 -- the readable events of two texts
 abbrev pub ReadableGoesOn : Type 0
 ReadableGoesOn = (reads : Reads) (shard : ℕ) (a b : List ℕ) → IsTrue (is_line_end a b)

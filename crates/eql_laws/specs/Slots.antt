@@ -11,16 +11,16 @@ Slots = ℕ → Option (List OrderKey)
 
 module _ (span : Option ℤ) where
   -- a sequence that the item moves on, where it is in time
-  abbrev pub moved : Option (List OrderKey) → Act → Option (List OrderKey)
-  moved None item = None
-  moved (Some chain) item = if in_time span chain item.order.ts then Some (chain ++ item.order ∷ []) else None
+  abbrev pub chain_moved_on : Option (List OrderKey) → Act → Option (List OrderKey)
+  chain_moved_on None item = None
+  chain_moved_on (Some chain) item = if in_time span chain item.order.ts then Some (chain ++ item.order ∷ []) else None
 
   -- what comes to a stage with the item: to stage 1 the item alone, to a later one the sequence of the stage before, unless the item ends the key
-  abbrev pub arrived : Slots → Act → Slots
-  arrived slots item zero = None
-  arrived slots item (suc zero) = if fits_after 0 item then Some (item.order ∷ []) else None
-  arrived slots item (suc (suc k)) = if fits_after (suc k) item && not item.until then moved (slots (suc k)) item else None
+  abbrev pub chain_coming : Slots → Act → Slots
+  chain_coming slots item zero = None
+  chain_coming slots item (suc zero) = if fits_after 0 item then Some (item.order ∷ []) else None
+  chain_coming slots item (suc (suc k)) = if fits_after (suc k) item && not item.until then chain_moved_on (slots (suc k)) item else None
 
   -- the slots after the item: what came; else what was there, unless the item fits the next stage, to which it went, or ends the key
-  abbrev pub stepped : Slots → Act → Slots
-  stepped slots item k = found_or (arrived slots item k) (if fits_after k item || item.until then None else slots k)
+  abbrev pub slots_after : Slots → Act → Slots
+  slots_after slots item k = found_or (chain_coming slots item k) (if fits_after k item || item.until then None else slots k)

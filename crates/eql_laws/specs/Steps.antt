@@ -3,18 +3,18 @@ use Rattle.std.specs.Prelude.{◌≡◌, ◌↔◌, ℕ, suc, ℤ, List, [], ◌
 use Rattle.eql_values.specs.declared.order.OrderKey.{OrderKey}
 use Rattle.eql_values.specs.declared.item.Act.{Act}
 use Rattle.eql_values.specs.Chains.{chain, holder}
-use Rattle.eql_laws.specs.Slots.{Slots, arrived, stepped}
+use Rattle.eql_laws.specs.Slots.{Slots, chain_coming, slots_after}
 use Rattle.eql_laws.specs.InWords.{Follows}
 
 -- one more item takes the pending sequences on as slots are moved
 abbrev pub SlotStep : Type 0
 SlotStep = (span : Option ℤ) (opening : Slots) (k : ℕ) (item : Act) (past : List Act)
-    → holder span opening k (item ∷ past) ≡ stepped span (λ j. holder span opening j past) item k
+    → holder span opening k (item ∷ past) ≡ slots_after span (λ j. holder span opening j past) item k
 
 -- and the chain that it makes is what comes to the stage
 abbrev pub ChainStep : Type 0
 ChainStep = (span : Option ℤ) (opening : Slots) (k : ℕ) (item : Act) (past : List Act)
-    → chain span opening k (item ∷ past) ≡ arrived span (λ j. holder span opening j past) item k
+    → chain span opening k (item ∷ past) ≡ chain_coming span (λ j. holder span opening j past) item k
 
 -- before any item the pending sequence of a stage is the opening one
 abbrev pub SlotStart : Type 0

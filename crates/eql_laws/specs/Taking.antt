@@ -1,12 +1,14 @@
 -- Laws of what shards hold back and hand out from mark to mark.
-use Rattle.std.specs.Prelude.{◌≡◌, ◌+◌, ℕ, ℤ, false, not, List, [], ◌∷◌, ◌++◌, Option, filter, IsTrue}
+use Rattle.std.specs.Prelude.{◌≡◌, ◌+◌, ℕ, ℤ, false, not, List, [], ◌∷◌, ◌++◌, Option, filter, All, IsTrue}
 use Rattle.std.specs.List.{flat_map}
 use Rattle.eql_values.specs.declared.item.Item.{Item}
 use Rattle.eql_values.specs.declared.order.Mark.{Mark}
 use Rattle.eql_values.specs.Accepted.{Reads, readable, accepted, sorted_items}
 use Rattle.eql_values.specs.Lines.{lines_in}
 use Rattle.eql_values.specs.Marks.{is_below, low_of}
-use Rattle.eql_laws.specs.Belows.{from_to, between}
+use Rattle.eql_values.specs.Ascending.{Ascending}
+use Rattle.eql_laws.specs.Apart.{AllApart}
+use Rattle.eql_laws.specs.Belows.{IsReading, from_to, between}
 use Rattle.eql_laws.specs.Cuts.{held_back}
 use Rattle.eql_laws.specs.Lateness.{AtMost, best_of, accepted_by}
 use Rattle.eql_laws.specs.Places.{ReadTo, IsPlace, whole, low_at, is_line_end, lines_after}
@@ -41,3 +43,12 @@ HeldBackGrows = (reads : Reads) (slack : Option ℤ) (shard : ℕ) (a b : List �
     → AtMost mark (low_of false slack (best_of (readable reads shard (lines_in a))))
     → held_back reads slack shard (a ++ b) mark
     ≡ sorted_items (held_back reads slack shard a mark ++ accepted_by slack (best_of (readable reads shard (lines_in a))) (readable reads shard (lines_after a b)))
+
+-- the lists that shards hand out may be merged: each ascends, and no place is in two of them
+pub record HandsOutApart (reads : Reads) (slack : Option ℤ) (shard : ℕ) (texts : List (List ℕ)) (from to : Mark) : Type 0 where
+  pub ascend : All Ascending (handed_out reads slack shard texts from to)
+  pub apart : AllApart (handed_out reads slack shard texts from to)
+
+abbrev pub HandedOutMerges : Type 0
+HandedOutMerges = (reads : Reads) (slack : Option ℤ) (shard : ℕ) (texts : List (List ℕ)) (from to : Mark) → IsReading reads
+    → HandsOutApart reads slack shard texts from to

@@ -1,5 +1,5 @@
 //! Laws of stale sequences: when they are dropped doesn't matter.
-ghost use Rattle.eql_laws.specs.Alive.{DeadMatches, DeadAfter, DeadForGood, AfterInOrder, AliveInOrder, DeadAlike, AliveLooksUp, SteppedAlive};
+ghost use Rattle.eql_laws.specs.Alive.{DeadMatches, DeadAfter, DeadForGood, AfterInOrder, AliveInOrder, DeadAlike, AliveLooksUp, SlotsAfterAlive};
 
 /// Sequences that are dead at a time may be left out before events from that time on: no match changes.
 pub fn dead_matches()
@@ -30,5 +30,5 @@ pub fn dead_alike()
 /// Leaving out the dead, seen slot by slot: what a look-up finds, and that one event changes nothing of it.
 pub fn dead_by_slot()
     ensures look_up { AliveLooksUp }
-    ensures step { SteppedAlive }
+    ensures step { SlotsAfterAlive }
 {}

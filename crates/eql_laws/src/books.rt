@@ -1,10 +1,11 @@
 //! Laws of what a cut keeps of the output: how many matches there can be, and what pipes have seen.
-ghost use Rattle.eql_laws.specs.Books.{InputsGoOn, BookOfFits, KeptPass, FoundByRoutes, FoundByEvents, BelowsAreFew, FoundIsFew};
+ghost use Rattle.eql_laws.specs.Books.{InputsGoOn, BookOfFits, BookOfStands, KeptPass, FoundByRoutes, FoundByEvents, BelowsAreFew, FoundIsFew};
 
 /// What is kept of the output is as a checkpoint is to have it: no more is listed than was found, and there is a state
-/// for each pipe, of its kind, that keeps what it may.
+/// for each pipe, of its kind, that keeps what it may. It stands in order, and is of matches below the mark.
 pub fn book_fits()
-    ensures { BookOfFits }
+    ensures fits { BookOfFits }
+    ensures stands { BookOfStands }
 {}
 
 /// The input of a pipe goes on from that of the pipe before; and what a test says of each match that was found, it says

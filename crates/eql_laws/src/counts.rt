@@ -1,5 +1,5 @@
 //! Laws of the counts of a text's lines: what became of each, and how many a shard may have.
-ghost use Rattle.eql_laws.specs.Counting.{LinesAreOfFour, CountsOfStand, FirstBadIsLine, FrontsWithin, FrontsFit};
+ghost use Rattle.eql_laws.specs.Counting.{LinesAreOfFour, CountsOfStand, FirstBadIsLine, FrontsWithin, FrontsFit, LateByKept, CountsGoOn, CountsStepOn};
 
 /// Each line of a text is blank, accepted, late or rejected, and so the last three are no more than all. The first
 /// bad line is there exactly where some line is rejected, and is one of the text.
@@ -14,4 +14,11 @@ pub fn lines_are_counted()
 pub fn fronts_fit()
     ensures within { FrontsWithin }
     ensures fit { FrontsFit }
+{}
+
+/// The counts of two texts go on from those of the first, with one kept time that tells who is late.
+pub fn counts_go_on()
+    ensures late { LateByKept }
+    ensures texts { CountsGoOn }
+    ensures lines { CountsStepOn }
 {}

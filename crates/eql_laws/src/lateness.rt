@@ -1,5 +1,5 @@
 //! Laws of late events: one kept time tells who is late, and no event below a safe mark is still to come.
-ghost use Rattle.eql_laws.specs.Lateness.{LateByBest, AcceptedByBest, BestGoesOn, AcceptedSplit, LowRises, NoneComesBelow};
+ghost use Rattle.eql_laws.specs.Lateness.{LateByBest, AcceptedByBest, BestGoesOn, BestFromGoesOn, AcceptedSplit, LowRises, NoneComesBelow};
 
 /// One kept time, the greatest so far, tells who is late.
 pub fn late_by_best()
@@ -11,9 +11,10 @@ pub fn accepted_by_best()
     ensures { AcceptedByBest }
 {}
 
-/// The greatest time of two lists goes on from that of the first.
+/// The greatest time of two lists goes on from that of the first, and so from any kept time.
 pub fn best_goes_on()
-    ensures { BestGoesOn }
+    ensures first { BestGoesOn }
+    ensures kept { BestFromGoesOn }
 {}
 
 /// The accepted events of two lists are those of the first, and those of the second with the kept time going on.

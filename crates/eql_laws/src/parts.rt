@@ -1,5 +1,5 @@
 //! Laws of keys in parts: which keys are handled where doesn't matter.
-ghost use Rattle.eql_laws.specs.Parts.{KeysMerge, KeysGather, MatchesRouted, OwnHolders, AfterRouted, PartApart, PartLooksUp};
+ghost use Rattle.eql_laws.specs.Parts.{KeysMerge, KeysGather, MatchesRouted, OwnHolders, AfterRouted, PartApart, PartLooksUp, PartsFindAll, PartsGather};
 
 /// The matches are those by the events routed to each part of the keys, merged by last event and then by key.
 pub fn keys_merge()
@@ -34,4 +34,15 @@ pub fn part_apart()
 /// A look-up in a part's pending sequences finds those of the part's keys.
 pub fn part_looks_up()
     ensures { PartLooksUp }
+{}
+
+/// The matches of all parts are those of the whole, each once: those of each part stand in order, no last event and key
+/// is in two parts, and merged they are those of the whole.
+pub fn parts_find_all()
+    ensures { PartsFindAll }
+{}
+
+/// What is pending of all parts and alive, put together, is what is pending of the whole and alive, and stands in order.
+pub fn parts_gather()
+    ensures { PartsGather }
 {}

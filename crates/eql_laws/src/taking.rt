@@ -1,5 +1,5 @@
 //! Laws of what shards hold back and hand out from mark to mark.
-ghost use Rattle.eql_laws.specs.Taking.{BetweenByShard, TakeSplits, LateBetween, HeldBackGrows};
+ghost use Rattle.eql_laws.specs.Taking.{BetweenByShard, TakeSplits, LateBetween, HeldBackGrows, HandedOutMerges};
 
 /// What all shards hand out between two marks, put in order, is what lies between them.
 pub fn between_by_shard()
@@ -19,4 +19,9 @@ pub fn late_between()
 /// With more text a shard holds back what it held back and what more was accepted.
 pub fn held_back_grows()
     ensures { HeldBackGrows }
+{}
+
+/// The lists that shards hand out between two marks may be merged: each ascends, and no place is in two of them.
+pub fn handed_out_merges()
+    ensures { HandedOutMerges }
 {}

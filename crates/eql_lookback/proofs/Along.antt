@@ -8,15 +8,17 @@ use Rattle.eql_values.specs.declared.order.OrderKey.{OrderKey}
 use Rattle.eql_values.specs.declared.value.Value.{Value}
 use Rattle.eql_values.specs.declared.item.Act.{Act}
 use Rattle.eql_values.specs.declared.found.Match.{Match}
-use Rattle.eql_values.specs.Orders.{key_cmp, key_cmp_total, key_eq, key_same}
+use Rattle.eql_values.specs.Orders.{key_cmp, key_eq}
+use Rattle.eql_values.specs.Totals.{key_cmp_total}
+use Rattle.eql_values.proofs.Same.{key_same}
 use Rattle.eql_values.specs.Chains.{fits_after, chain, holder}
 use Rattle.eql_values.specs.Ordered.{found_or}
-use Rattle.eql_laws.specs.Slots.{moved}
+use Rattle.eql_laws.specs.Slots.{chain_moved_on}
 use Rattle.eql_laws.proofs.Facts.{is_equal}
-use Rattle.eql_laws.proofs.Stepping.{chain_step, holder_step}
+use Rattle.eql_laws.specs.Steps.{SlotStep, ChainStep}
 use Rattle.eql_lookback.specs.declared.key_act.KeyAct.{KeyAct}
 use Rattle.eql_lookback.specs.KeyActs.{to_key, back_over}
-use Rattle.eql_lookback.specs.Places.{nothing, chains_at, match_at, matched}
+use Rattle.eql_lookback.specs.Places.{no_opening, chains_at, match_at, matches_at}
 
 pub back_over_more : (all : List KeyAct) (i : ℕ) (one : KeyAct) (past : List KeyAct) → i < length all → one ≡ get_or all i one
     → back_over (take (i + 1) all) past ≡ one ∷ back_over (take i all) past
@@ -33,7 +35,7 @@ cons_option-append (Some x) xs ys = refl
 module _ (span : Option ℤ) (stage : ℕ) where
   -- the chain of an item after a past
   abbrev pub chain_of : List KeyAct → KeyAct → Option (List OrderKey)
-  chain_of past one = chain span nothing stage (one.act ∷ to_key one.key past)
+  chain_of past one = chain span no_opening stage (one.act ∷ to_key one.key past)
 
   pub chains_at-append : (past xs ys : List KeyAct) → chains_at span stage past (xs ++ ys) ≡ chains_at span stage past xs ++ chains_at span stage (back_over xs past) ys
   chains_at-append past [] ys = refl
@@ -66,44 +68,44 @@ module _ (span : Option ℤ) (stage : ℕ) where
       ∙ chain_there [] all i one found lt
       ∙ ap (chain_of (back_over (take i all) [])) (sym is)
 
-  step_is : (one : Act) (past : List Act) → holder span nothing stage (one ∷ past)
-      ≡ found_or (chain span nothing stage (one ∷ past)) (cond (fits_after stage one || one.until) None (holder span nothing stage past))
-  step_is one past =
-      holder_step span nothing stage one past
-      ∙ ap (λ (o : Option (List OrderKey)). found_or o (cond (fits_after stage one || one.until) None (holder span nothing stage past))) (sym (chain_step span nothing stage one past))
+  step_is : SlotStep → ChainStep → (one : Act) (past : List Act) → holder span no_opening stage (one ∷ past)
+      ≡ found_or (chain span no_opening stage (one ∷ past)) (cond (fits_after stage one || one.until) None (holder span no_opening stage past))
+  step_is steps comes one past =
+      steps span no_opening stage one past
+      ∙ ap (λ (o : Option (List OrderKey)). found_or o (cond (fits_after stage one || one.until) None (holder span no_opening stage past))) (sym (comes span no_opening stage one past))
 
-  passed_one : (past : List KeyAct) (one : KeyAct) (here now : Option (List OrderKey)) (key : List Value) (b : Bool) → key_eq one.key key ≡ b
-      → here ≡ chain_of past one → now ≡ holder span nothing stage (to_key key past)
-      → cond b (found_or here (cond (fits_after stage one.act || one.act.until) None now)) now ≡ holder span nothing stage (cond b (one.act ∷ to_key key past) (to_key key past))
-  passed_one past one here now key true same is was =
+  passed_one : SlotStep → ChainStep → (past : List KeyAct) (one : KeyAct) (here now : Option (List OrderKey)) (key : List Value) (b : Bool) → key_eq one.key key ≡ b
+      → here ≡ chain_of past one → now ≡ holder span no_opening stage (to_key key past)
+      → cond b (found_or here (cond (fits_after stage one.act || one.act.until) None now)) now ≡ holder span no_opening stage (cond b (one.act ∷ to_key key past) (to_key key past))
+  passed_one steps comes past one here now key true same is was =
       (λ i. found_or (is i) (cond (fits_after stage one.act || one.act.until) None (was i)))
-      ∙ ap (λ (k : List Value). found_or (chain span nothing stage (one.act ∷ to_key k past)) (cond (fits_after stage one.act || one.act.until) None (holder span nothing stage (to_key key past))))
+      ∙ ap (λ (k : List Value). found_or (chain span no_opening stage (one.act ∷ to_key k past)) (cond (fits_after stage one.act || one.act.until) None (holder span no_opening stage (to_key key past))))
       (key_same one.key key (is_equal (key_cmp one.key key) same))
-      ∙ sym (step_is one.act (to_key key past))
-  passed_one past one here now key false same is was = was
+      ∙ sym (step_is steps comes one.act (to_key key past))
+  passed_one steps comes past one here now key false same is was = was
 
   -- what is pending after one more item
-  pub passed : (all : List KeyAct) (i : ℕ) (one : KeyAct) (here : Option (List OrderKey)) (key : List Value) (old new : Option (List OrderKey))
+  pub passed : SlotStep → ChainStep → (all : List KeyAct) (i : ℕ) (one : KeyAct) (here : Option (List OrderKey)) (key : List Value) (old new : Option (List OrderKey))
       → i < length all → one ≡ get_or all i one → here ≡ chain_of (back_over (take i all) []) one
-      → old ≡ holder span nothing stage (to_key key (back_over (take i all) []))
+      → old ≡ holder span no_opening stage (to_key key (back_over (take i all) []))
       → new ≡ cond (key_eq one.key key) (found_or here (cond (fits_after stage one.act || one.act.until) None old)) old
-      → new ≡ holder span nothing stage (to_key key (back_over (take (i + 1) all) []))
-  passed all i one here key old new lt is at was goes =
+      → new ≡ holder span no_opening stage (to_key key (back_over (take (i + 1) all) []))
+  passed steps comes all i one here key old new lt is at was goes =
       goes
-      ∙ passed_one (back_over (take i all) []) one here old key (key_eq one.key key) refl at was
-      ∙ ap (λ (b : Bool). holder span nothing stage (cond b (one.act ∷ to_key key (back_over (take i all) [])) (to_key key (back_over (take i all) [])))) ((eq_by_cmp_equiv key_cmp_total).symm one.key key)
-      ∙ ap (λ (past : List KeyAct). holder span nothing stage (to_key key past)) (sym (back_over_more all i one [] lt is))
+      ∙ passed_one steps comes (back_over (take i all) []) one here old key (key_eq one.key key) refl at was
+      ∙ ap (λ (b : Bool). holder span no_opening stage (cond b (one.act ∷ to_key key (back_over (take i all) [])) (to_key key (back_over (take i all) [])))) ((eq_by_cmp_equiv key_cmp_total).symm one.key key)
+      ∙ ap (λ (past : List KeyAct). holder span no_opening stage (to_key key past)) (sym (back_over_more all i one [] lt is))
 
 -- the chain that follows what is pending
-pub followed_at : (span : Option ℤ) (stage : ℕ) (past : List KeyAct) (one : KeyAct) (pending found : Option (List OrderKey)) → 1 ≤ stage
-    → pending ≡ holder span nothing stage (to_key one.key past)
-    → found ≡ cond (fits_after stage one.act && not one.act.until) (moved span pending one.act) None
+pub followed_at : ChainStep → (span : Option ℤ) (stage : ℕ) (past : List KeyAct) (one : KeyAct) (pending found : Option (List OrderKey)) → 1 ≤ stage
+    → pending ≡ holder span no_opening stage (to_key one.key past)
+    → found ≡ cond (fits_after stage one.act && not one.act.until) (chain_moved_on span pending one.act) None
     → found ≡ chain_of span (suc stage) past one
-followed_at span zero past one pending found le was is = absurd (omega arith)
-followed_at span (suc k) past one pending found le was is =
+followed_at comes span zero past one pending found le was is = absurd (omega arith)
+followed_at comes span (suc k) past one pending found le was is =
     is
-    ∙ ap (λ (o : Option (List OrderKey)). cond (fits_after (suc k) one.act && not one.act.until) (moved span o one.act) None) was
-    ∙ sym (chain_step span nothing (suc (suc k)) one.act (to_key one.key past))
+    ∙ ap (λ (o : Option (List OrderKey)). cond (fits_after (suc k) one.act && not one.act.until) (chain_moved_on span o one.act) None) was
+    ∙ sym (comes span no_opening (suc (suc k)) one.act (to_key one.key past))
 
 -- the first stage asks nothing of time
 pub first_of_any : (span : Option ℤ) (past all : List KeyAct) → chains_at None 1 past all ≡ chains_at span 1 past all
@@ -111,22 +113,22 @@ first_of_any span past [] = refl
 first_of_any span past (one ∷ all) = ap (λ (cs : List (Option (List OrderKey))). chain_of span 1 past one ∷ cs) (first_of_any span (one ∷ past) all)
 
 last_matched : (all : List KeyAct) (chains : List (Option (List OrderKey))) (i : ℕ) (one : KeyAct) (found : Option (List OrderKey)) → i < length all → i < length chains
-    → matched (take (suc i) all) (take (suc i) chains) ≡ matched (take i all) (take i chains) ++ cons_option (match_at (get_or all i one) (get_or chains i found)) []
+    → matches_at (take (suc i) all) (take (suc i) chains) ≡ matches_at (take i all) (take i chains) ++ cons_option (match_at (get_or all i one) (get_or chains i found)) []
 last_matched [] chains i one found la lc = absurd (omega arith)
 last_matched (x ∷ all) [] i one found la lc = absurd (omega arith)
 last_matched (x ∷ all) (y ∷ chains) zero one found la lc = refl
 last_matched (x ∷ all) (y ∷ chains) (suc i) one found la lc =
     ap (cons_option (match_at x y)) (last_matched all chains i one found (omega arith) (omega arith))
-    ∙ sym (cons_option-append (match_at x y) (matched (take i all) (take i chains)) (cons_option (match_at (get_or all i one) (get_or chains i found)) []))
+    ∙ sym (cons_option-append (match_at x y) (matches_at (take i all) (take i chains)) (cons_option (match_at (get_or all i one) (get_or chains i found)) []))
 
 -- one more match
 pub matched_more : (all : List KeyAct) (chains : List (Option (List OrderKey))) (i : ℕ) (one : KeyAct) (found : Option (List OrderKey))
     → i < length all → i < length chains → one ≡ get_or all i one → found ≡ get_or chains i found
-    → matched (take (i + 1) all) (take (i + 1) chains) ≡ matched (take i all) (take i chains) ++ cons_option (match_at one found) []
+    → matches_at (take (i + 1) all) (take (i + 1) chains) ≡ matches_at (take i all) (take i chains) ++ cons_option (match_at one found) []
 matched_more all chains i one found la lc is here =
-    ap (λ (n : ℕ). matched (take n all) (take n chains)) (add-one i)
+    ap (λ (n : ℕ). matches_at (take n all) (take n chains)) (add-one i)
     ∙ last_matched all chains i one found la lc
-    ∙ sym ((λ j. matched (take i all) (take i chains) ++ cons_option (match_at (is j) (here j)) []))
+    ∙ sym ((λ j. matches_at (take i all) (take i chains) ++ cons_option (match_at (is j) (here j)) []))
 
 -- a list of matches that grew by what may be there
 pub grown : (cur new now more : List Match) (o : Option Match) → cur ≡ now → more ≡ now ++ cons_option o [] → new ≡ cur ++ cons_option o [] → new ≡ more

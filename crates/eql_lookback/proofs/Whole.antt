@@ -12,16 +12,17 @@ use Rattle.eql_values.specs.declared.item.Act.{Act}
 use Rattle.eql_values.specs.declared.item.Route.{Route}
 use Rattle.eql_values.specs.declared.item.Item.{Item}
 use Rattle.eql_values.specs.declared.found.Match.{Match}
-use Rattle.eql_values.specs.Orders.{key_cmp, key_cmp_total, key_eq, key_same}
+use Rattle.eql_values.specs.Orders.{key_cmp, key_eq}
+use Rattle.eql_values.specs.Totals.{key_cmp_total}
+use Rattle.eql_values.proofs.Same.{key_same}
 use Rattle.eql_values.specs.Ascending.{Ascending}
 use Rattle.eql_values.specs.Chains.{chain}
 use Rattle.eql_values.specs.Matching.{act_by, acts_of, match_by, matches_after, matches, opening_of}
-use Rattle.eql_laws.specs.Shapes.{MatchAscends}
+use Rattle.eql_laws.specs.Shapes.{MatchAscends, MatchesAscend}
 use Rattle.eql_laws.proofs.Facts.{is_equal, left_holds, right_holds, less_not_equal}
-use Rattle.eql_laws.proofs.Shaping.{matches_ascend}
 use Rattle.eql_lookback.specs.declared.key_act.KeyAct.{KeyAct}
-use Rattle.eql_lookback.specs.KeyActs.{key_act_of, said_by, said, to_key, back_over}
-use Rattle.eql_lookback.specs.Places.{nothing, chains_at, ChainAscends, match_at, matched}
+use Rattle.eql_lookback.specs.KeyActs.{key_act_of, key_acts_of, key_acts, to_key, back_over}
+use Rattle.eql_lookback.specs.Places.{no_opening, chains_at, ChainAscends, match_at, matches_at}
 use Rattle.eql_lookback.proofs.Along.{chain_of, cons_option-append, length-chains_at}
 
 abbrev keyed : Route → List Value × Route
@@ -75,7 +76,7 @@ agree_all past items (r ∷ rs) h = (h r.key, agree_all past items rs h)
 
 module _ (m : ℕ) (span : Option ℤ) where
   abbrev made : List KeyAct → List KeyAct → List Match
-  made past all = matched all (chains_at span m past all)
+  made past all = matches_at all (chains_at span m past all)
 
   made-append : (past xs ys : List KeyAct) → made past (xs ++ ys) ≡ made past xs ++ made (back_over xs past) ys
   made-append past [] ys = refl
@@ -88,33 +89,33 @@ module _ (m : ℕ) (span : Option ℤ) where
       → made past (map (key_act_of order) rs) ≡ filter_map (match_by m span (opening_of []) items order) rs
   made_by order past items [] h a = refl
   made_by order past items (r ∷ rs) h a =
-      ap (λ (acts : List Act). cons_option (option_map (λ (c : List OrderKey). record { key = r.key; chain = c }) (chain span nothing m (act_by order r ∷ acts))) (made (key_act_of order r ∷ past) (map (key_act_of order) rs))) a.0
+      ap (λ (acts : List Act). cons_option (option_map (λ (c : List OrderKey). record { key = r.key; chain = c }) (chain span no_opening m (act_by order r ∷ acts))) (made (key_act_of order r ∷ past) (map (key_act_of order) rs))) a.0
       ∙ ap (cons_option (match_by m span (opening_of []) items order r))
       (made_by order (key_act_of order r ∷ past) items rs (right_holds _ _ h) (agree_on (key_act_of order r) past items rs (left_holds _ _ h) a.1))
 
   made_are : (past : List KeyAct) (before items : List Item) → Ascending items → ((key : List Value) → to_key key past ≡ acts_of key before)
-      → made past (said items) ≡ matches_after m span (opening_of []) before items
+      → made past (key_acts items) ≡ matches_after m span (opening_of []) before items
   made_are past before [] up h = refl
   made_are past before (item ∷ items) up h =
       let sorted : T (is_sorted key_cmp (map keyed item.routes)) = subst T (sym up.0) tt in
-      made-append past (said_by item) (said items)
+      made-append past (key_acts_of item) (key_acts items)
       ∙ (λ i. made_by item.order past before item.routes sorted (agree_all past before item.routes h) i
-      ++ made_are (back_over (said_by item) past) (item ∷ before) items up.2
+      ++ made_are (back_over (key_acts_of item) past) (item ∷ before) items up.2
       (λ key. said_there item.order key item.routes past sorted ∙ ap (cons_option (act_there item.order key item.routes)) (h key)) i)
 
-  pub all_made : (items : List Item) → Ascending items → made [] (said items) ≡ matches m span [] items
+  pub all_made : (items : List Item) → Ascending items → made [] (key_acts items) ≡ matches m span [] items
   all_made items up = made_are [] [] items up (λ key. refl)
 
-each_ascends : (all : List KeyAct) (chains : List (Option (List OrderKey))) → length chains ≡ length all → All MatchAscends (matched all chains) → All ChainAscends chains
+each_ascends : (all : List KeyAct) (chains : List (Option (List OrderKey))) → length chains ≡ length all → All MatchAscends (matches_at all chains) → All ChainAscends chains
 each_ascends all [] e h = All-nil ChainAscends
 each_ascends [] (o ∷ chains) e h = absurd (omega arith)
 each_ascends (x ∷ all) (None ∷ chains) e h = All-cons ChainAscends None chains tt (each_ascends all chains (omega arith) h)
 each_ascends (x ∷ all) (Some c ∷ chains) e h =
-    All-cons ChainAscends (Some c) chains (All-head MatchAscends _ (matched all chains) h)
-    (each_ascends all chains (omega arith) (All-tail MatchAscends _ (matched all chains) h))
+    All-cons ChainAscends (Some c) chains (All-head MatchAscends _ (matches_at all chains) h)
+    (each_ascends all chains (omega arith) (All-tail MatchAscends _ (matches_at all chains) h))
 
 -- the chains at all places ascend
-pub chains_ascend : (m : ℕ) (span : Option ℤ) (items : List Item) → Ascending items → All ChainAscends (chains_at span m [] (said items))
-chains_ascend m span items up =
-    each_ascends (said items) (chains_at span m [] (said items)) (length-chains_at span m [] (said items))
-    (subst (All MatchAscends) (sym (all_made m span items up)) (matches_ascend m span [] items up (All-nil _)))
+pub chains_ascend : MatchesAscend → (m : ℕ) (span : Option ℤ) (items : List Item) → Ascending items → All ChainAscends (chains_at span m [] (key_acts items))
+chains_ascend ascend m span items up =
+    each_ascends (key_acts items) (chains_at span m [] (key_acts items)) (length-chains_at span m [] (key_acts items))
+    (subst (All MatchAscends) (sym (all_made m span items up)) (ascend m span [] items up (All-nil _)))

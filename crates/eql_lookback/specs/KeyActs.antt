@@ -15,12 +15,12 @@ abbrev pub key_act_of : OrderKey → Route → KeyAct
 key_act_of order route = record { key = route.key; act = act_by order route }
 
 -- what an item says, route by route
-abbrev pub said_by : Item → List KeyAct
-said_by item = map (key_act_of item.order) item.routes
+abbrev pub key_acts_of : Item → List KeyAct
+key_acts_of item = map (key_act_of item.order) item.routes
 
 -- what all items say
-abbrev pub said : List Item → List KeyAct
-said = flat_map said_by
+abbrev pub key_acts : List Item → List KeyAct
+key_acts = flat_map key_acts_of
 
 -- of what was said, that to this key
 abbrev pub to_key : List Value → List KeyAct → List Act

@@ -1,13 +1,13 @@
 //! What events say to the machines of their keys, one after another.
 ghost use Rattle.std.specs.Prelude.{◌≡◌, ◌<◌, ◌++◌, map, IfOk};
 ghost use Rattle.eql_values.specs.Chains.{fits_after};
-ghost use Rattle.eql_lookback.specs.KeyActs.{key_act_of, said_by, said};
+ghost use Rattle.eql_lookback.specs.KeyActs.{key_act_of, key_acts_of, key_acts};
 
 use eql_values::{Act, Item, Key, Memory};
 use std::alloc::Global;
 
 /// What an event says to the machine of one key.
-#[derive(Debug, Drop)]
+#[derive(Drop)]
 pub struct KeyAct {
     /// The key.
     pub key: Key,
@@ -24,8 +24,8 @@ pub fn fits_next(act: &Act, stage: u32) -> bool
 }
 
 /// Adds what an event says, route by route.
-fn add_said(item: &Item, all: &mut Vec<KeyAct>) -> Result<(), Memory>
-    ensures { IfOk result (λ _. all.new.items ≡ all.old.items ++ said_by item.now) }
+fn add_key_acts(item: &Item, all: &mut Vec<KeyAct>) -> Result<(), Memory>
+    ensures { IfOk result (λ _. all.new.items ≡ all.old.items ++ key_acts_of item.now) }
 {
     let order = item.order;
     for route in item.routes.items() {
@@ -41,12 +41,12 @@ fn add_said(item: &Item, all: &mut Vec<KeyAct>) -> Result<(), Memory>
 }
 
 /// What the events say, in their order.
-pub fn said_of(alloc: Global, items: &[Item]) -> Result<Vec<KeyAct>, Memory>
-    ensures { IfOk result (λ all. all.items ≡ said items.now) }
+pub fn key_acts_in(alloc: Global, items: &[Item]) -> Result<Vec<KeyAct>, Memory>
+    ensures { IfOk result (λ all. all.items ≡ key_acts items.now) }
 {
     let mut all = Vec::new(alloc);
     for item in items {
-        add_said(item, &mut all)?;
+        add_key_acts(item, &mut all)?;
     }
     Ok(all)
 }

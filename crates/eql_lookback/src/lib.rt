@@ -8,6 +8,3 @@ mod sequence;
 mod stages;
 
 pub use look_back::find;
-
-#[cfg(test)]
-mod tests;

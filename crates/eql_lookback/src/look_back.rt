@@ -2,11 +2,12 @@
 ghost use Rattle.std.specs.Prelude.{◌≡◌, ◌≤◌, [], All, IfOk, length};
 ghost use Rattle.eql_values.specs.Ascending.{Ascending};
 ghost use Rattle.eql_values.specs.Matching.{matches};
-ghost use Rattle.eql_lookback.specs.Places.{ChainAscends, match_at, matched};
+ghost use Rattle.eql_lookback.specs.Places.{ChainAscends, match_at, matches_at};
 
-use crate::key_act::{KeyAct, said_of};
+use crate::key_act::{KeyAct, key_acts_in};
 use crate::sequence::Sequence;
 use crate::stages::{first_stage, next_stage};
+use eql_laws::chains_ascend;
 use eql_values::{Items, Match, Matches, Memory};
 use std::alloc::Global;
 
@@ -29,7 +30,7 @@ fn match_of(one: &KeyAct, chain: &Option<Sequence>) -> Result<Option<Match>, Mem
 fn matches_of(alloc: Global, all: &[KeyAct], chains: &[Option<Sequence>]) -> Result<Matches, Memory>
     requires each { length chains.now ≡ length all.now }
     requires ascend { All ChainAscends chains.now }
-    ensures { IfOk result (λ found. found ≡ matched all.now chains.now) }
+    ensures { IfOk result (λ found. found ≡ matches_at all.now chains.now) }
 {
     let mut found = Vec::new(alloc);
     for (i, one) in all.iter().enumerate() {
@@ -55,7 +56,8 @@ pub fn find(
     requires to { stages ≤ 256 }
     ensures { IfOk result (λ found. found ≡ matches stages span [] items.now) }
 {
-    let all = said_of(alloc, items.items())?;
+    chains_ascend();
+    let all = key_acts_in(alloc, items.items())?;
     let mut chains = first_stage(alloc, &all)?;
     for stage in 1..stages {
         chains = next_stage(alloc, span, stage, &all, &chains)?;

@@ -1,6 +1,5 @@
 //! The events of a sequence so far.
 ghost use Rattle.std.specs.Prelude.{◌≡◌, ◌++◌, ◌∷◌, [], IfOk};
-ghost use Rattle.eql_values.specs.Chains.{in_time};
 ghost use Rattle.eql_values.specs.OrderKeys.{EventsAscend};
 
 use eql_values::{Chain, Memory, OrderKey};
@@ -8,7 +7,7 @@ use std::alloc::{AllocError, Global};
 use std::marker::Model;
 
 /// The events of a sequence so far, the earliest first.
-#[derive(Debug, Drop)]
+#[derive(Drop)]
 pub struct Sequence {
     events: Vec<OrderKey>,
 }
@@ -50,17 +49,11 @@ impl Sequence {
         Ok(Sequence { events })
     }
 
-    /// Whether an event at this time, in nanoseconds since the epoch, is within the span from the first event.
-    pub fn is_in_time(&self, span: Option<i128>, now: i128) -> bool
-        ensures { result ≡ in_time span self.now now }
+    /// The events, lent.
+    pub fn events(&self) -> &[OrderKey]
+        ensures { result.now ≡ self.now }
     {
-        match (span, self.events.first()) {
-            (Some(span), Some(first)) => match now.checked_sub(first.ts) {
-                Some(passed) => passed <= span,
-                None => now < first.ts,
-            },
-            _ => true,
-        }
+        self.events.as_slice()
     }
 
     /// The chain of these events.

@@ -5,18 +5,20 @@ ghost use Rattle.eql_values.specs.declared.value.Value.{Value};
 ghost use Rattle.eql_values.specs.Orders.{key_cmp, key_eq};
 ghost use Rattle.eql_values.specs.Chains.{fits_after};
 ghost use Rattle.eql_values.specs.Ordered.{found_or};
-ghost use Rattle.eql_laws.specs.Slots.{moved};
+ghost use Rattle.eql_laws.specs.Slots.{chain_moved_on};
 ghost use Rattle.eql_lookback.specs.Places.{chains_at};
 
 use crate::key_act::{KeyAct, fits_next};
 use crate::sequence::Sequence;
-use eql_values::{Key, Memory};
+use eql_laws::{chain_step, slot_step};
+use eql_values::{Key, Memory, is_in_time};
 use std::alloc::Global;
 use std::collections::BTreeMap;
 
 /// The event alone, where it fits stage 1.
-fn alone(alloc: Global, one: &KeyAct) -> Result<Option<Sequence>, Memory>
-    ensures { IfOk result (λ found. found ≡ (if fits_after 0 one.now.act then Some (one.now.act.order ∷ []) else None)) }
+fn chain_of_one(alloc: Global, one: &KeyAct) -> Result<Option<Sequence>, Memory>
+    ensures { IfOk result (λ found.
+        found ≡ (if fits_after 0 one.now.act then Some (one.now.act.order ∷ []) else None)) }
 {
     if fits_next(&one.act, 0) {
         Ok(Some(Sequence::of(alloc, one.act.order)?))
@@ -31,7 +33,7 @@ pub fn first_stage(alloc: Global, all: &[KeyAct]) -> Result<Vec<Option<Sequence>
 {
     let mut chains = Vec::new(alloc);
     for one in all {
-        let chain = alone(alloc, one)?;
+        let chain = chain_of_one(alloc, one)?;
         chains.push(chain)?;
     }
     Ok(chains)
@@ -39,14 +41,17 @@ pub fn first_stage(alloc: Global, all: &[KeyAct]) -> Result<Vec<Option<Sequence>
 
 /// The latest chain of this stage, followed by the event, where it is pending and the event fits the next
 /// stage, ends nothing and is in time.
-fn followed(
+fn next_chain(
     span: Option<i128>,
     stage: u32,
     pending: &BTreeMap<Key, Sequence>,
     one: &KeyAct,
 ) -> Result<Option<Sequence>, Memory>
     requires { stage < 256 }
-    ensures { IfOk result (λ found. found ≡ (if fits_after stage one.now.act && not one.now.act.until then moved span (get key_cmp pending.now one.now.key) one.now.act else None)) }
+    ensures { IfOk result (λ found.
+        found ≡ (if fits_after stage one.now.act && not one.now.act.until
+        then chain_moved_on span (get key_cmp pending.now one.now.key) one.now.act
+        else None)) }
 {
     if !fits_next(&one.act, stage) || one.act.until {
         return Ok(None);
@@ -54,7 +59,7 @@ fn followed(
     match pending.get(&one.key) {
         None => Ok(None),
         Some(chain) => {
-            if chain.is_in_time(span, one.act.order.ts) {
+            if is_in_time(span, chain.events(), one.act.order.ts) {
                 Ok(Some(chain.followed_by(one.act.order)?))
             } else {
                 Ok(None)
@@ -72,7 +77,13 @@ fn pass(
     here: &Option<Sequence>,
 ) -> Result<(), Memory>
     requires { stage < 256 }
-    ensures { IfOk result (λ _. (key : List Value) → get key_cmp pending.new key ≡ (if key_eq one.now.key key then found_or here.now (if fits_after stage one.now.act || one.now.act.until then None else get key_cmp pending.old key) else get key_cmp pending.old key)) }
+    ensures { IfOk result (λ _. (key : List Value) → get key_cmp pending.new key
+        ≡ (if key_eq one.now.key key
+        then found_or here.now
+        (if fits_after stage one.now.act || one.now.act.until
+        then None
+        else get key_cmp pending.old key)
+        else get key_cmp pending.old key)) }
 {
     match here {
         Some(chain) => {
@@ -102,10 +113,12 @@ pub fn next_stage(
     requires these { chains.now ≡ chains_at span stage [] all.now }
     ensures { IfOk result (λ next. next.items ≡ chains_at span (suc stage) [] all.now) }
 {
+    chain_step();
+    slot_step();
     let mut pending = BTreeMap::new(alloc);
     let mut next = Vec::new(alloc);
     for (i, one) in all.iter().enumerate() {
-        let chain = followed(span, stage, &pending, one)?;
+        let chain = next_chain(span, stage, &pending, one)?;
         next.push(chain)?;
         pass(stage, &mut pending, one, &chains[i])?;
     }

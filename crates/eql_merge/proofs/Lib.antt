@@ -1,2 +1,3 @@
-mod Taking
-mod Lists
+mod Fronts
+mod Splits
+mod Ends

@@ -1,2 +1,2 @@
-pub mod Lists
+pub mod Ranks
 pub mod Fronts

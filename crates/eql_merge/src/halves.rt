@@ -1,19 +1,21 @@
-//! The merge of many lists of events that stand in order: that of the halves of the lists, merged.
+//! The merge of many lists that ascend: that of the halves of the lists, merged.
 ghost use Rattle.std.specs.Prelude.{◌≡◌, ◌<◌, All, IfOk, length};
-ghost use Rattle.eql_values.specs.Accepted.{sorted_items};
-ghost use Rattle.eql_values.specs.Ascending.{Ascending};
-ghost use Rattle.eql_merge.specs.Lists.{AllApart, joined};
+ghost use Rattle.eql_laws.specs.Apart.{joined};
+ghost use Rattle.eql_merge.specs.Ranks.{Ascends, NoTies, SameFirsts};
 
 use crate::pair::merge_pair;
-use eql_values::{Item, ItemLists, Items, Memory};
+use crate::ranked::Ranked;
+use crate::run::Run;
+use eql_values::Memory;
 use std::alloc::Global;
 use std::collections::VecDeque;
 
-/// The events of the one list, if there is one.
-fn only_list(alloc: Global, mut lists: VecDeque<Items>) -> Vec<Item>
+/// The values of the one list, if there is one.
+fn only_list<T: Ranked>(alloc: Global, mut lists: VecDeque<Run<T>>) -> Vec<T>
     requires few { length lists.items < 2 }
-    requires ascend { All Ascending lists.items }
-    ensures { result.items ≡ sorted_items (joined lists.items) }
+    requires ascend { All (Ascends T.rank) lists.items }
+    ensures ascends { Ascends T.rank result.items }
+    ensures all { result.items ≡ joined lists.items }
 {
     match lists.pop_front() {
         None => Vec::new(alloc),
@@ -21,11 +23,12 @@ fn only_list(alloc: Global, mut lists: VecDeque<Items>) -> Vec<Item>
     }
 }
 
-/// All events of the lists, in order.
-fn merge_halves(alloc: Global, mut lists: VecDeque<Items>) -> Result<Vec<Item>, Memory>
-    requires ascend { All Ascending lists.items }
-    requires apart { AllApart lists.items }
-    ensures { IfOk result (λ all. all.items ≡ sorted_items (joined lists.items)) }
+/// All values of the lists, in order. For n values in k lists it takes at most about n times log k comparisons.
+pub fn merge_halves<T: Ranked>(alloc: Global, mut lists: VecDeque<Run<T>>) -> Result<Vec<T>, Memory>
+    requires ascend { All (Ascends T.rank) lists.items }
+    requires apart { NoTies T.rank lists.items }
+    ensures ascends { IfOk result (λ all. Ascends T.rank all.items) }
+    ensures all { IfOk result (λ all. SameFirsts T.rank (joined lists.items) all.items) }
 {
     let half = lists.len() / 2;
     if half == 0 {
@@ -35,17 +38,4 @@ fn merge_halves(alloc: Global, mut lists: VecDeque<Items>) -> Result<Vec<Item>, 
     let earlier = merge_halves(alloc, lists)?;
     let later = merge_halves(alloc, later_lists)?;
     merge_pair(alloc, earlier, later)
-}
-
-/// All events of the lists, in ascending order. Each list ascends, and no two have an event at the same place of
-/// the order. For n events in k lists the answer takes at most about n times log k comparisons, and moves each
-/// event without copying it.
-pub fn merge(alloc: Global, lists: ItemLists) -> Result<Items, Memory>
-    requires ascend { All Ascending lists }
-    requires apart { AllApart lists }
-    ensures sorted { IfOk result (λ all. all ≡ sorted_items (joined lists)) }
-    ensures ascends { IfOk result Ascending }
-{
-    let merged = merge_halves(alloc, VecDeque::from_vec(lists.into_items()))?;
-    Ok(Items::of(merged))
 }

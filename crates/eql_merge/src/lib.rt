@@ -1,10 +1,12 @@
-//! The merge of lists of events that stand in order, one from each shard.
+//! The merge of lists that stand in order: of events, one list from each shard, and of matches, one from each part of
+//! the keys.
 #![tactic(auto)]
 
 mod halves;
+mod lists;
 mod pair;
+mod ranked;
+mod run;
 
-pub use halves::merge;
-
-#[cfg(test)]
-mod tests;
+pub use lists::{merge, merge_matches};
+pub use ranked::Ranked;

@@ -1,5 +1,8 @@
-use Rattle.eql_laws.proofs.KeptCuts.{cuts_fit as the_law}
+use Rattle.eql_laws.proofs.KeptCuts as laws
 use Rattle.eql_laws.proofs.fitting.cuts_fit.Goals as goal
 
-pub returns : goal.returns
-returns c = the_law
+pub returns-clause-fit : goal.returns-clause-fit
+returns-clause-fit c = laws.cuts_fit
+
+pub returns-clause-stand : goal.returns-clause-stand
+returns-clause-stand c = laws.cuts_stand

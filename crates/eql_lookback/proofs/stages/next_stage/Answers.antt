@@ -19,11 +19,11 @@ loop-i-preserved c =
       next =
           c.in_ok-push.ensures.items
           ∙ (λ j. c.loop-i.invariant.next j
-          ++ followed_at c.args.span c.args.stage (back_over (take i all) []) one (get key_cmp c.loop-i.pending one.key) c.in_ok-chain.chain c.requires.from (c.loop-i.invariant.pending one.key) c.in_ok-chain.ensures j
+          ++ followed_at c.chain_step.ensures c.args.span c.args.stage (back_over (take i all) []) one (get key_cmp c.loop-i.pending one.key) c.in_ok-chain.chain c.requires.from (c.loop-i.invariant.pending one.key) c.in_ok-chain.ensures j
           ∷ [])
           ∙ sym (chains_at_more c.args.span (suc c.args.stage) all i one lt c.index-all-i.is);
       pending = λ key.
-          passed c.args.span c.args.stage all i one c.index-chains-i.result key (get key_cmp c.loop-i.pending key) (get key_cmp c.pass.new.pending key) lt c.index-all-i.is
+          passed c.args.span c.args.stage c.slot_step.ensures c.chain_step.ensures all i one c.index-chains-i.result key (get key_cmp c.loop-i.pending key) (get key_cmp c.pass.new.pending key) lt c.index-all-i.is
           (chain_at_place c.args.span c.args.stage all c.args.chains.now i one c.index-chains-i.result c.requires.these lt c.index-all-i.is c.index-chains-i.is)
           (c.loop-i.invariant.pending key) (c.in_ok-pass.ensures {u = tt} key);
     }

@@ -1,0 +1,66 @@
+-- Lists that have no key in common: what may be merged.
+use Rattle.std.specs.Prelude.{◌≡◌, Bool, true, false, List, [], ◌∷◌, map, IsTrue}
+use Rattle.std.specs.List.{list_any, flat_map}
+use Rattle.std.specs.Ordering.{eq_by_cmp}
+use Rattle.std.specs.FinMap.Entries.{is_sorted}
+use Rattle.std.specs.declared.cmp.Ordering.{Ordering}
+use Rattle.eql_values.specs.declared.order.OrderKey.{OrderKey}
+use Rattle.eql_values.specs.declared.item.Item.{Item}
+use Rattle.eql_values.specs.declared.found.Match.{Match}
+use Rattle.eql_values.specs.OrderKeys.{order_cmp}
+use Rattle.eql_laws.specs.Merging.{Ending, ending_cmp, by_ending}
+
+-- the lists, one after another
+abbrev pub joined : {X : Type 0} → List (List X) → List X
+joined {X} = flat_map (λ (xs : List X). xs)
+
+module _ {X K : Type 0} (R : K → K → Ordering) (key : X → K) where
+  -- one of the values has this key
+  abbrev pub has_key : K → List X → Bool
+  has_key k xs = list_any (λ (x : X). eq_by_cmp R k (key x)) xs
+
+  -- no key is in both lists
+  abbrev pub NoKeyInBoth : List X → List X → Type 0
+  NoKeyInBoth xs ys = (k : K) → has_key k xs ≡ true → has_key k ys ≡ false
+
+  -- no key is in this list and in one of those
+  abbrev pub NoKeyInOthers : List X → List (List X) → Type 0
+  NoKeyInOthers xs [] = Unit {0}
+  NoKeyInOthers xs (ys ∷ lists) = NoKeyInBoth xs ys × NoKeyInOthers xs lists
+
+  -- no key is in two of the lists
+  abbrev pub NoKeyTwice : List (List X) → Type 0
+  NoKeyTwice [] = Unit {0}
+  NoKeyTwice (xs ∷ lists) = NoKeyInOthers xs lists × NoKeyTwice lists
+
+-- the place of an item in the order of events
+abbrev pub place_of : Item → OrderKey
+place_of item = item.order
+
+-- one of the items stands at this place
+abbrev pub has_place : OrderKey → List Item → Bool
+has_place = has_key order_cmp place_of
+
+-- no place is in both lists
+abbrev pub Apart : List Item → List Item → Type 0
+Apart = NoKeyInBoth order_cmp place_of
+
+-- no place is in this list and in one of those
+abbrev pub ApartFrom : List Item → List (List Item) → Type 0
+ApartFrom = NoKeyInOthers order_cmp place_of
+
+-- no place is in two of the lists
+abbrev pub AllApart : List (List Item) → Type 0
+AllApart = NoKeyTwice order_cmp place_of
+
+-- the last event and the key of a match
+abbrev pub ending_of : Match → Ending
+ending_of m = (by_ending m).0
+
+-- the matches ascend strictly by last event, and then by key
+abbrev pub InMatchOrder : List Match → Type 0
+InMatchOrder found = IsTrue (is_sorted ending_cmp (map by_ending found))
+
+-- no last event and key is in two of the lists
+abbrev pub MatchesApart : List (List Match) → Type 0
+MatchesApart = NoKeyTwice ending_cmp ending_of

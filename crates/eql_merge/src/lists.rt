@@ -1,0 +1,63 @@
+//! Lists of events and of matches, merged.
+ghost use Rattle.std.specs.Prelude.{◌≡◌, All, IfOk};
+ghost use Rattle.eql_values.specs.Accepted.{sorted_items};
+ghost use Rattle.eql_values.specs.Ascending.{Ascending};
+ghost use Rattle.eql_laws.specs.Apart.{AllApart, joined, InMatchOrder, MatchesApart};
+ghost use Rattle.eql_laws.specs.Merging.{in_match_order};
+
+use crate::halves::merge_halves;
+use crate::run::Run;
+use eql_laws::below_ascends;
+use eql_values::{Item, ItemLists, Items, Match, Matches, Memory};
+use std::alloc::Global;
+use std::collections::VecDeque;
+
+/// The lists of events, each as a list to be merged.
+fn item_runs(alloc: Global, lists: ItemLists) -> Result<VecDeque<Run<Item>>, Memory>
+    ensures { IfOk result (λ runs. runs.items ≡ lists) }
+{
+    let mut runs = VecDeque::new(alloc);
+    for items in lists.into_items() {
+        runs.push_back(Run::of(items.into_items()))?;
+    }
+    Ok(runs)
+}
+
+/// The lists of matches, each as a list to be merged.
+fn match_runs(alloc: Global, lists: Vec<Matches>) -> Result<VecDeque<Run<Match>>, Memory>
+    ensures { IfOk result (λ runs. runs.items ≡ lists.items) }
+{
+    let mut runs = VecDeque::new(alloc);
+    for found in lists {
+        runs.push_back(Run::of(found.into_items()))?;
+    }
+    Ok(runs)
+}
+
+/// All events of the lists, in ascending order. Each list ascends, and no two have an event at the same place of
+/// the order. For n events in k lists the answer takes at most about n times log k comparisons, and moves each
+/// event without copying it. The one error is want of memory.
+pub fn merge(alloc: Global, lists: ItemLists) -> Result<Items, Memory>
+    requires ascend { All Ascending lists }
+    requires apart { AllApart lists }
+    ensures sorted { IfOk result (λ all. all ≡ sorted_items (joined lists)) }
+    ensures ascends { IfOk result Ascending }
+{
+    let runs = item_runs(alloc, lists)?;
+    let all = merge_halves(alloc, runs)?;
+    below_ascends();
+    Ok(Items::of(all))
+}
+
+/// All matches of the lists, by last event and then by key. Each list stands in that order, and no two have a match
+/// with the same last event and key. It takes as many steps as `merge`, and its one error is want of memory.
+pub fn merge_matches(alloc: Global, lists: Vec<Matches>) -> Result<Matches, Memory>
+    requires in_order { All InMatchOrder lists.items }
+    requires apart { MatchesApart lists.items }
+    ensures sorted { IfOk result (λ all. all ≡ in_match_order (joined lists.items)) }
+    ensures in_order { IfOk result InMatchOrder }
+{
+    let runs = match_runs(alloc, lists)?;
+    let all = merge_halves(alloc, runs)?;
+    Ok(Matches::of(all))
+}
