@@ -1,15 +1,10 @@
 -- A take of a source over a list of bytes.
-use Rattle.std.proofs.Common.{◌≡◌, ℕ, ◌+◌, ◌≤◌, List, take, drop, length, Some, refl, ap, sym, ◌∙◌, subst, arith}
-use Rattle.std.proofs.Math.Seq.{take-add}
+use Rattle.std.proofs.Common.{◌≡◌, ℕ, ◌+◌, ◌≤◌, List, take, drop, length, Some, ap, sym, ◌∙◌, subst, arith}
 use Rattle.std.proofs.lemmas.List.{drop-drop, length-take, take-take}
-use Rattle.eql_outside.specs.Outside.{Reading, Takes}
-
--- what was taken and what is left at a place
-abbrev at_place : List ℕ → ℕ → Reading
-at_place all at = record { taken = take at all; left = drop at all }
+use Rattle.eql_outside.specs.Sources.{Takes}
 
 -- the front of a piece of what is left is the front of what is left
-pub takes : (all front into : List ℕ) (at piece n : ℕ) → front ≡ take piece (drop at all) → n ≤ length front → take n into ≡ take n front → Takes (at_place all at) n into (Some (at_place all (at + n)))
+pub takes : (all front into : List ℕ) (at piece n : ℕ) → front ≡ take piece (drop at all) → n ≤ length front → take n into ≡ take n front → Takes (drop at all) n into (Some (drop (at + n) all))
 takes all front into at piece n is fits bytes =
     let short : n ≤ length (take piece (drop at all)) = subst (λ f. n ≤ length f) is fits in
     let e = length-take piece (drop at all) in
@@ -17,6 +12,6 @@ takes all front into at piece n is fits bytes =
     let small : n ≤ piece = omega arith in
     record {
       there = left;
-      bytes = bytes ∙ ap (take n) is ∙ take-take n piece (drop at all) small;
-      now = rw (take-add at n all, sym (drop-drop n at all)) refl;
+      put = bytes ∙ ap (take n) is ∙ take-take n piece (drop at all) small;
+      left = ap Some (sym (drop-drop n at all));
     }

@@ -1,14 +1,19 @@
 -- Planned failures: which calls of an object in memory fail.
-use Rattle.std.specs.Prelude.{ℕ, ◌+◌, ◌-◌, ◌^◌, min, List, Contains}
+use Rattle.std.specs.Prelude.{ℕ, ◌+◌, ◌-◌, ◌^◌, ◌≤◌, ◌⊎◌, min, List, Contains, Option, None, Some, IsSomeAnd}
 
--- how many calls that can fail were made, and the numbers, from 1, of those that do
+-- how many calls that can fail were made, the numbers, from 1, of those that do, and the number from which on all do
 pub record FaultPlan : Type 0 where
   pub calls : ℕ
   pub fails : List ℕ
+  pub stop : Option ℕ
 
--- no call was made yet
+-- no call was made yet, and all fail from a number on, if one is given
+abbrev pub unstarted_until : Option ℕ → List ℕ → FaultPlan
+unstarted_until stop fails = record { calls = 0; fails = fails; stop = stop }
+
+-- no call was made yet, and none but these fails
 abbrev pub unstarted : List ℕ → FaultPlan
-unstarted fails = record { calls = 0; fails = fails }
+unstarted fails = unstarted_until None fails
 
 -- the number of the next call, which stands still at the greatest number of 64 bits
 abbrev pub next_call : FaultPlan → ℕ
@@ -16,8 +21,8 @@ next_call plan = min (plan.calls + 1) (2 ^ 64 - 1)
 
 -- one more call was made
 abbrev pub called : FaultPlan → FaultPlan
-called plan = record { calls = next_call plan; fails = plan.fails }
+called plan = record { calls = next_call plan; fails = plan.fails; stop = plan.stop }
 
 -- the next call is one that fails
 abbrev pub FailsNext : FaultPlan → Type 0
-FailsNext plan = Contains plan.fails (next_call plan)
+FailsNext plan = IsSomeAnd plan.stop (λ stop. stop ≤ next_call plan) ⊎ Contains plan.fails (next_call plan)

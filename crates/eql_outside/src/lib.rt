@@ -1,19 +1,29 @@
-//! The doors of the house: where bytes come from, where they go and where files stand, as traits that say what was
-//! taken, what was written and how often a call failed. There are forms in memory, whose failures can be planned,
+//! The doors of the house: where bytes come from, where they go and where files stand, as traits that say what is
+//! left, what was written and how often a call failed. There are forms in memory, whose failures can be planned,
 //! and forms over files and the standard streams, which are the trusted edge.
 #![tactic(auto)]
 
-mod file;
-mod find;
-mod memory;
-mod outside;
+mod disk;
+mod faults;
+mod laws;
 mod plan;
+mod refused;
 mod sends;
-mod stream;
-#[cfg(test)]
-mod tests;
+mod shelf;
+mod sink;
+mod source;
 
-pub use file::{FileShelf, FileSource};
-pub use memory::{MemFile, MemShelf, MemSink, MemSource};
-pub use outside::{Failed, OutRefused, Shelf, Sink, Source};
-pub use stream::StdSink;
+pub use disk::file::FileDisk;
+pub use disk::memory::MemDisk;
+pub use disk::{Area, Disk};
+pub use laws::{crashes_leave_images, faults_are_counted_by_name, writes_go_on};
+pub use refused::{Failed, OutRefused};
+pub use shelf::Shelf;
+pub use shelf::file::FileShelf;
+pub use shelf::memory::{MemFile, MemShelf};
+pub use sink::memory::MemSink;
+pub use sink::stream::StdSink;
+pub use sink::{Sink, WritesAlike};
+pub use source::file::FileSource;
+pub use source::memory::MemSource;
+pub use source::{ReadsAlike, Source};

@@ -1,14 +1,18 @@
 //! Planned failures, as all forms in memory have them.
-ghost use Rattle.std.specs.Prelude.{◌≡◌, ◌↔◌, ◌≤◌, IsOk, IsErr};
+ghost use Rattle.std.specs.Prelude.{◌≡◌, ◌↔◌, ◌≤◌, IfOk, IsOk, IsErr, IsTrue};
 ghost use Rattle.eql_outside.specs.Outside.{Rose};
-ghost use Rattle.eql_outside.specs.Plans.{FailsNext, unstarted, called};
+ghost use Rattle.eql_outside.specs.Plans.{FailsNext, unstarted, unstarted_until, called};
 
-use crate::outside::Failed;
+use crate::refused::Failed;
+use eql_values::Memory;
+use std::alloc::Global;
 
-/// The numbers, from 1, of the calls that fail, with the number of calls so far and the count of faults.
-#[derive(Debug, Drop)]
+/// The numbers, from 1, of the calls that fail, and the one from which on all do, with the number of calls so far and
+/// the count of faults.
+#[derive(Drop)]
 pub(crate) struct PlannedFaults {
     fails: Vec<u64>,
+    stop: Option<u64>,
     calls: u64,
     faults: u64,
 }
@@ -20,11 +24,48 @@ impl PlannedFaults {
         ensures plan { plan_of result ≡ unstarted fails.items }
         ensures faults { result.faults ≡ 0 }
     {
+        PlannedFaults::until(fails, None)
+    }
+
+    /// The same, and all calls from a number on, if one is given.
+    pub(crate) fn until(fails: Vec<u64>, stop: Option<u64>) -> PlannedFaults
+        ensures plan { plan_of result ≡ unstarted_until stop fails.items }
+        ensures faults { result.faults ≡ 0 }
+    {
         PlannedFaults {
             fails,
+            stop,
             calls: 0,
             faults: 0,
         }
+    }
+
+    /// The same plan after as many calls, with no fault counted.
+    pub(crate) fn copy(&self, alloc: Global) -> Result<PlannedFaults, Memory>
+        ensures plan { IfOk result (λ planned. plan_of planned ≡ plan_of self.now) }
+        ensures faults { IfOk result (λ planned. planned.faults ≡ 0) }
+    {
+        Ok(PlannedFaults {
+            fails: Vec::from_slice(alloc, self.fails.as_slice())?,
+            stop: self.stop,
+            calls: self.calls,
+            faults: 0,
+        })
+    }
+
+    /// Numbers one more call, and answers whether it is planned to fail.
+    pub(crate) fn next(&mut self) -> bool
+        ensures planned { IsTrue result ↔ FailsNext (plan_of self.old) }
+        ensures numbered { plan_of self.new ≡ called (plan_of self.old) }
+        ensures faults { self.new.faults ≡ self.old.faults }
+    {
+        self.calls = self.calls.saturating_add(1);
+        if let Some(stop) = self.stop
+            && stop <= self.calls
+        {
+            return true;
+        }
+        self.fails.contains(&self.calls)
     }
 
     /// Numbers one more call. It fails where its number is one of those planned, and then the count rises.
@@ -35,8 +76,7 @@ impl PlannedFaults {
         ensures steady { IsOk result → self.new.faults ≡ self.old.faults }
         ensures counts { self.old.faults ≤ self.new.faults }
     {
-        self.calls = self.calls.saturating_add(1);
-        if self.fails.contains(&self.calls) {
+        if self.next() {
             self.add_fault();
             return Err(Failed);
         }

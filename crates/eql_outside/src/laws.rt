@@ -1,0 +1,23 @@
+//! Laws over the definitions, each as the contract of a function that does nothing.
+ghost use Rattle.eql_outside.specs.DiskLaws.{WholeLands, ImagesAreThere, SeenIsLeft};
+ghost use Rattle.eql_outside.specs.Faults.{RosesAgree};
+ghost use Rattle.eql_outside.specs.Written.{WritesGoOn};
+
+/// How counts of faults by name go from call to call: a call in which those of one name rose and one in which none
+/// did are, in either order, one in which those of that name rose.
+pub fn faults_are_counted_by_name()
+    ensures { RosesAgree }
+{}
+
+/// How what was written goes from call to call: all of a text and then all or a front of another.
+pub fn writes_go_on()
+    ensures { WritesGoOn }
+{}
+
+/// What a crash may always leave of a disk: of a write all or nothing of it, of an area what was kept and what reads
+/// give.
+pub fn crashes_leave_images()
+    ensures lands { WholeLands }
+    ensures images { ImagesAreThere }
+    ensures seen { SeenIsLeft }
+{}

@@ -1,0 +1,173 @@
+//! What a shelf is: where files stand under their names.
+ghost use Rattle.std.specs.Prelude.{◌≡◌, ◌≢◌, ◌≤◌, ◌<◌, ◌↔◌, ℕ, Bool, true, false, List, Option, Some, None, Ok, Err, IfOk, IfSome, IsErr, IsNone, IsSomeAnd, MatchOption, string_bytes};
+ghost use Rattle.eql_outside.specs.Outside.{Rose, file_named};
+ghost use Rattle.eql_outside.specs.Faults.{RoseFor, RoseUnder, SameFaults};
+ghost use Rattle.eql_outside.specs.Moments.{History};
+ghost use Rattle.eql_outside.specs.Plans.{FaultPlan, unstarted, called, FailsNext};
+
+use crate::disk::Disk;
+use crate::refused::OutRefused;
+use crate::source::Source;
+use std::alloc::Global;
+
+pub(crate) mod file;
+pub(crate) mod find;
+pub(crate) mod memory;
+
+/// Where files stand under their names. It lends sources over them, and takes these back. It also has one disk, which
+/// it hands out for every name.
+pub trait Shelf {
+    type Src: Source;
+
+    type Dsk: Disk;
+
+    /// The names and bytes of the files, where the shelf tells.
+    ghost files: { Self → Option (List (List ℕ × List ℕ)) };
+
+    /// How often `source` failed or a source came back that had failed.
+    ghost fault_count: { Self → ℕ };
+
+    /// How often `source` failed for a name, or a source came back that was lent under it and had failed.
+    ghost faults_of: { Self → List ℕ → ℕ };
+
+    /// How often a file wasn't there.
+    ghost absent_count: { Self → ℕ };
+
+    /// The moments of the disk, as it was last given back, where the shelf tells.
+    ghost disk_history: { Self → Option History };
+
+    /// Whether the disk is handed out.
+    ghost is_out: { Self → Bool };
+
+    /// How often `disk` failed or a disk came back that had failed.
+    ghost disk_fault_count: { Self → ℕ };
+
+    /// Which calls of the disk fail, as it was last given back, where the shelf tells.
+    ghost disk_plan: { Self → Option FaultPlan } = { λ _. None };
+
+    /// Which calls of `source` and `disk` fail, numbered together, where the shelf tells.
+    ghost fault_plan: { Self → Option FaultPlan } = { λ _. None };
+
+    /// The names of the files, each with the numbers of the takes that fail, where the shelf tells.
+    ghost source_plans: { Self → Option (List (List ℕ × List ℕ)) } = { λ _. None };
+
+    /// A source over the file of this name, from its first byte on. `None` comes exactly where no file has the
+    /// name. The shelf keeps the file, so that its name may be asked for again.
+    fn source(&mut self, alloc: Global, name: &String) -> Result<Option<Self::Src>, OutRefused>
+        ensures found { IfOk result (λ o. IfSome (files self.old) (λ fs.
+            MatchOption o (file_named (string_bytes name.now) fs ≡ None)
+            (λ s. IsSomeAnd (file_named (string_bytes name.now) fs)
+            (λ bytes. Self.Src.left s ≡ Some bytes)))) }
+        ensures fresh { IfOk result (λ o. IfSome o (λ s. Self.Src.fault_count s ≡ 0)) }
+        ensures named { IfOk result (λ o. IfSome o
+            (λ s. Self.Src.lent_as s ≡ Some (string_bytes name.now))) }
+        ensures kept { files self.new ≡ files self.old }
+        ensures disk_kept { (disk_history self.new ≡ disk_history self.old)
+            × (is_out self.new ≡ is_out self.old)
+            × (disk_fault_count self.new ≡ disk_fault_count self.old)
+            × (disk_plan self.new ≡ disk_plan self.old) }
+
+        // The count of faults rises where the call fails, that of absences where no file has the name, and
+        // neither rises elsewhere. Of the counts by name that of this name alone rises.
+        ensures cause { result ≡ Err OutRefused.Failed
+            → Rose (fault_count self.old) (fault_count self.new) }
+        ensures cause_named { result ≡ Err OutRefused.Failed
+            → RoseFor (string_bytes name.now) (faults_of self.old) (faults_of self.new) }
+        ensures steady { result ≢ Err OutRefused.Failed
+            → fault_count self.new ≡ fault_count self.old }
+        ensures steady_named { result ≢ Err OutRefused.Failed
+            → SameFaults (faults_of self.old) (faults_of self.new) }
+        ensures absent { IfOk result (λ o. IsNone o
+            → Rose (absent_count self.old) (absent_count self.new)) }
+        ensures present { result ≢ Ok None → absent_count self.new ≡ absent_count self.old }
+        ensures counts { (fault_count self.old ≤ fault_count self.new)
+            × (absent_count self.old ≤ absent_count self.new) }
+
+        // A shelf with a plan fails where that says so, but for want of memory, and nowhere else, and so do its
+        // sources.
+        ensures planned { IfSome (fault_plan self.old) (λ plan.
+            (result ≡ Err OutRefused.Failed → FailsNext plan) × (FailsNext plan → IsErr result)) }
+        ensures numbered { IfSome (fault_plan self.old)
+            (λ plan. fault_plan self.new ≡ Some (called plan)) }
+        ensures plans { IfOk result (λ o. IfSome (source_plans self.old) (λ ps. IfSome o
+            (λ s. IsSomeAnd (file_named (string_bytes name.now) ps)
+            (λ fails. Self.Src.fault_plan s ≡ Some (unstarted fails))))) }
+        ensures plans_kept { source_plans self.new ≡ source_plans self.old };
+
+    /// Takes a source back. Where the source failed, the count of faults rises, and that of the name under which it
+    /// was lent. Otherwise all counts stay.
+    fn give_source(&mut self, src: Self::Src)
+        ensures kept { files self.new ≡ files self.old }
+        ensures disk_kept { (disk_history self.new ≡ disk_history self.old)
+            × (is_out self.new ≡ is_out self.old)
+            × (disk_fault_count self.new ≡ disk_fault_count self.old)
+            × (disk_plan self.new ≡ disk_plan self.old) }
+        ensures raised { 0 < Self.Src.fault_count src
+            → Rose (fault_count self.old) (fault_count self.new) }
+        ensures raised_named { 0 < Self.Src.fault_count src
+            → RoseUnder (Self.Src.lent_as src) (faults_of self.old) (faults_of self.new) }
+        ensures same { Self.Src.fault_count src ≡ 0 → fault_count self.new ≡ fault_count self.old }
+        ensures same_named { Self.Src.fault_count src ≡ 0
+            → SameFaults (faults_of self.old) (faults_of self.new) }
+        ensures counts { (fault_count self.old ≤ fault_count self.new)
+            × (absent_count self.new ≡ absent_count self.old) }
+        ensures numbered { fault_plan self.new ≡ fault_plan self.old }
+        ensures plans_kept { source_plans self.new ≡ source_plans self.old };
+
+    /// The disk as it stands, with its moments and its plan, and with count 0. It is made with empty areas where there
+    /// is none of the name.
+    fn disk(&mut self, alloc: Global, name: &String) -> Result<Self::Dsk, OutRefused>
+        ensures as_it_stands { IfOk result (λ d. (Self.Dsk.history d ≡ disk_history self.old)
+            × (Self.Dsk.fault_plan d ≡ disk_plan self.old)) }
+        ensures fresh { IfOk result (λ d. Self.Dsk.fault_count d ≡ 0) }
+        ensures out { IfOk result (λ _. is_out self.new ≡ true) }
+        ensures not_out { IsErr result → is_out self.new ≡ is_out self.old }
+        ensures kept { (disk_history self.new ≡ disk_history self.old)
+            × (disk_plan self.new ≡ disk_plan self.old) }
+        ensures files_kept { (files self.new ≡ files self.old)
+            × (fault_count self.new ≡ fault_count self.old)
+            × (absent_count self.new ≡ absent_count self.old)
+            × (source_plans self.new ≡ source_plans self.old)
+            × SameFaults (faults_of self.old) (faults_of self.new) }
+
+        // The count of the disk's faults rises where the call fails, and nowhere else.
+        ensures cause { result ≡ Err OutRefused.Failed
+            → Rose (disk_fault_count self.old) (disk_fault_count self.new) }
+        ensures steady { result ≢ Err OutRefused.Failed
+            → disk_fault_count self.new ≡ disk_fault_count self.old }
+        ensures counts { disk_fault_count self.old ≤ disk_fault_count self.new }
+
+        // A shelf with a plan fails where that says so, and nowhere else.
+        ensures planned { IfSome (fault_plan self.old)
+            (λ plan. (result ≡ Err OutRefused.Failed) ↔ FailsNext plan) }
+        ensures numbered { IfSome (fault_plan self.old)
+            (λ plan. fault_plan self.new ≡ Some (called plan)) };
+
+    /// Takes the disk back: the shelf's disk is then this one, with its moments and its plan. Where it failed, the
+    /// count of the disk's faults rises, and otherwise it stays.
+    fn give_disk(&mut self, disk: Self::Dsk)
+        ensures taken { (disk_history self.new ≡ Self.Dsk.history disk)
+            × (disk_plan self.new ≡ Self.Dsk.fault_plan disk) }
+        ensures back { is_out self.new ≡ false }
+        ensures files_kept { (files self.new ≡ files self.old)
+            × (fault_count self.new ≡ fault_count self.old)
+            × (absent_count self.new ≡ absent_count self.old)
+            × (source_plans self.new ≡ source_plans self.old)
+            × SameFaults (faults_of self.old) (faults_of self.new) }
+        ensures raised { 0 < Self.Dsk.fault_count disk
+            → Rose (disk_fault_count self.old) (disk_fault_count self.new) }
+        ensures same { Self.Dsk.fault_count disk ≡ 0
+            → disk_fault_count self.new ≡ disk_fault_count self.old }
+        ensures counts { disk_fault_count self.old ≤ disk_fault_count self.new }
+        ensures numbered { fault_plan self.new ≡ fault_plan self.old };
+
+    /// How often `source` failed or a source came back that had failed. The number stands still at the greatest
+    /// of its type.
+    fn faults(&self) -> u64
+        ensures { result ≡ fault_count self.now };
+
+    /// How often `disk` failed or a disk came back that had failed. The number stands still at the greatest of its
+    /// type.
+    fn disk_faults(&self) -> u64
+        ensures { result ≡ disk_fault_count self.now };
+}

@@ -1,0 +1,197 @@
+//! The shelf over the files of a file system. The files themselves are trusted, so it tells nothing of content: it
+//! keeps its counts, and nothing else.
+ghost use Rattle.std.specs.Prelude.{◌≡◌, ◌↔◌, IfOk, IsTrue};
+ghost use Rattle.eql_outside.specs.Shelves.{SaysAbsent};
+
+use crate::disk::Disk;
+use crate::disk::file::FileDisk;
+use crate::faults::{Lent, NameFaults};
+use crate::refused::{Failed, OutRefused};
+use crate::shelf::Shelf;
+use crate::source::file::FileSource;
+use crate::source::{ReadsAlike, Source};
+use std::alloc::Global;
+use std::fs::{Files, OpenOptions};
+use std::io::ErrorKind;
+use std::{fs, io};
+
+/// The shelf of the files of a file system. A name is a path, absolute or from the current folder. The disk of a name
+/// has its areas in two files, whose names are that name with `.0` and `.1` behind it.
+#[derive(Drop)]
+pub struct FileShelf<R> {
+    files: R,
+    faults: u64,
+    names: NameFaults,
+    absent: u64,
+    out: bool,
+    disk_faults: u64,
+}
+
+// Whether an open that was refused so says that no file has the name: it isn't there, or a file stands where its
+// path needs a folder.
+fn says_absent(kind: ErrorKind) -> bool
+    ensures { IsTrue result ↔ SaysAbsent kind }
+{
+    matches!(kind, ErrorKind::NotFound | ErrorKind::NotADirectory)
+}
+
+impl<R: Files> FileShelf<R>
+where
+    R::File: ReadsAlike,
+{
+    ghost use Rattle.std.specs.Prelude.{◌≢◌, ◌≤◌, ℕ, false, List, Ok, Err, Some, None, IfOk, IfErr, IfSome, IsNone, IsOkAnd, IsSomeAnd};
+    ghost use Rattle.std.specs.IoError.{error_kind};
+    ghost use Rattle.eql_outside.specs.Outside.{Rose};
+    ghost use Rattle.eql_outside.specs.Faults.{name_lent, faults_in, RoseFor, SameFaults};
+
+    /// The shelf of this file system.
+    pub fn new(files: R) -> FileShelf<R>
+        ensures faults { ⟦<FileShelf<R> as Shelf>⟧.fault_count result ≡ 0 }
+        ensures names { (name : List ℕ) → ⟦<FileShelf<R> as Shelf>⟧.faults_of result name ≡ 0 }
+        ensures absent { ⟦<FileShelf<R> as Shelf>⟧.absent_count result ≡ 0 }
+        ensures disk_faults { ⟦<FileShelf<R> as Shelf>⟧.disk_fault_count result ≡ 0 }
+        ensures is_in { ⟦<FileShelf<R> as Shelf>⟧.is_out result ≡ false }
+    {
+        FileShelf {
+            files,
+            faults: 0,
+            names: NameFaults::End,
+            absent: 0,
+            out: false,
+            disk_faults: 0,
+        }
+    }
+
+    // Answers as the open of a file did. A file that is open is lent. Where the error says that there is none, it is
+    // absent. Any other error is a fault of the name.
+    fn answer(
+        &mut self,
+        opened: io::Result<R::File>,
+        lent: Lent,
+    ) -> Result<Option<FileSource<R::File>>, OutRefused>
+        ensures open { IfOk opened (λ file. IsOkAnd result (λ o. IsSomeAnd o
+            (λ s. ⟦<FileSource<R::File> as Source>⟧.left s ≡ R.File.remaining file))) }
+        ensures absent { IfErr opened (λ error. SaysAbsent (error_kind error) → result ≡ Ok None) }
+        ensures failed { IfErr opened
+            (λ error. ¬ SaysAbsent (error_kind error) → result ≡ Err OutRefused.Failed) }
+        ensures fresh { IfOk result (λ o. IfSome o
+            (λ s. ⟦<FileSource<R::File> as Source>⟧.fault_count s ≡ 0)) }
+        ensures named { IfOk result (λ o. IfSome o
+            (λ s. ⟦<FileSource<R::File> as Source>⟧.lent_as s ≡ Some (name_lent lent))) }
+        ensures cause { result ≡ Err OutRefused.Failed → Rose self.old.faults self.new.faults }
+        ensures cause_named { result ≡ Err OutRefused.Failed
+            → RoseFor (name_lent lent) (faults_in self.old.names) (faults_in self.new.names) }
+        ensures steady { result ≢ Err OutRefused.Failed → self.new.faults ≡ self.old.faults }
+        ensures steady_named { result ≢ Err OutRefused.Failed
+            → SameFaults (faults_in self.old.names) (faults_in self.new.names) }
+        ensures rose { IfOk result (λ o. IsNone o → Rose self.old.absent self.new.absent) }
+        ensures present { result ≢ Ok None → self.new.absent ≡ self.old.absent }
+        ensures counts { (self.old.faults ≤ self.new.faults)
+            × (self.old.absent ≤ self.new.absent) }
+        ensures disk_kept { (self.new.out ≡ self.old.out)
+            × (self.new.disk_faults ≡ self.old.disk_faults) }
+    {
+        match opened {
+            Ok(file) => Ok(Some(FileSource::lend(file, lent))),
+            Err(error) => if says_absent(error.kind()) {
+                self.absent = self.absent.saturating_add(1);
+                Ok(None)
+            } else {
+                self.faults = self.faults.saturating_add(1);
+                self.names.add(lent);
+                Err(OutRefused::Failed)
+            },
+        }
+    }
+}
+
+impl<R: Files> Shelf for FileShelf<R>
+where
+    R::File: ReadsAlike,
+{
+    type Src = FileSource<R::File>;
+
+    type Dsk = FileDisk<R::File>;
+
+    ghost use Rattle.std.specs.Prelude.{None};
+    ghost use Rattle.eql_outside.specs.Faults.{faults_in};
+
+    ghost files = { λ _. None };
+
+    ghost fault_count = { λ s. s.faults };
+
+    ghost faults_of = { λ s. faults_in s.names };
+
+    ghost absent_count = { λ s. s.absent };
+
+    ghost disk_history = { λ _. None };
+
+    ghost is_out = { λ s. s.out };
+
+    ghost disk_fault_count = { λ s. s.disk_faults };
+
+    // Opening decides whether the file is there. A folder opens, and fails at its first read.
+    fn source(
+        &mut self,
+        alloc: Global,
+        name: &String,
+    ) -> Result<Option<FileSource<R::File>>, OutRefused> {
+        let lent = Lent::new(alloc, name)?;
+        let opened = fs::open(&self.files, name.as_str());
+        self.answer(opened, lent)
+    }
+
+    fn give_source(&mut self, src: FileSource<R::File>) {
+        if src.faults() > 0 {
+            self.faults = self.faults.saturating_add(1);
+            if let Some(lent) = src.into_lent() {
+                self.names.add(lent);
+            }
+        }
+    }
+
+    fn disk(&mut self, alloc: Global, name: &String) -> Result<FileDisk<R::File>, OutRefused> {
+        let first = format!(in alloc; "{}.0", name)?;
+        let second = format!(in alloc; "{}.1", name)?;
+        match open_disk(&self.files, &first, &second) {
+            Ok(disk) => {
+                self.out = true;
+                Ok(disk)
+            }
+            Err(failed) => {
+                self.disk_faults = self.disk_faults.saturating_add(1);
+                Err(OutRefused::from(failed))
+            }
+        }
+    }
+
+    fn give_disk(&mut self, disk: FileDisk<R::File>) {
+        if disk.faults() > 0 {
+            self.disk_faults = self.disk_faults.saturating_add(1);
+        }
+        self.out = false;
+    }
+
+    fn faults(&self) -> u64 {
+        self.faults
+    }
+
+    fn disk_faults(&self) -> u64 {
+        self.disk_faults
+    }
+}
+
+// The disk over the files of these names, which are made where they aren't there.
+fn open_disk<R: Files>(
+    files: &R,
+    first: &String,
+    second: &String,
+) -> Result<FileDisk<R::File>, Failed>
+    ensures { IfOk result (λ d. ⟦<FileDisk<R::File> as Disk>⟧.fault_count d ≡ 0) }
+{
+    let mut options = OpenOptions::new();
+    options.read(true).write(true).create(true);
+    let a = options.open(files, first.as_str()).map_err(|_| Failed)?;
+    let b = options.open(files, second.as_str()).map_err(|_| Failed)?;
+    Ok(FileDisk::new(a, b))
+}
