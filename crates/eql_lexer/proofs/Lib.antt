@@ -8,3 +8,4 @@ pub mod Steps
 pub mod Tails
 pub mod Places
 pub mod SignsFound
+pub mod Whole

@@ -6,3 +6,4 @@ pub mod Strings
 pub mod Spelling
 pub mod Refusing
 pub mod Examples
+pub mod Messages

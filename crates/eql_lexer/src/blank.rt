@@ -44,7 +44,9 @@ fn after_line(text: &[u8]) -> &[u8]
 
 /// What follows the first `*/`, if there is one.
 fn after_block(text: &[u8]) -> Option<&[u8]>
-    ensures value { MatchOption result ((opening : List ℕ) → within_block opening text.now ≡ opening) (λ rest. (opening : List ℕ) → within_block opening text.now ≡ gap rest.now) }
+    ensures value { MatchOption result
+        ((opening : List ℕ) → within_block opening text.now ≡ opening)
+        (λ rest. (opening : List ℕ) → within_block opening text.now ≡ gap rest.now) }
     ensures within { IfSome result (λ rest. length rest.now ≤ length text.now) }
 {
     let mut rest = text;

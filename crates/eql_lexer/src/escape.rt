@@ -8,7 +8,8 @@ use crate::number::{hex_len, hex_number_of};
 
 /// The character of an escape, from behind its backslash, and what follows it.
 pub fn leading_escape(bytes: &[u8]) -> Option<(char, &[u8])>
-    ensures { MatchOption result (escape bytes.now ≡ None) (λ x. escape bytes.now ≡ Some (x.0, x.1.now)) }
+    ensures { MatchOption result (escape bytes.now ≡ None)
+        (λ x. escape bytes.now ≡ Some (x.0, x.1.now)) }
 {
     let (c, more) = split(bytes)?;
     match c {
@@ -24,7 +25,8 @@ pub fn leading_escape(bytes: &[u8]) -> Option<(char, &[u8])>
 
 /// The character that two to eight hexadecimal digits in braces name, and what follows it.
 fn leading_unicode(bytes: &[u8]) -> Option<(char, &[u8])>
-    ensures { MatchOption result (unicode bytes.now ≡ None) (λ x. unicode bytes.now ≡ Some (x.0, x.1.now)) }
+    ensures { MatchOption result (unicode bytes.now ≡ None)
+        (λ x. unicode bytes.now ≡ Some (x.0, x.1.now)) }
 {
     let (b, more) = split(bytes)?;
     let len = hex_len(more);

@@ -31,7 +31,8 @@ pub fn hex_len(bytes: &[u8]) -> usize
 
 /// The number that digits spell, where it is at most 9223372036854775807.
 pub fn number_of(digits: &[u8]) -> Option<i64>
-    ensures { MatchOption result (2 ^ 63 ≤ number 0 digits.now) (λ n. (n ≡ pos (number 0 digits.now)) × (number 0 digits.now < 2 ^ 63)) }
+    ensures { MatchOption result (2 ^ 63 ≤ number 0 digits.now)
+        (λ n. (n ≡ pos (number 0 digits.now)) × (number 0 digits.now < 2 ^ 63)) }
 {
     let mut n: u64 = 0;
     for b in digits {

@@ -42,8 +42,8 @@ fn raw_len(bytes: &[u8]) -> usize
     n
 }
 
-/// The string behind `"""`, up to the next one, and what follows. `opening` is how many bytes are left where the
-/// string begins.
+/// The string behind `"""`, up to the next one, and what follows. `opening` is how many bytes are
+/// left where the string begins.
 pub fn raw_string(alloc: Global, bytes: &[u8], opening: usize) -> Result<(Text, &[u8]), Fault>
     requires { IsUtf8 bytes.now }
     ensures found { IfOk result (λ x. RawString bytes.now x.0 x.1.now) }
@@ -77,8 +77,8 @@ fn closes(bytes: &[u8]) -> bool
     false
 }
 
-/// The bytes of the string behind a quote, up to the closing one, and what follows. `opening` is how many bytes are
-/// left where the string begins.
+/// The bytes of the string behind a quote, up to the closing one, and what follows. `opening` is
+/// how many bytes are left where the string begins.
 fn line_content(alloc: Global, bytes: &[u8], opening: usize) -> Result<(Vec<u8>, &[u8]), Fault>
     requires { IsUtf8 bytes.now }
     ensures found { IfOk result (λ x. Content bytes.now x.0.items x.1.now) }
@@ -110,7 +110,8 @@ fn line_content(alloc: Global, bytes: &[u8], opening: usize) -> Result<(Vec<u8>,
 
 /// Why a string is refused in which a backslash begins no escape.
 fn bad_escape(rest: &[u8], opening: usize) -> Fault
-    ensures { result ≡ (if is_closed rest.now then fault.Broken rule.BadEscape (length rest.now) else fault.Broken rule.OpenString opening) }
+    ensures { result ≡ (if is_closed rest.now
+        then fault.Broken rule.BadEscape (length rest.now) else fault.Broken rule.OpenString opening) }
 {
     if closes(rest) {
         Fault::Broken(Rule::BadEscape, rest.len())
@@ -119,8 +120,8 @@ fn bad_escape(rest: &[u8], opening: usize) -> Fault
     }
 }
 
-/// The string behind a quote, up to the closing one on its line, and what follows. `opening` is how many bytes are
-/// left where the string begins.
+/// The string behind a quote, up to the closing one on its line, and what follows. `opening` is
+/// how many bytes are left where the string begins.
 pub fn line_string(alloc: Global, bytes: &[u8], opening: usize) -> Result<(Text, &[u8]), Fault>
     requires { IsUtf8 bytes.now }
     ensures found { IfOk result (λ x. LineString bytes.now x.0 x.1.now) }
@@ -130,8 +131,8 @@ pub fn line_string(alloc: Global, bytes: &[u8], opening: usize) -> Result<(Text,
     Ok((text_of(content), rest))
 }
 
-/// The bytes of the name behind a backtick, up to the closing one on its line, and what follows. `opening` is how many
-/// bytes are left where the name begins.
+/// The bytes of the name behind a backtick, up to the closing one on its line, and what follows.
+/// `opening` is how many bytes are left where the name begins.
 fn name_content(alloc: Global, bytes: &[u8], opening: usize) -> Result<(Vec<u8>, &[u8]), Fault>
     requires { IsUtf8 bytes.now }
     ensures found { IfOk result (λ x. quoted_name bytes.now ≡ Some (x.0.items, x.1.now)) }
@@ -157,8 +158,8 @@ fn name_content(alloc: Global, bytes: &[u8], opening: usize) -> Result<(Vec<u8>,
     Err(Fault::Broken(Rule::OpenString, opening))
 }
 
-/// The name behind a backtick, up to the closing one on its line, and what follows. `opening` is how many bytes are
-/// left where the name begins.
+/// The name behind a backtick, up to the closing one on its line, and what follows. `opening` is
+/// how many bytes are left where the name begins.
 pub fn back_name(alloc: Global, bytes: &[u8], opening: usize) -> Result<(Text, &[u8]), Fault>
     requires { IsUtf8 bytes.now }
     ensures found { IfOk result (λ x. QuotedName bytes.now x.0 x.1.now) }

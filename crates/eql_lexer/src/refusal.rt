@@ -9,7 +9,8 @@ use std::alloc::{AllocError, AllocFailed};
 pub enum LexRefused {
     /// A byte that begins no token.
     BadByte { at: u32 },
-    /// A string or a name in backticks that isn't closed, or an empty name; the place is its opening.
+    /// A string or a name in backticks that isn't closed, or an empty name; the place is its
+    /// opening.
     OpenString { at: u32 },
     /// A backslash that begins no escape, in a string that is closed.
     BadEscape { at: u32 },
@@ -30,7 +31,7 @@ pub enum LexRefused {
 }
 
 /// A rule of tokens that a place in a text may break.
-#[derive(Clone, Copy, Debug, PartialEq, Eq)]
+#[derive(Clone, Copy)]
 pub enum Rule {
     BadByte,
     OpenString,
@@ -42,7 +43,7 @@ pub enum Rule {
 }
 
 /// Why no token was read: want of memory, or a rule that is broken where so many bytes are left.
-#[derive(Debug, Drop)]
+#[derive(Drop)]
 pub enum Fault {
     Memory,
     Broken(Rule, usize),

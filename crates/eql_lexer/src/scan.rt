@@ -224,9 +224,9 @@ fn place(text: &[u8], left: usize) -> u32
     (text.len() - left) as u32
 }
 
-/// The tokens of a text of UTF-8 of at most 65,536 bytes. White space and comments stand between tokens and are
-/// dropped. The place of a refusal is the first, from left to right, that breaks a rule; what stands before its token
-/// spells tokens.
+/// The tokens of a text of UTF-8 of at most 65,536 bytes. White space and comments stand between
+/// tokens and are dropped. The place of a refusal is the first, from left to right, that breaks a
+/// rule; what stands before its token spells tokens.
 pub fn lex(alloc: Global, text: &[u8]) -> Result<Tokens, LexRefused>
     // What is answered is what the text spells.
     ensures found { IfOk result (Spells text.now) }
@@ -236,7 +236,9 @@ pub fn lex(alloc: Global, text: &[u8]) -> Result<Tokens, LexRefused>
     ensures too_long { 65536 < length text.now → result ≡ Err TooLong }
     ensures not_utf8 { length text.now ≤ 65536 → (IsUtf8 text.now → ⊥) → result ≡ Err NotUtf8 }
     // Tokens that the text spells are what is answered, unless memory runs out.
-    ensures spelled { (tokens : List Placed) → Spells text.now tokens → length text.now ≤ 65536 → IsUtf8 text.now → MatchResult result (λ answer. answer ≡ tokens) IsMemory }
+    ensures spelled { (tokens : List Placed)
+        → Spells text.now tokens → length text.now ≤ 65536 → IsUtf8 text.now
+        → MatchResult result (λ answer. answer ≡ tokens) IsMemory }
 {
     if text.len() > MAX_BYTES {
         return Err(LexRefused::TooLong);

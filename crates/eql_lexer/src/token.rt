@@ -54,7 +54,7 @@ pub enum Sign {
 }
 
 /// A token.
-#[derive(Debug, Drop)]
+#[derive(Drop)]
 pub enum Tok {
     /// A word as it is spelled, with its `@`, `_` and the `~` at its end.
     Word(Text),
@@ -68,8 +68,9 @@ pub enum Tok {
     Sign(Sign),
 }
 
-/// A token and where it stands: the bytes of the text from `start` up to `end`, counted from 0, without `end`.
-#[derive(Debug, Drop)]
+/// A token and where it stands: the bytes of the text from `start` up to `end`, counted from 0,
+/// without `end`.
+#[derive(Drop)]
 pub struct Token {
     pub tok: Tok,
     pub start: u32,
@@ -77,7 +78,7 @@ pub struct Token {
 }
 
 /// A list of tokens.
-#[derive(Debug, Drop)]
+#[derive(Drop)]
 pub struct Tokens {
     items: Vec<Token>,
 }

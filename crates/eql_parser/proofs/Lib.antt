@@ -31,6 +31,7 @@ pub mod Grows
 pub mod Opened
 pub mod Causes
 pub mod Refusals
+mod OneSyntax
 pub mod RefusalExamples
 pub mod Parsed
 mod Canonical
@@ -40,6 +41,7 @@ mod SpeltText
 mod SpeltStrings
 mod SpeltExpr
 mod CanonicalQuery
+mod CanonicalOpens
 mod SpeltQuery
 mod Printable
 mod Placed

@@ -1,15 +1,18 @@
 -- What the parser answers, by what the descent does.
-use Rattle.std.proofs.Common.{◌≡◌, ◌≤◌, ℕ, Bool, true, false, List, [], ◌∷◌, Ok, Err, refl, sym, ap, ◌∙◌}
+use Rattle.std.proofs.Common.{◌≡◌, ◌≤◌, ◌⊎◌, inl, inr, ℕ, Bool, true, false, List, [], ◌∷◌, Ok, Err, refl, sym, ap, ◌∙◌}
 use Rattle.std.proofs.lemmas.Bool.{false≢true}
 use Rattle.eql_lexer.specs.declared.token.Token.{Token}
 use Rattle.eql_parser.specs.declared.parser.stop.Stop.{Stop}
 use Rattle.eql_parser.specs.declared.parser.stop.Stop.TheVariants as stop
+use Rattle.eql_parser.specs.declared.refusal.ParseRefused.{ParseRefused}
+use Rattle.eql_parser.specs.declared.refusal.ParseRefused.TheVariants as refusal
 use Rattle.eql_parser.specs.Kinds.{kinds}
 use Rattle.eql_parser.specs.QueryTree.{QueryTree}
 use Rattle.eql_parser.specs.QueryGrammar.{IsQuery}
 use Rattle.eql_parser.specs.Limits.{levels, OpensAtMost}
 use Rattle.eql_parser.specs.Refusing.{end_of, IsMemory, Refused}
 use Rattle.eql_parser.specs.Refusals.{refusal_of}
+use Rattle.eql_parser.specs.Places.{place}
 use Rattle.eql_parser.specs.Answering.{Stops}
 use Rattle.eql_parser.specs.Reading.{Fail, Res, Syntax, LeftOut, TooDeep, TooOpen}
 use Rattle.eql_parser.specs.QueryReading.{query}
@@ -66,3 +69,25 @@ only_memory tokens (stop.Syntax n) h q read few calm = absurd (not_read tokens (
 only_memory tokens (stop.LeftOut w n) h q read few calm = absurd (not_read tokens (LeftOut w n) h q read few calm)
 only_memory tokens (stop.TooDeep n) h q read few calm = absurd (not_read tokens (TooDeep n) h q read few calm)
 only_memory tokens (stop.TooOpen n) h q read few calm = absurd (not_read tokens (TooOpen n) h q read few calm)
+
+-- what is known of tokens: they are a query within the limits, or have a cause of a refusal
+abbrev Known : List Token → Type 0
+Known tokens =
+    ((q : QueryTree) × IsQuery tokens q × (levels q ≤ 64) × OpensAtMost 128 tokens)
+    ⊎ ((r : ParseRefused) × (IsMemory r → ⊥) × Refused tokens r)
+
+known_refused : (tokens : List Token) (e : Fail) → query (kinds tokens) ≡ Err e → Known tokens
+known_refused tokens (Syntax n) h = inr (refusal.Syntax (place tokens n), (λ no. no), cause tokens (Syntax n) h)
+known_refused tokens (LeftOut w n) h = inr (refusal.LeftOut w (place tokens n), (λ no. no), cause tokens (LeftOut w n) h)
+known_refused tokens (TooDeep n) h = inr (refusal.TooDeep (place tokens n), (λ no. no), cause tokens (TooDeep n) h)
+known_refused tokens (TooOpen n) h = inr (refusal.TooDeep (place tokens n), (λ no. no), cause tokens (TooOpen n) h)
+
+known_by : (tokens : List Token) (r : Res QueryTree) → query (kinds tokens) ≡ r → Known tokens
+known_by tokens (Ok x) h =
+    let sound = query_sound (kinds tokens) x.0 x.1 h in
+    inl (x.0, sound.0, sound.2, opens_at_most (kinds tokens) x.0 x.1 h)
+known_by tokens (Err e) h = known_refused tokens e h
+
+-- every list of tokens is a query within the limits, or has a cause of a refusal
+pub query_or_refused : (tokens : List Token) → Known tokens
+query_or_refused tokens = known_by tokens (query (kinds tokens)) refl

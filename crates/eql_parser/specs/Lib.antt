@@ -1,6 +1,7 @@
 pub mod Tree
 pub mod View
 pub mod QueryTree
+pub mod Bodies
 pub mod Kinds
 pub mod Grammar
 pub mod QueryGrammar
@@ -18,3 +19,4 @@ pub mod Printed
 pub mod PrintedExamples
 pub mod Adding
 pub mod ReadingExamples
+pub mod Messages

@@ -49,7 +49,7 @@ pub enum MathOp {
 }
 
 /// A field as the query names it.
-#[derive(Debug, Drop)]
+#[derive(Drop)]
 pub struct FieldRef {
     /// The name, with its dots.
     pub name: Text,
@@ -58,7 +58,7 @@ pub struct FieldRef {
 }
 
 /// Fields in the order of the query, as after `by`.
-#[derive(Debug, Drop)]
+#[derive(Drop)]
 pub struct FieldRefs {
     items: Vec<FieldRef>,
 }
@@ -96,7 +96,6 @@ impl FieldRefs {
 }
 
 /// An expression.
-#[derive(Drop)]
 #[cycle(expr)]
 pub enum Expr {
     /// `null`
@@ -173,5 +172,36 @@ impl Exprs {
         ensures { trees_of (map tree result.items) ≡ trees self }
     {
         self.items
+    }
+}
+
+impl Drop for Expr {
+    #[cycle(expr)]
+    fn drop(self) {
+        match self {
+            Expr::Null => {}
+            Expr::Bool(_) => {}
+            Expr::Long(_) => {}
+            Expr::Str(_) => {}
+            Expr::Field(_) => {}
+            Expr::Not(_) => {}
+            Expr::And(_) => {}
+            Expr::Or(_) => {}
+            Expr::Cmp(_, _, _) => {}
+            Expr::Pattern(_, _, _) => {}
+            Expr::Member {
+                fold: _,
+                negated: _,
+                left: _,
+                list: _,
+            } => {}
+            Expr::Neg(_) => {}
+            Expr::Math(_, _, _) => {}
+            Expr::Call {
+                name: _,
+                fold: _,
+                args: _,
+            } => {}
+        }
     }
 }

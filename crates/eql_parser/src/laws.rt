@@ -1,18 +1,41 @@
 //! Laws of queries, for any text and tokens: each is the contract of a function that does nothing.
-ghost use Rattle.std.specs.Prelude.{◌≡◌, ℕ, List, encode_utf8_all};
+ghost use Rattle.std.specs.Prelude.{◌≡◌, ◌≤◌, ◌⊎◌, ℕ, List, encode_utf8_all};
 ghost use Rattle.std.specs.Str.{IsUtf8};
 ghost use Rattle.eql_lexer.specs.declared.token.Token.{Token};
 ghost use Rattle.eql_lexer.specs.Spelling.{Spells};
+ghost use Rattle.eql_parser.specs.declared.refusal.ParseRefused.{ParseRefused};
+ghost use Rattle.eql_parser.specs.Limits.{levels, OpensAtMost};
 ghost use Rattle.eql_parser.specs.Printed.{printed};
 ghost use Rattle.eql_parser.specs.QueryGrammar.{IsQuery};
 ghost use Rattle.eql_parser.specs.QueryTree.{QueryTree};
+ghost use Rattle.eql_parser.specs.Refusing.{IsMemory, IsSyntax, Refused};
 
 /// Tokens are one query at most.
 pub fn one_query()
-    ensures { (tokens : List Token) (p q : QueryTree) → IsQuery tokens p → IsQuery tokens q → p ≡ q }
+    ensures { (tokens : List Token) (p q : QueryTree)
+        → IsQuery tokens p → IsQuery tokens q → p ≡ q }
 {}
 
-/// The canonical text of a query that a text spells spells this query again.
+/// Nothing is left out: every list of tokens is a query within the limits, or has a cause of a
+/// refusal other than want of memory.
+pub fn query_or_refused()
+    ensures { (tokens : List Token)
+        → ((q : QueryTree) × IsQuery tokens q × (levels q ≤ 64) × OpensAtMost 128 tokens)
+        ⊎ ((r : ParseRefused) × (IsMemory r → ⊥) × Refused tokens r) }
+{}
+
+/// Tokens have at most one place of `Syntax`.
+pub fn one_syntax()
+    ensures { (tokens : List Token) (at to : ℕ)
+        → IsSyntax tokens at → IsSyntax tokens to → at ≡ to }
+{}
+
+/// The canonical text of a query that a text spells spells this query again. In it at most as many
+/// parentheses stand open as the query has levels, so `parse` answers this query for it where the
+/// query has at most 64 levels.
 pub fn prints_back()
-    ensures { (text : List ℕ) (tokens : List Token) (query : QueryTree) → Spells text tokens → IsUtf8 text → IsQuery tokens query → (us : List Token) × Spells (encode_utf8_all (printed query)) us × IsQuery us query }
+    ensures { (text : List ℕ) (tokens : List Token) (query : QueryTree)
+        → Spells text tokens → IsUtf8 text → IsQuery tokens query
+        → (us : List Token) × Spells (encode_utf8_all (printed query)) us × IsQuery us query
+        × OpensAtMost (levels query) us }
 {}

@@ -12,6 +12,7 @@ mod expression;
 mod field;
 mod joint;
 mod leaf;
+mod listed;
 mod literal;
 mod mark;
 mod node;
@@ -76,8 +77,8 @@ fn refused(tokens: &[Token], stop: Stop) -> ParseRefused
     }
 }
 
-/// The query that tokens are, by the grammar of the syntax reference of the Event Query Language. A condition has at
-/// most 64 levels, and at most 128 parentheses stand open in it.
+/// The query that tokens are, by the grammar of the syntax reference of the Event Query Language.
+/// A condition has at most 64 levels, and at most 128 parentheses stand open in it.
 pub fn parse(alloc: Global, tokens: &Tokens) -> Result<Query, ParseRefused>
     // What is answered is the query that the tokens are.
     ensures found { IfOk result (λ q. IsQuery tokens.now (query_tree q)) }
@@ -87,7 +88,9 @@ pub fn parse(alloc: Global, tokens: &Tokens) -> Result<Query, ParseRefused>
     // Each refusal has its cause.
     ensures refused { IfErr result (Refused tokens.now) }
     // A query within the limits is what is answered, unless memory runs out.
-    ensures answered { (q : QueryTree) → IsQuery tokens.now q → levels q ≤ 64 → OpensAtMost 128 tokens.now → MatchResult result (λ answer. query_tree answer ≡ q) IsMemory }
+    ensures answered { (q : QueryTree)
+        → IsQuery tokens.now q → levels q ≤ 64 → OpensAtMost 128 tokens.now
+        → MatchResult result (λ answer. query_tree answer ≡ q) IsMemory }
 {
     let items = tokens.items().as_slice();
     match query_of(alloc, items) {

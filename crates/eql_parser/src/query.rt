@@ -1,12 +1,13 @@
 //! Queries and their parts.
 ghost use Rattle.std.specs.Prelude.{◌≡◌};
+ghost use Rattle.eql_parser.specs.Bodies.{event_of, sequence_of};
 
 use crate::expr::{Expr, FieldRefs};
 use eql_values::Text;
 use std::marker::Model;
 
-/// One event of a query: a category, a condition, and for an item of a sequence its own keys and runs.
-#[derive(Drop)]
+/// One event of a query: a category, a condition, and for an item of a sequence its own keys and
+/// runs.
 pub struct Term {
     /// The category; none is `any`.
     pub category: Option<Text>,
@@ -16,6 +17,21 @@ pub struct Term {
     pub by: FieldRefs,
     /// How often the item stands in a row, 1 where the query doesn't say.
     pub runs: i64,
+}
+
+impl Term {
+    /// The category, the condition, the item's own keys and its runs.
+    pub fn into_parts(self) -> (Option<Text>, Expr, FieldRefs, i64)
+        ensures { result ≡ (self.category, self.cond, self.by, self.runs) }
+    {
+        let Term {
+            category,
+            cond,
+            by,
+            runs,
+        } = self;
+        (category, cond, by, runs)
+    }
 }
 
 /// The items of a sequence, in their order.
@@ -94,7 +110,7 @@ pub enum PipeText {
 }
 
 /// The pipes of a query, from left to right.
-#[derive(Debug, Drop)]
+#[derive(Drop)]
 pub struct PipeTexts {
     items: Vec<PipeText>,
 }
@@ -132,7 +148,6 @@ impl PipeTexts {
 }
 
 /// What a query looks for.
-#[derive(Drop)]
 pub enum Body {
     /// Single events.
     Event(Term),
@@ -149,11 +164,84 @@ pub enum Body {
     },
 }
 
+impl Body {
+    /// The term of a query for single events; none where it looks for sequences.
+    pub fn into_event(self) -> Option<Term>
+        ensures { result ≡ event_of self }
+    {
+        match self {
+            Body::Event(term) => Some(term),
+            Body::Sequence {
+                by: _,
+                span: _,
+                items: _,
+                until: _,
+            } => None,
+        }
+    }
+
+    /// The shared keys, the span, the items and the until item of a query for sequences; none
+    /// where it looks for single events.
+    pub fn into_sequence(self) -> Option<(FieldRefs, Option<Span>, Terms, Option<Term>)>
+        ensures { result ≡ sequence_of self }
+    {
+        match self {
+            Body::Event(_) => None,
+            Body::Sequence {
+                by,
+                span,
+                items,
+                until,
+            } => Some((by, span, items, until)),
+        }
+    }
+}
+
 /// A query.
-#[derive(Drop)]
 pub struct Query {
     /// What it looks for.
     pub body: Body,
     /// Its pipes.
     pub pipes: PipeTexts,
+}
+
+impl Query {
+    /// What it looks for, and its pipes.
+    pub fn into_parts(self) -> (Body, PipeTexts)
+        ensures { result ≡ (self.body, self.pipes) }
+    {
+        let Query { body, pipes } = self;
+        (body, pipes)
+    }
+}
+
+impl Drop for Query {
+    fn drop(self) {
+        let Query { body: _, pipes: _ } = self;
+    }
+}
+
+impl Drop for Term {
+    fn drop(self) {
+        let Term {
+            category: _,
+            cond: _,
+            by: _,
+            runs: _,
+        } = self;
+    }
+}
+
+impl Drop for Body {
+    fn drop(self) {
+        match self {
+            Body::Event(_) => {}
+            Body::Sequence {
+                by: _,
+                span: _,
+                items: _,
+                until: _,
+            } => {}
+        }
+    }
 }

@@ -1,5 +1,8 @@
-//! Tests of queries from their texts: what is read, and where other texts are refused.
+//! Texts of queries: their tokens, their canonical texts, and the lines by which others are refused;
+//! and queries built by hand. Rows are run by one function each.
 #![tactic(auto)]
 
 #[cfg(test)]
-mod tests;
+mod by_hand;
+#[cfg(test)]
+mod texts;

@@ -20,7 +20,8 @@ use std::alloc::Global;
 
 /// What may be called: a name without the `~` at its end, and whether it has one.
 fn callee_of(piece: Piece<'_>) -> Option<(&str, bool)>
-    ensures { MatchOption result (NoCallee (piece_kind piece.entry)) (λ x. piece_kind piece.entry ≡ callee_kind x.1 (chars x.0.now)) }
+    ensures { MatchOption result (NoCallee (piece_kind piece.entry))
+        (λ x. piece_kind piece.entry ≡ callee_kind x.1 (chars x.0.now)) }
 {
     match piece {
         Piece::Name(name) => Some((name.text().as_str(), false)),
@@ -29,9 +30,11 @@ fn callee_of(piece: Piece<'_>) -> Option<(&str, bool)>
     }
 }
 
-/// The function whose call comes first, by its name and by whether it ignores case, and what follows the parenthesis.
+/// The function whose call comes first, by its name and by whether it ignores case, and what
+/// follows the parenthesis.
 pub fn call_at(tokens: &[Token]) -> Option<(&str, bool, &[Token])>
-    ensures { MatchOption result (NoCall (kinds tokens.now)) (λ x. kinds tokens.now ≡ callee_kind x.1 (chars x.0.now) ∷ open_ ∷ kinds x.2.now) }
+    ensures { MatchOption result (NoCall (kinds tokens.now))
+        (λ x. kinds tokens.now ≡ callee_kind x.1 (chars x.0.now) ∷ open_ ∷ kinds x.2.now) }
 {
     let (first, rest) = split(tokens)?;
     let (name, fold) = callee_of(first)?;
@@ -49,7 +52,8 @@ fn is_spelled(text: &str, word: &[u8]) -> bool
 
 /// Whether a call is one that isn't read: `number` with a base, its second argument.
 fn is_based(name: &str, fold: bool, arguments: &Nodes) -> bool
-    ensures { result ≡ (not fold && is_left_out_call (chars name.now) (trees_of (nodes_trees arguments.now))) }
+    ensures { result ≡ (not fold && is_left_out_call (chars name.now)
+        (trees_of (nodes_trees arguments.now))) }
 {
     if fold {
         return false;
@@ -72,7 +76,8 @@ pub fn called<'a>(
 ) -> Result<(Node, &'a [Token]), Stop>
     requires some { levels ≢ 0 }
     requires nodes { IsNodes (levels - 1) arguments }
-    ensures answers { Answers node_tree result (call_read fold (chars name.now) place (nodes_trees arguments) (kinds rest.now)) }
+    ensures answers { Answers node_tree result (call_read fold (chars name.now) place
+        (nodes_trees arguments) (kinds rest.now)) }
     ensures node { IfOk result (λ x. IsNode levels x.0) }
 {
     if is_based(name, fold, &arguments) {

@@ -1,5 +1,5 @@
-//! Conditions: a recursive descent. `parens` is how many parentheses may still open, and `levels` how many levels an
-//! expression may have.
+//! Conditions: a recursive descent. `parens` is how many parentheses may still open, and `levels`
+//! how many levels an expression may have.
 ghost use Rattle.std.specs.Prelude.{◌≡◌, length, true, IfOk};
 ghost use Rattle.eql_parser.specs.Kinds.{kinds};
 ghost use Rattle.eql_parser.specs.Marks.{Lacks};
@@ -49,7 +49,8 @@ fn conj_of(
     levels: u32,
     tokens: &[Token],
 ) -> Result<(Node, &[Token]), Stop>
-    ensures answers { Answers node_tree result (conj (room parens) (inner parens) levels (kinds tokens.now)) }
+    ensures answers { Answers node_tree result (conj (room parens) (inner parens) levels
+        (kinds tokens.now)) }
     ensures node { IfOk result (λ x. IsNode levels x.0) }
 {
     let (first, rest) = neg_of(alloc, parens, levels, tokens)?;
@@ -94,7 +95,9 @@ fn operands_of(
     tokens: &[Token],
 ) -> Result<(Nodes, &[Token]), Stop>
     requires { IsNodes levels so_far }
-    ensures answers { Answers nodes_trees result (onto (nodes_trees so_far) (separated (joint_test joint) (operand joint parens levels) (length (kinds tokens.now)) (kinds tokens.now))) }
+    ensures answers { Answers nodes_trees result (onto (nodes_trees so_far)
+        (separated (joint_test joint) (operand joint parens levels) (length (kinds tokens.now))
+        (kinds tokens.now))) }
     ensures node { IfOk result (λ x. IsNodes levels x.0) }
 {
     let mut nodes = so_far;
@@ -122,7 +125,8 @@ fn neg_of(
     levels: u32,
     tokens: &[Token],
 ) -> Result<(Node, &[Token]), Stop>
-    ensures answers { Answers node_tree result (neg (room parens) (inner parens) levels (kinds tokens.now)) }
+    ensures answers { Answers node_tree result (neg (room parens) (inner parens) levels
+        (kinds tokens.now)) }
     ensures node { IfOk result (λ x. IsNode levels x.0) }
 {
     let Some(more) = after(Mark::Not, tokens) else {
@@ -143,7 +147,8 @@ fn pred_of(
     levels: u32,
     tokens: &[Token],
 ) -> Result<(Node, &[Token]), Stop>
-    ensures answers { Answers node_tree result (pred (room parens) (inner parens) levels (kinds tokens.now)) }
+    ensures answers { Answers node_tree result (pred (room parens) (inner parens) levels
+        (kinds tokens.now)) }
     ensures node { IfOk result (λ x. IsNode levels x.0) }
 {
     let (left, rest) = sum_of(alloc, parens, levels, tokens)?;
@@ -165,7 +170,8 @@ fn sum_of(
     levels: u32,
     tokens: &[Token],
 ) -> Result<(Node, &[Token]), Stop>
-    ensures answers { Answers node_tree result (sum (room parens) (inner parens) levels (kinds tokens.now)) }
+    ensures answers { Answers node_tree result (sum (room parens) (inner parens) levels
+        (kinds tokens.now)) }
     ensures node { IfOk result (λ x. IsNode levels x.0) }
 {
     let (mut left, mut rest) = prod_of(alloc, parens, levels, tokens)?;
@@ -191,7 +197,8 @@ fn prod_of(
     levels: u32,
     tokens: &[Token],
 ) -> Result<(Node, &[Token]), Stop>
-    ensures answers { Answers node_tree result (prod (room parens) (inner parens) levels (kinds tokens.now)) }
+    ensures answers { Answers node_tree result (prod (room parens) (inner parens) levels
+        (kinds tokens.now)) }
     ensures node { IfOk result (λ x. IsNode levels x.0) }
 {
     let (mut left, mut rest) = unary_of(alloc, parens, levels, tokens)?;
@@ -217,7 +224,8 @@ fn unary_of(
     levels: u32,
     tokens: &[Token],
 ) -> Result<(Node, &[Token]), Stop>
-    ensures answers { Answers node_tree result (unary (room parens) (inner parens) levels (kinds tokens.now)) }
+    ensures answers { Answers node_tree result (unary (room parens) (inner parens) levels
+        (kinds tokens.now)) }
     ensures node { IfOk result (λ x. IsNode levels x.0) }
 {
     let Some(more) = after(Mark::Minus, tokens) else {
@@ -238,7 +246,8 @@ fn prim_of(
     levels: u32,
     tokens: &[Token],
 ) -> Result<(Node, &[Token]), Stop>
-    ensures answers { Answers node_tree result (prim (room parens) (inner parens) levels (kinds tokens.now)) }
+    ensures answers { Answers node_tree result (prim (room parens) (inner parens) levels
+        (kinds tokens.now)) }
     ensures node { IfOk result (λ x. IsNode levels x.0) }
 {
     let Some(inside) = after(Mark::Open, tokens) else {
@@ -263,7 +272,8 @@ fn call_of(
     tokens: &[Token],
 ) -> Result<(Node, &[Token]), Stop>
     requires { Lacks mark.Open (kinds tokens.now) }
-    ensures answers { Answers node_tree result (prim (room parens) (inner parens) levels (kinds tokens.now)) }
+    ensures answers { Answers node_tree result (prim (room parens) (inner parens) levels
+        (kinds tokens.now)) }
     ensures node { IfOk result (λ x. IsNode levels x.0) }
 {
     let Some((name, fold, inside)) = call_at(tokens) else {
@@ -287,7 +297,8 @@ fn arguments_of(
     levels: u32,
     tokens: &[Token],
 ) -> Result<(Nodes, &[Token]), Stop>
-    ensures answers { Answers nodes_trees result (arguments true (expr parens) levels (kinds tokens.now)) }
+    ensures answers { Answers nodes_trees result (arguments true (expr parens) levels
+        (kinds tokens.now)) }
     ensures node { IfOk result (λ x. IsNodes levels x.0) }
 {
     if let Some(rest) = after(Mark::Close, tokens) {

@@ -6,9 +6,10 @@ ghost use Rattle.eql_parser.specs.Kinds.{kind, kinds, word_kind};
 ghost use Rattle.eql_parser.specs.Grammar.{first_part, part};
 ghost use Rattle.eql_parser.specs.Pieces.{piece_kind, spelled, NoPart, IsPart};
 ghost use Rattle.eql_parser.specs.Answering.{Answers};
-ghost use Rattle.eql_parser.specs.Reading.{dotted, named, field, listed};
+ghost use Rattle.eql_parser.specs.Reading.{dotted, named, field};
 
 use crate::expr::FieldRef;
+use crate::parser::listed::Listed;
 use crate::parser::mark::{Mark, after};
 use crate::parser::piece::{Piece, split};
 use crate::parser::stop::Stop;
@@ -53,7 +54,8 @@ fn part_of(token: &Token) -> Option<&str>
 
 /// The part behind a dot, and what follows.
 fn part_at(tokens: &[Token]) -> Option<(&str, &[Token])>
-    ensures { MatchOption result (NoPart (kinds tokens.now)) (λ x. IsPart (kinds tokens.now) (chars x.0.now) (kinds x.1.now)) }
+    ensures { MatchOption result (NoPart (kinds tokens.now))
+        (λ x. IsPart (kinds tokens.now) (chars x.0.now) (kinds x.1.now)) }
 {
     match tokens {
         [] => None,
@@ -70,7 +72,8 @@ fn dotted_of<'a>(
     first: &'a str,
     tokens: &'a [Token],
 ) -> Result<(Text, &'a [Token]), Stop>
-    ensures { Answers (λ w. w) result (dotted (length (kinds tokens.now)) (chars first.now) (kinds tokens.now)) }
+    ensures { Answers (λ w. w) result (dotted (length (kinds tokens.now)) (chars first.now)
+        (kinds tokens.now)) }
 {
     let mut name = String::from_str(alloc, first)?;
     let mut rest = tokens;
@@ -109,23 +112,10 @@ pub fn field_of(alloc: Global, tokens: &[Token]) -> Result<(FieldRef, &[Token]),
     }
 }
 
-/// Fields with commas between them.
-pub fn fields_of(alloc: Global, tokens: &[Token]) -> Result<(Vec<FieldRef>, &[Token]), Stop>
-    ensures { Answers (λ v. v.items) result (listed field (kinds tokens.now)) }
-{
-    let mut items = Vec::new(alloc);
-    let mut rest = tokens;
-    // Each turn reads a token or more.
-    for _ in 0..tokens.len() {
-        let (item, behind) = match field_of(alloc, rest) {
-            Ok(found) => found,
-            Err(stop) => return Err(stop),
-        };
-        items.push(item)?;
-        match after(Mark::Comma, behind) {
-            None => return Ok((items, behind)),
-            Some(more) => rest = more,
-        }
+impl Listed for FieldRef {
+    ghost reads = { field };
+
+    fn read(alloc: Global, tokens: &[Token]) -> Result<(FieldRef, &[Token]), Stop> {
+        field_of(alloc, tokens)
     }
-    Err(Stop::Syntax(rest.len()))
 }

@@ -21,7 +21,8 @@ use std::alloc::{AllocError, Global};
 /// An expression of one level that begins where so many tokens are left.
 fn leaf(levels: u32, place: usize, expr: Expr, rest: &[Token]) -> Result<(Node, &[Token]), Stop>
     requires { depth (tree expr) ≡ 1 }
-    ensures answers { Answers node_tree result (at_level levels place (Ok (tree expr, kinds rest.now))) }
+    ensures answers { Answers node_tree result (at_level levels place
+        (Ok (tree expr, kinds rest.now))) }
     ensures node { IfOk result (λ x. IsNode levels x.0) }
 {
     if levels == 0 {
@@ -32,7 +33,8 @@ fn leaf(levels: u32, place: usize, expr: Expr, rest: &[Token]) -> Result<(Node, 
 
 /// A field.
 fn field_leaf(alloc: Global, levels: u32, tokens: &[Token]) -> Result<(Node, &[Token]), Stop>
-    ensures answers { Answers node_tree result (at_level levels (length tokens.now) (res_map field_tree (field (kinds tokens.now)))) }
+    ensures answers { Answers node_tree result (at_level levels (length tokens.now)
+        (res_map field_tree (field (kinds tokens.now)))) }
     ensures node { IfOk result (λ x. IsNode levels x.0) }
 {
     if levels == 0 {
@@ -49,7 +51,8 @@ fn field_leaf(alloc: Global, levels: u32, tokens: &[Token]) -> Result<(Node, &[T
 
 /// A constant.
 fn constant(piece: Piece<'_>) -> Result<Option<Expr>, AllocError>
-    ensures { IfOk result (λ found. option_map tree found ≡ constant_tree (piece_kind piece.entry)) }
+    ensures { IfOk result
+        (λ found. option_map tree found ≡ constant_tree (piece_kind piece.entry)) }
 {
     match piece {
         Piece::Null => Ok(Some(Expr::Null)),
@@ -70,7 +73,8 @@ pub fn leaf_of(
 ) -> Result<(Node, &[Token]), Stop>
     requires open { Lacks mark.Open (kinds tokens.now) }
     requires call { NoCall (kinds tokens.now) }
-    ensures answers { Answers node_tree result (prim (room parens) (inner parens) levels (kinds tokens.now)) }
+    ensures answers { Answers node_tree result (prim (room parens) (inner parens) levels
+        (kinds tokens.now)) }
     ensures node { IfOk result (λ x. IsNode levels x.0) }
 {
     let Some((first, rest)) = split(tokens) else {

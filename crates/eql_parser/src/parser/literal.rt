@@ -2,9 +2,10 @@
 ghost use Rattle.std.specs.Prelude.{◌≡◌, Result};
 ghost use Rattle.eql_parser.specs.Kinds.{kinds};
 ghost use Rattle.eql_parser.specs.Answering.{Answers, room, inner};
-ghost use Rattle.eql_parser.specs.Reading.{literal, negative_at, text_at, listed, members, patterns};
+ghost use Rattle.eql_parser.specs.Reading.{literal, negative_at, text_at, members, patterns};
 
 use crate::expr::MathOp;
+use crate::parser::listed::{Listed, listed_of};
 use crate::parser::mark::{Mark, after};
 use crate::parser::piece::{Piece, split};
 use crate::parser::stop::Stop;
@@ -61,46 +62,20 @@ fn text_of(tokens: &[Token]) -> Result<(Text, &[Token]), Stop>
     }
 }
 
-/// Literals with commas between them.
-fn literals_of(alloc: Global, tokens: &[Token]) -> Result<(Vec<Value>, &[Token]), Stop>
-    ensures { Answers (λ v. v.items) result (listed literal (kinds tokens.now)) }
-{
-    let mut items = Vec::new(alloc);
-    let mut rest = tokens;
-    // Each turn reads a token or more.
-    for _ in 0..tokens.len() {
-        let (item, behind) = match literal_of(rest) {
-            Ok(found) => found,
-            Err(stop) => return Err(stop),
-        };
-        items.push(item)?;
-        match after(Mark::Comma, behind) {
-            None => return Ok((items, behind)),
-            Some(more) => rest = more,
-        }
+impl Listed for Value {
+    ghost reads = { literal };
+
+    fn read(_alloc: Global, tokens: &[Token]) -> Result<(Value, &[Token]), Stop> {
+        literal_of(tokens)
     }
-    Err(Stop::Syntax(rest.len()))
 }
 
-/// Texts with commas between them.
-fn texts_of(alloc: Global, tokens: &[Token]) -> Result<(Vec<Text>, &[Token]), Stop>
-    ensures { Answers (λ v. v.items) result (listed text_at (kinds tokens.now)) }
-{
-    let mut items = Vec::new(alloc);
-    let mut rest = tokens;
-    // Each turn reads a token or more.
-    for _ in 0..tokens.len() {
-        let (item, behind) = match text_of(rest) {
-            Ok(found) => found,
-            Err(stop) => return Err(stop),
-        };
-        items.push(item)?;
-        match after(Mark::Comma, behind) {
-            None => return Ok((items, behind)),
-            Some(more) => rest = more,
-        }
+impl Listed for Text {
+    ghost reads = { text_at };
+
+    fn read(_alloc: Global, tokens: &[Token]) -> Result<(Text, &[Token]), Stop> {
+        text_of(tokens)
     }
-    Err(Stop::Syntax(rest.len()))
 }
 
 /// The literals in parentheses behind `in` or `in~`, where so many parentheses may still open.
@@ -117,14 +92,15 @@ pub fn members_of(
     if parens == 0 {
         return Err(Stop::TooOpen(tokens.len()));
     }
-    let (items, rest) = literals_of(alloc, inside)?;
+    let (items, rest) = listed_of(alloc, inside)?;
     match after(Mark::Close, rest) {
         Some(behind) => Ok((Literals::of(items), behind)),
         None => Err(Stop::Syntax(rest.len())),
     }
 }
 
-/// The text or the texts in parentheses behind `:`, `like` or `like~`, where so many parentheses may still open.
+/// The text or the texts in parentheses behind `:`, `like` or `like~`, where so many parentheses
+/// may still open.
 pub fn patterns_of(alloc: Global, parens: u32, tokens: &[Token]) -> Result<(Texts, &[Token]), Stop>
     ensures { Answers (λ v. v) result (patterns (room parens) (inner parens) (kinds tokens.now)) }
 {
@@ -136,7 +112,7 @@ pub fn patterns_of(alloc: Global, parens: u32, tokens: &[Token]) -> Result<(Text
     if parens == 0 {
         return Err(Stop::TooOpen(tokens.len()));
     }
-    let (items, rest) = texts_of(alloc, inside)?;
+    let (items, rest) = listed_of(alloc, inside)?;
     match after(Mark::Close, rest) {
         Some(behind) => Ok((Texts::of(items), behind)),
         None => Err(Stop::Syntax(rest.len())),

@@ -9,7 +9,7 @@ use crate::parser::piece::{Piece, split};
 use eql_lexer::Token;
 
 /// A keyword or a sign that a place may ask for.
-#[derive(Clone, Copy, Debug, PartialEq, Eq)]
+#[derive(Clone, Copy, PartialEq, Eq)]
 pub enum Mark {
     And,
     By,
@@ -85,7 +85,8 @@ fn mark_of(piece: Piece<'_>) -> Option<Mark>
 
 /// What follows this keyword or sign, where it comes first.
 pub fn after(mark: Mark, tokens: &[Token]) -> Option<&[Token]>
-    ensures { MatchOption result (Lacks mark (kinds tokens.now)) (λ rest. kinds tokens.now ≡ mark_kind mark ∷ kinds rest.now) }
+    ensures { MatchOption result (Lacks mark (kinds tokens.now))
+        (λ rest. kinds tokens.now ≡ mark_kind mark ∷ kinds rest.now) }
 {
     let (first, rest) = split(tokens)?;
     match mark_of(first) {

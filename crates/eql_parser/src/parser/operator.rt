@@ -10,7 +10,8 @@ use eql_lexer::Token;
 
 /// The `+` or `-` that comes first, and what follows it.
 pub fn added(tokens: &[Token]) -> Option<(MathOp, &[Token])>
-    ensures { MatchOption result (LacksOperator adds_of (kinds tokens.now)) (λ x. kinds tokens.now ≡ adds x.0 ∷ kinds x.1.now) }
+    ensures { MatchOption result (LacksOperator adds_of (kinds tokens.now))
+        (λ x. kinds tokens.now ≡ adds x.0 ∷ kinds x.1.now) }
 {
     let (first, rest) = split(tokens)?;
     match first {
@@ -21,7 +22,8 @@ pub fn added(tokens: &[Token]) -> Option<(MathOp, &[Token])>
 
 /// The `*`, `/` or `%` that comes first, and what follows it.
 pub fn multiplied(tokens: &[Token]) -> Option<(MathOp, &[Token])>
-    ensures { MatchOption result (LacksOperator multiplies_of (kinds tokens.now)) (λ x. kinds tokens.now ≡ multiplies x.0 ∷ kinds x.1.now) }
+    ensures { MatchOption result (LacksOperator multiplies_of (kinds tokens.now))
+        (λ x. kinds tokens.now ≡ multiplies x.0 ∷ kinds x.1.now) }
 {
     let (first, rest) = split(tokens)?;
     match first {
@@ -32,7 +34,8 @@ pub fn multiplied(tokens: &[Token]) -> Option<(MathOp, &[Token])>
 
 /// The comparison that comes first, and what follows it.
 pub fn comparison(tokens: &[Token]) -> Option<(CmpOp, &[Token])>
-    ensures { MatchOption result (LacksOperator compares_of (kinds tokens.now)) (λ x. kinds tokens.now ≡ compares x.0 ∷ kinds x.1.now) }
+    ensures { MatchOption result (LacksOperator compares_of (kinds tokens.now))
+        (λ x. kinds tokens.now ≡ compares x.0 ∷ kinds x.1.now) }
 {
     let (first, rest) = split(tokens)?;
     match first {

@@ -99,7 +99,8 @@ fn token_piece(token: &Token) -> Piece<'_>
 
 /// What the first token says, and the others.
 pub fn split(tokens: &[Token]) -> Option<(Piece<'_>, &[Token])>
-    ensures { MatchOption result (tokens.now ≡ []) (λ x. kinds tokens.now ≡ piece_kind x.0 ∷ kinds x.1.now) }
+    ensures { MatchOption result (tokens.now ≡ [])
+        (λ x. kinds tokens.now ≡ piece_kind x.0 ∷ kinds x.1.now) }
 {
     match tokens {
         [] => None,

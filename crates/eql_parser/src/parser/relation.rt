@@ -27,7 +27,9 @@ fn matched_of(
     tokens: &[Token],
 ) -> Result<(Node, &[Token]), Stop>
     requires { IsNode levels left }
-    ensures answers { Answers node_tree result (above levels (tree left.expr) place (res_map (t.pattern op (tree left.expr)) (patterns (room parens) (inner parens) (kinds tokens.now)))) }
+    ensures answers { Answers node_tree result (above levels (tree left.expr) place
+        (res_map (t.pattern op (tree left.expr))
+        (patterns (room parens) (inner parens) (kinds tokens.now)))) }
     ensures node { IfOk result (λ x. IsNode levels x.0) }
 {
     if left.depth >= levels {
@@ -52,7 +54,9 @@ fn among(
     tokens: &[Token],
 ) -> Result<(Node, &[Token]), Stop>
     requires { IsNode levels left }
-    ensures answers { Answers node_tree result (above levels (tree left.expr) place (res_map (t.member fold negated (tree left.expr)) (members (room parens) (inner parens) (kinds tokens.now)))) }
+    ensures answers { Answers node_tree result (above levels (tree left.expr) place
+        (res_map (t.member fold negated (tree left.expr))
+        (members (room parens) (inner parens) (kinds tokens.now)))) }
     ensures node { IfOk result (λ x. IsNode levels x.0) }
 {
     if left.depth >= levels {
@@ -75,7 +79,8 @@ fn not_among(
     tokens: &[Token],
 ) -> Result<(Node, &[Token]), Stop>
     requires { IsNode levels left }
-    ensures answers { Answers node_tree result (above levels (tree left.expr) place (behind_not (room parens) (inner parens) (tree left.expr) (kinds tokens.now))) }
+    ensures answers { Answers node_tree result (above levels (tree left.expr) place
+        (behind_not (room parens) (inner parens) (tree left.expr) (kinds tokens.now))) }
     ensures node { IfOk result (λ x. IsNode levels x.0) }
 {
     if left.depth >= levels {
@@ -107,7 +112,8 @@ pub fn relation_of(
 ) -> Result<(Node, &[Token]), Stop>
     requires left { IsNode levels left }
     requires other { LacksOperator compares_of (kinds tokens.now) }
-    ensures answers { Answers node_tree result (behind_sum (room parens) (inner parens) levels (tree left.expr) (kinds tokens.now)) }
+    ensures answers { Answers node_tree result (behind_sum (room parens) (inner parens) levels
+        (tree left.expr) (kinds tokens.now)) }
     ensures node { IfOk result (λ x. IsNode levels x.0) }
 {
     let Some((first, rest)) = split(tokens) else {

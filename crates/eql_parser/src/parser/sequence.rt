@@ -99,7 +99,8 @@ pub fn span_of(tokens: &[Token]) -> Result<(Option<Span>, &[Token]), Stop>
 
 /// The items of a sequence.
 fn items_of(alloc: Global, tokens: &[Token]) -> Result<(Vec<Term>, &[Token]), Stop>
-    ensures { Answers terms_view result (items (expr most_open most_levels) (length (kinds tokens.now)) (kinds tokens.now)) }
+    ensures { Answers terms_view result (items (expr most_open most_levels)
+        (length (kinds tokens.now)) (kinds tokens.now)) }
 {
     let mut items = Vec::new(alloc);
     let mut rest = tokens;
@@ -141,7 +142,8 @@ fn items_and_until(
     span: Option<Span>,
     tokens: &[Token],
 ) -> Result<(Body, &[Token]), Stop>
-    ensures { Answers body_tree result (behind_span (expr most_open most_levels) by span (kinds tokens.now)) }
+    ensures { Answers body_tree result (behind_span (expr most_open most_levels) by span
+        (kinds tokens.now)) }
 {
     let (items, rest) = match items_of(alloc, tokens) {
         Ok(found) => found,
@@ -166,7 +168,8 @@ fn items_and_until(
 
 /// A sequence behind the word and its keys.
 pub fn sequence_of(alloc: Global, by: FieldRefs, tokens: &[Token]) -> Result<(Body, &[Token]), Stop>
-    ensures { Answers body_tree result (behind_keys (expr most_open most_levels) by (kinds tokens.now)) }
+    ensures { Answers body_tree result (behind_keys (expr most_open most_levels) by
+        (kinds tokens.now)) }
 {
     match span_of(tokens) {
         Ok((span, rest)) => items_and_until(alloc, by, span, rest),

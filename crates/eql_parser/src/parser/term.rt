@@ -13,7 +13,7 @@ ghost use Rattle.eql_parser.specs.QueryReading as reading;
 
 use crate::expr::{Expr, FieldRefs};
 use crate::parser::expression::expr_of;
-use crate::parser::field::fields_of;
+use crate::parser::listed::listed_of;
 use crate::parser::mark::{Mark, after};
 use crate::parser::piece::{Piece, split};
 use crate::parser::stop::{Stop, left_out};
@@ -84,7 +84,8 @@ fn conditioned_of(
     category: Option<Text>,
     tokens: &[Token],
 ) -> Result<(Conditioned, &[Token]), Stop>
-    ensures { Answers conditioned_view result (reading.term_of (expr most_open most_levels) (Some category) (kinds tokens.now)) }
+    ensures { Answers conditioned_view result
+        (reading.term_of (expr most_open most_levels) (Some category) (kinds tokens.now)) }
 {
     let Some(behind) = after(Mark::Where, tokens) else {
         return Err(Stop::Syntax(tokens.len()));
@@ -97,7 +98,8 @@ fn conditioned_of(
 
 /// A category and a condition.
 pub fn term_of(alloc: Global, tokens: &[Token]) -> Result<(Conditioned, &[Token]), Stop>
-    ensures { Answers conditioned_view result (term (expr most_open most_levels) (kinds tokens.now)) }
+    ensures { Answers conditioned_view result
+        (term (expr most_open most_levels) (kinds tokens.now)) }
 {
     let Some((first, rest)) = split(tokens) else {
         return Err(Stop::Syntax(0));
@@ -115,7 +117,7 @@ pub fn keys_of(alloc: Global, tokens: &[Token]) -> Result<(FieldRefs, &[Token]),
     let Some(rest) = after(Mark::By, tokens) else {
         return Ok((FieldRefs::of(Vec::new(alloc)), tokens));
     };
-    match fields_of(alloc, rest) {
+    match listed_of(alloc, rest) {
         Ok((fields, behind)) => Ok((FieldRefs::of(fields), behind)),
         Err(stop) => Err(stop),
     }
@@ -123,7 +125,8 @@ pub fn keys_of(alloc: Global, tokens: &[Token]) -> Result<(FieldRefs, &[Token]),
 
 /// What follows the word `runs`, where it comes first.
 fn after_runs(tokens: &[Token]) -> Option<&[Token]>
-    ensures { MatchOption result (LacksRuns (kinds tokens.now)) (λ rest. RunsComes (kinds tokens.now) (kinds rest.now)) }
+    ensures { MatchOption result (LacksRuns (kinds tokens.now))
+        (λ rest. RunsComes (kinds tokens.now) (kinds rest.now)) }
 {
     let (first, rest) = split(tokens)?;
     match first {
@@ -156,7 +159,8 @@ fn runs_of(tokens: &[Token]) -> Result<(i64, &[Token]), Stop>
 
 /// A term in brackets, with the keys behind it.
 pub fn bracketed_of(alloc: Global, tokens: &[Token]) -> Result<(Bracketed, &[Token]), Stop>
-    ensures { Answers bracketed_view result (bracketed (expr most_open most_levels) (kinds tokens.now)) }
+    ensures { Answers bracketed_view result (bracketed (expr most_open most_levels)
+        (kinds tokens.now)) }
 {
     let Some(inside) = after(Mark::OpenItem, tokens) else {
         return Err(Stop::Syntax(tokens.len()));
@@ -190,7 +194,8 @@ pub fn item_from(found: Bracketed, runs: i64) -> Term
 
 /// An item that is no missing event.
 fn plain_item_of(alloc: Global, tokens: &[Token]) -> Result<(Term, &[Token]), Stop>
-    ensures { Answers term_tree result (plain_item (expr most_open most_levels) (kinds tokens.now)) }
+    ensures { Answers term_tree result
+        (plain_item (expr most_open most_levels) (kinds tokens.now)) }
 {
     let (found, rest) = match bracketed_of(alloc, tokens) {
         Ok(found) => found,

@@ -40,7 +40,8 @@ fn named_pipe<'a>(
     rest: &'a [Token],
 ) -> Result<(PipeText, &'a [Token]), Stop>
     requires { place ≡ suc (length (kinds rest.now)) }
-    ensures { Answers (λ p. p) result (pipe_named word.now (grammar.pipe_of word.now) (kinds rest.now)) }
+    ensures { Answers (λ p. p) result (pipe_named word.now (grammar.pipe_of word.now)
+        (kinds rest.now)) }
 {
     if is_word(word, b"head") {
         return match number_of(rest) {
@@ -109,7 +110,8 @@ fn body_of(alloc: Global, tokens: &[Token]) -> Result<(Body, &[Token]), Stop>
 
 /// Single events.
 fn event_of(alloc: Global, tokens: &[Token]) -> Result<(Body, &[Token]), Stop>
-    ensures { Answers body_tree result (res_map event_view (term (expr most_open most_levels) (kinds tokens.now))) }
+    ensures { Answers body_tree result (res_map event_view
+        (term (expr most_open most_levels) (kinds tokens.now))) }
 {
     match term_of(alloc, tokens) {
         Ok((term, rest)) => {

@@ -52,7 +52,8 @@ pub(crate) fn put_expr(page: &mut Page, expr: &Expr) -> Result<(), Memory>
 #[cycle(put)]
 fn put_behind(page: &mut Page, before: &str, a: &Expr) -> Result<(), Memory>
     requires { IsTrue (all_ascii before.now) }
-    ensures { OnOk result (Adds page.old page.new (λ rest. before.now ++ shown (tree a.now) (41 ∷ rest))) }
+    ensures { OnOk result (Adds page.old page.new (λ rest. before.now ++ shown (tree a.now)
+        (41 ∷ rest))) }
 {
     page.put(before)?;
     put_expr(page, a)?;
@@ -63,7 +64,8 @@ fn put_behind(page: &mut Page, before: &str, a: &Expr) -> Result<(), Memory>
 #[cycle(put)]
 fn put_pattern(page: &mut Page, a: &Expr, between: &str, patterns: &[Text]) -> Result<(), Memory>
     requires { IsTrue (all_ascii between.now) }
-    ensures { OnOk result (Adds page.old page.new (λ rest. 40 ∷ shown (tree a.now) (between.now ++ patterns_shown patterns.now (41 ∷ rest)))) }
+    ensures { OnOk result (Adds page.old page.new (λ rest. 40 ∷ shown (tree a.now)
+        (between.now ++ patterns_shown patterns.now (41 ∷ rest)))) }
 {
     page.put("(")?;
     put_expr(page, a)?;
@@ -72,11 +74,13 @@ fn put_pattern(page: &mut Page, a: &Expr, between: &str, patterns: &[Text]) -> R
     page.put(")")
 }
 
-/// Writes an operand and a list in parentheses, with an operator between that ends in the list's own parenthesis.
+/// Writes an operand and a list in parentheses, with an operator between that ends in the list's
+/// own parenthesis.
 #[cycle(put)]
 fn put_member(page: &mut Page, left: &Expr, between: &str, list: &[Value]) -> Result<(), Memory>
     requires { IsTrue (all_ascii between.now) }
-    ensures { OnOk result (Adds page.old page.new (λ rest. 40 ∷ shown (tree left.now) (between.now ++ literals_shown list.now (41 ∷ 41 ∷ rest)))) }
+    ensures { OnOk result (Adds page.old page.new (λ rest. 40 ∷ shown (tree left.now)
+        (between.now ++ literals_shown list.now (41 ∷ 41 ∷ rest)))) }
 {
     page.put("(")?;
     put_expr(page, left)?;
@@ -88,7 +92,8 @@ fn put_member(page: &mut Page, left: &Expr, between: &str, list: &[Value]) -> Re
 /// Writes a call.
 #[cycle(put)]
 fn put_call(page: &mut Page, name: &Text, fold: bool, arguments: &Exprs) -> Result<(), Memory>
-    ensures { OnOk result (Adds page.old page.new (shown (t.call name.now fold (trees arguments.now)))) }
+    ensures { OnOk result (Adds page.old page.new (shown
+        (t.call name.now fold (trees arguments.now)))) }
 {
     page.put_name(name.text().as_str())?;
     page.put(if fold { "~(" } else { "(" })?;
@@ -100,7 +105,8 @@ fn put_call(page: &mut Page, name: &Text, fold: bool, arguments: &Exprs) -> Resu
 #[cycle(put)]
 fn put_operands(page: &mut Page, between: &str, operands: &Exprs) -> Result<(), Memory>
     requires { IsTrue (all_ascii between.now) }
-    ensures { OnOk result (Adds page.old page.new (λ rest. 40 ∷ all_shown between.now (trees operands.now) (41 ∷ rest))) }
+    ensures { OnOk result (Adds page.old page.new (λ rest. 40 ∷ all_shown between.now
+        (trees operands.now) (41 ∷ rest))) }
 {
     page.put("(")?;
     put_all(page, between, operands)?;

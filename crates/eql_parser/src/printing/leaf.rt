@@ -30,7 +30,8 @@ fn is_control(c: char) -> bool
 
 /// Writes a character by its number.
 fn put_code(page: &mut Page, code: u8) -> Result<(), Memory>
-    ensures { OnOk result (Adds page.old page.new (λ rest. codes "\\u{" ++ hex_digit (code / 16) ∷ hex_digit (code % 16) ∷ 125 ∷ rest)) }
+    ensures { OnOk result (Adds page.old page.new (λ rest.
+        codes "\\u{" ++ hex_digit (code / 16) ∷ hex_digit (code % 16) ∷ 125 ∷ rest)) }
 {
     page.put("\\u{")?;
     page.put_char(hex_digit(code / 16))?;

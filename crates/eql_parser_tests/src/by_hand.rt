@@ -1,7 +1,8 @@
-//! Queries built by hand, and their canonical texts.
+//! Queries built by hand, with their canonical texts and their parts, and refusals made by hand.
+use eql_lexer::LexRefused;
 use eql_parser::{
-    Body, CmpOp, Expr, Exprs, FieldRef, FieldRefs, MathOp, PatOp, PipeText, PipeTexts, Query, Span,
-    Term, Terms, Unit, print,
+    Body, CmpOp, Expr, Exprs, FieldRef, FieldRefs, MathOp, ParseRefused, PatOp, PipeText,
+    PipeTexts, Query, Span, Term, Terms, Unit, print,
 };
 use eql_values::{Literals, Text, Texts, Value};
 use std::alloc::{AllocError, Global};
@@ -154,5 +155,39 @@ fn condition(rt: HostRuntime) -> Result<(), Fail> {
         printed.text().as_str(),
         "any where ((`p` not in~ (-7, true)) or (not (null like \"a\\n\\u{1b}\\\"\")) or (length(\"é\", 2) >= (5 % (-3))))"
     );
+    Ok(())
+}
+
+#[test]
+fn parts(rt: HostRuntime) -> Result<(), Fail> {
+    let alloc = rt.alloc();
+    let query = Query {
+        body: sequence(alloc)?,
+        pipes: pipes(alloc)?,
+    };
+    let (body, pipes) = query.into_parts();
+    assert_eq!(rt; pipes.into_items().len(), 2);
+    let (by, span, items, until) = body.into_sequence().ok_or("no sequence")?;
+    assert_eq!(rt; by.items().len(), 2);
+    assert!(rt; span.is_some() && until.is_some());
+    assert_eq!(rt; items.items().len(), 1);
+    let (body, _) = event(alloc, None, Expr::Bool(true)).into_parts();
+    let (category, cond, by, runs) = body.into_event().ok_or("no event")?.into_parts();
+    assert!(rt; category.is_none() && matches!(&cond, Expr::Bool(true)));
+    assert!(rt; by.items().is_empty() && runs == 1);
+    Ok(())
+}
+
+#[test]
+fn messages(rt: HostRuntime) -> Result<(), Fail> {
+    let alloc = rt.alloc();
+    let word = text(alloc, "a\n\u{1b}b")?;
+    let refused = ParseRefused::LeftOut { word, at: 3 };
+    let line = refused.message(alloc).ok().ok_or("no memory")?;
+    assert_eq!(rt; line.as_str(), "parse: LeftOut a\\n\\u{1b}b at 3");
+    let line = ParseRefused::Memory.message(alloc).ok().ok_or("no memory")?;
+    assert_eq!(rt; line.as_str(), "parse: Memory");
+    let line = LexRefused::Memory.message(alloc).ok().ok_or("no memory")?;
+    assert_eq!(rt; line.as_str(), "lex: Memory");
     Ok(())
 }

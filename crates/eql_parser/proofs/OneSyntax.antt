@@ -1,0 +1,55 @@
+-- Tokens have at most one place at which no query goes on.
+use Rattle.std.proofs.Common.{◌≡◌, ℕ, ◌<◌, ◌≤◌, ◌⊎◌, inl, inr, List, [], ◌∷◌, ◌++◌, length, refl, sym, ap, subst, ◌∙◌, arith, length-append, append_assoc}
+use Rattle.eql_lexer.specs.declared.token.Token.{Token}
+use Rattle.eql_parser.specs.QueryTree.{QueryTree}
+use Rattle.eql_parser.specs.Kinds.{Kind, kind, kinds}
+use Rattle.eql_parser.specs.QueryGrammar.{Reads}
+use Rattle.eql_parser.specs.Refusing.{Begins, NoQueryBegins, Split, through, end_of, IsSyntax}
+use Rattle.eql_parser.proofs.Agrees.{which}
+use Rattle.eql_parser.proofs.Causes.{kinds_both}
+
+-- a list that begins so goes on like this
+abbrev IsFront : List Kind → List Kind → Type 0
+IsFront front all = (more : List Kind) × (all ≡ front ++ more)
+
+none_in : (front all : List Kind) → IsFront front all → NoQueryBegins front → Begins all → ⊥
+none_in front all f none b = none (f.0 ++ b.rest) b.query (subst (λ l. Reads l b.query) (ap (λ l. l ++ b.rest) f.1 ∙ append_assoc front f.0 b.rest) b.reads)
+
+through_all : {tokens : List Token} {at : ℕ} (s : Split tokens at) → kinds tokens ≡ through s ++ kinds s.behind
+through_all s = ap kinds s.whole ∙ kinds_both s.before (s.here ∷ s.behind) ∙ sym (append_assoc (kinds s.before) (kinds (s.here ∷ [])) (kinds s.behind))
+
+-- of two cuts of a list, the one that comes first lies in front of the other, or they are the same
+cut_front : (a b : List Token) (t u : Token) (c d : List Token) → a ++ t ∷ c ≡ b ++ u ∷ d → length a < length b → IsFront (kinds a ++ kinds (t ∷ [])) (kinds b)
+cut_front [] [] t u c d e h = absurd (omega (arith, h))
+cut_front [] (v ∷ b) t u c d e h = let same : t ≡ v = cc in (kinds b, ap (λ x. kind x.tok ∷ kinds b) (sym same))
+cut_front (w ∷ a) [] t u c d e h = absurd (omega (arith, h))
+cut_front (w ∷ a) (v ∷ b) t u c d e h =
+    let same : w ≡ v = cc in
+    let tails : a ++ t ∷ c ≡ b ++ u ∷ d = cc in
+    let more = cut_front a b t u c d tails (omega (arith, h)) in
+    (more.0, ap (λ x. kind x.tok ∷ kinds b) (sym same) ∙ ap (λ l. kind w.tok ∷ l) more.1)
+
+same_here : (a b : List Token) (t u : Token) (c d : List Token) → a ++ t ∷ c ≡ b ++ u ∷ d → length a ≡ length b → t ≡ u
+same_here [] [] t u c d e h = cc
+same_here [] (v ∷ b) t u c d e h = absurd (omega (arith, h))
+same_here (w ∷ a) [] t u c d e h = absurd (omega (arith, h))
+same_here (w ∷ a) (v ∷ b) t u c d e h = let tails : a ++ t ∷ c ≡ b ++ u ∷ d = cc in same_here a b t u c d tails (omega (arith, h))
+
+two_splits : (tokens : List Token) (at to : ℕ) (s : Split tokens at) (r : Split tokens to) → NoQueryBegins (through s) → NoQueryBegins (through r) → Begins (kinds s.before) → Begins (kinds r.before)
+    → (length s.before < length r.before) ⊎ (length r.before ≤ length s.before) → (length r.before < length s.before) ⊎ (length s.before ≤ length r.before) → at ≡ to
+two_splits tokens at to s r n m b c (inl h) k = absurd (none_in (through s) (kinds r.before) (cut_front s.before r.before s.here r.here s.behind r.behind (sym s.whole ∙ r.whole) h) n c)
+two_splits tokens at to s r n m b c (inr h) (inl k) = absurd (none_in (through r) (kinds s.before) (cut_front r.before s.before r.here s.here r.behind s.behind (sym r.whole ∙ s.whole) k) m b)
+two_splits tokens at to s r n m b c (inr h) (inr k) =
+    let same : s.here ≡ r.here = same_here s.before r.before s.here r.here s.behind r.behind (sym s.whole ∙ r.whole) (omega (arith, h, k)) in
+    sym s.starts ∙ ap (λ t. t.start) same ∙ r.starts
+
+before_end : (tokens : List Token) (at : ℕ) (s : Split tokens at) → NoQueryBegins (through s) → Begins (kinds tokens) → ⊥
+before_end tokens at s n b = none_in (through s) (kinds tokens) (kinds s.behind, through_all s) n b
+
+-- the place of `Syntax` is determined
+pub one_syntax : (tokens : List Token) (at to : ℕ) → IsSyntax tokens at → IsSyntax tokens to → at ≡ to
+one_syntax tokens at to (inl (s, b, n)) (inl (r, c, m)) =
+    two_splits tokens at to s r n m b c (which (length s.before) (length r.before)) (which (length r.before) (length s.before))
+one_syntax tokens at to (inl (s, b, n)) (inr (e, c, m)) = absurd (before_end tokens at s n c)
+one_syntax tokens at to (inr (e, c, m)) (inl (s, b, n)) = absurd (before_end tokens to s n c)
+one_syntax tokens at to (inr (e, c, m)) (inr (f, d, n)) = e ∙ sym f

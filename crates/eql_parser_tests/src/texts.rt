@@ -1,0 +1,247 @@
+//! Texts with their tokens, and texts with the canonical text of their query, or the line by which
+//! they are refused.
+use eql_lexer::{Tok, Token, Tokens, lex};
+use eql_parser::{Query, copy_query, parse, print};
+use eql_values::Memory;
+use std::alloc::{AllocError, Global};
+use std::test::Fail;
+
+/// A line that was made.
+fn made(line: Result<String, Memory>) -> Result<String, Fail> {
+    match line {
+        Ok(line) => Ok(line),
+        Err(_) => Err(Fail::from("no memory")),
+    }
+}
+
+/// A token with its place.
+fn token_text(alloc: Global, token: &Token) -> Result<String, AllocError> {
+    let tok = match &token.tok {
+        Tok::Word(text) => format!(in alloc; "word {}", text.text())?,
+        Tok::Back(text) => format!(in alloc; "back {}", text.text())?,
+        Tok::Str(text) => format!(in alloc; "str {}", text.text())?,
+        Tok::Num(value) => format!(in alloc; "num {value}")?,
+        Tok::Sign(sign) => format!(in alloc; "{sign:?}")?,
+    };
+    format!(in alloc; "{tok} {}..{}; ", token.start, token.end)
+}
+
+/// The tokens of a text with their places, or its refusal.
+fn tokens_of(alloc: Global, text: &[u8]) -> Result<String, Fail> {
+    let tokens = match lex(alloc, text) {
+        Ok(tokens) => Tokens::of(tokens.into_items()),
+        Err(refused) => return made(refused.message(alloc)),
+    };
+    let mut line = String::new(alloc);
+    for token in tokens.items().iter() {
+        line.push_str(token_text(alloc, token)?.as_str())?;
+    }
+    Ok(line)
+}
+
+/// The canonical text of a copy of a query.
+fn printed(alloc: Global, query: &Query) -> Result<String, Fail> {
+    let Ok(copy) = copy_query(alloc, query) else {
+        return Err(Fail::from("no memory"));
+    };
+    match print(alloc, &copy) {
+        Ok(text) => Ok(String::from_str(alloc, text.text().as_str())?),
+        Err(_) => Err(Fail::from("no memory")),
+    }
+}
+
+/// The canonical text of the query that a text is, or its refusal.
+fn canonical(alloc: Global, text: &str) -> Result<String, Fail> {
+    let tokens = match lex(alloc, text.as_bytes()) {
+        Ok(tokens) => tokens,
+        Err(refused) => return made(refused.message(alloc)),
+    };
+    match parse(alloc, &tokens) {
+        Ok(query) => printed(alloc, &query),
+        Err(refused) => made(refused.message(alloc)),
+    }
+}
+
+#[test]
+fn texts_have_these_tokens(rt: HostRuntime) -> Result<(), Fail> {
+    let table: [(&[u8], &str); 21] = [
+        (
+            b"any where like~ @x",
+            "word any 0..3; word where 4..9; word like~ 10..15; word @x 16..18; ",
+        ),
+        (b"`a``b` `c d`", "back a`b 0..6; back c d 7..12; "),
+        (
+            b"\"a\\n\\\"\\u{e9}\" \"\"\"x\\\"\"\"",
+            "str a\n\"\u{e9} 0..13; str x\\ 14..22; ",
+        ),
+        (b"\"\\t\\\\\"", "str \t\\ 0..6; "),
+        (
+            b"<= < == = != ! >= >",
+            "AtMost 0..2; Less 3..4; Equal 5..7; Assign 8..9; NotEqual 10..12; Bang 13..14; AtLeast 15..17; Greater 18..19; ",
+        ),
+        (
+            b"1 // 2\n/* 3 **/9223372036854775807",
+            "num 1 0..1; num 9223372036854775807 15..34; ",
+        ),
+        (b"1 // 2\r3\n4", "num 1 0..1; num 4 9..10; "),
+        (
+            b"()[],.|?:+-*/%",
+            "Open 0..1; Close 1..2; OpenBracket 2..3; CloseBracket 3..4; Comma 4..5; Dot 5..6; Bar 6..7; Question 7..8; Colon 8..9; Plus 9..10; Minus 10..11; Star 11..12; Slash 12..13; Percent 13..14; ",
+        ),
+        (b"any where x == \"a", "lex: OpenString at 15"),
+        (b"\"a\\q", "lex: OpenString at 0"),
+        (b"x ``", "lex: OpenString at 2"),
+        (b"\"\"\"a\"\"", "lex: OpenString at 0"),
+        (b"\"a\\q\"", "lex: BadEscape at 2"),
+        (b"\"\\u{d800}\"", "lex: BadEscape at 1"),
+        (b"process where process.pid == 1.5", "lex: Fraction at 29"),
+        (b"99999999999999999999.5", "lex: Fraction at 0"),
+        (
+            b"process where process.name == 'a'",
+            "lex: SingleQuote at 30",
+        ),
+        (b"x 9223372036854775808", "lex: NumberRange at 2"),
+        (b"a /* b *", "lex: OpenComment at 2"),
+        (b"a #", "lex: BadByte at 2"),
+        (&[b'a', 255], "lex: NotUtf8"),
+    ];
+    for (text, expected) in table {
+        let got = tokens_of(rt.alloc(), text)?;
+        assert_eq!(rt; got.as_str(), expected);
+    }
+    Ok(())
+}
+
+#[test]
+fn most_bytes(rt: HostRuntime) -> Result<(), Fail> {
+    let mut text = Vec::new(rt.alloc());
+    for _ in 0..65536 {
+        text.push(b' ')?;
+    }
+    let most = tokens_of(rt.alloc(), text.as_slice())?;
+    assert_eq!(rt; most.as_str(), "");
+    text.push(b' ')?;
+    let more = tokens_of(rt.alloc(), text.as_slice())?;
+    assert_eq!(rt; more.as_str(), "lex: TooLong");
+    Ok(())
+}
+
+#[test]
+fn queries_have_these_canonical_texts(rt: HostRuntime) -> Result<(), Fail> {
+    let table = [
+        (
+            "sequence by host.id with maxspan=1m [process where true] by ?user with runs=3 [\"a b\" where 1 == 1] until [any where false] | head 5 | tail 2",
+            "sequence by `host.id` with maxspan=1m [\"process\" where true] by ?`user` with runs=3 [\"a b\" where (1 == 1)] until [any where false] | head 5 | tail 2",
+        ),
+        (
+            "sequence by a, b.c with maxspan=1m [any where true] until [\"x y\" where false]",
+            "sequence by `a`, `b.c` with maxspan=1m [any where true] until [\"x y\" where false]",
+        ),
+        (
+            "process where process.name == \"a\" and not process.pid in (1,2)",
+            "\"process\" where ((`process.name` == \"a\") and (not (`process.pid` in (1, 2))))",
+        ),
+        ("any where a == b == c", "parse: Syntax at 17"),
+        (
+            "sequence [process where true] ![file where true]",
+            "parse: LeftOut ! at 30",
+        ),
+        (
+            "sample by user.name [process where true]",
+            "parse: LeftOut sample at 0",
+        ),
+        (
+            "process where process.name regex \"a\"",
+            "parse: LeftOut regex at 27",
+        ),
+        ("any where 1 | sort a", "parse: LeftOut sort at 14"),
+        (
+            "sequence with maxspan=5 nanos [a where true]",
+            "parse: LeftOut nanos at 24",
+        ),
+        ("any where number(\"1\", 2)", "parse: LeftOut number at 10"),
+        ("any where", "parse: Syntax at 9"),
+        ("", "parse: Syntax at 0"),
+        ("until where true", "parse: Syntax at 0"),
+        ("any where a in ()", "parse: Syntax at 16"),
+        ("any where not", "parse: Syntax at 13"),
+        ("any where 'a'", "lex: SingleQuote at 10"),
+    ];
+    for (text, expected) in table {
+        let got = canonical(rt.alloc(), text)?;
+        assert_eq!(rt; got.as_str(), expected);
+    }
+    Ok(())
+}
+
+#[test]
+fn conditions_have_these_canonical_texts(rt: HostRuntime) -> Result<(), Fail> {
+    let table = [
+        ("null", "null"),
+        ("true", "true"),
+        ("7", "7"),
+        ("\"a\"", "\"a\""),
+        ("a.`b c`.where", "`a.b c.where`"),
+        ("?a", "?`a`"),
+        ("not a and b", "((not `a`) and `b`)"),
+        ("not (a and b)", "(not (`a` and `b`))"),
+        ("a and b or c", "((`a` and `b`) or `c`)"),
+        ("a < -1 + 2", "(`a` < ((-1) + 2))"),
+        ("a <= b", "(`a` <= `b`)"),
+        ("a == b", "(`a` == `b`)"),
+        ("a != b", "(`a` != `b`)"),
+        ("a >= b", "(`a` >= `b`)"),
+        ("a > b", "(`a` > `b`)"),
+        ("a : \"x*\"", "(`a` : \"x*\")"),
+        ("a like (\"x\", \"y\")", "(`a` like (\"x\", \"y\"))"),
+        ("a like~ \"x\"", "(`a` like~ \"x\")"),
+        ("a in (1, -2, \"x\", true)", "(`a` in (1, -2, \"x\", true))"),
+        ("a in~ (\"x\")", "(`a` in~ (\"x\"))"),
+        ("a not in (1)", "(`a` not in (1))"),
+        ("a not in~ (1)", "(`a` not in~ (1))"),
+        ("-a", "(-`a`)"),
+        ("1 + 2 * 3", "(1 + (2 * 3))"),
+        ("1 - 2 - 3", "((1 - 2) - 3)"),
+        ("1 * 2 / 3", "((1 * 2) / 3)"),
+        ("1 % 2", "(1 % 2)"),
+        ("length()", "length()"),
+        ("startsWith~(a, \"x\")", "startsWith~(`a`, \"x\")"),
+    ];
+    for (condition, expected) in table {
+        let text = format!(in rt.alloc(); "any where {condition}")?;
+        let wanted = format!(in rt.alloc(); "any where {expected}")?;
+        let got = canonical(rt.alloc(), text.as_str())?;
+        assert_eq!(rt; got.as_str(), wanted.as_str());
+    }
+    Ok(())
+}
+
+/// A condition between so many of two texts.
+fn nested(alloc: Global, open: &str, count: usize, close: &str) -> Result<String, AllocError> {
+    let mut text = String::from_str(alloc, "any where ")?;
+    for _ in 0..count {
+        text.push_str(open)?;
+    }
+    text.push_str("true")?;
+    for _ in 0..count {
+        text.push_str(close)?;
+    }
+    Ok(text)
+}
+
+#[test]
+fn limits_of_depth(rt: HostRuntime) -> Result<(), Fail> {
+    let table = [
+        ("not ", 63, "", "any where (not "),
+        ("not ", 64, "", "parse: TooDeep at 266"),
+        ("not ", 65, "", "parse: TooDeep at 266"),
+        ("(", 128, ")", "any where true"),
+        ("(", 129, ")", "parse: TooDeep at 138"),
+    ];
+    for (open, count, close, expected) in table {
+        let text = nested(rt.alloc(), open, count, close)?;
+        let got = canonical(rt.alloc(), text.as_str())?;
+        assert!(rt; got.as_str().starts_with(expected));
+    }
+    Ok(())
+}
