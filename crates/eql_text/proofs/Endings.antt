@@ -3,21 +3,21 @@ use Rattle.std.proofs.Common.{◌≡◌, ℕ, Bool, true, false, List, [], ◌�
 use Rattle.eql_text.specs.Folding.{same}
 use Rattle.eql_text.specs.Comparing.{equal, ends}
 
-and_or : (a b c : Bool) → (a && c) || (b && c) ≡ (a || b) && c
+pub and_or : (a b c : Bool) → (a && c) || (b && c) ≡ (a || b) && c
 and_or true b true = refl
 and_or true true false = refl
 and_or true false false = refl
 and_or false b c = refl
 
-and_assoc : (a b c : Bool) → a && (b && c) ≡ (a && b) && c
+pub and_assoc : (a b c : Bool) → a && (b && c) ≡ (a && b) && c
 and_assoc true b c = refl
 and_assoc false b c = refl
 
-and_false : (b : Bool) → b && false ≡ false
+pub and_false : (b : Bool) → b && false ≡ false
 and_false true = refl
 and_false false = refl
 
-and_true : (b : Bool) → b && true ≡ b
+pub and_true : (b : Bool) → b && true ≡ b
 and_true true = refl
 and_true false = refl
 

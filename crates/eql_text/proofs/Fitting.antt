@@ -1,72 +1,52 @@
--- Patterns: what lies before the first `*` is taken at its first place.
-use Rattle.std.proofs.Common.{◌≡◌, ℕ, zero, suc, ◌+◌, ◌<◌, Bool, true, false, List, [], ◌∷◌, ◌&&◌, ◌||◌, cond, eqb, drop, length, refl, sym, ap, ◌∙◌, subst, arith, inl, inr}
+-- Patterns: the parts between stars, and the part behind the last one.
+use Rattle.std.proofs.Common.{◌≡◌, ℕ, zero, suc, ◌+◌, ◌-◌, ◌≤◌, Bool, true, false, List, [], ◌∷◌, ◌++◌, ◌&&◌, ◌||◌, cond, eqb, drop, length, refl, sym, ap, ◌∙◌, subst, arith, inl, inr, Some, None}
 use Rattle.std.proofs.lemmas.Bool.{and_parts, or_cases, false≢true}
-use Rattle.std.proofs.lemmas.List.{length-drop}
-use Rattle.std.proofs.lemmas.Bool.Decides.{nat_tests}
-use Rattle.eql_text.specs.Comparing.{any_end}
-use Rattle.eql_text.specs.Wildcards.{wildcard, fits, fits_first}
-use Rattle.eql_text.specs.Comparing.{is_empty}
-use Rattle.eql_text.specs.Fronts.{HasStar, Reaches}
-use Rattle.eql_text.proofs.Dropping.{drop_more}
+use Rattle.std.specs.Str.{NonePass}
+use Rattle.eql_text.specs.Folding.{same}
+use Rattle.eql_text.specs.Comparing.{any_end, starts, is_empty}
+use Rattle.eql_text.specs.Placing.{place_from}
+use Rattle.eql_text.specs.Wildcards.{wildcard, fits}
+use Rattle.eql_text.specs.Fronts.{begins_fit}
+use Rattle.eql_text.proofs.Endings.{and_or, and_assoc, and_false, and_true}
 
--- some characters of p and as many of t were gone over, none of them a `*`; p' and t' are left
-pub record Passed (fold : Bool) (p t p' t' : List ℕ) : Type 0 where
-  pub count : ℕ
-  pub left : t' ≡ drop count t
-  pub star : (k : ℕ) (q : List ℕ) → HasStar k p' q → HasStar (k + count) p q
-  pub same : wildcard fold p t ≡ wildcard fold p' t'
+abbrev pub NoStar : List ℕ → Type 0
+NoStar p = NonePass (λ c. eqb c 42) p
 
-apart : (a b : ℕ) → (a ≡ b → ⊥) → eqb a b ≡ false
-apart a b h = grind (arith, nat_tests)
+-- the pattern p has its first `*` behind n characters, and q follows it
+abbrev HasStar : ℕ → List ℕ → List ℕ → Type 0
+HasStar n [] q = ⊥
+HasStar zero (d ∷ p) q = (d ≡ 42) × (p ≡ q)
+HasStar (suc n) (d ∷ p) q = (eqb d 42 ≡ false) × HasStar n p q
 
--- ---- one character against one
-star_first : (fold : Bool) (p t : List ℕ) → wildcard fold (42 ∷ p) t ≡ any_end (wildcard fold p) t
-star_first fold p t = refl
+star_behind : (p q : List ℕ) → NoStar p → HasStar (length p) (p ++ (42 ∷ q)) q
+star_behind [] q h = (refl, refl)
+star_behind (d ∷ p) q h = (h.0, star_behind p q h.1)
 
-other_first : (fold : Bool) (d : ℕ) (p t : List ℕ) → (d ≡ 42 → ⊥) → wildcard fold (d ∷ p) t ≡ fits_first fold d (wildcard fold p) t
-other_first fold d p t h = ap (λ b. cond b (any_end (wildcard fold p) t) (fits_first fold d (wildcard fold p) t)) (apart d 42 h)
+-- ---- a part without a star
 
--- ---- going over the front
-pub passed_none : (fold : Bool) (p t : List ℕ) → Passed fold p t p t
-passed_none fold p t = record {
-  count = 0;
-  left = refl;
-  star = λ k q h. let P : ℕ → Type 0 = λ n. HasStar n p q in subst P (omega arith) h;
-  same = refl;
-}
+pub before_star : (fold : Bool) (p q t : List ℕ) → NoStar p → wildcard fold (p ++ (42 ∷ q)) t ≡ begins_fit fold t p && any_end (wildcard fold q) (drop (length p) t)
+before_star fold [] q t h = refl
+before_star fold (d ∷ p) q [] h = ap (λ b. cond b (any_end (wildcard fold (p ++ (42 ∷ q))) []) false) h.0
+before_star fold (d ∷ p) q (c ∷ t) h =
+    ap (λ b. cond b (any_end (wildcard fold (p ++ (42 ∷ q))) (c ∷ t)) (fits fold d c && wildcard fold (p ++ (42 ∷ q)) t)) h.0
+    ∙ ap (λ b. fits fold d c && b) (before_star fold p q t h.1)
+    ∙ and_assoc (fits fold d c) (begins_fit fold t p) (any_end (wildcard fold q) (drop (length p) t))
 
-pub passed_more : (fold : Bool) (p t p' t' : List ℕ) → Passed fold p t p' t' → (d c : ℕ) (p'' t'' : List ℕ) → p' ≡ d ∷ p'' → t' ≡ c ∷ t'' → (d ≡ 42 → ⊥) → fits fold d c ≡ true → Passed fold p t p'' t''
-passed_more fold p t p' t' was d c p'' t'' ep et other fit = record {
-  count = suc was.count;
-  left = drop_more was.count c t t'' (sym et ∙ was.left);
-  star = λ k q h.
-      let P : ℕ → Type 0 = λ n. HasStar n p q in
-      let Q : List ℕ → Type 0 = λ r. HasStar (suc k) r q in
-      subst P (omega arith) (was.star (suc k) q (subst Q (sym ep) (apart d 42 other, h)));
-  same = was.same ∙ rw (ep, et) (other_first fold d p'' (c ∷ t'') other ∙ ap (λ b. b && wildcard fold p'' t'') fit);
-}
+pub without_star : (fold : Bool) (p t : List ℕ) → NoStar p → wildcard fold p t ≡ begins_fit fold t p && is_empty (drop (length p) t)
+without_star fold [] t h = refl
+without_star fold (d ∷ p) [] h = ap (λ b. cond b (any_end (wildcard fold p) []) false) h.0
+without_star fold (d ∷ p) (c ∷ t) h =
+    ap (λ b. cond b (any_end (wildcard fold p) (c ∷ t)) (fits fold d c && wildcard fold p t)) h.0
+    ∙ ap (λ b. fits fold d c && b) (without_star fold p t h.1)
+    ∙ and_assoc (fits fold d c) (begins_fit fold t p) (is_empty (drop (length p) t))
 
-pub passed_star : (fold : Bool) (p t p' t' q : List ℕ) → Passed fold p t p' t' → p' ≡ 42 ∷ q → Reaches fold p t q t'
-passed_star fold p t p' t' q was e = record {
-  place = was.count;
-  star =
-      let P : ℕ → Type 0 = λ n. HasStar n p q in
-      let Q : List ℕ → Type 0 = λ r. HasStar 0 r q in
-      subst P (omega arith) (was.star 0 q (subst Q (sym e) (refl, refl)));
-  left = was.left;
-  fits = was.same ∙ ap (λ r. wildcard fold r t') e;
-}
-
-pub passed_end : (fold : Bool) (p t p' t' : List ℕ) → Passed fold p t p' t' → p' ≡ [] → wildcard fold p t ≡ is_empty t'
-passed_end fold p t p' t' was e = was.same ∙ ap (λ r. wildcard fold r t') e
-
--- no character is left for d, or one that it doesn't fit
-pub passed_short : (fold : Bool) (p t p' t' : List ℕ) → Passed fold p t p' t' → (d : ℕ) (p'' : List ℕ) → p' ≡ d ∷ p'' → t' ≡ [] → (d ≡ 42 → ⊥) → wildcard fold p t ≡ false
-passed_short fold p t p' t' was d p'' ep et other = was.same ∙ rw (ep, et) (other_first fold d p'' [] other)
-
-pub passed_unlike : (fold : Bool) (p t p' t' : List ℕ) → Passed fold p t p' t' → (d c : ℕ) (p'' t'' : List ℕ) → p' ≡ d ∷ p'' → t' ≡ c ∷ t'' → (d ≡ 42 → ⊥) → fits fold d c ≡ false → wildcard fold p t ≡ false
-passed_unlike fold p t p' t' was d c p'' t'' ep et other unfit =
-    was.same ∙ rw (ep, et) (other_first fold d p'' (c ∷ t'') other ∙ ap (λ b. b && wildcard fold p'' t'') unfit)
+-- where it has no `?` it fits what begins with it
+pub plain_fit : (fold : Bool) (t p : List ℕ) → NonePass (λ c. eqb c 63) p → begins_fit fold t p ≡ starts fold t p
+plain_fit fold t [] h = refl
+plain_fit fold [] (d ∷ p) h = refl
+plain_fit fold (c ∷ t) (d ∷ p) h =
+    ap (λ b. (b || same fold c d) && begins_fit fold t p) h.0
+    ∙ ap (λ b. same fold c d && b) (plain_fit fold t p h.1)
 
 -- ---- the key: where the part between two stars fits, all that follows may as well begin there
 
@@ -122,18 +102,135 @@ both_ways true b f g = sym (f refl)
 both_ways false true f g = g refl
 both_ways false false f g = refl
 
-pub ends_reached : (fold : Bool) (p t q u : List ℕ) → Reaches fold p t q u → any_end (wildcard fold p) t ≡ any_end (wildcard fold q) u
-ends_reached fold p t q u r =
-    both_ways (any_end (wildcard fold p) t) (any_end (wildcard fold q) u)
-    (λ w. ap (any_end (wildcard fold q)) r.left ∙ some_end_behind fold r.place p q t r.star w)
-    (λ w. any_end_whole (wildcard fold p) t (r.fits ∙ w))
+-- a part that fits here may as well be taken here
+pub some_end_here : (fold : Bool) (p q t : List ℕ) → NoStar p → begins_fit fold t p ≡ true → any_end (wildcard fold (p ++ (42 ∷ q))) t ≡ any_end (wildcard fold q) (drop (length p) t)
+some_end_here fold p q t h f =
+    both_ways (any_end (wildcard fold (p ++ (42 ∷ q))) t) (any_end (wildcard fold q) (drop (length p) t))
+    (λ w. some_end_behind fold (length p) (p ++ (42 ∷ q)) q t (star_behind p q h) w)
+    (λ w. any_end_whole (wildcard fold (p ++ (42 ∷ q))) t (before_star fold p q t h ∙ ap (λ b. b && any_end (wildcard fold q) (drop (length p) t)) f ∙ w))
 
--- what follows the `*` is shorter, and no more is left of the text
-star_shorter : (n : ℕ) (p q : List ℕ) → HasStar n p q → length q < length p
-star_shorter n [] q h = absurd h
-star_shorter zero (d ∷ p) q h = omega (arith, ap length h.1)
-star_shorter (suc n) (d ∷ p) q h = omega (arith, star_shorter n p q h.1)
+pub some_end_later : (fold : Bool) (p q t : List ℕ) (c : ℕ) → NoStar p → begins_fit fold (c ∷ t) p ≡ false → any_end (wildcard fold (p ++ (42 ∷ q))) (c ∷ t) ≡ any_end (wildcard fold (p ++ (42 ∷ q))) t
+some_end_later fold p q t c h f =
+    ap (λ b. b || any_end (wildcard fold (p ++ (42 ∷ q))) t)
+    (before_star fold p q (c ∷ t) h ∙ ap (λ b. b && any_end (wildcard fold q) (drop (length p) (c ∷ t))) f)
 
-pub reached_shorter : (fold : Bool) (p t q u : List ℕ) → Reaches fold p t q u → length q + length u < length p + length t
-reached_shorter fold p t q u r =
-    omega (arith, star_shorter r.place p q r.star, ap length r.left, length-drop r.place t)
+pub some_end_never : (fold : Bool) (p q : List ℕ) → NoStar p → begins_fit fold [] p ≡ false → any_end (wildcard fold (p ++ (42 ∷ q))) [] ≡ false
+some_end_never fold p q h f = before_star fold p q [] h ∙ ap (λ b. b && any_end (wildcard fold q) (drop (length p) [])) f
+
+-- ---- a part without `?` at its first place
+
+place_least : (fold : Bool) (n k : ℕ) (t p : List ℕ) → place_from fold n t p ≡ Some k → n ≤ k
+place_least fold n k [] p e = one (starts fold [] p) e
+  where
+    one : (b : Bool) → cond b (Some n) None ≡ Some k → n ≤ k
+    one true f = let same_place : n ≡ k = cc in omega arith
+    one false f = cc
+place_least fold n k (c ∷ t) p e = one (λ f. place_least fold (n + 1) k t p f) (starts fold (c ∷ t) p) e
+  where
+    one : (place_from fold (n + 1) t p ≡ Some k → n + 1 ≤ k) → (b : Bool) → cond b (Some n) (place_from fold (n + 1) t p) ≡ Some k → n ≤ k
+    one more true f = let same_place : n ≡ k = cc in omega arith
+    one more false f = let next : n + 1 ≤ k = more f in omega arith
+
+pub some_end_placed : (fold : Bool) (n k : ℕ) (p q t : List ℕ) → NoStar p → NonePass (λ c. eqb c 63) p → place_from fold n t p ≡ Some k → any_end (wildcard fold (p ++ (42 ∷ q))) t ≡ any_end (wildcard fold q) (drop (k - n + length p) t)
+some_end_placed fold n k p q [] h m e = one (starts fold [] p) refl
+  where
+    one : (b : Bool) → starts fold [] p ≡ b → any_end (wildcard fold (p ++ (42 ∷ q))) [] ≡ any_end (wildcard fold q) (drop (k - n + length p) [])
+    one true f =
+        let is : Some n ≡ Some k = ap (λ b. cond b (Some n) None) (sym f) ∙ e in
+        let same_place : n ≡ k = cc in
+        let at : length p ≡ k - n + length p = omega arith in
+        some_end_here fold p q [] h (plain_fit fold [] p m ∙ f) ∙ ap (λ j. any_end (wildcard fold q) (drop j [])) at
+    one false f = let is : None ≡ Some k = ap (λ b. cond b (Some n) None) (sym f) ∙ e in cc
+some_end_placed fold n k p q (c ∷ t) h m e = one (λ f. some_end_placed fold (n + 1) k p q t h m f) (starts fold (c ∷ t) p) refl
+  where
+    one : (place_from fold (n + 1) t p ≡ Some k → any_end (wildcard fold (p ++ (42 ∷ q))) t ≡ any_end (wildcard fold q) (drop (k - (n + 1) + length p) t)) → (b : Bool) → starts fold (c ∷ t) p ≡ b → any_end (wildcard fold (p ++ (42 ∷ q))) (c ∷ t) ≡ any_end (wildcard fold q) (drop (k - n + length p) (c ∷ t))
+    one more true f =
+        let is : Some n ≡ Some k = ap (λ b. cond b (Some n) (place_from fold (n + 1) t p)) (sym f) ∙ e in
+        let same_place : n ≡ k = cc in
+        let at : length p ≡ k - n + length p = omega arith in
+        some_end_here fold p q (c ∷ t) h (plain_fit fold (c ∷ t) p m ∙ f) ∙ ap (λ j. any_end (wildcard fold q) (drop j (c ∷ t))) at
+    one more false f =
+        let is : place_from fold (n + 1) t p ≡ Some k = ap (λ b. cond b (Some n) (place_from fold (n + 1) t p)) (sym f) ∙ e in
+        let least : n + 1 ≤ k = place_least fold (n + 1) k t p is in
+        let at : suc (k - (n + 1) + length p) ≡ k - n + length p = omega arith in
+        some_end_later fold p q t c h (plain_fit fold (c ∷ t) p m ∙ f) ∙ more is ∙ ap (λ j. any_end (wildcard fold q) (drop j (c ∷ t))) at
+
+pub some_end_nowhere : (fold : Bool) (n : ℕ) (p q t : List ℕ) → NoStar p → NonePass (λ c. eqb c 63) p → place_from fold n t p ≡ None → any_end (wildcard fold (p ++ (42 ∷ q))) t ≡ false
+some_end_nowhere fold n p q [] h m e = one (starts fold [] p) refl
+  where
+    one : (b : Bool) → starts fold [] p ≡ b → any_end (wildcard fold (p ++ (42 ∷ q))) [] ≡ false
+    one true f = let is : Some n ≡ None = ap (λ b. cond b (Some n) None) (sym f) ∙ e in cc
+    one false f = some_end_never fold p q h (plain_fit fold [] p m ∙ f)
+some_end_nowhere fold n p q (c ∷ t) h m e = one (λ f. some_end_nowhere fold (n + 1) p q t h m f) (starts fold (c ∷ t) p) refl
+  where
+    one : (place_from fold (n + 1) t p ≡ None → any_end (wildcard fold (p ++ (42 ∷ q))) t ≡ false) → (b : Bool) → starts fold (c ∷ t) p ≡ b → any_end (wildcard fold (p ++ (42 ∷ q))) (c ∷ t) ≡ false
+    one more true f = let is : Some n ≡ None = ap (λ b. cond b (Some n) (place_from fold (n + 1) t p)) (sym f) ∙ e in cc
+    one more false f =
+        some_end_later fold p q t c h (plain_fit fold (c ∷ t) p m ∙ f)
+        ∙ more (ap (λ b. cond b (Some n) (place_from fold (n + 1) t p)) (sym f) ∙ e)
+
+-- ---- the part behind the last star, from the end
+
+fits_none : (fold : Bool) (p : List ℕ) (d : ℕ) → NoStar (p ++ (d ∷ [])) → wildcard fold (p ++ (d ∷ [])) [] ≡ false
+fits_none fold [] d h = ap (λ b. cond b (any_end (wildcard fold []) []) false) h.0
+fits_none fold (e ∷ p) d h = ap (λ b. cond b (any_end (wildcard fold (p ++ (d ∷ []))) []) false) h.0
+
+more_left : (c : ℕ) (t : List ℕ) → is_empty (t ++ (c ∷ [])) ≡ false
+more_left c [] = refl
+more_left c (a ∷ t) = refl
+
+fits_last : (fold : Bool) (p t : List ℕ) (c d : ℕ) → NoStar (p ++ (d ∷ [])) → wildcard fold (p ++ (d ∷ [])) (t ++ (c ∷ [])) ≡ wildcard fold p t && fits fold d c
+fits_last fold [] [] c d h = ap (λ b. cond b (any_end (wildcard fold []) (c ∷ [])) (fits fold d c && true)) h.0 ∙ and_true (fits fold d c)
+fits_last fold [] (a ∷ t) c d h =
+    ap (λ b. cond b (any_end (wildcard fold []) (a ∷ (t ++ (c ∷ [])))) (fits fold d a && is_empty (t ++ (c ∷ [])))) h.0
+    ∙ ap (λ b. fits fold d a && b) (more_left c t) ∙ and_false (fits fold d a)
+fits_last fold (e ∷ p) [] c d h =
+    ap (λ b. cond b (any_end (wildcard fold (p ++ (d ∷ []))) (c ∷ [])) (fits fold e c && wildcard fold (p ++ (d ∷ [])) [])) h.0
+    ∙ ap (λ b. fits fold e c && b) (fits_none fold p d h.1) ∙ and_false (fits fold e c)
+    ∙ sym (ap (λ b. cond b (any_end (wildcard fold p) []) false && fits fold d c) h.0)
+fits_last fold (e ∷ p) (a ∷ t) c d h =
+    ap (λ b. cond b (any_end (wildcard fold (p ++ (d ∷ []))) (a ∷ (t ++ (c ∷ [])))) (fits fold e a && wildcard fold (p ++ (d ∷ [])) (t ++ (c ∷ [])))) h.0
+    ∙ ap (λ b. fits fold e a && b) (fits_last fold p t c d h.1) ∙ and_assoc (fits fold e a) (wildcard fold p t) (fits fold d c)
+    ∙ sym (ap (λ b. cond b (any_end (wildcard fold p) (a ∷ t)) (fits fold e a && wildcard fold p t) && fits fold d c) h.0)
+
+ends_fit_last : (fold : Bool) (p t : List ℕ) (c d : ℕ) → NoStar (p ++ (d ∷ [])) → any_end (wildcard fold (p ++ (d ∷ []))) (t ++ (c ∷ [])) ≡ any_end (wildcard fold p) t && fits fold d c
+ends_fit_last fold p [] c d h =
+    ap (λ b. b || wildcard fold (p ++ (d ∷ [])) []) (fits_last fold p [] c d h)
+    ∙ ap (λ b. (wildcard fold p [] && fits fold d c) || b) (fits_none fold p d h) ∙ or_false (wildcard fold p [] && fits fold d c)
+  where
+    or_false : (b : Bool) → b || false ≡ b
+    or_false true = refl
+    or_false false = refl
+ends_fit_last fold p (a ∷ t) c d h =
+    ap (λ b. b || any_end (wildcard fold (p ++ (d ∷ []))) (t ++ (c ∷ []))) (fits_last fold p (a ∷ t) c d h)
+    ∙ ap (λ b. (wildcard fold p (a ∷ t) && fits fold d c) || b) (ends_fit_last fold p t c d h)
+    ∙ and_or (wildcard fold p (a ∷ t)) (any_end (wildcard fold p) t) (fits fold d c)
+
+pub ends_fit_all : (fold : Bool) (t : List ℕ) → any_end (wildcard fold []) t ≡ true
+ends_fit_all fold [] = refl
+ends_fit_all fold (c ∷ t) = ends_fit_all fold t
+
+pub ends_fit_none : (fold : Bool) (p t p' : List ℕ) (d : ℕ) → p ≡ p' ++ (d ∷ []) → t ≡ [] → NoStar p → any_end (wildcard fold p) t ≡ false
+ends_fit_none fold p t p' d ep et h = rw (ep, et) (fits_none fold p' d (subst NoStar ep h))
+
+pub ends_fit_like : (fold : Bool) (p t p' t' : List ℕ) (c d : ℕ) → p ≡ p' ++ (d ∷ []) → t ≡ t' ++ (c ∷ []) → NoStar p → fits fold d c ≡ true → any_end (wildcard fold p) t ≡ any_end (wildcard fold p') t'
+ends_fit_like fold p t p' t' c d ep et h e =
+    rw (ep, et) (ends_fit_last fold p' t' c d (subst NoStar ep h) ∙ ap (λ b. any_end (wildcard fold p') t' && b) e ∙ and_true (any_end (wildcard fold p') t'))
+
+pub ends_fit_unlike : (fold : Bool) (p t p' t' : List ℕ) (c d : ℕ) → p ≡ p' ++ (d ∷ []) → t ≡ t' ++ (c ∷ []) → NoStar p → fits fold d c ≡ false → any_end (wildcard fold p) t ≡ false
+ends_fit_unlike fold p t p' t' c d ep et h e =
+    rw (ep, et) (ends_fit_last fold p' t' c d (subst NoStar ep h) ∙ ap (λ b. any_end (wildcard fold p') t' && b) e ∙ and_false (any_end (wildcard fold p') t'))
+
+none_front : (p : List ℕ) (d : ℕ) → NoStar (p ++ (d ∷ [])) → NoStar p
+none_front [] d h = tt
+none_front (e ∷ p) d h = (h.0, none_front p d h.1)
+
+pub no_star_before : (p p' : List ℕ) (d : ℕ) → p ≡ p' ++ (d ∷ []) → NoStar p → NoStar p'
+no_star_before p p' d e h = none_front p' d (subst NoStar e h)
+
+-- ---- at one place after the other
+pub never_at : (fold : Bool) (p q t : List ℕ) → NoStar p → false ≡ begins_fit fold t p → t ≡ [] → any_end (wildcard fold (p ++ (42 ∷ q))) t ≡ false
+never_at fold p q t h f e = rw e (some_end_never fold p q h (ap (λ u. begins_fit fold u p) (sym e) ∙ sym f))
+
+pub later_at : (fold : Bool) (p q t t' : List ℕ) (c : ℕ) → NoStar p → false ≡ begins_fit fold t p → t ≡ c ∷ t' → any_end (wildcard fold (p ++ (42 ∷ q))) t ≡ any_end (wildcard fold (p ++ (42 ∷ q))) t'
+later_at fold p q t t' c h f e = rw e (some_end_later fold p q t' c h (ap (λ u. begins_fit fold u p) (sym e) ∙ sym f))

@@ -4,6 +4,9 @@ pub mod Equality
 pub mod Endings
 pub mod Finding
 pub mod Fitting
+pub mod Repeating
+pub mod Laying
+pub mod Searching
 pub mod Reading
 pub mod Splitting
 pub mod Addressing

@@ -1,6 +1,7 @@
 pub mod Folding
 pub mod Comparing
 pub mod Placing
+pub mod Repeats
 pub mod Cutting
 pub mod Wildcards
 pub mod Fronts

@@ -57,7 +57,7 @@ fn plain(text: &str, most: u32) -> Option<u32>
 pub fn parse_ip4(s: &Text) -> Option<u32>
     ensures { result ≡ parse_ip4 s.now }
 {
-    address_in(s.text().as_str())
+    ip4_from_str(s.text().as_str())
 }
 
 /// The four parts of a text between three dots.
@@ -76,7 +76,8 @@ fn quarters(text: &str) -> Option<(&str, &str, &str, &str)>
     }
 }
 
-fn address_in(text: &str) -> Option<u32>
+/// Reads an IPv4 address from a `&str`, as `parse_ip4` does from a `Text`.
+pub fn ip4_from_str(text: &str) -> Option<u32>
     ensures { result ≡ parse_ip4 (chars text.now) }
 {
     let (a, b, c, d) = quarters(text)?;
@@ -110,7 +111,7 @@ fn block_in(text: &str) -> Option<Block>
     ensures { result ≡ parse_block (chars text.now) }
 {
     let (base, bits) = halves(text)?;
-    let base = address_in(base)?;
+    let base = ip4_from_str(base)?;
     let bits = plain(bits, 32)?;
     Some(Block { base, bits })
 }

@@ -10,13 +10,12 @@ mod numbers;
 mod parts;
 mod pattern;
 mod places;
-#[cfg(test)]
-mod tests;
+mod repeats;
 mod walk;
 
-pub use addresses::{Block, in_block, parse_block, parse_ip4};
+pub use addresses::{Block, in_block, ip4_from_str, parse_block, parse_ip4};
 pub use compare::{contains, ends, equal, starts};
-pub use numbers::{LongRead, parse_long, parse_number};
+pub use numbers::{LongRead, long_from_str, parse_long, parse_number};
 pub use parts::{between, substring};
 pub use pattern::wildcard;
 pub use places::index_of;

@@ -83,10 +83,11 @@ fn negative(text: &str) -> LongRead
 pub fn parse_long(s: &Text) -> LongRead
     ensures { result ≡ parse_long s.now }
 {
-    long(s.text().as_str())
+    long_from_str(s.text().as_str())
 }
 
-fn long(text: &str) -> LongRead
+/// Reads a whole number from a `&str`, as `parse_long` does from a `Text`.
+pub fn long_from_str(text: &str) -> LongRead
     ensures { result ≡ parse_long (chars text.now) }
 {
     match first_char(text) {
@@ -108,6 +109,6 @@ fn read_number(text: &str) -> LongRead
 {
     match strip(text, "0x", false) {
         Some(digits) => positive(digits, 16),
-        None => long(text),
+        None => long_from_str(text),
     }
 }

@@ -1,23 +1,19 @@
-//! Patterns with wildcards. In a pattern `*` fits any number of characters and `?` exactly one.
-ghost use Rattle.std.specs.Prelude.{◌≡◌, ◌≤◌, ◌<◌, length, drop, false};
-ghost use Rattle.std.specs.Str.{chars};
+//! Patterns with wildcards. In a pattern `*` fits any number of characters and `?` exactly one. The part before
+//! the first `*` is laid over the beginning of the text, and each part between two of them is taken at its
+//! first place, which loses nothing, since all that follows may begin at any later place. The part behind the
+//! last `*` is compared from the end.
+ghost use Rattle.std.specs.Prelude.{◌≡◌, ◌≤◌, ◌<◌, ◌∷◌, ◌++◌, ◌==◌, ℕ, List, length, drop, true, false, MatchOption, IfSome, is_some};
+ghost use Rattle.std.specs.Str.{chars, NonePass};
 ghost use Rattle.eql_text.specs.Comparing.{any_end};
 ghost use Rattle.eql_text.specs.Wildcards.{fits, wildcard};
-ghost use Rattle.eql_text.specs.Fronts.{Goes};
+ghost use Rattle.eql_text.specs.Fronts.{begins_fit};
 
-use crate::walk::{ended, first_char, same};
+use crate::places::find;
+use crate::walk::{ended, first_char, last_char, same};
 use eql_values::Text;
 
-/// How the front of a pattern, up to its first `*`, went over the beginning of a text.
-#[derive(Drop)]
-enum Front<'p, 't> {
-    /// It doesn't fit.
-    Misses,
-    /// The whole pattern has no `*` and fits; this is left of the text.
-    Ends(&'t str),
-    /// It fits; this follows the `*` in the pattern, and this is left of the text.
-    Star(&'p str, &'t str),
-}
+/// A part of at most this many bytes is tried at one place after the other, which costs less than a search.
+const SHORT: usize = 16;
 
 /// Whether a character other than `*` in a pattern fits a character of a text.
 fn fits(d: char, c: char, fold: bool) -> bool
@@ -26,60 +22,129 @@ fn fits(d: char, c: char, fold: bool) -> bool
     d == '?' || same(c, d, fold)
 }
 
-/// Lays the front of a pattern over the beginning of a text.
-fn lay_front<'p, 't>(pattern: &'p str, text: &'t str, fold: bool) -> Front<'p, 't>
-    ensures { Goes fold (chars pattern.now) (chars text.now) result }
+/// What stands before the first of an ASCII character in a text, and behind it.
+fn cut(text: &str, at: char) -> Option<(&str, &str)>
+    requires { at < 128 }
+    ensures { MatchOption result
+        (NonePass (λ c. c == at) (chars text.now))
+        (λ p. NonePass (λ c. c == at) (chars p.0.now)
+        × (chars text.now ≡ chars p.0.now ++ (at ∷ chars p.1.now))
+        × (length p.1.now < length text.now)) }
 {
-    let mut wanted = pattern;
-    let mut rest = text;
-    while let Some((d, after_wanted)) = first_char(wanted) {
-        if d == '*' {
-            return Front::Star(after_wanted, rest);
-        }
-        let Some((c, after)) = first_char(rest) else {
-            return Front::Misses;
-        };
-        if !fits(d, c, fold) {
-            return Front::Misses;
-        }
-        wanted = after_wanted;
-        rest = after;
-    }
-    Front::Ends(rest)
+    text.split_once(at)
 }
 
-/// Whether a pattern fits some end of a text. Each part between two `*` is taken at its first place, which
-/// loses nothing, since all that follows may begin at any later place.
+/// What follows the characters of a text that a part without `*` fits, where it fits its first ones.
+fn fits_front<'t>(text: &'t str, part: &str, fold: bool) -> Option<&'t str>
+    ensures found { is_some result ≡ begins_fit fold (chars text.now) (chars part.now) }
+    ensures rest { IfSome result (λ rest. chars rest.now ≡ drop (length (chars part.now)) (chars text.now)) }
+{
+    let mut rest = text;
+    let mut wanted = part;
+    while let Some((d, after_wanted)) = first_char(wanted) {
+        let (c, after) = first_char(rest)?;
+        if !fits(d, c, fold) {
+            return None;
+        }
+        rest = after;
+        wanted = after_wanted;
+    }
+    Some(rest)
+}
+
+/// Whether a pattern without `*` fits the last characters of a text.
+fn fits_back(pattern: &str, text: &str, fold: bool) -> bool
+    requires { NonePass (λ c. c == 42) (chars pattern.now) }
+    ensures { result ≡ any_end (wildcard fold (chars pattern.now)) (chars text.now) }
+{
+    let mut rest = text;
+    let mut wanted = pattern;
+    while let Some((before_wanted, d)) = last_char(wanted) {
+        let Some((before, c)) = last_char(rest) else {
+            return false;
+        };
+        if !fits(d, c, fold) {
+            return false;
+        }
+        rest = before;
+        wanted = before_wanted;
+    }
+    true
+}
+
+/// What is left of a text behind the first place where a part fits, which is tried at one place after the other.
+fn try_places<'t>(part: &str, text: &'t str, fold: bool) -> Option<&'t str>
+    requires { NonePass (λ c. c == 42) (chars part.now) }
+    ensures { (q : List ℕ) → MatchOption result
+        (any_end (wildcard fold (chars part.now ++ (42 ∷ q))) (chars text.now) ≡ false)
+        (λ left. any_end (wildcard fold (chars part.now ++ (42 ∷ q))) (chars text.now)
+        ≡ any_end (wildcard fold q) (chars left.now)) }
+{
+    let mut rest = text;
+    'places: loop {
+        if let Some(left) = fits_front(rest, part, fold) {
+            return Some(left);
+        }
+        let (_, next) = first_char(rest)?;
+        rest = next;
+    }
+}
+
+/// What is left of a text behind the first place where a part without `*` fits. A long part without `?` is searched
+/// in time linear in the text.
+fn behind_part<'t>(part: &str, text: &'t str, fold: bool) -> Option<&'t str>
+    requires { NonePass (λ c. c == 42) (chars part.now) }
+    ensures { (q : List ℕ) → MatchOption result
+        (any_end (wildcard fold (chars part.now ++ (42 ∷ q))) (chars text.now) ≡ false)
+        (λ left. any_end (wildcard fold (chars part.now ++ (42 ∷ q))) (chars text.now)
+        ≡ any_end (wildcard fold q) (chars left.now)) }
+{
+    if part.len() <= SHORT {
+        return try_places(part, text, fold);
+    }
+    if cut(part, '?').is_some() {
+        return try_places(part, text, fold);
+    }
+    let found = find(text, part, 0, fold)?;
+    Some(found.after)
+}
+
+/// Whether a pattern fits some end of a text.
 fn fits_some_end(pattern: &str, text: &str, fold: bool) -> bool
     ensures { result ≡ any_end (wildcard fold (chars pattern.now)) (chars text.now) }
 {
     let mut wanted = pattern;
     let mut rest = text;
-    'ends: loop {
-        match lay_front(wanted, rest, fold) {
-            Front::Star(after_star, left) => {
-                wanted = after_star;
-                rest = left;
-            }
-            Front::Ends(left) if ended(left) => return true,
-            _ => {
-                let Some((_, next)) = first_char(rest) else {
-                    return false;
-                };
-                rest = next;
-            }
-        }
+    while let Some((part, after)) = cut(wanted, '*') {
+        let Some(left) = behind_part(part, rest, fold) else {
+            return false;
+        };
+        wanted = after;
+        rest = left;
+    }
+    fits_back(wanted, rest, fold)
+}
+
+fn fits_whole(pattern: &str, text: &str, fold: bool) -> bool
+    ensures { result ≡ wildcard fold (chars pattern.now) (chars text.now) }
+{
+    match cut(pattern, '*') {
+        None => match fits_front(text, pattern, fold) {
+            Some(rest) => ended(rest),
+            None => false,
+        },
+        Some((part, after)) => match fits_front(text, part, fold) {
+            Some(rest) => fits_some_end(after, rest, fold),
+            None => false,
+        },
     }
 }
 
 /// Whether a pattern fits a whole text. `*` fits any number of characters and `?` exactly one; there is no
-/// escape. Takes time in proportion to the text times the pattern at most.
+/// escape. Takes time in proportion to the text and the pattern, but for a part between two `*` that has a
+/// `?`: this is tried at one place of the text after the other.
 pub fn wildcard(pattern: &Text, text: &Text, fold: bool) -> bool
     ensures { result ≡ wildcard fold pattern.now text.now }
 {
-    match lay_front(pattern.text().as_str(), text.text().as_str(), fold) {
-        Front::Misses => false,
-        Front::Ends(left) => ended(left),
-        Front::Star(after_star, left) => fits_some_end(after_star, left, fold),
-    }
+    fits_whole(pattern.text().as_str(), text.text().as_str(), fold)
 }

@@ -4,7 +4,8 @@ ghost use Rattle.std.specs.Option.{option_map};
 ghost use Rattle.std.specs.Str.{chars};
 ghost use Rattle.eql_text.specs.Placing.{place_from, last_place_from, start_place, place_after, index_of};
 
-use crate::walk::{first_char, strip};
+use crate::repeats::{Laid, Runs, meet, move_on};
+use crate::walk::{ended, skip};
 use eql_values::Text;
 
 /// A place where a text stands in another, counted in characters, and what follows it there.
@@ -22,15 +23,18 @@ pub fn find<'a>(s: &'a str, t: &str, start: u64, fold: bool) -> Option<Found<'a>
     ensures within { IfSome result (λ f. f.place ≤ start + length s.now) }
     ensures from { IfSome result (λ f. start ≤ f.place) }
 {
+    let runs = Runs::of(t, fold);
     let mut place = start;
-    let mut rest = s;
+    let mut laid = Laid::at(s, t);
     'places: loop {
-        if let Some(after) = strip(rest, t, fold) {
+        let met = meet(t, laid, fold);
+        if ended(met.left) {
+            let after = met.ahead;
             return Some(Found { place, after });
         }
-        let (_, next) = first_char(rest)?;
-        place += 1;
-        rest = next;
+        let step = runs.step(met.met);
+        laid = move_on(t, met, step)?;
+        place += step.by as u64;
     }
 }
 
@@ -38,33 +42,22 @@ pub fn find<'a>(s: &'a str, t: &str, start: u64, fold: bool) -> Option<Found<'a>
 pub fn find_last(s: &str, t: &str, fold: bool) -> Option<u64>
     ensures place { result ≡ last_place_from fold 0 (chars s.now) (chars t.now) }
 {
+    let runs = Runs::of(t, fold);
     let mut found = None;
-    let mut at = 0;
-    let mut rest = s;
+    let mut place = 0;
+    let mut laid = Laid::at(s, t);
     'places: loop {
-        if strip(rest, t, fold).is_some() {
-            found = Some(at);
+        let met = meet(t, laid, fold);
+        if ended(met.left) {
+            found = Some(place);
         }
-        let Some((_, next)) = first_char(rest) else {
+        let step = runs.step(met.met);
+        let Some(next) = move_on(t, met, step) else {
             return found;
         };
-        at += 1;
-        rest = next;
+        laid = next;
+        place += step.by as u64;
     }
-}
-
-/// What follows the first characters of a text, this many.
-pub fn skip(text: &str, count: u64) -> Option<&str>
-    ensures enough { MatchOption result (length (chars text.now) < count) (λ rest. count ≤ length (chars text.now)) }
-    ensures rest { IfSome result (λ rest. chars rest.now ≡ drop count (chars text.now)) }
-    ensures shorter { IfSome result (λ rest. count + length rest.now ≤ length text.now) }
-{
-    let mut rest = text;
-    for place in 0..count {
-        let (_, next) = first_char(rest)?;
-        rest = next;
-    }
-    Some(rest)
 }
 
 /// The place where a search begins: 0 for a negative number.

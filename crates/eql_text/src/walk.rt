@@ -1,9 +1,11 @@
 //! Texts walked character by character, without memory.
-ghost use Rattle.std.specs.Prelude.{◌≡◌, ◌≤◌, ◌<◌, ◌∷◌, ◌++◌, [], length, drop, MatchOption, IfSome, is_some};
+ghost use Rattle.std.specs.Prelude.{◌≡◌, ◌≤◌, ◌<◌, ◌+◌, ◌∷◌, ◌++◌, [], length, take, drop, MatchOption, IfSome, is_some};
 ghost use Rattle.std.specs.Str.{chars};
 ghost use Rattle.eql_text.specs.Folding.{same};
+ghost use Rattle.ucd_case.specs.CaseFolding.{simple_fold};
 ghost use Rattle.eql_text.specs.Comparing.{starts};
 ghost use Rattle.eql_text.specs.Comparing.{is_empty};
+ghost use Rattle.eql_text.specs.Repeats.{IsEnding};
 
 use unicode::case::simple_fold;
 
@@ -11,6 +13,7 @@ use unicode::case::simple_fold;
 pub fn first_char(text: &str) -> Option<(char, &str)>
     ensures characters { MatchOption result (chars text.now ≡ []) (λ p. chars text.now ≡ p.0 ∷ chars p.1.now) }
     ensures shorter { IfSome result (λ p. length p.1.now < length text.now) }
+    ensures ending { IfSome result (λ p. IsEnding text.now p.1.now) }
 {
     let mut characters = text.chars();
     let first = characters.next()?;
@@ -21,6 +24,7 @@ pub fn first_char(text: &str) -> Option<(char, &str)>
 pub fn last_char(text: &str) -> Option<(&str, char)>
     ensures characters { MatchOption result (chars text.now ≡ []) (λ p. chars text.now ≡ chars p.0.now ++ p.1 ∷ []) }
     ensures shorter { IfSome result (λ p. length p.0.now < length text.now) }
+    ensures front { IfSome result (λ p. p.0.now ≡ take (length p.0.now) text.now) }
 {
     let mut characters = text.chars();
     let last = characters.next_back()?;
@@ -34,12 +38,23 @@ pub fn ended(text: &str) -> bool
     text.is_empty()
 }
 
+/// The simple case folding of a character; of an ASCII letter its small form, without a look into a table.
+fn folded(c: char) -> char
+    ensures { result ≡ simple_fold c }
+{
+    if c.is_ascii() {
+        c.to_ascii_lowercase()
+    } else {
+        simple_fold(c)
+    }
+}
+
 /// Whether two characters compare as equal.
 #[tactic(auto, unfolding(crate::specs::Folding::same))]
 pub fn same(c: char, d: char, fold: bool) -> bool
     ensures { result ≡ same fold c d }
 {
-    c == d || fold && simple_fold(c) == simple_fold(d)
+    c == d || fold && folded(c) == folded(d)
 }
 
 /// What follows a text where another begins with it.
@@ -57,6 +72,20 @@ pub fn strip<'a>(text: &'a str, front: &str, fold: bool) -> Option<&'a str>
         }
         rest = after;
         wanted = after_wanted;
+    }
+    Some(rest)
+}
+
+/// What follows the first characters of a text, this many.
+pub fn skip(text: &str, count: u64) -> Option<&str>
+    ensures enough { MatchOption result (length (chars text.now) < count) (λ rest. count ≤ length (chars text.now)) }
+    ensures rest { IfSome result (λ rest. chars rest.now ≡ drop count (chars text.now)) }
+    ensures shorter { IfSome result (λ rest. count + length rest.now ≤ length text.now) }
+{
+    let mut rest = text;
+    for place in 0..count {
+        let (_, next) = first_char(rest)?;
+        rest = next;
     }
     Some(rest)
 }

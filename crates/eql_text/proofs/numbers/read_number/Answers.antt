@@ -15,4 +15,4 @@ returns-in-Some c =
 pub returns-in-None : goal.returns-in-None
 returns-in-None c =
     let s = chars c.args.text.now in
-    c.long.ensures ∙ sym (decimal_number s (c.in-None.ensures.found ∙ ap (starts false s) hex_prefix))
+    c.long_from_str.ensures ∙ sym (decimal_number s (c.in-None.ensures.found ∙ ap (starts false s) hex_prefix))

@@ -1,15 +1,18 @@
-use Rattle.std.proofs.Common.{sym, ◌∙◌, rules}
+use Rattle.std.proofs.Common.{sym, ap, ◌∙◌, rules}
 use Rattle.std.specs.Str.{chars}
+use Rattle.eql_text.specs.Comparing.{any_end}
 use Rattle.eql_text.specs.Wildcards.{wildcard}
-use Rattle.eql_text.proofs.Fitting.{any_end_whole, ends_reached, reached_shorter}
 use Rattle.eql_text.proofs.pattern.fits_some_end.Goals as goal
 
-pub ends-smaller-in-Star-1 : goal.ends-smaller-in-Star-1
-ends-smaller-in-Star-1 c = reached_shorter _ _ _ _ _ c.in-Star.ensures
+pub returns-in_default-behind_part : goal.returns-in_default-behind_part
+returns-in_default-behind_part c =
+    sym (c.in_default-behind_part.ensures (chars c.in-Some.after.now))
+    ∙ ap (λ p. any_end (wildcard c.args.fold p) (chars c.loop-part.rest.now)) (sym c.in-Some.ensures.1) ∙ c.loop-part.invariant.2
 
-pub ends-preserved-in-Star-1 : goal.ends-preserved-in-Star-1
-ends-preserved-in-Star-1 c = (search rules, search rules, sym (ends_reached _ _ _ _ _ c.in-Star.ensures) ∙ c.ends.invariant.2)
-
-pub returns-in-Ends : goal.returns-in-Ends
-returns-in-Ends c =
-    sym (any_end_whole (wildcard c.args.fold (chars c.ends.wanted.now)) (chars c.ends.rest.now) (c.in-Ends.ensures ∙ sym c.ended.ensures ∙ c.if-ended.true)) ∙ c.ends.invariant.2
+pub loop-part-preserved : goal.loop-part-preserved
+loop-part-preserved c = (
+  search rules,
+  search rules,
+  sym (c.in-Some-behind_part.ensures (chars c.in-Some.after.now))
+      ∙ ap (λ p. any_end (wildcard c.args.fold p) (chars c.loop-part.rest.now)) (sym c.in-Some.ensures.1) ∙ c.loop-part.invariant.2,
+)

@@ -2,7 +2,7 @@ use Rattle.std.proofs.Common.{◌+◌, refl, ap, arith, length, rules}
 use Rattle.std.specs.Str.{chars}
 use Rattle.std.proofs.lemmas.List.{length-drop}
 use Rattle.eql_text.proofs.Dropping.{drop_next}
-use Rattle.eql_text.proofs.places.skip.Goals as goal
+use Rattle.eql_text.proofs.walk.skip.Goals as goal
 
 pub returns-in_err-next-clause-enough : goal.returns-in_err-next-clause-enough
 returns-in_err-next-clause-enough c =
