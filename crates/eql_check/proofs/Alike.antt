@@ -6,7 +6,8 @@ use Rattle.eql_values.specs.declared.value.Kind.{Kind}
 use Rattle.eql_values.specs.declared.value.Kind.TheVariants as kind
 use Rattle.eql_parser.specs.QueryTree.{TermTree}
 use Rattle.eql_check.specs.declared.refused.CheckRefused.TheVariants.{KeyKind}
-use Rattle.eql_check.specs.Kinds.{same_kind, may_be, alike}
+use Rattle.eql_values.specs.Fitting.{same_kind, may_be}
+use Rattle.eql_check.specs.Kinds.{alike}
 use Rattle.eql_check.specs.Rules.{unless, fit, settled, key_kinds, kinds_broken}
 use Rattle.eql_check.specs.Typing.{may_equal, within, AreAlike}
 use Rattle.eql_check.proofs.Breaking.{or_none, none_of, unless_none, unless_true, both_true}

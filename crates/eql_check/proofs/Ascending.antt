@@ -17,7 +17,9 @@ use Rattle.std.proofs.lemmas.Str.{encodes-chars, IsUtf8-string_bytes}
 use Rattle.serde_json.specs.View.{view, members_view}
 use Rattle.serde_json.specs.declared.value.Value.{Value}
 use Rattle.eql_values.specs.declared.value.Kind.{Kind}
-use Rattle.eql_values.specs.Orders.{text_cmp, text_eq, text_same, text_cmp_total}
+use Rattle.eql_values.specs.Orders.{text_cmp, text_eq}
+use Rattle.eql_values.specs.Totals.{text_cmp_total}
+use Rattle.eql_values.proofs.Same.{text_same}
 use Rattle.eql_check.specs.Kinds.{kind_at}
 use Rattle.eql_check.specs.Mappings.{MapRead, field_before, fields_of, kind_named, NamesAscend, AreInOrder}
 

@@ -8,8 +8,9 @@ use Rattle.eql_values.specs.declared.value.Value.TheVariants as value
 use Rattle.eql_values.specs.Orders.{text_eq}
 use Rattle.eql_parser.specs.Tree.{Tree}
 use Rattle.eql_parser.specs.QueryTree.{TermTree, QueryTree}
-use Rattle.eql_check.specs.Kinds.{is_of, may_be, kind_at}
-use Rattle.eql_check.specs.Conditions.{all_items, IsConditionOf, FitSlots}
+use Rattle.eql_values.specs.Fitting.{is_of, may_be, FitSlots}
+use Rattle.eql_check.specs.Kinds.{kind_at}
+use Rattle.eql_check.specs.Conditions.{all_items, IsConditionOf}
 use Rattle.eql_check.specs.Truth.{means, slot_of, value_in, value_at}
 use Rattle.eql_check.specs.Typing.{HasKind, AreItems, more_items}
 use Rattle.eql_check.specs.WasChecked.{WasChecked}

@@ -12,15 +12,15 @@ use Rattle.eql_parser.specs.declared.expr.CmpOp.TheVariants.{Lt, Le, Eq, Ne, Ge,
 use Rattle.eql_parser.specs.declared.expr.PatOp.{PatOp}
 use Rattle.eql_parser.specs.declared.expr.MathOp.{MathOp}
 use Rattle.eql_parser.specs.declared.expr.MathOp.TheVariants as math
-use Rattle.eql_text.specs.Comparing.{starts, ends, contains}
+use Rattle.eql_text.specs.Comparing.{starts, ends}
 use Rattle.eql_check.specs.declared.function.Function.{Function}
 use Rattle.eql_check.specs.declared.function.Function.TheVariants.{Add, Subtract, Multiply, Divide, Modulo, Length, IndexOf, StartsWith, EndsWith, StringContains, Concat, Substring, Between, String, Number, CidrMatch}
-use Rattle.eql_check.specs.Kinds.{is_of, may_be}
+use Rattle.eql_values.specs.Fitting.{is_of, may_be}
 use Rattle.eql_check.specs.Calls.{given_by}
 use Rattle.eql_check.specs.ThreeValued.{truth}
 use Rattle.eql_check.specs.Comparisons.{says, order_of, compared_with_null, compares, matches_one, is_among}
 use Rattle.eql_check.specs.Arithmetic.{floor_div, floor_rest, fits_long, long_or_null, unless_zero, result_of, computed, negated}
-use Rattle.eql_check.specs.Functions.{with_one, with_two, with_two_or_three, with_three_or_four, number_or_null, text_or_null, length_of, tested, place_of, part_of, between_of, text_of, texts_of, number_of, address_of, lies_in, lies_in_one, cidr_match, called}
+use Rattle.eql_check.specs.Functions.{with_one, with_two, with_two_or_three, with_three_or_four, number_or_null, text_or_null, length_of, tested, stands_in, place_of, part_of, between_of, text_of, texts_of, number_of, address_of, lies_in, lies_in_one, cidr_match, called}
 use Rattle.eql_check.specs.Truth.{means, values, is_literal_null, call_of}
 use Rattle.eql_check.specs.Typing.{HasKind, of_null, of_bool, of_long, of_str, of_field, of_no_field, of_not, of_and, of_or, of_cmp, of_pattern, of_member, of_neg, of_math, of_call}
 use Rattle.eql_check.specs.Kept.{KeepsKinds}
@@ -186,7 +186,7 @@ called_is Length fold vs = one_is kind.Long length_of length_is vs
 called_is IndexOf fold vs = three_is kind.Long (place_of fold) (place_is fold) vs
 called_is StartsWith fold vs = two_is kind.Bool (tested (starts fold)) (tested_is (starts fold)) vs
 called_is EndsWith fold vs = two_is kind.Bool (tested (ends fold)) (tested_is (ends fold)) vs
-called_is StringContains fold vs = two_is kind.Bool (tested (contains fold)) (tested_is (contains fold)) vs
+called_is StringContains fold vs = two_is kind.Bool (tested (stands_in fold)) (tested_is (stands_in fold)) vs
 called_is Concat fold vs = text_is (texts_of vs)
 called_is Substring fold vs = three_is kind.Text part_of part_is vs
 called_is Between fold vs = four_is kind.Text (between_of fold) (between_is fold) vs

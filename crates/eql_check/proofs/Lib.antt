@@ -1,5 +1,4 @@
 mod TextBytes
-mod JsonLemmas
 mod Fields
 mod Ascending
 mod Listing

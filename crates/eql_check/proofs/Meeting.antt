@@ -13,14 +13,14 @@ use Rattle.eql_parser.specs.Tree as t
 use Rattle.eql_parser.specs.declared.expr.CmpOp.{CmpOp}
 use Rattle.eql_check.specs.declared.function.Function.{Function}
 use Rattle.eql_check.specs.declared.function.Function.TheVariants.{CidrMatch}
-use Rattle.eql_check.specs.Kinds.{kind_of_value, is_of, may_be, alike, is_ordered, are_addresses, needs_order, can_compare, can_equal, can_be_among}
-use Rattle.eql_check.specs.Kinds as kinds
+use Rattle.eql_values.specs.Fitting.{kind_of_value, is_of, may_be}
+use Rattle.eql_check.specs.Kinds.{alike, is_ordered, are_addresses, needs_order, can_compare, can_equal, can_be_among, is_text}
 use Rattle.eql_check.specs.Names.{function_of}
 use Rattle.eql_check.specs.Calls.{are_asked, asked, is_block, are_blocks, is_cidr, takes_count, takes_kinds, bad_block, bad_block_of}
 use Rattle.eql_check.specs.FirstBroken.{all_bool}
 use Rattle.eql_check.specs.Comparisons.{is_null, order_of}
 use Rattle.eql_check.specs.Truth.{means, values}
-use Rattle.eql_check.specs.Met.{is_bool, is_long, is_text, is_ip, have_order, takes_compared, takes_sought, are_of, writes_block, are_for_cidr, takes_values, takes_call, all_met, each_met}
+use Rattle.eql_check.specs.Met.{is_bool, is_long, is_ip, have_order, takes_compared, takes_sought, are_of, writes_block, are_for_cidr, takes_values, takes_call, all_met, each_met}
 use Rattle.eql_check.specs.Typing.{HasKind, HaveKinds, of_null, of_bool, of_long, of_str, of_field, of_no_field, of_not, of_and, of_or, of_cmp, of_pattern, of_member, of_neg, of_math, of_call, of_none, of_more}
 use Rattle.eql_check.specs.Kept.{MeetsKinds}
 use Rattle.eql_check.proofs.Breaking.{both_true}
@@ -126,12 +126,6 @@ module _ (field : List ℕ → Value) where
   sides_met op j k a b (inr e) (inr f) h =
       compared_met (needs_order op) op a b refl (ap (λ x. can_compare op x (kind_of_value (means field b)) a b) (sym e) ∙ ap (λ x. can_compare op j x a b) (sym f) ∙ h)
 
-all_texts : (list : List Value) → list_all kinds.is_text list ≡ true → list_all is_text list ≡ true
-all_texts [] h = refl
-all_texts (value.Null ∷ list) h = all_texts list h
-all_texts (value.Text s ∷ list) h = all_texts list h
-all_texts (_ ∷ list) h = cc
-
 all_equal : (list : List Value) → list_all (λ literal. can_equal None literal) list ≡ true
 all_equal [] = refl
 all_equal (v ∷ list) = all_equal list
@@ -139,8 +133,8 @@ all_equal (v ∷ list) = all_equal list
 sought_met : (fold : Bool) (k : Option Kind) (v : Value) (list : List Value) → is_of k v ≡ true → can_be_among fold k list ≡ true →
     takes_sought fold v list ≡ true
 sought_met true k v list i h =
-    let x = both_ok (may_be kind.Text k) (list_all kinds.is_text list) h in
-    both_true (is_text v) (list_all is_text list) (meets_kind kind.Text k v x.0 i) (all_texts list x.1)
+    let x = both_ok (may_be kind.Text k) (list_all is_text list) h in
+    both_true (is_text v) (list_all is_text list) (meets_kind kind.Text k v x.0 i) x.1
 sought_met false k v list i h = by_kind (narrowed k v i)
   where
     by_kind : (v ≡ value.Null) ⊎ (k ≡ kind_of_value v) → takes_sought false v list ≡ true

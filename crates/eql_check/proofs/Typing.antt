@@ -8,7 +8,8 @@ use Rattle.eql_parser.specs.Tree as t
 use Rattle.eql_check.specs.declared.function.Function.{Function}
 use Rattle.eql_check.specs.declared.refused.CheckRefused.{CheckRefused}
 use Rattle.eql_check.specs.Names.{function_of}
-use Rattle.eql_check.specs.Kinds.{may_be, can_compare, can_be_among, holds_field}
+use Rattle.eql_values.specs.Fitting.{may_be}
+use Rattle.eql_check.specs.Kinds.{can_compare, can_be_among, holds_field}
 use Rattle.eql_check.specs.Calls.{takes_count, takes_kinds, given_by, bad_block_of, shown}
 use Rattle.eql_check.specs.FirstBroken.{Found, AllFound, bind, bind_all, and_more, given, unless_fields, connective, comparison, in_form, call_kind, field_kind, all_bool, kind_of, kinds_of}
 use Rattle.eql_check.specs.Typing.{HasKind, HaveKinds, of_null, of_bool, of_long, of_str, of_field, of_no_field, of_not, of_and, of_or, of_cmp, of_pattern, of_member, of_neg, of_math, of_call, of_none, of_more, ExactlyTyped}

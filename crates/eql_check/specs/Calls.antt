@@ -8,7 +8,7 @@ use Rattle.eql_parser.specs.Tree.{Tree, Trees, none, more}
 use Rattle.eql_parser.specs.Tree as t
 use Rattle.eql_check.specs.declared.function.Function.{Function}
 use Rattle.eql_check.specs.declared.function.Function.TheVariants.{Length, IndexOf, StartsWith, EndsWith, StringContains, Concat, Substring, Between, String, Number, CidrMatch}
-use Rattle.eql_check.specs.Kinds.{may_be}
+use Rattle.eql_values.specs.Fitting.{may_be}
 
 -- the fewest arguments of a function
 abbrev pub fewest : Function → ℕ

@@ -1,11 +1,8 @@
--- The conditions of a query, and values that fit its fields.
-use Rattle.std.specs.Prelude.{ℕ, List, [], ◌∷◌, ◌++◌, map, Option, Some, None, IsTrue, Contains, length, ◌+◌}
-use Rattle.eql_values.specs.declared.value.Kind.{Kind}
-use Rattle.eql_values.specs.declared.value.Value.{Value}
+-- The conditions of a query.
+use Rattle.std.specs.Prelude.{ℕ, List, [], ◌∷◌, ◌++◌, map, Option, Some, None, Contains, length, ◌+◌}
 use Rattle.eql_parser.specs.Tree.{Tree}
 use Rattle.eql_parser.specs.declared.expr.FieldRef.{FieldRef}
 use Rattle.eql_parser.specs.QueryTree.{TermTree, BodyTree, event, sequence, QueryTree}
-use Rattle.eql_check.specs.Kinds.{is_of}
 
 abbrev pub as_list : {A : Type 0} → Option A → List A
 as_list None = []
@@ -38,9 +35,3 @@ own_count (term ∷ terms) = length term.by
 abbrev pub key_count : BodyTree → ℕ
 key_count (event term) = 0
 key_count (sequence by span items until) = length by + own_count items
-
--- for each field a value of its kind, or null
-abbrev pub FitSlots : List (List ℕ × Kind) → List Value → Type 0
-FitSlots [] [] = Unit {0}
-FitSlots (field ∷ fields) (value ∷ values) = IsTrue (is_of (Some field.1) value) × FitSlots fields values
-FitSlots _ _ = ⊥

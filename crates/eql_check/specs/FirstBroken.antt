@@ -4,6 +4,7 @@ use Rattle.std.specs.declared.result.Result.{Result}
 use Rattle.std.specs.declared.result.Result.TheVariants.{Ok, Err}
 use Rattle.eql_values.specs.declared.value.Kind.{Kind}
 use Rattle.eql_values.specs.declared.value.Kind.TheVariants as kind
+use Rattle.eql_values.specs.declared.value.Value.{Value}
 use Rattle.eql_parser.specs.Tree.{Tree, Trees, none, more}
 use Rattle.eql_parser.specs.Tree as t
 use Rattle.eql_parser.specs.declared.expr.CmpOp.{CmpOp}
@@ -11,7 +12,8 @@ use Rattle.eql_check.specs.declared.function.Function.{Function}
 use Rattle.eql_check.specs.declared.refused.CheckRefused.{CheckRefused}
 use Rattle.eql_check.specs.declared.refused.CheckRefused.TheVariants as broken
 use Rattle.eql_check.specs.Names.{function_of}
-use Rattle.eql_check.specs.Kinds.{may_be, can_compare, can_be_among, holds_field}
+use Rattle.eql_values.specs.Fitting.{may_be}
+use Rattle.eql_check.specs.Kinds.{can_compare, can_be_among, holds_field}
 use Rattle.eql_check.specs.Calls.{takes_count, takes_kinds, given_by, bad_block_of, shown}
 
 -- a kind, which is none for what is always null, or a broken rule
@@ -63,6 +65,10 @@ module _ (item : ℕ) where
   abbrev pub comparison : CmpOp → Option Kind → Option Kind → Tree → Tree → Found
   comparison op j k a b = unless_fields (holds_field a && holds_field b) (given (can_compare op j k a b) kind.Bool)
 
+  -- the kind of an operator on two whole numbers
+  abbrev pub calculation : Option Kind → Option Kind → Found
+  calculation j k = given (may_be kind.Long j && may_be kind.Long k) kind.Long
+
   -- a call's kind where its blocks are in form
   abbrev pub in_form : Option (List ℕ) → Bool → Kind → Found
   in_form (Some s) b k = Err (broken.Cidr s)
@@ -91,9 +97,20 @@ module _ (item : ℕ) (mapping : List ℕ → Option Kind) where
     kind_of (t.member fold negated a list) = bind (kind_of a) (λ k. given item (can_be_among fold k list) kind.Bool)
     kind_of (t.neg a) = bind (kind_of a) (λ k. given item (may_be kind.Long k) kind.Long)
     kind_of (t.math op a b) =
-        bind (kind_of a) (λ j. bind (kind_of b) (λ k. given item (may_be kind.Long j && may_be kind.Long k) kind.Long))
-    kind_of (t.call name fold args) = bind_all (kinds_of args) (λ ks. call_kind item (function_of name fold) (shown name fold) args ks)
+        bind (kind_of a) (λ j. bind (kind_of b) (λ k. calculation item j k))
+    kind_of (t.call name fold args) =
+        bind_all (kinds_of args) (λ ks. call_kind item (function_of name fold) (shown name fold) args ks)
 
     pub kinds_of : Trees → AllFound
     kinds_of none = Ok []
     kinds_of (more a es) = and_more (kind_of a) (kinds_of es)
+
+  -- the kinds of the forms with operands, by name
+  abbrev pub operator : Tree → (asked gives : Kind) → Found
+  operator a asked gives = bind (kind_of a) (λ k. given item (may_be asked k) gives)
+
+  abbrev pub member : (fold : Bool) → Tree → List Value → Found
+  member fold a list = bind (kind_of a) (λ k. given item (can_be_among fold k list) kind.Bool)
+
+  abbrev pub call : List ℕ → Bool → Trees → Found
+  call name fold args = bind_all (kinds_of args) (λ ks. call_kind item (function_of name fold) (shown name fold) args ks)

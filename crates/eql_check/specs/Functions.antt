@@ -57,6 +57,11 @@ abbrev pub tested : (List ℕ → List ℕ → Bool) → Value → Value → Val
 tested test (value.Text s) (value.Text t) = value.Bool (test s t)
 tested test _ _ = value.Null
 
+-- whether a text stands in another; the empty text stands in none
+abbrev pub stands_in : (fold : Bool) → List ℕ → List ℕ → Bool
+stands_in fold s [] = false
+stands_in fold s (c ∷ t) = contains fold s (c ∷ t)
+
 -- the least place at or after a start, 0 where none is given
 abbrev pub place_of : Bool → Value → Value → Option Value → Value
 place_of fold (value.Text s) (value.Text t) None = number_or_null (index_of fold s t (pos 0))
@@ -141,7 +146,7 @@ called Length fold vs = with_one length_of vs
 called IndexOf fold vs = with_two_or_three (place_of fold) vs
 called StartsWith fold vs = with_two (tested (starts fold)) vs
 called EndsWith fold vs = with_two (tested (ends fold)) vs
-called StringContains fold vs = with_two (tested (contains fold)) vs
+called StringContains fold vs = with_two (tested (stands_in fold)) vs
 called Concat fold vs = text_or_null (texts_of vs)
 called Substring fold vs = with_two_or_three part_of vs
 called Between fold vs = with_three_or_four (between_of fold) vs

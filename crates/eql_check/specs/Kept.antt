@@ -5,8 +5,8 @@ use Rattle.eql_values.specs.declared.value.Kind.TheVariants as kind
 use Rattle.eql_values.specs.declared.value.Value.{Value}
 use Rattle.eql_parser.specs.Tree.{Tree}
 use Rattle.eql_parser.specs.QueryTree.{QueryTree}
-use Rattle.eql_check.specs.Kinds.{is_of}
-use Rattle.eql_check.specs.Conditions.{IsConditionOf, FitSlots}
+use Rattle.eql_values.specs.Fitting.{is_of, FitSlots}
+use Rattle.eql_check.specs.Conditions.{IsConditionOf}
 use Rattle.eql_check.specs.Typing.{HasKind}
 use Rattle.eql_check.specs.Truth.{means, value_at}
 use Rattle.eql_check.specs.Met.{all_met}

@@ -6,6 +6,7 @@ use Rattle.eql_values.specs.declared.value.Kind.{Kind}
 use Rattle.eql_values.specs.declared.value.Kind.TheVariants as kind
 use Rattle.eql_values.specs.declared.value.Value.{Value}
 use Rattle.eql_values.specs.declared.value.Value.TheVariants as value
+use Rattle.eql_values.specs.Fitting.{may_be, kind_of_value, is_of}
 use Rattle.eql_values.specs.Orders.{text_eq}
 use Rattle.eql_text.specs.Addresses.{parse_ip4}
 use Rattle.eql_parser.specs.Tree.{Tree, Trees, none, more}
@@ -18,35 +19,9 @@ abbrev pub kind_at : List (List ℕ × Kind) → List ℕ → Option Kind
 kind_at [] name = None
 kind_at (field ∷ fields) name = if text_eq field.0 name then Some field.1 else kind_at fields name
 
-abbrev pub same_kind : Kind → Kind → Bool
-same_kind kind.Bool kind.Bool = true
-same_kind kind.Long kind.Long = true
-same_kind kind.Text kind.Text = true
-same_kind kind.Ip kind.Ip = true
-same_kind _ _ = false
-
--- where a kind is asked for, that kind may stand, and what is always null
-abbrev pub may_be : Kind → Option Kind → Bool
-may_be k None = true
-may_be k (Some j) = same_kind k j
-
 abbrev pub alike : Option Kind → Option Kind → Bool
 alike None k = true
 alike (Some j) k = may_be j k
-
--- the kind of a value
-abbrev pub kind_of_value : Value → Option Kind
-kind_of_value value.Null = None
-kind_of_value (value.Bool b) = Some kind.Bool
-kind_of_value (value.Long n) = Some kind.Long
-kind_of_value (value.Text s) = Some kind.Text
-kind_of_value (value.Ip n) = Some kind.Ip
-
--- whether a value is null or of this kind
-abbrev pub is_of : Option Kind → Value → Bool
-is_of k value.Null = true
-is_of None v = false
-is_of (Some k) v = may_be k (kind_of_value v)
 
 -- a text in quotes that is an IPv4 address
 abbrev pub is_address : Tree → Bool
@@ -81,8 +56,9 @@ can_equal None literal = true
 can_equal (Some kind.Ip) (value.Text s) = is_some (parse_ip4 s)
 can_equal (Some k) literal = may_be k (kind_of_value literal)
 
+-- a literal that is a text or null
 abbrev pub is_text : Value → Bool
-is_text literal = may_be kind.Text (kind_of_value literal)
+is_text literal = is_of (Some kind.Text) literal
 
 -- a list of literals that a value of this kind may be looked for in; with folding all are texts
 abbrev pub can_be_among : (fold : Bool) → Option Kind → List Value → Bool

@@ -10,10 +10,12 @@ pub mod Entries
 pub mod Entering
 pub mod WasChecked
 pub mod Typing
+pub mod RulesKept
 pub mod Checks
 pub mod Mappings
 pub mod MappingAnswers
 pub mod Wants
+pub mod Messages
 pub mod ThreeValued
 pub mod Comparisons
 pub mod Arithmetic

@@ -1,21 +1,17 @@
 -- What a text says about the kinds of fields.
 use Rattle.std.specs.Prelude.{ℕ, suc, ◌≤◌, List, [], ◌∷◌, ◌++◌, length, nat_lt, Option, Some, None, if◌then◌else◌, codes}
-use Rattle.std.specs.Str.{is_utf8, bytes_eq, chars}
+use Rattle.std.specs.Str.{bytes_eq, chars}
 use Rattle.std.specs.List.Sorted.{IsStrictlySortedBy}
 use Rattle.std.specs.Map.{keys_of}
 use Rattle.std.specs.declared.result.Result.{Result}
 use Rattle.std.specs.declared.result.Result.TheVariants.{Ok, Err}
 use Rattle.serde_json.specs.Data.{Data, string, object, Members, no_members, member}
-use Rattle.serde_json.specs.Read.{read}
 use Rattle.eql_values.specs.declared.value.Kind.{Kind}
 use Rattle.eql_values.specs.declared.value.Kind.TheVariants as kind
 use Rattle.eql_values.specs.Orders.{text_cmp}
+use Rattle.eql_json.specs.Json.{json_of}
 use Rattle.eql_check.specs.declared.mapping.MapRefused.{MapRefused}
 use Rattle.eql_check.specs.declared.mapping.MapRefused.TheVariants.{MapLong, MapSyntax, MapMany, MapKind}
-
--- what `serde_json` reads in the bytes, or none
-abbrev pub json_of : List ℕ → Option Data
-json_of bytes = if is_utf8 bytes then read bytes else None
 
 -- the kind that a text of a mapping names
 abbrev pub kind_named : Data → Option Kind

@@ -16,7 +16,8 @@ use Rattle.eql_parser.specs.declared.expr.MathOp.TheVariants as math
 use Rattle.eql_check.specs.declared.function.Function.{Function}
 use Rattle.eql_check.specs.declared.function.Function.TheVariants.{CidrMatch}
 use Rattle.eql_check.specs.Names.{function_of}
-use Rattle.eql_check.specs.Kinds.{kind_of_value, is_of, needs_order, can_equal}
+use Rattle.eql_values.specs.Fitting.{kind_of_value, is_of}
+use Rattle.eql_check.specs.Kinds.{needs_order, can_equal, is_text}
 use Rattle.eql_check.specs.Calls.{takes_count, asked}
 use Rattle.eql_check.specs.Comparisons.{is_null, order_of}
 use Rattle.eql_check.specs.Functions.{block_of}
@@ -28,9 +29,6 @@ is_bool v = is_of (Some kind.Bool) v
 
 abbrev pub is_long : Value → Bool
 is_long v = is_of (Some kind.Long) v
-
-abbrev pub is_text : Value → Bool
-is_text v = is_of (Some kind.Text) v
 
 abbrev pub is_ip : Value → Bool
 is_ip v = is_of (Some kind.Ip) v

@@ -13,7 +13,8 @@ use Rattle.eql_parser.specs.declared.query.PipeText.{PipeText}
 use Rattle.eql_parser.specs.declared.query.PipeText.TheVariants.{Head, Tail}
 use Rattle.eql_check.specs.declared.refused.CheckRefused.{CheckRefused}
 use Rattle.eql_check.specs.declared.refused.CheckRefused.TheVariants as broken
-use Rattle.eql_check.specs.Kinds.{may_be, alike}
+use Rattle.eql_values.specs.Fitting.{may_be}
+use Rattle.eql_check.specs.Kinds.{alike}
 use Rattle.eql_check.specs.FirstBroken.{Found, kind_of}
 use Rattle.eql_check.specs.Conditions.{all_items, own_count, shared_keys, key_count}
 use Rattle.eql_check.specs.Used.{used_fields}

@@ -78,6 +78,13 @@ inside : called StringContains false (text (codes "cmd.exe") ∷ text (codes "d.
 unfolding same
 inside = refl
 
+-- the empty text stands in none, nor in itself
+empty_inside : called StringContains false (text (codes "a") ∷ text [] ∷ []) ≡ value.Bool false
+empty_inside = refl
+
+empty_in_empty : called StringContains true (text [] ∷ text [] ∷ []) ≡ value.Bool false
+empty_in_empty = refl
+
 not_folded : called EndsWith false (text (codes "CMD.EXE") ∷ text (codes ".exe") ∷ []) ≡ value.Bool false
 unfolding same
 not_folded = refl

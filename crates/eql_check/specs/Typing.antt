@@ -13,7 +13,8 @@ use Rattle.eql_parser.specs.declared.query.Span.{Span}
 use Rattle.eql_parser.specs.QueryTree.{TermTree, BodyTree, event, sequence, QueryTree}
 use Rattle.eql_check.specs.declared.function.Function.{Function}
 use Rattle.eql_check.specs.Names.{function_of}
-use Rattle.eql_check.specs.Kinds.{same_kind, may_be, can_compare, can_be_among, holds_field}
+use Rattle.eql_values.specs.Fitting.{same_kind, may_be}
+use Rattle.eql_check.specs.Kinds.{can_compare, can_be_among, holds_field}
 use Rattle.eql_check.specs.Calls.{takes_count, takes_kinds, given_by, bad_block_of}
 use Rattle.std.specs.declared.result.Result.TheVariants.{Ok}
 use Rattle.eql_check.specs.FirstBroken.{all_bool, kind_of}

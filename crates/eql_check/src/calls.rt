@@ -128,7 +128,8 @@ fn bad_block(args: &[Expr]) -> Option<&Text>
 
 /// The first such text of a call.
 pub(crate) fn bad_block_of(function: Function, args: &[Expr]) -> Option<&Text>
-    ensures { option_map (λ text. text.now) result ≡ calls.bad_block_of function (trees_of (map tree args.now)) }
+    ensures { option_map (λ text. text.now) result
+        ≡ calls.bad_block_of function (trees_of (map tree args.now)) }
 {
     match (function, args) {
         (Function::CidrMatch, [_, blocks @ ..]) => bad_block(blocks),

@@ -6,6 +6,7 @@ ghost use Rattle.eql_check.specs.Conditions.{key_count as key_count_of};
 ghost use Rattle.eql_check.specs.Used.{used_fields, AreOnce};
 ghost use Rattle.eql_check.specs.Rules.{first_broken};
 ghost use Rattle.eql_check.specs.Kept.{ConditionsAreBool, OperatorsMeetKinds};
+ghost use Rattle.eql_check.specs.RulesKept.{KeepsRules};
 
 use crate::mapping::Mapping;
 use crate::parts::key_count;
@@ -14,7 +15,6 @@ use eql_values::NameKinds;
 use std::marker::Model;
 
 /// A query that breaks no rule, with the fields that it uses.
-#[derive(Drop)]
 pub struct Checked {
     query: Query,
     fields: NameKinds,
@@ -72,6 +72,25 @@ impl Checked {
         ensures few { result ≤ 8 }
     {
         key_count(&self.query.body) as u32
+    }
+
+    /// Every checked query keeps the rules, under some mapping from which its used fields come: runs are 1 to 100, a
+    /// sequence has 2 to 256 stages, each item has as many keys of its own as the first, the span is 1 ms to 36,500
+    /// days, at most 8 pipes have counts from 0 to 1,000,000, and each condition is Boolean or always null.
+    pub fn rules_are_kept(&self)
+        ensures { KeepsRules (query_tree self.now.query) self.now.fields }
+    {
+        // For the proof alone, which looks at the query and its fields there.
+        let _query = &self.query;
+    }
+}
+
+impl Drop for Checked {
+    fn drop(self) {
+        let Checked {
+            query: _,
+            fields: _,
+        } = self;
     }
 }
 

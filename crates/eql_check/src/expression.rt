@@ -13,7 +13,7 @@ use crate::kinds::{can_be_among, can_compare, holds_field, may_be};
 use crate::mapping::Mapping;
 use crate::refused::CheckRefused;
 use eql_parser::{CmpOp, Expr, Exprs, FieldRef};
-use eql_values::{Kind, Text};
+use eql_values::{Kind, Text, Value};
 use std::alloc::Global;
 use std::marker::Model;
 
@@ -45,7 +45,9 @@ fn given(item: u32, fits: bool, kind: Kind) -> Result<Option<Kind>, CheckRefused
 
 /// The kind of a field.
 fn field_kind(mapping: &Mapping, field: &FieldRef) -> Result<Option<Kind>, CheckRefused>
-    ensures { Answers result (broken.field_kind (kind_at mapping.now field.now.name) field.now.optional field.now.name) }
+    ensures { Answers result
+        (broken.field_kind (kind_at mapping.now field.now.name) field.now.optional
+        field.now.name) }
 {
     match mapping.kind(&field.name) {
         Some(kind) => Ok(Some(kind)),
@@ -68,7 +70,9 @@ fn call_kind(
     args: &[Expr],
     kinds: &[Option<Kind>],
 ) -> Result<Option<Kind>, CheckRefused>
-    ensures { Answers result (broken.call_kind item (function_of name.now fold) (calls.shown name.now fold) (trees_of (map tree args.now)) kinds.now) }
+    ensures { Answers result
+        (broken.call_kind item (function_of name.now fold) (calls.shown name.now fold)
+        (trees_of (map tree args.now)) kinds.now) }
 {
     let Some(function) = Function::of(name, fold) else {
         let name = shown(name, fold)?;
@@ -104,6 +108,17 @@ fn comparison(
     }
 }
 
+/// The kind of an operator on two whole numbers.
+fn calculation(item: u32, j: Option<Kind>, k: Option<Kind>) -> Result<Option<Kind>, CheckRefused>
+    ensures { result ≡ broken.calculation item j k }
+{
+    given(
+        item,
+        may_be(Kind::Long, j) && may_be(Kind::Long, k),
+        Kind::Long,
+    )
+}
+
 /// The kind of an expression of an item, or the first rule that it breaks. An expression that is always null has no kind.
 #[cycle(kind)]
 pub(crate) fn kind_of(
@@ -120,35 +135,19 @@ pub(crate) fn kind_of(
         Expr::Long(_) => Ok(Some(Kind::Long)),
         Expr::Str(_) => Ok(Some(Kind::Text)),
         Expr::Field(field) => field_kind(mapping, field),
-        Expr::Not(a) => {
-            let k = kind_of(alloc, item, mapping, a)?;
-            given(item, may_be(Kind::Bool, k), Kind::Bool)
-        }
-        Expr::Neg(a) => {
-            let k = kind_of(alloc, item, mapping, a)?;
-            given(item, may_be(Kind::Long, k), Kind::Long)
-        }
-        Expr::Pattern(_, a, _) => {
-            let k = kind_of(alloc, item, mapping, a)?;
-            given(item, may_be(Kind::Text, k), Kind::Bool)
-        }
+        Expr::Not(a) => operator(alloc, item, mapping, a, Kind::Bool, Kind::Bool),
+        Expr::Neg(a) => operator(alloc, item, mapping, a, Kind::Long, Kind::Long),
+        Expr::Pattern(_, a, _) => operator(alloc, item, mapping, a, Kind::Text, Kind::Bool),
         Expr::Member {
             fold,
             left,
             list,
             ..
-        } => {
-            let k = kind_of(alloc, item, mapping, left)?;
-            given(item, can_be_among(*fold, k, list.items()), Kind::Bool)
-        }
+        } => member(alloc, item, mapping, *fold, left, list.items()),
         Expr::Math(_, a, b) => {
             let j = kind_of(alloc, item, mapping, a)?;
             let k = kind_of(alloc, item, mapping, b)?;
-            given(
-                item,
-                may_be(Kind::Long, j) && may_be(Kind::Long, k),
-                Kind::Long,
-            )
+            calculation(item, j, k)
         }
         Expr::Cmp(op, a, b) => {
             let j = kind_of(alloc, item, mapping, a)?;
@@ -157,11 +156,56 @@ pub(crate) fn kind_of(
         }
         Expr::And(operands) => connective(alloc, item, mapping, operands),
         Expr::Or(operands) => connective(alloc, item, mapping, operands),
-        Expr::Call { name, fold, args } => {
-            let kinds = kinds_of(alloc, item, mapping, args)?;
-            call_kind(item, name, *fold, args.items(), &kinds.items)
-        }
+        Expr::Call { name, fold, args } => called(alloc, item, mapping, name, *fold, args),
     }
+}
+
+/// The kind of an operator on one operand, which asks for a kind and gives one.
+#[cycle(kind)]
+fn operator(
+    alloc: Global,
+    item: u32,
+    mapping: &Mapping,
+    a: &Expr,
+    asked: Kind,
+    gives: Kind,
+) -> Result<Option<Kind>, CheckRefused>
+    ensures { Answers result (broken.operator item (kind_at mapping.now) (tree a.now) asked gives) }
+{
+    let k = kind_of(alloc, item, mapping, a)?;
+    given(item, may_be(asked, k), gives)
+}
+
+/// The kind of a list test.
+#[cycle(kind)]
+fn member(
+    alloc: Global,
+    item: u32,
+    mapping: &Mapping,
+    fold: bool,
+    left: &Expr,
+    list: &[Value],
+) -> Result<Option<Kind>, CheckRefused>
+    ensures { Answers result (broken.member item (kind_at mapping.now) fold (tree left.now) list.now) }
+{
+    let k = kind_of(alloc, item, mapping, left)?;
+    given(item, can_be_among(fold, k, list), Kind::Bool)
+}
+
+/// The kind of a call.
+#[cycle(kind)]
+fn called(
+    alloc: Global,
+    item: u32,
+    mapping: &Mapping,
+    name: &Text,
+    fold: bool,
+    args: &Exprs,
+) -> Result<Option<Kind>, CheckRefused>
+    ensures { Answers result (broken.call item (kind_at mapping.now) name.now fold (trees args.now)) }
+{
+    let kinds = kinds_of(alloc, item, mapping, args)?;
+    call_kind(item, name, fold, args.items(), &kinds.items)
 }
 
 /// The kind of `and` and `or`.
@@ -173,7 +217,9 @@ fn connective(
     mapping: &Mapping,
     operands: &Exprs,
 ) -> Result<Option<Kind>, CheckRefused>
-    ensures { Answers result (broken.connective item (broken.kinds_of item (kind_at mapping.now) (trees operands.now))) }
+    ensures { Answers result
+        (broken.connective item
+        (broken.kinds_of item (kind_at mapping.now) (trees operands.now))) }
 {
     let all = are_bools(alloc, item, mapping, operands)?;
     given(item, all, Kind::Bool)

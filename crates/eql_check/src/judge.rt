@@ -14,7 +14,6 @@ ghost use Rattle.eql_check.specs.Wants.{check_memory};
 ghost use Rattle.eql_check.specs.declared.refused.CheckRefused.TheVariants.{ManyFields, ManyKeys};
 
 use crate::checked::Checked;
-use crate::copy::copy_query;
 use crate::items::{check_items, check_keys};
 use crate::keys::{check_counts, check_kinds};
 use crate::limits::{check_pipes, check_span, check_stages};
@@ -22,7 +21,7 @@ use crate::mapping::Mapping;
 use crate::parts::{all_items, key_count, shared_keys, span_of};
 use crate::refused::CheckRefused;
 use crate::used::{Used, add_key_names, add_names_of};
-use eql_parser::{Body, Query, Term};
+use eql_parser::{Body, Query, Term, copy_query};
 use eql_values::{Memory, NameKinds};
 use std::alloc::Global;
 
@@ -127,7 +126,9 @@ fn check_whole(
 /// The fields that a query uses, where it breaks no rule.
 fn check_query(alloc: Global, query: &Query, mapping: &Mapping) -> Result<NameKinds, CheckRefused>
     requires { length (items_of (body_tree query.now.body)) ≤ 4294967295 }
-    ensures { Answers result (fields_or (first_broken (kind_at mapping.now) (query_tree query.now)) (used_fields (kind_at mapping.now) (query_tree query.now))) }
+    ensures { Answers result
+        (fields_or (first_broken (kind_at mapping.now) (query_tree query.now))
+        (used_fields (kind_at mapping.now) (query_tree query.now))) }
 {
     let items = all_items(alloc, &query.body)?;
     check_keys(mapping, shared_keys(&query.body))?;
@@ -148,9 +149,14 @@ pub fn check(alloc: Global, query: &Query, mapping: &Mapping) -> Result<Checked,
     requires { length (items_of (query_tree query.now).body) ≤ 4294967295 }
     ensures checked { IfOk result (λ checked. IsChecked (kind_at mapping.now) (query_tree query.now)) }
     ensures query { IfOk result (λ checked. query_tree checked.query ≡ query_tree query.now) }
-    ensures fields { IfOk result (λ checked. checked.fields ≡ used_fields (kind_at mapping.now) (query_tree query.now)) }
-    ensures refused { IfErr result (λ rule. rule ≢ check_memory → first_broken (kind_at mapping.now) (query_tree query.now) ≡ Some rule) }
-    ensures unchecked { IfErr result (λ rule. rule ≢ check_memory → ¬ IsChecked (kind_at mapping.now) (query_tree query.now)) }
+    ensures fields { IfOk result
+        (λ checked. checked.fields ≡ used_fields (kind_at mapping.now) (query_tree query.now)) }
+    ensures refused { IfErr result
+        (λ rule. rule ≢ check_memory
+        → first_broken (kind_at mapping.now) (query_tree query.now) ≡ Some rule) }
+    ensures unchecked { IfErr result
+        (λ rule. rule ≢ check_memory
+        → ¬ IsChecked (kind_at mapping.now) (query_tree query.now)) }
 {
     let fields = check_query(alloc, query, mapping)?;
     let copy = copy_query(alloc, query)?;

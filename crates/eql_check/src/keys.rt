@@ -54,7 +54,8 @@ fn fit(mapping: &Mapping, before: &[Option<Kind>], keys: &[FieldRef]) -> bool
 
 /// Settles the kinds of keys at the places where none is settled yet.
 fn settle(mapping: &Mapping, keys: &[FieldRef], kinds: &mut Vec<Option<Kind>>) -> Result<(), Memory>
-    ensures { OnOk result (kinds.new.items ≡ settled kinds.old.items (key_kinds (kind_at mapping.now) keys.now)) }
+    ensures { OnOk result
+        (kinds.new.items ≡ settled kinds.old.items (key_kinds (kind_at mapping.now) keys.now)) }
 {
     for (place, key) in keys.iter().enumerate() {
         let kind = mapping.kind(&key.name);

@@ -3,14 +3,16 @@
 ghost use Rattle.std.specs.Prelude.{◌≡◌};
 ghost use Rattle.std.specs.List.{list_all};
 ghost use Rattle.eql_parser.specs.View.{tree, trees};
+ghost use Rattle.eql_values.specs.Fitting as fitting;
 ghost use Rattle.eql_check.specs.Kinds as kinds;
+ghost use Rattle.eql_check.specs.Truth.{is_literal_null};
 
 use eql_parser::{CmpOp, Expr, Exprs};
 use eql_text::parse_ip4;
 use eql_values::{Kind, Value};
 
 fn same_kind(j: Kind, k: Kind) -> bool
-    ensures { result ≡ kinds.same_kind j k }
+    ensures { result ≡ fitting.same_kind j k }
 {
     match (j, k) {
         (Kind::Bool, Kind::Bool) => true,
@@ -23,7 +25,7 @@ fn same_kind(j: Kind, k: Kind) -> bool
 
 /// Whether an operand of the second kind may stand where the first is asked for.
 pub(crate) fn may_be(asked: Kind, kind: Option<Kind>) -> bool
-    ensures { result ≡ kinds.may_be asked kind }
+    ensures { result ≡ fitting.may_be asked kind }
 {
     match kind {
         None => true,
@@ -42,7 +44,7 @@ pub(crate) fn alike(j: Option<Kind>, k: Option<Kind>) -> bool
 }
 
 fn kind_of_value(value: &Value) -> Option<Kind>
-    ensures { result ≡ kinds.kind_of_value value.now }
+    ensures { result ≡ fitting.kind_of_value value.now }
 {
     match value {
         Value::Null => None,
@@ -99,10 +101,14 @@ fn can_equal(kind: Option<Kind>, literal: &Value) -> bool
     }
 }
 
+/// Whether a literal is a text or null.
 fn is_text(literal: &Value) -> bool
     ensures { result ≡ kinds.is_text literal.now }
 {
-    may_be(Kind::Text, kind_of_value(literal))
+    match literal {
+        Value::Text(_) | Value::Null => true,
+        _ => false,
+    }
 }
 
 fn are_texts(list: &[Value]) -> bool
@@ -128,9 +134,19 @@ pub(crate) fn can_be_among(fold: bool, kind: Option<Kind>, list: &[Value]) -> bo
     }
 }
 
+/// Whether the expression is the literal `null`.
+pub fn is_null(expr: &Expr) -> bool
+    ensures { result ≡ is_literal_null (tree expr.now) }
+{
+    match expr {
+        Expr::Null => true,
+        _ => false,
+    }
+}
+
 /// Whether a field stands in the expression.
 #[cycle(holds)]
-pub(crate) fn holds_field(expr: &Expr) -> bool
+pub fn holds_field(expr: &Expr) -> bool
     ensures { result ≡ kinds.holds_field (tree expr.now) }
 {
     match expr {

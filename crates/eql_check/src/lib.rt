@@ -4,7 +4,6 @@
 
 mod calls;
 mod checked;
-mod copy;
 mod expression;
 mod function;
 mod items;
@@ -14,6 +13,7 @@ mod kinds;
 mod laws;
 mod limits;
 mod mapping;
+mod message;
 mod parts;
 mod refused;
 mod used;
@@ -21,6 +21,7 @@ mod used;
 pub use checked::{Checked, conditions_are_bool, operators_meet_kinds};
 pub use function::Function;
 pub use judge::{can_check, check};
+pub use kinds::{holds_field, is_null};
 pub use laws::{
     check_is_exact, connectives_read, floors_are_exact, kinds_are_exact, kinds_are_kept,
     kinds_are_met, texts_by_characters,

@@ -1,11 +1,12 @@
 //! The mapping: the kinds of the fields of events.
-ghost use Rattle.std.specs.Prelude.{◌≡◌, ◌≤◌, length, IfOk, option_map};
+ghost use Rattle.std.specs.Prelude.{◌≡◌, ◌≤◌, length};
 ghost use Rattle.serde_json.specs.View.{view, members_view};
 ghost use Rattle.eql_check.specs.Kinds.{kind_at};
-ghost use Rattle.eql_check.specs.Mappings.{NamesAscend, fields_if_few, fields_of, json_of, kind_named, mapping_in, mapping_of};
+ghost use Rattle.eql_check.specs.Mappings.{NamesAscend, fields_if_few, fields_of, kind_named, mapping_in, mapping_of};
 ghost use Rattle.eql_check.specs.MappingAnswers.{Reads};
 ghost use Rattle.eql_check.specs.Wants.{map_memory};
 
+use eql_json::read_json;
 use eql_values::{Kind, Memory, NameKinds, Text};
 use serde_json::{Map, Value};
 use std::alloc::{AllocError, AllocFailed, Global};
@@ -68,7 +69,7 @@ impl<T: Drop> From<AllocFailed<T>> for MapRefused {
 
 /// The kinds of the fields of events, by their names. The names stand in the order of their bytes, each once, and are at
 /// most 1,024.
-#[derive(Debug, Drop)]
+#[derive(Drop)]
 pub struct Mapping {
     names: NameKinds,
 }
@@ -126,20 +127,6 @@ fn find(fields: &[(Text, Kind)], name: &Text) -> Option<Kind>
     match fields.binary_search_by(|field| field.0.cmp(name)) {
         Ok(place) => Some(fields[place].1),
         Err(_) => None,
-    }
-}
-
-/// What `serde_json` reads in the bytes, or none.
-fn read_json(alloc: Global, bytes: &[u8]) -> Result<Option<Value>, Memory>
-    ensures { IfOk result (λ value. option_map view value ≡ json_of bytes.now) }
-{
-    match Value::from_slice(alloc, bytes) {
-        Ok(value) => Ok(Some(value)),
-        Err(error) => if error.is_memory() {
-            Err(Memory)
-        } else {
-            Ok(None)
-        },
     }
 }
 

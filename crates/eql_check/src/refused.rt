@@ -6,7 +6,7 @@ use std::alloc::{AllocError, AllocFailed};
 
 /// Why the check refuses a query: the first rule that it breaks. Items are numbered from 1 in the order of the text, the
 /// until item last; single events are item 1. The name of a function's form with `~` has it at its end.
-#[derive(Debug, Drop)]
+#[derive(Debug)]
 pub enum CheckRefused {
     /// The mapping doesn't have this field, and it isn't marked as optional.
     UnknownField {
@@ -105,5 +105,28 @@ impl<T: Drop> From<AllocFailed<T>> for CheckRefused {
 
     fn from(_error: AllocFailed<T>) -> CheckRefused {
         CheckRefused::Memory
+    }
+}
+
+impl Drop for CheckRefused {
+    fn drop(self) {
+        match self {
+            CheckRefused::UnknownField { name: _ } => {}
+            CheckRefused::UnknownFunction { name: _ } => {}
+            CheckRefused::Arity { name: _ } => {}
+            CheckRefused::KindMismatch { item: _ } => {}
+            CheckRefused::FieldToField { item: _ } => {}
+            CheckRefused::KeyCount { item: _ } => {}
+            CheckRefused::KeyKind { item: _ } => {}
+            CheckRefused::FewStages => {}
+            CheckRefused::Runs { count: _ } => {}
+            CheckRefused::ManyStages { count: _ } => {}
+            CheckRefused::ManyKeys { count: _ } => {}
+            CheckRefused::ManyFields { count: _ } => {}
+            CheckRefused::Span => {}
+            CheckRefused::Pipe => {}
+            CheckRefused::Cidr { text: _ } => {}
+            CheckRefused::Memory => {}
+        }
     }
 }

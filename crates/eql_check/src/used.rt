@@ -56,7 +56,8 @@ impl Used {
 
     /// Uses some fields, one after another.
     pub(crate) fn add_all(&mut self, mapping: &Mapping, names: &[&Text]) -> Result<(), Memory>
-        ensures { OnOk result (self.new ≡ used_after (kind_at mapping.now) self.old (names_seen names.now)) }
+        ensures { OnOk result
+            (self.new ≡ used_after (kind_at mapping.now) self.old (names_seen names.now)) }
     {
         for name in names {
             self.add(mapping, *name)?;
@@ -86,7 +87,8 @@ impl Used {
 /// Adds the names of an expression's fields, in the order of the text.
 #[cycle(names)]
 fn add_names<'q>(expr: &'q Expr, names: &mut Vec<&'q Text>) -> Result<(), Memory>
-    ensures { OnOk result (names_seen names.new.items ≡ names_seen names.old.items ++ fields_in (tree expr.now)) }
+    ensures { OnOk result
+        (names_seen names.new.items ≡ names_seen names.old.items ++ fields_in (tree expr.now)) }
 {
     match expr {
         Expr::Null | Expr::Bool(_) | Expr::Long(_) | Expr::Str(_) => Ok(()),
@@ -112,7 +114,9 @@ fn add_names<'q>(expr: &'q Expr, names: &mut Vec<&'q Text>) -> Result<(), Memory
 
 #[cycle(names)]
 fn add_names_among<'q>(exprs: &'q Exprs, names: &mut Vec<&'q Text>) -> Result<(), Memory>
-    ensures { OnOk result (names_seen names.new.items ≡ names_seen names.old.items ++ fields_among (trees exprs.now)) }
+    ensures { OnOk result
+        (names_seen names.new.items
+        ≡ names_seen names.old.items ++ fields_among (trees exprs.now)) }
 {
     for item in exprs.items() {
         add_names(item, names)?;
@@ -135,7 +139,10 @@ pub(crate) fn add_key_names<'q>(
 
 /// Adds the names of an item's fields: of its condition and then of its own keys.
 fn add_item_names<'q>(item: &'q Term, names: &mut Vec<&'q Text>) -> Result<(), Memory>
-    ensures { OnOk result (names_seen names.new.items ≡ names_seen names.old.items ++ (fields_in (tree item.now.cond) ++ key_names item.now.by)) }
+    ensures { OnOk result
+        (names_seen names.new.items
+        ≡ names_seen names.old.items
+        ++ (fields_in (tree item.now.cond) ++ key_names item.now.by)) }
 {
     add_names(&item.cond, names)?;
     add_key_names(item.by.items(), names)
@@ -143,7 +150,9 @@ fn add_item_names<'q>(item: &'q Term, names: &mut Vec<&'q Text>) -> Result<(), M
 
 /// Adds the names of the fields of items.
 pub(crate) fn add_names_of<'q>(items: &[&'q Term], names: &mut Vec<&'q Text>) -> Result<(), Memory>
-    ensures { OnOk result (names_seen names.new.items ≡ names_seen names.old.items ++ item_fields (terms_in items.now)) }
+    ensures { OnOk result
+        (names_seen names.new.items
+        ≡ names_seen names.old.items ++ item_fields (terms_in items.now)) }
 {
     for item in items {
         add_item_names(*item, names)?;

@@ -8,7 +8,7 @@ use Rattle.eql_parser.specs.View.{tree, trees_of}
 use Rattle.eql_check.specs.declared.function.Function.{Function}
 use Rattle.eql_code.specs.declared.emit.Op.{Op}
 use Rattle.eql_code.specs.declared.emit.Op.TheVariants as op
-use Rattle.eql_code.specs.Code.{code, code_all, call_code, count_of, depth, depth_all}
+use Rattle.eql_code.specs.Code.{code, code_all, plain_call, count_of, depth, depth_all}
 
 -- what was put together from its end, turned round
 pub turned : (c before back all : List Op) → before ≡ [] → back ≡ c ++ reverse before → all ≡ back → all ≡ c
@@ -47,9 +47,9 @@ count_is (e ∷ es) = ap suc (count_is es)
 -- the call behind its arguments
 pub call_is : (fields : List (List ℕ × Kind)) (o : Option Function) (fold : Bool) (f : Function) (ts : Trees) (items : List Expr) (n : ℕ) (was now new : List Op) →
     Some f ≡ o → ts ≡ trees_of (map tree items) → n ≡ length items → now ≡ op.Call f fold n ∷ was →
-    new ≡ code_all fields ts ++ now → new ≡ call_code o fold (count_of ts) (code_all fields ts) ++ was
+    new ≡ code_all fields ts ++ now → new ≡ plain_call o fold (count_of ts) (code_all fields ts) ++ was
 call_is fields o fold f ts items n was now new named is count call before =
     before ∙ ap (λ x. code_all fields ts ++ x) call
     ∙ ap (λ m. code_all fields ts ++ (op.Call f fold m ∷ was)) (count ∙ sym (ap count_of is ∙ count_is items))
     ∙ sym (append_assoc (code_all fields ts) (op.Call f fold (count_of ts) ∷ []) was)
-    ∙ ap (λ o. call_code o fold (count_of ts) (code_all fields ts) ++ was) named
+    ∙ ap (λ o. plain_call o fold (count_of ts) (code_all fields ts) ++ was) named

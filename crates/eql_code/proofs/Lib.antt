@@ -1,3 +1,6 @@
-pub mod Emitting
-pub mod Operands
-pub mod Runs
+mod Settled
+mod Prepared
+mod Operands
+mod Runs
+mod Free
+mod Emitting

@@ -1,6 +1,6 @@
 -- The code of an expression leaves its meaning on the stack, and gets no deeper than its depth.
-use Rattle.std.proofs.Common.{◌≡◌, ℕ, zero, suc, ◌+◌, ◌-◌, ◌≤◌, ◌<◌, max, List, [], ◌∷◌, ◌++◌, length, reverse, Bool, true, false, Option, Some, None, refl, sym, ap, ◌∙◌, ◌⊎◌, inl, inr, append_assoc, append-nil, drop, drop-cons, arith, get_or}
-use Rattle.std.specs.Prelude.{nat_le, if◌then◌else◌, not, ◌||◌, ◌&&◌}
+use Rattle.std.proofs.Common.{◌≡◌, ℕ, zero, suc, ◌+◌, ◌-◌, ◌≤◌, ◌<◌, max, List, [], ◌∷◌, ◌++◌, length, reverse, Bool, true, false, Option, Some, None, refl, sym, ap, ap₂, subst, ◌∙◌, ◌⊎◌, inl, inr, append_assoc, append-nil, drop, drop-cons, arith, get_or}
+use Rattle.std.specs.Prelude.{nat_le, if◌then◌else◌, not, ◌||◌, ◌&&◌, option_map}
 use Rattle.std.proofs.lemmas.Bool.Decides.{nat_tests}
 use Rattle.std.proofs.lemmas.List.{drop-drop, length-drop}
 use Rattle.eql_values.specs.declared.value.Value.{Value}
@@ -8,19 +8,26 @@ use Rattle.eql_values.specs.declared.value.Value.TheVariants as value
 use Rattle.eql_values.specs.declared.value.Kind.{Kind}
 use Rattle.eql_parser.specs.Tree.{Tree, Trees, none, more}
 use Rattle.eql_parser.specs.Tree as t
+use Rattle.eql_text.specs.declared.addresses.Block.{Block}
+use Rattle.eql_parser.specs.declared.expr.CmpOp.{CmpOp}
 use Rattle.eql_check.specs.declared.function.Function.{Function}
+use Rattle.eql_check.specs.declared.function.Function.TheVariants.{CidrMatch}
 use Rattle.eql_check.specs.Names.{function_of}
 use Rattle.eql_check.specs.Truth.{means, values, value_at, value_in, slot_of, is_literal_null, call_of}
 use Rattle.eql_check.specs.ThreeValued.{truth, truth_in, conjunction, disjunction, all_from, any_from}
-use Rattle.eql_check.specs.Comparisons.{compares, matches_one, is_among}
+use Rattle.eql_check.specs.Comparisons.{compares, matches_one}
+use Rattle.eql_operators.specs.Prepared.{addresses_in, equals_address, is_among_read, is_in_blocks}
 use Rattle.eql_check.specs.Arithmetic.{computed, negated}
 use Rattle.eql_check.specs.Functions.{called}
+use Rattle.eql_check.specs.Kinds.{holds_field, hold_field}
 use Rattle.eql_code.specs.declared.emit.Op.{Op}
 use Rattle.eql_code.specs.declared.emit.Op.TheVariants as op
 use Rattle.eql_code.specs.Machine.{done, within, runs, skips, not_value, on_many}
 use Rattle.eql_code.specs.Stack.{gives, top_of, makes_text, is_free}
-use Rattle.eql_code.specs.Code.{code, code_each, code_all, call_code, field_code, count_of, depth, depth_each, depth_all, call_depth}
+use Rattle.eql_code.specs.Code.{code, code_each, code_all, code_first, constant, settled, settled_depth, address_op, compare_code, compare_depth, blocks_in, is_cidr, cidr_if, cidr_op, plain_call, call_code, field_code, count_of, depth, depth_each, depth_all, depth_first, plain_depth, call_depth}
 use Rattle.eql_code.proofs.Operands.{one_on, taken_back}
+use Rattle.eql_code.proofs.Settled.{same_without}
+use Rattle.eql_code.proofs.Prepared.{not_null, cidr_is, same_equality, swapped, IsWritten, written, same_cidr, same_among}
 
 -- what `and` or `or` leaves of a start and a list
 abbrev folded : (Option Bool → Option Bool → Option Bool) → Option Bool → List Value → Option Bool
@@ -85,29 +92,56 @@ passed : (slots : List Value) (limit : ℕ) (xs rest : List Op) (st : List Value
 passed slots limit [] rest st = refl
 passed slots limit (x ∷ xs) rest st = passed slots limit xs rest st
 
+or_false : (b : Bool) → (b || false) ≡ b
+or_false true = refl
+or_false false = refl
+
 truth_back : (p : Option Bool) → truth_in (truth p) ≡ p
 truth_back None = refl
 truth_back (Some b) = refl
 
-some_call : (f : Option Function) (n : ℕ) → 0 < call_depth f n
-some_call (Some f) n = omega arith
-some_call None n = omega arith
+some_plain : (f : Option Function) (n : ℕ) → 0 < plain_depth f n
+some_plain (Some f) n = omega arith
+some_plain None n = omega arith
 
-depth_some : (a : Tree) → 0 < depth a
-depth_some t.null = omega arith
-depth_some (t.bool b) = omega arith
-depth_some (t.long n) = omega arith
-depth_some (t.str s) = omega arith
-depth_some (t.field name optional) = omega arith
-depth_some (t.not a) = depth_some a
-depth_some (t.and es) = omega arith
-depth_some (t.or es) = omega arith
-depth_some (t.cmp how a b) = omega arith
-depth_some (t.pattern how a patterns) = depth_some a
-depth_some (t.member fold negated a list) = depth_some a
-depth_some (t.neg a) = depth_some a
-depth_some (t.math how a b) = omega arith
-depth_some (t.call name fold args) = some_call (function_of name fold) (depth_all 0 args)
+some_if : (b : Bool) (d : ℕ) → 0 < d → 0 < (if b then d else 1)
+some_if true d h = h
+some_if false d h = omega arith
+
+some_compare : (r l : Option Op) (plain : Op) (a b : ℕ) → 0 < a → 0 < b → 0 < compare_depth r l plain a b
+some_compare (Some o) l plain a b h h' = h
+some_compare None (Some o) plain a b h h' = h'
+some_compare None None plain a b h h' = omega arith
+
+some_read : (o : Option (List Block)) (first n : ℕ) → 0 < first → 0 < n → 0 < call_depth (option_map op.Cidr o) first n
+some_read None first n h h' = h'
+some_read (Some blocks) first n h h' = h
+
+mutual
+  depth_some : (a : Tree) → 0 < depth a
+  depth_some t.null = omega arith
+  depth_some (t.bool b) = omega arith
+  depth_some (t.long n) = omega arith
+  depth_some (t.str s) = omega arith
+  depth_some (t.field name optional) = omega arith
+  depth_some (t.not a) = some_if (holds_field a) (depth a) (depth_some a)
+  depth_some (t.and es) = some_if (hold_field es) (suc (depth_each es)) (omega arith)
+  depth_some (t.or es) = some_if (hold_field es) (suc (depth_each es)) (omega arith)
+  depth_some (t.cmp how a b) =
+      some_if (holds_field a || holds_field b) (compare_depth (address_op how b) (address_op how a) (op.Compare (is_literal_null a || is_literal_null b) how) (depth a) (depth b))
+      (some_compare (address_op how b) (address_op how a) (op.Compare (is_literal_null a || is_literal_null b) how) (depth a) (depth b) (depth_some a) (depth_some b))
+  depth_some (t.pattern how a patterns) = some_if (holds_field a) (depth a) (depth_some a)
+  depth_some (t.member fold turned a list) = some_if (holds_field a) (depth a) (depth_some a)
+  depth_some (t.neg a) = some_if (holds_field a) (depth a) (depth_some a)
+  depth_some (t.math how a b) = some_if (holds_field a || holds_field b) (max (depth a) (suc (depth b))) (omega arith)
+  depth_some (t.call name fold args) =
+      some_if (hold_field args) (call_depth (cidr_op (function_of name fold) args) (depth_first args) (plain_depth (function_of name fold) (depth_all 0 args)))
+      (some_call (is_cidr (function_of name fold)) args (plain_depth (function_of name fold) (depth_all 0 args)) (some_plain (function_of name fold) (depth_all 0 args)))
+
+  some_call : (cidr : Bool) (args : Trees) (n : ℕ) → 0 < n → 0 < call_depth (cidr_if cidr args) (depth_first args) n
+  some_call false args n h = h
+  some_call true none n h = h
+  some_call true (more a es) n h = some_read (blocks_in es) (depth a) n (depth_some a) h
 
 module _ (env : List ℕ → Value) where
   count_values : (es : Trees) → count_of es ≡ length (values env es)
@@ -175,13 +209,87 @@ module _ (slots : List Value) (limit : ℕ) where
 
   -- a call behind its arguments
   after_all : (f : Option Function) (fold : Bool) (n : ℕ) (c : List Op) (d : ℕ) (vs : List Value) → n ≡ length vs → Puts c d vs →
-      Leaves (call_code f fold n c) (call_depth f d) (call_of f fold vs)
+      Leaves (plain_call f fold n c) (plain_depth f d) (call_of f fold vs)
   after_all None fold n c d vs count puts = push (op.Push value.Null) value.Null (λ st. refl) (λ st. refl)
   after_all (Some f) fold n c d vs count puts =
       λ rest st h. ap (λ os. runs slots limit 0 os st) (append_assoc c (op.Call f fold n ∷ []) rest) ∙ puts (op.Call f fold n ∷ rest) st (omega arith)
       ∙ one slots limit (op.Call f fold n) rest (reverse vs ++ st) (called f fold vs ∷ st) (λ st. refl) (ap (on_many (called f fold)) (taken_back vs st n count)) (omega arith)
 
+  -- what is left may be written otherwise
+  becomes : (c : List Op) (d : ℕ) (x y : Value) → Leaves c d x → x ≡ y → Leaves c d y
+  becomes c d x y run e rest st h = run rest st h ∙ ap (λ v. runs slots limit 0 rest (v ∷ st)) e
+
   module _ (fields : List (List ℕ × Kind)) where
+    abbrev meaning : Tree → Value
+    meaning a = means (value_at fields slots) a
+
+    -- an expression without a field is its value alone
+    settle_if : (b : Bool) (a : Tree) (c : List Op) (d : ℕ) → holds_field a ≡ b → (holds_field a ≡ true → Leaves c d (meaning a)) →
+        Leaves (if b then c else (op.Push (constant a) ∷ [])) (if b then d else 1) (meaning a)
+    settle_if true a c d e run = run e
+    settle_if false a c d e run =
+        becomes (op.Push (constant a) ∷ []) 1 (constant a) (meaning a) (push (op.Push (constant a)) (constant a) (λ st. refl) (λ st. refl))
+        (same_without (value_at [] []) (value_at fields slots) a e)
+
+    settle : (a : Tree) (c : List Op) (d : ℕ) → (holds_field a ≡ true → Leaves c d (meaning a)) → Leaves (settled a c) (settled_depth a d) (meaning a)
+    settle a c d run = settle_if (holds_field a) a c d refl run
+
+    -- an address in quotes on a side
+    beside : (c : List Op) (d : ℕ) (how : CmpOp) (a : Tree) (x : Value) (o : Op) → Leaves c d x → 0 < d → IsWritten how a o →
+        Leaves (c ++ o ∷ []) d (compares false how x (meaning a))
+    beside c d how a x o run some w =
+        becomes (c ++ o ∷ []) d (equals_address w.negated x (value.Text w.text) w.ip) (compares false how x (meaning a))
+        (subst (λ o. Leaves (c ++ o ∷ []) d (equals_address w.negated x (value.Text w.text) w.ip)) (sym w.its_op)
+        (after_one c d x (op.Address w.negated (value.Text w.text) w.ip) (λ v. equals_address w.negated v (value.Text w.text) w.ip) run some (λ st. refl) (λ v st. refl)))
+        (same_equality w.negated x w.text w.ip w.its_ip
+        ∙ ap₂ (λ how a. compares false how x (meaning a)) (sym w.its_how) (sym w.its_tree))
+
+    other_side : (how : CmpOp) (a : Tree) (x : Value) (o : Op) → IsWritten how a o → compares false how x (meaning a) ≡ compares false how (meaning a) x
+    other_side how a x o w =
+        ap₂ (λ how a. compares false how x (meaning a)) w.its_how w.its_tree ∙ swapped w.negated x w.text w.ip w.its_ip
+        ∙ ap₂ (λ how a. compares false how (meaning a) x) (sym w.its_how) (sym w.its_tree)
+
+    -- beside a text in quotes a field stands on the other side, which so isn't the literal null
+    no_null_left : (a b : Tree) (how : CmpOp) (o : Op) → (holds_field a || holds_field b) ≡ true → IsWritten how b o → (is_literal_null a || is_literal_null b) ≡ false
+    no_null_left a b how o e w =
+        let alone : holds_field a ≡ true = sym (or_false (holds_field a)) ∙ ap (λ b. holds_field a || holds_field b) (sym w.its_tree) ∙ e in
+        ap₂ (λ p b. p || is_literal_null b) (not_null a alone) w.its_tree
+
+    no_null_right : (a b : Tree) (how : CmpOp) (o : Op) → (holds_field a || holds_field b) ≡ true → IsWritten how a o → (is_literal_null a || is_literal_null b) ≡ false
+    no_null_right a b how o e w =
+        let alone : holds_field b ≡ true = ap (λ a. holds_field a || holds_field b) (sym w.its_tree) ∙ e in
+        ap₂ (λ a q. is_literal_null a || q) w.its_tree (not_null b alone)
+
+    compared : (how : CmpOp) (a b : Tree) (r l : Option Op) → address_op how b ≡ r → address_op how a ≡ l → (holds_field a || holds_field b) ≡ true →
+        Leaves (code fields a) (depth a) (meaning a) → Leaves (code fields b) (depth b) (meaning b) →
+        Leaves (compare_code r l (op.Compare (is_literal_null a || is_literal_null b) how) (code fields a) (code fields b))
+        (compare_depth r l (op.Compare (is_literal_null a || is_literal_null b) how) (depth a) (depth b)) (compares (is_literal_null a || is_literal_null b) how (meaning a) (meaning b))
+    compared how a b (Some o) l is is' e run run' =
+        let w = written how b o is in
+        becomes _ (depth a) _ _ (beside (code fields a) (depth a) how b (meaning a) o run (depth_some a) w)
+        (ap (λ p. compares p how (meaning a) (meaning b)) (sym (no_null_left a b how o e w)))
+    compared how a b None (Some o) is is' e run run' =
+        let w = written how a o is' in
+        becomes _ (depth b) _ _ (beside (code fields b) (depth b) how a (meaning b) o run' (depth_some b) w)
+        (other_side how a (meaning b) o w ∙ ap (λ p. compares p how (meaning a) (meaning b)) (sym (no_null_right a b how o e w)))
+    compared how a b None None is is' e run run' =
+        after_two (code fields a) (code fields b) (depth a) (depth b) _ _ (op.Compare (is_literal_null a || is_literal_null b) how)
+        (compares (is_literal_null a || is_literal_null b) how) run run' (λ st. refl) (λ x y st. refl)
+
+    -- `cidrMatch` with blocks in quotes
+    in_blocks : (f : Option Function) (fold : Bool) (a : Tree) (es : Trees) (bs : List Block) → f ≡ Some CidrMatch → blocks_in es ≡ Some bs →
+        Leaves (code fields a) (depth a) (meaning a) → Leaves (code fields a ++ op.Cidr bs ∷ []) (depth a) (call_of f fold (values (value_at fields slots) (more a es)))
+    in_blocks f fold a es bs is e run =
+        becomes _ (depth a) _ _
+        (after_one (code fields a) (depth a) (meaning a) (op.Cidr bs) (λ v. is_in_blocks v bs) run (depth_some a) (λ st. refl) (λ v st. refl))
+        (same_cidr (value_at fields slots) (meaning a) es bs e ∙ ap (λ f. call_of f fold (values (value_at fields slots) (more a es))) (sym is))
+
+    read : (o : Option (List Block)) (f : Option Function) (fold : Bool) (a : Tree) (es : Trees) (plain : List Op) (d : ℕ) → f ≡ Some CidrMatch → blocks_in es ≡ o →
+        Leaves (code fields a) (depth a) (meaning a) → Leaves plain d (call_of f fold (values (value_at fields slots) (more a es))) →
+        Leaves (call_code (option_map op.Cidr o) (code fields a) plain) (call_depth (option_map op.Cidr o) (depth a) d) (call_of f fold (values (value_at fields slots) (more a es)))
+    read None f fold a es plain d is e run run' = run'
+    read (Some bs) f fold a es plain d is e run run' = in_blocks f fold a es bs is e run
+
     mutual
       pub leaves : (a : Tree) → Leaves (code fields a) (depth a) (means (value_at fields slots) a)
       leaves t.null = push (op.Push value.Null) value.Null (λ st. refl) (λ st. refl)
@@ -189,27 +297,53 @@ module _ (slots : List Value) (limit : ℕ) where
       leaves (t.long n) = push (op.Push (value.Long n)) (value.Long n) (λ st. refl) (λ st. refl)
       leaves (t.str s) = push (op.Push (value.Text s)) (value.Text s) (λ st. refl) (λ st. refl)
       leaves (t.field name optional) = of_field (slot_of fields name)
-      leaves (t.not a) = after_one (code fields a) (depth a) _ op.Not not_value (leaves a) (depth_some a) (λ st. refl) (λ x st. refl)
+      leaves (t.not a) =
+          settle (t.not a) (code fields a ++ op.Not ∷ []) (depth a)
+          (λ e. after_one (code fields a) (depth a) _ op.Not not_value (leaves a) (depth_some a) (λ st. refl) (λ x st. refl))
       leaves (t.and es) =
-          λ rest st h. begun (op.Push (value.Bool true)) (value.Bool true) _ _ (depth_each es) (λ st. refl) (λ st. refl)
+          settle (t.and es) (op.Push (value.Bool true) ∷ code_each fields op.And es) (suc (depth_each es))
+          (λ e rest st h. begun (op.Push (value.Bool true)) (value.Bool true) _ _ (depth_each es) (λ st. refl) (λ st. refl)
           (leaves_each op.And conjunction joins-and cuts-and es (Some true)) rest st h
-          ∙ ap (λ p. runs slots limit 0 rest (truth p ∷ st)) (folded-and (Some true) (values (value_at fields slots) es))
+          ∙ ap (λ p. runs slots limit 0 rest (truth p ∷ st)) (folded-and (Some true) (values (value_at fields slots) es)))
       leaves (t.or es) =
-          λ rest st h. begun (op.Push (value.Bool false)) (value.Bool false) _ _ (depth_each es) (λ st. refl) (λ st. refl)
+          settle (t.or es) (op.Push (value.Bool false) ∷ code_each fields op.Or es) (suc (depth_each es))
+          (λ e rest st h. begun (op.Push (value.Bool false)) (value.Bool false) _ _ (depth_each es) (λ st. refl) (λ st. refl)
           (leaves_each op.Or disjunction joins-or cuts-or es (Some false)) rest st h
-          ∙ ap (λ p. runs slots limit 0 rest (truth p ∷ st)) (folded-or (Some false) (values (value_at fields slots) es))
+          ∙ ap (λ p. runs slots limit 0 rest (truth p ∷ st)) (folded-or (Some false) (values (value_at fields slots) es)))
       leaves (t.cmp how a b) =
-          after_two (code fields a) (code fields b) (depth a) (depth b) _ _ (op.Compare (is_literal_null a || is_literal_null b) how) (compares (is_literal_null a || is_literal_null b) how) (leaves a) (leaves b) (λ st. refl) (λ x y st. refl)
+          settle (t.cmp how a b)
+          (compare_code (address_op how b) (address_op how a) (op.Compare (is_literal_null a || is_literal_null b) how) (code fields a) (code fields b))
+          (compare_depth (address_op how b) (address_op how a) (op.Compare (is_literal_null a || is_literal_null b) how) (depth a) (depth b))
+          (λ e. compared how a b (address_op how b) (address_op how a) refl refl e (leaves a) (leaves b))
       leaves (t.pattern how a patterns) =
-          after_one (code fields a) (depth a) _ (op.Pattern how patterns) (λ x. matches_one how x patterns) (leaves a) (depth_some a) (λ st. refl) (λ x st. refl)
-      leaves (t.member fold negated a list) =
-          after_one (code fields a) (depth a) _ (op.Member fold negated list) (λ x. is_among fold negated x list) (leaves a) (depth_some a) (λ st. refl) (λ x st. refl)
-      leaves (t.neg a) = after_one (code fields a) (depth a) _ op.Negate negated (leaves a) (depth_some a) (λ st. refl) (λ x st. refl)
+          settle (t.pattern how a patterns) (code fields a ++ op.Pattern how patterns ∷ []) (depth a)
+          (λ e. after_one (code fields a) (depth a) _ (op.Pattern how patterns) (λ x. matches_one how x patterns) (leaves a) (depth_some a) (λ st. refl) (λ x st. refl))
+      leaves (t.member fold turned a list) =
+          settle (t.member fold turned a list) (code fields a ++ op.Member fold turned list (addresses_in list) ∷ []) (depth a)
+          (λ e. becomes _ (depth a) _ _
+          (after_one (code fields a) (depth a) _ (op.Member fold turned list (addresses_in list)) (λ x. is_among_read fold turned x list (addresses_in list)) (leaves a) (depth_some a) (λ st. refl) (λ x st. refl))
+          (same_among fold turned (meaning a) list))
+      leaves (t.neg a) =
+          settle (t.neg a) (code fields a ++ op.Negate ∷ []) (depth a)
+          (λ e. after_one (code fields a) (depth a) _ op.Negate negated (leaves a) (depth_some a) (λ st. refl) (λ x st. refl))
       leaves (t.math how a b) =
-          after_two (code fields a) (code fields b) (depth a) (depth b) _ _ (op.Math how) (computed how) (leaves a) (leaves b) (λ st. refl) (λ x y st. refl)
+          settle (t.math how a b) (code fields a ++ (code fields b ++ op.Math how ∷ [])) (max (depth a) (suc (depth b)))
+          (λ e. after_two (code fields a) (code fields b) (depth a) (depth b) _ _ (op.Math how) (computed how) (leaves a) (leaves b) (λ st. refl) (λ x y st. refl))
       leaves (t.call name fold args) =
-          after_all (function_of name fold) fold (count_of args) (code_all fields args) (depth_all 0 args) (values (value_at fields slots) args) (count_values (value_at fields slots) args)
-          (λ rest st h. leaves_all args 0 (length st) rest st (omega arith) h)
+          settle (t.call name fold args)
+          (call_code (cidr_op (function_of name fold) args) (code_first fields args) (plain_call (function_of name fold) fold (count_of args) (code_all fields args)))
+          (call_depth (cidr_op (function_of name fold) args) (depth_first args) (plain_depth (function_of name fold) (depth_all 0 args)))
+          (λ e. leaves_call (is_cidr (function_of name fold)) (function_of name fold) fold args (plain_call (function_of name fold) fold (count_of args) (code_all fields args))
+          (plain_depth (function_of name fold) (depth_all 0 args)) refl
+          (after_all (function_of name fold) fold (count_of args) (code_all fields args) (depth_all 0 args) (values (value_at fields slots) args) (count_values (value_at fields slots) args)
+          (λ rest st h. leaves_all args 0 (length st) rest st (omega arith) h)))
+
+      leaves_call : (cidr : Bool) (f : Option Function) (fold : Bool) (args : Trees) (plain : List Op) (d : ℕ) → is_cidr f ≡ cidr →
+          Leaves plain d (call_of f fold (values (value_at fields slots) args)) →
+          Leaves (call_code (cidr_if cidr args) (code_first fields args) plain) (call_depth (cidr_if cidr args) (depth_first args) d) (call_of f fold (values (value_at fields slots) args))
+      leaves_call false f fold args plain d is run = run
+      leaves_call true f fold none plain d is run = run
+      leaves_call true f fold (more a es) plain d is run = read (blocks_in es) f fold a es plain d (cidr_is f is) refl (leaves a) run
 
       leaves_each : (o : ℕ → Op) (f : Option Bool → Option Bool → Option Bool) → Joins o f → Cuts o f → (es : Trees) (p : Option Bool)
           (rest : List Op) (st : List Value) → length st + suc (depth_each es) ≤ limit →

@@ -3,9 +3,10 @@ use Rattle.std.specs.Prelude.{ℕ, zero, suc, nat_le, List, [], ◌∷◌, lengt
 use Rattle.eql_values.specs.declared.value.Value.{Value}
 use Rattle.eql_values.specs.declared.value.Value.TheVariants as value
 use Rattle.eql_check.specs.ThreeValued.{truth, truth_in, negation, conjunction, disjunction}
-use Rattle.eql_check.specs.Comparisons.{compares, matches_one, is_among}
+use Rattle.eql_check.specs.Comparisons.{compares, matches_one}
 use Rattle.eql_check.specs.Arithmetic.{computed, negated}
 use Rattle.eql_check.specs.Functions.{called}
+use Rattle.eql_operators.specs.Prepared.{equals_address, is_among_read, is_in_blocks}
 use Rattle.eql_code.specs.declared.emit.Op.{Op}
 use Rattle.eql_code.specs.declared.emit.Op.TheVariants as op
 
@@ -44,15 +45,19 @@ arity (op.Push v) = 0
 arity (op.Slot i) = 0
 arity (op.Call f fold n) = 0
 arity op.Not = 1
+arity (op.Address negated text ip) = 1
 arity (op.Pattern how patterns) = 1
-arity (op.Member fold negated list) = 1
+arity (op.Member fold negated list addresses) = 1
+arity (op.Cidr blocks) = 1
 arity op.Negate = 1
 arity _ = 2
 
 abbrev pub of_one : Op → Value → Value
 of_one op.Not a = not_value a
+of_one (op.Address negated text ip) a = equals_address negated a text ip
 of_one (op.Pattern how patterns) a = matches_one how a patterns
-of_one (op.Member fold negated list) a = is_among fold negated a list
+of_one (op.Member fold negated list addresses) a = is_among_read fold negated a list addresses
+of_one (op.Cidr blocks) a = is_in_blocks a blocks
 of_one op.Negate a = negated a
 of_one _ a = value.Null
 
@@ -68,8 +73,10 @@ abbrev pub done : List Value → Op → List Value → Option (List Value)
 done slots (op.Push v) st = Some (v ∷ st)
 done slots (op.Slot i) st = Some (get_or slots i value.Null ∷ st)
 done slots op.Not st = on_one (of_one op.Not) st
+done slots (op.Address negated text ip) st = on_one (of_one (op.Address negated text ip)) st
 done slots (op.Pattern how patterns) st = on_one (of_one (op.Pattern how patterns)) st
-done slots (op.Member fold negated list) st = on_one (of_one (op.Member fold negated list)) st
+done slots (op.Member fold negated list addresses) st = on_one (of_one (op.Member fold negated list addresses)) st
+done slots (op.Cidr blocks) st = on_one (of_one (op.Cidr blocks)) st
 done slots op.Negate st = on_one (of_one op.Negate) st
 done slots (op.And rest) st = on_two (of_two (op.And rest)) st
 done slots (op.Or rest) st = on_two (of_two (op.Or rest)) st

@@ -4,21 +4,23 @@ ghost use Rattle.eql_values.specs.declared.value.Value.{Value as FieldValue};
 ghost use Rattle.eql_parser.specs.View.{tree};
 ghost use Rattle.eql_check.specs.Truth.{means, value_at};
 ghost use Rattle.eql_check.specs.Functions as f;
+ghost use Rattle.eql_check.specs.ThreeValued as three;
 ghost use Rattle.eql_code.specs.declared.emit.Op.TheVariants.{Not as NotOp};
 ghost use Rattle.eql_code.specs.Code.{code, depth};
+ghost use Rattle.eql_code.specs.Texts.{makes_text_in};
 ghost use Rattle.eql_code.specs.Machine.{done, runs, skips, arity, of_one, of_two, on_many, take_off};
-ghost use Rattle.eql_code.specs.Stack.{stack_of, makes_text, is_free, is_text, gives};
+ghost use Rattle.eql_code.specs.Stack.{cell_value, stack_of, makes_text, is_free, is_text, gives};
 
 use crate::cells::{Cell, Frame, Operands};
 use crate::emit::{Op, emit};
 use eql_check::{Checked, Function};
 use eql_operators::{
-    call, compare, compute, conjunction, disjunction, is_among, matches_one, negate, negation,
-    truth_of, value_of,
+    call, compare, compute, conjunction, disjunction, equals_address, is_among_read, is_in_blocks,
+    matches_one, negate, negation, truth_of, value_of,
 };
 use eql_parser::Expr;
-use eql_values::{Memory, Slots, Value};
-use std::alloc::Global;
+use eql_values::{Memory, NameKinds, Slots, Value};
+use std::alloc::{AllocError, Global};
 use std::marker::Model;
 
 /// The room in which code runs. It is empty between two runs.
@@ -66,17 +68,41 @@ impl Model for Code {
     ghost invariant = { λ c. IsSound (c.ops.items, c.depth) };
 }
 
+impl Clone for Code {
+    ghost is_clone = { λ old new. new ≡ old };
+
+    fn clone(&self) -> Result<Code, AllocError> {
+        let ops = self.ops.clone()?;
+        Ok(Code {
+            ops,
+            depth: self.depth,
+        })
+    }
+}
+
 /// The code of a condition of a checked query, which gives the condition's meaning. `Memory` where memory ran out,
 /// or where the condition needs a stack of more than 4,294,967,295 values.
 pub fn compile(alloc: Global, expr: &Expr, checked: &Checked) -> Result<Code, Memory>
-    ensures means { IfOk result (λ c. (slots : List FieldValue) → gives c slots ≡ means (value_at checked.now.fields slots) (tree expr.now)) }
+    ensures means { IfOk result
+        (λ c. (slots : List FieldValue)
+        → gives c slots ≡ means (value_at checked.now.fields slots) (tree expr.now)) }
     // From every stack below, the code leaves that stack with the meaning on top, and no stack is deeper than the depth.
-    ensures leaves { IfOk result (λ c. (slots st : List FieldValue) → runs slots (length st + c.1) 0 c.0 st ≡ Some (means (value_at checked.now.fields slots) (tree expr.now) ∷ st)) }
-    // The operations are those of the expression and no others, and the depth is its own.
-    ensures exact { IfOk result (λ c. c ≡ (code checked.now.fields (tree expr.now), depth (tree expr.now))) }
+    ensures leaves { IfOk result
+        (λ c. (slots st : List FieldValue)
+        → runs slots (length st + c.1) 0 c.0 st
+        ≡ Some (means (value_at checked.now.fields slots) (tree expr.now) ∷ st)) }
+    ensures free { IfOk result (λ c. makes_text_in (tree expr.now) ≡ false → is_free c.0 ≡ true) }
+{
+    let code = code_of(alloc, expr, checked.fields())?;
+    Ok(code)
+}
+
+/// The code of an expression over these fields, and no other operations.
+fn code_of(alloc: Global, expr: &Expr, fields: &NameKinds) -> Result<Code, Memory>
+    ensures { IfOk result (λ c. c ≡ (code fields.now (tree expr.now), depth (tree expr.now))) }
 {
     let mut ops = Vec::new(alloc);
-    let deep = emit(&mut ops, expr, checked.fields())?;
+    let deep = emit(alloc, &mut ops, expr, fields)?;
     // What was put together from its end.
     ops.reverse();
     match u32::try_from(deep) {
@@ -113,12 +139,15 @@ fn unary(op: &Op, a: &Value) -> Value
 {
     match op {
         Op::Not => value_of(negation(truth_of(a))),
+        Op::Address { negated, text, ip } => equals_address(*negated, a, text, *ip),
         Op::Pattern { how, patterns } => matches_one(*how, a, patterns),
         Op::Member {
             fold,
             negated,
             list,
-        } => is_among(*fold, *negated, a, list),
+            addresses,
+        } => is_among_read(*fold, *negated, a, list, addresses),
+        Op::Cidr(blocks) => is_in_blocks(a, blocks),
         Op::Negate => negate(a),
         _ => unreachable!(),
     }
@@ -160,7 +189,10 @@ fn call_top(
 ) -> Result<(), Memory>
     requires enough { count ≤ vec_len cells.old }
     requires room { vec_len cells.old + 1 ≤ vec_capacity cells.old + count }
-    ensures did { OnOk result (on_many (f.called function fold) (take_off count [] (stack_of frame.now.ops.now frame.now.slots.now cells.old.items)) ≡ Some (stack_of frame.now.ops.now frame.now.slots.now cells.new.items)) }
+    ensures did { OnOk result
+        (on_many (f.called function fold)
+        (take_off count [] (stack_of frame.now.ops.now frame.now.slots.now cells.old.items))
+        ≡ Some (stack_of frame.now.ops.now frame.now.slots.now cells.new.items)) }
     ensures capacity { vec_capacity cells.new ≡ vec_capacity cells.old }
     ensures free { f.makes_text function ≡ false → IsOk result }
 {
@@ -178,9 +210,17 @@ fn call_top(
 /// One operation, for which the operands and the room are there. Tells how many operations are passed over behind it.
 fn step(alloc: Global, frame: &Frame<'_>, at: usize, cells: &mut Vec<Cell>) -> Result<usize, Memory>
     requires at_in { at < length frame.now.ops.now }
-    requires can { (st : List FieldValue) × (done frame.now.slots.now (get_or frame.now.ops.now at NotOp) (stack_of frame.now.ops.now frame.now.slots.now cells.old.items) ≡ Some st) × (length st ≤ vec_capacity cells.old) }
-    ensures did { OnOk result (done frame.now.slots.now (get_or frame.now.ops.now at NotOp) (stack_of frame.now.ops.now frame.now.slots.now cells.old.items) ≡ Some (stack_of frame.now.ops.now frame.now.slots.now cells.new.items)) }
-    ensures passed { IfOk result (λ n. n ≡ skips (get_or frame.now.ops.now at NotOp) (stack_of frame.now.ops.now frame.now.slots.now cells.new.items)) }
+    requires can { (st : List FieldValue)
+        × (done frame.now.slots.now (get_or frame.now.ops.now at NotOp)
+        (stack_of frame.now.ops.now frame.now.slots.now cells.old.items) ≡ Some st)
+        × (length st ≤ vec_capacity cells.old) }
+    ensures did { OnOk result
+        (done frame.now.slots.now (get_or frame.now.ops.now at NotOp)
+        (stack_of frame.now.ops.now frame.now.slots.now cells.old.items)
+        ≡ Some (stack_of frame.now.ops.now frame.now.slots.now cells.new.items)) }
+    ensures passed { IfOk result
+        (λ n. n ≡ skips (get_or frame.now.ops.now at NotOp)
+        (stack_of frame.now.ops.now frame.now.slots.now cells.new.items)) }
     ensures capacity { vec_capacity cells.new ≡ vec_capacity cells.old }
     ensures free { makes_text (get_or frame.now.ops.now at NotOp) ≡ false → IsOk result }
 {
@@ -194,7 +234,12 @@ fn step(alloc: Global, frame: &Frame<'_>, at: usize, cells: &mut Vec<Cell>) -> R
             put(cells, Cell::Slot(*slot));
             Ok(0)
         }
-        Op::Not | Op::Pattern { .. } | Op::Member { .. } | Op::Negate => {
+        Op::Not
+        | Op::Address { .. }
+        | Op::Pattern { .. }
+        | Op::Member { .. }
+        | Op::Cidr(_)
+        | Op::Negate => {
             let a = take(cells);
             let value = unary(op, frame.seen(&a));
             put(cells, Cell::Made(value));
@@ -219,8 +264,33 @@ fn step(alloc: Global, frame: &Frame<'_>, at: usize, cells: &mut Vec<Cell>) -> R
     }
 }
 
-/// Runs the operations on an empty stack.
+/// Runs the operations on an empty stack, and takes the one cell that they leave.
 fn play(
+    alloc: Global,
+    frame: &Frame<'_>,
+    limit: usize,
+    cells: &mut Vec<Cell>,
+) -> Result<Cell, Memory>
+    requires empty { cells.old.items ≡ [] }
+    requires room { limit ≤ vec_capacity cells.old }
+    requires sound { runs frame.now.slots.now limit 0 frame.now.ops.now []
+        ≡ Some (gives (frame.now.ops.now, limit) frame.now.slots.now ∷ []) }
+    ensures value { IfOk result (λ cell. cell_value frame.now.ops.now frame.now.slots.now cell
+        ≡ gives (frame.now.ops.now, limit) frame.now.slots.now) }
+    ensures empty { OnOk result (cells.new.items ≡ []) }
+    ensures capacity { vec_capacity cells.new ≡ vec_capacity cells.old }
+    ensures free { is_free frame.now.ops.now ≡ true → IsOk result }
+{
+    let mut at = 0;
+    while at < frame.ops.len() {
+        let passed = step(alloc, frame, at, cells)?;
+        at += 1 + passed;
+    }
+    Ok(take(cells))
+}
+
+/// What the operations give on an empty stack.
+fn value_of_code(
     alloc: Global,
     frame: &Frame<'_>,
     limit: usize,
@@ -228,19 +298,46 @@ fn play(
 ) -> Result<Value, Memory>
     requires empty { cells.old.items ≡ [] }
     requires room { limit ≤ vec_capacity cells.old }
-    requires sound { runs frame.now.slots.now limit 0 frame.now.ops.now [] ≡ Some (gives (frame.now.ops.now, limit) frame.now.slots.now ∷ []) }
+    requires sound { runs frame.now.slots.now limit 0 frame.now.ops.now []
+        ≡ Some (gives (frame.now.ops.now, limit) frame.now.slots.now ∷ []) }
     ensures value { IfOk result (λ v. v ≡ gives (frame.now.ops.now, limit) frame.now.slots.now) }
     ensures empty { OnOk result (cells.new.items ≡ []) }
     ensures capacity { vec_capacity cells.new ≡ vec_capacity cells.old }
-    ensures free { is_free frame.now.ops.now ≡ true → is_text (gives (frame.now.ops.now, limit) frame.now.slots.now) ≡ false → IsOk result }
+    ensures free { is_free frame.now.ops.now ≡ true
+        → is_text (gives (frame.now.ops.now, limit) frame.now.slots.now) ≡ false → IsOk result }
 {
-    let mut at = 0;
-    while at < frame.ops.len() {
-        let passed = step(alloc, frame, at, cells)?;
-        at += 1 + passed;
-    }
-    let top = take(cells);
+    let top = play(alloc, frame, limit, cells)?;
     frame.owned(top)
+}
+
+/// Whether what the operations give on an empty stack is true.
+fn truth_of_code(
+    alloc: Global,
+    frame: &Frame<'_>,
+    limit: usize,
+    cells: &mut Vec<Cell>,
+) -> Result<bool, Memory>
+    requires empty { cells.old.items ≡ [] }
+    requires room { limit ≤ vec_capacity cells.old }
+    requires sound { runs frame.now.slots.now limit 0 frame.now.ops.now []
+        ≡ Some (gives (frame.now.ops.now, limit) frame.now.slots.now ∷ []) }
+    ensures value { IfOk result
+        (λ b. b ≡ three.is_true (gives (frame.now.ops.now, limit) frame.now.slots.now)) }
+    ensures empty { OnOk result (cells.new.items ≡ []) }
+    ensures capacity { vec_capacity cells.new ≡ vec_capacity cells.old }
+    ensures free { is_free frame.now.ops.now ≡ true → IsOk result }
+{
+    let top = play(alloc, frame, limit, cells)?;
+    Ok(is_true(frame.seen(&top)))
+}
+
+fn is_true(value: &Value) -> bool
+    ensures { result ≡ three.is_true value.now }
+{
+    match value {
+        Value::Bool(b) => *b,
+        _ => false,
+    }
 }
 
 impl Code {
@@ -258,9 +355,11 @@ impl Code {
     pub fn run(&self, alloc: Global, slots: &Slots, stack: &mut Stack) -> Result<Value, Memory>
         requires room { self.now.1 ≤ stack.old }
         ensures value { IfOk result (λ v. v ≡ gives self.now slots.now) }
-        ensures left { IfOk result (λ v. runs slots.now self.now.1 0 self.now.0 [] ≡ Some (v ∷ [])) }
+        ensures left { IfOk result
+            (λ v. runs slots.now self.now.1 0 self.now.0 [] ≡ Some (v ∷ [])) }
         ensures room { stack.new ≡ stack.old }
-        ensures free { is_free self.now.0 ≡ true → is_text (gives self.now slots.now) ≡ false → IsOk result }
+        ensures free { is_free self.now.0 ≡ true
+            → is_text (gives self.now slots.now) ≡ false → IsOk result }
     {
         let null = Value::Null;
         let frame = Frame {
@@ -268,7 +367,28 @@ impl Code {
             slots: slots.items(),
             null: &null,
         };
-        let result = play(alloc, &frame, self.depth as usize, &mut stack.cells);
+        let result = value_of_code(alloc, &frame, self.depth as usize, &mut stack.cells);
+        if result.is_err() {
+            stack.cells.clear();
+        }
+        result
+    }
+
+    /// Whether the condition is true where the slots have these values, with the stack as `run` has it. `Memory` where
+    /// memory ran out, which comes only where an operation makes a text.
+    pub fn holds(&self, alloc: Global, slots: &Slots, stack: &mut Stack) -> Result<bool, Memory>
+        requires room { self.now.1 ≤ stack.old }
+        ensures value { IfOk result (λ b. b ≡ three.is_true (gives self.now slots.now)) }
+        ensures room { stack.new ≡ stack.old }
+        ensures free { is_free self.now.0 ≡ true → IsOk result }
+    {
+        let null = Value::Null;
+        let frame = Frame {
+            ops: &self.ops,
+            slots: slots.items(),
+            null: &null,
+        };
+        let result = truth_of_code(alloc, &frame, self.depth as usize, &mut stack.cells);
         if result.is_err() {
             stack.cells.clear();
         }

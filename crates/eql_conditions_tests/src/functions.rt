@@ -70,6 +70,11 @@ const TESTS: &[(&str, &str)] = &[
     (r#"stringContains("cmd.exe", "d.e")"#, "true"),
     (r#"stringContains("CMD.EXE", "d.e")"#, "false"),
     (r#"stringContains~("CMD.EXE", "d.e")"#, "true"),
+    (r#"stringContains("a", "")"#, "false"),
+    (r#"stringContains("", "")"#, "false"),
+    (r#"stringContains~("", "")"#, "false"),
+    (r#"stringContains(t, "")"#, "false"),
+    (r#"startsWith("", "") and endsWith("a", "")"#, "true"),
     (r#"startsWith("a", "")"#, "true"),
     (r#"endsWith("a", "")"#, "true"),
     (r#"startsWith("cmd", "cmd.exe")"#, "false"),
@@ -82,6 +87,21 @@ const TESTS: &[(&str, &str)] = &[
     (r#"cidrMatch(i, "10.9.8.8/32", "10.9.8.6/32")"#, "false"),
     (r#"cidrMatch(i, "10.9.8.6/31")"#, "true"),
     (r#"cidrMatch(i, "10.9.8.4/31")"#, "false"),
+    (
+        r#"cidrMatch(i, "172.16.0.0/12", "192.168.0.0/16", "10.0.0.0/8")"#,
+        "true",
+    ),
+    (
+        r#"cidrMatch(i, "172.16.0.0/12", "192.168.0.0/16", "11.0.0.0/8")"#,
+        "false",
+    ),
+    (
+        r#"cidrMatch(concat("10.9.", 8, ".", 7), "10.9.8.0/24")"#,
+        "true",
+    ),
+    (r#"cidrMatch(concat(t, ""), "10.9.8.0/24") == null"#, "true"),
+    (r#"cidrMatch(ni, "10.0.0.0/8") == null"#, "true"),
+    (r#"cidrMatch(i, "10.0.0.0/8", null) == null"#, "true"),
 ];
 
 /// Functions that give a number.

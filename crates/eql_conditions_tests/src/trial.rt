@@ -45,16 +45,18 @@ fn slots_of(alloc: Global, checked: &Checked) -> Result<Slots, Fail> {
     Ok(Slots::of(values))
 }
 
-/// What a condition of a checked query gives, plainly evaluated; none where its code gives another value, at a first
-/// run or at a second one on the same stack.
+/// What a condition of a checked query gives, plainly evaluated; none where its code gives another value, or a copy of
+/// its code does on the same stack, or `holds` answers otherwise.
 fn value_by_both(alloc: Global, cond: &Expr, checked: &Checked) -> Result<Option<Value>, Fail> {
     let slots = slots_of(alloc, checked)?;
     let plain = eval(alloc, cond, checked, &slots)?;
     let code = compile(alloc, cond, checked)?;
     let mut stack = Stack::with(alloc, code.depth())?;
     let run = code.run(alloc, &slots, &mut stack)?;
-    let again = code.run(alloc, &slots, &mut stack)?;
-    if plain == run && plain == again {
+    let copy = code.clone()?;
+    let again = copy.run(alloc, &slots, &mut stack)?;
+    let holds = copy.holds(alloc, &slots, &mut stack)?;
+    if plain == run && plain == again && holds == (plain == Value::Bool(true)) {
         Ok(Some(plain))
     } else {
         Ok(None)

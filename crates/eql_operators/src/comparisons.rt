@@ -1,8 +1,8 @@
 //! Comparisons, patterns and list tests.
 ghost use Rattle.std.specs.Prelude.{◌≡◌};
+ghost use Rattle.eql_values.specs.Orders.{text_eq};
 ghost use Rattle.eql_check.specs.Comparisons as c;
 
-use crate::three_valued::value_of;
 use eql_parser::{CmpOp, PatOp};
 use eql_text::{equal, parse_ip4, wildcard};
 use eql_values::{Literals, Text, Texts, Value};
@@ -62,6 +62,27 @@ fn compare_with_null(op: CmpOp, a: &Value, b: &Value) -> Value
     }
 }
 
+/// Whether two texts are equal, which they are only where they have as many bytes.
+fn are_equal(a: &Text, b: &Text) -> bool
+    ensures { result ≡ text_eq a.now b.now }
+{
+    a.text().len() == b.text().len() && a == b
+}
+
+/// `==` and `!=` of two texts, and each other comparison of two values.
+fn compare_values(op: CmpOp, a: &Value, b: &Value) -> Value
+    ensures { result ≡ c.compared op a.now b.now }
+{
+    match (op, a, b) {
+        (CmpOp::Eq, Value::Text(a), Value::Text(b)) => Value::Bool(are_equal(a, b)),
+        (CmpOp::Ne, Value::Text(a), Value::Text(b)) => Value::Bool(!are_equal(a, b)),
+        _ => match order(a, b) {
+            Some(order) => Value::Bool(says(op, order)),
+            None => Value::Null,
+        },
+    }
+}
+
 /// A comparison of two values (EQL syntax reference, "Comparison operators"); null where one is null, or the two have
 /// no order. `literal` says that a side is written as `null`: then `==` and `!=` tell whether the other is null, and
 /// each other operator gives null.
@@ -71,10 +92,7 @@ pub fn compare(literal: bool, op: CmpOp, a: &Value, b: &Value) -> Value
     if literal {
         return compare_with_null(op, a, b);
     }
-    match order(a, b) {
-        Some(order) => value_of(Some(says(op, order))),
-        None => Value::Null,
-    }
+    compare_values(op, a, b)
 }
 
 fn folds(op: PatOp) -> bool

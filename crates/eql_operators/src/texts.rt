@@ -3,7 +3,7 @@ ghost use Rattle.std.specs.Prelude.{◌≡◌, ◌≤◌, ◌++◌, IfOk, OnOk, 
 ghost use Rattle.std.specs.Str.{chars};
 ghost use Rattle.std.specs.Fmt.{signed_decimal};
 ghost use Rattle.std.specs.Option.{option_copied};
-ghost use Rattle.eql_text.specs.Comparing.{starts, ends, contains};
+ghost use Rattle.eql_text.specs.Comparing.{starts, ends};
 ghost use Rattle.eql_check.specs.Functions as f;
 
 use eql_text as text;
@@ -37,7 +37,9 @@ fn word(b: bool) -> &'static str
 
 /// Appends the text of a value, and tells whether it has one: null has none. `Memory` where memory ran out.
 pub fn append(text: &mut String, value: &Value) -> Result<bool, Memory>
-    ensures { IfOk result (λ has. f.joined (Some (chars (string_bytes text.old))) (f.text_of value.now) ≡ (if has then Some (chars (string_bytes text.new)) else None)) }
+    ensures { IfOk result
+        (λ has. f.joined (Some (chars (string_bytes text.old))) (f.text_of value.now)
+        ≡ (if has then Some (chars (string_bytes text.new)) else None)) }
 {
     match value {
         Value::Null => return Ok(false),
@@ -169,12 +171,22 @@ pub fn ends_with(fold: bool, s: &Value, t: &Value) -> Value
     }
 }
 
-/// Whether `t` stands somewhere in `s`.
+/// Whether a text stands in another; the empty text stands in none.
+fn stands_in(s: &Text, t: &Text, fold: bool) -> bool
+    ensures { result ≡ f.stands_in fold s.now t.now }
+{
+    match t.text().chars().next() {
+        None => false,
+        Some(_) => text::contains(s, t, fold),
+    }
+}
+
+/// Whether `t` stands somewhere in `s`; where `t` is empty it doesn't.
 pub fn contains(fold: bool, s: &Value, t: &Value) -> Value
-    ensures { result ≡ f.tested (contains fold) s.now t.now }
+    ensures { result ≡ f.tested (f.stands_in fold) s.now t.now }
 {
     match (s, t) {
-        (Value::Text(s), Value::Text(t)) => Value::Bool(text::contains(s, t, fold)),
+        (Value::Text(s), Value::Text(t)) => Value::Bool(stands_in(s, t, fold)),
         _ => Value::Null,
     }
 }

@@ -1,12 +1,12 @@
 //! The evaluation of expressions.
-ghost use Rattle.std.specs.Prelude.{◌≡◌, IfOk, Some, true, false};
+ghost use Rattle.std.specs.Prelude.{◌≡◌, [], IfOk, Some, true, false};
 ghost use Rattle.eql_parser.specs.View.{tree, trees};
-ghost use Rattle.eql_check.specs.Truth.{means, values, value_at, is_literal_null, call_of};
+ghost use Rattle.eql_check.specs.Truth.{means, values, value_at, call_of};
 ghost use Rattle.eql_check.specs.Names.{function_of};
-ghost use Rattle.eql_check.specs.ThreeValued.{all_from, any_from};
+ghost use Rattle.eql_check.specs.ThreeValued.{truth, truth_in, negation, all_from, any_from};
 
 use crate::slots::look_up;
-use eql_check::{Checked, Function};
+use eql_check::{Checked, Function, is_null};
 use eql_operators::{
     call, compare, compute, conjunction, disjunction, is_among, matches_one, negate, negation,
     truth_of, value_of,
@@ -15,22 +15,21 @@ use eql_parser::{Expr, Exprs};
 use eql_values::{Memory, NameKinds, Slots, Text, Value};
 use std::alloc::Global;
 
-/// Whether the expression is the literal `null`.
-fn is_null(expr: &Expr) -> bool
-    ensures { result ≡ is_literal_null (tree expr.now) }
-{
-    match expr {
-        Expr::Null => true,
-        _ => false,
-    }
-}
-
 /// What a condition of a checked query means where the used fields have these values, by their slots; a field whose
 /// slot isn't there is null. `Memory` where memory ran out.
 pub fn eval(alloc: Global, expr: &Expr, checked: &Checked, slots: &Slots) -> Result<Value, Memory>
     ensures { IfOk result (λ v. v ≡ means (value_at checked.now.fields slots.now) (tree expr.now)) }
 {
     evaluate_in(alloc, expr, checked.fields(), slots)
+}
+
+/// What an expression means where no field has a value. `Memory` where memory ran out.
+pub fn eval_constant(alloc: Global, expr: &Expr) -> Result<Value, Memory>
+    ensures { IfOk result (λ v. v ≡ means (value_at [] []) (tree expr.now)) }
+{
+    let fields = NameKinds::of(Vec::new(alloc));
+    let slots = Slots::of(Vec::new(alloc));
+    evaluate_in(alloc, expr, &fields, &slots)
 }
 
 /// What an expression means where the used fields have these values.
@@ -49,23 +48,13 @@ fn evaluate_in(
         Expr::Long(n) => Ok(Value::Long(*n)),
         Expr::Str(s) => Ok(Value::Text(s.clone()?)),
         Expr::Field(field) => look_up(fields.items(), slots.items(), &field.name),
-        Expr::Not(a) => {
-            let value = evaluate_in(alloc, a, fields, slots)?;
-            Ok(value_of(negation(truth_of(&value))))
-        }
-        Expr::And(es) => {
-            let truth = evaluate_and(alloc, es, fields, slots)?;
-            Ok(value_of(truth))
-        }
-        Expr::Or(es) => {
-            let truth = evaluate_or(alloc, es, fields, slots)?;
-            Ok(value_of(truth))
-        }
+        Expr::Not(a) => evaluate_not(alloc, a, fields, slots),
+        Expr::And(es) => Ok(value_of(evaluate_and(alloc, es, fields, slots)?)),
+        Expr::Or(es) => Ok(value_of(evaluate_or(alloc, es, fields, slots)?)),
         Expr::Cmp(op, a, b) => {
-            let literal = is_null(a) || is_null(b);
             let x = evaluate_in(alloc, a, fields, slots)?;
             let y = evaluate_in(alloc, b, fields, slots)?;
-            Ok(compare(literal, *op, &x, &y))
+            Ok(compare(is_null(a) || is_null(b), *op, &x, &y))
         }
         Expr::Pattern(op, a, patterns) => {
             let value = evaluate_in(alloc, a, fields, slots)?;
@@ -89,11 +78,34 @@ fn evaluate_in(
             let y = evaluate_in(alloc, b, fields, slots)?;
             Ok(compute(*op, &x, &y))
         }
-        Expr::Call { name, fold, args } => {
-            let values = evaluate_all(alloc, args, fields, slots)?;
-            call_named(alloc, name, *fold, &values)
-        }
+        Expr::Call { name, fold, args } => evaluate_call(alloc, name, *fold, args, fields, slots),
     }
+}
+
+#[cycle(evaluate)]
+fn evaluate_not(alloc: Global, a: &Expr, fields: &NameKinds, slots: &Slots) -> Result<Value, Memory>
+    ensures { IfOk result (λ v. v
+        ≡ truth (negation (truth_in (means (value_at fields.now slots.now) (tree a.now))))) }
+{
+    let value = evaluate_in(alloc, a, fields, slots)?;
+    Ok(value_of(negation(truth_of(&value))))
+}
+
+#[cycle(evaluate)]
+fn evaluate_call(
+    alloc: Global,
+    name: &Text,
+    fold: bool,
+    args: &Exprs,
+    fields: &NameKinds,
+    slots: &Slots,
+) -> Result<Value, Memory>
+    ensures { IfOk result (λ v. v
+        ≡ call_of (function_of name.now fold) fold
+        (values (value_at fields.now slots.now) (trees args.now))) }
+{
+    let values = evaluate_all(alloc, args, fields, slots)?;
+    call_named(alloc, name, fold, &values)
 }
 
 /// What a call of the function that a name names gives for values; null where it names none.
@@ -113,7 +125,8 @@ fn evaluate_and(
     fields: &NameKinds,
     slots: &Slots,
 ) -> Result<Option<bool>, Memory>
-    ensures { IfOk result (λ p. p ≡ all_from (Some true) (values (value_at fields.now slots.now) (trees es.now))) }
+    ensures { IfOk result
+        (λ p. p ≡ all_from (Some true) (values (value_at fields.now slots.now) (trees es.now))) }
 {
     let mut truth = Some(true);
     for item in es.items() {
@@ -130,7 +143,9 @@ fn evaluate_or(
     fields: &NameKinds,
     slots: &Slots,
 ) -> Result<Option<bool>, Memory>
-    ensures { IfOk result (λ p. p ≡ any_from (Some false) (values (value_at fields.now slots.now) (trees es.now))) }
+    ensures { IfOk result
+        (λ p. p
+        ≡ any_from (Some false) (values (value_at fields.now slots.now) (trees es.now))) }
 {
     let mut truth = Some(false);
     for item in es.items() {

@@ -5,4 +5,4 @@
 mod evaluate;
 mod slots;
 
-pub use evaluate::eval;
+pub use evaluate::{eval, eval_constant};

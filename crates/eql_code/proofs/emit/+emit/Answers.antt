@@ -1,15 +1,14 @@
 use Rattle.std.proofs.Common.{◌≡◌, ◌≤◌, ◌+◌, ◌-◌, max, map, drop, reverse, length, ap, sym, ◌∙◌, rules, arith}
 use Rattle.eql_parser.specs.View.{tree, trees, trees_of}
-use Rattle.eql_check.specs.Names.{function_of}
 use Rattle.eql_code.specs.Code.{depth_all, depth_each}
 use Rattle.eql_code.proofs.Emitting.{one_more, one_deeper, call_is}
 use Rattle.eql_code.proofs.emit.+emit.Goals as goal
 
-pub emit_call-returns-clause-items : goal.emit_call-returns-clause-items
-emit_call-returns-clause-items below c =
+pub emit_plain_call-returns-clause-items : goal.emit_plain_call-returns-clause-items
+emit_plain_call-returns-clause-items below c =
     let count : c.len-count.result ≡ length c.items.result.now.items = omega (arith, c.len-count.ensures) in
-    call_is c.args.fields.now (function_of c.args.name.now c.args.fold) c.args.fold c.in-Some.function (trees c.args.args.now) c.items.result.now.items c.len-count.result
-    (reverse c.args.ops.now.items) (reverse c.put.new.ops.items) (reverse c.emit_all.new.ops.items) c.in-Some.ensures c.items.ensures.trees count
+    call_is c.args.fields.now c.args.function c.args.fold c.in-Some.function (trees c.args.args.now) c.items.result.now.items c.len-count.result
+    (reverse c.args.ops.now.items) (reverse c.put.new.ops.items) (reverse c.emit_all.new.ops.items) (sym c.in-Some.is) c.items.ensures.trees count
     c.in_ok-put.ensures.items c.in_ok-deep.ensures.items
 
 pub emit_each-returns-clause-depth : goal.emit_each-returns-clause-depth

@@ -1,0 +1,78 @@
+//! What the check of a query answers, as one line.
+use eql_check::{CheckRefused, Checked, Mapping, can_check, check};
+use eql_lexer::lex;
+use eql_parser::{Query, parse};
+use std::alloc::Global;
+use std::process::Abort;
+use std::test::Fail;
+
+/// The fields that most queries here name.
+const MAPPING: &[u8] = br#"{"t":"keyword","n":"long","m":"long","b":"boolean","a":"ip","c":"ip"}"#;
+
+/// The mapping of these fields.
+pub fn mapping(alloc: Global) -> Result<Mapping, Fail> {
+    Ok(Mapping::read(alloc, MAPPING)?)
+}
+
+/// What a refusal says behind `check: `.
+fn told(alloc: Global, refused: &CheckRefused) -> Result<String, Fail> {
+    let line = refused.message(alloc)?;
+    match line.as_str().strip_prefix("check: ") {
+        Some(rest) => Ok(String::from_str(alloc, rest)?),
+        None => Ok(line),
+    }
+}
+
+/// A checked query as one line: the number of its keys, and the fields that it uses.
+fn shown(alloc: Global, checked: &Checked) -> Result<String, Fail> {
+    let mut line = format!(in alloc; "{} keys", checked.keys())?;
+    for field in checked.fields().items() {
+        line.push(' ')?;
+        line.push_str(field.0.text().as_str())?;
+    }
+    Ok(line)
+}
+
+/// What the check of a query answers.
+pub fn answer_to(alloc: Global, query: &Query, mapping: &Mapping) -> Result<String, Fail> {
+    if !can_check(query) {
+        return Ok(String::from_str(alloc, "too many items")?);
+    }
+    match check(alloc, query, mapping) {
+        Ok(checked) => shown(alloc, &checked),
+        Err(refused) => told(alloc, &refused),
+    }
+}
+
+/// What the check of the query that a text is answers.
+fn answer(alloc: Global, text: &str, mapping: &Mapping) -> Result<String, Fail> {
+    let Ok(tokens) = lex(alloc, text.as_bytes()) else {
+        return Ok(String::from_str(alloc, "no tokens")?);
+    };
+    match parse(alloc, &tokens) {
+        Ok(query) => answer_to(alloc, &query, mapping),
+        Err(_) => Ok(String::from_str(alloc, "no query")?),
+    }
+}
+
+/// Sees that the check of a query answers this.
+pub fn answers(
+    rt: &impl Abort,
+    alloc: Global,
+    mapping: &Mapping,
+    text: &str,
+    wanted: &str,
+) -> Result<(), Fail> {
+    let got = answer(alloc, text, mapping)?;
+    assert_eq!(rt; got.as_str(), wanted, "{text}");
+    Ok(())
+}
+
+/// Sees that the check of each query answers what stands beside it.
+pub fn each_answers(rt: &impl Abort, alloc: Global, rows: &[(&str, &str)]) -> Result<(), Fail> {
+    let mapping = mapping(alloc)?;
+    for (text, wanted) in rows {
+        answers(rt, alloc, &mapping, text, wanted)?;
+    }
+    Ok(())
+}
