@@ -13,10 +13,11 @@ use Rattle.eql_values.specs.declared.item.Mask.{Mask}
 use Rattle.eql_values.specs.declared.item.Act.{Act}
 use Rattle.eql_values.specs.Masks.{has_after}
 use Rattle.eql_values.specs.Chains.{fits_after, in_time, chain, holder}
-use Rattle.eql_values.specs.OrderKeys.{order_cmp, order_cmp_total}
+use Rattle.eql_values.specs.OrderKeys.{order_cmp}
+use Rattle.eql_values.specs.Totals.{order_cmp_total}
 use Rattle.std.specs.declared.cmp.Ordering.TheVariants.{Less}
 use Rattle.eql_values.specs.Ordered.{found_or}
-use Rattle.eql_laws.specs.Slots.{Slots, moved, arrived, stepped}
+use Rattle.eql_laws.specs.Slots.{Slots, chain_moved_on, chain_coming, slots_after}
 use Rattle.eql_laws.specs.Steps.{SlotStep, ChainStep}
 use Rattle.eql_auto.specs.Machine.{AllBefore, ComesAfter, Sequence, act_of, alive_in, arrived_at, chains_of, slot_at, slot_after, tags_of, went_on}
 use Rattle.eql_auto.specs.Moves.{begun, chain_in, come, moved_to}
@@ -118,7 +119,7 @@ module _ {T : Type 0} where
   chain_or None b = refl
   chain_or (Some s) b = refl
 
-  chain_moved : (span : Option ℤ) (act : Act) (o : Option (Sequence T)) → chain_in (went_on span act.order o) ≡ moved span (chain_in o) act
+  chain_moved : (span : Option ℤ) (act : Act) (o : Option (Sequence T)) → chain_in (went_on span act.order o) ≡ chain_moved_on span (chain_in o) act
   chain_moved span act None = refl
   chain_moved span act (Some s) = chain_cond (in_time span s.0 act.order.ts) (Some (s.0 ++ act.order ∷ [], s.1))
 
@@ -129,7 +130,7 @@ module _ {T : Type 0} where
       chain_cond (fits_after 0 act) None ∙ ap (λ b. cond b None None) (sym tagged) ∙ ap (λ b. cond b (Some (act.order ∷ [])) None) tagged
 
   pub chain_arrived : (span : Option ℤ) (tag : Option T) (act : Act) (old : List (Option (Sequence T))) (k : ℕ) → is_some tag ≡ fits_after 0 act
-      → chain_in (arrived_at span tag act old k) ≡ arrived span (chains_of old) act k
+      → chain_in (arrived_at span tag act old k) ≡ chain_coming span (chains_of old) act k
   chain_arrived span tag act old zero tagged = refl
   chain_arrived span tag act old (suc zero) tagged = chain_first act tag tagged
   chain_arrived span tag act old (suc (suc k)) tagged =
@@ -137,26 +138,26 @@ module _ {T : Type 0} where
       ∙ ap (λ (o : Option (List OrderKey)). cond (fits_after (suc k) act && not act.until) o None) (chain_moved span act (slot_at old (suc k)))
 
   pub chain_after : (span : Option ℤ) (tag : Option T) (act : Act) (old : List (Option (Sequence T))) (k : ℕ) → is_some tag ≡ fits_after 0 act
-      → chain_in (slot_after span tag act old k) ≡ stepped span (chains_of old) act k
+      → chain_in (slot_after span tag act old k) ≡ slots_after span (chains_of old) act k
   chain_after span tag act old k tagged =
       chain_or (arrived_at span tag act old k) (cond (fits_after k act || act.until) None (slot_at old k))
       ∙ (λ i. found_or (chain_arrived span tag act old k tagged i) (chain_kept (fits_after k act || act.until) (slot_at old k) i))
 
 -- the laws look at a slot and the one before alone
-arrived_alike : (span : Option ℤ) (s t : Slots) (act : Act) (k : ℕ) → ((j : ℕ) → 1 ≤ j → j < k → s j ≡ t j) → arrived span s act k ≡ arrived span t act k
+arrived_alike : (span : Option ℤ) (s t : Slots) (act : Act) (k : ℕ) → ((j : ℕ) → 1 ≤ j → j < k → s j ≡ t j) → chain_coming span s act k ≡ chain_coming span t act k
 arrived_alike span s t act zero same = refl
 arrived_alike span s t act (suc zero) same = refl
-arrived_alike span s t act (suc (suc k)) same = ap (λ (o : Option (List OrderKey)). cond (fits_after (suc k) act && not act.until) (moved span o act) None) (same (suc k) (omega arith) (omega arith))
+arrived_alike span s t act (suc (suc k)) same = ap (λ (o : Option (List OrderKey)). cond (fits_after (suc k) act && not act.until) (chain_moved_on span o act) None) (same (suc k) (omega arith) (omega arith))
 
 pub slots_go_on : SlotStep → (span : Option ℤ) (opening s : Slots) (act : Act) (past : List Act) (k : ℕ) → 1 ≤ k → ((j : ℕ) → 1 ≤ j → j < suc k → s j ≡ holder span opening j past)
-    → stepped span s act k ≡ holder span opening k (act ∷ past)
+    → slots_after span s act k ≡ holder span opening k (act ∷ past)
 slots_go_on law span opening s act past k low same =
     (λ i. found_or (arrived_alike span s (λ j. holder span opening j past) act k (λ j from below. same j from (omega arith)) i)
     (cond (fits_after k act || act.until) None (same k low (omega arith) i)))
     ∙ sym (law span opening k act past)
 
 pub answer_goes_on : ChainStep → (span : Option ℤ) (opening s : Slots) (act : Act) (past : List Act) (m : ℕ) → ((j : ℕ) → 1 ≤ j → j < m → s j ≡ holder span opening j past)
-    → arrived span s act m ≡ chain span opening m (act ∷ past)
+    → chain_coming span s act m ≡ chain span opening m (act ∷ past)
 answer_goes_on law span opening s act past m same =
     arrived_alike span s (λ j. holder span opening j past) act m same ∙ sym (law span opening m act past)
 

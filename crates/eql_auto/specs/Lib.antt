@@ -2,4 +2,3 @@ pub mod Movers
 pub mod Machine
 pub mod Kept
 pub mod Moves
-pub mod Played

@@ -6,7 +6,7 @@ ghost use Rattle.std.specs.declared.cmp.Ordering.TheVariants.{Less};
 ghost use Rattle.eql_values.specs.declared.order.OrderKey.{OrderKey};
 ghost use Rattle.eql_values.specs.Masks.{has_after};
 ghost use Rattle.eql_values.specs.OrderKeys.{order_cmp};
-ghost use Rattle.eql_laws.specs.Slots.{Slots, stepped, arrived};
+ghost use Rattle.eql_laws.specs.Slots.{Slots, slots_after, chain_coming};
 ghost use Rattle.eql_auto.specs.Machine.{ComesAfter, IsAfterTurn, act_of, alive_in, chains_of, slot_at, slot_after, stage_chains, stages, stages_in, tags_of};
 
 use crate::moves::{advance_all, begin_new, empty_at_end, empty_stale};
@@ -24,14 +24,14 @@ use std::sync::ledger::Ledger;
 /// Contracts see it as its span in nanoseconds, its slots by stage, the tags that weren't read yet, and whether it has
 /// room for one more chain.
 #[derive(Drop)]
-pub struct Auto<T> {
+pub struct Auto<T, L: Ledger> {
     span: Option<i128>,
-    table: SlotTable<T>,
+    table: SlotTable<T, L>,
     gone: Vec<T>,
     spare: Option<Vec<OrderKey>>,
 }
 
-impl<T> Model for Auto<T> {
+impl<T, L: Ledger> Model for Auto<T, L> {
     ghost use Rattle.std.specs.Prelude.{length, vec_capacity, is_some};
     ghost use Rattle.eql_auto.specs.Machine.{Machine};
     ghost use Rattle.eql_auto.specs.Kept.{IsFit};
@@ -43,12 +43,18 @@ impl<T> Model for Auto<T> {
     ghost invariant = { λ a. IsFit (length a.table) a.spare (vec_capacity a.gone) };
 }
 
-impl<T: Copy> Auto<T> {
+impl<T: Copy, L: Ledger> Auto<T, L> {
     /// A machine of 1 to 256 stages with no pending sequence. The span is in nanoseconds.
-    pub fn new(alloc: Global, m: u32, span: Option<i128>) -> Result<Auto<T>, Memory>
+    pub fn new(alloc: Global, m: u32, span: Option<i128>) -> Result<Auto<T, L>, Memory>
         requires from { 1 ≤ m }
         requires to { m ≤ 256 }
-        ensures { IfOk result (λ a. a ≡ record { span = span; slots = replicate (m - 1) None; gone = []; is_ready = false }) }
+        ensures { IfOk result (λ a. a ≡ record {
+          span = span;
+          slots = replicate
+              (m - 1) None;
+          gone = [];
+          is_ready = false;
+        }) }
     {
         let table = SlotTable::new(alloc, m as usize - 1)?;
         let gone = Vec::with_capacity(alloc, m as usize)?;
@@ -72,6 +78,18 @@ impl<T: Copy> Auto<T> {
         Ok(())
     }
 
+    /// How many chains it holds room for: one for each pending sequence, and one more where it is ready.
+    pub fn rooms(&self) -> usize
+        ensures { result ≡ length (tags_of self.now.slots) + (if self.now.is_ready then 1 else 0) }
+    {
+        let pending = self.table.pending();
+        if self.spare.is_some() {
+            pending + 1
+        } else {
+            pending
+        }
+    }
+
     /// Plays an event that fits the stages of the mask, and the until item where `until` is true. It answers the chain
     /// that has its event for the last stage then, or `None` where none has. It takes no memory.
     ///
@@ -79,7 +97,7 @@ impl<T: Copy> Auto<T> {
     /// moves on by the event where it is in time, and is dropped where it isn't; what comes to an occupied slot
     /// overwrites the older one; an event that fits stage 1 begins a sequence, with the tag given. Bits of the mask from
     /// the number of stages on mean nothing.
-    pub fn turn<L: Ledger>(
+    pub fn turn(
         &mut self,
         order: OrderKey,
         mask: Mask,
@@ -93,14 +111,21 @@ impl<T: Copy> Auto<T> {
         requires tagged { is_some tag ≡ has_after 0 mask }
         ensures span { self.new.span ≡ self.old.span }
         ensures stages { length self.new.slots ≡ length self.old.slots }
-        ensures sequences { (k : ℕ) → 1 ≤ k → k < stages self.old → slot_at self.new.slots k ≡ slot_after self.old.span tag (act_of order mask until) self.old.slots k }
-        ensures slots { (k : ℕ) → 1 ≤ k → k < stages self.old → chains_of self.new.slots k ≡ stepped self.old.span (chains_of self.old.slots) (act_of order mask until) k }
-        ensures answer { result ≡ arrived self.old.span (chains_of self.old.slots) (act_of order mask until) (stages self.old) }
-        ensures after { (opening : Slots) → IsAfterTurn opening self.old (act_of order mask until) self.new result }
-        ensures gone { IsPermutation (self.new.gone ++ tags_of self.new.slots) (option_to_list tag ++ tags_of self.old.slots) }
-        ensures later { (next : OrderKey) → order_cmp order next ≡ Less → All (ComesAfter next) self.new.slots }
+        ensures sequences { (k : ℕ) → 1 ≤ k → k < stages self.old → slot_at self.new.slots k
+            ≡ slot_after self.old.span tag (act_of order mask until) self.old.slots k }
+        ensures slots { (k : ℕ) → 1 ≤ k → k < stages self.old → chains_of self.new.slots k
+            ≡ slots_after self.old.span (chains_of self.old.slots) (act_of order mask until) k }
+        ensures answer { result ≡ chain_coming self.old.span (chains_of self.old.slots)
+            (act_of order mask until) (stages self.old) }
+        ensures after { (opening : Slots) → IsAfterTurn opening self.old
+            (act_of order mask until) self.new result }
+        ensures gone { IsPermutation (self.new.gone ++ tags_of self.new.slots)
+            (option_to_list tag ++ tags_of self.old.slots) }
+        ensures later { (next : OrderKey) → order_cmp order next ≡ Less
+            → All (ComesAfter next) self.new.slots }
         ensures ready { self.new.is_ready ≡ not (has_after 0 mask) }
-        ensures probes { steps.new ≤ steps.old + stages_in mask (stages self.old) + (if until then length self.old.slots else 0) }
+        ensures probes { steps.new ≤ steps.old + stages_in mask (stages self.old)
+            + (if until then length self.old.slots else 0) }
     {
         slot_step();
         chain_step();
@@ -126,11 +151,12 @@ impl<T: Copy> Auto<T> {
 
     /// Empties the slots whose first timestamp plus the span is below `reach`, in nanoseconds, and none where there is
     /// no span. It takes no memory.
-    pub fn expire<L: Ledger>(&mut self, reach: i128, steps: &mut Steps<L>)
+    pub fn expire(&mut self, reach: i128, steps: &mut Steps<L>)
         requires read { self.old.gone ≡ [] }
         ensures span { self.new.span ≡ self.old.span }
         ensures slots { self.new.slots ≡ map (alive_in self.old.span reach) self.old.slots }
-        ensures gone { IsPermutation (self.new.gone ++ tags_of self.new.slots) (tags_of self.old.slots) }
+        ensures gone { IsPermutation (self.new.gone ++ tags_of self.new.slots)
+            (tags_of self.old.slots) }
         ensures ready { self.new.is_ready ≡ self.old.is_ready }
         ensures probes { steps.new ≤ steps.old + length self.old.slots }
         ensures idle { self.old.span ≡ None → steps.new ≡ steps.old }
@@ -141,7 +167,8 @@ impl<T: Copy> Auto<T> {
     /// A tag of a sequence that ceased in the last turn or expiry, each once, or `None` where none is left. It takes no
     /// memory.
     pub fn next_gone(&mut self) -> Option<T>
-        ensures { MatchOption result ((self.old.gone ≡ []) × (self.new ≡ self.old)) (λ tag. self.old ≡ record self.new { gone = self.new.gone ++ tag ∷ [] }) }
+        ensures { MatchOption result ((self.old.gone ≡ []) × (self.new ≡ self.old))
+            (λ tag. self.old ≡ record self.new { gone = self.new.gone ++ tag ∷ [] }) }
     {
         self.gone.pop()
     }
@@ -160,7 +187,11 @@ impl<T: Copy> Auto<T> {
         requires to { stage < stages self.old }
         requires empty { slot_at self.old.slots stage ≡ None }
         requires full { length chain ≡ stage }
-        ensures holders { self.new ≡ record self.old { slots = slice_set self.old.slots (stage - 1) (Some (chain, tag)); is_ready = false } }
+        ensures holders { self.new ≡ record self.old {
+          slots = slice_set self.old.slots
+              (stage - 1) (Some (chain, tag));
+          is_ready = false;
+        } }
         ensures tags { IsPermutation (tags_of self.new.slots) (tag ∷ tags_of self.old.slots) }
     {
         match self.spare.take() {

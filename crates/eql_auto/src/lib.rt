@@ -10,6 +10,3 @@ mod table;
 
 pub use auto::Auto;
 pub use steps::Steps;
-
-#[cfg(test)]
-mod tests;

@@ -20,16 +20,13 @@ fn add_gone<T: Copy>(gone: &mut Vec<T>, ceased: Option<T>)
     ensures room { vec_capacity gone.old ≤ vec_capacity gone.new }
 {
     if let Some(tag) = ceased {
-        match gone.push(tag) {
-            Ok(()) => {}
-            Err(_) => unreachable!(),
-        }
+        gone.push_reserved(tag);
     }
 }
 
 /// Empties each slot, of every sequence or of stale ones.
 pub(crate) fn empty_slots<T: Copy, L: Ledger>(
-    table: &mut SlotTable<T>,
+    table: &mut SlotTable<T, L>,
     gone: &mut Vec<T>,
     which: Which,
     steps: &mut Steps<L>,
@@ -37,7 +34,8 @@ pub(crate) fn empty_slots<T: Copy, L: Ledger>(
     requires few { length table.old < 256 }
     requires room { length (tags_of table.old) + vec_len gone.old ≤ vec_capacity gone.old }
     ensures slots { table.new ≡ map (emptied which) table.old }
-    ensures tags { IsPermutation (gone.new.items ++ tags_of table.new) (gone.old.items ++ tags_of table.old) }
+    ensures tags { IsPermutation (gone.new.items ++ tags_of table.new)
+        (gone.old.items ++ tags_of table.old) }
     ensures room { vec_capacity gone.old ≤ vec_capacity gone.new }
     ensures still_room { length (tags_of table.new) + vec_len gone.new ≤ vec_capacity gone.new }
     ensures probes { steps.new ≡ steps.old + length table.old }
@@ -51,7 +49,7 @@ pub(crate) fn empty_slots<T: Copy, L: Ledger>(
 
 /// Empties every slot where the event ends the key.
 pub(crate) fn empty_at_end<T: Copy, L: Ledger>(
-    table: &mut SlotTable<T>,
+    table: &mut SlotTable<T, L>,
     gone: &mut Vec<T>,
     until: bool,
     steps: &mut Steps<L>,
@@ -59,7 +57,8 @@ pub(crate) fn empty_at_end<T: Copy, L: Ledger>(
     requires few { length table.old < 256 }
     requires room { length (tags_of table.old) + vec_len gone.old ≤ vec_capacity gone.old }
     ensures slots { table.new ≡ (if until then map (λ _. None) table.old else table.old) }
-    ensures tags { IsPermutation (gone.new.items ++ tags_of table.new) (gone.old.items ++ tags_of table.old) }
+    ensures tags { IsPermutation (gone.new.items ++ tags_of table.new)
+        (gone.old.items ++ tags_of table.old) }
     ensures room { vec_capacity gone.old ≤ vec_capacity gone.new }
     ensures still_room { length (tags_of table.new) + vec_len gone.new ≤ vec_capacity gone.new }
     ensures probes { steps.new ≡ steps.old + (if until then length table.old else 0) }
@@ -72,7 +71,7 @@ pub(crate) fn empty_at_end<T: Copy, L: Ledger>(
 /// Moves on the sequences of the slots after whose stage the event fits, from the last to the first, and answers the
 /// chain that has its last event then.
 pub(crate) fn advance_all<T: Copy, L: Ledger>(
-    table: &mut SlotTable<T>,
+    table: &mut SlotTable<T, L>,
     gone: &mut Vec<T>,
     span: Option<i128>,
     event: OrderKey,
@@ -83,12 +82,16 @@ pub(crate) fn advance_all<T: Copy, L: Ledger>(
     requires later { (k : ℕ) → ComesAfter event (slice_index_or table.old k None) }
     requires room { length (tags_of table.old) + vec_len gone.old ≤ vec_capacity gone.old }
     ensures len { length table.new ≡ length table.old }
-    ensures slots { (k : ℕ) → 1 ≤ k → k ≤ length table.old → slot_at table.new k ≡ moved_to span event mask.now table.old k }
-    ensures answer { result ≡ chain_in (come span event mask.now table.old (suc (length table.old))) }
-    ensures tags { IsPermutation (gone.new.items ++ tags_of table.new) (gone.old.items ++ tags_of table.old) }
+    ensures slots { (k : ℕ) → 1 ≤ k → k ≤ length table.old → slot_at table.new k
+        ≡ moved_to span event mask.now table.old k }
+    ensures answer { result ≡ chain_in (come span event mask.now table.old
+        (suc (length table.old))) }
+    ensures tags { IsPermutation (gone.new.items ++ tags_of table.new)
+        (gone.old.items ++ tags_of table.old) }
     ensures room { vec_capacity gone.old ≤ vec_capacity gone.new }
     ensures still_room { length (tags_of table.new) + vec_len gone.new ≤ vec_capacity gone.new }
-    ensures probes { steps.new + stages_in mask.now 1 ≤ steps.old + stages_in mask.now (suc (length table.old)) }
+    ensures probes { steps.new + stages_in mask.now 1 ≤ steps.old
+        + stages_in mask.now (suc (length table.old)) }
 {
     let mut completed = None;
     let mut below = table.len() as u32 + 1;
@@ -104,7 +107,7 @@ pub(crate) fn advance_all<T: Copy, L: Ledger>(
 /// Begins a sequence of the event where there is a tag for it, in the room that is kept for it, and answers its chain
 /// where there is one stage alone.
 pub(crate) fn begin_new<T: Copy, L: Ledger>(
-    table: &mut SlotTable<T>,
+    table: &mut SlotTable<T, L>,
     gone: &mut Vec<T>,
     spare: &mut Option<Vec<OrderKey>>,
     event: OrderKey,
@@ -115,8 +118,10 @@ pub(crate) fn begin_new<T: Copy, L: Ledger>(
     requires spare { IfSome spare.old (IsRoom (length table.old)) }
     requires room { length (tags_of table.old) + vec_len gone.old < vec_capacity gone.old }
     ensures slots { table.new ≡ begun event tag table.old }
-    ensures answer { result ≡ (if 0 == length table.old then option_map (λ _. event ∷ []) tag else None) }
-    ensures tags { IsPermutation (gone.new.items ++ tags_of table.new) (option_to_list tag ++ (gone.old.items ++ tags_of table.old)) }
+    ensures answer { result ≡ (if 0 == length table.old then option_map
+        (λ _. event ∷ []) tag else None) }
+    ensures tags { IsPermutation (gone.new.items ++ tags_of table.new)
+        (option_to_list tag ++ (gone.old.items ++ tags_of table.old)) }
     ensures room { vec_capacity gone.old ≤ vec_capacity gone.new }
     ensures spare { spare.new ≡ (if is_some tag then None else spare.old) }
     ensures probes { steps.new ≡ steps.old + length (option_to_list tag) }
@@ -134,7 +139,7 @@ pub(crate) fn begin_new<T: Copy, L: Ledger>(
 
 /// Empties the slots whose first timestamp plus the span is below `reach`, and none without a span.
 pub(crate) fn empty_stale<T: Copy, L: Ledger>(
-    table: &mut SlotTable<T>,
+    table: &mut SlotTable<T, L>,
     gone: &mut Vec<T>,
     span: Option<i128>,
     reach: i128,
@@ -143,7 +148,8 @@ pub(crate) fn empty_stale<T: Copy, L: Ledger>(
     requires few { length table.old < 256 }
     requires room { length (tags_of table.old) + vec_len gone.old ≤ vec_capacity gone.old }
     ensures slots { table.new ≡ map (alive_in span reach) table.old }
-    ensures tags { IsPermutation (gone.new.items ++ tags_of table.new) (gone.old.items ++ tags_of table.old) }
+    ensures tags { IsPermutation (gone.new.items ++ tags_of table.new)
+        (gone.old.items ++ tags_of table.old) }
     ensures room { vec_capacity gone.old ≤ vec_capacity gone.new }
     ensures probes { steps.new ≤ steps.old + length table.old }
     ensures idle { span ≡ None → steps.new ≡ steps.old }

@@ -9,9 +9,9 @@ ghost use Rattle.eql_auto.specs.Moves.{chain_in, emptied};
 ghost use Rattle.eql_auto.specs.Kept.{seen};
 
 use crate::steps::Steps;
-use eql_values::{Chain, Memory, OrderKey, StageChains};
+use eql_values::{Chain, Memory, OrderKey, StageChains, is_in_time};
 use std::alloc::Global;
-use std::marker::Model;
+use std::marker::{Model, PhantomData};
 use std::sync::ledger::Ledger;
 
 /// A pending sequence, with room for an event of each stage.
@@ -23,11 +23,12 @@ struct Pending<T> {
 
 /// The slots of the stages before the last, by stage.
 #[derive(Drop)]
-pub(crate) struct SlotTable<T> {
+pub(crate) struct SlotTable<T, L: Ledger> {
     slots: Vec<Option<Pending<T>>>,
+    ledger: PhantomData<L>,
 }
 
-impl<T> Model for SlotTable<T> {
+impl<T, L: Ledger> Model for SlotTable<T, L> {
     ghost use Rattle.std.specs.Prelude.{List, Option};
     ghost use Rattle.eql_values.specs.declared.order.OrderKey.{OrderKey};
     ghost use Rattle.eql_auto.specs.Kept.{shown, AreKept};
@@ -56,11 +57,12 @@ pub(crate) enum Which {
 impl Which {
     /// Whether the emptying leaves what a slot has.
     fn spares<T>(self, slot: &Option<Pending<T>>) -> bool
-        ensures { MatchBool result (emptied self (option_map seen slot.now) ≡ option_map seen slot.now) (emptied self (option_map seen slot.now) ≡ None) }
+        ensures { MatchBool result (emptied self (option_map seen slot.now)
+            ≡ option_map seen slot.now) (emptied self (option_map seen slot.now) ≡ None) }
     {
         match (self, slot) {
             (Which::Stale { span, reach }, Some(held)) => {
-                is_in_time(Some(span), &held.events, reach)
+                is_in_time(Some(span), held.events.as_slice(), reach)
             }
             _ => false,
         }
@@ -76,27 +78,11 @@ pub(crate) struct Out<T> {
     pub ceased: Option<T>,
 }
 
-/// Whether a time is within the span from the first of the events.
-fn is_in_time(span: Option<i128>, events: &Vec<OrderKey>, now: i128) -> bool
-    ensures { result ≡ in_time span events.now.items now }
-{
-    match span {
-        None => true,
-        Some(span) => match events.first() {
-            None => true,
-            Some(first) => match now.checked_sub(first.ts) {
-                Some(passed) => passed <= span,
-                None => now < first.ts,
-            },
-        },
-    }
-}
-
 /// Whether an event comes in time for a sequence with these events.
 fn is_early(span: Option<i128>, events: &Vec<OrderKey>, event: &OrderKey) -> bool
     ensures { result ≡ in_time span events.now.items event.now.ts }
 {
-    is_in_time(span, events, event.ts)
+    is_in_time(span, events.as_slice(), event.ts)
 }
 
 /// So many empty slots.
@@ -134,19 +120,6 @@ fn replace_slot<T>(
     std::mem::replace(&mut slots[place], Some(pending))
 }
 
-/// Adds an event where there is room, which takes no memory.
-fn push_in_room(events: &mut Vec<OrderKey>, event: OrderKey)
-    requires { vec_len events.old < vec_capacity events.old }
-    ensures items { events.new.items ≡ events.old.items ++ event ∷ [] }
-    ensures len { vec_len events.new ≡ vec_len events.old + 1 }
-    ensures room { vec_capacity events.old ≤ vec_capacity events.new }
-{
-    match events.push(event) {
-        Ok(()) => {}
-        Err(_) => unreachable!(),
-    }
-}
-
 /// The tag of a sequence.
 fn tag_of<T: Copy>(pending: Option<Pending<T>>) -> Option<T>
     ensures { result ≡ option_map (λ p. p.tag) pending }
@@ -157,13 +130,16 @@ fn tag_of<T: Copy>(pending: Option<Pending<T>>) -> Option<T>
     }
 }
 
-impl<T: Copy> SlotTable<T> {
+impl<T: Copy, L: Ledger> SlotTable<T, L> {
     /// A table with this many empty slots.
-    pub fn new(alloc: Global, count: usize) -> Result<SlotTable<T>, Memory>
+    pub fn new(alloc: Global, count: usize) -> Result<SlotTable<T, L>, Memory>
         ensures { IfOk result (λ t. t ≡ replicate count None) }
     {
         let slots = empty_slots(alloc, count)?;
-        Ok(SlotTable { slots })
+        Ok(SlotTable {
+            slots,
+            ledger: PhantomData,
+        })
     }
 
     /// How many slots there are.
@@ -173,15 +149,31 @@ impl<T: Copy> SlotTable<T> {
         self.slots.len()
     }
 
+    /// How many sequences are pending.
+    pub fn pending(&self) -> usize
+        ensures { result ≡ length (tags_of self.now) }
+    {
+        let mut count = 0;
+        for slot in &self.slots {
+            if slot.is_some() {
+                count += 1;
+            }
+        }
+        count
+    }
+
     /// Puts a sequence with its last event into the slot of that event's stage, or out of the table after the last slot.
     fn settle(&mut self, place: usize, pending: Pending<T>) -> Out<T>
         requires within { place ≤ length self.old }
         requires full { vec_len pending.events ≡ place + 1 }
         requires room { length self.old < vec_capacity pending.events }
         requires ascends { EventsAscend pending.events.items }
-        ensures slots { self.new ≡ slice_set self.old place (Some (pending.events.items, pending.tag)) }
-        ensures completed { result.completed ≡ (if place == length self.old then Some pending.events.items else None) }
-        ensures ceased { IsPermutation (option_to_list result.ceased ++ tags_of self.new) (pending.tag ∷ tags_of self.old) }
+        ensures slots { self.new ≡ slice_set self.old place
+            (Some (pending.events.items, pending.tag)) }
+        ensures completed { result.completed ≡
+            (if place == length self.old then Some pending.events.items else None) }
+        ensures ceased { IsPermutation (option_to_list result.ceased ++ tags_of self.new)
+            (pending.tag ∷ tags_of self.old) }
     {
         if place == self.slots.len() {
             return Out {
@@ -198,7 +190,7 @@ impl<T: Copy> SlotTable<T> {
 
     /// Moves what the slot of a stage holds on to the next stage by one event, or out of the table after the last slot.
     /// A sequence that the event comes too late for is dropped. One probe.
-    pub fn advance<L: Ledger>(
+    pub fn advance(
         &mut self,
         stage: u32,
         span: Option<i128>,
@@ -208,9 +200,14 @@ impl<T: Copy> SlotTable<T> {
         requires from { 1 ≤ stage }
         requires to { stage ≤ length self.old }
         requires later { ComesAfter event (slice_index_or self.old (stage - 1) None) }
-        ensures slots { self.new ≡ slice_set (slice_set self.old (stage - 1) None) stage (found_or (went_on span event (slice_index_or self.old (stage - 1) None)) (slice_index_or self.old stage None)) }
-        ensures completed { result.completed ≡ (if stage == length self.old then chain_in (went_on span event (slice_index_or self.old (stage - 1) None)) else None) }
-        ensures ceased { IsPermutation (option_to_list result.ceased ++ tags_of self.new) (tags_of self.old) }
+        ensures slots { self.new ≡ slice_set (slice_set self.old (stage - 1) None) stage
+            (found_or (went_on span event (slice_index_or self.old (stage - 1) None))
+            (slice_index_or self.old stage None)) }
+        ensures completed { result.completed ≡
+            (if stage == length self.old then chain_in
+            (went_on span event (slice_index_or self.old (stage - 1) None)) else None) }
+        ensures ceased { IsPermutation (option_to_list result.ceased ++ tags_of self.new)
+            (tags_of self.old) }
         ensures probe { steps.new ≡ steps.old + 1 }
     {
         steps.tick();
@@ -228,7 +225,7 @@ impl<T: Copy> SlotTable<T> {
                         ceased: Some(held.tag),
                     };
                 }
-                push_in_room(&mut held.events, event);
+                held.events.push_reserved(event);
                 self.settle(place, held)
             }
         }
@@ -236,7 +233,7 @@ impl<T: Copy> SlotTable<T> {
 
     /// Begins a sequence of one event, in the room given: in the slot of stage 1, or out of a table without slots.
     /// One probe.
-    pub fn begin<L: Ledger>(
+    pub fn begin(
         &mut self,
         room: Vec<OrderKey>,
         event: OrderKey,
@@ -247,23 +244,27 @@ impl<T: Copy> SlotTable<T> {
         requires none { vec_len room ≡ 0 }
         requires room { length self.old < vec_capacity room }
         ensures slots { self.new ≡ slice_set self.old 0 (Some (event ∷ [], tag)) }
-        ensures completed { result.completed ≡ (if 0 == length self.old then Some (event ∷ []) else None) }
-        ensures ceased { IsPermutation (option_to_list result.ceased ++ tags_of self.new) (tag ∷ tags_of self.old) }
+        ensures completed { result.completed ≡
+            (if 0 == length self.old then Some (event ∷ []) else None) }
+        ensures ceased { IsPermutation (option_to_list result.ceased ++ tags_of self.new)
+            (tag ∷ tags_of self.old) }
         ensures probe { steps.new ≡ steps.old + 1 }
     {
         steps.tick();
         let mut events = room;
-        push_in_room(&mut events, event);
+        events.push_reserved(event);
         self.settle(0, Pending { events, tag })
     }
 
     /// Empties the slot of a stage of every sequence, or of a stale one alone, and answers the tag of what it dropped.
     /// One probe.
-    pub fn empty<L: Ledger>(&mut self, stage: u32, which: Which, steps: &mut Steps<L>) -> Option<T>
+    pub fn empty(&mut self, stage: u32, which: Which, steps: &mut Steps<L>) -> Option<T>
         requires from { 1 ≤ stage }
         requires to { stage ≤ length self.old }
-        ensures slots { self.new ≡ slice_set self.old (stage - 1) (emptied which (slice_index_or self.old (stage - 1) None)) }
-        ensures ceased { IsPermutation (option_to_list result ++ tags_of self.new) (tags_of self.old) }
+        ensures slots { self.new ≡ slice_set self.old (stage - 1)
+            (emptied which (slice_index_or self.old (stage - 1) None)) }
+        ensures ceased { IsPermutation (option_to_list result ++ tags_of self.new)
+            (tags_of self.old) }
         ensures probe { steps.new ≡ steps.old + 1 }
     {
         steps.tick();
@@ -313,7 +314,8 @@ fn add_holder<T: Copy>(
     slot: &Option<Pending<T>>,
 ) -> Result<(), Memory>
     requires { IfSome slot.now (λ p. EventsAscend p.events.items) }
-    ensures { IfOk result (λ _. found.new.items ≡ found.old.items ++ option_to_list (option_map (λ p. (stage, p.events.items)) slot.now)) }
+    ensures { IfOk result (λ _. found.new.items ≡ found.old.items
+        ++ option_to_list (option_map (λ p. (stage, p.events.items)) slot.now)) }
 {
     if let Some(pending) = slot {
         let mut events = Vec::new(alloc);

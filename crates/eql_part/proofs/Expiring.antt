@@ -58,7 +58,7 @@ module _ {T : Type 0} where
       ∙ sym (ap length (ap (λ (m : ℕ). tags_of (take m slots)) more ∙ ap tags_of (take_more slots n None (omega arith)) ∙ tags_append (take n slots) (get_or slots n None ∷ [])))
 
   -- there are as many pending sequences of a machine as tags
-  chains_count : (slots : List (Option (Sequence T))) → length (stage_chains slots) ≡ length (tags_of slots)
+  pub chains_count : (slots : List (Option (Sequence T))) → length (stage_chains slots) ≡ length (tags_of slots)
   chains_count slots = chains_up_to slots (length slots) (omega arith) ∙ ap (λ (l : List (Option (Sequence T))). length (tags_of l)) (take_all (length slots) slots (omega arith))
 
   module _ (span : Option ℤ) (now : ℤ) where

@@ -9,7 +9,8 @@ use Rattle.eql_values.specs.declared.found.Holder.{Holder}
 use Rattle.eql_values.specs.declared.order.OrderKey.{OrderKey}
 use Rattle.eql_values.specs.declared.value.Value.{Value}
 use Rattle.eql_values.specs.Matching.{Slot, slot_cmp, opening_of}
-use Rattle.eql_values.specs.Orders.{key_cmp, key_same}
+use Rattle.eql_values.specs.Orders.{key_cmp}
+use Rattle.eql_values.proofs.Same.{key_same}
 use Rattle.eql_laws.proofs.Facts.{is_equal, both_equal}
 
 -- slots that compare as equal are equal

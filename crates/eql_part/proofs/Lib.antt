@@ -5,6 +5,7 @@ mod Differing
 mod Tagging
 mod Leaving
 mod Linking
+mod Alone
 mod Stepped
 mod Onward
 mod Routing
@@ -14,3 +15,6 @@ mod Taken
 mod Joining
 mod Expiring
 mod Putting
+mod Busy
+mod Idle
+mod Later

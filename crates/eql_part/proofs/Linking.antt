@@ -7,7 +7,9 @@ use Rattle.std.proofs.lemmas.List.{map-append}
 use Rattle.std.proofs.lemmas.List.Elements.{All-contains, All-contains_itself, Contains-append_left, Contains-append_right, Contains-append_cases}
 use Rattle.std.proofs.lemmas.List.Sorted.{IsPermutation-sym, Contains-permutation}
 use Rattle.eql_values.specs.declared.value.Value.{Value}
-use Rattle.eql_values.specs.Orders.{key_cmp, key_cmp_total, key_eq, key_same}
+use Rattle.eql_values.specs.Orders.{key_cmp, key_eq}
+use Rattle.eql_values.specs.Totals.{key_cmp_total}
+use Rattle.eql_values.proofs.Same.{key_same}
 use Rattle.eql_laws.proofs.Facts.{is_equal}
 use Rattle.eql_auto.specs.Machine.{Sequence}
 use Rattle.eql_span_list.specs.declared.node.Ticket.{Ticket}

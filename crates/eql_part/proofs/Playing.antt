@@ -17,8 +17,8 @@ use Rattle.eql_values.specs.Masks.{has_stage}
 use Rattle.eql_values.specs.Matching.{act_by}
 use Rattle.eql_values.specs.Orders.{key_cmp, key_eq}
 use Rattle.eql_values.specs.Routes.{RoutesInOrder}
-use Rattle.eql_laws.specs.OneEvent.{turned}
-use Rattle.eql_laws.specs.Slots.{Slots, arrived, stepped, moved}
+use Rattle.eql_laws.specs.OneEvent.{slots_after_event}
+use Rattle.eql_laws.specs.Slots.{Slots, chain_coming, slots_after, chain_moved_on}
 use Rattle.eql_laws.proofs.Facts.{both_true, is_less, less_is, less_not_equal}
 use Rattle.eql_auto.specs.Machine.{Machine}
 use Rattle.eql_span_list.specs.declared.node.Ticket.{Ticket}
@@ -77,26 +77,26 @@ later_same key (route ∷ routes) start cur new h others same =
 
 -- what is left to do to a key, one route on
 pub one_on : (m : ℕ) (span : Option ℤ) (order : OrderKey) (route : Route) (routes : List Route) (cur new : List (Row Ticket)) → RoutesInOrder (route ∷ routes) → KeepsOtherKeys route.key cur new
-    → ((k : ℕ) → 1 ≤ k → k < m → slots_in new route.key k ≡ stepped span (slots_in cur route.key) (act_by order route) k)
+    → ((k : ℕ) → 1 ≤ k → k < m → slots_in new route.key k ≡ slots_after span (slots_in cur route.key) (act_by order route) k)
     → (key : List Value) (k : ℕ) → suc k < m
-    → turned span order (find (λ (r : Route). key_eq key r.key) routes) (slots_in new key) (suc k) ≡ turned span order (find (λ (r : Route). key_eq key r.key) (route ∷ routes)) (slots_in cur key) (suc k)
+    → slots_after_event span order (find (λ (r : Route). key_eq key r.key) routes) (slots_in new key) (suc k) ≡ slots_after_event span order (find (λ (r : Route). key_eq key r.key) (route ∷ routes)) (slots_in cur key) (suc k)
 one_on m span order route routes cur new in_order others moved key k lt = by (key_eq key route.key) refl
   where
     rest : Option Route
     rest = find (λ (r : Route). key_eq key r.key) routes
 
-    by : (b : Bool) → key_eq key route.key ≡ b → turned span order rest (slots_in new key) (suc k) ≡ turned span order (cond b (Some route) rest) (slots_in cur key) (suc k)
+    by : (b : Bool) → key_eq key route.key ≡ b → slots_after_event span order rest (slots_in new key) (suc k) ≡ slots_after_event span order (cond b (Some route) rest) (slots_in cur key) (suc k)
     by true e =
         let same = same_key key route.key e in
-        ap (λ (o : Option Route). turned span order o (slots_in new key) (suc k)) (none_found route.key key routes same (later_keys route routes in_order))
+        ap (λ (o : Option Route). slots_after_event span order o (slots_in new key) (suc k)) (none_found route.key key routes same (later_keys route routes in_order))
         ∙ ap (λ (q : List Value). slots_in new q (suc k)) same
         ∙ moved (suc k) (omega arith) lt
-        ∙ ap (λ (q : List Value). stepped span (slots_in cur q) (act_by order route) (suc k)) (sym same)
-    by false e = ap (λ (o : Option (Machine Ticket)). turned span order rest (slots_of o) (suc k)) (others key (turn_round key route.key e))
+        ∙ ap (λ (q : List Value). slots_after span (slots_in cur q) (act_by order route) (suc k)) (sym same)
+    by false e = ap (λ (o : Option (Machine Ticket)). slots_after_event span order rest (slots_of o) (suc k)) (others key (turn_round key route.key e))
 
 -- a chain comes to the last stage only where the mask has it
 pub keyed_if_completed : (m : ℕ) (span : Option ℤ) (slots : Slots) (act : Act) (q : List Value) (key : Option (List Value)) (completed : Option (List OrderKey))
-    → key ≡ cond (has_stage act.mask m) (Some q) None → completed ≡ arrived span slots act m → IfSome completed (λ _. IsSome key)
+    → key ≡ cond (has_stage act.mask m) (Some q) None → completed ≡ chain_coming span slots act m → IfSome completed (λ _. IsSome key)
 keyed_if_completed zero span slots act q key completed has is = subst (λ (o : Option (List OrderKey)). IfSome o (λ _. IsSome key)) (sym is) tt
 keyed_if_completed (suc zero) span slots act q key completed has is =
     subst (λ (o : Option (List OrderKey)). IfSome o (λ _. IsSome key)) (sym is) (by (fits_after 0 act) has)
@@ -111,8 +111,8 @@ keyed_if_completed (suc (suc k)) span slots act q key completed has is =
     some_key None h = tt
     some_key (Some c) h = h
 
-    by : (b c : Bool) → key ≡ cond b (Some q) None → IfSome (cond (b && c) (moved span (slots (suc k)) act) None) (λ _. IsSome key)
-    by true true e = some_key (moved span (slots (suc k)) act) (subst IsSome (sym e) refl)
+    by : (b c : Bool) → key ≡ cond b (Some q) None → IfSome (cond (b && c) (chain_moved_on span (slots (suc k)) act) None) (λ _. IsSome key)
+    by true true e = some_key (chain_moved_on span (slots (suc k)) act) (subst IsSome (sym e) refl)
     by true false e = tt
     by false c e = tt
 

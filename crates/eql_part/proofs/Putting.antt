@@ -16,7 +16,8 @@ use Rattle.eql_values.specs.declared.found.Holder.{Holder}
 use Rattle.eql_values.specs.declared.order.OrderKey.{OrderKey}
 use Rattle.eql_values.specs.declared.value.Value.{Value}
 use Rattle.eql_values.specs.Matching.{Slot, opening_of, slot_cmp}
-use Rattle.eql_values.specs.Orders.{key_cmp, key_cmp_total, key_eq}
+use Rattle.eql_values.specs.Orders.{key_cmp, key_eq}
+use Rattle.eql_values.specs.Totals.{key_cmp_total}
 use Rattle.eql_laws.specs.Merging.{by_slot}
 use Rattle.eql_laws.specs.Alive.{HoldersInOrder}
 use Rattle.eql_laws.specs.OneEvent.{SameHolders}

@@ -17,8 +17,11 @@ use Rattle.std.proofs.lemmas.List.Elements.{filter_map-append, All-nil, All-cons
 use Rattle.std.proofs.lemmas.Map.Keys.{sorted_head, sorted_tail}
 use Rattle.eql_values.specs.declared.order.OrderKey.{OrderKey}
 use Rattle.eql_values.specs.declared.value.Value.{Value}
-use Rattle.eql_values.specs.Ordered.{found_or, both_none, find-append}
-use Rattle.eql_values.specs.Orders.{key_eq, key_cmp, key_cmp_total, key_same}
+use Rattle.eql_values.specs.Ordered.{found_or}
+use Rattle.eql_values.proofs.InOrder.{both_none, find-append}
+use Rattle.eql_values.specs.Orders.{key_eq, key_cmp}
+use Rattle.eql_values.specs.Totals.{key_cmp_total}
+use Rattle.eql_values.proofs.Same.{key_same}
 use Rattle.eql_values.specs.Matching.{Slot, slot_cmp, opening_of, stages_to}
 use Rattle.eql_laws.specs.Alive.{HoldersInOrder}
 use Rattle.eql_laws.specs.Merging.{by_slot}
@@ -187,7 +190,7 @@ module _ {X : Type 0} where
   holders_in_order es h = holds_true _ (subst (λ (l : List Entry). T (is_sorted slot_cmp l)) (sym (by_slot_rows es)) (sorted_rows es h))
 
   -- a key before all others is none of them
-  none_of : (key q : List Value) (es : List (Row X)) → q ≡ key → AllByRecursion (λ k. key_cmp key k ≡ Less) (keys_of es) → machine_of es q ≡ None
+  pub none_of : (key q : List Value) (es : List (Row X)) → q ≡ key → AllByRecursion (λ k. key_cmp key k ≡ Less) (keys_of es) → machine_of es q ≡ None
   none_of key q [] is h = refl
   none_of key q (e ∷ es) is h =
       ap (λ (b : Bool). cond b (Some e.1) (machine_of es q)) (less_not_equal (key_cmp q e.0) (less_is (key_cmp q e.0) (ap (λ (k : List Value). key_cmp k e.0) is ∙ h.0)))

@@ -16,8 +16,8 @@ use Rattle.eql_values.specs.declared.item.Item.{Item}
 use Rattle.eql_values.specs.Orders.{key_cmp, key_eq}
 use Rattle.eql_values.specs.Matching.{act_by, opening_of, matches, after}
 use Rattle.eql_laws.specs.Alive.{AfterInOrder, AliveInOrder, AliveLooksUp, alive_at, alive_holders}
-use Rattle.eql_laws.specs.OneEvent.{turned, AfterHasNoOther, AfterOne, MatchesOne, SameHolders}
-use Rattle.eql_laws.specs.Slots.{arrived}
+use Rattle.eql_laws.specs.OneEvent.{slots_after_event, AfterHasNoOther, AfterOne, MatchesOne, SameHolders}
+use Rattle.eql_laws.specs.Slots.{chain_coming}
 use Rattle.eql_auto.specs.Machine.{Machine, Sequence, AllBefore}
 use Rattle.eql_part.specs.KeyTables.{ComesAfterAll, ComesAfterHolder, IsOf, AreOf, IsLaterAt, KeepsSequences, holders_in, slots_of, machine_of, slots_in}
 use Rattle.eql_part.specs.Routed.{match_there}
@@ -47,18 +47,18 @@ module _ {X : Type 0} where
     matches_are matches_one item =
         sym (matches_one m span (holders_in old) item
         ∙ (λ i. filter_map (λ (route : Route). option_map (λ c. record { key = route.key; chain = c })
-        (arrived span (λ j. looks_up old order_old route.key j i) (act_by item.order route) m)) item.routes))
+        (chain_coming span (λ j. looks_up old order_old route.key j i) (act_by item.order route) m)) item.routes))
 
     -- machines whose slots moved by the event, each by the route of its key, have what is pending after the event
     module _ (same_holders : SameHolders) (after_in_order : AfterInOrder) (after_one : AfterOne) (after_has_no_other : AfterHasNoOther)
         (order_new : IsStrictlySortedBy key_cmp (keys_of new)) (of : AreOf m span new) (item : Item)
         (moved : (key : List Value) (k : ℕ) → suc k < m
-        → slots_in new key (suc k) ≡ turned span item.order (find (λ (route : Route). key_eq key route.key) item.routes) (slots_in old key) (suc k)) where
+        → slots_in new key (suc k) ≡ slots_after_event span item.order (find (λ (route : Route). key_eq key route.key) item.routes) (slots_in old key) (suc k)) where
       at_stage : (key : List Value) (k : ℕ) (b : Bool) → nat_lt (suc k) m ≡ b → slots_in new key (suc k) ≡ opening_of (after m span (holders_in old) (item ∷ [])) key (suc k)
       at_stage key k true e =
           let lt : suc k < m = grind (arith, nat_tests) in
           moved key k lt
-          ∙ sym (λ i. turned span item.order (find (λ (route : Route). key_eq key route.key) item.routes) (λ j. looks_up old order_old key j i) (suc k))
+          ∙ sym (λ i. slots_after_event span item.order (find (λ (route : Route). key_eq key route.key) item.routes) (λ j. looks_up old order_old key j i) (suc k))
           ∙ sym (after_one m span (holders_in old) item key k lt)
       at_stage key k false e =
           let past : m ≤ suc k = grind (arith, nat_tests) in

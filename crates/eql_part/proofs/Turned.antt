@@ -13,7 +13,8 @@ use Rattle.std.proofs.lemmas.Bool.Decides.{nat_tests}
 use Rattle.std.proofs.lemmas.Map.Views.{IfSome-lookup_from_All}
 use Rattle.eql_values.specs.declared.order.OrderKey.{OrderKey}
 use Rattle.eql_values.specs.declared.value.Value.{Value}
-use Rattle.eql_values.specs.Orders.{key_cmp, key_same}
+use Rattle.eql_values.specs.Orders.{key_cmp}
+use Rattle.eql_values.proofs.Same.{key_same}
 use Rattle.eql_laws.proofs.Elements.{some_is}
 use Rattle.eql_laws.proofs.Facts.{is_equal}
 use Rattle.eql_auto.specs.Machine.{Machine, Sequence, AllBefore, ComesAfter, slot_at, tags_of}

@@ -8,6 +8,7 @@ use Rattle.eql_values.specs.declared.item.Route.{Route}
 use Rattle.eql_values.specs.declared.found.Holder.{Holder}
 use Rattle.std.specs.Map.{lookup, values_of}
 use Rattle.std.specs.BTreeMap.{is_at}
+use Rattle.eql_values.specs.Masks.{has_after}
 use Rattle.eql_values.specs.Orders.{key_cmp, key_eq}
 use Rattle.eql_laws.specs.Slots.{Slots}
 use Rattle.eql_auto.specs.Machine.{Machine, Sequence, AllBefore, stages_in, stage_chains, chains_of, slot_at, tags_of}
@@ -56,6 +57,10 @@ pub record IsOf {T : Type 0} (m : ℕ) (span : Option ℤ) (machine : Machine T)
 abbrev pub AreOf : {T : Type 0} → ℕ → Option ℤ → List (List Value × Machine T) → Type 0
 AreOf m span machines = All (IsOf m span) (values_of machines)
 
+-- none of these routes has the key
+abbrev pub HaveOtherKeys : List Route → List Value → Type 0
+HaveOtherKeys routes key = All (λ (route : Route). key_eq route.key key ≡ false) routes
+
 module _ {T : Type 0} where
   -- the chains of a machine's slots, and nothing where there is no machine
   abbrev pub slots_of : Option (Machine T) → Slots
@@ -90,6 +95,26 @@ module _ {T : Type 0} where
   -- the keys but this one have the machines that they had
   abbrev pub KeepsOtherKeys : List Value → List (List Value × Machine T) → List (List Value × Machine T) → Type 0
   KeepsOtherKeys key old new = (q : List Value) → key_eq key q ≡ false → machine_of new q ≡ machine_of old q
+
+  -- the machine of a key, where there is one, has a pending sequence
+  abbrev pub IsBusyAt : List (List Value × Machine T) → List Value → Type 0
+  IsBusyAt machines key = IfSome (machine_of machines key) (λ machine. 1 ≤ length (tags_of machine.slots))
+
+  -- the route begins no sequence, and its key has no machine
+  abbrev pub IsIdle : List (List Value × Machine T) → Route → Type 0
+  IsIdle machines route = (has_after 0 route.mask ≡ false) × (machine_of machines route.key ≡ None)
+
+  -- each machine has a pending sequence
+  abbrev pub AreBusy : List (List Value × Machine T) → Type 0
+  AreBusy machines = (key : List Value) → IsBusyAt machines key
+
+  -- each machine has a pending sequence, but maybe those of these routes' keys
+  abbrev pub AreBusyBut : List Route → List (List Value × Machine T) → Type 0
+  AreBusyBut routes machines = (key : List Value) → HaveOtherKeys routes key → IsBusyAt machines key
+
+  -- the keys that none of these routes has have the machines that they had
+  abbrev pub KeepsOtherRoutes : List Route → List (List Value × Machine T) → List (List Value × Machine T) → Type 0
+  KeepsOtherRoutes routes old new = (key : List Value) → HaveOtherKeys routes key → machine_of new key ≡ machine_of old key
 
   -- all sequences are as they were
   abbrev pub KeepsSequences : List (List Value × Machine T) → List (List Value × Machine T) → Type 0

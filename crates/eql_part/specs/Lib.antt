@@ -2,3 +2,4 @@ pub mod KeyTables
 pub mod Links
 pub mod Routed
 pub mod Kept
+pub mod Played

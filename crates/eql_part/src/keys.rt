@@ -1,8 +1,11 @@
 //! The pending sequences of all keys: a machine for each key, and a list of first timestamps.
 ghost use Rattle.std.specs.Prelude.{◌≡◌, ◌+◌, ◌-◌, ◌*◌, ◌≤◌, [], ◌∷◌, ◌++◌, All, IfOk, OnErr, length};
+ghost use Rattle.std.specs.declared.cmp.Ordering.TheVariants.{Less};
+ghost use Rattle.eql_values.specs.declared.order.OrderKey.{OrderKey};
 ghost use Rattle.eql_values.specs.Matching.{after, matches};
+ghost use Rattle.eql_values.specs.OrderKeys.{order_cmp};
 ghost use Rattle.eql_laws.specs.Alive.{HoldersInOrder, alive_holders};
-ghost use Rattle.eql_laws.specs.Shapes.{FirstsFall, HasStageBefore, IsFull};
+ghost use Rattle.eql_laws.specs.Shapes.{HasStageBefore, IsFull};
 ghost use Rattle.eql_part.specs.KeyTables.{ComesAfterAll, holders_of, probes_of_all};
 
 use crate::listing::Start;
@@ -13,7 +16,8 @@ use crate::routes::play;
 use crate::sweeps::sweep_all;
 use eql_auto::Steps;
 use eql_laws::{
-    after_in_order, after_looks_up, dead_by_slot, one_more_event, opening_finds, same_holders,
+    after_in_order, after_looks_up, dead_by_slot, events_and_keys_stay, one_more_event,
+    opening_finds, same_holders,
 };
 use eql_span_list::SpanList;
 use eql_values::{Holder, Holders, Item, Key, Matches, Memory};
@@ -26,13 +30,13 @@ use std::sync::ledger::Ledger;
 ///
 /// Contracts see it as the number of its stages, its span in nanoseconds, and its pending sequences by key and stage.
 #[derive(Drop)]
-pub struct Keys {
+pub struct Keys<L: Ledger> {
     shape: Shape,
-    machines: BTreeMap<Key, KeyMachine>,
+    machines: BTreeMap<Key, KeyMachine<L>>,
     list: SpanList<Start>,
 }
 
-impl Model for Keys {
+impl<L: Ledger> Model for Keys<L> {
     ghost use Rattle.eql_part.specs.KeyTables.{Pendings, holders_in};
     ghost use Rattle.eql_part.specs.Kept.{IsKept};
 
@@ -43,16 +47,21 @@ impl Model for Keys {
     ghost invariant = { λ k. IsKept k.shape.stages k.shape.span k.machines k.list };
 }
 
-impl Keys {
+impl<L: Ledger> Keys<L> {
     /// The sequences of 1 to 256 stages that are pending at the start. The span is in nanoseconds.
-    pub fn new(alloc: Global, m: u32, span: Option<i128>, holders: Holders) -> Result<Keys, Memory>
+    pub fn new(
+        alloc: Global,
+        m: u32,
+        span: Option<i128>,
+        holders: Holders,
+    ) -> Result<Keys<L>, Memory>
         requires from { 1 ≤ m }
         requires to { m ≤ 256 }
         requires order { HoldersInOrder holders }
         requires stages { All (HasStageBefore m) holders }
         requires full { All IsFull holders }
-        requires falls { FirstsFall holders }
-        ensures { IfOk result (λ keys. keys ≡ record { stages = m; span = span; holders = holders }) }
+        ensures { IfOk result (λ keys. keys
+            ≡ record { stages = m; span = span; holders = holders }) }
     {
         opening_finds();
         same_holders();
@@ -74,28 +83,36 @@ impl Keys {
     }
 
     /// Plays an event that comes after all events of the pending sequences, and answers the matches that it completes, in
-    /// the order of its routes. After want of memory nothing has changed.
-    pub fn take<L: Ledger>(&mut self, item: &Item, steps: &mut Steps<L>) -> Result<Matches, Memory>
+    /// the order of its routes: at most one for each. An event that comes after this one comes after all that is pending
+    /// then. After want of memory nothing has changed.
+    pub fn take(&mut self, item: &Item, steps: &mut Steps<L>) -> Result<Matches, Memory>
         requires later { ComesAfterAll item.now.order self.old.holders }
-        ensures holders { IfOk result (λ _. self.new ≡ record self.old { holders = after self.old.stages self.old.span self.old.holders (item.now ∷ []) }) }
-        ensures matches { IfOk result (λ found. found ≡ matches self.old.stages self.old.span self.old.holders (item.now ∷ [])) }
+        ensures holders { IfOk result (λ _. self.new
+            ≡ record self.old {
+              holders = after self.old.stages self.old.span self.old.holders
+                  (item.now ∷ []);
+            }) }
+        ensures matches { IfOk result (λ found. found
+            ≡ matches self.old.stages self.old.span self.old.holders (item.now ∷ [])) }
+        ensures few { IfOk result (λ found. length found ≤ length item.now.routes) }
+        ensures later { (next : OrderKey) → order_cmp item.now.order next ≡ Less
+            → ComesAfterAll next self.new.holders }
         ensures unchanged { OnErr result (self.new ≡ self.old) }
         ensures probes { steps.new ≤ steps.old + probes_of_all self.old.stages item.now.routes }
     {
         one_more_event();
+        events_and_keys_stay();
         after_looks_up();
         after_in_order();
         same_holders();
         item.routes.stand();
         let routes = item.routes.items();
-        let mut found = Vec::with_capacity(self.shape.alloc, routes.len())?;
-        play(
+        let found = play(
             &mut self.machines,
             &mut self.list,
             self.shape,
             item.order,
             routes,
-            &mut found,
             steps,
         )?;
         Ok(Matches::of(found))
@@ -104,14 +121,23 @@ impl Keys {
     /// Drops the pending sequences that are no longer alive at `reach`: those whose first timestamp plus the span is below
     /// it, in nanoseconds, and none where there is no span. It takes no memory, and looks at those of the earliest first
     /// events alone.
-    pub fn sweep<L: Ledger>(&mut self, reach: i128, steps: &mut Steps<L>)
-        ensures holders { self.new ≡ record self.old { holders = alive_holders self.old.span reach self.old.holders } }
-        ensures probes { steps.new ≤ steps.old + (self.old.stages - 1) * (length self.old.holders - length self.new.holders) }
+    pub fn sweep(&mut self, reach: i128, steps: &mut Steps<L>)
+        ensures holders { self.new
+            ≡ record self.old { holders = alive_holders self.old.span reach self.old.holders } }
+        ensures probes { steps.new ≤ steps.old
+            + (self.old.stages - 1) * (length self.old.holders - length self.new.holders) }
     {
         after_in_order();
         dead_by_slot();
         same_holders();
         sweep_all(&mut self.machines, &mut self.list, self.shape, reach, steps);
+    }
+
+    /// How many machines there are. A key with nothing pending has none, so there are no more of them than pending sequences.
+    pub fn machines(&self) -> usize
+        ensures { result ≤ length self.now.holders }
+    {
+        self.machines.len()
     }
 
     /// The pending sequences, by key and stage.
@@ -128,13 +154,14 @@ impl Keys {
 }
 
 /// Adds copies of the pending sequences of a machine, by stage.
-fn add_holders(
+fn add_holders<L: Ledger>(
     alloc: Global,
     found: &mut Vec<Holder>,
     key: &Key,
-    machine: &KeyMachine,
+    machine: &KeyMachine<L>,
 ) -> Result<(), Memory>
-    ensures { IfOk result (λ _. found.new.items ≡ found.old.items ++ holders_of (key.now, machine.now)) }
+    ensures { IfOk result (λ _. found.new.items ≡ found.old.items
+        ++ holders_of (key.now, machine.now)) }
 {
     let chains = machine.holders(alloc)?;
     for (stage, chain) in chains.into_items() {

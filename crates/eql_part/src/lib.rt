@@ -8,10 +8,8 @@ mod prepared;
 mod puts;
 mod rooms;
 mod routes;
+mod single;
 mod sweeps;
 mod turns;
 
 pub use keys::Keys;
-
-#[cfg(test)]
-mod tests;

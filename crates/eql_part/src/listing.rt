@@ -6,6 +6,7 @@ ghost use Rattle.eql_part.specs.Links.{Differ, IsOneOf, IsWithout};
 use eql_auto::Auto;
 use eql_span_list::{SpanList, Ticket};
 use eql_values::Key;
+use std::sync::ledger::Ledger;
 
 /// What the list has of a pending sequence.
 #[derive(Drop)]
@@ -33,13 +34,17 @@ pub(crate) fn tickets_differ(list: &SpanList<Start>)
 }
 
 /// Takes the sequences of a machine that ceased off the list.
-pub(crate) fn take_off(machine: &mut Auto<Ticket>, list: &mut SpanList<Start>) -> TakenOff
+pub(crate) fn take_off<L: Ledger>(
+    machine: &mut Auto<Ticket, L>,
+    list: &mut SpanList<Start>,
+) -> TakenOff
     requires listed { All (HasTicket list.old) machine.old.gone }
     requires apart { Differ machine.old.gone }
     requires few { length machine.old.gone ≤ 256 }
     ensures machine { machine.new ≡ record machine.old { gone = [] } }
     ensures count { result.count ≡ length machine.old.gone }
-    ensures last { MatchOption result.last (machine.old.gone ≡ []) (λ start. IsOneOf machine.old.gone list.old start) }
+    ensures last { MatchOption result.last (machine.old.gone ≡ [])
+        (λ start. IsOneOf machine.old.gone list.old start) }
     ensures list { IsWithout list.old machine.old.gone list.new }
 {
     let mut count = 0;

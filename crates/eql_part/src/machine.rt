@@ -3,7 +3,7 @@ ghost use Rattle.std.specs.Prelude.{◌≡◌, ℕ, ◌+◌, ◌-◌, ◌<◌, �
 ghost use Rattle.std.specs.Option.{option_to_list};
 ghost use Rattle.eql_values.specs.Masks.{has_after};
 ghost use Rattle.eql_values.specs.Matching.{act_by};
-ghost use Rattle.eql_laws.specs.Slots.{arrived, stepped};
+ghost use Rattle.eql_laws.specs.Slots.{chain_coming, slots_after};
 ghost use Rattle.eql_auto.specs.Machine.{ComesAfter, alive_in, chains_of, slot_after, slot_at, stage_chains, stages, tags_of};
 ghost use Rattle.eql_span_list.specs.Entries.{HasTicket};
 ghost use Rattle.eql_part.specs.KeyTables.{probes_of};
@@ -19,12 +19,12 @@ use std::sync::ledger::Ledger;
 
 /// The machine of one key, with the number of its pending sequences. The tag of each is its ticket.
 #[derive(Drop)]
-pub(crate) struct KeyMachine {
-    auto: Auto<Ticket>,
+pub(crate) struct KeyMachine<L: Ledger> {
+    auto: Auto<Ticket, L>,
     pending: u32,
 }
 
-impl Model for KeyMachine {
+impl<L: Ledger> Model for KeyMachine<L> {
     ghost use Rattle.std.specs.Prelude.{◌≡◌, length};
     ghost use Rattle.eql_auto.specs.Machine.{Machine, tags_of};
     ghost use Rattle.eql_span_list.specs.declared.node.Ticket.{Ticket};
@@ -36,12 +36,18 @@ impl Model for KeyMachine {
     ghost invariant = { λ k. k.pending ≡ length (tags_of k.auto.slots) };
 }
 
-impl KeyMachine {
+impl<L: Ledger> KeyMachine<L> {
     /// A machine of 1 to 256 stages with no pending sequence. The span is in nanoseconds.
-    pub fn new(alloc: Global, m: u32, span: Option<i128>) -> Result<KeyMachine, Memory>
+    pub fn new(alloc: Global, m: u32, span: Option<i128>) -> Result<KeyMachine<L>, Memory>
         requires from { 1 ≤ m }
         requires to { m ≤ 256 }
-        ensures { IfOk result (λ a. a ≡ record { span = span; slots = replicate (m - 1) None; gone = []; is_ready = false }) }
+        ensures { IfOk result (λ a. a ≡ record {
+          span = span;
+          slots = replicate
+              (m - 1) None;
+          gone = [];
+          is_ready = false;
+        }) }
     {
         let auto = Auto::new(alloc, m, span)?;
         Ok(KeyMachine { auto, pending: 0 })
@@ -57,13 +63,14 @@ impl KeyMachine {
 
     /// Whether no sequence is pending.
     pub fn is_empty(&self) -> bool
-        ensures { IsTrue result → tags_of self.now.slots ≡ [] }
+        ensures empty { IsTrue result → tags_of self.now.slots ≡ [] }
+        ensures busy { result ≡ false → 1 ≤ length (tags_of self.now.slots) }
     {
         self.pending == 0
     }
 
     /// Plays what an event says to the key, in the room taken before, and takes the sequences that ceased off the list.
-    pub fn turn<L: Ledger>(
+    pub fn turn(
         &mut self,
         list: &mut SpanList<Start>,
         order: OrderKey,
@@ -81,10 +88,14 @@ impl KeyMachine {
         ensures span { self.new.span ≡ self.old.span }
         ensures stages { length self.new.slots ≡ length self.old.slots }
         ensures read { self.new.gone ≡ [] }
-        ensures sequences { (k : ℕ) → 1 ≤ k → k < stages self.old → slot_at self.new.slots k ≡ slot_after self.old.span tag (act_by order route.now) self.old.slots k }
-        ensures slots { (k : ℕ) → 1 ≤ k → k < stages self.old → chains_of self.new.slots k ≡ stepped self.old.span (chains_of self.old.slots) (act_by order route.now) k }
-        ensures answer { result ≡ arrived self.old.span (chains_of self.old.slots) (act_by order route.now) (stages self.old) }
-        ensures list { LeaveList (option_to_list tag ++ tags_of self.old.slots) (tags_of self.new.slots) list.old list.new }
+        ensures sequences { (k : ℕ) → 1 ≤ k → k < stages self.old → slot_at self.new.slots k
+            ≡ slot_after self.old.span tag (act_by order route.now) self.old.slots k }
+        ensures slots { (k : ℕ) → 1 ≤ k → k < stages self.old → chains_of self.new.slots k
+            ≡ slots_after self.old.span (chains_of self.old.slots) (act_by order route.now) k }
+        ensures answer { result ≡ chain_coming self.old.span (chains_of self.old.slots)
+            (act_by order route.now) (stages self.old) }
+        ensures list { LeaveList (option_to_list tag ++ tags_of self.old.slots)
+            (tags_of self.new.slots) list.old list.new }
         ensures probes { steps.new ≤ steps.old + probes_of (stages self.old) route.now }
     {
         let completed = self.auto.turn(order, route.mask, route.until, tag, steps);
@@ -95,7 +106,7 @@ impl KeyMachine {
 
     /// Drops the sequences whose first timestamp plus the span is below `reach`, in nanoseconds, and takes them off the
     /// list. It answers what the list had of one of them, if any.
-    pub fn expire<L: Ledger>(
+    pub fn expire(
         &mut self,
         list: &mut SpanList<Start>,
         reach: i128,
@@ -108,8 +119,11 @@ impl KeyMachine {
         ensures span { self.new.span ≡ self.old.span }
         ensures read { self.new.gone ≡ [] }
         ensures slots { self.new.slots ≡ map (alive_in self.old.span reach) self.old.slots }
-        ensures list { LeaveList (tags_of self.old.slots) (tags_of self.new.slots) list.old list.new }
-        ensures answer { MatchOption result (length (tags_of self.new.slots) ≡ length (tags_of self.old.slots)) (λ start. IsOneOf (tags_of self.old.slots) list.old start) }
+        ensures list { LeaveList (tags_of self.old.slots)
+            (tags_of self.new.slots) list.old list.new }
+        ensures answer { MatchOption result (length (tags_of self.new.slots)
+            ≡ length (tags_of self.old.slots))
+            (λ start. IsOneOf (tags_of self.old.slots) list.old start) }
         ensures probes { steps.new ≤ steps.old + length self.old.slots }
     {
         self.auto.expire(reach, steps);
@@ -126,7 +140,11 @@ impl KeyMachine {
         requires to { stage < stages self.old }
         requires empty { slot_at self.old.slots stage ≡ None }
         requires full { length chain ≡ stage }
-        ensures holders { self.new ≡ record self.old { slots = slice_set self.old.slots (stage - 1) (Some (chain, ticket)); is_ready = false } }
+        ensures holders { self.new ≡ record self.old {
+          slots = slice_set self.old.slots
+              (stage - 1) (Some (chain, ticket));
+          is_ready = false;
+        } }
         ensures tags { IsPermutation (tags_of self.new.slots) (ticket ∷ tags_of self.old.slots) }
     {
         self.auto.put_holder(stage, chain, ticket);

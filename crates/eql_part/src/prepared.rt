@@ -4,7 +4,7 @@ ghost use Rattle.std.specs.BTreeMap.{IsOrdered};
 ghost use Rattle.std.specs.Option.{option_to_list};
 ghost use Rattle.eql_values.specs.Masks.{has_after, has_stage};
 ghost use Rattle.eql_values.specs.Orders.{key_cmp};
-ghost use Rattle.eql_part.specs.KeyTables.{AreOf, AreReadyFor, IsReadyIn, KeepsReady, KeepsSequences};
+ghost use Rattle.eql_part.specs.KeyTables.{AreBusy, AreBusyBut, AreOf, AreReadyFor, IsReadyIn, KeepsOtherKeys, KeepsOtherRoutes, KeepsReady, KeepsSequences};
 ghost use Rattle.eql_part.specs.Links.{Listed, begun_by};
 ghost use Rattle.eql_part.specs.Routed.{ArePrepared, IsPrepared, all_begun, tickets_in};
 
@@ -14,6 +14,7 @@ use crate::rooms::{Shape, drop_empty, make_room};
 use eql_span_list::{SpanList, Ticket};
 use eql_values::{Key, Memory, OrderKey, Route};
 use std::collections::BTreeMap;
+use std::sync::ledger::Ledger;
 
 /// What is taken for one route.
 #[derive(Drop)]
@@ -25,7 +26,7 @@ pub(crate) struct Prepared {
 }
 
 /// Puts the sequence that an event begins on the list, where it begins one. After want of memory nothing has changed.
-fn list_begun(
+pub(crate) fn list_begun(
     list: &mut SpanList<Start>,
     order: OrderKey,
     route: &Route,
@@ -49,10 +50,11 @@ fn list_begun(
 }
 
 /// A copy of the key of a route, where it has the stage.
-fn copy_key(route: &Route, stage: u32) -> Result<Option<Key>, Memory>
+pub(crate) fn copy_key(route: &Route, stage: u32) -> Result<Option<Key>, Memory>
     requires from { 1 ≤ stage }
     requires to { stage ≤ 256 }
-    ensures { IfOk result (λ key. key ≡ (if has_stage route.now.mask stage then Some route.now.key else None)) }
+    ensures { IfOk result (λ key. key
+        ≡ (if has_stage route.now.mask stage then Some route.now.key else None)) }
 {
     if route.mask.has(stage) {
         return Ok(Some(route.key.clone()?));
@@ -61,8 +63,8 @@ fn copy_key(route: &Route, stage: u32) -> Result<Option<Key>, Memory>
 }
 
 /// Takes what one route may need. After want of memory the list is as it was.
-fn prepare(
-    machines: &mut BTreeMap<Key, KeyMachine>,
+fn prepare<L: Ledger>(
+    machines: &mut BTreeMap<Key, KeyMachine<L>>,
     list: &mut SpanList<Start>,
     shape: Shape,
     order: OrderKey,
@@ -77,8 +79,10 @@ fn prepare(
     ensures sequences { KeepsSequences machines.old.entries machines.new.entries }
     ensures ready { KeepsReady machines.old.entries machines.new.entries }
     ensures there { OnOk result (IsReadyIn machines.new.entries route.now.key) }
+    ensures others { KeepsOtherKeys route.now.key machines.old.entries machines.new.entries }
     ensures prepared { IfOk result (IsPrepared shape.stages route.now) }
-    ensures list { IfOk result (λ ready. list.new ≡ list.old ++ begun_by order route.now ready.begun) }
+    ensures list { IfOk result (λ ready. list.new ≡ list.old
+        ++ begun_by order route.now ready.begun) }
     ensures unchanged { OnErr result (list.new ≡ list.old) }
 {
     make_room(machines, shape, &route.key)?;
@@ -89,8 +93,10 @@ fn prepare(
 
 /// Takes the last entry of the list off again, where it is that of a ticket.
 fn unlist(list: &mut SpanList<Start>, tag: Option<Ticket>)
-    requires { (base : List Listed) × (begun : List Listed) × (list.old ≡ base ++ begun) × (map (λ e. e.0) begun ≡ option_to_list tag) }
-    ensures { (base begun : List Listed) → list.old ≡ base ++ begun → map (λ e. e.0) begun ≡ option_to_list tag → list.new ≡ base }
+    requires { (base : List Listed) × (begun : List Listed) × (list.old ≡ base ++ begun)
+        × (map (λ e. e.0) begun ≡ option_to_list tag) }
+    ensures { (base begun : List Listed) → list.old ≡ base ++ begun → map (λ e. e.0) begun
+        ≡ option_to_list tag → list.new ≡ base }
 {
     if let Some(ticket) = tag {
         list.remove(ticket);
@@ -99,8 +105,10 @@ fn unlist(list: &mut SpanList<Start>, tag: Option<Ticket>)
 
 /// Takes the sequences that were put on the list off again, the last first.
 fn undo(list: &mut SpanList<Start>, prepared: Vec<Prepared>)
-    requires { (base : List Listed) × (begun : List Listed) × (list.old ≡ base ++ begun) × (map (λ e. e.0) begun ≡ tickets_in prepared.items) }
-    ensures { (base begun : List Listed) → list.old ≡ base ++ begun → map (λ e. e.0) begun ≡ tickets_in prepared.items → list.new ≡ base }
+    requires { (base : List Listed) × (begun : List Listed) × (list.old ≡ base ++ begun)
+        × (map (λ e. e.0) begun ≡ tickets_in prepared.items) }
+    ensures { (base begun : List Listed) → list.old ≡ base ++ begun → map (λ e. e.0) begun
+        ≡ tickets_in prepared.items → list.new ≡ base }
 {
     let mut prepared = prepared;
     while let Some(last) = prepared.pop() {
@@ -108,22 +116,9 @@ fn undo(list: &mut SpanList<Start>, prepared: Vec<Prepared>)
     }
 }
 
-/// Adds an element where there is room for it, which takes no memory.
-pub(crate) fn push_in_room<T: Drop>(items: &mut Vec<T>, item: T)
-    requires { vec_len items.old < vec_capacity items.old }
-    ensures items { items.new.items ≡ items.old.items ++ item ∷ [] }
-    ensures len { vec_len items.new ≡ vec_len items.old + 1 }
-    ensures room { vec_capacity items.old ≤ vec_capacity items.new }
-{
-    match items.push(item) {
-        Ok(()) => {}
-        Err(_) => unreachable!(),
-    }
-}
-
 /// Takes what the routes of an event may need. After want of memory the list is as it was.
-pub(crate) fn prepare_all(
-    machines: &mut BTreeMap<Key, KeyMachine>,
+pub(crate) fn prepare_all<L: Ledger>(
+    machines: &mut BTreeMap<Key, KeyMachine<L>>,
     list: &mut SpanList<Start>,
     shape: Shape,
     order: OrderKey,
@@ -137,14 +132,17 @@ pub(crate) fn prepare_all(
     ensures ordered { IsOrdered key_cmp machines.new }
     ensures sequences { KeepsSequences machines.old.entries machines.new.entries }
     ensures ready { OnOk result (AreReadyFor routes.now.items machines.new.entries) }
-    ensures prepared { IfOk result (λ prepared. ArePrepared shape.stages routes.now.items prepared.items) }
-    ensures list { IfOk result (λ prepared. list.new ≡ list.old ++ all_begun order routes.now.items prepared.items) }
+    ensures others { KeepsOtherRoutes routes.now.items machines.old.entries machines.new.entries }
+    ensures prepared { IfOk result
+        (λ prepared. ArePrepared shape.stages routes.now.items prepared.items) }
+    ensures list { IfOk result (λ prepared. list.new ≡ list.old
+        ++ all_begun order routes.now.items prepared.items) }
     ensures unchanged { OnErr result (list.new ≡ list.old) }
 {
     let mut prepared = Vec::with_capacity(shape.alloc, routes.len())?;
     for route in routes {
         match prepare(machines, list, shape, order, route) {
-            Ok(ready) => push_in_room(&mut prepared, ready),
+            Ok(ready) => prepared.push_reserved(ready),
             Err(memory) => {
                 undo(list, prepared);
                 return Err(memory);
@@ -155,16 +153,18 @@ pub(crate) fn prepare_all(
 }
 
 /// Keeps no machine for the keys of routes with nothing pending.
-pub(crate) fn drop_all_empty(
-    machines: &mut BTreeMap<Key, KeyMachine>,
+pub(crate) fn drop_all_empty<L: Ledger>(
+    machines: &mut BTreeMap<Key, KeyMachine<L>>,
     shape: Shape,
     routes: &Vec<Route>,
 )
     requires of { AreOf shape.stages shape.span machines.old.entries }
     requires ordered { IsOrdered key_cmp machines.old }
+    requires busy { AreBusyBut routes.now.items machines.old.entries }
     ensures of { AreOf shape.stages shape.span machines.new.entries }
     ensures ordered { IsOrdered key_cmp machines.new }
     ensures sequences { KeepsSequences machines.old.entries machines.new.entries }
+    ensures busy { AreBusy machines.new.entries }
 {
     for route in routes {
         drop_empty(machines, shape, &route.key);

@@ -9,7 +9,7 @@ ghost use Rattle.eql_values.specs.declared.order.OrderKey.{OrderKey};
 ghost use Rattle.eql_values.specs.declared.value.Value.{Value};
 ghost use Rattle.eql_values.specs.Orders.{key_cmp};
 ghost use Rattle.eql_laws.specs.Shapes.{HasStageBefore, IsFull};
-ghost use Rattle.eql_part.specs.KeyTables.{AreOf, IsReadyIn, sequences_in, slots_in};
+ghost use Rattle.eql_part.specs.KeyTables.{AreBusy, AreOf, IsBusyAt, IsReadyIn, KeepsOtherKeys, sequences_in, slots_in};
 ghost use Rattle.eql_part.specs.Links.{Differ, IsLinked, Listed, StartsRise, first_time, slot_of};
 
 use crate::listing::{Start, tickets_differ};
@@ -18,6 +18,7 @@ use crate::rooms::{Shape, make_room};
 use eql_span_list::{SpanList, Ticket};
 use eql_values::{Chain, Holder, Key, Memory};
 use std::collections::BTreeMap;
+use std::sync::ledger::Ledger;
 
 /// The timestamp of the first event of a chain, in nanoseconds since the epoch.
 fn first_time(chain: &Chain) -> i128
@@ -32,7 +33,8 @@ fn first_time(chain: &Chain) -> i128
 /// Puts pending sequences in the order of their first timestamps.
 pub(crate) fn sort_by_start(holders: &mut Vec<Holder>) -> Result<(), Memory>
     ensures same { IsPermutation holders.old.items holders.new.items }
-    ensures sorted { OnOk result (IsSortedByKey (λ h. first_time h.chain) int_cmp holders.new.items) }
+    ensures sorted { OnOk result (IsSortedByKey
+        (λ h. first_time h.chain) int_cmp holders.new.items) }
 {
     holders.sort_by_key(|holder| first_time(&holder.chain))?;
     Ok(())
@@ -40,7 +42,8 @@ pub(crate) fn sort_by_start(holders: &mut Vec<Holder>) -> Result<(), Memory>
 
 /// What the list has of a sequence of a key.
 fn start_of(key: &Key, chain: &Chain) -> Result<Start, Memory>
-    ensures { IfOk result (λ start. start ≡ record { time = first_time chain.now; key = key.now }) }
+    ensures { IfOk result (λ start. start
+        ≡ record { time = first_time chain.now; key = key.now }) }
 {
     let time = first_time(chain);
     let key = key.clone()?;
@@ -48,8 +51,8 @@ fn start_of(key: &Key, chain: &Chain) -> Result<Start, Memory>
 }
 
 /// Puts a sequence that is on the list into the machine of its key.
-fn put_listed(
-    machines: &mut BTreeMap<Key, KeyMachine>,
+fn put_listed<L: Ledger>(
+    machines: &mut BTreeMap<Key, KeyMachine<L>>,
     list: &SpanList<Start>,
     shape: Shape,
     holder: Holder,
@@ -61,11 +64,16 @@ fn put_listed(
     requires stage { HasStageBefore shape.stages holder }
     requires full { IsFull holder }
     requires empty { slots_in machines.old.entries holder.key holder.stage ≡ None }
-    requires linked { IsLinked ((ticket, record { time = first_time holder.chain; key = holder.key }) ∷ []) (sequences_in machines.old.entries) list.now }
+    requires linked { IsLinked
+        ((ticket, record { time = first_time holder.chain; key = holder.key }) ∷ [])
+        (sequences_in machines.old.entries) list.now }
     ensures of { AreOf shape.stages shape.span machines.new.entries }
     ensures ordered { IsOrdered key_cmp machines.new }
+    ensures rest { KeepsOtherKeys holder.key machines.old.entries machines.new.entries }
+    ensures busy { IsBusyAt machines.new.entries holder.key }
     ensures here { slots_in machines.new.entries holder.key holder.stage ≡ Some holder.chain }
-    ensures others { (q : List Value) (k : ℕ) → (q ≡ holder.key → k ≡ holder.stage → ⊥) → slots_in machines.new.entries q k ≡ slots_in machines.old.entries q k }
+    ensures others { (q : List Value) (k : ℕ) → (q ≡ holder.key → k ≡ holder.stage → ⊥)
+        → slots_in machines.new.entries q k ≡ slots_in machines.old.entries q k }
     ensures linked { IsLinked [] (sequences_in machines.new.entries) list.now }
 {
     tickets_differ(list);
@@ -76,8 +84,8 @@ fn put_listed(
 }
 
 /// Puts a sequence in that begins no earlier than those on the list.
-fn put(
-    machines: &mut BTreeMap<Key, KeyMachine>,
+fn put<L: Ledger>(
+    machines: &mut BTreeMap<Key, KeyMachine<L>>,
     list: &mut SpanList<Start>,
     shape: Shape,
     holder: Holder,
@@ -86,6 +94,7 @@ fn put(
     requires to { shape.stages ≤ 256 }
     requires of { AreOf shape.stages shape.span machines.old.entries }
     requires ordered { IsOrdered key_cmp machines.old }
+    requires busy { AreBusy machines.old.entries }
     requires stage { HasStageBefore shape.stages holder }
     requires full { IsFull holder }
     requires empty { slots_in machines.old.entries holder.key holder.stage ≡ None }
@@ -93,10 +102,15 @@ fn put(
     requires late { All (λ (e : Listed). e.1.time ≤ℤ first_time holder.chain) list.old }
     ensures of { AreOf shape.stages shape.span machines.new.entries }
     ensures ordered { IsOrdered key_cmp machines.new }
-    ensures here { OnOk result (slots_in machines.new.entries holder.key holder.stage ≡ Some holder.chain) }
-    ensures others { OnOk result ((q : List Value) (k : ℕ) → (q ≡ holder.key → k ≡ holder.stage → ⊥) → slots_in machines.new.entries q k ≡ slots_in machines.old.entries q k) }
+    ensures busy { OnOk result (AreBusy machines.new.entries) }
+    ensures here { OnOk result (slots_in machines.new.entries holder.key holder.stage
+        ≡ Some holder.chain) }
+    ensures others { OnOk result ((q : List Value) (k : ℕ)
+        → (q ≡ holder.key → k ≡ holder.stage → ⊥) → slots_in machines.new.entries q k
+        ≡ slots_in machines.old.entries q k) }
     ensures linked { OnOk result (IsLinked [] (sequences_in machines.new.entries) list.new) }
-    ensures late { OnOk result ((time : ℤ) → All (λ (e : Listed). e.1.time ≤ℤ time) list.old → first_time holder.chain ≤ℤ time → All (λ (e : Listed). e.1.time ≤ℤ time) list.new) }
+    ensures late { OnOk result ((time : ℤ) → All (λ (e : Listed). e.1.time ≤ℤ time) list.old
+        → first_time holder.chain ≤ℤ time → All (λ (e : Listed). e.1.time ≤ℤ time) list.new) }
 {
     make_room(machines, shape, &holder.key)?;
     let start = start_of(&holder.key, &holder.chain)?;
@@ -111,8 +125,8 @@ fn put(
 }
 
 /// Puts sequences in, in the order of their first timestamps, where there is none.
-pub(crate) fn put_all(
-    machines: &mut BTreeMap<Key, KeyMachine>,
+pub(crate) fn put_all<L: Ledger>(
+    machines: &mut BTreeMap<Key, KeyMachine<L>>,
     list: &mut SpanList<Start>,
     shape: Shape,
     holders: Vec<Holder>,
@@ -128,8 +142,12 @@ pub(crate) fn put_all(
     requires rise { StartsRise holders.items }
     ensures of { AreOf shape.stages shape.span machines.new.entries }
     ensures ordered { IsOrdered key_cmp machines.new }
-    ensures there { OnOk result (All (λ (h : Held). slots_in machines.new.entries h.key h.stage ≡ Some h.chain) holders.items) }
-    ensures no_other { OnOk result ((q : List Value) (k : ℕ) (c : List OrderKey) → slots_in machines.new.entries q k ≡ Some c → Contains holders.items (record { key = q; stage = k; chain = c })) }
+    ensures busy { OnOk result (AreBusy machines.new.entries) }
+    ensures there { OnOk result (All (λ (h : Held). slots_in machines.new.entries h.key h.stage
+        ≡ Some h.chain) holders.items) }
+    ensures no_other { OnOk result ((q : List Value) (k : ℕ) (c : List OrderKey)
+        → slots_in machines.new.entries q k ≡ Some c
+        → Contains holders.items (record { key = q; stage = k; chain = c })) }
     ensures linked { OnOk result (IsLinked [] (sequences_in machines.new.entries) list.new) }
 {
     for holder in holders {

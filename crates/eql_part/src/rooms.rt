@@ -1,13 +1,14 @@
 //! The room that an event may need, taken before it is played.
-ghost use Rattle.std.specs.Prelude.{◌≡◌, ℕ, ◌≤◌, ◌<◌, None, IsSome, All, IsTrue, OnOk};
+ghost use Rattle.std.specs.Prelude.{◌≡◌, ℕ, ◌≤◌, ◌<◌, None, IsSome, All, IsTrue, OnOk, false};
 ghost use Rattle.std.specs.BTreeMap.{IsOrdered};
 ghost use Rattle.eql_values.specs.Orders.{key_cmp};
-ghost use Rattle.eql_part.specs.KeyTables.{AreOf, IsReadyIn, KeepsOtherKeys, KeepsReady, KeepsSequences, machine_of, sequences_in};
+ghost use Rattle.eql_part.specs.KeyTables.{AreOf, IsBusyAt, IsReadyIn, KeepsOtherKeys, KeepsReady, KeepsSequences, machine_of, sequences_in};
 
 use crate::machine::KeyMachine;
 use eql_values::{Key, Memory};
 use std::alloc::Global;
 use std::collections::BTreeMap;
+use std::sync::ledger::Ledger;
 
 /// What the machines of all keys have in common.
 #[derive(Clone, Copy)]
@@ -21,8 +22,8 @@ pub(crate) struct Shape {
 }
 
 /// Puts a machine without sequences for a key that has none.
-fn add_machine(
-    machines: &mut BTreeMap<Key, KeyMachine>,
+pub(crate) fn add_machine<L: Ledger>(
+    machines: &mut BTreeMap<Key, KeyMachine<L>>,
     shape: Shape,
     key: &Key,
 ) -> Result<(), Memory>
@@ -34,6 +35,7 @@ fn add_machine(
     ensures of { AreOf shape.stages shape.span machines.new.entries }
     ensures ordered { IsOrdered key_cmp machines.new }
     ensures there { OnOk result (IsSome (machine_of machines.new.entries key.now)) }
+    ensures others { KeepsOtherKeys key.now machines.old.entries machines.new.entries }
     ensures sequences { KeepsSequences machines.old.entries machines.new.entries }
     ensures ready { KeepsReady machines.old.entries machines.new.entries }
 {
@@ -44,8 +46,8 @@ fn add_machine(
 }
 
 /// Takes the room for one more chain of a key that has a machine.
-fn ready_machine(
-    machines: &mut BTreeMap<Key, KeyMachine>,
+fn ready_machine<L: Ledger>(
+    machines: &mut BTreeMap<Key, KeyMachine<L>>,
     shape: Shape,
     key: &Key,
 ) -> Result<(), Memory>
@@ -54,6 +56,7 @@ fn ready_machine(
     ensures of { AreOf shape.stages shape.span machines.new.entries }
     ensures ordered { IsOrdered key_cmp machines.new }
     ensures there { OnOk result (IsReadyIn machines.new.entries key.now) }
+    ensures others { KeepsOtherKeys key.now machines.old.entries machines.new.entries }
     ensures sequences { KeepsSequences machines.old.entries machines.new.entries }
     ensures ready { KeepsReady machines.old.entries machines.new.entries }
 {
@@ -64,8 +67,8 @@ fn ready_machine(
 }
 
 /// Takes the room for one more chain of a key.
-pub(crate) fn make_room(
-    machines: &mut BTreeMap<Key, KeyMachine>,
+pub(crate) fn make_room<L: Ledger>(
+    machines: &mut BTreeMap<Key, KeyMachine<L>>,
     shape: Shape,
     key: &Key,
 ) -> Result<(), Memory>
@@ -76,6 +79,7 @@ pub(crate) fn make_room(
     ensures of { AreOf shape.stages shape.span machines.new.entries }
     ensures ordered { IsOrdered key_cmp machines.new }
     ensures there { OnOk result (IsReadyIn machines.new.entries key.now) }
+    ensures others { KeepsOtherKeys key.now machines.old.entries machines.new.entries }
     ensures sequences { KeepsSequences machines.old.entries machines.new.entries }
     ensures ready { KeepsReady machines.old.entries machines.new.entries }
 {
@@ -86,8 +90,9 @@ pub(crate) fn make_room(
 }
 
 /// Whether the key has a machine without sequences.
-fn has_empty(machines: &BTreeMap<Key, KeyMachine>, key: &Key) -> bool
-    ensures { IsTrue result → (k : ℕ) → sequences_in machines.now.entries key.now k ≡ None }
+fn has_empty<L: Ledger>(machines: &BTreeMap<Key, KeyMachine<L>>, key: &Key) -> bool
+    ensures empty { IsTrue result → (k : ℕ) → sequences_in machines.now.entries key.now k ≡ None }
+    ensures busy { result ≡ false → IsBusyAt machines.now.entries key.now }
 {
     match machines.get(key) {
         None => false,
@@ -95,16 +100,43 @@ fn has_empty(machines: &BTreeMap<Key, KeyMachine>, key: &Key) -> bool
     }
 }
 
+/// Keeps no machine for a key, where it is empty.
+pub(crate) fn settle<L: Ledger>(
+    machines: &mut BTreeMap<Key, KeyMachine<L>>,
+    shape: Shape,
+    key: &Key,
+    is_empty: bool,
+)
+    requires of { AreOf shape.stages shape.span machines.old.entries }
+    requires ordered { IsOrdered key_cmp machines.old }
+    requires empty { IsTrue is_empty
+        → (k : ℕ) → sequences_in machines.old.entries key.now k ≡ None }
+    requires busy { is_empty ≡ false → IsBusyAt machines.old.entries key.now }
+    ensures of { AreOf shape.stages shape.span machines.new.entries }
+    ensures ordered { IsOrdered key_cmp machines.new }
+    ensures sequences { KeepsSequences machines.old.entries machines.new.entries }
+    ensures others { KeepsOtherKeys key.now machines.old.entries machines.new.entries }
+    ensures busy { IsBusyAt machines.new.entries key.now }
+{
+    if is_empty {
+        machines.remove(key);
+    }
+}
+
 /// Keeps no machine for a key with nothing pending.
-pub(crate) fn drop_empty(machines: &mut BTreeMap<Key, KeyMachine>, shape: Shape, key: &Key)
+pub(crate) fn drop_empty<L: Ledger>(
+    machines: &mut BTreeMap<Key, KeyMachine<L>>,
+    shape: Shape,
+    key: &Key,
+)
     requires of { AreOf shape.stages shape.span machines.old.entries }
     requires ordered { IsOrdered key_cmp machines.old }
     ensures of { AreOf shape.stages shape.span machines.new.entries }
     ensures ordered { IsOrdered key_cmp machines.new }
     ensures sequences { KeepsSequences machines.old.entries machines.new.entries }
     ensures others { KeepsOtherKeys key.now machines.old.entries machines.new.entries }
+    ensures busy { IsBusyAt machines.new.entries key.now }
 {
-    if has_empty(machines, key) {
-        machines.remove(key);
-    }
+    let is_empty = has_empty(machines, key);
+    settle(machines, shape, key, is_empty);
 }

@@ -1,5 +1,5 @@
 //! An event played to all keys that it has a route of.
-ghost use Rattle.std.specs.Prelude.{◌≡◌, ℕ, suc, ◌+◌, ◌<◌, ◌≤◌, ◌++◌, [], List, IfSome, IsSome, OnErr, OnOk, length, vec_len, vec_capacity, find};
+ghost use Rattle.std.specs.Prelude.{◌≡◌, ℕ, suc, ◌+◌, ◌<◌, ◌≤◌, ◌++◌, [], List, All, IfOk, IfSome, IsSome, IsTrue, OnErr, OnOk, length, vec_len, vec_capacity, find};
 ghost use Rattle.std.specs.BTreeMap.{IsOrdered};
 ghost use Rattle.std.specs.List.{filter_map};
 ghost use Rattle.std.specs.Option.{option_map, option_to_list};
@@ -7,15 +7,16 @@ ghost use Rattle.eql_values.specs.declared.item.Route.{Route};
 ghost use Rattle.eql_values.specs.declared.value.Value.{Value};
 ghost use Rattle.eql_values.specs.Orders.{key_cmp, key_eq};
 ghost use Rattle.eql_values.specs.Routes.{RoutesInOrder};
-ghost use Rattle.eql_laws.specs.OneEvent.{turned};
-ghost use Rattle.eql_part.specs.KeyTables.{AreOf, AreReadyFor, IsLaterAt, KeepsSequences, probes_of_all, sequences_in, slots_in};
+ghost use Rattle.eql_laws.specs.OneEvent.{slots_after_event};
+ghost use Rattle.eql_part.specs.KeyTables.{AreBusy, AreBusyBut, AreOf, AreReadyFor, IsIdle, IsLaterAt, KeepsSequences, probes_of_all, sequences_in, slots_in};
 ghost use Rattle.eql_part.specs.Links.{IsLinked};
 ghost use Rattle.eql_part.specs.Routed.{ArePrepared, all_begun, match_there};
 
 use crate::listing::{Start, tickets_differ};
 use crate::machine::KeyMachine;
-use crate::prepared::{Prepared, drop_all_empty, prepare_all, push_in_room};
+use crate::prepared::{Prepared, drop_all_empty, prepare_all};
 use crate::rooms::Shape;
+use crate::single::play_one;
 use crate::turns::turn_key;
 use eql_auto::Steps;
 use eql_span_list::SpanList;
@@ -24,21 +25,23 @@ use std::collections::BTreeMap;
 use std::sync::ledger::Ledger;
 
 /// Adds the match of a key that has its event for the last stage, where there is one, in the room taken before.
-fn add_match(found: &mut Vec<Match>, key: Option<Key>, completed: Option<Chain>)
+pub(crate) fn add_match(found: &mut Vec<Match>, key: Option<Key>, completed: Option<Chain>)
     requires keyed { IfSome completed (λ _. IsSome key) }
-    requires room { vec_len found.old < vec_capacity found.old }
-    ensures items { (q : List Value) → IfSome key (λ k. k ≡ q) → found.new.items ≡ found.old.items ++ option_to_list (option_map (λ c. record { key = q; chain = c }) completed) }
+    requires room { IfSome key (λ _. vec_len found.old < vec_capacity found.old) }
+    ensures items { (q : List Value) → IfSome key (λ k. k ≡ q) → found.new.items
+        ≡ found.old.items ++ option_to_list (option_map
+        (λ c. record { key = q; chain = c }) completed) }
     ensures len { vec_len found.new ≤ vec_len found.old + 1 }
     ensures room { vec_capacity found.old ≤ vec_capacity found.new }
 {
     if let (Some(key), Some(chain)) = (key, completed) {
-        push_in_room(found, Match { key, chain });
+        found.push_reserved(Match { key, chain });
     }
 }
 
 /// Plays an event to the keys of its routes, in the room taken before, and adds the matches that it completes.
 pub(crate) fn turn_all<L: Ledger>(
-    machines: &mut BTreeMap<Key, KeyMachine>,
+    machines: &mut BTreeMap<Key, KeyMachine<L>>,
     list: &mut SpanList<Start>,
     shape: Shape,
     order: OrderKey,
@@ -52,14 +55,23 @@ pub(crate) fn turn_all<L: Ledger>(
     requires ordered { IsOrdered key_cmp machines.old }
     requires order { RoutesInOrder routes.now.items }
     requires ready { AreReadyFor routes.now.items machines.old.entries }
+    requires busy { AreBusyBut routes.now.items machines.old.entries }
     requires later { (key : List Value) → IsLaterAt order machines.old.entries key }
     requires prepared { ArePrepared shape.stages routes.now.items prepared.items }
-    requires linked { IsLinked (all_begun order routes.now.items prepared.items) (sequences_in machines.old.entries) list.old }
+    requires linked { IsLinked (all_begun order routes.now.items prepared.items)
+        (sequences_in machines.old.entries) list.old }
     requires room { vec_len found.old + length routes.now.items ≤ vec_capacity found.old }
     ensures of { AreOf shape.stages shape.span machines.new.entries }
     ensures ordered { IsOrdered key_cmp machines.new }
-    ensures slots { (key : List Value) (k : ℕ) → suc k < shape.stages → slots_in machines.new.entries key (suc k) ≡ turned shape.span order (find (λ (route : Route). key_eq key route.key) routes.now.items) (slots_in machines.old.entries key) (suc k) }
-    ensures found { found.new.items ≡ found.old.items ++ filter_map (match_there shape.stages shape.span (slots_in machines.old.entries) order) routes.now.items }
+    ensures busy { AreBusy machines.new.entries }
+    ensures slots { (key : List Value) (k : ℕ) → suc k < shape.stages
+        → slots_in machines.new.entries key (suc k)
+        ≡ slots_after_event shape.span order (find
+        (λ (route : Route). key_eq key route.key) routes.now.items)
+        (slots_in machines.old.entries key) (suc k) }
+    ensures found { found.new.items ≡ found.old.items
+        ++ filter_map (match_there shape.stages shape.span
+        (slots_in machines.old.entries) order) routes.now.items }
     ensures linked { IsLinked [] (sequences_in machines.new.entries) list.new }
     ensures probes { steps.new ≤ steps.old + probes_of_all shape.stages routes.now.items }
 {
@@ -75,38 +87,66 @@ pub(crate) fn turn_all<L: Ledger>(
     }
 }
 
-/// Plays an event that comes after all that is pending, and adds the matches that it completes. After want of memory the
-/// pending sequences are as they were.
+/// Whether the event says nothing to any key: none of its routes begins a sequence, and none of their keys has a machine.
+fn are_idle<L: Ledger>(machines: &BTreeMap<Key, KeyMachine<L>>, routes: &Vec<Route>) -> bool
+    ensures { IsTrue result → All
+        (λ (route : Route). IsIdle machines.now.entries route) routes.now.items }
+{
+    for route in routes {
+        if route.mask.has(1) || machines.get(&route.key).is_some() {
+            return false;
+        }
+    }
+    true
+}
+
+/// Plays an event that comes after all that is pending, and answers the matches that it completes. An event of one route
+/// searches for its key once, and an event that says nothing to any key takes no memory. After want of memory the pending sequences are as they were.
 pub(crate) fn play<L: Ledger>(
-    machines: &mut BTreeMap<Key, KeyMachine>,
+    machines: &mut BTreeMap<Key, KeyMachine<L>>,
     list: &mut SpanList<Start>,
     shape: Shape,
     order: OrderKey,
     routes: &Vec<Route>,
-    found: &mut Vec<Match>,
     steps: &mut Steps<L>,
-) -> Result<(), Memory>
+) -> Result<Vec<Match>, Memory>
     requires from { 1 ≤ shape.stages }
     requires to { shape.stages ≤ 256 }
     requires of { AreOf shape.stages shape.span machines.old.entries }
     requires ordered { IsOrdered key_cmp machines.old }
+    requires busy { AreBusy machines.old.entries }
     requires order { RoutesInOrder routes.now.items }
     requires later { (key : List Value) → IsLaterAt order machines.old.entries key }
     requires linked { IsLinked [] (sequences_in machines.old.entries) list.old }
-    requires room { vec_len found.old + length routes.now.items ≤ vec_capacity found.old }
     ensures of { AreOf shape.stages shape.span machines.new.entries }
     ensures ordered { IsOrdered key_cmp machines.new }
-    ensures slots { OnOk result ((key : List Value) (k : ℕ) → suc k < shape.stages → slots_in machines.new.entries key (suc k) ≡ turned shape.span order (find (λ (route : Route). key_eq key route.key) routes.now.items) (slots_in machines.old.entries key) (suc k)) }
-    ensures found { OnOk result (found.new.items ≡ found.old.items ++ filter_map (match_there shape.stages shape.span (slots_in machines.old.entries) order) routes.now.items) }
+    ensures busy { AreBusy machines.new.entries }
+    ensures slots { OnOk result ((key : List Value) (k : ℕ) → suc k < shape.stages
+        → slots_in machines.new.entries key (suc k)
+        ≡ slots_after_event shape.span order (find
+        (λ (route : Route). key_eq key route.key) routes.now.items)
+        (slots_in machines.old.entries key) (suc k)) }
+    ensures found { IfOk result (λ found. found.items
+        ≡ filter_map (match_there shape.stages shape.span
+        (slots_in machines.old.entries) order) routes.now.items) }
     ensures linked { IsLinked [] (sequences_in machines.new.entries) list.new }
     ensures unchanged { OnErr result (KeepsSequences machines.old.entries machines.new.entries) }
     ensures probes { steps.new ≤ steps.old + probes_of_all shape.stages routes.now.items }
 {
+    if routes.len() == 1 {
+        return play_one(machines, list, shape, order, &routes[0], steps);
+    }
+    if are_idle(machines, routes) {
+        return Ok(Vec::new(shape.alloc));
+    }
+    let mut found = Vec::with_capacity(shape.alloc, routes.len())?;
     match prepare_all(machines, list, shape, order, routes) {
         Ok(prepared) => {
             tickets_differ(list);
-            turn_all(machines, list, shape, order, routes, prepared, found, steps);
-            Ok(())
+            turn_all(
+                machines, list, shape, order, routes, prepared, &mut found, steps,
+            );
+            Ok(found)
         }
         Err(memory) => {
             drop_all_empty(machines, shape, routes);

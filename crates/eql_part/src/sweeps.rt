@@ -4,7 +4,7 @@ ghost use Rattle.std.specs.BTreeMap.{IsOrdered};
 ghost use Rattle.eql_values.specs.declared.value.Value.{Value};
 ghost use Rattle.eql_values.specs.Orders.{key_cmp};
 ghost use Rattle.eql_laws.specs.Alive.{alive_at};
-ghost use Rattle.eql_part.specs.KeyTables.{AreOf, KeepsOtherKeys, holders_in, sequences_in, slots_in};
+ghost use Rattle.eql_part.specs.KeyTables.{AreBusy, AreOf, KeepsOtherKeys, holders_in, sequences_in, slots_in};
 ghost use Rattle.eql_part.specs.Links.{BeginsStale, IsLinked, Listed, TimesAscend, is_early};
 
 use crate::listing::{Start, tickets_differ};
@@ -13,7 +13,7 @@ use crate::rooms::{Shape, drop_empty};
 use eql_auto::Steps;
 use eql_laws::same_holders;
 use eql_span_list::SpanList;
-use eql_values::Key;
+use eql_values::{Key, OrderKey, is_in_time};
 use std::collections::BTreeMap;
 use std::sync::ledger::Ledger;
 
@@ -21,20 +21,22 @@ use std::sync::ledger::Ledger;
 fn is_early(span: Option<i128>, first: i128, now: i128) -> bool
     ensures { result ≡ is_early span first now }
 {
-    match span {
-        None => true,
-        Some(span) => match now.checked_sub(first) {
-            Some(passed) => passed <= span,
-            None => now < first,
-        },
-    }
+    let event = OrderKey {
+        ts: first,
+        tie: None,
+        shard: 0,
+        line: 0,
+        at: 0,
+    };
+    is_in_time(span, &[event], now)
 }
 
 /// Whether the first on the list is no longer alive at a time.
 fn is_front_stale(list: &SpanList<Start>, span: Option<i128>, now: i128) -> bool
     requires { TimesAscend list.now }
     ensures stale { IsTrue result → BeginsStale span now list.now }
-    ensures fresh { result ≡ false → All (λ (e : Listed). is_early span e.1.time now ≡ true) list.now }
+    ensures fresh { result ≡ false → All (λ (e : Listed). is_early span e.1.time now
+        ≡ true) list.now }
 {
     match list.front() {
         None => false,
@@ -45,7 +47,7 @@ fn is_front_stale(list: &SpanList<Start>, span: Option<i128>, now: i128) -> bool
 /// Drops the sequences of the key of the first on the list that are no longer alive, and answers what the list had of one
 /// of them.
 fn expire_machine<L: Ledger>(
-    machines: &mut BTreeMap<Key, KeyMachine>,
+    machines: &mut BTreeMap<Key, KeyMachine<L>>,
     list: &mut SpanList<Start>,
     shape: Shape,
     reach: i128,
@@ -58,9 +60,12 @@ fn expire_machine<L: Ledger>(
     ensures of { AreOf shape.stages shape.span machines.new.entries }
     ensures ordered { IsOrdered key_cmp machines.new }
     ensures others { KeepsOtherKeys result.key machines.old.entries machines.new.entries }
-    ensures alive { (key : List Value) (k : ℕ) → alive_at shape.span reach (slots_in machines.new.entries key k) ≡ alive_at shape.span reach (slots_in machines.old.entries key k) }
+    ensures alive { (key : List Value) (k : ℕ)
+        → alive_at shape.span reach (slots_in machines.new.entries key k)
+        ≡ alive_at shape.span reach (slots_in machines.old.entries key k) }
     ensures linked { IsLinked [] (sequences_in machines.new.entries) list.new }
-    ensures fewer { length (holders_in machines.new.entries) < length (holders_in machines.old.entries) }
+    ensures fewer { length (holders_in machines.new.entries) < length
+        (holders_in machines.old.entries) }
     ensures probes { steps.new ≤ steps.old + (shape.stages - 1) }
 {
     tickets_differ(list);
@@ -80,7 +85,7 @@ fn expire_machine<L: Ledger>(
 /// Drops the sequences of the key of the first on the list that are no longer alive, and keeps no machine for it where
 /// nothing of it is pending then.
 fn expire_front<L: Ledger>(
-    machines: &mut BTreeMap<Key, KeyMachine>,
+    machines: &mut BTreeMap<Key, KeyMachine<L>>,
     list: &mut SpanList<Start>,
     shape: Shape,
     reach: i128,
@@ -91,11 +96,16 @@ fn expire_front<L: Ledger>(
     requires linked { IsLinked [] (sequences_in machines.old.entries) list.old }
     requires stale { BeginsStale shape.span reach list.old }
     requires ordered { IsOrdered key_cmp machines.old }
+    requires busy { AreBusy machines.old.entries }
     ensures of { AreOf shape.stages shape.span machines.new.entries }
     ensures ordered { IsOrdered key_cmp machines.new }
-    ensures alive { (key : List Value) (k : ℕ) → alive_at shape.span reach (slots_in machines.new.entries key k) ≡ alive_at shape.span reach (slots_in machines.old.entries key k) }
+    ensures busy { AreBusy machines.new.entries }
+    ensures alive { (key : List Value) (k : ℕ)
+        → alive_at shape.span reach (slots_in machines.new.entries key k)
+        ≡ alive_at shape.span reach (slots_in machines.old.entries key k) }
     ensures linked { IsLinked [] (sequences_in machines.new.entries) list.new }
-    ensures fewer { length (holders_in machines.new.entries) < length (holders_in machines.old.entries) }
+    ensures fewer { length (holders_in machines.new.entries) < length
+        (holders_in machines.old.entries) }
     ensures probes { steps.new ≤ steps.old + (shape.stages - 1) }
 {
     same_holders();
@@ -105,7 +115,7 @@ fn expire_front<L: Ledger>(
 
 /// Drops all sequences that are no longer alive. It looks at the front of the list alone.
 pub(crate) fn sweep_all<L: Ledger>(
-    machines: &mut BTreeMap<Key, KeyMachine>,
+    machines: &mut BTreeMap<Key, KeyMachine<L>>,
     list: &mut SpanList<Start>,
     shape: Shape,
     reach: i128,
@@ -115,12 +125,17 @@ pub(crate) fn sweep_all<L: Ledger>(
     requires of { AreOf shape.stages shape.span machines.old.entries }
     requires linked { IsLinked [] (sequences_in machines.old.entries) list.old }
     requires ordered { IsOrdered key_cmp machines.old }
+    requires busy { AreBusy machines.old.entries }
     ensures of { AreOf shape.stages shape.span machines.new.entries }
     ensures ordered { IsOrdered key_cmp machines.new }
-    ensures slots { (key : List Value) (k : ℕ) → slots_in machines.new.entries key k ≡ alive_at shape.span reach (slots_in machines.old.entries key k) }
+    ensures busy { AreBusy machines.new.entries }
+    ensures slots { (key : List Value) (k : ℕ) → slots_in machines.new.entries key k
+        ≡ alive_at shape.span reach (slots_in machines.old.entries key k) }
     ensures linked { IsLinked [] (sequences_in machines.new.entries) list.new }
-    ensures fewer { length (holders_in machines.new.entries) ≤ length (holders_in machines.old.entries) }
-    ensures probes { steps.new + (shape.stages - 1) * length (holders_in machines.new.entries) ≤ steps.old + (shape.stages - 1) * length (holders_in machines.old.entries) }
+    ensures fewer { length (holders_in machines.new.entries)
+        ≤ length (holders_in machines.old.entries) }
+    ensures probes { steps.new + (shape.stages - 1) * length (holders_in machines.new.entries)
+        ≤ steps.old + (shape.stages - 1) * length (holders_in machines.old.entries) }
 {
     while is_front_stale(list, shape.span, reach) {
         expire_front(machines, list, shape, reach, steps);

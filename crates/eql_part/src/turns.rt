@@ -4,8 +4,8 @@ ghost use Rattle.std.specs.BTreeMap.{IsOrdered};
 ghost use Rattle.eql_values.specs.Masks.{has_after};
 ghost use Rattle.eql_values.specs.Orders.{key_cmp};
 ghost use Rattle.eql_values.specs.Matching.{act_by};
-ghost use Rattle.eql_laws.specs.Slots.{arrived, stepped};
-ghost use Rattle.eql_part.specs.KeyTables.{AreOf, IsLaterAt, IsReadyIn, KeepsOtherKeys, probes_of, sequences_in, slots_in};
+ghost use Rattle.eql_laws.specs.Slots.{chain_coming, slots_after};
+ghost use Rattle.eql_part.specs.KeyTables.{AreOf, IsBusyAt, IsLaterAt, IsReadyIn, KeepsOtherKeys, probes_of, sequences_in, slots_in};
 ghost use Rattle.eql_part.specs.Links.{IsLinked, Listed, begun_by};
 
 use crate::listing::{Start, tickets_differ};
@@ -19,7 +19,7 @@ use std::sync::ledger::Ledger;
 
 /// Plays what an event says to one key, in the room taken before, and takes the sequences that ceased off the list.
 fn turn_machine<L: Ledger>(
-    machines: &mut BTreeMap<Key, KeyMachine>,
+    machines: &mut BTreeMap<Key, KeyMachine<L>>,
     list: &mut SpanList<Start>,
     shape: Shape,
     order: OrderKey,
@@ -32,13 +32,20 @@ fn turn_machine<L: Ledger>(
     requires ready { IsReadyIn machines.old.entries route.now.key }
     requires later { IsLaterAt order machines.old.entries route.now.key }
     requires tagged { is_some tag ≡ has_after 0 route.now.mask }
-    requires linked { (begun : List Listed) × IsLinked (begun_by order route.now tag ++ begun) (sequences_in machines.old.entries) list.old }
+    requires linked { (begun : List Listed) × IsLinked (begun_by order route.now tag ++ begun)
+        (sequences_in machines.old.entries) list.old }
     ensures of { AreOf shape.stages shape.span machines.new.entries }
     ensures ordered { IsOrdered key_cmp machines.new }
     ensures others { KeepsOtherKeys route.now.key machines.old.entries machines.new.entries }
-    ensures slots { (k : ℕ) → 1 ≤ k → k < shape.stages → slots_in machines.new.entries route.now.key k ≡ stepped shape.span (slots_in machines.old.entries route.now.key) (act_by order route.now) k }
-    ensures answer { result ≡ arrived shape.span (slots_in machines.old.entries route.now.key) (act_by order route.now) shape.stages }
-    ensures linked { (begun : List Listed) → IsLinked (begun_by order route.now tag ++ begun) (sequences_in machines.old.entries) list.old → IsLinked begun (sequences_in machines.new.entries) list.new }
+    ensures slots { (k : ℕ) → 1 ≤ k → k < shape.stages
+        → slots_in machines.new.entries route.now.key k
+        ≡ slots_after shape.span (slots_in machines.old.entries route.now.key)
+        (act_by order route.now) k }
+    ensures answer { result ≡ chain_coming shape.span
+        (slots_in machines.old.entries route.now.key) (act_by order route.now) shape.stages }
+    ensures linked { (begun : List Listed) → IsLinked (begun_by order route.now tag ++ begun)
+        (sequences_in machines.old.entries) list.old
+        → IsLinked begun (sequences_in machines.new.entries) list.new }
     ensures probes { steps.new ≤ steps.old + probes_of shape.stages route.now }
 {
     tickets_differ(list);
@@ -50,7 +57,7 @@ fn turn_machine<L: Ledger>(
 
 /// Plays what an event says to one key, and keeps no machine for it where nothing of it is pending then.
 pub(crate) fn turn_key<L: Ledger>(
-    machines: &mut BTreeMap<Key, KeyMachine>,
+    machines: &mut BTreeMap<Key, KeyMachine<L>>,
     list: &mut SpanList<Start>,
     shape: Shape,
     order: OrderKey,
@@ -63,13 +70,21 @@ pub(crate) fn turn_key<L: Ledger>(
     requires ready { IsReadyIn machines.old.entries route.now.key }
     requires later { IsLaterAt order machines.old.entries route.now.key }
     requires tagged { is_some tag ≡ has_after 0 route.now.mask }
-    requires linked { (begun : List Listed) × IsLinked (begun_by order route.now tag ++ begun) (sequences_in machines.old.entries) list.old }
+    requires linked { (begun : List Listed) × IsLinked (begun_by order route.now tag ++ begun)
+        (sequences_in machines.old.entries) list.old }
     ensures of { AreOf shape.stages shape.span machines.new.entries }
     ensures ordered { IsOrdered key_cmp machines.new }
     ensures others { KeepsOtherKeys route.now.key machines.old.entries machines.new.entries }
-    ensures slots { (k : ℕ) → 1 ≤ k → k < shape.stages → slots_in machines.new.entries route.now.key k ≡ stepped shape.span (slots_in machines.old.entries route.now.key) (act_by order route.now) k }
-    ensures answer { result ≡ arrived shape.span (slots_in machines.old.entries route.now.key) (act_by order route.now) shape.stages }
-    ensures linked { (begun : List Listed) → IsLinked (begun_by order route.now tag ++ begun) (sequences_in machines.old.entries) list.old → IsLinked begun (sequences_in machines.new.entries) list.new }
+    ensures busy { IsBusyAt machines.new.entries route.now.key }
+    ensures slots { (k : ℕ) → 1 ≤ k → k < shape.stages
+        → slots_in machines.new.entries route.now.key k
+        ≡ slots_after shape.span (slots_in machines.old.entries route.now.key)
+        (act_by order route.now) k }
+    ensures answer { result ≡ chain_coming shape.span
+        (slots_in machines.old.entries route.now.key) (act_by order route.now) shape.stages }
+    ensures linked { (begun : List Listed) → IsLinked (begun_by order route.now tag ++ begun)
+        (sequences_in machines.old.entries) list.old
+        → IsLinked begun (sequences_in machines.new.entries) list.new }
     ensures probes { steps.new ≤ steps.old + probes_of shape.stages route.now }
 {
     let completed = turn_machine(machines, list, shape, order, route, tag, steps);

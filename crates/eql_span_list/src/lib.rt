@@ -12,8 +12,6 @@ mod list;
 mod loose_box;
 mod node;
 mod store;
-#[cfg(test)]
-mod tests;
 
 pub use list::SpanList;
 #[doc(hidden)]

@@ -20,7 +20,8 @@ impl<T> Links<T> {
     pub(crate) fn set_next(&mut self, previous: Option<Ticket>, next: Option<Ticket>)
         requires { NamesNode self.old.store.nodes previous }
         ensures nodes { self.new.store.nodes ≡ next_set previous next self.old.store.nodes }
-        ensures ends { (self.new.first ≡ end_set previous next self.old.first) × (self.new.last ≡ self.old.last) }
+        ensures ends { (self.new.first ≡ end_set previous next self.old.first)
+            × (self.new.last ≡ self.old.last) }
     {
         match previous {
             Some(ticket) => self.store.get_mut(ticket).next = next,
@@ -32,7 +33,8 @@ impl<T> Links<T> {
     pub(crate) fn set_previous(&mut self, next: Option<Ticket>, previous: Option<Ticket>)
         requires { NamesNode self.old.store.nodes next }
         ensures nodes { self.new.store.nodes ≡ previous_set next previous self.old.store.nodes }
-        ensures ends { (self.new.first ≡ self.old.first) × (self.new.last ≡ end_set next previous self.old.last) }
+        ensures ends { (self.new.first ≡ self.old.first)
+            × (self.new.last ≡ end_set next previous self.old.last) }
     {
         match next {
             Some(ticket) => self.store.get_mut(ticket).previous = previous,

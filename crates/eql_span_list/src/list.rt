@@ -58,7 +58,8 @@ impl<T> SpanList<T> {
     /// Takes the value of a ticket of this list out. The others stay in order and keep their tickets.
     pub fn remove(&mut self, ticket: Ticket) -> T
         requires { HasTicket self.old ticket }
-        ensures taken { AtTicket self.old ticket (λ xs x ys. (self.new ≡ xs ++ ys) × (result ≡ x)) }
+        ensures taken { AtTicket self.old ticket
+            (λ xs x ys. (self.new ≡ xs ++ ys) × (result ≡ x)) }
         ensures gone { IsAbsent self.new ticket }
         ensures others { KeepsOthers self.old self.new ticket }
     {
@@ -75,7 +76,8 @@ impl<T> SpanList<T> {
 
     /// Takes the first value out, or answers `None` exactly where the list is empty.
     pub fn pop_front(&mut self) -> Option<T>
-        ensures { MatchOption result ((self.old ≡ []) × (self.new ≡ [])) (λ x. PopsFirst self.old self.new x) }
+        ensures { MatchOption result ((self.old ≡ []) × (self.new ≡ []))
+            (λ x. PopsFirst self.old self.new x) }
     {
         let ticket = self.links.first?;
         Some(self.remove(ticket))
@@ -103,7 +105,8 @@ impl<T: Drop> SpanList<T> {
     /// The error is want of memory: it hands the value back, and the list is as it was.
     pub fn push_back(&mut self, value: T) -> Result<Ticket, T>
         ensures fresh { IfOk result (λ t. IsAbsent self.old t) }
-        ensures items { MatchResult result (λ t. self.new ≡ self.old ++ (t, value) ∷ []) (λ back. (self.new ≡ self.old) × (back ≡ value)) }
+        ensures items { MatchResult result (λ t. self.new ≡ self.old ++ (t, value) ∷ [])
+            (λ back. (self.new ≡ self.old) × (back ≡ value)) }
     {
         let previous = self.links.last;
         let node = Node {

@@ -62,7 +62,8 @@ impl<T> NodeStore<T> {
     /// Gives the block of a node out. The others stay in order.
     pub(crate) fn take(&mut self, alloc: Global, ticket: Ticket) -> LooseBox<Node<T>, Global>
         requires { HasNodeAt self.old.nodes ticket.pointer }
-        ensures { AtNode self.old.nodes ticket.pointer (λ xs n ys. (self.new.nodes ≡ xs ++ ys) × (result.value ≡ n.node)) }
+        ensures { AtNode self.old.nodes ticket.pointer
+            (λ xs n ys. (self.new.nodes ≡ xs ++ ys) × (result.value ≡ n.node)) }
     {
         LooseBox {
             pointer: ticket.pointer as *mut Node<T>,

@@ -3,4 +3,4 @@ use Rattle.eql_values.specs.declared.order.OrderKey.{OrderKey}
 use Rattle.eql_part.proofs.keys.add_holders.Given as goal
 
 abbrev pub invariant-loop-stage : goal.invariant-loop-stage
-invariant-loop-stage l = l.found.items ≡ l.fn.found.items ++ map (λ (s : ℕ × List OrderKey). record { key = l.key; stage = s.0; chain = s.1 }) l.yielded
+invariant-loop-stage g l = l.found.items ≡ l.fn.found.items ++ map (λ (s : ℕ × List OrderKey). record { key = l.key; stage = s.0; chain = s.1 }) l.yielded

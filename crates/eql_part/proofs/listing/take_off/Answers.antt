@@ -10,20 +10,20 @@ use Rattle.eql_part.proofs.Leaving.{without_none, one_named, one_parts, one_with
 use Rattle.eql_part.proofs.listing.take_off.Goals as goal
 
 pub loop-ticket-init : goal.loop-ticket-init
-loop-ticket-init c = record {
+loop-ticket-init g c = record {
   machine = refl;
   parts = ([], sym (append-nil c.args.machine.now.gone), without_none c.args.list.now, refl, refl);
   listed = c.requires.listed;
 }
 
 pub remove-requires : goal.remove-requires
-remove-requires c =
+remove-requires g c =
     let left : c.loop-ticket.machine.gone ≡ c.next_gone.new.self.gone ++ c.in-Some.ticket ∷ [] = ap (λ (m : Machine Ticket). m.gone) (c.in-Some.ensures {u = tt}) in
     All-contains (HasTicket c.loop-ticket.list) (c.next_gone.new.self.gone ++ c.in-Some.ticket ∷ []) c.in-Some.ticket
     (subst (All (HasTicket c.loop-ticket.list)) left c.loop-ticket.invariant.listed) (Contains-push c.next_gone.new.self.gone c.in-Some.ticket)
 
 pub overflow_add-count : goal.overflow_add-count
-overflow_add-count c =
+overflow_add-count g c =
     let left : c.loop-ticket.machine.gone ≡ c.next_gone.new.self.gone ++ c.in-Some.ticket ∷ [] = ap (λ (m : Machine Ticket). m.gone) (c.in-Some.ensures {u = tt}) in
     let some = ap length left ∙ length-append c.next_gone.new.self.gone (c.in-Some.ticket ∷ []) in
     let parts = c.loop-ticket.invariant.parts in
@@ -33,13 +33,13 @@ overflow_add-count c =
     omega arith
 
 pub loop-ticket-smaller : goal.loop-ticket-smaller
-loop-ticket-smaller c =
+loop-ticket-smaller g c =
     let left : c.loop-ticket.machine.gone ≡ c.next_gone.new.self.gone ++ c.in-Some.ticket ∷ [] = ap (λ (m : Machine Ticket). m.gone) (c.in-Some.ensures {u = tt}) in
     let some = ap length left ∙ length-append c.next_gone.new.self.gone (c.in-Some.ticket ∷ []) in
     omega arith
 
 pub loop-ticket-preserved : goal.loop-ticket-preserved
-loop-ticket-preserved c =
+loop-ticket-preserved g c =
     let left : c.loop-ticket.machine.gone ≡ c.next_gone.new.self.gone ++ c.in-Some.ticket ∷ [] = ap (λ (m : Machine Ticket). m.gone) (c.in-Some.ensures {u = tt}) in
     let rest = c.next_gone.new.self.gone in let t = c.in-Some.ticket in
     let parts = c.loop-ticket.invariant.parts in let done = parts.0 in
@@ -59,21 +59,21 @@ loop-ticket-preserved c =
     }
 
 pub returns-clause-machine : goal.returns-clause-machine
-returns-clause-machine c =
+returns-clause-machine g c =
     let none = c.in_default.ensures {u = tt} in
     none.1 ∙ (λ i. record c.loop-ticket.machine { gone = none.0 i }) ∙ c.loop-ticket.invariant.machine
 
 pub returns-clause-count : goal.returns-clause-count
-returns-clause-count c =
+returns-clause-count g c =
     let none = c.in_default.ensures {u = tt} in let parts = c.loop-ticket.invariant.parts in
     parts.3 ∙ sym (ap length (parts.1 ∙ ap (λ (l : List Ticket). l ++ parts.0) none.0))
 
 pub returns-clause-last : goal.returns-clause-last
-returns-clause-last c =
+returns-clause-last g c =
     let none = c.in_default.ensures {u = tt} in let parts = c.loop-ticket.invariant.parts in
     subst (λ (l : List Ticket). MatchOption c.loop-ticket.last (l ≡ []) (λ start. IsOneOf l c.args.list.now start)) (sym (parts.1 ∙ ap (λ (l : List Ticket). l ++ parts.0) none.0)) parts.4
 
 pub returns-clause-list : goal.returns-clause-list
-returns-clause-list c =
+returns-clause-list g c =
     let none = c.in_default.ensures {u = tt} in let parts = c.loop-ticket.invariant.parts in
     subst (λ (l : List Ticket). IsWithout c.args.list.now l c.loop-ticket.list) (sym (parts.1 ∙ ap (λ (l : List Ticket). l ++ parts.0) none.0)) parts.2

@@ -6,21 +6,24 @@ use Rattle.std.proofs.lemmas.List.{append-nil, append_assoc, nil_from_length}
 use Rattle.std.proofs.lemmas.List.Elements.{All-contains, All-head, All-nil, All-tail, Contains-append_right}
 use Rattle.eql_values.specs.declared.found.Holder.{Holder}
 use Rattle.eql_laws.specs.Shapes.{HasStageBefore, IsFull}
-use Rattle.eql_part.specs.KeyTables.{slots_in}
+use Rattle.eql_part.specs.KeyTables.{IsBusyAt, slots_in}
 use Rattle.eql_part.specs.Links.{Differ, Listed, StartsRise, first_time, slot_of}
 use Rattle.eql_part.proofs.Joining.{none_of, none_linked}
 use Rattle.eql_part.proofs.Linking.{each_holds}
+use Rattle.eql_part.proofs.Rows.{Row}
+use Rattle.eql_span_list.specs.declared.node.Ticket.{Ticket}
 use Rattle.eql_part.proofs.Putting.{still_empty, there_now, no_other_now}
 use Rattle.eql_part.proofs.puts.put_all.Goals as goal
 
 pub loop-holder-init : goal.loop-holder-init
-loop-holder-init c =
+loop-holder-init g c =
     let gives = c.into_iter-holder-iterator.ensures.into_iter_gives in
     let ok = c.args.holders.ok.0 in
     let items = ap length gives.0 in
     record {
       of = none_of c.args.shape.stages c.args.shape.span c.args.machines.now.entries c.requires.none;
       ordered = c.requires.ordered;
+      busy = λ q. subst (λ (l : List (Row Ticket)). IsBusyAt l q) (sym c.requires.none) tt;
       linked = none_linked c.args.machines.now.entries c.args.list.now c.requires.none c.requires.empty;
       parts = sym gives.0;
       many = omega (arith, gives.1);
@@ -32,28 +35,28 @@ loop-holder-init c =
     }
 
 pub put-requires-clause-stage : goal.put-requires-clause-stage
-put-requires-clause-stage c =
+put-requires-clause-stage g c =
     let popped = (c.in-Some.ensures {u = tt}).steps in let done = c.loop-holder.yielded in let h = c.in-Some.holder in let left = into_iter_items c.next.new.self in let es = c.loop-holder.machines.entries in
     let parts = c.loop-holder.invariant.parts ∙ ap (λ (l : List Holder). done ++ l) popped.0 in
     let differ = subst (λ (l : List Holder). Differ (map slot_of l)) parts c.requires.differ in
     All-contains (HasStageBefore c.args.shape.stages) (done ++ h ∷ left) h (subst (All (HasStageBefore c.args.shape.stages)) parts c.requires.stages) (Contains-append_right done (h ∷ left) h (0, omega arith, refl))
 
 pub put-requires-clause-full : goal.put-requires-clause-full
-put-requires-clause-full c =
+put-requires-clause-full g c =
     let popped = (c.in-Some.ensures {u = tt}).steps in let done = c.loop-holder.yielded in let h = c.in-Some.holder in let left = into_iter_items c.next.new.self in let es = c.loop-holder.machines.entries in
     let parts = c.loop-holder.invariant.parts ∙ ap (λ (l : List Holder). done ++ l) popped.0 in
     let differ = subst (λ (l : List Holder). Differ (map slot_of l)) parts c.requires.differ in
     All-contains IsFull (done ++ h ∷ left) h (subst (All IsFull) parts c.requires.full) (Contains-append_right done (h ∷ left) h (0, omega arith, refl))
 
 pub put-requires-clause-empty : goal.put-requires-clause-empty
-put-requires-clause-empty c =
+put-requires-clause-empty g c =
     let popped = (c.in-Some.ensures {u = tt}).steps in let done = c.loop-holder.yielded in let h = c.in-Some.holder in let left = into_iter_items c.next.new.self in let es = c.loop-holder.machines.entries in
     let parts = c.loop-holder.invariant.parts ∙ ap (λ (l : List Holder). done ++ l) popped.0 in
     let differ = subst (λ (l : List Holder). Differ (map slot_of l)) parts c.requires.differ in
     still_empty es es done left h differ c.loop-holder.invariant.there c.loop-holder.invariant.no_other
 
 pub put-requires-clause-late : goal.put-requires-clause-late
-put-requires-clause-late c =
+put-requires-clause-late g c =
     let popped = (c.in-Some.ensures {u = tt}).steps in let done = c.loop-holder.yielded in let h = c.in-Some.holder in let left = into_iter_items c.next.new.self in let es = c.loop-holder.machines.entries in
     let parts = c.loop-holder.invariant.parts ∙ ap (λ (l : List Holder). done ++ l) popped.0 in
     let differ = subst (λ (l : List Holder). Differ (map slot_of l)) parts c.requires.differ in
@@ -61,7 +64,7 @@ put-requires-clause-late c =
     All-head up h left (subst (All up) popped.0 c.loop-holder.invariant.late)
 
 pub loop-holder-preserved : goal.loop-holder-preserved
-loop-holder-preserved c =
+loop-holder-preserved g c =
     let popped = (c.in-Some.ensures {u = tt}).steps in let done = c.loop-holder.yielded in let h = c.in-Some.holder in let left = into_iter_items c.next.new.self in let es = c.loop-holder.machines.entries in
     let parts = c.loop-holder.invariant.parts ∙ ap (λ (l : List Holder). done ++ l) popped.0 in
     let differ = subst (λ (l : List Holder). Differ (map slot_of l)) parts c.requires.differ in
@@ -74,6 +77,7 @@ loop-holder-preserved c =
     record {
       of = c.put.ensures.of;
       ordered = c.put.ensures.ordered;
+      busy = ok.busy;
       linked = ok.linked;
       parts = parts ∙ sym (append_assoc done (h ∷ []) left);
       many = omega (arith, popped.1);
@@ -85,14 +89,14 @@ loop-holder-preserved c =
     }
 
 pub returns-clause-there : goal.returns-clause-there
-returns-clause-there c =
+returns-clause-there g c =
     let none = (c.in-None.ensures {u = tt}).steps.0 in let many = c.loop-holder.invariant.many in
     let all : c.args.holders.items ≡ c.loop-holder.yielded =
     c.loop-holder.invariant.parts ∙ ap (λ (l : List Holder). c.loop-holder.yielded ++ l) (nil_from_length (into_iter_items c.loop-holder.holder-iterator) (sym many ∙ none)) ∙ append-nil c.loop-holder.yielded in
     subst (All (λ (h : Holder). slots_in c.loop-holder.machines.entries h.key h.stage ≡ Some h.chain)) (sym all) c.loop-holder.invariant.there
 
 pub returns-clause-no_other : goal.returns-clause-no_other
-returns-clause-no_other c = λ q k chain is.
+returns-clause-no_other g c = λ q k chain is.
     let none = (c.in-None.ensures {u = tt}).steps.0 in let many = c.loop-holder.invariant.many in
     let all : c.args.holders.items ≡ c.loop-holder.yielded =
     c.loop-holder.invariant.parts ∙ ap (λ (l : List Holder). c.loop-holder.yielded ++ l) (nil_from_length (into_iter_items c.loop-holder.holder-iterator) (sym many ∙ none)) ∙ append-nil c.loop-holder.yielded in

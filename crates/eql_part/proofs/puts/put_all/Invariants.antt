@@ -7,14 +7,15 @@ use Rattle.eql_values.specs.declared.found.Holder.{Holder}
 use Rattle.eql_values.specs.declared.order.OrderKey.{OrderKey}
 use Rattle.eql_values.specs.declared.value.Value.{Value}
 use Rattle.eql_values.specs.Orders.{key_cmp}
-use Rattle.eql_part.specs.KeyTables.{AreOf, sequences_in, slots_in}
+use Rattle.eql_part.specs.KeyTables.{AreBusy, AreOf, sequences_in, slots_in}
 use Rattle.eql_part.specs.Links.{IsLinked, Listed, StartsRise, first_time}
 use Rattle.eql_part.proofs.puts.put_all.Given as goal
 
 abbrev pub invariant-loop-holder : goal.invariant-loop-holder
-invariant-loop-holder l = record {
+invariant-loop-holder g l = record {
   of : AreOf l.shape.stages l.shape.span l.machines.entries;
   ordered : IsOrdered key_cmp l.machines;
+  busy : AreBusy l.machines.entries;
   linked : IsLinked [] (sequences_in l.machines.entries) l.list;
   parts : l.fn.holders.items ≡ l.yielded ++ into_iter_items l.holder-iterator;
   many : into_iter_len l.holder-iterator ≡ length (into_iter_items l.holder-iterator);

@@ -5,7 +5,7 @@ use Rattle.std.specs.BTreeMap.{is_at}
 use Rattle.std.proofs.lemmas.Bool.{cases_Bool}
 use Rattle.std.proofs.lemmas.List.{length-set}
 use Rattle.std.proofs.lemmas.List.Elements.{All-cons, All-nil}
-use Rattle.std.proofs.lemmas.List.Sorted.{IsPermutation-sym}
+use Rattle.std.proofs.lemmas.List.Sorted.{IsPermutation-sym, length_permutation}
 use Rattle.std.proofs.lemmas.Map.Views.{All-values-set_value}
 use Rattle.eql_values.specs.declared.value.Value.{Value}
 use Rattle.eql_values.specs.Orders.{key_cmp, key_eq}
@@ -14,6 +14,7 @@ use Rattle.eql_span_list.specs.declared.node.Ticket.{Ticket}
 use Rattle.eql_part.specs.declared.listing.Start.{Start}
 use Rattle.eql_part.specs.KeyTables.{IsOf, AreOf, machine_of, slots_in, slots_of}
 use Rattle.eql_part.specs.Links.{Listed, first_time, start_of}
+use Rattle.eql_part.proofs.Busy.{keeps_busy}
 use Rattle.eql_part.proofs.Differing.{differ_permutation}
 use Rattle.eql_part.proofs.Leaving.{without_none}
 use Rattle.eql_part.proofs.Linking.{same_key}
@@ -26,7 +27,7 @@ zero_below : 0 < 1
 zero_below = omega arith
 
 pub returns-clause-of : goal.returns-clause-of
-returns-clause-of c =
+returns-clause-of g c =
     let w = c.put.new.self in let machine = c.in-Some.machine.now in let holder = c.args.holder in let es = c.args.machines.now.entries in
     let found : machine_of es holder.key ≡ Some machine = sym c.get_mut.ensures.value ∙ ap option_copied_mut c.in-Some.is in
     let of = found_of c.args.shape.stages c.args.shape.span es holder.key machine c.requires.of found in
@@ -48,7 +49,7 @@ returns-clause-of c =
     (All-values-set_value (is_at (key_cmp holder.key)) (IsOf c.args.shape.stages c.args.shape.span) es w c.requires.of now)
 
 pub returns-clause-others : goal.returns-clause-others
-returns-clause-others c = λ q k ne.
+returns-clause-others g c = λ q k ne.
     let w = c.put.new.self in let machine = c.in-Some.machine.now in let holder = c.args.holder in let es = c.args.machines.now.entries in
     let found : machine_of es holder.key ≡ Some machine = sym c.get_mut.ensures.value ∙ ap option_copied_mut c.in-Some.is in
     let of = found_of c.args.shape.stages c.args.shape.span es holder.key machine c.requires.of found in
@@ -69,7 +70,7 @@ returns-clause-others c = λ q k ne.
     elim (cases_Bool (key_eq holder.key q)) [ inl e ↦ by_true e | inr e ↦ by_false e ]
 
 pub returns-clause-linked : goal.returns-clause-linked
-returns-clause-linked c =
+returns-clause-linked g c =
     let w = c.put.new.self in let machine = c.in-Some.machine.now in let holder = c.args.holder in let es = c.args.machines.now.entries in
     let found : machine_of es holder.key ≡ Some machine = sym c.get_mut.ensures.value ∙ ap option_copied_mut c.in-Some.is in
     let of = found_of c.args.shape.stages c.args.shape.span es holder.key machine c.requires.of found in
@@ -85,3 +86,11 @@ returns-clause-linked c =
       | inr was ↦ inl (k, s, was, refl, refl)
     ])
     ([], c.put.ensures.tags, without_none c.args.list.now) of.differ c.tickets_differ.ensures c.requires.linked
+
+pub returns-clause-busy : goal.returns-clause-busy
+returns-clause-busy g c =
+    let w = c.put.new.self in let machine = c.in-Some.machine.now in let holder = c.args.holder in let es = c.args.machines.now.entries in
+    let found : machine_of es holder.key ≡ Some machine = sym c.get_mut.ensures.value ∙ ap option_copied_mut c.in-Some.is in
+    let updated = (c.get_mut.follows.holds w).3 (some_there (machine_of es holder.key) machine found) in
+    let many = length_permutation (tags_of w.slots) (c.args.ticket ∷ tags_of machine.slots) c.put.ensures.tags in
+    keeps_busy (Some w) (machine_of (c.get_mut.follows.lender w).entries holder.key) updated.1 (omega arith)

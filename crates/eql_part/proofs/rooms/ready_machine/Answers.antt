@@ -8,7 +8,7 @@ use Rattle.eql_part.proofs.Turned.{found_of, room_alone, still_of, replaced_keep
 use Rattle.eql_part.proofs.rooms.ready_machine.Goals as goal
 
 pub returns-clause-of : goal.returns-clause-of
-returns-clause-of c =
+returns-clause-of g c =
     let w = c.ready.new.self in let machine = c.in-Some.machine.now in
     let found : machine_of c.args.machines.now.entries c.args.key.now ≡ Some machine = sym c.get_mut.ensures.value ∙ ap option_copied_mut c.in-Some.is in
     let same = room_alone c.ready.result w machine c.ready.ensures.ok c.ready.ensures.err in
@@ -17,14 +17,14 @@ returns-clause-of c =
     (still_of c.args.shape.stages c.args.shape.span w machine same (found_of c.args.shape.stages c.args.shape.span c.args.machines.now.entries c.args.key.now machine c.requires.of found)))
 
 pub returns-clause-sequences : goal.returns-clause-sequences
-returns-clause-sequences c =
+returns-clause-sequences g c =
     let w = c.ready.new.self in let machine = c.in-Some.machine.now in
     let found : machine_of c.args.machines.now.entries c.args.key.now ≡ Some machine = sym c.get_mut.ensures.value ∙ ap option_copied_mut c.in-Some.is in
     let same = room_alone c.ready.result w machine c.ready.ensures.ok c.ready.ensures.err in
     replaced_keeps c.args.machines.now.entries (c.get_mut.follows.lender w).entries c.args.key.now w machine same.1 found ((c.get_mut.follows.holds w).3 c.requires.there).0
 
 pub returns-clause-ready : goal.returns-clause-ready
-returns-clause-ready c =
+returns-clause-ready g c =
     let w = c.ready.new.self in let machine = c.in-Some.machine.now in
     let found : machine_of c.args.machines.now.entries c.args.key.now ≡ Some machine = sym c.get_mut.ensures.value ∙ ap option_copied_mut c.in-Some.is in
     let same = room_alone c.ready.result w machine c.ready.ensures.ok c.ready.ensures.err in

@@ -1,15 +1,19 @@
-use Rattle.std.proofs.Common.{◌++◌, [], ℕ, suc, List, Option, sym, ap, ◌∙◌, subst}
-use Rattle.std.specs.Prelude.{IfSome, find}
+use Rattle.std.proofs.Common.{◌≡◌, ◌++◌, ◌∷◌, [], ℕ, suc, List, Option, sym, ap, ◌∙◌, subst, arith}
+use Rattle.std.specs.Prelude.{IfOk, IfSome, find}
 use Rattle.std.specs.List.{filter_map}
 use Rattle.eql_values.specs.declared.order.OrderKey.{OrderKey}
+use Rattle.eql_values.specs.declared.found.Match.{Match}
 use Rattle.eql_values.specs.declared.item.Route.{Route}
 use Rattle.eql_values.specs.declared.value.Value.{Value}
 use Rattle.eql_values.specs.Orders.{key_eq}
-use Rattle.eql_laws.specs.OneEvent.{turned}
+use Rattle.eql_laws.specs.OneEvent.{slots_after_event}
 use Rattle.eql_auto.specs.Machine.{AllBefore}
-use Rattle.eql_part.specs.KeyTables.{sequences_in}
+use Rattle.eql_part.specs.KeyTables.{machine_of, sequences_in, slots_in}
 use Rattle.eql_part.specs.Links.{IsLinked}
 use Rattle.eql_part.specs.Routed.{all_begun, match_there}
+use Rattle.eql_part.proofs.Alone.{one_alone, one_cons}
+use Rattle.eql_part.proofs.Busy.{keeps_busy}
+use Rattle.eql_part.proofs.Idle.{no_match, slots_stay}
 use Rattle.eql_part.proofs.Joining.{begun_at, later_up, linked_more}
 use Rattle.eql_part.proofs.Onward.{linked_alike}
 use Rattle.eql_part.proofs.Turned.{slots_alike}
@@ -30,16 +34,43 @@ turn_all-requires-clause-later g c = λ key k.
 pub returns-in-Ok-clause-slots : goal.returns-in-Ok-clause-slots
 returns-in-Ok-clause-slots g c = λ key k lt.
     c.turn_all.ensures.slots key k lt
-    ∙ ap (λ (f : ℕ → Option (List OrderKey)). turned c.args.shape.span c.args.order (find (λ (route : Route). key_eq key route.key) c.args.routes.now.items) f (suc k))
+    ∙ ap (λ (f : ℕ → Option (List OrderKey)). slots_after_event c.args.shape.span c.args.order (find (λ (route : Route). key_eq key route.key) c.args.routes.now.items) f (suc k))
     (λ i j. slots_alike c.args.machines.now.entries c.prepare_all.new.machines.entries key j c.in-Ok.ensures.sequences i)
 
 pub returns-in-Ok-clause-found : goal.returns-in-Ok-clause-found
 returns-in-Ok-clause-found g c =
     c.turn_all.ensures.found
-    ∙ ap (λ (f : List Value → ℕ → Option (List OrderKey)). c.args.found.now.items ++ filter_map (match_there c.args.shape.stages c.args.shape.span f c.args.order) c.args.routes.now.items)
+    ∙ ap (λ (l : List Match). l ++ filter_map (match_there c.args.shape.stages c.args.shape.span (slots_in c.prepare_all.new.machines.entries) c.args.order) c.args.routes.now.items)
+    (c.in_ok-found.ensures {u = tt}).items
+    ∙ ap (λ (f : List Value → ℕ → Option (List OrderKey)). filter_map (match_there c.args.shape.stages c.args.shape.span f c.args.order) c.args.routes.now.items)
     (λ i key j. slots_alike c.args.machines.now.entries c.prepare_all.new.machines.entries key j c.in-Ok.ensures.sequences i)
 
 pub returns-in-Err-clause-linked : goal.returns-in-Err-clause-linked
 returns-in-Err-clause-linked g c =
     subst (IsLinked [] (sequences_in c.drop_all_empty.new.machines.entries)) (sym c.in-Err.ensures.unchanged)
     (linked_alike c.args.machines.now.entries c.drop_all_empty.new.machines.entries [] c.args.list.now (λ q k. c.drop_all_empty.ensures.sequences q k ∙ c.in-Err.ensures.sequences q k) c.requires.linked)
+
+pub turn_all-requires-clause-busy : goal.turn_all-requires-clause-busy
+turn_all-requires-clause-busy g c = λ key apart.
+    keeps_busy (machine_of c.args.machines.now.entries key) (machine_of c.prepare_all.new.machines.entries key) (c.in-Ok.ensures.others key apart) (c.requires.busy key)
+
+pub drop_all_empty-requires-clause-busy : goal.drop_all_empty-requires-clause-busy
+drop_all_empty-requires-clause-busy g c = λ key apart.
+    keeps_busy (machine_of c.args.machines.now.entries key) (machine_of c.prepare_all.new.machines.entries key) (c.in-Err.ensures.others key apart) (c.requires.busy key)
+
+pub returns-then-are_idle-clause-slots : goal.returns-then-are_idle-clause-slots
+returns-then-are_idle-clause-slots g c = λ key k lt.
+    slots_stay c.args.shape.span c.args.machines.now.entries c.args.order c.args.routes.now.items (c.are_idle.ensures c.if-are_idle.true) key (suc k)
+
+pub returns-then-are_idle-clause-found : goal.returns-then-are_idle-clause-found
+returns-then-are_idle-clause-found g c =
+    c.new.ensures.items
+    ∙ sym (no_match c.args.shape.span c.args.machines.now.entries c.args.order c.args.shape.stages c.args.routes.now.items (c.are_idle.ensures c.if-are_idle.true))
+
+pub returns-then-len-eq1-clause-found : goal.returns-then-len-eq1-clause-found
+returns-then-len-eq1-clause-found g c =
+    let route = c.index.result.now in
+    let find_match = match_there c.args.shape.stages c.args.shape.span (slots_in c.args.machines.now.entries) c.args.order in
+    let many = c.if-len-eq1.true in let len = c.len.ensures in let ok = c.args.routes.now.ok.0 in
+    let is : c.args.routes.now.items ≡ route ∷ [] = one_alone c.args.routes.now.items route (omega arith) c.index.ensures in
+    subst (λ (l : List Match). IfOk c.play_one.result (λ found. found.items ≡ l)) (one_cons (find_match route) ∙ ap (filter_map find_match) (sym is)) c.play_one.ensures.found

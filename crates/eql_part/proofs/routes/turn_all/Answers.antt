@@ -1,10 +1,10 @@
-use Rattle.std.proofs.Common.{◌≡◌, ◌+◌, ◌++◌, ◌∷◌, [], ℕ, suc, List, Option, drop, length, refl, sym, ap, ◌∙◌, subst, arith}
+use Rattle.std.proofs.Common.{◌≡◌, ◌+◌, ◌++◌, ◌∷◌, [], false, ℕ, suc, List, Option, drop, length, refl, sym, ap, ◌∙◌, subst, arith}
 use Rattle.std.specs.Prelude.{All, IfSome, IsTrue, find}
 use Rattle.std.specs.List.{filter_map}
 use Rattle.std.specs.Option.{IsSomeAnd, option_map, option_to_list}
 use Rattle.std.specs.Vec.Iter.{into_iter_items}
 use Rattle.std.proofs.lemmas.List.{append-nil, drop_all}
-use Rattle.std.proofs.lemmas.List.Elements.{All-drop, All-head, All-tail}
+use Rattle.std.proofs.lemmas.List.Elements.{All-drop, All-head, All-nil, All-tail}
 use Rattle.eql_values.specs.declared.found.Match.{Match}
 use Rattle.eql_values.specs.declared.item.Route.{Route}
 use Rattle.eql_values.specs.declared.order.OrderKey.{OrderKey}
@@ -12,15 +12,17 @@ use Rattle.eql_values.specs.Masks.{has_stage}
 use Rattle.eql_values.specs.Matching.{act_by}
 use Rattle.eql_values.specs.Orders.{key_eq}
 use Rattle.eql_values.specs.Routes.{RoutesInOrder}
-use Rattle.eql_laws.specs.OneEvent.{turned}
-use Rattle.eql_laws.specs.Slots.{arrived}
+use Rattle.eql_laws.specs.OneEvent.{slots_after_event}
+use Rattle.eql_laws.specs.Slots.{chain_coming}
 use Rattle.eql_auto.specs.Machine.{Machine, AllBefore}
 use Rattle.eql_span_list.specs.declared.node.Ticket.{Ticket}
-use Rattle.eql_part.specs.KeyTables.{IsReadyIn, machine_of, probes_of_all, sequences_in, slots_in, slots_of}
+use Rattle.eql_part.specs.KeyTables.{AreBusyBut, IsReadyIn, machine_of, probes_of_all, sequences_in, slots_in, slots_of}
 use Rattle.eql_part.specs.Links.{IsLinked}
 use Rattle.eql_part.specs.declared.prepared.Prepared.{Prepared}
 use Rattle.eql_part.specs.Routed.{ArePrepared, all_begun, match_there}
+use Rattle.eql_part.proofs.Busy.{busy_on}
 use Rattle.eql_part.proofs.Playing.{later_keys, rest_in_order, one_left, as_many, next_prepared, next_linked, later_same, one_on, keyed_if_completed, if_keyed, append_one}
+use Rattle.eql_part.proofs.Alone.{if_some_any}
 use Rattle.eql_part.proofs.routes.turn_all.Goals as goal
 
 pub loop-route-init : goal.loop-route-init
@@ -36,6 +38,7 @@ loop-route-init g c =
       same = λ k d l. refl;
       slots = λ key k l. refl;
       found = refl;
+      busy = c.requires.busy;
       prepared = subst (ArePrepared c.args.shape.stages c.args.routes.now.items) (sym rest) c.requires.prepared;
       linked = subst (λ (l : List Prepared). IsLinked (all_begun c.args.order c.args.routes.now.items l) (sequences_in c.args.machines.now.entries) c.args.list.now) (sym rest) c.requires.linked;
       left = omega arith;
@@ -102,7 +105,7 @@ pub add_match-requires-clause-room : goal.add_match-requires-clause-room
 add_match-requires-clause-room g c =
     let count = c.loop-route.invariant.count in let room = c.loop-route.invariant.room in let enough = c.requires.room in
     let below = c.loop-route-test.true in let len = ap length c.deref-route-items.ensures.value in
-    omega arith
+    if_some_any c.in-Some.ready.key (omega arith)
 
 pub loop-route-preserved : goal.loop-route-preserved
 loop-route-preserved g c =
@@ -121,8 +124,8 @@ loop-route-preserved g c =
     let before = c.loop-route.invariant.probes in let probes = c.turn_key-completed.ensures.probes in
     let spent = ap (probes_of_all m) more in
     let new = c.turn_key-completed.new.machines.entries in let cur = c.loop-route.machines.entries in let start = c.args.machines.now.entries in
-    let answer : c.turn_key-completed.result ≡ arrived c.args.shape.span (slots_in start route.key) (act_by c.args.order route) m =
-    c.turn_key-completed.ensures.answer ∙ ap (λ (o : Option (Machine Ticket)). arrived c.args.shape.span (slots_of o) (act_by c.args.order route) m) here in
+    let answer : c.turn_key-completed.result ≡ chain_coming c.args.shape.span (slots_in start route.key) (act_by c.args.order route) m =
+    c.turn_key-completed.ensures.answer ∙ ap (λ (o : Option (Machine Ticket)). chain_coming c.args.shape.span (slots_of o) (act_by c.args.order route) m) here in
     let match_of = λ (o : Option (List OrderKey)). option_map (λ (x : List OrderKey). record { key = route.key; chain = x }) o in
     record {
       of = c.turn_key-completed.ensures.of;
@@ -131,13 +134,14 @@ loop-route-preserved g c =
       same = later_same route.key rest start cur new (later_keys route rest in_order) c.turn_key-completed.ensures.others
           (All-tail (λ (r : Route). machine_of cur r.key ≡ machine_of start r.key) route rest same);
       slots = λ key k lt. one_on m c.args.shape.span c.args.order route rest cur new in_order c.turn_key-completed.ensures.others c.turn_key-completed.ensures.slots key k lt
-          ∙ ap (λ (l : List Route). turned c.args.shape.span c.args.order (find (λ (r : Route). key_eq key r.key) l) (slots_in cur key) (suc k)) (sym more)
+          ∙ ap (λ (l : List Route). slots_after_event c.args.shape.span c.args.order (find (λ (r : Route). key_eq key r.key) l) (slots_in cur key) (suc k)) (sym more)
           ∙ c.loop-route.invariant.slots key k lt;
       found = ap (λ (l : List Match). l ++ filter_map (match_there m c.args.shape.span (slots_in start) c.args.order) rest)
           (c.add_match.ensures.items route.key (if_keyed (has_stage route.mask m) route.key ready.key prepared.0.keyed) ∙ ap (λ (o : Option (List OrderKey)). c.loop-route.found.items ++ option_to_list (match_of o)) answer)
           ∙ append_one c.loop-route.found.items (match_there m c.args.shape.span (slots_in start) c.args.order route) (filter_map (match_there m c.args.shape.span (slots_in start) c.args.order) rest)
           ∙ ap (λ (l : List Route). c.loop-route.found.items ++ filter_map (match_there m c.args.shape.span (slots_in start) c.args.order) l) (sym more)
           ∙ c.loop-route.invariant.found;
+      busy = busy_on route rest cur new (subst (λ (l : List Route). AreBusyBut l cur) more c.loop-route.invariant.busy) c.turn_key-completed.ensures.others c.turn_key-completed.ensures.busy;
       prepared = prepared.1;
       linked = c.turn_key-completed.ensures.linked (all_begun c.args.order rest its) linked;
       left = omega arith;
@@ -156,7 +160,7 @@ pub returns-clause-slots : goal.returns-clause-slots
 returns-clause-slots g c = λ key k lt.
     let past : drop c.loop-route.route-index c.args.routes.now.items ≡ [] =
     drop_all c.loop-route.route-index c.args.routes.now.items (let over = c.loop-route-test.false in let len = ap length c.deref-route-items.ensures.value in omega arith) in
-    sym (ap (λ (l : List Route). turned c.args.shape.span c.args.order (find (λ (r : Route). key_eq key r.key) l) (slots_in c.loop-route.machines.entries key) (suc k)) past)
+    sym (ap (λ (l : List Route). slots_after_event c.args.shape.span c.args.order (find (λ (r : Route). key_eq key r.key) l) (slots_in c.loop-route.machines.entries key) (suc k)) past)
     ∙ c.loop-route.invariant.slots key k lt
 
 pub returns-clause-found : goal.returns-clause-found
@@ -176,3 +180,9 @@ returns-clause-linked g c =
 pub returns-clause-probes : goal.returns-clause-probes
 returns-clause-probes g c =
     let before = c.loop-route.invariant.probes in omega arith
+
+pub returns-clause-busy : goal.returns-clause-busy
+returns-clause-busy g c = λ key.
+    let past : drop c.loop-route.route-index c.args.routes.now.items ≡ [] =
+    drop_all c.loop-route.route-index c.args.routes.now.items (let over = c.loop-route-test.false in let len = ap length c.deref-route-items.ensures.value in omega arith) in
+    subst (λ (l : List Route). AreBusyBut l c.loop-route.machines.entries) past c.loop-route.invariant.busy key (All-nil (λ (r : Route). key_eq r.key key ≡ false))

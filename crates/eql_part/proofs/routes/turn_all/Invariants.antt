@@ -7,8 +7,8 @@ use Rattle.eql_values.specs.declared.item.Route.{Route}
 use Rattle.eql_values.specs.declared.value.Value.{Value}
 use Rattle.eql_values.specs.Orders.{key_cmp, key_eq}
 use Rattle.eql_values.specs.Routes.{RoutesInOrder}
-use Rattle.eql_laws.specs.OneEvent.{turned}
-use Rattle.eql_part.specs.KeyTables.{AreOf, machine_of, probes_of_all, sequences_in, slots_in}
+use Rattle.eql_laws.specs.OneEvent.{slots_after_event}
+use Rattle.eql_part.specs.KeyTables.{AreBusyBut, AreOf, machine_of, probes_of_all, sequences_in, slots_in}
 use Rattle.eql_part.specs.Links.{IsLinked}
 use Rattle.eql_part.specs.Routed.{ArePrepared, all_begun, match_there}
 use Rattle.eql_part.proofs.routes.turn_all.Given as goal
@@ -20,10 +20,11 @@ invariant-loop-route g l = record {
   order : RoutesInOrder (drop l.route-index l.routes.items);
   same : All (λ (route : Route). machine_of l.machines.entries route.key ≡ machine_of l.fn.machines.entries route.key) (drop l.route-index l.routes.items);
   slots : (key : List Value) (k : ℕ) → suc k < l.shape.stages
-      → turned l.shape.span l.order (find (λ (route : Route). key_eq key route.key) (drop l.route-index l.routes.items)) (slots_in l.machines.entries key) (suc k)
-      ≡ turned l.shape.span l.order (find (λ (route : Route). key_eq key route.key) l.routes.items) (slots_in l.fn.machines.entries key) (suc k);
+      → slots_after_event l.shape.span l.order (find (λ (route : Route). key_eq key route.key) (drop l.route-index l.routes.items)) (slots_in l.machines.entries key) (suc k)
+      ≡ slots_after_event l.shape.span l.order (find (λ (route : Route). key_eq key route.key) l.routes.items) (slots_in l.fn.machines.entries key) (suc k);
   found : l.found.items ++ filter_map (match_there l.shape.stages l.shape.span (slots_in l.fn.machines.entries) l.order) (drop l.route-index l.routes.items)
       ≡ l.fn.found.items ++ filter_map (match_there l.shape.stages l.shape.span (slots_in l.fn.machines.entries) l.order) l.routes.items;
+  busy : AreBusyBut (drop l.route-index l.routes.items) l.machines.entries;
   prepared : ArePrepared l.shape.stages (drop l.route-index l.routes.items) (into_iter_items l.prepared);
   linked : IsLinked (all_begun l.order (drop l.route-index l.routes.items) (into_iter_items l.prepared)) (sequences_in l.machines.entries) l.list;
   left : into_iter_len l.prepared + l.route-index ≡ length l.routes.items;

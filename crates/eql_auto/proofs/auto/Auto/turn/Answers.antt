@@ -5,7 +5,7 @@ use Rattle.std.specs.List.Sorted.{IsPermutation}
 use Rattle.std.specs.Option.{option_map, option_to_list}
 use Rattle.eql_values.specs.Chains.{holder}
 use Rattle.eql_values.specs.Masks.{has_after}
-use Rattle.eql_laws.specs.Slots.{arrived}
+use Rattle.eql_laws.specs.Slots.{chain_coming}
 use Rattle.eql_auto.specs.Kept.{IsRoom}
 use Rattle.eql_auto.specs.Machine.{Machine, Sequence, ComesAfter, act_of, chains_of, slot_at, slot_after, stages, stages_in, tags_of}
 use Rattle.eql_auto.specs.Moves.{chain_in, come}
@@ -87,7 +87,7 @@ returns-clause-answer g c =
     let emptied_len = ap length c.empty_at_end.ensures.slots ∙ emptied_length c.args.until c.self.inside.table in
     let advanced_len = c.advance_all-completed.ensures.len ∙ emptied_len in
     let act = act_of c.args.order c.args.mask c.args.until in
-    subst (λ (a : Machine g.row.T.Denot). c.or.result ≡ arrived a.span (chains_of a.slots) act (stages a)) c.self.view_is
+    subst (λ (a : Machine g.row.T.Denot). c.or.result ≡ chain_coming a.span (chains_of a.slots) act (stages a)) c.self.view_is
     (answered c.self.inside.span c.args.order c.args.mask c.args.until c.self.inside.table c.empty_at_end.new.table c.empty_at_end.ensures.slots
     (length c.self.inside.table) c.args.tag c.begin_new-begun.result c.advance_all-completed.result c.or.result c.requires.tagged
     (c.begin_new-begun.ensures.answer ∙ ap (λ (n : ℕ). cond (0 == n) (option_map (λ _. c.args.order ∷ []) c.args.tag) None) advanced_len)

@@ -22,7 +22,7 @@ settle-requires-clause-ascends g c =
     let taken = sym c.in-Some.is ∙ c.take_slot.ensures.taken in
     let from = c.requires.from in
     goes_in_order c.args.span c.args.event c.self.inside.slots.items c.take_slot.new.slots.items c.args.self.now (c.args.stage - 1) c.args.stage c.in-Some.held
-    c.self.view_is c.take_slot.ensures.left taken (omega arith) c.push_in_room.new.events.items c.push_in_room.ensures.items
+    c.self.view_is c.take_slot.ensures.left taken (omega arith) c.push_reserved.new.self.items c.push_reserved.ensures.items
     (kept_at c.self.inside.slots.items (c.args.stage - 1) c.in-Some.held c.self.invariant taken).ascends c.requires.later
 
 pub returns-else-not-is_early-clause-slots : goal.returns-else-not-is_early-clause-slots
@@ -30,7 +30,7 @@ returns-else-not-is_early-clause-slots g c =
     let taken = sym c.in-Some.is ∙ c.take_slot.ensures.taken in
     let from = c.requires.from in
     carried c.args.span c.args.event c.self.inside.slots.items c.take_slot.new.slots.items c.args.self.now (c.args.stage - 1) c.args.stage c.in-Some.held
-    c.self.view_is c.take_slot.ensures.left taken (omega arith) c.push_in_room.new.events.items (sym c.is_early.ensures ∙ c.if-not-is_early.false) c.push_in_room.ensures.items
+    c.self.view_is c.take_slot.ensures.left taken (omega arith) c.push_reserved.new.self.items (sym c.is_early.ensures ∙ c.if-not-is_early.false) c.push_reserved.ensures.items
     c.settle.new.self c.settle.ensures.slots
 
 pub returns-else-not-is_early-clause-completed : goal.returns-else-not-is_early-clause-completed
@@ -38,7 +38,7 @@ returns-else-not-is_early-clause-completed g c =
     let taken = sym c.in-Some.is ∙ c.take_slot.ensures.taken in
     let from = c.requires.from in
     carried_out c.args.span c.args.event c.self.inside.slots.items c.take_slot.new.slots.items c.args.self.now (c.args.stage - 1) c.args.stage c.in-Some.held
-    c.self.view_is c.take_slot.ensures.left taken (omega arith) c.push_in_room.new.events.items (sym c.is_early.ensures ∙ c.if-not-is_early.false) c.push_in_room.ensures.items
+    c.self.view_is c.take_slot.ensures.left taken (omega arith) c.push_reserved.new.self.items (sym c.is_early.ensures ∙ c.if-not-is_early.false) c.push_reserved.ensures.items
     c.settle.result.completed c.settle.ensures.completed
 
 pub returns-else-not-is_early-clause-ceased : goal.returns-else-not-is_early-clause-ceased

@@ -3,4 +3,4 @@ use Rattle.eql_part.specs.KeyTables.{holders_in}
 use Rattle.eql_part.proofs.keys.Keys.holders.Given as goal
 
 abbrev pub invariant-loop-key : goal.invariant-loop-key
-invariant-loop-key l = l.found.items ++ holders_in l.key-iterator ≡ l.self.holders
+invariant-loop-key g l = l.found.items ++ holders_in l.key-iterator ≡ l.self.holders

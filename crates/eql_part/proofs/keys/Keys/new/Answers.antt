@@ -10,35 +10,36 @@ use Rattle.eql_part.proofs.Rows.{holders_in_order, looks_up}
 use Rattle.eql_part.proofs.keys.Keys.new.Goals as goal
 
 pub put_all-requires-clause-stages : goal.put_all-requires-clause-stages
-put_all-requires-clause-stages c =
+put_all-requires-clause-stages g c =
     All-permutation (HasStageBefore c.args.m) c.args.holders c.sort_by_start.new.holders.items
     (subst (λ (l : List Holder). IsPermutation l c.sort_by_start.new.holders.items) c.into_items-holders.ensures c.sort_by_start.ensures.same) c.requires.stages
 
 pub put_all-requires-clause-full : goal.put_all-requires-clause-full
-put_all-requires-clause-full c =
+put_all-requires-clause-full g c =
     All-permutation IsFull c.args.holders c.sort_by_start.new.holders.items
     (subst (λ (l : List Holder). IsPermutation l c.sort_by_start.new.holders.items) c.into_items-holders.ensures c.sort_by_start.ensures.same) c.requires.full
 
 pub put_all-requires-clause-differ : goal.put_all-requires-clause-differ
-put_all-requires-clause-differ c =
+put_all-requires-clause-differ g c =
     differ_permutation (map slot_of c.args.holders) (map slot_of c.sort_by_start.new.holders.items)
     (IsPermutation-map slot_of c.args.holders c.sort_by_start.new.holders.items (subst (λ (l : List Holder). IsPermutation l c.sort_by_start.new.holders.items) c.into_items-holders.ensures c.sort_by_start.ensures.same))
     (differ_in_order c.args.holders c.requires.order)
 
 pub put_all-requires-clause-rise : goal.put_all-requires-clause-rise
-put_all-requires-clause-rise c = rise_sorted c.sort_by_start.new.holders.items (c.in_ok-sort_by_start.ensures {u = tt}).sorted
+put_all-requires-clause-rise g c = rise_sorted c.sort_by_start.new.holders.items (c.in_ok-sort_by_start.ensures {u = tt}).sorted
 
 pub invariant_of-result : goal.invariant_of-result
-invariant_of-result c = record {
+invariant_of-result g c = record {
   from = c.requires.from;
   to = c.requires.to;
   ordered = c.put_all.ensures.ordered;
   of = c.put_all.ensures.of;
+  busy = (c.in_ok-put_all.ensures {u = tt}).busy;
   linked = (c.in_ok-put_all.ensures {u = tt}).linked;
 }
 
 pub returns : goal.returns
-returns c =
+returns g c =
     let new = c.put_all.new.machines.entries in let sorted = c.sort_by_start.new.holders.items in let ok = c.in_ok-put_all.ensures {u = tt} in
     let is = put_is c.same_holders.ensures c.opening_finds.ensures c.args.holders sorted new c.requires.order (holders_in_order new c.put_all.ensures.ordered) (looks_up new c.put_all.ensures.ordered)
     (subst (λ (l : List Holder). IsPermutation l sorted) c.into_items-holders.ensures c.sort_by_start.ensures.same) ok.there ok.no_other in

@@ -5,4 +5,4 @@ use Rattle.eql_part.proofs.Tagging.{no_tags}
 use Rattle.eql_part.proofs.machine.KeyMachine.new.Goals as goal
 
 pub invariant_of-result : goal.invariant_of-result
-invariant_of-result c = sym (ap length (ap (λ (a : Machine Ticket). tags_of a.slots) c.in_ok-auto.ensures ∙ no_tags (c.args.m - 1)))
+invariant_of-result g c = sym (ap length (ap (λ (a : Machine Ticket). tags_of a.slots) c.in_ok-auto.ensures ∙ no_tags (c.args.m - 1)))

@@ -6,7 +6,7 @@ use Rattle.eql_part.proofs.Tagging.{tags_few}
 use Rattle.eql_part.proofs.machine.KeyMachine.put.Goals as goal
 
 pub overflow_add-self : goal.overflow_add-self
-overflow_add-self c =
+overflow_add-self g c =
     let seen = ap (λ (m : Machine Ticket). length m.slots) c.self.view_is in
     let few = tags_few c.self.inside.auto.slots in
     let few_stages = c.requires.few in
@@ -14,7 +14,7 @@ overflow_add-self c =
     omega arith
 
 pub invariant_of-self : goal.invariant_of-self
-invariant_of-self c =
+invariant_of-self g c =
     let more = length_permutation (tags_of c.put_holder.new.self.slots) (c.args.ticket ∷ tags_of c.self.inside.auto.slots) c.put_holder.ensures.tags in
     let count = c.self.invariant in
     omega arith

@@ -1,6 +1,0 @@
-use Rattle.std.proofs.Common.{◌≡◌, []}
-use Rattle.eql_auto.specs.Played.{AllFrom}
-use Rattle.eql_auto.proofs.tests.after_example.Given as goal
-
-abbrev pub invariant-loop-line : goal.invariant-loop-line
-invariant-loop-line g l = record { read : l.machine.gone ≡ []; later : AllFrom l.line l.machine.slots }

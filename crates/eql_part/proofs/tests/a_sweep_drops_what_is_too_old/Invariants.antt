@@ -1,4 +1,0 @@
-use Rattle.eql_part.proofs.tests.a_sweep_drops_what_is_too_old.Given as goal
-
-abbrev pub ghosts-check_sweep : goal.ghosts-check_sweep
-ghosts-check_sweep g a = record { name = a.blank.name; parts = a.blank.parts }
