@@ -16,14 +16,14 @@ use Rattle.eql_values.specs.Ordered.{found_or}
 use Rattle.eql_values.specs.Orders.{key_eq}
 use Rattle.eql_values.specs.Matching.{act_by, acts_of, match_by, matches_after, opening_of}
 use Rattle.eql_values.specs.Numbering.{numbered_from}
-use Rattle.eql_laws.specs.Slots.{Slots, moved, arrived, stepped}
+use Rattle.eql_laws.specs.Slots.{Slots, chain_moved_on, chain_coming, slots_after}
 use Rattle.eql_laws.proofs.Stepping.{chain_step, holder_step, holder_start}
 use Rattle.eql_cli.specs.declared.search.event.Event.{Event}
-use Rattle.eql_cli.specs.FirstSearch.{WroteWhole}
+use Rattle.eql_outside.specs.Written.{WroteAll, WroteFront, WroteBut}
 use Rattle.eql_cli.specs.Listing.{listing}
 use Rattle.eql_cli.specs.Events.{item_of, act_of}
-use Rattle.eql_cli.specs.Moves.{slot_at, completed, HaveMoved}
-use Rattle.eql_cli.specs.Pages.{bare, line_of, next_number, listing_of, Printed, PrintedPart}
+use Rattle.eql_cli.specs.Moves.{slot_at, completed_chain, HaveMoved}
+use Rattle.eql_cli.specs.Pages.{keyless_match, line_of, next_number, listing_of}
 use Rattle.eql_cli.proofs.Printing.{printed_start, printed_more, printed_whole, part_more}
 
 abbrev unopened : Slots
@@ -42,20 +42,20 @@ pub record SoFar (m : ℕ) (events rest : List Event) (slots : List (Option (Lis
   pub past : List Item
   pub text : List ℕ
   pub held : (j : ℕ) → suc j < m → slot_at slots (suc j) ≡ holder None (λ (k : ℕ). None) (suc j) (acts_of [] past)
-  pub printed : Printed before now [] waiting text
+  pub printed : WroteBut waiting text before now
   pub whole : text ++ listing false (numbered_from number (matches_after m None (opening_of []) past (map item_of rest))) ≡ listing_of m (map item_of events)
 
 -- slots that agree below the last stage go on alike
-arrived_alike : (a b : Slots) (act : Act) (m k : ℕ) → suc k < suc m → ((j : ℕ) → suc j < m → a (suc j) ≡ b (suc j)) → arrived None a act (suc k) ≡ arrived None b act (suc k)
+arrived_alike : (a b : Slots) (act : Act) (m k : ℕ) → suc k < suc m → ((j : ℕ) → suc j < m → a (suc j) ≡ b (suc j)) → chain_coming None a act (suc k) ≡ chain_coming None b act (suc k)
 arrived_alike a b act m zero lt same = refl
 arrived_alike a b act m (suc k) lt same =
-    ap (λ (o : Option (List OrderKey)). arrived None (λ (i : ℕ). o) act (suc (suc k))) (same k (omega arith))
+    ap (λ (o : Option (List OrderKey)). chain_coming None (λ (i : ℕ). o) act (suc (suc k))) (same k (omega arith))
 
-stepped_alike : (a b : Slots) (act : Act) (m j : ℕ) → suc j < m → ((i : ℕ) → suc i < m → a (suc i) ≡ b (suc i)) → stepped None a act (suc j) ≡ stepped None b act (suc j)
+stepped_alike : (a b : Slots) (act : Act) (m j : ℕ) → suc j < m → ((i : ℕ) → suc i < m → a (suc i) ≡ b (suc i)) → slots_after None a act (suc j) ≡ slots_after None b act (suc j)
 stepped_alike a b act m j lt same =
     λ i. found_or (arrived_alike a b act m j (omega arith) same i) (cond (fits_after (suc j) act || act.until) None (same j lt i))
 
-arrived_same : (a b : Slots) (act : Act) (m : ℕ) → ((j : ℕ) → suc j < m → a (suc j) ≡ b (suc j)) → arrived None a act m ≡ arrived None b act m
+arrived_same : (a b : Slots) (act : Act) (m : ℕ) → ((j : ℕ) → suc j < m → a (suc j) ≡ b (suc j)) → chain_coming None a act m ≡ chain_coming None b act m
 arrived_same a b act zero same = refl
 arrived_same a b act (suc k) same = arrived_alike a b act (suc k) k (omega arith) same
 
@@ -73,13 +73,13 @@ fits_none event none k =
     ∙ (λ i. cond (nat_lt k 128) (no_bit k i) (no_bit (k - 128) i))
     ∙ same_false (nat_lt k 128)
 
-arrived_none : (event : Event) → event.stages ≡ 0 → (slots : Slots) (m : ℕ) → arrived None slots (act_of event) m ≡ None
+arrived_none : (event : Event) → event.stages ≡ 0 → (slots : Slots) (m : ℕ) → chain_coming None slots (act_of event) m ≡ None
 arrived_none event none slots zero = refl
 arrived_none event none slots (suc zero) = ap (λ (b : Bool). cond b (Some (event.order ∷ [])) None) (fits_none event none 0)
 arrived_none event none slots (suc (suc k)) =
-    ap (λ (b : Bool). cond (b && true) (moved None (slots (suc k)) (act_of event)) None) (fits_none event none (suc k))
+    ap (λ (b : Bool). cond (b && true) (chain_moved_on None (slots (suc k)) (act_of event)) None) (fits_none event none (suc k))
 
-stands : (event : Event) → event.stages ≡ 0 → (slots : Slots) (j : ℕ) → stepped None slots (act_of event) (suc j) ≡ slots (suc j)
+stands : (event : Event) → event.stages ≡ 0 → (slots : Slots) (j : ℕ) → slots_after None slots (act_of event) (suc j) ≡ slots (suc j)
 stands event none slots j =
     λ i. found_or (arrived_none event none slots (suc j) i) (cond (fits_none event none (suc j) i || false) None (slots (suc j)))
 
@@ -88,7 +88,7 @@ route_of event = record { key = []; mask = record { low = event.stages; high = 0
 
 held_cases : (event : Event) (past : List Item) (j : ℕ) (idle : Bool) → (idle ≡ true → event.stages ≡ 0)
     → holder None unopened (suc j) (cons_option (option_map (act_by event.order) (find (λ (route : Route). key_eq [] route.key) (cond idle [] (route_of event ∷ [])))) (acts_of [] past))
-    ≡ stepped None (held_by past) (act_of event) (suc j)
+    ≡ slots_after None (held_by past) (act_of event) (suc j)
 held_cases event past j true none = sym (stands event (none refl) (held_by past) j)
 held_cases event past j false none = holder_step None unopened (suc j) (act_of event) (acts_of [] past)
 
@@ -96,22 +96,22 @@ is_zero : (n : ℕ) → (n == 0) ≡ true → n ≡ 0
 is_zero n e = grind (arith, nat_tests)
 
 -- what is held after one more event
-held_more : (event : Event) (past : List Item) (j : ℕ) → held_by (item_of event ∷ past) (suc j) ≡ stepped None (held_by past) (act_of event) (suc j)
+held_more : (event : Event) (past : List Item) (j : ℕ) → held_by (item_of event ∷ past) (suc j) ≡ slots_after None (held_by past) (act_of event) (suc j)
 held_more event past j = held_cases event past j (event.stages == 0) (is_zero event.stages)
 
 -- a sequence that may be there, as a match
 abbrev found_in : Option (List OrderKey) → List Match
-found_in came = cons_option (option_map bare came) []
+found_in came = cons_option (option_map keyless_match came) []
 
 found_cases : (m : ℕ) (event : Event) (past : List Item) (idle : Bool) → (idle ≡ true → event.stages ≡ 0)
     → filter_map (match_by m None (opening_of []) past event.order) (cond idle [] (route_of event ∷ []))
-    ≡ found_in (arrived None (held_by past) (act_of event) m)
+    ≡ found_in (chain_coming None (held_by past) (act_of event) m)
 found_cases m event past true none = sym (ap found_in (arrived_none event (none refl) (held_by past) m))
 found_cases m event past false none = ap found_in (chain_step None unopened m (act_of event) (acts_of [] past))
 
 -- the match that an event completes
 found_more : (m : ℕ) (event : Event) (past : List Item)
-    → filter_map (match_by m None (opening_of []) past event.order) (item_of event).routes ≡ found_in (arrived None (held_by past) (act_of event) m)
+    → filter_map (match_by m None (opening_of []) past event.order) (item_of event).routes ≡ found_in (chain_coming None (held_by past) (act_of event) m)
 found_more m event past = found_cases m event past (event.stages == 0) (is_zero event.stages)
 
 list_more : (number : ℕ) (came : Option (List OrderKey)) (later : List Match)
@@ -121,11 +121,11 @@ list_more number (Some chain) later = refl
 
 -- the line that an event prints, and the lines to come after it
 lines_more : (m number : ℕ) (event : Event) (rest : List Event) (past : List Item) (slots : Slots) → ((j : ℕ) → suc j < m → slots (suc j) ≡ held_by past (suc j))
-    → line_of number (arrived None slots (act_of event) m) ++ to_come m (next_number number (arrived None slots (act_of event) m)) (item_of event ∷ past) rest
+    → line_of number (chain_coming None slots (act_of event) m) ++ to_come m (next_number number (chain_coming None slots (act_of event) m)) (item_of event ∷ past) rest
     ≡ to_come m number past (event ∷ rest)
 lines_more m number event rest past slots held =
     let later = matches_after m None (opening_of []) (item_of event ∷ past) (map item_of rest) in
-    sym (list_more number (arrived None slots (act_of event) m) later)
+    sym (list_more number (chain_coming None slots (act_of event) m) later)
     ∙ ap (λ (came : Option (List OrderKey)). listing false (numbered_from number (found_in came ++ later))) (arrived_same slots (held_by past) (act_of event) m held)
     ∙ ap (λ (found : List Match). listing false (numbered_from number (found ++ later))) (sym (found_more m event past))
 
@@ -141,11 +141,11 @@ so_far_start m events slots before none = record {
 
 pub so_far_more : (m : ℕ) (events rest : List Event) (event : Event) (slots slots' : List (Option (List OrderKey))) (number number' : ℕ)
     (before now next : Option (List ℕ)) (waiting left : List ℕ) → SoFar m events (event ∷ rest) slots number before now waiting
-    → ((j : ℕ) → suc j < m → slot_at slots' (suc j) ≡ stepped None (slot_at slots) (act_of event) (suc j))
-    → number' ≡ next_number number (arrived None (slot_at slots) (act_of event) m)
-    → Printed now next waiting left (line_of number (arrived None (slot_at slots) (act_of event) m)) → SoFar m events rest slots' number' before next left
+    → ((j : ℕ) → suc j < m → slot_at slots' (suc j) ≡ slots_after None (slot_at slots) (act_of event) (suc j))
+    → number' ≡ next_number number (chain_coming None (slot_at slots) (act_of event) m)
+    → WroteBut left (waiting ++ line_of number (chain_coming None (slot_at slots) (act_of event) m)) now next → SoFar m events rest slots' number' before next left
 so_far_more m events rest event slots slots' number number' before now next waiting left h moves numbers step =
-    let came = arrived None (slot_at slots) (act_of event) m in
+    let came = chain_coming None (slot_at slots) (act_of event) m in
     record {
       past = item_of event ∷ h.past;
       text = h.text ++ line_of number came;
@@ -159,27 +159,27 @@ so_far_more m events rest event slots slots' number number' before now next wait
     }
 
 pub so_far_end : (m : ℕ) (events : List Event) (slots : List (Option (List OrderKey))) (number : ℕ) (before now next : Option (List ℕ)) (waiting left : List ℕ)
-    → SoFar m events [] slots number before now waiting → left ≡ [] → Printed now next waiting left [] → WroteWhole (listing_of m (map item_of events)) before next
+    → SoFar m events [] slots number before now waiting → left ≡ [] → WroteBut left (waiting ++ []) now next → WroteAll (listing_of m (map item_of events)) before next
 so_far_end m events slots number before now next waiting left h none step =
     printed_whole before next left (listing_of m (map item_of events)) none
-    (subst (λ (text : List ℕ). Printed before next [] left text) h.whole (printed_more before now next waiting left h.text [] h.printed step))
+    (subst (λ (text : List ℕ). WroteBut left text before next) h.whole (printed_more before now next waiting left h.text [] h.printed step))
 
 -- a write that is refused while an event is played leaves a part of the listing
 pub so_far_part : (m : ℕ) (events rest : List Event) (event : Event) (slots : List (Option (List OrderKey))) (number : ℕ) (before now next : Option (List ℕ))
     (waiting : List ℕ) → SoFar m events (event ∷ rest) slots number before now waiting
-    → PrintedPart now next (waiting ++ line_of number (arrived None (slot_at slots) (act_of event) m)) → PrintedPart before next (listing_of m (map item_of events))
+    → WroteFront (waiting ++ line_of number (chain_coming None (slot_at slots) (act_of event) m)) now next → WroteFront (listing_of m (map item_of events)) before next
 so_far_part m events rest event slots number before now next waiting h part =
-    let came = arrived None (slot_at slots) (act_of event) m in
+    let came = chain_coming None (slot_at slots) (act_of event) m in
     let later = to_come m (next_number number came) (item_of event ∷ h.past) rest in
-    subst (PrintedPart before next) (ap (λ (xs : List ℕ). h.text ++ xs) (lines_more m number event rest h.past (slot_at slots) h.held) ∙ h.whole)
+    subst (λ (text : List ℕ). WroteFront text before next) (ap (λ (xs : List ℕ). h.text ++ xs) (lines_more m number event rest h.past (slot_at slots) h.held) ∙ h.whole)
     (part_more before now next waiting h.text (line_of number came) later h.printed part)
 
 -- and so does one that is refused at the end
 pub so_far_part_end : (m : ℕ) (events : List Event) (slots : List (Option (List OrderKey))) (number : ℕ) (before now next : Option (List ℕ)) (waiting : List ℕ)
-    → SoFar m events [] slots number before now waiting → PrintedPart now next waiting → PrintedPart before next (listing_of m (map item_of events))
+    → SoFar m events [] slots number before now waiting → WroteFront waiting now next → WroteFront (listing_of m (map item_of events)) before next
 so_far_part_end m events slots number before now next waiting h part =
-    subst (PrintedPart before next) h.whole
-    (part_more before now next waiting h.text [] [] h.printed (subst (PrintedPart now next) (sym (append-nil waiting)) part))
+    subst (λ (text : List ℕ). WroteFront text before next) h.whole
+    (part_more before now next waiting h.text [] [] h.printed (subst (λ (text : List ℕ). WroteFront text now next) (sym (append-nil waiting)) part))
 
 pub next_number-le : (number : ℕ) (came : Option (List OrderKey)) → next_number number came ≤ number + 1
 next_number-le number None = omega arith
@@ -195,27 +195,27 @@ next_event m index events d slots number before now waiting lt h =
 pub so_far_played : (m index : ℕ) (events : List Event) (d : Event) (slots slots' : List (Option (List OrderKey))) (number number' : ℕ)
     (before now next : Option (List ℕ)) (waiting left : List ℕ) → length slots ≡ m → index < length events
     → SoFar m events (drop index events) slots number before now waiting → HaveMoved slots slots' (get_or events index d)
-    → number' ≡ next_number number (completed slots (get_or events index d))
-    → Printed now next waiting left (line_of number (completed slots (get_or events index d)))
+    → number' ≡ next_number number (completed_chain slots (get_or events index d))
+    → WroteBut left (waiting ++ line_of number (completed_chain slots (get_or events index d))) now next
     → SoFar m events (drop (index + 1) events) slots' number' before next left
 so_far_played m index events d slots slots' number number' before now next waiting left same lt h moves numbers step =
     let event = get_or events index d in
     so_far_more m events (drop (index + 1) events) event slots slots' number number' before now next waiting left
     (next_event m index events d slots number before now waiting lt h)
     (λ j below. moves j (omega arith))
-    (numbers ∙ ap (λ (n : ℕ). next_number number (arrived None (slot_at slots) (act_of event) n)) same)
-    (subst (λ (n : ℕ). Printed now next waiting left (line_of number (arrived None (slot_at slots) (act_of event) n))) same step)
+    (numbers ∙ ap (λ (n : ℕ). next_number number (chain_coming None (slot_at slots) (act_of event) n)) same)
+    (subst (λ (n : ℕ). WroteBut left (waiting ++ line_of number (chain_coming None (slot_at slots) (act_of event) n)) now next) same step)
 
 pub so_far_refused : (m index : ℕ) (events : List Event) (d : Event) (slots : List (Option (List OrderKey))) (number : ℕ)
     (before now next : Option (List ℕ)) (waiting : List ℕ) → length slots ≡ m → index < length events
     → SoFar m events (drop index events) slots number before now waiting
-    → PrintedPart now next (waiting ++ line_of number (completed slots (get_or events index d)))
-    → PrintedPart before next (listing_of m (map item_of events))
+    → WroteFront (waiting ++ line_of number (completed_chain slots (get_or events index d))) now next
+    → WroteFront (listing_of m (map item_of events)) before next
 so_far_refused m index events d slots number before now next waiting same lt h part =
     let event = get_or events index d in
     so_far_part m events (drop (index + 1) events) event slots number before now next waiting
     (next_event m index events d slots number before now waiting lt h)
-    (subst (λ (n : ℕ). PrintedPart now next (waiting ++ line_of number (arrived None (slot_at slots) (act_of event) n))) same part)
+    (subst (λ (n : ℕ). WroteFront (waiting ++ line_of number (chain_coming None (slot_at slots) (act_of event) n)) now next) same part)
 
 -- once every event was played
 pub so_far_done : (m index : ℕ) (events : List Event) (slots : List (Option (List OrderKey))) (number : ℕ) (before now : Option (List ℕ)) (waiting : List ℕ)

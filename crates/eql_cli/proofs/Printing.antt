@@ -3,11 +3,10 @@ use Rattle.std.proofs.Common.{◌≡◌, ℕ, zero, suc, List, [], ◌∷◌, �
 use Rattle.std.proofs.lemmas.List.{append-nil, append_assoc}
 use Rattle.std.specs.Prelude.{IfSome}
 use Rattle.eql_outside.specs.Outside.{AppendsSome}
-use Rattle.eql_cli.specs.FirstSearch.{WroteWhole}
-use Rattle.eql_cli.specs.Pages.{Printed, PrintedPart}
+use Rattle.eql_outside.specs.Written.{WroteAll, WroteFront, WroteBut}
 
 -- at first nothing is printed
-pub printed_start : (before : Option (List ℕ)) → Printed before before [] [] []
+pub printed_start : (before : Option (List ℕ)) → WroteBut [] [] before before
 printed_start None = tt
 printed_start (Some w) = ([], ap Some (sym (append-nil w)), refl)
 
@@ -21,15 +20,15 @@ more_cases w sent next waiting left text more same (further, is, goes) = (
 )
 
 -- one text is printed after another
-pub printed_more : (before now next : Option (List ℕ)) (waiting left text more : List ℕ) → Printed before now [] waiting text
-    → Printed now next waiting left more → Printed before next [] left (text ++ more)
+pub printed_more : (before now next : Option (List ℕ)) (waiting left text more : List ℕ) → WroteBut waiting text before now
+    → WroteBut left (waiting ++ more) now next → WroteBut left (text ++ more) before next
 printed_more None now next waiting left text more h further = tt
 printed_more (Some w) now next waiting left text more (sent, is, same) further =
     more_cases w sent next waiting left text more same
     (subst (λ (o : Option (List ℕ)). IfSome o (λ v. (f : List ℕ) × (next ≡ Some (v ++ f)) × (f ++ left ≡ waiting ++ more))) is further)
 
 -- what is printed is written once nothing is left
-pub printed_whole : (before now : Option (List ℕ)) (left text : List ℕ) → left ≡ [] → Printed before now [] left text → WroteWhole text before now
+pub printed_whole : (before now : Option (List ℕ)) (left text : List ℕ) → left ≡ [] → WroteBut left text before now → WroteAll text before now
 printed_whole None now left text none h = tt
 printed_whole (Some w) now left text none (sent, is, same) =
     is ∙ ap (λ (xs : List ℕ). Some (w ++ xs)) (sym (append-nil sent) ∙ ap (λ (xs : List ℕ). sent ++ xs) (sym none) ∙ same)
@@ -56,13 +55,13 @@ part_cases w sent next waiting text more later same (n, is) =
     )
 
 -- a part that is printed after a text is a part of all that is to be printed
-pub part_more : (before now next : Option (List ℕ)) (waiting text more later : List ℕ) → Printed before now [] waiting text
-    → PrintedPart now next (waiting ++ more) → PrintedPart before next (text ++ (more ++ later))
+pub part_more : (before now next : Option (List ℕ)) (waiting text more later : List ℕ) → WroteBut waiting text before now
+    → WroteFront (waiting ++ more) now next → WroteFront (text ++ (more ++ later)) before next
 part_more None now next waiting text more later h part = tt
 part_more (Some w) now next waiting text more later (sent, is, same) part =
     part_cases w sent next waiting text more later same (subst (λ (o : Option (List ℕ)). IfSome o (λ v. AppendsSome v (waiting ++ more) next)) is part)
 
 -- of any text the part of no bytes
-pub part_none : (before : Option (List ℕ)) (text : List ℕ) → PrintedPart before before text
+pub part_none : (before : Option (List ℕ)) (text : List ℕ) → WroteFront text before before
 part_none None text = tt
 part_none (Some w) text = (0, ap Some (sym (append-nil w)))

@@ -17,7 +17,7 @@ use Rattle.eql_parser.specs.declared.query.Term.{Term}
 use Rattle.eql_parser.specs.QueryTree.{term_tree}
 use Rattle.eql_cli.specs.Plain.{is_few, is_plain_item, are_plain_items}
 use Rattle.eql_cli.specs.Runs.{HasTokens, NoTokens, too_long, not_utf8, breaks}
-use Rattle.eql_cli.specs.Steps.{unspelled, StoppedSpelling}
+use Rattle.eql_cli.specs.Steps.{halt_of_lex, StoppedSpelling}
 
 -- what `lex` answers for a text that is too long, and for one that isn't UTF-8
 abbrev pub IfLong : List ℕ → Result (List Token) LexRefused → Type 0
@@ -74,7 +74,7 @@ no_tokens_at text r at b long not =
     breaks short (is_text text (Err (refusal_of r at)) not short (not_bytes r at)) r at b
 
 -- a refusal that is answered
-pub stopped_spelling : (text : List ℕ) (r : LexRefused) → Refused text r → IfLong text (Err r) → IfNotUtf8 text (Err r) → StoppedSpelling text (unspelled r)
+pub stopped_spelling : (text : List ℕ) (r : LexRefused) → Refused text r → IfLong text (Err r) → IfNotUtf8 text (Err r) → StoppedSpelling text (halt_of_lex r)
 stopped_spelling text (lexed.BadByte at) cause long not = no_tokens_at text rule.BadByte at cause long not
 stopped_spelling text (lexed.OpenString at) cause long not = no_tokens_at text rule.OpenString at cause long not
 stopped_spelling text (lexed.BadEscape at) cause long not = no_tokens_at text rule.BadEscape at cause long not

@@ -1,12 +1,19 @@
 -- The steps of a run, put together.
-use Rattle.std.proofs.Common.{◌≡◌, ℕ, inl, inr, List, Option, Some, None, refl, ap, ◌∙◌, subst, map, [], ◌∷◌}
+use Rattle.std.proofs.Common.{◌≡◌, ℕ, inl, inr, List, Option, Some, None, refl, sym, ap, ◌∙◌, subst, map, [], ◌∷◌}
 use Rattle.eql_values.specs.Lines.{lines_in}
-use Rattle.eql_parser.specs.QueryTree.{term_tree}
+use Rattle.eql_parser.specs.QueryTree.{term_tree, body_tree, query_tree}
+use Rattle.eql_parser.specs.Bodies.{sequence_of}
+use Rattle.eql_parser.specs.declared.expr.FieldRef.{FieldRef}
 use Rattle.eql_parser.specs.declared.query.Term.{Term}
+use Rattle.eql_parser.specs.declared.query.Span.{Span}
+use Rattle.eql_parser.specs.declared.query.Body.{Body}
+use Rattle.eql_parser.specs.declared.query.Body.TheVariants.{Event, Sequence}
+use Rattle.eql_parser.specs.declared.query.Query.{Query}
 use Rattle.eql_cli.specs.declared.halt.Refused.TheVariants as refused
 use Rattle.eql_cli.specs.declared.halt.Halt.{Halt}
 use Rattle.eql_cli.specs.declared.halt.Halt.TheVariants as halt
-use Rattle.eql_cli.specs.FirstSearch.{wanted_by, first_other, first_listing, WroteWhole, WrotePart}
+use Rattle.eql_cli.specs.FirstSearch.{Wanted, wanted_by, in_body, categories_of, first_other, first_listing, WrotePart}
+use Rattle.eql_outside.specs.Written.{WroteAll}
 use Rattle.eql_cli.specs.Halts.{HasCause}
 use Rattle.eql_cli.specs.Runs.{Names, Files, Lists, Refuses}
 use Rattle.eql_cli.specs.Runs as run
@@ -16,6 +23,18 @@ use Rattle.eql_cli.specs.Steps.{GotItems, GotFields, GotShard, StoppedSearching,
 pub wanted_trees : (items : List Term) → wanted_by items ≡ map (λ t. t.category) (map term_tree items)
 wanted_trees [] = refl
 wanted_trees (item ∷ items) = ap (λ rest. item.category ∷ rest) (wanted_trees items)
+
+-- the categories of the items of a sequence are those of its tree
+abbrev wanted_in : Option (List FieldRef × Option Span × List Term × Option Term) → List Wanted
+wanted_in None = []
+wanted_in (Some x) = wanted_by x.2
+
+parts_at : (body : Body) (x : List FieldRef × Option Span × List Term × Option Term) → sequence_of body ≡ Some x → wanted_by x.2 ≡ in_body (body_tree body)
+parts_at (Event term) x h = let wrong : None ≡ Some x = h in cc
+parts_at (Sequence by span items until) x h = sym (ap wanted_in h) ∙ wanted_trees items
+
+pub wanted_parts : (query : Query) (x : List FieldRef × Option Span × List Term × Option Term) → sequence_of query.body ≡ Some x → wanted_by x.2 ≡ categories_of (query_tree query)
+wanted_parts query x h = parts_at query.body x h
 
 -- what was read later, of a shelf that keeps its files
 pub got_later : (names : Names) (first second third : Option Files) (text : List ℕ) → second ≡ first → third ≡ second → GotFields names second → GotShard names third text
@@ -40,7 +59,7 @@ lists_of names files items text got fields shard lines = record {
 
 pub ran_whole : (names : Names) (files : Option Files) (items : List Term) (text : List ℕ) (before now : Option (List ℕ))
     → GotItems names files items → GotFields names files → GotShard names files text → first_other (lines_in text) ≡ None
-    → WroteWhole (first_listing (wanted_by items) text) before now → RanWhole names files before now
+    → WroteAll (first_listing (wanted_by items) text) before now → RanWhole names files before now
 ran_whole names None items text before now got fields shard lines wrote = tt
 ran_whole names (Some fs) items text before now got fields shard lines wrote =
     (first_listing (wanted_by items) text, lists_of names fs items text got fields shard lines, wrote)

@@ -15,7 +15,9 @@ use Rattle.eql_values.specs.declared.reader.LineGot.{LineGot}
 use Rattle.eql_values.specs.declared.reader.LineGot.TheVariants as got
 use Rattle.eql_values.specs.Lines.{lines_in, lines_of, numbered_lines}
 use Rattle.eql_values.specs.Marks.{is_below}
-use Rattle.eql_values.specs.OrderKeys.{order_cmp, order_cmp_total, order_same}
+use Rattle.eql_values.specs.OrderKeys.{order_cmp}
+use Rattle.eql_values.specs.Totals.{order_cmp_total}
+use Rattle.eql_values.proofs.Same.{order_same}
 use Rattle.eql_values.specs.Ordered.{in_order}
 use Rattle.eql_values.specs.Accepted.{Reads, readable, event_at, placed_at, accepted_after, accepted, sorted_items, all_events}
 use Rattle.eql_lines.specs.First.{first_line}

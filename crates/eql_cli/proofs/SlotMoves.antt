@@ -6,10 +6,10 @@ use Rattle.std.proofs.lemmas.Bool.Decides.{nat_tests}
 use Rattle.eql_values.specs.declared.order.OrderKey.{OrderKey}
 use Rattle.eql_values.specs.Chains.{fits_after}
 use Rattle.eql_values.specs.Ordered.{found_or}
-use Rattle.eql_laws.specs.Slots.{Slots, moved, arrived}
+use Rattle.eql_laws.specs.Slots.{Slots, chain_moved_on, chain_coming}
 use Rattle.eql_cli.specs.declared.search.event.Event.{Event}
 use Rattle.eql_cli.specs.Events.{act_of}
-use Rattle.eql_cli.specs.Moves.{slot_at, brought, staged, partly}
+use Rattle.eql_cli.specs.Moves.{slot_at, chain_brought, slots_after_stage, slots_midway}
 
 same_cond : (b : Bool) (o : Option (List OrderKey)) → cond b o o ≡ o
 same_cond true o = refl
@@ -58,35 +58,35 @@ first_cases false x c = refl
 module _ (old : Slots) (event : Event) where
   -- what a stage is brought is what arrives there
   brings : (k : ℕ) (slots : Slots) (rest : Option (List OrderKey)) → slots k ≡ old k
-      → cond (fits_after k (act_of event)) (found_or (brought (act_of event) k slots) rest) rest ≡ found_or (arrived None old (act_of event) (suc k)) rest
+      → cond (fits_after k (act_of event)) (found_or (chain_brought (act_of event) k slots) rest) rest ≡ found_or (chain_coming None old (act_of event) (suc k)) rest
   brings zero slots rest same = first_cases (fits_after 0 (act_of event)) rest (event.order ∷ [])
   brings (suc k) slots rest same =
-      come_cases (fits_after (suc k) (act_of event)) rest (moved None (slots (suc k)) (act_of event))
-      ∙ ap (λ (o : Option (List OrderKey)). found_or (cond (fits_after (suc k) (act_of event) && true) (moved None o (act_of event)) None) rest) same
+      come_cases (fits_after (suc k) (act_of event)) rest (chain_moved_on None (slots (suc k)) (act_of event))
+      ∙ ap (λ (o : Option (List OrderKey)). found_or (cond (fits_after (suc k) (act_of event) && true) (chain_moved_on None o (act_of event)) None) rest) same
 
-  above : (k : ℕ) (slots : Slots) (j : ℕ) → suc k < j → slots j ≡ partly old (act_of event) (suc k) j
-      → staged (act_of event) k slots j ≡ partly old (act_of event) k j
+  above : (k : ℕ) (slots : Slots) (j : ℕ) → suc k < j → slots j ≡ slots_midway old (act_of event) (suc k) j
+      → slots_after_stage (act_of event) k slots j ≡ slots_midway old (act_of event) k j
   above k slots j lt h =
       let a = no_eq_above (suc k) j lt in let lt' : k < j = omega arith in let b = no_eq_above k j lt' in
       let c = yes_lt (suc k) j lt in let d = yes_lt k j lt' in
       simp (a, b, d) (same_cond (fits_after k (act_of event)) (slots j) ∙ simp c at h)
 
-  below : (k : ℕ) (slots : Slots) (j : ℕ) → j < k → slots j ≡ partly old (act_of event) (suc k) j
-      → staged (act_of event) k slots j ≡ partly old (act_of event) k j
+  below : (k : ℕ) (slots : Slots) (j : ℕ) → j < k → slots j ≡ slots_midway old (act_of event) (suc k) j
+      → slots_after_stage (act_of event) k slots j ≡ slots_midway old (act_of event) k j
   below k slots j lt h =
       let lt' : j < suc k = omega arith in let le : j ≤ k = omega arith in let le' : j ≤ suc k = omega arith in
       let a = no_eq_below (suc k) j lt' in let b = no_eq_below k j lt in
       let c = no_lt (suc k) j le' in let d = no_lt k j le in
       simp (a, b, d) (same_cond (fits_after k (act_of event)) (slots j) ∙ simp (a, c) at h)
 
-  left : (k : ℕ) (slots : Slots) → slots k ≡ partly old (act_of event) (suc k) k → staged (act_of event) k slots k ≡ partly old (act_of event) k k
+  left : (k : ℕ) (slots : Slots) → slots k ≡ slots_midway old (act_of event) (suc k) k → slots_after_stage (act_of event) k slots k ≡ slots_midway old (act_of event) k k
   left k slots h =
       let lt : k < suc k = omega arith in let le : k ≤ k = omega arith in let le' : k ≤ suc k = omega arith in
       let a = no_eq_below (suc k) k lt in let b = yes_eq k in let c = no_lt (suc k) k le' in let d = no_lt k k le in
       simp (a, b, d) (ap (cond (fits_after k (act_of event)) None) (simp (a, c) at h))
 
-  come : (k : ℕ) (slots : Slots) → slots k ≡ partly old (act_of event) (suc k) k → slots (suc k) ≡ partly old (act_of event) (suc k) (suc k)
-      → staged (act_of event) k slots (suc k) ≡ partly old (act_of event) k (suc k)
+  come : (k : ℕ) (slots : Slots) → slots k ≡ slots_midway old (act_of event) (suc k) k → slots (suc k) ≡ slots_midway old (act_of event) (suc k) (suc k)
+      → slots_after_stage (act_of event) k slots (suc k) ≡ slots_midway old (act_of event) k (suc k)
   come k slots g h =
       let lt : k < suc k = omega arith in let le : suc k ≤ suc k = omega arith in let le' : k ≤ suc k = omega arith in
       let a = yes_eq (suc k) in let b = yes_lt k (suc k) lt in let c = no_lt (suc k) (suc k) le in
@@ -96,15 +96,15 @@ module _ (old : Slots) (event : Event) where
       simp (a, b) (simp rest (brings k slots (cond (fits_after (suc k) (act_of event) || false) None (old (suc k))) (simp (d, e) at g)))
 
   -- the move of one stage takes the table one stage on
-  partly_step : (k : ℕ) (slots : Slots) → ((j : ℕ) → j ≤ suc k → slots j ≡ partly old (act_of event) (suc k) j)
-      → (j : ℕ) → slots j ≡ partly old (act_of event) (suc k) j → staged (act_of event) k slots j ≡ partly old (act_of event) k j
+  partly_step : (k : ℕ) (slots : Slots) → ((j : ℕ) → j ≤ suc k → slots j ≡ slots_midway old (act_of event) (suc k) j)
+      → (j : ℕ) → slots j ≡ slots_midway old (act_of event) (suc k) j → slots_after_stage (act_of event) k slots j ≡ slots_midway old (act_of event) k j
   partly_step k slots all j h =
       elim (cases_order j (suc k)) [
-        | inl e ↦ subst (λ (i : ℕ). staged (act_of event) k slots i ≡ partly old (act_of event) k i) (sym e)
+        | inl e ↦ subst (λ (i : ℕ). slots_after_stage (act_of event) k slots i ≡ slots_midway old (act_of event) k i) (sym e)
             (come k slots (all k (omega arith)) (all (suc k) (omega arith)))
         | inr o ↦ elim o [
           | inl lt ↦ elim (cases_order j k) [
-            | inl e ↦ subst (λ (i : ℕ). staged (act_of event) k slots i ≡ partly old (act_of event) k i) (sym e) (left k slots (all k (omega arith)))
+            | inl e ↦ subst (λ (i : ℕ). slots_after_stage (act_of event) k slots i ≡ slots_midway old (act_of event) k i) (sym e) (left k slots (all k (omega arith)))
             | inr o' ↦ elim o' [ inl lt' ↦ below k slots j lt' h | inr gt ↦ absurd (omega arith) ]
           ]
           | inr gt ↦ above k slots j gt h
@@ -113,10 +113,10 @@ module _ (old : Slots) (event : Event) where
 
 -- one turn of the loop
 pub stage_played : (old : Slots) (event : Event) (m k k' : ℕ) (before after : Slots) → k ≡ suc k' → k ≤ m
-    → ((j : ℕ) → j ≤ m → before j ≡ partly old (act_of event) k j) → ((j : ℕ) → after j ≡ staged (act_of event) k' before j)
-    → (j : ℕ) → j ≤ m → after j ≡ partly old (act_of event) k' j
+    → ((j : ℕ) → j ≤ m → before j ≡ slots_midway old (act_of event) k j) → ((j : ℕ) → after j ≡ slots_after_stage (act_of event) k' before j)
+    → (j : ℕ) → j ≤ m → after j ≡ slots_midway old (act_of event) k' j
 stage_played old event m k k' before after e le all moves j lj =
-    let known : (i : ℕ) → i ≤ m → before i ≡ partly old (act_of event) (suc k') i = λ i li. all i li ∙ ap (λ (n : ℕ). partly old (act_of event) n i) e in
+    let known : (i : ℕ) → i ≤ m → before i ≡ slots_midway old (act_of event) (suc k') i = λ i li. all i li ∙ ap (λ (n : ℕ). slots_midway old (act_of event) n i) e in
     moves j ∙ partly_step old event k' before (λ i li. known i (omega arith)) j (known j lj)
 
 none_at : (slots : List (Option (List OrderKey))) → ((k : ℕ) → get_or slots k None ≡ None) → (k : ℕ) → get_or (slots ++ None ∷ []) k None ≡ None

@@ -10,7 +10,8 @@ use Rattle.std.specs.FinMap.{IsAntisymmetric}
 use Rattle.std.specs.FinMap.Entries.{find, below_all, is_sorted}
 use Rattle.std.specs.declared.cmp.Ordering.{Ordering}
 use Rattle.std.specs.declared.cmp.Ordering.TheVariants.{Less, Equal, Greater}
-use Rattle.eql_values.specs.Ordered.{in_order, is_in_order}
+use Rattle.eql_values.specs.Ordered.{in_order}
+use Rattle.eql_values.proofs.InOrder.{is_in_order}
 
 -- how many elements have this key
 abbrev pub ties : {X K : Type 0} → (K → K → Ordering) → (X → K) → K → List X → ℕ

@@ -5,7 +5,7 @@ use Rattle.std.specs.Option.{IfSome}
 use Rattle.std.proofs.lemmas.List.{append-nil, take_all}
 use Rattle.std.proofs.Common.{arith}
 use Rattle.eql_outside.specs.Outside.{AppendsSome}
-use Rattle.eql_cli.specs.Halts.{WroteFront}
+use Rattle.eql_outside.specs.Written.{WroteFront}
 
 -- nothing was written
 pub wrote_none : (text : List ℕ) (before : Option (List ℕ)) → WroteFront text before before

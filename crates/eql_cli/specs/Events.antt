@@ -14,7 +14,8 @@ item_of event = record { order = event.order; routes = routes_by event.stages }
 
 -- what it says by that route
 abbrev pub act_of : Event → Act
-act_of event = record { order = event.order; mask = record { low = event.stages; high = 0 }; until = false }
+act_of event =
+    record { order = event.order; mask = record { low = event.stages; high = 0 }; until = false }
 
 -- a line of this number at this place, alone
 abbrev pub only_line : (number at : ℕ) → List ℕ → List Line

@@ -29,17 +29,23 @@ fits_category (Some wanted) category = text_eq wanted category
 -- the stages that an event of the category fits: bit k for the stage after k stages
 abbrev pub stage_bits : List Wanted → List ℕ → ℕ
 stage_bits [] category = 0
-stage_bits (wanted ∷ stages) category = (if fits_category wanted category then 1 else 0) + 2 * stage_bits stages category
+stage_bits (wanted ∷ stages) category =
+    (if fits_category wanted category then 1 else 0) + 2 * stage_bits stages category
 
 -- the one route, with no key values, of an event that fits some stage
 abbrev pub routes_by : ℕ → List Route
-routes_by bits = if bits == 0 then [] else record { key = []; mask = record { low = bits; high = 0 }; until = false } ∷ []
+routes_by bits =
+    if bits == 0 then []
+    else record { key = []; mask = record { low = bits; high = 0 }; until = false } ∷ []
 
 -- what a line gives to a sequence of these categories; a line of another form gives nothing
 abbrev pub got_first : List Wanted → ℕ → ℕ → FirstLine → LineGot
 got_first stages shard line Blank = got.Blank
 got_first stages shard line (Event ts category) =
-    got.Item (record { order = record { ts = ts; tie = None; shard = shard; line = line; at = 0 }; routes = routes_by (stage_bits stages category) })
+    got.Item (record {
+      order = record { ts = ts; tie = None; shard = shard; line = line; at = 0 };
+      routes = routes_by (stage_bits stages category);
+    })
 got_first stages shard line Other = got.Blank
 
 abbrev pub reads_first : List Wanted → Reads
@@ -65,19 +71,19 @@ categories_of query = in_body query.body
 
 -- the listing of a sequence of these categories over one shard with this text
 abbrev pub first_listing : List Wanted → List ℕ → List ℕ
-first_listing stages text = listing false (piped [] (numbered (matches (length stages) None [] (all_events (reads_first stages) None (text ∷ [])))))
+first_listing stages text =
+    listing false (piped [] (numbered (matches (length stages) None []
+    (all_events (reads_first stages) None (text ∷ [])))))
 
--- of a shard whose first line of another form is told, nothing was written, or every line has its form and a prefix of the bytes was
+-- of a shard whose first line of another form is told, nothing was written, or every line has its
+-- form and a prefix of the bytes was
 abbrev pub WrotePart : Option ℕ → List ℕ → Option (List ℕ) → Option (List ℕ) → Type 0
-WrotePart other bytes before now = IfSome before (λ w. (now ≡ Some w) ⊎ ((other ≡ None) × AppendsSome w bytes now))
+WrotePart other bytes before now =
+    IfSome before (λ w. (now ≡ Some w) ⊎ ((other ≡ None) × AppendsSome w bytes now))
 
 -- the categories that the items of a sequence ask for
 abbrev pub wanted_by : List Term → List Wanted
 wanted_by items = map (λ (term : Term). term.category) items
-
--- where the sink tells, it got just these bytes
-abbrev pub WroteWhole : List ℕ → Option (List ℕ) → Option (List ℕ) → Type 0
-WroteWhole bytes before now = IfSome before (λ w. now ≡ Some (w ++ bytes))
 
 -- a search that stopped at a line did so at the first of another form, and wrote nothing
 abbrev pub IsOtherLine : Option ℕ → Option (List ℕ) → Option (List ℕ) → Stop → Type 0

@@ -1,9 +1,10 @@
 -- What is read of a file: its first bytes.
 use Rattle.std.specs.Prelude.{◌≡◌, ◌≤◌, ◌++◌, ℕ, List, [], take, drop, length, Option, Some, None, IfSome}
-use Rattle.eql_outside.specs.Outside.{Reading, file_named}
+use Rattle.eql_outside.specs.Outside.{file_named}
 
 -- the bytes are the first of the file of this name, as many of them as are kept at most
-pub record FrontOf (name : List ℕ) (files : List (List ℕ × List ℕ)) (most : ℕ) (bytes : List ℕ) : Type 0 where
+pub record FrontOf (name : List ℕ) (files : List (List ℕ × List ℕ)) (most : ℕ)
+    (bytes : List ℕ) : Type 0 where
   pub text : List ℕ
   pub there : file_named name files ≡ Some text
   pub front : bytes ≡ take most text
@@ -17,21 +18,20 @@ abbrev pub IsMissing : List ℕ → Option (List (List ℕ × List ℕ)) → Typ
 IsMissing name files = IfSome files (λ fs. file_named name fs ≡ None)
 
 -- where the source tells, the bytes are the first of those that were left
-abbrev pub TakesFront : Option Reading → ℕ → List ℕ → Type 0
-TakesFront reading most bytes = IfSome reading (λ r. bytes ≡ take most r.left)
+abbrev pub TakesFront : Option (List ℕ) → ℕ → List ℕ → Type 0
+TakesFront left most bytes = IfSome left (λ all. bytes ≡ take most all)
 
 -- the next n bytes of a source were put at the end of a text
-pub record HasTaken (r : Reading) (now : Option Reading) (before after : List ℕ) : Type 0 where
+pub record HasTaken (all : List ℕ) (left : Option (List ℕ)) (before after : List ℕ) : Type 0 where
   pub n : ℕ
-  pub taken : List ℕ
-  pub there : n ≤ length r.left
-  pub left : now ≡ Some (record { taken = taken; left = drop n r.left })
-  pub text : after ≡ before ++ take n r.left
+  pub there : n ≤ length all
+  pub left_is : left ≡ Some (drop n all)
+  pub text : after ≡ before ++ take n all
 
 -- the same, where the source tells
-abbrev pub HasRead : Option Reading → Option Reading → List ℕ → List ℕ → Type 0
-HasRead reading now before after = IfSome reading (λ r. HasTaken r now before after)
+abbrev pub HasRead : Option (List ℕ) → Option (List ℕ) → List ℕ → List ℕ → Type 0
+HasRead left left_now before after = IfSome left (λ all. HasTaken all left_now before after)
 
 -- where the source tells, nothing is left
-abbrev pub IsAtEnd : Option Reading → Type 0
-IsAtEnd reading = IfSome reading (λ r. r.left ≡ [])
+abbrev pub IsAtEnd : Option (List ℕ) → Type 0
+IsAtEnd left = IfSome left (λ all. all ≡ [])

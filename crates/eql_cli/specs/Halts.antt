@@ -1,6 +1,5 @@
 -- Why a run stops: its status, what it tells, and its cause.
 use Rattle.std.specs.Prelude.{◌++◌, ℕ, List, Option, IfSome, string_bytes, codes}
-use Rattle.eql_outside.specs.Outside.{AppendsSome}
 use Rattle.eql_cli.specs.declared.words.Command.{Command}
 use Rattle.eql_cli.specs.declared.halt.Role.{Role}
 use Rattle.eql_cli.specs.declared.halt.Role.TheVariants as role
@@ -13,7 +12,12 @@ use Rattle.eql_cli.specs.Runs as run
 
 -- the names of a command
 abbrev pub names_in : Command → Names
-names_in command = record { query = string_bytes command.query.now; fields = string_bytes command.fields.now; shard = string_bytes command.shard.now }
+names_in command =
+    record {
+      query = string_bytes command.query.now;
+      fields = string_bytes command.fields.now;
+      shard = string_bytes command.shard.now;
+    }
 
 abbrev pub name_of : Names → Role → List ℕ
 name_of names role.Query = names.query
@@ -48,10 +52,6 @@ text_of names (halt.Refused r) = refusal_text (refusal_of names r)
 text_of names (halt.Read r) = codes "read fault: " ++ printed_name (name_of names r) ++ codes "\n"
 text_of names halt.Write = codes "write fault\n"
 text_of names halt.Memory = codes "out of memory\n"
-
--- where the sink tells, it got a prefix of the text
-abbrev pub WroteFront : List ℕ → Option (List ℕ) → Option (List ℕ) → Type 0
-WroteFront text before now = IfSome before (λ w. AppendsSome w text now)
 
 -- what holds where the files are refused
 abbrev pub OnRefused : Halt → Type 0 → Type 0

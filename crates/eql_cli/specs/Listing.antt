@@ -12,8 +12,10 @@ use Rattle.eql_values.specs.declared.value.Value.TheVariants as value
 use Rattle.eql_values.specs.declared.found.Numbered.{Numbered}
 
 -- an address as four numbers with dots between
-abbrev pub dotted : ℕ → List ℕ
-dotted ip = decimal (ip / 16777216) ++ codes "." ++ decimal (ip / 65536 % 256) ++ codes "." ++ decimal (ip / 256 % 256) ++ codes "." ++ decimal (ip % 256)
+abbrev pub ip_text : ℕ → List ℕ
+ip_text ip =
+    decimal (ip / 16777216) ++ codes "." ++ decimal (ip / 65536 % 256) ++ codes "."
+    ++ decimal (ip / 256 % 256) ++ codes "." ++ decimal (ip % 256)
 
 -- a value as JSON; an address is a text
 abbrev pub json_value : Value → Data
@@ -21,19 +23,24 @@ json_value value.Null = null
 json_value (value.Bool b) = boolean b
 json_value (value.Long n) = number (of_integer n)
 json_value (value.Text characters) = string (encode_utf8_all characters)
-json_value (value.Ip ip) = string (dotted ip)
+json_value (value.Ip ip) = string (ip_text ip)
 
 -- the values of a key as a compact JSON array
 abbrev pub key_text : List Value → List ℕ
 key_text key = compact_text (array (items_of (map json_value key)))
 
--- an event of a match: a space, its shard, a colon and its line, and with the flag `@` and its place
+-- an event of a match: a space, its shard, a colon and its line, and with the flag `@` and its
+-- place
 abbrev pub event_text : Bool → OrderKey → List ℕ
-event_text places event = codes " " ++ decimal event.shard ++ codes ":" ++ decimal event.line ++ (if places then codes "@" ++ decimal event.at else [])
+event_text places event =
+    codes " " ++ decimal event.shard ++ codes ":" ++ decimal event.line
+    ++ (if places then codes "@" ++ decimal event.at else [])
 
 -- a match: its number, a space, its key, its events, and a line feed
 abbrev pub match_text : Bool → Numbered → List ℕ
-match_text places n = decimal n.number ++ codes " " ++ key_text n.found.key ++ flat_map (event_text places) n.found.chain ++ codes "\n"
+match_text places n =
+    decimal n.number ++ codes " " ++ key_text n.found.key
+    ++ flat_map (event_text places) n.found.chain ++ codes "\n"
 
 -- the listing of numbered matches
 abbrev pub listing : Bool → List Numbered → List ℕ
@@ -42,18 +49,29 @@ listing places list = flat_map (match_text places) list
 abbrev at_line : ℕ → OrderKey
 at_line line = record { ts = pos 0; tie = None; shard = 0; line = line; at = 0 }
 
--- the first match, without key values, and the twelfth, with the key of the number 7 and of a field that is missing
-without_key : match_text false (record { number = 1; found = record { key = []; chain = at_line 2 ∷ at_line 4 ∷ at_line 19 ∷ [] } })
+-- the first match, without key values, and the twelfth, with the key of the number 7 and of a field
+-- that is missing
+without_key :
+    match_text false (record {
+      number = 1;
+      found = record { key = []; chain = at_line 2 ∷ at_line 4 ∷ at_line 19 ∷ [] };
+    })
     ≡ codes "1 [] 0:2 0:4 0:19\n"
 unfolding digits lib.Utf8.encode
 without_key = refl
 
-with_key : match_text false (record { number = 12; found = record { key = value.Long (pos 7) ∷ value.Null ∷ []; chain = at_line 2 ∷ at_line 4 ∷ [] } })
+with_key :
+    match_text false (record {
+      number = 12;
+      found = record { key = value.Long (pos 7) ∷ value.Null ∷ []; chain = at_line 2 ∷ at_line 4 ∷ [] };
+    })
     ≡ codes "12 [7,null] 0:2 0:4\n"
 unfolding digits lib.Utf8.encode
 with_key = refl
 
 -- with places an event tells the bytes of the shard before its line
-with_places : event_text true (record { ts = pos 0; tie = None; shard = 3; line = 5; at = 120 }) ≡ codes " 3:5@120"
+with_places :
+    event_text true (record { ts = pos 0; tie = None; shard = 3; line = 5; at = 120 })
+    ≡ codes " 3:5@120"
 unfolding digits lib.Utf8.encode
 with_places = refl

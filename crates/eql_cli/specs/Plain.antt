@@ -33,7 +33,8 @@ are_plain_items items = is_few (length items) && list_all is_plain_item items
 -- a sequence of them, without keys, `maxspan` and `until`
 abbrev pub is_plain_body : BodyTree → Bool
 is_plain_body (event item) = false
-is_plain_body (sequence by span items until) = is_empty by && is_none span && is_none until && are_plain_items items
+is_plain_body (sequence by span items until) =
+    is_empty by && is_none span && is_none until && are_plain_items items
 
 -- and without pipes
 abbrev pub is_plain : QueryTree → Bool
@@ -45,8 +46,14 @@ IsPlain query = IsTrue (is_plain query)
 abbrev item_of : List ℕ → TermTree
 item_of category = record { category = Some category; cond = t.bool true; by = []; runs = pos 1 }
 
-abbrev keyed : TermTree
-keyed = record { category = None; cond = t.bool true; by = record { name = codes "user"; optional = false } ∷ []; runs = pos 1 }
+abbrev item_with_key : TermTree
+item_with_key =
+    record {
+      category = None;
+      cond = t.bool true;
+      by = record { name = codes "user"; optional = false } ∷ [];
+      runs = pos 1;
+    }
 
 abbrev two : List TermTree
 two = item_of (codes "process") ∷ item_of (codes "file") ∷ []
@@ -61,21 +68,30 @@ two_items = refl
 eight_items : is_plain (record { body = sequence [] None (four ++ four) None; pipes = [] }) ≡ true
 eight_items = refl
 
-one_item : is_plain (record { body = sequence [] None (item_of (codes "file") ∷ []) None; pipes = [] }) ≡ false
+one_item :
+    is_plain (record { body = sequence [] None (item_of (codes "file") ∷ []) None; pipes = [] })
+    ≡ false
 one_item = refl
 
-nine_items : is_plain (record { body = sequence [] None (item_of (codes "file") ∷ (four ++ four)) None; pipes = [] }) ≡ false
+nine_items :
+    is_plain
+    (record { body = sequence [] None (item_of (codes "file") ∷ (four ++ four)) None; pipes = [] })
+    ≡ false
 nine_items = refl
 
 -- single events, an item with keys, an item that ends sequences, and a pipe aren't searched
 single_events : is_plain (record { body = event (item_of (codes "file")); pipes = [] }) ≡ false
 single_events = refl
 
-with_keys : is_plain (record { body = sequence [] None (keyed ∷ two) None; pipes = [] }) ≡ false
+with_keys :
+    is_plain (record { body = sequence [] None (item_with_key ∷ two) None; pipes = [] }) ≡ false
 with_keys = refl
 
-with_until : is_plain (record { body = sequence [] None two (Some (item_of (codes "file"))); pipes = [] }) ≡ false
+with_until :
+    is_plain (record { body = sequence [] None two (Some (item_of (codes "file"))); pipes = [] })
+    ≡ false
 with_until = refl
 
-with_pipe : is_plain (record { body = sequence [] None two None; pipes = Head (pos 1) ∷ [] }) ≡ false
+with_pipe :
+    is_plain (record { body = sequence [] None two None; pipes = Head (pos 1) ∷ [] }) ≡ false
 with_pipe = refl

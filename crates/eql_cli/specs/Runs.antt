@@ -2,22 +2,25 @@
 use Rattle.std.specs.Prelude.{◌≡◌, ◌≤◌, ◌<◌, ◌⊎◌, ◌++◌, ℕ, ◌+◌, ◌/◌, ◌%◌, Bool, false, not, ◌&&◌, ◌||◌, ◌==◌, nat_lt, if◌then◌else◌, List, [], ◌∷◌, map, length, Option, Some, None, IfSome, IsSomeAnd, String, string_bytes, codes, encode_utf8_all}
 use Rattle.std.specs.declared.alloc.Global.{Global}
 use Rattle.std.specs.Fmt.{decimal}
-use Rattle.std.specs.List.{flat_map}
-use Rattle.std.specs.Str.{bytes_eq, IsUtf8}
+use Rattle.std.specs.Str.{bytes_eq, chars, IsUtf8}
 use Rattle.eql_values.specs.Lines.{lines_in}
+use Rattle.eql_values.specs.Shown.{shown}
 use Rattle.eql_outside.specs.Outside.{file_named, AppendsSome}
+use Rattle.eql_outside.specs.Written.{WroteFront}
+use Rattle.eql_outside.specs.Written as written
 use Rattle.eql_lexer.specs.declared.token.Token.{Token}
 use Rattle.eql_lexer.specs.declared.refusal.Rule.{Rule}
 use Rattle.eql_lexer.specs.declared.refusal.LexRefused.{LexRefused}
 use Rattle.eql_lexer.specs.declared.refusal.LexRefused.TheVariants as lexed
 use Rattle.eql_lexer.specs.Spelling.{Spells}
 use Rattle.eql_lexer.specs.Refusing.{BreaksAt, refusal_of}
+use Rattle.eql_lexer.specs.Messages as lexing
 use Rattle.eql_parser.specs.declared.refusal.ParseRefused.{ParseRefused}
-use Rattle.eql_parser.specs.declared.refusal.ParseRefused.TheVariants as parsed
 use Rattle.eql_parser.specs.QueryTree.{QueryTree}
 use Rattle.eql_parser.specs.QueryGrammar.{IsQuery}
 use Rattle.eql_parser.specs.Limits.{levels, OpensAtMost}
 use Rattle.eql_parser.specs.Refusing.{Refused, IsMemory}
+use Rattle.eql_parser.specs.Messages as parsing
 use Rattle.eql_cli.specs.FirstSearch.{first_other, first_listing, categories_of}
 use Rattle.eql_cli.specs.Plain.{IsPlain}
 
@@ -39,7 +42,8 @@ is_name (byte ∷ bytes) = not (byte == 45)
 -- the command `find --query FILE --fields FILE SHARD`
 abbrev pub command_of : List (List ℕ) → Option Names
 command_of (verb ∷ first ∷ query ∷ second ∷ fields ∷ shard ∷ []) =
-    if bytes_eq verb (codes "find") && bytes_eq first (codes "--query") && is_name query && bytes_eq second (codes "--fields") && is_name fields && is_name shard
+    if bytes_eq verb (codes "find") && bytes_eq first (codes "--query") && is_name query
+    && bytes_eq second (codes "--fields") && is_name fields && is_name shard
     then Some (record { query = query; fields = fields; shard = shard })
     else None
 command_of _ = None
@@ -58,13 +62,17 @@ pub record HasTokens (text : List ℕ) (tokens : List Token) : Type 0 where
   pub utf8 : IsUtf8 text
   pub spells : Spells text tokens
 
--- why a text has no tokens: it is too long, or it isn't UTF-8, or it breaks a rule of tokens at a place
+-- why a text has no tokens: it is too long, or it isn't UTF-8, or it breaks a rule of tokens at a
+-- place
 pub data NoTokens (text : List ℕ) : LexRefused → Type 0 where
   too_long : 65536 < length text → NoTokens text lexed.TooLong
   not_utf8 : length text ≤ 65536 → ¬ (IsUtf8 text) → NoTokens text lexed.NotUtf8
-  breaks : length text ≤ 65536 → IsUtf8 text → (rule : Rule) (at : ℕ) → BreaksAt text rule at → NoTokens text (refusal_of rule at)
+  breaks :
+      length text ≤ 65536 → IsUtf8 text → (rule : Rule) (at : ℕ) → BreaksAt text rule at
+      → NoTokens text (refusal_of rule at)
 
--- the tokens are this query, which has at most 64 levels, and in them at most 128 parentheses stand open
+-- the tokens are this query, which has at most 64 levels, and in them at most 128 parentheses stand
+-- open
 pub record ReadAs (tokens : List Token) (query : QueryTree) : Type 0 where
   pub is_query : IsQuery tokens query
   pub shallow : levels query ≤ 64
@@ -102,8 +110,8 @@ pub record HasShard (names : Names) (files : Files) (text : List ℕ) : Type 0 w
   pub there : file_named names.shard files ≡ Some text
   pub short : length text ≤ 16777216
 
--- a run over the files of these names writes these bytes: the three files are there and have the forms that are built, and the bytes are
--- the listing of the query over the shard
+-- a run over the files of these names writes these bytes: the three files are there and have the
+-- forms that are built, and the bytes are the listing of the query over the shard
 pub record Lists (names : Names) (files : Files) (bytes : List ℕ) : Type 0 where
   pub query : QueryTree
   pub has_query : HasQuery names files query
@@ -113,7 +121,8 @@ pub record Lists (names : Names) (files : Files) (bytes : List ℕ) : Type 0 whe
   pub lines : first_other (lines_in text) ≡ None
   pub bytes_are : bytes ≡ first_listing (categories_of query) text
 
--- a run of the words over the files writes these bytes: the words are the command, and their files give the bytes
+-- a run of the words over the files writes these bytes: the words are the command, and their files
+-- give the bytes
 pub record Writes (words : List (List ℕ)) (files : Files) (bytes : List ℕ) : Type 0 where
   pub names : Names
   pub command : command_of words ≡ Some names
@@ -129,78 +138,63 @@ pub data Refusal : Type 0 where
   shard : Refusal
   line : ℕ → Refusal
 
--- the files of these names are refused for this cause: of all causes that there are, the first in this order
+-- the files of these names are refused for this cause: of all causes that there are, the first in
+-- this order
 pub data Refuses (names : Names) (files : Files) : Refusal → Type 0 where
   no_query : file_named names.query files ≡ None → Refuses names files (no_file names.query)
-  not_spelled : (text : List ℕ) → file_named names.query files ≡ Some text → (r : LexRefused) → NoTokens text r → Refuses names files (lex r)
-  not_read : (tokens : List Token) → HasQueryTokens names files tokens → (r : ParseRefused) → NotRead tokens r → Refuses names files (parse r)
-  not_plain : (q : QueryTree) → HasAnyQuery names files q → ¬ (IsPlain q) → Refuses names files query
-  no_fields : (q : QueryTree) → HasQuery names files q → file_named names.fields files ≡ None → Refuses names files (no_file names.fields)
-  other_fields : (q : QueryTree) → HasQuery names files q → (text : List ℕ) → file_named names.fields files ≡ Some text → ¬ (IsNoFields text) → Refuses names files fields
-  no_shard : (q : QueryTree) → HasQuery names files q → HasFields names files → file_named names.shard files ≡ None → Refuses names files (no_file names.shard)
-  long_shard : (q : QueryTree) → HasQuery names files q → HasFields names files → (text : List ℕ) → file_named names.shard files ≡ Some text → 16777216 < length text → Refuses names files shard
-  other_line : (q : QueryTree) → HasQuery names files q → HasFields names files → (text : List ℕ) → HasShard names files text → (n : ℕ) → first_other (lines_in text) ≡ Some n → Refuses names files (line n)
+  not_spelled :
+      (text : List ℕ) → file_named names.query files ≡ Some text → (r : LexRefused)
+      → NoTokens text r → Refuses names files (lex r)
+  not_read :
+      (tokens : List Token) → HasQueryTokens names files tokens → (r : ParseRefused)
+      → NotRead tokens r → Refuses names files (parse r)
+  not_plain :
+      (q : QueryTree) → HasAnyQuery names files q → ¬ (IsPlain q) → Refuses names files query
+  no_fields :
+      (q : QueryTree) → HasQuery names files q → file_named names.fields files ≡ None
+      → Refuses names files (no_file names.fields)
+  other_fields :
+      (q : QueryTree) → HasQuery names files q → (text : List ℕ)
+      → file_named names.fields files ≡ Some text → ¬ (IsNoFields text) → Refuses names files fields
+  no_shard :
+      (q : QueryTree) → HasQuery names files q → HasFields names files
+      → file_named names.shard files ≡ None → Refuses names files (no_file names.shard)
+  long_shard :
+      (q : QueryTree) → HasQuery names files q → HasFields names files → (text : List ℕ)
+      → file_named names.shard files ≡ Some text → 16777216 < length text
+      → Refuses names files shard
+  other_line :
+      (q : QueryTree) → HasQuery names files q → HasFields names files → (text : List ℕ)
+      → HasShard names files text → (n : ℕ) → first_other (lines_in text) ≡ Some n
+      → Refuses names files (line n)
 
 -- a run comes to the file of this name: the files before it are there and have their forms
 pub data Reaches (names : Names) (files : Files) : List ℕ → Type 0 where
   query_file : Reaches names files names.query
   fields_file : (q : QueryTree) → HasQuery names files q → Reaches names files names.fields
-  shard_file : (q : QueryTree) → HasQuery names files q → HasFields names files → Reaches names files names.shard
-
--- a control character as it is printed: by the escapes of canonical strings, so that a text stays one line
-abbrev pub hex_glyph : ℕ → ℕ
-hex_glyph n = if nat_lt n 10 then 48 + n else 87 + n
-
-abbrev pub printed_byte : ℕ → List ℕ
-printed_byte byte =
-    if byte == 10 then codes "\\n"
-    else if byte == 13 then codes "\\r"
-    else if byte == 9 then codes "\\t"
-    else if nat_lt byte 32 || (byte == 127) then codes "\\u{" ++ hex_glyph (byte / 16) ∷ hex_glyph (byte % 16) ∷ codes "}"
-    else byte ∷ []
+  shard_file :
+      (q : QueryTree) → HasQuery names files q → HasFields names files
+      → Reaches names files names.shard
 
 -- a name as it is printed
 abbrev pub printed_name : List ℕ → List ℕ
-printed_name name = flat_map printed_byte name
+printed_name name = encode_utf8_all (shown (chars name))
 
 abbrev pub usage_text : List ℕ
 usage_text = codes "usage: eql find --query FILE --fields FILE SHARD\n"
 
--- what was refused and where, in a line
-abbrev pub at_place : List ℕ → ℕ → List ℕ
-at_place what at = what ++ codes " at " ++ decimal at ++ codes "\n"
-
--- why a text has no tokens, as it is told; want of memory is the cause of no refusal
-abbrev pub lex_text : LexRefused → List ℕ
-lex_text (lexed.BadByte at) = at_place (codes "lex: BadByte") at
-lex_text (lexed.OpenString at) = at_place (codes "lex: OpenString") at
-lex_text (lexed.BadEscape at) = at_place (codes "lex: BadEscape") at
-lex_text (lexed.Fraction at) = at_place (codes "lex: Fraction") at
-lex_text (lexed.SingleQuote at) = at_place (codes "lex: SingleQuote") at
-lex_text (lexed.NumberRange at) = at_place (codes "lex: NumberRange") at
-lex_text lexed.TooLong = codes "lex: TooLong\n"
-lex_text (lexed.OpenComment at) = at_place (codes "lex: OpenComment") at
-lex_text lexed.NotUtf8 = codes "lex: NotUtf8\n"
-lex_text lexed.Memory = codes "lex: Memory\n"
-
--- why tokens are no query, as it is told; want of memory is the cause of no refusal
-abbrev pub parse_text : ParseRefused → List ℕ
-parse_text (parsed.Syntax at) = at_place (codes "parse: Syntax") at
-parse_text (parsed.LeftOut word at) = at_place (codes "parse: LeftOut " ++ printed_name (encode_utf8_all word)) at
-parse_text (parsed.TooDeep at) = at_place (codes "parse: TooDeep") at
-parse_text parsed.Memory = codes "parse: Memory\n"
-
--- what is told of a refusal
+-- what is told of a refusal; a query's text that isn't read is told by the lines of the lexer and of the parser
 abbrev pub refusal_text : Refusal → List ℕ
 refusal_text (no_file name) = codes "no file " ++ printed_name name ++ codes "\n"
-refusal_text (lex r) = lex_text r
-refusal_text (parse r) = parse_text r
+refusal_text (lex r) = lexing.message r ++ codes "\n"
+refusal_text (parse r) = parsing.message r ++ codes "\n"
 refusal_text query = codes "unbuilt: query\n"
 refusal_text fields = codes "unbuilt: fields\n"
 refusal_text shard = codes "unbuilt: shard\n"
 refusal_text (line n) = codes "unbuilt: line " ++ decimal n ++ codes "\n"
 
--- the status of a refusal: 1 where a file isn't there, and 3 where the query can't be read or a form isn't built
+-- the status of a refusal: 1 where a file isn't there, and 3 where the query can't be read or a
+-- form isn't built
 abbrev pub refusal_status : Refusal → ℕ
 refusal_status (no_file name) = 1
 refusal_status _ = 3
@@ -208,29 +202,44 @@ refusal_status _ = 3
 abbrev pub IsNamed : Names → List ℕ → Type 0
 IsNamed names name = (name ≡ names.query) ⊎ (name ≡ names.fields) ⊎ (name ≡ names.shard)
 
--- a run of these words that ends with this status, above 0, has this text to tell: its cause holds of the words and, where the shelf tells
--- its files, of them
+-- a run of these words that ends with this status, above 0, has this text to tell: its cause holds
+-- of the words and, where the shelf tells its files, of them
 pub data Tells (words : List (List ℕ)) (files : Option Files) : ℕ → List ℕ → Type 0 where
   usage : command_of words ≡ None → Tells words files 2 usage_text
-  refused : (names : Names) → command_of words ≡ Some names → (refusal : Refusal) → IfSome files (λ fs. Refuses names fs refusal)
+  refused :
+      (names : Names) → command_of words ≡ Some names → (refusal : Refusal)
+      → IfSome files (λ fs. Refuses names fs refusal)
       → Tells words files (refusal_status refusal) (refusal_text refusal)
-  read_fault : (names : Names) → command_of words ≡ Some names → (name : List ℕ) → IsNamed names name → IfSome files (λ fs. Reaches names fs name)
+  read_fault :
+      (names : Names) → command_of words ≡ Some names → (name : List ℕ) → IsNamed names name
+      → IfSome files (λ fs. Reaches names fs name)
       → Tells words files 4 (codes "read fault: " ++ printed_name name ++ codes "\n")
-  write_fault : (names : Names) → command_of words ≡ Some names → IfSome files (λ fs. (bytes : List ℕ) × Lists names fs bytes) → Tells words files 5 (codes "write fault\n")
-  memory : (names : Names) → command_of words ≡ Some names → Tells words files 8 (codes "out of memory\n")
+  write_fault :
+      (names : Names) → command_of words ≡ Some names
+      → IfSome files (λ fs. (bytes : List ℕ) × Lists names fs bytes)
+      → Tells words files 5 (codes "write fault\n")
+  memory :
+      (names : Names) → command_of words ≡ Some names
+      → Tells words files 8 (codes "out of memory\n")
 
--- where the shelf tells its files, the run was one that writes bytes, and where the sink tells too, it got just these
+-- where the shelf tells its files, the run was one that writes bytes, and where the sink tells too,
+-- it got just these
 abbrev pub WroteAll : List (List ℕ) → Option Files → Option (List ℕ) → Option (List ℕ) → Type 0
-WroteAll words files before now = IfSome files (λ fs. (bytes : List ℕ) × Writes words fs bytes × IfSome before (λ w. now ≡ Some (w ++ bytes)))
+WroteAll words files before now =
+    IfSome files (λ fs.
+    (bytes : List ℕ) × Writes words fs bytes × written.WroteAll bytes before now)
 
 -- where both tell, the sink got nothing, or a prefix of what the run writes
 abbrev pub WroteSome : List (List ℕ) → Option Files → Option (List ℕ) → Option (List ℕ) → Type 0
 WroteSome words files before now =
-    IfSome files (λ fs. IfSome before (λ w. (now ≡ Some w) ⊎ ((bytes : List ℕ) × Writes words fs bytes × AppendsSome w bytes now)))
+    IfSome files (λ fs. IfSome before (λ w.
+    (now ≡ Some w) ⊎ ((bytes : List ℕ) × Writes words fs bytes × AppendsSome w bytes now)))
 
--- a run of this status told a text whose cause holds, or a prefix of it, which may be empty; that it is told whole is only tested
+-- a run of this status told a text whose cause holds, or a prefix of it, which may be empty; that
+-- it is told whole is only tested
 abbrev pub Told : List (List ℕ) → Option Files → ℕ → Option (List ℕ) → Option (List ℕ) → Type 0
-Told words files status before now = (text : List ℕ) × Tells words files status text × IfSome before (λ w. AppendsSome w text now)
+Told words files status before now =
+    (text : List ℕ) × Tells words files status text × WroteFront text before now
 
 -- the words and files are such that a run writes bytes
 abbrev pub IsReady : List (List ℕ) → Option Files → Type 0
@@ -239,5 +248,6 @@ IsReady words files = IsSomeAnd files (λ fs. (bytes : List ℕ) × Writes words
 -- where files are refused, the status is that of the cause, or memory ran out
 abbrev pub RefusedAs : List (List ℕ) → Option Files → ℕ → Type 0
 RefusedAs words files status =
-    (names : Names) (fs : Files) (refusal : Refusal) → command_of words ≡ Some names → files ≡ Some fs → Refuses names fs refusal
+    (names : Names) (fs : Files) (refusal : Refusal) → command_of words ≡ Some names
+    → files ≡ Some fs → Refuses names fs refusal
     → (status ≡ refusal_status refusal) ⊎ (status ≡ 8)

@@ -1,6 +1,7 @@
 -- What the steps of a run find.
 use Rattle.std.specs.Prelude.{◌≡◌, ◌⊎◌, ◌++◌, ℕ, List, Option, Some, None, IfSome}
 use Rattle.eql_outside.specs.Outside.{AppendsSome}
+use Rattle.eql_outside.specs.Written.{WroteAll}
 use Rattle.eql_lexer.specs.declared.token.Token.{Token}
 use Rattle.eql_lexer.specs.declared.refusal.LexRefused.{LexRefused}
 use Rattle.eql_lexer.specs.declared.refusal.LexRefused.TheVariants as lexed
@@ -13,7 +14,8 @@ use Rattle.eql_cli.specs.declared.halt.Halt.TheVariants as halt
 use Rattle.eql_cli.specs.FirstSearch.{wanted_by, categories_of}
 use Rattle.eql_cli.specs.Runs.{Names, Files, NoTokens, NotRead, HasQueryTokens, HasQuery, HasFields, HasShard, Lists}
 
--- where the shelf tells its files, the tokens, the query, the fields and the text are those of the files
+-- where the shelf tells its files, the tokens, the query, the fields and the text are those of the
+-- files
 abbrev pub GotTokens : Names → Option Files → List Token → Type 0
 GotTokens names files tokens = IfSome files (λ fs. HasQueryTokens names fs tokens)
 
@@ -46,9 +48,9 @@ StoppedReading role missing halt.Write = ⊥
 StoppedReading role missing halt.Memory = Unit {0}
 
 -- the halt of a text that has no tokens
-abbrev pub unspelled : LexRefused → Halt
-unspelled lexed.Memory = halt.Memory
-unspelled r = halt.Refused (refused.Lex r)
+abbrev pub halt_of_lex : LexRefused → Halt
+halt_of_lex lexed.Memory = halt.Memory
+halt_of_lex r = halt.Refused (refused.Lex r)
 
 -- a text has no tokens, and a run stopped so
 abbrev pub StoppedSpelling : List ℕ → Halt → Type 0
@@ -77,8 +79,11 @@ StoppedSearching other halt.Memory = Unit {0}
 
 -- where the shelf and the sink tell, the sink got just what a run over the files writes
 abbrev pub RanWhole : Names → Option Files → Option (List ℕ) → Option (List ℕ) → Type 0
-RanWhole names files before now = IfSome files (λ fs. (bytes : List ℕ) × Lists names fs bytes × IfSome before (λ w. now ≡ Some (w ++ bytes)))
+RanWhole names files before now =
+    IfSome files (λ fs. (bytes : List ℕ) × Lists names fs bytes × WroteAll bytes before now)
 
 -- where both tell, the sink got nothing, or a prefix of that
 abbrev pub RanPart : Names → Option Files → Option (List ℕ) → Option (List ℕ) → Type 0
-RanPart names files before now = IfSome files (λ fs. IfSome before (λ w. (now ≡ Some w) ⊎ ((bytes : List ℕ) × Lists names fs bytes × AppendsSome w bytes now)))
+RanPart names files before now =
+    IfSome files (λ fs. IfSome before (λ w.
+    (now ≡ Some w) ⊎ ((bytes : List ℕ) × Lists names fs bytes × AppendsSome w bytes now)))

@@ -10,7 +10,7 @@ use std::alloc::Global;
 const PIECE_BYTES: usize = 65536;
 
 /// Why a file wasn't read.
-#[derive(Clone, Copy, Debug, PartialEq, Eq)]
+#[derive(Clone, Copy)]
 pub(crate) enum FileRefused {
     /// No file has the name.
     NoFile,
@@ -30,9 +30,10 @@ fn read_piece<S: Source>(
     requires room { 0 < length piece.old }
     requires short { vec_len text.old < most }
     ensures more { result ≡ Ok true
-        → HasRead (S.reading source.old) (S.reading source.new) text.old.items text.new.items }
+        → HasRead (S.left source.old) (S.left source.new) text.old.items text.new.items }
     ensures grows { result ≡ Ok true → vec_len text.old < vec_len text.new }
-    ensures end { result ≡ Ok false → IsAtEnd (S.reading source.old) × (text.new.items ≡ text.old.items) }
+    ensures end { result ≡ Ok false
+        → IsAtEnd (S.left source.old) × (text.new.items ≡ text.old.items) }
     ensures few { IsOk result → vec_len text.new ≤ most }
     ensures read { result ≡ Err FileRefused.Read → 0 < S.fault_count source.new }
     ensures file { result ≡ Err FileRefused.NoFile → ⊥ }
@@ -59,7 +60,7 @@ fn read_pieces<S: Source>(
 ) -> Result<(), FileRefused>
     requires room { 0 < length piece.old }
     requires empty { text.old.items ≡ [] }
-    ensures front { IsOk result → TakesFront (S.reading source.old) most text.new.items }
+    ensures front { IsOk result → TakesFront (S.left source.old) most text.new.items }
     ensures few { IsOk result → length text.new.items ≤ most }
     ensures read { result ≡ Err FileRefused.Read → 0 < S.fault_count source.new }
     ensures file { result ≡ Err FileRefused.NoFile → ⊥ }
@@ -81,7 +82,7 @@ fn read_source<S: Source>(
     most: usize,
 ) -> Result<Vec<u8>, FileRefused>
     requires { 0 < most }
-    ensures front { IfOk result (λ text. TakesFront (S.reading source.old) most text.items) }
+    ensures front { IfOk result (λ text. TakesFront (S.left source.old) most text.items) }
     ensures few { IfOk result (λ text. length text.items ≤ most) }
     ensures read { result ≡ Err FileRefused.Read → 0 < S.fault_count source.new }
     ensures file { result ≡ Err FileRefused.NoFile → ⊥ }
@@ -104,7 +105,8 @@ pub(crate) fn read_file<H: Shelf>(
     most: usize,
 ) -> Result<Vec<u8>, FileRefused>
     requires { 0 < most }
-    ensures front { IfOk result (λ text. IsFrontOf (string_bytes name.now) (H.files shelf.old) most text.items) }
+    ensures front { IfOk result
+        (λ text. IsFrontOf (string_bytes name.now) (H.files shelf.old) most text.items) }
     ensures few { IfOk result (λ text. length text.items ≤ most) }
     ensures missing { result ≡ Err FileRefused.NoFile
         → IsMissing (string_bytes name.now) (H.files shelf.old) }

@@ -6,7 +6,7 @@ use eql_lexer::LexRefused;
 use eql_parser::ParseRefused;
 
 /// A file that the words of a run name.
-#[derive(Clone, Copy, Debug, PartialEq, Eq)]
+#[derive(Clone, Copy)]
 pub(crate) enum Role {
     /// The file after `--query`.
     Query,
@@ -17,7 +17,7 @@ pub(crate) enum Role {
 }
 
 /// Why files are refused.
-#[derive(Debug, Drop)]
+#[derive(Drop)]
 pub(crate) enum Refused {
     /// The file isn't there.
     NoFile(Role),
@@ -36,7 +36,7 @@ pub(crate) enum Refused {
 }
 
 /// Why a run stopped.
-#[derive(Debug, Drop)]
+#[derive(Drop)]
 pub(crate) enum Halt {
     /// The files are refused.
     Refused(Refused),

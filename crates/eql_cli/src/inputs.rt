@@ -34,10 +34,16 @@ fn read_named<H: Shelf>(
     most: usize,
 ) -> Result<Vec<u8>, Halt>
     requires { 0 < most }
-    ensures front { IfOk result (λ text. IsFrontOf (name_of (names_in command.now) role) (H.files shelf.old) most text.items) }
+    ensures front { IfOk result
+        (λ text. IsFrontOf (name_of (names_in command.now) role) (H.files shelf.old)
+        most text.items) }
     ensures few { IfOk result (λ text. length text.items ≤ most) }
-    ensures cause { IfErr result (StoppedReading role (IsMissing (name_of (names_in command.now) role) (H.files shelf.old))) }
-    ensures fault { IfErr result (λ halt. OnFault halt (Rose (H.absent_count shelf.old) (H.absent_count shelf.new)) (Rose (H.fault_count shelf.old) (H.fault_count shelf.new)) ⊥) }
+    ensures cause { IfErr result
+        (StoppedReading role
+        (IsMissing (name_of (names_in command.now) role) (H.files shelf.old))) }
+    ensures fault { IfErr result (λ halt. OnFault halt
+        (Rose (H.absent_count shelf.old) (H.absent_count shelf.new))
+        (Rose (H.fault_count shelf.old) (H.fault_count shelf.new)) ⊥) }
     ensures kept { H.files shelf.new ≡ H.files shelf.old }
     ensures counts { (H.fault_count shelf.old ≤ H.fault_count shelf.new)
         × (H.absent_count shelf.old ≤ H.absent_count shelf.new) }
@@ -53,9 +59,12 @@ fn read_named<H: Shelf>(
 /// Reads the query file, and gives its tokens. One byte more than it may have is kept, which shows that there are too
 /// many.
 fn read_tokens<H: Shelf>(alloc: Global, command: &Command, shelf: &mut H) -> Result<Tokens, Halt>
-    ensures tokens { IfOk result (λ tokens. GotTokens (names_in command.now) (H.files shelf.old) tokens) }
+    ensures tokens { IfOk result
+        (λ tokens. GotTokens (names_in command.now) (H.files shelf.old) tokens) }
     ensures cause { IfErr result (HasCause (names_in command.now) (H.files shelf.old)) }
-    ensures fault { IfErr result (λ halt. OnFault halt (Rose (H.absent_count shelf.old) (H.absent_count shelf.new)) (Rose (H.fault_count shelf.old) (H.fault_count shelf.new)) ⊥) }
+    ensures fault { IfErr result (λ halt. OnFault halt
+        (Rose (H.absent_count shelf.old) (H.absent_count shelf.new))
+        (Rose (H.fault_count shelf.old) (H.fault_count shelf.new)) ⊥) }
     ensures kept { H.files shelf.new ≡ H.files shelf.old }
     ensures counts { (H.fault_count shelf.old ≤ H.fault_count shelf.new)
         × (H.absent_count shelf.old ≤ H.absent_count shelf.new) }
@@ -72,9 +81,12 @@ pub(crate) fn read_query<H: Shelf>(
 ) -> Result<Terms, Halt>
     ensures some { IfOk result (λ items. 1 ≤ length items) }
     ensures few { IfOk result (λ items. length items ≤ 8) }
-    ensures query { IfOk result (λ items. GotItems (names_in command.now) (H.files shelf.old) items) }
+    ensures query { IfOk result
+        (λ items. GotItems (names_in command.now) (H.files shelf.old) items) }
     ensures cause { IfErr result (HasCause (names_in command.now) (H.files shelf.old)) }
-    ensures fault { IfErr result (λ halt. OnFault halt (Rose (H.absent_count shelf.old) (H.absent_count shelf.new)) (Rose (H.fault_count shelf.old) (H.fault_count shelf.new)) ⊥) }
+    ensures fault { IfErr result (λ halt. OnFault halt
+        (Rose (H.absent_count shelf.old) (H.absent_count shelf.new))
+        (Rose (H.fault_count shelf.old) (H.fault_count shelf.new)) ⊥) }
     ensures kept { H.files shelf.new ≡ H.files shelf.old }
     ensures counts { (H.fault_count shelf.old ≤ H.fault_count shelf.new)
         × (H.absent_count shelf.old ≤ H.absent_count shelf.new) }
@@ -103,9 +115,12 @@ pub(crate) fn check_fields<H: Shelf>(
 ) -> Result<(), Halt>
     ensures fields { IsOk result → GotFields (names_in command.now) (H.files shelf.old) }
     // The cause is that of a run whose query was read.
-    ensures cause { IfErr result (λ halt. (query : QueryTree) → GotQuery (names_in command.now) (H.files shelf.old) query
+    ensures cause { IfErr result (λ halt. (query : QueryTree)
+        → GotQuery (names_in command.now) (H.files shelf.old) query
         → HasCause (names_in command.now) (H.files shelf.old) halt) }
-    ensures fault { IfErr result (λ halt. OnFault halt (Rose (H.absent_count shelf.old) (H.absent_count shelf.new)) (Rose (H.fault_count shelf.old) (H.fault_count shelf.new)) ⊥) }
+    ensures fault { IfErr result (λ halt. OnFault halt
+        (Rose (H.absent_count shelf.old) (H.absent_count shelf.new))
+        (Rose (H.fault_count shelf.old) (H.fault_count shelf.new)) ⊥) }
     ensures kept { H.files shelf.new ≡ H.files shelf.old }
     ensures counts { (H.fault_count shelf.old ≤ H.fault_count shelf.new)
         × (H.absent_count shelf.old ≤ H.absent_count shelf.new) }
@@ -124,12 +139,17 @@ pub(crate) fn read_shard<H: Shelf>(
     command: &Command,
     shelf: &mut H,
 ) -> Result<Vec<u8>, Halt>
-    ensures shard { IfOk result (λ text. GotShard (names_in command.now) (H.files shelf.old) text.items) }
+    ensures shard { IfOk result
+        (λ text. GotShard (names_in command.now) (H.files shelf.old) text.items) }
     ensures short { IfOk result (λ text. length text.items ≤ SHARD_BYTES) }
     // The cause is that of a run whose query and fields were read.
-    ensures cause { IfErr result (λ halt. (query : QueryTree) → GotQuery (names_in command.now) (H.files shelf.old) query
-        → GotFields (names_in command.now) (H.files shelf.old) → HasCause (names_in command.now) (H.files shelf.old) halt) }
-    ensures fault { IfErr result (λ halt. OnFault halt (Rose (H.absent_count shelf.old) (H.absent_count shelf.new)) (Rose (H.fault_count shelf.old) (H.fault_count shelf.new)) ⊥) }
+    ensures cause { IfErr result (λ halt. (query : QueryTree)
+        → GotQuery (names_in command.now) (H.files shelf.old) query
+        → GotFields (names_in command.now) (H.files shelf.old)
+        → HasCause (names_in command.now) (H.files shelf.old) halt) }
+    ensures fault { IfErr result (λ halt. OnFault halt
+        (Rose (H.absent_count shelf.old) (H.absent_count shelf.new))
+        (Rose (H.fault_count shelf.old) (H.fault_count shelf.new)) ⊥) }
     ensures kept { H.files shelf.new ≡ H.files shelf.old }
     ensures counts { (H.fault_count shelf.old ≤ H.fault_count shelf.new)
         × (H.absent_count shelf.old ≤ H.absent_count shelf.new) }

@@ -2,7 +2,8 @@
 ghost use Rattle.std.specs.Prelude.{◌≡◌, ◌≢◌, ◌↔◌, ◌⊎◌, ◌≤◌, None, IfErr, IsErr, IsOk, length};
 ghost use Rattle.eql_values.specs.Lines.{lines_in};
 ghost use Rattle.eql_outside.specs.Outside.{Rose};
-ghost use Rattle.eql_cli.specs.FirstSearch.{wanted_by, first_other, first_listing, WroteWhole, WrotePart};
+ghost use Rattle.eql_outside.specs.Written as written;
+ghost use Rattle.eql_cli.specs.FirstSearch.{wanted_by, first_other, first_listing, WrotePart};
 ghost use Rattle.eql_cli.specs.Halts.{names_in, OnRefused, OnFault, HasCause};
 ghost use Rattle.eql_cli.specs.Runs.{bytes_of, command_of, WroteAll, WroteSome, Told, IsReady, RefusedAs};
 ghost use Rattle.eql_cli.specs.Steps.{RanWhole, RanPart, StoppedSearching};
@@ -39,12 +40,15 @@ fn search<K: Sink>(alloc: Global, items: &Terms, text: &[u8], out: &mut K) -> Re
     requires short { length text.now ≤ 16777216 }
     ensures lines { IsOk result → first_other (lines_in text.now) ≡ None }
     ensures whole { IsOk result
-        → WroteWhole (first_listing (wanted_by items.now) text.now) (K.written out.old) (K.written out.new) }
+        → written.WroteAll (first_listing (wanted_by items.now) text.now)
+        (K.written out.old) (K.written out.new) }
     ensures prefix { IsErr result
-        → WrotePart (first_other (lines_in text.now)) (first_listing (wanted_by items.now) text.now) (K.written out.old) (K.written out.new) }
+        → WrotePart (first_other (lines_in text.now)) (first_listing (wanted_by items.now) text.now)
+        (K.written out.old) (K.written out.new) }
     ensures untouched { IfErr result (λ halt. OnRefused halt (out.new ≡ out.old)) }
     ensures cause { IfErr result (StoppedSearching (first_other (lines_in text.now))) }
-    ensures fault { IfErr result (λ halt. OnFault halt ⊥ ⊥ (Rose (K.fault_count out.old) (K.fault_count out.new))) }
+    ensures fault { IfErr result
+        (λ halt. OnFault halt ⊥ ⊥ (Rose (K.fault_count out.old) (K.fault_count out.new))) }
     ensures counts { K.fault_count out.old ≤ K.fault_count out.new }
 {
     match search_shard(alloc, items, text, out) {
@@ -63,12 +67,17 @@ fn run<H: Shelf, K: Sink>(
     out: &mut K,
 ) -> Result<(), Halt>
     ensures done { IsOk result
-        → RanWhole (names_in command.now) (H.files shelf.old) (K.written out.old) (K.written out.new) }
+        → RanWhole (names_in command.now) (H.files shelf.old)
+        (K.written out.old) (K.written out.new) }
     ensures prefix { IsErr result
-        → RanPart (names_in command.now) (H.files shelf.old) (K.written out.old) (K.written out.new) }
+        → RanPart (names_in command.now) (H.files shelf.old)
+        (K.written out.old) (K.written out.new) }
     ensures untouched { IfErr result (λ halt. OnRefused halt (out.new ≡ out.old)) }
     ensures cause { IfErr result (HasCause (names_in command.now) (H.files shelf.old)) }
-    ensures fault { IfErr result (λ halt. OnFault halt (Rose (H.absent_count shelf.old) (H.absent_count shelf.new)) (Rose (H.fault_count shelf.old) (H.fault_count shelf.new)) (Rose (K.fault_count out.old) (K.fault_count out.new))) }
+    ensures fault { IfErr result (λ halt. OnFault halt
+        (Rose (H.absent_count shelf.old) (H.absent_count shelf.new))
+        (Rose (H.fault_count shelf.old) (H.fault_count shelf.new))
+        (Rose (K.fault_count out.old) (K.fault_count out.new))) }
     ensures kept { H.files shelf.new ≡ H.files shelf.old }
     ensures counts { (H.fault_count shelf.old ≤ H.fault_count shelf.new)
         × (H.absent_count shelf.old ≤ H.absent_count shelf.new)
@@ -96,17 +105,20 @@ pub fn eql_main<R: Threads + Wait + Sync, H: Shelf, K: Sink, E: Sink, G: Gate + 
 ) -> Ended<K, E>
     // The headline: on status 0 the output got exactly the listing.
     ensures done { result.status ≡ 0
-        → WroteAll (bytes_of words.now.items) (H.files shelf.old) (K.written out) (K.written result.out) }
+        → WroteAll (bytes_of words.now.items) (H.files shelf.old)
+        (K.written out) (K.written result.out) }
     // On every other status it got nothing, or a prefix of the listing.
     ensures prefix { result.status ≢ 0
-        → WroteSome (bytes_of words.now.items) (H.files shelf.old) (K.written out) (K.written result.out) }
+        → WroteSome (bytes_of words.now.items) (H.files shelf.old)
+        (K.written out) (K.written result.out) }
     // Where the words or the files are refused the output isn't touched.
     ensures refused { (result.status ≡ 1) ⊎ (result.status ≡ 2) ⊎ (result.status ≡ 3)
         → result.out ≡ out }
     // On status 0 nothing is told; on every other status a text is whose cause holds.
     ensures quiet { result.status ≡ 0 → result.err ≡ err }
     ensures told { result.status ≢ 0
-        → Told (bytes_of words.now.items) (H.files shelf.old) result.status (E.written err) (E.written result.err) }
+        → Told (bytes_of words.now.items) (H.files shelf.old) result.status
+        (E.written err) (E.written result.err) }
     // The causes that the objects count.
     ensures absent { result.status ≡ 1
         → Rose (H.absent_count shelf.old) (H.absent_count shelf.new) }

@@ -8,7 +8,7 @@ ghost use Rattle.eql_cli.specs.FirstSearch.{wanted_by, categories_of};
 ghost use Rattle.eql_cli.specs.Plain as plain;
 ghost use Rattle.eql_cli.specs.Plain.{IsPlain};
 ghost use Rattle.eql_cli.specs.Runs.{HasTokens, ReadAs};
-ghost use Rattle.eql_cli.specs.Steps.{unspelled, StoppedSpelling, StoppedParsing};
+ghost use Rattle.eql_cli.specs.Steps.{halt_of_lex, StoppedSpelling, StoppedParsing};
 
 use crate::halt::{Halt, Refused};
 use eql_lexer::{LexRefused, Tokens, lex};
@@ -28,13 +28,13 @@ pub(crate) fn tokens_of(alloc: Global, text: &[u8]) -> Result<Tokens, Halt>
 {
     match lex(alloc, text) {
         Ok(tokens) => Ok(tokens),
-        Err(refused) => Err(unspelled(refused)),
+        Err(refused) => Err(halt_of_lex(refused)),
     }
 }
 
 /// The halt of a text that has no tokens.
-fn unspelled(refused: LexRefused) -> Halt
-    ensures { result ≡ unspelled refused }
+fn halt_of_lex(refused: LexRefused) -> Halt
+    ensures { result ≡ halt_of_lex refused }
 {
     match refused {
         LexRefused::Memory => Halt::Memory,
@@ -126,12 +126,9 @@ pub(crate) fn items_of(query: Query) -> Terms
     ensures few { length result ≤ 8 }
     ensures wanted { wanted_by result ≡ categories_of (query_tree query) }
 {
-    let Query {
-        body,
-        pipes: _pipes,
-    } = query;
-    match body {
-        Body::Sequence { items, .. } => items,
-        Body::Event(_) => unreachable!(),
+    let (body, _pipes) = query.into_parts();
+    match body.into_sequence() {
+        Some((_by, _span, items, _until)) => items,
+        None => unreachable!(),
     }
 }

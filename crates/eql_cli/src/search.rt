@@ -2,7 +2,8 @@
 ghost use Rattle.std.specs.Prelude.{◌≡◌, ◌≤◌, ℕ, Err, IfErr, IsOk, IsErr, None, Some, length, map};
 ghost use Rattle.eql_values.specs.Lines.{lines_in};
 ghost use Rattle.eql_outside.specs.Outside.{Rose};
-ghost use Rattle.eql_cli.specs.FirstSearch.{wanted_by, first_other, first_listing, WroteWhole, WrotePart, IsOtherLine};
+ghost use Rattle.eql_outside.specs.Written.{WroteAll};
+ghost use Rattle.eql_cli.specs.FirstSearch.{wanted_by, first_other, first_listing, WrotePart, IsOtherLine};
 
 mod event;
 mod matching;
@@ -18,7 +19,7 @@ use eql_values::Memory;
 use std::alloc::{AllocError, AllocFailed, Global};
 
 /// Why a search stopped.
-#[derive(Clone, Copy, Debug, PartialEq, Eq)]
+#[derive(Clone, Copy)]
 pub(crate) enum Stop {
     /// The line of this number, from 1, is neither blank nor an event.
     Line(u32),
@@ -71,10 +72,13 @@ pub(crate) fn search_shard<K: Sink>(
     requires short { length text.now ≤ 16777216 }
     ensures lines { IsOk result → first_other (lines_in text.now) ≡ None }
     ensures whole { IsOk result
-        → WroteWhole (first_listing (wanted_by items.now) text.now) (K.written out.old) (K.written out.new) }
+        → WroteAll (first_listing (wanted_by items.now) text.now)
+        (K.written out.old) (K.written out.new) }
     ensures prefix { IsErr result
-        → WrotePart (first_other (lines_in text.now)) (first_listing (wanted_by items.now) text.now) (K.written out.old) (K.written out.new) }
-    ensures line { IfErr result (λ stop. IsOtherLine (first_other (lines_in text.now)) (K.written out.old) (K.written out.new) stop) }
+        → WrotePart (first_other (lines_in text.now)) (first_listing (wanted_by items.now) text.now)
+        (K.written out.old) (K.written out.new) }
+    ensures line { IfErr result (λ stop. IsOtherLine (first_other (lines_in text.now))
+        (K.written out.old) (K.written out.new) stop) }
     ensures untouched { (line : ℕ) → result ≡ Err (Stop.Line line) → out.new ≡ out.old }
     ensures written { result ≡ Err Stop.Write → first_other (lines_in text.now) ≡ None }
     ensures cause { result ≡ Err Stop.Write

@@ -6,7 +6,7 @@ ghost use Rattle.eql_cli.specs.Runs.{bytes_of, command_of, is_name};
 use crate::halt::Role;
 
 /// The names of the files in `find --query FILE --fields FILE SHARD`.
-#[derive(Clone, Copy, Debug)]
+#[derive(Clone, Copy)]
 pub(crate) struct Command<'a> {
     pub query: &'a String,
     pub fields: &'a String,
@@ -38,7 +38,10 @@ fn is_file_name(word: &String) -> bool
 
 /// The command that these words make. `None` comes exactly where they make none.
 pub(crate) fn command_in(words: &Vec<String>) -> Option<Command<'_>>
-    ensures { MatchOption result (command_of (bytes_of words.now.items) ≡ None) (λ command. command_of (bytes_of words.now.items) ≡ Some (names_in command)) }
+    ensures { MatchOption
+        result
+        (command_of (bytes_of words.now.items) ≡ None)
+        (λ command. command_of (bytes_of words.now.items) ≡ Some (names_in command)) }
 {
     let [verb, first, query, second, fields, shard] = words.as_slice() else {
         return None;

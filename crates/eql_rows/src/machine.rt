@@ -212,7 +212,7 @@ fn note(played: &mut Played, tag: Option<u32>, answer: Option<Chain>) -> Result<
 }
 
 /// Reads all tags of sequences that ceased.
-fn read_ceased(machine: &mut Auto<u32>, ceased: &mut Vec<u32>) -> Result<(), Memory>
+fn read_ceased<L: Ledger>(machine: &mut Auto<u32, L>, ceased: &mut Vec<u32>) -> Result<(), Memory>
     ensures read { IfOk result (λ _. machine.new.gone ≡ []) }
     ensures slots { machine.new.slots ≡ machine.old.slots }
 {
@@ -225,7 +225,7 @@ fn read_ceased(machine: &mut Auto<u32>, ceased: &mut Vec<u32>) -> Result<(), Mem
 /// Plays one act, and reads the tags of the sequences that ceased.
 fn play_one<L: Ledger>(
     alloc: Global,
-    machine: &mut Auto<u32>,
+    machine: &mut Auto<u32, L>,
     act: Act,
     played: &mut Played,
     steps: &mut Steps<L>,
@@ -233,7 +233,8 @@ fn play_one<L: Ledger>(
     requires read { machine.old.gone ≡ [] }
     requires later { All (ComesAfter act.order) machine.old.slots }
     ensures read { IfOk result (λ _. machine.new.gone ≡ []) }
-    ensures later { (next : OrderKey) → order_cmp act.order next ≡ Less → IfOk result (λ _. All (ComesAfter next) machine.new.slots) }
+    ensures later { (next : OrderKey) → order_cmp act.order next ≡ Less
+        → IfOk result (λ _. All (ComesAfter next) machine.new.slots) }
 {
     machine.ready(alloc)?;
     let tag = tag_of(&act);
@@ -246,7 +247,7 @@ fn play_one<L: Ledger>(
 fn play<L: Ledger, R: Abort>(
     rt: &R,
     alloc: Global,
-    mut machine: Auto<u32>,
+    mut machine: Auto<u32, L>,
     acts: &[Act],
     steps: &mut Steps<L>,
 ) -> Result<(Played, StageChains), Fail>

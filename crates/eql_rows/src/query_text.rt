@@ -1,466 +1,228 @@
 //! Queries as they may be spelled, and what is told of texts that are no query or none that is searched.
-use crate::run::{FIND, Fault, Row, check, run, searched};
+use crate::run::{FOUR, ONE_PAIR, Parts, Row, check, events, found, refused, refuses_long};
 use std::test::Fail;
 
+/// A query that finds the one pair of the four events.
+fn spells(shows: &'static str, query: &'static [u8]) -> Row {
+    found(shows, query, events(FOUR), ONE_PAIR)
+}
+
+/// A query that is refused, over the four events.
+fn refuses(shows: &'static str, query: &'static [u8], err: &'static str) -> Row {
+    refused(shows, query, err).over(events(FOUR))
+}
+
+/// A query that isn't searched yet, over the four events.
+fn unbuilt(shows: &'static str, query: &'static [u8]) -> Row {
+    refuses(shows, query, "unbuilt: query\n")
+}
+
 /// One search, spelled in several ways.
-const SPELLINGS: &[Row] = &[
-    Row {
-        shows: "a tab between items",
-        words: FIND,
-        query: b"sequence [process where true]\t[file where true]",
-        fields: b"{}",
-        shard: b"{\"@timestamp\":1,\"event\":{\"category\":\"process\"}}\n{\"@timestamp\":2,\"event\":{\"category\":\"process\"}}\n{\"@timestamp\":3,\"event\":{\"category\":\"file\"}}\n{\"@timestamp\":4,\"event\":{\"category\":\"file\"}}\n",
-        fault: Fault::Nothing,
-        status: 0,
-        out: "1 [] 0:2 0:3\n",
-        err: "",
-    },
-    Row {
-        shows: "two blanks between items",
-        words: FIND,
-        query: b"sequence  [process  where true]  [file where  true]",
-        fields: b"{}",
-        shard: b"{\"@timestamp\":1,\"event\":{\"category\":\"process\"}}\n{\"@timestamp\":2,\"event\":{\"category\":\"process\"}}\n{\"@timestamp\":3,\"event\":{\"category\":\"file\"}}\n{\"@timestamp\":4,\"event\":{\"category\":\"file\"}}\n",
-        fault: Fault::Nothing,
-        status: 0,
-        out: "1 [] 0:2 0:3\n",
-        err: "",
-    },
-    Row {
-        shows: "no blanks at brackets",
-        words: FIND,
-        query: b"sequence[process where true][file where true]",
-        fields: b"{}",
-        shard: b"{\"@timestamp\":1,\"event\":{\"category\":\"process\"}}\n{\"@timestamp\":2,\"event\":{\"category\":\"process\"}}\n{\"@timestamp\":3,\"event\":{\"category\":\"file\"}}\n{\"@timestamp\":4,\"event\":{\"category\":\"file\"}}\n",
-        fault: Fault::Nothing,
-        status: 0,
-        out: "1 [] 0:2 0:3\n",
-        err: "",
-    },
-    Row {
-        shows: "lines, and two line feeds at the end",
-        words: FIND,
-        query: b"\nsequence\r\n  [process where true]\r\n  [file where true]\n\n",
-        fields: b"{}",
-        shard: b"{\"@timestamp\":1,\"event\":{\"category\":\"process\"}}\n{\"@timestamp\":2,\"event\":{\"category\":\"process\"}}\n{\"@timestamp\":3,\"event\":{\"category\":\"file\"}}\n{\"@timestamp\":4,\"event\":{\"category\":\"file\"}}\n",
-        fault: Fault::Nothing,
-        status: 0,
-        out: "1 [] 0:2 0:3\n",
-        err: "",
-    },
-    Row {
-        shows: "comments",
-        words: FIND,
-        query: b"sequence // two items\n[process where true] /* the second: */ [file where true]//",
-        fields: b"{}",
-        shard: b"{\"@timestamp\":1,\"event\":{\"category\":\"process\"}}\n{\"@timestamp\":2,\"event\":{\"category\":\"process\"}}\n{\"@timestamp\":3,\"event\":{\"category\":\"file\"}}\n{\"@timestamp\":4,\"event\":{\"category\":\"file\"}}\n",
-        fault: Fault::Nothing,
-        status: 0,
-        out: "1 [] 0:2 0:3\n",
-        err: "",
-    },
-    Row {
-        shows: "categories in quotes",
-        words: FIND,
-        query: b"sequence [\"process\" where true] [\"\"\"file\"\"\" where true]",
-        fields: b"{}",
-        shard: b"{\"@timestamp\":1,\"event\":{\"category\":\"process\"}}\n{\"@timestamp\":2,\"event\":{\"category\":\"process\"}}\n{\"@timestamp\":3,\"event\":{\"category\":\"file\"}}\n{\"@timestamp\":4,\"event\":{\"category\":\"file\"}}\n",
-        fault: Fault::Nothing,
-        status: 0,
-        out: "1 [] 0:2 0:3\n",
-        err: "",
-    },
-    Row {
-        shows: "a keyword in quotes is a category",
-        words: FIND,
-        query: b"sequence [\"until\" where true] [\"any\" where true]",
-        fields: b"{}",
-        shard: b"{\"@timestamp\":1,\"event\":{\"category\":\"until\"}}\n{\"@timestamp\":2,\"event\":{\"category\":\"file\"}}\n{\"@timestamp\":3,\"event\":{\"category\":\"any\"}}\n",
-        fault: Fault::Nothing,
-        status: 0,
-        out: "1 [] 0:1 0:3\n",
-        err: "",
-    },
-    Row {
-        shows: "the condition in parentheses",
-        words: FIND,
-        query: b"sequence [process where (true)] [file where ((true))]",
-        fields: b"{}",
-        shard: b"{\"@timestamp\":1,\"event\":{\"category\":\"process\"}}\n{\"@timestamp\":2,\"event\":{\"category\":\"process\"}}\n{\"@timestamp\":3,\"event\":{\"category\":\"file\"}}\n{\"@timestamp\":4,\"event\":{\"category\":\"file\"}}\n",
-        fault: Fault::Nothing,
-        status: 0,
-        out: "1 [] 0:2 0:3\n",
-        err: "",
-    },
-    Row {
-        shows: "one run, said",
-        words: FIND,
-        query: b"sequence [process where true] with runs=1 [file where true]",
-        fields: b"{}",
-        shard: b"{\"@timestamp\":1,\"event\":{\"category\":\"process\"}}\n{\"@timestamp\":2,\"event\":{\"category\":\"process\"}}\n{\"@timestamp\":3,\"event\":{\"category\":\"file\"}}\n{\"@timestamp\":4,\"event\":{\"category\":\"file\"}}\n",
-        fault: Fault::Nothing,
-        status: 0,
-        out: "1 [] 0:2 0:3\n",
-        err: "",
-    },
-];
+fn spellings() -> [Row; 9] {
+    [
+        spells(
+            "a tab between items",
+            b"sequence [process where true]\t[file where true]",
+        ),
+        spells(
+            "two blanks between items",
+            b"sequence  [process  where true]  [file where  true]",
+        ),
+        spells(
+            "no blanks at brackets",
+            b"sequence[process where true][file where true]",
+        ),
+        spells(
+            "lines, and two line feeds at the end",
+            b"\nsequence\r\n  [process where true]\r\n  [file where true]\n\n",
+        ),
+        spells(
+            "comments",
+            b"sequence // two items\n[process where true] /* the second: */ [file where true]//",
+        ),
+        spells(
+            "categories in quotes",
+            b"sequence [\"process\" where true] [\"\"\"file\"\"\" where true]",
+        ),
+        found(
+            "a keyword in quotes is a category",
+            b"sequence [\"until\" where true] [\"any\" where true]",
+            events("1 until, 2 file, 3 any"),
+            "1 [] 0:1 0:3\n",
+        ),
+        spells(
+            "the condition in parentheses",
+            b"sequence [process where (true)] [file where ((true))]",
+        ),
+        spells(
+            "one run, said",
+            b"sequence [process where true] with runs=1 [file where true]",
+        ),
+    ]
+}
 
 /// Texts that break a rule of tokens, each with the place, in bytes from 0.
-const BROKEN: &[Row] = &[
-    Row {
-        shows: "a string that is not closed",
-        words: FIND,
-        query: b"any where x == \"a",
-        fields: b"{}",
-        shard: b"{\"@timestamp\":1,\"event\":{\"category\":\"process\"}}\n{\"@timestamp\":2,\"event\":{\"category\":\"process\"}}\n{\"@timestamp\":3,\"event\":{\"category\":\"file\"}}\n{\"@timestamp\":4,\"event\":{\"category\":\"file\"}}\n",
-        fault: Fault::Nothing,
-        status: 3,
-        out: "",
-        err: "lex: OpenString at 15\n",
-    },
-    Row {
-        shows: "a fraction",
-        words: FIND,
-        query: b"process where process.pid == 1.5",
-        fields: b"{}",
-        shard: b"{\"@timestamp\":1,\"event\":{\"category\":\"process\"}}\n{\"@timestamp\":2,\"event\":{\"category\":\"process\"}}\n{\"@timestamp\":3,\"event\":{\"category\":\"file\"}}\n{\"@timestamp\":4,\"event\":{\"category\":\"file\"}}\n",
-        fault: Fault::Nothing,
-        status: 3,
-        out: "",
-        err: "lex: Fraction at 29\n",
-    },
-    Row {
-        shows: "a single quote",
-        words: FIND,
-        query: b"process where process.name == 'a'",
-        fields: b"{}",
-        shard: b"{\"@timestamp\":1,\"event\":{\"category\":\"process\"}}\n{\"@timestamp\":2,\"event\":{\"category\":\"process\"}}\n{\"@timestamp\":3,\"event\":{\"category\":\"file\"}}\n{\"@timestamp\":4,\"event\":{\"category\":\"file\"}}\n",
-        fault: Fault::Nothing,
-        status: 3,
-        out: "",
-        err: "lex: SingleQuote at 30\n",
-    },
-    Row {
-        shows: "a byte that begins no token",
-        words: FIND,
-        query: b"any where x == #",
-        fields: b"{}",
-        shard: b"{\"@timestamp\":1,\"event\":{\"category\":\"process\"}}\n{\"@timestamp\":2,\"event\":{\"category\":\"process\"}}\n{\"@timestamp\":3,\"event\":{\"category\":\"file\"}}\n{\"@timestamp\":4,\"event\":{\"category\":\"file\"}}\n",
-        fault: Fault::Nothing,
-        status: 3,
-        out: "",
-        err: "lex: BadByte at 15\n",
-    },
-    Row {
-        shows: "a backslash that begins no escape",
-        words: FIND,
-        query: b"any where x == \"\\q\"",
-        fields: b"{}",
-        shard: b"{\"@timestamp\":1,\"event\":{\"category\":\"process\"}}\n{\"@timestamp\":2,\"event\":{\"category\":\"process\"}}\n{\"@timestamp\":3,\"event\":{\"category\":\"file\"}}\n{\"@timestamp\":4,\"event\":{\"category\":\"file\"}}\n",
-        fault: Fault::Nothing,
-        status: 3,
-        out: "",
-        err: "lex: BadEscape at 16\n",
-    },
-    Row {
-        shows: "a number of 2^63",
-        words: FIND,
-        query: b"any where x == 9223372036854775808",
-        fields: b"{}",
-        shard: b"{\"@timestamp\":1,\"event\":{\"category\":\"process\"}}\n{\"@timestamp\":2,\"event\":{\"category\":\"process\"}}\n{\"@timestamp\":3,\"event\":{\"category\":\"file\"}}\n{\"@timestamp\":4,\"event\":{\"category\":\"file\"}}\n",
-        fault: Fault::Nothing,
-        status: 3,
-        out: "",
-        err: "lex: NumberRange at 15\n",
-    },
-    Row {
-        shows: "a comment that is not closed",
-        words: FIND,
-        query: b"any where true /* x",
-        fields: b"{}",
-        shard: b"{\"@timestamp\":1,\"event\":{\"category\":\"process\"}}\n{\"@timestamp\":2,\"event\":{\"category\":\"process\"}}\n{\"@timestamp\":3,\"event\":{\"category\":\"file\"}}\n{\"@timestamp\":4,\"event\":{\"category\":\"file\"}}\n",
-        fault: Fault::Nothing,
-        status: 3,
-        out: "",
-        err: "lex: OpenComment at 15\n",
-    },
-    Row {
-        shows: "a text that is not UTF-8",
-        words: FIND,
-        query: b"sequence [process where true] [fil\xff where true]",
-        fields: b"{}",
-        shard: b"{\"@timestamp\":1,\"event\":{\"category\":\"process\"}}\n{\"@timestamp\":2,\"event\":{\"category\":\"process\"}}\n{\"@timestamp\":3,\"event\":{\"category\":\"file\"}}\n{\"@timestamp\":4,\"event\":{\"category\":\"file\"}}\n",
-        fault: Fault::Nothing,
-        status: 3,
-        out: "",
-        err: "lex: NotUtf8\n",
-    },
-    Row {
-        shows: "tokens are told before the grammar",
-        words: FIND,
-        query: b"any any '",
-        fields: b"{}",
-        shard: b"{\"@timestamp\":1,\"event\":{\"category\":\"process\"}}\n{\"@timestamp\":2,\"event\":{\"category\":\"process\"}}\n{\"@timestamp\":3,\"event\":{\"category\":\"file\"}}\n{\"@timestamp\":4,\"event\":{\"category\":\"file\"}}\n",
-        fault: Fault::Nothing,
-        status: 3,
-        out: "",
-        err: "lex: SingleQuote at 8\n",
-    },
-];
+fn broken() -> [Row; 9] {
+    [
+        refuses(
+            "a string that is not closed",
+            b"any where x == \"a",
+            "lex: OpenString at 15\n",
+        ),
+        refuses(
+            "a fraction",
+            b"process where process.pid == 1.5",
+            "lex: Fraction at 29\n",
+        ),
+        refuses(
+            "a single quote",
+            b"process where process.name == 'a'",
+            "lex: SingleQuote at 30\n",
+        ),
+        refuses(
+            "a byte that begins no token",
+            b"any where x == #",
+            "lex: BadByte at 15\n",
+        ),
+        refuses(
+            "a backslash that begins no escape",
+            b"any where x == \"\\q\"",
+            "lex: BadEscape at 16\n",
+        ),
+        refuses(
+            "a number of 2^63",
+            b"any where x == 9223372036854775808",
+            "lex: NumberRange at 15\n",
+        ),
+        refuses(
+            "a comment that is not closed",
+            b"any where true /* x",
+            "lex: OpenComment at 15\n",
+        ),
+        refuses(
+            "a text that is not UTF-8",
+            b"sequence [process where true] [fil\xff where true]",
+            "lex: NotUtf8\n",
+        ),
+        refuses(
+            "tokens are told before the grammar",
+            b"any any '",
+            "lex: SingleQuote at 8\n",
+        ),
+    ]
+}
 
 /// Tokens that are no query, each with the place, in bytes from 0.
-const NO_QUERIES: &[Row] = &[
-    Row {
-        shows: "comparisons in a chain",
-        words: FIND,
-        query: b"any where a == b == c",
-        fields: b"{}",
-        shard: b"{\"@timestamp\":1,\"event\":{\"category\":\"process\"}}\n{\"@timestamp\":2,\"event\":{\"category\":\"process\"}}\n{\"@timestamp\":3,\"event\":{\"category\":\"file\"}}\n{\"@timestamp\":4,\"event\":{\"category\":\"file\"}}\n",
-        fault: Fault::Nothing,
-        status: 3,
-        out: "",
-        err: "parse: Syntax at 17\n",
-    },
-    Row {
-        shows: "a keyword as a category",
-        words: FIND,
-        query: b"sequence [process where true] [until where true]",
-        fields: b"{}",
-        shard: b"{\"@timestamp\":1,\"event\":{\"category\":\"process\"}}\n{\"@timestamp\":2,\"event\":{\"category\":\"process\"}}\n{\"@timestamp\":3,\"event\":{\"category\":\"file\"}}\n{\"@timestamp\":4,\"event\":{\"category\":\"file\"}}\n",
-        fault: Fault::Nothing,
-        status: 3,
-        out: "",
-        err: "parse: Syntax at 31\n",
-    },
-    Row {
-        shows: "an empty query",
-        words: FIND,
-        query: b"",
-        fields: b"{}",
-        shard: b"{\"@timestamp\":1,\"event\":{\"category\":\"process\"}}\n{\"@timestamp\":2,\"event\":{\"category\":\"process\"}}\n{\"@timestamp\":3,\"event\":{\"category\":\"file\"}}\n{\"@timestamp\":4,\"event\":{\"category\":\"file\"}}\n",
-        fault: Fault::Nothing,
-        status: 3,
-        out: "",
-        err: "parse: Syntax at 0\n",
-    },
-    Row {
-        shows: "an early end",
-        words: FIND,
-        query: b"any where ",
-        fields: b"{}",
-        shard: b"{\"@timestamp\":1,\"event\":{\"category\":\"process\"}}\n{\"@timestamp\":2,\"event\":{\"category\":\"process\"}}\n{\"@timestamp\":3,\"event\":{\"category\":\"file\"}}\n{\"@timestamp\":4,\"event\":{\"category\":\"file\"}}\n",
-        fault: Fault::Nothing,
-        status: 3,
-        out: "",
-        err: "parse: Syntax at 9\n",
-    },
-    Row {
-        shows: "the missing event",
-        words: FIND,
-        query: b"sequence [process where true] ![file where true]",
-        fields: b"{}",
-        shard: b"{\"@timestamp\":1,\"event\":{\"category\":\"process\"}}\n{\"@timestamp\":2,\"event\":{\"category\":\"process\"}}\n{\"@timestamp\":3,\"event\":{\"category\":\"file\"}}\n{\"@timestamp\":4,\"event\":{\"category\":\"file\"}}\n",
-        fault: Fault::Nothing,
-        status: 3,
-        out: "",
-        err: "parse: LeftOut ! at 30\n",
-    },
-    Row {
-        shows: "samples",
-        words: FIND,
-        query: b"sample by user.name [process where true]",
-        fields: b"{}",
-        shard: b"{\"@timestamp\":1,\"event\":{\"category\":\"process\"}}\n{\"@timestamp\":2,\"event\":{\"category\":\"process\"}}\n{\"@timestamp\":3,\"event\":{\"category\":\"file\"}}\n{\"@timestamp\":4,\"event\":{\"category\":\"file\"}}\n",
-        fault: Fault::Nothing,
-        status: 3,
-        out: "",
-        err: "parse: LeftOut sample at 0\n",
-    },
-    Row {
-        shows: "regular expressions",
-        words: FIND,
-        query: b"process where process.name regex \"a\"",
-        fields: b"{}",
-        shard: b"{\"@timestamp\":1,\"event\":{\"category\":\"process\"}}\n{\"@timestamp\":2,\"event\":{\"category\":\"process\"}}\n{\"@timestamp\":3,\"event\":{\"category\":\"file\"}}\n{\"@timestamp\":4,\"event\":{\"category\":\"file\"}}\n",
-        fault: Fault::Nothing,
-        status: 3,
-        out: "",
-        err: "parse: LeftOut regex at 27\n",
-    },
-    Row {
-        shows: "another pipe",
-        words: FIND,
-        query: b"any where true | count",
-        fields: b"{}",
-        shard: b"{\"@timestamp\":1,\"event\":{\"category\":\"process\"}}\n{\"@timestamp\":2,\"event\":{\"category\":\"process\"}}\n{\"@timestamp\":3,\"event\":{\"category\":\"file\"}}\n{\"@timestamp\":4,\"event\":{\"category\":\"file\"}}\n",
-        fault: Fault::Nothing,
-        status: 3,
-        out: "",
-        err: "parse: LeftOut count at 17\n",
-    },
-];
+fn no_queries() -> [Row; 8] {
+    [
+        refuses(
+            "comparisons in a chain",
+            b"any where a == b == c",
+            "parse: Syntax at 17\n",
+        ),
+        refuses(
+            "a keyword as a category",
+            b"sequence [process where true] [until where true]",
+            "parse: Syntax at 31\n",
+        ),
+        refuses("an empty query", b"", "parse: Syntax at 0\n"),
+        refuses("an early end", b"any where ", "parse: Syntax at 9\n"),
+        refuses(
+            "the missing event",
+            b"sequence [process where true] ![file where true]",
+            "parse: LeftOut ! at 30\n",
+        ),
+        refuses(
+            "samples",
+            b"sample by user.name [process where true]",
+            "parse: LeftOut sample at 0\n",
+        ),
+        refuses(
+            "regular expressions",
+            b"process where process.name regex \"a\"",
+            "parse: LeftOut regex at 27\n",
+        ),
+        refuses(
+            "another pipe",
+            b"any where true | count",
+            "parse: LeftOut count at 17\n",
+        ),
+    ]
+}
 
-/// Queries that are none that is searched yet.
-const UNBUILT: &[Row] = &[
-    Row {
-        shows: "keys of a sequence",
-        words: FIND,
-        query: b"sequence by user [process where true] [file where true]",
-        fields: b"{}",
-        shard: b"{\"@timestamp\":1,\"event\":{\"category\":\"process\"}}\n{\"@timestamp\":2,\"event\":{\"category\":\"process\"}}\n{\"@timestamp\":3,\"event\":{\"category\":\"file\"}}\n{\"@timestamp\":4,\"event\":{\"category\":\"file\"}}\n",
-        fault: Fault::Nothing,
-        status: 3,
-        out: "",
-        err: "unbuilt: query\n",
-    },
-    Row {
-        shows: "keys of an item",
-        words: FIND,
-        query: b"sequence [process where true] by user [file where true] by user",
-        fields: b"{}",
-        shard: b"{\"@timestamp\":1,\"event\":{\"category\":\"process\"}}\n{\"@timestamp\":2,\"event\":{\"category\":\"process\"}}\n{\"@timestamp\":3,\"event\":{\"category\":\"file\"}}\n{\"@timestamp\":4,\"event\":{\"category\":\"file\"}}\n",
-        fault: Fault::Nothing,
-        status: 3,
-        out: "",
-        err: "unbuilt: query\n",
-    },
-    Row {
-        shows: "a greatest span",
-        words: FIND,
-        query: b"sequence with maxspan=1m [process where true] [file where true]",
-        fields: b"{}",
-        shard: b"{\"@timestamp\":1,\"event\":{\"category\":\"process\"}}\n{\"@timestamp\":2,\"event\":{\"category\":\"process\"}}\n{\"@timestamp\":3,\"event\":{\"category\":\"file\"}}\n{\"@timestamp\":4,\"event\":{\"category\":\"file\"}}\n",
-        fault: Fault::Nothing,
-        status: 3,
-        out: "",
-        err: "unbuilt: query\n",
-    },
-    Row {
-        shows: "two runs",
-        words: FIND,
-        query: b"sequence [process where true] with runs=2 [file where true]",
-        fields: b"{}",
-        shard: b"{\"@timestamp\":1,\"event\":{\"category\":\"process\"}}\n{\"@timestamp\":2,\"event\":{\"category\":\"process\"}}\n{\"@timestamp\":3,\"event\":{\"category\":\"file\"}}\n{\"@timestamp\":4,\"event\":{\"category\":\"file\"}}\n",
-        fault: Fault::Nothing,
-        status: 3,
-        out: "",
-        err: "unbuilt: query\n",
-    },
-    Row {
-        shows: "an item that ends sequences",
-        words: FIND,
-        query: b"sequence [process where true] [file where true] until [any where true]",
-        fields: b"{}",
-        shard: b"{\"@timestamp\":1,\"event\":{\"category\":\"process\"}}\n{\"@timestamp\":2,\"event\":{\"category\":\"process\"}}\n{\"@timestamp\":3,\"event\":{\"category\":\"file\"}}\n{\"@timestamp\":4,\"event\":{\"category\":\"file\"}}\n",
-        fault: Fault::Nothing,
-        status: 3,
-        out: "",
-        err: "unbuilt: query\n",
-    },
-    Row {
-        shows: "a pipe",
-        words: FIND,
-        query: b"sequence [process where true] [file where true] | head 1",
-        fields: b"{}",
-        shard: b"{\"@timestamp\":1,\"event\":{\"category\":\"process\"}}\n{\"@timestamp\":2,\"event\":{\"category\":\"process\"}}\n{\"@timestamp\":3,\"event\":{\"category\":\"file\"}}\n{\"@timestamp\":4,\"event\":{\"category\":\"file\"}}\n",
-        fault: Fault::Nothing,
-        status: 3,
-        out: "",
-        err: "unbuilt: query\n",
-    },
-    Row {
-        shows: "another condition",
-        words: FIND,
-        query: b"sequence [process where true] [file where not false]",
-        fields: b"{}",
-        shard: b"{\"@timestamp\":1,\"event\":{\"category\":\"process\"}}\n{\"@timestamp\":2,\"event\":{\"category\":\"process\"}}\n{\"@timestamp\":3,\"event\":{\"category\":\"file\"}}\n{\"@timestamp\":4,\"event\":{\"category\":\"file\"}}\n",
-        fault: Fault::Nothing,
-        status: 3,
-        out: "",
-        err: "unbuilt: query\n",
-    },
+/// Queries that aren't searched yet.
+fn unbuilt_queries() -> [Row; 7] {
+    [
+        unbuilt(
+            "keys of a sequence",
+            b"sequence by user [process where true] [file where true]",
+        ),
+        unbuilt(
+            "keys of an item",
+            b"sequence [process where true] by user [file where true] by user",
+        ),
+        unbuilt(
+            "a greatest span",
+            b"sequence with maxspan=1m [process where true] [file where true]",
+        ),
+        unbuilt(
+            "two runs",
+            b"sequence [process where true] with runs=2 [file where true]",
+        ),
+        unbuilt(
+            "an item that ends sequences",
+            b"sequence [process where true] [file where true] until [any where true]",
+        ),
+        unbuilt(
+            "a pipe",
+            b"sequence [process where true] [file where true] | head 1",
+        ),
+        unbuilt(
+            "another condition",
+            b"sequence [process where true] [file where not false]",
+        ),
+    ]
+}
+
+/// Texts at the limits of length and depth, and what is told of them.
+const LIMITS: &[(Parts, &str)] = &[
+    // One byte more than 65,536 is refused by name, and one byte less is read: it has no tokens.
+    (&[(" ", 65_537)], "lex: TooLong\n"),
+    (&[(" ", 65_536)], "parse: Syntax at 0\n"),
+    // The level too many begins at the 65th `not`, which stands behind `any where ` and 64 of them.
+    (
+        &[("any where ", 1), ("not ", 65), ("true", 1)],
+        "parse: TooDeep at 266\n",
+    ),
+    // The parenthesis too many is the 129th.
+    (
+        &[
+            ("sequence [any where ", 1),
+            ("(", 129),
+            ("true", 1),
+            (")", 129),
+            ("] [any where true]", 1),
+        ],
+        "parse: TooDeep at 148\n",
+    ),
 ];
 
 #[test]
-fn spellings(rt: HostRuntime) -> Result<(), Fail> {
-    check(&rt, rt.alloc(), SPELLINGS)
+fn spelled_queries(rt: HostRuntime) -> Result<(), Fail> {
+    check(&rt, rt.alloc(), &spellings())
 }
 
 #[test]
-fn broken_texts(rt: HostRuntime) -> Result<(), Fail> {
-    check(&rt, rt.alloc(), BROKEN)
+fn refused_queries(rt: HostRuntime) -> Result<(), Fail> {
+    check(&rt, rt.alloc(), &broken())?;
+    check(&rt, rt.alloc(), &no_queries())?;
+    check(&rt, rt.alloc(), &unbuilt_queries())
 }
 
 #[test]
-fn no_queries(rt: HostRuntime) -> Result<(), Fail> {
-    check(&rt, rt.alloc(), NO_QUERIES)
-}
-
-#[test]
-fn unbuilt_queries(rt: HostRuntime) -> Result<(), Fail> {
-    check(&rt, rt.alloc(), UNBUILT)
-}
-
-/// A text of one byte more than 65,536 is refused by name, and one byte less is read.
-#[test]
-fn a_query_that_is_too_long(rt: HostRuntime) -> Result<(), Fail> {
-    let alloc = rt.alloc();
-    let text = Vec::from_elem(alloc, b' ', 65_537)?;
-    let ended = run(&rt, alloc, FIND, searched(alloc, &text)?, Fault::Nothing)?;
-    assert_eq!(rt; ended.status, 3);
-    assert_eq!(rt; ended.err.bytes().as_slice(), b"lex: TooLong\n".as_slice());
-    Ok(())
-}
-
-/// A text of 65,536 blanks has no tokens.
-#[test]
-fn a_query_of_blanks(rt: HostRuntime) -> Result<(), Fail> {
-    let alloc = rt.alloc();
-    let text = Vec::from_elem(alloc, b' ', 65_536)?;
-    let ended = run(&rt, alloc, FIND, searched(alloc, &text)?, Fault::Nothing)?;
-    assert_eq!(rt;
-        ended.err.bytes().as_slice(),
-        b"parse: Syntax at 0\n".as_slice()
-    );
-    Ok(())
-}
-
-/// The level too many begins at the 65th `not`, which stands behind `any where ` and 64 of them.
-#[test]
-fn a_condition_that_is_too_deep(rt: HostRuntime) -> Result<(), Fail> {
-    let alloc = rt.alloc();
-    let mut text = Vec::from_slice(alloc, b"any where ")?;
-    for _ in 0..65 {
-        text.extend_from_slice(b"not ")?;
+fn queries_at_the_limits(rt: HostRuntime) -> Result<(), Fail> {
+    for (query, told) in LIMITS {
+        refuses_long(&rt, rt.alloc(), query, &[], told)?;
     }
-    text.extend_from_slice(b"true")?;
-    let ended = run(&rt, alloc, FIND, searched(alloc, &text)?, Fault::Nothing)?;
-    assert_eq!(rt; ended.status, 3);
-    assert_eq!(rt;
-        ended.err.bytes().as_slice(),
-        b"parse: TooDeep at 266\n".as_slice()
-    );
-    Ok(())
-}
-
-/// The parenthesis too many is the 129th.
-#[test]
-fn too_many_parentheses(rt: HostRuntime) -> Result<(), Fail> {
-    let alloc = rt.alloc();
-    let mut text = Vec::from_slice(alloc, b"sequence [any where ")?;
-    for _ in 0..129 {
-        text.extend_from_slice(b"(")?;
-    }
-    text.extend_from_slice(b"true")?;
-    for _ in 0..129 {
-        text.extend_from_slice(b")")?;
-    }
-    text.extend_from_slice(b"] [any where true]")?;
-    let ended = run(&rt, alloc, FIND, searched(alloc, &text)?, Fault::Nothing)?;
-    assert_eq!(rt; ended.status, 3);
-    assert_eq!(rt;
-        ended.err.bytes().as_slice(),
-        b"parse: TooDeep at 148\n".as_slice()
-    );
     Ok(())
 }

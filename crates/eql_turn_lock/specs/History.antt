@@ -23,4 +23,5 @@ module _ {O R : Type 0} where
     -- the entries are a run of one value from its opening state to its final one
     abbrev pub IsLegal : T → List (Entry O R) → T → Type 0
     IsLegal opening [] final = opening ≡ final
-    IsLegal opening (e ∷ es) final = (after : T) × step_of opening e.op e.reply after × IsLegal after es final
+    IsLegal opening (e ∷ es) final =
+        (after : T) × step_of opening e.op e.reply after × IsLegal after es final

@@ -8,13 +8,16 @@ use Rattle.eql_turn_lock.specs.declared.view.View.{View}
 use Rattle.eql_turn_lock.specs.History.{StartsWith, calls_by, OthersOpen, IsLegal}
 
 module _ {O R : Type 0} where
-  -- Of a pass that was joined in, the entries are those that the list has under its number. What it had seen begins the list, and so does what the first pass had seen by then.
+  -- Of a pass that was joined in, the entries are those that the list has under its number. What it
+  -- had seen begins the list, and so does what the first pass had seen by then.
   abbrev pub EndedIn : List (Entry O R) → Ended O R → Type 0
-  EndedIn entries e = (calls_by e.number entries ≡ e.mine) × StartsWith entries e.seen × StartsWith entries e.before
+  EndedIn entries e =
+      (calls_by e.number entries ≡ e.mine) × StartsWith entries e.seen × StartsWith entries e.before
 
   -- one of the passes that were joined in has this number
   abbrev pub HasEnded : ℕ → List (Ended O R) → Type 0
-  HasEnded number ended = (k : ℕ) × (e : Ended O R) × (get_elem? ended k ≡ some e) × (e.number ≡ number)
+  HasEnded number ended =
+      (k : ℕ) × (e : Ended O R) × (get_elem? ended k ≡ some e) × (e.number ≡ number)
 
   -- no number stands twice
   abbrev pub AreDistinct : List (Ended O R) → Type 0
@@ -26,7 +29,17 @@ module _ {O R : Type 0} where
 module _ {T O R : Type 0} where
   -- the first pass of a new lock
   abbrev pub first_view : T → View T O R
-  first_view opening = record { number = 0; opening = Some opening; seen = []; mine = []; looked = []; made = 0; ended = []; turn = None }
+  first_view opening =
+      record {
+        number = 0;
+        opening = Some opening;
+        seen = [];
+        mine = [];
+        looked = [];
+        made = 0;
+        ended = [];
+        turn = None;
+      }
 
   -- the first pass after a split
   abbrev pub split_view : View T O R → View T O R
@@ -34,26 +47,56 @@ module _ {T O R : Type 0} where
 
   -- the pass that is split off the first one
   abbrev pub new_view : View T O R → View T O R
-  new_view v = record { number = v.made + 1; opening = v.opening; seen = v.seen; mine = []; looked = []; made = 0; ended = []; turn = None }
+  new_view v =
+      record {
+        number = v.made + 1;
+        opening = v.opening;
+        seen = v.seen;
+        mine = [];
+        looked = [];
+        made = 0;
+        ended = [];
+        turn = None;
+      }
 
   -- what the first pass keeps of another
   abbrev pub ended_of : View T O R → View T O R → Ended O R
-  ended_of v other = record { number = other.number; mine = other.mine; looked = other.looked; seen = other.seen; before = v.seen }
+  ended_of v other =
+      record {
+        number = other.number;
+        mine = other.mine;
+        looked = other.looked;
+        seen = other.seen;
+        before = v.seen;
+      }
 
   -- the first pass after it took another in
   abbrev pub joined_view : View T O R → View T O R → View T O R
-  joined_view v other = record v { seen = longer v.seen other.seen; ended = v.ended ++ ended_of v other ∷ [] }
+  joined_view v other =
+      record v { seen = longer v.seen other.seen; ended = v.ended ++ ended_of v other ∷ [] }
 
   -- what is left of a pass that was joined in
   abbrev pub spent_view : View T O R
-  spent_view = record { number = 0; opening = None; seen = []; mine = []; looked = []; made = 0; ended = []; turn = None }
+  spent_view =
+      record {
+        number = 0;
+        opening = None;
+        seen = [];
+        mine = [];
+        looked = [];
+        made = 0;
+        ended = [];
+        turn = None;
+      }
 
   -- the pass wasn't joined in
   abbrev pub is_live : View T O R → Bool
   is_live v = is_some v.opening
 
--- What a pass has seen is a legal history from the value at `make`. Its own entries there are those that it made, each once, in order.
-pub record KnowsHistory {T O R : Type 0} (step_of : T → O → R → T → Type 0) (is_open : O → Bool) (v : View T O R) : Type 0 where
+-- What a pass has seen is a legal history from the value at `make`. Its own entries there are those
+-- that it made, each once, in order.
+pub record KnowsHistory {T O R : Type 0} (step_of : T → O → R → T → Type 0) (is_open : O → Bool)
+    (v : View T O R) : Type 0 where
   pub opening : T
   pub opened : v.opening ≡ Some opening
   -- a state to which the history leads

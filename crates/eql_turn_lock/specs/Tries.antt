@@ -1,7 +1,8 @@
 -- Tries of a call that took no turn, and the words that they met.
 use Rattle.std.specs.Prelude.{◌≡◌, ◌≢◌, ℕ, ◌≤◌, ◌<◌, ◌^◌, ◌%◌, List, [], ◌∷◌, ◌++◌, All}
 
--- A try that took no turn: the turn was held at the word that it loaded, or the word moved, and the exchange found another one.
+-- A try that took no turn: the turn was held at the word that it loaded, or the word moved, and the
+-- exchange found another one.
 pub data LostTry : Type 0 where
   held : (loaded : ℕ) → LostTry
   moved : (loaded found : ℕ) → LostTry
@@ -17,10 +18,16 @@ words_of [] = []
 words_of (held loaded ∷ tries) = loaded ∷ words_of tries
 words_of (moved loaded found ∷ tries) = loaded ∷ found ∷ words_of tries
 
--- Words tell which of them were loaded: in one way at most are they those of lost tries, and then a loaded word of at least 2^63.
+-- Words tell which of them were loaded: in one way at most are they those of lost tries, and then a
+-- loaded word of at least 2^63.
 abbrev pub OneReading : Type 0
-OneReading = (tries others : List LostTry) (word other : ℕ) → All IsLost tries → All IsLost others → 2 ^ 63 ≤ word → 2 ^ 63 ≤ other → words_of tries ++ word ∷ [] ≡ words_of others ++ other ∷ [] → (tries ≡ others) × (word ≡ other)
+OneReading =
+    (tries others : List LostTry) (word other : ℕ) → All IsLost tries → All IsLost others
+    → 2 ^ 63 ≤ word → 2 ^ 63 ≤ other → words_of tries ++ word ∷ [] ≡ words_of others ++ other ∷ []
+    → (tries ≡ others) × (word ≡ other)
 
 -- The words of lost tries alone can't be read so, whatever word the last exchange found.
 abbrev pub FoundIsNotLoaded : Type 0
-FoundIsNotLoaded = (tries others : List LostTry) (word : ℕ) → All IsLost tries → All IsLost others → 2 ^ 63 ≤ word → words_of tries ≢ words_of others ++ word ∷ []
+FoundIsNotLoaded =
+    (tries others : List LostTry) (word : ℕ) → All IsLost tries → All IsLost others → 2 ^ 63 ≤ word
+    → words_of tries ≢ words_of others ++ word ∷ []

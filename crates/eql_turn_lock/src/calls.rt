@@ -91,7 +91,8 @@ impl<T: Turned> TurnLock<T> {
         requires may { MayPlay T.allows T.step_of T.is_open seat.old.me.0 op }
         requires small { word < 2 ^ 63 }
         ensures own { (seat.new.table_id ≡ seat.old.table_id) × (seat.new.id ≡ seat.old.id) }
-        ensures idle { (seat.new.me.1 ≡ []) × (seat.new.me.0.turn ≡ None) × (is_live seat.new.me.0 ≡ true) }
+        ensures idle { (seat.new.me.1 ≡ []) × (seat.new.me.0.turn ≡ None)
+            × (is_live seat.new.me.0 ≡ true) }
         ensures played { PlaysLooking [] T.step_of T.is_open seat.old.me.0 op result seat.new.me.0 }
         ensures counted { word + 2 ≡ 2 * length seat.new.me.0.seen }
     {

@@ -11,4 +11,5 @@ MeetingReply Leave reply = reply ≡ true
 
 -- one operation more was played
 abbrev pub meeting_step : Meeting → MeetingOp → Bool → Meeting → Type 0
-meeting_step x op reply y = MeetingReply op reply × (x.played + 1 < 2 ^ 32 → y.played ≡ x.played + 1)
+meeting_step x op reply y =
+    MeetingReply op reply × (x.played + 1 < 2 ^ 32 → y.played ≡ x.played + 1)

@@ -27,10 +27,15 @@ tray_open Take = true
 abbrev pub SameRoom : Tray → Tray → Type 0
 SameRoom x y = deque_capacity y.letters ≡ deque_capacity x.letters
 
--- A letter that is delivered is the last one. The first one is taken, and none only where there is none.
+-- A letter that is delivered is the last one. The first one is taken, and none only where there is
+-- none.
 abbrev pub tray_step : Tray → TrayOp → TrayReply → Tray → Type 0
-tray_step x (Deliver letter) Delivered y = (y.letters.items ≡ x.letters.items ++ letter ∷ []) × SameRoom x y
-tray_step x Take (Taken letter) y = (x.letters.items ≡ option_to_list letter ++ y.letters.items) × (letter ≡ None → deque_len x.letters ≡ 0) × (deque_len y.letters ≤ deque_len x.letters) × SameRoom x y
+tray_step x (Deliver letter) Delivered y =
+    (y.letters.items ≡ x.letters.items ++ letter ∷ []) × SameRoom x y
+tray_step x Take (Taken letter) y =
+    (x.letters.items ≡ option_to_list letter ++ y.letters.items)
+    × (letter ≡ None → deque_len x.letters ≡ 0) × (deque_len y.letters ≤ deque_len x.letters)
+    × SameRoom x y
 tray_step x (Deliver letter) (Taken taken) y = ⊥
 tray_step x Take Delivered y = ⊥
 
@@ -38,10 +43,14 @@ pub tray_opens : (x : Tray) (op : TrayOp) → tray_open op ≡ true → tray_all
 tray_opens x (Deliver letter) open_is = absurd (true≢false (sym open_is))
 tray_opens x Take open_is = tt
 
-pub tray_stays_allowed : (x y : Tray) (op later : TrayOp) (reply : TrayReply) → tray_open op ≡ true → tray_step x op reply y → tray_allows x later → tray_allows y later
-tray_stays_allowed x y (Deliver letter) later reply open_is step may = absurd (true≢false (sym open_is))
+pub tray_stays_allowed :
+    (x y : Tray) (op later : TrayOp) (reply : TrayReply) → tray_open op ≡ true
+    → tray_step x op reply y → tray_allows x later → tray_allows y later
+tray_stays_allowed x y (Deliver letter) later reply open_is step may =
+    absurd (true≢false (sym open_is))
 tray_stays_allowed x y Take Take reply open_is step may = tt
-tray_stays_allowed x y Take (Deliver letter) (Taken taken) open_is step may = subst (λ (n : ℕ). deque_len y.letters < n) (sym step.3) (lt_of_le_of_lt step.2 may)
+tray_stays_allowed x y Take (Deliver letter) (Taken taken) open_is step may =
+    subst (λ (n : ℕ). deque_len y.letters < n) (sym step.3) (lt_of_le_of_lt step.2 may)
 tray_stays_allowed x y Take (Deliver letter) Delivered open_is step may = absurd step
 
 -- the pass has the number that it had, and split off and took in no other
@@ -68,10 +77,18 @@ abbrev pub taken : List (Entry TrayOp TrayReply) → List ℕ
 taken [] = []
 taken (e ∷ es) = letters_out e.reply ++ taken es
 
--- Every letter that the first pass delivered was taken out in the one history or is still in the tray, in order. So none is lost because someone held the turn.
+-- Every letter that the first pass delivered was taken out in the one history or is still in the
+-- tray, in order. So none is lost because someone held the turn.
 abbrev pub NothingLost : View Tray TrayOp TrayReply → Tray → Type 0
-NothingLost v tray = (log : List (Entry TrayOp TrayReply)) × (opening : Tray) × (v.opening ≡ Some opening) × StartsWith log v.seen × (opening.letters.items ++ delivered v.mine ≡ taken log ++ tray.letters.items)
+NothingLost v tray =
+    (log : List (Entry TrayOp TrayReply)) × (opening : Tray) × (v.opening ≡ Some opening)
+    × StartsWith log v.seen
+    × (opening.letters.items ++ delivered v.mine ≡ taken log ++ tray.letters.items)
 
--- The tray has room for a letter more than the first pass delivered, once those are out that the other pass saw go out.
+-- The tray has room for a letter more than the first pass delivered, once those are out that the
+-- other pass saw go out.
 abbrev pub SawRoom : View Tray TrayOp TrayReply → View Tray TrayOp TrayReply → Type 0
-SawRoom first other = (opening : Tray) → first.opening ≡ Some opening → length opening.letters.items + length (delivered first.mine) < deque_capacity opening.letters + length (taken other.seen)
+SawRoom first other =
+    (opening : Tray) → first.opening ≡ Some opening
+    → length opening.letters.items + length (delivered first.mine) < deque_capacity opening.letters
+    + length (taken other.seen)

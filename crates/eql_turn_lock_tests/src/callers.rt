@@ -16,11 +16,13 @@ pub fn deliver(
     letter: u32,
 ) -> Result<TrayReply, NotNow<TrayOp>>
     requires own { IsPassOf lock.now pass.old }
-    requires may { MayPlay tray_allows tray_step tray_open (view_of pass.old) (TrayOp.Deliver letter) }
+    requires may { MayPlay tray_allows tray_step tray_open (view_of pass.old)
+        (TrayOp.Deliver letter) }
     ensures own { IsPassOf lock.now pass.new }
     ensures played { MatchResult
         result
-        (λ reply. PlaysOnce tray_step tray_open (view_of pass.old) (TrayOp.Deliver letter) reply (view_of pass.new))
+        (λ reply. PlaysOnce tray_step tray_open
+        (view_of pass.old) (TrayOp.Deliver letter) reply (view_of pass.new))
         (λ refused. Refuses (view_of pass.old) (TrayOp.Deliver letter) refused (view_of pass.new)) }
 {
     lock.try_call(pass, TrayOp::Deliver { letter })
@@ -32,7 +34,8 @@ pub fn take(lock: &TurnLock<Tray>, pass: &mut Pass<Tray>) -> Result<TrayReply, N
     ensures own { IsPassOf lock.now pass.new }
     ensures played { MatchResult
         result
-        (λ reply. PlaysOnce tray_step tray_open (view_of pass.old) TrayOp.Take reply (view_of pass.new))
+        (λ reply. PlaysOnce tray_step tray_open
+        (view_of pass.old) TrayOp.Take reply (view_of pass.new))
         (λ refused. Refuses (view_of pass.old) TrayOp.Take refused (view_of pass.new)) }
 {
     lock.try_call(pass, TrayOp::Take)
@@ -46,12 +49,15 @@ pub fn deliver_waiting<R: Wait>(
     letter: u32,
 ) -> Result<TrayReply, NotNow<TrayOp>>
     requires own { IsPassOf lock.now pass.old }
-    requires may { MayPlay tray_allows tray_step tray_open (view_of pass.old) (TrayOp.Deliver letter) }
+    requires may { MayPlay tray_allows tray_step tray_open (view_of pass.old)
+        (TrayOp.Deliver letter) }
     ensures own { IsPassOf lock.now pass.new }
     ensures played { MatchResult
         result
-        (λ reply. Plays tray_step tray_open (view_of pass.old) (TrayOp.Deliver letter) reply (view_of pass.new))
-        (λ refused. RefusesWorn (view_of pass.old) (TrayOp.Deliver letter) refused (view_of pass.new)) }
+        (λ reply. Plays tray_step tray_open
+        (view_of pass.old) (TrayOp.Deliver letter) reply (view_of pass.new))
+        (λ refused. RefusesWorn
+        (view_of pass.old) (TrayOp.Deliver letter) refused (view_of pass.new)) }
 {
     lock.call(rt, pass, TrayOp::Deliver { letter })
 }
@@ -72,8 +78,12 @@ pub fn deliver_after(
     ensures own { IsPassOf lock.now first.new }
     ensures played { MatchResult
         result
-        (λ reply. PlaysOnce tray_step tray_open (joined_view (view_of first.old) (view_of other)) (TrayOp.Deliver letter) reply (view_of first.new))
-        (λ refused. Refuses (joined_view (view_of first.old) (view_of other)) (TrayOp.Deliver letter) refused (view_of first.new)) }
+        (λ reply. PlaysOnce tray_step tray_open
+        (joined_view (view_of first.old) (view_of other))
+        (TrayOp.Deliver letter) reply (view_of first.new))
+        (λ refused. Refuses
+        (joined_view (view_of first.old) (view_of other))
+        (TrayOp.Deliver letter) refused (view_of first.new)) }
 {
     lock.join(first, other);
     lock.try_call(first, TrayOp::Deliver { letter })

@@ -132,8 +132,10 @@ fn a_held_lock_turns_callers_away(rt: HostRuntime) -> Result<(), Fail> {
     let ((is_seen, mut first), (is_busy, other)) = thread::join(
         &rt,
         || -> (bool, Pass<Meeting>)
-            requires { IsPassOf shared.now first × ((view_of first).number ≡ 0) × ((view_of first).made ≡ 1) × ((view_of first).ended ≡ []) }
-            ensures { IsPassOf shared.entry.now result.1 × IsSamePass (view_of first) (view_of result.1) }
+            requires { IsPassOf shared.now first × ((view_of first).number ≡ 0)
+                × ((view_of first).made ≡ 1) × ((view_of first).ended ≡ []) }
+            ensures { IsPassOf shared.entry.now result.1
+                × IsSamePass (view_of first) (view_of result.1) }
         { comes_first(shared, first) },
         || -> (bool, Pass<Meeting>)
             requires { IsPassOf shared.now other }

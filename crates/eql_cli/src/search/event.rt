@@ -6,7 +6,7 @@ use eql_parser::{Term, Terms};
 use eql_values::{OrderKey, Text};
 
 /// An event, with the stages that its category fits.
-#[derive(Clone, Copy, Debug)]
+#[derive(Clone, Copy)]
 pub(crate) struct Event {
     /// The event's place in the order.
     pub(crate) order: OrderKey,

@@ -1,10 +1,10 @@
 //! The search over sorted events: each event is played on the slots, and what it completes is printed.
 ghost use Rattle.std.specs.Prelude.{◌≡◌, ◌+◌, ◌≤◌, ◌<◌, ◌^◌, ◌++◌, Err, IfErr, IsOk, IsErr, length, map, string_bytes};
 ghost use Rattle.eql_outside.specs.Outside.{Rose};
-ghost use Rattle.eql_cli.specs.FirstSearch.{WroteWhole};
+ghost use Rattle.eql_outside.specs.Written.{WroteAll, WroteFront, WroteBut};
 ghost use Rattle.eql_cli.specs.Events.{item_of};
-ghost use Rattle.eql_cli.specs.Moves.{completed, HaveMoved, LastIsEmpty};
-ghost use Rattle.eql_cli.specs.Pages.{line_of, next_number, listing_of, Printed, PrintedPart, IsRefusal};
+ghost use Rattle.eql_cli.specs.Moves.{completed_chain, HaveMoved, LastIsEmpty};
+ghost use Rattle.eql_cli.specs.Pages.{line_of, next_number, listing_of, IsRefusal};
 
 use crate::search::Stop;
 use crate::search::event::Event;
@@ -28,12 +28,15 @@ fn play<K: Sink>(
     ensures moved { IsOk result → HaveMoved slots.old slots.new event.now }
     ensures last { IsOk result → LastIsEmpty slots.new }
     ensures number { IsOk result
-        → page.new.number ≡ next_number page.old.number (completed slots.old event.now) }
-    ensures printed { IsOk result → let line = line_of page.old.number (completed slots.old event.now) in
-        Printed (K.written out.old) (K.written out.new)
-        (string_bytes page.old.waiting) (string_bytes page.new.waiting) line }
-    ensures part { IsErr result → let line = line_of page.old.number (completed slots.old event.now) in
-        PrintedPart (K.written out.old) (K.written out.new) (string_bytes page.old.waiting ++ line) }
+        → page.new.number ≡ next_number page.old.number (completed_chain slots.old event.now) }
+    ensures printed { IsOk result
+        → let line = line_of page.old.number (completed_chain slots.old event.now) in
+        WroteBut (string_bytes page.new.waiting) (string_bytes page.old.waiting ++ line)
+        (K.written out.old) (K.written out.new) }
+    ensures part { IsErr result
+        → let line = line_of page.old.number (completed_chain slots.old event.now) in
+        WroteFront (string_bytes page.old.waiting ++ line)
+        (K.written out.old) (K.written out.new) }
     ensures refusal { IfErr result IsRefusal }
     ensures cause { result ≡ Err Stop.Write
         → Rose (K.fault_count out.old) (K.fault_count out.new) }
@@ -55,9 +58,9 @@ pub(crate) fn print_matches<K: Sink>(
     requires some { 1 ≤ stages }
     requires few { stages ≤ 8 }
     ensures whole { IsOk result → let list = listing_of stages (map item_of events.now) in
-        WroteWhole list (K.written out.old) (K.written out.new) }
+        WroteAll list (K.written out.old) (K.written out.new) }
     ensures part { IsErr result → let list = listing_of stages (map item_of events.now) in
-        PrintedPart (K.written out.old) (K.written out.new) list }
+        WroteFront list (K.written out.old) (K.written out.new) }
     ensures refusal { IfErr result IsRefusal }
     ensures cause { result ≡ Err Stop.Write
         → Rose (K.fault_count out.old) (K.fault_count out.new) }

@@ -2,8 +2,9 @@
 ghost use Rattle.std.specs.Prelude.{◌≡◌, ◌+◌, ◌≤◌, ◌<◌, ◌^◌, ◌++◌, [], Ok, Err, IfErr, OnOk, OnErr, IsOk, IsErr, false, length, string_bytes};
 ghost use Rattle.std.specs.List.{flat_map};
 ghost use Rattle.eql_outside.specs.Outside.{Rose};
+ghost use Rattle.eql_outside.specs.Written.{WroteFront, WroteBut};
 ghost use Rattle.eql_cli.specs.Listing.{event_text};
-ghost use Rattle.eql_cli.specs.Pages.{line_of, Printed, PrintedPart, IsRefusal};
+ghost use Rattle.eql_cli.specs.Pages.{line_of, IsRefusal};
 
 use crate::search::Stop;
 use crate::search::slots::Pending;
@@ -45,10 +46,11 @@ impl Page {
         requires { self.old.number + 1 < 2 ^ 64 }
         ensures number { IsOk result → self.new.number ≡ self.old.number + 1 }
         ensures printed { IsOk result → let line = line_of self.old.number (Some found.now) in
-            Printed (K.written out.old) (K.written out.new)
-            (string_bytes self.old.waiting) (string_bytes self.new.waiting) line }
+            WroteBut (string_bytes self.new.waiting) (string_bytes self.old.waiting ++ line)
+            (K.written out.old) (K.written out.new) }
         ensures part { IsErr result → let line = line_of self.old.number (Some found.now) in
-            PrintedPart (K.written out.old) (K.written out.new) (string_bytes self.old.waiting ++ line) }
+            WroteFront (string_bytes self.old.waiting ++ line)
+            (K.written out.old) (K.written out.new) }
         ensures refusal { IfErr result IsRefusal }
         ensures cause { result ≡ Err Stop.Write
             → Rose (K.fault_count out.old) (K.fault_count out.new) }
@@ -66,10 +68,11 @@ impl Page {
     pub(crate) fn send<K: Sink>(&mut self, alloc: Global, out: &mut K) -> Result<(), Stop>
         ensures number { self.new.number ≡ self.old.number }
         ensures empty { IsOk result → string_bytes self.new.waiting ≡ [] }
-        ensures printed { IsOk result → Printed (K.written out.old) (K.written out.new)
-            (string_bytes self.old.waiting) (string_bytes self.new.waiting) [] }
+        ensures printed { IsOk result
+            → WroteBut (string_bytes self.new.waiting) (string_bytes self.old.waiting ++ [])
+            (K.written out.old) (K.written out.new) }
         ensures part { IsErr result
-            → PrintedPart (K.written out.old) (K.written out.new) (string_bytes self.old.waiting) }
+            → WroteFront (string_bytes self.old.waiting) (K.written out.old) (K.written out.new) }
         ensures refusal { IfErr result IsRefusal }
         ensures cause { result ≡ Err Stop.Write
             → Rose (K.fault_count out.old) (K.fault_count out.new) }
@@ -102,7 +105,8 @@ fn print_event(waiting: &mut String, event: &OrderKey) -> Result<(), AllocError>
 /// Prints the events of a match.
 fn print_events(waiting: &mut String, events: &[OrderKey]) -> Result<(), AllocError>
     ensures { OnOk result
-        (string_bytes waiting.new ≡ string_bytes waiting.old ++ flat_map (event_text false) events.now) }
+        (string_bytes waiting.new
+        ≡ string_bytes waiting.old ++ flat_map (event_text false) events.now) }
 {
     for event in events {
         print_event(waiting, event)?;

@@ -2,9 +2,9 @@
 ghost use Rattle.std.specs.Prelude.{◌≡◌, ◌+◌, ◌≤◌, ◌<◌, ◌++◌, ◌∷◌, ◌==◌, ℕ, [], if◌then◌else◌, IfOk, OnOk, None, length, vec_len};
 ghost use Rattle.eql_values.specs.Chains.{fits_after};
 ghost use Rattle.eql_values.specs.Ordered.{found_or};
-ghost use Rattle.eql_laws.specs.Slots.{moved};
+ghost use Rattle.eql_laws.specs.Slots.{chain_moved_on};
 ghost use Rattle.eql_cli.specs.Events.{act_of};
-ghost use Rattle.eql_cli.specs.Moves.{slot_at, brought, staged, completed, HaveMoved, LastIsEmpty};
+ghost use Rattle.eql_cli.specs.Moves.{slot_at, chain_brought, slots_after_stage, completed_chain, HaveMoved, LastIsEmpty};
 
 use crate::search::event::Event;
 use eql_values::OrderKey;
@@ -12,7 +12,7 @@ use std::alloc::{AllocError, Global};
 use std::marker::Model;
 
 /// A pending sequence: its events, one for each stage up to its own.
-#[derive(Debug, Drop)]
+#[derive(Drop)]
 pub(crate) struct Pending {
     events: Vec<OrderKey>,
 }
@@ -72,8 +72,8 @@ fn fits(event: &Event, k: usize) -> bool
 }
 
 /// Moves the sequence of a slot on by an event, if there is one.
-fn moved_on(held: Option<Pending>, event: &Event) -> Result<Option<Pending>, AllocError>
-    ensures { IfOk result (λ found. found ≡ moved None held (act_of event.now)) }
+fn move_on(held: Option<Pending>, event: &Event) -> Result<Option<Pending>, AllocError>
+    ensures { IfOk result (λ found. found ≡ chain_moved_on None held (act_of event.now)) }
 {
     match held {
         None => Ok(None),
@@ -93,7 +93,8 @@ fn bring(
     event: &Event,
 ) -> Result<Option<Pending>, AllocError>
     requires { k < length slots.old }
-    ensures came { IfOk result (λ came. came ≡ brought (act_of event.now) k (slot_at slots.old)) }
+    ensures came { IfOk result
+        (λ came. came ≡ chain_brought (act_of event.now) k (slot_at slots.old)) }
     ensures left { (j : ℕ) → slot_at slots.new j ≡ (if j == k then None else slot_at slots.old j) }
 {
     if k == 0 {
@@ -101,7 +102,7 @@ fn bring(
         pending.push(event.order)?;
         return Ok(Some(pending));
     }
-    moved_on(slots[k - 1].take(), event)
+    move_on(slots[k - 1].take(), event)
 }
 
 /// Puts a sequence into a slot, if there is one. An older one there is dropped.
@@ -125,7 +126,7 @@ fn play_stage(
     requires room { k < length slots.old }
     requires few { k < 8 }
     ensures { OnOk result ((j : ℕ) → slot_at slots.new j
-        ≡ staged (act_of event.now) k (slot_at slots.old) j) }
+        ≡ slots_after_stage (act_of event.now) k (slot_at slots.old) j) }
 {
     if !fits(event, k) {
         return Ok(());
@@ -145,7 +146,7 @@ pub(crate) fn turn(
     requires few { length slots.old ≤ 8 }
     requires last { LastIsEmpty slots.old }
     ensures moved { OnOk result (HaveMoved slots.old slots.new event.now) }
-    ensures done { IfOk result (λ found. found ≡ completed slots.old event.now) }
+    ensures done { IfOk result (λ found. found ≡ completed_chain slots.old event.now) }
     ensures last { OnOk result (LastIsEmpty slots.new) }
 {
     for k in (0..slots.len()).rev() {

@@ -1,7 +1,7 @@
 use Rattle.std.proofs.Common.{◌≡◌, ℕ, List, [], length, get_or, None, true, Option, refl, sym, ap, ◌∙◌, subst, arith}
 use Rattle.std.specs.Prelude.{string_bytes}
 use Rattle.eql_values.specs.declared.order.OrderKey.{OrderKey}
-use Rattle.eql_cli.specs.Moves.{slot_at, completed}
+use Rattle.eql_cli.specs.Moves.{slot_at, completed_chain}
 use Rattle.eql_cli.proofs.ListingSteps.{SoFar, so_far_start, so_far_played, so_far_refused, so_far_done, so_far_end, so_far_part_end, next_number-le, no_event}
 use Rattle.eql_cli.proofs.search.matching.print_matches.Goals as goal
 
@@ -43,7 +43,7 @@ loop-event-preserved g c =
         arith,
         number,
         loop.invariant.number,
-        next_number-le loop.page.number (completed loop.slots (get_or c.args.events.now loop.event-index no_event)),
+        next_number-le loop.page.number (completed_chain loop.slots (get_or c.args.events.now loop.event-index no_event)),
       );
       counts = omega (arith, loop.invariant.counts, c.play.ensures.counts);
       so_far = so_far_played c.args.stages loop.event-index c.args.events.now no_event loop.slots c.play.new.slots loop.page.number c.play.new.page.number
