@@ -1,0 +1,13 @@
+-- Events of one line after another, as the tests play them.
+use Rattle.std.specs.Prelude.{◌≤◌, ℕ, pos, List, Option, None}
+use Rattle.std.specs.List.{All}
+use Rattle.eql_values.specs.declared.order.OrderKey.{OrderKey}
+use Rattle.eql_auto.specs.Machine.{Sequence, ComesAfter}
+
+-- the event of a line, at as many nanoseconds
+abbrev pub at_line : ℕ → OrderKey
+at_line line = record { ts = pos line; tie = None; shard = 0; line = line; at = 0 }
+
+-- the event of this line and those of all later ones come after all sequences
+abbrev pub AllFrom : {T : Type 0} → ℕ → List (Option (Sequence T)) → Type 0
+AllFrom line slots = (next : ℕ) → line ≤ next → All (ComesAfter (at_line next)) slots

@@ -1,0 +1,226 @@
+//! The machine on the events of a worked example, and at its greatest number of stages.
+ghost use Rattle.std.specs.Prelude.{◌≡◌, ◌+◌, ◌<◌, [], IfOk};
+ghost use Rattle.eql_matching_tests.specs.Played.{at_line, AllFrom};
+
+use eql_auto::{Auto, Steps};
+use eql_values::{Chain, Mask, Memory, OrderKey};
+use std::alloc::Global;
+use std::marker::Brand;
+use std::process::Abort;
+use std::sync::ledger::{Blank, Ledger};
+use std::test::*;
+
+/// The event of a line, at as many nanoseconds.
+fn event_at(line: u32) -> OrderKey
+    ensures { result ≡ at_line line }
+{
+    OrderKey {
+        ts: i128::from(line),
+        tie: None,
+        shard: 0,
+        line,
+        at: 0,
+    }
+}
+
+/// The mask of one stage, or of none for 0.
+fn mask_of(stage: u32) -> Mask {
+    match stage {
+        1..=128 => Mask {
+            low: 1 << (stage - 1),
+            high: 0,
+        },
+        129..=256 => Mask {
+            low: 0,
+            high: 1 << (stage - 129),
+        },
+        _ => Mask { low: 0, high: 0 },
+    }
+}
+
+/// What a machine told so far.
+#[derive(Drop)]
+struct Told {
+    /// The lines of the events of its matches.
+    matched: Vec<u32>,
+    /// The tags of the sequences that ceased.
+    ceased: Vec<u32>,
+}
+
+impl Told {
+    /// Nothing yet.
+    fn nothing(alloc: Global) -> Told {
+        Told {
+            matched: Vec::new(alloc),
+            ceased: Vec::new(alloc),
+        }
+    }
+}
+
+/// Reads all tags of sequences that ceased, and adds them to these.
+fn read_ceased<L: Ledger>(machine: &mut Auto<u32, L>, ceased: &mut Vec<u32>) -> Result<(), Memory>
+    ensures { IfOk result (λ _. machine.new ≡ record machine.old { gone = [] }) }
+{
+    while let Some(tag) = machine.next_gone() {
+        ceased.push(tag)?;
+    }
+    Ok(())
+}
+
+/// Adds the lines of the events of a match, where there is one.
+fn add_lines(found: Option<Chain>, lines: &mut Vec<u32>) -> Result<(), Memory> {
+    if let Some(chain) = found {
+        for event in chain.items() {
+            lines.push(event.line)?;
+        }
+    }
+    Ok(())
+}
+
+/// Plays the event of a line, which fits one stage, or none for 0. The tag of a new sequence is the line.
+fn play<L: Ledger>(
+    alloc: Global,
+    machine: &mut Auto<u32, L>,
+    line: u32,
+    stage: u32,
+    told: &mut Told,
+    steps: &mut Steps<L>,
+) -> Result<(), Memory>
+    requires read { machine.old.gone ≡ [] }
+    requires later { AllFrom line machine.old.slots }
+    ensures read { IfOk result (λ _. machine.new.gone ≡ []) }
+    ensures later { IfOk result (λ _. AllFrom (line + 1) machine.new.slots) }
+{
+    machine.ready(alloc)?;
+    let mask = mask_of(stage);
+    let tag = mask.has(1).then_some(line);
+    let found = machine.turn(event_at(line), mask, false, tag, steps);
+    add_lines(found, &mut told.matched)?;
+    read_ceased(machine, &mut told.ceased)
+}
+
+/// Drops the sequences that are too old at a time, in nanoseconds.
+fn expire<L: Ledger>(
+    machine: &mut Auto<u32, L>,
+    reach: i128,
+    told: &mut Told,
+    steps: &mut Steps<L>,
+) -> Result<(), Memory>
+    requires { machine.old.gone ≡ [] }
+    ensures { IfOk result (λ _. machine.new.gone ≡ []) }
+{
+    machine.expire(reach, steps);
+    read_ceased(machine, &mut told.ceased)
+}
+
+/// The stage of a line of the reference's example for one user, or 0 for the other lines.
+fn stage_of(line: u32) -> u32 {
+    match line {
+        1 | 2 | 7 => 1,
+        4 | 5 => 2,
+        9 | 11 => 3,
+        _ => 0,
+    }
+}
+
+/// The machine of three stages with a span of 20 nanoseconds, after the reference's example.
+fn after_example<L: Ledger>(
+    alloc: Global,
+    told: &mut Told,
+    steps: &mut Steps<L>,
+) -> Result<Auto<u32, L>, Memory>
+    ensures { IfOk result (λ machine. machine.gone ≡ []) }
+{
+    let mut machine = Auto::new(alloc, 3, Some(20))?;
+    for line in 1..12 {
+        play(alloc, &mut machine, line, stage_of(line), told, steps)?;
+    }
+    Ok(machine)
+}
+
+/// Plays an event of each of 256 stages in turn.
+fn play_each_stage<L: Ledger>(
+    alloc: Global,
+    told: &mut Told,
+    steps: &mut Steps<L>,
+) -> Result<(), Memory> {
+    let mut machine: Auto<u32, L> = Auto::new(alloc, 256, None)?;
+    for stage in 1..257 {
+        play(alloc, &mut machine, stage, stage, told, steps)?;
+    }
+    Ok(())
+}
+
+/// The stage and the first line of the pending sequence, where there is one alone.
+fn only_pending<L: Ledger>(
+    alloc: Global,
+    machine: &Auto<u32, L>,
+) -> Result<Option<(u32, Option<u32>)>, Memory> {
+    let holders = machine.holders(alloc)?;
+    match holders.items().as_slice() {
+        [(stage, chain)] => Ok(Some((*stage, line_at(chain, 0)))),
+        _ => Ok(None),
+    }
+}
+
+/// The line of an event of a chain.
+fn line_at(chain: &Chain, place: usize) -> Option<u32> {
+    chain.items().get(place).map(|event| event.line)
+}
+
+/// In the reference's example the events of lines 2, 4 and 9 are the user's one match, and that of line 7 stays pending
+/// until it is too old.
+fn check_example<R: Abort, L: Ledger>(rt: &R, alloc: Global, blank: Blank) -> Result<(), Fail>
+    requires { (blank.name ≡ L.name) × (blank.parts ≡ L.parts) × (0 < L.parts) }
+{
+    let (book, share) = blank.open::<L>();
+    let mut steps = Steps::new(book, share);
+    let mut told = Told::nothing(alloc);
+    let mut machine = after_example(alloc, &mut told, &mut steps)?;
+    assert_eq!(rt; told.matched.as_slice(), [2, 4, 9].as_slice());
+    expire(&mut machine, 27, &mut told, &mut steps)?;
+    assert_eq!(rt; only_pending(alloc, &machine)?, Some((1, Some(7))));
+    expire(&mut machine, 28, &mut told, &mut steps)?;
+    assert_eq!(rt; only_pending(alloc, &machine)?, None);
+    assert_eq!(rt; told.ceased.as_slice(), [1, 2, 7].as_slice());
+    Ok(())
+}
+
+/// At 256 stages an event of each stage in turn makes a match of as many events.
+fn check_each_stage<R: Abort, L: Ledger>(rt: &R, alloc: Global, blank: Blank) -> Result<(), Fail>
+    requires { (blank.name ≡ L.name) × (blank.parts ≡ L.parts) × (0 < L.parts) }
+{
+    let (book, share) = blank.open::<L>();
+    let mut steps = Steps::new(book, share);
+    let mut told = Told::nothing(alloc);
+    play_each_stage(alloc, &mut told, &mut steps)?;
+    let mut lines = Vec::new(alloc);
+    for line in 1..257u32 {
+        lines.push(line)?;
+    }
+    assert_eq!(rt; told.matched.as_slice(), lines.as_slice());
+    assert_eq!(rt; told.ceased.as_slice(), [1].as_slice());
+    Ok(())
+}
+
+#[test]
+fn the_reference_user_has_one_match(rt: HostRuntime) -> Result<(), Fail> {
+    check_example::<HostRuntime, Brand>(&rt, rt.alloc(), Blank::new(1))
+}
+
+#[test]
+fn a_match_may_have_256_events(rt: HostRuntime) -> Result<(), Fail> {
+    check_each_stage::<HostRuntime, Brand>(&rt, rt.alloc(), Blank::new(1))
+}
+
+#[test]
+fn a_sequence_that_was_put_is_pending(rt: HostRuntime) -> Result<(), Fail> {
+    let alloc = rt.alloc();
+    let mut machine: Auto<u32, Brand> = Auto::new(alloc, 3, None)?;
+    machine.ready(alloc)?;
+    let mut events = Vec::new(alloc);
+    events.push(event_at(5))?;
+    machine.put_holder(1, Chain::of(events), 50);
+    assert_eq!(rt; only_pending(alloc, &machine)?, Some((1, Some(5))));
+    Ok(())
+}

@@ -1,0 +1,255 @@
+//! Worked examples of the EQL syntax reference and of its rules, each event a line of one shard.
+ghost use Rattle.std.specs.Prelude.{IsTrue};
+ghost use Rattle.eql_values.specs.Ascending.{AllAfter, Ascending};
+ghost use Rattle.eql_values.specs.Routes.{RoutesInOrder};
+
+use eql_lookback::find;
+use eql_values::{Item, Items, Key, Mask, Match, Memory, OrderKey, Route, Routes, Text, Value};
+use std::alloc::{AllocError, Global};
+use std::process::Abort;
+use std::test::Fail;
+
+const SECOND: i128 = 1_000_000_000;
+
+/// The key of an event.
+#[derive(Clone, Copy)]
+enum Name {
+    Empty,
+    Root,
+    Elkbee,
+    Null,
+    Seven,
+}
+
+/// An event: its time in nanoseconds, and what it says to its key.
+#[derive(Clone, Copy)]
+struct Event {
+    ts: i128,
+    key: Name,
+    stages: u128,
+    until: bool,
+}
+
+/// An event that fits stages, given by their bits.
+fn fits(ts: i128, key: Name, stages: u128) -> Event {
+    Event {
+        ts,
+        key,
+        stages,
+        until: false,
+    }
+}
+
+/// An event that fits stages and the until item.
+fn ends(ts: i128, stages: u128) -> Event {
+    Event {
+        ts,
+        key: Name::Empty,
+        stages,
+        until: true,
+    }
+}
+
+fn key_of(alloc: Global, name: Name) -> Result<Key, Memory> {
+    let mut values = Vec::new(alloc);
+    match name {
+        Name::Empty => {}
+        Name::Root => values.push(Value::Text(Text::of(String::from_str(alloc, "root")?)))?,
+        Name::Elkbee => values.push(Value::Text(Text::of(String::from_str(alloc, "elkbee")?)))?,
+        Name::Null => values.push(Value::Null)?,
+        Name::Seven => values.push(Value::Long(7))?,
+    }
+    Ok(Key::of(values))
+}
+
+/// The event on this line, with a route where it says something.
+fn item_of(alloc: Global, line: u32, event: Event) -> Result<Item, Memory> {
+    let mut routes = Vec::new(alloc);
+    if event.stages != 0 || event.until {
+        routes.push(Route {
+            key: key_of(alloc, event.key)?,
+            mask: Mask {
+                low: event.stages,
+                high: 0,
+            },
+            until: event.until,
+        })?;
+    }
+    Ok(Item {
+        order: OrderKey {
+            ts: event.ts,
+            tie: None,
+            shard: 0,
+            line,
+            at: 0,
+        },
+        routes: Routes::of(routes),
+    })
+}
+
+/// Whether the event comes before all of these.
+fn is_before(event: &Item, items: &[Item]) -> bool
+    ensures { IsTrue result → AllAfter event.now.order items.now }
+{
+    match items {
+        [] => true,
+        [next, rest @ ..] => event.order < next.order && is_before(event, rest),
+    }
+}
+
+/// Whether the event has at most one route.
+fn has_one_route(event: &Item) -> bool
+    ensures { IsTrue result → RoutesInOrder event.now.routes }
+{
+    event.routes.items().len() < 2
+}
+
+/// Whether the events ascend, and each has at most one route.
+fn ascend(items: &[Item]) -> bool
+    ensures { IsTrue result → Ascending items.now }
+{
+    match items {
+        [] => true,
+        [first, rest @ ..] => has_one_route(first) && is_before(first, rest) && ascend(rest),
+    }
+}
+
+fn show_value(alloc: Global, value: &Value) -> Result<String, AllocError> {
+    match value {
+        Value::Null => String::from_str(alloc, "null"),
+        Value::Bool(b) => format!(in alloc; "{b}"),
+        Value::Long(n) => format!(in alloc; "{n}"),
+        Value::Text(t) => t.text().clone(),
+        Value::Ip(n) => format!(in alloc; "{n}"),
+    }
+}
+
+/// The key of a match and the lines of its events.
+fn show_match(alloc: Global, found: &Match, shown: &mut String) -> Result<(), AllocError> {
+    for value in found.key.items() {
+        shown.push_str(show_value(alloc, value)?.as_str())?;
+    }
+    for event in found.chain.items() {
+        let line = event.line;
+        shown.push_str(format!(in alloc; " {line}")?.as_str())?;
+    }
+    shown.push_str(";")
+}
+
+/// The matches by these events.
+fn shown(
+    rt: &impl Abort,
+    alloc: Global,
+    stages: u32,
+    span: Option<i128>,
+    events: &[Event],
+) -> Result<String, Fail> {
+    let mut items = Vec::new(alloc);
+    let mut line = 0u32;
+    for event in events {
+        line = line.checked_add(1).ok_or("lines")?;
+        items.push(item_of(alloc, line, *event)?)?;
+    }
+    let items = Items::of(items);
+    assert!(rt; 1 <= stages && stages <= 256);
+    assert!(rt; ascend(items.items()));
+    let matches = find(alloc, &items, stages, span)?;
+    let mut shown = String::new(alloc);
+    for found in matches.items() {
+        show_match(alloc, found, &mut shown)?;
+    }
+    Ok(shown)
+}
+
+#[test]
+fn the_references_example(rt: HostRuntime) -> Result<(), Fail> {
+    let events = [
+        fits(1, Name::Root, 1),
+        fits(2, Name::Root, 1),
+        fits(3, Name::Elkbee, 2),
+        fits(4, Name::Root, 2),
+        fits(5, Name::Root, 2),
+        fits(6, Name::Elkbee, 1),
+        fits(7, Name::Root, 1),
+        fits(8, Name::Elkbee, 2),
+        fits(9, Name::Root, 4),
+        fits(10, Name::Elkbee, 4),
+        fits(11, Name::Root, 4),
+    ];
+    let found = shown(&rt, rt.alloc(), 3, None, &events)?;
+    assert_eq!(rt; found.as_str(), "root 2 4 9;elkbee 6 8 10;");
+    Ok(())
+}
+
+#[test]
+fn a_stage_that_runs(rt: HostRuntime) -> Result<(), Fail> {
+    let process = 7;
+    let events = [
+        fits(1, Name::Empty, process),
+        fits(2, Name::Empty, process),
+        fits(3, Name::Empty, process),
+        fits(4, Name::Empty, process),
+        fits(5, Name::Empty, 8),
+    ];
+    let found = shown(&rt, rt.alloc(), 4, None, &events)?;
+    assert_eq!(rt; found.as_str(), " 2 3 4 5;");
+    Ok(())
+}
+
+#[test]
+fn until(rt: HostRuntime) -> Result<(), Fail> {
+    let between = [fits(1, Name::Empty, 1), ends(2, 0), fits(3, Name::Empty, 2)];
+    let found = shown(&rt, rt.alloc(), 2, None, &between)?;
+    assert_eq!(rt; found.as_str(), "");
+    let later = [fits(1, Name::Empty, 1), fits(2, Name::Empty, 2), ends(3, 0)];
+    let found = shown(&rt, rt.alloc(), 2, None, &later)?;
+    assert_eq!(rt; found.as_str(), " 1 2;");
+    let at_once = [fits(1, Name::Empty, 1), ends(2, 2)];
+    let found = shown(&rt, rt.alloc(), 2, None, &at_once)?;
+    assert_eq!(rt; found.as_str(), "");
+    Ok(())
+}
+
+#[test]
+fn maxspan_is_inclusive(rt: HostRuntime) -> Result<(), Fail> {
+    let span = Some(10 * SECOND);
+    let just = [fits(0, Name::Empty, 1), fits(10 * SECOND, Name::Empty, 2)];
+    let found = shown(&rt, rt.alloc(), 2, span, &just)?;
+    assert_eq!(rt; found.as_str(), " 1 2;");
+    let late = [
+        fits(0, Name::Empty, 1),
+        fits(10 * SECOND + 1, Name::Empty, 2),
+    ];
+    let found = shown(&rt, rt.alloc(), 2, span, &late)?;
+    assert_eq!(rt; found.as_str(), "");
+    Ok(())
+}
+
+#[test]
+fn keys(rt: HostRuntime) -> Result<(), Fail> {
+    // A key field that may be missing gives the key null, and one that may not gives none.
+    let missing = [fits(1, Name::Null, 1), fits(2, Name::Null, 2)];
+    let found = shown(&rt, rt.alloc(), 2, None, &missing)?;
+    assert_eq!(rt; found.as_str(), "null 1 2;");
+    let none = [fits(1, Name::Empty, 0), fits(2, Name::Empty, 0)];
+    let found = shown(&rt, rt.alloc(), 2, None, &none)?;
+    assert_eq!(rt; found.as_str(), "");
+    // Two items may take the key from two fields.
+    let by_item = [fits(1, Name::Seven, 1), fits(2, Name::Seven, 2)];
+    let found = shown(&rt, rt.alloc(), 2, None, &by_item)?;
+    assert_eq!(rt; found.as_str(), "7 1 2;");
+    Ok(())
+}
+
+#[test]
+fn an_event_may_stand_on_two_stages(rt: HostRuntime) -> Result<(), Fail> {
+    let both = 3;
+    let events = [
+        fits(1, Name::Empty, both),
+        fits(2, Name::Empty, both),
+        fits(3, Name::Empty, both),
+    ];
+    let found = shown(&rt, rt.alloc(), 2, None, &events)?;
+    assert_eq!(rt; found.as_str(), " 1 2; 2 3;");
+    Ok(())
+}

@@ -1,0 +1,213 @@
+//! Shared values: how texts are shown, the test of a span, copies, and equality of mappings.
+use eql_values::{
+    BookCut, Chain, Counts, Holder, Holders, Item, ItemLists, Items, Key, Kind, LaneCut, LaneCuts,
+    Mask, Match, NameKinds, Numbered, Numbereds, OrderKey, PipeState, PipeStates, Route, Routes,
+    Text, Value, is_in_time, push_shown,
+};
+use std::alloc::Global;
+use std::test::Fail;
+
+/// Texts, each with how it is shown.
+const SHOWN: [(&str, &str); 8] = [
+    ("", ""),
+    ("process.name", "process.name"),
+    ("a \"b\" \\ `c`", "a \"b\" \\ `c`"),
+    (
+        "gr\u{fc}n \u{20ac} \u{1f600}",
+        "gr\u{fc}n \u{20ac} \u{1f600}",
+    ),
+    ("a\nb\rc\td", "a\\nb\\rc\\td"),
+    (
+        "\u{0}\u{1b}\u{7f}\u{80}\u{9f}\u{a0}",
+        "\\u{00}\\u{1b}\\u{7f}\\u{80}\\u{9f}\u{a0}",
+    ),
+    ("\u{2028}\u{2029}\u{202f}", "\\u{2028}\\u{2029}\u{202f}"),
+    (
+        "\u{200d}\u{200e}\u{200f}\u{202a}\u{202e}\u{2066}\u{2069}\u{206a}",
+        "\u{200d}\\u{200e}\\u{200f}\\u{202a}\\u{202e}\\u{2066}\\u{2069}\u{206a}",
+    ),
+];
+
+#[test]
+fn texts_are_shown(rt: HostRuntime) -> Result<(), Fail> {
+    let alloc = rt.alloc();
+    for (text, expected) in SHOWN {
+        let mut line = String::from_str(alloc, "name ")?;
+        if push_shown(&mut line, text).is_err() {
+            return Err(Fail::from("memory"));
+        }
+        let expected = format!(in alloc; "name {expected}")?;
+        assert_eq!(rt; line.as_str(), expected.as_str());
+    }
+    Ok(())
+}
+
+/// The event at this line and time, in nanoseconds since the epoch.
+fn event(line: u32, ts: i128) -> OrderKey {
+    OrderKey {
+        ts,
+        tie: Some(-1),
+        shard: 3,
+        line,
+        at: 77,
+    }
+}
+
+#[test]
+fn spans_are_inclusive(rt: HostRuntime) -> Result<(), Fail> {
+    let table = [
+        (Some(10), 100, 110, true),
+        (Some(10), 100, 111, false),
+        (Some(0), 100, 100, true),
+        (Some(0), 100, 99, true),
+        (None, 0, i128::MAX, true),
+        (Some(i128::MAX), i128::MIN, i128::MAX, false),
+        (Some(i128::MIN), i128::MAX, i128::MIN, true),
+    ];
+    for (span, first, now, expected) in table {
+        let events = [event(1, first), event(2, i128::MAX)];
+        assert_eq!(rt; is_in_time(span, &events, now), expected);
+    }
+    assert!(rt; is_in_time(Some(0), &[], 1));
+    Ok(())
+}
+
+/// A key of a text and a number.
+fn key(alloc: Global, text: &str) -> Result<Key, Fail> {
+    let text = Value::Text(Text::of(String::from_str(alloc, text)?));
+    Ok(Key::of(vec![in alloc; text, Value::Long(-7)]?))
+}
+
+/// Pending sequences at a stage, one for each key.
+fn holders(alloc: Global) -> Result<Holders, Fail> {
+    let mut holders = Vec::new(alloc);
+    for name in ["elkbee", "root"] {
+        let chain = Chain::of(vec![in alloc; event(1, 5)]?);
+        let key = key(alloc, name)?;
+        holders.push(Holder {
+            key,
+            stage: 1,
+            chain,
+        })?;
+    }
+    Ok(Holders::of(holders))
+}
+
+/// An event with one route.
+fn item(alloc: Global) -> Result<Item, Fail> {
+    let route = Route {
+        key: key(alloc, "root")?,
+        mask: Mask { low: 1, high: 2 },
+        until: true,
+    };
+    Ok(Item {
+        order: event(9, -4),
+        routes: Routes::of(vec![in alloc; route]?),
+    })
+}
+
+#[test]
+fn pending_sequences_are_copied(rt: HostRuntime) -> Result<(), Fail> {
+    let copy = holders(rt.alloc())?.clone()?;
+    let names = ["elkbee", "root"];
+    assert_eq!(rt; copy.items().len(), 2);
+    for (holder, name) in copy.items().iter().zip(names.iter()) {
+        assert!(rt; holder.key == key(rt.alloc(), name)?);
+        assert_eq!(rt; holder.stage, 1);
+        assert_eq!(rt; holder.chain.items().as_slice(), [event(1, 5)].as_slice());
+    }
+    Ok(())
+}
+
+#[test]
+fn shards_are_copied(rt: HostRuntime) -> Result<(), Fail> {
+    let alloc = rt.alloc();
+    let counts = Counts {
+        lines: 5,
+        accepted: 1,
+        late: 2,
+        rejected: 1,
+        first: None,
+    };
+    let lane = LaneCut {
+        offset: 120,
+        closed: true,
+        best: Some(-4),
+        counts,
+        items: Items::of(vec![in alloc; item(alloc)?]?),
+    };
+    let copy = LaneCuts::of(vec![in alloc; lane]?).clone()?;
+    for lane in copy.items() {
+        assert!(rt; lane.counts == counts);
+        assert_eq!(rt;
+            (lane.offset, lane.closed, lane.best),
+            (120, true, Some(-4))
+        );
+        for item in lane.items.items() {
+            assert_eq!(rt; item.order, event(9, -4));
+            for route in item.routes.items() {
+                assert!(rt; route.key == key(alloc, "root")?);
+                assert!(rt; route.mask == Mask { low: 1, high: 2 });
+                assert!(rt; route.until);
+            }
+        }
+    }
+    let lists = ItemLists::of(vec![in alloc; Items::of(vec![in alloc; item(alloc)?]?)]?).clone()?;
+    assert_eq!(rt; lists.items().len(), 1);
+    Ok(())
+}
+
+#[test]
+fn books_are_copied(rt: HostRuntime) -> Result<(), Fail> {
+    let alloc = rt.alloc();
+    let found = Match {
+        key: key(alloc, "root")?,
+        chain: Chain::of(vec![in alloc; event(2, 6)]?),
+    };
+    let kept = Numbereds::of(vec![in alloc; Numbered { number: 8, found }]?);
+    let states = vec![in alloc; PipeState::Head { passed: 3 }, PipeState::Tail { kept }]?;
+    let book = BookCut {
+        found: 9,
+        listed: 2,
+        pipes: PipeStates::of(states),
+    };
+    let copy = book.clone()?;
+    assert_eq!(rt; (copy.found, copy.listed), (9, 2));
+    let mut told = String::new(alloc);
+    for state in copy.pipes.items() {
+        match state {
+            PipeState::Head { passed } => write!(told, "head {passed};")?,
+            PipeState::Tail { kept } => for one in kept.items() {
+                write!(
+                    told,
+                    "tail {} of {}",
+                    one.number,
+                    one.found.chain.items().len()
+                )?;
+            },
+        }
+    }
+    assert_eq!(rt; told.as_str(), "head 3;tail 8 of 1");
+    Ok(())
+}
+
+/// Names with kinds.
+fn mapping(alloc: Global, names: &[(&str, Kind)]) -> Result<NameKinds, Fail> {
+    let mut pairs = Vec::new(alloc);
+    for (name, kind) in names {
+        pairs.push((Text::of(String::from_str(alloc, name)?), *kind))?;
+    }
+    Ok(NameKinds::of(pairs))
+}
+
+#[test]
+fn mappings_are_compared(rt: HostRuntime) -> Result<(), Fail> {
+    let alloc = rt.alloc();
+    let one = mapping(alloc, &[("a", Kind::Long), ("b", Kind::Ip)])?;
+    assert!(rt; one == one.clone()?);
+    assert!(rt; one == mapping(alloc, &[("a", Kind::Long), ("b", Kind::Ip)])?);
+    assert!(rt; one != mapping(alloc, &[("a", Kind::Long), ("b", Kind::Text)])?);
+    assert!(rt; one != mapping(alloc, &[("a", Kind::Long), ("c", Kind::Ip)])?);
+    assert!(rt; one != mapping(alloc, &[("a", Kind::Long)])?);
+    Ok(())
+}
