@@ -38,7 +38,12 @@ impl<T, L: Ledger> Model for Auto<T, L> {
 
     ghost Value = { Machine T };
 
-    ghost view = { λ a. record { span = a.span; slots = a.table; gone = a.gone.items; is_ready = is_some a.spare } };
+    ghost view = { λ a. record {
+      span = a.span;
+      slots = a.table;
+      gone = a.gone.items;
+      is_ready = is_some a.spare;
+    } };
 
     ghost invariant = { λ a. IsFit (length a.table) a.spare (vec_capacity a.gone) };
 }

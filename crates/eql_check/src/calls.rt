@@ -114,7 +114,8 @@ pub(crate) fn takes_kinds(function: Function, args: &[Expr], kinds: &[Option<Kin
 
 /// The first text in quotes that isn't a block of addresses.
 fn bad_block(args: &[Expr]) -> Option<&Text>
-    ensures { option_map (λ text. text.now) result ≡ calls.bad_block (trees_of (map tree args.now)) }
+    ensures { option_map (λ text. text.now) result
+        ≡ calls.bad_block (trees_of (map tree args.now)) }
 {
     for arg in args {
         if let Expr::Str(text) = arg {

@@ -186,7 +186,8 @@ fn member(
     left: &Expr,
     list: &[Value],
 ) -> Result<Option<Kind>, CheckRefused>
-    ensures { Answers result (broken.member item (kind_at mapping.now) fold (tree left.now) list.now) }
+    ensures { Answers result
+        (broken.member item (kind_at mapping.now) fold (tree left.now) list.now) }
 {
     let k = kind_of(alloc, item, mapping, left)?;
     given(item, can_be_among(fold, k, list), Kind::Bool)
@@ -202,7 +203,8 @@ fn called(
     fold: bool,
     args: &Exprs,
 ) -> Result<Option<Kind>, CheckRefused>
-    ensures { Answers result (broken.call item (kind_at mapping.now) name.now fold (trees args.now)) }
+    ensures { Answers result
+        (broken.call item (kind_at mapping.now) name.now fold (trees args.now)) }
 {
     let kinds = kinds_of(alloc, item, mapping, args)?;
     call_kind(item, name, fold, args.items(), &kinds.items)
@@ -233,7 +235,8 @@ fn are_bools(
     mapping: &Mapping,
     operands: &Exprs,
 ) -> Result<bool, CheckRefused>
-    ensures { Answers result (bools_of (broken.kinds_of item (kind_at mapping.now) (trees operands.now))) }
+    ensures { Answers result
+        (bools_of (broken.kinds_of item (kind_at mapping.now) (trees operands.now))) }
 {
     let mut all = true;
     for operand in operands.items() {

@@ -27,7 +27,8 @@ fn check_condition(
     mapping: &Mapping,
     cond: &Expr,
 ) -> Result<(), CheckRefused>
-    ensures { Judges result (unless_bool item (kind_in item (kind_at mapping.now) (tree cond.now))) }
+    ensures { Judges result
+        (unless_bool item (kind_in item (kind_at mapping.now) (tree cond.now))) }
 {
     let kind = kind_of(alloc, item, mapping, cond)?;
     if may_be(Kind::Bool, kind) {

@@ -43,7 +43,8 @@ fn used<'q>(
     items: &[&'q Term],
 ) -> Result<Used, Memory>
     requires { terms_in items.now ≡ items_of (body_tree query.now.body) }
-    ensures { IfOk result (λ fields. fields ≡ used_fields (kind_at mapping.now) (query_tree query.now)) }
+    ensures { IfOk result
+        (λ fields. fields ≡ used_fields (kind_at mapping.now) (query_tree query.now)) }
 {
     let mut names = Vec::new(alloc);
     add_key_names(shared_keys(&query.body), &mut names)?;
@@ -147,7 +148,8 @@ fn check_query(alloc: Global, query: &Query, mapping: &Mapping) -> Result<NameKi
 /// query may have at most 4,294,967,295 items. `Memory` comes where memory ran out, whatever rule is broken.
 pub fn check(alloc: Global, query: &Query, mapping: &Mapping) -> Result<Checked, CheckRefused>
     requires { length (items_of (query_tree query.now).body) ≤ 4294967295 }
-    ensures checked { IfOk result (λ checked. IsChecked (kind_at mapping.now) (query_tree query.now)) }
+    ensures checked { IfOk result
+        (λ checked. IsChecked (kind_at mapping.now) (query_tree query.now)) }
     ensures query { IfOk result (λ checked. query_tree checked.query ≡ query_tree query.now) }
     ensures fields { IfOk result
         (λ checked. checked.fields ≡ used_fields (kind_at mapping.now) (query_tree query.now)) }

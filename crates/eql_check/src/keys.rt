@@ -27,7 +27,8 @@ fn own_count(items: &[&Term]) -> usize
 /// Each item has as many keys as the first.
 pub(crate) fn check_counts(items: &[&Term]) -> Result<(), CheckRefused>
     requires { length items.now ≤ 4294967295 }
-    ensures { Judges result (counts_broken (own_count_of (terms_in items.now)) 1 (terms_in items.now)) }
+    ensures { Judges result
+        (counts_broken (own_count_of (terms_in items.now)) 1 (terms_in items.now)) }
 {
     let count = own_count(items);
     for (index, item) in items.iter().enumerate() {

@@ -129,7 +129,8 @@ pub(crate) fn add_key_names<'q>(
     keys: &'q [FieldRef],
     names: &mut Vec<&'q Text>,
 ) -> Result<(), Memory>
-    ensures { OnOk result (names_seen names.new.items ≡ names_seen names.old.items ++ key_names keys.now) }
+    ensures { OnOk result
+        (names_seen names.new.items ≡ names_seen names.old.items ++ key_names keys.now) }
 {
     for key in keys {
         names.push(&key.name)?;

@@ -114,7 +114,8 @@ fn call_four(
     d: &Value,
 ) -> Result<Value, Memory>
     requires { f.takes_any function ≡ false }
-    ensures value { IfOk result (λ v. v ≡ f.called function fold (a.now ∷ b.now ∷ c.now ∷ d.now ∷ [])) }
+    ensures value { IfOk result
+        (λ v. v ≡ f.called function fold (a.now ∷ b.now ∷ c.now ∷ d.now ∷ [])) }
     ensures free { f.makes_text function ≡ false → IsOk result }
 {
     match function {

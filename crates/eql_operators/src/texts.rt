@@ -138,7 +138,8 @@ pub fn between_of(
     r: &Value,
     greedy: Option<&Value>,
 ) -> Result<Value, Memory>
-    ensures { IfOk result (λ v. v ≡ f.between_of fold s.now l.now r.now (option_copied greedy.entry)) }
+    ensures { IfOk result
+        (λ v. v ≡ f.between_of fold s.now l.now r.now (option_copied greedy.entry)) }
 {
     match (s, l, r, greedy) {
         (Value::Text(s), Value::Text(l), Value::Text(r), None) => {

@@ -1,7 +1,8 @@
 -- The first and the last place of a text in another.
-use Rattle.std.proofs.Common.{◌≡◌, ℕ, ◌+◌, Bool, true, false, List, [], ◌∷◌, ◌||◌, cond, Option, Some, None, refl, sym, ap, ◌∙◌, ◌<◌, ◌≤◌, length, drop, leb, arith}
+use Rattle.std.proofs.Common.{◌≡◌, ℕ, ◌+◌, Bool, true, false, List, [], ◌∷◌, ◌&&◌, ◌||◌, cond, Option, Some, None, refl, sym, ap, ◌∙◌, ◌<◌, ◌≤◌, length, drop, leb, arith}
 use Rattle.std.proofs.lemmas.Bool.Decides.{nat_tests}
 use Rattle.std.specs.Option.{option_or, option_map, is_some}
+use Rattle.eql_text.specs.Folding.{same}
 use Rattle.eql_text.specs.Comparing.{starts, contains}
 use Rattle.eql_text.specs.Placing.{place_from, last_place_from, place_after}
 
@@ -12,6 +13,11 @@ place_here fold n (c ∷ s) t h = ap (λ b. cond b (Some n) (place_from fold (n 
 pub place_later : (fold : Bool) (n c : ℕ) (s s' t : List ℕ) → false ≡ starts fold s t → s ≡ c ∷ s' → place_from fold n s t ≡ place_from fold (n + 1) s' t
 place_later fold n c s s' t h e =
     rw e (ap (λ b. cond b (Some n) (place_from fold (n + 1) s' t)) (sym (h ∙ ap (λ r. starts fold r t) e)))
+
+-- a text doesn't stand where its first character is unlike
+pub place_unlike : (fold : Bool) (n c d : ℕ) (s s' t : List ℕ) → same fold c d ≡ false → s ≡ c ∷ s' → place_from fold n s (d ∷ t) ≡ place_from fold (n + 1) s' (d ∷ t)
+place_unlike fold n c d s s' t unlike e =
+    place_later fold n c s s' (d ∷ t) (sym (ap (λ r. starts fold r (d ∷ t)) e ∙ ap (λ b. b && starts fold s' t) unlike)) e
 
 pub place_nowhere : (fold : Bool) (n : ℕ) (s t : List ℕ) → false ≡ starts fold s t → s ≡ [] → place_from fold n s t ≡ None
 place_nowhere fold n s t h e = rw e (ap (λ b. cond b (Some n) None) (sym (h ∙ ap (λ r. starts fold r t) e)))

@@ -234,3 +234,9 @@ never_at fold p q t h f e = rw e (some_end_never fold p q h (ap (λ u. begins_fi
 
 pub later_at : (fold : Bool) (p q t t' : List ℕ) (c : ℕ) → NoStar p → false ≡ begins_fit fold t p → t ≡ c ∷ t' → any_end (wildcard fold (p ++ (42 ∷ q))) t ≡ any_end (wildcard fold (p ++ (42 ∷ q))) t'
 later_at fold p q t t' c h f e = rw e (some_end_later fold p q t' c h (ap (λ u. begins_fit fold u p) (sym e) ∙ sym f))
+
+-- the character is unlike the first one of the part
+pub unlike_first : (fold : Bool) (p p' q t t' : List ℕ) (d c : ℕ) → NoStar p → p ≡ d ∷ p' → t ≡ c ∷ t' → fits fold d c ≡ false → any_end (wildcard fold (p ++ (42 ∷ q))) t ≡ any_end (wildcard fold (p ++ (42 ∷ q))) t'
+unlike_first fold p p' q t t' d c h e f unlike =
+    later_at fold p q t t' c h
+    (sym (ap (λ u. begins_fit fold u p) f ∙ ap (begins_fit fold (c ∷ t')) e ∙ ap (λ b. b && begins_fit fold t' p') unlike)) f

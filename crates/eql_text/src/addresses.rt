@@ -98,7 +98,8 @@ pub fn parse_block(s: &Text) -> Option<Block>
 fn halves(text: &str) -> Option<(&str, &str)>
     ensures { MatchOption result
         (parse_block (chars text.now) ≡ None)
-        (λ h. parse_block (chars text.now) ≡ block (parse_ip4 (chars h.0.now)) (plain 32 (chars h.1.now))) }
+        (λ h. parse_block (chars text.now)
+        ≡ block (parse_ip4 (chars h.0.now)) (plain 32 (chars h.1.now))) }
 {
     let (base, bits) = cut(text, '/')?;
     match cut(bits, '/') {

@@ -11,6 +11,7 @@ mod parts;
 mod pattern;
 mod places;
 mod repeats;
+mod unlike;
 mod walk;
 
 pub use addresses::{Block, in_block, ip4_from_str, parse_block, parse_ip4};

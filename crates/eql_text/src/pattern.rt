@@ -37,7 +37,8 @@ fn cut(text: &str, at: char) -> Option<(&str, &str)>
 /// What follows the characters of a text that a part without `*` fits, where it fits its first ones.
 fn fits_front<'t>(text: &'t str, part: &str, fold: bool) -> Option<&'t str>
     ensures found { is_some result ≡ begins_fit fold (chars text.now) (chars part.now) }
-    ensures rest { IfSome result (λ rest. chars rest.now ≡ drop (length (chars part.now)) (chars text.now)) }
+    ensures rest { IfSome result
+        (λ rest. chars rest.now ≡ drop (length (chars part.now)) (chars text.now)) }
 {
     let mut rest = text;
     let mut wanted = part;
@@ -72,7 +73,28 @@ fn fits_back(pattern: &str, text: &str, fold: bool) -> bool
     true
 }
 
-/// What is left of a text behind the first place where a part fits, which is tried at one place after the other.
+/// What is left of a text from the first character on that the first one of a part fits.
+fn rest_fitting<'t>(part: &str, text: &'t str, fold: bool) -> &'t str
+    requires { NonePass (λ c. c == 42) (chars part.now) }
+    ensures same { (q : List ℕ) → any_end (wildcard fold (chars part.now ++ (42 ∷ q))) (chars result.now)
+        ≡ any_end (wildcard fold (chars part.now ++ (42 ∷ q))) (chars text.now) }
+    ensures shorter { length result.now ≤ length text.now }
+{
+    let Some((d, _)) = first_char(part) else {
+        return text;
+    };
+    let mut rest = text;
+    while let Some((c, after)) = first_char(rest) {
+        if fits(d, c, fold) {
+            break;
+        }
+        rest = after;
+    }
+    rest
+}
+
+/// What is left of a text behind the first place where a part fits. Places whose character the part's first one
+/// doesn't fit are passed at sight, and the others tried one after the other.
 fn try_places<'t>(part: &str, text: &'t str, fold: bool) -> Option<&'t str>
     requires { NonePass (λ c. c == 42) (chars part.now) }
     ensures { (q : List ℕ) → MatchOption result
@@ -82,10 +104,11 @@ fn try_places<'t>(part: &str, text: &'t str, fold: bool) -> Option<&'t str>
 {
     let mut rest = text;
     'places: loop {
-        if let Some(left) = fits_front(rest, part, fold) {
+        let near = rest_fitting(part, rest, fold);
+        if let Some(left) = fits_front(near, part, fold) {
             return Some(left);
         }
-        let (_, next) = first_char(rest)?;
+        let (_, next) = first_char(near)?;
         rest = next;
     }
 }

@@ -5,6 +5,7 @@ ghost use Rattle.std.specs.Str.{chars};
 ghost use Rattle.eql_text.specs.Placing.{place_from, last_place_from, start_place, place_after, index_of};
 
 use crate::repeats::{Laid, Runs, meet, move_on};
+use crate::unlike::pass_unlike;
 use crate::walk::{ended, skip};
 use eql_values::Text;
 
@@ -18,8 +19,10 @@ pub struct Found<'a> {
 /// The first place of `t` in `s`, where the first character of `s` has the place `start`.
 pub fn find<'a>(s: &'a str, t: &str, start: u64, fold: bool) -> Option<Found<'a>>
     requires { start + length s.now < 2 ^ 64 }
-    ensures place { option_map (λ f. f.place) result ≡ place_from fold start (chars s.now) (chars t.now) }
-    ensures after { IfSome result (λ f. chars f.after.now ≡ drop (f.place - start + length (chars t.now)) (chars s.now)) }
+    ensures place { option_map (λ f. f.place) result
+        ≡ place_from fold start (chars s.now) (chars t.now) }
+    ensures after { IfSome result (λ f.
+        chars f.after.now ≡ drop (f.place - start + length (chars t.now)) (chars s.now)) }
     ensures within { IfSome result (λ f. f.place ≤ start + length s.now) }
     ensures from { IfSome result (λ f. start ≤ f.place) }
 {
@@ -33,8 +36,10 @@ pub fn find<'a>(s: &'a str, t: &str, start: u64, fold: bool) -> Option<Found<'a>
             return Some(Found { place, after });
         }
         let step = runs.step(met.met);
-        laid = move_on(t, met, step)?;
-        place += step.by as u64;
+        let next = move_on(t, met, step)?;
+        let near = pass_unlike(t, next, fold);
+        laid = near.laid;
+        place += step.by as u64 + near.passed;
     }
 }
 

@@ -105,11 +105,14 @@ fn back<'t>(text: &'t str, rest: &'t str, count: usize) -> &'t str
 /// Compares on, until one text ends or two characters differ.
 pub fn meet<'s, 't>(t: &'t str, laid: Laid<'s, 't>, fold: bool) -> Laid<'s, 't>
     requires laid { IsLaid t.now laid.window.now laid.ahead.now laid.left.now laid.met }
-    requires meets { Meets (seen_text fold (chars laid.window.now)) (seen_text fold (chars t.now)) laid.met }
+    requires meets { Meets (seen_text fold (chars laid.window.now))
+        (seen_text fold (chars t.now)) laid.met }
     ensures laid { IsLaid t.now laid.entry.window.now result.ahead.now result.left.now result.met }
     ensures window { result.window.now ≡ laid.entry.window.now }
-    ensures meets { Meets (seen_text fold (chars laid.entry.window.now)) (seen_text fold (chars t.now)) result.met }
-    ensures stops { Stops (seen_text fold (chars laid.entry.window.now)) (seen_text fold (chars t.now)) result.met }
+    ensures meets { Meets (seen_text fold (chars laid.entry.window.now))
+        (seen_text fold (chars t.now)) result.met }
+    ensures stops { Stops (seen_text fold (chars laid.entry.window.now))
+        (seen_text fold (chars t.now)) result.met }
 {
     let mut ahead = laid.ahead;
     let mut left = laid.left;
@@ -140,7 +143,8 @@ pub fn move_on<'s, 't>(t: &'t str, laid: Laid<'s, 't>, step: Step) -> Option<Lai
     ensures enough { MatchOption result
         (length (chars laid.entry.window.now) < step.by)
         (λ next. step.by ≤ length (chars laid.entry.window.now)) }
-    ensures laid { IfSome result (λ next. IsLaid t.now next.window.now next.ahead.now next.left.now next.met) }
+    ensures laid { IfSome result
+        (λ next. IsLaid t.now next.window.now next.ahead.now next.left.now next.met) }
     ensures window { IfSome result
         (λ next. chars next.window.now ≡ drop step.by (chars laid.entry.window.now)) }
     ensures met { IfSome result (λ next. next.met ≡ step.kept) }
@@ -202,7 +206,8 @@ impl Runs {
     fn note(&mut self, met: usize) -> bool
         requires room { self.old.count ≤ 16 }
         requires fits { self.old.below + met < 2 ^ 63 }
-        ensures noted { result ≡ true → IsNoted (listed self.old) (listed self.new) self.old.below met }
+        ensures noted { result ≡ true
+            → IsNoted (listed self.old) (listed self.new) self.old.below met }
         ensures below { result ≡ true → self.new.below ≡ self.old.below + 1 }
         ensures same { result ≡ false → listed self.new ≡ listed self.old }
         ensures same_below { result ≡ false → self.new.below ≡ self.old.below }

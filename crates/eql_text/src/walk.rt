@@ -11,7 +11,9 @@ use unicode::case::simple_fold;
 
 /// The first character of a text, and what follows it.
 pub fn first_char(text: &str) -> Option<(char, &str)>
-    ensures characters { MatchOption result (chars text.now ≡ []) (λ p. chars text.now ≡ p.0 ∷ chars p.1.now) }
+    ensures characters { MatchOption result
+        (chars text.now ≡ [])
+        (λ p. chars text.now ≡ p.0 ∷ chars p.1.now) }
     ensures shorter { IfSome result (λ p. length p.1.now < length text.now) }
     ensures ending { IfSome result (λ p. IsEnding text.now p.1.now) }
 {
@@ -22,7 +24,9 @@ pub fn first_char(text: &str) -> Option<(char, &str)>
 
 /// The last character of a text, and what stands before it.
 pub fn last_char(text: &str) -> Option<(&str, char)>
-    ensures characters { MatchOption result (chars text.now ≡ []) (λ p. chars text.now ≡ chars p.0.now ++ p.1 ∷ []) }
+    ensures characters { MatchOption result
+        (chars text.now ≡ [])
+        (λ p. chars text.now ≡ chars p.0.now ++ p.1 ∷ []) }
     ensures shorter { IfSome result (λ p. length p.0.now < length text.now) }
     ensures front { IfSome result (λ p. p.0.now ≡ take (length p.0.now) text.now) }
 {
@@ -60,7 +64,8 @@ pub fn same(c: char, d: char, fold: bool) -> bool
 /// What follows a text where another begins with it.
 pub fn strip<'a>(text: &'a str, front: &str, fold: bool) -> Option<&'a str>
     ensures found { is_some result ≡ starts fold (chars text.now) (chars front.now) }
-    ensures rest { IfSome result (λ rest. chars rest.now ≡ drop (length (chars front.now)) (chars text.now)) }
+    ensures rest { IfSome result
+        (λ rest. chars rest.now ≡ drop (length (chars front.now)) (chars text.now)) }
     ensures within { IfSome result (λ rest. length rest.now ≤ length text.now) }
 {
     let mut rest = text;
@@ -78,7 +83,9 @@ pub fn strip<'a>(text: &'a str, front: &str, fold: bool) -> Option<&'a str>
 
 /// What follows the first characters of a text, this many.
 pub fn skip(text: &str, count: u64) -> Option<&str>
-    ensures enough { MatchOption result (length (chars text.now) < count) (λ rest. count ≤ length (chars text.now)) }
+    ensures enough { MatchOption result
+        (length (chars text.now) < count)
+        (λ rest. count ≤ length (chars text.now)) }
     ensures rest { IfSome result (λ rest. chars rest.now ≡ drop count (chars text.now)) }
     ensures shorter { IfSome result (λ rest. count + length rest.now ≤ length text.now) }
 {
