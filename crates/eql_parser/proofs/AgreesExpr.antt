@@ -33,16 +33,16 @@ short_name_field w us =
     (short_map (length us) (λ n. record { name = n; optional = false }) (dotted (length us) w us) (short 0 us (dotted (length us) w us) (told_dotted 0 (length us) w us)))
 
 module _ (d : ℕ) (inner : ℕ → List Kind → Res Tree) (told : (l : ℕ) (us : List Kind) → Told (inside d) us (inner l us)) where
-  short_inner : (l : ℕ) (us : List Kind) → Short (length us) (inner l us)
+  pub short_inner : (l : ℕ) (us : List Kind) → Short (length us) (inner l us)
   short_inner l us = short (inside d) us (inner l us) (told l us)
 
-  short_listed : (l : ℕ) (us : List Kind) → Short (length us) (listed (inner l) us)
+  pub short_listed : (l : ℕ) (us : List Kind) → Short (length us) (listed (inner l) us)
   short_listed l us = short (inside d) us (listed (inner l) us) (told_listed (inside d) (inner l) us (told l))
 
   short_closed : (l : ℕ) (us : List Kind) → Short (length us) (then_do (listed (inner l) us) closing)
   short_closed l us = short_then (length us) (listed (inner l) us) closing (short_listed l us) short_closing
 
-  short_arguments : (l : ℕ) (us : List Kind) → Short (length us) (r.arguments (room_for d) inner l us)
+  pub short_arguments : (l : ℕ) (us : List Kind) → Short (length us) (r.arguments (room_for d) inner l us)
   short_arguments l [] = short_closed l []
   short_arguments l (close_ ∷ us) = omega arith
   short_arguments l (k ∷ us) = short_closed l (k ∷ us)

@@ -1,11 +1,11 @@
 -- The cause of each refusal, and that every query within the limits is answered.
-use Rattle.std.proofs.Common.{◌≡◌, ℕ, suc, ◌<◌, ◌≤◌, max, inl, inr, ⊎_elim, List, [], ◌∷◌, ◌++◌, length, Ok, Err, refl, sym, ap, subst, ◌∙◌, arith, length-append, append_assoc, append-nil}
+use Rattle.std.proofs.Common.{◌≡◌, ℕ, suc, ◌<◌, ◌≤◌, max, inl, inr, ⊎_elim, List, [], ◌∷◌, ◌++◌, length, Ok, Err, refl, sym, ap, subst, ◌∙◌, arith, length-append, append_assoc, append-nil, codes}
 use Rattle.eql_lexer.specs.declared.token.Token.{Token}
 use Rattle.eql_parser.specs.QueryTree.{QueryTree}
-use Rattle.eql_parser.specs.Kinds.{Kind, kind, kinds, open_}
+use Rattle.eql_parser.specs.Kinds.{Kind, kind, kinds, any_, assign_, bar_, close_item_, matches, name, null_, number, open_, open_item_, where_, with_}
 use Rattle.eql_parser.specs.QueryGrammar.{Reads}
 use Rattle.eql_parser.specs.Limits.{levels, open_behind}
-use Rattle.eql_parser.specs.Refusing.{Begins, NoQueryBegins, IsDeeperThan, Split, end_of, IsSyntax, IsLeftOutAt, IsTooDeep}
+use Rattle.eql_parser.specs.Refusing.{Begins, NoQueryBegins, IsDeeperThan, Split, IsLeftOut, samples, joins, missing_event, regex, folding_regex, fine_unit, other_pipe, number_with_base, end_of, IsPlainSyntax, IsLeftOutAt, IsTooDeep}
 use Rattle.eql_parser.specs.Reading.{Fail, Syntax, LeftOut, TooDeep, TooOpen, Res, expr}
 use Rattle.eql_parser.specs.QueryReading.{query, query_by}
 use Rattle.eql_parser.proofs.Complete.{query_all, query_complete}
@@ -14,6 +14,9 @@ use Rattle.eql_parser.proofs.Grows.{query_grows}
 use Rattle.eql_parser.proofs.Told.{Because, Told}
 use Rattle.eql_parser.proofs.Agrees.{Refuses, which}
 use Rattle.eql_parser.proofs.Local.{query_stops}
+use Rattle.eql_parser.proofs.Meeting.{Instead, for_regex, for_folding_regex, for_missing, for_unit, for_pipe}
+use Rattle.eql_parser.proofs.MeetingQuery.{stops_there}
+use Rattle.eql_parser.specs.declared.expr.PatOp.TheVariants.{Colon}
 use Rattle.eql_parser.proofs.Opened.{told_of, opened}
 use Rattle.eql_parser.proofs.Starts.{place_of, first_of, Follows}
 use Rattle.eql_parser.proofs.StartsQuery.{begun}
@@ -54,6 +57,49 @@ none_begins m x n h i y q read =
     let here : query_by (expr 128 l) (m ++ x) ≡ Err (Syntax n) =
     stays_refused (query (m ++ x)) (query_by (expr 128 l) (m ++ x)) (Syntax n) tt h (query_grows 128 128 64 l (m ++ x) (omega arith) (omega arith)) in
     refuses_none (query_by (expr d l) (m ++ y)) q (all.1 d (omega arith)) (query_stops x y 128 d l m (Syntax n) (omega arith) here i)
+
+-- where a query goes on with a form that the grammar has, no Syntax comes for a left-out form in its place
+left_out_stays : (x y : List Kind) (e : Fail) → Instead x y e → (n : ℕ) → e ≡ Syntax n → ⊥
+left_out_stays _ _ _ for_regex n h = cc
+left_out_stays _ _ _ for_folding_regex n h = cc
+left_out_stays _ _ _ for_missing n h = cc
+left_out_stays _ _ _ (for_unit f) n h = cc
+left_out_stays _ _ _ (for_pipe f) n h = cc
+
+same_fail : (r : Res QueryTree) (e f : Fail) → r ≡ Err e → r ≡ Err f → e ≡ f
+same_fail r e f h k = let both : ◌≡◌ {A = Res QueryTree} (Err e) (Err f) = sym h ∙ k in cc
+
+not_there : (x y : List Kind) (e : Fail) → Instead x y e → (m : List Kind) (q : QueryTree) (n : ℕ) → Reads (m ++ x) q → query (m ++ y) ≡ Err (Syntax n) → ⊥
+not_there x y e st m q n read h =
+    let l : ℕ = max 64 (levels q) in
+    let all = query_all l (m ++ x) q read (omega arith) in
+    let d : ℕ = max 128 all.0 in
+    let stop : query_by (expr d l) (m ++ y) ≡ Err e = stops_there x y e st d l m q (all.1 d (omega arith)) in
+    let here : query_by (expr d l) (m ++ y) ≡ Err (Syntax n) =
+    stays_refused (query (m ++ y)) (query_by (expr d l) (m ++ y)) (Syntax n) tt h (query_grows 128 d 64 l (m ++ y) (omega arith) (omega arith)) in
+    left_out_stays x y e st n (same_fail (query_by (expr d l) (m ++ y)) e (Syntax n) stop here)
+
+-- where a left-out form stands, behind tokens with which some query goes on with another form, no Syntax comes
+no_syntax : (before from : List Kind) (word : List ℕ) (instead : List Kind) → IsLeftOut before from word instead → Begins (before ++ instead) → query (before ++ from) ≡ Err (Syntax (length from)) → ⊥
+no_syntax _ _ _ _ (samples {ts = ts}) b h = let two : ◌≡◌ {A = Res QueryTree} (Err (LeftOut (codes "sample") (suc (length ts)))) (Err (Syntax (suc (length ts)))) = h in cc
+no_syntax _ _ _ _ (joins {ts = ts}) b h = let two : ◌≡◌ {A = Res QueryTree} (Err (LeftOut (codes "join") (suc (length ts)))) (Err (Syntax (suc (length ts)))) = h in cc
+no_syntax before _ _ _ (missing_event {ts = ts}) b h =
+    not_there _ _ _ (for_missing {c = b.rest} {b = ts}) before b.query (suc (suc (length ts))) (subst (λ l. Reads l b.query) (append_assoc before (open_item_ ∷ any_ ∷ where_ ∷ null_ ∷ close_item_ ∷ with_ ∷ []) b.rest) b.reads) h
+no_syntax before _ _ _ (regex {ts = ts}) b h =
+    not_there _ _ _ (for_regex {c = b.rest} {b = ts}) before b.query (suc (length ts)) (subst (λ l. Reads l b.query) (append_assoc before (matches Colon ∷ []) b.rest) b.reads) h
+no_syntax before _ _ _ (folding_regex {ts = ts}) b h =
+    not_there _ _ _ (for_folding_regex {c = b.rest} {b = ts}) before b.query (suc (length ts)) (subst (λ l. Reads l b.query) (append_assoc before (matches Colon ∷ []) b.rest) b.reads) h
+no_syntax before _ w _ (fine_unit {ts = ts} front n cut f) b h =
+    not_there _ _ _ (for_unit {c = b.rest} {b = ts} {n = n} {w = w} f) front b.query (suc (length ts))
+    (subst (λ l. Reads l b.query) (append_assoc before (name (codes "s") ∷ []) b.rest ∙ ap (λ m. m ++ name (codes "s") ∷ b.rest) cut ∙ append_assoc front (assign_ ∷ number n ∷ []) (name (codes "s") ∷ b.rest)) b.reads)
+    (subst (λ l. query l ≡ Err (Syntax (suc (length ts)))) (ap (λ m. m ++ name w ∷ ts) cut ∙ append_assoc front (assign_ ∷ number n ∷ []) (name w ∷ ts)) h)
+no_syntax before _ w _ (other_pipe {ts = ts} front cut f) b h =
+    not_there _ _ _ (for_pipe {c = b.rest} {b = ts} {w = w} f) front b.query (suc (length ts))
+    (subst (λ l. Reads l b.query) (append_assoc before (name (codes "head") ∷ []) b.rest ∙ ap (λ m. m ++ name (codes "head") ∷ b.rest) cut ∙ append_assoc front (bar_ ∷ []) (name (codes "head") ∷ b.rest)) b.reads)
+    (subst (λ l. query l ≡ Err (Syntax (suc (length ts)))) (ap (λ m. m ++ name w ∷ ts) cut ∙ append_assoc front (bar_ ∷ []) (name w ∷ ts)) h)
+no_syntax before _ _ _ (number_with_base {us = us} {w = w} e args) b h =
+    none_begins (before ++ name w ∷ []) (open_ ∷ us) (suc (suc (length us))) (ap query (append_assoc before (name w ∷ []) (open_ ∷ us)) ∙ h) (omega arith) (open_ ∷ b.rest) b.query
+    (subst (λ l. Reads l b.query) (append_assoc before (name w ∷ open_ ∷ []) b.rest ∙ sym (append_assoc before (name w ∷ []) (open_ ∷ b.rest))) b.reads)
 
 -- each query that begins with the tokens through the one at which TooDeep comes has more levels than are allowed
 pub deeper : (m x : List Kind) (n : ℕ) → query (m ++ x) ≡ Err (TooDeep n) → length x < n → IsDeeperThan 64 m
@@ -156,19 +202,20 @@ module _ (tokens before behind : List Token) (here : Token) (whole : tokens ≡ 
         subst (λ f. Follows [] e (kinds before) f b.follows) same.1 (subst (λ m. Follows [] e m b.behind b.follows) same.0 b.why),
       )
 
-  pub syntax_cause : query (kinds tokens) ≡ Err (Syntax (suc (length behind))) → IsSyntax tokens here.start
+  pub syntax_cause : query (kinds tokens) ≡ Err (Syntax (suc (length behind))) → IsPlainSyntax tokens here.start
   syntax_cause h =
       let on = goes_on_there (Syntax (suc (length behind))) refl h in
       inl (
         the_split,
         begins_front (kinds before) on.0 on.1,
         none_begins (kinds before ++ kinds (here ∷ [])) (kinds behind) (suc (length behind)) (there (Syntax (suc (length behind))) h) (omega (arith, kinds_length behind)),
+        λ word out. no_syntax (kinds before) (kinds (here ∷ behind)) word out.0 out.1 out.2 (ap query (sym kinds_cut) ∙ h ∙ ap (λ n. Err (Syntax (suc n))) (sym (kinds_length behind))),
       )
 
   pub left_out_cause : (w : List ℕ) → query (kinds tokens) ≡ Err (LeftOut w (suc (length behind))) → IsLeftOutAt tokens w here.start
   left_out_cause w h =
       let on = goes_on_there (LeftOut w (suc (length behind))) refl h in
-      ((the_split, on.0, on.2, on.1), none_read (kinds tokens) (LeftOut w (suc (length behind))) tt h)
+      ((the_split, (on.0, on.2, on.1)), none_read (kinds tokens) (LeftOut w (suc (length behind))) tt h)
 
   pub too_deep_cause : query (kinds tokens) ≡ Err (TooDeep (suc (length behind))) → IsTooDeep tokens here.start
   too_deep_cause h =
@@ -193,7 +240,7 @@ no_token [] h = refl
 no_token (k ∷ l) h = absurd (omega (arith, h))
 
 -- where the tokens end too early
-pub early_cause : (tokens : List Token) → query (kinds tokens) ≡ Err (Syntax 0) → IsSyntax tokens (end_of tokens)
+pub early_cause : (tokens : List Token) → query (kinds tokens) ≡ Err (Syntax 0) → IsPlainSyntax tokens (end_of tokens)
 early_cause tokens h =
     let b = begun (kinds tokens) (Syntax 0) h in
     let whole : b.front ≡ kinds tokens = sym (b.cut ∙ ap (λ l. b.front ++ l) (no_token b.behind b.count) ∙ append-nil b.front) in

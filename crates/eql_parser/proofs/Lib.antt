@@ -21,7 +21,10 @@ pub mod ToldExpr
 pub mod ToldQuery
 pub mod Agrees
 pub mod AgreesExpr
+pub mod Meeting
+pub mod MeetingExpr
 pub mod Local
+pub mod MeetingQuery
 pub mod Eventually
 pub mod Shorter
 pub mod ExprComplete

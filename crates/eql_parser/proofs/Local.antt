@@ -93,7 +93,7 @@ module _ (x y : List Kind) where
   short_pipe_named w (Some make) us = shorter (length us) (suc (length us)) (res_map make (number_at us)) (omega arith) (short_map (length us) make (number_at us) (short 0 us (number_at us) (told_number 0 us)))
   short_pipe_named w None us = omega arith
 
-  short_pipe : (us : List Kind) → Short (length us) (q.pipe us)
+  pub short_pipe : (us : List Kind) → Short (length us) (q.pipe us)
   short_pipe (name w ∷ us) = short_pipe_named w (pipe_of w) us
   short_pipe [] = omega arith
   short_pipe (_ ∷ us) = omega arith
@@ -103,7 +103,7 @@ module _ (x y : List Kind) where
   agree_pipe (name w ∷ m) = agree_pipe_named w (pipe_of w) m
   agree_pipe (_ ∷ m) = λ i. tt
 
-  short_pipes : (n : ℕ) (us : List Kind) → Short (length us) (q.pipes n us)
+  pub short_pipes : (n : ℕ) (us : List Kind) → Short (length us) (q.pipes n us)
   short_pipes n us = short 0 us (q.pipes n us) (told_pipes 0 n us)
 
   agree_pipes : (n n' : ℕ) (m : List Kind) → length (m ++ x) ≤ n → length (m ++ y) ≤ n' → Agree x y (q.pipes n (m ++ x)) (q.pipes n' (m ++ y))
@@ -123,7 +123,7 @@ module _ (x y : List Kind) where
       (agree_pipes (length (m ++ x)) (length (m ++ y)) m (omega arith) (omega arith))
 
 -- what is left of an answer is no longer than this
-abbrev Left : {A : Type 0} → ℕ → Res A → Type 0
+abbrev pub Left : {A : Type 0} → ℕ → Res A → Type 0
 Left l (Ok p) = length p.1 ≤ l
 Left l (Err e) = Unit {0}
 
@@ -254,7 +254,7 @@ module _ (x y : List Kind) (d : ℕ) (condition condition' : List Kind → Res T
       (left_if (length us) (is_open_item k) (then_do (q.term condition us) behind_term) (Syntax (suc (length us))) (left_short (length us) (then_do (q.term condition us) behind_term) (short_in_brackets us))) short_runs
 
   -- an item is one token at least
-  left_item : (k : Kind) (us : List Kind) → Left (length us) (q.item condition (k ∷ us))
+  pub left_item : (k : Kind) (us : List Kind) → Left (length us) (q.item condition (k ∷ us))
   left_item bang_ [] = tt
   left_item bang_ (open_item_ ∷ us) = tt
   left_item bang_ (_ ∷ us) = tt

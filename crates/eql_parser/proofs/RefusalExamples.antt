@@ -4,7 +4,7 @@ use Rattle.eql_lexer.specs.declared.token.Sign.TheVariants as sign
 use Rattle.eql_lexer.specs.declared.token.Tok.{Tok}
 use Rattle.eql_lexer.specs.declared.token.Tok.TheVariants as tok
 use Rattle.eql_lexer.specs.declared.token.Token.{Token}
-use Rattle.eql_parser.specs.Refusing.{IsSyntax, IsLeftOutAt}
+use Rattle.eql_parser.specs.Refusing.{IsPlainSyntax, IsLeftOutAt}
 use Rattle.eql_parser.specs.Reading.{Syntax, LeftOut, separated, dotted, chain_from, unary, neg, expr}
 use Rattle.eql_parser.specs.QueryReading.{pipes}
 use Rattle.eql_parser.proofs.Refusals.{cause}
@@ -21,7 +21,7 @@ abbrev chained : List Token
 chained = when_a (placed (tok.Sign sign.Equal) 12 14 ∷ placed (tok.Word (codes "b")) 15 16 ∷ placed (tok.Sign sign.Equal) 17 19 ∷ placed (tok.Word (codes "c")) 20 21 ∷ [])
 
 -- a query begins with the tokens before the second `==`, and none with those through it
-second_comparison : IsSyntax chained 17
+second_comparison : IsPlainSyntax chained 17
 unfolding lib.Utf8.encode separated dotted chain_from unary neg expr pipes
 second_comparison = cause chained (Syntax 2) refl
 
@@ -30,7 +30,7 @@ abbrev cut_short : List Token
 cut_short = when_a (placed (tok.Sign sign.Equal) 12 14 ∷ [])
 
 -- some query begins so, and this is none
-early_end : IsSyntax cut_short 14
+early_end : IsPlainSyntax cut_short 14
 unfolding lib.Utf8.encode separated dotted chain_from unary neg expr pipes
 early_end = cause cut_short (Syntax 0) refl
 

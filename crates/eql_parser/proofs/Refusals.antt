@@ -8,7 +8,7 @@ use Rattle.eql_parser.specs.QueryTree.{QueryTree}
 use Rattle.eql_parser.specs.Kinds.{kinds}
 use Rattle.eql_parser.specs.QueryGrammar.{IsQuery, Reads}
 use Rattle.eql_parser.specs.Limits.{levels, OpensAtMost}
-use Rattle.eql_parser.specs.Refusing.{Split, through, end_of, IsSyntax, IsLeftOutAt, IsTooDeep, Refused, IsMemory}
+use Rattle.eql_parser.specs.Refusing.{Split, through, end_of, IsPlainSyntax, IsLeftOutAt, IsTooDeep, Refused, IsMemory}
 use Rattle.eql_parser.specs.Places.{start_or, place, Cause}
 use Rattle.eql_parser.specs.Reading.{Fail, Syntax, LeftOut, TooDeep, TooOpen}
 use Rattle.eql_parser.specs.QueryReading.{query}
@@ -46,10 +46,10 @@ place_end tokens = ap (start_or (end_of tokens)) (drop_of_length-le tokens {i = 
 
 -- each stop of the descent has its cause
 pub cause : (tokens : List Token) (e : Fail) → query (kinds tokens) ≡ Err e → Cause tokens e
-cause tokens (Syntax zero) h = subst (IsSyntax tokens) (sym (place_end tokens)) (early_cause tokens h)
+cause tokens (Syntax zero) h = subst (IsPlainSyntax tokens) (sym (place_end tokens)) (early_cause tokens h)
 cause tokens (Syntax (suc n)) h =
     let c = counted tokens (suc n) (omega arith) (place_within tokens (Syntax (suc n)) h) in
-    subst (IsSyntax tokens) (sym (place_counted tokens (suc n) c))
+    subst (IsPlainSyntax tokens) (sym (place_counted tokens (suc n) c))
     (syntax_cause tokens c.before c.behind c.here c.whole (subst (λ k. query (kinds tokens) ≡ Err (Syntax k)) c.count h))
 cause tokens (LeftOut w n) h =
     let c = counted tokens n (place_inside tokens (LeftOut w n) h) (place_within tokens (LeftOut w n) h) in
@@ -68,8 +68,8 @@ cause tokens (TooOpen n) h =
 split_through : {tokens : List Token} {at : ℕ} (s : Split tokens at) → kinds tokens ≡ through s ++ kinds s.behind
 split_through s = ap kinds s.whole ∙ kinds_both s.before (s.here ∷ s.behind) ∙ sym (append_assoc (kinds s.before) (kinds (s.here ∷ [])) (kinds s.behind))
 
-not_syntax : (tokens : List Token) (at : ℕ) (q : QueryTree) → IsQuery tokens q → IsSyntax tokens at → ⊥
-not_syntax tokens at q read (inl (s, b, none)) = none (kinds s.behind) q (subst (λ l. Reads l q) (split_through s) read)
+not_syntax : (tokens : List Token) (at : ℕ) (q : QueryTree) → IsQuery tokens q → IsPlainSyntax tokens at → ⊥
+not_syntax tokens at q read (inl (s, b, none, other)) = none (kinds s.behind) q (subst (λ l. Reads l q) (split_through s) read)
 not_syntax tokens at q read (inr (e, b, none)) = none q read
 
 not_too_deep : (tokens : List Token) (at : ℕ) (q : QueryTree) → IsQuery tokens q → levels q ≤ 64 → OpensAtMost 128 tokens → IsTooDeep tokens at → ⊥

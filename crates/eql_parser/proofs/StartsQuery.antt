@@ -57,39 +57,40 @@ tells_runs (with_ ∷ ts) =
     (tells_expected is_runs (expected is_assign number_at) (λ us n rest. IsRuns (with_ ∷ us) n rest) (pos 1, name (codes "runs") ∷ assign_ ∷ number (pos 1) ∷ [], λ rest. some_runs refl) tells_runs_at ts)
 tells_runs ts = tells_here IsRuns IsRuns (pos 1) ts (λ rest. one_run)
 
--- a length of time behind its words
+-- a length of time behind its words, from the `=` on
 abbrev IsLength : List Kind → Option Span → List Kind → Type 0
-IsLength ts s rest = IsSpan (with_ ∷ maxspan_ ∷ assign_ ∷ ts) s rest
+IsLength ts s rest = IsSpan (with_ ∷ maxspan_ ∷ ts) s rest
 
-a_second : (n : ℤ) (rest : List Kind) → IsLength (number n ∷ name (codes "s") ∷ rest) (Some (record { count = n; unit = unit.S })) rest
+a_second : (n : ℤ) (rest : List Kind) → IsLength (assign_ ∷ number n ∷ name (codes "s") ∷ rest) (Some (record { count = n; unit = unit.S })) rest
 a_second n rest = a_span refl
 
 other_unit : (n : ℤ) (w : List ℕ) (us : List Kind) (b : Bool) → is_fine_unit w ≡ b
-    → Stop IsLength (number n ∷ name w ∷ us) (if b then LeftOut w (suc (length us)) else Syntax (suc (length us)))
+    → Stop IsLength (assign_ ∷ number n ∷ name w ∷ us) (if b then LeftOut w (suc (length us)) else Syntax (suc (length us)))
 other_unit n w us true e =
-    stop_left_out IsLength (number n ∷ []) (name w ∷ us) w (name (codes "s") ∷ []) (Some (record { count = n; unit = unit.S }), [], a_second n) (λ before. fine_unit before n refl e)
-other_unit n w us false e = stop_syntax IsLength (number n ∷ []) (name w ∷ us) (Some (record { count = n; unit = unit.S }), name (codes "s") ∷ [], a_second n)
+    stop_left_out IsLength (assign_ ∷ number n ∷ []) (name w ∷ us) w (name (codes "s") ∷ []) (Some (record { count = n; unit = unit.S }), [], a_second n) (λ before. fine_unit before n refl e)
+other_unit n w us false e = stop_syntax IsLength (assign_ ∷ number n ∷ []) (name w ∷ us) (Some (record { count = n; unit = unit.S }), name (codes "s") ∷ [], a_second n)
 
-tells_unit_named : (n : ℤ) (w : List ℕ) (u : Option TimeUnit) (us : List Kind) → unit_of w ≡ u → Tells IsLength (number n ∷ name w ∷ us) (unit_named n w u us)
-tells_unit_named n w (Some u) us e = (number n ∷ name w ∷ [], refl, λ rest. a_span e)
+tells_unit_named : (n : ℤ) (w : List ℕ) (u : Option TimeUnit) (us : List Kind) → unit_of w ≡ u → Tells IsLength (assign_ ∷ number n ∷ name w ∷ us) (unit_named n w u us)
+tells_unit_named n w (Some u) us e = (assign_ ∷ number n ∷ name w ∷ [], refl, λ rest. a_span e)
 tells_unit_named n w None us e = other_unit n w us (is_fine_unit w) refl
 
-tells_unit : (n : ℤ) (us : List Kind) → Tells IsLength (number n ∷ us) (unit_at n us)
+tells_unit : (n : ℤ) (us : List Kind) → Tells IsLength (assign_ ∷ number n ∷ us) (unit_at n us)
 tells_unit n (name w ∷ us) = tells_unit_named n w (unit_of w) us refl
-tells_unit n us = stop_syntax IsLength (number n ∷ []) us (Some (record { count = n; unit = unit.S }), name (codes "s") ∷ [], a_second n)
+tells_unit n us = stop_syntax IsLength (assign_ ∷ number n ∷ []) us (Some (record { count = n; unit = unit.S }), name (codes "s") ∷ [], a_second n)
 
-a_length : Starts IsLength []
+a_length : Starts IsLength (assign_ ∷ [])
 a_length = (Some (record { count = pos 1; unit = unit.S }), number (pos 1) ∷ name (codes "s") ∷ [], a_second (pos 1))
 
-tells_length : (us : List Kind) → Tells IsLength us (then_do (number_at us) unit_at)
+tells_length : (us : List Kind) → Tells IsLength (assign_ ∷ us) (then_do (number_at us) unit_at)
 tells_length (number n ∷ us) = tells_unit n us
-tells_length us = stop_syntax IsLength [] us a_length
+tells_length us = stop_syntax IsLength (assign_ ∷ []) us a_length
 
 tells_span : (ts : List Kind) → Tells IsSpan ts (span ts)
 tells_span (with_ ∷ ts) =
     tells_token (λ us s rest. IsSpan (with_ ∷ us) s rest) IsSpan with_ ts (expected is_maxspan (expected is_assign (λ us. then_do (number_at us) unit_at)) ts) (λ us s rest i. i)
     (tells_expects is_maxspan maxspan_ (expected is_assign (λ us. then_do (number_at us) unit_at)) (λ us s rest. IsSpan (with_ ∷ us) s rest) maxspan_only (a_length.0, assign_ ∷ a_length.1, a_length.2)
-    (tells_expects is_assign assign_ (λ us. then_do (number_at us) unit_at) (λ us s rest. IsSpan (with_ ∷ maxspan_ ∷ us) s rest) assign_only a_length tells_length) ts)
+    (tells_expected is_assign (λ us. then_do (number_at us) unit_at) IsLength (a_length.0, assign_ ∷ a_length.1, a_length.2)
+    (λ k us b. subst (λ j. Tells IsLength (j ∷ us) (then_do (number_at us) unit_at)) (sym (assign_only k b)) (tells_length us))) ts)
 tells_span ts = tells_here IsSpan IsSpan None ts (λ rest. no_span)
 
 -- one pipe, and more pipes behind it
@@ -155,9 +156,12 @@ a_conditioned = ((None, t.null), any_ ∷ where_ ∷ null_ ∷ [], null_term)
 an_item_of : Starts IsItem []
 an_item_of = (null_tree, open_item_ ∷ any_ ∷ where_ ∷ null_ ∷ close_item_ ∷ [], null_item)
 
--- where an item begins
-item_opens : Starts IsItem (open_item_ ∷ [])
-item_opens = (null_tree, any_ ∷ where_ ∷ null_ ∷ close_item_ ∷ [], null_item)
+-- where an item stands, with runs behind it
+abbrev item_there : List Kind
+item_there = open_item_ ∷ any_ ∷ where_ ∷ null_ ∷ close_item_ ∷ with_ ∷ []
+
+item_opens : Starts IsItem item_there
+item_opens = (null_tree, name (codes "runs") ∷ assign_ ∷ number (pos 1) ∷ [], λ rest. an_item (null_bracketed (with_ ∷ name (codes "runs") ∷ assign_ ∷ number (pos 1) ∷ rest)) (some_runs refl))
 
 items_of : Starts IsItems []
 items_of = (an_item_of.0 ∷ [], an_item_of.1, λ rest. last_item (an_item_of.2 rest))
@@ -173,7 +177,7 @@ tells_items_more : (again : List Kind → Res (List TermTree)) → ((us : List K
 tells_items_more again h i (open_item_ ∷ us) =
     tells_map IsItems (Onto IsItem IsItems i) (open_item_ ∷ us) (λ is. i ∷ is) (again (open_item_ ∷ us)) (λ vs is rest j ts k. next_item k j) (h (open_item_ ∷ us))
 tells_items_more again h i (bang_ ∷ open_item_ ∷ us) =
-    stop_left_out (Onto IsItem IsItems i) [] (bang_ ∷ open_item_ ∷ us) (codes "!") (open_item_ ∷ [])
+    stop_left_out (Onto IsItem IsItems i) [] (bang_ ∷ open_item_ ∷ us) (codes "!") item_there
     (i ∷ item_opens.0 ∷ [], item_opens.1, λ rest ts k. next_item k (last_item (item_opens.2 rest))) (λ before. missing_event)
 tells_items_more again h i us = tells_here (Onto IsItem IsItems i) (Onto IsItem IsItems i) (i ∷ []) us (λ rest ts k. last_item k)
 
@@ -202,7 +206,7 @@ module _ (condition : List Kind → Res Tree) (tells : (ts : List Kind) → Tell
       (λ x vs. tells_map IsRuns (Onto IsKeyed IsItem x) vs (term_tree_of x.0 x.1) (runs vs) (λ ws n rest i ts h. an_item h i) (tells_runs vs))
 
   tells_item : (us : List Kind) → Tells IsItem us (q.item condition us)
-  tells_item (bang_ ∷ open_item_ ∷ us) = stop_left_out IsItem [] (bang_ ∷ open_item_ ∷ us) (codes "!") (open_item_ ∷ []) item_opens (λ before. missing_event)
+  tells_item (bang_ ∷ open_item_ ∷ us) = stop_left_out IsItem [] (bang_ ∷ open_item_ ∷ us) (codes "!") item_there item_opens (λ before. missing_event)
   tells_item us = tells_item_here us
 
   tells_items : (n : ℕ) (us : List Kind) → Tells IsItems us (q.items condition n us)

@@ -1,7 +1,7 @@
 -- The place of a token in the text.
 use Rattle.std.specs.Prelude.{ℕ, ◌-◌, List, [], ◌∷◌, length, drop}
 use Rattle.eql_lexer.specs.declared.token.Token.{Token}
-use Rattle.eql_parser.specs.Refusing.{end_of, IsSyntax, IsLeftOutAt, IsTooDeep}
+use Rattle.eql_parser.specs.Refusing.{end_of, IsPlainSyntax, IsLeftOutAt, IsTooDeep}
 use Rattle.eql_parser.specs.Reading.{Fail, Syntax, LeftOut, TooDeep, TooOpen}
 
 -- the start of the first token, or what is given where there is none
@@ -15,7 +15,7 @@ place tokens left = start_or (end_of tokens) (drop (length tokens - left) tokens
 
 -- the cause of a stop of the descent, at its place
 abbrev pub Cause : List Token → Fail → Type 0
-Cause tokens (Syntax left) = IsSyntax tokens (place tokens left)
+Cause tokens (Syntax left) = IsPlainSyntax tokens (place tokens left)
 Cause tokens (LeftOut word left) = IsLeftOutAt tokens word (place tokens left)
 Cause tokens (TooDeep left) = IsTooDeep tokens (place tokens left)
 Cause tokens (TooOpen left) = IsTooDeep tokens (place tokens left)

@@ -7,7 +7,7 @@ use Rattle.eql_parser.specs.declared.refusal.ParseRefused.{ParseRefused}
 use Rattle.eql_parser.specs.declared.refusal.ParseRefused.TheVariants as refused
 use Rattle.eql_parser.specs.Tree.{Tree, none, more}
 use Rattle.eql_parser.specs.QueryTree.{QueryTree}
-use Rattle.eql_parser.specs.Kinds.{Kind, bang_, bar_, join_, matches, regex_, sample_, sequence_, name, number, open_, open_item_, kinds}
+use Rattle.eql_parser.specs.Kinds.{Kind, any_, assign_, bang_, bar_, close_item_, join_, matches, null_, regex_, sample_, sequence_, where_, with_, name, number, open_, open_item_, kinds}
 use Rattle.eql_parser.specs.Grammar.{IsArguments}
 use Rattle.eql_parser.specs.QueryGrammar.{IsQuery, Reads, is_fine_unit, pipe_of}
 use Rattle.eql_parser.specs.Limits.{levels, open_behind}
@@ -31,10 +31,11 @@ IsDeeperThan most front = (rest : List Kind) (query : QueryTree) → Reads (fron
 pub data IsLeftOut : (before from : List Kind) → (word : List ℕ) → (instead : List Kind) → Type 0 where
   samples : {ts : List Kind} → IsLeftOut [] (sample_ ∷ ts) (codes "sample") (sequence_ ∷ [])
   joins : {ts : List Kind} → IsLeftOut [] (join_ ∷ ts) (codes "join") (sequence_ ∷ [])
-  missing_event : {before ts : List Kind} → IsLeftOut before (bang_ ∷ open_item_ ∷ ts) (codes "!") (open_item_ ∷ [])
+  -- an item, behind which runs may follow: `until` has none
+  missing_event : {before ts : List Kind} → IsLeftOut before (bang_ ∷ open_item_ ∷ ts) (codes "!") (open_item_ ∷ any_ ∷ where_ ∷ null_ ∷ close_item_ ∷ with_ ∷ [])
   regex : {before ts : List Kind} → IsLeftOut before (regex_ false ∷ ts) (codes "regex") (matches Colon ∷ [])
   folding_regex : {before ts : List Kind} → IsLeftOut before (regex_ true ∷ ts) (codes "regex~") (matches Colon ∷ [])
-  fine_unit : {before ts : List Kind} {w : List ℕ} (front : List Kind) (n : ℤ) → before ≡ front ++ number n ∷ [] → is_fine_unit w ≡ true
+  fine_unit : {before ts : List Kind} {w : List ℕ} (front : List Kind) (n : ℤ) → before ≡ front ++ assign_ ∷ number n ∷ [] → is_fine_unit w ≡ true
       → IsLeftOut before (name w ∷ ts) w (name (codes "s") ∷ [])
   other_pipe : {before ts : List Kind} {w : List ℕ} (front : List Kind) → before ≡ front ++ bar_ ∷ [] → pipe_of w ≡ None → IsLeftOut before (name w ∷ ts) w (name (codes "head") ∷ [])
   number_with_base : {before us rest : List Kind} {w : List ℕ} {a b : Tree} → bytes_eq w (codes "number") ≡ true → IsArguments us (more a (more b none)) rest
@@ -64,11 +65,19 @@ abbrev pub IsSyntax : List Token → ℕ → Type 0
 IsSyntax tokens at =
     ((s : Split tokens at) × Begins (kinds s.before) × NoQueryBegins (through s)) ⊎ ((at ≡ end_of tokens) × Begins (kinds tokens) × ((query : QueryTree) → IsQuery tokens query → ⊥))
 
+-- a left-out form begins at the place, where some query goes on with another form in its stead
+abbrev pub LeavesOut : {tokens : List Token} {at : ℕ} → Split tokens at → List ℕ → Type 0
+LeavesOut s word = (instead : List Kind) × IsLeftOut (kinds s.before) (kinds (s.here ∷ s.behind)) word instead × Begins (kinds s.before ++ instead)
+
+-- As `IsSyntax`, and no left-out form stands at the place where the grammar could go on with another form.
+abbrev pub IsPlainSyntax : List Token → ℕ → Type 0
+IsPlainSyntax tokens at =
+    ((s : Split tokens at) × Begins (kinds s.before) × NoQueryBegins (through s) × ((word : List ℕ) → LeavesOut s word → ⊥))
+    ⊎ ((at ≡ end_of tokens) × Begins (kinds tokens) × ((query : QueryTree) → IsQuery tokens query → ⊥))
+
 -- A left-out form begins at the place, some query goes on there with another form in its stead, and the tokens are no query.
 abbrev pub IsLeftOutAt : List Token → List ℕ → ℕ → Type 0
-IsLeftOutAt tokens word at =
-    ((s : Split tokens at) × (instead : List Kind) × IsLeftOut (kinds s.before) (kinds (s.here ∷ s.behind)) word instead × Begins (kinds s.before ++ instead))
-    × ((query : QueryTree) → IsQuery tokens query → ⊥)
+IsLeftOutAt tokens word at = ((s : Split tokens at) × LeavesOut s word) × ((query : QueryTree) → IsQuery tokens query → ⊥)
 
 -- Some query begins with the tokens through the place, and there more than 128 parentheses stand open, or each such query has more than 64 levels.
 abbrev pub IsTooDeep : List Token → ℕ → Type 0
@@ -77,7 +86,7 @@ IsTooDeep tokens at = (s : Split tokens at) × Begins (through s) × ((128 < ope
 -- the cause of each refusal
 abbrev pub Refused : List Token → ParseRefused → Type 0
 Refused tokens refused.Memory = Unit {0}
-Refused tokens (refused.Syntax at) = IsSyntax tokens at
+Refused tokens (refused.Syntax at) = IsPlainSyntax tokens at
 Refused tokens (refused.LeftOut word at) = IsLeftOutAt tokens word at
 Refused tokens (refused.TooDeep at) = IsTooDeep tokens at
 

@@ -160,6 +160,22 @@ fn queries_have_these_canonical_texts(rt: HostRuntime) -> Result<(), Fail> {
             "parse: LeftOut nanos at 24",
         ),
         ("any where number(\"1\", 2)", "parse: LeftOut number at 10"),
+        ("any where a regex~ \"b\"", "parse: LeftOut regex~ at 12"),
+        (
+            "sequence by a.until ![any where true]",
+            "parse: LeftOut ! at 20",
+        ),
+        (
+            "sequence [any where true] until ![any where true]",
+            "parse: Syntax at 32",
+        ),
+        ("any where sample", "parse: Syntax at 10"),
+        ("any where 5 micros", "parse: Syntax at 12"),
+        ("any where number(1, regex)", "parse: Syntax at 20"),
+        (
+            "any where number(1, 2) regex \"a\"",
+            "parse: LeftOut number at 10",
+        ),
         ("any where", "parse: Syntax at 9"),
         ("", "parse: Syntax at 0"),
         ("until where true", "parse: Syntax at 0"),
