@@ -1,0 +1,8 @@
+use Rattle.std.proofs.Common.{sym, ap, ◌∙◌, encode_utf8_all}
+use Rattle.std.proofs.lemmas.Str.{encodes-chars, IsUtf8-string_bytes}
+use Rattle.eql_lines.proofs.scan.name_path.Goals as goal
+
+pub returns : goal.returns
+returns c =
+    c.in_ok-clone.ensures.cases
+    ∙ sym (ap encode_utf8_all (sym c.text.ensures) ∙ encodes-chars _ (IsUtf8-string_bytes c.text.result.now))

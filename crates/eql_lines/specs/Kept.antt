@@ -1,0 +1,7 @@
+-- Texts whose memory serves again.
+use Rattle.std.specs.Prelude.{ℕ, List, map, take, string_bytes}
+use Rattle.eql_lines.specs.declared.kept.Kept.{Kept}
+
+-- the texts that are in use
+abbrev pub kept : Kept → List (List ℕ)
+kept k = map string_bytes (take k.used k.texts.items)
