@@ -1,0 +1,10 @@
+//! Worked rows of what lines give to plans, written as users write queries, mappings and lines. Their expected values are
+//! worked out by hand.
+#![tactic(auto)]
+
+#[cfg(test)]
+mod plans;
+#[cfg(test)]
+mod stages;
+#[cfg(test)]
+mod trial;

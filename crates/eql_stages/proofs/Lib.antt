@@ -1,0 +1,6 @@
+mod Bits
+mod Saying
+mod Comparing
+mod Made
+mod Fits
+mod Counted

@@ -1,0 +1,214 @@
+-- The items of a reader that are made of those of a query.
+use Rattle.std.proofs.Common.{◌≡◌, ◌<◌, ◌≤◌, ℕ, zero, suc, ◌+◌, Bool, true, false, List, [], ◌∷◌, ◌++◌, map, length, take, get_or, Some, None, refl, ap, sym, subst, ◌∙◌, arith}
+use Rattle.std.specs.Prelude.{not, ◌&&◌, ◌||◌, if◌then◌else◌, replicate, min, ◌^◌, ◌-◌}
+use Rattle.std.specs.List.{flat_map, list_all}
+use Rattle.std.specs.Option.{option_map}
+use Rattle.std.proofs.lemmas.Bool.{and_parts, and_from, leb-true, le-leb}
+use Rattle.std.proofs.lemmas.Grind.{flat_map-append}
+use Rattle.std.proofs.lemmas.List.Sums.{sum_by-cons, sum_by_push}
+use Rattle.std.proofs.lemmas.List.{map-append, append-nil, length-append, length-replicate, take_more}
+use Rattle.eql_values.specs.declared.value.Value.{Value}
+use Rattle.eql_values.specs.declared.value.Kind.{Kind}
+use Rattle.eql_values.specs.declared.item.Mask.{Mask}
+use Rattle.eql_parser.specs.declared.expr.FieldRef.{FieldRef}
+use Rattle.eql_parser.specs.declared.query.Term.{Term}
+use Rattle.eql_parser.specs.QueryTree.{TermTree, term_tree}
+use Rattle.eql_check.specs.Rules.{has_runs}
+use Rattle.eql_check.specs.Comparisons.{is_null}
+use Rattle.eql_check.specs.ThreeValued.{is_true}
+use Rattle.eql_check.specs.Truth.{value_at, means}
+use Rattle.eql_code.specs.Stack.{gives}
+use Rattle.eql_stages.specs.Given.{Given, routes_by}
+use Rattle.eql_stages.specs.Stages.{Stage, has_category, key_of, key_at, count_of, stage_of, item_stages, stages_in, until_in}
+use Rattle.eql_stages.specs.Keys.{key_by, values_of, is_given}
+use Rattle.eql_stages.specs.Judging.{judged, given_by, stages_of, said_to, is_within, Reader, reads_by}
+use Rattle.eql_stages.specs.Planned.{Planned, wanted_of, got_of, line_of}
+use Rattle.eql_lines.specs.Reading.{line_read}
+use Rattle.eql_stages.specs.Compiling.{key_field, Judges, JudgeAll, JudgesEnd}
+use Rattle.eql_stages.specs.declared.judge.Judge.{Judge}
+use Rattle.eql_stages.proofs.Fits.{append-all}
+use Rattle.eql_stages.proofs.Saying.{said-item, said-none, said-until}
+
+one_key : (b o t : Bool) (v : Value) (vs : List Value)
+    → (if (not b || o) && t then Some (v ∷ vs) else None) ≡ (if b && not o then None else option_map (λ (key : List Value). v ∷ key) (if t then Some vs else None))
+one_key true true true v vs = refl
+one_key true true false v vs = refl
+one_key true false true v vs = refl
+one_key true false false v vs = refl
+one_key false true true v vs = refl
+one_key false true false v vs = refl
+one_key false false true v vs = refl
+one_key false false false v vs = refl
+
+-- the key of the slots is that of the key fields
+pub keys_made : (fields : List (List ℕ × Kind)) (categories : List (List ℕ)) (slots : List Value) (keys : List FieldRef)
+    → key_by slots (map (key_field fields) keys) ≡ key_of fields categories slots keys
+keys_made fields categories slots [] = refl
+keys_made fields categories slots (key ∷ keys) =
+    one_key (is_null (value_at fields slots key.name)) key.optional (list_all (is_given slots) (map (key_field fields) keys))
+    (value_at fields slots key.name) (values_of slots (map (key_field fields) keys))
+    ∙ ap (λ (g : Given). if is_null (value_at fields slots key.name) && not key.optional then None
+    else option_map (λ (key' : List Value). value_at fields slots key.name ∷ key') g) (keys_made fields categories slots keys)
+
+-- an item of the stage's category, condition and keys judges as the stage does
+pub judge_made : (fields : List (List ℕ × Kind)) (stage : Stage) (judge : Judge) → judge.category ≡ stage.term.category
+    → ((slots : List Value) → gives judge.code slots ≡ means (value_at fields slots) stage.term.cond)
+    → judge.keys ≡ map (key_field fields) stage.keys → Judges fields stage judge
+judge_made fields stage judge category code keys = record {
+  same = λ categories slots.
+      let key : key_by slots judge.keys ≡ key_of fields categories slots stage.keys =
+      ap (key_by slots) keys ∙ keys_made fields categories slots stage.keys in
+      (λ i. if has_category categories (category i) && is_true (code slots i) then key i else None);
+}
+
+map-replicate : {A B : Type 0} (f : A → B) (n : ℕ) (x : A) → map f (replicate n x) ≡ replicate n (f x)
+map-replicate f zero x = refl
+map-replicate f (suc n) x = ap (λ l. f x ∷ l) (map-replicate f n x)
+
+-- one item more stands for as many stages more
+pub one_judge_more : (fields : List (List ℕ × Kind)) (stages : List Stage) (stage : Stage) (n : ℕ) (judges : List Judge) (judge : Judge)
+    → JudgeAll fields stages judges → Judges fields stage judge → judge.runs ≡ n
+    → JudgeAll fields (stages ++ replicate n stage) (judges ++ judge ∷ [])
+one_judge_more fields stages stage n judges judge all one runs = record {
+  same = λ categories slots.
+      flat_map-append (λ (j : Judge). replicate j.runs (judged categories slots j)) judges (judge ∷ [])
+      ∙ (λ i. all.same categories slots i ++ append-nil (replicate (runs i) (one.same categories slots i)) i)
+      ∙ ap (λ (l : List Given). map (key_at fields categories slots) stages ++ l) (sym (map-replicate (key_at fields categories slots) n stage))
+      ∙ sym (map-append (key_at fields categories slots) stages (replicate n stage));
+  count =
+      let more : stages_of (judges ++ judge ∷ []) ≡ stages_of judges + judge.runs = sum_by_push (λ (j : Judge). j.runs) judges judge in
+      let old = all.count in
+      let new = length-append stages (replicate n stage) in
+      let some = length-replicate n stage in
+      omega arith;
+}
+
+-- the same at an item of a query
+pub one_term_more : (fields : List (List ℕ × Kind)) (shared : List FieldRef) (terms : List TermTree) (term : TermTree) (judges : List Judge)
+    (judge : Judge) → JudgeAll fields (flat_map (item_stages shared) terms) judges → Judges fields (stage_of shared term) judge
+    → judge.runs ≡ count_of term.runs → JudgeAll fields (flat_map (item_stages shared) (terms ++ term ∷ [])) (judges ++ judge ∷ [])
+one_term_more fields shared terms term judges judge all one runs =
+    let is : flat_map (item_stages shared) (terms ++ term ∷ []) ≡ flat_map (item_stages shared) terms ++ item_stages shared term =
+    flat_map-append (item_stages shared) terms (term ∷ []) ∙ ap (λ (l : List Stage). flat_map (item_stages shared) terms ++ l) (append-nil (item_stages shared term)) in
+    subst (λ (l : List Stage). JudgeAll fields l (judges ++ judge ∷ [])) (sym is)
+    (one_judge_more fields (flat_map (item_stages shared) terms) (stage_of shared term) (count_of term.runs) judges judge all one runs)
+
+pub length-given : (categories : List (List ℕ)) (slots : List Value) (judges : List Judge) → length (given_by categories slots judges) ≡ stages_of judges
+length-given categories slots [] = refl
+length-given categories slots (judge ∷ judges) =
+    let rest = length-given categories slots judges in
+    let whole : stages_of (judge ∷ judges) ≡ judge.runs + stages_of judges = sum_by-cons (λ (j : Judge). j.runs) judge judges in
+    let both : length (given_by categories slots (judge ∷ judges)) ≡ length (replicate judge.runs (judged categories slots judge)) + length (given_by categories slots judges) =
+    length-append (replicate judge.runs (judged categories slots judge)) (given_by categories slots judges) in
+    let some = length-replicate judge.runs (judged categories slots judge) in
+    omega arith
+
+-- what an item's stages are given is said to its key
+said_more : (given : List Given) (one : Given) (p n : ℕ) (mask : Mask) → length given ≡ p
+    → mask.low ≡ 2 ^ min (p + suc n) 128 - 2 ^ min p 128 → mask.high ≡ 2 ^ (p + suc n - 128) - 2 ^ (p - 128)
+    → said_to one mask false (routes_by given None) ≡ routes_by (given ++ replicate (suc n) one) None
+said_more given None p n mask len low high = sym (said-none given (suc n))
+said_more given (Some key) p n mask len low high = said-item given key p n mask len low high
+
+pub said_judge : (categories : List (List ℕ)) (slots : List Value) (judges : List Judge) (judge : Judge) (p r : ℕ) (mask : Mask)
+    → stages_of judges ≡ p → judge.runs ≡ r → 1 ≤ r
+    → mask.low ≡ 2 ^ min (p + r) 128 - 2 ^ min p 128 → mask.high ≡ 2 ^ (p + r - 128) - 2 ^ (p - 128)
+    → said_to (judged categories slots judge) mask false (routes_by (given_by categories slots judges) None)
+    ≡ routes_by (given_by categories slots (judges ++ judge ∷ [])) None
+said_judge categories slots judges judge p zero mask len runs some low high = absurd (omega arith)
+said_judge categories slots judges judge p (suc n) mask len runs some low high =
+    said_more (given_by categories slots judges) (judged categories slots judge) p n mask (length-given categories slots judges ∙ len) low high
+    ∙ ap (λ (l : List Given). routes_by l None)
+    (sym (flat_map-append (λ (j : Judge). replicate j.runs (judged categories slots j)) judges (judge ∷ [])
+    ∙ (λ i. given_by categories slots judges ++ append-nil (replicate (runs i) (judged categories slots judge)) i)))
+
+-- what lines give to a reader of a query's items is what they give to the query
+pub reader_is : (reader : Reader) (planned : Planned) → reader.wanted ≡ wanted_of planned
+    → JudgeAll planned.fields (stages_in planned.query.body) reader.judges
+    → JudgesEnd planned.fields (until_in planned.query.body) reader.until
+    → reads_by reader ≡ line_of planned
+reader_is reader planned wanted judge end =
+    λ i shard line bytes.
+    got_of (λ f. routes_by (judge.same f.categories f.slots i) (end.same f.categories f.slots i)) shard line (line_read (wanted i) bytes)
+
+take_within : (k : ℕ) (judges : List Judge) → stages_of (take k judges) ≤ stages_of judges
+take_within zero judges = omega arith
+take_within (suc k) [] = omega arith
+take_within (suc k) (judge ∷ judges) =
+    let rest = take_within k judges in
+    let whole : stages_of (judge ∷ judges) ≡ judge.runs + stages_of judges = sum_by-cons (λ (j : Judge). j.runs) judge judges in
+    let part : stages_of (take (suc k) (judge ∷ judges)) ≡ judge.runs + stages_of (take k judges) = sum_by-cons (λ (j : Judge). j.runs) judge (take k judges) in
+    omega arith
+
+-- the items up to one, and it
+pub items_on : (judges : List Judge) (i : ℕ) (judge : Judge) → i < length judges → judge ≡ get_or judges i judge
+    → take (i + 1) judges ≡ take i judges ++ judge ∷ []
+items_on judges i judge h is = take_more judges i judge h ∙ (λ k. take i judges ++ sym is k ∷ [])
+
+-- the stages so far, and those of one item more, are no more than all
+pub stages_on : (judges : List Judge) (i : ℕ) (judge : Judge) → i < length judges → judge ≡ get_or judges i judge
+    → (stages_of (take (i + 1) judges) ≡ stages_of (take i judges) + judge.runs) × (stages_of (take i judges) + judge.runs ≤ stages_of judges)
+stages_on judges i judge h is =
+    let more : stages_of (take (i + 1) judges) ≡ stages_of (take i judges) + judge.runs =
+    ap stages_of (items_on judges i judge h is) ∙ sum_by_push (λ (j : Judge). j.runs) (take i judges) judge in
+    let most = take_within (i + 1) judges in
+    (more, omega arith)
+
+-- what holds of all items holds of each
+pub one_of_all : (p : Judge → Bool) (judges : List Judge) (i : ℕ) (judge : Judge) → list_all p judges ≡ true → i < length judges
+    → judge ≡ get_or judges i judge → p judge ≡ true
+one_of_all p [] i judge all h is = absurd (omega arith)
+one_of_all p (j ∷ judges) zero judge all h is = ap p is ∙ (and_parts (p j) (list_all p judges) all).0
+one_of_all p (j ∷ judges) (suc i) judge all h is = one_of_all p judges i judge (and_parts (p j) (list_all p judges) all).1 (omega arith) is
+
+-- a stack that serves conditions serves them where it is deeper
+pub deeper : (d e : ℕ) (judges : List Judge) → d ≤ e → list_all (is_within d) judges ≡ true → list_all (is_within e) judges ≡ true
+deeper d e [] h all = refl
+deeper d e (judge ∷ judges) h all =
+    let both = and_parts (is_within d judge) (list_all (is_within d) judges) all in
+    let low = leb-true judge.code.1 d both.0 in
+    and_from (is_within e judge) (list_all (is_within e) judges) (le-leb judge.code.1 e (omega arith)) (deeper d e judges h both.1)
+
+pub one_deeper : (judges : List Judge) (i : ℕ) (judge : Judge) (d e : ℕ) → i < length judges → judge ≡ get_or judges i judge → d ≤ e
+    → judge.code.1 ≤ e → list_all (is_within d) (take i judges) ≡ true → list_all (is_within e) (take (i + 1) judges) ≡ true
+one_deeper judges i judge d e h is less within all =
+    ap (list_all (is_within e)) (items_on judges i judge h is)
+    ∙ append-all (is_within e) (take i judges) (judge ∷ []) (deeper d e (take i judges) less all)
+    (and_from (is_within e judge) true (le-leb judge.code.1 e within) refl)
+
+-- each item of a checked query has its runs
+pub term_runs : (terms : List Term) (i : ℕ) (term : Term) → list_all has_runs (map term_tree terms) ≡ true → i < length terms
+    → term ≡ get_or terms i term → has_runs (term_tree term) ≡ true
+term_runs [] i term all h is = absurd (omega arith)
+term_runs (t ∷ terms) zero term all h is = ap (λ (x : Term). has_runs (term_tree x)) is ∙ (and_parts (has_runs (term_tree t)) (list_all has_runs (map term_tree terms)) all).0
+term_runs (t ∷ terms) (suc i) term all h is = term_runs terms i term (and_parts (has_runs (term_tree t)) (list_all has_runs (map term_tree terms)) all).1 (omega arith) is
+
+-- the items so far, and one more
+pub terms_on : (fields : List (List ℕ × Kind)) (shared : List FieldRef) (terms : List Term) (i : ℕ) (term : Term) (judges after : List Judge)
+    (judge : Judge) → i < length terms → term ≡ get_or terms i term → after ≡ judges ++ judge ∷ []
+    → JudgeAll fields (flat_map (item_stages shared) (map term_tree (take i terms))) judges
+    → Judges fields (stage_of shared (term_tree term)) judge → judge.runs ≡ count_of term.runs
+    → JudgeAll fields (flat_map (item_stages shared) (map term_tree (take (i + 1) terms))) after
+terms_on fields shared terms i term judges after judge h is pushed all one runs =
+    let more : map term_tree (take (i + 1) terms) ≡ map term_tree (take i terms) ++ term_tree term ∷ [] =
+    ap (map term_tree) (take_more terms i term h ∙ (λ k. take i terms ++ sym is k ∷ [])) ∙ map-append term_tree (take i terms) (term ∷ []) in
+    subst (λ (l : List TermTree). JudgeAll fields (flat_map (item_stages shared) l) after) (sym more)
+    (subst (JudgeAll fields (flat_map (item_stages shared) (map term_tree (take i terms) ++ term_tree term ∷ []))) (sym pushed)
+    (one_term_more fields shared (map term_tree (take i terms)) (term_tree term) judges judge all one runs))
+
+pub each_on : (p : Judge → Bool) (judges after : List Judge) (judge : Judge) → after ≡ judges ++ judge ∷ [] → list_all p judges ≡ true
+    → p judge ≡ true → list_all p after ≡ true
+each_on p judges after judge pushed all one =
+    ap (list_all p) pushed ∙ append-all p judges (judge ∷ []) all (and_from (p judge) true one refl)
+
+-- one stage
+pub one_stage : (fields : List (List ℕ × Kind)) (stage : Stage) (judge : Judge) (judges : List Judge) → judges ≡ judge ∷ [] → Judges fields stage judge
+    → judge.runs ≡ 1 → JudgeAll fields (stage ∷ []) judges
+one_stage fields stage judge judges is one runs =
+    let none : JudgeAll fields [] [] = record { same = λ categories slots. refl; count = refl } in
+    subst (JudgeAll fields (stage ∷ [])) (sym is) (one_judge_more fields [] stage 1 [] judge none one runs)
+
+-- the end of a key is said to it, where the item gives one
+pub said_end : (given : List Given) (one : Given) → said_to one (record { low = 0; high = 0 }) true (routes_by given None) ≡ routes_by given one
+said_end given None = refl
+said_end given (Some key) = said-until given key

@@ -1,0 +1,11 @@
+pub mod Given
+pub mod Stages
+pub mod Planned
+pub mod Keys
+pub mod Gathering
+pub mod Judging
+pub mod Compiling
+pub mod Plans
+pub mod Laws
+pub mod Standing
+pub mod StagesExamples
