@@ -1,0 +1,100 @@
+//! The keys of matches as JSON.
+ghost use Rattle.std.specs.Prelude.{◌≡◌, ◌++◌, IfOk, OnOk, codes, encode_utf8_all, map, string_bytes};
+ghost use Rattle.std.specs.Fmt.{decimal};
+ghost use Rattle.serde_json.specs.View.{view};
+ghost use Rattle.eql_book.specs.Listing.{ip_text, json_value, key_text};
+
+use eql_values::{Text, Value as FieldValue};
+use serde_json::Value;
+use std::alloc::{AllocError, Global};
+
+/// Prints four numbers with dots between.
+fn print_numbers(
+    text: &mut String,
+    first: u32,
+    second: u32,
+    third: u32,
+    fourth: u32,
+) -> Result<(), AllocError>
+    ensures { OnOk result (string_bytes text.new ≡ string_bytes text.old ++ decimal first
+        ++ codes "." ++ decimal second ++ codes "." ++ decimal third ++ codes "."
+        ++ decimal fourth) }
+{
+    write!(text, "{first}.{second}.{third}.{fourth}")
+}
+
+/// An IPv4 address as four numbers with dots between.
+fn ip_text(alloc: Global, ip: u32) -> Result<String, AllocError>
+    ensures { IfOk result (λ text. string_bytes text ≡ ip_text ip) }
+{
+    let mut text = String::new(alloc);
+    print_numbers(
+        &mut text,
+        ip / 16777216,
+        ip / 65536 % 256,
+        ip / 256 % 256,
+        ip % 256,
+    )?;
+    Ok(text)
+}
+
+/// A copy of a text.
+fn text_bytes(text: &Text) -> Result<String, AllocError>
+    ensures { IfOk result (λ copy. string_bytes copy ≡ encode_utf8_all text.now) }
+{
+    let copy = text.text().clone()?;
+    Ok(copy)
+}
+
+/// A value of a key as JSON.
+fn json_value(alloc: Global, value: &FieldValue) -> Result<Value, AllocError>
+    ensures { IfOk result (λ v. view v ≡ json_value value.now) }
+{
+    match value {
+        FieldValue::Null => Ok(Value::Null),
+        FieldValue::Bool(b) => Ok(Value::Bool(*b)),
+        FieldValue::Long(n) => Ok(Value::from(*n)),
+        FieldValue::Text(text) => {
+            let copy = text_bytes(text)?;
+            Ok(Value::String(copy))
+        }
+        FieldValue::Ip(ip) => {
+            let text = ip_text(alloc, *ip)?;
+            Ok(Value::String(text))
+        }
+    }
+}
+
+/// The values of a key as JSON.
+fn json_values(alloc: Global, key: &Vec<FieldValue>) -> Result<Vec<Value>, AllocError>
+    ensures { IfOk result (λ list. map view list.items ≡ map json_value key.now.items) }
+{
+    let mut list = Vec::new(alloc);
+    for value in key {
+        list.push(json_value(alloc, value)?)?;
+    }
+    Ok(list)
+}
+
+/// Prints the values of a key as a compact JSON array.
+pub(crate) fn print_key(
+    alloc: Global,
+    waiting: &mut String,
+    key: &Vec<FieldValue>,
+) -> Result<(), AllocError>
+    ensures { OnOk result
+        (string_bytes waiting.new ≡ string_bytes waiting.old ++ key_text key.now.items) }
+{
+    if key.is_empty() {
+        return waiting.push_str("[]");
+    }
+    let text = key_string(alloc, key)?;
+    waiting.push_str(&text)
+}
+
+/// The values of a key as a compact JSON array.
+fn key_string(alloc: Global, key: &Vec<FieldValue>) -> Result<String, AllocError>
+    ensures { IfOk result (λ text. string_bytes text ≡ key_text key.now.items) }
+{
+    Value::Array(json_values(alloc, key)?).to_string(alloc)
+}
