@@ -1,0 +1,17 @@
+pub mod Times
+pub mod Laws
+pub mod ValueLaws
+pub mod TextBytes
+pub mod Keyed
+pub mod CutLaws
+pub mod Standing
+pub mod WholeLaws
+pub mod FitLaws
+pub mod FitLanes
+pub mod FitHolders
+pub mod FitWhole
+pub mod MaskLaws
+pub mod PlaceLaws
+pub mod LiftKeeps
+pub mod OldPlaces
+pub mod Restored

@@ -1,0 +1,11 @@
+pub mod Formats
+pub mod Reading
+pub mod Ordered
+pub mod Values
+pub mod CutValues
+pub mod Agreeing
+pub mod Domain
+pub mod Whole
+pub mod Fitting
+pub mod Placing
+pub mod Lifting

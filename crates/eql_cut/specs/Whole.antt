@@ -1,0 +1,22 @@
+-- The text of a cut.
+use Rattle.std.specs.Prelude.{◌≡◌, ℕ, List}
+use Rattle.eql_cut.specs.declared.cut.Cut.{Cut}
+use Rattle.eql_cut.specs.declared.reader.Version.{Version}
+use Rattle.eql_cut.specs.CutValues.{cut, cut_text, number_of}
+
+-- the bytes are the text of the cut in the format of this number, 1 to 3. In the first format every place is 0, and in the first two no mask has a
+-- stage above 128
+pub record IsText (format : ℕ) (c : Cut) (bytes : List ℕ) : Type 0 where
+  pub version : Version
+  pub number : number_of version ≡ format
+  pub fits : (cut version).Fits c
+  pub spelt : bytes ≡ cut_text version c
+
+-- the bytes are the text of this cut in this format, and of no other cut and in no other format
+pub record IsTextOf (format : ℕ) (c : Cut) (bytes : List ℕ) : Type 0 where
+  pub is : IsText format c bytes
+  pub alone : (other : ℕ) (d : Cut) → IsText other d bytes → (other ≡ format) × (d ≡ c)
+
+-- the bytes are the text of no cut, in no format
+abbrev pub IsNoText : List ℕ → Type 0
+IsNoText bytes = (format : ℕ) (c : Cut) → IsText format c bytes → ⊥

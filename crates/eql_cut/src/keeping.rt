@@ -1,0 +1,27 @@
+//! Laws of cuts, each the contract of a function that does nothing.
+ghost use Rattle.eql_cut.specs.Lifting.{FirstFormatUnplaced, LiftedStands, LiftedFits};
+ghost use Rattle.eql_cut.specs.Lifting.{LiftedIsPlaced};
+
+use eql_laws::opening_finds;
+use eql_values::{orders_agree_with_equality, orders_told_alike};
+
+/// A cut whose text is in the first format has no places, as `lift` asks.
+pub fn first_format_has_no_places()
+    ensures { FirstFormatUnplaced }
+{}
+
+/// A cut whose places are set anew stands in the orders and counts of a text, where it did before,
+/// and it fits the same runs.
+pub fn lifted_cuts_fit()
+    ensures stand { LiftedStands }
+    ensures fit { LiftedFits }
+{
+    orders_told_alike();
+    orders_agree_with_equality();
+    opening_finds();
+}
+
+/// A cut that has lost its places, and nothing else, is had again by the places of its lines.
+pub fn lifted_cuts_are_placed()
+    ensures { LiftedIsPlaced }
+{}

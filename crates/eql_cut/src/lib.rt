@@ -1,0 +1,32 @@
+//! Cuts: what a run keeps so that a later run can go on, and the text of it in three formats.
+#![tactic(auto)]
+
+mod books;
+mod chains;
+mod coded;
+mod compare;
+mod counts;
+mod cut;
+mod fitting;
+mod heads;
+mod keeping;
+mod lanes;
+mod lifting;
+mod lists;
+mod numbers;
+mod ordered;
+mod orders;
+mod placed;
+mod reader;
+mod routes;
+mod texts;
+mod values;
+mod whole;
+
+pub use compare::{Differs, agree};
+pub use cut::{Cut, CutHead};
+pub use fitting::fits;
+pub use keeping::{first_format_has_no_places, lifted_cuts_are_placed, lifted_cuts_fit};
+pub use lifting::{lift, named};
+pub use reader::CutRefused;
+pub use whole::{Decoded, decode, encode};

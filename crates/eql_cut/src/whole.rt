@@ -1,0 +1,133 @@
+//! A cut from all of the bytes.
+ghost use Rattle.std.specs.Prelude.{◌≡◌, OnOk, IfOk, IfErr};
+ghost use Rattle.eql_cut.specs.declared.reader.Version.TheVariants as version;
+ghost use Rattle.eql_cut.specs.Reading.{Reads, Answers, IfDamaged};
+ghost use Rattle.eql_cut.specs.CutValues.{cut, cut_file, cut_text, cut_ordered};
+ghost use Rattle.eql_cut.specs.CutValues.{header, exactly, version_byte, number_of};
+ghost use Rattle.eql_cut.specs.Domain.{IsCut};
+ghost use Rattle.eql_cut.specs.Whole.{IsText, IsTextOf, IsNoText};
+
+use crate::coded::Coded;
+use crate::cut::Cut;
+use crate::reader::{CutRefused, Reader, Version};
+use eql_values::{Memory, orders_told_alike};
+use std::alloc::Global;
+
+/// A cut, with the format of its text.
+#[derive(Drop)]
+pub struct Decoded {
+    /// The cut.
+    pub cut: Cut,
+    /// The format, 1 to 3.
+    pub format: u8,
+}
+
+/// Reads one byte, which is to be this one.
+fn expect(from: &mut Reader, byte: u8) -> Result<u8, CutRefused>
+    ensures { Reads (exactly byte) result from.old.left.now from.new.left.now }
+{
+    let at = from.place();
+    match from.take(1) {
+        Some([found]) if *found == byte => Ok(byte),
+        _ => Err(CutRefused::Damaged { at }),
+    }
+}
+
+impl Version {
+    /// The number of the format.
+    fn number(self) -> u8
+        ensures { result ≡ number_of self }
+    {
+        match self {
+            Version::One => 1,
+            Version::Two => 2,
+            Version::Three => 3,
+        }
+    }
+
+    /// Reads the byte that says the format.
+    fn read_byte(from: &mut Reader) -> Result<Version, CutRefused>
+        ensures { Reads version_byte result from.old.left.now from.new.left.now }
+    {
+        let at = from.place();
+        match from.take(1) {
+            Some([1]) => Ok(Version::One),
+            Some([2]) => Ok(Version::Two),
+            Some([3]) => Ok(Version::Three),
+            _ => Err(CutRefused::Damaged { at }),
+        }
+    }
+
+    /// Reads the four bytes at the front, and the format.
+    fn read(from: &mut Reader) -> Result<Version, CutRefused>
+        ensures { Reads header result from.old.left.now from.new.left.now }
+    {
+        expect(from, 0x45)?;
+        expect(from, 0x51)?;
+        expect(from, 0x4c)?;
+        expect(from, 0x43)?;
+        let version = Version::read_byte(from)?;
+        Ok(version)
+    }
+}
+
+/// Writes the text of a cut.
+fn write_whole(alloc: Global, given: &Cut) -> Result<Vec<u8>, Memory>
+    requires { cut_ordered given.now }
+    ensures text { IfOk result (λ v. v.items ≡ cut_text version.Three given.now) }
+    ensures fits { OnOk result ((cut version.Three).Fits given.now) }
+{
+    let mut to = Vec::from_slice(alloc, &[0x45, 0x51, 0x4c, 0x43, 3])?;
+    given.write(&mut to)?;
+    Ok(to)
+}
+
+/// Reads a cut, with its format, from all of the bytes.
+fn read_whole(alloc: Global, bytes: &[u8]) -> Result<(Version, Cut), CutRefused>
+    ensures { Answers cut_file result bytes.now }
+{
+    let mut from = Reader::new(bytes);
+    let version = Version::read(&mut from)?;
+    let cut = Cut::read(&mut from, alloc, version)?;
+    if from.is_done() {
+        Ok((version, cut))
+    } else {
+        Err(CutRefused::Damaged { at: from.place() })
+    }
+}
+
+/// The text of a cut in format 3.
+///
+/// The cut is to stand in the orders and counts that a text has; `decode` gives no other.
+///
+/// # Errors
+///
+/// [`Memory`] where memory ran out.
+pub fn encode(alloc: Global, cut: &Cut) -> Result<Vec<u8>, Memory>
+    requires { IsCut cut.now }
+    ensures { IfOk result (λ bytes. IsText 3 cut.now bytes.items) }
+{
+    orders_told_alike();
+    write_whole(alloc, cut)
+}
+
+/// The cut that the bytes spell, all of them, in any of the three formats.
+///
+/// # Errors
+///
+/// [`CutRefused::Damaged`] where the bytes are the text of no cut, with the number of bytes before
+/// what couldn't be read; [`CutRefused::Memory`] where memory ran out.
+pub fn decode(alloc: Global, bytes: &[u8]) -> Result<Decoded, CutRefused>
+    ensures found { IfOk result (λ d. IsTextOf d.format d.cut bytes.now) }
+    ensures stands { IfOk result (λ d. IsCut d.cut) }
+    ensures damaged { IfErr result (λ e. IfDamaged e (IsNoText bytes.now)) }
+{
+    orders_told_alike();
+    match read_whole(alloc, bytes) {
+        Ok((version, cut)) => Ok(Decoded {
+            cut,
+            format: version.number(),
+        }),
+        Err(refused) => Err(refused),
+    }
+}
