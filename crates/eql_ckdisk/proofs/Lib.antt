@@ -1,0 +1,11 @@
+pub mod Landing
+pub mod Moving
+pub mod Writes
+pub mod Taken
+pub mod Blocks
+pub mod HeadLemmas
+pub mod Settling
+pub mod PutSteps
+pub mod PutCalls
+pub mod Answering
+pub mod RunLemmas

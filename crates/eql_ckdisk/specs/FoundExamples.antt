@@ -1,0 +1,62 @@
+-- What some images stand for.
+use Rattle.std.specs.Prelude.{◌≡◌, ◌^◌, ◌+◌, ℕ, List, [], ◌∷◌, refl}
+use Rattle.eql_outside.specs.declared.disk.Area.TheVariants.{A, B}
+use Rattle.eql_outside.specs.Areas.{Areas}
+use Rattle.eql_ckdisk.specs.Found.{nothing, text, damaged, found, next}
+
+abbrev both : List ℕ → List ℕ → Areas
+both a b = record { a = a; b = b }
+
+-- an area with this gate, generation 3, and the text 7 8 of a length of this number
+abbrev third : ℕ → ℕ → List ℕ
+third gate length = gate ∷ 3 ∷ 0 ∷ 0 ∷ 0 ∷ 0 ∷ 0 ∷ 0 ∷ 0 ∷ length ∷ 0 ∷ 0 ∷ 0 ∷ 0 ∷ 0 ∷ 0 ∷ 0 ∷ 7 ∷ 8 ∷ []
+
+-- an open area with generation 258 and no text
+abbrev later : List ℕ
+later = 1 ∷ 2 ∷ 1 ∷ 0 ∷ 0 ∷ 0 ∷ 0 ∷ 0 ∷ 0 ∷ 0 ∷ 0 ∷ 0 ∷ 0 ∷ 0 ∷ 0 ∷ 0 ∷ 0 ∷ []
+
+-- an open area with this last byte of its generation, and with 1 as its first
+abbrev high : ℕ → List ℕ
+high top = 1 ∷ 1 ∷ 0 ∷ 0 ∷ 0 ∷ 0 ∷ 0 ∷ 0 ∷ top ∷ 0 ∷ 0 ∷ 0 ∷ 0 ∷ 0 ∷ 0 ∷ 0 ∷ 0 ∷ []
+
+-- two empty areas
+pub empty_areas : found (both [] []) ≡ nothing
+empty_areas = refl
+
+-- a closed gate, be it 0 or 2
+pub closed_gates : found (both (third 0 2) (third 2 2)) ≡ nothing
+closed_gates = refl
+
+pub open_first : found (both (third 1 2) []) ≡ text A 3 (7 ∷ 8 ∷ [])
+open_first = refl
+
+-- what stands behind the text means nothing
+pub shorter_text : found (both [] (third 1 1)) ≡ text B 3 (7 ∷ [])
+shorter_text = refl
+
+-- fewer bytes than the length says
+pub text_not_there : found (both (third 1 3) []) ≡ damaged A 3
+text_not_there = refl
+
+-- the greater generation, also where the other area is damaged
+pub greater_counts : found (both (third 1 3) later) ≡ text B 258 []
+greater_counts = refl
+
+-- the first of equal ones
+pub first_of_equal : found (both (third 1 1) (third 1 2)) ≡ text A 3 (7 ∷ [])
+first_of_equal = refl
+
+-- a gate alone has generation 0
+pub gate_alone : found (both [] (1 ∷ [])) ≡ damaged B 0
+gate_alone = refl
+
+-- no generation above 2^63 is given
+pub too_great : found (both (high 128) later) ≡ damaged A (2 ^ 63 + 1)
+too_great = refl
+
+-- the first cut goes to the first area, and each further one to the other
+pub first_place : next (record { area = B; generation = 0 }) ≡ record { area = A; generation = 1 }
+first_place = refl
+
+pub second_place : next (record { area = A; generation = 1 }) ≡ record { area = B; generation = 2 }
+second_place = refl

@@ -1,0 +1,18 @@
+-- What keeping both areas does to a disk.
+use Rattle.std.specs.Prelude.{◌≡◌}
+use Rattle.eql_outside.specs.Areas.{Areas, Moment, IsImage, settled}
+use Rattle.eql_outside.specs.Moments.{History}
+use Rattle.eql_ckdisk.specs.Going.{Goes}
+
+-- a crash leaves no more than at the moment before
+abbrev pub NoMore : Moment → Moment → Type 0
+NoMore before m = (image : Areas) → IsImage m image → IsImage before image
+
+-- what reads give, all of it kept
+abbrev pub all_kept : Moment → Moment
+all_kept m = record { a = settled m.a.seen; b = settled m.b.seen }
+
+-- a crash never left more than before, and now it leaves what reads gave
+pub record AllKept (h k : History) : Type 0 where
+  pub going : Goes NoMore h k
+  pub now : k.now ≡ all_kept h.now

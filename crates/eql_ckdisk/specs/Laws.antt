@@ -1,0 +1,62 @@
+-- Laws of recoveries and of puts one after another.
+use Rattle.std.specs.Prelude.{◌≡◌, ◌++◌, ◌∷◌, [], ℕ, List, All, AllPairs, Option, Some}
+use Rattle.eql_cut.specs.declared.cut.Cut.{Cut}
+use Rattle.eql_outside.specs.Areas.{Moment}
+use Rattle.eql_outside.specs.Moments.{History, Told}
+use Rattle.eql_ckdisk.specs.Found.{Found, LastCut}
+use Rattle.eql_ckdisk.specs.Going.{Goes, NoOlder}
+use Rattle.eql_ckdisk.specs.Keeping.{NoMore}
+use Rattle.eql_ckdisk.specs.Putting.{Stands}
+use Rattle.eql_ckdisk.specs.Cuts.{FindsPut, IsFound, Puts}
+use Rattle.eql_ckdisk.specs.Refusing.{IsDamaged}
+use Rattle.eql_ckdisk.specs.Runs.{last_after, KeepsStartOr, PutsAll}
+
+-- how a run of puts is joined of its parts
+pub record PutsGoOn : Type 0 where
+  -- a recovery is a run with no put
+  pub recovery : (last : LastCut) (before now : Option History)
+      → Told (Goes NoMore) before now → Told (PutsAll last []) before now
+  -- one put is a run, whatever it answered
+  pub one_put : (last : LastCut) (cut : Cut) (before now : Option History)
+      → Stands last before → Told (Puts last cut) before now → Told (PutsAll last (cut ∷ [])) before now
+  -- a run and then another
+  pub joined : (last : LastCut) (cuts more : List Cut) (before mid now : Option History)
+      → Told (PutsAll last cuts) before mid → Told (PutsAll (last_after last cuts) more) mid now
+      → Told (PutsAll last (cuts ++ more)) before now
+
+-- the moments since, the last of them first: what each image stands for there, and that none is older than one before
+pub record MomentsSince (last : LastCut) (cuts : List Cut) (h k : History) : Type 0 where
+  pub moments : List Moment
+  pub are_all : k.now ∷ k.past ≡ moments ++ h.now ∷ h.past
+  pub each : All (KeepsStartOr h.now last cuts) moments
+  pub no_older : AllPairs (λ m before. NoOlder before m) (moments ++ h.now ∷ [])
+
+abbrev pub AtEachMoment : Type 0
+AtEachMoment = (last : LastCut) (cuts : List Cut) (h k : History) → PutsAll last cuts h k → MomentsSince last cuts h k
+
+-- where each image at a moment has at least a generation, so has each image at the end of a run of puts from it
+abbrev pub NeverOlder : Type 0
+NeverOlder = (last : LastCut) (cuts : List Cut) (h k : History) → PutsAll last cuts h k → NoOlder h.now k.now
+
+-- the moments since, the last of them first: each image there is one of those at the start
+pub record NothingMore (h k : History) : Type 0 where
+  pub moments : List Moment
+  pub are_all : k.now ∷ k.past ≡ moments ++ h.now ∷ h.past
+  pub each : All (NoMore h.now) moments
+
+abbrev pub RecoveryAddsNothing : Type 0
+RecoveryAddsNothing = (h k : History) → Goes NoMore h k → NothingMore h k
+
+-- what was found has one answer, and has none where it is damaged
+pub record FoundIsOne : Type 0 where
+  pub one : (last other : LastCut) (format other_format : ℕ) (answer other_answer : Option Cut) (f : Found)
+      → IsFound last format answer f → IsFound other other_format other_answer f
+      → (answer ≡ other_answer) × (format ≡ other_format) × (last.generation ≡ other.generation)
+  pub sound : (last : LastCut) (format : ℕ) (answer : Option Cut) (number at : ℕ) (f : Found)
+      → IsFound last format answer f → IsDamaged number at f → ⊥
+
+-- a recovery that finds a cut that was put answers that cut, with its place
+abbrev pub PutsAreFound : Type 0
+PutsAreFound = (put : LastCut) (cut : Cut) (last : LastCut) (format : ℕ) (answer : Option Cut) (f : Found)
+    → FindsPut put cut f → IsFound last format answer f
+    → (answer ≡ Some cut) × (format ≡ 3) × (last ≡ put)

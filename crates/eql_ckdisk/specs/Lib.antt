@@ -1,0 +1,12 @@
+pub mod Cuts
+pub mod Found
+pub mod FoundExamples
+pub mod Going
+pub mod Heads
+pub mod Keeping
+pub mod Laws
+pub mod Putting
+pub mod Recovering
+pub mod Refusing
+pub mod Runs
+pub mod Writing

@@ -1,0 +1,100 @@
+//! Puts a cut into the area that doesn't count, behind a closed gate, and opens the gate once the cut is kept.
+ghost use Rattle.std.specs.Prelude.{◌≡◌, ◌≢◌, ◌≤◌, ◌<◌, ◌^◌, ◌↔◌, Err, IfOk, IfErr, IfSome, OnOk, OnErr};
+ghost use Rattle.eql_cut.specs.Domain.{IsCut};
+ghost use Rattle.eql_outside.specs.Moments.{Told};
+ghost use Rattle.eql_outside.specs.Outside.{Rose};
+ghost use Rattle.eql_ckdisk.specs.Found.{block, next};
+ghost use Rattle.eql_ckdisk.specs.Cuts.{Holds, Puts};
+ghost use Rattle.eql_ckdisk.specs.Putting.{PutText, PutsText, Stands, last_cut};
+ghost use Rattle.eql_ckdisk.specs.Refusing.{IfDamaged};
+
+use crate::refused::CkRefused;
+use crate::state::{CkState, GREATEST};
+use crate::through::write_through;
+use eql_cut::{Cut, encode};
+use eql_outside::{Disk, OutRefused, crashes_leave_images};
+use eql_values::Memory;
+use std::alloc::Global;
+
+// The generation, the length and the text.
+fn make_block(alloc: Global, generation: u64, text: &[u8]) -> Result<Vec<u8>, Memory>
+    ensures { IfOk result (λ made. made.items ≡ block generation text.now) }
+{
+    let mut made = Vec::from_slice(alloc, &generation.to_le_bytes())?;
+    made.extend_from_slice(&(text.len() as u64).to_le_bytes())?;
+    made.extend_from_slice(text)?;
+    Ok(made)
+}
+
+// Puts a text.
+fn put_text<D: Disk>(
+    alloc: Global,
+    disk: &mut D,
+    state: CkState,
+    text: &[u8],
+) -> Result<(), OutRefused>
+    requires stands { Stands (last_cut state) (D.history disk.old) }
+    requires room { (last_cut state).generation < 2 ^ 63 }
+    ensures moments { Told (PutsText (last_cut state) text.now)
+        (D.history disk.old) (D.history disk.new) }
+    ensures done { OnOk result (Told (PutText (last_cut state) text.now)
+        (D.history disk.old) (D.history disk.new)) }
+    ensures cause { result ≡ Err OutRefused.Failed
+        → Rose (D.fault_count disk.old) (D.fault_count disk.new) }
+    ensures steady { result ≢ Err OutRefused.Failed
+        → D.fault_count disk.new ≡ D.fault_count disk.old }
+    ensures counts { D.fault_count disk.old ≤ D.fault_count disk.new }
+{
+    crashes_leave_images();
+    let area = state.next_area();
+    let block = make_block(alloc, state.generation() + 1, text)?;
+    write_through(alloc, disk, area, 0, &[0])?;
+    write_through(alloc, disk, area, 1, &block)?;
+    write_through(alloc, disk, area, 0, &[1])
+}
+
+/// Puts a cut into the area that doesn't count, or into area 0 where none does, with the next generation.
+///
+/// After a refusal other than [`CkRefused::Generation`] the disk is to be recovered before the next put.
+///
+/// # Errors
+///
+/// [`CkRefused::Generation`] where the last generation is 2^63; [`CkRefused::DiskFault`] where a call on the disk
+/// failed; [`CkRefused::Memory`] where memory ran out.
+pub fn put<D: Disk>(
+    alloc: Global,
+    disk: &mut D,
+    state: &mut CkState,
+    cut: &Cut,
+) -> Result<(), CkRefused>
+    requires stands { Stands (last_cut state.old) (D.history disk.old) }
+    requires ordered { IsCut cut.now }
+
+    // At each moment of the call, whatever it answers.
+    ensures moments { Told (Puts (last_cut state.old) cut.now)
+        (D.history disk.old) (D.history disk.new) }
+    ensures done { OnOk result (IfSome (D.history disk.new)
+        (λ k. Holds (last_cut state.new) cut.now k.now)) }
+    ensures stands { OnOk result (Stands (last_cut state.new) (D.history disk.new)) }
+    ensures next { OnOk result (last_cut state.new ≡ next (last_cut state.old)) }
+    ensures refused { OnErr result (last_cut state.new ≡ last_cut state.old) }
+    ensures limit { (result ≡ Err CkRefused.Generation)
+        ↔ ((last_cut state.old).generation ≡ 2 ^ 63) }
+    ensures untouched { result ≡ Err CkRefused.Generation → disk.new ≡ disk.old }
+    ensures undamaged { IfErr result (λ e. IfDamaged e (λ _ _. ⊥)) }
+
+    // The disk's count rises where its fault is answered, and nowhere else.
+    ensures cause { result ≡ Err CkRefused.DiskFault
+        → Rose (D.fault_count disk.old) (D.fault_count disk.new) }
+    ensures steady { result ≢ Err CkRefused.DiskFault
+        → D.fault_count disk.new ≡ D.fault_count disk.old }
+    ensures counts { D.fault_count disk.old ≤ D.fault_count disk.new }
+{
+    if state.generation() >= GREATEST {
+        return Err(CkRefused::Generation);
+    }
+    let text = encode(alloc, cut)?;
+    put_text(alloc, disk, *state, &text)?;
+    *state = state.next();
+    Ok(())
+}

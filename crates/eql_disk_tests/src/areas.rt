@@ -1,0 +1,289 @@
+//! What a recovery finds in areas that were written by hand, and what a put writes.
+use crate::bytes::{bytes_of, cut_of, disk_of};
+use eql_ckdisk::{CkRefused, put, recover};
+use eql_outside::{Area, Disk};
+use std::alloc::Global;
+use std::test::Fail;
+
+/// What a recovery finds.
+#[derive(Clone, Copy)]
+enum Finds {
+    /// No cut.
+    Nothing,
+    /// The cut of this mark, in this area with this generation, in format 3.
+    Cut(i128, Area, u64),
+    /// An area that is damaged, and where.
+    Damaged(u32, u64),
+}
+
+/// The bytes of both areas, in hexadecimal, and what is found.
+#[derive(Clone, Copy)]
+struct Row {
+    name: &'static str,
+    a: &'static str,
+    b: &'static str,
+    finds: Finds,
+}
+
+fn area_row(name: &'static str, a: &'static str, b: &'static str, finds: Finds) -> Row {
+    Row { name, a, b, finds }
+}
+
+// A text has 91 bytes, 5b.
+fn rows() -> [Row; 22] {
+    [
+        area_row("two empty areas", "", "", Finds::Nothing),
+        area_row(
+            "closed",
+            "00 0100000000000000 5b00000000000000 T",
+            "02",
+            Finds::Nothing,
+        ),
+        area_row(
+            "one in area 0",
+            "01 0100000000000000 5b00000000000000 T",
+            "",
+            Finds::Cut(1, Area::A, 1),
+        ),
+        area_row(
+            "one in area 1",
+            "",
+            "01 0200000000000000 5b00000000000000 U",
+            Finds::Cut(2, Area::B, 2),
+        ),
+        area_row(
+            "the greater generation in area 0",
+            "01 0301000000000000 5b00000000000000 V",
+            "01 0400000000000000 5b00000000000000 U",
+            Finds::Cut(3, Area::A, 259),
+        ),
+        area_row(
+            "the greater generation in area 1",
+            "01 0900000000000000 5b00000000000000 V",
+            "01 0a00000000000000 5b00000000000000 U",
+            Finds::Cut(2, Area::B, 10),
+        ),
+        area_row(
+            "equal generations",
+            "01 0900000000000000 5b00000000000000 V",
+            "01 0900000000000000 5b00000000000000 U",
+            Finds::Cut(3, Area::A, 9),
+        ),
+        area_row(
+            "bytes behind the text",
+            "01 0100000000000000 5b00000000000000 T ffff",
+            "",
+            Finds::Cut(1, Area::A, 1),
+        ),
+        area_row(
+            "the greatest generation",
+            "01 0000000000000080 5b00000000000000 T",
+            "",
+            Finds::Cut(1, Area::A, 9223372036854775808),
+        ),
+        area_row(
+            "a greater one",
+            "01 0100000000000080 5b00000000000000 T",
+            "01 0100000000000000 5b00000000000000 U",
+            Finds::Damaged(0, 0),
+        ),
+        area_row(
+            "generation 0",
+            "01 0000000000000000 5b00000000000000 T",
+            "",
+            Finds::Damaged(0, 0),
+        ),
+        area_row("a gate alone", "", "01", Finds::Damaged(1, 0)),
+        area_row(
+            "16 bytes",
+            "01 0100000000000000 00000000000000",
+            "",
+            Finds::Damaged(0, 0),
+        ),
+        area_row(
+            "a gate alone, which is older",
+            "01 ff",
+            "01 0100000000000000 5b00000000000000 U",
+            Finds::Cut(2, Area::B, 1),
+        ),
+        area_row(
+            "the text 00",
+            "01 0100000000000000 0100000000000000 00",
+            "",
+            Finds::Damaged(0, 0),
+        ),
+        area_row(
+            "a damaged area that is older",
+            "01 0100000000000000 0100000000000000 00",
+            "01 0200000000000000 5b00000000000000 T",
+            Finds::Cut(1, Area::B, 2),
+        ),
+        area_row(
+            "no text",
+            "01 0100000000000000 0000000000000000",
+            "",
+            Finds::Damaged(0, 0),
+        ),
+        area_row(
+            "a format 4",
+            "",
+            "01 0100000000000000 0500000000000000 45514c4304",
+            Finds::Damaged(1, 4),
+        ),
+        area_row(
+            "a text cut short",
+            "01 0100000000000000 5a00000000000000 T",
+            "",
+            Finds::Damaged(0, 83),
+        ),
+        area_row(
+            "a text too long",
+            "01 0100000000000000 5c00000000000000 T 00",
+            "",
+            Finds::Damaged(0, 91),
+        ),
+        area_row(
+            "a text that isn't there",
+            "01 0100000000000000 5c00000000000000 T",
+            "",
+            Finds::Damaged(0, 0),
+        ),
+        area_row(
+            "a length of all bits",
+            "01 0100000000000000 ffffffffffffffff T",
+            "",
+            Finds::Damaged(0, 0),
+        ),
+    ]
+}
+
+/// Whether a recovery of the disk finds this.
+fn is_found<D: Disk>(alloc: Global, disk: &mut D, expected: Finds) -> bool {
+    match (recover(alloc, disk), expected) {
+        (Ok(found), Finds::Nothing) => {
+            found.cut.is_none() && found.format == 0 && found.state.generation() == 0
+        }
+        (Ok(found), Finds::Cut(mark, area, generation)) => {
+            let is_cut = match &found.cut {
+                Some(cut) => cut.mark == mark,
+                None => false,
+            };
+            is_cut
+                && found.format == 3
+                && found.state.area() == area
+                && found.state.generation() == generation
+        }
+        (Err(refused), Finds::Damaged(area, at)) => refused == CkRefused::Damaged { area, at },
+        _ => false,
+    }
+}
+
+#[test]
+fn areas_are_read(rt: HostRuntime) -> Result<(), Fail> {
+    let alloc = rt.alloc();
+    for row in &rows() {
+        let mut disk = disk_of(alloc, row.a, row.b, None)?;
+        assert!(rt; is_found(alloc, &mut disk, row.finds), "{}", row.name);
+        assert_eq!(rt; disk.faults(), 0);
+    }
+    Ok(())
+}
+
+/// The areas before a put, the mark of the cut that is put, and the areas after it, if it isn't refused for its
+/// generation.
+struct Put {
+    a: &'static str,
+    b: &'static str,
+    mark: u8,
+    then: Option<(&'static str, &'static str)>,
+}
+
+const PUTS: [Put; 6] = [
+    Put {
+        a: "",
+        b: "07 ff",
+        mark: 1,
+        then: Some(("01 0100000000000000 5b00000000000000 T", "07 ff")),
+    },
+    // What stood behind the new text stays.
+    Put {
+        a: "00 0900000000000000 5c00000000000000 V eeff",
+        b: "",
+        mark: 1,
+        then: Some(("01 0100000000000000 5b00000000000000 T eeff", "")),
+    },
+    Put {
+        a: "01 ff00000000000000 5b00000000000000 T",
+        b: "",
+        mark: 2,
+        then: Some((
+            "01 ff00000000000000 5b00000000000000 T",
+            "01 0001000000000000 5b00000000000000 U",
+        )),
+    },
+    Put {
+        a: "01 0100000000000000 5b00000000000000 T",
+        b: "01 0200000000000000 5b00000000000000 U",
+        mark: 3,
+        then: Some((
+            "01 0300000000000000 5b00000000000000 V",
+            "01 0200000000000000 5b00000000000000 U",
+        )),
+    },
+    // The greatest generation is still given, and none after it.
+    Put {
+        a: "",
+        b: "01 ffffffffffffff7f 5b00000000000000 U",
+        mark: 3,
+        then: Some((
+            "01 0000000000000080 5b00000000000000 V",
+            "01 ffffffffffffff7f 5b00000000000000 U",
+        )),
+    },
+    Put {
+        a: "01 0000000000000080 5b00000000000000 T",
+        b: "",
+        mark: 2,
+        then: None,
+    },
+];
+
+#[test]
+fn puts_write_areas(rt: HostRuntime) -> Result<(), Fail> {
+    let alloc = rt.alloc();
+    for row in &PUTS {
+        let mut disk = disk_of(alloc, row.a, row.b, None)?;
+        let Ok(found) = recover(alloc, &mut disk) else {
+            return Err(Fail::from("refused"));
+        };
+        let mut state = found.state;
+        let cut = cut_of(alloc, row.mark)?;
+        let answer = put(alloc, &mut disk, &mut state, &cut);
+        let (then, expected) = match row.then {
+            Some(then) => (then, Ok(())),
+            None => ((row.a, row.b), Err(CkRefused::Generation)),
+        };
+        assert_eq!(rt; answer, expected);
+        let (a, b) = disk.crashed(alloc, 0)?;
+        assert_eq!(rt; a.as_slice(), bytes_of(alloc, then.0)?.as_slice());
+        assert_eq!(rt; b.as_slice(), bytes_of(alloc, then.1)?.as_slice());
+    }
+    Ok(())
+}
+
+// A recovery of two areas, of which one is open, makes five calls on the disk: two syncs and three reads.
+#[test]
+fn recovery_tells_faults(rt: HostRuntime) -> Result<(), Fail> {
+    let alloc = rt.alloc();
+    for stop in 1..=6 {
+        let area = "01 0100000000000000 5b00000000000000 T";
+        let mut disk = disk_of(alloc, area, "", Some(stop))?;
+        let is_fault = match recover(alloc, &mut disk) {
+            Err(CkRefused::DiskFault) => true,
+            _ => false,
+        };
+        assert_eq!(rt; is_fault, stop < 6);
+        assert_eq!(rt; disk.faults(), if stop < 6 { 1 } else { 0 });
+    }
+    Ok(())
+}
