@@ -1,0 +1,11 @@
+pub mod Words
+pub mod Numbers
+pub mod Spelling
+pub mod Fronts
+pub mod Commands
+pub mod Finds
+pub mod Features
+pub mod Usage
+pub mod Bounds
+pub mod Spelled
+pub mod Examples
