@@ -1,0 +1,9 @@
+pub mod Keeping
+pub mod BufferLemmas
+pub mod StoreLemmas
+pub mod FeedLines
+pub mod Reading
+pub mod Joining
+pub mod Stepping
+pub mod Starting
+pub mod Feeds

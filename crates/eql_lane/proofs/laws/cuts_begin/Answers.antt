@@ -1,0 +1,8 @@
+use Rattle.eql_lane.proofs.Keeping as laws
+use Rattle.eql_lane.proofs.laws.cuts_begin.Goals as goal
+
+pub returns-clause-cuts : goal.returns-clause-cuts
+returns-clause-cuts c = laws.cuts_begin
+
+pub returns-clause-fresh : goal.returns-clause-fresh
+returns-clause-fresh c = laws.fresh_is

@@ -1,0 +1,13 @@
+use Rattle.std.proofs.Common.{◌≡◌, ◌≤◌, ◌-◌}
+use Rattle.eql_lane.specs.Passing.{PassedOver}
+use Rattle.eql_lane.proofs.pass.pass_over.Given as goal
+
+abbrev pub invariant-loop-passed : goal.invariant-loop-passed
+invariant-loop-passed g l = record {
+  few : l.passed ≤ l.count;
+  over : PassedOver g.S.Source.left g.S.Source.lent_as l.passed l.initial.source l.source;
+  steady : g.S.Source.fault_count l.source ≡ g.S.Source.fault_count l.initial.source;
+}
+
+abbrev pub decreases-loop-passed : goal.decreases-loop-passed
+decreases-loop-passed g l = l.count - l.passed

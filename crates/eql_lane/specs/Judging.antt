@@ -1,0 +1,98 @@
+-- What one line does to what is kept of a shard.
+use Rattle.std.specs.Prelude.{◌≡◌, ◌≤◌, ◌<◌, ◌+◌, ℕ, ℤ, Bool, false, if◌then◌else◌, List, [], ◌∷◌, ◌++◌, Option, Some, IfSome, map, length, All, IsTrue}
+use Rattle.std.specs.Map.{keys_of}
+use Rattle.std.specs.FinMap.Entries.{is_sorted}
+use Rattle.eql_values.specs.declared.order.OrderKey.{OrderKey}
+use Rattle.eql_values.specs.declared.item.Route.{Route}
+use Rattle.eql_values.specs.declared.item.Item.{Item}
+use Rattle.eql_values.specs.declared.cut.Counts.{Counts}
+use Rattle.eql_values.specs.declared.cut.LaneCut.{LaneCut}
+use Rattle.eql_values.specs.declared.reader.LineGot.{LineGot}
+use Rattle.eql_values.specs.declared.reader.LineGot.TheVariants as got
+use Rattle.eql_values.specs.Accepted.{placed_at, sorted_items}
+use Rattle.eql_values.specs.OrderKeys.{order_cmp}
+use Rattle.eql_values.specs.Reading.{IsTime}
+use Rattle.eql_laws.specs.Lateness.{larger, late_by}
+use Rattle.eql_lane.specs.Slacks.{IsSlack}
+use Rattle.eql_laws.specs.Counting.{first_or, greatest_lines}
+
+-- the greatest time with what a line gives
+abbrev pub best_got : Option ℤ → LineGot → Option ℤ
+best_got best got.Blank = best
+best_got best (got.Bad reason) = best
+best_got best (got.Item item) = Some (larger item.order.ts best)
+
+-- whether a line gives a late event
+abbrev pub late_got : (slack best : Option ℤ) → LineGot → Bool
+late_got slack best got.Blank = false
+late_got slack best (got.Bad reason) = false
+late_got slack best (got.Item item) = late_by slack best item
+
+-- the counts with what a line gives
+abbrev pub counts_got : Counts → (late : Bool) → LineGot → Counts
+counts_got counts late got.Blank = record counts { lines = counts.lines + 1 }
+counts_got counts late (got.Bad reason) =
+    record counts { lines = counts.lines + 1; rejected = counts.rejected + 1; first = first_or counts.first (Some (record { line = counts.lines + 1; reason = reason })) }
+counts_got counts late (got.Item item) =
+    if late then record counts { lines = counts.lines + 1; late = counts.late + 1 } else record counts { lines = counts.lines + 1; accepted = counts.accepted + 1 }
+
+-- the event that a line gives, where it isn't late, at the place of the line
+abbrev pub held_got : (late : Bool) → ℕ → LineGot → List Item
+held_got late at got.Blank = []
+held_got late at (got.Bad reason) = []
+held_got late at (got.Item item) = if late then [] else placed_at at item ∷ []
+
+-- what is kept once a line of so many bytes with its line end, which gives this, was read too
+abbrev pub got_on : Option ℤ → LaneCut → LineGot → (width : ℕ) → LaneCut
+got_on slack cut got width = record {
+  offset = cut.offset + width;
+  closed = cut.closed;
+  best = best_got cut.best got;
+  counts = counts_got cut.counts (late_got slack cut.best got) got;
+  items = sorted_items (cut.items ++ held_got (late_got slack cut.best got) cut.offset got);
+}
+
+-- what is kept of a shard, and the slack by which its events are judged
+pub record KeptView : Type 0 where
+  pub slack : Option ℤ
+  pub cut : LaneCut
+
+-- an event that a line gives is of this line, and has a time within the bound
+abbrev pub IsGotAt : (line : ℕ) → LineGot → Type 0
+IsGotAt line got.Blank = Unit {0}
+IsGotAt line (got.Bad reason) = Unit {0}
+IsGotAt line (got.Item item) = (item.order.line ≡ line) × IsTime item.order.ts
+
+-- a store of items by their places
+abbrev pub Entries : Type 0
+Entries = List (OrderKey × List Route)
+
+-- its items
+abbrev pub items_in : Entries → List Item
+items_in entries = map (λ (e : OrderKey × List Route). record { order = e.0; routes = e.1 }) entries
+
+-- an item by its place
+abbrev pub pair : Item → OrderKey × List Route
+pair item = (item.order, item.routes)
+
+-- the lines of its items are at most this
+abbrev pub LinesTo : ℕ → Entries → Type 0
+LinesTo n entries = All (λ (k : OrderKey). k.line ≤ n) (keys_of entries)
+
+-- the lines of its items are below this
+abbrev pub LinesBelow : ℕ → Entries → Type 0
+LinesBelow n entries = All (λ (k : OrderKey). k.line < n) (keys_of entries)
+
+-- the counts: no more lines are told apart than were read
+abbrev pub CountsHold : Counts → Type 0
+CountsHold counts = counts.accepted + counts.late + counts.rejected ≤ counts.lines
+
+-- what is kept is as reading leaves it
+pub record IsKept (slack best : Option ℤ) (counts : Counts) (entries : Entries) : Type 0 where
+  pub order : IsTrue (is_sorted order_cmp entries)
+  pub lines : LinesTo counts.lines entries
+  pub few : length entries ≤ counts.accepted
+  pub fewer : CountsHold counts
+  pub within : counts.lines ≤ greatest_lines
+  pub in_range : IfSome best IsTime
+  pub is_slack : IsSlack slack

@@ -1,0 +1,44 @@
+-- What a lane over a told text keeps at every step: it is what a cut keeps of its text at its place and the mark up to which it handed out.
+use Rattle.std.specs.Prelude.{◌≡◌, ℕ, List, Some}
+use Rattle.eql_values.specs.declared.order.Mark.{Mark}
+use Rattle.eql_values.specs.declared.item.Item.{Item}
+use Rattle.eql_values.specs.Accepted.{accepted, sorted_items}
+use Rattle.eql_laws.specs.Belows.{from_to}
+use Rattle.eql_laws.specs.Lanes.{lane_at}
+use Rattle.eql_laws.specs.Lateness.{AtMost}
+use Rattle.eql_laws.specs.Places.{ReadTo, IsPlace, whole, low_at}
+use Rattle.eql_lane.specs.declared.ops.LaneReply.{LaneReply}
+use Rattle.eql_values.specs.declared.order.Mark.TheVariants.{Start}
+use Rattle.eql_lane.specs.Lanes.{Setting, LaneState, FeedStep, Takes, low, lesser, greater, fresh_cut, begun}
+
+-- the lane read its text up to a place, keeps what isn't below the mark, which is safe there, and handed out no further than the mark
+pub record LaneIs (set : Setting) (text : List ℕ) (mark : Mark) (x : LaneState) : Type 0 where
+  pub place : ReadTo
+  pub text_is : whole place ≡ text
+  pub is_place : IsPlace place
+  pub cut : x.cut ≡ lane_at set.reads set.slack set.shard mark place
+  pub given : AtMost x.given mark
+  pub safe : AtMost mark (low_at set.reads set.slack set.shard place)
+
+-- of what the lane held from a mark on, a take hands out what lies below another, by the whole text; the greater of both is the mark then
+pub record HandsOut (set : Setting) (text : List ℕ) (from to : Mark) (items : List Item) (new : LaneState) : Type 0 where
+  pub items_are : items ≡ sorted_items (from_to from to (accepted set.reads set.slack set.shard text))
+  pub is : LaneIs set text (greater from to) new
+
+abbrev pub TakesHandOut : Type 0
+TakesHandOut = (set : Setting) (text : List ℕ) (from mark : Mark) (old : LaneState) (items : List Item) (new : LaneState)
+    → Takes old (lesser mark (low set old)) items new → LaneIs set text from old → HandsOut set text from (lesser mark (low set old)) items new
+
+-- each feed keeps it
+abbrev pub FeedsKeep : Type 0
+FeedsKeep = (set : Setting) (text : List ℕ) (mark : Mark) (old : LaneState) (max : ℕ) (reply : LaneReply) (new : LaneState) → set.text ≡ Some text
+    → FeedStep set old max reply new → LaneIs set text mark old → LaneIs set text mark new
+
+-- a lane that begins with what a cut keeps of the text at a place and a safe mark is so
+abbrev pub CutsBegin : Type 0
+CutsBegin = (set : Setting) (mark : Mark) (place : ReadTo) (faults : ℕ) → IsPlace place → AtMost mark (low_at set.reads set.slack set.shard place)
+    → LaneIs set (whole place) mark (begun (lane_at set.reads set.slack set.shard mark place) faults)
+
+-- and so is one that begins afresh
+abbrev pub FreshIs : Type 0
+FreshIs = (set : Setting) (text : List ℕ) (faults : ℕ) → LaneIs set text Start (begun fresh_cut faults)

@@ -1,0 +1,10 @@
+pub mod Judging
+pub mod Lanes
+pub mod Slacks
+pub mod Views
+pub mod Feeding
+pub mod Keeps
+pub mod Buffers
+pub mod Starts
+pub mod Plays
+pub mod Passing

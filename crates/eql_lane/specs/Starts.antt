@@ -1,0 +1,57 @@
+-- How a lane begins, and why it is refused.
+use Rattle.std.specs.Prelude.{◌≡◌, ◌≢◌, ◌≤◌, ℕ, ℤ, true, List, length, Option, None, IfSome, All}
+use Rattle.eql_values.specs.declared.item.Item.{Item}
+use Rattle.eql_values.specs.declared.cut.LaneCut.{LaneCut}
+use Rattle.eql_values.specs.Ascending.{Ascending}
+use Rattle.eql_values.specs.Reading.{IsTime}
+use Rattle.eql_laws.specs.Counting.{greatest_lines, greatest_bytes}
+use Rattle.eql_lane.specs.Judging.{CountsHold}
+use Rattle.eql_lane.specs.Lanes.{fresh_cut, begun}
+use Rattle.eql_lane.specs.Slacks.{nanos_of}
+use Rattle.eql_lane.specs.Passing.{IsCause, GivesBack}
+use Rattle.eql_lane.specs.Views.{LaneView, IsTextOf}
+use Rattle.eql_lane.specs.declared.make.LaneStart.{LaneStart}
+use Rattle.eql_lane.specs.declared.make.LaneStart.TheVariants as start
+use Rattle.eql_lane.specs.declared.make.LaneRefused.{LaneRefused}
+use Rattle.eql_lane.specs.declared.make.LaneRefused.TheVariants as refused
+
+-- what a cut may say of a lane: its events ascend and are of its lines, no more than it accepted; its greatest timestamp is a time, its counts hold, and it has no more lines and bytes than a shard may have
+pub record MayBegin (cut : LaneCut) : Type 0 where
+  pub ascending : Ascending cut.items
+  pub lines_to : All (λ (item : Item). item.order.line ≤ cut.counts.lines) cut.items
+  pub few : length cut.items ≤ cut.counts.accepted
+  pub best : IfSome cut.best IsTime
+  pub counts : CountsHold cut.counts
+  pub lines : cut.counts.lines ≤ greatest_lines
+  pub bytes : cut.offset ≤ greatest_bytes
+
+-- which starts there may be
+abbrev pub MayStart : LaneStart → Type 0
+MayStart start.Fresh = Unit {0}
+MayStart (start.From cut) = MayBegin cut
+
+-- what a start keeps of the lane
+abbrev pub cut_of : LaneStart → LaneCut
+cut_of start.Fresh = fresh_cut
+cut_of (start.From cut) = cut
+
+-- a lane begins so over what the source has left, by a slack in nanoseconds; where the cut says closed, the source ends at the offset
+pub record Begins {S L : Type 0} (left lent_as : S → Option (List ℕ)) (fault_count : S → ℕ) (source : S) (reader : L) (shard : ℕ) (slack : Option ℤ) (cut : LaneCut) (lane : LaneView S L) : Type 0 where
+  pub state : lane.state ≡ begun cut (fault_count source)
+  pub reader_is : lane.reader ≡ reader
+  pub shard_is : lane.shard ≡ shard
+  pub slack_is : lane.slack ≡ slack
+  pub text : IsTextOf left (left source) lane
+  pub ended : cut.closed ≡ true → IfSome (left source) (λ text. length text ≡ cut.offset)
+  pub named : lent_as lane.source ≡ lent_as source
+  pub silent : left source ≡ None → left lane.source ≡ None
+
+-- the same by a slack in milliseconds
+abbrev pub Made : {S L : Type 0} → (left lent_as : S → Option (List ℕ)) → (S → ℕ) → S → L → (shard : ℕ) (slack : Option ℕ) → LaneCut → LaneView S L → Type 0
+Made left lent_as fault_count source reader shard slack cut lane = Begins left lent_as fault_count source reader shard (nanos_of slack) cut lane
+
+-- why it isn't made, and that the source comes back
+pub record Refused {S : Type 0} (left lent_as : S → Option (List ℕ)) (fault_count : S → ℕ) (cut : LaneCut) (source : S) (refused_by : LaneRefused) (back : S) : Type 0 where
+  pub cause : IsCause (left source) (fault_count source) (fault_count back) cut.offset cut.closed refused_by
+  pub steady : refused_by ≢ refused.Failed → fault_count back ≡ fault_count source
+  pub gives : GivesBack left lent_as fault_count cut.offset source back

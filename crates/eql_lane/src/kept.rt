@@ -1,0 +1,396 @@
+//! What is kept of the lines that were read of a shard.
+ghost use Rattle.std.specs.Prelude.{◌∷◌, ◌≡◌, ◌≤◌, ◌<◌, ◌+◌, ◌++◌, ◌^◌, ◌≤ℤ◌, pos, true, false, ℕ, List, [], Ok, Err, IfOk, IfSome, IsTrue, OnErr, OnOk, None, filter, not, length, map, take, drop, vec_len, vec_capacity};
+ghost use Rattle.std.specs.List.{take_while};
+ghost use Rattle.std.specs.BTreeMap.{keys};
+ghost use Rattle.std.specs.FinMap.Entries.{is_sorted};
+ghost use Rattle.eql_values.specs.Accepted.{sorted_items};
+ghost use Rattle.eql_values.specs.OrderKeys.{order_cmp};
+ghost use Rattle.eql_values.specs.Reading.{IsTime};
+ghost use Rattle.eql_values.specs.Marks.{is_below, low_of};
+ghost use Rattle.eql_values.specs.Ascending.{Ascending};
+ghost use Rattle.eql_lane.specs.Lanes.{fresh_cut};
+ghost use Rattle.eql_lane.specs.Judging.{pair};
+ghost use Rattle.eql_lane.specs.Starts.{MayBegin};
+ghost use Rattle.eql_lane.specs.Slacks.{IsSlack};
+ghost use Rattle.eql_laws.specs.Counting.{first_or, greatest_lines, greatest_bytes};
+ghost use Rattle.eql_laws.specs.Lateness.{larger};
+ghost use Rattle.eql_lane.specs.Judging.{best_got, late_got, counts_got, held_got, got_on, items_in, KeptView, IsGotAt, LinesTo, LinesBelow, CountsHold};
+
+use eql_values::{
+    Counts, FirstBad, Item, Items, LaneCut, LineGot, Mark, Memory, OrderKey, Reason, Routes,
+};
+use std::alloc::Global;
+use std::collections::BTreeMap;
+use std::marker::Model;
+
+/// What is kept of the lines that were read.
+#[derive(Drop)]
+pub(crate) struct Kept {
+    /// How far behind the greatest timestamp an event may come, in nanoseconds.
+    slack: Option<i128>,
+    /// The bytes of the lines.
+    offset: u64,
+    /// Whether the source was read to its end.
+    closed: bool,
+    /// The greatest timestamp, in nanoseconds since the epoch.
+    best: Option<i128>,
+    /// What became of the lines.
+    counts: Counts,
+    /// The accepted events that weren't handed on.
+    held: BTreeMap<OrderKey, Routes>,
+}
+
+impl Model for Kept {
+    ghost use Rattle.eql_lane.specs.Judging.{items_in, IsKept, KeptView};
+
+    ghost Value = { KeptView };
+
+    ghost view = { λ k. record {
+      slack = k.slack;
+      cut = record {
+        offset = k.offset;
+        closed = k.closed;
+        best = k.best;
+        counts = k.counts;
+        items = items_in k.held.entries;
+      };
+    } };
+
+    ghost invariant = { λ k. IsKept k.slack k.best k.counts k.held.entries };
+}
+
+/// The greater of a time and one that may be there.
+fn later(best: Option<i128>, ts: i128) -> i128
+    ensures { result ≡ larger ts best }
+{
+    match best {
+        None => ts,
+        Some(best) => { if ts < best { best } else { ts } }
+    }
+}
+
+/// The greatest time with what a line gives.
+fn best_with(best: Option<i128>, got: &LineGot) -> Option<i128>
+    ensures { result ≡ best_got best got.now }
+{
+    match got {
+        LineGot::Item(item) => Some(later(best, item.order.ts)),
+        LineGot::Blank | LineGot::Bad(_) => best,
+    }
+}
+
+/// Whether a line gives a late event.
+fn gives_late(slack: Option<i128>, best: Option<i128>, got: &LineGot, line: u32) -> bool
+    requires best { IfSome best IsTime }
+    requires got { IsGotAt line got.now }
+    ensures { result ≡ late_got slack best got.now }
+{
+    match (got, slack, best) {
+        (LineGot::Item(item), Some(slack), Some(best)) => slack < best - item.order.ts,
+        _ => false,
+    }
+}
+
+/// The first bad line, if there was one, else this one.
+fn first_with(first: Option<FirstBad>, line: u32, reason: Reason) -> Option<FirstBad>
+    ensures { result ≡ first_or first (Some (record { line = line; reason = reason })) }
+{
+    match first {
+        Some(bad) => Some(bad),
+        None => Some(FirstBad { line, reason }),
+    }
+}
+
+/// The counts with what a line gives.
+fn counts_with(counts: Counts, late: bool, got: &LineGot) -> Counts
+    requires lines { counts.lines < greatest_lines }
+    requires fewer { CountsHold counts }
+    ensures counts { result ≡ counts_got counts late got.now }
+    ensures fewer { CountsHold result }
+{
+    let mut next = counts;
+    next.lines += 1;
+    match got {
+        LineGot::Blank => {}
+        LineGot::Bad(reason) => {
+            next.first = first_with(counts.first, next.lines, *reason);
+            next.rejected += 1;
+        }
+        LineGot::Item(_) => {
+            if late {
+                next.late += 1;
+            } else {
+                next.accepted += 1;
+            }
+        }
+    }
+    next
+}
+
+/// Puts the event that a line gives, if it isn't late, among those that are held, at the place of
+/// the line.
+fn hold(
+    held: &mut BTreeMap<OrderKey, Routes>,
+    late: bool,
+    at: u64,
+    got: LineGot,
+    line: u32,
+) -> Result<(), Memory>
+    requires order { IsTrue (is_sorted order_cmp held.old.entries) }
+    requires lines { LinesBelow line held.old.entries }
+    requires got { IsGotAt line got }
+    ensures items { OnOk result (items_in held.new.entries
+        ≡ sorted_items (items_in held.old.entries ++ held_got late at got)) }
+    ensures order { OnOk result (IsTrue (is_sorted order_cmp held.new.entries)) }
+    ensures lines { OnOk result (LinesTo line held.new.entries) }
+    ensures few { OnOk result (length held.new.entries
+        ≤ length held.old.entries + length (held_got late at got)) }
+    ensures unchanged { OnErr result (held.new.entries ≡ held.old.entries) }
+{
+    let LineGot::Item(item) = got else {
+        return Ok(());
+    };
+    if late {
+        return Ok(());
+    }
+    let mut order = item.order;
+    order.at = at;
+    held.insert(order, item.routes)?;
+    Ok(())
+}
+
+/// Whether an event at this place lies below the mark.
+fn lies_below(order: &OrderKey, mark: Mark) -> bool
+    ensures { result ≡ is_below mark (record { order = order.now; routes = [] }) }
+{
+    match mark {
+        Mark::Start => false,
+        Mark::At(t) => order.ts < t,
+        Mark::End => true,
+    }
+}
+
+/// How many events lie below the mark, before the first that doesn't.
+fn count_below(held: &BTreeMap<OrderKey, Routes>, mark: Mark) -> usize
+    ensures { result ≡ length (take_while (λ order. is_below mark
+        (record { order = order; routes = [] })) (keys held.now)) }
+{
+    held.keys()
+        .take_while(|order| lies_below(order, mark))
+        .count()
+}
+
+/// Takes the first so many events out.
+fn pop_many(held: &mut BTreeMap<OrderKey, Routes>, count: usize, items: &mut Vec<Item>)
+    requires few { count ≤ length held.old.entries }
+    requires empty { items.old.items ≡ [] }
+    requires room { count ≤ vec_capacity items.old }
+    ensures items { items.new.items ≡ items_in (take count held.old.entries) }
+    ensures rest { held.new.entries ≡ drop count held.old.entries }
+{
+    for _ in 0..count {
+        let Some((order, routes)) = held.pop_first() else {
+            unreachable!();
+        };
+        match items.push(Item { order, routes }) {
+            Ok(()) => {}
+            Err(_) => unreachable!(),
+        }
+    }
+}
+
+/// Adds a copy of an event.
+fn add_copy(copies: &mut Vec<Item>, order: &OrderKey, routes: &Routes) -> Result<(), Memory>
+    ensures { OnOk result (copies.new.items ≡ copies.old.items
+        ++ record { order = order.now; routes = routes.now } ∷ []) }
+{
+    let routes = routes.clone()?;
+    copies.push(Item {
+        order: *order,
+        routes,
+    })?;
+    Ok(())
+}
+
+/// Copies of the held events, in order.
+fn copy_held(alloc: Global, held: &BTreeMap<OrderKey, Routes>) -> Result<Items, Memory>
+    ensures { IfOk result (λ items. items ≡ items_in held.now.entries) }
+{
+    let mut copies = Vec::new(alloc);
+    for (order, routes) in held {
+        add_copy(&mut copies, order, routes)?;
+    }
+    Ok(Items::of(copies))
+}
+
+// The events of a cut, by their places.
+fn held_of(alloc: Global, items: Items) -> Result<BTreeMap<OrderKey, Routes>, Memory>
+    requires ascending { Ascending items }
+    ensures { IfOk result (λ held. held.entries ≡ map pair items) }
+{
+    let mut held = BTreeMap::new(alloc);
+    for item in items.into_items() {
+        held.insert(item.order, item.routes)?;
+    }
+    Ok(held)
+}
+
+impl Kept {
+    /// Nothing was read.
+    pub(crate) fn new(alloc: Global, slack: Option<i128>) -> Kept
+        requires slack { IsSlack slack }
+        ensures { result ≡ record { slack = slack; cut = fresh_cut } }
+    {
+        Kept {
+            slack,
+            offset: 0,
+            closed: false,
+            best: None,
+            counts: Counts {
+                lines: 0,
+                accepted: 0,
+                late: 0,
+                rejected: 0,
+                first: None,
+            },
+            held: BTreeMap::new(alloc),
+        }
+    }
+
+    /// What a cut keeps.
+    pub(crate) fn of(alloc: Global, slack: Option<i128>, cut: LaneCut) -> Result<Kept, Memory>
+        requires slack { IsSlack slack }
+        requires cut { MayBegin cut }
+        ensures { IfOk result (λ kept. kept ≡ record { slack = slack; cut = cut }) }
+    {
+        let held = held_of(alloc, cut.items)?;
+        Ok(Kept {
+            slack,
+            offset: cut.offset,
+            closed: cut.closed,
+            best: cut.best,
+            counts: cut.counts,
+            held,
+        })
+    }
+
+    /// Reads on by a line of so many bytes with its line end, which gives this. After want of memory
+    /// nothing has changed.
+    pub(crate) fn add(&mut self, got: LineGot, width: u64) -> Result<(), Memory>
+        requires lines { self.old.cut.counts.lines < greatest_lines }
+        requires bytes { self.old.cut.offset + width ≤ greatest_bytes }
+        requires got { IsGotAt (self.old.cut.counts.lines + 1) got }
+        ensures read { OnOk result (self.new.cut ≡ got_on self.old.slack self.old.cut got width) }
+        ensures slack { self.new.slack ≡ self.old.slack }
+        ensures unchanged { OnErr result (self.new ≡ self.old) }
+    {
+        let line = self.counts.lines + 1;
+        let late = gives_late(self.slack, self.best, &got, line);
+        let counts = counts_with(self.counts, late, &got);
+        let best = best_with(self.best, &got);
+        hold(&mut self.held, late, self.offset, got, line)?;
+        self.counts = counts;
+        self.best = best;
+        self.offset += width;
+        Ok(())
+    }
+
+    /// The bytes of the lines that were read.
+    pub(crate) fn offset(&self) -> u64
+        ensures { result ≡ self.now.cut.offset }
+    {
+        self.offset
+    }
+
+    /// How many lines were read.
+    pub(crate) fn lines(&self) -> u32
+        ensures { result ≡ self.now.cut.counts.lines }
+    {
+        self.counts.lines
+    }
+
+    /// The source was read to its end.
+    pub(crate) fn close(&mut self)
+        ensures cut { self.new.cut ≡ record self.old.cut { closed = true } }
+        ensures slack { self.new.slack ≡ self.old.slack }
+    {
+        self.closed = true;
+    }
+
+    /// What became of the lines that were read.
+    pub(crate) fn counts(&self) -> Counts
+        ensures { result ≡ self.now.cut.counts }
+    {
+        self.counts
+    }
+
+    /// The low: no further event can come below it.
+    pub(crate) fn low(&self) -> Mark
+        ensures { result ≡ low_of self.now.cut.closed self.now.slack self.now.cut.best }
+    {
+        if self.closed {
+            return Mark::End;
+        }
+        match (self.slack, self.best) {
+            (Some(slack), Some(best)) => Mark::At(best - slack),
+            _ => Mark::Start,
+        }
+    }
+
+    // How many held events lie below the mark.
+    fn below(&self, mark: Mark) -> usize
+        ensures { result ≡ length (filter (is_below mark) self.now.cut.items) }
+    {
+        count_below(&self.held, mark)
+    }
+
+    /// How many held events lie below the low.
+    pub(crate) fn ready(&self) -> u32
+        ensures { result ≡ length (filter (is_below
+            (low_of self.now.cut.closed self.now.slack self.now.cut.best)) self.now.cut.items) }
+    {
+        count_below(&self.held, self.low()) as u32
+    }
+
+    /// Takes out the held events below the mark, in order. After want of memory nothing has changed.
+    pub(crate) fn take_below(&mut self, alloc: Global, mark: Mark) -> Result<Items, Memory>
+        ensures items { IfOk result (λ items. items ≡ filter (is_below mark) self.old.cut.items) }
+        ensures kept { OnOk result (self.new.cut ≡ record self.old.cut
+            { items = filter (λ item. not (is_below mark item)) self.old.cut.items }) }
+        ensures slack { self.new.slack ≡ self.old.slack }
+        ensures unchanged { OnErr result (self.new ≡ self.old) }
+    {
+        let count = self.below(mark);
+        let mut items = Vec::with_capacity(alloc, count)?;
+        pop_many(&mut self.held, count, &mut items);
+        Ok(Items::of(items))
+    }
+
+    /// The held events stand in order.
+    pub(crate) fn ordered(&self)
+        ensures { sorted_items self.now.cut.items ≡ self.now.cut.items }
+    {
+        let _ = &self.held;
+    }
+
+    /// Whether the source was read to its end.
+    pub(crate) fn is_closed(&self) -> bool
+        ensures { result ≡ self.now.cut.closed }
+    {
+        self.closed
+    }
+
+    /// What a cut keeps: a copy of it all.
+    pub(crate) fn snap(&self, alloc: Global) -> Result<LaneCut, Memory>
+        ensures { IfOk result (λ cut. cut ≡ self.now.cut) }
+    {
+        let items = copy_held(alloc, &self.held)?;
+        Ok(LaneCut {
+            offset: self.offset,
+            closed: self.closed,
+            best: self.best,
+            counts: self.counts,
+            items,
+        })
+    }
+}

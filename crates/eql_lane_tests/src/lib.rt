@@ -1,0 +1,7 @@
+//! Tests of lanes by their public calls, with a small reader of lines.
+#![tactic(auto)]
+
+#[cfg(test)]
+mod lanes;
+#[cfg(test)]
+mod reader;
