@@ -1,5 +1,5 @@
 //! Tests of the rooms of matching, each by its public calls alone: the machine of one key, the pending sequences of all
-//! keys and the list under them, the look-back, and the merge.
+//! keys and the list under them, a part, the look-back, and the merge.
 #![tactic(auto)]
 
 #[cfg(test)]
@@ -10,5 +10,7 @@ mod lookback;
 mod merge;
 #[cfg(test)]
 mod part;
+#[cfg(test)]
+mod parts;
 #[cfg(test)]
 mod span_list;

@@ -9,11 +9,11 @@ use std::alloc::{AllocError, Global};
 use std::process::Abort;
 use std::test::Fail;
 
-const SECOND: i128 = 1_000_000_000;
+pub(crate) const SECOND: i128 = 1_000_000_000;
 
 /// The key of an event.
 #[derive(Clone, Copy)]
-enum Name {
+pub(crate) enum Name {
     Empty,
     Root,
     Elkbee,
@@ -23,7 +23,7 @@ enum Name {
 
 /// An event: its time in nanoseconds, and what it says to its key.
 #[derive(Clone, Copy)]
-struct Event {
+pub(crate) struct Event {
     ts: i128,
     key: Name,
     stages: u128,
@@ -31,7 +31,7 @@ struct Event {
 }
 
 /// An event that fits stages, given by their bits.
-fn fits(ts: i128, key: Name, stages: u128) -> Event {
+pub(crate) fn fits(ts: i128, key: Name, stages: u128) -> Event {
     Event {
         ts,
         key,
@@ -41,7 +41,7 @@ fn fits(ts: i128, key: Name, stages: u128) -> Event {
 }
 
 /// An event that fits stages and the until item.
-fn ends(ts: i128, stages: u128) -> Event {
+pub(crate) fn ends(ts: i128, stages: u128) -> Event {
     Event {
         ts,
         key: Name::Empty,
@@ -50,7 +50,7 @@ fn ends(ts: i128, stages: u128) -> Event {
     }
 }
 
-fn key_of(alloc: Global, name: Name) -> Result<Key, Memory> {
+pub(crate) fn key_of(alloc: Global, name: Name) -> Result<Key, Memory> {
     let mut values = Vec::new(alloc);
     match name {
         Name::Empty => {}
@@ -63,7 +63,7 @@ fn key_of(alloc: Global, name: Name) -> Result<Key, Memory> {
 }
 
 /// The event on this line, with a route where it says something.
-fn item_of(alloc: Global, line: u32, event: Event) -> Result<Item, Memory> {
+pub(crate) fn item_of(alloc: Global, line: u32, event: Event) -> Result<Item, Memory> {
     let mut routes = Vec::new(alloc);
     if event.stages != 0 || event.until {
         routes.push(Route {
@@ -105,7 +105,7 @@ fn has_one_route(event: &Item) -> bool
 }
 
 /// Whether the events ascend, and each has at most one route.
-fn ascend(items: &[Item]) -> bool
+pub(crate) fn ascend(items: &[Item]) -> bool
     ensures { IsTrue result → Ascending items.now }
 {
     match items {
@@ -125,7 +125,11 @@ fn show_value(alloc: Global, value: &Value) -> Result<String, AllocError> {
 }
 
 /// The key of a match and the lines of its events.
-fn show_match(alloc: Global, found: &Match, shown: &mut String) -> Result<(), AllocError> {
+pub(crate) fn show_match(
+    alloc: Global,
+    found: &Match,
+    shown: &mut String,
+) -> Result<(), AllocError> {
     for value in found.key.items() {
         shown.push_str(show_value(alloc, value)?.as_str())?;
     }
@@ -137,7 +141,7 @@ fn show_match(alloc: Global, found: &Match, shown: &mut String) -> Result<(), Al
 }
 
 /// The matches by these events.
-fn shown(
+pub(crate) fn shown(
     rt: &impl Abort,
     alloc: Global,
     stages: u32,

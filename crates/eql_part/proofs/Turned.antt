@@ -1,7 +1,8 @@
 -- What a machine of a key gives, and what a new one changes.
 use Rattle.std.proofs.Common.{◌≡◌, ◌≤◌, ℕ, zero, suc, ◌-◌, ℤ, Bool, true, false, cond, List, Option, Some, None, refl, sym, ap, ◌∙◌, subst, [], length, replicate, get_or, arith}
 use Rattle.std.specs.Prelude.{All, IfSome, IsTrue, nat_lt}
-use Rattle.std.specs.Option.{option_map, IsSomeAnd, IsSome}
+use Rattle.std.specs.Borrow.{MutBor}
+use Rattle.std.specs.Option.{option_copied_mut, option_map, IsSomeAnd, IsSome}
 use Rattle.std.specs.Result.{IfOk, OnErr}
 use Rattle.std.specs.declared.result.Result.{Result}
 use Rattle.std.specs.declared.result.Result.TheVariants.{Ok, Err}
@@ -23,6 +24,10 @@ use Rattle.eql_part.specs.Links.{Differ}
 use Rattle.eql_part.proofs.Rows.{Row}
 use Rattle.eql_part.proofs.Differing.{differ_nil}
 use Rattle.eql_part.proofs.Tagging.{no_tags}
+
+-- what a look-up lends is what the map has
+pub found_there : {Y : Type 0} {lent : Option (MutBor Y)} {x : MutBor Y} {o : Option Y} → lent ≡ Some x → option_copied_mut lent ≡ o → o ≡ Some x.now
+found_there is got = sym got ∙ ap option_copied_mut is
 
 default_by : {A : Type 0} (n k : ℕ) (d : A) (b : Bool) → nat_lt k n ≡ b → get_or (replicate n d) k d ≡ d
 default_by n k d true e = get_or-replicate n k d d (grind (arith, nat_tests))

@@ -1,6 +1,6 @@
 use Rattle.std.proofs.Common.{◌≡◌, ◌<◌, ◌≤◌, ◌-◌, suc, true, false, List, [], ◌∷◌, length, Option, Some, refl, sym, ap, ◌∙◌, subst, arith, inl, inr}
 use Rattle.std.specs.List.{Contains}
-use Rattle.std.specs.Option.{option_copied_mut, option_map}
+use Rattle.std.specs.Option.{option_map}
 use Rattle.std.specs.BTreeMap.{is_at}
 use Rattle.std.proofs.lemmas.Bool.{cases_Bool}
 use Rattle.std.proofs.lemmas.List.{length-set}
@@ -20,7 +20,7 @@ use Rattle.eql_part.proofs.Leaving.{without_none}
 use Rattle.eql_part.proofs.Linking.{same_key}
 use Rattle.eql_part.proofs.Onward.{all_differ, linked_onward}
 use Rattle.eql_part.proofs.Putting.{put_cases, put_other}
-use Rattle.eql_part.proofs.Turned.{found_of, some_there}
+use Rattle.eql_part.proofs.Turned.{found_of, found_there, some_there}
 use Rattle.eql_part.proofs.puts.put_listed.Goals as goal
 
 zero_below : 0 < 1
@@ -29,7 +29,7 @@ zero_below = omega arith
 pub returns-clause-of : goal.returns-clause-of
 returns-clause-of g c =
     let w = c.put.new.self in let machine = c.in-Some.machine.now in let holder = c.args.holder in let es = c.args.machines.now.entries in
-    let found : machine_of es holder.key ≡ Some machine = sym c.get_mut.ensures.value ∙ ap option_copied_mut c.in-Some.is in
+    let found = found_there c.in-Some.is c.get_mut.ensures.value in
     let of = found_of c.args.shape.stages c.args.shape.span es holder.key machine c.requires.of found in
     let start : Start = record { time = first_time holder.chain; key = holder.key } in let news : List Listed = (c.args.ticket, start) ∷ [] in
     let slots = ap (λ (m : Machine Ticket). m.slots) c.put.ensures.holders in
@@ -51,7 +51,7 @@ returns-clause-of g c =
 pub returns-clause-others : goal.returns-clause-others
 returns-clause-others g c = λ q k ne.
     let w = c.put.new.self in let machine = c.in-Some.machine.now in let holder = c.args.holder in let es = c.args.machines.now.entries in
-    let found : machine_of es holder.key ≡ Some machine = sym c.get_mut.ensures.value ∙ ap option_copied_mut c.in-Some.is in
+    let found = found_there c.in-Some.is c.get_mut.ensures.value in
     let of = found_of c.args.shape.stages c.args.shape.span es holder.key machine c.requires.of found in
     let start : Start = record { time = first_time holder.chain; key = holder.key } in let news : List Listed = (c.args.ticket, start) ∷ [] in
     let slots = ap (λ (m : Machine Ticket). m.slots) c.put.ensures.holders in
@@ -72,7 +72,7 @@ returns-clause-others g c = λ q k ne.
 pub returns-clause-linked : goal.returns-clause-linked
 returns-clause-linked g c =
     let w = c.put.new.self in let machine = c.in-Some.machine.now in let holder = c.args.holder in let es = c.args.machines.now.entries in
-    let found : machine_of es holder.key ≡ Some machine = sym c.get_mut.ensures.value ∙ ap option_copied_mut c.in-Some.is in
+    let found = found_there c.in-Some.is c.get_mut.ensures.value in
     let of = found_of c.args.shape.stages c.args.shape.span es holder.key machine c.requires.of found in
     let start : Start = record { time = first_time holder.chain; key = holder.key } in let news : List Listed = (c.args.ticket, start) ∷ [] in
     let slots = ap (λ (m : Machine Ticket). m.slots) c.put.ensures.holders in
@@ -90,7 +90,7 @@ returns-clause-linked g c =
 pub returns-clause-busy : goal.returns-clause-busy
 returns-clause-busy g c =
     let w = c.put.new.self in let machine = c.in-Some.machine.now in let holder = c.args.holder in let es = c.args.machines.now.entries in
-    let found : machine_of es holder.key ≡ Some machine = sym c.get_mut.ensures.value ∙ ap option_copied_mut c.in-Some.is in
+    let found = found_there c.in-Some.is c.get_mut.ensures.value in
     let updated = (c.get_mut.follows.holds w).3 (some_there (machine_of es holder.key) machine found) in
     let many = length_permutation (tags_of w.slots) (c.args.ticket ∷ tags_of machine.slots) c.put.ensures.tags in
     keeps_busy (Some w) (machine_of (c.get_mut.follows.lender w).entries holder.key) updated.1 (omega arith)

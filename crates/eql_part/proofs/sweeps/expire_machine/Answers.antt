@@ -16,7 +16,7 @@ use Rattle.eql_part.specs.Links.{Listed}
 use Rattle.eql_part.proofs.Differing.{differ_permutation, differ_right}
 use Rattle.eql_part.proofs.Expiring.{alive_slot, alive_was, alive_same, fewer_tags, fewer_holders, front_pending, front_slot, one_key}
 use Rattle.eql_part.proofs.Onward.{all_listed, linked_onward}
-use Rattle.eql_part.proofs.Turned.{found_of, some_there}
+use Rattle.eql_part.proofs.Turned.{found_of, found_there, some_there}
 use Rattle.eql_part.proofs.sweeps.expire_machine.Goals as goal
 
 pub unreachable-requires-in-None-get_mut : goal.unreachable-requires-in-None-get_mut
@@ -32,7 +32,7 @@ pub expire-requires-clause-listed : goal.expire-requires-clause-listed
 expire-requires-clause-listed g c =
     let first = c.in-Some.first.now in let machine = c.in-Some-get_mut.machine.now in let es = c.args.machines.now.entries in
     let at = (c.in-Some.ensures {u = tt}).first in
-    let found : machine_of es first.key ≡ Some machine = sym c.get_mut.ensures.value ∙ ap option_copied_mut c.in-Some-get_mut.is in
+    let found = found_there c.in-Some-get_mut.is c.get_mut.ensures.value in
     let of = found_of c.args.shape.stages c.args.shape.span es first.key machine c.requires.of found in
     all_listed es first.key machine found [] [] c.args.list.now c.requires.linked
 
@@ -40,7 +40,7 @@ pub unreachable-requires-in-None-dropped : goal.unreachable-requires-in-None-dro
 unreachable-requires-in-None-dropped g c =
     let first = c.in-Some.first.now in let machine = c.in-Some-get_mut.machine.now in let es = c.args.machines.now.entries in
     let at = (c.in-Some.ensures {u = tt}).first in
-    let found : machine_of es first.key ≡ Some machine = sym c.get_mut.ensures.value ∙ ap option_copied_mut c.in-Some-get_mut.is in
+    let found = found_there c.in-Some-get_mut.is c.get_mut.ensures.value in
     let of = found_of c.args.shape.stages c.args.shape.span es first.key machine c.requires.of found in
     let w = c.expire.new.self in
     let slots : w.slots ≡ map (alive_in c.args.shape.span c.args.reach) machine.slots = c.expire.ensures.slots ∙ (λ i. map (alive_in (of.span_is i) (to_z-of_z w128 c.args.reach c.ranges.reach i)) machine.slots) in
@@ -54,7 +54,7 @@ pub returns-clause-of : goal.returns-clause-of
 returns-clause-of g c =
     let first = c.in-Some.first.now in let machine = c.in-Some-get_mut.machine.now in let es = c.args.machines.now.entries in
     let at = (c.in-Some.ensures {u = tt}).first in
-    let found : machine_of es first.key ≡ Some machine = sym c.get_mut.ensures.value ∙ ap option_copied_mut c.in-Some-get_mut.is in
+    let found = found_there c.in-Some-get_mut.is c.get_mut.ensures.value in
     let of = found_of c.args.shape.stages c.args.shape.span es first.key machine c.requires.of found in
     let w = c.expire.new.self in
     let slots : w.slots ≡ map (alive_in c.args.shape.span c.args.reach) machine.slots = c.expire.ensures.slots ∙ (λ i. map (alive_in (of.span_is i) (to_z-of_z w128 c.args.reach c.ranges.reach i)) machine.slots) in
@@ -76,7 +76,7 @@ pub returns-clause-others : goal.returns-clause-others
 returns-clause-others g c =
     let first = c.in-Some.first.now in let machine = c.in-Some-get_mut.machine.now in let es = c.args.machines.now.entries in
     let at = (c.in-Some.ensures {u = tt}).first in
-    let found : machine_of es first.key ≡ Some machine = sym c.get_mut.ensures.value ∙ ap option_copied_mut c.in-Some-get_mut.is in
+    let found = found_there c.in-Some-get_mut.is c.get_mut.ensures.value in
     let of = found_of c.args.shape.stages c.args.shape.span es first.key machine c.requires.of found in
     let w = c.expire.new.self in
     let slots : w.slots ≡ map (alive_in c.args.shape.span c.args.reach) machine.slots = c.expire.ensures.slots ∙ (λ i. map (alive_in (of.span_is i) (to_z-of_z w128 c.args.reach c.ranges.reach i)) machine.slots) in
@@ -89,7 +89,7 @@ pub returns-clause-alive : goal.returns-clause-alive
 returns-clause-alive g c =
     let first = c.in-Some.first.now in let machine = c.in-Some-get_mut.machine.now in let es = c.args.machines.now.entries in
     let at = (c.in-Some.ensures {u = tt}).first in
-    let found : machine_of es first.key ≡ Some machine = sym c.get_mut.ensures.value ∙ ap option_copied_mut c.in-Some-get_mut.is in
+    let found = found_there c.in-Some-get_mut.is c.get_mut.ensures.value in
     let of = found_of c.args.shape.stages c.args.shape.span es first.key machine c.requires.of found in
     let w = c.expire.new.self in
     let slots : w.slots ≡ map (alive_in c.args.shape.span c.args.reach) machine.slots = c.expire.ensures.slots ∙ (λ i. map (alive_in (of.span_is i) (to_z-of_z w128 c.args.reach c.ranges.reach i)) machine.slots) in
@@ -101,7 +101,7 @@ pub returns-clause-linked : goal.returns-clause-linked
 returns-clause-linked g c =
     let first = c.in-Some.first.now in let machine = c.in-Some-get_mut.machine.now in let es = c.args.machines.now.entries in
     let at = (c.in-Some.ensures {u = tt}).first in
-    let found : machine_of es first.key ≡ Some machine = sym c.get_mut.ensures.value ∙ ap option_copied_mut c.in-Some-get_mut.is in
+    let found = found_there c.in-Some-get_mut.is c.get_mut.ensures.value in
     let of = found_of c.args.shape.stages c.args.shape.span es first.key machine c.requires.of found in
     let w = c.expire.new.self in
     let slots : w.slots ≡ map (alive_in c.args.shape.span c.args.reach) machine.slots = c.expire.ensures.slots ∙ (λ i. map (alive_in (of.span_is i) (to_z-of_z w128 c.args.reach c.ranges.reach i)) machine.slots) in
@@ -122,7 +122,7 @@ pub returns-clause-fewer : goal.returns-clause-fewer
 returns-clause-fewer g c =
     let first = c.in-Some.first.now in let machine = c.in-Some-get_mut.machine.now in let es = c.args.machines.now.entries in
     let at = (c.in-Some.ensures {u = tt}).first in
-    let found : machine_of es first.key ≡ Some machine = sym c.get_mut.ensures.value ∙ ap option_copied_mut c.in-Some-get_mut.is in
+    let found = found_there c.in-Some-get_mut.is c.get_mut.ensures.value in
     let of = found_of c.args.shape.stages c.args.shape.span es first.key machine c.requires.of found in
     let w = c.expire.new.self in
     let slots : w.slots ≡ map (alive_in c.args.shape.span c.args.reach) machine.slots = c.expire.ensures.slots ∙ (λ i. map (alive_in (of.span_is i) (to_z-of_z w128 c.args.reach c.ranges.reach i)) machine.slots) in

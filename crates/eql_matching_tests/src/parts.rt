@@ -1,0 +1,355 @@
+//! A part on events that are delivered in several batches, against the look-back over all of them. Each event is a line of
+//! one shard.
+ghost use Rattle.std.specs.Prelude.{◌≡◌, ◌<◌, ◌≤◌, IsTrue, OnOk};
+ghost use Rattle.eql_values.specs.Marks.{is_below};
+ghost use Rattle.eql_laws.specs.Together.{AllBelow, NoneBelow};
+ghost use Rattle.eql_parts.specs.PartSteps.{CanDeliver};
+
+use crate::lookback::{
+    Event, Name, SECOND, ascend, ends, fits, item_of, key_of, show_match, shown,
+};
+use eql_auto::Steps;
+use eql_parts::{Part, PartOp, PartReply, part_of};
+use eql_values::{Holder, Holders, Item, Items, Key, Mark, Matches, Value};
+use std::alloc::{AllocError, Global};
+use std::marker::Brand;
+use std::process::Abort;
+use std::sync::ledger::{Blank, Ledger};
+use std::test::*;
+
+/// Whether the event lies below the mark.
+fn lies_below(mark: Mark, item: &Item) -> bool
+    ensures { result ≡ is_below mark item.now }
+{
+    match mark {
+        Mark::Start => false,
+        Mark::At(time) => item.order.ts < time,
+        Mark::End => true,
+    }
+}
+
+/// Whether all of the events lie below the mark.
+fn all_below(mark: Mark, items: &Vec<Item>) -> bool
+    ensures { IsTrue result → AllBelow mark items.now.items }
+{
+    for item in items {
+        if !lies_below(mark, item) {
+            return false;
+        }
+    }
+    true
+}
+
+/// Whether none of the events lies below the mark.
+fn none_below(mark: Mark, items: &Vec<Item>) -> bool
+    ensures { IsTrue result → NoneBelow mark items.now.items }
+{
+    for item in items {
+        if lies_below(mark, item) {
+            return false;
+        }
+    }
+    true
+}
+
+/// Whether the events may be delivered between these marks.
+fn may_deliver(from: Mark, items: &Vec<Item>, mark: Mark) -> bool
+    ensures { IsTrue result → CanDeliver from items.now.items mark }
+{
+    from.cmp(&mark).is_le()
+        && ascend(items.as_slice())
+        && none_below(from, items)
+        && all_below(mark, items)
+}
+
+/// Delivers events up to a mark.
+fn deliver<R: Abort, L: Ledger>(
+    rt: &R,
+    part: &mut Part<L>,
+    last: &mut Mark,
+    items: Items,
+    mark: Mark,
+    steps: &mut Steps<L>,
+) -> Result<(), Fail>
+    requires last { last.old ≡ part.old.state.last }
+    ensures last { OnOk result (last.new ≡ part.new.state.last) }
+{
+    assert!(rt; may_deliver(*last, items.items(), mark));
+    match part.play(PartOp::Deliver { items, mark }, steps) {
+        PartReply::Done => {
+            *last = mark;
+            Ok(())
+        }
+        _ => Err(Fail::new("a delivery")),
+    }
+}
+
+/// Plays the events that wait, so many at most in a turn, and answers how many were played.
+fn play_all<L: Ledger>(part: &mut Part<L>, max: u32, steps: &mut Steps<L>) -> Result<u32, Fail>
+    requires from { 1 ≤ max }
+    requires to { max ≤ 4096 }
+    ensures last { OnOk result (part.new.state.last ≡ part.old.state.last) }
+{
+    let mut played = 0u32;
+    for _ in 0..100 {
+        match part.play(PartOp::Turn { max }, steps) {
+            PartReply::Turned { items } => played = played.saturating_add(items),
+            PartReply::Idle => return Ok(played),
+            _ => return Err(Fail::new("a turn")),
+        }
+    }
+    Err(Fail::new("too many turns"))
+}
+
+/// The matches that were found, and the mark that is done.
+fn collect<L: Ledger>(part: &mut Part<L>, steps: &mut Steps<L>) -> Result<(Matches, Mark), Fail>
+    ensures last { OnOk result (part.new.state.last ≡ part.old.state.last) }
+{
+    match part.play(PartOp::Collect, steps) {
+        PartReply::Found { matches, done } => Ok((matches, done)),
+        _ => Err(Fail::new("a collection")),
+    }
+}
+
+/// The keys, stages and lines of what is pending.
+fn pending<L: Ledger>(
+    alloc: Global,
+    part: &mut Part<L>,
+    steps: &mut Steps<L>,
+) -> Result<String, Fail>
+    ensures last { OnOk result (part.new.state.last ≡ part.old.state.last) }
+{
+    match part.play(PartOp::Snap, steps) {
+        PartReply::Cut(held) => Ok(show_all(alloc, &held)?),
+        _ => Err(Fail::new("a copy")),
+    }
+}
+
+fn show_all(alloc: Global, held: &Holders) -> Result<String, AllocError> {
+    let mut shown = String::new(alloc);
+    for holder in held.items() {
+        show_holder(alloc, holder, &mut shown)?;
+    }
+    Ok(shown)
+}
+
+fn show_holder(alloc: Global, holder: &Holder, shown: &mut String) -> Result<(), AllocError> {
+    for value in holder.key.items() {
+        if let Value::Text(text) = value {
+            shown.push_str(text.text().as_str())?;
+        }
+    }
+    for event in holder.chain.items() {
+        let line = event.line;
+        shown.push_str(format!(in alloc; " {line}")?.as_str())?;
+    }
+    shown.push_str(";")
+}
+
+/// Events of a log, how many of them are delivered at once and up to which mark, and how many are played in a turn.
+#[derive(Clone, Copy)]
+struct Row<'a> {
+    stages: u32,
+    span: Option<i128>,
+    events: &'a [Event],
+    batches: &'a [(u32, Mark)],
+    max: u32,
+}
+
+/// The events of these lines, from the one after `line` on.
+fn items_from(alloc: Global, events: &[Event], line: u32, count: u32) -> Result<Vec<Item>, Fail> {
+    let mut items = Vec::new(alloc);
+    for next in line..line.saturating_add(count) {
+        let event = events.get(next as usize).ok_or("a line")?;
+        items.push(item_of(alloc, next.saturating_add(1), *event)?)?;
+    }
+    Ok(items)
+}
+
+/// The matches that a part finds, batch by batch.
+fn found_in_batches<R: Abort, L: Ledger>(
+    rt: &R,
+    alloc: Global,
+    row: Row<'_>,
+    blank: Blank,
+) -> Result<String, Fail>
+    requires { (blank.name ≡ L.name) × (blank.parts ≡ L.parts) × (0 < L.parts) }
+{
+    let (book, share) = blank.open::<L>();
+    let mut steps = Steps::new(book, share);
+    assert!(rt; 1 <= row.stages && row.stages <= 256);
+    assert!(rt; 1 <= row.max && row.max <= 4096);
+    let mut last = Mark::Start;
+    let none = Holders::of(Vec::new(alloc));
+    let mut part = Part::new(alloc, row.stages, row.span, none, last, &mut steps)?;
+    let mut line = 0u32;
+    let mut text = String::new(alloc);
+    for (count, mark) in row.batches {
+        let items = items_from(alloc, row.events, line, *count)?;
+        line = line.saturating_add(*count);
+        deliver(
+            rt,
+            &mut part,
+            &mut last,
+            Items::of(items),
+            *mark,
+            &mut steps,
+        )?;
+        let played = play_all(&mut part, row.max, &mut steps)?;
+        assert_eq!(rt; played, *count);
+        let (matches, _) = collect(&mut part, &mut steps)?;
+        for found in matches.items() {
+            show_match(alloc, found, &mut text)?;
+        }
+    }
+    assert_eq!(rt; line as usize, row.events.len());
+    Ok(text)
+}
+
+/// A part finds by batches what the look-back finds in the whole.
+fn check_row<R: Abort>(rt: &R, alloc: Global, row: Row<'_>, expected: &str) -> Result<(), Fail> {
+    let whole = shown(rt, alloc, row.stages, row.span, row.events)?;
+    assert_eq!(rt; whole.as_str(), expected);
+    let pieces = found_in_batches::<R, Brand>(rt, alloc, row, Blank::new(1))?;
+    assert_eq!(rt; pieces.as_str(), expected);
+    Ok(())
+}
+
+#[test]
+fn batches_find_what_the_whole_finds(rt: HostRuntime) -> Result<(), Fail> {
+    let alloc = rt.alloc();
+    let reference = Row {
+        stages: 3,
+        span: None,
+        events: &[
+            fits(1, Name::Root, 1),
+            fits(2, Name::Root, 1),
+            fits(3, Name::Elkbee, 2),
+            fits(4, Name::Root, 2),
+            fits(5, Name::Root, 2),
+            fits(6, Name::Elkbee, 1),
+            fits(7, Name::Root, 1),
+            fits(8, Name::Elkbee, 2),
+            fits(9, Name::Root, 4),
+            fits(10, Name::Elkbee, 4),
+            fits(11, Name::Root, 4),
+        ],
+        batches: &[
+            (2, Mark::At(3)),
+            (3, Mark::At(6)),
+            (0, Mark::At(6)),
+            (4, Mark::At(10)),
+            (2, Mark::End),
+        ],
+        max: 2,
+    };
+    check_row(&rt, alloc, reference, "root 2 4 9;elkbee 6 8 10;")?;
+    let singly = Row {
+        batches: &[(11, Mark::At(100)), (0, Mark::End)],
+        max: 1,
+        ..reference
+    };
+    check_row(&rt, alloc, singly, "root 2 4 9;elkbee 6 8 10;")?;
+    let until = Row {
+        stages: 2,
+        span: None,
+        events: &[fits(1, Name::Empty, 1), ends(2, 0), fits(3, Name::Empty, 2)],
+        batches: &[(1, Mark::At(2)), (1, Mark::At(3)), (1, Mark::End)],
+        max: 4096,
+    };
+    check_row(&rt, alloc, until, "")?;
+    let just = Row {
+        stages: 2,
+        span: Some(10 * SECOND),
+        events: &[fits(0, Name::Empty, 1), fits(10 * SECOND, Name::Empty, 2)],
+        batches: &[(1, Mark::At(10 * SECOND)), (1, Mark::End)],
+        max: 7,
+    };
+    check_row(&rt, alloc, just, " 1 2;")?;
+    let late = Row {
+        events: &[
+            fits(0, Name::Empty, 1),
+            fits(10 * SECOND + 1, Name::Empty, 2),
+        ],
+        ..just
+    };
+    check_row(&rt, alloc, late, "")?;
+    let both = Row {
+        stages: 2,
+        span: None,
+        events: &[
+            fits(1, Name::Empty, 3),
+            fits(2, Name::Empty, 3),
+            fits(3, Name::Empty, 3),
+        ],
+        batches: &[(2, Mark::At(3)), (1, Mark::At(4))],
+        max: 1,
+    };
+    check_row(&rt, alloc, both, " 1 2; 2 3;")
+}
+
+/// A turn of an empty inbox is idle. A mark is done once its events were played. With a span of 10 nanoseconds a sequence
+/// that began at 0 is alive at the mark of 10, and dropped at that of 11.
+fn check_marks<R: Abort, L: Ledger>(rt: &R, alloc: Global, blank: Blank) -> Result<(), Fail>
+    requires { (blank.name ≡ L.name) × (blank.parts ≡ L.parts) × (0 < L.parts) }
+{
+    let (book, share) = blank.open::<L>();
+    let mut steps = Steps::new(book, share);
+    let mut last = Mark::Start;
+    let none = Holders::of(Vec::new(alloc));
+    let mut part = Part::new(alloc, 2, Some(10), none, last, &mut steps)?;
+    assert_eq!(rt; play_all(&mut part, 1, &mut steps)?, 0);
+    let first = Items::of(items_from(alloc, &[fits(0, Name::Root, 1)], 0, 1)?);
+    deliver(rt, &mut part, &mut last, first, Mark::At(5), &mut steps)?;
+    let (_, done) = collect(&mut part, &mut steps)?;
+    assert!(rt; done == Mark::Start);
+    assert_eq!(rt; pending(alloc, &mut part, &mut steps)?.as_str(), "");
+    assert_eq!(rt; play_all(&mut part, 1, &mut steps)?, 1);
+    let (_, done) = collect(&mut part, &mut steps)?;
+    assert!(rt; done == Mark::At(5));
+    for time in [10, 11] {
+        assert_eq!(rt; pending(alloc, &mut part, &mut steps)?.as_str(), "root 1;");
+        let nothing = Items::of(Vec::new(alloc));
+        deliver(
+            rt,
+            &mut part,
+            &mut last,
+            nothing,
+            Mark::At(time),
+            &mut steps,
+        )?;
+    }
+    assert_eq!(rt; pending(alloc, &mut part, &mut steps)?.as_str(), "");
+    Ok(())
+}
+
+#[test]
+fn marks_are_done_and_drop_the_dead(rt: HostRuntime) -> Result<(), Fail> {
+    check_marks::<HostRuntime, Brand>(&rt, rt.alloc(), Blank::new(1))
+}
+
+/// The parts of some keys, by the same hash in Python.
+#[test]
+fn keys_have_their_parts(rt: HostRuntime) -> Result<(), Fail> {
+    let alloc = rt.alloc();
+    for (name, part) in [
+        (Name::Root, 8),
+        (Name::Elkbee, 11),
+        (Name::Null, 0),
+        (Name::Seven, 1),
+        (Name::Empty, 0),
+    ] {
+        let key = key_of(alloc, name)?;
+        assert_eq!(rt; part_of(&key), part);
+    }
+    let mut counts = [0u32; 16];
+    for number in 0..16_000 {
+        let key = Key::of(vec![in alloc; Value::Long(number)]?);
+        let part = part_of(&key) as usize;
+        counts[part] = counts[part].saturating_add(1);
+    }
+    for count in counts {
+        assert!(rt; (998..=1_002).contains(&count));
+    }
+    Ok(())
+}

@@ -1,0 +1,4 @@
+mod Played
+mod Living
+mod Delivered
+mod Settled
