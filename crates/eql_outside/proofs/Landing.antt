@@ -1,7 +1,7 @@
 -- What a write that lands, or is torn, leaves.
-use Rattle.std.proofs.Common.{◌≡◌, inl, inr, ℕ, ◌+◌, ◌-◌, ◌≤◌, min, max, List, [], ◌∷◌, ◌++◌, length, take, drop, refl, sym, ◌∙◌, ap, subst, arith, append_assoc, length-append, length-drop}
+use Rattle.std.proofs.Common.{◌≡◌, inl, inr, ℕ, ◌+◌, ◌-◌, ◌≤◌, min, List, [], ◌∷◌, ◌++◌, length, take, drop, refl, sym, ◌∙◌, ap, subst, arith, append_assoc, length-append, length-drop}
 use Rattle.std.proofs.lemmas.List.{take_at, drop_at, drop-drop, length-take-le}
-use Rattle.eql_outside.specs.Areas.{Write, Torn, Lands, LeftAfter, Store, Moment, written, settled}
+use Rattle.eql_outside.specs.Areas.{Write, Torn, Lands, LeftAfter, written}
 use Rattle.eql_outside.specs.DiskLaws.{WholeLands, ImagesAreThere, SeenIsLeft}
 
 pub same_lands : (w : Write) (d : List ℕ) → Lands w d d

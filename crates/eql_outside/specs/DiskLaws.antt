@@ -1,6 +1,6 @@
 -- Laws of what a crash may leave.
-use Rattle.std.specs.Prelude.{◌≡◌, ◌≤◌, ℕ, List, [], ◌∷◌, length}
-use Rattle.eql_outside.specs.Areas.{Write, Lands, Store, LeftAfter, MayLeave, Moment, IsImage, settled, begun, written, seen_areas, kept_areas}
+use Rattle.std.specs.Prelude.{◌≤◌, ℕ, List, ◌∷◌, length}
+use Rattle.eql_outside.specs.Areas.{Write, Lands, Store, LeftAfter, Moment, IsImage, settled, written, seen_areas, kept_areas}
 
 -- a write at a place within the bytes may land whole, or not at all
 pub record WholeLands : Type 0 where

@@ -1,5 +1,5 @@
 -- Planned failures: which calls of an object in memory fail.
-use Rattle.std.specs.Prelude.{ℕ, ◌+◌, ◌-◌, ◌^◌, ◌≤◌, ◌⊎◌, min, List, Contains, Option, None, Some, IsSomeAnd}
+use Rattle.std.specs.Prelude.{ℕ, ◌+◌, ◌-◌, ◌^◌, ◌≤◌, ◌⊎◌, min, List, Contains, Option, None, IsSomeAnd}
 
 -- how many calls that can fail were made, the numbers, from 1, of those that do, and the number from which on all do
 pub record FaultPlan : Type 0 where

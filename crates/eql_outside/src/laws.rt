@@ -1,6 +1,7 @@
 //! Laws over the definitions, each as the contract of a function that does nothing.
 ghost use Rattle.eql_outside.specs.DiskLaws.{WholeLands, ImagesAreThere, SeenIsLeft};
 ghost use Rattle.eql_outside.specs.Faults.{RosesAgree};
+ghost use Rattle.eql_outside.specs.Unfailing.{StaysUnfailing};
 ghost use Rattle.eql_outside.specs.Written.{WritesGoOn};
 
 /// How counts of faults by name go from call to call: a call in which those of one name rose and one in which none
@@ -12,6 +13,12 @@ pub fn faults_are_counted_by_name()
 /// How what was written goes from call to call: all of a text and then all or a front of another.
 pub fn writes_go_on()
     ensures { WritesGoOn }
+{}
+
+/// Objects of which no call is planned to fail: the next call doesn't, they stay so, and the sources of a shelf whose files
+/// have no planned failures are so.
+pub fn unfailing_stays()
+    ensures { StaysUnfailing }
 {}
 
 /// What a crash may always leave of a disk: of a write all or nothing of it, of an area what was kept and what reads

@@ -16,7 +16,7 @@ mod source;
 pub use disk::file::FileDisk;
 pub use disk::memory::MemDisk;
 pub use disk::{Area, Disk};
-pub use laws::{crashes_leave_images, faults_are_counted_by_name, writes_go_on};
+pub use laws::{crashes_leave_images, faults_are_counted_by_name, unfailing_stays, writes_go_on};
 pub use refused::{Failed, OutRefused};
 pub use shelf::Shelf;
 pub use shelf::file::FileShelf;

@@ -1,5 +1,5 @@
 //! What a shelf is: where files stand under their names.
-ghost use Rattle.std.specs.Prelude.{◌≡◌, ◌≢◌, ◌≤◌, ◌<◌, ◌↔◌, ℕ, Bool, true, false, List, Option, Some, None, Ok, Err, IfOk, IfSome, IsErr, IsNone, IsSomeAnd, MatchOption, string_bytes};
+ghost use Rattle.std.specs.Prelude.{◌≡◌, ◌≢◌, ◌≤◌, ◌<◌, ◌↔◌, ◌+◌, ◌-◌, ℕ, Bool, true, false, List, Option, Some, None, Ok, Err, IfOk, IfSome, IsErr, IsNone, IsSomeAnd, MatchOption, string_bytes};
 ghost use Rattle.eql_outside.specs.Outside.{Rose, file_named};
 ghost use Rattle.eql_outside.specs.Faults.{RoseFor, RoseUnder, SameFaults};
 ghost use Rattle.eql_outside.specs.Moments.{History};
@@ -32,6 +32,9 @@ pub trait Shelf {
 
     /// How often a file wasn't there.
     ghost absent_count: { Self → ℕ };
+
+    /// How many sources are lent and haven't come back, where the shelf tells.
+    ghost lent_count: { Self → Option ℕ } = { λ _. None };
 
     /// The moments of the disk, as it was last given back, where the shelf tells.
     ghost disk_history: { Self → Option History };
@@ -67,6 +70,11 @@ pub trait Shelf {
             × (disk_fault_count self.new ≡ disk_fault_count self.old)
             × (disk_plan self.new ≡ disk_plan self.old) }
 
+        // One more is lent where a source is handed out, and none elsewhere.
+        ensures lends { IfSome (lent_count self.old) (λ n. IfOk result
+            (λ o. MatchOption o (lent_count self.new ≡ Some n) (λ _. lent_count self.new ≡ Some (n + 1)))) }
+        ensures lends_none { IsErr result → lent_count self.new ≡ lent_count self.old }
+
         // The count of faults rises where the call fails, that of absences where no file has the name, and
         // neither rises elsewhere. Of the counts by name that of this name alone rises.
         ensures cause { result ≡ Err OutRefused.Failed
@@ -95,9 +103,11 @@ pub trait Shelf {
         ensures plans_kept { source_plans self.new ≡ source_plans self.old };
 
     /// Takes a source back. Where the source failed, the count of faults rises, and that of the name under which it
-    /// was lent. Otherwise all counts stay.
+    /// was lent. Otherwise all counts of faults stay. One source less is lent.
     fn give_source(&mut self, src: Self::Src)
         ensures kept { files self.new ≡ files self.old }
+        ensures returned { IfSome (lent_count self.old)
+            (λ n. lent_count self.new ≡ Some (n - 1)) }
         ensures disk_kept { (disk_history self.new ≡ disk_history self.old)
             × (is_out self.new ≡ is_out self.old)
             × (disk_fault_count self.new ≡ disk_fault_count self.old)
@@ -128,6 +138,7 @@ pub trait Shelf {
             × (fault_count self.new ≡ fault_count self.old)
             × (absent_count self.new ≡ absent_count self.old)
             × (source_plans self.new ≡ source_plans self.old)
+            × (lent_count self.new ≡ lent_count self.old)
             × SameFaults (faults_of self.old) (faults_of self.new) }
 
         // The count of the disk's faults rises where the call fails, and nowhere else.
@@ -153,6 +164,7 @@ pub trait Shelf {
             × (fault_count self.new ≡ fault_count self.old)
             × (absent_count self.new ≡ absent_count self.old)
             × (source_plans self.new ≡ source_plans self.old)
+            × (lent_count self.new ≡ lent_count self.old)
             × SameFaults (faults_of self.old) (faults_of self.new) }
         ensures raised { 0 < Self.Dsk.fault_count disk
             → Rose (disk_fault_count self.old) (disk_fault_count self.new) }

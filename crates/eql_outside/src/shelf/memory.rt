@@ -36,6 +36,7 @@ pub struct MemShelf {
     planned: PlannedFaults,
     names: NameFaults,
     absent: u64,
+    lent: u64,
     disk: MemDisk,
     out: bool,
     disk_faults: u64,
@@ -59,6 +60,7 @@ impl MemShelf {
         ensures names { IfOk result
             (λ s. (name : List ℕ) → ⟦<MemShelf as Shelf>⟧.faults_of s name ≡ 0) }
         ensures absent { IfOk result (λ s. ⟦<MemShelf as Shelf>⟧.absent_count s ≡ 0) }
+        ensures lent { IfOk result (λ s. ⟦<MemShelf as Shelf>⟧.lent_count s ≡ Some 0) }
         ensures plan { IfOk result
             (λ s. ⟦<MemShelf as Shelf>⟧.fault_plan s ≡ Some (unstarted fails.items)) }
         ensures plans { IfOk result
@@ -75,6 +77,7 @@ impl MemShelf {
             planned: PlannedFaults::new(fails),
             names: NameFaults::End,
             absent: 0,
+            lent: 0,
             disk,
             out: false,
             disk_faults: 0,
@@ -111,6 +114,8 @@ impl Shelf for MemShelf {
 
     ghost absent_count = { λ s. s.absent };
 
+    ghost lent_count = { λ s. Some s.lent };
+
     ghost fault_plan = { λ s. Some (plan_of s.planned) };
 
     ghost source_plans = { λ s. Some (planned_fails s.files.items) };
@@ -132,7 +137,15 @@ impl Shelf for MemShelf {
             return Err(OutRefused::Failed);
         }
         match find_named(&self.files, name) {
-            Some(file) => Ok(Some(MemSource::lend(alloc, file, lent)?)),
+            Some(file) => {
+                // A count that can't rise is want of memory: no more sources than its numbers fit there.
+                if self.lent == u64::MAX {
+                    return Err(OutRefused::Memory);
+                }
+                let source = MemSource::lend(alloc, file, lent)?;
+                self.lent += 1;
+                Ok(Some(source))
+            }
             None => {
                 self.absent = self.absent.saturating_add(1);
                 Ok(None)
@@ -141,6 +154,7 @@ impl Shelf for MemShelf {
     }
 
     fn give_source(&mut self, src: MemSource) {
+        self.lent = self.lent.saturating_sub(1);
         if src.faults() > 0 {
             self.planned.add_fault();
             if let Some(lent) = src.into_lent() {

@@ -1,4 +1,4 @@
-use Rattle.std.proofs.Common.{◌≡◌, ◌≤◌, ◌∙◌, length, ap, arith, subst}
+use Rattle.std.proofs.Common.{◌∙◌, length, ap, arith}
 use Rattle.eql_outside.specs.Disks.{write_of}
 use Rattle.eql_outside.proofs.Landing.{lands_as}
 use Rattle.eql_outside.proofs.disk.store.landed.Goals as goal

@@ -1,4 +1,4 @@
-use Rattle.std.proofs.Common.{◌≡◌, inr, map, sym, ◌∙◌, subst}
+use Rattle.std.proofs.Common.{inr, map, sym, ◌∙◌, subst}
 use Rattle.eql_outside.specs.Areas.{LeftAfter}
 use Rattle.eql_outside.specs.Disks.{write_of}
 use Rattle.eql_outside.proofs.Landing.{kept_left}
