@@ -1,6 +1,7 @@
 //! The book: what a run has listed, and what its pipes hold.
 ghost use Rattle.std.specs.Prelude.{◌≡◌, ◌≢◌, ◌≤◌, [], None, Err, IfOk, OnOk, OnErr, false, string_bytes, true};
 ghost use Rattle.eql_outside.specs.Outside.{Rose};
+ghost use Rattle.eql_outside.specs.Unfailing.{IsUnfailing};
 ghost use Rattle.eql_outside.specs.Written.{WroteAll, WroteFront};
 ghost use Rattle.eql_book.specs.Books.{FitsPipes, book_after, held_back, let_out};
 ghost use Rattle.eql_book.specs.Listing.{listing};
@@ -90,6 +91,8 @@ impl Book {
         ensures steady { result ≢ Err OutRefused.Failed
             → K.fault_count sink.new ≡ K.fault_count sink.old }
         ensures counts { K.fault_count sink.old ≤ K.fault_count sink.new }
+        ensures unfailing { IsUnfailing (K.fault_plan sink.old)
+            → (result ≢ Err OutRefused.Failed) × IsUnfailing (K.fault_plan sink.new) }
     {
         match write_all(&mut self.ledger, &mut self.page, alloc, matches, sink) {
             Ok(()) => Ok(()),
@@ -116,6 +119,8 @@ impl Book {
         ensures steady { result ≢ Err OutRefused.Failed
             → K.fault_count sink.new ≡ K.fault_count sink.old }
         ensures counts { K.fault_count sink.old ≤ K.fault_count sink.new }
+        ensures unfailing { IsUnfailing (K.fault_plan sink.old)
+            → (result ≢ Err OutRefused.Failed) × IsUnfailing (K.fault_plan sink.new) }
     {
         let ledger = &self.ledger;
         match write_rest(&ledger.gates, &mut self.page, alloc, sink) {

@@ -1,6 +1,7 @@
 //! The printing of a listing: lines go into a buffer, which is written to the sink in pieces.
 ghost use Rattle.std.specs.Prelude.{◌≡◌, ◌≢◌, ◌≤◌, ◌++◌, [], None, Err, OnOk, OnErr, IsOk, IsErr, string_bytes};
 ghost use Rattle.eql_outside.specs.Outside.{Rose};
+ghost use Rattle.eql_outside.specs.Unfailing.{IsUnfailing};
 ghost use Rattle.eql_outside.specs.Written.{WroteFront, WroteBut};
 ghost use Rattle.eql_book.specs.Listing.{match_line};
 
@@ -79,6 +80,8 @@ impl Page {
         ensures steady { result ≢ Err OutRefused.Failed
             → K.fault_count sink.new ≡ K.fault_count sink.old }
         ensures counts { K.fault_count sink.old ≤ K.fault_count sink.new }
+        ensures unfailing { IsUnfailing (K.fault_plan sink.old)
+            → (result ≢ Err OutRefused.Failed) × IsUnfailing (K.fault_plan sink.new) }
     {
         self.print(alloc, found)?;
         if self.waiting.len() < PIECE {
@@ -103,6 +106,8 @@ impl Page {
         ensures steady { result ≢ Err OutRefused.Failed
             → K.fault_count sink.new ≡ K.fault_count sink.old }
         ensures counts { K.fault_count sink.old ≤ K.fault_count sink.new }
+        ensures unfailing { IsUnfailing (K.fault_plan sink.old)
+            → (result ≢ Err OutRefused.Failed) × IsUnfailing (K.fault_plan sink.new) }
     {
         if self.waiting.is_empty() {
             return Ok(());

@@ -1,6 +1,7 @@
 //! What the pipes hold back until the end: what the first tail keeps, as the pipes after it keep it.
 ghost use Rattle.std.specs.Prelude.{◌≡◌, ◌≢◌, ◌≤◌, ◌++◌, ◌-◌, [], None, Err, MatchOption, OnOk, OnErr, drop, length, string_bytes, take};
 ghost use Rattle.eql_outside.specs.Outside.{Rose};
+ghost use Rattle.eql_outside.specs.Unfailing.{IsUnfailing};
 ghost use Rattle.eql_outside.specs.Written.{WroteAll, WroteFront, WroteBut};
 ghost use Rattle.eql_values.specs.Numbering.{piped};
 ghost use Rattle.eql_laws.specs.Resuming.{piped_from};
@@ -68,6 +69,8 @@ fn print_range<K: Sink>(
     ensures steady { result ≢ Err OutRefused.Failed
         → K.fault_count sink.new ≡ K.fault_count sink.old }
     ensures counts { K.fault_count sink.old ≤ K.fault_count sink.new }
+    ensures unfailing { IsUnfailing (K.fault_plan sink.old)
+        → (result ≢ Err OutRefused.Failed) × IsUnfailing (K.fault_plan sink.new) }
 {
     for index in from..to {
         match kept.get(index) {
@@ -101,6 +104,8 @@ fn write_tail<K: Sink>(
     ensures steady { result ≢ Err OutRefused.Failed
         → K.fault_count sink.new ≡ K.fault_count sink.old }
     ensures counts { K.fault_count sink.old ≤ K.fault_count sink.new }
+    ensures unfailing { IsUnfailing (K.fault_plan sink.old)
+        → (result ≢ Err OutRefused.Failed) × IsUnfailing (K.fault_plan sink.new) }
 {
     let (from, to) = kept_range(tail.kept.len(), after);
     print_range(&tail.kept, from, to, page, alloc, sink)?;
@@ -146,6 +151,8 @@ pub(crate) fn write_rest<K: Sink>(
     ensures steady { result ≢ Err OutRefused.Failed
         → K.fault_count sink.new ≡ K.fault_count sink.old }
     ensures counts { K.fault_count sink.old ≤ K.fault_count sink.new }
+    ensures unfailing { IsUnfailing (K.fault_plan sink.old)
+        → (result ≢ Err OutRefused.Failed) × IsUnfailing (K.fault_plan sink.new) }
 {
     match first_tail(gates) {
         Some((tail, after)) => write_tail(tail, after, page, alloc, sink),

@@ -1,6 +1,7 @@
 //! How matches go through the pipes onto the page, and from it to the sink.
 ghost use Rattle.std.specs.Prelude.{◌≡◌, ◌≢◌, ◌≤◌, ◌++◌, ◌∷◌, [], None, Err, OnOk, OnErr, string_bytes};
 ghost use Rattle.eql_outside.specs.Outside.{Rose};
+ghost use Rattle.eql_outside.specs.Unfailing.{IsUnfailing};
 ghost use Rattle.eql_outside.specs.Written.{WroteAll, WroteFront, WroteBut};
 ghost use Rattle.eql_book.specs.Books.{kept_after, let_out};
 ghost use Rattle.eql_book.specs.Gates.{pipes_of};
@@ -39,6 +40,8 @@ fn write_match<K: Sink>(
     ensures steady { result ≢ Err OutRefused.Failed
         → K.fault_count sink.new ≡ K.fault_count sink.old }
     ensures counts { K.fault_count sink.old ≤ K.fault_count sink.new }
+    ensures unfailing { IsUnfailing (K.fault_plan sink.old)
+        → (result ≢ Err OutRefused.Failed) × IsUnfailing (K.fault_plan sink.new) }
 {
     match ledger.count(found)? {
         Some(numbered) => page.add(alloc, &numbered, sink),
@@ -72,6 +75,8 @@ fn write_matches<K: Sink>(
     ensures steady { result ≢ Err OutRefused.Failed
         → K.fault_count sink.new ≡ K.fault_count sink.old }
     ensures counts { K.fault_count sink.old ≤ K.fault_count sink.new }
+    ensures unfailing { IsUnfailing (K.fault_plan sink.old)
+        → (result ≢ Err OutRefused.Failed) × IsUnfailing (K.fault_plan sink.new) }
 {
     for found in matches.into_items() {
         write_match(ledger, page, alloc, found, sink)?;
@@ -105,6 +110,8 @@ pub(crate) fn write_all<K: Sink>(
     ensures steady { result ≢ Err OutRefused.Failed
         → K.fault_count sink.new ≡ K.fault_count sink.old }
     ensures counts { K.fault_count sink.old ≤ K.fault_count sink.new }
+    ensures unfailing { IsUnfailing (K.fault_plan sink.old)
+        → (result ≢ Err OutRefused.Failed) × IsUnfailing (K.fault_plan sink.new) }
 {
     write_matches(ledger, page, alloc, matches, sink)?;
     page.send(alloc, sink)?;

@@ -24,6 +24,7 @@ loop-found-init g c =
       kept = start_kept c.args.ledger.now;
       printed = no_line c.args.page.now.places (string_bytes c.args.page.now.waiting) _ (g.K.Sink.written c.args.sink.now) (start_out c.args.ledger.now);
       silent = λ none. none;
+      unfailing = λ never. never;
       steady = refl;
       parts = sym c.into_items-found-items.ensures ∙ sym gives.0;
       many = omega (arith, gives.1);
@@ -51,6 +52,7 @@ loop-found-preserved g c =
           (g.K.Sink.written c.args.sink.now) (g.K.Sink.written loop.sink) (g.K.Sink.written c.write_match.new.sink)
           (λ i. listing (inv.places i) (let_out (inv.pipes i) (inv.kept i) (m ∷ []))) inv.printed wrote.printed;
       silent = λ none. c.write_match.ensures.silent (inv.silent none);
+      unfailing = λ never. (c.write_match.ensures.unfailing (inv.unfailing never)).1;
       steady = wrote.steady (λ e. cc) ∙ inv.steady;
       parts = inv.parts ∙ ap (λ (l : List Match). loop.yielded ++ l) popped.0 ∙ sym (append_assoc loop.yielded (m ∷ []) left);
       many = omega (arith, popped.1);
