@@ -48,7 +48,8 @@ found_later (suc k) at (x ∷ text) le one feed =
 pub none_later : (k : ℕ) (text : List ℕ) → IsOneLine (take k text) → IsOneLine (drop k text) → IsOneLine text
 none_later k text one more = subst IsOneLine (take-append-drop k text) (one_on (take k text) (drop k text) one more)
 
-behind : (k : ℕ) (rest unread : List ℕ) → rest ≡ unread → take (length rest - k) (drop k rest) ≡ drop k unread
+-- what stands behind the first bytes, as a slice has it
+pub behind : (k : ℕ) (rest unread : List ℕ) → rest ≡ unread → take (length rest - k) (drop k rest) ≡ drop k unread
 behind k rest unread e = take_all (length rest - k) (drop k rest) (let a = length-drop k rest in omega (arith, a)) ∙ ap (drop k) e
 
 -- a line feed behind the first bytes, as a search from there finds it

@@ -97,10 +97,10 @@ reads_at_join set a b c n m closed p q = record {
 -- ---- the lane stays the same
 module _ {S L : Type 0} (left lent_as : S → Option (List ℕ)) (read_of : L → Reads) where
   pub same_self : (a : LaneView S L) → SameLane left lent_as read_of a a
-  same_self a = record { shard = refl; slack = refl; reads = refl; named = refl; silent = λ e. e }
+  same_self a = record { shard = refl; slack = refl; reads = refl; places = refl; named = refl; silent = λ e. e }
 
   pub same_both : (a b c : LaneView S L) → SameLane left lent_as read_of a b → SameLane left lent_as read_of b c → SameLane left lent_as read_of a c
-  same_both a b c p q = record { shard = q.shard ∙ p.shard; slack = q.slack ∙ p.slack; reads = q.reads ∙ p.reads; named = q.named ∙ p.named; silent = λ e. q.silent (p.silent e) }
+  same_both a b c p q = record { shard = q.shard ∙ p.shard; slack = q.slack ∙ p.slack; reads = q.reads ∙ p.reads; places = q.places ∙ p.places; named = q.named ∙ p.named; silent = λ e. q.silent (p.silent e) }
 
   pub setting_same : (text : Option (List ℕ)) (a b : LaneView S L) → SameLane left lent_as read_of a b → setting_of read_of text b ≡ setting_of read_of text a
   setting_same text a b s = λ i. record { text = text; shard = s.shard i; slack = s.slack i; reads = s.reads i }

@@ -7,3 +7,7 @@ pub mod Joining
 pub mod Stepping
 pub mod Starting
 pub mod Feeds
+pub mod NoteLemmas
+pub mod LiftLemmas
+pub mod Seeking
+pub mod Beginnings

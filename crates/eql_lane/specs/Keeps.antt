@@ -1,14 +1,17 @@
 -- What a lane over a told text keeps at every step: it is what a cut keeps of its text at its place and the mark up to which it handed out.
-use Rattle.std.specs.Prelude.{◌≡◌, ℕ, List, Some}
+use Rattle.std.specs.Prelude.{◌≡◌, ℕ, List, Some, length}
 use Rattle.eql_values.specs.declared.order.Mark.{Mark}
 use Rattle.eql_values.specs.declared.item.Item.{Item}
+use Rattle.eql_values.specs.declared.cut.LaneCut.{LaneCut}
 use Rattle.eql_values.specs.Accepted.{accepted, sorted_items}
-use Rattle.eql_laws.specs.Belows.{from_to}
+use Rattle.eql_values.specs.Lines.{lines_of}
+use Rattle.eql_laws.specs.Belows.{from_to, IsReading}
 use Rattle.eql_laws.specs.Lanes.{lane_at}
 use Rattle.eql_laws.specs.Lateness.{AtMost}
 use Rattle.eql_laws.specs.Places.{ReadTo, IsPlace, whole, low_at}
 use Rattle.eql_lane.specs.declared.ops.LaneReply.{LaneReply}
 use Rattle.eql_values.specs.declared.order.Mark.TheVariants.{Start}
+use Rattle.eql_lane.specs.Noting.{line_place, placed_cut, unplaced_cut, whole_lines, IsWholeLine}
 use Rattle.eql_lane.specs.Lanes.{Setting, LaneState, FeedStep, Takes, low, lesser, greater, fresh_cut, begun}
 
 -- the lane read its text up to a place, keeps what isn't below the mark, which is safe there, and handed out no further than the mark
@@ -42,3 +45,17 @@ CutsBegin = (set : Setting) (mark : Mark) (place : ReadTo) (faults : ℕ) → Is
 -- and so is one that begins afresh
 abbrev pub FreshIs : Type 0
 FreshIs = (set : Setting) (text : List ℕ) (faults : ℕ) → LaneIs set text Start (begun fresh_cut faults)
+
+-- and so is one that is lifted, where its cut is what a cut keeps of the text there but for the places of its events
+abbrev pub LiftedIs : Type 0
+LiftedIs = (set : Setting) (mark : Mark) (place : ReadTo) (faults : ℕ) (cut : LaneCut) → IsReading set.reads → IsPlace place → AtMost mark (low_at set.reads set.slack set.shard place)
+    → unplaced_cut cut ≡ unplaced_cut (lane_at set.reads set.slack set.shard mark place)
+    → LaneIs set (whole place) mark (begun (placed_cut place.first cut) faults)
+
+-- the lines before a place of a text are whole, so none that a cut of the text names is missing, and their places are those in the whole text
+pub record HasWholeLines (place : ReadTo) : Type 0 where
+  pub all_whole : whole_lines place.first place.rest ≡ length (lines_of place.first)
+  pub same_places : (number : ℕ) → IsWholeLine place.first place.rest number → line_place (whole place) number ≡ line_place place.first number
+
+abbrev pub PlacesHaveLines : Type 0
+PlacesHaveLines = (place : ReadTo) → IsPlace place → HasWholeLines place

@@ -8,3 +8,4 @@ pub mod Buffers
 pub mod Starts
 pub mod Plays
 pub mod Passing
+pub mod Noting

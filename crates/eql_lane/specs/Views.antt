@@ -6,13 +6,14 @@ use Rattle.eql_laws.specs.Counting.{greatest_lines, greatest_bytes}
 use Rattle.eql_lane.specs.Buffers.{Pending, Stands}
 use Rattle.eql_lane.specs.Lanes.{Setting, LaneState}
 
--- a lane: its source, its reader, its shard, its slack in nanoseconds, the bytes that aren't read as lines yet, and its state
+-- a lane: its source, its reader, its shard, its slack in nanoseconds, the bytes that aren't read as lines yet, the places that it keeps of wanted lines, and its state
 pub record LaneView (S L : Type 0) : Type 0 where
   pub source : S
   pub reader : L
   pub shard : ℕ
   pub slack : Option ℤ
   pub buffer : Pending
+  pub places : List (ℕ × ℕ)
   pub state : LaneState
 
 -- a lane of this text: behind the lines that were read come the bytes at hand, and behind those that were taken what the source has left
@@ -31,11 +32,12 @@ IsTextOf left text lane = IfSome text (λ t. IsTextAt t (left lane.source) lane.
 abbrev pub setting_of : {S L : Type 0} → (L → Reads) → (text : Option (List ℕ)) → LaneView S L → Setting
 setting_of read_of text lane = record { text = text; shard = lane.shard; slack = lane.slack; reads = read_of lane.reader }
 
--- what no step changes is the same: the shard, the slack, what lines give, the name of the source, and that it doesn't tell
+-- what no step changes is the same: the shard, the slack, what lines give, the places, the name of the source, and that it doesn't tell
 pub record SameLane {S L : Type 0} (left lent_as : S → Option (List ℕ)) (read_of : L → Reads) (old new : LaneView S L) : Type 0 where
   pub shard : new.shard ≡ old.shard
   pub slack : new.slack ≡ old.slack
   pub reads : read_of new.reader ≡ read_of old.reader
+  pub places : new.places ≡ old.places
   pub named : lent_as new.source ≡ lent_as old.source
   pub silent : left old.source ≡ None → left new.source ≡ None
 

@@ -3,9 +3,10 @@
 ghost use Rattle.std.specs.Prelude.{◌≡◌, ◌≢◌, ◌≤◌, ◌<◌, ◌+◌, ◌==◌, ◌++◌, ◌^◌, ℕ, List, [], None, Ok, Err, IfOk, IfErr, IfSome, true, false, IsOk, OnOk, length, take, drop, vec_len};
 ghost use Rattle.eql_values.specs.Reading.{is_blank};
 ghost use Rattle.eql_outside.specs.Outside.{Rose};
+ghost use Rattle.eql_outside.specs.Unfailing.{IsUnfailing};
 ghost use Rattle.eql_lane.specs.Buffers.{byte_count, seen, seen_more, FeedAt, IsFront, Stands, Filled, IsOneLine};
 
-use eql_outside::Source;
+use eql_outside::{Source, unfailing_stays};
 use eql_values::{LineGot, LineReader, Memory, Reason};
 use memchr::memchr;
 use std::alloc::Global;
@@ -93,8 +94,8 @@ fn goes_on(line: LongLine, more: &[u8]) -> LongLine
     }
 }
 
-// Where the first line feed stands.
-fn feed_in(bytes: &[u8]) -> Option<usize>
+/// Where the first line feed stands.
+pub(crate) fn feed_in(bytes: &[u8]) -> Option<usize>
     ensures found { IfSome result (λ end. FeedAt end bytes.now) }
     ensures none { result ≡ None → IsOneLine bytes.now }
 {
@@ -249,7 +250,10 @@ impl LineBuffer {
         ensures steady { result ≢ Err FillRefused.Failed
             → S.fault_count source.new ≡ S.fault_count source.old }
         ensures counts { S.fault_count source.old ≤ S.fault_count source.new }
+        ensures unfailing { IsUnfailing (S.fault_plan source.old)
+            → (result ≢ Err FillRefused.Failed) × IsUnfailing (S.fault_plan source.new) }
     {
+        unfailing_stays();
         self.compact();
         if self.bytes.reserve(piece.len()).is_err() {
             return Err(FillRefused::Memory);
@@ -286,6 +290,8 @@ impl LineBuffer {
         ensures steady { result ≢ Err FillRefused.Failed
             → S.fault_count source.new ≡ S.fault_count source.old }
         ensures counts { S.fault_count source.old ≤ S.fault_count source.new }
+        ensures unfailing { IsUnfailing (S.fault_plan source.old)
+            → (result ≢ Err FillRefused.Failed) × IsUnfailing (S.fault_plan source.new) }
     {
         let mut piece = [0u8; PIECE];
         self.fill_by(source, &mut piece[..most])

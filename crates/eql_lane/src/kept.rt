@@ -12,12 +12,13 @@ ghost use Rattle.eql_lane.specs.Lanes.{fresh_cut};
 ghost use Rattle.eql_lane.specs.Judging.{pair};
 ghost use Rattle.eql_lane.specs.Starts.{MayBegin};
 ghost use Rattle.eql_lane.specs.Slacks.{IsSlack};
+ghost use Rattle.eql_lane.specs.Noting.{LinesAscend, place_noted, item_noted};
 ghost use Rattle.eql_laws.specs.Counting.{first_or, greatest_lines, greatest_bytes};
 ghost use Rattle.eql_laws.specs.Lateness.{larger};
 ghost use Rattle.eql_lane.specs.Judging.{best_got, late_got, counts_got, held_got, got_on, items_in, KeptView, IsGotAt, LinesTo, LinesBelow, CountsHold};
 
 use eql_values::{
-    Counts, FirstBad, Item, Items, LaneCut, LineGot, Mark, Memory, OrderKey, Reason, Routes,
+    Counts, FirstBad, Item, Items, LaneCut, LineGot, Mark, Memory, OrderKey, Places, Reason, Routes,
 };
 use std::alloc::Global;
 use std::collections::BTreeMap;
@@ -233,6 +234,43 @@ fn held_of(alloc: Global, items: Items) -> Result<BTreeMap<OrderKey, Routes>, Me
         held.insert(item.order, item.routes)?;
     }
     Ok(held)
+}
+
+/// The place of a line among lines that ascend.
+fn place_in(places: &[(u32, u64)], line: u32) -> u64
+    requires { LinesAscend places.now }
+    ensures { result ≡ place_noted places.now line }
+{
+    match places.binary_search_by_key(&line, |place| place.0) {
+        Ok(i) => places[i].1,
+        Err(_) => 0,
+    }
+}
+
+/// Sets the place of each event to that of its line.
+fn set_places(items: &mut Vec<Item>, places: &[(u32, u64)])
+    requires { LinesAscend places.now }
+    ensures { items.new.items ≡ map (item_noted places.now) items.old.items }
+{
+    for item in items.iter_mut() {
+        item.order.at = place_in(places, item.order.line);
+    }
+}
+
+/// What a cut keeps, with each event at the place of its line.
+pub(crate) fn placed(cut: LaneCut, places: &Places) -> LaneCut
+    requires { LinesAscend places.now }
+    ensures { result ≡ record cut { items = map (item_noted places.now) cut.items } }
+{
+    let mut items = cut.items.into_items();
+    set_places(&mut items, places.items());
+    LaneCut {
+        offset: cut.offset,
+        closed: cut.closed,
+        best: cut.best,
+        counts: cut.counts,
+        items: Items::of(items),
+    }
 }
 
 impl Kept {

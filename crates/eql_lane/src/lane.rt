@@ -1,26 +1,28 @@
 //! A lane over a source.
-ghost use Rattle.std.specs.Prelude.{◌≡◌, ◌≤◌, ◌<◌, ◌+◌, ◌==◌, ℕ, Option, List, [], None, Some, Ok, Err, IfOk, IfErr, IfSome, OnErr, OnOk, true, false, ◌⊎◌, length, position, take, drop, ◌++◌, ◌^◌};
+ghost use Rattle.std.specs.Prelude.{◌≡◌, ◌≢◌, ◌≤◌, ◌<◌, ◌+◌, ◌==◌, ℕ, Option, List, [], None, Some, Ok, Err, IfOk, IfErr, IfSome, OnErr, OnOk, true, false, ◌⊎◌, length, position, take, drop, ◌++◌, ◌^◌};
 ghost use Rattle.eql_outside.specs.Outside.{Rose};
+ghost use Rattle.eql_outside.specs.Unfailing.{IsUnfailing};
 ghost use Rattle.eql_laws.specs.Counting.{greatest_lines, greatest_bytes};
 ghost use Rattle.eql_lane.specs.Lanes.{Setting, LaneState, IsState, lesser, greater, ready, TakeStep, SnapStep, LaneAllows, begun};
 ghost use Rattle.eql_lane.specs.Views.{LaneView, IsTextOf, setting_of, SameLane};
 ghost use Rattle.eql_lane.specs.Slacks.{IsSlack, nanos_of, greatest_slack_ms};
 ghost use Rattle.eql_lane.specs.Buffers.{seen, byte_count, FeedAt, IsFront, HasFront, IsOneLine};
 ghost use Rattle.eql_lane.specs.Judging.{got_on};
-ghost use Rattle.eql_lane.specs.Plays.{Plays};
-ghost use Rattle.eql_lane.specs.Starts.{MayStart, MayBegin, Begins, Made, Refused, cut_of};
+ghost use Rattle.eql_lane.specs.Plays.{Plays, DidNotFail};
+ghost use Rattle.eql_lane.specs.Starts.{MayStart, MayBegin, MayLift, Begins, Lifts, Made, Refused, cut_of, wanted_of};
 ghost use Rattle.eql_lane.specs.Feeding.{Steps, Feeds, TookTo, line_step as step_by_line, end_step as step_by_end};
 
 use crate::buffer::{FillRefused, LineBuffer, PIECE};
-use crate::kept::Kept;
+use crate::kept::{Kept, placed};
 use crate::make::{LaneRefused, LaneStart};
 use crate::ops::{LaneOp, LaneReply, LimitOf};
 use crate::pass::seek;
 use crate::step::Step;
 use eql_outside::Source;
-use eql_values::{Counts, LaneCut, LineReader, Mark, Memory};
+use eql_values::{Counts, LaneCut, LineReader, Lines, Mark, Memory, Places};
 use std::alloc::Global;
 use std::marker::Model;
+use std::mem::replace;
 
 /// A lane over a source.
 #[derive(Drop)]
@@ -32,6 +34,7 @@ pub struct Lane<S: Source, L: LineReader> {
     kept: Kept,
     taken: u64,
     given: Mark,
+    places: Places,
     alloc: Global,
 }
 
@@ -47,6 +50,7 @@ impl<S: Source, L: LineReader> Model for Lane<S, L> {
       shard = l.shard;
       slack = l.kept.slack;
       buffer = l.buffer;
+      places = l.places;
       state = record {
         cut = l.kept.cut;
         taken = l.taken;
@@ -69,6 +73,13 @@ const EARLY: usize = 4194304;
 
 /// How many events may wait below the low.
 const READY: u32 = 65536;
+
+// No places.
+fn no_places(alloc: Global) -> Places
+    ensures { result ≡ [] }
+{
+    Places::of(Vec::new(alloc))
+}
 
 // A slack in nanoseconds.
 fn nanos(slack: Option<u64>) -> Option<i128>
@@ -204,6 +215,8 @@ impl<S: Source, L: LineReader> Lane<S, L> {
         ensures steps { Steps S.left L.read_of self.old result self.new }
         ensures room { TookTo 0 result }
         ensures same { SameLane S.left S.lent_as L.read_of self.old self.new }
+        ensures unfailing { IsUnfailing (S.fault_plan self.old.source)
+            → (result ≢ Step.Failed) × IsUnfailing (S.fault_plan self.new.source) }
     {
         if self.kept.lines() == LINES {
             return Step::Lines;
@@ -228,6 +241,8 @@ impl<S: Source, L: LineReader> Lane<S, L> {
         ensures steps { Steps S.left L.read_of self.old result self.new }
         ensures room { TookTo room result }
         ensures same { SameLane S.left S.lent_as L.read_of self.old self.new }
+        ensures unfailing { IsUnfailing (S.fault_plan self.old.source)
+            → (result ≢ Step.Failed) × IsUnfailing (S.fault_plan self.new.source) }
     {
         self.buffer.shorten();
         if self.kept.lines() == LINES && self.buffer.count() > 0 {
@@ -264,6 +279,8 @@ impl<S: Source, L: LineReader> Lane<S, L> {
         ensures steps { Steps S.left L.read_of self.old result self.new }
         ensures room { TookTo room result }
         ensures same { SameLane S.left S.lent_as L.read_of self.old self.new }
+        ensures unfailing { IsUnfailing (S.fault_plan self.old.source)
+            → (result ≢ Step.Failed) × IsUnfailing (S.fault_plan self.new.source) }
     {
         match self.line_end() {
             Some(end) => self.next_line(end),
@@ -281,6 +298,8 @@ impl<S: Source, L: LineReader> Lane<S, L> {
             → IsState (setting_of L.read_of text self.old) self.old.state }
         ensures feeds { Feeds S.left L.read_of self.old max result self.new }
         ensures same { SameLane S.left S.lent_as L.read_of self.old self.new }
+        ensures unfailing { IsUnfailing (S.fault_plan self.old.source)
+            → DidNotFail result × IsUnfailing (S.fault_plan self.new.source) }
     {
         let mut lines = 0;
         let mut room = EARLY;
@@ -340,6 +359,8 @@ impl<S: Source, L: LineReader> Lane<S, L> {
         requires some { 1 ≤ max }
         ensures feeds { Feeds S.left L.read_of self.old max result self.new }
         ensures same { SameLane S.left S.lent_as L.read_of self.old self.new }
+        ensures unfailing { IsUnfailing (S.fault_plan self.old.source)
+            → DidNotFail result × IsUnfailing (S.fault_plan self.new.source) }
     {
         self.stands();
         let ready = self.ready();
@@ -360,6 +381,8 @@ impl<S: Source, L: LineReader> Lane<S, L> {
         ensures keeps { (text : Option (List ℕ)) → IsTextOf S.left text self.old
             → IsTextOf S.left text self.new }
         ensures same { SameLane S.left S.lent_as L.read_of self.old self.new }
+        ensures unfailing { IsUnfailing (S.fault_plan self.old.source)
+            → DidNotFail result × IsUnfailing (S.fault_plan self.new.source) }
     {
         let low = self.kept.low();
         let bound = least(mark, low);
@@ -394,6 +417,8 @@ impl<S: Source, L: LineReader> Lane<S, L> {
         requires { LaneAllows op }
         ensures plays { Plays S.left L.read_of self.old op result self.new }
         ensures same { SameLane S.left S.lent_as L.read_of self.old self.new }
+        ensures unfailing { IsUnfailing (S.fault_plan self.old.source)
+            → DidNotFail result × IsUnfailing (S.fault_plan self.new.source) }
     {
         match op {
             LaneOp::Feed { max } => self.feed(max),
@@ -408,6 +433,15 @@ impl<S: Source, L: LineReader> Lane<S, L> {
         ensures { result ≡ self.now.state.cut.counts }
     {
         self.kept.counts()
+    }
+
+    /// The places of the wanted lines, moved out: none after another start than
+    /// [`Lift`](LaneStart::Lift), and none the second time. It takes no memory.
+    pub fn places(&mut self) -> Places
+        ensures places { result ≡ self.old.places }
+        ensures lane { self.new ≡ record self.old { places = [] } }
+    {
+        replace(&mut self.places, no_places(self.alloc))
     }
 }
 
@@ -426,20 +460,24 @@ impl<S: Source, L: LineReader + Drop> Lane<S, L> {
         requires slack { IfSome slack (λ ms. ms ≤ greatest_slack_ms) }
         requires start { MayStart start }
         ensures made { IfOk result (λ lane. Made S.left S.lent_as S.fault_count
-            source reader shard slack (cut_of start) lane) }
+            source reader shard slack start lane) }
         ensures refused { IfErr result (λ refused. Refused S.left S.lent_as S.fault_count
-            (cut_of start) source refused.0 refused.1) }
+            (cut_of start) (wanted_of start) source refused.0 refused.1) }
+        ensures unfailing { IsUnfailing (S.fault_plan source)
+            → IfOk result (λ lane. IsUnfailing (S.fault_plan lane.source))
+            × IfErr result (λ refused. (refused.0 ≢ LaneRefused.Failed)
+            × IsUnfailing (S.fault_plan refused.1)) }
     {
         let slack = nanos(slack);
         match start {
-            LaneStart::Fresh => Ok(Lane::begin(
-                alloc,
-                source,
-                reader,
-                shard,
-                Kept::new(alloc, slack),
-            )),
+            LaneStart::Fresh => {
+                let kept = Kept::new(alloc, slack);
+                Ok(Lane::begin(alloc, source, reader, shard, kept, no_places(alloc)))
+            }
             LaneStart::From(cut) => Lane::resume(alloc, source, reader, shard, slack, cut),
+            LaneStart::Lift { cut, wanted } => {
+                Lane::lift(alloc, source, reader, shard, slack, cut, wanted)
+            }
         }
     }
 
@@ -455,22 +493,93 @@ impl<S: Source, L: LineReader + Drop> Lane<S, L> {
         requires slack { IsSlack slack }
         requires cut { MayBegin cut }
         ensures made { IfOk result (λ lane. Begins S.left S.lent_as S.fault_count
-            source reader shard slack cut lane) }
+            source reader shard slack cut [] lane) }
         ensures refused { IfErr result (λ refused. Refused S.left S.lent_as S.fault_count
-            cut source refused.0 refused.1) }
+            cut [] source refused.0 refused.1) }
+        ensures unfailing { IsUnfailing (S.fault_plan source)
+            → IfOk result (λ lane. IsUnfailing (S.fault_plan lane.source))
+            × IfErr result (λ refused. (refused.0 ≢ LaneRefused.Failed)
+            × IsUnfailing (S.fault_plan refused.1)) }
     {
         let mut source = source;
-        if let Err(refused) = seek(&mut source, cut.offset, cut.closed) {
-            return Err((refused, source));
+        let wanted = Lines::of(Vec::new(alloc));
+        match seek(alloc, &mut source, cut.offset, cut.closed, wanted) {
+            Err(refused) => Err((refused, source)),
+            Ok(places) => Lane::behind(alloc, source, reader, shard, slack, cut, places),
         }
+    }
+
+    // A lane that goes on from what a cut without places keeps of it, with the places of its lines.
+    fn lift(
+        alloc: Global,
+        source: S,
+        reader: L,
+        shard: u32,
+        slack: Option<i128>,
+        cut: LaneCut,
+        wanted: Lines,
+    ) -> Result<Lane<S, L>, (LaneRefused, S)>
+        requires slack { IsSlack slack }
+        requires cut { MayLift cut wanted }
+        ensures made { IfOk result (λ lane. Lifts S.left S.lent_as S.fault_count
+            source reader shard slack cut wanted lane) }
+        ensures refused { IfErr result (λ refused. Refused S.left S.lent_as S.fault_count
+            cut wanted source refused.0 refused.1) }
+        ensures unfailing { IsUnfailing (S.fault_plan source)
+            → IfOk result (λ lane. IsUnfailing (S.fault_plan lane.source))
+            × IfErr result (λ refused. (refused.0 ≢ LaneRefused.Failed)
+            × IsUnfailing (S.fault_plan refused.1)) }
+    {
+        let mut source = source;
+        match seek(alloc, &mut source, cut.offset, cut.closed, wanted) {
+            Err(refused) => Err((refused, source)),
+            Ok(places) => {
+                let cut = placed(cut, &places);
+                Lane::behind(alloc, source, reader, shard, slack, cut, places)
+            }
+        }
+    }
+
+    // A lane that goes on from what a cut keeps of it, over the source behind its offset.
+    fn behind(
+        alloc: Global,
+        source: S,
+        reader: L,
+        shard: u32,
+        slack: Option<i128>,
+        cut: LaneCut,
+        places: Places,
+    ) -> Result<Lane<S, L>, (LaneRefused, S)>
+        requires slack { IsSlack slack }
+        requires cut { MayBegin cut }
+        requires ended { cut.closed ≡ true → IfSome (S.left source) (λ left. left ≡ []) }
+        ensures lane { IfOk result (λ lane. lane ≡ record {
+          source = source;
+          reader = reader;
+          shard = shard;
+          slack = slack;
+          buffer = record { long = None; unread = [] };
+          places = places;
+          state = begun cut (S.fault_count source);
+        }) }
+        ensures refused { IfErr result
+            (λ refused. (refused.0 ≡ LaneRefused.Memory) × (refused.1 ≡ source)) }
+    {
         match Kept::of(alloc, slack, cut) {
             Err(_) => Err((LaneRefused::Memory, source)),
-            Ok(kept) => Ok(Lane::begin(alloc, source, reader, shard, kept)),
+            Ok(kept) => Ok(Lane::begin(alloc, source, reader, shard, kept, places)),
         }
     }
 
     // A lane that begins with what is kept of it, over the source behind it.
-    fn begin(alloc: Global, source: S, reader: L, shard: u32, kept: Kept) -> Lane<S, L>
+    fn begin(
+        alloc: Global,
+        source: S,
+        reader: L,
+        shard: u32,
+        kept: Kept,
+        places: Places,
+    ) -> Lane<S, L>
         requires lines { kept.cut.counts.lines ≤ greatest_lines }
         requires bytes { kept.cut.offset ≤ greatest_bytes }
         requires ended { kept.cut.closed ≡ true → IfSome (S.left source) (λ left. left ≡ []) }
@@ -480,6 +589,7 @@ impl<S: Source, L: LineReader + Drop> Lane<S, L> {
           shard = shard;
           slack = kept.slack;
           buffer = record { long = None; unread = [] };
+          places = places;
           state = begun kept.cut (S.fault_count source);
         } }
     {
@@ -492,13 +602,15 @@ impl<S: Source, L: LineReader + Drop> Lane<S, L> {
             taken: kept.offset(),
             kept,
             given: Mark::Start,
+            places,
             alloc,
         }
     }
 
     /// The source, handed back.
     pub fn into_source(self) -> S
-        ensures { result ≡ self.source }
+        ensures source { result ≡ self.source }
+        ensures faults { S.fault_count result ≡ self.state.faults }
     {
         self.source
     }

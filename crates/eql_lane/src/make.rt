@@ -1,6 +1,6 @@
 //! How a lane begins, and why it isn't made.
 
-use eql_values::LaneCut;
+use eql_values::{LaneCut, Lines};
 
 /// How a lane begins.
 #[derive(Drop)]
@@ -9,6 +9,14 @@ pub enum LaneStart {
     Fresh,
     /// With what a cut keeps of it.
     From(LaneCut),
+    /// With what a cut keeps of it that has no places. They are set anew, and the places of the
+    /// wanted lines are kept for [`places`](crate::Lane::places).
+    Lift {
+        /// What the cut keeps.
+        cut: LaneCut,
+        /// The wanted lines, from 1, ascending, among them those of the cut's events.
+        wanted: Lines,
+    },
 }
 
 /// Why a lane isn't made.
@@ -20,6 +28,11 @@ pub enum LaneRefused {
         offset: u64,
         /// How many bytes the source had.
         had: u64,
+    },
+    /// A wanted line isn't among the whole lines before the offset of the cut.
+    NoLine {
+        /// The least such line.
+        line: u32,
     },
     /// The cut says that the shard was closed, and the source has a further byte.
     Grown,

@@ -1,44 +1,85 @@
-//! Passing over the bytes of a source that a cut says were read.
-ghost use Rattle.std.specs.Prelude.{◌≡◌, ◌≤◌, ◌<◌, ◌+◌, ◌≢◌, ◌^◌, true, false, ℕ, List, [], Ok, Err, IfOk, IfErr, IfSome, IsOk, IsErr, OnOk, length};
+//! Passing over the bytes of a source that a cut says were read, and noting lines in them.
+ghost use Rattle.std.specs.Prelude.{◌≡◌, ◌≤◌, ◌<◌, ◌+◌, ◌≢◌, ◌⊎◌, ◌^◌, true, false, ℕ, List, [], Ok, Err, IfOk, IfErr, IfSome, IsOk, IsErr, OnOk, length};
+ghost use Rattle.std.specs.List.Sorted.{IsStrictlyIncreasing};
 ghost use Rattle.eql_outside.specs.Outside.{Rose};
-ghost use Rattle.eql_lane.specs.Passing.{PassedOver, IsEnd, IsCause, GivesBack};
+ghost use Rattle.eql_outside.specs.Unfailing.{IsUnfailing};
+ghost use Rattle.eql_lane.specs.Noting.{NotesOf, Located, IsMissing, is_cut};
+ghost use Rattle.eql_lane.specs.Passing.{PassedOver, ReadOver, Finds, IsEnd, IsJudged, IsCause, GivesBack};
 
 use crate::buffer::PIECE;
 use crate::make::LaneRefused;
-use eql_outside::{Failed, Source};
+use crate::notes::Notes;
+use eql_outside::{Failed, Source, unfailing_stays};
+use eql_values::{Lines, Places};
+use std::alloc::Global;
 
-// Takes at most so many bytes and drops them. It answers how many they were; none are the end.
-fn pass_some<S: Source>(source: &mut S, most: u64) -> Result<u64, Failed>
-    requires some { 1 ≤ most }
-    ensures few { IfOk result (λ n. n ≤ most) }
+// Takes at most as many bytes as the piece has, notes the lines in them and drops them. It answers
+// how many they were; none are the end.
+fn pass_piece<S: Source>(
+    source: &mut S,
+    piece: &mut [u8],
+    notes: &mut Notes,
+) -> Result<usize, Failed>
+    requires some { 1 ≤ length piece.old }
+    requires far { notes.old.passed + length piece.old < 2 ^ 63 }
+    ensures few { IfOk result (λ n. n ≤ length piece.old) }
     ensures passed { IfOk result (λ n. PassedOver S.left S.lent_as n source.old source.new) }
+    ensures read { IfOk result (λ n. ReadOver (S.left source.old) n notes.old notes.new) }
     ensures end { result ≡ Ok 0 → IsEnd S.left source.old }
     ensures kept { IsErr result → PassedOver S.left S.lent_as 0 source.old source.new }
     ensures cause { IsErr result → Rose (S.fault_count source.old) (S.fault_count source.new) }
     ensures steady { IsOk result → S.fault_count source.new ≡ S.fault_count source.old }
     ensures counts { S.fault_count source.old ≤ S.fault_count source.new }
+    ensures unfailing { IsUnfailing (S.fault_plan source.old)
+        → IsOk result × IsUnfailing (S.fault_plan source.new) }
+{
+    unfailing_stays();
+    let n = source.take(piece)?;
+    notes.pass(&piece[..n]);
+    Ok(n)
+}
+
+// Takes at most so many bytes, notes the lines in them and drops them. It answers how many they
+// were; none are the end.
+fn pass_some<S: Source>(source: &mut S, most: u64, notes: &mut Notes) -> Result<u64, Failed>
+    requires some { 1 ≤ most }
+    requires far { notes.old.passed + most < 2 ^ 63 }
+    ensures few { IfOk result (λ n. n ≤ most) }
+    ensures passed { IfOk result (λ n. PassedOver S.left S.lent_as n source.old source.new) }
+    ensures read { IfOk result (λ n. ReadOver (S.left source.old) n notes.old notes.new) }
+    ensures end { result ≡ Ok 0 → IsEnd S.left source.old }
+    ensures kept { IsErr result → PassedOver S.left S.lent_as 0 source.old source.new }
+    ensures cause { IsErr result → Rose (S.fault_count source.old) (S.fault_count source.new) }
+    ensures steady { IsOk result → S.fault_count source.new ≡ S.fault_count source.old }
+    ensures counts { S.fault_count source.old ≤ S.fault_count source.new }
+    ensures unfailing { IsUnfailing (S.fault_plan source.old)
+        → IsOk result × IsUnfailing (S.fault_plan source.new) }
 {
     let mut piece = [0u8; PIECE];
     let most = most.min(PIECE as u64) as usize;
-    let n = source.take(&mut piece[..most])?;
+    let n = pass_piece(source, &mut piece[..most], notes)?;
     Ok(n as u64)
 }
 
-/// Passes over so many bytes, or over all where the source has fewer. It answers how many they
-/// were.
-pub(crate) fn pass_over<S: Source>(source: &mut S, count: u64) -> Result<u64, Failed>
+// Passes over so many bytes, or over all where the source has fewer, and notes the lines in them.
+// It answers how many they were.
+fn pass_over<S: Source>(source: &mut S, count: u64, notes: &mut Notes) -> Result<u64, Failed>
+    requires far { notes.old.passed + count < 2 ^ 63 }
     ensures few { IfOk result (λ n. n ≤ count) }
     ensures passed { IfOk result (λ n. PassedOver S.left S.lent_as n source.old source.new) }
+    ensures read { IfOk result (λ n. ReadOver (S.left source.old) n notes.old notes.new) }
     ensures end { IfOk result (λ n. n < count → IsEnd S.left source.new) }
     ensures kept { IsErr result
         → (n : ℕ) × (n ≤ count) × PassedOver S.left S.lent_as n source.old source.new }
     ensures cause { IsErr result → Rose (S.fault_count source.old) (S.fault_count source.new) }
     ensures steady { IsOk result → S.fault_count source.new ≡ S.fault_count source.old }
     ensures counts { S.fault_count source.old ≤ S.fault_count source.new }
+    ensures unfailing { IsUnfailing (S.fault_plan source.old)
+        → IsOk result × IsUnfailing (S.fault_plan source.new) }
 {
     let mut passed = 0;
     while passed < count {
-        match pass_some(source, count - passed) {
+        match pass_some(source, count - passed, notes) {
             Err(failed) => return Err(failed),
             Ok(0) => return Ok(passed),
             Ok(n) => passed += n,
@@ -47,30 +88,106 @@ pub(crate) fn pass_over<S: Source>(source: &mut S, count: u64) -> Result<u64, Fa
     Ok(passed)
 }
 
-/// Passes over the bytes before an offset. Where the shard was closed there, no byte may follow.
-pub(crate) fn seek<S: Source>(source: &mut S, offset: u64, closed: bool) -> Result<(), LaneRefused>
+// Whether a source is at its end. Where it isn't, a byte is taken.
+fn is_end<S: Source>(source: &mut S) -> Result<bool, Failed>
+    ensures passed { IfOk result (λ ended. (n : ℕ) × (n ≤ 1)
+        × PassedOver S.left S.lent_as n source.old source.new) }
+    ensures ended { result ≡ Ok true
+        → IsEnd S.left source.old × PassedOver S.left S.lent_as 0 source.old source.new }
+    ensures further { result ≡ Ok false → IfSome (S.left source.old) (λ left. left ≢ []) }
+    ensures kept { IsErr result → PassedOver S.left S.lent_as 0 source.old source.new }
+    ensures cause { IsErr result → Rose (S.fault_count source.old) (S.fault_count source.new) }
+    ensures steady { IsOk result → S.fault_count source.new ≡ S.fault_count source.old }
+    ensures counts { S.fault_count source.old ≤ S.fault_count source.new }
+    ensures unfailing { IsUnfailing (S.fault_plan source.old)
+        → IsOk result × IsUnfailing (S.fault_plan source.new) }
+{
+    unfailing_stays();
+    let mut byte = [0u8; 1];
+    let n = source.take(&mut byte)?;
+    Ok(n == 0)
+}
+
+// Whether a source is at its end, where that is to be known: at a closed place, and at one that
+// cuts the next wanted line. Elsewhere none is told, and no byte is taken.
+fn ends_here<S: Source>(source: &mut S, closed: bool, notes: &Notes) -> Result<bool, Failed>
+    ensures passed { IfOk result (λ ended. (n : ℕ) × (n ≤ 1)
+        × PassedOver S.left S.lent_as n source.old source.new) }
+    ensures ended { result ≡ Ok true
+        → IsEnd S.left source.old × PassedOver S.left S.lent_as 0 source.old source.new }
+    ensures further { result ≡ Ok false → IfSome (S.left source.old) (λ left. left ≢ [])
+        ⊎ ((closed ≡ false) × (is_cut notes.now ≡ false)) }
+    ensures same { closed ≡ false → is_cut notes.now ≡ false
+        → PassedOver S.left S.lent_as 0 source.old source.new }
+    ensures kept { IsErr result → PassedOver S.left S.lent_as 0 source.old source.new }
+    ensures cause { IsErr result → Rose (S.fault_count source.old) (S.fault_count source.new) }
+    ensures steady { IsOk result → S.fault_count source.new ≡ S.fault_count source.old }
+    ensures counts { S.fault_count source.old ≤ S.fault_count source.new }
+    ensures unfailing { IsUnfailing (S.fault_plan source.old)
+        → IsOk result × IsUnfailing (S.fault_plan source.new) }
+{
+    if closed || notes.is_cut() {
+        return is_end(source);
+    }
+    Ok(false)
+}
+
+// The places of the wanted lines before a place, behind which the text ends or not, where all were
+// found and no byte follows a closed place.
+fn judge(notes: Notes, closed: bool, ended: bool) -> Result<Places, LaneRefused>
+    ensures located { IfOk result (λ places. (front rest : List ℕ) → NotesOf front notes
+        → (ended ≡ true → rest ≡ []) → Located front rest notes.wanted places) }
+    ensures whole { IsOk result → (closed ≡ true → ended ≡ true)
+        × (ended ≡ false → is_cut notes ≡ false) }
+    ensures refused { IfErr result (λ refused. (front rest : List ℕ) → NotesOf front notes
+        → (ended ≡ true → rest ≡ []) → (ended ≡ false → rest ≡ [] → is_cut notes ≡ false)
+        → IsJudged front rest notes.wanted closed ended refused) }
+    ensures steady { result ≢ Err LaneRefused.Failed }
+{
+    let mut notes = notes;
+    if let Some(line) = notes.finish(ended) {
+        return Err(LaneRefused::NoLine { line });
+    }
+    if closed && !ended {
+        return Err(LaneRefused::Grown);
+    }
+    Ok(notes.into_places())
+}
+
+/// Passes over the bytes before an offset, and finds the wanted lines in them. Where the shard was
+/// closed there, no byte may follow.
+pub(crate) fn seek<S: Source>(
+    alloc: Global,
+    source: &mut S,
+    offset: u64,
+    closed: bool,
+    wanted: Lines,
+) -> Result<Places, LaneRefused>
     requires far { offset < 2 ^ 63 }
+    requires ascend { IsStrictlyIncreasing wanted }
     ensures passed { IsOk result → PassedOver S.left S.lent_as offset source.old source.new }
     ensures ended { IsOk result → closed ≡ true → IsEnd S.left source.new }
+    ensures finds { IfOk result (λ places. Finds (S.left source.old) offset wanted places) }
     ensures cause { IfErr result (λ refused. IsCause (S.left source.old)
-        (S.fault_count source.old) (S.fault_count source.new) offset closed refused) }
+        (S.fault_count source.old) (S.fault_count source.new) offset closed wanted refused) }
     ensures steady { result ≢ Err LaneRefused.Failed
         → S.fault_count source.new ≡ S.fault_count source.old }
     ensures gives { IsErr result
         → GivesBack S.left S.lent_as S.fault_count offset source.old source.new }
+    ensures unfailing { IsUnfailing (S.fault_plan source.old)
+        → (result ≢ Err LaneRefused.Failed) × IsUnfailing (S.fault_plan source.new) }
 {
-    let Ok(had) = pass_over(source, offset) else {
+    let Ok(mut notes) = Notes::new(alloc, wanted) else {
+        return Err(LaneRefused::Memory);
+    };
+    let Ok(had) = pass_over(source, offset, &mut notes) else {
         return Err(LaneRefused::Failed);
     };
     if had < offset {
         return Err(LaneRefused::Short { offset, had });
     }
-    if !closed {
-        return Ok(());
-    }
-    match pass_some(source, 1) {
-        Err(Failed) => Err(LaneRefused::Failed),
-        Ok(0) => Ok(()),
-        Ok(_) => Err(LaneRefused::Grown),
-    }
+    let Ok(ended) = ends_here(source, closed, &notes) else {
+        return Err(LaneRefused::Failed);
+    };
+    judge(notes, closed, ended)
 }

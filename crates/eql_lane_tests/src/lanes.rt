@@ -345,6 +345,7 @@ fn empty_cut(alloc: Global, offset: u64, closed: bool, lines: u32) -> LaneCut
 fn write_refused(out: &mut String, refused: LaneRefused) -> Result<(), Fail> {
     match refused {
         LaneRefused::Short { offset, had } => write!(out, "short {offset} {had}")?,
+        LaneRefused::NoLine { line } => write!(out, "no line {line}")?,
         LaneRefused::Grown => write!(out, "grown")?,
         LaneRefused::Failed => write!(out, "failed")?,
         LaneRefused::Memory => write!(out, "memory")?,

@@ -1,12 +1,15 @@
 use Rattle.std.proofs.Common.{ℕ, Ok, refl, ap, ◌∙◌, subst, arith}
 use Rattle.eql_outside.specs.Outside.{Rose}
 use Rattle.eql_lane.proofs.Starting.{passed_start, passed_join, passed_none, end_on}
+use Rattle.eql_lane.proofs.Seeking.{read_start, read_join, read_none}
 use Rattle.eql_lane.proofs.pass.pass_over.Goals as goal
 
 pub loop-passed-init : goal.loop-passed-init
 loop-passed-init g c = record {
   few = omega arith;
+  read = read_start (g.S.Source.left c.args.source.now) c.args.notes.now;
   over = passed_start g.S.Source.left g.S.Source.lent_as c.args.source.now;
+  unfailing = λ never. never;
   steady = refl;
 }
 
@@ -15,7 +18,9 @@ loop-passed-preserved g c =
     let inv = c.loop-passed.invariant in
     record {
       few = omega (arith, inv.few, c.in-Ok.ensures.few, c.loop-passed-test.true);
+      read = read_join g.S.Source.left g.S.Source.lent_as c.loop-passed.passed c.in-Ok.n c.args.source.now c.loop-passed.source c.args.notes.now c.loop-passed.notes c.pass_some.new.notes inv.over inv.read c.in-Ok.ensures.read;
       over = passed_join g.S.Source.left g.S.Source.lent_as c.loop-passed.passed c.in-Ok.n c.args.source.now c.loop-passed.source c.pass_some.new.source inv.over c.in-Ok.ensures.passed;
+      unfailing = λ never. (c.in-Ok.ensures.unfailing (inv.unfailing never)).1;
       steady = c.in-Ok.ensures.steady refl ∙ inv.steady;
     }
 
@@ -35,3 +40,26 @@ returns-in-Ok-eq0-clause-passed g c =
 pub returns-in-Ok-eq0-clause-end : goal.returns-in-Ok-eq0-clause-end
 returns-in-Ok-eq0-clause-end g c = λ _. end_on g.S.Source.left g.S.Source.lent_as c.loop-passed.source c.pass_some.new.source c.in-Ok-eq0.field-0 c.in-Ok-eq0.field-0-test c.in-Ok-eq0.ensures.passed
     (c.in-Ok-eq0.ensures.end (ap (λ (n : ℕ). Ok n) c.in-Ok-eq0.field-0-test))
+
+pub returns-in-Err-clause-unfailing : goal.returns-in-Err-clause-unfailing
+returns-in-Err-clause-unfailing g c = λ never. let taken = c.in-Err.ensures.unfailing (c.loop-passed.invariant.unfailing never) in (cc taken.0, taken.1)
+
+pub returns-in-Ok-eq0-clause-unfailing : goal.returns-in-Ok-eq0-clause-unfailing
+returns-in-Ok-eq0-clause-unfailing g c = λ never. (refl, (c.in-Ok-eq0.ensures.unfailing (c.loop-passed.invariant.unfailing never)).1)
+
+pub returns-clause-unfailing : goal.returns-clause-unfailing
+returns-clause-unfailing g c = λ never. (refl, c.loop-passed.invariant.unfailing never)
+
+pub pass_some-requires-clause-far : goal.pass_some-requires-clause-far
+pass_some-requires-clause-far g c =
+    let inv = c.loop-passed.invariant in
+    let a = inv.read.passed in
+    let b = c.requires.far in omega (arith, a, b, inv.few)
+
+pub returns-in-Ok-eq0-clause-read : goal.returns-in-Ok-eq0-clause-read
+returns-in-Ok-eq0-clause-read g c =
+    let inv = c.loop-passed.invariant in
+    read_none g.S.Source.left g.S.Source.lent_as c.loop-passed.passed c.in-Ok-eq0.field-0 c.args.source.now c.loop-passed.source c.args.notes.now c.loop-passed.notes c.pass_some.new.notes c.in-Ok-eq0.field-0-test inv.over inv.read c.in-Ok-eq0.ensures.read
+
+pub returns-clause-read : goal.returns-clause-read
+returns-clause-read g c = c.loop-passed.invariant.read

@@ -15,8 +15,8 @@ invariant_of-self g c =
 
 pub returns-clause-steps : goal.returns-clause-steps
 returns-clause-steps g c =
-    let old : LaneView g.row.S.Denot g.row.L.Denot = record { source = c.self.inside.source; reader = c.self.inside.reader; shard = c.self.inside.shard; slack = c.self.inside.kept.slack; buffer = c.self.inside.buffer; state = record { cut = c.self.inside.kept.cut; taken = c.self.inside.taken; given = c.self.inside.given; faults = g.S.Source.fault_count c.self.inside.source } } in
-    let new : LaneView g.row.S.Denot g.row.L.Denot = record { source = c.self.inside.source; reader = c.read_line-read.new.reader; shard = c.self.inside.shard; slack = c.read_line-read.new.kept.slack; buffer = c.read_line-read.new.buffer; state = record { cut = c.read_line-read.new.kept.cut; taken = c.self.inside.taken; given = c.self.inside.given; faults = g.S.Source.fault_count c.self.inside.source } } in
+    let old : LaneView g.row.S.Denot g.row.L.Denot = record { source = c.self.inside.source; reader = c.self.inside.reader; shard = c.self.inside.shard; slack = c.self.inside.kept.slack; buffer = c.self.inside.buffer; places = c.self.inside.places; state = record { cut = c.self.inside.kept.cut; taken = c.self.inside.taken; given = c.self.inside.given; faults = g.S.Source.fault_count c.self.inside.source } } in
+    let new : LaneView g.row.S.Denot g.row.L.Denot = record { source = c.self.inside.source; reader = c.read_line-read.new.reader; shard = c.self.inside.shard; slack = c.read_line-read.new.kept.slack; buffer = c.read_line-read.new.buffer; places = c.self.inside.places; state = record { cut = c.read_line-read.new.kept.cut; taken = c.self.inside.taken; given = c.self.inside.given; faults = g.S.Source.fault_count c.self.inside.source } } in
     subst (λ (v : LaneView g.row.S.Denot g.row.L.Denot). Steps g.S.Source.left g.L.LineReader.read_of v c.line_step.result new) c.self.view_is
     (subst (λ (s : Step). Steps g.S.Source.left g.L.LineReader.read_of old s new) (sym c.line_step.ensures)
     (λ text told.

@@ -15,6 +15,7 @@ loop-lines-init g c = record {
   same = same_self g.S.Source.left g.S.Source.lent_as g.L.LineReader.read_of c.args.self.now;
   room = refl;
   most = omega arith;
+  unfailing = λ never. never;
 }
 
 pub loop-lines-preserved-in-Line : goal.loop-lines-preserved-in-Line
@@ -27,6 +28,7 @@ loop-lines-preserved-in-Line g c =
       same = same_both g.S.Source.left g.S.Source.lent_as g.L.LineReader.read_of c.args.self.now c.loop-lines.self c.step.new.self inv.same c.step.ensures.same;
       room = let a = (c.in-Line.ensures.steps None tt).did.1 in omega (arith, inv.room, a);
       most = omega (arith, c.loop-lines-test.true);
+      unfailing = λ never. (c.in-Line.ensures.unfailing (inv.unfailing never)).1;
     }
 
 pub loop-lines-preserved : goal.loop-lines-preserved
@@ -39,6 +41,7 @@ loop-lines-preserved g c =
       same = same_both g.S.Source.left g.S.Source.lent_as g.L.LineReader.read_of c.args.self.now c.loop-lines.self c.step.new.self inv.same c.step.ensures.same;
       room = let a = (c.in-Took.ensures.steps None tt).did.taken in omega (arith, inv.room, a, c.in-Took.ensures.room);
       most = inv.most;
+      unfailing = λ never. (c.in-Took.ensures.unfailing (inv.unfailing never)).1;
     }
 
 pub returns-then-last-clause-feeds : goal.returns-then-last-clause-feeds
@@ -209,3 +212,30 @@ returns-in-Bytes-clause-feeds g c =
       );
       keeps = limited.keeps;
     }
+
+pub returns-then-last-clause-unfailing : goal.returns-then-last-clause-unfailing
+returns-then-last-clause-unfailing g c = λ never. (λ lines same. cc, (c.in-End.ensures.unfailing (c.loop-lines.invariant.unfailing never)).1)
+
+pub returns-then-lines-eq0-clause-unfailing : goal.returns-then-lines-eq0-clause-unfailing
+returns-then-lines-eq0-clause-unfailing g c = λ never. (λ lines same. cc, (c.in-End.ensures.unfailing (c.loop-lines.invariant.unfailing never)).1)
+
+pub returns-in-End-clause-unfailing : goal.returns-in-End-clause-unfailing
+returns-in-End-clause-unfailing g c = λ never. (λ lines same. cc, (c.in-End.ensures.unfailing (c.loop-lines.invariant.unfailing never)).1)
+
+pub returns-in-Memory-clause-unfailing : goal.returns-in-Memory-clause-unfailing
+returns-in-Memory-clause-unfailing g c = λ never. (λ lines same. cc, (c.in-Memory.ensures.unfailing (c.loop-lines.invariant.unfailing never)).1)
+
+pub returns-in-Lines-clause-unfailing : goal.returns-in-Lines-clause-unfailing
+returns-in-Lines-clause-unfailing g c = λ never. (λ lines same. cc, (c.in-Lines.ensures.unfailing (c.loop-lines.invariant.unfailing never)).1)
+
+pub returns-in-Bytes-clause-unfailing : goal.returns-in-Bytes-clause-unfailing
+returns-in-Bytes-clause-unfailing g c = λ never. (λ lines same. cc, (c.in-Bytes.ensures.unfailing (c.loop-lines.invariant.unfailing never)).1)
+
+pub returns-in-Failed-clause-unfailing : goal.returns-in-Failed-clause-unfailing
+returns-in-Failed-clause-unfailing g c = λ never. absurd ((c.in-Failed.ensures.unfailing (c.loop-lines.invariant.unfailing never)).0 refl)
+
+pub returns-then-room-eq0-clause-unfailing : goal.returns-then-room-eq0-clause-unfailing
+returns-then-room-eq0-clause-unfailing g c = λ never. (λ lines same. cc, c.loop-lines.invariant.unfailing never)
+
+pub returns-clause-unfailing : goal.returns-clause-unfailing
+returns-clause-unfailing g c = λ never. (λ lines same. cc, c.loop-lines.invariant.unfailing never)

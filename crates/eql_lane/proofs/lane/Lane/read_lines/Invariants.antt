@@ -1,4 +1,5 @@
 use Rattle.std.proofs.Common.{◌≡◌, ◌≤◌, ◌+◌, ◌-◌, false, List, ℕ, Option}
+use Rattle.eql_outside.specs.Unfailing.{IsUnfailing}
 use Rattle.eql_lane.specs.Views.{IsTextOf, setting_of, SameLane}
 use Rattle.eql_lane.specs.Feeding.{ReadsAt}
 use Rattle.eql_lane.proofs.lane.Lane.read_lines.Given as goal
@@ -11,6 +12,7 @@ invariant-loop-lines g l = record {
   same : SameLane g.S.Source.left g.S.Source.lent_as g.L.LineReader.read_of l.fn.self l.self;
   room : l.self.state.taken + l.room ≡ l.fn.self.state.taken + 4194304;
   most : l.lines ≤ l.max;
+  unfailing : IsUnfailing (g.S.Source.fault_plan l.fn.self.source) → IsUnfailing (g.S.Source.fault_plan l.self.source);
 }
 
 abbrev pub decreases-loop-lines : goal.decreases-loop-lines

@@ -26,7 +26,7 @@ returns-in-Ok-clause-step g c =
 
 pub returns-in-Ok-clause-keeps : goal.returns-in-Ok-clause-keeps
 returns-in-Ok-clause-keeps g c =
-    let new : LaneView g.row.S.Denot g.row.L.Denot = record { source = c.self.inside.source; reader = c.self.inside.reader; shard = c.self.inside.shard; slack = c.take_below.new.self.slack; buffer = c.self.inside.buffer; state = record { cut = c.take_below.new.self.cut; taken = c.self.inside.taken; given = c.greatest-self-inside.result; faults = g.S.Source.fault_count c.self.inside.source } } in
+    let new : LaneView g.row.S.Denot g.row.L.Denot = record { source = c.self.inside.source; reader = c.self.inside.reader; shard = c.self.inside.shard; slack = c.take_below.new.self.slack; buffer = c.self.inside.buffer; places = c.self.inside.places; state = record { cut = c.take_below.new.self.cut; taken = c.self.inside.taken; given = c.greatest-self-inside.result; faults = g.S.Source.fault_count c.self.inside.source } } in
     subst (λ (v : LaneView g.row.S.Denot g.row.L.Denot). (text : Option (List ℕ)) → IsTextOf g.S.Source.left text v → IsTextOf g.S.Source.left text new) c.self.view_is
     (λ text told. tells text (g.S.Source.left c.self.inside.source) c.self.inside.buffer c.take_below.new.self.cut c.self.inside.taken
     (kept_lane text (g.S.Source.left c.self.inside.source) c.self.inside.buffer c.self.inside.kept.cut c.take_below.new.self.cut c.self.inside.taken c.least-bound.result (of_text text (g.S.Source.left c.self.inside.source) c.self.inside.buffer c.self.inside.kept.cut c.self.inside.taken c.self.invariant told) (c.in-Ok.ensures {u = tt}).kept))

@@ -37,8 +37,8 @@ invariant_of-self-in-Ok-eq0 g c =
 
 pub returns-in-Ok-eq0-clause-steps : goal.returns-in-Ok-eq0-clause-steps
 returns-in-Ok-eq0-clause-steps g c =
-    let old : LaneView g.row.S.Denot g.row.L.Denot = record { source = c.self.inside.source; reader = c.self.inside.reader; shard = c.self.inside.shard; slack = c.self.inside.kept.slack; buffer = c.self.inside.buffer; state = record { cut = c.self.inside.kept.cut; taken = c.self.inside.taken; given = c.self.inside.given; faults = g.S.Source.fault_count c.self.inside.source } } in
-    let new : LaneView g.row.S.Denot g.row.L.Denot = record { source = c.fill.new.source; reader = c.finish-ended.new.reader; shard = c.self.inside.shard; slack = c.finish-ended.new.kept.slack; buffer = c.finish-ended.new.buffer; state = record { cut = c.finish-ended.new.kept.cut; taken = c.self.inside.taken; given = c.self.inside.given; faults = g.S.Source.fault_count c.fill.new.source } } in
+    let old : LaneView g.row.S.Denot g.row.L.Denot = record { source = c.self.inside.source; reader = c.self.inside.reader; shard = c.self.inside.shard; slack = c.self.inside.kept.slack; buffer = c.self.inside.buffer; places = c.self.inside.places; state = record { cut = c.self.inside.kept.cut; taken = c.self.inside.taken; given = c.self.inside.given; faults = g.S.Source.fault_count c.self.inside.source } } in
+    let new : LaneView g.row.S.Denot g.row.L.Denot = record { source = c.fill.new.source; reader = c.finish-ended.new.reader; shard = c.self.inside.shard; slack = c.finish-ended.new.kept.slack; buffer = c.finish-ended.new.buffer; places = c.self.inside.places; state = record { cut = c.finish-ended.new.kept.cut; taken = c.self.inside.taken; given = c.self.inside.given; faults = g.S.Source.fault_count c.fill.new.source } } in
     subst (λ (v : LaneView g.row.S.Denot g.row.L.Denot). Steps g.S.Source.left g.L.LineReader.read_of v c.end_step.result new) c.self.view_is
     (subst (λ (s : Step). Steps g.S.Source.left g.L.LineReader.read_of old s new) (sym c.end_step.ensures)
     (λ text told.
@@ -57,7 +57,7 @@ pub returns-in-Ok-clause-steps : goal.returns-in-Ok-clause-steps
 returns-in-Ok-clause-steps g c =
     let few : c.in-Ok.n ≤ c.min-most.result = c.in-Ok.ensures.few in
     let some : 1 ≤ c.in-Ok.n = first_of (omega (arith, c.in-Ok.n-test), search rules, grind (arith, common_steps)) in
-    let new : LaneView g.row.S.Denot g.row.L.Denot = record { source = c.fill.new.source; reader = c.self.inside.reader; shard = c.self.inside.shard; slack = c.self.inside.kept.slack; buffer = c.fill.new.self; state = record { cut = c.self.inside.kept.cut; taken = (c.self.inside.taken + c.in-Ok.n); given = c.self.inside.given; faults = g.S.Source.fault_count c.fill.new.source } } in
+    let new : LaneView g.row.S.Denot g.row.L.Denot = record { source = c.fill.new.source; reader = c.self.inside.reader; shard = c.self.inside.shard; slack = c.self.inside.kept.slack; buffer = c.fill.new.self; places = c.self.inside.places; state = record { cut = c.self.inside.kept.cut; taken = (c.self.inside.taken + c.in-Ok.n); given = c.self.inside.given; faults = g.S.Source.fault_count c.fill.new.source } } in
     subst (λ (v : LaneView g.row.S.Denot g.row.L.Denot). Steps g.S.Source.left g.L.LineReader.read_of v (step.Took c.in-Ok.n) new) c.self.view_is
     (λ text told.
     let lane : IsLane text (g.S.Source.left c.self.inside.source) c.self.inside.buffer c.self.inside.kept.cut c.self.inside.taken = of_text text (g.S.Source.left c.self.inside.source) c.self.inside.buffer c.self.inside.kept.cut c.self.inside.taken c.self.invariant told in
@@ -72,7 +72,7 @@ count-requires g c = record { short = few_shown None (g.S.Source.left c.self.ins
 
 pub returns-then-count-gt0-clause-steps : goal.returns-then-count-gt0-clause-steps
 returns-then-count-gt0-clause-steps g c =
-    let new : LaneView g.row.S.Denot g.row.L.Denot = record { source = c.self.inside.source; reader = c.self.inside.reader; shard = c.self.inside.shard; slack = c.self.inside.kept.slack; buffer = c.shorten.new.self; state = record { cut = c.self.inside.kept.cut; taken = c.self.inside.taken; given = c.self.inside.given; faults = g.S.Source.fault_count c.self.inside.source } } in
+    let new : LaneView g.row.S.Denot g.row.L.Denot = record { source = c.self.inside.source; reader = c.self.inside.reader; shard = c.self.inside.shard; slack = c.self.inside.kept.slack; buffer = c.shorten.new.self; places = c.self.inside.places; state = record { cut = c.self.inside.kept.cut; taken = c.self.inside.taken; given = c.self.inside.given; faults = g.S.Source.fault_count c.self.inside.source } } in
     subst (λ (v : LaneView g.row.S.Denot g.row.L.Denot). Steps g.S.Source.left g.L.LineReader.read_of v step.Lines new) c.self.view_is
     (λ text told.
     let lane : IsLane text (g.S.Source.left c.self.inside.source) c.self.inside.buffer c.self.inside.kept.cut c.self.inside.taken = of_text text (g.S.Source.left c.self.inside.source) c.self.inside.buffer c.self.inside.kept.cut c.self.inside.taken c.self.invariant told in
@@ -83,7 +83,7 @@ returns-then-count-gt0-clause-steps g c =
 
 pub returns-in-Err-Failed-clause-steps : goal.returns-in-Err-Failed-clause-steps
 returns-in-Err-Failed-clause-steps g c =
-    let new : LaneView g.row.S.Denot g.row.L.Denot = record { source = c.fill.new.source; reader = c.self.inside.reader; shard = c.self.inside.shard; slack = c.self.inside.kept.slack; buffer = c.fill.new.self; state = record { cut = c.self.inside.kept.cut; taken = c.self.inside.taken; given = c.self.inside.given; faults = g.S.Source.fault_count c.fill.new.source } } in
+    let new : LaneView g.row.S.Denot g.row.L.Denot = record { source = c.fill.new.source; reader = c.self.inside.reader; shard = c.self.inside.shard; slack = c.self.inside.kept.slack; buffer = c.fill.new.self; places = c.self.inside.places; state = record { cut = c.self.inside.kept.cut; taken = c.self.inside.taken; given = c.self.inside.given; faults = g.S.Source.fault_count c.fill.new.source } } in
     subst (λ (v : LaneView g.row.S.Denot g.row.L.Denot). Steps g.S.Source.left g.L.LineReader.read_of v step.Failed new) c.self.view_is
     (λ text told.
     let lane : IsLane text (g.S.Source.left c.self.inside.source) c.self.inside.buffer c.self.inside.kept.cut c.self.inside.taken = of_text text (g.S.Source.left c.self.inside.source) c.self.inside.buffer c.self.inside.kept.cut c.self.inside.taken c.self.invariant told in
@@ -99,7 +99,7 @@ returns-in-Err-Failed-clause-steps g c =
 
 pub returns-in-Err-Memory-clause-steps : goal.returns-in-Err-Memory-clause-steps
 returns-in-Err-Memory-clause-steps g c =
-    let new : LaneView g.row.S.Denot g.row.L.Denot = record { source = c.fill.new.source; reader = c.self.inside.reader; shard = c.self.inside.shard; slack = c.self.inside.kept.slack; buffer = c.fill.new.self; state = record { cut = c.self.inside.kept.cut; taken = c.self.inside.taken; given = c.self.inside.given; faults = g.S.Source.fault_count c.fill.new.source } } in
+    let new : LaneView g.row.S.Denot g.row.L.Denot = record { source = c.fill.new.source; reader = c.self.inside.reader; shard = c.self.inside.shard; slack = c.self.inside.kept.slack; buffer = c.fill.new.self; places = c.self.inside.places; state = record { cut = c.self.inside.kept.cut; taken = c.self.inside.taken; given = c.self.inside.given; faults = g.S.Source.fault_count c.fill.new.source } } in
     let is = c.in-Err-Memory.field-0-is in
     subst (λ (v : LaneView g.row.S.Denot g.row.L.Denot). Steps g.S.Source.left g.L.LineReader.read_of v step.Memory new) c.self.view_is
     (λ text told.
@@ -111,7 +111,7 @@ returns-in-Err-Memory-clause-steps g c =
 
 pub returns-then-most-eq0-clause-steps : goal.returns-then-most-eq0-clause-steps
 returns-then-most-eq0-clause-steps g c =
-    let new : LaneView g.row.S.Denot g.row.L.Denot = record { source = c.self.inside.source; reader = c.self.inside.reader; shard = c.self.inside.shard; slack = c.self.inside.kept.slack; buffer = c.shorten.new.self; state = record { cut = c.self.inside.kept.cut; taken = c.self.inside.taken; given = c.self.inside.given; faults = g.S.Source.fault_count c.self.inside.source } } in
+    let new : LaneView g.row.S.Denot g.row.L.Denot = record { source = c.self.inside.source; reader = c.self.inside.reader; shard = c.self.inside.shard; slack = c.self.inside.kept.slack; buffer = c.shorten.new.self; places = c.self.inside.places; state = record { cut = c.self.inside.kept.cut; taken = c.self.inside.taken; given = c.self.inside.given; faults = g.S.Source.fault_count c.self.inside.source } } in
     subst (λ (v : LaneView g.row.S.Denot g.row.L.Denot). Steps g.S.Source.left g.L.LineReader.read_of v step.Bytes new) c.self.view_is
     (λ text told.
     let lane : IsLane text (g.S.Source.left c.self.inside.source) c.self.inside.buffer c.self.inside.kept.cut c.self.inside.taken = of_text text (g.S.Source.left c.self.inside.source) c.self.inside.buffer c.self.inside.kept.cut c.self.inside.taken c.self.invariant told in
