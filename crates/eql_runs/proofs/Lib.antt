@@ -1,0 +1,6 @@
+pub mod Reading
+pub mod Refusing
+pub mod Listing
+pub mod Counting
+pub mod Covering
+pub mod Ending

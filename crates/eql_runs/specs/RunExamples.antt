@@ -1,0 +1,104 @@
+-- Worked rows, computed.
+use Rattle.std.specs.Prelude.{◌≡◌, ◌++◌, pos, [], ◌∷◌, Option, Some, None, true, false, refl, codes}
+use Rattle.std.specs.Fmt.{digits}
+use Rattle.eql_lexer.specs.declared.refusal.LexRefused.TheVariants as lexed
+use Rattle.eql_parser.specs.QueryTree.{event}
+use Rattle.eql_parser.specs.Tree as t
+use Rattle.eql_words.specs.declared.commands.Command.TheVariants as command
+use Rattle.eql_words.specs.declared.commands.Find.{Find}
+use Rattle.eql_words.specs.declared.commands.Checkpoint.{Checkpoint}
+use Rattle.eql_runs.specs.Built.{unbuilt_in}
+use Rattle.eql_runs.specs.Files.{Files, first_missing}
+use Rattle.eql_runs.specs.Refusals.{unbuilt, no_file, lex, refusal_status, refusal_text}
+use Rattle.eql_runs.specs.Runs.{names_of}
+use Rattle.eql_runs.specs.Searches.{Search, nanos_in, listing_of, report_of}
+
+-- eql find --query q --fields f [--checkpoint c --every 5] a b
+abbrev find_with : Option Checkpoint → Find
+find_with kept = record {
+  query = codes "q";
+  fields = codes "f";
+  tie = None;
+  slack = None;
+  batch = 256;
+  hands = 1;
+  checkpoint = kept;
+  places = false;
+  shards = codes "a" ∷ codes "b" ∷ [];
+}
+
+-- what is built
+find_is_built : unbuilt_in (command.Find (find_with None)) ≡ None
+find_is_built = refl
+
+checkpoint_is_unbuilt :
+    unbuilt_in (command.Find (find_with (Some (record { name = codes "c"; every = 5 }))))
+    ≡ Some (codes "--checkpoint")
+checkpoint_is_unbuilt = refl
+
+check_is_built : unbuilt_in (command.Check (codes "q") (codes "f")) ≡ None
+check_is_built = refl
+
+made_is_unbuilt : unbuilt_in (command.Made 1 300) ≡ Some (codes "made")
+made_is_unbuilt = refl
+
+-- `check` names no shards
+names_of_check :
+    names_of (command.Check (codes "q") (codes "f"))
+    ≡ Some (record { query = codes "q"; fields = codes "f"; shards = [] })
+names_of_check = refl
+
+-- of the names c, b and a the first that isn't there is b
+abbrev two_files : Files
+two_files = (codes "a", codes "x") ∷ (codes "c", codes "y") ∷ []
+
+b_is_missing : first_missing two_files (codes "c" ∷ codes "b" ∷ codes "a" ∷ []) ≡ Some (codes "b")
+unfolding lib.Utf8.encode
+b_is_missing = refl
+
+all_are_there : first_missing two_files (codes "c" ∷ codes "a" ∷ []) ≡ None
+unfolding lib.Utf8.encode
+all_are_there = refl
+
+-- the status of refusals, and what is told of them
+no_file_is_1 : refusal_status (no_file (codes "a")) ≡ 1
+no_file_is_1 = refl
+
+unbuilt_is_told :
+    (refusal_status (unbuilt (codes "made")) ≡ 3)
+    × (refusal_text (unbuilt (codes "made")) ≡ codes "unbuilt: made\n")
+unfolding lib.Utf8.encode
+unbuilt_is_told = (refl, refl)
+
+lex_is_told :
+    (refusal_status (lex lexed.TooLong) ≡ 3)
+    × (refusal_text (lex lexed.TooLong) ≡ codes "lex: TooLong\n")
+unfolding lib.Utf8.encode
+lex_is_told = (refl, refl)
+
+-- five seconds
+five_seconds : nanos_in 5000 ≡ pos 5000000000
+five_seconds = refl
+
+-- any where true, over two empty shards
+abbrev any_event : Search
+any_event = record {
+  query = record {
+    body = event (record { category = None; cond = t.bool true; by = []; runs = pos 1 });
+    pipes = [];
+  };
+  mapping = [];
+  tie = None;
+  slack = None;
+  places = false;
+}
+
+nothing_listed : listing_of any_event ([] ∷ [] ∷ []) ≡ []
+nothing_listed = refl
+
+both_reported :
+    report_of any_event ([] ∷ [] ∷ [])
+    ≡ codes "shard 0: lines 0 accepted 0 late 0 rejected 0\n"
+    ++ codes "shard 1: lines 0 accepted 0 late 0 rejected 0\n"
+unfolding digits lib.Utf8.encode
+both_reported = refl

@@ -1,0 +1,78 @@
+-- Laws of what a run writes and refuses: they say that the clauses of the top call pin its output.
+use Rattle.std.specs.Prelude.{◌≡◌, ◌≤◌, ◌<◌, ◌^◌, ◌⊎◌, ℕ, List, length, Some, None, All}
+use Rattle.eql_laws.specs.Books.{greatest_shards}
+use Rattle.eql_laws.specs.Counting.{IsShardText}
+use Rattle.eql_parser.specs.declared.refusal.ParseRefused.{ParseRefused}
+use Rattle.eql_parser.specs.declared.refusal.ParseRefused.TheVariants.{Syntax}
+use Rattle.eql_check.specs.Kinds.{kind_at}
+use Rattle.eql_check.specs.Typing.{IsChecked}
+use Rattle.eql_words.specs.declared.commands.Command.TheVariants as command
+use Rattle.eql_words.specs.declared.commands.Find.{Find}
+use Rattle.eql_words.specs.Commands.{command_of}
+use Rattle.eql_runs.specs.Files.{Files}
+use Rattle.eql_runs.specs.Refusals.{Refusal, refusal_status, parse}
+use Rattle.eql_runs.specs.Searches.{Search, matches_of}
+use Rattle.eql_runs.specs.Runs.{Searches, Writes, IsRefused, IsReady, Limited}
+
+-- the words and the files determine the bytes and the report
+abbrev pub OneListing : Type 0
+OneListing =
+    (words : List (List ℕ)) (files : Files) (bytes other report beside : List ℕ)
+    → Writes words files bytes report → Writes words files other beside
+    → (bytes ≡ other) × (report ≡ beside)
+
+-- where both say `Syntax`, it is at the same place
+abbrev pub AgreeOnSyntax : ParseRefused → ParseRefused → Type 0
+AgreeOnSyntax (Syntax at) (Syntax to) = at ≡ to
+AgreeOnSyntax _ _ = Unit {0}
+
+-- the same refusal; or both say that the tokens are no query within the limits, maybe by another
+-- rule
+pub data SameRefusal : Refusal → Refusal → Type 0 where
+  same : {r : Refusal} → SameRefusal r r
+  other_rule : {r s : ParseRefused} → AgreeOnSyntax r s → SameRefusal (parse r) (parse s)
+
+-- words and files are refused for one cause
+abbrev pub OneRefusal : Type 0
+OneRefusal =
+    (words : List (List ℕ)) (files : Files) (r s : Refusal) → IsRefused words files r
+    → IsRefused words files s → SameRefusal r s
+
+-- and with one status
+abbrev pub OneStatus : Type 0
+OneStatus =
+    (words : List (List ℕ)) (files : Files) (r s : Refusal) → IsRefused words files r
+    → IsRefused words files s → refusal_status r ≡ refusal_status s
+
+-- no run writes anything over words and files that are refused
+abbrev pub ListedOrRefused : Type 0
+ListedOrRefused =
+    (words : List (List ℕ)) (files : Files) (bytes report : List ℕ) (r : Refusal)
+    → Writes words files bytes report → IsRefused words files r → ⊥
+
+-- nothing is left out: the words are no command, or they and the files are refused, or a run writes
+abbrev pub NoRunIsLeftOut : Type 0
+NoRunIsLeftOut =
+    (words : List (List ℕ)) (files : Files)
+    → (command_of words ≡ None) ⊎ ((r : Refusal) × IsRefused words files r)
+    ⊎ ((bytes report : List ℕ) × Writes words files bytes report)
+
+-- a run that can be done isn't refused, and reaches no limit
+abbrev pub ReadyOrRefused : Type 0
+ReadyOrRefused =
+    (words : List (List ℕ)) (files : Files) → IsReady words (Some files)
+    → ((r : Refusal) → IsRefused words files r → ⊥) × (Limited words (Some files) → ⊥)
+
+-- a checked query has fewer than 2^64 matches over at most 256 texts within the limits of a shard
+abbrev pub MatchesAreFew : Type 0
+MatchesAreFew =
+    (search : Search) (texts : List (List ℕ)) → IsChecked (kind_at search.mapping) search.query
+    → length texts ≤ greatest_shards → All IsShardText texts
+    → length (matches_of search texts) < 2 ^ 64
+
+-- and so has each run of `find`
+abbrev pub RunsFindFew : Type 0
+RunsFindFew =
+    (words : List (List ℕ)) (files : Files) (find : Find) (search : Search) (texts : List (List ℕ))
+    → command_of words ≡ Some (command.Find find) → Searches find files search texts
+    → All IsShardText texts → length (matches_of search texts) < 2 ^ 64

@@ -1,0 +1,7 @@
+//! What a run of the program is: the definitions of its listing, its report and its refusals, and the laws that pin
+//! them. The crate has no code that runs.
+#![tactic(auto)]
+
+mod laws;
+
+pub use laws::{matches_are_counted, no_run_is_left_out, runs_are_determined};
