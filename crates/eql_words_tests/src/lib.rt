@@ -1,6 +1,8 @@
-//! Tests of the words of the command line, by public calls alone.
+//! Tests of the words of the command line, and of the files that they name, by public calls alone.
 #![tactic(auto)]
 
+#[cfg(test)]
+mod inputs;
 #[cfg(test)]
 mod rows;
 #[cfg(test)]

@@ -1,0 +1,47 @@
+-- What is read of a file: its first bytes.
+use Rattle.std.specs.Prelude.{◌≡◌, ◌≤◌, ◌++◌, ℕ, List, [], take, drop, length, Option, Some, None, IfSome}
+use Rattle.eql_outside.specs.Outside.{file_named}
+use Rattle.eql_runs.specs.Files.{Files}
+
+-- the bytes are the first of the file of this name, as many of them as are kept at most
+pub record FrontOf (name : List ℕ) (files : Files) (most : ℕ) (bytes : List ℕ) : Type 0 where
+  pub text : List ℕ
+  pub there : file_named name files ≡ Some text
+  pub front : bytes ≡ take most text
+
+-- the same, where the shelf tells its files
+abbrev pub IsFrontOf : List ℕ → Option Files → ℕ → List ℕ → Type 0
+IsFrontOf name files most bytes = IfSome files (λ fs. FrontOf name fs most bytes)
+
+-- no file has this name, where the shelf tells its files
+abbrev pub IsMissing : List ℕ → Option Files → Type 0
+IsMissing name files = IfSome files (λ fs. file_named name fs ≡ None)
+
+-- where the source tells, the bytes are the first of those that were left
+abbrev pub TakesFront : Option (List ℕ) → ℕ → List ℕ → Type 0
+TakesFront left most bytes = IfSome left (λ all. bytes ≡ take most all)
+
+-- of these bytes at most so many were taken, and the others are left
+pub record TookOf (all : List ℕ) (most : ℕ) (left : Option (List ℕ)) : Type 0 where
+  pub n : ℕ
+  pub few : n ≤ most
+  pub left_is : left ≡ Some (drop n all)
+
+-- the same, where the source tells
+abbrev pub TakesAtMost : ℕ → (left left_now : Option (List ℕ)) → Type 0
+TakesAtMost most left left_now = IfSome left (λ all. TookOf all most left_now)
+
+-- the next n bytes of a source were put at the end of a text
+pub record HasTaken (all : List ℕ) (left : Option (List ℕ)) (before after : List ℕ) : Type 0 where
+  pub n : ℕ
+  pub there : n ≤ length all
+  pub left_is : left ≡ Some (drop n all)
+  pub text : after ≡ before ++ take n all
+
+-- the same, where the source tells
+abbrev pub HasRead : (left left_now : Option (List ℕ)) → (before after : List ℕ) → Type 0
+HasRead left left_now before after = IfSome left (λ all. HasTaken all left_now before after)
+
+-- where the source tells, nothing is left
+abbrev pub IsAtEnd : Option (List ℕ) → Type 0
+IsAtEnd left = IfSome left (λ all. all ≡ [])

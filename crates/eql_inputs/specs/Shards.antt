@@ -1,0 +1,39 @@
+-- The sources of shards.
+use Rattle.std.specs.Prelude.{◌≡◌, ℕ, List, map, Option, Some, None, IfSome}
+use Rattle.eql_values.specs.declared.value.Kind.{Kind}
+use Rattle.eql_outside.specs.Outside.{file_named}
+use Rattle.eql_parser.specs.QueryTree.{QueryTree}
+use Rattle.eql_runs.specs.Files.{Files, first_missing, HasTexts}
+use Rattle.eql_inputs.specs.declared.halt.Halt.{Halt}
+use Rattle.eql_inputs.specs.Halts.{HasCause}
+use Rattle.eql_inputs.specs.Steps.{naming, GotChecked}
+
+-- this is left of a source over the file of this name: all of it
+pub record IsWhole (name : List ℕ) (files : Files) (left : Option (List ℕ)) : Type 0 where
+  pub text : List ℕ
+  pub there : file_named name files ≡ Some text
+  pub left_is : left ≡ Some text
+
+-- the same, where the shelf tells its files
+abbrev pub IsWholeFile : List ℕ → Option Files → Option (List ℕ) → Type 0
+IsWholeFile name files left = IfSome files (λ fs. IsWhole name fs left)
+
+-- these are left of sources over the files of these names: all of each
+pub record AreWhole (names : List (List ℕ)) (files : Files) (lefts : List (Option (List ℕ))) : Type 0 where
+  pub texts : List (List ℕ)
+  pub there : HasTexts names files texts
+  pub lefts_are : lefts ≡ map (λ (text : List ℕ). Some text) texts
+
+-- the same, where the shelf tells its files
+abbrev pub AreWholeFiles : List (List ℕ) → Option Files → List (Option (List ℕ)) → Type 0
+AreWholeFiles names files lefts = IfSome files (λ fs. AreWhole names fs lefts)
+
+-- none of these names is missing, where the shelf tells its files
+abbrev pub AreThere : List (List ℕ) → Option Files → Type 0
+AreThere names files = IfSome files (λ fs. first_missing fs names ≡ None)
+
+-- opening the shards stopped so, in a run whose query was checked
+abbrev pub ShardsCause : List (List ℕ) → Option Files → Halt → Type 0
+ShardsCause shards files h =
+    (query fields : List ℕ) (tree : QueryTree) (mapping : List (List ℕ × Kind))
+    → GotChecked query fields files tree mapping → HasCause (naming query fields shards) files h

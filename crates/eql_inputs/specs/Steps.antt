@@ -1,0 +1,112 @@
+-- What the steps of reading a query and a mapping find.
+use Rattle.std.specs.Prelude.{◌≡◌, ℕ, List, Option, Some, Err, IfSome}
+use Rattle.eql_values.specs.declared.value.Kind.{Kind}
+use Rattle.eql_lexer.specs.declared.token.Token.{Token}
+use Rattle.eql_lexer.specs.declared.refusal.LexRefused.{LexRefused}
+use Rattle.eql_lexer.specs.declared.refusal.LexRefused.TheVariants as lexed
+use Rattle.eql_parser.specs.QueryTree.{QueryTree}
+use Rattle.eql_check.specs.declared.mapping.MapRefused.{MapRefused}
+use Rattle.eql_check.specs.declared.mapping.MapRefused.TheVariants as map_refused
+use Rattle.eql_check.specs.declared.refused.CheckRefused.{CheckRefused}
+use Rattle.eql_check.specs.declared.refused.CheckRefused.TheVariants as check_refused
+use Rattle.eql_check.specs.Kinds.{kind_at}
+use Rattle.eql_check.specs.Mappings.{mapping_of}
+use Rattle.eql_check.specs.Rules.{first_broken}
+use Rattle.eql_runs.specs.Files.{Files, HasTokens, NoTokens, ReadAs, NotRead, HasQuery, HasMapping, HasChecked}
+use Rattle.eql_runs.specs.Refusals.{Names}
+use Rattle.eql_inputs.specs.declared.halt.Refused.TheVariants as refused
+use Rattle.eql_inputs.specs.declared.halt.Halt.{Halt}
+use Rattle.eql_inputs.specs.declared.halt.Halt.TheVariants as halt
+use Rattle.eql_inputs.specs.Halts.{HasCause}
+
+-- a command that names these files
+abbrev pub naming : (query fields : List ℕ) → (shards : List (List ℕ)) → Names
+naming query fields shards = record { query = query; fields = fields; shards = shards }
+
+-- where the shelf tells its files, these are what they hold
+abbrev pub GotQuery : List ℕ → Option Files → QueryTree → Type 0
+GotQuery query files tree = IfSome files (λ fs. HasQuery query fs tree)
+
+abbrev pub GotMapping : List ℕ → Option Files → List (List ℕ × Kind) → Type 0
+GotMapping fields files mapping = IfSome files (λ fs. HasMapping fields fs mapping)
+
+abbrev pub GotChecked : (query fields : List ℕ) → Option Files → QueryTree → List (List ℕ × Kind) → Type 0
+GotChecked query fields files tree mapping = IfSome files (λ fs. HasChecked query fields fs tree mapping)
+
+-- the reading of the query stopped so, whatever else the command names
+abbrev pub QueryCause : List ℕ → Option Files → Halt → Type 0
+QueryCause query files h =
+    (fields : List ℕ) (shards : List (List ℕ)) → HasCause (naming query fields shards) files h
+
+-- the reading of the mapping stopped so, in a run whose query was read
+abbrev pub MappingCause : List ℕ → Option Files → Halt → Type 0
+MappingCause fields files h =
+    (query : List ℕ) (shards : List (List ℕ)) (tree : QueryTree) → GotQuery query files tree
+    → HasCause (naming query fields shards) files h
+
+-- the reading of the query and the mapping stopped so, whatever shards the command names
+abbrev pub CheckCause : (query fields : List ℕ) → Option Files → Halt → Type 0
+CheckCause query fields files h =
+    (shards : List (List ℕ)) → HasCause (naming query fields shards) files h
+
+-- the reading of the file of this name stopped so; `missing` holds where the file isn't there
+abbrev pub StoppedReading : List ℕ → Type 0 → Halt → Type 0
+StoppedReading name missing (halt.Refused (refused.NoFile n)) = (n.now ≡ name) × missing
+StoppedReading name missing (halt.Refused (refused.Lex r)) = ⊥
+StoppedReading name missing (halt.Refused (refused.Parse r)) = ⊥
+StoppedReading name missing (halt.Refused (refused.Mapping r)) = ⊥
+StoppedReading name missing (halt.Refused (refused.Broken r)) = ⊥
+StoppedReading name missing (halt.Read n) = n.now ≡ name
+StoppedReading name missing halt.Memory = Unit {0}
+
+-- the halt of a text that has no tokens
+abbrev pub halt_of_lex : LexRefused → Halt
+halt_of_lex lexed.Memory = halt.Memory
+halt_of_lex r = halt.Refused (refused.Lex r)
+
+-- a text has no tokens, and a run stopped so
+abbrev pub StoppedSpelling : List ℕ → Halt → Type 0
+StoppedSpelling text (halt.Refused (refused.Lex r)) = NoTokens text r
+StoppedSpelling text halt.Memory = Unit {0}
+StoppedSpelling text _ = ⊥
+
+-- tokens are no query, and a run stopped so
+abbrev pub StoppedParsing : List Token → Halt → Type 0
+StoppedParsing tokens (halt.Refused (refused.Parse r)) = NotRead tokens r
+StoppedParsing tokens halt.Memory = Unit {0}
+StoppedParsing tokens _ = ⊥
+
+-- a text is this query
+pub record IsQueryText (text : List ℕ) (tree : QueryTree) : Type 0 where
+  pub tokens : List Token
+  pub spelled : HasTokens text tokens
+  pub read : ReadAs tokens tree
+
+-- a text is no query, and a run stopped so
+abbrev pub StoppedQuery : List ℕ → Halt → Type 0
+StoppedQuery text (halt.Refused (refused.Lex r)) = NoTokens text r
+StoppedQuery text (halt.Refused (refused.Parse r)) = (tokens : List Token) × HasTokens text tokens × NotRead tokens r
+StoppedQuery text halt.Memory = Unit {0}
+StoppedQuery text _ = ⊥
+
+-- the halt of a text that is no mapping
+abbrev pub halt_of_map : MapRefused → Halt
+halt_of_map map_refused.Memory = halt.Memory
+halt_of_map r = halt.Refused (refused.Mapping r)
+
+-- a text is no mapping, and a run stopped so
+abbrev pub StoppedMapping : List ℕ → Halt → Type 0
+StoppedMapping text (halt.Refused (refused.Mapping r)) = mapping_of text ≡ Err r
+StoppedMapping text halt.Memory = Unit {0}
+StoppedMapping text _ = ⊥
+
+-- the halt of a query that breaks a rule
+abbrev pub halt_of_check : CheckRefused → Halt
+halt_of_check check_refused.Memory = halt.Memory
+halt_of_check r = halt.Refused (refused.Broken r)
+
+-- a query breaks a rule, and a run stopped so
+abbrev pub StoppedChecking : List (List ℕ × Kind) → QueryTree → Halt → Type 0
+StoppedChecking mapping tree (halt.Refused (refused.Broken r)) = first_broken (kind_at mapping) tree ≡ Some r
+StoppedChecking mapping tree halt.Memory = Unit {0}
+StoppedChecking mapping tree _ = ⊥

@@ -1,0 +1,98 @@
+//! Reading a file of the shelf, up to a number of bytes.
+ghost use Rattle.std.specs.Prelude.{◌≡◌, ◌≤◌, ◌<◌, IfOk, IfErr, MatchResult, length, string_bytes};
+ghost use Rattle.eql_outside.specs.Faults.{SameFaults};
+ghost use Rattle.eql_outside.specs.Unfailing.{IsUnfailing};
+ghost use Rattle.eql_inputs.specs.Fronts.{IsFrontOf, IsMissing};
+ghost use Rattle.eql_inputs.specs.Halts.{FaultsAs, CountAs, AbsenceAs, IsNoFault};
+ghost use Rattle.eql_inputs.specs.Shards.{IsWholeFile};
+ghost use Rattle.eql_inputs.specs.Shelves.{KeepsShelf, LendsAsMany, LendsMore, NeverFails};
+ghost use Rattle.eql_inputs.specs.Steps.{StoppedReading};
+
+use crate::front::read_front;
+use crate::halt::{Halt, Refused};
+use eql_outside::{OutRefused, Shelf, unfailing_stays};
+use eql_words::Name;
+use std::alloc::Global;
+
+/// Opens the file of this name: a source over it, from its first byte on, whose count of faults is 0.
+pub(crate) fn open_file<'a, H: Shelf>(
+    alloc: Global,
+    name: &'a Name,
+    shelf: &mut H,
+) -> Result<H::Src, Halt<'a>>
+    ensures whole { IfOk result
+        (λ source. IsWholeFile name.now (H.files shelf.old) (H.Src.left source)) }
+    ensures fresh { IfOk result (λ source. H.Src.fault_count source ≡ 0) }
+    ensures named { IfOk result (λ source. H.Src.lent_as source ≡ Some name.now) }
+    ensures cause { IfErr result
+        (StoppedReading name.now (IsMissing name.now (H.files shelf.old))) }
+    ensures faults { MatchResult result
+        (λ _. SameFaults (H.faults_of shelf.old) (H.faults_of shelf.new))
+        (λ halt. FaultsAs halt (H.faults_of shelf.old) (H.faults_of shelf.new)) }
+    ensures count { MatchResult result
+        (λ _. H.fault_count shelf.new ≡ H.fault_count shelf.old)
+        (λ halt. CountAs halt (H.fault_count shelf.old) (H.fault_count shelf.new)) }
+    ensures absences { MatchResult result
+        (λ _. H.absent_count shelf.new ≡ H.absent_count shelf.old)
+        (λ halt. AbsenceAs halt (H.absent_count shelf.old) (H.absent_count shelf.new)) }
+    ensures counts { (H.fault_count shelf.old ≤ H.fault_count shelf.new)
+        × (H.absent_count shelf.old ≤ H.absent_count shelf.new) }
+    ensures kept { KeepsShelf H.files H.source_plans H.disk_history H.is_out H.disk_fault_count
+        H.disk_plan shelf.old shelf.new }
+    ensures lent { MatchResult result
+        (λ _. LendsMore 1 (H.lent_count shelf.old) (H.lent_count shelf.new))
+        (λ _. LendsAsMany (H.lent_count shelf.old) (H.lent_count shelf.new)) }
+    ensures unfailing { NeverFails (H.fault_plan shelf.old) (H.source_plans shelf.old)
+        → MatchResult result (λ source. IsUnfailing (H.Src.fault_plan source)) IsNoFault
+        × NeverFails (H.fault_plan shelf.new) (H.source_plans shelf.new) }
+{
+    unfailing_stays();
+    match shelf.source(alloc, name.name()) {
+        Ok(Some(source)) => Ok(source),
+        Ok(None) => Err(Halt::Refused(Refused::NoFile(name))),
+        Err(OutRefused::Failed) => Err(Halt::Read(name)),
+        Err(OutRefused::Memory) => Err(Halt::Memory),
+    }
+}
+
+/// Reads the first `most` bytes of the file of this name, or all where it has fewer, and gives its source back. It takes
+/// no more than these bytes of the file.
+pub fn read_file<'a, H: Shelf>(
+    alloc: Global,
+    name: &'a Name,
+    shelf: &mut H,
+    most: usize,
+) -> Result<Vec<u8>, Halt<'a>>
+    requires { 0 < most }
+    ensures front { IfOk result
+        (λ text. IsFrontOf name.now (H.files shelf.old) most text.items) }
+    ensures few { IfOk result (λ text. length text.items ≤ most) }
+    ensures cause { IfErr result
+        (StoppedReading name.now (IsMissing name.now (H.files shelf.old))) }
+    ensures faults { MatchResult result
+        (λ _. SameFaults (H.faults_of shelf.old) (H.faults_of shelf.new))
+        (λ halt. FaultsAs halt (H.faults_of shelf.old) (H.faults_of shelf.new)) }
+    ensures count { MatchResult result
+        (λ _. H.fault_count shelf.new ≡ H.fault_count shelf.old)
+        (λ halt. CountAs halt (H.fault_count shelf.old) (H.fault_count shelf.new)) }
+    ensures absences { MatchResult result
+        (λ _. H.absent_count shelf.new ≡ H.absent_count shelf.old)
+        (λ halt. AbsenceAs halt (H.absent_count shelf.old) (H.absent_count shelf.new)) }
+    ensures counts { (H.fault_count shelf.old ≤ H.fault_count shelf.new)
+        × (H.absent_count shelf.old ≤ H.absent_count shelf.new) }
+    ensures kept { KeepsShelf H.files H.source_plans H.disk_history H.is_out H.disk_fault_count
+        H.disk_plan shelf.old shelf.new }
+    ensures lent { LendsAsMany (H.lent_count shelf.old) (H.lent_count shelf.new) }
+    ensures unfailing { NeverFails (H.fault_plan shelf.old) (H.source_plans shelf.old)
+        → IfErr result IsNoFault
+        × NeverFails (H.fault_plan shelf.new) (H.source_plans shelf.new) }
+{
+    let mut source = open_file(alloc, name, shelf)?;
+    let read = read_front(alloc, &mut source, most);
+    shelf.give_source(source);
+    match read {
+        Ok(text) => Ok(text),
+        Err(OutRefused::Failed) => Err(Halt::Read(name)),
+        Err(OutRefused::Memory) => Err(Halt::Memory),
+    }
+}

@@ -1,0 +1,127 @@
+//! The shards of a command, opened.
+ghost use Rattle.std.specs.Prelude.{◌≡◌, ◌≤◌, ◌-◌, [], All, IfOk, IfErr, IfSome, IsOk, MatchResult, Some, length, map, vec_capacity};
+ghost use Rattle.eql_outside.specs.Faults.{SameFaults};
+ghost use Rattle.eql_outside.specs.Unfailing.{IsUnfailing};
+ghost use Rattle.eql_inputs.specs.Halts.{FaultsAs, CountAs, AbsenceAs, IsNoFault};
+ghost use Rattle.eql_inputs.specs.Shards.{AreWholeFiles, ShardsCause};
+ghost use Rattle.eql_inputs.specs.Shelves.{KeepsShelf, LendsAsMany, LendsMore, NeverFails};
+
+use crate::file::open_file;
+use crate::halt::Halt;
+use eql_outside::Shelf;
+use eql_words::{Name, Names};
+use std::alloc::Global;
+
+/// Gives sources back that haven't failed.
+fn give_back<H: Shelf>(mut sources: Vec<H::Src>, shelf: &mut H)
+    requires fresh { All (λ source. H.Src.fault_count source ≡ 0) sources.items }
+    ensures faults { SameFaults (H.faults_of shelf.old) (H.faults_of shelf.new) }
+    ensures count { H.fault_count shelf.new ≡ H.fault_count shelf.old }
+    ensures absences { H.absent_count shelf.new ≡ H.absent_count shelf.old }
+    ensures kept { KeepsShelf H.files H.source_plans H.disk_history H.is_out H.disk_fault_count
+        H.disk_plan shelf.old shelf.new }
+    ensures plan { H.fault_plan shelf.new ≡ H.fault_plan shelf.old }
+    ensures lent { IfSome (H.lent_count shelf.old)
+        (λ lent. H.lent_count shelf.new ≡ Some (lent - length sources.items)) }
+{
+    'back: while sources.len() > 0 {
+        let source = sources.take_last();
+        shelf.give_source(source);
+    }
+    sources.destroy_empty();
+}
+
+/// Opens the shards, and puts their sources into an empty list that has room for them. Where that stops, those that were
+/// opened stand in the list.
+fn open_all<'a, H: Shelf>(
+    alloc: Global,
+    shards: &'a [Name],
+    shelf: &mut H,
+    sources: &mut Vec<H::Src>,
+) -> Result<(), Halt<'a>>
+    requires empty { sources.old.items ≡ [] }
+    requires room { length shards.now ≤ vec_capacity sources.old }
+    ensures whole { IsOk result → AreWholeFiles shards.now (H.files shelf.old)
+        (map H.Src.left sources.new.items) }
+    ensures named { IsOk result → map H.Src.lent_as sources.new.items
+        ≡ map (λ name. Some name) shards.now }
+    ensures fresh { All (λ source. H.Src.fault_count source ≡ 0) sources.new.items }
+    ensures cause { IfErr result (ShardsCause shards.now (H.files shelf.old)) }
+    ensures faults { MatchResult result
+        (λ _. SameFaults (H.faults_of shelf.old) (H.faults_of shelf.new))
+        (λ halt. FaultsAs halt (H.faults_of shelf.old) (H.faults_of shelf.new)) }
+    ensures count { MatchResult result
+        (λ _. H.fault_count shelf.new ≡ H.fault_count shelf.old)
+        (λ halt. CountAs halt (H.fault_count shelf.old) (H.fault_count shelf.new)) }
+    ensures absences { MatchResult result
+        (λ _. H.absent_count shelf.new ≡ H.absent_count shelf.old)
+        (λ halt. AbsenceAs halt (H.absent_count shelf.old) (H.absent_count shelf.new)) }
+    ensures counts { (H.fault_count shelf.old ≤ H.fault_count shelf.new)
+        × (H.absent_count shelf.old ≤ H.absent_count shelf.new) }
+    ensures kept { KeepsShelf H.files H.source_plans H.disk_history H.is_out H.disk_fault_count
+        H.disk_plan shelf.old shelf.new }
+    ensures lent { LendsMore (length sources.new.items)
+        (H.lent_count shelf.old) (H.lent_count shelf.new) }
+    ensures many { IsOk result → length sources.new.items ≡ length shards.now }
+    ensures unfailing { NeverFails (H.fault_plan shelf.old) (H.source_plans shelf.old)
+        → IfErr result IsNoFault
+        × All (λ source. IsUnfailing (H.Src.fault_plan source)) sources.new.items
+        × NeverFails (H.fault_plan shelf.new) (H.source_plans shelf.new) }
+{
+    for name in shards.iter() {
+        match open_file(alloc, name, shelf) {
+            Ok(source) => sources.push_reserved(source),
+            Err(halt) => return Err(halt),
+        }
+    }
+    Ok(())
+}
+
+/// Opens the shards: a source over each, in their order, from its first byte on, whose count of faults is 0. Where a
+/// shard isn't there or can't be opened, those that were opened are given back.
+pub fn open_shards<'a, H: Shelf>(
+    alloc: Global,
+    shards: &'a Names,
+    shelf: &mut H,
+) -> Result<Vec<H::Src>, Halt<'a>>
+    ensures whole { IfOk result (λ sources. AreWholeFiles shards.now (H.files shelf.old)
+        (map H.Src.left sources.items)) }
+    ensures named { IfOk result (λ sources. map H.Src.lent_as sources.items
+        ≡ map (λ name. Some name) shards.now) }
+    ensures fresh { IfOk result
+        (λ sources. All (λ source. H.Src.fault_count source ≡ 0) sources.items) }
+    ensures cause { IfErr result (ShardsCause shards.now (H.files shelf.old)) }
+    ensures faults { MatchResult result
+        (λ _. SameFaults (H.faults_of shelf.old) (H.faults_of shelf.new))
+        (λ halt. FaultsAs halt (H.faults_of shelf.old) (H.faults_of shelf.new)) }
+    ensures count { MatchResult result
+        (λ _. H.fault_count shelf.new ≡ H.fault_count shelf.old)
+        (λ halt. CountAs halt (H.fault_count shelf.old) (H.fault_count shelf.new)) }
+    ensures absences { MatchResult result
+        (λ _. H.absent_count shelf.new ≡ H.absent_count shelf.old)
+        (λ halt. AbsenceAs halt (H.absent_count shelf.old) (H.absent_count shelf.new)) }
+    ensures counts { (H.fault_count shelf.old ≤ H.fault_count shelf.new)
+        × (H.absent_count shelf.old ≤ H.absent_count shelf.new) }
+    ensures kept { KeepsShelf H.files H.source_plans H.disk_history H.is_out H.disk_fault_count
+        H.disk_plan shelf.old shelf.new }
+    ensures lent { MatchResult result
+        (λ _. LendsMore (length shards.now) (H.lent_count shelf.old) (H.lent_count shelf.new))
+        (λ _. LendsAsMany (H.lent_count shelf.old) (H.lent_count shelf.new)) }
+    ensures unfailing { NeverFails (H.fault_plan shelf.old) (H.source_plans shelf.old)
+        → MatchResult result
+        (λ sources. All (λ source. IsUnfailing (H.Src.fault_plan source)) sources.items) IsNoFault
+        × NeverFails (H.fault_plan shelf.new) (H.source_plans shelf.new) }
+{
+    let names = shards.items().as_slice();
+    let mut sources = match Vec::with_capacity(alloc, names.len()) {
+        Ok(sources) => sources,
+        Err(_) => return Err(Halt::Memory),
+    };
+    match open_all(alloc, names, shelf, &mut sources) {
+        Ok(()) => Ok(sources),
+        Err(halt) => {
+            give_back(sources, shelf);
+            Err(halt)
+        }
+    }
+}
