@@ -1,0 +1,5 @@
+mod Fronts
+mod Going
+mod Fed
+mod Wrote
+mod Whole
