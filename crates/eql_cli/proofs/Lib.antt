@@ -1,14 +1,5 @@
-mod FrontLemmas
-mod ToldLemmas
-mod QueryLemmas
-mod InputLemmas
-mod RunLemmas
-mod RefusalLemmas
-mod EndLemmas
-mod LineCuts
-mod StageBits
-mod SlotMoves
-mod SortedEntries
-mod ShardEvents
-mod Printing
-mod ListingSteps
+pub mod TextLemmas
+pub mod PrintLemmas
+pub mod RunLemmas
+pub mod EndLemmas
+pub mod WordLemmas

@@ -1,11 +1,3 @@
-pub mod Listing
-pub mod FirstSearch
-pub mod Events
-pub mod Moves
-pub mod Pages
-pub mod Plain
-pub mod Runs
-pub mod Fronts
-pub mod Halts
-pub mod Steps
-pub mod RunLaws
+pub mod Telling
+pub mod Printing
+pub mod Running

@@ -1,22 +1,14 @@
 //! The top call.
-ghost use Rattle.std.specs.Prelude.{◌≡◌, ◌≢◌, ◌↔◌, ◌⊎◌, ◌≤◌, None, IfErr, IsErr, IsOk, length};
-ghost use Rattle.eql_values.specs.Lines.{lines_in};
+ghost use Rattle.std.specs.Prelude.{◌≡◌, ◌≢◌, ◌⊎◌, ◌≤◌, ◌<◌, None, IfSome, Some};
 ghost use Rattle.eql_outside.specs.Outside.{Rose};
-ghost use Rattle.eql_outside.specs.Written as written;
-ghost use Rattle.eql_cli.specs.FirstSearch.{wanted_by, first_other, first_listing, WrotePart};
-ghost use Rattle.eql_cli.specs.Halts.{names_in, OnRefused, OnFault, HasCause};
-ghost use Rattle.eql_cli.specs.Runs.{bytes_of, command_of, WroteAll, WroteSome, Told, IsReady, RefusedAs};
-ghost use Rattle.eql_cli.specs.Steps.{RanWhole, RanPart, StoppedSearching};
+ghost use Rattle.eql_outside.specs.Unfailing.{IsUnfailing, AreUnfailing};
+ghost use Rattle.eql_words.specs.Commands.{command_of};
+ghost use Rattle.eql_words.specs.Words.{bytes_of};
+ghost use Rattle.eql_runs.specs.Runs.{WroteAll, WroteSome, Told, Limited, IsReady, RefusedAs};
 
 use crate::gate::Gate;
-use crate::halt::{Halt, Refused};
-use crate::inputs::{check_fields, read_query, read_shard};
-use crate::laws::runs_are_determined;
-use crate::search::{Stop, search_shard};
-use crate::tell::{tell, tell_halt};
-use crate::words::{Command, command_in};
+use crate::run::run_words;
 use eql_outside::{Shelf, Sink};
-use eql_parser::Terms;
 use std::alloc::Global;
 use std::sync::Wait;
 use std::thread::Threads;
@@ -24,76 +16,21 @@ use std::thread::Threads;
 /// How a run ended: its status, and the sinks that it was given.
 #[derive(Drop)]
 pub struct Ended<K, E> {
-    /// 0 done; 1 a file isn't there; 2 the words aren't the command; 3 the query can't be read or a form isn't built;
-    /// 4 a read fault; 5 a write fault; 8 out of memory.
+    /// 0 done; 1 a file isn't there; 2 the words are no command; 3 the query or the mapping is refused, or a part of the
+    /// command isn't built; 4 a read fault; 5 a write fault; 8 out of memory; 9 a limit is reached.
     pub status: u8,
-    /// The output, with the listing.
+    /// The output, with the listing or the canonical text.
     pub out: K,
-    /// The faults, one line at most.
+    /// The report, or one line that says why there is none (three where the words are no command).
     pub err: E,
-}
-
-/// Writes the listing of a query over a shard of this text.
-fn search<K: Sink>(alloc: Global, items: &Terms, text: &[u8], out: &mut K) -> Result<(), Halt>
-    requires some { 1 ≤ length items.now }
-    requires few { length items.now ≤ 8 }
-    requires short { length text.now ≤ 16777216 }
-    ensures lines { IsOk result → first_other (lines_in text.now) ≡ None }
-    ensures whole { IsOk result
-        → written.WroteAll (first_listing (wanted_by items.now) text.now)
-        (K.written out.old) (K.written out.new) }
-    ensures prefix { IsErr result
-        → WrotePart (first_other (lines_in text.now)) (first_listing (wanted_by items.now) text.now)
-        (K.written out.old) (K.written out.new) }
-    ensures untouched { IfErr result (λ halt. OnRefused halt (out.new ≡ out.old)) }
-    ensures cause { IfErr result (StoppedSearching (first_other (lines_in text.now))) }
-    ensures fault { IfErr result
-        (λ halt. OnFault halt ⊥ ⊥ (Rose (K.fault_count out.old) (K.fault_count out.new))) }
-    ensures counts { K.fault_count out.old ≤ K.fault_count out.new }
-{
-    match search_shard(alloc, items, text, out) {
-        Ok(()) => Ok(()),
-        Err(Stop::Line(number)) => Err(Halt::Refused(Refused::Line(number))),
-        Err(Stop::Write) => Err(Halt::Write),
-        Err(Stop::Memory) => Err(Halt::Memory),
-    }
-}
-
-/// Reads the files of a command, and writes the listing.
-fn run<H: Shelf, K: Sink>(
-    alloc: Global,
-    command: &Command,
-    shelf: &mut H,
-    out: &mut K,
-) -> Result<(), Halt>
-    ensures done { IsOk result
-        → RanWhole (names_in command.now) (H.files shelf.old)
-        (K.written out.old) (K.written out.new) }
-    ensures prefix { IsErr result
-        → RanPart (names_in command.now) (H.files shelf.old)
-        (K.written out.old) (K.written out.new) }
-    ensures untouched { IfErr result (λ halt. OnRefused halt (out.new ≡ out.old)) }
-    ensures cause { IfErr result (HasCause (names_in command.now) (H.files shelf.old)) }
-    ensures fault { IfErr result (λ halt. OnFault halt
-        (Rose (H.absent_count shelf.old) (H.absent_count shelf.new))
-        (Rose (H.fault_count shelf.old) (H.fault_count shelf.new))
-        (Rose (K.fault_count out.old) (K.fault_count out.new))) }
-    ensures kept { H.files shelf.new ≡ H.files shelf.old }
-    ensures counts { (H.fault_count shelf.old ≤ H.fault_count shelf.new)
-        × (H.absent_count shelf.old ≤ H.absent_count shelf.new)
-        × (K.fault_count out.old ≤ K.fault_count out.new) }
-{
-    let items = read_query(alloc, command, shelf)?;
-    check_fields(alloc, command, shelf)?;
-    let text = read_shard(alloc, command, shelf)?;
-    search(alloc, &items, text.as_slice(), out)
 }
 
 /// Runs the program on the words after its name.
 ///
-/// `find --query FILE --fields FILE SHARD` writes the listing of the query's matches in the shard to `out`. On status
-/// 0 it is there whole and `err` got nothing. On every other status `out` got a prefix of it, nothing at all where the
-/// words or the files are refused, and `err` a prefix of one line with the cause.
+/// `find` writes the listing of a query's matches in its shards to `out`, and the report to `err`; `check` writes the
+/// canonical text of a query to `out`. On status 0 they are there whole. On every other status `out` got a front of the
+/// listing or the text, nothing at all where the words or the files are refused, and `err` a front of what is told. What
+/// the shelf lent goes back to it.
 pub fn eql_main<R: Threads + Wait + Sync, H: Shelf, K: Sink, E: Sink, G: Gate + Sync>(
     _rt: &R,
     alloc: Global,
@@ -103,71 +40,73 @@ pub fn eql_main<R: Threads + Wait + Sync, H: Shelf, K: Sink, E: Sink, G: Gate + 
     mut err: E,
     _gate: &G,
 ) -> Ended<K, E>
-    // The headline: on status 0 the output got exactly the listing.
+    // The headline: on status 0 the output got exactly the listing, and the error output the report.
     ensures done { result.status ≡ 0
         → WroteAll (bytes_of words.now.items) (H.files shelf.old)
-        (K.written out) (K.written result.out) }
-    // On every other status it got nothing, or a prefix of the listing.
+        (K.written out) (K.written result.out) (E.written err) (E.written result.err) }
+
+    // On every other status the output got nothing, or a front of the listing.
     ensures prefix { result.status ≢ 0
         → WroteSome (bytes_of words.now.items) (H.files shelf.old)
         (K.written out) (K.written result.out) }
+
     // Where the words or the files are refused the output isn't touched.
     ensures refused { (result.status ≡ 1) ⊎ (result.status ≡ 2) ⊎ (result.status ≡ 3)
         → result.out ≡ out }
-    // On status 0 nothing is told; on every other status a text is whose cause holds.
-    ensures quiet { result.status ≡ 0 → result.err ≡ err }
+
+    // On every other status a text is told whose cause holds, or a front of it.
     ensures told { result.status ≢ 0
-        → Told (bytes_of words.now.items) (H.files shelf.old) result.status
+        → Told (bytes_of words.now.items) (H.files shelf.old)
+        (H.faults_of shelf.old) (H.faults_of shelf.new) result.status
         (E.written err) (E.written result.err) }
-    // The causes that the objects count.
+
+    // The causes that the objects count, and the words.
     ensures absent { result.status ≡ 1
         → Rose (H.absent_count shelf.old) (H.absent_count shelf.new) }
-    ensures words { (result.status ≡ 2) ↔ (command_of (bytes_of words.now.items) ≡ None) }
+    ensures words { result.status ≡ 2 → command_of (bytes_of words.now.items) ≡ None }
+    ensures no_words { command_of (bytes_of words.now.items) ≡ None
+        → (result.status ≡ 2) ⊎ (result.status ≡ 8) }
     ensures read { result.status ≡ 4
         → Rose (H.fault_count shelf.old) (H.fault_count shelf.new) }
     ensures write { result.status ≡ 5
-        → Rose (K.fault_count out) (K.fault_count result.out) }
-    // A run with good words, files of the forms that are built and no fault is done, unless memory ran out.
+        → Rose (K.fault_count out) (K.fault_count result.out)
+        ⊎ Rose (E.fault_count err) (E.fault_count result.err) }
+    ensures limit { result.status ≡ 9
+        → Limited (bytes_of words.now.items) (H.files shelf.old) }
+
+    // No fault is passed over.
+    ensures reads_told { H.fault_count shelf.old < H.fault_count shelf.new → result.status ≡ 4 }
+    ensures writes_told { K.fault_count out < K.fault_count result.out → result.status ≡ 5 }
+    ensures errors_told { E.fault_count err < E.fault_count result.err → result.status ≢ 0 }
+
+    // A run with good words and files in which nothing fails is done, unless memory ran out; and nothing fails over objects of
+    // which no call is planned to fail.
     ensures complete { IsReady (bytes_of words.now.items) (H.files shelf.old)
         → ¬ (Rose (H.fault_count shelf.old) (H.fault_count shelf.new))
         → ¬ (Rose (K.fault_count out) (K.fault_count result.out))
+        → ¬ (Rose (E.fault_count err) (E.fault_count result.err))
         → (result.status ≡ 0) ⊎ (result.status ≡ 8) }
-    // Where the files are refused and no read fails, the status is that of the first cause, unless memory ran out.
+    ensures grounded { IsReady (bytes_of words.now.items) (H.files shelf.old)
+        → IsUnfailing (H.fault_plan shelf.old) → AreUnfailing (H.source_plans shelf.old)
+        → IsUnfailing (K.fault_plan out) → IsUnfailing (E.fault_plan err)
+        → (result.status ≡ 0) ⊎ (result.status ≡ 8) }
+
+    // Where the words or files are refused and no read fails, the status is that of the first cause, unless memory ran out.
     ensures exact { ¬ (Rose (H.fault_count shelf.old) (H.fault_count shelf.new))
         → RefusedAs (bytes_of words.now.items) (H.files shelf.old) result.status }
-    // The shelf keeps its files, and no count falls.
+
+    // The shelf keeps its files and its disk, all that it lent came back, and no count falls.
     ensures kept { H.files shelf.new ≡ H.files shelf.old }
+    ensures disk_kept { (H.disk_history shelf.new ≡ H.disk_history shelf.old)
+        × (H.is_out shelf.new ≡ H.is_out shelf.old)
+        × (H.disk_fault_count shelf.new ≡ H.disk_fault_count shelf.old)
+        × (H.disk_plan shelf.new ≡ H.disk_plan shelf.old) }
+    ensures lent { IfSome (H.lent_count shelf.old) (λ n. H.lent_count shelf.new ≡ Some n) }
     ensures counts { (H.fault_count shelf.old ≤ H.fault_count shelf.new)
         × (H.absent_count shelf.old ≤ H.absent_count shelf.new)
         × (K.fault_count out ≤ K.fault_count result.out)
         × (E.fault_count err ≤ E.fault_count result.err) }
 {
-    runs_are_determined();
-    let Some(command) = command_in(words) else {
-        tell(
-            alloc,
-            b"usage: eql find --query FILE --fields FILE SHARD\n",
-            &mut err,
-        );
-        return Ended {
-            status: 2,
-            out,
-            err,
-        };
-    };
-    match run(alloc, &command, shelf, &mut out) {
-        Ok(()) => Ended {
-            status: 0,
-            out,
-            err,
-        },
-        Err(halt) => {
-            tell_halt(alloc, &command, &halt, &mut err);
-            Ended {
-                status: halt.status(),
-                out,
-                err,
-            }
-        }
-    }
+    let status = run_words(alloc, words, shelf, &mut out, &mut err);
+    Ended { status, out, err }
 }

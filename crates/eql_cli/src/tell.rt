@@ -1,121 +1,81 @@
-//! What a run tells on `err`: one line in one write. Where memory runs out as a line with a name or a number is made,
-//! nothing is told.
-ghost use Rattle.std.specs.Prelude.{◌≡◌, ◌≤◌, ◌++◌, IfOk, codes, string_bytes};
-ghost use Rattle.std.specs.Fmt.{decimal};
-ghost use Rattle.eql_lexer.specs.Messages as lexing;
-ghost use Rattle.eql_parser.specs.Messages as parsing;
-ghost use Rattle.eql_cli.specs.Halts.{names_in, refusal_of, text_of};
+//! What a run tells on the error output: one text in one write. Where memory runs out as a line with a name or a number is
+//! made, nothing is told.
+ghost use Rattle.std.specs.Prelude.{◌≡◌, ◌≤◌, IfOk, codes, string_bytes};
 ghost use Rattle.eql_outside.specs.Written.{WroteFront};
-ghost use Rattle.eql_cli.specs.Runs.{printed_name, refusal_text};
+ghost use Rattle.eql_words.specs.Features.{part_word};
+ghost use Rattle.eql_words.specs.Usage.{usage_text};
+ghost use Rattle.eql_runs.specs.Refusals.{refusal_text, unbuilt};
+ghost use Rattle.eql_runs.specs.Runs.{limit_text};
+ghost use Rattle.eql_find.specs.Halts.{limit_of};
+ghost use Rattle.eql_cli.specs.Telling.{IsReport, TellsRun};
 
-use crate::halt::{Halt, Refused};
-use crate::words::Command;
-use eql_lexer::LexRefused;
+use eql_find::{RunHalt, ShardLimit};
+use eql_inputs::{tell_halt, tell_text};
 use eql_outside::Sink;
-use eql_parser::ParseRefused;
-use eql_values::{Memory, push_shown};
+use eql_values::Memory;
+use eql_words::{Part, usage};
 use std::alloc::Global;
 
-/// A line of a cause and a name, as it is printed.
-fn name_line(alloc: Global, cause: &str, name: &str) -> Result<String, Memory>
-    ensures { IfOk result (λ line. string_bytes line
-        ≡ cause.now ++ printed_name name.now ++ codes "\n") }
-{
-    let mut line = String::from_str(alloc, cause)?;
-    push_shown(&mut line, name)?;
-    line.push_str("\n")?;
-    Ok(line)
-}
-
-/// Writes a line, as far as the sink takes it.
-pub(crate) fn tell<E: Sink>(alloc: Global, line: &[u8], err: &mut E)
-    ensures told { WroteFront line.now (E.written err.old) (E.written err.new) }
-    ensures counts { E.fault_count err.old ≤ E.fault_count err.new }
-{
-    let _ = err.write(alloc, line);
-}
-
-/// Tells of a file by its name.
-fn tell_name<E: Sink>(alloc: Global, cause: &str, name: &String, err: &mut E)
-    ensures told { WroteFront (cause.now ++ printed_name (string_bytes name.now) ++ codes "\n")
+/// Tells which words make a command.
+pub(crate) fn tell_usage<E: Sink>(alloc: Global, err: &mut E)
+    ensures told { WroteFront usage_text
         (E.written err.old) (E.written err.new) }
     ensures counts { E.fault_count err.old ≤ E.fault_count err.new }
 {
-    if let Ok(line) = name_line(alloc, cause, name.as_str()) {
-        tell(alloc, line.as_bytes(), err);
-    }
+    tell_text(alloc, usage().as_bytes(), err);
 }
 
-/// Tells of a line that isn't built, by its number.
-fn tell_number<E: Sink>(alloc: Global, number: u32, err: &mut E)
-    ensures told { WroteFront (codes "unbuilt: line " ++ decimal number ++ codes "\n")
+/// Tells which part of a command isn't built yet.
+pub(crate) fn tell_unbuilt<E: Sink>(alloc: Global, part: Part, err: &mut E)
+    ensures told { WroteFront (refusal_text (unbuilt (part_word part)))
         (E.written err.old) (E.written err.new) }
     ensures counts { E.fault_count err.old ≤ E.fault_count err.new }
 {
-    if let Ok(line) = format!(in alloc; "unbuilt: line {number}\n") {
-        tell(alloc, line.as_bytes(), err);
+    if let Ok(line) = format!(in alloc; "unbuilt: {}\n", part.word()) {
+        tell_text(alloc, line.as_bytes(), err);
     }
 }
 
-/// Tells a line that has no line feed yet.
-fn tell_line<E: Sink>(alloc: Global, mut line: String, err: &mut E)
-    ensures told { WroteFront (string_bytes line ++ codes "\n") (E.written err.old) (E.written err.new) }
-    ensures counts { E.fault_count err.old ≤ E.fault_count err.new }
-{
-    if line.push_str("\n").is_ok() {
-        tell(alloc, line.as_bytes(), err);
-    }
-}
-
-/// Tells why the query's text has no tokens.
-fn tell_lex<E: Sink>(alloc: Global, refused: LexRefused, err: &mut E)
-    ensures told { WroteFront (lexing.message refused ++ codes "\n")
+/// Tells that memory ran out.
+pub(crate) fn tell_memory<E: Sink>(alloc: Global, err: &mut E)
+    ensures told { WroteFront (codes "out of memory\n")
         (E.written err.old) (E.written err.new) }
     ensures counts { E.fault_count err.old ≤ E.fault_count err.new }
 {
-    if let Ok(line) = refused.message(alloc) {
-        tell_line(alloc, line, err);
+    tell_text(alloc, b"out of memory\n", err);
+}
+
+/// The line of a limit.
+fn limit_line(alloc: Global, limit: ShardLimit) -> Result<String, Memory>
+    ensures { IfOk result (λ line. string_bytes line ≡ limit_text (limit_of limit)) }
+{
+    match limit {
+        ShardLimit::Lines(shard) => Ok(format!(in alloc; "limit: lines shard {}\n", shard)?),
+        ShardLimit::Bytes(shard) => Ok(format!(in alloc; "limit: bytes shard {}\n", shard)?),
     }
 }
 
-/// Tells why the query's tokens are no query.
-fn tell_parse<E: Sink>(alloc: Global, refused: &ParseRefused, err: &mut E)
-    ensures told { WroteFront (parsing.message refused.now ++ codes "\n")
+/// Tells which shard reached a limit.
+fn tell_limit<E: Sink>(alloc: Global, limit: ShardLimit, err: &mut E)
+    ensures told { WroteFront (limit_text (limit_of limit))
         (E.written err.old) (E.written err.new) }
     ensures counts { E.fault_count err.old ≤ E.fault_count err.new }
 {
-    if let Ok(line) = refused.message(alloc) {
-        tell_line(alloc, line, err);
+    if let Ok(line) = limit_line(alloc, limit) {
+        tell_text(alloc, line.as_bytes(), err);
     }
 }
 
-/// Tells why the files are refused.
-fn tell_refused<E: Sink>(alloc: Global, command: &Command, refused: &Refused, err: &mut E)
-    ensures told { WroteFront (refusal_text (refusal_of (names_in command.now) refused.now))
-        (E.written err.old) (E.written err.new) }
-    ensures counts { E.fault_count err.old ≤ E.fault_count err.new }
-{
-    match refused {
-        Refused::NoFile(role) => tell_name(alloc, "no file ", command.name(*role), err),
-        Refused::Lex(refused) => tell_lex(alloc, *refused, err),
-        Refused::Parse(refused) => tell_parse(alloc, refused, err),
-        Refused::Query => tell(alloc, b"unbuilt: query\n", err),
-        Refused::Fields => tell(alloc, b"unbuilt: fields\n", err),
-        Refused::Shard => tell(alloc, b"unbuilt: shard\n", err),
-        Refused::Line(number) => tell_number(alloc, *number, err),
-    }
-}
-
-/// Tells why a run stopped.
-pub(crate) fn tell_halt<E: Sink>(alloc: Global, command: &Command, halt: &Halt, err: &mut E)
-    ensures told { WroteFront (text_of (names_in command.now) halt.now)
-        (E.written err.old) (E.written err.new) }
+/// Tells why a run stopped. Where its report was refused nothing more is told.
+pub(crate) fn tell_run<'a, E: Sink>(alloc: Global, halt: &RunHalt<'a>, err: &mut E)
+    ensures told { TellsRun halt.now (E.written err.old) (E.written err.new) }
+    ensures quiet { IsReport halt.now → err.new ≡ err.old }
     ensures counts { E.fault_count err.old ≤ E.fault_count err.new }
 {
     match halt {
-        Halt::Refused(refused) => tell_refused(alloc, command, refused, err),
-        Halt::Read(role) => tell_name(alloc, "read fault: ", command.name(*role), err),
-        Halt::Write => tell(alloc, b"write fault\n", err),
-        Halt::Memory => tell(alloc, b"out of memory\n", err),
+        RunHalt::Files(halt) => tell_halt(alloc, halt, err),
+        RunHalt::Write => tell_text(alloc, b"write fault\n", err),
+        RunHalt::Limit(limit) => tell_limit(alloc, *limit, err),
+        RunHalt::Report(_) => {}
     }
 }

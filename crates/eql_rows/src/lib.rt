@@ -3,12 +3,28 @@
 #![tactic(auto)]
 
 #[cfg(test)]
-mod first_path;
+mod conditions;
+#[cfg(test)]
+mod faults;
+#[cfg(test)]
+mod files;
+#[cfg(test)]
+mod lines;
 #[cfg(test)]
 mod machine;
 #[cfg(test)]
-mod query_text;
+mod queries;
+#[cfg(test)]
+mod row;
 #[cfg(test)]
 mod run;
 #[cfg(test)]
+mod sequences;
+#[cfg(test)]
+mod shards;
+#[cfg(test)]
+mod text;
+#[cfg(test)]
 mod values;
+#[cfg(test)]
+mod words;

@@ -1,9 +1,6 @@
-//! One run of the program over files in memory, and the rows of the tables of such runs.
-//!
-//! A row is made by a helper that says only what differs from the search of [`PAIR`] over an empty shard, and may be
-//! changed further by the methods of [`Row`].
-ghost use Rattle.std.specs.Prelude.{◌≤◌};
-
+//! One run of the program over files in memory, and what it has to give.
+use crate::row::{Failing, Object, Row, Told, Words};
+use crate::text::{add_lines, add_pieces, line_count, text_of};
 use eql_cli::{Ended, NoGate, eql_main};
 use eql_outside::{MemDisk, MemFile, MemShelf, MemSink};
 use std::alloc::Global;
@@ -12,259 +9,219 @@ use std::sync::Wait;
 use std::test::Fail;
 use std::thread::Threads;
 
-/// A query that is searched: a process event, then a file event.
-pub(crate) const PAIR: &[u8] = b"sequence [process where true] [file where true]";
+/// How a run ended.
+pub(crate) type Ran = Ended<MemSink, MemSink>;
 
-/// Events of which [`PAIR`] finds one pair, those of lines 2 and 3.
-pub(crate) const FOUR: &str = "1 process, 2 process, 3 file, 4 file";
-
-/// The listing of [`PAIR`] over [`FOUR`].
-pub(crate) const ONE_PAIR: &str = "1 [] 0:2 0:3\n";
-
-/// What is told of words that aren't the command.
-const USAGE: &str = "usage: eql find --query FILE --fields FILE SHARD\n";
-
-/// The call that fails in a run.
-#[derive(Clone, Copy, Debug, PartialEq, Eq)]
-pub(crate) enum Fault {
-    /// None fails.
-    Nothing,
-    /// The first take of the query file.
-    QueryTake,
-    /// The first take of the fields file.
-    FieldsTake,
-    /// The first take of the shard.
-    ShardTake,
-    /// The first write of the output.
-    OutWrite,
-    /// The first write of the faults' output.
-    ErrWrite,
-}
-
-/// The words after the program's name.
-#[derive(Clone, Copy, Debug)]
-pub(crate) enum Words {
-    /// Those of a search by the query file, the fields file and the shard of these names.
-    Find(&'static str, &'static str, &'static str),
-    /// These.
-    Plain(&'static [&'static str]),
-}
-
-/// The text of a shard: lines of events, and what follows them.
-#[derive(Clone, Copy, Debug)]
-pub(crate) struct Shard {
-    // Each event is its time in milliseconds and its category, with `, ` between two events.
-    events: &'static str,
-    rest: &'static [u8],
-}
-
-/// A shard of these events, one a line, as `1 process, 3 file`.
-pub(crate) fn events(events: &'static str) -> Shard {
-    Shard { events, rest: b"" }
-}
-
-/// A shard of this text.
-pub(crate) fn text(rest: &'static [u8]) -> Shard {
-    Shard { events: "", rest }
-}
-
-impl Shard {
-    /// The shard with this text at its end.
-    pub(crate) fn then(self, rest: &'static [u8]) -> Shard {
-        Shard { rest, ..self }
-    }
-
-    // Its bytes.
-    fn bytes(self, alloc: Global) -> Result<Vec<u8>, Fail> {
-        let mut bytes = Vec::new(alloc);
-        for event in self.events.split(", ") {
-            if let Some((time, category)) = event.split_once(' ') {
-                let line = format!(in alloc;
-                    "{{\"@timestamp\":{time},\"event\":{{\"category\":\"{category}\"}}}}\n"
-                )?;
-                bytes.extend_from_slice(line.as_bytes())?;
-            }
-        }
-        bytes.extend_from_slice(self.rest)?;
-        Ok(bytes)
-    }
-}
-
-/// A worked run over one shard. The query file is named `q`, the fields file `f` and the shard `s`.
-#[derive(Clone, Copy)]
-pub(crate) struct Row {
-    // What it shows.
-    shows: &'static str,
-    words: Words,
-    query: &'static [u8],
-    fields: &'static [u8],
-    shard: Shard,
-    fault: Fault,
-    status: u8,
-    // What the output gets.
-    out: &'static str,
-    // What the faults' output gets.
-    err: &'static str,
-}
-
-/// A search by the pair over an empty shard, which finds nothing.
-const PLAIN: Row = Row {
-    shows: "",
-    words: Words::Find("q", "f", "s"),
-    query: PAIR,
-    fields: b"{}",
-    shard: Shard {
-        events: "",
-        rest: b"",
-    },
-    fault: Fault::Nothing,
-    status: 0,
-    out: "",
-    err: "",
-};
-
-/// A search that is done, with this listing.
-pub(crate) fn found(
-    shows: &'static str,
-    query: &'static [u8],
-    shard: Shard,
-    out: &'static str,
-) -> Row {
-    Row {
-        shows,
-        query,
-        shard,
-        out,
-        ..PLAIN
-    }
-}
-
-/// A search by the pair that ends with this status, tells this and lists nothing.
-pub(crate) fn ended(shows: &'static str, status: u8, err: &'static str) -> Row {
-    Row {
-        shows,
-        status,
-        err,
-        ..PLAIN
-    }
-}
-
-/// A search whose query is refused.
-pub(crate) fn refused(shows: &'static str, query: &'static [u8], err: &'static str) -> Row {
-    ended(shows, 3, err).by(query)
-}
-
-/// A search by the pair in a shard that is refused.
-pub(crate) fn refused_shard(shows: &'static str, shard: Shard, err: &'static str) -> Row {
-    ended(shows, 3, err).over(shard)
-}
-
-/// Words that aren't the command.
-pub(crate) fn usage(shows: &'static str, words: Words) -> Row {
-    ended(shows, 2, USAGE).words(words)
-}
-
-impl Row {
-    /// The row with these words.
-    pub(crate) fn words(self, words: Words) -> Row {
-        Row { words, ..self }
-    }
-
-    /// The row with this query.
-    pub(crate) fn by(self, query: &'static [u8]) -> Row {
-        Row { query, ..self }
-    }
-
-    /// The row with this mapping.
-    pub(crate) fn fields(self, fields: &'static [u8]) -> Row {
-        Row { fields, ..self }
-    }
-
-    /// The row over this shard.
-    pub(crate) fn over(self, shard: Shard) -> Row {
-        Row { shard, ..self }
-    }
-
-    /// The row with this call failing.
-    pub(crate) fn fails(self, fault: Fault) -> Row {
-        Row { fault, ..self }
-    }
-
-    /// The row with this listing.
-    pub(crate) fn lists(self, out: &'static str) -> Row {
-        Row { out, ..self }
-    }
-
-    // Its three files.
-    fn files(self, alloc: Global) -> Result<Vec<MemFile>, Fail> {
-        let shard = self.shard.bytes(alloc)?;
-        let mut files = Vec::new(alloc);
-        files.push(file(alloc, "q", self.query, self.fault == Fault::QueryTake)?)?;
-        files.push(file(alloc, "f", self.fields, self.fault == Fault::FieldsTake)?)?;
-        files.push(file(alloc, "s", &shard, self.fault == Fault::ShardTake)?)?;
-        Ok(files)
-    }
-}
-
-// A file that is given in pieces of seven bytes, or fails at its first take.
-fn file(alloc: Global, name: &str, bytes: &[u8], fails_first: bool) -> Result<MemFile, Fail> {
-    Ok(MemFile {
-        name: String::from_str(alloc, name)?,
-        bytes: Vec::from_slice(alloc, bytes)?,
-        piece: 7,
-        fails: first_call(alloc, fails_first)?,
-    })
-}
-
-// The number of the first call, where it is to fail.
-fn first_call(alloc: Global, fails: bool) -> Result<Vec<u64>, Fail> {
+/// The numbers of the calls of an object that fail.
+fn failing(alloc: Global, fails: &[Failing], object: Object) -> Result<Vec<u64>, Fail> {
     let mut numbers = Vec::new(alloc);
-    if fails {
-        numbers.push(1)?;
+    for (of, number) in fails {
+        if *of == object {
+            numbers.push(*number)?;
+        }
     }
     Ok(numbers)
 }
 
-// The words as the program gets them.
-fn words_of(alloc: Global, words: Words) -> Result<Vec<String>, Fail> {
-    let mut list = Vec::new(alloc);
-    match words {
-        Words::Find(query, fields, shard) => {
-            for word in ["find", "--query", query, "--fields", fields, shard] {
-                list.push(String::from_str(alloc, word)?)?;
-            }
-        }
-        Words::Plain(words) => {
-            for word in words {
-                list.push(String::from_str(alloc, word)?)?;
-            }
-        }
-    }
-    Ok(list)
+/// A file of these bytes, of which a take gives at most so many.
+pub(crate) fn file(
+    alloc: Global,
+    name: &str,
+    bytes: Vec<u8>,
+    piece: usize,
+    fails: Vec<u64>,
+) -> Result<MemFile, Fail> {
+    Ok(MemFile {
+        name: String::from_str(alloc, name)?,
+        bytes,
+        piece: piece.max(1),
+        fails,
+    })
 }
 
-// Runs the words over these files.
-fn run<R: Threads + Wait + Sync>(
+/// The texts of the shards of a row.
+fn shards_of(alloc: Global, row: &Row) -> Result<Vec<Vec<u8>>, Fail> {
+    let mut texts = Vec::new(alloc);
+    texts.push(text_of(alloc, row.shard)?)?;
+    for shard in row.more {
+        texts.push(text_of(alloc, *shard)?)?;
+    }
+    Ok(texts)
+}
+
+/// The text of a row's query file.
+fn query_of(alloc: Global, row: &Row) -> Result<Vec<u8>, Fail> {
+    let mut bytes = Vec::from_slice(alloc, row.query.as_bytes())?;
+    add_pieces(alloc, &mut bytes, row.behind)?;
+    Ok(bytes)
+}
+
+/// The files of a row with these shards.
+fn files_of(
+    alloc: Global,
+    row: &Row,
+    shards: Vec<Vec<u8>>,
+    fails: &[Failing],
+) -> Result<Vec<MemFile>, Fail> {
+    let mut files = Vec::new(alloc);
+    let query = query_of(alloc, row)?;
+    let query_fails = failing(alloc, fails, Object::Query)?;
+    files.push(file(alloc, "q", query, row.piece, query_fails)?)?;
+    let fields = text_of(alloc, row.fields)?;
+    let fields_fail = failing(alloc, fails, Object::Fields)?;
+    files.push(file(alloc, "f", fields, row.piece, fields_fail)?)?;
+    let mut number = 0usize;
+    for shard in shards {
+        let name = format!(in alloc; "s{number}")?;
+        let shard_fails = failing(alloc, fails, Object::Shard(number))?;
+        files.push(file(alloc, name.as_str(), shard, row.piece, shard_fails)?)?;
+        number = number.saturating_add(1);
+    }
+    Ok(files)
+}
+
+/// Adds the words of a line.
+fn add_words(alloc: Global, words: &mut Vec<String>, line: &str) -> Result<(), Fail> {
+    for word in line.split(' ') {
+        words.push(String::from_str(alloc, word)?)?;
+    }
+    Ok(())
+}
+
+/// The words of a line, which have a space between each two. An empty line has none.
+pub(crate) fn words_in(alloc: Global, line: &str) -> Result<Vec<String>, Fail> {
+    let mut words = Vec::new(alloc);
+    if !line.is_empty() {
+        add_words(alloc, &mut words, line)?;
+    }
+    Ok(words)
+}
+
+/// The words of a search in so many shards, with these options.
+pub(crate) fn find_words(alloc: Global, options: &str, shards: usize) -> Result<Vec<String>, Fail> {
+    let mut words = Vec::new(alloc);
+    add_words(alloc, &mut words, "find --query q --fields f")?;
+    if !options.is_empty() {
+        add_words(alloc, &mut words, options)?;
+    }
+    for number in 0..shards {
+        words.push(format!(in alloc; "s{number}")?)?;
+    }
+    Ok(words)
+}
+
+/// The words of a row with so many shards.
+fn words_of(alloc: Global, row: &Row, shards: usize) -> Result<Vec<String>, Fail> {
+    match row.words {
+        Words::Find(options) => find_words(alloc, options, shards),
+        Words::Line(line) => words_in(alloc, line),
+    }
+}
+
+/// Runs words over files, with these calls of the outputs and the shelf failing.
+pub(crate) fn run_over<R: Threads + Wait + Sync>(
     rt: &R,
     alloc: Global,
-    words: Words,
+    words: &Vec<String>,
     files: Vec<MemFile>,
-    fault: Fault,
-) -> Result<Ended<MemSink, MemSink>, Fail> {
-    let list = words_of(alloc, words)?;
+    fails: &[Failing],
+) -> Result<Ran, Fail> {
     let (first, second) = (Vec::new(alloc), Vec::new(alloc));
     let disk = MemDisk::new(alloc, first, second, Vec::new(alloc), None)?;
-    let shelf = MemShelf::new(alloc, files, disk, Vec::new(alloc));
-    let out = MemSink::new(alloc, first_call(alloc, fault == Fault::OutWrite)?);
-    let err = MemSink::new(alloc, first_call(alloc, fault == Fault::ErrWrite)?);
-    match shelf {
-        Ok(mut shelf) => Ok(eql_main(rt, alloc, &list, &mut shelf, out, err, &NoGate)),
-        Err(_) => Ok(Ended {
-            status: 8,
-            out,
-            err,
-        }),
+    let mut shelf = MemShelf::new(alloc, files, disk, failing(alloc, fails, Object::Shelf)?)?;
+    let out = MemSink::new(alloc, failing(alloc, fails, Object::Out)?);
+    let err = MemSink::new(alloc, failing(alloc, fails, Object::Err)?);
+    Ok(eql_main(rt, alloc, words, &mut shelf, out, err, &NoGate))
+}
+
+/// Runs a row with these calls failing.
+pub(crate) fn run<R: Threads + Wait + Sync>(
+    rt: &R,
+    alloc: Global,
+    row: &Row,
+    fails: &[Failing],
+) -> Result<Ran, Fail> {
+    let shards = shards_of(alloc, row)?;
+    let words = words_of(alloc, row, shards.len())?;
+    let files = files_of(alloc, row, shards, fails)?;
+    run_over(rt, alloc, &words, files, fails)
+}
+
+/// The report over shards all of whose lines were accepted.
+fn accepted(alloc: Global, row: &Row) -> Result<Vec<u8>, Fail> {
+    let mut report = Vec::new(alloc);
+    let mut number = 0usize;
+    for shard in shards_of(alloc, row)? {
+        let lines = line_count(shard.as_slice());
+        let line = format!(in alloc;
+            "shard {number}: lines {lines} accepted {lines} late 0 rejected 0\n"
+        )?;
+        report.extend_from_slice(line.as_bytes())?;
+        number = number.saturating_add(1);
     }
+    Ok(report)
+}
+
+/// What the error output of a row has to get.
+fn told_of(alloc: Global, row: &Row) -> Result<Vec<u8>, Fail> {
+    let mut told = Vec::new(alloc);
+    match row.told {
+        Told::Accepted => return accepted(alloc, row),
+        Told::Rejected(reason) => {
+            let line = format!(in alloc;
+                "shard 0: lines 1 accepted 0 late 0 rejected 1 first 1 {reason}"
+            )?;
+            add_lines(&mut told, &[line.as_str()])?
+        }
+        Told::Line(line) => add_lines(&mut told, &[line])?,
+        Told::Lines(lines) => add_lines(&mut told, lines)?,
+    }
+    Ok(told)
+}
+
+/// What the output of a row has to get.
+fn listed_of(alloc: Global, row: &Row) -> Result<Vec<u8>, Fail> {
+    let mut listed = Vec::new(alloc);
+    add_lines(&mut listed, row.listed)?;
+    add_pieces(alloc, &mut listed, row.rest)?;
+    Ok(listed)
+}
+
+/// Sees that an output got this text, whole or a front of it.
+pub(crate) fn compare<R: Abort>(
+    rt: &R,
+    alloc: Global,
+    got: &Vec<u8>,
+    wanted: Vec<u8>,
+    whole: bool,
+    shows: &str,
+) -> Result<(), Fail> {
+    let got = String::from_utf8_lossy(alloc, got.as_slice())?;
+    let wanted = String::from_utf8_lossy(alloc, wanted.as_slice())?;
+    if whole {
+        assert_eq!(rt; got.as_str(), wanted.as_str(), "{shows}");
+    } else {
+        assert!(rt; wanted.as_str().starts_with(got.as_str()), "{shows}: {got}");
+    }
+    Ok(())
+}
+
+/// Sees that a run with these calls failing gave what the row says: its status, and on both outputs the whole texts, but for
+/// an output that failed, and the listing of a run that stopped for another cause.
+pub(crate) fn compare_run<R: Abort>(
+    rt: &R,
+    alloc: Global,
+    row: &Row,
+    ran: &Ran,
+    fails: &[Failing],
+) -> Result<(), Fail> {
+    assert_eq!(rt; ran.status, row.status, "status: {}", row.shows);
+    let err_fails = !failing(alloc, fails, Object::Err)?.is_empty();
+    let listed = listed_of(alloc, row)?;
+    let out_whole = row.status == 0 || err_fails;
+    compare(rt, alloc, ran.out.bytes(), listed, out_whole, row.shows)?;
+    let told = told_of(alloc, row)?;
+    compare(rt, alloc, ran.err.bytes(), told, !err_fails, row.shows)
 }
 
 /// Runs the rows of a table, and compares what each gives.
@@ -274,66 +231,8 @@ pub(crate) fn check<R: Threads + Wait + Sync + Abort>(
     rows: &[Row],
 ) -> Result<(), Fail> {
     for row in rows {
-        let ended = run(rt, alloc, row.words, row.files(alloc)?, row.fault)?;
-        assert_eq!(rt; ended.status, row.status, "status of: {}", row.shows);
-        assert_eq!(rt;
-            ended.out.bytes().as_slice(),
-            row.out.as_bytes(),
-            "output of: {}",
-            row.shows
-        );
-        assert_eq!(rt;
-            ended.err.bytes().as_slice(),
-            row.err.as_bytes(),
-            "faults of: {}",
-            row.shows
-        );
+        let ran = run(rt, alloc, row, row.fails)?;
+        compare_run(rt, alloc, row, &ran, row.fails)?;
     }
-    Ok(())
-}
-
-/// A text that is made when its run begins: parts, each with how often it stands there.
-pub(crate) type Parts = &'static [(&'static str, usize)];
-
-// The text of these parts.
-fn repeated(alloc: Global, parts: Parts) -> Result<Vec<u8>, Fail> {
-    let mut bytes = Vec::new(alloc);
-    for (part, times) in parts {
-        for _ in 0..*times {
-            bytes.extend_from_slice(part.as_bytes())?;
-        }
-    }
-    Ok(bytes)
-}
-
-// A file of these bytes that is given in pieces of this many bytes and doesn't fail.
-fn long_file(alloc: Global, name: &str, bytes: Vec<u8>, piece: usize) -> Result<MemFile, Fail>
-    requires { 1 ≤ piece }
-{
-    Ok(MemFile {
-        name: String::from_str(alloc, name)?,
-        bytes,
-        piece,
-        fails: Vec::new(alloc),
-    })
-}
-
-/// Searches by a query over a shard, either of which may be long, and expects that nothing is listed and that this is
-/// told with the status 3.
-pub(crate) fn refuses_long<R: Threads + Wait + Sync + Abort>(
-    rt: &R,
-    alloc: Global,
-    query: Parts,
-    shard: Parts,
-    told: &str,
-) -> Result<(), Fail> {
-    let mut files = Vec::new(alloc);
-    files.push(long_file(alloc, "q", repeated(alloc, query)?, 7)?)?;
-    files.push(long_file(alloc, "f", Vec::from_slice(alloc, b"{}")?, 7)?)?;
-    files.push(long_file(alloc, "s", repeated(alloc, shard)?, 65536)?)?;
-    let ended = run(rt, alloc, PLAIN.words, files, Fault::Nothing)?;
-    assert_eq!(rt; ended.status, 3, "status at: {told}");
-    assert_eq!(rt; ended.err.bytes().as_slice(), told.as_bytes());
-    assert_eq!(rt; ended.out.bytes().len(), 0, "output at: {told}");
     Ok(())
 }

@@ -1,0 +1,27 @@
+-- A run of `check`.
+use Rattle.std.proofs.Common.{ℕ, List, [], ◌++◌, Option, Some, None, refl}
+use Rattle.std.specs.Prelude.{encode_utf8_all, codes}
+use Rattle.eql_values.specs.declared.value.Kind.{Kind as FieldKind}
+use Rattle.eql_parser.specs.QueryTree.{QueryTree}
+use Rattle.eql_parser.specs.Printed.{printed}
+use Rattle.eql_runs.specs.Files.{Files}
+use Rattle.eql_inputs.specs.Steps.{GotChecked}
+use Rattle.eql_inputs.specs.declared.halt.Halt.TheVariants as halt
+use Rattle.eql_find.specs.declared.halt.RunHalt.{RunHalt}
+use Rattle.eql_find.specs.declared.halt.RunHalt.TheVariants as run
+use Rattle.eql_cli.specs.Printing.{HasCause, StopsWriting}
+
+-- the text of a checked query wasn't written whole
+pub stop_cause : (query fields : List ℕ) (files : Option Files) (tree : QueryTree) (kinds : List (List ℕ × FieldKind))
+    → GotChecked query fields files tree kinds → (h : RunHalt) → StopsWriting h → HasCause query fields files h
+stop_cause query fields files tree kinds got (run.Files (halt.Refused r)) stops = absurd stops
+stop_cause query fields files tree kinds got (run.Files (halt.Read name)) stops = absurd stops
+stop_cause query fields files tree kinds got (run.Files halt.Memory) stops = tt
+stop_cause query fields None tree kinds got run.Write stops = tt
+stop_cause query fields (Some fs) tree kinds got run.Write stops = (
+  encode_utf8_all (printed tree) ++ codes "\n",
+  [],
+  record { tree = tree; kinds = kinds; checked = got; bytes_are = refl; report_is = refl },
+)
+stop_cause query fields files tree kinds got (run.Limit l) stops = absurd stops
+stop_cause query fields files tree kinds got (run.Report r) stops = absurd stops

@@ -1,0 +1,39 @@
+use Rattle.std.proofs.Common.{ap}
+use Rattle.eql_cli.proofs.EndLemmas.{never_ended, wrote_all, wrote_some, told_of, limit_of_status, stops_ready, is_calm, no_read, done_exact, stops_exact}
+use Rattle.eql_cli.proofs.run.end_command.Goals as goal
+
+pub returns-in-Ok-clause-done : goal.returns-in-Ok-clause-done
+returns-in-Ok-clause-done g c = λ e words is. wrote_all words c.args.command.now is c.requires.built _ _ _ _ _ c.in-Ok.ensures.done
+
+pub returns-in-Ok-clause-exact : goal.returns-in-Ok-clause-exact
+returns-in-Ok-clause-exact g c = λ words is calm. done_exact words c.args.command.now is c.requires.built c.runs_are_determined.ensures.apart _ _ _ _ _ 0 c.in-Ok.ensures.done
+
+pub returns-in-Err-clause-done : goal.returns-in-Err-clause-done
+returns-in-Err-clause-done g c = λ e. absurd (never_ended c.in-Err.halt _ c.status.ensures e)
+
+pub returns-in-Err-clause-prefix : goal.returns-in-Err-clause-prefix
+returns-in-Err-clause-prefix g c = λ e words is. wrote_some words c.args.command.now is c.requires.built _ _ _ c.in-Err.ensures.prefix
+
+pub returns-in-Err-clause-told : goal.returns-in-Err-clause-told
+returns-in-Err-clause-told g c = λ e words is.
+    told_of words c.args.command.now is c.requires.built g.E.Sink.written _ _ _ _ _ _ c.in-Err.halt _ c.status.ensures c.in-Err.ensures.cause c.in-Err.ensures.faults
+    c.in-Err.ensures.quiet c.tell_run.ensures.told c.tell_run.ensures.quiet
+
+pub returns-in-Err-clause-limit : goal.returns-in-Err-clause-limit
+returns-in-Err-clause-limit g c = λ e words is. limit_of_status words c.args.command.now is c.requires.built _ _ _ c.in-Err.halt _ c.status.ensures c.in-Err.ensures.cause e
+
+pub returns-in-Err-clause-complete : goal.returns-in-Err-clause-complete
+returns-in-Err-clause-complete g c = λ words is ready read write error.
+    stops_ready words c.args.command.now is c.requires.built c.runs_are_determined.ensures.ready _ _ _ c.in-Err.halt _ c.status.ensures c.in-Err.ensures.cause ready
+    (is_calm c.in-Err.halt _ _ _ _ _ _ _ c.in-Err.ensures.count c.in-Err.ensures.out c.in-Err.ensures.err
+    (λ report. ap g.E.Sink.fault_count (c.tell_run.ensures.quiet report)) read write error)
+
+pub returns-in-Err-clause-grounded : goal.returns-in-Err-clause-grounded
+returns-in-Err-clause-grounded g c = λ words is ready shelf sources out err.
+    stops_ready words c.args.command.now is c.requires.built c.runs_are_determined.ensures.ready _ _ _ c.in-Err.halt _ c.status.ensures c.in-Err.ensures.cause ready
+    (c.in-Err.ensures.unfailing shelf sources out err)
+
+pub returns-in-Err-clause-exact : goal.returns-in-Err-clause-exact
+returns-in-Err-clause-exact g c = λ words is calm.
+    stops_exact words c.args.command.now is c.requires.built c.runs_are_determined.ensures.status c.runs_are_determined.ensures.apart _ _ _ c.in-Err.halt _ c.status.ensures
+    c.in-Err.ensures.cause (no_read c.in-Err.halt _ _ c.in-Err.ensures.count calm)

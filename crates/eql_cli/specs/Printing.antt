@@ -1,0 +1,41 @@
+-- What a run of `check` writes, and the causes for which it stops.
+use Rattle.std.specs.Prelude.{◌≡◌, ◌⊎◌, ℕ, List, [], Option, Some, IfSome}
+use Rattle.eql_outside.specs.Outside.{AppendsSome}
+use Rattle.eql_outside.specs.Written.{WroteAll}
+use Rattle.eql_runs.specs.Files.{Files}
+use Rattle.eql_runs.specs.Runs.{Prints}
+use Rattle.eql_inputs.specs.Halts as inputs
+use Rattle.eql_inputs.specs.declared.halt.Halt.TheVariants as halt
+use Rattle.eql_inputs.specs.Steps.{naming}
+use Rattle.eql_find.specs.declared.halt.RunHalt.{RunHalt}
+use Rattle.eql_find.specs.declared.halt.RunHalt.TheVariants as run
+
+-- where the shelf tells its files, the run was one that writes a canonical text, and where the output tells too it got just this
+abbrev pub PrintsAll : (query fields : List ℕ) → Option Files → (out out' : Option (List ℕ)) → Type 0
+PrintsAll query fields files out out' =
+    IfSome files (λ fs.
+    (bytes : List ℕ) × (report : List ℕ) × Prints query fields fs bytes report × WroteAll bytes out out')
+
+-- where both tell, the output got nothing, or a front of the text
+abbrev pub PrintsSome : (query fields : List ℕ) → Option Files → (out out' : Option (List ℕ)) → Type 0
+PrintsSome query fields files out out' =
+    IfSome files (λ fs. IfSome out (λ w.
+    (out' ≡ Some w)
+    ⊎ ((bytes : List ℕ) × (report : List ℕ) × Prints query fields fs bytes report × AppendsSome w bytes out')))
+
+-- why a run stopped
+abbrev pub HasCause : (query fields : List ℕ) → Option Files → RunHalt → Type 0
+HasCause query fields files (run.Files h) = inputs.HasCause (naming query fields []) files h
+HasCause query fields files run.Write =
+    IfSome files (λ fs. (bytes : List ℕ) × (report : List ℕ) × Prints query fields fs bytes report)
+HasCause query fields files (run.Limit l) = ⊥
+HasCause query fields files (run.Report r) = ⊥
+
+-- writing the text stopped: the output failed, or memory ran out
+abbrev pub StopsWriting : RunHalt → Type 0
+StopsWriting (run.Files (halt.Refused r)) = ⊥
+StopsWriting (run.Files (halt.Read name)) = ⊥
+StopsWriting (run.Files halt.Memory) = Unit {0}
+StopsWriting run.Write = Unit {0}
+StopsWriting (run.Limit l) = ⊥
+StopsWriting (run.Report r) = ⊥

@@ -1,0 +1,22 @@
+-- What is told of a run that stopped.
+use Rattle.std.specs.Prelude.{ℕ, List, Option, codes}
+use Rattle.eql_outside.specs.Written.{WroteFront}
+use Rattle.eql_runs.specs.Runs.{limit_text}
+use Rattle.eql_inputs.specs.Halts.{text_of}
+use Rattle.eql_find.specs.declared.halt.RunHalt.{RunHalt}
+use Rattle.eql_find.specs.declared.halt.RunHalt.TheVariants as run
+use Rattle.eql_find.specs.Halts.{limit_of}
+
+-- the text of a halt, or a front of it; where the report was refused nothing more is told
+abbrev pub TellsRun : RunHalt → (err err' : Option (List ℕ)) → Type 0
+TellsRun (run.Files h) err err' = WroteFront (text_of h) err err'
+TellsRun run.Write err err' = WroteFront (codes "write fault\n") err err'
+TellsRun (run.Limit l) err err' = WroteFront (limit_text (limit_of l)) err err'
+TellsRun (run.Report r) err err' = Unit {0}
+
+-- the report was refused
+abbrev pub IsReport : RunHalt → Type 0
+IsReport (run.Files h) = ⊥
+IsReport run.Write = ⊥
+IsReport (run.Limit l) = ⊥
+IsReport (run.Report r) = Unit {0}

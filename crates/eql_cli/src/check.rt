@@ -1,0 +1,89 @@
+//! A run of `check`: the canonical text of a query.
+ghost use Rattle.std.specs.Prelude.{◌≡◌, ◌≤◌, ◌++◌, IfErr, IfOk, IfSome, OnOk, OnErr, Some, codes, encode_utf8_all, string_bytes};
+ghost use Rattle.eql_outside.specs.Unfailing.{IsUnfailing, AreUnfailing};
+ghost use Rattle.eql_outside.specs.Written.{WroteAll, WroteFront};
+ghost use Rattle.eql_parser.specs.QueryTree.{query_tree};
+ghost use Rattle.eql_parser.specs.Printed.{printed};
+ghost use Rattle.eql_find.specs.Halts.{AbsenceAs, CountAs, FaultsAs, IsFault, IsRefusal, OutAs};
+ghost use Rattle.eql_cli.specs.Printing.{HasCause, PrintsAll, PrintsSome, StopsWriting};
+
+use eql_find::RunHalt;
+use eql_inputs::{Halt, read_checked};
+use eql_outside::{OutRefused, Shelf, Sink};
+use eql_parser::{Query, print};
+use eql_values::Memory;
+use eql_words::Name;
+use std::alloc::Global;
+
+/// The line of a query: its canonical text and a line end.
+fn query_line(alloc: Global, query: &Query) -> Result<String, Memory>
+    ensures { IfOk result (λ line. string_bytes line
+        ≡ encode_utf8_all (printed (query_tree query.now)) ++ codes "\n") }
+{
+    let text = print(alloc, query)?;
+    let mut line = String::from_str(alloc, text.text().as_str())?;
+    line.push_str("\n")?;
+    Ok(line)
+}
+
+/// Writes the line of a query.
+fn write_query<'a, K: Sink>(alloc: Global, query: &Query, out: &mut K) -> Result<(), RunHalt<'a>>
+    ensures all { OnOk result (WroteAll
+        (encode_utf8_all (printed (query_tree query.now)) ++ codes "\n")
+        (K.written out.old) (K.written out.new)) }
+    ensures front { OnErr result (WroteFront
+        (encode_utf8_all (printed (query_tree query.now)) ++ codes "\n")
+        (K.written out.old) (K.written out.new)) }
+    ensures stops { IfErr result StopsWriting }
+    ensures out { OutAs result (K.fault_count out.old) (K.fault_count out.new) }
+    ensures counts { K.fault_count out.old ≤ K.fault_count out.new }
+    ensures unfailing { IsUnfailing (K.fault_plan out.old) → IfErr result (λ halt. ¬ IsFault halt) }
+{
+    let Ok(line) = query_line(alloc, query) else {
+        return Err(RunHalt::Files(Halt::Memory));
+    };
+    match out.write(alloc, line.as_bytes()) {
+        Ok(()) => Ok(()),
+        Err(OutRefused::Failed) => Err(RunHalt::Write),
+        Err(OutRefused::Memory) => Err(RunHalt::Files(Halt::Memory)),
+    }
+}
+
+/// Runs `check`: reads the query and the mapping, and writes the canonical text of the query and a line end to `out`.
+///
+/// On `Ok` it is there whole. Else `out` got a front of it, nothing at all where the files are refused.
+pub(crate) fn check_query<'a, H: Shelf, K: Sink>(
+    alloc: Global,
+    query: &'a Name,
+    fields: &'a Name,
+    shelf: &mut H,
+    out: &mut K,
+) -> Result<(), RunHalt<'a>>
+    ensures done { OnOk result (PrintsAll query.now fields.now (H.files shelf.old)
+        (K.written out.old) (K.written out.new)) }
+    ensures prefix { OnErr result (PrintsSome query.now fields.now (H.files shelf.old)
+        (K.written out.old) (K.written out.new)) }
+    ensures untouched { IfErr result (λ halt. IsRefusal halt → out.new ≡ out.old) }
+    ensures cause { IfErr result (HasCause query.now fields.now (H.files shelf.old)) }
+    ensures faults { FaultsAs result (H.faults_of shelf.old) (H.faults_of shelf.new) }
+    ensures count { CountAs result (H.fault_count shelf.old) (H.fault_count shelf.new) }
+    ensures absences { AbsenceAs result (H.absent_count shelf.old) (H.absent_count shelf.new) }
+    ensures out { OutAs result (K.fault_count out.old) (K.fault_count out.new) }
+    ensures counts { (H.fault_count shelf.old ≤ H.fault_count shelf.new)
+        × (H.absent_count shelf.old ≤ H.absent_count shelf.new)
+        × (K.fault_count out.old ≤ K.fault_count out.new) }
+    ensures unfailing { IsUnfailing (H.fault_plan shelf.old)
+        → AreUnfailing (H.source_plans shelf.old) → IsUnfailing (K.fault_plan out.old)
+        → IfErr result (λ halt. ¬ IsFault halt) }
+    ensures kept { H.files shelf.new ≡ H.files shelf.old }
+    ensures disk_kept { (H.disk_history shelf.new ≡ H.disk_history shelf.old)
+        × (H.is_out shelf.new ≡ H.is_out shelf.old)
+        × (H.disk_fault_count shelf.new ≡ H.disk_fault_count shelf.old)
+        × (H.disk_plan shelf.new ≡ H.disk_plan shelf.old) }
+    ensures lent { IfSome (H.lent_count shelf.old) (λ n. H.lent_count shelf.new ≡ Some n) }
+{
+    match read_checked(alloc, query, fields, shelf) {
+        Ok(inputs) => write_query(alloc, inputs.checked.query(), out),
+        Err(halt) => Err(RunHalt::Files(halt)),
+    }
+}

@@ -1,0 +1,92 @@
+-- Which lanes of a run failed, as their sources come back.
+use native.Mathlib.Omega.{arith}
+use Rattle.std.proofs.Common.{◌≡◌, ℕ, ℤ, ◌+◌, inl, inr, List, [], ◌∷◌, Option, Some, refl, sym, ap, ◌∙◌, subst, length, map, suc, zero}
+use Rattle.std.specs.Prelude.{All, slice_get}
+use Rattle.std.specs.List.{AllZip}
+use Rattle.std.proofs.lemmas.List.Elements.{All-head, All-tail}
+use Rattle.std.proofs.lemmas.Option.{same_Some, none-some}
+use Rattle.eql_values.specs.Accepted.{Reads}
+use Rattle.eql_outside.specs.Outside.{Rose}
+use Rattle.eql_outside.specs.Plans.{FaultPlan}
+use Rattle.eql_lane.specs.Views.{LaneView}
+use Rattle.eql_search.specs.Answers.{BecameAt, RoseFaults, SteadyBut, StaysLane}
+use Rattle.eql_find.specs.Lanes.{AreOver, NoneFailed, OneFailed, lane_returned}
+use Rattle.eql_find.proofs.MakingLemmas.{rose_from_none}
+use Rattle.eql_find.proofs.PlanLemmas.{parts_of}
+
+-- lanes with no faults, over sources that were lent under these names
+pub record IsNamedLane {S L : Type 0} (lent_as : S → Option (List ℕ)) (name : List ℕ) (lane : LaneView S L) : Type 0 where
+  pub named : lent_as lane.source ≡ Some name
+  pub none : lane.state.faults ≡ 0
+
+abbrev pub AreNamed : {S L : Type 0} → (S → Option (List ℕ)) → List (List ℕ) → List (LaneView S L) → Type 0
+AreNamed lent_as [] [] = Unit {0}
+AreNamed lent_as [] (l ∷ ls) = ⊥
+AreNamed lent_as (n ∷ ns) [] = ⊥
+AreNamed lent_as (n ∷ ns) (l ∷ ls) = IsNamedLane lent_as n l × AreNamed lent_as ns ls
+
+pub named_over : {S L : Type 0} (left lent_as : S → Option (List ℕ)) (faults : S → ℕ) (plan : S → Option FaultPlan) (read_of : L → Reads)
+    (reads : Reads) (slack : Option ℤ) (shard : ℕ) (sources : List S) (lanes : List (LaneView S L)) (names : List (List ℕ))
+    → AreOver left lent_as faults plan read_of reads slack shard sources lanes
+    → map lent_as sources ≡ map (λ (n : List ℕ). Some n) names → All (λ source. faults source ≡ 0) sources → AreNamed lent_as names lanes
+named_over left lent_as faults plan read_of reads slack shard [] [] [] over is all = tt
+named_over left lent_as faults plan read_of reads slack shard [] [] (n ∷ ns) over is all = absurd (omega (arith, ap length is))
+named_over left lent_as faults plan read_of reads slack shard [] (l ∷ ls) names over is all = absurd over
+named_over left lent_as faults plan read_of reads slack shard (s ∷ ss) [] names over is all = absurd over
+named_over left lent_as faults plan read_of reads slack shard (s ∷ ss) (l ∷ ls) [] over is all = absurd (omega (arith, ap length is))
+named_over left lent_as faults plan read_of reads slack shard (s ∷ ss) (l ∷ ls) (n ∷ ns) over is all =
+    let parts = parts_of (lent_as s) (Some n) (map lent_as ss) (map (λ (m : List ℕ). Some m) ns) is in (
+      record {
+        named = over.0.named ∙ parts.0;
+        none = over.0.faults_are ∙ All-head (λ source. faults source ≡ 0) s ss all;
+      },
+      named_over left lent_as faults plan read_of reads slack (shard + 1) ss ls ns over.1 parts.1
+          (All-tail (λ source. faults source ≡ 0) s ss all),
+    )
+
+-- what holds behind the first lane
+steady_behind : {S L : Type 0} (Told : ℕ → Type 0) (old new : LaneView S L) (olds news : List (LaneView S L))
+    → SteadyBut Told (old ∷ olds) (new ∷ news) → SteadyBut (λ shard. Told (suc shard)) olds news
+steady_behind Told old new olds news steady = λ shard o n none was is. steady (suc shard) o n none was is
+
+module _ {S L : Type 0} (left lent_as : S → Option (List ℕ)) (read_of : L → Reads) where
+  pub none_failed_lanes : (names : List (List ℕ)) (olds news : List (LaneView S L)) (Told : ℕ → Type 0)
+      → ((shard : ℕ) → ¬ Told shard) → AreNamed lent_as names olds
+      → AllZip (StaysLane left lent_as read_of) olds news → SteadyBut Told olds news → NoneFailed (map (lane_returned lent_as) news)
+  none_failed_lanes names [] [] Told none named stays steady = tt
+  none_failed_lanes names [] (n ∷ ns) Told none named stays steady = absurd stays
+  none_failed_lanes names (o ∷ os) [] Told none named stays steady = absurd stays
+  none_failed_lanes [] (o ∷ os) (n ∷ ns) Told none named stays steady = absurd named
+  none_failed_lanes (m ∷ ms) (o ∷ os) (n ∷ ns) Told none named stays steady = (
+    steady zero o n (none zero) refl refl ∙ named.0.none,
+    none_failed_lanes ms os ns (λ shard. Told (suc shard)) (λ shard. none (suc shard)) named.1 stays.1
+        (steady_behind Told o n os ns steady),
+  )
+
+  pub one_failed_lane : (shard : ℕ) (name : List ℕ) (names : List (List ℕ)) (olds news : List (LaneView S L))
+      → slice_get names shard ≡ Some name → AreNamed lent_as names olds → AllZip (StaysLane left lent_as read_of) olds news
+      → BecameAt shard olds news RoseFaults → SteadyBut (λ s. s ≡ shard) olds news
+      → OneFailed name (map (lane_returned lent_as) news)
+  one_failed_lane shard name [] olds news is named stays became steady = absurd (none-some name is)
+  one_failed_lane shard name (m ∷ ms) [] news is named stays became steady = absurd named
+  one_failed_lane shard name (m ∷ ms) (o ∷ os) [] is named stays became steady = absurd stays
+  one_failed_lane zero name (m ∷ ms) (o ∷ os) (n ∷ ns) is named stays became steady =
+      let old = same_Some o became.old became.was in
+      let new = same_Some n became.new became.is in
+      inl (
+        record {
+          often = rose_from_none o.state.faults n.state.faults named.0.none
+              (subst (λ (x : LaneView S L). Rose x.state.faults n.state.faults) (sym old)
+              (subst (λ (y : LaneView S L). Rose became.old.state.faults y.state.faults) (sym new) became.became));
+          named = stays.0.same.named ∙ named.0.named ∙ is;
+        },
+        none_failed_lanes ms os ns (λ s. suc s ≡ zero) (λ s e. omega (arith, e)) named.1 stays.1
+            (steady_behind (λ s. s ≡ zero) o n os ns steady),
+      )
+  one_failed_lane (suc shard) name (m ∷ ms) (o ∷ os) (n ∷ ns) is named stays became steady =
+      inr (
+        steady zero o n (λ e. omega (arith, e)) refl refl ∙ named.0.none,
+        one_failed_lane shard name ms os ns is named.1 stays.1
+            (record { old = became.old; new = became.new; was = became.was; is = became.is; became = became.became })
+            (λ s a b none was new. steady (suc s) a b (λ e. none (omega (arith, e))) was new),
+      )

@@ -1,0 +1,13 @@
+pub mod BackLemmas
+pub mod ShelfLemmas
+pub mod MakingLemmas
+pub mod BookLemmas
+pub mod PlainText
+pub mod ReportLemmas
+pub mod StopLemmas
+pub mod SearchLemmas
+pub mod RunLemmas
+pub mod PlanLemmas
+pub mod FailLemmas
+pub mod CauseLemmas
+pub mod ShardLemmas

@@ -1,0 +1,34 @@
+use native.Mathlib.Omega.{arith}
+use Rattle.std.proofs.Common.{◌≡◌, ◌+◌, ◌∙◌, [], ◌∷◌, ap, length, length-append}
+use Rattle.eql_find.specs.Lanes.{returned}
+use Rattle.eql_find.proofs.BackLemmas.{one_gone, one_back}
+use Rattle.eql_find.proofs.ShelfLemmas.{keeps_later}
+use Rattle.eql_find.proofs.lanes.give_sources.Goals as goal
+
+pub back-preserved : goal.back-preserved
+back-preserved g c =
+    let source = c.take_last-source.result in
+    let less = c.take_last-source.new.self.items in
+    let items : length c.back.sources.items ≡ length less + 1 = ap length c.take_last-source.ensures.items ∙ length-append less (source ∷ []) in
+    record {
+      gone = one_gone (returned g.H.Src.Source.lent_as g.H.Src.Source.fault_count)
+          (record { earlier = c.faults_are_counted_by_name.ensures.earlier; later = c.faults_are_counted_by_name.ensures.later })
+          _ _ less source _ _ _ _ _ _ c.take_last-source.ensures.items c.back.invariant.gone (record {
+            raised = c.give_source.ensures.raised;
+            raised_named = c.give_source.ensures.raised_named;
+            same = c.give_source.ensures.same;
+            same_named = c.give_source.ensures.same_named;
+          });
+      counts = omega (arith, c.back.invariant.counts, c.give_source.ensures.counts.0);
+      absences = c.give_source.ensures.counts.1 ∙ c.back.invariant.absences;
+      kept = keeps_later c.back.invariant.kept (record {
+        files_are = c.give_source.ensures.kept;
+        plans_are = c.give_source.ensures.plans_kept;
+        history_is = c.give_source.ensures.disk_kept.0;
+        out_is = c.give_source.ensures.disk_kept.1;
+        faults_are = c.give_source.ensures.disk_kept.2;
+        plan_is = c.give_source.ensures.disk_kept.3;
+      });
+      few = omega (arith, c.back.invariant.few, items);
+      lent = one_back _ _ _ _ _ _ items c.back.invariant.few c.back.invariant.lent c.give_source.ensures.returned;
+    }

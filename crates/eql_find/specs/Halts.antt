@@ -1,0 +1,94 @@
+-- Why a run stops, and what its counts of faults say then.
+use Rattle.std.specs.Prelude.{◌≡◌, ℕ, List, Result, Ok, Err}
+use Rattle.eql_outside.specs.Outside.{Rose}
+use Rattle.eql_outside.specs.Faults.{SameFaults}
+use Rattle.eql_outside.specs.declared.refused.OutRefused.TheVariants as refused_by
+use Rattle.eql_runs.specs.Runs.{many_lines, many_bytes}
+use Rattle.eql_runs.specs.Runs as runs
+use Rattle.eql_inputs.specs.declared.halt.Halt.TheVariants as input
+use Rattle.eql_inputs.specs.Halts.{status_of}
+use Rattle.eql_inputs.specs.Halts as inputs
+use Rattle.eql_find.specs.declared.halt.RunHalt.{RunHalt}
+use Rattle.eql_find.specs.declared.halt.RunHalt.TheVariants as run
+use Rattle.eql_find.specs.declared.halt.ShardLimit.{ShardLimit}
+use Rattle.eql_find.specs.declared.halt.ShardLimit.TheVariants as limit
+
+-- the status of a run that stops so
+abbrev pub run_status_of : RunHalt → ℕ
+run_status_of (run.Files h) = status_of h
+run_status_of run.Write = 5
+run_status_of (run.Limit l) = 9
+run_status_of (run.Report refused_by.Failed) = 5
+run_status_of (run.Report refused_by.Memory) = 8
+
+-- the limit, in the words of runs
+abbrev pub limit_of : ShardLimit → runs.ShardLimit
+limit_of (limit.Lines shard) = many_lines shard
+limit_of (limit.Bytes shard) = many_bytes shard
+
+-- the files are refused
+abbrev pub IsRefusal : RunHalt → Type 0
+IsRefusal (run.Files (input.Refused r)) = Unit {0}
+IsRefusal (run.Files (input.Read name)) = ⊥
+IsRefusal (run.Files input.Memory) = ⊥
+IsRefusal run.Write = ⊥
+IsRefusal (run.Limit l) = ⊥
+IsRefusal (run.Report r) = ⊥
+
+-- nothing was written of the report
+abbrev pub TellsNothing : RunHalt → Type 0
+TellsNothing (run.Files h) = Unit {0}
+TellsNothing run.Write = Unit {0}
+TellsNothing (run.Limit l) = Unit {0}
+TellsNothing (run.Report r) = ⊥
+
+-- a file, the output or the error output failed
+abbrev pub IsFault : RunHalt → Type 0
+IsFault (run.Files (input.Refused r)) = ⊥
+IsFault (run.Files (input.Read name)) = Unit {0}
+IsFault (run.Files input.Memory) = ⊥
+IsFault run.Write = Unit {0}
+IsFault (run.Limit l) = ⊥
+IsFault (run.Report refused_by.Failed) = Unit {0}
+IsFault (run.Report refused_by.Memory) = ⊥
+
+-- the faults of each name: those of a file that is told as failed rose, and no other's
+abbrev pub FaultsAs : {A : Type 0} → Result A RunHalt → (before now : List ℕ → ℕ) → Type 0
+FaultsAs (Ok done) before now = SameFaults before now
+FaultsAs (Err (run.Files h)) before now = inputs.FaultsAs h before now
+FaultsAs (Err run.Write) before now = SameFaults before now
+FaultsAs (Err (run.Limit l)) before now = SameFaults before now
+FaultsAs (Err (run.Report r)) before now = SameFaults before now
+
+-- the count of all read faults rose where one is told, and nowhere else
+abbrev pub CountAs : {A : Type 0} → Result A RunHalt → (before now : ℕ) → Type 0
+CountAs (Ok done) before now = now ≡ before
+CountAs (Err (run.Files h)) before now = inputs.CountAs h before now
+CountAs (Err run.Write) before now = now ≡ before
+CountAs (Err (run.Limit l)) before now = now ≡ before
+CountAs (Err (run.Report r)) before now = now ≡ before
+
+-- the count of absences rose where a file isn't there, and nowhere else
+abbrev pub AbsenceAs : {A : Type 0} → Result A RunHalt → (before now : ℕ) → Type 0
+AbsenceAs (Ok done) before now = now ≡ before
+AbsenceAs (Err (run.Files h)) before now = inputs.AbsenceAs h before now
+AbsenceAs (Err run.Write) before now = now ≡ before
+AbsenceAs (Err (run.Limit l)) before now = now ≡ before
+AbsenceAs (Err (run.Report r)) before now = now ≡ before
+
+-- the count of the output's faults rose where a write fault is told, and nowhere else
+abbrev pub OutAs : {A : Type 0} → Result A RunHalt → (before now : ℕ) → Type 0
+OutAs (Ok done) before now = now ≡ before
+OutAs (Err (run.Files h)) before now = now ≡ before
+OutAs (Err run.Write) before now = Rose before now
+OutAs (Err (run.Limit l)) before now = now ≡ before
+OutAs (Err (run.Report r)) before now = now ≡ before
+
+-- the count of the error output's faults rose where it refused the report, and nowhere else
+abbrev pub ErrAs : {A : Type 0} → Result A RunHalt → (before now : ℕ) → Type 0
+ErrAs (Ok done) before now = now ≡ before
+ErrAs (Err (run.Files h)) before now = now ≡ before
+ErrAs (Err run.Write) before now = now ≡ before
+ErrAs (Err (run.Limit l)) before now = now ≡ before
+ErrAs (Err (run.Report refused_by.Failed)) before now = Rose before now
+ErrAs (Err (run.Report refused_by.Memory)) before now = now ≡ before

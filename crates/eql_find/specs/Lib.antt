@@ -1,0 +1,6 @@
+pub mod Halts
+pub mod Lanes
+pub mod Reports
+pub mod Stops
+pub mod Searching
+pub mod Finding

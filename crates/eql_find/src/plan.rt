@@ -1,0 +1,56 @@
+//! The plan of a search.
+ghost use Rattle.std.specs.Prelude.{◌≡◌, ◌≤◌, IfErr, IfOk, MatchResult};
+ghost use Rattle.eql_outside.specs.Faults.{SameFaults};
+ghost use Rattle.eql_inputs.specs.Halts.{AbsenceAs, CountAs, FaultsAs, IsNoFault};
+ghost use Rattle.eql_inputs.specs.Shelves.{KeepsShelf, LendsAsMany, NeverFails};
+ghost use Rattle.eql_inputs.specs.Steps.{CheckCause};
+ghost use Rattle.eql_find.specs.Finding.{IsPlanOf};
+
+use eql_check::Checked;
+use eql_inputs::{Halt, read_checked};
+use eql_outside::Shelf;
+use eql_stages::Plan;
+use eql_values::Memory;
+use eql_words::Find;
+use std::alloc::Global;
+
+/// Reads the query and the mapping of a search, and plans it.
+pub(crate) fn read_plan<'a, H: Shelf>(
+    alloc: Global,
+    find: &'a Find,
+    shelf: &mut H,
+) -> Result<Plan, Halt<'a>>
+    ensures plan { IfOk result (IsPlanOf find.now (H.files shelf.old)) }
+    ensures cause { IfErr result (CheckCause find.now.query find.now.fields (H.files shelf.old)) }
+    ensures faults { MatchResult result
+        (λ _. SameFaults (H.faults_of shelf.old) (H.faults_of shelf.new))
+        (λ halt. FaultsAs halt (H.faults_of shelf.old) (H.faults_of shelf.new)) }
+    ensures count { MatchResult result
+        (λ _. H.fault_count shelf.new ≡ H.fault_count shelf.old)
+        (λ halt. CountAs halt (H.fault_count shelf.old) (H.fault_count shelf.new)) }
+    ensures absences { MatchResult result
+        (λ _. H.absent_count shelf.new ≡ H.absent_count shelf.old)
+        (λ halt. AbsenceAs halt (H.absent_count shelf.old) (H.absent_count shelf.new)) }
+    ensures counts { (H.fault_count shelf.old ≤ H.fault_count shelf.new)
+        × (H.absent_count shelf.old ≤ H.absent_count shelf.new) }
+    ensures kept { KeepsShelf H.files H.source_plans H.disk_history H.is_out H.disk_fault_count
+        H.disk_plan shelf.old shelf.new }
+    ensures lent { LendsAsMany (H.lent_count shelf.old) (H.lent_count shelf.new) }
+    ensures unfailing { NeverFails (H.fault_plan shelf.old) (H.source_plans shelf.old)
+        → IfErr result IsNoFault
+        × NeverFails (H.fault_plan shelf.new) (H.source_plans shelf.new) }
+{
+    let inputs = read_checked(alloc, &find.query, &find.fields, shelf)?;
+    match plan_of(alloc, inputs.checked, find) {
+        Ok(plan) => Ok(plan),
+        Err(_) => Err(Halt::Memory),
+    }
+}
+
+/// Plans a checked query.
+fn plan_of(alloc: Global, checked: Checked, find: &Find) -> Result<Plan, Memory>
+    ensures { IfOk result (λ plan. plan ≡ record { checked = checked; tie = find.now.tie }) }
+{
+    let tie = find.tie.clone()?;
+    Plan::make(alloc, checked, tie)
+}

@@ -1,0 +1,304 @@
+//! Objects that fail: each call of a run in turn, and which of several causes is told. No fault is passed over.
+use crate::row::{Failing, Object, Row, ended, found, printed, refused, usage};
+use crate::run::{check, compare_run, run};
+use crate::sequences::{ELEVEN, REFERENCE, REFERENCE_LISTS};
+use crate::text::Piece::{Bytes, Each, Events, Times};
+use std::alloc::Global;
+use std::process::Abort;
+use std::sync::Wait;
+use std::test::Fail;
+use std::thread::Threads;
+
+/// The first take of the query file.
+const QUERY: Failing = (Object::Query, 1);
+
+/// The first take of the fields file.
+const FIELDS: Failing = (Object::Fields, 1);
+
+/// The first take of the first shard.
+const SHARD: Failing = (Object::Shard(0), 1);
+
+/// The first write of the output.
+const OUT: Failing = (Object::Out, 1);
+
+/// The first write of the error output.
+const ERR: Failing = (Object::Err, 1);
+
+/// A search that ends with a read fault of this file.
+fn unread(shows: &'static str, line: &'static str, fails: &'static [Failing]) -> Row {
+    ended(shows, 4, line).fails(fails)
+}
+
+/// Files that can't be read.
+fn reads() -> [Row; 15] {
+    [
+        unread("a query", "read fault: q", &[QUERY]).fields(&[Bytes(b"x")]),
+        unread("a mapping", "read fault: f", &[FIELDS]).by("any where x == 1"),
+        unread("a shard, and nothing is listed", "read fault: s0", &[SHARD])
+            .by(REFERENCE)
+            .over(ELEVEN)
+            .with("--hands 0"),
+        unread("an empty query", "read fault: q", &[QUERY]).by(""),
+        unread("an empty shard", "read fault: s0", &[SHARD]),
+        unread("a query to check", "read fault: q", &[QUERY]).words("check --query q --fields f"),
+        unread("a mapping to check with", "read fault: f", &[FIELDS]).words(
+            "check --query q --fields f",
+        ),
+        unread(
+            "the second of three shards",
+            "read fault: s1",
+            &[(Object::Shard(1), 1)],
+        )
+        .over(&[Events("1 a")])
+        .and(&[&[Events("2 a")], &[Events("3 a")]])
+        .with("--hands 0")
+        .lists(&["1 [] 0:1", "2 [] 1:1", "3 [] 2:1"]),
+        unread(
+            "the last of three shards at its end",
+            "read fault: s2",
+            &[(Object::Shard(2), 2)],
+        )
+        .and(&[&[], &[Events("3 a")]])
+        .in_pieces(1000)
+        .with("--hands 0")
+        .lists(&["1 [] 2:1"]),
+        unread(
+            "two shards",
+            "read fault: s0",
+            &[SHARD, (Object::Shard(1), 1)],
+        )
+        .and(&[&[]])
+        .with("--hands 0"),
+        unread(
+            "one of the shards that are one file",
+            "read fault: s0",
+            &[(Object::Shard(0), 2)],
+        )
+        .over(&[Events("1 a")])
+        .in_pieces(1000)
+        .words("find --query q --fields f s0 s0")
+        .lists(&["1 [] 0:1", "2 [] 1:1"]),
+        unread(
+            "a shard behind all that is let through",
+            "read fault: s0",
+            &[(Object::Shard(0), 2)],
+        )
+        .by("any where true | head 1")
+        .over(&[Events("1 a, 2 a")])
+        .in_pieces(1000)
+        .lists(&["1 [] 0:1"]),
+        unread(
+            "a shard of which nothing is let through",
+            "read fault: s0",
+            &[(Object::Shard(0), 2)],
+        )
+        .by("any where true | head 0")
+        .over(&[Events("1 a, 2 a")])
+        .in_pieces(1000),
+        unread(
+            "a shard behind a line that is too long",
+            "read fault: s0",
+            &[(Object::Shard(0), 18)],
+        )
+        .over(&[Times("x", 1_048_577)])
+        .in_pieces(65_536),
+        unread(
+            "a shard behind its blank lines",
+            "read fault: s0",
+            &[(Object::Shard(0), 2)],
+        )
+        .over(&[Bytes(b"\n \n\r\n")]),
+    ]
+}
+
+/// Faults of the shelf, each time that it is asked for a file.
+fn shelf_calls() -> [Row; 8] {
+    [
+        unread("the query", "read fault: q", &[(Object::Shelf, 1)]),
+        unread("the mapping", "read fault: f", &[(Object::Shelf, 2)]),
+        unread("the shard", "read fault: s0", &[(Object::Shelf, 3)]),
+        found("no further call", REFERENCE, ELEVEN, REFERENCE_LISTS)
+            .with("--batch 2 --hands 0")
+            .in_pieces(100)
+            .fails(&[(Object::Shelf, 4)]),
+        unread("the second shard", "read fault: s1", &[(Object::Shelf, 4)])
+            .over(&[Events("1 a")])
+            .and(&[&[Events("2 a")], &[Events("3 a")]])
+            .lists(&["1 [] 0:1", "2 [] 1:1", "3 [] 2:1"]),
+        unread(
+            "a name that no file has",
+            "read fault: p",
+            &[(Object::Shelf, 1)],
+        )
+        .words("find --query p --fields f s0"),
+        unread(
+            "the mapping of a check",
+            "read fault: f",
+            &[(Object::Shelf, 2)],
+        )
+        .words("check --query q --fields f"),
+        printed(
+            "no further call of a check",
+            "any where true",
+            &["any where true"],
+        )
+        .fails(&[(Object::Shelf, 3)]),
+    ]
+}
+
+/// Faults that a run doesn't come to, since it stops before.
+fn unreached() -> [Row; 8] {
+    [
+        usage("words", "find").fails(&[(Object::Shelf, 1), QUERY]),
+        ended("a part that isn't built", 3, "unbuilt: made")
+            .words("made 5")
+            .fails(&[(Object::Shelf, 1)]),
+        refused("the grammar", "x", "parse: Syntax at 1").fails(&[FIELDS, SHARD]),
+        refused("the grammar of a query to check", "x", "parse: Syntax at 1")
+            .words("check --query q --fields f")
+            .fails(&[(Object::Shelf, 2)]),
+        refused("the check", "any where x == 1", "check: UnknownField x").fails(&[
+            (Object::Shelf, 3),
+            SHARD,
+        ]),
+        ended("a missing shard", 1, "no file t")
+            .words("find --query q --fields f s0 t")
+            .fails(&[SHARD]),
+        // Of a query without end 65,537 bytes are taken, and of a mapping 4,194,305.
+        refused("a query that is too long", "", "lex: TooLong")
+            .behind(&[Times("x", 70_000)])
+            .in_pieces(65_536)
+            .fails(&[(Object::Query, 3)]),
+        ended("a mapping that is too long", 3, "mapping: MapLong")
+            .fields(&[Times(" ", 4_300_000)])
+            .in_pieces(65_536)
+            .fails(&[(Object::Fields, 66)]),
+    ]
+}
+
+/// A search that ends with a write fault.
+fn unwritten(shows: &'static str, fails: &'static [Failing]) -> Row {
+    ended(shows, 5, "write fault").fails(fails)
+}
+
+/// Outputs that refuse a write.
+fn writes() -> [Row; 6] {
+    [
+        unwritten("the reference's example", &[OUT])
+            .by(REFERENCE)
+            .over(ELEVEN)
+            .lists(REFERENCE_LISTS),
+        unwritten("what a pipe holds back until the end", &[OUT])
+            .by("any where true | tail 1")
+            .over(&[Events("1 a, 2 a")])
+            .lists(&["2 [] 0:2"]),
+        unwritten("the second piece of a long listing", &[(Object::Out, 2)])
+            .over(&[Each("{\"@timestamp\":#}\n", 7000)])
+            .in_pieces(1000)
+            .lists_text(&[Each("# [] 0:#\n", 7000)]),
+        unwritten("the canonical text", &[OUT])
+            .words("check --query q --fields f")
+            .lists(&["any where true"]),
+        unwritten("both outputs", &[OUT, ERR]).over(&[Events("1 a")]),
+        found(
+            "an empty listing isn't written",
+            "any where false",
+            &[Events("1 a")],
+            &[],
+        )
+        .fails(&[OUT]),
+    ]
+}
+
+/// Faults that can't be told leave the status.
+fn untold() -> [Row; 8] {
+    [
+        usage("words", "find").fails(&[ERR]),
+        ended("a part that isn't built", 3, "unbuilt: made")
+            .words("made 5")
+            .fails(&[ERR]),
+        ended("a missing file", 1, "no file p")
+            .words("find --query p --fields f s0")
+            .fails(&[ERR]),
+        refused("a query", "x", "parse: Syntax at 1").fails(&[ERR]),
+        unread("a query that can't be read", "read fault: q", &[QUERY, ERR]),
+        unread(
+            "a shard that can't be read",
+            "read fault: s0",
+            &[SHARD, ERR],
+        ),
+        printed(
+            "a check tells nothing",
+            "any where true",
+            &["any where true"],
+        )
+        .fails(&[ERR]),
+        Row {
+            status: 5,
+            ..found(
+                "a report",
+                "any where true",
+                &[Events("1 a")],
+                &["1 [] 0:1"],
+            )
+            .fails(&[ERR])
+        },
+    ]
+}
+
+#[test]
+fn faults_are_told(rt: HostRuntime) -> Result<(), Fail> {
+    check(&rt, rt.alloc(), &reads())?;
+    check(&rt, rt.alloc(), &shelf_calls())?;
+    check(&rt, rt.alloc(), &unreached())?;
+    check(&rt, rt.alloc(), &writes())?;
+    check(&rt, rt.alloc(), &untold())
+}
+
+/// The search in which each call fails in turn.
+fn whole() -> Row {
+    found("each call in turn", REFERENCE, ELEVEN, REFERENCE_LISTS)
+        .with("--batch 2 --hands 0")
+        .in_pieces(100)
+}
+
+/// Lets one call of an object fail after another, until a run is done. Each run before has to end as the second row says,
+/// and there have to be at least so many.
+fn each_fails<R: Threads + Wait + Sync + Abort>(
+    rt: &R,
+    alloc: Global,
+    object: Object,
+    faulty: &Row,
+    least: u64,
+) -> Result<(), Fail> {
+    for call in 1..1000u64 {
+        let fails = [(object, call)];
+        let ran = run(rt, alloc, faulty, &fails)?;
+        if ran.status == 0 {
+            assert!(rt; least < call, "{object:?} was called {call} times");
+            return compare_run(rt, alloc, &whole(), &ran, &[]);
+        }
+        compare_run(rt, alloc, faulty, &ran, &fails)?;
+    }
+    Err(Fail::from("no run was done"))
+}
+
+/// The 139 bytes of the query come in two takes, the 226 of the mapping in three, and the 1,115 of the shard in twelve. One more
+/// sees the end.
+#[test]
+fn each_call_fails_in_turn(rt: HostRuntime) -> Result<(), Fail> {
+    let alloc = rt.alloc();
+    let query = whole().ends(4, "read fault: q");
+    each_fails(&rt, alloc, Object::Query, &query, 3)?;
+    let fields = whole().ends(4, "read fault: f");
+    each_fails(&rt, alloc, Object::Fields, &fields, 4)?;
+    let shard = whole().ends(4, "read fault: s0");
+    each_fails(&rt, alloc, Object::Shard(0), &shard, 13)?;
+    let out = whole().ends(5, "write fault");
+    each_fails(&rt, alloc, Object::Out, &out, 1)?;
+    let err = Row {
+        status: 5,
+        ..whole()
+    };
+    each_fails(&rt, alloc, Object::Err, &err, 1)
+}

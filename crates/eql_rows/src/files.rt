@@ -1,0 +1,42 @@
+//! Searches in files of the system.
+use crate::run::words_in;
+use eql_cli::{NoGate, eql_main};
+use eql_outside::{FileShelf, MemSink};
+use std::test::Fail;
+
+/// Words, with the status and the line of each run. A folder opens, and fails at its first read. A path through a file is no
+/// file.
+const RUNS: [(&str, u8, &str); 4] = [
+    ("find --query / --fields f s", 4, "read fault: /\n"),
+    (
+        "find --query /dev/null/q --fields f s",
+        1,
+        "no file /dev/null/q\n",
+    ),
+    (
+        "find --query /dev/null --fields f s",
+        3,
+        "parse: Syntax at 0\n",
+    ),
+    (
+        "check --query /dev/no-such-file --fields f",
+        1,
+        "no file /dev/no-such-file\n",
+    ),
+];
+
+#[test]
+fn files_of_the_system_are_opened(rt: HostRuntime) -> Result<(), Fail> {
+    let alloc = rt.alloc();
+    for (line, status, told) in &RUNS {
+        let mut shelf = FileShelf::new(rt.clone()?);
+        let out = MemSink::new(alloc, Vec::new(alloc));
+        let err = MemSink::new(alloc, Vec::new(alloc));
+        let words = words_in(alloc, line)?;
+        let ran = eql_main(&rt, alloc, &words, &mut shelf, out, err, &NoGate);
+        assert_eq!(rt; ran.status, *status, "{line}");
+        assert_eq!(rt; ran.err.bytes().as_slice(), told.as_bytes(), "{line}");
+        assert!(rt; ran.out.bytes().is_empty(), "{line}");
+    }
+    Ok(())
+}
