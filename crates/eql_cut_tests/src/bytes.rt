@@ -103,17 +103,23 @@ pub fn push_hex(bytes: &mut Vec<u8>, hex: &str) -> Result<(), AllocError> {
     Ok(())
 }
 
-/// The text of the cut in a format.
-pub fn text_in(alloc: Global, format: u8) -> Result<Vec<u8>, AllocError> {
+/// The text of a cut in a format: of its parts those that the format has, each with the first
+/// format that does.
+pub fn text_of(alloc: Global, parts: &[(u8, &str)], format: u8) -> Result<Vec<u8>, AllocError> {
     let mut bytes = Vec::new(alloc);
     push_hex(&mut bytes, "45514c43")?;
     bytes.push(format)?;
-    for (from, hex) in PARTS {
-        if from <= format {
+    for (from, hex) in parts {
+        if *from <= format {
             push_hex(&mut bytes, hex)?;
         }
     }
     Ok(bytes)
+}
+
+/// The text of the cut in a format.
+pub fn text_in(alloc: Global, format: u8) -> Result<Vec<u8>, AllocError> {
+    text_of(alloc, &PARTS, format)
 }
 
 /// How many bytes a text in hexadecimal has.

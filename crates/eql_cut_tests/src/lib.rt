@@ -7,6 +7,8 @@ mod bytes;
 #[cfg(test)]
 mod fitting;
 #[cfg(test)]
+mod lifting;
+#[cfg(test)]
 mod places;
 #[cfg(test)]
 mod texts;

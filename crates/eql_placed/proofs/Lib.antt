@@ -1,0 +1,5 @@
+pub mod LinePlaces
+pub mod CutEvents
+pub mod Setting
+pub mod Noted
+pub mod HavePlaces

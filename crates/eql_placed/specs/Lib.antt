@@ -1,0 +1,3 @@
+pub mod Placed
+pub mod PlacedLaws
+pub mod PlacedExamples

@@ -1,0 +1,6 @@
+//! Laws of the places that a cut of texts has, each the contract of a function that does nothing.
+#![tactic(auto)]
+
+mod laws;
+
+pub use laws::{cuts_have_places, named_lines_were_read, noted_places_serve, places_alone_are_set};
