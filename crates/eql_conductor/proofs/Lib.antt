@@ -1,0 +1,11 @@
+pub mod Resting
+pub mod Onward
+pub mod Lows
+pub mod MarkOrder
+pub mod Looks
+pub mod Takes
+pub mod Owned
+pub mod Parted
+pub mod Merged
+pub mod Stays
+pub mod Broken

@@ -1,0 +1,9 @@
+use Rattle.eql_conductor.specs.Benches.{Rests}
+use Rattle.eql_conductor.specs.Going.{Went}
+use Rattle.eql_conductor.proofs.feeding.feed_all.Given as goal
+
+abbrev pub invariant-loop-s : goal.invariant-loop-s
+invariant-loop-s g l = record {
+  rests : Rests (g.B.Bench.known l.fn.bench) (g.B.Bench.known l.bench);
+  went : Went (g.B.Bench.known l.fn.bench) (g.B.Bench.known l.bench);
+}

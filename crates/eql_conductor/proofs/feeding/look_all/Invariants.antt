@@ -1,0 +1,11 @@
+use Rattle.eql_conductor.specs.Benches.{Rests}
+use Rattle.eql_conductor.specs.Going.{Went}
+use Rattle.eql_conductor.specs.LaneRounds.{SafeTo}
+use Rattle.eql_conductor.proofs.feeding.look_all.Given as goal
+
+abbrev pub invariant-loop-s : goal.invariant-loop-s
+invariant-loop-s g l = record {
+  rests : Rests (g.B.Bench.known l.fn.bench) (g.B.Bench.known l.bench);
+  safe : SafeTo l.s l.mark (g.B.Bench.known l.bench);
+  went : Went (g.B.Bench.known l.fn.bench) (g.B.Bench.known l.bench);
+}

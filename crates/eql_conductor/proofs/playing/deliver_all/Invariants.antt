@@ -1,0 +1,15 @@
+use Rattle.std.specs.Prelude.{List}
+use Rattle.eql_values.specs.declared.found.Holder.{Holder}
+use Rattle.eql_parts.specs.PartSteps.{Rules}
+use Rattle.eql_conductor.specs.Benches.{LanesRest, Same}
+use Rattle.eql_conductor.specs.Going.{Went}
+use Rattle.eql_conductor.specs.PartRounds.{Delivering, Resting}
+use Rattle.eql_conductor.proofs.playing.deliver_all.Given as goal
+
+abbrev pub invariant-loop-p : goal.invariant-loop-p
+invariant-loop-p g l = record {
+  parts : (rules : Rules) (all : List Holder) → Resting rules all l.last (g.B.Bench.known l.fn.bench) → Delivering rules all l.items l.last l.mark l.p (g.B.Bench.known l.bench);
+  same : Same (g.B.Bench.known l.fn.bench) (g.B.Bench.known l.bench);
+  lanes : LanesRest (g.B.Bench.known l.fn.bench) (g.B.Bench.known l.bench);
+  went : Went (g.B.Bench.known l.fn.bench) (g.B.Bench.known l.bench);
+}

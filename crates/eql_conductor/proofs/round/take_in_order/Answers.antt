@@ -1,0 +1,20 @@
+use Rattle.std.proofs.Common.{None, Some}
+use Rattle.eql_conductor.proofs.Merged.{all_apart, all_ascend, between_is, can_deliver}
+use Rattle.eql_conductor.proofs.round.take_in_order.Goals as goal
+
+pub merge-requires-clause-ascend : goal.merge-requires-clause-ascend
+merge-requires-clause-ascend g c = all_ascend None c.args.last c.args.mark (g.B.Bench.known c.args.bench.now) c.in_ok-lists.lists (c.in_ok-lists.ensures.hands None c.requires.lanes)
+
+pub merge-requires-clause-apart : goal.merge-requires-clause-apart
+merge-requires-clause-apart g c =
+    all_apart None c.args.last c.args.mark (g.B.Bench.known c.args.bench.now) c.in_ok-lists.lists c.requires.lanes.are (c.in_ok-lists.ensures.hands None c.requires.lanes)
+
+pub returns-in-Ok-clause-can : goal.returns-in-Ok-clause-can
+returns-in-Ok-clause-can g c =
+    can_deliver None c.args.last c.args.mark (g.B.Bench.known c.args.bench.now) c.in_ok-lists.lists c.in-Ok.items c.requires.later c.in-Ok.ensures.sorted c.in-Ok.ensures.ascends
+    (c.in_ok-lists.ensures.hands None c.requires.lanes)
+
+pub returns-in-Ok-clause-told : goal.returns-in-Ok-clause-told
+returns-in-Ok-clause-told g c =
+    λ reads slack texts of. between_is reads slack c.args.last c.args.mark (g.B.Bench.known c.args.bench.now) c.requires.lanes.are texts c.in_ok-lists.lists c.in-Ok.items of.read
+    (c.in_ok-lists.ensures.hands (Some texts) of.lanes) c.in-Ok.ensures.sorted

@@ -1,0 +1,7 @@
+use Rattle.std.specs.Prelude.{◌≡◌, ◌==◌, filter, take}
+use Rattle.eql_values.specs.declared.item.Route.{Route}
+use Rattle.eql_parts.specs.Spreading.{part_number}
+use Rattle.eql_conductor.proofs.routing.own_routes.Given as goal
+
+abbrev pub invariant-loop-route : goal.invariant-loop-route
+invariant-loop-route l = l.own.items ≡ filter (λ (r : Route). part_number r.key == l.p) (take l.route-index l.routes.items)

@@ -1,0 +1,15 @@
+use Rattle.std.specs.Prelude.{◌≡◌, ℕ, List, Option, length}
+use Rattle.eql_conductor.specs.Benches.{PartsRest}
+use Rattle.eql_conductor.specs.Going.{LanesGo, Went}
+use Rattle.eql_conductor.specs.LaneRounds.{LanesAt, TookTo}
+use Rattle.eql_conductor.proofs.taking.take_all.Given as goal
+
+abbrev pub invariant-loop-s : goal.invariant-loop-s
+invariant-loop-s g l = record {
+  took : (texts : Option (List (List ℕ))) → LanesAt texts l.last (g.B.Bench.known l.fn.bench)
+      → TookTo texts l.s l.last l.mark (g.B.Bench.known l.fn.bench) (g.B.Bench.known l.bench) l.lists.items;
+  count : length l.lists.items ≡ l.s;
+  goes : LanesGo (g.B.Bench.known l.fn.bench) (g.B.Bench.known l.bench);
+  parts : PartsRest (g.B.Bench.known l.fn.bench) (g.B.Bench.known l.bench);
+  went : Went (g.B.Bench.known l.fn.bench) (g.B.Bench.known l.bench);
+}

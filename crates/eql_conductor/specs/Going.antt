@@ -1,0 +1,49 @@
+-- How a bench goes on over several calls of the conductor, and why it stops.
+use Rattle.std.specs.Prelude.{◌≡◌, ◌<◌, ◌≤◌, ℕ}
+use Rattle.eql_outside.specs.Outside.{Rose}
+use Rattle.eql_laws.specs.Counting.{greatest_bytes}
+use Rattle.eql_laws.specs.Lateness.{AtMost}
+use Rattle.eql_lane.specs.declared.ops.LimitOf.TheVariants as limit
+use Rattle.eql_lane.specs.Lanes.{Setting, LaneState, OutOfLines, low}
+use Rattle.eql_conductor.specs.declared.bench.NotPlayed.{NotPlayed}
+use Rattle.eql_conductor.specs.declared.bench.NotPlayed.TheVariants as not_played
+use Rattle.eql_conductor.specs.declared.stop.Stop.{Stop}
+use Rattle.eql_conductor.specs.declared.stop.Stop.TheVariants as stop
+use Rattle.eql_conductor.specs.Benches.{Known, Same}
+
+-- neither the count of faults, the number of bytes that were taken, nor the low falls
+pub record Onward (set : Setting) (old new : LaneState) : Type 0 where
+  pub faults : old.faults ≤ new.faults
+  pub taken : old.taken ≤ new.taken
+  pub low_up : AtMost (low set old) (low set new)
+
+-- each state that a lane may have now goes on from one that it might have
+pub record LanesGo (old new : Known) : Type 0 where
+  pub same : Same old new
+  pub each : (s : ℕ) → s < old.lanes → (y : LaneState) → new.lane s y → (x : LaneState) × old.lane s x × Onward (old.set s) x y
+
+-- no feed of the caller failed, and no lock was worn at its calls
+pub record Went (old new : Known) : Type 0 where
+  pub failed : new.failed ≡ old.failed
+  pub worn : new.worn ≡ old.worn
+
+-- each state that the lane may have now has a count of faults that rose from one that it might have
+abbrev pub FaultRose : ℕ → Known → Known → Type 0
+FaultRose s old new = (y : LaneState) → new.lane s y → (x : LaneState) × old.lane s x × Rose x.faults y.faults
+
+-- why the conductor stops at a call of the bench: one of its own feeds failed, and the lane's count rose; a lane is at a limit in each
+-- state that it may have; a lock was worn. In every other case, and of every other count, nothing rose
+abbrev pub StopsBy : Stop → Known → Known → Type 0
+StopsBy (stop.Read s) old new = (s < old.lanes) × FaultRose s old new × (old.failed < new.failed) × (new.worn ≡ old.worn)
+StopsBy (stop.Limit (limit.Lines s)) old new = (s < old.lanes) × ((y : LaneState) → new.lane s y → OutOfLines (old.set s) y) × Went old new
+StopsBy (stop.Limit (limit.Bytes s)) old new = (s < old.lanes) × ((y : LaneState) → new.lane s y → y.taken ≡ greatest_bytes) × Went old new
+StopsBy (stop.Limit limit.Turns) old new = (old.worn < new.worn) × (new.failed ≡ old.failed)
+StopsBy (stop.Limit limit.Generation) old new = ⊥
+StopsBy stop.Write old new = ⊥
+StopsBy stop.Disk old new = ⊥
+StopsBy stop.Memory old new = Went old new
+
+-- why it stops where an operation wasn't played
+abbrev pub stop_by : NotPlayed → Stop
+stop_by (not_played.Worn word) = stop.Limit limit.Turns
+stop_by not_played.Memory = stop.Memory

@@ -1,0 +1,123 @@
+//! A round of the conductor: the lanes are fed and looked at, and where the least low is greater than the last mark, what lies
+//! below it is taken and played, and what is found is given to the book.
+ghost use Rattle.std.specs.Prelude.{◌≡◌, ◌≢◌, ◌≤◌, None, Err, false, true, IfErr, IfOk, OnErr, OnOk};
+ghost use Rattle.eql_laws.specs.Lateness.{AtMost};
+ghost use Rattle.eql_outside.specs.Outside.{Rose};
+ghost use Rattle.eql_outside.specs.Written.{WroteFront};
+ghost use Rattle.eql_book.specs.Books.{let_out};
+ghost use Rattle.eql_book.specs.Listing.{listing};
+ghost use Rattle.eql_conductor.specs.declared.stop.Stop.TheVariants.{Write as SinkFailed};
+ghost use Rattle.eql_conductor.specs.Going.{LanesGo, Went};
+ghost use Rattle.eql_conductor.specs.LaneRounds.{IsSafe, LanesAt};
+ghost use Rattle.eql_conductor.specs.PartRounds.{SomeResting};
+ghost use Rattle.eql_conductor.specs.Rounds.{Gave, RoundBreaks, RoundGoes, RoundIs, RoundStops, StopsAt, StopsOut};
+
+use crate::bench::Bench;
+use crate::feeding::{feed_all, look_all};
+use crate::round::{play_parts, take_in_order};
+use crate::stop::Stop;
+use eql_book::Book;
+use eql_outside::{OutRefused, Sink};
+use eql_values::{Mark, Matches};
+use std::alloc::Global;
+
+// Gives matches to the book.
+fn add_found<K: Sink>(
+    alloc: Global,
+    book: &mut Book,
+    found: Matches,
+    sink: &mut K,
+) -> Result<(), Stop>
+    requires whole { book.old.whole ≡ true }
+    ensures gave { OnOk result (Gave found book.old book.new
+        (K.written sink.old) (K.written sink.new)) }
+    ensures spoilt { OnErr result (book.new.whole ≡ false) }
+    ensures front { OnErr result (WroteFront
+        (listing book.old.places (let_out book.old.pipes book.old.kept found))
+        (K.written sink.old) (K.written sink.new)) }
+    ensures out { IfErr result StopsOut }
+    ensures silent { K.written sink.old ≡ None → K.written sink.new ≡ None }
+    ensures cause { result ≡ Err SinkFailed
+        → Rose (K.fault_count sink.old) (K.fault_count sink.new) }
+    ensures steady { result ≢ Err SinkFailed
+        → K.fault_count sink.new ≡ K.fault_count sink.old }
+    ensures counts { K.fault_count sink.old ≤ K.fault_count sink.new }
+{
+    match book.add(alloc, found, sink) {
+        Ok(()) => Ok(()),
+        Err(OutRefused::Failed) => Err(Stop::Write),
+        Err(OutRefused::Memory) => Err(Stop::Memory),
+    }
+}
+
+// Takes what lies below a safe mark, has it played, and gives what is found to the book.
+fn advance<B: Bench, K: Sink>(
+    alloc: Global,
+    bench: &mut B,
+    book: &mut Book,
+    sink: &mut K,
+    last: Mark,
+    mark: Mark,
+    batch: u32,
+) -> Result<(), Stop>
+    requires batch { (1 ≤ batch) × (batch ≤ 4096) }
+    requires lanes { LanesAt None last (B.known bench.old) }
+    requires safe { IsSafe mark (B.known bench.old) }
+    requires later { AtMost last mark }
+    requires some { SomeResting last (B.known bench.old) }
+    requires whole { book.old.whole ≡ true }
+    ensures round { OnOk result (RoundGoes last mark (B.known bench.old) (B.known bench.new)
+        book.old book.new (K.written sink.old) (K.written sink.new)) }
+    ensures broken { OnErr result (RoundBreaks last mark (B.known bench.old)
+        book.old book.new (K.written sink.old) (K.written sink.new)) }
+    ensures goes { LanesGo (B.known bench.old) (B.known bench.new) }
+    ensures went { OnOk result (Went (B.known bench.old) (B.known bench.new)) }
+    ensures stops { IfErr result (λ stop. StopsAt stop (B.known bench.old) (B.known bench.new)) }
+    ensures silent { K.written sink.old ≡ None → K.written sink.new ≡ None }
+    ensures cause { result ≡ Err SinkFailed
+        → Rose (K.fault_count sink.old) (K.fault_count sink.new) }
+    ensures steady { result ≢ Err SinkFailed
+        → K.fault_count sink.new ≡ K.fault_count sink.old }
+    ensures counts { K.fault_count sink.old ≤ K.fault_count sink.new }
+{
+    let items = take_in_order(alloc, bench, last, mark)?;
+    let found = play_parts(alloc, bench, &items, last, mark, batch)?;
+    add_found(alloc, book, found, sink)
+}
+
+/// Plays one round. The answer is its mark where it counts: where the least low is greater than
+/// the last mark.
+pub(crate) fn play_round<B: Bench, K: Sink>(
+    alloc: Global,
+    bench: &mut B,
+    book: &mut Book,
+    sink: &mut K,
+    last: Mark,
+    batch: u32,
+) -> Result<Option<Mark>, Stop>
+    requires batch { (1 ≤ batch) × (batch ≤ 4096) }
+    requires lanes { LanesAt None last (B.known bench.old) }
+    requires some { SomeResting last (B.known bench.old) }
+    requires whole { book.old.whole ≡ true }
+    ensures round { IfOk result (RoundIs last (B.known bench.old) (B.known bench.new)
+        book.old book.new (K.written sink.old) (K.written sink.new)) }
+    ensures broken { OnErr result (RoundStops last (B.known bench.old)
+        book.old book.new (K.written sink.old) (K.written sink.new)) }
+    ensures goes { LanesGo (B.known bench.old) (B.known bench.new) }
+    ensures went { OnOk result (Went (B.known bench.old) (B.known bench.new)) }
+    ensures stops { IfErr result (λ stop. StopsAt stop (B.known bench.old) (B.known bench.new)) }
+    ensures silent { K.written sink.old ≡ None → K.written sink.new ≡ None }
+    ensures cause { result ≡ Err SinkFailed
+        → Rose (K.fault_count sink.old) (K.fault_count sink.new) }
+    ensures steady { result ≢ Err SinkFailed
+        → K.fault_count sink.new ≡ K.fault_count sink.old }
+    ensures counts { K.fault_count sink.old ≤ K.fault_count sink.new }
+{
+    feed_all(bench, batch)?;
+    let mark = look_all(bench)?;
+    if mark <= last {
+        return Ok(None);
+    }
+    advance(alloc, bench, book, sink, last, mark, batch)?;
+    Ok(Some(mark))
+}

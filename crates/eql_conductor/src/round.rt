@@ -1,0 +1,81 @@
+//! The part of a round behind the mark, call by call: what lies below the mark is taken and put in order, played by the
+//! parts, and what they find is put in order.
+ghost use Rattle.std.specs.Prelude.{◌≡◌, ◌≤◌, ℕ, ℤ, List, Option, None, IfErr, IfOk, OnOk};
+ghost use Rattle.eql_values.specs.declared.found.Holder.{Holder};
+ghost use Rattle.eql_values.specs.Accepted.{Reads};
+ghost use Rattle.eql_laws.specs.Belows.{between};
+ghost use Rattle.eql_laws.specs.Lateness.{AtMost};
+ghost use Rattle.eql_parts.specs.PartSteps.{CanDeliver, Rules};
+ghost use Rattle.eql_conductor.specs.Benches.{LanesRest, PartsRest, Same};
+ghost use Rattle.eql_conductor.specs.Going.{LanesGo, StopsBy, Went};
+ghost use Rattle.eql_conductor.specs.LaneRounds.{IsSafe, LanesAt};
+ghost use Rattle.eql_conductor.specs.PartRounds.{Resting, SomeResting, pending_after};
+ghost use Rattle.eql_conductor.specs.Rounds.{OfTexts, found_by};
+
+use crate::bench::Bench;
+use crate::playing::{collect_all, deliver_all, turn_all};
+use crate::stop::Stop;
+use crate::taking::take_all;
+use eql_merge::{merge, merge_matches};
+use eql_values::{Items, Mark, Matches};
+use std::alloc::Global;
+
+/// Takes from each lane what lies below a safe mark, and puts it in order.
+pub(crate) fn take_in_order<B: Bench>(
+    alloc: Global,
+    bench: &mut B,
+    last: Mark,
+    mark: Mark,
+) -> Result<Items, Stop>
+    requires lanes { LanesAt None last (B.known bench.old) }
+    requires safe { IsSafe mark (B.known bench.old) }
+    requires later { AtMost last mark }
+    ensures can { IfOk result (λ items. CanDeliver last items mark) }
+    ensures told { (reads : Reads) (slack : Option ℤ) (texts : List (List ℕ))
+        → OfTexts reads slack texts last (B.known bench.old)
+        → IfOk result (λ items. items ≡ between reads slack texts last mark) }
+    ensures lanes { (texts : Option (List (List ℕ))) → LanesAt texts last (B.known bench.old)
+        → OnOk result (LanesAt texts mark (B.known bench.new)) }
+    ensures goes { LanesGo (B.known bench.old) (B.known bench.new) }
+    ensures parts { PartsRest (B.known bench.old) (B.known bench.new) }
+    ensures went { OnOk result (Went (B.known bench.old) (B.known bench.new)) }
+    ensures stops { IfErr result (λ stop. StopsBy stop (B.known bench.old) (B.known bench.new)) }
+{
+    let lists = take_all(alloc, bench, last, mark)?;
+    match merge(alloc, lists) {
+        Ok(items) => Ok(items),
+        Err(_) => Err(Stop::Memory),
+    }
+}
+
+/// Has the events played by the parts. The answer is what they find, in order.
+pub(crate) fn play_parts<B: Bench>(
+    alloc: Global,
+    bench: &mut B,
+    items: &Items,
+    last: Mark,
+    mark: Mark,
+    batch: u32,
+) -> Result<Matches, Stop>
+    requires batch { (1 ≤ batch) × (batch ≤ 4096) }
+    requires can { CanDeliver last items.now mark }
+    requires some { SomeResting last (B.known bench.old) }
+    ensures found { (rules : Rules) (all : List Holder)
+        → Resting rules all last (B.known bench.old)
+        → IfOk result (λ found. found ≡ found_by rules all items.now) }
+    ensures parts { (rules : Rules) (all : List Holder)
+        → Resting rules all last (B.known bench.old)
+        → OnOk result (Resting rules (pending_after rules all items.now) mark (B.known bench.new)) }
+    ensures same { Same (B.known bench.old) (B.known bench.new) }
+    ensures lanes { LanesRest (B.known bench.old) (B.known bench.new) }
+    ensures went { OnOk result (Went (B.known bench.old) (B.known bench.new)) }
+    ensures stops { IfErr result (λ stop. StopsBy stop (B.known bench.old) (B.known bench.new)) }
+{
+    deliver_all(alloc, bench, items, last, mark)?;
+    turn_all(bench, items, mark, batch)?;
+    let lists = collect_all(alloc, bench, items, mark)?;
+    match merge_matches(alloc, lists) {
+        Ok(found) => Ok(found),
+        Err(_) => Err(Stop::Memory),
+    }
+}

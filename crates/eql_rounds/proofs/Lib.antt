@@ -1,0 +1,4 @@
+pub mod Reaching
+pub mod Parting
+pub mod Laning
+pub mod Found

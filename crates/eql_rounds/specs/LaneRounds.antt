@@ -1,0 +1,56 @@
+-- What a run knows of a lane between its calls, whether the lane's text is told or not.
+use Rattle.std.specs.Prelude.{◌≡◌, ℕ, List, Option, Some, IfSome, All}
+use Rattle.eql_values.specs.declared.item.Item.{Item}
+use Rattle.eql_values.specs.declared.order.Mark.{Mark}
+use Rattle.eql_values.specs.Accepted.{accepted, sorted_items}
+use Rattle.eql_values.specs.Ascending.{Ascending}
+use Rattle.eql_laws.specs.Belows.{IsReading, from_to}
+use Rattle.eql_laws.specs.Lateness.{AtMost}
+use Rattle.eql_laws.specs.Together.{AllBelow, NoneBelow}
+use Rattle.eql_lane.specs.declared.ops.LaneReply.{LaneReply}
+use Rattle.eql_lane.specs.Keeps.{LaneIs}
+use Rattle.eql_lane.specs.Lanes.{Setting, LaneState, FeedStep, Takes, low, lesser}
+
+-- the event is of this shard
+abbrev pub IsOfShard : ℕ → Item → Type 0
+IsOfShard shard item = item.order.shard ≡ shard
+
+-- the held events ascend, are of the lane's shard, and none is below the mark, which is at most the lane's low
+pub record Holds (set : Setting) (mark : Mark) (x : LaneState) : Type 0 where
+  pub ascends : Ascending x.cut.items
+  pub of_shard : All (IsOfShard set.shard) x.cut.items
+  pub none_below : NoneBelow mark x.cut.items
+  pub safe : AtMost mark (low set x)
+
+-- the lane has this text, and is what a cut keeps of it at a place and the mark
+pub record IsOfText (set : Setting) (mark : Mark) (x : LaneState) (text : List ℕ) : Type 0 where
+  pub text_is : set.text ≡ Some text
+  pub is : LaneIs set text mark x
+
+-- both, where a text is given
+pub record LaneAt (text : Option (List ℕ)) (set : Setting) (mark : Mark) (x : LaneState) : Type 0 where
+  pub holds : Holds set mark x
+  pub told : IfSome text (IsOfText set mark x)
+
+-- what a lane hands out from one mark on and below another: it ascends, is of the lane's shard, and is what the text has there
+pub record HandsOver (text : Option (List ℕ)) (set : Setting) (from to : Mark) (items : List Item) : Type 0 where
+  pub ascends : Ascending items
+  pub of_shard : All (IsOfShard set.shard) items
+  pub none_below : NoneBelow from items
+  pub below : AllBelow to items
+  pub told : IfSome text (λ t. items ≡ sorted_items (from_to from to (accepted set.reads set.slack set.shard t)))
+
+-- each feed keeps what is known of a lane at a mark
+abbrev pub FeedKeepsLane : Type 0
+FeedKeepsLane = (text : Option (List ℕ)) (set : Setting) (mark : Mark) (old : LaneState) (max : ℕ) (reply : LaneReply) (new : LaneState)
+    → IsReading set.reads → FeedStep set old max reply new → LaneAt text set mark old → LaneAt text set mark new
+
+-- a take up to a greater mark that is at most the low hands out what lies between, and what is known then is of that mark
+pub record TakenTo (text : Option (List ℕ)) (set : Setting) (from to : Mark) (items : List Item) (new : LaneState) : Type 0 where
+  pub hands : HandsOver text set from to items
+  pub at : LaneAt text set to new
+
+abbrev pub TakeMovesLane : Type 0
+TakeMovesLane = (text : Option (List ℕ)) (set : Setting) (from to : Mark) (old : LaneState) (items : List Item) (new : LaneState)
+    → AtMost from to → AtMost to (low set old) → Takes old (lesser to (low set old)) items new → LaneAt text set from old
+    → TakenTo text set from to items new

@@ -1,0 +1,3 @@
+pub mod LaneRounds
+pub mod PartRounds
+pub mod Finding
