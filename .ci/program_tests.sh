@@ -1,0 +1,191 @@
+#!/usr/bin/env bash
+# Runs a built program over real files and streams. Of each run the status, the output and the error output must be, byte for
+# byte, what stands here, in refused_queries.tsv or in examples/expected.
+#
+#     .ci/program_tests.sh PROGRAM
+#
+# Prints each run that differs. The last line is 'N passed, M failed', and the status is 0 where M is 0.
+program=$(readlink -f "${1:?the built program}") && [ -x "$program" ] || { echo "no program ${1:-}" >&2; exit 2; }
+top=$(cd "$(dirname "$(readlink -f "$0")")/.." && pwd) || exit 2
+room=$(mktemp -d) || exit 2
+trap 'rm -rf "$room"' EXIT
+cp -r "$top/examples/." "$room" && cd "$room" || exit 2
+. "$top/.ci/judging.sh"
+
+# Runs the program with these words, its input the file that `input` names where that is set.
+expect() { # NAME STATUS OUT ERR WORD..
+    local name=$1 status=$2
+    want "$3" "$4"
+    shift 4
+    "$program" "$@" >got.out 2>got.err <"${input:-/dev/null}"
+    judge "$name" $? "$status"
+}
+
+# The words of a search over three lines of any kind, and what it writes.
+printf '%s' 'any where true' >any.eql
+printf '{"@timestamp":%d}\n' 1 2 3 >three.json
+any=(find --query any.eql --fields fields.json)
+listing=$'1 [] 0:1\n2 [] 0:2\n3 [] 0:3\n'
+report=$'shard 0: lines 3 accepted 3 late 0 rejected 0\n'
+
+# The example and the ten queries, in batches of several sizes and with several hands, and their canonical texts.
+shards=(gate-1.json desk-7.json)
+for query in break-in.eql queries/*.eql; do
+    name=$(basename "$query" .eql)
+    files=("@expected/$name.out" "@expected/$name.err")
+    for more in '' '--batch 1' '--batch 4096' '--hands 0' '--hands 16'; do
+        # shellcheck disable=SC2086
+        expect "$name $more" 0 "${files[@]}" find --query "$query" --fields fields.json --slack 1m $more "${shards[@]}"
+    done
+    "$program" check --query "$query" --fields fields.json >canonical.eql 2>got.err
+    expect "$name, its canonical text" 0 "${files[@]}" \
+        find --slack=60s --fields=fields.json --query=canonical.eql -- "${shards[@]}"
+done
+break_in=(find --query break-in.eql --fields fields.json)
+expect 'no slack' 0 @expected/break-in-no-slack.out @expected/break-in-no-slack.err "${break_in[@]}" "${shards[@]}"
+expect 'places' 0 @expected/break-in-places.out @expected/break-in.err "${break_in[@]}" --slack 1m --places "${shards[@]}"
+expect 'tiebreaker' 0 @expected/02-office-child-tiebreaker.out @expected/02-office-child.err \
+    find --query queries/02-office-child.eql --fields fields.json --slack 1m --tiebreaker event.sequence "${shards[@]}"
+expect 'check' 0 @expected/break-in-check.out '' check --query break-in.eql --fields fields.json
+
+# Streams: the query, the mapping or a shard comes through a pipe or from the input.
+through() { # NAME INPUT WORD..
+    local name=$1 from=$2
+    want "$listing" "$report"
+    shift 2
+    cat "$from" | "$program" "$@" >got.out 2>got.err
+    judge "$name through a pipe" $? 0
+}
+through 'a query' any.eql find --query /dev/stdin --fields fields.json three.json
+through 'a mapping' fields.json find --query any.eql --fields /dev/stdin three.json
+through 'a shard' three.json "${any[@]}" /dev/stdin
+input=desk-7.json expect 'a shard from the input' 0 @expected/break-in.out @expected/break-in.err \
+    "${break_in[@]}" --slack 1m gate-1.json /dev/stdin
+
+# Shards: none of a line, one twice, and as many as may be.
+: >empty
+expect 'an empty shard' 0 '' $'shard 0: lines 0 accepted 0 late 0 rejected 0\n' "${any[@]}" empty
+expect 'one shard twice' 0 $'1 [] 0:1\n2 [] 1:1\n3 [] 0:2\n4 [] 1:2\n5 [] 0:3\n6 [] 1:3\n' \
+    "$report"$'shard 1: lines 3 accepted 3 late 0 rejected 0\n' "${any[@]}" three.json three.json
+for it in $(seq 0 255); do echo "shard $it: lines 0 accepted 0 late 0 rejected 0"; done >reports
+mapfile -t most < <(yes empty | head -n 256)
+expect '256 shards' 0 '' @reports "${any[@]}" "${most[@]}"
+cp three.json -- -three.json
+expect 'a shard behind --' 0 "$listing" "$report" "${any[@]}" -- -three.json
+
+# Lines at the limit of their length, and each reason for which a line is rejected. The last line has no line feed.
+line_of() { printf '{"@timestamp":1,"x":"%s"}\n' "$(head -c "$1" /dev/zero | tr '\0' x)"; }
+{ line_of 1048553; line_of 1048554; } >long.json
+expect 'lines of 1 MiB and of a byte more' 0 $'1 [] 0:1\n' $'shard 0: lines 2 accepted 1 late 0 rejected 1 first 2 Long\n' \
+    "${any[@]}" long.json
+printf 'any where process.pid == 4 and process.code_signature.trusted' >used.eql
+reject() { # REASON LINE
+    printf ' \t\r\n%s' "$2" >bad.json
+    expect "a line is rejected: $1" 0 '' "shard 0: lines 2 accepted 0 late 0 rejected 1 first 2 $1"$'\n' \
+        find --query used.eql --fields fields.json bad.json
+}
+reject NotJson '{"@timestamp":1,"event":{"cat'
+reject NotJson $'{"@timestamp":1,"a":"\xff"}'
+reject NotObject '[1,2]'
+reject NoTime '{"event":{"category":"process"}}'
+reject BadTime '{"@timestamp":"yesterday"}'
+reject BadTime '{"@timestamp":[1,2]}'
+reject Kind '{"@timestamp":1,"process":{"pid":"four"}}'
+reject Kind '{"@timestamp":1,"process.code_signature.trusted":1}'
+reject Fraction '{"@timestamp":1,"process.pid":4.5}'
+reject Range '{"@timestamp":1,"process.pid":9223372036854775808}'
+
+# Status 1: a file isn't there. The files count in the order query, mapping, shards.
+expect 'no query' 1 '' $'no file nowhere\n' find --query nowhere --fields nothing none
+expect 'no mapping' 1 '' $'no file nothing\n' find --query any.eql --fields nothing none
+expect 'no shard' 1 '' $'no file none\n' "${any[@]}" three.json none other
+expect 'a path through a file' 1 '' $'no file three.json/x\n' "${any[@]}" three.json/x
+expect 'a name that would steer a terminal' 1 '' $'no file a\\u{1b}[2J\\nb\n' "${any[@]}" $'a\e[2J\nb'
+
+# Status 2: the words are no command.
+usage=$'usage: eql find --query FILE --fields FILE [--tiebreaker FIELD] [--slack TIME] [--batch N] [--hands N] [--checkpoint NAME --every N] [--places] SHARD..\nusage: eql check --query FILE --fields FILE\nusage: eql made [--hands N] N\n'
+no_command() { expect "no command: $*" 2 '' "$usage" "$@"; }
+no_command
+no_command --help
+no_command seek --query any.eql --fields fields.json three.json
+no_command "${any[@]}"
+no_command find --query any.eql three.json
+no_command "${any[@]}" --query any.eql three.json
+no_command "${any[@]}" three.json --places
+no_command "${any[@]}" --places --places three.json
+no_command "${any[@]}" --batch 0 three.json
+no_command "${any[@]}" --batch 4097 three.json
+no_command "${any[@]}" --hands 17 three.json
+no_command "${any[@]}" --slack 5 three.json
+no_command "${any[@]}" --slack 36501d three.json
+no_command "${any[@]}" --tiebreaker= three.json
+no_command "${any[@]}" --slack 1s --checkpoint c three.json
+no_command "${any[@]}" --checkpoint c --every 5 three.json
+no_command "${any[@]}" -
+no_command "${any[@]}" $'\xff'
+no_command "${any[@]}" "${most[@]}" empty
+no_command check --query any.eql --fields fields.json three.json
+
+# Status 3: a part of a command that isn't built, and each rule that a query or a mapping may break.
+expect 'made' 3 '' $'unbuilt: made\n' made 201
+expect 'checkpoint' 3 '' $'unbuilt: --checkpoint\n' "${any[@]}" --slack 1s --checkpoint c --every 5 three.json
+refuse() { # TOLD QUERY-FILE MAPPING-FILE
+    expect "refused: $1" 3 '' "$1"$'\n' find --query "$2" --fields "$3" three.json
+}
+while IFS=$'\t' read -r told query; do
+    printf '%s' "$query" >bad.eql
+    refuse "$told" bad.eql fields.json
+    expect "check refuses: $told" 3 '' "$told"$'\n' check --query bad.eql --fields fields.json
+done <"$top/.ci/refused_queries.tsv"
+{ cat any.eql; head -c 65522 /dev/zero | tr '\0' ' '; } >longest.eql
+expect 'a query of 65,536 bytes' 0 "$listing" "$report" find --query longest.eql --fields fields.json three.json
+{ cat longest.eql; printf ' '; } >too-long.eql
+refuse 'lex: TooLong' too-long.eql fields.json
+printf 'any where true // \xff' >bytes.eql
+refuse 'lex: NotUtf8' bytes.eql fields.json
+{ printf 'any where '; for it in $(seq 65); do printf 'not '; done; printf 'true'; } >deep.eql
+refuse 'parse: TooDeep at 266' deep.eql fields.json
+names() { printf '{'; for it in $(seq "$1"); do printf '"f%d":"long",' "$it"; done; printf '"g":"long"}'; }
+names 1023 >most.json
+expect 'a mapping of 1,024 names' 0 "$listing" "$report" find --query any.eql --fields most.json three.json
+names 1024 >too-many.json
+refuse 'mapping: MapMany' any.eql too-many.json
+{ printf '{}'; head -c 4194303 /dev/zero | tr '\0' ' '; } >too-long.json
+refuse 'mapping: MapLong' any.eql too-long.json
+mapping() { # TOLD TEXT
+    printf '%s' "$2" >bad.json
+    refuse "$1" any.eql bad.json
+}
+mapping 'mapping: MapSyntax' '["a"]'
+mapping 'mapping: MapSyntax' '{"a":"long",}'
+mapping 'mapping: MapKind b' '{"a":"long","b":"date"}'
+mapping 'mapping: MapKind user' '{"user":{"name":"keyword"}}'
+{ printf 'any where f1 > 0'; for it in $(seq 2 65); do printf ' or f%d > 0' "$it"; done; } >fields-65.eql
+refuse 'check: ManyFields 65' fields-65.eql most.json
+
+# Status 4: a folder opens and fails at its first read.
+mkdir folder
+expect 'a folder as a shard' 4 '' $'read fault: folder\n' "${any[@]}" three.json folder
+expect 'a folder as the query' 4 '' $'read fault: folder\n' find --query folder --fields fields.json three.json
+expect 'a folder as the mapping' 4 '' $'read fault: folder\n' check --query any.eql --fields folder
+
+# Status 5: the output or the error output has no room. The other one is compared.
+full() { # out|err NAME STATUS WANTED WORD..
+    local stream=$1 name=$2 status=$3
+    : >got.out
+    : >got.err
+    if [ "$stream" = out ]; then want '' "$4"; else want "$4" ''; fi
+    shift 4
+    if [ "$stream" = out ]; then "$program" "$@" >/dev/full 2>got.err; else "$program" "$@" >got.out 2>/dev/full; fi
+    judge "$name" $? "$status"
+}
+full out 'no room for the listing' 5 $'write fault\n' "${break_in[@]}" "${shards[@]}"
+full out 'no room for the canonical text' 5 $'write fault\n' check --query any.eql --fields fields.json
+full err 'no room for the report' 5 @expected/break-in.out "${break_in[@]}" --slack 1m "${shards[@]}"
+full err 'no room for the line about a missing file' 1 '' "${any[@]}" none
+want '' $'write fault\n'
+: >got.out
+"$program" "${break_in[@]}" "${shards[@]}" >&- 2>got.err
+judge 'a closed output' $? 5
+
+end

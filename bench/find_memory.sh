@@ -1,0 +1,36 @@
+#!/usr/bin/env bash
+# The most memory that `eql find` held, in megabytes: over 64 shards of 16 MiB, and over a line of 200 megabytes. The query is
+# that of find_times.sh. The shards take 1 GiB of the disk while this runs.
+#
+# usage: bench/find_memory.sh [PROGRAM]        PROGRAM is the built program, crates/eql/out/eql where none is given
+set -euo pipefail
+
+top=$(cd "$(dirname "$0")/.." && pwd)
+program=$(readlink -f "${1:-$top/crates/eql/out/eql}")
+tools=$top/bench/find
+room=$(mktemp -d)
+trap 'rm -rf "$room"' EXIT
+
+# Runs the search over some shards, and tells its seconds and the greatest size that it had in memory.
+measure() { # NAME SHARD..
+    local name=$1
+    shift
+    python3 - "$name" "$room/report" "$program" find --query "$tools/query.eql" --fields "$tools/fields.json" "$@" <<'END'
+import resource, subprocess, sys, time
+name, report, *words = sys.argv[1:]
+begun = time.monotonic()
+with open(report, "wb") as err:
+    ran = subprocess.run(words, stdout=subprocess.PIPE, stderr=err)
+took, most = time.monotonic() - begun, resource.getrusage(resource.RUSAGE_CHILDREN).ru_maxrss
+print(f"{name}: status {ran.returncode}, {ran.stdout.count(10)} matches, {took:.1f} s, at most {most * 1024 / 1e6:.0f} MB")
+END
+    awk '{ lines += $4; accepted += $6; rejected += $10 }
+        END { printf "    %d lines, %d accepted, %d rejected\n", lines, accepted, rejected }' "$room/report"
+}
+
+python3 "$tools/make_log.py" "$room" 64 16777216 2
+mapfile -t shards < <(seq -f "$room/%g.json" 0 63)
+measure '64 shards of 16 MiB' "${shards[@]}"
+rm "${shards[@]}"
+{ printf '{"@timestamp":1,"x":"'; head -c 200000000 /dev/zero | tr '\0' x; printf '"}\n{"@timestamp":2}\n'; } >"$room/long.json"
+measure 'a line of 200 MB, and one more' "$room/long.json"
