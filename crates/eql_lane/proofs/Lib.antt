@@ -11,3 +11,4 @@ pub mod NoteLemmas
 pub mod LiftLemmas
 pub mod Seeking
 pub mod Beginnings
+pub mod HeldLemmas

@@ -128,9 +128,6 @@ module _ (whole line : List ℕ) (ends : IsTrue (ends_line whole)) (one : IsOneL
       ap (λ (lines : List Line). place_among lines (1 + length (lines_of whole))) (goes_on whole (line ++ 10 ∷ []) ends ∙ ap (λ (l : List Line). lines_in whole ++ l) after_line)
       ∙ place_next 1 0 (lines_of whole) (record { number = 1 + length (lines_of whole); at = length whole; bytes = line }) [] refl
 
-  longer_length : length longer ≡ length whole + length line + 1
-  longer_length = let a = length-append whole (line ++ 10 ∷ []) in let b = length-append line (10 ∷ []) in omega (arith, a, b)
-
   lines_longer : (ns : List ℕ) → All (IsLineOf whole) ns → All (IsLineOf longer) ns
   lines_longer ns all = All-weaker (IsLineOf whole) (IsLineOf longer) (λ n is. (is.0, let a = is.1 in let b = longer_count in omega (arith, a, b))) ns all
 
@@ -401,13 +398,6 @@ module _ (whole more rest : List ℕ) (ends : IsTrue (ends_line whole)) where
     -- which is the last one of the text
     at_end : more ≢ [] → rest ≡ [] → whole_lines (whole ++ more) rest ≡ length (lines_of whole) + 1
     at_end some done = ap (λ (l : List ℕ). whole_lines (whole ++ more) l) done ∙ count_some some
-
--- ---- what the notes tell at their end
-next_wanted : (x : Noted) (front : List ℕ) (n : NotesOf front x) → slice_get x.wanted (length x.places) ≡ slice_get n.left 0
-next_wanted x front n = next_of n.noted n.left x.wanted (length x.places) n.wanted (ap length n.places ∙ length-map n.noted (λ (k : ℕ). (k, line_place n.whole k)))
-
-shorter : (l : List (ℕ × ℕ)) → length (l ++ []) ≡ length l
-shorter l = ap length (append-nil l)
 
 module _ (x : Noted) (front rest whole more noted : List ℕ) (parts : front ≡ whole ++ more) (ends : IsTrue (ends_line whole)) (passed : x.passed ≡ length front)
     (there : All (IsLineOf whole) noted) (places : x.places ≡ placed_lines whole noted) where

@@ -180,9 +180,6 @@ module _ (text left : Option (List ℕ)) (buffer : Pending) (cut : LaneCut) (tak
         let c = front_count buffer.long is.stands.front is.stands.is_front in
         let d = length-take-le end buffer.unread (omega (arith, feed.within)) in omega (arith, a, b, c, d)
 
-    cut_after : LaneCut
-    cut_after = got_on slack cut (reads shard (cut.counts.lines + 1) line) ((seen buffer.long).bytes + end + 1)
-
     pub line_read : (next : Pending) (cut' : LaneCut) → cut' ≡ got_on slack cut (reads shard (cut.counts.lines + 1) line) ((seen buffer.long).bytes + end + 1)
         → next ≡ record { long = None; unread = drop (end + 1) buffer.unread }
         → Leaves text left next cut' taken set (record { cut = cut; taken = taken; given = given; faults = faults }) step.Line (record { cut = cut'; taken = taken; given = given; faults = faults })
@@ -447,20 +444,6 @@ of_text (Some t) left buffer cut taken is at =
       short = is.short;
     }
 
-pub forget : (text left : Option (List ℕ)) (buffer : Pending) (cut : LaneCut) (taken : ℕ) → IsLane text left buffer cut taken → IsLane None left buffer cut taken
-forget text left buffer cut taken is = record {
-  pending = is.pending;
-  stands = is.stands;
-  count = is.count;
-  told = tt;
-  bytes = is.bytes;
-  lines = is.lines;
-  closed = is.closed;
-  at_end = is.at_end;
-  order = is.order;
-  short = is.short;
-}
-
 pub tells : (text left : Option (List ℕ)) (buffer : Pending) (cut : LaneCut) (taken : ℕ) → IsLane text left buffer cut taken → IfSome text (λ t. IsTextAt t left buffer cut.offset taken)
 tells None left buffer cut taken is = tt
 tells (Some t) left buffer cut taken is = record { pending = is.pending; stands = is.stands; parts = is.told.parts; within = is.told.within; left_is = is.told.left_is }
@@ -547,7 +530,3 @@ begun_text (Some t) now offset h = record {
   within = h.0;
   left_is = h.1;
 }
-
-pub untaken : (left : Option (List ℕ)) → IfSome left (λ t. (0 ≤ length t) × (left ≡ Some (drop 0 t)))
-untaken None = tt
-untaken (Some t) = (omega arith, refl)

@@ -1,16 +1,13 @@
 -- A store of items by their places, seen as the items in order.
-use Rattle.std.proofs.Common.{◌≡◌, ℕ, suc, ◌<◌, ◌≤◌, ◌+◌, Bool, true, false, cond, List, [], ◌∷◌, ◌++◌, length, map, take, drop, ℤ, ◌≤ℤ◌, Option, Some, None, refl, sym, ap, subst, ◌∙◌, arith, T}
-use Rattle.std.specs.Prelude.{IsTrue, All, filter, not}
+use Rattle.std.proofs.Common.{◌≡◌, ℕ, suc, ◌<◌, ◌≤◌, ◌+◌, Bool, true, false, cond, List, [], ◌∷◌, length, map, take, drop, ℤ, ◌≤ℤ◌, Option, Some, None, refl, sym, ap, subst, ◌∙◌, arith, T}
+use Rattle.std.specs.Prelude.{IsTrue, filter, not}
 use Rattle.std.specs.Ordering.{eq_by_cmp, match_ordering}
 use Rattle.std.specs.declared.cmp.Ordering.{Ordering}
 use Rattle.std.specs.declared.cmp.Ordering.TheVariants.{Less, Equal, Greater}
 use Rattle.std.specs.BTreeMap.{insert_entry}
 use Rattle.std.specs.Map.{keys_of}
-use Rattle.std.proofs.lemmas.Map.Views.{All-keys-insert_entry}
-use Rattle.std.specs.FinMap.Entries.{put, where_key, below_all, find, find-put, is_sorted, is_sorted-put, is_sorted-where_key, by_order}
-use Rattle.std.proofs.lemmas.List.{map-append, drop-drop, drop-map}
-use Rattle.std.proofs.Math.Seq.{take-add}
-use Rattle.std.proofs.lemmas.List.Elements.{All-head, All-tail, All-drop}
+use Rattle.std.specs.FinMap.Entries.{put, where_key, below_all, find, is_sorted, is_sorted-put, is_sorted-where_key, by_order}
+use Rattle.std.proofs.lemmas.List.Elements.{All-head, All-tail}
 use Rattle.eql_values.specs.declared.order.OrderKey.{OrderKey}
 use Rattle.eql_values.specs.declared.item.Route.{Route}
 use Rattle.eql_values.specs.declared.item.Item.{Item}
@@ -26,13 +23,12 @@ use Rattle.eql_values.specs.Accepted.{sorted_items}
 use Rattle.eql_values.specs.OrderKeys.{order_cmp}
 use Rattle.eql_values.specs.Totals.{order_cmp_total}
 use Rattle.eql_values.proofs.Same.{order_same}
-use Rattle.eql_values.specs.Ordered.{in_order, found_or}
-use Rattle.eql_values.proofs.InOrder.{find-append, is_in_order}
+use Rattle.eql_values.specs.Ordered.{found_or}
+use Rattle.eql_values.proofs.InOrder.{is_in_order}
 use Rattle.eql_laws.proofs.Facts.{is_equal, holds_true, both_true, is_less}
 use Rattle.eql_laws.proofs.Lists.{map_back}
-use Rattle.eql_laws.proofs.CutLemmas.{filter_fewer}
 use Rattle.eql_laws.proofs.Sorting.{Entry, pair, back, bare, filter_back}
-use Rattle.eql_lane.specs.Judging.{Entries, items_in, LinesTo, LinesBelow}
+use Rattle.eql_lane.specs.Holding.{Entries, items_in, LinesBelow}
 
 true_there : (b : Bool) → b ≡ true → T b
 true_there b h = subst T (sym h) tt
@@ -52,7 +48,7 @@ pub sorted_again : (es : Entries) → IsTrue (is_sorted order_cmp es) → items_
 sorted_again es sorted =
     ap (map back) (is_in_order order_cmp order_cmp_total order_same es (map pair (map back es)) (true_there _ sorted) (λ q. ap (find order_cmp q) (sym (map_back pair back (λ e. refl) es))))
 
-one_more : (b : Bool) (v : List Route) (o : Option (List Route)) → (b ≡ true → o ≡ None) → cond b (Some v) o ≡ found_or o (cond b (Some v) None)
+pub one_more : (b : Bool) (v : List Route) (o : Option (List Route)) → (b ≡ true → o ≡ None) → cond b (Some v) o ≡ found_or o (cond b (Some v) None)
 one_more true v o h = let e = h refl in sym (ap (λ (p : Option (List Route)). found_or p (Some v)) e)
 one_more false v None h = refl
 one_more false v (Some w) h = refl
@@ -64,44 +60,14 @@ not_there n q e o true h le lt none =
     let line : q.line ≡ e.0.line = ap (λ (k : OrderKey). k.line) (order_same q e.0 (is_equal _ h)) in absurd (omega arith)
 not_there n q e o false h le lt none = none
 
-none_there : (n : ℕ) (q : OrderKey) (es : Entries) → n ≤ q.line → LinesBelow n es → find order_cmp q es ≡ None
+pub none_there : (n : ℕ) (q : OrderKey) (es : Entries) → n ≤ q.line → LinesBelow n es → find order_cmp q es ≡ None
 none_there n q [] le below = refl
 none_there n q (e ∷ es) le below =
     not_there n q e (find order_cmp q es) (eq_by_cmp order_cmp q e.0) refl le (All-head (λ (k : OrderKey). k.line < n) e.0 (keys_of es) below)
     (none_there n q es le (All-tail (λ (k : OrderKey). k.line < n) e.0 (keys_of es) below))
 
-pub held_more : (k : OrderKey) (v : List Route) (es : Entries) → IsTrue (is_sorted order_cmp es) → LinesBelow k.line es
-    → items_in (insert_entry order_cmp es k v) ≡ sorted_items (items_in es ++ record { order = k; routes = v } ∷ [])
-held_more k v es sorted below =
-    ap (map back) (insert_is_put k v es
-    ∙ is_in_order order_cmp order_cmp_total order_same (put order_cmp k v es) (es ++ (k, v) ∷ []) (is_sorted-put order_cmp order_cmp_total k v es (true_there _ sorted))
-    (λ q. find-put order_cmp order_cmp_total q k v es
-    ∙ one_more (eq_by_cmp order_cmp q k) v (find order_cmp q es) (λ h. none_there k.line q es (let e : q.line ≡ k.line = ap (λ (o : OrderKey). o.line) (order_same q k (is_equal _ h)) in omega arith) below)
-    ∙ sym (find-append order_cmp q es ((k, v) ∷ []))))
-    ∙ ap (λ (fs : Entries). map back (in_order order_cmp fs)) (sym (map_back pair back (λ e. refl) (es ++ (k, v) ∷ [])) ∙ ap (map pair) (map-append back es ((k, v) ∷ [])))
-
 pub insert_keeps_order : (k : OrderKey) (v : List Route) (es : Entries) → IsTrue (is_sorted order_cmp es) → IsTrue (is_sorted order_cmp (insert_entry order_cmp es k v))
 insert_keeps_order k v es sorted = subst (λ (fs : Entries). IsTrue (is_sorted order_cmp fs)) (sym (insert_is_put k v es)) (holds_true _ (is_sorted-put order_cmp order_cmp_total k v es (true_there _ sorted)))
-
-few_one : (o : Ordering) (e : Entry) (k : OrderKey) (v : List Route) (es more : Entries) → length more ≤ length es + 1
-    → length (match_ordering o ((k, v) ∷ e ∷ es) ((e.0, v) ∷ es) (e ∷ more)) ≤ suc (length es) + 1
-few_one Less e k v es more h = omega arith
-few_one Equal e k v es more h = omega arith
-few_one Greater e k v es more h = omega (arith, h)
-
--- one more is held at most
-pub few_more : (k : OrderKey) (v : List Route) (es : Entries) → length (insert_entry order_cmp es k v) ≤ length es + 1
-few_more k v [] = omega arith
-few_more k v (e ∷ es) = few_one (order_cmp k e.0) e k v es (insert_entry order_cmp es k v) (few_more k v es)
-
-pub lines_to : (n : ℕ) (es : Entries) → LinesBelow n es → LinesTo n es
-lines_to n es h k d l = let a = h k d l in omega arith
-
-pub lines_below : (n m : ℕ) (es : Entries) → LinesTo n es → n < m → LinesBelow m es
-lines_below n m es h lt k d l = let a = h k d l in omega arith
-
-pub insert_lines : (k : OrderKey) (v : List Route) (es : Entries) → LinesBelow k.line es → LinesTo k.line (insert_entry order_cmp es k v)
-insert_lines k v es below = All-keys-insert_entry order_cmp k v (λ (q : OrderKey). q.line ≤ k.line) es (lines_to k.line es below) (omega arith)
 
 -- ---- the items below a mark are the first ones
 ts_le : (x y : ℤ) (a b : Bool) (r : Ordering) → lt_z x y ≡ a → lt_z y x ≡ b → ordering_then (cond a Less (cond b Greater Equal)) r ≡ Less → x ≤ℤ y
@@ -115,7 +81,7 @@ first_less x y less = ts_le x.ts y.ts (lt_z x.ts y.ts) (lt_z y.ts x.ts) _ refl r
 not_before : (t x y : ℤ) → x ≤ℤ y → lt_z x t ≡ false → lt_z y t ≡ false
 not_before t x y le h = grind (arith, ints)
 
-of_place : (m : Mark) (i : Item) → is_below m i ≡ is_below m (bare i.order)
+pub of_place : (m : Mark) (i : Item) → is_below m i ≡ is_below m (bare i.order)
 of_place Start i = refl
 of_place (At t) i = refl
 of_place End i = refl
@@ -139,7 +105,7 @@ module _ (mark : Mark) where
   low_key k = is_below mark (bare k)
 
   module _ where
-    by_order_below : (m : Mark) (x y : OrderKey) → order_cmp x y ≡ Less → is_below m (bare x) ≡ false → is_below m (bare y) ≡ false
+    pub by_order_below : (m : Mark) (x y : OrderKey) → order_cmp x y ≡ Less → is_below m (bare x) ≡ false → is_below m (bare y) ≡ false
     by_order_below Start x y less h = refl
     by_order_below (At t) x y less h = not_before t x.ts y.ts (first_less x y less) h
     by_order_below End x y less h = cc
@@ -180,19 +146,6 @@ pub length_items : (es : Entries) → length (items_in es) ≡ length es
 length_items [] = refl
 length_items (e ∷ es) = ap suc (length_items es)
 
--- one more of the first
-pub one_more_taken : (es : Entries) (k : ℕ) (e : Entry) (rest : Entries) → drop k es ≡ e ∷ rest → (take (k + 1) es ≡ take k es ++ e ∷ []) × (rest ≡ drop (k + 1) es)
-one_more_taken es k e rest h = (
-  take-add k 1 es ∙ ap (λ (l : Entries). take k es ++ take 1 l) h,
-  ap (drop 1) (sym h) ∙ drop-drop 1 k es,
-)
-
-pub items_more : (a b : Entries) → items_in (a ++ b) ≡ items_in a ++ items_in b
-items_more a b = map-append back a b
-
-pub few_below : (mark : Mark) (es : Entries) → length (filter (is_below mark) (items_in es)) ≤ length es
-few_below mark es = let a = filter_fewer (is_below mark) (items_in es) in let b = length_items es in omega (arith, a, b)
-
 -- what is taken out, and what stays
 pub record TakenOut (mark : Mark) (es : Entries) (n : ℕ) : Type 0 where
   pub taken : items_in (take n es) ≡ filter (is_below mark) (items_in es)
@@ -213,6 +166,3 @@ count_is mark es = ap length (below_is mark es) ∙ length_items (where_key orde
 
 pub taken_out : (mark : Mark) (es : Entries) (n : ℕ) → IsTrue (is_sorted order_cmp es) → n ≡ length (filter (is_below mark) (items_in es)) → TakenOut mark es n
 taken_out mark es n sorted e = subst (TakenOut mark es) (sym (e ∙ count_is mark es)) (taken_of mark es sorted)
-
-pub lines_stay : (n k : ℕ) (es : Entries) → LinesTo n es → LinesTo n (drop k es)
-lines_stay n k es h = subst (All (λ (q : OrderKey). q.line ≤ n)) (drop-map (λ (e : Entry). e.0) k es) (All-drop (λ (q : OrderKey). q.line ≤ n) k (keys_of es) h)

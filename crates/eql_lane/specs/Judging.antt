@@ -1,16 +1,11 @@
 -- What one line does to what is kept of a shard.
-use Rattle.std.specs.Prelude.{◌≡◌, ◌≤◌, ◌<◌, ◌+◌, ℕ, ℤ, Bool, false, if◌then◌else◌, List, [], ◌∷◌, ◌++◌, Option, Some, IfSome, map, length, All, IsTrue}
-use Rattle.std.specs.Map.{keys_of}
-use Rattle.std.specs.FinMap.Entries.{is_sorted}
-use Rattle.eql_values.specs.declared.order.OrderKey.{OrderKey}
-use Rattle.eql_values.specs.declared.item.Route.{Route}
+use Rattle.std.specs.Prelude.{◌≡◌, ◌≤◌, ◌+◌, ℕ, ℤ, Bool, false, if◌then◌else◌, List, [], ◌∷◌, ◌++◌, Option, Some, IfSome, length, All}
 use Rattle.eql_values.specs.declared.item.Item.{Item}
 use Rattle.eql_values.specs.declared.cut.Counts.{Counts}
 use Rattle.eql_values.specs.declared.cut.LaneCut.{LaneCut}
 use Rattle.eql_values.specs.declared.reader.LineGot.{LineGot}
 use Rattle.eql_values.specs.declared.reader.LineGot.TheVariants as got
 use Rattle.eql_values.specs.Accepted.{placed_at, sorted_items}
-use Rattle.eql_values.specs.OrderKeys.{order_cmp}
 use Rattle.eql_values.specs.Reading.{IsTime}
 use Rattle.eql_laws.specs.Lateness.{larger, late_by}
 use Rattle.eql_lane.specs.Slacks.{IsSlack}
@@ -63,35 +58,14 @@ IsGotAt line got.Blank = Unit {0}
 IsGotAt line (got.Bad reason) = Unit {0}
 IsGotAt line (got.Item item) = (item.order.line ≡ line) × IsTime item.order.ts
 
--- a store of items by their places
-abbrev pub Entries : Type 0
-Entries = List (OrderKey × List Route)
-
--- its items
-abbrev pub items_in : Entries → List Item
-items_in entries = map (λ (e : OrderKey × List Route). record { order = e.0; routes = e.1 }) entries
-
--- an item by its place
-abbrev pub pair : Item → OrderKey × List Route
-pair item = (item.order, item.routes)
-
--- the lines of its items are at most this
-abbrev pub LinesTo : ℕ → Entries → Type 0
-LinesTo n entries = All (λ (k : OrderKey). k.line ≤ n) (keys_of entries)
-
--- the lines of its items are below this
-abbrev pub LinesBelow : ℕ → Entries → Type 0
-LinesBelow n entries = All (λ (k : OrderKey). k.line < n) (keys_of entries)
-
 -- the counts: no more lines are told apart than were read
 abbrev pub CountsHold : Counts → Type 0
 CountsHold counts = counts.accepted + counts.late + counts.rejected ≤ counts.lines
 
 -- what is kept is as reading leaves it
-pub record IsKept (slack best : Option ℤ) (counts : Counts) (entries : Entries) : Type 0 where
-  pub order : IsTrue (is_sorted order_cmp entries)
-  pub lines : LinesTo counts.lines entries
-  pub few : length entries ≤ counts.accepted
+pub record IsKept (slack best : Option ℤ) (counts : Counts) (items : List Item) : Type 0 where
+  pub lines : All (λ (item : Item). item.order.line ≤ counts.lines) items
+  pub few : length items ≤ counts.accepted
   pub fewer : CountsHold counts
   pub within : counts.lines ≤ greatest_lines
   pub in_range : IfSome best IsTime

@@ -9,3 +9,4 @@ pub mod Starts
 pub mod Plays
 pub mod Passing
 pub mod Noting
+pub mod Holding

@@ -1,27 +1,20 @@
 //! What is kept of the lines that were read of a shard.
-ghost use Rattle.std.specs.Prelude.{◌∷◌, ◌≡◌, ◌≤◌, ◌<◌, ◌+◌, ◌++◌, ◌^◌, ◌≤ℤ◌, pos, true, false, ℕ, List, [], Ok, Err, IfOk, IfSome, IsTrue, OnErr, OnOk, None, filter, not, length, map, take, drop, vec_len, vec_capacity};
-ghost use Rattle.std.specs.List.{take_while};
-ghost use Rattle.std.specs.BTreeMap.{keys};
-ghost use Rattle.std.specs.FinMap.Entries.{is_sorted};
+ghost use Rattle.std.specs.Prelude.{◌∷◌, ◌≡◌, ◌≤◌, ◌<◌, ◌+◌, ◌++◌, ◌^◌, ◌≤ℤ◌, pos, true, false, ℕ, List, [], Ok, Err, IfOk, IfSome, All, OnErr, OnOk, None, filter, not, length, map, take, drop, vec_len, vec_capacity};
+ghost use Rattle.eql_values.specs.declared.item.Item.{Item as Event};
 ghost use Rattle.eql_values.specs.Accepted.{sorted_items};
-ghost use Rattle.eql_values.specs.OrderKeys.{order_cmp};
 ghost use Rattle.eql_values.specs.Reading.{IsTime};
 ghost use Rattle.eql_values.specs.Marks.{is_below, low_of};
-ghost use Rattle.eql_values.specs.Ascending.{Ascending};
 ghost use Rattle.eql_lane.specs.Lanes.{fresh_cut};
-ghost use Rattle.eql_lane.specs.Judging.{pair};
 ghost use Rattle.eql_lane.specs.Starts.{MayBegin};
 ghost use Rattle.eql_lane.specs.Slacks.{IsSlack};
 ghost use Rattle.eql_lane.specs.Noting.{LinesAscend, place_noted, item_noted};
 ghost use Rattle.eql_laws.specs.Counting.{first_or, greatest_lines, greatest_bytes};
 ghost use Rattle.eql_laws.specs.Lateness.{larger};
-ghost use Rattle.eql_lane.specs.Judging.{best_got, late_got, counts_got, held_got, got_on, items_in, KeptView, IsGotAt, LinesTo, LinesBelow, CountsHold};
+ghost use Rattle.eql_lane.specs.Judging.{best_got, late_got, counts_got, held_got, got_on, KeptView, IsGotAt, CountsHold};
 
-use eql_values::{
-    Counts, FirstBad, Item, Items, LaneCut, LineGot, Mark, Memory, OrderKey, Places, Reason, Routes,
-};
+use crate::held::Held;
+use eql_values::{Counts, FirstBad, Item, Items, LaneCut, LineGot, Mark, Memory, Places, Reason};
 use std::alloc::Global;
-use std::collections::BTreeMap;
 use std::marker::Model;
 
 /// What is kept of the lines that were read.
@@ -38,11 +31,11 @@ pub(crate) struct Kept {
     /// What became of the lines.
     counts: Counts,
     /// The accepted events that weren't handed on.
-    held: BTreeMap<OrderKey, Routes>,
+    held: Held,
 }
 
 impl Model for Kept {
-    ghost use Rattle.eql_lane.specs.Judging.{items_in, IsKept, KeptView};
+    ghost use Rattle.eql_lane.specs.Judging.{IsKept, KeptView};
 
     ghost Value = { KeptView };
 
@@ -53,11 +46,11 @@ impl Model for Kept {
         closed = k.closed;
         best = k.best;
         counts = k.counts;
-        items = items_in k.held.entries;
+        items = k.held;
       };
     } };
 
-    ghost invariant = { λ k. IsKept k.slack k.best k.counts k.held.entries };
+    ghost invariant = { λ k. IsKept k.slack k.best k.counts k.held };
 }
 
 /// The greater of a time and one that may be there.
@@ -128,26 +121,14 @@ fn counts_with(counts: Counts, late: bool, got: &LineGot) -> Counts
     next
 }
 
-/// Puts the event that a line gives, if it isn't late, among those that are held, at the place of
-/// the line.
-fn hold(
-    held: &mut BTreeMap<OrderKey, Routes>,
-    late: bool,
-    at: u64,
-    got: LineGot,
-    line: u32,
-) -> Result<(), Memory>
-    requires order { IsTrue (is_sorted order_cmp held.old.entries) }
-    requires lines { LinesBelow line held.old.entries }
+/// Holds the event that a line gives, if it isn't late, at the place of the line.
+fn hold(held: &mut Held, late: bool, at: u64, got: LineGot, line: u32) -> Result<(), Memory>
+    requires lines { All (λ (item : Event). item.order.line < line) held.old }
     requires got { IsGotAt line got }
-    ensures items { OnOk result (items_in held.new.entries
-        ≡ sorted_items (items_in held.old.entries ++ held_got late at got)) }
-    ensures order { OnOk result (IsTrue (is_sorted order_cmp held.new.entries)) }
-    ensures lines { OnOk result (LinesTo line held.new.entries) }
-    ensures few { OnOk result (length held.new.entries
-        ≤ length held.old.entries + length (held_got late at got)) }
-    ensures unchanged { OnErr result (held.new.entries ≡ held.old.entries) }
+    ensures items { OnOk result (held.new ≡ sorted_items (held.old ++ held_got late at got)) }
+    ensures unchanged { OnErr result (held.new ≡ held.old) }
 {
+    held.ordered();
     let LineGot::Item(item) = got else {
         return Ok(());
     };
@@ -156,84 +137,29 @@ fn hold(
     }
     let mut order = item.order;
     order.at = at;
-    held.insert(order, item.routes)?;
-    Ok(())
-}
-
-/// Whether an event at this place lies below the mark.
-fn lies_below(order: &OrderKey, mark: Mark) -> bool
-    ensures { result ≡ is_below mark (record { order = order.now; routes = [] }) }
-{
-    match mark {
-        Mark::Start => false,
-        Mark::At(t) => order.ts < t,
-        Mark::End => true,
-    }
-}
-
-/// How many events lie below the mark, before the first that doesn't.
-fn count_below(held: &BTreeMap<OrderKey, Routes>, mark: Mark) -> usize
-    ensures { result ≡ length (take_while (λ order. is_below mark
-        (record { order = order; routes = [] })) (keys held.now)) }
-{
-    held.keys()
-        .take_while(|order| lies_below(order, mark))
-        .count()
+    held.push(Item {
+        order,
+        routes: item.routes,
+    })
 }
 
 /// Takes the first so many events out.
-fn pop_many(held: &mut BTreeMap<OrderKey, Routes>, count: usize, items: &mut Vec<Item>)
-    requires few { count ≤ length held.old.entries }
+fn pop_many(held: &mut Held, count: usize, items: &mut Vec<Item>)
+    requires few { count ≤ length held.old }
     requires empty { items.old.items ≡ [] }
     requires room { count ≤ vec_capacity items.old }
-    ensures items { items.new.items ≡ items_in (take count held.old.entries) }
-    ensures rest { held.new.entries ≡ drop count held.old.entries }
+    ensures items { items.new.items ≡ take count held.old }
+    ensures rest { held.new ≡ drop count held.old }
 {
     for _ in 0..count {
-        let Some((order, routes)) = held.pop_first() else {
+        let Some(item) = held.pop_first() else {
             unreachable!();
         };
-        match items.push(Item { order, routes }) {
+        match items.push(item) {
             Ok(()) => {}
             Err(_) => unreachable!(),
         }
     }
-}
-
-/// Adds a copy of an event.
-fn add_copy(copies: &mut Vec<Item>, order: &OrderKey, routes: &Routes) -> Result<(), Memory>
-    ensures { OnOk result (copies.new.items ≡ copies.old.items
-        ++ record { order = order.now; routes = routes.now } ∷ []) }
-{
-    let routes = routes.clone()?;
-    copies.push(Item {
-        order: *order,
-        routes,
-    })?;
-    Ok(())
-}
-
-/// Copies of the held events, in order.
-fn copy_held(alloc: Global, held: &BTreeMap<OrderKey, Routes>) -> Result<Items, Memory>
-    ensures { IfOk result (λ items. items ≡ items_in held.now.entries) }
-{
-    let mut copies = Vec::new(alloc);
-    for (order, routes) in held {
-        add_copy(&mut copies, order, routes)?;
-    }
-    Ok(Items::of(copies))
-}
-
-// The events of a cut, by their places.
-fn held_of(alloc: Global, items: Items) -> Result<BTreeMap<OrderKey, Routes>, Memory>
-    requires ascending { Ascending items }
-    ensures { IfOk result (λ held. held.entries ≡ map pair items) }
-{
-    let mut held = BTreeMap::new(alloc);
-    for item in items.into_items() {
-        held.insert(item.order, item.routes)?;
-    }
-    Ok(held)
 }
 
 /// The place of a line among lines that ascend.
@@ -291,25 +217,24 @@ impl Kept {
                 rejected: 0,
                 first: None,
             },
-            held: BTreeMap::new(alloc),
+            held: Held::new(alloc),
         }
     }
 
     /// What a cut keeps.
-    pub(crate) fn of(alloc: Global, slack: Option<i128>, cut: LaneCut) -> Result<Kept, Memory>
+    pub(crate) fn of(alloc: Global, slack: Option<i128>, cut: LaneCut) -> Kept
         requires slack { IsSlack slack }
         requires cut { MayBegin cut }
-        ensures { IfOk result (λ kept. kept ≡ record { slack = slack; cut = cut }) }
+        ensures { result ≡ record { slack = slack; cut = cut } }
     {
-        let held = held_of(alloc, cut.items)?;
-        Ok(Kept {
+        Kept {
             slack,
             offset: cut.offset,
             closed: cut.closed,
             best: cut.best,
             counts: cut.counts,
-            held,
-        })
+            held: Held::of(alloc, cut.items),
+        }
     }
 
     /// Reads on by a line of so many bytes with its line end, which gives this. After want of memory
@@ -375,19 +300,12 @@ impl Kept {
         }
     }
 
-    // How many held events lie below the mark.
-    fn below(&self, mark: Mark) -> usize
-        ensures { result ≡ length (filter (is_below mark) self.now.cut.items) }
-    {
-        count_below(&self.held, mark)
-    }
-
     /// How many held events lie below the low.
     pub(crate) fn ready(&self) -> u32
         ensures { result ≡ length (filter (is_below
             (low_of self.now.cut.closed self.now.slack self.now.cut.best)) self.now.cut.items) }
     {
-        count_below(&self.held, self.low()) as u32
+        self.held.count_below(self.low()) as u32
     }
 
     /// Takes out the held events below the mark, in order. After want of memory nothing has changed.
@@ -398,7 +316,8 @@ impl Kept {
         ensures slack { self.new.slack ≡ self.old.slack }
         ensures unchanged { OnErr result (self.new ≡ self.old) }
     {
-        let count = self.below(mark);
+        self.held.ordered();
+        let count = self.held.count_below(mark);
         let mut items = Vec::with_capacity(alloc, count)?;
         pop_many(&mut self.held, count, &mut items);
         Ok(Items::of(items))
@@ -408,7 +327,7 @@ impl Kept {
     pub(crate) fn ordered(&self)
         ensures { sorted_items self.now.cut.items ≡ self.now.cut.items }
     {
-        let _ = &self.held;
+        self.held.ordered();
     }
 
     /// Whether the source was read to its end.
@@ -422,7 +341,8 @@ impl Kept {
     pub(crate) fn snap(&self, alloc: Global) -> Result<LaneCut, Memory>
         ensures { IfOk result (λ cut. cut ≡ self.now.cut) }
     {
-        let items = copy_held(alloc, &self.held)?;
+        let held = self.held.clone()?;
+        let items = held.into_items(alloc)?;
         Ok(LaneCut {
             offset: self.offset,
             closed: self.closed,

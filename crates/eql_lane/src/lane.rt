@@ -505,7 +505,10 @@ impl<S: Source, L: LineReader + Drop> Lane<S, L> {
         let wanted = Lines::of(Vec::new(alloc));
         match seek(alloc, &mut source, cut.offset, cut.closed, wanted) {
             Err(refused) => Err((refused, source)),
-            Ok(places) => Lane::behind(alloc, source, reader, shard, slack, cut, places),
+            Ok(places) => {
+                let kept = Kept::of(alloc, slack, cut);
+                Ok(Lane::begin(alloc, source, reader, shard, kept, places))
+            }
         }
     }
 
@@ -534,40 +537,9 @@ impl<S: Source, L: LineReader + Drop> Lane<S, L> {
         match seek(alloc, &mut source, cut.offset, cut.closed, wanted) {
             Err(refused) => Err((refused, source)),
             Ok(places) => {
-                let cut = placed(cut, &places);
-                Lane::behind(alloc, source, reader, shard, slack, cut, places)
+                let kept = Kept::of(alloc, slack, placed(cut, &places));
+                Ok(Lane::begin(alloc, source, reader, shard, kept, places))
             }
-        }
-    }
-
-    // A lane that goes on from what a cut keeps of it, over the source behind its offset.
-    fn behind(
-        alloc: Global,
-        source: S,
-        reader: L,
-        shard: u32,
-        slack: Option<i128>,
-        cut: LaneCut,
-        places: Places,
-    ) -> Result<Lane<S, L>, (LaneRefused, S)>
-        requires slack { IsSlack slack }
-        requires cut { MayBegin cut }
-        requires ended { cut.closed ≡ true → IfSome (S.left source) (λ left. left ≡ []) }
-        ensures lane { IfOk result (λ lane. lane ≡ record {
-          source = source;
-          reader = reader;
-          shard = shard;
-          slack = slack;
-          buffer = record { long = None; unread = [] };
-          places = places;
-          state = begun cut (S.fault_count source);
-        }) }
-        ensures refused { IfErr result
-            (λ refused. (refused.0 ≡ LaneRefused.Memory) × (refused.1 ≡ source)) }
-    {
-        match Kept::of(alloc, slack, cut) {
-            Err(_) => Err((LaneRefused::Memory, source)),
-            Ok(kept) => Ok(Lane::begin(alloc, source, reader, shard, kept, places)),
         }
     }
 

@@ -2,6 +2,7 @@
 #![tactic(auto)]
 
 mod buffer;
+mod held;
 mod kept;
 mod lane;
 mod laws;

@@ -1,6 +1,6 @@
 //! Rows of lanes: texts in pieces, batches, slacks and faults, with what each operation answers.
 //! The answers were worked out by hand.
-ghost use Rattle.std.specs.Prelude.{◌≤◌, IfOk};
+ghost use Rattle.std.specs.Prelude.{◌≡◌, ◌≤◌, [], IfOk};
 ghost use Rattle.eql_lane.specs.Starts.{MayBegin};
 
 use crate::reader::FirstByte;
@@ -12,7 +12,7 @@ use std::fmt::Write;
 use std::test::Fail;
 
 /// A lane in memory.
-type TestLane = Lane<MemSource, FirstByte>;
+pub(crate) type TestLane = Lane<MemSource, FirstByte>;
 
 /// What is played on a lane, and what is told.
 struct Row {
@@ -28,16 +28,16 @@ struct Row {
     told: &'static str,
 }
 
-const END: LaneOp = LaneOp::Take { mark: Mark::End };
+pub(crate) const END: LaneOp = LaneOp::Take { mark: Mark::End };
 
 const LOOK: LaneOp = LaneOp::Look;
 
-const ONE: LaneOp = LaneOp::Feed { max: 1 };
+pub(crate) const ONE: LaneOp = LaneOp::Feed { max: 1 };
 
-const NINE: LaneOp = LaneOp::Feed { max: 9 };
+pub(crate) const NINE: LaneOp = LaneOp::Feed { max: 9 };
 
 /// The rows whose answers are the same for all pieces.
-const ROWS: [Row; 6] = [
+const ROWS: [Row; 7] = [
     // Line 2 comes 6 s behind line 1, line 3 comes 4 s behind it.
     Row {
         text: b":\n4\n6\n",
@@ -89,6 +89,14 @@ const ROWS: [Row; 6] = [
         ops: &[LaneOp::Feed { max: 2 }, LOOK, END, ONE, LOOK, END, ONE],
         told: "fed 2;low start;taken;closed;low end;taken 2@2 1@0;closed;",
     },
+    // Events in any order are told, and handed out, in theirs.
+    Row {
+        text: b"3\n1\n5\n2\n4\n",
+        fails: &[],
+        slack: None,
+        ops: &[NINE, LaneOp::Snap, END, LaneOp::Snap],
+        told: "fed 5;cut 10 5 true 2@2 4@6 1@0 5@8 3@4;taken 2@2 4@6 1@0 5@8 3@4;cut 10 5 true;",
+    },
     // An empty shard.
     Row {
         text: b"",
@@ -131,7 +139,13 @@ const FAULTS: [Row; 4] = [
     },
 ];
 
-fn source(alloc: Global, text: &[u8], piece: usize, fails: &[u64]) -> Result<MemSource, Fail> {
+/// A source in memory, in pieces of so many bytes, of which these takes fail, numbered from 1.
+pub(crate) fn source(
+    alloc: Global,
+    text: &[u8],
+    piece: usize,
+    fails: &[u64],
+) -> Result<MemSource, Fail> {
     if piece == 0 {
         return Err(Fail::from("a piece has no bytes"));
     }
@@ -143,7 +157,8 @@ fn source(alloc: Global, text: &[u8], piece: usize, fails: &[u64]) -> Result<Mem
     }))
 }
 
-fn lane(alloc: Global, source: MemSource, slack: Option<u64>) -> Result<TestLane, Fail> {
+/// A fresh lane over a source.
+pub(crate) fn lane(alloc: Global, source: MemSource, slack: Option<u64>) -> Result<TestLane, Fail> {
     if let Some(ms) = slack
         && ms > 3153600000000
     {
@@ -155,7 +170,11 @@ fn lane(alloc: Global, source: MemSource, slack: Option<u64>) -> Result<TestLane
     }
 }
 
-fn play(lane: &mut TestLane, op: LaneOp) -> Result<LaneReply, Fail> {
+/// Plays an operation that may be played.
+pub(crate) fn play<L: LineReader>(
+    lane: &mut Lane<MemSource, L>,
+    op: LaneOp,
+) -> Result<LaneReply, Fail> {
     match op {
         LaneOp::Feed { max } => {
             if max < 1 || 4096 < max {
@@ -194,7 +213,8 @@ fn write_cut(out: &mut String, cut: &LaneCut) -> Result<(), Fail> {
     write_items(out, &cut.items)
 }
 
-fn write_reply(out: &mut String, reply: &LaneReply) -> Result<(), Fail> {
+/// Writes an answer, followed by `;`.
+pub(crate) fn write_reply(out: &mut String, reply: &LaneReply) -> Result<(), Fail> {
     match reply {
         LaneReply::Fed { lines } => write!(out, "fed {lines}")?,
         LaneReply::Held { ready } => write!(out, "held {ready}")?,
@@ -240,7 +260,7 @@ struct Start {
     closed: bool,
     /// The lines that the cut says were read.
     lines: u32,
-    /// Why the lane isn't made, or what it answers to a feed of nine lines and a take.
+    /// Why the lane isn't made, or what it answers to feeds of one line and of nine, and a take.
     told: &'static str,
 }
 
@@ -251,7 +271,7 @@ const STARTS: [Start; 9] = [
         offset: 2,
         closed: false,
         lines: 7,
-        told: "fed 2;taken 8@2 9@4;",
+        told: "fed 1;fed 1;taken 8@2 9@4;",
     },
     Start {
         text: b"1\n",
@@ -259,7 +279,7 @@ const STARTS: [Start; 9] = [
         offset: 2,
         closed: false,
         lines: 1,
-        told: "closed;taken;",
+        told: "closed;closed;taken;",
     },
     Start {
         text: b"1\n2",
@@ -283,7 +303,7 @@ const STARTS: [Start; 9] = [
         offset: 3,
         closed: true,
         lines: 2,
-        told: "closed;taken;",
+        told: "closed;closed;taken;",
     },
     Start {
         text: b"1\n2",
@@ -312,20 +332,21 @@ const STARTS: [Start; 9] = [
     },
     // No further line may be read.
     Start {
-        text: b"1\n2",
+        text: b"{}a",
         fails: &[],
         offset: 2,
         closed: false,
         lines: 4294967294,
-        told: "too many lines 0;taken;",
+        told: "too many lines 0;too many lines 0;taken;",
     },
 ];
 
 /// A cut that holds no events.
-fn empty_cut(alloc: Global, offset: u64, closed: bool, lines: u32) -> LaneCut
+pub(crate) fn empty_cut(alloc: Global, offset: u64, closed: bool, lines: u32) -> LaneCut
     requires lines { lines ≤ 4294967294 }
     requires bytes { offset ≤ 1099511627776 }
-    ensures { MayBegin result }
+    ensures may { MayBegin result }
+    ensures none { result.items ≡ [] }
 {
     LaneCut {
         offset,
@@ -342,7 +363,8 @@ fn empty_cut(alloc: Global, offset: u64, closed: bool, lines: u32) -> LaneCut
     }
 }
 
-fn write_refused(out: &mut String, refused: LaneRefused) -> Result<(), Fail> {
+/// Writes why a lane isn't made.
+pub(crate) fn write_refused(out: &mut String, refused: LaneRefused) -> Result<(), Fail> {
     match refused {
         LaneRefused::Short { offset, had } => write!(out, "short {offset} {had}")?,
         LaneRefused::NoLine { line } => write!(out, "no line {line}")?,
@@ -365,7 +387,7 @@ fn told_of_start(alloc: Global, start: &Start) -> Result<String, Fail> {
         Err((refused, _source)) => write_refused(&mut out, refused)?,
         Ok(lane) => {
             let mut lane = lane;
-            for op in [NINE, END] {
+            for op in [ONE, NINE, END] {
                 let reply = play(&mut lane, op)?;
                 write_reply(&mut out, &reply)?;
             }
@@ -458,39 +480,6 @@ fn feeds_go_on_after_faults(rt: HostRuntime) -> Result<(), Fail> {
     for row in &FAULTS {
         let out = told(alloc, row, 2)?;
         assert_eq!(rt; out.as_str(), row.told);
-    }
-    Ok(())
-}
-
-/// A text of so many bytes `A`, and a line behind it.
-fn long_text(alloc: Global, bytes: usize) -> Result<Vec<u8>, Fail> {
-    let mut text = Vec::new(alloc);
-    for _ in 0..bytes {
-        text.push(b'A')?;
-    }
-    text.push(b'\n')?;
-    text.push(b'1')?;
-    Ok(text)
-}
-
-#[test]
-fn a_line_that_is_too_long_is_passed_over(rt: HostRuntime) -> Result<(), Fail> {
-    let alloc = rt.alloc();
-    for (bytes, piece, rejected) in [
-        (1048576, 65536, 0),
-        (1048577, 65536, 1),
-        (1048577, 4099, 1),
-        (1048577, 61, 1),
-        (3000000, 65536, 1),
-    ] {
-        let text = long_text(alloc, bytes)?;
-        let source = source(alloc, text.as_slice(), piece, &[])?;
-        let mut lane = lane(alloc, source, None)?;
-        let _ = play(&mut lane, NINE)?;
-        let counts = lane.counts();
-        assert_eq!(rt; counts.lines, 2);
-        assert_eq!(rt; counts.rejected, rejected);
-        assert_eq!(rt; counts.accepted, 2 - rejected);
     }
     Ok(())
 }

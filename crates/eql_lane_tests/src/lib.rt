@@ -2,6 +2,10 @@
 #![tactic(auto)]
 
 #[cfg(test)]
+mod feeds;
+#[cfg(test)]
 mod lanes;
+#[cfg(test)]
+mod lifts;
 #[cfg(test)]
 mod reader;

@@ -71,3 +71,44 @@ impl LineReader for FirstByte {
 
     ghost reads_long = { λ reader shard line bytes many. reads_a_long_line shard line bytes many };
 }
+
+/// A reader that lacks memory once, and reads as [`FirstByte`] does otherwise.
+#[derive(Clone, Copy)]
+pub struct LacksOnce {
+    // How many readings were asked for.
+    asked: u32,
+    // The reading, from 1, that lacks memory.
+    at: u32,
+}
+
+impl LacksOnce {
+    /// A reader whose reading of this number, from 1, lacks memory.
+    pub fn at(at: u32) -> LacksOnce {
+        LacksOnce { asked: 0, at }
+    }
+}
+
+impl LineReader for LacksOnce {
+    ghost use Rattle.eql_lane_tests.specs.Reader.{first_byte};
+    ghost use Rattle.eql_lane_tests.specs.Laws.{reads_an_event, reads_a_long_line};
+
+    ghost read_of = { λ reader shard line bytes. first_byte shard line bytes };
+
+    fn read(
+        &mut self,
+        alloc: Global,
+        shard: u32,
+        line: u32,
+        bytes: &[u8],
+    ) -> Result<LineGot, Memory> {
+        self.asked = self.asked.saturating_add(1);
+        if self.asked == self.at {
+            return Err(Memory);
+        }
+        FirstByte.read(alloc, shard, line, bytes)
+    }
+
+    ghost reads_at = { λ reader shard line bytes event is. reads_an_event shard line bytes event is };
+
+    ghost reads_long = { λ reader shard line bytes many. reads_a_long_line shard line bytes many };
+}

@@ -5,8 +5,8 @@ use Rattle.eql_values.specs.declared.item.Item.{Item}
 use Rattle.eql_values.specs.Ascending.{Ascending}
 use Rattle.eql_lane_tests.proofs.lanes.empty_cut.Goals as goal
 
-pub returns : goal.returns
-returns c =
+pub returns-clause-may : goal.returns-clause-may
+returns-clause-may c =
     let none : c.of.result ≡ [] = c.of.ensures ∙ c.new.ensures.items in
     record {
       ascending = subst Ascending (sym none) tt;

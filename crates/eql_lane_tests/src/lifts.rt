@@ -1,0 +1,298 @@
+//! Lanes that are lifted: wanted lines with their places, and those that are missing.
+ghost use Rattle.std.specs.Prelude.{◌≡◌, IfOk};
+ghost use Rattle.std.specs.List.Sorted.{IsStrictlyIncreasing};
+ghost use Rattle.eql_lane.specs.Starts.{MayStart};
+
+use crate::lanes::{END, NINE, empty_cut, play, source, write_refused, write_reply};
+use crate::reader::FirstByte;
+use eql_lane::{Lane, LaneOp, LaneStart};
+use eql_values::{Counts, Item, Items, LaneCut, Lines, Memory, OrderKey, Places, Routes};
+use std::alloc::Global;
+use std::fmt::Write;
+use std::test::Fail;
+
+/// A lift of a cut with no events, and what is told of it.
+struct Lift {
+    /// The text of the shard.
+    text: &'static [u8],
+    /// The numbers, from 1, of the takes that fail.
+    fails: &'static [u64],
+    /// The bytes that the cut says were read.
+    offset: u64,
+    /// Whether the cut says that the shard was closed.
+    closed: bool,
+    /// The wanted lines.
+    wanted: &'static [u32],
+    /// Why the lane isn't made, or the places.
+    told: &'static str,
+}
+
+const LIFTS: [Lift; 16] = [
+    Lift {
+        text: b"ab\n\nc\nd\n",
+        fails: &[],
+        offset: 6,
+        closed: false,
+        wanted: &[1, 2, 3],
+        told: "1@0 2@3 3@4;",
+    },
+    Lift {
+        text: b"ab\n\nc\nd\n",
+        fails: &[],
+        offset: 6,
+        closed: false,
+        wanted: &[3],
+        told: "3@4;",
+    },
+    Lift {
+        text: b"ab\n\nc\nd\n",
+        fails: &[],
+        offset: 6,
+        closed: false,
+        wanted: &[],
+        told: "none;",
+    },
+    // Line 4 stands behind the offset.
+    Lift {
+        text: b"ab\n\nc\nd\n",
+        fails: &[],
+        offset: 6,
+        closed: false,
+        wanted: &[2, 4, 7],
+        told: "no line 4",
+    },
+    // The offset cuts line 3 in two.
+    Lift {
+        text: b"ab\n\nc\nd\n",
+        fails: &[],
+        offset: 5,
+        closed: false,
+        wanted: &[2, 3],
+        told: "no line 3",
+    },
+    Lift {
+        text: b"ab\n\nc\nd\n",
+        fails: &[],
+        offset: 5,
+        closed: false,
+        wanted: &[1, 2],
+        told: "1@0 2@3;",
+    },
+    // The last line needs no line feed.
+    Lift {
+        text: b"ab\n\nc",
+        fails: &[],
+        offset: 5,
+        closed: true,
+        wanted: &[1, 3],
+        told: "1@0 3@4;",
+    },
+    Lift {
+        text: b"ab\n\nc",
+        fails: &[],
+        offset: 5,
+        closed: false,
+        wanted: &[3],
+        told: "3@4;",
+    },
+    Lift {
+        text: b"ab\n\nc",
+        fails: &[],
+        offset: 5,
+        closed: true,
+        wanted: &[3, 4],
+        told: "no line 4",
+    },
+    // A missing line comes before a further byte, and behind too few.
+    Lift {
+        text: b"ab\n\nc\n",
+        fails: &[],
+        offset: 5,
+        closed: true,
+        wanted: &[3],
+        told: "no line 3",
+    },
+    Lift {
+        text: b"ab\n\nc\n",
+        fails: &[],
+        offset: 5,
+        closed: true,
+        wanted: &[2],
+        told: "grown",
+    },
+    Lift {
+        text: b"ab\n",
+        fails: &[],
+        offset: 5,
+        closed: true,
+        wanted: &[4],
+        told: "short 5 3",
+    },
+    // Lines count from 1.
+    Lift {
+        text: b"ab\n",
+        fails: &[],
+        offset: 3,
+        closed: false,
+        wanted: &[0, 1],
+        told: "no line 0",
+    },
+    Lift {
+        text: b"",
+        fails: &[],
+        offset: 0,
+        closed: true,
+        wanted: &[1],
+        told: "no line 1",
+    },
+    Lift {
+        text: b"ab\n",
+        fails: &[1],
+        offset: 3,
+        closed: false,
+        wanted: &[1],
+        told: "failed",
+    },
+    // The take behind the offset fails.
+    Lift {
+        text: b"a",
+        fails: &[2],
+        offset: 1,
+        closed: false,
+        wanted: &[1],
+        told: "failed",
+    },
+];
+
+/// Lines that ascend.
+fn ascending(alloc: Global, lines: &[u32]) -> Result<Lines, Fail>
+    ensures { IfOk result IsStrictlyIncreasing }
+{
+    let mut next = 1;
+    while next < lines.len() {
+        if lines[next] <= lines[next - 1] {
+            return Err(Fail::from("the lines don't ascend"));
+        }
+        next += 1;
+    }
+    Ok(Lines::of(Vec::from_slice(alloc, lines)?))
+}
+
+/// The start of a lift.
+fn start_of(alloc: Global, lift: &Lift) -> Result<LaneStart, Fail>
+    ensures { IfOk result MayStart }
+{
+    if 1099511627776 < lift.offset {
+        return Err(Fail::from("no such cut"));
+    }
+    let wanted = ascending(alloc, lift.wanted)?;
+    let cut = empty_cut(alloc, lift.offset, lift.closed, 9);
+    Ok(LaneStart::Lift { cut, wanted })
+}
+
+/// Writes lines with their places.
+fn write_places(out: &mut String, places: &Places) -> Result<(), Fail> {
+    if places.items().is_empty() {
+        write!(out, "none")?;
+    }
+    let mut between = "";
+    for (line, at) in places.items() {
+        write!(out, "{between}{line}@{at}")?;
+        between = " ";
+    }
+    write!(out, ";")?;
+    Ok(())
+}
+
+/// What is told of a lift, in pieces of so many bytes.
+fn told_of_lift(alloc: Global, lift: &Lift, piece: usize) -> Result<String, Fail> {
+    let source = source(alloc, lift.text, piece, lift.fails)?;
+    let start = start_of(alloc, lift)?;
+    let mut out = String::new(alloc);
+    match Lane::make(alloc, source, FirstByte, 0, None, start) {
+        Err((refused, _source)) => write_refused(&mut out, refused)?,
+        Ok(lane) => {
+            let mut lane = lane;
+            write_places(&mut out, &lane.places())?;
+            if !lane.places().items().is_empty() {
+                return Err(Fail::from("there are places a second time"));
+            }
+        }
+    }
+    Ok(out)
+}
+
+#[test]
+fn wanted_lines_have_places(rt: HostRuntime) -> Result<(), Fail> {
+    let alloc = rt.alloc();
+    for lift in &LIFTS {
+        for piece in [1, 2, 4, 65536] {
+            if piece > 1 && !lift.fails.is_empty() {
+                continue;
+            }
+            let out = told_of_lift(alloc, lift, piece)?;
+            assert_eq!(rt; out.as_str(), lift.told);
+        }
+    }
+    Ok(())
+}
+
+/// A lift of a cut with a slack of a second over the lines `1` and `5`, of which the second is
+/// held and has no place.
+fn lift_of_line_two(alloc: Global) -> Result<LaneStart, Memory>
+    ensures { IfOk result MayStart }
+{
+    let mut items = Vec::new(alloc);
+    items.push(Item {
+        order: OrderKey {
+            ts: 5000000000,
+            tie: None,
+            shard: 0,
+            line: 2,
+            at: 0,
+        },
+        routes: Routes::of(Vec::new(alloc)),
+    })?;
+    let mut wanted = Vec::new(alloc);
+    wanted.push(2)?;
+    let cut = LaneCut {
+        offset: 4,
+        closed: false,
+        best: Some(5000000000),
+        counts: Counts {
+            lines: 2,
+            accepted: 2,
+            late: 0,
+            rejected: 0,
+            first: None,
+        },
+        items: Items::of(items),
+    };
+    Ok(LaneStart::Lift {
+        cut,
+        wanted: Lines::of(wanted),
+    })
+}
+
+/// The held event has the place of its line, and the lane goes on as from a cut with places.
+#[test]
+fn held_events_have_places(rt: HostRuntime) -> Result<(), Fail> {
+    let alloc = rt.alloc();
+    let source = source(alloc, b"1\n5\n4\n3\n", 3, &[])?;
+    let Ok(start) = lift_of_line_two(alloc) else {
+        return Err(Fail::from("memory"));
+    };
+    let mut lane = match Lane::make(alloc, source, FirstByte, 0, Some(1000), start) {
+        Ok(lane) => lane,
+        Err(_) => return Err(Fail::from("the lane isn't made")),
+    };
+    let mut out = String::new(alloc);
+    write_places(&mut out, &lane.places())?;
+    for op in [LaneOp::Snap, NINE, END] {
+        let reply = play(&mut lane, op)?;
+        write_reply(&mut out, &reply)?;
+    }
+    let expected = "2@2;cut 4 2 false 2@2;fed 2;taken 3@4 2@2;";
+    assert_eq!(rt; out.as_str(), expected);
+    Ok(())
+}
