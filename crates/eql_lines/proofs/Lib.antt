@@ -2,16 +2,17 @@ pub mod InTime
 mod Bits
 mod Leads
 mod Under
+mod Stepping
 mod Reading
 mod Opening
 mod Adding
 mod Walking
 mod Whole
 pub mod Alone
-mod Firsts
 mod Clocks
 pub mod TextTimes
 mod Colons
+mod Wholes
 mod Partly
 mod Events
 pub mod EventTimes

@@ -5,6 +5,7 @@ pub mod Reach
 pub mod Found
 pub mod Places
 pub mod Paths
+pub mod Steps
 pub mod Numbers
 pub mod Lines
 pub mod Walked

@@ -5,5 +5,5 @@ use Rattle.eql_lines.specs.declared.read.Routes.{Routes}
 use Rattle.eql_lines.specs.declared.read.Routes.TheVariants.{Few, Many}
 
 abbrev pub names_of : Routes → List (String Global)
-names_of (Few p) = p.paths.items
+names_of (Few s) = s.paths.paths.items
 names_of (Many v) = v.items

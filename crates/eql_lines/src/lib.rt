@@ -16,6 +16,8 @@ mod read;
 mod refused;
 mod scan;
 mod slots;
+mod steps;
+mod stops;
 mod times;
 mod values;
 mod walk;

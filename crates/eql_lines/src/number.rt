@@ -1,5 +1,7 @@
 //! Numbers, read as `serde_json` reads them, but for the value of a float.
-ghost use Rattle.std.specs.Prelude.{◌≡◌, ◌<◌, ◌==◌, length, slice_index, option_map, IsTrue, true, false};
+ghost use Rattle.std.specs.Prelude.{◌≡◌, ◌<◌, ◌≤◌, ◌==◌, length, slice_index, option_map, is_some, IsTrue, true, false};
+ghost use Rattle.std.specs.List.{list_all};
+ghost use Rattle.std.specs.Char.{is_ascii_digit};
 ghost use Rattle.serde_json.specs.Read.{number_of, number_from, float_of};
 ghost use Rattle.eql_lines.specs.Numbers.{num_of};
 
@@ -27,6 +29,31 @@ pub(crate) fn parse_number(text: &str) -> Option<Num>
     } else {
         unsigned(&Numeral::scan(bytes))
     }
+}
+
+/// Whether a float can hold the number that the text of a token writes.
+pub(crate) fn fits_float(text: &str) -> bool
+    ensures { result ≡ is_some (number_of text.now) }
+{
+    is_short_whole(text.as_bytes()) || parse_number(text).is_some()
+}
+
+/// Whether the bytes are digits, one to 19 of them.
+#[inline(always)]
+fn is_short_whole(bytes: &[u8]) -> bool
+    ensures some { result ≡ true → 0 < length bytes.now }
+    ensures short { result ≡ true → length bytes.now ≤ 19 }
+    ensures digits { result ≡ true → list_all is_ascii_digit bytes.now ≡ true }
+{
+    !bytes.is_empty() && bytes.len() <= 19 && is_whole(bytes)
+}
+
+/// Whether all bytes are digits.
+#[inline(always)]
+fn is_whole(bytes: &[u8]) -> bool
+    ensures { result ≡ list_all is_ascii_digit bytes.now }
+{
+    bytes.iter().all(|byte| byte.is_ascii_digit())
 }
 
 #[inline(always)]

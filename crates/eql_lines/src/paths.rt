@@ -3,7 +3,7 @@ ghost use Rattle.std.specs.Prelude.{◌≡◌, ◌≤◌, ℕ, length, option_an
 ghost use Rattle.eql_lines.specs.Reach.{Scalar, leads, behind, is_nil, at_end};
 ghost use Rattle.eql_lines.specs.Found.{one, found_by};
 ghost use Rattle.eql_lines.specs.Paths.{path_at, rest_at, Gains};
-ghost use Rattle.eql_lines.specs.Places.{in_set, AreByFirst};
+ghost use Rattle.eql_lines.specs.Places.{in_set};
 
 use crate::places::Places;
 use crate::slots::{Seen, Slot};
@@ -13,10 +13,7 @@ use std::alloc::AllocError;
 #[derive(Drop)]
 pub(crate) struct Paths {
     pub(crate) paths: Vec<String>,
-    // By a byte, the places of the paths that begin with it.
-    firsts: [Places; 256],
     ghost few: { length paths.items ≤ 128 },
-    ghost by_first: { AreByFirst paths.items firsts },
 }
 
 /// The paths that a value may add to, by their places, and how many bytes of each are behind.
@@ -24,6 +21,15 @@ pub(crate) struct Paths {
 pub(crate) struct Active {
     pub(crate) places: Places,
     pub(crate) at: usize,
+}
+
+impl Active {
+    /// Whether both have come as far.
+    pub(crate) fn is(self, other: Active) -> bool
+        ensures { result ≡ true → self ≡ other }
+    {
+        self.places.is(other.places) && self.at == other.at
+    }
 }
 
 /// Whether the rest of a path, if there is any, is the name, or begins with the name and a dot.
@@ -45,30 +51,7 @@ impl Paths {
         requires { length paths.items ≤ 128 }
         ensures { result.paths ≡ paths }
     {
-        let mut firsts = [Places::none(); 256];
-        for place in 0..paths.len() {
-            let path = paths[place].as_bytes();
-            if !path.is_empty() {
-                firsts[path[0] as usize].add(place);
-            }
-        }
-        Paths { paths, firsts }
-    }
-
-    /// The places of the paths that may go on under a name.
-    #[inline]
-    fn candidates(&self, active: Active, name: &[u8]) -> Places
-        ensures within { (i : ℕ) → in_set result i ≡ true → in_set active.places i ≡ true }
-        ensures all { (i : ℕ) → in_set result i ≡ false
-            → option_and_then (behind name.now) (rest_at self.now.paths.items active i) ≡ None }
-    {
-        if active.at > 0 {
-            return active.places;
-        }
-        if name.is_empty() {
-            return active.places;
-        }
-        active.places.common(self.firsts[name[0] as usize])
+        Paths { paths }
     }
 
     /// What the value of the whole line may add to.
@@ -84,7 +67,7 @@ impl Paths {
 
     /// What is left of the path of this place behind its first `at` bytes.
     #[inline(always)]
-    fn rest(&self, place: usize, at: usize) -> Option<&[u8]>
+    pub(crate) fn rest(&self, place: usize, at: usize) -> Option<&[u8]>
         ensures { option_map (λ r. r.now) result
             ≡ option_map (λ s. drop at (string_bytes s)) (slice_get self.now.paths.items place) }
     {
@@ -93,18 +76,18 @@ impl Paths {
     }
 
     /// What the value of a member of this name may add to.
-    pub(crate) fn under(&self, active: Active, name: &str) -> Active
+    pub(crate) fn under(&self, active: Active, name: &[u8]) -> Active
         ensures { (i : ℕ) → rest_at self.now.paths.items result i
             ≡ option_and_then (behind name.now) (rest_at self.now.paths.items active i) }
     {
-        let mut left = self.candidates(active, name.as_bytes());
+        let mut left = active.places;
         let mut places = Places::none();
         let mut at = 0;
         while let Some(place) = left.take_first() {
             let Some(rest) = self.rest(place, active.at) else {
                 continue;
             };
-            if leads(rest, name.as_bytes()) {
+            if leads(rest, name) {
                 places.add(place);
                 at = active.at + name.len() + 1;
             }

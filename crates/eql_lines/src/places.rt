@@ -11,9 +11,17 @@ pub(crate) struct Places {
 impl Places {
     /// No place.
     pub(crate) fn none() -> Places
-        ensures { (i : ℕ) → in_set result i ≡ false }
+        ensures zero { result ≡ record { bits = 0 } }
+        ensures nothing { (i : ℕ) → in_set result i ≡ false }
     {
         Places { bits: 0 }
+    }
+
+    /// Whether the sets are the same.
+    pub(crate) fn is(self, other: Places) -> bool
+        ensures { result ≡ true → self ≡ other }
+    {
+        self.bits == other.bits
     }
 
     /// Whether no place is there.

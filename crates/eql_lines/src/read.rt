@@ -15,6 +15,8 @@ use crate::again::read_again;
 use crate::line::Line;
 use crate::paths::Paths;
 use crate::slots::Slot;
+use crate::steps::{NoTable, Table};
+use crate::stops::{Stops, WHOLE};
 use crate::walk::{Broke, walk_value};
 use json::{Reader, Scratch};
 use std::alloc::{AllocError, Global};
@@ -41,21 +43,25 @@ pub(crate) enum Walked {
 /// The wanted paths, with what the walk needs where they are few enough for it.
 #[derive(Drop)]
 pub(crate) enum Routes {
-    /// At most 128.
-    Few(Paths),
+    /// At most 128 paths, with at most 4096 stops.
+    Few(Stops),
     /// More: such lines are read as values.
     Many(Vec<String>),
 }
 
 impl Routes {
     /// These paths.
-    fn of(paths: Vec<String>) -> Routes
-        ensures { names_of result ≡ paths.items }
+    fn of(alloc: Global, paths: Vec<String>) -> Result<Routes, AllocError>
+        ensures { IfOk result (λ routes. names_of routes ≡ paths.items) }
     {
-        if paths.len() <= MOST_PATHS {
-            Routes::Few(Paths::of(paths))
-        } else {
-            Routes::Many(paths)
+        if paths.len() > MOST_PATHS {
+            return Ok(Routes::Many(paths));
+        }
+        let paths = Paths::of(paths);
+        match Table::of(alloc, &paths) {
+            Ok(table) => Ok(Routes::Few(Stops::of(paths, table))),
+            Err(NoTable::Long) => Ok(Routes::Many(paths.paths)),
+            Err(NoTable::Memory) => Err(AllocError),
         }
     }
 
@@ -64,7 +70,7 @@ impl Routes {
         ensures { result.now.items ≡ names_of self.now }
     {
         match self {
-            Routes::Few(paths) => &paths.paths,
+            Routes::Few(stops) => &stops.paths.paths,
             Routes::Many(paths) => paths,
         }
     }
@@ -92,22 +98,22 @@ fn clear(slots: &mut Vec<Slot>)
 
 /// Walks over a whole text.
 fn walk_text(
-    paths: &Paths,
+    stops: &Stops,
     slots: &mut Vec<Slot>,
     scratch: &mut Scratch,
     text: &str,
 ) -> Result<Walked, AllocError>
-    requires { length slots.old.items ≡ length paths.now.paths.items }
+    requires { length slots.old.items ≡ length stops.now.paths.paths.items }
     ensures not_json { IfOk result (λ line. line ≡ Walked.NotJson → read_text text.now ≡ None) }
     ensures json { IfOk result (λ line. IsJson line → (d : Data) × (read_text text.now ≡ Some d)
         × (is_object_line line ≡ is_object d)
         × ((i : ℕ) → found_at slots.new.items i
-        ≡ found_all nothing (over (reach d) (path_at paths.now.paths.items i)))) }
+        ≡ found_all nothing (over (reach d) (path_at stops.now.paths.paths.items i)))) }
     ensures length { length slots.new.items ≡ length slots.old.items }
 {
     clear(slots);
     let mut reader = Reader::new(text, scratch)?;
-    match walk_value(paths, slots, &mut reader, MAX_DEPTH, paths.whole()) {
+    match walk_value(stops, slots, &mut reader, MAX_DEPTH, WHOLE) {
         Ok(is_object) => if reader.next().is_some() {
             Ok(Walked::NotJson)
         } else if is_object {
@@ -131,7 +137,7 @@ impl LineWalk {
             slots.push(Slot::new(alloc))?;
         }
         Ok(LineWalk {
-            routes: Routes::of(paths),
+            routes: Routes::of(alloc, paths)?,
             slots,
             scratch: Scratch::new(alloc),
             alloc,
@@ -154,14 +160,14 @@ impl LineWalk {
         let Ok(text) = simdutf8::compat::from_utf8(bytes) else {
             return Ok(Line::NotJson);
         };
-        let Routes::Few(paths) = &self.routes else {
+        let Routes::Few(stops) = &self.routes else {
             return read_again(self.alloc, self.routes.names(), &mut self.slots, bytes);
         };
-        match walk_text(paths, &mut self.slots, &mut self.scratch, text)? {
+        match walk_text(stops, &mut self.slots, &mut self.scratch, text)? {
             Walked::NotJson => Ok(Line::NotJson),
             Walked::NotObject => Ok(Line::NotObject),
             Walked::Object => Ok(Line::Object),
-            Walked::Again => read_again(self.alloc, &paths.paths, &mut self.slots, bytes),
+            Walked::Again => read_again(self.alloc, &stops.paths.paths, &mut self.slots, bytes),
         }
     }
 }

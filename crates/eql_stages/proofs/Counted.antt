@@ -1,15 +1,19 @@
--- How many stages a checked query has.
-use Rattle.std.proofs.Common.{◌≡◌, ◌≤◌, ℕ, ◌+◌, ℤ, pos, negsuc, true, List, [], ◌∷◌, ◌++◌, length, refl, ap, sym, ◌∙◌, arith}
+-- How many stages a checked query has, and that its span is no negative time.
+use Rattle.std.proofs.Common.{◌≡◌, ◌≤◌, ℕ, ◌+◌, ℤ, pos, negsuc, ◌≤ℤ◌, ◌*ℤ◌, ◌&&◌, true, List, [], ◌∷◌, ◌++◌, Some, None, length, refl, ap, sym, ◌∙◌, arith}
+use Rattle.std.proofs.lemmas.Int.{ints}
 use Rattle.std.specs.Prelude.{int_le, ◌+ℤ◌}
 use Rattle.std.specs.List.{list_all, flat_map}
 use Rattle.std.proofs.lemmas.Bool.{and_parts, leb-true}
 use Rattle.std.proofs.lemmas.List.{length-append, length-replicate}
 use Rattle.eql_parser.specs.declared.expr.FieldRef.{FieldRef}
+use Rattle.eql_parser.specs.declared.query.Unit.{Unit as SpanUnit}
+use Rattle.eql_parser.specs.declared.query.Unit.TheVariants as unit
 use Rattle.eql_parser.specs.QueryTree.{TermTree, BodyTree, event, sequence}
 use Rattle.eql_check.specs.Conditions.{all_items, as_list}
-use Rattle.eql_check.specs.Rules.{are_runs, has_runs, stage_count}
-use Rattle.eql_check.specs.Typing.{has_stages}
-use Rattle.eql_stages.specs.Stages.{count_of, item_stages, stages_in}
+use Rattle.eql_check.specs.Rules.{are_runs, has_runs, longest, span_of, stage_count}
+use Rattle.eql_check.specs.Typing.{has_stages, may_span}
+use Rattle.eql_laws.specs.Alive.{IsSpan}
+use Rattle.eql_stages.specs.Stages.{count_of, item_stages, nanos_of, span_in, stages_in}
 use Rattle.eql_stages.proofs.Fits.{all-append}
 
 counted : (n : ℤ) → are_runs n ≡ true → n ≡ pos (count_of n)
@@ -45,3 +49,20 @@ stages_between (sequence by span items until) some runs =
     let most : length (flat_map (item_stages by) items) ≤ 256 =
     leb-true _ 256 (ap (λ (n : ℤ). int_le n (pos 256)) (sym sum) ∙ both.1) in
     (omega arith, most)
+
+-- ---- the span
+count_times : (n : ℕ) (u : SpanUnit) → pos 0 ≤ℤ (pos n *ℤ nanos_of u)
+count_times n unit.Ms = omega (arith, ints)
+count_times n unit.S = omega (arith, ints)
+count_times n unit.M = omega (arith, ints)
+count_times n unit.H = omega (arith, ints)
+count_times n unit.D = omega (arith, ints)
+
+count_is : (n : ℤ) (most : ℤ) (u : SpanUnit) → (int_le (pos 1) n && int_le n most) ≡ true → pos 0 ≤ℤ (n *ℤ nanos_of u)
+count_is (pos n) most u h = count_times n u
+count_is (negsuc n) most u h = cc
+
+pub span_is : (body : BodyTree) → may_span (span_of body) ≡ true → IsSpan (span_in body)
+span_is (event term) h = tt
+span_is (sequence by None items until) h = tt
+span_is (sequence by (Some span) items until) h = count_is span.count (longest span.unit) span.unit h

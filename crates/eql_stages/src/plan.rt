@@ -7,6 +7,7 @@ ghost use Rattle.eql_stages.specs.Compiling.{JudgeAll, JudgesEnd};
 ghost use Rattle.eql_stages.specs.Judging.{stages_of};
 ghost use Rattle.eql_stages.specs.Planned.{planned, wanted_of};
 ghost use Rattle.eql_stages.specs.Stages as stages;
+ghost use Rattle.eql_laws.specs.Alive.{IsSpan};
 ghost use Rattle.eql_stages.specs.Stages.{stages_in, until_in, span_in, pipe_of};
 
 use crate::compile::judges_in;
@@ -155,14 +156,24 @@ impl Plan {
         self.stages
     }
 
-    /// The greatest time from the first event of a sequence to the last, in nanoseconds, if the query sets one.
-    pub fn span(&self) -> Option<i128>
+    // The span that the query sets.
+    fn span_set(&self) -> Option<i128>
         ensures { result ≡ span_in (planned self.now).query.body }
     {
         match &self.checked.query().body {
             Body::Event(_) => None,
             Body::Sequence { span, .. } => span.map(nanos_in),
         }
+    }
+
+    /// The greatest time from the first event of a sequence to the last, in nanoseconds, if the query sets one. It is no
+    /// negative time.
+    pub fn span(&self) -> Option<i128>
+        ensures same { result ≡ span_in (planned self.now).query.body }
+        ensures time { IsSpan result }
+    {
+        self.checked().rules_are_kept();
+        self.span_set()
     }
 
     /// How many key fields each item has, from 0 to 8.

@@ -1,71 +1,71 @@
-use Rattle.std.proofs.Common.{◌≡◌, ◌-◌, ◌<◌, [], ◌∷◌, ◌++◌, length, Some, None, refl, ap, ◌∙◌, arith}
+use Rattle.std.proofs.Common.{◌≡◌, ◌-◌, ◌<◌, [], ◌∷◌, ◌++◌, length, Some, None, refl, sym, ap, ◌∙◌, arith}
 use Rattle.json.specs.Token.{Token}
 use Rattle.json.specs.Json.{parse_map, after_end_array, read_key, value}
 use Rattle.json.specs.Reads.{token_of}
 use Rattle.json.proofs.Grammar.{value_is, read_key-shorter}
 use Rattle.serde_json.specs.Data.{null, boolean, number, string, array, object, put, no_items, no_members}
 use Rattle.serde_json.specs.Read.{of_json, converted, number_of}
-use Rattle.eql_lines.specs.Numbers.{num_of}
 use Rattle.eql_lines.proofs.Reading.{item_read, item_refused, items_over, member_read, member_refused, key_refused, members_over, items_before, one_more_item}
-use Rattle.eql_lines.proofs.Opening.{map_ok, map_err, on_err, opened_array, opened_object, no_array, no_object, read_string, read_boolean, read_null, read_number, no_number, read_nothing, some_before, none_before_map}
+use Rattle.eql_lines.proofs.Opening.{map_ok, map_err, on_err, opened_array, opened_object, no_array, no_object, read_string, read_boolean, read_null, read_number, no_number, read_nothing}
+use Rattle.eql_lines.proofs.Wholes.{some_is, none_is}
 use Rattle.eql_lines.proofs.pass.+pass.Goals as goal
 
 pub pass_value-returns-in_err-token-clause-err : goal.pass_value-returns-in_err-token-clause-err
 pass_value-returns-in_err-token-clause-err t c = on_err c.from_residual.result (read_nothing c.args.depth c.args.reader.now (grind arith))
 
-pub pass_value-returns-then-depth-eq0-clause-err : goal.pass_value-returns-then-depth-eq0-clause-err
-pass_value-returns-then-depth-eq0-clause-err t c =
-    let first : c.args.reader.now ≡ token_of c.in_ok-token.token ∷ c.next.new.self = grind arith in
-    no_array c.args.depth c.args.reader.now c.next.new.self (omega arith) (first ∙ ap (λ k. token_of k ∷ c.next.new.self) c.in-BeginArray.is)
+pub pass_on-returns-then-depth-eq0-clause-err : goal.pass_on-returns-then-depth-eq0-clause-err
+pass_on-returns-then-depth-eq0-clause-err t c =
+    let all = token_of c.args.token ∷ c.args.reader.now in
+    no_array c.args.depth all c.args.reader.now (omega arith) (ap (λ k. token_of k ∷ c.args.reader.now) c.in-BeginArray.is)
 
-pub pass_value-returns-then-depth-eq0-2-clause-err : goal.pass_value-returns-then-depth-eq0-2-clause-err
-pass_value-returns-then-depth-eq0-2-clause-err t c =
-    let first : c.args.reader.now ≡ token_of c.in_ok-token.token ∷ c.next.new.self = grind arith in
-    no_object c.args.depth c.args.reader.now c.next.new.self (omega arith) (first ∙ ap (λ k. token_of k ∷ c.next.new.self) c.in-BeginObject.is)
+pub pass_on-returns-then-depth-eq0-2-clause-err : goal.pass_on-returns-then-depth-eq0-2-clause-err
+pass_on-returns-then-depth-eq0-2-clause-err t c =
+    let all = token_of c.args.token ∷ c.args.reader.now in
+    no_object c.args.depth all c.args.reader.now (omega arith) (ap (λ k. token_of k ∷ c.args.reader.now) c.in-BeginObject.is)
 
-pub pass_value-returns-in-Some-clause-ok : goal.pass_value-returns-in-Some-clause-ok
-pass_value-returns-in-Some-clause-ok t c =
-    let first : c.args.reader.now ≡ token_of c.in_ok-token.token ∷ c.next.new.self = grind arith in
+pub pass_on-returns-then-fits_float-clause-ok : goal.pass_on-returns-then-fits_float-clause-ok
+pass_on-returns-then-fits_float-clause-ok t c =
+    let all = token_of c.args.token ∷ c.args.reader.now in
     let s = c.in-Number.text.now in
-    let is : c.args.reader.now ≡ Token.number s ∷ c.next.new.self = grind (arith, first) in
-    let n = some_before num_of (number_of s) c.in-Some.field-0 c.in-Some.ensures in
-    (number n.0, read_number c.args.depth c.args.reader.now c.next.new.self s n.0 is n.1)
+    let is : all ≡ Token.number s ∷ c.args.reader.now = grind arith in
+    let n = some_is (number_of s) (sym c.fits_float.ensures ∙ c.if-fits_float.true) in
+    (number n.0, read_number c.args.depth all c.args.reader.now s n.0 is n.1)
 
-pub pass_value-returns-in-None-clause-err : goal.pass_value-returns-in-None-clause-err
-pass_value-returns-in-None-clause-err t c =
-    let first : c.args.reader.now ≡ token_of c.in_ok-token.token ∷ c.next.new.self = grind arith in
+pub pass_on-returns-else-fits_float-clause-err : goal.pass_on-returns-else-fits_float-clause-err
+pass_on-returns-else-fits_float-clause-err t c =
+    let all = token_of c.args.token ∷ c.args.reader.now in
     let s = c.in-Number.text.now in
-    let is : c.args.reader.now ≡ Token.number s ∷ c.next.new.self = grind (arith, first) in
-    no_number c.args.depth c.args.reader.now c.next.new.self s is (none_before_map num_of (number_of s) c.in-None.ensures)
+    let is : all ≡ Token.number s ∷ c.args.reader.now = grind arith in
+    no_number c.args.depth all c.args.reader.now s is (none_is (number_of s) (sym c.fits_float.ensures ∙ c.if-fits_float.false))
 
-pub pass_value-returns-in-EndObject-clause-err : goal.pass_value-returns-in-EndObject-clause-err
-pass_value-returns-in-EndObject-clause-err t c =
-    let first : c.args.reader.now ≡ token_of c.in_ok-token.token ∷ c.next.new.self = grind arith in
-    let none : value c.args.depth c.args.reader.now ≡ None = rw (value_is c.args.depth c.args.reader.now, first) (grind arith) in
+pub pass_on-returns-in-EndObject-clause-err : goal.pass_on-returns-in-EndObject-clause-err
+pass_on-returns-in-EndObject-clause-err t c =
+    let all = token_of c.args.token ∷ c.args.reader.now in
+    let none : value c.args.depth all ≡ None = rw (value_is c.args.depth all) (grind arith) in
     ap (converted of_json) none
 
-pub pass_value-returns-else-depth-eq0-clause-ok : goal.pass_value-returns-else-depth-eq0-clause-ok
-pass_value-returns-else-depth-eq0-clause-ok t c =
-    let first : c.args.reader.now ≡ token_of c.in_ok-token.token ∷ c.next.new.self = grind arith in
-    let opened = opened_array c.args.depth c.args.reader.now c.next.new.self (omega arith) (first ∙ ap (λ k. token_of k ∷ c.next.new.self) c.in-BeginArray.is) in
+pub pass_on-returns-else-depth-eq0-clause-ok : goal.pass_on-returns-else-depth-eq0-clause-ok
+pass_on-returns-else-depth-eq0-clause-ok t c =
+    let all = token_of c.args.token ∷ c.args.reader.now in
+    let opened = opened_array c.args.depth all c.args.reader.now (omega arith) (ap (λ k. token_of k ∷ c.args.reader.now) c.in-BeginArray.is) in
     map_ok c.pass_items.result (λ h. (array h.0, opened ∙ ap (parse_map array) h.1)) c.pass_items.ensures.ok
 
-pub pass_value-returns-else-depth-eq0-clause-err : goal.pass_value-returns-else-depth-eq0-clause-err
-pass_value-returns-else-depth-eq0-clause-err t c =
-    let first : c.args.reader.now ≡ token_of c.in_ok-token.token ∷ c.next.new.self = grind arith in
-    let opened = opened_array c.args.depth c.args.reader.now c.next.new.self (omega arith) (first ∙ ap (λ k. token_of k ∷ c.next.new.self) c.in-BeginArray.is) in
+pub pass_on-returns-else-depth-eq0-clause-err : goal.pass_on-returns-else-depth-eq0-clause-err
+pass_on-returns-else-depth-eq0-clause-err t c =
+    let all = token_of c.args.token ∷ c.args.reader.now in
+    let opened = opened_array c.args.depth all c.args.reader.now (omega arith) (ap (λ k. token_of k ∷ c.args.reader.now) c.in-BeginArray.is) in
     map_err c.pass_items.result (λ h. opened ∙ ap (parse_map array) h) c.pass_items.ensures.err
 
-pub pass_value-returns-else-depth-eq0-2-clause-ok : goal.pass_value-returns-else-depth-eq0-2-clause-ok
-pass_value-returns-else-depth-eq0-2-clause-ok t c =
-    let first : c.args.reader.now ≡ token_of c.in_ok-token.token ∷ c.next.new.self = grind arith in
-    let opened = opened_object c.args.depth c.args.reader.now c.next.new.self (omega arith) (first ∙ ap (λ k. token_of k ∷ c.next.new.self) c.in-BeginObject.is) in
+pub pass_on-returns-else-depth-eq0-2-clause-ok : goal.pass_on-returns-else-depth-eq0-2-clause-ok
+pass_on-returns-else-depth-eq0-2-clause-ok t c =
+    let all = token_of c.args.token ∷ c.args.reader.now in
+    let opened = opened_object c.args.depth all c.args.reader.now (omega arith) (ap (λ k. token_of k ∷ c.args.reader.now) c.in-BeginObject.is) in
     map_ok c.pass_members.result (λ h. (object h.0, opened ∙ ap (parse_map object) h.1)) c.pass_members.ensures.ok
 
-pub pass_value-returns-else-depth-eq0-2-clause-err : goal.pass_value-returns-else-depth-eq0-2-clause-err
-pass_value-returns-else-depth-eq0-2-clause-err t c =
-    let first : c.args.reader.now ≡ token_of c.in_ok-token.token ∷ c.next.new.self = grind arith in
-    let opened = opened_object c.args.depth c.args.reader.now c.next.new.self (omega arith) (first ∙ ap (λ k. token_of k ∷ c.next.new.self) c.in-BeginObject.is) in
+pub pass_on-returns-else-depth-eq0-2-clause-err : goal.pass_on-returns-else-depth-eq0-2-clause-err
+pass_on-returns-else-depth-eq0-2-clause-err t c =
+    let all = token_of c.args.token ∷ c.args.reader.now in
+    let opened = opened_object c.args.depth all c.args.reader.now (omega arith) (ap (λ k. token_of k ∷ c.args.reader.now) c.in-BeginObject.is) in
     map_err c.pass_members.result (λ h. opened ∙ ap (parse_map object) h) c.pass_members.ensures.err
 
 pub pass_items-items-preserved : goal.pass_items-items-preserved
@@ -139,18 +139,18 @@ pass_members-returns-clause-ok t c =
     let l = c.members in
     (l.invariant.1, l.invariant.3 ∙ members_over (value c.args.depth) l.invariant.1 l.invariant.0 l.reader c.next_key.new.self l.invariant.2 (grind arith))
 
-pub pass_value-returns-in-String-clause-ok : goal.pass_value-returns-in-String-clause-ok
-pass_value-returns-in-String-clause-ok t c =
-    let first : c.args.reader.now ≡ token_of c.in_ok-token.token ∷ c.next.new.self = grind arith in
+pub pass_on-returns-in-String-clause-ok : goal.pass_on-returns-in-String-clause-ok
+pass_on-returns-in-String-clause-ok t c =
+    let all = token_of c.args.token ∷ c.args.reader.now in
     let s = c.in-String.field-0.now in
-    (string s, read_string c.args.depth c.args.reader.now c.next.new.self s (grind (arith, first)))
+    (string s, read_string c.args.depth all c.args.reader.now s (grind arith))
 
-pub pass_value-returns-in-Bool-clause-ok : goal.pass_value-returns-in-Bool-clause-ok
-pass_value-returns-in-Bool-clause-ok t c =
-    let first : c.args.reader.now ≡ token_of c.in_ok-token.token ∷ c.next.new.self = grind arith in
-    (boolean c.in-Bool.field-0, read_boolean c.args.depth c.args.reader.now c.next.new.self c.in-Bool.field-0 (grind (arith, first)))
+pub pass_on-returns-in-Bool-clause-ok : goal.pass_on-returns-in-Bool-clause-ok
+pass_on-returns-in-Bool-clause-ok t c =
+    let all = token_of c.args.token ∷ c.args.reader.now in
+    (boolean c.in-Bool.field-0, read_boolean c.args.depth all c.args.reader.now c.in-Bool.field-0 (grind arith))
 
-pub pass_value-returns-in-Null-clause-ok : goal.pass_value-returns-in-Null-clause-ok
-pass_value-returns-in-Null-clause-ok t c =
-    let first : c.args.reader.now ≡ token_of c.in_ok-token.token ∷ c.next.new.self = grind arith in
-    (null, read_null c.args.depth c.args.reader.now c.next.new.self (grind (arith, first)))
+pub pass_on-returns-in-Null-clause-ok : goal.pass_on-returns-in-Null-clause-ok
+pass_on-returns-in-Null-clause-ok t c =
+    let all = token_of c.args.token ∷ c.args.reader.now in
+    (null, read_null c.args.depth all c.args.reader.now (grind arith))

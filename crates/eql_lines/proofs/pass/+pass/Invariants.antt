@@ -6,13 +6,16 @@ use Rattle.eql_lines.proofs.Reading.{items_before}
 use Rattle.eql_lines.proofs.pass.+pass.Given as goal
 
 abbrev pub decreases-pass_value : goal.decreases-pass_value
-decreases-pass_value l = 2 * l.depth
+decreases-pass_value l = 3 * l.depth + 1
+
+abbrev pub decreases-pass_on : goal.decreases-pass_on
+decreases-pass_on l = 3 * l.depth
 
 abbrev pub decreases-pass_items : goal.decreases-pass_items
-decreases-pass_items l = 2 * l.depth + 1
+decreases-pass_items l = 3 * l.depth + 2
 
 abbrev pub decreases-pass_members : goal.decreases-pass_members
-decreases-pass_members l = 2 * l.depth + 1
+decreases-pass_members l = 3 * l.depth + 2
 
 abbrev pub invariant-pass_items-items : goal.invariant-pass_items-items
 invariant-pass_items-items l =
