@@ -21,7 +21,7 @@ use Rattle.eql_part.proofs.Rows.{Row, none_of, own_reverse}
 use Rattle.eql_part.proofs.Expiring.{chains_count}
 use Rattle.eql_part.proofs.Playing.{one_left}
 
-own_key : (key : List Value) → key_eq key key ≡ true
+pub own_key : (key : List Value) → key_eq key key ≡ true
 own_key key = ap is_eq (own_reverse (key_cmp key key) (key_cmp_total.antisymm key key))
 
 module _ {X : Type 0} where

@@ -18,3 +18,9 @@ mod Putting
 mod Busy
 mod Idle
 mod Later
+mod Housed
+mod Looked
+mod Moved
+mod Tables
+mod Emptied
+mod Noted

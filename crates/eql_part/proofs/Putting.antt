@@ -3,6 +3,7 @@ use Rattle.std.proofs.Common.{◌≡◌, ◌≢◌, ◌⊎◌, ◌≤◌, ◌+�
 use Rattle.std.specs.Prelude.{All}
 use Rattle.std.specs.List.{Contains}
 use Rattle.std.specs.List.Sorted.{IsPermutation, IsSortedByKey}
+use Rattle.std.specs.Option.{option_map}
 use Rattle.std.specs.Ordering.{int_cmp, is_lt, nat_cmp, ordering_then}
 use Rattle.std.specs.Cmp.{int_cmp_is, int_cmp_total, nat_cmp_is}
 use Rattle.std.specs.FinMap.Entries.{below_all, is_sorted}
@@ -49,6 +50,11 @@ module _ {T : Type 0} where
   pub put_other : (slots : List (Option (Sequence T))) (stage k : ℕ) (v : Option (Sequence T)) → 1 ≤ stage → k ≢ stage → slot_at (set slots (stage - 1) v) k ≡ slot_at slots k
   put_other slots stage zero v low ne = refl
   put_other slots stage (suc j) v low ne = get_or-set_other slots (stage - 1) j v None (λ e. ne (omega arith))
+
+  -- a slot without a chain has no sequence
+  pub no_chain : (o : Option (Sequence T)) → ◌≡◌ {A = Option (List OrderKey)} (option_map (λ (s : Sequence T). s.0) o) None → o ≡ None
+  no_chain None e = refl
+  no_chain (Some s) e = cc
 
   pub put_here : (slots : List (Option (Sequence T))) (stage : ℕ) (v : Option (Sequence T)) → 1 ≤ stage → stage ≤ length slots → slot_at (set slots (stage - 1) v) stage ≡ v
   put_here slots stage v low high = put_at slots stage stage v low high refl

@@ -23,7 +23,7 @@ use Rattle.eql_part.specs.KeyTables.{IsOf, AreOf, KeepsReady, KeepsSequences, se
 use Rattle.eql_part.specs.Links.{Differ}
 use Rattle.eql_part.proofs.Rows.{Row}
 use Rattle.eql_part.proofs.Differing.{differ_nil}
-use Rattle.eql_part.proofs.Tagging.{no_tags}
+use Rattle.eql_part.proofs.Tagging.{no_sequence, no_tags}
 
 -- what a look-up lends is what the map has
 pub found_there : {Y : Type 0} {lent : Option (MutBor Y)} {x : MutBor Y} {o : Option Y} → lent ≡ Some x → option_copied_mut lent ≡ o → o ≡ Some x.now
@@ -68,11 +68,11 @@ module _ {X : Type 0} where
   keeps_one true machine o k empty absent = empty ∙ sym (ap (λ (p : Option (Machine X)). sequence_of p k) (absent refl))
 
   -- a machine without sequences for a key that had none keeps all sequences
-  pub added_keeps : (n : ℕ) (old new : List (Row X)) (key : List Value) (machine : Machine X) → machine.slots ≡ replicate n None → machine_of old key ≡ None
+  pub added_keeps : (old new : List (Row X)) (key : List Value) (machine : Machine X) → tags_of machine.slots ≡ [] → machine_of old key ≡ None
       → ((q : List Value) → machine_of new q ≡ cond (is_at (key_cmp key) q) (Some machine) (machine_of old q)) → KeepsSequences old new
-  added_keeps n old new key machine empty none is q k =
+  added_keeps old new key machine empty none is q k =
       ap (λ (o : Option (Machine X)). sequence_of o k) (is q)
-      ∙ keeps_one (is_at (key_cmp key) q) machine (machine_of old q) k (empty_slots n k machine empty) (absent_too old key q none)
+      ∙ keeps_one (is_at (key_cmp key) q) machine (machine_of old q) k (no_sequence machine.slots k empty) (absent_too old key q none)
 
   abbrev IsReady : Option (Machine X) → Type 0
   IsReady o = IsSomeAnd o (λ machine. IsTrue machine.is_ready)

@@ -100,6 +100,10 @@ module _ {T : Type 0} where
   abbrev pub IsBusyAt : List (List Value × Machine T) → List Value → Type 0
   IsBusyAt machines key = IfSome (machine_of machines key) (λ machine. 1 ≤ length (tags_of machine.slots))
 
+  -- the machine of a key, where there is one, has no sequence
+  abbrev pub IsEmptyAt : List (List Value × Machine T) → List Value → Type 0
+  IsEmptyAt machines key = IfSome (machine_of machines key) (λ machine. tags_of machine.slots ≡ [])
+
   -- the route begins no sequence, and its key has no machine
   abbrev pub IsIdle : List (List Value × Machine T) → Route → Type 0
   IsIdle machines route = (has_after 0 route.mask ≡ false) × (machine_of machines route.key ≡ None)

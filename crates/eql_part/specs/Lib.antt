@@ -3,3 +3,5 @@ pub mod Links
 pub mod Routed
 pub mod Kept
 pub mod Played
+pub mod Hashes
+pub mod Rooms

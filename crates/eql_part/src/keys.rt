@@ -6,7 +6,8 @@ ghost use Rattle.eql_values.specs.Matching.{after, matches};
 ghost use Rattle.eql_values.specs.OrderKeys.{order_cmp};
 ghost use Rattle.eql_laws.specs.Alive.{HoldersInOrder, alive_holders};
 ghost use Rattle.eql_laws.specs.Shapes.{HasStageBefore, IsFull};
-ghost use Rattle.eql_part.specs.KeyTables.{ComesAfterAll, holders_of, probes_of_all};
+ghost use Rattle.eql_part.specs.KeyTables.{ComesAfterAll, holders_in, holders_of, probes_of_all};
+ghost use Rattle.eql_part.specs.Rooms.{rows_at};
 
 use crate::listing::Start;
 use crate::machine::KeyMachine;
@@ -14,6 +15,7 @@ use crate::puts::{put_all, sort_by_start};
 use crate::rooms::Shape;
 use crate::routes::play;
 use crate::sweeps::sweep_all;
+use crate::table::{KeyTable, Room};
 use eql_auto::Steps;
 use eql_laws::{
     after_in_order, after_looks_up, dead_by_slot, events_and_keys_stay, one_more_event,
@@ -22,7 +24,6 @@ use eql_laws::{
 use eql_span_list::SpanList;
 use eql_values::{Holder, Holders, Item, Key, Matches, Memory};
 use std::alloc::Global;
-use std::collections::BTreeMap;
 use std::marker::Model;
 use std::sync::ledger::Ledger;
 
@@ -32,17 +33,18 @@ use std::sync::ledger::Ledger;
 #[derive(Drop)]
 pub struct Keys<L: Ledger> {
     shape: Shape,
-    machines: BTreeMap<Key, KeyMachine<L>>,
+    machines: KeyTable<L>,
     list: SpanList<Start>,
 }
 
 impl<L: Ledger> Model for Keys<L> {
     ghost use Rattle.eql_part.specs.KeyTables.{Pendings, holders_in};
     ghost use Rattle.eql_part.specs.Kept.{IsKept};
+    ghost use Rattle.eql_part.specs.Rooms.{entries_of};
 
     ghost Value = { Pendings };
 
-    ghost view = { λ k. record { stages = k.shape.stages; span = k.shape.span; holders = holders_in k.machines.entries } };
+    ghost view = { λ k. record { stages = k.shape.stages; span = k.shape.span; holders = holders_in (entries_of k.machines) } };
 
     ghost invariant = { λ k. IsKept k.shape.stages k.shape.span k.machines k.list };
 }
@@ -70,7 +72,7 @@ impl<L: Ledger> Keys<L> {
             stages: m,
             span,
         };
-        let mut machines = BTreeMap::new(alloc);
+        let mut machines = KeyTable::new(alloc);
         let mut list = SpanList::new(alloc);
         let mut holders = holders.into_items();
         sort_by_start(&mut holders)?;
@@ -145,9 +147,16 @@ impl<L: Ledger> Keys<L> {
         ensures holders { IfOk result (λ found. found ≡ self.now.holders) }
         ensures order { IfOk result (λ found. HoldersInOrder found) }
     {
-        let mut found = Vec::new(self.shape.alloc);
-        for (key, machine) in &self.machines {
-            add_holders(self.shape.alloc, &mut found, key, machine)?;
+        let places = self.machines.places(self.shape)?;
+        let mut found = Vec::with_capacity(self.shape.alloc, places.len())?;
+        for (key, place) in &places {
+            add_room(
+                self.shape.alloc,
+                &mut found,
+                key,
+                &self.machines.rooms,
+                *place,
+            )?;
         }
         Ok(Holders::of(found))
     }
@@ -169,4 +178,21 @@ fn add_holders<L: Ledger>(
         found.push(Holder { key, stage, chain })?;
     }
     Ok(())
+}
+
+/// Adds copies of the pending sequences of the machine in the room of a key, by stage.
+fn add_room<L: Ledger>(
+    alloc: Global,
+    found: &mut Vec<Holder>,
+    key: &Key,
+    rooms: &Vec<Room<L>>,
+    place: usize,
+) -> Result<(), Memory>
+    ensures { IfOk result (λ _. found.new.items ≡ found.old.items
+        ++ holders_in (rows_at rooms.now.items ((key.now, place) ∷ []))) }
+{
+    match rooms.get(place) {
+        None => Ok(()),
+        Some(room) => add_holders(alloc, found, key, &room.machine),
+    }
 }

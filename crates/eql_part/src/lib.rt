@@ -1,6 +1,7 @@
 //! The conductor's parts: the pending sequences of all keys of a part, and what an event does to them.
 #![tactic(auto)]
 
+mod hash;
 mod keys;
 mod listing;
 mod machine;
@@ -10,6 +11,7 @@ mod rooms;
 mod routes;
 mod single;
 mod sweeps;
+mod table;
 mod turns;
 
 pub use keys::Keys;

@@ -1,19 +1,19 @@
 //! What is taken for the routes of an event before it is played: room, copies of keys, and places on the list.
 ghost use Rattle.std.specs.Prelude.{◌≡◌, ◌≢◌, ◌<◌, ◌≤◌, ◌+◌, ◌++◌, ◌∷◌, [], List, All, IfOk, OnOk, OnErr, is_some, if◌then◌else◌, Some, None, map, length, vec_len, vec_capacity};
-ghost use Rattle.std.specs.BTreeMap.{IsOrdered};
 ghost use Rattle.std.specs.Option.{option_to_list};
 ghost use Rattle.eql_values.specs.Masks.{has_after, has_stage};
 ghost use Rattle.eql_values.specs.Orders.{key_cmp};
 ghost use Rattle.eql_part.specs.KeyTables.{AreBusy, AreBusyBut, AreOf, AreReadyFor, IsReadyIn, KeepsOtherKeys, KeepsOtherRoutes, KeepsReady, KeepsSequences};
 ghost use Rattle.eql_part.specs.Links.{Listed, begun_by};
 ghost use Rattle.eql_part.specs.Routed.{ArePrepared, IsPrepared, all_begun, tickets_in};
+ghost use Rattle.eql_part.specs.Rooms.{IsTable, entries_of};
 
 use crate::listing::Start;
 use crate::machine::KeyMachine;
 use crate::rooms::{Shape, drop_empty, make_room};
+use crate::table::KeyTable;
 use eql_span_list::{SpanList, Ticket};
 use eql_values::{Key, Memory, OrderKey, Route};
-use std::collections::BTreeMap;
 use std::sync::ledger::Ledger;
 
 /// What is taken for one route.
@@ -64,7 +64,7 @@ pub(crate) fn copy_key(route: &Route, stage: u32) -> Result<Option<Key>, Memory>
 
 /// Takes what one route may need. After want of memory the list is as it was.
 fn prepare<L: Ledger>(
-    machines: &mut BTreeMap<Key, KeyMachine<L>>,
+    machines: &mut KeyTable<L>,
     list: &mut SpanList<Start>,
     shape: Shape,
     order: OrderKey,
@@ -72,14 +72,14 @@ fn prepare<L: Ledger>(
 ) -> Result<Prepared, Memory>
     requires from { 1 ≤ shape.stages }
     requires to { shape.stages ≤ 256 }
-    requires of { AreOf shape.stages shape.span machines.old.entries }
-    requires ordered { IsOrdered key_cmp machines.old }
-    ensures of { AreOf shape.stages shape.span machines.new.entries }
-    ensures ordered { IsOrdered key_cmp machines.new }
-    ensures sequences { KeepsSequences machines.old.entries machines.new.entries }
-    ensures ready { KeepsReady machines.old.entries machines.new.entries }
-    ensures there { OnOk result (IsReadyIn machines.new.entries route.now.key) }
-    ensures others { KeepsOtherKeys route.now.key machines.old.entries machines.new.entries }
+    requires of { AreOf shape.stages shape.span (entries_of machines.old) }
+    requires table { IsTable shape.stages shape.span machines.old }
+    ensures of { AreOf shape.stages shape.span (entries_of machines.new) }
+    ensures table { IsTable shape.stages shape.span machines.new }
+    ensures sequences { KeepsSequences (entries_of machines.old) (entries_of machines.new) }
+    ensures ready { KeepsReady (entries_of machines.old) (entries_of machines.new) }
+    ensures there { OnOk result (IsReadyIn (entries_of machines.new) route.now.key) }
+    ensures others { KeepsOtherKeys route.now.key (entries_of machines.old) (entries_of machines.new) }
     ensures prepared { IfOk result (IsPrepared shape.stages route.now) }
     ensures list { IfOk result (λ ready. list.new ≡ list.old
         ++ begun_by order route.now ready.begun) }
@@ -118,7 +118,7 @@ fn undo(list: &mut SpanList<Start>, prepared: Vec<Prepared>)
 
 /// Takes what the routes of an event may need. After want of memory the list is as it was.
 pub(crate) fn prepare_all<L: Ledger>(
-    machines: &mut BTreeMap<Key, KeyMachine<L>>,
+    machines: &mut KeyTable<L>,
     list: &mut SpanList<Start>,
     shape: Shape,
     order: OrderKey,
@@ -126,13 +126,13 @@ pub(crate) fn prepare_all<L: Ledger>(
 ) -> Result<Vec<Prepared>, Memory>
     requires from { 1 ≤ shape.stages }
     requires to { shape.stages ≤ 256 }
-    requires of { AreOf shape.stages shape.span machines.old.entries }
-    requires ordered { IsOrdered key_cmp machines.old }
-    ensures of { AreOf shape.stages shape.span machines.new.entries }
-    ensures ordered { IsOrdered key_cmp machines.new }
-    ensures sequences { KeepsSequences machines.old.entries machines.new.entries }
-    ensures ready { OnOk result (AreReadyFor routes.now.items machines.new.entries) }
-    ensures others { KeepsOtherRoutes routes.now.items machines.old.entries machines.new.entries }
+    requires of { AreOf shape.stages shape.span (entries_of machines.old) }
+    requires table { IsTable shape.stages shape.span machines.old }
+    ensures of { AreOf shape.stages shape.span (entries_of machines.new) }
+    ensures table { IsTable shape.stages shape.span machines.new }
+    ensures sequences { KeepsSequences (entries_of machines.old) (entries_of machines.new) }
+    ensures ready { OnOk result (AreReadyFor routes.now.items (entries_of machines.new)) }
+    ensures others { KeepsOtherRoutes routes.now.items (entries_of machines.old) (entries_of machines.new) }
     ensures prepared { IfOk result
         (λ prepared. ArePrepared shape.stages routes.now.items prepared.items) }
     ensures list { IfOk result (λ prepared. list.new ≡ list.old
@@ -154,17 +154,17 @@ pub(crate) fn prepare_all<L: Ledger>(
 
 /// Keeps no machine for the keys of routes with nothing pending.
 pub(crate) fn drop_all_empty<L: Ledger>(
-    machines: &mut BTreeMap<Key, KeyMachine<L>>,
+    machines: &mut KeyTable<L>,
     shape: Shape,
     routes: &Vec<Route>,
 )
-    requires of { AreOf shape.stages shape.span machines.old.entries }
-    requires ordered { IsOrdered key_cmp machines.old }
-    requires busy { AreBusyBut routes.now.items machines.old.entries }
-    ensures of { AreOf shape.stages shape.span machines.new.entries }
-    ensures ordered { IsOrdered key_cmp machines.new }
-    ensures sequences { KeepsSequences machines.old.entries machines.new.entries }
-    ensures busy { AreBusy machines.new.entries }
+    requires of { AreOf shape.stages shape.span (entries_of machines.old) }
+    requires table { IsTable shape.stages shape.span machines.old }
+    requires busy { AreBusyBut routes.now.items (entries_of machines.old) }
+    ensures of { AreOf shape.stages shape.span (entries_of machines.new) }
+    ensures table { IsTable shape.stages shape.span machines.new }
+    ensures sequences { KeepsSequences (entries_of machines.old) (entries_of machines.new) }
+    ensures busy { AreBusy (entries_of machines.new) }
 {
     for route in routes {
         drop_empty(machines, shape, &route.key);

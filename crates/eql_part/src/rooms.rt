@@ -1,13 +1,13 @@
 //! The room that an event may need, taken before it is played.
-ghost use Rattle.std.specs.Prelude.{◌≡◌, ℕ, ◌≤◌, ◌<◌, None, IsSome, All, IsTrue, OnOk, false};
-ghost use Rattle.std.specs.BTreeMap.{IsOrdered};
-ghost use Rattle.eql_values.specs.Orders.{key_cmp};
-ghost use Rattle.eql_part.specs.KeyTables.{AreOf, IsBusyAt, IsReadyIn, KeepsOtherKeys, KeepsReady, KeepsSequences, machine_of, sequences_in};
+ghost use Rattle.std.specs.Prelude.{◌≡◌, ◌≤◌, None, Some, IfOk, IsTrue, OnErr, OnOk, false};
+ghost use Rattle.eql_part.specs.Hashes.{key_hash};
+ghost use Rattle.eql_part.specs.KeyTables.{AreOf, IsBusyAt, IsEmptyAt, IsReadyIn, KeepsOtherKeys, KeepsReady, KeepsSequences};
+ghost use Rattle.eql_part.specs.Rooms.{IsTable, entries_of, place_of};
 
-use crate::machine::KeyMachine;
+use crate::hash::hash_of;
+use crate::table::KeyTable;
 use eql_values::{Key, Memory};
 use std::alloc::Global;
-use std::collections::BTreeMap;
 use std::sync::ledger::Ledger;
 
 /// What the machines of all keys have in common.
@@ -21,122 +21,164 @@ pub(crate) struct Shape {
     pub span: Option<i128>,
 }
 
-/// Puts a machine without sequences for a key that has none.
+/// Gives a key without a machine one without sequences, and answers the place of its room. The hash is the key's. After want
+/// of memory all sequences are as they were.
 pub(crate) fn add_machine<L: Ledger>(
-    machines: &mut BTreeMap<Key, KeyMachine<L>>,
+    machines: &mut KeyTable<L>,
     shape: Shape,
+    hash: u64,
     key: &Key,
-) -> Result<(), Memory>
+) -> Result<usize, Memory>
     requires from { 1 ≤ shape.stages }
     requires to { shape.stages ≤ 256 }
-    requires of { AreOf shape.stages shape.span machines.old.entries }
-    requires ordered { IsOrdered key_cmp machines.old }
-    requires absent { machine_of machines.old.entries key.now ≡ None }
-    ensures of { AreOf shape.stages shape.span machines.new.entries }
-    ensures ordered { IsOrdered key_cmp machines.new }
-    ensures there { OnOk result (IsSome (machine_of machines.new.entries key.now)) }
-    ensures others { KeepsOtherKeys key.now machines.old.entries machines.new.entries }
-    ensures sequences { KeepsSequences machines.old.entries machines.new.entries }
-    ensures ready { KeepsReady machines.old.entries machines.new.entries }
+    requires of { AreOf shape.stages shape.span (entries_of machines.old) }
+    requires table { IsTable shape.stages shape.span machines.old }
+    requires hash { hash ≡ key_hash key.now }
+    requires absent { place_of machines.old key.now ≡ None }
+    ensures of { AreOf shape.stages shape.span (entries_of machines.new) }
+    ensures table { IsTable shape.stages shape.span machines.new }
+    ensures there { IfOk result (λ place. place_of machines.new key.now ≡ Some place) }
+    ensures others { KeepsOtherKeys key.now (entries_of machines.old) (entries_of machines.new) }
+    ensures sequences { KeepsSequences (entries_of machines.old) (entries_of machines.new) }
+    ensures ready { KeepsReady (entries_of machines.old) (entries_of machines.new) }
+    ensures unchanged { OnErr result (entries_of machines.new ≡ entries_of machines.old) }
 {
-    let machine = KeyMachine::new(shape.alloc, shape.stages, shape.span)?;
-    let key = key.clone()?;
-    machines.insert(key, machine)?;
-    Ok(())
+    machines.add(shape, hash, key)
 }
 
-/// Takes the room for one more chain of a key that has a machine.
-fn ready_machine<L: Ledger>(
-    machines: &mut BTreeMap<Key, KeyMachine<L>>,
+/// The place of a key's room. A key without a machine gets one without sequences.
+fn find_or_add<L: Ledger>(
+    machines: &mut KeyTable<L>,
     shape: Shape,
     key: &Key,
-) -> Result<(), Memory>
-    requires of { AreOf shape.stages shape.span machines.old.entries }
-    requires there { IsSome (machine_of machines.old.entries key.now) }
-    ensures of { AreOf shape.stages shape.span machines.new.entries }
-    ensures ordered { IsOrdered key_cmp machines.new }
-    ensures there { OnOk result (IsReadyIn machines.new.entries key.now) }
-    ensures others { KeepsOtherKeys key.now machines.old.entries machines.new.entries }
-    ensures sequences { KeepsSequences machines.old.entries machines.new.entries }
-    ensures ready { KeepsReady machines.old.entries machines.new.entries }
+) -> Result<usize, Memory>
+    requires from { 1 ≤ shape.stages }
+    requires to { shape.stages ≤ 256 }
+    requires of { AreOf shape.stages shape.span (entries_of machines.old) }
+    requires table { IsTable shape.stages shape.span machines.old }
+    ensures of { AreOf shape.stages shape.span (entries_of machines.new) }
+    ensures table { IsTable shape.stages shape.span machines.new }
+    ensures there { IfOk result (λ place. place_of machines.new key.now ≡ Some place) }
+    ensures others { KeepsOtherKeys key.now (entries_of machines.old) (entries_of machines.new) }
+    ensures sequences { KeepsSequences (entries_of machines.old) (entries_of machines.new) }
+    ensures ready { KeepsReady (entries_of machines.old) (entries_of machines.new) }
 {
-    match machines.get_mut(key) {
-        None => unreachable!(),
-        Some(machine) => machine.ready(shape.alloc),
+    let hash = hash_of(key);
+    match machines.find(hash, key) {
+        Some(place) => Ok(place),
+        None => add_machine(machines, shape, hash, key),
     }
+}
+
+/// Takes the room for one more chain of a key whose room is at a place.
+fn ready_machine<L: Ledger>(
+    machines: &mut KeyTable<L>,
+    shape: Shape,
+    key: &Key,
+    place: usize,
+) -> Result<(), Memory>
+    requires of { AreOf shape.stages shape.span (entries_of machines.old) }
+    requires table { IsTable shape.stages shape.span machines.old }
+    requires there { place_of machines.old key.now ≡ Some place }
+    ensures of { AreOf shape.stages shape.span (entries_of machines.new) }
+    ensures table { IsTable shape.stages shape.span machines.new }
+    ensures there { OnOk result (IsReadyIn (entries_of machines.new) key.now) }
+    ensures others { KeepsOtherKeys key.now (entries_of machines.old) (entries_of machines.new) }
+    ensures sequences { KeepsSequences (entries_of machines.old) (entries_of machines.new) }
+    ensures ready { KeepsReady (entries_of machines.old) (entries_of machines.new) }
+{
+    machines.rooms[place].machine.ready(shape.alloc)
 }
 
 /// Takes the room for one more chain of a key.
 pub(crate) fn make_room<L: Ledger>(
-    machines: &mut BTreeMap<Key, KeyMachine<L>>,
+    machines: &mut KeyTable<L>,
     shape: Shape,
     key: &Key,
 ) -> Result<(), Memory>
     requires from { 1 ≤ shape.stages }
     requires to { shape.stages ≤ 256 }
-    requires of { AreOf shape.stages shape.span machines.old.entries }
-    requires ordered { IsOrdered key_cmp machines.old }
-    ensures of { AreOf shape.stages shape.span machines.new.entries }
-    ensures ordered { IsOrdered key_cmp machines.new }
-    ensures there { OnOk result (IsReadyIn machines.new.entries key.now) }
-    ensures others { KeepsOtherKeys key.now machines.old.entries machines.new.entries }
-    ensures sequences { KeepsSequences machines.old.entries machines.new.entries }
-    ensures ready { KeepsReady machines.old.entries machines.new.entries }
+    requires of { AreOf shape.stages shape.span (entries_of machines.old) }
+    requires table { IsTable shape.stages shape.span machines.old }
+    ensures of { AreOf shape.stages shape.span (entries_of machines.new) }
+    ensures table { IsTable shape.stages shape.span machines.new }
+    ensures there { OnOk result (IsReadyIn (entries_of machines.new) key.now) }
+    ensures others { KeepsOtherKeys key.now (entries_of machines.old) (entries_of machines.new) }
+    ensures sequences { KeepsSequences (entries_of machines.old) (entries_of machines.new) }
+    ensures ready { KeepsReady (entries_of machines.old) (entries_of machines.new) }
 {
-    if machines.get(key).is_none() {
-        add_machine(machines, shape, key)?;
-    }
-    ready_machine(machines, shape, key)
+    let place = find_or_add(machines, shape, key)?;
+    ready_machine(machines, shape, key, place)
 }
 
-/// Whether the key has a machine without sequences.
-fn has_empty<L: Ledger>(machines: &BTreeMap<Key, KeyMachine<L>>, key: &Key) -> bool
-    ensures empty { IsTrue result → (k : ℕ) → sequences_in machines.now.entries key.now k ≡ None }
-    ensures busy { result ≡ false → IsBusyAt machines.now.entries key.now }
-{
-    match machines.get(key) {
-        None => false,
-        Some(machine) => machine.is_empty(),
-    }
-}
-
-/// Keeps no machine for a key, where it is empty.
+/// Keeps no machine for a key whose room is at a place, where it is empty.
 pub(crate) fn settle<L: Ledger>(
-    machines: &mut BTreeMap<Key, KeyMachine<L>>,
+    machines: &mut KeyTable<L>,
     shape: Shape,
+    hash: u64,
     key: &Key,
+    place: usize,
     is_empty: bool,
 )
-    requires of { AreOf shape.stages shape.span machines.old.entries }
-    requires ordered { IsOrdered key_cmp machines.old }
-    requires empty { IsTrue is_empty
-        → (k : ℕ) → sequences_in machines.old.entries key.now k ≡ None }
-    requires busy { is_empty ≡ false → IsBusyAt machines.old.entries key.now }
-    ensures of { AreOf shape.stages shape.span machines.new.entries }
-    ensures ordered { IsOrdered key_cmp machines.new }
-    ensures sequences { KeepsSequences machines.old.entries machines.new.entries }
-    ensures others { KeepsOtherKeys key.now machines.old.entries machines.new.entries }
-    ensures busy { IsBusyAt machines.new.entries key.now }
+    requires of { AreOf shape.stages shape.span (entries_of machines.old) }
+    requires table { IsTable shape.stages shape.span machines.old }
+    requires there { place_of machines.old key.now ≡ Some place }
+    requires empty { IsTrue is_empty → IsEmptyAt (entries_of machines.old) key.now }
+    requires busy { is_empty ≡ false → IsBusyAt (entries_of machines.old) key.now }
+    ensures of { AreOf shape.stages shape.span (entries_of machines.new) }
+    ensures table { IsTable shape.stages shape.span machines.new }
+    ensures sequences { KeepsSequences (entries_of machines.old) (entries_of machines.new) }
+    ensures others { KeepsOtherKeys key.now (entries_of machines.old) (entries_of machines.new) }
+    ensures busy { IsBusyAt (entries_of machines.new) key.now }
 {
     if is_empty {
-        machines.remove(key);
+        machines.remove(shape, hash, key, place);
     }
+}
+
+/// Whether the machine of a key whose room is at a place has no sequence.
+fn is_empty_at<L: Ledger>(machines: &KeyTable<L>, shape: Shape, key: &Key, place: usize) -> bool
+    requires table { IsTable shape.stages shape.span machines.now }
+    requires there { place_of machines.now key.now ≡ Some place }
+    ensures empty { IsTrue result → IsEmptyAt (entries_of machines.now) key.now }
+    ensures busy { result ≡ false → IsBusyAt (entries_of machines.now) key.now }
+{
+    machines.rooms[place].machine.is_empty()
+}
+
+/// Keeps no machine for a key whose room is at a place, where nothing is pending.
+pub(crate) fn drop_empty_at<L: Ledger>(
+    machines: &mut KeyTable<L>,
+    shape: Shape,
+    hash: u64,
+    key: &Key,
+    place: usize,
+)
+    requires of { AreOf shape.stages shape.span (entries_of machines.old) }
+    requires table { IsTable shape.stages shape.span machines.old }
+    requires there { place_of machines.old key.now ≡ Some place }
+    ensures of { AreOf shape.stages shape.span (entries_of machines.new) }
+    ensures table { IsTable shape.stages shape.span machines.new }
+    ensures sequences { KeepsSequences (entries_of machines.old) (entries_of machines.new) }
+    ensures others { KeepsOtherKeys key.now (entries_of machines.old) (entries_of machines.new) }
+    ensures busy { IsBusyAt (entries_of machines.new) key.now }
+{
+    let is_empty = is_empty_at(machines, shape, key, place);
+    settle(machines, shape, hash, key, place, is_empty);
 }
 
 /// Keeps no machine for a key with nothing pending.
-pub(crate) fn drop_empty<L: Ledger>(
-    machines: &mut BTreeMap<Key, KeyMachine<L>>,
-    shape: Shape,
-    key: &Key,
-)
-    requires of { AreOf shape.stages shape.span machines.old.entries }
-    requires ordered { IsOrdered key_cmp machines.old }
-    ensures of { AreOf shape.stages shape.span machines.new.entries }
-    ensures ordered { IsOrdered key_cmp machines.new }
-    ensures sequences { KeepsSequences machines.old.entries machines.new.entries }
-    ensures others { KeepsOtherKeys key.now machines.old.entries machines.new.entries }
-    ensures busy { IsBusyAt machines.new.entries key.now }
+pub(crate) fn drop_empty<L: Ledger>(machines: &mut KeyTable<L>, shape: Shape, key: &Key)
+    requires of { AreOf shape.stages shape.span (entries_of machines.old) }
+    requires table { IsTable shape.stages shape.span machines.old }
+    ensures of { AreOf shape.stages shape.span (entries_of machines.new) }
+    ensures table { IsTable shape.stages shape.span machines.new }
+    ensures sequences { KeepsSequences (entries_of machines.old) (entries_of machines.new) }
+    ensures others { KeepsOtherKeys key.now (entries_of machines.old) (entries_of machines.new) }
+    ensures busy { IsBusyAt (entries_of machines.new) key.now }
 {
-    let is_empty = has_empty(machines, key);
-    settle(machines, shape, key, is_empty);
+    let hash = hash_of(key);
+    if let Some(place) = machines.find(hash, key) {
+        drop_empty_at(machines, shape, hash, key, place);
+    }
 }

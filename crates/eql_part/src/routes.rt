@@ -1,6 +1,5 @@
 //! An event played to all keys that it has a route of.
 ghost use Rattle.std.specs.Prelude.{◌≡◌, ℕ, suc, ◌+◌, ◌<◌, ◌≤◌, ◌++◌, [], List, All, IfOk, IfSome, IsSome, IsTrue, OnErr, OnOk, length, vec_len, vec_capacity, find};
-ghost use Rattle.std.specs.BTreeMap.{IsOrdered};
 ghost use Rattle.std.specs.List.{filter_map};
 ghost use Rattle.std.specs.Option.{option_map, option_to_list};
 ghost use Rattle.eql_values.specs.declared.item.Route.{Route};
@@ -11,17 +10,18 @@ ghost use Rattle.eql_laws.specs.OneEvent.{slots_after_event};
 ghost use Rattle.eql_part.specs.KeyTables.{AreBusy, AreBusyBut, AreOf, AreReadyFor, IsIdle, IsLaterAt, KeepsSequences, probes_of_all, sequences_in, slots_in};
 ghost use Rattle.eql_part.specs.Links.{IsLinked};
 ghost use Rattle.eql_part.specs.Routed.{ArePrepared, all_begun, match_there};
+ghost use Rattle.eql_part.specs.Rooms.{IsTable, entries_of};
 
 use crate::listing::{Start, tickets_differ};
 use crate::machine::KeyMachine;
 use crate::prepared::{Prepared, drop_all_empty, prepare_all};
 use crate::rooms::Shape;
 use crate::single::play_one;
+use crate::table::KeyTable;
 use crate::turns::turn_key;
 use eql_auto::Steps;
 use eql_span_list::SpanList;
 use eql_values::{Chain, Key, Match, Memory, OrderKey, Route};
-use std::collections::BTreeMap;
 use std::sync::ledger::Ledger;
 
 /// Adds the match of a key that has its event for the last stage, where there is one, in the room taken before.
@@ -41,7 +41,7 @@ pub(crate) fn add_match(found: &mut Vec<Match>, key: Option<Key>, completed: Opt
 
 /// Plays an event to the keys of its routes, in the room taken before, and adds the matches that it completes.
 pub(crate) fn turn_all<L: Ledger>(
-    machines: &mut BTreeMap<Key, KeyMachine<L>>,
+    machines: &mut KeyTable<L>,
     list: &mut SpanList<Start>,
     shape: Shape,
     order: OrderKey,
@@ -51,28 +51,28 @@ pub(crate) fn turn_all<L: Ledger>(
     steps: &mut Steps<L>,
 )
     requires to { shape.stages ≤ 256 }
-    requires of { AreOf shape.stages shape.span machines.old.entries }
-    requires ordered { IsOrdered key_cmp machines.old }
+    requires of { AreOf shape.stages shape.span (entries_of machines.old) }
+    requires table { IsTable shape.stages shape.span machines.old }
     requires order { RoutesInOrder routes.now.items }
-    requires ready { AreReadyFor routes.now.items machines.old.entries }
-    requires busy { AreBusyBut routes.now.items machines.old.entries }
-    requires later { (key : List Value) → IsLaterAt order machines.old.entries key }
+    requires ready { AreReadyFor routes.now.items (entries_of machines.old) }
+    requires busy { AreBusyBut routes.now.items (entries_of machines.old) }
+    requires later { (key : List Value) → IsLaterAt order (entries_of machines.old) key }
     requires prepared { ArePrepared shape.stages routes.now.items prepared.items }
     requires linked { IsLinked (all_begun order routes.now.items prepared.items)
-        (sequences_in machines.old.entries) list.old }
+        (sequences_in (entries_of machines.old)) list.old }
     requires room { vec_len found.old + length routes.now.items ≤ vec_capacity found.old }
-    ensures of { AreOf shape.stages shape.span machines.new.entries }
-    ensures ordered { IsOrdered key_cmp machines.new }
-    ensures busy { AreBusy machines.new.entries }
+    ensures of { AreOf shape.stages shape.span (entries_of machines.new) }
+    ensures table { IsTable shape.stages shape.span machines.new }
+    ensures busy { AreBusy (entries_of machines.new) }
     ensures slots { (key : List Value) (k : ℕ) → suc k < shape.stages
-        → slots_in machines.new.entries key (suc k)
+        → slots_in (entries_of machines.new) key (suc k)
         ≡ slots_after_event shape.span order (find
         (λ (route : Route). key_eq key route.key) routes.now.items)
-        (slots_in machines.old.entries key) (suc k) }
+        (slots_in (entries_of machines.old) key) (suc k) }
     ensures found { found.new.items ≡ found.old.items
         ++ filter_map (match_there shape.stages shape.span
-        (slots_in machines.old.entries) order) routes.now.items }
-    ensures linked { IsLinked [] (sequences_in machines.new.entries) list.new }
+        (slots_in (entries_of machines.old)) order) routes.now.items }
+    ensures linked { IsLinked [] (sequences_in (entries_of machines.new)) list.new }
     ensures probes { steps.new ≤ steps.old + probes_of_all shape.stages routes.now.items }
 {
     let mut prepared = prepared.into_iter();
@@ -87,13 +87,25 @@ pub(crate) fn turn_all<L: Ledger>(
     }
 }
 
-/// Whether the event says nothing to any key: none of its routes begins a sequence, and none of their keys has a machine.
-fn are_idle<L: Ledger>(machines: &BTreeMap<Key, KeyMachine<L>>, routes: &Vec<Route>) -> bool
+/// Whether the route says nothing to its key: it begins no sequence, and the key has no machine.
+fn is_idle<L: Ledger>(machines: &KeyTable<L>, shape: Shape, route: &Route) -> bool
+    requires { IsTable shape.stages shape.span machines.now }
+    ensures { IsTrue result → IsIdle (entries_of machines.now) route.now }
+{
+    if route.mask.has(1) {
+        return false;
+    }
+    machines.place(&route.key).is_none()
+}
+
+/// Whether the event says nothing to any key.
+fn are_idle<L: Ledger>(machines: &KeyTable<L>, shape: Shape, routes: &Vec<Route>) -> bool
+    requires { IsTable shape.stages shape.span machines.now }
     ensures { IsTrue result → All
-        (λ (route : Route). IsIdle machines.now.entries route) routes.now.items }
+        (λ (route : Route). IsIdle (entries_of machines.now) route) routes.now.items }
 {
     for route in routes {
-        if route.mask.has(1) || machines.get(&route.key).is_some() {
+        if !is_idle(machines, shape, route) {
             return false;
         }
     }
@@ -103,7 +115,7 @@ fn are_idle<L: Ledger>(machines: &BTreeMap<Key, KeyMachine<L>>, routes: &Vec<Rou
 /// Plays an event that comes after all that is pending, and answers the matches that it completes. An event of one route
 /// searches for its key once, and an event that says nothing to any key takes no memory. After want of memory the pending sequences are as they were.
 pub(crate) fn play<L: Ledger>(
-    machines: &mut BTreeMap<Key, KeyMachine<L>>,
+    machines: &mut KeyTable<L>,
     list: &mut SpanList<Start>,
     shape: Shape,
     order: OrderKey,
@@ -112,31 +124,31 @@ pub(crate) fn play<L: Ledger>(
 ) -> Result<Vec<Match>, Memory>
     requires from { 1 ≤ shape.stages }
     requires to { shape.stages ≤ 256 }
-    requires of { AreOf shape.stages shape.span machines.old.entries }
-    requires ordered { IsOrdered key_cmp machines.old }
-    requires busy { AreBusy machines.old.entries }
+    requires of { AreOf shape.stages shape.span (entries_of machines.old) }
+    requires table { IsTable shape.stages shape.span machines.old }
+    requires busy { AreBusy (entries_of machines.old) }
     requires order { RoutesInOrder routes.now.items }
-    requires later { (key : List Value) → IsLaterAt order machines.old.entries key }
-    requires linked { IsLinked [] (sequences_in machines.old.entries) list.old }
-    ensures of { AreOf shape.stages shape.span machines.new.entries }
-    ensures ordered { IsOrdered key_cmp machines.new }
-    ensures busy { AreBusy machines.new.entries }
+    requires later { (key : List Value) → IsLaterAt order (entries_of machines.old) key }
+    requires linked { IsLinked [] (sequences_in (entries_of machines.old)) list.old }
+    ensures of { AreOf shape.stages shape.span (entries_of machines.new) }
+    ensures table { IsTable shape.stages shape.span machines.new }
+    ensures busy { AreBusy (entries_of machines.new) }
     ensures slots { OnOk result ((key : List Value) (k : ℕ) → suc k < shape.stages
-        → slots_in machines.new.entries key (suc k)
+        → slots_in (entries_of machines.new) key (suc k)
         ≡ slots_after_event shape.span order (find
         (λ (route : Route). key_eq key route.key) routes.now.items)
-        (slots_in machines.old.entries key) (suc k)) }
+        (slots_in (entries_of machines.old) key) (suc k)) }
     ensures found { IfOk result (λ found. found.items
         ≡ filter_map (match_there shape.stages shape.span
-        (slots_in machines.old.entries) order) routes.now.items) }
-    ensures linked { IsLinked [] (sequences_in machines.new.entries) list.new }
-    ensures unchanged { OnErr result (KeepsSequences machines.old.entries machines.new.entries) }
+        (slots_in (entries_of machines.old)) order) routes.now.items) }
+    ensures linked { IsLinked [] (sequences_in (entries_of machines.new)) list.new }
+    ensures unchanged { OnErr result (KeepsSequences (entries_of machines.old) (entries_of machines.new)) }
     ensures probes { steps.new ≤ steps.old + probes_of_all shape.stages routes.now.items }
 {
     if routes.len() == 1 {
         return play_one(machines, list, shape, order, &routes[0], steps);
     }
-    if are_idle(machines, routes) {
+    if are_idle(machines, shape, routes) {
         return Ok(Vec::new(shape.alloc));
     }
     let mut found = Vec::with_capacity(shape.alloc, routes.len())?;

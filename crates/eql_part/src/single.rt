@@ -1,29 +1,31 @@
 //! An event of one route, which is played by one search for its key.
 ghost use Rattle.std.specs.Prelude.{◌≡◌, ℕ, suc, ◌+◌, ◌<◌, ◌≤◌, ◌++◌, ◌∷◌, [], find, List, All, Bool, IfNone, IfOk, IfSome, IsTrue, OnErr, OnOk, Some, None, false, if◌then◌else◌, length, vec_len, vec_capacity};
-ghost use Rattle.std.specs.BTreeMap.{IsOrdered};
 ghost use Rattle.std.specs.Option.{option_map, option_to_list};
 ghost use Rattle.eql_values.specs.declared.value.Value.{Value};
 ghost use Rattle.eql_values.specs.declared.item.Route.{Route};
 ghost use Rattle.eql_values.specs.Masks.{has_stage};
 ghost use Rattle.eql_values.specs.Matching.{act_by};
-ghost use Rattle.eql_values.specs.Orders.{key_cmp, key_eq};
+ghost use Rattle.eql_values.specs.Orders.{key_eq};
 ghost use Rattle.eql_laws.specs.OneEvent.{slots_after_event};
 ghost use Rattle.eql_laws.specs.Slots.{chain_coming, slots_after};
 ghost use Rattle.eql_auto.specs.Machine.{ComesAfter, chains_of, tags_of};
-ghost use Rattle.eql_part.specs.KeyTables.{AreBusy, AreOf, IsBusyAt, IsIdle, IsLaterAt, IsOf, KeepsOtherKeys, KeepsSequences, machine_of, probes_of, sequences_in, slots_in};
+ghost use Rattle.eql_part.specs.Hashes.{key_hash};
+ghost use Rattle.eql_part.specs.KeyTables.{AreBusy, AreOf, IsBusyAt, IsEmptyAt, IsIdle, IsLaterAt, IsOf, KeepsOtherKeys, KeepsSequences, probes_of, sequences_in, slots_in};
 ghost use Rattle.eql_part.specs.Links.{IsLinked};
 ghost use Rattle.eql_part.specs.Played.{IsPlayed, Joins};
 ghost use Rattle.eql_part.specs.Routed.{match_there};
+ghost use Rattle.eql_part.specs.Rooms.{IsTable, entries_of, place_of};
 
+use crate::hash::hash_of;
 use crate::listing::{Start, tickets_differ};
 use crate::machine::KeyMachine;
 use crate::prepared::{copy_key, list_begun};
-use crate::rooms::{Shape, add_machine, drop_empty, settle};
+use crate::rooms::{Shape, add_machine, drop_empty_at, settle};
 use crate::routes::add_match;
+use crate::table::KeyTable;
 use eql_auto::Steps;
 use eql_span_list::SpanList;
 use eql_values::{Key, Match, Memory, OrderKey, Route};
-use std::collections::BTreeMap;
 use std::sync::ledger::Ledger;
 
 /// What an event of one route did.
@@ -94,107 +96,90 @@ fn play_machine<L: Ledger>(
     Ok(Played { found, is_empty })
 }
 
-/// Plays what an event says to a key that has a machine, by one search for it, and answers `None` where it has none. After
-/// want of memory the list and all sequences are as they were.
-fn play_there<L: Ledger>(
-    machines: &mut BTreeMap<Key, KeyMachine<L>>,
-    list: &mut SpanList<Start>,
+/// The place of the room of a route's key, by one search for it. A key without a machine gets one without sequences where the
+/// event begins a sequence, and else the answer is `None`. The hash is the key's. After want of memory all sequences are as
+/// they were.
+fn room_for<L: Ledger>(
+    machines: &mut KeyTable<L>,
     shape: Shape,
-    order: OrderKey,
+    hash: u64,
     route: &Route,
-    steps: &mut Steps<L>,
-) -> Result<Option<Played>, Memory>
+) -> Result<Option<usize>, Memory>
     requires from { 1 ≤ shape.stages }
     requires to { shape.stages ≤ 256 }
-    requires of { AreOf shape.stages shape.span machines.old.entries }
-    requires later { (key : List Value) → IsLaterAt order machines.old.entries key }
-    requires linked { IsLinked [] (sequences_in machines.old.entries) list.old }
-    ensures of { AreOf shape.stages shape.span machines.new.entries }
-    ensures ordered { IsOrdered key_cmp machines.new }
-    ensures others { KeepsOtherKeys route.now.key machines.old.entries machines.new.entries }
-    ensures none { IfOk result (λ played. IfNone played
-        ((machine_of machines.old.entries route.now.key ≡ None)
-        × (machines.new.entries ≡ machines.old.entries) × (steps.new ≡ steps.old))) }
-    ensures slots { IfOk result (λ played. IfSome played (λ _. (k : ℕ) → 1 ≤ k → k < shape.stages
-        → slots_in machines.new.entries route.now.key k
-        ≡ slots_after shape.span (slots_in machines.old.entries route.now.key)
-        (act_by order route.now) k)) }
-    ensures found { IfOk result (λ played. IfSome played (λ it. it.found.items
-        ≡ option_to_list (match_there shape.stages shape.span
-        (slots_in machines.old.entries) order route.now))) }
-    ensures empty { IfOk result (λ played. IfSome played (λ it. IsTrue it.is_empty
-        → (k : ℕ) → sequences_in machines.new.entries route.now.key k ≡ None)) }
-    ensures busy { IfOk result (λ played. IfSome played (λ it. it.is_empty ≡ false
-        → IsBusyAt machines.new.entries route.now.key)) }
-    ensures unchanged { OnErr result (KeepsSequences machines.old.entries machines.new.entries) }
-    ensures linked { IsLinked [] (sequences_in machines.new.entries) list.new }
-    ensures probes { steps.new ≤ steps.old + probes_of shape.stages route.now }
+    requires of { AreOf shape.stages shape.span (entries_of machines.old) }
+    requires table { IsTable shape.stages shape.span machines.old }
+    requires hash { hash ≡ key_hash route.now.key }
+    ensures of { AreOf shape.stages shape.span (entries_of machines.new) }
+    ensures table { IsTable shape.stages shape.span machines.new }
+    ensures others { KeepsOtherKeys route.now.key (entries_of machines.old)
+        (entries_of machines.new) }
+    ensures sequences { KeepsSequences (entries_of machines.old) (entries_of machines.new) }
+    ensures none { IfOk result (λ place. IfNone place
+        (IsIdle (entries_of machines.old) route.now
+        × (entries_of machines.new ≡ entries_of machines.old))) }
+    ensures there { IfOk result (λ place. IfSome place
+        (λ place. place_of machines.new route.now.key ≡ Some place)) }
+    ensures unchanged { OnErr result (entries_of machines.new ≡ entries_of machines.old) }
 {
-    match machines.get_mut(&route.key) {
-        None => Ok(None),
-        Some(machine) => {
-            let played = play_machine(machine, list, shape, order, route, steps)?;
-            Ok(Some(played))
-        }
-    }
-}
-
-/// Plays what an event says to a key, which gets a machine where it has none and the event begins a sequence, and answers
-/// `None` where the event says nothing to it. After want of memory the list and all sequences are as they were.
-fn play_key<L: Ledger>(
-    machines: &mut BTreeMap<Key, KeyMachine<L>>,
-    list: &mut SpanList<Start>,
-    shape: Shape,
-    order: OrderKey,
-    route: &Route,
-    steps: &mut Steps<L>,
-) -> Result<Option<Played>, Memory>
-    requires from { 1 ≤ shape.stages }
-    requires to { shape.stages ≤ 256 }
-    requires of { AreOf shape.stages shape.span machines.old.entries }
-    requires ordered { IsOrdered key_cmp machines.old }
-    requires later { (key : List Value) → IsLaterAt order machines.old.entries key }
-    requires linked { IsLinked [] (sequences_in machines.old.entries) list.old }
-    ensures of { AreOf shape.stages shape.span machines.new.entries }
-    ensures ordered { IsOrdered key_cmp machines.new }
-    ensures others { KeepsOtherKeys route.now.key machines.old.entries machines.new.entries }
-    ensures none { IfOk result (λ played. IfNone played
-        (IsIdle machines.old.entries route.now
-        × (machines.new.entries ≡ machines.old.entries))) }
-    ensures slots { IfOk result (λ played. IfSome played (λ _. (k : ℕ) → 1 ≤ k → k < shape.stages
-        → slots_in machines.new.entries route.now.key k
-        ≡ slots_after shape.span (slots_in machines.old.entries route.now.key)
-        (act_by order route.now) k)) }
-    ensures found { IfOk result (λ played. IfSome played (λ it. it.found.items
-        ≡ option_to_list (match_there shape.stages shape.span
-        (slots_in machines.old.entries) order route.now))) }
-    ensures empty { IfOk result (λ played. IfSome played (λ it. IsTrue it.is_empty
-        → (k : ℕ) → sequences_in machines.new.entries route.now.key k ≡ None)) }
-    ensures busy { IfOk result (λ played. IfSome played (λ it. it.is_empty ≡ false
-        → IsBusyAt machines.new.entries route.now.key)) }
-    ensures unchanged { OnErr result (KeepsSequences machines.old.entries machines.new.entries) }
-    ensures linked { IsLinked [] (sequences_in machines.new.entries) list.new }
-    ensures probes { steps.new ≤ steps.old + probes_of shape.stages route.now }
-{
-    match play_there(machines, list, shape, order, route, steps)? {
-        Some(played) => Ok(Some(played)),
+    match machines.find(hash, &route.key) {
+        Some(place) => Ok(Some(place)),
         None => {
             if !route.mask.has(1) {
                 return Ok(None);
             }
-            add_machine(machines, shape, &route.key)?;
-            match play_there(machines, list, shape, order, route, steps)? {
-                None => unreachable!(),
-                Some(played) => Ok(Some(played)),
-            }
+            let place = add_machine(machines, shape, hash, &route.key)?;
+            Ok(Some(place))
         }
     }
+}
+
+/// Plays what an event says to a key whose room is at a place. After want of memory the list and all sequences are as they were.
+fn play_there<L: Ledger>(
+    machines: &mut KeyTable<L>,
+    list: &mut SpanList<Start>,
+    shape: Shape,
+    order: OrderKey,
+    route: &Route,
+    place: usize,
+    steps: &mut Steps<L>,
+) -> Result<Played, Memory>
+    requires from { 1 ≤ shape.stages }
+    requires to { shape.stages ≤ 256 }
+    requires of { AreOf shape.stages shape.span (entries_of machines.old) }
+    requires table { IsTable shape.stages shape.span machines.old }
+    requires there { place_of machines.old route.now.key ≡ Some place }
+    requires later { (key : List Value) → IsLaterAt order (entries_of machines.old) key }
+    requires linked { IsLinked [] (sequences_in (entries_of machines.old)) list.old }
+    ensures of { AreOf shape.stages shape.span (entries_of machines.new) }
+    ensures table { IsTable shape.stages shape.span machines.new }
+    ensures there { place_of machines.new route.now.key ≡ Some place }
+    ensures others { KeepsOtherKeys route.now.key (entries_of machines.old)
+        (entries_of machines.new) }
+    ensures slots { OnOk result ((k : ℕ) → 1 ≤ k → k < shape.stages
+        → slots_in (entries_of machines.new) route.now.key k
+        ≡ slots_after shape.span (slots_in (entries_of machines.old) route.now.key)
+        (act_by order route.now) k) }
+    ensures found { IfOk result (λ played. played.found.items
+        ≡ option_to_list (match_there shape.stages shape.span
+        (slots_in (entries_of machines.old)) order route.now)) }
+    ensures empty { IfOk result (λ played. IsTrue played.is_empty
+        → IsEmptyAt (entries_of machines.new) route.now.key) }
+    ensures busy { IfOk result (λ played. played.is_empty ≡ false
+        → IsBusyAt (entries_of machines.new) route.now.key) }
+    ensures unchanged { OnErr result (KeepsSequences (entries_of machines.old)
+        (entries_of machines.new)) }
+    ensures linked { IsLinked [] (sequences_in (entries_of machines.new)) list.new }
+    ensures probes { steps.new ≤ steps.old + probes_of shape.stages route.now }
+{
+    let room = &mut machines.rooms[place];
+    play_machine(&mut room.machine, list, shape, order, route, steps)
 }
 
 /// Plays an event of one route that comes after all that is pending, and answers the match that it completes. An event that
 /// says nothing to its key takes no memory. After want of memory the pending sequences are as they were.
 pub(crate) fn play_one<L: Ledger>(
-    machines: &mut BTreeMap<Key, KeyMachine<L>>,
+    machines: &mut KeyTable<L>,
     list: &mut SpanList<Start>,
     shape: Shape,
     order: OrderKey,
@@ -203,35 +188,38 @@ pub(crate) fn play_one<L: Ledger>(
 ) -> Result<Vec<Match>, Memory>
     requires from { 1 ≤ shape.stages }
     requires to { shape.stages ≤ 256 }
-    requires of { AreOf shape.stages shape.span machines.old.entries }
-    requires ordered { IsOrdered key_cmp machines.old }
-    requires busy { AreBusy machines.old.entries }
-    requires later { (key : List Value) → IsLaterAt order machines.old.entries key }
-    requires linked { IsLinked [] (sequences_in machines.old.entries) list.old }
-    ensures of { AreOf shape.stages shape.span machines.new.entries }
-    ensures ordered { IsOrdered key_cmp machines.new }
-    ensures busy { AreBusy machines.new.entries }
+    requires of { AreOf shape.stages shape.span (entries_of machines.old) }
+    requires table { IsTable shape.stages shape.span machines.old }
+    requires busy { AreBusy (entries_of machines.old) }
+    requires later { (key : List Value) → IsLaterAt order (entries_of machines.old) key }
+    requires linked { IsLinked [] (sequences_in (entries_of machines.old)) list.old }
+    ensures of { AreOf shape.stages shape.span (entries_of machines.new) }
+    ensures table { IsTable shape.stages shape.span machines.new }
+    ensures busy { AreBusy (entries_of machines.new) }
     ensures slots { OnOk result ((key : List Value) (k : ℕ) → suc k < shape.stages
-        → slots_in machines.new.entries key (suc k)
+        → slots_in (entries_of machines.new) key (suc k)
         ≡ slots_after_event shape.span order (find
         (λ (r : Route). key_eq key r.key) (route.now ∷ []))
-        (slots_in machines.old.entries key) (suc k)) }
+        (slots_in (entries_of machines.old) key) (suc k)) }
     ensures found { IfOk result (λ found. found.items
         ≡ option_to_list (match_there shape.stages shape.span
-        (slots_in machines.old.entries) order route.now)) }
-    ensures linked { IsLinked [] (sequences_in machines.new.entries) list.new }
-    ensures unchanged { OnErr result (KeepsSequences machines.old.entries machines.new.entries) }
+        (slots_in (entries_of machines.old)) order route.now)) }
+    ensures linked { IsLinked [] (sequences_in (entries_of machines.new)) list.new }
+    ensures unchanged { OnErr result (KeepsSequences (entries_of machines.old) (entries_of machines.new)) }
     ensures probes { steps.new ≤ steps.old + probes_of shape.stages route.now }
 {
-    match play_key(machines, list, shape, order, route, steps) {
-        Ok(Some(played)) => {
-            settle(machines, shape, &route.key, played.is_empty);
-            Ok(played.found)
-        }
-        Ok(None) => Ok(Vec::new(shape.alloc)),
-        Err(memory) => {
-            drop_empty(machines, shape, &route.key);
-            Err(memory)
-        }
+    let hash = hash_of(&route.key);
+    match room_for(machines, shape, hash, route)? {
+        None => Ok(Vec::new(shape.alloc)),
+        Some(place) => match play_there(machines, list, shape, order, route, place, steps) {
+            Ok(played) => {
+                settle(machines, shape, hash, &route.key, place, played.is_empty);
+                Ok(played.found)
+            }
+            Err(memory) => {
+                drop_empty_at(machines, shape, hash, &route.key, place);
+                Err(memory)
+            }
+        },
     }
 }

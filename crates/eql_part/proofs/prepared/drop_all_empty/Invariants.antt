@@ -1,13 +1,12 @@
 use Rattle.std.proofs.Common.{drop}
-use Rattle.std.specs.BTreeMap.{IsOrdered}
-use Rattle.eql_values.specs.Orders.{key_cmp}
+use Rattle.eql_part.specs.Rooms.{IsTable, entries_of}
 use Rattle.eql_part.specs.KeyTables.{AreBusyBut, AreOf, KeepsSequences}
 use Rattle.eql_part.proofs.prepared.drop_all_empty.Given as goal
 
 abbrev pub invariant-loop-route : goal.invariant-loop-route
 invariant-loop-route g l = record {
-  of : AreOf l.shape.stages l.shape.span l.machines.entries;
-  ordered : IsOrdered key_cmp l.machines;
-  sequences : KeepsSequences l.fn.machines.entries l.machines.entries;
-  busy : AreBusyBut (drop l.route-index l.routes.items) l.machines.entries;
+  of : AreOf l.shape.stages l.shape.span (entries_of l.machines);
+  table : IsTable l.shape.stages l.shape.span l.machines;
+  sequences : KeepsSequences (entries_of l.fn.machines) (entries_of l.machines);
+  busy : AreBusyBut (drop l.route-index l.routes.items) (entries_of l.machines);
 }

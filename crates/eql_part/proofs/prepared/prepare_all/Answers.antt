@@ -3,6 +3,7 @@ use Rattle.std.specs.Prelude.{All}
 use Rattle.std.proofs.lemmas.List.{append_assoc, take_more}
 use Rattle.std.proofs.lemmas.List.Elements.{All-push, All-weaker}
 use Rattle.eql_values.specs.declared.item.Route.{Route}
+use Rattle.eql_part.specs.Rooms.{entries_of}
 use Rattle.eql_part.specs.KeyTables.{IsReadyIn}
 use Rattle.eql_part.specs.Links.{Listed, begun_by}
 use Rattle.eql_part.specs.Routed.{ArePrepared, all_begun}
@@ -26,8 +27,8 @@ loop-route-preserved g c =
     let routes = c.args.routes.now.items in let i = c.loop-route.route-index in let some = take i routes in
     let route = c.route-item.result in let ready = c.in-Ok.ready in let m = c.args.shape.stages in
     let read = c.deref-route-items.result.now in let same : read ≡ routes = c.deref-route-items.ensures.value in
-    let ready_in = λ (r : Route). IsReadyIn c.prepare.new.machines.entries r.key in
-    let was_ready = λ (r : Route). IsReadyIn c.loop-route.machines.entries r.key in
+    let ready_in = λ (r : Route). IsReadyIn (entries_of c.prepare.new.machines) r.key in
+    let was_ready = λ (r : Route). IsReadyIn (entries_of c.loop-route.machines) r.key in
     let count = c.loop-route.invariant.count in
     let len = c.push_reserved.ensures.len in
     let room = c.loop-route.invariant.room in let grown = c.push_reserved.ensures.capacity in
@@ -35,7 +36,7 @@ loop-route-preserved g c =
     sym (ap (take (i + 1)) same) ∙ take_more read i route c.loop-route-test.true ∙ ap (λ (r : Route). take i read ++ r ∷ []) (sym c.route-item.is) ∙ ap (λ (l : List Route). take i l ++ route ∷ []) same in
     record {
       of = c.in-Ok.ensures.of;
-      ordered = c.in-Ok.ensures.ordered;
+      table = c.in-Ok.ensures.table;
       sequences = λ q k. c.in-Ok.ensures.sequences q k ∙ c.loop-route.invariant.sequences q k;
       ready = subst (All ready_in) (sym more) (All-push ready_in some route (All-weaker was_ready ready_in (λ r h. c.in-Ok.ensures.ready r.key h) some c.loop-route.invariant.ready) c.in-Ok.ensures.there);
       others = λ key apart.

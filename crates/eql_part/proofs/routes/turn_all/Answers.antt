@@ -16,6 +16,7 @@ use Rattle.eql_laws.specs.OneEvent.{slots_after_event}
 use Rattle.eql_laws.specs.Slots.{chain_coming}
 use Rattle.eql_auto.specs.Machine.{Machine, AllBefore}
 use Rattle.eql_span_list.specs.declared.node.Ticket.{Ticket}
+use Rattle.eql_part.specs.Rooms.{entries_of}
 use Rattle.eql_part.specs.KeyTables.{AreBusyBut, IsReadyIn, machine_of, probes_of_all, sequences_in, slots_in, slots_of}
 use Rattle.eql_part.specs.Links.{IsLinked}
 use Rattle.eql_part.specs.declared.prepared.Prepared.{Prepared}
@@ -33,14 +34,14 @@ loop-route-init g c =
     let ok = c.args.prepared.ok.0 in
     record {
       of = c.requires.of;
-      ordered = c.requires.ordered;
+      table = c.requires.table;
       order = c.requires.order;
       same = λ k d l. refl;
       slots = λ key k l. refl;
       found = refl;
       busy = c.requires.busy;
       prepared = subst (ArePrepared c.args.shape.stages c.args.routes.now.items) (sym rest) c.requires.prepared;
-      linked = subst (λ (l : List Prepared). IsLinked (all_begun c.args.order c.args.routes.now.items l) (sequences_in c.args.machines.now.entries) c.args.list.now) (sym rest) c.requires.linked;
+      linked = subst (λ (l : List Prepared). IsLinked (all_begun c.args.order c.args.routes.now.items l) (sequences_in (entries_of c.args.machines.now)) c.args.list.now) (sym rest) c.requires.linked;
       left = omega arith;
       count = omega arith;
       room = omega arith;
@@ -62,9 +63,9 @@ pub turn_key-completed-requires-clause-ready : goal.turn_key-completed-requires-
 turn_key-completed-requires-clause-ready g c =
     let routes = c.args.routes.now.items in let i = c.loop-route.route-index in let route = c.route-item.result in let rest = drop (i + 1) routes in
     let more = one_left c.deref-route-items.result.now routes i route c.deref-route-items.ensures.value c.loop-route-test.true c.route-item.is in
-    let here = All-head (λ (r : Route). machine_of c.loop-route.machines.entries r.key ≡ machine_of c.args.machines.now.entries r.key) route rest
-    (subst (All (λ (r : Route). machine_of c.loop-route.machines.entries r.key ≡ machine_of c.args.machines.now.entries r.key)) more c.loop-route.invariant.same) in
-    let was = λ (r : Route). IsReadyIn c.args.machines.now.entries r.key in
+    let here = All-head (λ (r : Route). machine_of (entries_of c.loop-route.machines) r.key ≡ machine_of (entries_of c.args.machines.now) r.key) route rest
+    (subst (All (λ (r : Route). machine_of (entries_of c.loop-route.machines) r.key ≡ machine_of (entries_of c.args.machines.now) r.key)) more c.loop-route.invariant.same) in
+    let was = λ (r : Route). IsReadyIn (entries_of c.args.machines.now) r.key in
     let all : All was (drop i routes) = All-drop was i routes c.requires.ready in
     subst (λ (o : Option (Machine Ticket)). IsSomeAnd o (λ machine. IsTrue machine.is_ready)) (sym here) (All-head was route rest (subst (All was) more all))
 
@@ -72,8 +73,8 @@ pub turn_key-completed-requires-clause-later : goal.turn_key-completed-requires-
 turn_key-completed-requires-clause-later g c =
     let routes = c.args.routes.now.items in let i = c.loop-route.route-index in let route = c.route-item.result in let rest = drop (i + 1) routes in
     let more = one_left c.deref-route-items.result.now routes i route c.deref-route-items.ensures.value c.loop-route-test.true c.route-item.is in
-    let here = All-head (λ (r : Route). machine_of c.loop-route.machines.entries r.key ≡ machine_of c.args.machines.now.entries r.key) route rest
-    (subst (All (λ (r : Route). machine_of c.loop-route.machines.entries r.key ≡ machine_of c.args.machines.now.entries r.key)) more c.loop-route.invariant.same) in
+    let here = All-head (λ (r : Route). machine_of (entries_of c.loop-route.machines) r.key ≡ machine_of (entries_of c.args.machines.now) r.key) route rest
+    (subst (All (λ (r : Route). machine_of (entries_of c.loop-route.machines) r.key ≡ machine_of (entries_of c.args.machines.now) r.key)) more c.loop-route.invariant.same) in
     subst (λ (o : Option (Machine Ticket)). (k : ℕ) → IfSome (slots_of o k) (AllBefore c.args.order)) (sym here) (c.requires.later route.key)
 
 pub turn_key-completed-requires-clause-tagged : goal.turn_key-completed-requires-clause-tagged
@@ -90,7 +91,7 @@ turn_key-completed-requires-clause-linked g c =
     let more = one_left c.deref-route-items.result.now routes i route c.deref-route-items.ensures.value c.loop-route-test.true c.route-item.is in
     let popped = (c.in-Some.ensures {u = tt}).items in let its = into_iter_items c.next.new.self in let ready = c.in-Some.ready in let m = c.args.shape.stages in
     let prepared = next_prepared m c.args.order (drop i routes) rest route (into_iter_items c.loop-route.prepared) its ready more popped c.loop-route.invariant.prepared in
-    let linked = next_linked c.args.order (drop i routes) rest route (into_iter_items c.loop-route.prepared) its ready (sequences_in c.loop-route.machines.entries) c.loop-route.list more popped c.loop-route.invariant.linked in
+    let linked = next_linked c.args.order (drop i routes) rest route (into_iter_items c.loop-route.prepared) its ready (sequences_in (entries_of c.loop-route.machines)) c.loop-route.list more popped c.loop-route.invariant.linked in
     (all_begun c.args.order rest its, linked)
 
 pub add_match-requires-clause-keyed : goal.add_match-requires-clause-keyed
@@ -99,7 +100,7 @@ add_match-requires-clause-keyed g c =
     let more = one_left c.deref-route-items.result.now routes i route c.deref-route-items.ensures.value c.loop-route-test.true c.route-item.is in
     let popped = (c.in-Some.ensures {u = tt}).items in let its = into_iter_items c.next.new.self in let ready = c.in-Some.ready in let m = c.args.shape.stages in
     let prepared = next_prepared m c.args.order (drop i routes) rest route (into_iter_items c.loop-route.prepared) its ready more popped c.loop-route.invariant.prepared in
-    keyed_if_completed m c.args.shape.span (slots_in c.loop-route.machines.entries route.key) (act_by c.args.order route) route.key ready.key c.turn_key-completed.result prepared.0.keyed c.turn_key-completed.ensures.answer
+    keyed_if_completed m c.args.shape.span (slots_in (entries_of c.loop-route.machines) route.key) (act_by c.args.order route) route.key ready.key c.turn_key-completed.result prepared.0.keyed c.turn_key-completed.ensures.answer
 
 pub add_match-requires-clause-room : goal.add_match-requires-clause-room
 add_match-requires-clause-room g c =
@@ -113,23 +114,23 @@ loop-route-preserved g c =
     let more = one_left c.deref-route-items.result.now routes i route c.deref-route-items.ensures.value c.loop-route-test.true c.route-item.is in
     let popped = (c.in-Some.ensures {u = tt}).items in let its = into_iter_items c.next.new.self in let ready = c.in-Some.ready in let m = c.args.shape.stages in
     let prepared = next_prepared m c.args.order (drop i routes) rest route (into_iter_items c.loop-route.prepared) its ready more popped c.loop-route.invariant.prepared in
-    let linked = next_linked c.args.order (drop i routes) rest route (into_iter_items c.loop-route.prepared) its ready (sequences_in c.loop-route.machines.entries) c.loop-route.list more popped c.loop-route.invariant.linked in
-    let here = All-head (λ (r : Route). machine_of c.loop-route.machines.entries r.key ≡ machine_of c.args.machines.now.entries r.key) route rest
-    (subst (All (λ (r : Route). machine_of c.loop-route.machines.entries r.key ≡ machine_of c.args.machines.now.entries r.key)) more c.loop-route.invariant.same) in
-    let same = subst (All (λ (r : Route). machine_of c.loop-route.machines.entries r.key ≡ machine_of c.args.machines.now.entries r.key)) more c.loop-route.invariant.same in
+    let linked = next_linked c.args.order (drop i routes) rest route (into_iter_items c.loop-route.prepared) its ready (sequences_in (entries_of c.loop-route.machines)) c.loop-route.list more popped c.loop-route.invariant.linked in
+    let here = All-head (λ (r : Route). machine_of (entries_of c.loop-route.machines) r.key ≡ machine_of (entries_of c.args.machines.now) r.key) route rest
+    (subst (All (λ (r : Route). machine_of (entries_of c.loop-route.machines) r.key ≡ machine_of (entries_of c.args.machines.now) r.key)) more c.loop-route.invariant.same) in
+    let same = subst (All (λ (r : Route). machine_of (entries_of c.loop-route.machines) r.key ≡ machine_of (entries_of c.args.machines.now) r.key)) more c.loop-route.invariant.same in
     let in_order : RoutesInOrder (route ∷ rest) = subst RoutesInOrder more c.loop-route.invariant.order in
     let count = c.loop-route.invariant.count in let room = c.loop-route.invariant.room in let left = c.loop-route.invariant.left in
     let longer = c.add_match.ensures.len in let grown = c.add_match.ensures.room in
     let fewer = (c.in-Some.ensures {u = tt}).cases.1 in
     let before = c.loop-route.invariant.probes in let probes = c.turn_key-completed.ensures.probes in
     let spent = ap (probes_of_all m) more in
-    let new = c.turn_key-completed.new.machines.entries in let cur = c.loop-route.machines.entries in let start = c.args.machines.now.entries in
+    let new = (entries_of c.turn_key-completed.new.machines) in let cur = (entries_of c.loop-route.machines) in let start = (entries_of c.args.machines.now) in
     let answer : c.turn_key-completed.result ≡ chain_coming c.args.shape.span (slots_in start route.key) (act_by c.args.order route) m =
     c.turn_key-completed.ensures.answer ∙ ap (λ (o : Option (Machine Ticket)). chain_coming c.args.shape.span (slots_of o) (act_by c.args.order route) m) here in
     let match_of = λ (o : Option (List OrderKey)). option_map (λ (x : List OrderKey). record { key = route.key; chain = x }) o in
     record {
       of = c.turn_key-completed.ensures.of;
-      ordered = c.turn_key-completed.ensures.ordered;
+      table = c.turn_key-completed.ensures.table;
       order = rest_in_order route rest in_order;
       same = later_same route.key rest start cur new (later_keys route rest in_order) c.turn_key-completed.ensures.others
           (All-tail (λ (r : Route). machine_of cur r.key ≡ machine_of start r.key) route rest same);
@@ -153,14 +154,14 @@ loop-route-preserved g c =
 pub returns-clause-of : goal.returns-clause-of
 returns-clause-of g c = c.loop-route.invariant.of
 
-pub returns-clause-ordered : goal.returns-clause-ordered
-returns-clause-ordered g c = c.loop-route.invariant.ordered
+pub returns-clause-table : goal.returns-clause-table
+returns-clause-table g c = c.loop-route.invariant.table
 
 pub returns-clause-slots : goal.returns-clause-slots
 returns-clause-slots g c = λ key k lt.
     let past : drop c.loop-route.route-index c.args.routes.now.items ≡ [] =
     drop_all c.loop-route.route-index c.args.routes.now.items (let over = c.loop-route-test.false in let len = ap length c.deref-route-items.ensures.value in omega arith) in
-    sym (ap (λ (l : List Route). slots_after_event c.args.shape.span c.args.order (find (λ (r : Route). key_eq key r.key) l) (slots_in c.loop-route.machines.entries key) (suc k)) past)
+    sym (ap (λ (l : List Route). slots_after_event c.args.shape.span c.args.order (find (λ (r : Route). key_eq key r.key) l) (slots_in (entries_of c.loop-route.machines) key) (suc k)) past)
     ∙ c.loop-route.invariant.slots key k lt
 
 pub returns-clause-found : goal.returns-clause-found
@@ -168,14 +169,14 @@ returns-clause-found g c =
     let past : drop c.loop-route.route-index c.args.routes.now.items ≡ [] =
     drop_all c.loop-route.route-index c.args.routes.now.items (let over = c.loop-route-test.false in let len = ap length c.deref-route-items.ensures.value in omega arith) in
     sym (append-nil c.loop-route.found.items)
-    ∙ sym (ap (λ (l : List Route). c.loop-route.found.items ++ filter_map (match_there c.args.shape.stages c.args.shape.span (slots_in c.args.machines.now.entries) c.args.order) l) past)
+    ∙ sym (ap (λ (l : List Route). c.loop-route.found.items ++ filter_map (match_there c.args.shape.stages c.args.shape.span (slots_in (entries_of c.args.machines.now)) c.args.order) l) past)
     ∙ c.loop-route.invariant.found
 
 pub returns-clause-linked : goal.returns-clause-linked
 returns-clause-linked g c =
     let past : drop c.loop-route.route-index c.args.routes.now.items ≡ [] =
     drop_all c.loop-route.route-index c.args.routes.now.items (let over = c.loop-route-test.false in let len = ap length c.deref-route-items.ensures.value in omega arith) in
-    subst (λ (l : List Route). IsLinked (all_begun c.args.order l (into_iter_items c.loop-route.prepared)) (sequences_in c.loop-route.machines.entries) c.loop-route.list) past c.loop-route.invariant.linked
+    subst (λ (l : List Route). IsLinked (all_begun c.args.order l (into_iter_items c.loop-route.prepared)) (sequences_in (entries_of c.loop-route.machines)) c.loop-route.list) past c.loop-route.invariant.linked
 
 pub returns-clause-probes : goal.returns-clause-probes
 returns-clause-probes g c =
@@ -185,4 +186,4 @@ pub returns-clause-busy : goal.returns-clause-busy
 returns-clause-busy g c = λ key.
     let past : drop c.loop-route.route-index c.args.routes.now.items ≡ [] =
     drop_all c.loop-route.route-index c.args.routes.now.items (let over = c.loop-route-test.false in let len = ap length c.deref-route-items.ensures.value in omega arith) in
-    subst (λ (l : List Route). AreBusyBut l c.loop-route.machines.entries) past c.loop-route.invariant.busy key (All-nil (λ (r : Route). key_eq r.key key ≡ false))
+    subst (λ (l : List Route). AreBusyBut l (entries_of c.loop-route.machines)) past c.loop-route.invariant.busy key (All-nil (λ (r : Route). key_eq r.key key ≡ false))

@@ -1,93 +1,73 @@
-use Rattle.std.proofs.Common.{◌≡◌, [], ℕ, List, Option, Some, sym, ap, ◌∙◌, subst}
+use Rattle.std.proofs.Common.{◌≡◌, ◌≤◌, [], ℕ, Bool, List, Option, length, sym, ap, ◌∙◌, subst}
 use Rattle.std.specs.Prelude.{IfSome}
-use Rattle.std.specs.BTreeMap.{is_at}
-use Rattle.std.proofs.lemmas.Map.Views.{All-values-set_value}
-use Rattle.eql_values.specs.Orders.{key_cmp}
+use Rattle.std.specs.Option.{option_map, option_to_list}
+use Rattle.std.proofs.lemmas.Result.{IfOk-weaker, on_err_weaker, on_ok_weaker}
 use Rattle.eql_values.specs.Matching.{act_by}
-use Rattle.eql_laws.specs.Slots.{slots_after}
-use Rattle.eql_auto.specs.Machine.{Machine, AllBefore}
+use Rattle.eql_laws.specs.Slots.{chain_coming, slots_after}
+use Rattle.eql_auto.specs.Machine.{Machine, AllBefore, tags_of}
 use Rattle.eql_span_list.specs.declared.node.Ticket.{Ticket}
-use Rattle.eql_part.specs.KeyTables.{IsOf, AreOf, KeepsSequences, machine_of, sequence_of, sequences_in, slots_of}
-use Rattle.eql_part.specs.Links.{IsLinked}
-use Rattle.eql_part.specs.Links.{Listed}
+use Rattle.eql_part.specs.KeyTables.{IsOf, sequences_in, slots_of}
+use Rattle.eql_part.specs.Links.{IsLinked, Listed}
+use Rattle.eql_part.specs.Played.{IsPlayed}
+use Rattle.eql_part.specs.Rooms.{entries_of}
 use Rattle.eql_part.proofs.Onward.{linked_alike}
-use Rattle.eql_part.proofs.Alone.{joins, on_err, played_linked, played_of, room_is_of}
-use Rattle.eql_part.proofs.Tagging.{no_sequence}
-use Rattle.eql_part.proofs.Turned.{found_of, found_there, later_slots, replaced_keeps, some_there}
+use Rattle.eql_part.proofs.Alone.{joins, played_linked, played_of, room_is_of}
+use Rattle.eql_part.proofs.Emptied.{either}
+use Rattle.eql_part.proofs.Tables.{found_by, with_machine, within_len, written_at, written_of}
+use Rattle.eql_part.proofs.Turned.{found_of, later_slots, replaced_keeps}
 use Rattle.eql_part.proofs.single.play_there.Goals as goal
+
+pub index_mut-room-requires : goal.index_mut-room-requires
+index_mut-room-requires g c = within_len c.args.shape.stages c.args.shape.span c.args.machines.now c.args.route.now.key c.args.place c.requires.table c.requires.there
+
+pub play_machine-requires-clause-of : goal.play_machine-requires-clause-of
+play_machine-requires-clause-of g c =
+    let m = c.args.shape.stages in let span = c.args.shape.span in let t = c.args.machines.now in let key = c.args.route.now.key in let room = c.index_mut-room.result.now in
+    found_of m span (entries_of t) key room.machine c.requires.of (found_by m span t key c.args.place room c.requires.table c.requires.there c.index_mut-room.ensures.value)
 
 pub play_machine-requires-clause-later : goal.play_machine-requires-clause-later
 play_machine-requires-clause-later g c =
-    let key = c.args.route.now.key in
-    let found = found_there c.in-Some.is c.get_mut.ensures.value in
-    later_slots c.args.order c.in-Some.machine.now (subst (λ (o : Option (Machine Ticket)). (k : ℕ) → IfSome (slots_of o k) (AllBefore c.args.order)) found (c.requires.later key))
+    let m = c.args.shape.stages in let span = c.args.shape.span in let t = c.args.machines.now in let key = c.args.route.now.key in let room = c.index_mut-room.result.now in
+    let found = found_by m span t key c.args.place room c.requires.table c.requires.there c.index_mut-room.ensures.value in
+    later_slots c.args.order room.machine (subst (λ (o : Option (Machine Ticket)). (k : ℕ) → IfSome (slots_of o k) (AllBefore c.args.order)) found (c.requires.later key))
 
 pub play_machine-requires-clause-joins : goal.play_machine-requires-clause-joins
 play_machine-requires-clause-joins g c =
-    let found = found_there c.in-Some.is c.get_mut.ensures.value in
-    joins c.args.shape.stages c.args.shape.span c.args.machines.now.entries c.args.order c.args.route.now c.args.list.now c.in-Some.machine.now c.requires.of c.requires.later c.requires.linked found
+    let m = c.args.shape.stages in let span = c.args.shape.span in let t = c.args.machines.now in let key = c.args.route.now.key in let room = c.index_mut-room.result.now in
+    joins m span (entries_of t) c.args.order c.args.route.now c.args.list.now room.machine c.requires.of c.requires.later c.requires.linked
+    (found_by m span t key c.args.place room c.requires.table c.requires.there c.index_mut-room.ensures.value)
 
-pub returns-in_err-played-in-Some-clause-of : goal.returns-in_err-played-in-Some-clause-of
-returns-in_err-played-in-Some-clause-of g c =
-    let m = c.args.shape.stages in let span = c.args.shape.span in let es = c.args.machines.now.entries in let key = c.args.route.now.key in
-    let w = c.play_machine.new.machine in let machine = c.in-Some.machine.now in
-    let found = found_there c.in-Some.is c.get_mut.ensures.value in
-    let same = c.in_err-played-in-Some.ensures.unchanged in
-    subst (AreOf m span) (sym (c.get_mut.follows.holds w).0)
-    (All-values-set_value (is_at (key_cmp key)) (IsOf m span) es w c.requires.of (room_is_of m span machine w same.0 same.1 (found_of m span es key machine c.requires.of found)))
-
-pub returns-in_err-played-in-Some-clause-unchanged : goal.returns-in_err-played-in-Some-clause-unchanged
-returns-in_err-played-in-Some-clause-unchanged g c =
-    let es = c.args.machines.now.entries in let key = c.args.route.now.key in
-    let w = c.play_machine.new.machine in let machine = c.in-Some.machine.now in
-    let found = found_there c.in-Some.is c.get_mut.ensures.value in
-    let same = c.in_err-played-in-Some.ensures.unchanged in
-    let updated = (c.get_mut.follows.holds w).3 (some_there (machine_of es key) machine found) in
-    on_err c.from_residual.result (KeepsSequences es (c.get_mut.follows.lender w).entries)
-    (replaced_keeps es (c.get_mut.follows.lender w).entries key w machine (ap (λ (x : Machine Ticket). x.slots) same.1) found updated.0)
-
-pub returns-in_err-played-in-Some-clause-linked : goal.returns-in_err-played-in-Some-clause-linked
-returns-in_err-played-in-Some-clause-linked g c =
-    let es = c.args.machines.now.entries in let key = c.args.route.now.key in
-    let w = c.play_machine.new.machine in let machine = c.in-Some.machine.now in
-    let found = found_there c.in-Some.is c.get_mut.ensures.value in
-    let same = c.in_err-played-in-Some.ensures.unchanged in
-    let updated = (c.get_mut.follows.holds w).3 (some_there (machine_of es key) machine found) in
-    let new = (c.get_mut.follows.lender w).entries in
-    subst (λ (l : List Listed). IsLinked [] (sequences_in new) l) (sym same.2)
-    (linked_alike es new [] c.args.list.now (replaced_keeps es new key w machine (ap (λ (x : Machine Ticket). x.slots) same.1) found updated.0) c.requires.linked)
-
-pub returns-in_ok-played-in-Some-clause-of : goal.returns-in_ok-played-in-Some-clause-of
-returns-in_ok-played-in-Some-clause-of g c =
-    let m = c.args.shape.stages in let span = c.args.shape.span in let es = c.args.machines.now.entries in let key = c.args.route.now.key in
-    let w = c.play_machine.new.machine in let machine = c.in-Some.machine.now in
-    let found = found_there c.in-Some.is c.get_mut.ensures.value in
-    subst (AreOf m span) (sym (c.get_mut.follows.holds w).0)
-    (All-values-set_value (is_at (key_cmp key)) (IsOf m span) es w c.requires.of
-    (played_of m span es c.args.order c.args.route.now c.args.list.now machine c.requires.of c.requires.later c.requires.linked found w c.play_machine.new.list c.in_ok-played-in-Some.ensures.played))
-
-pub returns-in_ok-played-in-Some-clause-slots : goal.returns-in_ok-played-in-Some-clause-slots
-returns-in_ok-played-in-Some-clause-slots g c = λ k low high.
-    let es = c.args.machines.now.entries in let key = c.args.route.now.key in
-    let w = c.play_machine.new.machine in let machine = c.in-Some.machine.now in
-    let found = found_there c.in-Some.is c.get_mut.ensures.value in
-    let updated = (c.get_mut.follows.holds w).3 (some_there (machine_of es key) machine found) in
-    ap (λ (o : Option (Machine Ticket)). slots_of o k) updated.1 ∙ c.in_ok-played-in-Some.ensures.slots k low high
-    ∙ sym (ap (λ (o : Option (Machine Ticket)). slots_after c.args.shape.span (slots_of o) (act_by c.args.order c.args.route.now) k) found)
-
-pub returns-in_ok-played-in-Some-clause-empty : goal.returns-in_ok-played-in-Some-clause-empty
-returns-in_ok-played-in-Some-clause-empty g c = λ yes k.
-    let es = c.args.machines.now.entries in let key = c.args.route.now.key in
-    let w = c.play_machine.new.machine in let machine = c.in-Some.machine.now in
-    let found = found_there c.in-Some.is c.get_mut.ensures.value in
-    let updated = (c.get_mut.follows.holds w).3 (some_there (machine_of es key) machine found) in
-    ap (λ (o : Option (Machine Ticket)). sequence_of o k) updated.1 ∙ no_sequence w.slots k (c.in_ok-played-in-Some.ensures.empty yes)
-
-pub returns-in_ok-played-in-Some-clause-linked : goal.returns-in_ok-played-in-Some-clause-linked
-returns-in_ok-played-in-Some-clause-linked g c =
-    let es = c.args.machines.now.entries in let key = c.args.route.now.key in
-    let w = c.play_machine.new.machine in let machine = c.in-Some.machine.now in
-    let found = found_there c.in-Some.is c.get_mut.ensures.value in
-    let updated = (c.get_mut.follows.holds w).3 (some_there (machine_of es key) machine found) in
-    played_linked c.args.shape.stages c.args.shape.span es c.args.order c.args.route.now c.args.list.now machine c.requires.of c.requires.later c.requires.linked found
-    w c.play_machine.new.list c.in_ok-played-in-Some.ensures.played (c.get_mut.follows.lender w).entries updated.1 updated.2
+pub returns : goal.returns
+returns g c =
+    let m = c.args.shape.stages in let span = c.args.shape.span in let t = c.args.machines.now in let key = c.args.route.now.key in let room = c.index_mut-room.result.now in
+    let w = c.play_machine.new.machine in let machine = room.machine in let r = c.play_machine.result in let es = entries_of t in let now = with_machine m span t c.args.place room w in let new = entries_of now in
+    let act = act_by c.args.order c.args.route.now in
+    let written = written_at m span t key c.args.place room w c.requires.table c.requires.there c.index_mut-room.ensures.value in
+    let found = written.found in let is_of = found_of m span es key machine c.requires.of found in
+    let list = c.args.list.now in let after = c.play_machine.new.list in
+    let Played : Type 0 = IsPlayed m c.args.order c.args.route.now machine w list after in
+    let Same : Type 0 = (ready : Bool) × (w ≡ record machine { is_ready = ready }) × (after ≡ list) in
+    let keeps = λ (same : Same). replaced_keeps es new key w machine (ap (λ (x : Machine Ticket). x.slots) same.1) found written.change in
+    record {
+      of = written_of m span t key c.args.place room w written c.requires.of
+          (either r Played Same (IsOf m span w) c.play_machine.ensures.played c.play_machine.ensures.unchanged
+          (λ played. played_of m span es c.args.order c.args.route.now list machine c.requires.of c.requires.later c.requires.linked found w after played)
+          (λ same. room_is_of m span machine w same.0 same.1 is_of));
+      table = written.table;
+      there = written.placed;
+      others = written.others;
+      slots = on_ok_weaker r
+          (λ slots k low high. ap (λ (o : Option (Machine Ticket)). slots_of o k) written.own ∙ slots k low high ∙ sym (ap (λ (o : Option (Machine Ticket)). slots_after span (slots_of o) act k) found))
+          c.play_machine.ensures.slots;
+      found = IfOk-weaker r _ _
+          (λ played is. is
+          ∙ sym (ap (λ (o : Option (Machine Ticket)). option_to_list (option_map (λ chain. record { key = key; chain = chain }) (chain_coming span (slots_of o) act m))) found))
+          c.play_machine.ensures.found;
+      empty = IfOk-weaker r _ _ (λ played is yes. subst (λ o. IfSome o (λ (x : Machine Ticket). tags_of x.slots ≡ [])) (sym written.own) (is yes)) c.play_machine.ensures.empty;
+      busy = IfOk-weaker r _ _ (λ played is no. subst (λ o. IfSome o (λ (x : Machine Ticket). 1 ≤ length (tags_of x.slots))) (sym written.own) (is no)) c.play_machine.ensures.busy;
+      unchanged = on_err_weaker r keeps c.play_machine.ensures.unchanged;
+      linked = either r Played Same (IsLinked [] (sequences_in new) after) c.play_machine.ensures.played c.play_machine.ensures.unchanged
+          (λ played. played_linked m span es c.args.order c.args.route.now list machine c.requires.of c.requires.later c.requires.linked found w after played new written.own written.others)
+          (λ same. subst (λ (l : List Listed). IsLinked [] (sequences_in new) l) (sym same.2) (linked_alike es new [] list (keeps same) c.requires.linked));
+      probes = c.play_machine.ensures.probes;
+    }

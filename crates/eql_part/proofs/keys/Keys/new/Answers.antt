@@ -3,11 +3,16 @@ use Rattle.std.specs.List.Sorted.{IsPermutation}
 use Rattle.std.proofs.lemmas.List.Sorted.{All-permutation, IsPermutation-map}
 use Rattle.eql_values.specs.declared.found.Holder.{Holder}
 use Rattle.eql_laws.specs.Shapes.{HasStageBefore, IsFull}
+use Rattle.eql_part.specs.Rooms.{entries_of}
 use Rattle.eql_part.specs.Links.{slot_of}
+use Rattle.eql_part.proofs.Looked.{entries_sorted}
 use Rattle.eql_part.proofs.Differing.{differ_permutation}
 use Rattle.eql_part.proofs.Putting.{differ_in_order, put_is, rise_sorted}
 use Rattle.eql_part.proofs.Rows.{holders_in_order, looks_up}
 use Rattle.eql_part.proofs.keys.Keys.new.Goals as goal
+
+pub put_all-requires-clause-table : goal.put_all-requires-clause-table
+put_all-requires-clause-table g c = c.new-machines.ensures.table c.args.m c.args.span
 
 pub put_all-requires-clause-stages : goal.put_all-requires-clause-stages
 put_all-requires-clause-stages g c =
@@ -32,7 +37,7 @@ pub invariant_of-result : goal.invariant_of-result
 invariant_of-result g c = record {
   from = c.requires.from;
   to = c.requires.to;
-  ordered = c.put_all.ensures.ordered;
+  table = c.put_all.ensures.table;
   of = c.put_all.ensures.of;
   busy = (c.in_ok-put_all.ensures {u = tt}).busy;
   linked = (c.in_ok-put_all.ensures {u = tt}).linked;
@@ -40,7 +45,7 @@ invariant_of-result g c = record {
 
 pub returns : goal.returns
 returns g c =
-    let new = c.put_all.new.machines.entries in let sorted = c.sort_by_start.new.holders.items in let ok = c.in_ok-put_all.ensures {u = tt} in
-    let is = put_is c.same_holders.ensures c.opening_finds.ensures c.args.holders sorted new c.requires.order (holders_in_order new c.put_all.ensures.ordered) (looks_up new c.put_all.ensures.ordered)
+    let new = (entries_of c.put_all.new.machines) in let sorted = c.sort_by_start.new.holders.items in let ok = c.in_ok-put_all.ensures {u = tt} in
+    let is = put_is c.same_holders.ensures c.opening_finds.ensures c.args.holders sorted new c.requires.order (holders_in_order new (entries_sorted c.put_all.new.machines.rooms.items)) (looks_up new (entries_sorted c.put_all.new.machines.rooms.items))
     (subst (λ (l : List Holder). IsPermutation l sorted) c.into_items-holders.ensures c.sort_by_start.ensures.same) ok.there ok.no_other in
     λ i. record { stages = c.args.m; span = c.args.span; holders = is i }

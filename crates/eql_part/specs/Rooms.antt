@@ -1,0 +1,99 @@
+-- The rooms of machines, and how the room of a key is found.
+use Rattle.std.specs.Prelude.{◌≡◌, ◌⊎◌, ℕ, ℤ, Bool, false, cond, List, [], Option, None, Some, All, IfNone, filter_map, slice_get, slice_set}
+use Rattle.std.specs.Ordering.{nat_cmp}
+use Rattle.std.specs.Option.{option_map}
+use Rattle.std.specs.BTreeMap.{get, is_at}
+use Rattle.eql_values.specs.declared.value.Value.{Value}
+use Rattle.eql_values.specs.Ordered.{in_order}
+use Rattle.eql_values.specs.Orders.{key_cmp, key_eq}
+use Rattle.eql_auto.specs.Machine.{Machine, tags_of}
+use Rattle.eql_span_list.specs.declared.node.Ticket.{Ticket}
+use Rattle.eql_part.specs.declared.table.Room.{Room}
+use Rattle.eql_part.specs.declared.table.KeyTable.{KeyTable}
+use Rattle.eql_part.specs.Hashes.{key_hash}
+use Rattle.eql_part.specs.KeyTables.{IsOf, machine_of}
+
+-- whether that is this key
+abbrev pub is_key : Option (List Value) → List Value → Bool
+is_key None key = false
+is_key (Some own) key = key_eq own key
+
+-- the new machines are the old ones, but for that of the key
+abbrev pub Changes : List Value → Option (Machine Ticket) → List (List Value × Machine Ticket) → List (List Value × Machine Ticket) → Type 0
+Changes key machine old new = (q : List Value) → machine_of new q ≡ cond (is_at (key_cmp key) q) machine (machine_of old q)
+
+-- a machine without sequences is new
+abbrev pub AddsEmpty : ℕ → Option ℤ → List Value → List (List Value × Machine Ticket) → List (List Value × Machine Ticket) → Type 0
+AddsEmpty m span key old new = (machine : Machine Ticket) × IsOf m span machine × (tags_of machine.slots ≡ []) × Changes key (Some machine) old new
+
+-- a key without a room gets this place, under its hash where nothing stood there, and else under itself
+pub record IsNamed (key : List Value) (place : ℕ) (under now_under : ℕ → Option ℕ) (other now_other : List Value → Option ℕ) : Type 0 where
+  pub hashes : (h : ℕ) → (now_under h ≡ under h) ⊎ ((under h ≡ None) × (now_under h ≡ Some place))
+  pub keys : (q : List Value) → key_eq key q ≡ false → now_other q ≡ other q
+  pub own : (now_other key ≡ other key) ⊎ (now_other key ≡ Some place)
+  pub there : (now_under (key_hash key) ≡ Some place) ⊎ (now_other key ≡ Some place)
+
+-- a key loses its place
+pub record IsUnnamed (key : List Value) (place : ℕ) (under now_under : ℕ → Option ℕ) (other now_other : List Value → Option ℕ) : Type 0 where
+  pub hashes : (h : ℕ) → (now_under h ≡ under h) ⊎ ((under h ≡ Some place) × (now_under h ≡ None))
+  pub keys : (q : List Value) → key_eq key q ≡ false → now_other q ≡ other q
+  pub own : now_other key ≡ None
+
+module _ {L : Type 0} where
+  -- the key of the room, where there is a room and it has a key
+  abbrev pub key_in : Option (Room L) → Option (List Value)
+  key_in None = None
+  key_in (Some room) = room.key
+
+  -- the key of the room at a place
+  abbrev pub key_at : List (Room L) → ℕ → Option (List Value)
+  key_at rooms place = key_in (slice_get rooms place)
+
+  -- whether the room at a place, where there is one, has the key
+  abbrev pub is_there : List (Room L) → Option ℕ → List Value → Bool
+  is_there rooms None key = false
+  is_there rooms (Some place) key = is_key (key_at rooms place) key
+
+  -- the place of a key: the one under its hash, where that room has the key, and else the one under the key itself
+  abbrev pub place_by : (under : ℕ → Option ℕ) (other : List Value → Option ℕ) → List (Room L) → List Value → Option ℕ
+  place_by under other rooms key = cond (is_there rooms (under (key_hash key)) key) (under (key_hash key)) (other key)
+
+  abbrev pub place_of : KeyTable L → List Value → Option ℕ
+  place_of t = place_by (get nat_cmp t.by_hash) (get key_cmp t.others) t.rooms.items
+
+  -- a room's key with its machine
+  abbrev pub row_of : Room L → Option (List Value × Machine Ticket)
+  row_of room = option_map (λ (key : List Value). (key, room.machine)) room.key
+
+  -- the keys with their machines, in the order of the rooms
+  abbrev pub rows_of : List (Room L) → List (List Value × Machine Ticket)
+  rows_of rooms = filter_map row_of rooms
+
+  -- these keys with the machines at these places
+  abbrev pub rows_at : List (Room L) → List (List Value × ℕ) → List (List Value × Machine Ticket)
+  rows_at rooms places = filter_map (λ (e : List Value × ℕ). option_map (λ (room : Room L). (e.0, room.machine)) (slice_get rooms e.1)) places
+
+  -- the keys with their machines, in the order of keys
+  abbrev pub entries_in : List (Room L) → List (List Value × Machine Ticket)
+  entries_in rooms = in_order key_cmp (rows_of rooms)
+
+  abbrev pub entries_of : KeyTable L → List (List Value × Machine Ticket)
+  entries_of t = entries_in t.rooms.items
+
+  -- the room at a place has this key now, and its machine is as it was, and so are the other rooms
+  abbrev pub HasKeyNow : ℕ → Option (List Value) → List (Room L) → List (Room L) → Type 0
+  HasKeyNow place key old new = (room : Room L) × (slice_get old place ≡ Some room) × (new ≡ slice_set old place (record room { key = key }))
+
+  -- a room without a key has a machine of these stages and this span with no sequence
+  abbrev pub IsSpare : ℕ → Option ℤ → Room L → Type 0
+  IsSpare m span room = IfNone room.key (IsOf m span room.machine × (tags_of room.machine.slots ≡ []))
+
+  -- a key's place is that of its room, and there is no other with the key
+  pub record IsHoused (under : ℕ → Option ℕ) (other : List Value → Option ℕ) (rooms : List (Room L)) : Type 0 where
+    pub other_is : (key : List Value) (place : ℕ) → other key ≡ Some place → key_at rooms place ≡ Some key
+    pub found : (place : ℕ) (key : List Value) → key_at rooms place ≡ Some key → place_by under other rooms key ≡ Some place
+
+  -- each key has its room, and rooms without a key are fit to be used again
+  pub record IsTable (m : ℕ) (span : Option ℤ) (t : KeyTable L) : Type 0 where
+    pub housed : IsHoused (get nat_cmp t.by_hash) (get key_cmp t.others) t.rooms.items
+    pub spare : All (IsSpare m span) t.rooms.items

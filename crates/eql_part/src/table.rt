@@ -1,0 +1,269 @@
+//! The machines of the keys, each in a room of its own. A key's room is found by a hash of the key: under the hash stands the
+//! place of one key's room, and the few keys whose hash another key has stand by themselves. So no input makes a search slow.
+//! A room whose key goes keeps its machine for the next key.
+ghost use Rattle.std.specs.Prelude.{◌≡◌, ℕ, ℤ, ◌<◌, ◌≤◌, [], List, Option, None, Some, IfOk, IfSome, OnErr, OnOk, cond, length};
+ghost use Rattle.std.specs.BTreeMap.{get};
+ghost use Rattle.std.specs.Ordering.{nat_cmp};
+ghost use Rattle.eql_values.specs.declared.value.Value.{Value};
+ghost use Rattle.eql_values.specs.Orders.{key_cmp};
+ghost use Rattle.eql_part.specs.Hashes.{key_hash};
+ghost use Rattle.eql_part.specs.KeyTables.{AreOf, IsEmptyAt};
+ghost use Rattle.eql_part.specs.Rooms.{AddsEmpty, Changes, HasKeyNow, IsNamed, IsTable, IsUnnamed, entries_of, is_key, key_at, place_of, rows_of};
+
+use crate::hash::hash_of;
+use crate::machine::KeyMachine;
+use crate::rooms::Shape;
+use eql_values::{Key, Memory};
+use std::alloc::Global;
+use std::collections::BTreeMap;
+use std::sync::ledger::Ledger;
+
+/// A machine, and the key that has it now, if any.
+#[derive(Drop)]
+pub(crate) struct Room<L: Ledger> {
+    pub key: Option<Key>,
+    pub machine: KeyMachine<L>,
+}
+
+/// The rooms, and where each key has its own.
+#[derive(Drop)]
+pub(crate) struct KeyTable<L: Ledger> {
+    /// The place of a key's room, under the key's hash.
+    pub by_hash: BTreeMap<u64, usize>,
+    /// The places of keys whose hash had another key's room.
+    pub others: BTreeMap<Key, usize>,
+    /// The rooms, by place.
+    pub rooms: Vec<Room<L>>,
+    /// Places of rooms without a key.
+    pub free: Vec<usize>,
+}
+
+/// Notes the place of a room's key, where it has one.
+fn note_place(
+    places: &mut BTreeMap<Key, usize>,
+    key: &Option<Key>,
+    place: usize,
+) -> Result<(), Memory>
+    ensures { OnOk result ((q : List Value) → get key_cmp places.new q
+        ≡ cond (is_key key.now q) (Some place) (get key_cmp places.old q)) }
+{
+    if let Some(key) = key {
+        let key = key.clone()?;
+        places.insert(key, place)?;
+    }
+    Ok(())
+}
+
+impl<L: Ledger> KeyTable<L> {
+    /// No rooms.
+    pub fn new(alloc: Global) -> KeyTable<L>
+        ensures empty { entries_of result ≡ [] }
+        ensures table { (m : ℕ) (span : Option ℤ) → IsTable m span result }
+    {
+        KeyTable {
+            by_hash: BTreeMap::new(alloc),
+            others: BTreeMap::new(alloc),
+            rooms: Vec::new(alloc),
+            free: Vec::new(alloc),
+        }
+    }
+
+    /// Whether the room at a place has the key.
+    fn has_key(&self, place: usize, key: &Key) -> bool
+        ensures { result ≡ is_key (key_at self.now.rooms.items place) key.now }
+    {
+        match self.rooms.get(place) {
+            None => false,
+            Some(room) => match &room.key {
+                None => false,
+                Some(own) => own == key,
+            },
+        }
+    }
+
+    /// The place of a key's room, where it has one. The hash is the key's.
+    pub fn find(&self, hash: u64, key: &Key) -> Option<usize>
+        requires { hash ≡ key_hash key.now }
+        ensures { result ≡ place_of self.now key.now }
+    {
+        if let Some(place) = self.by_hash.get(&hash) {
+            if self.has_key(*place, key) {
+                return Some(*place);
+            }
+        }
+        self.others.get(key).copied()
+    }
+
+    /// The place of a key's room, where it has one.
+    pub fn place(&self, key: &Key) -> Option<usize>
+        ensures { result ≡ place_of self.now key.now }
+    {
+        self.find(hash_of(key), key)
+    }
+
+    /// The place that was freed last, where its room has no key.
+    fn last_free(&self) -> Option<usize>
+        ensures { IfSome result (λ place. (place < length self.now.rooms.items)
+            × (key_at self.now.rooms.items place ≡ None)) }
+    {
+        let place = *self.free.last()?;
+        let room = self.rooms.get(place)?;
+        if room.key.is_none() {
+            Some(place)
+        } else {
+            None
+        }
+    }
+
+    /// Makes a room without a key, and room for its place among the free ones.
+    fn new_room(&mut self, shape: Shape) -> Result<usize, Memory>
+        requires from { 1 ≤ shape.stages }
+        requires to { shape.stages ≤ 256 }
+        requires table { IsTable shape.stages shape.span self.old }
+        ensures table { IsTable shape.stages shape.span self.new }
+        ensures places { (q : List Value) → place_of self.new q ≡ place_of self.old q }
+        ensures entries { entries_of self.new ≡ entries_of self.old }
+        ensures within { IfOk result (λ place. place < length self.new.rooms.items) }
+        ensures spare { IfOk result (λ place. key_at self.new.rooms.items place ≡ None) }
+    {
+        let machine = KeyMachine::new(shape.alloc, shape.stages, shape.span)?;
+        let place = self.rooms.len();
+        self.free.reserve(place + 1)?;
+        self.rooms.push(Room { key: None, machine })?;
+        self.free.push_reserved(place);
+        Ok(place)
+    }
+
+    /// The place of a room without a key.
+    fn spare_room(&mut self, shape: Shape) -> Result<usize, Memory>
+        requires from { 1 ≤ shape.stages }
+        requires to { shape.stages ≤ 256 }
+        requires table { IsTable shape.stages shape.span self.old }
+        ensures table { IsTable shape.stages shape.span self.new }
+        ensures places { (q : List Value) → place_of self.new q ≡ place_of self.old q }
+        ensures entries { entries_of self.new ≡ entries_of self.old }
+        ensures within { IfOk result (λ place. place < length self.new.rooms.items) }
+        ensures spare { IfOk result (λ place. key_at self.new.rooms.items place ≡ None) }
+    {
+        match self.last_free() {
+            Some(place) => Ok(place),
+            None => self.new_room(shape),
+        }
+    }
+
+    /// Notes the place of a key that has none. After want of memory nothing has changed.
+    fn name(&mut self, hash: u64, key: &Key, place: usize) -> Result<(), Memory>
+        requires hash { hash ≡ key_hash key.now }
+        ensures rooms { self.new.rooms ≡ self.old.rooms }
+        ensures named { OnOk result (IsNamed key.now place (get nat_cmp self.old.by_hash)
+            (get nat_cmp self.new.by_hash) (get key_cmp self.old.others)
+            (get key_cmp self.new.others)) }
+        ensures unchanged { OnErr result ((self.new.by_hash.entries ≡ self.old.by_hash.entries)
+            × (self.new.others.entries ≡ self.old.others.entries)) }
+    {
+        if self.by_hash.contains_key(&hash) {
+            let own = key.clone()?;
+            self.others.insert(own, place)?;
+        } else {
+            self.by_hash.insert(hash, place)?;
+        }
+        Ok(())
+    }
+
+    /// Gives the room at a place to a key.
+    fn move_in(&mut self, key: Key, place: usize)
+        requires { place < length self.old.rooms.items }
+        ensures by_hash { self.new.by_hash ≡ self.old.by_hash }
+        ensures others { self.new.others ≡ self.old.others }
+        ensures rooms { HasKeyNow place (Some key) self.old.rooms.items self.new.rooms.items }
+    {
+        self.rooms[place].key = Some(key);
+        self.free.pop();
+    }
+
+    /// Gives a key without a machine one without sequences, and answers the place of its room. After want of memory no key's
+    /// machine has changed.
+    pub fn add(&mut self, shape: Shape, hash: u64, key: &Key) -> Result<usize, Memory>
+        requires from { 1 ≤ shape.stages }
+        requires to { shape.stages ≤ 256 }
+        requires hash { hash ≡ key_hash key.now }
+        requires table { IsTable shape.stages shape.span self.old }
+        requires absent { place_of self.old key.now ≡ None }
+        ensures table { IsTable shape.stages shape.span self.new }
+        ensures there { IfOk result (λ place. place_of self.new key.now ≡ Some place) }
+        ensures added { OnOk result (AddsEmpty shape.stages shape.span key.now
+            (entries_of self.old) (entries_of self.new)) }
+        ensures unchanged { OnErr result (entries_of self.new ≡ entries_of self.old) }
+    {
+        let place = self.spare_room(shape)?;
+        let own = key.clone()?;
+        self.name(hash, key, place)?;
+        self.move_in(own, place);
+        Ok(place)
+    }
+
+    /// Notes that a key has its place no more.
+    fn unname(&mut self, hash: u64, key: &Key, place: usize)
+        ensures rooms { self.new.rooms ≡ self.old.rooms }
+        ensures unnamed { IsUnnamed key.now place (get nat_cmp self.old.by_hash)
+            (get nat_cmp self.new.by_hash) (get key_cmp self.old.others)
+            (get key_cmp self.new.others) }
+    {
+        if self.by_hash.get(&hash) == Some(&place) {
+            self.by_hash.remove(&hash);
+        }
+        self.others.remove(key);
+    }
+
+    /// Takes the key of the room at a place away, and keeps the room for another.
+    fn move_out(&mut self, place: usize)
+        requires { place < length self.old.rooms.items }
+        ensures by_hash { self.new.by_hash ≡ self.old.by_hash }
+        ensures others { self.new.others ≡ self.old.others }
+        ensures rooms { HasKeyNow place None self.old.rooms.items self.new.rooms.items }
+    {
+        self.rooms[place].key = None;
+        if self.free.len() < self.free.capacity() {
+            self.free.push_reserved(place);
+        }
+    }
+
+    /// Takes the machine of a key away, which has no sequence. It takes no memory.
+    pub fn remove(&mut self, shape: Shape, hash: u64, key: &Key, place: usize)
+        requires table { IsTable shape.stages shape.span self.old }
+        requires of { AreOf shape.stages shape.span (entries_of self.old) }
+        requires there { place_of self.old key.now ≡ Some place }
+        requires empty { IsEmptyAt (entries_of self.old) key.now }
+        ensures table { IsTable shape.stages shape.span self.new }
+        ensures removed { Changes key.now None (entries_of self.old) (entries_of self.new) }
+    {
+        self.unname(hash, key, place);
+        self.move_out(place);
+    }
+
+    /// How many keys have a machine.
+    pub fn len(&self) -> usize
+        ensures { result ≡ length (rows_of self.now.rooms.items) }
+    {
+        let mut count = 0;
+        for room in &self.rooms {
+            if room.key.is_some() {
+                count += 1;
+            }
+        }
+        count
+    }
+
+    /// The place of each key, in the order of keys.
+    pub fn places(&self, shape: Shape) -> Result<BTreeMap<Key, usize>, Memory>
+        requires { IsTable shape.stages shape.span self.now }
+        ensures { IfOk result (λ places. (q : List Value) → get key_cmp places q
+            ≡ place_of self.now q) }
+    {
+        let mut places = BTreeMap::new(shape.alloc);
+        for (place, room) in self.rooms.iter().enumerate() {
+            note_place(&mut places, &room.key, place)?;
+        }
+        Ok(places)
+    }
+}
