@@ -4,5 +4,5 @@ mod Going
 mod KeyLemmas
 mod Printing
 mod RangeLemmas
-mod Wholes
+pub mod Wholes
 mod WriteLemmas

@@ -142,6 +142,13 @@ impl Book {
         Ok(cut)
     }
 
+    /// What it keeps fits its pipes. It does nothing.
+    pub fn fits(&self)
+        ensures { FitsPipes self.now.pipes self.now.kept }
+    {
+        let _ = &self.ledger;
+    }
+
     /// Whether no call was refused.
     pub fn is_whole(&self) -> bool
         ensures { result ≡ self.now.whole }

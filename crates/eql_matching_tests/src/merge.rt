@@ -3,9 +3,10 @@ ghost use Rattle.std.specs.Prelude.{◌≡◌, All, IsTrue};
 ghost use Rattle.eql_values.specs.Ascending.{AllAfter, Ascending};
 ghost use Rattle.eql_laws.specs.Apart.{has_place, Apart, ApartFrom, AllApart};
 
-use eql_merge::{merge, merge_matches};
+use eql_merge::{merge, merge_holders, merge_matches};
 use eql_values::{
-    Chain, Item, ItemLists, Items, Key, Match, Matches, Memory, OrderKey, Routes, Value,
+    Chain, Holder, Holders, Item, ItemLists, Items, Key, Match, Matches, Memory, OrderKey, Routes,
+    Value,
 };
 use std::alloc::Global;
 use std::test::Fail;
@@ -139,6 +140,31 @@ fn the_matches_of_one_part(rt: HostRuntime) -> Result<(), Fail> {
     assert_eq!(rt; all.items().len(), 1);
     for found in all.items() {
         for event in found.chain.items() {
+            assert_eq!(rt; event.line, 3);
+        }
+    }
+    Ok(())
+}
+
+/// A pending sequence of a part: one event at this time.
+fn one_holder(alloc: Global, ts: i128, line: u32) -> Result<Holder, Memory> {
+    let begun = one_match(alloc, ts, line)?;
+    Ok(Holder {
+        key: begun.key,
+        stage: 1,
+        chain: begun.chain,
+    })
+}
+
+#[test]
+fn the_pending_sequences_of_one_part(rt: HostRuntime) -> Result<(), Fail> {
+    let alloc = rt.alloc();
+    let held = Holders::of(vec![in alloc; one_holder(alloc, 5, 3)?]?);
+    let all = merge_holders(alloc, vec![in alloc; held]?)?;
+    assert_eq!(rt; all.items().len(), 1);
+    for holder in all.items() {
+        assert_eq!(rt; holder.stage, 1);
+        for event in holder.chain.items() {
             assert_eq!(rt; event.line, 3);
         }
     }

@@ -1,4 +1,4 @@
--- What is merged of lists of events and of matches is all of them put in order.
+-- What is merged of lists of events, of matches and of pending sequences is all of them put in order.
 use Rattle.std.proofs.Common.{◌≡◌, ◌∙◌, Bool, true, false, cond, List, [], ◌∷◌, map, take, drop, length, ℕ, suc, arith, length-drop, ◌-◌, Some, refl, sym, ap, subst, T}
 use Rattle.std.specs.Prelude.{All}
 use Rattle.std.specs.List.{find}
@@ -14,22 +14,26 @@ use Rattle.eql_values.specs.declared.order.OrderKey.{OrderKey}
 use Rattle.eql_values.specs.declared.item.Item.{Item}
 use Rattle.eql_values.specs.declared.item.Route.{Route}
 use Rattle.eql_values.specs.declared.found.Match.{Match}
+use Rattle.eql_values.specs.declared.found.Holder.{Holder}
+use Rattle.eql_values.specs.Matching.{slot_cmp}
 use Rattle.eql_values.specs.Accepted.{sorted_items}
 use Rattle.eql_values.specs.Ascending.{AllAfter, Ascending}
 use Rattle.eql_values.specs.OrderKeys.{order_cmp}
 use Rattle.eql_values.specs.Ordered.{in_order}
-use Rattle.eql_values.specs.Totals.{order_cmp_total}
+use Rattle.eql_values.specs.Totals.{order_cmp_total, slot_cmp_total}
 use Rattle.eql_values.proofs.InOrder.{is_in_order}
 use Rattle.eql_values.proofs.Same.{order_same}
+use Rattle.eql_laws.specs.Alive.{HoldersInOrder}
 use Rattle.eql_laws.specs.Apart.{place_of, ending_of, NoKeyInOthers, NoKeyTwice, AllApart, MatchesApart, InMatchOrder, joined}
 use Rattle.eql_laws.specs.Belows.{HasRoutesInOrder, SortedAscends}
-use Rattle.eql_laws.specs.Merging.{ending_cmp, by_ending, match_of, in_match_order, last_of}
+use Rattle.eql_laws.specs.Merging.{ending_cmp, by_ending, by_slot, holder_of, match_of, in_match_order, in_slot_order, last_of}
 use Rattle.eql_laws.specs.Totals.{ending_cmp_total}
 use Rattle.eql_laws.proofs.Elements.{All-flat_map}
 use Rattle.eql_laws.proofs.Facts.{both_hold, holds_true, left_holds, right_holds, less_is, is_less, is_equal}
+use Rattle.eql_laws.proofs.Held.{slot_same}
 use Rattle.eql_laws.proofs.Lists.{map_back}
 use Rattle.eql_laws.proofs.Merged.{ending_same}
-use Rattle.eql_merge.specs.Ranks.{StandsFirst, Ascends, NoTies, SameFirsts, item_rank, match_rank}
+use Rattle.eql_merge.specs.Ranks.{StandsFirst, Ascends, HoldersApart, NoTies, SameFirsts, holder_rank, item_rank, match_rank, slot_of}
 
 -- values by keys: lists that ascend by the ranks of their keys are their entries in order
 module _ {X K V : Type 0} (R : K → K → Ordering) (total : IsTotalOrder R) (same : (x y : K) → R x y ≡ Equal → x ≡ y) (key : X → K) (rest : X → V) where
@@ -132,6 +136,25 @@ matches_merged lists all up firsts =
 
 pub matches_stand : (all : List Match) → Ascends match_rank all → InMatchOrder all
 matches_stand all up = holds_true _ (ascends_sorted ending_cmp ending_cmp_total ending_same ending_of chain_in all up)
+
+-- ---- pending sequences
+abbrev events_of : Holder → List OrderKey
+events_of h = h.chain
+
+pub holders_ascend : (lists : List (List Holder)) → All HoldersInOrder lists → All (Ascends holder_rank) lists
+holders_ascend lists h =
+    All-weaker HoldersInOrder (Ascends holder_rank) (λ held up. sorted_ascends_by slot_cmp slot_cmp_total slot_same slot_of events_of held (subst T (sym up) tt)) lists h
+
+pub holders_apart : (lists : List (List Holder)) → HoldersApart lists → NoTies holder_rank lists
+holders_apart lists h = apart_by slot_cmp slot_cmp_total slot_same slot_of events_of lists h
+
+pub holders_merged : (lists : List (List Holder)) (all : List Holder) → Ascends holder_rank all → SameFirsts holder_rank (joined lists) all → all ≡ in_slot_order (joined lists)
+holders_merged lists all up firsts =
+    sym (map_back holder_of by_slot (λ h. refl) all)
+    ∙ ap (map holder_of) (merged_in_order slot_cmp slot_cmp_total slot_same slot_of events_of (joined lists) all up firsts)
+
+pub holders_stand : (all : List Holder) → Ascends holder_rank all → HoldersInOrder all
+holders_stand all up = holds_true _ (ascends_sorted slot_cmp slot_cmp_total slot_same slot_of events_of all up)
 
 -- the last event of a chain
 last_is : (chain : List OrderKey) → drop (length chain - 1) chain ≡ last_of chain

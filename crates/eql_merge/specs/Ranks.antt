@@ -8,8 +8,10 @@ use Rattle.std.specs.declared.cmp.Ordering.TheVariants.{Less, Equal}
 use Rattle.std.proofs.lemmas.Cmp.{on_total}
 use Rattle.eql_values.specs.declared.item.Item.{Item}
 use Rattle.eql_values.specs.declared.found.Match.{Match}
+use Rattle.eql_values.specs.declared.found.Holder.{Holder}
+use Rattle.eql_values.specs.Matching.{Slot, slot_cmp}
 use Rattle.eql_values.specs.OrderKeys.{order_cmp}
-use Rattle.eql_values.specs.Totals.{order_cmp_total}
+use Rattle.eql_values.specs.Totals.{order_cmp_total, slot_cmp_total}
 use Rattle.eql_laws.specs.Apart.{place_of, ending_of, NoKeyInBoth, NoKeyTwice}
 use Rattle.eql_laws.specs.Merging.{ending_cmp}
 use Rattle.eql_laws.specs.Totals.{ending_cmp_total}
@@ -54,3 +56,18 @@ match_rank = on ending_of ending_cmp
 
 pub match_rank_total : IsTotalOrder match_rank
 match_rank_total = on_total ending_of ending_cmp_total
+
+-- the key and the stage of a pending sequence
+abbrev pub slot_of : Holder → Slot
+slot_of h = (h.key, h.stage)
+
+-- pending sequences by key, then by stage
+abbrev pub holder_rank : Holder → Holder → Ordering
+holder_rank = on slot_of slot_cmp
+
+pub holder_rank_total : IsTotalOrder holder_rank
+holder_rank_total = on_total slot_of slot_cmp_total
+
+-- no key and stage is in two of the lists
+abbrev pub HoldersApart : List (List Holder) → Type 0
+HoldersApart = NoKeyTwice slot_cmp slot_of

@@ -1,14 +1,16 @@
-//! Lists of events and of matches, merged.
+//! Lists of events, of matches and of pending sequences, merged.
 ghost use Rattle.std.specs.Prelude.{◌≡◌, All, IfOk};
 ghost use Rattle.eql_values.specs.Accepted.{sorted_items};
 ghost use Rattle.eql_values.specs.Ascending.{Ascending};
+ghost use Rattle.eql_laws.specs.Alive.{HoldersInOrder};
 ghost use Rattle.eql_laws.specs.Apart.{AllApart, joined, InMatchOrder, MatchesApart};
-ghost use Rattle.eql_laws.specs.Merging.{in_match_order};
+ghost use Rattle.eql_laws.specs.Merging.{in_match_order, in_slot_order};
+ghost use Rattle.eql_merge.specs.Ranks.{HoldersApart};
 
 use crate::halves::merge_halves;
 use crate::run::Run;
 use eql_laws::below_ascends;
-use eql_values::{Item, ItemLists, Items, Match, Matches, Memory};
+use eql_values::{Holder, Holders, Item, ItemLists, Items, Match, Matches, Memory};
 use std::alloc::Global;
 use std::collections::VecDeque;
 
@@ -30,6 +32,17 @@ fn match_runs(alloc: Global, lists: Vec<Matches>) -> Result<VecDeque<Run<Match>>
     let mut runs = VecDeque::new(alloc);
     for found in lists {
         runs.push_back(Run::of(found.into_items()))?;
+    }
+    Ok(runs)
+}
+
+/// The lists of pending sequences, each as a list to be merged.
+fn holder_runs(alloc: Global, lists: Vec<Holders>) -> Result<VecDeque<Run<Holder>>, Memory>
+    ensures { IfOk result (λ runs. runs.items ≡ lists.items) }
+{
+    let mut runs = VecDeque::new(alloc);
+    for held in lists {
+        runs.push_back(Run::of(held.into_items()))?;
     }
     Ok(runs)
 }
@@ -60,4 +73,17 @@ pub fn merge_matches(alloc: Global, lists: Vec<Matches>) -> Result<Matches, Memo
     let runs = match_runs(alloc, lists)?;
     let all = merge_halves(alloc, runs)?;
     Ok(Matches::of(all))
+}
+
+/// All pending sequences of the lists, by key and then by stage. Each list stands in that order, and no two have a
+/// sequence with the same key and stage. It takes as many steps as `merge`, and its one error is want of memory.
+pub fn merge_holders(alloc: Global, lists: Vec<Holders>) -> Result<Holders, Memory>
+    requires in_order { All HoldersInOrder lists.items }
+    requires apart { HoldersApart lists.items }
+    ensures sorted { IfOk result (λ all. all ≡ in_slot_order (joined lists.items)) }
+    ensures in_order { IfOk result HoldersInOrder }
+{
+    let runs = holder_runs(alloc, lists)?;
+    let all = merge_halves(alloc, runs)?;
+    Ok(Holders::of(all))
 }

@@ -4,9 +4,9 @@ ghost use Rattle.std.specs.Cmp.{IsTotalOrder};
 ghost use Rattle.std.specs.Ordering.{is_lt};
 ghost use Rattle.std.specs.declared.cmp.Ordering.{Ordering};
 ghost use Rattle.eql_laws.specs.Merging.{last_of};
-ghost use Rattle.eql_merge.specs.Ranks.{item_rank, item_rank_total, match_rank, match_rank_total};
+ghost use Rattle.eql_merge.specs.Ranks.{holder_rank, holder_rank_total, item_rank, item_rank_total, match_rank, match_rank_total};
 
-use eql_values::{Item, Match, OrderKey};
+use eql_values::{Holder, Item, Match, OrderKey};
 use std::cmp::Ordering;
 
 /// A value with a rank: its order among others is total.
@@ -50,6 +50,21 @@ impl Ranked for Match {
         match last.cmp(last_of(other.chain.items())) {
             Ordering::Less => true,
             Ordering::Equal => self.key < other.key,
+            Ordering::Greater => false,
+        }
+    }
+}
+
+/// Pending sequences by key, then by stage.
+impl Ranked for Holder {
+    ghost rank = { holder_rank };
+
+    ghost total = { holder_rank_total };
+
+    fn is_before(&self, other: &Holder) -> bool {
+        match self.key.cmp(&other.key) {
+            Ordering::Less => true,
+            Ordering::Equal => self.stage < other.stage,
             Ordering::Greater => false,
         }
     }
