@@ -8,6 +8,7 @@ use Rattle.eql_values.specs.declared.found.Holder.{Holder}
 use Rattle.eql_values.specs.declared.order.Mark.{Mark}
 use Rattle.eql_values.specs.Accepted.{Reads}
 use Rattle.eql_laws.specs.Belows.{between}
+use Rattle.eql_laws.specs.Lateness.{AtMost}
 use Rattle.eql_outside.specs.Written.{WroteFront}
 use Rattle.eql_book.specs.Books.{BookState, let_out}
 use Rattle.eql_book.specs.Listing.{listing}
@@ -17,8 +18,8 @@ use Rattle.eql_conductor.specs.declared.stop.Stop.TheVariants as stop
 use Rattle.eql_conductor.specs.Benches.{Known, Same, LanesRest, PartsRest, Rests}
 use Rattle.eql_conductor.specs.Going.{LanesGo, Went, StopsBy}
 use Rattle.eql_conductor.specs.LaneRounds.{LanesAt}
-use Rattle.eql_conductor.specs.PartRounds.{Resting, SomeResting, pending_after}
-use Rattle.eql_conductor.specs.Rounds.{OfTexts, found_by, Gave, RoundTold, RoundGoes, RoundBreaks, RoundRests, RoundStops, StopsAt}
+use Rattle.eql_conductor.specs.PartRounds.{Resting, pending_after}
+use Rattle.eql_conductor.specs.Rounds.{OfTexts, found_by, Gave, GoesTo, RoundBreaks, RoundRests, RoundStops, StopsAt}
 use Rattle.eql_conductor.proofs.Onward.{stops_on, went_on}
 use Rattle.eql_laws.proofs.MarkLemmas.{at_most_self}
 use Rattle.eql_conductor.proofs.Stays.{lanes_stay, parts_stay, texts_stay}
@@ -80,36 +81,28 @@ module _ (last mark : Mark) (a b c : Known) (items : List Item) (found : List Ma
 
   module _ (taken : (texts : Option (List (List ℕ))) → LanesAt texts last a → LanesAt texts mark b)
       (played : (rules : Rules) (all : List Holder) → Resting rules all last b → Resting rules (pending_after rules all items) mark c) where
-    round_told : (gave : Gave found book then before now) (reads : Reads) (slack : Option ℤ) (texts : List (List ℕ)) (rules : Rules) (all : List Holder)
-        → OfTexts reads slack texts last a → Resting rules all last a → RoundTold rules all (between reads slack texts last mark) mark c book then before now
-    round_told gave reads slack texts rules all of was = record {
-      parts = subst (λ (l : List Item). Resting rules (pending_after rules all l) mark c) (told reads slack texts of)
-          (played rules all (parts_stay rules all last a b same_taken parts was));
-      gave = subst (λ (l : List Match). Gave l book then before now) (found_told reads slack texts rules all of was) gave;
-    }
-
     -- they were given to it
-    pub round_goes : book.whole ≡ true → SomeResting last a → Gave found book then before now → RoundGoes last mark a c book then before now
-    round_goes whole some gave = record {
+    pub round_goes : AtMost last mark → Gave found book then before now → GoesTo last mark a c book then before now
+    round_goes later gave = record {
+      later = later;
       lanes = λ texts at. lanes_stay texts mark b c same_played lanes (taken texts at);
-      parts = record {
-        rules = some.rules;
-        all = pending_after some.rules some.all items;
-        is = played some.rules some.all (parts_stay some.rules some.all last a b same_taken parts some.is);
+      items = items;
+      told = told;
+      played = λ rules all was. let rest = parts_stay rules all last a b same_taken parts was in record {
+        parts = played rules all rest;
+        gave = subst (λ (l : List Match). Gave l book then before now) (founds rules all rest) gave;
       };
-      whole = ap (λ (s : BookState). s.whole) gave.book_is ∙ whole;
-      told = round_told gave;
     }
 
 -- ---- a round, once its lanes were fed and looked at
 module _ (last mark : Mark) (a b c : Known) (book then : BookState) (before now : Option (List ℕ)) (rests : Rests a b) where
-  pub goes_later : RoundGoes last mark b c book then before now → RoundGoes last mark a c book then before now
+  pub goes_later : GoesTo last mark b c book then before now → GoesTo last mark a c book then before now
   goes_later h = record {
+    later = h.later;
     lanes = λ texts at. h.lanes texts (lanes_stay texts last a b rests.same rests.lanes at);
-    parts = h.parts;
-    whole = h.whole;
-    told = λ reads slack texts rules all of was.
-        h.told reads slack texts rules all (texts_stay reads slack texts last a b rests.same rests.lanes of) (parts_stay rules all last a b rests.same rests.parts was);
+    items = h.items;
+    told = λ reads slack texts of. h.told reads slack texts (texts_stay reads slack texts last a b rests.same rests.lanes of);
+    played = λ rules all was. h.played rules all (parts_stay rules all last a b rests.same rests.parts was);
   }
 
   pub breaks_later : RoundBreaks last mark b book then before now → RoundBreaks last mark a book then before now

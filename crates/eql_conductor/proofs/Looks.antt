@@ -15,7 +15,7 @@ use Rattle.eql_conductor.specs.Going.{LanesGo, StopsBy}
 use Rattle.eql_conductor.specs.LaneRounds.{IsSafe, IsSafeAt, SafeTo}
 use Rattle.eql_conductor.proofs.MarkOrder.{lesser_left, lesser_low}
 use Rattle.eql_conductor.proofs.Resting.{same_or, lane_rests, was_lane}
-use Rattle.eql_conductor.proofs.Onward.{fed_onward, rest_goes, rose_on}
+use Rattle.eql_conductor.proofs.Onward.{fed_onward, lane_went, rest_goes, rose_on}
 
 -- ---- a feed that stops the round
 pub failed_stops : (s max n : ℕ) (a b : Known) → s < a.lanes → LanePlays s (op.Feed max) (reply.Failed n) a b → StopsBy (stop.Read s) a b
@@ -24,17 +24,16 @@ failed_stops s max n a b l plays = (
   λ y here. let c = plays.called y here in
       let o = fed_onward (a.set s) c.first c.before c.fed in
       (c.first, c.was, rose_on c.first.faults c.before.faults y.faults o.faults c.step.faults),
-  plays.failed,
-  plays.worn,
+  record { failed = plays.failed; others = plays.others_failed; worn = plays.worn },
 )
 
 pub lines_stops : (s max shard : ℕ) (a b : Known) → s < a.lanes → LanePlays s (op.Feed max) (reply.Limit (limit.Lines shard)) a b
     → StopsBy (stop.Limit (limit.Lines s)) a b
-lines_stops s max shard a b l plays = (l, λ y here. (plays.called y here).step.2, record { failed = plays.failed; worn = plays.worn })
+lines_stops s max shard a b l plays = (l, λ y here. (plays.called y here).step.2, lane_went s (op.Feed max) (reply.Limit (limit.Lines shard)) a b plays plays.failed)
 
 pub bytes_stops : (s max shard : ℕ) (a b : Known) → s < a.lanes → LanePlays s (op.Feed max) (reply.Limit (limit.Bytes shard)) a b
     → StopsBy (stop.Limit (limit.Bytes s)) a b
-bytes_stops s max shard a b l plays = (l, λ y here. (plays.called y here).step.2, record { failed = plays.failed; worn = plays.worn })
+bytes_stops s max shard a b l plays = (l, λ y here. (plays.called y here).step.2, lane_went s (op.Feed max) (reply.Limit (limit.Bytes shard)) a b plays plays.failed)
 
 -- ---- a look
 pub look_rests : (s : ℕ) (mark : Mark) (a b : Known) → LanePlays s op.Look (reply.Low mark) a b → Rests a b

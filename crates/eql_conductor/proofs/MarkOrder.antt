@@ -1,5 +1,5 @@
 -- The lesser of two marks.
-use Rattle.std.proofs.Common.{◌≡◌, ℤ, ◌≤ℤ◌, Bool, true, false, cond, refl, arith}
+use Rattle.std.proofs.Common.{◌≡◌, ◌≢◌, ℤ, ◌≤ℤ◌, Bool, true, false, cond, refl, arith}
 use Rattle.std.specs.Ordering.{is_le, int_cmp}
 use Rattle.std.specs.declared.cmp.Ordering.{Ordering}
 use Rattle.std.specs.declared.cmp.Ordering.TheVariants.{Less, Equal, Greater}
@@ -7,7 +7,7 @@ use Rattle.std.proofs.lemmas.Int.{ints}
 use Rattle.std.proofs.lemmas.Cmp.{int_ranked}
 use Rattle.eql_values.specs.declared.order.Mark.{Mark}
 use Rattle.eql_values.specs.declared.order.Mark.TheVariants.{Start, At, End}
-use Rattle.eql_values.specs.Marks.{mark_cmp}
+use Rattle.eql_values.specs.Marks.{mark_cmp, mark_eq}
 use Rattle.eql_laws.specs.Lateness.{AtMost}
 use Rattle.eql_laws.proofs.MarkLemmas.{at_most_self, at_most_times}
 
@@ -38,3 +38,14 @@ lesser_low a b false h = at_most_self b
 pub lesser_left : (a b : Mark) (c : Bool) → is_le (mark_cmp a b) ≡ c → AtMost (cond c a b) a
 lesser_left a b true h = at_most_self a
 lesser_left a b false h = at_most_other a b h
+
+-- a mark is told from the end
+pub is_end : (mark : Mark) → true ≡ mark_eq mark End → mark ≡ End
+is_end Start e = absurd (let f = e in cc)
+is_end (At t) e = absurd (let f = e in cc)
+is_end End e = refl
+
+pub not_end : (mark : Mark) → false ≡ mark_eq mark End → mark ≢ End
+not_end Start e = λ f. cc
+not_end (At t) e = λ f. cc
+not_end End e = absurd (let f = e in cc)

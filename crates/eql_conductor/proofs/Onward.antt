@@ -19,12 +19,13 @@ use Rattle.eql_conductor.specs.declared.stop.Stop.{Stop}
 use Rattle.eql_conductor.specs.declared.stop.Stop.TheVariants as stop
 use Rattle.eql_conductor.specs.Benches.{Known, Same, FedTimes, FedOn, LanesRest, LanePlays, Unplayed}
 use Rattle.eql_conductor.specs.Going.{Onward, LanesGo, Went, FaultRose, StopsBy, stop_by}
+use Rattle.eql_conductor.proofs.BoundsSteps.{gains_on, gains_self, reads_gain, reads_sized, take_gains, take_sized}
 use Rattle.eql_conductor.proofs.Lows.{feed_low}
 use Rattle.eql_conductor.proofs.Resting.{same_or, same_self, same_on, was_lane, is_lane}
 
 -- ---- a lane
 pub onward_self : (set : Setting) (x : LaneState) → Onward set x x
-onward_self set x = record { faults = omega arith; taken = omega arith; low_up = at_most_self (low set x) }
+onward_self set x = record { faults = omega arith; taken = omega arith; low_up = at_most_self (low set x); gains = gains_self x; sized = λ h. h }
 
 onward_same : (set : Setting) (x y : LaneState) → y ≡ x → Onward set x y
 onward_same set x y e = subst (Onward set x) (sym e) (onward_self set x)
@@ -34,10 +35,12 @@ onward_on set x y z h k = record {
   faults = let a = h.faults in let b = k.faults in omega (arith, a, b);
   taken = let a = h.taken in let b = k.taken in omega (arith, a, b);
   low_up = at_most_trans (low set x) (low set y) (low set z) h.low_up k.low_up;
+  gains = gains_on 0 0 x y z h.gains k.gains;
+  sized = λ was. k.sized (h.sized was);
 }
 
 reads_onward : (set : Setting) (x : LaneState) (n : ℕ) (y : LaneState) → AtMost (low set x) (low set y) → ReadsOn set x n y → Onward set x y
-reads_onward set x n y up r = record { faults = r.counts; taken = r.taken; low_up = up }
+reads_onward set x n y up r = record { faults = r.counts; taken = r.taken; low_up = up; gains = reads_gain set x n y r; sized = reads_sized set x n y r }
 
 feed_onward : (set : Setting) (x : LaneState) (max : ℕ) (answer : LaneReply) (y : LaneState) → FeedStep set x max answer y → Onward set x y
 feed_onward set x max (reply.Fed n) y step = reads_onward set x n y (feed_low set x max (reply.Fed n) y step) step.feeds.reads
@@ -58,6 +61,8 @@ take_on set x mark items y step = record {
   faults = let e = step.faults in omega (arith, e);
   taken = let e = step.taken in omega (arith, e);
   low_up = subst (λ (cut : LaneCut). AtMost (low set x) (low_of cut.closed set.slack cut.best)) (sym step.cut) (at_most_self (low set x));
+  gains = take_gains x mark items y step 0 (omega arith);
+  sized = take_sized x mark items y step;
 }
 
 take_onward : (set : Setting) (x : LaneState) (mark : Mark) (answer : LaneReply) (y : LaneState) → TakeStep set x mark answer y → Onward set x y
@@ -143,10 +148,20 @@ rose_on x y z le (inl h) = inl (omega (arith, le, h))
 rose_on x y z le (inr h) = inr h
 
 pub went_self : (b : Known) → Went b b
-went_self b = record { failed = refl; worn = refl }
+went_self b = record { failed = λ s. refl; worn = refl }
 
 pub went_on : (a b c : Known) → Went a b → Went b c → Went a c
-went_on a b c h k = record { failed = k.failed ∙ h.failed; worn = k.worn ∙ h.worn }
+went_on a b c h k = record { failed = λ s. k.failed s ∙ h.failed s; worn = k.worn ∙ h.worn }
+
+-- no feed failed where none failed at the lane that was called
+pub lane_went : (s : ℕ) (op : LaneOp) (reply : LaneReply) (a b : Known) → LanePlays s op reply a b → b.failed s ≡ a.failed s → Went a b
+lane_went s op reply a b plays none = record {
+  failed = λ k. elim (same_or k s) [
+    | inl e ↦ subst (λ (j : ℕ). b.failed j ≡ a.failed j) (sym e) none
+    | inr apart ↦ plays.others_failed k apart
+  ];
+  worn = plays.worn;
+}
 
 fault_rose_on : (s : ℕ) (a b c : Known) → s < a.lanes → LanesGo a b → FaultRose s b c → FaultRose s a c
 fault_rose_on s a b c l go rose y here =
@@ -156,13 +171,20 @@ fault_rose_on s a b c l go rose y here =
 
 pub stops_on : (by : Stop) (a b c : Known) → LanesGo a b → Went a b → StopsBy by b c → StopsBy by a c
 stops_on (stop.Read s) a b c go went h =
-    let l = was_lane a b s go.same h.0 in
-    (l, fault_rose_on s a b c l go h.1, subst (λ (n : ℕ). n < c.failed) went.failed h.2, h.3 ∙ went.worn)
+    let l = was_lane a b s go.same h.0 in (
+      l,
+      fault_rose_on s a b c l go h.1,
+      record {
+        failed = subst (λ (n : ℕ). n < c.failed s) (went.failed s) h.2.failed;
+        others = λ k apart. h.2.others k apart ∙ went.failed k;
+        worn = h.2.worn ∙ went.worn;
+      },
+    )
 stops_on (stop.Limit (limit.Lines s)) a b c go went h =
     let l = was_lane a b s go.same h.0 in
     (l, λ y here. subst (λ (set : Setting). OutOfLines set y) (go.same.set s l) (h.1 y here), went_on a b c went h.2)
 stops_on (stop.Limit (limit.Bytes s)) a b c go went h = (was_lane a b s go.same h.0, h.1, went_on a b c went h.2)
-stops_on (stop.Limit limit.Turns) a b c go went h = (subst (λ (n : ℕ). n < c.worn) went.worn h.0, h.1 ∙ went.failed)
+stops_on (stop.Limit limit.Turns) a b c go went h = (subst (λ (n : ℕ). n < c.worn) went.worn h.0, λ k. h.1 k ∙ went.failed k)
 stops_on (stop.Limit limit.Generation) a b c go went h = absurd h
 stops_on stop.Write a b c go went h = absurd h
 stops_on stop.Disk a b c go went h = absurd h

@@ -205,7 +205,7 @@ idle_more rules all items mark p max a b place plays h =
     (idles rules all items mark p h.are.span) h
 
 -- how many events wait: a turn plays some of them
-fewer_times : (rules : Rules) (n : ℕ) (x y : PartState) → TurnedTimes rules n x y → length y.inbox ≤ length x.inbox
+pub fewer_times : (rules : Rules) (n : ℕ) (x y : PartState) → TurnedTimes rules n x y → length y.inbox ≤ length x.inbox
 fewer_times rules zero x y h = let e = ap (λ (z : PartState). length z.inbox) h in omega (arith, e)
 fewer_times rules (suc n) x y (mid, max, answer, step, rest) =
     let a = fewer_turn rules max answer x mid step in let b = fewer_times rules n mid y rest in omega (arith, a, b)

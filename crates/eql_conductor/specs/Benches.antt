@@ -13,7 +13,7 @@ use Rattle.eql_conductor.specs.declared.bench.NotPlayed.TheVariants.{Worn, Memor
 use Rattle.eql_conductor.specs.Notes.{lane_note, part_note}
 
 -- what is known of a bench: how many lanes and parts it has; of each lane and part what no step changes, the states that it may have now, and
--- what the caller itself played there; how many of the caller's feeds failed, and how many of its calls a lock was worn at
+-- what the caller itself played there; of each lane how many of the caller's feeds failed there; and at how many of its calls a lock was worn
 pub record Known : Type 1 where
   pub lanes : ℕ
   pub parts : ℕ
@@ -23,7 +23,7 @@ pub record Known : Type 1 where
   pub part : ℕ → PartState → Type 0
   pub lane_notes : ℕ → List Note
   pub part_notes : ℕ → List Note
-  pub failed : ℕ
+  pub failed : ℕ → ℕ
   pub worn : ℕ
 
 -- what no step changes is the same
@@ -77,6 +77,10 @@ pub record LaneNotesStay (old new : Known) : Type 0 where
 pub record PartNotesStay (old new : Known) : Type 0 where
   pub each : (p : ℕ) → p < old.parts → new.part_notes p ≡ old.part_notes p
 
+-- no feed of the caller failed
+abbrev pub NoneFailed : Known → Known → Type 0
+NoneFailed old new = (s : ℕ) → new.failed s ≡ old.failed s
+
 -- ---- what a call does
 -- a state that a lane may have after a call: it comes by feeds of others and then the operation from one that it might have
 pub record LaneCalled (set : Setting) (might : LaneState → Type 0) (op : LaneOp) (reply : LaneReply) (now : LaneState) : Type 0 where
@@ -94,7 +98,7 @@ pub record PartCalled (rules : Rules) (might : PartState → Type 0) (op : PartO
   pub turned : TurnedOn rules first before
   pub step : PartStep rules before op reply now
 
--- the number of feeds that failed rises where this one failed, and only there
+-- the number of a lane's feeds that failed rises where this one failed, and only there
 abbrev pub FailsBy : LaneReply → ℕ → ℕ → Type 0
 FailsBy (Failed n) old new = old < new
 FailsBy reply old new = new ≡ old
@@ -109,7 +113,8 @@ pub record LanePlays (s : ℕ) (op : LaneOp) (reply : LaneReply) (old new : Know
   pub note : new.lane_notes s ≡ old.lane_notes s ++ lane_note op reply ∷ []
   pub other_notes : (k : ℕ) → k < old.lanes → k ≢ s → new.lane_notes k ≡ old.lane_notes k
   pub part_notes : PartNotesStay old new
-  pub failed : FailsBy reply old.failed new.failed
+  pub failed : FailsBy reply (old.failed s) (new.failed s)
+  pub others_failed : (k : ℕ) → k ≢ s → new.failed k ≡ old.failed k
   pub worn : new.worn ≡ old.worn
 
 -- an operation was played on a part, which has a state; the other parts and all lanes were left to others
@@ -122,7 +127,7 @@ pub record PartPlays (p : ℕ) (op : PartOp) (reply : PartReply) (old new : Know
   pub note : new.part_notes p ≡ old.part_notes p ++ part_note op reply ∷ []
   pub other_notes : (k : ℕ) → k < old.parts → k ≢ p → new.part_notes k ≡ old.part_notes k
   pub lane_notes : LaneNotesStay old new
-  pub failed : new.failed ≡ old.failed
+  pub failed : NoneFailed old new
   pub worn : new.worn ≡ old.worn
 
 -- a lock was worn at a word of at least 2^63, or there was no room for a note
@@ -135,7 +140,7 @@ pub record Unplayed (by : NotPlayed) (old new : Known) : Type 0 where
   pub rests : Rests old new
   pub lane_notes : LaneNotesStay old new
   pub part_notes : PartNotesStay old new
-  pub failed : new.failed ≡ old.failed
+  pub failed : NoneFailed old new
   pub worn : WornBy by old.worn new.worn
 
 -- the operation is allowed in each state that the part may have

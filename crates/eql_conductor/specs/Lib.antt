@@ -1,6 +1,17 @@
 pub mod Notes
 pub mod Benches
+pub mod Bounds
 pub mod Going
 pub mod LaneRounds
 pub mod PartRounds
 pub mod Rounds
+pub mod Handed
+pub mod RoundNotes
+pub mod Snaps
+pub mod Saving
+pub mod RunNotes
+pub mod RunBounds
+pub mod Runs
+pub mod Openings
+pub mod RunLaws
+pub mod Running

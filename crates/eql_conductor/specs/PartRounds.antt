@@ -1,11 +1,12 @@
 -- What the conductor knows of its parts between calls.
-use Rattle.std.specs.Prelude.{◌≡◌, ◌<◌, ◌≤◌, ◌+◌, ℕ, List, [], Option, Some, None, length}
+use Rattle.std.specs.Prelude.{◌≡◌, ◌<◌, ◌≤◌, ◌+◌, ℕ, List, [], Option, Some, None, All, length}
 use Rattle.eql_values.specs.declared.item.Item.{Item}
 use Rattle.eql_values.specs.declared.found.Holder.{Holder}
 use Rattle.eql_values.specs.declared.order.Mark.{Mark}
 use Rattle.eql_values.specs.Matching.{after}
 use Rattle.eql_values.specs.Routing.{routed}
 use Rattle.eql_laws.specs.Alive.{IsSpan}
+use Rattle.eql_laws.specs.Shapes.{IsFull}
 use Rattle.eql_parts.specs.PartSteps.{Rules, PartState}
 use Rattle.eql_parts.specs.Spreading.{part_number}
 use Rattle.eql_rounds.specs.Finding.{own_of}
@@ -65,6 +66,13 @@ pub record SomeResting (mark : Mark) (b : Known) : Type 0 where
   pub rules : Rules
   pub all : List Holder
   pub is : Resting rules all mark b
+
+-- and each pending sequence has an event for each stage up to its own
+pub record SomeFull (mark : Mark) (b : Known) : Type 0 where
+  pub rules : Rules
+  pub all : List Holder
+  pub is : Resting rules all mark b
+  pub full : All IsFull all
 
 pub record SomeDelivering (items : List Item) (last mark : Mark) (n : ℕ) (b : Known) : Type 0 where
   pub rules : Rules

@@ -8,16 +8,17 @@ use Rattle.eql_values.specs.Accepted.{Reads}
 use Rattle.eql_values.specs.Matching.{matches}
 use Rattle.eql_laws.specs.Belows.{between}
 use Rattle.eql_laws.specs.Lateness.{AtMost}
+use Rattle.eql_lane.specs.declared.ops.LimitOf.TheVariants as limit
 use Rattle.eql_outside.specs.Written.{WroteAll, WroteFront}
 use Rattle.eql_book.specs.Books.{BookState, book_after, let_out}
 use Rattle.eql_book.specs.Listing.{listing}
 use Rattle.eql_parts.specs.PartSteps.{Rules}
 use Rattle.eql_conductor.specs.declared.stop.Stop.{Stop}
-use Rattle.eql_conductor.specs.declared.stop.Stop.TheVariants.{Write, Memory}
+use Rattle.eql_conductor.specs.declared.stop.Stop.TheVariants as stop
 use Rattle.eql_conductor.specs.Benches.{Known}
 use Rattle.eql_conductor.specs.Going.{StopsBy, Went}
 use Rattle.eql_conductor.specs.LaneRounds.{LanesAt}
-use Rattle.eql_conductor.specs.PartRounds.{Resting, SomeResting, pending_after}
+use Rattle.eql_conductor.specs.PartRounds.{Resting, pending_after}
 
 -- there is a text for each lane, and all lanes have one reading and one slack
 pub record ReadTexts (reads : Reads) (slack : Option ℤ) (texts : List (List ℕ)) (b : Known) : Type 0 where
@@ -39,18 +40,18 @@ pub record Gave (more : List Match) (book then : BookState) (before now : Option
   pub book_is : then ≡ book_after book more
   pub wrote : WroteAll (listing book.places (let_out book.pipes book.kept more)) before now
 
--- a counted round of lanes of told texts: what lies between the marks was played, and its matches were given
-pub record RoundTold (rules : Rules) (all : List Holder) (items : List Item) (mark : Mark) (new : Known) (book then : BookState) (before now : Option (List ℕ)) : Type 0 where
+-- events were played up to a mark: the parts are at rest there, and the matches were given to the book
+pub record Played (rules : Rules) (all : List Holder) (items : List Item) (mark : Mark) (new : Known) (book then : BookState) (before now : Option (List ℕ)) : Type 0 where
   pub parts : Resting rules (pending_after rules all items) mark new
   pub gave : Gave (found_by rules all items) book then before now
 
--- a counted round: all that lies below its mark was handed out, and the parts are at rest there
-pub record RoundGoes (last mark : Mark) (old new : Known) (book then : BookState) (before now : Option (List ℕ)) : Type 0 where
-  pub lanes : (texts : Option (List (List ℕ))) → LanesAt texts last old → LanesAt texts mark new
-  pub parts : SomeResting mark new
-  pub whole : then.whole ≡ true
-  pub told : (reads : Reads) (slack : Option ℤ) (texts : List (List ℕ)) (rules : Rules) (all : List Holder) → OfTexts reads slack texts last old → Resting rules all last old
-      → RoundTold rules all (between reads slack texts last mark) mark new book then before now
+-- from one mark on, all events below another were taken and played: of told texts these are those between the marks
+pub record GoesTo (from to : Mark) (old new : Known) (book then : BookState) (before now : Option (List ℕ)) : Type 0 where
+  pub later : AtMost from to
+  pub lanes : (texts : Option (List (List ℕ))) → LanesAt texts from old → LanesAt texts to new
+  pub items : List Item
+  pub told : (reads : Reads) (slack : Option ℤ) (texts : List (List ℕ)) → OfTexts reads slack texts from old → items ≡ between reads slack texts from to
+  pub played : (rules : Rules) (all : List Holder) → Resting rules all from old → Played rules all items to new book then before now
 
 -- a counted round that stopped: where the book is whole, nothing was given to it; and a front was written of what was to come out
 pub record RoundBreaks (last mark : Mark) (old : Known) (book then : BookState) (before now : Option (List ℕ)) : Type 0 where
@@ -68,7 +69,7 @@ pub record RoundRests (last : Mark) (old new : Known) (book then : BookState) (b
 -- a round: it counts with a mark that is at least the last one, or doesn't
 abbrev pub RoundIs : Mark → (old new : Known) → (book then : BookState) → (before now : Option (List ℕ)) → Option Mark → Type 0
 RoundIs last old new book then before now None = RoundRests last old new book then before now
-RoundIs last old new book then before now (Some mark) = AtMost last mark × RoundGoes last mark old new book then before now
+RoundIs last old new book then before now (Some mark) = GoesTo last mark old new book then before now
 
 -- a round that stopped, at a mark that is at least the last one
 pub record RoundStops (last : Mark) (old : Known) (book then : BookState) (before now : Option (List ℕ)) : Type 0 where
@@ -78,8 +79,16 @@ pub record RoundStops (last : Mark) (old : Known) (book then : BookState) (befor
 
 -- the conductor stops for want of memory, or by a fault of the sink
 abbrev pub StopsOut : Stop → Type 0
-StopsOut stop = (stop ≡ Write) ⊎ (stop ≡ Memory)
+StopsOut by = (by ≡ stop.Write) ⊎ (by ≡ stop.Memory)
 
 -- why a round stops: by a call of the bench, or by the book, where no call of the bench failed
 abbrev pub StopsAt : Stop → (old new : Known) → Type 0
-StopsAt stop old new = StopsBy stop old new ⊎ (StopsOut stop × Went old new)
+StopsAt by old new = StopsBy by old new ⊎ (StopsOut by × Went old new)
+
+-- it stops at a cut for want of memory, by a fault of the disk, or at the greatest generation
+abbrev pub StopsKeeping : Stop → Type 0
+StopsKeeping by = (by ≡ stop.Disk) ⊎ ((by ≡ stop.Memory) ⊎ (by ≡ stop.Limit limit.Generation))
+
+-- why a cut isn't kept: by a call of the bench, or by the disk, where no call of the bench failed
+abbrev pub StopsSaving : Stop → (old new : Known) → Type 0
+StopsSaving by old new = StopsBy by old new ⊎ (StopsKeeping by × Went old new)

@@ -3,14 +3,17 @@
 ghost use Rattle.std.specs.Prelude.{◌≡◌, ◌≢◌, ◌≤◌, None, Err, false, true, IfErr, IfOk, OnErr, OnOk};
 ghost use Rattle.eql_laws.specs.Lateness.{AtMost};
 ghost use Rattle.eql_outside.specs.Outside.{Rose};
+ghost use Rattle.eql_outside.specs.Unfailing.{IsUnfailing};
 ghost use Rattle.eql_outside.specs.Written.{WroteFront};
 ghost use Rattle.eql_book.specs.Books.{let_out};
 ghost use Rattle.eql_book.specs.Listing.{listing};
 ghost use Rattle.eql_conductor.specs.declared.stop.Stop.TheVariants.{Write as SinkFailed};
+ghost use Rattle.eql_conductor.specs.Bounds.{AllGaveOut, RoundSpends};
 ghost use Rattle.eql_conductor.specs.Going.{LanesGo, Went};
 ghost use Rattle.eql_conductor.specs.LaneRounds.{IsSafe, LanesAt};
 ghost use Rattle.eql_conductor.specs.PartRounds.{SomeResting};
-ghost use Rattle.eql_conductor.specs.Rounds.{Gave, RoundBreaks, RoundGoes, RoundIs, RoundStops, StopsAt, StopsOut};
+ghost use Rattle.eql_conductor.specs.RoundNotes.{AdvanceBroken, AdvanceNoted, RoundBroken, RoundNoted};
+ghost use Rattle.eql_conductor.specs.Rounds.{Gave, RoundBreaks, GoesTo, RoundIs, RoundStops, StopsAt, StopsOut};
 
 use crate::bench::Bench;
 use crate::feeding::{feed_all, look_all};
@@ -42,6 +45,8 @@ fn add_found<K: Sink>(
     ensures steady { result ≢ Err SinkFailed
         → K.fault_count sink.new ≡ K.fault_count sink.old }
     ensures counts { K.fault_count sink.old ≤ K.fault_count sink.new }
+    ensures unfailing { IsUnfailing (K.fault_plan sink.old)
+        → (result ≢ Err SinkFailed) × IsUnfailing (K.fault_plan sink.new) }
 {
     match book.add(alloc, found, sink) {
         Ok(()) => Ok(()),
@@ -66,7 +71,7 @@ fn advance<B: Bench, K: Sink>(
     requires later { AtMost last mark }
     requires some { SomeResting last (B.known bench.old) }
     requires whole { book.old.whole ≡ true }
-    ensures round { OnOk result (RoundGoes last mark (B.known bench.old) (B.known bench.new)
+    ensures round { OnOk result (GoesTo last mark (B.known bench.old) (B.known bench.new)
         book.old book.new (K.written sink.old) (K.written sink.new)) }
     ensures broken { OnErr result (RoundBreaks last mark (B.known bench.old)
         book.old book.new (K.written sink.old) (K.written sink.new)) }
@@ -79,6 +84,12 @@ fn advance<B: Bench, K: Sink>(
     ensures steady { result ≢ Err SinkFailed
         → K.fault_count sink.new ≡ K.fault_count sink.old }
     ensures counts { K.fault_count sink.old ≤ K.fault_count sink.new }
+    ensures gave { OnOk result (AllGaveOut mark (B.known bench.old) (B.known bench.new)) }
+    ensures notes { OnOk result (AdvanceNoted mark (B.known bench.old) (B.known bench.new)) }
+    ensures broken_notes { OnErr result (AdvanceBroken mark
+        (B.known bench.old) (B.known bench.new)) }
+    ensures unfailing { IsUnfailing (K.fault_plan sink.old)
+        → (result ≢ Err SinkFailed) × IsUnfailing (K.fault_plan sink.new) }
 {
     let items = take_in_order(alloc, bench, last, mark)?;
     let found = play_parts(alloc, bench, &items, last, mark, batch)?;
@@ -112,6 +123,12 @@ pub(crate) fn play_round<B: Bench, K: Sink>(
     ensures steady { result ≢ Err SinkFailed
         → K.fault_count sink.new ≡ K.fault_count sink.old }
     ensures counts { K.fault_count sink.old ≤ K.fault_count sink.new }
+    ensures spends { IfOk result (RoundSpends last (B.known bench.old) (B.known bench.new)) }
+    ensures notes { IfOk result (RoundNoted last batch (B.known bench.old) (B.known bench.new)) }
+    ensures broken_notes { OnErr result (RoundBroken last batch
+        (B.known bench.old) (B.known bench.new)) }
+    ensures unfailing { IsUnfailing (K.fault_plan sink.old)
+        → (result ≢ Err SinkFailed) × IsUnfailing (K.fault_plan sink.new) }
 {
     feed_all(bench, batch)?;
     let mark = look_all(bench)?;

@@ -21,7 +21,8 @@ pub enum NotPlayed {
 /// Lanes and parts, on which others may feed and turn at any time.
 pub trait Bench {
     /// How many lanes and parts there are; of each what no step changes, the states that it may have now, and what the caller
-    /// itself played there; how many of the caller's feeds failed, and at how many of its calls a lock was worn.
+    /// itself played there; of each lane how many of the caller's feeds failed there; and at how many of its calls a lock
+    /// was worn.
     ghost known: { Self → Known };
 
     /// How many lanes there are.

@@ -1,9 +1,12 @@
 //! The lanes' half of a round, up to the mark: each lane is fed once, and looked at.
-ghost use Rattle.std.specs.Prelude.{◌≡◌, ◌<◌, ◌≤◌, IfErr, IfOk, OnOk};
+ghost use Rattle.std.specs.Prelude.{◌≡◌, ◌<◌, ◌≤◌, ◌∷◌, [], IfErr, IfOk, OnErr, OnOk};
 ghost use Rattle.eql_lane.specs.Lanes.{lesser};
 ghost use Rattle.eql_conductor.specs.Benches.{Rests};
+ghost use Rattle.eql_conductor.specs.Bounds.{AllFed, IsSomeLow, LaneHadLow, LaneWasFed};
 ghost use Rattle.eql_conductor.specs.Going.{StopsBy, Went};
 ghost use Rattle.eql_conductor.specs.LaneRounds.{IsSafe, IsSafeAt};
+ghost use Rattle.eql_conductor.specs.RoundNotes.{LaneBroken, LaneNoted, LanesBroken, LanesNoted, LooksBroken, LooksNoted};
+ghost use Rattle.eql_conductor.specs.declared.note.Note.TheVariants.{Fed, Looked};
 
 use crate::bench::Bench;
 use crate::stop::{Stop, unplayed};
@@ -11,13 +14,18 @@ use eql_lane::{LaneOp, LaneReply, LimitOf};
 use eql_values::Mark;
 
 // Feeds one lane.
-#[tactic(auto, using(crate::proofs::Resting::feed_rests))]
+#[tactic(auto, using(crate::proofs::Resting::feed_rests, crate::proofs::Onward::lane_went, crate::proofs::LaneNotes::fed_noted, crate::proofs::LaneNotes::fed_broken, crate::proofs::LaneNotes::unplayed_broken))]
 fn feed_one<B: Bench>(bench: &mut B, s: u32, batch: u32) -> Result<(), Stop>
     requires place { s < (B.known bench.old).lanes }
     requires batch { (1 ≤ batch) × (batch ≤ 4096) }
     ensures rests { Rests (B.known bench.old) (B.known bench.new) }
     ensures went { OnOk result (Went (B.known bench.old) (B.known bench.new)) }
     ensures stops { IfErr result (λ stop. StopsBy stop (B.known bench.old) (B.known bench.new)) }
+    ensures fed { OnOk result (LaneWasFed s (B.known bench.old) (B.known bench.new)) }
+    ensures notes { OnOk result (LaneNoted s (Fed batch ∷ [])
+        (B.known bench.old) (B.known bench.new)) }
+    ensures broken_notes { OnErr result (LaneBroken s (Fed batch ∷ [])
+        (B.known bench.old) (B.known bench.new)) }
 {
     match bench.lane(s, LaneOp::Feed { max: batch }) {
         Err(by) => Err(unplayed(by)),
@@ -42,6 +50,11 @@ pub(crate) fn feed_all<B: Bench>(bench: &mut B, batch: u32) -> Result<(), Stop>
     ensures rests { Rests (B.known bench.old) (B.known bench.new) }
     ensures went { OnOk result (Went (B.known bench.old) (B.known bench.new)) }
     ensures stops { IfErr result (λ stop. StopsBy stop (B.known bench.old) (B.known bench.new)) }
+    ensures fed { OnOk result (AllFed (B.known bench.old) (B.known bench.new)) }
+    ensures notes { OnOk result (LanesNoted (λ s. Fed batch ∷ [])
+        (B.known bench.old) (B.known bench.new)) }
+    ensures broken_notes { OnErr result (LanesBroken (λ s. Fed batch ∷ [])
+        (B.known bench.old) (B.known bench.new)) }
 {
     let count = bench.lanes();
     for s in 0..count {
@@ -58,12 +71,18 @@ fn least(a: Mark, b: Mark) -> Mark
 }
 
 // Looks at one lane.
+#[tactic(auto, using(crate::proofs::Onward::lane_went, crate::proofs::BoundsRounds::looked_low, crate::proofs::LaneNotes::looked_noted, crate::proofs::LaneNotes::unplayed_noted))]
 fn look_one<B: Bench>(bench: &mut B, s: u32) -> Result<Mark, Stop>
     requires place { s < (B.known bench.old).lanes }
     ensures rests { Rests (B.known bench.old) (B.known bench.new) }
     ensures safe { IfOk result (λ mark. IsSafeAt s mark (B.known bench.new)) }
     ensures went { OnOk result (Went (B.known bench.old) (B.known bench.new)) }
     ensures stops { IfErr result (λ stop. StopsBy stop (B.known bench.old) (B.known bench.new)) }
+    ensures low { IfOk result (λ mark.
+        LaneHadLow s mark (B.known bench.old) (B.known bench.new)) }
+    ensures notes { IfOk result (λ low.
+        LaneNoted s (Looked low ∷ []) (B.known bench.old) (B.known bench.new)) }
+    ensures broken_notes { OnErr result (LaneNoted s [] (B.known bench.old) (B.known bench.new)) }
 {
     match bench.lane(s, LaneOp::Look) {
         Err(by) => Err(unplayed(by)),
@@ -78,6 +97,9 @@ pub(crate) fn look_all<B: Bench>(bench: &mut B) -> Result<Mark, Stop>
     ensures safe { IfOk result (λ mark. IsSafe mark (B.known bench.new)) }
     ensures went { OnOk result (Went (B.known bench.old) (B.known bench.new)) }
     ensures stops { IfErr result (λ stop. StopsBy stop (B.known bench.old) (B.known bench.new)) }
+    ensures low { IfOk result (λ mark. IsSomeLow mark (B.known bench.old) (B.known bench.new)) }
+    ensures notes { IfOk result (LooksNoted (B.known bench.old) (B.known bench.new)) }
+    ensures broken_notes { OnErr result (LooksBroken (B.known bench.old) (B.known bench.new)) }
 {
     let count = bench.lanes();
     let mut mark = Mark::End;

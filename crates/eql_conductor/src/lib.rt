@@ -5,12 +5,26 @@
 mod advance;
 mod bench;
 mod feeding;
+mod keeping;
+mod laws;
 mod note;
+mod plan;
 mod playing;
 mod round;
 mod routing;
+mod run;
+mod saving;
+mod snapping;
+mod standing;
+mod stepping;
 mod stop;
 mod taking;
 
 pub use bench::{Bench, NotPlayed};
+pub use laws::{
+    cut_runs_begin, cut_times_are_safe, cuts_may_begin, fresh_runs_begin, run_cuts_are_of_texts,
+    run_cuts_are_safe, runs_go_on, runs_list, told_runs_begin,
+};
 pub use note::Note;
+pub use plan::{End, Keep, RunPlan};
+pub use run::Conductor;

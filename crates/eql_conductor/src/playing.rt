@@ -1,6 +1,6 @@
 //! The parts' half of a round: what was taken from the lanes is delivered, played until nothing waits, and what was found is
 //! collected.
-ghost use Rattle.std.specs.Prelude.{◌≡◌, ◌<◌, ◌≤◌, ◌+◌, ◌∷◌, ◌++◌, [], List, length, map, IfErr, IfOk, OnOk};
+ghost use Rattle.std.specs.Prelude.{◌≡◌, ◌<◌, ◌≤◌, ◌+◌, ◌∷◌, ◌++◌, [], ℕ, List, length, map, IfErr, IfOk, OnErr, OnOk};
 ghost use Rattle.eql_values.specs.declared.found.Holder.{Holder};
 ghost use Rattle.eql_values.specs.Ordered.{numbers};
 ghost use Rattle.eql_parts.specs.PartSteps.{CanDeliver, Rules};
@@ -8,6 +8,7 @@ ghost use Rattle.eql_rounds.specs.Finding.{found_of};
 ghost use Rattle.eql_conductor.specs.Benches.{LanesRest, Same};
 ghost use Rattle.eql_conductor.specs.Going.{StopsBy, Went};
 ghost use Rattle.eql_conductor.specs.PartRounds.{Collecting, Delivering, FewerWait, Resting, SomeCollecting, SomeDelivering, SomeResting, SomeTurning, TurnGoes, Turning, WaitAtMost, pending_after};
+ghost use Rattle.eql_conductor.specs.RoundNotes.{PartNoted, PartsNoted, TurnNoted, delivered_to};
 ghost use Rattle.eql_conductor.specs.declared.stop.Stop.TheVariants.{Memory as OutOfMemory};
 
 use crate::bench::Bench;
@@ -36,6 +37,7 @@ fn deliver_one<B: Bench>(
     ensures lanes { LanesRest (B.known bench.old) (B.known bench.new) }
     ensures went { OnOk result (Went (B.known bench.old) (B.known bench.new)) }
     ensures stops { IfErr result (λ stop. StopsBy stop (B.known bench.old) (B.known bench.new)) }
+    ensures notes { PartNoted p 0 1 (B.known bench.old) (B.known bench.new) }
 {
     let items = match routed(alloc, items, p) {
         Ok(items) => items,
@@ -66,6 +68,7 @@ pub(crate) fn deliver_all<B: Bench>(
     ensures lanes { LanesRest (B.known bench.old) (B.known bench.new) }
     ensures went { OnOk result (Went (B.known bench.old) (B.known bench.new)) }
     ensures stops { IfErr result (λ stop. StopsBy stop (B.known bench.old) (B.known bench.new)) }
+    ensures notes { PartsNoted (λ p. 0) 1 (B.known bench.old) (B.known bench.new) }
 {
     let count = bench.parts();
     for p in 0..count {
@@ -96,6 +99,10 @@ fn turn_once<B: Bench>(
     ensures lanes { LanesRest (B.known bench.old) (B.known bench.new) }
     ensures went { OnOk result (Went (B.known bench.old) (B.known bench.new)) }
     ensures stops { IfErr result (λ stop. StopsBy stop (B.known bench.old) (B.known bench.new)) }
+    ensures notes { (w : ℕ) → WaitAtMost p w (B.known bench.old)
+        → IfOk result (TurnNoted w p (B.known bench.old) (B.known bench.new)) }
+    ensures broken_notes { (w : ℕ) → WaitAtMost p w (B.known bench.old)
+        → OnErr result (PartNoted p w 1 (B.known bench.old) (B.known bench.new)) }
 {
     match bench.part(p, PartOp::Turn { max: batch }) {
         Err(by) => Err(unplayed(by)),
@@ -124,6 +131,8 @@ fn turn_one<B: Bench>(
     ensures lanes { LanesRest (B.known bench.old) (B.known bench.new) }
     ensures went { OnOk result (Went (B.known bench.old) (B.known bench.new)) }
     ensures stops { IfErr result (λ stop. StopsBy stop (B.known bench.old) (B.known bench.new)) }
+    ensures notes { PartNoted p (delivered_to items.now p) 1
+        (B.known bench.old) (B.known bench.new) }
 {
     let mut left = items.items().len();
     loop {
@@ -150,6 +159,8 @@ pub(crate) fn turn_all<B: Bench>(
     ensures lanes { LanesRest (B.known bench.old) (B.known bench.new) }
     ensures went { OnOk result (Went (B.known bench.old) (B.known bench.new)) }
     ensures stops { IfErr result (λ stop. StopsBy stop (B.known bench.old) (B.known bench.new)) }
+    ensures notes { PartsNoted (delivered_to items.now) 1
+        (B.known bench.old) (B.known bench.new) }
 {
     let count = bench.parts();
     for p in 0..count {
@@ -172,6 +183,7 @@ fn collect_one<B: Bench>(bench: &mut B, p: u32, items: &Items, mark: Mark) -> Re
     ensures lanes { LanesRest (B.known bench.old) (B.known bench.new) }
     ensures went { OnOk result (Went (B.known bench.old) (B.known bench.new)) }
     ensures stops { IfErr result (λ stop. StopsBy stop (B.known bench.old) (B.known bench.new)) }
+    ensures notes { PartNoted p 0 1 (B.known bench.old) (B.known bench.new) }
 {
     match bench.part(p, PartOp::Collect) {
         Err(by) => Err(unplayed(by)),
@@ -209,6 +221,7 @@ pub(crate) fn collect_all<B: Bench>(
     ensures lanes { LanesRest (B.known bench.old) (B.known bench.new) }
     ensures went { OnOk result (Went (B.known bench.old) (B.known bench.new)) }
     ensures stops { IfErr result (λ stop. StopsBy stop (B.known bench.old) (B.known bench.new)) }
+    ensures notes { PartsNoted (λ p. 0) 1 (B.known bench.old) (B.known bench.new) }
 {
     let count = bench.parts();
     let mut lists = Vec::new(alloc);

@@ -1,16 +1,20 @@
 //! The part of a round behind the mark, call by call: what lies below the mark is taken and put in order, played by the
 //! parts, and what they find is put in order.
-ghost use Rattle.std.specs.Prelude.{◌≡◌, ◌≤◌, ℕ, ℤ, List, Option, None, IfErr, IfOk, OnOk};
+ghost use Rattle.std.specs.Prelude.{◌≡◌, ◌≤◌, ◌∷◌, [], ℕ, ℤ, List, Option, None, length, IfErr, IfOk, OnErr, OnOk};
 ghost use Rattle.eql_values.specs.declared.found.Holder.{Holder};
 ghost use Rattle.eql_values.specs.Accepted.{Reads};
 ghost use Rattle.eql_laws.specs.Belows.{between};
 ghost use Rattle.eql_laws.specs.Lateness.{AtMost};
 ghost use Rattle.eql_parts.specs.PartSteps.{CanDeliver, Rules};
 ghost use Rattle.eql_conductor.specs.Benches.{LanesRest, PartsRest, Same};
+ghost use Rattle.eql_conductor.specs.Bounds.{AllGaveOut};
 ghost use Rattle.eql_conductor.specs.Going.{LanesGo, StopsBy, Went};
+ghost use Rattle.eql_conductor.specs.Handed.{HandedOut};
 ghost use Rattle.eql_conductor.specs.LaneRounds.{IsSafe, LanesAt};
 ghost use Rattle.eql_conductor.specs.PartRounds.{Resting, SomeResting, pending_after};
+ghost use Rattle.eql_conductor.specs.RoundNotes.{LanesBroken, LanesNoted, PartsNoted, delivered_to};
 ghost use Rattle.eql_conductor.specs.Rounds.{OfTexts, found_by};
+ghost use Rattle.eql_conductor.specs.declared.note.Note.TheVariants.{Took};
 
 use crate::bench::Bench;
 use crate::playing::{collect_all, deliver_all, turn_all};
@@ -40,6 +44,14 @@ pub(crate) fn take_in_order<B: Bench>(
     ensures parts { PartsRest (B.known bench.old) (B.known bench.new) }
     ensures went { OnOk result (Went (B.known bench.old) (B.known bench.new)) }
     ensures stops { IfErr result (λ stop. StopsBy stop (B.known bench.old) (B.known bench.new)) }
+    ensures gave { OnOk result (AllGaveOut mark (B.known bench.old) (B.known bench.new)) }
+    ensures handed { IfOk result (λ items. HandedOut (length items)
+        (B.known bench.old) (B.known bench.new)) }
+    ensures none_handed { OnErr result (HandedOut 0 (B.known bench.old) (B.known bench.new)) }
+    ensures notes { OnOk result (LanesNoted (λ s. Took mark ∷ [])
+        (B.known bench.old) (B.known bench.new)) }
+    ensures broken_notes { OnErr result (LanesBroken (λ s. Took mark ∷ [])
+        (B.known bench.old) (B.known bench.new)) }
 {
     let lists = take_all(alloc, bench, last, mark)?;
     match merge(alloc, lists) {
@@ -70,6 +82,8 @@ pub(crate) fn play_parts<B: Bench>(
     ensures lanes { LanesRest (B.known bench.old) (B.known bench.new) }
     ensures went { OnOk result (Went (B.known bench.old) (B.known bench.new)) }
     ensures stops { IfErr result (λ stop. StopsBy stop (B.known bench.old) (B.known bench.new)) }
+    ensures notes { PartsNoted (delivered_to items.now) 3
+        (B.known bench.old) (B.known bench.new) }
 {
     deliver_all(alloc, bench, items, last, mark)?;
     turn_all(bench, items, mark, batch)?;

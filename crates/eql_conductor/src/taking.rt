@@ -1,10 +1,14 @@
 //! The lanes' half of a round, from the mark on: what lies below it is taken from each lane.
-ghost use Rattle.std.specs.Prelude.{◌≡◌, ◌<◌, ◌+◌, ◌∷◌, ◌++◌, [], ℕ, List, Option, None, length, IfErr, IfOk, OnOk};
+ghost use Rattle.std.specs.Prelude.{◌≡◌, ◌<◌, ◌+◌, ◌∷◌, ◌++◌, [], ℕ, List, Option, None, length, IfErr, IfOk, OnErr, OnOk};
 ghost use Rattle.eql_laws.specs.Lateness.{AtMost};
 ghost use Rattle.eql_rounds.specs.LaneRounds.{HandsOver};
 ghost use Rattle.eql_conductor.specs.Benches.{PartsRest};
+ghost use Rattle.eql_conductor.specs.Bounds.{AllGaveOut, OneGaveOut};
 ghost use Rattle.eql_conductor.specs.Going.{LanesGo, StopsBy, Went};
 ghost use Rattle.eql_conductor.specs.LaneRounds.{AllHandOver, IsSafe, LanesAt, TakingTo, text_at};
+ghost use Rattle.eql_conductor.specs.Handed.{HandedOut, LaneHands, LanesHand, sizes};
+ghost use Rattle.eql_conductor.specs.RoundNotes.{LaneBroken, LaneNoted, LanesBroken, LanesNoted};
+ghost use Rattle.eql_conductor.specs.declared.note.Note.TheVariants.{Took};
 ghost use Rattle.eql_conductor.specs.declared.stop.Stop.TheVariants.{Memory as OutOfMemory};
 
 use crate::bench::Bench;
@@ -14,7 +18,7 @@ use eql_values::{ItemLists, Items, Mark};
 use std::alloc::Global;
 
 // Takes from one lane what lies below a safe mark.
-#[tactic(auto, using(crate::proofs::Onward::unplayed_goes))]
+#[tactic(auto, using(crate::proofs::Onward::unplayed_goes, crate::proofs::Onward::lane_went, crate::proofs::LaneNotes::took_noted, crate::proofs::LaneNotes::took_broken, crate::proofs::LaneNotes::unplayed_broken, crate::proofs::Handing::taken_hands, crate::proofs::Handing::lacked_hands, crate::proofs::Handing::unplayed_hands))]
 fn take_one<B: Bench>(bench: &mut B, s: u32, last: Mark, mark: Mark) -> Result<Items, Stop>
     requires place { s < (B.known bench.old).lanes }
     requires lanes { TakingTo None s last mark (B.known bench.old) }
@@ -30,6 +34,15 @@ fn take_one<B: Bench>(bench: &mut B, s: u32, last: Mark, mark: Mark) -> Result<I
     ensures parts { PartsRest (B.known bench.old) (B.known bench.new) }
     ensures went { OnOk result (Went (B.known bench.old) (B.known bench.new)) }
     ensures stops { IfErr result (λ stop. StopsBy stop (B.known bench.old) (B.known bench.new)) }
+    ensures gave { OnOk result (OneGaveOut s mark (B.known bench.old) (B.known bench.new)) }
+    ensures handed { IfOk result (λ items. LaneHands s (length items)
+        (B.known bench.old) (B.known bench.new)) }
+    ensures none_handed { OnErr result (LanesHand (λ s. 0)
+        (B.known bench.old) (B.known bench.new)) }
+    ensures notes { OnOk result (LaneNoted s (Took mark ∷ [])
+        (B.known bench.old) (B.known bench.new)) }
+    ensures broken_notes { OnErr result (LaneBroken s (Took mark ∷ [])
+        (B.known bench.old) (B.known bench.new)) }
 {
     match bench.lane(s, LaneOp::Take { mark }) {
         Err(by) => Err(unplayed(by)),
@@ -68,6 +81,14 @@ pub(crate) fn take_all<B: Bench>(
     ensures parts { PartsRest (B.known bench.old) (B.known bench.new) }
     ensures went { OnOk result (Went (B.known bench.old) (B.known bench.new)) }
     ensures stops { IfErr result (λ stop. StopsBy stop (B.known bench.old) (B.known bench.new)) }
+    ensures gave { OnOk result (AllGaveOut mark (B.known bench.old) (B.known bench.new)) }
+    ensures handed { IfOk result (λ lists. LanesHand (sizes lists)
+        (B.known bench.old) (B.known bench.new)) }
+    ensures none_handed { OnErr result (HandedOut 0 (B.known bench.old) (B.known bench.new)) }
+    ensures notes { OnOk result (LanesNoted (λ s. Took mark ∷ [])
+        (B.known bench.old) (B.known bench.new)) }
+    ensures broken_notes { OnErr result (LanesBroken (λ s. Took mark ∷ [])
+        (B.known bench.old) (B.known bench.new)) }
 {
     let count = bench.lanes();
     let mut lists = Vec::new(alloc);

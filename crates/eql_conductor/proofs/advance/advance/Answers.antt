@@ -4,6 +4,9 @@ use Rattle.eql_conductor.specs.Rounds.{StopsAt, StopsOut}
 use Rattle.eql_conductor.proofs.Onward.{lanes_go_on, rest_goes, stops_on, went_on}
 use Rattle.eql_conductor.proofs.Stays.{some_stay}
 use Rattle.eql_conductor.proofs.Broken.{breaks_at, err_both, no_write, round_goes}
+use Rattle.eql_conductor.proofs.BoundsRounds.{gave_out_rest}
+use Rattle.eql_conductor.proofs.Broken.{breaks_at, err_both, no_write, on_err, round_goes}
+use Rattle.eql_conductor.proofs.NotedRounds.{advance_broken, advance_noted, on_ok, taking_broken}
 use Rattle.eql_conductor.proofs.advance.advance.Goals as goal
 
 pub returns-in_err-items-clause-cause : goal.returns-in_err-items-clause-cause
@@ -32,7 +35,7 @@ pub returns-clause-round : goal.returns-clause-round
 returns-clause-round g c =
     on_ok_weaker c.add_found.result
     (λ gave. round_goes c.args.last c.args.mark (g.B.Bench.known c.args.bench.now) (g.B.Bench.known c.take_in_order.new.bench) (g.B.Bench.known c.play_parts.new.bench) c.in_ok-items.items c.in_ok-found.found c.args.book.now c.add_found.new.book (g.K.Sink.written c.args.sink.now) (g.K.Sink.written c.add_found.new.sink) c.take_in_order.ensures.goes.same c.take_in_order.ensures.parts c.play_parts.ensures.same c.play_parts.ensures.lanes c.in_ok-items.ensures.told c.in_ok-found.ensures.found
-    c.in_ok-items.ensures.lanes c.in_ok-found.ensures.parts c.requires.whole c.requires.some gave)
+    c.in_ok-items.ensures.lanes c.in_ok-found.ensures.parts c.requires.later gave)
     c.add_found.ensures.gave
 
 pub returns-clause-broken : goal.returns-clause-broken
@@ -49,3 +52,22 @@ pub returns-clause-stops : goal.returns-clause-stops
 returns-clause-stops g c =
     IfErr-weaker c.add_found.result StopsOut (λ stop. StopsAt stop (g.B.Bench.known c.args.bench.now) (g.B.Bench.known c.play_parts.new.bench))
     (λ stop out. inr (out, went_on (g.B.Bench.known c.args.bench.now) (g.B.Bench.known c.take_in_order.new.bench) (g.B.Bench.known c.play_parts.new.bench) c.in_ok-items.ensures.went c.in_ok-found.ensures.went)) c.add_found.ensures.out
+
+pub returns-clause-gave : goal.returns-clause-gave
+returns-clause-gave g c =
+    on_ok_weaker c.add_found.result
+    (λ gave. gave_out_rest c.args.mark (g.B.Bench.known c.args.bench.now) (g.B.Bench.known c.take_in_order.new.bench) (g.B.Bench.known c.play_parts.new.bench) c.take_in_order.ensures.goes.same c.play_parts.ensures.lanes c.in_ok-items.ensures.gave)
+    c.add_found.ensures.gave
+
+pub returns-in_err-items-clause-broken_notes : goal.returns-in_err-items-clause-broken_notes
+returns-in_err-items-clause-broken_notes g c =
+    on_err c.from_residual.result (taking_broken c.args.mark (g.B.Bench.known c.args.bench.now) (g.B.Bench.known c.take_in_order.new.bench) c.in_err-items.ensures.none_handed c.in_err-items.ensures.broken_notes)
+
+pub returns-in_err-found-clause-broken_notes : goal.returns-in_err-found-clause-broken_notes
+returns-in_err-found-clause-broken_notes g c = on_err c.from_residual-in_err-found.result (advance_broken c.args.mark c.in_ok-items.items (g.B.Bench.known c.args.bench.now) (g.B.Bench.known c.take_in_order.new.bench) (g.B.Bench.known c.play_parts.new.bench) c.take_in_order.ensures.goes.same c.in_ok-items.ensures.handed c.in_ok-items.ensures.notes c.play_parts.ensures.lanes c.play_parts.ensures.notes)
+
+pub returns-clause-notes : goal.returns-clause-notes
+returns-clause-notes g c = on_ok c.add_found.result (advance_noted c.args.mark c.in_ok-items.items (g.B.Bench.known c.args.bench.now) (g.B.Bench.known c.take_in_order.new.bench) (g.B.Bench.known c.play_parts.new.bench) c.take_in_order.ensures.goes.same c.in_ok-items.ensures.handed c.in_ok-items.ensures.notes c.play_parts.ensures.lanes c.play_parts.ensures.notes)
+
+pub returns-clause-broken_notes : goal.returns-clause-broken_notes
+returns-clause-broken_notes g c = on_err c.add_found.result (advance_broken c.args.mark c.in_ok-items.items (g.B.Bench.known c.args.bench.now) (g.B.Bench.known c.take_in_order.new.bench) (g.B.Bench.known c.play_parts.new.bench) c.take_in_order.ensures.goes.same c.in_ok-items.ensures.handed c.in_ok-items.ensures.notes c.play_parts.ensures.lanes c.play_parts.ensures.notes)

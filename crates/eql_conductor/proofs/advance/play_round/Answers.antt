@@ -5,6 +5,8 @@ use Rattle.eql_conductor.proofs.Onward.{lanes_go_on, rest_goes, stops_on, went_o
 use Rattle.eql_conductor.proofs.MarkOrder.{at_most_other}
 use Rattle.eql_conductor.proofs.Stays.{lanes_stay, some_stay}
 use Rattle.eql_conductor.proofs.Broken.{breaks_later, goes_later, on_err, round_rests, stops_at_on}
+use Rattle.eql_conductor.proofs.BoundsSpent.{rest_spends, take_spends}
+use Rattle.eql_conductor.proofs.NotedRounds.{feeding_broken, looking_broken, round_broken, round_noted, round_passes}
 use Rattle.eql_conductor.proofs.advance.play_round.Goals as goal
 
 pub returns-in_err-feed_all-clause-goes : goal.returns-in_err-feed_all-clause-goes
@@ -62,12 +64,42 @@ returns-in_err-advance-clause-stops g c =
     (went_on (g.B.Bench.known c.args.bench.now) (g.B.Bench.known c.feed_all.new.bench) (g.B.Bench.known c.look_all.new.bench) c.in_ok-feed_all.ensures.went c.in_ok-mark.ensures.went) c.in_err-advance.ensures.stops)
 
 pub returns-clause-round : goal.returns-clause-round
-returns-clause-round g c = (
-  at_most_other c.in_ok-mark.mark c.args.last (search rules),
-  goes_later c.args.last c.in_ok-mark.mark (g.B.Bench.known c.args.bench.now) (g.B.Bench.known c.look_all.new.bench) (g.B.Bench.known c.advance.new.bench) c.args.book.now c.advance.new.book (g.K.Sink.written c.args.sink.now) (g.K.Sink.written c.advance.new.sink) (rests_on (g.B.Bench.known c.args.bench.now) (g.B.Bench.known c.feed_all.new.bench) (g.B.Bench.known c.look_all.new.bench) c.feed_all.ensures.rests c.look_all.ensures.rests) c.in_ok-advance.ensures.round,
-)
+returns-clause-round g c =
+    goes_later c.args.last c.in_ok-mark.mark (g.B.Bench.known c.args.bench.now) (g.B.Bench.known c.look_all.new.bench) (g.B.Bench.known c.advance.new.bench) c.args.book.now c.advance.new.book (g.K.Sink.written c.args.sink.now) (g.K.Sink.written c.advance.new.sink) (rests_on (g.B.Bench.known c.args.bench.now) (g.B.Bench.known c.feed_all.new.bench) (g.B.Bench.known c.look_all.new.bench) c.feed_all.ensures.rests c.look_all.ensures.rests) c.in_ok-advance.ensures.round
 
 pub returns-clause-goes : goal.returns-clause-goes
 returns-clause-goes g c =
     let both = (rests_on (g.B.Bench.known c.args.bench.now) (g.B.Bench.known c.feed_all.new.bench) (g.B.Bench.known c.look_all.new.bench) c.feed_all.ensures.rests c.look_all.ensures.rests) in
     lanes_go_on (g.B.Bench.known c.args.bench.now) (g.B.Bench.known c.look_all.new.bench) (g.B.Bench.known c.advance.new.bench) (rest_goes (g.B.Bench.known c.args.bench.now) (g.B.Bench.known c.look_all.new.bench) both.same both.lanes) c.advance.ensures.goes
+
+pub returns-then-le-clause-spends : goal.returns-then-le-clause-spends
+returns-then-le-clause-spends g c =
+    let both = (rests_on (g.B.Bench.known c.args.bench.now) (g.B.Bench.known c.feed_all.new.bench) (g.B.Bench.known c.look_all.new.bench) c.feed_all.ensures.rests c.look_all.ensures.rests) in
+    rest_spends c.args.last c.in_ok-mark.mark (g.B.Bench.known c.args.bench.now) (g.B.Bench.known c.feed_all.new.bench) (g.B.Bench.known c.look_all.new.bench) c.feed_all.ensures.rests.same c.in_ok-feed_all.ensures.fed c.in_ok-mark.ensures.low
+    (rest_goes (g.B.Bench.known c.args.bench.now) (g.B.Bench.known c.look_all.new.bench) both.same both.lanes) c.look_all.ensures.rests.same
+    (lanes_stay None c.args.last (g.B.Bench.known c.args.bench.now) (g.B.Bench.known c.look_all.new.bench) both.same both.lanes c.requires.lanes) (search rules)
+
+pub returns-clause-spends : goal.returns-clause-spends
+returns-clause-spends g c =
+    let both = (rests_on (g.B.Bench.known c.args.bench.now) (g.B.Bench.known c.feed_all.new.bench) (g.B.Bench.known c.look_all.new.bench) c.feed_all.ensures.rests c.look_all.ensures.rests) in
+    take_spends c.args.last c.in_ok-mark.mark (g.B.Bench.known c.args.bench.now) (g.B.Bench.known c.feed_all.new.bench) (g.B.Bench.known c.look_all.new.bench) c.feed_all.ensures.rests.same c.in_ok-feed_all.ensures.fed c.in_ok-mark.ensures.low
+    (g.B.Bench.known c.advance.new.bench)
+    (lanes_go_on (g.B.Bench.known c.args.bench.now) (g.B.Bench.known c.look_all.new.bench) (g.B.Bench.known c.advance.new.bench) (rest_goes (g.B.Bench.known c.args.bench.now) (g.B.Bench.known c.look_all.new.bench) both.same both.lanes) c.advance.ensures.goes)
+    c.look_all.ensures.rests.same c.in_ok-advance.ensures.gave
+
+pub returns-in_err-feed_all-clause-broken_notes : goal.returns-in_err-feed_all-clause-broken_notes
+returns-in_err-feed_all-clause-broken_notes g c =
+    on_err c.from_residual.result (feeding_broken c.args.last c.args.batch (g.B.Bench.known c.args.bench.now) (g.B.Bench.known c.feed_all.new.bench) c.feed_all.ensures.rests c.in_err-feed_all.ensures.broken_notes)
+
+pub returns-in_err-mark-clause-broken_notes : goal.returns-in_err-mark-clause-broken_notes
+returns-in_err-mark-clause-broken_notes g c = on_err c.from_residual-in_err-mark.result (looking_broken c.args.last c.args.batch (g.B.Bench.known c.args.bench.now) (g.B.Bench.known c.feed_all.new.bench) (g.B.Bench.known c.look_all.new.bench) c.feed_all.ensures.rests c.look_all.ensures.rests c.in_ok-feed_all.ensures.notes c.in_err-mark.ensures.broken_notes)
+
+pub returns-then-le-clause-notes : goal.returns-then-le-clause-notes
+returns-then-le-clause-notes g c = round_passes c.args.last c.args.batch (g.B.Bench.known c.args.bench.now) (g.B.Bench.known c.feed_all.new.bench) (g.B.Bench.known c.look_all.new.bench) c.feed_all.ensures.rests c.look_all.ensures.rests c.in_ok-feed_all.ensures.notes c.in_ok-mark.mark c.in_ok-mark.ensures.notes (search rules)
+
+pub returns-in_err-advance-clause-broken_notes : goal.returns-in_err-advance-clause-broken_notes
+returns-in_err-advance-clause-broken_notes g c =
+    on_err c.from_residual-in_err-advance.result (round_broken c.args.last c.args.batch (g.B.Bench.known c.args.bench.now) (g.B.Bench.known c.feed_all.new.bench) (g.B.Bench.known c.look_all.new.bench) c.feed_all.ensures.rests c.look_all.ensures.rests c.in_ok-feed_all.ensures.notes c.in_ok-mark.mark c.in_ok-mark.ensures.notes (g.B.Bench.known c.advance.new.bench) (search rules) c.in_err-advance.ensures.broken_notes)
+
+pub returns-clause-notes : goal.returns-clause-notes
+returns-clause-notes g c = round_noted c.args.last c.args.batch (g.B.Bench.known c.args.bench.now) (g.B.Bench.known c.feed_all.new.bench) (g.B.Bench.known c.look_all.new.bench) c.feed_all.ensures.rests c.look_all.ensures.rests c.in_ok-feed_all.ensures.notes c.in_ok-mark.mark c.in_ok-mark.ensures.notes (g.B.Bench.known c.advance.new.bench) (search rules) c.in_ok-advance.ensures.notes

@@ -4,6 +4,7 @@ use Rattle.eql_conductor.proofs.Resting.{lanes_on, same_on}
 use Rattle.eql_conductor.proofs.Onward.{rest_goes, stops_on, went_on}
 use Rattle.eql_rounds.specs.Finding.{found_of}
 use Rattle.eql_conductor.proofs.Parted.{collected_all, found_more, sixteen_found}
+use Rattle.eql_conductor.proofs.PartNotes.{parts_any, parts_end, parts_more}
 use Rattle.eql_conductor.proofs.playing.collect_all.Goals as goal
 
 pub collect_one-requires-clause-some : goal.collect_one-requires-clause-some
@@ -30,6 +31,7 @@ loop-p-preserved g c = record {
   same = same_on (g.B.Bench.known c.args.bench.now) (g.B.Bench.known c.loop-p.bench) (g.B.Bench.known c.collect_one.new.bench) c.loop-p.invariant.same c.collect_one.ensures.same;
   lanes = lanes_on (g.B.Bench.known c.args.bench.now) (g.B.Bench.known c.loop-p.bench) (g.B.Bench.known c.collect_one.new.bench) c.loop-p.invariant.same c.loop-p.invariant.lanes c.collect_one.ensures.lanes;
   went = went_on (g.B.Bench.known c.args.bench.now) (g.B.Bench.known c.loop-p.bench) (g.B.Bench.known c.collect_one.new.bench) c.loop-p.invariant.went c.in_ok-matches.ensures.went;
+  noted = parts_more c.loop-p.p (λ p. 0) 1 (g.B.Bench.known c.args.bench.now) (g.B.Bench.known c.loop-p.bench) (g.B.Bench.known c.collect_one.new.bench) c.loop-p.invariant.same c.loop-p.invariant.noted c.collect_one.ensures.notes;
 }
 
 pub returns-in_err-add_matches-clause-lanes : goal.returns-in_err-add_matches-clause-lanes
@@ -47,3 +49,12 @@ returns-clause-found g c =
 pub returns-clause-parts : goal.returns-clause-parts
 returns-clause-parts g c =
     λ rules all was. collected_all rules all c.args.items.now c.args.mark c.loop-p.p (g.B.Bench.known c.loop-p.bench) (let e = c.parts-count.ensures in let f = c.loop-p.invariant.same.parts in omega (arith, e, f)) (c.loop-p.invariant.parts rules all was)
+
+pub returns-in_err-matches-clause-notes : goal.returns-in_err-matches-clause-notes
+returns-in_err-matches-clause-notes g c = parts_end c.loop-p.p (λ p. 0) 1 (g.B.Bench.known c.args.bench.now) (g.B.Bench.known c.loop-p.bench) (g.B.Bench.known c.collect_one.new.bench) c.loop-p.invariant.same c.loop-p.invariant.noted c.collect_one.ensures.notes
+
+pub returns-in_err-add_matches-clause-notes : goal.returns-in_err-add_matches-clause-notes
+returns-in_err-add_matches-clause-notes g c = parts_end c.loop-p.p (λ p. 0) 1 (g.B.Bench.known c.args.bench.now) (g.B.Bench.known c.loop-p.bench) (g.B.Bench.known c.collect_one.new.bench) c.loop-p.invariant.same c.loop-p.invariant.noted c.collect_one.ensures.notes
+
+pub returns-clause-notes : goal.returns-clause-notes
+returns-clause-notes g c = parts_any c.loop-p.p (λ p. 0) 1 (g.B.Bench.known c.args.bench.now) (g.B.Bench.known c.loop-p.bench) c.loop-p.invariant.noted

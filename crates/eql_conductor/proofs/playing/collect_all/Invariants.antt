@@ -6,6 +6,7 @@ use Rattle.eql_rounds.specs.Finding.{found_of}
 use Rattle.eql_conductor.specs.Benches.{LanesRest, Same}
 use Rattle.eql_conductor.specs.Going.{Went}
 use Rattle.eql_conductor.specs.PartRounds.{Collecting}
+use Rattle.eql_conductor.specs.RoundNotes.{PartsTo}
 use Rattle.eql_conductor.proofs.playing.collect_all.Given as goal
 
 abbrev pub invariant-loop-p : goal.invariant-loop-p
@@ -15,4 +16,5 @@ invariant-loop-p g l = record {
   same : Same (g.B.Bench.known l.fn.bench) (g.B.Bench.known l.bench);
   lanes : LanesRest (g.B.Bench.known l.fn.bench) (g.B.Bench.known l.bench);
   went : Went (g.B.Bench.known l.fn.bench) (g.B.Bench.known l.bench);
+  noted : PartsTo l.p (λ p. 0) 1 (g.B.Bench.known l.fn.bench) (g.B.Bench.known l.bench);
 }

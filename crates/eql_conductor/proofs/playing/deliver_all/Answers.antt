@@ -4,6 +4,7 @@ use Rattle.eql_conductor.proofs.Resting.{lanes_on, same_on}
 use Rattle.eql_conductor.proofs.Onward.{rest_goes, stops_on, went_on}
 use Rattle.eql_conductor.specs.PartRounds.{IsAtRest, IsDelivered, IsPlayed}
 use Rattle.eql_conductor.proofs.Parted.{next_phase}
+use Rattle.eql_conductor.proofs.PartNotes.{parts_any, parts_end, parts_more}
 use Rattle.eql_conductor.proofs.playing.deliver_all.Goals as goal
 
 pub deliver_one-requires-clause-some : goal.deliver_one-requires-clause-some
@@ -28,9 +29,16 @@ loop-p-preserved g c = record {
   same = same_on (g.B.Bench.known c.args.bench.now) (g.B.Bench.known c.loop-p.bench) (g.B.Bench.known c.deliver_one.new.bench) c.loop-p.invariant.same c.deliver_one.ensures.same;
   lanes = lanes_on (g.B.Bench.known c.args.bench.now) (g.B.Bench.known c.loop-p.bench) (g.B.Bench.known c.deliver_one.new.bench) c.loop-p.invariant.same c.loop-p.invariant.lanes c.deliver_one.ensures.lanes;
   went = went_on (g.B.Bench.known c.args.bench.now) (g.B.Bench.known c.loop-p.bench) (g.B.Bench.known c.deliver_one.new.bench) c.loop-p.invariant.went c.in_ok-deliver_one.ensures.went;
+  noted = parts_more c.loop-p.p (λ p. 0) 1 (g.B.Bench.known c.args.bench.now) (g.B.Bench.known c.loop-p.bench) (g.B.Bench.known c.deliver_one.new.bench) c.loop-p.invariant.same c.loop-p.invariant.noted c.deliver_one.ensures.notes;
 }
 
 pub returns-clause-parts : goal.returns-clause-parts
 returns-clause-parts g c =
     λ rules all was. next_phase rules c.loop-p.p (IsPlayed rules all c.args.items.now c.args.mark) (IsDelivered rules all c.args.items.now c.args.mark) (IsAtRest rules all c.args.last) (g.B.Bench.known c.loop-p.bench)
     (let e = c.parts-count.ensures in let f = c.loop-p.invariant.same.parts in omega (arith, e, f)) (c.loop-p.invariant.parts rules all was)
+
+pub returns-in_err-deliver_one-clause-notes : goal.returns-in_err-deliver_one-clause-notes
+returns-in_err-deliver_one-clause-notes g c = parts_end c.loop-p.p (λ p. 0) 1 (g.B.Bench.known c.args.bench.now) (g.B.Bench.known c.loop-p.bench) (g.B.Bench.known c.deliver_one.new.bench) c.loop-p.invariant.same c.loop-p.invariant.noted c.deliver_one.ensures.notes
+
+pub returns-clause-notes : goal.returns-clause-notes
+returns-clause-notes g c = parts_any c.loop-p.p (λ p. 0) 1 (g.B.Bench.known c.args.bench.now) (g.B.Bench.known c.loop-p.bench) c.loop-p.invariant.noted

@@ -4,6 +4,7 @@ use Rattle.eql_parts.specs.PartSteps.{Rules}
 use Rattle.eql_conductor.specs.Benches.{LanesRest, Same}
 use Rattle.eql_conductor.specs.Going.{Went}
 use Rattle.eql_conductor.specs.PartRounds.{Delivering, Resting}
+use Rattle.eql_conductor.specs.RoundNotes.{PartsTo}
 use Rattle.eql_conductor.proofs.playing.deliver_all.Given as goal
 
 abbrev pub invariant-loop-p : goal.invariant-loop-p
@@ -12,4 +13,5 @@ invariant-loop-p g l = record {
   same : Same (g.B.Bench.known l.fn.bench) (g.B.Bench.known l.bench);
   lanes : LanesRest (g.B.Bench.known l.fn.bench) (g.B.Bench.known l.bench);
   went : Went (g.B.Bench.known l.fn.bench) (g.B.Bench.known l.bench);
+  noted : PartsTo l.p (λ p. 0) 1 (g.B.Bench.known l.fn.bench) (g.B.Bench.known l.bench);
 }

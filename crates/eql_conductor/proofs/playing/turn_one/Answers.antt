@@ -1,6 +1,9 @@
+use Rattle.std.proofs.Common.{arith}
 use Rattle.std.proofs.lemmas.Result.{err_from_is_err_and}
 use Rattle.eql_conductor.proofs.Resting.{lanes_on, same_on}
 use Rattle.eql_conductor.proofs.Onward.{rest_goes, stops_on, went_on}
+use Rattle.eql_conductor.specs.RoundNotes.{delivered_to}
+use Rattle.eql_conductor.proofs.PartNotes.{turned_end, turned_more}
 use Rattle.eql_conductor.proofs.playing.turn_one.Goals as goal
 
 pub turn_once-requires-clause-some : goal.turn_once-requires-clause-some
@@ -33,4 +36,16 @@ loop-less-preserved g c = record {
   same = same_on (g.B.Bench.known c.args.bench.now) (g.B.Bench.known c.loop-less.bench) (g.B.Bench.known c.turn_once.new.bench) c.loop-less.invariant.same c.turn_once.ensures.same;
   lanes = lanes_on (g.B.Bench.known c.args.bench.now) (g.B.Bench.known c.loop-less.bench) (g.B.Bench.known c.turn_once.new.bench) c.loop-less.invariant.same c.loop-less.invariant.lanes c.turn_once.ensures.lanes;
   went = went_on (g.B.Bench.known c.args.bench.now) (g.B.Bench.known c.loop-less.bench) (g.B.Bench.known c.turn_once.new.bench) c.loop-less.invariant.went c.in_ok-turn_once.ensures.went;
+  turned = turned_more (delivered_to c.args.items.now c.args.p) c.args.p (g.B.Bench.known c.args.bench.now) (g.B.Bench.known c.loop-less.bench) (g.B.Bench.known c.turn_once.new.bench) c.loop-less.invariant.same c.loop-less.invariant.turned
+      (rw c.in-Some.is at (c.in_ok-turn_once.ensures.notes c.loop-less.invariant.turned.wait c.loop-less.invariant.turned.waits));
 }
+
+pub returns-in_err-turn_once-clause-notes : goal.returns-in_err-turn_once-clause-notes
+returns-in_err-turn_once-clause-notes g c =
+    let turned = c.loop-less.invariant.turned in
+    turned_end (delivered_to c.args.items.now c.args.p) c.args.p (g.B.Bench.known c.args.bench.now) (g.B.Bench.known c.loop-less.bench) (g.B.Bench.known c.turn_once.new.bench) c.loop-less.invariant.same turned turned.wait (omega arith) (c.in_err-turn_once.ensures.broken_notes turned.wait turned.waits)
+
+pub returns-in-None-clause-notes : goal.returns-in-None-clause-notes
+returns-in-None-clause-notes g c =
+    let turned = c.loop-less.invariant.turned in
+    turned_end (delivered_to c.args.items.now c.args.p) c.args.p (g.B.Bench.known c.args.bench.now) (g.B.Bench.known c.loop-less.bench) (g.B.Bench.known c.turn_once.new.bench) c.loop-less.invariant.same turned 0 (omega arith) (rw c.in-None.is at (c.in_ok-turn_once.ensures.notes turned.wait turned.waits))

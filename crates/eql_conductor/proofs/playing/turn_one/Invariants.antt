@@ -4,6 +4,7 @@ use Rattle.eql_parts.specs.PartSteps.{Rules}
 use Rattle.eql_conductor.specs.Benches.{LanesRest, Same}
 use Rattle.eql_conductor.specs.Going.{Went}
 use Rattle.eql_conductor.specs.PartRounds.{Turning, WaitAtMost}
+use Rattle.eql_conductor.specs.RoundNotes.{TurnedSome, delivered_to}
 use Rattle.eql_conductor.proofs.playing.turn_one.Given as goal
 
 abbrev pub decreases-loop-less : goal.decreases-loop-less
@@ -16,4 +17,5 @@ invariant-loop-less g l = record {
   same : Same (g.B.Bench.known l.fn.bench) (g.B.Bench.known l.bench);
   lanes : LanesRest (g.B.Bench.known l.fn.bench) (g.B.Bench.known l.bench);
   went : Went (g.B.Bench.known l.fn.bench) (g.B.Bench.known l.bench);
+  turned : TurnedSome (delivered_to l.items l.p) l.p (g.B.Bench.known l.fn.bench) (g.B.Bench.known l.bench);
 }

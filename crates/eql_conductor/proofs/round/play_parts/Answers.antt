@@ -2,6 +2,7 @@ use Rattle.std.proofs.lemmas.Result.{err_from_is_err_and}
 use Rattle.eql_conductor.proofs.Resting.{lanes_on, same_on}
 use Rattle.eql_conductor.proofs.Onward.{rest_goes, stops_on, went_on}
 use Rattle.eql_conductor.proofs.Merged.{found_is, lists_apart, lists_in_order}
+use Rattle.eql_conductor.proofs.PartNotes.{played_one, played_three, played_two}
 use Rattle.eql_conductor.proofs.round.play_parts.Goals as goal
 
 pub turn_all-requires-clause-some : goal.turn_all-requires-clause-some
@@ -59,3 +60,18 @@ returns-in-Ok-clause-lanes g c = lanes_on (g.B.Bench.known c.args.bench.now) (g.
 
 pub returns-in-Err-clause-lanes : goal.returns-in-Err-clause-lanes
 returns-in-Err-clause-lanes g c = lanes_on (g.B.Bench.known c.args.bench.now) (g.B.Bench.known c.turn_all.new.bench) (g.B.Bench.known c.collect_all.new.bench) (same_on (g.B.Bench.known c.args.bench.now) (g.B.Bench.known c.deliver_all.new.bench) (g.B.Bench.known c.turn_all.new.bench) c.deliver_all.ensures.same c.turn_all.ensures.same) (lanes_on (g.B.Bench.known c.args.bench.now) (g.B.Bench.known c.deliver_all.new.bench) (g.B.Bench.known c.turn_all.new.bench) c.deliver_all.ensures.same c.deliver_all.ensures.lanes c.turn_all.ensures.lanes) c.collect_all.ensures.lanes
+
+pub returns-in_err-deliver_all-clause-notes : goal.returns-in_err-deliver_all-clause-notes
+returns-in_err-deliver_all-clause-notes g c = played_one c.args.items.now (g.B.Bench.known c.args.bench.now) (g.B.Bench.known c.deliver_all.new.bench) (g.B.Bench.known c.deliver_all.new.bench) (g.B.Bench.known c.deliver_all.new.bench) c.deliver_all.ensures.notes
+
+pub returns-in_err-turn_all-clause-notes : goal.returns-in_err-turn_all-clause-notes
+returns-in_err-turn_all-clause-notes g c = played_two c.args.items.now (g.B.Bench.known c.args.bench.now) (g.B.Bench.known c.deliver_all.new.bench) (g.B.Bench.known c.turn_all.new.bench) (g.B.Bench.known c.turn_all.new.bench) c.deliver_all.ensures.same c.deliver_all.ensures.notes c.turn_all.ensures.notes
+
+pub returns-in_err-lists-clause-notes : goal.returns-in_err-lists-clause-notes
+returns-in_err-lists-clause-notes g c = played_three c.args.items.now (g.B.Bench.known c.args.bench.now) (g.B.Bench.known c.deliver_all.new.bench) (g.B.Bench.known c.turn_all.new.bench) (g.B.Bench.known c.collect_all.new.bench) c.deliver_all.ensures.same (same_on (g.B.Bench.known c.args.bench.now) (g.B.Bench.known c.deliver_all.new.bench) (g.B.Bench.known c.turn_all.new.bench) c.deliver_all.ensures.same c.turn_all.ensures.same) c.deliver_all.ensures.notes c.turn_all.ensures.notes c.collect_all.ensures.notes
+
+pub returns-in-Ok-clause-notes : goal.returns-in-Ok-clause-notes
+returns-in-Ok-clause-notes g c = played_three c.args.items.now (g.B.Bench.known c.args.bench.now) (g.B.Bench.known c.deliver_all.new.bench) (g.B.Bench.known c.turn_all.new.bench) (g.B.Bench.known c.collect_all.new.bench) c.deliver_all.ensures.same (same_on (g.B.Bench.known c.args.bench.now) (g.B.Bench.known c.deliver_all.new.bench) (g.B.Bench.known c.turn_all.new.bench) c.deliver_all.ensures.same c.turn_all.ensures.same) c.deliver_all.ensures.notes c.turn_all.ensures.notes c.collect_all.ensures.notes
+
+pub returns-in-Err-clause-notes : goal.returns-in-Err-clause-notes
+returns-in-Err-clause-notes g c = played_three c.args.items.now (g.B.Bench.known c.args.bench.now) (g.B.Bench.known c.deliver_all.new.bench) (g.B.Bench.known c.turn_all.new.bench) (g.B.Bench.known c.collect_all.new.bench) c.deliver_all.ensures.same (same_on (g.B.Bench.known c.args.bench.now) (g.B.Bench.known c.deliver_all.new.bench) (g.B.Bench.known c.turn_all.new.bench) c.deliver_all.ensures.same c.turn_all.ensures.same) c.deliver_all.ensures.notes c.turn_all.ensures.notes c.collect_all.ensures.notes

@@ -1,7 +1,11 @@
-use Rattle.std.specs.Prelude.{◌≡◌, ℕ, List, Option, length}
+use Rattle.std.specs.Prelude.{◌≡◌, ◌∷◌, [], ℕ, List, Option, length}
 use Rattle.eql_conductor.specs.Benches.{PartsRest}
+use Rattle.eql_conductor.specs.Bounds.{GaveOutTo}
 use Rattle.eql_conductor.specs.Going.{LanesGo, Went}
 use Rattle.eql_conductor.specs.LaneRounds.{LanesAt, TookTo}
+use Rattle.eql_conductor.specs.Handed.{LanesHand, sizes}
+use Rattle.eql_conductor.specs.declared.note.Note.TheVariants.{Took}
+use Rattle.eql_conductor.specs.RoundNotes.{NotedTo}
 use Rattle.eql_conductor.proofs.taking.take_all.Given as goal
 
 abbrev pub invariant-loop-s : goal.invariant-loop-s
@@ -12,4 +16,7 @@ invariant-loop-s g l = record {
   goes : LanesGo (g.B.Bench.known l.fn.bench) (g.B.Bench.known l.bench);
   parts : PartsRest (g.B.Bench.known l.fn.bench) (g.B.Bench.known l.bench);
   went : Went (g.B.Bench.known l.fn.bench) (g.B.Bench.known l.bench);
+  gave : GaveOutTo l.s l.mark (g.B.Bench.known l.fn.bench) (g.B.Bench.known l.bench);
+  handed : LanesHand (sizes l.lists.items) (g.B.Bench.known l.fn.bench) (g.B.Bench.known l.bench);
+  noted : NotedTo l.s (λ s. Took l.mark ∷ []) (g.B.Bench.known l.fn.bench) (g.B.Bench.known l.bench);
 }

@@ -1,0 +1,553 @@
+-- How a run goes on from round to round, and how it ends.
+use Rattle.std.proofs.Common.{◌≡◌, ◌≢◌, ◌≤◌, ◌<◌, ◌+◌, ◌*◌, ◌^◌, ℕ, suc, ℤ, length, map, Bool, true, false, List, [], ◌∷◌, ◌++◌, Option, None, Some, refl, sym, ap, ◌∙◌, subst, arith, All}
+use Rattle.std.specs.Prelude.{IfErr, IfSome, OnErr, OnOk, Result, Ok, Err}
+use Rattle.std.proofs.lemmas.List.{append-nil, map-append}
+use Rattle.std.proofs.lemmas.List.Elements.{All-append, All-cons, All-nil, All-weaker}
+use Rattle.eql_values.specs.declared.item.Item.{Item}
+use Rattle.eql_values.specs.declared.found.Match.{Match}
+use Rattle.eql_values.specs.declared.found.Holder.{Holder}
+use Rattle.eql_values.specs.declared.order.Mark.{Mark}
+use Rattle.eql_values.specs.declared.order.Mark.TheVariants.{At, End}
+use Rattle.eql_values.specs.Accepted.{Reads}
+use Rattle.eql_values.specs.Marks.{low_of}
+use Rattle.eql_laws.specs.Belows.{between}
+use Rattle.eql_laws.specs.Lateness.{AtMost}
+use Rattle.eql_laws.proofs.MarkLemmas.{at_most_end, at_most_self, at_most_trans}
+use Rattle.eql_lane.specs.declared.ops.LimitOf.TheVariants as limit
+use Rattle.eql_lane.specs.Lanes.{LaneState, Setting, low}
+use Rattle.eql_outside.specs.Moments.{History}
+use Rattle.eql_outside.specs.Written.{WroteAll, WroteFront}
+use Rattle.eql_outside.proofs.WrittenLemmas.{writes_on}
+use Rattle.eql_parts.specs.PartSteps.{Rules}
+use Rattle.eql_book.specs.Books.{BookState, FitsPipes, book_after, held_back}
+use Rattle.eql_book.specs.Listing.{listing}
+use Rattle.eql_cut.specs.declared.cut.Cut.{Cut}
+use Rattle.eql_cut.specs.declared.cut.CutHead.{CutHead}
+use Rattle.eql_ckdisk.specs.Putting.{last_cut}
+use Rattle.eql_conductor.specs.declared.plan.End.{End as Ends}
+use Rattle.eql_conductor.specs.declared.plan.End.TheVariants as end
+use Rattle.eql_conductor.specs.declared.plan.Keep.{Keep}
+use Rattle.eql_conductor.specs.declared.plan.RunPlan.{RunPlan}
+use Rattle.eql_conductor.specs.declared.stop.Stop.{Stop}
+use Rattle.eql_conductor.specs.declared.stop.Stop.TheVariants as stop
+use Rattle.eql_conductor.specs.Benches.{Known, Same}
+use Rattle.eql_conductor.specs.Bounds.{AreSized, RoundsSpent}
+use Rattle.eql_conductor.specs.Going.{LanesGo}
+use Rattle.eql_conductor.specs.LaneRounds.{IsSafe, LanesAt}
+use Rattle.eql_conductor.specs.PartRounds.{Resting, pending_after}
+use Rattle.eql_conductor.specs.Rounds.{GoesTo, OfTexts, RoundRests, RoundStops, StopsOut, found_by}
+use Rattle.eql_conductor.specs.RoundNotes.{RoundBroken, RoundNoted}
+use Rattle.eql_conductor.specs.RunNotes.{CutNoted, Place, RoundPlayed, RoundsBroken, RoundsPlayed, RunNotes, SaveBroken, SaveNoted, cut_after, listed, moved, place, round_count, start}
+use Rattle.eql_conductor.specs.RunBounds.{RunBounded}
+use Rattle.eql_conductor.specs.Running.{Counted, CutGoes, CutStops, IsAtMark, IsTaken, KeepPuts, KeepStands, KeepStops, KeepsOne, Passed, RanAll, RanTo, StepStops, end_by, end_of, time_of}
+use Rattle.eql_conductor.specs.Runs.{cut_time, IsRunCut, KeepGoes, MayKeepIf, MayRun, RanWhole, Ran, RunIs, RunStops, StoppedAt, lines_before_end, lines_by, whole_lines}
+use Rattle.eql_conductor.specs.Saving.{IsSavedAt, NotSaved, Saved}
+use Rattle.eql_conductor.proofs.Bounded.{run_bounded}
+use Rattle.eql_conductor.proofs.BoundsOpenings.{sized_on}
+use Rattle.eql_conductor.proofs.BoundsSpent.{rounds_stay}
+use Rattle.eql_conductor.proofs.Broken.{wrote_none}
+use Rattle.eql_conductor.proofs.DueCuts.{not_due, put_one}
+use Rattle.eql_conductor.proofs.NotedRuns.{broken_in_rounds, cut_self, keep_broke, lanes_in_rounds, round_broke, round_played, rounds_broke, rounds_end, rounds_more, rounds_none}
+use Rattle.eql_conductor.proofs.Causes.{full_by, not_done, out_not_full}
+use Rattle.eql_conductor.proofs.Cutting.{cuts_on, keep_puts_more, keep_puts_none, puts_none, run_put_each, run_puts_on, taken_is}
+use Rattle.eql_conductor.proofs.Goings.{goes_join, goes_rests, goes_self, goes_stays, texts_go}
+use Rattle.eql_conductor.proofs.Joins.{between_joins, between_self, book_joins, found_joins, lines_by_joins}
+use Rattle.eql_conductor.proofs.Numbers.{book_none}
+use Rattle.eql_conductor.proofs.Onward.{lanes_go_on, lanes_go_self}
+use Rattle.eql_conductor.proofs.Resting.{was_lane}
+
+-- ---- lanes
+pub safe_at : (mark : Mark) (b c : Known) → LanesAt None mark b → LanesGo b c → IsSafe mark c
+safe_at mark b c at go = record {
+  each = λ s l. record {
+    low_is = λ y here.
+        let was = was_lane b c s go.same l in
+        let m = go.each s was y here in
+        subst (λ (set : Setting). AtMost mark (low set y)) (sym (go.same.set s was))
+        (at_most_trans mark (low (b.set s) m.0) (low (b.set s) y) (at.each s was m.0 m.1).holds.safe m.2.low_up);
+  };
+}
+
+-- only a closed lane has the end as its low
+closed_low : (closed : Bool) (slack best : Option ℤ) → AtMost End (low_of closed slack best) → closed ≡ true
+closed_low true slack best h = refl
+closed_low false (Some slack) (Some best) h = cc
+closed_low false (Some slack) None h = cc
+closed_low false None best h = cc
+
+pub all_closed : (b : Known) → LanesAt None End b → (s : ℕ) → s < b.lanes → (x : LaneState) → b.lane s x → x.cut.closed ≡ true
+all_closed b at s l x here = closed_low x.cut.closed (b.set s).slack x.cut.best (at.each s l x here).holds.safe
+
+-- ---- lines
+module _ (mark : Mark) (book : BookState) (part rest : List Match) (before mid now : Option (List ℕ)) where
+  pub front_longer : WroteFront (lines_before_end book part) before now → WroteFront (lines_by mark book (part ++ rest)) before now
+  front_longer h =
+      subst (λ (bytes : List ℕ). WroteFront bytes before now) (sym (lines_by_joins book part rest mark))
+      (writes_on.longer (lines_before_end book part) (lines_by mark (book_after book part) rest) before now h)
+
+  pub front_goes : WroteAll (lines_before_end book part) before mid → WroteFront (lines_by mark (book_after book part) rest) mid now → WroteFront (lines_by mark book (part ++ rest)) before now
+  front_goes h k =
+      subst (λ (bytes : List ℕ). WroteFront bytes before now) (sym (lines_by_joins book part rest mark))
+      (writes_on.front (lines_before_end book part) (lines_by mark (book_after book part) rest) before mid now h k)
+
+-- the matches from a mark to the end, of which those up to another were found
+module _ (reads : Reads) (slack : Option ℤ) (texts : List (List ℕ)) (rules : Rules) (all : List Holder) (from to last : Mark) (items : List Item)
+    (later : AtMost from to) (on : AtMost to last) (told : items ≡ between reads slack texts from to) where
+  pub found_on : found_by rules all items ++ found_by rules (pending_after rules all items) (between reads slack texts to last) ≡ found_by rules all (between reads slack texts from last)
+  found_on =
+      sym (found_joins rules all items (between reads slack texts to last))
+      ∙ ap (λ (first : List Item). found_by rules all (first ++ between reads slack texts to last)) told
+      ∙ ap (found_by rules all) (sym (between_joins reads slack texts from to last later on))
+
+-- ---- a round that stopped
+module _ (last : Mark) (b c : Known) (book then : BookState) (before now : Option (List ℕ))
+    (at : IsAtMark last b book) (go : LanesGo b c) (fits : FitsPipes book.pipes book.kept) (h : RoundStops last b book then before now) where
+  stopped_round : (reads : Reads) (slack : Option ℤ) (texts : List (List ℕ)) (rules : Rules) (all : List Holder) → OfTexts reads slack texts last b → Resting rules all last b
+      → StoppedAt rules all reads slack texts last last book then before now
+  stopped_round reads slack texts rules all of was =
+      let first : List Item = between reads slack texts last h.mark in
+      let part : List Match = found_by rules all first in
+      let rest : List Match = found_by rules (pending_after rules all first) (between reads slack texts h.mark End) in record {
+        front = subst (λ (found : List Match). WroteFront (lines_by last book found) before now)
+            (found_on reads slack texts rules all last h.mark End first h.later (at_most_end h.mark) refl)
+            (front_longer last book part rest before now now (h.breaks.told reads slack texts rules all of was));
+        given = λ e. h.breaks.whole e ∙ sym (ap (λ (items : List Item). book_after book (found_by rules all items)) (between_self reads slack texts last) ∙ book_none book fits);
+      }
+
+  pub round_run_stops : RunStops last b c book then before now []
+  round_run_stops = record {
+    mark = last;
+    later = at_most_self last;
+    safe = safe_at last b c at.lanes go;
+    after_cuts = All-nil (λ (cut : Cut). AtMost (At cut.mark) last);
+    told = stopped_round;
+  }
+
+-- ---- a round that counted, and a cut that stopped
+module _ (last mark : Mark) (a b c : Known) (book then : BookState) (before now : Option (List ℕ)) (cuts : List Cut)
+    (at : LanesAt None last a) (go : LanesGo b c) (goes : GoesTo last mark a b book then before now) (after_cuts : All (λ (cut : Cut). AtMost (At cut.mark) mark) cuts) where
+  stopped_cut : (reads : Reads) (slack : Option ℤ) (texts : List (List ℕ)) (rules : Rules) (all : List Holder) → OfTexts reads slack texts last a → Resting rules all last a
+      → StoppedAt rules all reads slack texts last mark book then before now
+  stopped_cut reads slack texts rules all of was =
+      let played = goes.played rules all was in
+      let told = goes.told reads slack texts of in
+      let part : List Match = found_by rules all goes.items in
+      let rest : List Match = found_by rules (pending_after rules all goes.items) (between reads slack texts mark End) in record {
+        front = subst (λ (found : List Match). WroteFront (lines_by mark book found) before now)
+            (found_on reads slack texts rules all last mark End goes.items goes.later (at_most_end mark) told)
+            (front_goes mark book part rest before now now played.gave.wrote (wrote_none (lines_by mark (book_after book part) rest) now));
+        given = λ e. played.gave.book_is ∙ ap (λ (items : List Item). book_after book (found_by rules all items)) told;
+      }
+
+  pub cut_run_stops : RunStops last a c book then before now cuts
+  cut_run_stops = record {
+    mark = mark;
+    later = goes.later;
+    safe = safe_at mark b c (goes.lanes None at) go;
+    after_cuts = after_cuts;
+    told = stopped_cut;
+  }
+
+-- ---- a run that was stopped, after rounds
+module _ (from later : Mark) (a b c : Known) (book mid then : BookState) (before between_them now : Option (List ℕ)) (cuts more : List Cut)
+    (same : Same a b) (goes : GoesTo from later a b book mid before between_them) (at_most : All (λ (cut : Cut). AtMost (At cut.mark) later) cuts)
+    (h : RunStops later b c mid then between_them now more) where
+  stopped_on : (reads : Reads) (slack : Option ℤ) (texts : List (List ℕ)) (rules : Rules) (all : List Holder) → OfTexts reads slack texts from a → Resting rules all from a
+      → StoppedAt rules all reads slack texts from h.mark book then before now
+  stopped_on reads slack texts rules all of was =
+      let played = goes.played rules all was in
+      let told = goes.told reads slack texts of in
+      let pending : List Holder = pending_after rules all goes.items in
+      let part : List Match = found_by rules all goes.items in
+      let k = h.told reads slack texts rules pending (texts_go reads slack texts from later a b same goes.lanes of) played.parts in
+      let rest : List Match = found_by rules pending (between reads slack texts later End) in
+      let given : List Match = found_by rules pending (between reads slack texts later h.mark) in record {
+        front = subst (λ (found : List Match). WroteFront (lines_by h.mark book found) before now)
+            (found_on reads slack texts rules all from later End goes.items goes.later (at_most_end later) told)
+            (front_goes h.mark book part rest before between_them now played.gave.wrote
+            (subst (λ (m : BookState). WroteFront (lines_by h.mark m rest) between_them now) played.gave.book_is k.front));
+        given = λ e. k.given e ∙ ap (λ (m : BookState). book_after m given) played.gave.book_is ∙ sym (book_joins book part given)
+            ∙ ap (book_after book) (found_on reads slack texts rules all from later h.mark goes.items goes.later h.later told);
+      }
+
+  pub run_stops_on : RunStops from a c book then before now (cuts ++ more)
+  run_stops_on = record {
+    mark = h.mark;
+    later = at_most_trans from later h.mark goes.later h.later;
+    safe = h.safe;
+    after_cuts = All-append (λ (cut : Cut). AtMost (At cut.mark) h.mark) cuts more
+        (All-weaker (λ (cut : Cut). AtMost (At cut.mark) later) (λ (cut : Cut). AtMost (At cut.mark) h.mark) (λ cut le. at_most_trans (At cut.mark) later h.mark le h.later) cuts at_most)
+        h.after_cuts;
+    told = stopped_on;
+  }
+
+-- ---- a run that came to the end
+module _ (from : Mark) (a b : Known) (book mid then : BookState) (before between_them now : Option (List ℕ)) (cuts : List Cut)
+    (at : IsAtMark from a book) (goes : GoesTo from End a b book mid before between_them) where
+  module _ (still : then ≡ mid) (whole : mid.whole ≡ true) (wrote : WroteAll (listing mid.places (held_back mid)) between_them now) where
+    wrote_to_end : (reads : Reads) (slack : Option ℤ) (texts : List (List ℕ)) (rules : Rules) (all : List Holder) → OfTexts reads slack texts from a → Resting rules all from a
+        → WroteAll (whole_lines book (found_by rules all (between reads slack texts from End))) before now
+    wrote_to_end reads slack texts rules all of was =
+        let played = goes.played rules all was in
+        let found : List Match = found_by rules all goes.items in
+        subst (λ (items : List Item). WroteAll (whole_lines book (found_by rules all items)) before now) (goes.told reads slack texts of)
+        (writes_on.all (lines_before_end book found) (listing book.places (held_back (book_after book found))) before between_them now played.gave.wrote
+        (subst (λ (m : BookState). WroteAll (listing m.places (held_back m)) between_them now) played.gave.book_is wrote))
+
+    pub ran_whole : RanWhole from a b book then before now
+    ran_whole = record { closed = all_closed b (goes.lanes None at.lanes); lanes = goes.lanes; whole = ap (λ (m : BookState). m.whole) still ∙ whole; told = wrote_to_end }
+
+  -- or stopped there, as it ended the book
+  module _ (spoilt : then.whole ≡ false) (wrote : WroteFront (listing mid.places (held_back mid)) between_them now)
+      (at_most : All (λ (cut : Cut). AtMost (At cut.mark) End) cuts) (go : LanesGo b b) where
+    stopped_end : (reads : Reads) (slack : Option ℤ) (texts : List (List ℕ)) (rules : Rules) (all : List Holder) → OfTexts reads slack texts from a → Resting rules all from a
+        → StoppedAt rules all reads slack texts from End book then before now
+    stopped_end reads slack texts rules all of was =
+        let played = goes.played rules all was in
+        let found : List Match = found_by rules all goes.items in record {
+          front = subst (λ (items : List Item). WroteFront (whole_lines book (found_by rules all items)) before now) (goes.told reads slack texts of)
+              (writes_on.front (lines_before_end book found) (listing book.places (held_back (book_after book found))) before between_them now played.gave.wrote
+              (subst (λ (m : BookState). WroteFront (listing m.places (held_back m)) between_them now) played.gave.book_is wrote));
+          given = λ e. absurd (let k = sym spoilt ∙ e in cc);
+        }
+
+    pub end_run_stops : RunStops from a b book then before now cuts
+    end_run_stops = record { mark = End; later = goes.later; safe = safe_at End b b (goes.lanes None at.lanes) go; after_cuts = at_most; told = stopped_end }
+
+-- ---- by how it was stopped
+run_is : (by : Stop) (from : Mark) (a c : Known) (book then : BookState) (before now : Option (List ℕ)) (cuts : List Cut) → RunStops from a c book then before now cuts
+    → RunIs from a c book then before now cuts (end_by by)
+run_is (stop.Read s) from a c book then before now cuts h = h
+run_is stop.Write from a c book then before now cuts h = h
+run_is stop.Disk from a c book then before now cuts h = h
+run_is stop.Memory from a c book then before now cuts h = h
+run_is (stop.Limit of) from a c book then before now cuts h = h
+
+is_stopped : (by : Stop) (from : Mark) (a c : Known) (book then : BookState) (before now : Option (List ℕ)) (cuts : List Cut) → RunIs from a c book then before now cuts (end_by by)
+    → RunStops from a c book then before now cuts
+is_stopped (stop.Read s) from a c book then before now cuts h = h
+is_stopped stop.Write from a c book then before now cuts h = h
+is_stopped stop.Disk from a c book then before now cuts h = h
+is_stopped stop.Memory from a c book then before now cuts h = h
+is_stopped (stop.Limit of) from a c book then before now cuts h = h
+
+was_saved : (head : CutHead) (time : ℤ) (b : Known) (book : BookState) (cut : Cut) → IsSavedAt head time b book cut → IsTaken head (At time) b book cut
+was_saved head time b book cut is = record { mark_is = ap At (sym is.mark_is); saved = subst (λ (t : ℤ). IsSavedAt head t b book cut) (sym is.mark_is) is }
+
+module _ {D : Type 0} (history : D → Option History) (count : D → ℕ) where
+  -- ---- cuts
+  keeps_none : (head : CutHead) (from : Mark) (a : Known) (book : BookState) (answer : Ends) (keep : Option (Keep D)) → answer ≢ end.Done → answer ≢ end.Limit limit.Generation
+      → KeepGoes history count head from a book [] answer keep keep
+  keeps_none head from a book answer None apart other = (refl, other)
+  keeps_none head from a book answer (Some k) apart other = record {
+    are_cuts = All-nil (IsRunCut head from a book);
+    puts = puts_none (last_cut k.state) (history k.disk);
+    state_is = λ e. absurd (apart e);
+    holds = λ e. absurd (apart e);
+    generation_from = omega arith;
+    generation_to = omega arith;
+    full = λ e. absurd (other e);
+  }
+
+  keeps_stopped : (head : CutHead) (from : Mark) (a : Known) (book : BookState) (by : Stop) (cuts : List Cut) (keep kept : Option (Keep D)) → All (IsRunCut head from a book) cuts
+      → KeepStops history count by cuts keep kept → KeepGoes history count head from a book cuts (end_by by) keep kept
+  keeps_stopped head from a book by cuts None kept are h = absurd h
+  keeps_stopped head from a book by cuts (Some k) None are h = absurd h
+  keeps_stopped head from a book by cuts (Some k) (Some l) are h = record {
+    are_cuts = are;
+    puts = h.puts;
+    state_is = λ e. absurd (not_done by e);
+    holds = λ e. absurd (not_done by e);
+    generation_from = let e = ap (λ last. last.generation) h.state_is in omega (arith, e);
+    generation_to = let e = ap (λ last. last.generation) h.state_is in omega (arith, e);
+    full = λ e. h.full (full_by by e);
+  }
+
+  keeps_done : (head : CutHead) (from : Mark) (a : Known) (book : BookState) (cuts : List Cut) (keep kept : Option (Keep D)) → All (IsRunCut head from a book) cuts
+      → KeepPuts history count cuts keep kept → KeepGoes history count head from a book cuts end.Done keep kept
+  keeps_done head from a book cuts None None are h = (h, λ e. absurd (let k = e in cc))
+  keeps_done head from a book cuts None (Some l) are h = absurd h
+  keeps_done head from a book cuts (Some k) None are h = absurd h
+  keeps_done head from a book cuts (Some k) (Some l) are h = run_put_each k.state l.state l.state (history k.disk) (history l.disk) (history l.disk) cuts h head from a book are
+
+  keeps_on : (head : CutHead) (from later : Mark) (a b : Known) (book after : BookState) (cuts more : List Cut) (answer : Ends) (keep mid kept : Option (Keep D)) → answer ≢ end.Done
+      → All (IsRunCut head from a book) cuts → All (IsRunCut head from a book) more → KeepPuts history count cuts keep mid
+      → KeepGoes history count head later b after more answer mid kept → KeepGoes history count head from a book (cuts ++ more) answer keep kept
+  keeps_on head from later a b book after cuts more answer None None None apart are also h k = ((λ i. h i ++ k.0 i), k.1)
+  keeps_on head from later a b book after cuts more answer None None (Some l) apart are also h k = absurd k
+  keeps_on head from later a b book after cuts more answer None (Some m) kept apart are also h k = absurd h
+  keeps_on head from later a b book after cuts more answer (Some o) None kept apart are also h k = absurd h
+  keeps_on head from later a b book after cuts more answer (Some o) (Some m) None apart are also h k = absurd k
+  keeps_on head from later a b book after cuts more answer (Some o) (Some m) (Some l) apart are also h k =
+      run_puts_on o.state m.state l.state (history o.disk) (history m.disk) (history l.disk) cuts h head from later a b book after more answer apart are also k
+
+  more_are : (head : CutHead) (later : Mark) (b : Known) (after : BookState) (more : List Cut) (answer : Ends) (mid kept : Option (Keep D))
+      → KeepGoes history count head later b after more answer mid kept → All (IsRunCut head later b after) more
+  more_are head later b after more answer None None k = subst (All (IsRunCut head later b after)) (sym k.0) (All-nil (IsRunCut head later b after))
+  more_are head later b after more answer None (Some l) k = absurd k
+  more_are head later b after more answer (Some m) None k = absurd k
+  more_are head later b after more answer (Some m) (Some l) k = k.are_cuts
+
+  -- ---- a cut that was put, or wasn't
+  pub saved_goes : {X : Type 0} (r : Result X Stop) (head : CutHead) (time : ℤ) (b c : Known) (book : BookState) (k l : Keep D)
+      → ((texts : Option (List (List ℕ))) → LanesAt texts (At time) b → OnOk r (LanesAt texts (At time) c))
+      → ((rules : Rules) (all : List Holder) → Resting rules all (At time) b → OnOk r (Resting rules all (At time) c))
+      → OnOk r (Saved head time b book k.state l.state (history k.disk) (history l.disk)) → OnOk r (SaveNoted b c)
+      → OnOk r (CutGoes history count head (At time) (Some time) b c book (Some k) (Some l))
+  saved_goes (Err by) head time b c book k l lanes parts h noted = tt
+  saved_goes (Ok x) head time b c book k l lanes parts h noted = record {
+    lanes = lanes;
+    parts = parts;
+    cut = Some h.cut;
+    is = was_saved head time b book h.cut h.is_saved;
+    keeps = record { puts = h.puts; state_is = h.state_is; holds = h.holds; stands = h.stands };
+    time_is = ap Some h.is_saved.mark_is;
+    noted = record { lanes = noted.lanes; parts = noted.parts };
+  }
+
+  pub saved_stops : {X : Type 0} (r : Result X Stop) (head : CutHead) (time : ℤ) (b c : Known) (book : BookState) (k l : Keep D)
+      → OnErr r (NotSaved head time b book k.state l.state (history k.disk) (history l.disk))
+      → (r ≡ Err (stop.Limit limit.Generation) → (last_cut l.state).generation ≡ 2 ^ 63) → OnErr r (SaveBroken b c)
+      → IfErr r (CutStops history count head (At time) (Some time) b c book (Some k) (Some l))
+  saved_stops (Ok x) head time b c book k l h full noted = tt
+  saved_stops (Err by) head time b c book k l h full noted = record {
+    cuts = h.cuts;
+    are = All-weaker (IsSavedAt head time b book) (IsTaken head (At time) b book) (was_saved head time b book) h.cuts h.are_saved;
+    one = h.one;
+    keeps = record { puts = h.puts; state_is = h.state_is; full = λ e. full (ap Err e) };
+    time = time;
+    time_is = refl;
+    noted = noted;
+  }
+
+  -- none was due
+  pub none_goes : (head : CutHead) (mark : Mark) (due : Option ℤ) (b : Known) (book : BookState) (keep : Option (Keep D)) → None ≡ due → CutGoes history count head mark due b b book keep keep
+  none_goes head mark due b book keep e = record {
+    lanes = λ texts at. at;
+    parts = λ rules all rest. rest;
+    cut = None;
+    is = tt;
+    keeps = refl;
+    time_is = e;
+    noted = subst (λ (t : Option ℤ). CutNoted t b b) e (cut_self b);
+  }
+
+  -- ---- one step
+  module _ (plan : RunPlan) (at : Place) (b c : Known) (book then : BookState) (before now : Option (List ℕ)) (keep : Option (Keep D)) (go : LanesGo b c) where
+    -- a round stopped
+    pub round_stopped : (by : Stop) → IsAtMark at.mark b book → FitsPipes book.pipes book.kept → RoundStops at.mark b book then before now → RoundBroken at.mark plan.batch b c
+        → end_by by ≢ end.Limit limit.Generation → StepStops history count plan at b c book then before now keep keep by
+    round_stopped by is fits h broken other = record {
+      ran = record {
+        cuts = [];
+        is = run_is by at.mark b c book then before now [] (round_run_stops at.mark b c book then before now is go fits h);
+        keeps = keeps_none plan.head at.mark b book (end_by by) keep (not_done by) other;
+      };
+      noted = round_broke plan.batch plan.every at b c broken;
+    }
+
+    -- it didn't count
+    pub passed : RoundRests at.mark b c book then before now → RoundNoted at.mark plan.batch b c None → Passed history count plan at b c book then before now keep keep
+    passed rests noted = record {
+      rests = rests;
+      keeps = refl;
+      noted = round_played plan.batch plan.every at b c None noted c go.same None (sym (not_due plan.every at.counts)) (cut_self c);
+    }
+
+  module _ (plan : RunPlan) (at : Place) (mark : Mark) (a b c : Known) (book then : BookState) (before now : Option (List ℕ)) (keep kept : Option (Keep D))
+      (is_at : IsAtMark at.mark a book) (same : Same a b) (goes : GoesTo at.mark mark a b book then before now) (noted : RoundNoted at.mark plan.batch a b (Some mark))
+      (n : ℕ) (next : n ≡ suc at.counts) where
+    one_is : (cut : Cut) → IsTaken plan.head mark b then cut → IsRunCut plan.head at.mark a book cut
+    one_is cut taken = taken_is plan.head at.mark mark a b book then before now cut same goes taken
+
+    due_is : cut_after plan.every n (Some mark) ≡ cut_after plan.every (suc at.counts) (Some mark)
+    due_is = ap (λ (k : ℕ). cut_after plan.every k (Some mark)) next
+
+    -- it counted, and a cut was kept where one was due
+    pub counted : CutGoes history count plan.head mark (cut_after plan.every n (Some mark)) b c then keep kept → Counted history count plan at mark a c book then before now keep kept
+    counted h = record {
+      goes = goes_stays at.mark mark a b c book then before now h.lanes h.parts goes;
+      cut = h.cut;
+      is = one_of h.cut h.is;
+      keeps = h.keeps;
+      noted = round_played plan.batch plan.every at a b (Some mark) noted c same (time_of h.cut) (h.time_is ∙ due_is) (subst (λ (t : Option ℤ). CutNoted t b c) (sym h.time_is) h.noted);
+    }
+      where
+        one_of : (cut : Option Cut) → IfSome cut (IsTaken plan.head mark b then) → IfSome cut (λ c. (mark ≡ At c.mark) × IsRunCut plan.head at.mark a book c)
+        one_of None h = tt
+        one_of (Some cut) h = (h.mark_is, one_is cut h)
+
+    -- it counted, and a cut stopped
+    pub cut_stopped : (by : Stop) → LanesGo b c → CutStops history count plan.head mark (cut_after plan.every n (Some mark)) b c then keep kept by
+        → StepStops history count plan at a c book then before now keep kept by
+    cut_stopped by go h = record {
+      ran = record {
+        cuts = h.cuts;
+        is = run_is by at.mark a c book then before now h.cuts (cut_run_stops at.mark mark a b c book then before now h.cuts is_at.lanes go goes
+            (All-weaker (IsTaken plan.head mark b then) (λ (cut : Cut). AtMost (At cut.mark) mark) (λ cut taken. subst (λ (m : Mark). AtMost m mark) taken.mark_is (at_most_self mark)) h.cuts h.are));
+        keeps = keeps_stopped plan.head at.mark a book by h.cuts keep kept (All-weaker (IsTaken plan.head mark b then) (IsRunCut plan.head at.mark a book) one_is h.cuts h.are) h.keeps;
+      };
+      noted = keep_broke plan.batch plan.every at a b (Some mark) noted c same h.time (sym due_is ∙ h.time_is) (map cut_time h.cuts)
+          (put_one plan.head mark b then plan.every n h.time h.time_is h.cuts h.are h.one) h.noted;
+    }
+
+  -- ---- step by step
+  pub ran_none : (plan : RunPlan) (a : Known) (book : BookState) (w : Option (List ℕ)) (keep : Option (Keep D)) → FitsPipes book.pipes book.kept → KeepStands history count plan a keep
+      → RanTo history count plan (start plan) 0 a a book book w w keep keep
+  ran_none plan a book w keep fits stands = let none = rounds_none plan.batch plan.every (start plan) a in record {
+    goes = goes_self plan.mark a book w fits;
+    cuts = [];
+    are_cuts = All-nil (IsRunCut plan.head plan.mark a book);
+    at_most = All-nil (λ (cut : Cut). AtMost (At cut.mark) plan.mark);
+    puts = keep_puts_none history count plan a keep stands;
+    noted = none.0;
+    rounds = none.1;
+  }
+
+  -- the notes of rounds, with the times of cuts and a number of rounds
+  abbrev PlayedTo : RunPlan → Place → (a c : Known) → ℕ → List ℤ → Type 0
+  PlayedTo plan to a c n times = (k : RoundsPlayed plan.batch plan.every (start plan) to times a c) × (length k.rounds ≡ n)
+
+  abbrev BrokenAt : RunPlan → (a c : Known) → ℕ → List ℤ → Type 0
+  BrokenAt plan a c n times = (k : RoundsBroken plan.batch plan.every (start plan) times a c) × (length k.rounds ≡ n)
+
+  stopped_with : (by : Stop) (plan : RunPlan) (times : List ℤ) (a c : Known) (k : RoundsBroken plan.batch plan.every (start plan) times a c) → RunBounded (suc (length k.rounds)) a c
+      → (notes : RunNotes plan times a c (end_by by)) × RunBounded (round_count plan times a c (end_by by) notes) a c
+  stopped_with (stop.Read s) plan times a c k h = (k, h)
+  stopped_with stop.Write plan times a c k h = (k, h)
+  stopped_with stop.Disk plan times a c k h = (k, h)
+  stopped_with stop.Memory plan times a c k h = (k, h)
+  stopped_with (stop.Limit of) plan times a c k h = (k, h)
+
+  module _ (plan : RunPlan) (at : Place) (n : ℕ) (a b c : Known) (book mid then : BookState) (before between_them now : Option (List ℕ)) (keep kept_mid kept : Option (Keep D))
+      (same : Same a b) (h : RanTo history count plan at n a b book mid before between_them keep kept_mid) where
+    abbrev times : List ℤ
+    times = map cut_time h.cuts
+
+    more_rounds : (time : Option ℤ) (answer : Option Mark) (all : List ℤ) → times ++ listed time ≡ all → RoundPlayed plan.batch plan.every at time b c answer
+        → PlayedTo plan (moved at answer) a c (n + 1) all
+    more_rounds time answer all e noted =
+        let k = rounds_more plan.batch plan.every (start plan) at times a b same h.noted c time answer noted in
+        subst (PlayedTo plan (moved at answer) a c (n + 1)) e (k.0, k.1 ∙ ap (λ (m : ℕ). m + 1) h.rounds)
+
+    pub ran_rests : Passed history count plan at b c mid then between_them now kept_mid kept → RanTo history count plan at (n + 1) a c book then before now keep kept
+    ran_rests passed = let k = more_rounds None None times (append-nil times) passed.noted in record {
+      goes = goes_rests plan.mark at.mark a b c book mid then before between_them now h.goes passed.rests;
+      cuts = h.cuts;
+      are_cuts = h.are_cuts;
+      at_most = h.at_most;
+      puts = subst (KeepPuts history count h.cuts keep) (sym passed.keeps) h.puts;
+      noted = k.0;
+      rounds = k.1;
+    }
+
+    ran_one : (mark : Mark) (goes : GoesTo at.mark mark b c mid then between_them now) (cut : Option Cut) → IfSome cut (λ c. (mark ≡ At c.mark) × IsRunCut plan.head at.mark b mid c)
+        → KeepsOne history count cut kept_mid kept → RoundPlayed plan.batch plan.every at (time_of cut) b c (Some mark)
+        → RanTo history count plan (moved at (Some mark)) (n + 1) a c book then before now keep kept
+    ran_one mark goes None is keeps noted = let k = more_rounds None (Some mark) times (append-nil times) noted in record {
+      goes = goes_join plan.mark at.mark mark a b c book mid then before between_them now same h.goes goes;
+      cuts = h.cuts;
+      are_cuts = h.are_cuts;
+      at_most = All-weaker (λ (cut : Cut). AtMost (At cut.mark) at.mark) (λ (cut : Cut). AtMost (At cut.mark) mark) (λ cut le. at_most_trans (At cut.mark) at.mark mark le goes.later) h.cuts h.at_most;
+      puts = subst (KeepPuts history count h.cuts keep) (sym keeps) h.puts;
+      noted = k.0;
+      rounds = k.1;
+    }
+    ran_one mark goes (Some cut) is keeps noted =
+        let k = more_rounds (Some cut.mark) (Some mark) (map cut_time (h.cuts ++ cut ∷ [])) (sym (map-append cut_time h.cuts (cut ∷ []))) noted in record {
+          goes = goes_join plan.mark at.mark mark a b c book mid then before between_them now same h.goes goes;
+          cuts = h.cuts ++ cut ∷ [];
+          are_cuts = All-append (IsRunCut plan.head plan.mark a book) h.cuts (cut ∷ []) h.are_cuts
+              (cuts_on plan.head plan.mark at.mark a b book mid before between_them same h.goes (cut ∷ []) (All-cons (IsRunCut plan.head at.mark b mid) cut [] is.1 (All-nil (IsRunCut plan.head at.mark b mid))));
+          at_most = All-append (λ (cut : Cut). AtMost (At cut.mark) mark) h.cuts (cut ∷ [])
+              (All-weaker (λ (cut : Cut). AtMost (At cut.mark) at.mark) (λ (cut : Cut). AtMost (At cut.mark) mark) (λ cut le. at_most_trans (At cut.mark) at.mark mark le goes.later) h.cuts h.at_most)
+              (All-cons (λ (cut : Cut). AtMost (At cut.mark) mark) cut [] (subst (λ (m : Mark). AtMost m mark) is.0 (at_most_self mark)) (All-nil (λ (cut : Cut). AtMost (At cut.mark) mark)));
+          puts = keep_puts_more history count h.cuts cut keep kept_mid kept h.puts keeps;
+          noted = k.0;
+          rounds = k.1;
+        }
+
+    pub ran_counted : (mark : Mark) (counts : ℕ) → counts ≡ suc at.counts → Counted history count plan at mark b c mid then between_them now kept_mid kept
+        → RanTo history count plan (place mark counts) (n + 1) a c book then before now keep kept
+    ran_counted mark counts e k =
+        subst (λ (m : ℕ). RanTo history count plan (place mark m) (n + 1) a c book then before now keep kept) (sym e) (ran_one mark k.goes k.cut k.is k.keeps k.noted)
+
+    -- a step stopped
+    module _ (spent : RoundsSpent n a b) (sized : AreSized a) (go : LanesGo a b) (on : LanesGo b c) where
+      broken_bound : (times : List ℤ) (k : RoundsBroken plan.batch plan.every (start plan) times a c) → length k.rounds ≡ n → RunBounded (suc (length k.rounds)) a c
+      broken_bound times k e =
+          let both = lanes_go_on a b c go on in
+          run_bounded (suc (length k.rounds)) n (4 * suc (length k.rounds)) a c (omega (arith, e)) both.same (rounds_stay n a b c same on spent) (sized_on a c both sized) k.parts
+          (broken_in_rounds plan.batch plan.every (start plan) times a c k) k.in_rounds
+
+      pub ran_stops : (by : Stop) → StepStops history count plan at b c mid then between_them now kept_mid kept by → Ran history count plan a c book then before now keep kept (end_by by)
+      ran_stops by k =
+          let more : List Cut = k.ran.cuts in
+          let all : List ℤ = map cut_time (h.cuts ++ more) in
+          let broke = rounds_broke plan.batch plan.every (start plan) at times a b same h.noted c (map cut_time more) k.noted in
+          let broken : BrokenAt plan a c n all = subst (BrokenAt plan a c n) (sym (map-append cut_time h.cuts more)) (broke.0, broke.1 ∙ h.rounds) in
+          let notes = stopped_with by plan all a c broken.0 (broken_bound all broken.0 broken.1) in record {
+            cuts = h.cuts ++ more;
+            is = run_is by plan.mark a c book then before now (h.cuts ++ more)
+                (run_stops_on plan.mark at.mark a b c book mid then before between_them now h.cuts more same h.goes h.at_most (is_stopped by at.mark b c mid then between_them now more k.ran.is));
+            keeps = keeps_on plan.head plan.mark at.mark a b book mid h.cuts more (end_by by) keep kept_mid kept (not_done by) h.are_cuts
+                (cuts_on plan.head plan.mark at.mark a b book mid before between_them same h.goes more (more_are plan.head at.mark b mid more (end_by by) kept_mid kept k.ran.keeps)) h.puts k.ran.keeps;
+            notes = notes.0;
+            bound = notes.1;
+          }
+
+  -- ---- the end
+  module _ (plan : RunPlan) (a b : Known) (book mid then : BookState) (before between_them now : Option (List ℕ)) (keep kept : Option (Keep D))
+      (at : IsAtMark plan.mark a book) (sized : AreSized a) (go : LanesGo a b) (all : RanAll history count plan a b book mid before between_them keep kept) where
+    abbrev h : RanTo history count plan (place End all.counts) (all.n + 1) a b book mid before between_them keep kept
+    h = all.ran
+
+    pub ran_done : then ≡ mid → mid.whole ≡ true → WroteAll (listing mid.places (held_back mid)) between_them now → Ran history count plan a b book then before now keep kept end.Done
+    ran_done still whole wrote = record {
+      cuts = h.cuts;
+      is = ran_whole plan.mark a b book mid then before between_them now h.cuts at h.goes still whole wrote;
+      keeps = keeps_done plan.head plan.mark a book h.cuts keep kept h.are_cuts h.puts;
+      notes = record { to = place End all.counts; ended = refl; played = h.noted };
+      bound = run_bounded (length h.noted.rounds) all.n (4 * length h.noted.rounds) a b (let e = h.rounds in omega (arith, e)) go.same all.spent (sized_on a b go sized) h.noted.parts
+          (lanes_in_rounds plan.batch plan.every (start plan) (place End all.counts) (map cut_time h.cuts) a b h.noted) h.noted.in_rounds;
+    }
+
+    pub ran_end_stops : (by : Stop) → then.whole ≡ false → WroteFront (listing mid.places (held_back mid)) between_them now → end_by by ≢ end.Limit limit.Generation
+        → Ran history count plan a b book then before now keep kept (end_by by)
+    ran_end_stops by spoilt wrote other =
+        let times : List ℤ = map cut_time (h.cuts ++ []) in
+        let ended = rounds_end plan.batch plan.every (start plan) (place End all.counts) (map cut_time h.cuts) a b go.same h.noted in
+        let broken : BrokenAt plan a b (all.n + 1) times = subst (BrokenAt plan a b (all.n + 1)) (sym (map-append cut_time h.cuts [])) (ended.0, ended.1 ∙ h.rounds) in
+        let k = broken.0 in
+        let e = broken.1 in
+        let bound : RunBounded (suc (length k.rounds)) a b =
+        run_bounded (suc (length k.rounds)) all.n (4 * suc (length k.rounds)) a b (omega (arith, e)) go.same all.spent (sized_on a b go sized) k.parts
+        (broken_in_rounds plan.batch plan.every (start plan) times a b k) k.in_rounds in
+        let notes = stopped_with by plan times a b k bound in record {
+          cuts = h.cuts ++ [];
+          is = run_is by plan.mark a b book then before now (h.cuts ++ []) (end_run_stops plan.mark a b book mid then before between_them now (h.cuts ++ []) at h.goes spoilt wrote
+              (All-append (λ (cut : Cut). AtMost (At cut.mark) End) h.cuts [] h.at_most (All-nil (λ (cut : Cut). AtMost (At cut.mark) End))) (lanes_go_self b));
+          keeps = keeps_on plan.head plan.mark End a b book mid h.cuts [] (end_by by) keep kept kept (not_done by) h.are_cuts (All-nil (IsRunCut plan.head plan.mark a book)) h.puts
+              (keeps_none plan.head End b mid (end_by by) kept (not_done by) other);
+          notes = notes.0;
+          bound = notes.1;
+        }
+
+    -- as the book was ended or not
+    pub book_ended : {X : Type 0} (r : Result X Stop) → mid.whole ≡ true → OnOk r (then ≡ mid) → OnOk r (WroteAll (listing mid.places (held_back mid)) between_them now)
+        → OnErr r (then.whole ≡ false) → OnErr r (WroteFront (listing mid.places (held_back mid)) between_them now) → IfErr r StopsOut
+        → Ran history count plan a b book then before now keep kept (end_of r)
+    book_ended (Ok x) whole still wrote spoilt front out = ran_done still whole wrote
+    book_ended (Err by) whole still wrote spoilt front out = ran_end_stops by spoilt front (out_not_full by out)
+
+  -- ---- by its plan
+  pub may_start : (plan : RunPlan) (a : Known) (book : BookState) → MayRun plan a book → IsAtMark plan.mark a book
+  may_start plan a book may = record { lanes = may.lanes; parts = may.parts; whole = may.whole; numbers = may.numbers }
+
+  pub may_keep : (plan : RunPlan) (a : Known) (keep : Option (Keep D)) → MayKeepIf history count plan a keep → KeepStands history count plan a keep
+  may_keep plan a None h = h
+  may_keep plan a (Some k) h = (h.1.head, h.1.stands)
+
+  pub may_count : (plan : RunPlan) (a : Known) (keep : Option (Keep D)) → MayKeepIf history count plan a keep → IfSome plan.every (λ n. 1 ≤ n)
+  may_count plan a None h = subst (λ (every : Option ℕ). IfSome every (λ n. 1 ≤ n)) (sym h) tt
+  may_count plan a (Some k) h = h.1.every

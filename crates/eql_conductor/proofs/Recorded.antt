@@ -1,0 +1,70 @@
+-- What the records of runs say in the words of the listing, and of the cuts of texts. A law can't say it, since it ranges over what is known of a
+-- bench before and after a run, so that its type is in `Type 1`.
+use Rattle.std.proofs.Common.{◌≡◌, ℕ, ℤ, List, Option, Some, subst}
+use Rattle.std.specs.Prelude.{All}
+use Rattle.std.proofs.lemmas.List.Elements.{All-weaker}
+use Rattle.eql_values.specs.declared.found.Holder.{Holder}
+use Rattle.eql_values.specs.declared.order.Mark.{Mark}
+use Rattle.eql_values.specs.Accepted.{Reads}
+use Rattle.eql_laws.specs.Fitting.{Run}
+use Rattle.eql_outside.specs.Written.{WroteAll}
+use Rattle.eql_book.specs.Books.{BookState}
+use Rattle.eql_book.specs.Laws.{BookIsKept, EndIsWhole}
+use Rattle.eql_cut.specs.declared.cut.Cut.{Cut}
+use Rattle.eql_cut.specs.declared.cut.CutHead.{CutHead}
+use Rattle.eql_cut.specs.Domain.{kept_by}
+use Rattle.eql_parts.specs.PartSteps.{Rules}
+use Rattle.eql_conductor.specs.declared.plan.End.{End as Ends}
+use Rattle.eql_conductor.specs.declared.plan.End.TheVariants as end
+use Rattle.eql_conductor.specs.Benches.{Known}
+use Rattle.eql_conductor.specs.Openings.{IsCutOfTexts, IsSafeCut}
+use Rattle.eql_conductor.specs.Runs.{IsRunCut, RanWhole, RunIs, RunStops}
+use Rattle.eql_conductor.specs.RunLaws.{BeginsTold, Listed, StopsListed, lines_after, rules_of}
+use Rattle.eql_conductor.proofs.OpenedCuts.{run_cuts_are_safe}
+use Rattle.eql_conductor.proofs.Listed.{run_cuts_are_of_texts, runs_stop_in_lines, runs_write_lines}
+
+module _ (kept : BookIsKept) (whole : EndIsWhole) (rules : Rules) (reads : Reads) (slack : Option ℤ) (texts : List (List ℕ)) (from : Mark) (all : List Holder) (old new : Known)
+    (book then : BookState) (before now : Option (List ℕ)) (began : BeginsTold rules reads slack texts from all old book) where
+  done_listed : RanWhole from old new book then before now → WroteAll (lines_after rules reads slack texts book) before now
+  done_listed ran =
+      subst (λ (bytes : List ℕ). WroteAll bytes before now)
+      (runs_write_lines kept whole rules reads slack texts from all book began.rests.are.span began.played began.numbers)
+      (ran.told reads slack texts rules all began.texts_are began.rests)
+
+  stopped_listed : (cuts : List Cut) → RunStops from old new book then before now cuts → StopsListed rules reads slack texts from new book then before now cuts
+  stopped_listed cuts stops = record {
+    mark = stops.mark;
+    later = stops.later;
+    safe = stops.safe;
+    after_cuts = stops.after_cuts;
+    so = runs_stop_in_lines kept whole rules reads slack texts from stops.mark all book then before now began.rests.are.span began.played began.numbers stops.later
+        (stops.told reads slack texts rules all began.texts_are began.rests);
+  }
+
+  -- a run over told texts wrote the lines after those that its book counts, or stopped within them
+  pub run_listed : (cuts : List Cut) (answer : Ends) → RunIs from old new book then before now cuts answer → Listed rules reads slack texts from new book then before now cuts answer
+  run_listed cuts end.Done is = done_listed is
+  run_listed cuts (end.ReadFault s) is = stopped_listed cuts is
+  run_listed cuts end.WriteFault is = stopped_listed cuts is
+  run_listed cuts end.DiskFault is = stopped_listed cuts is
+  run_listed cuts end.Memory is = stopped_listed cuts is
+  run_listed cuts (end.Limit of) is = stopped_listed cuts is
+
+module _ (kept : BookIsKept) (whole : EndIsWhole) (run : Run) (reads : Reads) (texts : List (List ℕ)) (from : Mark) (all : List Holder) (old : Known) (book : BookState)
+    (began : BeginsTold (rules_of run) reads (Some run.slack) texts from all old book) (pipes : book.pipes ≡ run.pipes) (head : CutHead) where
+  -- a cut that it puts is the cut of the texts
+  pub run_cut_is : (cut : Cut) → IsRunCut head from old book cut → IsCutOfTexts run reads texts (kept_by cut)
+  run_cut_is cut is =
+      run_cuts_are_of_texts kept whole run reads texts from all book cut began.rests.are.span began.played began.numbers pipes is.later
+      (is.told reads (Some run.slack) texts (rules_of run) all began.texts_are began.rests)
+
+  pub run_cuts_are : (cuts : List Cut) → All (IsRunCut head from old book) cuts → All (λ (cut : Cut). IsCutOfTexts run reads texts (kept_by cut)) cuts
+  run_cuts_are cuts are = All-weaker (IsRunCut head from old book) (λ (cut : Cut). IsCutOfTexts run reads texts (kept_by cut)) run_cut_is cuts are
+
+  -- and no further event of its lanes can come below its time
+  pub run_cut_is_safe : (cut : Cut) → IsRunCut head from old book cut → IsSafeCut (Some run.slack) (kept_by cut)
+  run_cut_is_safe cut is =
+      run_cuts_are_safe run reads texts from all book cut (is.told reads (Some run.slack) texts (rules_of run) all began.texts_are began.rests)
+
+  pub run_cuts_safe : (cuts : List Cut) → All (IsRunCut head from old book) cuts → All (λ (cut : Cut). IsSafeCut (Some run.slack) (kept_by cut)) cuts
+  run_cuts_safe cuts are = All-weaker (IsRunCut head from old book) (λ (cut : Cut). IsSafeCut (Some run.slack) (kept_by cut)) run_cut_is_safe cuts are

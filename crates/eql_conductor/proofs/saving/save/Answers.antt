@@ -1,0 +1,31 @@
+use Rattle.std.proofs.lemmas.Result.{on_ok_weaker}
+use Rattle.eql_values.specs.declared.order.Mark.TheVariants.{At}
+use Rattle.eql_conductor.proofs.Broken.{on_err}
+use Rattle.eql_conductor.proofs.NotedCuts.{save_breaks}
+use Rattle.eql_conductor.proofs.Onward.{rest_goes}
+use Rattle.eql_conductor.proofs.Stays.{lanes_stay, parts_stay}
+use Rattle.eql_conductor.proofs.saving.save.Goals as goal
+
+pub returns-in_err-cut-clause-goes : goal.returns-in_err-cut-clause-goes
+returns-in_err-cut-clause-goes g c =
+    let rests = c.take_cut.ensures.rests in rest_goes (g.B.Bench.known c.args.bench.now) (g.B.Bench.known c.take_cut.new.bench) rests.same rests.lanes
+
+pub returns-clause-lanes : goal.returns-clause-lanes
+returns-clause-lanes g c =
+    λ texts at.
+    let rests = c.take_cut.ensures.rests in
+    on_ok_weaker c.put_cut.result (λ put. lanes_stay texts (At c.args.time) (g.B.Bench.known c.args.bench.now) (g.B.Bench.known c.take_cut.new.bench) rests.same rests.lanes at) c.put_cut.ensures.next
+
+pub returns-clause-parts : goal.returns-clause-parts
+returns-clause-parts g c =
+    λ rules all rest.
+    let rests = c.take_cut.ensures.rests in
+    on_ok_weaker c.put_cut.result (λ put. parts_stay rules all (At c.args.time) (g.B.Bench.known c.args.bench.now) (g.B.Bench.known c.take_cut.new.bench) rests.same rests.parts rest) c.put_cut.ensures.next
+
+pub returns-clause-goes : goal.returns-clause-goes
+returns-clause-goes g c =
+    let rests = c.take_cut.ensures.rests in rest_goes (g.B.Bench.known c.args.bench.now) (g.B.Bench.known c.take_cut.new.bench) rests.same rests.lanes
+
+pub returns-clause-broken_notes : goal.returns-clause-broken_notes
+returns-clause-broken_notes g c =
+    on_err c.put_cut.result (save_breaks (g.B.Bench.known c.args.bench.now) (g.B.Bench.known c.take_cut.new.bench) c.in_ok-cut.ensures.notes)

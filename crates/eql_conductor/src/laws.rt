@@ -1,0 +1,71 @@
+//! Laws of the opening of runs, of what they list, and of their cuts. Each is the contract of a
+//! function that does nothing.
+ghost use Rattle.eql_conductor.specs.Openings.{CutRunsBegin, CutRunsHaveTexts, FitIsSafe, FitMayBegin, FreshRunsBegin, SafeByPlaces};
+ghost use Rattle.eql_conductor.specs.RunLaws.{CutHavePlayed, CutRunsAreTold, FreshHavePlayed, FreshListsAll, FreshRunsAreTold, RunCutsAreOfTexts, RunCutsAreSafe, RunsStopInLines, RunsWriteLines};
+
+use crate::bench::Bench;
+use eql_book::listing_is_whole;
+
+/// A run may begin where all lanes and parts are fresh, whatever others fed and turned since.
+pub fn fresh_runs_begin<B: Bench>(bench: &B)
+    ensures { FreshRunsBegin (B.known bench.now) }
+{}
+
+/// A run may begin where all lanes and parts began with what a cut keeps that fits, whatever others
+/// fed and turned since. Where the cut is one of told texts, the lanes have these texts.
+pub fn cut_runs_begin<B: Bench>(bench: &B)
+    ensures fitting { CutRunsBegin (B.known bench.now) }
+    ensures texts { CutRunsHaveTexts (B.known bench.now) }
+{}
+
+/// Each lane, each part and the book may begin with what a cut keeps that fits.
+pub fn cuts_may_begin()
+    ensures { FitMayBegin }
+{}
+
+/// The time of a cut that fits is safe, and so is one that is at most the low at each place.
+pub fn cut_times_are_safe()
+    ensures fitting { FitIsSafe }
+    ensures places { SafeByPlaces }
+{}
+
+/// Where a run begins, all events below its mark were played: none where it begins afresh, and
+/// those below the time of the cut that it goes on from.
+pub fn runs_go_on()
+    ensures fresh { FreshHavePlayed }
+    ensures all { FreshListsAll }
+    ensures cut { CutHavePlayed }
+{
+    listing_is_whole();
+}
+
+/// Over lanes that tell their texts a run begins so that all events below its mark were played.
+pub fn told_runs_begin<B: Bench>(bench: &B)
+    ensures fresh { FreshRunsAreTold (B.known bench.now) }
+    ensures cut { CutRunsAreTold (B.known bench.now) }
+{
+    listing_is_whole();
+}
+
+/// The lines of a run over told texts are those of the listing after the ones that its book counts.
+/// A run that stops writes a front of them, and its book was given the matches below its mark.
+pub fn runs_list()
+    ensures whole { RunsWriteLines }
+    ensures stopped { RunsStopInLines }
+{
+    listing_is_whole();
+}
+
+/// A cut that a run over told texts puts is the cut of these texts at places, so a run that goes on
+/// from it goes on with the same texts.
+pub fn run_cuts_are_of_texts()
+    ensures { RunCutsAreOfTexts }
+{
+    listing_is_whole();
+}
+
+/// At the time of such a cut no further event of its lanes can come below it, so the lanes that begin
+/// with it have the texts.
+pub fn run_cuts_are_safe()
+    ensures { RunCutsAreSafe }
+{}

@@ -1,0 +1,179 @@
+//! A cut of all lanes, parts and the book between two rounds, put on the disk.
+ghost use Rattle.std.specs.Prelude.{◌≡◌, ◌≢◌, ◌≤◌, ◌^◌, ◌∷◌, [], true, List, ℕ, Option, None, Err, IfErr, IfOk, IfSome, OnErr, OnOk};
+ghost use Rattle.eql_values.specs.declared.found.Holder.{Holder};
+ghost use Rattle.eql_values.specs.declared.order.Mark.TheVariants.{At as AtTime};
+ghost use Rattle.eql_outside.specs.Outside.{Rose};
+ghost use Rattle.eql_lane.specs.declared.ops.LimitOf.TheVariants.{Generation};
+ghost use Rattle.eql_parts.specs.PartSteps.{Rules};
+ghost use Rattle.eql_cut.specs.Domain.{IsCut};
+ghost use Rattle.eql_ckdisk.specs.Cuts.{Holds};
+ghost use Rattle.eql_ckdisk.specs.Found.{next};
+ghost use Rattle.eql_ckdisk.specs.Putting.{Stands, last_cut};
+ghost use Rattle.eql_conductor.specs.declared.stop.Stop.TheVariants.{Disk as DiskFailed, Limit as AtLimit, Memory as OutOfMemory};
+ghost use Rattle.eql_conductor.specs.Benches.{Rests};
+ghost use Rattle.eql_conductor.specs.Going.{LanesGo, StopsBy, Went};
+ghost use Rattle.eql_conductor.specs.LaneRounds.{LanesAt};
+ghost use Rattle.eql_conductor.specs.PartRounds.{Resting, SomeFull};
+ghost use Rattle.eql_conductor.specs.RunNotes.{SaveBroken, SaveNoted};
+ghost use Rattle.eql_conductor.specs.Rounds.{StopsKeeping, StopsSaving};
+ghost use Rattle.eql_conductor.specs.Saving.{BookKeepsNumbers, IsHeadOf, IsSavedAt, NotSaved, PutsCuts, Saved};
+
+use crate::bench::Bench;
+use crate::plan::Keep;
+use crate::snapping::{snap_lanes, snap_parts};
+use crate::standing::types_say;
+use crate::stop::Stop;
+use eql_book::Book;
+use eql_ckdisk::{CkRefused, put, puts_go_on};
+use eql_cut::{Cut, CutHead};
+use eql_lane::LimitOf;
+use eql_outside::Disk;
+use eql_values::{Holders, LaneCuts, Memory};
+use std::alloc::Global;
+
+// A copy of what a cut says of its run.
+fn copy_head(head: &CutHead) -> Result<CutHead, Memory>
+    ensures { IfOk result (λ copy. copy ≡ head.now) }
+{
+    let query = head.query.clone()?;
+    let mapping = head.mapping.clone()?;
+    let tie = head.tie.clone()?;
+    Ok(CutHead {
+        query,
+        mapping,
+        tie,
+        slack: head.slack,
+        shards: head.shards,
+    })
+}
+
+// The cut of these lanes and pending sequences, and of the book.
+fn cut_of(
+    alloc: Global,
+    head: &CutHead,
+    book: &Book,
+    time: i128,
+    lanes: LaneCuts,
+    holders: Holders,
+) -> Result<Cut, Memory>
+    requires whole { book.now.whole ≡ true }
+    ensures { IfOk result (λ cut. cut ≡ record {
+      head = head.now;
+      mark = time;
+      lanes = lanes;
+      holders = holders;
+      book = book.now.kept;
+    }) }
+{
+    let head = copy_head(head)?;
+    let book = book.cut(alloc)?;
+    Ok(Cut {
+        head,
+        mark: time,
+        lanes,
+        holders,
+        book,
+    })
+}
+
+// Takes a cut of lanes and parts that rest at a time, and of the book.
+fn take_cut<B: Bench>(
+    alloc: Global,
+    head: &CutHead,
+    bench: &mut B,
+    book: &Book,
+    time: i128,
+) -> Result<Cut, Stop>
+    requires lanes { LanesAt None (AtTime time) (B.known bench.old) }
+    requires some { SomeFull (AtTime time) (B.known bench.old) }
+    requires whole { book.now.whole ≡ true }
+    requires numbers { BookKeepsNumbers book.now.kept }
+    requires head { IsHeadOf head.now (B.known bench.old) }
+    ensures saved { IfOk result (λ cut. IsSavedAt head.now time (B.known bench.old) book.now cut) }
+    ensures rests { Rests (B.known bench.old) (B.known bench.new) }
+    ensures went { OnOk result (Went (B.known bench.old) (B.known bench.new)) }
+    ensures stops { IfErr result (λ stop. StopsBy stop (B.known bench.old) (B.known bench.new)) }
+    ensures notes { OnOk result (SaveNoted (B.known bench.old) (B.known bench.new)) }
+    ensures broken_notes { OnErr result (SaveBroken (B.known bench.old) (B.known bench.new)) }
+{
+    let lanes = snap_lanes(alloc, bench)?;
+    let holders = snap_parts(alloc, bench, time)?;
+    match cut_of(alloc, head, book, time, lanes, holders) {
+        Ok(cut) => {
+            types_say(&cut);
+            Ok(cut)
+        }
+        Err(_) => Err(Stop::Memory),
+    }
+}
+
+// Puts a cut on the disk.
+fn put_cut<D: Disk>(alloc: Global, keep: &mut Keep<D>, cut: &Cut) -> Result<(), Stop>
+    requires stands { Stands (last_cut keep.old.state) (D.history keep.old.disk) }
+    requires is { IsCut cut.now }
+    ensures puts { PutsCuts (last_cut keep.old.state) (cut.now ∷ [])
+        (D.history keep.old.disk) (D.history keep.new.disk) }
+    ensures next { OnOk result (last_cut keep.new.state ≡ next (last_cut keep.old.state)) }
+    ensures holds { OnOk result (IfSome (D.history keep.new.disk)
+        (λ k. Holds (last_cut keep.new.state) cut.now k.now)) }
+    ensures stands { OnOk result
+        (Stands (last_cut keep.new.state) (D.history keep.new.disk)) }
+    ensures same { OnErr result (last_cut keep.new.state ≡ last_cut keep.old.state) }
+    ensures stops { IfErr result StopsKeeping }
+    ensures full { result ≡ Err (AtLimit Generation)
+        → (last_cut keep.new.state).generation ≡ 2 ^ 63 }
+    ensures cause { result ≡ Err DiskFailed
+        → Rose (D.fault_count keep.old.disk) (D.fault_count keep.new.disk) }
+    ensures steady { result ≢ Err DiskFailed
+        → D.fault_count keep.new.disk ≡ D.fault_count keep.old.disk }
+    ensures counts { D.fault_count keep.old.disk ≤ D.fault_count keep.new.disk }
+{
+    puts_go_on();
+    match put(alloc, &mut keep.disk, &mut keep.state, cut) {
+        Ok(()) => Ok(()),
+        Err(CkRefused::DiskFault) => Err(Stop::Disk),
+        Err(CkRefused::Memory) => Err(Stop::Memory),
+        Err(CkRefused::Generation) => Err(Stop::Limit(LimitOf::Generation)),
+        Err(CkRefused::Damaged { area: _, at: _ }) => unreachable!(),
+    }
+}
+
+/// Takes a cut of lanes and parts that rest at a time, and of the book, and puts it on the disk.
+pub(crate) fn save<B: Bench, D: Disk>(
+    alloc: Global,
+    head: &CutHead,
+    bench: &mut B,
+    book: &Book,
+    keep: &mut Keep<D>,
+    time: i128,
+) -> Result<(), Stop>
+    requires lanes { LanesAt None (AtTime time) (B.known bench.old) }
+    requires some { SomeFull (AtTime time) (B.known bench.old) }
+    requires whole { book.now.whole ≡ true }
+    requires numbers { BookKeepsNumbers book.now.kept }
+    requires head { IsHeadOf head.now (B.known bench.old) }
+    requires stands { Stands (last_cut keep.old.state) (D.history keep.old.disk) }
+    ensures lanes { (texts : Option (List (List ℕ))) → LanesAt texts (AtTime time) (B.known bench.old)
+        → OnOk result (LanesAt texts (AtTime time) (B.known bench.new)) }
+    ensures parts { (rules : Rules) (all : List Holder)
+        → Resting rules all (AtTime time) (B.known bench.old)
+        → OnOk result (Resting rules all (AtTime time) (B.known bench.new)) }
+    ensures saved { OnOk result (Saved head.now time (B.known bench.old) book.now
+        keep.old.state keep.new.state (D.history keep.old.disk) (D.history keep.new.disk)) }
+    ensures not_saved { OnErr result (NotSaved head.now time (B.known bench.old) book.now
+        keep.old.state keep.new.state (D.history keep.old.disk) (D.history keep.new.disk)) }
+    ensures goes { LanesGo (B.known bench.old) (B.known bench.new) }
+    ensures went { OnOk result (Went (B.known bench.old) (B.known bench.new)) }
+    ensures stops { IfErr result (λ stop. StopsSaving stop (B.known bench.old) (B.known bench.new)) }
+    ensures notes { OnOk result (SaveNoted (B.known bench.old) (B.known bench.new)) }
+    ensures broken_notes { OnErr result (SaveBroken (B.known bench.old) (B.known bench.new)) }
+    ensures full { result ≡ Err (AtLimit Generation) → (last_cut keep.new.state).generation ≡ 2 ^ 63 }
+    ensures cause { result ≡ Err DiskFailed
+        → Rose (D.fault_count keep.old.disk) (D.fault_count keep.new.disk) }
+    ensures steady { result ≢ Err DiskFailed
+        → D.fault_count keep.new.disk ≡ D.fault_count keep.old.disk }
+    ensures counts { D.fault_count keep.old.disk ≤ D.fault_count keep.new.disk }
+{
+    let cut = take_cut(alloc, head, bench, book, time)?;
+    put_cut(alloc, keep, &cut)
+}
