@@ -1,0 +1,114 @@
+-- Lanes that read on in their texts.
+use Rattle.std.proofs.Common.{◌≡◌, inl, inr, ℕ, List, [], ◌∷◌, Option, Some, refl, sym, ◌∙◌, subst}
+use Rattle.std.specs.Prelude.{slice_get}
+use Rattle.eql_values.specs.Accepted.{Reads}
+use Rattle.eql_values.specs.declared.order.Mark.{Mark}
+use Rattle.eql_outside.specs.Plans.{FaultPlan}
+use Rattle.eql_lane.specs.declared.ops.LaneOp.{LaneOp}
+use Rattle.eql_lane.specs.declared.ops.LaneOp.TheVariants as op
+use Rattle.eql_lane.specs.declared.ops.LaneReply.{LaneReply}
+use Rattle.eql_lane.specs.declared.ops.LaneReply.TheVariants as reply
+use Rattle.eql_lane.specs.Lanes.{LaneState, LaneStep, LookStep, Setting, SnapStep, TakeStep, greater, lesser, low}
+use Rattle.eql_lane.specs.Views.{LaneView, IsTextOf, setting_of}
+use Rattle.eql_lane.proofs.Keeping.{feed_keeps, take_keeps}
+use Rattle.eql_conductor.proofs.Resting.{same_or}
+use Rattle.eql_replay.specs.declared.foreign.Foreign.{Foreign}
+use Rattle.eql_replay.specs.declared.foreign.Foreign.TheVariants.{Feed, Turn}
+use Rattle.eql_replay.specs.Opened.{AreOfTexts, IsAtPlace, ReadOn}
+use Rattle.eql_replay.specs.Pools.{AllPlayed, ForeignPlayed, LanePlayed, PoolView}
+use Rattle.eql_replay.proofs.Calls.{is_after, lane_else, same_setting}
+use Rattle.eql_replay.proofs.Others.{foreign_texts}
+
+-- ---- each step keeps it
+module _ (set : Setting) (t : List ℕ) where
+  stays_at : (x y : LaneState) → y ≡ x → IsAtPlace set t x → IsAtPlace set t y
+  stays_at x y e at = subst (IsAtPlace set t) (sym e) at
+
+  take_at : (x : LaneState) (mark : Mark) (answer : LaneReply) (y : LaneState) → TakeStep set x mark answer y → IsAtPlace set t x → IsAtPlace set t y
+  take_at x mark (reply.Taken items) y step at = record {
+    mark = greater at.mark (lesser mark (low set x));
+    is = (take_keeps set t at.mark mark x items y step at.is).is;
+  }
+  take_at x mark (reply.Memory n) y step at = stays_at x y step.1 at
+  take_at x mark (reply.Fed n) y step at = absurd step
+  take_at x mark (reply.Held k) y step at = absurd step
+  take_at x mark reply.Closed y step at = absurd step
+  take_at x mark (reply.Failed n) y step at = absurd step
+  take_at x mark (reply.Limit of) y step at = absurd step
+  take_at x mark (reply.Low m) y step at = absurd step
+  take_at x mark (reply.Cut cut) y step at = absurd step
+
+  look_at : (x : LaneState) (answer : LaneReply) (y : LaneState) → LookStep set x answer y → IsAtPlace set t x → IsAtPlace set t y
+  look_at x (reply.Low mark) y step at = stays_at x y step.1 at
+  look_at x (reply.Taken items) y step at = absurd step
+  look_at x (reply.Memory n) y step at = absurd step
+  look_at x (reply.Fed n) y step at = absurd step
+  look_at x (reply.Held k) y step at = absurd step
+  look_at x reply.Closed y step at = absurd step
+  look_at x (reply.Failed n) y step at = absurd step
+  look_at x (reply.Limit of) y step at = absurd step
+  look_at x (reply.Cut cut) y step at = absurd step
+
+  snap_at : (x : LaneState) (answer : LaneReply) (y : LaneState) → SnapStep x answer y → IsAtPlace set t x → IsAtPlace set t y
+  snap_at x (reply.Cut cut) y step at = stays_at x y step.1 at
+  snap_at x (reply.Memory n) y step at = stays_at x y step.1 at
+  snap_at x (reply.Low mark) y step at = absurd step
+  snap_at x (reply.Taken items) y step at = absurd step
+  snap_at x (reply.Fed n) y step at = absurd step
+  snap_at x (reply.Held k) y step at = absurd step
+  snap_at x reply.Closed y step at = absurd step
+  snap_at x (reply.Failed n) y step at = absurd step
+  snap_at x (reply.Limit of) y step at = absurd step
+
+  step_at : (x : LaneState) (o : LaneOp) (answer : LaneReply) (y : LaneState) → set.text ≡ Some t → LaneStep set x o answer y → IsAtPlace set t x → IsAtPlace set t y
+  step_at x (op.Feed max) answer y e step at = record { mark = at.mark; is = feed_keeps set t at.mark x max answer y e step at.is }
+  step_at x (op.Take mark) answer y e step at = take_at x mark answer y step at
+  step_at x op.Look answer y e step at = look_at x answer y step at
+  step_at x op.Snap answer y e step at = snap_at x answer y step at
+
+-- ---- lanes
+module _ {S L : Type 0} (left lent_as : S → Option (List ℕ)) (fault_plan : S → Option FaultPlan) (read_of : L → Reads) (text : ℕ → Option (List ℕ)) where
+  -- each lane goes on from itself
+  pub read_self : (lanes : List (LaneView S L)) → ReadOn read_of text lanes lanes
+  read_self lanes = record {
+    each = λ s one lane e f t is at.
+        let same : one ≡ lane = let both : Some one ≡ Some lane = sym e ∙ f in cc in
+        subst (λ (l : LaneView S L). IsAtPlace (setting_of read_of (Some t) l) t l.state) same at;
+  }
+
+  -- a lane of its text played
+  module _ (s : ℕ) (o : LaneOp) (answer : LaneReply) (old new : List (LaneView S L)) (played : LanePlayed left lent_as fault_plan read_of s o answer old new)
+      (are : AreOfTexts left text old) where
+    after_at : (t : List ℕ) → text s ≡ Some t → IsAtPlace (setting_of read_of (Some t) played.before) t played.before.state
+        → IsAtPlace (setting_of read_of (Some t) played.after) t played.after.state
+    after_at t is at =
+        let set : Setting = setting_of read_of (Some t) played.before in
+        let of : IsTextOf left (Some t) played.before = subst (λ (told : Option (List ℕ)). IsTextOf left told played.before) is (are.each s played.before played.was) in
+        subst (λ (u : Setting). IsAtPlace u t played.after.state) (sym (same_setting left lent_as fault_plan read_of s o answer old new played (Some t)))
+        (step_at set t played.before.state o answer played.after.state refl (played.plays (Some t) of).step at)
+
+    pub read_on : (first : List (LaneView S L)) → ReadOn read_of text first old → ReadOn read_of text first new
+    read_on first was = record {
+      each = λ k one lane e f t is at. elim (same_or k s) [
+        | inl same ↦
+            let f_s : slice_get new s ≡ Some lane = subst (λ (j : ℕ). slice_get new j ≡ Some lane) same f in
+            let e_s : slice_get first s ≡ Some one = subst (λ (j : ℕ). slice_get first j ≡ Some one) same e in
+            let is_s : text s ≡ Some t = subst (λ (j : ℕ). text j ≡ Some t) same is in
+            subst (λ (l : LaneView S L). IsAtPlace (setting_of read_of (Some t) l) t l.state)
+            (sym (is_after left lent_as fault_plan read_of s o answer old new played lane f_s))
+            (after_at t is_s (was.each s one played.before e_s played.was t is_s at))
+        | inr apart ↦ was.each k one lane e (sym (lane_else left lent_as fault_plan read_of s o answer old new played k apart) ∙ f) t is at
+      ];
+    }
+
+  -- others played
+  foreign_read : (first : List (LaneView S L)) (f : Foreign) (a b : PoolView S L) → AreOfTexts left text a.lanes → ForeignPlayed left lent_as fault_plan read_of f a b
+      → ReadOn read_of text first a.lanes → ReadOn read_of text first b.lanes
+  foreign_read first (Feed lane max) a b are played was = read_on lane (op.Feed max) played.0 a.lanes b.lanes played.1 are first was
+  foreign_read first (Turn part max) a b are played was = subst (ReadOn read_of text first) (sym played.2) was
+
+  pub all_read : (first : List (LaneView S L)) (fs : List Foreign) (a b : PoolView S L) → AreOfTexts left text a.lanes → AllPlayed left lent_as fault_plan read_of fs a b
+      → ReadOn read_of text first a.lanes → ReadOn read_of text first b.lanes
+  all_read first [] a b are played was = subst (λ (p : PoolView S L). ReadOn read_of text first p.lanes) (sym played) was
+  all_read first (f ∷ fs) a b are (mid, one, rest) was =
+      all_read first fs mid b (foreign_texts left lent_as fault_plan read_of text f a mid one are) rest (foreign_read first f a mid are one was)

@@ -1,0 +1,4 @@
+pub mod Noting
+pub mod Pools
+pub mod Listed
+pub mod Opened
