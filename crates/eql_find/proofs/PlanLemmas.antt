@@ -1,9 +1,8 @@
 -- The plan of a search, and the search that it is.
 use native.Mathlib.Omega.{arith}
-use Rattle.std.proofs.Common.{◌≡◌, ℕ, ℤ, ◌+◌, ◌⊎◌, inl, inr, List, [], ◌∷◌, Option, Some, None, refl, sym, ap, ap₂, subst, length, map}
+use Rattle.std.proofs.Common.{◌≡◌, ℕ, ℤ, ◌+◌, inr, List, [], ◌∷◌, Option, Some, None, refl, sym, ap, ap₂, subst, length, map}
 use Rattle.eql_values.specs.declared.value.Kind.{Kind as FieldKind}
 use Rattle.eql_values.specs.Accepted.{Reads}
-use Rattle.eql_outside.specs.Outside.{AppendsSome}
 use Rattle.eql_outside.specs.Plans.{FaultPlan}
 use Rattle.eql_outside.specs.Written.{WroteAll, WroteFront}
 use Rattle.eql_parser.specs.QueryTree.{QueryTree, query_tree}
@@ -98,20 +97,13 @@ module _ {S L : Type 0} (left lent_as : S → Option (List ℕ)) (faults : S →
       let w = wrote s.search s.texts s.suits in
       (listing_of s.search s.texts, report_of s.search s.texts, finds find fs s.search s.texts s.searches, w.0, w.1)
 
-  some_found : (fs : Files) (s : Searched left find plan lanes fs) (w : List ℕ) (out' : Option (List ℕ))
-      → (out' ≡ Some w) ⊎ AppendsSome w (listing_of s.search s.texts) out'
-      → (out' ≡ Some w) ⊎ ((bytes : List ℕ) × (report : List ℕ) × Finds find fs bytes report × AppendsSome w bytes out')
-  some_found fs s w out' (inl same) = inl same
-  some_found fs s w out' (inr front) =
-      inr (listing_of s.search s.texts, report_of s.search s.texts, finds find fs s.search s.texts s.searches, front)
-
   pub found_some : (files : Option Files) (out out' : Option (List ℕ)) → IsPlanOf find files plan
       → AreWholeFiles find.shards files (map left sources) → AreOver left lent_as faults fails read_of reads slack 0 sources lanes
       → ((search : Search) (texts : List (List ℕ)) → Suits left find (planned plan) search texts lanes
-      → (out' ≡ out) ⊎ WroteFront (listing_of search texts) out out')
+      → WroteFront (listing_of search texts) out out')
       → FoundSome find files out out'
   found_some None out out' is whole over wrote = tt
   found_some (Some fs) None out' is whole over wrote = tt
   found_some (Some fs) (Some w) out' is whole over wrote =
       let s = searched left lent_as faults fails read_of reads slack find plan sources lanes fs is whole over in
-      some_found fs s w out' (wrote s.search s.texts s.suits)
+      inr (listing_of s.search s.texts, report_of s.search s.texts, finds find fs s.search s.texts s.searches, wrote s.search s.texts s.suits)

@@ -1,11 +1,12 @@
 -- A search over lanes, in the words of runs.
 use native.Mathlib.Omega.{arith}
-use Rattle.std.proofs.Common.{◌≡◌, ◌≤◌, ◌<◌, ◌^◌, ◌⊎◌, inl, inr, ℕ, zero, suc, ℤ, Bool, List, [], ◌∷◌, length, Option, Some, None, Ok, Err, refl, sym, ap, ◌∙◌, subst}
+use Rattle.std.proofs.Common.{◌≡◌, ◌≤◌, ◌<◌, ◌^◌, ℕ, zero, suc, ℤ, Bool, List, [], ◌∷◌, length, Option, Some, None, Ok, Err, refl, sym, ap, ◌∙◌, subst}
 use Rattle.std.specs.Prelude.{All, Result, IfErr, OnErr, OnOk, map}
 use Rattle.std.specs.List.{AllZip}
 use Rattle.std.specs.Option.{option_map}
 use Rattle.std.proofs.lemmas.Option.{slice_get_within}
-use Rattle.std.proofs.lemmas.Result.{IfErr-weaker}
+use Rattle.std.proofs.lemmas.List.{append-nil}
+use Rattle.std.proofs.lemmas.Result.{IfErr-weaker, on_err_weaker}
 use Rattle.eql_values.specs.Accepted.{Reads}
 use Rattle.eql_values.specs.declared.cut.Pipe.{Pipe}
 use Rattle.eql_outside.specs.Written.{WroteAll, WroteFront}
@@ -112,11 +113,14 @@ module _ {S L : Type 0} (left : S → Option (List ℕ)) (read_of : L → Reads)
   abbrev pub rules : Rules
   rules = rules_of read_of stages span olds
 
-  numbers : (search : Search) (texts : List (List ℕ)) → Suits left find plan search texts olds → AllZip (WasRead left read_of) olds news → HasNumbers rules texts
-  numbers search texts suits read =
+  numbers_within : (search : Search) (texts : List (List ℕ)) → Suits left find plan search texts olds → All IsShardText texts → HasNumbers rules texts
+  numbers_within search texts suits all =
       let many : length texts ≤ greatest_shards = omega (arith, count, text_count left read_of texts olds suits.texts_of) in
       numbers_by left read_of find plan search texts olds suits reads slack rules (rules_are left read_of find plan search texts olds suits reads slack stages span stages_are span_is)
-      (few search texts suits.checked many (within_all left read_of texts olds news read suits.texts_of))
+      (few search texts suits.checked many all)
+
+  numbers : (search : Search) (texts : List (List ℕ)) → Suits left find plan search texts olds → AllZip (WasRead left read_of) olds news → HasNumbers rules texts
+  numbers search texts suits read = numbers_within search texts suits (within_all left read_of texts olds news read suits.texts_of)
 
   listed : (search : Search) (texts : List (List ℕ)) → Suits left find plan search texts olds → listing_of rules pipes places texts ≡ runs.listing_of search texts
   listed search texts suits =
@@ -130,17 +134,17 @@ module _ {S L : Type 0} (left : S → Option (List ℕ)) (read_of : L → Reads)
   all_written r = ok_both r (λ read wrote search texts suits.
       subst (λ (bytes : List ℕ). WroteAll bytes before now) (listed search texts suits) (wrote texts suits.texts_of (numbers search texts suits read)))
 
-  front_cases : (now ≡ before) ⊎ AllZip (WasRead left read_of) olds news
-      → ((texts : List (List ℕ)) → AreTextsOf left texts olds → HasNumbers rules texts → WroteFront (listing_of rules pipes places texts) before now)
-      → (search : Search) (texts : List (List ℕ)) → Suits left find plan search texts olds → (now ≡ before) ⊎ WroteFront (runs.listing_of search texts) before now
-  front_cases (inl same) wrote search texts suits = inl same
-  front_cases (inr read) wrote search texts suits =
-      inr (subst (λ (bytes : List ℕ). WroteFront bytes before now) (listed search texts suits) (wrote texts suits.texts_of (numbers search texts suits read)))
+  -- a front of the listing was written, where the matches of texts that shards may have are few
+  pub front_written : {T E : Type 0} (r : Result T E)
+      → OnErr r ((texts : List (List ℕ)) → AreTextsOf left texts olds → (All IsShardText texts → HasNumbers rules texts) → WroteFront (listing_of rules pipes places texts) before now)
+      → OnErr r ((search : Search) (texts : List (List ℕ)) → Suits left find plan search texts olds → WroteFront (runs.listing_of search texts) before now)
+  front_written r = on_err_weaker r (λ wrote search texts suits.
+      subst (λ (bytes : List ℕ). WroteFront bytes before now) (listed search texts suits) (wrote texts suits.texts_of (numbers_within search texts suits)))
 
-  pub front_written : {T E : Type 0} (r : Result T E) → OnErr r ((now ≡ before) ⊎ AllZip (WasRead left read_of) olds news)
-      → OnErr r ((texts : List (List ℕ)) → AreTextsOf left texts olds → HasNumbers rules texts → WroteFront (listing_of rules pipes places texts) before now)
-      → OnErr r ((search : Search) (texts : List (List ℕ)) → Suits left find plan search texts olds → (now ≡ before) ⊎ WroteFront (runs.listing_of search texts) before now)
-  front_written r = err_both r front_cases
+-- nothing written is a front
+pub front_none : (lines : List ℕ) (before : Option (List ℕ)) → WroteFront lines before before
+front_none lines None = tt
+front_none lines (Some w) = (0, ap Some (sym (append-nil w)))
 
 -- ---- why it stops
 may_by : {S L : Type 0} (left : S → Option (List ℕ)) (shards : ℕ) (olds news : List (LaneView S L)) → length olds ≡ shards → (before now : ℕ) (why : Stop)

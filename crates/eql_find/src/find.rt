@@ -51,8 +51,7 @@ fn search_lanes<S: Source, K: Sink>(
         → WroteAll (listing_of search texts) (K.written out.old) (K.written out.new)) }
     ensures front { OnErr result ((search : Search) (texts : List (List ℕ))
         → Suits S.left find.now (planned plan.now) search texts lanes.old.items
-        → (K.written out.new ≡ K.written out.old)
-        ⊎ WroteFront (listing_of search texts) (K.written out.old) (K.written out.new)) }
+        → WroteFront (listing_of search texts) (K.written out.old) (K.written out.new)) }
     ensures read { OnOk result (AllZip (WasRead S.left ⟦<PlanReader as LineReader>⟧.read_of)
         lanes.old.items lanes.new.items) }
     ensures lanes { AllZip (StaysLane S.left S.lent_as ⟦<PlanReader as LineReader>⟧.read_of)
@@ -105,8 +104,7 @@ fn run_lanes<'a, S: Source, K: Sink, E: Sink>(
         × WroteAll (report_of search texts) (E.written err.old) (E.written err.new)) }
     ensures prefix { OnErr result ((search : Search) (texts : List (List ℕ))
         → Suits S.left find.now (planned plan.now) search texts lanes.old.items
-        → (K.written out.new ≡ K.written out.old)
-        ⊎ WroteFront (listing_of search texts) (K.written out.old) (K.written out.new)) }
+        → WroteFront (listing_of search texts) (K.written out.old) (K.written out.new)) }
     ensures quiet { IfErr result (λ halt. TellsNothing halt → err.new ≡ err.old) }
     ensures cause { IfErr result (StoppedLanes S.left find.now (planned plan.now) lanes.old.items
         (E.written err.old) (E.written err.new)) }

@@ -1,5 +1,7 @@
-mod Fronts
-mod Going
-mod Fed
-mod Wrote
-mod Whole
+mod Places
+mod Fresh
+mod Opened
+mod Ran
+mod Lanes
+mod Causes
+mod Lines

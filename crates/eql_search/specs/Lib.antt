@@ -1,4 +1,3 @@
 pub mod Searches
 pub mod Answers
-pub mod Feeding
-pub mod Playing
+pub mod Running

@@ -1,11 +1,8 @@
-//! A search over lanes: what they hold, in one order, played through the pending sequences of all keys and written as
-//! the listing.
+//! A search over lanes: a run of the conductor on one thread, from the first line of all shards to the listing.
 #![tactic(auto)]
 
-mod feed;
-mod lanes;
-mod play;
 mod run;
+mod running;
 mod stop;
 
 pub use run::search;

@@ -1,5 +1,9 @@
 //! Why a search stops before its end.
+ghost use Rattle.std.specs.Prelude.{◌≡◌, ◌≢◌};
+ghost use Rattle.eql_conductor.specs.declared.plan.End.TheVariants.{DiskFault};
+ghost use Rattle.eql_search.specs.Running.{end_of};
 
+use eql_conductor::End;
 use eql_lane::LimitOf;
 
 /// Why a search stops before its end.
@@ -16,4 +20,19 @@ pub enum Stop {
     Memory,
     /// A number reached its limit.
     Limit(LimitOf),
+}
+
+/// The answer of a search whose run ended so. It has no disk, so no disk failed.
+pub(crate) fn answer(end: End) -> Result<(), Stop>
+    requires disk { end ≢ DiskFault }
+    ensures { end_of result ≡ end }
+{
+    match end {
+        End::Done => Ok(()),
+        End::ReadFault { shard } => Err(Stop::Read { shard }),
+        End::WriteFault => Err(Stop::Write),
+        End::DiskFault => unreachable!(),
+        End::Memory => Err(Stop::Memory),
+        End::Limit(of) => Err(Stop::Limit(of)),
+    }
 }

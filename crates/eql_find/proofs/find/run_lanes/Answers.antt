@@ -1,4 +1,3 @@
-use Rattle.std.proofs.Common.{inr}
 use Rattle.eql_stages.specs.Judging.{reads_by}
 use Rattle.eql_stages.specs.Planned.{planned}
 use Rattle.eql_find.proofs.RunLemmas.{calm_by, done_by, err_steady, faults_by, front_of_all, report_by, stopped_by}
@@ -10,7 +9,7 @@ returns-in-Ok-write_report-clause-done g c =
     c.in-Ok.ensures.read _ _ _ _ c.in-Ok.ensures.whole c.in-Ok-write_report.ensures.whole
 
 pub returns-in-Err-write_report-clause-prefix : goal.returns-in-Err-write_report-clause-prefix
-returns-in-Err-write_report-clause-prefix g c = λ search texts suits. inr (front_of_all _ _ _ (c.in-Ok.ensures.whole search texts suits))
+returns-in-Err-write_report-clause-prefix g c = λ search texts suits. front_of_all _ _ _ (c.in-Ok.ensures.whole search texts suits)
 
 pub returns-in-Err-write_report-clause-cause : goal.returns-in-Err-write_report-clause-cause
 returns-in-Err-write_report-clause-cause g c =
