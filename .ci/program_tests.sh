@@ -95,6 +95,12 @@ reject Kind '{"@timestamp":1,"process.code_signature.trusted":1}'
 reject Fraction '{"@timestamp":1,"process.pid":4.5}'
 reject Range '{"@timestamp":1,"process.pid":9223372036854775808}'
 
+# A search over events that the program makes itself: four lines on what it found, and no report.
+expect 'made 0' 0 $'events 0\nmatches 0\nfirst none\nlast none\n' '' made 0
+expect 'made 201' 0 $'events 201\nmatches 1\nfirst 1 ["u0"] 0:1 0:26 0:51\nlast 1 ["u0"] 0:1 0:26 0:51\n' '' made 201
+expect 'made 300000' 0 $'events 300000\nmatches 100000\nfirst 1 ["u0"] 0:1 0:26 0:51\nlast 100000 ["u99"] 3:74950 3:74975 3:75000\n' '' \
+    made --hands 4 300000
+
 # Status 1: a file isn't there. The files count in the order query, mapping, shards.
 expect 'no query' 1 '' $'no file nowhere\n' find --query nowhere --fields nothing none
 expect 'no mapping' 1 '' $'no file nothing\n' find --query any.eql --fields nothing none
@@ -126,8 +132,7 @@ no_command "${any[@]}" $'\xff'
 no_command "${any[@]}" "${most[@]}" empty
 no_command check --query any.eql --fields fields.json three.json
 
-# Status 3: a part of a command that isn't built, and each rule that a query or a mapping may break.
-expect 'made' 3 '' $'unbuilt: made\n' made 201
+# Status 3: the part of a command that isn't built, and each rule that a query or a mapping may break.
 expect 'checkpoint' 3 '' $'unbuilt: --checkpoint\n' "${any[@]}" --slack 1s --checkpoint c --every 5 three.json
 refuse() { # TOLD QUERY-FILE MAPPING-FILE
     expect "refused: $1" 3 '' "$1"$'\n' find --query "$2" --fields "$3" three.json

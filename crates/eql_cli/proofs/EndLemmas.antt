@@ -1,10 +1,11 @@
 -- How a run of a command ends, by why it stopped.
 use native.Mathlib.Omega.{arith}
 use Rattle.std.proofs.Common.{◌≡◌, ℕ, ◌<◌, ◌≤◌, ◌⊎◌, inl, inr, List, Option, Some, None, Err, refl, sym, ap, ◌∙◌, subst}
-use Rattle.std.specs.Prelude.{IfSome, codes}
+use Rattle.std.specs.Prelude.{IfSome, IsSomeAnd, codes}
 use Rattle.std.proofs.lemmas.Option.{none-some}
-use Rattle.eql_outside.specs.Outside.{Rose}
+use Rattle.eql_outside.specs.Outside.{Rose, AppendsSome}
 use Rattle.eql_outside.specs.Written.{WroteFront}
+use Rattle.eql_outside.specs.Written as written
 use Rattle.eql_outside.specs.declared.refused.OutRefused.TheVariants as by
 use Rattle.eql_words.specs.declared.commands.Command.{Command}
 use Rattle.eql_words.specs.declared.commands.Command.TheVariants as command
@@ -12,9 +13,9 @@ use Rattle.eql_words.specs.declared.commands.Find.{Find}
 use Rattle.eql_words.specs.Commands.{command_of}
 use Rattle.eql_runs.specs.Built.{unbuilt_in}
 use Rattle.eql_runs.specs.Files.{Files}
-use Rattle.eql_runs.specs.Refusals.{Refusal, Refuses, refusal_status, refusal_text}
+use Rattle.eql_runs.specs.Refusals.{Names, Refusal, Refuses, refusal_status, refusal_text}
 use Rattle.eql_runs.specs.RunLaws.{OneStatus, ListedOrRefused, ReadyOrRefused}
-use Rattle.eql_runs.specs.Runs.{Runs, Writes, IsRefused, by_files, IsReady, Limited, Tells, Told, ReportsOn, Finds, SearchesBeyond, RefusedAs, names_of, WroteSome, WroteAll, limit_text}
+use Rattle.eql_runs.specs.Runs.{files_for, files_known, known, Runs, Writes, IsRefused, by_files, AreWithin, IsReady, Limited, Tells, Told, ReportsOn, Finds, SearchesBeyond, RefusedAs, names_of, WroteSome, WroteAll, limit_text}
 use Rattle.eql_runs.specs.Runs as runs
 use Rattle.eql_runs.specs.Searches.{listing_of, report_of}
 use Rattle.eql_inputs.specs.declared.halt.Refused.{Refused}
@@ -25,7 +26,7 @@ use Rattle.eql_find.specs.declared.halt.RunHalt.{RunHalt}
 use Rattle.eql_find.specs.declared.halt.RunHalt.TheVariants as run
 use Rattle.eql_find.specs.Halts.{run_status_of, limit_of, IsRefusal, IsFault, TellsNothing, FaultsAs, CountAs, AbsenceAs, OutAs, ErrAs}
 use Rattle.eql_find.specs.Finding.{ReportsFront}
-use Rattle.eql_cli.specs.Running.{names_in, RunsAll, RunsSome, HasCause}
+use Rattle.eql_cli.specs.Running.{RunsAll, RunsSome, HasCause}
 use Rattle.eql_cli.specs.Telling.{IsReport, TellsRun}
 
 -- a run that stopped has a status above 0
@@ -120,35 +121,98 @@ write_told run.Write before now rose lt = refl
 write_told (run.Limit l) before now same lt = absurd (omega (arith, same, lt))
 write_told (run.Report r) before now same lt = absurd (omega (arith, same, lt))
 
+-- over files that are told, a run is one over these files
+abbrev SomeRun : Command → Files → Type 0
+SomeRun asked fs = (bytes : List ℕ) × (report : List ℕ) × Runs asked fs bytes report
+
+runs_over : (asked : Command) (fs : Files) → IfSome (files_for asked (Some fs)) (SomeRun asked) → SomeRun asked fs
+runs_over (command.Find f) fs h = h
+runs_over (command.Check query fields) fs h = h
+runs_over (command.Made hands events) fs h = h
+
+all_over : (asked : Command) (fs : Files) (out out' err err' : Option (List ℕ)) → RunsAll asked (Some fs) out out' err err' → SomeRun asked fs
+all_over (command.Find f) fs out out' err err' h = (h.0, h.1, h.2)
+all_over (command.Check query fields) fs out out' err err' h = (h.0, h.1, h.2)
+all_over (command.Made hands events) fs out out' err err' h = (h.0, h.1, h.2)
+
+-- a run of `made` stops for a fault or for want of memory alone
+made_stops : (hands events : ℕ) (files : Option Files) (err err' : Option (List ℕ)) (h : RunHalt)
+    → HasCause (command.Made hands events) files err err' h → ¬ IsFault h → run_status_of h ≡ 8
+made_stops hands events files err err' (run.Files (halt.Refused r)) cause calm = absurd (none-some cause.0 cause.1)
+made_stops hands events files err err' (run.Files (halt.Read name)) cause calm = absurd (calm tt)
+made_stops hands events files err err' (run.Files halt.Memory) cause calm = refl
+made_stops hands events files err err' run.Write cause calm = absurd (calm tt)
+made_stops hands events files err err' (run.Limit l) cause calm = cc
+made_stops hands events files err err' (run.Report by.Failed) cause calm = absurd (calm tt)
+made_stops hands events files err err' (run.Report by.Memory) cause calm = refl
+
+-- over a shelf that doesn't tell its files, only `made` is known to be ready
+silent_stops : (P : Files → Type 0) (asked : Command) (err err' : Option (List ℕ)) (h : RunHalt) → IsSomeAnd (files_for asked None) P
+    → HasCause asked None err err' h → ¬ IsFault h → run_status_of h ≡ 8
+silent_stops P (command.Find f) err err' h ready cause calm = absurd ready
+silent_stops P (command.Check query fields) err err' h ready cause calm = absurd ready
+silent_stops P (command.Made hands events) err err' h ready cause calm = made_stops hands events None err err' h cause calm
+
 -- a run of words that are this command, which is built
 module _ (words : List (List ℕ)) (asked : Command) (is : command_of words ≡ Some asked) (built : unbuilt_in asked ≡ None) where
   writes : (files : Files) (bytes report : List ℕ) → Runs asked files bytes report → Writes words files bytes report
   writes files bytes report runs = record { command = asked; is_command = is; is_built = built; runs = runs }
 
+  -- the files over which the words run
+  known_is : (files : Option Files) → known words files ≡ files_for asked files
+  known_is files = ap (λ (o : Option Command). files_known o files) is
+
+  abbrev AllWritten : (out out' err err' : Option (List ℕ)) → Files → Type 0
+  AllWritten out out' err err' fs =
+      (bytes : List ℕ) × (report : List ℕ) × Writes words fs bytes report × written.WroteAll bytes out out' × written.WroteAll report err err'
+
+  abbrev SomeWritten : (out out' : Option (List ℕ)) → Files → Type 0
+  SomeWritten out out' fs =
+      IfSome out (λ w. (out' ≡ Some w) ⊎ ((bytes : List ℕ) × (report : List ℕ) × Writes words fs bytes report × AppendsSome w bytes out'))
+
+  abbrev AnyWritten : Files → Type 0
+  AnyWritten fs = (bytes : List ℕ) × (report : List ℕ) × Writes words fs bytes report
+
+  abbrev Ready : Files → Type 0
+  Ready fs = AnyWritten fs × AreWithin words fs
+
   pub wrote_all : (files : Option Files) (out out' err err' : Option (List ℕ)) → RunsAll asked files out out' err err'
       → WroteAll words files out out' err err'
-  wrote_all None out out' err err' h = tt
-  wrote_all (Some fs) out out' err err' h = (h.0, h.1, writes fs h.0 h.1 h.2, h.3, h.4)
+  wrote_all files out out' err err' h =
+      subst (λ (o : Option Files). IfSome o (AllWritten out out' err err')) (sym (known_is files)) (by (files_for asked files) h)
+    where
+      by : (o : Option Files)
+          → IfSome o (λ fs. (bytes : List ℕ) × (report : List ℕ) × Runs asked fs bytes report × written.WroteAll bytes out out' × written.WroteAll report err err')
+          → IfSome o (AllWritten out out' err err')
+      by None h = tt
+      by (Some fs) h = (h.0, h.1, writes fs h.0 h.1 h.2, h.3, h.4)
 
   pub wrote_some : (files : Option Files) (out out' : Option (List ℕ)) → RunsSome asked files out out' → WroteSome words files out out'
-  wrote_some None out out' h = tt
-  wrote_some (Some fs) None out' h = tt
-  wrote_some (Some fs) (Some w) out' (inl same) = inl same
-  wrote_some (Some fs) (Some w) out' (inr h) = inr (h.0, h.1, writes fs h.0 h.1 h.2, h.3)
+  wrote_some files out out' h =
+      subst (λ (o : Option Files). IfSome o (SomeWritten out out')) (sym (known_is files)) (by (files_for asked files) out h)
+    where
+      by : (o : Option Files) (out : Option (List ℕ))
+          → IfSome o (λ fs. IfSome out (λ w. (out' ≡ Some w)
+          ⊎ ((bytes : List ℕ) × (report : List ℕ) × Runs asked fs bytes report × AppendsSome w bytes out')))
+          → IfSome o (SomeWritten out out')
+      by None out h = tt
+      by (Some fs) None h = tt
+      by (Some fs) (Some w) (inl same) = inl same
+      by (Some fs) (Some w) (inr h) = inr (h.0, h.1, writes fs h.0 h.1 h.2, h.3)
 
-  -- the command names its files
-  names_are : (asked : Command) → unbuilt_in asked ≡ None → names_of asked ≡ Some (names_in asked)
-  names_are (command.Find f) e = refl
-  names_are (command.Check query fields) e = refl
-  names_are (command.Made hands events) e = absurd (none-some _ (sym e))
+  refuses_own : (files : Files) (names : Names) → names_of asked ≡ Some names → (r : Refusal) → Refuses names files r
+      → IsRefused words files r
+  refuses_own files names named r refuses = by_files asked is built names named r refuses
 
-  refuses_own : (files : Files) (r : Refusal) → Refuses (names_in asked) files r → IsRefused words files r
-  refuses_own files r refuses = by_files asked is built (names_in asked) (names_are asked built) r refuses
-
-  some_writes : (files : Option Files) → IfSome files (λ fs. (bytes : List ℕ) × (report : List ℕ) × Runs asked fs bytes report)
-      → IfSome files (λ fs. (bytes : List ℕ) × (report : List ℕ) × Writes words fs bytes report)
-  some_writes None h = tt
-  some_writes (Some fs) h = (h.0, h.1, writes fs h.0 h.1 h.2)
+  some_writes : (files : Option Files)
+      → IfSome (files_for asked files) (λ fs. (bytes : List ℕ) × (report : List ℕ) × Runs asked fs bytes report)
+      → IfSome (known words files) AnyWritten
+  some_writes files h =
+      subst (λ (o : Option Files). IfSome o AnyWritten) (sym (known_is files)) (by (files_for asked files) h)
+    where
+      by : (o : Option Files) → IfSome o (λ fs. (bytes : List ℕ) × (report : List ℕ) × Runs asked fs bytes report) → IfSome o AnyWritten
+      by None h = tt
+      by (Some fs) h = (h.0, h.1, writes fs h.0 h.1 h.2)
 
   module _ (before after : List ℕ → ℕ) (err err' : Option (List ℕ)) where
     refused_so : (files : Option Files) (r : Refused) → HasCause asked files err err' (run.Files (halt.Refused r))
@@ -156,7 +220,7 @@ module _ (words : List (List ℕ)) (asked : Command) (is : command_of words ≡ 
     refused_so files r cause told = (
       refusal_text (refusal_of r),
       subst (λ (n : ℕ). Tells words files before after n (refusal_text (refusal_of r))) (sym (same_status r))
-          (runs.refused asked is built (names_in asked) (names_are asked built) (refusal_of r) cause.0 cause.1),
+          (runs.refused asked is built cause.0 cause.1 (refusal_of r) cause.2.0 cause.2.1),
       told,
     )
 
@@ -184,7 +248,7 @@ module _ (words : List (List ℕ)) (asked : Command) (is : command_of words ≡ 
     told_so files (run.Files (halt.Refused r)) cause faults told = refused_so files r cause told
     told_so files (run.Files (halt.Read name)) cause faults told = (
       text_of (halt.Read name),
-      runs.read_fault asked is (names_in asked) (names_are asked built) name.now cause.0 faults.rose cause.1,
+      runs.read_fault asked is cause.0 cause.1 name.now cause.2.0 faults.rose cause.2.1,
       told,
     )
     told_so files (run.Files halt.Memory) cause faults told = (codes "out of memory\n", runs.memory, told)
@@ -236,7 +300,7 @@ module _ (words : List (List ℕ)) (asked : Command) (is : command_of words ≡ 
   pub ready_stops : ReadyOrRefused → (fs : Files) (err err' : Option (List ℕ)) (h : RunHalt) → HasCause asked (Some fs) err err' h
       → IsReady words (Some fs) → ¬ IsFault h → run_status_of h ≡ 8
   ready_stops law fs err err' (run.Files (halt.Refused r)) cause ready calm =
-      absurd ((law words fs ready).0 (refusal_of r) (refuses_own fs (refusal_of r) cause.1))
+      absurd ((law words fs ready).0 (refusal_of r) (refuses_own fs cause.0 cause.1 (refusal_of r) cause.2.1))
   ready_stops law fs err err' (run.Files (halt.Read name)) cause ready calm = absurd (calm tt)
   ready_stops law fs err err' (run.Files halt.Memory) cause ready calm = refl
   ready_stops law fs err err' run.Write cause ready calm = absurd (calm tt)
@@ -250,11 +314,12 @@ module _ (words : List (List ℕ)) (asked : Command) (is : command_of words ≡ 
       → HasCause asked (Some fs) err err' h → ¬ (run_status_of h ≡ 4) → (r : Refusal) → IsRefused words fs r
       → (run_status_of h ≡ refusal_status r) ⊎ (run_status_of h ≡ 8)
   refused_as one apart fs err err' (run.Files (halt.Refused own)) cause calm r refuses =
-      inl (same_status own ∙ one words fs (refusal_of own) r (refuses_own fs (refusal_of own) cause.1) refuses)
+      inl (same_status own ∙ one words fs (refusal_of own) r (refuses_own fs cause.0 cause.1 (refusal_of own) cause.2.1) refuses)
   refused_as one apart fs err err' (run.Files (halt.Read name)) cause calm r refuses = absurd (calm refl)
   refused_as one apart fs err err' (run.Files halt.Memory) cause calm r refuses = inr refl
   refused_as one apart fs err err' run.Write cause calm r refuses =
-      absurd (apart words fs cause.0 cause.1 r (writes fs cause.0 cause.1 cause.2) refuses)
+      let some = runs_over asked fs cause in
+      absurd (apart words fs some.0 some.1 r (writes fs some.0 some.1 some.2) refuses)
   refused_as one apart fs err err' (run.Limit l) cause calm r refuses =
       absurd (apart words fs _ _ r (writes fs _ _ (searched cause.0 cause.1 fs (limit_of l) cause.3)) refuses)
   refused_as one apart fs err err' (run.Report o) cause calm r refuses =
@@ -295,7 +360,8 @@ module _ (words : List (List ℕ)) (asked : Command) (is : command_of words ≡ 
   pub stops_ready : ReadyOrRefused → (files : Option Files) (err err' : Option (List ℕ)) (h : RunHalt) (status : ℕ)
       → status ≡ run_status_of h → HasCause asked files err err' h → IsReady words files → ¬ IsFault h
       → (status ≡ 0) ⊎ (status ≡ 8)
-  stops_ready law None err err' h status same cause ready calm = absurd ready
+  stops_ready law None err err' h status same cause ready calm =
+      inr (same ∙ silent_stops Ready asked err err' h (subst (λ (o : Option Files). IsSomeAnd o Ready) (known_is None) ready) cause calm)
   stops_ready law (Some fs) err err' h status same cause ready calm = inr (same ∙ ready_stops law fs err err' h cause ready calm)
 
   pub stops_exact : OneStatus → ListedOrRefused → (files : Option Files) (err err' : Option (List ℕ)) (h : RunHalt) (status : ℕ)
@@ -311,7 +377,7 @@ module _ (words : List (List ℕ)) (asked : Command) (is : command_of words ≡ 
   pub done_exact : ListedOrRefused → (files : Option Files) (out out' err err' : Option (List ℕ)) (status : ℕ)
       → RunsAll asked files out out' err err' → RefusedAs words files status
   done_exact apart files out out' err err' status all fs r there refuses =
-      let h = subst (λ (o : Option Files). RunsAll asked o out out' err err') there all in
+      let h = all_over asked fs out out' err err' (subst (λ (o : Option Files). RunsAll asked o out out' err err') there all) in
       absurd (apart words fs h.0 h.1 r (writes fs h.0 h.1 h.2) refuses)
 
 pub never_ended : (h : RunHalt) (status : ℕ) → status ≡ run_status_of h → status ≡ 0 → ⊥

@@ -1,6 +1,6 @@
 -- A run of words that are no command, or one with a part that isn't built.
-use Rattle.std.proofs.Common.{◌≡◌, ℕ, inl, List, Option, Some, ap}
-use Rattle.std.specs.Prelude.{find}
+use Rattle.std.proofs.Common.{◌≡◌, ℕ, inl, List, Option, None, Some, ap}
+use Rattle.std.specs.Prelude.{find, IsSomeAnd}
 use Rattle.std.specs.Option.{option_map}
 use Rattle.eql_words.specs.declared.commands.Command.{Command}
 use Rattle.eql_words.specs.declared.parts.Part.{Part}
@@ -10,7 +10,8 @@ use Rattle.eql_runs.specs.Built.{unbuilt_parts, unbuilt_in}
 use Rattle.eql_runs.specs.Files.{Files}
 use Rattle.eql_runs.specs.Refusals.{refusal_text, unbuilt}
 use Rattle.eql_runs.specs.RunLaws.{OneStatus}
-use Rattle.eql_runs.specs.Runs.{Tells, no_form, by_word, RefusedAs}
+use Rattle.eql_runs.specs.Runs.{AreWithin, IsReady, known, Tells, no_form, by_word, RefusedAs, Writes}
+use Rattle.eql_runs.proofs.Refusing.{built_or_not}
 
 module _ (words : List (List ℕ)) (asked : Command) (is : command_of words ≡ Some asked)
     (part : Part) (first : find (uses asked) unbuilt_parts ≡ Some part) where
@@ -24,3 +25,11 @@ module _ (words : List (List ℕ)) (asked : Command) (is : command_of words ≡ 
   pub unbuilt_exact : OneStatus → (files : Option Files) → RefusedAs words files 3
   unbuilt_exact one files fs r there refuses =
       inl (one words fs (unbuilt (part_word part)) r (by_word asked is (part_word part) lacks) refuses)
+
+  pub unbuilt_never : (files : Option Files) → IsReady words files → ⊥
+  unbuilt_never files ready = by (known words files) ready
+    where
+      by : (o : Option Files)
+          → IsSomeAnd o (λ fs. ((bytes : List ℕ) × (report : List ℕ) × Writes words fs bytes report) × AreWithin words fs) → ⊥
+      by None h = h
+      by (Some fs) h = built_or_not words h.0.2.command asked (part_word part) h.0.2.is_command is h.0.2.is_built lacks

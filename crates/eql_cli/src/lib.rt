@@ -3,6 +3,7 @@
 
 mod check;
 mod gate;
+mod made;
 mod program;
 mod run;
 mod tell;

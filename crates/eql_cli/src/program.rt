@@ -19,7 +19,7 @@ pub struct Ended<K, E> {
     /// 0 done; 1 a file isn't there; 2 the words are no command; 3 the query or the mapping is refused, or a part of the
     /// command isn't built; 4 a read fault; 5 a write fault; 8 out of memory; 9 a limit is reached.
     pub status: u8,
-    /// The output, with the listing or the canonical text.
+    /// The output, with the listing, the canonical text or the summary.
     pub out: K,
     /// The report, or one line that says why there is none (three where the words are no command).
     pub err: E,
@@ -28,9 +28,9 @@ pub struct Ended<K, E> {
 /// Runs the program on the words after its name.
 ///
 /// `find` writes the listing of a query's matches in its shards to `out`, and the report to `err`; `check` writes the
-/// canonical text of a query to `out`. On status 0 they are there whole. On every other status `out` got a front of the
-/// listing or the text, nothing at all where the words or the files are refused, and `err` a front of what is told. What
-/// the shelf lent goes back to it.
+/// canonical text of a query to `out`; `made` writes a summary of what it finds in events that it makes itself to `out`. On
+/// status 0 they are there whole. On every other status `out` got a front of the listing, the text or the summary, nothing at
+/// all where the words or the files are refused, and `err` a front of what is told. What the shelf lent goes back to it.
 pub fn eql_main<R: Threads + Wait + Sync, H: Shelf, K: Sink, E: Sink, G: Gate + Sync>(
     _rt: &R,
     alloc: Global,

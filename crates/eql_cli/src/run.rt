@@ -11,6 +11,7 @@ ghost use Rattle.eql_runs.specs.Runs.{WroteAll, WroteSome, Told, Limited, IsRead
 ghost use Rattle.eql_cli.specs.Running.{HasCause, RunsAll, RunsSome};
 
 use crate::check::check_query;
+use crate::made::run_made;
 use crate::tell::{tell_memory, tell_run, tell_unbuilt, tell_usage};
 use eql_find::{RunHalt, find_matches};
 use eql_outside::{Shelf, Sink};
@@ -19,7 +20,7 @@ use eql_words::{Command, Part, commands_are_bounded, first_unbuilt, read_command
 use std::alloc::Global;
 
 /// The parts of commands that aren't built yet.
-const UNBUILT: [Part; 2] = [Part::Made, Part::Checkpoint];
+const UNBUILT: [Part; 1] = [Part::Checkpoint];
 
 /// Runs a command that is built.
 fn run_command<'a, H: Shelf, K: Sink, E: Sink>(
@@ -61,7 +62,7 @@ fn run_command<'a, H: Shelf, K: Sink, E: Sink>(
     match command {
         Command::Find(find) => find_matches(alloc, find, shelf, out, err),
         Command::Check { query, fields } => check_query(alloc, query, fields, shelf, out),
-        Command::Made { .. } => unreachable!(),
+        Command::Made { hands, events } => run_made(alloc, *hands, *events, out),
     }
 }
 

@@ -150,8 +150,8 @@ fn shelf_calls() -> [Row; 8] {
 fn unreached() -> [Row; 8] {
     [
         usage("words", "find").fails(&[(Object::Shelf, 1), QUERY]),
-        ended("a part that isn't built", 3, "unbuilt: made")
-            .words("made 5")
+        ended("a part that isn't built", 3, "unbuilt: --checkpoint")
+            .words("find --query q --fields f --slack 1s --checkpoint c --every 5 s0")
             .fails(&[(Object::Shelf, 1)]),
         refused("the grammar", "x", "parse: Syntax at 1").fails(&[FIELDS, SHARD]),
         refused("the grammar of a query to check", "x", "parse: Syntax at 1")
@@ -214,8 +214,8 @@ fn writes() -> [Row; 6] {
 fn untold() -> [Row; 8] {
     [
         usage("words", "find").fails(&[ERR]),
-        ended("a part that isn't built", 3, "unbuilt: made")
-            .words("made 5")
+        ended("a part that isn't built", 3, "unbuilt: --checkpoint")
+            .words("find --query q --fields f --slack 1s --checkpoint c --every 5 s0")
             .fails(&[ERR]),
         ended("a missing file", 1, "no file p")
             .words("find --query p --fields f s0")

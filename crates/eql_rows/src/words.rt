@@ -107,11 +107,38 @@ fn forms() -> [Row; 7] {
     ]
 }
 
-/// Parts of commands that aren't built yet. They are told before any file is opened.
-fn unbuilt() -> [Row; 5] {
+/// Searches over events that the program makes itself. They need no file.
+fn made() -> [Row; 3] {
     [
-        ended("made events", 3, "unbuilt: made").words("made 5"),
-        ended("made events with hands", 3, "unbuilt: made").words("made --hands 4 300000"),
+        printed(
+            "no event",
+            "",
+            &["events 0", "matches 0", "first none", "last none"],
+        )
+        .words("made 0"),
+        printed(
+            "events before the first match",
+            "",
+            &["events 200", "matches 0", "first none", "last none"],
+        )
+        .words("made --hands=16 200"),
+        printed(
+            "the first match",
+            "",
+            &[
+                "events 201",
+                "matches 1",
+                "first 1 [\"u0\"] 0:1 0:26 0:51",
+                "last 1 [\"u0\"] 0:1 0:26 0:51",
+            ],
+        )
+        .words("made 201"),
+    ]
+}
+
+/// Parts of commands that aren't built yet. They are told before any file is opened.
+fn unbuilt() -> [Row; 3] {
+    [
         ended("a checkpoint", 3, "unbuilt: --checkpoint").words(
             "find --query q --fields f --slack 0ms --checkpoint c --every 5 s0",
         ),
@@ -229,6 +256,7 @@ fn causes() -> [Row; 8] {
 fn words_make_a_command_or_none(rt: HostRuntime) -> Result<(), Fail> {
     check(&rt, rt.alloc(), &no_commands())?;
     check(&rt, rt.alloc(), &forms())?;
+    check(&rt, rt.alloc(), &made())?;
     check(&rt, rt.alloc(), &unbuilt())
 }
 

@@ -1,6 +1,5 @@
 -- Nothing is left out: whatever the words and the files are, the words are no command, or the run is refused, or it writes.
-use Rattle.std.proofs.Common.{◌≡◌, ℕ, ◌⊎◌, inl, inr, List, [], Some, None, refl, sym}
-use Rattle.std.proofs.lemmas.Option.{none-some}
+use Rattle.std.proofs.Common.{◌≡◌, ℕ, ◌⊎◌, inl, inr, List, [], Some, None, refl}
 use Rattle.std.specs.Prelude.{codes, encode_utf8_all, ◌++◌}
 use Rattle.eql_parser.specs.Printed.{printed}
 use Rattle.eql_words.specs.declared.commands.Command.{Command}
@@ -11,8 +10,10 @@ use Rattle.eql_runs.specs.Built.{unbuilt_in}
 use Rattle.eql_runs.specs.Files.{Files}
 use Rattle.eql_runs.specs.Refusals.{Names, Refusal, unbuilt}
 use Rattle.eql_runs.specs.Searches.{Search, listing_of, report_of}
+use Rattle.eql_runs.specs.Summaries.{made_lines}
 use Rattle.eql_runs.specs.Runs.{names_of, Runs, Writes, IsRefused, by_word, by_files}
 use Rattle.eql_runs.specs.RunLaws.{NoRunIsLeftOut}
+use Rattle.eql_runs.proofs.MadeQuery.{made_is_a_search}
 use Rattle.eql_runs.proofs.Covering.{CoverLaws, NoneOrSome, none_or_some, HasAll, AllOrRefused, texts_there, all_or_refused}
 
 -- the files that commands name
@@ -50,6 +51,11 @@ check_runs files query fields all = (
   record { tree = all.tree; kinds = all.kinds; checked = all.checked; bytes_are = refl; report_is = refl },
 )
 
+made_runs : CoverLaws → (files : Files) (hands events : ℕ) → RunsSome (command.Made hands events) files
+made_runs laws files hands events =
+    let made = made_is_a_search laws.exact in
+    (made_lines events made.0, [], record { search = made.0; is_search = made.1; bytes_are = refl; report_is = refl })
+
 -- words that are a command are refused with the files, or a run of them writes
 abbrev RefusedOrWrites : List (List ℕ) → Files → Type 0
 RefusedOrWrites words files =
@@ -71,7 +77,9 @@ by_command laws words files (command.Find find) is built =
 by_command laws words files (command.Check query fields) is built =
     by_all words files (command.Check query fields) (check_names query fields) is built refl
     (check_runs files query fields) (all_or_refused laws (check_names query fields) files)
-by_command laws words files (command.Made hands events) is built = absurd (none-some (codes "made") (sym built))
+by_command laws words files (command.Made hands events) is built =
+    let some = made_runs laws files hands events in
+    inr (some.0, some.1, record { command = command.Made hands events; is_command = is; is_built = built; runs = some.2 })
 
 by_part : (laws : CoverLaws) (words : List (List ℕ)) (files : Files) (c : Command) → command_of words ≡ Some c
     → NoneOrSome (unbuilt_in c) → RefusedOrWrites words files

@@ -4,3 +4,5 @@ pub mod Listing
 pub mod Counting
 pub mod Covering
 pub mod Ending
+mod MadeQuery
+mod MadeTexts

@@ -125,7 +125,7 @@ one_query laws name files p q a b =
     laws.one_query b.tokens p q (subst (λ (x : List Token). IsQuery x p) same a.read.is_query) b.read.is_query
 
 -- a text is one mapping, or none for one cause
-abbrev mapping_or : List (List ℕ × FieldKind) → Result (List (List ℕ × FieldKind)) MapRefused → List (List ℕ × FieldKind)
+abbrev pub mapping_or : List (List ℕ × FieldKind) → Result (List (List ℕ × FieldKind)) MapRefused → List (List ℕ × FieldKind)
 mapping_or d (Ok mapping) = mapping
 mapping_or d (Err refused) = d
 

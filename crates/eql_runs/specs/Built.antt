@@ -9,7 +9,7 @@ use Rattle.eql_words.specs.Features.{uses, part_word}
 
 -- the parts of commands that aren't built yet
 abbrev pub unbuilt_parts : List Part
-unbuilt_parts = part.Made ∷ part.Checkpoint ∷ []
+unbuilt_parts = part.Checkpoint ∷ []
 
 -- the word of the first of them that a command has
 abbrev pub unbuilt_in : Command → Option (List ℕ)

@@ -2,6 +2,8 @@ pub mod Built
 pub mod Files
 pub mod Refusals
 pub mod Searches
+pub mod Summaries
 pub mod Runs
 pub mod RunLaws
 pub mod RunExamples
+pub mod SummaryExamples

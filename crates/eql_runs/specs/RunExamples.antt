@@ -39,8 +39,8 @@ checkpoint_is_unbuilt = refl
 check_is_built : unbuilt_in (command.Check (codes "q") (codes "f")) ≡ None
 check_is_built = refl
 
-made_is_unbuilt : unbuilt_in (command.Made 1 300) ≡ Some (codes "made")
-made_is_unbuilt = refl
+made_is_built : unbuilt_in (command.Made 1 300) ≡ None
+made_is_built = refl
 
 -- `check` names no shards
 names_of_check :
@@ -65,8 +65,8 @@ no_file_is_1 : refusal_status (no_file (codes "a")) ≡ 1
 no_file_is_1 = refl
 
 unbuilt_is_told :
-    (refusal_status (unbuilt (codes "made")) ≡ 3)
-    × (refusal_text (unbuilt (codes "made")) ≡ codes "unbuilt: made\n")
+    (refusal_status (unbuilt (codes "--checkpoint")) ≡ 3)
+    × (refusal_text (unbuilt (codes "--checkpoint")) ≡ codes "unbuilt: --checkpoint\n")
 unfolding lib.Utf8.encode
 unbuilt_is_told = (refl, refl)
 

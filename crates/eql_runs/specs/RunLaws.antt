@@ -1,17 +1,21 @@
 -- Laws of what a run writes and refuses: they say that the clauses of the top call pin its output.
 use Rattle.std.specs.Prelude.{◌≡◌, ◌≤◌, ◌<◌, ◌^◌, ◌⊎◌, ℕ, List, length, Some, None, All}
+use Rattle.eql_made.specs.Made.{made_texts}
 use Rattle.eql_laws.specs.Books.{greatest_shards}
 use Rattle.eql_laws.specs.Counting.{IsShardText}
 use Rattle.eql_parser.specs.declared.refusal.ParseRefused.{ParseRefused}
 use Rattle.eql_parser.specs.declared.refusal.ParseRefused.TheVariants.{Syntax}
+use Rattle.eql_parser.specs.QueryTree.{QueryTree}
+use Rattle.eql_values.specs.declared.value.Kind.{Kind}
 use Rattle.eql_check.specs.Kinds.{kind_at}
 use Rattle.eql_check.specs.Typing.{IsChecked}
 use Rattle.eql_words.specs.declared.commands.Command.TheVariants as command
 use Rattle.eql_words.specs.declared.commands.Find.{Find}
 use Rattle.eql_words.specs.Commands.{command_of}
-use Rattle.eql_runs.specs.Files.{Files}
-use Rattle.eql_runs.specs.Refusals.{Refusal, refusal_status, parse}
+use Rattle.eql_runs.specs.Files.{Files, first_missing, HasChecked, IsWithin}
+use Rattle.eql_runs.specs.Refusals.{Names, Refusal, Refuses, refusal_status, parse}
 use Rattle.eql_runs.specs.Searches.{Search, matches_of}
+use Rattle.eql_runs.specs.Summaries.{IsMadeSearch}
 use Rattle.eql_runs.specs.Runs.{Searches, Writes, IsRefused, IsReady, Limited}
 
 -- the words and the files determine the bytes and the report
@@ -57,6 +61,13 @@ NoRunIsLeftOut =
     → (command_of words ≡ None) ⊎ ((r : Refusal) × IsRefused words files r)
     ⊎ ((bytes report : List ℕ) × Writes words files bytes report)
 
+-- files that are all there, with a query that is checked, aren't refused
+abbrev pub AcceptedOrRefused : Type 0
+AcceptedOrRefused =
+    (names : Names) (files : Files) (query : QueryTree) (mapping : List (List ℕ × Kind)) (r : Refusal)
+    → HasChecked names.query names.fields files query mapping → first_missing files names.shards ≡ None
+    → Refuses names files r → ⊥
+
 -- a run that can be done isn't refused, and reaches no limit
 abbrev pub ReadyOrRefused : Type 0
 ReadyOrRefused =
@@ -76,3 +87,11 @@ RunsFindFew =
     (words : List (List ℕ)) (files : Files) (find : Find) (search : Search) (texts : List (List ℕ))
     → command_of words ≡ Some (command.Find find) → Searches find files search texts
     → All IsShardText texts → length (matches_of search texts) < 2 ^ 64
+
+-- the query and the mapping of a run of `made` are a search
+abbrev pub MadeIsASearch : Type 0
+MadeIsASearch = (search : Search) × IsMadeSearch search
+
+-- and each text of such a run can be read to its end
+abbrev pub MadeIsWithin : Type 0
+MadeIsWithin = (events : ℕ) → events ≤ 1000000 → All IsWithin (made_texts events)

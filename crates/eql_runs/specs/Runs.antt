@@ -17,6 +17,7 @@ use Rattle.eql_words.specs.Commands.{command_of}
 use Rattle.eql_words.specs.Usage.{usage_text}
 use Rattle.eql_values.specs.declared.cut.Counts.{Counts}
 use Rattle.eql_runs.specs.Searches.{Search, listing_of, report_of, report_lines}
+use Rattle.eql_runs.specs.Summaries.{Makes}
 use Rattle.eql_runs.specs.Built.{unbuilt_in}
 use Rattle.eql_runs.specs.Files.{Files, first_missing, HasQuery, HasChecked, HasTexts, IsWithin}
 use Rattle.eql_runs.specs.Refusals.{Names, Refusal, Refuses, refusal_status, refusal_text, printed_name}
@@ -27,6 +28,21 @@ abbrev pub names_of : Command → Option Names
 names_of (command.Find f) = Some (record { query = f.query; fields = f.fields; shards = f.shards })
 names_of (command.Check query fields) = Some (record { query = query; fields = fields; shards = [] })
 names_of (command.Made hands events) = None
+
+-- the files over which a command runs, where they are known: those that the shelf tells, and for one
+-- that names none no files
+abbrev pub files_for : Command → Option Files → Option Files
+files_for (command.Find f) told = told
+files_for (command.Check query fields) told = told
+files_for (command.Made hands events) told = Some []
+
+abbrev pub files_known : Option Command → Option Files → Option Files
+files_known None told = told
+files_known (Some command) told = files_for command told
+
+-- the files over which these words run
+abbrev pub known : List (List ℕ) → Option Files → Option Files
+known words told = files_known (command_of words) told
 
 -- the files of a command are there, its query is checked, and so it is this search over these texts
 pub record Searches (find : Find) (files : Files) (search : Search) (texts : List (List ℕ)) : Type 0 where
@@ -56,7 +72,7 @@ pub record Prints (query fields : List ℕ) (files : Files) (bytes report : List
 abbrev pub Runs : Command → Files → (bytes report : List ℕ) → Type 0
 Runs (command.Find f) files bytes report = Finds f files bytes report
 Runs (command.Check query fields) files bytes report = Prints query fields files bytes report
-Runs (command.Made hands events) files bytes report = ⊥
+Runs (command.Made hands events) files bytes report = Makes events bytes report
 
 -- a run of these words, which are a command that is built, writes these bytes, and this report
 pub record Writes (words : List (List ℕ)) (files : Files) (bytes report : List ℕ) : Type 0 where
@@ -158,7 +174,7 @@ pub data Tells (words : List (List ℕ)) (files : Option Files) (before after : 
       → Rose (before name) (after name) → IfSome files (λ fs. Reaches names fs name)
       → Tells words files before after 4 (codes "read fault: " ++ printed_name name ++ codes "\n")
   write_fault :
-      IfSome files (λ fs. (bytes report : List ℕ) × Writes words fs bytes report)
+      IfSome (known words files) (λ fs. (bytes report : List ℕ) × Writes words fs bytes report)
       → Tells words files before after 5 (codes "write fault\n")
   report_refused :
       (report : List ℕ) → ReportsOn words files report → Tells words files before after 5 report
@@ -171,18 +187,18 @@ pub data Tells (words : List (List ℕ)) (files : Option Files) (before after : 
       → IfSome files (λ fs. SearchesBeyond find fs limit)
       → Tells words files before after 9 (limit_text limit)
 
--- where the shelf tells its files, the run was one that writes bytes and a report, and where the
--- sinks tell too they got just these
+-- where the files of the run are known, it was one that writes bytes and a report, and where the sinks
+-- tell too they got just these
 abbrev pub WroteAll : List (List ℕ) → Option Files → (out out' err err' : Option (List ℕ)) → Type 0
 WroteAll words files out out' err err' =
-    IfSome files (λ fs.
+    IfSome (known words files) (λ fs.
     (bytes : List ℕ) × (report : List ℕ) × Writes words fs bytes report
     × written.WroteAll bytes out out' × written.WroteAll report err err')
 
--- where both tell, the output got nothing, or a front of what the run writes
+-- where they are known and the output tells, it got nothing, or a front of what the run writes
 abbrev pub WroteSome : List (List ℕ) → Option Files → (out out' : Option (List ℕ)) → Type 0
 WroteSome words files out out' =
-    IfSome files (λ fs. IfSome out (λ w.
+    IfSome (known words files) (λ fs. IfSome out (λ w.
     (out' ≡ Some w)
     ⊎ ((bytes : List ℕ) × (report : List ℕ) × Writes words fs bytes report × AppendsSome w bytes out')))
 
@@ -201,7 +217,7 @@ AreWithin words files =
 -- the words and files are such that a run writes bytes, within the limits
 abbrev pub IsReady : List (List ℕ) → Option Files → Type 0
 IsReady words files =
-    IsSomeAnd files (λ fs.
+    IsSomeAnd (known words files) (λ fs.
     ((bytes : List ℕ) × (report : List ℕ) × Writes words fs bytes report) × AreWithin words fs)
 
 -- where words and files are refused, the status is that of the cause, or memory ran out

@@ -1,5 +1,5 @@
 //! Laws of what a run writes and refuses, each the contract of a function that does nothing.
-ghost use Rattle.eql_runs.specs.RunLaws.{OneListing, OneRefusal, OneStatus, ListedOrRefused, ReadyOrRefused, MatchesAreFew, NoRunIsLeftOut, RunsFindFew};
+ghost use Rattle.eql_runs.specs.RunLaws.{OneListing, OneRefusal, OneStatus, ListedOrRefused, AcceptedOrRefused, ReadyOrRefused, MadeIsASearch, MadeIsWithin, MatchesAreFew, NoRunIsLeftOut, RunsFindFew};
 
 use eql_check::check_is_exact;
 use eql_laws::found_is_few;
@@ -8,14 +8,15 @@ use eql_parser::{one_query, one_syntax, query_or_refused};
 use eql_stages::readers_fit;
 use eql_words::commands_are_bounded;
 
-/// The words and the files determine what a run writes, or that it is refused and for which cause, and never both. A run
-/// that can be done isn't refused, and reaches no limit. Where a query's tokens are no query, they don't determine by
+/// The words and the files determine what a run writes, or that it is refused and for which cause, and never both. Files
+/// that are all there and checked aren't refused. A run that can be done isn't refused, and reaches no limit. Where a query's tokens are no query, they don't determine by
 /// which rule the refusal says so; that it has one status stands without this.
 pub fn runs_are_determined()
     ensures listing { OneListing }
     ensures refusal { OneRefusal }
     ensures status { OneStatus }
     ensures apart { ListedOrRefused }
+    ensures accepted { AcceptedOrRefused }
     ensures ready { ReadyOrRefused }
 {
     one_list();
@@ -45,4 +46,13 @@ pub fn matches_are_counted()
     found_is_few();
     readers_fit();
     commands_are_bounded();
+}
+
+/// The query and the mapping of `made` are a search, and each text of such a run can be read to its end. So it isn't
+/// refused, and reaches no limit.
+pub fn made_is_searched()
+    ensures search { MadeIsASearch }
+    ensures within { MadeIsWithin }
+{
+    check_is_exact();
 }

@@ -4,4 +4,4 @@
 
 mod laws;
 
-pub use laws::{matches_are_counted, no_run_is_left_out, runs_are_determined};
+pub use laws::{made_is_searched, matches_are_counted, no_run_is_left_out, runs_are_determined};

@@ -1,6 +1,6 @@
 use Rattle.eql_runs.proofs.Reading.{QueryLaws}
-use Rattle.eql_runs.proofs.Refusing.{one_cause_of, same_status}
-use Rattle.eql_runs.proofs.Listing.{one_listing, listed_or_refused, ready_or_limited}
+use Rattle.eql_runs.proofs.Refusing.{none_refused, one_cause_of, same_status}
+use Rattle.eql_runs.proofs.Listing.{one_listing, listed_or_refused, ready_or_refused, ready_or_limited}
 use Rattle.eql_runs.proofs.laws.runs_are_determined.Goals as goal
 
 pub returns-clause-listing : goal.returns-clause-listing
@@ -23,9 +23,14 @@ returns-clause-apart c = λ words files bytes report r writes refused.
     let laws : QueryLaws = record { one_list = c.one_list.ensures; none_spelled = c.none_spelled.ensures; one_break = c.one_break.ensures; one_query = c.one_query.ensures; one_syntax = c.one_syntax.ensures; exact = c.check_is_exact.ensures } in
     listed_or_refused laws words files bytes report r writes refused
 
+pub returns-clause-accepted : goal.returns-clause-accepted
+returns-clause-accepted c = λ names files query mapping r checked there refused.
+    let laws : QueryLaws = record { one_list = c.one_list.ensures; none_spelled = c.none_spelled.ensures; one_break = c.one_break.ensures; one_query = c.one_query.ensures; one_syntax = c.one_syntax.ensures; exact = c.check_is_exact.ensures } in
+    none_refused laws names files query mapping checked there r refused
+
 pub returns-clause-ready : goal.returns-clause-ready
 returns-clause-ready c = λ words files ready.
     let laws : QueryLaws = record { one_list = c.one_list.ensures; none_spelled = c.none_spelled.ensures; one_break = c.one_break.ensures; one_query = c.one_query.ensures; one_syntax = c.one_syntax.ensures; exact = c.check_is_exact.ensures } in (
-      (λ r refused. listed_or_refused laws words files ready.0.0 ready.0.1 r ready.0.2 refused),
+      (λ r refused. ready_or_refused laws words files ready r refused),
       ready_or_limited words files ready,
     )

@@ -1,0 +1,37 @@
+//! A run of `made`: the summary of a search over made events.
+ghost use Rattle.std.specs.Prelude.{◌≤◌, IfErr, OnOk, OnErr};
+ghost use Rattle.eql_outside.specs.Unfailing.{IsUnfailing};
+ghost use Rattle.eql_find.specs.Halts.{IsFault, OutAs};
+ghost use Rattle.eql_summary.specs.Written.{MadeAll, MadeFront};
+ghost use Rattle.eql_cli.specs.Printing.{StopsWriting};
+
+use eql_find::RunHalt;
+use eql_inputs::Halt;
+use eql_outside::{OutRefused, Sink};
+use eql_summary::write_summary;
+use std::alloc::Global;
+
+/// Runs `made`: searches so many events that the program makes itself, and writes the summary to `out`.
+///
+/// On `Ok` it is there whole. Else `out` got a front of it.
+pub(crate) fn run_made<'a, K: Sink>(
+    alloc: Global,
+    hands: u32,
+    events: u32,
+    out: &mut K,
+) -> Result<(), RunHalt<'a>>
+    requires hands { hands ≤ 16 }
+    requires events { events ≤ 1000000 }
+    ensures done { OnOk result (MadeAll events (K.written out.old) (K.written out.new)) }
+    ensures prefix { OnErr result (MadeFront events (K.written out.old) (K.written out.new)) }
+    ensures stops { IfErr result StopsWriting }
+    ensures out { OutAs result (K.fault_count out.old) (K.fault_count out.new) }
+    ensures counts { K.fault_count out.old ≤ K.fault_count out.new }
+    ensures unfailing { IsUnfailing (K.fault_plan out.old) → IfErr result (λ halt. ¬ IsFault halt) }
+{
+    match write_summary(alloc, hands, events, out) {
+        Ok(()) => Ok(()),
+        Err(OutRefused::Failed) => Err(RunHalt::Write),
+        Err(OutRefused::Memory) => Err(RunHalt::Files(Halt::Memory)),
+    }
+}

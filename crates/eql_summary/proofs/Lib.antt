@@ -1,0 +1,5 @@
+mod LineLemmas
+mod InputLemmas
+mod SearchLemmas
+mod FeedLemmas
+mod ListingLemmas

@@ -1,0 +1,53 @@
+-- A listing has a line for each match.
+use Rattle.std.proofs.Common.{◌≡◌, ℕ, Bool, List, [], ◌∷◌, ◌++◌, map, refl, sym, ap, ◌∙◌, append_assoc, codes}
+use Rattle.std.specs.Prelude.{Option, None, Some, IfSome, IfOk, Result, Ok, Err, take}
+use Rattle.std.proofs.lemmas.List.{append-nil}
+use Rattle.std.proofs.lemmas.List.Concat.{flat_map-cons}
+use Rattle.std.proofs.lemmas.Option.{same_Some}
+use Rattle.eql_values.specs.declared.found.Numbered.{Numbered}
+use Rattle.eql_values.specs.Lines.{lines_of}
+use Rattle.eql_outside.specs.Written.{WroteFront}
+use Rattle.eql_book.specs.Listing.{match_text, match_line, listing}
+use Rattle.eql_made.specs.Made.{made_texts}
+use Rattle.eql_runs.specs.Searches.{listed_of}
+use Rattle.eql_runs.specs.RunLaws.{MadeIsASearch}
+use Rattle.eql_runs.specs.Summaries.{made_lines, Makes, summary}
+use Rattle.eql_summary.specs.Written.{IsMadeListing, MadeFront}
+use Rattle.eql_summary.proofs.FeedLemmas.{one_match}
+use Rattle.eql_summary.proofs.LineLemmas.{line_fed}
+
+line_before : (line rest : List ℕ) → (line ++ codes "\n") ++ rest ≡ line ++ 10 ∷ rest
+unfolding lib.Utf8.encode
+line_before line rest = append_assoc line (10 ∷ []) rest
+
+listing_lines : (places : Bool) (list : List Numbered) → lines_of (listing places list) ≡ map (match_text places) list
+listing_lines places [] = refl
+listing_lines places (n ∷ list) =
+    ap lines_of (flat_map-cons (match_line places) n list ∙ line_before (match_text places n) (listing places list))
+    ∙ line_fed (match_text places n) (listing places list) (one_match places n)
+    ∙ ap (λ (l : List (List ℕ)). match_text places n ∷ l) (listing_lines places list)
+
+-- the summary of a listing is what the run writes
+pub summary_makes : (events : ℕ) (written : Option (List ℕ)) (bytes listing text : List ℕ) → IsMadeListing events written
+    → written ≡ Some bytes → listing ≡ bytes → text ≡ summary events (lines_of listing) → Makes events text []
+summary_makes events written bytes listing text made bytes_are lent is = record {
+  search = made.0;
+  is_search = made.1;
+  bytes_are =
+      is ∙ ap (λ (b : List ℕ). summary events (lines_of b)) (lent ∙ same_Some _ _ (sym bytes_are ∙ made.2))
+      ∙ ap (summary events) (listing_lines made.0.places (listed_of made.0 (made_texts events)));
+  report_is = refl;
+}
+
+-- nothing is a front of what the run writes
+nothing_wrote : (bytes : List ℕ) (out : Option (List ℕ)) → WroteFront bytes out out
+nothing_wrote bytes None = tt
+nothing_wrote bytes (Some w) = (0, ap (λ (x : List ℕ). Some x) (sym (append-nil w)))
+
+pub made_nothing : MadeIsASearch → (events : ℕ) (out : Option (List ℕ)) → MadeFront events out out
+made_nothing made events out = (
+  made_lines events made.0,
+  [],
+  record { search = made.0; is_search = made.1; bytes_are = refl; report_is = refl },
+  nothing_wrote (made_lines events made.0) out,
+)

@@ -1,0 +1,119 @@
+-- A search over made files lists what the definition says, and stops for want of memory alone.
+use Rattle.std.proofs.Common.{◌≡◌, ℕ, ◌≤◌, List, [], ◌∷◌, ◌++◌, Option, Some, None, refl, sym, ap, ap₂, ◌∙◌, subst, codes}
+use Rattle.std.specs.Prelude.{All, Ok}
+use Rattle.eql_check.specs.Mappings.{mapping_of}
+use Rattle.eql_outside.specs.declared.refused.OutRefused.TheVariants as refused_by
+use Rattle.eql_outside.specs.Plans.{FaultPlan, unstarted}
+use Rattle.eql_outside.specs.Unfailing.{IsUnfailing}
+use Rattle.eql_made.specs.Made.{made_texts}
+use Rattle.eql_words.specs.declared.commands.Find.{Find}
+use Rattle.eql_runs.specs.Files.{Files, first_missing, HasTokens, HasTexts, HasChecked, IsWithin}
+use Rattle.eql_runs.specs.RunLaws.{AcceptedOrRefused, MadeIsASearch, MadeIsWithin}
+use Rattle.eql_runs.specs.Runs.{Finds, Searches, SearchesBeyond, ShardLimit}
+use Rattle.eql_runs.specs.Searches.{Search, listing_of}
+use Rattle.eql_runs.specs.Summaries.{made_query, made_mapping, IsMadeSearch}
+use Rattle.eql_runs.proofs.Listing.{not_beyond}
+use Rattle.eql_runs.proofs.Reading.{one_text, one_texts}
+use Rattle.eql_inputs.specs.declared.halt.Halt.TheVariants as halt
+use Rattle.eql_inputs.specs.Halts.{refusal_of}
+use Rattle.eql_find.specs.declared.halt.RunHalt.{RunHalt}
+use Rattle.eql_find.specs.declared.halt.RunHalt.TheVariants as run
+use Rattle.eql_find.specs.Finding.{FoundAll, HasCause, names_in}
+use Rattle.eql_find.specs.Halts.{IsFault, limit_of}
+use Rattle.eql_summary.specs.Inputs.{made_files, made_find}
+use Rattle.eql_summary.specs.Written.{IsMadeListing, IsWant}
+
+-- an object for which no failure is planned
+pub no_fails : (plan : Option FaultPlan) (fails : List ℕ) → plan ≡ Some (unstarted fails) → fails ≡ [] → IsUnfailing plan
+no_fails plan fails is none = subst IsUnfailing (sym is) (record { none = none; no_stop = refl })
+
+module _ (hands events : ℕ) where
+  -- the files are there, and checked
+  is_checked : (search : Search) → IsMadeSearch search
+      → HasChecked (codes "query") (codes "fields") (made_files events) search.query search.mapping
+  unfolding lib.Utf8.encode
+  is_checked search made = record {
+    both = record {
+      query_there = record {
+        tokens = made.tokens;
+        spelled = record { text = made_query; there = refl; has = made.spelled };
+        read = made.read;
+      };
+      mapping_there = record { text = made_mapping; there = refl; is_mapping = made.is_mapping };
+    };
+    checked = made.checked;
+  }
+
+  are_there : HasTexts (made_find hands).shards (made_files events) (made_texts events)
+  unfolding lib.Utf8.encode
+  are_there = (refl, (refl, (refl, (refl, tt))))
+
+  none_missing : first_missing (made_files events) (made_find hands).shards ≡ None
+  unfolding lib.Utf8.encode
+  none_missing = refl
+
+  module _ (accepted : AcceptedOrRefused) (made : MadeIsASearch) (within : MadeIsWithin) (few : events ≤ 1000000) where
+    no_limit : (limit : ShardLimit) → SearchesBeyond (made_find hands) (made_files events) limit → ⊥
+    no_limit limit b =
+        let same = one_texts (made_find hands).shards (made_files events) b.texts (made_texts events) b.searches.there are_there in
+        not_beyond b.texts limit (subst (λ (ts : List (List ℕ)). All IsWithin ts) (sym same) (within events few)) b.beyond
+
+    -- a search that stops without a fault stops for want of memory
+    made_stops : (err err' : Option (List ℕ)) (h : RunHalt)
+        → HasCause (made_find hands) (Some (made_files events)) err err' h → ¬ IsFault h → IsWant h
+    made_stops err err' (run.Files (halt.Refused r)) cause calm =
+        absurd (accepted (names_in (made_find hands)) (made_files events) made.0.query made.0.mapping (refusal_of r)
+        (is_checked made.0 made.1) none_missing cause.1)
+    made_stops err err' (run.Files (halt.Read name)) cause calm = absurd (calm tt)
+    made_stops err err' (run.Files halt.Memory) cause calm = tt
+    made_stops err err' run.Write cause calm = absurd (calm tt)
+    made_stops err err' (run.Limit l) cause calm = absurd (no_limit (limit_of l) cause.1)
+    made_stops err err' (run.Report refused_by.Failed) cause calm = absurd (calm tt)
+    made_stops err err' (run.Report refused_by.Memory) cause calm = tt
+
+    pub stops_for_want : (find : Find) (files : Option Files) (err err' : Option (List ℕ)) (h : RunHalt) → find ≡ made_find hands
+        → files ≡ Some (made_files events) → HasCause find files err err' h → ¬ IsFault h → IsWant h
+    stops_for_want find files err err' h find_is files_are cause calm =
+        made_stops err err' h
+        (subst (λ (f : Find). HasCause f (Some (made_files events)) err err' h) find_is
+        (subst (λ (fs : Option Files). HasCause find fs err err' h) files_are cause)) calm
+
+  -- what is searched is the search of the texts
+  is_made : (search : Search) (texts : List (List ℕ)) → Searches (made_find hands) (made_files events) search texts
+      → IsMadeSearch search
+  unfolding lib.Utf8.encode
+  is_made search texts s =
+      let q = s.checked.both.query_there in
+      let m = s.checked.both.mapping_there in
+      let query : q.spelled.text ≡ made_query = one_text (codes "query") (made_files events) q.spelled.text made_query q.spelled.there refl in
+      let mapping : m.text ≡ made_mapping = one_text (codes "fields") (made_files events) m.text made_mapping m.there refl in
+      record {
+        tokens = q.tokens;
+        spelled = subst (λ (t : List ℕ). HasTokens t q.tokens) query q.spelled.has;
+        read = q.read;
+        is_mapping = subst (λ (t : List ℕ). mapping_of t ≡ Ok search.mapping) mapping m.is_mapping;
+        checked = s.checked.checked;
+        tie = s.tie;
+        slack = s.slack;
+        places = s.places;
+      }
+
+  found_made : (bytes report : List ℕ) → Finds (made_find hands) (made_files events) bytes report → IsMadeListing events (Some bytes)
+  found_made bytes report f = (
+    f.search,
+    is_made f.search f.texts f.searches,
+    ap (λ (x : List ℕ). Some x) (f.bytes_are
+        ∙ ap (listing_of f.search) (one_texts (made_find hands).shards (made_files events) f.texts (made_texts events) f.searches.there are_there)),
+  )
+
+  made_found : (out' err err' : Option (List ℕ)) → FoundAll (made_find hands) (Some (made_files events)) (Some []) out' err err'
+      → IsMadeListing events out'
+  made_found out' err err' found = subst (IsMadeListing events) (sym found.3) (found_made found.0 found.1 found.2)
+
+  pub all_found : (find : Find) (files : Option Files) (out out' err err' : Option (List ℕ)) → find ≡ made_find hands
+      → files ≡ Some (made_files events) → out ≡ Some [] → FoundAll find files out out' err err' → IsMadeListing events out'
+  all_found find files out out' err err' find_is files_are empty found =
+      made_found out' err err'
+      (subst (λ (f : Find). FoundAll f (Some (made_files events)) (Some []) out' err err') find_is
+      (subst (λ (fs : Option Files). FoundAll find fs (Some []) out' err err') files_are
+      (subst (λ (o : Option (List ℕ)). FoundAll find files o out' err err') empty found)))

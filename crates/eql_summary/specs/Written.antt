@@ -1,0 +1,35 @@
+-- What a run of `made` lists and writes.
+use Rattle.std.specs.Prelude.{◌≡◌, ℕ, List, Option, Some}
+use Rattle.eql_outside.specs.Written.{WroteAll, WroteFront}
+use Rattle.eql_outside.specs.declared.refused.OutRefused.TheVariants as refused_by
+use Rattle.eql_made.specs.Made.{made_texts}
+use Rattle.eql_runs.specs.Searches.{listing_of, Search}
+use Rattle.eql_runs.specs.Summaries.{IsMadeSearch, Makes}
+use Rattle.eql_inputs.specs.declared.halt.Halt.TheVariants as halt
+use Rattle.eql_find.specs.declared.halt.RunHalt.{RunHalt}
+use Rattle.eql_find.specs.declared.halt.RunHalt.TheVariants as run
+
+-- a sink got the listing of the search over so many made events
+abbrev pub IsMadeListing : (events : ℕ) → Option (List ℕ) → Type 0
+IsMadeListing events written =
+    (search : Search) × IsMadeSearch search × (written ≡ Some (listing_of search (made_texts events)))
+
+-- a run stopped for want of memory
+abbrev pub IsWant : RunHalt → Type 0
+IsWant (run.Files (halt.Refused r)) = ⊥
+IsWant (run.Files (halt.Read name)) = ⊥
+IsWant (run.Files halt.Memory) = Unit {0}
+IsWant run.Write = ⊥
+IsWant (run.Limit l) = ⊥
+IsWant (run.Report refused_by.Failed) = ⊥
+IsWant (run.Report refused_by.Memory) = Unit {0}
+
+-- the output got what a run over so many events writes
+abbrev pub MadeAll : (events : ℕ) → (out out' : Option (List ℕ)) → Type 0
+MadeAll events out out' =
+    (bytes : List ℕ) × (report : List ℕ) × Makes events bytes report × WroteAll bytes out out'
+
+-- the output got a front of that, which may be nothing
+abbrev pub MadeFront : (events : ℕ) → (out out' : Option (List ℕ)) → Type 0
+MadeFront events out out' =
+    (bytes : List ℕ) × (report : List ℕ) × Makes events bytes report × WroteFront bytes out out'

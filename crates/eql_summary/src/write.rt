@@ -1,0 +1,68 @@
+//! The summary: its text, and the run that writes it.
+ghost use Rattle.std.specs.Prelude.{◌≡◌, ◌≢◌, ◌≤◌, Err, IfOk, OnErr, OnOk, [], string_bytes};
+ghost use Rattle.eql_outside.specs.Outside.{Rose};
+ghost use Rattle.eql_outside.specs.Unfailing.{IsUnfailing};
+ghost use Rattle.eql_values.specs.Lines.{lines_of};
+ghost use Rattle.eql_runs.specs.Summaries.{Makes, summary};
+ghost use Rattle.eql_summary.specs.Written.{MadeAll, MadeFront};
+
+use crate::ends::Ends;
+use crate::search::list_made;
+use eql_outside::{OutRefused, Sink};
+use eql_runs::made_is_searched;
+use eql_values::Memory;
+use std::alloc::Global;
+
+/// The four lines on so many events and the listing of what was found in them.
+fn summary_of(alloc: Global, events: u32, listing: &[u8]) -> Result<Vec<u8>, Memory>
+    ensures { IfOk result (λ text. text.items ≡ summary events (lines_of listing.now)) }
+{
+    let ends = Ends::of(listing);
+    let counts = format!(in alloc; "events {}\nmatches {}\nfirst ", events, ends.count)?;
+    let mut text = counts.into_bytes();
+    text.extend_from_slice(ends.first)?;
+    text.extend_from_slice(b"\nlast ")?;
+    text.extend_from_slice(ends.last)?;
+    text.extend_from_slice(b"\n")?;
+    Ok(text)
+}
+
+/// The four lines of a run over so many events.
+fn made_summary(alloc: Global, hands: u32, events: u32) -> Result<Vec<u8>, Memory>
+    requires hands { hands ≤ 16 }
+    requires events { events ≤ 1000000 }
+    ensures { IfOk result (λ text. Makes events text.items []) }
+{
+    let listing = list_made(alloc, hands, events)?;
+    summary_of(alloc, events, listing.bytes().as_slice())
+}
+
+/// Runs `made`: searches so many events that it makes itself, with so many further threads, and writes in one write how
+/// many events and matches there are and the first and the last line of the listing.
+///
+/// On `Ok` they are written whole, and else a front of them, or nothing.
+pub fn write_summary<K: Sink>(
+    alloc: Global,
+    hands: u32,
+    events: u32,
+    out: &mut K,
+) -> Result<(), OutRefused>
+    requires hands { hands ≤ 16 }
+    requires events { events ≤ 1000000 }
+    ensures whole { OnOk result (MadeAll events (K.written out.old) (K.written out.new)) }
+    ensures front { OnErr result (MadeFront events (K.written out.old) (K.written out.new)) }
+
+    // The output's count rises where it failed, and nowhere else.
+    ensures cause { result ≡ Err OutRefused.Failed
+        → Rose (K.fault_count out.old) (K.fault_count out.new) }
+    ensures steady { result ≢ Err OutRefused.Failed
+        → K.fault_count out.new ≡ K.fault_count out.old }
+    ensures counts { K.fault_count out.old ≤ K.fault_count out.new }
+    ensures unfailing { IsUnfailing (K.fault_plan out.old) → result ≢ Err OutRefused.Failed }
+{
+    made_is_searched();
+    match made_summary(alloc, hands, events) {
+        Ok(text) => out.write(alloc, text.as_slice()),
+        Err(_) => Err(OutRefused::Memory),
+    }
+}
