@@ -11,13 +11,15 @@ import sys
 
 USERS = [f"user{number:03}" for number in range(400)]
 PROGRAMS = ["bash", "cron", "sshd", "python3", "curl", "nginx", "postgres", "vim", "git", "systemd"]
+DAYS = [f"{month:02}-{day:02}" for month in (3, 4) for day in range(1, 31) if (month, day) >= (3, 4)]
 PORTS = [443, 443, 443, 80, 53, 53, 22, 5432, 8443, 3306]
 
 
 def clock(ms):
-    """The timestamp of so many milliseconds of the day."""
+    """The timestamp so many milliseconds after the first day began."""
     seconds, ms = divmod(ms, 1000)
-    return f"2025-03-04T{seconds // 3600 % 24:02}:{seconds // 60 % 60:02}:{seconds % 60:02}.{ms:03}Z"
+    days, seconds = divmod(seconds, 86400)
+    return f"2025-{DAYS[days]}T{seconds // 3600:02}:{seconds // 60 % 60:02}:{seconds % 60:02}.{ms:03}Z"
 
 
 def event(pick, host):
