@@ -1,4 +1,4 @@
-//! A hash of a key, by which its machine is found.
+//! A hash of a key, by which its part and its machine are found.
 ghost use Rattle.std.specs.Prelude.{◌≡◌};
 ghost use Rattle.std.specs.List.{fold};
 ghost use Rattle.std.specs.Str.{chars};
@@ -46,8 +46,8 @@ fn mix_value(hash: u64, value: &Value) -> u64
     }
 }
 
-/// A hash of a key's values. It takes no memory.
-pub(crate) fn hash_of(key: &Key) -> u64
+/// A hash of a key's values, of 64 bits, which tells keys of few values apart. It takes no memory.
+pub fn hash_of(key: &Key) -> u64
     ensures { result ≡ key_hash key.now }
 {
     key.items()

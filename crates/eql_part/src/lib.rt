@@ -14,4 +14,5 @@ mod sweeps;
 mod table;
 mod turns;
 
+pub use hash::hash_of;
 pub use keys::Keys;

@@ -1,22 +1,8 @@
 -- Which part a key belongs to: the upper four bits of a hash of 64 bits.
-use Rattle.std.specs.Prelude.{ℕ, ◌+◌, ◌*◌, ◌/◌, ◌%◌, ◌^◌, List, if◌then◌else◌}
-use Rattle.std.specs.Int.{cast_unsigned, w64}
-use Rattle.std.specs.List.{fold}
+use Rattle.std.specs.Prelude.{ℕ, ◌/◌, ◌^◌, List}
 use Rattle.eql_values.specs.declared.value.Value.{Value}
-use Rattle.eql_values.specs.declared.value.Value.TheVariants.{Null, Bool as Truth, Long, Text, Ip}
-
--- the hash of what was hashed, and one number more: multiplied by 2^64 over the golden ratio, modulo 2^64
-abbrev pub mixed : (hash number : ℕ) → ℕ
-mixed hash number = ((hash + number) % 2 ^ 64) * 11400714819323198485 % 2 ^ 64
-
--- the hash of what was hashed, and one value more: its kind, and what it holds
-abbrev pub value_hash : (hash : ℕ) → Value → ℕ
-value_hash hash Null = mixed hash 0
-value_hash hash (Truth b) = mixed (mixed hash 1) (if b then 1 else 0)
-value_hash hash (Long n) = mixed (mixed hash 2) (cast_unsigned w64 n)
-value_hash hash (Text s) = fold mixed (mixed hash 3) s
-value_hash hash (Ip n) = mixed (mixed hash 4) n
+use Rattle.eql_part.specs.Hashes.{key_hash}
 
 -- the part of a key, from 0 to 15
 abbrev pub part_number : List Value → ℕ
-part_number key = fold value_hash 0 key / 2 ^ 60
+part_number key = key_hash key / 2 ^ 60

@@ -1,50 +1,9 @@
 //! Which of the sixteen parts a key belongs to.
-ghost use Rattle.std.specs.Prelude.{◌≡◌, ◌<◌, ◌^◌};
-ghost use Rattle.std.specs.List.{fold};
-ghost use Rattle.std.specs.Str.{chars};
-ghost use Rattle.eql_parts.specs.Spreading.{mixed, part_number, value_hash};
+ghost use Rattle.std.specs.Prelude.{◌≡◌, ◌<◌};
+ghost use Rattle.eql_parts.specs.Spreading.{part_number};
 
-use eql_values::{Key, Text, Value};
-
-/// 2^64 over the golden ratio. A product by it has upper bits that change with each lower bit.
-const FACTOR: u64 = 11_400_714_819_323_198_485;
-
-/// A hash that goes on by one number.
-fn mix(hash: u64, number: u64) -> u64
-    ensures { result ≡ mixed hash number }
-{
-    hash.wrapping_add(number).wrapping_mul(FACTOR)
-}
-
-/// A hash that goes on by characters.
-fn mix_characters(hash: u64, text: &str) -> u64
-    ensures { result ≡ fold mixed hash (chars text.now) }
-{
-    text.chars().fold(
-        hash,
-        |hash, character| mix(hash, u64::from(u32::from(character))),
-    )
-}
-
-/// A hash that goes on by the characters of a text.
-fn mix_text(hash: u64, text: &Text) -> u64
-    ensures { result ≡ fold mixed hash text.now }
-{
-    mix_characters(hash, text.text().as_str())
-}
-
-/// A hash that goes on by one value.
-fn mix_value(hash: u64, value: &Value) -> u64
-    ensures { result ≡ value_hash hash value.now }
-{
-    match value {
-        Value::Null => mix(hash, 0),
-        Value::Bool(truth) => mix(mix(hash, 1), u64::from(*truth)),
-        Value::Long(number) => mix(mix(hash, 2), number.cast_unsigned()),
-        Value::Text(text) => mix_text(mix(hash, 3), text),
-        Value::Ip(address) => mix(mix(hash, 4), u64::from(*address)),
-    }
-}
+use eql_part::hash_of;
+use eql_values::Key;
 
 /// The part of a key, from 0 to 15, by a hash of its values. Keys of few values alike fall into all parts about evenly. It
 /// takes no memory.
@@ -52,9 +11,5 @@ pub fn part_of(key: &Key) -> u32
     ensures range { result < 16 }
     ensures number { result ≡ part_number key.now }
 {
-    let hash = key
-        .items()
-        .iter()
-        .fold(0, |hash, value| mix_value(hash, value));
-    (hash >> 60) as u32
+    (hash_of(key) >> 60) as u32
 }
