@@ -3,6 +3,7 @@ ghost use Rattle.std.specs.Prelude.{◌≡◌, ◌≢◌, ◌≤◌, Option, Som
 ghost use Rattle.eql_outside.specs.Areas.{seen_areas, store};
 ghost use Rattle.eql_outside.specs.Moments.{Told};
 ghost use Rattle.eql_outside.specs.Outside.{Rose};
+ghost use Rattle.eql_outside.specs.Unfailing.{IsUnfailing};
 ghost use Rattle.eql_ckdisk.specs.Found.{found, holds};
 ghost use Rattle.eql_ckdisk.specs.Going.{Goes};
 ghost use Rattle.eql_ckdisk.specs.Keeping.{NoMore, AllKept};
@@ -11,7 +12,7 @@ ghost use Rattle.eql_ckdisk.specs.Refusing.{number_of, IfDamaged, IsDamagedHead}
 use crate::head::{HEAD_BYTES, Head};
 use crate::refused::CkRefused;
 use crate::state::{CkState, GREATEST};
-use eql_outside::{Area, Disk, OutRefused};
+use eql_outside::{Area, Disk, OutRefused, unfailing_stays};
 use std::alloc::Global;
 
 /// The text that counts, and where it stands.
@@ -52,7 +53,10 @@ pub(crate) fn settle<D: Disk>(alloc: Global, disk: &mut D) -> Result<(), OutRefu
     ensures steady { result ≢ Err OutRefused.Failed
         → D.fault_count disk.new ≡ D.fault_count disk.old }
     ensures counts { D.fault_count disk.old ≤ D.fault_count disk.new }
+    ensures unfailing { IsUnfailing (D.fault_plan disk.old)
+        → (result ≢ Err OutRefused.Failed) × IsUnfailing (D.fault_plan disk.new) }
 {
+    unfailing_stays();
     disk.sync(alloc, Area::A)?;
     disk.sync(alloc, Area::B)
 }
@@ -80,7 +84,10 @@ impl LastText {
         ensures steady { result ≢ Err CkRefused.DiskFault
             → D.fault_count disk.new ≡ D.fault_count disk.old }
         ensures counts { D.fault_count disk.old ≤ D.fault_count disk.new }
+        ensures unfailing { IsUnfailing (D.fault_plan disk.old)
+            → (result ≢ Err CkRefused.DiskFault) × IsUnfailing (D.fault_plan disk.new) }
     {
+        unfailing_stays();
         if head.generation < 1 || head.generation > GREATEST {
             return Err(damaged_in(area));
         }
@@ -108,6 +115,8 @@ impl LastText {
         ensures steady { result ≢ Err CkRefused.DiskFault
             → D.fault_count disk.new ≡ D.fault_count disk.old }
         ensures counts { D.fault_count disk.old ≤ D.fault_count disk.new }
+        ensures unfailing { IsUnfailing (D.fault_plan disk.old)
+            → (result ≢ Err CkRefused.DiskFault) × IsUnfailing (D.fault_plan disk.new) }
     {
         let a = Head::read(alloc, disk, Area::A)?;
         let b = Head::read(alloc, disk, Area::B)?;

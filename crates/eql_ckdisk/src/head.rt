@@ -3,8 +3,9 @@ ghost use Rattle.std.specs.Prelude.{◌≡◌, ◌≢◌, ◌≤◌, Err, IfOk, 
 ghost use Rattle.std.specs.Int.{w64, from_le_bytes};
 ghost use Rattle.eql_outside.specs.Areas.{store};
 ghost use Rattle.eql_outside.specs.Outside.{Rose};
+ghost use Rattle.eql_outside.specs.Unfailing.{IsUnfailing};
 
-use eql_outside::{Area, Disk, OutRefused};
+use eql_outside::{Area, Disk, OutRefused, unfailing_stays};
 use std::alloc::Global;
 
 /// How many bytes a head has.
@@ -63,7 +64,10 @@ impl Head {
         ensures steady { result ≢ Err OutRefused.Failed
             → D.fault_count disk.new ≡ D.fault_count disk.old }
         ensures counts { D.fault_count disk.old ≤ D.fault_count disk.new }
+        ensures unfailing { IsUnfailing (D.fault_plan disk.old)
+            → (result ≢ Err OutRefused.Failed) × IsUnfailing (D.fault_plan disk.new) }
     {
+        unfailing_stays();
         Ok(Head::of(&disk.read(alloc, area, 0, HEAD_BYTES)?))
     }
 }

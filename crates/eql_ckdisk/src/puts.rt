@@ -3,6 +3,7 @@ ghost use Rattle.std.specs.Prelude.{◌≡◌, ◌≢◌, ◌≤◌, ◌<◌, �
 ghost use Rattle.eql_cut.specs.Domain.{IsCut};
 ghost use Rattle.eql_outside.specs.Moments.{Told};
 ghost use Rattle.eql_outside.specs.Outside.{Rose};
+ghost use Rattle.eql_outside.specs.Unfailing.{IsUnfailing};
 ghost use Rattle.eql_ckdisk.specs.Found.{block, next};
 ghost use Rattle.eql_ckdisk.specs.Cuts.{Holds, Puts};
 ghost use Rattle.eql_ckdisk.specs.Putting.{PutText, PutsText, Stands, last_cut};
@@ -44,6 +45,8 @@ fn put_text<D: Disk>(
     ensures steady { result ≢ Err OutRefused.Failed
         → D.fault_count disk.new ≡ D.fault_count disk.old }
     ensures counts { D.fault_count disk.old ≤ D.fault_count disk.new }
+    ensures unfailing { IsUnfailing (D.fault_plan disk.old)
+        → (result ≢ Err OutRefused.Failed) × IsUnfailing (D.fault_plan disk.new) }
 {
     crashes_leave_images();
     let area = state.next_area();
@@ -89,6 +92,10 @@ pub fn put<D: Disk>(
     ensures steady { result ≢ Err CkRefused.DiskFault
         → D.fault_count disk.new ≡ D.fault_count disk.old }
     ensures counts { D.fault_count disk.old ≤ D.fault_count disk.new }
+
+    // Where no call of the disk is planned to fail, no fault is told.
+    ensures unfailing { IsUnfailing (D.fault_plan disk.old)
+        → (result ≢ Err CkRefused.DiskFault) × IsUnfailing (D.fault_plan disk.new) }
 {
     if state.generation() >= GREATEST {
         return Err(CkRefused::Generation);

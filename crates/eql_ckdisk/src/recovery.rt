@@ -2,6 +2,7 @@
 ghost use Rattle.std.specs.Prelude.{◌≡◌, ◌≢◌, ◌≤◌, Option, Err, IfOk, IfErr, IfSome, OnOk};
 ghost use Rattle.eql_outside.specs.Moments.{Told};
 ghost use Rattle.eql_outside.specs.Outside.{Rose};
+ghost use Rattle.eql_outside.specs.Unfailing.{IsUnfailing};
 ghost use Rattle.eql_ckdisk.specs.Found.{Found, EachFinds};
 ghost use Rattle.eql_ckdisk.specs.Going.{Goes};
 ghost use Rattle.eql_ckdisk.specs.Keeping.{NoMore, AllKept};
@@ -94,6 +95,10 @@ pub fn recover<D: Disk>(alloc: Global, disk: &mut D) -> Result<Recovered, CkRefu
     ensures steady { result ≢ Err CkRefused.DiskFault
         → D.fault_count disk.new ≡ D.fault_count disk.old }
     ensures counts { D.fault_count disk.old ≤ D.fault_count disk.new }
+
+    // Where no call of the disk is planned to fail, no fault is told.
+    ensures unfailing { IsUnfailing (D.fault_plan disk.old)
+        → (result ≢ Err CkRefused.DiskFault) × IsUnfailing (D.fault_plan disk.new) }
 {
     settle(alloc, disk)?;
     let last = LastText::find(alloc, disk)?;

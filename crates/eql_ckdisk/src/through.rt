@@ -3,9 +3,10 @@ ghost use Rattle.std.specs.Prelude.{◌≡◌, ◌≢◌, ◌≤◌, Err, IfSome
 ghost use Rattle.eql_outside.specs.Areas.{store};
 ghost use Rattle.eql_outside.specs.Moments.{Told};
 ghost use Rattle.eql_outside.specs.Outside.{Rose};
+ghost use Rattle.eql_outside.specs.Unfailing.{IsUnfailing};
 ghost use Rattle.eql_ckdisk.specs.Writing.{Writing, WroteThrough};
 
-use eql_outside::{Area, Disk, OutRefused, crashes_leave_images};
+use eql_outside::{Area, Disk, OutRefused, crashes_leave_images, unfailing_stays};
 use std::alloc::Global;
 
 /// Writes bytes to an area from a place on, and syncs the area.
@@ -26,8 +27,11 @@ pub(crate) fn write_through<D: Disk>(
     ensures steady { result ≢ Err OutRefused.Failed
         → D.fault_count disk.new ≡ D.fault_count disk.old }
     ensures counts { D.fault_count disk.old ≤ D.fault_count disk.new }
+    ensures unfailing { IsUnfailing (D.fault_plan disk.old)
+        → (result ≢ Err OutRefused.Failed) × IsUnfailing (D.fault_plan disk.new) }
 {
     crashes_leave_images();
+    unfailing_stays();
     disk.write(alloc, area, at, bytes)?;
     disk.sync(alloc, area)
 }

@@ -26,7 +26,7 @@ fn digit(byte: u8) -> Option<u8> {
 }
 
 /// Puts the bytes of a text in hexadecimal, in which white space may stand.
-fn push_hex(bytes: &mut Vec<u8>, hex: &str) -> Result<(), AllocError> {
+pub(crate) fn push_hex(bytes: &mut Vec<u8>, hex: &str) -> Result<(), AllocError> {
     let mut high = None;
     for byte in hex.as_bytes() {
         if let Some(low) = digit(*byte) {
@@ -38,6 +38,20 @@ fn push_hex(bytes: &mut Vec<u8>, hex: &str) -> Result<(), AllocError> {
                 }
             }
         }
+    }
+    Ok(())
+}
+
+/// Puts the bytes of a notation: hexadecimal, and in quotes texts as they are.
+pub(crate) fn push_bytes(bytes: &mut Vec<u8>, notation: &str) -> Result<(), AllocError> {
+    let mut is_text = false;
+    for piece in notation.split('\'') {
+        if is_text {
+            bytes.extend_from_slice(piece.as_bytes())?;
+        } else {
+            push_hex(bytes, piece)?;
+        }
+        is_text = !is_text;
     }
     Ok(())
 }

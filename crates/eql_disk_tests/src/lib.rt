@@ -6,4 +6,8 @@ mod areas;
 #[cfg(test)]
 mod bytes;
 #[cfg(test)]
+mod cuts;
+#[cfg(test)]
+mod formats;
+#[cfg(test)]
 mod stops;
