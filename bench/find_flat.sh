@@ -1,6 +1,8 @@
 #!/usr/bin/env bash
 # The most memory that `eql find` held over one log of 200 MB and over one of 2 GB, with a slack, and the ratio of the two. The
 # log is three shards whose lines are alike in both; only their number differs. It takes 2 GB of the disk while this runs.
+# The shards' times drift apart by chance, by some hundreds of lines in the greater log, and a lane that runs ahead holds its
+# events until the others have come as far: so the ratio is a little above 1.
 #
 # usage: bench/find_flat.sh [PROGRAM [BYTES]]        PROGRAM is the built program, crates/eql/out/eql where none is given;
 #                                                    BYTES is the size of the greater log, 2,000,000,000 where none is given
@@ -13,19 +15,12 @@ tools=$top/bench/find
 room=$(mktemp -d)
 trap 'rm -rf "$room"' EXIT
 
-# Writes three shards of so many bytes together, runs the search over them, and tells its seconds and the greatest size that it
-# had in memory, in kilobytes as the last word.
+# Writes three shards of so many bytes together, runs the search over them, and tells its seconds and the most memory that it
+# held, in kilobytes as the last word but one.
 measure() { # BYTES
     python3 "$tools/make_log.py" "$room" 3 $(($1 / 3)) 1
-    python3 - "$1" "$program" find --query "$tools/query.eql" --fields "$tools/fields.json" --slack 2s "$room"/{0,1,2}.json <<'END'
-import resource, subprocess, sys, time
-size, *words = sys.argv[1:]
-begun = time.monotonic()
-with subprocess.Popen(words, stdout=subprocess.PIPE, stderr=subprocess.DEVNULL) as ran:
-    matches = sum(piece.count(b"\n") for piece in iter(lambda: ran.stdout.read(1 << 20), b""))
-took, most = time.monotonic() - begun, resource.getrusage(resource.RUSAGE_CHILDREN).ru_maxrss
-print(f"{int(size) / 1e6:.0f} MB: status {ran.returncode}, {matches} matches, {took:.1f} s, at most {most} KB")
-END
+    printf '%d MB: ' $(($1 / 1000000))
+    python3 "$tools/most_held.py" "$room/report" "$program" find --query "$tools/query.eql" --fields "$tools/fields.json" --slack 2s "$room"/{0,1,2}.json
     rm "$room"/{0,1,2}.json
 }
 small=$(measure $((great / 10)))

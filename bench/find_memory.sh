@@ -1,5 +1,5 @@
 #!/usr/bin/env bash
-# The most memory that `eql find` held, in megabytes: over 64 shards of 16 MiB, and over a line of 200 megabytes. The query is
+# The most memory that `eql find` held, in kilobytes: over 64 shards of 16 MiB, and over a line of 200 megabytes. The query is
 # that of find_times.sh. The shards take 1 GiB of the disk while this runs.
 #
 # usage: bench/find_memory.sh [PROGRAM]        PROGRAM is the built program, crates/eql/out/eql where none is given
@@ -11,19 +11,10 @@ tools=$top/bench/find
 room=$(mktemp -d)
 trap 'rm -rf "$room"' EXIT
 
-# Runs the search over some shards, and tells its seconds and the greatest size that it had in memory.
+# Runs the search over some shards, and tells its seconds and the most memory that it held, in kilobytes.
 measure() { # NAME SHARD..
-    local name=$1
-    shift
-    python3 - "$name" "$room/report" "$program" find --query "$tools/query.eql" --fields "$tools/fields.json" "$@" <<'END'
-import resource, subprocess, sys, time
-name, report, *words = sys.argv[1:]
-begun = time.monotonic()
-with open(report, "wb") as err:
-    ran = subprocess.run(words, stdout=subprocess.PIPE, stderr=err)
-took, most = time.monotonic() - begun, resource.getrusage(resource.RUSAGE_CHILDREN).ru_maxrss
-print(f"{name}: status {ran.returncode}, {ran.stdout.count(10)} matches, {took:.1f} s, at most {most * 1024 / 1e6:.0f} MB")
-END
+    printf '%s: ' "$1"
+    python3 "$tools/most_held.py" "$room/report" "$program" find --query "$tools/query.eql" --fields "$tools/fields.json" "${@:2}"
     awk '{ lines += $4; accepted += $6; rejected += $10 }
         END { printf "    %d lines, %d accepted, %d rejected\n", lines, accepted, rejected }' "$room/report"
 }

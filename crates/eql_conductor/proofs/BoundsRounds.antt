@@ -69,35 +69,44 @@ fed_all n a b e fed = record { each = λ s l. fed.each s l (subst (λ (m : ℕ).
 pub looked_low : (s : ℕ) (mark : Mark) (a b : Known) → s < a.lanes → LanePlays s op.Look (reply.Low mark) a b → LaneHadLow s mark a b
 looked_low s mark a b l plays = record {
   lane = l;
-  each = λ y here.
-      let c = plays.called y here in (
-        c.first,
-        c.was,
-        record {
-          state = c.before;
-          before = c.fed;
-          low_is = sym c.step.0;
-          later = subst (λ (z : LaneState). FedOn (a.set s) c.before z) (sym c.step.1) (fed_self (a.set s) c.before);
-        },
-      );
+  some = let h = had plays.some.0 plays.some.1 in (h.0, plays.some.0, h.1, h.2);
+  each = had;
 }
+  where
+    had : (y : LaneState) → b.lane s y → (x : LaneState) × a.lane s x × HadLow (a.set s) mark x y
+    had y here =
+        let c = plays.called y here in (
+          c.first,
+          c.was,
+          record {
+            state = c.before;
+            before = c.fed;
+            low_is = sym c.step.0;
+            later = subst (λ (z : LaneState). FedOn (a.set s) c.before z) (sym c.step.1) (fed_self (a.set s) c.before);
+          },
+        )
 
 -- others feed before it and after it
 low_before : (s : ℕ) (mark : Mark) (a b c : Known) → Rests a b → LaneHadLow s mark b c → LaneHadLow s mark a c
-low_before s mark a b c rests h =
-    let l : s < a.lanes = subst (λ (n : ℕ). s < n) rests.same.lanes h.lane in
-    record {
-      lane = l;
-      each = λ y here.
-          let m = h.each y here in
-          let x = rests.lanes.each s l m.0 m.1 in
-          let had : HadLow (a.set s) mark m.0 y = subst (λ (set : Setting). HadLow set mark m.0 y) (rests.same.set s l) m.2 in
-          (x.0, x.1, record { state = had.state; before = fed_on (a.set s) x.0 m.0 had.state x.2 had.before; low_is = had.low_is; later = had.later });
-    }
+low_before s mark a b c rests h = record {
+  lane = l;
+  some = let m = h.some in let x = first m.0 m.1 m.2 m.3 in (x.0, m.1, x.1, x.2);
+  each = λ y here. let m = h.each y here in first m.0 y m.1 m.2;
+}
+  where
+    l : s < a.lanes
+    l = subst (λ (n : ℕ). s < n) rests.same.lanes h.lane
+
+    first : (m y : LaneState) → b.lane s m → HadLow (b.set s) mark m y → (x : LaneState) × a.lane s x × HadLow (a.set s) mark x y
+    first m y here was =
+        let x = rests.lanes.each s l m here in
+        let had : HadLow (a.set s) mark m y = subst (λ (set : Setting). HadLow set mark m y) (rests.same.set s l) was in
+        (x.0, x.1, record { state = had.state; before = fed_on (a.set s) x.0 m had.state x.2 had.before; low_is = had.low_is; later = had.later })
 
 low_on : (s : ℕ) (mark : Mark) (a b c : Known) → Same a b → LanesRest b c → LaneHadLow s mark a b → LaneHadLow s mark a c
 low_on s mark a b c same rests h = record {
   lane = h.lane;
+  some = h.some;
   each = λ y here.
       let m = rests.each s (is_lane a b s same h.lane) y here in
       let x = h.each m.0 m.1 in

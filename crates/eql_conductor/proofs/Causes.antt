@@ -1,6 +1,6 @@
 -- Why a run ends.
 use Rattle.std.proofs.Common.{◌≡◌, ◌≢◌, inl, inr, ◌≤◌, ℕ, sym, ap, ◌∙◌, subst}
-use Rattle.std.specs.Prelude.{Result, Err}
+use Rattle.std.specs.Prelude.{IfErr, Result, Ok, Err}
 use Rattle.eql_lane.specs.declared.ops.LimitOf.TheVariants as limit
 use Rattle.eql_outside.specs.Outside.{Rose}
 use Rattle.eql_conductor.specs.declared.plan.End.{End as Ends}
@@ -86,6 +86,17 @@ module _ (a b : Known) (s sn d dn : ℕ) where
   cut_ends by (inr (inr (inl e), went)) cause steady counts se = memory_ends by e se (steady (λ w. let k = sym e ∙ w in cc)) went
   cut_ends by (inr (inr (inr e), went)) cause steady counts se =
       subst (λ (x : Stop). EndsBy (end_by x) a b s sn d dn) (sym e) (went.failed, went.worn, se, steady (λ w. let k = sym e ∙ w in cc))
+
+-- neither a round nor the end of the book fails by the disk
+pub round_not_disk : (by : Stop) (a b : Known) → StopsAt by a b → by ≢ stop.Disk
+round_not_disk by a b (inl h) e = not_disk a b 0 0 0 0 by h e
+round_not_disk by a b (inr (inl h, went)) e = cc
+round_not_disk by a b (inr (inr h, went)) e = cc
+
+pub out_not_disk : {X : Type 0} (r : Result X Stop) → IfErr r StopsOut → r ≢ Err stop.Disk
+out_not_disk (Ok x) out e = cc
+out_not_disk (Err by) (inl h) e = cc
+out_not_disk (Err by) (inr h) e = cc
 
 -- ---- after rounds in which nothing failed
 module _ (a b c : Known) (s0 s1 s2 d0 d1 d2 : ℕ) (go : LanesGo a b) (went : Went a b) (se : s1 ≡ s0) (de : d1 ≡ d0) where

@@ -30,7 +30,7 @@ use Rattle.eql_conductor.specs.declared.plan.Keep.{Keep}
 use Rattle.eql_conductor.specs.declared.plan.RunPlan.{RunPlan}
 use Rattle.eql_conductor.specs.Benches.{Known, Same}
 use Rattle.eql_conductor.specs.PartRounds.{Resting, pending_after}
-use Rattle.eql_conductor.specs.Rounds.{GoesTo, OfTexts, found_by}
+use Rattle.eql_conductor.specs.Rounds.{CountsInRange, GoesTo, IsInRange, OfTexts, found_by}
 use Rattle.eql_conductor.specs.Running.{IsTaken, PutEach, KeepPuts, KeepStands}
 use Rattle.eql_conductor.specs.Runs.{IsCutOf, IsRunCut, LastHolds, RunPuts}
 use Rattle.eql_conductor.specs.Saving.{PutsCuts}
@@ -85,6 +85,7 @@ module _ (old mid new : CkState) (before between_them now : Option History) (cut
     generation_from = let g = mid_generation in omega (arith, g);
     generation_to = let g = mid_generation in omega (arith, g);
     full = λ e. absurd (let k = e in cc);
+    stands = λ disk memory. h.stands;
   }
 
   -- and one that was stopped after further cuts
@@ -99,12 +100,13 @@ module _ (old mid new : CkState) (before between_them now : Option History) (cut
     generation_from = let g = mid_generation in let f = k.generation_from in omega (arith, g, f);
     generation_to = let g = mid_generation in let t = k.generation_to in let l = length-append cuts more in omega (arith, g, t, l);
     full = k.full;
+    stands = k.stands;
   }
 
 -- ---- which cuts
 -- one that was taken where rounds came to
 module _ (head : CutHead) (from to : Mark) (a b : Known) (book then : BookState) (before now : Option (List ℕ)) (cut : Cut) (same : Same a b)
-    (goes : GoesTo from to a b book then before now) (taken : IsTaken head to b then cut) where
+    (goes : GoesTo from to a b book then before now) (in_range : CountsInRange from a (Some to)) (taken : IsTaken head to b then cut) where
   time : Mark
   time = At cut.mark
 
@@ -125,6 +127,7 @@ module _ (head : CutHead) (from to : Mark) (a b : Known) (book then : BookState)
             ∙ ap (λ (items : List Item). alive_holders rules.span cut.mark (pending_after rules all items)) told;
         book_is = taken.saved.book_is ∙ ap (λ (m : BookState). m.kept) played.gave.book_is
             ∙ ap (λ (items : List Item). kept_after book.pipes book.kept (found_by rules all items)) told;
+        in_range = subst (λ (m : Mark). IsInRange m slack) taken.mark_is (in_range reads slack texts of);
       }
 
   pub taken_is : IsRunCut head from a book cut
@@ -151,6 +154,7 @@ module _ (head : CutHead) (from to : Mark) (a b : Known) (book then : BookState)
           book_is = k.book_is ∙ ap (λ (m : BookState). kept_after m.pipes m.kept second) played.gave.book_is
               ∙ sym (kept_joins book first second)
               ∙ ap (kept_after book.pipes book.kept) (sym (found_joins rules all goes.items more) ∙ ap (found_by rules all) told);
+          in_range = k.in_range;
         }
 
     on_is : IsRunCut head from a book cut

@@ -1,5 +1,5 @@
 -- How a run goes on from round to round, and how it ends.
-use Rattle.std.proofs.Common.{◌≡◌, ◌≢◌, ◌≤◌, ◌<◌, ◌+◌, ◌*◌, ◌^◌, ℕ, suc, ℤ, length, map, Bool, true, false, List, [], ◌∷◌, ◌++◌, Option, None, Some, refl, sym, ap, ◌∙◌, subst, arith, All}
+use Rattle.std.proofs.Common.{◌≡◌, ◌≢◌, inl, ◌≤◌, ◌<◌, ◌+◌, ◌*◌, ◌^◌, ℕ, suc, ℤ, length, map, Bool, true, false, List, [], ◌∷◌, ◌++◌, Option, None, Some, refl, sym, ap, ◌∙◌, subst, arith, All}
 use Rattle.std.specs.Prelude.{IfErr, IfSome, OnErr, OnOk, Result, Ok, Err}
 use Rattle.std.proofs.lemmas.List.{append-nil, map-append}
 use Rattle.std.proofs.lemmas.List.Elements.{All-append, All-cons, All-nil, All-weaker}
@@ -20,10 +20,11 @@ use Rattle.eql_outside.specs.Written.{WroteAll, WroteFront}
 use Rattle.eql_outside.proofs.WrittenLemmas.{writes_on}
 use Rattle.eql_parts.specs.PartSteps.{Rules}
 use Rattle.eql_book.specs.Books.{BookState, FitsPipes, book_after, held_back}
+use Rattle.eql_book.specs.Laws.{BookIsKept, EndIsWhole}
 use Rattle.eql_book.specs.Listing.{listing}
 use Rattle.eql_cut.specs.declared.cut.Cut.{Cut}
 use Rattle.eql_cut.specs.declared.cut.CutHead.{CutHead}
-use Rattle.eql_ckdisk.specs.Putting.{last_cut}
+use Rattle.eql_ckdisk.specs.Putting.{Stands, last_cut}
 use Rattle.eql_conductor.specs.declared.plan.End.{End as Ends}
 use Rattle.eql_conductor.specs.declared.plan.End.TheVariants as end
 use Rattle.eql_conductor.specs.declared.plan.Keep.{Keep}
@@ -35,12 +36,13 @@ use Rattle.eql_conductor.specs.Bounds.{AreSized, RoundsSpent}
 use Rattle.eql_conductor.specs.Going.{LanesGo}
 use Rattle.eql_conductor.specs.LaneRounds.{IsSafe, LanesAt}
 use Rattle.eql_conductor.specs.PartRounds.{Resting, pending_after}
-use Rattle.eql_conductor.specs.Rounds.{GoesTo, OfTexts, RoundRests, RoundStops, StopsOut, found_by}
+use Rattle.eql_conductor.specs.Rounds.{CountsInRange, GoesTo, OfTexts, RoundRests, RoundStops, StopsOut, found_by}
 use Rattle.eql_conductor.specs.RoundNotes.{RoundBroken, RoundNoted}
 use Rattle.eql_conductor.specs.RunNotes.{CutNoted, Place, RoundPlayed, RoundsBroken, RoundsPlayed, RunNotes, SaveBroken, SaveNoted, cut_after, listed, moved, place, round_count, start}
 use Rattle.eql_conductor.specs.RunBounds.{RunBounded}
+use Rattle.eql_conductor.specs.Records.{ListsTold, Ran}
 use Rattle.eql_conductor.specs.Running.{Counted, CutGoes, CutStops, IsAtMark, IsTaken, KeepPuts, KeepStands, KeepStops, KeepsOne, Passed, RanAll, RanTo, StepStops, end_by, end_of, time_of}
-use Rattle.eql_conductor.specs.Runs.{cut_time, IsRunCut, KeepGoes, MayKeepIf, MayRun, RanWhole, Ran, RunIs, RunStops, StoppedAt, lines_before_end, lines_by, whole_lines}
+use Rattle.eql_conductor.specs.Runs.{cut_time, IsRunCut, KeepGoes, MayKeepIf, MayRun, RanWhole, RunIs, RunStops, StoppedAt, lines_before_end, lines_by, whole_lines}
 use Rattle.eql_conductor.specs.Saving.{IsSavedAt, NotSaved, Saved}
 use Rattle.eql_conductor.proofs.Bounded.{run_bounded}
 use Rattle.eql_conductor.proofs.BoundsOpenings.{sized_on}
@@ -54,6 +56,7 @@ use Rattle.eql_conductor.proofs.Goings.{goes_join, goes_rests, goes_self, goes_s
 use Rattle.eql_conductor.proofs.Joins.{between_joins, between_self, book_joins, found_joins, lines_by_joins}
 use Rattle.eql_conductor.proofs.Numbers.{book_none}
 use Rattle.eql_conductor.proofs.Onward.{lanes_go_on, lanes_go_self}
+use Rattle.eql_conductor.proofs.Recorded.{run_listed}
 use Rattle.eql_conductor.proofs.Resting.{was_lane}
 
 -- ---- lanes
@@ -234,12 +237,33 @@ is_stopped (stop.Limit of) from a c book then before now cuts h = h
 was_saved : (head : CutHead) (time : ℤ) (b : Known) (book : BookState) (cut : Cut) → IsSavedAt head time b book cut → IsTaken head (At time) b book cut
 was_saved head time b book cut is = record { mark_is = ap At (sym is.mark_is); saved = subst (λ (t : ℤ). IsSavedAt head t b book cut) (sym is.mark_is) is }
 
+-- in the words of the listing
+lists_told : BookIsKept → EndIsWhole → (plan : RunPlan) (a c : Known) (book then : BookState) (before now : Option (List ℕ)) (cuts : List Cut) (answer : Ends)
+    → RunIs plan.mark a c book then before now cuts answer → ListsTold plan a c book then before now cuts answer
+lists_told kept whole plan a c book then before now cuts answer is = λ rules reads slack texts all began.
+    run_listed kept whole rules reads slack texts plan.mark all a c book then before now began cuts answer is
+
 module _ {D : Type 0} (history : D → Option History) (count : D → ℕ) where
   -- ---- cuts
+  -- where cuts are kept, the last one stands
+  abbrev StandsStill : Option (Keep D) → Type 0
+  StandsStill None = Unit {0}
+  StandsStill (Some k) = Stands (last_cut k.state) (history k.disk)
+
+  kept_stands : (plan : RunPlan) (b : Known) (keep : Option (Keep D)) → KeepStands history count plan b keep → StandsStill keep
+  kept_stands plan b None h = tt
+  kept_stands plan b (Some k) h = h.1
+
+  put_stands : (cuts : List Cut) (keep kept : Option (Keep D)) → KeepPuts history count cuts keep kept → StandsStill kept
+  put_stands cuts None None h = tt
+  put_stands cuts None (Some l) h = absurd h
+  put_stands cuts (Some k) None h = tt
+  put_stands cuts (Some k) (Some l) h = h.stands
+
   keeps_none : (head : CutHead) (from : Mark) (a : Known) (book : BookState) (answer : Ends) (keep : Option (Keep D)) → answer ≢ end.Done → answer ≢ end.Limit limit.Generation
-      → KeepGoes history count head from a book [] answer keep keep
-  keeps_none head from a book answer None apart other = (refl, other)
-  keeps_none head from a book answer (Some k) apart other = record {
+      → StandsStill keep → KeepGoes history count head from a book [] answer keep keep
+  keeps_none head from a book answer None apart other stands = (refl, other)
+  keeps_none head from a book answer (Some k) apart other stands = record {
     are_cuts = All-nil (IsRunCut head from a book);
     puts = puts_none (last_cut k.state) (history k.disk);
     state_is = λ e. absurd (apart e);
@@ -247,6 +271,7 @@ module _ {D : Type 0} (history : D → Option History) (count : D → ℕ) where
     generation_from = omega arith;
     generation_to = omega arith;
     full = λ e. absurd (other e);
+    stands = λ disk memory. stands;
   }
 
   keeps_stopped : (head : CutHead) (from : Mark) (a : Known) (book : BookState) (by : Stop) (cuts : List Cut) (keep kept : Option (Keep D)) → All (IsRunCut head from a book) cuts
@@ -261,6 +286,7 @@ module _ {D : Type 0} (history : D → Option History) (count : D → ℕ) where
     generation_from = let e = ap (λ last. last.generation) h.state_is in omega (arith, e);
     generation_to = let e = ap (λ last. last.generation) h.state_is in omega (arith, e);
     full = λ e. h.full (full_by by e);
+    stands = λ disk memory. h.stands (λ e. disk (ap end_by e)) (λ e. memory (ap end_by e));
   }
 
   keeps_done : (head : CutHead) (from : Mark) (a : Known) (book : BookState) (cuts : List Cut) (keep kept : Option (Keep D)) → All (IsRunCut head from a book) cuts
@@ -307,14 +333,15 @@ module _ {D : Type 0} (history : D → Option History) (count : D → ℕ) where
 
   pub saved_stops : {X : Type 0} (r : Result X Stop) (head : CutHead) (time : ℤ) (b c : Known) (book : BookState) (k l : Keep D)
       → OnErr r (NotSaved head time b book k.state l.state (history k.disk) (history l.disk))
-      → (r ≡ Err (stop.Limit limit.Generation) → (last_cut l.state).generation ≡ 2 ^ 63) → OnErr r (SaveBroken b c)
+      → (r ≡ Err (stop.Limit limit.Generation) → (last_cut l.state).generation ≡ 2 ^ 63)
+      → IfErr r (λ (by : Stop). (by ≢ stop.Disk) → (by ≢ stop.Memory) → Stands (last_cut l.state) (history l.disk)) → OnErr r (SaveBroken b c)
       → IfErr r (CutStops history count head (At time) (Some time) b c book (Some k) (Some l))
-  saved_stops (Ok x) head time b c book k l h full noted = tt
-  saved_stops (Err by) head time b c book k l h full noted = record {
+  saved_stops (Ok x) head time b c book k l h full stands noted = tt
+  saved_stops (Err by) head time b c book k l h full stands noted = record {
     cuts = h.cuts;
     are = All-weaker (IsSavedAt head time b book) (IsTaken head (At time) b book) (was_saved head time b book) h.cuts h.are_saved;
     one = h.one;
-    keeps = record { puts = h.puts; state_is = h.state_is; full = λ e. full (ap Err e) };
+    keeps = record { puts = h.puts; state_is = h.state_is; full = λ e. full (ap Err e); stands = stands };
     time = time;
     time_is = refl;
     noted = noted;
@@ -336,12 +363,12 @@ module _ {D : Type 0} (history : D → Option History) (count : D → ℕ) where
   module _ (plan : RunPlan) (at : Place) (b c : Known) (book then : BookState) (before now : Option (List ℕ)) (keep : Option (Keep D)) (go : LanesGo b c) where
     -- a round stopped
     pub round_stopped : (by : Stop) → IsAtMark at.mark b book → FitsPipes book.pipes book.kept → RoundStops at.mark b book then before now → RoundBroken at.mark plan.batch b c
-        → end_by by ≢ end.Limit limit.Generation → StepStops history count plan at b c book then before now keep keep by
-    round_stopped by is fits h broken other = record {
+        → end_by by ≢ end.Limit limit.Generation → KeepStands history count plan b keep → StepStops history count plan at b c book then before now keep keep by
+    round_stopped by is fits h broken other stands = record {
       ran = record {
         cuts = [];
         is = run_is by at.mark b c book then before now [] (round_run_stops at.mark b c book then before now is go fits h);
-        keeps = keeps_none plan.head at.mark b book (end_by by) keep (not_done by) other;
+        keeps = keeps_none plan.head at.mark b book (end_by by) keep (not_done by) other (kept_stands plan b keep stands);
       };
       noted = round_broke plan.batch plan.every at b c broken;
     }
@@ -355,10 +382,10 @@ module _ {D : Type 0} (history : D → Option History) (count : D → ℕ) where
     }
 
   module _ (plan : RunPlan) (at : Place) (mark : Mark) (a b c : Known) (book then : BookState) (before now : Option (List ℕ)) (keep kept : Option (Keep D))
-      (is_at : IsAtMark at.mark a book) (same : Same a b) (goes : GoesTo at.mark mark a b book then before now) (noted : RoundNoted at.mark plan.batch a b (Some mark))
-      (n : ℕ) (next : n ≡ suc at.counts) where
+      (is_at : IsAtMark at.mark a book) (same : Same a b) (goes : GoesTo at.mark mark a b book then before now) (in_range : CountsInRange at.mark a (Some mark))
+      (noted : RoundNoted at.mark plan.batch a b (Some mark)) (n : ℕ) (next : n ≡ suc at.counts) where
     one_is : (cut : Cut) → IsTaken plan.head mark b then cut → IsRunCut plan.head at.mark a book cut
-    one_is cut taken = taken_is plan.head at.mark mark a b book then before now cut same goes taken
+    one_is cut taken = taken_is plan.head at.mark mark a b book then before now cut same goes in_range taken
 
     due_is : cut_after plan.every n (Some mark) ≡ cut_after plan.every (suc at.counts) (Some mark)
     due_is = ap (λ (k : ℕ). cut_after plan.every k (Some mark)) next
@@ -420,14 +447,14 @@ module _ {D : Type 0} (history : D → Option History) (count : D → ℕ) where
   stopped_with (stop.Limit of) plan times a c k h = (k, h)
 
   module _ (plan : RunPlan) (at : Place) (n : ℕ) (a b c : Known) (book mid then : BookState) (before between_them now : Option (List ℕ)) (keep kept_mid kept : Option (Keep D))
-      (same : Same a b) (h : RanTo history count plan at n a b book mid before between_them keep kept_mid) where
+      (same : Same a b) (begins : at.mark ≢ End) (h : RanTo history count plan at n a b book mid before between_them keep kept_mid) where
     abbrev times : List ℤ
     times = map cut_time h.cuts
 
     more_rounds : (time : Option ℤ) (answer : Option Mark) (all : List ℤ) → times ++ listed time ≡ all → RoundPlayed plan.batch plan.every at time b c answer
         → PlayedTo plan (moved at answer) a c (n + 1) all
     more_rounds time answer all e noted =
-        let k = rounds_more plan.batch plan.every (start plan) at times a b same h.noted c time answer noted in
+        let k = rounds_more plan.batch plan.every (start plan) at times a b same h.noted c time answer begins noted in
         subst (PlayedTo plan (moved at answer) a c (n + 1)) e (k.0, k.1 ∙ ap (λ (m : ℕ). m + 1) h.rounds)
 
     pub ran_rests : Passed history count plan at b c mid then between_them now kept_mid kept → RanTo history count plan at (n + 1) a c book then before now keep kept
@@ -473,7 +500,7 @@ module _ {D : Type 0} (history : D → Option History) (count : D → ℕ) where
         subst (λ (m : ℕ). RanTo history count plan (place mark m) (n + 1) a c book then before now keep kept) (sym e) (ran_one mark k.goes k.cut k.is k.keeps k.noted)
 
     -- a step stopped
-    module _ (spent : RoundsSpent n a b) (sized : AreSized a) (go : LanesGo a b) (on : LanesGo b c) where
+    module _ (book_is_kept : BookIsKept) (end_is_whole : EndIsWhole) (spent : RoundsSpent n a b) (sized : AreSized a) (go : LanesGo a b) (on : LanesGo b c) where
       broken_bound : (times : List ℤ) (k : RoundsBroken plan.batch plan.every (start plan) times a c) → length k.rounds ≡ n → RunBounded (suc (length k.rounds)) a c
       broken_bound times k e =
           let both = lanes_go_on a b c go on in
@@ -484,12 +511,16 @@ module _ {D : Type 0} (history : D → Option History) (count : D → ℕ) where
       ran_stops by k =
           let more : List Cut = k.ran.cuts in
           let all : List ℤ = map cut_time (h.cuts ++ more) in
-          let broke = rounds_broke plan.batch plan.every (start plan) at times a b same h.noted c (map cut_time more) k.noted in
+          let broke = rounds_broke plan.batch plan.every (start plan) at times a b same h.noted c (map cut_time more) (inl begins) k.noted in
           let broken : BrokenAt plan a c n all = subst (BrokenAt plan a c n) (sym (map-append cut_time h.cuts more)) (broke.0, broke.1 ∙ h.rounds) in
-          let notes = stopped_with by plan all a c broken.0 (broken_bound all broken.0 broken.1) in record {
+          let notes = stopped_with by plan all a c broken.0 (broken_bound all broken.0 broken.1) in
+          let is : RunIs plan.mark a c book then before now (h.cuts ++ more) (end_by by) =
+          run_is by plan.mark a c book then before now (h.cuts ++ more)
+          (run_stops_on plan.mark at.mark a b c book mid then before between_them now h.cuts more same h.goes h.at_most (is_stopped by at.mark b c mid then between_them now more k.ran.is)) in
+          record {
             cuts = h.cuts ++ more;
-            is = run_is by plan.mark a c book then before now (h.cuts ++ more)
-                (run_stops_on plan.mark at.mark a b c book mid then before between_them now h.cuts more same h.goes h.at_most (is_stopped by at.mark b c mid then between_them now more k.ran.is));
+            is = is;
+            listed = lists_told book_is_kept end_is_whole plan a c book then before now (h.cuts ++ more) (end_by by) is;
             keeps = keeps_on plan.head plan.mark at.mark a b book mid h.cuts more (end_by by) keep kept_mid kept (not_done by) h.are_cuts
                 (cuts_on plan.head plan.mark at.mark a b book mid before between_them same h.goes more (more_are plan.head at.mark b mid more (end_by by) kept_mid kept k.ran.keeps)) h.puts k.ran.keeps;
             notes = notes.0;
@@ -498,14 +529,15 @@ module _ {D : Type 0} (history : D → Option History) (count : D → ℕ) where
 
   -- ---- the end
   module _ (plan : RunPlan) (a b : Known) (book mid then : BookState) (before between_them now : Option (List ℕ)) (keep kept : Option (Keep D))
-      (at : IsAtMark plan.mark a book) (sized : AreSized a) (go : LanesGo a b) (all : RanAll history count plan a b book mid before between_them keep kept) where
+      (book_is_kept : BookIsKept) (end_is_whole : EndIsWhole) (at : IsAtMark plan.mark a book) (sized : AreSized a) (go : LanesGo a b) (all : RanAll history count plan a b book mid before between_them keep kept) where
     abbrev h : RanTo history count plan (place End all.counts) (all.n + 1) a b book mid before between_them keep kept
     h = all.ran
 
     pub ran_done : then ≡ mid → mid.whole ≡ true → WroteAll (listing mid.places (held_back mid)) between_them now → Ran history count plan a b book then before now keep kept end.Done
-    ran_done still whole wrote = record {
+    ran_done still whole wrote = let is = ran_whole plan.mark a b book mid then before between_them now h.cuts at h.goes still whole wrote in record {
       cuts = h.cuts;
-      is = ran_whole plan.mark a b book mid then before between_them now h.cuts at h.goes still whole wrote;
+      is = is;
+      listed = lists_told book_is_kept end_is_whole plan a b book then before now h.cuts end.Done is;
       keeps = keeps_done plan.head plan.mark a book h.cuts keep kept h.are_cuts h.puts;
       notes = record { to = place End all.counts; ended = refl; played = h.noted };
       bound = run_bounded (length h.noted.rounds) all.n (4 * length h.noted.rounds) a b (let e = h.rounds in omega (arith, e)) go.same all.spent (sized_on a b go sized) h.noted.parts
@@ -523,12 +555,16 @@ module _ {D : Type 0} (history : D → Option History) (count : D → ℕ) where
         let bound : RunBounded (suc (length k.rounds)) a b =
         run_bounded (suc (length k.rounds)) all.n (4 * suc (length k.rounds)) a b (omega (arith, e)) go.same all.spent (sized_on a b go sized) k.parts
         (broken_in_rounds plan.batch plan.every (start plan) times a b k) k.in_rounds in
-        let notes = stopped_with by plan times a b k bound in record {
+        let notes = stopped_with by plan times a b k bound in
+        let is : RunIs plan.mark a b book then before now (h.cuts ++ []) (end_by by) =
+        run_is by plan.mark a b book then before now (h.cuts ++ []) (end_run_stops plan.mark a b book mid then before between_them now (h.cuts ++ []) at h.goes spoilt wrote
+        (All-append (λ (cut : Cut). AtMost (At cut.mark) End) h.cuts [] h.at_most (All-nil (λ (cut : Cut). AtMost (At cut.mark) End))) (lanes_go_self b)) in
+        record {
           cuts = h.cuts ++ [];
-          is = run_is by plan.mark a b book then before now (h.cuts ++ []) (end_run_stops plan.mark a b book mid then before between_them now (h.cuts ++ []) at h.goes spoilt wrote
-              (All-append (λ (cut : Cut). AtMost (At cut.mark) End) h.cuts [] h.at_most (All-nil (λ (cut : Cut). AtMost (At cut.mark) End))) (lanes_go_self b));
+          is = is;
+          listed = lists_told book_is_kept end_is_whole plan a b book then before now (h.cuts ++ []) (end_by by) is;
           keeps = keeps_on plan.head plan.mark End a b book mid h.cuts [] (end_by by) keep kept kept (not_done by) h.are_cuts (All-nil (IsRunCut plan.head plan.mark a book)) h.puts
-              (keeps_none plan.head End b mid (end_by by) kept (not_done by) other);
+              (keeps_none plan.head End b mid (end_by by) kept (not_done by) other (put_stands h.cuts keep kept h.puts));
           notes = notes.0;
           bound = notes.1;
         }

@@ -13,6 +13,7 @@ pub mod Owned
 pub mod Parted
 pub mod Merged
 pub mod Stays
+pub mod Ranges
 pub mod Broken
 pub mod Opened
 pub mod OpenedCuts

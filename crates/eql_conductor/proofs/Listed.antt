@@ -1,7 +1,7 @@
 -- What the record of a run says in the words of the listing.
 use Rattle.std.proofs.Common.{◌≡◌, ◌<◌, ◌^◌, ◌++◌, ℕ, ℤ, true, List, [], ◌∷◌, drop, length, map, Option, Some, refl, sym, ap, ◌∙◌, arith, subst, length-append, append_assoc}
-use Rattle.std.specs.Prelude.{filter}
-use Rattle.std.proofs.lemmas.List.{drop_at}
+use Rattle.std.specs.Prelude.{All, filter}
+use Rattle.std.proofs.lemmas.List.{drop_at, length-map}
 use Rattle.std.proofs.lemmas.List.Concat.{flat_map-append}
 use Rattle.eql_values.specs.declared.cut.BookCut.{BookCut}
 use Rattle.eql_values.specs.declared.cut.Pipe.{Pipe}
@@ -18,11 +18,14 @@ use Rattle.eql_values.specs.Numbering.{emitted, numbered, piped}
 use Rattle.eql_laws.specs.Alive.{IsSpan, alive_holders}
 use Rattle.eql_laws.specs.Belows.{between}
 use Rattle.eql_laws.specs.Books.{book_of}
-use Rattle.eql_laws.specs.Fitting.{Kept}
+use Rattle.eql_laws.specs.Counting.{IsShardText}
+use Rattle.eql_laws.specs.Fitting.{Fits, Kept, Run, cut_of}
 use Rattle.eql_laws.specs.Lateness.{AtMost}
 use Rattle.eql_laws.specs.Places.{ReadTo, whole}
 use Rattle.eql_laws.specs.Resuming.{rest_from}
 use Rattle.eql_laws.proofs.BelowLemmas.{below_grows}
+use Rattle.eql_laws.proofs.Counted.{fronts_fit}
+use Rattle.eql_laws.proofs.KeptCuts.{cuts_fit}
 use Rattle.eql_laws.proofs.LeftOut.{after_in_order, dead_after, dead_for_good, dead_matches}
 use Rattle.eql_laws.proofs.MarkLemmas.{at_most_end, times_le}
 use Rattle.eql_laws.proofs.PieceLemmas.{times_between}
@@ -32,11 +35,13 @@ use Rattle.eql_outside.proofs.WrittenLemmas.{writes_on}
 use Rattle.eql_book.specs.Books.{BookState, book_after, held_back, kept_after, let_out}
 use Rattle.eql_book.specs.Listing.{listing, match_line}
 use Rattle.eql_book.specs.Laws.{BookIsKept, EndIsWhole, FreshIsOfNone}
+use Rattle.eql_cut.specs.declared.cut.Cut.{Cut}
+use Rattle.eql_cut.specs.Domain.{kept_by}
 use Rattle.eql_parts.specs.PartSteps.{Rules, alive_by, mark_time}
 use Rattle.eql_conductor.specs.PartRounds.{pending_after}
 use Rattle.eql_conductor.specs.Rounds.{found_by}
-use Rattle.eql_conductor.specs.Runs.{lines_before_end, lines_by, whole_lines}
-use Rattle.eql_conductor.specs.RunLaws.{CutHavePlayed, FreshHavePlayed, FreshListsAll, HaveNumbers, HavePlayed, RunCutsAreOfTexts, RunsStopInLines, RunsWriteLines, WereGiven, found_below, lines_after, listed_by, rules_of}
+use Rattle.eql_conductor.specs.Runs.{IsCutOf, lines_before_end, lines_by, whole_lines}
+use Rattle.eql_conductor.specs.RunLaws.{CutHavePlayed, FreshHavePlayed, FreshListsAll, HaveNumbers, HavePlayed, RunCutsAreOfTexts, RunCutsFit, RunsStopInLines, RunsWriteLines, WereGiven, found_below, lines_after, listed_by, rules_of}
 
 -- ---- what pipes let out from a book on
 module _ (book_is_kept : BookIsKept) (end_is_whole : EndIsWhole) (pipes : List Pipe) (found more : List Match) (few : length (found ++ more) < 2 ^ 64) where
@@ -193,8 +198,11 @@ runs_stop_in_lines kept end rules reads slack texts from mark all book then befo
 }
 
 -- ---- which cuts it puts
-pub run_cuts_are_of_texts : BookIsKept → EndIsWhole → RunCutsAreOfTexts
-run_cuts_are_of_texts kept end run reads texts from all book cut span played few pipes later of =
+run_cut_is : (kept : BookIsKept) (end : EndIsWhole) (run : Run) (reads : Reads) (texts : List (List ℕ)) (from : Mark) (all : List Holder) (book : BookState) (cut : Cut)
+    → IsSpan run.span → HavePlayed (rules_of run) reads (Some run.slack) texts from all book → HaveNumbers (rules_of run) reads (Some run.slack) texts
+    → book.pipes ≡ run.pipes → AtMost from (At cut.mark) → (of : IsCutOf (rules_of run) all reads (Some run.slack) texts from book cut)
+    → kept_by cut ≡ cut_of run reads cut.mark of.lanes.shards
+run_cut_is kept end run reads texts from all book cut span played few pipes later of =
     let rules : Rules = rules_of run in
     let slack : Option ℤ = Some run.slack in
     let t : ℤ = cut.mark in
@@ -207,9 +215,22 @@ run_cuts_are_of_texts kept end run reads texts from all book cut span played few
     of.book_is ∙ kept_on rules reads slack texts kept end from all book span played few (At t) later
     ∙ ap (λ (p : List Pipe). book_of p (found_below rules reads slack texts (At t))) pipes
     ∙ ap book_at (sym of.lanes.texts_are) in
-    record {
-      shards = shards;
-      are_places = of.lanes.are_places;
-      texts_are = of.lanes.texts_are;
-      kept_is = λ i. record { time = t; lanes = of.lanes.lanes_are i; holders = holders_are i; book = book_is i };
-    }
+    λ i. record { time = t; lanes = of.lanes.lanes_are i; holders = holders_are i; book = book_is i }
+
+pub run_cuts_are_of_texts : BookIsKept → EndIsWhole → RunCutsAreOfTexts
+run_cuts_are_of_texts kept end run reads texts from all book cut span played few pipes later of = record {
+  shards = of.lanes.shards;
+  are_places = of.lanes.are_places;
+  texts_are = of.lanes.texts_are;
+  kept_is = run_cut_is kept end run reads texts from all book cut span played few pipes later of;
+}
+
+pub run_cuts_fit : BookIsKept → EndIsWhole → RunCutsFit
+run_cuts_fit kept end run reads texts from all book cut span played few pipes later of reads_for sized count slack_from slack_to =
+    let shards : List ReadTo = of.lanes.shards in
+    let as_many : length shards ≡ length texts = sym (length-map shards whole) ∙ ap length of.lanes.texts_are in
+    let fits : Fits run (length shards) (cut_of run reads cut.mark shards) =
+    cuts_fit run reads cut.mark shards reads_for of.lanes.are_places (fronts_fit shards (subst (All IsShardText) (sym of.lanes.texts_are) sized))
+    (omega (arith, as_many, count)) of.lanes.safe (of.in_range slack_from slack_to) in
+    subst (λ (n : ℕ). Fits run n (kept_by cut)) as_many
+    (subst (Fits run (length shards)) (sym (run_cut_is kept end run reads texts from all book cut span played few pipes later of)) fits)

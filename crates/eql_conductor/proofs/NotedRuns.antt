@@ -1,5 +1,5 @@
 -- The notes of a run, round by round.
-use Rattle.std.proofs.Common.{◌≡◌, ◌⊎◌, inl, inr, ◌+◌, ◌*◌, ◌++◌, ◌≤◌, ℕ, ℤ, zero, suc, List, [], ◌∷◌, Option, None, Some, length, replicate, take, refl, sym, ap, ◌∙◌, arith, subst, length-append, All}
+use Rattle.std.proofs.Common.{◌≡◌, ◌≢◌, ◌⊎◌, inl, inr, ◌+◌, ◌*◌, ◌++◌, ◌≤◌, ℕ, ℤ, zero, suc, List, [], ◌∷◌, Option, None, Some, length, replicate, take, refl, sym, ap, ◌∙◌, arith, subst, length-append, All}
 use Rattle.std.proofs.lemmas.List.{append-nil, append_assoc, length-replicate}
 use Rattle.std.proofs.lemmas.List.Concat.{flat_map-append}
 use Rattle.std.proofs.lemmas.List.Elements.{All-append, All-cons, All-nil}
@@ -10,7 +10,7 @@ use Rattle.eql_conductor.specs.declared.note.Note.TheVariants as note
 use Rattle.eql_conductor.specs.Benches.{Known, Same}
 use Rattle.eql_laws.specs.Apart.{joined}
 use Rattle.eql_conductor.specs.RoundNotes.{low_at, counted, took, lane_round, LanesGrow, GrewFront, GrewInRounds, LanesInRounds, PartsInRounds, PartsPlayed, RoundNoted, RoundBroken, delivered_to, others_in}
-use Rattle.eql_conductor.specs.RunNotes.{Place, moved, next_place, place_after, cut_after, cut_due, listed, cut_times, snapped, round_notes, rounds_notes, RoundPlayed, RoundBrokeOff, RoundsPlayed, RoundsBroken, CutNoted, SaveBroken}
+use Rattle.eql_conductor.specs.RunNotes.{BeginBeforeEnd, Place, moved, next_place, place_after, cut_after, cut_due, listed, cut_times, snapped, round_notes, rounds_notes, RoundPlayed, RoundBrokeOff, RoundsPlayed, RoundsBroken, CutNoted, SaveBroken}
 use Rattle.eql_conductor.proofs.Resting.{is_lane, is_part}
 use Rattle.eql_conductor.proofs.Handing.{handed_on, handed_self, handed_to}
 use Rattle.eql_conductor.proofs.LaneNotes.{front_none}
@@ -27,6 +27,10 @@ times_on every at [] ys = refl
 times_on every at (lows ∷ xs) ys =
     ap (λ (l : List ℤ). listed (cut_due every at lows) ++ l) (times_on every (next_place at lows) xs ys)
     ∙ sym (append_assoc (listed (cut_due every at lows)) (cut_times every (next_place at lows) xs) (cut_times every (place_after (next_place at lows) xs) ys))
+
+pub begin_on : (at : Place) (xs ys : List (List Mark)) → BeginBeforeEnd at xs → BeginBeforeEnd (place_after at xs) ys → BeginBeforeEnd at (xs ++ ys)
+begin_on at [] ys h k = k
+begin_on at (lows ∷ xs) ys h k = (h.0, begin_on (next_place at lows) xs ys h.1 k)
 
 module _ (batch : ℕ) (every : Option ℕ) where
   pub notes_on : (at : Place) (xs ys : List (List Mark)) (s : ℕ) → rounds_notes batch every at (xs ++ ys) s ≡ rounds_notes batch every at xs s ++ rounds_notes batch every (place_after at xs) ys s
@@ -212,6 +216,7 @@ rounds_none batch every from a = (
     rounds = [];
     lows = All-nil (IsOf a.lanes);
     to_is = refl;
+    before_end = tt;
     times_are = refl;
     lanes = record { each = λ s l. sym (append-nil (a.lane_notes s)) };
     parts = none_played (4 * 0) a a (handed_self a) (record { each = λ p l. refl });
@@ -236,7 +241,7 @@ module _ (batch : ℕ) (every : Option ℕ) (from at : Place) (times : List ℤ)
     }
 
   -- one more
-  module _ (c : Known) (time : Option ℤ) (answer : Option Mark) (noted : RoundPlayed batch every at time b c answer) where
+  module _ (c : Known) (time : Option ℤ) (answer : Option Mark) (begins : at.mark ≢ End) (noted : RoundPlayed batch every at time b c answer) where
     one : RoundPlayed batch every so_far time b c answer
     one = subst (λ (q : Place). RoundPlayed batch every q time b c answer) h.to_is noted
 
@@ -245,6 +250,7 @@ module _ (batch : ℕ) (every : Option ℕ) (from at : Place) (times : List ℤ)
       record {
         rounds = h.rounds ++ one.lows ∷ [];
         lows = All-append (IsOf a.lanes) h.rounds (one.lows ∷ []) h.lows (All-cons (IsOf a.lanes) one.lows [] (one.count ∙ same.lanes) (All-nil (IsOf a.lanes)));
+        before_end = begin_on from h.rounds (one.lows ∷ []) h.before_end (subst (λ (q : Place). q.mark ≢ End) h.to_is begins, tt);
         to_is = ap (λ (q : Place). moved q answer) h.to_is ∙ ap (λ (m : Option Mark). moved so_far m) one.counts ∙ sym (place_on from h.rounds (one.lows ∷ []));
         times_are = (λ i. h.times_are i ++ listed (one.time_is i)) ∙ sym (times_more every from h.rounds one.lows);
         lanes = record {
@@ -260,9 +266,13 @@ module _ (batch : ℕ) (every : Option ℕ) (from at : Place) (times : List ℤ)
     )
 
   -- the last one broke off
-  module _ (c : Known) (more : List ℤ) (noted : RoundBrokeOff batch every at more b c) where
+  module _ (c : Known) (more : List ℤ) (begins : (at.mark ≢ End) ⊎ LanesGrow (rounds_notes batch every from h.rounds) a c) (noted : RoundBrokeOff batch every at more b c) where
     last_one : RoundBrokeOff batch every so_far more b c
     last_one = subst (λ (q : Place). RoundBrokeOff batch every q more b c) h.to_is noted
+
+    last_so : (at.mark ≢ End) ⊎ LanesGrow (rounds_notes batch every from h.rounds) a c → (so_far.mark ≢ End) ⊎ LanesGrow (rounds_notes batch every from h.rounds) a c
+    last_so (inl apart) = inl (subst (λ (q : Place). q.mark ≢ End) h.to_is apart)
+    last_so (inr grew) = inr grew
 
     put_times : (last : List Mark) → (more ≡ []) ⊎ (more ≡ listed (cut_due every so_far last))
         → (times ++ more ≡ cut_times every from h.rounds) ⊎ (times ++ more ≡ cut_times every from (h.rounds ++ last ∷ []))
@@ -275,6 +285,8 @@ module _ (batch : ℕ) (every : Option ℕ) (from at : Place) (times : List ℤ)
         rounds = h.rounds;
         last = last_one.lows;
         lows = All-cons (IsOf a.lanes) last_one.lows h.rounds (last_one.count ∙ same.lanes) h.lows;
+        before_end = h.before_end;
+        last_begins = last_so begins;
         times_are = put_times last_one.lows last_one.times_are;
         lanes = λ s l.
             subst (λ (x : List Note). GrewFront x (round_notes batch every so_far last_one.lows s) (c.lane_notes s)) (h.lanes.each s l) (last_one.lanes.each s (is_lane a b s same l));
@@ -295,7 +307,7 @@ module _ (batch : ℕ) (every : Option ℕ) (from at : Place) (times : List ℤ)
   }
 
   pub rounds_end : (k : RoundsBroken batch every from (times ++ []) a b) × (length k.rounds ≡ length h.rounds)
-  rounds_end = rounds_broke b [] nothing
+  rounds_end = rounds_broke b [] (inr h.lanes) nothing
 
 -- ---- lanes and parts, round by round
 pub lanes_in_rounds : (batch : ℕ) (every : Option ℕ) (from to : Place) (times : List ℤ) (a b : Known) (h : RoundsPlayed batch every from to times a b) → LanesInRounds (length h.rounds) a b

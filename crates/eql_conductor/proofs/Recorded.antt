@@ -1,5 +1,5 @@
--- What the records of runs say in the words of the listing, and of the cuts of texts. A law can't say it, since it ranges over what is known of a
--- bench before and after a run, so that its type is in `Type 1`.
+-- What the records of runs say in the words of the listing, and of the cuts of texts. No law says it, since it would range over what is known of
+-- a bench before and after a run, which is of `Type 1`.
 use Rattle.std.proofs.Common.{◌≡◌, ℕ, ℤ, List, Option, Some, subst}
 use Rattle.std.specs.Prelude.{All}
 use Rattle.std.proofs.lemmas.List.Elements.{All-weaker}

@@ -50,7 +50,7 @@ turned_once rules x y max answer step = (1, (y, max, answer, step, refl))
 
 -- ---- the same settings
 pub same_self : (b : Known) → Same b b
-same_self b = record { lanes = refl; parts = refl; set = λ s h. refl; rules = λ p h. refl }
+same_self b = record { lanes = refl; parts = refl; set = λ s h. refl; rules = λ p h. refl; some_lane = λ s l has. has; some_part = λ p l has. has }
 
 pub was_lane : (a b : Known) (s : ℕ) → Same a b → s < b.lanes → s < a.lanes
 was_lane a b s same h = subst (λ (n : ℕ). s < n) same.lanes h
@@ -70,6 +70,8 @@ same_on a b c h k = record {
   parts = k.parts ∙ h.parts;
   set = λ s l. k.set s (is_lane a b s h l) ∙ h.set s l;
   rules = λ p l. k.rules p (is_part a b p h l) ∙ h.rules p l;
+  some_lane = λ s l has. k.some_lane s (is_lane a b s h l) (h.some_lane s l has);
+  some_part = λ p l has. k.some_part p (is_part a b p h l) (h.some_part p l has);
 }
 
 -- ---- others alone

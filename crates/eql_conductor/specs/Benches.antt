@@ -26,12 +26,14 @@ pub record Known : Type 1 where
   pub failed : ℕ → ℕ
   pub worn : ℕ
 
--- what no step changes is the same
+-- what no step changes is the same, and each lane and part that might have a state has one
 pub record Same (old new : Known) : Type 0 where
   pub lanes : new.lanes ≡ old.lanes
   pub parts : new.parts ≡ old.parts
   pub set : (s : ℕ) → s < old.lanes → new.set s ≡ old.set s
   pub rules : (p : ℕ) → p < old.parts → new.rules p ≡ old.rules p
+  pub some_lane : (s : ℕ) → s < old.lanes → ((x : LaneState) × old.lane s x) → (y : LaneState) × new.lane s y
+  pub some_part : (p : ℕ) → p < old.parts → ((x : PartState) × old.part p x) → (y : PartState) × new.part p y
 
 -- ---- what others do: they feed lanes, and turn parts
 -- from the one state, so many feeds lead to the other

@@ -57,6 +57,7 @@ pub record LaneWasFed (s : ℕ) (old new : Known) : Type 0 where
 
 pub record LaneHadLow (s : ℕ) (mark : Mark) (old new : Known) : Type 0 where
   pub lane : s < old.lanes
+  pub some : (x : LaneState) × (y : LaneState) × old.lane s x × HadLow (old.set s) mark x y
   pub each : (y : LaneState) → new.lane s y → (x : LaneState) × old.lane s x × HadLow (old.set s) mark x y
 
 pub record LaneGaveOut (s : ℕ) (mark : Mark) (old new : Known) : Type 0 where

@@ -14,4 +14,5 @@ pub mod RunBounds
 pub mod Runs
 pub mod Openings
 pub mod RunLaws
+pub mod Records
 pub mod Running

@@ -1,12 +1,13 @@
 -- What a round of the conductor does.
-use Rattle.std.specs.Prelude.{◌≡◌, ◌⊎◌, ◌<◌, ℕ, ℤ, true, List, Option, None, Some, length}
+use Rattle.std.specs.Prelude.{◌≡◌, ◌⊎◌, ◌<◌, ℕ, ℤ, ◌≤ℤ◌, pos, true, List, Option, None, Some, length}
 use Rattle.eql_values.specs.declared.item.Item.{Item}
 use Rattle.eql_values.specs.declared.found.Match.{Match}
 use Rattle.eql_values.specs.declared.found.Holder.{Holder}
 use Rattle.eql_values.specs.declared.order.Mark.{Mark}
+use Rattle.eql_values.specs.declared.order.Mark.TheVariants.{At}
 use Rattle.eql_values.specs.Accepted.{Reads}
 use Rattle.eql_values.specs.Matching.{matches}
-use Rattle.eql_laws.specs.Belows.{between}
+use Rattle.eql_laws.specs.Belows.{IsMarkTime, between, greatest_slack}
 use Rattle.eql_laws.specs.Lateness.{AtMost}
 use Rattle.eql_lane.specs.declared.ops.LimitOf.TheVariants as limit
 use Rattle.eql_outside.specs.Written.{WroteAll, WroteFront}
@@ -70,6 +71,16 @@ pub record RoundRests (last : Mark) (old new : Known) (book then : BookState) (b
 abbrev pub RoundIs : Mark → (old new : Known) → (book then : BookState) → (before now : Option (List ℕ)) → Option Mark → Type 0
 RoundIs last old new book then before now None = RoundRests last old new book then before now
 RoundIs last old new book then before now (Some mark) = GoesTo last mark old new book then before now
+
+-- a mark's time is in the range of marks, where the slack is one that a run may have: 0 to 36,500 days
+abbrev pub IsInRange : Mark → Option ℤ → Type 0
+IsInRange (At t) (Some slack) = pos 0 ≤ℤ slack → slack ≤ℤ greatest_slack → IsMarkTime t
+IsInRange mark slack = Unit {0}
+
+-- and so is the mark of a round over told texts that counts
+abbrev pub CountsInRange : Mark → (old : Known) → Option Mark → Type 0
+CountsInRange last old None = Unit {0}
+CountsInRange last old (Some mark) = (reads : Reads) (slack : Option ℤ) (texts : List (List ℕ)) → OfTexts reads slack texts last old → IsInRange mark slack
 
 -- a round that stopped, at a mark that is at least the last one
 pub record RoundStops (last : Mark) (old : Known) (book then : BookState) (before now : Option (List ℕ)) : Type 0 where

@@ -1,5 +1,5 @@
 -- What the record of a run says in the words of the listing, and of the cuts of texts.
-use Rattle.std.specs.Prelude.{◌≡◌, ◌<◌, ◌^◌, ◌++◌, ℕ, ℤ, true, List, [], Option, Some, All, drop, length}
+use Rattle.std.specs.Prelude.{◌≡◌, ◌<◌, ◌≤◌, ◌^◌, ◌++◌, ℕ, ℤ, ◌≤ℤ◌, pos, true, List, [], Option, Some, All, drop, length}
 use Rattle.eql_values.specs.declared.found.Holder.{Holder}
 use Rattle.eql_values.specs.declared.found.Match.{Match}
 use Rattle.eql_values.specs.declared.found.Numbered.{Numbered}
@@ -10,9 +10,10 @@ use Rattle.eql_values.specs.Accepted.{Reads, below}
 use Rattle.eql_values.specs.Matching.{after, matches}
 use Rattle.eql_values.specs.Numbering.{numbered, piped}
 use Rattle.eql_laws.specs.Alive.{IsSpan}
-use Rattle.eql_laws.specs.Belows.{between}
-use Rattle.eql_laws.specs.Books.{book_of}
-use Rattle.eql_laws.specs.Fitting.{Kept, Run}
+use Rattle.eql_laws.specs.Belows.{between, greatest_slack}
+use Rattle.eql_laws.specs.Books.{book_of, greatest_shards}
+use Rattle.eql_laws.specs.Counting.{IsShardText}
+use Rattle.eql_laws.specs.Fitting.{Fits, Kept, ReadsFor, Run}
 use Rattle.eql_laws.specs.Lateness.{AtMost}
 use Rattle.eql_outside.specs.Written.{WroteAll, WroteFront}
 use Rattle.eql_book.specs.Books.{BookState, book_after}
@@ -144,6 +145,14 @@ RunCutsAreOfTexts = (run : Run) (reads : Reads) (texts : List (List ℕ)) (from 
     → IsSpan run.span → HavePlayed (rules_of run) reads (Some run.slack) texts from all book → HaveNumbers (rules_of run) reads (Some run.slack) texts
     → book.pipes ≡ run.pipes → AtMost from (At cut.mark) → IsCutOf (rules_of run) all reads (Some run.slack) texts from book cut
     → IsCutOfTexts run reads texts (kept_by cut)
+
+-- it fits the run, where its texts and its slack are those that a run may have
+abbrev pub RunCutsFit : Type 0
+RunCutsFit = (run : Run) (reads : Reads) (texts : List (List ℕ)) (from : Mark) (all : List Holder) (book : BookState) (cut : Cut)
+    → IsSpan run.span → HavePlayed (rules_of run) reads (Some run.slack) texts from all book → HaveNumbers (rules_of run) reads (Some run.slack) texts
+    → book.pipes ≡ run.pipes → AtMost from (At cut.mark) → IsCutOf (rules_of run) all reads (Some run.slack) texts from book cut
+    → ReadsFor run reads → All IsShardText texts → length texts ≤ greatest_shards → pos 0 ≤ℤ run.slack → run.slack ≤ℤ greatest_slack
+    → Fits run (length texts) (kept_by cut)
 
 -- and no further event of its lanes can come below its time
 abbrev pub RunCutsAreSafe : Type 0

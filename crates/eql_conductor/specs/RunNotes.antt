@@ -1,5 +1,5 @@
 -- What the conductor plays in a run, as notes: round by round, from the lows that it looked at.
-use Rattle.std.specs.Prelude.{◌≡◌, ◌⊎◌, ◌<◌, ◌*◌, ◌%◌, ◌==◌, ◌++◌, ℕ, ℤ, suc, pos, if◌then◌else◌, List, [], ◌∷◌, Option, None, Some, All, length, refl}
+use Rattle.std.specs.Prelude.{◌≡◌, ◌≢◌, ◌⊎◌, ◌<◌, ◌*◌, ◌%◌, ◌==◌, ◌++◌, ℕ, ℤ, suc, pos, if◌then◌else◌, List, [], ◌∷◌, Option, None, Some, All, length, refl}
 use Rattle.eql_values.specs.declared.order.Mark.{Mark}
 use Rattle.eql_values.specs.declared.order.Mark.TheVariants.{Start, At, End}
 use Rattle.eql_conductor.specs.declared.note.Note.{Note}
@@ -36,6 +36,11 @@ next_place at lows = moved at (counted at.mark lows)
 abbrev pub place_after : Place → List (List Mark) → Place
 place_after at [] = at
 place_after at (lows ∷ rounds) = place_after (next_place at lows) rounds
+
+-- each of these rounds begins before the end
+abbrev pub BeginBeforeEnd : Place → List (List Mark) → Type 0
+BeginBeforeEnd at [] = Unit {0}
+BeginBeforeEnd at (lows ∷ rounds) = (at.mark ≢ End) × BeginBeforeEnd (next_place at lows) rounds
 
 -- ---- cuts
 -- after the n-th counted round, of this mark, a cut is due where the mark has a time and n is a multiple; it has that time
@@ -90,22 +95,26 @@ module _ (batch : ℕ) (every : Option ℕ) where
     pub lanes : LanesGrowFront (round_notes at lows) old new
     pub parts : PartsPlayed 4 old new
 
-  -- whole rounds were played from one place to another, with cuts of these times. The notes of each part grew in each round by at most four, and
-  -- by at most one for each event that was delivered to it
+  -- whole rounds were played from one place to another, with cuts of these times, and none once the end was come to. The notes of each part grew
+  -- in each round by at most four, and by at most one for each event that was delivered to it
   pub record RoundsPlayed (from to : Place) (times : List ℤ) (old new : Known) : Type 0 where
     pub rounds : List (List Mark)
     pub lows : All (λ (lows : List Mark). length lows ≡ old.lanes) rounds
     pub to_is : to ≡ place_after from rounds
+    pub before_end : BeginBeforeEnd from rounds
     pub times_are : times ≡ cut_times every from rounds
     pub lanes : LanesGrow (rounds_notes from rounds) old new
     pub parts : PartsPlayed (4 * length rounds) old new
     pub in_rounds : PartsInRounds (length rounds) old new
 
-  -- rounds, of which the last may have broken off, with cuts of these times: those that were due in the rounds before it, or in all
+  -- rounds, of which the last may have broken off, with cuts of these times: those that were due in the rounds before it, or in all. At the end
+  -- nothing was played of it
   pub record RoundsBroken (from : Place) (times : List ℤ) (old new : Known) : Type 0 where
     pub rounds : List (List Mark)
     pub last : List Mark
     pub lows : All (λ (lows : List Mark). length lows ≡ old.lanes) (last ∷ rounds)
+    pub before_end : BeginBeforeEnd from rounds
+    pub last_begins : ((place_after from rounds).mark ≢ End) ⊎ LanesGrow (rounds_notes from rounds) old new
     pub times_are : (times ≡ cut_times every from rounds) ⊎ (times ≡ cut_times every from (rounds ++ last ∷ []))
     pub lanes : (s : ℕ) → s < old.lanes → GrewFront (old.lane_notes s ++ rounds_notes from rounds s) (round_notes (place_after from rounds) last s) (new.lane_notes s)
     pub parts : PartsPlayed (4 * suc (length rounds)) old new

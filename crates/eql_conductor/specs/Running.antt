@@ -1,5 +1,5 @@
 -- How a run of the conductor goes from round to round, and what one step of it does.
-use Rattle.std.specs.Prelude.{◌≡◌, ◌≤◌, ◌+◌, ◌^◌, ℕ, ℤ, true, List, [], ◌∷◌, Option, None, Some, IfSome, All, length, map, Result, Ok, Err}
+use Rattle.std.specs.Prelude.{◌≡◌, ◌≢◌, ◌≤◌, ◌+◌, ◌^◌, ℕ, ℤ, true, List, [], ◌∷◌, Option, None, Some, IfSome, All, length, map, Result, Ok, Err}
 use Rattle.eql_values.specs.declared.found.Holder.{Holder}
 use Rattle.eql_values.specs.declared.order.Mark.{Mark}
 use Rattle.eql_values.specs.declared.order.Mark.TheVariants.{Start, At, End}
@@ -76,6 +76,7 @@ pub record PutStops (by : Stop) (old new : CkState) (before now : Option History
   pub puts : PutsCuts (last_cut old) cuts before now
   pub state_is : last_cut new ≡ last_cut old
   pub full : by ≡ stop.Limit limit.Generation → (last_cut new).generation ≡ 2 ^ 63
+  pub stands : (by ≢ stop.Disk) → (by ≢ stop.Memory) → Stands (last_cut new) now
 
 -- ---- with cuts or without, by what is told of a disk and by the count of its faults
 module _ {D : Type 0} (history : D → Option History) (count : D → ℕ) where

@@ -11,6 +11,8 @@ use Rattle.eql_laws.specs.Counting.{greatest_bytes}
 use Rattle.eql_laws.specs.Lateness.{AtMost}
 use Rattle.eql_outside.specs.Moments.{History}
 use Rattle.eql_outside.specs.Outside.{Rose}
+use Rattle.eql_outside.specs.Plans.{FaultPlan}
+use Rattle.eql_outside.specs.Unfailing.{IsUnfailing}
 use Rattle.eql_outside.specs.Written.{WroteAll, WroteFront}
 use Rattle.eql_lane.specs.declared.ops.LimitOf.TheVariants as limit
 use Rattle.eql_lane.specs.Lanes.{LaneState, OutOfLines}
@@ -34,9 +36,7 @@ use Rattle.eql_conductor.specs.Bounds.{AreSized}
 use Rattle.eql_conductor.specs.Going.{FailedAt, FaultRose}
 use Rattle.eql_conductor.specs.LaneRounds.{IsSafe, LanesAt}
 use Rattle.eql_conductor.specs.PartRounds.{Resting, SomeFull, pending_after}
-use Rattle.eql_conductor.specs.RunBounds.{RunBounded}
-use Rattle.eql_conductor.specs.RunNotes.{RunNotes, round_count}
-use Rattle.eql_conductor.specs.Rounds.{OfTexts, found_by}
+use Rattle.eql_conductor.specs.Rounds.{IsInRange, OfTexts, found_by}
 use Rattle.eql_conductor.specs.Saving.{AreLanesOf, BookKeepsNumbers, IsHeadOf, PutsCuts}
 
 -- ---- how a run may begin
@@ -102,11 +102,12 @@ RunIs from old new book then before now cuts answer = RunStops from old new book
 
 -- ---- which cuts a run puts
 -- what a cut keeps of told texts: what lies before the lanes' places, and what is pending and alive at its time, and the book's state, once all
--- events between the run's mark and that time were played
+-- events between the run's mark and that time were played. Its time is in the range of marks
 pub record IsCutOf (rules : Rules) (all : List Holder) (reads : Reads) (slack : Option ℤ) (texts : List (List ℕ)) (from : Mark) (book : BookState) (cut : Cut) : Type 0 where
   pub lanes : AreLanesOf reads slack texts cut.mark cut.lanes
   pub holders : cut.holders ≡ alive_holders rules.span cut.mark (pending_after rules all (between reads slack texts from (At cut.mark)))
   pub book_is : cut.book ≡ kept_after book.pipes book.kept (found_by rules all (between reads slack texts from (At cut.mark)))
+  pub in_range : IsInRange (At cut.mark) slack
 
 -- a cut that a run puts
 pub record IsRunCut (head : CutHead) (from : Mark) (old : Known) (book : BookState) (cut : Cut) : Type 0 where
@@ -125,7 +126,8 @@ LastHolds last [] disk = Unit {0}
 LastHolds last (cut ∷ []) disk = IfSome disk (λ k. Holds last cut k.now)
 LastHolds last (cut ∷ next ∷ cuts) disk = LastHolds last (next ∷ cuts) disk
 
--- a run that keeps cuts: those that it put, one after another. Where it came to its end, the state says where the last of them stands
+-- a run that keeps cuts: those that it put, one after another. Where it came to its end, the state says where the last of them stands. Where
+-- neither the disk failed nor memory ran out, a further cut may be put as things are
 pub record RunPuts (head : CutHead) (from : Mark) (old : Known) (book : BookState) (state then : CkState) (before now : Option History) (cuts : List Cut) (answer : Ends) : Type 0 where
   pub are_cuts : All (IsRunCut head from old book) cuts
   pub puts : PutsCuts (last_cut state) cuts before now
@@ -134,6 +136,7 @@ pub record RunPuts (head : CutHead) (from : Mark) (old : Known) (book : BookStat
   pub generation_from : (last_cut state).generation ≤ (last_cut then).generation
   pub generation_to : (last_cut then).generation ≤ (last_cut state).generation + length cuts
   pub full : answer ≡ end.Limit limit.Generation → (last_cut then).generation ≡ 2 ^ 63
+  pub stands : (answer ≢ end.DiskFault) → (answer ≢ end.Memory) → Stands (last_cut then) now
 
 -- ---- why a run ends
 -- by the bench, and the counts of faults of the sink and of the disk
@@ -148,7 +151,13 @@ EndsBy (end.Limit (limit.Bytes s)) old new sb sn db dn = (s < old.lanes) × ((y 
 EndsBy (end.Limit limit.Turns) old new sb sn db dn = (old.worn < new.worn) × NoneFailed old new × (sn ≡ sb) × (dn ≡ db)
 EndsBy (end.Limit limit.Generation) old new sb sn db dn = NoneFailed old new × (new.worn ≡ old.worn) × (sn ≡ sb) × (dn ≡ db)
 
--- ---- a run with cuts or without, by what is told of a disk and by the count of its faults
+-- ---- a run with cuts or without
+-- no call of the disk that keeps them is planned to fail
+abbrev pub IsKeptUnfailing : {D : Type 0} → (D → Option FaultPlan) → Option (Keep D) → Type 0
+IsKeptUnfailing plan None = Unit {0}
+IsKeptUnfailing plan (Some k) = IsUnfailing (plan k.disk)
+
+-- by what is told of a disk and by the count of its faults
 module _ {D : Type 0} (history : D → Option History) (count : D → ℕ) where
   abbrev pub disk_faults : Option (Keep D) → ℕ
   disk_faults None = 0
@@ -164,11 +173,3 @@ module _ {D : Type 0} (history : D → Option History) (count : D → ℕ) where
   KeepGoes head from old book cuts answer None (Some k) = ⊥
   KeepGoes head from old book cuts answer (Some k) None = ⊥
   KeepGoes head from old book cuts answer (Some k) (Some l) = RunPuts head from old book k.state l.state (history k.disk) (history l.disk) cuts answer
-
-  -- what a run did, with the cuts that it put, and what it played for that, round by round
-  pub record Ran (plan : RunPlan) (old new : Known) (book then : BookState) (before now : Option (List ℕ)) (keep kept : Option (Keep D)) (answer : Ends) : Type 0 where
-    pub cuts : List Cut
-    pub is : RunIs plan.mark old new book then before now cuts answer
-    pub keeps : KeepGoes plan.head plan.mark old book cuts answer keep kept
-    pub notes : RunNotes plan (map cut_time cuts) old new answer
-    pub bound : RunBounded (round_count plan (map cut_time cuts) old new answer notes) old new

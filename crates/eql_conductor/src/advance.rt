@@ -13,7 +13,7 @@ ghost use Rattle.eql_conductor.specs.Going.{LanesGo, Went};
 ghost use Rattle.eql_conductor.specs.LaneRounds.{IsSafe, LanesAt};
 ghost use Rattle.eql_conductor.specs.PartRounds.{SomeResting};
 ghost use Rattle.eql_conductor.specs.RoundNotes.{AdvanceBroken, AdvanceNoted, RoundBroken, RoundNoted};
-ghost use Rattle.eql_conductor.specs.Rounds.{Gave, RoundBreaks, GoesTo, RoundIs, RoundStops, StopsAt, StopsOut};
+ghost use Rattle.eql_conductor.specs.Rounds.{CountsInRange, Gave, RoundBreaks, GoesTo, RoundIs, RoundStops, StopsAt, StopsOut};
 
 use crate::bench::Bench;
 use crate::feeding::{feed_all, look_all};
@@ -124,6 +124,7 @@ pub(crate) fn play_round<B: Bench, K: Sink>(
         → K.fault_count sink.new ≡ K.fault_count sink.old }
     ensures counts { K.fault_count sink.old ≤ K.fault_count sink.new }
     ensures spends { IfOk result (RoundSpends last (B.known bench.old) (B.known bench.new)) }
+    ensures in_range { IfOk result (CountsInRange last (B.known bench.old)) }
     ensures notes { IfOk result (RoundNoted last batch (B.known bench.old) (B.known bench.new)) }
     ensures broken_notes { OnErr result (RoundBroken last batch
         (B.known bench.old) (B.known bench.new)) }

@@ -1,13 +1,14 @@
 //! A cut between two rounds, every so many of them.
 ghost use Rattle.std.specs.Prelude.{◌≡◌, ◌≢◌, ◌≤◌, ◌%◌, ◌↔◌, Some, Err, IfErr, IfSome, IsSomeAnd, IsTrue, OnOk};
 ghost use Rattle.eql_outside.specs.Outside.{Rose};
+ghost use Rattle.eql_outside.specs.Unfailing.{IsUnfailing};
 ghost use Rattle.eql_ckdisk.specs.Putting.{Stands, last_cut};
 ghost use Rattle.eql_conductor.specs.declared.stop.Stop.TheVariants.{Disk as DiskFailed};
 ghost use Rattle.eql_conductor.specs.Going.{LanesGo, Went};
 ghost use Rattle.eql_conductor.specs.Rounds.{StopsSaving};
 ghost use Rattle.eql_conductor.specs.RunNotes.{cut_after};
 ghost use Rattle.eql_conductor.specs.Running.{CutGoes, CutStops, IsAtMark, KeepStands, time_in};
-ghost use Rattle.eql_conductor.specs.Runs.{disk_faults};
+ghost use Rattle.eql_conductor.specs.Runs.{IsKeptUnfailing, disk_faults};
 ghost use Rattle.eql_conductor.specs.Saving.{IsHeadOf};
 
 use crate::bench::Bench;
@@ -55,6 +56,8 @@ fn keep_at<B: Bench, D: Disk>(
     ensures steady { result ≢ Err DiskFailed
         → D.fault_count keep.new.disk ≡ D.fault_count keep.old.disk }
     ensures counts { D.fault_count keep.old.disk ≤ D.fault_count keep.new.disk }
+    ensures unfailing { IsUnfailing (D.fault_plan keep.old.disk)
+        → (result ≢ Err DiskFailed) × IsUnfailing (D.fault_plan keep.new.disk) }
 {
     match mark {
         Mark::At(time) => save(alloc, head, bench, book, keep, time),
@@ -92,6 +95,8 @@ pub(crate) fn keep_cut<B: Bench, D: Disk>(
         ≡ disk_faults D.history D.fault_count keep.old }
     ensures counts { disk_faults D.history D.fault_count keep.old
         ≤ disk_faults D.history D.fault_count keep.new }
+    ensures unfailing { IsKeptUnfailing D.fault_plan keep.old
+        → (result ≢ Err DiskFailed) × IsKeptUnfailing D.fault_plan keep.new }
 {
     let Some(keep) = keep else {
         return Ok(());

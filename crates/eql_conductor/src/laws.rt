@@ -1,7 +1,7 @@
 //! Laws of the opening of runs, of what they list, and of their cuts. Each is the contract of a
 //! function that does nothing.
 ghost use Rattle.eql_conductor.specs.Openings.{CutRunsBegin, CutRunsHaveTexts, FitIsSafe, FitMayBegin, FreshRunsBegin, SafeByPlaces};
-ghost use Rattle.eql_conductor.specs.RunLaws.{CutHavePlayed, CutRunsAreTold, FreshHavePlayed, FreshListsAll, FreshRunsAreTold, RunCutsAreOfTexts, RunCutsAreSafe, RunsStopInLines, RunsWriteLines};
+ghost use Rattle.eql_conductor.specs.RunLaws.{CutHavePlayed, CutRunsAreTold, FreshHavePlayed, FreshListsAll, FreshRunsAreTold, RunCutsAreOfTexts, RunCutsAreSafe, RunCutsFit, RunsStopInLines, RunsWriteLines};
 
 use crate::bench::Bench;
 use eql_book::listing_is_whole;
@@ -57,9 +57,11 @@ pub fn runs_list()
 }
 
 /// A cut that a run over told texts puts is the cut of these texts at places, so a run that goes on
-/// from it goes on with the same texts.
+/// from it goes on with the same texts. Where these and the slack, 0 to 36,500 days, are those that a
+/// run may have, the cut fits the run.
 pub fn run_cuts_are_of_texts()
-    ensures { RunCutsAreOfTexts }
+    ensures texts { RunCutsAreOfTexts }
+    ensures fitting { RunCutsFit }
 {
     listing_is_whole();
 }

@@ -5,17 +5,18 @@ ghost use Rattle.eql_outside.specs.Unfailing.{IsUnfailing};
 ghost use Rattle.eql_outside.specs.Written.{WroteAll, WroteFront};
 ghost use Rattle.eql_book.specs.Books.{held_back};
 ghost use Rattle.eql_book.specs.Listing.{listing};
-ghost use Rattle.eql_conductor.specs.declared.stop.Stop.TheVariants.{Write as SinkFailed};
+ghost use Rattle.eql_conductor.specs.declared.stop.Stop.TheVariants.{Disk as DiskFailed, Write as SinkFailed};
 ghost use Rattle.eql_conductor.specs.Going.{LanesGo};
 ghost use Rattle.eql_conductor.specs.Rounds.{StopsOut};
+ghost use Rattle.eql_conductor.specs.Records.{Ran};
 ghost use Rattle.eql_conductor.specs.Running.{RanAll, end_by, end_of};
-ghost use Rattle.eql_conductor.specs.Runs.{EndsBy, MayKeepIf, MayRun, Ran, disk_faults};
+ghost use Rattle.eql_conductor.specs.Runs.{EndsBy, IsKeptUnfailing, MayKeepIf, MayRun, disk_faults};
 
 use crate::bench::Bench;
 use crate::plan::{End, Keep, RunPlan};
 use crate::stepping::play_and_keep;
 use crate::stop::Stop;
-use eql_book::Book;
+use eql_book::{Book, listing_is_whole};
 use eql_outside::{Disk, OutRefused, Sink};
 use eql_values::Mark;
 use std::alloc::Global;
@@ -61,7 +62,10 @@ fn play_rounds<B: Bench, K: Sink, D: Disk>(
     ensures silent { K.written sink.old ≡ None → K.written sink.new ≡ None }
     ensures unfailing { IsUnfailing (K.fault_plan sink.old)
         → (result ≢ Err SinkFailed) × IsUnfailing (K.fault_plan sink.new) }
+    ensures unfailing_disk { IsKeptUnfailing D.fault_plan keep.old
+        → (result ≢ Err DiskFailed) × IsKeptUnfailing D.fault_plan keep.new }
 {
+    listing_is_whole();
     book.fits();
     // There are fewer lanes than 2^32, so that the rounds end long before the loop does.
     bench.lanes();
@@ -127,13 +131,16 @@ fn run_rounds<B: Bench, K: Sink, D: Disk>(
     ensures silent { K.written sink.old ≡ None → K.written sink.new ≡ None }
     ensures unfailing { IsUnfailing (K.fault_plan sink.old)
         → (result ≢ Err SinkFailed) × IsUnfailing (K.fault_plan sink.new) }
+    ensures unfailing_disk { IsKeptUnfailing D.fault_plan keep.old
+        → (result ≢ Err DiskFailed) × IsKeptUnfailing D.fault_plan keep.new }
 {
+    listing_is_whole();
     play_rounds(alloc, plan, bench, book, sink, keep)?;
     end_book(alloc, book, sink)
 }
 
 impl Conductor {
-    ghost use Rattle.eql_conductor.specs.declared.plan.End.TheVariants.{WriteFault as SinkFault};
+    ghost use Rattle.eql_conductor.specs.declared.plan.End.TheVariants.{DiskFault, WriteFault as SinkFault};
 
     /// Plays rounds until each shard was read to its end or something is refused. A round feeds each
     /// lane, looks at each, takes what lies below the least low, has it played by the parts, and gives
@@ -149,7 +156,7 @@ impl Conductor {
         requires may { MayRun plan.now (B.known bench.old) book.old }
         requires keeps { MayKeepIf D.history D.fault_count plan.now (B.known bench.old) keep.old }
 
-        // What was written, and which cuts were put.
+        // What was written, of told texts in the words of the listing, and which cuts were put.
         ensures ran { Ran D.history D.fault_count plan.now (B.known bench.old) (B.known bench.new)
             book.old book.new (K.written sink.old) (K.written sink.new) keep.old keep.new result }
 
@@ -166,6 +173,10 @@ impl Conductor {
         // A sink of which no write is planned to fail.
         ensures unfailing { IsUnfailing (K.fault_plan sink.old)
             → (result ≢ SinkFault) × IsUnfailing (K.fault_plan sink.new) }
+
+        // A disk of which no call is planned to fail.
+        ensures unfailing_disk { IsKeptUnfailing D.fault_plan keep.old
+            → (result ≢ DiskFault) × IsKeptUnfailing D.fault_plan keep.new }
     {
         match run_rounds(alloc, plan, bench, book, sink, keep) {
             Ok(()) => End::Done,

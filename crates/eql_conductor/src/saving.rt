@@ -3,6 +3,7 @@ ghost use Rattle.std.specs.Prelude.{◌≡◌, ◌≢◌, ◌≤◌, ◌^◌, �
 ghost use Rattle.eql_values.specs.declared.found.Holder.{Holder};
 ghost use Rattle.eql_values.specs.declared.order.Mark.TheVariants.{At as AtTime};
 ghost use Rattle.eql_outside.specs.Outside.{Rose};
+ghost use Rattle.eql_outside.specs.Unfailing.{IsUnfailing};
 ghost use Rattle.eql_lane.specs.declared.ops.LimitOf.TheVariants.{Generation};
 ghost use Rattle.eql_parts.specs.PartSteps.{Rules};
 ghost use Rattle.eql_cut.specs.Domain.{IsCut};
@@ -119,6 +120,8 @@ fn put_cut<D: Disk>(alloc: Global, keep: &mut Keep<D>, cut: &Cut) -> Result<(), 
     ensures stands { OnOk result
         (Stands (last_cut keep.new.state) (D.history keep.new.disk)) }
     ensures same { OnErr result (last_cut keep.new.state ≡ last_cut keep.old.state) }
+    ensures stands_yet { IfErr result (λ stop. (stop ≢ DiskFailed) → (stop ≢ OutOfMemory)
+        → Stands (last_cut keep.new.state) (D.history keep.new.disk)) }
     ensures stops { IfErr result StopsKeeping }
     ensures full { result ≡ Err (AtLimit Generation)
         → (last_cut keep.new.state).generation ≡ 2 ^ 63 }
@@ -127,6 +130,8 @@ fn put_cut<D: Disk>(alloc: Global, keep: &mut Keep<D>, cut: &Cut) -> Result<(), 
     ensures steady { result ≢ Err DiskFailed
         → D.fault_count keep.new.disk ≡ D.fault_count keep.old.disk }
     ensures counts { D.fault_count keep.old.disk ≤ D.fault_count keep.new.disk }
+    ensures unfailing { IsUnfailing (D.fault_plan keep.old.disk)
+        → (result ≢ Err DiskFailed) × IsUnfailing (D.fault_plan keep.new.disk) }
 {
     puts_go_on();
     match put(alloc, &mut keep.disk, &mut keep.state, cut) {
@@ -168,11 +173,15 @@ pub(crate) fn save<B: Bench, D: Disk>(
     ensures notes { OnOk result (SaveNoted (B.known bench.old) (B.known bench.new)) }
     ensures broken_notes { OnErr result (SaveBroken (B.known bench.old) (B.known bench.new)) }
     ensures full { result ≡ Err (AtLimit Generation) → (last_cut keep.new.state).generation ≡ 2 ^ 63 }
+    ensures stands_yet { IfErr result (λ stop. (stop ≢ DiskFailed) → (stop ≢ OutOfMemory)
+        → Stands (last_cut keep.new.state) (D.history keep.new.disk)) }
     ensures cause { result ≡ Err DiskFailed
         → Rose (D.fault_count keep.old.disk) (D.fault_count keep.new.disk) }
     ensures steady { result ≢ Err DiskFailed
         → D.fault_count keep.new.disk ≡ D.fault_count keep.old.disk }
     ensures counts { D.fault_count keep.old.disk ≤ D.fault_count keep.new.disk }
+    ensures unfailing { IsUnfailing (D.fault_plan keep.old.disk)
+        → (result ≢ Err DiskFailed) × IsUnfailing (D.fault_plan keep.new.disk) }
 {
     let cut = take_cut(alloc, head, bench, book, time)?;
     put_cut(alloc, keep, &cut)

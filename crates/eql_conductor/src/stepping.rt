@@ -1,12 +1,12 @@
 //! A step of a run: a round, and a cut where one is due after it.
 ghost use Rattle.std.specs.Prelude.{◌≡◌, ◌≢◌, ◌≤◌, ◌<◌, ◌-◌, ◌^◌, None, Err, IfErr, IfOk, IfSome};
 ghost use Rattle.eql_outside.specs.Unfailing.{IsUnfailing};
-ghost use Rattle.eql_conductor.specs.declared.stop.Stop.TheVariants.{Write as SinkFailed};
+ghost use Rattle.eql_conductor.specs.declared.stop.Stop.TheVariants.{Disk as DiskFailed, Write as SinkFailed};
 ghost use Rattle.eql_conductor.specs.Bounds.{RoundSpends};
 ghost use Rattle.eql_conductor.specs.Going.{LanesGo};
 ghost use Rattle.eql_conductor.specs.RunNotes.{place};
 ghost use Rattle.eql_conductor.specs.Running.{IsAtMark, KeepStands, StepIs, StepStops, end_of};
-ghost use Rattle.eql_conductor.specs.Runs.{EndsBy, disk_faults};
+ghost use Rattle.eql_conductor.specs.Runs.{EndsBy, IsKeptUnfailing, disk_faults};
 
 use crate::advance::play_round;
 use crate::bench::Bench;
@@ -50,6 +50,8 @@ pub(crate) fn play_and_keep<B: Bench, K: Sink, D: Disk>(
     ensures silent { K.written sink.old ≡ None → K.written sink.new ≡ None }
     ensures unfailing { IsUnfailing (K.fault_plan sink.old)
         → (result ≢ Err SinkFailed) × IsUnfailing (K.fault_plan sink.new) }
+    ensures unfailing_disk { IsKeptUnfailing D.fault_plan keep.old
+        → (result ≢ Err DiskFailed) × IsKeptUnfailing D.fault_plan keep.new }
 {
     book.fits();
     match play_round(alloc, bench, book, sink, last, plan.batch)? {

@@ -1,5 +1,5 @@
 -- A play in a list of lanes or of parts is a play on its bench.
-use Rattle.std.proofs.Common.{◌≡◌, ◌≢◌, inl, inr, ℕ, List, [], ◌∷◌, ◌++◌, Option, Some, length, refl, sym, ap, ◌∙◌, subst}
+use Rattle.std.proofs.Common.{◌≡◌, ◌≢◌, inl, inr, ◌<◌, ℕ, zero, suc, arith, List, [], ◌∷◌, ◌++◌, Option, Some, length, refl, sym, ap, ◌∙◌, subst}
 use Rattle.std.specs.Prelude.{slice_get}
 use Rattle.std.proofs.lemmas.Option.{same_Some}
 use Rattle.std.proofs.lemmas.List.{length-set}
@@ -23,6 +23,19 @@ use Rattle.eql_replay.specs.Opened.{AreOfTexts}
 use Rattle.eql_replay.specs.Pools.{PoolView, LanePlayed, PartPlayed}
 use Rattle.eql_replay.proofs.Places.{else_there, here}
 use Rattle.eql_replay.proofs.NoteLemmas.{fails_by, lane_not_noted, lane_noted, none_fails, other_fails, other_lane_noted, other_part_noted, part_not_noted, part_noted}
+
+-- ---- each lane that is there has its state, and so has each part
+pub has_lane : {S L : Type 0} (n : ℕ) (lanes : List (LaneView S L)) (s : ℕ) → length lanes ≡ n → s < n → (x : LaneState) × HasLane lanes s x
+has_lane n [] s e l = absurd (omega (arith, e, l))
+has_lane n (lane ∷ lanes) zero e l = (lane.state, record { lane = lane; there = refl; state_is = refl })
+has_lane n (lane ∷ lanes) (suc s) e l =
+    let h = has_lane (length lanes) lanes s refl (omega (arith, e, l)) in (h.0, record { lane = h.1.lane; there = h.1.there; state_is = h.1.state_is })
+
+pub has_part : (n : ℕ) (parts : List PartView) (p : ℕ) → length parts ≡ n → p < n → (x : PartState) × HasPart parts p x
+has_part n [] p e l = absurd (omega (arith, e, l))
+has_part n (part ∷ parts) zero e l = (part.state, record { part = part; there = refl; state_is = refl })
+has_part n (part ∷ parts) (suc p) e l =
+    let h = has_part (length parts) parts p refl (omega (arith, e, l)) in (h.0, record { part = h.1.part; there = h.1.there; state_is = h.1.state_is })
 
 -- ---- lanes that stay, and parts
 pub lane_stays : {S L : Type 0} (set : Setting) (old new : List (LaneView S L)) (s : ℕ) → slice_get new s ≡ slice_get old s → LaneLeft set (HasLane old s) (HasLane new s)
@@ -133,6 +146,8 @@ module _ {S L : Type 0} (left lent_as : S → Option (List ℕ)) (fault_plan : S
         parts = ap length parts;
         set = λ k l. sets_stay s op reply old.lanes new.lanes played text k;
         rules = λ p l. ap (λ (ps : List PartView). rules_in (slice_get ps p)) parts;
+        some_lane = λ k l has. has_lane (length old.lanes) new.lanes k (lane_count s op reply old.lanes new.lanes played) l;
+        some_part = λ p l has. has_part (length old.parts) new.parts p (ap length parts) l;
       };
       called = lane_called s op reply old.lanes new.lanes played text are;
       some = (played.after.state, record { lane = played.after; there = lane_here s op reply old.lanes new.lanes played; state_is = refl });
@@ -154,6 +169,8 @@ module _ {S L : Type 0} (left lent_as : S → Option (List ℕ)) (fault_plan : S
         parts = part_count p op reply old.parts new.parts played;
         set = λ s l. ap (λ (ls : List (LaneView S L)). set_in read_of (text s) (slice_get ls s)) lanes;
         rules = λ k l. rules_stay p op reply old.parts new.parts played k;
+        some_lane = λ s l has. has_lane (length old.lanes) new.lanes s (ap length lanes) l;
+        some_part = λ k l has. has_part (length old.parts) new.parts k (part_count p op reply old.parts new.parts played) l;
       };
       called = part_called p op reply old.parts new.parts played;
       some = (played.after.state, record { part = played.after; there = part_here p op reply old.parts new.parts played; state_is = refl });

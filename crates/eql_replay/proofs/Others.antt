@@ -25,7 +25,7 @@ use Rattle.eql_replay.specs.declared.noted.Noted.{Noted}
 use Rattle.eql_replay.specs.Listed.{known_of, rules_in, set_in}
 use Rattle.eql_replay.specs.Opened.{AreOfTexts}
 use Rattle.eql_replay.specs.Pools.{AllPlayed, ForeignPlayed, PoolView}
-use Rattle.eql_replay.proofs.Calls.{lane_called, lane_count, lane_else, lane_stays, lanes_stay, part_called, part_count, part_else, part_stays, parts_stay, rules_stay, sets_stay, texts_stay}
+use Rattle.eql_replay.proofs.Calls.{has_lane, has_part, lane_called, lane_count, lane_else, lane_stays, lanes_stay, part_called, part_count, part_else, part_stays, parts_stay, rules_stay, sets_stay, texts_stay}
 
 module _ {S L : Type 0} (left lent_as : S → Option (List ℕ)) (fault_plan : S → Option FaultPlan) (read_of : L → Reads) where
   -- ---- one after another
@@ -73,6 +73,8 @@ module _ {S L : Type 0} (left lent_as : S → Option (List ℕ)) (fault_plan : S
             parts = ap length played.2;
             set = λ k l. sets_stay left lent_as fault_plan read_of lane (lane_op.Feed max) played.0 a.lanes b.lanes one text k;
             rules = λ p l. ap (λ (ps : List PartView). rules_in (slice_get ps p)) played.2;
+            some_lane = λ k l has. has_lane (length a.lanes) b.lanes k (lane_count left lent_as fault_plan read_of lane (lane_op.Feed max) played.0 a.lanes b.lanes one) l;
+            some_part = λ p l has. has_part (length a.parts) b.parts p (ap length played.2) l;
           };
           lanes = lane_rests lane (known a) (known b) (λ y has.
               let c = lane_called left lent_as fault_plan read_of lane (lane_op.Feed max) played.0 a.lanes b.lanes one text are y has in
@@ -88,6 +90,8 @@ module _ {S L : Type 0} (left lent_as : S → Option (List ℕ)) (fault_plan : S
             parts = part_count part (part_op.Turn max) played.0 a.parts b.parts one;
             set = λ s l. ap (λ (ls : List (LaneView S L)). set_in read_of (text s) (slice_get ls s)) played.2;
             rules = λ k l. rules_stay part (part_op.Turn max) played.0 a.parts b.parts one k;
+            some_lane = λ s l has. has_lane (length a.lanes) b.lanes s (ap length played.2) l;
+            some_part = λ k l has. has_part (length a.parts) b.parts k (part_count part (part_op.Turn max) played.0 a.parts b.parts one) l;
           };
           lanes = record { each = λ s l. lanes_stay (λ k. set_in read_of (text k) (slice_get a.lanes k)) a.lanes b.lanes played.2 s };
           parts = part_rests part (known a) (known b) (λ y has.

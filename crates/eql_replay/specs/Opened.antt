@@ -1,5 +1,5 @@
 -- How a bench goes on from its beginning.
-use Rattle.std.specs.Prelude.{◌≡◌, ◌≢◌, ◌<◌, ◌≤◌, ◌^◌, ◌+◌, ℕ, List, [], Option, None, Some, All, MatchResult, Result, length, min, slice_get}
+use Rattle.std.specs.Prelude.{◌≡◌, ◌≢◌, ◌<◌, ◌≤◌, ◌^◌, ◌+◌, ℕ, List, [], Option, None, Some, All, IsOkAnd, Result, length, min, slice_get}
 use Rattle.eql_values.specs.Accepted.{Reads}
 use Rattle.eql_values.specs.declared.order.Mark.{Mark}
 use Rattle.eql_outside.specs.Plans.{FaultPlan}
@@ -62,18 +62,18 @@ module _ {S L : Type 0} (left lent_as : S → Option (List ℕ)) (fault_plan : S
     pub count : length lanes ≡ length first
     pub each : (s : ℕ) (one lane : LaneView S L) → slice_get first s ≡ Some one → slice_get lanes s ≡ Some lane → LaneOn (quiet s) one lane
 
-  -- others played their list, and then the operation was played on a lane, or nothing for want of room for a note
+  -- others played their list, and then the operation was played on a lane, or on a part: it always is
   pub record LaneCall (plays : List (List Foreign)) (s : ℕ) (op : LaneOp) (result : Result LaneReply NotPlayed) (old new : BenchView S L) : Type 0 where
     pub between : PoolView S L
     pub others : AllPlayed left lent_as fault_plan read_of (list_at plays old.calls) old.pool between
     pub calls : new.calls ≡ min (old.calls + 1) (length plays)
-    pub is : MatchResult result (λ reply. LanePlayed left lent_as fault_plan read_of s op reply between.lanes new.pool.lanes × (new.pool.parts ≡ between.parts)) (λ by. new.pool ≡ between)
+    pub is : IsOkAnd result (λ reply. LanePlayed left lent_as fault_plan read_of s op reply between.lanes new.pool.lanes × (new.pool.parts ≡ between.parts))
 
   pub record PartCall (plays : List (List Foreign)) (p : ℕ) (op : PartOp) (result : Result PartReply NotPlayed) (old new : BenchView S L) : Type 0 where
     pub between : PoolView S L
     pub others : AllPlayed left lent_as fault_plan read_of (list_at plays old.calls) old.pool between
     pub calls : new.calls ≡ min (old.calls + 1) (length plays)
-    pub is : MatchResult result (λ reply. PartPlayed p op reply between.parts new.pool.parts × (new.pool.lanes ≡ between.lanes)) (λ by. new.pool ≡ between)
+    pub is : IsOkAnd result (λ reply. PartPlayed p op reply between.parts new.pool.parts × (new.pool.lanes ≡ between.lanes))
 
 -- others don't feed the lane, and none of the caller's own feeds failed
 abbrev pub IsQuiet : List (List Foreign) → List Noted → ℕ → Type 0

@@ -51,4 +51,11 @@ impl Foreigns {
     {
         &self.items
     }
+
+    /// The operations, taken out.
+    pub fn into_items(self) -> Vec<Foreign>
+        ensures { result.items ≡ self }
+    {
+        self.items
+    }
 }

@@ -4,6 +4,7 @@
 mod foreign;
 mod list_bench;
 mod noted;
+mod notes;
 mod opening;
 mod pool;
 mod run;

@@ -8,6 +8,7 @@ ghost use Rattle.eql_replay.specs.Pools.{AllPlayed, IsPlay};
 
 use crate::foreign::Foreigns;
 use crate::noted::{Noted, has_failed, note_of_lane, note_of_part, with_reply};
+use crate::notes::Notes;
 use crate::opening::Opening;
 use crate::pool::Pool;
 use eql_auto::Steps;
@@ -16,7 +17,6 @@ use eql_lane::{Lane, LaneOp, LaneReply};
 use eql_outside::Source;
 use eql_parts::{Part, PartOp, PartReply};
 use eql_values::LineReader;
-use std::alloc::Global;
 use std::marker::{Model, PhantomData};
 use std::sync::ledger::Ledger;
 
@@ -29,7 +29,7 @@ pub struct ListBench<S: Source, L: LineReader, G: Ledger, T: Opening<S, L>> {
     pool: Pool<S, L, G>,
     plays: Vec<Foreigns>,
     calls: usize,
-    notes: Vec<Noted>,
+    notes: Notes,
     of: PhantomData<T>,
 }
 
@@ -40,17 +40,16 @@ impl<S: Source, L: LineReader, G: Ledger, T: Opening<S, L>> Model for ListBench<
 
     ghost Value = { BenchView S L };
 
-    ghost view = { λ b. record { pool = b.pool; calls = b.calls; notes = b.notes.items } };
+    ghost view = { λ b. record { pool = b.pool; calls = b.calls; notes = b.notes } };
 
     ghost invariant = { λ b. IsBench S.left S.lent_as S.fault_plan L.read_of
-        T.lanes T.text T.plays (record { pool = b.pool; calls = b.calls; notes = b.notes.items })
+        T.lanes T.text T.plays (record { pool = b.pool; calls = b.calls; notes = b.notes })
         × (b.plays.items ≡ T.plays) };
 }
 
 impl<S: Source, L: LineReader, G: Ledger, T: Opening<S, L>> ListBench<S, L, G, T> {
     /// A bench of these lanes and parts. The i-th list is played before the i-th call.
     pub fn new(
-        alloc: Global,
         lanes: Vec<Lane<S, L>>,
         parts: Vec<Part<G>>,
         steps: Steps<G>,
@@ -72,7 +71,7 @@ impl<S: Source, L: LineReader, G: Ledger, T: Opening<S, L>> ListBench<S, L, G, T
             pool: Pool::new(lanes, parts, steps),
             plays,
             calls: 0,
-            notes: Vec::new(alloc),
+            notes: Notes::new(),
             of: PhantomData,
         }
     }
@@ -133,13 +132,10 @@ impl<S: Source, L: LineReader, G: Ledger, T: Opening<S, L>> Bench for ListBench<
             self.old self.new }
     {
         self.others_play();
-        if self.notes.reserve(1).is_err() {
-            return Err(NotPlayed::Memory);
-        }
         let reply = self.pool.lane(s, op);
         let note = note_of_lane(op, &reply);
         let failed = has_failed(&reply);
-        self.notes.push_reserved(Noted::OfLane {
+        self.notes.push(Noted::OfLane {
             lane: s,
             note,
             failed,
@@ -158,13 +154,10 @@ impl<S: Source, L: LineReader, G: Ledger, T: Opening<S, L>> Bench for ListBench<
             self.old self.new }
     {
         self.others_play();
-        if self.notes.reserve(1).is_err() {
-            return Err(NotPlayed::Memory);
-        }
         let asked = note_of_part(&op);
         let reply = self.pool.part(p, op);
         let note = with_reply(asked, &reply);
-        self.notes.push_reserved(Noted::OfPart { part: p, note });
+        self.notes.push(Noted::OfPart { part: p, note });
         Ok(reply)
     }
 }

@@ -3,9 +3,10 @@ ghost use Rattle.std.specs.Prelude.{◌≡◌, ◌≢◌, ℕ, None, Some, slice
 ghost use Rattle.eql_outside.specs.Unfailing.{IsUnfailing};
 ghost use Rattle.eql_lane.specs.Views.{LaneView};
 ghost use Rattle.eql_lane.specs.declared.ops.LimitOf.TheVariants.{Turns};
-ghost use Rattle.eql_conductor.specs.declared.plan.End.TheVariants.{Limit, ReadFault, WriteFault};
+ghost use Rattle.eql_conductor.specs.declared.plan.End.TheVariants.{DiskFault, Limit, ReadFault, WriteFault};
 ghost use Rattle.eql_conductor.specs.Going.{LanesGo};
-ghost use Rattle.eql_conductor.specs.Runs.{EndsBy, MayKeepIf, MayRun, Ran, disk_faults};
+ghost use Rattle.eql_conductor.specs.Records.{Ran};
+ghost use Rattle.eql_conductor.specs.Runs.{EndsBy, IsKeptUnfailing, MayKeepIf, MayRun, disk_faults};
 ghost use Rattle.eql_replay.specs.Listed.{bench_known};
 
 use crate::list_bench::ListBench;
@@ -46,6 +47,8 @@ pub fn replay<S: Source, L: LineReader, G: Ledger, T: Opening<S, L>, K: Sink, D:
     ensures silent { K.written sink.old ≡ None → K.written sink.new ≡ None }
     ensures unfailing { IsUnfailing (K.fault_plan sink.old)
         → (result ≢ WriteFault) × IsUnfailing (K.fault_plan sink.new) }
+    ensures unfailing_disk { IsKeptUnfailing D.fault_plan keep.old
+        → (result ≢ DiskFault) × IsKeptUnfailing D.fault_plan keep.new }
 {
     let end = Conductor::run(alloc, plan, bench, book, sink, keep);
     bench.fails_as_planned();

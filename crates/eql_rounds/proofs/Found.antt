@@ -14,7 +14,8 @@ use Rattle.eql_laws.specs.Merging.{in_match_order}
 use Rattle.eql_laws.specs.Parts.{PartsFind, found_by_parts}
 use Rattle.eql_laws.proofs.PartMatches.{after_routed, own_holders}
 use Rattle.eql_laws.proofs.PartsWhole.{parts_find_all}
-use Rattle.eql_parts.specs.Spreading.{mixed, part_number, value_hash}
+use Rattle.eql_part.specs.Hashes.{mixed, value_hash}
+use Rattle.eql_parts.specs.Spreading.{part_number}
 use Rattle.eql_rounds.specs.Finding.{RoundsFind, found_of}
 
 -- ---- the parts are sixteen

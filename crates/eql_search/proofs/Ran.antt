@@ -20,7 +20,8 @@ use Rattle.eql_conductor.specs.declared.plan.Keep.{Keep}
 use Rattle.eql_conductor.specs.declared.plan.RunPlan.{RunPlan}
 use Rattle.eql_conductor.specs.Benches.{Known}
 use Rattle.eql_conductor.specs.Going.{LanesGo}
-use Rattle.eql_conductor.specs.Runs.{EndsBy, KeepGoes, Ran, RunIs, disk_faults}
+use Rattle.eql_conductor.specs.Records.{Ran}
+use Rattle.eql_conductor.specs.Runs.{EndsBy, KeepGoes, RunIs, disk_faults}
 use Rattle.eql_replay.specs.declared.foreign.Foreign.{Foreign}
 use Rattle.eql_replay.specs.Listed.{BenchView, bench_known}
 use Rattle.eql_replay.specs.Opened.{AreOfTexts, IsQuiet, LanesOn, ReadOn}

@@ -106,13 +106,7 @@ pub(crate) fn run_parts<S: Source, L: LineReader, G: Ledger, T: Opening<S, L>, K
 {
     let plan = plan_of(alloc, batch);
     let mut keep: Option<Keep<MemDisk>> = None;
-    let mut bench: ListBench<S, L, G, T> = ListBench::new(
-        alloc,
-        lanes,
-        parts,
-        steps,
-        Vec::new(alloc),
-    );
+    let mut bench: ListBench<S, L, G, T> = ListBench::new(lanes, parts, steps, Vec::new(alloc));
     let end = replay(alloc, &plan, &mut bench, book, sink, &mut keep);
     (end, bench.into_lanes())
 }

@@ -6,6 +6,7 @@ use Rattle.eql_conductor.proofs.MarkOrder.{at_most_other}
 use Rattle.eql_conductor.proofs.Stays.{lanes_stay, some_stay}
 use Rattle.eql_conductor.proofs.Broken.{breaks_later, goes_later, on_err, round_rests, stops_at_on}
 use Rattle.eql_conductor.proofs.BoundsSpent.{rest_spends, take_spends}
+use Rattle.eql_conductor.proofs.Ranges.{mark_in_range}
 use Rattle.eql_conductor.proofs.NotedRounds.{feeding_broken, looking_broken, round_broken, round_noted, round_passes}
 use Rattle.eql_conductor.proofs.advance.play_round.Goals as goal
 
@@ -103,3 +104,7 @@ returns-in_err-advance-clause-broken_notes g c =
 
 pub returns-clause-notes : goal.returns-clause-notes
 returns-clause-notes g c = round_noted c.args.last c.args.batch (g.B.Bench.known c.args.bench.now) (g.B.Bench.known c.feed_all.new.bench) (g.B.Bench.known c.look_all.new.bench) c.feed_all.ensures.rests c.look_all.ensures.rests c.in_ok-feed_all.ensures.notes c.in_ok-mark.mark c.in_ok-mark.ensures.notes (g.B.Bench.known c.advance.new.bench) (search rules) c.in_ok-advance.ensures.notes
+
+pub returns-clause-in_range : goal.returns-clause-in_range
+returns-clause-in_range g c =
+    λ reads slack texts of. mark_in_range c.args.last c.in_ok-mark.mark reads slack texts (g.B.Bench.known c.args.bench.now) (g.B.Bench.known c.feed_all.new.bench) (g.B.Bench.known c.look_all.new.bench) c.feed_all.ensures.rests c.in_ok-mark.ensures.low of

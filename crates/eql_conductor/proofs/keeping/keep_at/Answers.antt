@@ -19,7 +19,7 @@ returns-in-At-clause-stopped g c =
     rw c.in-At.is
     (saved_stops g.D.Disk.history g.D.Disk.fault_count c.save.result c.args.head.now c.in-At.time (g.B.Bench.known c.args.bench.now) (g.B.Bench.known c.save.new.bench) c.args.book.now c.args.keep.now c.save.new.keep
     (rw (to_z-of_z w128 c.in-At.time (search rules)) at c.save.ensures.not_saved)
-    c.save.ensures.full c.save.ensures.broken_notes)
+    c.save.ensures.full c.save.ensures.stands_yet c.save.ensures.broken_notes)
 
 pub returns-in-Start-clause-goes_on : goal.returns-in-Start-clause-goes_on
 returns-in-Start-clause-goes_on g c =

@@ -75,3 +75,18 @@ returns-in-Ok-clause-notes g c = played_three c.args.items.now (g.B.Bench.known 
 
 pub returns-in-Err-clause-notes : goal.returns-in-Err-clause-notes
 returns-in-Err-clause-notes g c = played_three c.args.items.now (g.B.Bench.known c.args.bench.now) (g.B.Bench.known c.deliver_all.new.bench) (g.B.Bench.known c.turn_all.new.bench) (g.B.Bench.known c.collect_all.new.bench) c.deliver_all.ensures.same (same_on (g.B.Bench.known c.args.bench.now) (g.B.Bench.known c.deliver_all.new.bench) (g.B.Bench.known c.turn_all.new.bench) c.deliver_all.ensures.same c.turn_all.ensures.same) c.deliver_all.ensures.notes c.turn_all.ensures.notes c.collect_all.ensures.notes
+
+pub returns-in_err-lists-clause-same : goal.returns-in_err-lists-clause-same
+returns-in_err-lists-clause-same g c =
+    same_on (g.B.Bench.known c.args.bench.now) (g.B.Bench.known c.turn_all.new.bench) (g.B.Bench.known c.collect_all.new.bench)
+    (same_on (g.B.Bench.known c.args.bench.now) (g.B.Bench.known c.deliver_all.new.bench) (g.B.Bench.known c.turn_all.new.bench) c.deliver_all.ensures.same c.turn_all.ensures.same) c.collect_all.ensures.same
+
+pub returns-in-Ok-clause-same : goal.returns-in-Ok-clause-same
+returns-in-Ok-clause-same g c =
+    same_on (g.B.Bench.known c.args.bench.now) (g.B.Bench.known c.turn_all.new.bench) (g.B.Bench.known c.collect_all.new.bench)
+    (same_on (g.B.Bench.known c.args.bench.now) (g.B.Bench.known c.deliver_all.new.bench) (g.B.Bench.known c.turn_all.new.bench) c.deliver_all.ensures.same c.turn_all.ensures.same) c.collect_all.ensures.same
+
+pub returns-in-Err-clause-same : goal.returns-in-Err-clause-same
+returns-in-Err-clause-same g c =
+    same_on (g.B.Bench.known c.args.bench.now) (g.B.Bench.known c.turn_all.new.bench) (g.B.Bench.known c.collect_all.new.bench)
+    (same_on (g.B.Bench.known c.args.bench.now) (g.B.Bench.known c.deliver_all.new.bench) (g.B.Bench.known c.turn_all.new.bench) c.deliver_all.ensures.same c.turn_all.ensures.same) c.collect_all.ensures.same

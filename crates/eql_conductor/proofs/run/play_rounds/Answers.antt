@@ -26,6 +26,7 @@ loop-round-init g c = record {
   disk = refl;
   silent = λ e. e;
   unfailing = λ e. e;
+  unfailing_disk = λ e. e;
   count = omega arith;
 }
 
@@ -46,8 +47,8 @@ returns-in_err-mark-clause-ended g c =
     rw (p.1, p.2)
     (ran_stops g.D.Disk.history g.D.Disk.fault_count c.args.plan.now (place c.loop-round.last c.loop-round.count) c.loop-round.round (g.B.Bench.known c.args.bench.now) (g.B.Bench.known c.loop-round.bench) (g.B.Bench.known c.play_and_keep.new.bench)
     c.args.book.now c.loop-round.book c.play_and_keep.new.book (g.K.Sink.written c.args.sink.now) (g.K.Sink.written c.loop-round.sink) (g.K.Sink.written c.play_and_keep.new.sink)
-    c.args.keep.now c.loop-round.keep c.play_and_keep.new.keep c.loop-round.invariant.goes.same c.loop-round.invariant.ran
-    c.loop-round.invariant.spent c.requires.may.sized c.loop-round.invariant.goes c.play_and_keep.ensures.goes c.in_err-mark.field-0.0 c.in_err-mark.ensures.stopped)
+    c.args.keep.now c.loop-round.keep c.play_and_keep.new.keep c.loop-round.invariant.goes.same c.loop-round.invariant.before_end c.loop-round.invariant.ran
+    c.listing_is_whole.ensures.kept c.listing_is_whole.ensures.end c.loop-round.invariant.spent c.requires.may.sized c.loop-round.invariant.goes c.play_and_keep.ensures.goes c.in_err-mark.field-0.0 c.in_err-mark.ensures.stopped)
 
 pub returns-in_err-mark-clause-cause : goal.returns-in_err-mark-clause-cause
 returns-in_err-mark-clause-cause g c =
@@ -68,7 +69,7 @@ returns-then-eq-clause-ran g c = record {
   counts = suc c.loop-round.count;
   ran = ran_counted g.D.Disk.history g.D.Disk.fault_count c.args.plan.now (place c.loop-round.last c.loop-round.count) c.loop-round.round (g.B.Bench.known c.args.bench.now) (g.B.Bench.known c.loop-round.bench) (g.B.Bench.known c.play_and_keep.new.bench)
       c.args.book.now c.loop-round.book c.play_and_keep.new.book (g.K.Sink.written c.args.sink.now) (g.K.Sink.written c.loop-round.sink) (g.K.Sink.written c.play_and_keep.new.sink)
-      c.args.keep.now c.loop-round.keep c.play_and_keep.new.keep c.loop-round.invariant.goes.same c.loop-round.invariant.ran
+      c.args.keep.now c.loop-round.keep c.play_and_keep.new.keep c.loop-round.invariant.goes.same c.loop-round.invariant.before_end c.loop-round.invariant.ran
       End (suc c.loop-round.count) refl (rw (is_end c.in-Some.mark c.if-eq.ensures) at (rw c.in-Some.is at c.in_ok-mark.ensures.step));
   spent = rounds_stay c.loop-round.round (g.B.Bench.known c.args.bench.now) (g.B.Bench.known c.loop-round.bench) (g.B.Bench.known c.play_and_keep.new.bench) c.loop-round.invariant.goes.same c.play_and_keep.ensures.goes c.loop-round.invariant.spent;
 }
@@ -84,12 +85,12 @@ loop-round-preserved g c =
         | in_default w ↦ rw (w.last-is, w.count-is)
             (ran_rests g.D.Disk.history g.D.Disk.fault_count c.args.plan.now (place c.loop-round.last c.loop-round.count) c.loop-round.round (g.B.Bench.known c.args.bench.now) (g.B.Bench.known c.loop-round.bench) (g.B.Bench.known c.play_and_keep.new.bench)
             c.args.book.now c.loop-round.book c.play_and_keep.new.book (g.K.Sink.written c.args.sink.now) (g.K.Sink.written c.loop-round.sink) (g.K.Sink.written c.play_and_keep.new.sink)
-            c.args.keep.now c.loop-round.keep c.play_and_keep.new.keep c.loop-round.invariant.goes.same c.loop-round.invariant.ran
+            c.args.keep.now c.loop-round.keep c.play_and_keep.new.keep c.loop-round.invariant.goes.same c.loop-round.invariant.before_end c.loop-round.invariant.ran
             (rw w.in_default.is at c.in_ok-mark.ensures.step))
         | in-Some+else-eq w ↦ rw (w.last-is, w.count-is)
             (ran_counted g.D.Disk.history g.D.Disk.fault_count c.args.plan.now (place c.loop-round.last c.loop-round.count) c.loop-round.round (g.B.Bench.known c.args.bench.now) (g.B.Bench.known c.loop-round.bench) (g.B.Bench.known c.play_and_keep.new.bench)
             c.args.book.now c.loop-round.book c.play_and_keep.new.book (g.K.Sink.written c.args.sink.now) (g.K.Sink.written c.loop-round.sink) (g.K.Sink.written c.play_and_keep.new.sink)
-            c.args.keep.now c.loop-round.keep c.play_and_keep.new.keep c.loop-round.invariant.goes.same c.loop-round.invariant.ran
+            c.args.keep.now c.loop-round.keep c.play_and_keep.new.keep c.loop-round.invariant.goes.same c.loop-round.invariant.before_end c.loop-round.invariant.ran
             w.in-Some.mark (c.loop-round.count + 1) (add-one c.loop-round.count) (rw w.in-Some.is at c.in_ok-mark.ensures.step))
       ];
       spent = elim c.match-branch-2.branch [
@@ -108,6 +109,7 @@ loop-round-preserved g c =
       disk = cause.3 ∙ c.loop-round.invariant.disk;
       silent = λ e. c.play_and_keep.ensures.silent (c.loop-round.invariant.silent e);
       unfailing = λ e. (c.play_and_keep.ensures.unfailing (c.loop-round.invariant.unfailing e)).1;
+      unfailing_disk = λ e. (c.play_and_keep.ensures.unfailing_disk (c.loop-round.invariant.unfailing_disk e)).1;
       count = elim c.match-branch-2.branch [
         | in_default w ↦ let e = w.count-is in let h = c.loop-round.invariant.count in omega (arith, e, h)
         | in-Some+else-eq w ↦ let e = w.count-is in let h = c.loop-round.invariant.count in omega (arith, e, h)

@@ -5,7 +5,7 @@ use Rattle.eql_conductor.specs.Bounds.{RoundsSpent}
 use Rattle.eql_conductor.specs.Going.{LanesGo, Went}
 use Rattle.eql_conductor.specs.RunNotes.{place}
 use Rattle.eql_conductor.specs.Running.{RanTo}
-use Rattle.eql_conductor.specs.Runs.{disk_faults}
+use Rattle.eql_conductor.specs.Runs.{IsKeptUnfailing, disk_faults}
 use Rattle.eql_conductor.proofs.run.play_rounds.Given as goal
 
 abbrev pub invariant-loop-round : goal.invariant-loop-round
@@ -20,6 +20,7 @@ invariant-loop-round g l = record {
   disk : disk_faults g.D.Disk.history g.D.Disk.fault_count l.keep ≡ disk_faults g.D.Disk.history g.D.Disk.fault_count l.fn.keep;
   silent : g.K.Sink.written l.fn.sink ≡ None → g.K.Sink.written l.sink ≡ None;
   unfailing : IsUnfailing (g.K.Sink.fault_plan l.fn.sink) → IsUnfailing (g.K.Sink.fault_plan l.sink);
+  unfailing_disk : IsKeptUnfailing g.D.Disk.fault_plan l.fn.keep → IsKeptUnfailing g.D.Disk.fault_plan l.keep;
   count : l.count ≤ l.round;
 }
 

@@ -5,7 +5,7 @@ use Rattle.eql_conductor.specs.Runs.{disk_faults}
 use Rattle.eql_conductor.specs.declared.stop.Stop.TheVariants.{Disk}
 use Rattle.eql_conductor.proofs.Onward.{lanes_go_on}
 use Rattle.eql_conductor.proofs.Goings.{at_mark_goes}
-use Rattle.eql_conductor.proofs.Causes.{cut_ends, ends_on, err_is, not_full}
+use Rattle.eql_conductor.proofs.Causes.{cut_ends, ends_on, err_is, not_full, round_not_disk}
 use Rattle.eql_conductor.specs.RunNotes.{place}
 use Rattle.eql_conductor.proofs.BoundsSpent.{round_stays}
 use Rattle.eql_conductor.proofs.Cutting.{stands_on}
@@ -19,7 +19,14 @@ returns-in_err-play_round-clause-stopped g c =
     (round_stopped g.D.Disk.history g.D.Disk.fault_count c.args.plan.now (place c.args.last c.args.count) (g.B.Bench.known c.args.bench.now) (g.B.Bench.known c.play_round.new.bench)
     c.args.book.now c.play_round.new.book (g.K.Sink.written c.args.sink.now) (g.K.Sink.written c.play_round.new.sink) c.args.keep.now c.play_round.ensures.goes c.in_err-play_round.field-0.0
     c.requires.at c.fits.ensures c.in_err-play_round.ensures.broken c.in_err-play_round.ensures.broken_notes
-    (not_full c.in_err-play_round.field-0.0 (g.B.Bench.known c.args.bench.now) (g.B.Bench.known c.play_round.new.bench) c.in_err-play_round.ensures.stops))
+    (not_full c.in_err-play_round.field-0.0 (g.B.Bench.known c.args.bench.now) (g.B.Bench.known c.play_round.new.bench) c.in_err-play_round.ensures.stops) c.requires.stands)
+
+pub returns-in_err-play_round-clause-unfailing_disk : goal.returns-in_err-play_round-clause-unfailing_disk
+returns-in_err-play_round-clause-unfailing_disk g c =
+    let p = err_from_is_err_and c.from_residual.result c.from_residual.ensures.1 in
+    let by = c.in_err-play_round.field-0.0 in
+    rw (p.1, p.2)
+    (λ unfailing. ((λ e. round_not_disk by (g.B.Bench.known c.args.bench.now) (g.B.Bench.known c.play_round.new.bench) c.in_err-play_round.ensures.stops (err_is by Disk e)), unfailing))
 
 pub returns-in-None-clause-step : goal.returns-in-None-clause-step
 returns-in-None-clause-step g c =
@@ -42,7 +49,7 @@ returns-in_err-keep_cut-in-Some-clause-stopped g c =
     rw (p.1, p.2)
     (cut_stopped g.D.Disk.history g.D.Disk.fault_count c.args.plan.now (place c.args.last c.args.count) c.in-Some.mark (g.B.Bench.known c.args.bench.now) (g.B.Bench.known c.play_round.new.bench) (g.B.Bench.known c.keep_cut.new.bench)
     c.args.book.now c.play_round.new.book (g.K.Sink.written c.args.sink.now) (g.K.Sink.written c.play_round.new.sink) c.args.keep.now c.keep_cut.new.keep
-    c.requires.at c.play_round.ensures.goes.same (rw c.in-Some.is at c.in_ok-play_round.ensures.round) (rw c.in-Some.is at c.in_ok-play_round.ensures.notes)
+    c.requires.at c.play_round.ensures.goes.same (rw c.in-Some.is at c.in_ok-play_round.ensures.round) (rw c.in-Some.is at c.in_ok-play_round.ensures.in_range) (rw c.in-Some.is at c.in_ok-play_round.ensures.notes)
     (c.args.count + 1) (add-one c.args.count)
     c.in_err-keep_cut-in-Some.field-0.0 c.keep_cut.ensures.goes c.in_err-keep_cut-in-Some.ensures.stopped)
 
@@ -68,7 +75,7 @@ pub returns-in_ok-keep_cut-in-Some-clause-step : goal.returns-in_ok-keep_cut-in-
 returns-in_ok-keep_cut-in-Some-clause-step g c =
     counted g.D.Disk.history g.D.Disk.fault_count c.args.plan.now (place c.args.last c.args.count) c.in-Some.mark (g.B.Bench.known c.args.bench.now) (g.B.Bench.known c.play_round.new.bench) (g.B.Bench.known c.keep_cut.new.bench)
     c.args.book.now c.play_round.new.book (g.K.Sink.written c.args.sink.now) (g.K.Sink.written c.play_round.new.sink) c.args.keep.now c.keep_cut.new.keep
-    c.requires.at c.play_round.ensures.goes.same (rw c.in-Some.is at c.in_ok-play_round.ensures.round) (rw c.in-Some.is at c.in_ok-play_round.ensures.notes)
+    c.requires.at c.play_round.ensures.goes.same (rw c.in-Some.is at c.in_ok-play_round.ensures.round) (rw c.in-Some.is at c.in_ok-play_round.ensures.in_range) (rw c.in-Some.is at c.in_ok-play_round.ensures.notes)
     (c.args.count + 1) (add-one c.args.count)
     c.in_ok-keep_cut-in-Some.ensures.goes_on
 

@@ -17,7 +17,7 @@ invariant_of-self g c =
     let few : old.calls + 1 ≤ length g.T.Opening.plays = let e = ap length c.self.invariant.1 in omega (arith, inside, e) in
     let list = list_is g.T.Opening.plays old.plays.items old.calls c.index.result.now c.self.invariant.1 inside c.index.ensures in (
       others_keep g.S.Source.left g.S.Source.lent_as g.S.Source.fault_plan g.L.LineReader.read_of g.T.Opening.lanes g.T.Opening.text g.T.Opening.plays
-          (record { pool = old.pool; calls = old.calls; notes = old.notes.items }) c.play_all.new.self (old.calls + 1) c.self.invariant.0 few
+          (record { pool = old.pool; calls = old.calls; notes = old.notes }) c.play_all.new.self (old.calls + 1) c.self.invariant.0 few
           (rw list c.play_all.ensures),
       c.self.invariant.1,
     )
@@ -34,8 +34,8 @@ returns-then-self-len-clause-others g c =
 pub returns-then-self-len-clause-alone : goal.returns-then-self-len-clause-alone
 returns-then-self-len-clause-alone g c =
     let old = c.self.inside in
-    subst (λ (b : BenchView _ _). Unplayed Memory (bench_known g.L.LineReader.read_of g.T.Opening.text b) (bench_known g.L.LineReader.read_of g.T.Opening.text (record { pool = c.play_all.new.self; calls = old.calls + 1; notes = old.notes.items }))) c.self.view_is
-    (others_alone g.S.Source.left g.S.Source.lent_as g.S.Source.fault_plan g.L.LineReader.read_of g.T.Opening.text old.notes.items c.index.result.now old.pool c.play_all.new.self
+    subst (λ (b : BenchView _ _). Unplayed Memory (bench_known g.L.LineReader.read_of g.T.Opening.text b) (bench_known g.L.LineReader.read_of g.T.Opening.text (record { pool = c.play_all.new.self; calls = old.calls + 1; notes = old.notes }))) c.self.view_is
+    (others_alone g.S.Source.left g.S.Source.lent_as g.S.Source.fault_plan g.L.LineReader.read_of g.T.Opening.text old.notes c.index.result.now old.pool c.play_all.new.self
     c.self.invariant.0.texts c.play_all.ensures)
 
 pub returns-else-self-len-clause-others : goal.returns-else-self-len-clause-others

@@ -16,14 +16,14 @@ lane-reply-requires-clause-place g c =
     let same = ap (λ (b : BenchView _ _). length b.pool.lanes) c.self.view_is in
     let h = c.requires.place in omega (arith, count, same, h)
 
-pub invariant_of-self-2 : goal.invariant_of-self-2
-invariant_of-self-2 g c =
+pub invariant_of-self : goal.invariant_of-self
+invariant_of-self g c =
     let old = c.self.inside in
-    let notes = c.push_reserved.ensures.items in let reserved = c.reserve.ensures.items in
+    let notes = c.push.ensures in
     let note = c.note_of_lane-note.ensures in let failed = c.has_failed-failed.ensures in (
-      rw (notes, reserved, failed)
+      rw (notes, failed)
           (lane_keeps g.S.Source.left g.S.Source.lent_as g.S.Source.fault_plan g.L.LineReader.read_of g.T.Opening.lanes g.T.Opening.text g.T.Opening.plays
-          old.pool c.lane-reply.new.self old.calls old.notes.items c.args.s c.args.op c.lane-reply.result c.note_of_lane-note.result c.self.invariant.0
+          old.pool c.lane-reply.new.self old.calls old.notes c.args.s c.args.op c.lane-reply.result c.note_of_lane-note.result c.self.invariant.0
           c.lane-reply.ensures.played c.lane-reply.ensures.parts),
       c.self.invariant.1,
     )
@@ -32,14 +32,14 @@ pub returns-clause-played : goal.returns-clause-played
 returns-clause-played g c =
     let old = c.self.inside in
     let first : BenchView _ _ = c.args.self.now in
-    let now : BenchView _ _ = record { pool = old.pool; calls = old.calls; notes = old.notes.items } in
+    let now : BenchView _ _ = record { pool = old.pool; calls = old.calls; notes = old.notes } in
     let alone : Unplayed Memory (bench_known g.L.LineReader.read_of g.T.Opening.text first) (bench_known g.L.LineReader.read_of g.T.Opening.text now) =
     subst (λ (b : BenchView _ _). Unplayed Memory (bench_known g.L.LineReader.read_of g.T.Opening.text first) (bench_known g.L.LineReader.read_of g.T.Opening.text b)) (sym c.self.view_is) c.others_play.ensures.alone in
-    let plays = lane_plays g.S.Source.left g.S.Source.lent_as g.S.Source.fault_plan g.L.LineReader.read_of g.T.Opening.text old.pool c.lane-reply.new.self old.notes.items
+    let plays = lane_plays g.S.Source.left g.S.Source.lent_as g.S.Source.fault_plan g.L.LineReader.read_of g.T.Opening.text old.pool c.lane-reply.new.self old.notes
     c.args.s c.args.op c.lane-reply.result c.self.invariant.0.texts c.lane-reply.ensures.played c.lane-reply.ensures.parts in
-    let notes = c.push_reserved.ensures.items in let reserved = c.reserve.ensures.items in
+    let notes = c.push.ensures in
     let note = c.note_of_lane-note.ensures in let failed = c.has_failed-failed.ensures in
-    rw (notes, reserved, note, failed)
+    rw (notes, note, failed)
     (then_lane c.args.s c.args.op c.lane-reply.result (bench_known g.L.LineReader.read_of g.T.Opening.text first) (bench_known g.L.LineReader.read_of g.T.Opening.text now)
-    (known_of g.L.LineReader.read_of g.T.Opening.text c.lane-reply.new.self (old.notes.items ++ OfLane c.args.s (lane_note c.args.op c.lane-reply.result) (did_fail c.lane-reply.result) ∷ []))
+    (known_of g.L.LineReader.read_of g.T.Opening.text c.lane-reply.new.self (old.notes ++ OfLane c.args.s (lane_note c.args.op c.lane-reply.result) (did_fail c.lane-reply.result) ∷ []))
     c.requires.place alone plays)

@@ -21,19 +21,19 @@ pub part-reply-requires-clause-allowed : goal.part-reply-requires-clause-allowed
 part-reply-requires-clause-allowed g c part there =
     let old = c.self.inside in
     let first : BenchView _ _ = c.args.self.now in
-    let now : BenchView _ _ = record { pool = old.pool; calls = old.calls; notes = old.notes.items } in
+    let now : BenchView _ _ = record { pool = old.pool; calls = old.calls; notes = old.notes } in
     let alone : Unplayed Memory (bench_known g.L.LineReader.read_of g.T.Opening.text first) (bench_known g.L.LineReader.read_of g.T.Opening.text now) =
     subst (λ (b : BenchView _ _). Unplayed Memory (bench_known g.L.LineReader.read_of g.T.Opening.text first) (bench_known g.L.LineReader.read_of g.T.Opening.text b)) (sym c.self.view_is) c.others_play.ensures.alone in
     may_still c.args.p c.args.op (bench_known g.L.LineReader.read_of g.T.Opening.text first) (bench_known g.L.LineReader.read_of g.T.Opening.text now)
     c.requires.place alone.rests c.requires.allowed part.state (record { part = part; there = there; state_is = refl })
 
-pub invariant_of-self-2 : goal.invariant_of-self-2
-invariant_of-self-2 g c =
+pub invariant_of-self : goal.invariant_of-self
+invariant_of-self g c =
     let old = c.self.inside in
-    let notes = c.push_reserved.ensures.items in let reserved = c.reserve.ensures.items in (
-      rw (notes, reserved)
+    let notes = c.push.ensures in (
+      rw notes
           (part_keeps g.S.Source.left g.S.Source.lent_as g.S.Source.fault_plan g.L.LineReader.read_of g.T.Opening.lanes g.T.Opening.text g.T.Opening.plays
-          old.pool c.part-reply.new.self old.calls old.notes.items c.args.p c.args.op c.part-reply.result c.with_reply-note.result c.self.invariant.0
+          old.pool c.part-reply.new.self old.calls old.notes c.args.p c.args.op c.part-reply.result c.with_reply-note.result c.self.invariant.0
           c.part-reply.ensures.played c.part-reply.ensures.lanes),
       c.self.invariant.1,
     )
@@ -42,15 +42,15 @@ pub returns-clause-played : goal.returns-clause-played
 returns-clause-played g c =
     let old = c.self.inside in
     let first : BenchView _ _ = c.args.self.now in
-    let now : BenchView _ _ = record { pool = old.pool; calls = old.calls; notes = old.notes.items } in
+    let now : BenchView _ _ = record { pool = old.pool; calls = old.calls; notes = old.notes } in
     let alone : Unplayed Memory (bench_known g.L.LineReader.read_of g.T.Opening.text first) (bench_known g.L.LineReader.read_of g.T.Opening.text now) =
     subst (λ (b : BenchView _ _). Unplayed Memory (bench_known g.L.LineReader.read_of g.T.Opening.text first) (bench_known g.L.LineReader.read_of g.T.Opening.text b)) (sym c.self.view_is) c.others_play.ensures.alone in
-    let plays = part_plays g.S.Source.left g.S.Source.lent_as g.S.Source.fault_plan g.L.LineReader.read_of g.T.Opening.text old.pool c.part-reply.new.self old.notes.items
+    let plays = part_plays g.S.Source.left g.S.Source.lent_as g.S.Source.fault_plan g.L.LineReader.read_of g.T.Opening.text old.pool c.part-reply.new.self old.notes
     c.args.p c.args.op c.part-reply.result c.part-reply.ensures.played c.part-reply.ensures.lanes in
-    let notes = c.push_reserved.ensures.items in let reserved = c.reserve.ensures.items in
+    let notes = c.push.ensures in
     let note : c.with_reply-note.result ≡ part_note c.args.op c.part-reply.result =
     c.with_reply-note.ensures ∙ ap (λ (n : Note). told_note n c.part-reply.result) c.note_of_part-asked.ensures ∙ asked_told c.args.op c.part-reply.result in
-    rw (notes, reserved, note)
+    rw (notes, note)
     (then_part c.args.p c.args.op c.part-reply.result (bench_known g.L.LineReader.read_of g.T.Opening.text first) (bench_known g.L.LineReader.read_of g.T.Opening.text now)
-    (known_of g.L.LineReader.read_of g.T.Opening.text c.part-reply.new.self (old.notes.items ++ OfPart c.args.p (part_note c.args.op c.part-reply.result) ∷ []))
+    (known_of g.L.LineReader.read_of g.T.Opening.text c.part-reply.new.self (old.notes ++ OfPart c.args.p (part_note c.args.op c.part-reply.result) ∷ []))
     c.requires.place alone plays)
