@@ -12,7 +12,7 @@ use Rattle.eql_parser.specs.Kinds.{Kind, false_, true_, text, number, open_, clo
 use Rattle.eql_parser.specs.Grammar.{first_part, part, is_left_out_call}
 use Rattle.eql_parser.specs.Limits.{depth}
 use Rattle.eql_parser.specs.Reading.{Fail, Syntax, LeftOut, TooDeep, TooOpen, Res, then_do, res_map, closing, is_comma, more_of, separated, listed, dotted_part, behind_dot, dotted, named_by, named, field, text_at, negative_at, literal, at_level, above, chain_on, chain_from, chain, joined, call_of}
-use Rattle.eql_parser.proofs.Told.{Told, told_more, told_separated, told_dot, told_dotted, told_named, told_field, told_text, told_negative, told_literal, told_chain_from, told_joined, room_for}
+use Rattle.eql_parser.proofs.Told.{Told, upto_within, told_more, told_separated, told_dot, told_dotted, told_named, told_field, told_text, told_negative, told_literal, told_chain_from, told_joined, room_for}
 
 -- the place of a refusal that rests on the tokens through it alone, or 0
 abbrev pub firm : Fail → ℕ
@@ -28,9 +28,9 @@ Short l (Err e) = firm e ≤ l
 
 pub short : {A : Type 0} (d : ℕ) (ts : List Kind) (r : Res A) → Told d ts r → Short (length ts) r
 short d ts (Ok p) h = omega (arith, ap length h.1, length-append h.0 p.1)
-short d ts (Err (Syntax n)) h = h
+short d ts (Err (Syntax n)) h = upto_within d ts n h
 short d ts (Err (LeftOut w n)) h = omega arith
-short d ts (Err (TooDeep n)) h = h.1
+short d ts (Err (TooDeep n)) h = upto_within d ts n h.1
 short d ts (Err (TooOpen n)) h = omega arith
 
 pub shorter : {A : Type 0} (k l : ℕ) (r : Res A) → k ≤ l → Short k r → Short l r

@@ -7,7 +7,7 @@ use Rattle.eql_parser.specs.View.{trees_of}
 use Rattle.eql_parser.specs.Kinds.{Kind, false_, in_, matches, not_, null_, regex_, true_, name, folding, back, text, number, open_, close_, question_, compares, adds}
 use Rattle.eql_parser.specs.Reading.{Syntax, LeftOut, Res, then_do, res_map, closing, is_or, is_and, adds_of, multiplies_of, listed, dotted, named, field_tree, text_at, literal, at_level, call_of, joined, expr}
 use Rattle.eql_parser.specs.Reading as r
-use Rattle.eql_parser.proofs.Told.{Told, told_listed, told_dotted, told_text, told_literal, told_joined, room_for, inside}
+use Rattle.eql_parser.proofs.Told.{Told, upto_here, told_listed, told_dotted, told_text, told_literal, told_joined, room_for, inside}
 use Rattle.eql_parser.proofs.ToldExpr.{told_patterns, told_members, told_prim, told_unary, told_prod, told_sum, told_behind_not, told_behind_sum, told_neg, told_conj, expr_told}
 use Rattle.eql_parser.proofs.Agrees.{Short, short, shorter, short_call, short_then, short_map, short_closing, Refuses, Agree, in_tail, both_refuse, agree_then, agree_map, stays, agree_at_level, agree_above, agree_closed, agree_enter, agree_named, agree_text, agree_literal, agree_call_of, agree_listed, agree_chain, agree_joined}
 
@@ -231,10 +231,10 @@ module _ (x y : List Kind) (d d' : ℕ) (inner inner' : ℕ → List Kind → Re
 pub expr_agrees : (x y : List Kind) (d d' l : ℕ) (m : List Kind) → d ≤ d' → Agree x y (expr d l (m ++ x)) (expr d' l (m ++ y))
 unfolding expr
 expr_agrees x y zero zero l m le =
-    agree_level x y zero zero (λ _ us. Err (Syntax (length us))) (λ _ us. Err (Syntax (length us))) le (λ k us. omega arith)
+    agree_level x y zero zero (λ _ us. Err (Syntax (length us))) (λ _ us. Err (Syntax (length us))) le (λ k us. upto_here zero us)
     (λ p. absurd (omega (arith, p))) l m
 expr_agrees x y zero (suc d') l m le =
-    agree_level x y zero (suc d') (λ _ us. Err (Syntax (length us))) (expr d') le (λ k us. omega arith)
+    agree_level x y zero (suc d') (λ _ us. Err (Syntax (length us))) (expr d') le (λ k us. upto_here zero us)
     (λ p. absurd (omega (arith, p))) l m
 expr_agrees x y (suc d) zero l m le = absurd (omega (arith, le))
 expr_agrees x y (suc d) (suc d') l m le =

@@ -2,22 +2,23 @@
 use Rattle.std.proofs.Common.{◌≡◌, ℕ, suc, ◌<◌, ◌≤◌, max, inl, inr, ⊎_elim, List, [], ◌∷◌, ◌++◌, length, Ok, Err, refl, sym, ap, subst, ◌∙◌, arith, length-append, append_assoc, append-nil, codes}
 use Rattle.eql_lexer.specs.declared.token.Token.{Token}
 use Rattle.eql_parser.specs.QueryTree.{QueryTree}
-use Rattle.eql_parser.specs.Kinds.{Kind, kind, kinds, any_, assign_, bar_, close_item_, matches, name, null_, number, open_, open_item_, where_, with_}
+use Rattle.eql_parser.specs.Kinds.{Kind, kind, kinds, any_, assign_, bar_, close_item_, folding, matches, name, null_, number, open_, open_item_, where_, with_}
 use Rattle.eql_parser.specs.QueryGrammar.{Reads}
-use Rattle.eql_parser.specs.Limits.{levels, open_behind}
-use Rattle.eql_parser.specs.Refusing.{Begins, NoQueryBegins, IsDeeperThan, Split, IsLeftOut, samples, joins, missing_event, regex, folding_regex, fine_unit, other_pipe, number_with_base, end_of, IsPlainSyntax, IsLeftOutAt, IsTooDeep}
+use Rattle.eql_parser.specs.Limits.{levels, open_behind, FewOpen}
+use Rattle.eql_parser.specs.Refusing.{Begins, NoQueryBegins, IsDeeperThan, Split, IsLeftOut, samples, joins, missing_event, regex, folding_regex, fine_unit, other_pipe, number_with_base, end_of, LeavesOut, IsPlainSyntax, IsLeftOutAt, IsTooDeep}
 use Rattle.eql_parser.specs.Reading.{Fail, Syntax, LeftOut, TooDeep, TooOpen, Res, expr}
 use Rattle.eql_parser.specs.QueryReading.{query, query_by}
+use Rattle.eql_parser.proofs.Eventually.{Eventually}
 use Rattle.eql_parser.proofs.Complete.{query_all, query_complete}
 use Rattle.eql_parser.proofs.ExprGrows.{Same}
 use Rattle.eql_parser.proofs.Grows.{query_grows}
 use Rattle.eql_parser.proofs.Told.{Because, Told}
 use Rattle.eql_parser.proofs.Agrees.{Refuses, which}
 use Rattle.eql_parser.proofs.Local.{query_stops}
-use Rattle.eql_parser.proofs.Meeting.{Instead, for_regex, for_folding_regex, for_missing, for_unit, for_pipe}
+use Rattle.eql_parser.proofs.Meeting.{Instead, for_regex, for_folding_regex, for_missing, for_unit, for_pipe, for_number}
 use Rattle.eql_parser.proofs.MeetingQuery.{stops_there}
 use Rattle.eql_parser.specs.declared.expr.PatOp.TheVariants.{Colon}
-use Rattle.eql_parser.proofs.Opened.{told_of, opened}
+use Rattle.eql_parser.proofs.Opened.{told_of, opened, few_upto}
 use Rattle.eql_parser.proofs.Starts.{place_of, first_of, Follows}
 use Rattle.eql_parser.proofs.StartsQuery.{begun}
 
@@ -58,48 +59,57 @@ none_begins m x n h i y q read =
     stays_refused (query (m ++ x)) (query_by (expr 128 l) (m ++ x)) (Syntax n) tt h (query_grows 128 128 64 l (m ++ x) (omega arith) (omega arith)) in
     refuses_none (query_by (expr d l) (m ++ y)) q (all.1 d (omega arith)) (query_stops x y 128 d l m (Syntax n) (omega arith) here i)
 
--- where a query goes on with a form that the grammar has, no Syntax comes for a left-out form in its place
-left_out_stays : (x y : List Kind) (e : Fail) → Instead x y e → (n : ℕ) → e ≡ Syntax n → ⊥
-left_out_stays _ _ _ for_regex n h = cc
-left_out_stays _ _ _ for_folding_regex n h = cc
-left_out_stays _ _ _ for_missing n h = cc
-left_out_stays _ _ _ (for_unit f) n h = cc
-left_out_stays _ _ _ (for_pipe f) n h = cc
-
 same_fail : (r : Res QueryTree) (e f : Fail) → r ≡ Err e → r ≡ Err f → e ≡ f
 same_fail r e f h k = let both : ◌≡◌ {A = Res QueryTree} (Err e) (Err f) = sym h ∙ k in cc
 
-not_there : (x y : List Kind) (e : Fail) → Instead x y e → (m : List Kind) (q : QueryTree) (n : ℕ) → Reads (m ++ x) q → query (m ++ y) ≡ Err (Syntax n) → ⊥
-not_there x y e st m q n read h =
-    let l : ℕ = max 64 (levels q) in
-    let all = query_all l (m ++ x) q read (omega arith) in
-    let d : ℕ = max 128 all.0 in
-    let stop : query_by (expr d l) (m ++ y) ≡ Err e = stops_there x y e st d l m q (all.1 d (omega arith)) in
-    let here : query_by (expr d l) (m ++ y) ≡ Err (Syntax n) =
-    stays_refused (query (m ++ y)) (query_by (expr d l) (m ++ y)) (Syntax n) tt h (query_grows 128 d 64 l (m ++ y) (omega arith) (omega arith)) in
-    left_out_stays x y e st n (same_fail (query_by (expr d l) (m ++ y)) e (Syntax n) stop here)
+-- the descent stops so, where enough levels and parentheses are allowed
+abbrev pub StopsAt : List Kind → Fail → Type 0
+StopsAt ts e = (j : ℕ) × ((l : ℕ) → j ≤ l → Eventually (λ d. query_by (expr d l) ts) (Err e))
 
--- where a left-out form stands, behind tokens with which some query goes on with another form, no Syntax comes
-no_syntax : (before from : List Kind) (word : List ℕ) (instead : List Kind) → IsLeftOut before from word instead → Begins (before ++ instead) → query (before ++ from) ≡ Err (Syntax (length from)) → ⊥
-no_syntax _ _ _ _ (samples {ts = ts}) b h = let two : ◌≡◌ {A = Res QueryTree} (Err (LeftOut (codes "sample") (suc (length ts)))) (Err (Syntax (suc (length ts)))) = h in cc
-no_syntax _ _ _ _ (joins {ts = ts}) b h = let two : ◌≡◌ {A = Res QueryTree} (Err (LeftOut (codes "join") (suc (length ts)))) (Err (Syntax (suc (length ts)))) = h in cc
-no_syntax before _ _ _ (missing_event {ts = ts}) b h =
-    not_there _ _ _ (for_missing {c = b.rest} {b = ts}) before b.query (suc (suc (length ts))) (subst (λ l. Reads l b.query) (append_assoc before (open_item_ ∷ any_ ∷ where_ ∷ null_ ∷ close_item_ ∷ with_ ∷ []) b.rest) b.reads) h
-no_syntax before _ _ _ (regex {ts = ts}) b h =
-    not_there _ _ _ (for_regex {c = b.rest} {b = ts}) before b.query (suc (length ts)) (subst (λ l. Reads l b.query) (append_assoc before (matches Colon ∷ []) b.rest) b.reads) h
-no_syntax before _ _ _ (folding_regex {ts = ts}) b h =
-    not_there _ _ _ (for_folding_regex {c = b.rest} {b = ts}) before b.query (suc (length ts)) (subst (λ l. Reads l b.query) (append_assoc before (matches Colon ∷ []) b.rest) b.reads) h
-no_syntax before _ w _ (fine_unit {ts = ts} front n cut f) b h =
-    not_there _ _ _ (for_unit {c = b.rest} {b = ts} {n = n} {w = w} f) front b.query (suc (length ts))
-    (subst (λ l. Reads l b.query) (append_assoc before (name (codes "s") ∷ []) b.rest ∙ ap (λ m. m ++ name (codes "s") ∷ b.rest) cut ∙ append_assoc front (assign_ ∷ number n ∷ []) (name (codes "s") ∷ b.rest)) b.reads)
-    (subst (λ l. query l ≡ Err (Syntax (suc (length ts)))) (ap (λ m. m ++ name w ∷ ts) cut ∙ append_assoc front (assign_ ∷ number n ∷ []) (name w ∷ ts)) h)
-no_syntax before _ w _ (other_pipe {ts = ts} front cut f) b h =
-    not_there _ _ _ (for_pipe {c = b.rest} {b = ts} {w = w} f) front b.query (suc (length ts))
-    (subst (λ l. Reads l b.query) (append_assoc before (name (codes "head") ∷ []) b.rest ∙ ap (λ m. m ++ name (codes "head") ∷ b.rest) cut ∙ append_assoc front (bar_ ∷ []) (name (codes "head") ∷ b.rest)) b.reads)
-    (subst (λ l. query l ≡ Err (Syntax (suc (length ts)))) (ap (λ m. m ++ name w ∷ ts) cut ∙ append_assoc front (bar_ ∷ []) (name w ∷ ts)) h)
-no_syntax before _ _ _ (number_with_base {us = us} {w = w} e args) b h =
-    none_begins (before ++ name w ∷ []) (open_ ∷ us) (suc (suc (length us))) (ap query (append_assoc before (name w ∷ []) (open_ ∷ us)) ∙ h) (omega arith) (open_ ∷ b.rest) b.query
-    (subst (λ l. Reads l b.query) (append_assoc before (name w ∷ open_ ∷ []) b.rest ∙ sym (append_assoc before (name w ∷ []) (open_ ∷ b.rest))) b.reads)
+instead_stops : (x y : List Kind) (e : Fail) → Instead x y e → (m : List Kind) (q : QueryTree) → Reads (m ++ x) q → StopsAt (m ++ y) e
+instead_stops x y e st m q read = (levels q, λ l i. let all = query_all l (m ++ x) q read i in (all.0, λ d k. stops_there x y e st d l m q (all.1 d k)))
+
+-- it stops at a left-out form that stands behind tokens with which some query goes on with another form
+pub left_out_stops : (before from : List Kind) (word : List ℕ) (instead : List Kind) → IsLeftOut before from word instead → Begins (before ++ instead) → StopsAt (before ++ from) (LeftOut word (length from))
+left_out_stops _ _ _ _ samples b = (0, λ l i. (0, λ d k. refl))
+left_out_stops _ _ _ _ joins b = (0, λ l i. (0, λ d k. refl))
+left_out_stops before _ _ _ (missing_event {ts = ts}) b =
+    instead_stops _ _ _ (for_missing {c = b.rest} {b = ts}) before b.query (subst (λ l. Reads l b.query) (append_assoc before (open_item_ ∷ any_ ∷ where_ ∷ null_ ∷ close_item_ ∷ with_ ∷ []) b.rest) b.reads)
+left_out_stops before _ _ _ (regex {ts = ts}) b =
+    instead_stops _ _ _ (for_regex {c = b.rest} {b = ts}) before b.query (subst (λ l. Reads l b.query) (append_assoc before (matches Colon ∷ []) b.rest) b.reads)
+left_out_stops before _ _ _ (folding_regex {ts = ts}) b =
+    instead_stops _ _ _ (for_folding_regex {c = b.rest} {b = ts}) before b.query (subst (λ l. Reads l b.query) (append_assoc before (matches Colon ∷ []) b.rest) b.reads)
+left_out_stops before _ w _ (fine_unit {ts = ts} front n cut f) b =
+    subst (λ l. StopsAt l (LeftOut w (suc (length ts)))) (sym (ap (λ m. m ++ name w ∷ ts) cut ∙ append_assoc front (assign_ ∷ number n ∷ []) (name w ∷ ts)))
+    (instead_stops _ _ _ (for_unit {c = b.rest} {b = ts} {n = n} {w = w} f) front b.query
+    (subst (λ l. Reads l b.query) (append_assoc before (name (codes "s") ∷ []) b.rest ∙ ap (λ m. m ++ name (codes "s") ∷ b.rest) cut ∙ append_assoc front (assign_ ∷ number n ∷ []) (name (codes "s") ∷ b.rest)) b.reads))
+left_out_stops before _ w _ (other_pipe {ts = ts} front cut f) b =
+    subst (λ l. StopsAt l (LeftOut w (suc (length ts)))) (sym (ap (λ m. m ++ name w ∷ ts) cut ∙ append_assoc front (bar_ ∷ []) (name w ∷ ts)))
+    (instead_stops _ _ _ (for_pipe {c = b.rest} {b = ts} {w = w} f) front b.query
+    (subst (λ l. Reads l b.query) (append_assoc before (name (codes "head") ∷ []) b.rest ∙ ap (λ m. m ++ name (codes "head") ∷ b.rest) cut ∙ append_assoc front (bar_ ∷ []) (name (codes "head") ∷ b.rest)) b.reads))
+left_out_stops before _ _ _ (number_with_base {w = w} call rest e args) b =
+    instead_stops _ _ _ (for_number {w = w} call b.rest rest e args) before b.query (subst (λ l. Reads l b.query) (append_assoc before (folding w ∷ open_ ∷ call) b.rest) b.reads)
+
+-- what stops at a left-out form comes to no Syntax
+no_syntax : (ts : List Kind) (w : List ℕ) (n m : ℕ) → StopsAt ts (LeftOut w n) → query ts ≡ Err (Syntax m) → ⊥
+no_syntax ts w n m s h =
+    let l : ℕ = max 64 s.0 in
+    let far = s.1 l (omega arith) in
+    let d : ℕ = max 128 far.0 in
+    let here : query_by (expr d l) ts ≡ Err (Syntax m) =
+    stays_refused (query ts) (query_by (expr d l) ts) (Syntax m) tt h (query_grows 128 d 64 l ts (omega arith) (omega arith)) in
+    let both : LeftOut w n ≡ Syntax m = same_fail (query_by (expr d l) ts) (LeftOut w n) (Syntax m) (far.1 d (omega arith)) here in
+    cc
+
+-- and at no other one
+pub one_left_out : (ts : List Kind) (w v : List ℕ) (n m : ℕ) → StopsAt ts (LeftOut w n) → StopsAt ts (LeftOut v m) → (w ≡ v) × (n ≡ m)
+one_left_out ts w v n m s r =
+    let l : ℕ = max s.0 r.0 in
+    let one = s.1 l (omega arith) in
+    let other = r.1 l (omega arith) in
+    let d : ℕ = max one.0 other.0 in
+    let both : LeftOut w n ≡ LeftOut v m = same_fail (query_by (expr d l) ts) (LeftOut w n) (LeftOut v m) (one.1 d (omega arith)) (other.1 d (omega arith)) in
+    (cc, cc)
 
 -- each query that begins with the tokens through the one at which TooDeep comes has more levels than are allowed
 pub deeper : (m x : List Kind) (n : ℕ) → query (m ++ x) ≡ Err (TooDeep n) → length x < n → IsDeeperThan 64 m
@@ -134,13 +144,23 @@ answered ts q read few calm =
     let d : ℕ = max 128 all.0 in
     answers_it ts q (query ts) (query_by (expr d 64) ts) refl (all.1 d (omega arith)) (query_grows 128 d 64 64 ts (omega arith) (omega arith)) read few calm
 
-kinds_length : (tokens : List Token) → length (kinds tokens) ≡ length tokens
+pub kinds_length : (tokens : List Token) → length (kinds tokens) ≡ length tokens
 kinds_length [] = refl
 kinds_length (t ∷ ts) = ap suc (kinds_length ts)
 
 pub kinds_both : (before behind : List Token) → kinds (before ++ behind) ≡ kinds before ++ kinds behind
 kinds_both [] behind = refl
 kinds_both (t ∷ before) behind = ap (λ l. kind t.tok ∷ l) (kinds_both before behind)
+
+-- the descent stops at a left-out form
+pub leaves_out_stops : {tokens : List Token} {at : ℕ} (s : Split tokens at) (word : List ℕ) → LeavesOut s word → StopsAt (kinds tokens) (LeftOut word (length (kinds (s.here ∷ s.behind))))
+leaves_out_stops s word out =
+    subst (λ l. StopsAt l (LeftOut word (length (kinds (s.here ∷ s.behind))))) (sym (ap kinds s.whole ∙ kinds_both s.before (s.here ∷ s.behind)))
+    (left_out_stops (kinds s.before) (kinds (s.here ∷ s.behind)) word out.0 out.1 out.2)
+
+-- where Syntax comes, nowhere a left-out form stands
+plain : (tokens : List Token) (n : ℕ) → query (kinds tokens) ≡ Err (Syntax n) → (there : ℕ) (s : Split tokens there) (word : List ℕ) → LeavesOut s word → ⊥
+plain tokens n h there s word out = no_syntax (kinds tokens) word (length (kinds (s.here ∷ s.behind))) n (leaves_out_stops s word out) h
 
 -- no more tokens are left at the place than were given
 pub place_within : (tokens : List Token) (e : Fail) → query (kinds tokens) ≡ Err e → place_of e ≤ length tokens
@@ -202,26 +222,35 @@ module _ (tokens before behind : List Token) (here : Token) (whole : tokens ≡ 
         subst (λ f. Follows [] e (kinds before) f b.follows) same.1 (subst (λ m. Follows [] e m b.behind b.follows) same.0 b.why),
       )
 
+  few_before : (e : Fail) → place_of e ≡ suc (length behind) → query (kinds tokens) ≡ Err e → FewOpen 128 (kinds before)
+  few_before e p h =
+      let u = few_upto (kinds tokens) e h in
+      let same = same_cut u.0 (kinds before) u.1 (kinds (here ∷ behind)) (sym u.2 ∙ kinds_cut) (u.3 ∙ p ∙ ap suc (sym (kinds_length behind))) in
+      subst (FewOpen 128) same.0 u.4
+
   pub syntax_cause : query (kinds tokens) ≡ Err (Syntax (suc (length behind))) → IsPlainSyntax tokens here.start
   syntax_cause h =
-      let on = goes_on_there (Syntax (suc (length behind))) refl h in
-      inl (
-        the_split,
-        begins_front (kinds before) on.0 on.1,
-        none_begins (kinds before ++ kinds (here ∷ [])) (kinds behind) (suc (length behind)) (there (Syntax (suc (length behind))) h) (omega (arith, kinds_length behind)),
-        λ word out. no_syntax (kinds before) (kinds (here ∷ behind)) word out.0 out.1 out.2 (ap query (sym kinds_cut) ∙ h ∙ ap (λ n. Err (Syntax (suc n))) (sym (kinds_length behind))),
+      let on = goes_on_there (Syntax (suc (length behind))) refl h in (
+        inl (
+          the_split,
+          begins_front (kinds before) on.0 on.1,
+          none_begins (kinds before ++ kinds (here ∷ [])) (kinds behind) (suc (length behind)) (there (Syntax (suc (length behind))) h) (omega (arith, kinds_length behind)),
+          few_before (Syntax (suc (length behind))) refl h,
+        ),
+        plain tokens (suc (length behind)) h,
       )
 
   pub left_out_cause : (w : List ℕ) → query (kinds tokens) ≡ Err (LeftOut w (suc (length behind))) → IsLeftOutAt tokens w here.start
   left_out_cause w h =
       let on = goes_on_there (LeftOut w (suc (length behind))) refl h in
-      ((the_split, (on.0, on.2, on.1)), none_read (kinds tokens) (LeftOut w (suc (length behind))) tt h)
+      ((the_split, (on.0, on.2, on.1), few_before (LeftOut w (suc (length behind))) refl h), none_read (kinds tokens) (LeftOut w (suc (length behind))) tt h)
 
   pub too_deep_cause : query (kinds tokens) ≡ Err (TooDeep (suc (length behind))) → IsTooDeep tokens here.start
   too_deep_cause h =
       let on = goes_on_there (TooDeep (suc (length behind))) refl h in (
         the_split,
         subst (λ f. Begins (kinds before ++ f)) on.2 on.1,
+        few_before (TooDeep (suc (length behind))) refl h,
         inr (deeper (kinds before ++ kinds (here ∷ [])) (kinds behind) (suc (length behind)) (there (TooDeep (suc (length behind))) h) (omega (arith, kinds_length behind))),
       )
 
@@ -233,7 +262,7 @@ module _ (tokens before behind : List Token) (here : Token) (whole : tokens ≡ 
       let heads : open_ ∷ [] ≡ kinds (here ∷ []) = ap first_of same.1 in
       let opens : open_behind 0 (kinds before ++ kinds (here ∷ [])) ≡ 129 =
       subst (λ f. open_behind 0 (kinds before ++ f) ≡ 129) heads (subst (λ b. open_behind 0 (b ++ open_ ∷ []) ≡ 129) same.0 out.4) in
-      (the_split, subst (λ f. Begins (kinds before ++ f)) on.2 on.1, inl (omega (arith, opens)))
+      (the_split, subst (λ f. Begins (kinds before ++ f)) on.2 on.1, few_before (TooOpen (suc (length behind))) refl h, inl (omega (arith, opens)))
 
 no_token : (l : List Kind) → length l ≡ 0 → l ≡ []
 no_token [] h = refl
@@ -243,5 +272,7 @@ no_token (k ∷ l) h = absurd (omega (arith, h))
 pub early_cause : (tokens : List Token) → query (kinds tokens) ≡ Err (Syntax 0) → IsPlainSyntax tokens (end_of tokens)
 early_cause tokens h =
     let b = begun (kinds tokens) (Syntax 0) h in
+    let u = few_upto (kinds tokens) (Syntax 0) h in
+    let all : u.0 ≡ kinds tokens = sym (u.2 ∙ ap (λ l. u.0 ++ l) (no_token u.1 u.3) ∙ append-nil u.0) in
     let whole : b.front ≡ kinds tokens = sym (b.cut ∙ ap (λ l. b.front ++ l) (no_token b.behind b.count) ∙ append-nil b.front) in
-    inr (refl, subst Begins whole (begins_front b.front b.follows b.begins), none_read (kinds tokens) (Syntax 0) tt h)
+    (inr (refl, subst Begins whole (begins_front b.front b.follows b.begins), none_read (kinds tokens) (Syntax 0) tt h, subst (FewOpen 128) all u.4), plain tokens 0 h)

@@ -391,7 +391,7 @@ mutual
   prim_all l _ e rest (inside {us = us} h) i s =
       eventually_then (λ d. expr d l us) (λ d. closing) e (close_ ∷ rest) (Ok (e, rest)) (expr_all l us e (close_ ∷ rest) h i (omega arith)) (at_once _ _ (λ d. refl))
 
-  arguments_all : (l : ℕ) (ts : List Kind) (es : Trees) (rest : List Kind) → IsArguments ts es rest → deepest es ≤ l
+  pub arguments_all : (l : ℕ) (ts : List Kind) (es : Trees) (rest : List Kind) → IsArguments ts es rest → deepest es ≤ l
       → (xs : List Tree) × (trees_of xs ≡ es) × Eventually (λ d. arguments true (expr d) l ts) (Ok (xs, rest))
   arguments_all l _ _ rest no_arguments i = ([], refl, at_once _ _ (λ d. refl))
   arguments_all l ts es rest (some_arguments h) i =

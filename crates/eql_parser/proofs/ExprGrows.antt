@@ -117,7 +117,7 @@ module _ (room room' : Bool) (inner inner' : ℕ → List Kind → Res Tree) (h 
   some_grow b l m us i =
       same_then (listed (inner l) us) (listed (inner' m) us) closing closing (separated_grows is_comma (inner l) (inner' m) (λ vs. (h b).1 l m vs i) (length us) us) (λ es vs. same (closing es vs))
 
-  arguments_grow : room ≡ true → (l m : ℕ) (us : List Kind) → l ≤ m → Same (arguments room inner l us) (arguments room' inner' m us)
+  pub arguments_grow : room ≡ true → (l m : ℕ) (us : List Kind) → l ≤ m → Same (arguments room inner l us) (arguments room' inner' m us)
   arguments_grow b l m (close_ ∷ us) i = refl
   arguments_grow b l m us i = some_grow b l m us i
 

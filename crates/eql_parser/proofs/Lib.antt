@@ -22,6 +22,7 @@ pub mod ToldQuery
 pub mod Agrees
 pub mod AgreesExpr
 pub mod Meeting
+pub mod MeetingCall
 pub mod MeetingExpr
 pub mod Local
 pub mod MeetingQuery
@@ -34,7 +35,7 @@ pub mod Grows
 pub mod Opened
 pub mod Causes
 pub mod Refusals
-mod OneSyntax
+mod OneRefusal
 pub mod RefusalExamples
 pub mod Parsed
 mod Canonical

@@ -6,11 +6,12 @@ use Rattle.eql_values.specs.declared.value.Value.TheVariants as value
 use Rattle.eql_parser.specs.declared.expr.PatOp.TheVariants.{Colon}
 use Rattle.eql_parser.specs.declared.expr.MathOp.{MathOp}
 use Rattle.eql_parser.specs.declared.expr.MathOp.TheVariants.{Sub}
-use Rattle.eql_parser.specs.Tree.{Tree, Trees, more}
+use Rattle.std.specs.Str.{bytes_eq}
+use Rattle.eql_parser.specs.Tree.{Tree, Trees, none, more}
 use Rattle.eql_parser.specs.Tree as t
 use Rattle.eql_parser.specs.View.{trees_of}
-use Rattle.eql_parser.specs.Kinds.{Kind, any_, assign_, bang_, bar_, close_item_, false_, matches, null_, open_item_, regex_, true_, where_, with_, name, text, number, open_, close_, dot_, question_, adds}
-use Rattle.eql_parser.specs.Grammar.{first_part, part, is_left_out_call}
+use Rattle.eql_parser.specs.Kinds.{Kind, any_, assign_, bang_, bar_, close_item_, false_, matches, null_, open_item_, regex_, true_, where_, with_, name, folding, text, number, open_, close_, dot_, question_, adds}
+use Rattle.eql_parser.specs.Grammar.{first_part, part, is_left_out_call, IsArguments}
 use Rattle.eql_parser.specs.QueryGrammar.{is_fine_unit, pipe_of}
 use Rattle.eql_parser.specs.Limits.{depth}
 use Rattle.eql_parser.specs.Reading.{Fail, LeftOut, TooDeep, TooOpen, Res, then_do, res_map, closing, is_comma, more_of, separated, listed, dotted_part, behind_dot, dotted, named_by, named, field, text_at, negative_at, literal, at_level, above, chain_on, chain_from, chain, joined, call_of}
@@ -24,6 +25,8 @@ pub data Instead : (has lacks : List Kind) → Fail → Type 0 where
   for_missing : {c b : List Kind} → Instead (open_item_ ∷ any_ ∷ where_ ∷ null_ ∷ close_item_ ∷ with_ ∷ c) (bang_ ∷ open_item_ ∷ b) (LeftOut (codes "!") (suc (suc (length b))))
   for_unit : {c b : List Kind} {n : ℤ} {w : List ℕ} → is_fine_unit w ≡ true → Instead (assign_ ∷ number n ∷ name (codes "s") ∷ c) (assign_ ∷ number n ∷ name w ∷ b) (LeftOut w (suc (length b)))
   for_pipe : {c b : List Kind} {w : List ℕ} → pipe_of w ≡ None → Instead (bar_ ∷ name (codes "head") ∷ c) (bar_ ∷ name w ∷ b) (LeftOut w (suc (length b)))
+  for_number : {w : List ℕ} {first second : Tree} (call c b : List Kind) → bytes_eq w (codes "number") ≡ true → ((others : List Kind) → IsArguments (call ++ others) (more first (more second none)) others)
+      → Instead (folding w ∷ open_ ∷ (call ++ c)) (name w ∷ open_ ∷ (call ++ b)) (LeftOut (codes "number") (suc (suc (length (call ++ b)))))
 
 -- where the first run reads on to its end, the second does, or it stops at the left-out form
 abbrev pub Met : (x y : List Kind) → Fail → {A : Type 0} → Res A → Res A → Type 0
@@ -36,6 +39,7 @@ x_full _ _ _ for_folding_regex = omega arith
 x_full _ _ _ for_missing = omega arith
 x_full _ _ _ (for_unit h) = omega arith
 x_full _ _ _ (for_pipe h) = omega arith
+x_full _ _ _ (for_number call c b h args) = omega arith
 
 pub y_full : (x y : List Kind) (e : Fail) → Instead x y e → 0 < length y
 y_full _ _ _ for_regex = omega arith
@@ -43,6 +47,7 @@ y_full _ _ _ for_folding_regex = omega arith
 y_full _ _ _ for_missing = omega arith
 y_full _ _ _ (for_unit h) = omega arith
 y_full _ _ _ (for_pipe h) = omega arith
+y_full _ _ _ (for_number call c b h args) = omega arith
 
 -- a reader that takes no such token
 at_closing : {A : Type 0} (a : A) (x y : List Kind) (e : Fail) → Instead x y e → Met x y e (closing a x) (closing a y)
@@ -51,6 +56,7 @@ at_closing a _ _ _ for_folding_regex = tt
 at_closing a _ _ _ for_missing = tt
 at_closing a _ _ _ (for_unit h) = tt
 at_closing a _ _ _ (for_pipe h) = tt
+at_closing a _ _ _ (for_number call c b h args) = tt
 
 at_dot : (go go' : List ℕ → List Kind → Res (List ℕ)) (w : List ℕ) (x y : List Kind) (e : Fail) → Instead x y e → Met x y e (behind_dot go w x) (behind_dot go' w y)
 at_dot go go' w _ _ _ for_regex = tt
@@ -58,6 +64,7 @@ at_dot go go' w _ _ _ for_folding_regex = tt
 at_dot go go' w _ _ _ for_missing = tt
 at_dot go go' w _ _ _ (for_unit h) = tt
 at_dot go go' w _ _ _ (for_pipe h) = tt
+at_dot go go' w _ _ _ (for_number call c b h args) = tt
 
 at_dotted : (n n' : ℕ) (w : List ℕ) (x y : List Kind) (e : Fail) → Instead x y e → Met x y e (dotted (suc n) w x) (dotted (suc n') w y)
 unfolding dotted
@@ -66,6 +73,7 @@ at_dotted n n' w _ _ _ for_folding_regex = inl ([], refl, refl)
 at_dotted n n' w _ _ _ for_missing = inl ([], refl, refl)
 at_dotted n n' w _ _ _ (for_unit h) = inl ([], refl, refl)
 at_dotted n n' w _ _ _ (for_pipe h) = inl ([], refl, refl)
+at_dotted n n' w _ _ _ (for_number call c b h args) = inl ([], refl, refl)
 
 at_named : (o : Bool) (x y : List Kind) (e : Fail) → Instead x y e → Met x y e (named o x) (named o y)
 at_named o _ _ _ for_regex = tt
@@ -73,6 +81,7 @@ at_named o _ _ _ for_folding_regex = tt
 at_named o _ _ _ for_missing = tt
 at_named o _ _ _ (for_unit h) = tt
 at_named o _ _ _ (for_pipe h) = tt
+at_named o _ _ _ (for_number call c b h args) = tt
 
 at_field : (x y : List Kind) (e : Fail) → Instead x y e → Met x y e (field x) (field y)
 at_field _ _ _ for_regex = tt
@@ -80,6 +89,7 @@ at_field _ _ _ for_folding_regex = tt
 at_field _ _ _ for_missing = tt
 at_field _ _ _ (for_unit h) = tt
 at_field _ _ _ (for_pipe h) = tt
+at_field _ _ _ (for_number call c b h args) = tt
 
 at_text : (x y : List Kind) (e : Fail) → Instead x y e → Met x y e (text_at x) (text_at y)
 at_text _ _ _ for_regex = tt
@@ -87,6 +97,7 @@ at_text _ _ _ for_folding_regex = tt
 at_text _ _ _ for_missing = tt
 at_text _ _ _ (for_unit h) = tt
 at_text _ _ _ (for_pipe h) = tt
+at_text _ _ _ (for_number call c b h args) = tt
 
 at_negative : (x y : List Kind) (e : Fail) → Instead x y e → Met x y e (negative_at x) (negative_at y)
 at_negative _ _ _ for_regex = tt
@@ -94,6 +105,7 @@ at_negative _ _ _ for_folding_regex = tt
 at_negative _ _ _ for_missing = tt
 at_negative _ _ _ (for_unit h) = tt
 at_negative _ _ _ (for_pipe h) = tt
+at_negative _ _ _ (for_number call c b h args) = tt
 
 at_literal : (x y : List Kind) (e : Fail) → Instead x y e → Met x y e (literal x) (literal y)
 at_literal _ _ _ for_regex = tt
@@ -101,13 +113,14 @@ at_literal _ _ _ for_folding_regex = tt
 at_literal _ _ _ for_missing = tt
 at_literal _ _ _ (for_unit h) = tt
 at_literal _ _ _ (for_pipe h) = tt
+at_literal _ _ _ (for_number call c b h args) = tt
 
 -- what stands between operands is none of these tokens
 abbrev pub Between : (Kind → Bool) → Type 0
-Between is = (is (matches Colon) ≡ false) × (is (regex_ false) ≡ false) × (is (regex_ true) ≡ false) × (is open_item_ ≡ false) × (is bang_ ≡ false) × (is assign_ ≡ false) × (is bar_ ≡ false)
+Between is = (is (matches Colon) ≡ false) × (is (regex_ false) ≡ false) × (is (regex_ true) ≡ false) × (is open_item_ ≡ false) × (is bang_ ≡ false) × (is assign_ ≡ false) × (is bar_ ≡ false) × ((w : List ℕ) → is (folding w) ≡ false) × ((w : List ℕ) → is (name w) ≡ false)
 
 abbrev pub Operator : (Kind → Option MathOp) → Type 0
-Operator of = (of (matches Colon) ≡ None) × (of (regex_ false) ≡ None) × (of (regex_ true) ≡ None) × (of open_item_ ≡ None) × (of bang_ ≡ None) × (of assign_ ≡ None) × (of bar_ ≡ None)
+Operator of = (of (matches Colon) ≡ None) × (of (regex_ false) ≡ None) × (of (regex_ true) ≡ None) × (of open_item_ ≡ None) × (of bang_ ≡ None) × (of assign_ ≡ None) × (of bar_ ≡ None) × ((w : List ℕ) → of (folding w) ≡ None) × ((w : List ℕ) → of (name w) ≡ None)
 
 both_end : {A : Type 0} (x y : List Kind) (e : Fail) (b c : Bool) (r s : Res A) (a : A) → b ≡ false → c ≡ false → Met x y e (if b then r else Ok (a, x)) (if c then s else Ok (a, y))
 both_end x y e false false r s a h k = inl ([], refl, refl)
@@ -126,6 +139,7 @@ at_more is z again again' a _ _ _ for_folding_regex = both_end _ _ _ _ _ _ _ (a 
 at_more is z again again' a _ _ _ for_missing = both_end _ _ _ _ _ _ _ (a ∷ []) z.3 z.4
 at_more is z again again' a _ _ _ (for_unit h) = both_end _ _ _ _ _ _ _ (a ∷ []) z.5 z.5
 at_more is z again again' a _ _ _ (for_pipe h) = both_end _ _ _ _ _ _ _ (a ∷ []) z.6 z.6
+at_more is z again again' a _ _ _ (for_number {w = w} call c b h args) = both_end _ _ _ _ _ _ _ (a ∷ []) (z.7 w) (z.8 w)
 
 at_joined : (is : Kind → Bool) → Between is → (node : Trees → Tree) (read read' : ℕ → List Kind → Res Tree) (l : ℕ) (a : Tree) (x y : List Kind) (e : Fail) → Instead x y e → Met x y e (joined is node read l a x) (joined is node read' l a y)
 at_joined is z node read read' l a _ _ _ for_regex = both_end _ _ _ _ _ _ _ a z.0 z.1
@@ -133,6 +147,7 @@ at_joined is z node read read' l a _ _ _ for_folding_regex = both_end _ _ _ _ _ 
 at_joined is z node read read' l a _ _ _ for_missing = both_end _ _ _ _ _ _ _ a z.3 z.4
 at_joined is z node read read' l a _ _ _ (for_unit h) = both_end _ _ _ _ _ _ _ a z.5 z.5
 at_joined is z node read read' l a _ _ _ (for_pipe h) = both_end _ _ _ _ _ _ _ a z.6 z.6
+at_joined is z node read read' l a _ _ _ (for_number {w = w} call c b h args) = both_end _ _ _ _ _ _ _ a (z.7 w) (z.8 w)
 
 at_chain : (of : Kind → Option MathOp) → Operator of → (read read' : ℕ → List Kind → Res Tree) (l n n' : ℕ) (a : Tree) (x y : List Kind) (e : Fail) → Instead x y e → Met x y e (chain_from of read l (suc n) a x) (chain_from of read' l (suc n') a y)
 unfolding chain_from
@@ -146,6 +161,8 @@ at_chain of z read read' l n n' a _ _ _ (for_unit {c = c} {b = b} {n = v} {w = w
     no_operator (assign_ ∷ number v ∷ name (codes "s") ∷ c) (assign_ ∷ number v ∷ name w ∷ b) (LeftOut w (suc (length b))) (of (assign_)) (of (assign_)) read read' l (chain_from of read l n) (chain_from of read' l n') a (assign_) (assign_) (number v ∷ name (codes "s") ∷ c) (number v ∷ name w ∷ b) z.5 z.5
 at_chain of z read read' l n n' a _ _ _ (for_pipe {c = c} {b = b} {w = w} h) =
     no_operator (bar_ ∷ name (codes "head") ∷ c) (bar_ ∷ name w ∷ b) (LeftOut w (suc (length b))) (of (bar_)) (of (bar_)) read read' l (chain_from of read l n) (chain_from of read' l n') a (bar_) (bar_) (name (codes "head") ∷ c) (name w ∷ b) z.6 z.6
+at_chain of z read read' l n n' a _ _ _ (for_number {w = w} call c b h args) =
+    no_operator (folding w ∷ open_ ∷ (call ++ c)) (name w ∷ open_ ∷ (call ++ b)) (LeftOut (codes "number") (suc (suc (length (call ++ b))))) (of (folding w)) (of (name w)) read read' l (chain_from of read l n) (chain_from of read' l n') a (folding w) (name w) (open_ ∷ (call ++ c)) (open_ ∷ (call ++ b)) (z.7 w) (z.8 w)
 
 pub met_stop : (x y : List Kind) (e : Fail) {A : Type 0} (r : Res A) → Met x y e r (Err e)
 met_stop x y e (Ok p) = inr refl
@@ -289,7 +306,7 @@ module _ (x y : List Kind) (e : Fail) (st : Instead x y e) {A : Type 0} (d : ℕ
 pub met_listed : (x y : List Kind) (e : Fail) → Instead x y e → {A : Type 0} (d : ℕ) (read read' : List Kind → Res A) → ((us : List Kind) → Told d us (read us))
     → ((m : List Kind) → Met x y e (read (m ++ x)) (read' (m ++ y))) → (m : List Kind) → Met x y e (listed read (m ++ x)) (listed read' (m ++ y))
 met_listed x y e st d read read' told agrees m =
-    met_listed_by x y e st d is_comma refl refl (refl, refl, refl, refl, refl, refl, refl) read read' told agrees m
+    met_listed_by x y e st d is_comma refl refl (refl, refl, refl, refl, refl, refl, refl, λ w. refl, λ w. refl) read read' told agrees m
 
 -- operands from the left, and one operand or several joined in one node
 module _ (x y : List Kind) (e : Fail) (st : Instead x y e) (d : ℕ) (read read' : ℕ → List Kind → Res Tree) (told : (l : ℕ) (us : List Kind) → Told d us (read l us))

@@ -8,11 +8,12 @@ use Rattle.eql_parser.specs.View.{trees_of}
 use Rattle.eql_parser.specs.Kinds.{Kind, false_, in_, matches, not_, null_, regex_, true_, name, folding, back, text, number, open_, close_, question_, compares, adds}
 use Rattle.eql_parser.specs.Reading.{Fail, Syntax, LeftOut, Res, then_do, res_map, closing, is_or, is_and, adds_of, multiplies_of, listed, named, field_tree, text_at, literal, at_level, call_of, joined, expr}
 use Rattle.eql_parser.specs.Reading as r
-use Rattle.eql_parser.proofs.Told.{Told, told_listed, told_text, told_literal, told_joined, room_for, inside}
+use Rattle.eql_parser.proofs.Told.{Told, upto_here, told_listed, told_text, told_literal, told_joined, room_for, inside}
 use Rattle.eql_parser.proofs.ToldExpr.{told_unary, told_prod, told_sum, told_behind_sum, told_neg, told_conj, expr_told}
 use Rattle.eql_parser.proofs.Agrees.{short, short_call}
 use Rattle.eql_parser.proofs.AgreesExpr.{short_inner, short_listed, short_arguments}
-use Rattle.eql_parser.proofs.Meeting.{Instead, for_regex, for_folding_regex, for_missing, for_unit, for_pipe, Met, met_stop, met_then, met_map, stays, met_at_level, met_above, met_closed, met_enter, met_named, met_text, met_literal, met_call_of, met_listed, met_chain, met_joined}
+use Rattle.eql_parser.proofs.MeetingCall.{shut_first, open_first}
+use Rattle.eql_parser.proofs.Meeting.{Instead, for_regex, for_folding_regex, for_missing, for_unit, for_pipe, for_number, Met, met_stop, met_then, met_map, stays, met_at_level, met_above, met_closed, met_enter, met_named, met_text, met_literal, met_call_of, met_listed, met_chain, met_joined}
 
 at_patterns : (room room' : Bool) (inner inner' : ℕ → List Kind → Res Tree) (x y : List Kind) (e : Fail) → Instead x y e → Met x y e (r.patterns room inner x) (r.patterns room' inner' y)
 at_patterns room room' inner inner' _ _ _ for_regex = tt
@@ -20,6 +21,7 @@ at_patterns room room' inner inner' _ _ _ for_folding_regex = tt
 at_patterns room room' inner inner' _ _ _ for_missing = tt
 at_patterns room room' inner inner' _ _ _ (for_unit h) = tt
 at_patterns room room' inner inner' _ _ _ (for_pipe h) = tt
+at_patterns room room' inner inner' _ _ _ (for_number call c b h args) = tt
 
 at_members : (room room' : Bool) (inner inner' : ℕ → List Kind → Res Tree) (x y : List Kind) (e : Fail) → Instead x y e → Met x y e (r.members room inner x) (r.members room' inner' y)
 at_members room room' inner inner' _ _ _ for_regex = tt
@@ -27,13 +29,7 @@ at_members room room' inner inner' _ _ _ for_folding_regex = tt
 at_members room room' inner inner' _ _ _ for_missing = tt
 at_members room room' inner inner' _ _ _ (for_unit h) = tt
 at_members room room' inner inner' _ _ _ (for_pipe h) = tt
-
-at_prim : (room room' : Bool) (inner inner' : ℕ → List Kind → Res Tree) (l : ℕ) (x y : List Kind) (e : Fail) → Instead x y e → Met x y e (r.prim room inner l x) (r.prim room' inner' l y)
-at_prim room room' inner inner' l _ _ _ for_regex = tt
-at_prim room room' inner inner' l _ _ _ for_folding_regex = tt
-at_prim room room' inner inner' l _ _ _ for_missing = tt
-at_prim room room' inner inner' l _ _ _ (for_unit h) = tt
-at_prim room room' inner inner' l _ _ _ (for_pipe h) = tt
+at_members room room' inner inner' _ _ _ (for_number call c b h args) = tt
 
 at_folding : (room room' : Bool) (inner inner' : ℕ → List Kind → Res Tree) (l : ℕ) (w : List ℕ) (x y : List Kind) (e : Fail) → Instead x y e → Met x y e (r.prim room inner l (folding w ∷ x)) (r.prim room' inner' l (folding w ∷ y))
 at_folding room room' inner inner' l w _ _ _ for_regex = tt
@@ -41,19 +37,22 @@ at_folding room room' inner inner' l w _ _ _ for_folding_regex = tt
 at_folding room room' inner inner' l w _ _ _ for_missing = tt
 at_folding room room' inner inner' l w _ _ _ (for_unit h) = tt
 at_folding room room' inner inner' l w _ _ _ (for_pipe h) = tt
+at_folding room room' inner inner' l w _ _ _ (for_number call c b h args) = tt
 
-at_unary : (room room' : Bool) (inner inner' : ℕ → List Kind → Res Tree) (l : ℕ) (x y : List Kind) (e : Fail) → Instead x y e → Met x y e (r.unary room inner l x) (r.unary room' inner' l y)
+unary_none : (room : Bool) (inner : ℕ → List Kind → Res Tree) (l : ℕ) (x y : List Kind) (e : Fail) → Instead x y e → (r.unary room inner l x ≡ r.prim room inner l x) × (r.unary room inner l y ≡ r.prim room inner l y)
 unfolding r.unary
-at_unary room room' inner inner' zero _ _ _ for_regex = tt
-at_unary room room' inner inner' zero _ _ _ for_folding_regex = tt
-at_unary room room' inner inner' zero _ _ _ for_missing = tt
-at_unary room room' inner inner' zero _ _ _ (for_unit h) = tt
-at_unary room room' inner inner' zero _ _ _ (for_pipe h) = tt
-at_unary room room' inner inner' (suc l) _ _ _ for_regex = tt
-at_unary room room' inner inner' (suc l) _ _ _ for_folding_regex = tt
-at_unary room room' inner inner' (suc l) _ _ _ for_missing = tt
-at_unary room room' inner inner' (suc l) _ _ _ (for_unit h) = tt
-at_unary room room' inner inner' (suc l) _ _ _ (for_pipe h) = tt
+unary_none room inner zero _ _ _ for_regex = (refl, refl)
+unary_none room inner zero _ _ _ for_folding_regex = (refl, refl)
+unary_none room inner zero _ _ _ for_missing = (refl, refl)
+unary_none room inner zero _ _ _ (for_unit h) = (refl, refl)
+unary_none room inner zero _ _ _ (for_pipe h) = (refl, refl)
+unary_none room inner zero _ _ _ (for_number call c b h args) = (refl, refl)
+unary_none room inner (suc l) _ _ _ for_regex = (refl, refl)
+unary_none room inner (suc l) _ _ _ for_folding_regex = (refl, refl)
+unary_none room inner (suc l) _ _ _ for_missing = (refl, refl)
+unary_none room inner (suc l) _ _ _ (for_unit h) = (refl, refl)
+unary_none room inner (suc l) _ _ _ (for_pipe h) = (refl, refl)
+unary_none room inner (suc l) _ _ _ (for_number call c b h args) = (refl, refl)
 
 at_behind_not : (room room' : Bool) (inner inner' : ℕ → List Kind → Res Tree) (a : Tree) (x y : List Kind) (e : Fail) → Instead x y e → Met x y e (r.behind_not room inner a x) (r.behind_not room' inner' a y)
 at_behind_not room room' inner inner' a _ _ _ for_regex = tt
@@ -61,6 +60,7 @@ at_behind_not room room' inner inner' a _ _ _ for_folding_regex = tt
 at_behind_not room room' inner inner' a _ _ _ for_missing = tt
 at_behind_not room room' inner inner' a _ _ _ (for_unit h) = tt
 at_behind_not room room' inner inner' a _ _ _ (for_pipe h) = tt
+at_behind_not room room' inner inner' a _ _ _ (for_number call c b h args) = tt
 
 at_behind_sum : (room room' : Bool) (inner inner' : ℕ → List Kind → Res Tree) (l : ℕ) (a : Tree) (x y : List Kind) (e : Fail) → Instead x y e → Met x y e (r.behind_sum room inner l a x) (r.behind_sum room' inner' l a y)
 at_behind_sum room room' inner inner' l a _ _ _ (for_regex {c = c} {b = b}) =
@@ -70,6 +70,7 @@ at_behind_sum room room' inner inner' l a _ _ _ (for_folding_regex {c = c} {b = 
 at_behind_sum room room' inner inner' l a _ _ _ for_missing = inl ([], refl, refl)
 at_behind_sum room room' inner inner' l a _ _ _ (for_unit h) = inl ([], refl, refl)
 at_behind_sum room room' inner inner' l a _ _ _ (for_pipe h) = inl ([], refl, refl)
+at_behind_sum room room' inner inner' l a _ _ _ (for_number call c b h args) = inl ([], refl, refl)
 
 arguments_some : (room : Bool) (inner : ℕ → List Kind → Res Tree) (l : ℕ) (x y : List Kind) (e : Fail) → Instead x y e → (r.arguments room inner l x ≡ then_do (listed (inner l) x) closing) × (r.arguments room inner l y ≡ then_do (listed (inner l) y) closing)
 arguments_some room inner l _ _ _ for_regex = (refl, refl)
@@ -77,6 +78,7 @@ arguments_some room inner l _ _ _ for_folding_regex = (refl, refl)
 arguments_some room inner l _ _ _ for_missing = (refl, refl)
 arguments_some room inner l _ _ _ (for_unit h) = (refl, refl)
 arguments_some room inner l _ _ _ (for_pipe h) = (refl, refl)
+arguments_some room inner l _ _ _ (for_number call c b h args) = (refl, refl)
 
 name_alone : (room : Bool) (inner : ℕ → List Kind → Res Tree) (l : ℕ) (w : List ℕ) (x y : List Kind) (e : Fail) → Instead x y e → (r.prim room inner l (name w ∷ x) ≡ at_level l (suc (length x)) (res_map field_tree (named false (name w ∷ x)))) × (r.prim room inner l (name w ∷ y) ≡ at_level l (suc (length y)) (res_map field_tree (named false (name w ∷ y))))
 name_alone room inner l w _ _ _ for_regex = (refl, refl)
@@ -84,6 +86,7 @@ name_alone room inner l w _ _ _ for_folding_regex = (refl, refl)
 name_alone room inner l w _ _ _ for_missing = (refl, refl)
 name_alone room inner l w _ _ _ (for_unit h) = (refl, refl)
 name_alone room inner l w _ _ _ (for_pipe h) = (refl, refl)
+name_alone room inner l w _ _ _ (for_number call c b h args) = (refl, refl)
 
 neg_none : (room : Bool) (inner : ℕ → List Kind → Res Tree) (l : ℕ) (x y : List Kind) (e : Fail) → Instead x y e → (r.neg room inner l x ≡ r.pred room inner l x) × (r.neg room inner l y ≡ r.pred room inner l y)
 unfolding r.neg
@@ -92,17 +95,20 @@ neg_none room inner zero _ _ _ for_folding_regex = (refl, refl)
 neg_none room inner zero _ _ _ for_missing = (refl, refl)
 neg_none room inner zero _ _ _ (for_unit h) = (refl, refl)
 neg_none room inner zero _ _ _ (for_pipe h) = (refl, refl)
+neg_none room inner zero _ _ _ (for_number call c b h args) = (refl, refl)
 neg_none room inner (suc l) _ _ _ for_regex = (refl, refl)
 neg_none room inner (suc l) _ _ _ for_folding_regex = (refl, refl)
 neg_none room inner (suc l) _ _ _ for_missing = (refl, refl)
 neg_none room inner (suc l) _ _ _ (for_unit h) = (refl, refl)
 neg_none room inner (suc l) _ _ _ (for_pipe h) = (refl, refl)
+neg_none room inner (suc l) _ _ _ (for_number call c b h args) = (refl, refl)
 
 both_are : {A : Type 0} (x y : List Kind) (e : Fail) (r r' s s' : Res A) → r ≡ r' → s ≡ s' → Met x y e r' s' → Met x y e r s
 both_are x y e r r' s s' h k i = subst (λ v. Met x y e v s) (sym h) (subst (λ v. Met x y e r' v) (sym k) i)
 
 module _ (x y : List Kind) (e : Fail) (st : Instead x y e) (d d' : ℕ) (inner inner' : ℕ → List Kind → Res Tree) (le : d ≤ d') (told : (l : ℕ) (us : List Kind) → Told (inside d) us (inner l us))
-    (agrees : 0 < d → (l : ℕ) (m : List Kind) → Met x y e (inner l (m ++ x)) (inner' l (m ++ y))) where
+    (agrees : 0 < d → (l : ℕ) (m : List Kind) → Met x y e (inner l (m ++ x)) (inner' l (m ++ y)))
+    (first : (l : ℕ) → Met x y e (r.prim (room_for d) inner l x) (r.prim (room_for d') inner' l y)) where
   met_list : 0 < d → (l : ℕ) (m : List Kind) → Met x y e (then_do (listed (inner l) (m ++ x)) closing) (then_do (listed (inner' l) (m ++ y)) closing)
   met_list p l m =
       met_closed x y e st (length (m ++ x)) (listed (inner l) (m ++ x)) (listed (inner' l) (m ++ y)) (short_listed d inner told l (m ++ x))
@@ -165,7 +171,7 @@ module _ (x y : List Kind) (e : Fail) (st : Instead x y e) (d d' : ℕ) (inner i
       (λ p. met_closed x y e st (length (m ++ x)) (inner l (m ++ x)) (inner' l (m ++ y)) (short_inner d inner told l (m ++ x)) (agrees p l m))
 
   met_prim : (l : ℕ) (m : List Kind) → Met x y e (r.prim (room_for d) inner l (m ++ x)) (r.prim (room_for d') inner' l (m ++ y))
-  met_prim l [] = at_prim (room_for d) (room_for d') inner inner' l x y e st
+  met_prim l [] = first l
   met_prim l (null_ ∷ m) = met_leaf l t.null m
   met_prim l (true_ ∷ m) = met_leaf l (t.bool true) m
   met_prim l (false_ ∷ m) = met_leaf l (t.bool false) m
@@ -185,20 +191,25 @@ module _ (x y : List Kind) (e : Fail) (st : Instead x y e) (d d' : ℕ) (inner i
   met_prim l (open_ ∷ m) = met_inside l m
   met_prim l (_ ∷ m) = tt
 
+  met_unary_at : (l : ℕ) → Met x y e (r.unary (room_for d) inner l x) (r.unary (room_for d') inner' l y)
+  met_unary_at l =
+      both_are x y e (r.unary (room_for d) inner l x) (r.prim (room_for d) inner l x) (r.unary (room_for d') inner' l y) (r.prim (room_for d') inner' l y)
+      (unary_none (room_for d) inner l x y e st).0 (unary_none (room_for d') inner' l x y e st).1 (first l)
+
   met_unary : (l : ℕ) (m : List Kind) → Met x y e (r.unary (room_for d) inner l (m ++ x)) (r.unary (room_for d') inner' l (m ++ y))
   unfolding r.unary
-  met_unary zero [] = at_unary (room_for d) (room_for d') inner inner' zero x y e st
+  met_unary zero [] = met_unary_at zero
   met_unary zero (adds Sub ∷ m) = tt
   met_unary zero (k ∷ m) = met_prim zero (k ∷ m)
-  met_unary (suc l) [] = at_unary (room_for d) (room_for d') inner inner' (suc l) x y e st
+  met_unary (suc l) [] = met_unary_at (suc l)
   met_unary (suc l) (adds Sub ∷ m) = met_map x y e st t.neg (r.unary (room_for d) inner l (m ++ x)) (r.unary (room_for d') inner' l (m ++ y)) (met_unary l m)
   met_unary (suc l) (k ∷ m) = met_prim (suc l) (k ∷ m)
 
   met_prod : (l : ℕ) (m : List Kind) → Met x y e (r.prod (room_for d) inner l (m ++ x)) (r.prod (room_for d') inner' l (m ++ y))
-  met_prod = met_chain x y e st d (r.unary (room_for d) inner) (r.unary (room_for d') inner') (told_unary d inner told) met_unary multiplies_of refl refl (refl, refl, refl, refl, refl, refl, refl)
+  met_prod = met_chain x y e st d (r.unary (room_for d) inner) (r.unary (room_for d') inner') (told_unary d inner told) met_unary multiplies_of refl refl (refl, refl, refl, refl, refl, refl, refl, λ w. refl, λ w. refl)
 
   met_sum : (l : ℕ) (m : List Kind) → Met x y e (r.sum (room_for d) inner l (m ++ x)) (r.sum (room_for d') inner' l (m ++ y))
-  met_sum = met_chain x y e st d (r.prod (room_for d) inner) (r.prod (room_for d') inner') (told_prod d inner told) met_prod adds_of refl refl (refl, refl, refl, refl, refl, refl, refl)
+  met_sum = met_chain x y e st d (r.prod (room_for d) inner) (r.prod (room_for d') inner') (told_prod d inner told) met_prod adds_of refl refl (refl, refl, refl, refl, refl, refl, refl, λ w. refl, λ w. refl)
 
   met_behind_not : (a : Tree) (m : List Kind) → Met x y e (r.behind_not (room_for d) inner a (m ++ x)) (r.behind_not (room_for d') inner' a (m ++ y))
   met_behind_not a [] = at_behind_not (room_for d) (room_for d') inner inner' a x y e st
@@ -246,25 +257,25 @@ module _ (x y : List Kind) (e : Fail) (st : Instead x y e) (d d' : ℕ) (inner i
   met_conj l m =
       met_then x y e st (length (m ++ x)) (r.neg (room_for d) inner l (m ++ x)) (r.neg (room_for d') inner' l (m ++ y)) (joined is_and t.and (r.neg (room_for d) inner) l) (joined is_and t.and (r.neg (room_for d') inner') l)
       (short d (m ++ x) (r.neg (room_for d) inner l (m ++ x)) (told_neg d inner told l (m ++ x))) (met_neg l m)
-      (λ a p b. met_joined x y e st d (r.neg (room_for d) inner) (r.neg (room_for d') inner') (told_neg d inner told) met_neg is_and t.and refl refl (refl, refl, refl, refl, refl, refl, refl) l a p)
+      (λ a p b. met_joined x y e st d (r.neg (room_for d) inner) (r.neg (room_for d') inner') (told_neg d inner told) met_neg is_and t.and refl refl (refl, refl, refl, refl, refl, refl, refl, λ w. refl, λ w. refl) l a p)
       (λ a us. short d us (joined is_and t.and (r.neg (room_for d) inner) l a us) (told_joined d is_and t.and (r.neg (room_for d) inner) l a us refl refl (told_neg d inner told)))
 
   met_level : (l : ℕ) (m : List Kind) → Met x y e (r.level (room_for d) inner l (m ++ x)) (r.level (room_for d') inner' l (m ++ y))
   met_level l m =
       met_then x y e st (length (m ++ x)) (r.conj (room_for d) inner l (m ++ x)) (r.conj (room_for d') inner' l (m ++ y)) (joined is_or t.or (r.conj (room_for d) inner) l) (joined is_or t.or (r.conj (room_for d') inner') l)
       (short d (m ++ x) (r.conj (room_for d) inner l (m ++ x)) (told_conj d inner told l (m ++ x))) (met_conj l m)
-      (λ a p b. met_joined x y e st d (r.conj (room_for d) inner) (r.conj (room_for d') inner') (told_conj d inner told) met_conj is_or t.or refl refl (refl, refl, refl, refl, refl, refl, refl) l a p)
+      (λ a p b. met_joined x y e st d (r.conj (room_for d) inner) (r.conj (room_for d') inner') (told_conj d inner told) met_conj is_or t.or refl refl (refl, refl, refl, refl, refl, refl, refl, λ w. refl, λ w. refl) l a p)
       (λ a us. short d us (joined is_or t.or (r.conj (room_for d) inner) l a us) (told_joined d is_or t.or (r.conj (room_for d) inner) l a us refl refl (told_conj d inner told)))
 
 -- with as many parentheses allowed in the second run, or more
 pub expr_met : (x y : List Kind) (e : Fail) → Instead x y e → (d d' l : ℕ) (m : List Kind) → d ≤ d' → Met x y e (expr d l (m ++ x)) (expr d' l (m ++ y))
 unfolding expr
 expr_met x y e st zero zero l m le =
-    met_level x y e st zero zero (λ _ us. Err (Syntax (length us))) (λ _ us. Err (Syntax (length us))) le (λ k us. omega arith)
-    (λ p. absurd (omega (arith, p))) l m
+    met_level x y e st zero zero (λ _ us. Err (Syntax (length us))) (λ _ us. Err (Syntax (length us))) le (λ k us. upto_here zero us)
+    (λ p. absurd (omega (arith, p))) (λ k. shut_first false (λ _ us. Err (Syntax (length us))) (λ _ us. Err (Syntax (length us))) k x y e st) l m
 expr_met x y e st zero (suc d') l m le =
-    met_level x y e st zero (suc d') (λ _ us. Err (Syntax (length us))) (expr d') le (λ k us. omega arith)
-    (λ p. absurd (omega (arith, p))) l m
+    met_level x y e st zero (suc d') (λ _ us. Err (Syntax (length us))) (expr d') le (λ k us. upto_here zero us)
+    (λ p. absurd (omega (arith, p))) (λ k. shut_first true (λ _ us. Err (Syntax (length us))) (expr d') k x y e st) l m
 expr_met x y e st (suc d) zero l m le = absurd (omega (arith, le))
 expr_met x y e st (suc d) (suc d') l m le =
-    met_level x y e st (suc d) (suc d') (expr d) (expr d') le (expr_told d) (λ p k q. expr_met x y e st d d' k q (omega (arith, le))) l m
+    met_level x y e st (suc d) (suc d') (expr d) (expr d') le (expr_told d) (λ p k q. expr_met x y e st d d' k q (omega (arith, le))) (λ k. open_first d d' k (omega (arith, le)) x y e st) l m

@@ -10,7 +10,7 @@ use Rattle.eql_parser.specs.declared.query.PipeText.{PipeText}
 use Rattle.eql_parser.specs.Tree.{Tree}
 use Rattle.eql_parser.specs.Tree as t
 use Rattle.eql_parser.specs.QueryTree.{TermTree, BodyTree, event, sequence, QueryTree}
-use Rattle.eql_parser.specs.Kinds.{Kind, any_, assign_, bang_, bar_, by_, close_item_, join_, matches, null_, sample_, sequence_, until_, where_, with_, name, number, open_item_}
+use Rattle.eql_parser.specs.Kinds.{Kind, any_, assign_, bang_, bar_, by_, close_item_, join_, matches, null_, sample_, sequence_, until_, where_, with_, name, folding, number, open_item_}
 use Rattle.eql_parser.specs.QueryGrammar.{category, is_fine_unit, pipe_of, unit_of}
 use Rattle.eql_parser.specs.declared.expr.PatOp.TheVariants.{Colon}
 use Rattle.eql_parser.specs.Reading.{Fail, Syntax, LeftOut, TooDeep, Res, then_do, res_map, field, expr, chain_from, unary, neg}
@@ -21,7 +21,7 @@ use Rattle.eql_parser.proofs.ToldExpr.{expr_told}
 use Rattle.eql_parser.proofs.Agrees.{short_map, longer}
 use Rattle.eql_parser.proofs.AgreesExpr.{expr_agrees}
 use Rattle.eql_parser.proofs.Local.{Left, left_item, short_pipe, short_pipes}
-use Rattle.eql_parser.proofs.Meeting.{Instead, for_regex, for_folding_regex, for_missing, for_unit, for_pipe, x_full, y_full, Met, met_so, met_then, met_map, met_if, stays, met_field, met_listed}
+use Rattle.eql_parser.proofs.Meeting.{Instead, for_regex, for_folding_regex, for_missing, for_unit, for_pipe, for_number, x_full, y_full, Met, met_so, met_then, met_map, met_if, stays, met_field, met_listed}
 use Rattle.eql_parser.proofs.MeetingExpr.{expr_met}
 
 -- nothing of a query but pipes may follow, and no pipe does
@@ -105,7 +105,7 @@ if_not x y e false r s f h = tt
 if_not x y e true r s f h = absurd cc
 
 abbrev Unasked : (Kind → Bool) → Type 0
-Unasked is = (is (matches Colon) ≡ false) × (is open_item_ ≡ false) × (is assign_ ≡ false) × (is bar_ ≡ false)
+Unasked is = (is (matches Colon) ≡ false) × (is open_item_ ≡ false) × (is assign_ ≡ false) × (is bar_ ≡ false) × ((w : List ℕ) → is (folding w) ≡ false)
 
 at_expected : {A : Type 0} (is : Kind → Bool) → Unasked is → (go go' : List Kind → Res A) (x y : List Kind) (e : Fail) → Instead x y e → Met x y e (expected is go x) (expected is go' y)
 at_expected is z go go' _ _ _ for_regex = if_not _ _ _ _ (go _) _ _ z.0
@@ -113,6 +113,7 @@ at_expected is z go go' _ _ _ for_folding_regex = if_not _ _ _ _ (go _) _ _ z.0
 at_expected is z go go' _ _ _ for_missing = if_not _ _ _ _ (go _) _ _ z.1
 at_expected is z go go' _ _ _ (for_unit h) = if_not _ _ _ _ (go _) _ _ z.2
 at_expected is z go go' _ _ _ (for_pipe h) = if_not _ _ _ _ (go _) _ _ z.3
+at_expected is z go go' _ _ _ (for_number {w = w} call c b h args) = if_not _ _ _ _ (go _) _ _ (z.4 w)
 
 at_number : (x y : List Kind) (e : Fail) → Instead x y e → Met x y e (number_at x) (number_at y)
 at_number _ _ _ for_regex = tt
@@ -120,6 +121,7 @@ at_number _ _ _ for_folding_regex = tt
 at_number _ _ _ for_missing = tt
 at_number _ _ _ (for_unit h) = tt
 at_number _ _ _ (for_pipe h) = tt
+at_number _ _ _ (for_number call c b h args) = tt
 
 at_unit : (n : ℤ) (x y : List Kind) (e : Fail) → Instead x y e → Met x y e (unit_at n x) (unit_at n y)
 at_unit n _ _ _ for_regex = tt
@@ -127,6 +129,7 @@ at_unit n _ _ _ for_folding_regex = tt
 at_unit n _ _ _ for_missing = tt
 at_unit n _ _ _ (for_unit h) = tt
 at_unit n _ _ _ (for_pipe h) = tt
+at_unit n _ _ _ (for_number call c b h args) = tt
 
 at_keys : (x y : List Kind) (e : Fail) → Instead x y e → Met x y e (q.keys x) (q.keys y)
 at_keys _ _ _ for_regex = inl ([], refl, refl)
@@ -134,6 +137,7 @@ at_keys _ _ _ for_folding_regex = inl ([], refl, refl)
 at_keys _ _ _ for_missing = inl ([], refl, refl)
 at_keys _ _ _ (for_unit h) = inl ([], refl, refl)
 at_keys _ _ _ (for_pipe h) = inl ([], refl, refl)
+at_keys _ _ _ (for_number call c b h args) = inl ([], refl, refl)
 
 at_runs : (x y : List Kind) (e : Fail) → Instead x y e → Meets x y e (q.runs x) (q.runs y)
 at_runs _ _ _ for_regex = inl ([], refl, refl)
@@ -141,6 +145,7 @@ at_runs _ _ _ for_folding_regex = inl ([], refl, refl)
 at_runs _ _ _ for_missing = inl ([], refl, refl)
 at_runs _ _ _ (for_unit h) = inl ([], refl, refl)
 at_runs _ _ _ (for_pipe h) = inl ([], refl, refl)
+at_runs _ _ _ (for_number call c b h args) = inl ([], refl, refl)
 
 -- behind `with runs` a number of runs is read where a length could be
 at_assigned : (x y : List Kind) (e : Fail) → Instead x y e → Meets x y e (expected is_assign number_at x) (expected is_assign number_at y)
@@ -149,6 +154,7 @@ at_assigned _ _ _ for_folding_regex = tt
 at_assigned _ _ _ for_missing = tt
 at_assigned _ _ _ (for_unit h) = inr (inr tt)
 at_assigned _ _ _ (for_pipe h) = tt
+at_assigned _ _ _ (for_number call c b h args) = tt
 
 abbrev length_at : List Kind → Res (Option Span)
 length_at us = then_do (number_at us) unit_at
@@ -160,6 +166,7 @@ at_length _ _ _ for_missing = tt
 at_length _ _ _ (for_unit {c = c} {b = b} {n = n} {w = w} h) =
     met_so (assign_ ∷ number n ∷ name (codes "s") ∷ c) (assign_ ∷ number n ∷ name w ∷ b) (LeftOut w (suc (length b))) (unit_named n (codes "s") (unit_of (codes "s")) c) (unit_named n w (unit_of w) b) (left_out_unit n w b h)
 at_length _ _ _ (for_pipe h) = tt
+at_length _ _ _ (for_number call c b h args) = tt
 
 at_span : (x y : List Kind) (e : Fail) → Instead x y e → Met x y e (q.span x) (q.span y)
 at_span _ _ _ for_regex = inl ([], refl, refl)
@@ -167,6 +174,7 @@ at_span _ _ _ for_folding_regex = inl ([], refl, refl)
 at_span _ _ _ for_missing = inl ([], refl, refl)
 at_span _ _ _ (for_unit h) = inl ([], refl, refl)
 at_span _ _ _ (for_pipe h) = inl ([], refl, refl)
+at_span _ _ _ (for_number call c b h args) = inl ([], refl, refl)
 
 at_pipe : (x y : List Kind) (e : Fail) → Instead x y e → Met x y e (q.pipe x) (q.pipe y)
 at_pipe _ _ _ for_regex = tt
@@ -174,6 +182,7 @@ at_pipe _ _ _ for_folding_regex = tt
 at_pipe _ _ _ for_missing = tt
 at_pipe _ _ _ (for_unit h) = tt
 at_pipe _ _ _ (for_pipe h) = tt
+at_pipe _ _ _ (for_number call c b h args) = tt
 
 stop_pipe : (n : ℕ) (w : List ℕ) (b : List Kind) → pipe_of w ≡ None → q.pipes (suc n) (bar_ ∷ name w ∷ b) ≡ Err (LeftOut w (suc (length b)))
 unfolding q.pipes
@@ -187,12 +196,14 @@ at_pipes zero (suc n') _ _ _ for_folding_regex i = tt
 at_pipes zero (suc n') _ _ _ for_missing i = tt
 at_pipes zero (suc n') _ _ _ (for_unit h) i = tt
 at_pipes zero (suc n') _ _ _ (for_pipe h) i = tt
+at_pipes zero (suc n') _ _ _ (for_number call c b h args) i = tt
 at_pipes (suc n) (suc n') _ _ _ for_regex i = tt
 at_pipes (suc n) (suc n') _ _ _ for_folding_regex i = tt
 at_pipes (suc n) (suc n') _ _ _ for_missing i = tt
 at_pipes (suc n) (suc n') _ _ _ (for_unit h) i = tt
 at_pipes (suc n) (suc n') _ _ _ (for_pipe {c = c} {b = b} {w = w} h) i =
     met_so (bar_ ∷ name (codes "head") ∷ c) (bar_ ∷ name w ∷ b) (LeftOut w (suc (length b))) (q.pipes (suc n) (bar_ ∷ name (codes "head") ∷ c)) (q.pipes (suc n') (bar_ ∷ name w ∷ b)) (stop_pipe n' w b h)
+at_pipes (suc n) (suc n') _ _ _ (for_number call c b h args) i = tt
 
 at_items_more : (again again' : List Kind → Res (List TermTree)) (i : TermTree) (x y : List Kind) (e : Fail) → Instead x y e → Meets x y e (items_more again i x) (items_more again' i y)
 at_items_more again again' i _ _ _ for_regex = inl ([], refl, refl)
@@ -201,6 +212,7 @@ at_items_more again again' i _ _ _ (for_missing {c = c} {b = b}) =
     meets_stop (open_item_ ∷ any_ ∷ where_ ∷ null_ ∷ close_item_ ∷ with_ ∷ c) (bang_ ∷ open_item_ ∷ b) (LeftOut (codes "!") (suc (suc (length b)))) (items_more again i (open_item_ ∷ any_ ∷ where_ ∷ null_ ∷ close_item_ ∷ with_ ∷ c)) (items_more again' i (bang_ ∷ open_item_ ∷ b)) refl
 at_items_more again again' i _ _ _ (for_unit h) = inl ([], refl, refl)
 at_items_more again again' i _ _ _ (for_pipe h) = inl ([], refl, refl)
+at_items_more again again' i _ _ _ (for_number call c b h args) = inl ([], refl, refl)
 
 at_bang : (again again' : List Kind → Res (List TermTree)) (i : TermTree) (x y : List Kind) (e : Fail) → Instead x y e → Meets x y e (items_more again i (bang_ ∷ x)) (items_more again' i (bang_ ∷ y))
 at_bang again again' i _ _ _ for_regex = inl (bang_ ∷ [], refl, refl)
@@ -208,6 +220,7 @@ at_bang again again' i _ _ _ for_folding_regex = inl (bang_ ∷ [], refl, refl)
 at_bang again again' i _ _ _ for_missing = tt
 at_bang again again' i _ _ _ (for_unit h) = inl (bang_ ∷ [], refl, refl)
 at_bang again again' i _ _ _ (for_pipe h) = inl (bang_ ∷ [], refl, refl)
+at_bang again again' i _ _ _ (for_number call c b h args) = inl (bang_ ∷ [], refl, refl)
 
 -- what is stuck stays so, up to the pipes
 stuck_more : (x y : List Kind) (e : Fail) (again : List Kind → Res (List TermTree)) (i : TermTree) (us : List Kind) (t : Res (List TermTree)) → Stuck us → Meets x y e (items_more again i us) t
@@ -252,14 +265,14 @@ module _ (x y : List Kind) (e : Fail) (st : Instead x y e) where
   meets_runs [] = at_runs x y e st
   meets_runs (with_ ∷ m) =
       meets_expected is_runs (expected is_assign number_at) (expected is_assign number_at) m
-      (meets x y e (expected is_runs (expected is_assign number_at) x) (expected is_runs (expected is_assign number_at) y) (at_expected is_runs (refl, refl, refl, refl) (expected is_assign number_at) (expected is_assign number_at) x y e st))
+      (meets x y e (expected is_runs (expected is_assign number_at) x) (expected is_runs (expected is_assign number_at) y) (at_expected is_runs (refl, refl, refl, refl, λ w. refl) (expected is_assign number_at) (expected is_assign number_at) x y e st))
       (λ p. meets_expected is_assign number_at number_at p (at_assigned x y e st) (λ r. meets x y e (number_at (r ++ x)) (number_at (r ++ y)) (met_number r)))
   meets_runs (k ∷ m) = inl (k ∷ m, refl, refl)
 
   met_behind_term : (c : Conditioned) (m : List Kind) → Met x y e (behind_term c (m ++ x)) (behind_term c (m ++ y))
   met_behind_term c m =
       met_expected is_close_item (λ us. res_map (λ fs. (c, fs)) (q.keys us)) (λ us. res_map (λ fs. (c, fs)) (q.keys us)) m
-      (at_expected is_close_item (refl, refl, refl, refl) (λ us. res_map (λ fs. (c, fs)) (q.keys us)) (λ us. res_map (λ fs. (c, fs)) (q.keys us)) x y e st)
+      (at_expected is_close_item (refl, refl, refl, refl, λ w. refl) (λ us. res_map (λ fs. (c, fs)) (q.keys us)) (λ us. res_map (λ fs. (c, fs)) (q.keys us)) x y e st)
       (λ p. met_map x y e st (λ fs. (c, fs)) (q.keys (p ++ x)) (q.keys (p ++ y)) (met_keys p))
 
   met_unit_named : (n : ℤ) (w : List ℕ) (u : Option TimeUnit) (m : List Kind) → Met x y e (unit_named n w u (m ++ x)) (unit_named n w u (m ++ y))
@@ -278,7 +291,7 @@ module _ (x y : List Kind) (e : Fail) (st : Instead x y e) where
   met_span [] = at_span x y e st
   met_span (with_ ∷ m) =
       met_expected is_maxspan (expected is_assign length_at) (expected is_assign length_at) m
-      (at_expected is_maxspan (refl, refl, refl, refl) (expected is_assign length_at) (expected is_assign length_at) x y e st)
+      (at_expected is_maxspan (refl, refl, refl, refl, λ w. refl) (expected is_assign length_at) (expected is_assign length_at) x y e st)
       (λ p. met_expected is_assign length_at length_at p (at_length x y e st) met_length)
   met_span (k ∷ m) = stays x y e st {A = Option Span} None (k ∷ m)
 
@@ -329,6 +342,7 @@ at_bracketed d d' l _ _ _ for_folding_regex = tt
 at_bracketed d d' l _ _ _ (for_missing {c = c} {b = b}) = null_stuck d l (open_item_ ∷ any_ ∷ where_ ∷ null_ ∷ close_item_ ∷ with_ ∷ c) (bang_ ∷ open_item_ ∷ b) (LeftOut (codes "!") (suc (suc (length b)))) c (q.bracketed (expr d' l) (bang_ ∷ open_item_ ∷ b))
 at_bracketed d d' l _ _ _ (for_unit h) = tt
 at_bracketed d d' l _ _ _ (for_pipe h) = tt
+at_bracketed d d' l _ _ _ (for_number call c b h args) = tt
 
 at_term : (d d' l : ℕ) (x y : List Kind) (e : Fail) → Instead x y e → Met x y e (q.term (expr d l) x) (q.term (expr d' l) y)
 at_term d d' l _ _ _ for_regex = tt
@@ -336,6 +350,7 @@ at_term d d' l _ _ _ for_folding_regex = tt
 at_term d d' l _ _ _ (for_missing {c = c} {b = b}) = tt
 at_term d d' l _ _ _ (for_unit h) = tt
 at_term d d' l _ _ _ (for_pipe h) = tt
+at_term d d' l _ _ _ (for_number call c b h args) = tt
 
 at_item : (d d' l : ℕ) (x y : List Kind) (e : Fail) → Instead x y e → Meets x y e (q.item (expr d l) x) (q.item (expr d' l) y)
 at_item d d' l _ _ _ for_regex = tt
@@ -343,6 +358,7 @@ at_item d d' l _ _ _ for_folding_regex = tt
 at_item d d' l _ _ _ (for_missing {c = c} {b = b}) = meets_stop (open_item_ ∷ any_ ∷ where_ ∷ null_ ∷ close_item_ ∷ with_ ∷ c) (bang_ ∷ open_item_ ∷ b) (LeftOut (codes "!") (suc (suc (length b)))) (q.item (expr d l) (open_item_ ∷ any_ ∷ where_ ∷ null_ ∷ close_item_ ∷ with_ ∷ c)) (q.item (expr d' l) (bang_ ∷ open_item_ ∷ b)) refl
 at_item d d' l _ _ _ (for_unit h) = tt
 at_item d d' l _ _ _ (for_pipe h) = tt
+at_item d d' l _ _ _ (for_number call c b h args) = tt
 
 at_items : (n n' : ℕ) (d d' l : ℕ) (x y : List Kind) (e : Fail) → Instead x y e → Meets x y e (q.items (expr d l) (suc n) x) (q.items (expr d' l) (suc n') y)
 unfolding q.items
@@ -351,6 +367,7 @@ at_items n n' d d' l _ _ _ for_folding_regex = tt
 at_items n n' d d' l _ _ _ (for_missing {c = c} {b = b}) = meets_stop (open_item_ ∷ any_ ∷ where_ ∷ null_ ∷ close_item_ ∷ with_ ∷ c) (bang_ ∷ open_item_ ∷ b) (LeftOut (codes "!") (suc (suc (length b)))) (q.items (expr d l) (suc n) (open_item_ ∷ any_ ∷ where_ ∷ null_ ∷ close_item_ ∷ with_ ∷ c)) (q.items (expr d' l) (suc n') (bang_ ∷ open_item_ ∷ b)) refl
 at_items n n' d d' l _ _ _ (for_unit h) = tt
 at_items n n' d d' l _ _ _ (for_pipe h) = tt
+at_items n n' d d' l _ _ _ (for_number call c b h args) = tt
 
 at_until : (d d' l : ℕ) (x y : List Kind) (e : Fail) → Instead x y e → Meets x y e (q.until (expr d l) x) (q.until (expr d' l) y)
 at_until d d' l _ _ _ for_regex = inl ([], refl, refl)
@@ -358,6 +375,7 @@ at_until d d' l _ _ _ for_folding_regex = inl ([], refl, refl)
 at_until d d' l _ _ _ (for_missing {c = c} {b = b}) = inl ([], refl, refl)
 at_until d d' l _ _ _ (for_unit h) = inl ([], refl, refl)
 at_until d d' l _ _ _ (for_pipe h) = inl ([], refl, refl)
+at_until d d' l _ _ _ (for_number call c b h args) = inl ([], refl, refl)
 
 at_query : (d d' l : ℕ) (x y : List Kind) (e : Fail) → Instead x y e → Meets x y e (q.query_by (expr d l) x) (q.query_by (expr d' l) y)
 at_query d d' l _ _ _ for_regex = tt
@@ -365,13 +383,14 @@ at_query d d' l _ _ _ for_folding_regex = tt
 at_query d d' l _ _ _ (for_missing {c = c} {b = b}) = tt
 at_query d d' l _ _ _ (for_unit h) = tt
 at_query d d' l _ _ _ (for_pipe h) = tt
+at_query d d' l _ _ _ (for_number call c b h args) = tt
 
 module _ (x y : List Kind) (e : Fail) (st : Instead x y e) (d d' l : ℕ) (le : d ≤ d') where
   met_term_of : (c : Option (Option (List ℕ))) (m : List Kind) → Met x y e (q.term_of (expr d l) c (m ++ x)) (q.term_of (expr d' l) c (m ++ y))
   met_term_of None m = tt
   met_term_of (Some c) m =
       met_expected x y e st is_where (λ us. res_map (λ t. (c, t)) ((expr d l) us)) (λ us. res_map (λ t. (c, t)) ((expr d' l) us)) m
-      (at_expected is_where (refl, refl, refl, refl) (λ us. res_map (λ t. (c, t)) ((expr d l) us)) (λ us. res_map (λ t. (c, t)) ((expr d' l) us)) x y e st)
+      (at_expected is_where (refl, refl, refl, refl, λ w. refl) (λ us. res_map (λ t. (c, t)) ((expr d l) us)) (λ us. res_map (λ t. (c, t)) ((expr d' l) us)) x y e st)
       (λ p. met_map x y e st (λ t. (c, t)) ((expr d l) (p ++ x)) ((expr d' l) (p ++ y)) (expr_met x y e st d d' l p le))
 
   met_term : (m : List Kind) → Met x y e (q.term (expr d l) (m ++ x)) (q.term (expr d' l) (m ++ y))

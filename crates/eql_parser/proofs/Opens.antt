@@ -30,6 +30,10 @@ OpenTo most n (_ ∷ ts) = OpenTo most n ts
 abbrev pub Calm : ℕ → List Kind → Type 0
 Calm d m = (o : ℕ) → (open_behind o m ≡ o) × ((most : ℕ) → o + d ≤ most → OpenTo most o m)
 
+-- whatever stands open before these tokens, nowhere in them do more than d stand open beside
+abbrev pub Under : ℕ → List Kind → Type 0
+Under d m = (o most : ℕ) → o + d ≤ most → OpenTo most o m
+
 pub open_behind_both : (o : ℕ) (m more : List Kind) → open_behind o (m ++ more) ≡ open_behind (open_behind o m) more
 open_behind_both o [] more = refl
 open_behind_both o (open_ ∷ m) more = open_behind_both (suc o) m more
@@ -81,3 +85,15 @@ calm_inside d m c = λ o. (
         (subst (λ n. OpenTo most n (close_ ∷ [])) (sym (c (suc o)).0) (omega (arith, i), omega (arith, i))),
   ),
 )
+
+pub under_none : (d : ℕ) → Under d []
+under_none d = λ o most h. omega (arith, h)
+
+pub under_calm : (d : ℕ) (m : List Kind) → Calm d m → Under d m
+under_calm d m c = λ o most h. (c o).1 most h
+
+pub under_behind : (d : ℕ) (m more : List Kind) → Calm d m → Under d more → Under d (m ++ more)
+under_behind d m more c u = λ o most h. open_to_both most o m more ((c o).1 most h) (subst (λ n. OpenTo most n more) (sym (c o).0) (u o most h))
+
+pub under_inside : (d : ℕ) (m : List Kind) → Under d m → Under (suc d) (open_ ∷ m)
+under_inside d m u = λ o most h. (omega (arith, h), u (suc o) most (omega (arith, h)))

@@ -1,5 +1,6 @@
 -- Worked examples of causes: where texts can't go on, computed.
 use Rattle.std.proofs.Common.{ℕ, List, [], ◌∷◌, refl, codes}
+use Rattle.std.specs.Prelude.{pos}
 use Rattle.eql_lexer.specs.declared.token.Sign.TheVariants as sign
 use Rattle.eql_lexer.specs.declared.token.Tok.{Tok}
 use Rattle.eql_lexer.specs.declared.token.Tok.TheVariants as tok
@@ -42,3 +43,14 @@ matched = when_a (placed (tok.Word (codes "regex")) 12 17 ∷ placed (tok.Str (c
 regex_left_out : IsLeftOutAt matched (codes "regex") 12
 unfolding lib.Utf8.encode separated dotted chain_from unary neg expr pipes
 regex_left_out = cause matched (LeftOut (codes "regex") 2) refl
+
+-- any where number("1", 2)
+abbrev based : List Token
+based =
+    placed (tok.Word (codes "any")) 0 3 ∷ placed (tok.Word (codes "where")) 4 9 ∷ placed (tok.Word (codes "number")) 10 16 ∷ placed (tok.Sign sign.Open) 16 17
+    ∷ placed (tok.Str (codes "1")) 17 20 ∷ placed (tok.Sign sign.Comma) 20 21 ∷ placed (tok.Num (pos 2)) 22 23 ∷ placed (tok.Sign sign.Close) 23 24 ∷ []
+
+-- its folding form could stand there
+base_left_out : IsLeftOutAt based (codes "number") 10
+unfolding lib.Utf8.encode separated dotted chain_from unary neg expr pipes
+base_left_out = cause based (LeftOut (codes "number") 6) refl

@@ -69,12 +69,12 @@ split_through : {tokens : List Token} {at : ℕ} (s : Split tokens at) → kinds
 split_through s = ap kinds s.whole ∙ kinds_both s.before (s.here ∷ s.behind) ∙ sym (append_assoc (kinds s.before) (kinds (s.here ∷ [])) (kinds s.behind))
 
 not_syntax : (tokens : List Token) (at : ℕ) (q : QueryTree) → IsQuery tokens q → IsPlainSyntax tokens at → ⊥
-not_syntax tokens at q read (inl (s, b, none, other)) = none (kinds s.behind) q (subst (λ l. Reads l q) (split_through s) read)
-not_syntax tokens at q read (inr (e, b, none)) = none q read
+not_syntax tokens at q read (inl (s, b, none, few), other) = none (kinds s.behind) q (subst (λ l. Reads l q) (split_through s) read)
+not_syntax tokens at q read (inr (e, b, none, few), other) = none q read
 
 not_too_deep : (tokens : List Token) (at : ℕ) (q : QueryTree) → IsQuery tokens q → levels q ≤ 64 → OpensAtMost 128 tokens → IsTooDeep tokens at → ⊥
-not_too_deep tokens at q read few calm (s, b, inl over) = omega (arith, over, calm (through s) (kinds s.behind) (split_through s))
-not_too_deep tokens at q read few calm (s, b, inr deep) = omega (arith, few, deep (kinds s.behind) q (subst (λ l. Reads l q) (split_through s) read))
+not_too_deep tokens at q read few calm (s, b, below, inl over) = omega (arith, over, calm (through s) (kinds s.behind) (split_through s))
+not_too_deep tokens at q read few calm (s, b, below, inr deep) = omega (arith, few, deep (kinds s.behind) q (subst (λ l. Reads l q) (split_through s) read))
 
 -- For a query within the limits nothing but want of memory has a cause.
 pub memory_alone : (tokens : List Token) (q : QueryTree) (refusal : ParseRefused) → IsQuery tokens q → levels q ≤ 64 → OpensAtMost 128 tokens → Refused tokens refusal → IsMemory refusal

@@ -165,11 +165,11 @@ complete_arguments es = (
 )
 
 -- a call of `number` with two arguments
-number_left_out : (w : List ℕ) (before ts us : List Kind) (es : Trees) → IsArguments ts es us → is_left_out_call w es ≡ true
-    → IsLeftOut before (name w ∷ open_ ∷ ts) (codes "number") (name w ∷ open_ ∷ [])
-number_left_out w before ts us (more a (more b none)) h e = number_with_base e h
-number_left_out w before ts us none h e = absurd cc
-number_left_out w before ts us _ h e = absurd cc
+number_left_out : (w : List ℕ) (before call us : List Kind) (es : Trees) → ((others : List Kind) → IsArguments (call ++ others) es others) → is_left_out_call w es ≡ true
+    → IsLeftOut before (name w ∷ open_ ∷ (call ++ us)) (codes "number") (folding w ∷ open_ ∷ call)
+number_left_out w before call us (more a (more b none)) h e = number_with_base call us e h
+number_left_out w before call us none h e = absurd cc
+number_left_out w before call us _ h e = absurd cc
 
 a_call : (w : List ℕ) → Starts IsPrim (name w ∷ open_ ∷ [])
 a_call w = (t.call w false none, close_ ∷ [], λ rest. is_call no_arguments refl)
@@ -181,8 +181,8 @@ tells_call_of : (w : List ℕ) (ts : List Kind) (es : List Tree) (front us : Lis
     → Tells IsPrim (name w ∷ open_ ∷ ts) (call_of w (suc (suc (length ts))) es us)
 tells_call_of w ts es front us e h =
     tells_if IsPrim IsPrim (name w ∷ open_ ∷ ts) (is_left_out_call w (trees_of es)) (Err (LeftOut (codes "number") (suc (suc (length ts))))) (Ok (t.call w false (trees_of es), us))
-    (λ b. stop_left_out IsPrim [] (name w ∷ open_ ∷ ts) (codes "number") (name w ∷ open_ ∷ []) (a_call w)
-    (λ before. number_left_out w (before ++ []) ts us (trees_of es) (subst (λ l. AreArguments l es us) (sym e) (h us)) b))
+    (λ b. stop_left_out IsPrim [] (name w ∷ open_ ∷ ts) (codes "number") (folding w ∷ open_ ∷ front) (t.call w true (trees_of es), [], λ rest. is_folding_call (h rest))
+    (λ before. subst (λ l. IsLeftOut (before ++ []) (name w ∷ open_ ∷ l) (codes "number") (folding w ∷ open_ ∷ front)) (sym e) (number_left_out w (before ++ []) front us (trees_of es) h b)))
     (λ b. (name w ∷ open_ ∷ front, ap (λ l. name w ∷ open_ ∷ l) e, λ rest. is_call (h rest) b))
 
 tells_call : (w : List ℕ) (ts : List Kind) (s : Res (List Tree)) → TellsOf AreArguments AreMore ts s → Tells IsPrim (name w ∷ open_ ∷ ts) (then_do s (call_of w (suc (suc (length ts)))))

@@ -11,16 +11,36 @@ use Rattle.eql_parser.specs.Kinds.{Kind, false_, true_, name, text, number, open
 use Rattle.eql_parser.specs.Grammar.{first_part, part, is_left_out_call}
 use Rattle.eql_parser.specs.Limits.{depth, open_behind}
 use Rattle.eql_parser.specs.Reading.{Fail, Syntax, LeftOut, TooDeep, TooOpen, Res, then_do, res_map, closing, is_comma, more_of, separated, listed, dotted_part, behind_dot, dotted, named_by, named, field, text_at, negative_at, literal, at_level, above, chain_on, chain_from, chain, joined, call_of}
-use Rattle.eql_parser.proofs.Opens.{Plain, plain_true, plain_some, Calm, calm_none, calm_both, calm_plain, calm_inside, open_behind_both}
+use Rattle.eql_parser.proofs.Opens.{Plain, plain_true, plain_some, Under, Calm, calm_none, calm_both, calm_plain, calm_inside, open_behind_both, under_none, under_calm, under_behind, under_inside}
 
 -- behind a front of the tokens, in which d parentheses stay open, another one opens
 abbrev pub TooOpenIn : ℕ → List Kind → ℕ → Type 0
-TooOpenIn d ts n = (front : List Kind) × (behind : List Kind) × (ts ≡ front ++ open_ ∷ behind) × (suc (length behind) ≡ n) × ((o : ℕ) → open_behind o front ≡ o + d)
+TooOpenIn d ts n = (front : List Kind) × (behind : List Kind) × (ts ≡ front ++ open_ ∷ behind) × (suc (length behind) ≡ n) × ((o : ℕ) → open_behind o front ≡ o + d) × Under d front
+
+-- up to where n tokens are left, nowhere more than d parentheses stand open
+abbrev pub Upto : ℕ → List Kind → ℕ → Type 0
+Upto d ts n = (front : List Kind) × (behind : List Kind) × (ts ≡ front ++ behind) × (length behind ≡ n) × Under d front
+
+pub upto_here : (d : ℕ) (ts : List Kind) → Upto d ts (length ts)
+upto_here d ts = ([], ts, refl, refl, under_none d)
+
+pub upto_behind : (d : ℕ) (k : Kind) (ts : List Kind) → Plain k → Upto d (k ∷ ts) (length ts)
+upto_behind d k ts p = (k ∷ [], ts, refl, refl, under_calm d (k ∷ []) (calm_plain d k [] p (calm_none d)))
+
+upto_more : (d : ℕ) (m ts : List Kind) (n : ℕ) → Calm d m → Upto d ts n → Upto d (m ++ ts) n
+upto_more d m ts n c h = (m ++ h.0, h.1, ap (λ l. m ++ l) h.2 ∙ sym (append_assoc m h.0 h.1), h.3, under_behind d m h.0 c h.4)
+
+upto_inside : (d : ℕ) (ts : List Kind) (n : ℕ) → Upto d ts n → Upto (suc d) (open_ ∷ ts) n
+upto_inside d ts n h = (open_ ∷ h.0, h.1, ap (λ l. open_ ∷ l) h.2, h.3, under_inside d h.0 h.4)
+
+-- no more tokens are left than were given
+pub upto_within : (d : ℕ) (ts : List Kind) (n : ℕ) → Upto d ts n → n ≤ length ts
+upto_within d ts n h = omega (arith, ap length h.2, length-append h.0 h.1, h.3)
 
 abbrev pub Because : ℕ → List Kind → Fail → Type 0
-Because d ts (Syntax n) = n ≤ length ts
-Because d ts (LeftOut w n) = (0 < n) × (n ≤ length ts)
-Because d ts (TooDeep n) = (0 < n) × (n ≤ length ts)
+Because d ts (Syntax n) = Upto d ts n
+Because d ts (LeftOut w n) = (0 < n) × Upto d ts n
+Because d ts (TooDeep n) = (0 < n) × Upto d ts n
 Because d ts (TooOpen n) = TooOpenIn d ts n
 
 -- what an answer says of the tokens, where d parentheses may be opened
@@ -29,15 +49,16 @@ Told d ts (Ok p) = (front : List Kind) × (ts ≡ front ++ p.1) × Calm d front
 Told d ts (Err e) = Because d ts e
 
 because_behind : (d : ℕ) (m us : List Kind) (e : Fail) → Calm d m → Because d us e → Because d (m ++ us) e
-because_behind d m us (Syntax n) c h = omega (arith, h, length-append m us)
-because_behind d m us (LeftOut w n) c h = (h.0, omega (arith, h.1, length-append m us))
-because_behind d m us (TooDeep n) c h = (h.0, omega (arith, h.1, length-append m us))
+because_behind d m us (Syntax n) c h = upto_more d m us n c h
+because_behind d m us (LeftOut w n) c h = (h.0, upto_more d m us n c h.1)
+because_behind d m us (TooDeep n) c h = (h.0, upto_more d m us n c h.1)
 because_behind d m us (TooOpen n) c h = (
   m ++ h.0,
   h.1,
   ap (λ l. m ++ l) h.2 ∙ sym (append_assoc m h.0 (open_ ∷ h.1)),
   h.3,
   λ o. open_behind_both o m h.0 ∙ ap (λ n. open_behind n h.0) (c o).0 ∙ h.4 o,
+  under_behind d m h.0 c h.5,
 )
 
 told_behind : {A : Type 0} (d : ℕ) (m us : List Kind) (r : Res A) → Calm d m → Told d us r → Told d (m ++ us) r
@@ -64,15 +85,15 @@ pub told_one : {A : Type 0} (d : ℕ) (k : Kind) (a : A) (ts : List Kind) → Pl
 told_one d k a ts p = told_plain d k ts (Ok (a, ts)) p (told_here d a ts)
 
 because_inside : (d : ℕ) (ts : List Kind) (e : Fail) → Because d ts e → Because (suc d) (open_ ∷ ts) e
-because_inside d ts (Syntax n) h = omega (arith, h)
-because_inside d ts (LeftOut w n) h = (h.0, omega (arith, h.1))
-because_inside d ts (TooDeep n) h = (h.0, omega (arith, h.1))
-because_inside d ts (TooOpen n) h = (open_ ∷ h.0, h.1, ap (λ l. open_ ∷ l) h.2, h.3, λ o. h.4 (suc o) ∙ omega arith)
+because_inside d ts (Syntax n) h = upto_inside d ts n h
+because_inside d ts (LeftOut w n) h = (h.0, upto_inside d ts n h.1)
+because_inside d ts (TooDeep n) h = (h.0, upto_inside d ts n h.1)
+because_inside d ts (TooOpen n) h = (open_ ∷ h.0, h.1, ap (λ l. open_ ∷ l) h.2, h.3, λ o. h.4 (suc o) ∙ omega arith, under_inside d h.0 h.5)
 
 behind_closing : {A : Type 0} (d : ℕ) (a : A) (m us : List Kind) → Calm d m → Told (suc d) (open_ ∷ (m ++ us)) (closing a us)
-behind_closing d a m [] c = omega arith
+behind_closing d a m [] c = (open_ ∷ m, [], refl, refl, under_inside d m (under_calm d m c))
 behind_closing d a m (close_ ∷ us) c = (open_ ∷ (m ++ close_ ∷ []), ap (λ l. open_ ∷ l) (sym (append_assoc m (close_ ∷ []) us)), calm_inside d m c)
-behind_closing d a m (k ∷ us) c = omega (arith, length-append m (k ∷ us))
+behind_closing d a m (k ∷ us) c = (open_ ∷ m, k ∷ us, refl, refl, under_inside d m (under_calm d m c))
 
 inside_closes : {A : Type 0} (d : ℕ) (ts : List Kind) (r : Res A) → Told d ts r → Told (suc d) (open_ ∷ ts) (then_do r closing)
 inside_closes d ts (Ok p) h = subst (λ l. Told (suc d) (open_ ∷ l) (closing p.0 p.1)) (sym h.1) (behind_closing d p.0 h.0 p.1 h.2)
@@ -97,24 +118,24 @@ told_pair zero a ts p = absurd (omega (arith, p))
 told_pair (suc d) a ts p = (open_ ∷ close_ ∷ [], refl, calm_inside d [] (calm_none d))
 
 pub told_enter : {A : Type 0} (d : ℕ) (ts : List Kind) (r : Res A) → (0 < d → Told d (open_ ∷ ts) r) → Told d (open_ ∷ ts) (if room_for d then r else Err (TooOpen (suc (length ts))))
-told_enter zero ts r h = ([], ts, refl, refl, λ o. omega arith)
+told_enter zero ts r h = ([], ts, refl, refl, λ o. omega arith, under_none zero)
 told_enter (suc d) ts r h = h (omega arith)
 
 -- the parenthesis behind a name
 pub told_enter_behind : {A : Type 0} (d : ℕ) (k : Kind) (ts : List Kind) (r : Res A) → Plain k → (0 < d → Told d (k ∷ open_ ∷ ts) r)
     → Told d (k ∷ open_ ∷ ts) (if room_for d then r else Err (TooOpen (suc (length ts))))
-told_enter_behind {A = A} zero k ts r p h = told_behind {A = A} zero (k ∷ []) (open_ ∷ ts) (Err (TooOpen (suc (length ts)))) (calm_plain zero k [] p (calm_none zero)) ([], ts, refl, refl, λ o. omega arith)
+told_enter_behind {A = A} zero k ts r p h = told_behind {A = A} zero (k ∷ []) (open_ ∷ ts) (Err (TooOpen (suc (length ts)))) (calm_plain zero k [] p (calm_none zero)) ([], ts, refl, refl, λ o. omega arith, under_none zero)
 told_enter_behind (suc d) k ts r p h = h (omega arith)
 
 pub told_if : {A : Type 0} (d : ℕ) (ts : List Kind) (b : Bool) (r s : Res A) → (b ≡ true → Told d ts r) → (b ≡ false → Told d ts s) → Told d ts (if b then r else s)
 told_if d ts true r s h k = h refl
 told_if d ts false r s h k = k refl
 
-pub told_at_level : {A : Type 0} (d : ℕ) (ts : List Kind) (l place : ℕ) (r : Res A) → 0 < place → place ≤ length ts → Told d ts r → Told d ts (at_level l place r)
+pub told_at_level : {A : Type 0} (d : ℕ) (ts : List Kind) (l place : ℕ) (r : Res A) → 0 < place → Upto d ts place → Told d ts r → Told d ts (at_level l place r)
 told_at_level d ts zero place r p q h = (p, q)
 told_at_level d ts (suc l) place r p q h = h
 
-pub told_above : {A : Type 0} (d : ℕ) (ts : List Kind) (l : ℕ) (a : Tree) (place : ℕ) (r : Res A) → 0 < place → place ≤ length ts → Told d ts r → Told d ts (above l a place r)
+pub told_above : {A : Type 0} (d : ℕ) (ts : List Kind) (l : ℕ) (a : Tree) (place : ℕ) (r : Res A) → 0 < place → Upto d ts place → Told d ts r → Told d ts (above l a place r)
 told_above d ts l a place r p q h = told_if d ts (nat_lt (depth a) l) r (Err (TooDeep place)) (λ e. h) (λ e. (p, q))
 
 pub told_more : {A : Type 0} (d : ℕ) (is : Kind → Bool) (again : List Kind → Res (List A)) (x : A) (us : List Kind) → is open_ ≡ false → is close_ ≡ false
@@ -128,7 +149,7 @@ told_more d is again x (k ∷ us) o c h =
 pub told_separated : {A : Type 0} (d : ℕ) (is : Kind → Bool) (read : List Kind → Res A) (n : ℕ) (us : List Kind) → is open_ ≡ false → is close_ ≡ false
     → ((vs : List Kind) → Told d vs (read vs)) → Told d us (separated is read n us)
 unfolding separated
-told_separated d is read zero us o c h = omega arith
+told_separated d is read zero us o c h = upto_here d _
 told_separated d is read (suc n) us o c h =
     told_then d us (read us) (more_of is (separated is read n)) (h us)
     (λ x vs. told_more d is (separated is read n) x vs o c (λ ws. told_separated d is read n ws o c h))
@@ -138,11 +159,11 @@ told_listed d read us h = told_separated d is_comma read (length us) us refl ref
 
 pub told_part : (d : ℕ) (again : List ℕ → List Kind → Res (List ℕ)) (w : List ℕ) (k : Kind) (us : List Kind) (p : Option (List ℕ)) → part k ≡ p
     → ((v : List ℕ) (vs : List Kind) → Told d vs (again v vs)) → Told d (k ∷ us) (dotted_part again w p us)
-told_part d again w k us None e h = omega arith
+told_part d again w k us None e h = upto_here d _
 told_part d again w k us (Some p) e h = told_plain d k us (again (w ++ 46 ∷ p) us) (plain_some part refl refl k p e) (h (w ++ 46 ∷ p) us)
 
 pub told_dot : (d : ℕ) (again : List ℕ → List Kind → Res (List ℕ)) (w : List ℕ) (us : List Kind) → ((v : List ℕ) (vs : List Kind) → Told d vs (again v vs)) → Told d us (behind_dot again w us)
-told_dot d again w [] h = omega arith
+told_dot d again w [] h = upto_here d _
 told_dot d again w (k ∷ us) h = told_part d again w k us (part k) refl h
 
 pub told_dotted : (d n : ℕ) (w : List ℕ) (us : List Kind) → Told d us (dotted n w us)
@@ -152,13 +173,13 @@ told_dotted d (suc n) w (dot_ ∷ us) = told_plain d dot_ us (behind_dot (dotted
 told_dotted d (suc n) w us = told_here d w us
 
 pub told_named_by : (d : ℕ) (optional : Bool) (k : Kind) (us : List Kind) (p : Option (List ℕ)) → first_part k ≡ p → Told d (k ∷ us) (named_by optional p us)
-told_named_by d optional k us None e = omega arith
+told_named_by d optional k us None e = upto_here d _
 told_named_by d optional k us (Some w) e =
     told_plain d k us (res_map (λ n. record { name = n; optional = optional }) (dotted (length us) w us)) (plain_some first_part refl refl k w e)
     (told_map d us (λ n. record { name = n; optional = optional }) (dotted (length us) w us) (told_dotted d (length us) w us))
 
 pub told_named : (d : ℕ) (optional : Bool) (us : List Kind) → Told d us (named optional us)
-told_named d optional [] = omega arith
+told_named d optional [] = upto_here d _
 told_named d optional (k ∷ us) = told_named_by d optional k us (first_part k) refl
 
 pub told_field : (d : ℕ) (us : List Kind) → Told d us (field us)
@@ -167,13 +188,13 @@ told_field d us = told_named d false us
 
 pub told_text : (d : ℕ) (us : List Kind) → Told d us (text_at us)
 told_text d (text s ∷ us) = told_one d (text s) s us tt
-told_text d [] = omega arith
-told_text d (_ ∷ us) = omega arith
+told_text d [] = upto_here d _
+told_text d (_ ∷ us) = upto_here d _
 
 pub told_negative : (d : ℕ) (us : List Kind) → Told d us (negative_at us)
 told_negative d (number n ∷ us) = told_one d (number n) (value.Long (neg_ℤ n)) us tt
-told_negative d [] = omega arith
-told_negative d (_ ∷ us) = omega arith
+told_negative d [] = upto_here d _
+told_negative d (_ ∷ us) = upto_here d _
 
 pub told_literal : (d : ℕ) (us : List Kind) → Told d us (literal us)
 told_literal d (number n ∷ us) = told_one d (number n) (value.Long n) us tt
@@ -181,8 +202,8 @@ told_literal d (adds Sub ∷ us) = told_plain d (adds Sub) us (negative_at us) t
 told_literal d (text s ∷ us) = told_one d (text s) (value.Text s) us tt
 told_literal d (true_ ∷ us) = told_one d true_ (value.Bool true) us tt
 told_literal d (false_ ∷ us) = told_one d false_ (value.Bool false) us tt
-told_literal d [] = omega arith
-told_literal d (_ ∷ us) = omega arith
+told_literal d [] = upto_here d _
+told_literal d (_ ∷ us) = upto_here d _
 
 -- operands from the left
 module _ (d : ℕ) (operator : Kind → Option MathOp) (read : ℕ → List Kind → Res Tree) (o : operator open_ ≡ None) (c : operator close_ ≡ None)
@@ -191,7 +212,7 @@ module _ (d : ℕ) (operator : Kind → Option MathOp) (read : ℕ → List Kind
       → ((b : Tree) (vs : List Kind) → Told d vs (again b vs)) → Told d (k ∷ us) (chain_on read l again a p k us)
   told_chain_on l again a None k us e h = told_here d a (k ∷ us)
   told_chain_on l again a (Some p) k us e h =
-      told_above d (k ∷ us) l a (suc (length us)) (then_do (read (l - 1) us) (λ b vs. again (t.math p a b) vs)) (omega arith) (omega arith)
+      told_above d (k ∷ us) l a (suc (length us)) (then_do (read (l - 1) us) (λ b vs. again (t.math p a b) vs)) (omega arith) (upto_here d _)
       (told_plain d k us (then_do (read (l - 1) us) (λ b vs. again (t.math p a b) vs)) (plain_some operator o c k p e)
       (told_then d us (read (l - 1) us) (λ b vs. again (t.math p a b) vs) (told (l - 1) us) (λ b vs. h (t.math p a b) vs)))
 
@@ -210,7 +231,7 @@ pub told_joined : (d : ℕ) (is : Kind → Bool) (node : Trees → Tree) (read :
 told_joined d is node read l e [] o c h = told_here d e []
 told_joined d is node read l e (k ∷ us) o c h =
     told_if d (k ∷ us) (is k) (above l e (suc (length us)) (res_map (λ es. node (more e (trees_of es))) (separated is (read (l - 1)) (length us) us))) (Ok (e, k ∷ us))
-    (λ i. told_above d (k ∷ us) l e (suc (length us)) (res_map (λ es. node (more e (trees_of es))) (separated is (read (l - 1)) (length us) us)) (omega arith) (omega arith)
+    (λ i. told_above d (k ∷ us) l e (suc (length us)) (res_map (λ es. node (more e (trees_of es))) (separated is (read (l - 1)) (length us) us)) (omega arith) (upto_here d _)
     (told_plain d k us (res_map (λ es. node (more e (trees_of es))) (separated is (read (l - 1)) (length us) us)) (plain_true is o c k i)
     (told_map d us (λ es. node (more e (trees_of es))) (separated is (read (l - 1)) (length us) us) (told_separated d is (read (l - 1)) (length us) us o c (h (l - 1))))))
     (λ i. told_here d e (k ∷ us))
@@ -219,7 +240,7 @@ call_told : (d : ℕ) (w : List ℕ) (ts : List Kind) (es : List Tree) (us : Lis
     → Told d (name w ∷ open_ ∷ ts) (call_of w (suc (suc (length ts))) es us)
 call_told d w ts es us m e c =
     told_if d (name w ∷ open_ ∷ ts) (is_left_out_call w (trees_of es)) (Err (LeftOut (codes "number") (suc (suc (length ts))))) (Ok (t.call w false (trees_of es), us))
-    (λ i. (omega arith, omega arith))
+    (λ i. (omega arith, upto_here d _))
     (λ i. (name w ∷ m, ap (λ l. name w ∷ l) e, calm_plain d (name w) m tt c))
 
 pub told_call : (d : ℕ) (w : List ℕ) (ts : List Kind) (r : Res (List Tree)) → Told d (open_ ∷ ts) r → Told d (name w ∷ open_ ∷ ts) (then_do r (call_of w (suc (suc (length ts)))))

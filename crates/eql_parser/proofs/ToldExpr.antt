@@ -1,5 +1,5 @@
 -- What the descent answers for a condition, against the tokens that it was given.
-use Rattle.std.proofs.Common.{ℕ, zero, suc, ◌-◌, ◌<◌, ◌≤◌, Bool, true, false, List, [], ◌∷◌, length, Ok, Err, refl, arith}
+use Rattle.std.proofs.Common.{ℕ, zero, suc, ◌-◌, ◌<◌, Bool, true, false, List, [], ◌∷◌, length, Ok, Err, refl, arith}
 use Rattle.eql_parser.specs.declared.expr.MathOp.TheVariants.{Sub}
 use Rattle.eql_parser.specs.Tree.{Tree, Trees}
 use Rattle.eql_parser.specs.Tree as t
@@ -8,7 +8,7 @@ use Rattle.eql_parser.specs.Kinds.{Kind, false_, in_, matches, not_, null_, rege
 use Rattle.eql_parser.specs.Reading.{Syntax, Res, then_do, res_map, closing, is_or, is_and, adds_of, multiplies_of, listed, named, field_tree, text_at, literal, at_level, above, joined, call_of, expr}
 use Rattle.eql_parser.specs.Reading as r
 use Rattle.eql_parser.proofs.Opens.{Plain}
-use Rattle.eql_parser.proofs.Told.{Told, told_then, told_map, told_here, told_plain, told_one, told_closing, told_pair, told_enter, told_enter_behind, told_at_level, told_above, told_listed, told_named, told_text, told_literal, told_chain, told_joined, told_call, room_for, inside}
+use Rattle.eql_parser.proofs.Told.{Told, Upto, upto_here, upto_behind, told_then, told_map, told_here, told_plain, told_one, told_closing, told_pair, told_enter, told_enter_behind, told_at_level, told_above, told_listed, told_named, told_text, told_literal, told_chain, told_joined, told_call, room_for, inside}
 
 module _ (d : ℕ) (inner : ℕ → List Kind → Res Tree) (told : (l : ℕ) (us : List Kind) → Told (inside d) us (inner l us)) where
   pub told_arguments : (l : ℕ) (ts : List Kind) → 0 < d → Told d (open_ ∷ ts) (r.arguments (room_for d) inner l ts)
@@ -18,32 +18,32 @@ module _ (d : ℕ) (inner : ℕ → List Kind → Res Tree) (told : (l : ℕ) (u
   pub told_patterns : (ts : List Kind) → Told d ts (r.patterns (room_for d) inner ts)
   told_patterns (text s ∷ ts) = told_one d (text s) (s ∷ []) ts tt
   told_patterns (open_ ∷ ts) = told_enter d ts (then_do (listed text_at ts) closing) (λ p. told_closing d ts (listed text_at ts) p (told_listed (inside d) text_at ts (told_text (inside d))))
-  told_patterns [] = omega arith
-  told_patterns (_ ∷ ts) = omega arith
+  told_patterns [] = upto_here d _
+  told_patterns (_ ∷ ts) = upto_here d _
 
   pub told_members : (ts : List Kind) → Told d ts (r.members (room_for d) inner ts)
   told_members (open_ ∷ ts) = told_enter d ts (then_do (listed literal ts) closing) (λ p. told_closing d ts (listed literal ts) p (told_listed (inside d) literal ts (told_literal (inside d))))
-  told_members [] = omega arith
-  told_members (_ ∷ ts) = omega arith
+  told_members [] = upto_here d _
+  told_members (_ ∷ ts) = upto_here d _
 
   told_leaf : (l : ℕ) (k : Kind) (e : Tree) (ts : List Kind) → Told d (k ∷ ts) (Ok (e, ts)) → Told d (k ∷ ts) (at_level l (suc (length ts)) (Ok (e, ts)))
-  told_leaf l k e ts h = told_at_level d (k ∷ ts) l (suc (length ts)) (Ok (e, ts)) (omega arith) (omega arith) h
+  told_leaf l k e ts h = told_at_level d (k ∷ ts) l (suc (length ts)) (Ok (e, ts)) (omega arith) (upto_here d _) h
 
-  told_field_prim : (l : ℕ) (o : Bool) (ts : List Kind) (place : ℕ) (us : List Kind) → 0 < place → place ≤ length us → Told d us (named o ts)
+  told_field_prim : (l : ℕ) (o : Bool) (ts : List Kind) (place : ℕ) (us : List Kind) → 0 < place → Upto d us place → Told d us (named o ts)
       → Told d us (at_level l place (res_map field_tree (named o ts)))
   told_field_prim l o ts place us p q h = told_at_level d us l place (res_map field_tree (named o ts)) p q (told_map d us field_tree (named o ts) h)
 
   told_name_call : (l : ℕ) (w : List ℕ) (ts : List Kind) → Told d (name w ∷ open_ ∷ ts) (r.prim (room_for d) inner l (name w ∷ open_ ∷ ts))
   told_name_call l w ts =
       told_at_level d (name w ∷ open_ ∷ ts) l (suc (suc (length ts))) (r.enter (room_for d) inner ts (then_do (r.arguments (room_for d) inner (l - 1) ts) (call_of w (suc (suc (length ts))))))
-      (omega arith) (omega arith)
+      (omega arith) (upto_here d _)
       (told_enter_behind d (name w) ts (then_do (r.arguments (room_for d) inner (l - 1) ts) (call_of w (suc (suc (length ts))))) tt
       (λ p. told_call d w ts (r.arguments (room_for d) inner (l - 1) ts) (told_arguments (l - 1) ts p)))
 
   told_folding_call : (l : ℕ) (w : List ℕ) (ts : List Kind) → Told d (folding w ∷ open_ ∷ ts) (r.prim (room_for d) inner l (folding w ∷ open_ ∷ ts))
   told_folding_call l w ts =
       told_at_level d (folding w ∷ open_ ∷ ts) l (suc (suc (length ts))) (r.enter (room_for d) inner ts (res_map (λ es. t.call w true (trees_of es)) (r.arguments (room_for d) inner (l - 1) ts)))
-      (omega arith) (omega arith)
+      (omega arith) (upto_here d _)
       (told_enter_behind d (folding w) ts (res_map (λ es. t.call w true (trees_of es)) (r.arguments (room_for d) inner (l - 1) ts)) tt
       (λ p. told_plain d (folding w) (open_ ∷ ts) (res_map (λ es. t.call w true (trees_of es)) (r.arguments (room_for d) inner (l - 1) ts)) tt
       (told_map d (open_ ∷ ts) (λ es. t.call w true (trees_of es)) (r.arguments (room_for d) inner (l - 1) ts) (told_arguments (l - 1) ts p))))
@@ -55,19 +55,19 @@ module _ (d : ℕ) (inner : ℕ → List Kind → Res Tree) (told : (l : ℕ) (u
   told_prim l (number n ∷ ts) = told_leaf l (number n) (t.long n) ts (told_one d (number n) (t.long n) ts tt)
   told_prim l (text s ∷ ts) = told_leaf l (text s) (t.str s) ts (told_one d (text s) (t.str s) ts tt)
   told_prim l (name w ∷ open_ ∷ ts) = told_name_call l w ts
-  told_prim l (name w ∷ ts) = told_field_prim l false (name w ∷ ts) (suc (length ts)) (name w ∷ ts) (omega arith) (omega arith) (told_named d false (name w ∷ ts))
-  told_prim l (back w ∷ ts) = told_field_prim l false (back w ∷ ts) (suc (length ts)) (back w ∷ ts) (omega arith) (omega arith) (told_named d false (back w ∷ ts))
+  told_prim l (name w ∷ ts) = told_field_prim l false (name w ∷ ts) (suc (length ts)) (name w ∷ ts) (omega arith) (upto_here d _) (told_named d false (name w ∷ ts))
+  told_prim l (back w ∷ ts) = told_field_prim l false (back w ∷ ts) (suc (length ts)) (back w ∷ ts) (omega arith) (upto_here d _) (told_named d false (back w ∷ ts))
   told_prim l (question_ ∷ ts) =
-      told_field_prim l true ts (suc (length ts)) (question_ ∷ ts) (omega arith) (omega arith) (told_plain d question_ ts (named true ts) tt (told_named d true ts))
+      told_field_prim l true ts (suc (length ts)) (question_ ∷ ts) (omega arith) (upto_here d _) (told_plain d question_ ts (named true ts) tt (told_named d true ts))
   told_prim l (folding w ∷ open_ ∷ ts) = told_folding_call l w ts
-  told_prim l (folding w ∷ ts) = omega arith
+  told_prim l (folding w ∷ ts) = upto_behind d (folding w) ts tt
   told_prim l (open_ ∷ ts) = told_enter d ts (then_do (inner l ts) closing) (λ p. told_closing d ts (inner l ts) p (told l ts))
-  told_prim l [] = omega arith
-  told_prim l (_ ∷ ts) = omega arith
+  told_prim l [] = upto_here d _
+  told_prim l (_ ∷ ts) = upto_here d _
 
   pub told_unary : (l : ℕ) (ts : List Kind) → Told d ts (r.unary (room_for d) inner l ts)
   unfolding r.unary
-  told_unary zero (adds Sub ∷ ts) = (omega arith, omega arith)
+  told_unary zero (adds Sub ∷ ts) = (omega arith, upto_here d _)
   told_unary zero ts = told_prim zero ts
   told_unary (suc l) (adds Sub ∷ ts) = told_plain d (adds Sub) ts (res_map t.neg (r.unary (room_for d) inner l ts)) tt (told_map d ts t.neg (r.unary (room_for d) inner l ts) (told_unary l ts))
   told_unary (suc l) ts = told_prim (suc l) ts
@@ -80,11 +80,11 @@ module _ (d : ℕ) (inner : ℕ → List Kind → Res Tree) (told : (l : ℕ) (u
 
   pub told_behind_not : (a : Tree) (ts : List Kind) → Told d ts (r.behind_not (room_for d) inner a ts)
   told_behind_not a (in_ f ∷ ts) = told_plain d (in_ f) ts (res_map (t.member f true a) (r.members (room_for d) inner ts)) tt (told_map d ts (t.member f true a) (r.members (room_for d) inner ts) (told_members ts))
-  told_behind_not a [] = omega arith
-  told_behind_not a (_ ∷ ts) = omega arith
+  told_behind_not a [] = upto_here d _
+  told_behind_not a (_ ∷ ts) = upto_here d _
 
   told_operator : (l : ℕ) (a : Tree) (k : Kind) (ts : List Kind) (r : Res Tree) → Plain k → Told d ts r → Told d (k ∷ ts) (above l a (suc (length ts)) r)
-  told_operator l a k ts r p h = told_above d (k ∷ ts) l a (suc (length ts)) r (omega arith) (omega arith) (told_plain d k ts r p h)
+  told_operator l a k ts r p h = told_above d (k ∷ ts) l a (suc (length ts)) r (omega arith) (upto_here d _) (told_plain d k ts r p h)
 
   pub told_behind_sum : (l : ℕ) (a : Tree) (ts : List Kind) → Told d ts (r.behind_sum (room_for d) inner l a ts)
   told_behind_sum l a (compares o ∷ ts) =
@@ -94,8 +94,8 @@ module _ (d : ℕ) (inner : ℕ → List Kind → Res Tree) (told : (l : ℕ) (u
   told_behind_sum l a (in_ f ∷ ts) =
       told_operator l a (in_ f) ts (res_map (t.member f false a) (r.members (room_for d) inner ts)) tt (told_map d ts (t.member f false a) (r.members (room_for d) inner ts) (told_members ts))
   told_behind_sum l a (not_ ∷ ts) = told_operator l a not_ ts (r.behind_not (room_for d) inner a ts) tt (told_behind_not a ts)
-  told_behind_sum l a (regex_ false ∷ ts) = (omega arith, omega arith)
-  told_behind_sum l a (regex_ true ∷ ts) = (omega arith, omega arith)
+  told_behind_sum l a (regex_ false ∷ ts) = (omega arith, upto_here d _)
+  told_behind_sum l a (regex_ true ∷ ts) = (omega arith, upto_here d _)
   told_behind_sum l a [] = told_here d a []
   told_behind_sum l a (k ∷ ts) = told_here d a (k ∷ ts)
 
@@ -104,7 +104,7 @@ module _ (d : ℕ) (inner : ℕ → List Kind → Res Tree) (told : (l : ℕ) (u
 
   pub told_neg : (l : ℕ) (ts : List Kind) → Told d ts (r.neg (room_for d) inner l ts)
   unfolding r.neg
-  told_neg zero (not_ ∷ ts) = (omega arith, omega arith)
+  told_neg zero (not_ ∷ ts) = (omega arith, upto_here d _)
   told_neg zero ts = told_pred zero ts
   told_neg (suc l) (not_ ∷ ts) = told_plain d not_ ts (res_map t.not (r.neg (room_for d) inner l ts)) tt (told_map d ts t.not (r.neg (room_for d) inner l ts) (told_neg l ts))
   told_neg (suc l) ts = told_pred (suc l) ts
@@ -121,5 +121,5 @@ module _ (d : ℕ) (inner : ℕ → List Kind → Res Tree) (told : (l : ℕ) (u
 
 pub expr_told : (d l : ℕ) (ts : List Kind) → Told d ts (expr d l ts)
 unfolding expr
-expr_told zero l ts = told_level zero (λ _ us. Err (Syntax (length us))) (λ k us. omega arith) l ts
+expr_told zero l ts = told_level zero (λ _ us. Err (Syntax (length us))) (λ k us. upto_here zero us) l ts
 expr_told (suc d) l ts = told_level (suc d) (expr d) (expr_told d) l ts

@@ -7,10 +7,10 @@ use Rattle.eql_parser.specs.declared.refusal.ParseRefused.{ParseRefused}
 use Rattle.eql_parser.specs.declared.refusal.ParseRefused.TheVariants as refused
 use Rattle.eql_parser.specs.Tree.{Tree, none, more}
 use Rattle.eql_parser.specs.QueryTree.{QueryTree}
-use Rattle.eql_parser.specs.Kinds.{Kind, any_, assign_, bang_, bar_, close_item_, join_, matches, null_, regex_, sample_, sequence_, where_, with_, name, number, open_, open_item_, kinds}
+use Rattle.eql_parser.specs.Kinds.{Kind, any_, assign_, bang_, bar_, close_item_, join_, matches, null_, regex_, sample_, sequence_, where_, with_, name, folding, number, open_, open_item_, kinds}
 use Rattle.eql_parser.specs.Grammar.{IsArguments}
 use Rattle.eql_parser.specs.QueryGrammar.{IsQuery, Reads, is_fine_unit, pipe_of}
-use Rattle.eql_parser.specs.Limits.{levels, open_behind}
+use Rattle.eql_parser.specs.Limits.{levels, open_behind, FewOpen}
 
 -- some query begins with these tokens
 pub record Begins (front : List Kind) : Type 0 where
@@ -38,8 +38,10 @@ pub data IsLeftOut : (before from : List Kind) → (word : List ℕ) → (instea
   fine_unit : {before ts : List Kind} {w : List ℕ} (front : List Kind) (n : ℤ) → before ≡ front ++ assign_ ∷ number n ∷ [] → is_fine_unit w ≡ true
       → IsLeftOut before (name w ∷ ts) w (name (codes "s") ∷ [])
   other_pipe : {before ts : List Kind} {w : List ℕ} (front : List Kind) → before ≡ front ++ bar_ ∷ [] → pipe_of w ≡ None → IsLeftOut before (name w ∷ ts) w (name (codes "head") ∷ [])
-  number_with_base : {before us rest : List Kind} {w : List ℕ} {a b : Tree} → bytes_eq w (codes "number") ≡ true → IsArguments us (more a (more b none)) rest
-      → IsLeftOut before (name w ∷ open_ ∷ us) (codes "number") (name w ∷ open_ ∷ [])
+  -- `number` with a base, its second argument, up to the parenthesis that closes: the folding form of the call stands in the grammar
+  number_with_base : {before : List Kind} {w : List ℕ} {a b : Tree} (call rest : List Kind) → bytes_eq w (codes "number") ≡ true
+      → ((others : List Kind) → IsArguments (call ++ others) (more a (more b none)) others)
+      → IsLeftOut before (name w ∷ open_ ∷ (call ++ rest)) (codes "number") (folding w ∷ open_ ∷ call)
 
 -- the end of the last token, or 0
 abbrev pub end_of : List Token → ℕ
@@ -60,28 +62,29 @@ abbrev pub through : {tokens : List Token} {at : ℕ} → Split tokens at → Li
 through s = kinds s.before ++ kinds (s.here ∷ [])
 
 -- Some query begins with the tokens before the place, and none with those through it. Or the tokens end too early: some query begins with them, and
--- they are none.
+-- they are none. Nowhere before the place more than 128 parentheses stand open.
 abbrev pub IsSyntax : List Token → ℕ → Type 0
 IsSyntax tokens at =
-    ((s : Split tokens at) × Begins (kinds s.before) × NoQueryBegins (through s)) ⊎ ((at ≡ end_of tokens) × Begins (kinds tokens) × ((query : QueryTree) → IsQuery tokens query → ⊥))
+    ((s : Split tokens at) × Begins (kinds s.before) × NoQueryBegins (through s) × FewOpen 128 (kinds s.before))
+    ⊎ ((at ≡ end_of tokens) × Begins (kinds tokens) × ((query : QueryTree) → IsQuery tokens query → ⊥) × FewOpen 128 (kinds tokens))
 
 -- a left-out form begins at the place, where some query goes on with another form in its stead
 abbrev pub LeavesOut : {tokens : List Token} {at : ℕ} → Split tokens at → List ℕ → Type 0
 LeavesOut s word = (instead : List Kind) × IsLeftOut (kinds s.before) (kinds (s.here ∷ s.behind)) word instead × Begins (kinds s.before ++ instead)
 
--- As `IsSyntax`, and no left-out form stands at the place where the grammar could go on with another form.
+-- As `IsSyntax`, and nowhere in the tokens a left-out form stands where some query goes on with another form in its stead.
 abbrev pub IsPlainSyntax : List Token → ℕ → Type 0
-IsPlainSyntax tokens at =
-    ((s : Split tokens at) × Begins (kinds s.before) × NoQueryBegins (through s) × ((word : List ℕ) → LeavesOut s word → ⊥))
-    ⊎ ((at ≡ end_of tokens) × Begins (kinds tokens) × ((query : QueryTree) → IsQuery tokens query → ⊥))
+IsPlainSyntax tokens at = IsSyntax tokens at × ((there : ℕ) (s : Split tokens there) (word : List ℕ) → LeavesOut s word → ⊥)
 
--- A left-out form begins at the place, some query goes on there with another form in its stead, and the tokens are no query.
+-- A left-out form begins at the place, some query goes on there with another form in its stead, and the tokens are no query. Nowhere before the place
+-- more than 128 parentheses stand open.
 abbrev pub IsLeftOutAt : List Token → List ℕ → ℕ → Type 0
-IsLeftOutAt tokens word at = ((s : Split tokens at) × LeavesOut s word) × ((query : QueryTree) → IsQuery tokens query → ⊥)
+IsLeftOutAt tokens word at = ((s : Split tokens at) × LeavesOut s word × FewOpen 128 (kinds s.before)) × ((query : QueryTree) → IsQuery tokens query → ⊥)
 
--- Some query begins with the tokens through the place, and there more than 128 parentheses stand open, or each such query has more than 64 levels.
+-- Some query begins with the tokens through the place, and there the 129th parenthesis opens of those that stand open, the first such one, or each
+-- such query has more than 64 levels.
 abbrev pub IsTooDeep : List Token → ℕ → Type 0
-IsTooDeep tokens at = (s : Split tokens at) × Begins (through s) × ((128 < open_behind 0 (through s)) ⊎ IsDeeperThan 64 (through s))
+IsTooDeep tokens at = (s : Split tokens at) × Begins (through s) × FewOpen 128 (kinds s.before) × ((128 < open_behind 0 (through s)) ⊎ IsDeeperThan 64 (through s))
 
 -- the cause of each refusal
 abbrev pub Refused : List Token → ParseRefused → Type 0
@@ -89,6 +92,12 @@ Refused tokens refused.Memory = Unit {0}
 Refused tokens (refused.Syntax at) = IsPlainSyntax tokens at
 Refused tokens (refused.LeftOut word at) = IsLeftOutAt tokens word at
 Refused tokens (refused.TooDeep at) = IsTooDeep tokens at
+
+-- told by the grammar, and not by a limit or by want of memory
+abbrev pub IsByGrammar : ParseRefused → Type 0
+IsByGrammar (refused.Syntax at) = Unit {0}
+IsByGrammar (refused.LeftOut word at) = Unit {0}
+IsByGrammar _ = ⊥
 
 abbrev pub IsMemory : ParseRefused → Type 0
 IsMemory refused.Memory = Unit {0}

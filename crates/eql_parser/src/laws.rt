@@ -8,7 +8,7 @@ ghost use Rattle.eql_parser.specs.Limits.{levels, OpensAtMost};
 ghost use Rattle.eql_parser.specs.Printed.{printed};
 ghost use Rattle.eql_parser.specs.QueryGrammar.{IsQuery};
 ghost use Rattle.eql_parser.specs.QueryTree.{QueryTree};
-ghost use Rattle.eql_parser.specs.Refusing.{IsMemory, IsSyntax, Refused};
+ghost use Rattle.eql_parser.specs.Refusing.{IsByGrammar, IsMemory, Refused};
 
 /// Tokens are one query at most.
 pub fn one_query()
@@ -24,10 +24,11 @@ pub fn query_or_refused()
         ⊎ ((r : ParseRefused) × (IsMemory r → ⊥) × Refused tokens r) }
 {}
 
-/// Tokens have at most one place of `Syntax`.
-pub fn one_syntax()
-    ensures { (tokens : List Token) (at to : ℕ)
-        → IsSyntax tokens at → IsSyntax tokens to → at ≡ to }
+/// Two refusals of the same tokens are the same, where each is told by the grammar: `Syntax` or
+/// `LeftOut`, with its word and its place.
+pub fn one_refusal()
+    ensures { (tokens : List Token) (r s : ParseRefused)
+        → IsByGrammar r → IsByGrammar s → Refused tokens r → Refused tokens s → r ≡ s }
 {}
 
 /// The canonical text of a query that a text spells spells this query again. In it at most as many

@@ -13,7 +13,7 @@ mod refusal;
 
 pub use copy::copy_query;
 pub use expr::{CmpOp, Expr, Exprs, FieldRef, FieldRefs, MathOp, PatOp};
-pub use laws::{one_query, one_syntax, prints_back, query_or_refused};
+pub use laws::{one_query, one_refusal, prints_back, query_or_refused};
 pub use parser::parse;
 pub use printing::print;
 pub use query::{Body, PipeText, PipeTexts, Query, Span, Term, Terms, Unit};

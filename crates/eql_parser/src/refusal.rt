@@ -6,7 +6,8 @@ use std::alloc::{AllocError, AllocFailed};
 /// where the tokens end too early, it is the end of the last token, or 0 where there is none.
 #[derive(Debug, Drop)]
 pub enum ParseRefused {
-    /// Some query begins with the tokens before this place, and none with those through it.
+    /// Some query begins with the tokens before this place, and none with those through it; and
+    /// nowhere a form stands that isn't read.
     Syntax {
         /// The place, in bytes.
         at: u32,

@@ -176,6 +176,11 @@ fn queries_have_these_canonical_texts(rt: HostRuntime) -> Result<(), Fail> {
             "any where number(1, 2) regex \"a\"",
             "parse: LeftOut number at 10",
         ),
+        (
+            "any where number(number(1, 2), 3",
+            "parse: LeftOut number at 17",
+        ),
+        ("any where number~(1, 2) 3", "parse: Syntax at 24"),
         ("any where", "parse: Syntax at 9"),
         ("", "parse: Syntax at 0"),
         ("until where true", "parse: Syntax at 0"),

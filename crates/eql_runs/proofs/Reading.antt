@@ -15,12 +15,12 @@ use Rattle.eql_parser.specs.QueryTree.{QueryTree}
 use Rattle.eql_parser.specs.Kinds.{Kind, kind, kinds}
 use Rattle.eql_parser.specs.QueryGrammar.{IsQuery, Reads}
 use Rattle.eql_parser.specs.Limits.{open_behind}
-use Rattle.eql_parser.specs.Refusing.{Split, through, NoQueryBegins, IsDeeperThan, IsSyntax, IsPlainSyntax}
+use Rattle.eql_parser.specs.Refusing.{Split, through, NoQueryBegins, IsDeeperThan, Refused, IsByGrammar}
 use Rattle.eql_check.specs.declared.mapping.MapRefused.{MapRefused}
 use Rattle.eql_check.specs.Mappings.{mapping_of}
 use Rattle.eql_check.specs.Typing.{ExactlyChecked}
 use Rattle.eql_runs.specs.Files.{Files, first_missing, HasTokens, NoTokens, too_long, not_utf8, breaks, ReadAs, NotRead, HasQueryTokens, HasQuery, HasMapping, HasTexts}
-use Rattle.eql_runs.specs.RunLaws.{AgreeOnSyntax}
+use Rattle.eql_runs.specs.RunLaws.{TellsLimit}
 
 -- the laws of tokens, queries and checks on which the causes rest
 pub record QueryLaws : Type 0 where
@@ -28,7 +28,8 @@ pub record QueryLaws : Type 0 where
   pub none_spelled : (text : List ℕ) (r : Rule) (at : ℕ) (us : List Token) → BreaksAt text r at → Spells text us → ⊥
   pub one_break : (text : List ℕ) (r s : Rule) (at to : ℕ) → BreaksAt text r at → BreaksAt text s to → (r ≡ s) × (at ≡ to)
   pub one_query : (tokens : List Token) (p q : QueryTree) → IsQuery tokens p → IsQuery tokens q → p ≡ q
-  pub one_syntax : (tokens : List Token) (at to : ℕ) → IsSyntax tokens at → IsSyntax tokens to → at ≡ to
+  pub one_refusal : (tokens : List Token) (r s : ParseRefused) → IsByGrammar r → IsByGrammar s → Refused tokens r
+      → Refused tokens s → r ≡ s
   pub exact : ExactlyChecked
 
 -- a file has one text
@@ -82,10 +83,10 @@ not_deep tokens at s q read (inr deep) =
     omega (arith, read.shallow, deep (kinds s.behind) q (begins_with tokens at s q read.is_query))
 
 pub read_or_not : (tokens : List Token) (q : QueryTree) (r : ParseRefused) → ReadAs tokens q → NotRead tokens r → ⊥
-read_or_not tokens q (parsed.Syntax at) read (inl h, denied) =
+read_or_not tokens q (parsed.Syntax at) read ((inl h, plain), denied) =
     let none : NoQueryBegins (through h.0) = assumption h in
     none (kinds h.0.behind) q (begins_with tokens at h.0 q read.is_query)
-read_or_not tokens q (parsed.Syntax at) read (inr h, denied) =
+read_or_not tokens q (parsed.Syntax at) read ((inr h, plain), denied) =
     let none : (query : QueryTree) → IsQuery tokens query → ⊥ = assumption h in
     none q read.is_query
 read_or_not tokens q (parsed.LeftOut word at) read (h, denied) = h.1 q read.is_query
@@ -94,22 +95,27 @@ read_or_not tokens q (parsed.TooDeep at) read (h, denied) =
     not_deep tokens at h.0 q read either
 read_or_not tokens q parsed.Memory read (h, denied) = denied tt
 
--- a place of `Syntax` is one of the broader kind that the law speaks of
-plain_is : (tokens : List Token) (at : ℕ) → IsPlainSyntax tokens at → IsSyntax tokens at
-plain_is tokens at (inl h) = inl (h.0, h.1, h.2)
-plain_is tokens at (inr h) = inr h
+-- two refusals of tokens are the same, or one of them tells that a limit is passed
+abbrev pub Agree : ParseRefused → ParseRefused → Type 0
+Agree r s = (r ≡ s) ⊎ (TellsLimit r ⊎ TellsLimit s)
 
--- two refusals of tokens agree on the place of `Syntax`
+by_grammar : (laws : QueryLaws) (tokens : List Token) (r s : ParseRefused) → IsByGrammar r → IsByGrammar s → NotRead tokens r
+    → NotRead tokens s → Agree r s
+by_grammar laws tokens r s g h a b = inl (laws.one_refusal tokens r s g h a.0 b.0)
+
 pub agree : (laws : QueryLaws) (tokens : List Token) (r s : ParseRefused) → NotRead tokens r → NotRead tokens s
-    → AgreeOnSyntax r s
-agree laws tokens (parsed.Syntax at) (parsed.Syntax to) a b =
-    laws.one_syntax tokens at to (plain_is tokens at a.0) (plain_is tokens to b.0)
-agree laws tokens (parsed.Syntax at) (parsed.LeftOut word to) a b = tt
-agree laws tokens (parsed.Syntax at) (parsed.TooDeep to) a b = tt
-agree laws tokens (parsed.Syntax at) parsed.Memory a b = tt
-agree laws tokens (parsed.LeftOut word at) s a b = tt
-agree laws tokens (parsed.TooDeep at) s a b = tt
-agree laws tokens parsed.Memory s a b = tt
+    → Agree r s
+agree laws tokens (parsed.Syntax at) (parsed.Syntax to) a b = by_grammar laws tokens (parsed.Syntax at) (parsed.Syntax to) tt tt a b
+agree laws tokens (parsed.Syntax at) (parsed.LeftOut word to) a b =
+    by_grammar laws tokens (parsed.Syntax at) (parsed.LeftOut word to) tt tt a b
+agree laws tokens (parsed.LeftOut word at) (parsed.Syntax to) a b =
+    by_grammar laws tokens (parsed.LeftOut word at) (parsed.Syntax to) tt tt a b
+agree laws tokens (parsed.LeftOut word at) (parsed.LeftOut other to) a b =
+    by_grammar laws tokens (parsed.LeftOut word at) (parsed.LeftOut other to) tt tt a b
+agree laws tokens (parsed.TooDeep at) s a b = inr (inl tt)
+agree laws tokens r (parsed.TooDeep to) a b = inr (inr tt)
+agree laws tokens parsed.Memory s a b = absurd (a.1 tt)
+agree laws tokens r parsed.Memory a b = absurd (b.1 tt)
 
 -- the query file has one list of tokens and is one query
 pub one_tokens : (laws : QueryLaws) (name : List ℕ) (files : Files) (ts us : List Token)

@@ -4,7 +4,7 @@ use Rattle.eql_made.specs.Made.{made_texts}
 use Rattle.eql_laws.specs.Books.{greatest_shards}
 use Rattle.eql_laws.specs.Counting.{IsShardText}
 use Rattle.eql_parser.specs.declared.refusal.ParseRefused.{ParseRefused}
-use Rattle.eql_parser.specs.declared.refusal.ParseRefused.TheVariants.{Syntax}
+use Rattle.eql_parser.specs.declared.refusal.ParseRefused.TheVariants.{TooDeep}
 use Rattle.eql_parser.specs.QueryTree.{QueryTree}
 use Rattle.eql_values.specs.declared.value.Kind.{Kind}
 use Rattle.eql_check.specs.Kinds.{kind_at}
@@ -25,16 +25,16 @@ OneListing =
     → Writes words files bytes report → Writes words files other beside
     → (bytes ≡ other) × (report ≡ beside)
 
--- where both say `Syntax`, it is at the same place
-abbrev pub AgreeOnSyntax : ParseRefused → ParseRefused → Type 0
-AgreeOnSyntax (Syntax at) (Syntax to) = at ≡ to
-AgreeOnSyntax _ _ = Unit {0}
+-- the tokens pass a limit
+abbrev pub TellsLimit : ParseRefused → Type 0
+TellsLimit (TooDeep at) = Unit {0}
+TellsLimit _ = ⊥
 
--- the same refusal; or both say that the tokens are no query within the limits, maybe by another
--- rule
+-- the same refusal; or both say that the tokens are no query within the limits, and one of them
+-- that they pass a limit
 pub data SameRefusal : Refusal → Refusal → Type 0 where
   same : {r : Refusal} → SameRefusal r r
-  other_rule : {r s : ParseRefused} → AgreeOnSyntax r s → SameRefusal (parse r) (parse s)
+  past_limit : {r s : ParseRefused} → TellsLimit r ⊎ TellsLimit s → SameRefusal (parse r) (parse s)
 
 -- words and files are refused for one cause
 abbrev pub OneRefusal : Type 0

@@ -4,13 +4,14 @@ ghost use Rattle.eql_runs.specs.RunLaws.{OneListing, OneRefusal, OneStatus, List
 use eql_check::check_is_exact;
 use eql_laws::found_is_few;
 use eql_lexer::{none_spelled, one_break, one_list, spelled_or_broken};
-use eql_parser::{one_query, one_syntax, query_or_refused};
+use eql_parser::{one_query, one_refusal, query_or_refused};
 use eql_stages::readers_fit;
 use eql_words::commands_are_bounded;
 
 /// The words and the files determine what a run writes, or that it is refused and for which cause, and never both. Files
-/// that are all there and checked aren't refused. A run that can be done isn't refused, and reaches no limit. Where a query's tokens are no query, they don't determine by
-/// which rule the refusal says so; that it has one status stands without this.
+/// that are all there and checked aren't refused. A run that can be done isn't refused, and reaches no limit. Where a
+/// query's tokens pass a limit of depth, they don't determine whether the refusal says so or tells another breach; that
+/// it has one status stands without this.
 pub fn runs_are_determined()
     ensures listing { OneListing }
     ensures refusal { OneRefusal }
@@ -23,7 +24,7 @@ pub fn runs_are_determined()
     none_spelled();
     one_break();
     one_query();
-    one_syntax();
+    one_refusal();
     check_is_exact();
 }
 

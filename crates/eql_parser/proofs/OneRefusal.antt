@@ -1,12 +1,13 @@
--- Tokens have at most one place at which no query goes on.
-use Rattle.std.proofs.Common.{◌≡◌, ℕ, ◌<◌, ◌≤◌, ◌⊎◌, inl, inr, List, [], ◌∷◌, ◌++◌, length, refl, sym, ap, subst, ◌∙◌, arith, length-append, append_assoc}
+-- Tokens have at most one refusal that the grammar tells.
+use Rattle.std.proofs.Common.{◌≡◌, ℕ, ◌<◌, ◌≤◌, ◌⊎◌, inl, inr, List, [], ◌∷◌, ◌++◌, length, sym, ap, subst, ◌∙◌, arith, length-append, append_assoc}
 use Rattle.eql_lexer.specs.declared.token.Token.{Token}
-use Rattle.eql_parser.specs.QueryTree.{QueryTree}
 use Rattle.eql_parser.specs.Kinds.{Kind, kind, kinds}
 use Rattle.eql_parser.specs.QueryGrammar.{Reads}
-use Rattle.eql_parser.specs.Refusing.{Begins, NoQueryBegins, Split, through, end_of, IsSyntax}
+use Rattle.eql_parser.specs.declared.refusal.ParseRefused.{ParseRefused}
+use Rattle.eql_parser.specs.declared.refusal.ParseRefused.TheVariants as refused
+use Rattle.eql_parser.specs.Refusing.{Begins, NoQueryBegins, Split, through, IsSyntax, LeavesOut, Refused, IsByGrammar}
 use Rattle.eql_parser.proofs.Agrees.{which}
-use Rattle.eql_parser.proofs.Causes.{kinds_both}
+use Rattle.eql_parser.proofs.Causes.{kinds_both, kinds_length, leaves_out_stops, one_left_out}
 
 -- a list that begins so goes on like this
 abbrev IsFront : List Kind → List Kind → Type 0
@@ -47,9 +48,36 @@ before_end : (tokens : List Token) (at : ℕ) (s : Split tokens at) → NoQueryB
 before_end tokens at s n b = none_in (through s) (kinds tokens) (kinds s.behind, through_all s) n b
 
 -- the place of `Syntax` is determined
-pub one_syntax : (tokens : List Token) (at to : ℕ) → IsSyntax tokens at → IsSyntax tokens to → at ≡ to
-one_syntax tokens at to (inl (s, b, n)) (inl (r, c, m)) =
+one_syntax : (tokens : List Token) (at to : ℕ) → IsSyntax tokens at → IsSyntax tokens to → at ≡ to
+one_syntax tokens at to (inl (s, b, n, f)) (inl (r, c, m, g)) =
     two_splits tokens at to s r n m b c (which (length s.before) (length r.before)) (which (length r.before) (length s.before))
-one_syntax tokens at to (inl (s, b, n)) (inr (e, c, m)) = absurd (before_end tokens at s n c)
-one_syntax tokens at to (inr (e, c, m)) (inl (s, b, n)) = absurd (before_end tokens to s n c)
-one_syntax tokens at to (inr (e, c, m)) (inr (f, d, n)) = e ∙ sym f
+one_syntax tokens at to (inl (s, b, n, f)) (inr (e, c, m, g)) = absurd (before_end tokens at s n c)
+one_syntax tokens at to (inr (e, c, m, g)) (inl (s, b, n, f)) = absurd (before_end tokens to s n c)
+one_syntax tokens at to (inr (e, c, m, g)) (inr (i, d, n, f)) = e ∙ sym i
+
+-- two splits with as many tokens behind the place
+same_start : {tokens : List Token} {at to : ℕ} (s : Split tokens at) (r : Split tokens to) → length (kinds (s.here ∷ s.behind)) ≡ length (kinds (r.here ∷ r.behind)) → at ≡ to
+same_start s r e =
+    let wholes : s.before ++ s.here ∷ s.behind ≡ r.before ++ r.here ∷ r.behind = sym s.whole ∙ r.whole in
+    let count : length s.before ≡ length r.before =
+    omega (arith, e, ap length wholes, length-append s.before (s.here ∷ s.behind), length-append r.before (r.here ∷ r.behind), kinds_length s.behind, kinds_length r.behind) in
+    sym s.starts ∙ ap (λ t. t.start) (same_here s.before r.before s.here r.here s.behind r.behind wholes count) ∙ r.starts
+
+-- a left-out form that is met is one, at one place
+one_form : (tokens : List Token) (w v : List ℕ) (at to : ℕ) (s : Split tokens at) (r : Split tokens to) → LeavesOut s w → LeavesOut r v → (w ≡ v) × (at ≡ to)
+one_form tokens w v at to s r a b =
+    let same = one_left_out (kinds tokens) w v (length (kinds (s.here ∷ s.behind))) (length (kinds (r.here ∷ r.behind))) (leaves_out_stops s w a) (leaves_out_stops r v b) in
+    (same.0, same_start s r same.1)
+
+-- the refusal that the grammar tells is determined
+pub one_refusal : (tokens : List Token) (r s : ParseRefused) → IsByGrammar r → IsByGrammar s → Refused tokens r → Refused tokens s → r ≡ s
+one_refusal tokens (refused.Syntax at) (refused.Syntax to) g h a b = ap (λ n. refused.Syntax n) (one_syntax tokens at to a.0 b.0)
+one_refusal tokens (refused.Syntax at) (refused.LeftOut w to) g h a b = absurd (a.1 to b.0.0 w b.0.1)
+one_refusal tokens (refused.LeftOut w at) (refused.Syntax to) g h a b = absurd (b.1 at a.0.0 w a.0.1)
+one_refusal tokens (refused.LeftOut w at) (refused.LeftOut v to) g h a b =
+    let same = one_form tokens w v at to a.0.0 b.0.0 a.0.1 b.0.1 in
+    ap (λ u. refused.LeftOut u at) same.0 ∙ ap (λ n. refused.LeftOut v n) same.1
+one_refusal tokens refused.Memory s g h a b = absurd g
+one_refusal tokens (refused.TooDeep at) s g h a b = absurd g
+one_refusal tokens r refused.Memory g h a b = absurd h
+one_refusal tokens r (refused.TooDeep at) g h a b = absurd h
