@@ -15,7 +15,7 @@ use Rattle.eql_runs.specs.Built.{unbuilt_in}
 use Rattle.eql_runs.specs.Files.{Files}
 use Rattle.eql_runs.specs.Refusals.{Names, Refusal, Refuses, refusal_status, refusal_text}
 use Rattle.eql_runs.specs.RunLaws.{OneStatus, ListedOrRefused, ReadyOrRefused}
-use Rattle.eql_runs.specs.Runs.{files_for, files_known, known, Runs, Writes, IsRefused, by_files, AreWithin, IsReady, Limited, Tells, Told, ReportsOn, Finds, SearchesBeyond, RefusedAs, names_of, WroteSome, WroteAll, limit_text}
+use Rattle.eql_runs.specs.Runs.{files_for, files_known, known, Runs, Writes, IsRefused, by_files, AreWithin, IsReady, Limited, Tells, Told, ReportsOn, Finds, SearchesBeyond, RefusedAs, names_of, WroteSome, WroteAll, WroteListing, limit_text}
 use Rattle.eql_runs.specs.Runs as runs
 use Rattle.eql_runs.specs.Searches.{listing_of, report_of}
 use Rattle.eql_inputs.specs.declared.halt.Refused.{Refused}
@@ -24,10 +24,10 @@ use Rattle.eql_inputs.specs.declared.halt.Halt.TheVariants as halt
 use Rattle.eql_inputs.specs.Halts.{status_of, text_of, refusal_of}
 use Rattle.eql_find.specs.declared.halt.RunHalt.{RunHalt}
 use Rattle.eql_find.specs.declared.halt.RunHalt.TheVariants as run
-use Rattle.eql_find.specs.Halts.{run_status_of, limit_of, IsRefusal, IsFault, TellsNothing, FaultsAs, CountAs, AbsenceAs, OutAs, ErrAs}
+use Rattle.eql_find.specs.Halts.{run_status_of, limit_of, IsRefusal, IsReport, IsFault, TellsNothing, FaultsAs, CountAs, AbsenceAs, OutAs, ErrAs}
 use Rattle.eql_find.specs.Finding.{ReportsFront}
-use Rattle.eql_cli.specs.Running.{RunsAll, RunsSome, HasCause}
-use Rattle.eql_cli.specs.Telling.{IsReport, TellsRun}
+use Rattle.eql_cli.specs.Running.{RunsAll, RunsListing, RunsSome, HasCause}
+use Rattle.eql_cli.specs.Telling.{TellsRun}
 
 -- a run that stopped has a status above 0
 pub never_done : (h : RunHalt) → run_status_of h ≡ 0 → ⊥
@@ -106,6 +106,19 @@ write_by_status (run.Limit l) out out' err err' o r e = absurd (omega (arith, e)
 write_by_status (run.Report by.Failed) out out' err err' o r e = inr r
 write_by_status (run.Report by.Memory) out out' err err' o r e = absurd (omega (arith, e))
 
+-- where the output didn't fail, status 5 is of the report alone
+pub report_by_status : (h : RunHalt) (out out' : ℕ) → OutAs {A = Unit {0}} (Err h) out out' → run_status_of h ≡ 5 → ¬ Rose out out' → IsReport h
+report_by_status (run.Files (halt.Refused (refused.NoFile name))) out out' o e calm = absurd (omega (arith, e))
+report_by_status (run.Files (halt.Refused (refused.Lex x))) out out' o e calm = absurd (omega (arith, e))
+report_by_status (run.Files (halt.Refused (refused.Parse x))) out out' o e calm = absurd (omega (arith, e))
+report_by_status (run.Files (halt.Refused (refused.Mapping x))) out out' o e calm = absurd (omega (arith, e))
+report_by_status (run.Files (halt.Refused (refused.Broken x))) out out' o e calm = absurd (omega (arith, e))
+report_by_status (run.Files (halt.Read name)) out out' o e calm = absurd (omega (arith, e))
+report_by_status (run.Files halt.Memory) out out' o e calm = absurd (omega (arith, e))
+report_by_status run.Write out out' o e calm = absurd (calm o)
+report_by_status (run.Limit l) out out' o e calm = absurd (omega (arith, e))
+report_by_status (run.Report r) out out' o e calm = tt
+
 -- a fault isn't passed over
 pub read_told : (h : RunHalt) (before now : ℕ) → CountAs {A = Unit {0}} (Err h) before now → before < now → run_status_of h ≡ 4
 read_told (run.Files (halt.Refused r)) before now same lt = absurd (omega (arith, same, lt))
@@ -166,6 +179,9 @@ module _ (words : List (List ℕ)) (asked : Command) (is : command_of words ≡ 
   AllWritten out out' err err' fs =
       (bytes : List ℕ) × (report : List ℕ) × Writes words fs bytes report × written.WroteAll bytes out out' × written.WroteAll report err err'
 
+  abbrev ListingWritten : (out out' : Option (List ℕ)) → Files → Type 0
+  ListingWritten out out' fs = (bytes : List ℕ) × (report : List ℕ) × Writes words fs bytes report × written.WroteAll bytes out out'
+
   abbrev SomeWritten : (out out' : Option (List ℕ)) → Files → Type 0
   SomeWritten out out' fs =
       IfSome out (λ w. (out' ≡ Some w) ⊎ ((bytes : List ℕ) × (report : List ℕ) × Writes words fs bytes report × AppendsSome w bytes out'))
@@ -186,6 +202,23 @@ module _ (words : List (List ℕ)) (asked : Command) (is : command_of words ≡ 
           → IfSome o (AllWritten out out' err err')
       by None h = tt
       by (Some fs) h = (h.0, h.1, writes fs h.0 h.1 h.2, h.3, h.4)
+
+  wrote_listing : (files : Option Files) (out out' : Option (List ℕ)) → RunsListing asked files out out' → WroteListing words files out out'
+  wrote_listing files out out' h =
+      subst (λ (o : Option Files). IfSome o (ListingWritten out out')) (sym (known_is files)) (by (files_for asked files) h)
+    where
+      by : (o : Option Files)
+          → IfSome o (λ fs. (bytes : List ℕ) × (report : List ℕ) × Runs asked fs bytes report × written.WroteAll bytes out out')
+          → IfSome o (ListingWritten out out')
+      by None h = tt
+      by (Some fs) h = (h.0, h.1, writes fs h.0 h.1 h.2, h.3)
+
+  -- where the output didn't fail, a run of status 5 wrote its listing
+  pub listed_by : (files : Option Files) (out out' : Option (List ℕ)) (outs outs' : ℕ) (h : RunHalt) (status : ℕ) → status ≡ run_status_of h
+      → OutAs {A = Unit {0}} (Err h) outs outs' → (IsReport h → RunsListing asked files out out') → status ≡ 5 → ¬ Rose outs outs'
+      → WroteListing words files out out'
+  listed_by files out out' outs outs' h status same o wrote e calm =
+      wrote_listing files out out' (wrote (report_by_status h outs outs' o (sym same ∙ e) calm))
 
   pub wrote_some : (files : Option Files) (out out' : Option (List ℕ)) → RunsSome asked files out out' → WroteSome words files out out'
   wrote_some files out out' h =

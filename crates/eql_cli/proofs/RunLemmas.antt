@@ -11,13 +11,13 @@ use Rattle.eql_inputs.specs.Steps.{naming}
 use Rattle.eql_inputs.specs.declared.halt.Halt.TheVariants as halt
 use Rattle.eql_find.specs.declared.halt.RunHalt.{RunHalt}
 use Rattle.eql_find.specs.declared.halt.RunHalt.TheVariants as run
-use Rattle.eql_find.specs.Finding.{FoundAll, FoundSome, names_in}
+use Rattle.eql_find.specs.Finding.{FoundAll, FoundListing, FoundSome, names_in}
 use Rattle.eql_find.specs.Finding as found
-use Rattle.eql_find.specs.Halts.{AbsenceAs, CountAs, ErrAs, FaultsAs, IsRefusal}
+use Rattle.eql_find.specs.Halts.{AbsenceAs, CountAs, ErrAs, FaultsAs, IsRefusal, IsReport}
 use Rattle.eql_summary.specs.Written.{MadeAll, MadeFront}
 use Rattle.eql_cli.specs.Printing.{PrintsAll, PrintsSome, StopsWriting}
 use Rattle.eql_cli.specs.Printing as printing
-use Rattle.eql_cli.specs.Running.{HasCause, RunsAll, RunsSome}
+use Rattle.eql_cli.specs.Running.{HasCause, RunsAll, RunsListing, RunsSome}
 
 pub found_all : (asked : Command) (find : Find) → asked ≡ command.Find find → (files : Option Files)
     (out out' err err' : Option (List ℕ)) → FoundAll find files out out' err err' → RunsAll asked files out out' err err'
@@ -26,6 +26,11 @@ found_all asked find is files out out' err err' h = subst (λ (c : Command). Run
 pub found_some : (asked : Command) (find : Find) → asked ≡ command.Find find → (files : Option Files)
     (out out' : Option (List ℕ)) → FoundSome find files out out' → RunsSome asked files out out'
 found_some asked find is files out out' h = subst (λ (c : Command). RunsSome c files out out') (sym is) h
+
+pub found_listing : (asked : Command) (find : Find) → asked ≡ command.Find find → (files : Option Files)
+    (out out' : Option (List ℕ)) (h : RunHalt) → (IsReport h → FoundListing find files out out') → IsReport h → RunsListing asked files out out'
+found_listing asked find is files out out' h wrote report =
+    subst (λ (c : Command). RunsListing c files out out') (sym is) (wrote report)
 
 cause_of_find : (find : Find) (files : Option Files) (err err' : Option (List ℕ)) (h : RunHalt)
     → found.HasCause find files err err' h → HasCause (command.Find find) files err err' h
@@ -60,6 +65,27 @@ printed_all asked query fields is files out out' err h =
 pub printed_some : (asked : Command) (query fields : List ℕ) → asked ≡ command.Check query fields → (files : Option Files)
     (out out' : Option (List ℕ)) → PrintsSome query fields files out out' → RunsSome asked files out out'
 printed_some asked query fields is files out out' h = subst (λ (c : Command). RunsSome c files out out') (sym is) h
+
+-- a run of `check` and of `made` has no report that may be refused
+check_reports : (query fields : List ℕ) (files : Option Files) (h : RunHalt) → printing.HasCause query fields files h → ¬ IsReport h
+check_reports query fields files (run.Files h) cause report = report
+check_reports query fields files run.Write cause report = report
+check_reports query fields files (run.Limit l) cause report = report
+check_reports query fields files (run.Report r) cause report = cause
+
+pub printed_listing : (asked : Command) (query fields : List ℕ) (files : Option Files) (out out' : Option (List ℕ)) (h : RunHalt)
+    → printing.HasCause query fields files h → IsReport h → RunsListing asked files out out'
+printed_listing asked query fields files out out' h cause report = absurd (check_reports query fields files h cause report)
+
+made_reports : (h : RunHalt) → StopsWriting h → ¬ IsReport h
+made_reports (run.Files h) stops report = report
+made_reports run.Write stops report = report
+made_reports (run.Limit l) stops report = report
+made_reports (run.Report r) stops report = stops
+
+pub made_listing : (asked : Command) (files : Option Files) (out out' : Option (List ℕ)) (h : RunHalt) → StopsWriting h → IsReport h
+    → RunsListing asked files out out'
+made_listing asked files out out' h stops report = absurd (made_reports h stops report)
 
 cause_of_check : (query fields : List ℕ) (files : Option Files) (err : Option (List ℕ)) (h : RunHalt)
     → printing.HasCause query fields files h → HasCause (command.Check query fields) files err err h

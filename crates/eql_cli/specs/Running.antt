@@ -31,6 +31,12 @@ RunsSome asked files out out' =
     (out' ≡ Some w)
     ⊎ ((bytes : List ℕ) × (report : List ℕ) × Runs asked fs bytes report × AppendsSome w bytes out')))
 
+-- where they are known, the run was one that writes bytes, and where the output tells it got just these
+abbrev pub RunsListing : Command → Option Files → (out out' : Option (List ℕ)) → Type 0
+RunsListing asked files out out' =
+    IfSome (files_for asked files) (λ fs.
+    (bytes : List ℕ) × (report : List ℕ) × Runs asked fs bytes report × WroteAll bytes out out')
+
 -- why the reading of the files that a command names stopped, or that memory ran out
 abbrev pub FilesCause : Command → Option Files → Halt → Type 0
 FilesCause asked files (halt.Refused r) =

@@ -13,10 +13,3 @@ TellsRun (run.Files h) err err' = WroteFront (text_of h) err err'
 TellsRun run.Write err err' = WroteFront (codes "write fault\n") err err'
 TellsRun (run.Limit l) err err' = WroteFront (limit_text (limit_of l)) err err'
 TellsRun (run.Report r) err err' = Unit {0}
-
--- the report was refused
-abbrev pub IsReport : RunHalt → Type 0
-IsReport (run.Files h) = ⊥
-IsReport run.Write = ⊥
-IsReport (run.Limit l) = ⊥
-IsReport (run.Report r) = Unit {0}

@@ -4,7 +4,7 @@ ghost use Rattle.eql_outside.specs.Outside.{Rose};
 ghost use Rattle.eql_outside.specs.Unfailing.{IsUnfailing, AreUnfailing};
 ghost use Rattle.eql_words.specs.Commands.{command_of};
 ghost use Rattle.eql_words.specs.Words.{bytes_of};
-ghost use Rattle.eql_runs.specs.Runs.{WroteAll, WroteSome, Told, Limited, IsReady, RefusedAs};
+ghost use Rattle.eql_runs.specs.Runs.{WroteAll, WroteListing, WroteSome, Told, Limited, IsReady, RefusedAs};
 
 use crate::gate::Gate;
 use crate::run::run_words;
@@ -30,7 +30,8 @@ pub struct Ended<K, E> {
 /// `find` writes the listing of a query's matches in its shards to `out`, and the report to `err`; `check` writes the
 /// canonical text of a query to `out`; `made` writes a summary of what it finds in events that it makes itself to `out`. On
 /// status 0 they are there whole. On every other status `out` got a front of the listing, the text or the summary, nothing at
-/// all where the words or the files are refused, and `err` a front of what is told. What the shelf lent goes back to it.
+/// all where the words or the files are refused, and `err` a front of what is told. On status 5 the listing is there whole where
+/// `out` didn't fail. What the shelf lent goes back to it.
 pub fn eql_main<R: Threads + Wait + Sync, H: Shelf, K: Sink, E: Sink, G: Gate + Sync>(
     _rt: &R,
     alloc: Global,
@@ -48,6 +49,11 @@ pub fn eql_main<R: Threads + Wait + Sync, H: Shelf, K: Sink, E: Sink, G: Gate + 
     // On every other status the output got nothing, or a front of the listing.
     ensures prefix { result.status ≢ 0
         → WroteSome (bytes_of words.now.items) (H.files shelf.old)
+        (K.written out) (K.written result.out) }
+
+    // Where the error output alone failed, the listing is there whole.
+    ensures listed { result.status ≡ 5 → ¬ (Rose (K.fault_count out) (K.fault_count result.out))
+        → WroteListing (bytes_of words.now.items) (H.files shelf.old)
         (K.written out) (K.written result.out) }
 
     // Where the words or the files are refused the output isn't touched.

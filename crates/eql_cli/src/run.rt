@@ -3,12 +3,12 @@ ghost use Rattle.std.specs.Prelude.{◌≡◌, ◌≢◌, ◌⊎◌, ◌≤◌, 
 ghost use Rattle.eql_outside.specs.Outside.{Rose};
 ghost use Rattle.eql_outside.specs.Unfailing.{AreUnfailing, IsUnfailing};
 ghost use Rattle.eql_words.specs.Bounds.{Bounds};
-ghost use Rattle.eql_find.specs.Halts.{AbsenceAs, CountAs, ErrAs, FaultsAs, IsFault, IsRefusal, OutAs, TellsNothing};
+ghost use Rattle.eql_find.specs.Halts.{AbsenceAs, CountAs, ErrAs, FaultsAs, IsFault, IsRefusal, IsReport, OutAs, TellsNothing};
 ghost use Rattle.eql_words.specs.Commands.{command_of};
 ghost use Rattle.eql_words.specs.Words.{bytes_of};
 ghost use Rattle.eql_runs.specs.Built.{unbuilt_in};
-ghost use Rattle.eql_runs.specs.Runs.{WroteAll, WroteSome, Told, Limited, IsReady, RefusedAs};
-ghost use Rattle.eql_cli.specs.Running.{HasCause, RunsAll, RunsSome};
+ghost use Rattle.eql_runs.specs.Runs.{WroteAll, WroteListing, WroteSome, Told, Limited, IsReady, RefusedAs};
+ghost use Rattle.eql_cli.specs.Running.{HasCause, RunsAll, RunsListing, RunsSome};
 
 use crate::check::check_query;
 use crate::made::run_made;
@@ -36,6 +36,8 @@ fn run_command<'a, H: Shelf, K: Sink, E: Sink>(
         (K.written out.old) (K.written out.new) (E.written err.old) (E.written err.new)) }
     ensures prefix { OnErr result (RunsSome command.now (H.files shelf.old)
         (K.written out.old) (K.written out.new)) }
+    ensures listed { IfErr result (λ halt. IsReport halt
+        → RunsListing command.now (H.files shelf.old) (K.written out.old) (K.written out.new)) }
     ensures untouched { IfErr result (λ halt. IsRefusal halt → out.new ≡ out.old) }
     ensures quiet { IfErr result (λ halt. TellsNothing halt → err.new ≡ err.old) }
     ensures cause { IfErr result (HasCause command.now (H.files shelf.old)
@@ -81,6 +83,9 @@ fn end_command<H: Shelf, K: Sink, E: Sink>(
         (K.written out.old) (K.written out.new) (E.written err.old) (E.written err.new) }
     ensures prefix { result ≢ 0 → (words : List (List ℕ)) → command_of words ≡ Some command.now
         → WroteSome words (H.files shelf.old) (K.written out.old) (K.written out.new) }
+    ensures listed { result ≡ 5 → ¬ (Rose (K.fault_count out.old) (K.fault_count out.new))
+        → (words : List (List ℕ)) → command_of words ≡ Some command.now
+        → WroteListing words (H.files shelf.old) (K.written out.old) (K.written out.new) }
     ensures refused { (result ≡ 1) ⊎ (result ≡ 2) ⊎ (result ≡ 3) → out.new ≡ out.old }
     ensures told { result ≢ 0 → (words : List (List ℕ)) → command_of words ≡ Some command.now
         → Told words (H.files shelf.old) (H.faults_of shelf.old) (H.faults_of shelf.new) result
@@ -143,6 +148,9 @@ pub(crate) fn run_words<H: Shelf, K: Sink, E: Sink>(
         (K.written out.old) (K.written out.new) (E.written err.old) (E.written err.new) }
     ensures prefix { result ≢ 0
         → WroteSome (bytes_of words.now.items) (H.files shelf.old)
+        (K.written out.old) (K.written out.new) }
+    ensures listed { result ≡ 5 → ¬ (Rose (K.fault_count out.old) (K.fault_count out.new))
+        → WroteListing (bytes_of words.now.items) (H.files shelf.old)
         (K.written out.old) (K.written out.new) }
     ensures refused { (result ≡ 1) ⊎ (result ≡ 2) ⊎ (result ≡ 3) → out.new ≡ out.old }
     ensures told { result ≢ 0

@@ -6,8 +6,8 @@ ghost use Rattle.eql_words.specs.Features.{part_word};
 ghost use Rattle.eql_words.specs.Usage.{usage_text};
 ghost use Rattle.eql_runs.specs.Refusals.{refusal_text, unbuilt};
 ghost use Rattle.eql_runs.specs.Runs.{limit_text};
-ghost use Rattle.eql_find.specs.Halts.{limit_of};
-ghost use Rattle.eql_cli.specs.Telling.{IsReport, TellsRun};
+ghost use Rattle.eql_find.specs.Halts.{IsReport, limit_of};
+ghost use Rattle.eql_cli.specs.Telling.{TellsRun};
 
 use eql_find::{RunHalt, ShardLimit};
 use eql_inputs::{tell_halt, tell_text};

@@ -18,7 +18,9 @@ use Rattle.eql_runs.specs.Runs.{Finds, Searches}
 use Rattle.eql_inputs.specs.Shards.{AreWhole, AreWholeFiles}
 use Rattle.eql_inputs.specs.Steps.{GotChecked}
 use Rattle.eql_search.specs.Searches.{AreTextsOf}
-use Rattle.eql_find.specs.Finding.{IsPlanOf, FoundAll, FoundSome}
+use Rattle.eql_find.specs.declared.halt.RunHalt.{RunHalt}
+use Rattle.eql_find.specs.Finding.{IsPlanOf, FoundAll, FoundListing, FoundSome}
+use Rattle.eql_find.specs.Halts.{IsReport}
 use Rattle.eql_find.specs.Lanes.{AreOver}
 use Rattle.eql_find.specs.Searching.{Suits}
 
@@ -96,6 +98,17 @@ module _ {S L : Type 0} (left lent_as : S → Option (List ℕ)) (faults : S →
       let s = searched left lent_as faults fails read_of reads slack find plan sources lanes fs is whole over in
       let w = wrote s.search s.texts s.suits in
       (listing_of s.search s.texts, report_of s.search s.texts, finds find fs s.search s.texts s.searches, w.0, w.1)
+
+  pub found_listing : (files : Option Files) (out out' : Option (List ℕ)) → IsPlanOf find files plan
+      → AreWholeFiles find.shards files (map left sources) → AreOver left lent_as faults fails read_of reads slack 0 sources lanes
+      → (halt : RunHalt)
+      → (IsReport halt → (search : Search) (texts : List (List ℕ)) → Suits left find (planned plan) search texts lanes
+      → WroteAll (listing_of search texts) out out')
+      → IsReport halt → FoundListing find files out out'
+  found_listing None out out' is whole over halt wrote report = tt
+  found_listing (Some fs) out out' is whole over halt wrote report =
+      let s = searched left lent_as faults fails read_of reads slack find plan sources lanes fs is whole over in
+      (listing_of s.search s.texts, report_of s.search s.texts, finds find fs s.search s.texts s.searches, wrote report s.search s.texts s.suits)
 
   pub found_some : (files : Option Files) (out out' : Option (List ℕ)) → IsPlanOf find files plan
       → AreWholeFiles find.shards files (map left sources) → AreOver left lent_as faults fails read_of reads slack 0 sources lanes

@@ -20,7 +20,7 @@ use Rattle.eql_search.specs.declared.stop.Stop.TheVariants as stop
 use Rattle.eql_search.specs.Answers.{BecameAt, HasCause, IsNoFault, OutOfBytes, OutOfLines, SteadyBut, WasRead}
 use Rattle.eql_search.specs.Searches.{AreFresh, AreFreshFrom, AreTextsOf, reads_by, slack_by}
 use Rattle.eql_find.specs.declared.halt.RunHalt.{RunHalt}
-use Rattle.eql_find.specs.Halts.{IsFault}
+use Rattle.eql_find.specs.Halts.{IsFault, IsReport}
 use Rattle.eql_find.specs.Reports.{counts_in}
 use Rattle.eql_find.specs.Searching.{LaneFaults, ReportOf, StoppedLanes, Suits}
 use Rattle.eql_find.specs.Stops.{IsHaltOf, read, write, memory, lines, bytes}
@@ -145,3 +145,11 @@ calm_by shards _ _ calm write fault = absurd calm
 calm_by shards _ _ calm memory fault = fault
 calm_by shards _ _ calm (lines shard) fault = fault
 calm_by shards _ _ calm (bytes shard) fault = fault
+
+-- a search that stopped refused no report
+pub no_report : (shards : List (List ℕ)) (why : Stop) (h : RunHalt) → IsHaltOf shards why h → ¬ IsReport h
+no_report shards _ _ (read shard name named) report = report
+no_report shards _ _ write report = report
+no_report shards _ _ memory report = report
+no_report shards _ _ (lines shard) report = report
+no_report shards _ _ (bytes shard) report = report

@@ -38,6 +38,12 @@ FoundSome find files out out' =
     (out' ≡ Some w)
     ⊎ ((bytes : List ℕ) × (report : List ℕ) × Finds find fs bytes report × AppendsSome w bytes out')))
 
+-- where the shelf tells its files, the run was one that writes a listing, and where the output tells too it got just this
+abbrev pub FoundListing : Find → Option Files → (out out' : Option (List ℕ)) → Type 0
+FoundListing find files out out' =
+    IfSome files (λ fs.
+    (bytes : List ℕ) × (report : List ℕ) × Finds find fs bytes report × WroteAll bytes out out')
+
 -- a report with a line for each shard, of which the error output got a front; where the shelf tells its files, it is that of
 -- the run
 pub record ReportsFront (find : Find) (files : Option Files) (err err' : Option (List ℕ)) : Type 0 where

@@ -42,6 +42,13 @@ TellsNothing run.Write = Unit {0}
 TellsNothing (run.Limit l) = Unit {0}
 TellsNothing (run.Report r) = ⊥
 
+-- the report isn't written whole
+abbrev pub IsReport : RunHalt → Type 0
+IsReport (run.Files h) = ⊥
+IsReport run.Write = ⊥
+IsReport (run.Limit l) = ⊥
+IsReport (run.Report r) = Unit {0}
+
 -- a file, the output or the error output failed
 abbrev pub IsFault : RunHalt → Type 0
 IsFault (run.Files (input.Refused r)) = ⊥

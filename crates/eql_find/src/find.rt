@@ -13,8 +13,8 @@ ghost use Rattle.eql_search.specs.Answers.{AreUnfailing as AreLanesUnfailing, Ha
 ghost use Rattle.eql_search.specs.Searches.{AreFresh, reads_by, slack_by};
 ghost use Rattle.eql_find.specs.Searching.{LaneFaults, StoppedLanes, Suits};
 ghost use Rattle.eql_find.specs.Stops.{MayStop};
-ghost use Rattle.eql_find.specs.Halts.{AbsenceAs, CountAs, ErrAs, FaultsAs, IsFault, IsRefusal, OutAs, TellsNothing};
-ghost use Rattle.eql_find.specs.Finding.{FoundAll, FoundSome, HasCause, IsPlanOf};
+ghost use Rattle.eql_find.specs.Halts.{AbsenceAs, CountAs, ErrAs, FaultsAs, IsFault, IsRefusal, IsReport, OutAs, TellsNothing};
+ghost use Rattle.eql_find.specs.Finding.{FoundAll, FoundListing, FoundSome, HasCause, IsPlanOf};
 
 use crate::book::fresh_book;
 use crate::halt::RunHalt;
@@ -105,6 +105,10 @@ fn run_lanes<'a, S: Source, K: Sink, E: Sink>(
     ensures prefix { OnErr result ((search : Search) (texts : List (List ℕ))
         → Suits S.left find.now (planned plan.now) search texts lanes.old.items
         → WroteFront (listing_of search texts) (K.written out.old) (K.written out.new)) }
+    ensures listed { IfErr result (λ halt. IsReport halt
+        → (search : Search) (texts : List (List ℕ))
+        → Suits S.left find.now (planned plan.now) search texts lanes.old.items
+        → WroteAll (listing_of search texts) (K.written out.old) (K.written out.new)) }
     ensures quiet { IfErr result (λ halt. TellsNothing halt → err.new ≡ err.old) }
     ensures cause { IfErr result (StoppedLanes S.left find.now (planned plan.now) lanes.old.items
         (E.written err.old) (E.written err.new)) }
@@ -148,6 +152,8 @@ fn run_shards<'a, H: Shelf, K: Sink, E: Sink>(
         (K.written out.old) (K.written out.new) (E.written err.old) (E.written err.new)) }
     ensures prefix { OnErr result (FoundSome find.now (H.files shelf.old)
         (K.written out.old) (K.written out.new)) }
+    ensures listed { IfErr result (λ halt. IsReport halt
+        → FoundListing find.now (H.files shelf.old) (K.written out.old) (K.written out.new)) }
     ensures untouched { IfErr result (λ halt. ¬ IsRefusal halt) }
     ensures quiet { IfErr result (λ halt. TellsNothing halt → err.new ≡ err.old) }
     ensures cause { IfErr result (HasCause find.now (H.files shelf.old)
@@ -181,7 +187,7 @@ fn run_shards<'a, H: Shelf, K: Sink, E: Sink>(
 /// `err`. What the shelf lent goes back to it.
 ///
 /// On `Ok` both are there whole. Else `out` got a front of the listing, nothing at all where the files are refused, and
-/// `err` nothing, or a front of the report where that was refused.
+/// `err` nothing. Where the report alone was refused the listing is there whole, and `err` got a front of the report.
 pub fn find_matches<'a, H: Shelf, K: Sink, E: Sink>(
     alloc: Global,
     find: &'a Find,
@@ -196,6 +202,8 @@ pub fn find_matches<'a, H: Shelf, K: Sink, E: Sink>(
         (K.written out.old) (K.written out.new) (E.written err.old) (E.written err.new)) }
     ensures prefix { OnErr result (FoundSome find.now (H.files shelf.old)
         (K.written out.old) (K.written out.new)) }
+    ensures listed { IfErr result (λ halt. IsReport halt
+        → FoundListing find.now (H.files shelf.old) (K.written out.old) (K.written out.new)) }
     ensures untouched { IfErr result (λ halt. IsRefusal halt → out.new ≡ out.old) }
     ensures quiet { IfErr result (λ halt. TellsNothing halt → err.new ≡ err.old) }
 

@@ -1,6 +1,6 @@
 //! Objects that fail: each call of a run in turn, and which of several causes is told. No fault is passed over.
 use crate::row::{Failing, Object, Row, ended, found, printed, refused, usage};
-use crate::run::{check, compare_run, run};
+use crate::run::{check, compare, compare_run, listed_of, run};
 use crate::sequences::{ELEVEN, REFERENCE, REFERENCE_LISTS};
 use crate::text::Piece::{Bytes, Each, Events, Times};
 use std::alloc::Global;
@@ -210,8 +210,8 @@ fn writes() -> [Row; 6] {
     ]
 }
 
-/// Faults that can't be told leave the status.
-fn untold() -> [Row; 8] {
+/// Faults that can't be told leave the status. A report that can't be written leaves the listing whole.
+fn untold() -> [Row; 9] {
     [
         usage("words", "find").fails(&[ERR]),
         ended("a part that isn't built", 3, "unbuilt: --checkpoint")
@@ -243,6 +243,16 @@ fn untold() -> [Row; 8] {
             )
             .fails(&[ERR])
         },
+        Row {
+            status: 5,
+            ..found(
+                "a report, and what a pipe holds back until the end",
+                "any where true | tail 1",
+                &[Events("1 a, 2 a")],
+                &["2 [] 0:2"],
+            )
+            .fails(&[ERR])
+        },
     ]
 }
 
@@ -253,6 +263,54 @@ fn faults_are_told(rt: HostRuntime) -> Result<(), Fail> {
     check(&rt, rt.alloc(), &unreached())?;
     check(&rt, rt.alloc(), &writes())?;
     check(&rt, rt.alloc(), &untold())
+}
+
+/// A shard of four lines that come in one take, read line by line. The next take fails.
+fn line_by_line(shows: &'static str, words: &'static str) -> Row {
+    unread(shows, "read fault: s0", &[(Object::Shard(0), 2)])
+        .over(&[Events("10 a, 20 a, 30 a, 40 a")])
+        .with(words)
+        .in_pieces(1000)
+}
+
+/// What was found before a fault stands. In the first row each round from the second on reads a line, and finds the event of
+/// the line before below its low. The last event isn't below any. Without a slack nothing is. A round writes once all lanes
+/// were fed, so nothing of the round that fails is written.
+fn before_a_fault() -> [Row; 5] {
+    [
+        line_by_line("line by line", "--slack 1ms --batch 1").lists(&[
+            "1 [] 0:1", "2 [] 0:2", "3 [] 0:3",
+        ]),
+        line_by_line("with a slack of ten", "--slack 10ms --batch 1").lists(&[
+            "1 [] 0:1", "2 [] 0:2",
+        ]),
+        line_by_line("all lines in one round", "--slack 1ms --batch 4").lists(&[
+            "1 [] 0:1", "2 [] 0:2", "3 [] 0:3",
+        ]),
+        line_by_line(
+            "all lines and the end in one round",
+            "--slack 1ms --batch 5",
+        ),
+        line_by_line("without a slack", "--batch 1"),
+    ]
+}
+
+#[test]
+fn matches_are_written_while_shards_are_read(rt: HostRuntime) -> Result<(), Fail> {
+    let alloc = rt.alloc();
+    for row in &before_a_fault() {
+        let ran = run(&rt, alloc, row, row.fails)?;
+        compare_run(&rt, alloc, row, &ran, row.fails)?;
+        compare(
+            &rt,
+            alloc,
+            ran.out.bytes(),
+            listed_of(alloc, row)?,
+            true,
+            row.shows,
+        )?;
+    }
+    Ok(())
 }
 
 /// The search in which each call fails in turn.

@@ -180,7 +180,7 @@ fn told_of(alloc: Global, row: &Row) -> Result<Vec<u8>, Fail> {
 }
 
 /// What the output of a row has to get.
-fn listed_of(alloc: Global, row: &Row) -> Result<Vec<u8>, Fail> {
+pub(crate) fn listed_of(alloc: Global, row: &Row) -> Result<Vec<u8>, Fail> {
     let mut listed = Vec::new(alloc);
     add_lines(&mut listed, row.listed)?;
     add_pieces(alloc, &mut listed, row.rest)?;

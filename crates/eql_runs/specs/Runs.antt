@@ -202,6 +202,13 @@ WroteSome words files out out' =
     (out' ≡ Some w)
     ⊎ ((bytes : List ℕ) × (report : List ℕ) × Writes words fs bytes report × AppendsSome w bytes out')))
 
+-- where they are known, the run was one that writes bytes, and where the output tells it got just these, whatever the
+-- error output got
+abbrev pub WroteListing : List (List ℕ) → Option Files → (out out' : Option (List ℕ)) → Type 0
+WroteListing words files out out' =
+    IfSome (known words files) (λ fs.
+    (bytes : List ℕ) × (report : List ℕ) × Writes words fs bytes report × written.WroteAll bytes out out')
+
 -- a run of this status told a text whose cause holds, or a front of it, which may be empty
 abbrev pub Told :
     List (List ℕ) → Option Files → (before after : List ℕ → ℕ) → ℕ → (err err' : Option (List ℕ)) → Type 0

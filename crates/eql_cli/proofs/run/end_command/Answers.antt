@@ -1,5 +1,5 @@
 use Rattle.std.proofs.Common.{ap}
-use Rattle.eql_cli.proofs.EndLemmas.{never_ended, wrote_all, wrote_some, told_of, limit_of_status, stops_ready, is_calm, no_read, done_exact, stops_exact}
+use Rattle.eql_cli.proofs.EndLemmas.{listed_by, never_ended, wrote_all, wrote_some, told_of, limit_of_status, stops_ready, is_calm, no_read, done_exact, stops_exact}
 use Rattle.eql_cli.proofs.run.end_command.Goals as goal
 
 pub returns-in-Ok-clause-done : goal.returns-in-Ok-clause-done
@@ -13,6 +13,10 @@ returns-in-Err-clause-done g c = λ e. absurd (never_ended c.in-Err.halt _ c.sta
 
 pub returns-in-Err-clause-prefix : goal.returns-in-Err-clause-prefix
 returns-in-Err-clause-prefix g c = λ e words is. wrote_some words c.args.command.now is c.requires.built _ _ _ c.in-Err.ensures.prefix
+
+pub returns-in-Err-clause-listed : goal.returns-in-Err-clause-listed
+returns-in-Err-clause-listed g c = λ e calm words is.
+    listed_by words c.args.command.now is c.requires.built _ _ _ _ _ c.in-Err.halt _ c.status.ensures c.in-Err.ensures.out c.in-Err.ensures.listed e calm
 
 pub returns-in-Err-clause-told : goal.returns-in-Err-clause-told
 returns-in-Err-clause-told g c = λ e words is.

@@ -1,5 +1,5 @@
 use Rattle.std.proofs.lemmas.Result.{IfErr-weaker, on_err_weaker, on_ok_weaker}
-use Rattle.eql_cli.proofs.RunLemmas.{found_all, found_some, find_cause, printed_all, printed_some, check_cause, made_all, made_some, made_cause, made_untouched, made_faults, made_count, made_absences, made_errors}
+use Rattle.eql_cli.proofs.RunLemmas.{found_all, found_listing, found_some, find_cause, printed_all, printed_listing, printed_some, check_cause, made_all, made_listing, made_some, made_cause, made_untouched, made_faults, made_count, made_absences, made_errors}
 use Rattle.eql_cli.proofs.run.run_command.Goals as goal
 
 pub returns-in-Find-clause-done : goal.returns-in-Find-clause-done
@@ -7,6 +7,9 @@ returns-in-Find-clause-done g c = on_ok_weaker c.find_matches.result (found_all 
 
 pub returns-in-Find-clause-prefix : goal.returns-in-Find-clause-prefix
 returns-in-Find-clause-prefix g c = on_err_weaker c.find_matches.result (found_some c.args.command.now c.in-Find.find c.in-Find.is _ _ _) c.find_matches.ensures.prefix
+
+pub returns-in-Find-clause-listed : goal.returns-in-Find-clause-listed
+returns-in-Find-clause-listed g c = IfErr-weaker c.find_matches.result _ _ (found_listing c.args.command.now c.in-Find.find c.in-Find.is _ _ _) c.find_matches.ensures.listed
 
 pub returns-in-Find-clause-cause : goal.returns-in-Find-clause-cause
 returns-in-Find-clause-cause g c = IfErr-weaker c.find_matches.result _ _ (find_cause c.args.command.now c.in-Find.find c.in-Find.is _ _ _) c.find_matches.ensures.cause
@@ -17,6 +20,9 @@ returns-in-Check-clause-done g c = on_ok_weaker c.check_query.result (printed_al
 pub returns-in-Check-clause-prefix : goal.returns-in-Check-clause-prefix
 returns-in-Check-clause-prefix g c = on_err_weaker c.check_query.result (printed_some c.args.command.now c.in-Check.query c.in-Check.fields c.in-Check.is _ _ _) c.check_query.ensures.prefix
 
+pub returns-in-Check-clause-listed : goal.returns-in-Check-clause-listed
+returns-in-Check-clause-listed g c = IfErr-weaker c.check_query.result _ _ (printed_listing c.args.command.now c.in-Check.query c.in-Check.fields _ _ _) c.check_query.ensures.cause
+
 pub returns-in-Check-clause-cause : goal.returns-in-Check-clause-cause
 returns-in-Check-clause-cause g c = IfErr-weaker c.check_query.result _ _ (check_cause c.args.command.now c.in-Check.query c.in-Check.fields c.in-Check.is _ _) c.check_query.ensures.cause
 
@@ -25,6 +31,9 @@ returns-in-Made-clause-done g c = on_ok_weaker c.run_made.result (made_all c.arg
 
 pub returns-in-Made-clause-prefix : goal.returns-in-Made-clause-prefix
 returns-in-Made-clause-prefix g c = on_err_weaker c.run_made.result (made_some c.args.command.now c.in-Made.hands c.in-Made.events c.in-Made.is _ _ _) c.run_made.ensures.prefix
+
+pub returns-in-Made-clause-listed : goal.returns-in-Made-clause-listed
+returns-in-Made-clause-listed g c = IfErr-weaker c.run_made.result _ _ (made_listing c.args.command.now _ _ _) c.run_made.ensures.stops
 
 pub returns-in-Made-clause-untouched : goal.returns-in-Made-clause-untouched
 returns-in-Made-clause-untouched g c = made_untouched c.run_made.result _ _ c.run_made.ensures.stops

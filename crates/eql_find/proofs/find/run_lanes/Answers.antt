@@ -1,6 +1,6 @@
 use Rattle.eql_stages.specs.Judging.{reads_by}
 use Rattle.eql_stages.specs.Planned.{planned}
-use Rattle.eql_find.proofs.RunLemmas.{calm_by, done_by, err_steady, faults_by, front_of_all, report_by, stopped_by}
+use Rattle.eql_find.proofs.RunLemmas.{calm_by, done_by, err_steady, faults_by, front_of_all, no_report, report_by, stopped_by}
 use Rattle.eql_find.proofs.find.run_lanes.Goals as goal
 
 pub returns-in-Ok-write_report-clause-done : goal.returns-in-Ok-write_report-clause-done
@@ -31,3 +31,6 @@ returns-in-Err-clause-faults g c =
 
 pub returns-in-Err-clause-unfailing : goal.returns-in-Err-clause-unfailing
 returns-in-Err-clause-unfailing g c = λ lanes out err. calm_by c.args.find.now.shards c.in-Err.stop c.halt_of.result (c.in-Err.ensures.unfailing out lanes) c.halt_of.ensures
+
+pub returns-in-Err-clause-listed : goal.returns-in-Err-clause-listed
+returns-in-Err-clause-listed g c = λ report. absurd (no_report c.args.find.now.shards c.in-Err.stop c.halt_of.result c.halt_of.ensures report)

@@ -1,11 +1,12 @@
 use native.Mathlib.Omega.{arith}
 use Rattle.std.proofs.Common.{◌∙◌}
-use Rattle.std.proofs.lemmas.Result.{on_err_weaker, on_ok_weaker}
+use Rattle.std.proofs.lemmas.Result.{IfErr-weaker, on_err_weaker, on_ok_weaker}
 use Rattle.eql_stages.specs.Judging.{reads_by}
 use Rattle.eql_find.proofs.CauseLemmas.{all_causes}
 use Rattle.eql_find.proofs.FailLemmas.{named_over}
 use Rattle.eql_find.proofs.MakingLemmas.{over_long}
-use Rattle.eql_find.proofs.PlanLemmas.{found_all, found_some}
+use Rattle.eql_find.proofs.PlanLemmas.{found_all, found_listing, found_some}
+use Rattle.eql_find.proofs.RunLemmas.{no_report}
 use Rattle.eql_find.proofs.ShardLemmas.{as_many, reads_are, slack_is, are_fresh, unfailing_over, may_make, made_halt, faults_as, count_as, zip_long, lent_all, faults_then, count_then}
 use Rattle.eql_find.proofs.find.run_shards.Goals as goal
 
@@ -70,6 +71,14 @@ pub returns-clause-prefix : goal.returns-clause-prefix
 returns-clause-prefix g c =
     on_err_weaker c.run_lanes-ran.result (found_some g.H.Src.Source.left g.H.Src.Source.lent_as g.H.Src.Source.fault_count g.H.Src.Source.fault_plan reads_by _ _ c.args.find.now c.args.plan.now c.args.sources.items c.in-Ok.lanes.items _ _ _
     c.requires.plan c.requires.whole c.in-Ok.ensures.made) c.run_lanes-ran.ensures.prefix
+
+pub returns-in-Err-clause-listed : goal.returns-in-Err-clause-listed
+returns-in-Err-clause-listed g c = λ report. absurd (no_report c.args.find.now.shards c.in-Err.stop c.halt_of.result c.halt_of.ensures report)
+
+pub returns-clause-listed : goal.returns-clause-listed
+returns-clause-listed g c =
+    IfErr-weaker c.run_lanes-ran.result _ _ (found_listing g.H.Src.Source.left g.H.Src.Source.lent_as g.H.Src.Source.fault_count g.H.Src.Source.fault_plan reads_by _ _ c.args.find.now c.args.plan.now c.args.sources.items c.in-Ok.lanes.items _ _ _
+    c.requires.plan c.requires.whole c.in-Ok.ensures.made) c.run_lanes-ran.ensures.listed
 
 pub returns-clause-cause : goal.returns-clause-cause
 returns-clause-cause g c =
