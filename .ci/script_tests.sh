@@ -1,6 +1,6 @@
 #!/usr/bin/env bash
-# Tests of the script eql, with a stand-in for the toolchain's command rt: which crates it proves and in which order, what it
-# tells, and status 70 where the program can't be built. It runs in a folder that has the crates by name alone.
+# Tests of the script eql, with a stand-in for the toolchain's command rt: which crates it proves, in which order and which side by
+# side, what it tells, and status 70 where the program can't be built. It runs in a folder that has the crates by name alone.
 #
 #     .ci/script_tests.sh
 #
@@ -19,22 +19,36 @@ sed -nE 's/^([a-z_0-9]+)( [^:]*)?:.*/\1/p' tree/crates.txt | while read -r crate
 ln -s ../tree/eql elsewhere/middle
 ln -s middle elsewhere/eql
 # The tools that the script uses, without rt.
-for tool in bash env awk find dirname readlink rm; do ln -s "$(command -v "$tool")" tools; done
-ln -s "$(command -v mkdir)" "$(command -v cat)" "$(command -v chmod)" toolchain
-# The stand-in notes what it is asked, and fails in the crate $RT_FAILS. `rt run` leaves a program that tells its words, and
-# ends with the status of that program.
+for tool in bash env awk find dirname readlink rm cp mkdir mv grep nproc flock; do ln -s "$(command -v "$tool")" tools; done
+ln -s "$(command -v chmod)" "$(command -v sleep)" toolchain
+# The stand-in notes what it is asked. It fails where a crate below isn't built, in the crate $RT_FAILS, and in each of $RT_MEETS
+# unless it is asked for all of them within five seconds. In the crate $RT_LASTS it takes as long. `rt lib` leaves a library. `rt run`
+# leaves a program that tells its words, and ends with the status of that program.
 cat >toolchain/rt <<'END'
 #!/usr/bin/env bash
-echo "${PWD##*/} $*" >>"$RT_LOG"
-[ "${PWD##*/}" != "$RT_FAILS" ] || exit 1
+crate=${PWD##*/}
+echo "$crate $*" >>"$RT_LOG"
+for below in ../*/; do
+    case $below in ../eql/ | "../$crate/") ;; *) [ -f "$below/out/rlib/stamp" ] || [ "$1" = run ] || exit 1 ;; esac
+done
+case " $RT_MEETS " in
+    *" $crate "*)
+        for it in $RT_MEETS; do
+            for _ in {1..50}; do ! grep -qx "$it lib" "$RT_LOG" || continue 2; sleep 0.1; done
+            exit 1
+        done ;;
+esac
+[ "$crate" != "$RT_LASTS" ] || { sleep 5; echo "$crate lasted" >>"$RT_LOG"; }
+[ "$crate" != "$RT_FAILS" ] || exit 1
+mkdir -p out/rlib
+echo built >out/rlib/stamp
 [ "$1" = run ] || exit 0
-mkdir -p out
 printf '#!/usr/bin/env bash\necho "ran in ${PWD##*/}: $*"\nexit 9\n' >out/eql
 chmod +x out/eql
 exit 2
 END
 chmod +x toolchain/rt
-export RT_LOG=$room/log RT_FAILS=''
+export RT_LOG=$room/log RT_FAILS='' RT_MEETS='' RT_LASTS='' EQL_AT_ONCE=1
 
 # Runs the script with these folders as the PATH; the time so far isn't compared.
 without=$room/tools with=$room/tools:$room/toolchain
@@ -97,6 +111,30 @@ second=$(sed -n 2p order)
 RT_FAILS=$second run 'a crate that fails' 70 '' @one "$with"
 { told_of $((count - 1)); echo "eql: eql isn't proved; 'rt run' in $room/tree/crates/eql tells why"; } >last
 RT_FAILS=eql run 'a program that fails' 70 '' @last "$with"
+
+# Crates side by side: the first and another one that stands on none.
+first=$(head -n 1 order)
+apart=$(tail -n +2 order | while read -r crate; do
+    for below in $(named_by "$crate"); do [ ! -d "tree/crates/$below" ] || continue 2; done
+    echo "$crate" && break
+done)
+{ told_of 0; echo "eql: $first isn't proved; 'rt lib' in $room/tree/crates/$first tells why"; } >none
+anew() { rm -rf tree/crates/*/out; : >"$RT_LOG"; }
+anew
+RT_MEETS="$first $apart" run 'one after the other they do not meet' 70 '' @none "$with"
+anew
+(cd elsewhere && EQL_AT_ONCE=2 RT_MEETS="$first $apart" PATH=$with ./eql) >got.out 2>/dev/null
+same 'two crates side by side' $'ran in elsewhere: \n'
+sed -E 's/ .*//' "$RT_LOG" | sort >got.out
+same 'each crate is proved once, side by side too' "$(sort order)"$'\n'
+anew
+EQL_AT_ONCE=2 RT_MEETS="$first $apart" RT_FAILS=$first RT_LASTS=$apart run 'of two crates side by side one fails' 70 '' @none "$with"
+{ grep lasted "$RT_LOG"; find tree -name rooms; } >got.out
+same 'the other one is ended, and nothing is left of it' ''
+(unset EQL_AT_ONCE && cd elsewhere && PATH=$with ./eql) >got.out 2>/dev/null
+same 'as many as the machine can take' $'ran in elsewhere: \n'
+rm -r tree/crates/eql/out
+EQL_AT_ONCE=none run 'no number of crates' 70 '' $'eql: proving the '"$count"$' crates of the program before its first run\neql: EQL_AT_ONCE isn\'t a number from 1 on: none\n' "$with"
 run 'no toolchain' 70 '' $'eql: the program isn\'t built, and the toolchain\'s command \'rt\' isn\'t on the PATH\n' "$without"
 
 end
