@@ -131,6 +131,19 @@ pub text_refused : (last : LastText) (r : Result Recovered CkRefused) (y e : CkR
     → IfErr r (λ z. Said z q)
 text_refused last r y e o p q is same here kept there damage = refused_so r y e p q is same here (text_each last e o p kept there damage)
 
+-- what holds of a refusal holds where it is damage
+if_any : (e : CkRefused) (A : Type 0) → A → IfDamaged e (λ number at. A)
+if_any ck.DiskFault A a = tt
+if_any (ck.Damaged area at) A a = a
+if_any ck.Generation A a = tt
+if_any ck.Memory A a = tt
+
+pub kept_refused : (r : Result Recovered CkRefused) (y : CkRefused) (o p q : Option History) → r ≡ Err y → q ≡ p → Told AllKept o p
+    → IfErr r (λ e. IfDamaged e (λ number at. Told AllKept o q))
+kept_refused r y o p q is same kept =
+    subst (λ (x : Result Recovered CkRefused). IfErr x (λ e. IfDamaged e (λ number at. Told AllKept o q))) (sym is)
+    (if_any y (Told AllKept o q) (subst (λ (x : Option History). Told AllKept o x) (sym same) kept))
+
 -- a text of a cut is put
 module _ (last : LastCut) (cut : Cut) (bytes : List ℕ) (t : IsText 3 cut bytes) where
   cut_put : (h k : History) → PutsText last bytes h k → Puts last cut h k

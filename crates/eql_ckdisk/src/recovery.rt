@@ -87,6 +87,8 @@ pub fn recover<D: Disk>(alloc: Global, disk: &mut D) -> Result<Recovered, CkRefu
     ensures moments { Told (Goes NoMore) (D.history disk.old) (D.history disk.new) }
     ensures damaged { IfErr result (λ e. IfDamaged e (λ area at. IfSome (D.history disk.new)
         (λ k. EachFinds (IsDamaged area at) k.now))) }
+    ensures damaged_kept { IfErr result (λ e. IfDamaged e
+        (λ area at. Told AllKept (D.history disk.old) (D.history disk.new))) }
     ensures limit { result ≢ Err CkRefused.Generation }
 
     // The disk's count rises where its fault is answered, and nowhere else.

@@ -1,6 +1,7 @@
 -- Laws of the places that a cut of texts has.
 use Rattle.std.specs.Prelude.{◌≡◌, ◌↔◌, ℕ, ℤ, List, Some, map, All, Contains, IsTrue}
 use Rattle.eql_values.specs.declared.order.Mark.TheVariants.{At}
+use Rattle.eql_values.specs.declared.order.OrderKey.{OrderKey}
 use Rattle.eql_values.specs.Accepted.{Reads}
 use Rattle.eql_values.specs.Marks.{is_safe}
 use Rattle.eql_laws.specs.Belows.{IsReading}
@@ -50,3 +51,7 @@ NamesStay = (place : ℕ → ℕ → ℕ) (cut : Cut) (shard line : ℕ) → Nam
 -- a cut without places is what the first format keeps of it once it has been placed
 abbrev pub UnplacedIsBack : Type 0
 UnplacedIsBack = (texts : List (List ℕ)) (cut : Cut) → IsUnplaced (orders_in cut) → unplaced (placed texts cut) ≡ cut
+
+-- each event of a cut stands at a line that the cut names
+abbrev pub EventsAreNamed : Type 0
+EventsAreNamed = (cut : Cut) → All (λ (o : OrderKey). NamesLine cut o.shard o.line) (orders_in cut)

@@ -1,5 +1,6 @@
 //! A cut of texts has the places of its lines, by which it is had again where it lost them.
 ghost use Rattle.eql_placed.specs.PlacedLaws.{EventsHavePlaces, PlacedIsBack};
+ghost use Rattle.eql_placed.specs.PlacedLaws.{EventsAreNamed};
 ghost use Rattle.eql_placed.specs.PlacedLaws.{WantedWereNoted, NotedIsPlaced, NotedIsBack};
 ghost use Rattle.eql_placed.specs.PlacedLaws.{NamedWereRead};
 ghost use Rattle.eql_placed.specs.PlacedLaws.{NamesStay, UnplacedIsBack};
@@ -45,3 +46,8 @@ pub fn places_alone_are_set()
 {
     lifted_cuts_are_placed();
 }
+
+/// Each event of a cut stands at a line that the cut names.
+pub fn events_are_named()
+    ensures { EventsAreNamed }
+{}

@@ -3,4 +3,7 @@
 
 mod laws;
 
-pub use laws::{cuts_have_places, named_lines_were_read, noted_places_serve, places_alone_are_set};
+pub use laws::{
+    cuts_have_places, events_are_named, named_lines_were_read, noted_places_serve,
+    places_alone_are_set,
+};
