@@ -34,7 +34,7 @@ have_runs mapping [] items = refl
 have_runs mapping (term ∷ terms) (more_items item items) =
     and_from (has_runs term) (list_all has_runs terms) item.runs (have_runs mapping terms items)
 
-keeps : (search : Search) → IsChecked (kind_at search.mapping) search.query
+pub keeps : (search : Search) → IsChecked (kind_at search.mapping) search.query
     → KeepsRules search.query (plan_of search).fields
 keeps search checked = record {
   mapping = search.mapping;
@@ -59,7 +59,7 @@ matches_are_few laws search texts checked few all =
     (laws.found (stages_of search) (span_in search.query.body) (reads_of search) (slack_of search) texts End
     (once laws search checked) all few)
 
-texts_count : (names : List (List ℕ)) (files : Files) (texts : List (List ℕ)) → HasTexts names files texts
+pub texts_count : (names : List (List ℕ)) (files : Files) (texts : List (List ℕ)) → HasTexts names files texts
     → length texts ≡ length names
 texts_count [] files [] has = refl
 texts_count [] files (t ∷ ts) has = elim has [ ]

@@ -1,8 +1,7 @@
 -- What a run writes is determined, and no run writes over what is refused.
 use Rattle.std.proofs.Common.{◌≡◌, ℕ, List, [], Option, None, Some, refl, ap, ap₂, sym, arith, ◌∙◌, subst}
 use Rattle.std.specs.Prelude.{All, IsSomeAnd, codes, encode_utf8_all, ◌++◌}
-use Rattle.std.specs.List.{slice_get}
-use Rattle.std.proofs.lemmas.Option.{none-some, same_Some, slice_get_within, get_or_from_slice_get}
+use Rattle.std.proofs.lemmas.Option.{none-some, same_Some}
 use Rattle.eql_lexer.specs.declared.token.Token.{Token}
 use Rattle.eql_parser.specs.QueryGrammar.{IsQuery}
 use Rattle.eql_parser.specs.QueryTree.{QueryTree}
@@ -11,13 +10,19 @@ use Rattle.eql_words.specs.declared.commands.Command.{Command}
 use Rattle.eql_words.specs.declared.commands.Command.TheVariants as command
 use Rattle.eql_words.specs.declared.commands.Find.{Find}
 use Rattle.eql_words.specs.Commands.{command_of}
-use Rattle.eql_runs.specs.Files.{Files, IsWithin}
+use Rattle.eql_runs.specs.Files.{Files}
 use Rattle.eql_runs.specs.Refusals.{Names, Refusal, Refuses}
-use Rattle.eql_runs.specs.Searches.{Search, listing_of, report_of}
+use Rattle.eql_runs.specs.Refusals as refusal
+use Rattle.eql_runs.specs.Searches.{Search, rest_of, report_of}
 use Rattle.eql_runs.specs.Summaries.{made_query, IsMadeSearch, made_lines, Makes}
-use Rattle.eql_runs.specs.Runs.{names_of, files_for, files_known, known, Searches, Finds, Prints, Runs, Writes, IsRefused, by_word, by_files, ShardLimit, IsBeyond, many_lines, many_bytes, AreWithin, IsReady, Limited}
+use Rattle.eql_runs.specs.Runs.{names_of, Searches, Finds, Prints, Runs, Writes, IsRefused, by_cut, by_files, RefusesCut, CanRun}
+use Rattle.eql_runs.specs.CutRefusals.{CutRefusal, CutRefuses}
+use Rattle.eql_runs.specs.RunLaws.{SameRefusal}
+use Rattle.eql_runs.specs.Starts.{OnDisk, listed_on, start_for}
 use Rattle.eql_runs.proofs.Reading.{QueryLaws, mapping_or, one_query, one_mapping, one_texts, none_missing}
-use Rattle.eql_runs.proofs.Refusing.{none_refused, one_command, built_or_not}
+use Rattle.eql_runs.proofs.OwnCuts.{OwnLaws, reading_of}
+use Rattle.eql_runs.proofs.CutRefusing.{CutLaws, begins_or_refused, one_cut_cause}
+use Rattle.eql_runs.proofs.Refusing.{none_refused, one_command, one_refusal}
 
 -- a command searches for one thing
 pub one_search : (laws : QueryLaws) (find : Find) (files : Files) (a b : Search) (ts us : List (List ℕ))
@@ -32,12 +37,12 @@ one_search laws find files a b ts us s t =
     let h : a.places ≡ b.places = s.places ∙ sym t.places in
     λ i. record { query = q i; mapping = m i; tie = d i; slack = k i; places = h i }
 
-one_find : (laws : QueryLaws) (find : Find) (files : Files) (bytes other report beside : List ℕ)
-    → Finds find files bytes report → Finds find files other beside → (bytes ≡ other) × (report ≡ beside)
-one_find laws find files bytes other report beside a b =
+one_find : (laws : QueryLaws) (find : Find) (files : Files) (on : OnDisk) (bytes other report beside : List ℕ)
+    → Finds find files on bytes report → Finds find files on other beside → (bytes ≡ other) × (report ≡ beside)
+one_find laws find files on bytes other report beside a b =
     let s : a.search ≡ b.search = one_search laws find files a.search b.search a.texts b.texts a.searches b.searches in
     let t : a.texts ≡ b.texts = one_texts find.shards files a.texts b.texts a.searches.there b.searches.there in (
-      a.bytes_are ∙ ap₂ (λ (x : Search) (xs : List (List ℕ)). listing_of x xs) s t ∙ sym b.bytes_are,
+      a.bytes_are ∙ ap₂ (λ (x : Search) (xs : List (List ℕ)). rest_of x (listed_on (start_for find on)) xs) s t ∙ sym b.bytes_are,
       a.report_is ∙ ap₂ (λ (x : Search) (xs : List (List ℕ)). report_of x xs) s t ∙ sym b.report_is,
     )
 
@@ -70,90 +75,109 @@ one_make laws events bytes other report beside a b = (
   a.report_is ∙ sym b.report_is,
 )
 
-one_run : (laws : QueryLaws) (c : Command) (files : Files) (bytes other report beside : List ℕ)
-    → Runs c files bytes report → Runs c files other beside → (bytes ≡ other) × (report ≡ beside)
-one_run laws (command.Find find) files bytes other report beside a b = one_find laws find files bytes other report beside a b
-one_run laws (command.Check query fields) files bytes other report beside a b =
+one_run : (laws : QueryLaws) (c : Command) (files : Files) (on : OnDisk) (bytes other report beside : List ℕ)
+    → Runs c files on bytes report → Runs c files on other beside → (bytes ≡ other) × (report ≡ beside)
+one_run laws (command.Find find) files on bytes other report beside a b = one_find laws find files on bytes other report beside a b
+one_run laws (command.Check query fields) files on bytes other report beside a b =
     one_print laws query fields files bytes other report beside a b
-one_run laws (command.Made hands events) files bytes other report beside a b = one_make laws events bytes other report beside a b
+one_run laws (command.Made hands events) files on bytes other report beside a b = one_make laws events bytes other report beside a b
 
-pub one_listing : (laws : QueryLaws) (words : List (List ℕ)) (files : Files) (bytes other report beside : List ℕ)
-    → Writes words files bytes report → Writes words files other beside → (bytes ≡ other) × (report ≡ beside)
-one_listing laws words files bytes other report beside a b =
+pub one_listing : (laws : QueryLaws) (words : List (List ℕ)) (files : Files) (on : OnDisk) (bytes other report beside : List ℕ)
+    → Writes words files on bytes report → Writes words files on other beside → (bytes ≡ other) × (report ≡ beside)
+one_listing laws words files on bytes other report beside a b =
     let one : a.command ≡ b.command = one_command words a.command b.command a.is_command b.is_command in
-    one_run laws b.command files bytes other report beside
-    (subst (λ (c : Command). Runs c files bytes report) one a.runs) b.runs
+    one_run laws b.command files on bytes other report beside
+    (subst (λ (c : Command). Runs c files on bytes report) one a.runs) b.runs
+
+-- files that are refused aren't those of a search
+pub search_or_refused : (laws : QueryLaws) (names : Names) (find : Find) (files : Files) (search : Search) (texts : List (List ℕ)) (r : Refusal)
+    → names_of (command.Find find) ≡ Some names → Searches find files search texts → Refuses names files r → ⊥
+search_or_refused laws names find files search texts r is there refused =
+    let own : Names = record { query = find.query; fields = find.fields; shards = find.shards } in
+    none_refused laws own files search.query search.mapping there.checked (none_missing find.shards files texts there.there) r
+    (subst (λ (x : Names). Refuses x files r) (sym (same_Some own names is)) refused)
 
 -- files over which a run writes aren't refused
-runs_or_not : (laws : QueryLaws) (c : Command) (names : Names) (files : Files) (bytes report : List ℕ) (r : Refusal)
-    → names_of c ≡ Some names → Runs c files bytes report → Refuses names files r → ⊥
-runs_or_not laws (command.Find find) names files bytes report r is a refused =
-    let own : Names = record { query = find.query; fields = find.fields; shards = find.shards } in
-    none_refused laws own files a.search.query a.search.mapping a.searches.checked
-    (none_missing find.shards files a.texts a.searches.there) r
-    (subst (λ (x : Names). Refuses x files r) (sym (same_Some own names is)) refused)
-runs_or_not laws (command.Check query fields) names files bytes report r is a refused =
+runs_or_not : (laws : QueryLaws) (c : Command) (names : Names) (files : Files) (on : OnDisk) (bytes report : List ℕ) (r : Refusal)
+    → names_of c ≡ Some names → Runs c files on bytes report → Refuses names files r → ⊥
+runs_or_not laws (command.Find find) names files on bytes report r is a refused =
+    search_or_refused laws names find files a.search a.texts r is a.searches refused
+runs_or_not laws (command.Check query fields) names files on bytes report r is a refused =
     let own : Names = record { query = query; fields = fields; shards = [] } in
     none_refused laws own files a.tree a.kinds a.checked refl r
     (subst (λ (x : Names). Refuses x files r) (sym (same_Some own names is)) refused)
-runs_or_not laws (command.Made hands events) names files bytes report r is a refused = absurd (none-some names is)
+runs_or_not laws (command.Made hands events) names files on bytes report r is a refused = absurd (none-some names is)
 
-pub listed_or_refused : (laws : QueryLaws) (words : List (List ℕ)) (files : Files) (bytes report : List ℕ) (r : Refusal)
-    → Writes words files bytes report → IsRefused words files r → ⊥
-listed_or_refused laws words files bytes report _ a (by_word other is word lacks) =
-    built_or_not words a.command other word a.is_command is a.is_built lacks
-listed_or_refused laws words files bytes report _ a (by_files other is built names found r refused) =
+-- the laws by which what a disk holds is judged
+pub record DiskLaws : Type 0 where
+  pub queries : QueryLaws
+  pub own : OwnLaws
+  pub cuts : CutLaws
+
+-- a disk with which a run begins isn't refused
+finds_or_not : (laws : DiskLaws) (find : Find) (files : Files) (on : OnDisk) (bytes report : List ℕ) (r : CutRefusal)
+    → Finds find files on bytes report → RefusesCut find files on r → ⊥
+finds_or_not laws find files on bytes report r a b =
+    let s : b.search ≡ a.search = one_search laws.queries find files b.search a.search b.texts a.texts b.searches a.searches in
+    let t : b.texts ≡ a.texts = one_texts find.shards files b.texts a.texts b.searches.there a.searches.there in
+    let refused = subst (λ (x : Search). CutRefuses x a.texts (start_for find on) r) s
+    (subst (λ (x : List (List ℕ)). CutRefuses b.search x (start_for find on) r) t b.refuses) in
+    begins_or_refused laws.cuts a.search a.texts (reading_of laws.own a.search a.searches.checked.checked) (start_for find on) r a.begins refused
+
+command_or_not : (laws : DiskLaws) (c : Command) (find : Find) (files : Files) (on : OnDisk) (bytes report : List ℕ) (r : CutRefusal)
+    → c ≡ command.Find find → Runs c files on bytes report → RefusesCut find files on r → ⊥
+command_or_not laws c find files on bytes report r e a refused =
+    finds_or_not laws find files on bytes report r (subst (λ (x : Command). Runs x files on bytes report) e a) refused
+
+pub listed_or_refused : (laws : DiskLaws) (words : List (List ℕ)) (files : Files) (on : OnDisk) (bytes report : List ℕ) (r : Refusal)
+    → Writes words files on bytes report → IsRefused words files on r → ⊥
+listed_or_refused laws words files on bytes report _ a (by_files other is names found r refused) =
     let one : a.command ≡ other = one_command words a.command other a.is_command is in
-    runs_or_not laws other names files bytes report r found
-    (subst (λ (c : Command). Runs c files bytes report) one a.runs) refused
+    runs_or_not laws.queries other names files on bytes report r found
+    (subst (λ (c : Command). Runs c files on bytes report) one a.runs) refused
+listed_or_refused laws words files on bytes report _ a (by_cut find is r refused) =
+    command_or_not laws a.command find files on bytes report r (one_command words a.command (command.Find find) a.is_command is) a.runs refused
 
--- texts that can be read to their end reach no limit
-within_at : (texts : List (List ℕ)) (shard : ℕ) (text : List ℕ) → All IsWithin texts
-    → slice_get texts shard ≡ Some text → IsWithin text
-within_at texts shard text all is =
-    subst IsWithin (get_or_from_slice_get texts shard text text is)
-    (all shard text (slice_get_within texts shard text is))
-
-pub not_beyond : (texts : List (List ℕ)) (limit : ShardLimit) → All IsWithin texts → IsBeyond texts limit → ⊥
-not_beyond texts (many_lines shard) all b = omega (arith, b.2, (within_at texts shard b.0 all b.1).lines)
-not_beyond texts (many_bytes shard) all b = omega (arith, b.2, (within_at texts shard b.0 all b.1).bytes)
-
--- a command that names files runs over those that are told
-named_for : (c : Command) (names : Names) (files : Option Files) → names_of c ≡ Some names → files_for c files ≡ files
-named_for (command.Find f) names files is = refl
-named_for (command.Check query fields) names files is = refl
-named_for (command.Made hands events) names files is = absurd (none-some names is)
-
-known_named : (words : List (List ℕ)) (c : Command) (names : Names) (files : Option Files) → command_of words ≡ Some c
-    → names_of c ≡ Some names → known words files ≡ files
-known_named words c names files is named = ap (λ (o : Option Command). files_known o files) is ∙ named_for c names files named
-
--- a run that is ready, with the files over which it runs
-abbrev ReadyOver : List (List ℕ) → Files → Type 0
-ReadyOver words fs = ((bytes : List ℕ) × (report : List ℕ) × Writes words fs bytes report) × AreWithin words fs
-
-ready_over : (words : List (List ℕ)) (c : Command) (names : Names) (files : Files) → command_of words ≡ Some c
-    → names_of c ≡ Some names → IsReady words (Some files) → ReadyOver words files
-ready_over words c names files is named ready =
-    subst (λ (o : Option Files). IsSomeAnd o (ReadyOver words)) (known_named words c names (Some files) is named) ready
-
-pub ready_or_refused : QueryLaws → (words : List (List ℕ)) (files : Files) → IsReady words (Some files) → (r : Refusal)
-    → IsRefused words files r → ⊥
-ready_or_refused laws words files ready _ (by_word other is word lacks) = some_built (known words (Some files)) ready
+-- ---- one cause
+same_find : (a b : Find) → command.Find a ≡ command.Find b → a ≡ b
+same_find a b e = ap (find_or a) e
   where
-    some_built : (o : Option Files) → IsSomeAnd o (ReadyOver words) → ⊥
-    some_built None h = h
-    some_built (Some fs) h =
-        let w = h.0.2 in
-        built_or_not words w.command other word w.is_command is w.is_built lacks
-ready_or_refused laws words files ready _ (by_files other is built names found r refused) =
-    let h = ready_over words other names files is found ready in
-    listed_or_refused laws words files h.0.0 h.0.1 r h.0.2 (by_files other is built names found r refused)
+    find_or : Find → Command → Find
+    find_or d (command.Find f) = f
+    find_or d (command.Check query fields) = d
+    find_or d (command.Made hands events) = d
 
-pub ready_or_limited : (words : List (List ℕ)) (files : Files) → IsReady words (Some files)
-    → Limited words (Some files) → ⊥
-ready_or_limited words files ready h =
-    let b = h.2.1 in
-    let own : Names = record { query = h.0.query; fields = h.0.fields; shards = h.0.shards } in
-    let all = (ready_over words (command.Find h.0) own files h.1 refl ready).1 in
-    not_beyond b.texts h.2.0 (all h.0 b.search b.texts h.1 b.searches) b.beyond
+one_cut_of : (laws : DiskLaws) (find : Find) (files : Files) (on : OnDisk) (r s : CutRefusal) → RefusesCut find files on r
+    → RefusesCut find files on s → SameRefusal (refusal.cut r) (refusal.cut s)
+one_cut_of laws find files on r s a b =
+    let one : a.search ≡ b.search = one_search laws.queries find files a.search b.search a.texts b.texts a.searches b.searches in
+    let t : a.texts ≡ b.texts = one_texts find.shards files a.texts b.texts a.searches.there b.searches.there in
+    let refused = subst (λ (x : Search). CutRefuses x b.texts (start_for find on) r) one
+    (subst (λ (x : List (List ℕ)). CutRefuses a.search x (start_for find on) r) t a.refuses) in
+    one_cut_cause b.search b.texts (start_for find on) r s refused b.refuses
+
+files_or_cut : (laws : DiskLaws) (words : List (List ℕ)) (files : Files) (on : OnDisk) (c : Command) (find : Find) (names : Names) (r : Refusal) (s : CutRefusal)
+    → command_of words ≡ Some c → command_of words ≡ Some (command.Find find) → names_of c ≡ Some names → Refuses names files r
+    → RefusesCut find files on s → ⊥
+files_or_cut laws words files on c find names r s is named found refused denied =
+    let e : c ≡ command.Find find = one_command words c (command.Find find) is named in
+    search_or_refused laws.queries names find files denied.search denied.texts r (ap names_of (sym e) ∙ found) denied.searches refused
+
+pub one_cause_of : (laws : DiskLaws) (words : List (List ℕ)) (files : Files) (on : OnDisk) (r s : Refusal)
+    → IsRefused words files on r → IsRefused words files on s → SameRefusal r s
+one_cause_of laws words files on _ _ (by_files c is names found r refused) (by_files other named others had s denied) =
+    let one : names ≡ others = same_Some names others (sym found ∙ ap names_of (one_command words c other is named) ∙ had) in
+    one_refusal laws.queries others files r s (subst (λ (x : Names). Refuses x files r) one refused) denied
+one_cause_of laws words files on _ _ (by_files c is names found r refused) (by_cut find named s denied) =
+    absurd (files_or_cut laws words files on c find names r s is named found refused denied)
+one_cause_of laws words files on _ _ (by_cut find named s denied) (by_files c is names found r refused) =
+    absurd (files_or_cut laws words files on c find names r s is named found refused denied)
+one_cause_of laws words files on _ _ (by_cut find named r refused) (by_cut other also s denied) =
+    let e : find ≡ other = same_find find other (one_command words (command.Find find) (command.Find other) named also) in
+    one_cut_of laws other files on r s (subst (λ (x : Find). RefusesCut x files on r) e refused) denied
+
+-- ---- a run that can be done
+pub ready_or_refused : (laws : DiskLaws) (words : List (List ℕ)) (files : Files) (on : OnDisk) → CanRun words files on → (r : Refusal)
+    → IsRefused words files on r → ⊥
+ready_or_refused laws words files on can r refused =
+    listed_or_refused laws words files on can.writes.0 can.writes.1 r can.writes.2 refused

@@ -11,11 +11,9 @@ use Rattle.eql_check.specs.Kinds.{kind_at}
 use Rattle.eql_check.specs.Rules.{first_broken}
 use Rattle.eql_words.specs.declared.commands.Command.{Command}
 use Rattle.eql_words.specs.Commands.{command_of}
-use Rattle.eql_runs.specs.Built.{unbuilt_in}
 use Rattle.eql_runs.specs.Files.{Files, first_missing, HasTokens, NoTokens, ReadAs, NotRead, HasQueryTokens, HasQuery, HasBoth, HasChecked}
-use Rattle.eql_runs.specs.Refusals.{Names, Refusal, Refuses, refusal_status, unbuilt, no_file, lex, parse, mapping, broken, no_query, not_spelled, not_read, no_fields, bad_mapping, is_broken, no_shard}
-use Rattle.eql_runs.specs.Runs.{names_of, IsRefused, by_word, by_files}
-use Rattle.eql_runs.specs.RunLaws.{SameRefusal, same, past_limit, TellsLimit}
+use Rattle.eql_runs.specs.Refusals.{Names, Refusal, Refuses, refusal_status, no_file, lex, parse, mapping, broken, no_query, not_spelled, not_read, no_fields, bad_mapping, is_broken, no_shard}
+use Rattle.eql_runs.specs.RunLaws.{SameRefusal, same, other_place, past_limit, TellsLimit}
 use Rattle.eql_runs.proofs.Reading.{QueryLaws, one_text, missing_text, has_or_not, one_cause, read_or_not, agree, one_tokens, one_query, one_mapping, one_bad_mapping, mapping_or_not}
 
 module _ (laws : QueryLaws) (names : Names) (files : Files) where
@@ -190,29 +188,10 @@ module _ (laws : QueryLaws) (names : Names) (files : Files) where
 -- what is the same refusal has one status
 pub same_status : (r s : Refusal) → SameRefusal r s → refusal_status r ≡ refusal_status s
 same_status _ _ same = refl
+same_status _ _ other_place = refl
 same_status _ _ (past_limit h) = refl
 
 -- words make one command
 pub one_command : (words : List (List ℕ)) (command other : Command) → command_of words ≡ Some command
     → command_of words ≡ Some other → command ≡ other
 one_command words command other a b = same_Some command other (sym a ∙ b)
-
--- a command that is built isn't refused by its word
-pub built_or_not : (words : List (List ℕ)) (command other : Command) (word : List ℕ) → command_of words ≡ Some command
-    → command_of words ≡ Some other → unbuilt_in command ≡ None → unbuilt_in other ≡ Some word → ⊥
-built_or_not words command other word a b none some =
-    none-some word (sym none ∙ ap unbuilt_in (one_command words command other a b) ∙ some)
-
--- a run is refused for one cause
-pub one_cause_of : (laws : QueryLaws) (words : List (List ℕ)) (files : Files) (r s : Refusal)
-    → IsRefused words files r → IsRefused words files s → SameRefusal r s
-one_cause_of laws words files _ _ (by_word command is word lacks) (by_word other named that told) =
-    let one : word ≡ that = same_Some word that (sym lacks ∙ ap unbuilt_in (one_command words command other is named) ∙ told) in
-    subst (λ (x : List ℕ). SameRefusal (unbuilt word) (unbuilt x)) one same
-one_cause_of laws words files _ _ (by_word command is word lacks) (by_files other named built names found s refused) =
-    absurd (built_or_not words other command word named is built lacks)
-one_cause_of laws words files _ _ (by_files command is built names found r refused) (by_word other named that told) =
-    absurd (built_or_not words command other that is named built told)
-one_cause_of laws words files _ _ (by_files command is built names found r refused) (by_files other named done others had s denied) =
-    let one : names ≡ others = same_Some names others (sym found ∙ ap names_of (one_command words command other is named) ∙ had) in
-    one_refusal laws others files r s (subst (λ (x : Names). Refuses x files r) one refused) denied

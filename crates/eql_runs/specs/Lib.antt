@@ -1,7 +1,8 @@
-pub mod Built
 pub mod Files
-pub mod Refusals
 pub mod Searches
+pub mod Starts
+pub mod CutRefusals
+pub mod Refusals
 pub mod Summaries
 pub mod Runs
 pub mod RunLaws

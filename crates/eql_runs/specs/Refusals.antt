@@ -16,6 +16,7 @@ use Rattle.eql_check.specs.Kinds.{kind_at}
 use Rattle.eql_check.specs.Mappings.{mapping_of}
 use Rattle.eql_check.specs.Messages.{map_message, check_message}
 use Rattle.eql_check.specs.Rules.{first_broken}
+use Rattle.eql_runs.specs.CutRefusals.{CutRefusal, cut_text}
 use Rattle.eql_runs.specs.Files.{Files, first_missing, HasQueryTokens, NoTokens, NotRead, HasQuery, HasBoth, HasChecked}
 
 -- the files that a command names: its query, its mapping, and its shards in their order
@@ -24,14 +25,14 @@ pub record Names : Type 0 where
   pub fields : List ℕ
   pub shards : List (List ℕ)
 
--- why words and files are refused
+-- why words, files, and what a checkpoint's disk holds are refused
 pub data Refusal : Type 0 where
-  unbuilt : List ℕ → Refusal
   no_file : List ℕ → Refusal
   lex : LexRefused → Refusal
   parse : ParseRefused → Refusal
   mapping : MapRefused → Refusal
   broken : CheckRefused → Refusal
+  cut : CutRefusal → Refusal
 
 -- the files of these names are refused for this cause: of all causes that there are, the first in
 -- the order of the constructors
@@ -59,9 +60,10 @@ pub data Refuses (names : Names) (files : Files) : Refusal → Type 0 where
       → HasChecked names.query names.fields files q kinds → (name : List ℕ)
       → first_missing files names.shards ≡ Some name → Refuses names files (no_file name)
 
--- the status of a refusal: 1 where a file isn't there, else 3
+-- the status of a refusal: 1 where a file isn't there, 7 by a cut, else 3
 abbrev pub refusal_status : Refusal → ℕ
 refusal_status (no_file name) = 1
+refusal_status (cut r) = 7
 refusal_status _ = 3
 
 -- a name as it is printed
@@ -70,9 +72,9 @@ printed_name name = encode_utf8_all (shown (chars name))
 
 -- the line that is told of a refusal
 abbrev pub refusal_text : Refusal → List ℕ
-refusal_text (unbuilt word) = codes "unbuilt: " ++ word ++ codes "\n"
 refusal_text (no_file name) = codes "no file " ++ printed_name name ++ codes "\n"
 refusal_text (lex r) = lexing.message r ++ codes "\n"
 refusal_text (parse r) = parsing.message r ++ codes "\n"
 refusal_text (mapping r) = map_message r ++ codes "\n"
 refusal_text (broken r) = check_message r ++ codes "\n"
+refusal_text (cut r) = cut_text r

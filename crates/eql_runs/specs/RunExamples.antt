@@ -5,42 +5,11 @@ use Rattle.eql_lexer.specs.declared.refusal.LexRefused.TheVariants as lexed
 use Rattle.eql_parser.specs.QueryTree.{event}
 use Rattle.eql_parser.specs.Tree as t
 use Rattle.eql_words.specs.declared.commands.Command.TheVariants as command
-use Rattle.eql_words.specs.declared.commands.Find.{Find}
-use Rattle.eql_words.specs.declared.commands.Checkpoint.{Checkpoint}
-use Rattle.eql_runs.specs.Built.{unbuilt_in}
+use Rattle.eql_runs.specs.CutRefusals.{short, unfit}
 use Rattle.eql_runs.specs.Files.{Files, first_missing}
-use Rattle.eql_runs.specs.Refusals.{unbuilt, no_file, lex, refusal_status, refusal_text}
+use Rattle.eql_runs.specs.Refusals.{no_file, lex, cut, refusal_status, refusal_text}
 use Rattle.eql_runs.specs.Runs.{names_of}
 use Rattle.eql_runs.specs.Searches.{Search, nanos_in, listing_of, report_of}
-
--- eql find --query q --fields f [--checkpoint c --every 5] a b
-abbrev find_with : Option Checkpoint → Find
-find_with kept = record {
-  query = codes "q";
-  fields = codes "f";
-  tie = None;
-  slack = None;
-  batch = 256;
-  hands = 1;
-  checkpoint = kept;
-  places = false;
-  shards = codes "a" ∷ codes "b" ∷ [];
-}
-
--- what is built
-find_is_built : unbuilt_in (command.Find (find_with None)) ≡ None
-find_is_built = refl
-
-checkpoint_is_unbuilt :
-    unbuilt_in (command.Find (find_with (Some (record { name = codes "c"; every = 5 }))))
-    ≡ Some (codes "--checkpoint")
-checkpoint_is_unbuilt = refl
-
-check_is_built : unbuilt_in (command.Check (codes "q") (codes "f")) ≡ None
-check_is_built = refl
-
-made_is_built : unbuilt_in (command.Made 1 300) ≡ None
-made_is_built = refl
 
 -- `check` names no shards
 names_of_check :
@@ -64,11 +33,16 @@ all_are_there = refl
 no_file_is_1 : refusal_status (no_file (codes "a")) ≡ 1
 no_file_is_1 = refl
 
-unbuilt_is_told :
-    (refusal_status (unbuilt (codes "--checkpoint")) ≡ 3)
-    × (refusal_text (unbuilt (codes "--checkpoint")) ≡ codes "unbuilt: --checkpoint\n")
+unfit_is_told :
+    (refusal_status (cut unfit) ≡ 7)
+    × (refusal_text (cut unfit) ≡ codes "checkpoint: Unfit\n")
 unfolding lib.Utf8.encode
-unbuilt_is_told = (refl, refl)
+unfit_is_told = (refl, refl)
+
+short_is_told :
+    refusal_text (cut (short 0 1015 506)) ≡ codes "checkpoint: Short shard 0 offset 1015 had 506\n"
+unfolding digits lib.Utf8.encode
+short_is_told = refl
 
 lex_is_told :
     (refusal_status (lex lexed.TooLong) ≡ 3)

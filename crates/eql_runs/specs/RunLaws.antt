@@ -1,8 +1,10 @@
 -- Laws of what a run writes and refuses: they say that the clauses of the top call pin its output.
-use Rattle.std.specs.Prelude.{◌≡◌, ◌≤◌, ◌<◌, ◌^◌, ◌⊎◌, ℕ, List, length, Some, None, All}
+use Rattle.std.specs.Prelude.{◌≡◌, ◌↔◌, ◌≤◌, ◌<◌, ◌^◌, ◌⊎◌, ℕ, ℤ, List, length, Option, Some, None, All}
 use Rattle.eql_made.specs.Made.{made_texts}
 use Rattle.eql_laws.specs.Books.{greatest_shards}
 use Rattle.eql_laws.specs.Counting.{IsShardText}
+use Rattle.eql_laws.specs.Fitting.{Fits, Kept}
+use Rattle.eql_values.specs.declared.cut.Pipe.{Pipe}
 use Rattle.eql_parser.specs.declared.refusal.ParseRefused.{ParseRefused}
 use Rattle.eql_parser.specs.declared.refusal.ParseRefused.TheVariants.{TooDeep}
 use Rattle.eql_parser.specs.QueryTree.{QueryTree}
@@ -14,15 +16,48 @@ use Rattle.eql_words.specs.declared.commands.Find.{Find}
 use Rattle.eql_words.specs.Commands.{command_of}
 use Rattle.eql_runs.specs.Files.{Files, first_missing, HasChecked, IsWithin}
 use Rattle.eql_runs.specs.Refusals.{Names, Refusal, Refuses, refusal_status, parse}
+use Rattle.eql_runs.specs.Refusals as refusal
+use Rattle.eql_runs.specs.CutRefusals.{damaged, IsTested}
+use Rattle.eql_runs.specs.Starts.{OnDisk, StandsFor, start_for}
+use Rattle.eql_ckdisk.specs.Found.{Found}
+use Rattle.eql_cut.specs.declared.cut.CutHead.{CutHead}
+use Rattle.eql_cut.specs.Agreeing.{difference}
 use Rattle.eql_runs.specs.Searches.{Search, matches_of}
 use Rattle.eql_runs.specs.Summaries.{IsMadeSearch}
-use Rattle.eql_runs.specs.Runs.{Searches, Writes, IsRefused, IsReady, Limited}
+use Rattle.eql_runs.specs.Runs.{IsFindAccepted, Searches, SearchesBeyond, ShardLimit, Writes, IsRefused, AreTrusted, AreWithin, CanRun}
 
--- the words and the files determine the bytes and the report
+-- what an image stands for is one thing
+abbrev pub OneOnDisk : Type 0
+OneOnDisk = (f : Found) (on other : OnDisk) → StandsFor on f → StandsFor other f → on ≡ other
+
+-- a run over texts for which what its disk holds passed all tests is refused for no cause
+abbrev pub TestedIsAccepted : Type 0
+TestedIsAccepted =
+    (find : Find) (files : Files) (on : OnDisk) (search : Search) (texts : List (List ℕ)) → Searches find files search texts
+    → IsTested search texts (start_for find on) → IsFindAccepted find files on
+
+-- a run searches for one thing, over one list of texts
+abbrev pub OneSearch : Type 0
+OneSearch =
+    (find : Find) (files : Files) (search other : Search) (texts others : List (List ℕ)) → Searches find files search texts
+    → Searches find files other others → (search ≡ other) × (texts ≡ others)
+
+-- whether a cut fits a run doesn't depend on the span of the run
+abbrev pub FitsAtAnySpan : Type 0
+FitsAtAnySpan =
+    (stages values : ℕ) (pipes : List Pipe) (slack : ℤ) (span other : Option ℤ) (shards : ℕ) (kept : Kept)
+    → Fits (record { stages = stages; span = span; values = values; pipes = pipes; slack = slack }) shards kept
+    → Fits (record { stages = stages; span = other; values = values; pipes = pipes; slack = slack }) shards kept
+
+-- what cuts say of their runs differs in nothing exactly where it is one and the same
+abbrev pub HeadsAgree : Type 0
+HeadsAgree = (cut now : CutHead) → (difference cut now ≡ None) ↔ (cut ≡ now)
+
+-- the words, the files and what the disk holds determine the bytes and the report
 abbrev pub OneListing : Type 0
 OneListing =
-    (words : List (List ℕ)) (files : Files) (bytes other report beside : List ℕ)
-    → Writes words files bytes report → Writes words files other beside
+    (words : List (List ℕ)) (files : Files) (on : OnDisk) (bytes other report beside : List ℕ)
+    → Writes words files on bytes report → Writes words files on other beside
     → (bytes ≡ other) × (report ≡ beside)
 
 -- the tokens pass a limit
@@ -31,35 +66,38 @@ TellsLimit (TooDeep at) = Unit {0}
 TellsLimit _ = ⊥
 
 -- the same refusal; or both say that the tokens are no query within the limits, and one of them
--- that they pass a limit
+-- that they pass a limit; or that the text in an area is no cut's, maybe at another place
 pub data SameRefusal : Refusal → Refusal → Type 0 where
   same : {r : Refusal} → SameRefusal r r
   past_limit : {r s : ParseRefused} → TellsLimit r ⊎ TellsLimit s → SameRefusal (parse r) (parse s)
+  other_place : {area at to : ℕ} → SameRefusal (refusal.cut (damaged area at)) (refusal.cut (damaged area to))
 
--- words and files are refused for one cause
+-- words, files and disk are refused for one cause
 abbrev pub OneRefusal : Type 0
 OneRefusal =
-    (words : List (List ℕ)) (files : Files) (r s : Refusal) → IsRefused words files r
-    → IsRefused words files s → SameRefusal r s
+    (words : List (List ℕ)) (files : Files) (on : OnDisk) (r s : Refusal) → IsRefused words files on r
+    → IsRefused words files on s → SameRefusal r s
 
 -- and with one status
 abbrev pub OneStatus : Type 0
 OneStatus =
-    (words : List (List ℕ)) (files : Files) (r s : Refusal) → IsRefused words files r
-    → IsRefused words files s → refusal_status r ≡ refusal_status s
+    (words : List (List ℕ)) (files : Files) (on : OnDisk) (r s : Refusal) → IsRefused words files on r
+    → IsRefused words files on s → refusal_status r ≡ refusal_status s
 
--- no run writes anything over words and files that are refused
+-- no run writes anything over words, files and a disk that are refused
 abbrev pub ListedOrRefused : Type 0
 ListedOrRefused =
-    (words : List (List ℕ)) (files : Files) (bytes report : List ℕ) (r : Refusal)
-    → Writes words files bytes report → IsRefused words files r → ⊥
+    (words : List (List ℕ)) (files : Files) (on : OnDisk) (bytes report : List ℕ) (r : Refusal)
+    → Writes words files on bytes report → IsRefused words files on r → ⊥
 
--- nothing is left out: the words are no command, or they and the files are refused, or a run writes
+-- nothing is left out, whatever both areas of the disk stand for: the words are no command; or they, the files and the disk are
+-- refused; or, where the disk is trusted and the shards can be read to their end, a run writes
 abbrev pub NoRunIsLeftOut : Type 0
 NoRunIsLeftOut =
-    (words : List (List ℕ)) (files : Files)
-    → (command_of words ≡ None) ⊎ ((r : Refusal) × IsRefused words files r)
-    ⊎ ((bytes report : List ℕ) × Writes words files bytes report)
+    (words : List (List ℕ)) (files : Files) (f : Found) (on : OnDisk) → StandsFor on f
+    → (command_of words ≡ None) ⊎ ((r : Refusal) × IsRefused words files on r)
+    ⊎ (AreTrusted words files on → AreWithin words files
+    → (bytes report : List ℕ) × Writes words files on bytes report)
 
 -- files that are all there, with a query that is checked, aren't refused
 abbrev pub AcceptedOrRefused : Type 0
@@ -68,11 +106,13 @@ AcceptedOrRefused =
     → HasChecked names.query names.fields files query mapping → first_missing files names.shards ≡ None
     → Refuses names files r → ⊥
 
--- a run that can be done isn't refused, and reaches no limit
+-- a run that can be done isn't refused, and no shard of it is beyond a limit
 abbrev pub ReadyOrRefused : Type 0
 ReadyOrRefused =
-    (words : List (List ℕ)) (files : Files) → IsReady words (Some files)
-    → ((r : Refusal) → IsRefused words files r → ⊥) × (Limited words (Some files) → ⊥)
+    (words : List (List ℕ)) (files : Files) (on : OnDisk) → CanRun words files on
+    → ((r : Refusal) → IsRefused words files on r → ⊥)
+    × ((find : Find) (limit : ShardLimit) → command_of words ≡ Some (command.Find find)
+    → SearchesBeyond find files on limit → ⊥)
 
 -- a checked query has fewer than 2^64 matches over at most 256 texts within the limits of a shard
 abbrev pub MatchesAreFew : Type 0

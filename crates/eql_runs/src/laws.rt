@@ -1,17 +1,20 @@
 //! Laws of what a run writes and refuses, each the contract of a function that does nothing.
-ghost use Rattle.eql_runs.specs.RunLaws.{OneListing, OneRefusal, OneStatus, ListedOrRefused, AcceptedOrRefused, ReadyOrRefused, MadeIsASearch, MadeIsWithin, MatchesAreFew, NoRunIsLeftOut, RunsFindFew};
+ghost use Rattle.eql_runs.specs.RunLaws.{FitsAtAnySpan, OneListing, OneRefusal, OneSearch, OneStatus, TestedIsAccepted, ListedOrRefused, AcceptedOrRefused, HeadsAgree, ReadyOrRefused, MadeIsASearch, MadeIsWithin, MatchesAreFew, NoRunIsLeftOut, OneOnDisk, RunsFindFew};
 
 use eql_check::check_is_exact;
-use eql_laws::found_is_few;
+use eql_cut::{first_format_has_no_places, lifted_cuts_fit};
+use eql_laws::{cuts_fit, found_is_few, fronts_fit, lines_go_on};
 use eql_lexer::{none_spelled, one_break, one_list, spelled_or_broken};
 use eql_parser::{one_query, one_refusal, query_or_refused};
+use eql_placed::{named_lines_were_read, places_alone_are_set};
 use eql_stages::readers_fit;
+use eql_values::orders_agree_with_equality;
 use eql_words::commands_are_bounded;
 
-/// The words and the files determine what a run writes, or that it is refused and for which cause, and never both. Files
-/// that are all there and checked aren't refused. A run that can be done isn't refused, and reaches no limit. Where a
-/// query's tokens pass a limit of depth, they don't determine whether the refusal says so or tells another breach; that
-/// it has one status stands without this.
+/// The words, the files and what the disk of a checkpoint holds determine what a run writes, or that it is refused and for which
+/// cause, and never both. Files that are all there and checked aren't refused. A run that can be done isn't refused, and no shard
+/// of it is beyond a limit. Where a query's tokens pass a limit of depth, they don't determine whether the refusal says so or
+/// tells another breach; that it has one status stands without this.
 pub fn runs_are_determined()
     ensures listing { OneListing }
     ensures refusal { OneRefusal }
@@ -26,17 +29,36 @@ pub fn runs_are_determined()
     one_query();
     one_refusal();
     check_is_exact();
+    readers_fit();
+    cuts_fit();
+    fronts_fit();
+    lifted_cuts_fit();
+    named_lines_were_read();
+    places_alone_are_set();
+    lines_go_on();
 }
 
-/// Nothing is left out: whatever the words and the files are, the words are no command, or they and the files are
-/// refused for a cause, or they are a command that is built and a run of it writes bytes and a report.
+/// Nothing is left out: whatever the words, the files and the disk are, the words are no command, or they, the files and the disk
+/// are refused for a cause, or a run of them writes bytes and a report, where the disk is trusted and the shards can be read.
 pub fn no_run_is_left_out()
     ensures { NoRunIsLeftOut }
 {
     spelled_or_broken();
     query_or_refused();
     check_is_exact();
+    readers_fit();
+    cuts_fit();
+    fronts_fit();
+    lifted_cuts_fit();
+    orders_agree_with_equality();
+    commands_are_bounded();
+    first_format_has_no_places();
 }
+
+/// What both areas of a disk stand for is one thing.
+pub fn disks_hold_one_thing()
+    ensures { OneOnDisk }
+{}
 
 /// A checked query has fewer than 2^64 matches over at most 256 shards within the limits of lines and bytes, and so has
 /// each run of `find`. So a count of matches never stands still, and the number of each is exact.
@@ -57,3 +79,31 @@ pub fn made_is_searched()
 {
     check_is_exact();
 }
+
+/// What cuts say of their runs differs in nothing exactly where it is one and the same.
+pub fn heads_agree()
+    ensures { HeadsAgree }
+{
+    orders_agree_with_equality();
+}
+
+/// A run over texts for which what its disk holds passed all tests, the head, whether it fits, and each shard, is refused for no
+/// cause; where the cut is trusted, it is a run that writes. The words and the files determine for what a run searches, and the
+/// texts of its shards.
+pub fn tested_cuts_are_accepted()
+    ensures accepted { TestedIsAccepted }
+    ensures one { OneSearch }
+{
+    one_list();
+    none_spelled();
+    one_break();
+    one_query();
+    one_refusal();
+    check_is_exact();
+    orders_agree_with_equality();
+}
+
+/// Whether a cut fits a run doesn't depend on the span of the run.
+pub fn spans_change_no_fit()
+    ensures { FitsAtAnySpan }
+{}

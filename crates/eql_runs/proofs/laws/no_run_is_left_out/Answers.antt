@@ -1,8 +1,13 @@
 use Rattle.eql_runs.proofs.Covering.{CoverLaws}
-use Rattle.eql_runs.proofs.Ending.{no_run_is_left_out}
+use Rattle.eql_runs.proofs.Ending.{EndLaws, no_run_is_left_out}
+use Rattle.eql_runs.proofs.Heads.{SameLaws}
+use Rattle.eql_runs.proofs.OwnCuts.{OwnLaws}
 use Rattle.eql_runs.proofs.laws.no_run_is_left_out.Goals as goal
 
 pub returns : goal.returns
 returns c =
-    let laws : CoverLaws = record { spelled = c.spelled_or_broken.ensures; read = c.query_or_refused.ensures; exact = c.check_is_exact.ensures } in
+    let cover : CoverLaws = record { spelled = c.spelled_or_broken.ensures; read = c.query_or_refused.ensures; exact = c.check_is_exact.ensures } in
+    let own : OwnLaws = record { readers = c.readers_fit.ensures; cuts = c.cuts_fit.ensures.fit; fronts = c.fronts_fit.ensures.fit; lifted_fit = c.lifted_cuts_fit.ensures.fit } in
+    let same : SameLaws = record { texts = c.orders_agree_with_equality.ensures.texts; names = c.orders_agree_with_equality.ensures.names } in
+    let laws : EndLaws = record { cover = cover; own = own; same = same; bounded = c.commands_are_bounded.ensures.bounds; unplaced = c.first_format_has_no_places.ensures } in
     no_run_is_left_out laws

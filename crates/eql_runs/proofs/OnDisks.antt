@@ -1,0 +1,79 @@
+-- What both areas of a disk stand for is one thing.
+use Rattle.std.proofs.Common.{◌≡◌, ℕ, List, [], refl, ap, sym, arith, ◌∙◌, subst}
+use Rattle.eql_outside.specs.declared.disk.Area.{Area}
+use Rattle.eql_cut.specs.declared.cut.Cut.{Cut}
+use Rattle.eql_cut.specs.Whole.{IsNoText, IsText, IsTextOf}
+use Rattle.eql_ckdisk.specs.Found.{Found, text, damaged}
+use Rattle.eql_ckdisk.specs.Found as areas
+use Rattle.eql_ckdisk.specs.Refusing.{IsDamagedHead, number_of}
+use Rattle.eql_runs.specs.Starts.{OnDisk, nothing_kept, a_cut, bad_head, bad_text, StandsFor}
+
+abbrev bytes_in : Found → List ℕ
+bytes_in areas.nothing = []
+bytes_in (text area generation bytes) = bytes
+bytes_in (damaged area generation) = []
+
+abbrev number_in : Found → ℕ
+number_in areas.nothing = 0
+number_in (text area generation bytes) = number_of area
+number_in (damaged area generation) = number_of area
+
+abbrev generation_in : Found → ℕ
+generation_in areas.nothing = 0
+generation_in (text area generation bytes) = generation
+generation_in (damaged area generation) = generation
+
+abbrev shape : Found → ℕ
+shape areas.nothing = 0
+shape (text area generation bytes) = 1
+shape (damaged area generation) = 2
+
+no_text : (f : Found) (area : Area) (generation : ℕ) (bytes : List ℕ) → f ≡ areas.nothing → f ≡ text area generation bytes → ⊥
+no_text f area generation bytes none is = let e : 0 ≡ 1 = ap shape (sym none ∙ is) in omega (arith, e)
+
+same_bytes : (f : Found) (a b : Area) (g h : ℕ) (xs ys : List ℕ) → f ≡ text a g xs → f ≡ text b h ys → xs ≡ ys
+same_bytes f a b g h xs ys is also = ap bytes_in (sym is ∙ also)
+
+one_cut : (f : Found) (format generation : ℕ) (cut : Cut) (format' generation' : ℕ) (cut' : Cut)
+    → StandsFor (a_cut format generation cut) f → StandsFor (a_cut format' generation' cut') f
+    → a_cut format generation cut ≡ a_cut format' generation' cut'
+one_cut f format generation cut format' generation' cut' s t =
+    let g : generation ≡ generation' = ap generation_in (sym s.2 ∙ t.2) in
+    let same : t.1 ≡ s.1 = same_bytes f t.0 s.0 generation' generation t.1 s.1 t.2 s.2 in
+    let one = s.3.alone format' cut' (subst (λ (b : List ℕ). IsText format' cut' b) same t.3.is) in
+    let p : format ≡ format' = sym one.0 in
+    let q : cut ≡ cut' = sym one.1 in
+    λ i. a_cut (p i) (g i) (q i)
+
+no_head : (f : Found) (number : ℕ) (area : Area) (generation : ℕ) (bytes : List ℕ) → f ≡ text area generation bytes
+    → IsDamagedHead number 0 f → ⊥
+no_head f number area generation bytes is h = subst (λ (x : Found). IsDamagedHead number 0 x) is h
+
+one_head : (f : Found) (number other : ℕ) → IsDamagedHead number 0 f → IsDamagedHead other 0 f → number ≡ other
+one_head areas.nothing number other h k = absurd h
+one_head (text area generation bytes) number other h k = absurd h
+one_head (damaged area generation) number other h k = h.0 ∙ sym k.0
+
+cut_or_not : (f : Found) (format generation : ℕ) (cut : Cut) (number : ℕ) → StandsFor (a_cut format generation cut) f
+    → StandsFor (bad_text number) f → ⊥
+cut_or_not f format generation cut number s t =
+    let same : s.1 ≡ t.2 = same_bytes f s.0 t.0 generation t.1 s.1 t.2 s.2 t.3 in
+    t.5 format cut (subst (λ (b : List ℕ). IsText format cut b) same s.3.is)
+
+pub one_on_disk : (f : Found) (on other : OnDisk) → StandsFor on f → StandsFor other f → on ≡ other
+one_on_disk f nothing_kept nothing_kept s t = refl
+one_on_disk f nothing_kept (a_cut format generation cut) s t = absurd (no_text f t.0 generation t.1 s t.2)
+one_on_disk f nothing_kept (bad_head number) s t = absurd (subst (λ (x : Found). IsDamagedHead number 0 x) s t)
+one_on_disk f nothing_kept (bad_text number) s t = absurd (no_text f t.0 t.1 t.2 s t.3)
+one_on_disk f (a_cut format generation cut) nothing_kept s t = absurd (no_text f s.0 generation s.1 t s.2)
+one_on_disk f (a_cut format generation cut) (a_cut format' generation' cut') s t = one_cut f format generation cut format' generation' cut' s t
+one_on_disk f (a_cut format generation cut) (bad_head number) s t = absurd (no_head f number s.0 generation s.1 s.2 t)
+one_on_disk f (a_cut format generation cut) (bad_text number) s t = absurd (cut_or_not f format generation cut number s t)
+one_on_disk f (bad_head number) nothing_kept s t = absurd (subst (λ (x : Found). IsDamagedHead number 0 x) t s)
+one_on_disk f (bad_head number) (a_cut format generation cut) s t = absurd (no_head f number t.0 generation t.1 t.2 s)
+one_on_disk f (bad_head number) (bad_head other) s t = ap bad_head (one_head f number other s t)
+one_on_disk f (bad_head number) (bad_text other) s t = absurd (no_head f number t.0 t.1 t.2 t.3 s)
+one_on_disk f (bad_text number) nothing_kept s t = absurd (no_text f s.0 s.1 s.2 t s.3)
+one_on_disk f (bad_text number) (a_cut format generation cut) s t = absurd (cut_or_not f format generation cut number t s)
+one_on_disk f (bad_text number) (bad_head other) s t = absurd (no_head f other s.0 s.1 s.2 s.3 t)
+one_on_disk f (bad_text number) (bad_text other) s t = ap bad_text (s.4 ∙ ap number_in (sym s.3 ∙ t.3) ∙ sym t.4)
