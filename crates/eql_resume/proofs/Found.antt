@@ -1,0 +1,130 @@
+-- What is found on a disk, in the words of runs.
+use Rattle.std.proofs.Common.{◌≡◌, ℕ, List, Option, Some, None, Result, Err, IfErr, IfSome, refl, sym, ap, ◌∙◌, subst}
+use Rattle.eql_values.specs.declared.cut.Pipe.{Pipe}
+use Rattle.eql_outside.specs.Areas.{IsImage, Moment, seen_areas}
+use Rattle.eql_outside.specs.Moments.{History, Told}
+use Rattle.eql_laws.specs.Fitting.{Fits}
+use Rattle.eql_cut.specs.declared.cut.Cut.{Cut}
+use Rattle.eql_cut.specs.declared.cut.CutHead.{CutHead}
+use Rattle.eql_cut.specs.Domain.{kept_by}
+use Rattle.eql_cut.specs.Fitting.{FitsRun, run_of}
+use Rattle.eql_cut.specs.Lifting.{FirstFormatUnplaced}
+use Rattle.eql_cut.specs.Placing.{IsUnplaced, orders_in}
+use Rattle.eql_cut.specs.Whole.{IsText}
+use Rattle.eql_ckdisk.specs.declared.recovery.Recovered.{Recovered}
+use Rattle.eql_ckdisk.specs.declared.refused.CkRefused.{CkRefused}
+use Rattle.eql_ckdisk.specs.declared.refused.CkRefused.TheVariants as ck
+use Rattle.eql_ckdisk.specs.Cuts.{IsFound}
+use Rattle.eql_ckdisk.specs.Found.{EachFinds, Found, LastCut, found, text}
+use Rattle.eql_ckdisk.specs.Found as areas
+use Rattle.eql_ckdisk.specs.Keeping.{AllKept, all_kept}
+use Rattle.eql_ckdisk.specs.Putting.{last_cut}
+use Rattle.eql_ckdisk.specs.Recovering.{IsAnswer, IsNoneOrCut, IsSound}
+use Rattle.eql_ckdisk.specs.Refusing.{IfDamaged, IsDamaged}
+use Rattle.eql_runs.specs.CutRefusals.{FoundRefuses, damaged, differs, head_damaged, head_differs, is_unfit, text_damaged, unfit}
+use Rattle.eql_runs.specs.Starts.{StandsFor, a_cut, bad_head, bad_text}
+use Rattle.eql_resume.specs.declared.finding.StartRefused.{StartRefused}
+use Rattle.eql_resume.specs.declared.finding.StartRefused.TheVariants as by
+use Rattle.eql_resume.specs.Finding.{CutCause, FoundCause, HasCause, IsRefusedBy, held, refused_by}
+
+-- ---- what is found
+stands_for : (last : LastCut) (format : ℕ) (answer : Option Cut) (f : Found) → IsFound last format answer f
+    → StandsFor (held format last.generation answer) f
+stands_for last format None f is = is.0
+stands_for last format (Some cut) f is = (last.area, is.0, is.1, is.2)
+
+-- what reads gave, once it is kept
+pub seen_now : (seen : (m : Moment) → IsImage m (seen_areas m)) (P : Found → Type 0) (o p : Option History) → Told AllKept o p
+    → IfSome p (λ k. EachFinds P k.now) → IfSome o (λ h. P (found (seen_areas h.now)))
+seen_now seen P None None kept each = tt
+seen_now seen P None (Some k) kept each = absurd kept
+seen_now seen P (Some h) None kept each = absurd kept
+seen_now seen P (Some h) (Some k) kept each =
+    each (seen_areas h.now) (subst (λ (m : Moment). IsImage m (seen_areas h.now)) (sym kept.now) (seen (all_kept h.now)))
+
+pub held_there : (seen : (m : Moment) → IsImage m (seen_areas m)) (r : Recovered) (o p : Option History) → Told AllKept o p
+    → IfSome p (λ k. EachFinds (IsAnswer r) k.now)
+    → IfSome o (λ h. StandsFor (held r.format (last_cut r.state).generation r.cut) (found (seen_areas h.now)))
+held_there seen r o p kept each = by o (seen_now seen (IsAnswer r) o p kept each)
+  where
+    by : (o : Option History) → IfSome o (λ h. IsAnswer r (found (seen_areas h.now)))
+        → IfSome o (λ h. StandsFor (held r.format (last_cut r.state).generation r.cut) (found (seen_areas h.now)))
+    by None is = tt
+    by (Some h) is = stands_for (last_cut r.state) r.format r.cut (found (seen_areas h.now)) is
+
+-- a cut of the first format has no places
+pub none_placed : FirstFormatUnplaced → (cut : Option Cut) (format generation : ℕ) → IsNoneOrCut cut format generation
+    → IfSome cut (λ c. format ≡ 1 → IsUnplaced (orders_in c))
+none_placed law None format generation sound = tt
+none_placed law (Some cut) format generation sound =
+    λ one. law cut sound.1.0 (subst (λ (n : ℕ). IsText n cut sound.1.0) one sound.1.1.is)
+
+-- ---- why it is refused
+module _ (stages values : ℕ) (pipes : List Pipe) (head : CutHead) where
+  by_damage : (f : Found) (number at : ℕ) → IsDamaged number at f → IsRefusedBy stages values pipes head f (damaged number at)
+  by_damage areas.nothing number at is = absurd is
+  by_damage (text area generation bytes) number at is = record {
+    on = bad_text number;
+    stands = (area, generation, bytes, refl, is.0, is.1);
+    refuses = text_damaged number at;
+  }
+  by_damage (areas.damaged area generation) number at is = record {
+    on = bad_head number;
+    stands = (is.0, refl);
+    refuses = subst (λ (n : ℕ). FoundRefuses head (run_of stages values pipes head.slack) (bad_head number) (damaged number n)) (sym is.1) (head_damaged number);
+  }
+
+  by_refusal : (e : CkRefused) (o : Option History) → IfDamaged e (λ number at. IfSome o (λ h. IsDamaged number at (found (seen_areas h.now))))
+      → IfSome o (λ h. HasCause (found (seen_areas h.now)) stages values pipes head (refused_by e))
+  by_refusal e None is = tt
+  by_refusal ck.DiskFault (Some h) is = tt
+  by_refusal (ck.Damaged number at) (Some h) is = by_damage (found (seen_areas h.now)) number at is
+  by_refusal ck.Generation (Some h) is = tt
+  by_refusal ck.Memory (Some h) is = tt
+
+  -- a damage of each image now is that of what reads gave
+  damage_seen : (seen : (m : Moment) → IsImage m (seen_areas m)) (e : CkRefused) (o p : Option History) → IfDamaged e (λ number at. Told AllKept o p)
+      → IfDamaged e (λ number at. IfSome p (λ k. EachFinds (IsDamaged number at) k.now))
+      → IfDamaged e (λ number at. IfSome o (λ h. IsDamaged number at (found (seen_areas h.now))))
+  damage_seen seen ck.DiskFault o p kept each = tt
+  damage_seen seen (ck.Damaged number at) o p kept each = seen_now seen (IsDamaged number at) o p kept each
+  damage_seen seen ck.Generation o p kept each = tt
+  damage_seen seen ck.Memory o p kept each = tt
+
+  pub refused_there : (seen : (m : Moment) → IsImage m (seen_areas m)) (e : CkRefused) (r : StartRefused) (o p : Option History) → r ≡ refused_by e
+      → IfDamaged e (λ number at. Told AllKept o p) → IfDamaged e (λ number at. IfSome p (λ k. EachFinds (IsDamaged number at) k.now))
+      → IfSome o (λ h. HasCause (found (seen_areas h.now)) stages values pipes head r)
+  refused_there seen e r o p is kept each =
+      subst (λ (x : StartRefused). IfSome o (λ h. HasCause (found (seen_areas h.now)) stages values pipes head x)) (sym is)
+      (by_refusal e o (damage_seen seen e o p kept each))
+
+  -- a cut is refused
+  misfit : (cut : Cut) → cut.head ≡ head → ¬ (FitsRun stages values pipes cut) → ¬ (Fits (run_of stages values pipes head.slack) head.shards (kept_by cut))
+  misfit cut same bad fits = bad (subst (λ (h : CutHead). Fits (run_of stages values pipes h.slack) h.shards (kept_by cut)) (sym same) fits)
+
+  by_cut : (format generation : ℕ) (cut : Cut) (f : Found) (r : StartRefused) → StandsFor (a_cut format generation cut) f
+      → CutCause stages values pipes head cut r → HasCause f stages values pipes head r
+  by_cut format generation cut f by.Disk stands is = tt
+  by_cut format generation cut f (by.Damaged area at) stands is = absurd is
+  by_cut format generation cut f (by.Differs d) stands is =
+      record { on = a_cut format generation cut; stands = stands; refuses = head_differs format generation cut d is }
+  by_cut format generation cut f by.Unfit stands is =
+      record { on = a_cut format generation cut; stands = stands; refuses = is_unfit format generation cut is.0 (misfit cut is.0 is.1) }
+  by_cut format generation cut f by.Memory stands is = tt
+
+  by_found_cut : (format generation : ℕ) (cut : Option Cut) (r : StartRefused) (o : Option History) → FoundCause stages values pipes head cut r
+      → IfSome o (λ h. StandsFor (held format generation cut) (found (seen_areas h.now)))
+      → IfSome o (λ h. HasCause (found (seen_areas h.now)) stages values pipes head r)
+  by_found_cut format generation None r o is stands = absurd is
+  by_found_cut format generation (Some cut) r None is stands = tt
+  by_found_cut format generation (Some cut) r (Some h) is stands = by_cut format generation cut (found (seen_areas h.now)) r stands is
+
+  pub cut_refused : (seen : (m : Moment) → IsImage m (seen_areas m)) (found_cut : Recovered) (r : StartRefused) (o p : Option History) → Told AllKept o p
+      → IfSome p (λ k. EachFinds (IsAnswer found_cut) k.now) → FoundCause stages values pipes head found_cut.cut r
+      → IfSome o (λ h. HasCause (found (seen_areas h.now)) stages values pipes head r)
+  cut_refused seen found_cut r o p kept each is =
+      by_found_cut found_cut.format (last_cut found_cut.state).generation found_cut.cut r o is (held_there seen found_cut o p kept each)
+
+-- an answer that is refused so
+pub refused_as : {A : Type 0} (P : StartRefused → Type 0) (r : Result A StartRefused) (by_this : StartRefused) → r ≡ Err by_this → P by_this → IfErr r P
+refused_as {A} P r by_this is p = subst (λ (x : Result A StartRefused). IfErr x P) (sym is) p

@@ -1,0 +1,4 @@
+pub mod Found
+pub mod Begun
+pub mod Taken
+pub mod Lifted
