@@ -20,11 +20,12 @@ use Rattle.eql_replay.specs.declared.noted.Noted.{Noted}
 use Rattle.eql_replay.specs.declared.noted.Noted.TheVariants.{OfLane, OfPart}
 use Rattle.eql_replay.specs.Listed.{BenchView}
 use Rattle.eql_replay.specs.Noting.{asked_note, did_fail, fails_in, told_note}
-use Rattle.eql_replay.specs.Opened.{AreOfTexts, FeedsElsewhere, IsBench, IsQuiet, LanesOn, ReadOn, list_at, list_in}
+use Rattle.eql_replay.specs.Opened.{AreOfTexts, FeedsElsewhere, IsBench, IsQuiet, LanesOn, LinesOn, ReadOn, list_at, list_in}
 use Rattle.eql_replay.specs.Pools.{AllPlayed, ForeignPlayed, IsPlay, LanePlayed, PartPlayed, PoolView}
 use Rattle.eql_replay.proofs.Calls.{lane_count, part_count, texts_stay}
 use Rattle.eql_replay.proofs.Goings.{didnt, all_on as all_go_on, lanes_begin, lanes_on, lanes_quieter}
 use Rattle.eql_replay.proofs.NoteLemmas.{didnt_fail, last_didnt, none_before, none_fails, other_fails}
+use Rattle.eql_replay.proofs.Further.{all_lines, lines_on, lines_self}
 use Rattle.eql_replay.proofs.Readings.{all_read, read_on, read_self}
 use Rattle.eql_replay.proofs.Others.{all_lanes, all_on, all_parts, all_texts}
 
@@ -82,6 +83,7 @@ module _ {S L : Type 0} (left lent_as : S → Option (List ℕ)) (fault_plan : S
           planned = record { each = λ s one there u. ap (fails_in s) none };
           texts = are;
           read = subst (λ (ls : List (LaneView S L)). ReadOn read_of text ls lanes) same_lanes (read_self left lent_as fault_plan read_of text lanes);
+          lines = subst (λ (ls : List (LaneView S L)). LinesOn text ls lanes) same_lanes (lines_self left lent_as fault_plan read_of text lanes);
           few_lanes = few_lanes;
           few_parts = few_parts;
           fit = subst (All (λ (fs : List Foreign). All (IsPlay (length lanes) (length parts)) fs)) same_lists fit;
@@ -105,6 +107,7 @@ module _ {S L : Type 0} (left lent_as : S → Option (List ℕ)) (fault_plan : S
           planned = is.planned;
           texts = all_texts left lent_as fault_plan read_of text fs b.pool pool played is.texts;
           read = all_read left lent_as fault_plan read_of text first fs b.pool pool is.texts played is.read;
+          lines = all_lines left lent_as fault_plan read_of text first fs b.pool pool is.texts played is.lines;
           few_lanes = subst (λ (n : ℕ). n < 2 ^ 32) (sym lanes) is.few_lanes;
           few_parts = subst (λ (n : ℕ). n < 2 ^ 32) (sym parts) is.few_parts;
           fit = all_fit (length b.pool.lanes) (length b.pool.parts) (length pool.lanes) (length pool.parts) lanes parts is.fit;
@@ -134,6 +137,7 @@ module _ {S L : Type 0} (left lent_as : S → Option (List ℕ)) (fault_plan : S
           };
           texts = texts_stay left lent_as fault_plan read_of s op reply old.lanes new.lanes played text is.texts;
           read = read_on left lent_as fault_plan read_of text s op reply old.lanes new.lanes played is.texts first is.read;
+          lines = lines_on left lent_as fault_plan read_of text s op reply old.lanes new.lanes played is.texts first is.lines;
           few_lanes = subst (λ (n : ℕ). n < 2 ^ 32) (sym lanes) is.few_lanes;
           few_parts = subst (λ (n : ℕ). n < 2 ^ 32) (sym same_parts) is.few_parts;
           fit = all_fit (length old.lanes) (length old.parts) (length new.lanes) (length new.parts) lanes same_parts is.fit;
@@ -153,6 +157,7 @@ module _ {S L : Type 0} (left lent_as : S → Option (List ℕ)) (fault_plan : S
           planned = record { each = λ k first_one there u. none_fails k p notes note ∙ is.planned.each k first_one there u };
           texts = subst (AreOfTexts left text) (sym lanes) is.texts;
           read = subst (ReadOn read_of text first) (sym lanes) is.read;
+          lines = subst (LinesOn text first) (sym lanes) is.lines;
           few_lanes = subst (λ (n : ℕ). n < 2 ^ 32) (sym same_lanes) is.few_lanes;
           few_parts = subst (λ (n : ℕ). n < 2 ^ 32) (sym parts) is.few_parts;
           fit = all_fit (length old.lanes) (length old.parts) (length new.lanes) (length new.parts) same_lanes parts is.fit;

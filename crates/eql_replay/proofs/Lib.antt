@@ -6,3 +6,4 @@ pub mod Goings
 pub mod Readings
 pub mod Keeps
 pub mod Beginnings
+pub mod Further

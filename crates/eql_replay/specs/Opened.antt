@@ -1,9 +1,11 @@
 -- How a bench goes on from its beginning.
-use Rattle.std.specs.Prelude.{◌≡◌, ◌≢◌, ◌<◌, ◌≤◌, ◌^◌, ◌+◌, ℕ, List, [], Option, None, Some, All, IsOkAnd, Result, length, min, slice_get}
+use Rattle.std.specs.Prelude.{◌≡◌, ◌≢◌, ◌<◌, ◌≤◌, ◌^◌, ◌+◌, ◌++◌, ℕ, List, [], Option, None, Some, All, IsOkAnd, IsTrue, Result, drop, length, min, slice_get}
 use Rattle.eql_values.specs.Accepted.{Reads}
+use Rattle.eql_values.specs.Lines.{lines_of}
 use Rattle.eql_values.specs.declared.order.Mark.{Mark}
 use Rattle.eql_outside.specs.Plans.{FaultPlan}
 use Rattle.eql_outside.specs.Unfailing.{IsUnfailing}
+use Rattle.eql_laws.specs.Places.{is_line_end}
 use Rattle.eql_lane.specs.declared.ops.LaneOp.{LaneOp}
 use Rattle.eql_lane.specs.declared.ops.LaneReply.{LaneReply}
 use Rattle.eql_lane.specs.Keeps.{LaneIs}
@@ -49,6 +51,20 @@ pub record ReadOn {S L : Type 0} (read_of : L → Reads) (text : ℕ → Option 
   pub each : (s : ℕ) (one lane : LaneView S L) → slice_get first s ≡ Some one → slice_get lanes s ≡ Some lane → (t : List ℕ) → text s ≡ Some t
       → IsAtPlace (setting_of read_of (Some t) one) t one.state → IsAtPlace (setting_of read_of (Some t) lane) t lane.state
 
+-- from the one state to the other further lines of the text were read: they begin where the first state is, and end at the end of a line or of the text
+pub record ReadsFurther (text : List ℕ) (old new : LaneState) : Type 0 where
+  pub more : List ℕ
+  pub rest : List ℕ
+  pub parts : drop old.cut.offset text ≡ more ++ rest
+  pub line_end : IsTrue (is_line_end more rest)
+  pub offset : new.cut.offset ≡ old.cut.offset + length more
+  pub lines : new.cut.counts.lines ≡ old.cut.counts.lines + length (lines_of more)
+
+-- each lane read further lines of the text named for it, whatever is known of the lines before those
+pub record LinesOn {S L : Type 0} (text : ℕ → Option (List ℕ)) (first lanes : List (LaneView S L)) : Type 0 where
+  pub each : (s : ℕ) (one lane : LaneView S L) → slice_get first s ≡ Some one → slice_get lanes s ≡ Some lane → (t : List ℕ) → text s ≡ Some t
+      → ReadsFurther t one.state lane.state
+
 module _ {S L : Type 0} (left lent_as : S → Option (List ℕ)) (fault_plan : S → Option FaultPlan) (read_of : L → Reads) where
   -- a lane goes on from the first: what no step changes is the same; where the source isn't planned to fail it stays so, and no fault came;
   -- and none came while it was quiet
@@ -89,6 +105,7 @@ pub record IsBench {S L : Type 0} (left lent_as : S → Option (List ℕ)) (faul
   pub planned : FailsAsPlanned fault_plan first b.notes
   pub texts : AreOfTexts left text b.pool.lanes
   pub read : ReadOn read_of text first b.pool.lanes
+  pub lines : LinesOn text first b.pool.lanes
   pub few_lanes : length b.pool.lanes < 2 ^ 32
   pub few_parts : length b.pool.parts < 2 ^ 32
   pub fit : All (λ foreigns. All (IsPlay (length b.pool.lanes) (length b.pool.parts)) foreigns) plays

@@ -3,7 +3,7 @@ ghost use Rattle.std.specs.Prelude.{◌≡◌, ◌≤◌, ◌<◌, ◌^◌, ◌+
 ghost use Rattle.eql_lane.specs.Lanes.{LaneAllows};
 ghost use Rattle.eql_conductor.specs.Benches.{LanePlays, MayPlay, PartPlays, Unplayed};
 ghost use Rattle.eql_replay.specs.Listed.{bench_known};
-ghost use Rattle.eql_replay.specs.Opened.{AreOfTexts, FailsAsPlanned, IsQuiet, LaneCall, LanesOn, PartCall, ReadOn, list_at};
+ghost use Rattle.eql_replay.specs.Opened.{AreOfTexts, FailsAsPlanned, IsQuiet, LaneCall, LanesOn, LinesOn, PartCall, ReadOn, list_at};
 ghost use Rattle.eql_replay.specs.Pools.{AllPlayed, IsPlay};
 
 use crate::foreign::Foreigns;
@@ -83,6 +83,7 @@ impl<S: Source, L: LineReader, G: Ledger, T: Opening<S, L>> ListBench<S, L, G, T
             (IsQuiet T.plays self.notes) T.lanes result.items }
         ensures texts { AreOfTexts S.left T.text result.items }
         ensures read { ReadOn L.read_of T.text T.lanes result.items }
+        ensures lines { LinesOn T.text T.lanes result.items }
     {
         self.pool.into_lanes()
     }

@@ -1,8 +1,8 @@
 -- Why a run ended, and that no fault was passed over.
 use Rattle.std.proofs.Common.{◌≡◌, ◌≢◌, ◌≤◌, ◌<◌, ℕ, ℤ, List, Option, Some, Ok, Err, length, refl, sym, ap, arith, subst}
-use Rattle.std.specs.Prelude.{IfErr, OnOk, Result, slice_get}
-use Rattle.std.specs.List.{AllZip}
+use Rattle.std.specs.Prelude.{IfErr, Result, slice_get}
 use Rattle.std.proofs.lemmas.Option.{slice_get_within}
+use Rattle.eql_outside.specs.Moments.{History}
 use Rattle.eql_outside.specs.Outside.{Rose}
 use Rattle.eql_outside.specs.Plans.{FaultPlan}
 use Rattle.eql_outside.specs.Unfailing.{IsUnfailing}
@@ -13,86 +13,85 @@ use Rattle.eql_lane.specs.Lanes.{LaneState}
 use Rattle.eql_lane.specs.Views.{LaneView}
 use Rattle.eql_parts.specs.PartSteps.{PartView}
 use Rattle.eql_book.specs.Books.{BookState}
-use Rattle.eql_conductor.specs.declared.plan.End.{End as Ends}
 use Rattle.eql_conductor.specs.declared.plan.End.TheVariants as end
+use Rattle.eql_conductor.specs.declared.plan.Keep.{Keep}
+use Rattle.eql_conductor.specs.declared.plan.RunPlan.{RunPlan}
 use Rattle.eql_conductor.specs.Benches.{Known}
-use Rattle.eql_replay.specs.Listed.{bench_known}
+use Rattle.eql_conductor.specs.Bounds.{AreSized}
+use Rattle.eql_conductor.specs.LaneRounds.{text_at}
+use Rattle.eql_conductor.specs.Runs.{disk_faults}
+use Rattle.eql_replay.specs.Listed.{HasLane, bench_known}
 use Rattle.eql_replay.specs.Noting.{fails_in}
 use Rattle.eql_replay.proofs.Beginnings.{none_feeds}
 use Rattle.eql_replay.proofs.Places.{there_or}
 use Rattle.eql_search.specs.declared.stop.Stop.{Stop}
 use Rattle.eql_search.specs.declared.stop.Stop.TheVariants as stop
-use Rattle.eql_search.specs.Answers.{AreUnfailing, BecameAt, HasCause, IsNoFault, OutOfBytes, OutOfLines, RoseFaults, SteadyBut, WasRead}
-use Rattle.eql_search.specs.Running.{HasRun, bench_of, end_of, texts_of}
-use Rattle.eql_search.specs.Searches.{AreFreshFrom}
-use Rattle.eql_search.proofs.Lanes.{all_were_read, as_many, has_now, old_is, out_of_bytes, out_of_lines}
+use Rattle.eql_search.specs.Answers.{AreUnfailing, BecameAt, HasCause, IsNoFault, LimitAt, OutOfBytes, OutOfLines, RoseFaults, SteadyBut}
+use Rattle.eql_search.specs.Running.{HasRun, bench_of, end_of}
+use Rattle.eql_search.specs.Searches.{AreBegunFrom}
+use Rattle.eql_search.proofs.Lanes.{as_many, has_now, old_is, out_of_bytes, out_of_lines}
 use Rattle.eql_search.proofs.Places.{all_at, all_by}
 
--- an answer tells how the run ended
-pub answers : {A S L : Type 0} {left lent_as : S → Option (List ℕ)} {fault_plan : S → Option FaultPlan} {read_of : L → Reads} {text : ℕ → Option (List ℕ)} {olds news : List (LaneView S L)}
-    {parts : List PartView} {book then : BookState} {before now : Option (List ℕ)} {sink_before sink_now : ℕ} (r : Result A Stop) (answer : Ends) → end_of r ≡ answer
-    → HasRun left lent_as fault_plan read_of text olds news parts book then before now sink_before sink_now answer
-    → HasRun left lent_as fault_plan read_of text olds news parts book then before now sink_before sink_now (end_of r)
-answers {left = left} {lent_as = lent_as} {fault_plan = fault_plan} {read_of = read_of} {text = text} {olds = olds} {news = news} {parts = parts} {book = book} {then = then} {before = before} {now = now}
-    {sink_before = sink_before} {sink_now = sink_now} r answer is run =
-    subst (λ (e : Ends). HasRun left lent_as fault_plan read_of text olds news parts book then before now sink_before sink_now e) (sym is) run
-
-module _ (A : Type 0) {S L : Type 0} (left lent_as : S → Option (List ℕ)) (fault_plan : S → Option FaultPlan) (read_of : L → Reads) (reads : Reads) (slack : Option ℤ)
-    (olds news : List (LaneView S L)) (parts : List PartView) (book then : BookState) (before now : Option (List ℕ)) (sink_before sink_now : ℕ)
-    (fresh : AreFreshFrom read_of reads slack 0 olds) where
+module _ (A : Type 0) {S L D : Type 0} (left lent_as : S → Option (List ℕ)) (fault_plan : S → Option FaultPlan) (read_of : L → Reads) (history : D → Option History) (count : D → ℕ) (reads : Reads) (slack : Option ℤ)
+    (told : Option (List (List ℕ))) (plan : RunPlan) (olds news : List (LaneView S L)) (parts : List PartView) (book then : BookState) (before now : Option (List ℕ)) (sink_before sink_now : ℕ)
+    (keep kept : Option (Keep D)) (begun : AreBegunFrom read_of reads slack 0 olds)
+    (sizes : AreSized (bench_known read_of (text_at told) (bench_of olds parts))) where
   abbrev Ran : Result A Stop → Type 0
-  Ran r = HasRun left lent_as fault_plan read_of (texts_of left olds) olds news parts book then before now sink_before sink_now (end_of r)
+  Ran r = HasRun left lent_as fault_plan read_of history count (text_at told) plan olds news parts book then before now sink_before sink_now keep kept (end_of r)
 
   abbrev first : Known
-  first = bench_known read_of (texts_of left olds) (bench_of olds parts)
+  first = bench_known read_of (text_at told) (bench_of olds parts)
+
+  abbrev disk_before : ℕ
+  disk_before = disk_faults history count keep
+
+  abbrev disk_now : ℕ
+  disk_now = disk_faults history count kept
+
+  many : (r : Result A Stop) → Ran r → length news ≡ length olds
+  many r run = as_many left lent_as fault_plan read_of history count reads slack told plan olds news parts book then before now sink_before sink_now keep kept (end_of r) begun run sizes
+
+  now_has : (r : Result A Stop) (run : Ran r) (s : ℕ) (new : LaneView S L) → slice_get news s ≡ Some new → HasLane run.last.pool.lanes s new.state
+  now_has r run s new is =
+      has_now left lent_as fault_plan read_of history count reads slack told plan olds news parts book then before now sink_before sink_now keep kept (end_of r) begun run sizes s new is
 
   -- the lane of a shard, before and after
-  pub record LanesAt (s : ℕ) : Type 0 where
-    pub old : LaneView S L
-    pub new : LaneView S L
-    pub was : slice_get olds s ≡ Some old
-    pub is : slice_get news s ≡ Some new
-
-  lanes_of : (r : Result A Stop) → Ran r → (s : ℕ) → s < length olds → LanesAt s
-  lanes_of r run s inside =
-      let one = there_or olds s inside in
-      let many = as_many left lent_as fault_plan read_of reads slack olds news parts book then before now sink_before sink_now (end_of r) fresh run in
-      let two = there_or news s (omega (arith, inside, many)) in
-      record { old = one.0; new = two.0; was = one.1; is = two.1 }
-
   became_at : (r : Result A Stop) → Ran r → (s : ℕ) → s < length olds → (Became : LaneView S L → LaneView S L → Type 0)
       → ((old new : LaneView S L) → slice_get olds s ≡ Some old → slice_get news s ≡ Some new → Became old new) → BecameAt s olds news Became
   became_at r run s inside Became each =
-      let at = lanes_of r run s inside in
-      record { old = at.old; new = at.new; was = at.was; is = at.is; became = each at.old at.new at.was at.is }
+      let one = there_or olds s inside in
+      let same = many r run in
+      let two = there_or news s (omega (arith, inside, same)) in
+      record { old = one.0; new = two.0; was = one.1; is = two.1; became = each one.0 two.0 one.1 two.1 }
 
   -- ---- why
-  limit_at : (of : LimitOf) → Ran (Err (stop.Limit of)) → HasCause left (stop.Limit of) olds news sink_before sink_now
+  limit_at : (of : LimitOf) → Ran (Err (stop.Limit of)) → LimitAt told of olds news
   limit_at (limit.Lines s) run =
       let r : Result A Stop = Err (stop.Limit (limit.Lines s)) in
-      became_at r run s run.cause.0 (OutOfLines left) (λ old new was is.
-      out_of_lines left lent_as fault_plan read_of reads slack olds news parts book then before now sink_before sink_now (end_of r) fresh run s old new was is
-      (first.set s) (run.cause.1 new.state (has_now left lent_as fault_plan read_of reads slack olds news parts book then before now sink_before sink_now (end_of r) fresh run s new is)))
+      became_at r run s run.cause.0 (OutOfLines (text_at told s)) (λ old new was is.
+      out_of_lines left lent_as fault_plan read_of history count reads slack told plan olds news parts book then before now sink_before sink_now keep kept (end_of r) begun run sizes s old new was is
+      (first.set s) (run.cause.1 new.state (now_has r run s new is)))
   limit_at (limit.Bytes s) run =
       let r : Result A Stop = Err (stop.Limit (limit.Bytes s)) in
-      became_at r run s run.cause.0 (OutOfBytes left) (λ old new was is.
-      out_of_bytes left lent_as fault_plan read_of reads slack olds news parts book then before now sink_before sink_now (end_of r) fresh run s old new was is
-      (run.cause.1 new.state (has_now left lent_as fault_plan read_of reads slack olds news parts book then before now sink_before sink_now (end_of r) fresh run s new is)))
+      became_at r run s run.cause.0 (OutOfBytes (text_at told s)) (λ old new was is.
+      out_of_bytes left lent_as fault_plan read_of history count reads slack told plan olds news parts book then before now sink_before sink_now keep kept (end_of r) begun run sizes s old new was is
+      (run.cause.1 new.state (now_has r run s new is)))
   limit_at limit.Turns run = absurd (run.not_turns refl)
-  limit_at limit.Generation run = absurd (run.not_generation refl)
+  limit_at limit.Generation run = tt
 
   rose_at : (s : ℕ) → Ran (Err (stop.Read s)) → BecameAt s olds news RoseFaults
   rose_at s run =
       let r : Result A Stop = Err (stop.Read s) in
       became_at r run s run.cause.0 RoseFaults (λ old new was is.
-      let rose = run.cause.1 new.state (has_now left lent_as fault_plan read_of reads slack olds news parts book then before now sink_before sink_now (end_of r) fresh run s new is) in
-      let e = old_is left lent_as fault_plan read_of reads slack olds news parts book then before now sink_before sink_now (end_of r) fresh run s old new was is rose.0 rose.1 in
+      let rose = run.cause.1 new.state (now_has r run s new is) in
+      let e = old_is left lent_as fault_plan read_of history count reads slack told plan olds news parts book then before now sink_before sink_now keep kept (end_of r) begun run sizes s old new was is rose.0 rose.1 in
       subst (λ (x : LaneState). Rose x.faults new.state.faults) e rose.2)
 
-  pub has_cause : (r : Result A Stop) → Ran r → IfErr r (λ why. HasCause left why olds news sink_before sink_now)
+  pub has_cause : (r : Result A Stop) → Ran r → IfErr r (λ why. HasCause told why olds news sink_before sink_now disk_before disk_now)
   has_cause (Ok done) run = tt
   has_cause (Err (stop.Read s)) run = rose_at s run
   has_cause (Err stop.Write) run = run.cause.2.0
+  has_cause (Err stop.Disk) run = run.cause.3.0
   has_cause (Err stop.Memory) run = tt
   has_cause (Err (stop.Limit of)) run = limit_at of run
 
@@ -101,37 +100,51 @@ module _ (A : Type 0) {S L : Type 0} (left lent_as : S → Option (List ℕ)) (f
   none_failed (Ok done) run k other = run.cause.0 k
   none_failed (Err (stop.Read s)) run k other = run.cause.2.others k (λ e. other (ap (λ (j : ℕ). Err (stop.Read j)) (sym e)))
   none_failed (Err stop.Write) run k other = run.cause.0 k
+  none_failed (Err stop.Disk) run k other = run.cause.0 k
   none_failed (Err stop.Memory) run k other = run.cause.0 k
   none_failed (Err (stop.Limit (limit.Lines s))) run k other = run.cause.2 k
   none_failed (Err (stop.Limit (limit.Bytes s))) run k other = run.cause.2 k
   none_failed (Err (stop.Limit limit.Turns)) run k other = absurd (run.not_turns refl)
-  none_failed (Err (stop.Limit limit.Generation)) run k other = absurd (run.not_generation refl)
+  none_failed (Err (stop.Limit limit.Generation)) run k other = run.cause.0 k
 
   pub reads_steady : (r : Result A Stop) → Ran r → SteadyBut (λ shard. r ≡ Err (stop.Read shard)) olds news
   reads_steady r run s old new untold was is = (run.on.each s old new was is).steady (none_feeds s, none_failed r run s untold)
 
-  sink_stays : (r : Result A Stop) → Ran r → r ≢ Err stop.Write → sink_now ≡ sink_before
-  sink_stays (Ok done) run other = run.cause.2
-  sink_stays (Err (stop.Read s)) run other = run.cause.3
-  sink_stays (Err stop.Write) run other = absurd (other refl)
-  sink_stays (Err stop.Memory) run other = run.cause.2
-  sink_stays (Err (stop.Limit (limit.Lines s))) run other = run.cause.4
-  sink_stays (Err (stop.Limit (limit.Bytes s))) run other = run.cause.4
-  sink_stays (Err (stop.Limit limit.Turns)) run other = absurd (run.not_turns refl)
-  sink_stays (Err (stop.Limit limit.Generation)) run other = absurd (run.not_generation refl)
+  -- what a run leaves of the counts of sink and disk
+  pub record CountsSo (r : Result A Stop) : Type 0 where
+    pub sink_stays : r ≢ Err stop.Write → sink_now ≡ sink_before
+    pub sink_counts : sink_before ≤ sink_now
+    pub disk_stays : r ≢ Err stop.Disk → disk_now ≡ disk_before
+    pub disk_counts : disk_before ≤ disk_now
 
-  pub writes_steady : (r : Result A Stop) → Ran r → r ≢ Err stop.Write → sink_now ≡ sink_before
-  writes_steady = sink_stays
+  both_stay : (r : Result A Stop) → sink_now ≡ sink_before → disk_now ≡ disk_before → CountsSo r
+  both_stay r e f = record {
+    sink_stays = λ other. e;
+    sink_counts = omega (arith, e);
+    disk_stays = λ other. f;
+    disk_counts = omega (arith, f);
+  }
 
-  pub sink_counts : (r : Result A Stop) → Ran r → sink_before ≤ sink_now
-  sink_counts (Ok done) run = let e = run.cause.2 in omega (arith, e)
-  sink_counts (Err (stop.Read s)) run = let e = run.cause.3 in omega (arith, e)
-  sink_counts (Err stop.Write) run = run.cause.2.1
-  sink_counts (Err stop.Memory) run = let e = run.cause.2 in omega (arith, e)
-  sink_counts (Err (stop.Limit (limit.Lines s))) run = let e = run.cause.4 in omega (arith, e)
-  sink_counts (Err (stop.Limit (limit.Bytes s))) run = let e = run.cause.4 in omega (arith, e)
-  sink_counts (Err (stop.Limit limit.Turns)) run = absurd (run.not_turns refl)
-  sink_counts (Err (stop.Limit limit.Generation)) run = absurd (run.not_generation refl)
+  pub counts_so : (r : Result A Stop) → Ran r → CountsSo r
+  counts_so (Ok done) run = both_stay (Ok done) run.cause.2 run.cause.3
+  counts_so (Err (stop.Read s)) run = both_stay (Err (stop.Read s)) run.cause.3 run.cause.4
+  counts_so (Err stop.Write) run = record {
+    sink_stays = λ other. absurd (other refl);
+    sink_counts = run.cause.2.1;
+    disk_stays = λ other. run.cause.3;
+    disk_counts = let e = run.cause.3 in omega (arith, e);
+  }
+  counts_so (Err stop.Disk) run = record {
+    sink_stays = λ other. run.cause.2;
+    sink_counts = let e = run.cause.2 in omega (arith, e);
+    disk_stays = λ other. absurd (other refl);
+    disk_counts = run.cause.3.1;
+  }
+  counts_so (Err stop.Memory) run = both_stay (Err stop.Memory) run.cause.2 run.cause.3
+  counts_so (Err (stop.Limit (limit.Lines s))) run = both_stay (Err (stop.Limit (limit.Lines s))) run.cause.4 run.cause.5
+  counts_so (Err (stop.Limit (limit.Bytes s))) run = both_stay (Err (stop.Limit (limit.Bytes s))) run.cause.4 run.cause.5
+  counts_so (Err (stop.Limit limit.Turns)) run = absurd (run.not_turns refl)
+  counts_so (Err (stop.Limit limit.Generation)) run = both_stay (Err (stop.Limit limit.Generation)) run.cause.2 run.cause.3
 
   -- ---- where no call is planned to fail
   module _ (unfailing : AreUnfailing fault_plan olds) where
@@ -141,22 +154,14 @@ module _ (A : Type 0) {S L : Type 0} (left lent_as : S → Option (List ℕ)) (f
     pub lanes_unfailing : (r : Result A Stop) → Ran r → AreUnfailing fault_plan news
     lanes_unfailing r run =
         all_by (λ (lane : LaneView S L). IsUnfailing (fault_plan lane.source)) news (λ s new is.
-        let many = as_many left lent_as fault_plan read_of reads slack olds news parts book then before now sink_before sink_now (end_of r) fresh run in
-        let one = there_or olds s (let within = slice_get_within news s new is in omega (arith, within, many)) in
+        let same = many r run in
+        let one = there_or olds s (let within = slice_get_within news s new is in omega (arith, within, same)) in
         ((run.on.each s one.0 new one.1 is).unfailing (old_unfailing s one.0 one.1)).0)
 
-    pub no_fault : (r : Result A Stop) → Ran r → end_of r ≢ end.WriteFault → IfErr r IsNoFault
-    no_fault (Ok done) run wrote = tt
-    no_fault (Err (stop.Read s)) run wrote = let one = there_or olds s run.cause.0 in run.planned s one.0 one.1 (old_unfailing s one.0 one.1) refl
-    no_fault (Err stop.Write) run wrote = wrote refl
-    no_fault (Err stop.Memory) run wrote = tt
-    no_fault (Err (stop.Limit of)) run wrote = tt
-
-  -- ---- the end
-  pub was_read : (r : Result A Stop) → Ran r → OnOk r (AllZip (WasRead left read_of) olds news)
-  was_read (Ok done) run =
-      let r : Result A Stop = Ok done in
-      all_were_read left lent_as fault_plan read_of reads slack olds news parts book then before now sink_before sink_now (end_of r) fresh run (λ s new is.
-      let has = has_now left lent_as fault_plan read_of reads slack olds news parts book then before now sink_before sink_now (end_of r) fresh run s new is in
-      run.is.closed s (slice_get_within run.last.pool.lanes s has.lane has.there) new.state has)
-  was_read (Err by) run = tt
+    pub no_fault : (r : Result A Stop) → Ran r → end_of r ≢ end.WriteFault → end_of r ≢ end.DiskFault → IfErr r IsNoFault
+    no_fault (Ok done) run wrote put = tt
+    no_fault (Err (stop.Read s)) run wrote put = let one = there_or olds s run.cause.0 in run.planned s one.0 one.1 (old_unfailing s one.0 one.1) refl
+    no_fault (Err stop.Write) run wrote put = wrote refl
+    no_fault (Err stop.Disk) run wrote put = put refl
+    no_fault (Err stop.Memory) run wrote put = tt
+    no_fault (Err (stop.Limit of)) run wrote put = tt

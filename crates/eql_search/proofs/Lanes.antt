@@ -1,31 +1,40 @@
 -- What became of the lanes of a run.
-use Rattle.std.proofs.Common.{◌≡◌, ◌≤◌, ◌<◌, ℕ, ℤ, Bool, true, false, cond, List, [], ◌∷◌, ◌++◌, Option, None, Some, All, length, length-append, length-drop, drop, refl, sym, ap, ◌∙◌, arith, subst}
-use Rattle.std.specs.Prelude.{◌==◌, IsTrue, slice_get}
+use Rattle.std.proofs.Common.{◌≡◌, ◌≤◌, ◌<◌, ◌+◌, ℕ, suc, ℤ, Bool, true, false, cond, List, [], ◌∷◌, ◌++◌, Option, None, Some, All, length, length-append, length-drop, drop, refl, sym, ap, ◌∙◌, arith, subst}
+use Rattle.std.specs.Prelude.{◌==◌, IfSome, IsTrue, slice_get}
 use Rattle.std.specs.List.{AllZip}
 use Rattle.std.proofs.lemmas.List.{append-nil}
 use Rattle.std.proofs.lemmas.Option.{same_Some, slice_get_within}
+use Rattle.eql_outside.specs.Moments.{History}
 use Rattle.eql_outside.specs.Plans.{FaultPlan}
 use Rattle.eql_values.specs.Accepted.{Reads}
 use Rattle.eql_values.specs.declared.cut.LaneCut.{LaneCut}
+use Rattle.eql_values.specs.declared.order.Mark.{Mark}
 use Rattle.eql_values.specs.Lines.{begin_with, lines_of}
 use Rattle.eql_laws.specs.Counting.{IsShardText, counts_of, greatest_bytes, greatest_lines}
 use Rattle.eql_laws.specs.Places.{is_line_end}
+use Rattle.eql_lane.specs.Keeps.{LaneIs}
 use Rattle.eql_lane.specs.Lanes.{LaneState, OutOfLines as IsOutOfLines, Setting}
 use Rattle.eql_lane.specs.Views.{IsTextOf, LaneView, setting_of}
 use Rattle.eql_lane.proofs.FeedLines.{lines_both}
 use Rattle.eql_parts.specs.PartSteps.{PartView}
+use Rattle.eql_rounds.specs.LaneRounds.{IsOfText}
 use Rattle.eql_book.specs.Books.{BookState}
 use Rattle.eql_conductor.specs.declared.plan.End.{End as Ends}
-use Rattle.eql_conductor.specs.Bounds.{IsSized}
+use Rattle.eql_conductor.specs.declared.plan.Keep.{Keep}
+use Rattle.eql_conductor.specs.declared.plan.RunPlan.{RunPlan}
+use Rattle.eql_conductor.specs.Benches.{Known}
+use Rattle.eql_conductor.specs.Bounds.{AreSized, IsSized}
 use Rattle.eql_conductor.specs.Going.{Onward}
-use Rattle.eql_replay.specs.Listed.{HasLane, bench_known}
+use Rattle.eql_conductor.specs.LaneRounds.{text_at}
+use Rattle.eql_conductor.specs.Rounds.{OfTexts}
+use Rattle.eql_replay.specs.Listed.{HasLane, bench_known, set_in}
 use Rattle.eql_replay.specs.Opened.{IsAtPlace}
 use Rattle.eql_replay.proofs.Places.{there_or}
-use Rattle.eql_search.specs.Answers.{OutOfBytes, OutOfLines, StaysLane, WasRead}
-use Rattle.eql_search.specs.Running.{HasRun, bench_of, text_of, texts_of}
-use Rattle.eql_search.specs.Searches.{AreFreshFrom, AreTextsOf, IsFreshLane}
-use Rattle.eql_search.proofs.Fresh.{all_told, begins_at, begins_sized, fresh_at, text_named}
-use Rattle.eql_search.proofs.Places.{zip_by}
+use Rattle.eql_search.specs.Answers.{CountWhole, IsClosed, OutOfBytes, OutOfLines, StaysLane, WereRead}
+use Rattle.eql_search.specs.Running.{HasRun, bench_of}
+use Rattle.eql_search.specs.Searches.{AreBegunFrom, AreTextsOf}
+use Rattle.eql_search.proofs.Places.{all_by, zip_by}
+use Rattle.eql_search.proofs.Texts.{all_told, begun_at, of_some, told_again, told_count}
 
 -- ---- more lines
 begun_line : (byte : ℕ) (lines : List (List ℕ)) → 1 ≤ length (begin_with byte lines)
@@ -55,16 +64,34 @@ all_stay left lent_as read_of [] = tt
 all_stay left lent_as read_of (lane ∷ lanes) = (
   record {
     same = record { shard = refl; slack = refl; reads = refl; places = refl; named = refl; silent = λ h. h };
-    texts = λ text told. told;
     counts = omega arith;
   },
   all_stay left lent_as read_of lanes,
 )
 
-module _ {S L : Type 0} (left lent_as : S → Option (List ℕ)) (fault_plan : S → Option FaultPlan) (read_of : L → Reads) (reads : Reads) (slack : Option ℤ)
-    (olds news : List (LaneView S L)) (parts : List PartView) (book then : BookState) (before now : Option (List ℕ)) (sink_before sink_now : ℕ) (answer : Ends)
-    (fresh : AreFreshFrom read_of reads slack 0 olds)
-    (run : HasRun left lent_as fault_plan read_of (texts_of left olds) olds news parts book then before now sink_before sink_now answer) where
+-- counts at each place are those of all texts
+count_whole : {S L : Type 0} (reads : Reads) (slack : Option ℤ) (shard : ℕ) (texts : List (List ℕ)) (lanes : List (LaneView S L)) → length texts ≡ length lanes
+    → ((k : ℕ) (t : List ℕ) (lane : LaneView S L) → slice_get texts k ≡ Some t → slice_get lanes k ≡ Some lane → lane.state.cut.counts ≡ counts_of reads slack (shard + k) t)
+    → CountWhole reads slack shard texts lanes
+count_whole reads slack shard [] [] e each = tt
+count_whole reads slack shard [] (lane ∷ lanes) e each = absurd (omega (arith, e))
+count_whole reads slack shard (text ∷ texts) [] e each = absurd (omega (arith, e))
+count_whole reads slack shard (text ∷ texts) (lane ∷ lanes) e each =
+    let here : shard + 0 ≡ shard = omega arith in (
+      each 0 text lane refl refl ∙ ap (λ (n : ℕ). counts_of reads slack n text) here,
+      count_whole reads slack (shard + 1) texts lanes (omega (arith, e)) (λ k t one was is.
+          let next : shard + suc k ≡ (shard + 1) + k = omega arith in
+          each (suc k) t one was is ∙ ap (λ (n : ℕ). counts_of reads slack n t) next),
+    )
+
+module _ {S L D : Type 0} (left lent_as : S → Option (List ℕ)) (fault_plan : S → Option FaultPlan) (read_of : L → Reads) (history : D → Option History) (count : D → ℕ) (reads : Reads) (slack : Option ℤ)
+    (told : Option (List (List ℕ))) (plan : RunPlan) (olds news : List (LaneView S L)) (parts : List PartView) (book then : BookState) (before now : Option (List ℕ)) (sink_before sink_now : ℕ)
+    (keep kept : Option (Keep D)) (answer : Ends) (begun : AreBegunFrom read_of reads slack 0 olds)
+    (run : HasRun left lent_as fault_plan read_of history count (text_at told) plan olds news parts book then before now sink_before sink_now keep kept answer)
+    (sizes : AreSized (bench_known read_of (text_at told) (bench_of olds parts))) where
+  abbrev first : Known
+  first = bench_known read_of (text_at told) (bench_of olds parts)
+
   -- ---- at its place
   pub as_many : length news ≡ length olds
   as_many = run.on.count
@@ -77,125 +104,155 @@ module _ {S L : Type 0} (left lent_as : S → Option (List ℕ)) (fault_plan : S
   }
 
   module _ (s : ℕ) (old new : LaneView S L) (was : slice_get olds s ≡ Some old) (is : slice_get news s ≡ Some new) where
-    begun_so : IsFreshLane read_of reads slack s old
-    begun_so = fresh_at read_of reads slack olds fresh s old was
-
     pub within : s < length olds
     within = slice_get_within olds s old was
+
+    has_then : HasLane olds s old.state
+    has_then = record { lane = old; there = was; state_is = refl }
 
     pub old_is : (x : LaneState) → HasLane olds s x → x ≡ old.state
     old_is x has = has.state_is ∙ ap (λ (lane : LaneView S L). lane.state) (same_Some has.lane old (sym has.there ∙ was))
 
-    pub onward : Onward ((bench_known read_of (texts_of left olds) (bench_of olds parts)).set s) old.state new.state
+    pub onward : Onward (first.set s) old.state new.state
     onward =
         let on = run.goes.each s within new.state (has_now s new is) in
-        let set : Setting = (bench_known read_of (texts_of left olds) (bench_of olds parts)).set s in
+        let set : Setting = first.set s in
         subst (λ (x : LaneState). Onward set x new.state) (old_is on.0 on.1) on.2
 
     sized : IsSized new.state
-    sized = onward.sized (begins_sized old.state begun_so.state_is)
-
-    named : (t : List ℕ) → IsTextOf left (Some t) old → texts_of left olds s ≡ Some t
-    named t told = ap (text_of left) was ∙ text_named left read_of old t begun_so.state_is told
-
-    -- it stays a lane of its texts
-    pub text_stays : (text : Option (List ℕ)) → IsTextOf left text old → IsTextOf left text new
-    text_stays None told = tt
-    text_stays (Some t) told = subst (λ (o : Option (List ℕ)). IsTextOf left o new) (named t told) (run.texts.each s new is)
+    sized = onward.sized (sizes.each s within old.state has_then)
 
     pub lane_stays : StaysLane left lent_as read_of old new
-    lane_stays = record {
-      same = (run.on.each s old new was is).same;
-      texts = text_stays;
-      counts = onward.faults;
-    }
+    lane_stays = record { same = (run.on.each s old new was is).same; counts = onward.faults }
 
     -- ---- by a text that is told
-    module _ (t : List ℕ) (told : IsTextOf left (Some t) old) where
-      at_now : IsAtPlace (setting_of read_of (Some t) new) t new.state
-      at_now = run.read.each s old new was is t (named t told) (begins_at left read_of old t begun_so.state_is)
-
-      -- what was read of it are so many bytes
-      offset_is : new.state.cut.offset ≡ length at_now.is.place.first
-      offset_is = ap (λ (cut : LaneCut). cut.offset) at_now.is.cut
-
-      lines_are : new.state.cut.counts.lines ≡ length (lines_of at_now.is.place.first)
-      lines_are = ap (λ (cut : LaneCut). cut.counts.lines) at_now.is.cut
-
-      whole_is : at_now.is.place.first ++ at_now.is.place.rest ≡ t
-      whole_is = at_now.is.text_is
-
+    module _ (t : List ℕ) (named : text_at told s ≡ Some t) where
       is_text : IsTextOf left (Some t) new
-      is_text = text_stays (Some t) told
+      is_text = subst (λ (o : Option (List ℕ)). IsTextOf left o new) named (run.texts.each s new is)
 
-      rest_is : new.state.cut.closed ≡ true → at_now.is.place.rest ≡ []
-      rest_is closed = at_now.is.is_place.at_end (sym (ap (λ (cut : LaneCut). cut.closed) at_now.is.cut) ∙ closed)
-
-      all_read : new.state.cut.closed ≡ true → at_now.is.place.first ≡ t
-      all_read closed =
-          sym (append-nil at_now.is.place.first) ∙ ap (λ (l : List ℕ). at_now.is.place.first ++ l) (sym (rest_is closed)) ∙ whole_is
-
-      counts_are : new.state.cut.closed ≡ true → new.state.cut.counts ≡ counts_of (read_of old.reader) old.slack old.shard t
-      counts_are closed =
-          let same = (run.on.each s old new was is).same in
-          ap (λ (cut : LaneCut). cut.counts) at_now.is.cut
-          ∙ (λ i. counts_of (same.reads i) (same.slack i) (same.shard i) (all_read closed i))
-
-      -- a lane that is closed has no more of it than a shard may have
-      pub fits_shard : new.state.cut.closed ≡ true → IsShardText t
-      fits_shard closed = record {
-        lines = let a = lines_are in let b = ap (λ (l : List ℕ). length (lines_of l)) (all_read closed) in let c = sized.lines in omega (arith, a, b, c);
-        bytes =
-            let a = offset_is in
-            let b = ap (λ (l : List ℕ). length l) (all_read closed) in
-            let c = ap (λ (l : List ℕ). length l) is_text.parts in
-            let d = length-append is_text.pending (drop new.state.taken t) in
-            let e = length-drop new.state.cut.offset t in
-            let f = length-drop new.state.taken t in
-            let h = sized.bytes in
-            omega (arith, a, b, c, d, e, f, h);
-      }
-
-      lines_over : new.state.cut.counts.lines ≡ greatest_lines → new.state.cut.offset < new.state.taken → greatest_lines < length (lines_of t)
+      lines_over : new.state.cut.counts.lines ≡ greatest_lines → new.state.cut.offset < new.state.taken
+          → greatest_lines < old.state.cut.counts.lines + length (lines_of (drop old.state.cut.offset t))
       lines_over most byte =
-          let first : List ℕ = at_now.is.place.first in
-          let rest : List ℕ = at_now.is.place.rest in
-          let a = offset_is in
-          let b = lines_are in
-          let c = ap (λ (l : List ℕ). length l) whole_is in
-          let d = length-append first rest in
+          let on = run.lines.each s old new was is t named in
+          let a = on.offset in
+          let b = on.lines in
+          let c = ap (λ (l : List ℕ). length l) on.parts in
+          let d = length-append on.more on.rest in
           let e = is_text.within in
-          let more = more_lines first rest at_now.is.is_place.line_end (omega (arith, a, c, d, e, byte)) in
-          let f = ap (λ (l : List ℕ). length (lines_of l)) whole_is in
-          omega (arith, b, f, more, most)
+          let f = length-drop old.state.cut.offset t in
+          let more = more_lines on.more on.rest on.line_end (omega (arith, a, c, d, e, f, byte)) in
+          let g = ap (λ (l : List ℕ). length (lines_of l)) on.parts in
+          omega (arith, b, g, more, most)
 
       bytes_over : new.state.taken ≡ greatest_bytes → greatest_bytes ≤ length t
       bytes_over most = let a = is_text.within in omega (arith, a, most)
 
-    -- ---- what is known of it
-    pub was_read : new.state.cut.closed ≡ true → WasRead left read_of old new
-    was_read closed = record {
-      closed = closed;
-      counts = λ t told. counts_are t told closed;
-      within = λ t told. fits_shard t told closed;
+      -- where it had read its text up to a place
+      module _ (at_then : IsAtPlace (setting_of read_of (Some t) old) t old.state) where
+        at_now : IsAtPlace (setting_of read_of (Some t) new) t new.state
+        at_now = run.read.each s old new was is t named at_then
+
+        -- what was read of it are so many bytes
+        offset_is : new.state.cut.offset ≡ length at_now.is.place.first
+        offset_is = ap (λ (cut : LaneCut). cut.offset) at_now.is.cut
+
+        lines_are : new.state.cut.counts.lines ≡ length (lines_of at_now.is.place.first)
+        lines_are = ap (λ (cut : LaneCut). cut.counts.lines) at_now.is.cut
+
+        rest_is : new.state.cut.closed ≡ true → at_now.is.place.rest ≡ []
+        rest_is closed = at_now.is.is_place.at_end (sym (ap (λ (cut : LaneCut). cut.closed) at_now.is.cut) ∙ closed)
+
+        all_read : new.state.cut.closed ≡ true → at_now.is.place.first ≡ t
+        all_read closed =
+            sym (append-nil at_now.is.place.first) ∙ ap (λ (l : List ℕ). at_now.is.place.first ++ l) (sym (rest_is closed)) ∙ at_now.is.text_is
+
+        pub counts_are : new.state.cut.closed ≡ true → new.state.cut.counts ≡ counts_of reads slack s t
+        counts_are closed =
+            let same = (run.on.each s old new was is).same in
+            let one = begun_at read_of reads slack olds begun s old was in
+            ap (λ (cut : LaneCut). cut.counts) at_now.is.cut
+            ∙ (λ i. counts_of ((same.reads ∙ one.reads_are) i) ((same.slack ∙ one.slack_is) i) ((same.shard ∙ one.shard_is) i) (all_read closed i))
+
+        -- a lane that is closed has no more of it than a shard may have
+        pub fits_shard : new.state.cut.closed ≡ true → IsShardText t
+        fits_shard closed = record {
+          lines = let a = lines_are in let b = ap (λ (l : List ℕ). length (lines_of l)) (all_read closed) in let c = sized.lines in omega (arith, a, b, c);
+          bytes =
+              let a = offset_is in
+              let b = ap (λ (l : List ℕ). length l) (all_read closed) in
+              let c = ap (λ (l : List ℕ). length l) is_text.parts in
+              let d = length-append is_text.pending (drop new.state.taken t) in
+              let e = length-drop new.state.cut.offset t in
+              let f = length-drop new.state.taken t in
+              let h = sized.bytes in
+              omega (arith, a, b, c, d, e, f, h);
+        }
+
+    -- ---- limits
+    pub out_of_lines : (set : Setting) → IsOutOfLines set new.state → OutOfLines (text_at told s) old new
+    out_of_lines set out = record {
+      lines = out.lines;
+      byte = out.byte;
+      beyond = by (text_at told s) refl;
     }
+      where
+        by : (o : Option (List ℕ)) → text_at told s ≡ o → IfSome o (λ (t : List ℕ). greatest_lines < old.state.cut.counts.lines + length (lines_of (drop old.state.cut.offset t)))
+        by None e = tt
+        by (Some t) e = lines_over t e out.lines out.byte
 
-    pub out_of_lines : (set : Setting) → IsOutOfLines set new.state → OutOfLines left old new
-    out_of_lines set out = record { lines = out.lines; byte = out.byte; texts = λ t told. lines_over t told out.lines out.byte }
-
-    pub out_of_bytes : new.state.taken ≡ greatest_bytes → OutOfBytes left old new
-    out_of_bytes most = record { bytes = most; texts = λ t told. bytes_over t told most }
+    pub out_of_bytes : new.state.taken ≡ greatest_bytes → OutOfBytes (text_at told s) old new
+    out_of_bytes most = record { bytes = most; beyond = by (text_at told s) refl }
+      where
+        by : (o : Option (List ℕ)) → text_at told s ≡ o → IfSome o (λ (t : List ℕ). greatest_bytes ≤ length t)
+        by None e = tt
+        by (Some t) e = bytes_over t e most
 
   -- ---- all of them
   pub lanes_stay : AllZip (StaysLane left lent_as read_of) olds news
   lanes_stay = zip_by (StaysLane left lent_as read_of) olds news as_many lane_stays
 
-  pub all_were_read : ((s : ℕ) (new : LaneView S L) → slice_get news s ≡ Some new → new.state.cut.closed ≡ true) → AllZip (WasRead left read_of) olds news
-  all_were_read closed = zip_by (WasRead left read_of) olds news as_many (λ s old new was is. was_read s old new was is (closed s new is))
+  pub texts_stay : IfSome told (λ (texts : List (List ℕ)). AreTextsOf left texts olds) → IfSome told (λ (texts : List (List ℕ)). AreTextsOf left texts news)
+  texts_stay are = told_again left told olds news as_many are run.texts
 
-  -- texts that are told are of the size that shards may have, where every lane is closed
-  pub texts_fit : ((s : ℕ) (new : LaneView S L) → slice_get news s ≡ Some new → new.state.cut.closed ≡ true) → (texts : List (List ℕ)) → AreTextsOf left texts olds → All IsShardText texts
-  texts_fit closed texts told =
-      all_told left read_of IsShardText texts olds told (λ s old t was of.
-      let one = there_or news s (omega (arith, as_many, slice_get_within olds s old was)) in
-      fits_shard s old one.0 was one.1 t of (closed s one.0 one.1))
+  -- every lane is closed
+  abbrev pub Closed : Type 0
+  Closed = (s : ℕ) (new : LaneView S L) → slice_get news s ≡ Some new → new.state.cut.closed ≡ true
+
+  pub all_closed : Closed → All IsClosed news
+  all_closed closed = all_by IsClosed news closed
+
+  module _ (texts : List (List ℕ)) (e : told ≡ Some texts) (are : AreTextsOf left texts olds) (mark : Mark) (of_texts : OfTexts reads slack texts mark first) where
+    -- each lane had read its text up to a place
+    was_at : (s : ℕ) (old : LaneView S L) (t : List ℕ) → slice_get olds s ≡ Some old → slice_get texts s ≡ Some t → IsAtPlace (setting_of read_of (Some t) old) t old.state
+    was_at s old t was named =
+        let at = of_texts.lanes.each s (slice_get_within olds s old was) old.state (record { lane = old; there = was; state_is = refl }) in
+        let of : IsOfText (first.set s) mark old.state t = of_some (slice_get texts s) (IsOfText (first.set s) mark old.state) t named at.told in
+        let set : first.set s ≡ setting_of read_of (Some t) old =
+        ap (set_in read_of (text_at told s)) was ∙ ap (λ (o : Option (List ℕ)). setting_of read_of o old) (ap (λ (o : Option (List (List ℕ))). text_at o s) e ∙ named) in
+        record { mark = mark; is = subst (λ (u : Setting). LaneIs u t mark old.state) set of.is }
+
+    named_at : (s : ℕ) (t : List ℕ) → slice_get texts s ≡ Some t → text_at told s ≡ Some t
+    named_at s t there = ap (λ (o : Option (List (List ℕ))). text_at o s) e ∙ there
+
+    old_at : (s : ℕ) (new : LaneView S L) → slice_get news s ≡ Some new → (old : LaneView S L) × (slice_get olds s ≡ Some old)
+    old_at s new is = there_or olds s (let a = slice_get_within news s new is in let b = as_many in omega (arith, a, b))
+
+    new_at : (s : ℕ) (old : LaneView S L) → slice_get olds s ≡ Some old → (new : LaneView S L) × (slice_get news s ≡ Some new)
+    new_at s old was = there_or news s (let a = slice_get_within olds s old was in let b = as_many in omega (arith, a, b))
+
+    -- the texts are of the size that shards may have, where every lane is closed
+    pub texts_fit : Closed → All IsShardText texts
+    texts_fit closed =
+        all_told left IsShardText texts olds are (λ s old t was there.
+        let one = new_at s old was in
+        fits_shard s old one.0 was one.1 t (named_at s t there) (was_at s old t was there) (closed s one.0 one.1))
+
+    pub were_read : Closed → WereRead reads slack texts news
+    were_read closed = record {
+      counts = count_whole reads slack 0 texts news (told_count left texts olds are ∙ sym as_many) (λ s t new there is.
+          let one = old_at s new is in
+          let here : s ≡ 0 + s = omega arith in
+          counts_are s one.0 new one.1 is t (named_at s t there) (was_at s one.0 t one.1 there) (closed s new is)
+          ∙ ap (λ (n : ℕ). counts_of reads slack n t) here);
+      within = texts_fit closed;
+    }

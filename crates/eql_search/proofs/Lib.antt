@@ -1,7 +1,10 @@
 mod Places
-mod Fresh
+mod Owned
+mod Texts
 mod Opened
-mod Ran
 mod Lanes
 mod Causes
 mod Lines
+mod Generations
+mod Kept
+mod Searching

@@ -1,118 +1,130 @@
 -- What a run wrote, in the words of the listing.
-use Rattle.std.proofs.Common.{◌≡◌, ◌^◌, ◌-◌, ◌++◌, ℕ, zero, suc, ℤ, true, false, Bool, cond, List, [], ◌∷◌, drop, Option, Some, None, Ok, Err, All, refl, sym, ap, ◌∙◌, subst, append_assoc}
-use Rattle.std.specs.Prelude.{OnErr, OnOk, Result, filter}
-use Rattle.std.specs.List.{list_all}
-use Rattle.std.proofs.lemmas.List.{take-append-drop}
+use Rattle.std.proofs.Common.{◌≡◌, ◌^◌, ◌-◌, ◌++◌, ℕ, ℤ, true, false, Bool, List, [], drop, length, Option, Some, None, Ok, Err, All, refl, sym, ap, ◌∙◌, subst, append_assoc}
+use Rattle.std.specs.Prelude.{OnErr, OnOk, Result, slice_get}
+use Rattle.std.proofs.lemmas.List.{drop_at, take-append-drop}
 use Rattle.std.proofs.lemmas.List.Concat.{flat_map-append}
 use Rattle.std.proofs.lemmas.Option.{slice_get_within}
+use Rattle.eql_outside.specs.Moments.{History}
 use Rattle.eql_outside.specs.Plans.{FaultPlan}
-use Rattle.eql_outside.specs.Written.{WritesGoOn, WroteAll, WroteFront}
+use Rattle.eql_outside.specs.Written.{WroteAll, WroteFront}
+use Rattle.eql_outside.proofs.WrittenLemmas.{writes_on}
 use Rattle.eql_values.specs.declared.cut.BookCut.{BookCut}
 use Rattle.eql_values.specs.declared.cut.Pipe.{Pipe}
-use Rattle.eql_values.specs.declared.cut.Pipe.TheVariants as pipe
+use Rattle.eql_values.specs.declared.found.Holder.{Holder}
 use Rattle.eql_values.specs.declared.found.Match.{Match}
 use Rattle.eql_values.specs.declared.found.Numbered.{Numbered}
-use Rattle.eql_values.specs.declared.item.Item.{Item}
 use Rattle.eql_values.specs.declared.order.Mark.{Mark}
 use Rattle.eql_values.specs.declared.order.Mark.TheVariants.{Start, At, End}
-use Rattle.eql_values.specs.Accepted.{Reads, accepted_from, all_events, sorted_items}
-use Rattle.eql_values.specs.Matching.{matches}
-use Rattle.eql_values.specs.Marks.{is_below, low_of}
-use Rattle.eql_values.specs.Numbering.{emitted, is_head, numbered, piped}
+use Rattle.eql_values.specs.Accepted.{Reads, below}
+use Rattle.eql_values.specs.Marks.{low_of}
+use Rattle.eql_values.specs.Matching.{after, matches}
+use Rattle.eql_values.specs.Numbering.{emitted, numbered, piped}
 use Rattle.eql_laws.specs.Alive.{IsSpan}
-use Rattle.eql_laws.specs.Belows.{IsReading, between, from_to}
+use Rattle.eql_laws.specs.Belows.{between}
 use Rattle.eql_laws.specs.Books.{book_of}
 use Rattle.eql_laws.specs.Counting.{IsShardText}
 use Rattle.eql_laws.specs.Lateness.{AtMost}
 use Rattle.eql_laws.specs.Resuming.{emitted_from, numbered_after}
+use Rattle.eql_laws.proofs.BelowLemmas.{below_grows}
+use Rattle.eql_laws.proofs.LeftOut.{after_in_order, dead_matches}
+use Rattle.eql_laws.proofs.MarkLemmas.{at_most_end}
+use Rattle.eql_laws.proofs.PieceLemmas.{times_between}
 use Rattle.eql_laws.proofs.Resumed.{emitted_goes_on}
+use Rattle.eql_laws.proofs.Splitting.{matches_split}
 use Rattle.eql_lane.specs.Views.{LaneView}
-use Rattle.eql_parts.specs.PartSteps.{PartView, Rules as PartRules}
+use Rattle.eql_parts.specs.PartSteps.{PartView, Rules as PartRules, alive_by, mark_time}
 use Rattle.eql_book.specs.Books.{BookState, counted, held_back, let_out}
-use Rattle.eql_book.specs.Laws.{BookIsKept, EndIsWhole, FreshIsOfNone, fresh_cut}
 use Rattle.eql_book.specs.Listing.{listing, match_line}
+use Rattle.eql_book.proofs.Wholes.{end_is_whole}
+use Rattle.eql_conductor.specs.declared.plan.Keep.{Keep}
+use Rattle.eql_conductor.specs.declared.plan.RunPlan.{RunPlan}
 use Rattle.eql_conductor.specs.Benches.{Known}
-use Rattle.eql_conductor.specs.LaneRounds.{IsSafe}
-use Rattle.eql_conductor.specs.PartRounds.{Resting}
-use Rattle.eql_conductor.specs.Rounds.{OfTexts, found_by}
-use Rattle.eql_conductor.specs.Runs.{RunStops, lines_before_end, lines_by, whole_lines}
-use Rattle.eql_conductor.proofs.Listed.{fresh_have_played, fresh_lists_all, runs_write_lines}
+use Rattle.eql_conductor.specs.LaneRounds.{IsSafe, text_at}
+use Rattle.eql_conductor.specs.Rounds.{found_by}
+use Rattle.eql_conductor.specs.RunLaws.{BeginsTold, HavePlayed, StopsListed, found_below}
+use Rattle.eql_conductor.specs.Runs.{RunStops, lines_before_end, lines_by}
 use Rattle.eql_replay.specs.Listed.{bench_known}
 use Rattle.eql_search.specs.declared.stop.Stop.{Stop}
 use Rattle.eql_search.specs.declared.stop.Stop.TheVariants as stop
-use Rattle.eql_search.specs.Running.{AreFreshParts, HasRun, bench_of, end_of, texts_of}
-use Rattle.eql_search.specs.Searches.{AreFreshFrom, AreTextsOf, HasNumbers, IsFreshBook, Rules, found_in, listing_of}
-use Rattle.eql_search.proofs.Lanes.{has_now, texts_fit}
-use Rattle.eql_search.proofs.Opened.{begins, tells}
+use Rattle.eql_search.specs.Answers.{IsClosed, WereRead}
+use Rattle.eql_search.specs.Beginnings.{BeginsOn, cuts_of, start_at}
+use Rattle.eql_search.specs.Running.{HasRun, bench_of, end_of}
+use Rattle.eql_search.specs.Searches.{AreBegunFrom, AreTextsOf, HasNumbers, Rules, rest_of}
+use Rattle.eql_search.proofs.Lanes.{all_closed, has_now, texts_fit, were_read}
+use Rattle.eql_search.proofs.Opened.{BeginsSo}
+use Rattle.eql_search.proofs.Texts.{named}
 
 -- ---- before the end
-through_none : (pipes : List Pipe) → piped pipes [] ≡ []
-through_none [] = refl
-through_none (pipe.Head zero ∷ pipes) = through_none pipes
-through_none (pipe.Head (suc n) ∷ pipes) = through_none pipes
-through_none (pipe.Tail n ∷ pipes) = ap (piped pipes) (drop_nil (0 - n)) ∙ through_none pipes
-  where
-    drop_nil : (k : ℕ) → drop {A = Numbered} k [] ≡ []
-    drop_nil zero = refl
-    drop_nil (suc k) = refl
-
-none_emitted : (pipes : List Pipe) → emitted pipes (numbered []) ≡ []
-none_emitted pipes = by (list_all is_head pipes)
-  where
-    by : (all : Bool) → cond all (piped pipes []) [] ≡ []
-    by true = through_none pipes
-    by false = refl
-
-module _ (none : FreshIsOfNone) (whole : EndIsWhole) (pipes : List Pipe) (found : List Match) where
-  -- those that have a number
+module _ (pipes : List Pipe) (found more : List Match) where
+  -- of the further matches those that have a number
   abbrev few : List Match
-  few = counted (fresh_cut pipes) found
+  few = counted (book_of pipes found) more
 
   abbrev others : List Match
-  others = drop (2 ^ 64 - 1 - 0) found
+  others = drop (2 ^ 64 - 1 - (book_of pipes found).found) more
 
-  let_out_is : let_out pipes (fresh_cut pipes) found ≡ emitted pipes (numbered few)
-  let_out_is =
-      let kept : fresh_cut pipes ≡ book_of pipes [] = none pipes in
-      let goes : emitted pipes (numbered few) ≡ emitted pipes (numbered []) ++ emitted_from pipes (book_of pipes []).pipes (numbered_after (book_of pipes []) few) =
-      emitted_goes_on pipes [] few in
-      ap (λ (k : BookCut). emitted_from pipes k.pipes (numbered_after k few)) kept
-      ∙ sym (goes ∙ ap (λ (l : List Numbered). l ++ emitted_from pipes (book_of pipes []).pipes (numbered_after (book_of pipes []) few)) (none_emitted pipes))
+  abbrev out : List Numbered
+  out = let_out pipes (book_of pipes found) more
 
-  all_are : few ++ others ≡ found
-  all_are = take-append-drop (2 ^ 64 - 1 - 0) found
+  abbrev later : List Numbered
+  later = emitted_from pipes (book_of pipes (found ++ few)).pipes (numbered_after (book_of pipes (found ++ few)) others)
 
-  -- what pipes let out of matches before the end begins what they let through of them, whatever their number
-  begins_all : (rest : List Numbered) × (piped pipes (numbered found) ≡ let_out pipes (fresh_cut pipes) found ++ rest)
-  begins_all =
-      let more : List Numbered = emitted_from pipes (book_of pipes few).pipes (numbered_after (book_of pipes few) others) in
-      let held : List Numbered = held_back (record { pipes = pipes; places = true; kept = book_of pipes found; whole = true }) in
-      let goes : emitted pipes (numbered found) ≡ emitted pipes (numbered few) ++ more =
-      subst (λ (l : List Match). emitted pipes (numbered l) ≡ emitted pipes (numbered few) ++ more) all_are (emitted_goes_on pipes few others) in (
-        more ++ held,
-        whole pipes true true found
-            ∙ ap (λ (l : List Numbered). l ++ held) (goes ∙ ap (λ (l : List Numbered). l ++ more) (sym let_out_is))
-            ∙ append_assoc (let_out pipes (fresh_cut pipes) found) more held,
-      )
+  abbrev held : List Numbered
+  held = held_back (record { pipes = pipes; places = true; kept = book_of pipes (found ++ more); whole = true })
 
-before_end : FreshIsOfNone → EndIsWhole → WritesGoOn → (book : BookState) (found : List Match) (before now : Option (List ℕ)) → book.kept ≡ fresh_cut book.pipes
-    → WroteFront (lines_before_end book found) before now → WroteFront (listing book.places (piped book.pipes (numbered found))) before now
-before_end none whole goes book found before now fresh wrote =
-    let out : List Numbered = let_out book.pipes (fresh_cut book.pipes) found in
-    let all = begins_all none whole book.pipes found in
+  all_are : (found ++ few) ++ others ≡ found ++ more
+  all_are = append_assoc found few others ∙ ap (λ (l : List Match). found ++ l) (take-append-drop (2 ^ 64 - 1 - (book_of pipes found).found) more)
+
+  -- what pipes let out of further matches before the end begins what they let through of all behind that of the first ones, whatever their number
+  begins_rest : (rest : List Numbered) × (drop (book_of pipes found).listed (piped pipes (numbered (found ++ more))) ≡ out ++ rest)
+  begins_rest =
+      let before : List Numbered = emitted pipes (numbered found) in
+      let first : emitted pipes (numbered (found ++ few)) ≡ before ++ out = emitted_goes_on pipes found few in
+      let goes : emitted pipes (numbered (found ++ more)) ≡ (before ++ out) ++ later =
+      subst (λ (l : List Match). emitted pipes (numbered l) ≡ (before ++ out) ++ later) all_are
+      (emitted_goes_on pipes (found ++ few) others ∙ ap (λ (l : List Numbered). l ++ later) first) in
+      let all : piped pipes (numbered (found ++ more)) ≡ before ++ (out ++ (later ++ held)) =
+      end_is_whole pipes true true (found ++ more)
+      ∙ ap (λ (l : List Numbered). l ++ held) goes
+      ∙ append_assoc (before ++ out) later held
+      ∙ append_assoc before out (later ++ held) in
+      (later ++ held, ap (drop (length before)) all ∙ drop_at before (out ++ (later ++ held)) (length before) refl)
+
+before_end : (book : BookState) (found more : List Match) (before now : Option (List ℕ)) → book.kept ≡ book_of book.pipes found
+    → WroteFront (lines_before_end book more) before now → WroteFront (listing book.places (drop book.kept.listed (piped book.pipes (numbered (found ++ more))))) before now
+before_end book found more before now e wrote =
+    let out : List Numbered = let_out book.pipes (book_of book.pipes found) more in
+    let all = begins_rest book.pipes found more in
     let so : WroteFront (listing book.places out) before now =
-    subst (λ (k : BookCut). WroteFront (listing book.places (let_out book.pipes k found)) before now) fresh wrote in
-    subst (λ (l : List ℕ). WroteFront l before now)
-    (sym (ap (listing book.places) all.1 ∙ flat_map-append (match_line book.places) out all.0))
-    (goes.longer (listing book.places out) (listing book.places all.0) before now so)
+    subst (λ (k : BookCut). WroteFront (listing book.places (let_out book.pipes k more)) before now) e wrote in
+    let longer : WroteFront (listing book.places (out ++ all.0)) before now =
+    subst (λ (l : List ℕ). WroteFront l before now) (sym (flat_map-append (match_line book.places) out all.0))
+    (writes_on.longer (listing book.places out) (listing book.places all.0) before now so) in
+    subst (λ (k : BookCut). WroteFront (listing book.places (drop k.listed (piped book.pipes (numbered (found ++ more))))) before now) (sym e)
+    (subst (λ (l : List Numbered). WroteFront (listing book.places l) before now) (sym all.1) longer)
 
--- ---- all events
-all_kept : (items : List Item) → from_to Start End items ≡ filter (is_below End) items
-all_kept [] = refl
-all_kept (item ∷ items) = ap (λ (l : List Item). item ∷ l) (all_kept items)
+-- ---- from a mark on
+module _ (rules : PartRules) (reads : Reads) (slack : Option ℤ) (texts : List (List ℕ)) (is : IsSpan rules.span) where
+  abbrev pending : Mark → List Holder
+  pending mark = after rules.stages rules.span [] (below reads slack texts mark)
 
-between_all : (reads : Reads) (slack : Option ℤ) (texts : List (List ℕ)) → between reads slack texts Start End ≡ all_events reads slack texts
-between_all reads slack texts = ap sorted_items (all_kept (accepted_from reads slack 0 texts))
+  -- the pending sequences that are dead at a mark may be left out
+  alive_matches : (from : Mark) → matches rules.stages rules.span (alive_by rules.span (mark_time from) (pending from)) (between reads slack texts from End)
+      ≡ matches rules.stages rules.span (pending from) (between reads slack texts from End)
+  alive_matches Start = refl
+  alive_matches (At t) =
+      dead_matches rules.stages rules.span t (pending (At t)) (between reads slack texts (At t) End) is
+      (after_in_order rules.stages rules.span [] (below reads slack texts (At t))) (times_between reads slack texts t End)
+  alive_matches End = refl
+
+  -- so all matches are those below the mark, followed by those that are found from there on
+  found_on : (from : Mark) (all : List Holder) (book : BookState) → HavePlayed rules reads slack texts from all book
+      → found_below rules reads slack texts End ≡ found_below rules reads slack texts from ++ found_by rules all (between reads slack texts from End)
+  found_on from all book played =
+      ap (matches rules.stages rules.span []) (below_grows reads slack texts from End (at_most_end from))
+      ∙ matches_split rules.stages rules.span [] (below reads slack texts from) (between reads slack texts from End)
+      ∙ ap (λ (more : List Match). found_below rules reads slack texts from ++ more)
+      (sym (ap (λ (h : List Holder). matches rules.stages rules.span h (between reads slack texts from End)) played.pending ∙ alive_matches from))
 
 -- only a closed lane has the end as its low
 closed_low : (closed : Bool) (slack best : Option ℤ) → AtMost End (low_of closed slack best) → closed ≡ true
@@ -122,11 +134,10 @@ closed_low false (Some slack) None h = cc
 closed_low false None best h = cc
 
 -- ---- a run
-module _ (A : Type 0) {S L : Type 0} (left lent_as : S → Option (List ℕ)) (fault_plan : S → Option FaultPlan) (read_of : L → Reads) (reads : Reads) (slack : Option ℤ)
-    (stages : ℕ) (span : Option ℤ) (olds news : List (LaneView S L)) (parts : List PartView) (book then : BookState) (before now : Option (List ℕ)) (sink_before sink_now : ℕ)
-    (readers : (reader : L) → IsReading (read_of reader)) (fresh : AreFreshFrom read_of reads slack 0 olds)
-    (are : AreFreshParts (record { stages = stages; span = span }) parts) (is_span : IsSpan span) (is_book : IsFreshBook book)
-    (none : FreshIsOfNone) (kept : BookIsKept) (whole : EndIsWhole) (goes : WritesGoOn) where
+module _ (A : Type 0) {S L D : Type 0} (left lent_as : S → Option (List ℕ)) (fault_plan : S → Option FaultPlan) (read_of : L → Reads) (history : D → Option History) (count : D → ℕ) (reads : Reads) (slack : Option ℤ)
+    (stages : ℕ) (span : Option ℤ) (told : Option (List (List ℕ))) (plan : RunPlan) (olds news : List (LaneView S L)) (holders : List Holder) (parts : List PartView) (book then : BookState) (before now : Option (List ℕ)) (sink_before sink_now : ℕ)
+    (keep kept : Option (Keep D)) (begun : AreBegunFrom read_of reads slack 0 olds) (is_span : IsSpan span)
+    (begins : BeginsSo left read_of reads slack stages span (text_at told) olds holders parts plan book plan.mark) where
   abbrev rules : PartRules
   rules = record { stages = stages; span = span }
 
@@ -134,73 +145,106 @@ module _ (A : Type 0) {S L : Type 0} (left lent_as : S → Option (List ℕ)) (f
   by = record { reads = reads; slack = slack; stages = stages; span = span }
 
   abbrev first : Known
-  first = bench_known read_of (texts_of left olds) (bench_of olds parts)
+  first = bench_known read_of (text_at told) (bench_of olds parts)
 
   abbrev Ran : Result A Stop → Type 0
-  Ran r = HasRun left lent_as fault_plan read_of (texts_of left olds) olds news parts book then before now sink_before sink_now (end_of r)
+  Ran r = HasRun left lent_as fault_plan read_of history count (text_at told) plan olds news parts book then before now sink_before sink_now keep kept (end_of r)
 
-  of_texts : (texts : List (List ℕ)) → AreTextsOf left texts olds → OfTexts reads slack texts Start first
-  of_texts texts told =
-      (begins left read_of reads slack olds parts rules readers fresh are is_span).told reads slack texts
-      (tells left read_of reads slack olds parts rules readers fresh are is_span texts told)
+  abbrev On : List (List ℕ) → Type 0
+  On texts = BeginsOn by book.pipes texts (start_at plan.mark (cuts_of olds) holders book.kept)
 
-  rests : Resting rules [] Start first
-  rests = (begins left read_of reads slack olds parts rules readers fresh are is_span).begins.rests
+  module _ (texts : List (List ℕ)) (e : told ≡ Some texts) (are : AreTextsOf left texts olds) (on : On texts) where
+    played : HavePlayed rules reads slack texts plan.mark holders book
+    played = begins.played texts on
 
-  found_is : (texts : List (List ℕ)) → found_by rules [] (between reads slack texts Start End) ≡ found_in by texts
-  found_is texts = ap (matches stages span []) (between_all reads slack texts)
+    -- where each match has a number, the run began so over the texts
+    pub begins_told : HasNumbers by texts → BeginsTold rules reads slack texts plan.mark holders first book
+    begins_told numbers = record {
+      texts_are = begins.of_texts texts (named told texts e) are on;
+      rests = begins.begins.rests;
+      played = played;
+      numbers = numbers;
+    }
 
-  -- all lines are the listing, where each match has a number
-  lines_are : (texts : List (List ℕ)) → HasNumbers by texts → whole_lines book (found_by rules [] (between reads slack texts Start End)) ≡ listing_of by book.pipes book.places texts
-  lines_are texts few =
-      runs_write_lines kept whole rules reads slack texts Start [] book is_span (fresh_have_played none rules reads slack texts book is_book.kept) few
-      ∙ fresh_lists_all rules reads slack texts book is_book.kept
+    pub wrote_whole : (r : Result A Stop) → Ran r → OnOk r (HasNumbers by texts → WroteAll (rest_of by book.pipes book.places book.kept.listed texts) before now)
+    wrote_whole (Ok done) run = λ numbers. run.ran.listed rules reads slack texts holders (begins_told numbers)
+    wrote_whole (Err stopped) run = tt
 
-  pub wrote_whole : (r : Result A Stop) → Ran r
-      → OnOk r ((texts : List (List ℕ)) → AreTextsOf left texts olds → HasNumbers by texts → WroteAll (listing_of by book.pipes book.places texts) before now)
-  wrote_whole (Ok done) run = λ texts told few.
-      subst (λ (l : List ℕ). WroteAll l before now) (lines_are texts few) (run.is.told reads slack texts rules [] (of_texts texts told) rests)
-  wrote_whole (Err stopped) run = tt
+    -- ---- a stop
+    abbrev last : (r : Result A Stop) → Ran r → Known
+    last r run = bench_known read_of (text_at told) run.last
 
-  -- ---- a stop
-  abbrev last : (r : Result A Stop) → Ran r → Known
-  last r run = bench_known read_of (texts_of left olds) run.last
+    abbrev Stops : (r : Result A Stop) → Ran r → Type 0
+    Stops r run = RunStops plan.mark first (last r run) book then before now run.ran.cuts
 
-  abbrev Stops : (r : Result A Stop) → Ran r → Type 0
-  Stops r run = RunStops Start first (last r run) book then before now run.cuts
+    abbrev StopsSo : (r : Result A Stop) → Ran r → Type 0
+    StopsSo r run = StopsListed rules reads slack texts plan.mark (last r run) book then before now run.ran.cuts
 
-  stops_of : (of : Stop) (run : Ran (Err of)) → Stops (Err of) run
-  stops_of (stop.Read s) run = run.is
-  stops_of stop.Write run = run.is
-  stops_of stop.Memory run = run.is
-  stops_of (stop.Limit of) run = run.is
+    stops_of : (of : Stop) (run : Ran (Err of)) → Stops (Err of) run
+    stops_of (stop.Read s) run = run.ran.is
+    stops_of stop.Write run = run.ran.is
+    stops_of stop.Disk run = run.ran.is
+    stops_of stop.Memory run = run.ran.is
+    stops_of (stop.Limit of) run = run.ran.is
 
-  module _ (texts : List (List ℕ)) (told : AreTextsOf left texts olds) (few : All IsShardText texts → HasNumbers by texts) (r : Result A Stop) (run : Ran r) where
+    listed_of : (of : Stop) (run : Ran (Err of)) → HasNumbers by texts → StopsSo (Err of) run
+    listed_of (stop.Read s) run numbers = run.ran.listed rules reads slack texts holders (begins_told numbers)
+    listed_of stop.Write run numbers = run.ran.listed rules reads slack texts holders (begins_told numbers)
+    listed_of stop.Disk run numbers = run.ran.listed rules reads slack texts holders (begins_told numbers)
+    listed_of stop.Memory run numbers = run.ran.listed rules reads slack texts holders (begins_told numbers)
+    listed_of (stop.Limit of) run numbers = run.ran.listed rules reads slack texts holders (begins_told numbers)
+
     -- at the end every lane is closed, so the texts are of the size that shards may have
-    fit : IsSafe End (last r run) → All IsShardText texts
-    fit safe =
-        texts_fit left lent_as fault_plan read_of reads slack olds news parts book then before now sink_before sink_now (end_of r) fresh run (λ s new is.
-        let has = has_now left lent_as fault_plan read_of reads slack olds news parts book then before now sink_before sink_now (end_of r) fresh run s new is in
+    fit : (r : Result A Stop) (run : Ran r) → IsSafe End (last r run) → All IsShardText texts
+    fit r run safe =
+        texts_fit left lent_as fault_plan read_of history count reads slack told plan olds news parts book then before now sink_before sink_now keep kept (end_of r) begun run begins.begins.sized
+        texts e are plan.mark (begins.of_texts texts (named told texts e) are on) (λ s new is.
+        let has = has_now left lent_as fault_plan read_of history count reads slack told plan olds news parts book then before now sink_before sink_now keep kept (end_of r) begun run begins.begins.sized s new is in
         closed_low new.state.cut.closed ((last r run).set s).slack new.state.cut.best
         ((safe.each s (slice_get_within run.last.pool.lanes s has.lane has.there)).low_is new.state has))
-        texts told
 
-    early : WroteFront (lines_before_end book (found_by rules [] (between reads slack texts Start End))) before now → WroteFront (listing_of by book.pipes book.places texts) before now
+    early : WroteFront (lines_before_end book (found_by rules holders (between reads slack texts plan.mark End))) before now → WroteFront (rest_of by book.pipes book.places book.kept.listed texts) before now
     early wrote =
-        before_end none whole goes book (found_in by texts) before now is_book.kept
-        (subst (λ (found : List Match). WroteFront (lines_before_end book found) before now) (found_is texts) wrote)
+        subst (λ (found : List Match). WroteFront (listing book.places (drop book.kept.listed (piped book.pipes (numbered found)))) before now)
+        (sym (found_on rules reads slack texts is_span plan.mark holders book played))
+        (before_end book (found_below rules reads slack texts plan.mark) (found_by rules holders (between reads slack texts plan.mark End)) before now played.counted wrote)
 
-    front_at : (mark : Mark) → IsSafe mark (last r run) → WroteFront (lines_by mark book (found_by rules [] (between reads slack texts Start End))) before now
-        → WroteFront (listing_of by book.pipes book.places texts) before now
-    front_at Start safe wrote = early wrote
-    front_at (At t) safe wrote = early wrote
-    front_at End safe wrote = subst (λ (l : List ℕ). WroteFront l before now) (lines_are texts (few (fit safe))) wrote
+    module _ (few_then : All IsShardText texts → HasNumbers by texts) (of : Stop) (run : Ran (Err of)) where
+      front_at : (mark : Mark) → IsSafe mark (last (Err of) run) → WroteFront (lines_by mark book (found_by rules holders (between reads slack texts plan.mark End))) before now
+          → WroteFront (rest_of by book.pipes book.places book.kept.listed texts) before now
+      front_at Start safe wrote = early wrote
+      front_at (At t) safe wrote = early wrote
+      front_at End safe wrote = (listed_of of run (few_then (fit (Err of) run safe))).so.front
 
-    stopped_front : Stops r run → WroteFront (listing_of by book.pipes book.places texts) before now
-    stopped_front stops = front_at stops.mark stops.safe (stops.told reads slack texts rules [] (of_texts texts told) rests).front
+      stopped_front : WroteFront (rest_of by book.pipes book.places book.kept.listed texts) before now
+      stopped_front =
+          let stops = stops_of of run in
+          front_at stops.mark stops.safe (stops.told reads slack texts rules holders (begins.of_texts texts (named told texts e) are on) begins.begins.rests).front
 
-  pub wrote_front : (r : Result A Stop) → Ran r
-      → OnErr r ((texts : List (List ℕ)) → AreTextsOf left texts olds → (All IsShardText texts → HasNumbers by texts)
-      → WroteFront (listing_of by book.pipes book.places texts) before now)
-  wrote_front (Ok done) run = tt
-  wrote_front (Err of) run = λ texts told few. stopped_front texts told few (Err of) run (stops_of of run)
+    pub wrote_front : (r : Result A Stop) → Ran r
+        → OnErr r ((All IsShardText texts → HasNumbers by texts) → WroteFront (rest_of by book.pipes book.places book.kept.listed texts) before now)
+    wrote_front (Ok done) run = tt
+    wrote_front (Err of) run = λ few_then. stopped_front few_then of run
+
+  -- ---- the end
+  abbrev Closed : Type 0
+  Closed = (s : ℕ) (new : LaneView S L) → slice_get news s ≡ Some new → new.state.cut.closed ≡ true
+
+  closed_then : (a : A) → Ran (Ok a) → Closed
+  closed_then a run = λ s new is.
+      let r : Result A Stop = Ok a in
+      let has = has_now left lent_as fault_plan read_of history count reads slack told plan olds news parts book then before now sink_before sink_now keep kept (end_of r) begun run begins.begins.sized s new is in
+      run.ran.is.closed s (slice_get_within run.last.pool.lanes s has.lane has.there) new.state has
+
+  pub lanes_closed : (r : Result A Stop) → Ran r → OnOk r (All IsClosed news)
+  lanes_closed (Ok a) run =
+      let r : Result A Stop = Ok a in
+      all_closed left lent_as fault_plan read_of history count reads slack told plan olds news parts book then before now sink_before sink_now keep kept (end_of r) begun run begins.begins.sized (closed_then a run)
+  lanes_closed (Err of) run = tt
+
+  pub texts_read : (texts : List (List ℕ)) → told ≡ Some texts → AreTextsOf left texts olds → On texts → (r : Result A Stop) → Ran r → OnOk r (WereRead reads slack texts news)
+  texts_read texts e are on (Ok a) run =
+      let r : Result A Stop = Ok a in
+      were_read left lent_as fault_plan read_of history count reads slack told plan olds news parts book then before now sink_before sink_now keep kept (end_of r) begun run begins.begins.sized
+      texts e are plan.mark (begins.of_texts texts (named told texts e) are on) (closed_then a run)
+  texts_read texts e are on (Err of) run = tt

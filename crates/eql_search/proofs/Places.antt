@@ -1,5 +1,5 @@
 -- Lists by their places.
-use Rattle.std.proofs.Common.{◌≡◌, ℕ, suc, List, [], ◌∷◌, Some, All, length, get_or, refl, arith, subst}
+use Rattle.std.proofs.Common.{◌≡◌, ◌⊎◌, inl, inr, ap, ◌++◌, ℕ, zero, suc, List, [], ◌∷◌, Some, All, length, get_or, refl, arith, subst}
 use Rattle.std.specs.Prelude.{slice_get}
 use Rattle.std.specs.List.{AllZip}
 use Rattle.std.proofs.lemmas.Option.{get_or_from_slice_get, slice_get-get_or, slice_get_within}
@@ -18,3 +18,13 @@ module _ {X : Type 0} (P : X → Type 0) (xs : List X) where
 
   pub all_at : All P xs → (k : ℕ) (x : X) → slice_get xs k ≡ Some x → P x
   all_at all k x there = subst P (get_or_from_slice_get xs k x x there) (all k x (slice_get_within xs k x there))
+
+-- what stands in a place of a list with one more element
+pub last_or : {X : Type 0} (xs : List X) (x y : X) (k : ℕ) → slice_get (xs ++ x ∷ []) k ≡ Some y → (slice_get xs k ≡ Some y) ⊎ ((k ≡ length xs) × (x ≡ y))
+last_or [] x y zero there = inr (refl, cc)
+last_or [] x y (suc k) there = absurd cc
+last_or (z ∷ xs) x y zero there = inl there
+last_or (z ∷ xs) x y (suc k) there = elim (last_or xs x y k there) [
+  | inl in_front ↦ inl in_front
+  | inr (at, same) ↦ inr (ap suc at, same)
+]

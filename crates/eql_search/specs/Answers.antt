@@ -1,5 +1,5 @@
 -- What becomes of lanes and of a sink in a search, by its answer.
-use Rattle.std.specs.Prelude.{◌≡◌, ◌<◌, ◌≤◌, ℕ, true, All, List, length, slice_get, Option, Some}
+use Rattle.std.specs.Prelude.{◌≡◌, ◌<◌, ◌≤◌, ◌+◌, ℕ, ℤ, true, All, List, [], ◌∷◌, drop, length, slice_get, Option, Some, IfSome}
 use Rattle.eql_outside.specs.Outside.{Rose}
 use Rattle.eql_outside.specs.Plans.{FaultPlan}
 use Rattle.eql_outside.specs.Unfailing.{IsUnfailing}
@@ -8,7 +8,8 @@ use Rattle.eql_values.specs.Lines.{lines_of}
 use Rattle.eql_laws.specs.Counting.{counts_of, greatest_lines, greatest_bytes, IsShardText}
 use Rattle.eql_lane.specs.declared.ops.LimitOf.{LimitOf}
 use Rattle.eql_lane.specs.declared.ops.LimitOf.TheVariants as limit
-use Rattle.eql_lane.specs.Views.{LaneView, IsTextOf, SameLane}
+use Rattle.eql_lane.specs.Views.{LaneView, SameLane}
+use Rattle.eql_conductor.specs.LaneRounds.{text_at}
 use Rattle.eql_search.specs.declared.stop.Stop.{Stop}
 use Rattle.eql_search.specs.declared.stop.Stop.TheVariants as stop
 
@@ -39,48 +40,62 @@ module _ {S L : Type 0} where
     pub is : slice_get news shard ≡ Some new
     pub became : Became old new
 
-module _ {S L : Type 0} (left : S → Option (List ℕ)) where
-  -- a lane read as many lines as a shard may have, and took a byte of a further one; so each text of it has more lines
-  pub record OutOfLines (old new : LaneView S L) : Type 0 where
+module _ {S L : Type 0} where
+  -- a lane was read to its end
+  abbrev pub IsClosed : LaneView S L → Type 0
+  IsClosed lane = lane.state.cut.closed ≡ true
+
+  -- what became of the lines of these texts is what the lanes counted, the first of which is of this shard
+  abbrev pub CountWhole : Reads → Option ℤ → (shard : ℕ) → List (List ℕ) → List (LaneView S L) → Type 0
+  CountWhole reads slack shard [] [] = Unit {0}
+  CountWhole reads slack shard [] (lane ∷ lanes) = ⊥
+  CountWhole reads slack shard (text ∷ texts) [] = ⊥
+  CountWhole reads slack shard (text ∷ texts) (lane ∷ lanes) =
+      (lane.state.cut.counts ≡ counts_of reads slack shard text) × CountWhole reads slack (shard + 1) texts lanes
+
+  -- the lanes were read to the end of these texts, which are within the limits of a shard
+  pub record WereRead (reads : Reads) (slack : Option ℤ) (texts : List (List ℕ)) (lanes : List (LaneView S L)) : Type 0 where
+    pub counts : CountWhole reads slack 0 texts lanes
+    pub within : All IsShardText texts
+
+  -- a lane read as many lines as a shard may have, and took a byte of a further one; so of its text, where it is told, the lines behind those
+  -- that were counted at the beginning are too many together with them
+  pub record OutOfLines (text : Option (List ℕ)) (old new : LaneView S L) : Type 0 where
     pub lines : new.state.cut.counts.lines ≡ greatest_lines
     pub byte : new.state.cut.offset < new.state.taken
-    pub texts : (text : List ℕ) → IsTextOf left (Some text) old → greatest_lines < length (lines_of text)
+    pub beyond : IfSome text (λ t. greatest_lines < old.state.cut.counts.lines + length (lines_of (drop old.state.cut.offset t)))
 
-  -- a lane took as many bytes as a shard may have; so each text of it has at least as many
-  pub record OutOfBytes (old new : LaneView S L) : Type 0 where
+  -- a lane took as many bytes as a shard may have; so its text, where it is told, has at least as many
+  pub record OutOfBytes (text : Option (List ℕ)) (old new : LaneView S L) : Type 0 where
     pub bytes : new.state.taken ≡ greatest_bytes
-    pub texts : (text : List ℕ) → IsTextOf left (Some text) old → greatest_bytes ≤ length text
+    pub beyond : IfSome text (λ t. greatest_bytes ≤ length t)
 
-  -- a lane came to this limit of its shard
-  abbrev pub LimitAt : LimitOf → (olds news : List (LaneView S L)) → Type 0
-  LimitAt (limit.Lines shard) olds news = BecameAt shard olds news OutOfLines
-  LimitAt (limit.Bytes shard) olds news = BecameAt shard olds news OutOfBytes
-  LimitAt limit.Turns olds news = ⊥
-  LimitAt limit.Generation olds news = ⊥
+  -- a lane came to this limit of its shard, or the disk to the end of its generations
+  abbrev pub LimitAt : (texts : Option (List (List ℕ))) → LimitOf → (olds news : List (LaneView S L)) → Type 0
+  LimitAt texts (limit.Lines shard) olds news = BecameAt shard olds news (OutOfLines (text_at texts shard))
+  LimitAt texts (limit.Bytes shard) olds news = BecameAt shard olds news (OutOfBytes (text_at texts shard))
+  LimitAt texts limit.Turns olds news = ⊥
+  LimitAt texts limit.Generation olds news = Unit {0}
 
-  -- why a search stopped: by its lanes before and after, and by the faults of its sink before and after
-  abbrev pub HasCause : Stop → (olds news : List (LaneView S L)) → (before now : ℕ) → Type 0
-  HasCause (stop.Read shard) olds news before now = BecameAt shard olds news RoseFaults
-  HasCause stop.Write olds news before now = Rose before now
-  HasCause stop.Memory olds news before now = Unit {0}
-  HasCause (stop.Limit of) olds news before now = LimitAt of olds news
+  -- why a search stopped: by the texts of its lanes, where they are told, by its lanes before and after, and by the faults of its sink and of its
+  -- disk before and after
+  abbrev pub HasCause : (texts : Option (List (List ℕ))) → Stop → (olds news : List (LaneView S L)) → (before now disk_before disk_now : ℕ) → Type 0
+  HasCause texts (stop.Read shard) olds news before now disk_before disk_now = BecameAt shard olds news RoseFaults
+  HasCause texts stop.Write olds news before now disk_before disk_now = Rose before now
+  HasCause texts stop.Disk olds news before now disk_before disk_now = Rose disk_before disk_now
+  HasCause texts stop.Memory olds news before now disk_before disk_now = Unit {0}
+  HasCause texts (stop.Limit of) olds news before now disk_before disk_now = LimitAt texts of olds news
 
-  -- what no answer changes of a lane, and that the count of its faults doesn't fall; it stays a lane of its texts
+module _ {S L : Type 0} (left : S → Option (List ℕ)) where
+  -- what no answer changes of a lane, and that the count of its faults doesn't fall
   pub record StaysLane (lent_as : S → Option (List ℕ)) (read_of : L → Reads) (old new : LaneView S L) : Type 0 where
     pub same : SameLane left lent_as read_of old new
-    pub texts : (text : Option (List ℕ)) → IsTextOf left text old → IsTextOf left text new
     pub counts : old.state.faults ≤ new.state.faults
-
-  -- a lane that was read to its end, what became of its lines, and that each text of it is within the limits of a shard
-  pub record WasRead (read_of : L → Reads) (old new : LaneView S L) : Type 0 where
-    pub closed : new.state.cut.closed ≡ true
-    pub counts : (text : List ℕ) → IsTextOf left (Some text) old
-        → new.state.cut.counts ≡ counts_of (read_of old.reader) old.slack old.shard text
-    pub within : (text : List ℕ) → IsTextOf left (Some text) old → IsShardText text
 
 -- a stop that is no fault
 abbrev pub IsNoFault : Stop → Type 0
 IsNoFault (stop.Read shard) = ⊥
 IsNoFault stop.Write = ⊥
+IsNoFault stop.Disk = ⊥
 IsNoFault stop.Memory = Unit {0}
 IsNoFault (stop.Limit of) = Unit {0}

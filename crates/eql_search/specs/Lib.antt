@@ -1,3 +1,5 @@
 pub mod Searches
+pub mod Beginnings
+pub mod Keeping
 pub mod Answers
 pub mod Running

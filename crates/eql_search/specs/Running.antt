@@ -1,47 +1,62 @@
--- What a run over fresh lanes and parts begins with, and what is known of it at its end.
-use Rattle.std.specs.Prelude.{◌≡◌, ◌≢◌, ℕ, List, [], ◌∷◌, Option, None, Some, Result, Ok, Err, All, length, slice_get}
+-- What a run over lanes and sixteen parts begins with, and what is known of it at its end.
+use Rattle.std.specs.Prelude.{◌≡◌, ◌≢◌, ◌⊎◌, ℕ, List, [], Option, None, Some, Result, Ok, Err, All, length, slice_get}
+use Rattle.std.specs.declared.alloc.Global.{Global}
+use Rattle.std.specs.declared.vec.Vec.{Vec}
+use Rattle.eql_outside.specs.Moments.{History}
 use Rattle.eql_outside.specs.Plans.{FaultPlan}
 use Rattle.eql_outside.specs.Unfailing.{IsUnfailing}
 use Rattle.eql_values.specs.Accepted.{Reads}
-use Rattle.eql_values.specs.declared.order.Mark.TheVariants.{Start}
-use Rattle.eql_lane.specs.declared.buffer.LongLine.{LongLine}
+use Rattle.eql_values.specs.declared.found.Holder.{Holder}
+use Rattle.eql_values.specs.declared.order.Mark.{Mark}
+use Rattle.eql_laws.specs.Alive.{HoldersInOrder}
+use Rattle.eql_laws.specs.Shapes.{HasStageBefore, IsFull}
 use Rattle.eql_lane.specs.declared.ops.LimitOf.TheVariants as limit
 use Rattle.eql_lane.specs.Views.{LaneView}
+use Rattle.eql_parts.specs.Inboxes.{HolderBelow}
 use Rattle.eql_parts.specs.PartSteps.{PartView, Rules}
+use Rattle.eql_rounds.specs.Finding.{own_of}
 use Rattle.eql_book.specs.Books.{BookState}
-use Rattle.eql_cut.specs.declared.cut.Cut.{Cut}
 use Rattle.eql_conductor.specs.declared.plan.End.{End as Ends}
 use Rattle.eql_conductor.specs.declared.plan.End.TheVariants as end
+use Rattle.eql_conductor.specs.declared.plan.Keep.{Keep}
+use Rattle.eql_conductor.specs.declared.plan.RunPlan.{RunPlan}
 use Rattle.eql_conductor.specs.Going.{LanesGo}
 use Rattle.eql_conductor.specs.Openings.{begun_part}
-use Rattle.eql_conductor.specs.Runs.{EndsBy, RunIs}
+use Rattle.eql_conductor.specs.Records.{Ran}
+use Rattle.eql_conductor.specs.Runs.{EndsBy, disk_faults}
 use Rattle.eql_replay.specs.Listed.{BenchView, bench_known}
-use Rattle.eql_replay.specs.Opened.{AreOfTexts, IsQuiet, LanesOn, ReadOn}
+use Rattle.eql_replay.specs.Opened.{AreOfTexts, IsQuiet, LanesOn, LinesOn, ReadOn}
 use Rattle.eql_search.specs.declared.stop.Stop.{Stop}
 use Rattle.eql_search.specs.declared.stop.Stop.TheVariants as stop
 
 -- ---- the beginning
--- what a source has left is the lane's text, where no byte waits that was taken of it
-abbrev pub text_behind : Option LongLine → List ℕ → Option (List ℕ) → Option (List ℕ)
-text_behind None [] left = left
-text_behind None (byte ∷ bytes) left = None
-text_behind (Some line) unread left = None
+-- the list in a place, and none past the end
+abbrev pub list_of : Option (Vec Holder Global) → List Holder
+list_of None = []
+list_of (Some list) = list.items
 
-abbrev pub text_of : {S L : Type 0} → (S → Option (List ℕ)) → Option (LaneView S L) → Option (List ℕ)
-text_of left None = None
-text_of left (Some lane) = text_behind lane.buffer.long lane.buffer.unread (left lane.source)
+abbrev pub list_at : List (Vec Holder Global) → ℕ → List Holder
+list_at lists p = list_of (slice_get lists p)
 
--- the text of each lane, where nothing was read
-abbrev pub texts_of : {S L : Type 0} → (S → Option (List ℕ)) → List (LaneView S L) → ℕ → Option (List ℕ)
-texts_of left lanes s = text_of left (slice_get lanes s)
+-- pending sequences with which a part of so many stages may begin at a mark
+pub record MayBeginPart (stages : ℕ) (mark : Mark) (own : List Holder) : Type 0 where
+  pub order : HoldersInOrder own
+  pub before : All (HasStageBefore stages) own
+  pub full : All IsFull own
+  pub below : All (HolderBelow mark) own
 
--- sixteen parts of these rules, with nothing pending
-abbrev pub fresh_part : Rules → PartView
-fresh_part rules = record { rules = rules; state = begun_part rules [] Start }
+-- a part with the pending sequences of its keys that are alive at a mark
+abbrev pub own_part : Rules → List Holder → Mark → (p : ℕ) → PartView
+own_part rules holders mark p = record { rules = rules; state = begun_part rules (own_of holders p) mark }
 
-pub record AreFreshParts (rules : Rules) (parts : List PartView) : Type 0 where
-  pub count : length parts ≡ 16
-  pub each : All (λ (part : PartView). part ≡ fresh_part rules) parts
+-- the parts below a number are such, one after another
+pub record AreOwnTo (n : ℕ) (rules : Rules) (holders : List Holder) (mark : Mark) (parts : List PartView) : Type 0 where
+  pub count : length parts ≡ n
+  pub each : (p : ℕ) (part : PartView) → slice_get parts p ≡ Some part → part ≡ own_part rules holders mark p
+
+-- sixteen of them
+abbrev pub AreOwnParts : Rules → List Holder → Mark → List PartView → Type 0
+AreOwnParts rules holders mark parts = AreOwnTo 16 rules holders mark parts
 
 -- a bench of these lanes and parts, on which nothing was played
 abbrev pub bench_of : {S L : Type 0} → List (LaneView S L) → List PartView → BenchView S L
@@ -53,23 +68,42 @@ abbrev pub end_of : {A : Type 0} → Result A Stop → Ends
 end_of (Ok done) = end.Done
 end_of (Err (stop.Read shard)) = end.ReadFault shard
 end_of (Err stop.Write) = end.WriteFault
+end_of (Err stop.Disk) = end.DiskFault
 end_of (Err stop.Memory) = end.Memory
 end_of (Err (stop.Limit of)) = end.Limit of
 
-module _ {S L : Type 0} (left lent_as : S → Option (List ℕ)) (fault_plan : S → Option FaultPlan) (read_of : L → Reads) where
+-- there was no memory to begin, and nothing changed
+pub record NotBegun {S L D : Type 0} (olds news : List (LaneView S L)) (before now : Option (List ℕ)) (sink_before sink_now : ℕ) (keep kept : Option (Keep D)) (answer : Ends) : Type 0 where
+  pub memory : answer ≡ end.Memory
+  pub lanes : news ≡ olds
+  pub wrote : now ≡ before
+  pub sink : sink_now ≡ sink_before
+  pub keeps : kept ≡ keep
+
+module _ {S L D : Type 0} (left lent_as : S → Option (List ℕ)) (fault_plan : S → Option FaultPlan) (read_of : L → Reads) (history : D → Option History) (count : D → ℕ)
+    (text : ℕ → Option (List ℕ)) (plan : RunPlan) (olds news : List (LaneView S L)) where
   -- a run over lanes and parts ended so; these are the lanes then
-  pub record HasRun (text : ℕ → Option (List ℕ)) (olds news : List (LaneView S L)) (parts : List PartView) (book then : BookState) (before now : Option (List ℕ))
-      (sink_before sink_now : ℕ) (answer : Ends) : Type 0 where
+  pub record HasRun (parts : List PartView) (book then : BookState) (before now : Option (List ℕ)) (sink_before sink_now : ℕ) (keep kept : Option (Keep D)) (answer : Ends) : Type 0 where
     pub last : BenchView S L
     pub lanes_are : news ≡ last.pool.lanes
-    pub cuts : List Cut
-    pub is : RunIs Start (bench_known read_of text (bench_of olds parts)) (bench_known read_of text last) book then before now cuts answer
-    pub cause : EndsBy answer (bench_known read_of text (bench_of olds parts)) (bench_known read_of text last) sink_before sink_now 0 0
-    pub not_disk : answer ≢ end.DiskFault
+    pub ran : Ran history count plan (bench_known read_of text (bench_of olds parts)) (bench_known read_of text last) book then before now keep kept answer
+    pub cause : EndsBy answer (bench_known read_of text (bench_of olds parts)) (bench_known read_of text last) sink_before sink_now (disk_faults history count keep) (disk_faults history count kept)
     pub not_turns : answer ≢ end.Limit limit.Turns
-    pub not_generation : answer ≢ end.Limit limit.Generation
     pub planned : (s : ℕ) (lane : LaneView S L) → slice_get olds s ≡ Some lane → IsUnfailing (fault_plan lane.source) → answer ≢ end.ReadFault s
     pub goes : LanesGo (bench_known read_of text (bench_of olds parts)) (bench_known read_of text last)
     pub on : LanesOn left lent_as fault_plan read_of (IsQuiet [] last.notes) olds news
     pub texts : AreOfTexts left text news
     pub read : ReadOn read_of text olds news
+    pub lines : LinesOn text olds news
+
+  -- a run from sixteen parts with these pending sequences
+  pub record HasSearched (rules : Rules) (holders : List Holder) (book then : BookState) (before now : Option (List ℕ)) (sink_before sink_now : ℕ) (keep kept : Option (Keep D)) (answer : Ends) : Type 0 where
+    pub parts : List PartView
+    pub are : AreOwnParts rules holders plan.mark parts
+    pub run : HasRun parts book then before now sink_before sink_now keep kept answer
+
+  -- a search ran, or there was no memory to begin
+  abbrev pub Searched : Rules → List Holder → (book then : BookState) → (before now : Option (List ℕ)) → (sink_before sink_now : ℕ) → (keep kept : Option (Keep D)) → Ends → Type 0
+  Searched rules holders book then before now sink_before sink_now keep kept answer =
+      HasSearched rules holders book then before now sink_before sink_now keep kept answer
+      ⊎ NotBegun olds news before now sink_before sink_now keep kept answer

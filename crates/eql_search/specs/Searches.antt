@@ -1,15 +1,13 @@
 -- What a search over lanes is by, and what it writes.
-use Rattle.std.specs.Prelude.{◌≡◌, ◌+◌, ◌<◌, ◌^◌, ℕ, ℤ, Bool, true, List, [], ◌∷◌, length, Option, None, Some}
+use Rattle.std.specs.Prelude.{◌≡◌, ◌+◌, ◌<◌, ◌^◌, ℕ, ℤ, Bool, List, [], ◌∷◌, drop, length, Option, None, Some}
 use Rattle.eql_values.specs.declared.found.Match.{Match}
 use Rattle.eql_values.specs.declared.cut.Pipe.{Pipe}
 use Rattle.eql_values.specs.declared.reader.LineGot.TheVariants as got
 use Rattle.eql_values.specs.Accepted.{Reads, all_events}
 use Rattle.eql_values.specs.Matching.{matches}
 use Rattle.eql_values.specs.Numbering.{numbered, piped}
-use Rattle.eql_lane.specs.Lanes.{fresh_cut as fresh_lane, begun}
+use Rattle.eql_lane.specs.Lanes.{begun}
 use Rattle.eql_lane.specs.Views.{LaneView, IsTextOf}
-use Rattle.eql_book.specs.Books.{BookState}
-use Rattle.eql_book.specs.Laws.{fresh_cut as fresh_book}
 use Rattle.eql_book.specs.Listing.{listing}
 
 -- what lines give, the slack, the stages of the query and its span; times in nanoseconds
@@ -23,18 +21,13 @@ pub record Rules : Type 0 where
 abbrev pub found_in : Rules → List (List ℕ) → List Match
 found_in rules texts = matches rules.stages rules.span [] (all_events rules.reads rules.slack texts)
 
--- the listing of texts, through these pipes
-abbrev pub listing_of : Rules → List Pipe → (places : Bool) → List (List ℕ) → List ℕ
-listing_of rules pipes places texts = listing places (piped pipes (numbered (found_in rules texts)))
+-- the listing of texts, through these pipes, from the line after the first ones on
+abbrev pub rest_of : Rules → List Pipe → (places : Bool) → (listed : ℕ) → List (List ℕ) → List ℕ
+rest_of rules pipes places listed texts = listing places (drop listed (piped pipes (numbered (found_in rules texts))))
 
 -- each match has a number of 64 bits
 abbrev pub HasNumbers : Rules → List (List ℕ) → Type 0
 HasNumbers rules texts = length (found_in rules texts) < 2 ^ 64
-
--- a book to which nothing was added
-pub record IsFreshBook (book : BookState) : Type 0 where
-  pub whole : book.whole ≡ true
-  pub kept : book.kept ≡ fresh_book book.pipes
 
 module _ {S L : Type 0} (read_of : L → Reads) where
   -- what lines give, and the slack, as the first of lanes has them
@@ -46,21 +39,21 @@ module _ {S L : Type 0} (read_of : L → Reads) where
   slack_by [] = None
   slack_by (lane ∷ lanes) = lane.slack
 
-  -- a lane by these rules, of which nothing was read and which handed out nothing
-  pub record IsFreshLane (reads : Reads) (slack : Option ℤ) (shard : ℕ) (lane : LaneView S L) : Type 0 where
+  -- a lane by these rules that begins with what a cut keeps of it, and handed out nothing since
+  pub record IsBegunLane (reads : Reads) (slack : Option ℤ) (shard : ℕ) (lane : LaneView S L) : Type 0 where
     pub shard_is : lane.shard ≡ shard
     pub slack_is : lane.slack ≡ slack
     pub reads_are : read_of lane.reader ≡ reads
-    pub state_is : lane.state ≡ begun fresh_lane lane.state.faults
+    pub state_is : lane.state ≡ begun lane.state.cut lane.state.faults
 
   -- lanes by these rules, of which the first is of this shard and the others are of the shards after it
-  abbrev pub AreFreshFrom : Reads → Option ℤ → (shard : ℕ) → List (LaneView S L) → Type 0
-  AreFreshFrom reads slack shard [] = Unit {0}
-  AreFreshFrom reads slack shard (lane ∷ lanes) = IsFreshLane reads slack shard lane × AreFreshFrom reads slack (shard + 1) lanes
+  abbrev pub AreBegunFrom : Reads → Option ℤ → (shard : ℕ) → List (LaneView S L) → Type 0
+  AreBegunFrom reads slack shard [] = Unit {0}
+  AreBegunFrom reads slack shard (lane ∷ lanes) = IsBegunLane reads slack shard lane × AreBegunFrom reads slack (shard + 1) lanes
 
   -- lanes of one reading and one slack, in the order of their shards
-  abbrev pub AreFresh : List (LaneView S L) → Type 0
-  AreFresh lanes = AreFreshFrom (reads_by lanes) (slack_by lanes) 0 lanes
+  abbrev pub AreBegun : List (LaneView S L) → Type 0
+  AreBegun lanes = AreBegunFrom (reads_by lanes) (slack_by lanes) 0 lanes
 
   -- the rules of a search over lanes
   abbrev pub rules_of : ℕ → Option ℤ → List (LaneView S L) → Rules

@@ -1,85 +1,79 @@
 //! The search.
-ghost use Rattle.std.specs.Prelude.{◌≡◌, ◌≢◌, ◌≤◌, ◌<◌, ℕ, List, [], None, Err, IfErr, OnOk, OnErr, All, length};
+ghost use Rattle.std.specs.Prelude.{◌≡◌, ◌≢◌, ◌≤◌, ◌<◌, ℕ, List, [], Option, None, Err, true, IfErr, IfSome, OnOk, OnErr, All, length};
 ghost use Rattle.std.specs.List.{AllZip};
 ghost use Rattle.eql_outside.specs.Unfailing.{IsUnfailing};
 ghost use Rattle.eql_outside.specs.Written.{WroteAll, WroteFront};
 ghost use Rattle.eql_laws.specs.Alive.{IsSpan};
 ghost use Rattle.eql_laws.specs.Counting.{IsShardText};
-ghost use Rattle.eql_search.specs.Answers.{AreUnfailing, HasCause, IsNoFault, SteadyBut, StaysLane, WasRead};
-ghost use Rattle.eql_search.specs.Running.{texts_of};
-ghost use Rattle.eql_search.specs.Searches.{AreFresh, AreTextsOf, HasNumbers, IsFreshBook, listing_of, rules_of};
+ghost use Rattle.eql_conductor.specs.declared.plan.End.TheVariants.{DiskFault, WriteFault};
+ghost use Rattle.eql_conductor.specs.Runs.{IsKeptUnfailing, disk_faults};
+ghost use Rattle.eql_replay.specs.Opened.{AreOfTexts};
+ghost use Rattle.eql_search.specs.Answers.{AreUnfailing, HasCause, IsClosed, IsNoFault, SteadyBut, StaysLane, WereRead};
+ghost use Rattle.eql_search.specs.Beginnings.{BeginsOn, MayBegin, MayKeepOn, cuts_of, start_at};
+ghost use Rattle.eql_search.specs.Keeping.{AreSearchCuts, KeepsOn};
+ghost use Rattle.eql_search.specs.Running.{Searched, end_of};
+ghost use Rattle.eql_search.specs.Searches.{AreBegun, AreTextsOf, HasNumbers, reads_by, rest_of, rules_of, slack_by};
 
-use crate::running::{make_parts, run_parts};
+use crate::parting::make_parts;
+use crate::running::run_parts;
 use crate::stop::{Stop, answer};
 use eql_auto::Steps;
-use eql_book::{Book, listing_is_whole};
+use eql_book::Book;
+use eql_conductor::{Keep, RunPlan};
 use eql_lane::Lane;
-use eql_outside::{Sink, Source, writes_go_on};
+use eql_outside::{Disk, Sink, Source};
 use eql_replay::Opening;
-use eql_values::LineReader;
+use eql_values::{Holders, LineReader};
 use std::alloc::Global;
 use std::marker::Brand;
 use std::mem::replace;
 use std::sync::ledger::{Blank, Ledger};
 
 // Searches lanes with the probes of a ledger, and hands the lanes back.
-fn search_lanes<S: Source, L: LineReader, G: Ledger, T: Opening<S, L>, K: Sink>(
+fn search_lanes<S: Source, L: LineReader, G: Ledger, T: Opening<S, L>, K: Sink, D: Disk>(
     alloc: Global,
     lanes: Vec<Lane<S, L>>,
     stages: u32,
     span: Option<i128>,
-    batch: u32,
+    holders: Holders,
+    plan: &RunPlan,
     book: &mut Book,
     sink: &mut K,
+    keep: &mut Option<Keep<D>>,
     blank: Blank,
 ) -> (Result<(), Stop>, Vec<Lane<S, L>>)
     requires blank { (blank.name ≡ G.name) × (blank.parts ≡ G.parts) × (0 < G.parts) }
-    requires opening { (T.lanes ≡ lanes.items) × (T.text ≡ texts_of S.left lanes.items)
-        × (T.plays ≡ []) }
+    requires opening { (lanes.items ≡ T.lanes) × (T.plays ≡ []) }
+    requires texts { AreOfTexts S.left T.text lanes.items }
     requires some { 1 ≤ length lanes.items }
     requires few { length lanes.items ≤ 256 }
-    requires fresh { AreFresh L.read_of lanes.items }
-    requires batch_from { 1 ≤ batch }
-    requires batch_to { batch ≤ 4096 }
+    requires lanes { AreBegun L.read_of lanes.items }
+    requires batch_from { 1 ≤ plan.now.batch }
+    requires batch_to { plan.now.batch ≤ 4096 }
     requires stages_from { 1 ≤ stages }
     requires stages_to { stages ≤ 256 }
     requires span { IsSpan span }
-    requires book { IsFreshBook book.old }
-    ensures whole { OnOk result.0 ((texts : List (List ℕ))
-        → AreTextsOf S.left texts lanes.items
-        → HasNumbers (rules_of L.read_of stages span lanes.items) texts
-        → WroteAll (listing_of (rules_of L.read_of stages span lanes.items)
-        book.old.pipes book.old.places texts) (K.written sink.old) (K.written sink.new)) }
-    ensures front { OnErr result.0 ((texts : List (List ℕ))
-        → AreTextsOf S.left texts lanes.items
-        → (All IsShardText texts → HasNumbers (rules_of L.read_of stages span lanes.items) texts)
-        → WroteFront (listing_of (rules_of L.read_of stages span lanes.items)
-        book.old.pipes book.old.places texts) (K.written sink.old) (K.written sink.new)) }
-    ensures read { OnOk result.0
-        (AllZip (WasRead S.left L.read_of) lanes.items result.1.items) }
-    ensures lanes { AllZip (StaysLane S.left S.lent_as L.read_of) lanes.items result.1.items }
-    ensures cause { IfErr result.0 (λ stop. HasCause S.left stop lanes.items result.1.items
-        (K.fault_count sink.old) (K.fault_count sink.new)) }
-    ensures reads_steady { SteadyBut (λ shard. result.0 ≡ Err (Stop.Read shard))
-        lanes.items result.1.items }
-    ensures writes_steady { result.0 ≢ Err Stop.Write
-        → K.fault_count sink.new ≡ K.fault_count sink.old }
-    ensures unfailing { IsUnfailing (K.fault_plan sink.old)
-        → AreUnfailing S.fault_plan lanes.items
-        → IfErr result.0 IsNoFault × IsUnfailing (K.fault_plan sink.new)
-        × AreUnfailing S.fault_plan result.1.items }
-    ensures counts { K.fault_count sink.old ≤ K.fault_count sink.new }
+    requires whole { book.old.whole ≡ true }
+    requires begins { MayBegin (rules_of L.read_of stages span lanes.items) book.old.pipes
+        plan.now.mark (cuts_of lanes.items) holders book.old.kept }
+    requires keeps { MayKeepOn D.history plan.now (length lanes.items) keep.old }
+    ensures ran { Searched S.left S.lent_as S.fault_plan L.read_of D.history D.fault_count
+        T.text plan.now lanes.items result.1.items (record { stages = stages; span = span }) holders
+        book.old book.new (K.written sink.old) (K.written sink.new)
+        (K.fault_count sink.old) (K.fault_count sink.new) keep.old keep.new (end_of result.0) }
     ensures silent { K.written sink.old ≡ None → K.written sink.new ≡ None }
+    ensures unfailing { IsUnfailing (K.fault_plan sink.old)
+        → (end_of result.0 ≢ WriteFault) × IsUnfailing (K.fault_plan sink.new) }
+    ensures unfailing_disk { IsKeptUnfailing D.fault_plan keep.old
+        → (end_of result.0 ≢ DiskFault) × IsKeptUnfailing D.fault_plan keep.new }
 {
-    listing_is_whole();
-    writes_go_on();
     let (ledger, share) = blank.open::<G>();
     let mut steps = Steps::new(ledger, share);
-    match make_parts(alloc, stages, span, &mut steps) {
+    match make_parts(alloc, stages, span, holders, plan.mark, &mut steps) {
         Err(_) => (Err(Stop::Memory), lanes),
         Ok(parts) => {
-            let (end, back) = run_parts::<S, L, G, T, K>(
-                alloc, lanes, parts, steps, batch, book, sink,
+            let (end, back) = run_parts::<S, L, G, T, K, D>(
+                alloc, lanes, parts, steps, plan, book, sink, keep,
             );
             (answer(end), back)
         }
@@ -88,73 +82,107 @@ fn search_lanes<S: Source, L: LineReader, G: Ledger, T: Opening<S, L>, K: Sink>(
 
 /// Searches the texts of the lanes for sequences of 1 to 256 stages, and writes the listing through the book. The span is
 /// in nanoseconds, and a batch is 1 to 4,096 lines. Lane s is that of shard s, of 1 to 256; all have one slack and one
-/// reading of lines; nothing was read of them and nothing was added to the book.
+/// reading of lines. They begin afresh, as do the book and the plan's mark, and nothing is pending; or all of them begin with
+/// what a cut keeps that fits the search, at the cut's time. With a `keep`, cuts are put on its disk after each `every` rounds.
 ///
-/// Matches are written while the shards are read. On `Ok` the sink got the whole listing, and each lane is read to its end.
-/// Else it got a front of the listing:
+/// Matches are written while the shards are read. On `Ok` the sink got the whole listing, from the line after those that the
+/// book counts, and each lane is read to its end. Else it got a front of that:
 ///
-/// - `Read` where the source of a lane failed, `Write` where the sink failed, and no fault is told as another cause,
-/// - `Limit` where a shard has more lines, or as many bytes, as `eql_lane` says,
+/// - `Read` where the source of a lane failed, `Write` where the sink failed, `Disk` where the disk failed, and no fault is
+///   told as another cause,
+/// - `Limit` where a shard has more lines, or as many bytes, as `eql_lane` says, or the disk's generations came to their end,
 /// - `Memory` where memory ran out.
-pub fn search<S: Source, L: LineReader, K: Sink>(
+pub fn search<S: Source, L: LineReader, K: Sink, D: Disk>(
     alloc: Global,
     lanes: &mut Vec<Lane<S, L>>,
     stages: u32,
     span: Option<i128>,
-    batch: u32,
+    holders: Holders,
+    plan: &RunPlan,
     book: &mut Book,
     sink: &mut K,
+    keep: &mut Option<Keep<D>>,
 ) -> Result<(), Stop>
+    ghost told: { Option (List (List ℕ)) }
+
+    // With what it begins. The texts of the lanes are told or not: what is ensured holds for all texts of which they are.
     requires some { 1 ≤ length lanes.old.items }
     requires few { length lanes.old.items ≤ 256 }
-    requires fresh { AreFresh L.read_of lanes.old.items }
-    requires batch_from { 1 ≤ batch }
-    requires batch_to { batch ≤ 4096 }
+    requires lanes { AreBegun L.read_of lanes.old.items }
+    requires texts { IfSome told (λ texts. AreTextsOf S.left texts lanes.old.items) }
+    requires batch_from { 1 ≤ plan.now.batch }
+    requires batch_to { plan.now.batch ≤ 4096 }
     requires stages_from { 1 ≤ stages }
     requires stages_to { stages ≤ 256 }
     requires span { IsSpan span }
-    requires book { IsFreshBook book.old }
+    requires whole { book.old.whole ≡ true }
+    requires begins { MayBegin (rules_of L.read_of stages span lanes.old.items) book.old.pipes
+        plan.now.mark (cuts_of lanes.old.items) holders book.old.kept }
+    requires keeps { MayKeepOn D.history plan.now (length lanes.old.items) keep.old }
 
-    // What was written, for all texts of which the lanes are, of which each match has a number. After a stop that is asked
-    // of texts only that shards may have.
-    ensures whole { OnOk result ((texts : List (List ℕ))
-        → AreTextsOf S.left texts lanes.old.items
+    // What was written, over told texts of which the cut is one where there is one, and of which each match has a number.
+    // After a stop that is asked of texts only that shards may have.
+    ensures whole { OnOk result (IfSome told (λ texts.
+        BeginsOn (rules_of L.read_of stages span lanes.old.items) book.old.pipes texts
+        (start_at plan.now.mark (cuts_of lanes.old.items) holders book.old.kept)
         → HasNumbers (rules_of L.read_of stages span lanes.old.items) texts
-        → WroteAll (listing_of (rules_of L.read_of stages span lanes.old.items)
-        book.old.pipes book.old.places texts) (K.written sink.old) (K.written sink.new)) }
-    ensures front { OnErr result ((texts : List (List ℕ))
-        → AreTextsOf S.left texts lanes.old.items
+        → WroteAll (rest_of (rules_of L.read_of stages span lanes.old.items)
+        book.old.pipes book.old.places book.old.kept.listed texts)
+        (K.written sink.old) (K.written sink.new))) }
+    ensures front { OnErr result (IfSome told (λ texts.
+        BeginsOn (rules_of L.read_of stages span lanes.old.items) book.old.pipes texts
+        (start_at plan.now.mark (cuts_of lanes.old.items) holders book.old.kept)
         → (All IsShardText texts → HasNumbers (rules_of L.read_of stages span lanes.old.items) texts)
-        → WroteFront (listing_of (rules_of L.read_of stages span lanes.old.items)
-        book.old.pipes book.old.places texts) (K.written sink.old) (K.written sink.new)) }
+        → WroteFront (rest_of (rules_of L.read_of stages span lanes.old.items)
+        book.old.pipes book.old.places book.old.kept.listed texts)
+        (K.written sink.old) (K.written sink.new))) }
+
+    // Which cuts were put on the disk: over such texts they are cuts of them.
+    ensures keeps { KeepsOn D.history plan.now.head plan.now.mark
+        (λ cuts. IfSome told (λ texts.
+        BeginsOn (rules_of L.read_of stages span lanes.old.items) book.old.pipes texts
+        (start_at plan.now.mark (cuts_of lanes.old.items) holders book.old.kept)
+        → HasNumbers (rules_of L.read_of stages span lanes.old.items) texts
+        → AreSearchCuts (rules_of L.read_of stages span lanes.old.items) book.old.pipes texts cuts))
+        keep.old keep.new result }
 
     // What became of the lanes, in their order.
-    ensures read { OnOk result
-        (AllZip (WasRead S.left L.read_of) lanes.old.items lanes.new.items) }
+    ensures closed { OnOk result (All IsClosed lanes.new.items) }
+    ensures read { OnOk result (IfSome told (λ texts.
+        BeginsOn (rules_of L.read_of stages span lanes.old.items) book.old.pipes texts
+        (start_at plan.now.mark (cuts_of lanes.old.items) holders book.old.kept)
+        → WereRead (reads_by L.read_of lanes.old.items) (slack_by L.read_of lanes.old.items)
+        texts lanes.new.items)) }
     ensures lanes { AllZip (StaysLane S.left S.lent_as L.read_of) lanes.old.items lanes.new.items }
+    ensures texts { IfSome told (λ texts. AreTextsOf S.left texts lanes.new.items) }
 
     // Why it stopped, and that no fault was passed over.
-    ensures cause { IfErr result (λ stop. HasCause S.left stop lanes.old.items lanes.new.items
-        (K.fault_count sink.old) (K.fault_count sink.new)) }
+    ensures cause { IfErr result (λ stop. HasCause told stop lanes.old.items lanes.new.items
+        (K.fault_count sink.old) (K.fault_count sink.new)
+        (disk_faults D.history D.fault_count keep.old)
+        (disk_faults D.history D.fault_count keep.new)) }
     ensures reads_steady { SteadyBut (λ shard. result ≡ Err (Stop.Read shard))
         lanes.old.items lanes.new.items }
     ensures writes_steady { result ≢ Err Stop.Write
         → K.fault_count sink.new ≡ K.fault_count sink.old }
+    ensures disk_steady { result ≢ Err Stop.Disk
+        → disk_faults D.history D.fault_count keep.new ≡ disk_faults D.history D.fault_count keep.old }
 
     // Where no call is planned to fail, none fails.
     ensures unfailing { IsUnfailing (K.fault_plan sink.old)
-        → AreUnfailing S.fault_plan lanes.old.items
+        → AreUnfailing S.fault_plan lanes.old.items → IsKeptUnfailing D.fault_plan keep.old
         → IfErr result IsNoFault × IsUnfailing (K.fault_plan sink.new)
-        × AreUnfailing S.fault_plan lanes.new.items }
+        × AreUnfailing S.fault_plan lanes.new.items × IsKeptUnfailing D.fault_plan keep.new }
 
-    // The sink's count doesn't fall, and a sink that doesn't tell goes on so.
-    ensures counts { K.fault_count sink.old ≤ K.fault_count sink.new }
+    // The counts of sink and disk don't fall, and a sink that doesn't tell goes on so.
+    ensures counts { (K.fault_count sink.old ≤ K.fault_count sink.new)
+        × (disk_faults D.history D.fault_count keep.old ≤ disk_faults D.history D.fault_count keep.new) }
     ensures silent { K.written sink.old ≡ None → K.written sink.new ≡ None }
 {
     let taken = replace(lanes, Vec::new(alloc));
     let blank = Blank::new(1);
-    let (ran, back) = search_lanes::<S, L, Brand, Brand, K>(
-        alloc, taken, stages, span, batch, book, sink, blank,
+    let (ran, back) = search_lanes::<S, L, Brand, Brand, K, D>(
+        alloc, taken, stages, span, holders, plan, book, sink, keep, blank,
     );
     replace(lanes, back).destroy_empty();
     ran

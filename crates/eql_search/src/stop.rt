@@ -1,6 +1,5 @@
 //! Why a search stops before its end.
-ghost use Rattle.std.specs.Prelude.{◌≡◌, ◌≢◌};
-ghost use Rattle.eql_conductor.specs.declared.plan.End.TheVariants.{DiskFault};
+ghost use Rattle.std.specs.Prelude.{◌≡◌};
 ghost use Rattle.eql_search.specs.Running.{end_of};
 
 use eql_conductor::End;
@@ -16,22 +15,23 @@ pub enum Stop {
     },
     /// The sink failed.
     Write,
+    /// The disk failed.
+    Disk,
     /// Memory ran out.
     Memory,
     /// A number reached its limit.
     Limit(LimitOf),
 }
 
-/// The answer of a search whose run ended so. It has no disk, so no disk failed.
+/// The answer of a search whose run ended so.
 pub(crate) fn answer(end: End) -> Result<(), Stop>
-    requires disk { end ≢ DiskFault }
     ensures { end_of result ≡ end }
 {
     match end {
         End::Done => Ok(()),
         End::ReadFault { shard } => Err(Stop::Read { shard }),
         End::WriteFault => Err(Stop::Write),
-        End::DiskFault => unreachable!(),
+        End::DiskFault => Err(Stop::Disk),
         End::Memory => Err(Stop::Memory),
         End::Limit(of) => Err(Stop::Limit(of)),
     }

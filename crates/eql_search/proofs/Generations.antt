@@ -1,0 +1,131 @@
+-- The generations of a disk come to their end only where they began far up: a run has no more cuts than rounds, and those are bounded by its lanes.
+use Rattle.std.proofs.Common.{◌≡◌, inl, inr, ◌≤◌, ◌<◌, ◌*◌, ◌^◌, ℕ, zero, suc, ℤ, List, [], ◌∷◌, ◌++◌, map, Option, None, Some, length, length-append, refl, sym, ap, ◌∙◌, arith}
+use Rattle.std.specs.Prelude.{slice_get}
+use Rattle.std.proofs.lemmas.List.{length-map}
+use Rattle.eql_values.specs.Accepted.{Reads}
+use Rattle.eql_values.specs.declared.order.Mark.{Mark}
+use Rattle.eql_laws.specs.Counting.{greatest_bytes, greatest_lines}
+use Rattle.eql_lane.specs.Lanes.{LaneState, begun, fresh_cut as fresh_lane}
+use Rattle.eql_lane.specs.Views.{LaneView}
+use Rattle.eql_parts.specs.PartSteps.{PartView}
+use Rattle.eql_cut.specs.declared.cut.Cut.{Cut}
+use Rattle.eql_conductor.specs.declared.plan.End.{End as Ends}
+use Rattle.eql_conductor.specs.declared.plan.End.TheVariants as end
+use Rattle.eql_conductor.specs.declared.plan.RunPlan.{RunPlan}
+use Rattle.eql_conductor.specs.Benches.{Known}
+use Rattle.eql_conductor.specs.Bounds.{AreSized, IsSized, held_count}
+use Rattle.eql_conductor.specs.Handed.{total_to}
+use Rattle.eql_conductor.specs.RunBounds.{BoundedBy, RunBounded, bytes_in, events_in}
+use Rattle.eql_conductor.specs.RunNotes.{Place, RoundsBroken, RunNotes, cut_due, cut_times, listed, next_place, round_count, start}
+use Rattle.eql_conductor.specs.Runs.{cut_time}
+use Rattle.eql_replay.specs.Listed.{BenchView, bench_known}
+use Rattle.eql_replay.proofs.Places.{there_or}
+use Rattle.eql_search.specs.Running.{bench_of}
+
+-- ---- no more cuts than rounds
+one_at_most : {X : Type 0} (o : Option X) → length (listed o) ≤ 1
+one_at_most None = omega arith
+one_at_most (Some x) = omega arith
+
+fewer_times : (every : Option ℕ) (at : Place) (rounds : List (List Mark)) → length (cut_times every at rounds) ≤ length rounds
+fewer_times every at [] = omega arith
+fewer_times every at (lows ∷ rounds) =
+    let a = length-append (listed (cut_due every at lows)) (cut_times every (next_place at lows) rounds) in
+    let b = one_at_most (cut_due every at lows) in
+    let c = fewer_times every (next_place at lows) rounds in
+    omega (arith, a, b, c)
+
+module _ (plan : RunPlan) (times : List ℤ) (old new : Known) where
+  few_broken : (notes : RoundsBroken plan.batch plan.every (start plan) times old new) → length times ≤ suc (length notes.rounds)
+  few_broken notes = elim notes.times_are [
+    | inl e ↦ let a = ap length e in let b = fewer_times plan.every (start plan) notes.rounds in omega (arith, a, b)
+    | inr e ↦
+        let a = ap length e in
+        let b = fewer_times plan.every (start plan) (notes.rounds ++ notes.last ∷ []) in
+        let c = length-append notes.rounds (notes.last ∷ []) in
+        omega (arith, a, b, c)
+  ]
+
+  few_times : (answer : Ends) (notes : RunNotes plan times old new answer) → length times ≤ round_count plan times old new answer notes
+  few_times end.Done notes =
+      let a = ap length notes.played.times_are in
+      let b = fewer_times plan.every (start plan) notes.played.rounds in
+      omega (arith, a, b)
+  few_times (end.ReadFault s) notes = few_broken notes
+  few_times end.WriteFault notes = few_broken notes
+  few_times end.DiskFault notes = few_broken notes
+  few_times end.Memory notes = few_broken notes
+  few_times (end.Limit of) notes = few_broken notes
+
+-- ---- no more rounds than the lanes allow
+total_bytes : (n : ℕ) (f : ℕ → ℕ) → ((s : ℕ) → s < n → f s ≤ greatest_bytes) → total_to n f ≤ greatest_bytes * n
+total_bytes zero f each = omega arith
+total_bytes (suc n) f each =
+    let a = total_bytes n f (λ s l. each s (omega (arith, l))) in
+    let b = each n (omega arith) in
+    omega (arith, a, b)
+
+total_lines : (n : ℕ) (f : ℕ → ℕ) → ((s : ℕ) → s < n → f s ≤ greatest_lines) → total_to n f ≤ greatest_lines * n
+total_lines zero f each = omega arith
+total_lines (suc n) f each =
+    let a = total_lines n f (λ s l. each s (omega (arith, l))) in
+    let b = each n (omega arith) in
+    omega (arith, a, b)
+
+abbrev state_in : {S L : Type 0} → Option (LaneView S L) → LaneState
+state_in None = begun fresh_lane 0
+state_in (Some lane) = lane.state
+
+module _ {S L : Type 0} (read_of : L → Reads) (text : ℕ → Option (List ℕ)) (olds : List (LaneView S L)) (parts : List PartView) (last : BenchView S L) (many : length last.pool.lanes ≡ length olds) (few : length olds ≤ 256)
+    (sizes : AreSized (bench_known read_of text (bench_of olds parts))) where
+  abbrev old : Known
+  old = bench_known read_of text (bench_of olds parts)
+
+  abbrev new : Known
+  new = bench_known read_of text last
+
+  abbrev began : ℕ → LaneState
+  began s = state_in (slice_get olds s)
+
+  abbrev now : ℕ → LaneState
+  now s = state_in (slice_get last.pool.lanes s)
+
+  held_to : (s : ℕ) → s < length olds → held_count (began s) ≤ greatest_lines
+  held_to s l =
+      let one = there_or olds s l in
+      let sized : IsSized one.0.state = sizes.each s l one.0.state (record { lane = one.0; there = one.1; state_is = refl }) in
+      let a = sized.few in
+      let b = sized.lines in
+      let c = ap (λ (o : Option (LaneView S L)). held_count (state_in o)) one.1 in
+      omega (arith, a, b, c)
+
+  taken_to : (rounds : ℕ) → RunBounded rounds old new → (s : ℕ) → s < length olds → (now s).taken ≤ greatest_bytes
+  taken_to rounds bounded s l =
+      let one = there_or last.pool.lanes s (omega (arith, l, many)) in
+      let sized : IsSized one.0.state = bounded.sized.each s (omega (arith, l, many)) one.0.state (record { lane = one.0; there = one.1; state_is = refl }) in
+      let a = sized.bytes in
+      let c = ap (λ (o : Option (LaneView S L)). (state_in o).taken) one.1 in
+      omega (arith, a, c)
+
+  bounded_by : (rounds : ℕ) → RunBounded rounds old new → BoundedBy rounds old new (bytes_in (length olds) now) (events_in (length olds) began)
+  bounded_by rounds bounded = bounded.bound began now (record {
+    from = λ s l x has. (0, has.state_is ∙ sym (ap state_in has.there));
+    to = λ s l.
+        let one = there_or last.pool.lanes s (omega (arith, l, many)) in
+        record { lane = one.0; there = one.1; state_is = ap state_in one.1 };
+  })
+
+  pub few_rounds : (rounds : ℕ) → RunBounded rounds old new → rounds ≤ 2 ^ 51
+  few_rounds rounds bounded =
+      let a = (bounded_by rounds bounded).rounds_to in
+      let b = total_bytes (length olds) (λ s. (now s).taken) (taken_to rounds bounded) in
+      let c = total_lines (length olds) (λ s. held_count (began s)) held_to in
+      omega (arith, a, b, c, few)
+
+  pub few_cuts : (plan : RunPlan) (cuts : List Cut) (answer : Ends) (notes : RunNotes plan (map cut_time cuts) old new answer) → RunBounded (round_count plan (map cut_time cuts) old new answer notes) old new
+      → length cuts ≤ 2 ^ 51
+  few_cuts plan cuts answer notes bounded =
+      let a = few_times plan (map cut_time cuts) old new answer notes in
+      let b = few_rounds (round_count plan (map cut_time cuts) old new answer notes) bounded in
+      let c = length-map cuts cut_time in
+      omega (arith, a, b, c)
