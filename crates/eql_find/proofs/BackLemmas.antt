@@ -1,19 +1,12 @@
 -- Sources that go back to their shelf.
 use native.Mathlib.Omega.{arith}
-use Rattle.std.proofs.Common.{◌≡◌, ℕ, ◌+◌, ◌-◌, ◌<◌, ◌≤◌, inl, inr, List, [], ◌∷◌, ◌++◌, Option, Some, None, refl, sym, ap, ap₂, ◌∙◌, subst, map}
+use Rattle.std.proofs.Common.{◌≡◌, ℕ, ◌+◌, ◌-◌, ◌<◌, ◌≤◌, inl, inr, List, [], ◌∷◌, ◌++◌, Option, Some, None, sym, ap, ap₂, ◌∙◌, subst, map}
 use Rattle.std.specs.Prelude.{IfSome}
-use Rattle.std.proofs.lemmas.List.{append_assoc, append-nil}
+use Rattle.std.proofs.lemmas.List.{append_assoc}
 use Rattle.eql_outside.specs.Outside.{Rose}
 use Rattle.eql_outside.specs.Faults.{SameFaults, RoseFor, RoseUnder, RosesAgree}
 use Rattle.eql_lane.specs.Views.{LaneView}
 use Rattle.eql_find.specs.Lanes.{Returned, OneFailed, CameBack, returned, lane_returned}
-
--- nothing came back yet
-pub none_came : (before : ℕ) (names : List ℕ → ℕ) → CameBack [] before before names names
-none_came before names = record {
-  none = λ h. (refl, λ name. refl);
-  one = λ name h. absurd h;
-}
 
 -- what a shelf's counts say once one source comes back
 pub record CameOne (back : Returned) (before now : ℕ) (names names' : List ℕ → ℕ) : Type 0 where
@@ -55,10 +48,6 @@ pub record Gone {X : Type 0} (back_of : X → Returned) (all left : List X) (bef
   pub all_are : all ≡ left ++ gone
   pub came : CameBack (map back_of gone) before now names names'
 
-pub none_gone : {X : Type 0} (back_of : X → Returned) (all : List X) (before : ℕ) (names : List ℕ → ℕ)
-    → Gone back_of all all before before names names
-none_gone back_of all before names = record { gone = []; all_are = sym (append-nil all); came = none_came before names }
-
 pub one_gone : {X : Type 0} (back_of : X → Returned) → RosesAgree → (all left less : List X) (x : X) (before mid now : ℕ)
     (first between last : List ℕ → ℕ) → left ≡ less ++ x ∷ [] → Gone back_of all left before mid first between
     → CameOne (back_of x) mid now between last → Gone back_of all less before now first last
@@ -68,27 +57,13 @@ one_gone back_of agree all left less x before mid now first between last is gone
   came = one_came agree (back_of x) (map back_of gone.gone) before mid now first between last gone.came one;
 }
 
-pub all_gone : {X : Type 0} (back_of : X → Returned) (all left : List X) (before now : ℕ) (names names' : List ℕ → ℕ)
-    → left ≡ [] → Gone back_of all left before now names names' → CameBack (map back_of all) before now names names'
-all_gone back_of all left before now names names' none gone =
-    subst (λ ys. CameBack (map back_of ys) before now names names') (sym (gone.all_are ∙ ap (λ ys. ys ++ gone.gone) none)) gone.came
-
 -- how many are lent, as they come back one by one
-pub none_back : (all : ℕ) (before : Option ℕ) → IfSome before (λ lent. before ≡ Some (lent - (all - all)))
-none_back all None = tt
-none_back all (Some n) = ap (λ (x : ℕ). Some x) (omega arith)
-
 pub one_back :
     (all left less : ℕ) (before mid now : Option ℕ) → left ≡ less + 1 → left ≤ all → IfSome before (λ lent. mid ≡ Some (lent - (all - left)))
     → IfSome mid (λ lent. now ≡ Some (lent - 1)) → IfSome before (λ lent. now ≡ Some (lent - (all - less)))
 one_back all left less None mid now is few first then = tt
 one_back all left less (Some n) mid now is few first then =
     subst (λ (x : Option ℕ). IfSome x (λ lent. now ≡ Some (lent - 1))) first then ∙ ap (λ (x : ℕ). Some x) (omega (arith, is, few))
-
-pub all_back : (all left : ℕ) (before now : Option ℕ) → left ≡ 0 → IfSome before (λ lent. now ≡ Some (lent - (all - left)))
-    → IfSome before (λ lent. now ≡ Some (lent - all))
-all_back all left None now none h = tt
-all_back all left (Some n) now none h = h ∙ ap (λ (x : ℕ). Some x) (omega (arith, none))
 
 -- a lane's source that comes back
 pub lane_back : {S L : Type 0} (lent_as : S → Option (List ℕ)) (faults : S → ℕ) (source : S) (lane : LaneView S L)

@@ -1,6 +1,6 @@
 -- Which lanes of a run failed, as their sources come back.
 use native.Mathlib.Omega.{arith}
-use Rattle.std.proofs.Common.{◌≡◌, ℕ, ℤ, ◌+◌, inl, inr, List, [], ◌∷◌, Option, Some, refl, sym, ap, ◌∙◌, subst, length, map, suc, zero}
+use Rattle.std.proofs.Common.{◌≡◌, ℕ, ◌+◌, inl, inr, List, [], ◌∷◌, Option, Some, refl, sym, ap, ◌∙◌, subst, length, map, suc, zero}
 use Rattle.std.specs.Prelude.{All, slice_get}
 use Rattle.std.specs.List.{AllZip}
 use Rattle.std.proofs.lemmas.List.Elements.{All-head, All-tail}
@@ -9,10 +9,11 @@ use Rattle.eql_values.specs.Accepted.{Reads}
 use Rattle.eql_outside.specs.Outside.{Rose}
 use Rattle.eql_outside.specs.Plans.{FaultPlan}
 use Rattle.eql_lane.specs.Views.{LaneView}
-use Rattle.eql_search.specs.Answers.{BecameAt, RoseFaults, SteadyBut, StaysLane}
-use Rattle.eql_find.specs.Lanes.{AreOver, NoneFailed, OneFailed, lane_returned}
-use Rattle.eql_find.proofs.MakingLemmas.{rose_from_none}
-use Rattle.eql_find.proofs.PlanLemmas.{parts_of}
+use Rattle.eql_lane.specs.declared.make.LaneStart.{LaneStart}
+use Rattle.eql_search.specs.Answers.{BecameAt, RoseFaults, SteadyBut}
+use Rattle.eql_find.specs.Lanes.{AreOver, NoneFailed, OneFailed, StaysSource, lane_returned}
+use Rattle.eql_find.proofs.MakingLemmas.{made_faults, made_named, rose_from_none}
+use Rattle.eql_find.proofs.TextLemmas.{parts_of}
 
 -- lanes with no faults, over sources that were lent under these names
 pub record IsNamedLane {S L : Type 0} (lent_as : S → Option (List ℕ)) (name : List ℕ) (lane : LaneView S L) : Type 0 where
@@ -26,21 +27,23 @@ AreNamed lent_as (n ∷ ns) [] = ⊥
 AreNamed lent_as (n ∷ ns) (l ∷ ls) = IsNamedLane lent_as n l × AreNamed lent_as ns ls
 
 pub named_over : {S L : Type 0} (left lent_as : S → Option (List ℕ)) (faults : S → ℕ) (plan : S → Option FaultPlan) (read_of : L → Reads)
-    (reads : Reads) (slack : Option ℤ) (shard : ℕ) (sources : List S) (lanes : List (LaneView S L)) (names : List (List ℕ))
-    → AreOver left lent_as faults plan read_of reads slack shard sources lanes
+    (reads : Reads) (slack : Option ℕ) (shard : ℕ) (sources : List S) (starts : List LaneStart) (lanes : List (LaneView S L)) (names : List (List ℕ))
+    → AreOver left lent_as faults plan read_of reads slack shard sources starts lanes
     → map lent_as sources ≡ map (λ (n : List ℕ). Some n) names → All (λ source. faults source ≡ 0) sources → AreNamed lent_as names lanes
-named_over left lent_as faults plan read_of reads slack shard [] [] [] over is all = tt
-named_over left lent_as faults plan read_of reads slack shard [] [] (n ∷ ns) over is all = absurd (omega (arith, ap length is))
-named_over left lent_as faults plan read_of reads slack shard [] (l ∷ ls) names over is all = absurd over
-named_over left lent_as faults plan read_of reads slack shard (s ∷ ss) [] names over is all = absurd over
-named_over left lent_as faults plan read_of reads slack shard (s ∷ ss) (l ∷ ls) [] over is all = absurd (omega (arith, ap length is))
-named_over left lent_as faults plan read_of reads slack shard (s ∷ ss) (l ∷ ls) (n ∷ ns) over is all =
+named_over left lent_as faults plan read_of reads slack shard [] [] [] [] over is all = tt
+named_over left lent_as faults plan read_of reads slack shard [] [] [] (n ∷ ns) over is all = absurd (omega (arith, ap length is))
+named_over left lent_as faults plan read_of reads slack shard [] [] (l ∷ ls) names over is all = absurd over
+named_over left lent_as faults plan read_of reads slack shard [] (b ∷ bs) ls names over is all = absurd over
+named_over left lent_as faults plan read_of reads slack shard (s ∷ ss) [] ls names over is all = absurd over
+named_over left lent_as faults plan read_of reads slack shard (s ∷ ss) (b ∷ bs) [] names over is all = absurd over
+named_over left lent_as faults plan read_of reads slack shard (s ∷ ss) (b ∷ bs) (l ∷ ls) [] over is all = absurd (omega (arith, ap length is))
+named_over left lent_as faults plan read_of reads slack shard (s ∷ ss) (b ∷ bs) (l ∷ ls) (n ∷ ns) over is all =
     let parts = parts_of (lent_as s) (Some n) (map lent_as ss) (map (λ (m : List ℕ). Some m) ns) is in (
       record {
-        named = over.0.named ∙ parts.0;
-        none = over.0.faults_are ∙ All-head (λ source. faults source ≡ 0) s ss all;
+        named = made_named left lent_as faults s over.0.reader shard slack b l over.0.made ∙ parts.0;
+        none = made_faults left lent_as faults s over.0.reader shard slack b l over.0.made ∙ All-head (λ source. faults source ≡ 0) s ss all;
       },
-      named_over left lent_as faults plan read_of reads slack (shard + 1) ss ls ns over.1 parts.1
+      named_over left lent_as faults plan read_of reads slack (shard + 1) ss bs ls ns over.1 parts.1
           (All-tail (λ source. faults source ≡ 0) s ss all),
     )
 
@@ -49,10 +52,10 @@ steady_behind : {S L : Type 0} (Told : ℕ → Type 0) (old new : LaneView S L) 
     → SteadyBut Told (old ∷ olds) (new ∷ news) → SteadyBut (λ shard. Told (suc shard)) olds news
 steady_behind Told old new olds news steady = λ shard o n none was is. steady (suc shard) o n none was is
 
-module _ {S L : Type 0} (left lent_as : S → Option (List ℕ)) (read_of : L → Reads) where
+module _ {S L : Type 0} (left lent_as : S → Option (List ℕ)) where
   pub none_failed_lanes : (names : List (List ℕ)) (olds news : List (LaneView S L)) (Told : ℕ → Type 0)
       → ((shard : ℕ) → ¬ Told shard) → AreNamed lent_as names olds
-      → AllZip (StaysLane left lent_as read_of) olds news → SteadyBut Told olds news → NoneFailed (map (lane_returned lent_as) news)
+      → AllZip (StaysSource left lent_as) olds news → SteadyBut Told olds news → NoneFailed (map (lane_returned lent_as) news)
   none_failed_lanes names [] [] Told none named stays steady = tt
   none_failed_lanes names [] (n ∷ ns) Told none named stays steady = absurd stays
   none_failed_lanes names (o ∷ os) [] Told none named stays steady = absurd stays
@@ -64,7 +67,7 @@ module _ {S L : Type 0} (left lent_as : S → Option (List ℕ)) (read_of : L �
   )
 
   pub one_failed_lane : (shard : ℕ) (name : List ℕ) (names : List (List ℕ)) (olds news : List (LaneView S L))
-      → slice_get names shard ≡ Some name → AreNamed lent_as names olds → AllZip (StaysLane left lent_as read_of) olds news
+      → slice_get names shard ≡ Some name → AreNamed lent_as names olds → AllZip (StaysSource left lent_as) olds news
       → BecameAt shard olds news RoseFaults → SteadyBut (λ s. s ≡ shard) olds news
       → OneFailed name (map (lane_returned lent_as) news)
   one_failed_lane shard name [] olds news is named stays became steady = absurd (none-some name is)
@@ -78,7 +81,7 @@ module _ {S L : Type 0} (left lent_as : S → Option (List ℕ)) (read_of : L �
           often = rose_from_none o.state.faults n.state.faults named.0.none
               (subst (λ (x : LaneView S L). Rose x.state.faults n.state.faults) (sym old)
               (subst (λ (y : LaneView S L). Rose became.old.state.faults y.state.faults) (sym new) became.became));
-          named = stays.0.same.named ∙ named.0.named ∙ is;
+          named = stays.0.named ∙ named.0.named ∙ is;
         },
         none_failed_lanes ms os ns (λ s. suc s ≡ zero) (λ s e. omega (arith, e)) named.1 stays.1
             (steady_behind (λ s. s ≡ zero) o n os ns steady),

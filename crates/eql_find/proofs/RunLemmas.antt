@@ -1,155 +1,207 @@
--- A run over lanes: its report, and how it halts.
+-- A run over lanes that began as it was found to begin: the search that it makes.
 use native.Mathlib.Omega.{arith}
-use Rattle.std.proofs.Common.{◌≡◌, ◌<◌, ◌+◌, ℕ, zero, suc, ℤ, List, [], ◌∷◌, ◌++◌, length, Option, Some, None, Err, refl, sym, ap, ap₂, ◌∙◌, subst}
-use Rattle.std.specs.Prelude.{Result, slice_get}
-use Rattle.std.specs.List.{AllZip}
-use Rattle.std.proofs.lemmas.List.{take_all, length-map}
-use Rattle.std.proofs.lemmas.Option.{slice_get_within}
+use Rattle.std.proofs.Common.{◌≡◌, ◌≢◌, ◌≤◌, ◌+◌, ◌==◌, ℕ, ℤ, Bool, true, false, List, [], ◌∷◌, Option, Some, None, refl, sym, ap, ◌∙◌, subst, length, map}
+use Rattle.std.specs.Prelude.{IfSome, IsTrue}
+use Rattle.std.proofs.lemmas.Bool.{eqb-true}
+use Rattle.std.proofs.lemmas.Option.{none-some}
 use Rattle.eql_values.specs.Accepted.{Reads}
-use Rattle.eql_values.specs.declared.cut.Counts.{Counts}
-use Rattle.eql_outside.specs.Written.{WroteAll, WroteFront}
-use Rattle.eql_laws.specs.Counting.{counts_of}
-use Rattle.eql_stages.specs.Planned.{Planned, line_of}
+use Rattle.eql_values.specs.declared.cut.BookCut.{BookCut}
+use Rattle.eql_values.specs.declared.cut.LaneCut.{LaneCut}
+use Rattle.eql_values.specs.declared.cut.Pipe.{Pipe}
+use Rattle.eql_values.specs.declared.found.Holder.{Holder}
+use Rattle.eql_values.specs.declared.order.Mark.{Mark}
+use Rattle.eql_values.specs.declared.order.Mark.TheVariants.{Start, At, End}
+use Rattle.eql_outside.specs.Moments.{History}
+use Rattle.eql_book.specs.Books.{FitsPipes}
+use Rattle.eql_book.specs.Laws.{fresh_cut as fresh_book}
+use Rattle.eql_words.specs.declared.commands.Checkpoint.{Checkpoint}
 use Rattle.eql_words.specs.declared.commands.Find.{Find}
-use Rattle.eql_lane.specs.Slacks.{nanos_of}
-use Rattle.eql_lane.specs.Views.{LaneView, IsTextOf}
-use Rattle.eql_runs.specs.Runs.{IsBeyond, many_lines, many_bytes}
-use Rattle.eql_runs.specs.Searches.{Search, reads_of, slack_of, listing_of, report_of, report_lines, shard_counts_from}
-use Rattle.eql_search.specs.declared.stop.Stop.{Stop}
-use Rattle.eql_search.specs.declared.stop.Stop.TheVariants as stop
-use Rattle.eql_search.specs.Answers.{BecameAt, HasCause, IsNoFault, OutOfBytes, OutOfLines, SteadyBut, WasRead}
-use Rattle.eql_search.specs.Searches.{AreFresh, AreFreshFrom, AreTextsOf, reads_by, slack_by}
-use Rattle.eql_find.specs.declared.halt.RunHalt.{RunHalt}
-use Rattle.eql_find.specs.Halts.{IsFault, IsReport}
-use Rattle.eql_find.specs.Reports.{counts_in}
-use Rattle.eql_find.specs.Searching.{LaneFaults, ReportOf, StoppedLanes, Suits}
-use Rattle.eql_find.specs.Stops.{IsHaltOf, read, write, memory, lines, bytes}
-use Rattle.eql_find.proofs.SearchLemmas.{reads_are, slack_is}
+use Rattle.eql_words.specs.Bounds.{FindBounds, KeptBounds}
+use Rattle.eql_lane.specs.Views.{LaneView}
+use Rattle.eql_cut.specs.declared.cut.Cut.{Cut}
+use Rattle.eql_cut.specs.declared.cut.CutHead.{CutHead}
+use Rattle.eql_cut.specs.CutValues.{names_ascend}
+use Rattle.eql_cut.specs.Placing.{IsUnplaced, LinesAscend, orders_in, place_of}
+use Rattle.eql_conductor.specs.declared.plan.Keep.{Keep}
+use Rattle.eql_conductor.specs.Openings.{FitMayBegin}
+use Rattle.eql_resume.specs.Beginnings.{Rest, placed_if, rest_by}
+use Rattle.eql_resume.specs.Finding.{Suits, held}
+use Rattle.eql_runs.specs.Starts.{BeginsWith}
+use Rattle.eql_search.specs.Beginnings.{MayBegin, MayKeepOn, cuts_of, run_by}
+use Rattle.eql_search.specs.Searches.{AreBegun, AreBegunFrom, AreTextsOf, Rules, reads_by, slack_by}
+use Rattle.eql_find.specs.declared.plan.Planning.{Planning}
+use Rattle.eql_find.specs.Running.{KeepsIfAsked, Started, every_of, plan_in}
+use Rattle.eql_find.specs.Searching.{BeganWith, StartsOn, bare, head_in, places_in, rules_in, search_in}
+use Rattle.eql_find.specs.Starting.{Begun, IsOwn, pipes_of, stages_of, values_of}
+use Rattle.eql_find.proofs.AllowingLemmas.{BeginLaws, ascend_by, bare_cuts, fresh_ascend, may_fresh, may_from}
+use Rattle.eql_find.proofs.BookLemmas.{fits_fresh}
+use Rattle.eql_find.proofs.TrustingLemmas.{starts_fresh, starts_from}
 
--- ---- the report
-module _ {S L : Type 0} (left : S → Option (List ℕ)) (read_of : L → Reads) where
-  -- the counts of lanes that were read are those of their texts
-  counts_from : (search : Search) (reads : Reads) (slack : Option ℤ) → reads ≡ reads_of search → slack ≡ slack_of search
-      → (shard : ℕ) (texts : List (List ℕ)) (olds news : List (LaneView S L)) → AreFreshFrom read_of reads slack shard olds
-      → AllZip (WasRead left read_of) olds news → AreTextsOf left texts olds → counts_in news ≡ shard_counts_from search shard texts
-  counts_from search reads slack r s shard [] [] [] fresh was told = refl
-  counts_from search reads slack r s shard [] [] (new ∷ news) fresh was told = absurd was
-  counts_from search reads slack r s shard [] (old ∷ olds) news fresh was told = absurd told
-  counts_from search reads slack r s shard (text ∷ texts) [] news fresh was told = absurd told
-  counts_from search reads slack r s shard (text ∷ texts) (old ∷ olds) [] fresh was told = absurd was
-  counts_from search reads slack r s shard (text ∷ texts) (old ∷ olds) (new ∷ news) fresh was told =
-      let reads_is : read_of old.reader ≡ reads_of search = fresh.0.reads_are ∙ r in
-      let slack_is : old.slack ≡ slack_of search = fresh.0.slack_is ∙ s in
-      let own : new.state.cut.counts ≡ counts_of (reads_of search) (slack_of search) shard text =
-      was.0.counts text told.0 ∙ (λ i. counts_of (reads_is i) (slack_is i) (fresh.0.shard_is i) text) in
-      ap₂ (λ (c : Counts) (cs : List Counts). c ∷ cs) own (counts_from search reads slack r s (shard + 1) texts olds news fresh.1 was.1 told.1)
+-- a cut of the run, by its own head
+own_suits : (find : Find) (p : Planning) (cut : Cut) → Suits (stages_of p) (values_of p) (pipes_of p) (head_in find p) cut
+    → Suits (stages_of p) (values_of p) (pipes_of p) cut.head cut
+own_suits find p cut suits = record { is_cut = suits.is_cut; head_is = refl; fits = suits.fits }
 
-  zip_count : (olds news : List (LaneView S L)) → AllZip (WasRead left read_of) olds news → length news ≡ length olds
-  zip_count [] [] was = refl
-  zip_count [] (new ∷ news) was = absurd was
-  zip_count (old ∷ olds) [] was = absurd was
-  zip_count (old ∷ olds) (new ∷ news) was = ap suc (zip_count olds news was.1)
+own_count : {S L : Type 0} (find : Find) (p : Planning) (lanes : List (LaneView S L)) (cut : Cut)
+    → Suits (stages_of p) (values_of p) (pipes_of p) (head_in find p) cut → length lanes ≡ length find.shards → length lanes ≡ length cut.lanes
+own_count find p lanes cut suits many = many ∙ sym (suits.is_cut.stands.lane_for_each ∙ ap CutHead.shards suits.head_is)
 
-  module _ (find : Find) (plan : Planned) (olds news : List (LaneView S L)) (fresh : AreFresh read_of olds)
-      (reads : reads_by read_of olds ≡ line_of plan) (slack : slack_by read_of olds ≡ nanos_of find.slack)
-      (was : AllZip (WasRead left read_of) olds news) where
-    counts_are : (search : Search) (texts : List (List ℕ)) → Suits left find plan search texts olds → counts_in news ≡ shard_counts_from search 0 texts
-    counts_are search texts suits =
-        counts_from search (reads_by read_of olds) (slack_by read_of olds) (reads_are left read_of find plan search texts olds suits reads slack)
-        (slack_is left read_of find plan search texts olds suits reads slack) 0 texts olds news fresh was suits.texts_of
+-- a search with what is pending, once it has its places
+abbrev pub placed_rest : {S L : Type 0} → Rest → List (LaneView S L) → Rest
+placed_rest rest lanes = placed_if rest.unplaced (place_of (places_in lanes)) rest
 
-    -- a run that is done wrote its listing and its report
-    pub done_by : (out out' err err' : Option (List ℕ))
-        → ((search : Search) (texts : List (List ℕ)) → Suits left find plan search texts olds → WroteAll (listing_of search texts) out out')
-        → WroteAll (report_lines 0 (counts_in news)) err err'
-        → (search : Search) (texts : List (List ℕ)) → Suits left find plan search texts olds
-        → WroteAll (listing_of search texts) out out' × WroteAll (report_of search texts) err err'
-    done_by out out' err err' listed told search texts suits = (
-      listed search texts suits,
-      subst (λ (cs : List Counts). WroteAll (report_lines 0 cs) err err') (counts_are search texts suits) told,
+-- a search begins so over texts
+abbrev pub StartsSo : {S L : Type 0} → Find → Planning → List (List ℕ) → List (LaneView S L) → Rest → Type 0
+StartsSo find p ts lanes r = StartsOn (search_in find p) ts r.mark (cuts_of lanes) r.holders r.book
+
+-- ---- with what the search begins
+module _ {S L : Type 0} (laws : BeginLaws) (find : Find) (p : Planning) (bounds : FindBounds find)
+    (lanes : List (LaneView S L)) (rest : Rest) (many : length lanes ≡ length find.shards) where
+  ascend_at : (told : Option (List (List ℕ))) (format : ℕ) (o : Option Cut) → IfSome o (λ cut. find.checkpoint ≢ None)
+      → IfSome o (Suits (stages_of p) (values_of p) (pipes_of p) (head_in find p))
+      → IfSome o (λ cut. format ≡ 1 → IsUnplaced (orders_in cut)) → BeganWith told (format == 1) o lanes → LinesAscend (places_in lanes)
+  ascend_at told format None asked suits bare_of began = fresh_ascend lanes began
+  ascend_at told format (Some cut) asked suits bare_of began =
+      ascend_by laws find p bounds told lanes format cut asked (own_suits find p cut suits) bare_of (ap CutHead.slack suits.head_is)
+      (own_count find p lanes cut suits many) (format == 1) began
+
+  may_at : (told : Option (List (List ℕ))) (format : ℕ) (o : Option Cut) → IfSome o (λ cut. find.checkpoint ≢ None)
+      → IfSome o (Suits (stages_of p) (values_of p) (pipes_of p) (head_in find p))
+      → IfSome o (λ cut. format ≡ 1 → IsUnplaced (orders_in cut)) → BeganWith told (format == 1) o lanes → rest ≡ rest_by (pipes_of p) (format == 1) o
+      → (let r = placed_rest rest lanes in MayBegin (rules_in (search_in find p)) (pipes_of p) r.mark (cuts_of lanes) r.holders r.book)
+  may_at told format None asked suits bare_of began is = may_fresh find p lanes (format == 1) began rest is
+  may_at told format (Some cut) asked suits bare_of began is =
+      subst (λ (u : Bool). let r = placed_if u (place_of (places_in lanes)) rest in
+      MayBegin (rules_in (search_in find p)) (pipes_of p) r.mark (cuts_of lanes) r.holders r.book) (sym (ap Rest.unplaced is))
+      (may_from laws find p bounds told lanes format cut asked (own_suits find p cut suits) bare_of (ap CutHead.slack suits.head_is)
+      (own_count find p lanes cut suits many) (format == 1) (λ e. bare_of (eqb-true format 1 e)) (ap CutHead.shards suits.head_is ∙ sym many) began rest is)
+
+  starts_at : (ts : List (List ℕ)) (format generation : ℕ) (o : Option Cut) → IfSome o (λ cut. find.checkpoint ≢ None)
+      → IfSome o (Suits (stages_of p) (values_of p) (pipes_of p) (head_in find p))
+      → IfSome o (λ cut. format ≡ 1 → IsUnplaced (orders_in cut)) → BeganWith (Some ts) (format == 1) o lanes → rest ≡ rest_by (pipes_of p) (format == 1) o
+      → BeginsWith (search_in find p) ts (held format generation o) → StartsSo find p ts lanes (placed_rest rest lanes)
+  starts_at ts format generation None asked suits bare_of began is begins = starts_fresh find p ts lanes (format == 1) rest is
+  starts_at ts format generation (Some cut) asked suits bare_of began is begins =
+      subst (λ (u : Bool). StartsSo find p ts lanes (placed_if u (place_of (places_in lanes)) rest)) (sym (ap Rest.unplaced is))
+      (starts_from laws find p bounds ts lanes format cut asked (own_suits find p cut suits) bare_of (ap CutHead.slack suits.head_is)
+      (own_count find p lanes cut suits many) (format == 1) began begins.is_cut rest is)
+
+  pub lines_ascend : (told : Option (List (List ℕ))) (begun : Begun) → IsOwn find p begun → BeganWith told (begun.format == 1) begun.cut lanes
+      → LinesAscend (places_in lanes)
+  lines_ascend told begun own began = ascend_at told begun.format begun.cut own.asked own.suits own.unplaced began
+
+  -- lanes whose places were taken, with what is pending at its places
+  module _ (mids : List (LaneView S L)) (placed : Rest) (taken : mids ≡ map bare lanes) (placed_is : placed ≡ placed_rest rest lanes) where
+    same_cuts : cuts_of lanes ≡ cuts_of mids
+    same_cuts = sym (ap cuts_of taken ∙ bare_cuts lanes)
+
+    pub may_begin : (told : Option (List (List ℕ))) (begun : Begun) → IsOwn find p begun → BeganWith told (begun.format == 1) begun.cut lanes
+        → rest ≡ rest_by (pipes_of p) (begun.format == 1) begun.cut
+        → MayBegin (rules_in (search_in find p)) (pipes_of p) placed.mark (cuts_of mids) placed.holders placed.book
+    may_begin told begun own began is =
+        subst (λ (r : Rest). MayBegin (rules_in (search_in find p)) (pipes_of p) r.mark (cuts_of mids) r.holders r.book) (sym placed_is)
+        (subst (λ (cs : List LaneCut). let r = placed_rest rest lanes in MayBegin (rules_in (search_in find p)) (pipes_of p) r.mark cs r.holders r.book) same_cuts
+        (may_at told begun.format begun.cut own.asked own.suits own.unplaced began is))
+
+    -- over texts with which the run may begin the search begins with nothing, or with a cut of them
+    pub starts : (told : Option (List (List ℕ))) (ts : List (List ℕ)) → told ≡ Some ts → Started told find p lanes rest ts → StartsSo find p ts mids placed
+    starts told ts e s =
+        subst (λ (r : Rest). StartsSo find p ts mids r) (sym placed_is)
+        (subst (λ (cs : List LaneCut). let r = placed_rest rest lanes in StartsOn (search_in find p) ts r.mark cs r.holders r.book) same_cuts
+        (starts_at ts s.begun.format s.begun.generation s.begun.cut s.own.asked s.own.suits s.own.unplaced
+        (subst (λ (o : Option (List (List ℕ))). BeganWith o (s.begun.format == 1) s.begun.cut lanes) e s.began) s.rest_is s.begins))
+
+-- places change neither the mark nor how many lines were listed
+mark_of : (u : Bool) (place : ℕ → ℕ → ℕ) (rest : Rest) → (placed_if u place rest).mark ≡ rest.mark
+mark_of true place rest = refl
+mark_of false place rest = refl
+
+listed_of : (u : Bool) (place : ℕ → ℕ → ℕ) (rest : Rest) → (placed_if u place rest).book.listed ≡ rest.book.listed
+listed_of true place rest = refl
+listed_of false place rest = refl
+
+module _ {S L : Type 0} (lanes : List (LaneView S L)) (rest placed : Rest) (placed_is : placed ≡ placed_rest rest lanes) where
+  pub same_mark : placed.mark ≡ rest.mark
+  same_mark = ap Rest.mark placed_is ∙ mark_of rest.unplaced (place_of (places_in lanes)) rest
+
+  pub same_listed : placed.book.listed ≡ rest.book.listed
+  same_listed = ap (λ (r : Rest). r.book.listed) placed_is ∙ listed_of rest.unplaced (place_of (places_in lanes)) rest
+
+-- ---- the book
+-- a book with which a search may begin fits its pipes
+pub fits_may : FitMayBegin → (rules : Rules) (pipes : List Pipe) (mark : Mark) (lanes : List LaneCut) (holders : List Holder) (book : BookCut)
+    → MayBegin rules pipes mark lanes holders book → FitsPipes pipes book
+fits_may law rules pipes Start lanes holders book may =
+    subst (λ (b : BookCut). FitsPipes pipes b) (sym may.book_is) (fits_fresh pipes pipes (BookCut.pipes (fresh_book pipes)) refl refl)
+fits_may law rules pipes (At time) lanes holders book may =
+    (law (run_by rules pipes may.values may.slack) (length lanes) (record { time = time; lanes = lanes; holders = holders; book = book }) may.fits).book
+fits_may law rules pipes End lanes holders book may = absurd may
+
+-- ---- lanes whose places were taken
+bare_texts : {S L : Type 0} (left : S → Option (List ℕ)) (ts : List (List ℕ)) (lanes : List (LaneView S L)) → AreTextsOf left ts lanes
+    → AreTextsOf left ts (map bare lanes)
+bare_texts left [] [] h = tt
+bare_texts left [] (l ∷ ls) h = absurd h
+bare_texts left (t ∷ ts) [] h = absurd h
+bare_texts left (t ∷ ts) (l ∷ ls) h = (h.0, bare_texts left ts ls h.1)
+
+pub texts_taken : {S L : Type 0} (left : S → Option (List ℕ)) (told : Option (List (List ℕ))) (lanes mids : List (LaneView S L)) → mids ≡ map bare lanes
+    → IfSome told (λ ts. AreTextsOf left ts lanes) → IfSome told (λ ts. AreTextsOf left ts mids)
+texts_taken left None lanes mids taken h = tt
+texts_taken left (Some ts) lanes mids taken h = subst (λ (ls : List (LaneView _ _)). AreTextsOf left ts ls) (sym taken) (bare_texts left ts lanes h)
+
+bare_begun : {S L : Type 0} (read_of : L → Reads) (reads : Reads) (slack : Option ℤ) (shard : ℕ) (lanes : List (LaneView S L))
+    → AreBegunFrom read_of reads slack shard lanes → AreBegunFrom read_of reads slack shard (map bare lanes)
+bare_begun read_of reads slack shard [] h = tt
+bare_begun read_of reads slack shard (l ∷ ls) h = (
+  record { shard_is = h.0.shard_is; slack_is = h.0.slack_is; reads_are = h.0.reads_are; state_is = h.0.state_is },
+  bare_begun read_of reads slack (shard + 1) ls h.1,
+)
+
+module _ {S L : Type 0} (read_of : L → Reads) (reads : Reads) (slack : Option ℤ) where
+  first_reads : (lanes : List (LaneView S L)) → 1 ≤ length lanes → AreBegunFrom read_of reads slack 0 lanes → reads_by read_of lanes ≡ reads
+  first_reads [] some h = absurd (omega (arith, some))
+  first_reads (l ∷ ls) some h = h.0.reads_are
+
+  first_slack : (lanes : List (LaneView S L)) → 1 ≤ length lanes → AreBegunFrom read_of reads slack 0 lanes → slack_by read_of lanes ≡ slack
+  first_slack [] some h = absurd (omega (arith, some))
+  first_slack (l ∷ ls) some h = h.0.slack_is
+
+  all_begun : (lanes : List (LaneView S L)) → 1 ≤ length lanes → AreBegunFrom read_of reads slack 0 lanes → AreBegun read_of lanes
+  all_begun lanes some h =
+      subst (λ (r : Reads). AreBegunFrom read_of r (slack_by read_of lanes) 0 lanes) (sym (first_reads lanes some h))
+      (subst (λ (o : Option ℤ). AreBegunFrom read_of reads o 0 lanes) (sym (first_slack lanes some h)) h)
+
+  -- of lanes that began so the same, once their places were taken
+  module _ (lanes mids : List (LaneView S L)) (taken : mids ≡ map bare lanes) (some : 1 ≤ length mids) (begun : AreBegunFrom read_of reads slack 0 lanes) where
+    taken_from : AreBegunFrom read_of reads slack 0 mids
+    taken_from = subst (λ (ls : List (LaneView S L)). AreBegunFrom read_of reads slack 0 ls) (sym taken) (bare_begun read_of reads slack 0 lanes begun)
+
+    pub taken_begun : AreBegun read_of mids
+    taken_begun = all_begun mids some taken_from
+
+    pub taken_reads : reads_by read_of mids ≡ reads
+    taken_reads = first_reads mids some taken_from
+
+    pub taken_slack : slack_by read_of mids ≡ slack
+    taken_slack = first_slack mids some taken_from
+
+-- ---- the disk
+-- a run that keeps cuts if it is asked to may keep them in a search
+pub keeps_on : {D : Type 0} (history : D → Option History) (find : Find) (p : Planning) (bounds : FindBounds find) (mark : Mark) (head : CutHead)
+    (keep : Option (Keep D)) (lanes : ℕ) → head ≡ head_in find p → IsTrue (names_ascend p.mapping) → lanes ≡ length find.shards
+    → KeepsIfAsked history find.checkpoint keep → MayKeepOn history (plan_in find head mark) lanes keep
+keeps_on history find p bounds mark head keep lanes is names many keeps = by find.checkpoint bounds.kept keep keeps
+  where
+    by : (c : Option Checkpoint) → IfSome c KeptBounds → (k : Option (Keep _)) → KeepsIfAsked history c k
+        → MayKeepOn history (record { batch = find.batch; every = every_of c; head = head; mark = mark }) lanes k
+    by None kept None h = refl
+    by None kept (Some k) h = absurd h
+    by (Some c) kept None h = absurd h
+    by (Some c) kept (Some k) h = (
+      λ none. none-some c.every (sym none),
+      kept.1.0,
+      subst (λ (x : CutHead). IsTrue (names_ascend x.mapping)) (sym is) names,
+      ap CutHead.shards is ∙ sym many,
+      h,
     )
-
-    -- the report of which a front was written
-    pub report_by : (err err' : Option (List ℕ)) → length olds ≡ length find.shards → WroteFront (report_lines 0 (counts_in news)) err err'
-        → ReportOf left find plan olds err err'
-    report_by err err' many wrote = record {
-      counts = counts_in news;
-      count = length-map news (λ lane. lane.state.cut.counts) ∙ zip_count olds news was ∙ many;
-      wrote = wrote;
-      counts_are = counts_are;
-    }
-
--- all of a text is a front of it
-pub front_of_all : (text : List ℕ) (before now : Option (List ℕ)) → WroteAll text before now → WroteFront text before now
-front_of_all text None now wrote = tt
-front_of_all text (Some w) now wrote =
-    (length text, wrote ∙ ap (λ (t : List ℕ). Some (w ++ t)) (sym (take_all (length text) text (omega arith))))
-
--- ---- halts
-module _ {S L : Type 0} (left : S → Option (List ℕ)) where
-  -- the text of a lane, by its shard
-  text_at : (texts : List (List ℕ)) (lanes : List (LaneView S L)) (shard : ℕ) (lane : LaneView S L) → AreTextsOf left texts lanes
-      → slice_get lanes shard ≡ Some lane → (text : List ℕ) × (slice_get texts shard ≡ Some text) × IsTextOf left (Some text) lane
-  text_at [] [] shard lane told is = absurd cc
-  text_at [] (own ∷ lanes) shard lane told is = absurd told
-  text_at (text ∷ texts) [] shard lane told is = absurd told
-  text_at (text ∷ texts) (own ∷ lanes) zero lane told is =
-      let same : own ≡ lane = cc in
-      (text, refl, subst (λ (l : LaneView S L). IsTextOf left (Some text) l) same told.0)
-  text_at (text ∷ texts) (own ∷ lanes) (suc shard) lane told is = text_at texts lanes shard lane told.1 is
-
-  module _ (find : Find) (plan : Planned) (olds news : List (LaneView S L)) (many : length olds ≡ length find.shards) where
-    beyond_lines : (shard : ℕ) → BecameAt shard olds news (OutOfLines left) → (search : Search) (texts : List (List ℕ))
-        → Suits left find plan search texts olds → IsBeyond texts (many_lines shard)
-    beyond_lines shard out search texts suits =
-        let told = text_at texts olds shard out.old suits.texts_of out.was in
-        (told.0, told.1, out.became.texts told.0 told.2)
-
-    beyond_bytes : (shard : ℕ) → BecameAt shard olds news (OutOfBytes left) → (search : Search) (texts : List (List ℕ))
-        → Suits left find plan search texts olds → IsBeyond texts (many_bytes shard)
-    beyond_bytes shard out search texts suits =
-        let told = text_at texts olds shard out.old suits.texts_of out.was in
-        (told.0, told.1, out.became.texts told.0 told.2)
-
-    within : (shard : ℕ) (old : LaneView S L) → slice_get olds shard ≡ Some old → shard < length find.shards
-    within shard old was = let own = slice_get_within olds shard old was in omega (arith, own, many)
-
-    pub stopped_by : (before now : ℕ) (err err' : Option (List ℕ)) (why : Stop) (h : RunHalt) → HasCause left why olds news before now
-        → IsHaltOf find.shards why h → StoppedLanes left find plan olds err err' h
-    stopped_by before now err err' _ _ cause (read shard name named) = tt
-    stopped_by before now err err' _ _ cause write = tt
-    stopped_by before now err err' _ _ cause memory = tt
-    stopped_by before now err err' _ _ cause (lines shard) = (within shard cause.old cause.was, beyond_lines shard cause)
-    stopped_by before now err err' _ _ cause (bytes shard) = (within shard cause.old cause.was, beyond_bytes shard cause)
-
-    pub err_steady : {T : Type 0} (r : Result T Stop) (why : Stop) → r ≡ Err why → SteadyBut (λ shard. r ≡ Err (stop.Read shard)) olds news
-        → SteadyBut (λ shard. why ≡ stop.Read shard) olds news
-    err_steady r why is steady = λ shard old new untold. steady shard old new (λ e. untold (let same = sym is ∙ e in cc))
-
-    pub faults_by : (T : Type 0) (before now : ℕ) (why : Stop) (h : RunHalt) → HasCause left why olds news before now
-        → SteadyBut (λ shard. why ≡ stop.Read shard) olds news → IsHaltOf find.shards why h → LaneFaults {A = T} find (Err h) olds news
-    faults_by T before now _ _ cause steady (read shard name named) = record {
-      shard = shard;
-      named = named;
-      rose = cause;
-      others = λ other old new untold. steady other old new (λ e. untold cc);
-    }
-    faults_by T before now _ _ cause steady write = λ shard old new untold. steady shard old new (λ e. cc)
-    faults_by T before now _ _ cause steady memory = λ shard old new untold. steady shard old new (λ e. cc)
-    faults_by T before now _ _ cause steady (lines of) = λ shard old new untold. steady shard old new (λ e. cc)
-    faults_by T before now _ _ cause steady (bytes of) = λ shard old new untold. steady shard old new (λ e. cc)
-
-pub calm_by : (shards : List (List ℕ)) (why : Stop) (h : RunHalt) → IsNoFault why → IsHaltOf shards why h → ¬ IsFault h
-calm_by shards _ _ calm (read shard name named) fault = absurd calm
-calm_by shards _ _ calm write fault = absurd calm
-calm_by shards _ _ calm memory fault = fault
-calm_by shards _ _ calm (lines shard) fault = fault
-calm_by shards _ _ calm (bytes shard) fault = fault
-
--- a search that stopped refused no report
-pub no_report : (shards : List (List ℕ)) (why : Stop) (h : RunHalt) → IsHaltOf shards why h → ¬ IsReport h
-no_report shards _ _ (read shard name named) report = report
-no_report shards _ _ write report = report
-no_report shards _ _ memory report = report
-no_report shards _ _ (lines shard) report = report
-no_report shards _ _ (bytes shard) report = report

@@ -1,162 +1,212 @@
 -- A search over lanes, in the words of runs.
 use native.Mathlib.Omega.{arith}
-use Rattle.std.proofs.Common.{◌≡◌, ◌≤◌, ◌<◌, ◌^◌, ℕ, zero, suc, ℤ, Bool, List, [], ◌∷◌, length, Option, Some, None, Ok, Err, refl, sym, ap, ◌∙◌, subst}
-use Rattle.std.specs.Prelude.{All, Result, IfErr, OnErr, OnOk, map}
-use Rattle.std.specs.List.{AllZip}
+use Rattle.std.proofs.Common.{◌≡◌, ◌≤◌, ◌<◌, ◌^◌, ℕ, suc, ℤ, true, List, [], ◌∷◌, length, Option, Some, None, Ok, Err, refl, sym, ap, ◌∙◌, subst}
+use Rattle.std.specs.Prelude.{All, Result, IfErr, IfSome, OnErr, OnOk}
 use Rattle.std.specs.Option.{option_map}
 use Rattle.std.proofs.lemmas.Option.{slice_get_within}
 use Rattle.std.proofs.lemmas.List.{append-nil}
-use Rattle.std.proofs.lemmas.Result.{IfErr-weaker, on_err_weaker}
+use Rattle.std.proofs.lemmas.List.Elements.{All-nil}
+use Rattle.std.proofs.lemmas.Result.{IfErr-weaker, on_err_weaker, on_ok_weaker}
 use Rattle.eql_values.specs.Accepted.{Reads}
-use Rattle.eql_values.specs.declared.cut.Pipe.{Pipe}
+use Rattle.eql_values.specs.declared.found.Holder.{Holder}
+use Rattle.eql_values.specs.declared.order.Mark.{Mark}
 use Rattle.eql_outside.specs.Written.{WroteAll, WroteFront}
 use Rattle.eql_laws.specs.Books.{greatest_shards}
 use Rattle.eql_laws.specs.Counting.{IsShardText}
-use Rattle.eql_stages.specs.Planned.{Planned, line_of}
-use Rattle.eql_stages.specs.Stages.{stages_in, span_in, pipe_of}
+use Rattle.eql_check.specs.Kinds.{kind_at}
+use Rattle.eql_check.specs.Typing.{IsChecked}
+use Rattle.eql_stages.specs.Planned.{line_of, planned}
+use Rattle.eql_stages.specs.Stages.{stages_in, span_in}
 use Rattle.eql_words.specs.declared.commands.Find.{Find}
 use Rattle.eql_lane.specs.Slacks.{nanos_of}
 use Rattle.eql_lane.specs.Views.{LaneView}
 use Rattle.eql_lane.specs.declared.ops.LimitOf.TheVariants as reached
+use Rattle.eql_book.specs.Books.{BookState}
+use Rattle.eql_cut.specs.declared.cut.Cut.{Cut}
+use Rattle.eql_resume.specs.Beginnings.{Rest}
 use Rattle.eql_runs.specs.RunLaws.{MatchesAreFew}
-use Rattle.eql_runs.specs.Searches.{Search, plan_of, reads_of, slack_of, stages_of, pipes_of, matches_of, nanos_in}
+use Rattle.eql_runs.specs.Searches.{Search, matches_of, nanos_in, pipes_of, plan_of, reads_of, slack_of}
 use Rattle.eql_runs.specs.Searches as runs
 use Rattle.eql_search.specs.declared.stop.Stop.{Stop}
 use Rattle.eql_search.specs.declared.stop.Stop.TheVariants as stop
-use Rattle.eql_search.specs.Answers.{HasCause, StaysLane, WasRead}
-use Rattle.eql_search.specs.Searches.{Rules, AreTextsOf, HasNumbers, listing_of, reads_by, rules_of, slack_by}
-use Rattle.eql_find.specs.Searching.{Suits}
+use Rattle.eql_search.specs.Answers.{HasCause, WereRead}
+use Rattle.eql_search.specs.Beginnings.{BeginsOn, MayBegin, cuts_of, start_at}
+use Rattle.eql_search.specs.Keeping.{AreSearchCuts, IsSearchCut}
+use Rattle.eql_search.specs.Searches.{AreTextsOf, HasNumbers, Rules, reads_by, rest_of, rules_of, slack_by}
+use Rattle.eql_find.specs.declared.plan.Planning.{Planning}
+use Rattle.eql_find.specs.Running.{AreSearched}
+use Rattle.eql_find.specs.Searching.{StartsOn, rules_in, search_in}
+use Rattle.eql_find.specs.Starting.{pipes_of as own_pipes}
 use Rattle.eql_find.specs.Stops.{MayStop}
+
+-- ---- the rules of a search
+pub slack_same : (slack : Option ℕ) → nanos_of slack ≡ option_map nanos_in slack
+slack_same None = refl
+slack_same (Some ms) = refl
+
+pub rules_are : {S L : Type 0} (read_of : L → Reads) (find : Find) (p : Planning) (lanes : List (LaneView S L)) (stages : ℕ) (span : Option ℤ)
+    → planned p.plan ≡ plan_of (search_in find p) → reads_by read_of lanes ≡ line_of (planned p.plan) → slack_by read_of lanes ≡ nanos_of find.slack
+    → stages ≡ length (stages_in (planned p.plan).query.body) → span ≡ span_in (planned p.plan).query.body
+    → rules_of read_of stages span lanes ≡ rules_in (search_in find p)
+rules_are read_of find p lanes stages span plan reads slack count is =
+    let reads_is : reads_by read_of lanes ≡ reads_of (search_in find p) = reads ∙ ap line_of plan in
+    let slack_is : slack_by read_of lanes ≡ slack_of (search_in find p) = slack ∙ slack_same find.slack in
+    λ i. record { reads = reads_is i; slack = slack_is i; stages = count i; span = is i }
+
+-- ---- texts
+pub text_count : {S L : Type 0} (left : S → Option (List ℕ)) (texts : List (List ℕ)) (lanes : List (LaneView S L)) → AreTextsOf left texts lanes
+    → length texts ≡ length lanes
+text_count left [] [] told = refl
+text_count left [] (lane ∷ lanes) told = absurd told
+text_count left (text ∷ texts) [] told = absurd told
+text_count left (text ∷ texts) (lane ∷ lanes) told = ap suc (text_count left texts lanes told.1)
+
+-- ---- by cases of whether texts are told
+pub told_two : (told : Option (List (List ℕ))) (P Q R : List (List ℕ) → Type 0) → ((ts : List (List ℕ)) → P ts → Q ts → R ts)
+    → IfSome told P → IfSome told Q → IfSome told R
+told_two None P Q R f a b = tt
+told_two (Some ts) P Q R f a b = f ts a b
+
+pub told_each : (told : Option (List (List ℕ))) (P R : List (List ℕ) → Type 0) → ((ts : List (List ℕ)) → told ≡ Some ts → P ts → R ts)
+    → IfSome told P → IfSome told R
+told_each None P R f a = tt
+told_each (Some ts) P R f a = f ts refl a
+
+told_both : (told : Option (List (List ℕ))) (P Q R : List (List ℕ) → Type 0) → ((ts : List (List ℕ)) → told ≡ Some ts → P ts → Q ts → R ts)
+    → IfSome told P → IfSome told Q → IfSome told R
+told_both None P Q R f a b = tt
+told_both (Some ts) P Q R f a b = f ts refl a b
+
+pub told_at : (told : Option (List (List ℕ))) (P : List (List ℕ) → Type 0) → IfSome told P → (ts : List (List ℕ)) → told ≡ Some ts → P ts
+told_at told P h ts e = subst (λ (o : Option (List (List ℕ))). IfSome o P) e h
 
 -- ---- answers
 pub ok_both : {T E P Q R : Type 0} (r : Result T E) → (P → Q → R) → OnOk r P → OnOk r Q → OnOk r R
 ok_both (Ok x) f p q = f p q
 ok_both (Err e) f p q = tt
 
-pub err_both : {T E P Q R : Type 0} (r : Result T E) → (P → Q → R) → OnErr r P → OnErr r Q → OnErr r R
-err_both (Ok x) f p q = tt
-err_both (Err e) f p q = f p q
+-- ---- what a search does
+-- the book of a run before its search
+abbrev pub own_book : Find → Planning → Rest → BookState
+own_book find p rest = record { pipes = own_pipes p; places = find.places; kept = rest.book; whole = true }
 
--- ---- the rules of a search
-slack_same : (slack : Option ℕ) → nanos_of slack ≡ option_map nanos_in slack
-slack_same None = refl
-slack_same (Some ms) = refl
+-- a search over lanes by these rules, from a mark, what is pending and a book, is that of the words from what the rest is
+module _ {S L : Type 0} (left : S → Option (List ℕ)) (few : MatchesAreFew) (find : Find) (p : Planning) (told : Option (List (List ℕ)))
+    (olds : List (LaneView S L)) (rules : Rules) (rest : Rest) (mark : Mark) (holders : List Holder) (book : BookState)
+    (checked : IfSome told (λ ts. IsChecked (kind_at p.mapping) (search_in find p).query)) (texts_of : IfSome told (λ ts. AreTextsOf left ts olds))
+    (count : length olds ≤ greatest_shards) (rules_is : rules ≡ rules_in (search_in find p)) (mark_is : mark ≡ rest.mark)
+    (holders_is : holders ≡ rest.holders) (book_is : book ≡ own_book find p rest) where
+  -- what it begins with is nothing, or a cut of texts; and the same in words of the run
+  abbrev Begins : List (List ℕ) → Type 0
+  Begins ts = BeginsOn rules book.pipes ts (start_at mark (cuts_of olds) holders book.kept)
 
--- the rules that a search goes by
-abbrev rules_in : Search → Rules
-rules_in search = record { reads = reads_of search; slack = slack_of search; stages = stages_of search; span = span_in search.query.body }
+  abbrev Starts : List (List ℕ) → Type 0
+  Starts ts = StartsOn (search_in find p) ts rest.mark (cuts_of olds) rest.holders rest.book
 
-module _ {S L : Type 0} (left : S → Option (List ℕ)) (read_of : L → Reads) (find : Find) (plan : Planned) (search : Search)
-    (texts : List (List ℕ)) (lanes : List (LaneView S L)) (suits : Suits left find plan search texts lanes)
-    (reads : reads_by read_of lanes ≡ line_of plan) (slack : slack_by read_of lanes ≡ nanos_of find.slack) where
-  pub reads_are : reads_by read_of lanes ≡ reads_of search
-  reads_are = reads ∙ ap line_of (sym suits.plan_is)
+  count_at : (ts : List (List ℕ)) → told ≡ Some ts → length ts ≤ greatest_shards
+  count_at ts e =
+      let same : length ts ≡ length olds = text_count left ts olds (told_at told (λ (us : List (List ℕ)). AreTextsOf left us olds) texts_of ts e) in
+      omega (arith, count, same)
 
-  pub slack_is : slack_by read_of lanes ≡ slack_of search
-  slack_is = slack ∙ ap nanos_of (sym suits.slack_is) ∙ slack_same search.slack
+  few_at : (ts : List (List ℕ)) → told ≡ Some ts → All IsShardText ts → length (matches_of (search_in find p) ts) < 2 ^ 64
+  few_at ts e within = few (search_in find p) ts (told_at told (λ (us : List (List ℕ)). IsChecked (kind_at p.mapping) (search_in find p).query) checked ts e) (count_at ts e) within
 
-  rules_are : (stages : ℕ) (span : Option ℤ) → stages ≡ length (stages_in plan.query.body) → span ≡ span_in plan.query.body
-      → rules_of read_of stages span lanes ≡ rules_in search
-  rules_are stages span count is =
-      let count_is : stages ≡ stages_of search = count ∙ ap (λ (p : Planned). length (stages_in p.query.body)) (sym suits.plan_is) in
-      let span_is : span ≡ span_in search.query.body = is ∙ ap (λ (p : Planned). span_in p.query.body) (sym suits.plan_is) in
-      λ i. record { reads = reads_are i; slack = slack_is i; stages = count_is i; span = span_is i }
+  numbers_of : (ts : List (List ℕ)) → length (matches_of (search_in find p) ts) < 2 ^ 64 → HasNumbers rules ts
+  numbers_of ts less = subst (λ (r : Rules). HasNumbers r ts) (sym rules_is) less
 
-  numbers_by : (rules : Rules) → rules ≡ rules_in search → length (matches_of search texts) < 2 ^ 64 → HasNumbers rules texts
-  numbers_by rules is few = subst (λ (r : Rules). HasNumbers r texts) (sym is) few
+  starts_at : (ts : List (List ℕ)) → Starts ts → Begins ts
+  starts_at ts h =
+      subst (λ (r : Rules). BeginsOn r book.pipes ts (start_at mark (cuts_of olds) holders book.kept)) (sym rules_is)
+      (subst (λ (b : BookState). BeginsOn (rules_in (search_in find p)) b.pipes ts (start_at mark (cuts_of olds) holders b.kept)) (sym book_is)
+      (subst (λ (m : Mark). BeginsOn (rules_in (search_in find p)) (own_pipes p) ts (start_at m (cuts_of olds) holders rest.book)) (sym mark_is)
+      (subst (λ (hs : List Holder). BeginsOn (rules_in (search_in find p)) (own_pipes p) ts (start_at rest.mark (cuts_of olds) hs rest.book)) (sym holders_is) h)))
 
-  listing_is : (rules : Rules) (pipes : List Pipe) (places : Bool) → rules ≡ rules_in search → pipes ≡ map pipe_of plan.query.pipes
-      → places ≡ find.places → listing_of rules pipes places texts ≡ runs.listing_of search texts
-  listing_is rules pipes places is through flag =
-      let pipes_are : pipes ≡ pipes_of search = through ∙ ap (λ (p : Planned). map pipe_of p.query.pipes) (sym suits.plan_is) in
-      let places_are : places ≡ search.places = flag ∙ sym suits.places_are in
-      λ i. listing_of (is i) (pipes_are i) (places_are i) texts
+  pub may_begin : MayBegin (rules_in (search_in find p)) (own_pipes p) rest.mark (cuts_of olds) rest.holders rest.book
+      → MayBegin rules book.pipes mark (cuts_of olds) holders book.kept
+  may_begin h =
+      subst (λ (r : Rules). MayBegin r book.pipes mark (cuts_of olds) holders book.kept) (sym rules_is)
+      (subst (λ (b : BookState). MayBegin (rules_in (search_in find p)) b.pipes mark (cuts_of olds) holders b.kept) (sym book_is)
+      (subst (λ (m : Mark). MayBegin (rules_in (search_in find p)) (own_pipes p) m (cuts_of olds) holders rest.book) (sym mark_is)
+      (subst (λ (hs : List Holder). MayBegin (rules_in (search_in find p)) (own_pipes p) rest.mark (cuts_of olds) hs rest.book) (sym holders_is) h)))
 
--- ---- texts that were read
-all_more : (text : List ℕ) (texts : List (List ℕ)) → IsShardText text → All IsShardText texts → All IsShardText (text ∷ texts)
-all_more text texts own others zero d h = own
-all_more text texts own others (suc k) d h = others k d (omega (arith, h))
+  -- what it writes
+  module _ (news : List (LaneView S L)) (before now : Option (List ℕ)) where
+    listing_is : (ts : List (List ℕ)) → rest_of rules book.pipes book.places book.kept.listed ts ≡ runs.rest_of (search_in find p) rest.book.listed ts
+    listing_is ts = λ i. rest_of (rules_is i) ((book_is i).pipes) ((book_is i).places) ((book_is i).kept.listed) ts
 
-module _ {S L : Type 0} (left : S → Option (List ℕ)) (read_of : L → Reads) where
-  within_all : (texts : List (List ℕ)) (olds news : List (LaneView S L)) → AllZip (WasRead left read_of) olds news → AreTextsOf left texts olds
-      → All IsShardText texts
-  within_all [] olds news read told = λ k d h. absurd (omega (arith, h))
-  within_all (text ∷ texts) [] news read told = absurd told
-  within_all (text ∷ texts) (old ∷ olds) [] read told = absurd read
-  within_all (text ∷ texts) (old ∷ olds) (new ∷ news) read told =
-      all_more text texts (read.0.within text told.0) (within_all texts olds news read.1 told.1)
+    all_written :
+        IfSome told (λ ts. Begins ts → WereRead rules.reads rules.slack ts news)
+        → IfSome told (λ ts. Begins ts → HasNumbers rules ts → WroteAll (rest_of rules book.pipes book.places book.kept.listed ts) before now)
+        → IfSome told (λ ts. Starts ts → WroteAll (runs.rest_of (search_in find p) rest.book.listed ts) before now)
+    all_written = told_both told (λ ts. Begins ts → WereRead rules.reads rules.slack ts news)
+        (λ ts. Begins ts → HasNumbers rules ts → WroteAll (rest_of rules book.pipes book.places book.kept.listed ts) before now)
+        (λ ts. Starts ts → WroteAll (runs.rest_of (search_in find p) rest.book.listed ts) before now)
+        (λ ts e read wrote begins.
+        subst (λ (bytes : List ℕ). WroteAll bytes before now) (listing_is ts)
+        (wrote (starts_at ts begins) (numbers_of ts (few_at ts e (read (starts_at ts begins)).within))))
 
-  pub text_count : (texts : List (List ℕ)) (lanes : List (LaneView S L)) → AreTextsOf left texts lanes → length texts ≡ length lanes
-  text_count [] [] told = refl
-  text_count [] (lane ∷ lanes) told = absurd told
-  text_count (text ∷ texts) [] told = absurd told
-  text_count (text ∷ texts) (lane ∷ lanes) told = ap suc (text_count texts lanes told.1)
+    pub whole_written : {T E : Type 0} (r : Result T E)
+        → OnOk r (IfSome told (λ ts. Begins ts → WereRead rules.reads rules.slack ts news))
+        → OnOk r (IfSome told (λ ts. Begins ts → HasNumbers rules ts → WroteAll (rest_of rules book.pipes book.places book.kept.listed ts) before now))
+        → OnOk r (IfSome told (λ ts. Starts ts → WroteAll (runs.rest_of (search_in find p) rest.book.listed ts) before now))
+    whole_written r = ok_both r all_written
 
-  pub stay : (lent_as : S → Option (List ℕ)) (lanes : List (LaneView S L)) → AllZip (StaysLane left lent_as read_of) lanes lanes
-  stay lent_as [] = tt
-  stay lent_as (lane ∷ lanes) = (
-    record {
-      same = record { shard = refl; slack = refl; reads = refl; named = refl; places = refl; silent = λ h. h };
-      texts = λ text h. h;
-      counts = omega arith;
-    },
-    stay lent_as lanes,
-  )
+    pub front_written : {T E : Type 0} (r : Result T E)
+        → OnErr r (IfSome told (λ ts. Begins ts → (All IsShardText ts → HasNumbers rules ts) → WroteFront (rest_of rules book.pipes book.places book.kept.listed ts) before now))
+        → OnErr r (IfSome told (λ ts. Starts ts → WroteFront (runs.rest_of (search_in find p) rest.book.listed ts) before now))
+    front_written r = on_err_weaker r (told_each told
+        (λ ts. Begins ts → (All IsShardText ts → HasNumbers rules ts) → WroteFront (rest_of rules book.pipes book.places book.kept.listed ts) before now)
+        (λ ts. Starts ts → WroteFront (runs.rest_of (search_in find p) rest.book.listed ts) before now)
+        (λ ts e h begins.
+        subst (λ (bytes : List ℕ). WroteFront bytes before now) (listing_is ts) (h (starts_at ts begins) (λ within. numbers_of ts (few_at ts e within)))))
 
--- ---- what a search writes
-module _ {S L : Type 0} (left : S → Option (List ℕ)) (read_of : L → Reads) (few : MatchesAreFew) (find : Find) (plan : Planned)
-    (olds news : List (LaneView S L)) (stages : ℕ) (span : Option ℤ) (pipes : List Pipe) (places : Bool)
-    (reads : reads_by read_of olds ≡ line_of plan) (slack : slack_by read_of olds ≡ nanos_of find.slack)
-    (stages_are : stages ≡ length (stages_in plan.query.body)) (span_is : span ≡ span_in plan.query.body)
-    (pipes_are : pipes ≡ map pipe_of plan.query.pipes) (places_are : places ≡ find.places)
-    (count : length olds ≤ greatest_shards) (before now : Option (List ℕ)) where
-  abbrev pub rules : Rules
-  rules = rules_of read_of stages span olds
+  -- what it reads
+  pub were_read : {T E : Type 0} (r : Result T E) (news : List (LaneView S L)) (reads : Reads) (slack : Option ℤ) → rules.reads ≡ reads → rules.slack ≡ slack
+      → OnOk r (IfSome told (λ ts. Begins ts → WereRead rules.reads rules.slack ts news))
+      → OnOk r (IfSome told (λ ts. Starts ts → WereRead reads slack ts news))
+  were_read r news reads slack same equal = on_ok_weaker r (told_each told (λ ts. Begins ts → WereRead rules.reads rules.slack ts news)
+      (λ ts. Starts ts → WereRead reads slack ts news)
+      (λ ts e h begins.
+      subst (λ (x : Reads). WereRead x slack ts news) same (subst (λ (x : Option ℤ). WereRead rules.reads x ts news) equal (h (starts_at ts begins)))))
 
-  numbers_within : (search : Search) (texts : List (List ℕ)) → Suits left find plan search texts olds → All IsShardText texts → HasNumbers rules texts
-  numbers_within search texts suits all =
-      let many : length texts ≤ greatest_shards = omega (arith, count, text_count left read_of texts olds suits.texts_of) in
-      numbers_by left read_of find plan search texts olds suits reads slack rules (rules_are left read_of find plan search texts olds suits reads slack stages span stages_are span_is)
-      (few search texts suits.checked many all)
+  -- which cuts it puts
+  pub are_searched : (cuts : List Cut) → IfSome told (λ ts. Begins ts → HasNumbers rules ts → AreSearchCuts rules book.pipes ts cuts)
+      → IfSome told (λ ts. Starts ts → AreSearched (search_in find p) ts cuts)
+  are_searched cuts = told_each told (λ ts. Begins ts → HasNumbers rules ts → AreSearchCuts rules book.pipes ts cuts)
+      (λ ts. Starts ts → AreSearched (search_in find p) ts cuts)
+      (λ ts e h begins less.
+      subst (λ (r : Rules). AreSearchCuts r (own_pipes p) ts cuts) rules_is
+      (subst (λ (b : BookState). AreSearchCuts rules b.pipes ts cuts) book_is (h (starts_at ts begins) (numbers_of ts less))))
 
-  numbers : (search : Search) (texts : List (List ℕ)) → Suits left find plan search texts olds → AllZip (WasRead left read_of) olds news → HasNumbers rules texts
-  numbers search texts suits read = numbers_within search texts suits (within_all left read_of texts olds news read suits.texts_of)
-
-  listed : (search : Search) (texts : List (List ℕ)) → Suits left find plan search texts olds → listing_of rules pipes places texts ≡ runs.listing_of search texts
-  listed search texts suits =
-      listing_is left read_of find plan search texts olds suits reads slack rules pipes places
-      (rules_are left read_of find plan search texts olds suits reads slack stages span stages_are span_is)
-      pipes_are places_are
-
-  pub all_written : {T E : Type 0} (r : Result T E) → OnOk r (AllZip (WasRead left read_of) olds news)
-      → OnOk r ((texts : List (List ℕ)) → AreTextsOf left texts olds → HasNumbers rules texts → WroteAll (listing_of rules pipes places texts) before now)
-      → OnOk r ((search : Search) (texts : List (List ℕ)) → Suits left find plan search texts olds → WroteAll (runs.listing_of search texts) before now)
-  all_written r = ok_both r (λ read wrote search texts suits.
-      subst (λ (bytes : List ℕ). WroteAll bytes before now) (listed search texts suits) (wrote texts suits.texts_of (numbers search texts suits read)))
-
-  -- a front of the listing was written, where the matches of texts that shards may have are few
-  pub front_written : {T E : Type 0} (r : Result T E)
-      → OnErr r ((texts : List (List ℕ)) → AreTextsOf left texts olds → (All IsShardText texts → HasNumbers rules texts) → WroteFront (listing_of rules pipes places texts) before now)
-      → OnErr r ((search : Search) (texts : List (List ℕ)) → Suits left find plan search texts olds → WroteFront (runs.listing_of search texts) before now)
-  front_written r = on_err_weaker r (λ wrote search texts suits.
-      subst (λ (bytes : List ℕ). WroteFront bytes before now) (listed search texts suits) (wrote texts suits.texts_of (numbers_within search texts suits)))
+-- a search that wasn't begun put no cuts
+pub none_searched : (search : Search) (told : Option (List (List ℕ))) (Starts : List (List ℕ) → Type 0)
+    → IfSome told (λ ts. Starts ts → AreSearched search ts [])
+none_searched search None Starts = tt
+none_searched search (Some ts) Starts = λ starts less slack is from to. All-nil (IsSearchCut (rules_in search) (pipes_of search) ts slack)
 
 -- nothing written is a front
-pub front_none : (lines : List ℕ) (before : Option (List ℕ)) → WroteFront lines before before
+front_none : (lines : List ℕ) (before : Option (List ℕ)) → WroteFront lines before before
 front_none lines None = tt
 front_none lines (Some w) = (0, ap Some (sym (append-nil w)))
 
--- ---- why it stops
-may_by : {S L : Type 0} (left : S → Option (List ℕ)) (shards : ℕ) (olds news : List (LaneView S L)) → length olds ≡ shards → (before now : ℕ) (why : Stop)
-    → HasCause left why olds news before now → MayStop shards why
-may_by left shards olds news count before now (stop.Read shard) cause = let within = slice_get_within olds shard cause.old cause.was in omega (arith, count, within)
-may_by left shards olds news count before now stop.Write cause = tt
-may_by left shards olds news count before now stop.Memory cause = tt
-may_by left shards olds news count before now (stop.Limit (reached.Lines shard)) cause = let within = slice_get_within olds shard cause.old cause.was in omega (arith, count, within)
-may_by left shards olds news count before now (stop.Limit (reached.Bytes shard)) cause = let within = slice_get_within olds shard cause.old cause.was in omega (arith, count, within)
-may_by left shards olds news count before now (stop.Limit reached.Turns) cause = absurd cause
-may_by left shards olds news count before now (stop.Limit reached.Generation) cause = absurd cause
+pub fronts_none : (told : Option (List (List ℕ))) (Starts : List (List ℕ) → Type 0) (lines : List (List ℕ) → List ℕ) (before : Option (List ℕ))
+    → IfSome told (λ ts. Starts ts → WroteFront (lines ts) before before)
+fronts_none None Starts lines before = tt
+fronts_none (Some ts) Starts lines before = λ starts. front_none (lines ts) before
 
-pub may_stop : {T S L : Type 0} (left : S → Option (List ℕ)) (shards : ℕ) (olds news : List (LaneView S L)) → length olds ≡ shards → (before now : ℕ) (r : Result T Stop)
-    → IfErr r (λ why. HasCause left why olds news before now) → IfErr r (MayStop shards)
-may_stop left shards olds news count before now r = IfErr-weaker r _ _ (may_by left shards olds news count before now)
+-- ---- why it stops
+may_by : {S L : Type 0} (texts : Option (List (List ℕ))) (shards : ℕ) (olds news : List (LaneView S L)) → length olds ≡ shards
+    → (before now disk_before disk_now : ℕ) (why : Stop) → HasCause texts why olds news before now disk_before disk_now → MayStop shards why
+may_by texts shards olds news count before now d e (stop.Read shard) cause = let within = slice_get_within olds shard cause.old cause.was in omega (arith, count, within)
+may_by texts shards olds news count before now d e stop.Write cause = tt
+may_by texts shards olds news count before now d e stop.Disk cause = tt
+may_by texts shards olds news count before now d e stop.Memory cause = tt
+may_by texts shards olds news count before now d e (stop.Limit (reached.Lines shard)) cause = let within = slice_get_within olds shard cause.old cause.was in omega (arith, count, within)
+may_by texts shards olds news count before now d e (stop.Limit (reached.Bytes shard)) cause = let within = slice_get_within olds shard cause.old cause.was in omega (arith, count, within)
+may_by texts shards olds news count before now d e (stop.Limit reached.Turns) cause = absurd cause
+may_by texts shards olds news count before now d e (stop.Limit reached.Generation) cause = tt
+
+pub may_stop : {T S L : Type 0} (texts : Option (List (List ℕ))) (shards : ℕ) (olds news : List (LaneView S L)) → length olds ≡ shards
+    → (before now disk_before disk_now : ℕ) (r : Result T Stop) → IfErr r (λ why. HasCause texts why olds news before now disk_before disk_now)
+    → IfErr r (MayStop shards)
+may_stop texts shards olds news count before now d e r = IfErr-weaker r _ _ (may_by texts shards olds news count before now d e)

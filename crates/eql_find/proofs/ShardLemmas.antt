@@ -1,10 +1,10 @@
--- The lanes of a run as a search takes them, and a run whose lanes weren't made.
+-- The counts of a run: of a shelf, of its disk, and of sources that came back.
 use native.Mathlib.Omega.{arith}
-use Rattle.std.proofs.Common.{◌≡◌, ℕ, ℤ, ◌+◌, ◌-◌, ◌<◌, ◌≤◌, ◌⊎◌, inl, inr, List, [], ◌∷◌, Option, Some, None, Ok, Err, refl, sym, ap, ◌∙◌, subst, length, map, suc, zero}
+use Rattle.std.proofs.Common.{◌≡◌, ℕ, ◌+◌, ◌-◌, ◌<◌, ◌≤◌, inl, inr, List, [], ◌∷◌, Option, Some, None, Ok, Err, refl, sym, ap, ◌∙◌, subst, length, map, suc, zero, false}
 use Rattle.std.specs.Prelude.{All, IfSome, slice_get, Result}
 use Rattle.std.specs.Borrow.{Bor}
 use Rattle.std.specs.List.{AllZip}
-use Rattle.std.proofs.lemmas.List.{length-map}
+use Rattle.std.proofs.lemmas.Bool.{false≢true}
 use Rattle.std.proofs.lemmas.List.Elements.{All-head, All-tail, All-cons, All-nil}
 use Rattle.std.proofs.lemmas.Option.{same_Some, none-some, slice_get_within, get_or_from_slice_get}
 use Rattle.eql_values.specs.Accepted.{Reads}
@@ -12,73 +12,38 @@ use Rattle.eql_outside.specs.Outside.{Rose}
 use Rattle.eql_outside.specs.Faults.{SameFaults, RoseFor, RoseUnder}
 use Rattle.eql_outside.specs.Plans.{FaultPlan}
 use Rattle.eql_outside.specs.Unfailing.{IsUnfailing}
-use Rattle.eql_stages.specs.Planned.{PlanOf}
 use Rattle.eql_words.specs.declared.commands.Find.{Find}
+use Rattle.eql_lane.specs.declared.make.LaneRefused.{LaneRefused}
+use Rattle.eql_lane.specs.declared.make.LaneRefused.TheVariants as refused
+use Rattle.eql_lane.specs.declared.make.LaneStart.{LaneStart}
 use Rattle.eql_lane.specs.Views.{LaneView}
-use Rattle.eql_lane.specs.declared.ops.LimitOf.TheVariants as reached
-use Rattle.eql_runs.specs.Files.{Files}
-use Rattle.eql_inputs.specs.Shards.{AreWholeFiles}
 use Rattle.eql_inputs.specs.declared.halt.Halt.TheVariants as halt
-use Rattle.eql_search.specs.Answers.{SteadyBut, StaysLane, AreUnfailing}
-use Rattle.eql_search.specs.Searches.{AreFreshFrom, AreFresh, reads_by, slack_by}
-use Rattle.eql_search.specs.declared.stop.Stop.{Stop}
-use Rattle.eql_search.specs.declared.stop.Stop.TheVariants as by
+use Rattle.eql_search.specs.Answers.{AreUnfailing, SteadyBut}
+use Rattle.eql_find.specs.declared.halt.CutStop.TheVariants as cut
 use Rattle.eql_find.specs.declared.halt.RunHalt.{RunHalt}
 use Rattle.eql_find.specs.declared.halt.RunHalt.TheVariants as run
-use Rattle.eql_find.specs.Finding.{IsPlanOf, HasCause}
-use Rattle.eql_find.specs.Halts.{FaultsAs, CountAs, OutAs, ErrAs, IsRefusal, IsFault, TellsNothing}
-use Rattle.eql_find.specs.Lanes.{AreOver, CameBack, StoppedAt, StoppedMaking, lane_returned}
+use Rattle.eql_find.specs.Halts.{FaultsAs, CountAs, DiskAs, OutAs, ErrAs, IsFault, IsReport, TellsNothing}
+use Rattle.eql_find.specs.Lanes.{AreOver, CameBack, StaysSource, StoppedMaking, lane_returned}
 use Rattle.eql_find.specs.Searching.{LaneFaults}
-use Rattle.eql_find.specs.Stops.{MayStop, IsHaltOf, read, write, memory, lines, bytes}
-use Rattle.eql_find.proofs.CauseLemmas.{read_cause}
+use Rattle.eql_find.specs.Stops.{IsHaltAt, short, no_line, grown, failed, unmade}
 use Rattle.eql_find.proofs.FailLemmas.{AreNamed, none_failed_lanes, one_failed_lane}
-use Rattle.eql_find.proofs.MakingLemmas.{read_or_memory}
-use Rattle.eql_find.proofs.PlanLemmas.{parts_of}
+use Rattle.eql_find.proofs.MakingLemmas.{by_failure, not_failed}
+use Rattle.eql_find.proofs.TextLemmas.{as_many, parts_of}
 
--- as many sources as names
-pub as_many : {S : Type 0} (lent_as : S → Option (List ℕ)) (sources : List S) (names : List (List ℕ))
-    → map lent_as sources ≡ map (λ (n : List ℕ). Some n) names → length sources ≡ length names
-as_many lent_as sources names is =
-    sym (length-map sources lent_as) ∙ ap length is ∙ length-map names (λ (n : List ℕ). Some n)
-
-module _ {S L : Type 0} (left lent_as : S → Option (List ℕ)) (faults : S → ℕ) (plan : S → Option FaultPlan) (read_of : L → Reads)
-    (reads : Reads) (slack : Option ℤ) where
-  fresh_from : (shard : ℕ) (sources : List S) (lanes : List (LaneView S L))
-      → AreOver left lent_as faults plan read_of reads slack shard sources lanes → AreFreshFrom read_of reads slack shard lanes
-  fresh_from shard [] [] over = tt
-  fresh_from shard [] (l ∷ ls) over = absurd over
-  fresh_from shard (s ∷ ss) [] over = absurd over
-  fresh_from shard (s ∷ ss) (l ∷ ls) over = (over.0.fresh, fresh_from (shard + 1) ss ls over.1)
-
-  pub reads_are : (sources : List S) (lanes : List (LaneView S L)) → 1 ≤ length sources
-      → AreOver left lent_as faults plan read_of reads slack 0 sources lanes → reads_by read_of lanes ≡ reads
-  reads_are [] lanes some over = absurd (omega (arith, some))
-  reads_are (s ∷ ss) [] some over = absurd over
-  reads_are (s ∷ ss) (l ∷ ls) some over = over.0.fresh.reads_are
-
-  pub slack_is : (sources : List S) (lanes : List (LaneView S L)) → 1 ≤ length sources
-      → AreOver left lent_as faults plan read_of reads slack 0 sources lanes → slack_by read_of lanes ≡ slack
-  slack_is [] lanes some over = absurd (omega (arith, some))
-  slack_is (s ∷ ss) [] some over = absurd over
-  slack_is (s ∷ ss) (l ∷ ls) some over = over.0.fresh.slack_is
-
-  pub are_fresh : (sources : List S) (lanes : List (LaneView S L)) → 1 ≤ length sources
-      → AreOver left lent_as faults plan read_of reads slack 0 sources lanes → AreFresh read_of lanes
-  are_fresh sources lanes some over =
-      subst (λ (r : Reads). AreFreshFrom read_of r (slack_by read_of lanes) 0 lanes) (sym (reads_are sources lanes some over))
-      (subst (λ (o : Option ℤ). AreFreshFrom read_of reads o 0 lanes) (sym (slack_is sources lanes some over))
-      (fresh_from 0 sources lanes over))
-
-  pub unfailing_over : (shard : ℕ) (sources : List S) (lanes : List (LaneView S L))
-      → AreOver left lent_as faults plan read_of reads slack shard sources lanes → All (λ source. IsUnfailing (plan source)) sources
-      → AreUnfailing plan lanes
-  unfailing_over shard [] [] over all = All-nil (λ lane. IsUnfailing (plan lane.source))
-  unfailing_over shard [] (l ∷ ls) over all = absurd over
-  unfailing_over shard (s ∷ ss) [] over all = absurd over
-  unfailing_over shard (s ∷ ss) (l ∷ ls) over all =
-      All-cons (λ lane. IsUnfailing (plan lane.source)) l ls
-      (over.0.unfailing (All-head (λ source. IsUnfailing (plan source)) s ss all))
-      (unfailing_over (shard + 1) ss ls over.1 (All-tail (λ source. IsUnfailing (plan source)) s ss all))
+-- sources of which no take fails make such lanes
+pub unfailing_over : {S L : Type 0} (left lent_as : S → Option (List ℕ)) (faults : S → ℕ) (plan : S → Option FaultPlan) (read_of : L → Reads)
+    (reads : Reads) (slack : Option ℕ) (shard : ℕ) (sources : List S) (starts : List LaneStart) (lanes : List (LaneView S L))
+    → AreOver left lent_as faults plan read_of reads slack shard sources starts lanes → All (λ source. IsUnfailing (plan source)) sources
+    → AreUnfailing plan lanes
+unfailing_over left lent_as faults plan read_of reads slack shard [] [] [] over all = All-nil (λ lane. IsUnfailing (plan lane.source))
+unfailing_over left lent_as faults plan read_of reads slack shard [] [] (l ∷ ls) over all = absurd over
+unfailing_over left lent_as faults plan read_of reads slack shard [] (b ∷ bs) ls over all = absurd over
+unfailing_over left lent_as faults plan read_of reads slack shard (s ∷ ss) [] ls over all = absurd over
+unfailing_over left lent_as faults plan read_of reads slack shard (s ∷ ss) (b ∷ bs) [] over all = absurd over
+unfailing_over left lent_as faults plan read_of reads slack shard (s ∷ ss) (b ∷ bs) (l ∷ ls) over all =
+    All-cons (λ lane. IsUnfailing (plan lane.source)) l ls
+    (over.0.unfailing (All-head (λ source. IsUnfailing (plan source)) s ss all))
+    (unfailing_over left lent_as faults plan read_of reads slack (shard + 1) ss bs ls over.1 (All-tail (λ source. IsUnfailing (plan source)) s ss all))
 
 -- a source by its place has the name of that place
 named_at : {S : Type 0} (lent_as : S → Option (List ℕ)) (sources : List S) (names : List (List ℕ)) (shard : ℕ) (source : S) (name : List ℕ)
@@ -91,154 +56,128 @@ named_at lent_as (s ∷ ss) (n ∷ ns) zero source name is at has =
 named_at lent_as (s ∷ ss) (n ∷ ns) (suc shard) source name is at has =
     named_at lent_as ss ns shard source name (parts_of (lent_as s) (Some n) (map lent_as ss) (map (λ (m : List ℕ). Some m) ns) is).1 at has
 
-abbrev told_shard : ℕ → Stop → ℕ
-told_shard other (by.Read shard) = shard
-told_shard other by.Write = other
-told_shard other by.Memory = other
-told_shard other (by.Limit l) = other
-
-abbrev kind_of_stop : Stop → ℕ
-kind_of_stop (by.Read shard) = 0
-kind_of_stop by.Write = 1
-kind_of_stop by.Memory = 2
-kind_of_stop (by.Limit l) = 3
-
--- a run whose lanes weren't made: all that its halt says
-pub record MadeHalt {S : Type 0} (plan : S → Option FaultPlan) (find : Find) (files : Option Files) (sources : List S)
-    (before now : ℕ) (names names' : List ℕ → ℕ) (h : RunHalt) : Type 0 where
-  pub cause : (err err' : Option (List ℕ)) → HasCause find files err err' h
+-- ---- a run whose lanes weren't made: all that its halt says beside its cause
+pub record MadeHalt {S : Type 0} (plan : S → Option FaultPlan) (sources : List S) (before now : ℕ) (names names' : List ℕ → ℕ) (h : RunHalt)
+    : Type 0 where
   pub faults : FaultsAs {A = Unit {0}} (Err h) names names'
   pub count : CountAs {A = Unit {0}} (Err h) before now
+  pub disk : (n : ℕ) → DiskAs {A = Unit {0}} (Err h) n n
   pub out : (n : ℕ) → OutAs {A = Unit {0}} (Err h) n n
   pub err : (n : ℕ) → ErrAs {A = Unit {0}} (Err h) n n
-  pub files_only : ¬ IsRefusal h
   pub quiet : TellsNothing h
+  pub no_report : ¬ IsReport h
   pub calm : All (λ source. IsUnfailing (plan source)) sources → ¬ IsFault h
 
-module _ {S : Type 0} (left lent_as : S → Option (List ℕ)) (plan : S → Option FaultPlan) (find : Find) (files : Option Files) (p : PlanOf)
-    (sources : List S) (is : IsPlanOf find files p) (whole : AreWholeFiles find.shards files (map left sources))
-    (named : map lent_as sources ≡ map (λ (n : List ℕ). Some n) find.shards) (before now : ℕ) (names names' : List ℕ → ℕ) where
-  -- which stops there may be
-  pub may_make : (stop : Stop) → StoppedMaking lent_as plan stop sources before now names names' → MayStop (length find.shards) stop
-  may_make (by.Read shard) (inl h) = absurd (omega (arith, ap kind_of_stop h.0))
-  may_make (by.Read shard) (inr h) = by_cause h.1.cause
-    where
-      within : (k : ℕ) → k ≡ h.0 → k < length find.shards
-      within k e =
-          let lt = slice_get_within sources h.0 h.1.source h.1.is in
-          omega (arith, lt, e, as_many lent_as sources find.shards named)
+module _ {S : Type 0} (left lent_as : S → Option (List ℕ)) (faults : S → ℕ) (plan : S → Option FaultPlan) (shards : List (List ℕ))
+    (sources : List S) (starts : List LaneStart) (named : map lent_as sources ≡ map (λ (n : List ℕ). Some n) shards)
+    (before now : ℕ) (names names' : List ℕ → ℕ) where
+  -- which shard it may be that failed
+  pub may_make : (why : LaneRefused) (shard : ℕ) → StoppedMaking left lent_as faults plan why shard sources starts before now names names'
+      → why ≡ refused.Failed → shard < length shards
+  may_make why shard (inl h) is = absurd (false≢true (ap by_failure (sym h.0 ∙ is)))
+  may_make why shard (inr at) is =
+      let within = slice_get_within sources shard at.source at.is in
+      let same = as_many lent_as sources shards named in
+      omega (arith, within, same)
 
-      by_cause : (by.Read shard ≡ by.Memory) ⊎ (by.Read shard ≡ by.Read h.0) → shard < length find.shards
-      by_cause (inl e) = absurd (omega (arith, ap kind_of_stop e))
-      by_cause (inr e) = within shard (ap (told_shard 0) e)
-  may_make by.Write (inl h) = tt
-  may_make by.Write (inr h) = tt
-  may_make by.Memory (inl h) = tt
-  may_make by.Memory (inr h) = tt
-  may_make (by.Limit l) (inl h) = absurd (omega (arith, ap kind_of_stop h.0))
-  may_make (by.Limit l) (inr h) = by_cause h.1.cause
-    where
-      by_cause : (by.Limit l ≡ by.Memory) ⊎ (by.Limit l ≡ by.Read h.0) → MayStop (length find.shards) (by.Limit l)
-      by_cause (inl e) = absurd (omega (arith, ap kind_of_stop e))
-      by_cause (inr e) = absurd (omega (arith, ap kind_of_stop e))
+  steady_by : (why : LaneRefused) (shard : ℕ) → by_failure why ≡ false
+      → StoppedMaking left lent_as faults plan why shard sources starts before now names names' → (now ≡ before) × SameFaults names names'
+  steady_by why shard calm (inl h) = (h.1, h.2)
+  steady_by why shard calm (inr at) = at.steady (not_failed why calm)
 
-  -- the halt where memory ran out
-  made_memory : (now ≡ before) × SameFaults names names' → MadeHalt plan find files sources before now names names' (run.Files halt.Memory)
-  made_memory same = record {
-    cause = λ err err'. tt;
-    faults = same.1;
-    count = same.0;
-    out = λ n. refl;
-    err = λ n. refl;
-    files_only = λ h. h;
-    quiet = tt;
-    calm = λ all h. h;
-  }
+  refused_halt : (why : LaneRefused) (shard : ℕ) (c : _) → by_failure why ≡ false
+      → StoppedMaking left lent_as faults plan why shard sources starts before now names names'
+      → MadeHalt plan sources before now names names' (run.Cut c)
+  refused_halt why shard c calm stopped =
+      let same = steady_by why shard calm stopped in
+      record {
+        faults = same.1;
+        count = same.0;
+        disk = λ n. refl;
+        out = λ n. refl;
+        err = λ n. refl;
+        quiet = tt;
+        no_report = λ h. h;
+        calm = λ all h. h;
+      }
 
   under_name : (o : Option (List ℕ)) (name : List ℕ) → o ≡ Some name → RoseUnder o names names' → RoseFor name names names'
   under_name o name same rose = subst (λ (x : Option (List ℕ)). RoseUnder x names names') same rose
 
-  -- the halt where a source failed
-  made_read : (shard : ℕ) (name : Bor (List ℕ)) (at : StoppedAt lent_as plan (by.Read shard) shard sources before now names names')
-      → slice_get find.shards shard ≡ Some name.now → MadeHalt plan find files sources before now names names' (run.Files (halt.Read name))
-  made_read shard name at there =
-      let rose = at.read refl in
+  failed_halt : (shard : ℕ) (name : Bor (List ℕ)) → slice_get shards shard ≡ Some name.now
+      → StoppedMaking left lent_as faults plan refused.Failed shard sources starts before now names names'
+      → MadeHalt plan sources before now names names' (run.Files (halt.Read name))
+  failed_halt shard name there (inl h) = absurd (false≢true (sym (ap by_failure h.0)))
+  failed_halt shard name there (inr at) =
+      let rose = at.rose refl in
       record {
-        cause = λ err err'. read_cause find files p (map left sources) shard name.now is whole there;
-        faults = under_name (lent_as at.source) name.now (named_at lent_as sources find.shards shard at.source name.now named at.is there) rose.1;
+        faults = under_name (lent_as at.source) name.now (named_at lent_as sources shards shard at.source name.now named at.is there) rose.1;
         count = rose.0;
+        disk = λ n. refl;
         out = λ n. refl;
         err = λ n. refl;
-        files_only = λ h. h;
         quiet = tt;
-        calm = λ all h. read_or_memory shard (by.Read shard) refl (at.unfailing (all_at all));
+        no_report = λ h. h;
+        calm = λ all h. absurd (at.unfailing (all_at all) refl);
       }
     where
       all_at : All (λ source. IsUnfailing (plan source)) sources → IsUnfailing (plan at.source)
       all_at all = subst (λ x. IsUnfailing (plan x)) (get_or_from_slice_get sources shard at.source at.source at.is)
           (all shard at.source (slice_get_within sources shard at.source at.is))
 
-  pub made_halt : (stop : Stop) (h : RunHalt) → StoppedMaking lent_as plan stop sources before now names names' → IsHaltOf find.shards stop h
-      → MadeHalt plan find files sources before now names names' h
-  made_halt _ _ (inl h) memory = made_memory (h.1, h.2)
-  made_halt _ _ (inr h) memory = made_memory (h.1.memory refl)
-  made_halt _ _ (inl h) (read shard name there) = absurd (omega (arith, ap kind_of_stop h.0))
-  made_halt _ _ (inr h) (read shard name there) = by_cause h.1.cause
-    where
-      by_cause : (by.Read shard ≡ by.Memory) ⊎ (by.Read shard ≡ by.Read h.0)
-          → MadeHalt plan find files sources before now names names' (run.Files (halt.Read name))
-      by_cause (inl e) = absurd (omega (arith, ap kind_of_stop e))
-      by_cause (inr e) =
-          made_read shard name
-          (subst (λ (k : ℕ). StoppedAt lent_as plan (by.Read shard) k sources before now names names') (sym (ap (told_shard 0) e)) h.1) there
-  made_halt _ _ (inl h) write = absurd (omega (arith, ap kind_of_stop h.0))
-  made_halt _ _ (inr h) write = by_cause h.1.cause
-    where
-      by_cause : (by.Write ≡ by.Memory) ⊎ (by.Write ≡ by.Read h.0) → MadeHalt plan find files sources before now names names' run.Write
-      by_cause (inl e) = absurd (omega (arith, ap kind_of_stop e))
-      by_cause (inr e) = absurd (omega (arith, ap kind_of_stop e))
-  made_halt _ h (inl g) (lines shard) = absurd (omega (arith, ap kind_of_stop g.0))
-  made_halt _ h (inr g) (lines shard) = by_cause g.1.cause
-    where
-      by_cause : (by.Limit (reached.Lines shard) ≡ by.Memory) ⊎ (by.Limit (reached.Lines shard) ≡ by.Read g.0)
-          → MadeHalt plan find files sources before now names names' h
-      by_cause (inl e) = absurd (omega (arith, ap kind_of_stop e))
-      by_cause (inr e) = absurd (omega (arith, ap kind_of_stop e))
-  made_halt _ h (inl g) (bytes shard) = absurd (omega (arith, ap kind_of_stop g.0))
-  made_halt _ h (inr g) (bytes shard) = by_cause g.1.cause
-    where
-      by_cause : (by.Limit (reached.Bytes shard) ≡ by.Memory) ⊎ (by.Limit (reached.Bytes shard) ≡ by.Read g.0)
-          → MadeHalt plan find files sources before now names names' h
-      by_cause (inl e) = absurd (omega (arith, ap kind_of_stop e))
-      by_cause (inr e) = absurd (omega (arith, ap kind_of_stop e))
+  pub made_halt : (why : LaneRefused) (shard : ℕ) (h : RunHalt)
+      → StoppedMaking left lent_as faults plan why shard sources starts before now names names' → IsHaltAt shards shard why h
+      → MadeHalt plan sources before now names names' h
+  made_halt _ shard _ stopped (short offset had) = refused_halt (refused.Short offset had) shard (cut.Short shard offset had) refl stopped
+  made_halt _ shard _ stopped (no_line line) = refused_halt (refused.NoLine line) shard (cut.NoLine shard line) refl stopped
+  made_halt _ shard _ stopped grown = refused_halt refused.Grown shard (cut.Grown shard) refl stopped
+  made_halt _ shard _ stopped (failed name there) = failed_halt shard name there stopped
+  made_halt _ shard _ stopped unmade =
+      let same = steady_by refused.Memory shard refl stopped in
+      record {
+        faults = same.1;
+        count = same.0;
+        disk = λ n. refl;
+        out = λ n. refl;
+        err = λ n. refl;
+        quiet = tt;
+        no_report = λ h. h;
+        calm = λ all h. h;
+      }
 
 -- what the shelf's counts say once the sources of a run came back
-module _ {S L : Type 0} (left lent_as : S → Option (List ℕ)) (read_of : L → Reads) (find : Find)
+module _ {S L : Type 0} (left lent_as : S → Option (List ℕ)) (find : Find)
     (olds news : List (LaneView S L)) (before now : ℕ) (names names' : List ℕ → ℕ)
-    (named : AreNamed lent_as find.shards olds) (stays : AllZip (StaysLane left lent_as read_of) olds news)
+    (named : AreNamed lent_as find.shards olds) (stays : AllZip (StaysSource left lent_as) olds news)
     (back : CameBack (map (lane_returned lent_as) news) before now names names') where
   none_back : SteadyBut (λ s. ⊥) olds news → (now ≡ before) × SameFaults names names'
-  none_back steady = back.none (none_failed_lanes left lent_as read_of find.shards olds news (λ s. ⊥) (λ s h. h) named stays steady)
+  none_back steady = back.none (none_failed_lanes left lent_as find.shards olds news (λ s. ⊥) (λ s h. h) named stays steady)
 
   pub faults_as : (r : Result (Unit {0}) RunHalt) → LaneFaults find r olds news → FaultsAs r names names'
-  faults_as (Ok done) failed = (none_back failed).1
-  faults_as (Err (run.Files (halt.Refused r))) failed = (none_back failed).1
-  faults_as (Err (run.Files (halt.Read name))) failed =
-      (back.one name.now (one_failed_lane left lent_as read_of failed.shard name.now find.shards olds news failed.named named stays failed.rose failed.others)).1
-  faults_as (Err (run.Files halt.Memory)) failed = (none_back failed).1
-  faults_as (Err run.Write) failed = (none_back failed).1
-  faults_as (Err (run.Limit l)) failed = (none_back failed).1
-  faults_as (Err (run.Report r)) failed = (none_back failed).1
+  faults_as (Ok done) fails = (none_back fails).1
+  faults_as (Err (run.Files (halt.Refused r))) fails = (none_back fails).1
+  faults_as (Err (run.Files (halt.Read name))) fails =
+      (back.one name.now (one_failed_lane left lent_as fails.shard name.now find.shards olds news fails.named named stays fails.rose fails.others)).1
+  faults_as (Err (run.Files halt.Memory)) fails = (none_back fails).1
+  faults_as (Err (run.Cut why)) fails = (none_back fails).1
+  faults_as (Err run.Disk) fails = (none_back fails).1
+  faults_as (Err run.Write) fails = (none_back fails).1
+  faults_as (Err run.Generation) fails = (none_back fails).1
+  faults_as (Err (run.Limit l)) fails = (none_back fails).1
+  faults_as (Err (run.Report r)) fails = (none_back fails).1
 
   pub count_as : (r : Result (Unit {0}) RunHalt) → LaneFaults find r olds news → CountAs r before now
-  count_as (Ok done) failed = (none_back failed).0
-  count_as (Err (run.Files (halt.Refused r))) failed = (none_back failed).0
-  count_as (Err (run.Files (halt.Read name))) failed =
-      (back.one name.now (one_failed_lane left lent_as read_of failed.shard name.now find.shards olds news failed.named named stays failed.rose failed.others)).0
-  count_as (Err (run.Files halt.Memory)) failed = (none_back failed).0
-  count_as (Err run.Write) failed = (none_back failed).0
-  count_as (Err (run.Limit l)) failed = (none_back failed).0
-  count_as (Err (run.Report r)) failed = (none_back failed).0
+  count_as (Ok done) fails = (none_back fails).0
+  count_as (Err (run.Files (halt.Refused r))) fails = (none_back fails).0
+  count_as (Err (run.Files (halt.Read name))) fails =
+      (back.one name.now (one_failed_lane left lent_as fails.shard name.now find.shards olds news fails.named named stays fails.rose fails.others)).0
+  count_as (Err (run.Files halt.Memory)) fails = (none_back fails).0
+  count_as (Err (run.Cut why)) fails = (none_back fails).0
+  count_as (Err run.Disk) fails = (none_back fails).0
+  count_as (Err run.Write) fails = (none_back fails).0
+  count_as (Err run.Generation) fails = (none_back fails).0
+  count_as (Err (run.Limit l)) fails = (none_back fails).0
+  count_as (Err (run.Report r)) fails = (none_back fails).0
 
 -- as many lanes before and after
 pub zip_long : {A B : Type 0} (R : A → B → Type 0) (xs : List A) (ys : List B) → AllZip R xs ys → length ys ≡ length xs
@@ -265,7 +204,10 @@ faults_then before mid now same (Err (run.Files (halt.Read name))) h = record {
   counts = λ any. subst (λ (n : ℕ). n ≤ now any) (same any) (h.counts any);
 }
 faults_then before mid now same (Err (run.Files halt.Memory)) h = λ name. h name ∙ same name
+faults_then before mid now same (Err (run.Cut why)) h = λ name. h name ∙ same name
+faults_then before mid now same (Err run.Disk) h = λ name. h name ∙ same name
 faults_then before mid now same (Err run.Write) h = λ name. h name ∙ same name
+faults_then before mid now same (Err run.Generation) h = λ name. h name ∙ same name
 faults_then before mid now same (Err (run.Limit l)) h = λ name. h name ∙ same name
 faults_then before mid now same (Err (run.Report r)) h = λ name. h name ∙ same name
 

@@ -1,17 +1,11 @@
 -- What a shelf keeps from call to call.
-use Rattle.std.proofs.Common.{ℕ, Bool, List, Option, refl, ◌∙◌}
+use Rattle.std.proofs.Common.{ℕ, Bool, List, Option, ◌∙◌}
 use Rattle.eql_outside.specs.Moments.{History}
 use Rattle.eql_outside.specs.Plans.{FaultPlan}
 use Rattle.eql_runs.specs.Files.{Files}
 use Rattle.eql_inputs.specs.Shelves.{KeepsShelf}
 
--- no call, and one after another
-pub keeps_still :
-    {S : Type 0} (files : S → Option Files) (plans : S → Option (List (List ℕ × List ℕ))) (history : S → Option History)
-    (out : S → Bool) (faults : S → ℕ) (plan : S → Option FaultPlan) (a : S) → KeepsShelf files plans history out faults plan a a
-keeps_still files plans history out faults plan a =
-    record { files_are = refl; plans_are = refl; history_is = refl; out_is = refl; faults_are = refl; plan_is = refl }
-
+-- one call after another
 pub keeps_later :
     {S : Type 0} {files : S → Option Files} {plans : S → Option (List (List ℕ × List ℕ))} {history : S → Option History}
     {out : S → Bool} {faults : S → ℕ} {plan : S → Option FaultPlan} {a b c : S} → KeepsShelf files plans history out faults plan a b

@@ -1,71 +1,100 @@
 -- What a run of `find` writes, and the causes for which it stops.
-use Rattle.std.specs.Prelude.{◌≡◌, ◌<◌, ◌⊎◌, ℕ, List, length, Option, Some, IfSome}
+use Rattle.std.specs.Prelude.{◌≡◌, ◌≢◌, ◌<◌, ◌⊎◌, ℕ, List, [], ◌∷◌, length, Option, None, Some, IfSome}
 use Rattle.eql_values.specs.declared.cut.Counts.{Counts}
-use Rattle.eql_outside.specs.Outside.{AppendsSome}
 use Rattle.eql_outside.specs.Written.{WroteAll, WroteFront}
 use Rattle.eql_words.specs.declared.commands.Find.{Find}
 use Rattle.eql_runs.specs.Files.{Files}
 use Rattle.eql_runs.specs.Refusals.{Names}
-use Rattle.eql_runs.specs.Runs.{Finds, SearchesBeyond, shard_of}
-use Rattle.eql_runs.specs.Searches.{report_lines}
+use Rattle.eql_outside.specs.Moments.{History}
+use Rattle.eql_runs.specs.Runs.{Finds, GenerationsEnd, IfFound, IsFindAccepted, RefusesCut, Searches, SearchesBeyond, Trusts, shard_of}
+use Rattle.eql_runs.specs.Runs as runs
+use Rattle.eql_runs.specs.Searches.{Search, report_lines}
+use Rattle.eql_runs.specs.Starts.{OnDisk}
 use Rattle.eql_inputs.specs.Halts as inputs
 use Rattle.eql_inputs.specs.Steps.{GotChecked}
 use Rattle.eql_parser.specs.QueryTree.{query_tree}
 use Rattle.eql_check.specs.Kinds.{kind_at}
 use Rattle.eql_check.specs.Used.{used_fields}
-use Rattle.eql_stages.specs.Planned.{PlanOf}
-use Rattle.eql_values.specs.declared.value.Kind.{Kind}
+use Rattle.eql_outside.specs.Outside.{AppendsSome, file_named}
+use Rattle.eql_find.specs.declared.plan.Planning.{Planning}
 use Rattle.eql_find.specs.declared.halt.RunHalt.{RunHalt}
 use Rattle.eql_find.specs.declared.halt.RunHalt.TheVariants as run
-use Rattle.eql_find.specs.Halts.{limit_of}
+use Rattle.eql_find.specs.Halts.{cut_refusal_of, limit_of}
 
 -- the files that a search names
 abbrev pub names_in : Find → Names
 names_in find = record { query = find.query; fields = find.fields; shards = find.shards }
 
--- where the shelf tells its files, the run was one that writes a listing and a report, and where the sinks tell too they
--- got just these
-abbrev pub FoundAll : Find → Option Files → (out out' err err' : Option (List ℕ)) → Type 0
-FoundAll find files out out' err err' =
-    IfSome files (λ fs.
-    (bytes : List ℕ) × (report : List ℕ) × Finds find fs bytes report
+-- where files and disk are told, and the disk is trusted, the run was one that writes a listing and a report, and where the sinks
+-- tell too they got just these
+abbrev pub FoundAll : Find → Option Files → Option History → (out out' err err' : Option (List ℕ)) → Type 0
+FoundAll find files disk out out' err err' =
+    IfFound find files disk (λ fs on. Trusts find fs on
+    → (bytes : List ℕ) × (report : List ℕ) × Finds find fs on bytes report
     × WroteAll bytes out out' × WroteAll report err err')
 
--- where both tell, the output got nothing, or a front of the listing
-abbrev pub FoundSome : Find → Option Files → (out out' : Option (List ℕ)) → Type 0
-FoundSome find files out out' =
-    IfSome files (λ fs. IfSome out (λ w.
+-- where they are told, and so is the output, it got nothing, or a front of the listing
+abbrev pub FoundSome : Find → Option Files → Option History → (out out' : Option (List ℕ)) → Type 0
+FoundSome find files disk out out' =
+    IfFound find files disk (λ fs on. Trusts find fs on → IfSome out (λ w.
     (out' ≡ Some w)
-    ⊎ ((bytes : List ℕ) × (report : List ℕ) × Finds find fs bytes report × AppendsSome w bytes out')))
+    ⊎ ((bytes : List ℕ) × (report : List ℕ) × Finds find fs on bytes report × AppendsSome w bytes out')))
 
--- where the shelf tells its files, the run was one that writes a listing, and where the output tells too it got just this
-abbrev pub FoundListing : Find → Option Files → (out out' : Option (List ℕ)) → Type 0
-FoundListing find files out out' =
-    IfSome files (λ fs.
-    (bytes : List ℕ) × (report : List ℕ) × Finds find fs bytes report × WroteAll bytes out out')
+-- where they are told, and the disk is trusted, the run was one that writes a listing, and where the output tells too it got just this
+abbrev pub FoundListing : Find → Option Files → Option History → (out out' : Option (List ℕ)) → Type 0
+FoundListing find files disk out out' =
+    IfFound find files disk (λ fs on. Trusts find fs on
+    → (bytes : List ℕ) × (report : List ℕ) × Finds find fs on bytes report × WroteAll bytes out out')
 
--- a report with a line for each shard, of which the error output got a front; where the shelf tells its files, it is that of
--- the run
-pub record ReportsFront (find : Find) (files : Option Files) (err err' : Option (List ℕ)) : Type 0 where
+-- this report is that of the run
+pub record IsReportOf (find : Find) (report : List ℕ) (files : Files) (on : OnDisk) : Type 0 where
+  pub accepted : IsFindAccepted find files on
+  pub reported : Trusts find files on → (bytes : List ℕ) × Finds find files on bytes report
+
+-- a report with a line for each shard, of which the error output got a front; where files and disk are told, it is that of the run
+pub record ReportsFront (find : Find) (files : Option Files) (disk : Option History) (err err' : Option (List ℕ)) : Type 0 where
   pub report : List ℕ
   pub counts : List Counts
   pub count : length counts ≡ length find.shards
   pub lines : report ≡ report_lines 0 counts
-  pub finds : IfSome files (λ fs. (bytes : List ℕ) × Finds find fs bytes report)
+  pub is_report : IfFound find files disk (IsReportOf find report)
   pub wrote : WroteFront report err err'
 
--- why a run stopped
-abbrev pub HasCause : Find → Option Files → (err err' : Option (List ℕ)) → RunHalt → Type 0
-HasCause find files err err' (run.Files h) = inputs.HasCause (names_in find) files h
-HasCause find files err err' run.Write =
-    IfSome files (λ fs. (bytes : List ℕ) × (report : List ℕ) × Finds find fs bytes report)
-HasCause find files err err' (run.Limit l) =
-    (shard_of (limit_of l) < length find.shards) × IfSome files (λ fs. SearchesBeyond find fs (limit_of l))
-HasCause find files err err' (run.Report r) = ReportsFront find files err err'
+-- a shard of the search is beyond the limit, and nothing refuses the run
+pub record GoesTooFar (find : Find) (limit : runs.ShardLimit) (files : Files) (on : OnDisk) : Type 0 where
+  pub accepted : IsFindAccepted find files on
+  pub beyond : SearchesBeyond find files on limit
 
--- the plan of a search, whose query is checked against the mapping that the files hold
-pub record IsPlanOf (find : Find) (files : Option Files) (plan : PlanOf) : Type 0 where
-  pub mapping : List (List ℕ × Kind)
-  pub got : GotChecked find.query find.fields files (query_tree plan.checked.query) mapping
-  pub fields : plan.checked.fields ≡ used_fields (kind_at mapping) (query_tree plan.checked.query)
-  pub tie : plan.tie ≡ find.tie
+-- why a run stopped, by its files, and by its disk before and now
+abbrev pub HasCause : Find → Option Files → (disk now : Option History) → (err err' : Option (List ℕ)) → RunHalt → Type 0
+HasCause find files disk now err err' (run.Files h) = inputs.HasCause (names_in find) files h
+HasCause find files disk now err err' (run.Cut r) =
+    (find.checkpoint ≢ None) × IfFound find files disk (λ fs on. RefusesCut find fs on (cut_refusal_of r))
+HasCause find files disk now err err' run.Disk =
+    (find.checkpoint ≢ None) × IfSome files (λ fs. (search : Search) × (texts : List (List ℕ)) × Searches find fs search texts)
+HasCause find files disk now err err' run.Write = IfFound find files disk (IsFindAccepted find)
+HasCause find files disk now err err' (run.Limit l) =
+    (shard_of (limit_of l) < length find.shards) × IfFound find files disk (GoesTooFar find (limit_of l))
+HasCause find files disk now err err' run.Generation =
+    (find.checkpoint ≢ None) × IfFound find files disk (IsFindAccepted find) × GenerationsEnd disk now
+HasCause find files disk now err err' (run.Report r) = ReportsFront find files disk err err'
+
+-- what is searched for by these words: a query that is checked against the mapping that the files hold
+pub record IsPlanOf (find : Find) (files : Option Files) (p : Planning) : Type 0 where
+  pub got : GotChecked find.query find.fields files (query_tree p.plan.checked.query) p.mapping
+  pub fields : p.plan.checked.fields ≡ used_fields (kind_at p.mapping) (query_tree p.plan.checked.query)
+  pub tie : p.plan.tie ≡ find.tie
+
+-- the texts of the shards, where the shelf tells its files and all are there
+abbrev pub text_told : Option (List ℕ) → Option (List (List ℕ)) → Option (List (List ℕ))
+text_told (Some text) (Some texts) = Some (text ∷ texts)
+text_told (Some text) None = None
+text_told None texts = None
+
+abbrev pub texts_in : Files → List (List ℕ) → Option (List (List ℕ))
+texts_in files [] = Some []
+texts_in files (name ∷ names) = text_told (file_named name files) (texts_in files names)
+
+abbrev pub texts_told : Option Files → List (List ℕ) → Option (List (List ℕ))
+texts_told None names = None
+texts_told (Some files) names = texts_in files names

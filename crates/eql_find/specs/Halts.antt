@@ -3,11 +3,14 @@ use Rattle.std.specs.Prelude.{◌≡◌, ℕ, List, Result, Ok, Err}
 use Rattle.eql_outside.specs.Outside.{Rose}
 use Rattle.eql_outside.specs.Faults.{SameFaults}
 use Rattle.eql_outside.specs.declared.refused.OutRefused.TheVariants as refused_by
+use Rattle.eql_runs.specs.CutRefusals.{CutRefusal, damaged, differs, unfit, short, no_line, grown}
 use Rattle.eql_runs.specs.Runs.{many_lines, many_bytes}
 use Rattle.eql_runs.specs.Runs as runs
 use Rattle.eql_inputs.specs.declared.halt.Halt.TheVariants as input
 use Rattle.eql_inputs.specs.Halts.{status_of}
 use Rattle.eql_inputs.specs.Halts as inputs
+use Rattle.eql_find.specs.declared.halt.CutStop.{CutStop}
+use Rattle.eql_find.specs.declared.halt.CutStop.TheVariants as cut
 use Rattle.eql_find.specs.declared.halt.RunHalt.{RunHalt}
 use Rattle.eql_find.specs.declared.halt.RunHalt.TheVariants as run
 use Rattle.eql_find.specs.declared.halt.ShardLimit.{ShardLimit}
@@ -16,8 +19,11 @@ use Rattle.eql_find.specs.declared.halt.ShardLimit.TheVariants as limit
 -- the status of a run that stops so
 abbrev pub run_status_of : RunHalt → ℕ
 run_status_of (run.Files h) = status_of h
+run_status_of (run.Cut why) = 7
+run_status_of run.Disk = 6
 run_status_of run.Write = 5
 run_status_of (run.Limit l) = 9
+run_status_of run.Generation = 9
 run_status_of (run.Report refused_by.Failed) = 5
 run_status_of (run.Report refused_by.Memory) = 8
 
@@ -26,36 +32,57 @@ abbrev pub limit_of : ShardLimit → runs.ShardLimit
 limit_of (limit.Lines shard) = many_lines shard
 limit_of (limit.Bytes shard) = many_bytes shard
 
--- the files are refused
+-- why the cut is refused, in the words of runs
+abbrev pub cut_refusal_of : CutStop → CutRefusal
+cut_refusal_of (cut.Damaged area at) = damaged area at
+cut_refusal_of (cut.Differs d) = differs d
+cut_refusal_of cut.Unfit = unfit
+cut_refusal_of (cut.Short shard offset had) = short shard offset had
+cut_refusal_of (cut.NoLine shard line) = no_line shard line
+cut_refusal_of (cut.Grown shard) = grown shard
+
+-- the files or the cut are refused
 abbrev pub IsRefusal : RunHalt → Type 0
 IsRefusal (run.Files (input.Refused r)) = Unit {0}
 IsRefusal (run.Files (input.Read name)) = ⊥
 IsRefusal (run.Files input.Memory) = ⊥
+IsRefusal (run.Cut why) = Unit {0}
+IsRefusal run.Disk = ⊥
 IsRefusal run.Write = ⊥
 IsRefusal (run.Limit l) = ⊥
+IsRefusal run.Generation = ⊥
 IsRefusal (run.Report r) = ⊥
 
 -- nothing was written of the report
 abbrev pub TellsNothing : RunHalt → Type 0
 TellsNothing (run.Files h) = Unit {0}
+TellsNothing (run.Cut why) = Unit {0}
+TellsNothing run.Disk = Unit {0}
 TellsNothing run.Write = Unit {0}
 TellsNothing (run.Limit l) = Unit {0}
+TellsNothing run.Generation = Unit {0}
 TellsNothing (run.Report r) = ⊥
 
 -- the report isn't written whole
 abbrev pub IsReport : RunHalt → Type 0
 IsReport (run.Files h) = ⊥
+IsReport (run.Cut why) = ⊥
+IsReport run.Disk = ⊥
 IsReport run.Write = ⊥
 IsReport (run.Limit l) = ⊥
+IsReport run.Generation = ⊥
 IsReport (run.Report r) = Unit {0}
 
--- a file, the output or the error output failed
+-- a file, the disk, the output or the error output failed
 abbrev pub IsFault : RunHalt → Type 0
 IsFault (run.Files (input.Refused r)) = ⊥
 IsFault (run.Files (input.Read name)) = Unit {0}
 IsFault (run.Files input.Memory) = ⊥
+IsFault (run.Cut why) = ⊥
+IsFault run.Disk = Unit {0}
 IsFault run.Write = Unit {0}
 IsFault (run.Limit l) = ⊥
+IsFault run.Generation = ⊥
 IsFault (run.Report refused_by.Failed) = Unit {0}
 IsFault (run.Report refused_by.Memory) = ⊥
 
@@ -63,39 +90,65 @@ IsFault (run.Report refused_by.Memory) = ⊥
 abbrev pub FaultsAs : {A : Type 0} → Result A RunHalt → (before now : List ℕ → ℕ) → Type 0
 FaultsAs (Ok done) before now = SameFaults before now
 FaultsAs (Err (run.Files h)) before now = inputs.FaultsAs h before now
+FaultsAs (Err (run.Cut why)) before now = SameFaults before now
+FaultsAs (Err run.Disk) before now = SameFaults before now
 FaultsAs (Err run.Write) before now = SameFaults before now
 FaultsAs (Err (run.Limit l)) before now = SameFaults before now
+FaultsAs (Err run.Generation) before now = SameFaults before now
 FaultsAs (Err (run.Report r)) before now = SameFaults before now
 
 -- the count of all read faults rose where one is told, and nowhere else
 abbrev pub CountAs : {A : Type 0} → Result A RunHalt → (before now : ℕ) → Type 0
 CountAs (Ok done) before now = now ≡ before
 CountAs (Err (run.Files h)) before now = inputs.CountAs h before now
+CountAs (Err (run.Cut why)) before now = now ≡ before
+CountAs (Err run.Disk) before now = now ≡ before
 CountAs (Err run.Write) before now = now ≡ before
 CountAs (Err (run.Limit l)) before now = now ≡ before
+CountAs (Err run.Generation) before now = now ≡ before
 CountAs (Err (run.Report r)) before now = now ≡ before
 
 -- the count of absences rose where a file isn't there, and nowhere else
 abbrev pub AbsenceAs : {A : Type 0} → Result A RunHalt → (before now : ℕ) → Type 0
 AbsenceAs (Ok done) before now = now ≡ before
 AbsenceAs (Err (run.Files h)) before now = inputs.AbsenceAs h before now
+AbsenceAs (Err (run.Cut why)) before now = now ≡ before
+AbsenceAs (Err run.Disk) before now = now ≡ before
 AbsenceAs (Err run.Write) before now = now ≡ before
 AbsenceAs (Err (run.Limit l)) before now = now ≡ before
+AbsenceAs (Err run.Generation) before now = now ≡ before
 AbsenceAs (Err (run.Report r)) before now = now ≡ before
+
+-- the count of the disk's faults rose where the disk is told as failed, and nowhere else
+abbrev pub DiskAs : {A : Type 0} → Result A RunHalt → (before now : ℕ) → Type 0
+DiskAs (Ok done) before now = now ≡ before
+DiskAs (Err (run.Files h)) before now = now ≡ before
+DiskAs (Err (run.Cut why)) before now = now ≡ before
+DiskAs (Err run.Disk) before now = Rose before now
+DiskAs (Err run.Write) before now = now ≡ before
+DiskAs (Err (run.Limit l)) before now = now ≡ before
+DiskAs (Err run.Generation) before now = now ≡ before
+DiskAs (Err (run.Report r)) before now = now ≡ before
 
 -- the count of the output's faults rose where a write fault is told, and nowhere else
 abbrev pub OutAs : {A : Type 0} → Result A RunHalt → (before now : ℕ) → Type 0
 OutAs (Ok done) before now = now ≡ before
 OutAs (Err (run.Files h)) before now = now ≡ before
+OutAs (Err (run.Cut why)) before now = now ≡ before
+OutAs (Err run.Disk) before now = now ≡ before
 OutAs (Err run.Write) before now = Rose before now
 OutAs (Err (run.Limit l)) before now = now ≡ before
+OutAs (Err run.Generation) before now = now ≡ before
 OutAs (Err (run.Report r)) before now = now ≡ before
 
 -- the count of the error output's faults rose where it refused the report, and nowhere else
 abbrev pub ErrAs : {A : Type 0} → Result A RunHalt → (before now : ℕ) → Type 0
 ErrAs (Ok done) before now = now ≡ before
 ErrAs (Err (run.Files h)) before now = now ≡ before
+ErrAs (Err (run.Cut why)) before now = now ≡ before
+ErrAs (Err run.Disk) before now = now ≡ before
 ErrAs (Err run.Write) before now = now ≡ before
 ErrAs (Err (run.Limit l)) before now = now ≡ before
+ErrAs (Err run.Generation) before now = now ≡ before
 ErrAs (Err (run.Report refused_by.Failed)) before now = Rose before now
 ErrAs (Err (run.Report refused_by.Memory)) before now = now ≡ before

@@ -1,33 +1,31 @@
 -- Lanes over the sources of shards, and sources that go back to their shelf.
-use Rattle.std.specs.Prelude.{◌≡◌, ◌≢◌, ◌<◌, ◌+◌, ◌⊎◌, ℕ, ℤ, List, [], ◌∷◌, ◌++◌, length, slice_get, Option, Some}
+use Rattle.std.specs.Prelude.{◌≡◌, ◌≢◌, ◌≤◌, ◌<◌, ◌+◌, ◌⊎◌, ℕ, true, List, [], ◌∷◌, ◌++◌, All, drop, take, length, slice_get, IfSome, Option, None, Some}
 use Rattle.eql_values.specs.Accepted.{Reads}
 use Rattle.eql_outside.specs.Outside.{Rose}
 use Rattle.eql_outside.specs.Faults.{SameFaults, RoseFor, RoseUnder}
-use Rattle.eql_lane.specs.declared.make.LaneRefused.{LaneRefused}
-use Rattle.eql_lane.specs.declared.make.LaneRefused.TheVariants as refused
-use Rattle.eql_search.specs.declared.stop.Stop.{Stop}
-use Rattle.eql_search.specs.declared.stop.Stop.TheVariants as by
 use Rattle.eql_outside.specs.Plans.{FaultPlan}
 use Rattle.eql_outside.specs.Unfailing.{IsUnfailing}
-use Rattle.eql_lane.specs.Views.{LaneView, IsTextOf}
-use Rattle.eql_search.specs.Searches.{IsFreshLane}
+use Rattle.eql_lane.specs.declared.make.LaneRefused.{LaneRefused}
+use Rattle.eql_lane.specs.declared.make.LaneRefused.TheVariants as refused
+use Rattle.eql_lane.specs.declared.make.LaneStart.{LaneStart}
+use Rattle.eql_lane.specs.Noting.{IsWholeLine}
+use Rattle.eql_lane.specs.Starts.{Made, Refused, cut_of, wanted_of}
+use Rattle.eql_lane.specs.Views.{LaneView}
 
 module _ {S L : Type 0} (left lent_as : S → Option (List ℕ)) (faults : S → ℕ) (plan : S → Option FaultPlan) (read_of : L → Reads) where
-  -- a lane over a source, of which nothing was read
-  pub record IsOver (reads : Reads) (slack : Option ℤ) (shard : ℕ) (source : S) (lane : LaneView S L) : Type 0 where
-    pub fresh : IsFreshLane read_of reads slack shard lane
-    pub faults_are : lane.state.faults ≡ faults source
-    pub text : IsTextOf left (left source) lane
-    pub named : lent_as lane.source ≡ lent_as source
+  -- a lane that was made over a source, by a slack in milliseconds, as it was to begin
+  pub record IsOver (reads : Reads) (slack : Option ℕ) (shard : ℕ) (source : S) (start : LaneStart) (lane : LaneView S L) : Type 0 where
+    pub reader : L
+    pub reads_are : read_of reader ≡ reads
+    pub made : Made left lent_as faults source reader shard slack start lane
     pub unfailing : IsUnfailing (plan source) → IsUnfailing (plan lane.source)
 
-  -- lanes over these sources, of which the first is of this shard and the others are of the shards after it
-  abbrev pub AreOver : Reads → Option ℤ → (shard : ℕ) → List S → List (LaneView S L) → Type 0
-  AreOver reads slack shard [] [] = Unit {0}
-  AreOver reads slack shard [] (lane ∷ lanes) = ⊥
-  AreOver reads slack shard (source ∷ sources) [] = ⊥
-  AreOver reads slack shard (source ∷ sources) (lane ∷ lanes) =
-      IsOver reads slack shard source lane × AreOver reads slack (shard + 1) sources lanes
+  -- lanes over these sources that begin so, of which the first is of this shard and the others are of the shards after it
+  abbrev pub AreOver : Reads → Option ℕ → (shard : ℕ) → List S → List LaneStart → List (LaneView S L) → Type 0
+  AreOver reads slack shard [] [] [] = Unit {0}
+  AreOver reads slack shard (source ∷ sources) (start ∷ starts) (lane ∷ lanes) =
+      IsOver reads slack shard source start lane × AreOver reads slack (shard + 1) sources starts lanes
+  AreOver reads slack shard _ _ _ = ⊥
 
 -- what a shelf knows of a source when it comes back: its name, and how often it failed
 pub record Returned : Type 0 where
@@ -68,59 +66,58 @@ module _ {S L : Type 0} (lent_as : S → Option (List ℕ)) where
   abbrev pub lane_returned : LaneView S L → Returned
   lane_returned lane = record { name = lent_as lane.source; faults = lane.state.faults }
 
--- a lane over the start of a shard isn't made for two causes alone
-abbrev pub IsFailedOrMemory : LaneRefused → Type 0
-IsFailedOrMemory (refused.Short offset had) = ⊥
-IsFailedOrMemory (refused.NoLine line) = ⊥
-IsFailedOrMemory refused.Grown = ⊥
-IsFailedOrMemory refused.Failed = Unit {0}
-IsFailedOrMemory refused.Memory = Unit {0}
+-- a text over which a lane that begins so is made: it has the bytes that are passed over, in them the wanted lines, and ends
+-- behind them where the cut says so
+pub record Serves (start : LaneStart) (text : List ℕ) : Type 0 where
+  pub there : (cut_of start).offset ≤ length text
+  pub whole : All (IsWholeLine (take (cut_of start).offset text) (drop (cut_of start).offset text)) (wanted_of start)
+  pub ended : (cut_of start).closed ≡ true → length text ≡ (cut_of start).offset
 
--- how a search stops where the lane of this shard isn't made
-abbrev pub StopsAs : LaneRefused → (shard : ℕ) → Stop → Type 0
-StopsAs (refused.Short offset had) shard stop = ⊥
-StopsAs (refused.NoLine line) shard stop = ⊥
-StopsAs refused.Grown shard stop = ⊥
-StopsAs refused.Failed shard stop = stop ≡ by.Read shard
-StopsAs refused.Memory shard stop = stop ≡ by.Memory
-
-module _ {S : Type 0} (lent_as : S → Option (List ℕ)) (faults : S → ℕ) (plan : S → Option FaultPlan) where
-  -- a source comes back from which no lane was made
-  pub record IsBack (source : S) (why : LaneRefused) (back : S) : Type 0 where
-    pub cause : IsFailedOrMemory why
-    pub named : lent_as back ≡ lent_as source
-    pub rose : why ≡ refused.Failed → Rose (faults source) (faults back)
-    pub same : why ≢ refused.Failed → faults back ≡ faults source
-    pub unfailing : IsUnfailing (plan source) → why ≢ refused.Failed
-
-module _ {S : Type 0} (lent_as : S → Option (List ℕ)) (plan : S → Option FaultPlan) where
-  -- making lanes stopped at the source of this shard, which went back to its shelf: what the shelf's counts say
-  pub record StoppedAt (stop : Stop) (shard : ℕ) (sources : List S) (before now : ℕ) (names names' : List ℕ → ℕ) : Type 0 where
+module _ {S : Type 0} (left lent_as : S → Option (List ℕ)) (faults : S → ℕ) (plan : S → Option FaultPlan) where
+  -- making lanes stopped at the source of this shard, which went back to its shelf: why, and what the shelf's counts say; those
+  -- before it were made
+  pub record StoppedAt (why : LaneRefused) (shard : ℕ) (sources : List S) (starts : List LaneStart) (before now : ℕ)
+      (names names' : List ℕ → ℕ) : Type 0 where
     pub source : S
     pub is : slice_get sources shard ≡ Some source
-    pub cause : (stop ≡ by.Memory) ⊎ (stop ≡ by.Read shard)
-    pub memory : stop ≡ by.Memory → (now ≡ before) × SameFaults names names'
-    pub read : stop ≡ by.Read shard → Rose before now × RoseUnder (lent_as source) names names'
-    pub unfailing : IsUnfailing (plan source) → stop ≡ by.Memory
+    pub start : LaneStart
+    pub begins : slice_get starts shard ≡ Some start
+    pub back : S
+    pub refused_by : Refused left lent_as faults (cut_of start) (wanted_of start) source why back
+    pub earlier : (s : ℕ) (x : S) (b : LaneStart) → s < shard → slice_get sources s ≡ Some x → slice_get starts s ≡ Some b
+        → IfSome (left x) (Serves b)
+    pub steady : why ≢ refused.Failed → (now ≡ before) × SameFaults names names'
+    pub rose : why ≡ refused.Failed → Rose before now × RoseUnder (lent_as source) names names'
+    pub unfailing : IsUnfailing (plan source) → why ≢ refused.Failed
 
-  -- making lanes over these sources stopped: memory ran out before the first, or at one of them
-  abbrev pub StoppedMaking : Stop → List S → (before now : ℕ) → (names names' : List ℕ → ℕ) → Type 0
-  StoppedMaking stop sources before now names names' =
-      ((stop ≡ by.Memory) × (now ≡ before) × SameFaults names names')
-      ⊎ ((shard : ℕ) × StoppedAt stop shard sources before now names names')
+  -- making lanes stopped: memory ran out before the first, or at one of them
+  abbrev pub StoppedMaking : LaneRefused → (shard : ℕ) → List S → List LaneStart → (before now : ℕ) → (names names' : List ℕ → ℕ) → Type 0
+  StoppedMaking why shard sources starts before now names names' =
+      ((why ≡ refused.Memory) × (now ≡ before) × SameFaults names names')
+      ⊎ StoppedAt why shard sources starts before now names names'
 
 module _ {S L : Type 0} (left lent_as : S → Option (List ℕ)) (faults : S → ℕ) (plan : S → Option FaultPlan) (read_of : L → Reads)
-    (reads : Reads) (slack : Option ℤ) where
-  -- of these sources the first have lanes, and the rest not yet
-  pub record Filling (all rest : List S) (lanes : List (LaneView S L)) : Type 0 where
+    (reads : Reads) (slack : Option ℕ) where
+  -- of these sources the first have lanes, which began with the first of these starts, and the rest not yet
+  pub record Filling (all rest : List S) (starts left_over : List LaneStart) (lanes : List (LaneView S L)) : Type 0 where
     pub done : List S
+    pub began : List LaneStart
     pub all_are : all ≡ done ++ rest
-    pub over : AreOver left lent_as faults plan read_of reads slack 0 done lanes
+    pub starts_are : starts ≡ began ++ left_over
+    pub over : AreOver left lent_as faults plan read_of reads slack 0 done began lanes
 
   -- the same, with one source between them for which that stopped
-  pub record Halted (stop : Stop) (all rest : List S) (lanes : List (LaneView S L)) (before now : ℕ) (names names' : List ℕ → ℕ) : Type 0 where
+  pub record Halted (why : LaneRefused) (shard : ℕ) (all rest : List S) (starts : List LaneStart) (lanes : List (LaneView S L))
+      (before now : ℕ) (names names' : List ℕ → ℕ) : Type 0 where
     pub done : List S
     pub source : S
+    pub began : List LaneStart
     pub all_are : all ≡ done ++ source ∷ rest
-    pub over : AreOver left lent_as faults plan read_of reads slack 0 done lanes
-    pub at : StoppedAt lent_as plan stop (length done) all before now names names'
+    pub over : AreOver left lent_as faults plan read_of reads slack 0 done began lanes
+    pub at : StoppedAt left lent_as faults plan why shard all starts before now names names'
+
+-- what no run changes of a lane: the name of its source, and that the source doesn't tell; the count of its faults doesn't fall
+pub record StaysSource {S L : Type 0} (left lent_as : S → Option (List ℕ)) (old new : LaneView S L) : Type 0 where
+  pub named : lent_as new.source ≡ lent_as old.source
+  pub silent : left old.source ≡ None → left new.source ≡ None
+  pub counts : old.state.faults ≤ new.state.faults

@@ -1,49 +1,159 @@
--- A search over the lanes of a run, and why it stops.
-use Rattle.std.specs.Prelude.{◌≡◌, ◌<◌, ℕ, List, length, slice_get, Option, Some, Result, Ok, Err}
+-- A search over the lanes of a run: what it searches for, with what it begins, and why it stops.
+use Rattle.std.specs.Prelude.{◌≡◌, ◌≢◌, ◌≤◌, ◌<◌, ◌^◌, ℕ, Bool, true, false, List, [], All, length, map, slice_get, Option, None, Some, IfSome, Result, Ok, Err}
+use Rattle.eql_values.specs.declared.cut.BookCut.{BookCut}
 use Rattle.eql_values.specs.declared.cut.Counts.{Counts}
+use Rattle.eql_values.specs.declared.cut.LaneCut.{LaneCut}
+use Rattle.eql_values.specs.declared.found.Holder.{Holder}
+use Rattle.eql_values.specs.declared.order.Mark.{Mark}
+use Rattle.eql_values.specs.declared.order.Mark.TheVariants.{At}
+use Rattle.eql_outside.specs.Moments.{History}
 use Rattle.eql_outside.specs.Written.{WroteFront}
-use Rattle.eql_check.specs.Kinds.{kind_at}
-use Rattle.eql_check.specs.Typing.{IsChecked}
-use Rattle.eql_stages.specs.Planned.{Planned}
+use Rattle.eql_laws.specs.Lateness.{AtMost}
+use Rattle.eql_laws.specs.Places.{ReadTo, whole}
+use Rattle.eql_parser.specs.Printed.{printed}
+use Rattle.eql_parser.specs.QueryTree.{query_tree}
+use Rattle.eql_stages.specs.Stages.{span_in}
 use Rattle.eql_words.specs.declared.commands.Find.{Find}
+use Rattle.eql_lane.specs.Lanes.{fresh_cut as fresh_lane}
 use Rattle.eql_lane.specs.Views.{LaneView}
-use Rattle.eql_runs.specs.Runs.{IsBeyond, shard_of}
-use Rattle.eql_runs.specs.Searches.{Search, plan_of, report_lines, shard_counts_from}
+use Rattle.eql_cut.specs.declared.cut.Cut.{Cut}
+use Rattle.eql_cut.specs.declared.cut.CutHead.{CutHead}
+use Rattle.eql_cut.specs.Domain.{IsCut}
+use Rattle.eql_ckdisk.specs.declared.state.CkState.{CkState}
+use Rattle.eql_ckdisk.specs.Putting.{Stands, last_cut}
+use Rattle.eql_conductor.specs.declared.plan.Keep.{Keep}
+use Rattle.eql_conductor.specs.Saving.{PutsCuts}
+use Rattle.eql_runs.specs.Runs.{ShardLimit, shard_of}
+use Rattle.eql_runs.specs.Searches.{Search, matches_of, pipes_of, reads_of, report_lines, shard_counts_from, slack_of, stages_of}
+use Rattle.eql_runs.specs.Starts.{IsCutOf}
 use Rattle.eql_inputs.specs.declared.halt.Halt.TheVariants as halt
+use Rattle.eql_resume.specs.Lifted.{WereLifted}
 use Rattle.eql_search.specs.Answers.{BecameAt, RoseFaults, SteadyBut}
-use Rattle.eql_search.specs.Searches.{AreTextsOf}
+use Rattle.eql_search.specs.Beginnings.{BeginsOn, cuts_of, start_at}
+use Rattle.eql_search.specs.Searches.{Rules}
 use Rattle.eql_find.specs.declared.halt.RunHalt.{RunHalt}
 use Rattle.eql_find.specs.declared.halt.RunHalt.TheVariants as run
+use Rattle.eql_find.specs.declared.plan.Planning.{Planning}
 use Rattle.eql_find.specs.Halts.{limit_of}
 
-module _ {S L : Type 0} (left : S → Option (List ℕ)) where
-  -- this search is what the words and the plan ask for, and the lanes are of these texts
-  pub record Suits (find : Find) (plan : Planned) (search : Search) (texts : List (List ℕ)) (lanes : List (LaneView S L)) : Type 0 where
-    pub plan_is : plan_of search ≡ plan
-    pub slack_is : search.slack ≡ find.slack
-    pub places_are : search.places ≡ find.places
-    pub checked : IsChecked (kind_at search.mapping) search.query
-    pub texts_of : AreTextsOf left texts lanes
+-- ---- what is searched for
+abbrev pub search_in : Find → Planning → Search
+search_in find p = record {
+  query = query_tree p.plan.checked.query;
+  mapping = p.mapping;
+  tie = find.tie;
+  slack = find.slack;
+  places = find.places;
+}
 
-  -- a report of as many shards as the words name, of which the error output got a front; it is that of the search
-  pub record ReportOf (find : Find) (plan : Planned) (lanes : List (LaneView S L)) (err err' : Option (List ℕ)) : Type 0 where
-    pub counts : List Counts
-    pub count : length counts ≡ length find.shards
-    pub wrote : WroteFront (report_lines 0 counts) err err'
-    pub counts_are :
-        (search : Search) (texts : List (List ℕ)) → Suits find plan search texts lanes
-        → counts ≡ shard_counts_from search 0 texts
+-- the rules that a search goes by
+abbrev pub rules_in : Search → Rules
+rules_in search = record { reads = reads_of search; slack = slack_of search; stages = stages_of search; span = span_in search.query.body }
 
-  -- why a search over lanes stopped
-  abbrev pub StoppedLanes : Find → Planned → List (LaneView S L) → (err err' : Option (List ℕ)) → RunHalt → Type 0
-  StoppedLanes find plan lanes err err' (run.Files (halt.Refused r)) = ⊥
-  StoppedLanes find plan lanes err err' (run.Files (halt.Read name)) = Unit {0}
-  StoppedLanes find plan lanes err err' (run.Files halt.Memory) = Unit {0}
-  StoppedLanes find plan lanes err err' run.Write = Unit {0}
-  StoppedLanes find plan lanes err err' (run.Limit l) =
-      (shard_of (limit_of l) < length find.shards)
-      × ((search : Search) (texts : List (List ℕ)) → Suits find plan search texts lanes → IsBeyond texts (limit_of l))
-  StoppedLanes find plan lanes err err' (run.Report r) = ReportOf find plan lanes err err'
+-- the slack that cuts tell, in milliseconds; a run without one keeps no cuts
+abbrev pub slack_told : Option ℕ → ℕ
+slack_told None = 0
+slack_told (Some ms) = ms
+
+-- what the cuts of a run say of it
+abbrev pub head_in : Find → Planning → CutHead
+head_in find p = record {
+  query = printed (query_tree p.plan.checked.query);
+  mapping = p.mapping;
+  tie = find.tie;
+  slack = slack_told find.slack;
+  shards = length find.shards;
+}
+
+-- ---- with what it begins
+-- a lane of which nothing was read
+abbrev pub IsFresh : {S L : Type 0} → LaneView S L → Type 0
+IsFresh lane = (lane.state.cut ≡ fresh_lane) × (lane.places ≡ [])
+
+-- the places that lanes keep of the lines that were wanted
+abbrev pub places_in : {S L : Type 0} → List (LaneView S L) → List (List (ℕ × ℕ))
+places_in lanes = map (λ lane. lane.places) lanes
+
+-- a lane from which its places were taken
+abbrev pub bare : {S L : Type 0} → LaneView S L → LaneView S L
+bare lane = record lane { places = [] }
+
+-- lanes began with what a cut without places keeps of them, over shards that were read up to places. Where their texts are told
+-- these are the whole shards
+pub record BeganLifted {S L : Type 0} (texts : Option (List (List ℕ))) (cut : Cut) (lanes : List (LaneView S L)) : Type 0 where
+  pub shards : List ReadTo
+  pub were_lifted : WereLifted cut 0 shards (cuts_of lanes) (places_in lanes)
+  pub texts_are : IfSome texts (λ ts. map whole shards ≡ ts)
+
+-- lanes began with what a cut keeps of them, as it stands
+pub record BeganFrom {S L : Type 0} (cut : Cut) (lanes : List (LaneView S L)) : Type 0 where
+  pub cuts_are : cuts_of lanes ≡ cut.lanes
+  pub no_places : All (λ lane. lane.places ≡ []) lanes
+
+abbrev pub BeganWith : {S L : Type 0} → (texts : Option (List (List ℕ))) → (unplaced : Bool) → Option Cut → List (LaneView S L) → Type 0
+BeganWith texts unplaced None lanes = All IsFresh lanes
+BeganWith texts false (Some cut) lanes = BeganFrom cut lanes
+BeganWith texts true (Some cut) lanes = BeganLifted texts cut lanes
+
+-- what lanes, pending sequences and a book that begin so are of these texts: nothing, or a cut of them
+abbrev pub StartsOn : Search → (texts : List (List ℕ)) → Mark → List LaneCut → List Holder → BookCut → Type 0
+StartsOn search texts mark lanes holders book = BeginsOn (rules_in search) (pipes_of search) texts (start_at mark lanes holders book)
+
+-- ---- the report
+-- a report of as many shards as the words name, of which the error output got a front; where a run may begin so over told texts it is that of
+-- the search
+pub record ReportOf (find : Find) (search : Search) (texts : Option (List (List ℕ))) (Started : List (List ℕ) → Type 0)
+    (err err' : Option (List ℕ)) : Type 0 where
+  pub counts : List Counts
+  pub count : length counts ≡ length find.shards
+  pub wrote : WroteFront (report_lines 0 counts) err err'
+  pub counts_are : IfSome texts (λ ts. Started ts → counts ≡ shard_counts_from search 0 ts)
+
+-- ---- the disk
+-- a cut with this head, at a time from the mark on
+pub record IsLater (head : CutHead) (from : Mark) (cut : Cut) : Type 0 where
+  pub head_is : cut.head ≡ head
+  pub is_cut : IsCut cut
+  pub later : AtMost from (At cut.mark)
+
+-- the cuts that a run put, one after another. `Are` says which texts they are cuts of. The generations came to their end only where they began
+-- far up
+pub record PutsThese (head : CutHead) (from : Mark) (Are : List Cut → Type 0) (state then : CkState) (before now : Option History)
+    (ended : Type 0) : Type 0 where
+  pub cuts : List Cut
+  pub are_later : All (IsLater head from) cuts
+  pub are_cuts : Are cuts
+  pub puts : PutsCuts (last_cut state) cuts before now
+  pub at_end : ended → ((last_cut then).generation ≡ 2 ^ 63) × (2 ^ 62 ≤ (last_cut state).generation) × Stands (last_cut then) now
+
+module _ {D : Type 0} (history : D → Option History) where
+  abbrev pub KeepsAs : {A : Type 0} → CutHead → Mark → (List Cut → Type 0) → (keep kept : Option (Keep D)) → Result A RunHalt → Type 0
+  KeepsAs head from Are None None answer = answer ≢ Err run.Generation
+  KeepsAs head from Are None (Some l) answer = ⊥
+  KeepsAs head from Are (Some k) None answer = ⊥
+  KeepsAs head from Are (Some k) (Some l) answer =
+      PutsThese head from Are k.state l.state (history k.disk) (history l.disk) (answer ≡ Err run.Generation)
+
+-- where a run may begin so over told texts, these are cuts of the search over them
+abbrev pub AreCutsOf : Search → (texts : Option (List (List ℕ))) → (Started : List (List ℕ) → Type 0) → List Cut → Type 0
+AreCutsOf search texts Started cuts =
+    IfSome texts (λ ts. Started ts → length (matches_of search ts) < 2 ^ 64
+    → (slack : ℕ) → search.slack ≡ Some slack → All (λ (cut : Cut). IsCutOf search slack ts cut) cuts)
+
+-- ---- why it stops
+-- `Started` says that the run may begin so over texts, `Beyond` that a shard of them is beyond a limit
+abbrev pub StoppedLanes : Find → Search → (texts : Option (List (List ℕ))) → (Started : List (List ℕ) → Type 0)
+    → (Beyond : List (List ℕ) → ShardLimit → Type 0) → (err err' : Option (List ℕ)) → RunHalt → Type 0
+StoppedLanes find search texts Started Beyond err err' (run.Files (halt.Refused r)) = ⊥
+StoppedLanes find search texts Started Beyond err err' (run.Files (halt.Read name)) = Unit {0}
+StoppedLanes find search texts Started Beyond err err' (run.Files halt.Memory) = Unit {0}
+StoppedLanes find search texts Started Beyond err err' (run.Cut why) = ⊥
+StoppedLanes find search texts Started Beyond err err' run.Disk = find.checkpoint ≢ None
+StoppedLanes find search texts Started Beyond err err' run.Write = Unit {0}
+StoppedLanes find search texts Started Beyond err err' (run.Limit l) =
+    (shard_of (limit_of l) < length find.shards) × IfSome texts (λ ts. Beyond ts (limit_of l))
+StoppedLanes find search texts Started Beyond err err' run.Generation = find.checkpoint ≢ None
+StoppedLanes find search texts Started Beyond err err' (run.Report r) = ReportOf find search texts Started err err'
 
 -- the faults of the lanes' sources: where a read fault is told those of the lane of a shard with its name rose, and of no
 -- other lane; else of none
@@ -58,6 +168,9 @@ LaneFaults find (Ok done) olds news = SteadyBut (λ s. ⊥) olds news
 LaneFaults find (Err (run.Files (halt.Refused r))) olds news = SteadyBut (λ s. ⊥) olds news
 LaneFaults find (Err (run.Files (halt.Read name))) olds news = FailedLane find name.now olds news
 LaneFaults find (Err (run.Files halt.Memory)) olds news = SteadyBut (λ s. ⊥) olds news
+LaneFaults find (Err (run.Cut why)) olds news = SteadyBut (λ s. ⊥) olds news
+LaneFaults find (Err run.Disk) olds news = SteadyBut (λ s. ⊥) olds news
 LaneFaults find (Err run.Write) olds news = SteadyBut (λ s. ⊥) olds news
 LaneFaults find (Err (run.Limit l)) olds news = SteadyBut (λ s. ⊥) olds news
+LaneFaults find (Err run.Generation) olds news = SteadyBut (λ s. ⊥) olds news
 LaneFaults find (Err (run.Report r)) olds news = SteadyBut (λ s. ⊥) olds news

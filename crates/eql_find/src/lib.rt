@@ -1,13 +1,16 @@
-//! A run of `find`: a query and its mapping are read, the shards are searched, the listing is written on the output and
-//! the report beside it, and every source goes back to the shelf.
+//! A run of `find`: a query and its mapping are read, the shards are searched, the listing is written on the output
+//! and the report beside it, and every source goes back to the shelf. With a checkpoint the run goes on from the cut
+//! that a disk holds, and puts cuts on it.
 #![tactic(auto)]
 
-mod book;
+mod checkpoint;
 mod find;
 mod halt;
 mod lanes;
 mod plan;
 mod report;
+mod running;
+mod stops;
 
 pub use find::find_matches;
-pub use halt::{RunHalt, ShardLimit};
+pub use halt::{CutStop, RunHalt, ShardLimit};

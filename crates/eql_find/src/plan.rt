@@ -1,25 +1,39 @@
 //! The plan of a search.
-ghost use Rattle.std.specs.Prelude.{◌≡◌, ◌≤◌, IfErr, IfOk, MatchResult};
+ghost use Rattle.std.specs.Prelude.{◌≡◌, ◌≤◌, IfErr, IfOk, IsTrue, MatchResult};
 ghost use Rattle.eql_outside.specs.Faults.{SameFaults};
 ghost use Rattle.eql_inputs.specs.Halts.{AbsenceAs, CountAs, FaultsAs, IsNoFault};
 ghost use Rattle.eql_inputs.specs.Shelves.{KeepsShelf, LendsAsMany, NeverFails};
 ghost use Rattle.eql_inputs.specs.Steps.{CheckCause};
+ghost use Rattle.eql_cut.specs.CutValues.{names_ascend};
+ghost use Rattle.eql_words.specs.Bounds.{FindBounds};
 ghost use Rattle.eql_find.specs.Finding.{IsPlanOf};
+ghost use Rattle.eql_find.specs.Searching.{head_in};
 
-use eql_check::Checked;
+use eql_check::{Checked, Mapping};
+use eql_cut::CutHead;
 use eql_inputs::{Halt, read_checked};
 use eql_outside::Shelf;
+use eql_parser::print;
 use eql_stages::Plan;
-use eql_values::Memory;
+use eql_values::{Memory, Text};
 use eql_words::Find;
 use std::alloc::Global;
+
+/// What is searched for: a query that is planned, and the mapping that it was checked against.
+#[derive(Drop)]
+pub(crate) struct Planning {
+    /// The plan of the query.
+    pub plan: Plan,
+    /// The mapping.
+    pub mapping: Mapping,
+}
 
 /// Reads the query and the mapping of a search, and plans it.
 pub(crate) fn read_plan<'a, H: Shelf>(
     alloc: Global,
     find: &'a Find,
     shelf: &mut H,
-) -> Result<Plan, Halt<'a>>
+) -> Result<Planning, Halt<'a>>
     ensures plan { IfOk result (IsPlanOf find.now (H.files shelf.old)) }
     ensures cause { IfErr result (CheckCause find.now.query find.now.fields (H.files shelf.old)) }
     ensures faults { MatchResult result
@@ -42,7 +56,10 @@ pub(crate) fn read_plan<'a, H: Shelf>(
 {
     let inputs = read_checked(alloc, &find.query, &find.fields, shelf)?;
     match plan_of(alloc, inputs.checked, find) {
-        Ok(plan) => Ok(plan),
+        Ok(plan) => Ok(Planning {
+            plan,
+            mapping: inputs.mapping,
+        }),
         Err(_) => Err(Halt::Memory),
     }
 }
@@ -51,6 +68,33 @@ pub(crate) fn read_plan<'a, H: Shelf>(
 fn plan_of(alloc: Global, checked: Checked, find: &Find) -> Result<Plan, Memory>
     ensures { IfOk result (λ plan. plan ≡ record { checked = checked; tie = find.now.tie }) }
 {
-    let tie = find.tie.clone()?;
+    let tie = copy_tie(&find.tie)?;
     Plan::make(alloc, checked, tie)
+}
+
+/// A copy of the tiebreaker.
+fn copy_tie(tie: &Option<Text>) -> Result<Option<Text>, Memory>
+    ensures { IfOk result (λ copy. copy ≡ tie.now) }
+{
+    let copy = tie.clone()?;
+    Ok(copy)
+}
+
+/// What the cuts of a run say of it.
+pub(crate) fn head_of(alloc: Global, find: &Find, planning: &Planning) -> Result<CutHead, Memory>
+    requires { FindBounds find.now }
+    ensures head { IfOk result (λ head. head ≡ head_in find.now planning.now) }
+    ensures names { IsTrue (names_ascend planning.now.mapping) }
+{
+    let names = planning.mapping.names();
+    let query = print(alloc, planning.plan.checked().query())?;
+    let mapping = names.clone()?;
+    let tie = copy_tie(&find.tie)?;
+    Ok(CutHead {
+        query,
+        mapping,
+        tie,
+        slack: find.slack.unwrap_or(0),
+        shards: find.shards.items().len() as u32,
+    })
 }

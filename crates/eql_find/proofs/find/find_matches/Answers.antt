@@ -1,4 +1,44 @@
+use Rattle.std.proofs.Common.{ℕ, Option, subst, sym, ◌∙◌}
+use Rattle.std.specs.Prelude.{IfErr}
+use Rattle.eql_outside.specs.Moments.{History}
+use Rattle.eql_outside.specs.Plans.{FaultPlan}
+use Rattle.eql_outside.specs.Unfailing.{IsUnfailing}
+use Rattle.eql_runs.specs.Files.{Files}
+use Rattle.eql_find.specs.Finding.{HasCause}
+use Rattle.eql_find.specs.Halts.{AbsenceAs}
+use Rattle.eql_find.proofs.GivingLemmas.{over_both}
+use Rattle.eql_find.proofs.HaltingEarly.{none_is_some, same_keeps}
 use Rattle.eql_find.proofs.find.find_matches.Goals as goal
+
+-- query or mapping weren't read
+pub returns-in-Err-clause-prefix : goal.returns-in-Err-clause-prefix
+returns-in-Err-clause-prefix g c = none_is_some _ _ _ _
 
 pub returns-in-Err-clause-cause : goal.returns-in-Err-clause-cause
 returns-in-Err-clause-cause g c = c.in-Err.ensures.cause c.args.find.now.shards
+
+pub returns-in-Err-clause-moments : goal.returns-in-Err-clause-moments
+returns-in-Err-clause-moments g c = λ asked. same_keeps _ _ _ _ c.in-Err.ensures.kept.history_is
+
+-- the shards weren't opened
+pub returns-clause-moments : goal.returns-clause-moments
+returns-clause-moments g c = λ asked. same_keeps _ _ _ _ (c.open_shards.ensures.kept.history_is ∙ c.read_plan.ensures.kept.history_is)
+
+-- they were
+pub returns-in-Ok-open_shards-clause-cause : goal.returns-in-Ok-open_shards-clause-cause
+returns-in-Ok-open_shards-clause-cause g c =
+    over_both (λ (fs : Option Files) (h : Option History). IfErr c.run_shards.result (HasCause c.args.find.now fs h (g.H.Shelf.disk_history c.run_shards.new.shelf) (g.E.Sink.written c.args.err.now) (g.E.Sink.written c.run_shards.new.err)))
+    (c.open_shards.ensures.kept.files_are ∙ c.read_plan.ensures.kept.files_are) (c.open_shards.ensures.kept.history_is ∙ c.read_plan.ensures.kept.history_is)
+    c.run_shards.ensures.cause
+
+pub returns-in-Ok-open_shards-clause-absences : goal.returns-in-Ok-open_shards-clause-absences
+returns-in-Ok-open_shards-clause-absences g c =
+    subst (λ (n : ℕ). AbsenceAs c.run_shards.result n (g.H.Shelf.absent_count c.run_shards.new.shelf))
+    (c.in-Ok-open_shards.ensures.absences ∙ c.in-Ok.ensures.absences) c.run_shards.ensures.absences
+
+pub returns-in-Ok-open_shards-clause-unfailing : goal.returns-in-Ok-open_shards-clause-unfailing
+returns-in-Ok-open_shards-clause-unfailing g c =
+    λ shelf files disk out err.
+    let opened = c.in-Ok-open_shards.ensures.unfailing (c.in-Ok.ensures.unfailing (shelf, files)).1 in
+    c.run_shards.ensures.unfailing opened.0 opened.1.0
+    (λ asked. subst (λ (p : Option FaultPlan). IsUnfailing p) (sym (c.open_shards.ensures.kept.plan_is ∙ c.read_plan.ensures.kept.plan_is)) (disk asked)) out err

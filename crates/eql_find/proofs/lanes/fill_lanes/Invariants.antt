@@ -1,21 +1,21 @@
-use Rattle.std.proofs.Common.{◌≡◌, ◌≤◌, ◌+◌, length, vec_len}
+use Rattle.std.proofs.Common.{◌≡◌, ◌≤◌, ◌+◌, length}
 use Rattle.std.specs.Prelude.{All, vec_capacity, reverse}
-use Rattle.eql_lane.specs.Slacks.{nanos_of}
+use Rattle.eql_lane.specs.Starts.{MayStart}
 use Rattle.eql_stages.specs.Judging.{reads_by}
 use Rattle.eql_stages.specs.Planned.{line_of, planned}
 use Rattle.eql_find.specs.Lanes.{Filling}
 use Rattle.eql_find.proofs.lanes.fill_lanes.Given as goal
 
-abbrev pub invariant-lanes : goal.invariant-lanes
-invariant-lanes g l = record {
+abbrev pub invariant-loop-start : goal.invariant-loop-start
+invariant-loop-start g l = record {
   filling : Filling g.H.Src.Source.left g.H.Src.Source.lent_as g.H.Src.Source.fault_count g.H.Src.Source.fault_plan reads_by
-      (line_of (planned l.fn.plan)) (nanos_of l.fn.slack) (reverse l.fn.sources.items) (reverse l.sources.items) l.lanes.items;
+      (line_of (planned l.fn.plan)) l.fn.slack (reverse l.fn.sources.items) (reverse l.sources.items) l.fn.starts.items l.start-iterator.rest.items
+      l.lanes.items;
   shard : l.shard ≡ length l.lanes.items;
+  many : length l.start-iterator.rest.items ≡ length l.sources.items;
   few : length l.lanes.items + length l.sources.items ≤ 256;
   room : length l.lanes.items + length l.sources.items ≤ vec_capacity l.lanes;
+  may : All MayStart l.start-iterator.rest.items;
   fresh : All (λ source. g.H.Src.Source.fault_count source ≡ 0) l.sources.items;
   shelf : l.shelf ≡ l.fn.shelf;
 }
-
-abbrev pub decreases-lanes : goal.decreases-lanes
-decreases-lanes g l = vec_len l.sources

@@ -12,14 +12,14 @@ pub returns-in-Err-filled-clause-stopped : goal.returns-in-Err-filled-clause-sto
 returns-in-Err-filled-clause-stopped g c =
     making_stopped g.H.Src.Source.left g.H.Src.Source.lent_as g.H.Src.Source.fault_count g.H.Src.Source.fault_plan reads_by _ _
     (record { earlier = c.faults_are_counted_by_name.ensures.earlier; later = c.faults_are_counted_by_name.ensures.later })
-    c.in-Err-filled.stop c.args.sources.items _ _ _ _ _ _ _ _ _ _ _
+    c.in-Err-filled.stop.why c.in-Err-filled.stop.shard c.args.sources.items _ _ _ _ _ _ _ _ _ _ _ _
     (back_again c.args.sources.items _ c.turn_round.ensures) c.requires.fresh
     c.in-Err-filled.ensures.stopped c.give_sources-2.ensures.back c.give_lanes.ensures.back
 
 pub returns-in-Err-filled-clause-lent : goal.returns-in-Err-filled-clause-lent
 returns-in-Err-filled-clause-lent g c =
     let long = making_long g.H.Src.Source.left g.H.Src.Source.lent_as g.H.Src.Source.fault_count g.H.Src.Source.fault_plan reads_by _ _
-    c.in-Err-filled.stop c.args.sources.items _ _ c.fill_lanes-filled.new.sources.items _ _ _ _ _
+    c.in-Err-filled.stop.why c.in-Err-filled.stop.shard c.args.sources.items _ _ c.fill_lanes-filled.new.sources.items _ _ _ _ _ _
     (back_again c.args.sources.items _ c.turn_round.ensures) refl
     c.in-Err-filled.ensures.stopped in
     lent_back _ _ _ _ _ _ _ long c.in-Err-filled.ensures.lent c.give_sources-2.ensures.lent c.give_lanes.ensures.lent

@@ -1,0 +1,154 @@
+-- A search may begin as a run was found to begin, and over which texts it does.
+use Rattle.std.proofs.Common.{◌≡◌, ◌≢◌, ◌*◌, ℕ, ℤ, Bool, true, false, List, [], ◌∷◌, Option, Some, None, refl, sym, ap, ◌∙◌, subst, length, map}
+use Rattle.std.specs.Prelude.{◌&&◌, All, IsTrue, pos}
+use Rattle.std.specs.Option.{option_map}
+use Rattle.std.specs.List.{list_all}
+use Rattle.std.specs.FinMap.Entries.{is_sorted}
+use Rattle.std.specs.Ordering.{nat_cmp}
+use Rattle.std.proofs.lemmas.List.{length-map}
+use Rattle.std.proofs.lemmas.List.Elements.{All-cons, All-head, All-nil, All-tail, All-weaker}
+use Rattle.eql_values.specs.declared.cut.LaneCut.{LaneCut}
+use Rattle.eql_values.specs.declared.order.Mark.TheVariants.{At}
+use Rattle.eql_laws.specs.Fitting.{Fits, Kept, StandsInOrder}
+use Rattle.eql_words.specs.declared.commands.Find.{Find}
+use Rattle.eql_words.specs.Bounds.{FindBounds}
+use Rattle.eql_lane.specs.Lanes.{fresh_cut}
+use Rattle.eql_lane.specs.Views.{LaneView}
+use Rattle.eql_cut.specs.declared.cut.Cut.{Cut}
+use Rattle.eql_cut.specs.Domain.{IsCut, kept_by}
+use Rattle.eql_cut.specs.Fitting.{FitsRun}
+use Rattle.eql_cut.specs.Lifting.{LiftedFits, LiftedStands}
+use Rattle.eql_cut.specs.Placing.{IsUnplaced, LinesAscend, lifted, orders_in, place_of}
+use Rattle.eql_conductor.specs.Openings.{FitMayBegin}
+use Rattle.eql_resume.specs.Beginnings.{Rest, placed_if, rest_by}
+use Rattle.eql_resume.specs.Finding.{Suits}
+use Rattle.eql_resume.specs.Lifted.{LiftedAs, LiftedIsCut}
+use Rattle.eql_runs.specs.RunLaws.{FitsAtAnySpan}
+use Rattle.eql_runs.specs.Searches.{run_of}
+use Rattle.eql_search.specs.Beginnings.{BeginsFrom, MayBegin, cuts_of}
+use Rattle.eql_find.specs.declared.plan.Planning.{Planning}
+use Rattle.eql_find.specs.Searching.{BeganLifted, BeganWith, IsFresh, bare, places_in, rules_in, search_in, slack_told}
+use Rattle.eql_find.specs.Starting.{pipes_of, stages_of, values_of}
+use Rattle.eql_find.proofs.TextLemmas.{asked_slack}
+
+-- the laws on which this rests
+pub record BeginLaws : Type 0 where
+  pub spans : FitsAtAnySpan
+  pub lifted_is : LiftedIsCut
+  pub lifted_stands : LiftedStands
+  pub lifted_fit : LiftedFits
+  pub may_begin : FitMayBegin
+
+-- ---- the places of lanes
+-- lists without places are in order
+none_ascend : {S L : Type 0} (lanes : List (LaneView S L)) → All (λ (lane : LaneView S L). lane.places ≡ []) lanes → LinesAscend (places_in lanes)
+none_ascend [] all = refl
+none_ascend (l ∷ ls) all = both (is_sorted nat_cmp l.places) (list_all (is_sorted nat_cmp) (places_in ls))
+    (ap (is_sorted nat_cmp) (All-head (λ lane. lane.places ≡ []) l ls all)) (none_ascend ls (All-tail (λ lane. lane.places ≡ []) l ls all))
+  where
+    both : (a b : Bool) → a ≡ true → IsTrue b → IsTrue (a && b)
+    both true b e h = h
+    both false b e h = absurd cc
+
+-- a cut with the places of its lanes has the lanes that began with it
+abbrev pub placed_by : List (List (ℕ × ℕ)) → (unplaced : Bool) → Cut → Cut
+placed_by lists true cut = lifted (place_of lists) cut
+placed_by lists false cut = cut
+
+-- ---- with a cut
+module _ {S L : Type 0} (laws : BeginLaws) (find : Find) (p : Planning) (bounds : FindBounds find) (texts : Option (List (List ℕ)))
+    (lanes : List (LaneView S L)) (format : ℕ) (cut : Cut) (asked : find.checkpoint ≢ None)
+    (suits : Suits (stages_of p) (values_of p) (pipes_of p) cut.head cut) (unplaced : format ≡ 1 → IsUnplaced (orders_in cut))
+    (slack_is : cut.head.slack ≡ slack_told find.slack) (many : length lanes ≡ length cut.lanes) where
+  pub lifted_as : (began : BeganLifted texts cut lanes) → LiftedAs cut began.shards (cuts_of lanes) (places_in lanes)
+  lifted_as began =
+      laws.lifted_is (stages_of p) (values_of p) (pipes_of p) cut began.shards (cuts_of lanes) (places_in lanes) suits
+      (length-map lanes (λ (lane : LaneView S L). lane.state.cut) ∙ many) began.were_lifted
+
+  pub ascend_by : (u : Bool) → BeganWith texts u (Some cut) lanes → LinesAscend (places_in lanes)
+  ascend_by false began = none_ascend lanes began.no_places
+  ascend_by true began = (lifted_as began).ascend
+
+  -- the lanes keep what the placed cut does
+  pub lanes_are : (u : Bool) → BeganWith texts u (Some cut) lanes → cuts_of lanes ≡ (placed_by (places_in lanes) u cut).lanes
+  lanes_are false began = began.cuts_are
+  lanes_are true began = (lifted_as began).lanes_are
+
+  pub rest_placed : (u : Bool) → placed_if u (place_of (places_in lanes)) (rest_by (pipes_of p) u (Some cut))
+      ≡ (let c = placed_by (places_in lanes) u cut in let r : Rest = record { mark = At cut.mark; holders = c.holders; book = c.book; unplaced = false } in r)
+  rest_placed false = refl
+  rest_placed true = refl
+
+  -- the placed cut fits and stands in order
+  fits_by : (u : Bool) → (u ≡ true → IsUnplaced (orders_in cut)) → FitsRun (stages_of p) (values_of p) (pipes_of p) (placed_by (places_in lanes) u cut)
+  fits_by false none = suits.fits
+  fits_by true none = (laws.lifted_fit (place_of (places_in lanes)) (stages_of p) (values_of p) (pipes_of p) cut (none refl)).1 suits.fits
+
+  stands_by : (u : Bool) → (u ≡ true → IsUnplaced (orders_in cut)) → IsCut (placed_by (places_in lanes) u cut)
+  stands_by false none = suits.is_cut
+  stands_by true none = laws.lifted_stands (place_of (places_in lanes)) cut (none refl) suits.is_cut
+
+  pub same_head : (u : Bool) → (placed_by (places_in lanes) u cut).head ≡ cut.head
+  same_head false = refl
+  same_head true = refl
+
+  pub same_mark : (u : Bool) → (placed_by (places_in lanes) u cut).mark ≡ cut.mark
+  same_mark false = refl
+  same_mark true = refl
+
+  -- so a search may begin with it
+  kept_may : (c : Cut) → c.head.slack ≡ slack_told find.slack → c.head.shards ≡ length lanes → cuts_of lanes ≡ c.lanes
+      → FitsRun (stages_of p) (values_of p) (pipes_of p) c → IsCut c
+      → BeginsFrom (rules_in (search_in find p)) (pipes_of p) (length (cuts_of lanes))
+      (record { time = c.mark; lanes = cuts_of lanes; holders = c.holders; book = c.book })
+  kept_may c slack shards same fits is =
+      let kept : Kept = record { time = c.mark; lanes = cuts_of lanes; holders = c.holders; book = c.book } in
+      let kept_is : kept_by c ≡ kept = ap (λ (ls : List LaneCut). let k : Kept = record { time = c.mark; lanes = ls; holders = c.holders; book = c.book } in k) (sym same) in
+      let count : c.head.shards ≡ length (cuts_of lanes) = shards ∙ sym (length-map lanes (λ (lane : LaneView S L). lane.state.cut)) in
+      let own = laws.spans (stages_of p) (values_of p) (pipes_of p) (pos (c.head.slack * 1000000)) None (run_of (search_in find p) c.head.slack).span c.head.shards (kept_by c) fits in
+      record {
+        values = values_of p;
+        slack = pos (c.head.slack * 1000000);
+        slack_is = ap (option_map (λ (n : ℕ). pos (n * 1000000))) (asked_slack find bounds asked)
+            ∙ ap (λ (n : ℕ). Some (pos (n * 1000000))) (sym slack);
+        fits = subst (λ (k : Kept). Fits (run_of (search_in find p) c.head.slack) (length (cuts_of lanes)) k) kept_is
+            (subst (λ (n : ℕ). Fits (run_of (search_in find p) c.head.slack) n (kept_by c)) count own);
+        stands = subst (λ (k : Kept). StandsInOrder (length (cuts_of lanes)) k) kept_is
+            (subst (λ (n : ℕ). StandsInOrder n (kept_by c)) count is.stands);
+      }
+
+  pub may_from : (u : Bool) → (u ≡ true → IsUnplaced (orders_in cut)) → cut.head.shards ≡ length lanes → BeganWith texts u (Some cut) lanes
+      → (rest : Rest) → rest ≡ rest_by (pipes_of p) u (Some cut)
+      → (let r = placed_if u (place_of (places_in lanes)) rest in
+      MayBegin (rules_in (search_in find p)) (pipes_of p) r.mark (cuts_of lanes) r.holders r.book)
+  may_from u none shards began rest is =
+      let c = placed_by (places_in lanes) u cut in
+      subst (λ (r : Rest). MayBegin (rules_in (search_in find p)) (pipes_of p) r.mark (cuts_of lanes) r.holders r.book)
+      (sym (ap (placed_if u (place_of (places_in lanes))) is ∙ rest_placed u))
+      (subst (λ (t : ℤ). BeginsFrom (rules_in (search_in find p)) (pipes_of p) (length (cuts_of lanes)) (record { time = t; lanes = cuts_of lanes; holders = c.holders; book = c.book }))
+      (same_mark u)
+      (kept_may c (ap (λ h. h.slack) (same_head u) ∙ slack_is) (ap (λ h. h.shards) (same_head u) ∙ shards) (lanes_are u began) (fits_by u none) (stands_by u none)))
+
+-- ---- afresh
+fresh_cuts : {S L : Type 0} (lanes : List (LaneView S L)) → All IsFresh lanes → All (λ (lane : LaneCut). lane ≡ fresh_cut) (cuts_of lanes)
+fresh_cuts [] all = All-nil (λ (lane : LaneCut). lane ≡ fresh_cut)
+fresh_cuts (l ∷ ls) all =
+    All-cons (λ (lane : LaneCut). lane ≡ fresh_cut) l.state.cut (cuts_of ls) (All-head IsFresh l ls all).0 (fresh_cuts ls (All-tail IsFresh l ls all))
+
+pub may_fresh : {S L : Type 0} (find : Find) (p : Planning) (lanes : List (LaneView S L)) (u : Bool) → All IsFresh lanes → (rest : Rest)
+    → rest ≡ rest_by (pipes_of p) u None
+    → (let r = placed_if rest.unplaced (place_of (places_in lanes)) rest in
+    MayBegin (rules_in (search_in find p)) (pipes_of p) r.mark (cuts_of lanes) r.holders r.book)
+may_fresh find p lanes u all rest is =
+    subst (λ (x : Rest). let r = placed_if x.unplaced (place_of (places_in lanes)) x in
+    MayBegin (rules_in (search_in find p)) (pipes_of p) r.mark (cuts_of lanes) r.holders r.book) (sym is)
+    (record { lanes_are = fresh_cuts lanes all; none = refl; book_is = refl })
+
+-- lanes whose places were taken keep the same
+pub bare_cuts : {S L : Type 0} (lanes : List (LaneView S L)) → cuts_of (map bare lanes) ≡ cuts_of lanes
+bare_cuts [] = refl
+bare_cuts (l ∷ ls) = ap (λ (cs : List LaneCut). l.state.cut ∷ cs) (bare_cuts ls)
+
+-- lanes that begin afresh have no places
+pub fresh_ascend : {S L : Type 0} (lanes : List (LaneView S L)) → All IsFresh lanes → LinesAscend (places_in lanes)
+fresh_ascend lanes all = none_ascend lanes (All-weaker IsFresh (λ (lane : LaneView _ _). lane.places ≡ []) (λ lane h. h.1) lanes all)

@@ -1,0 +1,36 @@
+-- A run that stops before anything is written and before the disk is touched.
+use Rattle.std.proofs.Common.{◌≡◌, ℕ, List, [], inl, Option, Some, None, refl, sym, subst, arith}
+use Rattle.eql_outside.specs.declared.disk.Area.TheVariants.{A}
+use Rattle.eql_outside.specs.Moments.{History, Told}
+use Rattle.eql_words.specs.declared.commands.Find.{Find}
+use Rattle.eql_runs.specs.Files.{Files}
+use Rattle.eql_runs.specs.Runs.{KeepsCuts}
+use Rattle.eql_find.specs.Finding.{FoundSome}
+
+-- nothing is a front of the listing
+pub none_is_some : (find : Find) (files : Option Files) (disk : Option History) (out : Option (List ℕ)) → FoundSome find files disk out out
+none_is_some find None disk out = tt
+none_is_some find (Some fs) disk None = λ on holds trusted. tt
+none_is_some find (Some fs) disk (Some w) = λ on holds trusted. inl refl
+
+-- a disk on which nothing is done keeps what it holds
+still : (find : Find) (files : Option Files) (h : History) → KeepsCuts find files h h
+still find None h = record {
+  last = record { area = A; generation = 0 };
+  cuts = [];
+  puts = (0, refl);
+  are_of = tt;
+}
+still find (Some fs) h = record {
+  last = record { area = A; generation = 0 };
+  cuts = [];
+  puts = (0, refl);
+  are_of = λ on search texts holds searches trusted few k d less. absurd (omega (arith, less));
+}
+
+pub still_keeps : (find : Find) (files : Option Files) (h : Option History) → Told (KeepsCuts find files) h h
+still_keeps find files None = tt
+still_keeps find files (Some h) = still find files h
+
+pub same_keeps : (find : Find) (files : Option Files) (before now : Option History) → now ≡ before → Told (KeepsCuts find files) before now
+same_keeps find files before now same = subst (λ (d : Option History). Told (KeepsCuts find files) before d) (sym same) (still_keeps find files before)

@@ -1,0 +1,218 @@
+-- A cut that is refused where a run begins, and one that isn't, in the words of runs.
+use native.Mathlib.Omega.{arith}
+use Rattle.std.proofs.Common.{◌≡◌, ◌≢◌, ◌<◌, ◌*◌, ◌==◌, ℕ, Bool, true, false, List, [], Option, Some, None, refl, sym, ap, ◌∙◌, subst, length, take, drop}
+use Rattle.std.specs.Prelude.{All, Contains, IfSome, slice_get, pos}
+use Rattle.std.proofs.lemmas.Bool.{eqb-true, false≢true}
+use Rattle.std.proofs.lemmas.List.Elements.{All-contains, at_from_Contains}
+use Rattle.std.proofs.lemmas.Option.{same_Some}
+use Rattle.std.specs.Cmp.{nat_eq_equiv}
+use Rattle.eql_values.specs.declared.cut.LaneCut.{LaneCut}
+use Rattle.eql_outside.specs.Areas.{seen_areas}
+use Rattle.eql_outside.specs.Moments.{History}
+use Rattle.eql_laws.specs.Fitting.{Fits, Kept}
+use Rattle.eql_words.specs.declared.commands.Find.{Find}
+use Rattle.eql_words.specs.Bounds.{FindBounds}
+use Rattle.eql_lane.specs.declared.make.LaneRefused.{LaneRefused}
+use Rattle.eql_lane.specs.declared.make.LaneRefused.TheVariants as refused
+use Rattle.eql_lane.specs.declared.make.LaneStart.{LaneStart}
+use Rattle.eql_lane.specs.Noting.{IsWholeLine}
+use Rattle.eql_lane.specs.Passing.{IsCause}
+use Rattle.eql_lane.specs.Starts.{cut_of, wanted_of}
+use Rattle.eql_cut.specs.declared.cut.Cut.{Cut}
+use Rattle.eql_cut.specs.declared.cut.CutHead.{CutHead}
+use Rattle.eql_cut.specs.Domain.{kept_by}
+use Rattle.eql_cut.specs.Fitting.{run_of as bare_run}
+use Rattle.eql_ckdisk.specs.Found.{found}
+use Rattle.eql_runs.specs.CutRefusals.{CutRefusal, CutRefuses, FoundRefuses, IsTestedCut, NoneRefusedBefore, ShardRefuses, by_found, by_shard, grown, has_no_line, head_damaged, head_differs, is_grown, is_short, is_unfit, no_line, short, text_damaged}
+use Rattle.eql_runs.specs.Files.{Files}
+use Rattle.eql_runs.specs.RunLaws.{FitsAtAnySpan, OneOnDisk}
+use Rattle.eql_runs.specs.Runs.{RefusesCut, Searches}
+use Rattle.eql_runs.specs.Searches.{run_of}
+use Rattle.eql_runs.specs.Starts.{DiskHolds, IsHeadOf, OnDisk, StandsFor, a_cut, start_for}
+use Rattle.eql_resume.specs.Beginnings.{LaneBegins}
+use Rattle.eql_resume.specs.Finding.{IsRefusedBy, Suits}
+use Rattle.eql_find.specs.declared.plan.Planning.{Planning}
+use Rattle.eql_find.specs.Lanes.{Serves}
+use Rattle.eql_find.specs.Searching.{head_in, search_in}
+use Rattle.eql_find.specs.Starting.{pipes_of, stages_of, values_of}
+use Rattle.eql_find.proofs.TextLemmas.{begins_asked, head_is}
+
+-- ---- the run of a search, and that by which a cut was tested, which has no span
+module _ (spans : FitsAtAnySpan) (find : Find) (p : Planning) where
+  spanned : (slack shards : ℕ) (kept : Kept) → Fits (bare_run (stages_of p) (values_of p) (pipes_of p) slack) shards kept
+      → Fits (run_of (search_in find p) slack) shards kept
+  spanned slack shards kept fits =
+      spans (stages_of p) (values_of p) (pipes_of p) (pos (slack * 1000000)) None (run_of (search_in find p) slack).span shards kept fits
+
+  unspanned : (slack shards : ℕ) (kept : Kept) → Fits (run_of (search_in find p) slack) shards kept
+      → Fits (bare_run (stages_of p) (values_of p) (pipes_of p) slack) shards kept
+  unspanned slack shards kept fits =
+      spans (stages_of p) (values_of p) (pipes_of p) (pos (slack * 1000000)) (run_of (search_in find p) slack).span None shards kept fits
+
+  found_refuses : (head : CutHead) (on : OnDisk) (r : CutRefusal)
+      → FoundRefuses head (bare_run (stages_of p) (values_of p) (pipes_of p) head.slack) on r
+      → FoundRefuses head (run_of (search_in find p) head.slack) on r
+  found_refuses head _ _ (head_damaged area) = head_damaged area
+  found_refuses head _ _ (text_damaged area at) = text_damaged area at
+  found_refuses head _ _ (head_differs format generation cut d differs) = head_differs format generation cut d differs
+  found_refuses head _ _ (is_unfit format generation cut is unfit) =
+      is_unfit format generation cut is (λ fits. unfit (unspanned head.slack head.shards (kept_by cut) fits))
+
+-- what a disk is told to hold
+holds_one : OneOnDisk → (h : History) (on other : OnDisk) → StandsFor on (found (seen_areas h.now)) → DiskHolds (Some h) other → on ≡ other
+holds_one law h on other stands holds = law (found (seen_areas h.now)) on other stands holds
+
+-- ---- a cut that is refused as it was found
+pub refused_found : FitsAtAnySpan → OneOnDisk → (find : Find) (p : Planning) (files : Files) (texts : List (List ℕ)) (disk : Option History) (r : CutRefusal)
+    → FindBounds find → find.checkpoint ≢ None → Searches find files (search_in find p) texts → length texts ≡ length find.shards
+    → IfSome disk (λ h. IsRefusedBy (stages_of p) (values_of p) (pipes_of p) (head_in find p) (found (seen_areas h.now)) r)
+    → (on : OnDisk) → DiskHolds disk on → RefusesCut find files on r
+refused_found spans law find p files texts None r bounds asked searches many by on holds = absurd holds
+refused_found spans law find p files texts (Some h) r bounds asked searches many by on holds =
+    let one : by.on ≡ on = holds_one law h by.on on by.stands holds in
+    let start : start_for find on ≡ on = begins_asked find.checkpoint on asked in
+    record {
+      search = search_in find p;
+      texts = texts;
+      searches = searches;
+      refuses = by_found (start_for find on) (head_in find p) r (head_is find p (length texts) bounds asked many)
+          (subst (λ (o : OnDisk). FoundRefuses (head_in find p) (run_of (search_in find p) (head_in find p).slack) o r) (one ∙ sym start)
+          (found_refuses spans find p (head_in find p) by.on r by.refuses));
+    }
+
+-- ---- shards
+pub no_element : (x : ℕ) → ¬ (Contains [] x)
+no_element x h = let less = (at_from_Contains [] x h).1 in omega (arith, less)
+
+-- a format that is the first, and one that isn't
+first_format : (format : ℕ) → format ≡ 1 → (format == 1) ≡ false → ⊥
+first_format format is other = false≢true (sym other ∙ ap (λ (n : ℕ). n == 1) is ∙ nat_eq_equiv.refl 1)
+
+-- a shard that serves its lane is refused for no cause
+serves_or_refused : (format : ℕ) (cut : Cut) (shard : ℕ) (text : List ℕ) (u : Bool) (b : LaneStart) (r : CutRefusal) → (format == 1) ≡ u
+    → LaneBegins (Some cut) u shard b → Serves b text → ShardRefuses format cut shard text r → ⊥
+serves_or_refused format cut shard text false b _ is begins serves (is_short lane there less) =
+    let same : begins.0 ≡ lane = same_Some begins.0 lane (sym begins.1 ∙ there) in
+    let at : (cut_of b).offset ≡ lane.offset = ap (λ (x : LaneStart). (cut_of x).offset) begins.2 ∙ ap LaneCut.offset same in
+    let enough = serves.there in
+    omega (arith, at, enough, less)
+serves_or_refused format cut shard text false b _ is begins serves (has_no_line lane there first enough line lost) = first_format format first is
+serves_or_refused format cut shard text false b _ is begins serves (is_grown lane there closed more all) =
+    let same : begins.0 ≡ lane = same_Some begins.0 lane (sym begins.1 ∙ there) in
+    let at : (cut_of b).offset ≡ lane.offset = ap (λ (x : LaneStart). (cut_of x).offset) begins.2 ∙ ap LaneCut.offset same in
+    let shut : (cut_of b).closed ≡ true = ap (λ (x : LaneStart). (cut_of x).closed) begins.2 ∙ ap LaneCut.closed same ∙ closed in
+    let ended = serves.ended shut in
+    omega (arith, at, ended, more)
+serves_or_refused format cut shard text true b _ is begins serves (is_short lane there less) =
+    let same : begins.0 ≡ lane = same_Some begins.0 lane (sym begins.1 ∙ there) in
+    let at : (cut_of b).offset ≡ lane.offset = ap (λ (x : LaneStart). (cut_of x).offset) begins.3 ∙ ap LaneCut.offset same in
+    let enough = serves.there in
+    omega (arith, at, enough, less)
+serves_or_refused format cut shard text true b _ is begins serves (has_no_line lane there first enough line lost) =
+    let same : begins.0 ≡ lane = same_Some begins.0 lane (sym begins.1 ∙ there) in
+    let at : (cut_of b).offset ≡ lane.offset = ap (λ (x : LaneStart). (cut_of x).offset) begins.3 ∙ ap LaneCut.offset same in
+    let wanted : wanted_of b ≡ begins.2 = ap wanted_of begins.3 in
+    let all = subst (λ (w : List ℕ). All (IsWholeLine (take (cut_of b).offset text) (drop (cut_of b).offset text)) w) wanted serves.whole in
+    let whole = All-contains (IsWholeLine (take (cut_of b).offset text) (drop (cut_of b).offset text)) begins.2 line all ((begins.4 line).1 lost.named) in
+    lost.lost (subst (λ (n : ℕ). IsWholeLine (take n text) (drop n text) line) at whole)
+serves_or_refused format cut shard text true b _ is begins serves (is_grown lane there closed more all) =
+    let same : begins.0 ≡ lane = same_Some begins.0 lane (sym begins.1 ∙ there) in
+    let at : (cut_of b).offset ≡ lane.offset = ap (λ (x : LaneStart). (cut_of x).offset) begins.3 ∙ ap LaneCut.offset same in
+    let shut : (cut_of b).closed ≡ true = ap (λ (x : LaneStart). (cut_of x).closed) begins.3 ∙ ap LaneCut.closed same ∙ closed in
+    let ended = serves.ended shut in
+    omega (arith, at, ended, more)
+
+-- so none of the first shards is refused where each serves
+pub none_refused : (format : ℕ) (cut : Cut) (shard : ℕ) (texts : List (List ℕ))
+    → ((s : ℕ) (text : List ℕ) → s < shard → slice_get texts s ≡ Some text
+    → (b : LaneStart) × LaneBegins (Some cut) (format == 1) s b × Serves b text)
+    → NoneRefusedBefore format cut shard texts
+none_refused format cut shard texts each = λ s text r less there refused.
+    let one = each s text less there in
+    serves_or_refused format cut s text (format == 1) one.0 r refl one.1 one.2 refused
+
+-- ---- a cut that is refused by a shard
+-- the refusal of a lane, in words of runs
+abbrev pub refusal_at : (shard : ℕ) → LaneRefused → Option CutRefusal
+refusal_at shard (refused.Short offset had) = Some (short shard offset had)
+refusal_at shard (refused.NoLine line) = Some (no_line shard line)
+refusal_at shard refused.Grown = Some (grown shard)
+refusal_at shard refused.Failed = None
+refusal_at shard refused.Memory = None
+
+-- a lane that isn't made of a text tells why its shard is refused
+pub shard_refuses : (format : ℕ) (cut : Cut) (shard : ℕ) (text : List ℕ) (u : Bool) (b : LaneStart) (before now : ℕ) (why : LaneRefused)
+    → (format == 1) ≡ u → LaneBegins (Some cut) u shard b
+    → IsCause (Some text) before now (cut_of b).offset (cut_of b).closed (wanted_of b) why
+    → IfSome (refusal_at shard why) (ShardRefuses format cut shard text)
+shard_refuses format cut shard text false b before now (refused.Short at had) is begins cause =
+    let own : (cut_of b).offset ≡ begins.0.offset = ap (λ (x : LaneStart). (cut_of x).offset) begins.2 in
+    let offset : begins.0.offset ≡ at = sym own ∙ sym cause.0 in
+    let less = cause.1 in
+    let long = cause.2 in
+    subst (λ (n : ℕ). ShardRefuses format cut shard text (short shard n had)) offset
+    (subst (λ (n : ℕ). ShardRefuses format cut shard text (short shard begins.0.offset n)) long
+    (is_short begins.0 begins.1 (omega (arith, less, long, offset))))
+shard_refuses format cut shard text false b before now (refused.NoLine line) is begins cause =
+    absurd (no_element line (subst (λ (w : List ℕ). Contains w line) (ap wanted_of begins.2) cause.0))
+shard_refuses format cut shard text false b before now refused.Grown is begins cause =
+    let own : (cut_of b).offset ≡ begins.0.offset = ap (λ (x : LaneStart). (cut_of x).offset) begins.2 in
+    let shut : begins.0.closed ≡ true = sym (ap (λ (x : LaneStart). (cut_of x).closed) begins.2) ∙ cause.0 in
+    let more = cause.1.further in
+    is_grown begins.0 begins.1 shut (omega (arith, own, more)) (λ first. absurd (first_format format first is))
+shard_refuses format cut shard text true b before now (refused.Short at had) is begins cause =
+    let own : (cut_of b).offset ≡ begins.0.offset = ap (λ (x : LaneStart). (cut_of x).offset) begins.3 in
+    let offset : begins.0.offset ≡ at = sym own ∙ sym cause.0 in
+    let less = cause.1 in
+    let long = cause.2 in
+    subst (λ (n : ℕ). ShardRefuses format cut shard text (short shard n had)) offset
+    (subst (λ (n : ℕ). ShardRefuses format cut shard text (short shard begins.0.offset n)) long
+    (is_short begins.0 begins.1 (omega (arith, less, long, offset))))
+shard_refuses format cut shard text true b before now (refused.NoLine line) is begins cause =
+    let own : (cut_of b).offset ≡ begins.0.offset = ap (λ (x : LaneStart). (cut_of x).offset) begins.3 in
+    let wanted : wanted_of b ≡ begins.2 = ap wanted_of begins.3 in
+    let enough = cause.1.there in
+    let missing = cause.1.missing in
+    has_no_line begins.0 begins.1 (eqb-true format 1 is) (omega (arith, own, enough)) line (record {
+      named = (begins.4 line).0 (subst (λ (w : List ℕ). Contains w line) wanted cause.0);
+      lost = λ whole. missing.missing (subst (λ (n : ℕ). IsWholeLine (take n text) (drop n text) line) (sym own) whole);
+      least = λ other named less. subst (λ (n : ℕ). IsWholeLine (take n text) (drop n text) other) own
+          (missing.least other (subst (λ (w : List ℕ). Contains w other) (sym wanted) ((begins.4 other).1 named)) less);
+    })
+shard_refuses format cut shard text true b before now refused.Grown is begins cause =
+    let own : (cut_of b).offset ≡ begins.0.offset = ap (λ (x : LaneStart). (cut_of x).offset) begins.3 in
+    let shut : begins.0.closed ≡ true = sym (ap (λ (x : LaneStart). (cut_of x).closed) begins.3) ∙ cause.0 in
+    let wanted : wanted_of b ≡ begins.2 = ap wanted_of begins.3 in
+    let more = cause.1.further in
+    is_grown begins.0 begins.1 shut (omega (arith, own, more)) (λ first line named.
+    subst (λ (n : ℕ). IsWholeLine (take n text) (drop n text) line) own
+    (All-contains (IsWholeLine (take (cut_of b).offset text) (drop (cut_of b).offset text)) (wanted_of b) line cause.1.whole
+    (subst (λ (w : List ℕ). Contains w line) (sym wanted) ((begins.4 line).1 named))))
+shard_refuses format cut shard text u b before now refused.Failed is begins cause = tt
+shard_refuses format cut shard text u b before now refused.Memory is begins cause = tt
+
+-- ---- a run that begins with a cut
+module _ (spans : FitsAtAnySpan) (find : Find) (p : Planning) (texts : List (List ℕ)) (bounds : FindBounds find) (asked : find.checkpoint ≢ None)
+    (many : length texts ≡ length find.shards) (cut : Cut) (suits : Suits (stages_of p) (values_of p) (pipes_of p) (head_in find p) cut) where
+  own_head : IsHeadOf (search_in find p) (length texts) cut.head
+  own_head = subst (λ (h : CutHead). IsHeadOf (search_in find p) (length texts) h) (sym suits.head_is) (head_is find p (length texts) bounds asked many)
+
+  own_fits : Fits (run_of (search_in find p) cut.head.slack) (length texts) (kept_by cut)
+  own_fits = subst (λ (n : ℕ). Fits (run_of (search_in find p) cut.head.slack) n (kept_by cut)) own_head.shards_are
+      (spanned spans find p cut.head.slack cut.head.shards (kept_by cut) suits.fits)
+
+  pub tested_cut : (format : ℕ) → NoneRefusedBefore format cut (length texts) texts → IsTestedCut (search_in find p) texts format cut
+  tested_cut format none = record { head = own_head; fits = own_fits; shards = none }
+
+  pub refused_by_shard : (files : Files) (format generation : ℕ) (shard : ℕ) (text : List ℕ) (r : CutRefusal) (on : OnDisk)
+      → Searches find files (search_in find p) texts → a_cut format generation cut ≡ on → slice_get texts shard ≡ Some text
+      → NoneRefusedBefore format cut shard texts → ShardRefuses format cut shard text r → RefusesCut find files on r
+  refused_by_shard files format generation shard text r on searches one there none refuses =
+      let start : start_for find on ≡ on = begins_asked find.checkpoint on asked in
+      record {
+        search = search_in find p;
+        texts = texts;
+        searches = searches;
+        refuses = subst (λ (o : OnDisk). CutRefuses (search_in find p) texts o r) (one ∙ sym start)
+            (by_shard format generation cut own_head own_fits shard text there none r refuses);
+      }

@@ -1,0 +1,234 @@
+//! What a run begins with: afresh, or with the cut that the disk of its checkpoint holds.
+ghost use Rattle.std.specs.Prelude.{◌≡◌, ◌≢◌, ◌<◌, ◌≤◌, IfErr, IfOk, IfSome, IsTrue, None, OnErr, OnOk, false};
+ghost use Rattle.eql_ckdisk.specs.Going.{Goes};
+ghost use Rattle.eql_ckdisk.specs.Keeping.{NoMore};
+ghost use Rattle.eql_cut.specs.CutValues.{names_ascend};
+ghost use Rattle.eql_conductor.specs.Runs.{IsKeptUnfailing};
+ghost use Rattle.eql_outside.specs.Moments.{Told};
+ghost use Rattle.eql_outside.specs.Outside.{Rose};
+ghost use Rattle.eql_outside.specs.Unfailing.{IsUnfailing};
+ghost use Rattle.eql_words.specs.Bounds.{FindBounds};
+ghost use Rattle.eql_find.specs.Halts.{IsFault};
+ghost use Rattle.eql_find.specs.Searching.{head_in};
+ghost use Rattle.eql_find.specs.Starting.{BegunOn, DiskRose, HaltOfStart, IsDiskOrMemory, KeepsFor, OnlyDisk, StartCause, disk_after, plan_after};
+
+use crate::halt::{CutStop, RunHalt};
+use crate::plan::{Planning, head_of};
+use eql_conductor::Keep;
+use eql_cut::CutHead;
+use eql_inputs::Halt;
+use eql_lane::LaneStart;
+use eql_outside::{Disk, OutRefused, Shelf, unfailing_stays};
+use eql_resume::{Pending, StartRefused, begin, find_start};
+use eql_words::{Checkpoint, Find};
+use std::alloc::Global;
+
+/// What a run begins with.
+pub(crate) struct Start<D> {
+    /// What its cuts say of it.
+    pub head: CutHead,
+    /// Where it keeps its cuts, if it does.
+    pub keep: Option<Keep<D>>,
+    /// How the lane of each shard begins.
+    pub lanes: Vec<LaneStart>,
+    /// What is pending, and what the book keeps.
+    pub rest: Pending,
+}
+
+/// Why a run isn't begun, as a halt.
+fn halt_of_start<'a>(refused: StartRefused) -> RunHalt<'a>
+    ensures { HaltOfStart refused result }
+{
+    match refused {
+        StartRefused::Disk => RunHalt::Disk,
+        StartRefused::Damaged { area, at } => RunHalt::Cut(CutStop::Damaged { area, at }),
+        StartRefused::Differs(differs) => RunHalt::Cut(CutStop::Differs(differs)),
+        StartRefused::Unfit => RunHalt::Cut(CutStop::Unfit),
+        StartRefused::Memory => RunHalt::Files(Halt::Memory),
+    }
+}
+
+/// The disk of a checkpoint, handed out by the shelf.
+fn open_disk<'a, H: Shelf>(
+    alloc: Global,
+    checkpoint: &'a Checkpoint,
+    shelf: &mut H,
+) -> Result<H::Dsk, RunHalt<'a>>
+    ensures as_it_stands { IfOk result (λ d. (H.Dsk.history d ≡ H.disk_history shelf.old)
+        × (H.Dsk.fault_plan d ≡ H.disk_plan shelf.old) × (H.Dsk.fault_count d ≡ 0)) }
+    ensures cause { IfErr result IsDiskOrMemory }
+    ensures fault { IfErr result (λ halt. DiskRose halt
+        (H.disk_fault_count shelf.old) (H.disk_fault_count shelf.new)) }
+    ensures steady { OnOk result (H.disk_fault_count shelf.new ≡ H.disk_fault_count shelf.old) }
+    ensures counts { H.disk_fault_count shelf.old ≤ H.disk_fault_count shelf.new }
+    ensures not_out { OnErr result (H.is_out shelf.new ≡ H.is_out shelf.old) }
+    ensures kept { OnlyDisk H.files H.source_plans H.fault_count H.absent_count H.faults_of
+        H.lent_count shelf.old shelf.new }
+    ensures history { (H.disk_history shelf.new ≡ H.disk_history shelf.old)
+        × (H.disk_plan shelf.new ≡ H.disk_plan shelf.old) }
+    ensures unfailing { IsUnfailing (H.fault_plan shelf.old)
+        → IfErr result (λ halt. ¬ IsFault halt) }
+{
+    unfailing_stays();
+    match shelf.disk(alloc, checkpoint.name.name()) {
+        Ok(disk) => Ok(disk),
+        Err(OutRefused::Failed) => Err(RunHalt::Disk),
+        Err(OutRefused::Memory) => Err(RunHalt::Files(Halt::Memory)),
+    }
+}
+
+/// Gives the disk of a run back, where it has one.
+pub(crate) fn give_keep<H: Shelf>(keep: Option<Keep<H::Dsk>>, shelf: &mut H)
+    ensures taken { (H.disk_history shelf.new
+        ≡ disk_after H.Dsk.history (H.disk_history shelf.old) keep)
+        × (H.disk_plan shelf.new ≡ plan_after H.Dsk.fault_plan (H.disk_plan shelf.old) keep) }
+    ensures back { IfSome keep (λ _. H.is_out shelf.new ≡ false) }
+    ensures none { keep ≡ None → shelf.new ≡ shelf.old }
+    ensures kept { OnlyDisk H.files H.source_plans H.fault_count H.absent_count H.faults_of
+        H.lent_count shelf.old shelf.new }
+    ensures raised { IfSome keep (λ k. 0 < H.Dsk.fault_count k.disk
+        → Rose (H.disk_fault_count shelf.old) (H.disk_fault_count shelf.new)) }
+    ensures same { IfSome keep (λ k. H.Dsk.fault_count k.disk ≡ 0
+        → H.disk_fault_count shelf.new ≡ H.disk_fault_count shelf.old) }
+    ensures counts { H.disk_fault_count shelf.old ≤ H.disk_fault_count shelf.new }
+{
+    if let Some(Keep { disk, state: _ }) = keep {
+        shelf.give_disk(disk);
+    }
+}
+
+/// Begins with what a disk holds. Where that is refused the disk is handed back.
+fn start_on<'a, D: Disk>(
+    alloc: Global,
+    disk: D,
+    head: CutHead,
+    planning: &Planning,
+    find: &Find,
+) -> Result<Start<D>, (RunHalt<'a>, D)>
+    requires bounds { FindBounds find.now }
+    requires asked { find.now.checkpoint ≢ None }
+    requires fresh { D.fault_count disk ≡ 0 }
+    requires head { head ≡ head_in find.now planning.now }
+    requires names { IsTrue (names_ascend planning.now.mapping) }
+    ensures begins { IfOk result (λ start. BegunOn find.now planning.now (D.history disk)
+        start.head start.keep start.lanes.items start.rest) }
+    ensures keeps { IfOk result (λ start.
+        KeepsFor D.history D.fault_count (D.history disk) start.keep) }
+    ensures cause { IfErr result (λ r. StartCause find.now planning.now (D.history disk) r.0) }
+    ensures moments { IfErr result (λ r. Told (Goes NoMore) (D.history disk) (D.history r.1)) }
+    ensures fault { IfErr result (λ r. DiskRose r.0 (D.fault_count disk) (D.fault_count r.1)) }
+    ensures unfailing { IsUnfailing (D.fault_plan disk)
+        → IfErr result (λ r. ¬ IsFault r.0)
+        × IfOk result (λ start. IsKeptUnfailing D.fault_plan start.keep) }
+{
+    let mut disk = disk;
+    let stages = planning.plan.stages();
+    let values = planning.plan.keys();
+    let pipes = planning.plan.pipes();
+    match find_start(alloc, &mut disk, &head, stages, values, pipes) {
+        Err(refused) => Err((halt_of_start(refused), disk)),
+        Ok(found) => {
+            let unplaced = found.format == 1;
+            match begin(
+                alloc,
+                found.cut,
+                unplaced,
+                stages,
+                values,
+                head.shards,
+                pipes,
+            ) {
+                Err(_) => Err((RunHalt::Files(Halt::Memory), disk)),
+                Ok(beginning) => Ok(Start {
+                    head,
+                    keep: Some(Keep {
+                        disk,
+                        state: found.state,
+                    }),
+                    lanes: beginning.lanes,
+                    rest: beginning.rest,
+                }),
+            }
+        }
+    }
+}
+
+/// Begins afresh, and keeps no cuts.
+fn start_afresh<'a, D: Disk>(
+    alloc: Global,
+    head: CutHead,
+    planning: &Planning,
+    find: &Find,
+) -> Result<Start<D>, RunHalt<'a>>
+    requires bounds { FindBounds find.now }
+    requires none { find.now.checkpoint ≡ None }
+    requires head { head ≡ head_in find.now planning.now }
+    requires names { IsTrue (names_ascend planning.now.mapping) }
+    ensures begins { IfOk result (λ start. BegunOn find.now planning.now None
+        start.head start.keep start.lanes.items start.rest) }
+    ensures keeps { IfOk result (λ start. start.keep ≡ None) }
+    ensures cause { IfErr result (λ halt. halt ≡ RunHalt.Files Halt.Memory) }
+{
+    let stages = planning.plan.stages();
+    let values = planning.plan.keys();
+    let pipes = planning.plan.pipes();
+    match begin(alloc, None, false, stages, values, head.shards, pipes) {
+        Err(_) => Err(RunHalt::Files(Halt::Memory)),
+        Ok(beginning) => Ok(Start {
+            head,
+            keep: None,
+            lanes: beginning.lanes,
+            rest: beginning.rest,
+        }),
+    }
+}
+
+/// Finds what a run begins with: what the shelf's disk holds where it has a checkpoint, and nothing else. Where that is
+/// refused the disk goes back.
+pub(crate) fn start_run<'a, H: Shelf>(
+    alloc: Global,
+    planning: &Planning,
+    find: &'a Find,
+    shelf: &mut H,
+) -> Result<Start<H::Dsk>, RunHalt<'a>>
+    requires bounds { FindBounds find.now }
+    ensures begins { IfOk result (λ start. BegunOn find.now planning.now
+        (H.disk_history shelf.old) start.head start.keep start.lanes.items start.rest) }
+    ensures keeps { IfOk result (λ start. (find.now.checkpoint ≡ None → start.keep ≡ None)
+        × (find.now.checkpoint ≢ None
+        → KeepsFor H.Dsk.history H.Dsk.fault_count (H.disk_history shelf.old) start.keep)) }
+    ensures cause { IfErr result (StartCause find.now planning.now (H.disk_history shelf.old)) }
+    ensures kept { OnlyDisk H.files H.source_plans H.fault_count H.absent_count H.faults_of
+        H.lent_count shelf.old shelf.new }
+    ensures moments { Told (Goes NoMore) (H.disk_history shelf.old) (H.disk_history shelf.new) }
+    ensures still { OnOk result (H.disk_history shelf.new ≡ H.disk_history shelf.old) }
+    ensures fault { IfErr result (λ halt. DiskRose halt
+        (H.disk_fault_count shelf.old) (H.disk_fault_count shelf.new)) }
+    ensures steady { OnOk result (H.disk_fault_count shelf.new ≡ H.disk_fault_count shelf.old) }
+    ensures counts { H.disk_fault_count shelf.old ≤ H.disk_fault_count shelf.new }
+    ensures out { OnErr result (H.is_out shelf.old ≡ false → H.is_out shelf.new ≡ false) }
+    ensures untouched { find.now.checkpoint ≡ None → shelf.new ≡ shelf.old }
+    ensures unfailing { IsUnfailing (H.fault_plan shelf.old)
+        → (find.now.checkpoint ≢ None → IsUnfailing (H.disk_plan shelf.old))
+        → IfErr result (λ halt. ¬ IsFault halt)
+        × IfOk result (λ start. IsKeptUnfailing H.Dsk.fault_plan start.keep) }
+{
+    let head = match head_of(alloc, find, planning) {
+        Ok(head) => head,
+        Err(_) => return Err(RunHalt::Files(Halt::Memory)),
+    };
+    let Some(checkpoint) = &find.checkpoint else {
+        return start_afresh(alloc, head, planning, find);
+    };
+    let disk = match open_disk(alloc, checkpoint, shelf) {
+        Ok(disk) => disk,
+        Err(halt) => return Err(halt),
+    };
+    match start_on(alloc, disk, head, planning, find) {
+        Ok(start) => Ok(start),
+        Err((halt, disk)) => {
+            shelf.give_disk(disk);
+            Err(halt)
+        }
+    }
+}
