@@ -2,4 +2,4 @@ pub mod TextLemmas
 pub mod PrintLemmas
 pub mod RunLemmas
 pub mod EndLemmas
-pub mod WordLemmas
+pub mod KeepLemmas

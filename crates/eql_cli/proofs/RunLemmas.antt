@@ -2,10 +2,12 @@
 use Rattle.std.proofs.Common.{◌≡◌, ℕ, inr, List, [], ◌++◌, Option, Some, None, Result, Ok, Err, refl, sym, ap, subst}
 use Rattle.std.specs.Prelude.{IfErr, IfSome, OnErr}
 use Rattle.std.proofs.lemmas.List.{append-nil}
+use Rattle.eql_outside.specs.Moments.{History}
 use Rattle.eql_words.specs.declared.commands.Command.{Command}
 use Rattle.eql_words.specs.declared.commands.Command.TheVariants as command
 use Rattle.eql_words.specs.declared.commands.Find.{Find}
 use Rattle.eql_runs.specs.Files.{Files}
+use Rattle.eql_runs.specs.Runs.{IfFound, IsFindAccepted}
 use Rattle.eql_runs.specs.Summaries.{Makes}
 use Rattle.eql_inputs.specs.Steps.{naming}
 use Rattle.eql_inputs.specs.declared.halt.Halt.TheVariants as halt
@@ -13,132 +15,182 @@ use Rattle.eql_find.specs.declared.halt.RunHalt.{RunHalt}
 use Rattle.eql_find.specs.declared.halt.RunHalt.TheVariants as run
 use Rattle.eql_find.specs.Finding.{FoundAll, FoundListing, FoundSome, names_in}
 use Rattle.eql_find.specs.Finding as found
-use Rattle.eql_find.specs.Halts.{AbsenceAs, CountAs, ErrAs, FaultsAs, IsRefusal, IsReport}
+use Rattle.eql_find.specs.Halts.{AbsenceAs, CountAs, DiskAs, ErrAs, FaultsAs, IsRefusal, IsReport}
 use Rattle.eql_summary.specs.Written.{MadeAll, MadeFront}
 use Rattle.eql_cli.specs.Printing.{PrintsAll, PrintsSome, StopsWriting}
 use Rattle.eql_cli.specs.Printing as printing
-use Rattle.eql_cli.specs.Running.{HasCause, RunsAll, RunsListing, RunsSome}
+use Rattle.eql_cli.specs.Running.{HasCause, IfRun, IsAcceptedBy, RunsAll, RunsListing, RunsSome}
 
-pub found_all : (asked : Command) (find : Find) → asked ≡ command.Find find → (files : Option Files)
-    (out out' err err' : Option (List ℕ)) → FoundAll find files out out' err err' → RunsAll asked files out out' err err'
-found_all asked find is files out out' err err' h = subst (λ (c : Command). RunsAll c files out out' err err') (sym is) h
+pub found_all : (asked : Command) (find : Find) → asked ≡ command.Find find → (files : Option Files) (disk : Option History)
+    (out out' err err' : Option (List ℕ)) → FoundAll find files disk out out' err err' → RunsAll asked files disk out out' err err'
+found_all asked find is files disk out out' err err' h = subst (λ (c : Command). RunsAll c files disk out out' err err') (sym is) h
 
-pub found_some : (asked : Command) (find : Find) → asked ≡ command.Find find → (files : Option Files)
-    (out out' : Option (List ℕ)) → FoundSome find files out out' → RunsSome asked files out out'
-found_some asked find is files out out' h = subst (λ (c : Command). RunsSome c files out out') (sym is) h
+pub found_accepted : (asked : Command) (find : Find) → asked ≡ command.Find find → (files : Option Files) (disk : Option History)
+    → IfFound find files disk (IsFindAccepted find) → IfRun asked files disk (IsAcceptedBy asked)
+found_accepted asked find is files disk h = subst (λ (c : Command). IfRun c files disk (IsAcceptedBy c)) (sym is) h
 
-pub found_listing : (asked : Command) (find : Find) → asked ≡ command.Find find → (files : Option Files)
-    (out out' : Option (List ℕ)) (h : RunHalt) → (IsReport h → FoundListing find files out out') → IsReport h → RunsListing asked files out out'
-found_listing asked find is files out out' h wrote report =
-    subst (λ (c : Command). RunsListing c files out out') (sym is) (wrote report)
+pub found_some : (asked : Command) (find : Find) → asked ≡ command.Find find → (files : Option Files) (disk : Option History)
+    (out out' : Option (List ℕ)) → FoundSome find files disk out out' → RunsSome asked files disk out out'
+found_some asked find is files disk out out' h = subst (λ (c : Command). RunsSome c files disk out out') (sym is) h
 
-cause_of_find : (find : Find) (files : Option Files) (err err' : Option (List ℕ)) (h : RunHalt)
-    → found.HasCause find files err err' h → HasCause (command.Find find) files err err' h
-cause_of_find find files err err' (run.Files (halt.Refused r)) cause = (names_in find, refl, cause)
-cause_of_find find files err err' (run.Files (halt.Read name)) cause = (names_in find, refl, cause)
-cause_of_find find files err err' (run.Files halt.Memory) cause = tt
-cause_of_find find files err err' run.Write cause = cause
-cause_of_find find files err err' (run.Limit l) cause = (find, refl, cause.0, cause.1)
-cause_of_find find files err err' (run.Report r) cause = (find, refl, cause)
+pub found_listing : (asked : Command) (find : Find) → asked ≡ command.Find find → (files : Option Files) (disk : Option History)
+    (out out' : Option (List ℕ)) (h : RunHalt) → (IsReport h → FoundListing find files disk out out') → IsReport h
+    → RunsListing asked files disk out out'
+found_listing asked find is files disk out out' h wrote report =
+    subst (λ (c : Command). RunsListing c files disk out out') (sym is) (wrote report)
 
-pub find_cause : (asked : Command) (find : Find) → asked ≡ command.Find find → (files : Option Files)
-    (err err' : Option (List ℕ)) (h : RunHalt) → found.HasCause find files err err' h → HasCause asked files err err' h
-find_cause asked find is files err err' h cause =
-    subst (λ (c : Command). HasCause c files err err' h) (sym is) (cause_of_find find files err err' h cause)
+cause_of_find : (find : Find) (files : Option Files) (disk now : Option History) (err err' : Option (List ℕ)) (h : RunHalt)
+    → found.HasCause find files disk now err err' h → HasCause (command.Find find) files disk now err err' h
+cause_of_find find files disk now err err' (run.Files (halt.Refused r)) cause = (names_in find, refl, cause)
+cause_of_find find files disk now err err' (run.Files (halt.Read name)) cause = (names_in find, refl, cause)
+cause_of_find find files disk now err err' (run.Files halt.Memory) cause = tt
+cause_of_find find files disk now err err' (run.Cut why) cause = (record { find = find; is_find = refl; has_disk = cause.0 }, cause.1)
+cause_of_find find files disk now err err' run.Disk cause = (record { find = find; is_find = refl; has_disk = cause.0 }, cause.1)
+cause_of_find find files disk now err err' run.Write cause = cause
+cause_of_find find files disk now err err' (run.Limit l) cause = (find, refl, cause.0, cause.1)
+cause_of_find find files disk now err err' run.Generation cause =
+    (record { find = find; is_find = refl; has_disk = cause.0 }, cause.1, cause.2)
+cause_of_find find files disk now err err' (run.Report r) cause = (find, refl, cause)
+
+pub find_cause : (asked : Command) (find : Find) → asked ≡ command.Find find → (files : Option Files) (disk now : Option History)
+    (err err' : Option (List ℕ)) (h : RunHalt) → found.HasCause find files disk now err err' h → HasCause asked files disk now err err' h
+find_cause asked find is files disk now err err' h cause =
+    subst (λ (c : Command). HasCause c files disk now err err' h) (sym is) (cause_of_find find files disk now err err' h cause)
 
 -- nothing was written to a sink that wasn't touched
 untouched : (err : Option (List ℕ)) → IfSome err (λ w. err ≡ Some (w ++ []))
 untouched None = tt
 untouched (Some w) = ap (λ (x : List ℕ). Some x) (sym (append-nil w))
 
-all_of_check : (query fields : List ℕ) (files : Option Files) (out out' err : Option (List ℕ))
-    → PrintsAll query fields files out out' → RunsAll (command.Check query fields) files out out' err err
-all_of_check query fields None out out' err h = tt
-all_of_check query fields (Some fs) out out' err h =
+-- ---- a run of `check`
+all_of_check : (query fields : List ℕ) (files : Option Files) (disk : Option History) (out out' err : Option (List ℕ))
+    → PrintsAll query fields files out out' → RunsAll (command.Check query fields) files disk out out' err err
+all_of_check query fields None disk out out' err h = tt
+all_of_check query fields (Some fs) disk out out' err h = λ on holds trusted.
     (h.0, [], record { tree = h.2.tree; kinds = h.2.kinds; checked = h.2.checked; bytes_are = h.2.bytes_are; report_is = refl }, h.3, untouched err)
 
-pub printed_all : (asked : Command) (query fields : List ℕ) → asked ≡ command.Check query fields → (files : Option Files)
-    (out out' err : Option (List ℕ)) → PrintsAll query fields files out out' → RunsAll asked files out out' err err
-printed_all asked query fields is files out out' err h =
-    subst (λ (c : Command). RunsAll c files out out' err err) (sym is) (all_of_check query fields files out out' err h)
+pub printed_all : (asked : Command) (query fields : List ℕ) → asked ≡ command.Check query fields → (files : Option Files) (disk : Option History)
+    (out out' err : Option (List ℕ)) → PrintsAll query fields files out out' → RunsAll asked files disk out out' err err
+printed_all asked query fields is files disk out out' err h =
+    subst (λ (c : Command). RunsAll c files disk out out' err err) (sym is) (all_of_check query fields files disk out out' err h)
 
-pub printed_some : (asked : Command) (query fields : List ℕ) → asked ≡ command.Check query fields → (files : Option Files)
-    (out out' : Option (List ℕ)) → PrintsSome query fields files out out' → RunsSome asked files out out'
-printed_some asked query fields is files out out' h = subst (λ (c : Command). RunsSome c files out out') (sym is) h
+accepted_of_check : (query fields : List ℕ) (files : Option Files) (disk : Option History) (out out' : Option (List ℕ))
+    → PrintsAll query fields files out out' → IfRun (command.Check query fields) files disk (IsAcceptedBy (command.Check query fields))
+accepted_of_check query fields None disk out out' h = tt
+accepted_of_check query fields (Some fs) disk out out' h = λ on holds. (h.0, h.1, h.2)
+
+pub printed_accepted : (asked : Command) (query fields : List ℕ) → asked ≡ command.Check query fields → (files : Option Files)
+    (disk : Option History) (out out' : Option (List ℕ)) → PrintsAll query fields files out out' → IfRun asked files disk (IsAcceptedBy asked)
+printed_accepted asked query fields is files disk out out' h =
+    subst (λ (c : Command). IfRun c files disk (IsAcceptedBy c)) (sym is) (accepted_of_check query fields files disk out out' h)
+
+some_of_check : (query fields : List ℕ) (files : Option Files) (disk : Option History) (out out' : Option (List ℕ))
+    → PrintsSome query fields files out out' → RunsSome (command.Check query fields) files disk out out'
+some_of_check query fields None disk out out' h = tt
+some_of_check query fields (Some fs) disk out out' h = λ on holds trusted. h
+
+pub printed_some : (asked : Command) (query fields : List ℕ) → asked ≡ command.Check query fields → (files : Option Files) (disk : Option History)
+    (out out' : Option (List ℕ)) → PrintsSome query fields files out out' → RunsSome asked files disk out out'
+printed_some asked query fields is files disk out out' h =
+    subst (λ (c : Command). RunsSome c files disk out out') (sym is) (some_of_check query fields files disk out out' h)
 
 -- a run of `check` and of `made` has no report that may be refused
 check_reports : (query fields : List ℕ) (files : Option Files) (h : RunHalt) → printing.HasCause query fields files h → ¬ IsReport h
 check_reports query fields files (run.Files h) cause report = report
+check_reports query fields files (run.Cut why) cause report = report
+check_reports query fields files run.Disk cause report = report
 check_reports query fields files run.Write cause report = report
 check_reports query fields files (run.Limit l) cause report = report
+check_reports query fields files run.Generation cause report = report
 check_reports query fields files (run.Report r) cause report = cause
 
-pub printed_listing : (asked : Command) (query fields : List ℕ) (files : Option Files) (out out' : Option (List ℕ)) (h : RunHalt)
-    → printing.HasCause query fields files h → IsReport h → RunsListing asked files out out'
-printed_listing asked query fields files out out' h cause report = absurd (check_reports query fields files h cause report)
+pub printed_listing : (asked : Command) (query fields : List ℕ) (files : Option Files) (disk : Option History) (out out' : Option (List ℕ))
+    (h : RunHalt) → printing.HasCause query fields files h → IsReport h → RunsListing asked files disk out out'
+printed_listing asked query fields files disk out out' h cause report = absurd (check_reports query fields files h cause report)
 
-made_reports : (h : RunHalt) → StopsWriting h → ¬ IsReport h
-made_reports (run.Files h) stops report = report
-made_reports run.Write stops report = report
-made_reports (run.Limit l) stops report = report
-made_reports (run.Report r) stops report = stops
+accepted_by_check : (query fields : List ℕ) (files : Option Files) (disk : Option History)
+    → printing.HasCause query fields files run.Write → IfRun (command.Check query fields) files disk (IsAcceptedBy (command.Check query fields))
+accepted_by_check query fields None disk cause = tt
+accepted_by_check query fields (Some fs) disk cause = λ on holds. cause
 
-pub made_listing : (asked : Command) (files : Option Files) (out out' : Option (List ℕ)) (h : RunHalt) → StopsWriting h → IsReport h
-    → RunsListing asked files out out'
-made_listing asked files out out' h stops report = absurd (made_reports h stops report)
-
-cause_of_check : (query fields : List ℕ) (files : Option Files) (err : Option (List ℕ)) (h : RunHalt)
-    → printing.HasCause query fields files h → HasCause (command.Check query fields) files err err h
-cause_of_check query fields files err (run.Files (halt.Refused r)) cause = (naming query fields [], refl, cause)
-cause_of_check query fields files err (run.Files (halt.Read name)) cause = (naming query fields [], refl, cause)
-cause_of_check query fields files err (run.Files halt.Memory) cause = tt
-cause_of_check query fields files err run.Write cause = cause
-cause_of_check query fields files err (run.Limit l) cause = absurd cause
-cause_of_check query fields files err (run.Report r) cause = absurd cause
+cause_of_check : (query fields : List ℕ) (files : Option Files) (disk now : Option History) (err : Option (List ℕ)) (h : RunHalt)
+    → printing.HasCause query fields files h → HasCause (command.Check query fields) files disk now err err h
+cause_of_check query fields files disk now err (run.Files (halt.Refused r)) cause = (naming query fields [], refl, cause)
+cause_of_check query fields files disk now err (run.Files (halt.Read name)) cause = (naming query fields [], refl, cause)
+cause_of_check query fields files disk now err (run.Files halt.Memory) cause = tt
+cause_of_check query fields files disk now err (run.Cut why) cause = absurd cause
+cause_of_check query fields files disk now err run.Disk cause = absurd cause
+cause_of_check query fields files disk now err run.Write cause = accepted_by_check query fields files disk cause
+cause_of_check query fields files disk now err (run.Limit l) cause = absurd cause
+cause_of_check query fields files disk now err run.Generation cause = absurd cause
+cause_of_check query fields files disk now err (run.Report r) cause = absurd cause
 
 pub check_cause : (asked : Command) (query fields : List ℕ) → asked ≡ command.Check query fields → (files : Option Files)
-    (err : Option (List ℕ)) (h : RunHalt) → printing.HasCause query fields files h → HasCause asked files err err h
-check_cause asked query fields is files err h cause =
-    subst (λ (c : Command). HasCause c files err err h) (sym is) (cause_of_check query fields files err h cause)
+    (disk now : Option History) (err : Option (List ℕ)) (h : RunHalt) → printing.HasCause query fields files h
+    → HasCause asked files disk now err err h
+check_cause asked query fields is files disk now err h cause =
+    subst (λ (c : Command). HasCause c files disk now err err h) (sym is) (cause_of_check query fields files disk now err h cause)
 
--- a run of `made`
-all_of_made : (hands events : ℕ) (files : Option Files) (out out' err : Option (List ℕ)) → MadeAll events out out'
-    → RunsAll (command.Made hands events) files out out' err err
-all_of_made hands events files out out' err h = (h.0, [], made_report events h.0 h.1 h.2, h.3, untouched err)
+-- ---- a run of `made`
+all_of_made : (hands events : ℕ) (files : Option Files) (disk : Option History) (out out' err : Option (List ℕ)) → MadeAll events out out'
+    → RunsAll (command.Made hands events) files disk out out' err err
+all_of_made hands events files disk out out' err h = λ on holds trusted.
+    (h.0, [], made_report events h.0 h.1 h.2, h.3, untouched err)
   where
     made_report : (events : ℕ) (bytes report : List ℕ) → Makes events bytes report → Makes events bytes []
     made_report events bytes report m = record { search = m.search; is_search = m.is_search; bytes_are = m.bytes_are; report_is = refl }
 
-pub made_all : (asked : Command) (hands events : ℕ) → asked ≡ command.Made hands events → (files : Option Files)
-    (out out' err : Option (List ℕ)) → MadeAll events out out' → RunsAll asked files out out' err err
-made_all asked hands events is files out out' err h =
-    subst (λ (c : Command). RunsAll c files out out' err err) (sym is) (all_of_made hands events files out out' err h)
+pub made_all : (asked : Command) (hands events : ℕ) → asked ≡ command.Made hands events → (files : Option Files) (disk : Option History)
+    (out out' err : Option (List ℕ)) → MadeAll events out out' → RunsAll asked files disk out out' err err
+made_all asked hands events is files disk out out' err h =
+    subst (λ (c : Command). RunsAll c files disk out out' err err) (sym is) (all_of_made hands events files disk out out' err h)
 
-some_of_made : (hands events : ℕ) (files : Option Files) (out out' : Option (List ℕ)) → MadeFront events out out'
-    → RunsSome (command.Made hands events) files out out'
-some_of_made hands events files None out' h = tt
-some_of_made hands events files (Some w) out' h = inr (h.0, h.1, h.2, h.3)
+pub made_accepted : (asked : Command) (hands events : ℕ) → asked ≡ command.Made hands events → (files : Option Files) (disk : Option History)
+    (out out' : Option (List ℕ)) → MadeAll events out out' → IfRun asked files disk (IsAcceptedBy asked)
+made_accepted asked hands events is files disk out out' h =
+    subst (λ (c : Command). IfRun c files disk (IsAcceptedBy c)) (sym is) (λ on holds. (h.0, h.1, h.2))
 
-pub made_some : (asked : Command) (hands events : ℕ) → asked ≡ command.Made hands events → (files : Option Files)
-    (out out' : Option (List ℕ)) → MadeFront events out out' → RunsSome asked files out out'
-made_some asked hands events is files out out' h =
-    subst (λ (c : Command). RunsSome c files out out') (sym is) (some_of_made hands events files out out' h)
+some_of_made : (hands events : ℕ) (files : Option Files) (disk : Option History) (out out' : Option (List ℕ)) → MadeFront events out out'
+    → RunsSome (command.Made hands events) files disk out out'
+some_of_made hands events files disk None out' h = λ on holds trusted. tt
+some_of_made hands events files disk (Some w) out' h = λ on holds trusted. inr (h.0, h.1, h.2, h.3)
 
-cause_of_made : (hands events : ℕ) (files : Option Files) (out out' err : Option (List ℕ)) (h : RunHalt) → MadeFront events out out'
-    → StopsWriting h → HasCause (command.Made hands events) files err err h
-cause_of_made hands events files out out' err (run.Files (halt.Refused r)) front stops = absurd stops
-cause_of_made hands events files out out' err (run.Files (halt.Read name)) front stops = absurd stops
-cause_of_made hands events files out out' err (run.Files halt.Memory) front stops = tt
-cause_of_made hands events files out out' err run.Write front stops = (front.0, front.1, front.2)
-cause_of_made hands events files out out' err (run.Limit l) front stops = absurd stops
-cause_of_made hands events files out out' err (run.Report r) front stops = absurd stops
+pub made_some : (asked : Command) (hands events : ℕ) → asked ≡ command.Made hands events → (files : Option Files) (disk : Option History)
+    (out out' : Option (List ℕ)) → MadeFront events out out' → RunsSome asked files disk out out'
+made_some asked hands events is files disk out out' h =
+    subst (λ (c : Command). RunsSome c files disk out out') (sym is) (some_of_made hands events files disk out out' h)
 
-pub made_cause : (asked : Command) (hands events : ℕ) → asked ≡ command.Made hands events → (files : Option Files)
+made_reports : (h : RunHalt) → StopsWriting h → ¬ IsReport h
+made_reports (run.Files h) stops report = report
+made_reports (run.Cut why) stops report = report
+made_reports run.Disk stops report = report
+made_reports run.Write stops report = report
+made_reports (run.Limit l) stops report = report
+made_reports run.Generation stops report = report
+made_reports (run.Report r) stops report = stops
+
+pub made_listing : (asked : Command) (files : Option Files) (disk : Option History) (out out' : Option (List ℕ)) (h : RunHalt) → StopsWriting h
+    → IsReport h → RunsListing asked files disk out out'
+made_listing asked files disk out out' h stops report = absurd (made_reports h stops report)
+
+cause_of_made : (hands events : ℕ) (files : Option Files) (disk now : Option History) (out out' err : Option (List ℕ)) (h : RunHalt)
+    → MadeFront events out out' → StopsWriting h → HasCause (command.Made hands events) files disk now err err h
+cause_of_made hands events files disk now out out' err (run.Files (halt.Refused r)) front stops = absurd stops
+cause_of_made hands events files disk now out out' err (run.Files (halt.Read name)) front stops = absurd stops
+cause_of_made hands events files disk now out out' err (run.Files halt.Memory) front stops = tt
+cause_of_made hands events files disk now out out' err (run.Cut why) front stops = absurd stops
+cause_of_made hands events files disk now out out' err run.Disk front stops = absurd stops
+cause_of_made hands events files disk now out out' err run.Write front stops = λ on holds. (front.0, front.1, front.2)
+cause_of_made hands events files disk now out out' err (run.Limit l) front stops = absurd stops
+cause_of_made hands events files disk now out out' err run.Generation front stops = absurd stops
+cause_of_made hands events files disk now out out' err (run.Report r) front stops = absurd stops
+
+pub made_cause : (asked : Command) (hands events : ℕ) → asked ≡ command.Made hands events → (files : Option Files) (disk now : Option History)
     (out out' err : Option (List ℕ)) (r : Result (Unit {0}) RunHalt) → OnErr r (MadeFront events out out') → IfErr r StopsWriting
-    → IfErr r (HasCause asked files err err)
-made_cause asked hands events is files out out' err (Ok x) front stops = tt
-made_cause asked hands events is files out out' err (Err h) front stops =
-    subst (λ (c : Command). HasCause c files err err h) (sym is) (cause_of_made hands events files out out' err h front stops)
+    → IfErr r (HasCause asked files disk now err err)
+made_cause asked hands events is files disk now out out' err (Ok x) front stops = tt
+made_cause asked hands events is files disk now out out' err (Err h) front stops =
+    subst (λ (c : Command). HasCause c files disk now err err h) (sym is) (cause_of_made hands events files disk now out out' err h front stops)
 
 -- what such a run leaves alone
 module _ {T : Type 0} where
@@ -147,8 +199,11 @@ module _ {T : Type 0} where
   made_untouched (Err (run.Files (halt.Refused r))) old new stops = absurd stops
   made_untouched (Err (run.Files (halt.Read name))) old new stops = absurd stops
   made_untouched (Err (run.Files halt.Memory)) old new stops = λ none. absurd none
+  made_untouched (Err (run.Cut why)) old new stops = absurd stops
+  made_untouched (Err run.Disk) old new stops = absurd stops
   made_untouched (Err run.Write) old new stops = λ none. absurd none
   made_untouched (Err (run.Limit l)) old new stops = absurd stops
+  made_untouched (Err run.Generation) old new stops = absurd stops
   made_untouched (Err (run.Report r)) old new stops = absurd stops
 
 pub made_faults : (r : Result (Unit {0}) RunHalt) (faults : List ℕ → ℕ) → IfErr r StopsWriting → FaultsAs r faults faults
@@ -156,8 +211,11 @@ made_faults (Ok x) faults stops = λ name. refl
 made_faults (Err (run.Files (halt.Refused r))) faults stops = absurd stops
 made_faults (Err (run.Files (halt.Read name))) faults stops = absurd stops
 made_faults (Err (run.Files halt.Memory)) faults stops = λ name. refl
+made_faults (Err (run.Cut why)) faults stops = absurd stops
+made_faults (Err run.Disk) faults stops = absurd stops
 made_faults (Err run.Write) faults stops = λ name. refl
 made_faults (Err (run.Limit l)) faults stops = absurd stops
+made_faults (Err run.Generation) faults stops = absurd stops
 made_faults (Err (run.Report r)) faults stops = absurd stops
 
 pub made_count : (r : Result (Unit {0}) RunHalt) (count : ℕ) → IfErr r StopsWriting → CountAs r count count
@@ -165,8 +223,11 @@ made_count (Ok x) count stops = refl
 made_count (Err (run.Files (halt.Refused r))) count stops = absurd stops
 made_count (Err (run.Files (halt.Read name))) count stops = absurd stops
 made_count (Err (run.Files halt.Memory)) count stops = refl
+made_count (Err (run.Cut why)) count stops = absurd stops
+made_count (Err run.Disk) count stops = absurd stops
 made_count (Err run.Write) count stops = refl
 made_count (Err (run.Limit l)) count stops = absurd stops
+made_count (Err run.Generation) count stops = absurd stops
 made_count (Err (run.Report r)) count stops = absurd stops
 
 pub made_absences : (r : Result (Unit {0}) RunHalt) (count : ℕ) → IfErr r StopsWriting → AbsenceAs r count count
@@ -174,13 +235,41 @@ made_absences (Ok x) count stops = refl
 made_absences (Err (run.Files (halt.Refused r))) count stops = absurd stops
 made_absences (Err (run.Files (halt.Read name))) count stops = absurd stops
 made_absences (Err (run.Files halt.Memory)) count stops = refl
+made_absences (Err (run.Cut why)) count stops = absurd stops
+made_absences (Err run.Disk) count stops = absurd stops
 made_absences (Err run.Write) count stops = refl
 made_absences (Err (run.Limit l)) count stops = absurd stops
+made_absences (Err run.Generation) count stops = absurd stops
 made_absences (Err (run.Report r)) count stops = absurd stops
 
 pub made_errors : (r : Result (Unit {0}) RunHalt) (count : ℕ) → IfErr r StopsWriting → ErrAs r count count
 made_errors (Ok x) count stops = refl
 made_errors (Err (run.Files h)) count stops = refl
+made_errors (Err (run.Cut why)) count stops = absurd stops
+made_errors (Err run.Disk) count stops = absurd stops
 made_errors (Err run.Write) count stops = refl
-made_errors (Err (run.Limit l)) count stops = refl
+made_errors (Err (run.Limit l)) count stops = absurd stops
+made_errors (Err run.Generation) count stops = absurd stops
 made_errors (Err (run.Report r)) count stops = absurd stops
+
+pub made_disks : (r : Result (Unit {0}) RunHalt) (count : ℕ) → IfErr r StopsWriting → DiskAs r count count
+made_disks (Ok x) count stops = refl
+made_disks (Err (run.Files h)) count stops = refl
+made_disks (Err (run.Cut why)) count stops = absurd stops
+made_disks (Err run.Disk) count stops = absurd stops
+made_disks (Err run.Write) count stops = refl
+made_disks (Err (run.Limit l)) count stops = absurd stops
+made_disks (Err run.Generation) count stops = absurd stops
+made_disks (Err (run.Report r)) count stops = absurd stops
+
+-- the disk isn't asked for by `check`, so none is told as failed
+pub check_disks : (query fields : List ℕ) (files : Option Files) (r : Result (Unit {0}) RunHalt) (before now : ℕ) → now ≡ before
+    → IfErr r (printing.HasCause query fields files) → DiskAs r before now
+check_disks query fields files (Ok x) before now same cause = same
+check_disks query fields files (Err (run.Files h)) before now same cause = same
+check_disks query fields files (Err (run.Cut why)) before now same cause = absurd cause
+check_disks query fields files (Err run.Disk) before now same cause = absurd cause
+check_disks query fields files (Err run.Write) before now same cause = same
+check_disks query fields files (Err (run.Limit l)) before now same cause = absurd cause
+check_disks query fields files (Err run.Generation) before now same cause = absurd cause
+check_disks query fields files (Err (run.Report r)) before now same cause = absurd cause

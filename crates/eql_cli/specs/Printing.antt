@@ -26,9 +26,12 @@ PrintsSome query fields files out out' =
 -- why a run stopped
 abbrev pub HasCause : (query fields : List ℕ) → Option Files → RunHalt → Type 0
 HasCause query fields files (run.Files h) = inputs.HasCause (naming query fields []) files h
+HasCause query fields files (run.Cut why) = ⊥
+HasCause query fields files run.Disk = ⊥
 HasCause query fields files run.Write =
     IfSome files (λ fs. (bytes : List ℕ) × (report : List ℕ) × Prints query fields fs bytes report)
 HasCause query fields files (run.Limit l) = ⊥
+HasCause query fields files run.Generation = ⊥
 HasCause query fields files (run.Report r) = ⊥
 
 -- writing the text stopped: the output failed, or memory ran out
@@ -36,6 +39,9 @@ abbrev pub StopsWriting : RunHalt → Type 0
 StopsWriting (run.Files (halt.Refused r)) = ⊥
 StopsWriting (run.Files (halt.Read name)) = ⊥
 StopsWriting (run.Files halt.Memory) = Unit {0}
+StopsWriting (run.Cut why) = ⊥
+StopsWriting run.Disk = ⊥
 StopsWriting run.Write = Unit {0}
 StopsWriting (run.Limit l) = ⊥
+StopsWriting run.Generation = ⊥
 StopsWriting (run.Report r) = ⊥

@@ -1,10 +1,11 @@
 //! The top call.
-ghost use Rattle.std.specs.Prelude.{◌≡◌, ◌≢◌, ◌⊎◌, ◌≤◌, ◌<◌, None, IfSome, Some};
+ghost use Rattle.std.specs.Prelude.{◌≡◌, ◌≢◌, ◌⊎◌, ◌≤◌, ◌<◌, None, IfSome, Some, false};
 ghost use Rattle.eql_outside.specs.Outside.{Rose};
 ghost use Rattle.eql_outside.specs.Unfailing.{IsUnfailing, AreUnfailing};
 ghost use Rattle.eql_words.specs.Commands.{command_of};
 ghost use Rattle.eql_words.specs.Words.{bytes_of};
-ghost use Rattle.eql_runs.specs.Runs.{WroteAll, WroteListing, WroteSome, Told, Limited, IsReady, RefusedAs};
+ghost use Rattle.eql_runs.specs.Runs.{AskDisk, IfTold, IsAccepted, WroteAll, WroteListing, WroteSome, Told, Limited, IsReady, RefusedAs};
+ghost use Rattle.eql_cli.specs.Running.{KeepDisk};
 
 use crate::gate::Gate;
 use crate::run::run_words;
@@ -16,8 +17,8 @@ use std::thread::Threads;
 /// How a run ended: its status, and the sinks that it was given.
 #[derive(Drop)]
 pub struct Ended<K, E> {
-    /// 0 done; 1 a file isn't there; 2 the words are no command; 3 the query or the mapping is refused, or a part of the
-    /// command isn't built; 4 a read fault; 5 a write fault; 8 out of memory; 9 a limit is reached.
+    /// 0 done; 1 a file isn't there; 2 the words are no command; 3 the query or the mapping is refused; 4 a read fault; 5 a
+    /// write fault; 6 a fault of the checkpoint's disk; 7 the checkpoint is refused; 8 out of memory; 9 a limit is reached.
     pub status: u8,
     /// The output, with the listing, the canonical text or the summary.
     pub out: K,
@@ -30,8 +31,12 @@ pub struct Ended<K, E> {
 /// `find` writes the listing of a query's matches in its shards to `out`, and the report to `err`; `check` writes the
 /// canonical text of a query to `out`; `made` writes a summary of what it finds in events that it makes itself to `out`. On
 /// status 0 they are there whole. On every other status `out` got a front of the listing, the text or the summary, nothing at
-/// all where the words or the files are refused, and `err` a front of what is told. On status 5 the listing is there whole where
-/// `out` didn't fail. What the shelf lent goes back to it.
+/// all where the words, the files or the checkpoint are refused, and `err` a front of what is told. On status 5 the listing is
+/// there whole where `out` didn't fail. What the shelf lent goes back to it, its disk too.
+///
+/// With a checkpoint `find` begins with the cut that the shelf's disk holds, and the listing is then what follows the lines that
+/// this cut counts. The run puts cuts on the disk, and whatever a crash at any moment leaves of the disk holds what it held
+/// before, or one of these cuts.
 pub fn eql_main<R: Threads + Wait + Sync, H: Shelf, K: Sink, E: Sink, G: Gate + Sync>(
     _rt: &R,
     alloc: Global,
@@ -41,28 +46,33 @@ pub fn eql_main<R: Threads + Wait + Sync, H: Shelf, K: Sink, E: Sink, G: Gate + 
     mut err: E,
     _gate: &G,
 ) -> Ended<K, E>
-    // The headline: on status 0 the output got exactly the listing, and the error output the report.
+    // The headline: on status 0 the output got exactly the listing, from the line after those that the cut counts with which the
+    // run began, and the error output the report. And nothing refuses the run.
     ensures done { result.status ≡ 0
-        → WroteAll (bytes_of words.now.items) (H.files shelf.old)
+        → WroteAll (bytes_of words.now.items) (H.files shelf.old) (H.disk_history shelf.old)
         (K.written out) (K.written result.out) (E.written err) (E.written result.err) }
+    ensures accepted { result.status ≡ 0
+        → IfTold (bytes_of words.now.items) (H.files shelf.old) (H.disk_history shelf.old)
+        (IsAccepted (bytes_of words.now.items)) }
 
     // On every other status the output got nothing, or a front of the listing.
     ensures prefix { result.status ≢ 0
-        → WroteSome (bytes_of words.now.items) (H.files shelf.old)
+        → WroteSome (bytes_of words.now.items) (H.files shelf.old) (H.disk_history shelf.old)
         (K.written out) (K.written result.out) }
 
     // Where the error output alone failed, the listing is there whole.
     ensures listed { result.status ≡ 5 → ¬ (Rose (K.fault_count out) (K.fault_count result.out))
-        → WroteListing (bytes_of words.now.items) (H.files shelf.old)
+        → WroteListing (bytes_of words.now.items) (H.files shelf.old) (H.disk_history shelf.old)
         (K.written out) (K.written result.out) }
 
-    // Where the words or the files are refused the output isn't touched.
+    // Where the words, the files or the checkpoint are refused the output isn't touched.
     ensures refused { (result.status ≡ 1) ⊎ (result.status ≡ 2) ⊎ (result.status ≡ 3)
-        → result.out ≡ out }
+        ⊎ (result.status ≡ 7) → result.out ≡ out }
 
     // On every other status a text is told whose cause holds, or a front of it.
     ensures told { result.status ≢ 0
         → Told (bytes_of words.now.items) (H.files shelf.old)
+        (H.disk_history shelf.old) (H.disk_history shelf.new)
         (H.faults_of shelf.old) (H.faults_of shelf.new) result.status
         (E.written err) (E.written result.err) }
 
@@ -77,39 +87,64 @@ pub fn eql_main<R: Threads + Wait + Sync, H: Shelf, K: Sink, E: Sink, G: Gate + 
     ensures write { result.status ≡ 5
         → Rose (K.fault_count out) (K.fault_count result.out)
         ⊎ Rose (E.fault_count err) (E.fault_count result.err) }
+    ensures disk { result.status ≡ 6
+        → Rose (H.disk_fault_count shelf.old) (H.disk_fault_count shelf.new) }
+    ensures cut { result.status ≡ 7 → AskDisk (bytes_of words.now.items) }
     ensures limit { result.status ≡ 9
-        → Limited (bytes_of words.now.items) (H.files shelf.old) }
+        → Limited (bytes_of words.now.items) (H.files shelf.old)
+        (H.disk_history shelf.old) (H.disk_history shelf.new) }
 
     // No fault is passed over.
     ensures reads_told { H.fault_count shelf.old < H.fault_count shelf.new → result.status ≡ 4 }
     ensures writes_told { K.fault_count out < K.fault_count result.out → result.status ≡ 5 }
+    ensures disks_told { H.disk_fault_count shelf.old < H.disk_fault_count shelf.new
+        → result.status ≡ 6 }
     ensures errors_told { E.fault_count err < E.fault_count result.err → result.status ≢ 0 }
 
-    // A run with good words and files in which nothing fails is done, unless memory ran out; and nothing fails over objects of
-    // which no call is planned to fail.
+    // A run with good words, files and checkpoint in which nothing fails is done, unless memory ran out; and nothing fails over
+    // objects of which no call is planned to fail.
     ensures complete { IsReady (bytes_of words.now.items) (H.files shelf.old)
+        (H.disk_history shelf.old)
         → ¬ (Rose (H.fault_count shelf.old) (H.fault_count shelf.new))
+        → (AskDisk (bytes_of words.now.items)
+        → ¬ (Rose (H.disk_fault_count shelf.old) (H.disk_fault_count shelf.new)))
         → ¬ (Rose (K.fault_count out) (K.fault_count result.out))
         → ¬ (Rose (E.fault_count err) (E.fault_count result.err))
         → (result.status ≡ 0) ⊎ (result.status ≡ 8) }
     ensures grounded { IsReady (bytes_of words.now.items) (H.files shelf.old)
+        (H.disk_history shelf.old)
         → IsUnfailing (H.fault_plan shelf.old) → AreUnfailing (H.source_plans shelf.old)
+        → (AskDisk (bytes_of words.now.items) → IsUnfailing (H.disk_plan shelf.old))
         → IsUnfailing (K.fault_plan out) → IsUnfailing (E.fault_plan err)
         → (result.status ≡ 0) ⊎ (result.status ≡ 8) }
 
-    // Where the words or files are refused and no read fails, the status is that of the first cause, unless memory ran out.
+    // Where the words, the files or the checkpoint are refused and no read fails, nor the disk, the status is that of the first
+    // cause, unless memory ran out.
     ensures exact { ¬ (Rose (H.fault_count shelf.old) (H.fault_count shelf.new))
-        → RefusedAs (bytes_of words.now.items) (H.files shelf.old) result.status }
+        → (AskDisk (bytes_of words.now.items)
+        → ¬ (Rose (H.disk_fault_count shelf.old) (H.disk_fault_count shelf.new)))
+        → RefusedAs (bytes_of words.now.items) (H.files shelf.old) (H.disk_history shelf.old)
+        result.status }
 
-    // The shelf keeps its files and its disk, all that it lent came back, and no count falls.
+    // The shelf keeps its files, and all that it lent came back.
     ensures kept { H.files shelf.new ≡ H.files shelf.old }
-    ensures disk_kept { (H.disk_history shelf.new ≡ H.disk_history shelf.old)
+    ensures lent { IfSome (H.lent_count shelf.old) (λ n. H.lent_count shelf.new ≡ Some n) }
+    ensures back { H.is_out shelf.old ≡ false → H.is_out shelf.new ≡ false }
+
+    // With a checkpoint each image of the disk at each moment stands for what was there, or for a cut of the run. Without one the
+    // disk is as it was.
+    ensures moments { KeepDisk (bytes_of words.now.items) (H.files shelf.old)
+        (H.disk_history shelf.old) (H.disk_history shelf.new) }
+    ensures disk_kept { ¬ (AskDisk (bytes_of words.now.items))
+        → (H.disk_history shelf.new ≡ H.disk_history shelf.old)
         × (H.is_out shelf.new ≡ H.is_out shelf.old)
         × (H.disk_fault_count shelf.new ≡ H.disk_fault_count shelf.old)
         × (H.disk_plan shelf.new ≡ H.disk_plan shelf.old) }
-    ensures lent { IfSome (H.lent_count shelf.old) (λ n. H.lent_count shelf.new ≡ Some n) }
+
+    // No count falls.
     ensures counts { (H.fault_count shelf.old ≤ H.fault_count shelf.new)
         × (H.absent_count shelf.old ≤ H.absent_count shelf.new)
+        × (H.disk_fault_count shelf.old ≤ H.disk_fault_count shelf.new)
         × (K.fault_count out ≤ K.fault_count result.out)
         × (E.fault_count err ≤ E.fault_count result.err) }
 {

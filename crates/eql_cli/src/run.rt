@@ -1,28 +1,24 @@
 //! A run by its words: the command is read, run, and why it stopped is told.
-ghost use Rattle.std.specs.Prelude.{◌≡◌, ◌≢◌, ◌⊎◌, ◌≤◌, ◌<◌, ℕ, List, IfErr, IfSome, None, OnErr, OnOk, Some};
+ghost use Rattle.std.specs.Prelude.{◌≡◌, ◌≢◌, ◌⊎◌, ◌≤◌, ◌<◌, ℕ, List, IfErr, IfSome, None, OnErr, OnOk, Some, false};
 ghost use Rattle.eql_outside.specs.Outside.{Rose};
 ghost use Rattle.eql_outside.specs.Unfailing.{AreUnfailing, IsUnfailing};
 ghost use Rattle.eql_words.specs.Bounds.{Bounds};
-ghost use Rattle.eql_find.specs.Halts.{AbsenceAs, CountAs, ErrAs, FaultsAs, IsFault, IsRefusal, IsReport, OutAs, TellsNothing};
+ghost use Rattle.eql_find.specs.Halts.{AbsenceAs, CountAs, DiskAs, ErrAs, FaultsAs, IsFault, IsRefusal, IsReport, OutAs, TellsNothing};
 ghost use Rattle.eql_words.specs.Commands.{command_of};
 ghost use Rattle.eql_words.specs.Words.{bytes_of};
-ghost use Rattle.eql_runs.specs.Built.{unbuilt_in};
-ghost use Rattle.eql_runs.specs.Runs.{WroteAll, WroteListing, WroteSome, Told, Limited, IsReady, RefusedAs};
-ghost use Rattle.eql_cli.specs.Running.{HasCause, RunsAll, RunsListing, RunsSome};
+ghost use Rattle.eql_runs.specs.Runs.{AskDisk, AsksDisk, IfTold, IsAccepted, WroteAll, WroteListing, WroteSome, Told, Limited, IsReady, RefusedAs};
+ghost use Rattle.eql_cli.specs.Running.{HasCause, IfRun, IsAcceptedBy, KeepDisk, KeepsDisk, RunsAll, RunsListing, RunsSome};
 
 use crate::check::check_query;
 use crate::made::run_made;
-use crate::tell::{tell_memory, tell_run, tell_unbuilt, tell_usage};
+use crate::tell::{tell_end, tell_memory, tell_usage};
 use eql_find::{RunHalt, find_matches};
 use eql_outside::{Shelf, Sink};
 use eql_runs::runs_are_determined;
-use eql_words::{Command, Part, commands_are_bounded, first_unbuilt, read_command};
+use eql_words::{Command, commands_are_bounded, read_command};
 use std::alloc::Global;
 
-/// The parts of commands that aren't built yet.
-const UNBUILT: [Part; 1] = [Part::Checkpoint];
-
-/// Runs a command that is built.
+/// Runs a command.
 fn run_command<'a, H: Shelf, K: Sink, E: Sink>(
     alloc: Global,
     command: &'a Command,
@@ -30,36 +26,47 @@ fn run_command<'a, H: Shelf, K: Sink, E: Sink>(
     out: &mut K,
     err: &mut E,
 ) -> Result<(), RunHalt<'a>>
-    requires built { unbuilt_in command.now ≡ None }
-    requires bounds { Bounds command.now }
-    ensures done { OnOk result (RunsAll command.now (H.files shelf.old)
+    requires { Bounds command.now }
+    ensures done { OnOk result (RunsAll command.now (H.files shelf.old) (H.disk_history shelf.old)
         (K.written out.old) (K.written out.new) (E.written err.old) (E.written err.new)) }
+    ensures accepted { OnOk result (IfRun command.now (H.files shelf.old)
+        (H.disk_history shelf.old) (IsAcceptedBy command.now)) }
     ensures prefix { OnErr result (RunsSome command.now (H.files shelf.old)
-        (K.written out.old) (K.written out.new)) }
+        (H.disk_history shelf.old) (K.written out.old) (K.written out.new)) }
     ensures listed { IfErr result (λ halt. IsReport halt
-        → RunsListing command.now (H.files shelf.old) (K.written out.old) (K.written out.new)) }
+        → RunsListing command.now (H.files shelf.old) (H.disk_history shelf.old)
+        (K.written out.old) (K.written out.new)) }
     ensures untouched { IfErr result (λ halt. IsRefusal halt → out.new ≡ out.old) }
     ensures quiet { IfErr result (λ halt. TellsNothing halt → err.new ≡ err.old) }
     ensures cause { IfErr result (HasCause command.now (H.files shelf.old)
+        (H.disk_history shelf.old) (H.disk_history shelf.new)
         (E.written err.old) (E.written err.new)) }
     ensures faults { FaultsAs result (H.faults_of shelf.old) (H.faults_of shelf.new) }
     ensures count { CountAs result (H.fault_count shelf.old) (H.fault_count shelf.new) }
     ensures absences { AbsenceAs result (H.absent_count shelf.old) (H.absent_count shelf.new) }
+    ensures disk { DiskAs result (H.disk_fault_count shelf.old) (H.disk_fault_count shelf.new) }
     ensures out { OutAs result (K.fault_count out.old) (K.fault_count out.new) }
     ensures err { ErrAs result (E.fault_count err.old) (E.fault_count err.new) }
     ensures counts { (H.fault_count shelf.old ≤ H.fault_count shelf.new)
         × (H.absent_count shelf.old ≤ H.absent_count shelf.new)
+        × (H.disk_fault_count shelf.old ≤ H.disk_fault_count shelf.new)
         × (K.fault_count out.old ≤ K.fault_count out.new)
         × (E.fault_count err.old ≤ E.fault_count err.new) }
     ensures unfailing { IsUnfailing (H.fault_plan shelf.old)
-        → AreUnfailing (H.source_plans shelf.old) → IsUnfailing (K.fault_plan out.old)
-        → IsUnfailing (E.fault_plan err.old) → IfErr result (λ halt. ¬ IsFault halt) }
+        → AreUnfailing (H.source_plans shelf.old)
+        → (AsksDisk command.now → IsUnfailing (H.disk_plan shelf.old))
+        → IsUnfailing (K.fault_plan out.old) → IsUnfailing (E.fault_plan err.old)
+        → IfErr result (λ halt. ¬ IsFault halt) }
     ensures kept { H.files shelf.new ≡ H.files shelf.old }
-    ensures disk_kept { (H.disk_history shelf.new ≡ H.disk_history shelf.old)
+    ensures lent { IfSome (H.lent_count shelf.old) (λ n. H.lent_count shelf.new ≡ Some n) }
+    ensures moments { KeepsDisk command.now (H.files shelf.old)
+        (H.disk_history shelf.old) (H.disk_history shelf.new) }
+    ensures disk_kept { ¬ (AsksDisk command.now)
+        → (H.disk_history shelf.new ≡ H.disk_history shelf.old)
         × (H.is_out shelf.new ≡ H.is_out shelf.old)
         × (H.disk_fault_count shelf.new ≡ H.disk_fault_count shelf.old)
         × (H.disk_plan shelf.new ≡ H.disk_plan shelf.old) }
-    ensures lent { IfSome (H.lent_count shelf.old) (λ n. H.lent_count shelf.new ≡ Some n) }
+    ensures back { H.is_out shelf.old ≡ false → H.is_out shelf.new ≡ false }
 {
     match command {
         Command::Find(find) => find_matches(alloc, find, shelf, out, err),
@@ -68,7 +75,7 @@ fn run_command<'a, H: Shelf, K: Sink, E: Sink>(
     }
 }
 
-/// Runs a command that is built, tells why it stopped, and answers its status.
+/// Runs a command, tells why it stopped, and answers its status.
 fn end_command<H: Shelf, K: Sink, E: Sink>(
     alloc: Global,
     command: &Command,
@@ -76,62 +83,82 @@ fn end_command<H: Shelf, K: Sink, E: Sink>(
     out: &mut K,
     err: &mut E,
 ) -> u8
-    requires built { unbuilt_in command.now ≡ None }
-    requires bounds { Bounds command.now }
+    requires { Bounds command.now }
     ensures done { result ≡ 0 → (words : List (List ℕ)) → command_of words ≡ Some command.now
-        → WroteAll words (H.files shelf.old)
+        → WroteAll words (H.files shelf.old) (H.disk_history shelf.old)
         (K.written out.old) (K.written out.new) (E.written err.old) (E.written err.new) }
+    ensures accepted { result ≡ 0 → (words : List (List ℕ)) → command_of words ≡ Some command.now
+        → IfTold words (H.files shelf.old) (H.disk_history shelf.old)
+        (IsAccepted words) }
     ensures prefix { result ≢ 0 → (words : List (List ℕ)) → command_of words ≡ Some command.now
-        → WroteSome words (H.files shelf.old) (K.written out.old) (K.written out.new) }
+        → WroteSome words (H.files shelf.old) (H.disk_history shelf.old)
+        (K.written out.old) (K.written out.new) }
     ensures listed { result ≡ 5 → ¬ (Rose (K.fault_count out.old) (K.fault_count out.new))
         → (words : List (List ℕ)) → command_of words ≡ Some command.now
-        → WroteListing words (H.files shelf.old) (K.written out.old) (K.written out.new) }
-    ensures refused { (result ≡ 1) ⊎ (result ≡ 2) ⊎ (result ≡ 3) → out.new ≡ out.old }
+        → WroteListing words (H.files shelf.old) (H.disk_history shelf.old)
+        (K.written out.old) (K.written out.new) }
+    ensures refused { (result ≡ 1) ⊎ (result ≡ 2) ⊎ (result ≡ 3) ⊎ (result ≡ 7)
+        → out.new ≡ out.old }
     ensures told { result ≢ 0 → (words : List (List ℕ)) → command_of words ≡ Some command.now
-        → Told words (H.files shelf.old) (H.faults_of shelf.old) (H.faults_of shelf.new) result
+        → Told words (H.files shelf.old)
+        (H.disk_history shelf.old) (H.disk_history shelf.new)
+        (H.faults_of shelf.old) (H.faults_of shelf.new) result
         (E.written err.old) (E.written err.new) }
     ensures absent { result ≡ 1 → Rose (H.absent_count shelf.old) (H.absent_count shelf.new) }
     ensures words { result ≢ 2 }
     ensures read { result ≡ 4 → Rose (H.fault_count shelf.old) (H.fault_count shelf.new) }
     ensures write { result ≡ 5 → Rose (K.fault_count out.old) (K.fault_count out.new)
         ⊎ Rose (E.fault_count err.old) (E.fault_count err.new) }
+    ensures disk { result ≡ 6
+        → Rose (H.disk_fault_count shelf.old) (H.disk_fault_count shelf.new) }
+    ensures cut { result ≡ 7 → AsksDisk command.now }
     ensures limit { result ≡ 9 → (words : List (List ℕ)) → command_of words ≡ Some command.now
-        → Limited words (H.files shelf.old) }
+        → Limited words (H.files shelf.old)
+        (H.disk_history shelf.old) (H.disk_history shelf.new) }
     ensures reads_told { H.fault_count shelf.old < H.fault_count shelf.new → result ≡ 4 }
     ensures writes_told { K.fault_count out.old < K.fault_count out.new → result ≡ 5 }
+    ensures disks_told { H.disk_fault_count shelf.old < H.disk_fault_count shelf.new
+        → result ≡ 6 }
     ensures errors_told { E.fault_count err.old < E.fault_count err.new → result ≢ 0 }
     ensures complete { (words : List (List ℕ)) → command_of words ≡ Some command.now
-        → IsReady words (H.files shelf.old)
+        → IsReady words (H.files shelf.old) (H.disk_history shelf.old)
         → ¬ (Rose (H.fault_count shelf.old) (H.fault_count shelf.new))
+        → (AsksDisk command.now
+        → ¬ (Rose (H.disk_fault_count shelf.old) (H.disk_fault_count shelf.new)))
         → ¬ (Rose (K.fault_count out.old) (K.fault_count out.new))
         → ¬ (Rose (E.fault_count err.old) (E.fault_count err.new))
         → (result ≡ 0) ⊎ (result ≡ 8) }
     ensures grounded { (words : List (List ℕ)) → command_of words ≡ Some command.now
-        → IsReady words (H.files shelf.old)
+        → IsReady words (H.files shelf.old) (H.disk_history shelf.old)
         → IsUnfailing (H.fault_plan shelf.old) → AreUnfailing (H.source_plans shelf.old)
+        → (AsksDisk command.now → IsUnfailing (H.disk_plan shelf.old))
         → IsUnfailing (K.fault_plan out.old) → IsUnfailing (E.fault_plan err.old)
         → (result ≡ 0) ⊎ (result ≡ 8) }
     ensures exact { (words : List (List ℕ)) → command_of words ≡ Some command.now
         → ¬ (Rose (H.fault_count shelf.old) (H.fault_count shelf.new))
-        → RefusedAs words (H.files shelf.old) result }
+        → (AsksDisk command.now
+        → ¬ (Rose (H.disk_fault_count shelf.old) (H.disk_fault_count shelf.new)))
+        → RefusedAs words (H.files shelf.old) (H.disk_history shelf.old) result }
     ensures kept { H.files shelf.new ≡ H.files shelf.old }
-    ensures disk_kept { (H.disk_history shelf.new ≡ H.disk_history shelf.old)
+    ensures lent { IfSome (H.lent_count shelf.old) (λ n. H.lent_count shelf.new ≡ Some n) }
+    ensures moments { KeepsDisk command.now (H.files shelf.old)
+        (H.disk_history shelf.old) (H.disk_history shelf.new) }
+    ensures disk_kept { ¬ (AsksDisk command.now)
+        → (H.disk_history shelf.new ≡ H.disk_history shelf.old)
         × (H.is_out shelf.new ≡ H.is_out shelf.old)
         × (H.disk_fault_count shelf.new ≡ H.disk_fault_count shelf.old)
         × (H.disk_plan shelf.new ≡ H.disk_plan shelf.old) }
-    ensures lent { IfSome (H.lent_count shelf.old) (λ n. H.lent_count shelf.new ≡ Some n) }
+    ensures back { H.is_out shelf.old ≡ false → H.is_out shelf.new ≡ false }
     ensures counts { (H.fault_count shelf.old ≤ H.fault_count shelf.new)
         × (H.absent_count shelf.old ≤ H.absent_count shelf.new)
+        × (H.disk_fault_count shelf.old ≤ H.disk_fault_count shelf.new)
         × (K.fault_count out.old ≤ K.fault_count out.new)
         × (E.fault_count err.old ≤ E.fault_count err.new) }
 {
     runs_are_determined();
     match run_command(alloc, command, shelf, out, err) {
         Ok(()) => 0,
-        Err(halt) => {
-            tell_run(alloc, &halt, err);
-            halt.status()
-        }
+        Err(halt) => tell_end(alloc, &halt, err),
     }
 }
 
@@ -144,17 +171,21 @@ pub(crate) fn run_words<H: Shelf, K: Sink, E: Sink>(
     err: &mut E,
 ) -> u8
     ensures done { result ≡ 0
-        → WroteAll (bytes_of words.now.items) (H.files shelf.old)
+        → WroteAll (bytes_of words.now.items) (H.files shelf.old) (H.disk_history shelf.old)
         (K.written out.old) (K.written out.new) (E.written err.old) (E.written err.new) }
+    ensures accepted { result ≡ 0
+        → IfTold (bytes_of words.now.items) (H.files shelf.old) (H.disk_history shelf.old)
+        (IsAccepted (bytes_of words.now.items)) }
     ensures prefix { result ≢ 0
-        → WroteSome (bytes_of words.now.items) (H.files shelf.old)
+        → WroteSome (bytes_of words.now.items) (H.files shelf.old) (H.disk_history shelf.old)
         (K.written out.old) (K.written out.new) }
     ensures listed { result ≡ 5 → ¬ (Rose (K.fault_count out.old) (K.fault_count out.new))
-        → WroteListing (bytes_of words.now.items) (H.files shelf.old)
+        → WroteListing (bytes_of words.now.items) (H.files shelf.old) (H.disk_history shelf.old)
         (K.written out.old) (K.written out.new) }
-    ensures refused { (result ≡ 1) ⊎ (result ≡ 2) ⊎ (result ≡ 3) → out.new ≡ out.old }
-    ensures told { result ≢ 0
-        → Told (bytes_of words.now.items) (H.files shelf.old)
+    ensures refused { (result ≡ 1) ⊎ (result ≡ 2) ⊎ (result ≡ 3) ⊎ (result ≡ 7)
+        → out.new ≡ out.old }
+    ensures told { result ≢ 0 → Told (bytes_of words.now.items) (H.files shelf.old)
+        (H.disk_history shelf.old) (H.disk_history shelf.new)
         (H.faults_of shelf.old) (H.faults_of shelf.new) result
         (E.written err.old) (E.written err.new) }
     ensures absent { result ≡ 1 → Rose (H.absent_count shelf.old) (H.absent_count shelf.new) }
@@ -164,42 +195,55 @@ pub(crate) fn run_words<H: Shelf, K: Sink, E: Sink>(
     ensures read { result ≡ 4 → Rose (H.fault_count shelf.old) (H.fault_count shelf.new) }
     ensures write { result ≡ 5 → Rose (K.fault_count out.old) (K.fault_count out.new)
         ⊎ Rose (E.fault_count err.old) (E.fault_count err.new) }
-    ensures limit { result ≡ 9 → Limited (bytes_of words.now.items) (H.files shelf.old) }
+    ensures disk { result ≡ 6
+        → Rose (H.disk_fault_count shelf.old) (H.disk_fault_count shelf.new) }
+    ensures cut { result ≡ 7 → AskDisk (bytes_of words.now.items) }
+    ensures limit { result ≡ 9 → Limited (bytes_of words.now.items) (H.files shelf.old)
+        (H.disk_history shelf.old) (H.disk_history shelf.new) }
     ensures reads_told { H.fault_count shelf.old < H.fault_count shelf.new → result ≡ 4 }
     ensures writes_told { K.fault_count out.old < K.fault_count out.new → result ≡ 5 }
+    ensures disks_told { H.disk_fault_count shelf.old < H.disk_fault_count shelf.new
+        → result ≡ 6 }
     ensures errors_told { E.fault_count err.old < E.fault_count err.new → result ≢ 0 }
     ensures complete { IsReady (bytes_of words.now.items) (H.files shelf.old)
+        (H.disk_history shelf.old)
         → ¬ (Rose (H.fault_count shelf.old) (H.fault_count shelf.new))
+        → (AskDisk (bytes_of words.now.items)
+        → ¬ (Rose (H.disk_fault_count shelf.old) (H.disk_fault_count shelf.new)))
         → ¬ (Rose (K.fault_count out.old) (K.fault_count out.new))
         → ¬ (Rose (E.fault_count err.old) (E.fault_count err.new))
         → (result ≡ 0) ⊎ (result ≡ 8) }
     ensures grounded { IsReady (bytes_of words.now.items) (H.files shelf.old)
+        (H.disk_history shelf.old)
         → IsUnfailing (H.fault_plan shelf.old) → AreUnfailing (H.source_plans shelf.old)
+        → (AskDisk (bytes_of words.now.items) → IsUnfailing (H.disk_plan shelf.old))
         → IsUnfailing (K.fault_plan out.old) → IsUnfailing (E.fault_plan err.old)
         → (result ≡ 0) ⊎ (result ≡ 8) }
     ensures exact { ¬ (Rose (H.fault_count shelf.old) (H.fault_count shelf.new))
-        → RefusedAs (bytes_of words.now.items) (H.files shelf.old) result }
+        → (AskDisk (bytes_of words.now.items)
+        → ¬ (Rose (H.disk_fault_count shelf.old) (H.disk_fault_count shelf.new)))
+        → RefusedAs (bytes_of words.now.items) (H.files shelf.old) (H.disk_history shelf.old)
+        result }
     ensures kept { H.files shelf.new ≡ H.files shelf.old }
-    ensures disk_kept { (H.disk_history shelf.new ≡ H.disk_history shelf.old)
+    ensures lent { IfSome (H.lent_count shelf.old) (λ n. H.lent_count shelf.new ≡ Some n) }
+    ensures moments { KeepDisk (bytes_of words.now.items) (H.files shelf.old)
+        (H.disk_history shelf.old) (H.disk_history shelf.new) }
+    ensures disk_kept { ¬ (AskDisk (bytes_of words.now.items))
+        → (H.disk_history shelf.new ≡ H.disk_history shelf.old)
         × (H.is_out shelf.new ≡ H.is_out shelf.old)
         × (H.disk_fault_count shelf.new ≡ H.disk_fault_count shelf.old)
         × (H.disk_plan shelf.new ≡ H.disk_plan shelf.old) }
-    ensures lent { IfSome (H.lent_count shelf.old) (λ n. H.lent_count shelf.new ≡ Some n) }
+    ensures back { H.is_out shelf.old ≡ false → H.is_out shelf.new ≡ false }
     ensures counts { (H.fault_count shelf.old ≤ H.fault_count shelf.new)
         × (H.absent_count shelf.old ≤ H.absent_count shelf.new)
+        × (H.disk_fault_count shelf.old ≤ H.disk_fault_count shelf.new)
         × (K.fault_count out.old ≤ K.fault_count out.new)
         × (E.fault_count err.old ≤ E.fault_count err.new) }
 {
     runs_are_determined();
     commands_are_bounded();
     match read_command(alloc, words) {
-        Ok(Some(command)) => match first_unbuilt(&command, &UNBUILT) {
-            Some(part) => {
-                tell_unbuilt(alloc, part, err);
-                3
-            }
-            None => end_command(alloc, &command, shelf, out, err),
-        },
+        Ok(Some(command)) => end_command(alloc, &command, shelf, out, err),
         Ok(None) => {
             tell_usage(alloc, err);
             2

@@ -2,18 +2,18 @@
 //! made, nothing is told.
 ghost use Rattle.std.specs.Prelude.{◌≡◌, ◌≤◌, IfOk, codes, string_bytes};
 ghost use Rattle.eql_outside.specs.Written.{WroteFront};
-ghost use Rattle.eql_words.specs.Features.{part_word};
 ghost use Rattle.eql_words.specs.Usage.{usage_text};
-ghost use Rattle.eql_runs.specs.Refusals.{refusal_text, unbuilt};
+ghost use Rattle.eql_runs.specs.CutRefusals.{cut_text, differing};
 ghost use Rattle.eql_runs.specs.Runs.{limit_text};
-ghost use Rattle.eql_find.specs.Halts.{IsReport, limit_of};
+ghost use Rattle.eql_find.specs.Halts.{IsReport, cut_refusal_of, limit_of, run_status_of};
 ghost use Rattle.eql_cli.specs.Telling.{TellsRun};
 
-use eql_find::{RunHalt, ShardLimit};
+use eql_cut::Differs;
+use eql_find::{CutStop, RunHalt, ShardLimit};
 use eql_inputs::{tell_halt, tell_text};
 use eql_outside::Sink;
 use eql_values::Memory;
-use eql_words::{Part, usage};
+use eql_words::usage;
 use std::alloc::Global;
 
 /// Tells which words make a command.
@@ -23,17 +23,6 @@ pub(crate) fn tell_usage<E: Sink>(alloc: Global, err: &mut E)
     ensures counts { E.fault_count err.old ≤ E.fault_count err.new }
 {
     tell_text(alloc, usage().as_bytes(), err);
-}
-
-/// Tells which part of a command isn't built yet.
-pub(crate) fn tell_unbuilt<E: Sink>(alloc: Global, part: Part, err: &mut E)
-    ensures told { WroteFront (refusal_text (unbuilt (part_word part)))
-        (E.written err.old) (E.written err.new) }
-    ensures counts { E.fault_count err.old ≤ E.fault_count err.new }
-{
-    if let Ok(line) = format!(in alloc; "unbuilt: {}\n", part.word()) {
-        tell_text(alloc, line.as_bytes(), err);
-    }
 }
 
 /// Tells that memory ran out.
@@ -66,16 +55,77 @@ fn tell_limit<E: Sink>(alloc: Global, limit: ShardLimit, err: &mut E)
     }
 }
 
+/// The word for what differs between a cut and the run.
+fn differing(differs: &Differs) -> &'static str
+    ensures { result.now ≡ differing differs.now }
+{
+    match differs {
+        Differs::Query { .. } => "query",
+        Differs::Mapping { .. } => "mapping",
+        Differs::Tie { .. } => "tiebreaker",
+        Differs::Slack { .. } => "slack",
+        Differs::Shards { .. } => "shards",
+    }
+}
+
+/// The line of a cut that is refused.
+fn cut_line(alloc: Global, why: &CutStop) -> Result<String, Memory>
+    ensures { IfOk result (λ line. string_bytes line ≡ cut_text (cut_refusal_of why.now)) }
+{
+    match why {
+        CutStop::Damaged { area, at } => {
+            Ok(format!(in alloc; "checkpoint: Damaged area {} at {}\n", area, at)?)
+        }
+        CutStop::Differs(differs) => {
+            Ok(format!(in alloc; "checkpoint: Differs {}\n", differing(differs))?)
+        }
+        CutStop::Unfit => Ok(String::from_str(alloc, "checkpoint: Unfit\n")?),
+        CutStop::Short { shard, offset, had } => Ok(format!(in alloc;
+            "checkpoint: Short shard {} offset {} had {}\n",
+            shard, offset, had
+        )?),
+        CutStop::NoLine { shard, line } => {
+            Ok(format!(in alloc; "checkpoint: NoLine shard {} line {}\n", shard, line)?)
+        }
+        CutStop::Grown { shard } => Ok(format!(in alloc; "checkpoint: Grown shard {}\n", shard)?),
+    }
+}
+
+/// Tells why the cut of a checkpoint is refused.
+fn tell_cut<E: Sink>(alloc: Global, why: &CutStop, err: &mut E)
+    ensures told { WroteFront (cut_text (cut_refusal_of why.now))
+        (E.written err.old) (E.written err.new) }
+    ensures counts { E.fault_count err.old ≤ E.fault_count err.new }
+{
+    if let Ok(line) = cut_line(alloc, why) {
+        tell_text(alloc, line.as_bytes(), err);
+    }
+}
+
 /// Tells why a run stopped. Where its report was refused nothing more is told.
-pub(crate) fn tell_run<'a, E: Sink>(alloc: Global, halt: &RunHalt<'a>, err: &mut E)
+fn tell_run<'a, E: Sink>(alloc: Global, halt: &RunHalt<'a>, err: &mut E)
     ensures told { TellsRun halt.now (E.written err.old) (E.written err.new) }
     ensures quiet { IsReport halt.now → err.new ≡ err.old }
     ensures counts { E.fault_count err.old ≤ E.fault_count err.new }
 {
     match halt {
         RunHalt::Files(halt) => tell_halt(alloc, halt, err),
+        RunHalt::Cut(why) => tell_cut(alloc, why, err),
+        RunHalt::Disk => tell_text(alloc, b"checkpoint disk fault\n", err),
         RunHalt::Write => tell_text(alloc, b"write fault\n", err),
         RunHalt::Limit(limit) => tell_limit(alloc, *limit, err),
+        RunHalt::Generation => tell_text(alloc, b"limit: generation\n", err),
         RunHalt::Report(_) => {}
     }
+}
+
+/// Tells why a run stopped, and answers its status.
+pub(crate) fn tell_end<'a, E: Sink>(alloc: Global, halt: &RunHalt<'a>, err: &mut E) -> u8
+    ensures status { result ≡ run_status_of halt.now }
+    ensures told { TellsRun halt.now (E.written err.old) (E.written err.new) }
+    ensures quiet { IsReport halt.now → err.new ≡ err.old }
+    ensures counts { E.fault_count err.old ≤ E.fault_count err.new }
+{
+    tell_run(alloc, halt, err);
+    halt.status()
 }

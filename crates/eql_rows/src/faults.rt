@@ -150,9 +150,13 @@ fn shelf_calls() -> [Row; 8] {
 fn unreached() -> [Row; 8] {
     [
         usage("words", "find").fails(&[(Object::Shelf, 1), QUERY]),
-        ended("a part that isn't built", 3, "unbuilt: --checkpoint")
-            .words("find --query q --fields f --slack 1s --checkpoint c --every 5 s0")
-            .fails(&[(Object::Shelf, 1)]),
+        ended(
+            "a missing shard before the disk of a checkpoint",
+            1,
+            "no file t",
+        )
+        .words("find --query q --fields f --slack 1s --checkpoint c --every 5 s0 t")
+        .fails(&[(Object::Shelf, 5), (Object::Disk, 1)]),
         refused("the grammar", "x", "parse: Syntax at 1").fails(&[FIELDS, SHARD]),
         refused("the grammar of a query to check", "x", "parse: Syntax at 1")
             .words("check --query q --fields f")
@@ -211,12 +215,9 @@ fn writes() -> [Row; 6] {
 }
 
 /// Faults that can't be told leave the status. A report that can't be written leaves the listing whole.
-fn untold() -> [Row; 9] {
+fn untold() -> [Row; 8] {
     [
         usage("words", "find").fails(&[ERR]),
-        ended("a part that isn't built", 3, "unbuilt: --checkpoint")
-            .words("find --query q --fields f --slack 1s --checkpoint c --every 5 s0")
-            .fails(&[ERR]),
         ended("a missing file", 1, "no file p")
             .words("find --query p --fields f s0")
             .fails(&[ERR]),

@@ -29,8 +29,10 @@ pub(crate) enum Object {
     Out,
     /// The error output, by its writes.
     Err,
-    /// The shelf, each time that it is asked for a file.
+    /// The shelf, each time that it is asked for a file or its disk.
     Shelf,
+    /// The disk, by all its calls.
+    Disk,
 }
 
 /// A call that fails: its object, and its number among the calls of that object, from 1.

@@ -12,6 +12,29 @@ use std::thread::Threads;
 /// How a run ended.
 pub(crate) type Ran = Ended<MemSink, MemSink>;
 
+/// The bytes of both areas of a disk.
+#[derive(Drop)]
+pub(crate) struct Areas {
+    pub(crate) first: Vec<u8>,
+    pub(crate) second: Vec<u8>,
+}
+
+impl Areas {
+    /// Areas without a byte.
+    pub(crate) fn empty(alloc: Global) -> Areas {
+        Areas {
+            first: Vec::new(alloc),
+            second: Vec::new(alloc),
+        }
+    }
+
+    /// What a crash may leave of a disk.
+    pub(crate) fn left_by(alloc: Global, disk: &MemDisk, choice: u64) -> Result<Areas, Fail> {
+        let (first, second) = disk.crashed(alloc, choice)?;
+        Ok(Areas { first, second })
+    }
+}
+
 /// The numbers of the calls of an object that fail.
 fn failing(alloc: Global, fails: &[Failing], object: Object) -> Result<Vec<u64>, Fail> {
     let mut numbers = Vec::new(alloc);
@@ -118,6 +141,34 @@ fn words_of(alloc: Global, row: &Row, shards: usize) -> Result<Vec<String>, Fail
     }
 }
 
+/// Runs words over files and a disk, with these calls of the outputs and the shelf failing, and hands the disk back.
+fn run_beside<R: Threads + Wait + Sync>(
+    rt: &R,
+    alloc: Global,
+    words: &Vec<String>,
+    files: Vec<MemFile>,
+    disk: MemDisk,
+    fails: &[Failing],
+) -> Result<(Ran, MemDisk), Fail> {
+    let mut shelf = MemShelf::new(alloc, files, disk, failing(alloc, fails, Object::Shelf)?)?;
+    let out = MemSink::new(alloc, failing(alloc, fails, Object::Out)?);
+    let err = MemSink::new(alloc, failing(alloc, fails, Object::Err)?);
+    let ran = eql_main(rt, alloc, words, &mut shelf, out, err, &NoGate);
+    Ok((ran, shelf.into_disk()))
+}
+
+/// A disk with these areas, with these of its calls failing, and all from a number on.
+pub(crate) fn disk_of(
+    alloc: Global,
+    areas: &Areas,
+    fails: &[Failing],
+    stop: Option<u64>,
+) -> Result<MemDisk, Fail> {
+    let (first, second) = (areas.first.clone()?, areas.second.clone()?);
+    let fails = failing(alloc, fails, Object::Disk)?;
+    Ok(MemDisk::new(alloc, first, second, fails, stop)?)
+}
+
 /// Runs words over files, with these calls of the outputs and the shelf failing.
 pub(crate) fn run_over<R: Threads + Wait + Sync>(
     rt: &R,
@@ -126,12 +177,23 @@ pub(crate) fn run_over<R: Threads + Wait + Sync>(
     files: Vec<MemFile>,
     fails: &[Failing],
 ) -> Result<Ran, Fail> {
-    let (first, second) = (Vec::new(alloc), Vec::new(alloc));
-    let disk = MemDisk::new(alloc, first, second, Vec::new(alloc), None)?;
-    let mut shelf = MemShelf::new(alloc, files, disk, failing(alloc, fails, Object::Shelf)?)?;
-    let out = MemSink::new(alloc, failing(alloc, fails, Object::Out)?);
-    let err = MemSink::new(alloc, failing(alloc, fails, Object::Err)?);
-    Ok(eql_main(rt, alloc, words, &mut shelf, out, err, &NoGate))
+    let disk = disk_of(alloc, &Areas::empty(alloc), fails, None)?;
+    let (ran, _) = run_beside(rt, alloc, words, files, disk, fails)?;
+    Ok(ran)
+}
+
+/// Runs a row on a disk with these calls failing, and hands the disk back.
+pub(crate) fn run_on<R: Threads + Wait + Sync>(
+    rt: &R,
+    alloc: Global,
+    row: &Row,
+    disk: MemDisk,
+    fails: &[Failing],
+) -> Result<(Ran, MemDisk), Fail> {
+    let shards = shards_of(alloc, row)?;
+    let words = words_of(alloc, row, shards.len())?;
+    let files = files_of(alloc, row, shards, fails)?;
+    run_beside(rt, alloc, &words, files, disk, fails)
 }
 
 /// Runs a row with these calls failing.
@@ -141,10 +203,9 @@ pub(crate) fn run<R: Threads + Wait + Sync>(
     row: &Row,
     fails: &[Failing],
 ) -> Result<Ran, Fail> {
-    let shards = shards_of(alloc, row)?;
-    let words = words_of(alloc, row, shards.len())?;
-    let files = files_of(alloc, row, shards, fails)?;
-    run_over(rt, alloc, &words, files, fails)
+    let disk = disk_of(alloc, &Areas::empty(alloc), fails, None)?;
+    let (ran, _) = run_on(rt, alloc, row, disk, fails)?;
+    Ok(ran)
 }
 
 /// The report over shards all of whose lines were accepted.
@@ -232,6 +293,21 @@ pub(crate) fn check<R: Threads + Wait + Sync + Abort>(
 ) -> Result<(), Fail> {
     for row in rows {
         let ran = run(rt, alloc, row, row.fails)?;
+        compare_run(rt, alloc, row, &ran, row.fails)?;
+    }
+    Ok(())
+}
+
+/// Runs the rows of a table, each on a disk with these areas, and compares what each gives.
+pub(crate) fn check_on<R: Threads + Wait + Sync + Abort>(
+    rt: &R,
+    alloc: Global,
+    rows: &[Row],
+    areas: &Areas,
+) -> Result<(), Fail> {
+    for row in rows {
+        let disk = disk_of(alloc, areas, row.fails, None)?;
+        let (ran, _) = run_on(rt, alloc, row, disk, row.fails)?;
         compare_run(rt, alloc, row, &ran, row.fails)?;
     }
     Ok(())

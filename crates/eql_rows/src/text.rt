@@ -9,6 +9,8 @@ pub(crate) enum Piece {
     Events(&'static str),
     /// A line for each process event of a list such as `1000 root attrib`: its time, the user's name and the process's.
     Starts(&'static str),
+    /// The same with a space in place of each line feed.
+    Spaced(&'static str),
     /// These lines, each with a line feed.
     Lines(&'static [&'static str]),
     /// These bytes.
@@ -35,20 +37,21 @@ fn add_events(alloc: Global, bytes: &mut Vec<u8>, events: &str) -> Result<(), Fa
     Ok(())
 }
 
-/// The line of a process event.
-fn start_line(alloc: Global, time: &str, user: &str, process: &str) -> Result<String, Fail> {
+/// The text of a process event.
+fn start_text(alloc: Global, time: &str, user: &str, process: &str) -> Result<String, Fail> {
     Ok(format!(in alloc;
-        "{{\"@timestamp\":{time},\"event\":{{\"category\":\"process\"}},\"user\":{{\"name\":\"{user}\"}},\"process\":{{\"name\":\"{process}\"}}}}\n"
+        "{{\"@timestamp\":{time},\"event\":{{\"category\":\"process\"}},\"user\":{{\"name\":\"{user}\"}},\"process\":{{\"name\":\"{process}\"}}}}"
     )?)
 }
 
-/// Adds a line for each process event of a list: its time, the user's name and the process's.
-fn add_starts(alloc: Global, bytes: &mut Vec<u8>, starts: &str) -> Result<(), Fail> {
+/// Adds a text for each process event of a list, its time, the user's name and the process's, and this behind each.
+fn add_starts(alloc: Global, bytes: &mut Vec<u8>, starts: &str, end: u8) -> Result<(), Fail> {
     for start in starts.split(", ") {
         if let Some((time, names)) = start.split_once(' ') {
             if let Some((user, process)) = names.split_once(' ') {
-                let line = start_line(alloc, time, user, process)?;
-                bytes.extend_from_slice(line.as_bytes())?;
+                let text = start_text(alloc, time, user, process)?;
+                bytes.extend_from_slice(text.as_bytes())?;
+                bytes.push(end)?;
             }
         }
     }
@@ -103,7 +106,8 @@ fn add_each(alloc: Global, bytes: &mut Vec<u8>, text: &str, times: usize) -> Res
 fn add_piece(alloc: Global, bytes: &mut Vec<u8>, piece: Piece) -> Result<(), Fail> {
     match piece {
         Piece::Events(events) => add_events(alloc, bytes, events),
-        Piece::Starts(starts) => add_starts(alloc, bytes, starts),
+        Piece::Starts(starts) => add_starts(alloc, bytes, starts, b'\n'),
+        Piece::Spaced(starts) => add_starts(alloc, bytes, starts, b' '),
         Piece::Lines(lines) => add_lines(bytes, lines),
         Piece::Bytes(more) => Ok(bytes.extend_from_slice(more)?),
         Piece::Times(text, times) => add_times(alloc, bytes, text, times),

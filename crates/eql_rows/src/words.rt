@@ -136,22 +136,21 @@ fn made() -> [Row; 3] {
     ]
 }
 
-/// Parts of commands that aren't built yet. They are told before any file is opened.
-fn unbuilt() -> [Row; 3] {
+/// Searches with a checkpoint, over a disk that holds nothing.
+fn checkpoints() -> [Row; 3] {
     [
-        ended("a checkpoint", 3, "unbuilt: --checkpoint").words(
+        spells(
+            "a checkpoint",
             "find --query q --fields f --slack 0ms --checkpoint c --every 5 s0",
         ),
-        ended(
-            "a checkpoint, and files that aren't there",
-            3,
-            "unbuilt: --checkpoint",
-        )
-        .words("find --query p --fields g --every=1 --checkpoint=c --slack=1d t"),
+        spells(
+            "a checkpoint with options in another order",
+            "find --every=1 --hands=0 --checkpoint=c --slack=36500d --fields=f --query=q s0",
+        ),
         refused(
             "a checkpoint, and a query that is refused",
             "any",
-            "unbuilt: --checkpoint",
+            "parse: Syntax at 3",
         )
         .words("find --query q --fields f --slack 1m --checkpoint c --every 1000000 s0"),
     ]
@@ -257,7 +256,7 @@ fn words_make_a_command_or_none(rt: HostRuntime) -> Result<(), Fail> {
     check(&rt, rt.alloc(), &no_commands())?;
     check(&rt, rt.alloc(), &forms())?;
     check(&rt, rt.alloc(), &made())?;
-    check(&rt, rt.alloc(), &unbuilt())
+    check(&rt, rt.alloc(), &checkpoints())
 }
 
 #[test]

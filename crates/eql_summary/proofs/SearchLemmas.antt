@@ -1,6 +1,10 @@
 -- A search over made files lists what the definition says, and stops for want of memory alone.
-use Rattle.std.proofs.Common.{◌≡◌, ℕ, ◌≤◌, List, [], ◌∷◌, ◌++◌, Option, Some, None, refl, sym, ap, ap₂, ◌∙◌, subst, codes}
-use Rattle.std.specs.Prelude.{All, Ok}
+use Rattle.std.proofs.Common.{◌≡◌, ◌≢◌, ℕ, ◌≤◌, List, [], ◌∷◌, Option, Some, None, refl, sym, ap, ◌∙◌, subst, codes}
+use Rattle.std.specs.Prelude.{All, Ok, drop}
+use Rattle.eql_values.specs.declared.found.Numbered.{Numbered}
+use Rattle.eql_laws.specs.Places.{LinesGoOn}
+use Rattle.eql_outside.specs.Moments.{History}
+use Rattle.eql_book.specs.Listing.{listing}
 use Rattle.eql_check.specs.Mappings.{mapping_of}
 use Rattle.eql_outside.specs.declared.refused.OutRefused.TheVariants as refused_by
 use Rattle.eql_outside.specs.Plans.{FaultPlan, unstarted}
@@ -10,9 +14,10 @@ use Rattle.eql_words.specs.declared.commands.Find.{Find}
 use Rattle.eql_runs.specs.Files.{Files, first_missing, HasTokens, HasTexts, HasChecked, IsWithin}
 use Rattle.eql_runs.specs.RunLaws.{AcceptedOrRefused, MadeIsASearch, MadeIsWithin}
 use Rattle.eql_runs.specs.Runs.{Finds, Searches, SearchesBeyond, ShardLimit}
-use Rattle.eql_runs.specs.Searches.{Search, listing_of}
+use Rattle.eql_runs.specs.Starts.{nothing_kept}
+use Rattle.eql_runs.specs.Searches.{Search, listed_of, listing_of, rest_of}
 use Rattle.eql_runs.specs.Summaries.{made_query, made_mapping, IsMadeSearch}
-use Rattle.eql_runs.proofs.Listing.{not_beyond}
+use Rattle.eql_runs.proofs.Limits.{not_beyond}
 use Rattle.eql_runs.proofs.Reading.{one_text, one_texts}
 use Rattle.eql_inputs.specs.declared.halt.Halt.TheVariants as halt
 use Rattle.eql_inputs.specs.Halts.{refusal_of}
@@ -26,6 +31,14 @@ use Rattle.eql_summary.specs.Written.{IsMadeListing, IsWant}
 -- an object for which no failure is planned
 pub no_fails : (plan : Option FaultPlan) (fails : List ℕ) → plan ≡ Some (unstarted fails) → fails ≡ [] → IsUnfailing plan
 no_fails plan fails is none = subst IsUnfailing (sym is) (record { none = none; no_stop = refl })
+
+-- nothing of a listing is left out where no line was written before
+none_dropped : (list : List Numbered) → drop 0 list ≡ list
+none_dropped [] = refl
+none_dropped (n ∷ list) = refl
+
+rest_of_all : (search : Search) (texts : List (List ℕ)) → rest_of search 0 texts ≡ listing_of search texts
+rest_of_all search texts = ap (listing search.places) (none_dropped (listed_of search texts))
 
 module _ (hands events : ℕ) where
   -- the files are there, and checked
@@ -52,31 +65,35 @@ module _ (hands events : ℕ) where
   unfolding lib.Utf8.encode
   none_missing = refl
 
-  module _ (accepted : AcceptedOrRefused) (made : MadeIsASearch) (within : MadeIsWithin) (few : events ≤ 1000000) where
-    no_limit : (limit : ShardLimit) → SearchesBeyond (made_find hands) (made_files events) limit → ⊥
+  module _ (law : LinesGoOn) (accepted : AcceptedOrRefused) (made : MadeIsASearch) (within : MadeIsWithin) (few : events ≤ 1000000) where
+    no_limit : (limit : ShardLimit) → SearchesBeyond (made_find hands) (made_files events) nothing_kept limit → ⊥
     no_limit limit b =
         let same = one_texts (made_find hands).shards (made_files events) b.texts (made_texts events) b.searches.there are_there in
-        not_beyond b.texts limit (subst (λ (ts : List (List ℕ)). All IsWithin ts) (sym same) (within events few)) b.beyond
+        not_beyond law b.search b.texts (subst (λ (ts : List (List ℕ)). All IsWithin ts) (sym same) (within events few)) nothing_kept limit tt b.beyond
 
-    -- a search that stops without a fault stops for want of memory
-    made_stops : (err err' : Option (List ℕ)) (h : RunHalt)
-        → HasCause (made_find hands) (Some (made_files events)) err err' h → ¬ IsFault h → IsWant h
-    made_stops err err' (run.Files (halt.Refused r)) cause calm =
+    -- a search that stops without a fault stops for want of memory. It has no checkpoint
+    made_stops : (disk now : Option History) (err err' : Option (List ℕ)) (h : RunHalt)
+        → HasCause (made_find hands) (Some (made_files events)) disk now err err' h → ¬ IsFault h → IsWant h
+    made_stops disk now err err' (run.Files (halt.Refused r)) cause calm =
         absurd (accepted (names_in (made_find hands)) (made_files events) made.0.query made.0.mapping (refusal_of r)
         (is_checked made.0 made.1) none_missing cause.1)
-    made_stops err err' (run.Files (halt.Read name)) cause calm = absurd (calm tt)
-    made_stops err err' (run.Files halt.Memory) cause calm = tt
-    made_stops err err' run.Write cause calm = absurd (calm tt)
-    made_stops err err' (run.Limit l) cause calm = absurd (no_limit (limit_of l) cause.1)
-    made_stops err err' (run.Report refused_by.Failed) cause calm = absurd (calm tt)
-    made_stops err err' (run.Report refused_by.Memory) cause calm = tt
+    made_stops disk now err err' (run.Files (halt.Read name)) cause calm = absurd (calm tt)
+    made_stops disk now err err' (run.Files halt.Memory) cause calm = tt
+    made_stops disk now err err' (run.Cut why) cause calm = absurd (cause.0 refl)
+    made_stops disk now err err' run.Disk cause calm = absurd (calm tt)
+    made_stops disk now err err' run.Write cause calm = absurd (calm tt)
+    made_stops disk now err err' (run.Limit l) cause calm =
+        absurd (no_limit (limit_of l) (cause.1 nothing_kept (λ has. absurd (has refl))).beyond)
+    made_stops disk now err err' run.Generation cause calm = absurd (cause.0 refl)
+    made_stops disk now err err' (run.Report refused_by.Failed) cause calm = absurd (calm tt)
+    made_stops disk now err err' (run.Report refused_by.Memory) cause calm = tt
 
-    pub stops_for_want : (find : Find) (files : Option Files) (err err' : Option (List ℕ)) (h : RunHalt) → find ≡ made_find hands
-        → files ≡ Some (made_files events) → HasCause find files err err' h → ¬ IsFault h → IsWant h
-    stops_for_want find files err err' h find_is files_are cause calm =
-        made_stops err err' h
-        (subst (λ (f : Find). HasCause f (Some (made_files events)) err err' h) find_is
-        (subst (λ (fs : Option Files). HasCause find fs err err' h) files_are cause)) calm
+    pub stops_for_want : (find : Find) (files : Option Files) (disk now : Option History) (err err' : Option (List ℕ)) (h : RunHalt)
+        → find ≡ made_find hands → files ≡ Some (made_files events) → HasCause find files disk now err err' h → ¬ IsFault h → IsWant h
+    stops_for_want find files disk now err err' h find_is files_are cause calm =
+        made_stops disk now err err' h
+        (subst (λ (f : Find). HasCause f (Some (made_files events)) disk now err err' h) find_is
+        (subst (λ (fs : Option Files). HasCause find fs disk now err err' h) files_are cause)) calm
 
   -- what is searched is the search of the texts
   is_made : (search : Search) (texts : List (List ℕ)) → Searches (made_find hands) (made_files events) search texts
@@ -98,22 +115,28 @@ module _ (hands events : ℕ) where
         places = s.places;
       }
 
-  found_made : (bytes report : List ℕ) → Finds (made_find hands) (made_files events) bytes report → IsMadeListing events (Some bytes)
+  found_made : (bytes report : List ℕ) → Finds (made_find hands) (made_files events) nothing_kept bytes report → IsMadeListing events (Some bytes)
   found_made bytes report f = (
     f.search,
     is_made f.search f.texts f.searches,
-    ap (λ (x : List ℕ). Some x) (f.bytes_are
+    ap (λ (x : List ℕ). Some x) (f.bytes_are ∙ rest_of_all f.search f.texts
         ∙ ap (listing_of f.search) (one_texts (made_find hands).shards (made_files events) f.texts (made_texts events) f.searches.there are_there)),
   )
 
-  made_found : (out' err err' : Option (List ℕ)) → FoundAll (made_find hands) (Some (made_files events)) (Some []) out' err err'
-      → IsMadeListing events out'
-  made_found out' err err' found = subst (IsMadeListing events) (sym found.3) (found_made found.0 found.1 found.2)
+  made_found : (disk : Option History) (out' err err' : Option (List ℕ))
+      → FoundAll (made_find hands) (Some (made_files events)) disk (Some []) out' err err' → IsMadeListing events out'
+  made_found disk out' err err' h =
+      let found = h nothing_kept (λ has. absurd (has refl)) (λ search texts searches. tt) in
+      subst (IsMadeListing events) (sym found.3) (found_made found.0 found.1 found.2)
 
-  pub all_found : (find : Find) (files : Option Files) (out out' err err' : Option (List ℕ)) → find ≡ made_find hands
-      → files ≡ Some (made_files events) → out ≡ Some [] → FoundAll find files out out' err err' → IsMadeListing events out'
-  all_found find files out out' err err' find_is files_are empty found =
-      made_found out' err err'
-      (subst (λ (f : Find). FoundAll f (Some (made_files events)) (Some []) out' err err') find_is
-      (subst (λ (fs : Option Files). FoundAll find fs (Some []) out' err err') files_are
-      (subst (λ (o : Option (List ℕ)). FoundAll find files o out' err err') empty found)))
+  pub all_found : (find : Find) (files : Option Files) (disk : Option History) (out out' err err' : Option (List ℕ)) → find ≡ made_find hands
+      → files ≡ Some (made_files events) → out ≡ Some [] → FoundAll find files disk out out' err err' → IsMadeListing events out'
+  all_found find files disk out out' err err' find_is files_are empty found =
+      made_found disk out' err err'
+      (subst (λ (f : Find). FoundAll f (Some (made_files events)) disk (Some []) out' err err') find_is
+      (subst (λ (fs : Option Files). FoundAll find fs disk (Some []) out' err err') files_are
+      (subst (λ (o : Option (List ℕ)). FoundAll find files disk o out' err err') empty found)))
+
+-- a search of made events has no checkpoint
+pub never_kept : {A : Type 0} (find : Find) (hands : ℕ) → find ≡ made_find hands → find.checkpoint ≢ None → A
+never_kept find hands is has = absurd (has (ap (λ (f : Find). f.checkpoint) is))

@@ -19,8 +19,11 @@ abbrev pub IsWant : RunHalt → Type 0
 IsWant (run.Files (halt.Refused r)) = ⊥
 IsWant (run.Files (halt.Read name)) = ⊥
 IsWant (run.Files halt.Memory) = Unit {0}
+IsWant (run.Cut why) = ⊥
+IsWant run.Disk = ⊥
 IsWant run.Write = ⊥
 IsWant (run.Limit l) = ⊥
+IsWant run.Generation = ⊥
 IsWant (run.Report refused_by.Failed) = ⊥
 IsWant (run.Report refused_by.Memory) = Unit {0}
 

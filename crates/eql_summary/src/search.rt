@@ -5,6 +5,7 @@ ghost use Rattle.eql_summary.specs.Written.{IsMadeListing, IsWant};
 use crate::inputs::{made_find, made_shelf};
 use eql_find::{RunHalt, find_matches};
 use eql_inputs::Halt;
+use eql_laws::lines_go_on;
 use eql_outside::{MemSink, OutRefused, Sink};
 use eql_runs::{made_is_searched, runs_are_determined};
 use eql_values::Memory;
@@ -28,6 +29,7 @@ pub(crate) fn list_made(alloc: Global, hands: u32, events: u32) -> Result<MemSin
 {
     made_is_searched();
     runs_are_determined();
+    lines_go_on();
     let find = made_find(alloc, hands)?;
     let mut shelf = made_shelf(alloc, events)?;
     let mut listing = MemSink::new(alloc, Vec::new(alloc));

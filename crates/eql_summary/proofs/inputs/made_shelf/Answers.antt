@@ -1,4 +1,4 @@
-use Rattle.std.proofs.Common.{List, ℕ, Some, ap, sym, ◌∙◌}
+use Rattle.std.proofs.Common.{List, ℕ, Some, ap, ◌∙◌}
 use Rattle.std.proofs.lemmas.Result.{IfOk-weaker}
 use Rattle.eql_outside.specs.Memory.{contents}
 use Rattle.eql_summary.proofs.InputLemmas.{four_taken, files_made}
