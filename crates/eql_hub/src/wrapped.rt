@@ -1,0 +1,122 @@
+//! A lane and a part as values of a turn lock.
+ghost use Rattle.std.specs.Prelude.{◌≡◌};
+
+use eql_auto::Steps;
+use eql_lane::{Lane, LaneOp, LaneReply};
+use eql_outside::Source;
+use eql_parts::{Part, PartOp, PartReply};
+use eql_turn_lock::Turned;
+use eql_values::LineReader;
+use std::marker::Model;
+use std::sync::ledger::Ledger;
+
+/// A lane that is played on in turns. Contracts see it as the lane.
+///
+/// Every operation that a lane allows is allowed in each state. A `Feed` is open to all.
+#[derive(Drop)]
+pub struct TurnedLane<S: Source, L: LineReader> {
+    lane: Lane<S, L>,
+}
+
+impl<S: Source, L: LineReader> Model for TurnedLane<S, L> {
+    ghost use Rattle.eql_lane.specs.Views.{LaneView};
+
+    ghost Value = { LaneView S L };
+
+    ghost view = { λ l. l.lane };
+}
+
+impl<S: Source, L: LineReader> TurnedLane<S, L> {
+    /// The lane, to be put under a lock.
+    pub fn new(lane: Lane<S, L>) -> TurnedLane<S, L>
+        ensures { result ≡ lane }
+    {
+        TurnedLane { lane }
+    }
+
+    /// The lane itself.
+    pub fn into_lane(self) -> Lane<S, L>
+        ensures { result ≡ self }
+    {
+        self.lane
+    }
+}
+
+impl<S: Source, L: LineReader> Turned for TurnedLane<S, L> {
+    ghost use Rattle.eql_lane.specs.Lanes.{LaneAllows};
+    ghost use Rattle.eql_hub.specs.Turns.{LaneTurn, is_open_lane, open_lane_allowed};
+
+    type Op = LaneOp;
+
+    type Reply = LaneReply;
+
+    ghost allows = { λ lane op. LaneAllows op };
+
+    ghost step_of = { LaneTurn S.left S.lent_as S.fault_plan L.read_of };
+
+    ghost is_open = { is_open_lane };
+
+    fn play(&mut self, op: LaneOp) -> LaneReply {
+        self.lane.play(op)
+    }
+
+    ghost opens = { λ lane op is. open_lane_allowed op is };
+
+    ghost stays_allowed = { λ x y op later reply is step may. may };
+}
+
+/// A part that is played on in turns, with its own count of probes. Contracts see it as the part.
+///
+/// Every operation that a part allows in a state is allowed. A `Turn` is open to all.
+#[derive(Drop)]
+pub struct TurnedPart<G: Ledger> {
+    part: Part<G>,
+    steps: Steps<G>,
+}
+
+impl<G: Ledger> Model for TurnedPart<G> {
+    ghost use Rattle.eql_parts.specs.PartSteps.{PartView};
+
+    ghost Value = { PartView };
+
+    ghost view = { λ p. p.part };
+}
+
+impl<G: Ledger> TurnedPart<G> {
+    /// The part, to be put under a lock, with the count of its probes.
+    pub fn new(part: Part<G>, steps: Steps<G>) -> TurnedPart<G>
+        ensures { result ≡ part }
+    {
+        TurnedPart { part, steps }
+    }
+
+    /// The part itself, and the count.
+    pub fn into_part(self) -> (Part<G>, Steps<G>)
+        ensures { result.0 ≡ self }
+    {
+        (self.part, self.steps)
+    }
+}
+
+impl<G: Ledger> Turned for TurnedPart<G> {
+    ghost use Rattle.eql_parts.specs.PartSteps.{PartAllows};
+    ghost use Rattle.eql_hub.specs.Turns.{PartTurn, is_open_part, open_part_allowed, part_stays_allowed};
+
+    type Op = PartOp;
+
+    type Reply = PartReply;
+
+    ghost allows = { λ part op. PartAllows part.state op };
+
+    ghost step_of = { PartTurn };
+
+    ghost is_open = { is_open_part };
+
+    fn play(&mut self, op: PartOp) -> PartReply {
+        self.part.play(op, &mut self.steps)
+    }
+
+    ghost opens = { λ part op is. open_part_allowed part.state op is };
+
+    ghost stays_allowed = { λ x y op later reply is step may. part_stays_allowed x y op later reply is step may };
+}
