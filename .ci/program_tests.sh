@@ -132,8 +132,7 @@ no_command "${any[@]}" $'\xff'
 no_command "${any[@]}" "${most[@]}" empty
 no_command check --query any.eql --fields fields.json three.json
 
-# Status 3: the part of a command that isn't built, and each rule that a query or a mapping may break.
-expect 'checkpoint' 3 '' $'unbuilt: --checkpoint\n' "${any[@]}" --slack 1s --checkpoint c --every 5 three.json
+# Status 3: each rule that a query or a mapping may break.
 refuse() { # TOLD QUERY-FILE MAPPING-FILE
     expect "refused: $1" 3 '' "$1"$'\n' find --query "$2" --fields "$3" three.json
 }
@@ -167,6 +166,89 @@ mapping 'mapping: MapKind b' '{"a":"long","b":"date"}'
 mapping 'mapping: MapKind user' '{"user":{"name":"keyword"}}'
 { printf 'any where f1 > 0'; for it in $(seq 2 65); do printf ' or f%d > 0' "$it"; done; } >fields-65.eql
 refuse 'check: ManyFields 65' fields-65.eql most.json
+
+# Checkpoints: a run keeps its state in two files, and a later run goes on from there. The first run keeps a cut after five lines
+# and one after ten. Its disk is tried as it is, and in the formats that older versions left.
+events() { printf '{"@timestamp":%s,"event":{"category":"process"},"user":{"name":"%s"},"process":{"name":"%s"}}\n' "$@"; }
+events 1000 root attrib 2000 root attrib 3000 elkbee bash 4000 root bash 5000 root bash 6000 elkbee attrib 7000 root attrib \
+    8000 elkbee bash 9000 root cat 10000 elkbee cat 11000 root cat >eleven.json
+head -n 5 eleven.json >five.json
+tr '\n' ' ' <eleven.json >spaced.json
+printf '%s' 'sequence by user.name [process where process.name == "attrib"] [process where process.name == "bash"]' \
+    ' [process where process.name == "cat"]' >kept.eql
+{ cat kept.eql; printf ' | head 1'; } >piped.eql
+printf '{"destination.ip":"ip","destination.port":"long","event.type":"keyword","file.pid":"long","host.id":"keyword",%s}' \
+    '"process.args_count":"long","process.name":"keyword","process.pid":"long","user.id":"keyword","user.name":"keyword"' >kept.json
+kept=(find --query kept.eql --fields kept.json --slack 0ms)
+rest=$'2 ["elkbee"] 0:6 0:8 0:10\n'
+both=$'1 ["root"] 0:2 0:4 0:9\n'"$rest"
+eleven=$'shard 0: lines 11 accepted 11 late 0 rejected 0\n'
+resume() { # NAME DISK WORD..
+    local name=$1 disk=$2
+    shift 2
+    expect "checkpoint: $name" 0 "$rest" "$eleven" "${kept[@]}" --checkpoint "$disk" --every 5 "$@" eleven.json
+}
+expect 'checkpoint: a first run' 0 "$both" "$eleven" "${kept[@]}" --batch 1 --hands 0 --checkpoint=c --every=5 eleven.json
+cp c.0 first.0
+cp c.1 first.1
+resume 'a later run' c --batch 7 --hands 3
+resume 'another batch' c --batch 4096
+expect 'checkpoint: nothing to keep' 0 '' $'shard 0: lines 0 accepted 0 late 0 rejected 0\n' "${kept[@]}" --checkpoint new --every 1 empty
+want '' ''
+cmp c.0 first.0 >got.out 2>got.err && cmp c.1 first.1 >>got.out 2>>got.err
+judge 'checkpoint: no cut is kept at the end' $? 0
+places=$'2 ["elkbee"] 0:6@506 0:8@712 0:10@913\n'
+for format in 1 2 3; do
+    "$top/.ci/make_disk.py" "$format" "old-$format" "$top/.ci/old_cuts.json"
+    resume "format $format" "old-$format" --batch 7
+    expect "checkpoint: format $format, places" 0 "$places" "$eleven" "${kept[@]}" --places --checkpoint "old-$format" --every 9 eleven.json
+done
+
+# Status 7: each reason for which a checkpoint is refused. The disk stays as it is.
+not_resumed() { # TOLD DISK WORD..
+    local told=$1 disk=$2
+    shift 2
+    expect "checkpoint: $told" 7 '' "checkpoint: $told"$'\n' find --checkpoint "$disk" --every 5 "$@"
+}
+words=(--query kept.eql --fields kept.json --slack 0ms)
+printf '\1\1\0\0\0\0\0\0\0\1\0\0\0\0\0\0\0\0' >damaged.0
+not_resumed 'Damaged area 0 at 0' damaged "${words[@]}" eleven.json
+{ head -c 30 c.1; } >damaged.1
+not_resumed 'Damaged area 1 at 0' damaged "${words[@]}" eleven.json
+not_resumed 'Differs query' c --query piped.eql --fields kept.json --slack 0ms eleven.json
+not_resumed 'Differs mapping' c --query kept.eql --fields fields.json --slack 0ms eleven.json
+not_resumed 'Differs tiebreaker' c "${words[@]}" --tiebreaker event.sequence eleven.json
+not_resumed 'Differs slack' c --query kept.eql --fields kept.json --slack 1ms eleven.json
+not_resumed 'Differs shards' c "${words[@]}" eleven.json empty
+sed 's/"listed": 1/"listed": 2/' "$top/.ci/old_cuts.json" >unfit.json
+"$top/.ci/make_disk.py" 3 unfit unfit.json
+not_resumed Unfit unfit "${words[@]}" eleven.json
+not_resumed 'Short shard 0 offset 1015 had 506' c "${words[@]}" five.json
+not_resumed 'NoLine shard 0 line 6' old-1 "${words[@]}" spaced.json
+events 1000 root vi >one.json
+expect 'checkpoint: two shards' 0 $'1 ["root"] 1:2 1:4 1:9\n2 ["elkbee"] 1:6 1:8 1:10\n' \
+    $'shard 0: lines 1 accepted 1 late 0 rejected 0\nshard 1: lines 11 accepted 11 late 0 rejected 0\n' \
+    "${kept[@]}" --batch 1 --checkpoint two --every 5 one.json eleven.json
+{ cat one.json; printf ' '; } >grown.json
+not_resumed 'Grown shard 0' two "${words[@]}" grown.json eleven.json
+want '' ''
+cmp c.0 first.0 >got.out 2>got.err && cmp c.1 first.1 >>got.out 2>>got.err
+judge 'checkpoint: a refused run changes nothing' $? 0
+
+# Status 6: the disk's files can't be opened, read or written. Status 9: its generations come to their end. What was found before
+# stays written.
+no_disk() { # NAME DISK
+    expect "checkpoint disk: $1" 6 '' $'checkpoint disk fault\n' "${kept[@]}" --batch 1 --checkpoint "$2" --every 1 eleven.json
+}
+mkdir blocked.0 blocked-too.1
+no_disk 'a folder in place of the first file' blocked
+no_disk 'a folder in place of the second file' blocked-too
+no_disk 'a path through a file' eleven.json/c
+ln -s /dev/full full.0
+no_disk 'a device without room' full
+cp old-2.1 last.1
+printf '\0\0\0\0\0\0\0\200' | dd of=last.1 bs=1 seek=1 conv=notrunc status=none
+expect 'checkpoint: the last generation' 9 "$rest" $'limit: generation\n' "${kept[@]}" --batch 1 --checkpoint last --every 1 eleven.json
 
 # Status 4: a folder opens and fails at its first read.
 mkdir folder

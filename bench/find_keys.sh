@@ -1,9 +1,10 @@
 #!/usr/bin/env bash
-# The seconds and events a second of `eql made 1000000` and of `eql find` over a million events of one shard, with one key, with
+# The seconds, those of the processor, and events a second of `eql made 1000000` and of `eql find` over a million events of one shard, with one key, with
 # 100,000 keys, and with a key for each event, all from one run. The sequence has three stages by user.
 #
 # usage: bench/find_keys.sh [PROGRAM [EVENTS]]        PROGRAM is the built program, crates/eql/out/eql where none is given
 set -euo pipefail
+TIMEFORMAT='%R %U %S'
 
 top=$(cd "$(dirname "$0")/.." && pwd)
 program=$(readlink -f "${1:-$top/crates/eql/out/eql}")
@@ -13,13 +14,12 @@ room=$(mktemp -d)
 trap 'rm -rf "$room"' EXIT
 
 measure() { # NAME COMMAND..
-    local name=$1 begun ended
+    local name=$1
     shift
-    begun=$(date +%s%N)
-    "$@" >"$room/out" 2>"$room/err"
-    ended=$(date +%s%N)
-    awk -v name="$name" -v took=$((ended - begun)) -v events="$events" -v lines="$(wc -l <"$room/out")" \
-        'BEGIN { printf "%-26s %7.2f s %9.0f events/s %8d lines\n", name, took / 1e9, events * 1e9 / took, lines }'
+    { time "$@" >"$room/out" 2>"$room/err"; } 2>"$room/times"
+    awk -v name="$name" -v events="$events" -v lines="$(wc -l <"$room/out")" \
+        '{ printf "%-26s %7.2f s %7.2f s of the processor %9.0f events/s %8d lines\n", name, $1, $2 + $3, events / $1, lines }' \
+        "$room/times"
 }
 
 # An event for each line, in ascending time: of so many users one after another, each of whom goes through the stages.

@@ -1,0 +1,77 @@
+#!/usr/bin/env bash
+# Runs a built program over examples/rules, and each command that a page shows with what it writes. All of it is compared byte for
+# byte.
+#
+#     .ci/examples.sh PROGRAM
+#
+# Prints each run that differs. The last line is 'N passed, M failed', and the status is 0 where M is 0.
+program=$(readlink -f "${1:?the built program}") && [ -x "$program" ] || { echo "no program ${1:-}" >&2; exit 2; }
+top=$(cd "$(dirname "$(readlink -f "$0")")/.." && pwd) || exit 2
+room=$(mktemp -d) || exit 2
+trap 'rm -rf "$room"' EXIT
+cd "$room" || exit 2
+. "$top/.ci/judging.sh"
+command -v python3 >/dev/null || { echo 'examples/events wants python3' >&2; exit 2; }
+
+# A folder that has what a page's commands name: the program and the examples.
+place() { # NAME
+    mkdir "$1" && cp -r "$top/examples" "$1" && ln -s "$program" "$1/eql"
+}
+
+# Each rule, in one batch and in many; and its events, beside the lines of the log by their numbers.
+place rules
+rules=rules/examples/rules
+shards=("$rules"/{vpn-1,desk-12,files-3}.json)
+for rule in "$rules"/*.eql; do
+    name=$(basename "$rule" .eql)
+    find=("$program" find --query "$rule" --fields "$rules/fields.json" --slack 2m)
+    for more in '' '--batch 1 --hands 4'; do
+        want "@$rules/expected/$name.out" "@$rules/expected/$name.err"
+        # shellcheck disable=SC2086
+        "${find[@]}" $more "${shards[@]}" >got.out 2>got.err </dev/null
+        judge "$name $more" $? 0
+    done
+    "${find[@]}" --places "${shards[@]}" >listing 2>got.err </dev/null
+    while IFS= read -r line; do
+        printf '%s\n' "$line"
+        grep -oE ' [0-9]+:[0-9]+@[0-9]+' <<<"$line" | while IFS=' :@' read -r shard number _; do
+            sed -n "${number}p" "${shards[$shard]}"
+        done
+    done <listing >want.out
+    : >want.err
+    "$top/examples/events" listing "${shards[@]}" >got.out 2>got.err
+    judge "$name, its events" $? 0
+done
+
+# Runs the command of a page, with both streams as one, in the page's folder.
+try() { # PAGE-AND-LINE FOLDER COMMAND
+    : >want.err
+    : >got.err
+    (cd "$2" && bash -c "$3") >got.out 2>&1 </dev/null
+    judge "$1: $3" 0 0
+}
+
+# Runs the sessions of a page in a folder of its own: in its blocks of `console` a line that begins with `$ ` is a command, and what
+# follows, up to the next command or the end of the block, is what it writes.
+sessions() { # PAGE
+    local page=$1 folder number=0 at='' line command='' inside=''
+    folder=$(mktemp -u -p .)
+    place "$folder"
+    while IFS= read -r line; do
+        number=$((number + 1))
+        case $inside$line in
+            '```console') inside=+ ;;
+            '+$ '* | '+```')
+                [ -z "$command" ] || try "$page, line $at" "$folder" "$command"
+                command='' at=$number
+                : >want.out
+                if [ "$line" = '```' ]; then inside=''; else command=${line#'$ '}; fi ;;
+            +*) printf '%s\n' "$line" >>want.out ;;
+        esac
+    done <"$top/$page"
+}
+for page in README.md docs/OPERATIONS.md examples/rules/README.md; do
+    [ ! -f "$top/$page" ] || sessions "$page"
+done
+
+end

@@ -1,0 +1,45 @@
+#!/usr/bin/env bash
+# What a checkpoint costs: the seconds of `eql find` over two million events of one shard while 100,000 sequences are pending,
+# without a checkpoint and with a cut after every 100 rounds of 4,096 lines, the least of three runs each, all from one run of
+# this script. It prints which part of the time the cuts cost. That is to be a tenth at most.
+#
+# usage: bench/pending_times.sh [PROGRAM [EVENTS]]        PROGRAM is the built program, crates/eql/out/eql where none is given
+set -euo pipefail
+
+top=$(cd "$(dirname "$0")/.." && pwd)
+program=$(readlink -f "${1:-$top/crates/eql/out/eql}")
+events=${2:-2000000}
+room=$(mktemp -d)
+trap 'rm -rf "$room"' EXIT
+cd "$room"
+
+# The first event of each of 100,000 users begins a sequence that stays pending. What comes then is of other processes.
+awk -v events="$events" 'BEGIN {
+    for (i = 0; i < events; i++)
+        printf "{\"@timestamp\":%d,\"event\":{\"category\":\"process\"},\"user\":{\"name\":\"u%d\"},\"process\":{\"name\":\"%s\"}}\n",
+            i, i % 100000, i < 100000 ? "attrib" : "vi"
+}' >log.json
+printf '{"process.name":"keyword","user.name":"keyword"}' >fields.json
+printf 'sequence by user.name [process where process.name == "attrib"] [process where process.name == "bash"]' >query.eql
+words=(find --query query.eql --fields fields.json --slack 0ms --batch 4096)
+
+# The nanoseconds of the fastest of three runs with these words.
+least() { # WORD..
+    local least=0 begun took run
+    for run in 1 2 3; do
+        rm -f disk.0 disk.1
+        begun=$(date +%s%N)
+        "$program" "${words[@]}" "$@" log.json >out 2>err
+        took=$(($(date +%s%N) - begun))
+        if [ "$least" = 0 ] || [ "$took" -lt "$least" ]; then least=$took; fi
+    done
+    echo "$least"
+}
+without=$(least)
+with=$(least --checkpoint disk --every 100)
+bytes=$(cat disk.0 disk.1 | wc -c)
+awk -v without="$without" -v with="$with" -v bytes="$bytes" -v events="$events" 'BEGIN {
+    printf "without a checkpoint %7.2f s %9.0f events/s\n", without / 1e9, events * 1e9 / without
+    printf "with --every 100     %7.2f s %9.0f events/s, %.1f MB on the disk\n", with / 1e9, events * 1e9 / with, bytes / 1e6
+    printf "cuts cost %.3f of the time\n", (with > without) ? (with - without) / with : 0
+}'
