@@ -97,9 +97,6 @@ module _ {S L : Type 0} where
   steady_taken lanes mids (inl e) = subst (λ (ls : List (LaneView S L)). SteadyBut (λ s. ⊥) lanes ls) (sym e) (steady_none lanes)
   steady_taken lanes mids (inr e) = subst (λ (ls : List (LaneView S L)). SteadyBut (λ s. ⊥) lanes ls) (sym e) (steady_bare lanes)
 
-  pub steady_same : (IsTold : ℕ → Type 0) (lanes : List (LaneView S L)) → SteadyBut IsTold lanes lanes
-  steady_same IsTold lanes = λ shard old new untold was is. ap (λ (l : LaneView S L). l.state.faults) (same_Some new old (sym is ∙ was))
-
   module _ (lanes mids news : List (LaneView S L)) (taken : mids ≡ map bare lanes) where
     at_mids : (s : ℕ) (lane : LaneView S L) → slice_get mids s ≡ Some lane → slice_get (map bare lanes) s ≡ Some lane
     at_mids s lane was = ap (λ (ls : List (LaneView S L)). slice_get ls s) (sym taken) ∙ was

@@ -4,7 +4,6 @@ pub mod Spelling
 pub mod Fronts
 pub mod Commands
 pub mod Finds
-pub mod Features
 pub mod Usage
 pub mod Bounds
 pub mod Spelled

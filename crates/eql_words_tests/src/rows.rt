@@ -1,6 +1,6 @@
 //! Lists of words with the commands that they make.
 use crate::tables::{COMMANDS, OPTIONS, VALUES};
-use eql_words::{Command, Find, Part, first_unbuilt, read_command, usage};
+use eql_words::{Command, Find, read_command, usage};
 use std::alloc::{AllocError, Global};
 use std::process::Abort;
 use std::test::Fail;
@@ -101,64 +101,6 @@ fn shards_are_at_most_256(rt: HostRuntime) -> Result<(), Fail> {
     assert_eq!(rt; shards_read(rt.alloc(), 255)?, 255);
     assert_eq!(rt; shards_read(rt.alloc(), 256)?, 256);
     assert_eq!(rt; shards_read(rt.alloc(), 257)?, 0);
-    Ok(())
-}
-
-/// The word of the first part that isn't built, where the parts are these, or `none`.
-fn unbuilt_in(alloc: Global, line: &str, parts: &[Part]) -> Result<&'static str, Fail> {
-    match command_in(alloc, &words_of(alloc, line)?)? {
-        Some(command) => match first_unbuilt(&command, parts) {
-            Some(part) => Ok(part.word()),
-            None => Ok("none"),
-        },
-        None => Ok("no command"),
-    }
-}
-
-#[test]
-fn the_first_unbuilt_part_is_told(rt: HostRuntime) -> Result<(), Fail> {
-    let parts = [Part::Made, Part::Slack, Part::Checkpoint, Part::Shards];
-    let rows = [
-        ("made 5", "made"),
-        ("check --query q --fields f", "none"),
-        ("find --query q --fields f a", "none"),
-        ("find --query q --fields f a b", "shards"),
-        ("find --query q --fields f --slack 5s a b", "--slack"),
-        (
-            "find --query q --fields f --places --tiebreaker t a",
-            "none",
-        ),
-    ];
-    for (line, expected) in rows {
-        let got = unbuilt_in(rt.alloc(), line, &parts)?;
-        assert_eq!(rt; got, expected, "{line}");
-    }
-    let line = "find --query q --fields f --slack 5s --checkpoint c --every 5 --places a b";
-    assert_eq!(rt;
-        unbuilt_in(rt.alloc(), line, &[Part::Checkpoint, Part::Slack])?,
-        "--checkpoint"
-    );
-    assert_eq!(rt;
-        unbuilt_in(
-            rt.alloc(),
-            line,
-            &[Part::Check, Part::Tiebreaker, Part::Places]
-        )?,
-        "--places"
-    );
-    assert_eq!(rt; unbuilt_in(rt.alloc(), line, &[Part::Find])?, "find");
-    assert_eq!(rt;
-        unbuilt_in(rt.alloc(), "check --query q --fields f", &[Part::Check])?,
-        "check"
-    );
-    assert_eq!(rt;
-        unbuilt_in(
-            rt.alloc(),
-            "find --query q --fields f --tiebreaker t a",
-            &[Part::Tiebreaker]
-        )?,
-        "--tiebreaker"
-    );
     Ok(())
 }
 
