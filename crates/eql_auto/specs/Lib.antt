@@ -2,3 +2,4 @@ pub mod Movers
 pub mod Machine
 pub mod Kept
 pub mod Moves
+pub mod Holding

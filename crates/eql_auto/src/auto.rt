@@ -7,13 +7,14 @@ ghost use Rattle.eql_values.specs.declared.order.OrderKey.{OrderKey};
 ghost use Rattle.eql_values.specs.Masks.{has_after};
 ghost use Rattle.eql_values.specs.OrderKeys.{order_cmp};
 ghost use Rattle.eql_laws.specs.Slots.{Slots, slots_after, chain_coming};
+ghost use Rattle.eql_auto.specs.Holding.{holder_of};
 ghost use Rattle.eql_auto.specs.Machine.{ComesAfter, IsAfterTurn, act_of, alive_in, chains_of, slot_at, slot_after, stage_chains, stages, stages_in, tags_of};
 
 use crate::moves::{advance_all, begin_new, empty_at_end, empty_stale};
 use crate::steps::Steps;
 use crate::table::SlotTable;
 use eql_laws::{chain_step, slot_step};
-use eql_values::{Chain, Mask, Memory, OrderKey, StageChains};
+use eql_values::{Chain, Holder, Key, Mask, Memory, OrderKey, StageChains};
 use std::alloc::Global;
 use std::marker::Model;
 use std::sync::ledger::Ledger;
@@ -183,6 +184,19 @@ impl<T: Copy, L: Ledger> Auto<T, L> {
         ensures { IfOk result (λ found. found ≡ stage_chains self.now.slots) }
     {
         self.table.holders(alloc)
+    }
+
+    /// Adds the pending sequences, each with a copy of the key, by stage.
+    pub fn add_holders(
+        &self,
+        alloc: Global,
+        key: &Key,
+        found: &mut Vec<Holder>,
+    ) -> Result<(), Memory>
+        ensures { IfOk result (λ _. found.new.items ≡ found.old.items
+            ++ map (holder_of key.now) (stage_chains self.now.slots)) }
+    {
+        self.table.add_holders(alloc, key, found)
     }
 
     /// Puts a pending sequence into the empty slot of its stage. It takes no memory.

@@ -3,6 +3,7 @@
 #![tactic(auto)]
 
 mod auto;
+mod count;
 mod movers;
 mod moves;
 mod steps;

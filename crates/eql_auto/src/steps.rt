@@ -1,14 +1,17 @@
 //! A count of probes of slots. It takes no bytes and no time.
 ghost use Rattle.std.specs.Prelude.{◌≡◌, ◌+◌, ◌<◌};
 
+use crate::count::Count;
 use std::marker::Model;
-use std::sync::ledger::{Book, Ledger, Share};
+use std::sync::ledger::{Ledger, Share};
 
 /// How many probes of slots were taken. Contracts see it as a number; it takes no bytes, and only a probe raises it.
+///
+/// A count is made from a share of the ledger. So who is given one can make no second one: it has no share to make it from.
 #[derive(Drop)]
 pub struct Steps<L: Ledger> {
-    book: Book<L>,
     share: Share<L>,
+    count: Count,
 }
 
 impl<L: Ledger> Model for Steps<L> {
@@ -16,24 +19,27 @@ impl<L: Ledger> Model for Steps<L> {
 
     ghost Value = { ℕ };
 
-    ghost view = { λ s. s.book.total };
+    ghost view = { λ s. s.count.number };
 
     ghost invariant = { λ s. 0 < s.share.parts };
 }
 
 impl<L: Ledger> Steps<L> {
-    /// A count that goes on from what the book has.
-    pub fn new(book: Book<L>, share: Share<L>) -> Steps<L>
+    /// A count at 0, made from a share of the ledger.
+    pub fn of(share: Share<L>) -> Steps<L>
         requires { 0 < share.parts }
-        ensures { result ≡ book.total }
+        ensures { result ≡ 0 }
     {
-        Steps { book, share }
+        Steps {
+            share,
+            count: Count::new(),
+        }
     }
 
     /// Counts one probe.
     pub(crate) fn tick(&mut self)
         ensures { self.new ≡ self.old + 1 }
     {
-        self.book.add(&mut self.share, 1);
+        self.count.raise();
     }
 }

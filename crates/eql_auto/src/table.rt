@@ -1,15 +1,16 @@
 //! The slot table of the machine of one key. The slots are looked at by three calls alone, each of which is one probe.
-ghost use Rattle.std.specs.Prelude.{◌≡◌, ◌+◌, ◌-◌, ◌<◌, ◌≤◌, ◌++◌, ◌∷◌, ◌==◌, [], length, vec_len, vec_capacity, if◌then◌else◌, Some, None, IfOk, IfSome, MatchBool, replicate, slice_index_or, slice_set, IsPermutation};
+ghost use Rattle.std.specs.Prelude.{◌≡◌, ◌+◌, ◌-◌, ◌<◌, ◌≤◌, ◌++◌, ◌∷◌, ◌==◌, [], length, vec_len, vec_capacity, if◌then◌else◌, Some, None, IfOk, IfSome, MatchBool, map, replicate, slice_index_or, slice_set, IsPermutation};
 ghost use Rattle.std.specs.Option.{option_map, option_to_list};
 ghost use Rattle.eql_values.specs.Chains.{in_time};
 ghost use Rattle.eql_values.specs.Ordered.{found_or};
 ghost use Rattle.eql_values.specs.OrderKeys.{EventsAscend};
+ghost use Rattle.eql_auto.specs.Holding.{holder_of};
 ghost use Rattle.eql_auto.specs.Machine.{AllBefore, ComesAfter, tags_of, went_on, stage_chains};
 ghost use Rattle.eql_auto.specs.Moves.{chain_in, emptied};
 ghost use Rattle.eql_auto.specs.Kept.{seen};
 
 use crate::steps::Steps;
-use eql_values::{Chain, Memory, OrderKey, StageChains, is_in_time};
+use eql_values::{Chain, Holder, Key, Memory, OrderKey, StageChains, is_in_time};
 use std::alloc::Global;
 use std::marker::{Model, PhantomData};
 use std::sync::ledger::Ledger;
@@ -304,6 +305,33 @@ impl<T: Copy, L: Ledger> SlotTable<T, L> {
         }
         Ok(StageChains::of(found))
     }
+
+    /// Adds copies of the pending sequences, each with a copy of the key, by stage.
+    pub fn add_holders(
+        &self,
+        alloc: Global,
+        key: &Key,
+        found: &mut Vec<Holder>,
+    ) -> Result<(), Memory>
+        requires { length self.now < 256 }
+        ensures { IfOk result (λ _. found.new.items ≡ found.old.items
+            ++ map (holder_of key.now) (stage_chains self.now)) }
+    {
+        for (place, slot) in self.slots.iter().enumerate() {
+            add_keyed(alloc, key, found, place as u32 + 1, slot)?;
+        }
+        Ok(())
+    }
+}
+
+/// A copy of the chain of a pending sequence, with room for its events alone.
+fn chain_of<T>(alloc: Global, pending: &Pending<T>) -> Result<Chain, Memory>
+    requires { EventsAscend pending.now.events.items }
+    ensures { IfOk result (λ chain. chain ≡ pending.now.events.items) }
+{
+    let mut events = Vec::with_capacity(alloc, pending.events.len())?;
+    events.extend_from_slice(&pending.events)?;
+    Ok(Chain::of(events))
 }
 
 /// Adds a copy of the chain of a slot, if it has a sequence.
@@ -318,9 +346,29 @@ fn add_holder<T: Copy>(
         ++ option_to_list (option_map (λ p. (stage, p.events.items)) slot.now)) }
 {
     if let Some(pending) = slot {
-        let mut events = Vec::new(alloc);
-        events.extend_from_slice(&pending.events)?;
-        found.push((stage, Chain::of(events)))?;
+        let chain = chain_of(alloc, pending)?;
+        found.push((stage, chain))?;
+    }
+    Ok(())
+}
+
+/// Adds a copy of the chain of a slot with one of the key, if it has a sequence.
+fn add_keyed<T: Copy>(
+    alloc: Global,
+    key: &Key,
+    found: &mut Vec<Holder>,
+    stage: u32,
+    slot: &Option<Pending<T>>,
+) -> Result<(), Memory>
+    requires { IfSome slot.now (λ p. EventsAscend p.events.items) }
+    ensures { IfOk result (λ _. found.new.items ≡ found.old.items
+        ++ map (holder_of key.now) (option_to_list (option_map (λ p. (stage, p.events.items))
+        slot.now))) }
+{
+    if let Some(pending) = slot {
+        let chain = chain_of(alloc, pending)?;
+        let key = key.clone()?;
+        found.push(Holder { key, stage, chain })?;
     }
     Ok(())
 }

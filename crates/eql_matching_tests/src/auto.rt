@@ -173,8 +173,8 @@ fn line_at(chain: &Chain, place: usize) -> Option<u32> {
 fn check_example<R: Abort, L: Ledger>(rt: &R, alloc: Global, blank: Blank) -> Result<(), Fail>
     requires { (blank.name ≡ L.name) × (blank.parts ≡ L.parts) × (0 < L.parts) }
 {
-    let (book, share) = blank.open::<L>();
-    let mut steps = Steps::new(book, share);
+    let (_book, share) = blank.open::<L>();
+    let mut steps = Steps::of(share);
     let mut told = Told::nothing(alloc);
     let mut machine = after_example(alloc, &mut told, &mut steps)?;
     assert_eq!(rt; told.matched.as_slice(), [2, 4, 9].as_slice());
@@ -190,8 +190,8 @@ fn check_example<R: Abort, L: Ledger>(rt: &R, alloc: Global, blank: Blank) -> Re
 fn check_each_stage<R: Abort, L: Ledger>(rt: &R, alloc: Global, blank: Blank) -> Result<(), Fail>
     requires { (blank.name ≡ L.name) × (blank.parts ≡ L.parts) × (0 < L.parts) }
 {
-    let (book, share) = blank.open::<L>();
-    let mut steps = Steps::new(book, share);
+    let (_book, share) = blank.open::<L>();
+    let mut steps = Steps::of(share);
     let mut told = Told::nothing(alloc);
     play_each_stage(alloc, &mut told, &mut steps)?;
     let mut lines = Vec::new(alloc);

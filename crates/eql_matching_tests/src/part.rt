@@ -185,8 +185,8 @@ fn matched(alloc: Global, found: &Matches) -> Result<String, Memory> {
 fn check_example<R: Abort, L: Ledger>(rt: &R, alloc: Global, blank: Blank) -> Result<(), Fail>
     requires { (blank.name ≡ L.name) × (blank.parts ≡ L.parts) × (0 < L.parts) }
 {
-    let (book, share) = blank.open::<L>();
-    let mut steps = Steps::new(book, share);
+    let (_book, share) = blank.open::<L>();
+    let mut steps = Steps::of(share);
     let mut keys = nothing(alloc, 3, None)?;
     let events = [
         fits(1, Name::Root, 1),
@@ -241,8 +241,8 @@ fn goes_on<R: Abort, L: Ledger>(
 fn check_sweep<R: Abort, L: Ledger>(rt: &R, alloc: Global, blank: Blank) -> Result<(), Fail>
     requires { (blank.name ≡ L.name) × (blank.parts ≡ L.parts) × (0 < L.parts) }
 {
-    let (book, share) = blank.open::<L>();
-    let mut steps = Steps::new(book, share);
+    let (_book, share) = blank.open::<L>();
+    let mut steps = Steps::of(share);
     let mut keys = nothing(alloc, 2, Some(10))?;
     let first = Event {
         time: 0,

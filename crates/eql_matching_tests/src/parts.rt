@@ -175,8 +175,8 @@ fn found_in_batches<R: Abort, L: Ledger>(
 ) -> Result<String, Fail>
     requires { (blank.name ≡ L.name) × (blank.parts ≡ L.parts) × (0 < L.parts) }
 {
-    let (book, share) = blank.open::<L>();
-    let mut steps = Steps::new(book, share);
+    let (_book, share) = blank.open::<L>();
+    let mut steps = Steps::of(share);
     assert!(rt; 1 <= row.stages && row.stages <= 256);
     assert!(rt; 1 <= row.max && row.max <= 4096);
     let mut last = Mark::Start;
@@ -293,8 +293,8 @@ fn batches_find_what_the_whole_finds(rt: HostRuntime) -> Result<(), Fail> {
 fn check_marks<R: Abort, L: Ledger>(rt: &R, alloc: Global, blank: Blank) -> Result<(), Fail>
     requires { (blank.name ≡ L.name) × (blank.parts ≡ L.parts) × (0 < L.parts) }
 {
-    let (book, share) = blank.open::<L>();
-    let mut steps = Steps::new(book, share);
+    let (_book, share) = blank.open::<L>();
+    let mut steps = Steps::of(share);
     let mut last = Mark::Start;
     let none = Holders::of(Vec::new(alloc));
     let mut part = Part::new(alloc, 2, Some(10), none, last, &mut steps)?;

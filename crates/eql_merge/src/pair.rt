@@ -44,9 +44,9 @@ pub fn merge_pair<T: Ranked>(
     ensures ascends { IfOk result (λ all. Ascends T.rank all.items) }
     ensures all { IfOk result (λ all. SameFirsts T.rank (earlier.items ++ later.items) all.items) }
 {
+    let mut merged = Vec::with_capacity(alloc, earlier.len().saturating_add(later.len()))?;
     let mut left = VecDeque::from_vec(earlier);
     let mut right = VecDeque::from_vec(later);
-    let mut merged = Vec::new(alloc);
     while let Some(value) = take_first(&mut left, &mut right) {
         merged.push(value)?;
     }

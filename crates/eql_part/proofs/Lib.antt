@@ -23,4 +23,4 @@ mod Looked
 mod Moved
 mod Tables
 mod Emptied
-mod Noted
+mod Sorting

@@ -32,7 +32,7 @@ use Rattle.eql_part.proofs.Housed.{room_there}
 use Rattle.eql_part.proofs.Linking.{same_key}
 use Rattle.eql_part.proofs.Rows.{Row, none_of}
 
-find_is : {X : Type 0} (q : List Value) (es : List (List Value × X)) → find key_cmp q es ≡ lookup (is_at (key_cmp q)) es
+pub find_is : {X : Type 0} (q : List Value) (es : List (List Value × X)) → find key_cmp q es ≡ lookup (is_at (key_cmp q)) es
 find_is q [] = refl
 find_is q (e ∷ es) = ap (λ (o : Option _). cond (key_eq q e.0) (Some e.1) o) (find_is q es)
 
@@ -107,7 +107,7 @@ written key w machine old new sorted ordered found change =
     (subst IsSome (sym found) refl)))
 
 module _ {L : Type 0} where
-  abbrev to_row : Room L → Option (List Value) → List (Row Ticket) → List (Row Ticket)
+  abbrev pub to_row : Room L → Option (List Value) → List (Row Ticket) → List (Row Ticket)
   to_row room o rest = cons_option (option_map (λ (key : List Value). (key, room.machine)) o) rest
 
   row_here : (rooms : List (Room L)) (p : ℕ) (room : Room L) (key : List Value) → slice_get rooms p ≡ Some room → room.key ≡ Some key → ((q : ℕ) → key_at rooms q ≡ Some key → q ≡ p)
@@ -128,7 +128,7 @@ module _ {L : Type 0} where
           one true t = let wrong = only 0 (e ∙ ap Some (sym (same_key key k t))) in absurd (omega (arith, wrong))
           one false t = more
 
-  row_none : (rooms : List (Room L)) (key : List Value) → ((q : ℕ) → key_at rooms q ≡ Some key → ⊥) → find key_cmp key (rows_of rooms) ≡ None
+  pub row_none : (rooms : List (Room L)) (key : List Value) → ((q : ℕ) → key_at rooms q ≡ Some key → ⊥) → find key_cmp key (rows_of rooms) ≡ None
   row_none [] key none = refl
   row_none (r ∷ rooms) key none = by r.key refl (row_none rooms key (λ q is. none (suc q) is))
     where
@@ -144,7 +144,7 @@ module _ {L : Type 0} where
   pub entries_sorted : (rooms : List (Room L)) → IsStrictlySortedBy key_cmp (keys_of (entries_in rooms))
   entries_sorted rooms = sorted_is (entries_in rooms) (in_order-sorted key_cmp key_cmp_total (rows_of rooms))
 
-  machine_is : (rooms : List (Room L)) (q : List Value) → machine_of (entries_in rooms) q ≡ find key_cmp q (rows_of rooms)
+  pub machine_is : (rooms : List (Room L)) (q : List Value) → machine_of (entries_in rooms) q ≡ find key_cmp q (rows_of rooms)
   machine_is rooms q = sym (find_is q (entries_in rooms)) ∙ find-in_order key_cmp key_cmp_total q (rows_of rooms)
 
   at_room : (o : Option (Room L)) (key : List Value) → key_in o ≡ Some key → (room : Room L) × (o ≡ Some room) × (room.key ≡ Some key)

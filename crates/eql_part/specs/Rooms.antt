@@ -1,5 +1,6 @@
 -- The rooms of machines, and how the room of a key is found.
 use Rattle.std.specs.Prelude.{◌≡◌, ◌⊎◌, ℕ, ℤ, Bool, false, cond, List, [], Option, None, Some, All, IfNone, filter_map, slice_get, slice_set}
+use Rattle.std.specs.Borrow.{Bor}
 use Rattle.std.specs.Ordering.{nat_cmp}
 use Rattle.std.specs.Option.{option_map}
 use Rattle.std.specs.BTreeMap.{get, is_at}
@@ -12,6 +13,10 @@ use Rattle.eql_part.specs.declared.table.Room.{Room}
 use Rattle.eql_part.specs.declared.table.KeyTable.{KeyTable}
 use Rattle.eql_part.specs.Hashes.{key_hash}
 use Rattle.eql_part.specs.KeyTables.{IsOf, machine_of}
+
+-- a key with its machine, of which both are lent
+abbrev pub lent : Bor (List Value) × Bor (Machine Ticket) → List Value × Machine Ticket
+lent e = (e.0.now, e.1.now)
 
 -- whether that is this key
 abbrev pub is_key : Option (List Value) → List Value → Bool
@@ -68,10 +73,6 @@ module _ {L : Type 0} where
   -- the keys with their machines, in the order of the rooms
   abbrev pub rows_of : List (Room L) → List (List Value × Machine Ticket)
   rows_of rooms = filter_map row_of rooms
-
-  -- these keys with the machines at these places
-  abbrev pub rows_at : List (Room L) → List (List Value × ℕ) → List (List Value × Machine Ticket)
-  rows_at rooms places = filter_map (λ (e : List Value × ℕ). option_map (λ (room : Room L). (e.0, room.machine)) (slice_get rooms e.1)) places
 
   -- the keys with their machines, in the order of keys
   abbrev pub entries_in : List (Room L) → List (List Value × Machine Ticket)

@@ -6,8 +6,7 @@ ghost use Rattle.eql_values.specs.Matching.{after, matches};
 ghost use Rattle.eql_values.specs.OrderKeys.{order_cmp};
 ghost use Rattle.eql_laws.specs.Alive.{HoldersInOrder, alive_holders};
 ghost use Rattle.eql_laws.specs.Shapes.{HasStageBefore, IsFull};
-ghost use Rattle.eql_part.specs.KeyTables.{ComesAfterAll, holders_in, holders_of, probes_of_all};
-ghost use Rattle.eql_part.specs.Rooms.{rows_at};
+ghost use Rattle.eql_part.specs.KeyTables.{ComesAfterAll, holders_in, probes_of_all};
 
 use crate::listing::Start;
 use crate::machine::KeyMachine;
@@ -15,14 +14,14 @@ use crate::puts::{put_all, sort_by_start};
 use crate::rooms::Shape;
 use crate::routes::play;
 use crate::sweeps::sweep_all;
-use crate::table::{KeyTable, Room};
+use crate::table::KeyTable;
 use eql_auto::Steps;
 use eql_laws::{
     after_in_order, after_looks_up, dead_by_slot, events_and_keys_stay, one_more_event,
     opening_finds, same_holders,
 };
 use eql_span_list::SpanList;
-use eql_values::{Holder, Holders, Item, Key, Matches, Memory};
+use eql_values::{Holders, Item, Key, Matches, Memory};
 use std::alloc::Global;
 use std::marker::Model;
 use std::sync::ledger::Ledger;
@@ -147,52 +146,20 @@ impl<L: Ledger> Keys<L> {
         ensures holders { IfOk result (λ found. found ≡ self.now.holders) }
         ensures order { IfOk result (λ found. HoldersInOrder found) }
     {
-        let places = self.machines.places(self.shape)?;
-        let mut found = Vec::with_capacity(self.shape.alloc, places.len())?;
-        for (key, place) in &places {
-            add_room(
-                self.shape.alloc,
-                &mut found,
-                key,
-                &self.machines.rooms,
-                *place,
-            )?;
+        let entries = self.machines.entries(self.shape)?;
+        let mut found = Vec::with_capacity(self.shape.alloc, pending_in(&entries))?;
+        for entry in &entries {
+            entry.1.add_holders(self.shape.alloc, entry.0, &mut found)?;
         }
         Ok(Holders::of(found))
     }
 }
 
-/// Adds copies of the pending sequences of a machine, by stage.
-fn add_holders<L: Ledger>(
-    alloc: Global,
-    found: &mut Vec<Holder>,
-    key: &Key,
-    machine: &KeyMachine<L>,
-) -> Result<(), Memory>
-    ensures { IfOk result (λ _. found.new.items ≡ found.old.items
-        ++ holders_of (key.now, machine.now)) }
-{
-    let chains = machine.holders(alloc)?;
-    for (stage, chain) in chains.into_items() {
-        let key = key.clone()?;
-        found.push(Holder { key, stage, chain })?;
+/// How many sequences are pending in these machines.
+fn pending_in<L: Ledger>(entries: &Vec<(&Key, &KeyMachine<L>)>) -> usize {
+    let mut count = 0usize;
+    for (_, machine) in entries {
+        count = count.saturating_add(machine.pending());
     }
-    Ok(())
-}
-
-/// Adds copies of the pending sequences of the machine in the room of a key, by stage.
-fn add_room<L: Ledger>(
-    alloc: Global,
-    found: &mut Vec<Holder>,
-    key: &Key,
-    rooms: &Vec<Room<L>>,
-    place: usize,
-) -> Result<(), Memory>
-    ensures { IfOk result (λ _. found.new.items ≡ found.old.items
-        ++ holders_in (rows_at rooms.now.items ((key.now, place) ∷ []))) }
-{
-    match rooms.get(place) {
-        None => Ok(()),
-        Some(room) => add_holders(alloc, found, key, &room.machine),
-    }
+    count
 }

@@ -4,15 +4,15 @@ ghost use Rattle.std.specs.Option.{option_to_list};
 ghost use Rattle.eql_values.specs.Masks.{has_after};
 ghost use Rattle.eql_values.specs.Matching.{act_by};
 ghost use Rattle.eql_laws.specs.Slots.{chain_coming, slots_after};
-ghost use Rattle.eql_auto.specs.Machine.{ComesAfter, alive_in, chains_of, slot_after, slot_at, stage_chains, stages, tags_of};
+ghost use Rattle.eql_auto.specs.Machine.{ComesAfter, alive_in, chains_of, slot_after, slot_at, stages, tags_of};
 ghost use Rattle.eql_span_list.specs.Entries.{HasTicket};
-ghost use Rattle.eql_part.specs.KeyTables.{probes_of};
+ghost use Rattle.eql_part.specs.KeyTables.{holders_of, probes_of};
 ghost use Rattle.eql_part.specs.Links.{Differ, IsOneOf, LeaveList};
 
 use crate::listing::{Start, TakenOff, take_off};
 use eql_auto::{Auto, Steps};
 use eql_span_list::{SpanList, Ticket};
-use eql_values::{Chain, Memory, OrderKey, Route, StageChains};
+use eql_values::{Chain, Holder, Key, Memory, OrderKey, Route};
 use std::alloc::Global;
 use std::marker::Model;
 use std::sync::ledger::Ledger;
@@ -67,6 +67,13 @@ impl<L: Ledger> KeyMachine<L> {
         ensures busy { result ≡ false → 1 ≤ length (tags_of self.now.slots) }
     {
         self.pending == 0
+    }
+
+    /// How many sequences are pending.
+    pub fn pending(&self) -> usize
+        ensures { result ≡ length (tags_of self.now.slots) }
+    {
+        self.pending as usize
     }
 
     /// Plays what an event says to the key, in the room taken before, and takes the sequences that ceased off the list.
@@ -151,10 +158,16 @@ impl<L: Ledger> KeyMachine<L> {
         self.pending += 1;
     }
 
-    /// The pending sequences with their stages, by stage.
-    pub fn holders(&self, alloc: Global) -> Result<StageChains, Memory>
-        ensures { IfOk result (λ found. found ≡ stage_chains self.now.slots) }
+    /// Adds copies of the pending sequences, each with a copy of the key, by stage.
+    pub fn add_holders(
+        &self,
+        alloc: Global,
+        key: &Key,
+        found: &mut Vec<Holder>,
+    ) -> Result<(), Memory>
+        ensures { IfOk result (λ _. found.new.items ≡ found.old.items
+            ++ holders_of (key.now, self.now)) }
     {
-        self.auto.holders(alloc)
+        self.auto.add_holders(alloc, key, found)
     }
 }

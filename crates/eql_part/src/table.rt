@@ -1,14 +1,14 @@
 //! The machines of the keys, each in a room of its own. A key's room is found by a hash of the key: under the hash stands the
 //! place of one key's room, and the few keys whose hash another key has stand by themselves. So no input makes a search slow.
 //! A room whose key goes keeps its machine for the next key.
-ghost use Rattle.std.specs.Prelude.{◌≡◌, ℕ, ℤ, ◌<◌, ◌≤◌, [], List, Option, None, Some, IfOk, IfSome, OnErr, OnOk, cond, length};
+ghost use Rattle.std.specs.Prelude.{◌≡◌, ℕ, ℤ, ◌<◌, ◌≤◌, [], List, Option, None, Some, IfOk, IfSome, OnErr, OnOk, cond, length, map};
 ghost use Rattle.std.specs.BTreeMap.{get};
 ghost use Rattle.std.specs.Ordering.{nat_cmp};
 ghost use Rattle.eql_values.specs.declared.value.Value.{Value};
 ghost use Rattle.eql_values.specs.Orders.{key_cmp};
 ghost use Rattle.eql_part.specs.Hashes.{key_hash};
 ghost use Rattle.eql_part.specs.KeyTables.{AreOf, IsEmptyAt};
-ghost use Rattle.eql_part.specs.Rooms.{AddsEmpty, Changes, HasKeyNow, IsNamed, IsTable, IsUnnamed, entries_of, is_key, key_at, place_of, rows_of};
+ghost use Rattle.eql_part.specs.Rooms.{AddsEmpty, Changes, HasKeyNow, IsNamed, IsTable, IsUnnamed, entries_of, is_key, key_at, lent, place_of, rows_of};
 
 use crate::hash::hash_of;
 use crate::machine::KeyMachine;
@@ -36,22 +36,6 @@ pub(crate) struct KeyTable<L: Ledger> {
     pub rooms: Vec<Room<L>>,
     /// Places of rooms without a key.
     pub free: Vec<usize>,
-}
-
-/// Notes the place of a room's key, where it has one.
-fn note_place(
-    places: &mut BTreeMap<Key, usize>,
-    key: &Option<Key>,
-    place: usize,
-) -> Result<(), Memory>
-    ensures { OnOk result ((q : List Value) → get key_cmp places.new q
-        ≡ cond (is_key key.now q) (Some place) (get key_cmp places.old q)) }
-{
-    if let Some(key) = key {
-        let key = key.clone()?;
-        places.insert(key, place)?;
-    }
-    Ok(())
 }
 
 impl<L: Ledger> KeyTable<L> {
@@ -254,16 +238,26 @@ impl<L: Ledger> KeyTable<L> {
         count
     }
 
-    /// The place of each key, in the order of keys.
-    pub fn places(&self, shape: Shape) -> Result<BTreeMap<Key, usize>, Memory>
-        requires { IsTable shape.stages shape.span self.now }
-        ensures { IfOk result (λ places. (q : List Value) → get key_cmp places q
-            ≡ place_of self.now q) }
+    /// The keys that have a machine, each with it, in the order of rooms. They are lent.
+    fn rows(&self, alloc: Global) -> Result<Vec<(&Key, &KeyMachine<L>)>, Memory>
+        ensures { IfOk result (λ rows. map lent rows.items ≡ rows_of self.now.rooms.items) }
     {
-        let mut places = BTreeMap::new(shape.alloc);
-        for (place, room) in self.rooms.iter().enumerate() {
-            note_place(&mut places, &room.key, place)?;
+        let mut rows = Vec::with_capacity(alloc, self.len())?;
+        for room in &self.rooms {
+            if let Some(key) = &room.key {
+                rows.push((key, &room.machine))?;
+            }
         }
-        Ok(places)
+        Ok(rows)
+    }
+
+    /// The keys that have a machine, each with it, in the order of keys. They are lent, so no key is copied.
+    pub fn entries(&self, shape: Shape) -> Result<Vec<(&Key, &KeyMachine<L>)>, Memory>
+        requires { IsTable shape.stages shape.span self.now }
+        ensures { IfOk result (λ entries. map lent entries.items ≡ entries_of self.now) }
+    {
+        let mut entries = self.rows(shape.alloc)?;
+        entries.sort_by(|a, b| a.0.cmp(b.0))?;
+        Ok(entries)
     }
 }

@@ -98,8 +98,8 @@ pub(crate) fn open_bench<L: LineReader + Drop, G: Ledger, T: Opening<MemSource, 
         return Err(Fail::new("no such sequence"));
     }
     cuts_may_begin();
-    let (kept, share) = blank.open::<G>();
-    let mut steps = Steps::new(kept, share);
+    let (_kept, share) = blank.open::<G>();
+    let mut steps = Steps::of(share);
     let parts = make_parts(alloc, sought, holders, plan.mark, &mut steps)?;
     let bench: ListBench<MemSource, L, G, T> = ListBench::new(lanes, parts, steps, plays);
     fresh_runs_begin(&bench);

@@ -79,8 +79,8 @@ fn others_change_nothing_of_the_references_example(rt: HostRuntime) -> Result<()
 fn check_idle<R: Abort, G: Ledger>(rt: &R, alloc: Global, blank: Blank) -> Result<(), Fail>
     requires { (blank.name ≡ G.name) × (blank.parts ≡ G.parts) × (0 < G.parts) }
 {
-    let (kept, share) = blank.open::<G>();
-    let mut steps = Steps::new(kept, share);
+    let (_kept, share) = blank.open::<G>();
+    let mut steps = Steps::of(share);
     let none = Holders::of(Vec::new(alloc));
     let mut part = Part::new(alloc, 2, None, none, Mark::Start, &mut steps)?;
     let is_idle = match part.play(PartOp::Turn { max: 1 }, &mut steps) {

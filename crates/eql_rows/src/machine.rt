@@ -388,8 +388,8 @@ fn counted<L: Ledger>(blank: Blank) -> Steps<L>
     requires parts { blank.parts ≡ L.parts }
     requires some { 0 < blank.parts }
 {
-    let (book, share) = blank.open();
-    Steps::new(book, share)
+    let (_book, share) = blank.open();
+    Steps::of(share)
 }
 
 /// Compares all cases of one to four stages.

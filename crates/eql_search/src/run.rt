@@ -67,8 +67,8 @@ fn search_lanes<S: Source, L: LineReader, G: Ledger, T: Opening<S, L>, K: Sink, 
     ensures unfailing_disk { IsKeptUnfailing D.fault_plan keep.old
         → (end_of result.0 ≢ DiskFault) × IsKeptUnfailing D.fault_plan keep.new }
 {
-    let (ledger, share) = blank.open::<G>();
-    let mut steps = Steps::new(ledger, share);
+    let (_ledger, share) = blank.open::<G>();
+    let mut steps = Steps::of(share);
     match make_parts(alloc, stages, span, holders, plan.mark, &mut steps) {
         Err(_) => (Err(Stop::Memory), lanes),
         Ok(parts) => {
@@ -132,7 +132,8 @@ pub fn search<S: Source, L: LineReader, K: Sink, D: Disk>(
     ensures front { OnErr result (IfSome told (λ texts.
         BeginsOn (rules_of L.read_of stages span lanes.old.items) book.old.pipes texts
         (start_at plan.now.mark (cuts_of lanes.old.items) holders book.old.kept)
-        → (All IsShardText texts → HasNumbers (rules_of L.read_of stages span lanes.old.items) texts)
+        → (All IsShardText texts
+        → HasNumbers (rules_of L.read_of stages span lanes.old.items) texts)
         → WroteFront (rest_of (rules_of L.read_of stages span lanes.old.items)
         book.old.pipes book.old.places book.old.kept.listed texts)
         (K.written sink.old) (K.written sink.new))) }
@@ -143,7 +144,8 @@ pub fn search<S: Source, L: LineReader, K: Sink, D: Disk>(
         BeginsOn (rules_of L.read_of stages span lanes.old.items) book.old.pipes texts
         (start_at plan.now.mark (cuts_of lanes.old.items) holders book.old.kept)
         → HasNumbers (rules_of L.read_of stages span lanes.old.items) texts
-        → AreSearchCuts (rules_of L.read_of stages span lanes.old.items) book.old.pipes texts cuts))
+        → AreSearchCuts (rules_of L.read_of stages span lanes.old.items)
+        book.old.pipes texts cuts))
         keep.old keep.new result }
 
     // What became of the lanes, in their order.
@@ -166,7 +168,8 @@ pub fn search<S: Source, L: LineReader, K: Sink, D: Disk>(
     ensures writes_steady { result ≢ Err Stop.Write
         → K.fault_count sink.new ≡ K.fault_count sink.old }
     ensures disk_steady { result ≢ Err Stop.Disk
-        → disk_faults D.history D.fault_count keep.new ≡ disk_faults D.history D.fault_count keep.old }
+        → disk_faults D.history D.fault_count keep.new
+        ≡ disk_faults D.history D.fault_count keep.old }
 
     // Where no call is planned to fail, none fails.
     ensures unfailing { IsUnfailing (K.fault_plan sink.old)
@@ -176,7 +179,8 @@ pub fn search<S: Source, L: LineReader, K: Sink, D: Disk>(
 
     // The counts of sink and disk don't fall, and a sink that doesn't tell goes on so.
     ensures counts { (K.fault_count sink.old ≤ K.fault_count sink.new)
-        × (disk_faults D.history D.fault_count keep.old ≤ disk_faults D.history D.fault_count keep.new) }
+        × (disk_faults D.history D.fault_count keep.old
+        ≤ disk_faults D.history D.fault_count keep.new) }
     ensures silent { K.written sink.old ≡ None → K.written sink.new ≡ None }
 {
     let taken = replace(lanes, Vec::new(alloc));

@@ -1,4 +1,4 @@
-use Rattle.std.proofs.Common.{◌+◌, ◌<◌, length, arith}
+use Rattle.std.proofs.Common.{arith}
 use Rattle.eql_auto.proofs.Turning.{few_tags}
 use Rattle.eql_auto.proofs.auto.Auto.rooms.Goals as goal
 

@@ -1,41 +1,31 @@
-use Rattle.std.proofs.Common.{◌++◌, ◌∷◌, [], List, sym, ap, ◌∙◌, subst}
-use Rattle.std.specs.BTreeMap.{get}
-use Rattle.std.specs.Ordering.{nat_cmp}
-use Rattle.std.proofs.lemmas.List.{append-nil, append_assoc}
+use Rattle.std.proofs.Common.{◌≡◌, ◌+◌, ◌++◌, ◌∷◌, [], List, map, take, sym, ap, ◌∙◌, subst, arith}
+use Rattle.std.proofs.lemmas.List.{flat_map_more, map-append, take_all, take_more}
 use Rattle.eql_values.specs.declared.found.Holder.{Holder}
-use Rattle.eql_values.specs.Orders.{key_cmp}
 use Rattle.eql_laws.specs.Alive.{HoldersInOrder}
-use Rattle.eql_part.specs.KeyTables.{holders_in, Pendings}
-use Rattle.eql_part.specs.Rooms.{entries_of, rows_at}
+use Rattle.eql_part.specs.KeyTables.{Pendings, holders_in, holders_of}
+use Rattle.eql_part.specs.Rooms.{entries_of, lent}
 use Rattle.eql_part.proofs.Looked.{entries_sorted}
-use Rattle.eql_part.proofs.Noted.{holders_at, rows_are}
 use Rattle.eql_part.proofs.Rows.{holders_in_order}
 use Rattle.eql_part.proofs.keys.Keys.holders.Goals as goal
 
-pub loop-key-init : goal.loop-key-init
-loop-key-init g c =
-    let t = c.self.inside.machines in let rooms = t.rooms.items in let gives = c.into_iter-key-iterator.ensures.into_iter_gives in
-    ap (λ (l : List Holder). l ++ holders_in (rows_at rooms c.into_iter-key-iterator.result)) (c.in_ok-found.ensures {u = tt}).items
-    ∙ ap (λ l. holders_in (rows_at rooms l)) gives.0
-    ∙ ap holders_in (rows_are rooms (get nat_cmp t.by_hash) (get key_cmp t.others) c.self.invariant.table.housed c.in_ok-places.places.entries c.len.ensures.ordered (c.in_ok-places.ensures {u = tt}))
-    ∙ ap (λ (p : Pendings). p.holders) c.self.view_is
-
-pub loop-key-preserved : goal.loop-key-preserved
-loop-key-preserved g c =
-    let rooms = c.self.inside.machines.rooms.items in let key = c.in-Some.key.now in let place = c.in-Some.place.now in let rest = c.next.new.self in
-    let one = holders_in (rows_at rooms ((key, place) ∷ [])) in
-    ap (λ (l : List Holder). l ++ holders_in (rows_at rooms rest)) (c.in_ok-add_room.ensures {u = tt})
-    ∙ append_assoc c.loop-key.found.items one (holders_in (rows_at rooms rest))
-    ∙ ap (λ (l : List Holder). c.loop-key.found.items ++ l) (sym (holders_at rooms key place rest) ∙ sym (ap (λ l. holders_in (rows_at rooms l)) c.in-Some.ensures.steps))
-    ∙ c.loop-key.invariant
+pub loop-entry-preserved : goal.loop-entry-preserved
+loop-entry-preserved g c =
+    let items = c.deref-entry-items.result.now in let i = c.loop-entry.entry-index in let entry = c.entry-item.result in
+    let more : take (i + 1) items ≡ take i items ++ entry ∷ [] =
+    take_more items i entry c.loop-entry-test.true ∙ ap (λ e. take i items ++ e ∷ []) (sym c.entry-item.is) in
+    c.in_ok-add_holders.ensures {u = tt}
+    ∙ ap (λ (l : List Holder). l ++ holders_of (lent entry)) c.loop-entry.invariant
+    ∙ flat_map_more holders_of [] (map lent (take i items)) (lent entry)
+    ∙ ap holders_in (sym (map-append lent (take i items) (entry ∷ [])) ∙ ap (map lent) (sym more))
 
 pub returns-clause-holders : goal.returns-clause-holders
 returns-clause-holders g c =
-    let rooms = c.self.inside.machines.rooms.items in
+    let items = c.deref-entry-items.result.now in let past = c.loop-entry-test.false in
     c.of.ensures
-    ∙ sym (append-nil c.loop-key.found.items)
-    ∙ sym (ap (λ l. c.loop-key.found.items ++ holders_in (rows_at rooms l)) ((c.in-None.ensures {u = tt}).steps.0))
-    ∙ c.loop-key.invariant
+    ∙ c.loop-entry.invariant
+    ∙ ap (λ l. holders_in (map lent l)) (take_all c.loop-entry.entry-index items (omega (arith, past)) ∙ c.deref-entry-items.ensures.value)
+    ∙ ap holders_in (c.in_ok-entries.ensures {u = tt})
+    ∙ ap (λ (p : Pendings). p.holders) c.self.view_is
 
 pub returns-clause-order : goal.returns-clause-order
 returns-clause-order g c =
