@@ -1,1 +1,4 @@
 pub mod Turns
+pub mod Hands
+pub mod Steps
+pub mod Sweeps

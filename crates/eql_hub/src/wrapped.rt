@@ -1,5 +1,5 @@
 //! A lane and a part as values of a turn lock.
-ghost use Rattle.std.specs.Prelude.{◌≡◌};
+ghost use Rattle.std.specs.Prelude.{◌≡◌, ◌≤◌, [], length, vec_capacity};
 
 use eql_auto::Steps;
 use eql_lane::{Lane, LaneOp, LaneReply};
@@ -119,4 +119,38 @@ impl<G: Ledger> Turned for TurnedPart<G> {
     ghost opens = { λ part op is. open_part_allowed part.state op is };
 
     ghost stays_allowed = { λ x y op later reply is step may. part_stays_allowed x y op later reply is step may };
+}
+
+/// Wraps lanes, in room for them.
+pub(crate) fn wrap_all<S: Source, L: LineReader>(
+    lanes: Vec<Lane<S, L>>,
+    wrapped: &mut Vec<TurnedLane<S, L>>,
+)
+    requires empty { wrapped.old.items ≡ [] }
+    requires room { length lanes.items ≤ vec_capacity wrapped.old }
+    ensures { wrapped.new.items ≡ lanes.items }
+{
+    let mut lanes = lanes;
+    while let Some(lane) = lanes.pop() {
+        wrapped.push_reserved(TurnedLane { lane });
+    }
+    lanes.destroy_empty();
+    wrapped.reverse();
+}
+
+/// Unwraps lanes, in room for them.
+pub(crate) fn unwrap_all<S: Source, L: LineReader>(
+    wrapped: Vec<TurnedLane<S, L>>,
+    lanes: &mut Vec<Lane<S, L>>,
+)
+    requires empty { lanes.old.items ≡ [] }
+    requires room { length wrapped.items ≤ vec_capacity lanes.old }
+    ensures { lanes.new.items ≡ wrapped.items }
+{
+    let mut wrapped = wrapped;
+    while let Some(lane) = wrapped.pop() {
+        lanes.push_reserved(lane.into_lane());
+    }
+    wrapped.destroy_empty();
+    lanes.reverse();
 }

@@ -1,0 +1,105 @@
+-- What one try at a lane or a part does, by its answer.
+use Rattle.std.proofs.Common.{◌≡◌, ◌≤◌, inl, inr, ℕ, List, [], ◌∷◌, ◌++◌, Option, None, refl, sym, ap, ◌∙◌, subst}
+use Rattle.std.specs.Prelude.{Bool, true, ◌&&◌, nat_le, Result, Ok, Err, MatchOption, MatchResult}
+use Rattle.eql_values.specs.Accepted.{Reads}
+use Rattle.eql_outside.specs.Plans.{FaultPlan}
+use Rattle.eql_lane.specs.declared.ops.LaneOp.{LaneOp}
+use Rattle.eql_lane.specs.declared.ops.LaneOp.TheVariants as lane_op
+use Rattle.eql_lane.specs.declared.ops.LaneReply.{LaneReply}
+use Rattle.eql_lane.specs.declared.ops.LaneReply.TheVariants as lane_reply
+use Rattle.eql_parts.specs.declared.ops.PartOp.{PartOp}
+use Rattle.eql_parts.specs.declared.ops.PartOp.TheVariants as part_op
+use Rattle.eql_parts.specs.declared.ops.PartReply.{PartReply}
+use Rattle.eql_parts.specs.declared.ops.PartReply.TheVariants as part_reply
+use Rattle.eql_turn_lock.specs.declared.history.Entry.{Entry}
+use Rattle.eql_turn_lock.specs.declared.view.View.{View}
+use Rattle.eql_turn_lock.specs.declared.refused.NotNow.{NotNow}
+use Rattle.eql_turn_lock.specs.declared.refused.NotNow.TheVariants.{Busy, Worn}
+use Rattle.eql_turn_lock.specs.Calls.{PlaysOnce, Refuses}
+use Rattle.eql_turn_lock.specs.Passes.{KnowsHistory}
+use Rattle.eql_lock_row.specs.Rows.{ChangesAt}
+use Rattle.eql_turn_lock.specs.History.{IsLegal, entry}
+use Rattle.eql_turn_lock.proofs.Histories.{legal_split}
+use Rattle.eql_hub.specs.declared.step.Did.{Did}
+use Rattle.eql_hub.specs.Hands.{LaneKnown, PartKnown}
+use Rattle.eql_hub.specs.Steps.{LaneAnswers, LaneEnds, LaneIdle, PartAnswers, PartEnds, PartIdle}
+use Rattle.eql_hub.specs.Sweeps.{tried_lane, tried_part}
+use Rattle.eql_hub.specs.Turns.{LaneTurn, PartTurn, is_batch, is_open_lane, is_open_part}
+use Rattle.std.proofs.lemmas.Bool.{le-leb}
+
+pub batch_open : (batch : ℕ) → 1 ≤ batch → batch ≤ 4096 → is_batch batch ≡ true
+batch_open batch from to = ap (λ (b : Bool). b && nat_le batch 4096) (le-leb 1 batch from) ∙ le-leb batch 4096 to
+
+-- the last step of a call that was answered
+pub last_step : {T O R : Type 0} (step_of : T → O → R → T → Type 0) (is_open : O → Bool) (v w : View T O R) (op : O) (reply : R) → PlaysOnce step_of is_open v op reply w
+    → (x : T) × (y : T) × step_of x op reply y
+last_step step_of is_open v w op reply plays =
+    let p = plays.1 in
+    let e = entry v.number op reply in
+    let legal = subst (λ (l : List (Entry _ _)). IsLegal step_of p.knows.opening l p.knows.value) p.seen p.knows.legal in
+    let parts = legal_split step_of (v.seen ++ p.between) (e ∷ []) p.knows.opening p.knows.value legal in
+    (parts.0, parts.2.0, parts.2.1)
+
+module _ {S L : Type 0} (left lent_as : S → Option (List ℕ)) (fault_plan : S → Option FaultPlan) (read_of : L → Reads) (batch : ℕ) where
+  pub lane_went : (lane : ℕ) (tried : Result LaneReply (NotNow LaneOp)) (v w : LaneKnown S L)
+      → MatchResult tried (λ reply. LaneAnswers left lent_as fault_plan read_of batch reply v w) (λ refused. Refuses v (lane_op.Feed batch) refused w)
+      → MatchOption (tried_lane lane tried) (LaneIdle left lent_as fault_plan read_of batch v w) (λ answer. LaneEnds left lent_as fault_plan read_of batch answer lane v w)
+  lane_went lane (Ok (lane_reply.Fed lines)) v w h = (refl, (lines, h))
+  lane_went lane (Ok (lane_reply.Failed lines)) v w h = (refl, (lines, h))
+  lane_went lane (Ok (lane_reply.Limit of)) v w h = inl h
+  lane_went lane (Ok (lane_reply.Memory lines)) v w h = (lines, h)
+  lane_went lane (Ok (lane_reply.Held ready)) v w h = inl (ready, h)
+  lane_went lane (Ok lane_reply.Closed) v w h = inr (inl h)
+  lane_went lane (Ok (lane_reply.Taken items)) v w h =
+      absurd ((last_step (LaneTurn left lent_as fault_plan read_of) is_open_lane v w (lane_op.Feed batch) (lane_reply.Taken items) h).2.plays None tt).step
+  lane_went lane (Ok (lane_reply.Low mark)) v w h =
+      absurd ((last_step (LaneTurn left lent_as fault_plan read_of) is_open_lane v w (lane_op.Feed batch) (lane_reply.Low mark) h).2.plays None tt).step
+  lane_went lane (Ok (lane_reply.Cut cut)) v w h =
+      absurd ((last_step (LaneTurn left lent_as fault_plan read_of) is_open_lane v w (lane_op.Feed batch) (lane_reply.Cut cut) h).2.plays None tt).step
+  lane_went lane (Err (Busy word op)) v w h = inr (inr (word, subst (λ (o : LaneOp). Refuses v (lane_op.Feed batch) (Busy word o) w) h.0 h))
+  lane_went lane (Err (Worn word op)) v w h = inr (refl, (word, subst (λ (o : LaneOp). Refuses v (lane_op.Feed batch) (Worn word o) w) h.0 h))
+
+pub part_went : (batch part : ℕ) (tried : Result PartReply (NotNow PartOp)) (v w : PartKnown)
+    → MatchResult tried (λ reply. PartAnswers batch reply v w) (λ refused. Refuses v (part_op.Turn batch) refused w)
+    → MatchOption (tried_part part tried) (PartIdle batch v w) (λ answer. PartEnds batch answer part v w)
+part_went batch part (Ok (part_reply.Turned items)) v w h = (refl, (items, h))
+part_went batch part (Ok (part_reply.Memory back items)) v w h = (back, (items, h))
+part_went batch part (Ok part_reply.Idle) v w h = inl h
+part_went batch part (Ok part_reply.Done) v w h = absurd (last_step PartTurn is_open_part v w (part_op.Turn batch) part_reply.Done h).2.step
+part_went batch part (Ok (part_reply.Found found done)) v w h = absurd (last_step PartTurn is_open_part v w (part_op.Turn batch) (part_reply.Found found done) h).2.step
+part_went batch part (Ok (part_reply.Cut holders)) v w h = absurd (last_step PartTurn is_open_part v w (part_op.Turn batch) (part_reply.Cut holders) h).2.step
+part_went batch part (Err (Busy word op)) v w h = inr (word, subst (λ (o : PartOp). Refuses v (part_op.Turn batch) (Busy word o) w) h.0 h)
+part_went batch part (Err (Worn word op)) v w h = (refl, (word, subst (λ (o : PartOp). Refuses v (part_op.Turn batch) (Worn word o) w) h.0 h))
+
+module _ {S L : Type 0} (left lent_as : S → Option (List ℕ)) (fault_plan : S → Option FaultPlan) (read_of : L → Reads) (batch : ℕ) where
+  pub lane_try : (lane : ℕ) (tried : Result LaneReply (NotNow LaneOp)) (answer : Option Did) (old new : List (LaneKnown S L)) → answer ≡ tried_lane lane tried
+      → ChangesAt lane (λ (v w : LaneKnown S L). MatchResult tried (λ reply. LaneAnswers left lent_as fault_plan read_of batch reply v w) (λ refused. Refuses v (lane_op.Feed batch) refused w)
+      × KnowsHistory (LaneTurn left lent_as fault_plan read_of) is_open_lane w) old new
+      → ChangesAt lane (λ (v w : LaneKnown S L). MatchOption answer (LaneIdle left lent_as fault_plan read_of batch v w) (λ a. LaneEnds left lent_as fault_plan read_of batch a lane v w)
+      × KnowsHistory (LaneTurn left lent_as fault_plan read_of) is_open_lane w) old new
+  lane_try lane tried answer old new is c = record {
+    before = c.before;
+    after = c.after;
+    was = c.was;
+    is = c.is;
+    changes = (
+      subst (λ (o : Option Did). MatchOption o (LaneIdle left lent_as fault_plan read_of batch c.before c.after) (λ a. LaneEnds left lent_as fault_plan read_of batch a lane c.before c.after)) (sym is)
+          (lane_went left lent_as fault_plan read_of batch lane tried c.before c.after c.changes.0),
+      c.changes.1,
+    );
+  }
+
+pub part_try : (batch part : ℕ) (tried : Result PartReply (NotNow PartOp)) (answer : Option Did) (old new : List PartKnown) → answer ≡ tried_part part tried
+    → ChangesAt part (λ (v w : PartKnown). MatchResult tried (λ reply. PartAnswers batch reply v w) (λ refused. Refuses v (part_op.Turn batch) refused w) × KnowsHistory PartTurn is_open_part w) old new
+    → ChangesAt part (λ (v w : PartKnown). MatchOption answer (PartIdle batch v w) (λ a. PartEnds batch a part v w) × KnowsHistory PartTurn is_open_part w) old new
+part_try batch part tried answer old new is c = record {
+  before = c.before;
+  after = c.after;
+  was = c.was;
+  is = c.is;
+  changes = (
+    subst (λ (o : Option Did). MatchOption o (PartIdle batch c.before c.after) (λ a. PartEnds batch a part c.before c.after)) (sym is)
+        (part_went batch part tried c.before c.after c.changes.0),
+    c.changes.1,
+  );
+}

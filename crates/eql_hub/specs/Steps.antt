@@ -1,0 +1,132 @@
+-- What a hand does in one step.
+use Rattle.std.specs.Prelude.{◌≡◌, ◌≢◌, ◌⊎◌, ◌≤◌, ◌+◌, ℕ, List, Option, Some, length, slice_get}
+use Rattle.eql_values.specs.Accepted.{Reads}
+use Rattle.eql_values.specs.declared.item.Item.{Item}
+use Rattle.eql_outside.specs.Plans.{FaultPlan}
+use Rattle.eql_lane.specs.declared.ops.LaneOp.TheVariants as lane_op
+use Rattle.eql_lane.specs.declared.ops.LaneReply.{LaneReply}
+use Rattle.eql_lane.specs.declared.ops.LaneReply.TheVariants as lane_reply
+use Rattle.eql_lane.specs.declared.ops.LimitOf.TheVariants.{Turns}
+use Rattle.eql_parts.specs.declared.ops.PartOp.TheVariants as part_op
+use Rattle.eql_parts.specs.declared.ops.PartReply.{PartReply}
+use Rattle.eql_parts.specs.declared.ops.PartReply.TheVariants as part_reply
+use Rattle.eql_turn_lock.specs.declared.view.View.{View}
+use Rattle.eql_turn_lock.specs.declared.refused.NotNow.TheVariants.{Busy, Worn}
+use Rattle.eql_turn_lock.specs.Calls.{PlaysOnce, Refuses}
+use Rattle.eql_hub.specs.declared.step.Did.{Did}
+use Rattle.eql_hub.specs.declared.step.Did.TheVariants as did
+use Rattle.eql_hub.specs.declared.step.HandFault.TheVariants as fault
+use Rattle.eql_hub.specs.Hands.{HandView, LaneKnown, PartKnown}
+use Rattle.eql_hub.specs.Turns.{LaneTurn, PartTurn, is_open_lane, is_open_part}
+
+-- two lists are related so, place by place
+pub record EachPlace {X : Type 0} (Related : X → X → Type 0) (old new : List X) : Type 0 where
+  pub count : length new ≡ length old
+  pub each : (k : ℕ) (v w : X) → slice_get old k ≡ Some v → slice_get new k ≡ Some w → Related v w
+
+-- a pass after a step: it is the same pass, and has at most one entry more of its own
+abbrev pub OneMore : {T O R : Type 0} → View T O R → View T O R → Type 0
+OneMore v w = (w.number ≡ v.number) × (length w.mine ≤ length v.mine + 1)
+
+-- so it is of each pass of a hand
+pub record OneMoreEach {S L : Type 0} (old new : HandView S L) : Type 0 where
+  pub lanes : EachPlace OneMore old.lanes.views new.lanes.views
+  pub parts : EachPlace OneMore old.parts.views new.parts.views
+
+-- ---- parts
+-- the part answered a turn of the hand so
+abbrev pub PartAnswers : (batch : ℕ) → PartReply → PartKnown → PartKnown → Type 0
+PartAnswers batch reply v w = PlaysOnce PartTurn is_open_part v (part_op.Turn batch) reply w
+
+-- the part's lock was busy: its word was odd, or moved between load and exchange
+abbrev pub PartBusy : (batch : ℕ) → PartKnown → PartKnown → Type 0
+PartBusy batch v w = (word : ℕ) × Refuses v (part_op.Turn batch) (Busy word (part_op.Turn batch)) w
+
+-- the part's lock is worn
+abbrev pub PartWorn : (batch : ℕ) → PartKnown → PartKnown → Type 0
+PartWorn batch v w = (word : ℕ) × Refuses v (part_op.Turn batch) (Worn word (part_op.Turn batch)) w
+
+-- nothing was to be done there: no event waits, or the lock was busy
+abbrev pub PartIdle : (batch : ℕ) → PartKnown → PartKnown → Type 0
+PartIdle batch v w = PartAnswers batch part_reply.Idle v w ⊎ PartBusy batch v w
+
+-- it wasn't tried, or nothing was to be done
+abbrev pub PartQuiet : (batch : ℕ) → PartKnown → PartKnown → Type 0
+PartQuiet batch v w = (w ≡ v) ⊎ PartIdle batch v w
+
+-- the step ended at the part in a place with this answer
+abbrev pub PartEnds : (batch : ℕ) → Did → (place : ℕ) → PartKnown → PartKnown → Type 0
+PartEnds batch (did.Turned part) place v w = (part ≡ place) × ((items : ℕ) × PartAnswers batch (part_reply.Turned items) v w)
+PartEnds batch (did.Fault fault.Memory) place v w = (back : List Item) × ((items : ℕ) × PartAnswers batch (part_reply.Memory back items) v w)
+PartEnds batch (did.Fault (fault.Limit of)) place v w = (of ≡ Turns) × PartWorn batch v w
+PartEnds batch (did.Fault (fault.Read shard)) place v w = ⊥
+PartEnds batch (did.Fed lane) place v w = ⊥
+PartEnds batch did.Nothing place v w = ⊥
+
+module _ {S L : Type 0} (left lent_as : S → Option (List ℕ)) (fault_plan : S → Option FaultPlan) (read_of : L → Reads) (batch : ℕ) where
+  -- ---- lanes
+  -- the lane answered a feed of the hand so
+  abbrev pub LaneAnswers : LaneReply → LaneKnown S L → LaneKnown S L → Type 0
+  LaneAnswers reply v w = PlaysOnce (LaneTurn left lent_as fault_plan read_of) is_open_lane v (lane_op.Feed batch) reply w
+
+  -- the lane's lock was busy: its word was odd, or moved between load and exchange
+  abbrev pub LaneBusy : LaneKnown S L → LaneKnown S L → Type 0
+  LaneBusy v w = (word : ℕ) × Refuses v (lane_op.Feed batch) (Busy word (lane_op.Feed batch)) w
+
+  -- the lane's lock is worn
+  abbrev pub LaneWorn : LaneKnown S L → LaneKnown S L → Type 0
+  LaneWorn v w = (word : ℕ) × Refuses v (lane_op.Feed batch) (Worn word (lane_op.Feed batch)) w
+
+  -- nothing was to be done there: the lane holds enough or is closed, or the lock was busy
+  abbrev pub LaneIdle : LaneKnown S L → LaneKnown S L → Type 0
+  LaneIdle v w = ((ready : ℕ) × LaneAnswers (lane_reply.Held ready) v w) ⊎ (LaneAnswers lane_reply.Closed v w ⊎ LaneBusy v w)
+
+  -- it wasn't tried, or nothing was to be done
+  abbrev pub LaneQuiet : LaneKnown S L → LaneKnown S L → Type 0
+  LaneQuiet v w = (w ≡ v) ⊎ LaneIdle v w
+
+  -- the step ended at the lane in a place with this answer
+  abbrev pub LaneEnds : Did → (place : ℕ) → LaneKnown S L → LaneKnown S L → Type 0
+  LaneEnds (did.Fed lane) place v w = (lane ≡ place) × ((lines : ℕ) × LaneAnswers (lane_reply.Fed lines) v w)
+  LaneEnds (did.Fault (fault.Read shard)) place v w = (shard ≡ place) × ((lines : ℕ) × LaneAnswers (lane_reply.Failed lines) v w)
+  LaneEnds (did.Fault fault.Memory) place v w = (lines : ℕ) × LaneAnswers (lane_reply.Memory lines) v w
+  LaneEnds (did.Fault (fault.Limit of)) place v w = LaneAnswers (lane_reply.Limit of) v w ⊎ ((of ≡ Turns) × LaneWorn v w)
+  LaneEnds (did.Turned part) place v w = ⊥
+  LaneEnds did.Nothing place v w = ⊥
+
+  -- ---- the whole step
+  -- nothing was to be done at any lane or part
+  pub record NothingFound (old new : HandView S L) : Type 0 where
+    pub lanes : EachPlace LaneIdle old.lanes.views new.lanes.views
+    pub parts : EachPlace (PartIdle batch) old.parts.views new.parts.views
+
+  -- the step ended at a lane, and nothing was to be done where it was before
+  pub record LaneEnded (answer : Did) (old new : HandView S L) : Type 0 where
+    pub lane : ℕ
+    pub before : LaneKnown S L
+    pub after : LaneKnown S L
+    pub was : slice_get old.lanes.views lane ≡ Some before
+    pub is : slice_get new.lanes.views lane ≡ Some after
+    pub ends : LaneEnds answer lane before after
+    pub count : length new.lanes.views ≡ length old.lanes.views
+    pub others : (k : ℕ) (v w : LaneKnown S L) → k ≢ lane → slice_get old.lanes.views k ≡ Some v → slice_get new.lanes.views k ≡ Some w → LaneQuiet v w
+    pub parts : EachPlace (PartQuiet batch) old.parts.views new.parts.views
+
+  -- the step ended at a part
+  pub record PartEnded (answer : Did) (old new : HandView S L) : Type 0 where
+    pub part : ℕ
+    pub before : PartKnown
+    pub after : PartKnown
+    pub was : slice_get old.parts.views part ≡ Some before
+    pub is : slice_get new.parts.views part ≡ Some after
+    pub ends : PartEnds batch answer part before after
+    pub count : length new.parts.views ≡ length old.parts.views
+    pub others : (k : ℕ) (v w : PartKnown) → k ≢ part → slice_get old.parts.views k ≡ Some v → slice_get new.parts.views k ≡ Some w → PartQuiet batch v w
+    pub lanes : EachPlace LaneQuiet old.lanes.views new.lanes.views
+
+  -- what a step that answers this has done: each lane and part was tried once at most
+  abbrev pub Steps : Did → HandView S L → HandView S L → Type 0
+  Steps did.Nothing old new = NothingFound old new
+  Steps (did.Fed lane) old new = LaneEnded (did.Fed lane) old new
+  Steps (did.Turned part) old new = PartEnded (did.Turned part) old new
+  Steps (did.Fault f) old new = LaneEnded (did.Fault f) old new ⊎ PartEnded (did.Fault f) old new

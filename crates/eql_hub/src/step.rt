@@ -1,0 +1,72 @@
+//! What a step of a hand answers.
+ghost use Rattle.std.specs.Prelude.{◌≡◌};
+ghost use Rattle.eql_hub.specs.Sweeps.{tried_lane, tried_part};
+
+use eql_lane::{LaneOp, LaneReply, LimitOf};
+use eql_parts::{PartOp, PartReply};
+use eql_turn_lock::NotNow;
+
+/// Why a hand can't go on.
+#[derive(Clone, Copy)]
+pub enum HandFault {
+    /// The source of a lane failed.
+    Read {
+        /// The lane's place, from 0, which is its shard in a search.
+        shard: u32,
+    },
+    /// Memory ran out.
+    Memory,
+    /// A number reached its limit.
+    Limit(LimitOf),
+}
+
+/// What one step did.
+#[derive(Clone, Copy)]
+pub enum Did {
+    /// It fed a lane.
+    Fed {
+        /// The lane, from 0.
+        lane: u32,
+    },
+    /// It had a part play events.
+    Turned {
+        /// The part, from 0.
+        part: u32,
+    },
+    /// Nothing was to be done.
+    Nothing,
+    /// It met a fault.
+    Fault(HandFault),
+}
+
+/// What the answer of a lane to a feed ends the step with. Nothing was to be done where it is `None`.
+pub(crate) fn after_feed(lane: u32, tried: Result<LaneReply, NotNow<LaneOp>>) -> Option<Did>
+    ensures { result ≡ tried_lane lane tried }
+{
+    match tried {
+        Ok(LaneReply::Fed { lines: _ }) => Some(Did::Fed { lane }),
+        Ok(LaneReply::Failed { lines: _ }) => Some(Did::Fault(HandFault::Read { shard: lane })),
+        Ok(LaneReply::Limit(of)) => Some(Did::Fault(HandFault::Limit(of))),
+        Ok(LaneReply::Memory { lines: _ }) => Some(Did::Fault(HandFault::Memory)),
+        Ok(_) => None,
+        Err(NotNow::Busy { word: _, op: _ }) => None,
+        Err(NotNow::Worn { word: _, op: _ }) => {
+            Some(Did::Fault(HandFault::Limit(LimitOf::Turns)))
+        }
+    }
+}
+
+/// What the answer of a part to a turn ends the step with.
+pub(crate) fn after_turn(part: u32, tried: Result<PartReply, NotNow<PartOp>>) -> Option<Did>
+    ensures { result ≡ tried_part part tried }
+{
+    match tried {
+        Ok(PartReply::Turned { items: _ }) => Some(Did::Turned { part }),
+        Ok(PartReply::Memory { back: _, items: _ }) => Some(Did::Fault(HandFault::Memory)),
+        Ok(_) => None,
+        Err(NotNow::Busy { word: _, op: _ }) => None,
+        Err(NotNow::Worn { word: _, op: _ }) => {
+            Some(Did::Fault(HandFault::Limit(LimitOf::Turns)))
+        }
+    }
+}

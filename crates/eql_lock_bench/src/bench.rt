@@ -1,0 +1,149 @@
+//! A bench over a hub of locks.
+ghost use Rattle.std.specs.Prelude.{◌≡◌, ◌<◌, IfErr, IfOk, length};
+ghost use Rattle.eql_lane.specs.Lanes.{LaneAllows};
+ghost use Rattle.eql_conductor.specs.Benches.{LanePlays, MayPlay, PartPlays, Unplayed};
+ghost use Rattle.eql_lock_row.specs.Rows.{ChangesAt};
+ghost use Rattle.eql_hub.specs.Hands.{IsFirst, IsHandOf, Knows};
+ghost use Rattle.eql_hub.specs.Turns.{LaneTurn, PartTurn, is_open_lane, is_open_part};
+ghost use Rattle.eql_lock_bench.specs.Benched.{AreOfTexts, IsBenchHand};
+ghost use Rattle.eql_lock_bench.specs.Locked.{Answers, IsNeverBusy, known_by, told_of};
+
+use crate::opening::LockOpening;
+use eql_conductor::{Bench, NotPlayed};
+use eql_hub::{Hand, Hub};
+use eql_lane::{LaneOp, LaneReply};
+use eql_outside::Source;
+use eql_parts::{PartOp, PartReply};
+use eql_turn_lock::NotNow;
+use eql_values::LineReader;
+use std::marker::{Model, PhantomData};
+use std::sync::Wait;
+use std::sync::ledger::Ledger;
+
+/// A hub and its first hand, by which the caller plays. Other hands may play on the hub at any time. A call may wait.
+///
+/// Contracts see it as what the hand knows.
+#[derive(Drop)]
+pub struct LockBench<'a, R, S: Source, L: LineReader, G: Ledger, T: LockOpening<S, L>> {
+    rt: &'a R,
+    hub: &'a Hub<S, L, G>,
+    hand: Hand<S, L, G>,
+    of: PhantomData<T>,
+}
+
+impl<'a, R, S: Source, L: LineReader, G: Ledger, T: LockOpening<S, L>> Model
+    for LockBench<'a, R, S, L, G, T> {
+    ghost use Rattle.std.specs.Prelude.{◌≡◌};
+    ghost use Rattle.eql_hub.specs.Hands.{HandView};
+    ghost use Rattle.eql_lock_bench.specs.Benched.{IsBenchHand};
+
+    ghost Value = { HandView S L };
+
+    ghost view = { λ b. b.hand };
+
+    ghost invariant = { λ b. (b.hub.now ≡ T.hub)
+        × IsBenchHand S.left S.lent_as S.fault_plan L.read_of T.text T.hub T.hand b.hand };
+}
+
+impl<'a, R, S: Source, L: LineReader, G: Ledger, T: LockOpening<S, L>> LockBench<
+    'a,
+    R,
+    S,
+    L,
+    G,
+    T,
+> {
+    /// A bench over this hub, played on by its first hand.
+    pub fn new(
+        rt: &'a R,
+        hub: &'a Hub<S, L, G>,
+        hand: Hand<S, L, G>,
+    ) -> LockBench<'a, R, S, L, G, T>
+        requires opening { (hub.now ≡ T.hub) × (hand ≡ T.hand) }
+        requires own { IsHandOf hub.now hand }
+        requires first { IsFirst hand }
+        requires knows { Knows S.left S.lent_as S.fault_plan L.read_of hand }
+        requires texts { AreOfTexts S.left T.text hand.lanes.views }
+        ensures { result ≡ hand }
+    {
+        let _ = hand.lane_count();
+        let _ = hand.part_count();
+        LockBench {
+            rt,
+            hub,
+            hand,
+            of: PhantomData,
+        }
+    }
+
+    /// The hand, with all that it knows by then. It takes no memory.
+    pub fn into_hand(self) -> Hand<S, L, G>
+        ensures hand { result ≡ self.entry }
+        ensures is { IsBenchHand S.left S.lent_as S.fault_plan L.read_of T.text T.hub T.hand
+            result }
+    {
+        self.hand
+    }
+}
+
+// The answer of a bench: a lock that is worn gives no turn.
+fn told<O: Drop, A>(answer: Result<A, NotNow<O>>) -> Result<A, NotPlayed>
+    requires { IsNeverBusy answer }
+    ensures { result ≡ told_of answer }
+{
+    match answer {
+        Ok(reply) => Ok(reply),
+        Err(NotNow::Busy { word: _, op: _ }) => unreachable!(),
+        Err(NotNow::Worn { word, op: _ }) => Err(NotPlayed::Worn { word }),
+    }
+}
+
+impl<'a, R: Wait, S: Source, L: LineReader, G: Ledger, T: LockOpening<S, L>> Bench
+    for LockBench<'a, R, S, L, G, T> {
+    ghost known = { λ b. known_by S.left S.lent_as S.fault_plan L.read_of T.text b };
+
+    fn lanes(&self) -> u32 {
+        self.hub.lane_count()
+    }
+
+    fn parts(&self) -> u32 {
+        self.hub.part_count()
+    }
+
+    fn lane(&mut self, s: u32, op: LaneOp) -> Result<LaneReply, NotPlayed>
+        requires place { s < length self.old.lanes.views }
+        requires allowed { LaneAllows op }
+        ensures played { IfOk result (λ reply. LanePlays s op reply
+            (known_by S.left S.lent_as S.fault_plan L.read_of T.text self.old)
+            (known_by S.left S.lent_as S.fault_plan L.read_of T.text self.new)) }
+        ensures not_played { IfErr result (λ by. Unplayed by
+            (known_by S.left S.lent_as S.fault_plan L.read_of T.text self.old)
+            (known_by S.left S.lent_as S.fault_plan L.read_of T.text self.new)) }
+        ensures call { ChangesAt s
+            (Answers (LaneTurn S.left S.lent_as S.fault_plan L.read_of) is_open_lane op result)
+            self.old.lanes.views self.new.lanes.views }
+        ensures parts { self.new.parts ≡ self.old.parts }
+    {
+        let answer = self.hub.call_lane(self.rt, &mut self.hand, s, op);
+        told(answer)
+    }
+
+    fn part(&mut self, p: u32, op: PartOp) -> Result<PartReply, NotPlayed>
+        requires place { p < length self.old.parts.views }
+        requires allowed { MayPlay
+            (known_by S.left S.lent_as S.fault_plan L.read_of T.text self.old) p op }
+        ensures played { IfOk result (λ reply. PartPlays p op reply
+            (known_by S.left S.lent_as S.fault_plan L.read_of T.text self.old)
+            (known_by S.left S.lent_as S.fault_plan L.read_of T.text self.new)) }
+        ensures not_played { IfErr result (λ by. Unplayed by
+            (known_by S.left S.lent_as S.fault_plan L.read_of T.text self.old)
+            (known_by S.left S.lent_as S.fault_plan L.read_of T.text self.new)) }
+        ensures call { ChangesAt p
+            (Answers PartTurn is_open_part op result)
+            self.old.parts.views self.new.parts.views }
+        ensures lanes { self.new.lanes ≡ self.old.lanes }
+    {
+        let answer = self.hub.call_part(self.rt, &mut self.hand, p, op);
+        told(answer)
+    }
+}
