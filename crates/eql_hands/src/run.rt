@@ -20,7 +20,7 @@ const MOST_IDLE: u32 = 100_000;
 const MOST_STEPS: u64 = 1_099_511_627_776;
 
 // So many times the processor is told to rest between two steps at most.
-const MOST_SPINS: u32 = 64;
+const MOST_SPINS: u32 = 16;
 
 // Pauses after so many steps in a row that found nothing to do: longer each time, and then it lets other threads run. So a hand
 // that is idle takes few turns from those at work. It waits for nobody.
