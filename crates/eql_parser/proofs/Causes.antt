@@ -3,17 +3,19 @@ use Rattle.std.proofs.Common.{◌≡◌, ℕ, suc, ◌<◌, ◌≤◌, max, inl,
 use Rattle.eql_lexer.specs.declared.token.Token.{Token}
 use Rattle.eql_parser.specs.QueryTree.{QueryTree}
 use Rattle.eql_parser.specs.Kinds.{Kind, kind, kinds, any_, assign_, bar_, close_item_, folding, matches, name, null_, number, open_, open_item_, where_, with_}
-use Rattle.eql_parser.specs.QueryGrammar.{Reads}
-use Rattle.eql_parser.specs.Limits.{levels, open_behind, FewOpen}
-use Rattle.eql_parser.specs.Refusing.{Begins, NoQueryBegins, IsDeeperThan, Split, IsLeftOut, samples, joins, missing_event, regex, folding_regex, fine_unit, other_pipe, number_with_base, end_of, LeavesOut, IsPlainSyntax, IsLeftOutAt, IsTooDeep}
+use Rattle.eql_parser.specs.QueryGrammar.{Reads, IsQuery}
+use Rattle.eql_parser.specs.Limits.{levels, levels_but, open_behind, FewOpen}
+use Rattle.eql_parser.specs.Refusing.{Begins, BeginsWithin, NoQueryBegins, IsDeeperThan, Split, IsLeftOut, samples, joins, missing_event, regex, folding_regex, fine_unit, other_pipe, number_with_base, end_of, LeavesOut, IsPlainSyntax, IsTooDeep}
 use Rattle.eql_parser.specs.Reading.{Fail, Syntax, LeftOut, TooDeep, TooOpen, Res, expr}
 use Rattle.eql_parser.specs.QueryReading.{query, query_by}
 use Rattle.eql_parser.proofs.Eventually.{Eventually}
-use Rattle.eql_parser.proofs.Complete.{query_all, query_complete}
+use Rattle.eql_parser.proofs.Complete.{query_reached, but_levels, query_all, query_complete}
+use Rattle.eql_parser.proofs.Reaches.{Reaches}
+use Rattle.eql_parser.proofs.New.{above_all, above_new, late_behind}
 use Rattle.eql_parser.proofs.ExprGrows.{Same}
 use Rattle.eql_parser.proofs.Grows.{query_grows}
 use Rattle.eql_parser.proofs.Told.{Because, Told}
-use Rattle.eql_parser.proofs.Agrees.{Refuses, which}
+use Rattle.eql_parser.proofs.Agrees.{Refuses, Passes, DeepBefore, deep_passes, which}
 use Rattle.eql_parser.proofs.Local.{query_stops}
 use Rattle.eql_parser.proofs.Meeting.{Instead, for_regex, for_folding_regex, for_missing, for_unit, for_pipe, for_number}
 use Rattle.eql_parser.proofs.MeetingQuery.{stops_there}
@@ -21,6 +23,7 @@ use Rattle.eql_parser.specs.declared.expr.PatOp.TheVariants.{Colon}
 use Rattle.eql_parser.proofs.Opened.{told_of, opened, few_upto}
 use Rattle.eql_parser.proofs.Starts.{place_of, first_of, Follows}
 use Rattle.eql_parser.proofs.StartsQuery.{begun}
+use Rattle.eql_parser.proofs.EndingQuery.{ended}
 
 -- a refusal that stays with more parentheses and levels allowed
 abbrev Stays : Fail → Type 0
@@ -49,6 +52,9 @@ none_read ts e s h q read =
 refuses_none : (r : Res QueryTree) (q : QueryTree) → r ≡ Ok (q, []) → Refuses r → ⊥
 refuses_none r q h k = subst Refuses h k
 
+passes_none : (r : Res QueryTree) (q : QueryTree) → r ≡ Ok (q, []) → Passes r → ⊥
+passes_none r q h k = subst Passes h k
+
 -- no query begins with the tokens through the one at which Syntax comes: m through it, and x behind it
 pub none_begins : (m x : List Kind) (n : ℕ) → query (m ++ x) ≡ Err (Syntax n) → length x < n → NoQueryBegins m
 none_begins m x n h i y q read =
@@ -57,7 +63,7 @@ none_begins m x n h i y q read =
     let d : ℕ = max 128 all.0 in
     let here : query_by (expr 128 l) (m ++ x) ≡ Err (Syntax n) =
     stays_refused (query (m ++ x)) (query_by (expr 128 l) (m ++ x)) (Syntax n) tt h (query_grows 128 128 64 l (m ++ x) (omega arith) (omega arith)) in
-    refuses_none (query_by (expr d l) (m ++ y)) q (all.1 d (omega arith)) (query_stops x y 128 d l m (Syntax n) (omega arith) here i)
+    refuses_none (query_by (expr d l) (m ++ y)) q (all.1 d (omega arith)) (query_stops ⊥ x y 128 d l m (Syntax n) (omega arith, λ e. absurd e) here i)
 
 same_fail : (r : Res QueryTree) (e f : Fail) → r ≡ Err e → r ≡ Err f → e ≡ f
 same_fail r e f h k = let both : ◌≡◌ {A = Res QueryTree} (Err e) (Err f) = sym h ∙ k in cc
@@ -90,6 +96,15 @@ left_out_stops before _ w _ (other_pipe {ts = ts} front cut f) b =
 left_out_stops before _ _ _ (number_with_base {w = w} call rest e args) b =
     instead_stops _ _ _ (for_number {w = w} call b.rest rest e args) before b.query (subst (λ l. Reads l b.query) (append_assoc before (folding w ∷ open_ ∷ call) b.rest) b.reads)
 
+-- tokens at which it stops are no query
+pub stops_none : (ts : List Kind) (e : Fail) → StopsAt ts e → (q : QueryTree) → Reads ts q → ⊥
+stops_none ts e s q read =
+    let l : ℕ = max s.0 (levels q) in
+    let far = s.1 l (omega arith) in
+    let all = query_all l ts q read (omega arith) in
+    let d : ℕ = max far.0 all.0 in
+    two_answers (query_by (expr d l) ts) q e (all.1 d (omega arith)) (far.1 d (omega arith))
+
 -- what stops at a left-out form comes to no Syntax
 no_syntax : (ts : List Kind) (w : List ℕ) (n m : ℕ) → StopsAt ts (LeftOut w n) → query ts ≡ Err (Syntax m) → ⊥
 no_syntax ts w n m s h =
@@ -111,15 +126,23 @@ one_left_out ts w v n m s r =
     let both : LeftOut w n ≡ LeftOut v m = same_fail (query_by (expr d l) ts) (LeftOut w n) (LeftOut v m) (one.1 d (omega arith)) (other.1 d (omega arith)) in
     (cc, cc)
 
--- each query that begins with the tokens through the one at which TooDeep comes has more levels than are allowed
+deep_at : (y : List Kind) (r : Res QueryTree) (n : ℕ) → r ≡ Err (TooDeep n) → DeepBefore y r → length y < n
+deep_at y r n e h = subst (DeepBefore y) e h
+
+-- where a level too many begins in m, no query is answered that begins with it, and none is refused behind it
+not_reached : (m x y : List Kind) (n : ℕ) (q : QueryTree) → query (m ++ x) ≡ Err (TooDeep n) → length x < n → Reaches (length y) (λ d. query_by (expr d 64) (m ++ y)) (q, []) → ⊥
+not_reached m x y n q h i (inl all) =
+    let d : ℕ = max 128 all.0 in
+    passes_none (query_by (expr d 64) (m ++ y)) q (all.1 d (omega arith))
+    (deep_passes y (query_by (expr d 64) (m ++ y)) (query_stops ⊥ x y 128 d 64 m (TooDeep n) (omega arith, λ e. absurd e) h i))
+not_reached m x y n q h i (inr (j, less, all)) =
+    let d : ℕ = max 128 all.0 in
+    let deep = deep_at y (query_by (expr d 64) (m ++ y)) (suc j) (all.1 d (omega arith)) (query_stops ⊥ x y 128 d 64 m (TooDeep n) (omega arith, λ e. absurd e) h i) in
+    omega (arith, less, deep)
+
+-- the tokens through the one at which TooDeep comes begin more levels than are allowed
 pub deeper : (m x : List Kind) (n : ℕ) → query (m ++ x) ≡ Err (TooDeep n) → length x < n → IsDeeperThan 64 m
-deeper m x n h i y q read = ⊎_elim (λ more. more) (λ few. absurd (not_read few)) (which 64 (levels q))
-  where
-    not_read : levels q ≤ 64 → ⊥
-    not_read few =
-        let all = query_complete (m ++ y) q read few in
-        let d : ℕ = max 128 all.0 in
-        refuses_none (query_by (expr d 64) (m ++ y)) q (all.1 d (omega arith)) (query_stops x y 128 d 64 m (TooDeep n) (omega arith) h i)
+deeper m x n h i hole new y q read = ⊎_elim (λ more. more) (λ few. absurd (not_reached m x y n q h i (query_reached hole (length y) 64 (m ++ y) q read (late_behind hole m y new) few))) (which 64 (levels_but hole q))
 
 -- what a query says of the answer of the first run
 answers_it : (ts : List Kind) (q : QueryTree) (r s : Res QueryTree) → query ts ≡ r → s ≡ Ok (q, []) → Same r s → Reads ts q → levels q ≤ 64
@@ -130,8 +153,8 @@ answers_it ts q (Err (LeftOut w n)) s e f i read few calm = absurd (two_answers 
 answers_it ts q (Err (TooDeep n)) s e f i read few calm =
     let place = subst (λ s. Told 128 ts s) e (told_of ts) in
     let whole : Reads (ts ++ []) q = subst (λ l. Reads l q) (sym (append-nil ts)) read in
-    let deep = deeper ts [] n (ap query (append-nil ts) ∙ e) (omega (arith, place.0)) [] q whole in
-    absurd (omega (arith, few, deep))
+    let deep = deeper ts [] n (ap query (append-nil ts) ∙ e) (omega (arith, place.0)) (above_all ts) (above_new ts) [] q whole in
+    absurd (omega (arith, few, deep, but_levels (above_all ts) q))
 answers_it ts q (Err (TooOpen n)) s e f i read few calm =
     let place = opened ts n e in
     let cut : ts ≡ (place.0 ++ open_ ∷ []) ++ place.1 = place.2 ∙ sym (append_assoc place.0 (open_ ∷ []) place.1) in
@@ -182,12 +205,8 @@ is_inside ts (TooOpen n) h = omega (arith, h.3)
 pub place_inside : (tokens : List Token) (e : Fail) → query (kinds tokens) ≡ Err e → IsInside e
 place_inside tokens e h = is_inside (kinds tokens) e (subst (λ r. Told 128 (kinds tokens) r) h (told_of (kinds tokens)))
 
--- what begins with more tokens begins with fewer
-begins_front : (front others : List Kind) → Begins (front ++ others) → Begins front
-begins_front front others b = record { rest = others ++ b.rest; query = b.query; reads = subst (λ l. Reads l b.query) (append_assoc front others b.rest) b.reads }
-
 -- two ways to cut a list at one place
-same_cut : (a b c d : List Kind) → a ++ c ≡ b ++ d → length c ≡ length d → (a ≡ b) × (c ≡ d)
+pub same_cut : (a b c d : List Kind) → a ++ c ≡ b ++ d → length c ≡ length d → (a ≡ b) × (c ≡ d)
 same_cut [] [] c d e l = (refl, e)
 same_cut [] (y ∷ b) c d e l = absurd (omega (arith, ap length e, l, length-append b d))
 same_cut (x ∷ a) [] c d e l = absurd (omega (arith, ap length e, l, length-append a c))
@@ -222,6 +241,12 @@ module _ (tokens before behind : List Token) (here : Token) (whole : tokens ≡ 
         subst (λ f. Follows [] e (kinds before) f b.follows) same.1 (subst (λ m. Follows [] e m b.behind b.follows) same.0 b.why),
       )
 
+  within_before : (e : Fail) → place_of e ≡ suc (length behind) → query (kinds tokens) ≡ Err e → BeginsWithin 64 (kinds before)
+  within_before e p h =
+      let b = ended (kinds tokens) e h in
+      let same = same_cut b.front (kinds before) b.behind (kinds (here ∷ behind)) (sym b.cut ∙ kinds_cut) (b.count ∙ p ∙ ap suc (sym (kinds_length behind))) in
+      subst (BeginsWithin 64) same.0 b.begins
+
   few_before : (e : Fail) → place_of e ≡ suc (length behind) → query (kinds tokens) ≡ Err e → FewOpen 128 (kinds before)
   few_before e p h =
       let u = few_upto (kinds tokens) e h in
@@ -229,27 +254,29 @@ module _ (tokens before behind : List Token) (here : Token) (whole : tokens ≡ 
       subst (FewOpen 128) same.0 u.4
 
   pub syntax_cause : query (kinds tokens) ≡ Err (Syntax (suc (length behind))) → IsPlainSyntax tokens here.start
-  syntax_cause h =
-      let on = goes_on_there (Syntax (suc (length behind))) refl h in (
-        inl (
-          the_split,
-          begins_front (kinds before) on.0 on.1,
-          none_begins (kinds before ++ kinds (here ∷ [])) (kinds behind) (suc (length behind)) (there (Syntax (suc (length behind))) h) (omega (arith, kinds_length behind)),
-          few_before (Syntax (suc (length behind))) refl h,
-        ),
-        plain tokens (suc (length behind)) h,
-      )
+  syntax_cause h = (
+    inl (
+      the_split,
+      within_before (Syntax (suc (length behind))) refl h,
+      none_begins (kinds before ++ kinds (here ∷ [])) (kinds behind) (suc (length behind)) (there (Syntax (suc (length behind))) h) (omega (arith, kinds_length behind)),
+      few_before (Syntax (suc (length behind))) refl h,
+    ),
+    plain tokens (suc (length behind)) h,
+  )
 
-  pub left_out_cause : (w : List ℕ) → query (kinds tokens) ≡ Err (LeftOut w (suc (length behind))) → IsLeftOutAt tokens w here.start
+  pub left_out_cause : (w : List ℕ) → query (kinds tokens) ≡ Err (LeftOut w (suc (length behind)))
+      → ((s : Split tokens here.start) × LeavesOut s w × BeginsWithin 64 (kinds s.before) × FewOpen 128 (kinds s.before)) × ((query : QueryTree) → IsQuery tokens query → ⊥)
   left_out_cause w h =
       let on = goes_on_there (LeftOut w (suc (length behind))) refl h in
-      ((the_split, (on.0, on.2, on.1), few_before (LeftOut w (suc (length behind))) refl h), none_read (kinds tokens) (LeftOut w (suc (length behind))) tt h)
+      let e : Fail = LeftOut w (suc (length behind)) in
+      ((the_split, (on.0, on.2, on.1), within_before e refl h, few_before e refl h), none_read (kinds tokens) e tt h)
 
   pub too_deep_cause : query (kinds tokens) ≡ Err (TooDeep (suc (length behind))) → IsTooDeep tokens here.start
   too_deep_cause h =
       let on = goes_on_there (TooDeep (suc (length behind))) refl h in (
         the_split,
         subst (λ f. Begins (kinds before ++ f)) on.2 on.1,
+        within_before (TooDeep (suc (length behind))) refl h,
         few_before (TooDeep (suc (length behind))) refl h,
         inr (deeper (kinds before ++ kinds (here ∷ [])) (kinds behind) (suc (length behind)) (there (TooDeep (suc (length behind))) h) (omega (arith, kinds_length behind))),
       )
@@ -262,7 +289,8 @@ module _ (tokens before behind : List Token) (here : Token) (whole : tokens ≡ 
       let heads : open_ ∷ [] ≡ kinds (here ∷ []) = ap first_of same.1 in
       let opens : open_behind 0 (kinds before ++ kinds (here ∷ [])) ≡ 129 =
       subst (λ f. open_behind 0 (kinds before ++ f) ≡ 129) heads (subst (λ b. open_behind 0 (b ++ open_ ∷ []) ≡ 129) same.0 out.4) in
-      (the_split, subst (λ f. Begins (kinds before ++ f)) on.2 on.1, few_before (TooOpen (suc (length behind))) refl h, inl (omega (arith, opens)))
+      let e : Fail = TooOpen (suc (length behind)) in
+      (the_split, subst (λ f. Begins (kinds before ++ f)) on.2 on.1, within_before e refl h, few_before e refl h, inl (omega (arith, opens)))
 
 no_token : (l : List Kind) → length l ≡ 0 → l ≡ []
 no_token [] h = refl
@@ -271,8 +299,8 @@ no_token (k ∷ l) h = absurd (omega (arith, h))
 -- where the tokens end too early
 pub early_cause : (tokens : List Token) → query (kinds tokens) ≡ Err (Syntax 0) → IsPlainSyntax tokens (end_of tokens)
 early_cause tokens h =
-    let b = begun (kinds tokens) (Syntax 0) h in
+    let b = ended (kinds tokens) (Syntax 0) h in
     let u = few_upto (kinds tokens) (Syntax 0) h in
     let all : u.0 ≡ kinds tokens = sym (u.2 ∙ ap (λ l. u.0 ++ l) (no_token u.1 u.3) ∙ append-nil u.0) in
     let whole : b.front ≡ kinds tokens = sym (b.cut ∙ ap (λ l. b.front ++ l) (no_token b.behind b.count) ∙ append-nil b.front) in
-    (inr (refl, subst Begins whole (begins_front b.front b.follows b.begins), none_read (kinds tokens) (Syntax 0) tt h, subst (FewOpen 128) all u.4), plain tokens 0 h)
+    (inr (refl, subst (BeginsWithin 64) whole b.begins, none_read (kinds tokens) (Syntax 0) tt h, subst (FewOpen 128) all u.4), plain tokens 0 h)

@@ -1,13 +1,11 @@
 -- What a run comes to, from some number of parentheses on.
-use Rattle.std.proofs.Common.{◌≡◌, ℕ, zero, suc, ◌-◌, ◌<◌, ◌≤◌, max, Bool, true, false, if◌then◌else◌, nat_lt, List, [], ◌∷◌, length, Option, None, Some, Ok, Err, refl, sym, ap, ◌∙◌, le_refl, lt-ltb, arith}
+use Rattle.std.proofs.Common.{◌≡◌, ℕ, zero, suc, ◌<◌, ◌≤◌, max, Bool, true, false, if◌then◌else◌, nat_lt, List, [], ◌∷◌, length, Option, None, Ok, refl, ap, ◌∙◌, le_refl, lt-ltb, arith}
 use Rattle.eql_parser.specs.declared.expr.MathOp.{MathOp}
-use Rattle.eql_parser.specs.Tree.{Tree, Trees, more}
-use Rattle.eql_parser.specs.Tree as t
-use Rattle.eql_parser.specs.View.{trees_of}
+use Rattle.eql_parser.specs.Tree.{Tree, Trees}
 use Rattle.eql_parser.specs.Kinds.{Kind, comma_}
 use Rattle.eql_parser.specs.Grammar.{IsListed, last_one, next_one}
 use Rattle.eql_parser.specs.Limits.{depth}
-use Rattle.eql_parser.specs.Reading.{Fail, Res, then_do, res_map, is_comma, more_of, separated, listed, at_level, above, chain_on, chain_from, joined}
+use Rattle.eql_parser.specs.Reading.{Res, then_do, res_map, is_comma, more_of, separated, listed, at_level, above, chain_on, chain_from, joined}
 use Rattle.eql_parser.proofs.Rows.{Row, last_of, next_of}
 
 -- the value from some number on
@@ -30,10 +28,6 @@ eventually_then f g a us y h k = (max h.0 k.0, λ d l. ap (λ r. then_do r (g d)
 pub eventually_map : {A B : Type 0} (f : ℕ → Res A) (g : A → B) (a : A) (us : List Kind) → Eventually f (Ok (a, us)) → Eventually (λ d. res_map g (f d)) (Ok (g a, us))
 eventually_map f g a us h = (h.0, λ d l. ap (res_map g) (h.1 d l))
 
--- a run that is refused at each number comes to nothing
-pub never : {A B : Type 0} (f : ℕ → Res A) (e : Fail) (x : A × List Kind) → ((d : ℕ) → f d ≡ Err e) → Eventually f (Ok x) → B
-never f e x h k = let two : ◌≡◌ {A = Res _} (Err e) (Ok x) = sym (h k.0) ∙ k.1 k.0 (le_refl k.0) in absurd cc
-
 pub if_true : {A : Type 0} (b : Bool) (x y : A) → b ≡ true → (if b then x else y) ≡ x
 if_true true x y h = refl
 if_true false x y h = absurd cc
@@ -54,7 +48,7 @@ abbrev pub Ends : (Kind → Bool) → List Kind → Type 0
 Ends is_between [] = Unit {0}
 Ends is_between (k ∷ ts) = is_between k ≡ false
 
-more_ends : {A : Type 0} (is_between : Kind → Bool) (again : List Kind → Res (List A)) (x : A) (rest : List Kind) → Ends is_between rest → more_of is_between again x rest ≡ Ok (x ∷ [], rest)
+pub more_ends : {A : Type 0} (is_between : Kind → Bool) (again : List Kind → Res (List A)) (x : A) (rest : List Kind) → Ends is_between rest → more_of is_between again x rest ≡ Ok (x ∷ [], rest)
 more_ends is_between again x [] h = refl
 more_ends is_between again x (k ∷ us) h = if_false (is_between k) (res_map (λ xs. x ∷ xs) (again us)) (Ok (x ∷ [], k ∷ us)) h
 
@@ -101,29 +95,7 @@ chain_ends operator read l zero a rest s = refl
 chain_ends operator read l (suc n) a [] s = refl
 chain_ends operator read l (suc n) a (k ∷ us) s = ap (λ o. chain_on read l (chain_from operator read l n) a o k us) s
 
--- an operator and its right side are one turn of the loop
-pub one_more_turn : (operator : Kind → Option MathOp) (read : ℕ → ℕ → List Kind → Res Tree) (l n : ℕ) (us : List Kind) (k : Kind) (o : MathOp) (a b : Tree) (rest : List Kind) (y : Res Tree)
-    → operator k ≡ Some o → depth a < l → Eventually (λ d. read d (l - 1) us) (Ok (b, rest)) → length (k ∷ us) ≤ n
-    → ((m : ℕ) → n ≡ suc m → Eventually (λ d. chain_from operator (read d) l m (t.math o a b) rest) y) → Eventually (λ d. chain_from operator (read d) l n a (k ∷ us)) y
-unfolding chain_from
-one_more_turn operator read l zero us k o a b rest y e i h s more_turns = absurd (omega (arith, s))
-one_more_turn operator read l (suc n) us k o a b rest y e i h s more_turns =
-    eventually_same (λ d. then_do (read d (l - 1) us) (λ c vs. chain_from operator (read d) l n (t.math o a c) vs)) (λ d. chain_from operator (read d) l (suc n) a (k ∷ us)) y
-    (λ d. ap (λ p. chain_on (read d) l (chain_from operator (read d) l n) a p k us) e
-    ∙ above_ok l a (suc (length us)) (then_do (read d (l - 1) us) (λ c vs. chain_from operator (read d) l n (t.math o a c) vs)) i)
-    (eventually_then (λ d. read d (l - 1) us) (λ d c vs. chain_from operator (read d) l n (t.math o a c) vs) b rest y h (more_turns n refl))
-
 pub joined_one : (is_between : Kind → Bool) (node : Trees → Tree) (read : ℕ → List Kind → Res Tree) (l : ℕ) (e : Tree) (rest : List Kind) → Ends is_between rest
     → joined is_between node read l e rest ≡ Ok (e, rest)
 joined_one is_between node read l e [] h = refl
 joined_one is_between node read l e (k ∷ us) h = if_false (is_between k) _ (Ok (e, k ∷ us)) h
-
-pub joined_several : (is_between : Kind → Bool) (node : Trees → Tree) (read : ℕ → ℕ → List Kind → Res Tree) (l : ℕ) (e : Tree) (k : Kind) (us : List Kind) (es : List Tree) (rest : List Kind)
-    → is_between k ≡ true → depth e < l → Eventually (λ d. separated is_between (read d (l - 1)) (length us) us) (Ok (es, rest))
-    → Eventually (λ d. joined is_between node (read d) l e (k ∷ us)) (Ok (node (more e (trees_of es)), rest))
-joined_several is_between node read l e k us es rest b i h =
-    let make : List Tree → Tree = λ xs. node (more e (trees_of xs)) in
-    eventually_same (λ d. res_map make (separated is_between (read d (l - 1)) (length us) us)) (λ d. joined is_between node (read d) l e (k ∷ us)) (Ok (node (more e (trees_of es)), rest))
-    (λ d. if_true (is_between k) (above l e (suc (length us)) (res_map make (separated is_between (read d (l - 1)) (length us) us))) (Ok (e, k ∷ us)) b
-    ∙ above_ok l e (suc (length us)) (res_map make (separated is_between (read d (l - 1)) (length us) us)) i)
-    (eventually_map (λ d. separated is_between (read d (l - 1)) (length us) us) make es rest h)

@@ -160,7 +160,7 @@ module _ (room room' : Bool) (inner inner' : ℕ → List Kind → Res Tree) (h 
   prim_grows l m (back w ∷ us) i = leaf_grows l m (suc (length us)) (res_map field_tree (named false (back w ∷ us))) i
   prim_grows l m (question_ ∷ us) i = leaf_grows l m (suc (length us)) (res_map field_tree (named true us)) i
   prim_grows l m (folding w ∷ open_ ∷ us) i = folding_grows l m w us i
-  prim_grows l m (folding w ∷ us) i = refl
+  prim_grows l m (folding w ∷ us) i = leaf_grows l m (suc (length us)) (Err (Syntax (length us))) i
   prim_grows l m (open_ ∷ us) i =
       enter_grows us (then_do (inner l us) closing) (then_do (inner' m us) closing) (λ b. same_then (inner l us) (inner' m us) closing closing ((h b).1 l m us i) (λ e vs. same (closing e vs)))
   prim_grows l m [] i = refl

@@ -260,7 +260,7 @@ module _ (room : Bool) (inner : ℕ → List Kind → Res Tree) (good : (l : ℕ
   prim_good l (back w ∷ ts) = named_prim l false (back w ∷ ts)
   prim_good l (question_ ∷ ts) = named_prim l true ts
   prim_good l (folding w ∷ open_ ∷ ts) = folding_good l w ts
-  prim_good l (folding w ∷ ts) = tt
+  prim_good l (folding w ∷ ts) = gives_at_level (Within IsPrim l (folding w ∷ ts)) l (suc (length ts)) (Err (Syntax (length ts))) (λ d. tt)
   prim_good l (open_ ∷ ts) = inside_good l ts
   prim_good l ts = tt
 

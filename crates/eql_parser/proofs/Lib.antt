@@ -14,6 +14,9 @@ pub mod ExprSound
 pub mod Starts
 pub mod StartsExpr
 pub mod StartsQuery
+pub mod Ending
+pub mod EndingExpr
+pub mod EndingQuery
 pub mod Sound
 pub mod Opens
 pub mod Told
@@ -28,12 +31,16 @@ pub mod Local
 pub mod MeetingQuery
 pub mod Eventually
 pub mod Shorter
+pub mod New
+pub mod Kept
+pub mod Reaches
 pub mod ExprComplete
 pub mod Complete
 pub mod ExprGrows
 pub mod Grows
 pub mod Opened
 pub mod Causes
+pub mod Unpassed
 pub mod Refusals
 mod OneRefusal
 pub mod RefusalExamples

@@ -71,9 +71,9 @@ one_before k (j ∷ i ∷ m) c h = absurd (omega (arith, ap length h, length-app
 listed_again : (d d' l : ℕ) → d ≤ d' → (call c u : List Kind) (a b : Tree) → AreTwo call a b → (p : List Tree × List Kind) → arguments true (expr d) l (call ++ c) ≡ Ok p
     → listed (expr d' l) (call ++ u) ≡ Ok (p.0, close_ ∷ u)
 listed_again d d' l le call c u a b args p h =
-    let agrees : Agree c u (Ok (p.0, close_ ∷ c)) (listed (expr d' l) (call ++ u)) =
-    subst (λ s. Agree c u s (listed (expr d' l) (call ++ u))) (two_listed d l call c a b args p h)
-    (agree_listed c u d (expr d l) (expr d' l) (expr_told d l) (λ m. expr_agrees c u d d' l m le) call) in
+    let agrees : Agree ⊥ c u (Ok (p.0, close_ ∷ c)) (listed (expr d' l) (call ++ u)) =
+    subst (λ s. Agree ⊥ c u s (listed (expr d' l) (call ++ u))) (two_listed d l call c a b args p h)
+    (agree_listed ⊥ c u d (expr d l) (expr d' l) (expr_told d l) (λ m. expr_agrees ⊥ c u d d' l m (le, λ e. absurd e)) call) in
     let at = agrees (omega arith) in
     at.2 ∙ ap (λ m. Ok (p.0, m ++ u)) (one_before close_ at.0 c at.1)
 

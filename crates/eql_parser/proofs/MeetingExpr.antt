@@ -32,12 +32,18 @@ at_members room room' inner inner' _ _ _ (for_pipe h) = tt
 at_members room room' inner inner' _ _ _ (for_number call c b h args) = tt
 
 at_folding : (room room' : Bool) (inner inner' : ℕ → List Kind → Res Tree) (l : ℕ) (w : List ℕ) (x y : List Kind) (e : Fail) → Instead x y e → Met x y e (r.prim room inner l (folding w ∷ x)) (r.prim room' inner' l (folding w ∷ y))
-at_folding room room' inner inner' l w _ _ _ for_regex = tt
-at_folding room room' inner inner' l w _ _ _ for_folding_regex = tt
-at_folding room room' inner inner' l w _ _ _ for_missing = tt
-at_folding room room' inner inner' l w _ _ _ (for_unit h) = tt
-at_folding room room' inner inner' l w _ _ _ (for_pipe h) = tt
-at_folding room room' inner inner' l w _ _ _ (for_number call c b h args) = tt
+at_folding room room' inner inner' zero w _ _ _ for_regex = tt
+at_folding room room' inner inner' zero w _ _ _ for_folding_regex = tt
+at_folding room room' inner inner' zero w _ _ _ for_missing = tt
+at_folding room room' inner inner' zero w _ _ _ (for_unit h) = tt
+at_folding room room' inner inner' zero w _ _ _ (for_pipe h) = tt
+at_folding room room' inner inner' zero w _ _ _ (for_number call c b h args) = tt
+at_folding room room' inner inner' (suc l) w _ _ _ for_regex = tt
+at_folding room room' inner inner' (suc l) w _ _ _ for_folding_regex = tt
+at_folding room room' inner inner' (suc l) w _ _ _ for_missing = tt
+at_folding room room' inner inner' (suc l) w _ _ _ (for_unit h) = tt
+at_folding room room' inner inner' (suc l) w _ _ _ (for_pipe h) = tt
+at_folding room room' inner inner' (suc l) w _ _ _ (for_number call c b h args) = tt
 
 unary_none : (room : Bool) (inner : ℕ → List Kind → Res Tree) (l : ℕ) (x y : List Kind) (e : Fail) → Instead x y e → (r.unary room inner l x ≡ r.prim room inner l x) × (r.unary room inner l y ≡ r.prim room inner l y)
 unfolding r.unary
@@ -187,7 +193,8 @@ module _ (x y : List Kind) (e : Fail) (st : Instead x y e) (d d' : ℕ) (inner i
   met_prim l (question_ ∷ m) = met_field_prim l true (suc (length (m ++ x))) (suc (length (m ++ y))) m
   met_prim l (folding w ∷ []) = at_folding (room_for d) (room_for d') inner inner' l w x y e st
   met_prim l (folding w ∷ open_ ∷ m) = met_folding_call l w m
-  met_prim l (folding w ∷ k ∷ m) = tt
+  met_prim l (folding w ∷ k ∷ m) =
+      met_at_level x y e st {A = Tree} l (suc (suc (length (m ++ x)))) (suc (suc (length (m ++ y)))) (Err (Syntax (suc (length (m ++ x))))) (Err (Syntax (suc (length (m ++ y))))) tt
   met_prim l (open_ ∷ m) = met_inside l m
   met_prim l (_ ∷ m) = tt
 

@@ -310,9 +310,9 @@ module _ (x y : List Kind) (e : Fail) (st : Instead x y e) where
   met_pipes zero n' (k' ∷ m) k l = absurd (omega (arith, k))
   met_pipes (suc n) zero (k' ∷ m) k l = absurd (omega (arith, l))
   met_pipes (suc n) (suc n') (bar_ ∷ m) k l =
-      met_then x y e st (length (m ++ x)) (q.pipe (m ++ x)) (q.pipe (m ++ y)) (λ p us. res_map (λ ps. p ∷ ps) (q.pipes n us)) (λ p us. res_map (λ ps. p ∷ ps) (q.pipes n' us)) (short_pipe [] [] (m ++ x)) (met_pipe m)
+      met_then x y e st (length (m ++ x)) (q.pipe (m ++ x)) (q.pipe (m ++ y)) (λ p us. res_map (λ ps. p ∷ ps) (q.pipes n us)) (λ p us. res_map (λ ps. p ∷ ps) (q.pipes n' us)) (short_pipe ⊥ [] [] (m ++ x)) (met_pipe m)
       (λ p r b. met_map x y e st (λ ps. p ∷ ps) (q.pipes n (r ++ x)) (q.pipes n' (r ++ y)) (met_pipes n n' r (omega (arith, b, k)) (longer x y m r n' b (omega (arith, l)))))
-      (λ p us. short_map (length us) (λ ps. p ∷ ps) (q.pipes n us) (short_pipes [] [] n us))
+      (λ p us. short_map (length us) (λ ps. p ∷ ps) (q.pipes n us) (short_pipes ⊥ [] [] n us))
   met_pipes (suc n) (suc n') (k' ∷ m) k l = tt
 
   met_behind_body : (b : BodyTree) (m : List Kind) → Met x y e (behind_body b (m ++ x)) (behind_body b (m ++ y))
@@ -432,7 +432,7 @@ module _ (x y : List Kind) (e : Fail) (st : Instead x y e) (d d' l : ℕ) (le : 
   meets_items_more n n' i (k ∷ m) h = inl (k ∷ m, refl, refl)
 
   item_left : (k : Kind) (us : List Kind) → Left (length us) (q.item (expr d l) (k ∷ us))
-  item_left k us = left_item [] [] d (expr d l) (expr d l) (expr_told d l) (λ p. expr_agrees [] [] d d l p (omega arith)) k us
+  item_left k us = left_item ⊥ [] [] d (expr d l) (expr d l) (expr_told d l) (λ p. expr_agrees ⊥ [] [] d d l p (omega arith, λ e. absurd e)) k us
 
   meets_items : (n n' : ℕ) (m : List Kind) → length (m ++ x) ≤ n → length (m ++ y) ≤ n' → Meets x y e (q.items (expr d l) n (m ++ x)) (q.items (expr d' l) n' (m ++ y))
   unfolding q.items

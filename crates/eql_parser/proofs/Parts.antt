@@ -45,7 +45,7 @@ name_alone d l w [] h = refl
 name_alone d l w (open_ ∷ us) h = absurd (h refl)
 name_alone d l w (_ ∷ us) h = refl
 
-pub folding_alone : (d l : ℕ) (w : List ℕ) (us : List Kind) → Lacks m.Open us → prim (room d) (inner d) l (folding w ∷ us) ≡ Err (Syntax (length us))
+folding_alone : (d l : ℕ) (w : List ℕ) (us : List Kind) → Lacks m.Open us → prim (room d) (inner d) l (folding w ∷ us) ≡ at_level l (suc (length us)) (Err (Syntax (length us)))
 folding_alone d l w [] h = refl
 folding_alone d l w (open_ ∷ us) h = absurd (h refl)
 folding_alone d l w (_ ∷ us) h = refl
@@ -64,6 +64,12 @@ folding_by_itself ts w us e h = lacks_open us (subst NoCall e h)
     lacks_open : (us : List Kind) → (⊥ ⊎ Lacks m.Open us) → Lacks m.Open us
     lacks_open us (inl h) = absurd h
     lacks_open us (inr h) = h
+
+pub folding_prim : (d l : ℕ) (ts : List Token) (w : List ℕ) (rest : List Token) → kinds ts ≡ folding w ∷ kinds rest → Lacks m.Open (kinds rest)
+    → at_level {A = Tree} l (length ts) (Err (Syntax (length rest))) ≡ prim (room d) (inner d) l (kinds ts)
+folding_prim d l ts w rest e h =
+    ap (λ n. at_level {A = Tree} l (length ts) (Err (Syntax n))) (sym (length_kinds rest))
+    ∙ at_place (prim (room d) (inner d) l) (λ n. at_level l n (Err (Syntax (length (kinds rest))))) ts (folding w) (kinds rest) e (folding_alone d l w (kinds rest) h)
 
 -- constants
 pub constant_prim : (d l : ℕ) (k : Kind) (us : List Kind) (e : Tree) → Some e ≡ constant_tree k → prim (room d) (inner d) l (k ∷ us) ≡ at_level l (suc (length us)) (Ok (e, us))

@@ -13,6 +13,9 @@ use Rattle.eql_parser.specs.Places.{start_or, place, Cause}
 use Rattle.eql_parser.specs.Reading.{Fail, Syntax, LeftOut, TooDeep, TooOpen}
 use Rattle.eql_parser.specs.QueryReading.{query}
 use Rattle.eql_parser.proofs.Agrees.{which}
+use Rattle.eql_parser.proofs.New.{above_all, above_new}
+use Rattle.eql_parser.proofs.Complete.{but_levels}
+use Rattle.eql_parser.proofs.Unpassed.{unpassed}
 use Rattle.eql_parser.proofs.Causes.{kinds_both, place_within, place_inside, syntax_cause, left_out_cause, too_deep_cause, too_open_cause, early_cause}
 
 -- the token from which on so many are left
@@ -54,7 +57,7 @@ cause tokens (Syntax (suc n)) h =
 cause tokens (LeftOut w n) h =
     let c = counted tokens n (place_inside tokens (LeftOut w n) h) (place_within tokens (LeftOut w n) h) in
     subst (IsLeftOutAt tokens w) (sym (place_counted tokens n c))
-    (left_out_cause tokens c.before c.behind c.here c.whole w (subst (λ k. query (kinds tokens) ≡ Err (LeftOut w k)) c.count h))
+    (let found = left_out_cause tokens c.before c.behind c.here c.whole w (subst (λ k. query (kinds tokens) ≡ Err (LeftOut w k)) c.count h) in (found.0, found.1, unpassed tokens w n h))
 cause tokens (TooDeep n) h =
     let c = counted tokens n (place_inside tokens (TooDeep n) h) (place_within tokens (TooDeep n) h) in
     subst (IsTooDeep tokens) (sym (place_counted tokens n c))
@@ -73,8 +76,10 @@ not_syntax tokens at q read (inl (s, b, none, few), other) = none (kinds s.behin
 not_syntax tokens at q read (inr (e, b, none, few), other) = none q read
 
 not_too_deep : (tokens : List Token) (at : ℕ) (q : QueryTree) → IsQuery tokens q → levels q ≤ 64 → OpensAtMost 128 tokens → IsTooDeep tokens at → ⊥
-not_too_deep tokens at q read few calm (s, b, below, inl over) = omega (arith, over, calm (through s) (kinds s.behind) (split_through s))
-not_too_deep tokens at q read few calm (s, b, below, inr deep) = omega (arith, few, deep (kinds s.behind) q (subst (λ l. Reads l q) (split_through s) read))
+not_too_deep tokens at q read few calm (s, b, within, below, inl over) = omega (arith, over, calm (through s) (kinds s.behind) (split_through s))
+not_too_deep tokens at q read few calm (s, b, within, below, inr deep) =
+    let hole : ℕ = above_all (through s) in
+    omega (arith, few, but_levels hole q, deep hole (above_new (through s)) (kinds s.behind) q (subst (λ l. Reads l q) (split_through s) read))
 
 -- For a query within the limits nothing but want of memory has a cause.
 pub memory_alone : (tokens : List Token) (q : QueryTree) (refusal : ParseRefused) → IsQuery tokens q → levels q ≤ 64 → OpensAtMost 128 tokens → Refused tokens refusal → IsMemory refusal

@@ -4,7 +4,7 @@ use Rattle.eql_parser.specs.Tree.{Tree}
 use Rattle.eql_parser.specs.View.{trees_of}
 use Rattle.eql_parser.specs.Kinds.{Kind, and_, or_, comma_}
 use Rattle.eql_parser.specs.Grammar.{IsListed, last_one, next_one, Joint, between, IsOperands, last, next, IsOperand}
-use Rattle.eql_parser.specs.Limits.{depth, deepest}
+use Rattle.eql_parser.specs.Limits.{depth, deepest, depth_but}
 use Rattle.eql_parser.specs.Reading.{is_or, is_and, is_comma}
 
 -- parts of one sort, with something between
@@ -35,6 +35,10 @@ row_listed Is ts _ rest (next_of {us = us} {k = k} {x = x} {xs = xs} t h r) =
 -- a tree of at most so many levels
 abbrev pub Within : (List Kind → Tree → List Kind → Type 0) → ℕ → List Kind → Tree → List Kind → Type 0
 Within Is l ts e rest = Is ts e rest × (depth e ≤ l)
+
+-- and where one number counts as nothing
+abbrev pub WithinBut : ℕ → (List Kind → Tree → List Kind → Type 0) → ℕ → List Kind → Tree → List Kind → Type 0
+WithinBut h Is l ts e rest = Is ts e rest × (depth_but h e ≤ l)
 
 pub row_operands : (j : Joint) (is_between : Kind → Bool) (Is : List Kind → Tree → List Kind → Type 0) (l : ℕ) → ((k : Kind) → is_between k ≡ true → k ≡ between j)
     → ((ts : List Kind) (e : Tree) (rest : List Kind) → Is ts e rest → Within (IsOperand j) l ts e rest)

@@ -28,11 +28,11 @@ literal_short _ _ _ is_text = omega arith
 literal_short _ _ _ is_true = omega arith
 literal_short _ _ _ is_false = omega arith
 
-patterns_short : (ts : List Kind) (ss : List (List ℕ)) (rest : List Kind) → IsPatterns ts ss rest → length rest < length ts
+pub patterns_short : (ts : List Kind) (ss : List (List ℕ)) (rest : List Kind) → IsPatterns ts ss rest → length rest < length ts
 patterns_short _ _ _ one_text = omega arith
 patterns_short _ _ _ (some_texts h) = omega (arith, listed_short IsText text_short _ _ _ h)
 
-members_short : (ts : List Kind) (vs : List Value) (rest : List Kind) → IsMembers ts vs rest → length rest < length ts
+pub members_short : (ts : List Kind) (vs : List Value) (rest : List Kind) → IsMembers ts vs rest → length rest < length ts
 members_short _ _ _ (members h) = omega (arith, listed_short IsLiteral literal_short _ _ _ h)
 
 mutual
@@ -44,7 +44,7 @@ mutual
   conj_short _ _ _ (neg h) = neg_short _ _ _ h
   conj_short _ _ _ (all_of h k) = omega (arith, neg_short _ _ _ h, operands_short _ _ _ _ k)
 
-  operands_short : (j : Joint) (ts : List Kind) (es : Trees) (rest : List Kind) → IsOperands j ts es rest → length rest < length ts
+  pub operands_short : (j : Joint) (ts : List Kind) (es : Trees) (rest : List Kind) → IsOperands j ts es rest → length rest < length ts
   operands_short _ _ _ _ (last h) = operand_short _ _ _ _ h
   operands_short _ _ _ _ (next h k) = omega (arith, operand_short _ _ _ _ h, operands_short _ _ _ _ k)
 
@@ -64,7 +64,7 @@ mutual
   pred_short _ _ _ (is_in h k) = omega (arith, sum_short _ _ _ h, members_short _ _ _ k)
   pred_short _ _ _ (is_not_in h k) = omega (arith, sum_short _ _ _ h, members_short _ _ _ k)
 
-  sum_short : (ts : List Kind) (e : Tree) (rest : List Kind) → IsSum ts e rest → length rest < length ts
+  pub sum_short : (ts : List Kind) (e : Tree) (rest : List Kind) → IsSum ts e rest → length rest < length ts
   sum_short _ _ _ (prod h) = prod_short _ _ _ h
   sum_short _ _ _ (added h k) = omega (arith, sum_short _ _ _ h, prod_short _ _ _ k)
 

@@ -63,7 +63,7 @@ follows_behind before m (TooOpen n) front behind follows h = h
 -- a form behind some tokens, in another form
 module _ {A B : Type 0} (P : List Kind → A → List Kind → Type 0) (Q : List Kind → B → List Kind → Type 0) (m : List Kind) (f : A → B)
     (go : (us : List Kind) (x : A) (rest : List Kind) → P us x rest → Q (m ++ us) (f x) rest) where
-  starts_behind : (front : List Kind) → Starts P front → Starts Q (m ++ front)
+  pub starts_behind : (front : List Kind) → Starts P front → Starts Q (m ++ front)
   starts_behind front s = (f s.0, s.1, λ rest. subst (λ l. Q l (f s.0) rest) (sym (append_assoc m front (s.1 ++ rest))) (go (front ++ (s.1 ++ rest)) s.0 rest (s.2 rest)))
 
   pub stop_behind : (ts : List Kind) (e : Fail) → Stop P ts e → Stop Q (m ++ ts) e
@@ -77,7 +77,7 @@ module _ {A B : Type 0} (P : List Kind → A → List Kind → Type 0) (Q : List
     why = λ before. follows_behind before m e s.front s.behind s.follows (s.why (before ++ m));
   }
 
-  free_behind : (front : List Kind) (x : A) → Free P front x → Free Q (m ++ front) (f x)
+  pub free_behind : (front : List Kind) (x : A) → Free P front x → Free Q (m ++ front) (f x)
   free_behind front x h rest = subst (λ l. Q l (f x) rest) (sym (append_assoc m front rest)) (go (front ++ rest) x rest (h rest))
 
 pub tells_map : {A B : Type 0} (P : List Kind → A → List Kind → Type 0) (Q : List Kind → B → List Kind → Type 0) (ts : List Kind) (f : A → B) (r : Res A)

@@ -27,7 +27,7 @@ row_in j is_between Is only operand ts _ rest (next_of {us = us} {k = k} {x = e}
     next (subst (λ l. IsOperand j ts e (l ∷ us)) (only k b) (operand ts e (k ∷ us) h)) (row_in j is_between Is only operand us es rest i)
 
 -- two rows with a comma between
-row_both : {A : Type 0} (Is : List Kind → A → List Kind → Type 0) (ts us : List Kind) (xs ys : List A) (rest : List Kind) → Row is_comma Is ts xs (comma_ ∷ us) → Row is_comma Is us ys rest
+pub row_both : {A : Type 0} (Is : List Kind → A → List Kind → Type 0) (ts us : List Kind) (xs ys : List A) (rest : List Kind) → Row is_comma Is ts xs (comma_ ∷ us) → Row is_comma Is us ys rest
     → Row is_comma Is ts (xs ++ ys) rest
 row_both Is ts us _ ys rest (last_of h) j = next_of refl h j
 row_both Is ts us _ ys rest (next_of {us = vs} {xs = xs} b h i) j = next_of b h (row_both Is vs us xs ys rest i j)
@@ -64,7 +64,7 @@ tells_named_by o k ts (Some w) e =
     (tells_map (IsDotted w) (λ us f rest. IsNamed o (k ∷ us) f rest) ts (λ n. record { name = n; optional = o }) (dotted (length ts) w ts) (λ us n rest i. key_of o k w n us rest e i)
     (tells_dotted (length ts) w ts))
 
-tells_named : (o : Bool) (ts : List Kind) → Tells (IsNamed o) ts (named o ts)
+pub tells_named : (o : Bool) (ts : List Kind) → Tells (IsNamed o) ts (named o ts)
 tells_named o [] = stop_syntax (IsNamed o) [] [] (a_name o)
 tells_named o (k ∷ ts) = tells_named_by o k ts (first_part k) refl
 
@@ -81,7 +81,7 @@ pub tells_listed : {A : Type 0} (Is : List Kind → A → List Kind → Type 0) 
 tells_listed Is read tells one ts =
     tells_also (Row is_comma Is) (IsListed Is) ts (listed read ts) (λ us xs rest i. row_listed Is us xs rest i) (tells_separated is_comma Is read tells one (length ts) ts)
 
-some_text : Starts IsText []
+pub some_text : Starts IsText []
 some_text = (codes "x", text (codes "x") ∷ [], λ rest. a_text)
 
 tells_text : (ts : List Kind) → Tells IsText ts (text_at ts)
@@ -116,7 +116,7 @@ a_prod = (t.null, null_ ∷ [], λ rest. unary (prim is_null))
 a_sum : Starts IsSum []
 a_sum = (t.null, null_ ∷ [], λ rest. prod (unary (prim is_null)))
 
-null_neg : (rest : List Kind) → IsNeg (null_ ∷ rest) t.null rest
+pub null_neg : (rest : List Kind) → IsNeg (null_ ∷ rest) t.null rest
 null_neg rest = pred (sum (prod (unary (prim is_null))))
 
 a_neg : Starts IsNeg []
@@ -125,7 +125,7 @@ a_neg = (t.null, null_ ∷ [], null_neg)
 a_conj : Starts IsConj []
 a_conj = (t.null, null_ ∷ [], λ rest. neg (null_neg rest))
 
-null_expr : (rest : List Kind) → IsExpr (null_ ∷ rest) t.null rest
+pub null_expr : (rest : List Kind) → IsExpr (null_ ∷ rest) t.null rest
 null_expr rest = conj (neg (null_neg rest))
 
 pub an_expr : Starts IsExpr []
@@ -140,13 +140,13 @@ abbrev AreMore : List Kind → List Tree → List Kind → Type 0
 AreMore ts es rest = IsArguments ts (trees_of es) rest × ((w : List ℕ) → is_left_out_call w (trees_of es) ≡ false)
 
 -- a call with three arguments or more is not left out
-not_left_out : (w : List ℕ) (es : List Tree) → is_left_out_call w (trees_of (es ++ t.null ∷ t.null ∷ t.null ∷ [])) ≡ false
-not_left_out w [] = refl
-not_left_out w (a ∷ []) = refl
-not_left_out w (a ∷ b ∷ []) = refl
-not_left_out w (a ∷ b ∷ c ∷ es) = refl
+pub not_left_out : (w : List ℕ) (es : List Tree) (x y z : Tree) → is_left_out_call w (trees_of (es ++ x ∷ y ∷ z ∷ [])) ≡ false
+not_left_out w [] x y z = refl
+not_left_out w (a ∷ []) x y z = refl
+not_left_out w (a ∷ b ∷ []) x y z = refl
+not_left_out w (a ∷ b ∷ c ∷ es) x y z = refl
 
-row_arguments : (ts : List Kind) (es : List Tree) (rest : List Kind) → Row is_comma IsExpr ts es (close_ ∷ rest) → AreArguments ts es rest
+pub row_arguments : (ts : List Kind) (es : List Tree) (rest : List Kind) → Row is_comma IsExpr ts es (close_ ∷ rest) → AreArguments ts es rest
 row_arguments ts es rest h = some_arguments (row_in by_comma is_comma IsExpr comma_only (λ us e vs i. of_comma i) ts es (close_ ∷ rest) h)
 
 null_rows : (rest : List Kind) → Row is_comma IsExpr (null_ ∷ comma_ ∷ null_ ∷ comma_ ∷ null_ ∷ rest) (t.null ∷ t.null ∷ t.null ∷ []) rest
@@ -160,7 +160,7 @@ complete_arguments es = (
   λ rest ts h. (
     row_arguments ts (es ++ t.null ∷ t.null ∷ t.null ∷ []) rest
         (row_both IsExpr ts (null_ ∷ comma_ ∷ null_ ∷ comma_ ∷ null_ ∷ close_ ∷ rest) es (t.null ∷ t.null ∷ t.null ∷ []) (close_ ∷ rest) h (null_rows (close_ ∷ rest))),
-    λ w. not_left_out w es,
+    λ w. not_left_out w es t.null t.null t.null,
   ),
 )
 
@@ -205,7 +205,7 @@ module _ (room : Bool) (inner : ℕ → List Kind → Res Tree) (tells : (l : �
       tells_closing_of (Row is_comma IsExpr) AreArguments AreMore ts (listed (inner l) ts) (λ us es rest i. row_arguments us es rest i) complete_arguments
       (tells_separated is_comma IsExpr (inner l) (tells l) an_expr (length ts) ts)
 
-  tells_patterns : (ts : List Kind) → Tells IsPatterns ts (r.patterns room inner ts)
+  pub tells_patterns : (ts : List Kind) → Tells IsPatterns ts (r.patterns room inner ts)
   tells_patterns (text s ∷ ts) = tells_one IsPatterns (text s) (s ∷ []) ts (λ rest. one_text)
   tells_patterns (open_ ∷ ts) =
       tells_enter IsPatterns [] ts (then_do (listed text_at ts) closing) (codes "x" ∷ [], text (codes "x") ∷ close_ ∷ [], λ rest. some_texts (last_one a_text))
@@ -216,7 +216,7 @@ module _ (room : Bool) (inner : ℕ → List Kind → Res Tree) (tells : (l : �
   one_member : Starts IsMembers (open_ ∷ [])
   one_member = (value.Bool true ∷ [], true_ ∷ close_ ∷ [], λ rest. members (last_one is_true))
 
-  tells_members : (ts : List Kind) → Tells IsMembers ts (r.members room inner ts)
+  pub tells_members : (ts : List Kind) → Tells IsMembers ts (r.members room inner ts)
   tells_members (open_ ∷ ts) =
       tells_enter IsMembers [] ts (then_do (listed literal ts) closing) one_member
       (tells_token (λ us vs rest. IsMembers (open_ ∷ us) vs rest) IsMembers open_ ts (then_do (listed literal ts) closing) (λ us vs rest i. i)
@@ -259,7 +259,9 @@ module _ (room : Bool) (inner : ℕ → List Kind → Res Tree) (tells : (l : �
       (t.call w true none, open_ ∷ close_ ∷ [], λ rest. is_folding_call no_arguments)
       (tells_enter IsPrim (folding w ∷ []) ts (res_map (λ es. t.call w true (trees_of es)) (r.arguments room inner (l - 1) ts)) (a_folding_call w)
       (tells_folding w ts (r.arguments room inner (l - 1) ts) (tells_arguments (l - 1) ts)))
-  tells_prim l (folding w ∷ ts) = stop_syntax IsPrim (folding w ∷ []) ts (t.call w true none, open_ ∷ close_ ∷ [], λ rest. is_folding_call no_arguments)
+  tells_prim l (folding w ∷ ts) =
+      tells_at_level IsPrim (folding w) ts l (Err (Syntax (length ts))) (t.call w true none, open_ ∷ close_ ∷ [], λ rest. is_folding_call no_arguments)
+      (stop_syntax IsPrim (folding w ∷ []) ts (t.call w true none, open_ ∷ close_ ∷ [], λ rest. is_folding_call no_arguments))
   tells_prim l (open_ ∷ ts) =
       tells_enter IsPrim [] ts (then_do (inner l ts) closing) (t.null, null_ ∷ close_ ∷ [], λ rest. inside (null_expr (close_ ∷ rest)))
       (tells_token (λ us e rest. IsPrim (open_ ∷ us) e rest) IsPrim open_ ts (then_do (inner l ts) closing) (λ us e rest i. i)

@@ -40,7 +40,7 @@ tells_number : (Q : List Kind → ℤ → List Kind → Type 0) → ((n : ℤ) �
 tells_number Q h (number n ∷ ts) = tells_one Q (number n) n ts (h n)
 tells_number Q h ts = stop_syntax Q [] ts (pos 1, number (pos 1) ∷ [], h (pos 1))
 
-tells_keys : (ts : List Kind) → Tells IsBy ts (keys ts)
+pub tells_keys : (ts : List Kind) → Tells IsBy ts (keys ts)
 tells_keys (by_ ∷ ts) = tells_token (IsListed IsKey) IsBy by_ ts (listed field ts) (λ us fs rest i. by_keys i) (tells_listed IsKey field tells_field a_field ts)
 tells_keys ts = tells_here IsBy IsBy [] ts (λ rest. no_keys)
 
@@ -51,7 +51,7 @@ tells_runs_at (name w) us b =
     (tells_number (λ vs n rest. IsRuns (with_ ∷ name w ∷ assign_ ∷ vs) n rest) (λ n rest. some_runs b)) us)
 tells_runs_at _ us b = false_not_true b
 
-tells_runs : (ts : List Kind) → Tells IsRuns ts (runs ts)
+pub tells_runs : (ts : List Kind) → Tells IsRuns ts (runs ts)
 tells_runs (with_ ∷ ts) =
     tells_token (λ us n rest. IsRuns (with_ ∷ us) n rest) IsRuns with_ ts (expected is_runs (expected is_assign number_at) ts) (λ us n rest i. i)
     (tells_expected is_runs (expected is_assign number_at) (λ us n rest. IsRuns (with_ ∷ us) n rest) (pos 1, name (codes "runs") ∷ assign_ ∷ number (pos 1) ∷ [], λ rest. some_runs refl) tells_runs_at ts)
@@ -85,7 +85,7 @@ tells_length : (us : List Kind) → Tells IsLength (assign_ ∷ us) (then_do (nu
 tells_length (number n ∷ us) = tells_unit n us
 tells_length us = stop_syntax IsLength (assign_ ∷ []) us a_length
 
-tells_span : (ts : List Kind) → Tells IsSpan ts (span ts)
+pub tells_span : (ts : List Kind) → Tells IsSpan ts (span ts)
 tells_span (with_ ∷ ts) =
     tells_token (λ us s rest. IsSpan (with_ ∷ us) s rest) IsSpan with_ ts (expected is_maxspan (expected is_assign (λ us. then_do (number_at us) unit_at)) ts) (λ us s rest i. i)
     (tells_expects is_maxspan maxspan_ (expected is_assign (λ us. then_do (number_at us) unit_at)) (λ us s rest. IsSpan (with_ ∷ us) s rest) maxspan_only (a_length.0, assign_ ∷ a_length.1, a_length.2)
@@ -114,10 +114,10 @@ tells_pipe (name w ∷ us) = tells_pipe_named w (pipe_of w) us refl
 tells_pipe us = stop_syntax IsPipe (bar_ ∷ []) us (pipe.Head (pos 1), name (codes "head") ∷ number (pos 1) ∷ [], a_head (pos 1))
 
 -- some pipes, and more behind them
-abbrev ArePipes : List Kind → List PipeText → List Kind → Type 0
+abbrev pub ArePipes : List Kind → List PipeText → List Kind → Type 0
 ArePipes ts ps rest = (qs : List PipeText) → IsPipes rest qs → IsPipes ts (ps ++ qs)
 
-tells_pipes : (n : ℕ) (ts : List Kind) → Tells ArePipes ts (pipes n ts)
+pub tells_pipes : (n : ℕ) (ts : List Kind) → Tells ArePipes ts (pipes n ts)
 unfolding pipes
 tells_pipes zero [] = tells_here ArePipes ArePipes [] [] (λ rest qs h. h)
 tells_pipes zero (k ∷ ts) = stop_syntax ArePipes [] (k ∷ ts) ([], [], λ rest qs h. h)
@@ -128,26 +128,26 @@ tells_pipes (suc n) (bar_ ∷ ts) =
 tells_pipes (suc n) (k ∷ ts) = stop_syntax ArePipes [] (k ∷ ts) ([], [], λ rest qs h. h)
 
 -- a query, and more pipes behind it
-abbrev IsWhole : List Kind → QueryTree → List Kind → Type 0
+abbrev pub IsWhole : List Kind → QueryTree → List Kind → Type 0
 IsWhole ts x rest = (qs : List PipeText) → IsPipes rest qs → Reads ts (record { body = x.body; pipes = x.pipes ++ qs })
 
-null_term : (rest : List Kind) → IsTerm (any_ ∷ where_ ∷ null_ ∷ rest) None t.null rest
+pub null_term : (rest : List Kind) → IsTerm (any_ ∷ where_ ∷ null_ ∷ rest) None t.null rest
 null_term rest = a_term refl (conj (neg (pred (sum (prod (unary (prim is_null)))))))
 
-null_bracketed : (rest : List Kind) → IsBracketed (open_item_ ∷ any_ ∷ where_ ∷ null_ ∷ close_item_ ∷ rest) None t.null [] rest
+pub null_bracketed : (rest : List Kind) → IsBracketed (open_item_ ∷ any_ ∷ where_ ∷ null_ ∷ close_item_ ∷ rest) None t.null [] rest
 null_bracketed rest = bracketed (null_term (close_item_ ∷ rest)) no_keys
 
 -- [any where null]
-abbrev null_tree : TermTree
+abbrev pub null_tree : TermTree
 null_tree = record { category = None; cond = t.null; by = []; runs = pos 1 }
 
-null_item : (rest : List Kind) → IsItem (open_item_ ∷ any_ ∷ where_ ∷ null_ ∷ close_item_ ∷ rest) (null_tree) rest
+pub null_item : (rest : List Kind) → IsItem (open_item_ ∷ any_ ∷ where_ ∷ null_ ∷ close_item_ ∷ rest) (null_tree) rest
 null_item rest = an_item (null_bracketed rest) one_run
 
-abbrev IsConditioned : List Kind → Conditioned → List Kind → Type 0
+abbrev pub IsConditioned : List Kind → Conditioned → List Kind → Type 0
 IsConditioned ts c rest = IsTerm ts c.0 c.1 rest
 
-abbrev IsKeyed : List Kind → Conditioned × List FieldRef → List Kind → Type 0
+abbrev pub IsKeyed : List Kind → Conditioned × List FieldRef → List Kind → Type 0
 IsKeyed ts x rest = IsBracketed ts x.0.0 x.0.1 x.1 rest
 
 a_conditioned : Starts IsConditioned []

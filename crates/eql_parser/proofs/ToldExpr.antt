@@ -60,7 +60,7 @@ module _ (d : ℕ) (inner : ℕ → List Kind → Res Tree) (told : (l : ℕ) (u
   told_prim l (question_ ∷ ts) =
       told_field_prim l true ts (suc (length ts)) (question_ ∷ ts) (omega arith) (upto_here d _) (told_plain d question_ ts (named true ts) tt (told_named d true ts))
   told_prim l (folding w ∷ open_ ∷ ts) = told_folding_call l w ts
-  told_prim l (folding w ∷ ts) = upto_behind d (folding w) ts tt
+  told_prim l (folding w ∷ ts) = told_at_level {A = Tree} d (folding w ∷ ts) l (suc (length ts)) (Err (Syntax (length ts))) (omega arith) (upto_here d _) (upto_behind d (folding w) ts tt)
   told_prim l (open_ ∷ ts) = told_enter d ts (then_do (inner l ts) closing) (λ p. told_closing d ts (inner l ts) p (told l ts))
   told_prim l [] = upto_here d _
   told_prim l (_ ∷ ts) = upto_here d _

@@ -1,5 +1,5 @@
 -- How many levels a query has, and how many parentheses stand open in it.
-use Rattle.std.specs.Prelude.{◌≡◌, ◌++◌, ℕ, suc, ◌-◌, ◌≤◌, max, List, [], ◌∷◌, Option, Some, None}
+use Rattle.std.specs.Prelude.{◌≡◌, ◌++◌, ℕ, suc, ◌-◌, ◌≤◌, ◌==◌, max, pos, negsuc, if◌then◌else◌, List, [], ◌∷◌, Option, Some, None}
 use Rattle.eql_lexer.specs.declared.token.Token.{Token}
 use Rattle.eql_parser.specs.Tree.{Tree, Trees, none, more}
 use Rattle.eql_parser.specs.Tree as t
@@ -43,6 +43,45 @@ body_levels (sequence by span items until) = max (deepest_item items) (until_dep
 -- the levels of the deepest condition
 abbrev pub levels : QueryTree → ℕ
 levels query = body_levels query.body
+
+-- The levels of a tree, in which one number counts as nothing: it stands for what hasn't begun yet.
+abbrev mutual
+  pub depth_but : ℕ → Tree → ℕ
+  depth_but h t.null = 1
+  depth_but h (t.bool b) = 1
+  depth_but h (t.long (pos n)) = if n == h then 0 else 1
+  depth_but h (t.long (negsuc n)) = 1
+  depth_but h (t.str s) = 1
+  depth_but h (t.field n o) = 1
+  depth_but h (t.not e) = suc (depth_but h e)
+  depth_but h (t.and es) = suc (deepest_but h es)
+  depth_but h (t.or es) = suc (deepest_but h es)
+  depth_but h (t.cmp o a b) = suc (max (depth_but h a) (depth_but h b))
+  depth_but h (t.pattern o a ss) = suc (depth_but h a)
+  depth_but h (t.member f n a vs) = suc (depth_but h a)
+  depth_but h (t.neg e) = suc (depth_but h e)
+  depth_but h (t.math o a b) = suc (max (depth_but h a) (depth_but h b))
+  depth_but h (t.call w f es) = suc (deepest_but h es)
+
+  pub deepest_but : ℕ → Trees → ℕ
+  deepest_but h none = 0
+  deepest_but h (more e es) = max (depth_but h e) (deepest_but h es)
+
+abbrev pub deepest_item_but : ℕ → List TermTree → ℕ
+deepest_item_but h [] = 0
+deepest_item_but h (i ∷ is) = max (depth_but h i.cond) (deepest_item_but h is)
+
+abbrev pub until_depth_but : ℕ → Option TermTree → ℕ
+until_depth_but h None = 0
+until_depth_but h (Some i) = depth_but h i.cond
+
+abbrev pub body_levels_but : ℕ → BodyTree → ℕ
+body_levels_but h (event i) = depth_but h i.cond
+body_levels_but h (sequence by span items until) = max (deepest_item_but h items) (until_depth_but h until)
+
+-- the levels of a query, in which one number counts as nothing
+abbrev pub levels_but : ℕ → QueryTree → ℕ
+levels_but h query = body_levels_but h query.body
 
 -- the parentheses that stand open behind these tokens, with n before them
 abbrev pub open_behind : ℕ → List Kind → ℕ

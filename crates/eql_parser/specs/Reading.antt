@@ -115,7 +115,7 @@ literal (true_ ∷ ts) = Ok (value.Bool true, ts)
 literal (false_ ∷ ts) = Ok (value.Bool false, ts)
 literal ts = Err (Syntax (length ts))
 
--- a node that begins at a place, where another level is allowed
+-- what begins at a place, where another level is allowed
 abbrev pub at_level : {A : Type 0} → ℕ → (place : ℕ) → Res A → Res A
 at_level zero place r = Err (TooDeep place)
 at_level (suc l) place r = r
@@ -176,7 +176,7 @@ module _ (room : Bool) (inner : ℕ → List Kind → Res Tree) where
   prim l (back w ∷ ts) = at_level l (suc (length ts)) (res_map field_tree (named false (back w ∷ ts)))
   prim l (question_ ∷ ts) = at_level l (suc (length ts)) (res_map field_tree (named true ts))
   prim l (folding w ∷ open_ ∷ ts) = at_level l (suc (suc (length ts))) (enter ts (res_map (λ es. t.call w true (trees_of es)) (arguments (l - 1) ts)))
-  prim l (folding w ∷ ts) = Err (Syntax (length ts))
+  prim l (folding w ∷ ts) = at_level l (suc (length ts)) (Err (Syntax (length ts)))
   prim l (open_ ∷ ts) = enter ts (then_do (inner l ts) closing)
   prim l ts = Err (Syntax (length ts))
 

@@ -1,5 +1,5 @@
 -- Why tokens are no query within the limits.
-use Rattle.std.specs.Prelude.{◌≡◌, ℕ, ◌<◌, ◌++◌, ℤ, true, false, ◌⊎◌, List, [], ◌∷◌, None, codes}
+use Rattle.std.specs.Prelude.{◌≡◌, ℕ, ◌<◌, ◌≤◌, ◌++◌, ℤ, pos, true, false, ◌⊎◌, List, [], ◌∷◌, None, codes}
 use Rattle.std.specs.Str.{bytes_eq}
 use Rattle.eql_lexer.specs.declared.token.Token.{Token}
 use Rattle.eql_parser.specs.declared.expr.PatOp.TheVariants.{Colon}
@@ -10,7 +10,7 @@ use Rattle.eql_parser.specs.QueryTree.{QueryTree}
 use Rattle.eql_parser.specs.Kinds.{Kind, any_, assign_, bang_, bar_, close_item_, join_, matches, null_, regex_, sample_, sequence_, where_, with_, name, folding, number, open_, open_item_, kinds}
 use Rattle.eql_parser.specs.Grammar.{IsArguments}
 use Rattle.eql_parser.specs.QueryGrammar.{IsQuery, Reads, is_fine_unit, pipe_of}
-use Rattle.eql_parser.specs.Limits.{levels, open_behind, FewOpen}
+use Rattle.eql_parser.specs.Limits.{levels_but, open_behind, FewOpen}
 
 -- some query begins with these tokens
 pub record Begins (front : List Kind) : Type 0 where
@@ -18,13 +18,27 @@ pub record Begins (front : List Kind) : Type 0 where
   pub query : QueryTree
   pub reads : Reads (front ++ rest) query
 
+-- nowhere in these tokens stands this number
+abbrev pub IsNewTo : ℕ → List Kind → Type 0
+IsNewTo h ks = (before behind : List Kind) → ks ≡ before ++ number (pos h) ∷ behind → ⊥
+
+-- These tokens begin no more than so many levels: some query goes on behind them that has no more, but for a number that isn't among them and stands for
+-- what they haven't begun.
+pub record BeginsWithin (most : ℕ) (front : List Kind) : Type 0 where
+  pub unbegun : ℕ
+  pub new : IsNewTo unbegun front
+  pub rest : List Kind
+  pub query : QueryTree
+  pub reads : Reads (front ++ rest) query
+  pub few : levels_but unbegun query ≤ most
+
 -- no query begins with these tokens
 abbrev pub NoQueryBegins : List Kind → Type 0
 NoQueryBegins front = (rest : List Kind) (query : QueryTree) → Reads (front ++ rest) query → ⊥
 
--- each query that begins with these tokens has more levels than this
+-- These tokens begin more levels than this: each query that goes on behind them has more, whatever number that isn't among them counts as nothing.
 abbrev pub IsDeeperThan : ℕ → List Kind → Type 0
-IsDeeperThan most front = (rest : List Kind) (query : QueryTree) → Reads (front ++ rest) query → most < levels query
+IsDeeperThan most front = (unbegun : ℕ) → IsNewTo unbegun front → (rest : List Kind) (query : QueryTree) → Reads (front ++ rest) query → most < levels_but unbegun query
 
 -- `from`, behind `before`, begins with a form that the language has and this grammar leaves out, called by `word`. A form that this grammar has in its
 -- place begins with `instead`.
@@ -61,12 +75,12 @@ pub record Split (tokens : List Token) (at : ℕ) : Type 0 where
 abbrev pub through : {tokens : List Token} {at : ℕ} → Split tokens at → List Kind
 through s = kinds s.before ++ kinds (s.here ∷ [])
 
--- Some query begins with the tokens before the place, and none with those through it. Or the tokens end too early: some query begins with them, and
--- they are none. Nowhere before the place more than 128 parentheses stand open.
+-- The tokens before the place begin a query and at most 64 levels, and no query begins with those through it. Or the tokens end too early: they begin a
+-- query and at most 64 levels, and are none. Nowhere before the place more than 128 parentheses stand open.
 abbrev pub IsSyntax : List Token → ℕ → Type 0
 IsSyntax tokens at =
-    ((s : Split tokens at) × Begins (kinds s.before) × NoQueryBegins (through s) × FewOpen 128 (kinds s.before))
-    ⊎ ((at ≡ end_of tokens) × Begins (kinds tokens) × ((query : QueryTree) → IsQuery tokens query → ⊥) × FewOpen 128 (kinds tokens))
+    ((s : Split tokens at) × BeginsWithin 64 (kinds s.before) × NoQueryBegins (through s) × FewOpen 128 (kinds s.before))
+    ⊎ ((at ≡ end_of tokens) × BeginsWithin 64 (kinds tokens) × ((query : QueryTree) → IsQuery tokens query → ⊥) × FewOpen 128 (kinds tokens))
 
 -- a left-out form begins at the place, where some query goes on with another form in its stead
 abbrev pub LeavesOut : {tokens : List Token} {at : ℕ} → Split tokens at → List ℕ → Type 0
@@ -76,15 +90,18 @@ LeavesOut s word = (instead : List Kind) × IsLeftOut (kinds s.before) (kinds (s
 abbrev pub IsPlainSyntax : List Token → ℕ → Type 0
 IsPlainSyntax tokens at = IsSyntax tokens at × ((there : ℕ) (s : Split tokens there) (word : List ℕ) → LeavesOut s word → ⊥)
 
--- A left-out form begins at the place, some query goes on there with another form in its stead, and the tokens are no query. Nowhere before the place
--- more than 128 parentheses stand open.
-abbrev pub IsLeftOutAt : List Token → List ℕ → ℕ → Type 0
-IsLeftOutAt tokens word at = ((s : Split tokens at) × LeavesOut s word × FewOpen 128 (kinds s.before)) × ((query : QueryTree) → IsQuery tokens query → ⊥)
-
--- Some query begins with the tokens through the place, and there the 129th parenthesis opens of those that stand open, the first such one, or each
--- such query has more than 64 levels.
+-- Some query begins with the tokens through the place, and there the first limit is passed: there the 129th parenthesis opens of those that stand open, or
+-- the 65th level begins. The tokens before the place begin at most 64 levels, and nowhere in them more than 128 parentheses stand open.
 abbrev pub IsTooDeep : List Token → ℕ → Type 0
-IsTooDeep tokens at = (s : Split tokens at) × Begins (through s) × FewOpen 128 (kinds s.before) × ((128 < open_behind 0 (through s)) ⊎ IsDeeperThan 64 (through s))
+IsTooDeep tokens at =
+    (s : Split tokens at) × Begins (through s) × BeginsWithin 64 (kinds s.before) × FewOpen 128 (kinds s.before) × ((128 < open_behind 0 (through s)) ⊎ IsDeeperThan 64 (through s))
+
+-- A left-out form begins at the place, some query goes on there with another form in its stead, and the tokens are no query. The tokens before the place
+-- begin at most 64 levels, and nowhere in them more than 128 parentheses stand open. And nowhere in the tokens a limit is passed.
+abbrev pub IsLeftOutAt : List Token → List ℕ → ℕ → Type 0
+IsLeftOutAt tokens word at =
+    ((s : Split tokens at) × LeavesOut s word × BeginsWithin 64 (kinds s.before) × FewOpen 128 (kinds s.before)) × ((query : QueryTree) → IsQuery tokens query → ⊥)
+    × ((there : ℕ) → IsTooDeep tokens there → ⊥)
 
 -- the cause of each refusal
 abbrev pub Refused : List Token → ParseRefused → Type 0
@@ -92,12 +109,6 @@ Refused tokens refused.Memory = Unit {0}
 Refused tokens (refused.Syntax at) = IsPlainSyntax tokens at
 Refused tokens (refused.LeftOut word at) = IsLeftOutAt tokens word at
 Refused tokens (refused.TooDeep at) = IsTooDeep tokens at
-
--- told by the grammar, and not by a limit or by want of memory
-abbrev pub IsByGrammar : ParseRefused → Type 0
-IsByGrammar (refused.Syntax at) = Unit {0}
-IsByGrammar (refused.LeftOut word at) = Unit {0}
-IsByGrammar _ = ⊥
 
 abbrev pub IsMemory : ParseRefused → Type 0
 IsMemory refused.Memory = Unit {0}

@@ -8,7 +8,7 @@ ghost use Rattle.eql_parser.specs.Limits.{levels, OpensAtMost};
 ghost use Rattle.eql_parser.specs.Printed.{printed};
 ghost use Rattle.eql_parser.specs.QueryGrammar.{IsQuery};
 ghost use Rattle.eql_parser.specs.QueryTree.{QueryTree};
-ghost use Rattle.eql_parser.specs.Refusing.{IsByGrammar, IsMemory, Refused};
+ghost use Rattle.eql_parser.specs.Refusing.{IsMemory, Refused};
 
 /// Tokens are one query at most.
 pub fn one_query()
@@ -24,11 +24,11 @@ pub fn query_or_refused()
         ⊎ ((r : ParseRefused) × (IsMemory r → ⊥) × Refused tokens r) }
 {}
 
-/// Two refusals of the same tokens are the same, where each is told by the grammar: `Syntax` or
-/// `LeftOut`, with its word and its place.
+/// Two refusals of the same tokens are the same, with their word and their place, where neither is
+/// want of memory.
 pub fn one_refusal()
     ensures { (tokens : List Token) (r s : ParseRefused)
-        → IsByGrammar r → IsByGrammar s → Refused tokens r → Refused tokens s → r ≡ s }
+        → (IsMemory r → ⊥) → (IsMemory s → ⊥) → Refused tokens r → Refused tokens s → r ≡ s }
 {}
 
 /// The canonical text of a query that a text spells spells this query again. In it at most as many

@@ -237,13 +237,21 @@ fn conditions_have_these_canonical_texts(rt: HostRuntime) -> Result<(), Fail> {
     Ok(())
 }
 
-/// A condition between so many of two texts.
-fn nested(alloc: Global, open: &str, count: usize, close: &str) -> Result<String, AllocError> {
+/// Some text, then another one so many times, a condition, and so many of a third.
+fn nested(
+    alloc: Global,
+    before: &str,
+    open: &str,
+    count: usize,
+    inside: &str,
+    close: &str,
+) -> Result<String, AllocError> {
     let mut text = String::from_str(alloc, "any where ")?;
+    text.push_str(before)?;
     for _ in 0..count {
         text.push_str(open)?;
     }
-    text.push_str("true")?;
+    text.push_str(inside)?;
     for _ in 0..count {
         text.push_str(close)?;
     }
@@ -253,14 +261,80 @@ fn nested(alloc: Global, open: &str, count: usize, close: &str) -> Result<String
 #[test]
 fn limits_of_depth(rt: HostRuntime) -> Result<(), Fail> {
     let table = [
-        ("not ", 63, "", "any where (not "),
-        ("not ", 64, "", "parse: TooDeep at 266"),
-        ("not ", 65, "", "parse: TooDeep at 266"),
-        ("(", 128, ")", "any where true"),
-        ("(", 129, ")", "parse: TooDeep at 138"),
+        // The 65th level begins at what is negated, at one more `not` or `-`, or at an argument.
+        ("", "not ", 63, "true", "", "any where (not "),
+        ("", "not ", 64, "true", "", "parse: TooDeep at 266"),
+        ("", "not ", 65, "true", "", "parse: TooDeep at 266"),
+        ("", "not ", 64, "", "", "parse: Syntax at 265"),
+        ("", "not ", 64, "or", "", "parse: Syntax at 266"),
+        ("", "-", 63, "a", "", "any where (-"),
+        ("", "-", 64, "a", "", "parse: TooDeep at 74"),
+        ("", "-", 65, "a", "", "parse: TooDeep at 74"),
+        ("", "f(", 64, "", ")", "any where f(f("),
+        ("", "f(", 64, "true", ")", "parse: TooDeep at 138"),
+        ("", "f(", 64, "g(true)", ")", "parse: TooDeep at 138"),
+        ("", "f(", 64, "not true", ")", "parse: TooDeep at 138"),
+        ("", "f(", 64, "or", ")", "parse: Syntax at 138"),
+        // Parentheses are no level. What stands in them begins one.
+        ("", "not ", 64, "((true))", "", "parse: TooDeep at 268"),
+        ("", "f(", 64, "((true))", ")", "parse: TooDeep at 140"),
+        ("", "f(", 64, "()", ")", "parse: Syntax at 139"),
+        // With `~` behind it a name is called or refused, so it begins a level.
+        ("", "f(", 64, "g~", ")", "parse: TooDeep at 138"),
+        ("", "f(", 64, "(g~)", ")", "parse: TooDeep at 139"),
+        ("", "f(", 63, "g~", ")", "parse: Syntax at 138"),
     ];
-    for (open, count, close, expected) in table {
-        let text = nested(rt.alloc(), open, count, close)?;
+    for (before, open, count, inside, close, expected) in table {
+        let text = nested(rt.alloc(), before, open, count, inside, close)?;
+        let got = canonical(rt.alloc(), text.as_str())?;
+        assert!(rt; got.as_str().starts_with(expected));
+    }
+    Ok(())
+}
+
+#[test]
+fn limits_above_and_behind_operands(rt: HostRuntime) -> Result<(), Fail> {
+    let table = [
+        // An operator behind its operand begins the level above it.
+        ("", "not ", 62, "a or b", "", "any where ((not "),
+        ("", "not ", 63, "a or b", "", "parse: TooDeep at 264"),
+        ("", "not ", 63, "a and b", "", "parse: TooDeep at 264"),
+        ("", "not ", 63, "a == b", "", "parse: TooDeep at 264"),
+        ("", "not ", 63, "a : \"b\"", "", "parse: TooDeep at 264"),
+        ("", "not ", 63, "a in (1)", "", "parse: TooDeep at 264"),
+        ("", "not ", 63, "a not in (1)", "", "parse: TooDeep at 264"),
+        ("", "-", 62, "a + b", "", "any where ((-"),
+        ("", "-", 63, "a + b", "", "parse: TooDeep at 75"),
+        ("", "-", 63, "a * b", "", "parse: TooDeep at 75"),
+        ("", "f(", 63, "a + b", ")", "parse: TooDeep at 138"),
+        ("a or b or (", "not ", 62, "c)", "", "any where ("),
+        ("a or b or ", "not ", 63, "c", "", "parse: TooDeep at 272"),
+        // What comes first in the text is told.
+        (
+            "number(",
+            "not ",
+            62,
+            "a, 2)",
+            "",
+            "parse: LeftOut number at 10",
+        ),
+        ("number(", "not ", 63, "a, 2)", "", "parse: TooDeep at 269"),
+        (
+            "a regex ",
+            "not ",
+            65,
+            "a",
+            "",
+            "parse: LeftOut regex at 12",
+        ),
+        ("", "not ", 65, "a regex", "", "parse: TooDeep at 266"),
+        ("", "(", 128, "true", ")", "any where true"),
+        ("", "(", 129, "true", ")", "parse: TooDeep at 138"),
+        ("", "(", 128, "a in (1)", ")", "parse: TooDeep at 143"),
+        ("number(", "(", 128, "a, 2)", "", "parse: TooDeep at 144"),
+    ];
+    for (before, open, count, inside, close, expected) in table {
+        let text = nested(rt.alloc(), before, open, count, inside, close)?;
         let got = canonical(rt.alloc(), text.as_str())?;
         assert!(rt; got.as_str().starts_with(expected));
     }

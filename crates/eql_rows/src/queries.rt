@@ -113,7 +113,7 @@ fn broken_tokens() -> [Row; 13] {
 }
 
 /// Tokens that are no query, each with the place, in bytes from 0.
-fn broken_grammar() -> [Row; 9] {
+fn broken_grammar() -> [Row; 10] {
     [
         refused(
             "comparisons in a chain",
@@ -137,7 +137,12 @@ fn broken_grammar() -> [Row; 9] {
             "sequence with maxspan=1w [a where true]",
             "parse: Syntax at 23",
         ),
-        // The level too many begins at the 65th `not`, behind ten bytes and 64 of them.
+        // The level too many begins behind ten bytes and 64 times `not`, at what is negated.
+        refused("65 levels", "any where ", "parse: TooDeep at 266").behind(&[
+            Times("not ", 64),
+            Bytes(b"true"),
+        ]),
+        // Or at the 65th `not`.
         refused("66 levels", "any where ", "parse: TooDeep at 266").behind(&[
             Times("not ", 65),
             Bytes(b"true"),

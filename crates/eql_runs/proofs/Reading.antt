@@ -1,5 +1,5 @@
 -- What the files of a command are is determined: a text has one list of tokens or none, tokens are one query or none.
-use Rattle.std.proofs.Common.{◌≡◌, ℕ, ◌<◌, ◌⊎◌, inl, inr, List, [], ◌∷◌, ◌++◌, Some, None, refl, ap, ap₂, sym, arith, ◌∙◌, subst, append_assoc}
+use Rattle.std.proofs.Common.{◌≡◌, ℕ, List, [], ◌∷◌, Some, None, refl, ap, ap₂, sym, arith, ◌∙◌, subst}
 use Rattle.std.specs.Prelude.{cond, is_none, Ok, Err, Result}
 use Rattle.std.proofs.lemmas.Option.{same_Some, none-some}
 use Rattle.eql_values.specs.declared.value.Kind.{Kind as FieldKind}
@@ -10,17 +10,14 @@ use Rattle.eql_lexer.specs.declared.refusal.LexRefused.{LexRefused}
 use Rattle.eql_lexer.specs.Spelling.{Spells}
 use Rattle.eql_lexer.specs.Refusing.{BreaksAt, refusal_of}
 use Rattle.eql_parser.specs.declared.refusal.ParseRefused.{ParseRefused}
-use Rattle.eql_parser.specs.declared.refusal.ParseRefused.TheVariants as parsed
 use Rattle.eql_parser.specs.QueryTree.{QueryTree}
-use Rattle.eql_parser.specs.Kinds.{Kind, kind, kinds}
-use Rattle.eql_parser.specs.QueryGrammar.{IsQuery, Reads}
-use Rattle.eql_parser.specs.Limits.{open_behind}
-use Rattle.eql_parser.specs.Refusing.{Split, through, NoQueryBegins, IsDeeperThan, Refused, IsByGrammar}
+use Rattle.eql_parser.specs.QueryGrammar.{IsQuery}
+use Rattle.eql_parser.specs.Refusing.{Refused, IsMemory}
+use Rattle.eql_parser.proofs.Refusals.{memory_alone}
 use Rattle.eql_check.specs.declared.mapping.MapRefused.{MapRefused}
 use Rattle.eql_check.specs.Mappings.{mapping_of}
 use Rattle.eql_check.specs.Typing.{ExactlyChecked}
 use Rattle.eql_runs.specs.Files.{Files, first_missing, HasTokens, NoTokens, too_long, not_utf8, breaks, ReadAs, NotRead, HasQueryTokens, HasQuery, HasMapping, HasTexts}
-use Rattle.eql_runs.specs.RunLaws.{TellsLimit}
 
 -- the laws of tokens, queries and checks on which the causes rest
 pub record QueryLaws : Type 0 where
@@ -28,7 +25,7 @@ pub record QueryLaws : Type 0 where
   pub none_spelled : (text : List ℕ) (r : Rule) (at : ℕ) (us : List Token) → BreaksAt text r at → Spells text us → ⊥
   pub one_break : (text : List ℕ) (r s : Rule) (at to : ℕ) → BreaksAt text r at → BreaksAt text s to → (r ≡ s) × (at ≡ to)
   pub one_query : (tokens : List Token) (p q : QueryTree) → IsQuery tokens p → IsQuery tokens q → p ≡ q
-  pub one_refusal : (tokens : List Token) (r s : ParseRefused) → IsByGrammar r → IsByGrammar s → Refused tokens r
+  pub one_refusal : (tokens : List Token) (r s : ParseRefused) → (IsMemory r → ⊥) → (IsMemory s → ⊥) → Refused tokens r
       → Refused tokens s → r ≡ s
   pub exact : ExactlyChecked
 
@@ -62,60 +59,12 @@ one_cause laws text _ _ (breaks short utf8 rule at b) (breaks few utf other to d
     ap (λ x. refusal_of x at) one.0 ∙ ap (λ n. refusal_of other n) one.1
 
 -- tokens are a query within the limits, or they aren't
-kinds_append : (ts us : List Token) → kinds (ts ++ us) ≡ kinds ts ++ kinds us
-kinds_append [] us = refl
-kinds_append (t ∷ ts) us = ap (λ ks. kind t.tok ∷ ks) (kinds_append ts us)
-
-whole_kinds : (tokens : List Token) (at : ℕ) (s : Split tokens at) → kinds tokens ≡ through s ++ kinds s.behind
-whole_kinds tokens at s =
-    ap kinds s.whole ∙ kinds_append s.before (s.here ∷ s.behind)
-    ∙ sym (append_assoc (kinds s.before) (kind s.here.tok ∷ []) (kinds s.behind))
-
-begins_with : (tokens : List Token) (at : ℕ) (s : Split tokens at) (q : QueryTree) → IsQuery tokens q
-    → Reads (through s ++ kinds s.behind) q
-begins_with tokens at s q is = subst (λ (x : List Kind). Reads x q) (whole_kinds tokens at s) is
-
-not_deep : (tokens : List Token) (at : ℕ) (s : Split tokens at) (q : QueryTree) → ReadAs tokens q
-    → (128 < open_behind 0 (through s)) ⊎ IsDeeperThan 64 (through s) → ⊥
-not_deep tokens at s q read (inl many) =
-    omega (arith, many, read.few_open (through s) (kinds s.behind) (whole_kinds tokens at s))
-not_deep tokens at s q read (inr deep) =
-    omega (arith, read.shallow, deep (kinds s.behind) q (begins_with tokens at s q read.is_query))
-
 pub read_or_not : (tokens : List Token) (q : QueryTree) (r : ParseRefused) → ReadAs tokens q → NotRead tokens r → ⊥
-read_or_not tokens q (parsed.Syntax at) read ((inl h, plain), denied) =
-    let none : NoQueryBegins (through h.0) = assumption h in
-    none (kinds h.0.behind) q (begins_with tokens at h.0 q read.is_query)
-read_or_not tokens q (parsed.Syntax at) read ((inr h, plain), denied) =
-    let none : (query : QueryTree) → IsQuery tokens query → ⊥ = assumption h in
-    none q read.is_query
-read_or_not tokens q (parsed.LeftOut word at) read (h, denied) = h.1 q read.is_query
-read_or_not tokens q (parsed.TooDeep at) read (h, denied) =
-    let either : (128 < open_behind 0 (through h.0)) ⊎ IsDeeperThan 64 (through h.0) = assumption h in
-    not_deep tokens at h.0 q read either
-read_or_not tokens q parsed.Memory read (h, denied) = denied tt
+read_or_not tokens q r read (h, denied) = denied (memory_alone tokens q r read.is_query read.shallow read.few_open h)
 
--- two refusals of tokens are the same, or one of them tells that a limit is passed
-abbrev pub Agree : ParseRefused → ParseRefused → Type 0
-Agree r s = (r ≡ s) ⊎ (TellsLimit r ⊎ TellsLimit s)
-
-by_grammar : (laws : QueryLaws) (tokens : List Token) (r s : ParseRefused) → IsByGrammar r → IsByGrammar s → NotRead tokens r
-    → NotRead tokens s → Agree r s
-by_grammar laws tokens r s g h a b = inl (laws.one_refusal tokens r s g h a.0 b.0)
-
-pub agree : (laws : QueryLaws) (tokens : List Token) (r s : ParseRefused) → NotRead tokens r → NotRead tokens s
-    → Agree r s
-agree laws tokens (parsed.Syntax at) (parsed.Syntax to) a b = by_grammar laws tokens (parsed.Syntax at) (parsed.Syntax to) tt tt a b
-agree laws tokens (parsed.Syntax at) (parsed.LeftOut word to) a b =
-    by_grammar laws tokens (parsed.Syntax at) (parsed.LeftOut word to) tt tt a b
-agree laws tokens (parsed.LeftOut word at) (parsed.Syntax to) a b =
-    by_grammar laws tokens (parsed.LeftOut word at) (parsed.Syntax to) tt tt a b
-agree laws tokens (parsed.LeftOut word at) (parsed.LeftOut other to) a b =
-    by_grammar laws tokens (parsed.LeftOut word at) (parsed.LeftOut other to) tt tt a b
-agree laws tokens (parsed.TooDeep at) s a b = inr (inl tt)
-agree laws tokens r (parsed.TooDeep to) a b = inr (inr tt)
-agree laws tokens parsed.Memory s a b = absurd (a.1 tt)
-agree laws tokens r parsed.Memory a b = absurd (b.1 tt)
+-- two refusals of tokens are the same
+pub agree : (laws : QueryLaws) (tokens : List Token) (r s : ParseRefused) → NotRead tokens r → NotRead tokens s → r ≡ s
+agree laws tokens r s a b = laws.one_refusal tokens r s a.1 b.1 a.0 b.0
 
 -- the query file has one list of tokens and is one query
 pub one_tokens : (laws : QueryLaws) (name : List ℕ) (files : Files) (ts us : List Token)

@@ -1,6 +1,6 @@
 -- A run is refused for one cause. How far a run comes is a number: each cause says that it comes so far and no
 -- further.
-use Rattle.std.proofs.Common.{◌≡◌, ℕ, zero, suc, ◌+◌, ◌-◌, ◌<◌, ◌⊎◌, ⊎_elim, inl, inr, List, Some, None, refl, ap, ap₂, sym, arith, ◌∙◌, subst}
+use Rattle.std.proofs.Common.{◌≡◌, ℕ, zero, suc, ◌+◌, ◌-◌, ◌<◌, ◌⊎◌, inl, inr, List, Some, None, refl, ap, ap₂, sym, arith, ◌∙◌, subst}
 use Rattle.std.proofs.lemmas.Option.{same_Some, none-some}
 use Rattle.std.proofs.lemmas.Bool.{cases_order}
 use Rattle.eql_values.specs.declared.value.Kind.{Kind as FieldKind}
@@ -13,7 +13,7 @@ use Rattle.eql_words.specs.declared.commands.Command.{Command}
 use Rattle.eql_words.specs.Commands.{command_of}
 use Rattle.eql_runs.specs.Files.{Files, first_missing, HasTokens, NoTokens, ReadAs, NotRead, HasQueryTokens, HasQuery, HasBoth, HasChecked}
 use Rattle.eql_runs.specs.Refusals.{Names, Refusal, Refuses, refusal_status, no_file, lex, parse, mapping, broken, no_query, not_spelled, not_read, no_fields, bad_mapping, is_broken, no_shard}
-use Rattle.eql_runs.specs.RunLaws.{SameRefusal, same, other_place, past_limit, TellsLimit}
+use Rattle.eql_runs.specs.RunLaws.{SameRefusal, same, other_place}
 use Rattle.eql_runs.proofs.Reading.{QueryLaws, one_text, missing_text, has_or_not, one_cause, read_or_not, agree, one_tokens, one_query, one_mapping, one_bad_mapping, mapping_or_not}
 
 module _ (laws : QueryLaws) (names : Names) (files : Files) where
@@ -143,8 +143,7 @@ module _ (laws : QueryLaws) (names : Names) (files : Files) where
       same_of (lex r) (lex s) (ap lex (one_cause laws other r s one gone))
   same_there _ _ (not_read tokens has r denied) (not_read others had s refused) e =
       let one : tokens ≡ others = one_tokens laws names.query files tokens others has had in
-      ⊎_elim (λ (equal : r ≡ s). same_of (parse r) (parse s) (ap parse equal)) (λ (limit : TellsLimit r ⊎ TellsLimit s). past_limit limit)
-      (agree laws others r s (subst (λ (x : List Token). NotRead x r) one denied) refused)
+      same_of (parse r) (parse s) (ap parse (agree laws others r s (subst (λ (x : List Token). NotRead x r) one denied) refused))
   same_there _ _ (no_fields q has none) (no_fields p had gone) e = same
   same_there _ _ (bad_mapping q has text is r bad) (bad_mapping p had other there s worse) e =
       same_of (mapping r) (mapping s)
@@ -189,7 +188,6 @@ module _ (laws : QueryLaws) (names : Names) (files : Files) where
 pub same_status : (r s : Refusal) → SameRefusal r s → refusal_status r ≡ refusal_status s
 same_status _ _ same = refl
 same_status _ _ other_place = refl
-same_status _ _ (past_limit h) = refl
 
 -- words make one command
 pub one_command : (words : List (List ℕ)) (command other : Command) → command_of words ≡ Some command

@@ -5,8 +5,6 @@ use Rattle.eql_laws.specs.Books.{greatest_shards}
 use Rattle.eql_laws.specs.Counting.{IsShardText}
 use Rattle.eql_laws.specs.Fitting.{Fits, Kept}
 use Rattle.eql_values.specs.declared.cut.Pipe.{Pipe}
-use Rattle.eql_parser.specs.declared.refusal.ParseRefused.{ParseRefused}
-use Rattle.eql_parser.specs.declared.refusal.ParseRefused.TheVariants.{TooDeep}
 use Rattle.eql_parser.specs.QueryTree.{QueryTree}
 use Rattle.eql_values.specs.declared.value.Kind.{Kind}
 use Rattle.eql_check.specs.Kinds.{kind_at}
@@ -15,7 +13,7 @@ use Rattle.eql_words.specs.declared.commands.Command.TheVariants as command
 use Rattle.eql_words.specs.declared.commands.Find.{Find}
 use Rattle.eql_words.specs.Commands.{command_of}
 use Rattle.eql_runs.specs.Files.{Files, first_missing, HasChecked, IsWithin}
-use Rattle.eql_runs.specs.Refusals.{Names, Refusal, Refuses, refusal_status, parse}
+use Rattle.eql_runs.specs.Refusals.{Names, Refusal, Refuses, refusal_status}
 use Rattle.eql_runs.specs.Refusals as refusal
 use Rattle.eql_runs.specs.CutRefusals.{damaged, IsTested}
 use Rattle.eql_runs.specs.Starts.{OnDisk, StandsFor, start_for}
@@ -60,16 +58,9 @@ OneListing =
     → Writes words files on bytes report → Writes words files on other beside
     → (bytes ≡ other) × (report ≡ beside)
 
--- the tokens pass a limit
-abbrev pub TellsLimit : ParseRefused → Type 0
-TellsLimit (TooDeep at) = Unit {0}
-TellsLimit _ = ⊥
-
--- the same refusal; or both say that the tokens are no query within the limits, and one of them
--- that they pass a limit; or that the text in an area is no cut's, maybe at another place
+-- the same refusal; or both say that the text in an area is no cut's, maybe at another place
 pub data SameRefusal : Refusal → Refusal → Type 0 where
   same : {r : Refusal} → SameRefusal r r
-  past_limit : {r s : ParseRefused} → TellsLimit r ⊎ TellsLimit s → SameRefusal (parse r) (parse s)
   other_place : {area at to : ℕ} → SameRefusal (refusal.cut (damaged area at)) (refusal.cut (damaged area to))
 
 -- words, files and disk are refused for one cause

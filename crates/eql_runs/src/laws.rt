@@ -13,8 +13,7 @@ use eql_words::commands_are_bounded;
 
 /// The words, the files and what the disk of a checkpoint holds determine what a run writes, or that it is refused and for which
 /// cause, and never both. Files that are all there and checked aren't refused. A run that can be done isn't refused, and no shard
-/// of it is beyond a limit. Where a query's tokens pass a limit of depth, they don't determine whether the refusal says so or
-/// tells another breach; that it has one status stands without this.
+/// of it is beyond a limit. Of a damaged area they don't determine the place that is told.
 pub fn runs_are_determined()
     ensures listing { OneListing }
     ensures refusal { OneRefusal }

@@ -1,5 +1,5 @@
 //! Expressions of one level: literals and fields.
-ghost use Rattle.std.specs.Prelude.{◌≡◌, Ok, IfOk, length};
+ghost use Rattle.std.specs.Prelude.{◌≡◌, Ok, Err, IfOk, length};
 ghost use Rattle.eql_parser.specs.Kinds.{kinds};
 ghost use Rattle.eql_parser.specs.Limits.{depth};
 ghost use Rattle.eql_parser.specs.View.{tree};
@@ -7,8 +7,9 @@ ghost use Rattle.eql_parser.specs.Marks.{Lacks, NoCall};
 ghost use Rattle.eql_parser.specs.declared.parser.mark.Mark.TheVariants as mark;
 ghost use Rattle.eql_parser.specs.Pieces.{piece_kind};
 ghost use Rattle.std.specs.Option.{option_map};
-ghost use Rattle.eql_parser.specs.Answering.{Answers, IsNode, constant_tree, node_tree, room, inner};
-ghost use Rattle.eql_parser.specs.Reading.{at_level, field, field_tree, prim, res_map};
+ghost use Rattle.eql_parser.specs.Tree.{Tree};
+ghost use Rattle.eql_parser.specs.Answering.{Answers, IsNode, Stops, constant_tree, node_tree, room, inner};
+ghost use Rattle.eql_parser.specs.Reading.{Syntax, at_level, field, field_tree, prim, res_map};
 
 use crate::expr::Expr;
 use crate::parser::field::field_of;
@@ -49,6 +50,17 @@ fn field_leaf(alloc: Global, levels: u32, tokens: &[Token]) -> Result<(Node, &[T
     }
 }
 
+/// The refusal of a name that ends in `~` and isn't called: so many tokens are left where it begins,
+/// and so many behind it.
+fn uncalled(levels: u32, place: usize, left: usize) -> Stop
+    ensures { Stops result (at_level {A = Tree} levels place (Err (Syntax left))) }
+{
+    if levels == 0 {
+        return Stop::TooDeep(place);
+    }
+    Stop::Syntax(left)
+}
+
 /// A constant.
 fn constant(piece: Piece<'_>) -> Result<Option<Expr>, AllocError>
     ensures { IfOk result
@@ -86,7 +98,7 @@ pub fn leaf_of(
             Piece::Name(_) => field_leaf(alloc, levels, tokens),
             Piece::Back(_) => field_leaf(alloc, levels, tokens),
             Piece::Question => field_leaf(alloc, levels, tokens),
-            Piece::Folding(_) => Err(Stop::Syntax(rest.len())),
+            Piece::Folding(_) => Err(uncalled(levels, tokens.len(), rest.len())),
             _ => Err(Stop::Syntax(tokens.len())),
         },
     }

@@ -1,13 +1,13 @@
-use Rattle.std.proofs.Common.{◌∷◌, Ok, Err, refl, sym, ap, ◌∙◌}
+use Rattle.std.proofs.Common.{◌∷◌, Ok, refl, sym, ap, ◌∙◌}
 use Rattle.eql_parser.specs.Kinds.{kinds, name, back, question_}
 use Rattle.std.specs.Str.{chars}
 use Rattle.std.specs.Option.{option_map}
 use Rattle.eql_parser.specs.View.{tree}
 use Rattle.eql_parser.specs.Pieces.{piece_kind}
 use Rattle.eql_parser.specs.Answering.{node_tree, room, inner}
-use Rattle.eql_parser.specs.Reading.{Syntax, at_level, prim}
-use Rattle.eql_parser.proofs.Defaults.{length_kinds}
-use Rattle.eql_parser.proofs.Parts.{as_read, at_place, constant_prim, constant_depth, field_prim, name_alone, folding_alone, alone, folding_by_itself, no_leaf}
+use Rattle.eql_parser.specs.Reading.{at_level, prim}
+use Rattle.eql_parser.proofs.Separated.{stops_as}
+use Rattle.eql_parser.proofs.Parts.{as_read, at_place, constant_prim, constant_depth, field_prim, name_alone, folding_prim, alone, folding_by_itself, no_leaf}
 use Rattle.eql_parser.proofs.parser.leaf.leaf_of.Goals as goal
 
 pub leaf-requires : goal.leaf-requires
@@ -45,7 +45,7 @@ returns-in-Folding-clause-answers c =
     let rest = kinds c.in-Some.rest.now in
     let w = chars c.in-Folding.field-0.now in
     let here = c.in-Some.ensures ∙ ap (λ x. piece_kind x ∷ rest) c.in-Folding.is in
-    ap (prim (room c.args.parens) (inner c.args.parens) c.args.levels) here ∙ folding_alone _ _ w rest (folding_by_itself _ w rest here c.requires.call) ∙ ap (λ n. Err (Syntax n)) (length_kinds c.in-Some.rest.now)
+    stops_as c.uncalled.result _ _ (folding_prim c.args.parens c.args.levels c.args.tokens.now w c.in-Some.rest.now here (folding_by_itself _ w rest here c.requires.call)) c.uncalled.ensures
 
 pub returns-in_default-first-clause-answers : goal.returns-in_default-first-clause-answers
 returns-in_default-first-clause-answers c =
