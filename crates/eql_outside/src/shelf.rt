@@ -17,7 +17,8 @@ pub(crate) mod memory;
 /// Where files stand under their names. It lends sources over them, and takes these back. It also has one disk, which
 /// it hands out for every name.
 pub trait Shelf {
-    type Src: Source;
+    /// What it lends. Several threads may read one after another.
+    type Src: Source + Send + Sync;
 
     type Dsk: Disk;
 

@@ -37,12 +37,9 @@ fn says_absent(kind: ErrorKind) -> bool
 
 impl<R: Files> FileShelf<R>
 where
-    R::File: ReadsAlike,
+    R::File: ReadsAlike + Send + Sync,
 {
-    ghost use Rattle.std.specs.Prelude.{◌≢◌, ◌≤◌, ℕ, false, List, Ok, Err, Some, None, IfOk, IfErr, IfSome, IsNone, IsOkAnd, IsSomeAnd};
-    ghost use Rattle.std.specs.IoError.{error_kind};
-    ghost use Rattle.eql_outside.specs.Outside.{Rose};
-    ghost use Rattle.eql_outside.specs.Faults.{name_lent, faults_in, RoseFor, SameFaults};
+    ghost use Rattle.std.specs.Prelude.{ℕ, false, List};
 
     /// The shelf of this file system.
     pub fn new(files: R) -> FileShelf<R>
@@ -61,6 +58,16 @@ where
             disk_faults: 0,
         }
     }
+}
+
+impl<R: Files> FileShelf<R>
+where
+    R::File: ReadsAlike,
+{
+    ghost use Rattle.std.specs.Prelude.{◌≢◌, ◌≤◌, List, Ok, Err, Some, None, IfOk, IfErr, IfSome, IsNone, IsOkAnd, IsSomeAnd};
+    ghost use Rattle.std.specs.IoError.{error_kind};
+    ghost use Rattle.eql_outside.specs.Outside.{Rose};
+    ghost use Rattle.eql_outside.specs.Faults.{name_lent, faults_in, RoseFor, SameFaults};
 
     // Answers as the open of a file did. A file that is open is lent. Where the error says that there is none, it is
     // absent. Any other error is a fault of the name.
@@ -107,7 +114,7 @@ where
 
 impl<R: Files> Shelf for FileShelf<R>
 where
-    R::File: ReadsAlike,
+    R::File: ReadsAlike + Send + Sync,
 {
     type Src = FileSource<R::File>;
 
