@@ -24,3 +24,4 @@ mod Moved
 mod Tables
 mod Emptied
 mod Sorting
+mod Indexing

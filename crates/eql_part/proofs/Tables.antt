@@ -2,13 +2,13 @@
 use Rattle.std.proofs.Common.{◌≡◌, ◌<◌, ℕ, ℤ, List, length, Option, Some, None, refl, sym, ◌∙◌, subst, arith}
 use Rattle.std.specs.Prelude.{slice_get, slice_index_or, slice_set}
 use Rattle.std.specs.BTreeMap.{get}
-use Rattle.std.specs.Ordering.{nat_cmp}
 use Rattle.std.specs.Vec.{with_item}
 use Rattle.std.proofs.lemmas.Option.{slice_get_read, slice_get_within}
 use Rattle.eql_values.specs.declared.value.Value.{Value}
 use Rattle.eql_values.specs.Orders.{key_cmp}
 use Rattle.eql_auto.specs.Machine.{Machine}
 use Rattle.eql_span_list.specs.declared.node.Ticket.{Ticket}
+use Rattle.eql_part.specs.Indexed.{under_of}
 use Rattle.eql_part.specs.declared.table.Room.{Room}
 use Rattle.eql_part.specs.declared.table.KeyTable.{KeyTable}
 use Rattle.eql_part.specs.KeyTables.{AreOf, IsEmptyAt, IsOf, KeepsOtherKeys, machine_of}
@@ -21,44 +21,44 @@ use Rattle.eql_part.proofs.Moved.{IsMoved, moved_in, moved_on, moved_out}
 module _ {L : Type 0} (m : ℕ) (span : Option ℤ) where
   -- a table is one by its maps, too
   of_maps : (t u v : KeyTable L) (key : List Value) (place : Option ℕ) (machine : Option (Machine Ticket)) (h : IsTable m span t) → v.by_hash ≡ u.by_hash → v.others ≡ u.others
-      → IsMoved m span (get nat_cmp t.by_hash) (get key_cmp t.others) t.rooms.items h.housed h.spare (get nat_cmp u.by_hash) (get key_cmp u.others) key place machine v.rooms.items
+      → IsMoved m span (under_of t.by_hash) (get key_cmp t.others) t.rooms.items h.housed h.spare (under_of u.by_hash) (get key_cmp u.others) key place machine v.rooms.items
       → IsTable m span v × (place_of v key ≡ place) × Changes key machine (entries_of t) (entries_of v)
   of_maps t u v key place machine h hashes others moved =
-      let housed = subst (λ b. IsHoused (get nat_cmp b) (get key_cmp v.others) v.rooms.items) (sym hashes)
-      (subst (λ b. IsHoused (get nat_cmp u.by_hash) (get key_cmp b) v.rooms.items) (sym others) moved.housed) in
-      let placed = (λ i. place_by (get nat_cmp (hashes i)) (get key_cmp (others i)) v.rooms.items key) ∙ moved.placed in
+      let housed = subst (λ b. IsHoused (under_of b) (get key_cmp v.others) v.rooms.items) (sym hashes)
+      (subst (λ b. IsHoused (under_of u.by_hash) (get key_cmp b) v.rooms.items) (sym others) moved.housed) in
+      let placed = (λ i. place_by (under_of (hashes i)) (get key_cmp (others i)) v.rooms.items key) ∙ moved.placed in
       (record { housed = housed; spare = moved.spare }, placed, moved.change)
 
   pub added : (t u v : KeyTable L) (key : List Value) (p : ℕ) → IsTable m span t → key_at t.rooms.items p ≡ None → place_of t key ≡ None → u.rooms ≡ t.rooms
-      → IsNamed key p (get nat_cmp t.by_hash) (get nat_cmp u.by_hash) (get key_cmp t.others) (get key_cmp u.others) → v.by_hash ≡ u.by_hash → v.others ≡ u.others → HasKeyNow p (Some key) u.rooms.items v.rooms.items
+      → IsNamed key p (under_of t.by_hash) (under_of u.by_hash) (get key_cmp t.others) (get key_cmp u.others) → v.by_hash ≡ u.by_hash → v.others ≡ u.others → HasKeyNow p (Some key) u.rooms.items v.rooms.items
       → IsTable m span v × (place_of v key ≡ Some p) × AddsEmpty m span key (entries_of t) (entries_of v)
   added t u v key p h spare absent same named hashes others has =
-      let moved = moved_in m span (get nat_cmp t.by_hash) (get key_cmp t.others) t.rooms.items h.housed h.spare (get nat_cmp u.by_hash) (get key_cmp u.others) key p v.rooms.items named spare absent
+      let moved = moved_in m span (under_of t.by_hash) (get key_cmp t.others) t.rooms.items h.housed h.spare (under_of u.by_hash) (get key_cmp u.others) key p v.rooms.items named spare absent
       (subst (λ rooms. HasKeyNow p (Some key) rooms.items v.rooms.items) same has) in
       let all = of_maps t u v key (Some p) (Some moved.0) h hashes others moved.3 in
       (all.0, all.1, (moved.0, moved.1, moved.2, all.2))
 
   pub removed : (t u v : KeyTable L) (key : List Value) (p : ℕ) → IsTable m span t → AreOf m span (entries_of t) → IsEmptyAt (entries_of t) key → place_of t key ≡ Some p → u.rooms ≡ t.rooms
-      → IsUnnamed key p (get nat_cmp t.by_hash) (get nat_cmp u.by_hash) (get key_cmp t.others) (get key_cmp u.others) → v.by_hash ≡ u.by_hash → v.others ≡ u.others → HasKeyNow p None u.rooms.items v.rooms.items
+      → IsUnnamed key p (under_of t.by_hash) (under_of u.by_hash) (get key_cmp t.others) (get key_cmp u.others) → v.by_hash ≡ u.by_hash → v.others ≡ u.others → HasKeyNow p None u.rooms.items v.rooms.items
       → IsTable m span v × Changes key None (entries_of t) (entries_of v)
   removed t u v key p h of empty placed same unnamed hashes others has =
-      let moved = moved_out m span (get nat_cmp t.by_hash) (get key_cmp t.others) t.rooms.items h.housed h.spare (get nat_cmp u.by_hash) (get key_cmp u.others) key p v.rooms.items unnamed placed
+      let moved = moved_out m span (under_of t.by_hash) (get key_cmp t.others) t.rooms.items h.housed h.spare (under_of u.by_hash) (get key_cmp u.others) key p v.rooms.items unnamed placed
       (subst (λ rooms. HasKeyNow p None rooms.items v.rooms.items) same has) of empty in
       let all = of_maps t u v key None None h hashes others moved in
       (all.0, all.2)
 
   -- the room of a key
   pub room_at : (t : KeyTable L) (key : List Value) (p : ℕ) → IsTable m span t → place_of t key ≡ Some p → (room : Room L) × (slice_get t.rooms.items p ≡ Some room) × (room.key ≡ Some key)
-  room_at t key p h placed = room_of t.rooms.items p key (room_there (get nat_cmp t.by_hash) (get key_cmp t.others) t.rooms.items h.housed key p placed)
+  room_at t key p h placed = room_of t.rooms.items p key (room_there (under_of t.by_hash) (get key_cmp t.others) t.rooms.items h.housed key p placed)
 
   pub within : (t : KeyTable L) (key : List Value) (p : ℕ) → IsTable m span t → place_of t key ≡ Some p → p < length t.rooms.items
   within t key p h placed = let room = room_at t key p h placed in slice_get_within t.rooms.items p room.0 room.1
 
   pub found_at : (t : KeyTable L) (key : List Value) (p : ℕ) (room : Room L) → IsTable m span t → place_of t key ≡ Some p → slice_get t.rooms.items p ≡ Some room → machine_of (entries_of t) key ≡ Some room.machine
-  found_at t key p room h placed at = machine_there (get nat_cmp t.by_hash) (get key_cmp t.others) t.rooms.items h.housed key p room placed at
+  found_at t key p room h placed at = machine_there (under_of t.by_hash) (get key_cmp t.others) t.rooms.items h.housed key p room placed at
 
   pub absent_at : (t : KeyTable L) (key : List Value) → IsTable m span t → place_of t key ≡ None → machine_of (entries_of t) key ≡ None
-  absent_at t key h none = machine_none (get nat_cmp t.by_hash) (get key_cmp t.others) t.rooms.items h.housed key none
+  absent_at t key h none = machine_none (under_of t.by_hash) (get key_cmp t.others) t.rooms.items h.housed key none
 
   pub rewritten : (t v : KeyTable L) (key : List Value) (p : ℕ) (room after : Room L) → IsTable m span t → place_of t key ≡ Some p → slice_get t.rooms.items p ≡ Some room → after.key ≡ room.key
       → v.by_hash ≡ t.by_hash → v.others ≡ t.others → v.rooms.items ≡ slice_set t.rooms.items p after
@@ -66,9 +66,9 @@ module _ {L : Type 0} (m : ℕ) (span : Option ℤ) where
   rewritten t v key p room after h placed at same hashes others rooms =
       of_maps t t v key (Some p) (Some after.machine) h hashes others
       (subst
-      (IsMoved m span (get nat_cmp t.by_hash) (get key_cmp t.others) t.rooms.items h.housed h.spare (get nat_cmp t.by_hash) (get key_cmp t.others) key (Some p) (Some after.machine))
+      (IsMoved m span (under_of t.by_hash) (get key_cmp t.others) t.rooms.items h.housed h.spare (under_of t.by_hash) (get key_cmp t.others) key (Some p) (Some after.machine))
       (sym rooms)
-      (moved_on m span (get nat_cmp t.by_hash) (get key_cmp t.others) t.rooms.items h.housed h.spare key p room after placed at same))
+      (moved_on m span (under_of t.by_hash) (get key_cmp t.others) t.rooms.items h.housed h.spare key p room after placed at same))
 
   -- the rooms with this machine in place of that of a room
   abbrev pub with_machine : KeyTable L → ℕ → Room L → Machine Ticket → KeyTable L

@@ -4,4 +4,5 @@ pub mod Routed
 pub mod Kept
 pub mod Played
 pub mod Hashes
+pub mod Indexed
 pub mod Rooms

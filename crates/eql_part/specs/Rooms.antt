@@ -1,7 +1,6 @@
 -- The rooms of machines, and how the room of a key is found.
 use Rattle.std.specs.Prelude.{◌≡◌, ◌⊎◌, ℕ, ℤ, Bool, false, cond, List, [], Option, None, Some, All, IfNone, filter_map, slice_get, slice_set}
 use Rattle.std.specs.Borrow.{Bor}
-use Rattle.std.specs.Ordering.{nat_cmp}
 use Rattle.std.specs.Option.{option_map}
 use Rattle.std.specs.BTreeMap.{get, is_at}
 use Rattle.eql_values.specs.declared.value.Value.{Value}
@@ -9,6 +8,7 @@ use Rattle.eql_values.specs.Ordered.{in_order}
 use Rattle.eql_values.specs.Orders.{key_cmp, key_eq}
 use Rattle.eql_auto.specs.Machine.{Machine, tags_of}
 use Rattle.eql_span_list.specs.declared.node.Ticket.{Ticket}
+use Rattle.eql_part.specs.Indexed.{under_of}
 use Rattle.eql_part.specs.declared.table.Room.{Room}
 use Rattle.eql_part.specs.declared.table.KeyTable.{KeyTable}
 use Rattle.eql_part.specs.Hashes.{key_hash}
@@ -64,7 +64,7 @@ module _ {L : Type 0} where
   place_by under other rooms key = cond (is_there rooms (under (key_hash key)) key) (under (key_hash key)) (other key)
 
   abbrev pub place_of : KeyTable L → List Value → Option ℕ
-  place_of t = place_by (get nat_cmp t.by_hash) (get key_cmp t.others) t.rooms.items
+  place_of t = place_by (under_of t.by_hash) (get key_cmp t.others) t.rooms.items
 
   -- a room's key with its machine
   abbrev pub row_of : Room L → Option (List Value × Machine Ticket)
@@ -96,5 +96,5 @@ module _ {L : Type 0} where
 
   -- each key has its room, and rooms without a key are fit to be used again
   pub record IsTable (m : ℕ) (span : Option ℤ) (t : KeyTable L) : Type 0 where
-    pub housed : IsHoused (get nat_cmp t.by_hash) (get key_cmp t.others) t.rooms.items
+    pub housed : IsHoused (under_of t.by_hash) (get key_cmp t.others) t.rooms.items
     pub spare : All (IsSpare m span) t.rooms.items

@@ -10,7 +10,7 @@ use eql_values::{Key, Text, Value};
 const FACTOR: u64 = 11_400_714_819_323_198_485;
 
 /// A hash that goes on by one number.
-fn mix(hash: u64, number: u64) -> u64
+pub(crate) fn mix(hash: u64, number: u64) -> u64
     ensures { result ≡ mixed hash number }
 {
     hash.wrapping_add(number).wrapping_mul(FACTOR)

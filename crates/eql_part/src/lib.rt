@@ -2,6 +2,7 @@
 #![tactic(auto)]
 
 mod hash;
+mod index;
 mod keys;
 mod listing;
 mod machine;

@@ -1,16 +1,17 @@
 //! The machines of the keys, each in a room of its own. A key's room is found by a hash of the key: under the hash stands the
-//! place of one key's room, and the few keys whose hash another key has stand by themselves. So no input makes a search slow.
-//! A room whose key goes keeps its machine for the next key.
+//! place of one key's room, and the few keys for which there is no room in the index of hashes, or whose hash another key has,
+//! stand in an ordered map. So no input makes a search slow. A room whose key goes keeps its machine for the next key.
 ghost use Rattle.std.specs.Prelude.{◌≡◌, ℕ, ℤ, ◌<◌, ◌≤◌, [], List, Option, None, Some, IfOk, IfSome, OnErr, OnOk, cond, length, map};
 ghost use Rattle.std.specs.BTreeMap.{get};
-ghost use Rattle.std.specs.Ordering.{nat_cmp};
 ghost use Rattle.eql_values.specs.declared.value.Value.{Value};
 ghost use Rattle.eql_values.specs.Orders.{key_cmp};
 ghost use Rattle.eql_part.specs.Hashes.{key_hash};
+ghost use Rattle.eql_part.specs.Indexed.{under_of};
 ghost use Rattle.eql_part.specs.KeyTables.{AreOf, IsEmptyAt};
 ghost use Rattle.eql_part.specs.Rooms.{AddsEmpty, Changes, HasKeyNow, IsNamed, IsTable, IsUnnamed, entries_of, is_key, key_at, lent, place_of, rows_of};
 
 use crate::hash::hash_of;
+use crate::index::HashIndex;
 use crate::machine::KeyMachine;
 use crate::rooms::Shape;
 use eql_values::{Key, Memory};
@@ -29,8 +30,8 @@ pub(crate) struct Room<L: Ledger> {
 #[derive(Drop)]
 pub(crate) struct KeyTable<L: Ledger> {
     /// The place of a key's room, under the key's hash.
-    pub by_hash: BTreeMap<u64, usize>,
-    /// The places of keys whose hash had another key's room.
+    pub by_hash: HashIndex,
+    /// The places of keys that the index has no slot for.
     pub others: BTreeMap<Key, usize>,
     /// The rooms, by place.
     pub rooms: Vec<Room<L>>,
@@ -45,7 +46,7 @@ impl<L: Ledger> KeyTable<L> {
         ensures table { (m : ℕ) (span : Option ℤ) → IsTable m span result }
     {
         KeyTable {
-            by_hash: BTreeMap::new(alloc),
+            by_hash: HashIndex::new(alloc),
             others: BTreeMap::new(alloc),
             rooms: Vec::new(alloc),
             free: Vec::new(alloc),
@@ -70,9 +71,9 @@ impl<L: Ledger> KeyTable<L> {
         requires { hash ≡ key_hash key.now }
         ensures { result ≡ place_of self.now key.now }
     {
-        if let Some(place) = self.by_hash.get(&hash) {
-            if self.has_key(*place, key) {
-                return Some(*place);
+        if let Some(place) = self.by_hash.find(hash) {
+            if self.has_key(place, key) {
+                return Some(place);
             }
         }
         self.others.get(key).copied()
@@ -135,21 +136,20 @@ impl<L: Ledger> KeyTable<L> {
         }
     }
 
-    /// Notes the place of a key that has none. After want of memory nothing has changed.
-    fn name(&mut self, hash: u64, key: &Key, place: usize) -> Result<(), Memory>
+    /// Notes the place of a key that has none. After want of memory no key's place has changed.
+    fn name(&mut self, alloc: Global, hash: u64, key: &Key, place: usize) -> Result<(), Memory>
         requires hash { hash ≡ key_hash key.now }
         ensures rooms { self.new.rooms ≡ self.old.rooms }
-        ensures named { OnOk result (IsNamed key.now place (get nat_cmp self.old.by_hash)
-            (get nat_cmp self.new.by_hash) (get key_cmp self.old.others)
+        ensures named { OnOk result (IsNamed key.now place (under_of self.old.by_hash)
+            (under_of self.new.by_hash) (get key_cmp self.old.others)
             (get key_cmp self.new.others)) }
-        ensures unchanged { OnErr result ((self.new.by_hash.entries ≡ self.old.by_hash.entries)
-            × (self.new.others.entries ≡ self.old.others.entries)) }
+        ensures unchanged { OnErr result (((q : ℕ) → under_of self.new.by_hash q
+            ≡ under_of self.old.by_hash q) × (self.new.others.entries ≡ self.old.others.entries)) }
     {
-        if self.by_hash.contains_key(&hash) {
+        let rooms = self.rooms.len();
+        if !self.by_hash.put(alloc, hash, place, rooms) {
             let own = key.clone()?;
             self.others.insert(own, place)?;
-        } else {
-            self.by_hash.insert(hash, place)?;
         }
         Ok(())
     }
@@ -181,7 +181,7 @@ impl<L: Ledger> KeyTable<L> {
     {
         let place = self.spare_room(shape)?;
         let own = key.clone()?;
-        self.name(hash, key, place)?;
+        self.name(shape.alloc, hash, key, place)?;
         self.move_in(own, place);
         Ok(place)
     }
@@ -189,13 +189,11 @@ impl<L: Ledger> KeyTable<L> {
     /// Notes that a key has its place no more.
     fn unname(&mut self, hash: u64, key: &Key, place: usize)
         ensures rooms { self.new.rooms ≡ self.old.rooms }
-        ensures unnamed { IsUnnamed key.now place (get nat_cmp self.old.by_hash)
-            (get nat_cmp self.new.by_hash) (get key_cmp self.old.others)
+        ensures unnamed { IsUnnamed key.now place (under_of self.old.by_hash)
+            (under_of self.new.by_hash) (get key_cmp self.old.others)
             (get key_cmp self.new.others) }
     {
-        if self.by_hash.get(&hash) == Some(&place) {
-            self.by_hash.remove(&hash);
-        }
+        self.by_hash.remove(hash, place);
         self.others.remove(key);
     }
 

@@ -1,6 +1,5 @@
 use Rattle.std.proofs.Common.{◌++◌, ◌∷◌, ◌-◌, [], List, None, refl, sym, ap, ◌∙◌, subst, arith}
 use Rattle.std.specs.BTreeMap.{get}
-use Rattle.std.specs.Ordering.{nat_cmp}
 use Rattle.std.specs.Prelude.{All}
 use Rattle.std.proofs.lemmas.List.{append-nil}
 use Rattle.std.proofs.lemmas.List.Elements.{All-push, filter_map-append}
@@ -9,6 +8,7 @@ use Rattle.eql_values.specs.Ordered.{in_order}
 use Rattle.eql_values.specs.Orders.{key_cmp}
 use Rattle.eql_auto.specs.Machine.{Machine, tags_of}
 use Rattle.eql_span_list.specs.declared.node.Ticket.{Ticket}
+use Rattle.eql_part.specs.Indexed.{under_of}
 use Rattle.eql_part.specs.declared.table.Room.{Room}
 use Rattle.eql_part.specs.Rooms.{IsHoused, IsSpare, entries_in, key_at, key_in, place_by, row_of}
 use Rattle.eql_part.proofs.Housed.{housed_alike, place_alike, push_alike}
@@ -19,7 +19,7 @@ use Rattle.eql_part.proofs.table.KeyTable.new_room.Goals as goal
 pub returns-clause-table : goal.returns-clause-table
 returns-clause-table g c =
     let t = c.args.self.now in let m = c.args.shape.stages in let span = c.args.shape.span in
-    let under = get nat_cmp t.by_hash in let other = get key_cmp t.others in let rooms = t.rooms.items in
+    let under = under_of t.by_hash in let other = get key_cmp t.others in let rooms = t.rooms.items in
     let machine = c.in_ok-machine.machine in
     let room : Room _ = record { key = None; machine = machine } in
     let items = (c.in_ok-push.ensures {u = tt}).items in
@@ -33,7 +33,7 @@ returns-clause-table g c =
 pub returns-clause-places : goal.returns-clause-places
 returns-clause-places g c = λ q.
     let t = c.args.self.now in
-    let under = get nat_cmp t.by_hash in let other = get key_cmp t.others in let rooms = t.rooms.items in
+    let under = under_of t.by_hash in let other = get key_cmp t.others in let rooms = t.rooms.items in
     let room : Room _ = record { key = None; machine = c.in_ok-machine.machine } in
     let items = (c.in_ok-push.ensures {u = tt}).items in
     ap (λ (l : List (Room _)). place_by under other l q) items ∙ place_alike under other rooms (rooms ++ room ∷ []) (push_alike rooms room refl) q
