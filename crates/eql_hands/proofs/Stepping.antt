@@ -13,7 +13,7 @@ use Rattle.eql_hub.specs.Hands.{HandView, LaneKnown, PartKnown}
 use Rattle.eql_hub.specs.Steps.{EachPlace, LaneEnded, LaneEnds, LaneIdle, LaneQuiet, PartEnded, PartEnds, PartIdle, PartQuiet, Steps}
 use Rattle.eql_hub.specs.Turns.{LaneTurn, PartTurn, is_open_lane, is_open_part}
 use Rattle.eql_hands.specs.Growth.{EachPass, HasLooked, HaveLooked, mine_in, mine_of}
-use Rattle.eql_hands.proofs.Passes.{IsStep, busy_looked, mine_grows, played_looked, played_one, step_busy, step_played, step_same, step_worn}
+use Rattle.eql_hands.proofs.Passes.{IsStep, busy_looked, mine_grows, played_looked, played_one, step_busy, step_played, step_same, step_still, step_worn, still_looked}
 use Rattle.eql_hands.proofs.Places.{each_as, each_at, sum_grows, sum_grows_at}
 
 -- what one step does to each pass
@@ -23,11 +23,13 @@ AreSteps old new = EachPass IsStep IsStep old new
 -- ---- parts
 part_idle_step : (batch : ℕ) (v w : PartKnown) → PartIdle batch v w → IsStep v w
 part_idle_step batch v w (inl h) = step_played PartTurn is_open_part v w (part_op.Turn batch) part_reply.Idle h
-part_idle_step batch v w (inr (word, h)) = step_busy v w (part_op.Turn batch) (part_op.Turn batch) word h
+part_idle_step batch v w (inr (inl (word, h))) = step_busy v w (part_op.Turn batch) (part_op.Turn batch) word h
+part_idle_step batch v w (inr (inr (word, saw, is, met))) = step_still v w word is met
 
 part_idle_looked : (batch : ℕ) (v w : PartKnown) → PartIdle batch v w → HasLooked 1 v w
 part_idle_looked batch v w (inl h) = played_looked PartTurn is_open_part v w (part_op.Turn batch) part_reply.Idle h
-part_idle_looked batch v w (inr (word, h)) = busy_looked v w (part_op.Turn batch) (part_op.Turn batch) word h
+part_idle_looked batch v w (inr (inl (word, h))) = busy_looked v w (part_op.Turn batch) (part_op.Turn batch) word h
+part_idle_looked batch v w (inr (inr (word, saw, is, met))) = still_looked v w word met
 
 part_quiet_step : (batch : ℕ) (v w : PartKnown) → PartQuiet batch v w → IsStep v w
 part_quiet_step batch v w (inl e) = step_same v w e
@@ -47,12 +49,14 @@ module _ {S L : Type 0} (left lent_as : S → Option (List ℕ)) (fault_plan : S
   lane_idle_step : (v w : LaneKnown S L) → LaneIdle left lent_as fault_plan read_of batch v w → IsStep v w
   lane_idle_step v w (inl (ready, h)) = step_played (LaneTurn left lent_as fault_plan read_of) is_open_lane v w (lane_op.Feed batch) (lane_reply.Held ready) h
   lane_idle_step v w (inr (inl h)) = step_played (LaneTurn left lent_as fault_plan read_of) is_open_lane v w (lane_op.Feed batch) lane_reply.Closed h
-  lane_idle_step v w (inr (inr (word, h))) = step_busy v w (lane_op.Feed batch) (lane_op.Feed batch) word h
+  lane_idle_step v w (inr (inr (inl (word, h)))) = step_busy v w (lane_op.Feed batch) (lane_op.Feed batch) word h
+  lane_idle_step v w (inr (inr (inr (word, saw, is, met)))) = step_still v w word is met
 
   lane_idle_looked : (v w : LaneKnown S L) → LaneIdle left lent_as fault_plan read_of batch v w → HasLooked 1 v w
   lane_idle_looked v w (inl (ready, h)) = played_looked (LaneTurn left lent_as fault_plan read_of) is_open_lane v w (lane_op.Feed batch) (lane_reply.Held ready) h
   lane_idle_looked v w (inr (inl h)) = played_looked (LaneTurn left lent_as fault_plan read_of) is_open_lane v w (lane_op.Feed batch) lane_reply.Closed h
-  lane_idle_looked v w (inr (inr (word, h))) = busy_looked v w (lane_op.Feed batch) (lane_op.Feed batch) word h
+  lane_idle_looked v w (inr (inr (inl (word, h)))) = busy_looked v w (lane_op.Feed batch) (lane_op.Feed batch) word h
+  lane_idle_looked v w (inr (inr (inr (word, saw, is, met)))) = still_looked v w word met
 
   lane_quiet_step : (v w : LaneKnown S L) → LaneQuiet left lent_as fault_plan read_of batch v w → IsStep v w
   lane_quiet_step v w (inl e) = step_same v w e

@@ -19,17 +19,19 @@ const MOST_IDLE: u32 = 100_000;
 // So many steps a hand does at most.
 const MOST_STEPS: u64 = 1_099_511_627_776;
 
-// So many times the processor is told to rest between two steps at most.
+// After so many steps in a row that found nothing to do the thread lets others run between two steps.
 const MOST_SPINS: u32 = 16;
 
-// Pauses after so many steps in a row that found nothing to do: longer each time, and then it lets other threads run. So a hand
-// that is idle takes few turns from those at work. It waits for nobody.
+// Pauses after so many steps in a row that found nothing to do: the processor is told to rest, longer each time, and then other
+// threads are let run each time. So a hand that is idle asks the locks less often, and leaves its processor to those at work. It
+// waits for nobody.
 fn pause(idle: u32) {
-    for _ in 0..idle.min(MOST_SPINS) {
-        spin_loop();
-    }
     if idle > MOST_SPINS {
         yield_now();
+        return;
+    }
+    for _ in 0..idle {
+        spin_loop();
     }
 }
 

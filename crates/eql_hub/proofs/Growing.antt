@@ -11,7 +11,7 @@ use Rattle.eql_parts.specs.declared.ops.PartReply.TheVariants as part_reply
 use Rattle.eql_turn_lock.specs.declared.view.View.{View}
 use Rattle.eql_turn_lock.specs.declared.refused.NotNow.{NotNow}
 use Rattle.eql_turn_lock.specs.declared.refused.NotNow.TheVariants.{Busy, Worn}
-use Rattle.eql_turn_lock.specs.Calls.{PlaysOnce, Refuses}
+use Rattle.eql_turn_lock.specs.Calls.{IsUnplayed, PlaysOnce, Refuses}
 use Rattle.eql_turn_lock.specs.History.{entry}
 use Rattle.eql_hub.specs.declared.step.Did.{Did}
 use Rattle.eql_hub.specs.declared.step.Did.TheVariants as did
@@ -34,6 +34,9 @@ module _ {T O R : Type 0} where
   more_refused v w op (Busy word back) h = (h.1.2, let m = ap length h.1.1 in omega (arith, m))
   more_refused v w op (Worn word back) h = (h.1.2, let m = ap length h.1.1 in omega (arith, m))
 
+  more_unplayed : (v w : View T O R) → IsUnplayed v w → OneMore v w
+  more_unplayed v w is = (is.2, let m = ap length is.1 in omega (arith, m))
+
   -- one place changed so, and the others so
   more_places : (place : ℕ) (old new : List (View T O R)) (before after : View T O R) → length new ≡ length old
       → slice_get old place ≡ Some before → slice_get new place ≡ Some after → OneMore before after
@@ -51,7 +54,8 @@ module _ {T O R : Type 0} where
 
 part_idle_more : (batch : ℕ) (v w : PartKnown) → PartIdle batch v w → OneMore v w
 part_idle_more batch v w (inl h) = more_played PartTurn is_open_part v w (part_op.Turn batch) part_reply.Idle h
-part_idle_more batch v w (inr (word, h)) = more_refused v w (part_op.Turn batch) (Busy word (part_op.Turn batch)) h
+part_idle_more batch v w (inr (inl (word, h))) = more_refused v w (part_op.Turn batch) (Busy word (part_op.Turn batch)) h
+part_idle_more batch v w (inr (inr h)) = more_unplayed v w h.2
 
 part_quiet_more : (batch : ℕ) (v w : PartKnown) → PartQuiet batch v w → OneMore v w
 part_quiet_more batch v w (inl e) = more_same v w e
@@ -69,7 +73,8 @@ module _ {S L : Type 0} (left lent_as : S → Option (List ℕ)) (fault_plan : S
   lane_idle_more : (v w : LaneKnown S L) → LaneIdle left lent_as fault_plan read_of batch v w → OneMore v w
   lane_idle_more v w (inl (ready, h)) = more_played (LaneTurn left lent_as fault_plan read_of) is_open_lane v w (lane_op.Feed batch) (lane_reply.Held ready) h
   lane_idle_more v w (inr (inl h)) = more_played (LaneTurn left lent_as fault_plan read_of) is_open_lane v w (lane_op.Feed batch) lane_reply.Closed h
-  lane_idle_more v w (inr (inr (word, h))) = more_refused v w (lane_op.Feed batch) (Busy word (lane_op.Feed batch)) h
+  lane_idle_more v w (inr (inr (inl (word, h)))) = more_refused v w (lane_op.Feed batch) (Busy word (lane_op.Feed batch)) h
+  lane_idle_more v w (inr (inr (inr h))) = more_unplayed v w h.2
 
   lane_quiet_more : (v w : LaneKnown S L) → LaneQuiet left lent_as fault_plan read_of batch v w → OneMore v w
   lane_quiet_more v w (inl e) = more_same v w e

@@ -154,7 +154,7 @@ locks_sync T O R g t y = search (sendable, crosses, lock_sync) depth 20
 
 pub hand_send : (S L G : RattleType) (s : source.Ghosts S.Denot) (r : reader.Ghosts L.Denot) (l : ledger.Ghosts G.Denot) → IsSend S → IsSend L
     → IsSend (TurnedPart.the_row G l) → IsSend (Hand.the_row S L G s r l)
-hand_send S L G s r l a b c = search (sendable, passes_send, turned_lane_send) depth 20
+hand_send S L G s r l a b c = search (sendable, crosses, passes_send, turned_lane_send) depth 20
 
 pub hub_sync : (S L G : RattleType) (s : source.Ghosts S.Denot) (r : reader.Ghosts L.Denot) (l : ledger.Ghosts G.Denot) → IsSend S → IsSend L → IsSync S → IsSync L
     → IsSend (TurnedPart.the_row G l) → IsSync (TurnedPart.the_row G l) → IsSync (Hub.the_row S L G s r l)

@@ -17,6 +17,7 @@ use Rattle.eql_hub.specs.declared.step.Did.{Did}
 use Rattle.eql_hub.specs.declared.step.Did.TheVariants as did
 use Rattle.eql_hub.specs.declared.step.HandFault.TheVariants as fault
 use Rattle.eql_hub.specs.Hands.{HandView, LaneKnown, PartKnown}
+use Rattle.eql_hub.specs.Quiet.{FedNothing, FoundStill, TurnedNothing}
 use Rattle.eql_hub.specs.Turns.{LaneTurn, PartTurn, is_open_lane, is_open_part}
 
 -- two lists are related so, place by place
@@ -46,9 +47,13 @@ PartBusy batch v w = (word : ℕ) × Refuses v (part_op.Turn batch) (Busy word (
 abbrev pub PartWorn : (batch : ℕ) → PartKnown → PartKnown → Type 0
 PartWorn batch v w = (word : ℕ) × Refuses v (part_op.Turn batch) (Worn word (part_op.Turn batch)) w
 
--- nothing was to be done there: no event waits, or the lock was busy
+-- the part's lock still had the word at which the last call that the pass has seen was a turn answered `Idle`
+abbrev pub PartStill : PartKnown → PartKnown → Type 0
+PartStill v w = FoundStill TurnedNothing v w
+
+-- nothing was to be done there: no event waits, or the lock was busy, or nothing changed since no event waited
 abbrev pub PartIdle : (batch : ℕ) → PartKnown → PartKnown → Type 0
-PartIdle batch v w = PartAnswers batch part_reply.Idle v w ⊎ PartBusy batch v w
+PartIdle batch v w = PartAnswers batch part_reply.Idle v w ⊎ (PartBusy batch v w ⊎ PartStill v w)
 
 -- it wasn't tried, or nothing was to be done
 abbrev pub PartQuiet : (batch : ℕ) → PartKnown → PartKnown → Type 0
@@ -77,9 +82,13 @@ module _ {S L : Type 0} (left lent_as : S → Option (List ℕ)) (fault_plan : S
   abbrev pub LaneWorn : LaneKnown S L → LaneKnown S L → Type 0
   LaneWorn v w = (word : ℕ) × Refuses v (lane_op.Feed batch) (Worn word (lane_op.Feed batch)) w
 
-  -- nothing was to be done there: the lane holds enough or is closed, or the lock was busy
+  -- the lane's lock still had the word at which the last call that the pass has seen was a feed answered `Held` or `Closed`
+  abbrev pub LaneStill : LaneKnown S L → LaneKnown S L → Type 0
+  LaneStill v w = FoundStill FedNothing v w
+
+  -- nothing was to be done there: the lane holds enough or is closed, or the lock was busy, or nothing changed since the lane held enough or was closed
   abbrev pub LaneIdle : LaneKnown S L → LaneKnown S L → Type 0
-  LaneIdle v w = ((ready : ℕ) × LaneAnswers (lane_reply.Held ready) v w) ⊎ (LaneAnswers lane_reply.Closed v w ⊎ LaneBusy v w)
+  LaneIdle v w = ((ready : ℕ) × LaneAnswers (lane_reply.Held ready) v w) ⊎ (LaneAnswers lane_reply.Closed v w ⊎ (LaneBusy v w ⊎ LaneStill v w))
 
   -- it wasn't tried, or nothing was to be done
   abbrev pub LaneQuiet : LaneKnown S L → LaneKnown S L → Type 0

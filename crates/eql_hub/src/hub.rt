@@ -7,6 +7,7 @@ ghost use Rattle.eql_lock_row.specs.Rows.{AllJoined, AllKnow, AreFirst, joined_v
 ghost use Rattle.eql_hub.specs.Turns.{LaneTurn, PartTurn, is_open_lane, is_open_part};
 ghost use Rattle.eql_hub.specs.Hands.{AllBegin, AreAllJoined, IsFirst, IsHandOf, Knows};
 
+use crate::words::UNKNOWN;
 use crate::wrapped::{TurnedLane, TurnedPart, unwrap_all, wrap_all};
 use eql_lane::Lane;
 use eql_lock_row::{LockRow, PassRow};
@@ -39,19 +40,28 @@ impl<S: Source, L: LineReader, G: Ledger> Model for Hub<S, L, G> {
 }
 
 /// A pass of each lane and of each part, and the place from which the hand goes on. Contracts see what the passes know.
+///
+/// Beside each pass it remembers the word at which its last call there found nothing to do, and takes no turn there until the word
+/// has changed. The first hand has no such words.
 #[derive(Drop)]
 pub struct Hand<S: Source, L: LineReader, G: Ledger> {
     pub(crate) lanes: PassRow<TurnedLane<S, L>>,
     pub(crate) parts: PassRow<TurnedPart<G>>,
+    pub(crate) quiet_lanes: Vec<u64>,
+    pub(crate) quiet_parts: Vec<u64>,
     pub(crate) next: usize,
 }
 
 impl<S: Source, L: LineReader, G: Ledger> Model for Hand<S, L, G> {
     ghost use Rattle.eql_hub.specs.Hands.{HandView};
+    ghost use Rattle.eql_hub.specs.Quiet.{AllSawNothing, FedNothing, TurnedNothing};
 
     ghost Value = { HandView S L };
 
     ghost view = { λ h. record { lanes = h.lanes; parts = h.parts } };
+
+    ghost invariant = { λ h. AllSawNothing FedNothing h.quiet_lanes.items h.lanes.views
+        × AllSawNothing TurnedNothing h.quiet_parts.items h.parts.views };
 }
 
 /// Lanes under locks, with their first passes and the room in which they are handed back.
@@ -153,6 +163,8 @@ impl<S: Source, L: LineReader> LockedLanes<S, L> {
                 Hand {
                     lanes: self.passes,
                     parts: part_passes,
+                    quiet_lanes: Vec::new(alloc),
+                    quiet_parts: Vec::new(alloc),
                     next: 0,
                 },
             )),
@@ -223,7 +235,16 @@ impl<S: Source, L: LineReader, G: Ledger> Hub<S, L, G> {
         let _ = &self.room;
     }
 
-    /// A further hand, which has seen what the first one has. After want of memory nothing has changed.
+    // The place behind one, and the first place behind the last one.
+    fn place_behind(&self, place: usize) -> usize {
+        self.are_few();
+        let count = self.lanes.len() + self.parts.len();
+        let behind = place.wrapping_add(1);
+        if behind < count { behind } else { 0 }
+    }
+
+    /// A further hand, which has seen what the first one has, and begins one place behind the hand that was split off before it.
+    /// After want of memory nothing has changed.
     pub fn split_hand(
         &self,
         alloc: Global,
@@ -249,11 +270,20 @@ impl<S: Source, L: LineReader, G: Ledger> Hub<S, L, G> {
         let Ok(part_room) = self.parts.room(alloc) else {
             return Err(Memory);
         };
+        let Ok(quiet_lanes) = Vec::from_elem(alloc, UNKNOWN, self.lanes.len()) else {
+            return Err(Memory);
+        };
+        let Ok(quiet_parts) = Vec::from_elem(alloc, UNKNOWN, self.parts.len()) else {
+            return Err(Memory);
+        };
         let lanes = self.lanes.split(&mut hand.lanes, lane_room);
         let parts = self.parts.split(&mut hand.parts, part_room);
+        hand.next = self.place_behind(hand.next);
         Ok(Hand {
             lanes,
             parts,
+            quiet_lanes,
+            quiet_parts,
             next: hand.next,
         })
     }
@@ -271,6 +301,8 @@ impl<S: Source, L: LineReader, G: Ledger> Hub<S, L, G> {
         ensures seen { AllBegin hand.new hand.old }
         ensures other { AllBegin hand.new other }
     {
+        hand.quiet_lanes.clear();
+        hand.quiet_parts.clear();
         self.lanes.join(&mut hand.lanes, other.lanes);
         self.parts.join(&mut hand.parts, other.parts);
     }

@@ -9,6 +9,7 @@ mod hand;
 mod hub;
 mod places;
 mod step;
+mod words;
 mod wrapped;
 
 pub use hub::{Hand, Hub};

@@ -8,7 +8,8 @@ ghost use Rattle.eql_hub.specs.Sweeps.{Swept, Tried};
 ghost use Rattle.eql_hub.specs.Turns.{LaneTurn, PartTurn, is_open_lane, is_open_part};
 
 use crate::hub::{Hand, Hub};
-use crate::step::{Did, after_feed, after_turn};
+use crate::step::{Did, after_feed, after_turn, word_after_feed, word_after_turn};
+use crate::words::{keep_word, word_at};
 use eql_lane::LaneOp;
 use eql_outside::Source;
 use eql_parts::PartOp;
@@ -16,7 +17,7 @@ use eql_values::LineReader;
 use std::sync::ledger::Ledger;
 
 impl<S: Source, L: LineReader, G: Ledger> Hub<S, L, G> {
-    // Feeds a lane, if its turn is free.
+    // Feeds a lane, if its turn is free. It takes no turn where nothing changed since there was nothing to do.
     fn feed_lane(&self, hand: &mut Hand<S, L, G>, batch: u32, lane: u32) -> Option<Did>
         requires own { IsHandOf self.now hand.old }
         requires batch_from { 1 ≤ batch }
@@ -31,11 +32,14 @@ impl<S: Source, L: LineReader, G: Ledger> Hub<S, L, G> {
         ensures parts { hand.new.parts ≡ hand.old.parts }
     {
         let op = LaneOp::Feed { max: batch };
-        let tried = self.lanes.try_call(&mut hand.lanes, lane as usize, op);
+        let place = lane as usize;
+        let still = word_at(&hand.quiet_lanes, place);
+        let tried = self.lanes.try_moved(&mut hand.lanes, place, still, op);
+        keep_word(&mut hand.quiet_lanes, place, word_after_feed(still, &tried));
         after_feed(lane, tried)
     }
 
-    // Turns a part, if its turn is free.
+    // Turns a part, if its turn is free. It takes no turn where nothing changed since there was nothing to do.
     fn turn_part(&self, hand: &mut Hand<S, L, G>, batch: u32, part: u32) -> Option<Did>
         requires own { IsHandOf self.now hand.old }
         requires batch_from { 1 ≤ batch }
@@ -48,7 +52,10 @@ impl<S: Source, L: LineReader, G: Ledger> Hub<S, L, G> {
         ensures lanes { hand.new.lanes ≡ hand.old.lanes }
     {
         let op = PartOp::Turn { max: batch };
-        let tried = self.parts.try_call(&mut hand.parts, part as usize, op);
+        let place = part as usize;
+        let still = word_at(&hand.quiet_parts, place);
+        let tried = self.parts.try_moved(&mut hand.parts, place, still, op);
+        keep_word(&mut hand.quiet_parts, place, word_after_turn(still, &tried));
         after_turn(part, tried)
     }
 

@@ -17,7 +17,7 @@ use std::sync::Wait;
 use std::thread;
 
 /// A word from which on no turn is given.
-const WORN: u64 = 1 << 63;
+pub(crate) const WORN: u64 = 1 << 63;
 
 impl<T: Turned> TurnLock<T> {
     /// Plays the operation and waits for the turn, yielding between tries. It never answers `Busy`.
@@ -79,8 +79,8 @@ impl<T: Turned> TurnLock<T> {
         Ok(self.play_in_turn(&mut pass.seat, word, op))
     }
 
-    // Plays the operation in the turn that the seat holds, and ends the turn.
-    fn play_in_turn(
+    /// Plays the operation in the turn that the seat holds, and ends the turn.
+    pub(crate) fn play_in_turn(
         &self,
         seat: &mut Seat<Slot<T, T::Op, T::Reply>, View<T, T::Op, T::Reply>>,
         word: u64,
