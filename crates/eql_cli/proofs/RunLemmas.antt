@@ -254,7 +254,9 @@ made_errors (Err (run.Report r)) count stops = absurd stops
 
 pub made_disks : (r : Result (Unit {0}) RunHalt) (count : ℕ) → IfErr r StopsWriting → DiskAs r count count
 made_disks (Ok x) count stops = refl
-made_disks (Err (run.Files h)) count stops = refl
+made_disks (Err (run.Files (halt.Refused r))) count stops = absurd stops
+made_disks (Err (run.Files (halt.Read name))) count stops = absurd stops
+made_disks (Err (run.Files halt.Memory)) count stops = refl
 made_disks (Err (run.Cut why)) count stops = absurd stops
 made_disks (Err run.Disk) count stops = absurd stops
 made_disks (Err run.Write) count stops = refl
@@ -266,7 +268,9 @@ made_disks (Err (run.Report r)) count stops = absurd stops
 pub check_disks : (query fields : List ℕ) (files : Option Files) (r : Result (Unit {0}) RunHalt) (before now : ℕ) → now ≡ before
     → IfErr r (printing.HasCause query fields files) → DiskAs r before now
 check_disks query fields files (Ok x) before now same cause = same
-check_disks query fields files (Err (run.Files h)) before now same cause = same
+check_disks query fields files (Err (run.Files (halt.Refused r))) before now same cause = same
+check_disks query fields files (Err (run.Files (halt.Read name))) before now same cause = tt
+check_disks query fields files (Err (run.Files halt.Memory)) before now same cause = same
 check_disks query fields files (Err (run.Cut why)) before now same cause = absurd cause
 check_disks query fields files (Err run.Disk) before now same cause = absurd cause
 check_disks query fields files (Err run.Write) before now same cause = same

@@ -2,11 +2,10 @@
 #![tactic(auto)]
 
 mod check;
-mod gate;
 mod made;
 mod program;
 mod run;
 mod tell;
 
-pub use gate::{Gate, Moment, NoGate};
+pub use eql_hands::{Gate, Moment, NoGate};
 pub use program::{Ended, eql_main};

@@ -6,19 +6,24 @@ ghost use Rattle.eql_summary.specs.Written.{MadeAll, MadeFront};
 ghost use Rattle.eql_cli.specs.Printing.{StopsWriting};
 
 use eql_find::RunHalt;
+use eql_hands::Gate;
 use eql_inputs::Halt;
 use eql_outside::{OutRefused, Sink};
 use eql_summary::write_summary;
 use std::alloc::Global;
+use std::sync::Wait;
+use std::thread::Threads;
 
 /// Runs `made`: searches so many events that the program makes itself, and writes the summary to `out`.
 ///
 /// On `Ok` it is there whole. Else `out` got a front of it.
-pub(crate) fn run_made<'a, K: Sink>(
+pub(crate) fn run_made<'a, R: Threads + Wait + Sync, K: Sink, W: Gate + Sync>(
+    rt: &R,
     alloc: Global,
     hands: u32,
     events: u32,
     out: &mut K,
+    gate: &W,
 ) -> Result<(), RunHalt<'a>>
     requires hands { hands ≤ 16 }
     requires events { events ≤ 1000000 }
@@ -29,7 +34,7 @@ pub(crate) fn run_made<'a, K: Sink>(
     ensures counts { K.fault_count out.old ≤ K.fault_count out.new }
     ensures unfailing { IsUnfailing (K.fault_plan out.old) → IfErr result (λ halt. ¬ IsFault halt) }
 {
-    match write_summary(alloc, hands, events, out) {
+    match write_summary(rt, alloc, hands, events, out, gate) {
         Ok(()) => Ok(()),
         Err(OutRefused::Failed) => Err(RunHalt::Write),
         Err(OutRefused::Memory) => Err(RunHalt::Files(Halt::Memory)),

@@ -7,8 +7,8 @@ ghost use Rattle.eql_words.specs.Words.{bytes_of};
 ghost use Rattle.eql_runs.specs.Runs.{AskDisk, IfTold, IsAccepted, WroteAll, WroteListing, WroteSome, Told, Limited, IsReady, RefusedAs};
 ghost use Rattle.eql_cli.specs.Running.{KeepDisk};
 
-use crate::gate::Gate;
 use crate::run::run_words;
+use eql_hands::Gate;
 use eql_outside::{Shelf, Sink};
 use std::alloc::Global;
 use std::sync::Wait;
@@ -38,13 +38,13 @@ pub struct Ended<K, E> {
 /// this cut counts. The run puts cuts on the disk, and whatever a crash at any moment leaves of the disk holds what it held
 /// before, or one of these cuts.
 pub fn eql_main<R: Threads + Wait + Sync, H: Shelf, K: Sink, E: Sink, G: Gate + Sync>(
-    _rt: &R,
+    rt: &R,
     alloc: Global,
     words: &Vec<String>,
     shelf: &mut H,
     mut out: K,
     mut err: E,
-    _gate: &G,
+    gate: &G,
 ) -> Ended<K, E>
     // The headline: on status 0 the output got exactly the listing, from the line after those that the cut counts with which the
     // run began, and the error output the report. And nothing refuses the run.
@@ -94,11 +94,12 @@ pub fn eql_main<R: Threads + Wait + Sync, H: Shelf, K: Sink, E: Sink, G: Gate + 
         → Limited (bytes_of words.now.items) (H.files shelf.old)
         (H.disk_history shelf.old) (H.disk_history shelf.new) }
 
-    // No fault is passed over.
+    // No fault is passed over: where several come at once the read fault is told.
     ensures reads_told { H.fault_count shelf.old < H.fault_count shelf.new → result.status ≡ 4 }
-    ensures writes_told { K.fault_count out < K.fault_count result.out → result.status ≡ 5 }
+    ensures writes_told { K.fault_count out < K.fault_count result.out
+        → (result.status ≡ 5) ⊎ (result.status ≡ 4) }
     ensures disks_told { H.disk_fault_count shelf.old < H.disk_fault_count shelf.new
-        → result.status ≡ 6 }
+        → (result.status ≡ 6) ⊎ (result.status ≡ 4) }
     ensures errors_told { E.fault_count err < E.fault_count result.err → result.status ≢ 0 }
 
     // A run with good words, files and checkpoint in which nothing fails is done, unless memory ran out; and nothing fails over
@@ -148,6 +149,6 @@ pub fn eql_main<R: Threads + Wait + Sync, H: Shelf, K: Sink, E: Sink, G: Gate + 
         × (K.fault_count out ≤ K.fault_count result.out)
         × (E.fault_count err ≤ E.fault_count result.err) }
 {
-    let status = run_words(alloc, words, shelf, &mut out, &mut err);
+    let status = run_words(rt, alloc, words, shelf, &mut out, &mut err, gate);
     Ended { status, out, err }
 }

@@ -25,7 +25,7 @@ use Rattle.eql_runs.specs.Searches.{Search, matches_of, plan_of, reads_of, repor
 use Rattle.eql_runs.specs.Starts.{IsCutOf}
 use Rattle.eql_search.specs.declared.stop.Stop.{Stop}
 use Rattle.eql_search.specs.declared.stop.Stop.TheVariants as stop
-use Rattle.eql_search.specs.Answers.{BecameAt, CountWhole, HasCause, IsNoFault, OutOfBytes, OutOfLines, SteadyBut, WereRead}
+use Rattle.eql_search.specs.Answers.{BecameAt, CountWhole, HasCause, IsNoFault, IsRead, OutOfBytes, OutOfLines, SteadyBut, WereRead}
 use Rattle.eql_search.specs.Searches.{AreTextsOf}
 use Rattle.eql_find.specs.declared.halt.RunHalt.{RunHalt}
 use Rattle.eql_find.specs.declared.halt.RunHalt.TheVariants as run
@@ -208,54 +208,54 @@ module _ {S L : Type 0} (left : S → Option (List ℕ)) (find : Find) (told : O
   stopped_by search Started before now d e err err' _ _ cause rose ends (bytes shard) = (within shard cause.old cause.was, beyond_bytes shard cause)
   stopped_by search Started before now d e err err' _ _ cause rose ends generation = ends refl
 
-  pub err_steady : {T : Type 0} (r : Result T Stop) (why : Stop) → r ≡ Err why → SteadyBut (λ shard. r ≡ Err (stop.Read shard)) mids news
-      → SteadyBut (λ shard. why ≡ stop.Read shard) lanes news
-  err_steady r why is steady =
-      steady_over lanes mids news taken (λ shard. why ≡ stop.Read shard)
-      (λ shard old new untold. steady shard old new (λ e. untold (let same = sym is ∙ e in cc)))
+  pub err_steady : {T : Type 0} (r : Result T Stop) (why : Stop) → r ≡ Err why → SteadyBut (λ shard. IsRead r) mids news
+      → SteadyBut (λ shard. IsRead {A = T} (Err why)) lanes news
+  err_steady {T = T} r why is steady =
+      steady_over lanes mids news taken (λ shard. IsRead {A = T} (Err why))
+      (subst (λ (a : Result T Stop). SteadyBut (λ shard. IsRead a) mids news) is steady)
 
   pub faults_by : (T : Type 0) (before now disk_before disk_now : ℕ) (why : Stop) (h : RunHalt) → HasCause told why mids news before now disk_before disk_now
-      → SteadyBut (λ shard. why ≡ stop.Read shard) lanes news → IsHaltOf find.shards why h → LaneFaults {A = T} find (Err h) lanes news
+      → SteadyBut (λ shard. IsRead {A = T} (Err why)) lanes news → IsHaltOf find.shards why h → LaneFaults {A = T} find (Err h) lanes news
   faults_by T before now d f _ _ cause steady (read shard name named) = record {
     shard = shard;
     named = named;
     rose = rose_over lanes mids news taken shard cause;
-    others = λ other old new untold. steady other old new (λ e. untold cc);
   }
-  faults_by T before now d f _ _ cause steady write = λ shard old new untold. steady shard old new (λ e. cc)
-  faults_by T before now d f _ _ cause steady disk = λ shard old new untold. steady shard old new (λ e. cc)
-  faults_by T before now d f _ _ cause steady memory = λ shard old new untold. steady shard old new (λ e. cc)
-  faults_by T before now d f _ _ cause steady (lines of) = λ shard old new untold. steady shard old new (λ e. cc)
-  faults_by T before now d f _ _ cause steady (bytes of) = λ shard old new untold. steady shard old new (λ e. cc)
-  faults_by T before now d f _ _ cause steady generation = λ shard old new untold. steady shard old new (λ e. cc)
+  faults_by T before now d f _ _ cause steady write = steady
+  faults_by T before now d f _ _ cause steady disk = steady
+  faults_by T before now d f _ _ cause steady memory = steady
+  faults_by T before now d f _ _ cause steady (lines of) = steady
+  faults_by T before now d f _ _ cause steady (bytes of) = steady
+  faults_by T before now d f _ _ cause steady generation = steady
 
   -- a search that was done leaves the faults of all lanes
-  pub faults_done : {T : Type 0} (r : Result T Stop) (x : T) → r ≡ Ok x → SteadyBut (λ shard. r ≡ Err (stop.Read shard)) mids news
+  pub faults_done : {T : Type 0} (r : Result T Stop) (x : T) → r ≡ Ok x → SteadyBut (λ shard. IsRead r) mids news
       → SteadyBut (λ shard. ⊥) lanes news
-  faults_done r x is steady =
-      steady_over lanes mids news taken (λ shard. ⊥) (λ shard old new untold. steady shard old new (λ e. let same = sym is ∙ e in cc))
+  faults_done {T = T} r x is steady =
+      steady_over lanes mids news taken (λ shard. ⊥)
+      (subst (λ (a : Result T Stop). SteadyBut (λ shard. IsRead a) mids news) is steady)
 
 -- the counts of the disk, of the output and of the error output, by why the search stopped
 module _ {S L : Type 0} (A : Type 0) (shards : List (List ℕ)) (told : Option (List (List ℕ))) (olds news : List (LaneView S L)) (before now disk_before disk_now : ℕ) where
-  pub disk_as : (why : Stop) (h : RunHalt) → HasCause told why olds news before now disk_before disk_now → (why ≢ stop.Disk → disk_now ≡ disk_before)
-      → IsHaltOf shards why h → DiskAs {A = A} (Err h) disk_before disk_now
-  disk_as _ _ cause steady (read shard name named) = steady (λ e. absurd cc)
-  disk_as _ _ cause steady write = steady (λ e. absurd cc)
+  pub disk_as : (why : Stop) (h : RunHalt) → HasCause told why olds news before now disk_before disk_now
+      → (why ≢ stop.Disk → ¬ IsRead {A = A} (Err why) → disk_now ≡ disk_before) → IsHaltOf shards why h → DiskAs {A = A} (Err h) disk_before disk_now
+  disk_as _ _ cause steady (read shard name named) = tt
+  disk_as _ _ cause steady write = steady (λ e. absurd cc) (λ e. e)
   disk_as _ _ cause steady disk = cause
-  disk_as _ _ cause steady memory = steady (λ e. absurd cc)
-  disk_as _ _ cause steady (lines shard) = steady (λ e. absurd cc)
-  disk_as _ _ cause steady (bytes shard) = steady (λ e. absurd cc)
-  disk_as _ _ cause steady generation = steady (λ e. absurd cc)
+  disk_as _ _ cause steady memory = steady (λ e. absurd cc) (λ e. e)
+  disk_as _ _ cause steady (lines shard) = steady (λ e. absurd cc) (λ e. e)
+  disk_as _ _ cause steady (bytes shard) = steady (λ e. absurd cc) (λ e. e)
+  disk_as _ _ cause steady generation = steady (λ e. absurd cc) (λ e. e)
 
-  pub out_as : (why : Stop) (h : RunHalt) → HasCause told why olds news before now disk_before disk_now → (why ≢ stop.Write → now ≡ before)
-      → IsHaltOf shards why h → OutAs {A = A} (Err h) before now
-  out_as _ _ cause steady (read shard name named) = steady (λ e. absurd cc)
+  pub out_as : (why : Stop) (h : RunHalt) → HasCause told why olds news before now disk_before disk_now
+      → (why ≢ stop.Write → ¬ IsRead {A = A} (Err why) → now ≡ before) → IsHaltOf shards why h → OutAs {A = A} (Err h) before now
+  out_as _ _ cause steady (read shard name named) = tt
   out_as _ _ cause steady write = cause
-  out_as _ _ cause steady disk = steady (λ e. absurd cc)
-  out_as _ _ cause steady memory = steady (λ e. absurd cc)
-  out_as _ _ cause steady (lines shard) = steady (λ e. absurd cc)
-  out_as _ _ cause steady (bytes shard) = steady (λ e. absurd cc)
-  out_as _ _ cause steady generation = steady (λ e. absurd cc)
+  out_as _ _ cause steady disk = steady (λ e. absurd cc) (λ e. e)
+  out_as _ _ cause steady memory = steady (λ e. absurd cc) (λ e. e)
+  out_as _ _ cause steady (lines shard) = steady (λ e. absurd cc) (λ e. e)
+  out_as _ _ cause steady (bytes shard) = steady (λ e. absurd cc) (λ e. e)
+  out_as _ _ cause steady generation = steady (λ e. absurd cc) (λ e. e)
 
 pub err_as : (A : Type 0) (shards : List (List ℕ)) (n : ℕ) (why : Stop) (h : RunHalt) → IsHaltOf shards why h → ErrAs {A = A} (Err h) n n
 err_as A shards n _ _ (read shard name named) = refl
@@ -269,6 +269,9 @@ err_as A shards n _ _ generation = refl
 -- an answer that is an error is no other one
 pub no_other : {T : Type 0} (r : Result T Stop) (why other : Stop) → r ≡ Err why → why ≢ other → r ≢ Err other
 no_other r why other is apart = λ e. apart (let same = sym is ∙ e in cc)
+
+pub unread : {T : Type 0} (r : Result T Stop) (why : Stop) → r ≡ Err why → ¬ IsRead {A = T} (Err why) → ¬ IsRead r
+unread {T = T} r why is none = λ read. none (subst (λ (a : Result T Stop). IsRead a) is read)
 
 pub calm_by : (shards : List (List ℕ)) (why : Stop) (h : RunHalt) → IsNoFault why → IsHaltOf shards why h → ¬ IsFault h
 calm_by shards _ _ calm (read shard name named) fault = absurd calm

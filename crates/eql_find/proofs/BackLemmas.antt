@@ -1,12 +1,15 @@
 -- Sources that go back to their shelf.
 use native.Mathlib.Omega.{arith}
-use Rattle.std.proofs.Common.{◌≡◌, ℕ, ◌+◌, ◌-◌, ◌<◌, ◌≤◌, inl, inr, List, [], ◌∷◌, ◌++◌, Option, Some, None, sym, ap, ap₂, ◌∙◌, subst, map}
-use Rattle.std.specs.Prelude.{IfSome}
+use Rattle.std.proofs.Common.{◌≡◌, ℕ, zero, suc, ◌+◌, ◌-◌, ◌<◌, ◌≤◌, ◌⊎◌, inl, inr, Bool, true, false, List, [], ◌∷◌, ◌++◌, Option, Some, None, refl, sym, ap, ap₂, ◌∙◌, subst, map}
+use Rattle.std.specs.Prelude.{Decides, IfSome}
+use Rattle.std.specs.Str.{bytes_eq}
+use Rattle.std.proofs.lemmas.Bool.{false≢true}
+use Rattle.std.proofs.lemmas.Slice.Eq.{bytes_eq-Decides}
 use Rattle.std.proofs.lemmas.List.{append_assoc}
 use Rattle.eql_outside.specs.Outside.{Rose}
-use Rattle.eql_outside.specs.Faults.{SameFaults, RoseFor, RoseUnder, RosesAgree}
+use Rattle.eql_outside.specs.Faults.{SameFaults, RoseFor, RoseUnder}
 use Rattle.eql_lane.specs.Views.{LaneView}
-use Rattle.eql_find.specs.Lanes.{Returned, OneFailed, CameBack, returned, lane_returned}
+use Rattle.eql_find.specs.Lanes.{Returned, SomeFailed, CameBack, returned, lane_returned}
 
 -- what a shelf's counts say once one source comes back
 pub record CameOne (back : Returned) (before now : ℕ) (names names' : List ℕ → ℕ) : Type 0 where
@@ -14,32 +17,83 @@ pub record CameOne (back : Returned) (before now : ℕ) (names names' : List ℕ
   pub raised_named : 0 < back.faults → RoseUnder back.name names names'
   pub same : back.faults ≡ 0 → now ≡ before
   pub same_named : back.faults ≡ 0 → SameFaults names names'
+  pub counts : before ≤ now
+
+-- ---- counts that grow
+rose_first : (a b c : ℕ) → a ≤ b → Rose b c → Rose a c
+rose_first a b c up (inl h) = inl (omega (arith, up, h))
+rose_first a b c up (inr h) = inr h
+
+-- what rose stays so where it grows no further but by a rise
+rose_then : (a b c : ℕ) → a ≤ b → Rose a b → Rose b c ⊎ (c ≡ b) → Rose a c
+rose_then a b c up rose (inl further) = rose_first a b c up further
+rose_then a b c up rose (inr same) = subst (λ (n : ℕ). Rose a n) (sym same) rose
+
+-- the counts by name, where those of the name under which a source was lent rose
+module _ (names names' : List ℕ → ℕ) where
+  grown_under : (o : Option (List ℕ)) → RoseUnder o names names' → (any : List ℕ) → names any ≤ names' any
+  grown_under None same any = let e = same any in omega (arith, e)
+  grown_under (Some name) rose any = rose.counts any
+
+  by_equal : (any name : List ℕ) → RoseFor name names names' → (b : Bool) → Decides b (any ≡ name) → Rose (names any) (names' any) ⊎ (names' any ≡ names any)
+  by_equal any name rose true is = inl (subst (λ (n : List ℕ). Rose (names n) (names' n)) (sym (is.0 refl)) rose.rose)
+  by_equal any name rose false is = inr (rose.others any (λ e. absurd (false≢true (is.1 e))))
+
+  rose_or_same : (o : Option (List ℕ)) → RoseUnder o names names' → (any : List ℕ) → Rose (names any) (names' any) ⊎ (names' any ≡ names any)
+  rose_or_same None same any = inr (same any)
+  rose_or_same (Some name) rose any = by_equal any name rose (bytes_eq any name) (bytes_eq-Decides any name)
+
+  -- by whether the source failed
+  module _ (faults : ℕ) (o : Option (List ℕ)) (raised : 0 < faults → RoseUnder o names names') (same : faults ≡ 0 → SameFaults names names') where
+    pub grown : (any : List ℕ) → names any ≤ names' any
+    grown any = by faults refl
+      where
+        by : (n : ℕ) → faults ≡ n → names any ≤ names' any
+        by zero e = let s = same e any in omega (arith, s)
+        by (suc n) e = grown_under o (raised (omega (arith, e))) any
+
+    pub rises : (any : List ℕ) → Rose (names any) (names' any) ⊎ (names' any ≡ names any)
+    rises any = by faults refl
+      where
+        by : (n : ℕ) → faults ≡ n → Rose (names any) (names' any) ⊎ (names' any ≡ names any)
+        by zero e = inr (same e any)
+        by (suc n) e = rose_or_same o (raised (omega (arith, e))) any
 
 by_name : (name : List ℕ) (o : Option (List ℕ)) (names names' : List ℕ → ℕ) → o ≡ Some name → RoseUnder o names names'
     → RoseFor name names names'
 by_name name o names names' is rose = subst (λ (x : Option (List ℕ)). RoseUnder x names names') is rose
 
+count_rises : (faults before now : ℕ) → (0 < faults → Rose before now) → (faults ≡ 0 → now ≡ before) → Rose before now ⊎ (now ≡ before)
+count_rises zero before now raised same = inr (same refl)
+count_rises (suc n) before now raised same = inl (raised (omega arith))
+
 -- one more came back
-pub one_came : RosesAgree → (back : Returned) (backs : List Returned) (before mid now : ℕ) (first between last : List ℕ → ℕ)
+pub one_came : (back : Returned) (backs : List Returned) (before mid now : ℕ) (first between last : List ℕ → ℕ)
     → CameBack backs before mid first between → CameOne back mid now between last
     → CameBack (back ∷ backs) before now first last
-one_came agree back backs before mid now first between last came one = record {
+one_came back backs before mid now first between last came one = record {
   none = λ h.
       let earlier = came.none h.1 in
       (one.same h.0 ∙ earlier.0, λ name. one.same_named h.0 name ∙ earlier.1 name);
   one = λ name h. by name h;
+  counts = (
+    let a = came.counts.0 in let b = one.counts in omega (arith, a, b),
+    λ any.
+        let a = came.counts.1 any in
+        let b = grown between last back.faults back.name one.raised_named one.same_named any in
+        omega (arith, a, b),
+  );
 }
   where
-    by : (name : List ℕ) → OneFailed name (back ∷ backs) → Rose before now × RoseFor name first last
-    by name (inl h) =
-        let earlier = came.none h.1 in (
-          subst (λ (n : ℕ). Rose n now) earlier.0 (one.raised h.0.often),
-          agree.earlier name first between last earlier.1 (by_name name back.name between last h.0.named (one.raised_named h.0.often)),
-        )
+    by : (name : List ℕ) → SomeFailed name (back ∷ backs) → Rose before now × Rose (first name) (last name)
+    by name (inl h) = (
+      rose_first before mid now came.counts.0 (one.raised h.often),
+      rose_first (first name) (between name) (last name) (came.counts.1 name) (by_name name back.name between last h.named (one.raised_named h.often)).rose,
+    )
     by name (inr h) =
-        let earlier = came.one name h.1 in (
-          subst (λ (n : ℕ). Rose before n) (sym (one.same h.0)) earlier.0,
-          agree.later name first between last earlier.1 (one.same_named h.0),
+        let earlier = came.one name h in (
+          rose_then before mid now came.counts.0 earlier.0 (count_rises back.faults mid now one.raised one.same),
+          rose_then (first name) (between name) (last name) (came.counts.1 name) earlier.1 (rises between last back.faults back.name one.raised_named one.same_named name),
         )
 
 -- of a list the last comes back before those that came back already
@@ -48,13 +102,13 @@ pub record Gone {X : Type 0} (back_of : X → Returned) (all left : List X) (bef
   pub all_are : all ≡ left ++ gone
   pub came : CameBack (map back_of gone) before now names names'
 
-pub one_gone : {X : Type 0} (back_of : X → Returned) → RosesAgree → (all left less : List X) (x : X) (before mid now : ℕ)
+pub one_gone : {X : Type 0} (back_of : X → Returned) (all left less : List X) (x : X) (before mid now : ℕ)
     (first between last : List ℕ → ℕ) → left ≡ less ++ x ∷ [] → Gone back_of all left before mid first between
     → CameOne (back_of x) mid now between last → Gone back_of all less before now first last
-one_gone back_of agree all left less x before mid now first between last is gone one = record {
+one_gone back_of all left less x before mid now first between last is gone one = record {
   gone = x ∷ gone.gone;
   all_are = gone.all_are ∙ ap (λ ys. ys ++ gone.gone) is ∙ append_assoc less (x ∷ []) gone.gone;
-  came = one_came agree (back_of x) (map back_of gone.gone) before mid now first between last gone.came one;
+  came = one_came (back_of x) (map back_of gone.gone) before mid now first between last gone.came one;
 }
 
 -- how many are lent, as they come back one by one

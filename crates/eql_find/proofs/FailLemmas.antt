@@ -11,7 +11,7 @@ use Rattle.eql_outside.specs.Plans.{FaultPlan}
 use Rattle.eql_lane.specs.Views.{LaneView}
 use Rattle.eql_lane.specs.declared.make.LaneStart.{LaneStart}
 use Rattle.eql_search.specs.Answers.{BecameAt, RoseFaults, SteadyBut}
-use Rattle.eql_find.specs.Lanes.{AreOver, NoneFailed, OneFailed, StaysSource, lane_returned}
+use Rattle.eql_find.specs.Lanes.{AreOver, NoneFailed, SomeFailed, StaysSource, lane_returned}
 use Rattle.eql_find.proofs.MakingLemmas.{made_faults, made_named, rose_from_none}
 use Rattle.eql_find.proofs.TextLemmas.{parts_of}
 
@@ -66,30 +66,21 @@ module _ {S L : Type 0} (left lent_as : S → Option (List ℕ)) where
         (steady_behind Told o n os ns steady),
   )
 
-  pub one_failed_lane : (shard : ℕ) (name : List ℕ) (names : List (List ℕ)) (olds news : List (LaneView S L))
+  pub some_failed_lane : (shard : ℕ) (name : List ℕ) (names : List (List ℕ)) (olds news : List (LaneView S L))
       → slice_get names shard ≡ Some name → AreNamed lent_as names olds → AllZip (StaysSource left lent_as) olds news
-      → BecameAt shard olds news RoseFaults → SteadyBut (λ s. s ≡ shard) olds news
-      → OneFailed name (map (lane_returned lent_as) news)
-  one_failed_lane shard name [] olds news is named stays became steady = absurd (none-some name is)
-  one_failed_lane shard name (m ∷ ms) [] news is named stays became steady = absurd named
-  one_failed_lane shard name (m ∷ ms) (o ∷ os) [] is named stays became steady = absurd stays
-  one_failed_lane zero name (m ∷ ms) (o ∷ os) (n ∷ ns) is named stays became steady =
+      → BecameAt shard olds news RoseFaults → SomeFailed name (map (lane_returned lent_as) news)
+  some_failed_lane shard name [] olds news is named stays became = absurd (none-some name is)
+  some_failed_lane shard name (m ∷ ms) [] news is named stays became = absurd named
+  some_failed_lane shard name (m ∷ ms) (o ∷ os) [] is named stays became = absurd stays
+  some_failed_lane zero name (m ∷ ms) (o ∷ os) (n ∷ ns) is named stays became =
       let old = same_Some o became.old became.was in
       let new = same_Some n became.new became.is in
-      inl (
-        record {
-          often = rose_from_none o.state.faults n.state.faults named.0.none
-              (subst (λ (x : LaneView S L). Rose x.state.faults n.state.faults) (sym old)
-              (subst (λ (y : LaneView S L). Rose became.old.state.faults y.state.faults) (sym new) became.became));
-          named = stays.0.named ∙ named.0.named ∙ is;
-        },
-        none_failed_lanes ms os ns (λ s. suc s ≡ zero) (λ s e. omega (arith, e)) named.1 stays.1
-            (steady_behind (λ s. s ≡ zero) o n os ns steady),
-      )
-  one_failed_lane (suc shard) name (m ∷ ms) (o ∷ os) (n ∷ ns) is named stays became steady =
-      inr (
-        steady zero o n (λ e. omega (arith, e)) refl refl ∙ named.0.none,
-        one_failed_lane shard name ms os ns is named.1 stays.1
-            (record { old = became.old; new = became.new; was = became.was; is = became.is; became = became.became })
-            (λ s a b none was new. steady (suc s) a b (λ e. none (omega (arith, e))) was new),
-      )
+      inl (record {
+        often = rose_from_none o.state.faults n.state.faults named.0.none
+            (subst (λ (x : LaneView S L). Rose x.state.faults n.state.faults) (sym old)
+            (subst (λ (y : LaneView S L). Rose became.old.state.faults y.state.faults) (sym new) became.became));
+        named = stays.0.named ∙ named.0.named ∙ is;
+      })
+  some_failed_lane (suc shard) name (m ∷ ms) (o ∷ os) (n ∷ ns) is named stays became =
+      inr (some_failed_lane shard name ms os ns is named.1 stays.1
+      (record { old = became.old; new = became.new; was = became.was; is = became.is; became = became.became }))

@@ -83,7 +83,9 @@ module _ {D : Type 0} (history : D → Option History) (count : D → ℕ) where
       → IsFreshKeep history count start keep → GaveBack kept before now
       → DiskAs r (disk_faults history count keep) (disk_faults history count kept) → DiskAs r before now
   disk_told start keep kept (Ok done) before now fresh gave told = back_same kept before now gave (told ∙ fresh_count start keep fresh)
-  disk_told start keep kept (Err (run.Files h)) before now fresh gave told = back_same kept before now gave (told ∙ fresh_count start keep fresh)
+  disk_told start keep kept (Err (run.Files (halt.Refused r))) before now fresh gave told = back_same kept before now gave (told ∙ fresh_count start keep fresh)
+  disk_told start keep kept (Err (run.Files (halt.Read name))) before now fresh gave told = tt
+  disk_told start keep kept (Err (run.Files halt.Memory)) before now fresh gave told = back_same kept before now gave (told ∙ fresh_count start keep fresh)
   disk_told start keep kept (Err (run.Cut why)) before now fresh gave told = back_same kept before now gave (told ∙ fresh_count start keep fresh)
   disk_told start keep kept (Err run.Disk) before now fresh gave told =
       back_rose kept before now (disk_faults history count keep) gave (fresh_count start keep fresh) told
@@ -104,7 +106,6 @@ then_faults before mid now (Ok done) same h = λ name. same name ∙ h name
 then_faults before mid now (Err (run.Files (halt.Refused r))) same h = λ name. same name ∙ h name
 then_faults before mid now (Err (run.Files (halt.Read name))) same h = record {
   rose = subst (λ (n : ℕ). Rose (before name.now) n) (sym (same name.now)) h.rose;
-  others = λ other ne. same other ∙ h.others other ne;
   counts = λ any. subst (λ (n : ℕ). before any ≤ n) (sym (same any)) (h.counts any);
 }
 then_faults before mid now (Err (run.Files halt.Memory)) same h = λ name. same name ∙ h name

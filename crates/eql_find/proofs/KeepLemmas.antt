@@ -32,6 +32,7 @@ use Rattle.eql_runs.specs.Searches.{Search, matches_of, nanos_in, pipes_of, read
 use Rattle.eql_runs.specs.Starts.{IsCutOf}
 use Rattle.eql_search.specs.declared.stop.Stop.{Stop}
 use Rattle.eql_search.specs.declared.stop.Stop.TheVariants as stop
+use Rattle.eql_search.specs.Answers.{IsRead}
 use Rattle.eql_search.specs.Keeping.{IsLaterCut, IsSearchCut, KeepsOn}
 use Rattle.eql_find.specs.declared.halt.RunHalt.{RunHalt}
 use Rattle.eql_find.specs.declared.halt.RunHalt.TheVariants as run
@@ -44,6 +45,9 @@ not_disk answer at disk = cc
 
 not_memory : {A : Type 0} (answer : Result A Stop) → answer ≡ Err (stop.Limit reached.Generation) → answer ≡ Err stop.Memory → ⊥
 not_memory answer at memory = cc
+
+not_read : {A : Type 0} (answer : Result A Stop) → answer ≡ Err (stop.Limit reached.Generation) → IsRead answer → ⊥
+not_read answer at read = subst (λ (a : Result _ Stop). IsRead a) at read
 
 none_rose : Rose 0 0 → ⊥
 none_rose (inl h) = omega (arith, h)
@@ -64,7 +68,7 @@ module _ {D : Type 0} (history : D → Option History) where
     are_later = All-nil (IsLaterCut head from);
     are_cuts = none;
     puts = puts_none (last_cut k.state) (history k.disk);
-    stands = λ disk memory. absurd (memory refl);
+    stands = λ disk memory unread. absurd (memory refl);
     last = tt;
     ended = λ e. absurd cc;
   }
@@ -126,7 +130,7 @@ module _ {D : Type 0} (history : D → Option History) where
     at_end = λ e.
         let at : answer ≡ Err (stop.Limit reached.Generation) = ends e in
         let end = h.ended at in
-        (end.0, end.1, h.stands (λ disk. not_disk answer at disk) (λ memory. not_memory answer at memory));
+        (end.0, end.1, h.stands (λ disk. not_disk answer at disk) (λ memory. not_memory answer at memory) (not_read answer at));
   }
 
   -- ---- a run that asks for no checkpoint keeps no cuts

@@ -9,6 +9,7 @@ pub mod ReportLemmas
 pub mod StopLemmas
 pub mod TextLemmas
 pub mod FailLemmas
+pub mod FileLemmas
 pub mod RefusingLemmas
 pub mod BeginningLemmas
 pub mod AllowingLemmas
@@ -32,3 +33,4 @@ pub mod EndingLemmas
 pub mod PuttingLemmas
 pub mod OverLemmas
 pub mod GivingLemmas
+pub mod Sends

@@ -26,7 +26,7 @@ use Rattle.eql_find.specs.Halts.{FaultsAs, CountAs, DiskAs, OutAs, ErrAs, IsFaul
 use Rattle.eql_find.specs.Lanes.{AreOver, CameBack, StaysSource, StoppedMaking, lane_returned}
 use Rattle.eql_find.specs.Searching.{LaneFaults}
 use Rattle.eql_find.specs.Stops.{IsHaltAt, short, no_line, grown, failed, unmade}
-use Rattle.eql_find.proofs.FailLemmas.{AreNamed, none_failed_lanes, one_failed_lane}
+use Rattle.eql_find.proofs.FailLemmas.{AreNamed, none_failed_lanes, some_failed_lane}
 use Rattle.eql_find.proofs.MakingLemmas.{by_failure, not_failed}
 use Rattle.eql_find.proofs.TextLemmas.{as_many, parts_of}
 
@@ -110,11 +110,12 @@ module _ {S : Type 0} (left lent_as : S → Option (List ℕ)) (faults : S → �
   failed_halt shard name there (inl h) = absurd (false≢true (sym (ap by_failure h.0)))
   failed_halt shard name there (inr at) =
       let rose = at.rose refl in
+      let by_name = under_name (lent_as at.source) name.now (named_at lent_as sources shards shard at.source name.now named at.is there) rose.1 in
       record {
-        faults = under_name (lent_as at.source) name.now (named_at lent_as sources shards shard at.source name.now named at.is there) rose.1;
+        faults = record { rose = by_name.rose; counts = by_name.counts };
         count = rose.0;
-        disk = λ n. refl;
-        out = λ n. refl;
+        disk = λ n. tt;
+        out = λ n. tt;
         err = λ n. refl;
         quiet = tt;
         no_report = λ h. h;
@@ -157,7 +158,7 @@ module _ {S L : Type 0} (left lent_as : S → Option (List ℕ)) (find : Find)
   faults_as (Ok done) fails = (none_back fails).1
   faults_as (Err (run.Files (halt.Refused r))) fails = (none_back fails).1
   faults_as (Err (run.Files (halt.Read name))) fails =
-      (back.one name.now (one_failed_lane left lent_as fails.shard name.now find.shards olds news fails.named named stays fails.rose fails.others)).1
+      record { rose = (back.one name.now (some_failed_lane left lent_as fails.shard name.now find.shards olds news fails.named named stays fails.rose)).1; counts = back.counts.1 }
   faults_as (Err (run.Files halt.Memory)) fails = (none_back fails).1
   faults_as (Err (run.Cut why)) fails = (none_back fails).1
   faults_as (Err run.Disk) fails = (none_back fails).1
@@ -170,7 +171,7 @@ module _ {S L : Type 0} (left lent_as : S → Option (List ℕ)) (find : Find)
   count_as (Ok done) fails = (none_back fails).0
   count_as (Err (run.Files (halt.Refused r))) fails = (none_back fails).0
   count_as (Err (run.Files (halt.Read name))) fails =
-      (back.one name.now (one_failed_lane left lent_as fails.shard name.now find.shards olds news fails.named named stays fails.rose fails.others)).0
+      (back.one name.now (some_failed_lane left lent_as fails.shard name.now find.shards olds news fails.named named stays fails.rose)).0
   count_as (Err (run.Files halt.Memory)) fails = (none_back fails).0
   count_as (Err (run.Cut why)) fails = (none_back fails).0
   count_as (Err run.Disk) fails = (none_back fails).0
@@ -200,7 +201,6 @@ faults_then before mid now same (Ok done) h = λ name. h name ∙ same name
 faults_then before mid now same (Err (run.Files (halt.Refused r))) h = λ name. h name ∙ same name
 faults_then before mid now same (Err (run.Files (halt.Read name))) h = record {
   rose = subst (λ (n : ℕ). Rose n (now name.now)) (same name.now) h.rose;
-  others = λ other ne. h.others other ne ∙ same other;
   counts = λ any. subst (λ (n : ℕ). n ≤ now any) (same any) (h.counts any);
 }
 faults_then before mid now same (Err (run.Files halt.Memory)) h = λ name. h name ∙ same name

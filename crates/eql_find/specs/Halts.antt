@@ -6,6 +6,7 @@ use Rattle.eql_outside.specs.declared.refused.OutRefused.TheVariants as refused_
 use Rattle.eql_runs.specs.CutRefusals.{CutRefusal, damaged, differs, unfit, short, no_line, grown}
 use Rattle.eql_runs.specs.Runs.{many_lines, many_bytes}
 use Rattle.eql_runs.specs.Runs as runs
+use Rattle.eql_inputs.specs.declared.halt.Halt.{Halt}
 use Rattle.eql_inputs.specs.declared.halt.Halt.TheVariants as input
 use Rattle.eql_inputs.specs.Halts.{status_of}
 use Rattle.eql_inputs.specs.Halts as inputs
@@ -15,6 +16,7 @@ use Rattle.eql_find.specs.declared.halt.RunHalt.{RunHalt}
 use Rattle.eql_find.specs.declared.halt.RunHalt.TheVariants as run
 use Rattle.eql_find.specs.declared.halt.ShardLimit.{ShardLimit}
 use Rattle.eql_find.specs.declared.halt.ShardLimit.TheVariants as limit
+use Rattle.eql_find.specs.Lanes.{RoseAmong}
 
 -- the status of a run that stops so
 abbrev pub run_status_of : RunHalt → ℕ
@@ -86,10 +88,22 @@ IsFault run.Generation = ⊥
 IsFault (run.Report refused_by.Failed) = Unit {0}
 IsFault (run.Report refused_by.Memory) = ⊥
 
--- the faults of each name: those of a file that is told as failed rose, and no other's
+-- several files may fail at once, of which one is told: those of its name rose. Where none is told, none did
+abbrev pub FileFaults : Halt → (before now : List ℕ → ℕ) → Type 0
+FileFaults (input.Refused r) before now = SameFaults before now
+FileFaults (input.Read name) before now = RoseAmong name.now before now
+FileFaults input.Memory before now = SameFaults before now
+
+-- the count of something else is as it was, but where a read fault is told: then that may have failed too
+abbrev pub LeftBy : Halt → (before now : ℕ) → Type 0
+LeftBy (input.Refused r) before now = now ≡ before
+LeftBy (input.Read name) before now = Unit {0}
+LeftBy input.Memory before now = now ≡ before
+
+-- the faults of each name: those of a file that is told as failed rose, and where none is told none did
 abbrev pub FaultsAs : {A : Type 0} → Result A RunHalt → (before now : List ℕ → ℕ) → Type 0
 FaultsAs (Ok done) before now = SameFaults before now
-FaultsAs (Err (run.Files h)) before now = inputs.FaultsAs h before now
+FaultsAs (Err (run.Files h)) before now = FileFaults h before now
 FaultsAs (Err (run.Cut why)) before now = SameFaults before now
 FaultsAs (Err run.Disk) before now = SameFaults before now
 FaultsAs (Err run.Write) before now = SameFaults before now
@@ -119,10 +133,10 @@ AbsenceAs (Err (run.Limit l)) before now = now ≡ before
 AbsenceAs (Err run.Generation) before now = now ≡ before
 AbsenceAs (Err (run.Report r)) before now = now ≡ before
 
--- the count of the disk's faults rose where the disk is told as failed, and nowhere else
+-- the count of the disk's faults rose where the disk is told as failed, and elsewhere only where a read fault is told
 abbrev pub DiskAs : {A : Type 0} → Result A RunHalt → (before now : ℕ) → Type 0
 DiskAs (Ok done) before now = now ≡ before
-DiskAs (Err (run.Files h)) before now = now ≡ before
+DiskAs (Err (run.Files h)) before now = LeftBy h before now
 DiskAs (Err (run.Cut why)) before now = now ≡ before
 DiskAs (Err run.Disk) before now = Rose before now
 DiskAs (Err run.Write) before now = now ≡ before
@@ -130,10 +144,10 @@ DiskAs (Err (run.Limit l)) before now = now ≡ before
 DiskAs (Err run.Generation) before now = now ≡ before
 DiskAs (Err (run.Report r)) before now = now ≡ before
 
--- the count of the output's faults rose where a write fault is told, and nowhere else
+-- the count of the output's faults rose where a write fault is told, and elsewhere only where a read fault is told
 abbrev pub OutAs : {A : Type 0} → Result A RunHalt → (before now : ℕ) → Type 0
 OutAs (Ok done) before now = now ≡ before
-OutAs (Err (run.Files h)) before now = now ≡ before
+OutAs (Err (run.Files h)) before now = LeftBy h before now
 OutAs (Err (run.Cut why)) before now = now ≡ before
 OutAs (Err run.Disk) before now = now ≡ before
 OutAs (Err run.Write) before now = Rose before now

@@ -2,7 +2,7 @@
 use Rattle.std.specs.Prelude.{◌≡◌, ◌≢◌, ◌≤◌, ◌<◌, ◌+◌, ◌⊎◌, ℕ, true, List, [], ◌∷◌, ◌++◌, All, drop, take, length, slice_get, IfSome, Option, None, Some}
 use Rattle.eql_values.specs.Accepted.{Reads}
 use Rattle.eql_outside.specs.Outside.{Rose}
-use Rattle.eql_outside.specs.Faults.{SameFaults, RoseFor, RoseUnder}
+use Rattle.eql_outside.specs.Faults.{SameFaults, RoseUnder}
 use Rattle.eql_outside.specs.Plans.{FaultPlan}
 use Rattle.eql_outside.specs.Unfailing.{IsUnfailing}
 use Rattle.eql_lane.specs.declared.make.LaneRefused.{LaneRefused}
@@ -45,16 +45,22 @@ abbrev pub NoneFailed : List Returned → Type 0
 NoneFailed [] = Unit {0}
 NoneFailed (back ∷ backs) = DidNotFail back × NoneFailed backs
 
--- of sources that come back one failed, which was lent under this name
-abbrev pub OneFailed : List ℕ → List Returned → Type 0
-OneFailed name [] = ⊥
-OneFailed name (back ∷ backs) = (Failed name back × NoneFailed backs) ⊎ (DidNotFail back × OneFailed name backs)
+-- of sources that come back one failed that was lent under this name, and others may have failed too
+abbrev pub SomeFailed : List ℕ → List Returned → Type 0
+SomeFailed name [] = ⊥
+SomeFailed name (back ∷ backs) = Failed name back ⊎ SomeFailed name backs
 
--- what the counts of a shelf say once these sources came back: where none failed they are as before, and where one did, those
--- of its name rose and no others
+-- the faults of this name rose in a call, and those of no name are fewer
+pub record RoseAmong (name : List ℕ) (before now : List ℕ → ℕ) : Type 0 where
+  pub rose : Rose (before name) (now name)
+  pub counts : (any : List ℕ) → before any ≤ now any
+
+-- what the counts of a shelf say once these sources came back: none fell; where none failed they are as before, and where one did, those
+-- of its name rose
 pub record CameBack (backs : List Returned) (before now : ℕ) (names names' : List ℕ → ℕ) : Type 0 where
   pub none : NoneFailed backs → (now ≡ before) × SameFaults names names'
-  pub one : (name : List ℕ) → OneFailed name backs → Rose before now × RoseFor name names names'
+  pub one : (name : List ℕ) → SomeFailed name backs → Rose before now × Rose (names name) (names' name)
+  pub counts : (before ≤ now) × ((any : List ℕ) → names any ≤ names' any)
 
 module _ {S : Type 0} (lent_as : S → Option (List ℕ)) (faults : S → ℕ) where
   -- sources as they come back

@@ -155,13 +155,12 @@ StoppedLanes find search texts Started Beyond err err' (run.Limit l) =
 StoppedLanes find search texts Started Beyond err err' run.Generation = find.checkpoint ≢ None
 StoppedLanes find search texts Started Beyond err err' (run.Report r) = ReportOf find search texts Started err err'
 
--- the faults of the lanes' sources: where a read fault is told those of the lane of a shard with its name rose, and of no
--- other lane; else of none
+-- the faults of the lanes' sources: where a read fault is told those of the lane of a shard with its name rose, and others may have risen;
+-- else none did
 pub record FailedLane {S L : Type 0} (find : Find) (name : List ℕ) (olds news : List (LaneView S L)) : Type 0 where
   pub shard : ℕ
   pub named : slice_get find.shards shard ≡ Some name
   pub rose : BecameAt shard olds news RoseFaults
-  pub others : SteadyBut (λ s. s ≡ shard) olds news
 
 abbrev pub LaneFaults : {A S L : Type 0} → Find → Result A RunHalt → (olds news : List (LaneView S L)) → Type 0
 LaneFaults find (Ok done) olds news = SteadyBut (λ s. ⊥) olds news

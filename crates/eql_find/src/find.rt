@@ -21,6 +21,7 @@ use crate::stops::halt_at;
 use eql_ckdisk::puts_go_on;
 use eql_conductor::Keep;
 use eql_cut::CutHead;
+use eql_hands::Gate;
 use eql_inputs::open_shards;
 use eql_lane::LaneStart;
 use eql_outside::{Shelf, Sink, crashes_leave_images};
@@ -28,9 +29,12 @@ use eql_resume::Pending;
 use eql_runs::{disks_hold_one_thing, spans_change_no_fit, tested_cuts_are_accepted};
 use eql_words::Find;
 use std::alloc::Global;
+use std::sync::Wait;
+use std::thread::Threads;
 
 /// Makes lanes over sources, searches them, writes the listing and then the report, and gives the sources back.
-fn run_over<'a, H: Shelf, K: Sink, E: Sink>(
+fn run_over<'a, R: Threads + Wait + Sync, H: Shelf, K: Sink, E: Sink, W: Gate + Sync>(
+    rt: &R,
     alloc: Global,
     sources: Vec<H::Src>,
     starts: Vec<LaneStart>,
@@ -42,6 +46,7 @@ fn run_over<'a, H: Shelf, K: Sink, E: Sink>(
     out: &mut K,
     err: &mut E,
     keep: &mut Option<Keep<H::Dsk>>,
+    gate: &W,
 ) -> Result<(), RunHalt<'a>>
     ghost told: { Option (List (List ℕ)) }
     requires told { told ≡ texts_told (H.files shelf.old) find.now.shards }
@@ -104,14 +109,15 @@ fn run_over<'a, H: Shelf, K: Sink, E: Sink>(
         Err(stop) => return Err(halt_at(stop, &find.shards)),
     };
     let ran = run_lanes(
-        alloc, &mut lanes, rest, head, planning, find, out, err, keep,
+        rt, alloc, &mut lanes, rest, head, planning, find, out, err, keep, gate,
     );
     give_lanes(lanes, shelf);
     ran
 }
 
 /// Runs from what was found to begin with, and gives sources and disk back.
-fn run_start<'a, H: Shelf, K: Sink, E: Sink>(
+fn run_start<'a, R: Threads + Wait + Sync, H: Shelf, K: Sink, E: Sink, W: Gate + Sync>(
+    rt: &R,
     alloc: Global,
     sources: Vec<H::Src>,
     start: Start<H::Dsk>,
@@ -120,6 +126,7 @@ fn run_start<'a, H: Shelf, K: Sink, E: Sink>(
     shelf: &mut H,
     out: &mut K,
     err: &mut E,
+    gate: &W,
 ) -> Result<(), RunHalt<'a>>
     requires bounds { FindBounds find.now }
     requires plan { IsPlanOf find.now (H.files shelf.old) planning.now }
@@ -181,7 +188,7 @@ fn run_start<'a, H: Shelf, K: Sink, E: Sink>(
         rest,
     } = start;
     let ran = run_over(
-        alloc, sources, lanes, rest, head, planning, find, shelf, out, err, &mut keep,
+        rt, alloc, sources, lanes, rest, head, planning, find, shelf, out, err, &mut keep, gate,
     );
     give_keep(keep, shelf);
     ran
@@ -189,7 +196,8 @@ fn run_start<'a, H: Shelf, K: Sink, E: Sink>(
 
 /// Searches the shards of these sources, from what the disk holds where there is a checkpoint, writes the listing and
 /// then the report, and gives sources and disk back.
-fn run_shards<'a, H: Shelf, K: Sink, E: Sink>(
+fn run_shards<'a, R: Threads + Wait + Sync, H: Shelf, K: Sink, E: Sink, W: Gate + Sync>(
+    rt: &R,
     alloc: Global,
     sources: Vec<H::Src>,
     planning: &Planning,
@@ -197,6 +205,7 @@ fn run_shards<'a, H: Shelf, K: Sink, E: Sink>(
     shelf: &mut H,
     out: &mut K,
     err: &mut E,
+    gate: &W,
 ) -> Result<(), RunHalt<'a>>
     requires bounds { FindBounds find.now }
     requires plan { IsPlanOf find.now (H.files shelf.old) planning.now }
@@ -251,7 +260,9 @@ fn run_shards<'a, H: Shelf, K: Sink, E: Sink>(
     disks_hold_one_thing();
     spans_change_no_fit();
     match start_run(alloc, planning, find, shelf) {
-        Ok(start) => run_start(alloc, sources, start, planning, find, shelf, out, err),
+        Ok(start) => run_start(
+            rt, alloc, sources, start, planning, find, shelf, out, err, gate,
+        ),
         Err(halt) => {
             give_sources(sources, shelf);
             Err(halt)
@@ -266,12 +277,14 @@ fn run_shards<'a, H: Shelf, K: Sink, E: Sink>(
 /// On `Ok` listing and report are there whole, the listing from the line after those that the cut counts. Else `out`
 /// got a front of the listing, nothing at all where the files or the cut are refused, and `err` nothing. Where the
 /// report alone was refused the listing is there whole, and `err` got a front of the report.
-pub fn find_matches<'a, H: Shelf, K: Sink, E: Sink>(
+pub fn find_matches<'a, R: Threads + Wait + Sync, H: Shelf, K: Sink, E: Sink, W: Gate + Sync>(
+    rt: &R,
     alloc: Global,
     find: &'a Find,
     shelf: &mut H,
     out: &mut K,
     err: &mut E,
+    gate: &W,
 ) -> Result<(), RunHalt<'a>>
     requires { FindBounds find.now }
 
@@ -330,7 +343,7 @@ pub fn find_matches<'a, H: Shelf, K: Sink, E: Sink>(
         Err(halt) => return Err(RunHalt::Files(halt)),
     };
     match open_shards(alloc, &find.shards, shelf) {
-        Ok(sources) => run_shards(alloc, sources, &planning, find, shelf, out, err),
+        Ok(sources) => run_shards(rt, alloc, sources, &planning, find, shelf, out, err, gate),
         Err(halt) => Err(RunHalt::Files(halt)),
     }
 }

@@ -59,7 +59,6 @@ pub(crate) fn give_lanes<H: Shelf>(mut lanes: Vec<Lane<H::Src, PlanReader>>, she
     ensures kept { KeepsShelf H.files H.source_plans H.disk_history H.is_out H.disk_fault_count
         H.disk_plan shelf.old shelf.new }
 {
-    faults_are_counted_by_name();
     'back: while lanes.len() > 0 {
         let lane = lanes.take_last();
         shelf.give_source(lane.into_source());
@@ -79,7 +78,6 @@ pub(crate) fn give_sources<H: Shelf>(mut sources: Vec<H::Src>, shelf: &mut H)
     ensures kept { KeepsShelf H.files H.source_plans H.disk_history H.is_out H.disk_fault_count
         H.disk_plan shelf.old shelf.new }
 {
-    faults_are_counted_by_name();
     'back: while sources.len() > 0 {
         let source = sources.take_last();
         shelf.give_source(source);

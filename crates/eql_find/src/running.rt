@@ -11,7 +11,7 @@ ghost use Rattle.eql_runs.specs.Searches.{plan_of, report_of, rest_of};
 ghost use Rattle.eql_check.specs.Kinds.{kind_at};
 ghost use Rattle.eql_check.specs.Typing.{IsChecked};
 ghost use Rattle.eql_parser.specs.QueryTree.{query_tree};
-ghost use Rattle.eql_search.specs.Answers.{AreUnfailing as AreLanesUnfailing, HasCause as StoppedBy, IsNoFault, SteadyBut, StaysLane, WereRead};
+ghost use Rattle.eql_search.specs.Answers.{AreUnfailing as AreLanesUnfailing, HasCause as StoppedBy, IsNoFault, IsRead, SteadyBut, StaysLane, WereRead};
 ghost use Rattle.eql_search.specs.Beginnings.{MayBegin, MayKeepOn, cuts_of};
 ghost use Rattle.eql_search.specs.Keeping.{KeepsOn};
 ghost use Rattle.eql_search.specs.Searches.{AreBegun, AreTextsOf, reads_by, slack_by};
@@ -32,6 +32,7 @@ use crate::stops::halt_of;
 use eql_book::Book;
 use eql_conductor::{Keep, RunPlan, cuts_may_begin};
 use eql_cut::{CutHead, lifted_cuts_fit};
+use eql_hands::Gate;
 use eql_inputs::Halt;
 use eql_lane::Lane;
 use eql_outside::{Disk, Sink, Source};
@@ -42,6 +43,8 @@ use eql_stages::PlanReader;
 use eql_values::{BookCut, LineReader, Memory, PlaceLists};
 use eql_words::Find;
 use std::alloc::Global;
+use std::sync::Wait;
+use std::thread::Threads;
 
 /// The places of wanted lines that lanes keep, taken out of them.
 fn places_of<S: Source, L: LineReader>(
@@ -97,7 +100,14 @@ fn every_of(find: &Find) -> Option<u32>
 }
 
 /// Searches the lanes from what is pending on, writes the listing, and keeps cuts where that is asked for.
-fn search_lanes<S: Source, K: Sink, D: Disk>(
+fn search_lanes<
+    R: Threads + Wait + Sync,
+    S: Source + Send + Sync,
+    K: Sink,
+    D: Disk,
+    W: Gate + Sync,
+>(
+    rt: &R,
     alloc: Global,
     lanes: &mut Vec<Lane<S, PlanReader>>,
     rest: Pending,
@@ -106,6 +116,7 @@ fn search_lanes<S: Source, K: Sink, D: Disk>(
     find: &Find,
     out: &mut K,
     keep: &mut Option<Keep<D>>,
+    gate: &W,
 ) -> Result<(), Stop>
     ghost told: { Option (List (List ℕ)) }
     requires bounds { FindBounds find.now }
@@ -151,11 +162,10 @@ fn search_lanes<S: Source, K: Sink, D: Disk>(
         (K.fault_count out.old) (K.fault_count out.new)
         (disk_faults D.history D.fault_count keep.old)
         (disk_faults D.history D.fault_count keep.new)) }
-    ensures reads_steady { SteadyBut (λ shard. result ≡ Err (Stop.Read shard))
-        lanes.old.items lanes.new.items }
-    ensures writes_steady { result ≢ Err Stop.Write
+    ensures reads_steady { SteadyBut (λ shard. IsRead result) lanes.old.items lanes.new.items }
+    ensures writes_steady { result ≢ Err Stop.Write → ¬ IsRead result
         → K.fault_count out.new ≡ K.fault_count out.old }
-    ensures disk_steady { result ≢ Err Stop.Disk
+    ensures disk_steady { result ≢ Err Stop.Disk → ¬ IsRead result
         → disk_faults D.history D.fault_count keep.new
         ≡ disk_faults D.history D.fault_count keep.old }
     ensures counts { (K.fault_count out.old ≤ K.fault_count out.new)
@@ -175,22 +185,34 @@ fn search_lanes<S: Source, K: Sink, D: Disk>(
     };
     match book_of(alloc, planning, kept, find.places) {
         Ok(mut book) => search(
+            rt,
             alloc,
             lanes,
             planning.plan.stages(),
             planning.plan.span(),
             holders,
             &plan,
+            find.hands,
             &mut book,
             out,
             keep,
+            gate,
         ),
         Err(_) => Err(Stop::Memory),
     }
 }
 
 /// Searches the lanes, which began as a run was found to begin, writes the listing and then the report.
-pub(crate) fn run_lanes<'a, S: Source, K: Sink, E: Sink, D: Disk>(
+pub(crate) fn run_lanes<
+    'a,
+    R: Threads + Wait + Sync,
+    S: Source + Send + Sync,
+    K: Sink,
+    E: Sink,
+    D: Disk,
+    W: Gate + Sync,
+>(
+    rt: &R,
     alloc: Global,
     lanes: &mut Vec<Lane<S, PlanReader>>,
     rest: Pending,
@@ -200,6 +222,7 @@ pub(crate) fn run_lanes<'a, S: Source, K: Sink, E: Sink, D: Disk>(
     out: &mut K,
     err: &mut E,
     keep: &mut Option<Keep<D>>,
+    gate: &W,
 ) -> Result<(), RunHalt<'a>>
     ghost told: { Option (List (List ℕ)) }
     requires bounds { FindBounds find.now }
@@ -250,7 +273,9 @@ pub(crate) fn run_lanes<'a, S: Source, K: Sink, E: Sink, D: Disk>(
         Ok(rest) => rest,
         Err(_) => return Err(RunHalt::Files(Halt::Memory)),
     };
-    match search_lanes(alloc, lanes, rest, head, planning, find, out, keep) {
+    match search_lanes(
+        rt, alloc, lanes, rest, head, planning, find, out, keep, gate,
+    ) {
         Ok(()) => match write_report(alloc, lanes, err) {
             Ok(()) => Ok(()),
             Err(refused) => Err(RunHalt::Report(refused)),

@@ -72,7 +72,7 @@ snap_faults x reply.Closed y step = absurd step
 snap_faults x (reply.Failed n) y step = absurd step
 snap_faults x (reply.Limit of) y step = absurd step
 
-step_faults : (set : Setting) (x : LaneState) (o : LaneOp) (answer : LaneReply) (y : LaneState) → did_fail answer ≡ false → LaneStep set x o answer y → y.faults ≡ x.faults
+pub step_faults : (set : Setting) (x : LaneState) (o : LaneOp) (answer : LaneReply) (y : LaneState) → did_fail answer ≡ false → LaneStep set x o answer y → y.faults ≡ x.faults
 step_faults set x (op.Feed max) answer y none step = feed_faults set x max answer y none step
 step_faults set x (op.Take mark) answer y none step = take_faults set x mark answer y step
 step_faults set x op.Look answer y none step = look_faults set x answer y step

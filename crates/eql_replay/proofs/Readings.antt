@@ -60,7 +60,7 @@ module _ (set : Setting) (t : List ℕ) where
   snap_at x (reply.Failed n) y step at = absurd step
   snap_at x (reply.Limit of) y step at = absurd step
 
-  step_at : (x : LaneState) (o : LaneOp) (answer : LaneReply) (y : LaneState) → set.text ≡ Some t → LaneStep set x o answer y → IsAtPlace set t x → IsAtPlace set t y
+  pub step_at : (x : LaneState) (o : LaneOp) (answer : LaneReply) (y : LaneState) → set.text ≡ Some t → LaneStep set x o answer y → IsAtPlace set t x → IsAtPlace set t y
   step_at x (op.Feed max) answer y e step at = record { mark = at.mark; is = feed_keeps set t at.mark x max answer y e step at.is }
   step_at x (op.Take mark) answer y e step at = take_at x mark answer y step at
   step_at x op.Look answer y e step at = look_at x answer y step at

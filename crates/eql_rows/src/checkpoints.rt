@@ -2,10 +2,10 @@
 use crate::cuts::{damaged_disk, disk_in, last_disk, unfit_disk};
 use crate::kept::{kept_in, of_example};
 use crate::row::{Object, Row, ended, found};
-use crate::run::{Areas, check_on, compare_run, disk_of, run_on};
+use crate::run::{Areas, Ran, check_on, compare, compare_run, disk_of, run_on, told_of};
 use crate::sequences::{ELEVEN, REFERENCE, REFERENCE_LISTS};
 use crate::text::Piece::{Bytes, Spaced, Starts};
-use crate::text::Pieces;
+use crate::text::{Pieces, add_lines};
 use std::alloc::Global;
 use std::process::Abort;
 use std::sync::Wait;
@@ -16,7 +16,12 @@ use std::thread::Threads;
 const FIRST: &str = "--slack 0ms --batch 1 --hands 0 --checkpoint c --every 5";
 
 /// The options of the second run.
-pub(crate) const SECOND: &str = "--slack 0ms --batch 7 --hands 3 --checkpoint c --every 5";
+const SECOND: &str = "--slack 0ms --batch 7 --hands 3 --checkpoint c --every 5";
+
+/// The same without hands, and with one.
+pub(crate) const ALONE: &str = "--slack 0ms --batch 7 --hands 0 --checkpoint c --every 5";
+
+pub(crate) const BESIDE: &str = "--slack 0ms --batch 7 --hands 1 --checkpoint c --every 5";
 
 /// The first of two runs. Each line of the reference's example is a round, and a cut is kept after the rounds 5 and 10.
 pub(crate) fn first_run() -> Row {
@@ -50,7 +55,7 @@ fn resumed() -> [Row; 5] {
     [
         second_run("the lines behind those that were listed"),
         second_run("another batch, other hands, another name and other rounds").with(
-            "--slack 0ms --batch 4096 --hands 16 --checkpoint other --every 1000000",
+            "--slack 0ms --batch 4096 --hands 5 --checkpoint other --every 1000000",
         ),
         second_run("places of events from before the cut")
             .lists(&[r#"2 ["elkbee"] 0:6@506 0:8@712 0:10@913"#])
@@ -110,6 +115,41 @@ fn later_runs_go_on(rt: HostRuntime) -> Result<(), Fail> {
     assert_eq!(rt; kept_in(alloc, &areas)?, Some(second));
     check_on(&rt, alloc, &resumed(), &areas)?;
     check_on(&rt, alloc, &refused(), &areas)
+}
+
+/// Sees that a run listed the last lines of the reference's example, none or all among them, and told its report.
+fn see_end<R: Abort>(rt: &R, alloc: Global, ran: &Ran) -> Result<(), Fail> {
+    let got = String::from_utf8_lossy(alloc, ran.out.bytes().as_slice())?;
+    let mut is_end = false;
+    for first in 0..=REFERENCE_LISTS.len() {
+        let mut end = Vec::new(alloc);
+        add_lines(&mut end, &REFERENCE_LISTS[first..])?;
+        is_end = is_end || got.as_bytes() == end.as_slice();
+    }
+    assert!(rt; is_end, "{got}");
+    let told = told_of(alloc, &first_run())?;
+    compare(rt, alloc, ran.err.bytes(), told, true, "the report")
+}
+
+/// Which rounds end with a cut depends on what hands read meanwhile. Whatever cut is the last one, a later run lists the lines
+/// behind those that it counts.
+#[test]
+fn later_runs_go_on_from_runs_with_hands(rt: HostRuntime) -> Result<(), Fail> {
+    let alloc = rt.alloc();
+    let first = first_run().with("--slack 0ms --batch 1 --hands 2 --checkpoint c --every 1");
+    let later = second_run("hands again").with(
+        "--slack 0ms --batch 2 --hands 3 --checkpoint c --every 1",
+    );
+    let mut disk = disk_of(alloc, &Areas::empty(alloc), &[], None)?;
+    for _ in 0..3u32 {
+        let (ran, left) = run_on(&rt, alloc, &first, disk, &[])?;
+        compare_run(&rt, alloc, &first, &ran, &[])?;
+        let (ran, _) = run_on(&rt, alloc, &later, left, &[])?;
+        assert_eq!(rt; ran.status, 0);
+        see_end(&rt, alloc, &ran)?;
+        disk = disk_of(alloc, &Areas::empty(alloc), &[], None)?;
+    }
+    Ok(())
 }
 
 /// The example behind a shard of one line.
@@ -193,7 +233,7 @@ fn disks_fail_and_are_damaged(rt: HostRuntime) -> Result<(), Fail> {
 /// A run that puts a cut on a disk that has the last generation.
 fn last_generation() -> Row {
     second_run("the last generation")
-        .with("--slack 0ms --batch 1 --checkpoint c --every 1")
+        .with("--slack 0ms --batch 1 --hands 0 --checkpoint c --every 1")
         .ends(9, "limit: generation")
 }
 

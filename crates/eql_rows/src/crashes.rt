@@ -1,7 +1,7 @@
 //! A stop at each call of the disk, and runs that go on from whatever a crash may leave then.
 //!
 //! What both runs write is the listing together, each line under its number, and no cut is lost once it was put.
-use crate::checkpoints::{SECOND, first_run};
+use crate::checkpoints::{ALONE, BESIDE, first_run};
 use crate::kept::{Kept, cut_at, kept_in, of_example};
 use crate::row::{Row, found};
 use crate::run::{Areas, Ran, compare, compare_run, disk_of, listed_of, run_on};
@@ -19,6 +19,8 @@ struct Crash<'a> {
     first: Row,
     cuts: &'a [Kept],
     second: Row,
+    /// The options of the second run where it goes on from the first thing that a crash may leave.
+    beside: &'static str,
     /// How many of the things that a crash may leave are tried.
     images: u64,
 }
@@ -63,6 +65,7 @@ fn go_on<R: Threads + Wait + Sync + Abort>(
     rt: &R,
     alloc: Global,
     crash: &Crash<'_>,
+    second: &Row,
     ran: &Ran,
     areas: &Areas,
     put: u64,
@@ -73,7 +76,7 @@ fn go_on<R: Threads + Wait + Sync + Abort>(
         Some(kept) => kept.listed,
         None => 0,
     };
-    let rest = crash.second.lists(behind(crash.second.listed, count));
+    let rest = second.lists(behind(second.listed, count));
     let disk = disk_of(alloc, areas, &[], None)?;
     let (again, _) = run_on(rt, alloc, &rest, disk, &[])?;
     compare_run(rt, alloc, &rest, &again, &[])?;
@@ -115,7 +118,12 @@ fn stop_at<R: Threads + Wait + Sync + Abort>(
     compare_run(rt, alloc, &row, &ran, &[])?;
     for choice in 0..crash.images {
         let areas = Areas::left_by(alloc, &disk, choice)?;
-        go_on(rt, alloc, crash, &ran, &areas, put_before(call))?;
+        let second = if choice == 0 {
+            crash.second.with(crash.beside)
+        } else {
+            crash.second
+        };
+        go_on(rt, alloc, crash, &second, &ran, &areas, put_before(call))?;
     }
     Ok(ran.status)
 }
@@ -141,7 +149,8 @@ fn crash_loses_no_cut(rt: HostRuntime) -> Result<(), Fail> {
     let crash = Crash {
         first: first_run(),
         cuts: &cuts,
-        second: first_run().with(SECOND),
+        second: first_run().with(ALONE),
+        beside: BESIDE,
         images: 16,
     };
     stop_at_each(&rt, rt.alloc(), &crash)
@@ -185,7 +194,8 @@ fn run_that_is_cut_off_in_any_round_is_gone_on_with(rt: HostRuntime) -> Result<(
     let crash = Crash {
         first: three_shards("--slack 0ms --batch 1 --hands 0 --checkpoint c --every 1"),
         cuts: &cuts,
-        second: three_shards("--slack 0ms --batch 3 --checkpoint c --every 2"),
+        second: three_shards("--slack 0ms --batch 3 --hands 0 --checkpoint c --every 2"),
+        beside: "--slack 0ms --batch 3 --hands 1 --checkpoint c --every 2",
         images: 4,
     };
     stop_at_each(&rt, rt.alloc(), &crash)

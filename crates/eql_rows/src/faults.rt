@@ -1,6 +1,6 @@
 //! Objects that fail: each call of a run in turn, and which of several causes is told. No fault is passed over.
 use crate::row::{Failing, Object, Row, ended, found, printed, refused, usage};
-use crate::run::{check, compare, compare_run, listed_of, run};
+use crate::run::{Areas, check, check_on, compare, compare_run, listed_of, run};
 use crate::sequences::{ELEVEN, REFERENCE, REFERENCE_LISTS};
 use crate::text::Piece::{Bytes, Each, Events, Times};
 use std::alloc::Global;
@@ -276,23 +276,23 @@ fn line_by_line(shows: &'static str, words: &'static str) -> Row {
 
 /// What was found before a fault stands. In the first row each round from the second on reads a line, and finds the event of
 /// the line before below its low. The last event isn't below any. Without a slack nothing is. A round writes once all lanes
-/// were fed, so nothing of the round that fails is written.
+/// were fed, so nothing of the round that fails is written. With hands rounds read other numbers of lines.
 fn before_a_fault() -> [Row; 5] {
     [
-        line_by_line("line by line", "--slack 1ms --batch 1").lists(&[
+        line_by_line("line by line", "--slack 1ms --batch 1 --hands 0").lists(&[
             "1 [] 0:1", "2 [] 0:2", "3 [] 0:3",
         ]),
-        line_by_line("with a slack of ten", "--slack 10ms --batch 1").lists(&[
+        line_by_line("with a slack of ten", "--slack 10ms --batch 1 --hands 0").lists(&[
             "1 [] 0:1", "2 [] 0:2",
         ]),
-        line_by_line("all lines in one round", "--slack 1ms --batch 4").lists(&[
+        line_by_line("all lines in one round", "--slack 1ms --batch 4 --hands 0").lists(&[
             "1 [] 0:1", "2 [] 0:2", "3 [] 0:3",
         ]),
         line_by_line(
             "all lines and the end in one round",
-            "--slack 1ms --batch 5",
+            "--slack 1ms --batch 5 --hands 0",
         ),
-        line_by_line("without a slack", "--batch 1"),
+        line_by_line("without a slack", "--batch 1 --hands 0"),
     ]
 }
 
@@ -314,19 +314,20 @@ fn matches_are_written_while_shards_are_read(rt: HostRuntime) -> Result<(), Fail
     Ok(())
 }
 
-/// The search in which each call fails in turn.
-fn whole() -> Row {
+/// The search in which each call fails in turn, with these options.
+fn whole(options: &'static str) -> Row {
     found("each call in turn", REFERENCE, ELEVEN, REFERENCE_LISTS)
-        .with("--batch 2 --hands 0")
+        .with(options)
         .in_pieces(100)
 }
 
-/// Lets one call of an object fail after another, until a run is done. Each run before has to end as the second row says,
-/// and there have to be at least so many.
+/// Lets one call of an object fail after another, until a run of the first row is done. Each run before has to end as the
+/// second row says, and there have to be at least so many.
 fn each_fails<R: Threads + Wait + Sync + Abort>(
     rt: &R,
     alloc: Global,
     object: Object,
+    row: &Row,
     faulty: &Row,
     least: u64,
 ) -> Result<(), Fail> {
@@ -335,29 +336,61 @@ fn each_fails<R: Threads + Wait + Sync + Abort>(
         let ran = run(rt, alloc, faulty, &fails)?;
         if ran.status == 0 {
             assert!(rt; least < call, "{object:?} was called {call} times");
-            return compare_run(rt, alloc, &whole(), &ran, &[]);
+            return compare_run(rt, alloc, row, &ran, &[]);
         }
         compare_run(rt, alloc, faulty, &ran, &fails)?;
     }
     Err(Fail::from("no run was done"))
 }
 
-/// The 139 bytes of the query come in two takes, the 226 of the mapping in three, and the 1,115 of the shard in twelve. One more
-/// sees the end.
+/// Lets each call of each object fail in turn. The 139 bytes of the query come in two takes, the 226 of the mapping in three,
+/// and the 1,115 of the shard in twelve. One more sees the end.
+fn each_object_fails<R: Threads + Wait + Sync + Abort>(
+    rt: &R,
+    alloc: Global,
+    row: &Row,
+) -> Result<(), Fail> {
+    let query = row.ends(4, "read fault: q");
+    each_fails(rt, alloc, Object::Query, row, &query, 3)?;
+    let fields = row.ends(4, "read fault: f");
+    each_fails(rt, alloc, Object::Fields, row, &fields, 4)?;
+    let shard = row.ends(4, "read fault: s0");
+    each_fails(rt, alloc, Object::Shard(0), row, &shard, 13)?;
+    let out = row.ends(5, "write fault");
+    each_fails(rt, alloc, Object::Out, row, &out, 1)?;
+    let err = Row { status: 5, ..*row };
+    each_fails(rt, alloc, Object::Err, row, &err, 1)
+}
+
 #[test]
 fn each_call_fails_in_turn(rt: HostRuntime) -> Result<(), Fail> {
-    let alloc = rt.alloc();
-    let query = whole().ends(4, "read fault: q");
-    each_fails(&rt, alloc, Object::Query, &query, 3)?;
-    let fields = whole().ends(4, "read fault: f");
-    each_fails(&rt, alloc, Object::Fields, &fields, 4)?;
-    let shard = whole().ends(4, "read fault: s0");
-    each_fails(&rt, alloc, Object::Shard(0), &shard, 13)?;
-    let out = whole().ends(5, "write fault");
-    each_fails(&rt, alloc, Object::Out, &out, 1)?;
-    let err = Row {
-        status: 5,
-        ..whole()
-    };
-    each_fails(&rt, alloc, Object::Err, &err, 1)
+    each_object_fails(&rt, rt.alloc(), &whole("--batch 2 --hands 0"))
+}
+
+/// Where a hand meets the fault of a take the conductor reads on, so more may be listed than without hands.
+#[test]
+fn each_call_fails_in_turn_beside_hands(rt: HostRuntime) -> Result<(), Fail> {
+    each_object_fails(&rt, rt.alloc(), &whole("--batch 2 --hands 2"))
+}
+
+/// Searches line by line in which the take at the end of the shard fails and, before it, another call.
+fn two_faults() -> [Row; 4] {
+    let end = whole("--slack 0ms --batch 1 --hands 0").ends(5, "write fault");
+    let beside = whole("--slack 0ms --batch 1 --hands 2").ends(4, "read fault: s0");
+    [
+        end.fails(&[(Object::Shard(0), 13), OUT]),
+        beside.fails(&[(Object::Shard(0), 13), OUT]),
+        end.with("--slack 0ms --batch 1 --hands 0 --checkpoint c --every 5")
+            .ends(6, "checkpoint disk fault")
+            .fails(&[(Object::Shard(0), 13), (Object::Disk, 5)]),
+        beside
+            .with("--slack 0ms --batch 1 --hands 2 --checkpoint c --every 5")
+            .fails(&[(Object::Shard(0), 13), (Object::Disk, 5)]),
+    ]
+}
+
+/// Without hands a run stops at the first fault. Hands read on, and of several faults a read fault is told.
+#[test]
+fn read_fault_is_told_before_others(rt: HostRuntime) -> Result<(), Fail> {
+    check_on(&rt, rt.alloc(), &two_faults(), &Areas::empty(rt.alloc()))
 }

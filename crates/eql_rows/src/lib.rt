@@ -15,6 +15,8 @@ mod faults;
 #[cfg(test)]
 mod files;
 #[cfg(test)]
+mod hands;
+#[cfg(test)]
 mod kept;
 #[cfg(test)]
 mod lines;

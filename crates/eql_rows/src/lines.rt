@@ -302,7 +302,7 @@ fn pipes() -> [Row; 11] {
             ELEVEN,
             REFERENCE_LISTS,
         )
-        .with("--batch=7 --hands 16"),
+        .with("--batch=7 --hands 5"),
         found("takes of one byte", REFERENCE, ELEVEN, REFERENCE_LISTS).in_pieces(1),
         found(
             "a slack where no line is late",

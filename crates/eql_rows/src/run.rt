@@ -1,7 +1,7 @@
 //! One run of the program over files in memory, and what it has to give.
 use crate::row::{Failing, Object, Row, Told, Words};
 use crate::text::{add_lines, add_pieces, line_count, text_of};
-use eql_cli::{Ended, NoGate, eql_main};
+use eql_cli::{Ended, Gate, NoGate, eql_main};
 use eql_outside::{MemDisk, MemFile, MemShelf, MemSink};
 use std::alloc::Global;
 use std::process::Abort;
@@ -141,19 +141,21 @@ fn words_of(alloc: Global, row: &Row, shards: usize) -> Result<Vec<String>, Fail
     }
 }
 
-/// Runs words over files and a disk, with these calls of the outputs and the shelf failing, and hands the disk back.
-fn run_beside<R: Threads + Wait + Sync>(
+/// Runs words over files and a disk, with these calls of the outputs and the shelf failing, and hands the disk back. The
+/// hands pass a gate.
+fn run_beside<R: Threads + Wait + Sync, W: Gate + Sync>(
     rt: &R,
     alloc: Global,
     words: &Vec<String>,
     files: Vec<MemFile>,
     disk: MemDisk,
     fails: &[Failing],
+    gate: &W,
 ) -> Result<(Ran, MemDisk), Fail> {
     let mut shelf = MemShelf::new(alloc, files, disk, failing(alloc, fails, Object::Shelf)?)?;
     let out = MemSink::new(alloc, failing(alloc, fails, Object::Out)?);
     let err = MemSink::new(alloc, failing(alloc, fails, Object::Err)?);
-    let ran = eql_main(rt, alloc, words, &mut shelf, out, err, &NoGate);
+    let ran = eql_main(rt, alloc, words, &mut shelf, out, err, gate);
     Ok((ran, shelf.into_disk()))
 }
 
@@ -178,7 +180,7 @@ pub(crate) fn run_over<R: Threads + Wait + Sync>(
     fails: &[Failing],
 ) -> Result<Ran, Fail> {
     let disk = disk_of(alloc, &Areas::empty(alloc), fails, None)?;
-    let (ran, _) = run_beside(rt, alloc, words, files, disk, fails)?;
+    let (ran, _) = run_beside(rt, alloc, words, files, disk, fails, &NoGate)?;
     Ok(ran)
 }
 
@@ -190,10 +192,22 @@ pub(crate) fn run_on<R: Threads + Wait + Sync>(
     disk: MemDisk,
     fails: &[Failing],
 ) -> Result<(Ran, MemDisk), Fail> {
+    run_through(rt, alloc, row, disk, fails, &NoGate)
+}
+
+/// Runs a row on a disk with these calls failing, and hands the disk back. The hands pass a gate.
+pub(crate) fn run_through<R: Threads + Wait + Sync, W: Gate + Sync>(
+    rt: &R,
+    alloc: Global,
+    row: &Row,
+    disk: MemDisk,
+    fails: &[Failing],
+    gate: &W,
+) -> Result<(Ran, MemDisk), Fail> {
     let shards = shards_of(alloc, row)?;
     let words = words_of(alloc, row, shards.len())?;
     let files = files_of(alloc, row, shards, fails)?;
-    run_beside(rt, alloc, &words, files, disk, fails)
+    run_beside(rt, alloc, &words, files, disk, fails, gate)
 }
 
 /// Runs a row with these calls failing.
@@ -224,7 +238,7 @@ fn accepted(alloc: Global, row: &Row) -> Result<Vec<u8>, Fail> {
 }
 
 /// What the error output of a row has to get.
-fn told_of(alloc: Global, row: &Row) -> Result<Vec<u8>, Fail> {
+pub(crate) fn told_of(alloc: Global, row: &Row) -> Result<Vec<u8>, Fail> {
     let mut told = Vec::new(alloc);
     match row.told {
         Told::Accepted => return accepted(alloc, row),

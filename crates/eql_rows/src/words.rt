@@ -121,7 +121,7 @@ fn made() -> [Row; 3] {
             "",
             &["events 200", "matches 0", "first none", "last none"],
         )
-        .words("made --hands=16 200"),
+        .words("made --hands=3 200"),
         printed(
             "the first match",
             "",

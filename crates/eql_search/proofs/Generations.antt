@@ -12,15 +12,15 @@ use Rattle.eql_cut.specs.declared.cut.Cut.{Cut}
 use Rattle.eql_conductor.specs.declared.plan.End.{End as Ends}
 use Rattle.eql_conductor.specs.declared.plan.End.TheVariants as end
 use Rattle.eql_conductor.specs.declared.plan.RunPlan.{RunPlan}
-use Rattle.eql_conductor.specs.Benches.{Known}
+use Rattle.eql_conductor.specs.Benches.{FedOn, Known}
 use Rattle.eql_conductor.specs.Bounds.{AreSized, IsSized, held_count}
 use Rattle.eql_conductor.specs.Handed.{total_to}
 use Rattle.eql_conductor.specs.RunBounds.{BoundedBy, RunBounded, bytes_in, events_in}
 use Rattle.eql_conductor.specs.RunNotes.{Place, RoundsBroken, RunNotes, cut_due, cut_times, listed, next_place, round_count, start}
 use Rattle.eql_conductor.specs.Runs.{cut_time}
-use Rattle.eql_replay.specs.Listed.{BenchView, bench_known}
+use Rattle.eql_hub_run.specs.Beside.{SameBench, bench_of}
+use Rattle.eql_replay.specs.Listed.{bench_known}
 use Rattle.eql_replay.proofs.Places.{there_or}
-use Rattle.eql_search.specs.Running.{bench_of}
 
 -- ---- no more cuts than rounds
 one_at_most : {X : Type 0} (o : Option X) → length (listed o) ≤ 1
@@ -76,56 +76,62 @@ abbrev state_in : {S L : Type 0} → Option (LaneView S L) → LaneState
 state_in None = begun fresh_lane 0
 state_in (Some lane) = lane.state
 
-module _ {S L : Type 0} (read_of : L → Reads) (text : ℕ → Option (List ℕ)) (olds : List (LaneView S L)) (parts : List PartView) (last : BenchView S L) (many : length last.pool.lanes ≡ length olds) (few : length olds ≤ 256)
+module _ {S L : Type 0} (read_of : L → Reads) (text : ℕ → Option (List ℕ)) (olds news : List (LaneView S L)) (parts : List PartView) (first last : Known)
+    (same : SameBench (bench_known read_of text (bench_of olds parts)) first) (as_many : last.lanes ≡ first.lanes)
+    (left : (s : ℕ) (new : LaneView S L) → slice_get news s ≡ Some new → (x : LaneState) × last.lane s x × FedOn (first.set s) x new.state)
+    (many : length news ≡ length olds) (few : length olds ≤ 256)
     (sizes : AreSized (bench_known read_of text (bench_of olds parts))) where
-  abbrev old : Known
-  old = bench_known read_of text (bench_of olds parts)
-
-  abbrev new : Known
-  new = bench_known read_of text last
-
+  -- the states with which the lanes began, and such as they might have at the conductor's end
   abbrev began : ℕ → LaneState
   began s = state_in (slice_get olds s)
 
-  abbrev now : ℕ → LaneState
-  now s = state_in (slice_get last.pool.lanes s)
+  abbrev left_in : (s : ℕ) (o : Option (LaneView S L)) → slice_get news s ≡ o → LaneState
+  left_in s None e = begun fresh_lane 0
+  left_in s (Some lane) e = (left s lane e).0
 
-  held_to : (s : ℕ) → s < length olds → held_count (began s) ≤ greatest_lines
+  abbrev now : ℕ → LaneState
+  now s = left_in s (slice_get news s) refl
+
+  was_left : (s : ℕ) (o : Option (LaneView S L)) (e : slice_get news s ≡ o) → s < length news → last.lane s (left_in s o e)
+  was_left s None e l = let one = there_or news s l in let no : Some one.0 ≡ None = sym one.1 ∙ e in absurd cc
+  was_left s (Some lane) e l = (left s lane e).1
+
+  in_olds : (s : ℕ) → s < first.lanes → s < length olds
+  in_olds s l = let e = same.lanes in omega (arith, l, e)
+
+  has_now : (s : ℕ) → s < first.lanes → last.lane s (now s)
+  has_now s l = was_left s (slice_get news s) refl (let m = in_olds s l in omega (arith, m, many))
+
+  held_to : (s : ℕ) → s < first.lanes → held_count (began s) ≤ greatest_lines
   held_to s l =
-      let one = there_or olds s l in
-      let sized : IsSized one.0.state = sizes.each s l one.0.state (record { lane = one.0; there = one.1; state_is = refl }) in
+      let one = there_or olds s (in_olds s l) in
+      let sized : IsSized one.0.state = sizes.each s (in_olds s l) one.0.state (record { lane = one.0; there = one.1; state_is = refl }) in
       let a = sized.few in
       let b = sized.lines in
       let c = ap (λ (o : Option (LaneView S L)). held_count (state_in o)) one.1 in
       omega (arith, a, b, c)
 
-  taken_to : (rounds : ℕ) → RunBounded rounds old new → (s : ℕ) → s < length olds → (now s).taken ≤ greatest_bytes
-  taken_to rounds bounded s l =
-      let one = there_or last.pool.lanes s (omega (arith, l, many)) in
-      let sized : IsSized one.0.state = bounded.sized.each s (omega (arith, l, many)) one.0.state (record { lane = one.0; there = one.1; state_is = refl }) in
-      let a = sized.bytes in
-      let c = ap (λ (o : Option (LaneView S L)). (state_in o).taken) one.1 in
-      omega (arith, a, c)
+  taken_to : (rounds : ℕ) → RunBounded rounds first last → (s : ℕ) → s < first.lanes → (now s).taken ≤ greatest_bytes
+  taken_to rounds bounded s l = (bounded.sized.each s (omega (arith, l, as_many)) (now s) (has_now s l)).bytes
 
-  bounded_by : (rounds : ℕ) → RunBounded rounds old new → BoundedBy rounds old new (bytes_in (length olds) now) (events_in (length olds) began)
+  bounded_by : (rounds : ℕ) → RunBounded rounds first last → BoundedBy rounds first last (bytes_in first.lanes now) (events_in first.lanes began)
   bounded_by rounds bounded = bounded.bound began now (record {
-    from = λ s l x has. (0, has.state_is ∙ sym (ap state_in has.there));
-    to = λ s l.
-        let one = there_or last.pool.lanes s (omega (arith, l, many)) in
-        record { lane = one.0; there = one.1; state_is = ap state_in one.1 };
+    from = λ s l x has. let was = same.lane_from s x has in (0, was.state_is ∙ sym (ap state_in was.there));
+    to = has_now;
   })
 
-  pub few_rounds : (rounds : ℕ) → RunBounded rounds old new → rounds ≤ 2 ^ 51
+  pub few_rounds : (rounds : ℕ) → RunBounded rounds first last → rounds ≤ 2 ^ 51
   few_rounds rounds bounded =
       let a = (bounded_by rounds bounded).rounds_to in
-      let b = total_bytes (length olds) (λ s. (now s).taken) (taken_to rounds bounded) in
-      let c = total_lines (length olds) (λ s. held_count (began s)) held_to in
-      omega (arith, a, b, c, few)
+      let b = total_bytes first.lanes (λ s. (now s).taken) (taken_to rounds bounded) in
+      let c = total_lines first.lanes (λ s. held_count (began s)) held_to in
+      let e = same.lanes in
+      omega (arith, a, b, c, e, few)
 
-  pub few_cuts : (plan : RunPlan) (cuts : List Cut) (answer : Ends) (notes : RunNotes plan (map cut_time cuts) old new answer) → RunBounded (round_count plan (map cut_time cuts) old new answer notes) old new
+  pub few_cuts : (plan : RunPlan) (cuts : List Cut) (answer : Ends) (notes : RunNotes plan (map cut_time cuts) first last answer) → RunBounded (round_count plan (map cut_time cuts) first last answer notes) first last
       → length cuts ≤ 2 ^ 51
   few_cuts plan cuts answer notes bounded =
-      let a = few_times plan (map cut_time cuts) old new answer notes in
-      let b = few_rounds (round_count plan (map cut_time cuts) old new answer notes) bounded in
+      let a = few_times plan (map cut_time cuts) first last answer notes in
+      let b = few_rounds (round_count plan (map cut_time cuts) first last answer notes) bounded in
       let c = length-map cuts cut_time in
       omega (arith, a, b, c)

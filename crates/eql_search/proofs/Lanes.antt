@@ -9,11 +9,15 @@ use Rattle.eql_outside.specs.Plans.{FaultPlan}
 use Rattle.eql_values.specs.Accepted.{Reads}
 use Rattle.eql_values.specs.declared.cut.LaneCut.{LaneCut}
 use Rattle.eql_values.specs.declared.order.Mark.{Mark}
+use Rattle.eql_values.specs.declared.order.Mark.TheVariants.{End}
 use Rattle.eql_values.specs.Lines.{begin_with, lines_of}
+use Rattle.eql_values.specs.Marks.{low_of}
 use Rattle.eql_laws.specs.Counting.{IsShardText, counts_of, greatest_bytes, greatest_lines}
+use Rattle.eql_laws.specs.Lateness.{AtMost}
 use Rattle.eql_laws.specs.Places.{is_line_end}
+use Rattle.eql_laws.proofs.MarkLemmas.{at_most_trans}
 use Rattle.eql_lane.specs.Keeps.{LaneIs}
-use Rattle.eql_lane.specs.Lanes.{LaneState, OutOfLines as IsOutOfLines, Setting}
+use Rattle.eql_lane.specs.Lanes.{LaneState, OutOfLines as IsOutOfLines, Setting, low}
 use Rattle.eql_lane.specs.Views.{IsTextOf, LaneView, setting_of}
 use Rattle.eql_lane.proofs.FeedLines.{lines_both}
 use Rattle.eql_parts.specs.PartSteps.{PartView}
@@ -25,16 +29,24 @@ use Rattle.eql_conductor.specs.declared.plan.RunPlan.{RunPlan}
 use Rattle.eql_conductor.specs.Benches.{Known}
 use Rattle.eql_conductor.specs.Bounds.{AreSized, IsSized}
 use Rattle.eql_conductor.specs.Going.{Onward}
-use Rattle.eql_conductor.specs.LaneRounds.{text_at}
+use Rattle.eql_conductor.specs.LaneRounds.{IsSafeAt, text_at}
 use Rattle.eql_conductor.specs.Rounds.{OfTexts}
+use Rattle.eql_conductor.proofs.Onward.{fed_onward, onward_on}
+use Rattle.eql_hub_run.specs.Beside.{RanFrom, bench_of}
 use Rattle.eql_replay.specs.Listed.{HasLane, bench_known, set_in}
 use Rattle.eql_replay.specs.Opened.{IsAtPlace}
 use Rattle.eql_replay.proofs.Places.{there_or}
 use Rattle.eql_search.specs.Answers.{CountWhole, IsClosed, OutOfBytes, OutOfLines, StaysLane, WereRead}
-use Rattle.eql_search.specs.Running.{HasRun, bench_of}
 use Rattle.eql_search.specs.Searches.{AreBegunFrom, AreTextsOf}
 use Rattle.eql_search.proofs.Places.{all_by, zip_by}
 use Rattle.eql_search.proofs.Texts.{all_told, begun_at, of_some, told_again, told_count}
+
+-- only a closed lane has the end as its low
+pub closed_low : (closed : Bool) (slack best : Option ℤ) → AtMost End (low_of closed slack best) → closed ≡ true
+closed_low true slack best h = refl
+closed_low false (Some slack) (Some best) h = cc
+closed_low false (Some slack) None h = cc
+closed_low false None best h = cc
 
 -- ---- more lines
 begun_line : (byte : ℕ) (lines : List (List ℕ)) → 1 ≤ length (begin_with byte lines)
@@ -86,22 +98,22 @@ count_whole reads slack shard (text ∷ texts) (lane ∷ lanes) e each =
 
 module _ {S L D : Type 0} (left lent_as : S → Option (List ℕ)) (fault_plan : S → Option FaultPlan) (read_of : L → Reads) (history : D → Option History) (count : D → ℕ) (reads : Reads) (slack : Option ℤ)
     (told : Option (List (List ℕ))) (plan : RunPlan) (olds news : List (LaneView S L)) (parts : List PartView) (book then : BookState) (before now : Option (List ℕ)) (sink_before sink_now : ℕ)
-    (keep kept : Option (Keep D)) (answer : Ends) (begun : AreBegunFrom read_of reads slack 0 olds)
-    (run : HasRun left lent_as fault_plan read_of history count (text_at told) plan olds news parts book then before now sink_before sink_now keep kept answer)
+    (keep kept : Option (Keep D)) (answer : Ends) (first last : Known) (begun : AreBegunFrom read_of reads slack 0 olds)
+    (run : RanFrom left lent_as fault_plan read_of history count (text_at told) plan olds news first last parts book then before now sink_before sink_now keep kept answer)
     (sizes : AreSized (bench_known read_of (text_at told) (bench_of olds parts))) where
-  abbrev first : Known
-  first = bench_known read_of (text_at told) (bench_of olds parts)
+  abbrev bench : Known
+  bench = bench_known read_of (text_at told) (bench_of olds parts)
 
   -- ---- at its place
   pub as_many : length news ≡ length olds
   as_many = run.on.count
 
-  pub has_now : (s : ℕ) (new : LaneView S L) → slice_get news s ≡ Some new → HasLane run.last.pool.lanes s new.state
-  has_now s new is = record {
-    lane = new;
-    there = sym (ap (λ (lanes : List (LaneView S L)). slice_get lanes s) run.lanes_are) ∙ is;
-    state_is = refl;
-  }
+  -- a lane that is there is one of those that were known first, and last
+  pub known_first : (s : ℕ) → s < length olds → s < first.lanes
+  known_first s l = let e = run.begins.lanes in omega (arith, l, e)
+
+  pub known_last : (s : ℕ) → s < length olds → s < last.lanes
+  known_last s l = let e = run.goes.same.lanes in let m = known_first s l in omega (arith, m, e)
 
   module _ (s : ℕ) (old new : LaneView S L) (was : slice_get olds s ≡ Some old) (is : slice_get news s ≡ Some new) where
     pub within : s < length olds
@@ -115,9 +127,28 @@ module _ {S L D : Type 0} (left lent_as : S → Option (List ℕ)) (fault_plan :
 
     pub onward : Onward (first.set s) old.state new.state
     onward =
-        let on = run.goes.each s within new.state (has_now s new is) in
+        let left = run.lanes s new is in
+        let on = run.goes.each s (known_first s within) left.0 left.1 in
         let set : Setting = first.set s in
-        subst (λ (x : LaneState). Onward set x new.state) (old_is on.0 on.1) on.2
+        let fed : Onward set left.0 new.state = fed_onward set left.0 new.state left.2 in
+        subst (λ (x : LaneState). Onward set x new.state) (old_is on.0 (run.begins.lane_from s on.0 on.1)) (onward_on set on.0 left.0 new.state on.2 fed)
+
+    -- what is so of its low in each state that it might have at the conductor's end is so of it now
+    pub low_on : (mark : Mark) → IsSafeAt s mark last → AtMost mark (low (first.set s) new.state)
+    low_on mark safe =
+        let left = run.lanes s new is in
+        let set : Setting = first.set s in
+        let at : AtMost mark (low set left.0) = subst (λ (u : Setting). AtMost mark (low u left.0)) (run.goes.same.set s (known_first s within)) (safe.low_is left.0 left.1) in
+        at_most_trans mark (low set left.0) (low set new.state) at (fed_onward set left.0 new.state left.2).low_up
+
+    -- and where it is closed in each of them it is closed now
+    pub closed_on : ((x : LaneState) → last.lane s x → x.cut.closed ≡ true) → new.state.cut.closed ≡ true
+    closed_on closed =
+        let left = run.lanes s new is in
+        let set : Setting = first.set s in
+        let up : AtMost (low set left.0) (low set new.state) = (fed_onward set left.0 new.state left.2).low_up in
+        closed_low new.state.cut.closed set.slack new.state.cut.best
+        (subst (λ (c : Bool). AtMost (low_of c set.slack left.0.cut.best) (low set new.state)) (closed left.0 left.1) up)
 
     sized : IsSized new.state
     sized = onward.sized (sizes.each s within old.state has_then)
@@ -221,13 +252,13 @@ module _ {S L D : Type 0} (left lent_as : S → Option (List ℕ)) (fault_plan :
   pub all_closed : Closed → All IsClosed news
   all_closed closed = all_by IsClosed news closed
 
-  module _ (texts : List (List ℕ)) (e : told ≡ Some texts) (are : AreTextsOf left texts olds) (mark : Mark) (of_texts : OfTexts reads slack texts mark first) where
+  module _ (texts : List (List ℕ)) (e : told ≡ Some texts) (are : AreTextsOf left texts olds) (mark : Mark) (of_texts : OfTexts reads slack texts mark bench) where
     -- each lane had read its text up to a place
     was_at : (s : ℕ) (old : LaneView S L) (t : List ℕ) → slice_get olds s ≡ Some old → slice_get texts s ≡ Some t → IsAtPlace (setting_of read_of (Some t) old) t old.state
     was_at s old t was named =
         let at = of_texts.lanes.each s (slice_get_within olds s old was) old.state (record { lane = old; there = was; state_is = refl }) in
-        let of : IsOfText (first.set s) mark old.state t = of_some (slice_get texts s) (IsOfText (first.set s) mark old.state) t named at.told in
-        let set : first.set s ≡ setting_of read_of (Some t) old =
+        let of : IsOfText (bench.set s) mark old.state t = of_some (slice_get texts s) (IsOfText (bench.set s) mark old.state) t named at.told in
+        let set : bench.set s ≡ setting_of read_of (Some t) old =
         ap (set_in read_of (text_at told s)) was ∙ ap (λ (o : Option (List ℕ)). setting_of read_of o old) (ap (λ (o : Option (List (List ℕ))). text_at o s) e ∙ named) in
         record { mark = mark; is = subst (λ (u : Setting). LaneIs u t mark old.state) set of.is }
 

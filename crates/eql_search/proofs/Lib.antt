@@ -2,6 +2,8 @@ mod Places
 mod Owned
 mod Texts
 mod Opened
+mod Begun
+mod Told
 mod Lanes
 mod Causes
 mod Lines

@@ -1,7 +1,7 @@
 -- What a run wrote, in the words of the listing.
-use Rattle.std.proofs.Common.{◌≡◌, ◌^◌, ◌-◌, ◌++◌, ℕ, ℤ, true, false, Bool, List, [], drop, length, Option, Some, None, Ok, Err, All, refl, sym, ap, ◌∙◌, subst, append_assoc}
+use Rattle.std.proofs.Common.{◌≡◌, ◌^◌, ◌-◌, ◌++◌, ℕ, ℤ, true, List, [], drop, length, Option, Some, Ok, Err, All, refl, sym, ap, ◌∙◌, arith, subst, append_assoc}
 use Rattle.std.specs.Prelude.{OnErr, OnOk, Result, slice_get}
-use Rattle.std.proofs.lemmas.List.{drop_at, take-append-drop}
+use Rattle.std.proofs.lemmas.List.{append-nil, drop_at, take-append-drop}
 use Rattle.std.proofs.lemmas.List.Concat.{flat_map-append}
 use Rattle.std.proofs.lemmas.Option.{slice_get_within}
 use Rattle.eql_outside.specs.Moments.{History}
@@ -16,14 +16,12 @@ use Rattle.eql_values.specs.declared.found.Numbered.{Numbered}
 use Rattle.eql_values.specs.declared.order.Mark.{Mark}
 use Rattle.eql_values.specs.declared.order.Mark.TheVariants.{Start, At, End}
 use Rattle.eql_values.specs.Accepted.{Reads, below}
-use Rattle.eql_values.specs.Marks.{low_of}
 use Rattle.eql_values.specs.Matching.{after, matches}
 use Rattle.eql_values.specs.Numbering.{emitted, numbered, piped}
 use Rattle.eql_laws.specs.Alive.{IsSpan}
 use Rattle.eql_laws.specs.Belows.{between}
 use Rattle.eql_laws.specs.Books.{book_of}
 use Rattle.eql_laws.specs.Counting.{IsShardText}
-use Rattle.eql_laws.specs.Lateness.{AtMost}
 use Rattle.eql_laws.specs.Resuming.{emitted_from, numbered_after}
 use Rattle.eql_laws.proofs.BelowLemmas.{below_grows}
 use Rattle.eql_laws.proofs.LeftOut.{after_in_order, dead_matches}
@@ -36,23 +34,32 @@ use Rattle.eql_parts.specs.PartSteps.{PartView, Rules as PartRules, alive_by, ma
 use Rattle.eql_book.specs.Books.{BookState, counted, held_back, let_out}
 use Rattle.eql_book.specs.Listing.{listing, match_line}
 use Rattle.eql_book.proofs.Wholes.{end_is_whole}
+use Rattle.eql_cut.specs.declared.cut.Cut.{Cut}
+use Rattle.eql_conductor.specs.declared.plan.End.{End as Ends}
+use Rattle.eql_conductor.specs.declared.plan.End.TheVariants as end
 use Rattle.eql_conductor.specs.declared.plan.Keep.{Keep}
 use Rattle.eql_conductor.specs.declared.plan.RunPlan.{RunPlan}
 use Rattle.eql_conductor.specs.Benches.{Known}
 use Rattle.eql_conductor.specs.LaneRounds.{IsSafe, text_at}
-use Rattle.eql_conductor.specs.Rounds.{found_by}
+use Rattle.eql_conductor.specs.PartRounds.{Resting}
+use Rattle.eql_conductor.specs.Records.{Ran}
+use Rattle.eql_conductor.specs.Rounds.{OfTexts, found_by}
 use Rattle.eql_conductor.specs.RunLaws.{BeginsTold, HavePlayed, StopsListed, found_below}
 use Rattle.eql_conductor.specs.Runs.{RunStops, lines_before_end, lines_by}
+use Rattle.eql_conductor.proofs.Broken.{wrote_none}
+use Rattle.eql_hub_run.specs.Beside.{RanFrom, SameBench, bench_of}
 use Rattle.eql_replay.specs.Listed.{bench_known}
+use Rattle.eql_replay.proofs.Places.{there_or}
 use Rattle.eql_search.specs.declared.stop.Stop.{Stop}
-use Rattle.eql_search.specs.declared.stop.Stop.TheVariants as stop
 use Rattle.eql_search.specs.Answers.{IsClosed, WereRead}
 use Rattle.eql_search.specs.Beginnings.{BeginsOn, cuts_of, start_at}
-use Rattle.eql_search.specs.Running.{HasRun, bench_of, end_of}
+use Rattle.eql_search.specs.Running.{end_of}
 use Rattle.eql_search.specs.Searches.{AreBegunFrom, AreTextsOf, HasNumbers, Rules, rest_of}
-use Rattle.eql_search.proofs.Lanes.{all_closed, has_now, texts_fit, were_read}
+use Rattle.eql_search.proofs.Begun.{same_rests, same_texts}
+use Rattle.eql_search.proofs.Lanes.{all_closed, as_many, closed_low, closed_on, known_last, low_on, texts_fit, were_read}
 use Rattle.eql_search.proofs.Opened.{BeginsSo}
 use Rattle.eql_search.proofs.Texts.{named}
+use Rattle.eql_search.proofs.Told.{done_then}
 
 -- ---- before the end
 module _ (pipes : List Pipe) (found more : List Match) where
@@ -126,82 +133,94 @@ module _ (rules : PartRules) (reads : Reads) (slack : Option ℤ) (texts : List 
       ∙ ap (λ (more : List Match). found_below rules reads slack texts from ++ more)
       (sym (ap (λ (h : List Holder). matches rules.stages rules.span h (between reads slack texts from End)) played.pending ∙ alive_matches from))
 
--- only a closed lane has the end as its low
-closed_low : (closed : Bool) (slack best : Option ℤ) → AtMost End (low_of closed slack best) → closed ≡ true
-closed_low true slack best h = refl
-closed_low false (Some slack) (Some best) h = cc
-closed_low false (Some slack) None h = cc
-closed_low false None best h = cc
+-- who wrote all of a text wrote a front of it
+front_of_all : (bytes : List ℕ) (before now : Option (List ℕ)) → WroteAll bytes before now → WroteFront bytes before now
+front_of_all bytes before now wrote =
+    subst (λ (l : List ℕ). WroteFront l before now) (append-nil bytes) (writes_on.front bytes [] before now now wrote (wrote_none [] now))
 
 -- ---- a run
 module _ (A : Type 0) {S L D : Type 0} (left lent_as : S → Option (List ℕ)) (fault_plan : S → Option FaultPlan) (read_of : L → Reads) (history : D → Option History) (count : D → ℕ) (reads : Reads) (slack : Option ℤ)
     (stages : ℕ) (span : Option ℤ) (told : Option (List (List ℕ))) (plan : RunPlan) (olds news : List (LaneView S L)) (holders : List Holder) (parts : List PartView) (book then : BookState) (before now : Option (List ℕ)) (sink_before sink_now : ℕ)
-    (keep kept : Option (Keep D)) (begun : AreBegunFrom read_of reads slack 0 olds) (is_span : IsSpan span)
-    (begins : BeginsSo left read_of reads slack stages span (text_at told) olds holders parts plan book plan.mark) where
+    (keep kept : Option (Keep D)) (first last : Known) (begun : AreBegunFrom read_of reads slack 0 olds) (is_span : IsSpan span)
+    (begins : BeginsSo left read_of reads slack stages span (text_at told) olds holders parts plan book plan.mark)
+    (same : SameBench (bench_known read_of (text_at told) (bench_of olds parts)) first) where
   abbrev rules : PartRules
   rules = record { stages = stages; span = span }
 
   abbrev by : Rules
   by = record { reads = reads; slack = slack; stages = stages; span = span }
 
-  abbrev first : Known
-  first = bench_known read_of (text_at told) (bench_of olds parts)
+  abbrev bench : Known
+  bench = bench_known read_of (text_at told) (bench_of olds parts)
 
-  abbrev Ran : Result A Stop → Type 0
-  Ran r = HasRun left lent_as fault_plan read_of history count (text_at told) plan olds news parts book then before now sink_before sink_now keep kept (end_of r)
+  abbrev Beside : Result A Stop → Type 0
+  Beside r = RanFrom left lent_as fault_plan read_of history count (text_at told) plan olds news first last parts book then before now sink_before sink_now keep kept (end_of r)
+
+  abbrev RanTo : Ends → Type 0
+  RanTo ended = Ran history count plan first last book then before now keep kept ended
 
   abbrev On : List (List ℕ) → Type 0
   On texts = BeginsOn by book.pipes texts (start_at plan.mark (cuts_of olds) holders book.kept)
+
+  -- an answer without a stop is that of a run to its end
+  done_ran : (a : A) → Beside (Ok a) → RanTo end.Done
+  done_ran a run = subst RanTo (done_then run.ended a run.told) run.ran
+
+  abbrev Closed : Type 0
+  Closed = (s : ℕ) (new : LaneView S L) → slice_get news s ≡ Some new → new.state.cut.closed ≡ true
+
+  old_of : (r : Result A Stop) → Beside r → (s : ℕ) (new : LaneView S L) → slice_get news s ≡ Some new → (old : LaneView S L) × (slice_get olds s ≡ Some old)
+  old_of r run s new is =
+      there_or olds s (let a = slice_get_within news s new is in let b = as_many left lent_as fault_plan read_of history count reads slack told plan olds news parts book then before now sink_before sink_now keep kept (end_of r) first last begun run begins.begins.sized in omega (arith, a, b))
+
+  -- at the end every lane is closed
+  closed_by : (r : Result A Stop) → Beside r → RanTo end.Done → Closed
+  closed_by r run ran s new is =
+      let one = old_of r run s new is in
+      closed_on left lent_as fault_plan read_of history count reads slack told plan olds news parts book then before now sink_before sink_now keep kept (end_of r) first last begun run begins.begins.sized s one.0 new one.1 is
+      (λ x has. ran.is.closed s (known_last left lent_as fault_plan read_of history count reads slack told plan olds news parts book then before now sink_before sink_now keep kept (end_of r) first last begun run begins.begins.sized s (slice_get_within olds s one.0 one.1)) x has)
+
+  -- and so it is where the end is safe
+  closed_at : (r : Result A Stop) → Beside r → IsSafe End last → Closed
+  closed_at r run safe s new is =
+      let one = old_of r run s new is in
+      let inside = slice_get_within olds s one.0 one.1 in
+      closed_low new.state.cut.closed (first.set s).slack new.state.cut.best
+      (low_on left lent_as fault_plan read_of history count reads slack told plan olds news parts book then before now sink_before sink_now keep kept (end_of r) first last begun run begins.begins.sized s one.0 new one.1 is End
+      (safe.each s (known_last left lent_as fault_plan read_of history count reads slack told plan olds news parts book then before now sink_before sink_now keep kept (end_of r) first last begun run begins.begins.sized s inside)))
 
   module _ (texts : List (List ℕ)) (e : told ≡ Some texts) (are : AreTextsOf left texts olds) (on : On texts) where
     played : HavePlayed rules reads slack texts plan.mark holders book
     played = begins.played texts on
 
+    of_bench : OfTexts reads slack texts plan.mark bench
+    of_bench = begins.of_texts texts (named told texts e) are on
+
+    of_first : OfTexts reads slack texts plan.mark first
+    of_first = same_texts bench first same reads slack texts plan.mark of_bench
+
+    rests_first : Resting rules holders plan.mark first
+    rests_first = same_rests bench first same rules holders plan.mark begins.begins.rests
+
     -- where each match has a number, the run began so over the texts
     pub begins_told : HasNumbers by texts → BeginsTold rules reads slack texts plan.mark holders first book
     begins_told numbers = record {
-      texts_are = begins.of_texts texts (named told texts e) are on;
-      rests = begins.begins.rests;
+      texts_are = of_first;
+      rests = rests_first;
       played = played;
       numbers = numbers;
     }
 
-    pub wrote_whole : (r : Result A Stop) → Ran r → OnOk r (HasNumbers by texts → WroteAll (rest_of by book.pipes book.places book.kept.listed texts) before now)
-    wrote_whole (Ok done) run = λ numbers. run.ran.listed rules reads slack texts holders (begins_told numbers)
+    pub wrote_whole : (r : Result A Stop) → Beside r → OnOk r (HasNumbers by texts → WroteAll (rest_of by book.pipes book.places book.kept.listed texts) before now)
+    wrote_whole (Ok done) run = λ numbers. (done_ran done run).listed rules reads slack texts holders (begins_told numbers)
     wrote_whole (Err stopped) run = tt
 
     -- ---- a stop
-    abbrev last : (r : Result A Stop) → Ran r → Known
-    last r run = bench_known read_of (text_at told) run.last
-
-    abbrev Stops : (r : Result A Stop) → Ran r → Type 0
-    Stops r run = RunStops plan.mark first (last r run) book then before now run.ran.cuts
-
-    abbrev StopsSo : (r : Result A Stop) → Ran r → Type 0
-    StopsSo r run = StopsListed rules reads slack texts plan.mark (last r run) book then before now run.ran.cuts
-
-    stops_of : (of : Stop) (run : Ran (Err of)) → Stops (Err of) run
-    stops_of (stop.Read s) run = run.ran.is
-    stops_of stop.Write run = run.ran.is
-    stops_of stop.Disk run = run.ran.is
-    stops_of stop.Memory run = run.ran.is
-    stops_of (stop.Limit of) run = run.ran.is
-
-    listed_of : (of : Stop) (run : Ran (Err of)) → HasNumbers by texts → StopsSo (Err of) run
-    listed_of (stop.Read s) run numbers = run.ran.listed rules reads slack texts holders (begins_told numbers)
-    listed_of stop.Write run numbers = run.ran.listed rules reads slack texts holders (begins_told numbers)
-    listed_of stop.Disk run numbers = run.ran.listed rules reads slack texts holders (begins_told numbers)
-    listed_of stop.Memory run numbers = run.ran.listed rules reads slack texts holders (begins_told numbers)
-    listed_of (stop.Limit of) run numbers = run.ran.listed rules reads slack texts holders (begins_told numbers)
-
-    -- at the end every lane is closed, so the texts are of the size that shards may have
-    fit : (r : Result A Stop) (run : Ran r) → IsSafe End (last r run) → All IsShardText texts
-    fit r run safe =
-        texts_fit left lent_as fault_plan read_of history count reads slack told plan olds news parts book then before now sink_before sink_now keep kept (end_of r) begun run begins.begins.sized
-        texts e are plan.mark (begins.of_texts texts (named told texts e) are on) (λ s new is.
-        let has = has_now left lent_as fault_plan read_of history count reads slack told plan olds news parts book then before now sink_before sink_now keep kept (end_of r) begun run begins.begins.sized s new is in
-        closed_low new.state.cut.closed ((last r run).set s).slack new.state.cut.best
-        ((safe.each s (slice_get_within run.last.pool.lanes s has.lane has.there)).low_is new.state has))
+    -- where every lane is closed the texts are of the size that shards may have
+    fit : (r : Result A Stop) → Beside r → Closed → All IsShardText texts
+    fit r run closed =
+        texts_fit left lent_as fault_plan read_of history count reads slack told plan olds news parts book then before now sink_before sink_now keep kept (end_of r) first last begun run begins.begins.sized
+        texts e are plan.mark of_bench closed
 
     early : WroteFront (lines_before_end book (found_by rules holders (between reads slack texts plan.mark End))) before now → WroteFront (rest_of by book.pipes book.places book.kept.listed texts) before now
     early wrote =
@@ -209,42 +228,48 @@ module _ (A : Type 0) {S L D : Type 0} (left lent_as : S → Option (List ℕ)) 
         (sym (found_on rules reads slack texts is_span plan.mark holders book played))
         (before_end book (found_below rules reads slack texts plan.mark) (found_by rules holders (between reads slack texts plan.mark End)) before now played.counted wrote)
 
-    module _ (few_then : All IsShardText texts → HasNumbers by texts) (of : Stop) (run : Ran (Err of)) where
-      front_at : (mark : Mark) → IsSafe mark (last (Err of) run) → WroteFront (lines_by mark book (found_by rules holders (between reads slack texts plan.mark End))) before now
+    module _ (few_then : All IsShardText texts → HasNumbers by texts) (r : Result A Stop) (run : Beside r) where
+      -- by the mark at which the conductor stopped
+      front_at : (cuts : List Cut) → (HasNumbers by texts → StopsListed rules reads slack texts plan.mark last book then before now cuts) → (mark : Mark) → IsSafe mark last
+          → WroteFront (lines_by mark book (found_by rules holders (between reads slack texts plan.mark End))) before now
           → WroteFront (rest_of by book.pipes book.places book.kept.listed texts) before now
-      front_at Start safe wrote = early wrote
-      front_at (At t) safe wrote = early wrote
-      front_at End safe wrote = (listed_of of run (few_then (fit (Err of) run safe))).so.front
+      front_at cuts listed Start safe wrote = early wrote
+      front_at cuts listed (At t) safe wrote = early wrote
+      front_at cuts listed End safe wrote = (listed (few_then (fit r run (closed_at r run safe)))).so.front
 
-      stopped_front : WroteFront (rest_of by book.pipes book.places book.kept.listed texts) before now
-      stopped_front =
-          let stops = stops_of of run in
-          front_at stops.mark stops.safe (stops.told reads slack texts rules holders (begins.of_texts texts (named told texts e) are on) begins.begins.rests).front
+      stopped_front : (cuts : List Cut) → RunStops plan.mark first last book then before now cuts
+          → (HasNumbers by texts → StopsListed rules reads slack texts plan.mark last book then before now cuts)
+          → WroteFront (rest_of by book.pipes book.places book.kept.listed texts) before now
+      stopped_front cuts stops listed =
+          front_at cuts listed stops.mark stops.safe (stops.told reads slack texts rules holders of_first rests_first).front
 
-    pub wrote_front : (r : Result A Stop) → Ran r
+      -- by the end of the conductor, whichever is told
+      front_by : (ended : Ends) → RanTo ended → WroteFront (rest_of by book.pipes book.places book.kept.listed texts) before now
+      front_by end.Done ran =
+          front_of_all (rest_of by book.pipes book.places book.kept.listed texts) before now
+          (ran.listed rules reads slack texts holders (begins_told (few_then (fit r run (closed_by r run ran)))))
+      front_by (end.ReadFault s) ran = stopped_front ran.cuts ran.is (λ numbers. ran.listed rules reads slack texts holders (begins_told numbers))
+      front_by end.WriteFault ran = stopped_front ran.cuts ran.is (λ numbers. ran.listed rules reads slack texts holders (begins_told numbers))
+      front_by end.DiskFault ran = stopped_front ran.cuts ran.is (λ numbers. ran.listed rules reads slack texts holders (begins_told numbers))
+      front_by end.Memory ran = stopped_front ran.cuts ran.is (λ numbers. ran.listed rules reads slack texts holders (begins_told numbers))
+      front_by (end.Limit of) ran = stopped_front ran.cuts ran.is (λ numbers. ran.listed rules reads slack texts holders (begins_told numbers))
+
+    pub wrote_front : (r : Result A Stop) → Beside r
         → OnErr r ((All IsShardText texts → HasNumbers by texts) → WroteFront (rest_of by book.pipes book.places book.kept.listed texts) before now)
     wrote_front (Ok done) run = tt
-    wrote_front (Err of) run = λ few_then. stopped_front few_then of run
+    wrote_front (Err of) run = λ few_then. front_by few_then (Err of) run run.ended run.ran
 
   -- ---- the end
-  abbrev Closed : Type 0
-  Closed = (s : ℕ) (new : LaneView S L) → slice_get news s ≡ Some new → new.state.cut.closed ≡ true
-
-  closed_then : (a : A) → Ran (Ok a) → Closed
-  closed_then a run = λ s new is.
-      let r : Result A Stop = Ok a in
-      let has = has_now left lent_as fault_plan read_of history count reads slack told plan olds news parts book then before now sink_before sink_now keep kept (end_of r) begun run begins.begins.sized s new is in
-      run.ran.is.closed s (slice_get_within run.last.pool.lanes s has.lane has.there) new.state has
-
-  pub lanes_closed : (r : Result A Stop) → Ran r → OnOk r (All IsClosed news)
+  pub lanes_closed : (r : Result A Stop) → Beside r → OnOk r (All IsClosed news)
   lanes_closed (Ok a) run =
       let r : Result A Stop = Ok a in
-      all_closed left lent_as fault_plan read_of history count reads slack told plan olds news parts book then before now sink_before sink_now keep kept (end_of r) begun run begins.begins.sized (closed_then a run)
+      all_closed left lent_as fault_plan read_of history count reads slack told plan olds news parts book then before now sink_before sink_now keep kept (end_of r) first last begun run begins.begins.sized
+      (closed_by r run (done_ran a run))
   lanes_closed (Err of) run = tt
 
-  pub texts_read : (texts : List (List ℕ)) → told ≡ Some texts → AreTextsOf left texts olds → On texts → (r : Result A Stop) → Ran r → OnOk r (WereRead reads slack texts news)
+  pub texts_read : (texts : List (List ℕ)) → told ≡ Some texts → AreTextsOf left texts olds → On texts → (r : Result A Stop) → Beside r → OnOk r (WereRead reads slack texts news)
   texts_read texts e are on (Ok a) run =
       let r : Result A Stop = Ok a in
-      were_read left lent_as fault_plan read_of history count reads slack told plan olds news parts book then before now sink_before sink_now keep kept (end_of r) begun run begins.begins.sized
-      texts e are plan.mark (begins.of_texts texts (named told texts e) are on) (closed_then a run)
+      were_read left lent_as fault_plan read_of history count reads slack told plan olds news parts book then before now sink_before sink_now keep kept (end_of r) first last begun run begins.begins.sized
+      texts e are plan.mark (begins.of_texts texts (named told texts e) are on) (closed_by r run (done_ran a run))
   texts_read texts e are on (Err of) run = tt

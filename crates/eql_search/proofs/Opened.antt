@@ -32,10 +32,11 @@ use Rattle.eql_conductor.proofs.Listed.{cut_have_played, fresh_have_played}
 use Rattle.eql_conductor.proofs.MayBegin.{fit_may_begin}
 use Rattle.eql_conductor.proofs.Opened.{fresh_runs_begin}
 use Rattle.eql_conductor.proofs.OpenedCuts.{cut_runs_begin, cut_runs_have_texts, fit_is_safe}
+use Rattle.eql_hub_run.specs.Beside.{bench_of}
 use Rattle.eql_replay.specs.Listed.{bench_known, rules_in, set_in}
 use Rattle.eql_replay.proofs.Places.{there_or}
 use Rattle.eql_search.specs.Beginnings.{BeginsFrom, BeginsOn, MayBegin, cuts_of, run_by, start_at}
-use Rattle.eql_search.specs.Running.{AreOwnParts, MayBeginPart, bench_of}
+use Rattle.eql_search.specs.Running.{AreOwnParts, MayBeginPart}
 use Rattle.eql_search.specs.Searches.{AreBegunFrom, AreTextsOf, Rules}
 use Rattle.eql_search.proofs.Places.{all_at}
 use Rattle.eql_search.proofs.Texts.{begun_at, told_count}

@@ -18,15 +18,18 @@ use Rattle.eql_cut.specs.declared.cut.Cut.{Cut}
 use Rattle.eql_conductor.specs.declared.plan.End.TheVariants as end
 use Rattle.eql_conductor.specs.declared.plan.Keep.{Keep}
 use Rattle.eql_conductor.specs.declared.plan.RunPlan.{RunPlan}
+use Rattle.eql_conductor.specs.Benches.{Known}
 use Rattle.eql_conductor.specs.LaneRounds.{text_at}
 use Rattle.eql_conductor.specs.Runs.{disk_faults}
 use Rattle.eql_conductor.proofs.Broken.{wrote_none}
+use Rattle.eql_hub_run.specs.Beside.{RanFrom}
+use Rattle.eql_lock_bench.specs.Locked.{known_by}
 use Rattle.eql_search.specs.declared.stop.Stop.{Stop}
 use Rattle.eql_search.specs.declared.stop.Stop.TheVariants as stop
-use Rattle.eql_search.specs.Answers.{AreUnfailing, HasCause, IsClosed, IsNoFault, SteadyBut, StaysLane, WereRead}
+use Rattle.eql_search.specs.Answers.{AreUnfailing, HasCause, IsClosed, IsNoFault, IsRead, SteadyBut, StaysLane, WereRead}
 use Rattle.eql_search.specs.Beginnings.{BeginsOn, MayBegin, MayKeepOn, cuts_of, start_at}
 use Rattle.eql_search.specs.Keeping.{AreSearchCuts, IsSearchCut, KeepsOn}
-use Rattle.eql_search.specs.Running.{HasRun, NotBegun, Searched, end_of}
+use Rattle.eql_search.specs.Running.{NotBegun, Searched, end_of}
 use Rattle.eql_search.specs.Searches.{AreBegunFrom, AreTextsOf, HasNumbers, Rules, rest_of}
 use Rattle.eql_search.proofs.Causes.{counts_so, has_cause, lanes_unfailing, no_fault, reads_steady}
 use Rattle.eql_search.proofs.Kept.{ends_memory, keeps, keeps_nothing}
@@ -80,9 +83,9 @@ module _ (A : Type 0) {S L D : Type 0} (left lent_as : S → Option (List ℕ)) 
     pub lanes : AllZip (StaysLane left lent_as read_of) olds news
     pub texts : IfSome told (λ texts. AreTextsOf left texts news)
     pub cause : IfErr r (λ why. HasCause told why olds news sink_before sink_now (disk_faults history count keep) (disk_faults history count kept))
-    pub steady : SteadyBut (λ shard. r ≡ Err (stop.Read shard)) olds news
-    pub writes_steady : r ≢ Err stop.Write → sink_now ≡ sink_before
-    pub disk_steady : r ≢ Err stop.Disk → disk_faults history count kept ≡ disk_faults history count keep
+    pub steady : SteadyBut (λ shard. IsRead r) olds news
+    pub writes_steady : r ≢ Err stop.Write → ¬ IsRead r → sink_now ≡ sink_before
+    pub disk_steady : r ≢ Err stop.Disk → ¬ IsRead r → disk_faults history count kept ≡ disk_faults history count keep
     pub unfailing : AreUnfailing fault_plan olds → end_of r ≢ end.WriteFault → end_of r ≢ end.DiskFault → IfErr r IsNoFault × AreUnfailing fault_plan news
     pub sink_counts : sink_before ≤ sink_now
     pub disk_counts : disk_faults history count keep ≤ disk_faults history count kept
@@ -101,8 +104,8 @@ module _ (A : Type 0) {S L D : Type 0} (left lent_as : S → Option (List ℕ)) 
       texts = texts_are;
       cause = tt;
       steady = λ shard old new untold was is. let e : old ≡ new = let both : Some old ≡ Some new = sym was ∙ is in cc in ap (λ (lane : LaneView S L). lane.state.faults) (sym e);
-      writes_steady = λ other. refl;
-      disk_steady = λ other. refl;
+      writes_steady = λ other unread. refl;
+      disk_steady = λ other unread. refl;
       unfailing = λ quiet wrote put. (tt, quiet);
       sink_counts = omega arith;
       disk_counts = omega arith;
@@ -118,36 +121,36 @@ module _ (A : Type 0) {S L D : Type 0} (left lent_as : S → Option (List ℕ)) 
         (subst (λ (ls : List (LaneView S L)). SearchEnds ls before sink_before keep (Err stop.Memory)) (sym none.lanes) none_ends))))
 
     -- ---- a run
-    module _ (is_span : IsSpan span) (few : length olds ≤ 256) (news : List (LaneView S L)) (parts : List PartView) (then : BookState) (now : Option (List ℕ)) (sink_now : ℕ) (kept : Option (Keep D))
+    module _ (is_span : IsSpan span) (few : length olds ≤ 256) (news : List (LaneView S L)) (parts : List PartView) (then : BookState) (now : Option (List ℕ)) (sink_now : ℕ) (kept : Option (Keep D)) (first last : Known)
         (opened : BeginsSo left read_of reads slack stages span (text_at told) olds holders parts plan book plan.mark) (r : Result A Stop)
-        (run : HasRun left lent_as fault_plan read_of history count (text_at told) plan olds news parts book then before now sink_before sink_now keep kept (end_of r)) where
+        (run : RanFrom left lent_as fault_plan read_of history count (text_at told) plan olds news first last parts book then before now sink_before sink_now keep kept (end_of r)) where
       are_of : (texts : List (List ℕ)) → told ≡ Some texts → AreTextsOf left texts olds
       are_of texts e = of_some told (λ (ts : List (List ℕ)). AreTextsOf left ts olds) texts e texts_are
 
       run_ends : SearchEnds news now sink_now kept r
       run_ends =
-          let counts = counts_so A left lent_as fault_plan read_of history count reads slack told plan olds news parts book then before now sink_before sink_now keep kept begun opened.begins.sized r run in
+          let counts = counts_so A left lent_as fault_plan read_of history count reads slack told plan olds news parts book then before now sink_before sink_now keep kept first last begun opened.begins.sized r run in
           record {
             whole = ok_for r told (λ texts. On texts → HasNumbers by texts → WroteAll (rest texts) before now) (λ texts e.
                 ok_under r (On texts) (HasNumbers by texts → WroteAll (rest texts) before now) (λ on.
-                wrote_whole A left lent_as fault_plan read_of history count reads slack stages span told plan olds news holders parts book then before now sink_before sink_now keep kept begun is_span opened texts e (are_of texts e) on r run));
+                wrote_whole A left lent_as fault_plan read_of history count reads slack stages span told plan olds news holders parts book then before now sink_before sink_now keep kept first last begun is_span opened run.begins texts e (are_of texts e) on r run));
             front = err_for r told (λ texts. On texts → (All IsShardText texts → HasNumbers by texts) → WroteFront (rest texts) before now) (λ texts e.
                 err_under r (On texts) ((All IsShardText texts → HasNumbers by texts) → WroteFront (rest texts) before now) (λ on.
-                wrote_front A left lent_as fault_plan read_of history count reads slack stages span told plan olds news holders parts book then before now sink_before sink_now keep kept begun is_span opened texts e (are_of texts e) on r run));
-            keeps_so = keeps A left lent_as fault_plan read_of history count reads slack stages span told plan olds news holders parts book then before now sink_before sink_now begun is_span few texts_are opened r keep kept run;
-            closed = lanes_closed A left lent_as fault_plan read_of history count reads slack stages span told plan olds news holders parts book then before now sink_before sink_now keep kept begun is_span opened r run;
+                wrote_front A left lent_as fault_plan read_of history count reads slack stages span told plan olds news holders parts book then before now sink_before sink_now keep kept first last begun is_span opened run.begins texts e (are_of texts e) on r run));
+            keeps_so = keeps A left lent_as fault_plan read_of history count reads slack stages span told plan olds news holders parts book then before now sink_before sink_now first last begun is_span few texts_are opened run.begins r keep kept run;
+            closed = lanes_closed A left lent_as fault_plan read_of history count reads slack stages span told plan olds news holders parts book then before now sink_before sink_now keep kept first last begun is_span opened run.begins r run;
             read = ok_for r told (λ texts. On texts → WereRead reads slack texts news) (λ texts e.
                 ok_under r (On texts) (WereRead reads slack texts news) (λ on.
-                texts_read A left lent_as fault_plan read_of history count reads slack stages span told plan olds news holders parts book then before now sink_before sink_now keep kept begun is_span opened texts e (are_of texts e) on r run));
-            lanes = lanes_stay left lent_as fault_plan read_of history count reads slack told plan olds news parts book then before now sink_before sink_now keep kept (end_of r) begun run opened.begins.sized;
-            texts = texts_stay left lent_as fault_plan read_of history count reads slack told plan olds news parts book then before now sink_before sink_now keep kept (end_of r) begun run opened.begins.sized texts_are;
-            cause = has_cause A left lent_as fault_plan read_of history count reads slack told plan olds news parts book then before now sink_before sink_now keep kept begun opened.begins.sized r run;
-            steady = reads_steady A left lent_as fault_plan read_of history count reads slack told plan olds news parts book then before now sink_before sink_now keep kept begun opened.begins.sized r run;
+                texts_read A left lent_as fault_plan read_of history count reads slack stages span told plan olds news holders parts book then before now sink_before sink_now keep kept first last begun is_span opened run.begins texts e (are_of texts e) on r run));
+            lanes = lanes_stay left lent_as fault_plan read_of history count reads slack told plan olds news parts book then before now sink_before sink_now keep kept (end_of r) first last begun run opened.begins.sized;
+            texts = texts_stay left lent_as fault_plan read_of history count reads slack told plan olds news parts book then before now sink_before sink_now keep kept (end_of r) first last begun run opened.begins.sized texts_are;
+            cause = has_cause A left lent_as fault_plan read_of history count reads slack told plan olds news parts book then before now sink_before sink_now keep kept first last begun opened.begins.sized r run;
+            steady = reads_steady A left lent_as fault_plan read_of history count reads slack told plan olds news parts book then before now sink_before sink_now keep kept first last begun opened.begins.sized r run;
             writes_steady = counts.sink_stays;
             disk_steady = counts.disk_stays;
             unfailing = λ quiet wrote put. (
-              no_fault A left lent_as fault_plan read_of history count reads slack told plan olds news parts book then before now sink_before sink_now keep kept begun opened.begins.sized quiet r run wrote put,
-              lanes_unfailing A left lent_as fault_plan read_of history count reads slack told plan olds news parts book then before now sink_before sink_now keep kept begun opened.begins.sized quiet r run,
+              no_fault A left lent_as fault_plan read_of history count reads slack told plan olds news parts book then before now sink_before sink_now keep kept first last begun opened.begins.sized quiet r run wrote put,
+              lanes_unfailing A left lent_as fault_plan read_of history count reads slack told plan olds news parts book then before now sink_before sink_now keep kept first last begun opened.begins.sized quiet r run,
             );
             sink_counts = counts.sink_counts;
             disk_counts = counts.disk_counts;
@@ -159,8 +162,8 @@ module _ (A : Type 0) {S L D : Type 0} (left lent_as : S → Option (List ℕ)) 
         → Searched left lent_as fault_plan read_of history count (text_at told) plan olds news rules holders book then before now sink_before sink_now keep kept (end_of r) → SearchEnds news now sink_now kept r
     searched_ends readers batch_from batch_to some few is_span whole may news then now sink_now kept r did = elim did [
       | inl searched ↦
-          run_ends is_span few news searched.parts then now sink_now kept
-          (begins left read_of reads slack stages span (text_at told) olds holders searched.parts plan book readers begun searched.are is_span batch_from batch_to some whole may) r searched.run
+          run_ends is_span few news searched.parts then now sink_now kept (known_by left lent_as fault_plan read_of (text_at told) searched.run.first) (known_by left lent_as fault_plan read_of (text_at told) searched.run.last)
+          (begins left read_of reads slack stages span (text_at told) olds holders searched.parts plan book readers begun searched.are is_span batch_from batch_to some whole may) r searched.run.run
       | inr none ↦ not_begun news now sink_now kept r none
     ]
 

@@ -1,5 +1,5 @@
 -- What becomes of lanes and of a sink in a search, by its answer.
-use Rattle.std.specs.Prelude.{◌≡◌, ◌<◌, ◌≤◌, ◌+◌, ℕ, ℤ, true, All, List, [], ◌∷◌, drop, length, slice_get, Option, Some, IfSome}
+use Rattle.std.specs.Prelude.{◌≡◌, ◌<◌, ◌≤◌, ◌+◌, ℕ, ℤ, true, All, List, [], ◌∷◌, drop, length, slice_get, Option, Some, IfSome, Result, Err}
 use Rattle.eql_outside.specs.Outside.{Rose}
 use Rattle.eql_outside.specs.Plans.{FaultPlan}
 use Rattle.eql_outside.specs.Unfailing.{IsUnfailing}
@@ -18,7 +18,7 @@ module _ {S L : Type 0} where
   abbrev pub SameFaults : LaneView S L → LaneView S L → Type 0
   SameFaults old new = new.state.faults ≡ old.state.faults
 
-  -- the faults of the lane of each shard are as many as before, but for one that is told as failed
+  -- the faults of the lane of each shard are as many as before, but for one of which this may be told
   abbrev pub SteadyBut : (IsTold : ℕ → Type 0) → (olds news : List (LaneView S L)) → Type 0
   SteadyBut IsTold olds news =
       (shard : ℕ) (old new : LaneView S L) → ¬ IsTold shard → slice_get olds shard ≡ Some old
@@ -91,6 +91,11 @@ module _ {S L : Type 0} (left : S → Option (List ℕ)) where
   pub record StaysLane (lent_as : S → Option (List ℕ)) (read_of : L → Reads) (old new : LaneView S L) : Type 0 where
     pub same : SameLane left lent_as read_of old new
     pub counts : old.state.faults ≤ new.state.faults
+
+-- a read fault of some lane is told
+abbrev pub IsRead : {A : Type 0} → Result A Stop → Type 0
+IsRead (Err (stop.Read shard)) = Unit {0}
+IsRead answer = ⊥
 
 -- a stop that is no fault
 abbrev pub IsNoFault : Stop → Type 0

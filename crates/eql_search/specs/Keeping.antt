@@ -19,6 +19,7 @@ use Rattle.eql_conductor.specs.Runs.{LastHolds}
 use Rattle.eql_conductor.specs.Saving.{PutsCuts}
 use Rattle.eql_search.specs.declared.stop.Stop.{Stop}
 use Rattle.eql_search.specs.declared.stop.Stop.TheVariants as stop
+use Rattle.eql_search.specs.Answers.{IsRead}
 use Rattle.eql_search.specs.Searches.{Rules}
 use Rattle.eql_search.specs.Beginnings.{run_by}
 
@@ -39,15 +40,15 @@ pub record IsLaterCut (head : CutHead) (from : Mark) (cut : Cut) : Type 0 where
   pub is_cut : IsCut cut
   pub later : AtMost from (At cut.mark)
 
--- the cuts that a search put, one after another. `Are` says which texts they are cuts of. After a disk fault or want of memory alone
--- the disk is to be recovered; at the last generation it began far up
+-- the cuts that a search put, one after another. `Are` says which texts they are cuts of. After a disk fault, want of memory or a read fault alone
+-- the disk is to be recovered: of several faults at once the read fault is told. At the last generation it began far up
 pub record PutsThese {A : Type 0} (head : CutHead) (from : Mark) (Are : List Cut → Type 0) (state then : CkState)
     (before now : Option History) (answer : Result A Stop) : Type 0 where
   pub cuts : List Cut
   pub are_later : All (IsLaterCut head from) cuts
   pub are_cuts : Are cuts
   pub puts : PutsCuts (last_cut state) cuts before now
-  pub stands : answer ≢ Err stop.Disk → answer ≢ Err stop.Memory → Stands (last_cut then) now
+  pub stands : answer ≢ Err stop.Disk → answer ≢ Err stop.Memory → ¬ IsRead answer → Stands (last_cut then) now
   pub last : OnOk answer ((last_cut then ≡ last_after (last_cut state) cuts) × LastHolds (last_cut then) cuts now)
   pub ended : answer ≡ Err (stop.Limit limit.Generation)
       → ((last_cut then).generation ≡ 2 ^ 63) × (2 ^ 62 ≤ (last_cut state).generation)

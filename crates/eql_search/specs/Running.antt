@@ -1,16 +1,14 @@
--- What a run over lanes and sixteen parts begins with, and what is known of it at its end.
-use Rattle.std.specs.Prelude.{◌≡◌, ◌≢◌, ◌⊎◌, ℕ, List, [], Option, None, Some, Result, Ok, Err, All, length, slice_get}
+-- What a run over lanes and sixteen parts, with hands beside it, begins with, and what is known of it at its end.
+use Rattle.std.specs.Prelude.{◌≡◌, ◌⊎◌, ℕ, List, [], Option, None, Some, Result, Ok, Err, All, length, slice_get}
 use Rattle.std.specs.declared.alloc.Global.{Global}
 use Rattle.std.specs.declared.vec.Vec.{Vec}
 use Rattle.eql_outside.specs.Moments.{History}
 use Rattle.eql_outside.specs.Plans.{FaultPlan}
-use Rattle.eql_outside.specs.Unfailing.{IsUnfailing}
 use Rattle.eql_values.specs.Accepted.{Reads}
 use Rattle.eql_values.specs.declared.found.Holder.{Holder}
 use Rattle.eql_values.specs.declared.order.Mark.{Mark}
 use Rattle.eql_laws.specs.Alive.{HoldersInOrder}
 use Rattle.eql_laws.specs.Shapes.{HasStageBefore, IsFull}
-use Rattle.eql_lane.specs.declared.ops.LimitOf.TheVariants as limit
 use Rattle.eql_lane.specs.Views.{LaneView}
 use Rattle.eql_parts.specs.Inboxes.{HolderBelow}
 use Rattle.eql_parts.specs.PartSteps.{PartView, Rules}
@@ -20,12 +18,8 @@ use Rattle.eql_conductor.specs.declared.plan.End.{End as Ends}
 use Rattle.eql_conductor.specs.declared.plan.End.TheVariants as end
 use Rattle.eql_conductor.specs.declared.plan.Keep.{Keep}
 use Rattle.eql_conductor.specs.declared.plan.RunPlan.{RunPlan}
-use Rattle.eql_conductor.specs.Going.{LanesGo}
 use Rattle.eql_conductor.specs.Openings.{begun_part}
-use Rattle.eql_conductor.specs.Records.{Ran}
-use Rattle.eql_conductor.specs.Runs.{EndsBy, disk_faults}
-use Rattle.eql_replay.specs.Listed.{BenchView, bench_known}
-use Rattle.eql_replay.specs.Opened.{AreOfTexts, IsQuiet, LanesOn, LinesOn, ReadOn}
+use Rattle.eql_hub_run.specs.Beside.{RanBeside}
 use Rattle.eql_search.specs.declared.stop.Stop.{Stop}
 use Rattle.eql_search.specs.declared.stop.Stop.TheVariants as stop
 
@@ -58,10 +52,6 @@ pub record AreOwnTo (n : ℕ) (rules : Rules) (holders : List Holder) (mark : Ma
 abbrev pub AreOwnParts : Rules → List Holder → Mark → List PartView → Type 0
 AreOwnParts rules holders mark parts = AreOwnTo 16 rules holders mark parts
 
--- a bench of these lanes and parts, on which nothing was played
-abbrev pub bench_of : {S L : Type 0} → List (LaneView S L) → List PartView → BenchView S L
-bench_of lanes parts = record { pool = record { lanes = lanes; parts = parts }; calls = 0; notes = [] }
-
 -- ---- the end
 -- how a run ended, by the answer of the search
 abbrev pub end_of : {A : Type 0} → Result A Stop → Ends
@@ -82,25 +72,11 @@ pub record NotBegun {S L D : Type 0} (olds news : List (LaneView S L)) (before n
 
 module _ {S L D : Type 0} (left lent_as : S → Option (List ℕ)) (fault_plan : S → Option FaultPlan) (read_of : L → Reads) (history : D → Option History) (count : D → ℕ)
     (text : ℕ → Option (List ℕ)) (plan : RunPlan) (olds news : List (LaneView S L)) where
-  -- a run over lanes and parts ended so; these are the lanes then
-  pub record HasRun (parts : List PartView) (book then : BookState) (before now : Option (List ℕ)) (sink_before sink_now : ℕ) (keep kept : Option (Keep D)) (answer : Ends) : Type 0 where
-    pub last : BenchView S L
-    pub lanes_are : news ≡ last.pool.lanes
-    pub ran : Ran history count plan (bench_known read_of text (bench_of olds parts)) (bench_known read_of text last) book then before now keep kept answer
-    pub cause : EndsBy answer (bench_known read_of text (bench_of olds parts)) (bench_known read_of text last) sink_before sink_now (disk_faults history count keep) (disk_faults history count kept)
-    pub not_turns : answer ≢ end.Limit limit.Turns
-    pub planned : (s : ℕ) (lane : LaneView S L) → slice_get olds s ≡ Some lane → IsUnfailing (fault_plan lane.source) → answer ≢ end.ReadFault s
-    pub goes : LanesGo (bench_known read_of text (bench_of olds parts)) (bench_known read_of text last)
-    pub on : LanesOn left lent_as fault_plan read_of (IsQuiet [] last.notes) olds news
-    pub texts : AreOfTexts left text news
-    pub read : ReadOn read_of text olds news
-    pub lines : LinesOn text olds news
-
   -- a run from sixteen parts with these pending sequences
   pub record HasSearched (rules : Rules) (holders : List Holder) (book then : BookState) (before now : Option (List ℕ)) (sink_before sink_now : ℕ) (keep kept : Option (Keep D)) (answer : Ends) : Type 0 where
     pub parts : List PartView
     pub are : AreOwnParts rules holders plan.mark parts
-    pub run : HasRun parts book then before now sink_before sink_now keep kept answer
+    pub run : RanBeside left lent_as fault_plan read_of history count text plan olds news parts book then before now sink_before sink_now keep kept answer
 
   -- a search ran, or there was no memory to begin
   abbrev pub Searched : Rules → List Holder → (book then : BookState) → (before now : Option (List ℕ)) → (sink_before sink_now : ℕ) → (keep kept : Option (Keep D)) → Ends → Type 0

@@ -1,17 +1,18 @@
-//! Sixteen parts, each with the pending sequences of its keys.
+//! Sixteen parts, each with the pending sequences of its keys and a count of probes of its own.
 ghost use Rattle.std.specs.Prelude.{◌≡◌, ◌≢◌, ◌≤◌, ◌<◌, ◌++◌, ◌∷◌, [], ℕ, IfOk, OnOk, length};
 ghost use Rattle.eql_rounds.specs.Finding.{own_of};
 ghost use Rattle.eql_search.specs.Running.{AreOwnParts, MayBeginPart, list_at};
 
 use eql_auto::Steps;
+use eql_hub::TurnedPart;
 use eql_parts::{Part, part_of};
 use eql_values::{Holder, Holders, Mark, Memory};
 use std::alloc::Global;
 use std::mem::replace;
-use std::sync::ledger::Ledger;
+use std::sync::ledger::{Ledger, Share};
 
 /// How many parts there are.
-const PARTS: usize = 16;
+pub(crate) const PARTS: usize = 16;
 
 // Sixteen empty lists.
 fn empty_lists(alloc: Global) -> Result<Vec<Vec<Holder>>, Memory>
@@ -61,18 +62,21 @@ fn take_list(alloc: Global, lists: &mut Vec<Vec<Holder>>, place: usize) -> Vec<H
     replace(&mut lists[place], Vec::new(alloc))
 }
 
-/// Sixteen parts, each with the pending sequences of its keys that are alive at the mark. The span is in nanoseconds.
+/// Sixteen parts, each with the pending sequences of its keys that are alive at the mark. The span is in nanoseconds. Each
+/// has a count of probes of its own, made from one part of the share.
 pub(crate) fn make_parts<G: Ledger>(
     alloc: Global,
     stages: u32,
     span: Option<i128>,
     holders: Holders,
     mark: Mark,
-    steps: &mut Steps<G>,
-) -> Result<Vec<Part<G>>, Memory>
+    mut share: Share<G>,
+) -> Result<Vec<TurnedPart<G>>, Memory>
     requires stages_from { 1 ≤ stages }
     requires stages_to { stages ≤ 256 }
     requires may { (p : ℕ) → MayBeginPart stages mark (own_of holders p) }
+    requires shares { 16 ≤ share.parts }
+    requires nothing { share.amount ≡ 0 }
     ensures { IfOk result (λ parts.
         AreOwnParts (record { stages = stages; span = span }) holders mark parts.items) }
 {
@@ -80,8 +84,10 @@ pub(crate) fn make_parts<G: Ledger>(
     let mut parts = Vec::new(alloc);
     for number in 0..PARTS {
         let own = Holders::of(take_list(alloc, &mut lists, number));
-        let part = Part::new(alloc, stages, span, own, mark, steps)?;
-        parts.push(part)?;
+        let mut steps = Steps::of(share.split_off(1, 0));
+        let part = Part::new(alloc, stages, span, own, mark, &mut steps)?;
+        let turned = TurnedPart::new(part, steps);
+        parts.push(turned)?;
     }
     Ok(parts)
 }

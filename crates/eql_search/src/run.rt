@@ -1,5 +1,5 @@
 //! The search.
-ghost use Rattle.std.specs.Prelude.{◌≡◌, ◌≢◌, ◌≤◌, ◌<◌, ℕ, List, [], Option, None, Err, true, IfErr, IfSome, OnOk, OnErr, All, length};
+ghost use Rattle.std.specs.Prelude.{◌≡◌, ◌≢◌, ◌≤◌, ℕ, List, Option, None, Err, true, IfErr, IfSome, OnOk, OnErr, All, length};
 ghost use Rattle.std.specs.List.{AllZip};
 ghost use Rattle.eql_outside.specs.Unfailing.{IsUnfailing};
 ghost use Rattle.eql_outside.specs.Written.{WroteAll, WroteFront};
@@ -8,42 +8,54 @@ ghost use Rattle.eql_laws.specs.Counting.{IsShardText};
 ghost use Rattle.eql_conductor.specs.declared.plan.End.TheVariants.{DiskFault, WriteFault};
 ghost use Rattle.eql_conductor.specs.Runs.{IsKeptUnfailing, disk_faults};
 ghost use Rattle.eql_replay.specs.Opened.{AreOfTexts};
-ghost use Rattle.eql_search.specs.Answers.{AreUnfailing, HasCause, IsClosed, IsNoFault, SteadyBut, StaysLane, WereRead};
+ghost use Rattle.eql_search.specs.Answers.{AreUnfailing, HasCause, IsClosed, IsNoFault, IsRead, SteadyBut, StaysLane, WereRead};
 ghost use Rattle.eql_search.specs.Beginnings.{BeginsOn, MayBegin, MayKeepOn, cuts_of, start_at};
 ghost use Rattle.eql_search.specs.Keeping.{AreSearchCuts, KeepsOn};
 ghost use Rattle.eql_search.specs.Running.{Searched, end_of};
 ghost use Rattle.eql_search.specs.Searches.{AreBegun, AreTextsOf, HasNumbers, reads_by, rest_of, rules_of, slack_by};
 
-use crate::parting::make_parts;
-use crate::running::run_parts;
+use crate::parting::{PARTS, make_parts};
 use crate::stop::{Stop, answer};
-use eql_auto::Steps;
 use eql_book::Book;
 use eql_conductor::{Keep, RunPlan};
+use eql_hands::Gate;
+use eql_hub_run::{HubOpening, run_hub};
 use eql_lane::Lane;
 use eql_outside::{Disk, Sink, Source};
-use eql_replay::Opening;
 use eql_values::{Holders, LineReader};
 use std::alloc::Global;
 use std::marker::Brand;
 use std::mem::replace;
+use std::sync::Wait;
 use std::sync::ledger::{Blank, Ledger};
+use std::thread::Threads;
 
 // Searches lanes with the probes of a ledger, and hands the lanes back.
-fn search_lanes<S: Source, L: LineReader, G: Ledger, T: Opening<S, L>, K: Sink, D: Disk>(
+fn search_lanes<
+    R: Threads + Wait + Sync,
+    S: Source + Send + Sync,
+    L: LineReader + Send + Sync,
+    G: Ledger + Send + Sync,
+    T: HubOpening<S, L>,
+    K: Sink,
+    D: Disk,
+    W: Gate + Sync,
+>(
+    rt: &R,
     alloc: Global,
     lanes: Vec<Lane<S, L>>,
     stages: u32,
     span: Option<i128>,
     holders: Holders,
     plan: &RunPlan,
+    hands: u32,
     book: &mut Book,
     sink: &mut K,
     keep: &mut Option<Keep<D>>,
     blank: Blank,
+    gate: &W,
 ) -> (Result<(), Stop>, Vec<Lane<S, L>>)
-    requires blank { (blank.name ≡ G.name) × (blank.parts ≡ G.parts) × (0 < G.parts) }
-    requires opening { (lanes.items ≡ T.lanes) × (T.plays ≡ []) }
+    requires blank { (blank.name ≡ G.name) × (blank.parts ≡ G.parts) × (16 ≤ G.parts) }
     requires texts { AreOfTexts S.left T.text lanes.items }
     requires some { 1 ≤ length lanes.items }
     requires few { length lanes.items ≤ 256 }
@@ -57,6 +69,7 @@ fn search_lanes<S: Source, L: LineReader, G: Ledger, T: Opening<S, L>, K: Sink, 
     requires begins { MayBegin (rules_of L.read_of stages span lanes.items) book.old.pipes
         plan.now.mark (cuts_of lanes.items) holders book.old.kept }
     requires keeps { MayKeepOn D.history plan.now (length lanes.items) keep.old }
+    requires hands { hands ≤ 65536 }
     ensures ran { Searched S.left S.lent_as S.fault_plan L.read_of D.history D.fault_count
         T.text plan.now lanes.items result.1.items (record { stages = stages; span = span }) holders
         book.old book.new (K.written sink.old) (K.written sink.new)
@@ -68,14 +81,16 @@ fn search_lanes<S: Source, L: LineReader, G: Ledger, T: Opening<S, L>, K: Sink, 
         → (end_of result.0 ≢ DiskFault) × IsKeptUnfailing D.fault_plan keep.new }
 {
     let (_ledger, share) = blank.open::<G>();
-    let mut steps = Steps::of(share);
-    match make_parts(alloc, stages, span, holders, plan.mark, &mut steps) {
+    match make_parts(alloc, stages, span, holders, plan.mark, share) {
         Err(_) => (Err(Stop::Memory), lanes),
         Ok(parts) => {
-            let (end, back) = run_parts::<S, L, G, T, K, D>(
-                alloc, lanes, parts, steps, plan, book, sink, keep,
+            let (end, back) = run_hub::<R, S, L, G, T, K, D, W>(
+                rt, alloc, lanes, parts, hands, plan, book, sink, keep, gate,
             );
-            (answer(end), back)
+            match end {
+                Some(end) => (answer(end), back),
+                None => (Err(Stop::Memory), back),
+            }
         }
     }
 }
@@ -85,23 +100,36 @@ fn search_lanes<S: Source, L: LineReader, G: Ledger, T: Opening<S, L>, K: Sink, 
 /// reading of lines. They begin afresh, as do the book and the plan's mark, and nothing is pending; or all of them begin with
 /// what a cut keeps that fits the search, at the cut's time. With a `keep`, cuts are put on its disk after each `every` rounds.
 ///
+/// Up to 65,536 hands, each in a thread of its own that passes the gate, feed lanes and turn parts beside this thread. What is
+/// said here of an answer holds whatever they do.
+///
 /// Matches are written while the shards are read. On `Ok` the sink got the whole listing, from the line after those that the
 /// book counts, and each lane is read to its end. Else it got a front of that:
 ///
-/// - `Read` where the source of a lane failed, `Write` where the sink failed, `Disk` where the disk failed, and no fault is
-///   told as another cause,
+/// - `Read` where the source of a lane failed, `Write` where the sink failed, `Disk` where the disk failed: of several faults
+///   at once the first of these is told, and no fault is told as another cause,
 /// - `Limit` where a shard has more lines, or as many bytes, as `eql_lane` says, or the disk's generations came to their end,
 /// - `Memory` where memory ran out.
-pub fn search<S: Source, L: LineReader, K: Sink, D: Disk>(
+pub fn search<
+    R: Threads + Wait + Sync,
+    S: Source + Send + Sync,
+    L: LineReader + Send + Sync,
+    K: Sink,
+    D: Disk,
+    W: Gate + Sync,
+>(
+    rt: &R,
     alloc: Global,
     lanes: &mut Vec<Lane<S, L>>,
     stages: u32,
     span: Option<i128>,
     holders: Holders,
     plan: &RunPlan,
+    hands: u32,
     book: &mut Book,
     sink: &mut K,
     keep: &mut Option<Keep<D>>,
+    gate: &W,
 ) -> Result<(), Stop>
     ghost told: { Option (List (List ℕ)) }
 
@@ -119,6 +147,7 @@ pub fn search<S: Source, L: LineReader, K: Sink, D: Disk>(
     requires begins { MayBegin (rules_of L.read_of stages span lanes.old.items) book.old.pipes
         plan.now.mark (cuts_of lanes.old.items) holders book.old.kept }
     requires keeps { MayKeepOn D.history plan.now (length lanes.old.items) keep.old }
+    requires hands { hands ≤ 65536 }
 
     // What was written, over told texts of which the cut is one where there is one, and of which each match has a number.
     // After a stop that is asked of texts only that shards may have.
@@ -158,16 +187,15 @@ pub fn search<S: Source, L: LineReader, K: Sink, D: Disk>(
     ensures lanes { AllZip (StaysLane S.left S.lent_as L.read_of) lanes.old.items lanes.new.items }
     ensures texts { IfSome told (λ texts. AreTextsOf S.left texts lanes.new.items) }
 
-    // Why it stopped, and that no fault was passed over.
+    // Why it stopped, and that no fault was passed over: of several at once a read fault is told.
     ensures cause { IfErr result (λ stop. HasCause told stop lanes.old.items lanes.new.items
         (K.fault_count sink.old) (K.fault_count sink.new)
         (disk_faults D.history D.fault_count keep.old)
         (disk_faults D.history D.fault_count keep.new)) }
-    ensures reads_steady { SteadyBut (λ shard. result ≡ Err (Stop.Read shard))
-        lanes.old.items lanes.new.items }
-    ensures writes_steady { result ≢ Err Stop.Write
+    ensures reads_steady { SteadyBut (λ shard. IsRead result) lanes.old.items lanes.new.items }
+    ensures writes_steady { result ≢ Err Stop.Write → ¬ IsRead result
         → K.fault_count sink.new ≡ K.fault_count sink.old }
-    ensures disk_steady { result ≢ Err Stop.Disk
+    ensures disk_steady { result ≢ Err Stop.Disk → ¬ IsRead result
         → disk_faults D.history D.fault_count keep.new
         ≡ disk_faults D.history D.fault_count keep.old }
 
@@ -184,9 +212,9 @@ pub fn search<S: Source, L: LineReader, K: Sink, D: Disk>(
     ensures silent { K.written sink.old ≡ None → K.written sink.new ≡ None }
 {
     let taken = replace(lanes, Vec::new(alloc));
-    let blank = Blank::new(1);
-    let (ran, back) = search_lanes::<S, L, Brand, Brand, K, D>(
-        alloc, taken, stages, span, holders, plan, book, sink, keep, blank,
+    let blank = Blank::new(PARTS as u64);
+    let (ran, back) = search_lanes::<R, S, L, Brand, Brand, K, D, W>(
+        rt, alloc, taken, stages, span, holders, plan, hands, book, sink, keep, blank, gate,
     );
     replace(lanes, back).destroy_empty();
     ran

@@ -4,12 +4,15 @@ ghost use Rattle.eql_summary.specs.Written.{IsMadeListing, IsWant};
 
 use crate::inputs::{made_find, made_shelf};
 use eql_find::{RunHalt, find_matches};
+use eql_hands::Gate;
 use eql_inputs::Halt;
 use eql_laws::lines_go_on;
 use eql_outside::{MemSink, OutRefused, Sink};
 use eql_runs::{made_is_searched, runs_are_determined};
 use eql_values::Memory;
 use std::alloc::Global;
+use std::sync::Wait;
+use std::thread::Threads;
 
 /// Why the search stopped: memory ran out, since nothing else can stop it.
 fn want_of(halt: RunHalt) -> Memory
@@ -22,7 +25,13 @@ fn want_of(halt: RunHalt) -> Memory
 }
 
 /// The listing of the search over so many made events, with so many further threads.
-pub(crate) fn list_made(alloc: Global, hands: u32, events: u32) -> Result<MemSink, Memory>
+pub(crate) fn list_made<R: Threads + Wait + Sync, W: Gate + Sync>(
+    rt: &R,
+    alloc: Global,
+    hands: u32,
+    events: u32,
+    gate: &W,
+) -> Result<MemSink, Memory>
     requires hands { hands ≤ 16 }
     requires events { events ≤ 1000000 }
     ensures { IfOk result (λ sink. IsMadeListing events (⟦<MemSink as Sink>⟧.written sink)) }
@@ -34,7 +43,15 @@ pub(crate) fn list_made(alloc: Global, hands: u32, events: u32) -> Result<MemSin
     let mut shelf = made_shelf(alloc, events)?;
     let mut listing = MemSink::new(alloc, Vec::new(alloc));
     let mut report = MemSink::new(alloc, Vec::new(alloc));
-    match find_matches(alloc, &find, &mut shelf, &mut listing, &mut report) {
+    match find_matches(
+        rt,
+        alloc,
+        &find,
+        &mut shelf,
+        &mut listing,
+        &mut report,
+        gate,
+    ) {
         Ok(()) => Ok(listing),
         Err(halt) => Err(want_of(halt)),
     }

@@ -8,10 +8,13 @@ ghost use Rattle.eql_summary.specs.Written.{MadeAll, MadeFront};
 
 use crate::ends::Ends;
 use crate::search::list_made;
+use eql_hands::Gate;
 use eql_outside::{OutRefused, Sink};
 use eql_runs::made_is_searched;
 use eql_values::Memory;
 use std::alloc::Global;
+use std::sync::Wait;
+use std::thread::Threads;
 
 /// The four lines on so many events and the listing of what was found in them.
 fn summary_of(alloc: Global, events: u32, listing: &[u8]) -> Result<Vec<u8>, Memory>
@@ -28,12 +31,18 @@ fn summary_of(alloc: Global, events: u32, listing: &[u8]) -> Result<Vec<u8>, Mem
 }
 
 /// The four lines of a run over so many events.
-fn made_summary(alloc: Global, hands: u32, events: u32) -> Result<Vec<u8>, Memory>
+fn made_summary<R: Threads + Wait + Sync, W: Gate + Sync>(
+    rt: &R,
+    alloc: Global,
+    hands: u32,
+    events: u32,
+    gate: &W,
+) -> Result<Vec<u8>, Memory>
     requires hands { hands ≤ 16 }
     requires events { events ≤ 1000000 }
     ensures { IfOk result (λ text. Makes events text.items []) }
 {
-    let listing = list_made(alloc, hands, events)?;
+    let listing = list_made(rt, alloc, hands, events, gate)?;
     summary_of(alloc, events, listing.bytes().as_slice())
 }
 
@@ -41,11 +50,13 @@ fn made_summary(alloc: Global, hands: u32, events: u32) -> Result<Vec<u8>, Memor
 /// many events and matches there are and the first and the last line of the listing.
 ///
 /// On `Ok` they are written whole, and else a front of them, or nothing.
-pub fn write_summary<K: Sink>(
+pub fn write_summary<R: Threads + Wait + Sync, K: Sink, W: Gate + Sync>(
+    rt: &R,
     alloc: Global,
     hands: u32,
     events: u32,
     out: &mut K,
+    gate: &W,
 ) -> Result<(), OutRefused>
     requires hands { hands ≤ 16 }
     requires events { events ≤ 1000000 }
@@ -61,7 +72,7 @@ pub fn write_summary<K: Sink>(
     ensures unfailing { IsUnfailing (K.fault_plan out.old) → result ≢ Err OutRefused.Failed }
 {
     made_is_searched();
-    match made_summary(alloc, hands, events) {
+    match made_summary(rt, alloc, hands, events, gate) {
         Ok(text) => out.write(alloc, text.as_slice()),
         Err(_) => Err(OutRefused::Memory),
     }

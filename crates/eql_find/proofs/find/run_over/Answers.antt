@@ -1,3 +1,4 @@
+use denote.Param.Send.{sendable}
 use Rattle.std.proofs.Common.{refl, ◌∙◌}
 use Rattle.std.proofs.lemmas.Result.{IfErr-weaker, on_err_weaker, on_ok_weaker}
 use Rattle.eql_stages.specs.Judging.{reads_by}
@@ -15,16 +16,18 @@ use Rattle.eql_find.proofs.find.run_over.Goals as goal
 
 pub make_lanes-requires-clause-few : goal.make_lanes-requires-clause-few
 make_lanes-requires-clause-few g c =
-    sources_few g.H.Src.Source.left g.H.Src.Source.lent_as g.H.Src.Source.fault_count g.H.Src.Source.fault_plan reads_by _ _ _ _ _ c.requires.1.1.1.1.1.0 _ _ _ _ _
-    c.requires.1.1.1.1.1.1.0 c.requires.1.1.1.1.1.1.1.0 c.requires.1.1.1.1.1.1.1.1.0 c.requires.1.1.1.1.1.1.1.1.1.0 c.requires.1.1.1.1.1.1.1.1.1.1.1.0
+    λ κs lives.
+    sources_few g.H.Src.Source.left g.H.Src.Source.lent_as g.H.Src.Source.fault_count g.H.Src.Source.fault_plan reads_by _ _ _ _ _ c.requires.1.1.1.1.1.1.1.1.1.1.1.0 _ _ _ _ _
+    c.requires.1.1.1.1.1.1.1.1.1.1.1.1.0 c.requires.1.1.1.1.1.1.1.1.1.1.1.1.1.0 c.requires.1.1.1.1.1.1.1.1.1.1.1.1.1.1.0 c.requires.1.1.1.1.1.1.1.1.1.1.1.1.1.1.1.0 c.requires.1.1.1.1.1.1.1.1.1.1.1.1.1.1.1.1.1.0
 
 pub make_lanes-requires-clause-many : goal.make_lanes-requires-clause-many
 make_lanes-requires-clause-many g c =
-    starts_many g.H.Src.Source.left g.H.Src.Source.lent_as g.H.Src.Source.fault_count g.H.Src.Source.fault_plan reads_by _ _ _ _ _ c.requires.1.1.1.1.1.0 _ _ _ _ _
-    c.requires.1.1.1.1.1.1.0 c.requires.1.1.1.1.1.1.1.0 c.requires.1.1.1.1.1.1.1.1.0 c.requires.1.1.1.1.1.1.1.1.1.0 c.requires.1.1.1.1.1.1.1.1.1.1.1.0
+    λ κs lives.
+    starts_many g.H.Src.Source.left g.H.Src.Source.lent_as g.H.Src.Source.fault_count g.H.Src.Source.fault_plan reads_by _ _ _ _ _ c.requires.1.1.1.1.1.1.1.1.1.1.1.0 _ _ _ _ _
+    c.requires.1.1.1.1.1.1.1.1.1.1.1.1.0 c.requires.1.1.1.1.1.1.1.1.1.1.1.1.1.0 c.requires.1.1.1.1.1.1.1.1.1.1.1.1.1.1.0 c.requires.1.1.1.1.1.1.1.1.1.1.1.1.1.1.1.0 c.requires.1.1.1.1.1.1.1.1.1.1.1.1.1.1.1.1.1.0
 
 pub make_lanes-requires-clause-may : goal.make_lanes-requires-clause-may
-make_lanes-requires-clause-may g c = c.requires.1.1.1.1.1.1.1.1.1.1.1.0.lanes.may
+make_lanes-requires-clause-may g c = λ κs lives. c.requires.1.1.1.1.1.1.1.1.1.1.1.1.1.1.1.1.1.0.lanes.may
 
 -- a lane wasn't made
 pub returns-in-Err-clause-prefix : goal.returns-in-Err-clause-prefix
@@ -32,45 +35,45 @@ returns-in-Err-clause-prefix g c = none_is_some _ _ _ _
 
 pub halt_at-requires : goal.halt_at-requires
 halt_at-requires g c =
-    may_make g.H.Src.Source.left g.H.Src.Source.lent_as g.H.Src.Source.fault_count g.H.Src.Source.fault_plan _ _ _ c.requires.1.1.1.1.1.1.1.1.1.0 _ _ _ _ c.in-Err.stop.why c.in-Err.stop.shard c.in-Err.ensures.stopped
+    may_make g.H.Src.Source.left g.H.Src.Source.lent_as g.H.Src.Source.fault_count g.H.Src.Source.fault_plan _ _ _ c.requires.1.1.1.1.1.1.1.1.1.1.1.1.1.1.1.0 _ _ _ _ c.in-Err.stop.why c.in-Err.stop.shard c.in-Err.ensures.stopped
 
 pub returns-in-Err-clause-listed : goal.returns-in-Err-clause-listed
 returns-in-Err-clause-listed g c =
-    λ report. absurd ((made_halt g.H.Src.Source.left g.H.Src.Source.lent_as g.H.Src.Source.fault_count g.H.Src.Source.fault_plan _ _ _ c.requires.1.1.1.1.1.1.1.1.1.0 _ _ _ _ c.in-Err.stop.why c.in-Err.stop.shard c.halt_at.result c.in-Err.ensures.stopped c.halt_at.ensures).no_report report)
+    λ report. absurd ((made_halt g.H.Src.Source.left g.H.Src.Source.lent_as g.H.Src.Source.fault_count g.H.Src.Source.fault_plan _ _ _ c.requires.1.1.1.1.1.1.1.1.1.1.1.1.1.1.1.0 _ _ _ _ c.in-Err.stop.why c.in-Err.stop.shard c.halt_at.result c.in-Err.ensures.stopped c.halt_at.ensures).no_report report)
 
 pub returns-in-Err-clause-cause : goal.returns-in-Err-clause-cause
 returns-in-Err-clause-cause g c =
-    made_cause g.H.Src.Source.left g.H.Src.Source.lent_as g.H.Src.Source.fault_count g.H.Src.Source.fault_plan reads_by _ _ _ _ _ c.requires.1.1.1.1.1.0 _ _ _ _ _
-    c.requires.1.1.1.1.1.1.0 c.requires.1.1.1.1.1.1.1.0 c.requires.1.1.1.1.1.1.1.1.0 c.requires.1.1.1.1.1.1.1.1.1.0 c.requires.1.1.1.1.1.1.1.1.1.1.1.0
+    made_cause g.H.Src.Source.left g.H.Src.Source.lent_as g.H.Src.Source.fault_count g.H.Src.Source.fault_plan reads_by _ _ _ _ _ c.requires.1.1.1.1.1.1.1.1.1.1.1.0 _ _ _ _ _
+    c.requires.1.1.1.1.1.1.1.1.1.1.1.1.0 c.requires.1.1.1.1.1.1.1.1.1.1.1.1.1.0 c.requires.1.1.1.1.1.1.1.1.1.1.1.1.1.1.0 c.requires.1.1.1.1.1.1.1.1.1.1.1.1.1.1.1.0 c.requires.1.1.1.1.1.1.1.1.1.1.1.1.1.1.1.1.1.0
     c.spans_change_no_fit.ensures c.disks_hold_one_thing.ensures c.in-Err.stop.why c.in-Err.stop.shard c.halt_at.result _ _ _ _ _ _ _ c.in-Err.ensures.stopped c.halt_at.ensures
 
 pub returns-in-Err-clause-faults : goal.returns-in-Err-clause-faults
 returns-in-Err-clause-faults g c =
-    (made_halt g.H.Src.Source.left g.H.Src.Source.lent_as g.H.Src.Source.fault_count g.H.Src.Source.fault_plan _ _ _ c.requires.1.1.1.1.1.1.1.1.1.0 _ _ _ _ c.in-Err.stop.why c.in-Err.stop.shard c.halt_at.result c.in-Err.ensures.stopped c.halt_at.ensures).faults
+    (made_halt g.H.Src.Source.left g.H.Src.Source.lent_as g.H.Src.Source.fault_count g.H.Src.Source.fault_plan _ _ _ c.requires.1.1.1.1.1.1.1.1.1.1.1.1.1.1.1.0 _ _ _ _ c.in-Err.stop.why c.in-Err.stop.shard c.halt_at.result c.in-Err.ensures.stopped c.halt_at.ensures).faults
 
 pub returns-in-Err-clause-count : goal.returns-in-Err-clause-count
 returns-in-Err-clause-count g c =
-    (made_halt g.H.Src.Source.left g.H.Src.Source.lent_as g.H.Src.Source.fault_count g.H.Src.Source.fault_plan _ _ _ c.requires.1.1.1.1.1.1.1.1.1.0 _ _ _ _ c.in-Err.stop.why c.in-Err.stop.shard c.halt_at.result c.in-Err.ensures.stopped c.halt_at.ensures).count
+    (made_halt g.H.Src.Source.left g.H.Src.Source.lent_as g.H.Src.Source.fault_count g.H.Src.Source.fault_plan _ _ _ c.requires.1.1.1.1.1.1.1.1.1.1.1.1.1.1.1.0 _ _ _ _ c.in-Err.stop.why c.in-Err.stop.shard c.halt_at.result c.in-Err.ensures.stopped c.halt_at.ensures).count
 
 pub returns-in-Err-clause-disk_count : goal.returns-in-Err-clause-disk_count
 returns-in-Err-clause-disk_count g c =
-    (made_halt g.H.Src.Source.left g.H.Src.Source.lent_as g.H.Src.Source.fault_count g.H.Src.Source.fault_plan _ _ _ c.requires.1.1.1.1.1.1.1.1.1.0 _ _ _ _ c.in-Err.stop.why c.in-Err.stop.shard c.halt_at.result c.in-Err.ensures.stopped c.halt_at.ensures).disk _
+    (made_halt g.H.Src.Source.left g.H.Src.Source.lent_as g.H.Src.Source.fault_count g.H.Src.Source.fault_plan _ _ _ c.requires.1.1.1.1.1.1.1.1.1.1.1.1.1.1.1.0 _ _ _ _ c.in-Err.stop.why c.in-Err.stop.shard c.halt_at.result c.in-Err.ensures.stopped c.halt_at.ensures).disk _
 
 pub returns-in-Err-clause-out : goal.returns-in-Err-clause-out
 returns-in-Err-clause-out g c =
-    (made_halt g.H.Src.Source.left g.H.Src.Source.lent_as g.H.Src.Source.fault_count g.H.Src.Source.fault_plan _ _ _ c.requires.1.1.1.1.1.1.1.1.1.0 _ _ _ _ c.in-Err.stop.why c.in-Err.stop.shard c.halt_at.result c.in-Err.ensures.stopped c.halt_at.ensures).out _
+    (made_halt g.H.Src.Source.left g.H.Src.Source.lent_as g.H.Src.Source.fault_count g.H.Src.Source.fault_plan _ _ _ c.requires.1.1.1.1.1.1.1.1.1.1.1.1.1.1.1.0 _ _ _ _ c.in-Err.stop.why c.in-Err.stop.shard c.halt_at.result c.in-Err.ensures.stopped c.halt_at.ensures).out _
 
 pub returns-in-Err-clause-err : goal.returns-in-Err-clause-err
 returns-in-Err-clause-err g c =
-    (made_halt g.H.Src.Source.left g.H.Src.Source.lent_as g.H.Src.Source.fault_count g.H.Src.Source.fault_plan _ _ _ c.requires.1.1.1.1.1.1.1.1.1.0 _ _ _ _ c.in-Err.stop.why c.in-Err.stop.shard c.halt_at.result c.in-Err.ensures.stopped c.halt_at.ensures).err _
+    (made_halt g.H.Src.Source.left g.H.Src.Source.lent_as g.H.Src.Source.fault_count g.H.Src.Source.fault_plan _ _ _ c.requires.1.1.1.1.1.1.1.1.1.1.1.1.1.1.1.0 _ _ _ _ c.in-Err.stop.why c.in-Err.stop.shard c.halt_at.result c.in-Err.ensures.stopped c.halt_at.ensures).err _
 
 pub returns-in-Err-clause-unfailing : goal.returns-in-Err-clause-unfailing
 returns-in-Err-clause-unfailing g c =
-    λ all out err disk. (made_halt g.H.Src.Source.left g.H.Src.Source.lent_as g.H.Src.Source.fault_count g.H.Src.Source.fault_plan _ _ _ c.requires.1.1.1.1.1.1.1.1.1.0 _ _ _ _ c.in-Err.stop.why c.in-Err.stop.shard c.halt_at.result c.in-Err.ensures.stopped c.halt_at.ensures).calm all
+    λ all out err disk. (made_halt g.H.Src.Source.left g.H.Src.Source.lent_as g.H.Src.Source.fault_count g.H.Src.Source.fault_plan _ _ _ c.requires.1.1.1.1.1.1.1.1.1.1.1.1.1.1.1.0 _ _ _ _ c.in-Err.stop.why c.in-Err.stop.shard c.halt_at.result c.in-Err.ensures.stopped c.halt_at.ensures).calm all
 
 pub returns-in-Err-clause-moments : goal.returns-in-Err-clause-moments
 returns-in-Err-clause-moments g c =
-    λ asked. none_put g.H.Dsk.Disk.history g.H.Dsk.Disk.fault_count c.puts_go_on.ensures c.args.find.now _ _ c.args.keep.now asked c.requires.1.1.1.1.1.1.1.1.1.1.1.1.0 c.requires.1.1.1.1.1.1.1.1.1.1.1.1.1
+    λ asked. none_put g.H.Dsk.Disk.history g.H.Dsk.Disk.fault_count c.puts_go_on.ensures c.args.find.now _ _ c.args.keep.now asked c.requires.1.1.1.1.1.1.1.1.1.1.1.1.1.1.1.1.1.1.0 c.requires.1.1.1.1.1.1.1.1.1.1.1.1.1.1.1.1.1.1.1
 
 -- all were made
 
@@ -79,78 +82,65 @@ same-rest g c = refl
 
 pub run_lanes-ran-requires : goal.run_lanes-ran-requires
 run_lanes-ran-requires g c =
-    λ κs lives. (
-      lives.0,
-      (
-        lives.1.0,
-        (
-          lives.1.1.0,
-          (
-            lives.1.1.1,
-            (
-              c.requires.1.1.1.1.1.1.0,
-              run_begins g.H.Src.Source.left g.H.Src.Source.lent_as g.H.Src.Source.fault_count g.H.Src.Source.fault_plan reads_by _ _ _ _ _ c.requires.1.1.1.1.1.0 _ _ _ _ _
-                  c.requires.1.1.1.1.1.1.0 c.requires.1.1.1.1.1.1.1.0 c.requires.1.1.1.1.1.1.1.1.0 c.requires.1.1.1.1.1.1.1.1.1.0 c.requires.1.1.1.1.1.1.1.1.1.1.1.0 c.in-Ok.lanes.items c.in-Ok.ensures.made g.H.Dsk.Disk.history c.requires.1.1.1.1.1.1.1.1.1.1.1.1.0,
-            ),
-          ),
-        ),
-      ),
-    )
+    λ κs lives.
+    let begins = run_begins g.H.Src.Source.left g.H.Src.Source.lent_as g.H.Src.Source.fault_count g.H.Src.Source.fault_plan reads_by _ _ _ _ _ c.requires.1.1.1.1.1.1.1.1.1.1.1.0 _ _ _ _ _
+    c.requires.1.1.1.1.1.1.1.1.1.1.1.1.0 c.requires.1.1.1.1.1.1.1.1.1.1.1.1.1.0 c.requires.1.1.1.1.1.1.1.1.1.1.1.1.1.1.0 c.requires.1.1.1.1.1.1.1.1.1.1.1.1.1.1.1.0 c.requires.1.1.1.1.1.1.1.1.1.1.1.1.1.1.1.1.1.0 c.in-Ok.lanes.items c.in-Ok.ensures.made g.H.Dsk.Disk.history c.requires.1.1.1.1.1.1.1.1.1.1.1.1.1.1.1.1.1.1.0 in
+    (lives.0, (lives.1.0, (lives.1.1.0, (lives.1.1.1.0, (lives.1.1.1.1.0, (lives.1.1.1.1.1, (search (sendable, c.requires.1.1.1.1.1.1.1.0), (search (sendable, c.requires.1.1.1.1.1.1.1.1.0), (search (sendable, c.requires.1.1.1.1.1.1.1.1.1.1.0), (search (sendable, c.requires.1.1.1.1.1.1.1.1.1.0), (c.requires.1.1.1.1.1.1.1.1.1.1.1.1.0, begins)))))))))))
 
 pub returns-clause-done : goal.returns-clause-done
 returns-clause-done g c =
-    on_ok_weaker c.run_lanes-ran.result (found_all c.args.find.now c.args.planning.now _ c.in-Ok.lanes.items c.args.rest _ _ _ _ _ _ (over_runs g.H.Src.Source.left g.H.Src.Source.lent_as g.H.Src.Source.fault_count g.H.Src.Source.fault_plan reads_by _ _ _ _ _ c.requires.1.1.1.1.1.0 _ _ _ _ _
-    c.requires.1.1.1.1.1.1.0 c.requires.1.1.1.1.1.1.1.0 c.requires.1.1.1.1.1.1.1.1.0 c.requires.1.1.1.1.1.1.1.1.1.0 c.requires.1.1.1.1.1.1.1.1.1.1.1.0 c.in-Ok.lanes.items c.in-Ok.ensures.made
+    on_ok_weaker c.run_lanes-ran.result (found_all c.args.find.now c.args.planning.now _ c.in-Ok.lanes.items c.args.rest _ _ _ _ _ _ (over_runs g.H.Src.Source.left g.H.Src.Source.lent_as g.H.Src.Source.fault_count g.H.Src.Source.fault_plan reads_by _ _ _ _ _ c.requires.1.1.1.1.1.1.1.1.1.1.1.0 _ _ _ _ _
+    c.requires.1.1.1.1.1.1.1.1.1.1.1.1.0 c.requires.1.1.1.1.1.1.1.1.1.1.1.1.1.0 c.requires.1.1.1.1.1.1.1.1.1.1.1.1.1.1.0 c.requires.1.1.1.1.1.1.1.1.1.1.1.1.1.1.1.0 c.requires.1.1.1.1.1.1.1.1.1.1.1.1.1.1.1.1.1.0 c.in-Ok.lanes.items c.in-Ok.ensures.made
     c.spans_change_no_fit.ensures c.disks_hold_one_thing.ensures c.tested_cuts_are_accepted.ensures.accepted)) c.run_lanes-ran.ensures.done
 
 pub returns-clause-prefix : goal.returns-clause-prefix
 returns-clause-prefix g c =
-    on_err_weaker c.run_lanes-ran.result (found_some c.args.find.now c.args.planning.now _ c.in-Ok.lanes.items c.args.rest _ _ _ _ (over_runs g.H.Src.Source.left g.H.Src.Source.lent_as g.H.Src.Source.fault_count g.H.Src.Source.fault_plan reads_by _ _ _ _ _ c.requires.1.1.1.1.1.0 _ _ _ _ _
-    c.requires.1.1.1.1.1.1.0 c.requires.1.1.1.1.1.1.1.0 c.requires.1.1.1.1.1.1.1.1.0 c.requires.1.1.1.1.1.1.1.1.1.0 c.requires.1.1.1.1.1.1.1.1.1.1.1.0 c.in-Ok.lanes.items c.in-Ok.ensures.made
+    on_err_weaker c.run_lanes-ran.result (found_some c.args.find.now c.args.planning.now _ c.in-Ok.lanes.items c.args.rest _ _ _ _ (over_runs g.H.Src.Source.left g.H.Src.Source.lent_as g.H.Src.Source.fault_count g.H.Src.Source.fault_plan reads_by _ _ _ _ _ c.requires.1.1.1.1.1.1.1.1.1.1.1.0 _ _ _ _ _
+    c.requires.1.1.1.1.1.1.1.1.1.1.1.1.0 c.requires.1.1.1.1.1.1.1.1.1.1.1.1.1.0 c.requires.1.1.1.1.1.1.1.1.1.1.1.1.1.1.0 c.requires.1.1.1.1.1.1.1.1.1.1.1.1.1.1.1.0 c.requires.1.1.1.1.1.1.1.1.1.1.1.1.1.1.1.1.1.0 c.in-Ok.lanes.items c.in-Ok.ensures.made
     c.spans_change_no_fit.ensures c.disks_hold_one_thing.ensures c.tested_cuts_are_accepted.ensures.accepted)) c.run_lanes-ran.ensures.prefix
 
 pub returns-clause-listed : goal.returns-clause-listed
 returns-clause-listed g c =
-    IfErr-weaker c.run_lanes-ran.result _ _ (λ halt told report. found_listing c.args.find.now c.args.planning.now _ c.in-Ok.lanes.items c.args.rest _ _ _ _ (over_runs g.H.Src.Source.left g.H.Src.Source.lent_as g.H.Src.Source.fault_count g.H.Src.Source.fault_plan reads_by _ _ _ _ _ c.requires.1.1.1.1.1.0 _ _ _ _ _
-    c.requires.1.1.1.1.1.1.0 c.requires.1.1.1.1.1.1.1.0 c.requires.1.1.1.1.1.1.1.1.0 c.requires.1.1.1.1.1.1.1.1.1.0 c.requires.1.1.1.1.1.1.1.1.1.1.1.0 c.in-Ok.lanes.items c.in-Ok.ensures.made
+    IfErr-weaker c.run_lanes-ran.result _ _ (λ halt told report. found_listing c.args.find.now c.args.planning.now _ c.in-Ok.lanes.items c.args.rest _ _ _ _ (over_runs g.H.Src.Source.left g.H.Src.Source.lent_as g.H.Src.Source.fault_count g.H.Src.Source.fault_plan reads_by _ _ _ _ _ c.requires.1.1.1.1.1.1.1.1.1.1.1.0 _ _ _ _ _
+    c.requires.1.1.1.1.1.1.1.1.1.1.1.1.0 c.requires.1.1.1.1.1.1.1.1.1.1.1.1.1.0 c.requires.1.1.1.1.1.1.1.1.1.1.1.1.1.1.0 c.requires.1.1.1.1.1.1.1.1.1.1.1.1.1.1.1.0 c.requires.1.1.1.1.1.1.1.1.1.1.1.1.1.1.1.1.1.0 c.in-Ok.lanes.items c.in-Ok.ensures.made
     c.spans_change_no_fit.ensures c.disks_hold_one_thing.ensures c.tested_cuts_are_accepted.ensures.accepted) (told report)) c.run_lanes-ran.ensures.listed
 
 pub returns-clause-accepted : goal.returns-clause-accepted
 returns-clause-accepted g c =
-    all_accepted c.args.find.now c.args.planning.now _ c.in-Ok.lanes.items c.run_lanes-ran.new.lanes.items c.args.rest _ (g.H.Shelf.disk_history c.args.shelf.now) _ c.requires.1.1.1.1.1.1.1.0 _ c.requires.1.1.1.1.1.1.1.1.0
-    c.requires.1.1.1.1.1.1.1.1.1.1.1.0.begun.format c.requires.1.1.1.1.1.1.1.1.1.1.1.0.begun.generation c.requires.1.1.1.1.1.1.1.1.1.1.1.0.begun.cut (began g.H.Src.Source.left g.H.Src.Source.lent_as g.H.Src.Source.fault_count g.H.Src.Source.fault_plan reads_by _ _ _ _ _ c.requires.1.1.1.1.1.0 _ _ _ _ _
-    c.requires.1.1.1.1.1.1.0 c.requires.1.1.1.1.1.1.1.0 c.requires.1.1.1.1.1.1.1.1.0 c.requires.1.1.1.1.1.1.1.1.1.0 c.requires.1.1.1.1.1.1.1.1.1.1.1.0 c.in-Ok.lanes.items c.in-Ok.ensures.made)
-    (start_on g.H.Src.Source.left g.H.Src.Source.lent_as g.H.Src.Source.fault_count g.H.Src.Source.fault_plan reads_by _ _ _ _ _ c.requires.1.1.1.1.1.0 _ _ _ _ _
-    c.requires.1.1.1.1.1.1.0 c.requires.1.1.1.1.1.1.1.0 c.requires.1.1.1.1.1.1.1.1.0 c.requires.1.1.1.1.1.1.1.1.1.0 c.requires.1.1.1.1.1.1.1.1.1.1.1.0 c.in-Ok.lanes.items c.in-Ok.ensures.made c.disks_hold_one_thing.ensures) (over_runs g.H.Src.Source.left g.H.Src.Source.lent_as g.H.Src.Source.fault_count g.H.Src.Source.fault_plan reads_by _ _ _ _ _ c.requires.1.1.1.1.1.0 _ _ _ _ _
-    c.requires.1.1.1.1.1.1.0 c.requires.1.1.1.1.1.1.1.0 c.requires.1.1.1.1.1.1.1.1.0 c.requires.1.1.1.1.1.1.1.1.1.0 c.requires.1.1.1.1.1.1.1.1.1.1.1.0 c.in-Ok.lanes.items c.in-Ok.ensures.made
+    all_accepted c.args.find.now c.args.planning.now _ c.in-Ok.lanes.items c.run_lanes-ran.new.lanes.items c.args.rest _ (g.H.Shelf.disk_history c.args.shelf.now) _ c.requires.1.1.1.1.1.1.1.1.1.1.1.1.1.0 _ c.requires.1.1.1.1.1.1.1.1.1.1.1.1.1.1.0
+    c.requires.1.1.1.1.1.1.1.1.1.1.1.1.1.1.1.1.1.0.begun.format c.requires.1.1.1.1.1.1.1.1.1.1.1.1.1.1.1.1.1.0.begun.generation c.requires.1.1.1.1.1.1.1.1.1.1.1.1.1.1.1.1.1.0.begun.cut (began g.H.Src.Source.left g.H.Src.Source.lent_as g.H.Src.Source.fault_count g.H.Src.Source.fault_plan reads_by _ _ _ _ _ c.requires.1.1.1.1.1.1.1.1.1.1.1.0 _ _ _ _ _
+    c.requires.1.1.1.1.1.1.1.1.1.1.1.1.0 c.requires.1.1.1.1.1.1.1.1.1.1.1.1.1.0 c.requires.1.1.1.1.1.1.1.1.1.1.1.1.1.1.0 c.requires.1.1.1.1.1.1.1.1.1.1.1.1.1.1.1.0 c.requires.1.1.1.1.1.1.1.1.1.1.1.1.1.1.1.1.1.0 c.in-Ok.lanes.items c.in-Ok.ensures.made)
+    (start_on g.H.Src.Source.left g.H.Src.Source.lent_as g.H.Src.Source.fault_count g.H.Src.Source.fault_plan reads_by _ _ _ _ _ c.requires.1.1.1.1.1.1.1.1.1.1.1.0 _ _ _ _ _
+    c.requires.1.1.1.1.1.1.1.1.1.1.1.1.0 c.requires.1.1.1.1.1.1.1.1.1.1.1.1.1.0 c.requires.1.1.1.1.1.1.1.1.1.1.1.1.1.1.0 c.requires.1.1.1.1.1.1.1.1.1.1.1.1.1.1.1.0 c.requires.1.1.1.1.1.1.1.1.1.1.1.1.1.1.1.1.1.0 c.in-Ok.lanes.items c.in-Ok.ensures.made c.disks_hold_one_thing.ensures) (over_runs g.H.Src.Source.left g.H.Src.Source.lent_as g.H.Src.Source.fault_count g.H.Src.Source.fault_plan reads_by _ _ _ _ _ c.requires.1.1.1.1.1.1.1.1.1.1.1.0 _ _ _ _ _
+    c.requires.1.1.1.1.1.1.1.1.1.1.1.1.0 c.requires.1.1.1.1.1.1.1.1.1.1.1.1.1.0 c.requires.1.1.1.1.1.1.1.1.1.1.1.1.1.1.0 c.requires.1.1.1.1.1.1.1.1.1.1.1.1.1.1.1.0 c.requires.1.1.1.1.1.1.1.1.1.1.1.1.1.1.1.1.1.0 c.in-Ok.lanes.items c.in-Ok.ensures.made
     c.spans_change_no_fit.ensures c.disks_hold_one_thing.ensures c.tested_cuts_are_accepted.ensures.accepted)
     c.run_lanes-ran.result
 
 pub returns-clause-cause : goal.returns-clause-cause
 returns-clause-cause g c =
-    all_causes c.args.find.now c.args.planning.now _ c.in-Ok.lanes.items c.run_lanes-ran.new.lanes.items c.args.rest _ _ _ c.requires.1.1.1.1.1.1.1.0 _ c.requires.1.1.1.1.1.1.1.1.0
-    c.requires.1.1.1.1.1.1.1.1.1.1.1.0.begun.format c.requires.1.1.1.1.1.1.1.1.1.1.1.0.begun.generation c.requires.1.1.1.1.1.1.1.1.1.1.1.0.begun.cut (began g.H.Src.Source.left g.H.Src.Source.lent_as g.H.Src.Source.fault_count g.H.Src.Source.fault_plan reads_by _ _ _ _ _ c.requires.1.1.1.1.1.0 _ _ _ _ _
-    c.requires.1.1.1.1.1.1.0 c.requires.1.1.1.1.1.1.1.0 c.requires.1.1.1.1.1.1.1.1.0 c.requires.1.1.1.1.1.1.1.1.1.0 c.requires.1.1.1.1.1.1.1.1.1.1.1.0 c.in-Ok.lanes.items c.in-Ok.ensures.made)
-    (start_on g.H.Src.Source.left g.H.Src.Source.lent_as g.H.Src.Source.fault_count g.H.Src.Source.fault_plan reads_by _ _ _ _ _ c.requires.1.1.1.1.1.0 _ _ _ _ _
-    c.requires.1.1.1.1.1.1.0 c.requires.1.1.1.1.1.1.1.0 c.requires.1.1.1.1.1.1.1.1.0 c.requires.1.1.1.1.1.1.1.1.1.0 c.requires.1.1.1.1.1.1.1.1.1.1.1.0 c.in-Ok.lanes.items c.in-Ok.ensures.made c.disks_hold_one_thing.ensures) (over_runs g.H.Src.Source.left g.H.Src.Source.lent_as g.H.Src.Source.fault_count g.H.Src.Source.fault_plan reads_by _ _ _ _ _ c.requires.1.1.1.1.1.0 _ _ _ _ _
-    c.requires.1.1.1.1.1.1.0 c.requires.1.1.1.1.1.1.1.0 c.requires.1.1.1.1.1.1.1.1.0 c.requires.1.1.1.1.1.1.1.1.1.0 c.requires.1.1.1.1.1.1.1.1.1.1.1.0 c.in-Ok.lanes.items c.in-Ok.ensures.made
+    all_causes c.args.find.now c.args.planning.now _ c.in-Ok.lanes.items c.run_lanes-ran.new.lanes.items c.args.rest _ _ _ c.requires.1.1.1.1.1.1.1.1.1.1.1.1.1.0 _ c.requires.1.1.1.1.1.1.1.1.1.1.1.1.1.1.0
+    c.requires.1.1.1.1.1.1.1.1.1.1.1.1.1.1.1.1.1.0.begun.format c.requires.1.1.1.1.1.1.1.1.1.1.1.1.1.1.1.1.1.0.begun.generation c.requires.1.1.1.1.1.1.1.1.1.1.1.1.1.1.1.1.1.0.begun.cut (began g.H.Src.Source.left g.H.Src.Source.lent_as g.H.Src.Source.fault_count g.H.Src.Source.fault_plan reads_by _ _ _ _ _ c.requires.1.1.1.1.1.1.1.1.1.1.1.0 _ _ _ _ _
+    c.requires.1.1.1.1.1.1.1.1.1.1.1.1.0 c.requires.1.1.1.1.1.1.1.1.1.1.1.1.1.0 c.requires.1.1.1.1.1.1.1.1.1.1.1.1.1.1.0 c.requires.1.1.1.1.1.1.1.1.1.1.1.1.1.1.1.0 c.requires.1.1.1.1.1.1.1.1.1.1.1.1.1.1.1.1.1.0 c.in-Ok.lanes.items c.in-Ok.ensures.made)
+    (start_on g.H.Src.Source.left g.H.Src.Source.lent_as g.H.Src.Source.fault_count g.H.Src.Source.fault_plan reads_by _ _ _ _ _ c.requires.1.1.1.1.1.1.1.1.1.1.1.0 _ _ _ _ _
+    c.requires.1.1.1.1.1.1.1.1.1.1.1.1.0 c.requires.1.1.1.1.1.1.1.1.1.1.1.1.1.0 c.requires.1.1.1.1.1.1.1.1.1.1.1.1.1.1.0 c.requires.1.1.1.1.1.1.1.1.1.1.1.1.1.1.1.0 c.requires.1.1.1.1.1.1.1.1.1.1.1.1.1.1.1.1.1.0 c.in-Ok.lanes.items c.in-Ok.ensures.made c.disks_hold_one_thing.ensures) (over_runs g.H.Src.Source.left g.H.Src.Source.lent_as g.H.Src.Source.fault_count g.H.Src.Source.fault_plan reads_by _ _ _ _ _ c.requires.1.1.1.1.1.1.1.1.1.1.1.0 _ _ _ _ _
+    c.requires.1.1.1.1.1.1.1.1.1.1.1.1.0 c.requires.1.1.1.1.1.1.1.1.1.1.1.1.1.0 c.requires.1.1.1.1.1.1.1.1.1.1.1.1.1.1.0 c.requires.1.1.1.1.1.1.1.1.1.1.1.1.1.1.1.0 c.requires.1.1.1.1.1.1.1.1.1.1.1.1.1.1.1.1.1.0 c.in-Ok.lanes.items c.in-Ok.ensures.made
     c.spans_change_no_fit.ensures c.disks_hold_one_thing.ensures c.tested_cuts_are_accepted.ensures.accepted)
     c.run_lanes-ran.result _ _ c.run_lanes-ran.ensures.cause c.run_lanes-ran.ensures.faults
-    (generations_end g.H.Dsk.Disk.history g.H.Dsk.Disk.fault_count c.crashes_leave_images.ensures.images c.disks_hold_one_thing.ensures c.args.find.now c.requires.1.1.1.1.1.1.1.1.1.1.1.0.begun
-    _ _ _ _ c.args.keep.now c.run_lanes-ran.new.keep c.run_lanes-ran.result c.requires.1.1.1.1.1.1.1.1.1.1.1.0.is_found c.requires.1.1.1.1.1.1.1.1.1.1.1.1.0 c.requires.1.1.1.1.1.1.1.1.1.1.1.1.1 c.run_lanes-ran.ensures.keeps)
+    (generations_end g.H.Dsk.Disk.history g.H.Dsk.Disk.fault_count c.crashes_leave_images.ensures.images c.disks_hold_one_thing.ensures c.args.find.now c.requires.1.1.1.1.1.1.1.1.1.1.1.1.1.1.1.1.1.0.begun
+    _ _ _ _ c.args.keep.now c.run_lanes-ran.new.keep c.run_lanes-ran.result c.requires.1.1.1.1.1.1.1.1.1.1.1.1.1.1.1.1.1.0.is_found c.requires.1.1.1.1.1.1.1.1.1.1.1.1.1.1.1.1.1.1.0 c.requires.1.1.1.1.1.1.1.1.1.1.1.1.1.1.1.1.1.1.1 c.run_lanes-ran.ensures.keeps)
 
 pub returns-clause-faults : goal.returns-clause-faults
 returns-clause-faults g c =
     faults_then _ _ _ c.in-Ok.ensures.steady_named c.run_lanes-ran.result
     (faults_as g.H.Src.Source.left g.H.Src.Source.lent_as c.args.find.now c.in-Ok.lanes.items c.run_lanes-ran.new.lanes.items _ _ _ _
-    (named_over g.H.Src.Source.left g.H.Src.Source.lent_as g.H.Src.Source.fault_count g.H.Src.Source.fault_plan reads_by _ _ 0 c.args.sources.items c.args.starts.items c.in-Ok.lanes.items c.args.find.now.shards c.in-Ok.ensures.made c.requires.1.1.1.1.1.1.1.1.1.0 c.requires.1.1.1.1.1.1.1.1.1.1.0)
+    (named_over g.H.Src.Source.left g.H.Src.Source.lent_as g.H.Src.Source.fault_count g.H.Src.Source.fault_plan reads_by _ _ 0 c.args.sources.items c.args.starts.items c.in-Ok.lanes.items c.args.find.now.shards c.in-Ok.ensures.made c.requires.1.1.1.1.1.1.1.1.1.1.1.1.1.1.1.0 c.requires.1.1.1.1.1.1.1.1.1.1.1.1.1.1.1.1.0)
     c.run_lanes-ran.ensures.lanes c.give_lanes.ensures.back c.run_lanes-ran.result c.run_lanes-ran.ensures.faults)
 
 pub returns-clause-count : goal.returns-clause-count
 returns-clause-count g c =
     count_then _ _ _ c.in-Ok.ensures.steady c.run_lanes-ran.result
     (count_as g.H.Src.Source.left g.H.Src.Source.lent_as c.args.find.now c.in-Ok.lanes.items c.run_lanes-ran.new.lanes.items _ _ _ _
-    (named_over g.H.Src.Source.left g.H.Src.Source.lent_as g.H.Src.Source.fault_count g.H.Src.Source.fault_plan reads_by _ _ 0 c.args.sources.items c.args.starts.items c.in-Ok.lanes.items c.args.find.now.shards c.in-Ok.ensures.made c.requires.1.1.1.1.1.1.1.1.1.0 c.requires.1.1.1.1.1.1.1.1.1.1.0)
+    (named_over g.H.Src.Source.left g.H.Src.Source.lent_as g.H.Src.Source.fault_count g.H.Src.Source.fault_plan reads_by _ _ 0 c.args.sources.items c.args.starts.items c.in-Ok.lanes.items c.args.find.now.shards c.in-Ok.ensures.made c.requires.1.1.1.1.1.1.1.1.1.1.1.1.1.1.1.0 c.requires.1.1.1.1.1.1.1.1.1.1.1.1.1.1.1.1.0)
     c.run_lanes-ran.ensures.lanes c.give_lanes.ensures.back c.run_lanes-ran.result c.run_lanes-ran.ensures.faults)
 
 pub returns-clause-unfailing : goal.returns-clause-unfailing
@@ -161,18 +151,18 @@ pub returns-clause-lent : goal.returns-clause-lent
 returns-clause-lent g c =
     lent_all _ _ _ _ _
     (zip_long _ c.in-Ok.lanes.items c.run_lanes-ran.new.lanes.items c.run_lanes-ran.ensures.lanes
-    ∙ lane_count g.H.Src.Source.left g.H.Src.Source.lent_as g.H.Src.Source.fault_count g.H.Src.Source.fault_plan reads_by _ _ _ _ _ c.requires.1.1.1.1.1.0 _ _ _ _ _
-    c.requires.1.1.1.1.1.1.0 c.requires.1.1.1.1.1.1.1.0 c.requires.1.1.1.1.1.1.1.1.0 c.requires.1.1.1.1.1.1.1.1.1.0 c.requires.1.1.1.1.1.1.1.1.1.1.1.0 c.in-Ok.lanes.items c.in-Ok.ensures.made)
+    ∙ lane_count g.H.Src.Source.left g.H.Src.Source.lent_as g.H.Src.Source.fault_count g.H.Src.Source.fault_plan reads_by _ _ _ _ _ c.requires.1.1.1.1.1.1.1.1.1.1.1.0 _ _ _ _ _
+    c.requires.1.1.1.1.1.1.1.1.1.1.1.1.0 c.requires.1.1.1.1.1.1.1.1.1.1.1.1.1.0 c.requires.1.1.1.1.1.1.1.1.1.1.1.1.1.1.0 c.requires.1.1.1.1.1.1.1.1.1.1.1.1.1.1.1.0 c.requires.1.1.1.1.1.1.1.1.1.1.1.1.1.1.1.1.1.0 c.in-Ok.lanes.items c.in-Ok.ensures.made)
     c.in-Ok.ensures.lent c.give_lanes.ensures.lent
 
 pub returns-clause-moments : goal.returns-clause-moments
 returns-clause-moments g c =
     λ asked. keeps_cuts c.puts_go_on.ensures c.disks_hold_one_thing.ensures c.tested_cuts_are_accepted.ensures.one c.args.find.now c.args.planning.now
-    c.requires.1.1.1.1.1.1.0 _ _ _ c.in-Ok.lanes.items c.args.rest c.requires.1.1.1.1.1.1.1.1.1.1.1.0.begun c.requires.1.1.1.1.1.1.1.1.1.1.1.0.is_found c.requires.1.1.1.1.1.1.1.1.1.1.1.0.rest_is
-    (over_runs g.H.Src.Source.left g.H.Src.Source.lent_as g.H.Src.Source.fault_count g.H.Src.Source.fault_plan reads_by _ _ _ _ _ c.requires.1.1.1.1.1.0 _ _ _ _ _
-    c.requires.1.1.1.1.1.1.0 c.requires.1.1.1.1.1.1.1.0 c.requires.1.1.1.1.1.1.1.1.0 c.requires.1.1.1.1.1.1.1.1.1.0 c.requires.1.1.1.1.1.1.1.1.1.1.1.0 c.in-Ok.lanes.items c.in-Ok.ensures.made
+    c.requires.1.1.1.1.1.1.1.1.1.1.1.1.0 _ _ _ c.in-Ok.lanes.items c.args.rest c.requires.1.1.1.1.1.1.1.1.1.1.1.1.1.1.1.1.1.0.begun c.requires.1.1.1.1.1.1.1.1.1.1.1.1.1.1.1.1.1.0.is_found c.requires.1.1.1.1.1.1.1.1.1.1.1.1.1.1.1.1.1.0.rest_is
+    (over_runs g.H.Src.Source.left g.H.Src.Source.lent_as g.H.Src.Source.fault_count g.H.Src.Source.fault_plan reads_by _ _ _ _ _ c.requires.1.1.1.1.1.1.1.1.1.1.1.0 _ _ _ _ _
+    c.requires.1.1.1.1.1.1.1.1.1.1.1.1.0 c.requires.1.1.1.1.1.1.1.1.1.1.1.1.1.0 c.requires.1.1.1.1.1.1.1.1.1.1.1.1.1.1.0 c.requires.1.1.1.1.1.1.1.1.1.1.1.1.1.1.1.0 c.requires.1.1.1.1.1.1.1.1.1.1.1.1.1.1.1.1.1.0 c.in-Ok.lanes.items c.in-Ok.ensures.made
     c.spans_change_no_fit.ensures c.disks_hold_one_thing.ensures c.tested_cuts_are_accepted.ensures.accepted)
-    c.args.head c.requires.1.1.1.1.1.1.1.1.1.1.1.0.head_is g.H.Dsk.Disk.history g.H.Dsk.Disk.fault_count c.run_lanes-ran.result c.args.keep.now c.run_lanes-ran.new.keep asked c.requires.1.1.1.1.1.1.1.1.1.1.1.1.0 c.requires.1.1.1.1.1.1.1.1.1.1.1.1.1 c.run_lanes-ran.ensures.keeps
+    c.args.head c.requires.1.1.1.1.1.1.1.1.1.1.1.1.1.1.1.1.1.0.head_is g.H.Dsk.Disk.history g.H.Dsk.Disk.fault_count c.run_lanes-ran.result c.args.keep.now c.run_lanes-ran.new.keep asked c.requires.1.1.1.1.1.1.1.1.1.1.1.1.1.1.1.1.1.1.0 c.requires.1.1.1.1.1.1.1.1.1.1.1.1.1.1.1.1.1.1.1 c.run_lanes-ran.ensures.keeps
 
 pub returns-clause-no_keep : goal.returns-clause-no_keep
 returns-clause-no_keep g c =

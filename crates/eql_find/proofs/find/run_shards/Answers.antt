@@ -16,10 +16,11 @@ use Rattle.eql_find.proofs.find.run_shards.Goals as goal
 
 pub run_start-requires-clause-keeps : goal.run_start-requires-clause-keeps
 run_start-requires-clause-keeps g c =
-    keeps_if_asked g.H.Dsk.Disk.history g.H.Dsk.Disk.fault_count _ _ _ c.in-Ok.ensures.keeps.0 c.in-Ok.ensures.keeps.1
+    λ κs lives. keeps_if_asked g.H.Dsk.Disk.history g.H.Dsk.Disk.fault_count _ _ _ c.in-Ok.ensures.keeps.0 c.in-Ok.ensures.keeps.1
 
 pub run_start-requires-clause-kept : goal.run_start-requires-clause-kept
 run_start-requires-clause-kept g c =
+    λ κs lives.
     subst (λ (d : Option History). IsFreshKeep g.H.Dsk.Disk.history g.H.Dsk.Disk.fault_count d c.in-Ok.start.keep) (sym c.in-Ok.ensures.still)
     (fresh_keep g.H.Dsk.Disk.history g.H.Dsk.Disk.fault_count c.args.find.now.checkpoint _ c.in-Ok.start.keep c.in-Ok.ensures.keeps.0 c.in-Ok.ensures.keeps.1)
 

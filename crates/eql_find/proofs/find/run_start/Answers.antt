@@ -1,3 +1,4 @@
+use denote.Param.Send.{sendable}
 use Rattle.std.proofs.Common.{Option, ℕ, ap, subst, sym, ◌∙◌, refl}
 use Rattle.std.specs.Prelude.{IfErr}
 use Rattle.eql_outside.specs.Moments.{History, Told}
@@ -52,4 +53,4 @@ returns-clause-moments g c =
 
 pub run_over-ran-requires : goal.run_over-ran-requires
 run_over-ran-requires g c =
-    λ κs lives. (lives.0, (lives.1.0, (lives.1.1.0, (lives.1.1.1.0, (lives.1.1.1.1, (refl, (c.requires.bounds, (c.requires.plan, (c.requires.whole, (c.requires.named, (c.requires.fresh, (c.requires.begins, (c.requires.keeps, c.requires.kept)))))))))))))
+    λ κs lives. (lives.0, (lives.1.0, (lives.1.1.0, (lives.1.1.1.0, (lives.1.1.1.1.0, (lives.1.1.1.1.1.0, (lives.1.1.1.1.1.1, (search (sendable, c.type_bounds.send-H-Src), (search (sendable, c.type_bounds.sync-R), (search (sendable, c.type_bounds.sync-W), (search (sendable, c.type_bounds.sync-H-Src), (refl, (c.requires.bounds, (c.requires.plan, (c.requires.whole, (c.requires.named, (c.requires.fresh, (c.requires.begins, (c.requires.keeps, c.requires.kept)))))))))))))))))))

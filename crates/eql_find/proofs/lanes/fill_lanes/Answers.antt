@@ -24,6 +24,7 @@ returns-in-Err-clause-stopped g c =
       raised_named = c.give_source.ensures.raised_named;
       same = c.give_source.ensures.same;
       same_named = c.give_source.ensures.same_named;
+      counts = c.give_source.ensures.counts.0;
     }))
 
 pub loop-start-preserved : goal.loop-start-preserved

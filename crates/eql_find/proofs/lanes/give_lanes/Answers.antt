@@ -12,12 +12,12 @@ back-preserved g c =
     let items : length c.back.lanes.items ≡ length less + 1 = ap length c.take_last-lane.ensures.items ∙ length-append less (lane ∷ []) in
     record {
       gone = one_gone (lane_returned g.H.Src.Source.lent_as)
-          (record { earlier = c.faults_are_counted_by_name.ensures.earlier; later = c.faults_are_counted_by_name.ensures.later })
           _ _ less lane _ _ _ _ _ _ c.take_last-lane.ensures.items c.back.invariant.gone (lane_came g.H.Src.Source.lent_as g.H.Src.Source.fault_count c.into_source.result lane _ _ _ _ c.into_source.ensures.source c.into_source.ensures.faults (record {
             raised = c.give_source.ensures.raised;
             raised_named = c.give_source.ensures.raised_named;
             same = c.give_source.ensures.same;
             same_named = c.give_source.ensures.same_named;
+            counts = c.give_source.ensures.counts.0;
           }));
       counts = omega (arith, c.back.invariant.counts, c.give_source.ensures.counts.0);
       absences = c.give_source.ensures.counts.1 ∙ c.back.invariant.absences;

@@ -12,12 +12,12 @@ back-preserved g c =
     let items : length c.back.sources.items ≡ length less + 1 = ap length c.take_last-source.ensures.items ∙ length-append less (source ∷ []) in
     record {
       gone = one_gone (returned g.H.Src.Source.lent_as g.H.Src.Source.fault_count)
-          (record { earlier = c.faults_are_counted_by_name.ensures.earlier; later = c.faults_are_counted_by_name.ensures.later })
           _ _ less source _ _ _ _ _ _ c.take_last-source.ensures.items c.back.invariant.gone (record {
             raised = c.give_source.ensures.raised;
             raised_named = c.give_source.ensures.raised_named;
             same = c.give_source.ensures.same;
             same_named = c.give_source.ensures.same_named;
+            counts = c.give_source.ensures.counts.0;
           });
       counts = omega (arith, c.back.invariant.counts, c.give_source.ensures.counts.0);
       absences = c.give_source.ensures.counts.1 ∙ c.back.invariant.absences;

@@ -17,7 +17,7 @@ use Rattle.eql_find.specs.Running.{BeginsRun, plan_in}
 use Rattle.eql_find.specs.Searching.{bare, rules_in, search_in}
 use Rattle.eql_find.specs.Starting.{pipes_of}
 use Rattle.eql_find.proofs.AllowingLemmas.{BeginLaws}
-use Rattle.eql_find.proofs.AnswerLemmas.{calm_by, cuts_are, disk_as, done_by, ends_by, err_as, err_steady, faults_by, faults_done, listing_all, listing_front, listing_some, no_cuts, no_other, no_report, out_as, report_by, stopped_by}
+use Rattle.eql_find.proofs.AnswerLemmas.{calm_by, cuts_are, disk_as, done_by, ends_by, err_as, err_steady, faults_by, faults_done, listing_all, listing_front, listing_some, no_cuts, no_other, no_report, out_as, report_by, stopped_by, unread}
 use Rattle.eql_find.proofs.KeepLemmas.{asked_by, end_keeps, keeps_as, keeps_nothing, rose_keeps}
 use Rattle.eql_find.proofs.RunLemmas.{fits_may, keeps_on, lines_ascend, may_begin, same_listed, same_mark, starts, taken_begun, taken_reads, taken_slack, texts_taken}
 use Rattle.eql_find.proofs.SearchLemmas.{fronts_none}
@@ -347,7 +347,8 @@ returns-in-Err-search_lanes-clause-disk g c =
     let placed_is = c.in-Ok.ensures.rest in
     let news = c.search_lanes.new.lanes.items in
     disk_as (Unit {0}) c.args.find.now.shards g.told mids news _ _ _ _ c.in-Err-search_lanes.stop c.halt_of.result c.in-Err-search_lanes.ensures.cause
-    (λ apart. c.search_lanes.ensures.disk_steady (no_other c.search_lanes.result c.in-Err-search_lanes.stop _ c.in-Err-search_lanes.is apart)) c.halt_of.ensures
+    (λ apart none. c.search_lanes.ensures.disk_steady (no_other c.search_lanes.result c.in-Err-search_lanes.stop _ c.in-Err-search_lanes.is apart)
+    (unread c.search_lanes.result c.in-Err-search_lanes.stop c.in-Err-search_lanes.is none)) c.halt_of.ensures
 
 pub returns-in-Err-search_lanes-clause-out : goal.returns-in-Err-search_lanes-clause-out
 returns-in-Err-search_lanes-clause-out g c =
@@ -362,7 +363,8 @@ returns-in-Err-search_lanes-clause-out g c =
     let placed_is = c.in-Ok.ensures.rest in
     let news = c.search_lanes.new.lanes.items in
     out_as (Unit {0}) c.args.find.now.shards g.told mids news _ _ _ _ c.in-Err-search_lanes.stop c.halt_of.result c.in-Err-search_lanes.ensures.cause
-    (λ apart. c.search_lanes.ensures.writes_steady (no_other c.search_lanes.result c.in-Err-search_lanes.stop _ c.in-Err-search_lanes.is apart)) c.halt_of.ensures
+    (λ apart none. c.search_lanes.ensures.writes_steady (no_other c.search_lanes.result c.in-Err-search_lanes.stop _ c.in-Err-search_lanes.is apart)
+    (unread c.search_lanes.result c.in-Err-search_lanes.stop c.in-Err-search_lanes.is none)) c.halt_of.ensures
 
 pub returns-in-Err-search_lanes-clause-err : goal.returns-in-Err-search_lanes-clause-err
 returns-in-Err-search_lanes-clause-err g c =

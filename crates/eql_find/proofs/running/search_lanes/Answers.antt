@@ -1,4 +1,5 @@
 use native.Mathlib.Omega.{arith}
+use denote.Param.Send.{sendable}
 use Rattle.std.proofs.Common.{◌≡◌, ◌≤◌, true, rules, sym, ap, ◌∙◌, subst, length}
 use Rattle.eql_book.specs.Books.{BookState, FitsPipes}
 use Rattle.eql_laws.specs.Books.{greatest_shards}
@@ -16,6 +17,7 @@ use Rattle.eql_find.specs.Searching.{search_in}
 use Rattle.eql_find.specs.Starting.{pipes_of}
 use Rattle.eql_find.proofs.KeepLemmas.{keeps_from, keeps_none, keeps_weaker}
 use Rattle.eql_find.proofs.SearchLemmas.{are_searched, front_written, fronts_none, may_begin, may_stop, none_searched, own_book, rules_are, were_read, whole_written}
+use Rattle.eql_find.proofs.Sends.{reader_send, reader_sync}
 use Rattle.eql_find.proofs.StayLemmas.{stay_lanes}
 use Rattle.eql_find.proofs.running.search_lanes.Goals as goal
 
@@ -42,10 +44,62 @@ search-requires g c =
     let plan : ◌≡◌ {A = RunPlan} (record { batch = c.args.find.now.batch; every = c.every_of.result; head = c.args.head; mark = c.into_parts-mark.result.0 }) (plan_in c.args.find.now c.args.head c.args.rest.mark) =
     λ i. record { batch = c.args.find.now.batch; every = c.every_of.ensures i; head = c.args.head; mark = c.into_parts-mark.ensures.0 i } in
     let keeps = subst (λ (x : RunPlan). MayKeepOn g.D.Disk.history x (length c.args.lanes.now.items) c.args.keep.now) (sym plan) kept in
-    let stages = c.stages.ensures in
-    let span = c.span.ensures in
-    let batch = bounds.batch in
-    search rules
+    let most_hands = bounds.hands in
+    λ κs lives. (
+      lives.0,
+      (
+        lives.1.0,
+        (
+          search rules,
+          (
+            lives.1.1.0,
+            (
+              lives.1.1.1.0,
+              (
+                lives.1.1.1.1,
+                (
+                  search (sendable, c.requires.1.1.1.1.1.0),
+                  (
+                    search (sendable, reader_send),
+                    (
+                      search (sendable, c.requires.1.1.1.1.1.1.0),
+                      (
+                        search (sendable, c.requires.1.1.1.1.1.1.1.0),
+                        (
+                          search (sendable, reader_sync),
+                          (
+                            search (sendable, c.requires.1.1.1.1.1.1.1.1.0),
+                            (
+                              some,
+                              (
+                                few,
+                                (
+                                  c.requires.1.1.1.1.1.1.1.1.1.1.1.1.0,
+                                  (
+                                    c.requires.1.1.1.1.1.1.1.1.1.1.1.0,
+                                    (
+                                      bounds.batch.0,
+                                      (
+                                        bounds.batch.1,
+                                        (c.stages.ensures.from, (c.stages.ensures.to, (c.span.ensures.time, (whole, (begins, (keeps, omega (arith, most_hands))))))),
+                                      ),
+                                    ),
+                                  ),
+                                ),
+                              ),
+                            ),
+                          ),
+                        ),
+                      ),
+                    ),
+                  ),
+                ),
+              ),
+            ),
+          ),
+        ),
+      ),
+    )
 
 pub returns-in-Ok-clause-whole : goal.returns-in-Ok-clause-whole
 returns-in-Ok-clause-whole g c =

@@ -1,4 +1,4 @@
-use Rattle.std.specs.Prelude.{◌≡◌, ◌≤◌, ℕ, length}
+use Rattle.std.specs.Prelude.{◌≡◌, ◌≤◌, ◌+◌, ℕ, length}
 use Rattle.eql_rounds.specs.Finding.{own_of}
 use Rattle.eql_search.specs.Running.{AreOwnTo, list_at}
 use Rattle.eql_search.proofs.parting.make_parts.Given as goal
@@ -7,5 +7,7 @@ abbrev pub invariant-loop-number : goal.invariant-loop-number
 invariant-loop-number g l = record {
   count : length l.lists.items ≡ 16;
   left : (p : ℕ) → l.number ≤ p → list_at l.lists.items p ≡ own_of l.fn.holders p;
+  shares : 16 ≤ l.share.parts + l.number;
+  nothing : l.share.amount ≡ 0;
   made : AreOwnTo l.number (record { stages = l.stages; span = l.span }) l.fn.holders l.mark l.parts.items;
 }

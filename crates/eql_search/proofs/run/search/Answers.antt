@@ -11,7 +11,7 @@ pub search_lanes-ran-requires-clause-texts : goal.search_lanes-ran-requires-clau
 search_lanes-ran-requires-clause-texts g c =
     let taken : c.replace-taken.result.items ≡ c.args.lanes.now.items = λ i. (c.replace-taken.ensures.value i).items in
     let told_are : IfSome g.told (λ (texts : List (List ℕ)). AreTextsOf g.S.Source.left texts c.args.lanes.now.items) = search rules in
-    rw taken (are_of_texts g.S.Source.left g.told c.args.lanes.now.items told_are)
+    λ κs lives. rw taken (are_of_texts g.S.Source.left g.told c.args.lanes.now.items told_are)
 
 pub returns : goal.returns
 returns g c =
@@ -33,7 +33,7 @@ returns g c =
     let all =
     ends _ g.S.Source.left g.S.Source.lent_as g.S.Source.fault_plan read_of g.D.Disk.history g.D.Disk.fault_count (reads_by read_of lanes) (slack_by read_of lanes) c.args.stages c.args.span
     g.told c.args.plan.now lanes c.args.holders c.args.book.now (g.K.Sink.written c.args.sink.now) (g.K.Sink.fault_count c.args.sink.now) c.args.keep.now begun told_are keeps
-    g.met.L.LineReader.reads_at batch_from batch_to some few span whole may c.replace.new.dest.items c.replace-taken.result.items c.search_lanes-ran.result.1.items
+    (g.met.L.LineReader g.world.𝓛 g.world.𝓜 g.world.𝓡 ((λ s x. x), (λ x. x), (λ x. x), λ x. x)).reads_at batch_from batch_to some few span whole may c.replace.new.dest.items c.replace-taken.result.items c.search_lanes-ran.result.1.items
     ran.new.book (g.K.Sink.written ran.new.sink) (g.K.Sink.fault_count ran.new.sink) ran.new.keep ran.result.0 taken back ran.ensures.ran in
     record {
       whole = all.whole;

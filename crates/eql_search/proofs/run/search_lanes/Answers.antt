@@ -9,10 +9,11 @@ make_parts-requires-clause-may g c =
     let book = c.args.book.now in
     part_may_begin (rules_of g.L.LineReader.read_of c.args.stages c.args.span lanes) book.pipes c.args.plan.now.mark (cuts_of lanes) c.args.holders book.kept c.requires.begins
 
-pub run_parts-end-requires-clause-may : goal.run_parts-end-requires-clause-may
-run_parts-end-requires-clause-may g c =
+pub run_hub-end-requires-clause-may : goal.run_hub-end-requires-clause-may
+run_hub-end-requires-clause-may g c =
     let lanes = c.args.lanes.items in
     let read_of = g.L.LineReader.read_of in
     let is = c.requires in
-    (begins g.S.Source.left read_of (reads_by read_of lanes) (slack_by read_of lanes) c.args.stages c.args.span g.T.Opening.text lanes c.args.holders c.in-Ok.parts.items c.args.plan.now c.args.book.now
-    g.met.L.LineReader.reads_at is.lanes (c.in-Ok.ensures {u = tt}) is.span is.batch_from is.batch_to is.some is.whole is.begins).may_run
+    λ κs lives.
+    (begins g.S.Source.left read_of (reads_by read_of lanes) (slack_by read_of lanes) c.args.stages c.args.span g.T.HubOpening.text lanes c.args.holders c.in-Ok.parts.items c.args.plan.now c.args.book.now
+    (g.met.L.LineReader g.world.𝓛 g.world.𝓜 g.world.𝓡 ((λ s x. x), (λ x. x), (λ x. x), λ x. x)).reads_at is.lanes (c.in-Ok.ensures {u = tt}) is.span is.batch_from is.batch_to is.some is.whole is.begins).may_run

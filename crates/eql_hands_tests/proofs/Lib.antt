@@ -1,0 +1,2 @@
+mod Hubs
+mod Searched

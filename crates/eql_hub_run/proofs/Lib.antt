@@ -1,0 +1,13 @@
+pub mod Moves
+pub mod Hands
+pub mod Worn
+pub mod Histories
+pub mod Beginning
+pub mod Ended
+pub mod Assembled
+pub mod Splits
+pub mod Joins
+pub mod Least
+pub mod Seats
+pub mod Crossings
+pub mod Openings

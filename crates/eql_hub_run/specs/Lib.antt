@@ -1,0 +1,4 @@
+pub mod Beside
+pub mod Workers
+pub mod Gathers
+pub mod Conducted
