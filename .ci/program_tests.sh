@@ -33,7 +33,7 @@ shards=(gate-1.json desk-7.json)
 for query in break-in.eql queries/*.eql; do
     name=$(basename "$query" .eql)
     files=("@expected/$name.out" "@expected/$name.err")
-    for more in '' '--batch 1' '--batch 4096' '--hands 0' '--hands 16'; do
+    for more in '' '--hands 0' '--batch 1 --hands 0' '--batch 1 --hands 2' '--batch 4096 --hands 3'; do
         # shellcheck disable=SC2086
         expect "$name $more" 0 "${files[@]}" find --query "$query" --fields fields.json --slack 1m $more "${shards[@]}"
     done
@@ -47,6 +47,19 @@ expect 'places' 0 @expected/break-in-places.out @expected/break-in.err "${break_
 expect 'tiebreaker' 0 @expected/02-office-child-tiebreaker.out @expected/02-office-child.err \
     find --query queries/02-office-child.eql --fields fields.json --slack 1m --tiebreaker event.sequence "${shards[@]}"
 expect 'check' 0 @expected/break-in-check.out '' check --query break-in.eql --fields fields.json
+
+# Hands change no byte of what is written, whatever the batch.
+for hands in 0 1 2 4 16; do
+    for batch in 1 7 256; do
+        expect "$hands hands, batch $batch" 0 @expected/break-in-places.out @expected/break-in.err \
+            "${break_in[@]}" --slack 1m --places --batch "$batch" --hands "$hands" "${shards[@]}"
+    done
+done
+printf '{"@timestamp":%d}\n' 10000 3000 6000 >late.json
+for hands in 0 4; do
+    expect "a late line, $hands hands" 0 $'1 [] 0:3\n2 [] 0:1\n' $'shard 0: lines 3 accepted 2 late 1 rejected 0\n' \
+        "${any[@]}" --slack 5s --batch 3 --hands "$hands" late.json
+done
 
 # Streams: the query, the mapping or a shard comes through a pipe or from the input.
 through() { # NAME INPUT WORD..
@@ -98,8 +111,11 @@ reject Range '{"@timestamp":1,"process.pid":9223372036854775808}'
 # A search over events that the program makes itself: four lines on what it found, and no report.
 expect 'made 0' 0 $'events 0\nmatches 0\nfirst none\nlast none\n' '' made 0
 expect 'made 201' 0 $'events 201\nmatches 1\nfirst 1 ["u0"] 0:1 0:26 0:51\nlast 1 ["u0"] 0:1 0:26 0:51\n' '' made 201
-expect 'made 300000' 0 $'events 300000\nmatches 100000\nfirst 1 ["u0"] 0:1 0:26 0:51\nlast 100000 ["u99"] 3:74950 3:74975 3:75000\n' '' \
-    made --hands 4 300000
+for hands in 0 1 2 4 16; do
+    expect "made 300000, $hands hands" 0 \
+        $'events 300000\nmatches 100000\nfirst 1 ["u0"] 0:1 0:26 0:51\nlast 100000 ["u99"] 3:74950 3:74975 3:75000\n' '' \
+        made --hands "$hands" 300000
+done
 
 # Status 1: a file isn't there. The files count in the order query, mapping, shards.
 expect 'no query' 1 '' $'no file nowhere\n' find --query nowhere --fields nothing none
@@ -168,7 +184,8 @@ mapping 'mapping: MapKind user' '{"user":{"name":"keyword"}}'
 refuse 'check: ManyFields 65' fields-65.eql most.json
 
 # Checkpoints: a run keeps its state in two files, and a later run goes on from there. The first run keeps a cut after five lines
-# and one after ten. Its disk is tried as it is, and in the formats that older versions left.
+# and one after ten, since it has no hands: with hands rounds read other numbers of lines. Its disk is tried as it is, and in the
+# formats that older versions left.
 events() { printf '{"@timestamp":%s,"event":{"category":"process"},"user":{"name":"%s"},"process":{"name":"%s"}}\n' "$@"; }
 events 1000 root attrib 2000 root attrib 3000 elkbee bash 4000 root bash 5000 root bash 6000 elkbee attrib 7000 root attrib \
     8000 elkbee bash 9000 root cat 10000 elkbee cat 11000 root cat >eleven.json
@@ -197,6 +214,21 @@ expect 'checkpoint: nothing to keep' 0 '' $'shard 0: lines 0 accepted 0 late 0 r
 want '' ''
 cmp c.0 first.0 >got.out 2>got.err && cmp c.1 first.1 >>got.out 2>>got.err
 judge 'checkpoint: no cut is kept at the end' $? 0
+# Which cuts a run with hands keeps depends on what they read meanwhile. A later run lists an end of the listing all the same.
+for hands in 1 2 4; do
+    expect "checkpoint: a first run, $hands hands" 0 "$both" "$eleven" \
+        "${kept[@]}" --batch 1 --hands "$hands" --checkpoint "by-$hands" --every 1 eleven.json
+    for later in 0 3; do
+        cp "by-$hands.0" again.0 && cp "by-$hands.1" again.1
+        "$program" "${kept[@]}" --batch 2 --hands "$later" --checkpoint again --every 1 eleven.json >got.out 2>got.err
+        status=$?
+        want '' "$eleven"
+        case $(cat got.out) in
+            "${both%$'\n'}" | "${rest%$'\n'}") cp got.out want.out ;;
+        esac
+        judge "checkpoint: $later hands go on from $hands" "$status" 0
+    done
+done
 places=$'2 ["elkbee"] 0:6@506 0:8@712 0:10@913\n'
 for format in 1 2 3; do
     "$top/.ci/make_disk.py" "$format" "old-$format" "$top/.ci/old_cuts.json"
@@ -228,7 +260,7 @@ not_resumed 'NoLine shard 0 line 6' old-1 "${words[@]}" spaced.json
 events 1000 root vi >one.json
 expect 'checkpoint: two shards' 0 $'1 ["root"] 1:2 1:4 1:9\n2 ["elkbee"] 1:6 1:8 1:10\n' \
     $'shard 0: lines 1 accepted 1 late 0 rejected 0\nshard 1: lines 11 accepted 11 late 0 rejected 0\n' \
-    "${kept[@]}" --batch 1 --checkpoint two --every 5 one.json eleven.json
+    "${kept[@]}" --batch 1 --hands 0 --checkpoint two --every 5 one.json eleven.json
 { cat one.json; printf ' '; } >grown.json
 not_resumed 'Grown shard 0' two "${words[@]}" grown.json eleven.json
 want '' ''
@@ -238,7 +270,7 @@ judge 'checkpoint: a refused run changes nothing' $? 0
 # Status 6: the disk's files can't be opened, read or written. Status 9: its generations come to their end. What was found before
 # stays written.
 no_disk() { # NAME DISK
-    expect "checkpoint disk: $1" 6 '' $'checkpoint disk fault\n' "${kept[@]}" --batch 1 --checkpoint "$2" --every 1 eleven.json
+    expect "checkpoint disk: $1" 6 '' $'checkpoint disk fault\n' "${kept[@]}" --batch 1 --hands 0 --checkpoint "$2" --every 1 eleven.json
 }
 mkdir blocked.0 blocked-too.1
 no_disk 'a folder in place of the first file' blocked
@@ -248,11 +280,15 @@ ln -s /dev/full full.0
 no_disk 'a device without room' full
 cp old-2.1 last.1
 printf '\0\0\0\0\0\0\0\200' | dd of=last.1 bs=1 seek=1 conv=notrunc status=none
-expect 'checkpoint: the last generation' 9 "$rest" $'limit: generation\n' "${kept[@]}" --batch 1 --checkpoint last --every 1 eleven.json
+expect 'checkpoint: the last generation' 9 "$rest" $'limit: generation\n' \
+    "${kept[@]}" --batch 1 --hands 0 --checkpoint last --every 1 eleven.json
 
 # Status 4: a folder opens and fails at its first read.
 mkdir folder
-expect 'a folder as a shard' 4 '' $'read fault: folder\n' "${any[@]}" three.json folder
+for hands in 0 1 4; do
+    expect "a folder as a shard, $hands hands" 4 '' $'read fault: folder\n' "${any[@]}" --hands "$hands" three.json folder
+    expect "two folders as shards, $hands hands" 4 '' $'read fault: folder\n' "${any[@]}" --hands "$hands" folder folder
+done
 expect 'a folder as the query' 4 '' $'read fault: folder\n' find --query folder --fields fields.json three.json
 expect 'a folder as the mapping' 4 '' $'read fault: folder\n' check --query any.eql --fields folder
 
@@ -267,6 +303,7 @@ full() { # out|err NAME STATUS WANTED WORD..
     judge "$name" $? "$status"
 }
 full out 'no room for the listing' 5 $'write fault\n' "${break_in[@]}" "${shards[@]}"
+full out 'no room for the listing, 4 hands' 5 $'write fault\n' "${break_in[@]}" --slack 1m --batch 1 --hands 4 "${shards[@]}"
 full out 'no room for the canonical text' 5 $'write fault\n' check --query any.eql --fields fields.json
 full err 'no room for the report' 5 @expected/break-in.out "${break_in[@]}" --slack 1m "${shards[@]}"
 full err 'no room for the line about a missing file' 1 '' "${any[@]}" none

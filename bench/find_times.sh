@@ -1,7 +1,8 @@
 #!/usr/bin/env bash
-# The seconds, those of the processor, and the megabytes a second of `eql find`, of Python's json, and of jq with sort and awk, for one and the same
-# sequence of three stages by one key over the same three shards of 20 megabytes, all from one run. Each tool runs once over
-# files that were just written. The listings have to be equal. A tool that the machine lacks is left out.
+# The seconds, those of the processor, and the megabytes a second of `eql find`, of Python's json, of jq with sort and awk, and
+# of C++ over simdjson, for one and the same sequence of three stages by one key over the same three shards of 20 megabytes, all
+# from one run. Each tool runs once over files that were just written. The listings have to be equal. A tool that the machine
+# lacks is left out.
 #
 # usage: bench/find_times.sh [PROGRAM]        PROGRAM is the built program, crates/eql/out/eql where none is given
 set -euo pipefail
@@ -34,4 +35,10 @@ if command -v jq >/dev/null; then
     measure jq-awk "$tools/by_jq.sh" "${shards[@]}"
 else
     echo 'jq-awk       left out: no jq here'
+fi
+# Without a C++ compiler or the library (Debian's g++ and libsimdjson-dev) it isn't built.
+if g++ -O3 -std=c++17 -o "$room/by_simdjson" "$tools/by_simdjson.cpp" -lsimdjson 2>/dev/null; then
+    measure simdjson "$room/by_simdjson" "${shards[@]}"
+else
+    echo 'simdjson     left out: no simdjson here'
 fi
