@@ -10,8 +10,11 @@ pub mod MarkOrder
 pub mod Looks
 pub mod Takes
 pub mod Owned
+pub mod Spread
 pub mod Parted
 pub mod Merged
+pub mod FittingLaws
+pub mod FittingRounds
 pub mod Stays
 pub mod Ranges
 pub mod Broken

@@ -6,6 +6,7 @@ pub mod LaneRounds
 pub mod PartRounds
 pub mod Rounds
 pub mod Handed
+pub mod Fitting
 pub mod RoundNotes
 pub mod Snaps
 pub mod Saving
@@ -16,3 +17,4 @@ pub mod Openings
 pub mod RunLaws
 pub mod Records
 pub mod Running
+pub mod PartLists

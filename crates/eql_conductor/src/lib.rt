@@ -5,6 +5,7 @@
 mod advance;
 mod bench;
 mod feeding;
+mod fitting;
 mod keeping;
 mod laws;
 mod note;

@@ -3,7 +3,9 @@
 ghost use Rattle.std.specs.Prelude.{◌≡◌, ◌<◌, ◌≤◌, ◌+◌, ◌∷◌, ◌++◌, [], ℕ, List, length, map, IfErr, IfOk, OnErr, OnOk};
 ghost use Rattle.eql_values.specs.declared.found.Holder.{Holder};
 ghost use Rattle.eql_values.specs.Ordered.{numbers};
+ghost use Rattle.eql_values.specs.Routing.{routed};
 ghost use Rattle.eql_parts.specs.PartSteps.{CanDeliver, Rules};
+ghost use Rattle.eql_parts.specs.Spreading.{part_number};
 ghost use Rattle.eql_rounds.specs.Finding.{found_of};
 ghost use Rattle.eql_conductor.specs.Benches.{LanesRest, Same};
 ghost use Rattle.eql_conductor.specs.Going.{StopsBy, Went};
@@ -12,22 +14,23 @@ ghost use Rattle.eql_conductor.specs.RoundNotes.{PartNoted, PartsNoted, TurnNote
 ghost use Rattle.eql_conductor.specs.declared.stop.Stop.TheVariants.{Memory as OutOfMemory};
 
 use crate::bench::Bench;
-use crate::routing::routed;
+use crate::routing::spread;
 use crate::stop::{Stop, unplayed};
 use eql_parts::{PartOp, PartReply};
 use eql_values::{Items, Mark, Matches};
 use std::alloc::Global;
 
-// Delivers to one part its events.
+// Delivers to one part its own of all events.
 fn deliver_one<B: Bench>(
-    alloc: Global,
     bench: &mut B,
     p: u32,
     items: &Items,
+    own: Items,
     last: Mark,
     mark: Mark,
 ) -> Result<(), Stop>
     requires place { p < (B.known bench.old).parts }
+    requires own { own ≡ routed part_number p items.now }
     requires can { CanDeliver last items.now mark }
     requires some { SomeDelivering items.now last mark p (B.known bench.old) }
     ensures parts { (rules : Rules) (all : List Holder)
@@ -39,11 +42,7 @@ fn deliver_one<B: Bench>(
     ensures stops { IfErr result (λ stop. StopsBy stop (B.known bench.old) (B.known bench.new)) }
     ensures notes { PartNoted p 0 1 (B.known bench.old) (B.known bench.new) }
 {
-    let items = match routed(alloc, items, p) {
-        Ok(items) => items,
-        Err(_) => return Err(Stop::Memory),
-    };
-    match bench.part(p, PartOp::Deliver { items, mark }) {
+    match bench.part(p, PartOp::Deliver { items: own, mark }) {
         Err(by) => Err(unplayed(by)),
         Ok(PartReply::Done) => Ok(()),
         Ok(PartReply::Memory { back: _, items: _ }) => Err(Stop::Memory),
@@ -70,9 +69,16 @@ pub(crate) fn deliver_all<B: Bench>(
     ensures stops { IfErr result (λ stop. StopsBy stop (B.known bench.old) (B.known bench.new)) }
     ensures notes { PartsNoted (λ p. 0) 1 (B.known bench.old) (B.known bench.new) }
 {
+    let mut lists = match spread(alloc, items) {
+        Ok(lists) => lists.into_iter(),
+        Err(_) => return Err(Stop::Memory),
+    };
     let count = bench.parts();
     for p in 0..count {
-        deliver_one(alloc, bench, p, items, last, mark)?;
+        let Some(own) = lists.next() else {
+            unreachable!()
+        };
+        deliver_one(bench, p, items, own, last, mark)?;
     }
     Ok(())
 }

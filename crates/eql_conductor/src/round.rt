@@ -1,30 +1,30 @@
-//! The part of a round behind the mark, call by call: what lies below the mark is taken and put in order, played by the
-//! parts, and what they find is put in order.
-ghost use Rattle.std.specs.Prelude.{◌≡◌, ◌≤◌, ◌∷◌, [], ℕ, ℤ, List, Option, None, length, IfErr, IfOk, OnErr, OnOk};
+//! The part of a round behind the mark, call by call: what lies below the mark is taken, and of it the events that have routes are
+//! put in order and played by the parts. What they find is put in order.
+ghost use Rattle.std.specs.Prelude.{◌≡◌, ◌≤◌, ◌∷◌, [], ℕ, List, Option, None, IfErr, IfOk, OnErr, OnOk};
 ghost use Rattle.eql_values.specs.declared.found.Holder.{Holder};
-ghost use Rattle.eql_values.specs.Accepted.{Reads};
-ghost use Rattle.eql_laws.specs.Belows.{between};
 ghost use Rattle.eql_laws.specs.Lateness.{AtMost};
 ghost use Rattle.eql_parts.specs.PartSteps.{CanDeliver, Rules};
 ghost use Rattle.eql_conductor.specs.Benches.{LanesRest, PartsRest, Same};
 ghost use Rattle.eql_conductor.specs.Bounds.{AllGaveOut};
+ghost use Rattle.eql_conductor.specs.Fitting.{TakesFitting};
 ghost use Rattle.eql_conductor.specs.Going.{LanesGo, StopsBy, Went};
 ghost use Rattle.eql_conductor.specs.Handed.{HandedOut};
 ghost use Rattle.eql_conductor.specs.LaneRounds.{IsSafe, LanesAt};
 ghost use Rattle.eql_conductor.specs.PartRounds.{Resting, SomeResting, pending_after};
 ghost use Rattle.eql_conductor.specs.RoundNotes.{LanesBroken, LanesNoted, PartsNoted, delivered_to};
-ghost use Rattle.eql_conductor.specs.Rounds.{OfTexts, found_by};
+ghost use Rattle.eql_conductor.specs.Rounds.{found_by};
 ghost use Rattle.eql_conductor.specs.declared.note.Note.TheVariants.{Took};
 
 use crate::bench::Bench;
+use crate::fitting::merge_fitting;
 use crate::playing::{collect_all, deliver_all, turn_all};
 use crate::stop::Stop;
 use crate::taking::take_all;
-use eql_merge::{merge, merge_matches};
+use eql_merge::merge_matches;
 use eql_values::{Items, Mark, Matches};
 use std::alloc::Global;
 
-/// Takes from each lane what lies below a safe mark, and puts it in order.
+/// Takes from each lane what lies below a safe mark, and puts the events that have routes in order.
 pub(crate) fn take_in_order<B: Bench>(
     alloc: Global,
     bench: &mut B,
@@ -34,10 +34,8 @@ pub(crate) fn take_in_order<B: Bench>(
     requires lanes { LanesAt None last (B.known bench.old) }
     requires safe { IsSafe mark (B.known bench.old) }
     requires later { AtMost last mark }
-    ensures can { IfOk result (λ items. CanDeliver last items mark) }
-    ensures told { (reads : Reads) (slack : Option ℤ) (texts : List (List ℕ))
-        → OfTexts reads slack texts last (B.known bench.old)
-        → IfOk result (λ items. items ≡ between reads slack texts last mark) }
+    ensures taken { IfOk result (TakesFitting last mark
+        (B.known bench.old) (B.known bench.new)) }
     ensures lanes { (texts : Option (List (List ℕ))) → LanesAt texts last (B.known bench.old)
         → OnOk result (LanesAt texts mark (B.known bench.new)) }
     ensures goes { LanesGo (B.known bench.old) (B.known bench.new) }
@@ -45,8 +43,6 @@ pub(crate) fn take_in_order<B: Bench>(
     ensures went { OnOk result (Went (B.known bench.old) (B.known bench.new)) }
     ensures stops { IfErr result (λ stop. StopsBy stop (B.known bench.old) (B.known bench.new)) }
     ensures gave { OnOk result (AllGaveOut mark (B.known bench.old) (B.known bench.new)) }
-    ensures handed { IfOk result (λ items. HandedOut (length items)
-        (B.known bench.old) (B.known bench.new)) }
     ensures none_handed { OnErr result (HandedOut 0 (B.known bench.old) (B.known bench.new)) }
     ensures notes { OnOk result (LanesNoted (λ s. Took mark ∷ [])
         (B.known bench.old) (B.known bench.new)) }
@@ -54,7 +50,7 @@ pub(crate) fn take_in_order<B: Bench>(
         (B.known bench.old) (B.known bench.new)) }
 {
     let lists = take_all(alloc, bench, last, mark)?;
-    match merge(alloc, lists) {
+    match merge_fitting(alloc, lists) {
         Ok(items) => Ok(items),
         Err(_) => Err(Stop::Memory),
     }
