@@ -3,7 +3,7 @@ use Rattle.std.proofs.Common.{◌≡◌, ◌≤◌, ◌+◌, inl, inr, ℕ, Bool
 use Rattle.std.proofs.lemmas.List.{append-nil}
 use Rattle.eql_turn_lock.specs.declared.view.View.{View}
 use Rattle.eql_turn_lock.specs.declared.refused.NotNow.TheVariants.{Busy, Worn}
-use Rattle.eql_turn_lock.specs.Calls.{IsUnplayed, MetStill, PlaysOnce, Refuses}
+use Rattle.eql_turn_lock.specs.Calls.{IsUnplayed, MetIdle, PlaysOnce, Refuses}
 use Rattle.eql_turn_lock.specs.History.{StartsWith, entry}
 use Rattle.eql_hands.specs.Growth.{HasLooked, HasMineWithin, IsLater}
 
@@ -106,9 +106,10 @@ module _ {T O R : Type 0} where
   pub step_worn : (v w : View T O R) (op back : O) (word : ℕ) → Refuses v op (Worn word back) w → IsStep v w
   step_worn v w op back word (same, is, great, looked) = unplayed v w is.0 is.1 is.2 is.3 is.4 is.5 (word ∷ [], looked)
 
-  -- the lock's word was looked at alone
-  pub step_still : (v w : View T O R) (word : ℕ) → IsUnplayed v w → MetStill v word w → IsStep v w
-  step_still v w word is met = unplayed v w is.0 is.1 is.2 is.3 is.4 is.5 (word ∷ [], met.1)
+  -- the last reply was idle, and nothing was played
+  module _ (step_of : T → O → R → T → Type 0) (is_idle : R → Bool) (v w : View T O R) (met : MetIdle step_of is_idle v w) where
+    pub step_idle : IsUnplayed v w → IsStep v w
+    step_idle is = unplayed v w is.0 is.1 is.2 is.3 is.4 is.5 (met.word ∷ [], met.looked_is)
 
-  pub still_looked : (v w : View T O R) (word : ℕ) → MetStill v word w → HasLooked 1 v w
-  still_looked v w word met = let a = ap length met.1 in let b = length-append v.looked (word ∷ []) in omega (arith, a, b)
+    pub idle_looked : HasLooked 1 v w
+    idle_looked = let a = ap length met.looked_is in let b = length-append v.looked (met.word ∷ []) in omega (arith, a, b)

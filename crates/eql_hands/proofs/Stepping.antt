@@ -11,9 +11,9 @@ use Rattle.eql_hub.specs.declared.step.Did.TheVariants as did
 use Rattle.eql_hub.specs.declared.step.HandFault.TheVariants as fault
 use Rattle.eql_hub.specs.Hands.{HandView, LaneKnown, PartKnown}
 use Rattle.eql_hub.specs.Steps.{EachPlace, LaneEnded, LaneEnds, LaneIdle, LaneQuiet, PartEnded, PartEnds, PartIdle, PartQuiet, Steps}
-use Rattle.eql_hub.specs.Turns.{LaneTurn, PartTurn, is_open_lane, is_open_part}
+use Rattle.eql_hub.specs.Turns.{LaneTurn, PartTurn, is_idle_lane, is_idle_part, is_open_lane, is_open_part}
 use Rattle.eql_hands.specs.Growth.{EachPass, HasLooked, HaveLooked, mine_in, mine_of}
-use Rattle.eql_hands.proofs.Passes.{IsStep, busy_looked, mine_grows, played_looked, played_one, step_busy, step_played, step_same, step_still, step_worn, still_looked}
+use Rattle.eql_hands.proofs.Passes.{IsStep, busy_looked, idle_looked, mine_grows, played_looked, played_one, step_busy, step_idle, step_played, step_same, step_worn}
 use Rattle.eql_hands.proofs.Places.{each_as, each_at, sum_grows, sum_grows_at}
 
 -- what one step does to each pass
@@ -24,12 +24,12 @@ AreSteps old new = EachPass IsStep IsStep old new
 part_idle_step : (batch : ℕ) (v w : PartKnown) → PartIdle batch v w → IsStep v w
 part_idle_step batch v w (inl h) = step_played PartTurn is_open_part v w (part_op.Turn batch) part_reply.Idle h
 part_idle_step batch v w (inr (inl (word, h))) = step_busy v w (part_op.Turn batch) (part_op.Turn batch) word h
-part_idle_step batch v w (inr (inr (word, saw, is, met))) = step_still v w word is met
+part_idle_step batch v w (inr (inr (is, met))) = step_idle PartTurn is_idle_part v w met is
 
 part_idle_looked : (batch : ℕ) (v w : PartKnown) → PartIdle batch v w → HasLooked 1 v w
 part_idle_looked batch v w (inl h) = played_looked PartTurn is_open_part v w (part_op.Turn batch) part_reply.Idle h
 part_idle_looked batch v w (inr (inl (word, h))) = busy_looked v w (part_op.Turn batch) (part_op.Turn batch) word h
-part_idle_looked batch v w (inr (inr (word, saw, is, met))) = still_looked v w word met
+part_idle_looked batch v w (inr (inr (is, met))) = idle_looked PartTurn is_idle_part v w met
 
 part_quiet_step : (batch : ℕ) (v w : PartKnown) → PartQuiet batch v w → IsStep v w
 part_quiet_step batch v w (inl e) = step_same v w e
@@ -50,13 +50,13 @@ module _ {S L : Type 0} (left lent_as : S → Option (List ℕ)) (fault_plan : S
   lane_idle_step v w (inl (ready, h)) = step_played (LaneTurn left lent_as fault_plan read_of) is_open_lane v w (lane_op.Feed batch) (lane_reply.Held ready) h
   lane_idle_step v w (inr (inl h)) = step_played (LaneTurn left lent_as fault_plan read_of) is_open_lane v w (lane_op.Feed batch) lane_reply.Closed h
   lane_idle_step v w (inr (inr (inl (word, h)))) = step_busy v w (lane_op.Feed batch) (lane_op.Feed batch) word h
-  lane_idle_step v w (inr (inr (inr (word, saw, is, met)))) = step_still v w word is met
+  lane_idle_step v w (inr (inr (inr (is, met)))) = step_idle (LaneTurn left lent_as fault_plan read_of) is_idle_lane v w met is
 
   lane_idle_looked : (v w : LaneKnown S L) → LaneIdle left lent_as fault_plan read_of batch v w → HasLooked 1 v w
   lane_idle_looked v w (inl (ready, h)) = played_looked (LaneTurn left lent_as fault_plan read_of) is_open_lane v w (lane_op.Feed batch) (lane_reply.Held ready) h
   lane_idle_looked v w (inr (inl h)) = played_looked (LaneTurn left lent_as fault_plan read_of) is_open_lane v w (lane_op.Feed batch) lane_reply.Closed h
   lane_idle_looked v w (inr (inr (inl (word, h)))) = busy_looked v w (lane_op.Feed batch) (lane_op.Feed batch) word h
-  lane_idle_looked v w (inr (inr (inr (word, saw, is, met)))) = still_looked v w word met
+  lane_idle_looked v w (inr (inr (inr (is, met)))) = idle_looked (LaneTurn left lent_as fault_plan read_of) is_idle_lane v w met
 
   lane_quiet_step : (v w : LaneKnown S L) → LaneQuiet left lent_as fault_plan read_of batch v w → IsStep v w
   lane_quiet_step v w (inl e) = step_same v w e

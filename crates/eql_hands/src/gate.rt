@@ -11,7 +11,7 @@ pub enum Moment {
 
 /// What a hand passes at each moment of its steps.
 pub trait Gate {
-    /// Passes the gate with the hand of this number, which is 0 for the first.
+    /// Passes the gate with the hand of this number. Those beside the conductor count from 1.
     fn step(&self, hand: u32, moment: Moment);
 }
 

@@ -19,18 +19,23 @@ const MOST_IDLE: u32 = 100_000;
 // So many steps a hand does at most.
 const MOST_STEPS: u64 = 1_099_511_627_776;
 
-// After so many steps in a row that found nothing to do the thread lets others run between two steps.
+// So often the processor is told to rest between two steps at most.
 const MOST_SPINS: u32 = 16;
 
-// Pauses after so many steps in a row that found nothing to do: the processor is told to rest, longer each time, and then other
-// threads are let run each time. So a hand that is idle asks the locks less often, and leaves its processor to those at work. It
-// waits for nobody.
+// After more than `MOST_SPINS` steps in a row that found nothing to do, the thread lets others run at every eighth of them.
+const STEPS_A_YIELD: u32 = 8;
+
+// Pauses after so many steps in a row that found nothing to do. After the first few the processor is told to rest, longer each
+// time. After more than 16 it is told so once, and at every eighth step other threads are let run instead. So a hand that is idle
+// leaves its processor to those at work, and comes to its end soon where no work comes. It waits for nobody.
 fn pause(idle: u32) {
-    if idle > MOST_SPINS {
+    if idle <= MOST_SPINS {
+        for _ in 0..idle {
+            spin_loop();
+        }
+    } else if idle % STEPS_A_YIELD == 0 {
         yield_now();
-        return;
-    }
-    for _ in 0..idle {
+    } else {
         spin_loop();
     }
 }

@@ -55,7 +55,7 @@ module _ {T O R : Type 0} where
 part_idle_more : (batch : ℕ) (v w : PartKnown) → PartIdle batch v w → OneMore v w
 part_idle_more batch v w (inl h) = more_played PartTurn is_open_part v w (part_op.Turn batch) part_reply.Idle h
 part_idle_more batch v w (inr (inl (word, h))) = more_refused v w (part_op.Turn batch) (Busy word (part_op.Turn batch)) h
-part_idle_more batch v w (inr (inr h)) = more_unplayed v w h.2
+part_idle_more batch v w (inr (inr h)) = more_unplayed v w h.0
 
 part_quiet_more : (batch : ℕ) (v w : PartKnown) → PartQuiet batch v w → OneMore v w
 part_quiet_more batch v w (inl e) = more_same v w e
@@ -74,7 +74,7 @@ module _ {S L : Type 0} (left lent_as : S → Option (List ℕ)) (fault_plan : S
   lane_idle_more v w (inl (ready, h)) = more_played (LaneTurn left lent_as fault_plan read_of) is_open_lane v w (lane_op.Feed batch) (lane_reply.Held ready) h
   lane_idle_more v w (inr (inl h)) = more_played (LaneTurn left lent_as fault_plan read_of) is_open_lane v w (lane_op.Feed batch) lane_reply.Closed h
   lane_idle_more v w (inr (inr (inl (word, h)))) = more_refused v w (lane_op.Feed batch) (Busy word (lane_op.Feed batch)) h
-  lane_idle_more v w (inr (inr (inr h))) = more_unplayed v w h.2
+  lane_idle_more v w (inr (inr (inr h))) = more_unplayed v w h.0
 
   lane_quiet_more : (v w : LaneKnown S L) → LaneQuiet left lent_as fault_plan read_of batch v w → OneMore v w
   lane_quiet_more v w (inl e) = more_same v w e

@@ -2,6 +2,5 @@ pub mod Lists
 pub mod Views
 pub mod Tries
 pub mod Sweeping
-pub mod Quiet
 pub mod Growing
 pub mod Sends

@@ -12,7 +12,7 @@ use Rattle.eql_hub.specs.declared.step.Did.{Did}
 use Rattle.eql_hub.specs.declared.step.Did.TheVariants as did
 use Rattle.eql_hub.specs.Hands.{HandView, Knows, LaneKnown, PartKnown}
 use Rattle.eql_hub.specs.Steps.{LaneEnded, LaneEnds, LaneIdle, LaneQuiet, PartEnded, PartEnds, PartIdle, PartQuiet, Steps}
-use Rattle.eql_hub.specs.Sweeps.{EndsAt, EndsAtLane, EndsAtPart, Passed, StopsAt, Swept, Tried, did_in}
+use Rattle.eql_hub.specs.Sweeps.{EndsAt, EndsAtLane, EndsAtPart, Passed, StopsAt, Swept, TriesPlace, did_in}
 use Rattle.eql_hub.specs.Turns.{LaneTurn, PartTurn, is_open_lane, is_open_part}
 
 -- a number below another, or not
@@ -91,7 +91,7 @@ module _ {S L : Type 0} (left lent_as : S → Option (List ℕ)) (fault_plan : S
   pub lane_tried : (place : ℕ) (tried : Option Did) (old new : HandView S L) → place < n → new.lanes.locks ≡ old.lanes.locks → new.parts ≡ old.parts
       → ChangesAt place (λ (v w : LaneKnown S L). MatchOption tried (LaneIdle left lent_as fault_plan read_of batch v w) (λ answer. LaneEnds left lent_as fault_plan read_of batch answer place v w)
       × KnowsHistory (LaneTurn left lent_as fault_plan read_of) is_open_lane w) old.lanes.views new.lanes.views
-      → Tried left lent_as fault_plan read_of batch n place tried old new
+      → TriesPlace left lent_as fault_plan read_of batch n place tried old new
   lane_tried place (Some answer) old new inside locks parts c = record {
     ends = inl (
       inside,
@@ -128,7 +128,7 @@ module _ {S L : Type 0} (left lent_as : S → Option (List ℕ)) (fault_plan : S
 
   pub part_tried : (place part : ℕ) (tried : Option Did) (old new : HandView S L) → place ≡ n + part → new.parts.locks ≡ old.parts.locks → new.lanes ≡ old.lanes
       → ChangesAt part (λ (v w : PartKnown). MatchOption tried (PartIdle batch v w) (λ answer. PartEnds batch answer part v w) × KnowsHistory PartTurn is_open_part w) old.parts.views new.parts.views
-      → Tried left lent_as fault_plan read_of batch n place tried old new
+      → TriesPlace left lent_as fault_plan read_of batch n place tried old new
   part_tried place part (Some answer) old new inside locks lanes c = record {
     ends = inr (
       part,

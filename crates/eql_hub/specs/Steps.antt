@@ -12,13 +12,12 @@ use Rattle.eql_parts.specs.declared.ops.PartReply.{PartReply}
 use Rattle.eql_parts.specs.declared.ops.PartReply.TheVariants as part_reply
 use Rattle.eql_turn_lock.specs.declared.view.View.{View}
 use Rattle.eql_turn_lock.specs.declared.refused.NotNow.TheVariants.{Busy, Worn}
-use Rattle.eql_turn_lock.specs.Calls.{PlaysOnce, Refuses}
+use Rattle.eql_turn_lock.specs.Calls.{IsUnplayed, MetIdle, PlaysOnce, Refuses}
 use Rattle.eql_hub.specs.declared.step.Did.{Did}
 use Rattle.eql_hub.specs.declared.step.Did.TheVariants as did
 use Rattle.eql_hub.specs.declared.step.HandFault.TheVariants as fault
 use Rattle.eql_hub.specs.Hands.{HandView, LaneKnown, PartKnown}
-use Rattle.eql_hub.specs.Quiet.{FedNothing, FoundStill, TurnedNothing}
-use Rattle.eql_hub.specs.Turns.{LaneTurn, PartTurn, is_open_lane, is_open_part}
+use Rattle.eql_hub.specs.Turns.{LaneTurn, PartTurn, is_idle_lane, is_idle_part, is_open_lane, is_open_part}
 
 -- two lists are related so, place by place
 pub record EachPlace {X : Type 0} (Related : X → X → Type 0) (old new : List X) : Type 0 where
@@ -47,13 +46,13 @@ PartBusy batch v w = (word : ℕ) × Refuses v (part_op.Turn batch) (Busy word (
 abbrev pub PartWorn : (batch : ℕ) → PartKnown → PartKnown → Type 0
 PartWorn batch v w = (word : ℕ) × Refuses v (part_op.Turn batch) (Worn word (part_op.Turn batch)) w
 
--- the part's lock still had the word at which the last call that the pass has seen was a turn answered `Idle`
-abbrev pub PartStill : PartKnown → PartKnown → Type 0
-PartStill v w = FoundStill TurnedNothing v w
+-- the lock's word counts a history whose last reply was `Idle`, and nothing was played
+abbrev pub PartMetIdle : PartKnown → PartKnown → Type 0
+PartMetIdle v w = IsUnplayed v w × MetIdle PartTurn is_idle_part v w
 
--- nothing was to be done there: no event waits, or the lock was busy, or nothing changed since no event waited
+-- nothing was to be done there: no event waits, or the lock was busy, or the last reply there said that no event waits
 abbrev pub PartIdle : (batch : ℕ) → PartKnown → PartKnown → Type 0
-PartIdle batch v w = PartAnswers batch part_reply.Idle v w ⊎ (PartBusy batch v w ⊎ PartStill v w)
+PartIdle batch v w = PartAnswers batch part_reply.Idle v w ⊎ (PartBusy batch v w ⊎ PartMetIdle v w)
 
 -- it wasn't tried, or nothing was to be done
 abbrev pub PartQuiet : (batch : ℕ) → PartKnown → PartKnown → Type 0
@@ -82,13 +81,14 @@ module _ {S L : Type 0} (left lent_as : S → Option (List ℕ)) (fault_plan : S
   abbrev pub LaneWorn : LaneKnown S L → LaneKnown S L → Type 0
   LaneWorn v w = (word : ℕ) × Refuses v (lane_op.Feed batch) (Worn word (lane_op.Feed batch)) w
 
-  -- the lane's lock still had the word at which the last call that the pass has seen was a feed answered `Held` or `Closed`
-  abbrev pub LaneStill : LaneKnown S L → LaneKnown S L → Type 0
-  LaneStill v w = FoundStill FedNothing v w
+  -- the lock's word counts a history whose last reply was `Held` or `Closed`, and nothing was played
+  abbrev pub LaneMetIdle : LaneKnown S L → LaneKnown S L → Type 0
+  LaneMetIdle v w = IsUnplayed v w × MetIdle (LaneTurn left lent_as fault_plan read_of) is_idle_lane v w
 
-  -- nothing was to be done there: the lane holds enough or is closed, or the lock was busy, or nothing changed since the lane held enough or was closed
+  -- nothing was to be done there: the lane holds enough or is closed, or the lock was busy, or the last reply there said that the lane holds enough or is
+  -- closed
   abbrev pub LaneIdle : LaneKnown S L → LaneKnown S L → Type 0
-  LaneIdle v w = ((ready : ℕ) × LaneAnswers (lane_reply.Held ready) v w) ⊎ (LaneAnswers lane_reply.Closed v w ⊎ (LaneBusy v w ⊎ LaneStill v w))
+  LaneIdle v w = ((ready : ℕ) × LaneAnswers (lane_reply.Held ready) v w) ⊎ (LaneAnswers lane_reply.Closed v w ⊎ (LaneBusy v w ⊎ LaneMetIdle v w))
 
   -- it wasn't tried, or nothing was to be done
   abbrev pub LaneQuiet : LaneKnown S L → LaneKnown S L → Type 0

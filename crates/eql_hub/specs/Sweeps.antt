@@ -1,5 +1,5 @@
 -- How a hand goes over its places: the lanes, and behind them the parts.
-use Rattle.std.specs.Prelude.{◌≡◌, ◌⊎◌, ◌<◌, ◌≤◌, ◌+◌, ◌-◌, ◌^◌, ℕ, Bool, true, false, if◌then◌else◌, List, Option, None, Some, length, slice_get}
+use Rattle.std.specs.Prelude.{◌≡◌, ◌⊎◌, ◌<◌, ◌≤◌, ◌+◌, ℕ, List, Option, None, Some, length, slice_get}
 use Rattle.eql_values.specs.Accepted.{Reads}
 use Rattle.eql_outside.specs.Plans.{FaultPlan}
 use Rattle.eql_lane.specs.declared.ops.LaneOp.{LaneOp}
@@ -9,8 +9,8 @@ use Rattle.eql_lane.specs.declared.ops.LimitOf.TheVariants.{Turns}
 use Rattle.eql_parts.specs.declared.ops.PartOp.{PartOp}
 use Rattle.eql_parts.specs.declared.ops.PartReply.{PartReply}
 use Rattle.eql_parts.specs.declared.ops.PartReply.TheVariants as part_reply
-use Rattle.eql_turn_lock.specs.declared.moved.Moved.{Moved}
-use Rattle.eql_turn_lock.specs.declared.moved.Moved.TheVariants.{Still, Played, Refused}
+use Rattle.eql_turn_lock.specs.declared.tried.Tried.{Tried}
+use Rattle.eql_turn_lock.specs.declared.tried.Tried.TheVariants.{Idle, Played, Refused}
 use Rattle.eql_turn_lock.specs.declared.refused.NotNow.{NotNow}
 use Rattle.eql_turn_lock.specs.declared.refused.NotNow.TheVariants.{Busy, Worn}
 use Rattle.eql_turn_lock.specs.Passes.{KnowsHistory}
@@ -48,31 +48,15 @@ abbrev pub refused_with : {O : Type 0} → NotNow O → Option Did
 refused_with (Busy word op) = None
 refused_with (Worn word op) = Some (did.Fault (fault.Limit Turns))
 
-abbrev pub tried_lane : (lane : ℕ) → Moved LaneReply LaneOp → Option Did
-tried_lane lane (Still op) = None
-tried_lane lane (Played reply word) = fed_with lane reply
+abbrev pub tried_lane : (lane : ℕ) → Tried LaneReply LaneOp → Option Did
+tried_lane lane (Idle op) = None
+tried_lane lane (Played reply) = fed_with lane reply
 tried_lane lane (Refused refused) = refused_with refused
 
-abbrev pub tried_part : (part : ℕ) → Moved PartReply PartOp → Option Did
-tried_part part (Still op) = None
-tried_part part (Played reply word) = turned_with part reply
+abbrev pub tried_part : (part : ℕ) → Tried PartReply PartOp → Option Did
+tried_part part (Idle op) = None
+tried_part part (Played reply) = turned_with part reply
 tried_part part (Refused refused) = refused_with refused
-
--- whether the answer of a feed, or of a turn, says that nothing was to be done
-abbrev pub fed_nothing : LaneReply → Bool
-fed_nothing (lane_reply.Held ready) = true
-fed_nothing lane_reply.Closed = true
-fed_nothing reply = false
-
-abbrev pub turned_nothing : PartReply → Bool
-turned_nothing part_reply.Idle = true
-turned_nothing reply = false
-
--- the word to remember after a look at a lock; 2^64 - 1 where there is none
-abbrev pub word_after : {O R : Type 0} → (found_nothing : R → Bool) → (still : ℕ) → Moved R O → ℕ
-word_after found_nothing still (Still op) = still
-word_after found_nothing still (Played reply word) = if found_nothing reply then word else 2 ^ 64 - 1
-word_after found_nothing still (Refused refused) = 2 ^ 64 - 1
 
 -- what a step did that ended in a place, or in none
 abbrev pub did_in : Option (ℕ × Did) → Did
@@ -125,6 +109,6 @@ module _ {S L : Type 0} (left lent_as : S → Option (List ℕ)) (fault_plan : S
   Swept n from to (Some (place, answer)) old new = StopsAt n from to place answer old new
 
   -- what one try did
-  abbrev pub Tried : (n place : ℕ) → Option Did → HandView S L → HandView S L → Type 0
-  Tried n place None old new = Passed n place (place + 1) old new
-  Tried n place (Some answer) old new = EndsAt n place answer old new
+  abbrev pub TriesPlace : (n place : ℕ) → Option Did → HandView S L → HandView S L → Type 0
+  TriesPlace n place None old new = Passed n place (place + 1) old new
+  TriesPlace n place (Some answer) old new = EndsAt n place answer old new

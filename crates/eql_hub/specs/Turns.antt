@@ -1,4 +1,4 @@
--- Lanes and parts as values of a turn lock: which operations are open to all, and what an operation does.
+-- Lanes and parts as values of a turn lock: which operations are open to all, which replies are idle, and what an operation does.
 use Rattle.std.specs.Prelude.{◌≡◌, ◌≤◌, ℕ, Bool, true, false, ◌&&◌, nat_le, List, Option, refl}
 use Rattle.std.proofs.Common.{sym, ap, subst}
 use Rattle.std.proofs.lemmas.Bool.{false≢true, leb-true}
@@ -9,6 +9,7 @@ use Rattle.eql_outside.specs.Unfailing.{IsUnfailing}
 use Rattle.eql_lane.specs.declared.ops.LaneOp.{LaneOp}
 use Rattle.eql_lane.specs.declared.ops.LaneOp.TheVariants as lane_op
 use Rattle.eql_lane.specs.declared.ops.LaneReply.{LaneReply}
+use Rattle.eql_lane.specs.declared.ops.LaneReply.TheVariants as lane_reply
 use Rattle.eql_lane.specs.Lanes.{LaneAllows}
 use Rattle.eql_lane.specs.Plays.{Plays, DidNotFail}
 use Rattle.eql_lane.specs.Views.{LaneView, SameLane}
@@ -35,6 +36,17 @@ is_open_part (part_op.Deliver items mark) = false
 is_open_part (part_op.Turn max) = is_batch max
 is_open_part part_op.Collect = false
 is_open_part part_op.Snap = false
+
+-- a lane that holds enough or is closed says that there was nothing to feed
+abbrev pub is_idle_lane : LaneReply → Bool
+is_idle_lane (lane_reply.Held ready) = true
+is_idle_lane lane_reply.Closed = true
+is_idle_lane reply = false
+
+-- a part for which no event waits says that there was nothing to turn
+abbrev pub is_idle_part : PartReply → Bool
+is_idle_part part_reply.Idle = true
+is_idle_part reply = false
 
 -- an operation on a lane: its step for each text of the lane; what no step changes is the same; and where the source isn't planned to fail, it
 -- didn't and stays so

@@ -9,7 +9,6 @@ ghost use Rattle.eql_hub.specs.Hands.{IsHandOf};
 ghost use Rattle.eql_hub.specs.Turns.{LaneTurn, PartTurn, is_open_lane, is_open_part};
 
 use crate::hub::{Hand, Hub};
-use crate::words::{UNKNOWN, keep_word};
 use eql_lane::{LaneOp, LaneReply};
 use eql_outside::Source;
 use eql_parts::{PartOp, PartReply};
@@ -40,7 +39,6 @@ impl<S: Source, L: LineReader, G: Ledger> Hub<S, L, G> {
             hand.old.lanes.views hand.new.lanes.views }
         ensures parts { hand.new.parts ≡ hand.old.parts }
     {
-        keep_word(&mut hand.quiet_lanes, lane as usize, UNKNOWN);
         self.lanes.call(rt, &mut hand.lanes, lane as usize, op)
     }
 
@@ -63,7 +61,6 @@ impl<S: Source, L: LineReader, G: Ledger> Hub<S, L, G> {
             hand.old.parts.views hand.new.parts.views }
         ensures lanes { hand.new.lanes ≡ hand.old.lanes }
     {
-        keep_word(&mut hand.quiet_parts, part as usize, UNKNOWN);
         self.parts.call(rt, &mut hand.parts, part as usize, op)
     }
 }

@@ -58,7 +58,7 @@ impl<S: Source, L: LineReader, G: Ledger> Hub<S, L, G> {
         match self.go_round(hand, batch, start, count) {
             None => Did::Nothing,
             Some((place, did)) => {
-                hand.next = place + 1;
+                hand.next = self.place_after(place);
                 did
             }
         }

@@ -7,7 +7,6 @@ ghost use Rattle.eql_lock_row.specs.Rows.{AllJoined, AllKnow, AreFirst, joined_v
 ghost use Rattle.eql_hub.specs.Turns.{LaneTurn, PartTurn, is_open_lane, is_open_part};
 ghost use Rattle.eql_hub.specs.Hands.{AllBegin, AreAllJoined, IsFirst, IsHandOf, Knows};
 
-use crate::words::UNKNOWN;
 use crate::wrapped::{TurnedLane, TurnedPart, unwrap_all, wrap_all};
 use eql_lane::Lane;
 use eql_lock_row::{LockRow, PassRow};
@@ -40,28 +39,19 @@ impl<S: Source, L: LineReader, G: Ledger> Model for Hub<S, L, G> {
 }
 
 /// A pass of each lane and of each part, and the place from which the hand goes on. Contracts see what the passes know.
-///
-/// Beside each pass it remembers the word at which its last call there found nothing to do, and takes no turn there until the word
-/// has changed. The first hand has no such words.
 #[derive(Drop)]
 pub struct Hand<S: Source, L: LineReader, G: Ledger> {
     pub(crate) lanes: PassRow<TurnedLane<S, L>>,
     pub(crate) parts: PassRow<TurnedPart<G>>,
-    pub(crate) quiet_lanes: Vec<u64>,
-    pub(crate) quiet_parts: Vec<u64>,
     pub(crate) next: usize,
 }
 
 impl<S: Source, L: LineReader, G: Ledger> Model for Hand<S, L, G> {
     ghost use Rattle.eql_hub.specs.Hands.{HandView};
-    ghost use Rattle.eql_hub.specs.Quiet.{AllSawNothing, FedNothing, TurnedNothing};
 
     ghost Value = { HandView S L };
 
     ghost view = { λ h. record { lanes = h.lanes; parts = h.parts } };
-
-    ghost invariant = { λ h. AllSawNothing FedNothing h.quiet_lanes.items h.lanes.views
-        × AllSawNothing TurnedNothing h.quiet_parts.items h.parts.views };
 }
 
 /// Lanes under locks, with their first passes and the room in which they are handed back.
@@ -163,8 +153,6 @@ impl<S: Source, L: LineReader> LockedLanes<S, L> {
                 Hand {
                     lanes: self.passes,
                     parts: part_passes,
-                    quiet_lanes: Vec::new(alloc),
-                    quiet_parts: Vec::new(alloc),
                     next: 0,
                 },
             )),
@@ -235,6 +223,20 @@ impl<S: Source, L: LineReader, G: Ledger> Hub<S, L, G> {
         let _ = &self.room;
     }
 
+    /// Where a step begins after one that did something in this place: after a lane at the lane before it, and after the first lane
+    /// at the last one; after a part at the place behind it. The conductor goes over the lanes from the first one on, so it meets
+    /// a hand seldom, and doesn't follow it from lane to lane.
+    pub(crate) fn place_after(&self, place: usize) -> usize {
+        let lanes = self.lanes.len();
+        if place >= lanes {
+            self.place_behind(place)
+        } else if place == 0 {
+            lanes - 1
+        } else {
+            place - 1
+        }
+    }
+
     // The place behind one, and the first place behind the last one.
     fn place_behind(&self, place: usize) -> usize {
         self.are_few();
@@ -270,20 +272,12 @@ impl<S: Source, L: LineReader, G: Ledger> Hub<S, L, G> {
         let Ok(part_room) = self.parts.room(alloc) else {
             return Err(Memory);
         };
-        let Ok(quiet_lanes) = Vec::from_elem(alloc, UNKNOWN, self.lanes.len()) else {
-            return Err(Memory);
-        };
-        let Ok(quiet_parts) = Vec::from_elem(alloc, UNKNOWN, self.parts.len()) else {
-            return Err(Memory);
-        };
         let lanes = self.lanes.split(&mut hand.lanes, lane_room);
         let parts = self.parts.split(&mut hand.parts, part_room);
         hand.next = self.place_behind(hand.next);
         Ok(Hand {
             lanes,
             parts,
-            quiet_lanes,
-            quiet_parts,
             next: hand.next,
         })
     }
@@ -301,8 +295,6 @@ impl<S: Source, L: LineReader, G: Ledger> Hub<S, L, G> {
         ensures seen { AllBegin hand.new hand.old }
         ensures other { AllBegin hand.new other }
     {
-        hand.quiet_lanes.clear();
-        hand.quiet_parts.clear();
         self.lanes.join(&mut hand.lanes, other.lanes);
         self.parts.join(&mut hand.parts, other.parts);
     }

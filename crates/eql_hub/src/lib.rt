@@ -9,7 +9,6 @@ mod hand;
 mod hub;
 mod places;
 mod step;
-mod words;
 mod wrapped;
 
 pub use hub::{Hand, Hub};

@@ -4,12 +4,11 @@ ghost use Rattle.eql_turn_lock.specs.Passes.{KnowsHistory};
 ghost use Rattle.eql_lock_row.specs.Rows.{ChangesAt};
 ghost use Rattle.eql_hub.specs.Hands.{IsHandOf};
 ghost use Rattle.eql_hub.specs.Steps.{LaneEnds, LaneIdle, PartEnds, PartIdle};
-ghost use Rattle.eql_hub.specs.Sweeps.{Swept, Tried};
+ghost use Rattle.eql_hub.specs.Sweeps.{Swept, TriesPlace};
 ghost use Rattle.eql_hub.specs.Turns.{LaneTurn, PartTurn, is_open_lane, is_open_part};
 
 use crate::hub::{Hand, Hub};
-use crate::step::{Did, after_feed, after_turn, word_after_feed, word_after_turn};
-use crate::words::{keep_word, word_at};
+use crate::step::{Did, after_feed, after_turn};
 use eql_lane::LaneOp;
 use eql_outside::Source;
 use eql_parts::PartOp;
@@ -17,7 +16,7 @@ use eql_values::LineReader;
 use std::sync::ledger::Ledger;
 
 impl<S: Source, L: LineReader, G: Ledger> Hub<S, L, G> {
-    // Feeds a lane, if its turn is free. It takes no turn where nothing changed since there was nothing to do.
+    // Feeds a lane, if its turn is free. It takes no turn where the last reply there was `Held` or `Closed`.
     fn feed_lane(&self, hand: &mut Hand<S, L, G>, batch: u32, lane: u32) -> Option<Did>
         requires own { IsHandOf self.now hand.old }
         requires batch_from { 1 ≤ batch }
@@ -32,14 +31,13 @@ impl<S: Source, L: LineReader, G: Ledger> Hub<S, L, G> {
         ensures parts { hand.new.parts ≡ hand.old.parts }
     {
         let op = LaneOp::Feed { max: batch };
-        let place = lane as usize;
-        let still = word_at(&hand.quiet_lanes, place);
-        let tried = self.lanes.try_moved(&mut hand.lanes, place, still, op);
-        keep_word(&mut hand.quiet_lanes, place, word_after_feed(still, &tried));
+        let tried = self
+            .lanes
+            .try_unless_idle(&mut hand.lanes, lane as usize, op);
         after_feed(lane, tried)
     }
 
-    // Turns a part, if its turn is free. It takes no turn where nothing changed since there was nothing to do.
+    // Turns a part, if its turn is free. It takes no turn where the last reply there was `Idle`.
     fn turn_part(&self, hand: &mut Hand<S, L, G>, batch: u32, part: u32) -> Option<Did>
         requires own { IsHandOf self.now hand.old }
         requires batch_from { 1 ≤ batch }
@@ -52,10 +50,9 @@ impl<S: Source, L: LineReader, G: Ledger> Hub<S, L, G> {
         ensures lanes { hand.new.lanes ≡ hand.old.lanes }
     {
         let op = PartOp::Turn { max: batch };
-        let place = part as usize;
-        let still = word_at(&hand.quiet_parts, place);
-        let tried = self.parts.try_moved(&mut hand.parts, place, still, op);
-        keep_word(&mut hand.quiet_parts, place, word_after_turn(still, &tried));
+        let tried = self
+            .parts
+            .try_unless_idle(&mut hand.parts, part as usize, op);
         after_turn(part, tried)
     }
 
@@ -66,7 +63,7 @@ impl<S: Source, L: LineReader, G: Ledger> Hub<S, L, G> {
         requires batch_to { batch ≤ 4096 }
         requires place { place < length self.now.lanes + length self.now.parts }
         ensures own { IsHandOf self.now hand.new }
-        ensures tried { Tried S.left S.lent_as S.fault_plan L.read_of batch
+        ensures tried { TriesPlace S.left S.lent_as S.fault_plan L.read_of batch
             (length self.now.lanes) place result hand.old hand.new }
     {
         self.are_few();

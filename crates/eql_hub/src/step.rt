@@ -1,11 +1,10 @@
 //! What a step of a hand answers.
 ghost use Rattle.std.specs.Prelude.{◌≡◌};
-ghost use Rattle.eql_hub.specs.Sweeps.{fed_nothing, tried_lane, tried_part, turned_nothing, word_after};
+ghost use Rattle.eql_hub.specs.Sweeps.{tried_lane, tried_part};
 
-use crate::words::UNKNOWN;
 use eql_lane::{LaneOp, LaneReply, LimitOf};
 use eql_parts::{PartOp, PartReply};
-use eql_turn_lock::{Moved, NotNow};
+use eql_turn_lock::{NotNow, Tried};
 
 /// Why a hand can't go on.
 #[derive(Clone, Copy)]
@@ -41,68 +40,39 @@ pub enum Did {
 }
 
 /// What a look at a lane ends the step with. Nothing was to be done where it is `None`.
-pub(crate) fn after_feed(lane: u32, tried: Moved<LaneReply, LaneOp>) -> Option<Did>
+pub(crate) fn after_feed(lane: u32, tried: Tried<LaneReply, LaneOp>) -> Option<Did>
     ensures { result ≡ tried_lane lane tried }
 {
     match tried {
-        Moved::Still { op: _ } => None,
-        Moved::Played { reply, word: _ } => match reply {
+        Tried::Idle { op: _ } => None,
+        Tried::Played(reply) => match reply {
             LaneReply::Fed { lines: _ } => Some(Did::Fed { lane }),
             LaneReply::Failed { lines: _ } => Some(Did::Fault(HandFault::Read { shard: lane })),
             LaneReply::Limit(of) => Some(Did::Fault(HandFault::Limit(of))),
             LaneReply::Memory { lines: _ } => Some(Did::Fault(HandFault::Memory)),
             _ => None,
         },
-        Moved::Refused(NotNow::Busy { word: _, op: _ }) => None,
-        Moved::Refused(NotNow::Worn { word: _, op: _ }) => {
+        Tried::Refused(NotNow::Busy { word: _, op: _ }) => None,
+        Tried::Refused(NotNow::Worn { word: _, op: _ }) => {
             Some(Did::Fault(HandFault::Limit(LimitOf::Turns)))
         }
-    }
-}
-
-/// The word to remember after a look at a lane whose word was told to be `still`.
-pub(crate) fn word_after_feed(still: u64, tried: &Moved<LaneReply, LaneOp>) -> u64
-    ensures { result ≡ word_after fed_nothing still tried.now }
-{
-    match tried {
-        Moved::Still { op: _ } => still,
-        Moved::Played { reply, word } => match reply {
-            LaneReply::Held { ready: _ } => *word,
-            LaneReply::Closed => *word,
-            _ => UNKNOWN,
-        },
-        Moved::Refused(_) => UNKNOWN,
     }
 }
 
 /// What a look at a part ends the step with.
-pub(crate) fn after_turn(part: u32, tried: Moved<PartReply, PartOp>) -> Option<Did>
+pub(crate) fn after_turn(part: u32, tried: Tried<PartReply, PartOp>) -> Option<Did>
     ensures { result ≡ tried_part part tried }
 {
     match tried {
-        Moved::Still { op: _ } => None,
-        Moved::Played { reply, word: _ } => match reply {
+        Tried::Idle { op: _ } => None,
+        Tried::Played(reply) => match reply {
             PartReply::Turned { items: _ } => Some(Did::Turned { part }),
             PartReply::Memory { back: _, items: _ } => Some(Did::Fault(HandFault::Memory)),
             _ => None,
         },
-        Moved::Refused(NotNow::Busy { word: _, op: _ }) => None,
-        Moved::Refused(NotNow::Worn { word: _, op: _ }) => {
+        Tried::Refused(NotNow::Busy { word: _, op: _ }) => None,
+        Tried::Refused(NotNow::Worn { word: _, op: _ }) => {
             Some(Did::Fault(HandFault::Limit(LimitOf::Turns)))
         }
-    }
-}
-
-/// The word to remember after a look at a part whose word was told to be `still`.
-pub(crate) fn word_after_turn(still: u64, tried: &Moved<PartReply, PartOp>) -> u64
-    ensures { result ≡ word_after turned_nothing still tried.now }
-{
-    match tried {
-        Moved::Still { op: _ } => still,
-        Moved::Played { reply, word } => match reply {
-            PartReply::Idle => *word,
-            _ => UNKNOWN,
-        },
-        Moved::Refused(_) => UNKNOWN,
     }
 }

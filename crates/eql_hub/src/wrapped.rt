@@ -44,7 +44,7 @@ impl<S: Source, L: LineReader> TurnedLane<S, L> {
 
 impl<S: Source, L: LineReader> Turned for TurnedLane<S, L> {
     ghost use Rattle.eql_lane.specs.Lanes.{LaneAllows};
-    ghost use Rattle.eql_hub.specs.Turns.{LaneTurn, is_open_lane, open_lane_allowed};
+    ghost use Rattle.eql_hub.specs.Turns.{LaneTurn, is_idle_lane, is_open_lane, open_lane_allowed};
 
     type Op = LaneOp;
 
@@ -56,8 +56,14 @@ impl<S: Source, L: LineReader> Turned for TurnedLane<S, L> {
 
     ghost is_open = { is_open_lane };
 
+    ghost is_idle = { is_idle_lane };
+
     fn play(&mut self, op: LaneOp) -> LaneReply {
         self.lane.play(op)
+    }
+
+    fn idles(reply: &LaneReply) -> bool {
+        matches!(reply, LaneReply::Held { ready: _ } | LaneReply::Closed)
     }
 
     ghost opens = { λ lane op is. open_lane_allowed op is };
@@ -100,7 +106,7 @@ impl<G: Ledger> TurnedPart<G> {
 
 impl<G: Ledger> Turned for TurnedPart<G> {
     ghost use Rattle.eql_parts.specs.PartSteps.{PartAllows};
-    ghost use Rattle.eql_hub.specs.Turns.{PartTurn, is_open_part, open_part_allowed, part_stays_allowed};
+    ghost use Rattle.eql_hub.specs.Turns.{PartTurn, is_idle_part, is_open_part, open_part_allowed, part_stays_allowed};
 
     type Op = PartOp;
 
@@ -112,8 +118,14 @@ impl<G: Ledger> Turned for TurnedPart<G> {
 
     ghost is_open = { is_open_part };
 
+    ghost is_idle = { is_idle_part };
+
     fn play(&mut self, op: PartOp) -> PartReply {
         self.part.play(op, &mut self.steps)
+    }
+
+    fn idles(reply: &PartReply) -> bool {
+        matches!(reply, PartReply::Idle)
     }
 
     ghost opens = { λ part op is. open_part_allowed part.state op is };

@@ -62,7 +62,7 @@ module _ {S L : Type 0} (left lent_as : S → Option (List ℕ)) (fault_plan : S
   idle v w (inl (ready, plays)) = answered (lane_reply.Held ready) v w refl plays
   idle v w (inr (inl plays)) = answered lane_reply.Closed v w refl plays
   idle v w (inr (inr (inl (word, r)))) = refused (lane_op.Feed batch) (not_now.Busy word (lane_op.Feed batch)) v w r
-  idle v w (inr (inr (inr found))) = ap (count_by entry_failed) found.2.1
+  idle v w (inr (inr (inr found))) = ap (count_by entry_failed) found.0.1
 
   still : (v w : LaneKnown S L) → LaneQuiet left lent_as fault_plan read_of batch v w → SameFails v w
   still v w (inl e) = ap (λ (u : LaneKnown S L). count_by entry_failed u.mine) e

@@ -21,6 +21,15 @@ use std::sync::Wait;
 use std::sync::ledger::Ledger;
 use std::thread::{Threads, join_mut};
 
+// How many lines or events a step of a hand plays at most: a quarter of what the conductor does. The conductor waits for a lane
+// that a hand feeds, so it waits no longer than for a quarter of its own feed.
+fn hand_batch(batch: u32) -> u32
+    ensures from { 1 ≤ result }
+    ensures to { batch ≤ 4096 → result ≤ 4096 }
+{
+    (batch / 4).max(1)
+}
+
 // Plays rounds over the bench in this thread, and steps of the workers' hands in others. The workers go into their thread and
 // come back with what their hands did.
 fn play_beside<
@@ -62,7 +71,7 @@ fn play_beside<
     ensures played { All (HasPlayed hub.now) result.2.items }
     ensures count { length result.2.items ≡ length workers.items }
 {
-    let batch = plan.batch;
+    let batch = hand_batch(plan.batch);
     let mut bench = bench;
     let mut crew = Some(workers);
     let (workers, ended) = join_mut(

@@ -91,7 +91,7 @@ fn run_over<
 ///
 /// `None` is returned where there is no memory for the hub: nothing was played then. The lanes come back in their order. Of
 /// how the conductor ended and of the faults that the hands met the one of the least status is told, and of several of that
-/// status the conductor's.
+/// status the conductor's. What is promised of this is that a read fault which any of them met is told.
 ///
 /// `T` names the texts of the lanes for contracts. A caller passes `Brand` and picks them.
 pub fn run_hub<

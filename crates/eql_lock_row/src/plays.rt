@@ -1,11 +1,11 @@
 //! Calls on one lock of a row.
 ghost use Rattle.std.specs.Prelude.{◌≡◌, ◌<◌, MatchResult, length};
-ghost use Rattle.eql_turn_lock.specs.Calls.{Plays, PlaysMoved, PlaysOnce, Refuses, RefusesWorn};
+ghost use Rattle.eql_turn_lock.specs.Calls.{Plays, PlaysOnce, PlaysUnlessIdle, Refuses, RefusesWorn};
 ghost use Rattle.eql_turn_lock.specs.Passes.{KnowsHistory};
 ghost use Rattle.eql_lock_row.specs.Rows.{ChangesAt, MayPlayAt};
 
 use crate::row::{LockRow, PassRow};
-use eql_turn_lock::{Moved, NotNow, Turned};
+use eql_turn_lock::{NotNow, Tried, Turned};
 use std::sync::Wait;
 
 impl<T: Turned> LockRow<T> {
@@ -46,22 +46,22 @@ impl<T: Turned> LockRow<T> {
         self.locks[place].try_call(&mut passes.passes[place], op)
     }
 
-    /// Looks at the word of the lock in a place, from 0, and plays the operation on the value there if the word isn't `still` and
-    /// the turn is free. It waits for nobody, and looks and tries once.
-    pub fn try_moved(
+    /// Plays the operation on the value in a place, from 0, if the last reply there wasn't idle and the turn is free. It waits for
+    /// nobody, and looks and tries once.
+    pub fn try_unless_idle(
         &self,
         passes: &mut PassRow<T>,
         place: usize,
-        still: u64,
         op: T::Op,
-    ) -> Moved<T::Reply, T::Op>
+    ) -> Tried<T::Reply, T::Op>
         requires own { passes.old.locks ≡ self.now }
         requires place { place < length self.now }
         requires may { MayPlayAt T.allows T.step_of T.is_open passes.old.views place op }
         ensures own { passes.new.locks ≡ self.now }
-        ensures played { ChangesAt place (λ v w. PlaysMoved T.step_of T.is_open still v op result w
+        ensures played { ChangesAt place (λ v w.
+            PlaysUnlessIdle T.step_of T.is_open T.is_idle v op result w
             × KnowsHistory T.step_of T.is_open w) passes.old.views passes.new.views }
     {
-        self.locks[place].try_moved(&mut passes.passes[place], still, op)
+        self.locks[place].try_unless_idle(&mut passes.passes[place], op)
     }
 }

@@ -1,5 +1,5 @@
 -- Facts on histories.
-use Rattle.std.proofs.Common.{◌≡◌, ◌≢◌, ℕ, Bool, true, false, List, [], ◌∷◌, ◌++◌, refl, sym, ap, ◌∙◌, subst, eqb, eq-eqb, ne_eqb, append-nil}
+use Rattle.std.proofs.Common.{◌≡◌, ◌≢◌, ℕ, ◌≤◌, Bool, true, false, List, [], ◌∷◌, ◌++◌, length, refl, sym, ap, ◌∙◌, subst, arith, eqb, eq-eqb, ne_eqb, append-nil, length-append}
 use Rattle.std.proofs.lemmas.Bool.Decides.{eqb_tells}
 use Rattle.std.proofs.lemmas.List.{append_assoc, append_cancel_left}
 use Rattle.std.proofs.lemmas.List.Elements.{All-append, All-tail, All-head, All-cons, All-nil}
@@ -29,6 +29,9 @@ module _ {X : Type 0} where
 
   pub starts_in : (log seen xs : List X) → StartsWith log seen → StartsWith seen xs → StartsWith log xs
   starts_in log seen xs a b = (b.0 ++ a.0, a.1 ∙ (ap (λ (l : List X). l ++ a.0) b.1 ∙ append_assoc xs b.0 a.0))
+
+  pub starts_shorter : (log xs : List X) → StartsWith log xs → length xs ≤ length log
+  starts_shorter log xs s = let is : length log ≡ length (xs ++ s.0) = ap (λ (l : List X). length l) s.1 in let both = length-append xs s.0 in omega arith
 
   pub starts_self : (xs : List X) → StartsWith xs xs
   starts_self xs = ([], sym (append-nil xs))

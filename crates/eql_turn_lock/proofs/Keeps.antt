@@ -1,5 +1,5 @@
 -- Each step keeps the rule.
-use Rattle.std.proofs.Common.{◌≡◌, ◌≢◌, ℕ, zero, suc, ◌+◌, ◌*◌, ◌%◌, ◌<◌, ◌≤◌, le_refl, Bool, true, false, true≢false, List, [], ◌∷◌, ◌++◌, map, length, get_or, set, refl, sym, ap, ◌∙◌, subst, arith, eqb, append-nil, length-append, length-set}
+use Rattle.std.proofs.Common.{◌≡◌, ◌≢◌, ℕ, zero, suc, ◌+◌, ◌*◌, ◌%◌, ◌<◌, ◌≤◌, ◌^◌, le_refl, Bool, true, false, true≢false, List, [], ◌∷◌, ◌++◌, map, length, get_or, set, refl, sym, ap, ◌∙◌, subst, arith, eqb, append-nil, length-append, length-set}
 use Rattle.std.proofs.lemmas.List.Elements.{All-nil, All-weaker}
 use Rattle.std.proofs.lemmas.List.Quantifiers.{all_pairs_push}
 use Rattle.std.specs.Prelude.{All, sum_by, Option, Some, None, is_some}
@@ -18,11 +18,11 @@ use Rattle.eql_turn_lock.specs.declared.view.Ended.{Ended}
 use Rattle.eql_turn_lock.specs.declared.slot.LastCall.{LastCall}
 use Rattle.eql_turn_lock.specs.declared.slot.Slot.{Slot}
 use Rattle.eql_turn_lock.specs.declared.view.View.{View}
-use Rattle.eql_turn_lock.specs.History.{StartsWith, entry, calls_by, OthersOpen, IsLegal}
+use Rattle.eql_turn_lock.specs.History.{StartsWith, entry, calls_by, OthersOpen, EndsIdle, IsLegal}
 use Rattle.eql_turn_lock.specs.Passes.{first_view, spent_view, is_live, HasEnded, EndedIn, AreDistinct, longer, split_view, new_view, ended_of, joined_view, KnowsHistory}
-use Rattle.eql_turn_lock.specs.Rule.{Phase, free, taken, live_count, looked_at, in_turn, played, SeatFits, Stands, EndedFits, FirstFits, HasOneHistory, loads, takes_turn, ends_turn, learns}
+use Rattle.eql_turn_lock.specs.Rule.{Phase, free, taken, live_count, looked_at, in_turn, played, SeatFits, Stands, EndedFits, FirstFits, IsIdleFront, HasOneHistory, FindsIdle, loads, loads_idle, takes_turn, ends_turn, learns, tells_idle}
 use Rattle.eql_turn_lock.specs.Calls.{Closes}
-use Rattle.eql_turn_lock.proofs.Histories.{all_both, all_left, all_snoc, starts_longer, starts_in, calls_mine, calls_other, legal_snoc, legal_split}
+use Rattle.eql_turn_lock.proofs.Histories.{all_both, all_left, all_snoc, starts_longer, starts_in, starts_self, starts_shorter, calls_mine, calls_other, legal_snoc, legal_split}
 use Rattle.eql_turn_lock.proofs.Counts.{all_counted}
 use Rattle.eql_turn_lock.proofs.Views.{in_range, at_some, at_end, calls_none, calls_between, longer_is, live_set_same, live_set_less, live_snoc, live_one}
 
@@ -47,19 +47,22 @@ taken_same {j} {k} e = let t : suc j ≡ suc k = ap taken_is e in omega arith
 not_taken : {A : Type 0} {k : ℕ} → free ≡ taken k → A
 not_taken {A} {k} e = absurd (let t : 0 ≡ suc k = ap taken_is e in omega arith)
 
-module _ {T O R : Type 0} (step_of : T → O → R → T → Type 0) (is_open : O → Bool) (first : T) where
+module _ {T O R : Type 0} (step_of : T → O → R → T → Type 0) (is_open : O → Bool) (is_idle : R → Bool) (first : T) where
   dead_live : {A : Type 0} (v w : View T O R) → v ≡ w → is_live v ≡ false → is_live w ≡ true → A
   dead_live v w is dead live = absurd (true≢false (sym live ∙ (ap is_live (sym is) ∙ dead)))
 
+  front_stays : (word : ℕ) (log log' : List (Entry O R)) → StartsWith log' log → IsIdleFront is_idle word log → IsIdleFront is_idle word log'
+  front_stays word log log' longer_log f = (f.0, starts_in log' log f.0 longer_log f.1, f.2, f.3)
+
   -- the seat id has the view w now, and the others keep theirs
-  moved : (s : State (Slot T O R) (View T O R)) (r : HasOneHistory step_of is_open first s) (id : ℕ) (v w : View T O R) (log' : List (Entry O R)) (value' : T) (word' : ℕ) (phase' : Phase) (homes' : List (maybe.Option (Slot T O R)))
-      → get_elem? s.views id ≡ some v → is_live v ≡ true → w.opening ≡ v.opening → w.made ≡ v.made → w.ended ≡ v.ended → r.word ≤ word' → ((j : ℕ) → j ≢ id → calls_by j log' ≡ calls_by j r.log)
+  moved : (s : State (Slot T O R) (View T O R)) (r : HasOneHistory step_of is_open is_idle first s) (id : ℕ) (v w : View T O R) (log' : List (Entry O R)) (value' : T) (word' : ℕ) (phase' : Phase) (homes' : List (maybe.Option (Slot T O R)))
+      → get_elem? s.views id ≡ some v → is_live v ≡ true → w.opening ≡ v.opening → w.made ≡ v.made → w.ended ≡ v.ended → r.word ≤ word' → StartsWith log' r.log → ((j : ℕ) → j ≢ id → calls_by j log' ≡ calls_by j r.log)
       → All (λ (e : Entry O R). e.by < length s.views) log' → IsLegal step_of first log' value' → Stands value' log' word' homes' phase' → OthersOpen is_open log' → SeatFits first log' word' phase' id w
       → ((j : ℕ) (u : View T O R) → j ≢ id → SeatFits first r.log r.word r.phase j u → SeatFits first log' word' phase' j u)
       → ((k : ℕ) → phase' ≡ taken k → (u : View T O R) × (get_elem? (set s.views id w) k ≡ some u) × (is_live u ≡ true) × ((l : List (Entry O R)) × (u.turn ≡ Some l)))
       → (id ≡ 0 → All (EndedIn w.seen) w.ended)
-      → HasOneHistory step_of is_open first record { words = word' ∷ []; homes = homes'; views = set s.views id w }
-  moved s r id v w log' value' word' phase' homes' here live_v opening_is made_is ended_is grows quiet below legal stands opened mine others takes_it seen_ok =
+      → HasOneHistory step_of is_open is_idle first record { words = word' ∷ r.idle ∷ []; homes = homes'; views = set s.views id w }
+  moved s r id v w log' value' word' phase' homes' here live_v opening_is made_is ended_is grows longer_log quiet below legal stands opened mine others takes_it seen_ok =
       let live_w : is_live w ≡ true = ap is_some opening_is ∙ live_v in
       let same_length : length (set s.views id w) ≡ length s.views = length-set s.views id w in record {
         log = log';
@@ -67,7 +70,9 @@ module _ {T O R : Type 0} (step_of : T → O → R → T → Type 0) (is_open : 
         legal = legal;
         phase = phase';
         word = word';
+        idle = r.idle;
         words_are = refl;
+        idle_front = λ low. front_stays r.idle r.log log' longer_log (r.idle_front low);
         stands = stands;
         others_open = opened;
         by_below = subst (λ (n : ℕ). All (λ (e : Entry O R). e.by < n) log') (sym same_length) below;
@@ -105,14 +110,14 @@ module _ {T O R : Type 0} (step_of : T → O → R → T → Type 0) (is_open : 
         count = (λ i. live_set_same s.views id v w here (live_w ∙ sym live_v) i + length (ended_u i)) ∙ (l.count ∙ sym same_length);
       }
 
-  word_is : (s : State (Slot T O R) (View T O R)) (r : HasOneHistory step_of is_open first s) → get_or s.words 0 0 ≡ r.word
+  word_is : (s : State (Slot T O R) (View T O R)) (r : HasOneHistory step_of is_open is_idle first s) → get_or s.words 0 0 ≡ r.word
   word_is s r = ap (λ (ws : List ℕ). get_or ws 0 0) r.words_are
 
-  words_set : (s : State (Slot T O R) (View T O R)) (r : HasOneHistory step_of is_open first s) (n : ℕ) → n ∷ [] ≡ set s.words 0 n
+  words_set : (s : State (Slot T O R) (View T O R)) (r : HasOneHistory step_of is_open is_idle first s) (n : ℕ) → n ∷ r.idle ∷ [] ≡ set s.words 0 n
   words_set s r n = sym (ap (λ (ws : List ℕ). set ws 0 n) r.words_are)
 
   -- who holds the turn still does, where its view keeps it
-  keeps_taker : (s : State (Slot T O R) (View T O R)) (r : HasOneHistory step_of is_open first s) (id : ℕ) (v w : View T O R) → get_elem? s.views id ≡ some v → w.opening ≡ v.opening → w.turn ≡ v.turn
+  keeps_taker : (s : State (Slot T O R) (View T O R)) (r : HasOneHistory step_of is_open is_idle first s) (id : ℕ) (v w : View T O R) → get_elem? s.views id ≡ some v → w.opening ≡ v.opening → w.turn ≡ v.turn
       → (k : ℕ) → r.phase ≡ taken k → (u : View T O R) × (get_elem? (set s.views id w) k ≡ some u) × (is_live u ≡ true) × ((l : List (Entry O R)) × (u.turn ≡ Some l))
   keeps_taker s r id v w here opening_is turn_is k is = let t = r.taker k is in dite (ℕ_discrete k id)
       (λ (e : k ≡ id). let same : t.0 ≡ v = some-injective t.0 v (sym t.1 ∙ (ap (get_elem? s.views) e ∙ here)) in
@@ -123,7 +128,7 @@ module _ {T O R : Type 0} (step_of : T → O → R → T → Type 0) (is_open : 
   made_below log views made is below = All-weaker (λ (e : Entry O R). e.by < length views) (λ (e : Entry O R). e.by ≤ made) (λ e lt. omega arith) log below
 
   -- what the rule says of any seat is what a pass knows
-  knows_now : (s : State (Slot T O R) (View T O R)) (r : HasOneHistory step_of is_open first s) (id : ℕ) (v : View T O R) → get_elem? s.views id ≡ some v → is_live v ≡ true → KnowsHistory step_of is_open v
+  knows_now : (s : State (Slot T O R) (View T O R)) (r : HasOneHistory step_of is_open is_idle first s) (id : ℕ) (v : View T O R) → get_elem? s.views id ≡ some v → is_live v ≡ true → KnowsHistory step_of is_open v
   knows_now s r id v at live = let f = r.each_seat id v at live in let rest = f.begins.0 in let is = f.begins.1 in
       let cut = legal_split step_of v.seen rest first r.value (subst (λ (l : List (Entry O R)). IsLegal step_of first l r.value) is r.legal) in
       let first_fits = λ (zero_is : v.number ≡ 0). r.first_seat v (subst (λ (k : ℕ). get_elem? s.views k ≡ some v) (sym f.number ∙ zero_is) at) live in record {
@@ -149,18 +154,26 @@ module _ {T O R : Type 0} (step_of : T → O → R → T → Type 0) (is_open : 
     holds = f.holds;
   }
 
+  word_counts : (value : T) (log : List (Entry O R)) (word : ℕ) (homes : List (maybe.Option (Slot T O R))) (phase : Phase) → Stands value log word homes phase → 2 * length log ≤ word
+  word_counts value log word homes free st = let is = st.0 in omega arith
+  word_counts value log word homes (taken k) st = let is = st.0 in omega arith
+
   -- a step that reads the word, and leaves it
-  reads : (s : State (Slot T O R) (View T O R)) (r : HasOneHistory step_of is_open first s) (id : ℕ) (me : Me (Slot T O R) (View T O R)) → get_elem? s.views id ≡ some me.0 → is_live me.0 ≡ true
-      → HasOneHistory step_of is_open first (stepped s 0 (get_or s.words 0 0) id me.1 (looked_at (get_or s.words 0 0) me.0) keeps)
-  reads s r id me at live = subst (λ (z : ℕ). HasOneHistory step_of is_open first (stepped s 0 z id me.1 (looked_at z me.0) keeps)) (sym (word_is s r))
-      (subst (λ (ws : List ℕ). HasOneHistory step_of is_open first record { words = ws; homes = s.homes; views = set s.views id (looked_at r.word me.0) }) (words_set s r r.word)
-      (moved s r id me.0 (looked_at r.word me.0) r.log r.value r.word r.phase s.homes at live refl refl refl (le_refl r.word) (λ j _. refl) r.by_below r.legal r.stands r.others_open
+  reads : (s : State (Slot T O R) (View T O R)) (r : HasOneHistory step_of is_open is_idle first s) (id : ℕ) (me : Me (Slot T O R) (View T O R)) → get_elem? s.views id ≡ some me.0 → is_live me.0 ≡ true
+      → HasOneHistory step_of is_open is_idle first (stepped s 0 (get_or s.words 0 0) id me.1 (looked_at (get_or s.words 0 0) me.0) keeps)
+  reads s r id me at live = subst (λ (z : ℕ). HasOneHistory step_of is_open is_idle first (stepped s 0 z id me.1 (looked_at z me.0) keeps)) (sym (word_is s r))
+      (subst (λ (ws : List ℕ). HasOneHistory step_of is_open is_idle first record { words = ws; homes = s.homes; views = set s.views id (looked_at r.word me.0) }) (words_set s r r.word)
+      (moved s r id me.0 (looked_at r.word me.0) r.log r.value r.word r.phase s.homes at live refl refl refl (le_refl r.word) (starts_self r.log) (λ j _. refl) r.by_below r.legal r.stands r.others_open
       (looked_fits r.log r.word r.phase id me.0 (r.each_seat id me.0 at live)) (λ j v _ f. f) (keeps_taker s r id me.0 (looked_at r.word me.0) at refl refl)
       (λ zero_is. (r.first_seat me.0 (subst (λ (k : ℕ). get_elem? s.views k ≡ some me.0) zero_is at) live).ended_seen)))
 
-  pub loads_now : (slots id : ℕ) (me : Me (Slot T O R) (View T O R)) → is_live me.0 ≡ true → Allows (HasOneHistory step_of is_open first) slots id me 0 (λ n. n) (loads step_of is_open (step slots 0 0 0 none) me)
+  -- the word counts no less than a pass has seen
+  seen_counted : (s : State (Slot T O R) (View T O R)) (r : HasOneHistory step_of is_open is_idle first s) (id : ℕ) (v : View T O R) → SeatFits first r.log r.word r.phase id v → 2 * length v.seen ≤ get_or s.words 0 0
+  seen_counted s r id v f = let same = word_is s r in let shorter = starts_shorter r.log v.seen f.begins in let counted = word_counts r.value r.log r.word s.homes r.phase r.stands in omega arith
+
+  pub loads_now : (slots id : ℕ) (me : Me (Slot T O R) (View T O R)) → is_live me.0 ≡ true → Allows (HasOneHistory step_of is_open is_idle first) slots id me 0 (λ n. n) (loads step_of is_open (step slots 0 0 0 none) me)
   loads_now slots id me live s r wide at small = let same = word_is s r in let f = r.each_seat id me.0 at live in
-      (looked_at (get_or s.words 0 0) me.0, keeps, tt, reads s r id me at live, (refl, subst (λ (x : ℕ). All (λ (k : ℕ). k ≤ x) me.0.looked) (sym same) f.below, knows_now s r id me.0 at live))
+      (looked_at (get_or s.words 0 0) me.0, keeps, tt, reads s r id me at live, (refl, subst (λ (x : ℕ). All (λ (k : ℕ). k ≤ x) me.0.looked) (sym same) f.below, knows_now s r id me.0 at live, seen_counted s r id me.0 f))
 
   module _ (value : T) (log : List (Entry O R)) (word : ℕ) (homes : List (maybe.Option (Slot T O R))) where
     at_rest : (phase : Phase) → Stands value log word homes phase → word % 2 ≡ 0 → (phase ≡ free) × Stands value log word homes free
@@ -168,7 +181,7 @@ module _ {T O R : Type 0} (step_of : T → O → R → T → Type 0) (is_open : 
     at_rest (taken k) st even = absurd (let odd = st.0 in omega arith)
 
   abbrev Goes : ℕ → ℕ → (ℕ → Me (Slot T O R) (View T O R) → Type 0) → State (Slot T O R) (View T O R) → ℕ → Me (Slot T O R) (View T O R) → Type 0
-  Goes id x told s n me = (w : View T O R) × (a : Act (Slot T O R)) × Valid s.homes me.1 a × HasOneHistory step_of is_open first (stepped s 0 n id me.1 w a) × told x (w, carried_after me.1 a)
+  Goes id x told s n me = (w : View T O R) × (a : Act (Slot T O R)) × Valid s.homes me.1 a × HasOneHistory step_of is_open is_idle first (stepped s 0 n id me.1 w a) × told x (w, carried_after me.1 a)
 
   ended_in_log : (log : List (Entry O R)) (word : ℕ) (views : List (View T O R)) (seen : List (Entry O R)) (ended : List (Ended O R)) → StartsWith log seen → All (EndedFits log word views) ended → All (EndedIn seen) ended
       → All (λ (e : Ended O R). (0 < e.number) × EndedIn log e) ended
@@ -176,7 +189,7 @@ module _ {T O R : Type 0} (step_of : T → O → R → T → Type 0) (is_open : 
       (λ e p. (p.0.some_number, (p.0.all_mine, starts_in log seen e.seen begins p.1.1, starts_in log seen e.before begins p.1.2))) ended (all_both (EndedFits log word views) (EndedIn seen) ended fit in_seen)
 
   -- the word is even: the seat takes the value
-  takes_turn_at : (s : State (Slot T O R) (View T O R)) (r : HasOneHistory step_of is_open first s) (slots id : ℕ) (me : Me (Slot T O R) (View T O R)) (old new : ℕ) → is_live me.0 ≡ true → old % 2 ≡ 0 → new ≡ old + 1
+  takes_turn_at : (s : State (Slot T O R) (View T O R)) (r : HasOneHistory step_of is_open is_idle first s) (slots id : ℕ) (me : Me (Slot T O R) (View T O R)) (old new : ℕ) → is_live me.0 ≡ true → old % 2 ≡ 0 → new ≡ old + 1
       → get_elem? s.views id ≡ some me.0 → get_or s.words 0 0 ≡ old → Goes id (get_or s.words 0 0) (takes_turn step_of is_open (step slots 0 old new none) me) s new me
   takes_turn_at s r slots id me old new live even up at hit = let x : ℕ = get_or s.words 0 0 in let f = r.each_seat id me.0 at live in let same : x ≡ r.word = word_is s r in let now : r.word ≡ old = sym same ∙ hit in
       let rest = at_rest r.value r.log r.word s.homes r.phase r.stands (ap (λ (n : ℕ). n % 2) now ∙ even) in let st = rest.1 in let long : r.word ≡ 2 * length r.log = st.0 in let h = st.1.0 in let w : View T O R = in_turn r.log me.0 in
@@ -184,8 +197,8 @@ module _ {T O R : Type 0} (step_of : T → O → R → T → Type 0) (is_open : 
         w,
         takes 0 h,
         ap (λ (hs : List (maybe.Option (Slot T O R))). get_elem? hs 0) st.1.1,
-        subst (λ (ws : List ℕ). HasOneHistory step_of is_open first record { words = ws; homes = set s.homes 0 none; views = set s.views id w }) (words_set s r new)
-            (moved s r id me.0 w r.log r.value new (taken id) (set s.homes 0 none) at live refl refl refl (omega arith) (λ j _. refl) r.by_below r.legal
+        subst (λ (ws : List ℕ). HasOneHistory step_of is_open is_idle first record { words = ws; homes = set s.homes 0 none; views = set s.views id w }) (words_set s r new)
+            (moved s r id me.0 w r.log r.value new (taken id) (set s.homes 0 none) at live refl refl refl (omega arith) (starts_self r.log) (λ j _. refl) r.by_below r.legal
             (omega arith, ap (λ (hs : List (maybe.Option (Slot T O R))). set hs 0 none) st.1.1) r.others_open
             record {
               number = f.number;
@@ -235,7 +248,7 @@ module _ {T O R : Type 0} (step_of : T → O → R → T → Type 0) (is_open : 
       )
 
   pub takes_turn_now : (slots id : ℕ) (me : Me (Slot T O R) (View T O R)) (old new : ℕ) → is_live me.0 ≡ true → old % 2 ≡ 0 → new ≡ old + 1
-      → Allows (HasOneHistory step_of is_open first) slots id me 0 (λ n. either (eqb n old) new n) (takes_turn step_of is_open (step slots 0 old new none) me)
+      → Allows (HasOneHistory step_of is_open is_idle first) slots id me 0 (λ n. either (eqb n old) new n) (takes_turn step_of is_open (step slots 0 old new none) me)
   takes_turn_now slots id me old new live even up s r wide at small = let x : ℕ = get_or s.words 0 0 in
       exchanged x old new (λ n. Goes id x (takes_turn step_of is_open (step slots 0 old new none) me) s n me)
       (λ hit. takes_turn_at s r slots id me old new live even up at hit)
@@ -247,7 +260,7 @@ module _ {T O R : Type 0} (step_of : T → O → R → T → Type 0) (is_open : 
 
   pub ends_turn_now : (slots id : ℕ) (me : Me (Slot T O R) (View T O R)) (log : List (Entry O R)) (slot : Slot T O R) (last : LastCall O R) (start x y : T) (new : ℕ) → is_live me.0 ≡ true
       → me.0.turn ≡ Some log → me.1 ≡ (0, slot) ∷ [] → slot.last ≡ Some last → slot.value ≡ Some y → me.0.opening ≡ Some start → IsLegal step_of start log x → step_of x last.op.value last.reply.value y
-      → (me.0.number ≢ 0 → is_open last.op.value ≡ true) → new ≡ 2 * length log + 2 → Allows (HasOneHistory step_of is_open first) slots id me 0 (λ _. new) (λ _. ends_turn (step slots 0 new 0 none) me new)
+      → (me.0.number ≢ 0 → is_open last.op.value ≡ true) → new ≡ 2 * length log + 2 → Allows (HasOneHistory step_of is_open is_idle first) slots id me 0 (λ _. new) (λ _. ends_turn (step slots 0 new 0 none) me new)
   ends_turn_now slots id me log slot last start x y new live turn carries tells valued starts legal steps opened long s r wide at small =
       let f = r.each_seat id me.0 at live in let mine = f.holds log turn in let e : Entry O R = entry me.0.number last.op.value last.reply.value in let w : View T O R = played log e me.0 in let is = mine.0 in
       let st : Stands r.value r.log r.word s.homes (taken id) = subst (Stands r.value r.log r.word s.homes) mine.1 r.stands in let word : r.word ≡ 2 * length r.log + 1 = st.0 in let same : length log ≡ length r.log = ap (λ (l : List (Entry O R)). length l) is in
@@ -259,8 +272,8 @@ module _ {T O R : Type 0} (step_of : T → O → R → T → Type 0) (is_open : 
         w,
         gives,
         tt,
-        subst (λ (ws : List ℕ). HasOneHistory step_of is_open first record { words = ws; homes = homes'; views = set s.views id w }) (words_set s r new)
-            (moved s r id me.0 w (r.log ++ e ∷ []) y new free homes' at live refl refl refl (omega arith) (λ j other. calls_other j r.log e (λ by. other (sym by ∙ f.number)))
+        subst (λ (ws : List ℕ). HasOneHistory step_of is_open is_idle first record { words = ws; homes = homes'; views = set s.views id w }) (words_set s r new)
+            (moved s r id me.0 w (r.log ++ e ∷ []) y new free homes' at live refl refl refl (omega arith) (e ∷ [], refl) (λ j other. calls_other j r.log e (λ by. other (sym by ∙ f.number)))
             (all_snoc (λ (z : Entry O R). z.by < length s.views) r.log e r.by_below inside)
             (legal_snoc step_of r.log e first x y legal' steps)
             (omega arith, (slot, back, valued))
@@ -299,14 +312,16 @@ module _ {T O R : Type 0} (step_of : T → O → R → T → Type 0) (is_open : 
             λ i. (played (a i) (entry me.0.number (c i).op.value (c i).reply.value) me.0, rest (carries i))),
       )
 
-  pub starts_now : (items : List (Slot T O R)) (h : Slot T O R) → items ≡ h ∷ [] → h.value ≡ Some first → HasOneHistory step_of is_open first (opening (0 ∷ []) items (first_view first))
-  starts_now items h is valued = record {
+  pub starts_now : (items : List (Slot T O R)) (h : Slot T O R) (none_told : ℕ) → items ≡ h ∷ [] → h.value ≡ Some first → 2 ^ 63 ≤ none_told → HasOneHistory step_of is_open is_idle first (opening (0 ∷ none_told ∷ []) items (first_view first))
+  starts_now items h none_told is valued high = record {
     log = [];
     value = first;
     legal = refl;
     phase = free;
     word = 0;
+    idle = none_told;
     words_are = refl;
+    idle_front = λ low. absurd (omega arith);
     stands = (refl, (h, ap (map some) is, valued));
     others_open = All-nil (λ (z : Entry O R). z.by ≢ 0 → is_open z.op ≡ true);
     by_below = All-nil (λ (z : Entry O R). z.by < 1);
@@ -338,7 +353,7 @@ module _ {T O R : Type 0} (step_of : T → O → R → T → Type 0) (is_open : 
       none_spent zero u e dead = dead_live u (first_view first) (sym (some-injective (first_view first) u e)) dead refl
       none_spent (suc j) u e dead = absurd (some-ne-none u (sym e))
 
-  pub splits_now : (id : ℕ) (v : View T O R) → is_live v ≡ true → v.number ≡ 0 → Splits (HasOneHistory step_of is_open first) id v (split_view v) (new_view v)
+  pub splits_now : (id : ℕ) (v : View T O R) → is_live v ≡ true → v.number ≡ 0 → Splits (HasOneHistory step_of is_open is_idle first) id v (split_view v) (new_view v)
   splits_now id v live lead_is s r at = let f = r.each_seat id v at live in let zero_is : id ≡ 0 = sym f.number ∙ lead_is in
       let at0 : get_elem? s.views 0 ≡ some v = subst (λ (k : ℕ). get_elem? s.views k ≡ some v) zero_is at in
       let l = r.first_seat v at0 live in let w : View T O R = split_view v in let u : View T O R = new_view v in let vs : List (View T O R) = set s.views id w in
@@ -360,7 +375,9 @@ module _ {T O R : Type 0} (step_of : T → O → R → T → Type 0) (is_open : 
         legal = r.legal;
         phase = r.phase;
         word = r.word;
+        idle = r.idle;
         words_are = r.words_are;
+        idle_front = r.idle_front;
         stands = r.stands;
         others_open = r.others_open;
         by_below = All-weaker (λ (e : Entry O R). e.by < length s.views) (λ (e : Entry O R). e.by < length (vs ++ u ∷ [])) (λ e lt. omega arith) r.log r.by_below;
@@ -395,7 +412,7 @@ module _ {T O R : Type 0} (step_of : T → O → R → T → Type 0) (is_open : 
             };
       }
 
-  pub joins_now : (id : ℕ) (v : View T O R) (other : ℕ) (u : View T O R) → is_live v ≡ true → v.number ≡ 0 → is_live u ≡ true → u.turn ≡ None → Joins (HasOneHistory step_of is_open first) id v other u (joined_view v u) spent_view
+  pub joins_now : (id : ℕ) (v : View T O R) (other : ℕ) (u : View T O R) → is_live v ≡ true → v.number ≡ 0 → is_live u ≡ true → u.turn ≡ None → Joins (HasOneHistory step_of is_open is_idle first) id v other u (joined_view v u) spent_view
   joins_now id v other u live lead_is live_u idle s r at apart there' = let f = r.each_seat id v at live in let zero_is : id ≡ 0 = sym f.number ∙ lead_is in
       let w : View T O R = joined_view v u in let vs : List (View T O R) = set s.views id w in let us : List (View T O R) = set vs other spent_view in
       let there : get_elem? s.views other ≡ some u = sym (set_else s.views id other w apart) ∙ there' in let h = r.each_seat other u there live_u in
@@ -422,7 +439,9 @@ module _ {T O R : Type 0} (step_of : T → O → R → T → Type 0) (is_open : 
         legal = r.legal;
         phase = r.phase;
         word = r.word;
+        idle = r.idle;
         words_are = r.words_are;
+        idle_front = r.idle_front;
         stands = r.stands;
         others_open = r.others_open;
         by_below = subst (λ (n : ℕ). All (λ (e : Entry O R). e.by < n) r.log) (sym long) r.by_below;
@@ -472,16 +491,70 @@ module _ {T O R : Type 0} (step_of : T → O → R → T → Type 0) (is_open : 
           (λ e p. (calls_between e.number log (longer v.seen u.seen) v.seen e.mine both.2 both.0 p.0.all_mine p.1.0, starts_in (longer v.seen u.seen) v.seen e.seen both.0 p.1.1, starts_in (longer v.seen u.seen) v.seen e.before both.0 p.1.2)) v.ended
           (all_both (EndedFits log word views) (EndedIn v.seen) v.ended l.ended_fit l.ended_seen)
 
-  pub learns_now : (slots id : ℕ) (me : Me (Slot T O R) (View T O R)) → is_live me.0 ≡ true → Allows (HasOneHistory step_of is_open first) slots id me 0 (λ n. n) (learns step_of is_open (step slots 0 0 0 none) me)
+  idle_is : (s : State (Slot T O R) (View T O R)) (r : HasOneHistory step_of is_open is_idle first s) → get_or s.words 1 0 ≡ r.idle
+  idle_is s r = ap (λ (ws : List ℕ). get_or ws 1 0) r.words_are
+
+  pub loads_idle_now : (slots id : ℕ) (me : Me (Slot T O R) (View T O R)) → is_live me.0 ≡ true → Allows (HasOneHistory step_of is_open is_idle first) slots id me 1 (λ n. n) (loads_idle step_of is_idle (step slots 1 0 0 none) me)
+  loads_idle_now slots id me live s r wide at small = let f = r.each_seat id me.0 at live in let w : View T O R = me.0 in let same = idle_is s r in (
+    w,
+    keeps,
+    tt,
+    subst (λ (z : State (Slot T O R) (View T O R)). HasOneHistory step_of is_open is_idle first z) (λ i. record { words = sym (set-get_or s.words 1 0) i; homes = s.homes; views = sym (set_again s.views id me.0 at) i }) r,
+    (refl, λ low. subst (λ (n : ℕ). FindsIdle step_of is_idle n me.0) (sym same) (finds r me.0 f.begins f.opened (r.idle_front (omega arith)))),
+  )
+    where
+      finds : {s : State (Slot T O R) (View T O R)} (r : HasOneHistory step_of is_open is_idle first s) (v : View T O R) → StartsWith r.log v.seen → v.opening ≡ Some first → IsIdleFront is_idle r.idle r.log → FindsIdle step_of is_idle r.idle v
+      finds r v begins opened front = let cut = legal_split step_of front.0 front.1.0 first r.value (subst (λ (l : List (Entry O R)). IsLegal step_of first l r.value) front.1.1 r.legal) in record {
+        log = r.log;
+        begins = begins;
+        front = front;
+        opening = first;
+        opened = opened;
+        value = cut.0;
+        legal = cut.1;
+      }
+
+  -- a pass whose last call was answered by an idle reply may tell of it at any time
+  pub tells_idle_now : (slots id : ℕ) (me : Me (Slot T O R) (View T O R)) (new : ℕ) → is_live me.0 ≡ true → new ≡ 2 * length me.0.seen → EndsIdle is_idle me.0.seen
+      → Allows (HasOneHistory step_of is_open is_idle first) slots id me 1 (λ _. new) (λ _. tells_idle (step slots 1 new 0 none) me new)
+  tells_idle_now slots id me new live counted ends s r wide at small = let f = r.each_seat id me.0 at live in let w : View T O R = me.0 in (
+    w,
+    keeps,
+    tt,
+    subst (λ (z : State (Slot T O R) (View T O R)). HasOneHistory step_of is_open is_idle first z)
+        (λ i. record { words = ap (λ (ws : List ℕ). set ws 1 new) (sym r.words_are) i; homes = s.homes; views = sym (set_again s.views id me.0 at) i })
+        (told s r new (me.0.seen, f.begins, counted, ends)),
+    refl,
+  )
+    where
+      told : (s : State (Slot T O R) (View T O R)) (r : HasOneHistory step_of is_open is_idle first s) (n : ℕ) → IsIdleFront is_idle n r.log → HasOneHistory step_of is_open is_idle first record { words = r.word ∷ n ∷ []; homes = s.homes; views = s.views }
+      told s r n front = record {
+        log = r.log;
+        value = r.value;
+        legal = r.legal;
+        phase = r.phase;
+        word = r.word;
+        idle = n;
+        words_are = refl;
+        idle_front = λ _. front;
+        stands = r.stands;
+        others_open = r.others_open;
+        by_below = r.by_below;
+        each_seat = r.each_seat;
+        taker = r.taker;
+        first_seat = r.first_seat;
+      }
+
+  pub learns_now : (slots id : ℕ) (me : Me (Slot T O R) (View T O R)) → is_live me.0 ≡ true → Allows (HasOneHistory step_of is_open is_idle first) slots id me 0 (λ n. n) (learns step_of is_open (step slots 0 0 0 none) me)
   learns_now slots id me live s r wide at small = let f = r.each_seat id me.0 at live in let w : View T O R = me.0 in (
     w,
     keeps,
     tt,
-    subst (λ (z : State (Slot T O R) (View T O R)). HasOneHistory step_of is_open first z) (λ i. record { words = sym (set-get_or s.words 0 0) i; homes = s.homes; views = sym (set_again s.views id me.0 at) i }) r,
+    subst (λ (z : State (Slot T O R) (View T O R)). HasOneHistory step_of is_open is_idle first z) (λ i. record { words = sym (set-get_or s.words 0 0) i; homes = s.homes; views = sym (set_again s.views id me.0 at) i }) r,
     (refl, knows_now s r id me.0 at live),
   )
 
-  pub closes_now : (ws : List ℕ) (xs : List (Slot T O R)) (id : ℕ) (v : View T O R) (h : Slot T O R) → Final (Seen (HasOneHistory step_of is_open first) id v) ws xs → is_live v ≡ true → v.number ≡ 0 → v.turn ≡ None → length v.ended ≡ v.made
+  pub closes_now : (ws : List ℕ) (xs : List (Slot T O R)) (id : ℕ) (v : View T O R) (h : Slot T O R) → Final (Seen (HasOneHistory step_of is_open is_idle first) id v) ws xs → is_live v ≡ true → v.number ≡ 0 → v.turn ≡ None → length v.ended ≡ v.made
       → get_elem? xs 0 ≡ some h → (x : T) × (h.value ≡ Some x) × Closes step_of is_open v x
   closes_now ws xs id v h end live lead_is idle all_ended there = let s = end.0 in let r = end.1.0 in let at = end.1.1 in let f = r.each_seat id v at live in let zero_is : id ≡ 0 = sym f.number ∙ lead_is in
       let at0 : get_elem? s.views 0 ≡ some v = subst (λ (k : ℕ). get_elem? s.views k ≡ some v) zero_is at in let l = r.first_seat v at0 live in

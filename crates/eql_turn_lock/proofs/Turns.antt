@@ -11,11 +11,11 @@ use Rattle.eql_turn_lock.specs.declared.slot.Slot.{Slot}
 use Rattle.eql_turn_lock.specs.declared.view.View.{View}
 use Rattle.eql_turn_lock.specs.History.{StartsWith, entry, calls_by, OthersOpen, IsLegal}
 use Rattle.eql_turn_lock.specs.Passes.{EndedIn, first_view, split_view, new_view, ended_of, joined_view, KnowsHistory}
-use Rattle.eql_turn_lock.specs.Rule.{looked_at, played, HoldsTurn, IsSameBut}
+use Rattle.eql_turn_lock.specs.Rule.{looked_at, played, HoldsTurn, IsSameBut, FindsIdle}
 use Rattle.eql_turn_lock.specs.Tries.{LostTry, held, moved, IsLost, words_of}
-use Rattle.eql_turn_lock.specs.Calls.{MayPlay, Plays, PlaysOnce, PlaysLooking, IsUnplayed}
+use Rattle.eql_turn_lock.specs.Calls.{MayPlay, Plays, PlaysOnce, PlaysLooking, IsUnplayed, MetIdle}
 use Rattle.eql_turn_lock.proofs.Histories.{all_right, all_snoc, calls_mine, calls_other, starts_longer, legal_snoc, legal_split, rest_is_of_others, still_allowed}
-use Rattle.eql_turn_lock.proofs.Views.{calls_none}
+use Rattle.eql_turn_lock.proofs.Views.{calls_none, prefix_of}
 
 words_more : (tries : List LostTry) (last : LostTry) → words_of (tries ++ last ∷ []) ≡ words_of tries ++ words_of (last ∷ [])
 words_more [] last = refl
@@ -155,6 +155,29 @@ module _ {T O R : Type 0} where
   pub joined_seen : (v u : View T O R) (w : View T O R) → w ≡ joined_view v u → All (EndedIn w.seen) w.ended → StartsWith w.seen v.seen × StartsWith w.seen u.seen
   joined_seen v u w is all = let e : Ended O R = ended_of v u in
       let last = All-head (EndedIn w.seen) e [] (all_right (EndedIn w.seen) v.ended (e ∷ []) (subst (All (EndedIn w.seen)) (ap (λ (z : View T O R). z.ended) is) all)) in (last.2, last.1)
+
+  module _ (step_of : T → O → R → T → Type 0) (is_idle : R → Bool) where
+    found_idle : (v : View T O R) (word : ℕ) → word < 2 ^ 63 → 2 * length v.seen ≤ word → FindsIdle step_of is_idle word (looked_at word v) → MetIdle step_of is_idle v (looked_at word v)
+    found_idle v word low counts found = let front = found.front in let long : word ≡ 2 * length front.0 = front.2 in record {
+      word = word;
+      low = low;
+      looked_is = refl;
+      log = front.0;
+      counted = long;
+      begins = prefix_of v.seen front.0 found.begins.0 front.1.0 (sym found.begins.1 ∙ front.1.1) (omega arith);
+      ends_idle = front.3;
+      opening = found.opening;
+      opened = found.opened;
+      value = found.value;
+      legal = found.legal;
+    }
+
+    -- of a word that is the idle word, where nothing was done between the two loads
+    pub met_idle : (v a w : View T O R) (word idle : ℕ) → word < 2 ^ 63 → idle ≡ word → a ≡ looked_at word v → w ≡ a → 2 * length v.seen ≤ word → (idle < 2 ^ 63 → FindsIdle step_of is_idle idle a) → IsUnplayed v w × MetIdle step_of is_idle v w
+    met_idle v a w word idle low same is then counts found =
+        let low_idle : idle < 2 ^ 63 = omega (arith, same) in
+        let there : FindsIdle step_of is_idle word (looked_at word v) = subst (λ (z : ℕ × View T O R). FindsIdle step_of is_idle z.0 z.1) (λ i. (same i, is i)) (found low_idle) in
+        subst (λ (z : View T O R). IsUnplayed v z × MetIdle step_of is_idle v z) (sym (then ∙ is)) ((refl, refl, refl, refl, refl, refl), found_idle v word low counts there)
 
   module _ (step_of : T → O → R → T → Type 0) (is_open : O → Bool) where
     -- a word more changes nothing of the history

@@ -3,11 +3,11 @@ use Rattle.std.specs.Prelude.{◌≡◌, ◌≢◌, ◌⊎◌, ℕ, ◌+◌, ◌
 use Rattle.eql_turn_lock.specs.declared.history.Entry.{Entry}
 use Rattle.eql_turn_lock.specs.declared.view.Ended.{Ended}
 use Rattle.eql_turn_lock.specs.declared.view.View.{View}
-use Rattle.eql_turn_lock.specs.declared.moved.Moved.{Moved}
-use Rattle.eql_turn_lock.specs.declared.moved.Moved.TheVariants.{Still, Played, Refused}
+use Rattle.eql_turn_lock.specs.declared.tried.Tried.{Tried}
+use Rattle.eql_turn_lock.specs.declared.tried.Tried.TheVariants.{Idle, Played, Refused}
 use Rattle.eql_turn_lock.specs.declared.refused.NotNow.{NotNow}
 use Rattle.eql_turn_lock.specs.declared.refused.NotNow.TheVariants.{Busy, Worn}
-use Rattle.eql_turn_lock.specs.History.{StartsWith, entry, calls_by, OthersOpen, IsLegal}
+use Rattle.eql_turn_lock.specs.History.{StartsWith, entry, calls_by, OthersOpen, EndsIdle, IsLegal}
 use Rattle.eql_turn_lock.specs.Passes.{EndedIn, HasEnded, AreDistinct, KnowsHistory}
 use Rattle.eql_turn_lock.specs.Tries.{LostTry, IsLost, words_of}
 
@@ -75,25 +75,32 @@ module _ {T O R : Type 0} where
   Refuses v op (Worn word back) w =
       (back ≡ op) × IsUnplayed v w × (2 ^ 63 ≤ word) × (w.looked ≡ v.looked ++ word ∷ [])
 
-  -- The word counts what the pass has seen. So a lock that has this word answered no call since the
-  -- last one that the pass has seen, and plays none.
-  abbrev pub CountsSeen : ℕ → View T O R → Type 0
-  CountsSeen word v = word ≡ 2 * length v.seen
+  -- The one word that the call met counts a history that begins with all that the pass has seen, and
+  -- whose last reply was idle.
+  pub record MetIdle (step_of : T → O → R → T → Type 0) (is_idle : R → Bool) (v w : View T O R) :
+      Type 0 where
+    pub word : ℕ
+    pub low : word < 2 ^ 63
+    pub looked_is : w.looked ≡ v.looked ++ word ∷ []
+    pub log : List (Entry O R)
+    pub counted : word ≡ 2 * length log
+    pub begins : StartsWith log v.seen
+    pub ends_idle : EndsIdle is_idle log
+    pub opening : T
+    pub opened : v.opening ≡ Some opening
+    -- a state to which the history leads
+    pub value : T
+    pub legal : IsLegal step_of opening log value
 
-  -- the one word that the call met is the one that was told
-  abbrev pub MetStill : View T O R → ℕ → View T O R → Type 0
-  MetStill v still w = (still < 2 ^ 63) × (w.looked ≡ v.looked ++ still ∷ [])
-
-  -- One look, and one try where the word isn't the one that was told. The word after an answered
-  -- call is told in turn.
-  abbrev pub PlaysMoved :
-      (T → O → R → T → Type 0) → (O → Bool) → (still : ℕ) → View T O R → O → Moved R O → View T O R
+  -- One look, and one try where the last reply wasn't idle.
+  abbrev pub PlaysUnlessIdle :
+      (T → O → R → T → Type 0) → (O → Bool) → (R → Bool) → View T O R → O → Tried R O → View T O R
       → Type 0
-  PlaysMoved step_of is_open still v op (Still back) w =
-      (back ≡ op) × IsUnplayed v w × MetStill v still w
-  PlaysMoved step_of is_open still v op (Played reply word) w =
-      PlaysOnce step_of is_open v op reply w × CountsSeen word w × (word ≢ still + 2)
-  PlaysMoved step_of is_open still v op (Refused refused) w = Refuses v op refused w
+  PlaysUnlessIdle step_of is_open is_idle v op (Idle back) w =
+      (back ≡ op) × IsUnplayed v w × MetIdle step_of is_idle v w
+  PlaysUnlessIdle step_of is_open is_idle v op (Played reply) w =
+      PlaysOnce step_of is_open v op reply w
+  PlaysUnlessIdle step_of is_open is_idle v op (Refused refused) w = Refuses v op refused w
 
   -- As many tries as are needed: the call is never refused but for a worn word. It loaded this word
   -- last, after tries that took no turn, and none of these loaded a worn one.

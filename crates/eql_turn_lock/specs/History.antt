@@ -19,6 +19,12 @@ module _ {O R : Type 0} where
   abbrev pub OthersOpen : (O → Bool) → List (Entry O R) → Type 0
   OthersOpen is_open entries = All (λ (e : Entry O R). e.by ≢ 0 → is_open e.op ≡ true) entries
 
+  -- the last of these calls was answered by an idle reply
+  abbrev pub EndsIdle : (R → Bool) → List (Entry O R) → Type 0
+  EndsIdle is_idle entries =
+      (before : List (Entry O R)) × (last : Entry O R) × (entries ≡ before ++ last ∷ [])
+      × (is_idle last.reply ≡ true)
+
   module _ {T : Type 0} (step_of : T → O → R → T → Type 0) where
     -- the entries are a run of one value from its opening state to its final one
     abbrev pub IsLegal : T → List (Entry O R) → T → Type 0

@@ -1,7 +1,8 @@
 -- The rule of the table under a lock, and what each kind of step tells.
 -- The word is twice the length of the history, and 1 more while a pass holds the turn, with the
--- slot. Every view fits the history.
-use Rattle.std.specs.Prelude.{◌≡◌, ◌≢◌, ℕ, suc, ◌+◌, ◌*◌, ◌<◌, ◌≤◌, Bool, true, false, if◌then◌else◌, List, [], ◌∷◌, ◌++◌, length, Some, None, All}
+-- slot. The idle word is what the word was after a call whose reply was idle. Every view fits the
+-- history.
+use Rattle.std.specs.Prelude.{◌≡◌, ◌≢◌, ℕ, suc, ◌+◌, ◌*◌, ◌<◌, ◌≤◌, ◌^◌, Bool, true, false, if◌then◌else◌, List, [], ◌∷◌, ◌++◌, length, Some, None, All}
 use mathlib.Core.Option.{some, none}
 use mathlib.Core.Option as maybe
 use lib.ListN.{get_elem?}
@@ -11,13 +12,20 @@ use Rattle.eql_turn_lock.specs.declared.view.Ended.{Ended}
 use Rattle.eql_turn_lock.specs.declared.view.View.{View}
 use Rattle.eql_turn_lock.specs.declared.slot.LastCall.{LastCall}
 use Rattle.eql_turn_lock.specs.declared.slot.Slot.{Slot}
-use Rattle.eql_turn_lock.specs.History.{StartsWith, entry, calls_by, OthersOpen, IsLegal}
+use Rattle.eql_turn_lock.specs.History.{StartsWith, entry, calls_by, OthersOpen, EndsIdle, IsLegal}
 use Rattle.eql_turn_lock.specs.Passes.{EndedIn, HasEnded, AreDistinct, spent_view, is_live, KnowsHistory}
 
 -- who has the turn: nobody, or the pass with this number
 pub data Phase : Type 0 where
   free : Phase
   taken : ℕ → Phase
+
+module _ {O R : Type 0} where
+  -- the word counts a beginning of the history whose last reply is idle
+  abbrev pub IsIdleFront : (R → Bool) → ℕ → List (Entry O R) → Type 0
+  IsIdleFront is_idle word log =
+      (front : List (Entry O R)) × StartsWith log front × (word ≡ 2 * length front)
+      × EndsIdle is_idle front
 
 module _ {T O R : Type 0} where
   abbrev pub live_count : List (View T O R) → ℕ
@@ -75,15 +83,17 @@ module _ {T O R : Type 0} where
         → HasEnded j v.ended
     pub count : live_count views + length v.ended ≡ length views
 
-  pub record HasOneHistory (step_of : T → O → R → T → Type 0) (is_open : O → Bool) (opening : T)
-      (s : State (Slot T O R) (View T O R)) : Type 0 where
+  pub record HasOneHistory (step_of : T → O → R → T → Type 0) (is_open : O → Bool)
+      (is_idle : R → Bool) (opening : T) (s : State (Slot T O R) (View T O R)) : Type 0 where
     pub log : List (Entry O R)
     -- the value to which the history leads
     pub value : T
     pub legal : IsLegal step_of opening log value
     pub phase : Phase
     pub word : ℕ
-    pub words_are : s.words ≡ word ∷ []
+    pub idle : ℕ
+    pub words_are : s.words ≡ word ∷ idle ∷ []
+    pub idle_front : idle < 2 ^ 63 → IsIdleFront is_idle idle log
     pub stands : Stands value log word s.homes phase
     pub others_open : OthersOpen is_open log
     pub by_below : All (λ (e : Entry O R). e.by < length s.views) log
@@ -98,13 +108,33 @@ module _ {T O R : Type 0} where
         (v : View T O R) → get_elem? s.views 0 ≡ some v → is_live v ≡ true
         → FirstFits log word s.views v
 
-  -- the word joins those that the pass met, which aren't greater
+  -- the word joins those that the pass met, which aren't greater, and it counts no less than the pass
+  -- has seen
   abbrev pub loads :
       (T → O → R → T → Type 0) → (O → Bool) → Step (Slot T O R) → Me (Slot T O R) (View T O R) → ℕ
       → Me (Slot T O R) (View T O R) → Type 0
   loads step_of is_open step before found after =
       (after ≡ (looked_at found before.0, before.1)) × All (λ n. n ≤ found) before.0.looked
-      × KnowsHistory step_of is_open before.0
+      × KnowsHistory step_of is_open before.0 × (2 * length before.0.seen ≤ found)
+
+  -- The idle word counts a history of this view's opening value whose last reply is idle. Of it and
+  -- of what the pass has seen one begins the other, since both begin the whole history.
+  pub record FindsIdle (step_of : T → O → R → T → Type 0) (is_idle : R → Bool) (idle : ℕ)
+      (v : View T O R) : Type 0 where
+    pub log : List (Entry O R)
+    pub begins : StartsWith log v.seen
+    pub front : IsIdleFront is_idle idle log
+    pub opening : T
+    pub opened : v.opening ≡ Some opening
+    pub value : T
+    pub legal : IsLegal step_of opening front.0 value
+
+  -- nothing changes, and the word tells of an idle reply where it is below 2^63
+  abbrev pub loads_idle :
+      (T → O → R → T → Type 0) → (R → Bool) → Step (Slot T O R) → Me (Slot T O R) (View T O R) → ℕ
+      → Me (Slot T O R) (View T O R) → Type 0
+  loads_idle step_of is_idle step before found after =
+      (after ≡ before) × (found < 2 ^ 63 → FindsIdle step_of is_idle found before.0)
 
   -- the seat holds the turn: the value that it has stands for the whole history
   pub record HoldsTurn (step_of : T → O → R → T → Type 0) (is_open : O → Bool) (word : ℕ)
@@ -158,3 +188,8 @@ module _ {T O R : Type 0} where
       → Me (Slot T O R) (View T O R) → Type 0
   learns step_of is_open step before found after =
       (after ≡ before) × KnowsHistory step_of is_open before.0
+
+  -- nothing changes for the seat
+  abbrev pub tells_idle :
+      Step (Slot T O R) → Me (Slot T O R) (View T O R) → ℕ → Me (Slot T O R) (View T O R) → Type 0
+  tells_idle step before stored after = after ≡ before

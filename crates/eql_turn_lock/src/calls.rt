@@ -7,7 +7,7 @@ ghost use Rattle.eql_turn_lock.specs.Rule.{HoldsTurn};
 
 use crate::lock::{Pass, TurnLock};
 use crate::refused::NotNow;
-use crate::rule::{EndTurn, Load, TakeTurn};
+use crate::rule::{EndTurn, Load, TakeTurn, TellIdle};
 use crate::slot::{LastCall, Slot};
 use crate::turned::Turned;
 use crate::view::View;
@@ -79,8 +79,33 @@ impl<T: Turned> TurnLock<T> {
         Ok(self.play_in_turn(&mut pass.seat, word, op))
     }
 
-    /// Plays the operation in the turn that the seat holds, and ends the turn.
+    /// Plays the operation in the turn that the seat holds, ends the turn, and tells of an idle
+    /// reply.
     pub(crate) fn play_in_turn(
+        &self,
+        seat: &mut Seat<Slot<T, T::Op, T::Reply>, View<T, T::Op, T::Reply>>,
+        word: u64,
+        op: T::Op,
+    ) -> T::Reply
+        requires own { seat.old.table_id ≡ self.now.table.shared.table_id }
+        requires turn { HoldsTurn T.step_of T.is_open word seat.old.me }
+        requires may { MayPlay T.allows T.step_of T.is_open seat.old.me.0 op }
+        requires small { word < 2 ^ 63 }
+        ensures own { (seat.new.table_id ≡ seat.old.table_id) × (seat.new.id ≡ seat.old.id) }
+        ensures idle { (seat.new.me.1 ≡ []) × (seat.new.me.0.turn ≡ None)
+            × (is_live seat.new.me.0 ≡ true) }
+        ensures played { PlaysLooking [] T.step_of T.is_open seat.old.me.0 op result seat.new.me.0 }
+        ensures counted { word + 2 ≡ 2 * length seat.new.me.0.seen }
+    {
+        let reply = self.play_and_end(seat, word, op);
+        if T::idles(&reply) {
+            self.table.shared.store::<TellIdle>(seat, 1, word + 2);
+        }
+        reply
+    }
+
+    /// Plays the operation in the turn that the seat holds, and ends the turn.
+    fn play_and_end(
         &self,
         seat: &mut Seat<Slot<T, T::Op, T::Reply>, View<T, T::Op, T::Reply>>,
         word: u64,

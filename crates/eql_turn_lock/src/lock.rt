@@ -25,7 +25,7 @@ pub struct TurnLock<T: Turned> {
         OneHistory,
         Global,
     >,
-    ghost sized: { (table.shared.table_id.words ≡ 1) × (table.shared.table_id.slots ≡ 1) },
+    ghost sized: { (table.shared.table_id.words ≡ 2) × (table.shared.table_id.slots ≡ 1) },
 }
 
 /// What one caller knows of one lock, and its leave to call it. It has no bytes.
@@ -61,7 +61,7 @@ impl<T: Turned> TurnLock<T> {
             value: Some(value),
             last: None,
         });
-        match Table::new(alloc, &[0], slots, &opening) {
+        match Table::new(alloc, &[0, u64::MAX], slots, &opening) {
             Ok((table, seat)) => Ok((TurnLock { table }, Pass { seat })),
             Err(Refused { slots }) => Err((Memory, value_of(slots))),
         }

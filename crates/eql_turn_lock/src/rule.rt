@@ -13,7 +13,7 @@ impl<T: Turned> TableRule<Slot<T, T::Op, T::Reply>, View<T, T::Op, T::Reply>, Sn
     ghost use Rattle.eql_turn_lock.specs.Passes.{first_view};
     ghost use Rattle.eql_turn_lock.specs.Rule.{HasOneHistory};
 
-    ghost holds = { λ opening. HasOneHistory T.step_of T.is_open opening.value };
+    ghost holds = { λ opening. HasOneHistory T.step_of T.is_open T.is_idle opening.value };
 
     ghost first = { λ opening. first_view opening.value };
 }
@@ -43,6 +43,24 @@ impl<T, O, R> Play<Slot<T, O, R>, View<T, O, R>> for EndTurn {
     ghost use Rattle.eql_turn_lock.specs.Rule.{ends_turn};
 
     ghost then = { ends_turn };
+}
+
+/// A call loads the idle word.
+pub(crate) struct LoadIdle;
+
+impl<T: Turned> Play<Slot<T, T::Op, T::Reply>, View<T, T::Op, T::Reply>> for LoadIdle {
+    ghost use Rattle.eql_turn_lock.specs.Rule.{loads_idle};
+
+    ghost then = { loads_idle T.step_of T.is_idle };
+}
+
+/// A call whose reply is idle stores in the idle word what the word is after it.
+pub(crate) struct TellIdle;
+
+impl<T, O, R> Play<Slot<T, O, R>, View<T, O, R>> for TellIdle {
+    ghost use Rattle.eql_turn_lock.specs.Rule.{tells_idle};
+
+    ghost then = { tells_idle };
 }
 
 /// A load of the first pass that tells what stands after a join, and whose word isn't kept.

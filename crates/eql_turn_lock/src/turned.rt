@@ -21,10 +21,18 @@ pub trait Turned {
     /// Whether the operation is open to all passes.
     ghost is_open: { Self.Op → Bool };
 
+    /// Whether a reply says that nothing was to be done. While such a reply is the last one,
+    /// whoever would ask the same need not take the turn.
+    ghost is_idle: { Self.Reply → Bool };
+
     /// Plays one operation on the value.
     fn play(&mut self, op: Self::Op) -> Self::Reply
         requires { allows self.old op }
         ensures { step_of self.old op result self.new };
+
+    /// Tells whether the reply is idle.
+    fn idles(reply: &Self::Reply) -> bool
+        ensures { result ≡ is_idle reply.now };
 
     // An open operation is allowed in every state.
     ghost opens: { (x : Self) (op : Self.Op) → is_open op ≡ true → allows x op };

@@ -1,5 +1,5 @@
 -- What a tray of letters does, and what becomes of the letters that are delivered.
-use Rattle.std.specs.Prelude.{◌≡◌, ℕ, ◌+◌, ◌<◌, ◌≤◌, Bool, true, false, List, [], ◌∷◌, ◌++◌, length, Some, None, ⊤}
+use Rattle.std.specs.Prelude.{◌≡◌, ℕ, ◌+◌, ◌<◌, ◌≤◌, Bool, true, false, List, [], ◌∷◌, ◌++◌, length, Some, None, is_none, ⊤}
 use Rattle.std.specs.Option.{option_to_list}
 use Rattle.std.specs.VecDeque.{deque_len, deque_capacity}
 use mathlib.Core.Path.{sym, subst}
@@ -23,6 +23,11 @@ tray_allows x Take = ⊤
 abbrev pub tray_open : TrayOp → Bool
 tray_open (Deliver letter) = false
 tray_open Take = true
+
+-- nothing is to be done where a letter was asked for and there was none
+abbrev pub tray_idle : TrayReply → Bool
+tray_idle Delivered = false
+tray_idle (Taken letter) = is_none letter
 
 abbrev pub SameRoom : Tray → Tray → Type 0
 SameRoom x y = deque_capacity y.letters ≡ deque_capacity x.letters

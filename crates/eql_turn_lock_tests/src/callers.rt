@@ -2,11 +2,11 @@
 ghost use Rattle.std.specs.Prelude.{◌≡◌, [], MatchResult};
 ghost use Rattle.eql_turn_lock.specs.Passes.{joined_view};
 ghost use Rattle.eql_turn_lock.specs.Locks.{IsPassOf, view_of};
-ghost use Rattle.eql_turn_lock.specs.Calls.{MayPlay, Plays, PlaysOnce, Refuses, RefusesWorn};
-ghost use Rattle.eql_turn_lock_tests.specs.Trays.{tray_allows, tray_step, tray_open, NothingLost, SawRoom};
+ghost use Rattle.eql_turn_lock.specs.Calls.{MayPlay, Plays, PlaysOnce, PlaysUnlessIdle, Refuses, RefusesWorn};
+ghost use Rattle.eql_turn_lock_tests.specs.Trays.{tray_allows, tray_step, tray_open, tray_idle, NothingLost, SawRoom};
 
 use crate::tray::{Tray, TrayOp, TrayReply};
-use eql_turn_lock::{NotNow, Pass, TurnLock};
+use eql_turn_lock::{NotNow, Pass, Tried, TurnLock};
 use std::sync::Wait;
 
 /// Tries once to deliver a letter.
@@ -39,6 +39,16 @@ pub fn take(lock: &TurnLock<Tray>, pass: &mut Pass<Tray>) -> Result<TrayReply, N
         (λ refused. Refuses (view_of pass.old) TrayOp.Take refused (view_of pass.new)) }
 {
     lock.try_call(pass, TrayOp::Take)
+}
+
+/// Tries once to take a letter, where the last call didn't find the tray empty.
+pub fn take_unless_empty(lock: &TurnLock<Tray>, pass: &mut Pass<Tray>) -> Tried<TrayReply, TrayOp>
+    requires own { IsPassOf lock.now pass.old }
+    ensures own { IsPassOf lock.now pass.new }
+    ensures played { PlaysUnlessIdle tray_step tray_open tray_idle
+        (view_of pass.old) TrayOp.Take result (view_of pass.new) }
+{
+    lock.try_unless_idle(pass, TrayOp::Take)
 }
 
 /// Delivers a letter, however long others hold the turn.

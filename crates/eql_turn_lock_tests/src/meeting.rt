@@ -38,7 +38,7 @@ pub fn sees(flag: &Flag) -> bool {
 }
 
 impl Turned for Meeting {
-    ghost use Rattle.std.specs.Prelude.{⊤, true};
+    ghost use Rattle.std.specs.Prelude.{⊤, true, false};
     ghost use Rattle.eql_turn_lock_tests.specs.Meetings.{meeting_step};
 
     type Op = MeetingOp;
@@ -52,6 +52,8 @@ impl Turned for Meeting {
 
     ghost is_open = { λ op. true };
 
+    ghost is_idle = { λ reply. false };
+
     fn play(&mut self, op: MeetingOp) -> bool {
         self.played = self.played.saturating_add(1);
         match op {
@@ -61,6 +63,10 @@ impl Turned for Meeting {
             }
             MeetingOp::Leave => true,
         }
+    }
+
+    fn idles(_reply: &bool) -> bool {
+        false
     }
 
     ghost opens = { λ x op e. tt };

@@ -6,9 +6,9 @@ ghost use Rattle.eql_turn_lock_tests.specs.Trays.{IsSamePass};
 use crate::meeting::{Flag, sees};
 use crate::{
     Meeting, MeetingOp, Tray, TrayOp, TrayReply, close_tray, deliver, deliver_after,
-    deliver_waiting, take,
+    deliver_waiting, take, take_unless_empty,
 };
-use eql_turn_lock::{NotNow, Pass, TurnLock};
+use eql_turn_lock::{NotNow, Pass, Tried, TurnLock};
 use std::collections::VecDeque;
 use std::sync::Arc;
 use std::sync::atomic::{AtomicBool, Ordering};
@@ -75,6 +75,49 @@ fn a_joined_pass_made_room(rt: HostRuntime) -> Result<(), Fail> {
     let tray = lock.close(first);
     assert_eq!(rt; tray.letters.front(), Some(&8));
     assert_eq!(rt; tray.letters.len(), 1);
+    Ok(())
+}
+
+#[test]
+fn an_idle_reply_is_told_by_a_look(rt: HostRuntime) -> Result<(), Fail> {
+    let letters = VecDeque::with_capacity(rt.alloc(), 2).expect(&rt, "memory");
+    let made = TurnLock::make(rt.alloc(), Tray { letters });
+    let Ok((lock, mut first)) = made else {
+        panic!(rt; "no memory")
+    };
+    let mut other = lock.split(&mut first);
+
+    // Nobody called yet, so the operation is played. Its reply is idle.
+    let tried = take_unless_empty(&lock, &mut other);
+    assert!(rt; matches!(&tried, Tried::Played(TrayReply::Taken { letter: None })));
+
+    // Another pass takes no turn, and has its operation back.
+    let tried = lock.try_unless_idle(&mut first, TrayOp::Deliver { letter: 7 });
+    let Tried::Idle {
+        op: TrayOp::Deliver { letter },
+    } = tried
+    else {
+        panic!(rt; "the last reply is idle")
+    };
+    assert_eq!(rt; letter, 7);
+
+    // A reply that isn't idle ends it, whichever pass looks.
+    let reply = deliver(&lock, &mut first, letter);
+    assert!(rt; matches!(&reply, Ok(TrayReply::Delivered)));
+    let tried = take_unless_empty(&lock, &mut other);
+    assert!(rt; matches!(&tried, Tried::Played(TrayReply::Taken { letter: Some(7) })));
+    let tried = take_unless_empty(&lock, &mut first);
+    assert!(rt; matches!(&tried, Tried::Played(TrayReply::Taken { letter: None })));
+    let tried = take_unless_empty(&lock, &mut other);
+    assert!(rt; matches!(&tried, Tried::Idle { op: TrayOp::Take }));
+
+    // A call that doesn't look is played, and its reply is the last one then.
+    let reply = take(&lock, &mut other);
+    assert!(rt; matches!(&reply, Ok(TrayReply::Taken { letter: None })));
+    let tried = take_unless_empty(&lock, &mut first);
+    assert!(rt; matches!(&tried, Tried::Idle { op: TrayOp::Take }));
+    let tray = close_tray(lock, first, other);
+    assert!(rt; tray.letters.is_empty());
     Ok(())
 }
 

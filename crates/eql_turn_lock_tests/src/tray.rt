@@ -41,7 +41,7 @@ impl Tray {
 }
 
 impl Turned for Tray {
-    ghost use Rattle.eql_turn_lock_tests.specs.Trays.{tray_allows, tray_step, tray_open, tray_opens, tray_stays_allowed};
+    ghost use Rattle.eql_turn_lock_tests.specs.Trays.{tray_allows, tray_step, tray_open, tray_idle, tray_opens, tray_stays_allowed};
 
     type Op = TrayOp;
 
@@ -53,6 +53,8 @@ impl Turned for Tray {
 
     ghost is_open = { tray_open };
 
+    ghost is_idle = { tray_idle };
+
     fn play(&mut self, op: TrayOp) -> TrayReply {
         match op {
             TrayOp::Deliver { letter } => self.put(letter),
@@ -60,6 +62,10 @@ impl Turned for Tray {
                 letter: self.letters.pop_front(),
             },
         }
+    }
+
+    fn idles(reply: &TrayReply) -> bool {
+        matches!(reply, TrayReply::Taken { letter: None })
     }
 
     ghost opens = { tray_opens };

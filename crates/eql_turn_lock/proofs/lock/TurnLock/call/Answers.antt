@@ -7,10 +7,10 @@ use Rattle.eql_turn_lock.proofs.lock.TurnLock.call.Goals.{then-word-eq0+else-fou
 use Rattle.eql_turn_lock.proofs.lock.TurnLock.call.Goals as goal
 
 pub load-word-requires : goal.load-word-requires
-load-word-requires g c = (search rules, search rules, loads_now g.T.Turned.step_of g.T.Turned.is_open _ _ _ _ c.loop.invariant.2)
+load-word-requires g c = (search rules, search rules, loads_now g.T.Turned.step_of g.T.Turned.is_open g.T.Turned.is_idle _ _ _ _ c.loop.invariant.2)
 
 pub compare_exchange-found-requires : goal.compare_exchange-found-requires
-compare_exchange-found-requires g c = (search rules, search rules, takes_turn_now g.T.Turned.step_of g.T.Turned.is_open _ _ _ _ _ _ (ap (λ m. is_live m.0) c.load-word.ensures.2.0 ∙ c.loop.invariant.2) (search rules) refl)
+compare_exchange-found-requires g c = (search rules, search rules, takes_turn_now g.T.Turned.step_of g.T.Turned.is_open g.T.Turned.is_idle _ _ _ _ _ _ (ap (λ m. is_live m.0) c.load-word.ensures.2.0 ∙ c.loop.invariant.2) (search rules) refl)
 
 pub loop-preserved : goal.loop-preserved
 loop-preserved g c = let look = c.load-word.ensures.2 in elim c.if-word-eq0.branch [

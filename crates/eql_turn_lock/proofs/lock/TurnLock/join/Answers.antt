@@ -5,10 +5,10 @@ use Rattle.eql_turn_lock.proofs.Turns.{joined_seen}
 use Rattle.eql_turn_lock.proofs.lock.TurnLock.join.Goals as goal
 
 pub join_seat-requires : goal.join_seat-requires
-join_seat-requires g c = (search rules, search rules, search rules, search rules, joins_now g.T.Turned.step_of g.T.Turned.is_open _ _ _ _ _ c.args.pass.now.idle.2 c.requires.first c.args.other.idle.2 c.args.other.idle.1)
+join_seat-requires g c = (search rules, search rules, search rules, search rules, joins_now g.T.Turned.step_of g.T.Turned.is_open g.T.Turned.is_idle _ _ _ _ _ c.args.pass.now.idle.2 c.requires.first c.args.other.idle.2 c.args.other.idle.1)
 
 pub load-requires : goal.load-requires
-load-requires g c = (search rules, search rules, learns_now g.T.Turned.step_of g.T.Turned.is_open _ _ _ _ (ap (λ m. is_live m.0) c.join_seat.ensures.2 ∙ c.args.pass.now.idle.2))
+load-requires g c = (search rules, search rules, learns_now g.T.Turned.step_of g.T.Turned.is_open g.T.Turned.is_idle _ _ _ _ (ap (λ m. is_live m.0) c.join_seat.ensures.2 ∙ c.args.pass.now.idle.2))
 
 pub returns-clause-knows : goal.returns-clause-knows
 returns-clause-knows g c = let learnt = c.load.ensures.2 in subst (λ m. KnowsHistory g.T.Turned.step_of g.T.Turned.is_open m.0) (sym learnt.0) learnt.1

@@ -5,10 +5,10 @@ use Rattle.eql_turn_lock.proofs.Turns.{knows_looked, played_once}
 use Rattle.eql_turn_lock.proofs.lock.TurnLock.try_call.Goals as goal
 
 pub load-word-requires : goal.load-word-requires
-load-word-requires g c = (search rules, search rules, loads_now g.T.Turned.step_of g.T.Turned.is_open _ _ _ _ c.args.pass.now.idle.2)
+load-word-requires g c = (search rules, search rules, loads_now g.T.Turned.step_of g.T.Turned.is_open g.T.Turned.is_idle _ _ _ _ c.args.pass.now.idle.2)
 
 pub compare_exchange-found-requires : goal.compare_exchange-found-requires
-compare_exchange-found-requires g c = (search rules, search rules, takes_turn_now g.T.Turned.step_of g.T.Turned.is_open _ _ _ _ _ _ (ap (λ m. is_live m.0) c.load-word.ensures.2.0 ∙ c.args.pass.now.idle.2) (search rules) refl)
+compare_exchange-found-requires g c = (search rules, search rules, takes_turn_now g.T.Turned.step_of g.T.Turned.is_open g.T.Turned.is_idle _ _ _ _ _ _ (ap (λ m. is_live m.0) c.load-word.ensures.2.0 ∙ c.args.pass.now.idle.2) (search rules) refl)
 
 pub returns-then-word-ge-WORN-clause-knows : goal.returns-then-word-ge-WORN-clause-knows
 returns-then-word-ge-WORN-clause-knows g c = let look = c.load-word.ensures.2 in

@@ -5,10 +5,10 @@ use Rattle.std.proofs.lemmas.Option.{slice_get_read}
 use Rattle.eql_turn_lock.specs.Locks.{view_of}
 use Rattle.eql_lock_row.specs.Rows.{AreOf, RowView, id_of_lock, id_of_pass}
 use Rattle.eql_lock_row.proofs.Walks.{own_at, own_stays, view_at, views_set}
-use Rattle.eql_lock_row.proofs.row.LockRow.try_moved.Goals as goal
+use Rattle.eql_lock_row.proofs.row.LockRow.try_unless_idle.Goals as goal
 
-pub try_moved-requires-clause-own : goal.try_moved-requires-clause-own
-try_moved-requires-clause-own g c =
+pub try_unless_idle-requires-clause-own : goal.try_unless_idle-requires-clause-own
+try_unless_idle-requires-clause-own g c =
     let locks = c.self.inside.locks.items in let passes = c.passes.inside.passes.items in
     let own : AreOf locks passes = ap (λ (r : RowView _ _ _). r.locks) c.passes.view_is ∙ (c.requires.own ∙ sym c.self.view_is) in
     let count : length c.args.self.now ≡ length locks = sym (ap length c.self.view_is) ∙ length-map locks id_of_lock in
@@ -18,8 +18,8 @@ try_moved-requires-clause-own g c =
     (slice_get_read locks (length locks) c.args.place c.index.result.now refl (omega (arith, h, count)) c.index.ensures)
     (slice_get_read passes (length passes) c.args.place c.index_mut.result.now refl (omega (arith, h, count, other)) c.index_mut.ensures.value)
 
-pub try_moved-requires-clause-may : goal.try_moved-requires-clause-may
-try_moved-requires-clause-may g c =
+pub try_unless_idle-requires-clause-may : goal.try_unless_idle-requires-clause-may
+try_unless_idle-requires-clause-may g c =
     let locks = c.self.inside.locks.items in let passes = c.passes.inside.passes.items in
     let own : AreOf locks passes = ap (λ (r : RowView _ _ _). r.locks) c.passes.view_is ∙ (c.requires.own ∙ sym c.self.view_is) in
     let count : length c.args.self.now ≡ length passes = sym (ap length c.self.view_is) ∙ (sym (ap length own) ∙ length-map passes id_of_pass) in
@@ -34,8 +34,8 @@ returns-clause-own g c =
     let own : AreOf locks passes = ap (λ (r : RowView _ _ _). r.locks) c.passes.view_is ∙ (c.requires.own ∙ sym c.self.view_is) in
     let count : length c.args.self.now ≡ length locks = sym (ap length c.self.view_is) ∙ length-map locks id_of_lock in
     let h = c.requires.place in
-    own_stays locks passes c.args.place c.index.result.now c.try_moved.new.pass own
-    (slice_get_read locks (length locks) c.args.place c.index.result.now refl (omega (arith, h, count)) c.index.ensures) c.try_moved.ensures.own
+    own_stays locks passes c.args.place c.index.result.now c.try_unless_idle.new.pass own
+    (slice_get_read locks (length locks) c.args.place c.index.result.now refl (omega (arith, h, count)) c.index.ensures) c.try_unless_idle.ensures.own
     ∙ c.self.view_is
 
 pub returns-clause-played : goal.returns-clause-played
@@ -47,9 +47,9 @@ returns-clause-played g c =
     let there = slice_get_read passes (length passes) c.args.place c.index_mut.result.now refl (omega (arith, h, count)) c.index_mut.ensures.value in
     record {
       before = view_of c.index_mut.result.now;
-      after = view_of c.try_moved.new.pass;
+      after = view_of c.try_unless_idle.new.pass;
       was = sym (ap (λ (r : RowView _ _ _). slice_get r.views c.args.place) c.passes.view_is) ∙ view_at passes c.args.place c.index_mut.result.now there;
-      is = views_set passes c.args.place c.try_moved.new.pass
-          ∙ ap (λ (r : RowView _ _ _). slice_set r.views c.args.place (view_of c.try_moved.new.pass)) c.passes.view_is;
-      changes = (c.try_moved.ensures.played, c.try_moved.ensures.knows);
+      is = views_set passes c.args.place c.try_unless_idle.new.pass
+          ∙ ap (λ (r : RowView _ _ _). slice_set r.views c.args.place (view_of c.try_unless_idle.new.pass)) c.passes.view_is;
+      changes = (c.try_unless_idle.ensures.played, c.try_unless_idle.ensures.knows);
     }
