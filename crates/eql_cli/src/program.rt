@@ -37,6 +37,10 @@ pub struct Ended<K, E> {
 /// With a checkpoint `find` begins with the cut that the shelf's disk holds, and the listing is then what follows the lines that
 /// this cut counts. The run puts cuts on the disk, and whatever a crash at any moment leaves of the disk holds what it held
 /// before, or one of these cuts.
+///
+/// `find` and `made` search with further threads beside the caller's, as many as `--hands` says, and one where it isn't there.
+/// They read shards and play events. On status 0 the bytes written are the same for every number of threads and every schedule.
+/// Several faults may come at once then, of which one is told, and a read fault before others.
 pub fn eql_main<R: Threads + Wait + Sync, H: Shelf, K: Sink, E: Sink, G: Gate + Sync>(
     rt: &R,
     alloc: Global,

@@ -46,8 +46,8 @@ fn made_summary<R: Threads + Wait + Sync, W: Gate + Sync>(
     summary_of(alloc, events, listing.bytes().as_slice())
 }
 
-/// Runs `made`: searches so many events that it makes itself, with so many further threads, and writes in one write how
-/// many events and matches there are and the first and the last line of the listing.
+/// Runs `made`: searches so many events that it makes itself, with so many further threads, and writes how many
+/// events and matches there are and the first and the last line of the listing.
 ///
 /// On `Ok` they are written whole, and else a front of them, or nothing.
 pub fn write_summary<R: Threads + Wait + Sync, K: Sink, W: Gate + Sync>(
