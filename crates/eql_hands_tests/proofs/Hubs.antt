@@ -22,26 +22,26 @@ module _ {T O R : Type 0} where
   abbrev splits : List T → List (View T O R)
   splits xs = map split_view (map first_view xs)
 
-  all_first : (xs : List T) → All IsFirst (splits xs)
+  abbrev all_first : (xs : List T) → All IsFirst (splits xs)
   all_first [] = All-nil IsFirst
   all_first (x ∷ xs) = All-cons IsFirst (split_view (first_view x)) (splits xs) refl (all_first xs)
 
-  split_first : (xs : List T) (olds news : List (View T O R)) → olds ≡ map first_view xs → news ≡ map split_view olds → All IsFirst news
+  abbrev split_first : (xs : List T) (olds news : List (View T O R)) → olds ≡ map first_view xs → news ≡ map split_view olds → All IsFirst news
   split_first xs olds news old new = subst (All IsFirst) (sym (new ∙ ap (λ (l : List (View T O R)). map split_view l) old)) (all_first xs)
 
-  still_first : (views others : List (View T O R)) → All IsFirst views → All IsFirst (joined_views views others)
+  abbrev still_first : (views others : List (View T O R)) → All IsFirst views → All IsFirst (joined_views views others)
   still_first [] others first = All-nil IsFirst
   still_first (v ∷ vs) [] first = first
   still_first (v ∷ vs) (w ∷ ws) first =
       All-cons IsFirst (joined_view v w) (joined_views vs ws) (All-head IsFirst v vs first) (still_first vs ws (All-tail IsFirst v vs first))
 
-  all_joined : (xs : List T) (others : List (View T O R)) → length others ≡ length xs → All IsJoined (joined_views (splits xs) others)
+  abbrev all_joined : (xs : List T) (others : List (View T O R)) → length others ≡ length xs → All IsJoined (joined_views (splits xs) others)
   all_joined [] others count = All-nil IsJoined
   all_joined (x ∷ xs) [] count = absurd cc
   all_joined (x ∷ xs) (w ∷ ws) count =
       All-cons IsJoined (joined_view (split_view (first_view x)) w) (joined_views (splits xs) ws) refl (all_joined xs ws (grind arith))
 
-  row_joined : (xs : List T) (firsts olds mades others news : List (View T O R)) → firsts ≡ map first_view xs → olds ≡ map split_view firsts → mades ≡ map new_view firsts
+  abbrev row_joined : (xs : List T) (firsts olds mades others news : List (View T O R)) → firsts ≡ map first_view xs → olds ≡ map split_view firsts → mades ≡ map new_view firsts
       → length others ≡ length mades → news ≡ joined_views olds others → All IsJoined news
   row_joined xs firsts olds mades others news first old made count new =
       let split : olds ≡ splits xs = old ∙ ap (λ (l : List (View T O R)). map split_view l) first in

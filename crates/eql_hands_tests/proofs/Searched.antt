@@ -34,7 +34,7 @@ module _ {S L : Type 0} (read_of : L → Reads) (lanes : List (LaneView S L)) (t
     ),
   )
 
-  are_fresh : All (λ (cut : LaneCut). cut ≡ fresh_lane) (cuts_of lanes)
+  abbrev are_fresh : All (λ (cut : LaneCut). cut ≡ fresh_lane) (cuts_of lanes)
   are_fresh = subst (λ (l : List (LaneView S L)). All (λ (cut : LaneCut). cut ≡ fresh_lane) (cuts_of l)) (sym two.are)
       (All-cons (λ (cut : LaneCut). cut ≡ fresh_lane) two.first.state.cut (two.second.state.cut ∷ []) two.first_is.cut_is
       (All-cons (λ (cut : LaneCut). cut ≡ fresh_lane) two.second.state.cut [] two.second_is.cut_is (All-nil (λ (cut : LaneCut). cut ≡ fresh_lane))))
