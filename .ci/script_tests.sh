@@ -101,6 +101,12 @@ same 'and asks nothing more' ''
 rm -r tree/crates/eql/out
 run 'it tells each crate as it is proved, and runs the program' 9 "$ran" @all "$with"
 touch -d '+1 minute' tree/crates/eql_values/src/lib.rt
+run 'a program older than a source, and no toolchain' 70 '' "eql: the program is older than $room/tree/crates/eql_values/src/lib.rt, and the toolchain's command 'rt' isn't on the PATH
+" "$without"
+{ told_of $((count - 1)); echo "eql: eql isn't proved; 'rt run' in $room/tree/crates/eql tells why"; } >last
+RT_FAILS=eql run 'a program that fails where one was' 70 '' @last "$with"
+(cd tree/crates/eql/out && ls -d eql*) >got.out
+same 'the one from before stays' $'eql\n'
 run 'it builds again after a change below' 9 "$ran" @all "$with"
 rm tree/crates/eql_values/src/lib.rt
 touch -d '+1 minute' tree/crates/eql_rows/src/lib.rt
@@ -109,7 +115,6 @@ rm -r tree/crates/eql/out
 second=$(sed -n 2p order)
 { told_of 1; echo "eql: $second isn't proved; 'rt lib' in $room/tree/crates/$second tells why"; } >one
 RT_FAILS=$second run 'a crate that fails' 70 '' @one "$with"
-{ told_of $((count - 1)); echo "eql: eql isn't proved; 'rt run' in $room/tree/crates/eql tells why"; } >last
 RT_FAILS=eql run 'a program that fails' 70 '' @last "$with"
 
 # Crates side by side: the first and another one that stands on none.
