@@ -10,6 +10,7 @@ use Rattle.eql_parts.specs.PartSteps.{Rules}
 use Rattle.eql_book.specs.Books.{BookState}
 use Rattle.eql_cut.specs.declared.cut.Cut.{Cut}
 use Rattle.eql_cut.specs.declared.cut.CutHead.{CutHead}
+use Rattle.eql_cut.specs.Rising.{RiseFrom}
 use Rattle.eql_ckdisk.specs.declared.state.CkState.{CkState}
 use Rattle.eql_ckdisk.specs.Putting.{Stands, last_cut}
 use Rattle.eql_ckdisk.specs.Runs.{last_after}
@@ -25,7 +26,7 @@ use Rattle.eql_conductor.specs.LaneRounds.{LanesAt}
 use Rattle.eql_conductor.specs.PartRounds.{Resting, SomeFull}
 use Rattle.eql_conductor.specs.Rounds.{GoesTo, RoundRests}
 use Rattle.eql_conductor.specs.RunNotes.{CutNoted, Place, RoundBrokeOff, RoundPlayed, RoundsPlayed, SaveBroken, place, start}
-use Rattle.eql_conductor.specs.Runs.{IsRunCut, KeepGoes, LastHolds, RunIs, cut_time}
+use Rattle.eql_conductor.specs.Runs.{IsRunCut, KeepGoes, LastHolds, RunIs, WroteLinesOf, cut_time}
 use Rattle.eql_conductor.specs.Saving.{BookKeepsNumbers, IsHeadOf, IsSavedAt, PutsCuts}
 
 -- how a run ends that this stopped
@@ -146,6 +147,8 @@ module _ {D : Type 0} (history : D → Option History) (count : D → ℕ) where
     pub cuts : List Cut
     pub is : RunIs from old new book then before now cuts answer
     pub keeps : KeepGoes history count head from old book cuts answer keep kept
+    pub wrote : All (WroteLinesOf from old book before now) cuts
+    pub rise : RiseFrom from cuts
 
   -- or it stopped there: a run of this round alone
   pub record StepStops (plan : RunPlan) (at : Place) (old new : Known) (book then : BookState) (before now : Option (List ℕ)) (keep kept : Option (Keep D)) (by : Stop) : Type 0 where
@@ -160,6 +163,8 @@ module _ {D : Type 0} (history : D → Option History) (count : D → ℕ) where
     pub are_cuts : All (IsRunCut plan.head plan.mark old book) cuts
     pub at_most : All (λ (cut : Cut). AtMost (At cut.mark) at.mark) cuts
     pub puts : KeepPuts cuts keep kept
+    pub wrote : All (WroteLinesOf plan.mark old book before now) cuts
+    pub rise : RiseFrom plan.mark cuts
     pub noted : RoundsPlayed plan.batch plan.every (start plan) at (map cut_time cuts) old new
     pub rounds : length noted.rounds ≡ n
 

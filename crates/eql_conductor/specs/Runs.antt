@@ -13,7 +13,7 @@ use Rattle.eql_outside.specs.Moments.{History}
 use Rattle.eql_outside.specs.Outside.{Rose}
 use Rattle.eql_outside.specs.Plans.{FaultPlan}
 use Rattle.eql_outside.specs.Unfailing.{IsUnfailing}
-use Rattle.eql_outside.specs.Written.{WroteAll, WroteFront}
+use Rattle.eql_outside.specs.Written.{WroteAll, WroteFront, WroteThrough}
 use Rattle.eql_lane.specs.declared.ops.LimitOf.TheVariants as limit
 use Rattle.eql_lane.specs.Lanes.{LaneState, OutOfLines}
 use Rattle.eql_parts.specs.PartSteps.{Rules}
@@ -116,6 +116,12 @@ pub record IsRunCut (head : CutHead) (from : Mark) (old : Known) (book : BookSta
   pub later : AtMost from (At cut.mark)
   pub told : (reads : Reads) (slack : Option ℤ) (texts : List (List ℕ)) (rules : Rules) (all : List Holder) → OfTexts reads slack texts from old → Resting rules all from old
       → IsCutOf rules all reads slack texts from book cut
+
+-- the lines that a cut counts, of told texts, were written, and perhaps more behind them
+abbrev pub WroteLinesOf : (from : Mark) (old : Known) (book : BookState) (before now : Option (List ℕ)) → Cut → Type 0
+WroteLinesOf from old book before now cut =
+    (reads : Reads) (slack : Option ℤ) (texts : List (List ℕ)) (rules : Rules) (all : List Holder) → OfTexts reads slack texts from old → Resting rules all from old
+    → WroteThrough (lines_before_end book (found_by rules all (between reads slack texts from (At cut.mark)))) before now
 
 abbrev pub cut_time : Cut → ℤ
 cut_time cut = cut.mark

@@ -5,6 +5,7 @@ pub mod Values
 pub mod CutValues
 pub mod Agreeing
 pub mod Domain
+pub mod Rising
 pub mod Whole
 pub mod Fitting
 pub mod Placing

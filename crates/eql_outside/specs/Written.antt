@@ -18,6 +18,10 @@ WroteRest n bytes before now = WroteAll (drop n bytes) before now
 abbrev pub WroteBut : List ℕ → List ℕ → Option (List ℕ) → Option (List ℕ) → Type 0
 WroteBut waiting bytes before now = IfSome before (λ w. (sent : List ℕ) × (now ≡ Some (w ++ sent)) × (sent ++ waiting ≡ bytes))
 
+-- it wrote all of this, and perhaps more behind it
+abbrev pub WroteThrough : List ℕ → Option (List ℕ) → Option (List ℕ) → Type 0
+WroteThrough bytes before now = IfSome before (λ w. (more : List ℕ) × (now ≡ Some ((w ++ bytes) ++ more)))
+
 -- of 'abc' behind 'x', and of what stands behind a sink that doesn't tell
 pub all_of_it : WroteAll (97 ∷ 98 ∷ 99 ∷ []) (Some (120 ∷ [])) (Some (120 ∷ 97 ∷ 98 ∷ 99 ∷ []))
 all_of_it = refl
@@ -30,6 +34,9 @@ rest_of_it = refl
 
 pub but_its_end : WroteBut (99 ∷ []) (97 ∷ 98 ∷ 99 ∷ []) (Some (120 ∷ [])) (Some (120 ∷ 97 ∷ 98 ∷ []))
 but_its_end = (97 ∷ 98 ∷ [], refl, refl)
+
+pub through_it : WroteThrough (97 ∷ 98 ∷ []) (Some (120 ∷ [])) (Some (120 ∷ 97 ∷ 98 ∷ 99 ∷ []))
+through_it = (99 ∷ [], refl)
 
 pub untold : WroteAll (97 ∷ []) None None
 untold = tt

@@ -1,11 +1,11 @@
 -- What a run of the program writes, and what it tells: the words of the clauses of the top call.
-use Rattle.std.specs.Prelude.{◌≡◌, ◌≢◌, ◌≤◌, ◌<◌, ◌⊎◌, ◌+◌, ◌^◌, ◌++◌, ℕ, List, [], ◌∷◌, length, Option, Some, None, IfSome, IsSomeAnd, All, drop, encode_utf8_all, codes}
+use Rattle.std.specs.Prelude.{◌≡◌, ◌≢◌, ◌≤◌, ◌<◌, ◌⊎◌, ◌+◌, ◌^◌, ◌++◌, ℕ, List, [], ◌∷◌, length, Option, Some, None, IfSome, IsSomeAnd, All, drop, take, encode_utf8_all, codes}
 use Rattle.std.specs.Fmt.{decimal}
 use Rattle.std.specs.List.{slice_get}
 use Rattle.eql_values.specs.declared.value.Kind.{Kind}
 use Rattle.eql_values.specs.Lines.{lines_of}
 use Rattle.eql_outside.specs.Outside.{Rose, AppendsSome}
-use Rattle.eql_outside.specs.Written.{WroteFront}
+use Rattle.eql_outside.specs.Written.{WroteFront, WroteThrough}
 use Rattle.eql_outside.specs.Written as written
 use Rattle.eql_laws.specs.Counting.{greatest_lines, greatest_bytes}
 use Rattle.eql_parser.specs.QueryTree.{QueryTree}
@@ -17,13 +17,13 @@ use Rattle.eql_words.specs.Commands.{command_of}
 use Rattle.eql_words.specs.Usage.{usage_text}
 use Rattle.eql_values.specs.declared.cut.Counts.{Counts}
 use Rattle.eql_values.specs.declared.cut.LaneCut.{LaneCut}
-use Rattle.eql_values.specs.declared.order.Mark.TheVariants.{At}
 use Rattle.eql_outside.specs.Moments.{History}
-use Rattle.eql_laws.specs.Lateness.{AtMost}
+use Rattle.eql_book.specs.Listing.{listing}
 use Rattle.eql_cut.specs.declared.cut.Cut.{Cut}
+use Rattle.eql_cut.specs.Rising.{RiseFrom}
 use Rattle.eql_ckdisk.specs.Found.{LastCut}
 use Rattle.eql_ckdisk.specs.Runs.{PutsAll}
-use Rattle.eql_runs.specs.Searches.{Search, matches_of, rest_of, report_of, report_lines}
+use Rattle.eql_runs.specs.Searches.{Search, listed_of, matches_of, rest_of, report_of, report_lines}
 use Rattle.eql_runs.specs.Starts.{OnDisk, nothing_kept, a_cut, bad_head, bad_text, DiskHolds, generation_on, listed_on, mark_on, start_for, BeginsWith, IsTrusted, IsHeadOf, IsCutOf}
 use Rattle.eql_runs.specs.CutRefusals.{CutRefusal, CutRefuses}
 use Rattle.eql_runs.specs.Summaries.{Makes}
@@ -343,15 +343,27 @@ pub data Limited (words : List (List ℕ)) (files : Option Files) (disk now : Op
   by_disk : AskDisk words → GenerationsEnd disk now → Limited words files disk now
 
 -- ---- the disk
+-- the lines of the listing that a cut counts, behind the first ones, were written, and perhaps more behind them
+abbrev pub WroteCounted : Search → (texts : List (List ℕ)) → (listed : ℕ) → (out out' : Option (List ℕ)) → Cut → Type 0
+WroteCounted search texts listed out out' cut =
+    WroteThrough (listing search.places (drop listed (take cut.book.listed (listed_of search texts)))) out out'
+
+-- a cut that a run puts is one of its search and its texts, and what it counts was written
+pub record IsPut (search : Search) (texts : List (List ℕ)) (listed : ℕ) (out out' : Option (List ℕ)) (cut : Cut) : Type 0 where
+  pub head : IsHeadOf search (length texts) cut.head
+  pub is_cut : IsCutOf search cut.head.slack texts cut
+  pub wrote : WroteCounted search texts listed out out' cut
+
 -- at each moment of the run each image of the disk stands for what an image at its start stands for, or for one of some cuts
--- that were put one after another; none is older than one before it. Where files and disk are told, these are cuts of the
--- search and its texts, of times from that of the cut that was found on
-pub record KeepsCuts (find : Find) (files : Option Files) (before now : History) : Type 0 where
+-- that were put one after another; none is of an older generation than one before it. Where the disk is told, the generations
+-- go on from that of the cut that was found, and the times of the cuts too. Where the files are told as well, these are cuts of
+-- the search and its texts, and the run wrote the lines that each of them counts
+pub record KeepsCuts (find : Find) (files : Option Files) (out out' : Option (List ℕ)) (before now : History) : Type 0 where
   pub last : LastCut
   pub cuts : List Cut
   pub puts : PutsAll last cuts before now
+  pub goes_on : (on : OnDisk) → DiskHolds (Some before) on → cuts ≢ [] → (last.generation ≡ generation_on on) × RiseFrom (mark_on on) cuts
   pub are_of :
       IfSome files (λ fs. (on : OnDisk) (search : Search) (texts : List (List ℕ)) → DiskHolds (Some before) on
       → Searches find fs search texts → IsTrusted search texts on → length (matches_of search texts) < 2 ^ 64
-      → All (λ (cut : Cut). IsHeadOf search (length texts) cut.head × IsCutOf search cut.head.slack texts cut
-      × AtMost (mark_on on) (At cut.mark)) cuts)
+      → All (IsPut search texts (listed_on on) out out') cuts)

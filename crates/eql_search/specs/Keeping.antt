@@ -1,15 +1,19 @@
 -- Which cuts a search puts on its disk.
-use Rattle.std.specs.Prelude.{◌≡◌, ◌≢◌, ◌≤◌, ◌^◌, ◌≤ℤ◌, pos, ℕ, ℤ, List, Option, None, Some, Result, Err, OnOk, All}
+use Rattle.std.specs.Prelude.{◌≡◌, ◌≢◌, ◌≤◌, ◌^◌, ◌≤ℤ◌, pos, ℕ, ℤ, Bool, List, drop, take, Option, None, Some, Result, Err, OnOk, All}
 use Rattle.eql_values.specs.declared.cut.Pipe.{Pipe}
 use Rattle.eql_values.specs.declared.order.Mark.{Mark}
 use Rattle.eql_values.specs.declared.order.Mark.TheVariants.{At}
+use Rattle.eql_values.specs.Numbering.{numbered, piped}
 use Rattle.eql_outside.specs.Moments.{History}
+use Rattle.eql_outside.specs.Written.{WroteThrough}
 use Rattle.eql_laws.specs.Belows.{IsMarkTime, greatest_slack}
 use Rattle.eql_laws.specs.Lateness.{AtMost}
 use Rattle.eql_lane.specs.declared.ops.LimitOf.TheVariants as limit
 use Rattle.eql_cut.specs.declared.cut.Cut.{Cut}
 use Rattle.eql_cut.specs.declared.cut.CutHead.{CutHead}
 use Rattle.eql_cut.specs.Domain.{IsCut, kept_by}
+use Rattle.eql_cut.specs.Rising.{RiseFrom}
+use Rattle.eql_book.specs.Listing.{listing}
 use Rattle.eql_ckdisk.specs.declared.state.CkState.{CkState}
 use Rattle.eql_ckdisk.specs.Putting.{Stands, last_cut}
 use Rattle.eql_ckdisk.specs.Runs.{last_after}
@@ -20,7 +24,7 @@ use Rattle.eql_conductor.specs.Saving.{PutsCuts}
 use Rattle.eql_search.specs.declared.stop.Stop.{Stop}
 use Rattle.eql_search.specs.declared.stop.Stop.TheVariants as stop
 use Rattle.eql_search.specs.Answers.{IsRead}
-use Rattle.eql_search.specs.Searches.{Rules}
+use Rattle.eql_search.specs.Searches.{Rules, found_in}
 use Rattle.eql_search.specs.Beginnings.{run_by}
 
 -- a cut of these texts by a slack in nanoseconds, at a safe time in the range of marks
@@ -33,6 +37,11 @@ pub record IsSearchCut (rules : Rules) (pipes : List Pipe) (texts : List (List �
 abbrev pub AreSearchCuts : Rules → List Pipe → (texts : List (List ℕ)) → List Cut → Type 0
 AreSearchCuts rules pipes texts cuts =
     (slack : ℤ) → rules.slack ≡ Some slack → pos 0 ≤ℤ slack → slack ≤ℤ greatest_slack → All (IsSearchCut rules pipes texts slack) cuts
+
+-- the lines that a cut of these texts counts, behind the first ones, were written, and perhaps more behind them
+abbrev pub WroteCounted : Rules → List Pipe → (places : Bool) → (listed : ℕ) → (texts : List (List ℕ)) → (before now : Option (List ℕ)) → Cut → Type 0
+WroteCounted rules pipes places listed texts before now cut =
+    WroteThrough (listing places (drop listed (take cut.book.listed (piped pipes (numbered (found_in rules texts)))))) before now
 
 -- a cut with this head, at a time from the mark on
 pub record IsLaterCut (head : CutHead) (from : Mark) (cut : Cut) : Type 0 where
@@ -47,6 +56,7 @@ pub record PutsThese {A : Type 0} (head : CutHead) (from : Mark) (Are : List Cut
   pub cuts : List Cut
   pub are_later : All (IsLaterCut head from) cuts
   pub are_cuts : Are cuts
+  pub rise : RiseFrom from cuts
   pub puts : PutsCuts (last_cut state) cuts before now
   pub stands : answer ≢ Err stop.Disk → answer ≢ Err stop.Memory → ¬ IsRead answer → Stands (last_cut then) now
   pub last : OnOk answer ((last_cut then ≡ last_after (last_cut state) cuts) × LastHolds (last_cut then) cuts now)

@@ -10,7 +10,7 @@ ghost use Rattle.eql_conductor.specs.Runs.{IsKeptUnfailing, disk_faults};
 ghost use Rattle.eql_replay.specs.Opened.{AreOfTexts};
 ghost use Rattle.eql_search.specs.Answers.{AreUnfailing, HasCause, IsClosed, IsNoFault, IsRead, SteadyBut, StaysLane, WereRead};
 ghost use Rattle.eql_search.specs.Beginnings.{BeginsOn, MayBegin, MayKeepOn, cuts_of, start_at};
-ghost use Rattle.eql_search.specs.Keeping.{AreSearchCuts, KeepsOn};
+ghost use Rattle.eql_search.specs.Keeping.{AreSearchCuts, KeepsOn, WroteCounted};
 ghost use Rattle.eql_search.specs.Running.{Searched, end_of};
 ghost use Rattle.eql_search.specs.Searches.{AreBegun, AreTextsOf, HasNumbers, reads_by, rest_of, rules_of, slack_by};
 
@@ -167,14 +167,17 @@ pub fn search<
         book.old.pipes book.old.places book.old.kept.listed texts)
         (K.written sink.old) (K.written sink.new))) }
 
-    // Which cuts were put on the disk: over such texts they are cuts of them.
+    // Which cuts were put on the disk: over such texts they are cuts of them, and the lines that they count were written.
     ensures keeps { KeepsOn D.history plan.now.head plan.now.mark
         (λ cuts. IfSome told (λ texts.
         BeginsOn (rules_of L.read_of stages span lanes.old.items) book.old.pipes texts
         (start_at plan.now.mark (cuts_of lanes.old.items) holders book.old.kept)
         → HasNumbers (rules_of L.read_of stages span lanes.old.items) texts
         → AreSearchCuts (rules_of L.read_of stages span lanes.old.items)
-        book.old.pipes texts cuts))
+        book.old.pipes texts cuts
+        × All (WroteCounted (rules_of L.read_of stages span lanes.old.items)
+        book.old.pipes book.old.places book.old.kept.listed texts
+        (K.written sink.old) (K.written sink.new)) cuts))
         keep.old keep.new result }
 
     // What became of the lanes, in their order.
