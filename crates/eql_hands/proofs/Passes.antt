@@ -5,7 +5,8 @@ use Rattle.eql_turn_lock.specs.declared.view.View.{View}
 use Rattle.eql_turn_lock.specs.declared.refused.NotNow.TheVariants.{Busy, Worn}
 use Rattle.eql_turn_lock.specs.Calls.{IsUnplayed, MetIdle, PlaysOnce, Refuses}
 use Rattle.eql_turn_lock.specs.History.{StartsWith, entry}
-use Rattle.eql_hands.specs.Growth.{HasLooked, HasMineWithin, IsLater}
+use Rattle.eql_hub.specs.Later.{IsLater}
+use Rattle.eql_hands.specs.Growth.{HasLooked, HasMineWithin}
 
 module _ {X : Type 0} where
   starts_same : (xs ys : List X) → ys ≡ xs → StartsWith ys xs

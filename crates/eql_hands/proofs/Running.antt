@@ -9,8 +9,9 @@ use Rattle.eql_hub.specs.declared.step.Did.{Did}
 use Rattle.eql_hub.specs.declared.step.Did.TheVariants as did
 use Rattle.eql_hub.specs.declared.step.HandFault.{HandFault}
 use Rattle.eql_hub.specs.Hands.{HandView}
+use Rattle.eql_hub.specs.Later.{IsLater}
 use Rattle.eql_hub.specs.Steps.{Steps}
-use Rattle.eql_hands.specs.Growth.{AreLater, HasLooked, HasMineWithin, DidEnough, HaveLooked, HaveMineWithin, IsLater, mine_of}
+use Rattle.eql_hands.specs.Growth.{AreLater, HasLooked, HasMineWithin, DidEnough, HaveLooked, HaveMineWithin, mine_of}
 use Rattle.eql_hands.specs.Runs.{MeetsFault, Played, Ran, fault_of, goes_on, idle_of}
 use Rattle.eql_hands.proofs.Passes.{IsStep, later_on, later_same, looked_grows}
 use Rattle.eql_hands.proofs.Places.{each_as, each_on, each_same}

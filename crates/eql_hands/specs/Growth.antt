@@ -1,21 +1,11 @@
 -- How the passes of a hand grow over its steps.
-use Rattle.std.specs.Prelude.{◌≡◌, ◌⊎◌, ◌≤◌, ◌+◌, ℕ, length, sum_by}
+use Rattle.std.specs.Prelude.{◌⊎◌, ◌≤◌, ◌+◌, ℕ, length, sum_by}
 use Rattle.eql_turn_lock.specs.declared.view.View.{View}
-use Rattle.eql_turn_lock.specs.History.{StartsWith}
 use Rattle.eql_hub.specs.Hands.{HandView, LaneKnown, PartKnown}
+use Rattle.eql_hub.specs.Later.{IsLater}
 use Rattle.eql_hub.specs.Steps.{EachPlace}
 
 module _ {T O R : Type 0} where
-  -- the same pass later: what it has seen, its own entries and the words that it met begin with those of before
-  pub record IsLater (v w : View T O R) : Type 0 where
-    pub number : w.number ≡ v.number
-    pub opening : w.opening ≡ v.opening
-    pub made : w.made ≡ v.made
-    pub ended : w.ended ≡ v.ended
-    pub seen : StartsWith w.seen v.seen
-    pub mine : StartsWith w.mine v.mine
-    pub looked : StartsWith w.looked v.looked
-
   -- it has at most so many entries more of its own
   abbrev pub HasMineWithin : ℕ → View T O R → View T O R → Type 0
   HasMineWithin most v w = length w.mine ≤ length v.mine + most

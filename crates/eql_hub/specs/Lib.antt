@@ -1,4 +1,5 @@
 pub mod Turns
 pub mod Hands
+pub mod Later
 pub mod Steps
 pub mod Sweeps

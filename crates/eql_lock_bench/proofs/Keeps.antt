@@ -24,14 +24,15 @@ use Rattle.eql_lock_row.proofs.Places.{all_at, all_set}
 use Rattle.eql_conductor.specs.Benches.{MayPlay}
 use Rattle.eql_conductor.proofs.Resting.{same_or}
 use Rattle.eql_hub.specs.Hands.{HandView, HubView, IsFirst, IsHandOf, Knows, LaneKnown, PartKnown}
+use Rattle.eql_hub.specs.Later.{IsLater}
 use Rattle.eql_hub.specs.Turns.{LaneTurn, PartTurn, is_open_lane, is_open_part}
-use Rattle.eql_lock_bench.specs.Benched.{AllGoOn, AreOfTexts, GoesOn, IsBenchHand}
+use Rattle.eql_lock_bench.specs.Benched.{AllGoOn, AreOfTexts, IsBenchHand}
 use Rattle.eql_lock_bench.specs.Locked.{known_by}
 use Rattle.eql_lock_bench.proofs.Placed.{changed_count, changed_else, changed_here}
 
 -- ---- passes that go on
 module _ {T O R : Type 0} where
-  pub go_on_self : (v : View T O R) → GoesOn v v
+  pub go_on_self : (v : View T O R) → IsLater v v
   go_on_self v = record {
     number = refl;
     opening = refl;
@@ -42,7 +43,7 @@ module _ {T O R : Type 0} where
     looked = starts_self v.looked;
   }
 
-  go_on_both : (u v w : View T O R) → GoesOn u v → GoesOn v w → GoesOn u w
+  go_on_both : (u v w : View T O R) → IsLater u v → IsLater v w → IsLater u w
   go_on_both u v w h k = record {
     number = k.number ∙ h.number;
     opening = k.opening ∙ h.opening;
@@ -56,7 +57,7 @@ module _ {T O R : Type 0} where
   pub all_go_self : (views : List (View T O R)) → AllGoOn views views
   all_go_self views = record {
     count = refl;
-    each = λ k v w at is. subst (GoesOn v) (same_Some v w (sym at ∙ is)) (go_on_self v);
+    each = λ k v w at is. subst (IsLater v) (same_Some v w (sym at ∙ is)) (go_on_self v);
   }
 
   -- a call, answered or refused
@@ -65,7 +66,7 @@ module _ {T O R : Type 0} where
     Called op answer v w =
         MatchResult answer (λ reply. Plays step_of is_open v op reply w) (λ refused. RefusesWorn v op refused w) × KnowsHistory step_of is_open w
 
-    call_goes_on : (op : O) (answer : Result R (NotNow O)) (v w : View T O R) → Called op answer v w → GoesOn v w
+    call_goes_on : (op : O) (answer : Result R (NotNow O)) (v w : View T O R) → Called op answer v w → IsLater v w
     call_goes_on op (Ok reply) v w called =
         let plays = called.0.2 in
         record {
@@ -92,7 +93,7 @@ module _ {T O R : Type 0} where
     call_goes_on op (Err (not_now.Busy word back)) v w called = absurd called.0
 
     module _ (op : O) (answer : Result R (NotNow O)) (place : ℕ) (old new : List (View T O R)) (c : ChangesAt place (Called op answer) old new) where
-      went_on : GoesOn c.before c.after
+      went_on : IsLater c.before c.after
       went_on = call_goes_on op answer c.before c.after c.changes
 
       pub all_go_on : (taken : List (View T O R)) → AllGoOn taken old → AllGoOn taken new
@@ -102,7 +103,7 @@ module _ {T O R : Type 0} where
           | inl e ↦
               let at_place : slice_get taken place ≡ Some v = subst (λ (j : ℕ). slice_get taken j ≡ Some v) e at in
               let is_place : slice_get new place ≡ Some w = subst (λ (j : ℕ). slice_get new j ≡ Some w) e is in
-              subst (GoesOn v) (same_Some c.after w (sym (changed_here place old new c) ∙ is_place))
+              subst (IsLater v) (same_Some c.after w (sym (changed_here place old new c) ∙ is_place))
               (go_on_both v c.before c.after (all.each place v c.before at_place c.was) went_on)
           | inr apart ↦ all.each k v w at (sym (changed_else place old new c k apart) ∙ is)
         ];

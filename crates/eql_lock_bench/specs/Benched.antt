@@ -4,27 +4,17 @@ use Rattle.eql_values.specs.Accepted.{Reads}
 use Rattle.eql_outside.specs.Plans.{FaultPlan}
 use Rattle.eql_lane.specs.Views.{LaneView, IsTextOf}
 use Rattle.eql_turn_lock.specs.declared.view.View.{View}
-use Rattle.eql_turn_lock.specs.History.{StartsWith}
 use Rattle.eql_hub.specs.Hands.{HandView, HubView, IsFirst, IsHandOf, Knows, LaneKnown}
+use Rattle.eql_hub.specs.Later.{IsLater}
 
 -- each lane, as the hub was made of it, is of its text, where one is told
 pub record AreOfTexts {S L : Type 0} (left : S → Option (List ℕ)) (text : ℕ → Option (List ℕ)) (views : List (LaneKnown S L)) : Type 0 where
   pub each : (s : ℕ) (view : LaneKnown S L) (lane : LaneView S L) → slice_get views s ≡ Some view → view.opening ≡ Some lane → IsTextOf left (text s) lane
 
--- a pass goes on from what it knew: it is the same pass, of as many others, and what it has seen, called and met begins as it did
-pub record GoesOn {T O R : Type 0} (old new : View T O R) : Type 0 where
-  pub number : new.number ≡ old.number
-  pub opening : new.opening ≡ old.opening
-  pub made : new.made ≡ old.made
-  pub ended : new.ended ≡ old.ended
-  pub seen : StartsWith new.seen old.seen
-  pub mine : StartsWith new.mine old.mine
-  pub looked : StartsWith new.looked old.looked
-
--- each pass does, and none is missing
+-- each pass goes on from what it knew, and none is missing
 pub record AllGoOn {T O R : Type 0} (old new : List (View T O R)) : Type 0 where
   pub count : length new ≡ length old
-  pub each : (k : ℕ) (v w : View T O R) → slice_get old k ≡ Some v → slice_get new k ≡ Some w → GoesOn v w
+  pub each : (k : ℕ) (v w : View T O R) → slice_get old k ≡ Some v → slice_get new k ≡ Some w → IsLater v w
 
 -- what is known of the hand of a bench, by the hub, by the hand as the bench took it, and by the texts of the lanes:
 -- it is the first hand of the hub, has a pass of each lock, knows its history, and goes on from what it was
