@@ -1,7 +1,8 @@
 #!/usr/bin/env bash
 # What a checkpoint costs: the seconds of `eql find` over two million events of one shard while 100,000 sequences are pending,
 # without a checkpoint and with a cut after every 100 rounds of 4,096 lines, the least of three runs each, all from one run of
-# this script. It prints which part of the time the cuts cost. That is to be a tenth at most.
+# this script: with the one hand that is the default, and without hands, whose rounds are shorter and whose cuts so are more. It
+# prints which part of the time the cuts cost. With the default that is to be a tenth at most.
 #
 # usage: bench/pending_times.sh [PROGRAM [EVENTS]]        PROGRAM is the built program, crates/eql/out/eql where none is given
 set -euo pipefail
@@ -35,11 +36,13 @@ least() { # WORD..
     done
     echo "$least"
 }
-without=$(least)
-with=$(least --checkpoint disk --every 100)
-bytes=$(cat disk.0 disk.1 | wc -c)
-awk -v without="$without" -v with="$with" -v bytes="$bytes" -v events="$events" 'BEGIN {
-    printf "without a checkpoint %7.2f s %9.0f events/s\n", without / 1e9, events * 1e9 / without
-    printf "with --every 100     %7.2f s %9.0f events/s, %.1f MB on the disk\n", with / 1e9, events * 1e9 / with, bytes / 1e6
-    printf "cuts cost %.3f of the time\n", (with > without) ? (with - without) / with : 0
-}'
+for hands in 1 0; do
+    without=$(least --hands "$hands")
+    with=$(least --hands "$hands" --checkpoint disk --every 100)
+    bytes=$(cat disk.0 disk.1 | wc -c)
+    awk -v hands="$hands" -v without="$without" -v with="$with" -v bytes="$bytes" -v events="$events" 'BEGIN {
+        printf "--hands %d, without a checkpoint %7.2f s %9.0f events/s\n", hands, without / 1e9, events * 1e9 / without
+        printf "--hands %d, with --every 100     %7.2f s %9.0f events/s, %.1f MB on the disk\n", hands, with / 1e9, events * 1e9 / with, bytes / 1e6
+        printf "--hands %d: cuts cost %.3f of the time\n", hands, (with > without) ? (with - without) / with : 0
+    }'
+done
