@@ -42,7 +42,7 @@ use Rattle.eql_conductor.specs.RunNotes.{CutNoted, Place, RoundPlayed, RoundsBro
 use Rattle.eql_conductor.specs.RunBounds.{RunBounded}
 use Rattle.eql_conductor.specs.Records.{ListsTold, Ran}
 use Rattle.eql_conductor.specs.Running.{Counted, CutGoes, CutStops, IsAtMark, IsTaken, KeepPuts, KeepStands, KeepStops, KeepsOne, Passed, RanAll, RanTo, StepStops, end_by, end_of, time_of}
-use Rattle.eql_conductor.specs.Runs.{cut_time, IsRunCut, KeepGoes, MayKeepIf, MayRun, RanWhole, RunIs, RunStops, StoppedAt, lines_before_end, lines_by, whole_lines}
+use Rattle.eql_conductor.specs.Runs.{cut_time, IsRunCut, KeepGoes, MayKeepIf, MayRun, RanWhole, RunIs, RunStops, StoppedAt, WroteLinesOf, lines_before_end, lines_by, whole_lines}
 use Rattle.eql_conductor.specs.Saving.{IsSavedAt, NotSaved, Saved}
 use Rattle.eql_conductor.proofs.Bounded.{run_bounded}
 use Rattle.eql_conductor.proofs.BoundsOpenings.{sized_on}
@@ -58,6 +58,7 @@ use Rattle.eql_conductor.proofs.Numbers.{book_none}
 use Rattle.eql_conductor.proofs.Onward.{lanes_go_on, lanes_go_self}
 use Rattle.eql_conductor.proofs.Recorded.{run_listed}
 use Rattle.eql_conductor.proofs.Resting.{was_lane}
+use Rattle.eql_conductor.proofs.Through.{WroteMore, all_stay, both_wrote, front_more, goes_more, lines_at, rise_on, taken_rise, taken_wrote}
 
 -- ---- lanes
 pub safe_at : (mark : Mark) (b c : Known) → LanesAt None mark b → LanesGo b c → IsSafe mark c
@@ -183,6 +184,18 @@ module _ (from later : Mark) (a b c : Known) (book mid then : BookState) (before
         h.after_cuts;
     told = stopped_on;
   }
+
+  -- the lines that its cuts count were written
+  stopped_more : (reads : Reads) (slack : Option ℤ) (texts : List (List ℕ)) (rules : Rules) (all : List Holder) → OfTexts reads slack texts from a → Resting rules all from a → WroteMore between_them now
+  stopped_more reads slack texts rules all of was =
+      let pending : List Holder = pending_after rules all goes.items in
+      let k = h.told reads slack texts rules pending (texts_go reads slack texts from later a b same goes.lanes of) (goes.played rules all was).parts in
+      front_more (lines_by h.mark mid (found_by rules pending (between reads slack texts later End))) between_them now k.front
+
+  pub wrote_on : (head : CutHead) → All (WroteLinesOf from a book before between_them) cuts → All (IsRunCut head later b mid) more → All (WroteLinesOf later b mid between_them now) more
+      → All (WroteLinesOf from a book before now) (cuts ++ more)
+  wrote_on head wrote are also =
+      both_wrote from later a b book mid before between_them now same goes head cuts more (all_stay from a book before between_them now stopped_more cuts wrote) are also
 
 -- ---- a run that came to the end
 module _ (from : Mark) (a b : Known) (book mid then : BookState) (before between_them now : Option (List ℕ)) (cuts : List Cut)
@@ -369,6 +382,8 @@ module _ {D : Type 0} (history : D → Option History) (count : D → ℕ) where
         cuts = [];
         is = run_is by at.mark b c book then before now [] (round_run_stops at.mark b c book then before now is go fits h);
         keeps = keeps_none plan.head at.mark b book (end_by by) keep (not_done by) other (kept_stands plan b keep stands);
+        wrote = All-nil (WroteLinesOf at.mark b book before now);
+        rise = tt;
       };
       noted = round_broke plan.batch plan.every at b c broken;
     }
@@ -413,6 +428,8 @@ module _ {D : Type 0} (history : D → Option History) (count : D → ℕ) where
         is = run_is by at.mark a c book then before now h.cuts (cut_run_stops at.mark mark a b c book then before now h.cuts is_at.lanes go goes
             (All-weaker (IsTaken plan.head mark b then) (λ (cut : Cut). AtMost (At cut.mark) mark) (λ cut taken. subst (λ (m : Mark). AtMost m mark) taken.mark_is (at_most_self mark)) h.cuts h.are));
         keeps = keeps_stopped plan.head at.mark a book by h.cuts keep kept (All-weaker (IsTaken plan.head mark b then) (IsRunCut plan.head at.mark a book) one_is h.cuts h.are) h.keeps;
+        wrote = taken_wrote at.mark mark a b book then before now goes plan.head h.cuts h.are;
+        rise = taken_rise at.mark mark a b book then before now goes plan.head h.cuts h.are h.one;
       };
       noted = keep_broke plan.batch plan.every at a b (Some mark) noted c same h.time (sym due_is ∙ h.time_is) (map cut_time h.cuts)
           (put_one plan.head mark b then plan.every n h.time h.time_is h.cuts h.are h.one) h.noted;
@@ -427,6 +444,8 @@ module _ {D : Type 0} (history : D → Option History) (count : D → ℕ) where
     are_cuts = All-nil (IsRunCut plan.head plan.mark a book);
     at_most = All-nil (λ (cut : Cut). AtMost (At cut.mark) plan.mark);
     puts = keep_puts_none history count plan a keep stands;
+    wrote = All-nil (WroteLinesOf plan.mark a book w w);
+    rise = tt;
     noted = none.0;
     rounds = none.1;
   }
@@ -464,9 +483,16 @@ module _ {D : Type 0} (history : D → Option History) (count : D → ℕ) where
       are_cuts = h.are_cuts;
       at_most = h.at_most;
       puts = subst (KeepPuts history count h.cuts keep) (sym passed.keeps) h.puts;
+      wrote = subst (λ (w : Option (List ℕ)). All (WroteLinesOf plan.mark a book before w) h.cuts) (sym passed.rests.wrote_is) h.wrote;
+      rise = h.rise;
       noted = k.0;
       rounds = k.1;
     }
+
+    wrote_still : (mark : Mark) → GoesTo at.mark mark b c mid then between_them now → All (WroteLinesOf plan.mark a book before now) h.cuts
+    wrote_still mark goes =
+        all_stay plan.mark a book before between_them now (λ reads slack texts rules all of was.
+        goes_more at.mark mark b c mid then between_them now rules (pending_after rules all h.goes.items) goes (h.goes.played rules all was).parts) h.cuts h.wrote
 
     ran_one : (mark : Mark) (goes : GoesTo at.mark mark b c mid then between_them now) (cut : Option Cut) → IfSome cut (λ c. (mark ≡ At c.mark) × IsRunCut plan.head at.mark b mid c)
         → KeepsOne history count cut kept_mid kept → RoundPlayed plan.batch plan.every at (time_of cut) b c (Some mark)
@@ -477,12 +503,15 @@ module _ {D : Type 0} (history : D → Option History) (count : D → ℕ) where
       are_cuts = h.are_cuts;
       at_most = All-weaker (λ (cut : Cut). AtMost (At cut.mark) at.mark) (λ (cut : Cut). AtMost (At cut.mark) mark) (λ cut le. at_most_trans (At cut.mark) at.mark mark le goes.later) h.cuts h.at_most;
       puts = subst (KeepPuts history count h.cuts keep) (sym keeps) h.puts;
+      wrote = wrote_still mark goes;
+      rise = h.rise;
       noted = k.0;
       rounds = k.1;
     }
     ran_one mark goes (Some cut) is keeps noted =
-        let k = more_rounds (Some cut.mark) (Some mark) (map cut_time (h.cuts ++ cut ∷ [])) (sym (map-append cut_time h.cuts (cut ∷ []))) noted in record {
-          goes = goes_join plan.mark at.mark mark a b c book mid then before between_them now same h.goes goes;
+        let k = more_rounds (Some cut.mark) (Some mark) (map cut_time (h.cuts ++ cut ∷ [])) (sym (map-append cut_time h.cuts (cut ∷ []))) noted in
+        let went : GoesTo plan.mark mark a c book then before now = goes_join plan.mark at.mark mark a b c book mid then before between_them now same h.goes goes in record {
+          goes = went;
           cuts = h.cuts ++ cut ∷ [];
           are_cuts = All-append (IsRunCut plan.head plan.mark a book) h.cuts (cut ∷ []) h.are_cuts
               (cuts_on plan.head plan.mark at.mark a b book mid before between_them same h.goes (cut ∷ []) (All-cons (IsRunCut plan.head at.mark b mid) cut [] is.1 (All-nil (IsRunCut plan.head at.mark b mid))));
@@ -490,6 +519,9 @@ module _ {D : Type 0} (history : D → Option History) (count : D → ℕ) where
               (All-weaker (λ (cut : Cut). AtMost (At cut.mark) at.mark) (λ (cut : Cut). AtMost (At cut.mark) mark) (λ cut le. at_most_trans (At cut.mark) at.mark mark le goes.later) h.cuts h.at_most)
               (All-cons (λ (cut : Cut). AtMost (At cut.mark) mark) cut [] (subst (λ (m : Mark). AtMost m mark) is.0 (at_most_self mark)) (All-nil (λ (cut : Cut). AtMost (At cut.mark) mark)));
           puts = keep_puts_more history count h.cuts cut keep kept_mid kept h.puts keeps;
+          wrote = All-append (WroteLinesOf plan.mark a book before now) h.cuts (cut ∷ []) (wrote_still mark goes)
+              (All-cons (WroteLinesOf plan.mark a book before now) cut [] (lines_at plan.mark mark a c book then before now went cut is.0) (All-nil (WroteLinesOf plan.mark a book before now)));
+          rise = rise_on plan.mark at.mark h.cuts (cut ∷ []) h.goes.later h.at_most h.rise (subst (AtMost at.mark) is.0 goes.later, tt);
           noted = k.0;
           rounds = k.1;
         }
@@ -514,15 +546,19 @@ module _ {D : Type 0} (history : D → Option History) (count : D → ℕ) where
           let broke = rounds_broke plan.batch plan.every (start plan) at times a b same h.noted c (map cut_time more) (inl begins) k.noted in
           let broken : BrokenAt plan a c n all = subst (BrokenAt plan a c n) (sym (map-append cut_time h.cuts more)) (broke.0, broke.1 ∙ h.rounds) in
           let notes = stopped_with by plan all a c broken.0 (broken_bound all broken.0 broken.1) in
+          let stopped : RunStops at.mark b c mid then between_them now more = is_stopped by at.mark b c mid then between_them now more k.ran.is in
+          let more_cuts : All (IsRunCut plan.head at.mark b mid) more = more_are plan.head at.mark b mid more (end_by by) kept_mid kept k.ran.keeps in
           let is : RunIs plan.mark a c book then before now (h.cuts ++ more) (end_by by) =
           run_is by plan.mark a c book then before now (h.cuts ++ more)
-          (run_stops_on plan.mark at.mark a b c book mid then before between_them now h.cuts more same h.goes h.at_most (is_stopped by at.mark b c mid then between_them now more k.ran.is)) in
+          (run_stops_on plan.mark at.mark a b c book mid then before between_them now h.cuts more same h.goes h.at_most stopped) in
           record {
             cuts = h.cuts ++ more;
             is = is;
             listed = lists_told book_is_kept end_is_whole plan a c book then before now (h.cuts ++ more) (end_by by) is;
             keeps = keeps_on plan.head plan.mark at.mark a b book mid h.cuts more (end_by by) keep kept_mid kept (not_done by) h.are_cuts
-                (cuts_on plan.head plan.mark at.mark a b book mid before between_them same h.goes more (more_are plan.head at.mark b mid more (end_by by) kept_mid kept k.ran.keeps)) h.puts k.ran.keeps;
+                (cuts_on plan.head plan.mark at.mark a b book mid before between_them same h.goes more more_cuts) h.puts k.ran.keeps;
+            wrote = wrote_on plan.mark at.mark a b c book mid then before between_them now h.cuts more same h.goes h.at_most stopped plan.head h.wrote more_cuts k.ran.wrote;
+            rise = rise_on plan.mark at.mark h.cuts more h.goes.later h.at_most h.rise k.ran.rise;
             notes = notes.0;
             bound = notes.1;
           }
@@ -539,6 +575,8 @@ module _ {D : Type 0} (history : D → Option History) (count : D → ℕ) where
       is = is;
       listed = lists_told book_is_kept end_is_whole plan a b book then before now h.cuts end.Done is;
       keeps = keeps_done plan.head plan.mark a book h.cuts keep kept h.are_cuts h.puts;
+      wrote = all_stay plan.mark a book before between_them now (λ reads slack texts rules all of was. (listing mid.places (held_back mid), wrote)) h.cuts h.wrote;
+      rise = h.rise;
       notes = record { to = place End all.counts; ended = refl; played = h.noted };
       bound = run_bounded (length h.noted.rounds) all.n (4 * length h.noted.rounds) a b (let e = h.rounds in omega (arith, e)) go.same all.spent (sized_on a b go sized) h.noted.parts
           (lanes_in_rounds plan.batch plan.every (start plan) (place End all.counts) (map cut_time h.cuts) a b h.noted) h.noted.in_rounds;
@@ -565,6 +603,10 @@ module _ {D : Type 0} (history : D → Option History) (count : D → ℕ) where
           listed = lists_told book_is_kept end_is_whole plan a b book then before now (h.cuts ++ []) (end_by by) is;
           keeps = keeps_on plan.head plan.mark End a b book mid h.cuts [] (end_by by) keep kept kept (not_done by) h.are_cuts (All-nil (IsRunCut plan.head plan.mark a book)) h.puts
               (keeps_none plan.head End b mid (end_by by) kept (not_done by) other (put_stands h.cuts keep kept h.puts));
+          wrote = All-append (WroteLinesOf plan.mark a book before now) h.cuts []
+              (all_stay plan.mark a book before between_them now (λ reads slack texts rules all of was. front_more (listing mid.places (held_back mid)) between_them now wrote) h.cuts h.wrote)
+              (All-nil (WroteLinesOf plan.mark a book before now));
+          rise = rise_on plan.mark End h.cuts [] h.goes.later h.at_most h.rise tt;
           notes = notes.0;
           bound = notes.1;
         }

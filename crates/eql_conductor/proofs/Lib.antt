@@ -36,6 +36,7 @@ pub mod Joins
 pub mod Numbers
 pub mod Goings
 pub mod Cutting
+pub mod Through
 pub mod Causes
 pub mod Ending
 pub mod Snapped

@@ -1,7 +1,7 @@
 -- What the record of a run says in the words of the listing.
-use Rattle.std.proofs.Common.{◌≡◌, ◌<◌, ◌^◌, ◌++◌, ℕ, ℤ, true, List, [], ◌∷◌, drop, length, map, Option, Some, refl, sym, ap, ◌∙◌, arith, subst, length-append, append_assoc}
+use Rattle.std.proofs.Common.{◌≡◌, ◌<◌, ◌^◌, ◌++◌, ℕ, ℤ, true, List, [], ◌∷◌, drop, take, length, map, Option, Some, refl, sym, ap, ◌∙◌, arith, subst, length-append, append_assoc}
 use Rattle.std.specs.Prelude.{All, filter}
-use Rattle.std.proofs.lemmas.List.{drop_at, length-map}
+use Rattle.std.proofs.lemmas.List.{drop_at, length-map, take_at}
 use Rattle.std.proofs.lemmas.List.Concat.{flat_map-append}
 use Rattle.eql_values.specs.declared.cut.BookCut.{BookCut}
 use Rattle.eql_values.specs.declared.cut.Pipe.{Pipe}
@@ -29,6 +29,7 @@ use Rattle.eql_laws.proofs.KeptCuts.{cuts_fit}
 use Rattle.eql_laws.proofs.LeftOut.{after_in_order, dead_after, dead_for_good, dead_matches}
 use Rattle.eql_laws.proofs.MarkLemmas.{at_most_end, times_le}
 use Rattle.eql_laws.proofs.PieceLemmas.{times_between}
+use Rattle.eql_laws.proofs.Resumed.{piped_goes_on}
 use Rattle.eql_laws.proofs.Splitting.{after_split, matches_split}
 use Rattle.eql_outside.specs.Written.{WroteFront}
 use Rattle.eql_outside.proofs.WrittenLemmas.{writes_on}
@@ -59,6 +60,21 @@ module _ (book_is_kept : BookIsKept) (end_is_whole : EndIsWhole) (pipes : List P
       ∙ append_assoc before out (rest_from pipes counted_then []) in
       sym (ap (drop (length before)) all ∙ drop_at before (out ++ rest_from pipes counted_then []) (length before) refl)
 
+  -- and those that it counts then, where further matches are found behind these
+  listed_is : (rest : List Match)
+      → let_out pipes (book_of pipes found) more ≡ drop (book_of pipes found).listed (take counted_then.listed (piped pipes (numbered ((found ++ more) ++ rest))))
+  listed_is rest =
+      let is = book_is_kept pipes found more few in
+      let out : List Numbered = let_out pipes (book_of pipes found) more in
+      let before : List Numbered = emitted pipes (numbered found) in
+      let behind : List Numbered = rest_from pipes (book_of pipes (found ++ more)) rest in
+      let count : counted_then.listed ≡ length (before ++ out) = ap (λ (k : BookCut). k.listed) is.cut_is ∙ ap length is.lines_are in
+      let all : piped pipes (numbered ((found ++ more) ++ rest)) ≡ (before ++ out) ++ behind =
+      piped_goes_on pipes (found ++ more) rest ∙ ap (λ (l : List Numbered). l ++ behind) is.lines_are in
+      let taken : take counted_then.listed (piped pipes (numbered ((found ++ more) ++ rest))) ≡ before ++ out =
+      (λ i. take (count i) (all i)) ∙ take_at (before ++ out) behind (length (before ++ out)) refl in
+      sym (ap (drop (length before)) taken ∙ drop_at before out (length before) refl)
+
 -- the same of any book that counts the first matches
 whole_is : BookIsKept → EndIsWhole → (book : BookState) (found more : List Match) → length (found ++ more) < 2 ^ 64 → book.kept ≡ book_of book.pipes found
     → whole_lines book more ≡ listing book.places (drop book.kept.listed (piped book.pipes (numbered (found ++ more))))
@@ -67,6 +83,13 @@ whole_is book_is_kept end_is_whole book found more few e =
     ∙ ap (λ (k : BookCut). listing book.places (let_out book.pipes k more ++ rest_from book.pipes (kept_after book.pipes k more) [])) e
     ∙ ap (listing book.places) (rest_is book_is_kept end_is_whole book.pipes found more few)
     ∙ ap (λ (k : BookCut). listing book.places (drop k.listed (piped book.pipes (numbered (found ++ more))))) (sym e)
+
+counted_is : BookIsKept → EndIsWhole → (book : BookState) (found more rest : List Match) → length (found ++ more) < 2 ^ 64 → book.kept ≡ book_of book.pipes found
+    → lines_before_end book more ≡ listing book.places (drop book.kept.listed (take (kept_after book.pipes book.kept more).listed (piped book.pipes (numbered ((found ++ more) ++ rest)))))
+counted_is book_is_kept end_is_whole book found more rest few e =
+    ap (λ (k : BookCut). listing book.places (let_out book.pipes k more)) e
+    ∙ ap (listing book.places) (listed_is book_is_kept end_is_whole book.pipes found more few rest)
+    ∙ ap (λ (k : BookCut). listing book.places (drop k.listed (take (kept_after book.pipes k more).listed (piped book.pipes (numbered ((found ++ more) ++ rest)))))) (sym e)
 
 -- ---- from a mark on
 module _ (rules : Rules) (reads : Reads) (slack : Option ℤ) (texts : List (List ℕ)) where
@@ -132,6 +155,19 @@ module _ (rules : Rules) (reads : Reads) (slack : Option ℤ) (texts : List (Lis
         ap (λ (k : BookCut). kept_after book.pipes k (found_by rules all (later_events from to))) played.counted
         ∙ (book_is_kept book.pipes (found_below rules reads slack texts from) (found_by rules all (later_events from to)) (few_on few to le)).cut_is
         ∙ ap (book_of book.pipes) (sym (found_on to le))
+
+    -- the lines that are written up to a mark are those of the listing after the ones that the book counts, up to those that it counts then
+    pub lines_to : HaveNumbers rules reads slack texts → (to : Mark) → AtMost from to → (then : BookCut) → then ≡ kept_after book.pipes book.kept (found_by rules all (later_events from to))
+        → lines_before_end book (found_by rules all (later_events from to)) ≡ listing book.places (drop book.kept.listed (take then.listed (listed_by rules reads slack texts book.pipes)))
+    lines_to few to le then e =
+        let first : List Match = found_below rules reads slack texts from in
+        let more : List Match = found_by rules all (later_events from to) in
+        let rest : List Match = matches stages span (pending to) (later_events to End) in
+        let whole : (first ++ more) ++ rest ≡ found_below rules reads slack texts End =
+        ap (λ (found : List Match). found ++ rest) (sym (found_on to le)) ∙ sym (found_grows to End (at_most_end to)) in
+        counted_is book_is_kept end_is_whole book first more rest (few_on few to le) played.counted
+        ∙ ap (λ (found : List Match). listing book.places (drop book.kept.listed (take (kept_after book.pipes book.kept more).listed (piped book.pipes (numbered found))))) whole
+        ∙ ap (λ (k : BookCut). listing book.places (drop book.kept.listed (take k.listed (listed_by rules reads slack texts book.pipes)))) (sym e)
 
     pub pending_on : (t : ℤ) → AtMost from (At t) → alive_holders span t (pending_after rules all (later_events from (At t))) ≡ alive_holders span t (pending (At t))
     pending_on t le =

@@ -1,10 +1,9 @@
 -- The mark of a round over told texts that counts is in the range of marks: it is the low of an open lane.
-use Rattle.std.proofs.Common.{◌≡◌, inl, inr, ◌<◌, ℕ, ℤ, ◌-ℤ◌, Bool, true, false, List, [], Option, None, Some, length, get_or, refl, sym, subst}
-use Rattle.std.specs.Prelude.{IfSome, slice_get}
+use Rattle.std.proofs.Common.{inl, inr, ◌<◌, ℕ, ℤ, ◌-ℤ◌, Bool, true, false, List, [], Option, None, Some, length, get_or, refl, sym, subst}
+use Rattle.std.specs.Prelude.{IfSome}
 use Rattle.std.proofs.lemmas.Option.{slice_get-get_or}
 use Rattle.eql_values.specs.declared.cut.LaneCut.{LaneCut}
 use Rattle.eql_values.specs.declared.order.Mark.{Mark}
-use Rattle.eql_values.specs.declared.order.Mark.TheVariants.{End}
 use Rattle.eql_values.specs.Accepted.{Reads, readable}
 use Rattle.eql_values.specs.Lines.{lines_in}
 use Rattle.eql_values.specs.Marks.{low_of}

@@ -1,5 +1,5 @@
 -- What a run of the conductor does, from its first round to its end.
-use Rattle.std.specs.Prelude.{◌≡◌, ◌≢◌, ◌≤◌, ◌<◌, ◌+◌, ◌^◌, ◌++◌, ℕ, ℤ, true, List, [], ◌∷◌, Option, None, Some, IfSome, All, length, map}
+use Rattle.std.specs.Prelude.{◌≡◌, ◌≢◌, ◌≤◌, ◌<◌, ◌+◌, ◌^◌, ◌++◌, ℕ, ℤ, true, List, [], ◌∷◌, Option, None, Some, IfSome, All, length}
 use Rattle.eql_values.specs.declared.found.Holder.{Holder}
 use Rattle.eql_values.specs.declared.found.Match.{Match}
 use Rattle.eql_values.specs.declared.order.Mark.{Mark}

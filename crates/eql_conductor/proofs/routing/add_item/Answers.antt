@@ -1,7 +1,6 @@
-use Rattle.std.proofs.Common.{◌≡◌, ◌∷◌, ◌++◌, [], List, ◌∙◌, sym, ap, subst}
+use Rattle.std.proofs.Common.{◌≡◌, ◌∷◌, [], ◌∙◌, sym, subst}
 use Rattle.std.proofs.lemmas.Result.{on_ok_weaker}
 use Rattle.eql_values.specs.declared.item.Item.{Item}
-use Rattle.eql_values.specs.declared.item.Route.{Route}
 use Rattle.eql_conductor.specs.PartLists.{Grows}
 use Rattle.eql_conductor.proofs.Spread.{comes_whole}
 use Rattle.eql_conductor.proofs.routing.add_item.Goals as goal

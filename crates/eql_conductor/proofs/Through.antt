@@ -1,0 +1,131 @@
+-- That the lines which a cut counts were written, and that the times of cuts rise.
+use Rattle.std.proofs.Common.{◌≡◌, ◌≤◌, ℕ, ℤ, List, [], ◌∷◌, ◌++◌, Option, None, Some, length, sym, ap, ◌∙◌, arith, subst, append_assoc, All, take}
+use Rattle.std.proofs.lemmas.List.{append-nil}
+use Rattle.std.proofs.lemmas.List.Elements.{All-append, All-cons, All-head, All-nil, All-tail, All-weaker}
+use Rattle.eql_values.specs.declared.item.Item.{Item}
+use Rattle.eql_values.specs.declared.found.Match.{Match}
+use Rattle.eql_values.specs.declared.found.Holder.{Holder}
+use Rattle.eql_values.specs.declared.order.Mark.{Mark}
+use Rattle.eql_values.specs.declared.order.Mark.TheVariants.{At}
+use Rattle.eql_values.specs.Accepted.{Reads}
+use Rattle.eql_laws.specs.Belows.{between}
+use Rattle.eql_laws.specs.Lateness.{AtMost}
+use Rattle.eql_laws.proofs.MarkLemmas.{at_most_trans}
+use Rattle.eql_outside.specs.Written.{WroteAll, WroteFront, WroteThrough}
+use Rattle.eql_parts.specs.PartSteps.{Rules}
+use Rattle.eql_book.specs.Books.{BookState, book_after}
+use Rattle.eql_cut.specs.declared.cut.Cut.{Cut}
+use Rattle.eql_cut.specs.declared.cut.CutHead.{CutHead}
+use Rattle.eql_cut.specs.Rising.{RiseFrom}
+use Rattle.eql_conductor.specs.Benches.{Known, Same}
+use Rattle.eql_conductor.specs.PartRounds.{Resting, pending_after}
+use Rattle.eql_conductor.specs.Rounds.{GoesTo, OfTexts, found_by}
+use Rattle.eql_conductor.specs.Running.{IsTaken}
+use Rattle.eql_conductor.specs.Runs.{IsRunCut, WroteLinesOf, lines_before_end}
+use Rattle.eql_conductor.proofs.Goings.{texts_go}
+use Rattle.eql_conductor.proofs.Joins.{between_joins, found_joins, lines_join}
+
+-- ---- bytes
+-- something was written, which may be nothing
+abbrev pub WroteMore : (before now : Option (List ℕ)) → Type 0
+WroteMore before now = (more : List ℕ) × WroteAll more before now
+
+pub front_more : (bytes : List ℕ) (before now : Option (List ℕ)) → WroteFront bytes before now → WroteMore before now
+front_more bytes None now h = ([], tt)
+front_more bytes (Some w) now h = (take h.0 bytes, h.1)
+
+pub all_through : (bytes : List ℕ) (before now : Option (List ℕ)) → WroteAll bytes before now → WroteThrough bytes before now
+all_through bytes None now h = tt
+all_through bytes (Some w) now h = ([], h ∙ ap Some (sym (append-nil (w ++ bytes))))
+
+-- what was written through is so too once more was written behind it
+pub through_more : (bytes : List ℕ) (before mid now : Option (List ℕ)) → WroteThrough bytes before mid → WroteMore mid now → WroteThrough bytes before now
+through_more bytes None mid now h k = tt
+through_more bytes (Some w) mid now h k =
+    (h.0 ++ k.0, subst (λ (m : Option (List ℕ)). WroteAll k.0 m now) h.1 k.1 ∙ ap Some (append_assoc (w ++ bytes) h.0 k.0))
+
+-- all of one text and then another, and perhaps more
+pub through_behind : (first then : List ℕ) (before mid now : Option (List ℕ)) → WroteAll first before mid → WroteThrough then mid now → WroteThrough (first ++ then) before now
+through_behind first then None mid now h k = tt
+through_behind first then (Some w) mid now h k =
+    let g : WroteThrough then (Some (w ++ first)) now = subst (λ (m : Option (List ℕ)). WroteThrough then m now) h k in
+    (g.0, g.1 ∙ ap (λ (bytes : List ℕ). Some (bytes ++ g.0)) (append_assoc w first then))
+
+-- ---- a run that came to a mark wrote something
+pub goes_more : (from to : Mark) (a b : Known) (book then : BookState) (before now : Option (List ℕ)) (rules : Rules) (all : List Holder) → GoesTo from to a b book then before now
+    → Resting rules all from a → WroteMore before now
+goes_more from to a b book then before now rules all goes was = (lines_before_end book (found_by rules all goes.items), (goes.played rules all was).gave.wrote)
+
+-- ---- the lines of cuts that were put before something was written
+module _ (from : Mark) (a : Known) (book : BookState) (before mid now : Option (List ℕ))
+    (more : (reads : Reads) (slack : Option ℤ) (texts : List (List ℕ)) (rules : Rules) (all : List Holder) → OfTexts reads slack texts from a → Resting rules all from a → WroteMore mid now) where
+  lines_stay : (cut : Cut) → WroteLinesOf from a book before mid cut → WroteLinesOf from a book before now cut
+  lines_stay cut wrote = λ reads slack texts rules all of was.
+      through_more (lines_before_end book (found_by rules all (between reads slack texts from (At cut.mark)))) before mid now
+      (wrote reads slack texts rules all of was) (more reads slack texts rules all of was)
+
+  pub all_stay : (cuts : List Cut) → All (WroteLinesOf from a book before mid) cuts → All (WroteLinesOf from a book before now) cuts
+  all_stay cuts wrote = All-weaker (WroteLinesOf from a book before mid) (WroteLinesOf from a book before now) lines_stay cuts wrote
+
+-- ---- those of a cut that was taken where rounds came to
+module _ (from to : Mark) (a b : Known) (book then : BookState) (before now : Option (List ℕ)) (goes : GoesTo from to a b book then before now) where
+  pub lines_at : (cut : Cut) → to ≡ At cut.mark → WroteLinesOf from a book before now cut
+  lines_at cut e = λ reads slack texts rules all of was.
+      let went : GoesTo from (At cut.mark) a b book then before now = subst (λ (m : Mark). GoesTo from m a b book then before now) e goes in
+      let items : List Item = between reads slack texts from (At cut.mark) in
+      all_through (lines_before_end book (found_by rules all items)) before now
+      (subst (λ (played : List Item). WroteAll (lines_before_end book (found_by rules all played)) before now) (went.told reads slack texts of) (went.played rules all was).gave.wrote)
+
+  module _ (head : CutHead) where
+    pub taken_wrote : (cuts : List Cut) → All (IsTaken head to b then) cuts → All (WroteLinesOf from a book before now) cuts
+    taken_wrote cuts are = All-weaker (IsTaken head to b then) (WroteLinesOf from a book before now) (λ cut taken. lines_at cut taken.mark_is) cuts are
+
+    -- of which there is at most one
+    pub taken_rise : (cuts : List Cut) → All (IsTaken head to b then) cuts → length cuts ≤ 1 → RiseFrom from cuts
+    taken_rise [] are one = tt
+    taken_rise (cut ∷ []) are one = (subst (AtMost from) (All-head (IsTaken head to b then) cut [] are).mark_is goes.later, tt)
+    taken_rise (cut ∷ next ∷ cuts) are one = absurd (omega (arith, one))
+
+-- ---- those of a run that went on from where rounds came to
+module _ (from to : Mark) (a b : Known) (book mid : BookState) (before between_them now : Option (List ℕ)) (same : Same a b)
+    (goes : GoesTo from to a b book mid before between_them) where
+  lines_on : (cut : Cut) → AtMost to (At cut.mark) → WroteLinesOf to b mid between_them now cut → WroteLinesOf from a book before now cut
+  lines_on cut later wrote = λ reads slack texts rules all of was.
+      let time : Mark = At cut.mark in
+      let played = goes.played rules all was in
+      let rest : List Holder = pending_after rules all goes.items in
+      let more : List Item = between reads slack texts to time in
+      let first : List Match = found_by rules all goes.items in
+      let second : List Match = found_by rules rest more in
+      let told : goes.items ++ more ≡ between reads slack texts from time =
+      ap (λ (items : List Item). items ++ more) (goes.told reads slack texts of) ∙ sym (between_joins reads slack texts from to time goes.later later) in
+      let so : WroteThrough (lines_before_end (book_after book first) second) between_them now =
+      subst (λ (m : BookState). WroteThrough (lines_before_end m second) between_them now) played.gave.book_is
+      (wrote reads slack texts rules rest (texts_go reads slack texts from to a b same goes.lanes of) played.parts) in
+      subst (λ (bytes : List ℕ). WroteThrough bytes before now)
+      (sym (lines_join book first second) ∙ ap (lines_before_end book) (sym (found_joins rules all goes.items more) ∙ ap (found_by rules all) told))
+      (through_behind (lines_before_end book first) (lines_before_end (book_after book first) second) before between_them now played.gave.wrote so)
+
+  module _ (head : CutHead) where
+    on_wrote : (cuts : List Cut) → All (IsRunCut head to b mid) cuts → All (WroteLinesOf to b mid between_them now) cuts → All (WroteLinesOf from a book before now) cuts
+    on_wrote [] are wrote = All-nil (WroteLinesOf from a book before now)
+    on_wrote (cut ∷ cuts) are wrote =
+        All-cons (WroteLinesOf from a book before now) cut cuts
+        (lines_on cut (All-head (IsRunCut head to b mid) cut cuts are).later (All-head (WroteLinesOf to b mid between_them now) cut cuts wrote))
+        (on_wrote cuts (All-tail (IsRunCut head to b mid) cut cuts are) (All-tail (WroteLinesOf to b mid between_them now) cut cuts wrote))
+
+    -- behind those of the rounds before
+    pub both_wrote : (cuts more : List Cut) → All (WroteLinesOf from a book before now) cuts → All (IsRunCut head to b mid) more → All (WroteLinesOf to b mid between_them now) more
+        → All (WroteLinesOf from a book before now) (cuts ++ more)
+    both_wrote cuts more wrote are also = All-append (WroteLinesOf from a book before now) cuts more wrote (on_wrote more are also)
+
+-- ---- times
+rise_later : (from to : Mark) (cuts : List Cut) → AtMost from to → RiseFrom to cuts → RiseFrom from cuts
+rise_later from to [] le h = tt
+rise_later from to (cut ∷ cuts) le h = (at_most_trans from to (At cut.mark) le h.0, h.1)
+
+-- cuts to a mark, and then cuts from there on
+pub rise_on : (from to : Mark) (cuts more : List Cut) → AtMost from to → All (λ (cut : Cut). AtMost (At cut.mark) to) cuts → RiseFrom from cuts → RiseFrom to more → RiseFrom from (cuts ++ more)
+rise_on from to [] more le at_most h k = rise_later from to more le k
+rise_on from to (cut ∷ cuts) more le at_most h k =
+    (h.0, rise_on (At cut.mark) to cuts more (All-head (λ (c : Cut). AtMost (At c.mark) to) cut cuts at_most) (All-tail (λ (c : Cut). AtMost (At c.mark) to) cut cuts at_most) h.1 k)
