@@ -6,10 +6,7 @@ use Rattle.std.proofs.lemmas.List.Elements.{All-head, All-tail, All-cons}
 use Rattle.std.proofs.lemmas.Nat.{le_bytes_4, le_bytes_8, from_le_bytes-to_le_bytes_4, from_le_bytes-to_le_bytes_8}
 use Rattle.std.specs.Int.{w32, w64, to_le_bytes, from_le_bytes}
 use Rattle.std.specs.List.{flat_map}
-use Rattle.eql_cut.specs.Formats.{Format, ◌>>=◌, number, number_text, number_read, both, by, seen_as, only, option, truth, times, list, at_end, whole, byte, empty, never, case}
-
-abbrev pub IsBytes : List ℕ → Type 0
-IsBytes bytes = (i : ℕ) → get_or bytes i 0 < 256
+use Rattle.eql_cut.specs.Formats.{IsBytes, Format, ◌>>=◌, number, number_text, number_read, both, by, seen_as, only, option, truth, times, list, at_end, whole, byte, empty, never, case}
 
 rest_is_bytes : (front rest : List ℕ) → IsBytes (front ++ rest) → IsBytes rest
 rest_is_bytes front rest all i = subst (λ b. b < 256) (get_or-append-add front rest i 0) (all (length front + i))
@@ -37,7 +34,7 @@ pass_some false x y is = absurd (cc)
 same_pair : {A B : Type 0} (x : A × B) (a : A) (b : B) → Some x ≡ Some (a, b) → (x.0 ≡ a) × (x.1 ≡ b)
 same_pair {A = A} {B = B} x a b is = let e : x ≡ (a, b) = cc in (ap (λ (p : A × B). p.0) e, ap (λ (p : A × B). p.1) e)
 
-front_is_bytes : (n : ℕ) (bytes : List ℕ) → IsBytes bytes → IsBytes (take n bytes)
+pub front_is_bytes : (n : ℕ) (bytes : List ℕ) → IsBytes bytes → IsBytes (take n bytes)
 front_is_bytes zero bytes all i = omega arith
 front_is_bytes (suc n) [] all i = omega arith
 front_is_bytes (suc n) (b ∷ bytes) all zero = all zero

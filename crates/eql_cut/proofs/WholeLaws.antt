@@ -1,5 +1,5 @@
 -- A lawful format read of all bytes.
-use Rattle.std.proofs.Common.{◌≡◌, ℕ, List, Option, Some, None, Result, Ok, Err, Vec, Global, IfOk, OnOk, refl, sym, ◌∙◌, ap, arith}
+use Rattle.std.proofs.Common.{◌≡◌, ◌⊎◌, inl, inr, ℕ, List, Option, Some, None, Result, Ok, Err, Vec, Global, IfOk, OnOk, refl, sym, ◌∙◌, ap, arith}
 use Rattle.eql_values.specs.declared.memory.Memory.{Memory}
 use Rattle.eql_cut.specs.declared.reader.CutRefused.{CutRefused}
 use Rattle.eql_cut.specs.declared.reader.CutRefused.TheVariants as cut_refused
@@ -8,11 +8,11 @@ use Rattle.eql_cut.specs.declared.reader.Version.{Version}
 use Rattle.eql_cut.specs.declared.reader.Version.TheVariants as version
 use Rattle.eql_cut.specs.CutValues.{header, cut, cut_file, cut_text, number_of}
 use Rattle.eql_cut.specs.Domain.{IsCut}
-use Rattle.eql_cut.specs.Whole.{IsText, IsTextOf, IsNoText}
-use Rattle.eql_cut.specs.Formats.{whole}
+use Rattle.eql_cut.specs.Whole.{IsText, IsTextOf, IsNoText, TextsAreDecided}
+use Rattle.eql_cut.specs.Formats.{IsBytes, whole}
 use Rattle.eql_cut.specs.Reading.{Refuses, IfDamaged}
 use Rattle.eql_cut.proofs.CutLaws.{cut_file_lawful}
-use Rattle.eql_cut.proofs.Laws.{IsBytes, whole_again, whole_exact}
+use Rattle.eql_cut.proofs.Laws.{whole_again, whole_exact}
 use Rattle.eql_cut.proofs.Standing.{ItemsBack, cut_stands}
 
 header_fits : (v : Version) → header.Fits v
@@ -47,6 +47,15 @@ some_or_none o a is none = let e : Some a ≡ None = sym is ∙ none in absurd (
 pub damaged : (e : CutRefused) (bytes : List ℕ) → Refuses (whole cut_file bytes) e → IfDamaged e (IsNoText bytes)
 damaged cut_refused.Memory bytes is = tt
 damaged (cut_refused.Damaged at) bytes is = λ n c t. some_or_none (whole cut_file bytes) (t.version, c) (text_reads n c bytes t) is
+
+-- bytes are a text by whether they are read
+by_reading : (bytes : List ℕ) → IsBytes bytes → (read : Option (Version × Cut)) → whole cut_file bytes ≡ read
+    → ((format : ℕ) × (c : Cut) × IsTextOf format c bytes) ⊎ IsNoText bytes
+by_reading bytes all None none = inr (damaged (cut_refused.Damaged 0) bytes none)
+by_reading bytes all (Some x) is = inl (number_of x.0, x.1, found x.0 x.1 bytes all is)
+
+pub texts_are_decided : TextsAreDecided
+texts_are_decided bytes all = by_reading bytes all (whole cut_file bytes) refl
 
 -- what was written is the text
 pub encoded : (c : Cut) (r : Result (Vec ℕ Global) Memory) → IfOk r (λ v. v.items ≡ cut_text version.Three c) → OnOk r ((cut version.Three).Fits c)

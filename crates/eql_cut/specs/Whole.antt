@@ -1,8 +1,9 @@
 -- The text of a cut.
-use Rattle.std.specs.Prelude.{◌≡◌, ℕ, List}
+use Rattle.std.specs.Prelude.{◌≡◌, ◌⊎◌, ℕ, List}
 use Rattle.eql_cut.specs.declared.cut.Cut.{Cut}
 use Rattle.eql_cut.specs.declared.reader.Version.{Version}
 use Rattle.eql_cut.specs.CutValues.{cut, cut_text, number_of}
+use Rattle.eql_cut.specs.Formats.{IsBytes}
 
 -- the bytes are the text of the cut in the format of this number, 1 to 3. In the first format every place is 0, and in the first two no mask has a
 -- stage above 128
@@ -20,3 +21,7 @@ pub record IsTextOf (format : ℕ) (c : Cut) (bytes : List ℕ) : Type 0 where
 -- the bytes are the text of no cut, in no format
 abbrev pub IsNoText : List ℕ → Type 0
 IsNoText bytes = (format : ℕ) (c : Cut) → IsText format c bytes → ⊥
+
+-- bytes are the text of one cut in one format, or of none
+abbrev pub TextsAreDecided : Type 0
+TextsAreDecided = (bytes : List ℕ) → IsBytes bytes → ((format : ℕ) × (c : Cut) × IsTextOf format c bytes) ⊎ IsNoText bytes

@@ -1,6 +1,7 @@
 //! Laws of cuts, each the contract of a function that does nothing.
 ghost use Rattle.eql_cut.specs.Lifting.{FirstFormatUnplaced, LiftedStands, LiftedFits};
 ghost use Rattle.eql_cut.specs.Lifting.{LiftedIsPlaced};
+ghost use Rattle.eql_cut.specs.Whole.{TextsAreDecided};
 
 use eql_laws::opening_finds;
 use eql_values::{orders_agree_with_equality, orders_told_alike};
@@ -24,4 +25,9 @@ pub fn lifted_cuts_fit()
 /// A cut that has lost its places, and nothing else, is had again by the places of its lines.
 pub fn lifted_cuts_are_placed()
     ensures { LiftedIsPlaced }
+{}
+
+/// Bytes are the text of one cut in one format, or of none.
+pub fn texts_are_decided()
+    ensures { TextsAreDecided }
 {}

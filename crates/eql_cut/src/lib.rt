@@ -26,7 +26,9 @@ mod whole;
 pub use compare::{Differs, agree};
 pub use cut::{Cut, CutHead};
 pub use fitting::fits;
-pub use keeping::{first_format_has_no_places, lifted_cuts_are_placed, lifted_cuts_fit};
+pub use keeping::{
+    first_format_has_no_places, lifted_cuts_are_placed, lifted_cuts_fit, texts_are_decided,
+};
 pub use lifting::{lift, named};
 pub use reader::CutRefused;
 pub use whole::{Decoded, decode, encode};
