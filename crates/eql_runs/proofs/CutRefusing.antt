@@ -1,9 +1,9 @@
 -- A cut is refused for one cause, and isn't where a run may begin with it.
-use Rattle.std.proofs.Common.{◌≡◌, ◌≤◌, ◌<◌, ◌+◌, ◌-◌, ℕ, ℤ, zero, suc, List, [], ◌∷◌, ◌++◌, Option, Some, None, true, false, refl, ap, sym, arith, ◌∙◌, subst, length, map, inl, inr, ◌⊎◌}
-use Rattle.std.specs.Prelude.{Bool, if◌then◌else◌, ◌==◌, IsTrue, All, take, drop}
+use Rattle.std.proofs.Common.{◌≡◌, ◌≤◌, ◌<◌, ◌+◌, ◌-◌, ℕ, ℤ, zero, suc, List, [], ◌∷◌, ◌++◌, Option, Some, true, false, refl, ap, sym, arith, ◌∙◌, subst, length, map, inl, inr, ◌⊎◌}
+use Rattle.std.specs.Prelude.{Bool, if◌then◌else◌, ◌==◌, IsTrue, take, drop}
 use Rattle.std.specs.List.{slice_get}
 use Rattle.std.specs.Option.{option_map}
-use Rattle.std.proofs.lemmas.Bool.{cases_lt, cases_order}
+use Rattle.std.proofs.lemmas.Bool.{cases_order}
 use Rattle.std.proofs.lemmas.Option.{none-some, same_Some, slice_get-map}
 use Rattle.eql_values.specs.declared.cut.LaneCut.{LaneCut}
 use Rattle.eql_values.specs.declared.order.Mark.{Mark}
@@ -21,15 +21,15 @@ use Rattle.eql_cut.specs.declared.cut.Cut.{Cut}
 use Rattle.eql_cut.specs.declared.cut.CutHead.{CutHead}
 use Rattle.eql_cut.specs.Agreeing.{difference}
 use Rattle.eql_cut.specs.Domain.{kept_by}
-use Rattle.eql_cut.specs.Placing.{NamesLine, lifted, lifted_lane}
+use Rattle.eql_cut.specs.Placing.{NamesLine, lifted_lane}
 use Rattle.eql_placed.specs.Placed.{ShardHasLine, place_in_texts, placed}
 use Rattle.eql_placed.specs.PlacedLaws.{NamedWereRead, NamesStay}
-use Rattle.eql_runs.specs.CutRefusals.{CutRefusal, CutRefuses, FoundRefuses, IsLostLine, NoneRefusedBefore, ShardRefuses, StandsBefore, by_found, by_shard, damaged, differs, grown, has_no_line, head_damaged, head_differs, is_grown, is_short, is_unfit, no_line, short, text_damaged, unfit}
+use Rattle.eql_runs.specs.CutRefusals.{CutRefusal, CutRefuses, FoundRefuses, IsLostLine, NoneRefusedBefore, ShardRefuses, StandsBefore, by_found, by_shard, differs, has_no_line, head_damaged, head_differs, is_grown, is_short, is_unfit, no_line, short, text_damaged}
 use Rattle.eql_runs.specs.Refusals.{Refusal}
 use Rattle.eql_runs.specs.Refusals as refusal
 use Rattle.eql_runs.specs.RunLaws.{SameRefusal, other_place, same}
 use Rattle.eql_runs.specs.Searches.{Search, nanos_in, reads_of, run_of}
-use Rattle.eql_runs.specs.Starts.{BeginsWith, IsCutOf, IsHeadOf, IsOwnCut, OnDisk, a_cut, bad_head, bad_text, meant_by, nothing_kept}
+use Rattle.eql_runs.specs.Starts.{BeginsWith, IsCutOf, IsHeadOf, OnDisk, a_cut, bad_head, bad_text, meant_by, nothing_kept}
 use Rattle.eql_runs.proofs.Heads.{no_difference, one_head}
 
 -- the laws on which this rests

@@ -1,4 +1,5 @@
--- Nothing is left out: whatever the words, the files and the disk are, the words are no command, or the run is refused, or it writes.
+-- Nothing is left out: whatever the words, the files and the bytes of the disk are, the words are no command, or the run is refused, or
+-- it writes.
 use Rattle.std.proofs.Common.{◌≡◌, ◌≤◌, ℕ, ◌⊎◌, inl, inr, List, [], Option, Some, None, true, false, refl, ap, sym, arith, ◌∙◌, subst, length}
 use Rattle.std.specs.Prelude.{All, codes, encode_utf8_all, get_or, is_some, ◌++◌}
 use Rattle.std.proofs.lemmas.Bool.{false≢true}
@@ -9,8 +10,8 @@ use Rattle.eql_cut.specs.declared.cut.CutHead.{CutHead}
 use Rattle.eql_cut.specs.Agreeing.{difference}
 use Rattle.eql_cut.specs.Lifting.{FirstFormatUnplaced}
 use Rattle.eql_cut.specs.Placing.{IsUnplaced, orders_in}
-use Rattle.eql_cut.specs.Whole.{IsText}
-use Rattle.eql_ckdisk.specs.Found.{Found}
+use Rattle.eql_cut.specs.Whole.{IsText, TextsAreDecided}
+use Rattle.eql_ckdisk.specs.Found.{Found, found}
 use Rattle.eql_parser.specs.Printed.{printed}
 use Rattle.eql_words.specs.declared.commands.Checkpoint.{Checkpoint}
 use Rattle.eql_words.specs.declared.commands.Command.{Command}
@@ -31,6 +32,7 @@ use Rattle.eql_runs.proofs.Counting.{texts_count}
 use Rattle.eql_runs.proofs.Covering.{CoverLaws, NoneOrSome, none_or_some, HasAll, AllOrRefused, texts_there, all_or_refused}
 use Rattle.eql_runs.proofs.Heads.{SameLaws, same_heads}
 use Rattle.eql_runs.proofs.MadeQuery.{made_is_a_search}
+use Rattle.eql_runs.proofs.OnDisks.{something_on_disk}
 use Rattle.eql_runs.proofs.OwnCuts.{OwnLaws, own_cut_fits}
 
 -- the files that commands name
@@ -51,6 +53,7 @@ pub record EndLaws : Type 0 where
   pub same : SameLaws
   pub bounded : CommandsAreBounded
   pub unplaced : FirstFormatUnplaced
+  pub decided : TextsAreDecided
 
 -- ---- a search whose files are all there
 pub record TheSearch (find : Find) (files : Files) : Type 0 where
@@ -222,4 +225,6 @@ by_words laws words files f on stands (inl none) = inl none
 by_words laws words files f on stands (inr h) = inr (by_command laws words files f on h.0 stands h.1)
 
 pub no_run_is_left_out : EndLaws → NoRunIsLeftOut
-no_run_is_left_out laws words files f on stands = by_words laws words files f on stands (none_or_some (command_of words))
+no_run_is_left_out laws words files image a b =
+    let held = something_on_disk laws.decided image a b in
+    (held.0, held.1, by_words laws words files (found image) held.0 held.1 (none_or_some (command_of words)))

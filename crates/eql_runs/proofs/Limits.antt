@@ -1,11 +1,11 @@
 -- A run that can be done has no shard beyond a limit.
-use Rattle.std.proofs.Common.{◌≡◌, ◌≤◌, ◌<◌, ◌+◌, ℕ, suc, List, [], ◌∷◌, ◌++◌, Option, Some, None, refl, ap, sym, arith, ◌∙◌, subst, length}
+use Rattle.std.proofs.Common.{◌≡◌, ◌<◌, ◌+◌, ℕ, suc, List, [], ◌∷◌, ◌++◌, Option, Some, None, refl, ap, arith, ◌∙◌, subst, length}
 use Rattle.std.specs.Prelude.{All, IsTrue, drop}
 use Rattle.std.specs.List.{slice_get}
-use Rattle.std.proofs.lemmas.Option.{none-some, slice_get_within, get_or_from_slice_get}
+use Rattle.std.proofs.lemmas.Option.{slice_get_within, get_or_from_slice_get}
 use Rattle.eql_values.specs.declared.cut.LaneCut.{LaneCut}
 use Rattle.eql_values.specs.Lines.{Line, lines_of, lines_in, numbered_lines}
-use Rattle.eql_laws.specs.Counting.{greatest_bytes, greatest_lines}
+use Rattle.eql_laws.specs.Counting.{greatest_lines}
 use Rattle.eql_laws.specs.Places.{LinesGoOn, ReadTo, lines_after, whole}
 use Rattle.eql_cut.specs.declared.cut.Cut.{Cut}
 use Rattle.eql_words.specs.declared.commands.Command.TheVariants as command
@@ -15,7 +15,7 @@ use Rattle.eql_runs.specs.Files.{Files, IsWithin}
 use Rattle.eql_runs.specs.Runs.{AreWithin, CanRun, Finds, GoesBeyond, IsBeyond, SearchesBeyond, ShardLimit, Runs, bytes_before, lane_on, lines_before, many_bytes, many_lines, shard_of}
 use Rattle.eql_runs.specs.Searches.{Search}
 use Rattle.eql_runs.specs.Starts.{BeginsWith, IsCutOf, OnDisk, a_cut, bad_head, bad_text, meant_by, nothing_kept, start_for}
-use Rattle.eql_runs.proofs.CutRefusing.{ShardAt, append_length, drop_front, own_shard}
+use Rattle.eql_runs.proofs.CutRefusing.{ShardAt, drop_front, own_shard}
 use Rattle.eql_runs.proofs.Listing.{one_search}
 use Rattle.eql_runs.proofs.Reading.{QueryLaws, one_texts}
 use Rattle.eql_runs.proofs.Refusing.{one_command}

@@ -1,6 +1,6 @@
 -- What a run writes is determined, and no run writes over what is refused.
-use Rattle.std.proofs.Common.{◌≡◌, ℕ, List, [], Option, None, Some, refl, ap, ap₂, sym, arith, ◌∙◌, subst}
-use Rattle.std.specs.Prelude.{All, IsSomeAnd, codes, encode_utf8_all, ◌++◌}
+use Rattle.std.proofs.Common.{◌≡◌, ℕ, List, [], Some, refl, ap, ap₂, sym, ◌∙◌, subst}
+use Rattle.std.specs.Prelude.{codes, encode_utf8_all, ◌++◌}
 use Rattle.std.proofs.lemmas.Option.{none-some, same_Some}
 use Rattle.eql_lexer.specs.declared.token.Token.{Token}
 use Rattle.eql_parser.specs.QueryGrammar.{IsQuery}

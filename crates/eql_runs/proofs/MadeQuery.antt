@@ -1,6 +1,6 @@
 -- The query and the mapping of `made` are a search.
 use Rattle.std.proofs.Common.{◌≡◌, ℕ, List, [], ◌∷◌, ◌++◌, true, refl, sym, ap, ◌∙◌, inr, arith}
-use Rattle.std.specs.Prelude.{None, Ok, drop, length, codes}
+use Rattle.std.specs.Prelude.{None, Ok, drop, codes}
 use Rattle.std.specs.List.{list_all}
 use Rattle.std.specs.Str.{is_utf8, chars}
 use Rattle.std.proofs.lemmas.Bool.{false≢true}

@@ -1,11 +1,11 @@
 -- Each text of a run of `made` can be read to its end.
-use Rattle.std.proofs.Common.{◌≡◌, ℕ, zero, suc, ◌/◌, ◌%◌, ◌+◌, ◌*◌, ◌≤◌, ◌<◌, ◌==◌, Bool, true, false, cond, List, [], ◌∷◌, ◌++◌, length, length-append, arith}
-use Rattle.std.specs.Prelude.{All, codes}
+use Rattle.std.proofs.Common.{ℕ, zero, suc, ◌/◌, ◌%◌, ◌+◌, ◌*◌, ◌≤◌, ◌<◌, ◌==◌, Bool, true, false, cond, List, [], ◌∷◌, ◌++◌, length, length-append, arith}
+use Rattle.std.specs.Prelude.{codes}
 use Rattle.std.specs.Fmt.{decimal}
 use Rattle.std.proofs.lemmas.Fmt.{length-decimal-le}
 use Rattle.std.proofs.lemmas.List.Elements.{All-nil, All-cons}
 use Rattle.eql_laws.proofs.Counted.{lines_by_bytes}
-use Rattle.eql_made.specs.Made.{process_name, made_line, made_text, made_texts}
+use Rattle.eql_made.specs.Made.{process_name, made_line, made_text}
 use Rattle.eql_runs.specs.Files.{IsWithin}
 use Rattle.eql_runs.specs.RunLaws.{MadeIsWithin}
 

@@ -1,11 +1,16 @@
--- What both areas of a disk stand for is one thing.
-use Rattle.std.proofs.Common.{◌≡◌, ℕ, List, [], refl, ap, sym, arith, ◌∙◌, subst}
+-- What both areas of a disk stand for is something, and one thing.
+use Rattle.std.proofs.Common.{◌≡◌, ◌+◌, ◌<◌, ◌⊎◌, inl, inr, ℕ, Bool, true, false, cond, not, ◌&&◌, ◌||◌, nat_le, List, [], take, drop, refl, ap, sym, arith, ◌∙◌, subst}
+use Rattle.std.proofs.lemmas.List.{get_or-drop}
 use Rattle.eql_outside.specs.declared.disk.Area.{Area}
+use Rattle.eql_outside.specs.declared.disk.Area.TheVariants.{A, B}
 use Rattle.eql_cut.specs.declared.cut.Cut.{Cut}
-use Rattle.eql_cut.specs.Whole.{IsNoText, IsText, IsTextOf}
-use Rattle.eql_ckdisk.specs.Found.{Found, text, damaged}
+use Rattle.eql_cut.specs.Formats.{IsBytes}
+use Rattle.eql_cut.specs.Whole.{IsNoText, IsText, IsTextOf, TextsAreDecided}
+use Rattle.eql_cut.proofs.Laws.{front_is_bytes}
+use Rattle.eql_ckdisk.specs.Found.{Found, text, damaged, holds, is_open, is_whole, length_in}
 use Rattle.eql_ckdisk.specs.Found as areas
 use Rattle.eql_ckdisk.specs.Refusing.{IsDamagedHead, number_of}
+use Rattle.eql_runs.specs.RunLaws.{SomethingOnDisk}
 use Rattle.eql_runs.specs.Starts.{OnDisk, nothing_kept, a_cut, bad_head, bad_text, StandsFor}
 
 abbrev bytes_in : Found → List ℕ
@@ -77,3 +82,37 @@ one_on_disk f (bad_text number) nothing_kept s t = absurd (no_text f s.0 s.1 s.2
 one_on_disk f (bad_text number) (a_cut format generation cut) s t = absurd (cut_or_not f format generation cut number t s)
 one_on_disk f (bad_text number) (bad_head other) s t = absurd (no_head f other s.0 s.1 s.2 s.3 t)
 one_on_disk f (bad_text number) (bad_text other) s t = ap bad_text (s.4 ∙ ap number_in (sym s.3 ∙ t.3) ∙ sym t.4)
+
+-- ---- what bytes stand for
+abbrev IsSomething : Found → Type 0
+IsSomething f = (on : OnDisk) × StandsFor on f
+
+by_text : (area : Area) (generation : ℕ) (bytes : List ℕ) → ((format : ℕ) × (cut : Cut) × IsTextOf format cut bytes) ⊎ IsNoText bytes
+    → IsSomething (text area generation bytes)
+by_text area generation bytes (inl h) = (a_cut h.0 generation h.1, (area, bytes, refl, h.2))
+by_text area generation bytes (inr none) = (bad_text (number_of area), (area, generation, bytes, refl, refl, none))
+
+by_test : (test : Bool) (f g : Found) → IsSomething f → IsSomething g → IsSomething (cond test f g)
+by_test true f g first second = first
+by_test false f g first second = second
+
+behind_is_bytes : (n : ℕ) (bytes : List ℕ) → IsBytes bytes → IsBytes (drop n bytes)
+behind_is_bytes n bytes all i = subst (λ b. b < 256) (sym (get_or-drop n bytes i 0)) (all (n + i))
+
+in_area : TextsAreDecided → (area : Area) (bytes : List ℕ) → IsBytes bytes → IsSomething (holds area bytes)
+in_area decided area bytes all =
+    let generation = areas.generation_in bytes in
+    let within = take (length_in bytes) (drop 17 bytes) in
+    by_test (is_whole bytes) (text area generation within) (damaged area generation)
+    (by_text area generation within (decided within (front_is_bytes (length_in bytes) (drop 17 bytes) (behind_is_bytes 17 bytes all))))
+    (bad_head (number_of area), (refl, refl))
+
+pub something_on_disk : TextsAreDecided → SomethingOnDisk
+something_on_disk decided image a b =
+    let open_a = is_open image.a in
+    let open_b = is_open image.b in
+    let newer_a = nat_le (areas.generation_in image.b) (areas.generation_in image.a) in
+    let in_a = holds A image.a in
+    let in_b = holds B image.b in
+    by_test (open_a && (not open_b || newer_a)) in_a (cond open_b in_b areas.nothing) (in_area decided A image.a a)
+    (by_test open_b in_b areas.nothing (in_area decided B image.b b) (nothing_kept, refl))

@@ -1,12 +1,12 @@
 -- A cut of a search's texts fits the search, where these are texts that shards may have.
-use Rattle.std.proofs.Common.{◌≡◌, ◌≤◌, ℕ, suc, ℤ, List, [], ◌∷◌, Option, Some, None, true, false, refl, ap, sym, arith, ◌∙◌, subst, length, map, inl, inr, ◌⊎◌}
-use Rattle.std.specs.Prelude.{Bool, if◌then◌else◌, ◌==◌, All, pos, ◌*◌, ◌↔◌}
-use Rattle.std.proofs.lemmas.Bool.{cases_Bool, eqb-true}
+use Rattle.std.proofs.Common.{◌≡◌, ◌≤◌, ℕ, suc, ℤ, List, [], ◌∷◌, Option, None, true, false, refl, ap, sym, arith, ◌∙◌, subst, length, map}
+use Rattle.std.specs.Prelude.{Bool, if◌then◌else◌, ◌==◌, All}
+use Rattle.std.proofs.lemmas.Bool.{eqb-true}
 use Rattle.eql_values.specs.declared.cut.Pipe.{Pipe}
 use Rattle.eql_laws.specs.Belows.{IsReading}
 use Rattle.eql_laws.specs.Books.{greatest_shards}
 use Rattle.eql_laws.specs.Counting.{FrontsFit, IsShardText}
-use Rattle.eql_laws.specs.Fitting.{CutsFit, Fits, Kept, ReadsFor, Run, cut_of}
+use Rattle.eql_laws.specs.Fitting.{CutsFit, Fits, Kept, ReadsFor}
 use Rattle.eql_laws.specs.Places.{ReadTo, whole}
 use Rattle.eql_check.specs.Kinds.{kind_at}
 use Rattle.eql_check.specs.Typing.{IsChecked}
@@ -15,7 +15,7 @@ use Rattle.eql_cut.specs.declared.cut.Cut.{Cut}
 use Rattle.eql_cut.specs.Domain.{kept_by}
 use Rattle.eql_cut.specs.Fitting.{FitsRun, run_of as bare_run}
 use Rattle.eql_cut.specs.Lifting.{LiftedFits}
-use Rattle.eql_cut.specs.Placing.{IsUnplaced, lifted, orders_in}
+use Rattle.eql_cut.specs.Placing.{IsUnplaced, orders_in}
 use Rattle.eql_placed.specs.Placed.{place_in_texts, placed}
 use Rattle.eql_runs.specs.Searches.{Search, nanos_in, plan_of, reads_of, run_of}
 use Rattle.eql_runs.specs.Starts.{IsCutOf, meant_by}

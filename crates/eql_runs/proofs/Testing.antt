@@ -1,14 +1,10 @@
 -- A run for which what its disk holds passed all tests is refused for no cause.
-use Rattle.std.proofs.Common.{◌≡◌, ℕ, List, Option, Some, refl, sym, arith, ◌∙◌, subst, length}
-use Rattle.std.specs.List.{slice_get}
-use Rattle.std.proofs.lemmas.Option.{same_Some, slice_get_within}
-use Rattle.eql_cut.specs.declared.cut.Cut.{Cut}
-use Rattle.eql_words.specs.declared.commands.Command.TheVariants as command
+use Rattle.std.proofs.Common.{◌≡◌, ℕ, List, refl, subst, length}
+use Rattle.std.proofs.lemmas.Option.{slice_get_within}
 use Rattle.eql_words.specs.declared.commands.Find.{Find}
-use Rattle.eql_runs.specs.CutRefusals.{CutRefusal, CutRefuses, IsTested, IsTestedCut, by_found, by_shard}
+use Rattle.eql_runs.specs.CutRefusals.{CutRefusal, CutRefuses, IsTested, by_found, by_shard}
 use Rattle.eql_runs.specs.Files.{Files}
-use Rattle.eql_runs.specs.Refusals.{Names, Refusal, Refuses}
-use Rattle.eql_runs.specs.Runs.{Finds, IsFindAccepted, RefusesCut, Searches, Trusts, names_of}
+use Rattle.eql_runs.specs.Runs.{IsFindAccepted, RefusesCut, Searches}
 use Rattle.eql_runs.specs.Searches.{Search, rest_of, report_of}
 use Rattle.eql_runs.specs.Starts.{BeginsWith, IsTrusted, OnDisk, a_cut, bad_head, bad_text, listed_on, nothing_kept, start_for}
 use Rattle.eql_runs.proofs.CutRefusing.{found_or_fits}

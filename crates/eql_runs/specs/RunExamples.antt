@@ -1,5 +1,5 @@
 -- Worked rows, computed.
-use Rattle.std.specs.Prelude.{◌≡◌, ◌++◌, pos, [], ◌∷◌, Option, Some, None, true, false, refl, codes}
+use Rattle.std.specs.Prelude.{◌≡◌, ◌++◌, pos, [], ◌∷◌, Some, None, true, false, refl, codes}
 use Rattle.std.specs.Fmt.{digits}
 use Rattle.eql_lexer.specs.declared.refusal.LexRefused.TheVariants as lexed
 use Rattle.eql_parser.specs.QueryTree.{event}

@@ -1,6 +1,7 @@
 -- Laws of what a run writes and refuses: they say that the clauses of the top call pin its output.
 use Rattle.std.specs.Prelude.{◌≡◌, ◌↔◌, ◌≤◌, ◌<◌, ◌^◌, ◌⊎◌, ℕ, ℤ, List, length, Option, Some, None, All}
 use Rattle.eql_made.specs.Made.{made_texts}
+use Rattle.eql_outside.specs.Areas.{Areas}
 use Rattle.eql_laws.specs.Books.{greatest_shards}
 use Rattle.eql_laws.specs.Counting.{IsShardText}
 use Rattle.eql_laws.specs.Fitting.{Fits, Kept}
@@ -17,9 +18,10 @@ use Rattle.eql_runs.specs.Refusals.{Names, Refusal, Refuses, refusal_status}
 use Rattle.eql_runs.specs.Refusals as refusal
 use Rattle.eql_runs.specs.CutRefusals.{damaged, IsTested}
 use Rattle.eql_runs.specs.Starts.{OnDisk, StandsFor, start_for}
-use Rattle.eql_ckdisk.specs.Found.{Found}
+use Rattle.eql_ckdisk.specs.Found.{Found, found}
 use Rattle.eql_cut.specs.declared.cut.CutHead.{CutHead}
 use Rattle.eql_cut.specs.Agreeing.{difference}
+use Rattle.eql_cut.specs.Formats.{IsBytes}
 use Rattle.eql_runs.specs.Searches.{Search, matches_of}
 use Rattle.eql_runs.specs.Summaries.{IsMadeSearch}
 use Rattle.eql_runs.specs.Runs.{IsFindAccepted, Searches, SearchesBeyond, ShardLimit, Writes, IsRefused, AreTrusted, AreWithin, CanRun}
@@ -27,6 +29,10 @@ use Rattle.eql_runs.specs.Runs.{IsFindAccepted, Searches, SearchesBeyond, ShardL
 -- what an image stands for is one thing
 abbrev pub OneOnDisk : Type 0
 OneOnDisk = (f : Found) (on other : OnDisk) → StandsFor on f → StandsFor other f → on ≡ other
+
+-- an image of a disk stands for something: each area of it is a list of bytes
+abbrev pub SomethingOnDisk : Type 0
+SomethingOnDisk = (image : Areas) → IsBytes image.a → IsBytes image.b → (on : OnDisk) × StandsFor on (found image)
 
 -- a run over texts for which what its disk holds passed all tests is refused for no cause
 abbrev pub TestedIsAccepted : Type 0
@@ -81,14 +87,16 @@ ListedOrRefused =
     (words : List (List ℕ)) (files : Files) (on : OnDisk) (bytes report : List ℕ) (r : Refusal)
     → Writes words files on bytes report → IsRefused words files on r → ⊥
 
--- nothing is left out, whatever both areas of the disk stand for: the words are no command; or they, the files and the disk are
--- refused; or, where the disk is trusted and the shards can be read to their end, a run writes
+-- nothing is left out, whatever bytes both areas of the disk are. They stand for something, and of that: the words are no
+-- command; or they, the files and the disk are refused; or, where the disk is trusted and the shards can be read to their end, a
+-- run writes
 abbrev pub NoRunIsLeftOut : Type 0
 NoRunIsLeftOut =
-    (words : List (List ℕ)) (files : Files) (f : Found) (on : OnDisk) → StandsFor on f
-    → (command_of words ≡ None) ⊎ ((r : Refusal) × IsRefused words files on r)
+    (words : List (List ℕ)) (files : Files) (image : Areas) → IsBytes image.a → IsBytes image.b
+    → (on : OnDisk) × StandsFor on (found image)
+    × ((command_of words ≡ None) ⊎ ((r : Refusal) × IsRefused words files on r)
     ⊎ (AreTrusted words files on → AreWithin words files
-    → (bytes report : List ℕ) × Writes words files on bytes report)
+    → (bytes report : List ℕ) × Writes words files on bytes report))
 
 -- files that are all there, with a query that is checked, aren't refused
 abbrev pub AcceptedOrRefused : Type 0

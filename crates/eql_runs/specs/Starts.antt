@@ -1,5 +1,5 @@
 -- What a run of `find` begins with: what the disk of its checkpoint holds.
-use Rattle.std.specs.Prelude.{◌≡◌, ◌≤◌, ◌==◌, ℕ, ℤ, if◌then◌else◌, List, Option, Some, None, IsSomeAnd, IsTrue, length, map}
+use Rattle.std.specs.Prelude.{◌≡◌, ◌==◌, ℕ, if◌then◌else◌, List, Option, Some, None, IsSomeAnd, IsTrue, length, map}
 use Rattle.eql_values.specs.declared.order.Mark.{Mark}
 use Rattle.eql_values.specs.declared.order.Mark.TheVariants.{Start, At}
 use Rattle.eql_values.specs.Marks.{is_safe}

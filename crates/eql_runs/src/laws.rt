@@ -1,8 +1,8 @@
 //! Laws of what a run writes and refuses, each the contract of a function that does nothing.
-ghost use Rattle.eql_runs.specs.RunLaws.{FitsAtAnySpan, OneListing, OneRefusal, OneSearch, OneStatus, TestedIsAccepted, ListedOrRefused, AcceptedOrRefused, HeadsAgree, ReadyOrRefused, MadeIsASearch, MadeIsWithin, MatchesAreFew, NoRunIsLeftOut, OneOnDisk, RunsFindFew};
+ghost use Rattle.eql_runs.specs.RunLaws.{FitsAtAnySpan, OneListing, OneRefusal, OneSearch, OneStatus, TestedIsAccepted, ListedOrRefused, AcceptedOrRefused, HeadsAgree, ReadyOrRefused, MadeIsASearch, MadeIsWithin, MatchesAreFew, NoRunIsLeftOut, OneOnDisk, RunsFindFew, SomethingOnDisk};
 
 use eql_check::check_is_exact;
-use eql_cut::{first_format_has_no_places, lifted_cuts_fit};
+use eql_cut::{first_format_has_no_places, lifted_cuts_fit, texts_are_decided};
 use eql_laws::{cuts_fit, found_is_few, fronts_fit, lines_go_on};
 use eql_lexer::{none_spelled, one_break, one_list, spelled_or_broken};
 use eql_parser::{one_query, one_refusal, query_or_refused};
@@ -37,8 +37,9 @@ pub fn runs_are_determined()
     lines_go_on();
 }
 
-/// Nothing is left out: whatever the words, the files and the disk are, the words are no command, or they, the files and the disk
-/// are refused for a cause, or a run of them writes bytes and a report, where the disk is trusted and the shards can be read.
+/// Nothing is left out: whatever the words and the files are, and whatever bytes the disk holds, these stand for something, and
+/// the words are no command, or they, the files and the disk are refused for a cause, or a run of them writes bytes and a report,
+/// where the disk is trusted and the shards can be read.
 pub fn no_run_is_left_out()
     ensures { NoRunIsLeftOut }
 {
@@ -52,12 +53,20 @@ pub fn no_run_is_left_out()
     orders_agree_with_equality();
     commands_are_bounded();
     first_format_has_no_places();
+    texts_are_decided();
 }
 
 /// What both areas of a disk stand for is one thing.
 pub fn disks_hold_one_thing()
     ensures { OneOnDisk }
 {}
+
+/// Whatever bytes both areas of a disk are, they stand for something: no cut, a cut, or an area that is damaged.
+pub fn disks_hold_something()
+    ensures { SomethingOnDisk }
+{
+    texts_are_decided();
+}
 
 /// A checked query has fewer than 2^64 matches over at most 256 shards within the limits of lines and bytes, and so has
 /// each run of `find`. So a count of matches never stands still, and the number of each is exact.

@@ -5,6 +5,6 @@
 mod laws;
 
 pub use laws::{
-    disks_hold_one_thing, heads_agree, made_is_searched, matches_are_counted, no_run_is_left_out,
-    runs_are_determined, spans_change_no_fit, tested_cuts_are_accepted,
+    disks_hold_one_thing, disks_hold_something, heads_agree, made_is_searched, matches_are_counted,
+    no_run_is_left_out, runs_are_determined, spans_change_no_fit, tested_cuts_are_accepted,
 };

@@ -9,5 +9,5 @@ returns c =
     let cover : CoverLaws = record { spelled = c.spelled_or_broken.ensures; read = c.query_or_refused.ensures; exact = c.check_is_exact.ensures } in
     let own : OwnLaws = record { readers = c.readers_fit.ensures; cuts = c.cuts_fit.ensures.fit; fronts = c.fronts_fit.ensures.fit; lifted_fit = c.lifted_cuts_fit.ensures.fit } in
     let same : SameLaws = record { texts = c.orders_agree_with_equality.ensures.texts; names = c.orders_agree_with_equality.ensures.names } in
-    let laws : EndLaws = record { cover = cover; own = own; same = same; bounded = c.commands_are_bounded.ensures.bounds; unplaced = c.first_format_has_no_places.ensures } in
+    let laws : EndLaws = record { cover = cover; own = own; same = same; bounded = c.commands_are_bounded.ensures.bounds; unplaced = c.first_format_has_no_places.ensures; decided = c.texts_are_decided.ensures } in
     no_run_is_left_out laws
