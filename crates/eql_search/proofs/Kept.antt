@@ -16,6 +16,7 @@ use Rattle.eql_book.specs.Books.{BookState}
 use Rattle.eql_book.proofs.Wholes.{book_is_kept, end_is_whole}
 use Rattle.eql_cut.specs.declared.cut.Cut.{Cut}
 use Rattle.eql_cut.specs.declared.cut.CutHead.{CutHead}
+use Rattle.eql_cut.specs.Rising.{RiseFrom}
 use Rattle.eql_ckdisk.specs.declared.state.CkState.{CkState}
 use Rattle.eql_ckdisk.specs.Putting.{Stands, last_cut}
 use Rattle.eql_ckdisk.specs.Runs.{last_after}
@@ -26,15 +27,15 @@ use Rattle.eql_conductor.specs.declared.plan.RunPlan.{RunPlan}
 use Rattle.eql_conductor.specs.Benches.{Known}
 use Rattle.eql_conductor.specs.LaneRounds.{text_at}
 use Rattle.eql_conductor.specs.RunLaws.{BeginsTold, rules_of}
-use Rattle.eql_conductor.specs.Runs.{IsRunCut, KeepGoes, LastHolds, RunPuts}
+use Rattle.eql_conductor.specs.Runs.{IsRunCut, KeepGoes, LastHolds, RunPuts, WroteLinesOf}
 use Rattle.eql_conductor.proofs.Cutting.{puts_none}
-use Rattle.eql_conductor.proofs.Recorded.{run_cut_is, run_cut_is_safe}
+use Rattle.eql_conductor.proofs.Recorded.{run_cut_is, run_cut_is_safe, wrote_to_cuts}
 use Rattle.eql_hub_run.specs.Beside.{IsTold, RanFrom, SameBench, bench_of}
 use Rattle.eql_replay.specs.Listed.{bench_known}
 use Rattle.eql_search.specs.declared.stop.Stop.{Stop}
 use Rattle.eql_search.specs.declared.stop.Stop.TheVariants as stop
 use Rattle.eql_search.specs.Beginnings.{BeginsOn, MayKeepOn, cuts_of, run_by, start_at}
-use Rattle.eql_search.specs.Keeping.{AreSearchCuts, IsLaterCut, IsSearchCut, KeepsOn, PutsThese}
+use Rattle.eql_search.specs.Keeping.{AreSearchCuts, IsLaterCut, IsSearchCut, KeepsOn, PutsThese, WroteCounted}
 use Rattle.eql_search.specs.Running.{end_of}
 use Rattle.eql_search.specs.Searches.{AreBegunFrom, AreTextsOf, HasNumbers, Rules}
 use Rattle.eql_search.proofs.Generations.{few_cuts}
@@ -60,6 +61,7 @@ module _ (A : Type 0) {D : Type 0} (history : D → Option History) (head : CutH
     cuts = [];
     are_later = All-nil (IsLaterCut head from);
     are_cuts = are;
+    rise = tt;
     puts = puts_none (last_cut k.state) (history k.disk);
     stands = λ disk memory unread. stands;
     last = tt;
@@ -85,14 +87,17 @@ module _ (A : Type 0) {S L D : Type 0} (left lent_as : S → Option (List ℕ)) 
   abbrev On : List (List ℕ) → Type 0
   On texts = BeginsOn by book.pipes texts (start_at plan.mark (cuts_of olds) holders book.kept)
 
+  begun_told : (texts : List (List ℕ)) → told ≡ Some texts → AreTextsOf left texts olds → On texts → HasNumbers by texts → BeginsTold rules reads slack texts plan.mark holders first book
+  begun_told texts e are on numbers =
+      begins_told A left lent_as fault_plan read_of history count reads slack stages span told plan olds news holders parts book then before now sink_before sink_now None None first last begun is_span begins same texts e are on numbers
+
   -- a cut of the run, over told texts
   search_cut : (texts : List (List ℕ)) → told ≡ Some texts → AreTextsOf left texts olds → On texts → HasNumbers by texts → (bound : ℤ) → slack ≡ Some bound → pos 0 ≤ℤ bound → bound ≤ℤ greatest_slack
       → (cut : Cut) → IsRunCut plan.head plan.mark first book cut → IsSearchCut by book.pipes texts bound cut
   search_cut texts e are on numbers bound is low high cut made =
       let run : Run = run_by by book.pipes 0 bound in
       let began : BeginsTold (rules_of run) reads (Some bound) texts plan.mark holders first book =
-      subst (λ (o : Option ℤ). BeginsTold rules reads o texts plan.mark holders first book) is
-      (begins_told A left lent_as fault_plan read_of history count reads slack stages span told plan olds news holders parts book then before now sink_before sink_now None None first last begun is_span begins same texts e are on numbers) in
+      subst (λ (o : Option ℤ). BeginsTold rules reads o texts plan.mark holders first book) is (begun_told texts e are on numbers) in
       record {
         is_cut = run_cut_is book_is_kept end_is_whole run reads texts plan.mark holders first book began refl plan.head cut made;
         safe = run_cut_is_safe book_is_kept end_is_whole run reads texts plan.mark holders first book began refl plan.head cut made;
@@ -100,13 +105,18 @@ module _ (A : Type 0) {S L D : Type 0} (left lent_as : S → Option (List ℕ)) 
       }
 
   abbrev pub Are : List Cut → Type 0
-  Are cuts = IfSome told (λ texts. On texts → HasNumbers by texts → AreSearchCuts by book.pipes texts cuts)
+  Are cuts =
+      IfSome told (λ texts. On texts → HasNumbers by texts → AreSearchCuts by book.pipes texts cuts × All (WroteCounted by book.pipes book.places book.kept.listed texts before now) cuts)
 
-  search_cuts : (cuts : List Cut) → All (IsRunCut plan.head plan.mark first book) cuts → Are cuts
-  search_cuts cuts made =
-      for_some told (λ (texts : List (List ℕ)). On texts → HasNumbers by texts → AreSearchCuts by book.pipes texts cuts) (λ texts e on numbers bound is low high.
-      All-weaker (IsRunCut plan.head plan.mark first book) (IsSearchCut by book.pipes texts bound)
-      (search_cut texts e (of_some told (λ (ts : List (List ℕ)). AreTextsOf left ts olds) texts e texts_are) on numbers bound is low high) cuts made)
+  search_cuts : (cuts : List Cut) → All (IsRunCut plan.head plan.mark first book) cuts → All (WroteLinesOf plan.mark first book before now) cuts → Are cuts
+  search_cuts cuts made wrote =
+      for_some told (λ (texts : List (List ℕ)). On texts → HasNumbers by texts
+      → AreSearchCuts by book.pipes texts cuts × All (WroteCounted by book.pipes book.places book.kept.listed texts before now) cuts) (λ texts e on numbers.
+      let are = of_some told (λ (ts : List (List ℕ)). AreTextsOf left ts olds) texts e texts_are in (
+        λ bound is low high.
+            All-weaker (IsRunCut plan.head plan.mark first book) (IsSearchCut by book.pipes texts bound) (search_cut texts e are on numbers bound is low high) cuts made,
+        wrote_to_cuts book_is_kept end_is_whole rules reads slack texts plan.mark holders first book before now (begun_told texts e are on numbers) plan.head cuts made wrote,
+      ))
 
   module _ (r : Result A Stop) (ended : Ends) (told_as : IsTold ended (end_of r)) where
     later_cut : (cut : Cut) → IsRunCut plan.head plan.mark first book cut → IsLaterCut plan.head plan.mark cut
@@ -118,12 +128,13 @@ module _ (A : Type 0) {S L D : Type 0} (left lent_as : S → Option (List ℕ)) 
     last_of state then_state disk disk_now cuts (Ok a) at puts = let done = done_then ended a at in (puts.state_is done, puts.holds done)
     last_of state then_state disk disk_now cuts (Err of) at puts = tt
 
-    these : (state then_state : CkState) (disk disk_now : Option History) (cuts : List Cut) → length cuts ≤ 2 ^ 51 → RunPuts plan.head plan.mark first book state then_state disk disk_now cuts ended
-        → PutsThese plan.head plan.mark Are state then_state disk disk_now r
-    these state then_state disk disk_now cuts few_of puts = record {
+    these : (state then_state : CkState) (disk disk_now : Option History) (cuts : List Cut) → length cuts ≤ 2 ^ 51 → All (WroteLinesOf plan.mark first book before now) cuts → RiseFrom plan.mark cuts
+        → RunPuts plan.head plan.mark first book state then_state disk disk_now cuts ended → PutsThese plan.head plan.mark Are state then_state disk disk_now r
+    these state then_state disk disk_now cuts few_of wrote rise puts = record {
       cuts = cuts;
       are_later = All-weaker (IsRunCut plan.head plan.mark first book) (IsLaterCut plan.head plan.mark) later_cut cuts puts.are_cuts;
-      are_cuts = search_cuts cuts puts.are_cuts;
+      are_cuts = search_cuts cuts puts.are_cuts wrote;
+      rise = rise;
       puts = puts.puts;
       stands = λ disk_fault memory unread. puts.stands (no_disk ended r told_as disk_fault unread) (no_memory ended r told_as memory unread);
       last = last_of state then_state disk disk_now cuts r told_as puts;
@@ -133,12 +144,12 @@ module _ (A : Type 0) {S L D : Type 0} (left lent_as : S → Option (List ℕ)) 
           (full, omega (arith, full, to, few_of));
     }
 
-    goes : (keep kept : Option (Keep D)) (cuts : List Cut) → length cuts ≤ 2 ^ 51 → KeepGoes history count plan.head plan.mark first book cuts ended keep kept
-        → KeepsOn history plan.head plan.mark Are keep kept r
-    goes None None cuts few_of kept_so = λ e. kept_so.1 (generation_then ended r e told_as)
-    goes None (Some l) cuts few_of kept_so = absurd kept_so
-    goes (Some k) None cuts few_of kept_so = absurd kept_so
-    goes (Some k) (Some l) cuts few_of kept_so = these k.state l.state (history k.disk) (history l.disk) cuts few_of kept_so
+    goes : (keep kept : Option (Keep D)) (cuts : List Cut) → length cuts ≤ 2 ^ 51 → All (WroteLinesOf plan.mark first book before now) cuts → RiseFrom plan.mark cuts
+        → KeepGoes history count plan.head plan.mark first book cuts ended keep kept → KeepsOn history plan.head plan.mark Are keep kept r
+    goes None None cuts few_of wrote rise kept_so = λ e. kept_so.1 (generation_then ended r e told_as)
+    goes None (Some l) cuts few_of wrote rise kept_so = absurd kept_so
+    goes (Some k) None cuts few_of wrote rise kept_so = absurd kept_so
+    goes (Some k) (Some l) cuts few_of wrote rise kept_so = these k.state l.state (history k.disk) (history l.disk) cuts few_of wrote rise kept_so
 
   pub keeps : (r : Result A Stop) (keep kept : Option (Keep D))
       → RanFrom left lent_as fault_plan read_of history count (text_at told) plan olds news first last parts book then before now sink_before sink_now keep kept (end_of r)
@@ -146,4 +157,4 @@ module _ (A : Type 0) {S L D : Type 0} (left lent_as : S → Option (List ℕ)) 
   keeps r keep kept run =
       goes r run.ended run.told keep kept run.ran.cuts
       (few_cuts read_of (text_at told) olds news parts first last same run.goes.same.lanes run.lanes run.on.count few begins.begins.sized plan run.ran.cuts run.ended run.ran.notes run.ran.bound)
-      run.ran.keeps
+      run.ran.wrote run.ran.rise run.ran.keeps

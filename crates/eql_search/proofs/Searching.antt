@@ -28,7 +28,7 @@ use Rattle.eql_search.specs.declared.stop.Stop.{Stop}
 use Rattle.eql_search.specs.declared.stop.Stop.TheVariants as stop
 use Rattle.eql_search.specs.Answers.{AreUnfailing, HasCause, IsClosed, IsNoFault, IsRead, SteadyBut, StaysLane, WereRead}
 use Rattle.eql_search.specs.Beginnings.{BeginsOn, MayBegin, MayKeepOn, cuts_of, start_at}
-use Rattle.eql_search.specs.Keeping.{AreSearchCuts, IsSearchCut, KeepsOn}
+use Rattle.eql_search.specs.Keeping.{AreSearchCuts, IsSearchCut, KeepsOn, WroteCounted}
 use Rattle.eql_search.specs.Running.{NotBegun, Searched, end_of}
 use Rattle.eql_search.specs.Searches.{AreBegunFrom, AreTextsOf, HasNumbers, Rules, rest_of}
 use Rattle.eql_search.proofs.Causes.{counts_so, has_cause, lanes_unfailing, no_fault, reads_steady}
@@ -67,8 +67,13 @@ module _ (A : Type 0) {S L D : Type 0} (left lent_as : S → Option (List ℕ)) 
   abbrev On : List (List ℕ) → Type 0
   On texts = BeginsOn by book.pipes texts (start_at plan.mark (cuts_of olds) holders book.kept)
 
-  abbrev Cuts : List Cut → Type 0
-  Cuts cuts = IfSome told (λ texts. On texts → HasNumbers by texts → AreSearchCuts by book.pipes texts cuts)
+  -- what is said of cuts over told texts, where these bytes stand behind the sink then
+  abbrev CutsOf : (now : Option (List ℕ)) → List Cut → List (List ℕ) → Type 0
+  CutsOf now cuts texts =
+      On texts → HasNumbers by texts → AreSearchCuts by book.pipes texts cuts × All (WroteCounted by book.pipes book.places book.kept.listed texts before now) cuts
+
+  abbrev Cuts : (now : Option (List ℕ)) → List Cut → Type 0
+  Cuts now cuts = IfSome told (CutsOf now cuts)
 
   abbrev rest : List (List ℕ) → List ℕ
   rest texts = rest_of by book.pipes book.places book.kept.listed texts
@@ -77,7 +82,7 @@ module _ (A : Type 0) {S L D : Type 0} (left lent_as : S → Option (List ℕ)) 
   pub record SearchEnds (news : List (LaneView S L)) (now : Option (List ℕ)) (sink_now : ℕ) (kept : Option (Keep D)) (r : Result A Stop) : Type 0 where
     pub whole : OnOk r (IfSome told (λ texts. On texts → HasNumbers by texts → WroteAll (rest texts) before now))
     pub front : OnErr r (IfSome told (λ texts. On texts → (All IsShardText texts → HasNumbers by texts) → WroteFront (rest texts) before now))
-    pub keeps_so : KeepsOn history plan.head plan.mark Cuts keep kept r
+    pub keeps_so : KeepsOn history plan.head plan.mark (Cuts now) keep kept r
     pub closed : OnOk r (All IsClosed news)
     pub read : OnOk r (IfSome told (λ texts. On texts → WereRead reads slack texts news))
     pub lanes : AllZip (StaysLane left lent_as read_of) olds news
@@ -96,8 +101,11 @@ module _ (A : Type 0) {S L D : Type 0} (left lent_as : S → Option (List ℕ)) 
     none_ends = record {
       whole = tt;
       front = for_some told (λ texts. On texts → (All IsShardText texts → HasNumbers by texts) → WroteFront (rest texts) before before) (λ texts e on few. wrote_none (rest texts) before);
-      keeps_so = keeps_nothing A history plan.head plan.mark Cuts
-          (for_some told (λ texts. On texts → HasNumbers by texts → AreSearchCuts by book.pipes texts []) (λ texts e on numbers bound is low high. All-nil (IsSearchCut by book.pipes texts bound))) plan (length olds) keep may_keep;
+      keeps_so = keeps_nothing A history plan.head plan.mark (Cuts before)
+          (for_some told (CutsOf before []) (λ texts e on numbers. (
+            λ bound is low high. All-nil (IsSearchCut by book.pipes texts bound),
+            All-nil (WroteCounted by book.pipes book.places book.kept.listed texts before before),
+          ))) plan (length olds) keep may_keep;
       closed = tt;
       read = tt;
       lanes = all_stay left lent_as read_of olds;
