@@ -1,17 +1,14 @@
 -- How lanes begin, and what is pending, by a cut that is taken apart.
-use Rattle.std.proofs.Common.{◌≡◌, ◌≤◌, ◌<◌, ◌+◌, ℕ, zero, suc, List, [], ◌∷◌, ◌++◌, Option, Some, None, true, false, refl, ap, sym, arith, ◌∙◌, subst, length, map}
+use Rattle.std.proofs.Common.{◌≡◌, ◌+◌, ℕ, zero, suc, List, [], ◌∷◌, ◌++◌, Some, None, true, false, refl, ap, sym, arith, ◌∙◌, subst, length, map}
 use Rattle.std.specs.Prelude.{All, Bool, Contains, ℤ, get_or}
 use Rattle.std.specs.List.{flat_map, slice_get}
 use Rattle.std.proofs.lemmas.List.Elements.{All-cons, All-head, All-map, All-nil, All-tail}
 use Rattle.std.proofs.lemmas.Option.{none-some, same_Some, slice_get-get_or, slice_get_within, get_or_from_slice_get}
-use Rattle.eql_values.specs.declared.cut.BookCut.{BookCut}
 use Rattle.eql_values.specs.declared.cut.LaneCut.{LaneCut}
 use Rattle.eql_values.specs.declared.cut.Pipe.{Pipe}
-use Rattle.eql_values.specs.declared.found.Holder.{Holder}
 use Rattle.eql_values.specs.declared.item.Item.{Item}
-use Rattle.eql_values.specs.declared.order.Mark.TheVariants.{At}
 use Rattle.eql_values.specs.declared.order.OrderKey.{OrderKey}
-use Rattle.eql_laws.specs.Lanes.{LaneFits, LanesFit, IsKeptBy}
+use Rattle.eql_laws.specs.Lanes.{LaneFits, LanesFit}
 use Rattle.eql_lane.specs.declared.make.LaneStart.{LaneStart}
 use Rattle.eql_lane.specs.declared.make.LaneStart.TheVariants as start
 use Rattle.eql_lane.specs.Starts.{MayBegin, MayLift, MayStart}
@@ -19,7 +16,7 @@ use Rattle.eql_conductor.specs.Openings.{FitMayBegin}
 use Rattle.eql_cut.specs.declared.cut.Cut.{Cut}
 use Rattle.eql_cut.specs.Domain.{kept_by}
 use Rattle.eql_cut.specs.Fitting.{run_of}
-use Rattle.eql_cut.specs.Placing.{IsUnplaced, NamesLine, lane_orders, orders_in, state_orders}
+use Rattle.eql_cut.specs.Placing.{IsUnplaced, NamesLine, lane_orders, orders_in}
 use Rattle.eql_placed.specs.PlacedLaws.{EventsAreNamed}
 use Rattle.eql_resume.specs.Beginnings.{AreWanted, LaneBegins, LanesBegin, WantedAre, fresh_starts, lifts_of, rest_orders}
 use Rattle.eql_resume.specs.Finding.{Suits}

@@ -1,5 +1,6 @@
 -- What is found on a disk, in the words of runs.
-use Rattle.std.proofs.Common.{◌≡◌, ℕ, List, Option, Some, None, Result, Err, IfErr, IfSome, refl, sym, ap, ◌∙◌, subst}
+use Rattle.std.proofs.Common.{◌≡◌, ℕ, List, Option, Some, None, Result, Err, IfErr, IfSome, refl, sym, subst}
+use Rattle.std.proofs.lemmas.Option.{none-some}
 use Rattle.eql_values.specs.declared.cut.Pipe.{Pipe}
 use Rattle.eql_outside.specs.Areas.{IsImage, Moment, seen_areas}
 use Rattle.eql_outside.specs.Moments.{History, Told}
@@ -19,9 +20,9 @@ use Rattle.eql_ckdisk.specs.Found.{EachFinds, Found, LastCut, found, text}
 use Rattle.eql_ckdisk.specs.Found as areas
 use Rattle.eql_ckdisk.specs.Keeping.{AllKept, all_kept}
 use Rattle.eql_ckdisk.specs.Putting.{last_cut}
-use Rattle.eql_ckdisk.specs.Recovering.{IsAnswer, IsNoneOrCut, IsSound}
+use Rattle.eql_ckdisk.specs.Recovering.{IsAnswer, IsNoneOrCut}
 use Rattle.eql_ckdisk.specs.Refusing.{IfDamaged, IsDamaged}
-use Rattle.eql_runs.specs.CutRefusals.{FoundRefuses, damaged, differs, head_damaged, head_differs, is_unfit, text_damaged, unfit}
+use Rattle.eql_runs.specs.CutRefusals.{FoundRefuses, damaged, head_damaged, head_differs, is_unfit, text_damaged}
 use Rattle.eql_runs.specs.Starts.{StandsFor, a_cut, bad_head, bad_text}
 use Rattle.eql_resume.specs.declared.finding.StartRefused.{StartRefused}
 use Rattle.eql_resume.specs.declared.finding.StartRefused.TheVariants as by
@@ -58,6 +59,11 @@ pub none_placed : FirstFormatUnplaced → (cut : Option Cut) (format generation 
 none_placed law None format generation sound = tt
 none_placed law (Some cut) format generation sound =
     λ one. law cut sound.1.0 (subst (λ (n : ℕ). IsText n cut sound.1.0) one sound.1.1.is)
+
+-- without a cut there is no format
+pub none_formed : (cut : Option Cut) (format generation : ℕ) → IsNoneOrCut cut format generation → cut ≡ None → format ≡ 0
+none_formed None format generation sound is = sound.0
+none_formed (Some cut) format generation sound is = absurd (none-some cut (sym is))
 
 -- ---- why it is refused
 module _ (stages values : ℕ) (pipes : List Pipe) (head : CutHead) where

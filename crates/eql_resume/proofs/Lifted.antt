@@ -1,9 +1,8 @@
 -- Lanes that were lifted keep what the cut does once it has their places.
-use Rattle.std.proofs.Common.{◌≡◌, ◌≤◌, ◌<◌, ◌+◌, ◌-◌, ℕ, zero, suc, List, [], ◌∷◌, ◌++◌, Some, None, true, false, refl, ap, sym, arith, ◌∙◌, subst, length, map}
-use Rattle.std.specs.Prelude.{All, AllPairs, Bool, Contains, IsTrue, ◌==◌, if◌then◌else◌, get_or}
+use Rattle.std.proofs.Common.{◌≡◌, ◌≤◌, ◌<◌, ◌+◌, ◌-◌, ℕ, zero, suc, List, [], ◌∷◌, Some, true, false, refl, ap, sym, arith, ◌∙◌, subst, length, map}
+use Rattle.std.specs.Prelude.{All, AllPairs, Bool, Contains, ◌==◌, if◌then◌else◌, get_or}
 use Rattle.std.specs.FinMap.Entries.{below_all, is_sorted}
 use Rattle.std.specs.List.{slice_get, list_all}
-use Rattle.std.specs.List.Sorted.{IsStrictlyIncreasing}
 use Rattle.std.specs.Ordering.{is_lt, nat_cmp}
 use Rattle.std.proofs.lemmas.Bool.{and_from, eqb-true, eq-eqb}
 use Rattle.std.proofs.lemmas.List.Elements.{All-head, All-tail, All-weaker}
@@ -16,17 +15,16 @@ use Rattle.eql_values.specs.declared.item.Item.{Item}
 use Rattle.eql_values.specs.declared.order.OrderKey.{OrderKey}
 use Rattle.eql_values.specs.Lines.{Line, lines_in, lines_of}
 use Rattle.eql_laws.specs.Counting.{front}
-use Rattle.eql_laws.specs.Lanes.{LaneFits, LanesFit}
-use Rattle.eql_laws.specs.Places.{ReadTo, is_line_end, whole}
-use Rattle.eql_lane.specs.Noting.{IsWholeLine, Located, line_place, place_among, placed_cut, placed_item, placed_lines, whole_lines}
+use Rattle.eql_laws.specs.Places.{ReadTo, is_line_end}
+use Rattle.eql_lane.specs.Noting.{IsWholeLine, line_place, place_among, placed_item, placed_lines, whole_lines}
 use Rattle.eql_cut.specs.declared.cut.Cut.{Cut}
 use Rattle.eql_cut.specs.Fitting.{run_of}
-use Rattle.eql_cut.specs.Placing.{LinesAscend, NamesLine, lifted, lifted_item, lifted_lane, orders_in, place_in, place_of}
-use Rattle.eql_placed.specs.Placed.{EachWasNoted, HasLine, WereNoted, place_of_line, placed, with_places}
+use Rattle.eql_cut.specs.Placing.{NamesLine, lifted, lifted_item, lifted_lane, place_in, place_of}
+use Rattle.eql_placed.specs.Placed.{EachWasNoted, HasLine, WereNoted, place_of_line, with_places}
 use Rattle.eql_placed.specs.PlacedLaws.{EventsAreNamed, NotedIsPlaced, WantedWereNoted}
 use Rattle.eql_resume.specs.Beginnings.{AreWanted}
 use Rattle.eql_resume.specs.Finding.{Suits}
-use Rattle.eql_resume.specs.Lifted.{LiftedAs, LiftedIsCut, WasLifted, WereLifted}
+use Rattle.eql_resume.specs.Lifted.{LiftedIsCut, WasLifted, WereLifted}
 use Rattle.eql_resume.proofs.Begun.{fits_at, of_lane}
 
 pub record LiftLaws : Type 0 where

@@ -2,7 +2,6 @@
 use Rattle.std.proofs.Common.{◌≡◌, ℕ, List, Option, Some, None, Result, Ok, Err, IfOk, IfSome, true, false, sym, subst, length, map}
 use Rattle.std.specs.Prelude.{Bool}
 use Rattle.eql_values.specs.declared.cut.Pipe.{Pipe}
-use Rattle.eql_lane.specs.declared.make.LaneStart.{LaneStart}
 use Rattle.eql_lane.specs.declared.make.LaneStart.TheVariants as start
 use Rattle.eql_conductor.specs.Openings.{FitMayBegin}
 use Rattle.eql_cut.specs.declared.cut.Cut.{Cut}

@@ -1,5 +1,5 @@
 //! The cut that a disk holds, tested against the run that is to go on from it.
-ghost use Rattle.std.specs.Prelude.{◌≡◌, ◌≢◌, ◌≤◌, Err, IfErr, IfOk, IfSome, OnOk};
+ghost use Rattle.std.specs.Prelude.{◌≡◌, ◌≢◌, ◌≤◌, Err, IfErr, IfOk, IfSome, None, OnOk};
 ghost use Rattle.eql_outside.specs.Areas.{seen_areas};
 ghost use Rattle.eql_outside.specs.Moments.{Told};
 ghost use Rattle.eql_outside.specs.Outside.{Rose};
@@ -125,6 +125,7 @@ pub fn find_start<D: Disk>(
         (λ h. StandsFor (on_of start) (found (seen_areas h.now)))) }
     ensures suits { IfOk result (λ start. IfSome start.cut (Suits stages values pipes.now head.now)) }
     ensures unplaced { IfOk result (λ start. IfSome start.cut (λ cut. start.format ≡ 1 → IsUnplaced (orders_in cut))) }
+    ensures format { IfOk result (λ start. start.cut ≡ None → start.format ≡ 0) }
     ensures stands { IfOk result (λ start. Stands (last_cut start.state) (D.history disk.new)) }
 
     // Why it is refused.

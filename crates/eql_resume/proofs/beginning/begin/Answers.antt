@@ -1,5 +1,3 @@
-use Rattle.std.proofs.Common.{◌≡◌, Option, Some, None, IfOk, IfSome, true, false, sym, subst}
-use Rattle.eql_resume.proofs.Begun.{begins_fresh, begins_kept, begins_lifted}
 use Rattle.eql_resume.proofs.Taken.{taken_fresh, taken_kept, taken_lifted}
 use Rattle.eql_resume.proofs.beginning.begin.Goals as goal
 

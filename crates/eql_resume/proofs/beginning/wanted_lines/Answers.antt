@@ -1,4 +1,4 @@
-use Rattle.std.proofs.Common.{rules, ◌≡◌, ◌+◌, ℕ, ◌++◌, [], ◌∷◌, List, sym, subst, arith, length}
+use Rattle.std.proofs.Common.{rules, ◌≡◌, ◌+◌, ℕ, sym, subst, arith, length}
 use Rattle.eql_resume.specs.Beginnings.{AreWanted, WantedAre}
 use Rattle.eql_resume.proofs.Begun.{wanted_push}
 use Rattle.eql_resume.proofs.beginning.wanted_lines.Goals as goal

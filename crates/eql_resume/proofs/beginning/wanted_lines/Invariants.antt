@@ -1,4 +1,4 @@
-use Rattle.std.proofs.Common.{◌≡◌, ◌+◌, length}
+use Rattle.std.proofs.Common.{◌≡◌, length}
 use Rattle.eql_resume.specs.Beginnings.{WantedAre}
 use Rattle.eql_resume.proofs.beginning.wanted_lines.Given as goal
 

@@ -1,7 +1,7 @@
 use Rattle.std.proofs.Common.{sym, subst}
 use Rattle.std.proofs.lemmas.Result.{err_from_is_err_and}
 use Rattle.eql_resume.specs.Finding.{FoundCause}
-use Rattle.eql_resume.proofs.Found.{cut_refused, held_there, none_placed, refused_as, refused_there}
+use Rattle.eql_resume.proofs.Found.{cut_refused, held_there, none_formed, none_placed, refused_as, refused_there}
 use Rattle.eql_resume.proofs.finding.find_start.Goals as goal
 
 pub returns-in-Err-clause-cause : goal.returns-in-Err-clause-cause
@@ -14,6 +14,9 @@ returns-clause-holds g c = held_there c.crashes_leave_images.ensures.images.seen
 
 pub returns-clause-unplaced : goal.returns-clause-unplaced
 returns-clause-unplaced g c = none_placed c.first_format_has_no_places.ensures c.in-Ok.found.cut c.in-Ok.found.format _ c.in-Ok.ensures.sound
+
+pub returns-clause-format : goal.returns-clause-format
+returns-clause-format g c = none_formed c.in-Ok.found.cut c.in-Ok.found.format _ c.in-Ok.ensures.sound
 
 pub returns-in_err-test_found-clause-cause : goal.returns-in_err-test_found-clause-cause
 returns-in_err-test_found-clause-cause g c =
