@@ -1,12 +1,13 @@
--- A run that came to its shards tells no file as not there.
+-- A run that came to its shards tells no file as not there, and one that searched them refuses nothing.
 use Rattle.std.proofs.Common.{◌≡◌, ℕ, List, Ok, Err}
 use Rattle.std.specs.Prelude.{IfErr, Result}
 use Rattle.eql_lane.specs.declared.make.LaneRefused.{LaneRefused}
 use Rattle.eql_inputs.specs.declared.halt.Halt.TheVariants as halt
 use Rattle.eql_inputs.specs.declared.halt.Refused.{Refused}
+use Rattle.eql_find.specs.declared.halt.CutStop.{CutStop}
 use Rattle.eql_find.specs.declared.halt.RunHalt.{RunHalt}
 use Rattle.eql_find.specs.declared.halt.RunHalt.TheVariants as run
-use Rattle.eql_find.specs.Halts.{AbsenceAs}
+use Rattle.eql_find.specs.Halts.{AbsenceAs, IsRefusal}
 use Rattle.eql_find.specs.Stops.{IsHaltAt, failed, grown, no_line, short, unmade}
 
 -- one whose lanes weren't made
@@ -31,3 +32,16 @@ absence_as Cause none (Err run.Write) before now stops same = same
 absence_as Cause none (Err (run.Limit l)) before now stops same = same
 absence_as Cause none (Err run.Generation) before now stops same = same
 absence_as Cause none (Err (run.Report r)) before now stops same = same
+
+pub none_refused : (Cause : RunHalt → Type 0) (P : Type 0) → ((r : Refused) → ¬ (Cause (run.Files (halt.Refused r)))) → ((why : CutStop) → ¬ (Cause (run.Cut why)))
+    → (r : Result (Unit {0}) RunHalt) → IfErr r Cause → IfErr r (λ h. IsRefusal h → P)
+none_refused Cause P files cut (Ok done) stops = tt
+none_refused Cause P files cut (Err (run.Files (halt.Refused r))) stops = absurd (files r stops)
+none_refused Cause P files cut (Err (run.Files (halt.Read name))) stops = λ refusal. absurd refusal
+none_refused Cause P files cut (Err (run.Files halt.Memory)) stops = λ refusal. absurd refusal
+none_refused Cause P files cut (Err (run.Cut why)) stops = absurd (cut why stops)
+none_refused Cause P files cut (Err run.Disk) stops = λ refusal. absurd refusal
+none_refused Cause P files cut (Err run.Write) stops = λ refusal. absurd refusal
+none_refused Cause P files cut (Err (run.Limit l)) stops = λ refusal. absurd refusal
+none_refused Cause P files cut (Err run.Generation) stops = λ refusal. absurd refusal
+none_refused Cause P files cut (Err (run.Report r)) stops = λ refusal. absurd refusal

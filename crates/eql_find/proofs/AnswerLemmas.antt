@@ -20,7 +20,7 @@ use Rattle.eql_lane.specs.declared.ops.LimitOf.TheVariants as reached
 use Rattle.eql_cut.specs.declared.cut.Cut.{Cut}
 use Rattle.eql_conductor.specs.LaneRounds.{text_at}
 use Rattle.eql_resume.specs.Beginnings.{Rest}
-use Rattle.eql_runs.specs.Runs.{GoesBeyond, many_bytes, many_lines}
+use Rattle.eql_runs.specs.Runs.{GoesBeyond, WroteCounted, many_bytes, many_lines}
 use Rattle.eql_runs.specs.Searches.{Search, matches_of, plan_of, reads_of, report_lines, report_of, rest_of, shard_counts_from, slack_of}
 use Rattle.eql_runs.specs.Starts.{IsCutOf}
 use Rattle.eql_search.specs.declared.stop.Stop.{Stop}
@@ -127,19 +127,22 @@ module _ {S L : Type 0} (find : Find) (p : Planning) (told : Option (List (List 
       counts_are = counted;
     }
 
-  -- the cuts that it put are cuts of the search
-  pub cuts_are : FindBounds find → (cuts : List Cut)
-      → IfSome told (λ ts. StartsSo find p ts mids placed → AreSearched (search_in find p) ts cuts)
-      → AreCutsOf (search_in find p) told (Started told find p lanes rest) cuts
-  cuts_are bounds cuts = of_started (λ ts. AreSearched (search_in find p) ts cuts)
+  -- the cuts that it put are cuts of the search, and what they count was written
+  pub cuts_are : FindBounds find → (out out' : Option (List ℕ)) (cuts : List Cut)
+      → IfSome told (λ ts. StartsSo find p ts mids placed → AreSearched (search_in find p) ts placed.book.listed out out' cuts)
+      → AreCutsOf (search_in find p) told rest.book.listed out out' (Started told find p lanes rest) cuts
+  cuts_are bounds out out' cuts = of_started (λ ts. AreSearched (search_in find p) ts placed.book.listed out out' cuts)
       (λ ts. length (matches_of (search_in find p) ts) < 2 ^ 64 → (slack : ℕ) → find.slack ≡ Some slack
-      → All (λ (cut : Cut). IsCutOf (search_in find p) slack ts cut) cuts)
-      (λ ts are less slack is. are_cuts_of find p bounds ts cuts are less slack is)
+      → All (λ (cut : Cut). IsCutOf (search_in find p) slack ts cut) cuts × All (WroteCounted (search_in find p) ts rest.book.listed out out') cuts)
+      (λ ts are. are_cuts_of find p bounds ts rest.book.listed out out' cuts
+      (subst (λ (n : ℕ). AreSearched (search_in find p) ts n out out' cuts) listed_is are))
 
 -- no cuts are such
-pub no_cuts : (search : Search) (told : Option (List (List ℕ))) (Started : List (List ℕ) → Type 0) → AreCutsOf search told Started []
-no_cuts search None Started = tt
-no_cuts search (Some ts) Started = λ started less slack is. All-nil (IsCutOf search slack ts)
+pub no_cuts : (search : Search) (told : Option (List (List ℕ))) (listed : ℕ) (out out' : Option (List ℕ)) (Started : List (List ℕ) → Type 0)
+    → AreCutsOf search told listed out out' Started []
+no_cuts search None listed out out' Started = tt
+no_cuts search (Some ts) listed out out' Started =
+    λ started less slack is. (All-nil (IsCutOf search slack ts), All-nil (WroteCounted search ts listed out out'))
 
 -- ---- halts
 -- the text of a lane, by its shard

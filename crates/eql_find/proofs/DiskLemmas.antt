@@ -1,6 +1,6 @@
 -- What a run puts on its disk, in the words of runs.
 use native.Mathlib.Omega.{arith}
-use Rattle.std.proofs.Common.{List, [], Option, Some, None}
+use Rattle.std.proofs.Common.{ℕ, List, [], Option, Some, None, refl}
 use Rattle.eql_outside.specs.declared.disk.Area.TheVariants.{A}
 use Rattle.eql_outside.specs.Moments.{History, Told}
 use Rattle.eql_words.specs.declared.commands.Find.{Find}
@@ -22,21 +22,24 @@ recovered_puts law last cuts before mid now first puts = law.joined last [] cuts
 no_last : LastCut
 no_last = record { area = A; generation = 0 }
 
-put_none : (find : Find) (files : Option Files) (h k : History) → PutsAll no_last [] h k → KeepsCuts find files h k
-put_none find None h k puts = record { last = no_last; cuts = []; puts = puts; are_of = tt }
-put_none find (Some fs) h k puts = record {
+put_none : (find : Find) (files : Option Files) (out out' : Option (List ℕ)) (h k : History) → PutsAll no_last [] h k → KeepsCuts find files out out' h k
+put_none find None out out' h k puts =
+    record { last = no_last; cuts = []; puts = puts; goes_on = λ on holds some. absurd (some refl); are_of = tt }
+put_none find (Some fs) out out' h k puts = record {
   last = no_last;
   cuts = [];
   puts = puts;
+  goes_on = λ on holds some. absurd (some refl);
   are_of = λ on search texts holds searches trusted few i d less. absurd (omega (arith, less));
 }
 
-told_none : (find : Find) (files : Option Files) (before now : Option History) → Told (PutsAll no_last []) before now → Told (KeepsCuts find files) before now
-told_none find files None None puts = tt
-told_none find files None (Some k) puts = puts
-told_none find files (Some h) None puts = puts
-told_none find files (Some h) (Some k) puts = put_none find files h k puts
+told_none : (find : Find) (files : Option Files) (out out' : Option (List ℕ)) (before now : Option History) → Told (PutsAll no_last []) before now
+    → Told (KeepsCuts find files out out') before now
+told_none find files out out' None None puts = tt
+told_none find files out out' None (Some k) puts = puts
+told_none find files out out' (Some h) None puts = puts
+told_none find files out out' (Some h) (Some k) puts = put_none find files out out' h k puts
 
-pub recovered_keeps : PutsGoOn → (find : Find) (files : Option Files) (before now : Option History) → Told (Goes NoMore) before now
-    → Told (KeepsCuts find files) before now
-recovered_keeps law find files before now going = told_none find files before now (law.recovery no_last before now going)
+pub recovered_keeps : PutsGoOn → (find : Find) (files : Option Files) (out out' : Option (List ℕ)) (before now : Option History)
+    → Told (Goes NoMore) before now → Told (KeepsCuts find files out out') before now
+recovered_keeps law find files out out' before now going = told_none find files out out' before now (law.recovery no_last before now going)

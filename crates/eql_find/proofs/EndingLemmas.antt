@@ -1,5 +1,4 @@
 -- The disk of a run whose generations came to their end.
-use native.Mathlib.Omega.{arith}
 use Rattle.std.proofs.Common.{◌≡◌, ◌≢◌, ◌≤◌, ◌^◌, ◌⊎◌, inl, inr, ℕ, List, [], ◌∷◌, Option, Some, None, Err, refl, sym, ap, ◌∙◌, subst, zero, suc}
 use Rattle.std.specs.Prelude.{Result}
 use Rattle.std.proofs.lemmas.Option.{none-some}
@@ -41,14 +40,14 @@ keeps_asked history (Some c) k h = λ gone. none-some c (sym gone)
 stands_seen : ImagesAreThere → (last : LastCut) (m : Moment) → StandsAt last m → IsAt last (found (seen_areas m))
 stands_seen images last m s = subst (λ (f : Found). IsAt last f) (sym (s.2 (seen_areas m) (images.seen m))) s.1
 
--- so where something stands, it has the generation of the last cut; and nothing stands at generation 0 alone
+-- so what stands there has the generation of the last cut, which is 0 where nothing does
 at_nothing : (last : LastCut) (f : Found) → IsAt last f → f ≡ nothing → last.generation ≡ 0
 at_nothing last f at is = subst (λ (x : Found). IsAt last x) is at
 
 generation_at : (last : LastCut) (f : Found) (format generation : ℕ) (o : Option Cut) → StandsFor (held format generation o) f → IsAt last f
-    → 1 ≤ last.generation → generation_on (held format generation o) ≡ last.generation
-generation_at last f format generation None stands at some = let none = at_nothing last f at stands in absurd (omega (arith, none, some))
-generation_at last f format generation (Some cut) stands at some = (subst (λ (x : Found). IsAt last x) stands.2 at).1
+    → generation_on (held format generation o) ≡ last.generation
+generation_at last f format generation None stands at = sym (at_nothing last f at stands)
+generation_at last f format generation (Some cut) stands at = (subst (λ (x : Found). IsAt last x) stands.2 at).1
 
 -- what was put is a cut
 put_stands : (last : LastCut) (cuts : List Cut) (x : Found) → FindsOneOf last cuts x
@@ -79,9 +78,8 @@ module _ (images : ImagesAreThere) (one : OneOnDisk) (find : Find) (begun : Begu
   start_seen h j kept = ap (λ (m : Moment). found (seen_areas m)) (sym kept.now)
 
   ended_by : (last then : LastCut) (cuts : List Cut) (h j k : History) → IsFound find (Some h) begun → AllKept h j → StandsAt last j.now
-      → PutsAll last cuts j k → StandsAt then k.now → 1 ≤ then.generation
-      → (on : OnDisk) × DiskHolds (Some k) on × (generation_on on ≡ then.generation)
-  ended_by last then cuts h j k is kept stands puts now some = by (put_found images last cuts j k puts)
+      → PutsAll last cuts j k → StandsAt then k.now → (on : OnDisk) × DiskHolds (Some k) on × (generation_on on ≡ then.generation)
+  ended_by last then cuts h j k is kept stands puts now = by (put_found images last cuts j k puts)
     where
       at : IsAt then (found (seen_areas k.now))
       at = stands_seen images then k.now now
@@ -92,16 +90,17 @@ module _ (images : ImagesAreThere) (one : OneOnDisk) (find : Find) (begun : Begu
           let seen_is : found (seen_areas j.now) ≡ stands.0 = stands.2 (seen_areas j.now) (images.seen j.now) in
           let same : found (seen_areas h.now) ≡ found (seen_areas k.now) = start_seen h j kept ∙ seen_is ∙ sym first_is ∙ sym first.2 in
           let holds = subst (λ (x : Found). StandsFor (on_begun begun) x) same (is asked) in
-          (on_begun begun, holds, generation_at then (found (seen_areas k.now)) begun.format begun.generation begun.cut holds at some)
+          (on_begun begun, holds, generation_at then (found (seen_areas k.now)) begun.format begun.generation begun.cut holds at)
       by (inr then_put) =
           let put = put_stands last cuts (found (seen_areas k.now)) then_put in
-          (held 3 put.0 (Some put.1), put.2, generation_at then (found (seen_areas k.now)) 3 put.0 (Some put.1) put.2 at some)
+          (held 3 put.0 (Some put.1), put.2, generation_at then (found (seen_areas k.now)) 3 put.0 (Some put.1) put.2 at)
 
-  began_by : (last : LastCut) (h j : History) (on : OnDisk) → IsFound find (Some h) begun → AllKept h j → StandsAt last j.now → 1 ≤ last.generation
+  -- it goes on from the generation of what the disk held at its start
+  pub began_by : (last : LastCut) (h j : History) (on : OnDisk) → IsFound find (Some h) begun → AllKept h j → StandsAt last j.now
       → DiskHolds (Some h) on → last.generation ≡ generation_on on
-  began_by last h j on is kept stands some holds =
+  began_by last h j on is kept stands holds =
       let at = subst (λ (x : Found). IsAt last x) (sym (start_seen h j kept)) (stands_seen images last j.now stands) in
-      let own = generation_at last (found (seen_areas h.now)) begun.format begun.generation begun.cut (is asked) at some in
+      let own = generation_at last (found (seen_areas h.now)) begun.format begun.generation begun.cut (is asked) at in
       sym own ∙ ap generation_on (begun_is one find (Some h) begun on is asked holds)
 
 -- the generations came to their end
@@ -116,10 +115,10 @@ module _ {D : Type 0} (history : D → Option History) (count : D → ℕ) (imag
   by_cuts asked last then cuts (Some h) (Some j) None is kept stands puts standing full far = absurd puts
   by_cuts asked last then cuts (Some h) (Some j) (Some k) is kept stands puts standing full far = record {
     began = λ on holds.
-        let same = began_by images one find begun asked last h j on is kept stands (omega (arith, far)) holds in
+        let same = began_by images one find begun asked last h j on is kept stands holds in
         subst (λ (g : ℕ). 2 ^ 62 ≤ g) same far;
     ended =
-        let e = ended_by images one find begun asked last then cuts h j k is kept stands puts standing (omega (arith, full)) in
+        let e = ended_by images one find begun asked last then cuts h j k is kept stands puts standing in
         (e.0, e.1, e.2 ∙ full);
   }
 

@@ -3,6 +3,8 @@ use Rattle.std.proofs.Common.{◌≡◌, ℕ, List, [], inl, Option, Some, None,
 use Rattle.eql_outside.specs.declared.disk.Area.TheVariants.{A}
 use Rattle.eql_outside.specs.Moments.{History, Told}
 use Rattle.eql_words.specs.declared.commands.Find.{Find}
+use Rattle.eql_ckdisk.specs.Going.{Goes}
+use Rattle.eql_ckdisk.specs.Keeping.{NoMore}
 use Rattle.eql_runs.specs.Files.{Files}
 use Rattle.eql_runs.specs.Runs.{KeepsCuts}
 use Rattle.eql_find.specs.Finding.{FoundSome}
@@ -14,23 +16,35 @@ none_is_some find (Some fs) disk None = λ on holds trusted. tt
 none_is_some find (Some fs) disk (Some w) = λ on holds trusted. inl refl
 
 -- a disk on which nothing is done keeps what it holds
-still : (find : Find) (files : Option Files) (h : History) → KeepsCuts find files h h
-still find None h = record {
+still : (find : Find) (files : Option Files) (out out' : Option (List ℕ)) (h : History) → KeepsCuts find files out out' h h
+still find None out out' h = record {
   last = record { area = A; generation = 0 };
   cuts = [];
   puts = (0, refl);
+  goes_on = λ on holds some. absurd (some refl);
   are_of = tt;
 }
-still find (Some fs) h = record {
+still find (Some fs) out out' h = record {
   last = record { area = A; generation = 0 };
   cuts = [];
   puts = (0, refl);
+  goes_on = λ on holds some. absurd (some refl);
   are_of = λ on search texts holds searches trusted few k d less. absurd (omega (arith, less));
 }
 
-pub still_keeps : (find : Find) (files : Option Files) (h : Option History) → Told (KeepsCuts find files) h h
-still_keeps find files None = tt
-still_keeps find files (Some h) = still find files h
+still_keeps : (find : Find) (files : Option Files) (out out' : Option (List ℕ)) (h : Option History) → Told (KeepsCuts find files out out') h h
+still_keeps find files out out' None = tt
+still_keeps find files out out' (Some h) = still find files out out' h
 
-pub same_keeps : (find : Find) (files : Option Files) (before now : Option History) → now ≡ before → Told (KeepsCuts find files) before now
-same_keeps find files before now same = subst (λ (d : Option History). Told (KeepsCuts find files) before d) (sym same) (still_keeps find files before)
+pub same_keeps : (find : Find) (files : Option Files) (out out' : Option (List ℕ)) (before now : Option History) → now ≡ before
+    → Told (KeepsCuts find files out out') before now
+same_keeps find files out out' before now same =
+    subst (λ (d : Option History). Told (KeepsCuts find files out out') before d) (sym same) (still_keeps find files out out' before)
+
+-- and stands for no more than before
+still_no_more : (h : Option History) → Told (Goes NoMore) h h
+still_no_more None = tt
+still_no_more (Some h) = (0, refl)
+
+pub same_no_more : (before now : Option History) → now ≡ before → Told (Goes NoMore) before now
+same_no_more before now same = subst (λ (d : Option History). Told (Goes NoMore) before d) (sym same) (still_no_more before)

@@ -23,11 +23,13 @@ use Rattle.eql_words.specs.Bounds.{FindBounds}
 use Rattle.eql_lane.specs.declared.ops.LimitOf.TheVariants as reached
 use Rattle.eql_cut.specs.declared.cut.Cut.{Cut}
 use Rattle.eql_cut.specs.declared.cut.CutHead.{CutHead}
+use Rattle.eql_cut.specs.Rising.{RiseFrom}
 use Rattle.eql_ckdisk.specs.Found.{LastCut}
 use Rattle.eql_ckdisk.specs.Putting.{last_cut}
 use Rattle.eql_conductor.specs.declared.plan.Keep.{Keep}
 use Rattle.eql_conductor.specs.Runs.{disk_faults}
 use Rattle.eql_conductor.specs.Saving.{PutsCuts}
+use Rattle.eql_runs.specs.Runs.{WroteCounted}
 use Rattle.eql_runs.specs.Searches.{Search, matches_of, nanos_in, pipes_of, reads_of}
 use Rattle.eql_runs.specs.Starts.{IsCutOf}
 use Rattle.eql_search.specs.declared.stop.Stop.{Stop}
@@ -67,6 +69,7 @@ module _ {D : Type 0} (history : D → Option History) where
     cuts = [];
     are_later = All-nil (IsLaterCut head from);
     are_cuts = none;
+    rise = tt;
     puts = puts_none (last_cut k.state) (history k.disk);
     stands = λ disk memory unread. absurd (memory refl);
     last = tt;
@@ -81,6 +84,7 @@ module _ {D : Type 0} (history : D → Option History) where
     cuts = [];
     are_later = All-nil (IsLater head from);
     are_cuts = none;
+    rise = tt;
     puts = puts_none (last_cut k.state) (history k.disk);
     at_end = λ e. absurd (other cc);
   }
@@ -96,6 +100,7 @@ module _ {D : Type 0} (history : D → Option History) where
     cuts = h.cuts;
     are_later = h.are_later;
     are_cuts = f h.cuts h.are_cuts;
+    rise = h.rise;
     puts = h.puts;
     stands = h.stands;
     last = h.last;
@@ -126,6 +131,7 @@ module _ {D : Type 0} (history : D → Option History) where
     cuts = h.cuts;
     are_later = All-weaker (IsLaterCut head from) (IsLater head mark) (later_too head from mark same) h.cuts h.are_later;
     are_cuts = f h.cuts h.are_cuts;
+    rise = subst (λ (m : Mark). RiseFrom m h.cuts) same h.rise;
     puts = h.puts;
     at_end = λ e.
         let at : answer ≡ Err (stop.Limit reached.Generation) = ends e in
@@ -173,11 +179,15 @@ is_cut_of search slack ts cut h =
       kept_is = h.is_cut.kept_is;
     }
 
-pub are_cuts_of : (find : Find) (p : Planning) → FindBounds find → (ts : List (List ℕ)) (cuts : List Cut) → AreSearched (search_in find p) ts cuts
-    → length (matches_of (search_in find p) ts) < 2 ^ 64 → (slack : ℕ) → find.slack ≡ Some slack
-    → All (λ (cut : Cut). IsCutOf (search_in find p) slack ts cut) cuts
-are_cuts_of find p bounds ts cuts are less slack is =
+pub are_cuts_of : (find : Find) (p : Planning) → FindBounds find → (ts : List (List ℕ)) (listed : ℕ) (out out' : Option (List ℕ)) (cuts : List Cut)
+    → AreSearched (search_in find p) ts listed out out' cuts → length (matches_of (search_in find p) ts) < 2 ^ 64
+    → (slack : ℕ) → find.slack ≡ Some slack
+    → All (λ (cut : Cut). IsCutOf (search_in find p) slack ts cut) cuts × All (WroteCounted (search_in find p) ts listed out out') cuts
+are_cuts_of find p bounds ts listed out out' cuts are less slack is =
     let most : slack ≤ 3153600000000 = subst (λ (o : Option ℕ). IfSome o (λ (time : ℕ). time ≤ 3153600000000)) is bounds.slack in
-    All-weaker (IsSearchCut (rules_in (search_in find p)) (pipes_of (search_in find p)) ts (nanos_in slack)) (IsCutOf (search_in find p) slack ts)
-    (is_cut_of (search_in find p) slack ts) cuts
-    (are less (nanos_in slack) (ap (option_map nanos_in) is) (omega (arith, ints)) (omega (arith, ints)))
+    let both = are less in (
+      All-weaker (IsSearchCut (rules_in (search_in find p)) (pipes_of (search_in find p)) ts (nanos_in slack)) (IsCutOf (search_in find p) slack ts)
+          (is_cut_of (search_in find p) slack ts) cuts
+          (both.0 (nanos_in slack) (ap (option_map nanos_in) is) (omega (arith, ints)) (omega (arith, ints))),
+      both.1,
+    )

@@ -27,11 +27,12 @@ use Rattle.eql_resume.specs.Beginnings.{Rest}
 use Rattle.eql_runs.specs.RunLaws.{MatchesAreFew}
 use Rattle.eql_runs.specs.Searches.{Search, matches_of, nanos_in, pipes_of, plan_of, reads_of, slack_of}
 use Rattle.eql_runs.specs.Searches as runs
+use Rattle.eql_runs.specs.Runs as written
 use Rattle.eql_search.specs.declared.stop.Stop.{Stop}
 use Rattle.eql_search.specs.declared.stop.Stop.TheVariants as stop
 use Rattle.eql_search.specs.Answers.{HasCause, WereRead}
 use Rattle.eql_search.specs.Beginnings.{BeginsOn, MayBegin, cuts_of, start_at}
-use Rattle.eql_search.specs.Keeping.{AreSearchCuts, IsSearchCut}
+use Rattle.eql_search.specs.Keeping.{AreSearchCuts, IsSearchCut, WroteCounted}
 use Rattle.eql_search.specs.Searches.{AreTextsOf, HasNumbers, Rules, reads_by, rest_of, rules_of, slack_by}
 use Rattle.eql_find.specs.declared.plan.Planning.{Planning}
 use Rattle.eql_find.specs.Running.{AreSearched}
@@ -169,20 +170,27 @@ module _ {S L : Type 0} (left : S → Option (List ℕ)) (few : MatchesAreFew) (
       (λ ts e h begins.
       subst (λ (x : Reads). WereRead x slack ts news) same (subst (λ (x : Option ℤ). WereRead rules.reads x ts news) equal (h (starts_at ts begins)))))
 
-  -- which cuts it puts
-  pub are_searched : (cuts : List Cut) → IfSome told (λ ts. Begins ts → HasNumbers rules ts → AreSearchCuts rules book.pipes ts cuts)
-      → IfSome told (λ ts. Starts ts → AreSearched (search_in find p) ts cuts)
-  are_searched cuts = told_each told (λ ts. Begins ts → HasNumbers rules ts → AreSearchCuts rules book.pipes ts cuts)
-      (λ ts. Starts ts → AreSearched (search_in find p) ts cuts)
-      (λ ts e h begins less.
-      subst (λ (r : Rules). AreSearchCuts r (own_pipes p) ts cuts) rules_is
-      (subst (λ (b : BookState). AreSearchCuts rules b.pipes ts cuts) book_is (h (starts_at ts begins) (numbers_of ts less))))
+  -- which cuts it puts, and that what they count was written
+  module _ (before now : Option (List ℕ)) (cuts : List Cut) where
+    abbrev Searched : Rules → BookState → List (List ℕ) → Type 0
+    Searched r b ts = AreSearchCuts r b.pipes ts cuts × All (WroteCounted r b.pipes b.places b.kept.listed ts before now) cuts
+
+    pub are_searched : IfSome told (λ ts. Begins ts → HasNumbers rules ts → Searched rules book ts)
+        → IfSome told (λ ts. Starts ts → AreSearched (search_in find p) ts rest.book.listed before now cuts)
+    are_searched = told_each told (λ ts. Begins ts → HasNumbers rules ts → Searched rules book ts)
+        (λ ts. Starts ts → AreSearched (search_in find p) ts rest.book.listed before now cuts)
+        (λ ts e h begins less.
+        subst (λ (r : Rules). Searched r (own_book find p rest) ts) rules_is
+        (subst (λ (b : BookState). Searched rules b ts) book_is (h (starts_at ts begins) (numbers_of ts less))))
 
 -- a search that wasn't begun put no cuts
-pub none_searched : (search : Search) (told : Option (List (List ℕ))) (Starts : List (List ℕ) → Type 0)
-    → IfSome told (λ ts. Starts ts → AreSearched search ts [])
-none_searched search None Starts = tt
-none_searched search (Some ts) Starts = λ starts less slack is from to. All-nil (IsSearchCut (rules_in search) (pipes_of search) ts slack)
+pub none_searched : (search : Search) (told : Option (List (List ℕ))) (Starts : List (List ℕ) → Type 0) (listed : ℕ) (before now : Option (List ℕ))
+    → IfSome told (λ ts. Starts ts → AreSearched search ts listed before now [])
+none_searched search None Starts listed before now = tt
+none_searched search (Some ts) Starts listed before now = λ starts less. (
+  λ slack is from to. All-nil (IsSearchCut (rules_in search) (pipes_of search) ts slack),
+  All-nil (written.WroteCounted search ts listed before now),
+)
 
 -- nothing written is a front
 front_none : (lines : List ℕ) (before : Option (List ℕ)) → WroteFront lines before before

@@ -1,5 +1,5 @@
 -- A run over lanes: what must hold where it begins, and over which texts it may begin so.
-use Rattle.std.specs.Prelude.{◌≡◌, ◌==◌, ◌^◌, ◌<◌, ℕ, List, IsTrue, length, slice_get, Option, None, Some, IfSome}
+use Rattle.std.specs.Prelude.{◌≡◌, ◌==◌, ◌^◌, ◌<◌, ℕ, List, All, IsTrue, length, slice_get, Option, None, Some, IfSome}
 use Rattle.eql_values.specs.declared.order.Mark.{Mark}
 use Rattle.eql_values.specs.Accepted.{Reads}
 use Rattle.eql_outside.specs.Moments.{History}
@@ -18,7 +18,7 @@ use Rattle.eql_ckdisk.specs.Putting.{Stands, last_cut}
 use Rattle.eql_conductor.specs.declared.plan.Keep.{Keep}
 use Rattle.eql_conductor.specs.declared.plan.RunPlan.{RunPlan}
 use Rattle.eql_resume.specs.Beginnings.{Rest, rest_by}
-use Rattle.eql_runs.specs.Runs.{GoesBeyond, ShardLimit, shard_of}
+use Rattle.eql_runs.specs.Runs.{GoesBeyond, ShardLimit, WroteCounted, shard_of}
 use Rattle.eql_runs.specs.Searches.{Search, matches_of, plan_of, pipes_of as search_pipes}
 use Rattle.eql_runs.specs.Starts.{BeginsWith}
 use Rattle.eql_search.specs.Keeping.{AreSearchCuts}
@@ -81,7 +81,8 @@ pub record BeyondOn {S L : Type 0} (lanes : List (LaneView S L)) (texts : List (
   pub there : slice_get texts (shard_of limit) ≡ Some text
   pub beyond : GoesBeyond limit (Some lane.state.cut) text
 
--- cuts that a search put are cuts of its texts, where each match of them has a number
-abbrev pub AreSearched : Search → (texts : List (List ℕ)) → List Cut → Type 0
-AreSearched search texts cuts =
-    length (matches_of search texts) < 2 ^ 64 → AreSearchCuts (rules_in search) (search_pipes search) texts cuts
+-- cuts that a search put are cuts of its texts, and what they count behind the first lines was written, where each match of the texts has a number
+abbrev pub AreSearched : Search → (texts : List (List ℕ)) → (listed : ℕ) → (out out' : Option (List ℕ)) → List Cut → Type 0
+AreSearched search texts listed out out' cuts =
+    length (matches_of search texts) < 2 ^ 64
+    → AreSearchCuts (rules_in search) (search_pipes search) texts cuts × All (WroteCounted search texts listed out out') cuts

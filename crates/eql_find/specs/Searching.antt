@@ -19,11 +19,12 @@ use Rattle.eql_lane.specs.Views.{LaneView}
 use Rattle.eql_cut.specs.declared.cut.Cut.{Cut}
 use Rattle.eql_cut.specs.declared.cut.CutHead.{CutHead}
 use Rattle.eql_cut.specs.Domain.{IsCut}
+use Rattle.eql_cut.specs.Rising.{RiseFrom}
 use Rattle.eql_ckdisk.specs.declared.state.CkState.{CkState}
 use Rattle.eql_ckdisk.specs.Putting.{Stands, last_cut}
 use Rattle.eql_conductor.specs.declared.plan.Keep.{Keep}
 use Rattle.eql_conductor.specs.Saving.{PutsCuts}
-use Rattle.eql_runs.specs.Runs.{ShardLimit, shard_of}
+use Rattle.eql_runs.specs.Runs.{ShardLimit, WroteCounted, shard_of}
 use Rattle.eql_runs.specs.Searches.{Search, matches_of, pipes_of, reads_of, report_lines, shard_counts_from, slack_of, stages_of}
 use Rattle.eql_runs.specs.Starts.{IsCutOf}
 use Rattle.eql_inputs.specs.declared.halt.Halt.TheVariants as halt
@@ -116,13 +117,14 @@ pub record IsLater (head : CutHead) (from : Mark) (cut : Cut) : Type 0 where
   pub is_cut : IsCut cut
   pub later : AtMost from (At cut.mark)
 
--- the cuts that a run put, one after another. `Are` says which texts they are cuts of. The generations came to their end only where they began
--- far up
+-- the cuts that a run put, one after another, none of a time before the one before it. `Are` says which texts they are cuts of. The generations
+-- came to their end only where they began far up
 pub record PutsThese (head : CutHead) (from : Mark) (Are : List Cut → Type 0) (state then : CkState) (before now : Option History)
     (ended : Type 0) : Type 0 where
   pub cuts : List Cut
   pub are_later : All (IsLater head from) cuts
   pub are_cuts : Are cuts
+  pub rise : RiseFrom from cuts
   pub puts : PutsCuts (last_cut state) cuts before now
   pub at_end : ended → ((last_cut then).generation ≡ 2 ^ 63) × (2 ^ 62 ≤ (last_cut state).generation) × Stands (last_cut then) now
 
@@ -134,11 +136,13 @@ module _ {D : Type 0} (history : D → Option History) where
   KeepsAs head from Are (Some k) (Some l) answer =
       PutsThese head from Are k.state l.state (history k.disk) (history l.disk) (answer ≡ Err run.Generation)
 
--- where a run may begin so over told texts, these are cuts of the search over them
-abbrev pub AreCutsOf : Search → (texts : Option (List (List ℕ))) → (Started : List (List ℕ) → Type 0) → List Cut → Type 0
-AreCutsOf search texts Started cuts =
+-- where a run may begin so over told texts, these are cuts of the search over them, and what they count behind the first lines was written
+abbrev pub AreCutsOf : Search → (texts : Option (List (List ℕ))) → (listed : ℕ) → (out out' : Option (List ℕ))
+    → (Started : List (List ℕ) → Type 0) → List Cut → Type 0
+AreCutsOf search texts listed out out' Started cuts =
     IfSome texts (λ ts. Started ts → length (matches_of search ts) < 2 ^ 64
-    → (slack : ℕ) → search.slack ≡ Some slack → All (λ (cut : Cut). IsCutOf search slack ts cut) cuts)
+    → (slack : ℕ) → search.slack ≡ Some slack
+    → All (λ (cut : Cut). IsCutOf search slack ts cut) cuts × All (WroteCounted search ts listed out out') cuts)
 
 -- ---- why it stops
 -- `Started` says that the run may begin so over texts, `Beyond` that a shard of them is beyond a limit

@@ -1,5 +1,7 @@
 //! The run.
 ghost use Rattle.std.specs.Prelude.{◌≡◌, ◌≢◌, ◌≤◌, ◌-◌, All, IfErr, IfSome, None, OnOk, OnErr, Some, false, length, map, ℕ, List, Option};
+ghost use Rattle.eql_ckdisk.specs.Going.{Goes};
+ghost use Rattle.eql_ckdisk.specs.Keeping.{NoMore};
 ghost use Rattle.eql_conductor.specs.Runs.{IsKeptUnfailing, disk_faults};
 ghost use Rattle.eql_inputs.specs.Shards.{AreWholeFiles};
 ghost use Rattle.eql_inputs.specs.Shelves.{KeepsShelf};
@@ -94,8 +96,12 @@ fn run_over<'a, R: Threads + Wait + Sync, H: Shelf, K: Sink, E: Sink, W: Gate + 
     ensures lent { IfSome (H.lent_count shelf.old)
         (λ n. H.lent_count shelf.new ≡ Some (n - length find.now.shards)) }
     ensures moments { find.now.checkpoint ≢ None
-        → Told (KeepsCuts find.now (H.files shelf.old)) (H.disk_history shelf.old)
+        → Told (KeepsCuts find.now (H.files shelf.old) (K.written out.old) (K.written out.new))
+        (H.disk_history shelf.old)
         (disk_after H.Dsk.history (H.disk_history shelf.old) keep.new) }
+    ensures cut_kept { IfErr result (λ halt. IsRefusal halt
+        → Told (Goes NoMore) (H.disk_history shelf.old)
+        (disk_after H.Dsk.history (H.disk_history shelf.old) keep.new)) }
     ensures no_keep { keep.old ≡ None → keep.new ≡ None }
     ensures some_keep { keep.old ≢ None → keep.new ≢ None }
 {
@@ -178,8 +184,10 @@ fn run_start<'a, R: Threads + Wait + Sync, H: Shelf, K: Sink, E: Sink, W: Gate +
         × (H.disk_fault_count shelf.new ≡ H.disk_fault_count shelf.old)
         × (H.disk_plan shelf.new ≡ H.disk_plan shelf.old) }
     ensures moments { find.now.checkpoint ≢ None
-        → Told (KeepsCuts find.now (H.files shelf.old))
+        → Told (KeepsCuts find.now (H.files shelf.old) (K.written out.old) (K.written out.new))
         (H.disk_history shelf.old) (H.disk_history shelf.new) }
+    ensures cut_kept { IfErr result (λ halt. IsRefusal halt
+        → Told (Goes NoMore) (H.disk_history shelf.old) (H.disk_history shelf.new)) }
 {
     let Start {
         head,
@@ -253,8 +261,10 @@ fn run_shards<'a, R: Threads + Wait + Sync, H: Shelf, K: Sink, E: Sink, W: Gate 
         × (H.disk_fault_count shelf.new ≡ H.disk_fault_count shelf.old)
         × (H.disk_plan shelf.new ≡ H.disk_plan shelf.old) }
     ensures moments { find.now.checkpoint ≢ None
-        → Told (KeepsCuts find.now (H.files shelf.old))
+        → Told (KeepsCuts find.now (H.files shelf.old) (K.written out.old) (K.written out.new))
         (H.disk_history shelf.old) (H.disk_history shelf.new) }
+    ensures cut_kept { IfErr result (λ halt. IsRefusal halt
+        → Told (Goes NoMore) (H.disk_history shelf.old) (H.disk_history shelf.new)) }
 {
     puts_go_on();
     disks_hold_one_thing();
@@ -328,15 +338,18 @@ pub fn find_matches<'a, R: Threads + Wait + Sync, H: Shelf, K: Sink, E: Sink, W:
     ensures back { H.is_out shelf.old ≡ false → H.is_out shelf.new ≡ false }
 
     // Without a checkpoint the disk stays as it is; with one each image at each moment stands for what was there, or
-    // for a cut of the run.
+    // for a cut of the run, and the lines that a cut counts were written. Where the files or the cut are refused, each
+    // image at each moment is one of those at the start.
     ensures disk_kept { find.now.checkpoint ≡ None
         → (H.disk_history shelf.new ≡ H.disk_history shelf.old)
         × (H.is_out shelf.new ≡ H.is_out shelf.old)
         × (H.disk_fault_count shelf.new ≡ H.disk_fault_count shelf.old)
         × (H.disk_plan shelf.new ≡ H.disk_plan shelf.old) }
     ensures moments { find.now.checkpoint ≢ None
-        → Told (KeepsCuts find.now (H.files shelf.old))
+        → Told (KeepsCuts find.now (H.files shelf.old) (K.written out.old) (K.written out.new))
         (H.disk_history shelf.old) (H.disk_history shelf.new) }
+    ensures cut_kept { IfErr result (λ halt. IsRefusal halt
+        → Told (Goes NoMore) (H.disk_history shelf.old) (H.disk_history shelf.new)) }
 {
     let planning = match read_plan(alloc, find, shelf) {
         Ok(planning) => planning,

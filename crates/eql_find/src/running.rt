@@ -154,7 +154,8 @@ fn search_lanes<
         (λ cuts. IfSome told (λ texts.
         StartsOn (search_in find.now planning.now) texts rest.mark (cuts_of lanes.old.items)
         rest.holders rest.book
-        → AreSearched (search_in find.now planning.now) texts cuts)) keep.old keep.new result }
+        → AreSearched (search_in find.now planning.now) texts rest.book.listed
+        (K.written out.old) (K.written out.new) cuts)) keep.old keep.new result }
     ensures lanes { AllZip (StaysLane S.left S.lent_as ⟦<PlanReader as LineReader>⟧.read_of)
         lanes.old.items lanes.new.items }
     ensures may { IfErr result (MayStop (length find.now.shards)) }
@@ -245,7 +246,8 @@ pub(crate) fn run_lanes<
         → WroteAll (rest_of (search_in find.now planning.now) rest.book.listed texts)
         (K.written out.old) (K.written out.new))) }
     ensures keeps { KeepsAs D.history head rest.mark
-        (AreCutsOf (search_in find.now planning.now) told
+        (AreCutsOf (search_in find.now planning.now) told rest.book.listed
+        (K.written out.old) (K.written out.new)
         (Started told find.now planning.now lanes.old.items rest)) keep.old keep.new result }
     ensures quiet { IfErr result (λ halt. TellsNothing halt → err.new ≡ err.old) }
     ensures cause { IfErr result (StoppedLanes find.now (search_in find.now planning.now) told

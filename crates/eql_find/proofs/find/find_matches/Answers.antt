@@ -3,14 +3,16 @@ use Rattle.std.specs.Prelude.{IfErr}
 use Rattle.eql_outside.specs.Moments.{History, Told}
 use Rattle.eql_outside.specs.Plans.{FaultPlan}
 use Rattle.eql_outside.specs.Unfailing.{IsUnfailing}
+use Rattle.eql_ckdisk.specs.Going.{Goes}
+use Rattle.eql_ckdisk.specs.Keeping.{NoMore}
 use Rattle.eql_runs.specs.Files.{Files}
 use Rattle.eql_runs.specs.Runs.{KeepsCuts}
 use Rattle.eql_find.specs.Finding.{HasCause}
-use Rattle.eql_find.specs.Halts.{AbsenceAs}
+use Rattle.eql_find.specs.Halts.{AbsenceAs, IsRefusal}
 use Rattle.eql_inputs.proofs.HaltLemmas.{faults_later}
 use Rattle.eql_find.proofs.FileLemmas.{file_disk, file_faults, file_out}
 use Rattle.eql_find.proofs.GivingLemmas.{over_both}
-use Rattle.eql_find.proofs.HaltingEarly.{none_is_some, same_keeps}
+use Rattle.eql_find.proofs.HaltingEarly.{none_is_some, same_keeps, same_no_more}
 use Rattle.eql_find.proofs.find.find_matches.Goals as goal
 
 -- query or mapping weren't read
@@ -30,7 +32,10 @@ pub returns-in-Err-clause-out : goal.returns-in-Err-clause-out
 returns-in-Err-clause-out g c = file_out c.in-Err.halt _ _ refl
 
 pub returns-in-Err-clause-moments : goal.returns-in-Err-clause-moments
-returns-in-Err-clause-moments g c = λ asked. same_keeps _ _ _ _ c.in-Err.ensures.kept.history_is
+returns-in-Err-clause-moments g c = λ asked. same_keeps _ _ _ _ _ _ c.in-Err.ensures.kept.history_is
+
+pub returns-in-Err-clause-cut_kept : goal.returns-in-Err-clause-cut_kept
+returns-in-Err-clause-cut_kept g c = λ refusal. same_no_more _ _ c.in-Err.ensures.kept.history_is
 
 -- the shards weren't opened
 pub returns-clause-faults : goal.returns-clause-faults
@@ -43,7 +48,10 @@ pub returns-clause-out : goal.returns-clause-out
 returns-clause-out g c = file_out c.in-Err-open_shards.halt _ _ refl
 
 pub returns-clause-moments : goal.returns-clause-moments
-returns-clause-moments g c = λ asked. same_keeps _ _ _ _ (c.open_shards.ensures.kept.history_is ∙ c.read_plan.ensures.kept.history_is)
+returns-clause-moments g c = λ asked. same_keeps _ _ _ _ _ _ (c.open_shards.ensures.kept.history_is ∙ c.read_plan.ensures.kept.history_is)
+
+pub returns-clause-cut_kept : goal.returns-clause-cut_kept
+returns-clause-cut_kept g c = λ refusal. same_no_more _ _ (c.open_shards.ensures.kept.history_is ∙ c.read_plan.ensures.kept.history_is)
 
 -- they were
 pub returns-in-Ok-open_shards-clause-cause : goal.returns-in-Ok-open_shards-clause-cause
@@ -67,6 +75,11 @@ returns-in-Ok-open_shards-clause-unfailing g c =
 pub returns-in-Ok-open_shards-clause-moments : goal.returns-in-Ok-open_shards-clause-moments
 returns-in-Ok-open_shards-clause-moments g c =
     λ asked.
-    over_both (λ (fs : Option Files) (h : Option History). Told (KeepsCuts c.args.find.now fs) h (g.H.Shelf.disk_history c.run_shards.new.shelf))
+    over_both (λ (fs : Option Files) (h : Option History). Told (KeepsCuts c.args.find.now fs (g.K.Sink.written c.args.out.now) (g.K.Sink.written c.run_shards.new.out)) h (g.H.Shelf.disk_history c.run_shards.new.shelf))
     (c.open_shards.ensures.kept.files_are ∙ c.read_plan.ensures.kept.files_are) (c.open_shards.ensures.kept.history_is ∙ c.read_plan.ensures.kept.history_is)
     (c.run_shards.ensures.moments asked)
+
+pub returns-in-Ok-open_shards-clause-cut_kept : goal.returns-in-Ok-open_shards-clause-cut_kept
+returns-in-Ok-open_shards-clause-cut_kept g c =
+    subst (λ (h : Option History). IfErr c.run_shards.result (λ halt. IsRefusal halt → Told (Goes NoMore) h (g.H.Shelf.disk_history c.run_shards.new.shelf)))
+    (c.open_shards.ensures.kept.history_is ∙ c.read_plan.ensures.kept.history_is) c.run_shards.ensures.cut_kept

@@ -2,7 +2,7 @@ use denote.Param.Send.{sendable}
 use Rattle.std.proofs.Common.{refl, ◌∙◌}
 use Rattle.std.proofs.lemmas.Result.{IfErr-weaker, on_err_weaker, on_ok_weaker}
 use Rattle.eql_stages.specs.Judging.{reads_by}
-use Rattle.eql_find.proofs.AbsenceLemmas.{absence_as, made_absence}
+use Rattle.eql_find.proofs.AbsenceLemmas.{absence_as, made_absence, none_refused}
 use Rattle.eql_find.proofs.CauseLemmas.{all_accepted, all_causes}
 use Rattle.eql_find.proofs.EndingLemmas.{generations_end}
 use Rattle.eql_find.proofs.FailLemmas.{named_over}
@@ -10,7 +10,7 @@ use Rattle.eql_find.proofs.FoundLemmas.{found_all, found_listing, found_some}
 use Rattle.eql_find.proofs.GivingLemmas.{still_none, still_some}
 use Rattle.eql_find.proofs.HaltingEarly.{none_is_some}
 use Rattle.eql_find.proofs.OverLemmas.{began, lane_count, made_cause, over_runs, run_begins, sources_few, start_on, starts_many}
-use Rattle.eql_find.proofs.PuttingLemmas.{keeps_cuts, none_put}
+use Rattle.eql_find.proofs.PuttingLemmas.{keeps_cuts, none_changed, none_put}
 use Rattle.eql_find.proofs.ShardLemmas.{count_as, count_then, faults_as, faults_then, lent_all, made_halt, may_make, unfailing_over, zip_long}
 use Rattle.eql_find.proofs.find.run_over.Goals as goal
 
@@ -73,7 +73,10 @@ returns-in-Err-clause-unfailing g c =
 
 pub returns-in-Err-clause-moments : goal.returns-in-Err-clause-moments
 returns-in-Err-clause-moments g c =
-    λ asked. none_put g.H.Dsk.Disk.history g.H.Dsk.Disk.fault_count c.puts_go_on.ensures c.args.find.now _ _ c.args.keep.now asked c.requires.1.1.1.1.1.1.1.1.1.1.1.1.1.1.1.1.1.1.0 c.requires.1.1.1.1.1.1.1.1.1.1.1.1.1.1.1.1.1.1.1
+    λ asked. none_put g.H.Dsk.Disk.history g.H.Dsk.Disk.fault_count c.puts_go_on.ensures c.args.find.now _ _ _ _ c.args.keep.now asked c.requires.1.1.1.1.1.1.1.1.1.1.1.1.1.1.1.1.1.1.0 c.requires.1.1.1.1.1.1.1.1.1.1.1.1.1.1.1.1.1.1.1
+
+pub returns-in-Err-clause-cut_kept : goal.returns-in-Err-clause-cut_kept
+returns-in-Err-clause-cut_kept g c = λ refusal. none_changed g.H.Dsk.Disk.history g.H.Dsk.Disk.fault_count _ c.args.keep.now c.requires.1.1.1.1.1.1.1.1.1.1.1.1.1.1.1.1.1.1.1
 
 -- all were made
 
@@ -157,12 +160,15 @@ returns-clause-lent g c =
 
 pub returns-clause-moments : goal.returns-clause-moments
 returns-clause-moments g c =
-    λ asked. keeps_cuts c.puts_go_on.ensures c.disks_hold_one_thing.ensures c.tested_cuts_are_accepted.ensures.one c.args.find.now c.args.planning.now
+    λ asked. keeps_cuts c.puts_go_on.ensures c.crashes_leave_images.ensures.images c.disks_hold_one_thing.ensures c.tested_cuts_are_accepted.ensures.one c.args.find.now c.args.planning.now
     c.requires.1.1.1.1.1.1.1.1.1.1.1.1.0 _ _ _ c.in-Ok.lanes.items c.args.rest c.requires.1.1.1.1.1.1.1.1.1.1.1.1.1.1.1.1.1.0.begun c.requires.1.1.1.1.1.1.1.1.1.1.1.1.1.1.1.1.1.0.is_found c.requires.1.1.1.1.1.1.1.1.1.1.1.1.1.1.1.1.1.0.rest_is
     (over_runs g.H.Src.Source.left g.H.Src.Source.lent_as g.H.Src.Source.fault_count g.H.Src.Source.fault_plan reads_by _ _ _ _ _ c.requires.1.1.1.1.1.1.1.1.1.1.1.0 _ _ _ _ _
     c.requires.1.1.1.1.1.1.1.1.1.1.1.1.0 c.requires.1.1.1.1.1.1.1.1.1.1.1.1.1.0 c.requires.1.1.1.1.1.1.1.1.1.1.1.1.1.1.0 c.requires.1.1.1.1.1.1.1.1.1.1.1.1.1.1.1.0 c.requires.1.1.1.1.1.1.1.1.1.1.1.1.1.1.1.1.1.0 c.in-Ok.lanes.items c.in-Ok.ensures.made
     c.spans_change_no_fit.ensures c.disks_hold_one_thing.ensures c.tested_cuts_are_accepted.ensures.accepted)
-    c.args.head c.requires.1.1.1.1.1.1.1.1.1.1.1.1.1.1.1.1.1.0.head_is g.H.Dsk.Disk.history g.H.Dsk.Disk.fault_count c.run_lanes-ran.result c.args.keep.now c.run_lanes-ran.new.keep asked c.requires.1.1.1.1.1.1.1.1.1.1.1.1.1.1.1.1.1.1.0 c.requires.1.1.1.1.1.1.1.1.1.1.1.1.1.1.1.1.1.1.1 c.run_lanes-ran.ensures.keeps
+    c.args.head c.requires.1.1.1.1.1.1.1.1.1.1.1.1.1.1.1.1.1.0.head_is (g.K.Sink.written c.args.out.now) (g.K.Sink.written c.run_lanes-ran.new.out) g.H.Dsk.Disk.history g.H.Dsk.Disk.fault_count c.run_lanes-ran.result c.args.keep.now c.run_lanes-ran.new.keep asked c.requires.1.1.1.1.1.1.1.1.1.1.1.1.1.1.1.1.1.1.0 c.requires.1.1.1.1.1.1.1.1.1.1.1.1.1.1.1.1.1.1.1 c.run_lanes-ran.ensures.keeps
+
+pub returns-clause-cut_kept : goal.returns-clause-cut_kept
+returns-clause-cut_kept g c = none_refused _ _ (λ r told. told) (λ why told. told) c.run_lanes-ran.result c.run_lanes-ran.ensures.cause
 
 pub returns-clause-no_keep : goal.returns-clause-no_keep
 returns-clause-no_keep g c =

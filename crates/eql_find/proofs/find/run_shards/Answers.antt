@@ -1,10 +1,12 @@
 use Rattle.std.proofs.Common.{ℕ, Option, ap, subst, sym, ◌∙◌}
 use Rattle.std.specs.Prelude.{IfErr, OnErr, OnOk}
 use Rattle.eql_outside.specs.Moments.{History, Told}
+use Rattle.eql_ckdisk.specs.Going.{Goes}
+use Rattle.eql_ckdisk.specs.Keeping.{NoMore}
 use Rattle.eql_runs.specs.Files.{Files}
 use Rattle.eql_runs.specs.Runs.{IfFound, IsFindAccepted, KeepsCuts}
 use Rattle.eql_find.specs.Finding.{FoundAll, FoundListing, FoundSome, HasCause}
-use Rattle.eql_find.specs.Halts.{AbsenceAs, DiskAs, IsReport}
+use Rattle.eql_find.specs.Halts.{AbsenceAs, DiskAs, IsRefusal, IsReport}
 use Rattle.eql_find.specs.Starting.{IsFreshKeep}
 use Rattle.eql_find.proofs.DiskLemmas.{recovered_keeps}
 use Rattle.eql_find.proofs.GivingLemmas.{back_by, fresh_keep, keeps_if_asked, over_both}
@@ -66,8 +68,14 @@ returns-in-Err-clause-err g c =
 pub returns-in-Err-clause-moments : goal.returns-in-Err-clause-moments
 returns-in-Err-clause-moments g c =
     λ asked.
-    subst (λ (d : Option History). Told (KeepsCuts c.args.find.now (g.H.Shelf.files c.args.shelf.now)) (g.H.Shelf.disk_history c.args.shelf.now) d)
-    (sym c.give_sources.ensures.kept.history_is) (recovered_keeps c.puts_go_on.ensures _ _ _ _ c.in-Err.ensures.moments)
+    subst (λ (d : Option History). Told (KeepsCuts c.args.find.now (g.H.Shelf.files c.args.shelf.now) (g.K.Sink.written c.args.out.now) (g.K.Sink.written c.args.out.now)) (g.H.Shelf.disk_history c.args.shelf.now) d)
+    (sym c.give_sources.ensures.kept.history_is) (recovered_keeps c.puts_go_on.ensures _ _ _ _ _ _ c.in-Err.ensures.moments)
+
+pub returns-in-Err-clause-cut_kept : goal.returns-in-Err-clause-cut_kept
+returns-in-Err-clause-cut_kept g c =
+    λ refusal.
+    subst (λ (d : Option History). Told (Goes NoMore) (g.H.Shelf.disk_history c.args.shelf.now) d) (sym c.give_sources.ensures.kept.history_is)
+    c.in-Err.ensures.moments
 
 -- it is begun
 
@@ -126,4 +134,9 @@ returns-in-Ok-clause-disk_kept g c =
 pub returns-in-Ok-clause-moments : goal.returns-in-Ok-clause-moments
 returns-in-Ok-clause-moments g c =
     λ asked.
-    over_both (λ (fs : Option Files) (h : Option History). Told (KeepsCuts c.args.find.now fs) h (g.H.Shelf.disk_history c.run_start.new.shelf)) c.in-Ok.ensures.kept.files_are c.in-Ok.ensures.still (c.run_start.ensures.moments asked)
+    over_both (λ (fs : Option Files) (h : Option History). Told (KeepsCuts c.args.find.now fs (g.K.Sink.written c.args.out.now) (g.K.Sink.written c.run_start.new.out)) h (g.H.Shelf.disk_history c.run_start.new.shelf)) c.in-Ok.ensures.kept.files_are c.in-Ok.ensures.still (c.run_start.ensures.moments asked)
+
+pub returns-in-Ok-clause-cut_kept : goal.returns-in-Ok-clause-cut_kept
+returns-in-Ok-clause-cut_kept g c =
+    subst (λ (h : Option History). IfErr c.run_start.result (λ halt. IsRefusal halt → Told (Goes NoMore) h (g.H.Shelf.disk_history c.run_start.new.shelf)))
+    c.in-Ok.ensures.still c.run_start.ensures.cut_kept

@@ -89,7 +89,7 @@ pub returns-in-Err-clause-keeps : goal.returns-in-Err-clause-keeps
 returns-in-Err-clause-keeps g c =
     let bounds : FindBounds c.args.find.now = search rules in
     let b : BeginsRun g.S.Source.left reads_by g.D.Disk.history g.told c.args.find.now c.args.planning.now c.args.lanes.now.items c.args.rest c.args.head c.args.keep.now = search rules in
-    keeps_nothing g.D.Disk.history (Unit {0}) c.args.head c.args.rest.mark _ (no_cuts (search_in c.args.find.now c.args.planning.now) g.told _) c.args.keep.now _ (λ e. absurd cc)
+    keeps_nothing g.D.Disk.history (Unit {0}) c.args.head c.args.rest.mark _ (no_cuts (search_in c.args.find.now c.args.planning.now) g.told c.args.rest.book.listed (g.K.Sink.written c.args.out.now) (g.K.Sink.written c.args.out.now) _) c.args.keep.now _ (λ e. absurd cc)
 
 pub returns-in-Err-clause-lanes : goal.returns-in-Err-clause-lanes
 returns-in-Err-clause-lanes g c =
@@ -130,7 +130,7 @@ returns-in-Ok-write_report-clause-keeps g c =
     let placed_is = c.in-Ok.ensures.rest in
     let news = c.search_lanes.new.lanes.items in
     keeps_as g.D.Disk.history c.args.head placed.mark rest.mark _ _ (same_mark lanes rest placed placed_is)
-    (cuts_are c.args.find.now c.args.planning.now g.told lanes mids news rest placed (starts laws c.args.find.now c.args.planning.now bounds lanes rest b.many mids placed taken placed_is g.told) (same_listed lanes rest placed placed_is) bounds) c.args.keep.now c.search_lanes.new.keep c.search_lanes.result _ (λ e. absurd cc) c.search_lanes.ensures.keeps
+    (cuts_are c.args.find.now c.args.planning.now g.told lanes mids news rest placed (starts laws c.args.find.now c.args.planning.now bounds lanes rest b.many mids placed taken placed_is g.told) (same_listed lanes rest placed placed_is) bounds (g.K.Sink.written c.args.out.now) (g.K.Sink.written c.search_lanes.new.out)) c.args.keep.now c.search_lanes.new.keep c.search_lanes.result _ (λ e. absurd cc) c.search_lanes.ensures.keeps
 
 pub returns-in-Ok-write_report-clause-lanes : goal.returns-in-Ok-write_report-clause-lanes
 returns-in-Ok-write_report-clause-lanes g c =
@@ -215,7 +215,7 @@ returns-in-Err-write_report-clause-keeps g c =
     let placed_is = c.in-Ok.ensures.rest in
     let news = c.search_lanes.new.lanes.items in
     keeps_as g.D.Disk.history c.args.head placed.mark rest.mark _ _ (same_mark lanes rest placed placed_is)
-    (cuts_are c.args.find.now c.args.planning.now g.told lanes mids news rest placed (starts laws c.args.find.now c.args.planning.now bounds lanes rest b.many mids placed taken placed_is g.told) (same_listed lanes rest placed placed_is) bounds) c.args.keep.now c.search_lanes.new.keep c.search_lanes.result _ (λ e. absurd cc) c.search_lanes.ensures.keeps
+    (cuts_are c.args.find.now c.args.planning.now g.told lanes mids news rest placed (starts laws c.args.find.now c.args.planning.now bounds lanes rest b.many mids placed taken placed_is g.told) (same_listed lanes rest placed placed_is) bounds (g.K.Sink.written c.args.out.now) (g.K.Sink.written c.search_lanes.new.out)) c.args.keep.now c.search_lanes.new.keep c.search_lanes.result _ (λ e. absurd cc) c.search_lanes.ensures.keeps
 
 pub returns-in-Err-write_report-clause-lanes : goal.returns-in-Err-write_report-clause-lanes
 returns-in-Err-write_report-clause-lanes g c =
@@ -286,7 +286,7 @@ returns-in-Err-search_lanes-clause-keeps g c =
     let placed_is = c.in-Ok.ensures.rest in
     let news = c.search_lanes.new.lanes.items in
     keeps_as g.D.Disk.history c.args.head placed.mark rest.mark _ _ (same_mark lanes rest placed placed_is)
-    (cuts_are c.args.find.now c.args.planning.now g.told lanes mids news rest placed (starts laws c.args.find.now c.args.planning.now bounds lanes rest b.many mids placed taken placed_is g.told) (same_listed lanes rest placed placed_is) bounds) c.args.keep.now c.search_lanes.new.keep c.search_lanes.result _ (λ e. c.in-Err-search_lanes.is ∙ ap Err (ends_by c.args.find.now.shards c.in-Err-search_lanes.stop c.halt_of.result c.halt_of.ensures cc)) c.search_lanes.ensures.keeps
+    (cuts_are c.args.find.now c.args.planning.now g.told lanes mids news rest placed (starts laws c.args.find.now c.args.planning.now bounds lanes rest b.many mids placed taken placed_is g.told) (same_listed lanes rest placed placed_is) bounds (g.K.Sink.written c.args.out.now) (g.K.Sink.written c.search_lanes.new.out)) c.args.keep.now c.search_lanes.new.keep c.search_lanes.result _ (λ e. c.in-Err-search_lanes.is ∙ ap Err (ends_by c.args.find.now.shards c.in-Err-search_lanes.stop c.halt_of.result c.halt_of.ensures cc)) c.search_lanes.ensures.keeps
 
 pub returns-in-Err-search_lanes-clause-cause : goal.returns-in-Err-search_lanes-clause-cause
 returns-in-Err-search_lanes-clause-cause g c =

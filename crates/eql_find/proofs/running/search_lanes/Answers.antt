@@ -152,7 +152,8 @@ returns-in-Ok-clause-keeps g c =
     (keeps_weaker g.D.Disk.history c.args.head c.into_parts-mark.result.0 _ _
     (are_searched g.S.Source.left c.matches_are_counted.ensures.few c.args.find.now c.args.planning.now g.told c.args.lanes.now.items
     (rules_of reads_by c.stages.result c.span.result c.args.lanes.now.items) c.args.rest c.into_parts-mark.result.0 c.into_parts-mark.result.1 c.in-Ok.book
-    (search rules) (search rules) few by c.into_parts-mark.ensures.0 c.into_parts-mark.ensures.1 book)
+    (search rules) (search rules) few by c.into_parts-mark.ensures.0 c.into_parts-mark.ensures.1 book
+    (g.K.Sink.written c.args.out.now) (g.K.Sink.written c.search.new.sink))
     c.args.keep.now c.search.new.keep c.search.result c.search.ensures.keeps)
 
 pub returns-in-Ok-clause-may : goal.returns-in-Ok-clause-may
@@ -165,7 +166,7 @@ returns-in-Err-clause-front g c = fronts_none g.told _ (rest_of (search_in c.arg
 
 pub returns-in-Err-clause-keeps : goal.returns-in-Err-clause-keeps
 returns-in-Err-clause-keeps g c =
-    keeps_none g.D.Disk.history (Unit {0}) c.args.head c.args.rest.mark _ (none_searched (search_in c.args.find.now c.args.planning.now) g.told _) c.args.keep.now
+    keeps_none g.D.Disk.history (Unit {0}) c.args.head c.args.rest.mark _ (none_searched (search_in c.args.find.now c.args.planning.now) g.told _ c.args.rest.book.listed (g.K.Sink.written c.args.out.now) (g.K.Sink.written c.args.out.now)) c.args.keep.now
 
 pub returns-in-Err-clause-lanes : goal.returns-in-Err-clause-lanes
 returns-in-Err-clause-lanes g c = stay_lanes g.S.Source.left g.S.Source.lent_as reads_by c.args.lanes.now.items
