@@ -171,6 +171,22 @@ read_told (run.Limit l) before now same lt = absurd (omega (arith, same, lt))
 read_told run.Generation before now same lt = absurd (omega (arith, same, lt))
 read_told (run.Report x) before now same lt = absurd (omega (arith, same, lt))
 
+-- nor is a file that isn't there
+pub absence_told : (h : RunHalt) (before now : ℕ) → AbsenceAs {A = Unit {0}} (Err h) before now → before < now → run_status_of h ≡ 1
+absence_told (run.Files (halt.Refused (refused.NoFile name))) before now rose lt = refl
+absence_told (run.Files (halt.Refused (refused.Lex r))) before now same lt = absurd (omega (arith, same, lt))
+absence_told (run.Files (halt.Refused (refused.Parse r))) before now same lt = absurd (omega (arith, same, lt))
+absence_told (run.Files (halt.Refused (refused.Mapping r))) before now same lt = absurd (omega (arith, same, lt))
+absence_told (run.Files (halt.Refused (refused.Broken r))) before now same lt = absurd (omega (arith, same, lt))
+absence_told (run.Files (halt.Read name)) before now same lt = absurd (omega (arith, same, lt))
+absence_told (run.Files halt.Memory) before now same lt = absurd (omega (arith, same, lt))
+absence_told (run.Cut why) before now same lt = absurd (omega (arith, same, lt))
+absence_told run.Disk before now same lt = absurd (omega (arith, same, lt))
+absence_told run.Write before now same lt = absurd (omega (arith, same, lt))
+absence_told (run.Limit l) before now same lt = absurd (omega (arith, same, lt))
+absence_told run.Generation before now same lt = absurd (omega (arith, same, lt))
+absence_told (run.Report x) before now same lt = absurd (omega (arith, same, lt))
+
 pub write_told : (h : RunHalt) (before now : ℕ) → OutAs {A = Unit {0}} (Err h) before now → before < now → (run_status_of h ≡ 5) ⊎ (run_status_of h ≡ 4)
 write_told (run.Files (halt.Refused r)) before now same lt = absurd (omega (arith, same, lt))
 write_told (run.Files (halt.Read name)) before now same lt = inr refl

@@ -1,7 +1,7 @@
 -- The disk of a command, and that of words.
-use Rattle.std.proofs.Common.{◌≡◌, ◌≢◌, ℕ, List, [], Option, Some, None, refl, sym, subst, arith, ◌∙◌}
+use Rattle.std.proofs.Common.{◌≡◌, ◌≢◌, ℕ, List, Option, Some, None, Ok, Err, refl, sym, subst, ◌∙◌}
+use Rattle.std.specs.Prelude.{IfErr, Result}
 use Rattle.std.proofs.lemmas.Option.{none-some, same_Some}
-use Rattle.eql_outside.specs.declared.disk.Area.TheVariants.{A}
 use Rattle.eql_outside.specs.Moments.{History}
 use Rattle.eql_outside.specs.Moments as moments
 use Rattle.eql_words.specs.declared.commands.Checkpoint.{Checkpoint}
@@ -9,38 +9,38 @@ use Rattle.eql_words.specs.declared.commands.Command.{Command}
 use Rattle.eql_words.specs.declared.commands.Command.TheVariants as command
 use Rattle.eql_words.specs.declared.commands.Find.{Find}
 use Rattle.eql_words.specs.Commands.{command_of}
+use Rattle.eql_ckdisk.specs.Going.{Goes}
+use Rattle.eql_ckdisk.specs.Keeping.{NoMore}
 use Rattle.eql_runs.specs.Files.{Files}
 use Rattle.eql_runs.specs.Refusals.{Refusal}
 use Rattle.eql_runs.specs.Runs.{AskDisk, AsksDisk, IsRefused, KeepsCuts, RefusedAs, by_cut, by_files}
 use Rattle.eql_runs.specs.Starts.{OnDisk}
+use Rattle.eql_find.specs.declared.halt.RunHalt.{RunHalt}
+use Rattle.eql_find.specs.Halts.{IsRefusal}
+use Rattle.eql_find.proofs.HaltingEarly.{same_keeps, same_no_more}
 use Rattle.eql_cli.specs.Running.{KeepDisk, KeepsDisk}
 
 -- a disk on which nothing is done keeps what it holds
-still : (find : Find) (files : Option Files) (h : History) → KeepsCuts find files h h
-still find None h = record { last = record { area = A; generation = 0 }; cuts = []; puts = (0, refl); are_of = tt }
-still find (Some fs) h = record {
-  last = record { area = A; generation = 0 };
-  cuts = [];
-  puts = (0, refl);
-  are_of = λ on search texts holds searches trusted few k d less. absurd (omega (arith, less));
-}
+pub kept_disk : (asked : Command) (files : Option Files) (out out' : Option (List ℕ)) (disk now : Option History) → now ≡ disk
+    → KeepsDisk asked files out out' disk now
+kept_disk (command.Find f) files out out' disk now same = λ has. same_keeps f files out out' disk now same
+kept_disk (command.Check query fields) files out out' disk now same = tt
+kept_disk (command.Made hands events) files out out' disk now same = tt
 
-stays : (find : Find) (files : Option Files) (disk : Option History) → moments.Told (KeepsCuts find files) disk disk
-stays find files None = tt
-stays find files (Some h) = still find files h
+pub kept_words : (words : List (List ℕ)) (files : Option Files) (out out' : Option (List ℕ)) (disk : Option History)
+    → KeepDisk words files out out' disk disk
+kept_words words files out out' disk = λ find is has. same_keeps find files out out' disk disk refl
 
-pub kept_disk : (asked : Command) (files : Option Files) (disk now : Option History) → now ≡ disk → KeepsDisk asked files disk now
-kept_disk (command.Find f) files disk now same = λ has. subst (λ (x : Option History). moments.Told (KeepsCuts f files) disk x) (sym same) (stays f files disk)
-kept_disk (command.Check query fields) files disk now same = tt
-kept_disk (command.Made hands events) files disk now same = tt
-
-pub kept_words : (words : List (List ℕ)) (files : Option Files) (disk : Option History) → KeepDisk words files disk disk
-kept_words words files disk = λ find is has. stays find files disk
+-- nor is what it stands for changed, where the run is refused or not
+pub none_changed : (r : Result (Unit {0}) RunHalt) (disk now : Option History) → now ≡ disk
+    → IfErr r (λ h. IsRefusal h → moments.Told (Goes NoMore) disk now)
+none_changed (Ok done) disk now same = tt
+none_changed (Err h) disk now same = λ refusal. same_no_more disk now same
 
 -- a search that is this command
-pub found_keeps : (asked : Command) (find : Find) → asked ≡ command.Find find → (files : Option Files) (disk now : Option History)
-    → (find.checkpoint ≢ None → moments.Told (KeepsCuts find files) disk now) → KeepsDisk asked files disk now
-found_keeps asked find is files disk now keeps = subst (λ (c : Command). KeepsDisk c files disk now) (sym is) keeps
+pub found_keeps : (asked : Command) (find : Find) → asked ≡ command.Find find → (files : Option Files) (out out' : Option (List ℕ))
+    (disk now : Option History) → (find.checkpoint ≢ None → moments.Told (KeepsCuts find files out out') disk now) → KeepsDisk asked files out out' disk now
+found_keeps asked find is files out out' disk now keeps = subst (λ (c : Command). KeepsDisk c files out out' disk now) (sym is) keeps
 
 pub asks_found : (asked : Command) (find : Find) → asked ≡ command.Find find → find.checkpoint ≢ None → AsksDisk asked
 asks_found asked find is has = subst (λ (c : Command). AsksDisk c) (sym is) has
@@ -53,11 +53,11 @@ pub not_asked : (asked : Command) (find : Find) → asked ≡ command.Find find 
 not_asked asked find is never = never_some find.checkpoint (λ has. never (asks_found asked find is has))
 
 -- words that are this command
-pub keep_words : (words : List (List ℕ)) (asked : Command) → command_of words ≡ Some asked → (files : Option Files) (disk now : Option History)
-    → KeepsDisk asked files disk now → KeepDisk words files disk now
-keep_words words asked is files disk now keeps = λ find is_find has.
+pub keep_words : (words : List (List ℕ)) (asked : Command) → command_of words ≡ Some asked → (files : Option Files) (out out' : Option (List ℕ))
+    (disk now : Option History) → KeepsDisk asked files out out' disk now → KeepDisk words files out out' disk now
+keep_words words asked is files out out' disk now keeps = λ find is_find has.
     let e : asked ≡ command.Find find = same_Some asked (command.Find find) (sym is ∙ is_find) in
-    subst (λ (c : Command). KeepsDisk c files disk now) e keeps has
+    subst (λ (c : Command). KeepsDisk c files out out' disk now) e keeps has
 
 pub ask_words : (words : List (List ℕ)) (asked : Command) → command_of words ≡ Some asked → AsksDisk asked → AskDisk words
 ask_words words asked is asks = (asked, is, asks)

@@ -91,14 +91,14 @@ HasCause asked files disk now err err' run.Generation =
 HasCause asked files disk now err err' (run.Report r) =
     (find : Find) × (asked ≡ command.Find find) × ReportsFront find files disk err err'
 
--- a command that keeps its state on a disk keeps its cuts there
-abbrev pub KeepsDisk : Command → Option Files → (disk now : Option History) → Type 0
-KeepsDisk (command.Find f) files disk now = f.checkpoint ≢ None → moments.Told (KeepsCuts f files) disk now
-KeepsDisk (command.Check query fields) files disk now = Unit {0}
-KeepsDisk (command.Made hands events) files disk now = Unit {0}
+-- a command that keeps its state on a disk keeps its cuts there, and writes what they count
+abbrev pub KeepsDisk : Command → Option Files → (out out' : Option (List ℕ)) → (disk now : Option History) → Type 0
+KeepsDisk (command.Find f) files out out' disk now = f.checkpoint ≢ None → moments.Told (KeepsCuts f files out out') disk now
+KeepsDisk (command.Check query fields) files out out' disk now = Unit {0}
+KeepsDisk (command.Made hands events) files out out' disk now = Unit {0}
 
 -- so do words that are such a command
-abbrev pub KeepDisk : List (List ℕ) → Option Files → (disk now : Option History) → Type 0
-KeepDisk words files disk now =
+abbrev pub KeepDisk : List (List ℕ) → Option Files → (out out' : Option (List ℕ)) → (disk now : Option History) → Type 0
+KeepDisk words files out out' disk now =
     (find : Find) → command_of words ≡ Some (command.Find find) → find.checkpoint ≢ None
-    → moments.Told (KeepsCuts find files) disk now
+    → moments.Told (KeepsCuts find files out out') disk now

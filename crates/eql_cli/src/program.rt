@@ -1,9 +1,12 @@
 //! The top call.
 ghost use Rattle.std.specs.Prelude.{◌≡◌, ◌≢◌, ◌⊎◌, ◌≤◌, ◌<◌, None, IfSome, Some, false};
+ghost use Rattle.eql_outside.specs.Moments as moments;
 ghost use Rattle.eql_outside.specs.Outside.{Rose};
 ghost use Rattle.eql_outside.specs.Unfailing.{IsUnfailing, AreUnfailing};
 ghost use Rattle.eql_words.specs.Commands.{command_of};
 ghost use Rattle.eql_words.specs.Words.{bytes_of};
+ghost use Rattle.eql_ckdisk.specs.Going.{Goes};
+ghost use Rattle.eql_ckdisk.specs.Keeping.{NoMore};
 ghost use Rattle.eql_runs.specs.Runs.{AskDisk, IfTold, IsAccepted, WroteAll, WroteListing, WroteSome, Told, Limited, IsReady, RefusedAs};
 ghost use Rattle.eql_cli.specs.Running.{KeepDisk};
 
@@ -73,6 +76,11 @@ pub fn eql_main<R: Threads + Wait + Sync, H: Shelf, K: Sink, E: Sink, G: Gate + 
     ensures refused { (result.status ≡ 1) ⊎ (result.status ≡ 2) ⊎ (result.status ≡ 3)
         ⊎ (result.status ≡ 7) → result.out ≡ out }
 
+    // Nor does the disk come to hold anything that it didn't: each image at each moment is one of those at the start.
+    ensures cut_kept { (result.status ≡ 1) ⊎ (result.status ≡ 2) ⊎ (result.status ≡ 3)
+        ⊎ (result.status ≡ 7)
+        → moments.Told (Goes NoMore) (H.disk_history shelf.old) (H.disk_history shelf.new) }
+
     // On every other status a text is told whose cause holds, or a front of it.
     ensures told { result.status ≢ 0
         → Told (bytes_of words.now.items) (H.files shelf.old)
@@ -98,8 +106,10 @@ pub fn eql_main<R: Threads + Wait + Sync, H: Shelf, K: Sink, E: Sink, G: Gate + 
         → Limited (bytes_of words.now.items) (H.files shelf.old)
         (H.disk_history shelf.old) (H.disk_history shelf.new) }
 
-    // No fault is passed over: where several come at once the read fault is told.
+    // No fault is passed over, and no absent file: where several faults come at once the read fault is told.
     ensures reads_told { H.fault_count shelf.old < H.fault_count shelf.new → result.status ≡ 4 }
+    ensures absences_told { H.absent_count shelf.old < H.absent_count shelf.new
+        → result.status ≡ 1 }
     ensures writes_told { K.fault_count out < K.fault_count result.out
         → (result.status ≡ 5) ⊎ (result.status ≡ 4) }
     ensures disks_told { H.disk_fault_count shelf.old < H.disk_fault_count shelf.new
@@ -136,9 +146,10 @@ pub fn eql_main<R: Threads + Wait + Sync, H: Shelf, K: Sink, E: Sink, G: Gate + 
     ensures lent { IfSome (H.lent_count shelf.old) (λ n. H.lent_count shelf.new ≡ Some n) }
     ensures back { H.is_out shelf.old ≡ false → H.is_out shelf.new ≡ false }
 
-    // With a checkpoint each image of the disk at each moment stands for what was there, or for a cut of the run. Without one the
-    // disk is as it was.
+    // With a checkpoint each image of the disk at each moment stands for what was there, or for a cut of the run, and the lines
+    // that a cut counts were written. Without one the disk is as it was.
     ensures moments { KeepDisk (bytes_of words.now.items) (H.files shelf.old)
+        (K.written out) (K.written result.out)
         (H.disk_history shelf.old) (H.disk_history shelf.new) }
     ensures disk_kept { ¬ (AskDisk (bytes_of words.now.items))
         → (H.disk_history shelf.new ≡ H.disk_history shelf.old)

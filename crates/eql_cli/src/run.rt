@@ -1,8 +1,11 @@
 //! A run by its words: the command is read, run, and why it stopped is told.
 ghost use Rattle.std.specs.Prelude.{◌≡◌, ◌≢◌, ◌⊎◌, ◌≤◌, ◌<◌, ℕ, List, IfErr, IfSome, None, OnErr, OnOk, Some, false};
+ghost use Rattle.eql_outside.specs.Moments as moments;
 ghost use Rattle.eql_outside.specs.Outside.{Rose};
 ghost use Rattle.eql_outside.specs.Unfailing.{AreUnfailing, IsUnfailing};
 ghost use Rattle.eql_words.specs.Bounds.{Bounds};
+ghost use Rattle.eql_ckdisk.specs.Going.{Goes};
+ghost use Rattle.eql_ckdisk.specs.Keeping.{NoMore};
 ghost use Rattle.eql_find.specs.Halts.{AbsenceAs, CountAs, DiskAs, ErrAs, FaultsAs, IsFault, IsRefusal, IsReport, OutAs, TellsNothing};
 ghost use Rattle.eql_words.specs.Commands.{command_of};
 ghost use Rattle.eql_words.specs.Words.{bytes_of};
@@ -42,6 +45,8 @@ fn run_command<'a, R: Threads + Wait + Sync, H: Shelf, K: Sink, E: Sink, G: Gate
         → RunsListing command.now (H.files shelf.old) (H.disk_history shelf.old)
         (K.written out.old) (K.written out.new)) }
     ensures untouched { IfErr result (λ halt. IsRefusal halt → out.new ≡ out.old) }
+    ensures cut_kept { IfErr result (λ halt. IsRefusal halt
+        → moments.Told (Goes NoMore) (H.disk_history shelf.old) (H.disk_history shelf.new)) }
     ensures quiet { IfErr result (λ halt. TellsNothing halt → err.new ≡ err.old) }
     ensures cause { IfErr result (HasCause command.now (H.files shelf.old)
         (H.disk_history shelf.old) (H.disk_history shelf.new)
@@ -65,6 +70,7 @@ fn run_command<'a, R: Threads + Wait + Sync, H: Shelf, K: Sink, E: Sink, G: Gate
     ensures kept { H.files shelf.new ≡ H.files shelf.old }
     ensures lent { IfSome (H.lent_count shelf.old) (λ n. H.lent_count shelf.new ≡ Some n) }
     ensures moments { KeepsDisk command.now (H.files shelf.old)
+        (K.written out.old) (K.written out.new)
         (H.disk_history shelf.old) (H.disk_history shelf.new) }
     ensures disk_kept { ¬ (AsksDisk command.now)
         → (H.disk_history shelf.new ≡ H.disk_history shelf.old)
@@ -106,6 +112,8 @@ fn end_command<R: Threads + Wait + Sync, H: Shelf, K: Sink, E: Sink, G: Gate + S
         (K.written out.old) (K.written out.new) }
     ensures refused { (result ≡ 1) ⊎ (result ≡ 2) ⊎ (result ≡ 3) ⊎ (result ≡ 7)
         → out.new ≡ out.old }
+    ensures cut_kept { (result ≡ 1) ⊎ (result ≡ 2) ⊎ (result ≡ 3) ⊎ (result ≡ 7)
+        → moments.Told (Goes NoMore) (H.disk_history shelf.old) (H.disk_history shelf.new) }
     ensures told { result ≢ 0 → (words : List (List ℕ)) → command_of words ≡ Some command.now
         → Told words (H.files shelf.old)
         (H.disk_history shelf.old) (H.disk_history shelf.new)
@@ -123,6 +131,7 @@ fn end_command<R: Threads + Wait + Sync, H: Shelf, K: Sink, E: Sink, G: Gate + S
         → Limited words (H.files shelf.old)
         (H.disk_history shelf.old) (H.disk_history shelf.new) }
     ensures reads_told { H.fault_count shelf.old < H.fault_count shelf.new → result ≡ 4 }
+    ensures absences_told { H.absent_count shelf.old < H.absent_count shelf.new → result ≡ 1 }
     ensures writes_told { K.fault_count out.old < K.fault_count out.new
         → (result ≡ 5) ⊎ (result ≡ 4) }
     ensures disks_told { H.disk_fault_count shelf.old < H.disk_fault_count shelf.new
@@ -150,6 +159,7 @@ fn end_command<R: Threads + Wait + Sync, H: Shelf, K: Sink, E: Sink, G: Gate + S
     ensures kept { H.files shelf.new ≡ H.files shelf.old }
     ensures lent { IfSome (H.lent_count shelf.old) (λ n. H.lent_count shelf.new ≡ Some n) }
     ensures moments { KeepsDisk command.now (H.files shelf.old)
+        (K.written out.old) (K.written out.new)
         (H.disk_history shelf.old) (H.disk_history shelf.new) }
     ensures disk_kept { ¬ (AsksDisk command.now)
         → (H.disk_history shelf.new ≡ H.disk_history shelf.old)
@@ -194,6 +204,8 @@ pub(crate) fn run_words<R: Threads + Wait + Sync, H: Shelf, K: Sink, E: Sink, G:
         (K.written out.old) (K.written out.new) }
     ensures refused { (result ≡ 1) ⊎ (result ≡ 2) ⊎ (result ≡ 3) ⊎ (result ≡ 7)
         → out.new ≡ out.old }
+    ensures cut_kept { (result ≡ 1) ⊎ (result ≡ 2) ⊎ (result ≡ 3) ⊎ (result ≡ 7)
+        → moments.Told (Goes NoMore) (H.disk_history shelf.old) (H.disk_history shelf.new) }
     ensures told { result ≢ 0 → Told (bytes_of words.now.items) (H.files shelf.old)
         (H.disk_history shelf.old) (H.disk_history shelf.new)
         (H.faults_of shelf.old) (H.faults_of shelf.new) result
@@ -211,6 +223,7 @@ pub(crate) fn run_words<R: Threads + Wait + Sync, H: Shelf, K: Sink, E: Sink, G:
     ensures limit { result ≡ 9 → Limited (bytes_of words.now.items) (H.files shelf.old)
         (H.disk_history shelf.old) (H.disk_history shelf.new) }
     ensures reads_told { H.fault_count shelf.old < H.fault_count shelf.new → result ≡ 4 }
+    ensures absences_told { H.absent_count shelf.old < H.absent_count shelf.new → result ≡ 1 }
     ensures writes_told { K.fault_count out.old < K.fault_count out.new
         → (result ≡ 5) ⊎ (result ≡ 4) }
     ensures disks_told { H.disk_fault_count shelf.old < H.disk_fault_count shelf.new
@@ -238,6 +251,7 @@ pub(crate) fn run_words<R: Threads + Wait + Sync, H: Shelf, K: Sink, E: Sink, G:
     ensures kept { H.files shelf.new ≡ H.files shelf.old }
     ensures lent { IfSome (H.lent_count shelf.old) (λ n. H.lent_count shelf.new ≡ Some n) }
     ensures moments { KeepDisk (bytes_of words.now.items) (H.files shelf.old)
+        (K.written out.old) (K.written out.new)
         (H.disk_history shelf.old) (H.disk_history shelf.new) }
     ensures disk_kept { ¬ (AskDisk (bytes_of words.now.items))
         → (H.disk_history shelf.new ≡ H.disk_history shelf.old)

@@ -1,5 +1,5 @@
-use Rattle.std.proofs.Common.{ap, sym, ◌∙◌}
-use Rattle.eql_cli.proofs.EndLemmas.{accepted_so, cut_by_status, listed_by, never_ended, wrote_all, wrote_some, told_of, limit_of_status, stops_ready, is_calm, no_disk, no_read, done_exact, stops_exact}
+use Rattle.std.proofs.Common.{◌≡◌, ◌⊎◌, ℕ, ap, subst, sym, ◌∙◌}
+use Rattle.eql_cli.proofs.EndLemmas.{absence_told, accepted_so, refused_by_status, cut_by_status, listed_by, never_ended, wrote_all, wrote_some, told_of, limit_of_status, stops_ready, is_calm, no_disk, no_read, done_exact, stops_exact}
 use Rattle.eql_cli.proofs.run.end_command.Goals as goal
 
 pub returns-in-Ok-clause-done : goal.returns-in-Ok-clause-done
@@ -23,6 +23,13 @@ returns-in-Err-clause-prefix g c = λ e words is. wrote_some words c.args.comman
 pub returns-in-Err-clause-listed : goal.returns-in-Err-clause-listed
 returns-in-Err-clause-listed g c = λ e calm words is.
     listed_by words c.args.command.now is _ _ _ _ _ _ c.in-Err.halt _ c.tell_end.ensures.status c.in-Err.ensures.out c.in-Err.ensures.listed e calm
+
+pub returns-in-Err-clause-cut_kept : goal.returns-in-Err-clause-cut_kept
+returns-in-Err-clause-cut_kept g c = λ e.
+    c.in-Err.ensures.cut_kept (refused_by_status c.in-Err.halt (subst (λ (n : ℕ). (n ≡ 1) ⊎ (n ≡ 2) ⊎ (n ≡ 3) ⊎ (n ≡ 7)) c.tell_end.ensures.status e))
+
+pub returns-in-Err-clause-absences_told : goal.returns-in-Err-clause-absences_told
+returns-in-Err-clause-absences_told g c = λ more. c.tell_end.ensures.status ∙ absence_told c.in-Err.halt _ _ c.in-Err.ensures.absences more
 
 pub returns-in-Err-clause-told : goal.returns-in-Err-clause-told
 returns-in-Err-clause-told g c = λ e words is.

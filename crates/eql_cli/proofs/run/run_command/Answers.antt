@@ -1,7 +1,7 @@
 use Rattle.std.proofs.Common.{refl}
 use Rattle.std.proofs.lemmas.Result.{IfErr-weaker, on_err_weaker, on_ok_weaker}
 use Rattle.eql_cli.proofs.RunLemmas.{found_all, found_accepted, found_listing, found_some, find_cause, printed_all, printed_accepted, printed_listing, printed_some, check_cause, check_disks, made_all, made_accepted, made_listing, made_some, made_cause, made_untouched, made_faults, made_count, made_absences, made_disks, made_errors}
-use Rattle.eql_cli.proofs.KeepLemmas.{asks_found, found_keeps, kept_disk, not_asked}
+use Rattle.eql_cli.proofs.KeepLemmas.{asks_found, found_keeps, kept_disk, none_changed, not_asked}
 use Rattle.eql_cli.proofs.run.run_command.Goals as goal
 
 pub returns-in-Find-clause-done : goal.returns-in-Find-clause-done
@@ -24,7 +24,7 @@ returns-in-Find-clause-unfailing g c = λ shelf sources disk out err.
     c.find_matches.ensures.unfailing shelf sources (λ has. disk (asks_found c.args.command.now c.in-Find.find c.in-Find.is has)) out err
 
 pub returns-in-Find-clause-moments : goal.returns-in-Find-clause-moments
-returns-in-Find-clause-moments g c = found_keeps c.args.command.now c.in-Find.find c.in-Find.is _ _ _ c.find_matches.ensures.moments
+returns-in-Find-clause-moments g c = found_keeps c.args.command.now c.in-Find.find c.in-Find.is _ _ _ _ _ c.find_matches.ensures.moments
 
 pub returns-in-Find-clause-disk_kept : goal.returns-in-Find-clause-disk_kept
 returns-in-Find-clause-disk_kept g c = λ never. c.find_matches.ensures.disk_kept (not_asked c.args.command.now c.in-Find.find c.in-Find.is never)
@@ -48,7 +48,10 @@ pub returns-in-Check-clause-disk : goal.returns-in-Check-clause-disk
 returns-in-Check-clause-disk g c = check_disks c.in-Check.query c.in-Check.fields _ c.check_query.result _ _ c.check_query.ensures.disk_kept.2 c.check_query.ensures.cause
 
 pub returns-in-Check-clause-moments : goal.returns-in-Check-clause-moments
-returns-in-Check-clause-moments g c = kept_disk c.args.command.now _ _ _ c.check_query.ensures.disk_kept.0
+returns-in-Check-clause-moments g c = kept_disk c.args.command.now _ _ _ _ _ c.check_query.ensures.disk_kept.0
+
+pub returns-in-Check-clause-cut_kept : goal.returns-in-Check-clause-cut_kept
+returns-in-Check-clause-cut_kept g c = none_changed c.check_query.result _ _ c.check_query.ensures.disk_kept.0
 
 pub returns-in-Made-clause-done : goal.returns-in-Made-clause-done
 returns-in-Made-clause-done g c = on_ok_weaker c.run_made.result (made_all c.args.command.now c.in-Made.hands c.in-Made.events c.in-Made.is _ _ _ _ _) c.run_made.ensures.done
@@ -84,4 +87,7 @@ pub returns-in-Made-clause-err : goal.returns-in-Made-clause-err
 returns-in-Made-clause-err g c = made_errors c.run_made.result _ c.run_made.ensures.stops
 
 pub returns-in-Made-clause-moments : goal.returns-in-Made-clause-moments
-returns-in-Made-clause-moments g c = kept_disk c.args.command.now _ _ _ refl
+returns-in-Made-clause-moments g c = kept_disk c.args.command.now _ _ _ _ _ refl
+
+pub returns-in-Made-clause-cut_kept : goal.returns-in-Made-clause-cut_kept
+returns-in-Made-clause-cut_kept g c = none_changed c.run_made.result _ _ refl

@@ -1,7 +1,8 @@
-use Rattle.std.proofs.Common.{sym, ◌∙◌, codes}
+use Rattle.std.proofs.Common.{refl, sym, ◌∙◌, codes}
 use Rattle.eql_words.specs.Words.{bytes_of}
 use Rattle.eql_words.specs.Usage.{usage_text}
 use Rattle.eql_runs.specs.Runs as runs
+use Rattle.eql_find.proofs.HaltingEarly.{same_no_more}
 use Rattle.eql_cli.proofs.KeepLemmas.{ask_words, kept_words, not_refused}
 use Rattle.eql_cli.proofs.run.run_words.Goals as goal
 
@@ -34,6 +35,9 @@ returns-in-Ok-Some-clause-disk_kept g c = λ never.
 pub returns-in-Ok-None-clause-told : goal.returns-in-Ok-None-clause-told
 returns-in-Ok-None-clause-told g c = λ _. (usage_text, runs.usage (sym c.in-Ok-None.ensures.command ∙ c.in-Ok-None.field-0-is), c.tell_usage.ensures.told)
 
+pub returns-in-Ok-None-clause-cut_kept : goal.returns-in-Ok-None-clause-cut_kept
+returns-in-Ok-None-clause-cut_kept g c = λ e. same_no_more _ _ refl
+
 pub returns-in-Ok-None-clause-exact : goal.returns-in-Ok-None-clause-exact
 returns-in-Ok-None-clause-exact g c = λ calm steady.
     not_refused (bytes_of c.args.words.now.items) (sym c.in-Ok-None.ensures.command ∙ c.in-Ok-None.field-0-is) _ _ 2
@@ -42,4 +46,4 @@ pub returns-in-Err-clause-told : goal.returns-in-Err-clause-told
 returns-in-Err-clause-told g c = λ _. (codes "out of memory\n", runs.memory, c.tell_memory.ensures.told)
 
 pub returns-in-Err-clause-moments : goal.returns-in-Err-clause-moments
-returns-in-Err-clause-moments g c = kept_words (bytes_of c.args.words.now.items) _ _
+returns-in-Err-clause-moments g c = kept_words (bytes_of c.args.words.now.items) _ _ _ _
