@@ -14,7 +14,6 @@ use Rattle.eql_values.specs.declared.order.Mark.TheVariants.{At}
 use Rattle.eql_outside.specs.Moments.{History}
 use Rattle.eql_outside.specs.Outside.{Rose}
 use Rattle.eql_laws.specs.Fitting.{Kept}
-use Rattle.eql_laws.specs.Lateness.{AtMost}
 use Rattle.eql_laws.specs.Lanes.{lane_at, lanes_from}
 use Rattle.eql_laws.specs.Places.{ReadTo, lows_from}
 use Rattle.eql_words.specs.declared.commands.Checkpoint.{Checkpoint}
@@ -40,7 +39,7 @@ use Rattle.eql_find.specs.declared.halt.RunHalt.{RunHalt}
 use Rattle.eql_find.specs.declared.halt.RunHalt.TheVariants as run
 use Rattle.eql_find.specs.declared.plan.Planning.{Planning}
 use Rattle.eql_find.specs.Running.{AreSearched, KeepsIfAsked}
-use Rattle.eql_find.specs.Searching.{IsLater, KeepsAs, rules_in, search_in}
+use Rattle.eql_find.specs.Searching.{KeepsAs, rules_in, search_in}
 
 not_disk : {A : Type 0} (answer : Result A Stop) → answer ≡ Err (stop.Limit reached.Generation) → answer ≡ Err stop.Disk → ⊥
 not_disk answer at disk = cc
@@ -82,7 +81,7 @@ module _ {D : Type 0} (history : D → Option History) where
   keeps_nothing A head from Are none None h other = λ e. other cc
   keeps_nothing A head from Are none (Some k) h other = record {
     cuts = [];
-    are_later = All-nil (IsLater head from);
+    are_later = All-nil (IsLaterCut head from);
     are_cuts = none;
     rise = tt;
     puts = puts_none (last_cut k.state) (history k.disk);
@@ -113,13 +112,6 @@ module _ {D : Type 0} (history : D → Option History) where
   keeps_from head from mark Are same keep kept answer h = subst (λ (m : Mark). KeepsOn history head m Are keep kept answer) same h
 
   -- ---- a search's cuts are those of its run
-  later_too : (head : CutHead) (from mark : Mark) → from ≡ mark → (cut : Cut) → IsLaterCut head from cut → IsLater head mark cut
-  later_too head from mark same cut h = record {
-    head_is = h.head_is;
-    is_cut = h.is_cut;
-    later = subst (λ (m : Mark). AtMost m (At cut.mark)) same h.later;
-  }
-
   pub keeps_as : {A B : Type 0} (head : CutHead) (from mark : Mark) (Are Be : List Cut → Type 0) → from ≡ mark → ((cuts : List Cut) → Are cuts → Be cuts)
       → (keep kept : Option (Keep D)) (answer : Result A Stop) (r : Result B RunHalt)
       → (r ≡ Err run.Generation → answer ≡ Err (stop.Limit reached.Generation)) → KeepsOn history head from Are keep kept answer
@@ -129,7 +121,7 @@ module _ {D : Type 0} (history : D → Option History) where
   keeps_as head from mark Are Be same f (Some k) None answer r ends h = h
   keeps_as head from mark Are Be same f (Some k) (Some l) answer r ends h = record {
     cuts = h.cuts;
-    are_later = All-weaker (IsLaterCut head from) (IsLater head mark) (later_too head from mark same) h.cuts h.are_later;
+    are_later = subst (λ (m : Mark). All (IsLaterCut head m) h.cuts) same h.are_later;
     are_cuts = f h.cuts h.are_cuts;
     rise = subst (λ (m : Mark). RiseFrom m h.cuts) same h.rise;
     puts = h.puts;

@@ -26,10 +26,11 @@ use Rattle.eql_runs.specs.Searches.{Search, matches_of}
 use Rattle.eql_runs.specs.Starts.{DiskHolds, IsCutOf, IsHeadOf, IsTrusted, OnDisk, generation_on, listed_on, mark_on}
 use Rattle.eql_resume.specs.Beginnings.{Rest, rest_by}
 use Rattle.eql_resume.specs.Finding.{held}
+use Rattle.eql_search.specs.Keeping.{IsLaterCut}
 use Rattle.eql_find.specs.declared.halt.RunHalt.{RunHalt}
 use Rattle.eql_find.specs.declared.plan.Planning.{Planning}
 use Rattle.eql_find.specs.Running.{KeepsIfAsked, Started}
-use Rattle.eql_find.specs.Searching.{AreCutsOf, IsLater, KeepsAs, head_in, search_in, slack_told}
+use Rattle.eql_find.specs.Searching.{AreCutsOf, KeepsAs, head_in, search_in, slack_told}
 use Rattle.eql_find.specs.Starting.{Begun, IsFound, IsFreshKeep, disk_after, pipes_of}
 use Rattle.eql_find.proofs.DiskLemmas.{recovered_keeps, recovered_puts}
 use Rattle.eql_find.proofs.EndingLemmas.{began_by}
@@ -60,7 +61,7 @@ module _ (find : Find) (p : Planning) (bounds : FindBounds find) (asked : find.c
   abbrev Wrote : Cut → Type 0
   Wrote cut = WroteCounted (search_in find p) texts listed out out' cut
 
-  one_put : (cut : Cut) → IsLater head from cut → IsOwnCut cut → Wrote cut → IsPut (search_in find p) texts listed out out' cut
+  one_put : (cut : Cut) → IsLaterCut head from cut → IsOwnCut cut → Wrote cut → IsPut (search_in find p) texts listed out out' cut
   one_put cut later is wrote =
       let same : cut.head ≡ head_in find p = later.head_is ∙ own in
       record {
@@ -69,13 +70,13 @@ module _ (find : Find) (p : Planning) (bounds : FindBounds find) (asked : find.c
         wrote = wrote;
       }
 
-  all_put : (cuts : List Cut) → All (IsLater head from) cuts → All (λ (cut : Cut). IsOwnCut cut) cuts → All Wrote cuts
+  all_put : (cuts : List Cut) → All (IsLaterCut head from) cuts → All (λ (cut : Cut). IsOwnCut cut) cuts → All Wrote cuts
       → All (IsPut (search_in find p) texts listed out out') cuts
   all_put [] later are wrote = All-nil (IsPut (search_in find p) texts listed out out')
   all_put (cut ∷ cuts) later are wrote =
       All-cons (IsPut (search_in find p) texts listed out out') cut cuts
-      (one_put cut (All-head (IsLater head from) cut cuts later) (All-head (λ (cut : Cut). IsOwnCut cut) cut cuts are) (All-head Wrote cut cuts wrote))
-      (all_put cuts (All-tail (IsLater head from) cut cuts later) (All-tail (λ (cut : Cut). IsOwnCut cut) cut cuts are) (All-tail Wrote cut cuts wrote))
+      (one_put cut (All-head (IsLaterCut head from) cut cuts later) (All-head (λ (cut : Cut). IsOwnCut cut) cut cuts are) (All-head Wrote cut cuts wrote))
+      (all_put cuts (All-tail (IsLaterCut head from) cut cuts later) (All-tail (λ (cut : Cut). IsOwnCut cut) cut cuts are) (All-tail Wrote cut cuts wrote))
 
 module _ {S L : Type 0} (go_on : PutsGoOn) (images : ImagesAreThere) (one : OneOnDisk) (search_one : OneSearch) (find : Find) (p : Planning)
     (bounds : FindBounds find) (disk : Option History) (files : Option Files) (told : Option (List (List ℕ))) (lanes : List (LaneView S L)) (rest : Rest)
@@ -94,7 +95,7 @@ module _ {S L : Type 0} (go_on : PutsGoOn) (images : ImagesAreThere) (one : OneO
       (subst (λ (s : Search). IsTrusted s others on) same.0 (subst (λ (ts : List (List ℕ)). IsTrusted search ts on) same.1 trusted))
 
   are_put : (cuts : List Cut) (fs : Files) (on : OnDisk) (search : Search) (texts : List (List ℕ)) → find.checkpoint ≢ None
-      → TheRun find p told lanes rest fs on → All (IsLater head rest.mark) cuts → AreOwn told cuts
+      → TheRun find p told lanes rest fs on → All (IsLaterCut head rest.mark) cuts → AreOwn told cuts
       → Searches find fs search texts → IsTrusted search texts on → length (matches_of search texts) < 2 ^ 64
       → All (IsPut search texts (listed_on on) out out') cuts
   are_put cuts fs on search texts asked run later are searches trusted few =
@@ -111,7 +112,7 @@ module _ {S L : Type 0} (go_on : PutsGoOn) (images : ImagesAreThere) (one : OneO
       (subst (λ (s : Search). All (IsPut s texts rest.book.listed out out') cuts) same.0
       (subst (λ (ts : List (List ℕ)). All (IsPut (search_in find p) ts rest.book.listed out out') cuts) same.1 put))
 
-  are_of : (cuts : List Cut) (h : History) → disk ≡ Some h → find.checkpoint ≢ None → All (IsLater head rest.mark) cuts → AreOwn told cuts
+  are_of : (cuts : List Cut) (h : History) → disk ≡ Some h → find.checkpoint ≢ None → All (IsLaterCut head rest.mark) cuts → AreOwn told cuts
       → IfSome files (λ fs. (on : OnDisk) (search : Search) (texts : List (List ℕ)) → DiskHolds (Some h) on
       → Searches find fs search texts → IsTrusted search texts on → length (matches_of search texts) < 2 ^ 64
       → All (IsPut search texts (listed_on on) out out') cuts)
@@ -135,7 +136,7 @@ module _ {S L : Type 0} (go_on : PutsGoOn) (images : ImagesAreThere) (one : OneO
       (began_by images one find begun asked last h j on own_found kept stands holds, subst (λ (m : Mark). RiseFrom m cuts) mark rise)
 
   by_cuts : (last : LastCut) (cuts : List Cut) (before start now : Option History) → disk ≡ start → find.checkpoint ≢ None
-      → Told AllKept start before → Stands last before → PutsCuts last cuts before now → All (IsLater head rest.mark) cuts → RiseFrom rest.mark cuts
+      → Told AllKept start before → Stands last before → PutsCuts last cuts before now → All (IsLaterCut head rest.mark) cuts → RiseFrom rest.mark cuts
       → AreOwn told cuts → Told (KeepsCuts find files out out') start now
   by_cuts last cuts None None None is asked kept stands puts later rise are = tt
   by_cuts last cuts None None (Some k) is asked kept stands puts later rise are = absurd puts

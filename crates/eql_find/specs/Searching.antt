@@ -5,10 +5,8 @@ use Rattle.eql_values.specs.declared.cut.Counts.{Counts}
 use Rattle.eql_values.specs.declared.cut.LaneCut.{LaneCut}
 use Rattle.eql_values.specs.declared.found.Holder.{Holder}
 use Rattle.eql_values.specs.declared.order.Mark.{Mark}
-use Rattle.eql_values.specs.declared.order.Mark.TheVariants.{At}
 use Rattle.eql_outside.specs.Moments.{History}
 use Rattle.eql_outside.specs.Written.{WroteFront}
-use Rattle.eql_laws.specs.Lateness.{AtMost}
 use Rattle.eql_laws.specs.Places.{ReadTo, whole}
 use Rattle.eql_parser.specs.Printed.{printed}
 use Rattle.eql_parser.specs.QueryTree.{query_tree}
@@ -18,7 +16,6 @@ use Rattle.eql_lane.specs.Lanes.{fresh_cut as fresh_lane}
 use Rattle.eql_lane.specs.Views.{LaneView}
 use Rattle.eql_cut.specs.declared.cut.Cut.{Cut}
 use Rattle.eql_cut.specs.declared.cut.CutHead.{CutHead}
-use Rattle.eql_cut.specs.Domain.{IsCut}
 use Rattle.eql_cut.specs.Rising.{RiseFrom}
 use Rattle.eql_ckdisk.specs.declared.state.CkState.{CkState}
 use Rattle.eql_ckdisk.specs.Putting.{Stands, last_cut}
@@ -31,6 +28,7 @@ use Rattle.eql_inputs.specs.declared.halt.Halt.TheVariants as halt
 use Rattle.eql_resume.specs.Lifted.{WereLifted}
 use Rattle.eql_search.specs.Answers.{BecameAt, RoseFaults, SteadyBut}
 use Rattle.eql_search.specs.Beginnings.{BeginsOn, cuts_of, start_at}
+use Rattle.eql_search.specs.Keeping.{IsLaterCut}
 use Rattle.eql_search.specs.Searches.{Rules}
 use Rattle.eql_find.specs.declared.halt.RunHalt.{RunHalt}
 use Rattle.eql_find.specs.declared.halt.RunHalt.TheVariants as run
@@ -111,18 +109,12 @@ pub record ReportOf (find : Find) (search : Search) (texts : Option (List (List 
   pub counts_are : IfSome texts (λ ts. Started ts → counts ≡ shard_counts_from search 0 ts)
 
 -- ---- the disk
--- a cut with this head, at a time from the mark on
-pub record IsLater (head : CutHead) (from : Mark) (cut : Cut) : Type 0 where
-  pub head_is : cut.head ≡ head
-  pub is_cut : IsCut cut
-  pub later : AtMost from (At cut.mark)
-
 -- the cuts that a run put, one after another, none of a time before the one before it. `Are` says which texts they are cuts of. The generations
 -- came to their end only where they began far up
 pub record PutsThese (head : CutHead) (from : Mark) (Are : List Cut → Type 0) (state then : CkState) (before now : Option History)
     (ended : Type 0) : Type 0 where
   pub cuts : List Cut
-  pub are_later : All (IsLater head from) cuts
+  pub are_later : All (IsLaterCut head from) cuts
   pub are_cuts : Are cuts
   pub rise : RiseFrom from cuts
   pub puts : PutsCuts (last_cut state) cuts before now
