@@ -19,7 +19,7 @@ sed -nE 's/^([a-z_0-9]+)( [^:]*)?:.*/\1/p' tree/crates.txt | while read -r crate
 ln -s ../tree/eql elsewhere/middle
 ln -s middle elsewhere/eql
 # The tools that the script uses, without rt.
-for tool in bash env awk find dirname readlink rm cp mkdir mv grep nproc flock; do ln -s "$(command -v "$tool")" tools; done
+for tool in bash env awk find dirname readlink rm cp mkdir mv grep nice nproc flock; do ln -s "$(command -v "$tool")" tools; done
 ln -s "$(command -v chmod)" "$(command -v sleep)" toolchain
 # The stand-in notes what it is asked. It fails where a crate below isn't built, in the crate $RT_FAILS, and in each of $RT_MEETS
 # unless it is asked for all of them within five seconds. In the crate $RT_LASTS it takes as long. `rt lib` leaves a library. `rt run`
@@ -116,6 +116,15 @@ second=$(sed -n 2p order)
 { told_of 1; echo "eql: $second isn't proved; 'rt lib' in $room/tree/crates/$second tells why"; } >one
 RT_FAILS=$second run 'a crate that fails' 70 '' @one "$with"
 RT_FAILS=eql run 'a program that fails' 70 '' @last "$with"
+
+# The longest chain, by the bytes of code: of the crates that can be begun that one comes first which it goes on with.
+rm -rf tree/crates/*/out
+head -c 1000000 /dev/zero >tree/crates/eql_merge/src/long.rt
+: >"$RT_LOG"
+(cd elsewhere && PATH=$with ./eql) >/dev/null 2>&1
+head -n 3 "$RT_LOG" >got.out
+same 'the longest chain comes first' $'eql_values lib\neql_laws lib\neql_merge lib\n'
+rm tree/crates/eql_merge/src/long.rt
 
 # Crates side by side: the first and another one that stands on none.
 first=$(head -n 1 order)
