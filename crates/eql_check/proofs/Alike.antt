@@ -4,7 +4,7 @@ use Rattle.std.specs.Prelude.{is_none}
 use Rattle.std.specs.List.{list_all}
 use Rattle.eql_values.specs.declared.value.Kind.{Kind}
 use Rattle.eql_values.specs.declared.value.Kind.TheVariants as kind
-use Rattle.eql_parser.specs.QueryTree.{TermTree}
+use Rattle.eql_query.specs.QueryTree.{TermTree}
 use Rattle.eql_check.specs.declared.refused.CheckRefused.TheVariants.{KeyKind}
 use Rattle.eql_values.specs.Fitting.{same_kind, may_be}
 use Rattle.eql_check.specs.Kinds.{alike}

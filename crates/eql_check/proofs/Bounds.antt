@@ -3,7 +3,7 @@ use Rattle.std.proofs.Common.{◌≡◌, ◌≤◌, ℕ, List, [], ◌∷◌, le
 use Rattle.std.proofs.lemmas.Bool.{leb-true}
 use Rattle.eql_values.specs.declared.value.Kind.{Kind}
 use Rattle.std.specs.List.{list_all}
-use Rattle.eql_parser.specs.QueryTree.{QueryTree, TermTree}
+use Rattle.eql_query.specs.QueryTree.{QueryTree, TermTree}
 use Rattle.eql_check.specs.Kinds.{kind_at}
 use Rattle.eql_check.specs.Conditions.{all_items, key_count}
 use Rattle.eql_check.specs.Used.{uses, used_fields, query_fields, AreOnce}

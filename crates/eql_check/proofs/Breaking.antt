@@ -2,7 +2,7 @@
 use Rattle.std.proofs.Common.{◌≡◌, ℕ, ◌+◌, List, [], ◌∷◌, Bool, true, false, ◌&&◌, Option, Some, None, refl}
 use Rattle.std.specs.List.{list_all}
 use Rattle.eql_values.specs.declared.value.Kind.{Kind}
-use Rattle.eql_parser.specs.QueryTree.{TermTree}
+use Rattle.eql_query.specs.QueryTree.{TermTree}
 use Rattle.eql_check.specs.declared.refused.CheckRefused.{CheckRefused}
 use Rattle.eql_check.specs.declared.refused.CheckRefused.TheVariants.{Runs}
 use Rattle.eql_check.specs.FirstBroken.{kind_of}

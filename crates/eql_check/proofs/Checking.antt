@@ -5,9 +5,9 @@ use Rattle.std.specs.List.{list_all}
 use Rattle.std.specs.declared.result.Result.TheVariants.{Ok, Err}
 use Rattle.eql_values.specs.declared.value.Kind.{Kind}
 use Rattle.eql_values.specs.declared.value.Kind.TheVariants as kind
-use Rattle.eql_parser.specs.QueryTree.{TermTree, BodyTree, event, sequence, QueryTree}
-use Rattle.eql_parser.specs.declared.expr.FieldRef.{FieldRef}
-use Rattle.eql_parser.specs.declared.query.Span.{Span}
+use Rattle.eql_query.specs.QueryTree.{TermTree, BodyTree, event, sequence, QueryTree}
+use Rattle.eql_query.specs.declared.expr.FieldRef.{FieldRef}
+use Rattle.eql_query.specs.declared.query.Span.{Span}
 use Rattle.eql_check.specs.declared.refused.CheckRefused.{CheckRefused}
 use Rattle.eql_check.specs.declared.refused.CheckRefused.TheVariants as broken
 use Rattle.eql_values.specs.Fitting.{may_be}

@@ -14,7 +14,7 @@ use Rattle.eql_values.specs.declared.value.Kind.{Kind}
 use Rattle.eql_values.specs.Orders.{text_cmp, text_eq}
 use Rattle.eql_values.specs.Totals.{text_cmp_total}
 use Rattle.eql_values.proofs.Same.{text_same}
-use Rattle.eql_parser.specs.QueryTree.{QueryTree}
+use Rattle.eql_query.specs.QueryTree.{QueryTree}
 use Rattle.eql_check.specs.Entering.{use_field, use_if, used_after}
 use Rattle.eql_check.specs.Used.{uses, without, first_uses, used_fields, query_fields, AreOnce}
 

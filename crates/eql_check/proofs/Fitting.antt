@@ -6,8 +6,8 @@ use Rattle.eql_values.specs.declared.value.Kind.TheVariants as kind
 use Rattle.eql_values.specs.declared.value.Value.{Value}
 use Rattle.eql_values.specs.declared.value.Value.TheVariants as value
 use Rattle.eql_values.specs.Orders.{text_eq}
-use Rattle.eql_parser.specs.Tree.{Tree}
-use Rattle.eql_parser.specs.QueryTree.{TermTree, QueryTree}
+use Rattle.eql_query.specs.Tree.{Tree}
+use Rattle.eql_query.specs.QueryTree.{TermTree, QueryTree}
 use Rattle.eql_values.specs.Fitting.{is_of, may_be, FitSlots}
 use Rattle.eql_check.specs.Kinds.{kind_at}
 use Rattle.eql_check.specs.Conditions.{all_items, IsConditionOf}

@@ -2,8 +2,8 @@
 use Rattle.std.proofs.Common.{◌≡◌, ℕ, zero, suc, ◌+◌, ◌<◌, List, [], ◌∷◌, ◌++◌, length, true, false, Option, None, Some, is_some, refl, sym, ap, ◌∙◌, arith, get_or, slice_set, drop}
 use Rattle.std.proofs.lemmas.List.{drop_more}
 use Rattle.eql_values.specs.declared.value.Kind.{Kind}
-use Rattle.eql_parser.specs.Tree.{Trees, none, more}
-use Rattle.eql_parser.specs.declared.expr.FieldRef.{FieldRef}
+use Rattle.eql_query.specs.Tree.{Trees, none, more}
+use Rattle.eql_query.specs.declared.expr.FieldRef.{FieldRef}
 use Rattle.eql_check.specs.Calls.{are_blocks}
 use Rattle.eql_check.specs.Rules.{fit, settled, key_kinds}
 

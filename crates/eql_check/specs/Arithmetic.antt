@@ -3,8 +3,8 @@ use Rattle.std.specs.Prelude.{zero, suc, ℤ, pos, negsuc, neg_ℤ, ◌+ℤ◌, 
 use Rattle.std.specs.Int.{int_div_euclid}
 use Rattle.eql_values.specs.declared.value.Value.{Value}
 use Rattle.eql_values.specs.declared.value.Value.TheVariants as value
-use Rattle.eql_parser.specs.declared.expr.MathOp.{MathOp}
-use Rattle.eql_parser.specs.declared.expr.MathOp.TheVariants.{Add, Sub, Mul, Div, Mod}
+use Rattle.eql_query.specs.declared.expr.MathOp.{MathOp}
+use Rattle.eql_query.specs.declared.expr.MathOp.TheVariants.{Add, Sub, Mul, Div, Mod}
 
 -- the floor of a / b: by a positive divisor the quotient whose rest isn't negative; a negative divisor and
 -- the number both change their signs first

@@ -8,11 +8,11 @@ use Rattle.eql_values.specs.declared.value.Kind.TheVariants as kind
 use Rattle.eql_values.specs.declared.value.Value.TheVariants as value
 use Rattle.eql_text.specs.Addresses.{plain, parse_ip4}
 use Rattle.eql_text.specs.Numbers.{read_number}
-use Rattle.eql_parser.specs.Tree.{Tree}
-use Rattle.eql_parser.specs.Tree as t
-use Rattle.eql_parser.specs.QueryTree.{TermTree, QueryTree, sequence}
-use Rattle.eql_parser.specs.declared.expr.CmpOp.TheVariants.{Lt, Eq, Ne}
-use Rattle.eql_parser.specs.declared.query.Unit.TheVariants.{D, Ms}
+use Rattle.eql_query.specs.Tree.{Tree}
+use Rattle.eql_query.specs.Tree as t
+use Rattle.eql_query.specs.QueryTree.{TermTree, QueryTree, sequence}
+use Rattle.eql_query.specs.declared.expr.CmpOp.TheVariants.{Lt, Eq, Ne}
+use Rattle.eql_query.specs.declared.query.Unit.TheVariants.{D, Ms}
 use Rattle.eql_check.specs.declared.function.Function.TheVariants.{Length, Between}
 use Rattle.eql_check.specs.declared.mapping.MapRefused.TheVariants.{MapKind, MapSyntax}
 use Rattle.eql_check.specs.declared.refused.CheckRefused.TheVariants as broken

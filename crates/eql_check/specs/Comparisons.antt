@@ -12,10 +12,10 @@ use Rattle.eql_values.specs.Orders.{text_cmp, value_eq}
 use Rattle.eql_text.specs.Comparing.{equal}
 use Rattle.eql_text.specs.Wildcards.{wildcard}
 use Rattle.eql_text.specs.Addresses.{parse_ip4}
-use Rattle.eql_parser.specs.declared.expr.CmpOp.{CmpOp}
-use Rattle.eql_parser.specs.declared.expr.CmpOp.TheVariants.{Lt, Le, Eq, Ne, Ge, Gt}
-use Rattle.eql_parser.specs.declared.expr.PatOp.{PatOp}
-use Rattle.eql_parser.specs.declared.expr.PatOp.TheVariants.{Colon, Like, LikeFold}
+use Rattle.eql_query.specs.declared.expr.CmpOp.{CmpOp}
+use Rattle.eql_query.specs.declared.expr.CmpOp.TheVariants.{Lt, Le, Eq, Ne, Ge, Gt}
+use Rattle.eql_query.specs.declared.expr.PatOp.{PatOp}
+use Rattle.eql_query.specs.declared.expr.PatOp.TheVariants.{Colon, Like, LikeFold}
 use Rattle.eql_check.specs.ThreeValued.{truth}
 
 abbrev pub is_null : Value → Bool

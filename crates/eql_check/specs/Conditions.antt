@@ -1,8 +1,8 @@
 -- The conditions of a query.
 use Rattle.std.specs.Prelude.{ℕ, List, [], ◌∷◌, ◌++◌, map, Option, Some, None, Contains, length, ◌+◌}
-use Rattle.eql_parser.specs.Tree.{Tree}
-use Rattle.eql_parser.specs.declared.expr.FieldRef.{FieldRef}
-use Rattle.eql_parser.specs.QueryTree.{TermTree, BodyTree, event, sequence, QueryTree}
+use Rattle.eql_query.specs.Tree.{Tree}
+use Rattle.eql_query.specs.declared.expr.FieldRef.{FieldRef}
+use Rattle.eql_query.specs.QueryTree.{TermTree, BodyTree, event, sequence, QueryTree}
 
 abbrev pub as_list : {A : Type 0} → Option A → List A
 as_list None = []

@@ -4,8 +4,8 @@ use Rattle.std.specs.Borrow.{Bor}
 use Rattle.std.specs.Str.{chars}
 use Rattle.std.specs.declared.alloc.Global.{Global}
 use Rattle.eql_values.specs.declared.value.Kind.{Kind}
-use Rattle.eql_parser.specs.declared.query.Term.{Term}
-use Rattle.eql_parser.specs.QueryTree.{TermTree, term_tree}
+use Rattle.eql_query.specs.declared.query.Term.{Term}
+use Rattle.eql_query.specs.QueryTree.{TermTree, term_tree}
 
 -- fields by their names' characters
 abbrev pub fields_of : List (String Global × Kind) → List (List ℕ × Kind)

@@ -5,9 +5,9 @@ use Rattle.std.specs.declared.result.Result.TheVariants.{Ok, Err}
 use Rattle.eql_values.specs.declared.value.Kind.{Kind}
 use Rattle.eql_values.specs.declared.value.Kind.TheVariants as kind
 use Rattle.eql_values.specs.declared.value.Value.{Value}
-use Rattle.eql_parser.specs.Tree.{Tree, Trees, none, more}
-use Rattle.eql_parser.specs.Tree as t
-use Rattle.eql_parser.specs.declared.expr.CmpOp.{CmpOp}
+use Rattle.eql_query.specs.Tree.{Tree, Trees, none, more}
+use Rattle.eql_query.specs.Tree as t
+use Rattle.eql_query.specs.declared.expr.CmpOp.{CmpOp}
 use Rattle.eql_check.specs.declared.function.Function.{Function}
 use Rattle.eql_check.specs.declared.refused.CheckRefused.{CheckRefused}
 use Rattle.eql_check.specs.declared.refused.CheckRefused.TheVariants as broken

@@ -13,7 +13,7 @@ use Rattle.eql_text.specs.Cutting.{substring, between}
 use Rattle.eql_text.specs.Numbers.{parse_number}
 use Rattle.eql_text.specs.Addresses.{parse_ip4, parse_block, in_block}
 use Rattle.eql_text.specs.declared.addresses.Block.{Block}
-use Rattle.eql_parser.specs.declared.expr.MathOp.TheVariants as math
+use Rattle.eql_query.specs.declared.expr.MathOp.TheVariants as math
 use Rattle.eql_check.specs.declared.function.Function.{Function}
 use Rattle.eql_check.specs.declared.function.Function.TheVariants.{Add, Subtract, Multiply, Divide, Modulo, Length, IndexOf, StartsWith, EndsWith, StringContains, Concat, Substring, Between, String, Number, CidrMatch}
 use Rattle.eql_check.specs.ThreeValued.{truth}

@@ -3,8 +3,8 @@ use Rattle.std.specs.Prelude.{ℕ, List, Option, Some, IsTrue}
 use Rattle.eql_values.specs.declared.value.Kind.{Kind}
 use Rattle.eql_values.specs.declared.value.Kind.TheVariants as kind
 use Rattle.eql_values.specs.declared.value.Value.{Value}
-use Rattle.eql_parser.specs.Tree.{Tree}
-use Rattle.eql_parser.specs.QueryTree.{QueryTree}
+use Rattle.eql_query.specs.Tree.{Tree}
+use Rattle.eql_query.specs.QueryTree.{QueryTree}
 use Rattle.eql_values.specs.Fitting.{is_of, FitSlots}
 use Rattle.eql_check.specs.Conditions.{IsConditionOf}
 use Rattle.eql_check.specs.Typing.{HasKind}

@@ -9,10 +9,10 @@ use Rattle.eql_values.specs.declared.value.Value.TheVariants as value
 use Rattle.eql_values.specs.Fitting.{may_be, kind_of_value, is_of}
 use Rattle.eql_values.specs.Orders.{text_eq}
 use Rattle.eql_text.specs.Addresses.{parse_ip4}
-use Rattle.eql_parser.specs.Tree.{Tree, Trees, none, more}
-use Rattle.eql_parser.specs.Tree as t
-use Rattle.eql_parser.specs.declared.expr.CmpOp.{CmpOp}
-use Rattle.eql_parser.specs.declared.expr.CmpOp.TheVariants.{Eq, Ne}
+use Rattle.eql_query.specs.Tree.{Tree, Trees, none, more}
+use Rattle.eql_query.specs.Tree as t
+use Rattle.eql_query.specs.declared.expr.CmpOp.{CmpOp}
+use Rattle.eql_query.specs.declared.expr.CmpOp.TheVariants.{Eq, Ne}
 
 -- the kind that a list of names with kinds gives to a name
 abbrev pub kind_at : List (List ℕ × Kind) → List ℕ → Option Kind

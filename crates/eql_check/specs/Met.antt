@@ -7,12 +7,12 @@ use Rattle.eql_values.specs.declared.value.Kind.TheVariants as kind
 use Rattle.eql_values.specs.declared.value.Value.{Value}
 use Rattle.eql_values.specs.declared.value.Value.TheVariants as value
 use Rattle.eql_text.specs.Addresses.{plain, parse_ip4, parse_block}
-use Rattle.eql_parser.specs.Tree.{Tree, Trees, none, more}
-use Rattle.eql_parser.specs.Tree as t
-use Rattle.eql_parser.specs.declared.expr.CmpOp.{CmpOp}
-use Rattle.eql_parser.specs.declared.expr.CmpOp.TheVariants.{Lt, Eq}
-use Rattle.eql_parser.specs.declared.expr.PatOp.TheVariants.{Like}
-use Rattle.eql_parser.specs.declared.expr.MathOp.TheVariants as math
+use Rattle.eql_query.specs.Tree.{Tree, Trees, none, more}
+use Rattle.eql_query.specs.Tree as t
+use Rattle.eql_query.specs.declared.expr.CmpOp.{CmpOp}
+use Rattle.eql_query.specs.declared.expr.CmpOp.TheVariants.{Lt, Eq}
+use Rattle.eql_query.specs.declared.expr.PatOp.TheVariants.{Like}
+use Rattle.eql_query.specs.declared.expr.MathOp.TheVariants as math
 use Rattle.eql_check.specs.declared.function.Function.{Function}
 use Rattle.eql_check.specs.declared.function.Function.TheVariants.{CidrMatch}
 use Rattle.eql_check.specs.Names.{function_of}

@@ -4,8 +4,8 @@ use Rattle.eql_values.specs.declared.value.Value.{Value}
 use Rattle.eql_values.specs.declared.value.Value.TheVariants as value
 use Rattle.eql_values.specs.declared.value.Kind.{Kind}
 use Rattle.eql_values.specs.Orders.{text_eq}
-use Rattle.eql_parser.specs.Tree.{Tree, Trees, none, more}
-use Rattle.eql_parser.specs.Tree as t
+use Rattle.eql_query.specs.Tree.{Tree, Trees, none, more}
+use Rattle.eql_query.specs.Tree as t
 use Rattle.eql_check.specs.declared.function.Function.{Function}
 use Rattle.eql_check.specs.Names.{function_of}
 use Rattle.eql_check.specs.ThreeValued.{truth, truth_in, is_true, negation, all_from, any_from}

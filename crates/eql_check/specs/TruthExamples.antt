@@ -10,11 +10,11 @@ use Rattle.eql_text.specs.Placing.{place_after}
 use Rattle.eql_text.specs.Cutting.{substring, between}
 use Rattle.eql_text.specs.Numbers.{read_number}
 use Rattle.eql_text.specs.Addresses.{plain, parse_ip4, parse_block, in_block}
-use Rattle.eql_parser.specs.Tree.{Tree, none, more}
-use Rattle.eql_parser.specs.Tree as t
-use Rattle.eql_parser.specs.declared.expr.CmpOp.TheVariants.{Lt, Eq, Ne}
-use Rattle.eql_parser.specs.declared.expr.MathOp.TheVariants as math
-use Rattle.eql_parser.specs.declared.expr.PatOp.TheVariants.{Like, LikeFold}
+use Rattle.eql_query.specs.Tree.{Tree, none, more}
+use Rattle.eql_query.specs.Tree as t
+use Rattle.eql_query.specs.declared.expr.CmpOp.TheVariants.{Lt, Eq, Ne}
+use Rattle.eql_query.specs.declared.expr.MathOp.TheVariants as math
+use Rattle.eql_query.specs.declared.expr.PatOp.TheVariants.{Like, LikeFold}
 use Rattle.eql_check.specs.declared.function.Function.TheVariants.{Length, IndexOf, StartsWith, EndsWith, StringContains, Concat, Substring, Between, String, Number, CidrMatch}
 use Rattle.eql_check.specs.Functions.{called}
 use Rattle.eql_check.specs.Truth.{means, holds}

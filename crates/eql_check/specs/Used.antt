@@ -4,10 +4,10 @@ use Rattle.std.specs.List.{filter, filter_map, IsDistinct}
 use Rattle.std.specs.Map.{keys_of}
 use Rattle.eql_values.specs.declared.value.Kind.{Kind}
 use Rattle.eql_values.specs.Orders.{text_eq}
-use Rattle.eql_parser.specs.Tree.{Tree, Trees, none, more}
-use Rattle.eql_parser.specs.Tree as t
-use Rattle.eql_parser.specs.declared.expr.FieldRef.{FieldRef}
-use Rattle.eql_parser.specs.QueryTree.{TermTree, QueryTree}
+use Rattle.eql_query.specs.Tree.{Tree, Trees, none, more}
+use Rattle.eql_query.specs.Tree as t
+use Rattle.eql_query.specs.declared.expr.FieldRef.{FieldRef}
+use Rattle.eql_query.specs.QueryTree.{TermTree, QueryTree}
 use Rattle.eql_check.specs.Conditions.{all_items, shared_keys}
 
 -- the fields that an expression names, in the order of the text

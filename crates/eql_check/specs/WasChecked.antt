@@ -1,7 +1,7 @@
 -- What every checked query keeps.
 use Rattle.std.specs.Prelude.{◌≡◌, ℕ, List, None}
 use Rattle.eql_values.specs.declared.value.Kind.{Kind}
-use Rattle.eql_parser.specs.QueryTree.{QueryTree}
+use Rattle.eql_query.specs.QueryTree.{QueryTree}
 use Rattle.eql_check.specs.Kinds.{kind_at}
 use Rattle.eql_check.specs.Used.{used_fields}
 use Rattle.eql_check.specs.Rules.{first_broken}

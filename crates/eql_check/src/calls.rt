@@ -1,12 +1,12 @@
 //! The functions: how many arguments each takes, of which kinds, and the kind of its result.
 ghost use Rattle.std.specs.Prelude.{◌≡◌, ◌++◌, map, option_map, IfOk, codes};
 ghost use Rattle.std.specs.Str.{chars};
-ghost use Rattle.eql_parser.specs.View.{tree, trees_of};
+ghost use Rattle.eql_query.specs.View.{tree, trees_of};
 ghost use Rattle.eql_check.specs.Calls as calls;
 
 use crate::function::Function;
 use crate::kinds::may_be;
-use eql_parser::Expr;
+use eql_query::Expr;
 use eql_text::parse_block;
 use eql_values::{Kind, Text};
 use std::alloc::AllocError;

@@ -1,6 +1,6 @@
 //! A query that has passed the check.
 ghost use Rattle.std.specs.Prelude.{◌≡◌, ◌≤◌, None, length};
-ghost use Rattle.eql_parser.specs.QueryTree.{query_tree};
+ghost use Rattle.eql_query.specs.QueryTree.{query_tree};
 ghost use Rattle.eql_check.specs.Kinds.{kind_at};
 ghost use Rattle.eql_check.specs.Conditions.{key_count as key_count_of};
 ghost use Rattle.eql_check.specs.Used.{used_fields, AreOnce};
@@ -10,7 +10,7 @@ ghost use Rattle.eql_check.specs.RulesKept.{KeepsRules};
 
 use crate::mapping::Mapping;
 use crate::parts::key_count;
-use eql_parser::Query;
+use eql_query::Query;
 use eql_values::NameKinds;
 use std::marker::Model;
 
@@ -22,8 +22,8 @@ pub struct Checked {
 
 impl Model for Checked {
     ghost use Rattle.std.specs.Coded.{codes};
-    ghost use Rattle.eql_parser.specs.contracts.expr.Expr as e;
-    ghost use Rattle.eql_parser.specs.QueryTree.{query_tree};
+    ghost use Rattle.eql_query.specs.contracts.expr.Expr as e;
+    ghost use Rattle.eql_query.specs.QueryTree.{query_tree};
     ghost use Rattle.eql_check.specs.Checks.{CheckedQuery};
     ghost use Rattle.eql_check.specs.WasChecked.{WasChecked};
 

@@ -1,6 +1,6 @@
 //! The check of one expression: its kind, or the first rule that it breaks.
 ghost use Rattle.std.specs.Prelude.{◌≡◌, map};
-ghost use Rattle.eql_parser.specs.View.{tree, trees, trees_of};
+ghost use Rattle.eql_query.specs.View.{tree, trees, trees_of};
 ghost use Rattle.eql_check.specs.Kinds.{kind_at};
 ghost use Rattle.eql_check.specs.Names.{function_of};
 ghost use Rattle.eql_check.specs.Calls as calls;
@@ -12,7 +12,7 @@ use crate::function::Function;
 use crate::kinds::{can_be_among, can_compare, holds_field, may_be};
 use crate::mapping::Mapping;
 use crate::refused::CheckRefused;
-use eql_parser::{CmpOp, Expr, Exprs, FieldRef};
+use eql_query::{CmpOp, Expr, Exprs, FieldRef};
 use eql_values::{Kind, Text, Value};
 use std::alloc::Global;
 use std::marker::Model;

@@ -1,7 +1,7 @@
 //! The rules of items: their conditions, their own keys and their runs.
 ghost use Rattle.std.specs.Prelude.{◌≡◌, ◌≤◌, ◌<◌, length};
-ghost use Rattle.eql_parser.specs.View.{tree};
-ghost use Rattle.eql_parser.specs.QueryTree.{term_tree};
+ghost use Rattle.eql_query.specs.View.{tree};
+ghost use Rattle.eql_query.specs.QueryTree.{term_tree};
 ghost use Rattle.eql_check.specs.Kinds.{kind_at};
 ghost use Rattle.eql_check.specs.FirstBroken.{kind_of as kind_in};
 ghost use Rattle.eql_check.specs.Rules.{item_broken, items_broken, keys_broken, unless, unless_bool, are_runs};
@@ -13,7 +13,7 @@ use crate::expression::kind_of;
 use crate::kinds::may_be;
 use crate::mapping::Mapping;
 use crate::refused::CheckRefused;
-use eql_parser::{Expr, FieldRef, Term};
+use eql_query::{Expr, FieldRef, Term};
 use eql_values::Kind;
 use std::alloc::Global;
 

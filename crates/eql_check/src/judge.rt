@@ -1,7 +1,7 @@
 //! The check of a query.
 ghost use Rattle.std.specs.Prelude.{◌≡◌, ◌≢◌, ◌≤◌, ◌↔◌, Some, true, length, IsTrue, IfOk, IfErr};
 ghost use Rattle.std.specs.List.{list_all};
-ghost use Rattle.eql_parser.specs.QueryTree.{query_tree, body_tree};
+ghost use Rattle.eql_query.specs.QueryTree.{query_tree, body_tree};
 ghost use Rattle.eql_check.specs.Kinds.{kind_at};
 ghost use Rattle.eql_check.specs.Conditions.{all_items as items_of, key_count as key_count_of};
 ghost use Rattle.eql_check.specs.Used.{used_fields};
@@ -21,7 +21,7 @@ use crate::mapping::Mapping;
 use crate::parts::{all_items, key_count, shared_keys, span_of};
 use crate::refused::CheckRefused;
 use crate::used::{Used, add_key_names, add_names_of};
-use eql_parser::{Body, Query, Term, copy_query};
+use eql_query::{Body, Query, Term, copy_query};
 use eql_values::{Memory, NameKinds};
 use std::alloc::Global;
 

@@ -10,7 +10,7 @@ ghost use Rattle.eql_check.specs.Entries.{terms_in};
 use crate::kinds::alike;
 use crate::mapping::Mapping;
 use crate::refused::CheckRefused;
-use eql_parser::{FieldRef, Term};
+use eql_query::{FieldRef, Term};
 use eql_values::{Kind, Memory};
 use std::alloc::Global;
 

@@ -2,12 +2,12 @@
 //! that the mapping doesn't have.
 ghost use Rattle.std.specs.Prelude.{◌≡◌};
 ghost use Rattle.std.specs.List.{list_all};
-ghost use Rattle.eql_parser.specs.View.{tree, trees};
+ghost use Rattle.eql_query.specs.View.{tree, trees};
 ghost use Rattle.eql_values.specs.Fitting as fitting;
 ghost use Rattle.eql_check.specs.Kinds as kinds;
 ghost use Rattle.eql_check.specs.Truth.{is_literal_null};
 
-use eql_parser::{CmpOp, Expr, Exprs};
+use eql_query::{CmpOp, Expr, Exprs};
 use eql_text::parse_ip4;
 use eql_values::{Kind, Value};
 

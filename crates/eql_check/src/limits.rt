@@ -1,13 +1,13 @@
 //! The limits of a whole query: its stages, its span and its pipes.
 ghost use Rattle.std.specs.Prelude.{◌≡◌, ◌≤◌, ◌&&◌, pos, int_le, true, length, map, nat_le};
 ghost use Rattle.std.specs.List.{list_all};
-ghost use Rattle.eql_parser.specs.QueryTree.{term_tree};
+ghost use Rattle.eql_query.specs.QueryTree.{term_tree};
 ghost use Rattle.eql_check.specs.Rules as rules_of;
 ghost use Rattle.eql_check.specs.Rules.{has_runs, pipes_broken, sequence_broken, span_broken};
 ghost use Rattle.eql_check.specs.Answers.{Judges};
 
 use crate::refused::CheckRefused;
-use eql_parser::{PipeText, Span, Term, Unit};
+use eql_query::{PipeText, Span, Term, Unit};
 
 /// The fewest and the most stages of a sequence.
 const FEWEST_STAGES: i64 = 2;

@@ -1,11 +1,11 @@
 //! The parts of a query that the rules speak of.
 ghost use Rattle.std.specs.Prelude.{◌≡◌, ◌<◌, ◌^◌, IfOk, map};
-ghost use Rattle.eql_parser.specs.QueryTree.{body_tree, term_tree};
+ghost use Rattle.eql_query.specs.QueryTree.{body_tree, term_tree};
 ghost use Rattle.eql_check.specs.Conditions as parts;
 ghost use Rattle.eql_check.specs.Rules.{span_of as span_in};
 ghost use Rattle.eql_check.specs.Entries.{terms_in};
 
-use eql_parser::{Body, FieldRef, Span, Term};
+use eql_query::{Body, FieldRef, Span, Term};
 use eql_values::Memory;
 use std::alloc::Global;
 

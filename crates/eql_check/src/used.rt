@@ -1,13 +1,13 @@
 //! The fields that a query uses, numbered in the order of first use.
 ghost use Rattle.std.specs.Prelude.{◌≡◌, ◌++◌, [], length, OnOk, IfOk};
-ghost use Rattle.eql_parser.specs.View.{tree, trees};
+ghost use Rattle.eql_query.specs.View.{tree, trees};
 ghost use Rattle.eql_check.specs.Entries.{names_seen, terms_in};
 ghost use Rattle.eql_check.specs.Kinds.{kind_at};
 ghost use Rattle.eql_check.specs.Entering.{used_after, use_if};
 ghost use Rattle.eql_check.specs.Used.{fields_in, fields_among, key_names, item_fields};
 
 use crate::mapping::Mapping;
-use eql_parser::{Expr, Exprs, FieldRef, Term};
+use eql_query::{Expr, Exprs, FieldRef, Term};
 use eql_values::{Kind, Memory, NameKinds, Text};
 use indexmap::IndexMap;
 use std::alloc::Global;

@@ -2,7 +2,7 @@
 use Rattle.std.proofs.Common.{ℕ, List, [], ◌++◌, Option, Some, None, refl}
 use Rattle.std.specs.Prelude.{encode_utf8_all, codes}
 use Rattle.eql_values.specs.declared.value.Kind.{Kind as FieldKind}
-use Rattle.eql_parser.specs.QueryTree.{QueryTree}
+use Rattle.eql_query.specs.QueryTree.{QueryTree}
 use Rattle.eql_parser.specs.Printed.{printed}
 use Rattle.eql_runs.specs.Files.{Files}
 use Rattle.eql_inputs.specs.Steps.{GotChecked}

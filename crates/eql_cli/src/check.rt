@@ -2,7 +2,7 @@
 ghost use Rattle.std.specs.Prelude.{◌≡◌, ◌≤◌, ◌++◌, IfErr, IfOk, IfSome, OnOk, OnErr, Some, codes, encode_utf8_all, string_bytes};
 ghost use Rattle.eql_outside.specs.Unfailing.{IsUnfailing, AreUnfailing};
 ghost use Rattle.eql_outside.specs.Written.{WroteAll, WroteFront};
-ghost use Rattle.eql_parser.specs.QueryTree.{query_tree};
+ghost use Rattle.eql_query.specs.QueryTree.{query_tree};
 ghost use Rattle.eql_parser.specs.Printed.{printed};
 ghost use Rattle.eql_find.specs.Halts.{AbsenceAs, CountAs, FaultsAs, IsFault, IsRefusal, OutAs};
 ghost use Rattle.eql_cli.specs.Printing.{HasCause, PrintsAll, PrintsSome, StopsWriting};
@@ -10,7 +10,8 @@ ghost use Rattle.eql_cli.specs.Printing.{HasCause, PrintsAll, PrintsSome, StopsW
 use eql_find::RunHalt;
 use eql_inputs::{Halt, read_checked};
 use eql_outside::{OutRefused, Shelf, Sink};
-use eql_parser::{Query, print};
+use eql_parser::print;
+use eql_query::Query;
 use eql_values::Memory;
 use eql_words::Name;
 use std::alloc::Global;

@@ -1,10 +1,10 @@
 -- The code of a whole expression, and that of the arguments of a call.
 use Rattle.std.proofs.Common.{◌≡◌, ℕ, suc, ◌+◌, ◌<◌, max, List, [], ◌∷◌, ◌++◌, length, map, get_or, drop, drop-cons, add-one, append_assoc, append-nil, reverse, Bool, Option, Some, refl, sym, ap, ◌∙◌, arith}
 use Rattle.eql_values.specs.declared.value.Kind.{Kind}
-use Rattle.eql_parser.specs.declared.expr.Expr.{Expr}
-use Rattle.eql_parser.specs.Tree.{Trees}
-use Rattle.eql_parser.specs.Tree as t
-use Rattle.eql_parser.specs.View.{tree, trees_of}
+use Rattle.eql_query.specs.declared.expr.Expr.{Expr}
+use Rattle.eql_query.specs.Tree.{Trees}
+use Rattle.eql_query.specs.Tree as t
+use Rattle.eql_query.specs.View.{tree, trees_of}
 use Rattle.eql_check.specs.declared.function.Function.{Function}
 use Rattle.eql_code.specs.declared.emit.Op.{Op}
 use Rattle.eql_code.specs.declared.emit.Op.TheVariants as op

@@ -6,10 +6,10 @@ use Rattle.std.proofs.lemmas.List.{drop-drop, length-drop}
 use Rattle.eql_values.specs.declared.value.Value.{Value}
 use Rattle.eql_values.specs.declared.value.Value.TheVariants as value
 use Rattle.eql_values.specs.declared.value.Kind.{Kind}
-use Rattle.eql_parser.specs.Tree.{Tree, Trees, none, more}
-use Rattle.eql_parser.specs.Tree as t
+use Rattle.eql_query.specs.Tree.{Tree, Trees, none, more}
+use Rattle.eql_query.specs.Tree as t
 use Rattle.eql_text.specs.declared.addresses.Block.{Block}
-use Rattle.eql_parser.specs.declared.expr.CmpOp.{CmpOp}
+use Rattle.eql_query.specs.declared.expr.CmpOp.{CmpOp}
 use Rattle.eql_check.specs.declared.function.Function.{Function}
 use Rattle.eql_check.specs.declared.function.Function.TheVariants.{CidrMatch}
 use Rattle.eql_check.specs.Names.{function_of}

@@ -4,8 +4,8 @@ use Rattle.std.specs.Prelude.{◌||◌, if◌then◌else◌}
 use Rattle.std.proofs.lemmas.Bool.{or_parts}
 use Rattle.eql_values.specs.declared.value.Value.{Value}
 use Rattle.eql_values.specs.declared.value.Kind.{Kind}
-use Rattle.eql_parser.specs.Tree.{Tree, Trees, none, more}
-use Rattle.eql_parser.specs.Tree as t
+use Rattle.eql_query.specs.Tree.{Tree, Trees, none, more}
+use Rattle.eql_query.specs.Tree as t
 use Rattle.eql_check.specs.Kinds.{holds_field, hold_field}
 use Rattle.eql_check.specs.Names.{function_of}
 use Rattle.eql_check.specs.ThreeValued.{truth, truth_in, negation, all_from, any_from}

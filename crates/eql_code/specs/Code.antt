@@ -5,10 +5,10 @@ use Rattle.eql_values.specs.declared.value.Value.TheVariants as value
 use Rattle.eql_values.specs.declared.value.Kind.{Kind}
 use Rattle.eql_text.specs.Addresses.{parse_ip4, parse_block}
 use Rattle.eql_text.specs.declared.addresses.Block.{Block}
-use Rattle.eql_parser.specs.Tree.{Tree, Trees, none, more}
-use Rattle.eql_parser.specs.Tree as t
-use Rattle.eql_parser.specs.declared.expr.CmpOp.{CmpOp}
-use Rattle.eql_parser.specs.declared.expr.CmpOp.TheVariants.{Eq, Ne}
+use Rattle.eql_query.specs.Tree.{Tree, Trees, none, more}
+use Rattle.eql_query.specs.Tree as t
+use Rattle.eql_query.specs.declared.expr.CmpOp.{CmpOp}
+use Rattle.eql_query.specs.declared.expr.CmpOp.TheVariants.{Eq, Ne}
 use Rattle.eql_check.specs.Names.{function_of}
 use Rattle.eql_check.specs.Kinds.{holds_field}
 use Rattle.eql_check.specs.declared.function.Function.{Function}

@@ -4,8 +4,8 @@ use Rattle.eql_values.specs.declared.value.Value.{Value}
 use Rattle.eql_values.specs.declared.value.Value.TheVariants as value
 use Rattle.eql_values.specs.declared.value.Kind.{Kind}
 use Rattle.eql_values.specs.declared.value.Kind.TheVariants as kind
-use Rattle.eql_parser.specs.Tree.{Tree, none, more}
-use Rattle.eql_parser.specs.Tree as t
+use Rattle.eql_query.specs.Tree.{Tree, none, more}
+use Rattle.eql_query.specs.Tree as t
 use Rattle.eql_code.specs.declared.emit.Op.{Op}
 use Rattle.eql_code.specs.declared.emit.Op.TheVariants as op
 use Rattle.eql_code.specs.Machine.{runs}

@@ -1,7 +1,7 @@
 -- Expressions that make no text.
 use Rattle.std.specs.Prelude.{Bool, false, ◌||◌, Option, Some, None}
-use Rattle.eql_parser.specs.Tree.{Tree, Trees, none, more}
-use Rattle.eql_parser.specs.Tree as t
+use Rattle.eql_query.specs.Tree.{Tree, Trees, none, more}
+use Rattle.eql_query.specs.Tree as t
 use Rattle.eql_check.specs.declared.function.Function.{Function}
 use Rattle.eql_check.specs.Names.{function_of}
 use Rattle.eql_check.specs.Functions as f

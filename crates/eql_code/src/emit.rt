@@ -2,7 +2,7 @@
 //! operator of a list knows how many operations follow. An expression without a field is evaluated here, once, and
 //! addresses and blocks that are written in quotes are read here.
 ghost use Rattle.std.specs.Prelude.{◌≡◌, ◌++◌, ◌∷◌, [], ◌+◌, ◌≤◌, ◌||◌, true, OnOk, IfOk, IfSome, vec_len, length, map, max, suc, reverse, option_map};
-ghost use Rattle.eql_parser.specs.View.{tree, trees, trees_of};
+ghost use Rattle.eql_query.specs.View.{tree, trees, trees_of};
 ghost use Rattle.eql_text.specs.Addresses.{parse_ip4};
 ghost use Rattle.eql_values.specs.declared.value.Value.TheVariants as FieldValue;
 ghost use Rattle.eql_check.specs.Kinds.{holds_field};
@@ -16,7 +16,7 @@ ghost use Rattle.eql_code.specs.Code.{code, code_each, code_all, code_first, dep
 
 use eql_check::{Function, holds_field, is_null};
 use eql_operators::{Addresses, Blocks, addresses_in, slot_of};
-use eql_parser::{CmpOp, Expr, Exprs, MathOp, PatOp};
+use eql_query::{CmpOp, Expr, Exprs, MathOp, PatOp};
 use eql_text::{Block, parse_block, parse_ip4};
 use eql_truth::eval_constant;
 use eql_values::{Literals, Memory, NameKinds, Text, Texts, Value};

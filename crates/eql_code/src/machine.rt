@@ -1,7 +1,7 @@
 //! The stack machine that runs code.
 ghost use Rattle.std.specs.Prelude.{◌≡◌, ◌++◌, ◌∷◌, [], ◌+◌, ◌≤◌, ◌<◌, OnOk, IfOk, IsOk, true, false, Some, vec_len, vec_capacity, length, List, get_or};
 ghost use Rattle.eql_values.specs.declared.value.Value.{Value as FieldValue};
-ghost use Rattle.eql_parser.specs.View.{tree};
+ghost use Rattle.eql_query.specs.View.{tree};
 ghost use Rattle.eql_check.specs.Truth.{means, value_at};
 ghost use Rattle.eql_check.specs.Functions as f;
 ghost use Rattle.eql_check.specs.ThreeValued as three;
@@ -18,7 +18,7 @@ use eql_operators::{
     call, compare, compute, conjunction, disjunction, equals_address, is_among_read, is_in_blocks,
     matches_one, negate, negation, truth_of, value_of,
 };
-use eql_parser::Expr;
+use eql_query::Expr;
 use eql_values::{Memory, NameKinds, Slots, Value};
 use std::alloc::{AllocError, Global};
 use std::marker::Model;

@@ -1,7 +1,8 @@
 //! What the check of a query answers, as one line.
 use eql_check::{CheckRefused, Checked, Mapping, can_check, check};
 use eql_lexer::lex;
-use eql_parser::{Query, parse};
+use eql_parser::parse;
+use eql_query::Query;
 use std::alloc::Global;
 use std::process::Abort;
 use std::test::Fail;

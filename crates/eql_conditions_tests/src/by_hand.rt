@@ -1,6 +1,6 @@
 //! Queries that no text is: counts below zero, and a `number` with a base.
 use crate::answer::{answer_to, mapping};
-use eql_parser::{
+use eql_query::{
     Body, Expr, Exprs, FieldRefs, PipeText, PipeTexts, Query, Span, Term, Terms, Unit,
 };
 use eql_values::Text;

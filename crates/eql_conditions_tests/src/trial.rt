@@ -2,7 +2,8 @@
 use eql_check::{Checked, Mapping, can_check, check};
 use eql_code::{Stack, compile};
 use eql_lexer::lex;
-use eql_parser::{Body, Expr, parse};
+use eql_parser::parse;
+use eql_query::{Body, Expr};
 use eql_truth::eval;
 use eql_values::{Slots, Text, Value};
 use std::alloc::Global;

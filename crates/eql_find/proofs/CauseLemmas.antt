@@ -6,7 +6,7 @@ use Rattle.std.proofs.lemmas.List.Elements.{All-head, All-tail}
 use Rattle.std.proofs.lemmas.Option.{same_Some, none-some}
 use Rattle.eql_values.specs.declared.cut.LaneCut.{LaneCut}
 use Rattle.eql_outside.specs.Moments.{History}
-use Rattle.eql_parser.specs.QueryTree.{query_tree}
+use Rattle.eql_query.specs.QueryTree.{query_tree}
 use Rattle.eql_words.specs.declared.commands.Find.{Find}
 use Rattle.eql_lane.specs.Lanes.{fresh_cut}
 use Rattle.eql_lane.specs.Noting.{placed_cut}

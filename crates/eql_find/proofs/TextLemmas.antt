@@ -10,7 +10,7 @@ use Rattle.eql_values.specs.Accepted.{Reads}
 use Rattle.eql_outside.specs.Outside.{file_named}
 use Rattle.eql_outside.specs.Plans.{FaultPlan}
 use Rattle.eql_check.specs.Kinds.{kind_at}
-use Rattle.eql_parser.specs.QueryTree.{query_tree}
+use Rattle.eql_query.specs.QueryTree.{query_tree}
 use Rattle.eql_stages.specs.Planned.{PlanOf, Planned, planned}
 use Rattle.eql_check.specs.Checks.{CheckedQuery}
 use Rattle.eql_check.specs.Used.{used_fields}

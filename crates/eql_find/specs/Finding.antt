@@ -12,7 +12,7 @@ use Rattle.eql_runs.specs.Searches.{Search, report_lines}
 use Rattle.eql_runs.specs.Starts.{OnDisk}
 use Rattle.eql_inputs.specs.Halts as inputs
 use Rattle.eql_inputs.specs.Steps.{GotChecked}
-use Rattle.eql_parser.specs.QueryTree.{query_tree}
+use Rattle.eql_query.specs.QueryTree.{query_tree}
 use Rattle.eql_check.specs.Kinds.{kind_at}
 use Rattle.eql_check.specs.Used.{used_fields}
 use Rattle.eql_outside.specs.Outside.{AppendsSome, file_named}

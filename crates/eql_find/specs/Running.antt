@@ -5,7 +5,7 @@ use Rattle.eql_values.specs.Accepted.{Reads}
 use Rattle.eql_outside.specs.Moments.{History}
 use Rattle.eql_check.specs.Kinds.{kind_at}
 use Rattle.eql_check.specs.Typing.{IsChecked}
-use Rattle.eql_parser.specs.QueryTree.{query_tree}
+use Rattle.eql_query.specs.QueryTree.{query_tree}
 use Rattle.eql_stages.specs.Planned.{line_of, planned}
 use Rattle.eql_words.specs.declared.commands.Checkpoint.{Checkpoint}
 use Rattle.eql_words.specs.declared.commands.Find.{Find}

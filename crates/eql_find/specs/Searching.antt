@@ -9,7 +9,7 @@ use Rattle.eql_outside.specs.Moments.{History}
 use Rattle.eql_outside.specs.Written.{WroteFront}
 use Rattle.eql_laws.specs.Places.{ReadTo, whole}
 use Rattle.eql_parser.specs.Printed.{printed}
-use Rattle.eql_parser.specs.QueryTree.{query_tree}
+use Rattle.eql_query.specs.QueryTree.{query_tree}
 use Rattle.eql_stages.specs.Stages.{span_in}
 use Rattle.eql_words.specs.declared.commands.Find.{Find}
 use Rattle.eql_lane.specs.Lanes.{fresh_cut as fresh_lane}

@@ -10,7 +10,7 @@ ghost use Rattle.eql_resume.specs.Beginnings.{placed_if};
 ghost use Rattle.eql_runs.specs.Searches.{plan_of, report_of, rest_of};
 ghost use Rattle.eql_check.specs.Kinds.{kind_at};
 ghost use Rattle.eql_check.specs.Typing.{IsChecked};
-ghost use Rattle.eql_parser.specs.QueryTree.{query_tree};
+ghost use Rattle.eql_query.specs.QueryTree.{query_tree};
 ghost use Rattle.eql_search.specs.Answers.{AreUnfailing as AreLanesUnfailing, HasCause as StoppedBy, IsNoFault, IsRead, SteadyBut, StaysLane, WereRead};
 ghost use Rattle.eql_search.specs.Beginnings.{MayBegin, MayKeepOn, cuts_of};
 ghost use Rattle.eql_search.specs.Keeping.{KeepsOn};

@@ -7,7 +7,7 @@ use Rattle.std.proofs.lemmas.List.Folds.{find-append}
 use Rattle.std.proofs.lemmas.List.Elements.{All-head, All-tail, All-cons}
 use Rattle.eql_values.specs.declared.value.Kind.{Kind}
 use Rattle.eql_outside.specs.Outside.{file_named}
-use Rattle.eql_parser.specs.QueryTree.{QueryTree}
+use Rattle.eql_query.specs.QueryTree.{QueryTree}
 use Rattle.eql_runs.specs.Files.{Files, is_missing, first_missing, HasTexts}
 use Rattle.eql_runs.specs.Refusals.{Refuses}
 use Rattle.eql_runs.specs.Refusals as run

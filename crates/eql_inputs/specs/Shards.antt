@@ -2,7 +2,7 @@
 use Rattle.std.specs.Prelude.{◌≡◌, ℕ, List, map, Option, Some, None, IfSome}
 use Rattle.eql_values.specs.declared.value.Kind.{Kind}
 use Rattle.eql_outside.specs.Outside.{file_named}
-use Rattle.eql_parser.specs.QueryTree.{QueryTree}
+use Rattle.eql_query.specs.QueryTree.{QueryTree}
 use Rattle.eql_runs.specs.Files.{Files, first_missing, HasTexts}
 use Rattle.eql_inputs.specs.declared.halt.Halt.{Halt}
 use Rattle.eql_inputs.specs.Halts.{HasCause}

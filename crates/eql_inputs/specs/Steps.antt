@@ -4,7 +4,7 @@ use Rattle.eql_values.specs.declared.value.Kind.{Kind}
 use Rattle.eql_lexer.specs.declared.token.Token.{Token}
 use Rattle.eql_lexer.specs.declared.refusal.LexRefused.{LexRefused}
 use Rattle.eql_lexer.specs.declared.refusal.LexRefused.TheVariants as lexed
-use Rattle.eql_parser.specs.QueryTree.{QueryTree}
+use Rattle.eql_query.specs.QueryTree.{QueryTree}
 use Rattle.eql_check.specs.declared.mapping.MapRefused.{MapRefused}
 use Rattle.eql_check.specs.declared.mapping.MapRefused.TheVariants as map_refused
 use Rattle.eql_check.specs.declared.refused.CheckRefused.{CheckRefused}

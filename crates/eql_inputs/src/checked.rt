@@ -1,7 +1,7 @@
 //! The query and the mapping of a command, read and checked.
 ghost use Rattle.std.specs.Prelude.{◌≡◌, ◌≤◌, IfOk, IfErr, MatchResult};
 ghost use Rattle.eql_outside.specs.Faults.{SameFaults};
-ghost use Rattle.eql_parser.specs.QueryTree.{query_tree};
+ghost use Rattle.eql_query.specs.QueryTree.{query_tree};
 ghost use Rattle.eql_check.specs.Kinds.{kind_at};
 ghost use Rattle.eql_check.specs.Typing.{IsChecked};
 ghost use Rattle.eql_check.specs.Used.{used_fields};
@@ -14,7 +14,7 @@ use crate::halt::Halt;
 use crate::query::{checked_of, mapping_of, query_in};
 use eql_check::{Checked, Mapping};
 use eql_outside::Shelf;
-use eql_parser::Query;
+use eql_query::Query;
 use eql_words::Name;
 use std::alloc::Global;
 

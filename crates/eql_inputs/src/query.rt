@@ -1,6 +1,6 @@
 //! From the texts of a query and of a mapping to the checked query.
 ghost use Rattle.std.specs.Prelude.{◌≡◌, IfOk, IfErr, Ok};
-ghost use Rattle.eql_parser.specs.QueryTree.{query_tree};
+ghost use Rattle.eql_query.specs.QueryTree.{query_tree};
 ghost use Rattle.eql_check.specs.Kinds.{kind_at};
 ghost use Rattle.eql_check.specs.Mappings.{mapping_of};
 ghost use Rattle.eql_check.specs.Typing.{IsChecked};
@@ -11,7 +11,8 @@ ghost use Rattle.eql_inputs.specs.Steps.{halt_of_lex, halt_of_map, halt_of_check
 use crate::halt::{Halt, Refused};
 use eql_check::{CheckRefused, Checked, MapRefused, Mapping, can_check, check};
 use eql_lexer::{LexRefused, Tokens, lex};
-use eql_parser::{ParseRefused, Query, parse};
+use eql_parser::{ParseRefused, parse};
+use eql_query::Query;
 use std::alloc::Global;
 
 /// The tokens of a query's text.

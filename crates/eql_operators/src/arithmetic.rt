@@ -3,7 +3,7 @@ ghost use Rattle.std.specs.Prelude.{◌≡◌, ◌≢◌, pos, neg_ℤ, ◌≤�
 ghost use Rattle.std.specs.Int.{int_rem_euclid};
 ghost use Rattle.eql_check.specs.Arithmetic as a;
 
-use eql_parser::MathOp;
+use eql_query::MathOp;
 use eql_values::Value;
 
 /// A number, or null where it has more than 64 signed bits.

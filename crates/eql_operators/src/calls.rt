@@ -13,7 +13,7 @@ use crate::texts::{
 };
 use crate::three_valued::value_of;
 use eql_check::Function;
-use eql_parser::MathOp;
+use eql_query::MathOp;
 use eql_values::{Memory, Text, Value};
 use std::alloc::Global;
 

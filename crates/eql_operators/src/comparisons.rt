@@ -3,7 +3,7 @@ ghost use Rattle.std.specs.Prelude.{◌≡◌};
 ghost use Rattle.eql_values.specs.Orders.{text_eq};
 ghost use Rattle.eql_check.specs.Comparisons as c;
 
-use eql_parser::{CmpOp, PatOp};
+use eql_query::{CmpOp, PatOp};
 use eql_text::{equal, parse_ip4, wildcard};
 use eql_values::{Literals, Text, Texts, Value};
 use std::cmp::Ordering;

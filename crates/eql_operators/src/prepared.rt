@@ -6,7 +6,7 @@ ghost use Rattle.eql_operators.specs.Prepared as p;
 
 use crate::addresses::address;
 use crate::comparisons::{compare, is_among};
-use eql_parser::CmpOp;
+use eql_query::CmpOp;
 use eql_text::{Block, in_block};
 use eql_values::{Literals, Memory, Value};
 use std::alloc::{AllocError, Global};

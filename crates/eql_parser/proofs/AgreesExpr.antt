@@ -1,9 +1,9 @@
 -- Two runs of the descent over conditions that begin alike.
 use Rattle.std.proofs.Common.{ℕ, zero, suc, ◌-◌, ◌<◌, Bool, true, false, List, [], ◌∷◌, ◌++◌, length, Ok, Err, refl, length-append, arith}
-use Rattle.eql_parser.specs.declared.expr.MathOp.TheVariants.{Sub}
-use Rattle.eql_parser.specs.Tree.{Tree}
-use Rattle.eql_parser.specs.Tree as t
-use Rattle.eql_parser.specs.View.{trees_of}
+use Rattle.eql_query.specs.declared.expr.MathOp.TheVariants.{Sub}
+use Rattle.eql_query.specs.Tree.{Tree}
+use Rattle.eql_query.specs.Tree as t
+use Rattle.eql_query.specs.View.{trees_of}
 use Rattle.eql_parser.specs.Kinds.{Kind, false_, in_, matches, not_, null_, regex_, true_, name, folding, back, text, number, open_, close_, question_, compares, adds}
 use Rattle.eql_parser.specs.Reading.{Syntax, LeftOut, Res, then_do, res_map, closing, is_or, is_and, adds_of, multiplies_of, listed, dotted, named, field_tree, text_at, literal, at_level, call_of, joined, expr}
 use Rattle.eql_parser.specs.Reading as r

@@ -7,21 +7,21 @@ use Rattle.eql_lexer.specs.declared.token.Sign.TheVariants as sign
 use Rattle.eql_lexer.specs.declared.token.Tok.{Tok}
 use Rattle.eql_lexer.specs.declared.token.Tok.TheVariants as tok
 use Rattle.eql_lexer.specs.declared.token.Token.{Token}
-use Rattle.eql_parser.specs.declared.expr.FieldRef.{FieldRef}
-use Rattle.eql_parser.specs.declared.expr.CmpOp.{CmpOp}
-use Rattle.eql_parser.specs.declared.expr.CmpOp.TheVariants as cmp
-use Rattle.eql_parser.specs.declared.expr.PatOp.{PatOp}
-use Rattle.eql_parser.specs.declared.expr.PatOp.TheVariants as pat
-use Rattle.eql_parser.specs.declared.expr.MathOp.{MathOp}
-use Rattle.eql_parser.specs.declared.expr.MathOp.TheVariants as math
-use Rattle.eql_parser.specs.declared.query.Span.{Span}
-use Rattle.eql_parser.specs.declared.query.Unit.{Unit as TimeUnit}
-use Rattle.eql_parser.specs.declared.query.Unit.TheVariants as unit
-use Rattle.eql_parser.specs.declared.query.PipeText.{PipeText}
-use Rattle.eql_parser.specs.declared.query.PipeText.TheVariants as pipe
-use Rattle.eql_parser.specs.Tree.{Tree, Trees, none, more}
-use Rattle.eql_parser.specs.Tree as t
-use Rattle.eql_parser.specs.QueryTree.{TermTree, BodyTree, event, sequence, QueryTree}
+use Rattle.eql_query.specs.declared.expr.FieldRef.{FieldRef}
+use Rattle.eql_query.specs.declared.expr.CmpOp.{CmpOp}
+use Rattle.eql_query.specs.declared.expr.CmpOp.TheVariants as cmp
+use Rattle.eql_query.specs.declared.expr.PatOp.{PatOp}
+use Rattle.eql_query.specs.declared.expr.PatOp.TheVariants as pat
+use Rattle.eql_query.specs.declared.expr.MathOp.{MathOp}
+use Rattle.eql_query.specs.declared.expr.MathOp.TheVariants as math
+use Rattle.eql_query.specs.declared.query.Span.{Span}
+use Rattle.eql_query.specs.declared.query.Unit.{Unit as TimeUnit}
+use Rattle.eql_query.specs.declared.query.Unit.TheVariants as unit
+use Rattle.eql_query.specs.declared.query.PipeText.{PipeText}
+use Rattle.eql_query.specs.declared.query.PipeText.TheVariants as pipe
+use Rattle.eql_query.specs.Tree.{Tree, Trees, none, more}
+use Rattle.eql_query.specs.Tree as t
+use Rattle.eql_query.specs.QueryTree.{TermTree, BodyTree, event, sequence, QueryTree}
 use Rattle.eql_parser.specs.Kinds.{kind, kinds}
 use Rattle.eql_parser.specs.Grammar.{Joint, by_or, by_and, by_comma}
 use Rattle.eql_parser.specs.Limits.{depth, deepest, deepest_item, until_depth, body_levels, levels, OpensAtMost}

@@ -4,14 +4,14 @@ use Rattle.eql_values.specs.declared.value.Value.{Value}
 use Rattle.eql_values.specs.declared.value.Value.TheVariants as value
 use Rattle.eql_lexer.specs.declared.token.Tok.{Tok}
 use Rattle.eql_lexer.specs.declared.token.Tok.TheVariants as tok
-use Rattle.eql_parser.specs.declared.expr.CmpOp.{CmpOp}
-use Rattle.eql_parser.specs.declared.expr.CmpOp.TheVariants as cmp
-use Rattle.eql_parser.specs.declared.expr.PatOp.{PatOp}
-use Rattle.eql_parser.specs.declared.expr.PatOp.TheVariants as pat
-use Rattle.eql_parser.specs.declared.expr.MathOp.{MathOp}
-use Rattle.eql_parser.specs.declared.expr.MathOp.TheVariants as math
-use Rattle.eql_parser.specs.Tree.{Tree, Trees, none, more}
-use Rattle.eql_parser.specs.Tree as t
+use Rattle.eql_query.specs.declared.expr.CmpOp.{CmpOp}
+use Rattle.eql_query.specs.declared.expr.CmpOp.TheVariants as cmp
+use Rattle.eql_query.specs.declared.expr.PatOp.{PatOp}
+use Rattle.eql_query.specs.declared.expr.PatOp.TheVariants as pat
+use Rattle.eql_query.specs.declared.expr.MathOp.{MathOp}
+use Rattle.eql_query.specs.declared.expr.MathOp.TheVariants as math
+use Rattle.eql_query.specs.Tree.{Tree, Trees, none, more}
+use Rattle.eql_query.specs.Tree as t
 use Rattle.eql_parser.specs.Kinds.{Kind, kind, sign_kind, word_kind, open_, close_}
 use Rattle.eql_parser.specs.Grammar.{IsListed, last_one, next_one, ends, required, optional, IsText, a_text, IsPatterns, one_text, some_texts, IsLiteral, is_number, is_negative, is_text, is_true, is_false, members, Joint, by_or, by_and, by_comma, IsExpr, conj, any_of, neg, all_of, IsOperands, last, next, IsOperand, of_or, of_and, of_comma, IsNeg, negated, pred, IsPred, sum, compared, matched, is_in, is_not_in, IsSum, prod, added, unary, multiplied, minus, prim, IsPrim, is_null, is_yes, is_no, is_long, is_str, is_field, is_call, is_folding_call, inside, IsArguments, no_arguments, some_arguments}
 use Rattle.eql_parser.proofs.Canonical.{close_tok, comma_tok, cmp_sign, pat_tok, math_sign, joint_tok, texts_toks, patterns_toks, literal_toks, literals_toks, member_toks, toks, all_toks, called, SomeOf, IsGoodLiteral, AreLiterals, IsCalled, IsKept, Good, AllGood}

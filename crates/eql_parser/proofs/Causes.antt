@@ -1,7 +1,7 @@
 -- The cause of each refusal, and that every query within the limits is answered.
 use Rattle.std.proofs.Common.{◌≡◌, ℕ, suc, ◌<◌, ◌≤◌, max, inl, inr, ⊎_elim, List, [], ◌∷◌, ◌++◌, length, Ok, Err, refl, sym, ap, subst, ◌∙◌, arith, length-append, append_assoc, append-nil, codes}
 use Rattle.eql_lexer.specs.declared.token.Token.{Token}
-use Rattle.eql_parser.specs.QueryTree.{QueryTree}
+use Rattle.eql_query.specs.QueryTree.{QueryTree}
 use Rattle.eql_parser.specs.Kinds.{Kind, kind, kinds, any_, assign_, bar_, close_item_, folding, matches, name, null_, number, open_, open_item_, where_, with_}
 use Rattle.eql_parser.specs.QueryGrammar.{Reads, IsQuery}
 use Rattle.eql_parser.specs.Limits.{levels, levels_but, open_behind, FewOpen}
@@ -19,7 +19,7 @@ use Rattle.eql_parser.proofs.Agrees.{Refuses, Passes, DeepBefore, deep_passes, w
 use Rattle.eql_parser.proofs.Local.{query_stops}
 use Rattle.eql_parser.proofs.Meeting.{Instead, for_regex, for_folding_regex, for_missing, for_unit, for_pipe, for_number}
 use Rattle.eql_parser.proofs.MeetingQuery.{stops_there}
-use Rattle.eql_parser.specs.declared.expr.PatOp.TheVariants.{Colon}
+use Rattle.eql_query.specs.declared.expr.PatOp.TheVariants.{Colon}
 use Rattle.eql_parser.proofs.Opened.{told_of, opened, few_upto}
 use Rattle.eql_parser.proofs.Starts.{place_of, first_of, Follows}
 use Rattle.eql_parser.proofs.StartsQuery.{begun}

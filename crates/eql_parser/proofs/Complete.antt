@@ -2,11 +2,11 @@
 use Rattle.std.proofs.Common.{◌≡◌, ℕ, zero, suc, ◌<◌, ◌≤◌, max, inl, ℤ, pos, List, [], ◌∷◌, length, Option, Some, None, Ok, Err, refl, sym, ap, ◌∙◌, le_refl, arith}
 use Rattle.std.specs.Str.{bytes_eq}
 use Rattle.std.specs.Prelude.{codes}
-use Rattle.eql_parser.specs.declared.expr.FieldRef.{FieldRef}
-use Rattle.eql_parser.specs.declared.query.Span.{Span}
-use Rattle.eql_parser.specs.declared.query.PipeText.{PipeText}
-use Rattle.eql_parser.specs.Tree.{Tree}
-use Rattle.eql_parser.specs.QueryTree.{TermTree, BodyTree, event, sequence, QueryTree}
+use Rattle.eql_query.specs.declared.expr.FieldRef.{FieldRef}
+use Rattle.eql_query.specs.declared.query.Span.{Span}
+use Rattle.eql_query.specs.declared.query.PipeText.{PipeText}
+use Rattle.eql_query.specs.Tree.{Tree}
+use Rattle.eql_query.specs.QueryTree.{TermTree, BodyTree, event, sequence, QueryTree}
 use Rattle.eql_parser.specs.Kinds.{Kind, any_, bang_, bar_, by_, comma_, dot_, until_, where_, with_, name, text, number, open_item_, close_item_, assign_}
 use Rattle.eql_parser.specs.QueryGrammar.{category, IsTerm, a_term, IsKey, a_key, IsBy, no_keys, by_keys, IsRuns, one_run, some_runs, IsSpan, no_span, a_span, IsBracketed, bracketed, IsItem, an_item, IsItems, last_item, next_item, IsUntil, no_until, an_until, IsBody, one_event, a_sequence, IsPipes, no_pipes, next_pipe, Reads, a_query}
 use Rattle.eql_parser.specs.Limits.{depth_but, deepest_item, deepest_item_but, until_depth, until_depth_but, body_levels, body_levels_but, levels, levels_but}

@@ -5,7 +5,7 @@ use Rattle.eql_values.specs.declared.text.Text.{Text}
 use Rattle.eql_parser.specs.declared.parser.piece.Piece.{Piece}
 use Rattle.eql_parser.specs.declared.parser.piece.Piece.TheVariants as p
 use Rattle.eql_parser.specs.declared.parser.mark.Mark.TheVariants as m
-use Rattle.eql_parser.specs.declared.expr.MathOp.TheVariants as MathOp
+use Rattle.eql_query.specs.declared.expr.MathOp.TheVariants as MathOp
 use Rattle.eql_lexer.specs.declared.token.Token.{Token}
 use Rattle.eql_parser.specs.Kinds.{Kind, kinds}
 use Rattle.eql_parser.specs.Marks.{Lacks}

@@ -1,9 +1,9 @@
 -- Each step of the descent, by what the code does there. `d` is how many parentheses may still open, and `l` how many levels are allowed.
 use Rattle.std.proofs.Common.{◌≡◌, ◌≢◌, ◌<◌, ◌≤◌, ◌-◌, ℕ, zero, suc, max, Bool, true, false, if◌then◌else◌, List, [], ◌∷◌, ◌++◌, length, Option, Some, Ok, Err, refl, sym, ap, ◌∙◌, arith}
 use Rattle.eql_lexer.specs.declared.token.Token.{Token}
-use Rattle.eql_parser.specs.declared.expr.CmpOp.{CmpOp}
-use Rattle.eql_parser.specs.declared.expr.MathOp.{MathOp}
-use Rattle.eql_parser.specs.declared.expr.MathOp.TheVariants as math
+use Rattle.eql_query.specs.declared.expr.CmpOp.{CmpOp}
+use Rattle.eql_query.specs.declared.expr.MathOp.{MathOp}
+use Rattle.eql_query.specs.declared.expr.MathOp.TheVariants as math
 use Rattle.eql_parser.specs.declared.parser.mark.Mark.TheVariants as m
 use Rattle.eql_parser.specs.declared.parser.joint.Joint.{Joint}
 use Rattle.eql_parser.specs.declared.parser.joint.Joint.TheVariants as joint
@@ -11,9 +11,9 @@ use Rattle.eql_parser.specs.declared.parser.stop.Stop.{Stop}
 use Rattle.eql_parser.specs.declared.parser.node.Node.{Node}
 use Rattle.eql_parser.specs.declared.parser.node.Nodes.{Nodes}
 use Rattle.eql_parser.specs.Kinds.{Kind, kinds, not_, open_, close_, adds, compares}
-use Rattle.eql_parser.specs.Tree.{Tree, Trees, none, more}
-use Rattle.eql_parser.specs.Tree as t
-use Rattle.eql_parser.specs.View.{trees_of}
+use Rattle.eql_query.specs.Tree.{Tree, Trees, none, more}
+use Rattle.eql_query.specs.Tree as t
+use Rattle.eql_query.specs.View.{trees_of}
 use Rattle.eql_parser.specs.Limits.{depth, deepest}
 use Rattle.eql_parser.specs.Marks.{Lacks, LacksOperator, mark_kind, callee_kind}
 use Rattle.eql_parser.specs.Answering.{Stops, IsNode, IsNodes, node_tree, nodes_trees, onto, room, inner, operand, joint_test, joint_mark, call_read}

@@ -1,9 +1,9 @@
 -- What a reader has read where it stops can be ended as one of the things that it reads: what goes for every reader.
 use Rattle.std.proofs.Common.{◌≡◌, ℕ, zero, suc, pos, ◌-◌, ◌<◌, ◌≤◌, nat_lt, Bool, true, false, if◌then◌else◌, List, [], ◌∷◌, ◌++◌, length, Option, Some, None, Ok, Err, refl, sym, ap, subst, ◌∙◌, append_assoc, ltb-true, arith}
-use Rattle.eql_parser.specs.declared.expr.MathOp.{MathOp}
-use Rattle.eql_parser.specs.Tree.{Tree, Trees, more}
-use Rattle.eql_parser.specs.Tree as t
-use Rattle.eql_parser.specs.View.{trees_of}
+use Rattle.eql_query.specs.declared.expr.MathOp.{MathOp}
+use Rattle.eql_query.specs.Tree.{Tree, Trees, more}
+use Rattle.eql_query.specs.Tree as t
+use Rattle.eql_query.specs.View.{trees_of}
 use Rattle.eql_parser.specs.Kinds.{Kind, number, close_}
 use Rattle.eql_parser.specs.Limits.{depth, depth_but, deepest_but}
 use Rattle.eql_parser.specs.Reading.{Fail, Syntax, TooDeep, Res, then_do, res_map, closing, more_of, separated, at_level, above, chain_on, chain_from, chain, joined}

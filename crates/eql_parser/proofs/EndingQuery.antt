@@ -1,11 +1,11 @@
 -- What the descent has read of a query where it stops can be ended as a query of no more levels than are allowed, but for a number that counts as nothing.
 use Rattle.std.proofs.Common.{◌≡◌, ℕ, zero, suc, ◌≤◌, Bool, true, List, [], ◌∷◌, ◌++◌, length, Option, Some, None, Ok, Err, refl, sym, subst, codes, arith}
 use Rattle.std.specs.Prelude.{pos}
-use Rattle.eql_parser.specs.declared.expr.FieldRef.{FieldRef}
-use Rattle.eql_parser.specs.declared.query.Span.{Span}
-use Rattle.eql_parser.specs.Tree.{Tree}
-use Rattle.eql_parser.specs.Tree as t
-use Rattle.eql_parser.specs.QueryTree.{TermTree, BodyTree, event, sequence, QueryTree}
+use Rattle.eql_query.specs.declared.expr.FieldRef.{FieldRef}
+use Rattle.eql_query.specs.declared.query.Span.{Span}
+use Rattle.eql_query.specs.Tree.{Tree}
+use Rattle.eql_query.specs.Tree as t
+use Rattle.eql_query.specs.QueryTree.{TermTree, BodyTree, event, sequence, QueryTree}
 use Rattle.eql_parser.specs.Kinds.{Kind, any_, bang_, join_, null_, sample_, sequence_, until_, where_, open_item_, close_item_}
 use Rattle.eql_parser.specs.Grammar.{IsExpr}
 use Rattle.eql_parser.specs.Limits.{depth_but, deepest_item_but, until_depth_but, body_levels_but, levels_but}

@@ -1,7 +1,7 @@
 -- What a run comes to, from some number of parentheses on.
 use Rattle.std.proofs.Common.{◌≡◌, ℕ, zero, suc, ◌<◌, ◌≤◌, max, Bool, true, false, if◌then◌else◌, nat_lt, List, [], ◌∷◌, length, Option, None, Ok, refl, ap, ◌∙◌, le_refl, lt-ltb, arith}
-use Rattle.eql_parser.specs.declared.expr.MathOp.{MathOp}
-use Rattle.eql_parser.specs.Tree.{Tree, Trees}
+use Rattle.eql_query.specs.declared.expr.MathOp.{MathOp}
+use Rattle.eql_query.specs.Tree.{Tree, Trees}
 use Rattle.eql_parser.specs.Kinds.{Kind, comma_}
 use Rattle.eql_parser.specs.Grammar.{IsListed, last_one, next_one}
 use Rattle.eql_parser.specs.Limits.{depth}

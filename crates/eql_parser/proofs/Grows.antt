@@ -1,9 +1,9 @@
 -- With more parentheses and more levels allowed a query is answered the same, but where there was one too many.
 use Rattle.std.proofs.Common.{ℕ, zero, suc, ◌≤◌, pos, Bool, List, [], ◌∷◌, length, Option, None, Some, Err, refl}
-use Rattle.eql_parser.specs.declared.expr.FieldRef.{FieldRef}
-use Rattle.eql_parser.specs.declared.query.Span.{Span}
-use Rattle.eql_parser.specs.Tree.{Tree}
-use Rattle.eql_parser.specs.QueryTree.{TermTree, event, sequence}
+use Rattle.eql_query.specs.declared.expr.FieldRef.{FieldRef}
+use Rattle.eql_query.specs.declared.query.Span.{Span}
+use Rattle.eql_query.specs.Tree.{Tree}
+use Rattle.eql_query.specs.QueryTree.{TermTree, event, sequence}
 use Rattle.eql_parser.specs.Kinds.{Kind, bang_, join_, sample_, sequence_, until_, open_item_}
 use Rattle.eql_parser.specs.QueryGrammar.{category}
 use Rattle.eql_parser.specs.Reading.{Syntax, Res, then_do, res_map, expr}

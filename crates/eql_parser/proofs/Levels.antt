@@ -1,8 +1,8 @@
 -- Levels: a node that begins where another level is allowed, and an operator above its operand.
 use Rattle.std.proofs.Common.{◌≡◌, ◌≢◌, ◌<◌, ◌≤◌, ◌==◌, ℕ, zero, suc, pos, negsuc, nat_lt, Bool, true, false, if◌then◌else◌, Err, refl, sym, ap, ◌∙◌, arith}
 use Rattle.std.proofs.lemmas.Bool.Decides.{nat_tests}
-use Rattle.eql_parser.specs.Tree.{Tree, Trees, none, more}
-use Rattle.eql_parser.specs.Tree as t
+use Rattle.eql_query.specs.Tree.{Tree, Trees, none, more}
+use Rattle.eql_query.specs.Tree as t
 use Rattle.eql_parser.specs.Limits.{depth, deepest, depth_but, deepest_but}
 use Rattle.eql_parser.specs.Reading.{TooDeep, Res, at_level, above}
 

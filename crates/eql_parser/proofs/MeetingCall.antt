@@ -1,9 +1,9 @@
 -- Two runs of the descent over a call with two arguments: the first in its folding form, and the second of `number`, which is left out.
 use Rattle.std.proofs.Common.{◌≡◌, ℕ, zero, suc, ◌-◌, ◌≤◌, max, Bool, true, false, if◌then◌else◌, ◌⊎◌, ⊎_elim, inl, inr, List, [], ◌∷◌, ◌++◌, length, Ok, Err, refl, sym, ap, subst, ◌∙◌, arith, length-append, codes}
 use Rattle.std.specs.Str.{bytes_eq}
-use Rattle.eql_parser.specs.Tree.{Tree, Trees, none, more}
-use Rattle.eql_parser.specs.Tree as t
-use Rattle.eql_parser.specs.View.{trees_of}
+use Rattle.eql_query.specs.Tree.{Tree, Trees, none, more}
+use Rattle.eql_query.specs.Tree as t
+use Rattle.eql_query.specs.View.{trees_of}
 use Rattle.eql_parser.specs.Kinds.{Kind, name, folding, open_, close_}
 use Rattle.eql_parser.specs.Grammar.{is_left_out_call, IsArguments}
 use Rattle.eql_parser.specs.Limits.{deepest}

@@ -3,16 +3,16 @@ use Rattle.std.proofs.Common.{◌≡◌, ℕ, zero, suc, ◌<◌, ◌≤◌, Boo
 use Rattle.std.specs.Prelude.{ℤ, pos}
 use Rattle.std.specs.Str.{bytes_eq}
 use Rattle.std.proofs.lemmas.Slice.Eq.{bytes_eq-Decides}
-use Rattle.eql_parser.specs.declared.expr.FieldRef.{FieldRef}
-use Rattle.eql_parser.specs.declared.query.Span.{Span}
-use Rattle.eql_parser.specs.declared.query.Unit.{Unit as TimeUnit}
-use Rattle.eql_parser.specs.declared.query.PipeText.{PipeText}
-use Rattle.eql_parser.specs.Tree.{Tree}
-use Rattle.eql_parser.specs.Tree as t
-use Rattle.eql_parser.specs.QueryTree.{TermTree, BodyTree, event, sequence, QueryTree}
+use Rattle.eql_query.specs.declared.expr.FieldRef.{FieldRef}
+use Rattle.eql_query.specs.declared.query.Span.{Span}
+use Rattle.eql_query.specs.declared.query.Unit.{Unit as TimeUnit}
+use Rattle.eql_query.specs.declared.query.PipeText.{PipeText}
+use Rattle.eql_query.specs.Tree.{Tree}
+use Rattle.eql_query.specs.Tree as t
+use Rattle.eql_query.specs.QueryTree.{TermTree, BodyTree, event, sequence, QueryTree}
 use Rattle.eql_parser.specs.Kinds.{Kind, any_, assign_, bang_, bar_, by_, close_item_, join_, matches, null_, sample_, sequence_, until_, where_, with_, name, folding, number, open_item_}
 use Rattle.eql_parser.specs.QueryGrammar.{category, is_fine_unit, pipe_of, unit_of}
-use Rattle.eql_parser.specs.declared.expr.PatOp.TheVariants.{Colon}
+use Rattle.eql_query.specs.declared.expr.PatOp.TheVariants.{Colon}
 use Rattle.eql_parser.specs.Reading.{Fail, Syntax, LeftOut, TooDeep, Res, then_do, res_map, field, expr, chain_from, unary, neg}
 use Rattle.eql_parser.specs.QueryReading as q
 use Rattle.eql_parser.specs.QueryReading.{Conditioned, expected, is_where, is_maxspan, is_runs, is_assign, is_open_item, is_close_item, number_at, term_tree_of, items_more, unit_named, unit_at, pipe_named, behind_term, behind_body}

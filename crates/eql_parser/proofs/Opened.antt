@@ -1,6 +1,6 @@
 -- Where the descent stops at a parenthesis too many, and that a query that is answered has none.
 use Rattle.std.proofs.Common.{◌≡◌, ℕ, suc, ◌≤◌, List, [], ◌∷◌, ◌++◌, length, Ok, Err, sym, subst, ◌∙◌, ap, arith, append-nil}
-use Rattle.eql_parser.specs.QueryTree.{QueryTree}
+use Rattle.eql_query.specs.QueryTree.{QueryTree}
 use Rattle.eql_parser.specs.Kinds.{Kind, open_}
 use Rattle.eql_parser.specs.Limits.{open_behind, FewOpen}
 use Rattle.eql_parser.specs.Reading.{Fail, Syntax, LeftOut, TooDeep, TooOpen, expr}

@@ -7,7 +7,7 @@ use Rattle.eql_parser.specs.declared.parser.stop.Stop.TheVariants as stop
 use Rattle.eql_parser.specs.declared.refusal.ParseRefused.{ParseRefused}
 use Rattle.eql_parser.specs.declared.refusal.ParseRefused.TheVariants as refusal
 use Rattle.eql_parser.specs.Kinds.{kinds}
-use Rattle.eql_parser.specs.QueryTree.{QueryTree}
+use Rattle.eql_query.specs.QueryTree.{QueryTree}
 use Rattle.eql_parser.specs.QueryGrammar.{IsQuery}
 use Rattle.eql_parser.specs.Limits.{levels, OpensAtMost}
 use Rattle.eql_parser.specs.Refusing.{end_of, IsMemory, Refused}

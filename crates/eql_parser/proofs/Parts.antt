@@ -12,9 +12,9 @@ use Rattle.eql_parser.specs.declared.parser.mark.Mark.TheVariants as m
 use Rattle.eql_parser.specs.declared.parser.stop.Stop.{Stop}
 use Rattle.eql_parser.specs.declared.parser.stop.Stop.TheVariants as stop
 use Rattle.eql_parser.specs.Kinds.{Kind, kinds, open_, name, folding, regex_, null_, true_, false_, number, text}
-use Rattle.eql_parser.specs.Tree.{Tree}
-use Rattle.eql_parser.specs.Tree as t
-use Rattle.eql_parser.specs.View.{trees_of}
+use Rattle.eql_query.specs.Tree.{Tree}
+use Rattle.eql_query.specs.Tree as t
+use Rattle.eql_query.specs.View.{trees_of}
 use Rattle.eql_parser.specs.Grammar.{is_left_out_call}
 use Rattle.eql_parser.specs.Marks.{Lacks, NoCall}
 use Rattle.eql_parser.specs.Pieces.{piece_kind}

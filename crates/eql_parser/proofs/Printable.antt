@@ -7,13 +7,13 @@ use Rattle.std.proofs.lemmas.Bool.Decides.{nat_tests}
 use lib.Utf8.{scalar, scalars, low_scalar}
 use Rattle.eql_values.specs.declared.value.Value.{Value}
 use Rattle.eql_values.specs.declared.value.Value.TheVariants as value
-use Rattle.eql_parser.specs.declared.expr.FieldRef.{FieldRef}
-use Rattle.eql_parser.specs.declared.expr.PatOp.TheVariants.{Colon, Like, LikeFold}
-use Rattle.eql_parser.specs.declared.query.Span.{Span}
-use Rattle.eql_parser.specs.declared.query.PipeText.{PipeText}
-use Rattle.eql_parser.specs.declared.query.PipeText.TheVariants as pipe
-use Rattle.eql_parser.specs.Tree.{Tree, Trees, none, more}
-use Rattle.eql_parser.specs.QueryTree.{TermTree, BodyTree, QueryTree}
+use Rattle.eql_query.specs.declared.expr.FieldRef.{FieldRef}
+use Rattle.eql_query.specs.declared.expr.PatOp.TheVariants.{Colon, Like, LikeFold}
+use Rattle.eql_query.specs.declared.query.Span.{Span}
+use Rattle.eql_query.specs.declared.query.PipeText.{PipeText}
+use Rattle.eql_query.specs.declared.query.PipeText.TheVariants as pipe
+use Rattle.eql_query.specs.Tree.{Tree, Trees, none, more}
+use Rattle.eql_query.specs.QueryTree.{TermTree, BodyTree, QueryTree}
 use Rattle.eql_parser.specs.Kinds.{Kind, and_, any_, by_, false_, in_, join_, matches, maxspan_, not_, null_, or_, regex_, sample_, sequence_, true_, until_, where_, with_, name, folding, back, text, number, open_, close_, open_item_, close_item_, comma_, dot_, bar_, question_, bang_, assign_, compares, adds, multiplies}
 use Rattle.eql_parser.specs.Grammar as g
 use Rattle.eql_parser.specs.Grammar.{IsListed, IsDotted, IsField, IsText, IsPatterns, IsLiteral, IsMembers, Joint, IsExpr, IsConj, IsOperands, IsOperand, IsNeg, IsPred, IsSum, IsProd, IsUnary, IsPrim, IsArguments, first_part, part}

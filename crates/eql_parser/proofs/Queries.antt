@@ -5,16 +5,16 @@ use Rattle.std.specs.Borrow.{Bor}
 use Rattle.std.proofs.lemmas.Bool.Decides.{nat_tests}
 use Rattle.eql_values.specs.declared.text.Text.{Text}
 use Rattle.eql_lexer.specs.declared.token.Token.{Token}
-use Rattle.eql_parser.specs.declared.query.PipeText.{PipeText}
-use Rattle.eql_parser.specs.declared.query.Span.{Span}
+use Rattle.eql_query.specs.declared.query.PipeText.{PipeText}
+use Rattle.eql_query.specs.declared.query.Span.{Span}
 use Rattle.eql_parser.specs.declared.parser.piece.Piece.{Piece}
 use Rattle.eql_parser.specs.declared.parser.piece.Piece.TheVariants as p
 use Rattle.eql_parser.specs.declared.parser.mark.Mark.TheVariants as mark
 use Rattle.eql_parser.specs.declared.parser.stop.Stop.{Stop}
 use Rattle.eql_parser.specs.declared.parser.stop.Stop.TheVariants as stop
 use Rattle.eql_parser.specs.Kinds.{Kind, kinds, bang_, bar_, by_, join_, maxspan_, name, sample_, sequence_, until_, where_, with_, assign_, open_item_, close_item_}
-use Rattle.eql_parser.specs.Tree.{Tree}
-use Rattle.eql_parser.specs.QueryTree.{TermTree}
+use Rattle.eql_query.specs.Tree.{Tree}
+use Rattle.eql_query.specs.QueryTree.{TermTree}
 use Rattle.eql_parser.specs.QueryGrammar.{category, unit_of}
 use Rattle.eql_parser.specs.Marks.{Lacks}
 use Rattle.eql_parser.specs.Pieces.{piece_kind}

@@ -1,9 +1,9 @@
 -- What a run comes to, from some number of parentheses on, or that it stops at a level too many, where no more than so many tokens are left.
 use Rattle.std.proofs.Common.{◌≡◌, ℕ, zero, suc, ◌-◌, ◌<◌, ◌≤◌, ◌⊎◌, inl, inr, Bool, true, List, [], ◌∷◌, length, Some, Option, Ok, Err, refl, ap, arith}
-use Rattle.eql_parser.specs.declared.expr.MathOp.{MathOp}
-use Rattle.eql_parser.specs.Tree.{Tree, Trees, more}
-use Rattle.eql_parser.specs.Tree as t
-use Rattle.eql_parser.specs.View.{trees_of}
+use Rattle.eql_query.specs.declared.expr.MathOp.{MathOp}
+use Rattle.eql_query.specs.Tree.{Tree, Trees, more}
+use Rattle.eql_query.specs.Tree as t
+use Rattle.eql_query.specs.View.{trees_of}
 use Rattle.eql_parser.specs.Kinds.{Kind}
 use Rattle.eql_parser.specs.Limits.{depth}
 use Rattle.eql_parser.specs.Reading.{Fail, TooDeep, Res, then_do, res_map, more_of, separated, above, chain_on, chain_from, joined}

@@ -4,7 +4,7 @@ use Rattle.std.proofs.lemmas.List.{drop_at}
 use Rattle.eql_lexer.specs.declared.token.Token.{Token}
 use Rattle.eql_parser.specs.declared.refusal.ParseRefused.{ParseRefused}
 use Rattle.eql_parser.specs.declared.refusal.ParseRefused.TheVariants as refused
-use Rattle.eql_parser.specs.QueryTree.{QueryTree}
+use Rattle.eql_query.specs.QueryTree.{QueryTree}
 use Rattle.eql_parser.specs.Kinds.{kinds}
 use Rattle.eql_parser.specs.QueryGrammar.{IsQuery, Reads}
 use Rattle.eql_parser.specs.Limits.{levels, OpensAtMost}

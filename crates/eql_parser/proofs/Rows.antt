@@ -1,7 +1,7 @@
 -- Several parts with something between: what is read as a list is a list of the grammar, and back.
 use Rattle.std.proofs.Common.{◌≡◌, ℕ, ◌≤◌, Bool, true, false, List, [], ◌∷◌, refl, subst, arith}
-use Rattle.eql_parser.specs.Tree.{Tree}
-use Rattle.eql_parser.specs.View.{trees_of}
+use Rattle.eql_query.specs.Tree.{Tree}
+use Rattle.eql_query.specs.View.{trees_of}
 use Rattle.eql_parser.specs.Kinds.{Kind, and_, or_, comma_}
 use Rattle.eql_parser.specs.Grammar.{IsListed, last_one, next_one, Joint, between, IsOperands, last, next, IsOperand}
 use Rattle.eql_parser.specs.Limits.{depth, deepest, depth_but}

@@ -11,10 +11,10 @@ use Rattle.eql_lexer.specs.declared.token.Tok.TheVariants as tok
 use Rattle.eql_lexer.specs.Bytes.{is_letter, is_word, is_white, begins}
 use Rattle.eql_lexer.specs.Blanks.{gap}
 use Rattle.eql_lexer.specs.Spelling.{Lexeme, word_more}
-use Rattle.eql_parser.specs.declared.expr.CmpOp.{CmpOp}
-use Rattle.eql_parser.specs.declared.expr.CmpOp.TheVariants as cmp
-use Rattle.eql_parser.specs.declared.expr.MathOp.{MathOp}
-use Rattle.eql_parser.specs.declared.expr.MathOp.TheVariants as math
+use Rattle.eql_query.specs.declared.expr.CmpOp.{CmpOp}
+use Rattle.eql_query.specs.declared.expr.CmpOp.TheVariants as cmp
+use Rattle.eql_query.specs.declared.expr.MathOp.{MathOp}
+use Rattle.eql_query.specs.declared.expr.MathOp.TheVariants as math
 use Rattle.eql_parser.specs.Printed.{cmp_text, math_text}
 use Rattle.eql_parser.proofs.Canonical.{open_tok, close_tok, comma_tok, cmp_sign, math_sign, GoesOn, IsWord}
 

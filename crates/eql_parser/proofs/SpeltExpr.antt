@@ -8,14 +8,14 @@ use Rattle.eql_values.specs.declared.value.Value.TheVariants as value
 use Rattle.eql_lexer.specs.declared.token.Sign.TheVariants as sign
 use Rattle.eql_lexer.specs.declared.token.Tok.{Tok}
 use Rattle.eql_lexer.specs.declared.token.Tok.TheVariants as tok
-use Rattle.eql_parser.specs.declared.expr.CmpOp.{CmpOp}
-use Rattle.eql_parser.specs.declared.expr.CmpOp.TheVariants as cmp
-use Rattle.eql_parser.specs.declared.expr.PatOp.{PatOp}
-use Rattle.eql_parser.specs.declared.expr.PatOp.TheVariants as pat
-use Rattle.eql_parser.specs.declared.expr.MathOp.{MathOp}
-use Rattle.eql_parser.specs.declared.expr.MathOp.TheVariants as math
-use Rattle.eql_parser.specs.Tree.{Tree, Trees, none, more}
-use Rattle.eql_parser.specs.Tree as t
+use Rattle.eql_query.specs.declared.expr.CmpOp.{CmpOp}
+use Rattle.eql_query.specs.declared.expr.CmpOp.TheVariants as cmp
+use Rattle.eql_query.specs.declared.expr.PatOp.{PatOp}
+use Rattle.eql_query.specs.declared.expr.PatOp.TheVariants as pat
+use Rattle.eql_query.specs.declared.expr.MathOp.{MathOp}
+use Rattle.eql_query.specs.declared.expr.MathOp.TheVariants as math
+use Rattle.eql_query.specs.Tree.{Tree, Trees, none, more}
+use Rattle.eql_query.specs.Tree as t
 use Rattle.eql_parser.specs.Grammar.{Joint, by_or, by_and, by_comma}
 use Rattle.eql_parser.specs.Printed.{quoted, doubled, bool_text, cmp_text, pat_text, math_text, member_text, field_shown, texts_shown, patterns_shown, literal_shown, literals_shown, shown, all_shown}
 use Rattle.eql_parser.proofs.Canonical.{open_tok, close_tok, comma_tok, cmp_sign, pat_tok, math_sign, joint_tok, field_toks, texts_toks, patterns_toks, literal_toks, literals_toks, member_toks, toks, all_toks, called, IsCount, IsName, IsWord, IsCalled, AreTexts, IsGoodLiteral, AreLiterals, Good, AllGood}

@@ -7,13 +7,13 @@ use Rattle.eql_lexer.specs.declared.token.Sign.TheVariants as sign
 use Rattle.eql_lexer.specs.declared.token.Tok.{Tok}
 use Rattle.eql_lexer.specs.declared.token.Tok.TheVariants as tok
 use Rattle.eql_lexer.specs.Bytes.{begins}
-use Rattle.eql_parser.specs.declared.expr.FieldRef.{FieldRef}
-use Rattle.eql_parser.specs.declared.query.Span.{Span}
-use Rattle.eql_parser.specs.declared.query.Unit.{Unit as TimeUnit}
-use Rattle.eql_parser.specs.declared.query.Unit.TheVariants as unit
-use Rattle.eql_parser.specs.declared.query.PipeText.{PipeText}
-use Rattle.eql_parser.specs.declared.query.PipeText.TheVariants as pipe
-use Rattle.eql_parser.specs.QueryTree.{TermTree, BodyTree, event, sequence, QueryTree}
+use Rattle.eql_query.specs.declared.expr.FieldRef.{FieldRef}
+use Rattle.eql_query.specs.declared.query.Span.{Span}
+use Rattle.eql_query.specs.declared.query.Unit.{Unit as TimeUnit}
+use Rattle.eql_query.specs.declared.query.Unit.TheVariants as unit
+use Rattle.eql_query.specs.declared.query.PipeText.{PipeText}
+use Rattle.eql_query.specs.declared.query.PipeText.TheVariants as pipe
+use Rattle.eql_query.specs.QueryTree.{TermTree, BodyTree, event, sequence, QueryTree}
 use Rattle.eql_parser.specs.Printed.{shown, fields_shown, by_shown, category_shown, term_shown, bracketed_shown, runs_shown, items_shown, unit_text, span_shown, until_shown, body_shown, pipes_shown, printed}
 use Rattle.eql_parser.proofs.Canonical.{comma_tok, toks, IsCount, IsWord}
 use Rattle.eql_parser.proofs.CanonicalQuery.{fields_toks, by_toks, category_toks, term_toks, bracketed_toks, runs_toks, items_toks, span_toks, until_toks, body_toks, pipes_toks, query_toks, GoodKeys, GoodCategory, GoodTerm, GoodTerms, GoodSpan, GoodUntil, GoodBody, GoodPipes}

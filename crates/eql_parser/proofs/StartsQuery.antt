@@ -1,15 +1,15 @@
 -- What the descent has read of a query where it stops begins a query.
 use Rattle.std.proofs.Common.{◌≡◌, ℕ, zero, suc, Bool, true, false, if◌then◌else◌, List, [], ◌∷◌, ◌++◌, length, Option, Some, None, Ok, Err, refl, sym, subst, codes}
 use Rattle.std.specs.Prelude.{ℤ, pos}
-use Rattle.eql_parser.specs.declared.expr.FieldRef.{FieldRef}
-use Rattle.eql_parser.specs.declared.query.Span.{Span}
-use Rattle.eql_parser.specs.declared.query.Unit.{Unit as TimeUnit}
-use Rattle.eql_parser.specs.declared.query.Unit.TheVariants as unit
-use Rattle.eql_parser.specs.declared.query.PipeText.{PipeText}
-use Rattle.eql_parser.specs.declared.query.PipeText.TheVariants as pipe
-use Rattle.eql_parser.specs.Tree.{Tree}
-use Rattle.eql_parser.specs.Tree as t
-use Rattle.eql_parser.specs.QueryTree.{TermTree, BodyTree, event, sequence, QueryTree}
+use Rattle.eql_query.specs.declared.expr.FieldRef.{FieldRef}
+use Rattle.eql_query.specs.declared.query.Span.{Span}
+use Rattle.eql_query.specs.declared.query.Unit.{Unit as TimeUnit}
+use Rattle.eql_query.specs.declared.query.Unit.TheVariants as unit
+use Rattle.eql_query.specs.declared.query.PipeText.{PipeText}
+use Rattle.eql_query.specs.declared.query.PipeText.TheVariants as pipe
+use Rattle.eql_query.specs.Tree.{Tree}
+use Rattle.eql_query.specs.Tree as t
+use Rattle.eql_query.specs.QueryTree.{TermTree, BodyTree, event, sequence, QueryTree}
 use Rattle.eql_parser.specs.Kinds.{Kind, any_, bang_, bar_, by_, join_, maxspan_, null_, sample_, sequence_, until_, where_, with_, name, number, open_item_, close_item_, assign_}
 use Rattle.eql_parser.specs.Grammar.{IsListed, IsExpr, conj, neg, pred, sum, prod, unary, prim, is_null}
 use Rattle.eql_parser.specs.QueryGrammar.{category, is_fine_unit, pipe_of, unit_of, IsTerm, a_term, IsKey, IsBy, no_keys, by_keys, IsRuns, one_run, some_runs, IsSpan, no_span, a_span, IsBracketed, bracketed, IsItem, an_item, IsItems, last_item, next_item, IsUntil, no_until, an_until, IsBody, one_event, a_sequence, IsPipes, no_pipes, next_pipe, Reads, a_query}

@@ -2,11 +2,11 @@
 use Rattle.std.proofs.Common.{◌≡◌, ℕ, zero, suc, ◌+◌, ◌-◌, ◌<◌, ◌≤◌, nat_lt, Bool, true, false, if◌then◌else◌, List, [], ◌∷◌, ◌++◌, length, Option, Some, None, Ok, Err, refl, sym, ap, subst, ◌∙◌, arith, length-append, append_assoc, codes}
 use Rattle.std.specs.Prelude.{neg_ℤ}
 use Rattle.eql_values.specs.declared.value.Value.TheVariants as value
-use Rattle.eql_parser.specs.declared.expr.MathOp.{MathOp}
-use Rattle.eql_parser.specs.declared.expr.MathOp.TheVariants.{Sub}
-use Rattle.eql_parser.specs.Tree.{Tree, Trees, none, more}
-use Rattle.eql_parser.specs.Tree as t
-use Rattle.eql_parser.specs.View.{trees_of}
+use Rattle.eql_query.specs.declared.expr.MathOp.{MathOp}
+use Rattle.eql_query.specs.declared.expr.MathOp.TheVariants.{Sub}
+use Rattle.eql_query.specs.Tree.{Tree, Trees, none, more}
+use Rattle.eql_query.specs.Tree as t
+use Rattle.eql_query.specs.View.{trees_of}
 use Rattle.eql_parser.specs.Kinds.{Kind, false_, true_, name, text, number, open_, close_, dot_, question_, adds}
 use Rattle.eql_parser.specs.Grammar.{first_part, part, is_left_out_call}
 use Rattle.eql_parser.specs.Limits.{depth, open_behind}

@@ -1,7 +1,7 @@
 -- Where the descent stops at a left-out form, no limit is passed anywhere in the tokens.
 use Rattle.std.proofs.Common.{◌≡◌, ℕ, zero, suc, ◌<◌, ◌⊎◌, inl, inr, List, [], ◌∷◌, ◌++◌, length, Ok, Err, refl, sym, ap, subst, ◌∙◌, codes, arith, append_assoc, append-nil}
 use Rattle.eql_lexer.specs.declared.token.Token.{Token}
-use Rattle.eql_parser.specs.QueryTree.{QueryTree}
+use Rattle.eql_query.specs.QueryTree.{QueryTree}
 use Rattle.eql_parser.specs.Kinds.{Kind, kinds, name, folding, open_}
 use Rattle.eql_parser.specs.QueryGrammar.{Reads}
 use Rattle.eql_parser.specs.Limits.{open_behind, FewOpen}

@@ -7,9 +7,9 @@ use Rattle.eql_parser.specs.declared.parser.stop.Stop.TheVariants as stop
 use Rattle.eql_parser.specs.Kinds.{Kind, kinds, null_, true_, false_, number, text}
 use Rattle.eql_parser.specs.declared.parser.node.Node.{Node}
 use Rattle.eql_parser.specs.declared.parser.node.Nodes.{Nodes}
-use Rattle.eql_parser.specs.Tree.{Tree}
-use Rattle.eql_parser.specs.Tree as t
-use Rattle.eql_parser.specs.View.{tree, trees_of}
+use Rattle.eql_query.specs.Tree.{Tree}
+use Rattle.eql_query.specs.Tree as t
+use Rattle.eql_query.specs.View.{tree, trees_of}
 use Rattle.eql_parser.specs.Limits.{depth, deepest}
 use Rattle.eql_parser.specs.Reading.{Syntax, LeftOut, TooDeep, TooOpen, Res, res_map, is_or, is_and, is_comma, call_of, conj, neg, expr}
 use Rattle.eql_parser.specs.declared.parser.mark.Mark.{Mark}

@@ -6,12 +6,12 @@ use Rattle.eql_lexer.specs.declared.token.Sign.TheVariants as sign
 use Rattle.eql_lexer.specs.declared.token.Tok.{Tok}
 use Rattle.eql_lexer.specs.declared.token.Tok.TheVariants as tok
 use Rattle.eql_lexer.specs.declared.token.Token.{Token}
-use Rattle.eql_parser.specs.declared.expr.CmpOp.{CmpOp}
-use Rattle.eql_parser.specs.declared.expr.CmpOp.TheVariants.{Lt, Le, Eq, Ne, Ge, Gt}
-use Rattle.eql_parser.specs.declared.expr.PatOp.{PatOp}
-use Rattle.eql_parser.specs.declared.expr.PatOp.TheVariants.{Colon, Like, LikeFold}
-use Rattle.eql_parser.specs.declared.expr.MathOp.{MathOp}
-use Rattle.eql_parser.specs.declared.expr.MathOp.TheVariants.{Add, Sub, Mul, Div, Mod}
+use Rattle.eql_query.specs.declared.expr.CmpOp.{CmpOp}
+use Rattle.eql_query.specs.declared.expr.CmpOp.TheVariants.{Lt, Le, Eq, Ne, Ge, Gt}
+use Rattle.eql_query.specs.declared.expr.PatOp.{PatOp}
+use Rattle.eql_query.specs.declared.expr.PatOp.TheVariants.{Colon, Like, LikeFold}
+use Rattle.eql_query.specs.declared.expr.MathOp.{MathOp}
+use Rattle.eql_query.specs.declared.expr.MathOp.TheVariants.{Add, Sub, Mul, Div, Mod}
 
 pub data Kind : Type 0 where
   and_ : Kind

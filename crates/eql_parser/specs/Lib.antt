@@ -1,7 +1,3 @@
-pub mod Tree
-pub mod View
-pub mod QueryTree
-pub mod Bodies
 pub mod Kinds
 pub mod Grammar
 pub mod QueryGrammar

@@ -1,9 +1,9 @@
 -- How many levels a query has, and how many parentheses stand open in it.
 use Rattle.std.specs.Prelude.{◌≡◌, ◌++◌, ℕ, suc, ◌-◌, ◌≤◌, ◌==◌, max, pos, negsuc, if◌then◌else◌, List, [], ◌∷◌, Option, Some, None}
 use Rattle.eql_lexer.specs.declared.token.Token.{Token}
-use Rattle.eql_parser.specs.Tree.{Tree, Trees, none, more}
-use Rattle.eql_parser.specs.Tree as t
-use Rattle.eql_parser.specs.QueryTree.{TermTree, BodyTree, event, sequence, QueryTree}
+use Rattle.eql_query.specs.Tree.{Tree, Trees, none, more}
+use Rattle.eql_query.specs.Tree as t
+use Rattle.eql_query.specs.QueryTree.{TermTree, BodyTree, event, sequence, QueryTree}
 use Rattle.eql_parser.specs.Kinds.{Kind, open_, close_, kinds}
 
 -- the levels of a tree: a leaf is one, and the operands of one `and` or `or` stand side by side

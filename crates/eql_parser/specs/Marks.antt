@@ -1,7 +1,7 @@
 -- Keywords and signs that a place may ask for.
 use Rattle.std.specs.Prelude.{◌≡◌, ℕ, Bool, true, false, ◌⊎◌, List, [], ◌∷◌, Option, Some, None}
-use Rattle.eql_parser.specs.declared.expr.CmpOp.{CmpOp}
-use Rattle.eql_parser.specs.declared.expr.MathOp.TheVariants.{Sub}
+use Rattle.eql_query.specs.declared.expr.CmpOp.{CmpOp}
+use Rattle.eql_query.specs.declared.expr.MathOp.TheVariants.{Sub}
 use Rattle.eql_parser.specs.declared.parser.mark.Mark.{Mark}
 use Rattle.eql_parser.specs.declared.parser.mark.Mark.TheVariants as m
 use Rattle.eql_parser.specs.Kinds.{Kind, and_, by_, join_, maxspan_, not_, or_, sample_, sequence_, until_, where_, with_, open_, close_, open_item_, close_item_, comma_, dot_, bar_, question_, bang_, assign_, name, folding, adds, compares}

@@ -4,21 +4,21 @@ use Rattle.std.specs.Prelude.{ℕ, zero, suc, ℤ, pos, ◌+◌, ◌/◌, ◌%�
 use Rattle.std.specs.Fmt.{signed_decimal}
 use Rattle.eql_values.specs.declared.value.Value.{Value}
 use Rattle.eql_values.specs.declared.value.Value.TheVariants as value
-use Rattle.eql_parser.specs.declared.expr.CmpOp.{CmpOp}
-use Rattle.eql_parser.specs.declared.expr.CmpOp.TheVariants as cmp
-use Rattle.eql_parser.specs.declared.expr.PatOp.{PatOp}
-use Rattle.eql_parser.specs.declared.expr.PatOp.TheVariants as pat
-use Rattle.eql_parser.specs.declared.expr.MathOp.{MathOp}
-use Rattle.eql_parser.specs.declared.expr.MathOp.TheVariants as math
-use Rattle.eql_parser.specs.declared.expr.FieldRef.{FieldRef}
-use Rattle.eql_parser.specs.declared.query.Span.{Span}
-use Rattle.eql_parser.specs.declared.query.Unit.{Unit as TimeUnit}
-use Rattle.eql_parser.specs.declared.query.Unit.TheVariants as unit
-use Rattle.eql_parser.specs.declared.query.PipeText.{PipeText}
-use Rattle.eql_parser.specs.declared.query.PipeText.TheVariants as pipe
-use Rattle.eql_parser.specs.Tree.{Tree, Trees, none, more}
-use Rattle.eql_parser.specs.Tree as t
-use Rattle.eql_parser.specs.QueryTree.{TermTree, BodyTree, event, sequence, QueryTree}
+use Rattle.eql_query.specs.declared.expr.CmpOp.{CmpOp}
+use Rattle.eql_query.specs.declared.expr.CmpOp.TheVariants as cmp
+use Rattle.eql_query.specs.declared.expr.PatOp.{PatOp}
+use Rattle.eql_query.specs.declared.expr.PatOp.TheVariants as pat
+use Rattle.eql_query.specs.declared.expr.MathOp.{MathOp}
+use Rattle.eql_query.specs.declared.expr.MathOp.TheVariants as math
+use Rattle.eql_query.specs.declared.expr.FieldRef.{FieldRef}
+use Rattle.eql_query.specs.declared.query.Span.{Span}
+use Rattle.eql_query.specs.declared.query.Unit.{Unit as TimeUnit}
+use Rattle.eql_query.specs.declared.query.Unit.TheVariants as unit
+use Rattle.eql_query.specs.declared.query.PipeText.{PipeText}
+use Rattle.eql_query.specs.declared.query.PipeText.TheVariants as pipe
+use Rattle.eql_query.specs.Tree.{Tree, Trees, none, more}
+use Rattle.eql_query.specs.Tree as t
+use Rattle.eql_query.specs.QueryTree.{TermTree, BodyTree, event, sequence, QueryTree}
 
 -- a hexadecimal digit in lower case
 abbrev pub hex_digit : ℕ → ℕ

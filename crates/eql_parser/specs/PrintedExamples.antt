@@ -1,14 +1,14 @@
 -- The canonical text of worked queries.
 use Rattle.std.specs.Prelude.{◌≡◌, pos, neg_ℤ, true, false, [], ◌∷◌, Some, None, codes, refl}
 use Rattle.eql_values.specs.declared.value.Value.TheVariants as value
-use Rattle.eql_parser.specs.declared.expr.CmpOp.TheVariants as cmp
-use Rattle.eql_parser.specs.declared.expr.PatOp.TheVariants as pat
-use Rattle.eql_parser.specs.declared.expr.MathOp.TheVariants as math
-use Rattle.eql_parser.specs.declared.query.Unit.TheVariants as unit
-use Rattle.eql_parser.specs.declared.query.PipeText.TheVariants as pipe
-use Rattle.eql_parser.specs.Tree.{none, more}
-use Rattle.eql_parser.specs.Tree as t
-use Rattle.eql_parser.specs.QueryTree.{event, sequence}
+use Rattle.eql_query.specs.declared.expr.CmpOp.TheVariants as cmp
+use Rattle.eql_query.specs.declared.expr.PatOp.TheVariants as pat
+use Rattle.eql_query.specs.declared.expr.MathOp.TheVariants as math
+use Rattle.eql_query.specs.declared.query.Unit.TheVariants as unit
+use Rattle.eql_query.specs.declared.query.PipeText.TheVariants as pipe
+use Rattle.eql_query.specs.Tree.{none, more}
+use Rattle.eql_query.specs.Tree as t
+use Rattle.eql_query.specs.QueryTree.{event, sequence}
 use Rattle.eql_parser.specs.Printed.{printed, shown, quoted}
 use Rattle.std.specs.Fmt.{digits}
 

@@ -3,17 +3,17 @@ use Rattle.std.specs.Prelude.{◌≡◌, ℕ, pos, true, false, List, [], ◌∷
 use Rattle.std.specs.Option.{option_map}
 use Rattle.std.specs.declared.vec.Vec.{Vec}
 use Rattle.std.specs.declared.alloc.Global.{Global}
-use Rattle.eql_parser.specs.declared.expr.FieldRef.{FieldRef}
-use Rattle.eql_parser.specs.declared.query.Term.{Term}
+use Rattle.eql_query.specs.declared.expr.FieldRef.{FieldRef}
+use Rattle.eql_query.specs.declared.query.Term.{Term}
 use Rattle.eql_parser.specs.declared.parser.stop.Stop.{Stop}
 use Rattle.eql_parser.specs.declared.parser.stop.Stop.TheVariants as stop
 use Rattle.eql_parser.specs.declared.parser.term.Conditioned.{Conditioned as ReadTerm}
 use Rattle.eql_parser.specs.declared.parser.term.Bracketed.{Bracketed}
-use Rattle.eql_parser.specs.View.{tree}
+use Rattle.eql_query.specs.View.{tree}
 use Rattle.eql_parser.specs.Kinds.{Kind, bang_, open_item_}
-use Rattle.eql_parser.specs.QueryTree.{TermTree, BodyTree, event, term_tree}
+use Rattle.eql_query.specs.QueryTree.{TermTree, BodyTree, event, term_tree}
 use Rattle.eql_parser.specs.QueryReading.{Conditioned, is_fine_unit, is_runs, term_tree_of, runs, bracketed}
-use Rattle.eql_parser.specs.Tree.{Tree}
+use Rattle.eql_query.specs.Tree.{Tree}
 use Rattle.eql_parser.specs.Reading.{Res, then_do, res_map}
 
 abbrev pub conditioned_view : ReadTerm → Conditioned

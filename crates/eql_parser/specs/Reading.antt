@@ -2,12 +2,12 @@
 use Rattle.std.specs.Prelude.{ℕ, zero, suc, ◌-◌, nat_lt, neg_ℤ, ◌++◌, Bool, true, false, if◌then◌else◌, List, [], ◌∷◌, length, Result, Ok, Err, Option, Some, None, codes}
 use Rattle.eql_values.specs.declared.value.Value.{Value}
 use Rattle.eql_values.specs.declared.value.Value.TheVariants as value
-use Rattle.eql_parser.specs.declared.expr.FieldRef.{FieldRef}
-use Rattle.eql_parser.specs.declared.expr.MathOp.{MathOp}
-use Rattle.eql_parser.specs.declared.expr.MathOp.TheVariants.{Sub}
-use Rattle.eql_parser.specs.Tree.{Tree, Trees, none, more}
-use Rattle.eql_parser.specs.Tree as t
-use Rattle.eql_parser.specs.View.{trees_of}
+use Rattle.eql_query.specs.declared.expr.FieldRef.{FieldRef}
+use Rattle.eql_query.specs.declared.expr.MathOp.{MathOp}
+use Rattle.eql_query.specs.declared.expr.MathOp.TheVariants.{Sub}
+use Rattle.eql_query.specs.Tree.{Tree, Trees, none, more}
+use Rattle.eql_query.specs.Tree as t
+use Rattle.eql_query.specs.View.{trees_of}
 use Rattle.eql_parser.specs.Kinds.{Kind, and_, false_, in_, matches, not_, null_, or_, regex_, true_, name, folding, back, text, number, open_, close_, comma_, dot_, question_, compares, adds, multiplies}
 use Rattle.eql_parser.specs.Grammar.{first_part, part, is_left_out_call}
 use Rattle.eql_parser.specs.Limits.{depth}

@@ -1,14 +1,14 @@
 -- Worked examples of the descent, computed from kinds of tokens.
 use Rattle.std.specs.Prelude.{◌≡◌, ℕ, pos, negsuc, true, false, List, [], ◌∷◌, Some, None, Ok, Err, refl, codes}
 use Rattle.eql_values.specs.declared.value.Value.TheVariants as value
-use Rattle.eql_parser.specs.declared.expr.CmpOp.TheVariants.{Eq}
-use Rattle.eql_parser.specs.declared.expr.PatOp.TheVariants.{Like}
-use Rattle.eql_parser.specs.declared.expr.MathOp.TheVariants.{Add, Sub, Mul}
-use Rattle.eql_parser.specs.declared.query.Unit.TheVariants.{M}
-use Rattle.eql_parser.specs.declared.query.PipeText.TheVariants.{Head}
-use Rattle.eql_parser.specs.Tree.{Tree, none, more}
-use Rattle.eql_parser.specs.Tree as t
-use Rattle.eql_parser.specs.QueryTree.{event, sequence, QueryTree}
+use Rattle.eql_query.specs.declared.expr.CmpOp.TheVariants.{Eq}
+use Rattle.eql_query.specs.declared.expr.PatOp.TheVariants.{Like}
+use Rattle.eql_query.specs.declared.expr.MathOp.TheVariants.{Add, Sub, Mul}
+use Rattle.eql_query.specs.declared.query.Unit.TheVariants.{M}
+use Rattle.eql_query.specs.declared.query.PipeText.TheVariants.{Head}
+use Rattle.eql_query.specs.Tree.{Tree, none, more}
+use Rattle.eql_query.specs.Tree as t
+use Rattle.eql_query.specs.QueryTree.{event, sequence, QueryTree}
 use Rattle.eql_parser.specs.Kinds.{Kind, word_kind, and_, any_, bang_, bar_, by_, in_, matches, maxspan_, not_, or_, regex_, sample_, sequence_, true_, until_, where_, with_, name, folding, back, text, number, open_, close_, open_item_, close_item_, comma_, dot_, assign_, compares, adds, multiplies}
 use Rattle.eql_parser.specs.Reading.{Syntax, LeftOut, TooDeep, TooOpen, separated, dotted, chain_from, unary, neg, expr}
 use Rattle.eql_parser.specs.QueryReading.{items, pipes, query, query_by}

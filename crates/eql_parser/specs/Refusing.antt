@@ -2,11 +2,11 @@
 use Rattle.std.specs.Prelude.{◌≡◌, ℕ, ◌<◌, ◌≤◌, ◌++◌, ℤ, pos, true, false, ◌⊎◌, List, [], ◌∷◌, None, codes}
 use Rattle.std.specs.Str.{bytes_eq}
 use Rattle.eql_lexer.specs.declared.token.Token.{Token}
-use Rattle.eql_parser.specs.declared.expr.PatOp.TheVariants.{Colon}
+use Rattle.eql_query.specs.declared.expr.PatOp.TheVariants.{Colon}
 use Rattle.eql_parser.specs.declared.refusal.ParseRefused.{ParseRefused}
 use Rattle.eql_parser.specs.declared.refusal.ParseRefused.TheVariants as refused
-use Rattle.eql_parser.specs.Tree.{Tree, none, more}
-use Rattle.eql_parser.specs.QueryTree.{QueryTree}
+use Rattle.eql_query.specs.Tree.{Tree, none, more}
+use Rattle.eql_query.specs.QueryTree.{QueryTree}
 use Rattle.eql_parser.specs.Kinds.{Kind, any_, assign_, bang_, bar_, close_item_, join_, matches, null_, regex_, sample_, sequence_, where_, with_, name, folding, number, open_, open_item_, kinds}
 use Rattle.eql_parser.specs.Grammar.{IsArguments}
 use Rattle.eql_parser.specs.QueryGrammar.{IsQuery, Reads, is_fine_unit, pipe_of}

@@ -7,7 +7,7 @@ ghost use Rattle.eql_parser.specs.declared.refusal.ParseRefused.{ParseRefused};
 ghost use Rattle.eql_parser.specs.Limits.{levels, OpensAtMost};
 ghost use Rattle.eql_parser.specs.Printed.{printed};
 ghost use Rattle.eql_parser.specs.QueryGrammar.{IsQuery};
-ghost use Rattle.eql_parser.specs.QueryTree.{QueryTree};
+ghost use Rattle.eql_query.specs.QueryTree.{QueryTree};
 ghost use Rattle.eql_parser.specs.Refusing.{IsMemory, Refused};
 
 /// Tokens are one query at most.

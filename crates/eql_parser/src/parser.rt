@@ -1,6 +1,6 @@
 //! From tokens to a query.
 ghost use Rattle.std.specs.Prelude.{◌≡◌, ◌≤◌, IfOk, IfErr, MatchResult};
-ghost use Rattle.eql_parser.specs.QueryTree.{QueryTree, query_tree};
+ghost use Rattle.eql_query.specs.QueryTree.{QueryTree, query_tree};
 ghost use Rattle.eql_parser.specs.QueryGrammar.{IsQuery};
 ghost use Rattle.eql_parser.specs.Limits.{levels, OpensAtMost};
 ghost use Rattle.eql_parser.specs.Refusing.{end_of, IsMemory, Refused};
@@ -25,9 +25,9 @@ mod term;
 mod whole;
 mod word;
 
-use crate::query::Query;
 use crate::refusal::ParseRefused;
 use eql_lexer::{Token, Tokens};
+use eql_query::Query;
 use std::alloc::Global;
 use stop::Stop;
 use whole::query_of;

@@ -2,7 +2,7 @@
 //! comments, escapes, parentheses that change nothing, and ways to name a field.
 ghost use Rattle.std.specs.Prelude.{◌≡◌, IfOk};
 ghost use Rattle.eql_parser.specs.Printed.{printed};
-ghost use Rattle.eql_parser.specs.QueryTree.{query_tree};
+ghost use Rattle.eql_query.specs.QueryTree.{query_tree};
 
 mod expression;
 mod leaf;
@@ -11,7 +11,7 @@ mod page;
 mod symbol;
 mod term;
 
-use crate::query::Query;
+use eql_query::Query;
 use eql_values::{Memory, Text};
 use page::Page;
 use std::alloc::Global;

@@ -1,8 +1,9 @@
 //! Queries built by hand, with their canonical texts and their parts, and refusals made by hand.
 use eql_lexer::LexRefused;
-use eql_parser::{
-    Body, CmpOp, Expr, Exprs, FieldRef, FieldRefs, MathOp, ParseRefused, PatOp, PipeText,
-    PipeTexts, Query, Span, Term, Terms, Unit, print,
+use eql_parser::{ParseRefused, print};
+use eql_query::{
+    Body, CmpOp, Expr, Exprs, FieldRef, FieldRefs, MathOp, PatOp, PipeText, PipeTexts, Query, Span,
+    Term, Terms, Unit,
 };
 use eql_values::{Literals, Text, Texts, Value};
 use std::alloc::{AllocError, Global};

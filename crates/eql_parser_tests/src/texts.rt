@@ -1,7 +1,8 @@
 //! Texts with their tokens, and texts with the canonical text of their query, or the line by which
 //! they are refused.
 use eql_lexer::{Tok, Token, Tokens, lex};
-use eql_parser::{Query, copy_query, parse, print};
+use eql_parser::{parse, print};
+use eql_query::{Query, copy_query};
 use eql_values::Memory;
 use std::alloc::{AllocError, Global};
 use std::test::Fail;

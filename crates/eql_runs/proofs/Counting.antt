@@ -8,7 +8,7 @@ use Rattle.eql_values.specs.declared.item.Item.{Item}
 use Rattle.eql_values.specs.declared.order.Mark.TheVariants.{End}
 use Rattle.eql_values.specs.declared.reader.LineGot.TheVariants as got
 use Rattle.eql_laws.specs.Books.{CompletesOnce, FoundIsFew, greatest_shards, greatest_found}
-use Rattle.eql_parser.specs.QueryTree.{TermTree}
+use Rattle.eql_query.specs.QueryTree.{TermTree}
 use Rattle.eql_check.specs.Conditions.{all_items}
 use Rattle.eql_check.specs.Kinds.{kind_at}
 use Rattle.eql_check.specs.RulesKept.{KeepsRules}

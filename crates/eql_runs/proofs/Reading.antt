@@ -10,7 +10,7 @@ use Rattle.eql_lexer.specs.declared.refusal.LexRefused.{LexRefused}
 use Rattle.eql_lexer.specs.Spelling.{Spells}
 use Rattle.eql_lexer.specs.Refusing.{BreaksAt, refusal_of}
 use Rattle.eql_parser.specs.declared.refusal.ParseRefused.{ParseRefused}
-use Rattle.eql_parser.specs.QueryTree.{QueryTree}
+use Rattle.eql_query.specs.QueryTree.{QueryTree}
 use Rattle.eql_parser.specs.QueryGrammar.{IsQuery}
 use Rattle.eql_parser.specs.Refusing.{Refused, IsMemory}
 use Rattle.eql_parser.proofs.Refusals.{memory_alone}

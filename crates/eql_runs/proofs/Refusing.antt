@@ -6,7 +6,7 @@ use Rattle.std.proofs.lemmas.Bool.{cases_order}
 use Rattle.eql_values.specs.declared.value.Kind.{Kind as FieldKind}
 use Rattle.eql_outside.specs.Outside.{file_named}
 use Rattle.eql_lexer.specs.declared.token.Token.{Token}
-use Rattle.eql_parser.specs.QueryTree.{QueryTree}
+use Rattle.eql_query.specs.QueryTree.{QueryTree}
 use Rattle.eql_check.specs.Kinds.{kind_at}
 use Rattle.eql_check.specs.Rules.{first_broken}
 use Rattle.eql_words.specs.declared.commands.Command.{Command}

@@ -2,8 +2,8 @@
 use Rattle.std.specs.Prelude.{◌≡◌, ◌++◌, pos, [], ◌∷◌, Some, None, true, false, refl, codes}
 use Rattle.std.specs.Fmt.{digits}
 use Rattle.eql_lexer.specs.declared.refusal.LexRefused.TheVariants as lexed
-use Rattle.eql_parser.specs.QueryTree.{event}
-use Rattle.eql_parser.specs.Tree as t
+use Rattle.eql_query.specs.QueryTree.{event}
+use Rattle.eql_query.specs.Tree as t
 use Rattle.eql_words.specs.declared.commands.Command.TheVariants as command
 use Rattle.eql_runs.specs.CutRefusals.{short, unfit}
 use Rattle.eql_runs.specs.Files.{Files, first_missing}

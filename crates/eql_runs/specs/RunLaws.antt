@@ -6,7 +6,7 @@ use Rattle.eql_laws.specs.Books.{greatest_shards}
 use Rattle.eql_laws.specs.Counting.{IsShardText}
 use Rattle.eql_laws.specs.Fitting.{Fits, Kept}
 use Rattle.eql_values.specs.declared.cut.Pipe.{Pipe}
-use Rattle.eql_parser.specs.QueryTree.{QueryTree}
+use Rattle.eql_query.specs.QueryTree.{QueryTree}
 use Rattle.eql_values.specs.declared.value.Kind.{Kind}
 use Rattle.eql_check.specs.Kinds.{kind_at}
 use Rattle.eql_check.specs.Typing.{IsChecked}

@@ -8,7 +8,7 @@ use Rattle.eql_outside.specs.Outside.{Rose, AppendsSome}
 use Rattle.eql_outside.specs.Written.{WroteFront, WroteThrough}
 use Rattle.eql_outside.specs.Written as written
 use Rattle.eql_laws.specs.Counting.{greatest_lines, greatest_bytes}
-use Rattle.eql_parser.specs.QueryTree.{QueryTree}
+use Rattle.eql_query.specs.QueryTree.{QueryTree}
 use Rattle.eql_parser.specs.Printed.{printed}
 use Rattle.eql_words.specs.declared.commands.Command.{Command}
 use Rattle.eql_words.specs.declared.commands.Command.TheVariants as command

@@ -11,7 +11,7 @@ use Rattle.eql_values.specs.Matching.{matches}
 use Rattle.eql_values.specs.Numbering.{numbered, piped}
 use Rattle.eql_laws.specs.Counting.{counts_of}
 use Rattle.eql_laws.specs.Fitting.{Run}
-use Rattle.eql_parser.specs.QueryTree.{QueryTree}
+use Rattle.eql_query.specs.QueryTree.{QueryTree}
 use Rattle.eql_check.specs.Kinds.{kind_at}
 use Rattle.eql_check.specs.Used.{used_fields}
 use Rattle.eql_stages.specs.Stages.{stages_in, span_in, pipe_of}

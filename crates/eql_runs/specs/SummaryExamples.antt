@@ -3,9 +3,9 @@ use Rattle.std.specs.Prelude.{◌≡◌, ℕ, pos, List, [], ◌∷◌, None, So
 use Rattle.std.specs.Fmt.{digits}
 use Rattle.eql_values.specs.declared.value.Kind.{Kind}
 use Rattle.eql_values.specs.declared.value.Kind.TheVariants as kind
-use Rattle.eql_parser.specs.declared.expr.CmpOp.TheVariants.{Eq}
-use Rattle.eql_parser.specs.QueryTree.{TermTree, sequence, QueryTree}
-use Rattle.eql_parser.specs.Tree as t
+use Rattle.eql_query.specs.declared.expr.CmpOp.TheVariants.{Eq}
+use Rattle.eql_query.specs.QueryTree.{TermTree, sequence, QueryTree}
+use Rattle.eql_query.specs.Tree as t
 use Rattle.eql_runs.specs.Searches.{Search}
 use Rattle.eql_runs.specs.Summaries.{summary, made_lines}
 

@@ -5,10 +5,10 @@ use Rattle.std.specs.Prelude.{int_le, ◌+ℤ◌}
 use Rattle.std.specs.List.{list_all, flat_map}
 use Rattle.std.proofs.lemmas.Bool.{and_parts, leb-true}
 use Rattle.std.proofs.lemmas.List.{length-append, length-replicate}
-use Rattle.eql_parser.specs.declared.expr.FieldRef.{FieldRef}
-use Rattle.eql_parser.specs.declared.query.Unit.{Unit as SpanUnit}
-use Rattle.eql_parser.specs.declared.query.Unit.TheVariants as unit
-use Rattle.eql_parser.specs.QueryTree.{TermTree, BodyTree, event, sequence}
+use Rattle.eql_query.specs.declared.expr.FieldRef.{FieldRef}
+use Rattle.eql_query.specs.declared.query.Unit.{Unit as SpanUnit}
+use Rattle.eql_query.specs.declared.query.Unit.TheVariants as unit
+use Rattle.eql_query.specs.QueryTree.{TermTree, BodyTree, event, sequence}
 use Rattle.eql_check.specs.Conditions.{all_items, as_list}
 use Rattle.eql_check.specs.Rules.{are_runs, has_runs, longest, span_of, stage_count}
 use Rattle.eql_check.specs.Typing.{has_stages, may_span}

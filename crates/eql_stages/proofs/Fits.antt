@@ -30,8 +30,8 @@ use Rattle.eql_lines.specs.declared.wanted.LineRead.{LineRead}
 use Rattle.eql_lines.specs.declared.wanted.LineRead.TheVariants as read
 use Rattle.eql_lines.specs.Reading.{line_read}
 use Rattle.eql_lines.proofs.EventTimes.{read_in_time}
-use Rattle.eql_parser.specs.declared.expr.FieldRef.{FieldRef}
-use Rattle.eql_parser.specs.QueryTree.{TermTree, BodyTree, event, sequence}
+use Rattle.eql_query.specs.declared.expr.FieldRef.{FieldRef}
+use Rattle.eql_query.specs.QueryTree.{TermTree, BodyTree, event, sequence}
 use Rattle.eql_check.specs.Comparisons.{is_null}
 use Rattle.eql_check.specs.Conditions.{all_items, as_list, own_count, key_count}
 use Rattle.eql_check.specs.RulesKept.{KeepsRules}

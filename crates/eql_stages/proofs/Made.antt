@@ -10,9 +10,9 @@ use Rattle.std.proofs.lemmas.List.{map-append, append-nil, length-append, length
 use Rattle.eql_values.specs.declared.value.Value.{Value}
 use Rattle.eql_values.specs.declared.value.Kind.{Kind}
 use Rattle.eql_values.specs.declared.item.Mask.{Mask}
-use Rattle.eql_parser.specs.declared.expr.FieldRef.{FieldRef}
-use Rattle.eql_parser.specs.declared.query.Term.{Term}
-use Rattle.eql_parser.specs.QueryTree.{TermTree, term_tree}
+use Rattle.eql_query.specs.declared.expr.FieldRef.{FieldRef}
+use Rattle.eql_query.specs.declared.query.Term.{Term}
+use Rattle.eql_query.specs.QueryTree.{TermTree, term_tree}
 use Rattle.eql_check.specs.Rules.{has_runs}
 use Rattle.eql_check.specs.Comparisons.{is_null}
 use Rattle.eql_check.specs.ThreeValued.{is_true}

@@ -2,7 +2,7 @@
 use Rattle.std.specs.Prelude.{◌≡◌, ℕ, List, map, length, Option, option_and_then}
 use Rattle.eql_values.specs.declared.value.Value.{Value}
 use Rattle.eql_values.specs.declared.value.Kind.{Kind}
-use Rattle.eql_parser.specs.declared.expr.FieldRef.{FieldRef}
+use Rattle.eql_query.specs.declared.expr.FieldRef.{FieldRef}
 use Rattle.eql_check.specs.Truth.{slot_of}
 use Rattle.eql_stages.specs.Stages.{Stage, key_at}
 use Rattle.eql_stages.specs.Judging.{judged, given_by, until_by, stages_of}

@@ -10,7 +10,7 @@ use Rattle.eql_lines.specs.declared.wanted.Fields.{Fields}
 use Rattle.eql_lines.specs.declared.wanted.LineRead.{LineRead}
 use Rattle.eql_lines.specs.declared.wanted.LineRead.TheVariants as read
 use Rattle.eql_lines.specs.Reading.{line_read}
-use Rattle.eql_parser.specs.QueryTree.{QueryTree, query_tree}
+use Rattle.eql_query.specs.QueryTree.{QueryTree, query_tree}
 use Rattle.eql_check.specs.Checks.{CheckedQuery}
 use Rattle.eql_check.specs.Conditions.{key_count}
 use Rattle.eql_laws.specs.Fitting.{Run}

@@ -2,7 +2,7 @@
 use Rattle.std.specs.Prelude.{◌≡◌, ◌≤◌, ℕ, List, map, length, Option}
 use Rattle.eql_values.specs.declared.value.Kind.{Kind}
 use Rattle.eql_values.specs.declared.cut.Pipe.{Pipe}
-use Rattle.eql_parser.specs.QueryTree.{QueryTree}
+use Rattle.eql_query.specs.QueryTree.{QueryTree}
 use Rattle.eql_stages.specs.Stages.{stages_in, until_in, pipe_of}
 use Rattle.eql_stages.specs.Compiling.{JudgeAll, JudgesEnd}
 use Rattle.eql_stages.specs.declared.judge.Judge.{Judge}

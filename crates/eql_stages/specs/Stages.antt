@@ -8,13 +8,13 @@ use Rattle.eql_values.specs.declared.item.Route.{Route}
 use Rattle.eql_values.specs.declared.cut.Pipe.{Pipe}
 use Rattle.eql_values.specs.declared.cut.Pipe.TheVariants as kept
 use Rattle.eql_values.specs.Orders.{text_eq}
-use Rattle.eql_parser.specs.declared.expr.FieldRef.{FieldRef}
-use Rattle.eql_parser.specs.declared.query.Span.{Span}
-use Rattle.eql_parser.specs.declared.query.Unit.{Unit as SpanUnit}
-use Rattle.eql_parser.specs.declared.query.Unit.TheVariants as unit
-use Rattle.eql_parser.specs.declared.query.PipeText.{PipeText}
-use Rattle.eql_parser.specs.declared.query.PipeText.TheVariants as written
-use Rattle.eql_parser.specs.QueryTree.{TermTree, BodyTree, event, sequence}
+use Rattle.eql_query.specs.declared.expr.FieldRef.{FieldRef}
+use Rattle.eql_query.specs.declared.query.Span.{Span}
+use Rattle.eql_query.specs.declared.query.Unit.{Unit as SpanUnit}
+use Rattle.eql_query.specs.declared.query.Unit.TheVariants as unit
+use Rattle.eql_query.specs.declared.query.PipeText.{PipeText}
+use Rattle.eql_query.specs.declared.query.PipeText.TheVariants as written
+use Rattle.eql_query.specs.QueryTree.{TermTree, BodyTree, event, sequence}
 use Rattle.eql_check.specs.Comparisons.{is_null}
 use Rattle.eql_check.specs.Truth.{value_at, holds}
 use Rattle.eql_stages.specs.Given.{Given, routes_by}

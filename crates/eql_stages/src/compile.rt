@@ -2,8 +2,8 @@
 ghost use Rattle.std.specs.Prelude.{◌≡◌, ◌≤◌, ◌++◌, OnOk, IfOk, true, map, length, None};
 ghost use Rattle.std.specs.List.{list_all, flat_map};
 ghost use Rattle.std.specs.Option.{option_map};
-ghost use Rattle.eql_parser.specs.QueryTree as body;
-ghost use Rattle.eql_parser.specs.QueryTree.{query_tree, term_tree};
+ghost use Rattle.eql_query.specs.QueryTree as body;
+ghost use Rattle.eql_query.specs.QueryTree.{query_tree, term_tree};
 ghost use Rattle.eql_check.specs.Conditions.{as_list};
 ghost use Rattle.eql_check.specs.Rules.{are_runs, has_runs};
 ghost use Rattle.eql_stages.specs.Compiling.{JudgeAll, JudgesEnd, key_field};
@@ -17,7 +17,7 @@ use crate::keys::{KeyField, KeyFields};
 use eql_check::Checked;
 use eql_code::compile;
 use eql_operators::slot_of;
-use eql_parser::{Body, FieldRef, Term};
+use eql_query::{Body, FieldRef, Term};
 use eql_values::{Memory, NameKinds};
 use std::alloc::Global;
 

@@ -14,7 +14,7 @@ use crate::compile::judges_in;
 use crate::judges::Judges;
 use eql_check::Checked;
 use eql_lines::Wanted;
-use eql_parser::{Body, PipeText, Span, Unit};
+use eql_query::{Body, PipeText, Span, Unit};
 use eql_values::{Memory, Pipe, Pipes, Text};
 use std::alloc::Global;
 use std::marker::Model;
@@ -32,8 +32,8 @@ pub struct Plan {
 
 impl Model for Plan {
     ghost use Rattle.std.specs.Coded.{codes};
-    ghost use Rattle.eql_parser.specs.QueryTree.{query_tree};
-    ghost use Rattle.eql_parser.specs.contracts.expr.Expr as e;
+    ghost use Rattle.eql_query.specs.QueryTree.{query_tree};
+    ghost use Rattle.eql_query.specs.contracts.expr.Expr as e;
     ghost use Rattle.eql_stages.specs.Planned.{PlanOf};
     ghost use Rattle.eql_stages.specs.Plans.{IsPlan};
 

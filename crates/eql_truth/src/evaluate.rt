@@ -1,6 +1,6 @@
 //! The evaluation of expressions.
 ghost use Rattle.std.specs.Prelude.{◌≡◌, [], IfOk, Some, true, false};
-ghost use Rattle.eql_parser.specs.View.{tree, trees};
+ghost use Rattle.eql_query.specs.View.{tree, trees};
 ghost use Rattle.eql_check.specs.Truth.{means, values, value_at, call_of};
 ghost use Rattle.eql_check.specs.Names.{function_of};
 ghost use Rattle.eql_check.specs.ThreeValued.{truth, truth_in, negation, all_from, any_from};
@@ -11,7 +11,7 @@ use eql_operators::{
     call, compare, compute, conjunction, disjunction, is_among, matches_one, negate, negation,
     truth_of, value_of,
 };
-use eql_parser::{Expr, Exprs};
+use eql_query::{Expr, Exprs};
 use eql_values::{Memory, NameKinds, Slots, Text, Value};
 use std::alloc::Global;
 

@@ -1,7 +1,7 @@
 //! Calls of functions.
 ghost use Rattle.std.specs.Prelude.{◌≡◌, ◌≢◌, ◌-◌, ◌∷◌, ◌&&◌, nat_lt, not, true, IfOk, MatchOption};
 ghost use Rattle.eql_parser.specs.Grammar.{is_left_out_call};
-ghost use Rattle.eql_parser.specs.View.{trees_of};
+ghost use Rattle.eql_query.specs.View.{trees_of};
 ghost use Rattle.std.specs.List.{list_all};
 ghost use Rattle.std.specs.Str.{bytes_eq, chars};
 ghost use Rattle.eql_parser.specs.Kinds.{kinds, open_};
@@ -9,12 +9,12 @@ ghost use Rattle.eql_parser.specs.Marks.{NoCall, NoCallee, callee_kind};
 ghost use Rattle.eql_parser.specs.Pieces.{piece_kind};
 ghost use Rattle.eql_parser.specs.Answering.{Answers, IsNode, IsNodes, node_tree, nodes_trees, call_read};
 
-use crate::expr::{Expr, Exprs};
 use crate::parser::mark::{Mark, after};
 use crate::parser::node::{Node, Nodes};
 use crate::parser::piece::{Piece, split};
 use crate::parser::stop::{Stop, left_out};
 use eql_lexer::Token;
+use eql_query::{Expr, Exprs};
 use eql_values::Text;
 use std::alloc::Global;
 

@@ -8,12 +8,12 @@ ghost use Rattle.eql_parser.specs.Pieces.{piece_kind, spelled, NoPart, IsPart};
 ghost use Rattle.eql_parser.specs.Answering.{Answers};
 ghost use Rattle.eql_parser.specs.Reading.{dotted, named, field};
 
-use crate::expr::FieldRef;
 use crate::parser::listed::Listed;
 use crate::parser::mark::{Mark, after};
 use crate::parser::piece::{Piece, split};
 use crate::parser::stop::Stop;
 use eql_lexer::{Tok, Token};
+use eql_query::FieldRef;
 use eql_values::Text;
 use std::alloc::Global;
 

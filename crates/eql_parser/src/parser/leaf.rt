@@ -2,21 +2,21 @@
 ghost use Rattle.std.specs.Prelude.{◌≡◌, Ok, Err, IfOk, length};
 ghost use Rattle.eql_parser.specs.Kinds.{kinds};
 ghost use Rattle.eql_parser.specs.Limits.{depth};
-ghost use Rattle.eql_parser.specs.View.{tree};
+ghost use Rattle.eql_query.specs.View.{tree};
 ghost use Rattle.eql_parser.specs.Marks.{Lacks, NoCall};
 ghost use Rattle.eql_parser.specs.declared.parser.mark.Mark.TheVariants as mark;
 ghost use Rattle.eql_parser.specs.Pieces.{piece_kind};
 ghost use Rattle.std.specs.Option.{option_map};
-ghost use Rattle.eql_parser.specs.Tree.{Tree};
+ghost use Rattle.eql_query.specs.Tree.{Tree};
 ghost use Rattle.eql_parser.specs.Answering.{Answers, IsNode, Stops, constant_tree, node_tree, room, inner};
 ghost use Rattle.eql_parser.specs.Reading.{Syntax, at_level, field, field_tree, prim, res_map};
 
-use crate::expr::Expr;
 use crate::parser::field::field_of;
 use crate::parser::node::Node;
 use crate::parser::piece::{Piece, split};
 use crate::parser::stop::Stop;
 use eql_lexer::Token;
+use eql_query::Expr;
 use std::alloc::{AllocError, Global};
 
 /// An expression of one level that begins where so many tokens are left.

@@ -4,12 +4,12 @@ ghost use Rattle.eql_parser.specs.Kinds.{kinds};
 ghost use Rattle.eql_parser.specs.Answering.{Answers, room, inner};
 ghost use Rattle.eql_parser.specs.Reading.{literal, negative_at, text_at, members, patterns};
 
-use crate::expr::MathOp;
 use crate::parser::listed::{Listed, listed_of};
 use crate::parser::mark::{Mark, after};
 use crate::parser::piece::{Piece, split};
 use crate::parser::stop::Stop;
 use eql_lexer::Token;
+use eql_query::MathOp;
 use eql_values::{Literals, Text, Texts, Value};
 use std::alloc::Global;
 

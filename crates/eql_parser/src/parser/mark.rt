@@ -4,9 +4,9 @@ ghost use Rattle.eql_parser.specs.Kinds.{kinds};
 ghost use Rattle.eql_parser.specs.Pieces.{piece_kind};
 ghost use Rattle.eql_parser.specs.Marks.{mark_kind, kind_mark, Lacks};
 
-use crate::expr::MathOp;
 use crate::parser::piece::{Piece, split};
 use eql_lexer::Token;
+use eql_query::MathOp;
 
 /// A keyword or a sign that a place may ask for.
 #[derive(Clone, Copy, PartialEq, Eq)]

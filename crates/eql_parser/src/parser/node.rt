@@ -2,12 +2,12 @@
 ghost use Rattle.std.specs.Prelude.{◌≡◌, ◌+◌, ◌<◌, ◌≤◌, ◌^◌, ◌++◌, ◌∷◌, [], false, suc, max, length, map, IfOk};
 ghost use Rattle.std.specs.Str.{chars};
 ghost use Rattle.eql_values.specs.declared.value.Value.{Value};
-ghost use Rattle.eql_parser.specs.Tree as t;
-ghost use Rattle.eql_parser.specs.View.{tree, trees_of};
+ghost use Rattle.eql_query.specs.Tree as t;
+ghost use Rattle.eql_query.specs.View.{tree, trees_of};
 ghost use Rattle.eql_parser.specs.Limits.{depth};
 ghost use Rattle.eql_parser.specs.Answering.{nodes_trees};
 
-use crate::expr::{CmpOp, Expr, Exprs, MathOp, PatOp};
+use eql_query::{CmpOp, Expr, Exprs, MathOp, PatOp};
 use eql_values::{Literals, Texts};
 use std::alloc::{AllocError, AllocFailed, Global};
 

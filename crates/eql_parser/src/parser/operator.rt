@@ -4,9 +4,9 @@ ghost use Rattle.eql_parser.specs.Kinds.{kinds, adds, compares, multiplies};
 ghost use Rattle.eql_parser.specs.Marks.{LacksOperator, compares_of};
 ghost use Rattle.eql_parser.specs.Reading.{adds_of, multiplies_of};
 
-use crate::expr::{CmpOp, MathOp};
 use crate::parser::piece::{Piece, split};
 use eql_lexer::Token;
+use eql_query::{CmpOp, MathOp};
 
 /// The `+` or `-` that comes first, and what follows it.
 pub fn added(tokens: &[Token]) -> Option<(MathOp, &[Token])>

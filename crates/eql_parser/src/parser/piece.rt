@@ -3,9 +3,9 @@ ghost use Rattle.std.specs.Prelude.{◌≡◌, ◌∷◌, [], MatchOption};
 ghost use Rattle.eql_parser.specs.Kinds.{kind, kinds, sign_kind};
 ghost use Rattle.eql_parser.specs.Pieces.{piece_kind};
 
-use crate::expr::{CmpOp, MathOp, PatOp};
 use crate::parser::word::word_piece;
 use eql_lexer::{Sign, Tok, Token};
+use eql_query::{CmpOp, MathOp, PatOp};
 use eql_values::Text;
 
 /// A token by what it says in the grammar.

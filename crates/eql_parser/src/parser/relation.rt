@@ -1,19 +1,19 @@
 //! Tests of a value against patterns and lists.
 ghost use Rattle.std.specs.Prelude.{◌≡◌, codes, if◌then◌else◌, false, true, IfOk};
 ghost use Rattle.std.specs.Str.{chars};
-ghost use Rattle.eql_parser.specs.Tree as t;
-ghost use Rattle.eql_parser.specs.View.{tree};
+ghost use Rattle.eql_query.specs.Tree as t;
+ghost use Rattle.eql_query.specs.View.{tree};
 ghost use Rattle.eql_parser.specs.Kinds.{kinds};
 ghost use Rattle.eql_parser.specs.Marks.{LacksOperator, compares_of};
 ghost use Rattle.eql_parser.specs.Answering.{Answers, IsNode, node_tree, room, inner};
 ghost use Rattle.eql_parser.specs.Reading.{above, behind_not, behind_sum, members, patterns, res_map};
 
-use crate::expr::PatOp;
 use crate::parser::literal::{members_of, patterns_of};
 use crate::parser::node::{Node, member_of, pattern_of};
 use crate::parser::piece::{Piece, split};
 use crate::parser::stop::{Stop, left_out};
 use eql_lexer::Token;
+use eql_query::PatOp;
 use std::alloc::Global;
 
 /// A test against patterns, behind its operator, which stands where so many tokens are left.

@@ -1,21 +1,20 @@
 //! Sequences: their keys, their greatest span, their items and what ends them.
 ghost use Rattle.std.specs.Prelude.{◌≡◌, length};
 ghost use Rattle.eql_parser.specs.Kinds.{kinds};
-ghost use Rattle.eql_parser.specs.QueryTree.{body_tree};
+ghost use Rattle.eql_query.specs.QueryTree.{body_tree};
 ghost use Rattle.eql_parser.specs.QueryGrammar as grammar;
 ghost use Rattle.eql_parser.specs.Answering.{Answers};
 ghost use Rattle.eql_parser.specs.QueryAnswering.{NoUnit, terms_view, until_view};
 ghost use Rattle.eql_parser.specs.Reading.{expr};
 ghost use Rattle.eql_parser.specs.QueryReading.{most_open, most_levels, is_fine_unit, unit_at, span, items, until, behind_keys, behind_span};
 
-use crate::expr::FieldRefs;
 use crate::parser::mark::{Mark, after};
 use crate::parser::piece::{Piece, split};
 use crate::parser::stop::{Stop, left_out};
 use crate::parser::term::{bracketed_of, is_missing, item_from, item_of, number_of};
 use crate::parser::word::is_word;
-use crate::query::{Body, Span, Term, Terms, Unit};
 use eql_lexer::Token;
+use eql_query::{Body, FieldRefs, Span, Term, Terms, Unit};
 use eql_values::Text;
 use std::alloc::Global;
 

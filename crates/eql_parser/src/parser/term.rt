@@ -1,8 +1,8 @@
 //! Terms and items: a category, a condition, and for an item its keys and runs.
 ghost use Rattle.std.specs.Prelude.{◌≡◌, Some, MatchBool, IfOk, MatchOption};
 ghost use Rattle.eql_parser.specs.Kinds.{kinds};
-ghost use Rattle.eql_parser.specs.View.{tree};
-ghost use Rattle.eql_parser.specs.QueryTree.{term_tree};
+ghost use Rattle.eql_query.specs.View.{tree};
+ghost use Rattle.eql_query.specs.QueryTree.{term_tree};
 ghost use Rattle.eql_parser.specs.QueryGrammar.{category};
 ghost use Rattle.eql_parser.specs.Pieces.{piece_kind};
 ghost use Rattle.eql_parser.specs.Answering.{Answers};
@@ -11,15 +11,14 @@ ghost use Rattle.eql_parser.specs.Reading.{expr};
 ghost use Rattle.eql_parser.specs.QueryReading.{most_open, most_levels, number_at, keys, runs, term, term_tree_of, bracketed, item};
 ghost use Rattle.eql_parser.specs.QueryReading as reading;
 
-use crate::expr::{Expr, FieldRefs};
 use crate::parser::expression::expr_of;
 use crate::parser::listed::listed_of;
 use crate::parser::mark::{Mark, after};
 use crate::parser::piece::{Piece, split};
 use crate::parser::stop::{Stop, left_out};
 use crate::parser::word::is_word;
-use crate::query::Term;
 use eql_lexer::Token;
+use eql_query::{Expr, FieldRefs, Term};
 use eql_values::Text;
 use std::alloc::{AllocError, Global};
 

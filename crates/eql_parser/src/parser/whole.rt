@@ -1,22 +1,21 @@
 //! Queries: a term or a sequence, and its pipes.
 ghost use Rattle.std.specs.Prelude.{◌≡◌, suc, length};
 ghost use Rattle.eql_parser.specs.Kinds.{kinds};
-ghost use Rattle.eql_parser.specs.QueryTree.{body_tree, query_tree};
+ghost use Rattle.eql_query.specs.QueryTree.{body_tree, query_tree};
 ghost use Rattle.eql_parser.specs.Answering.{Answers};
 ghost use Rattle.eql_parser.specs.QueryGrammar as grammar;
 ghost use Rattle.eql_parser.specs.QueryAnswering.{event_view};
 ghost use Rattle.eql_parser.specs.Reading.{expr, res_map};
 ghost use Rattle.eql_parser.specs.QueryReading.{most_open, most_levels, pipe, pipe_named, pipes, body, query, term};
 
-use crate::expr::FieldRefs;
 use crate::parser::mark::{Mark, after};
 use crate::parser::piece::{Piece, split};
 use crate::parser::sequence::sequence_of;
 use crate::parser::stop::{Stop, left_out};
 use crate::parser::term::{Bracketed, item_from, keys_of, number_of, term_of};
 use crate::parser::word::is_word;
-use crate::query::{Body, PipeText, PipeTexts, Query};
 use eql_lexer::Token;
+use eql_query::{Body, FieldRefs, PipeText, PipeTexts, Query};
 use eql_values::Text;
 use std::alloc::Global;
 

@@ -6,8 +6,8 @@ ghost use Rattle.std.specs.Str.{bytes_eq};
 ghost use Rattle.eql_parser.specs.Kinds.{keywords, plain_kind, word_in, word_kind};
 ghost use Rattle.eql_parser.specs.Pieces.{entries, piece_kind};
 
-use crate::expr::PatOp;
 use crate::parser::piece::Piece;
+use eql_query::PatOp;
 use eql_values::Text;
 
 /// The keywords, each with what it says.

@@ -2,14 +2,14 @@
 ghost use Rattle.std.specs.Prelude.{◌++◌, ◌∷◌, IsTrue, OnOk};
 ghost use Rattle.eql_parser.specs.Adding.{Adds, all_ascii};
 ghost use Rattle.eql_parser.specs.Printed.{shown, all_shown, patterns_shown, literals_shown};
-ghost use Rattle.eql_parser.specs.Tree as t;
-ghost use Rattle.eql_parser.specs.View.{tree, trees};
+ghost use Rattle.eql_query.specs.Tree as t;
+ghost use Rattle.eql_query.specs.View.{tree, trees};
 
 use super::leaf::{put_field, put_quoted};
 use super::list::{put_literals, put_patterns};
 use super::page::Page;
 use super::symbol::{bool_text, cmp_text, math_text, member_text, pat_text};
-use crate::expr::{Expr, Exprs};
+use eql_query::{Expr, Exprs};
 use eql_values::{Memory, Text, Value};
 
 /// Writes an expression.

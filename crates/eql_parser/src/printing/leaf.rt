@@ -6,7 +6,7 @@ ghost use Rattle.eql_parser.specs.Printed.{hex_digit, is_control, escaped, all_e
 
 use super::page::Page;
 use super::symbol::bool_text;
-use crate::expr::FieldRef;
+use eql_query::FieldRef;
 use eql_values::{Memory, Text, Value};
 
 /// A hexadecimal digit in lower case.

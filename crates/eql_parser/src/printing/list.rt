@@ -5,7 +5,7 @@ ghost use Rattle.eql_parser.specs.Printed.{texts_shown, patterns_shown, literals
 
 use super::leaf::{put_field, put_literal, put_quoted};
 use super::page::Page;
-use crate::expr::FieldRef;
+use eql_query::FieldRef;
 use eql_values::{Memory, Text, Value};
 
 /// Writes texts.

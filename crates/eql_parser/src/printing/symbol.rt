@@ -3,8 +3,7 @@ ghost use Rattle.std.specs.Prelude.{◌≡◌, IsTrue};
 ghost use Rattle.eql_parser.specs.Adding.{all_ascii};
 ghost use Rattle.eql_parser.specs.Printed.{bool_text, cmp_text, pat_text, math_text, member_text, unit_text};
 
-use crate::expr::{CmpOp, MathOp, PatOp};
-use crate::query::Unit;
+use eql_query::{CmpOp, MathOp, PatOp, Unit};
 
 /// `true` or `false`.
 pub(crate) fn bool_text(value: bool) -> &'static str

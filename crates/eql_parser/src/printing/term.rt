@@ -3,14 +3,14 @@ ghost use Rattle.std.specs.Prelude.{◌≡◌, ◌++◌, OnOk, map};
 ghost use Rattle.std.specs.Option.{option_map};
 ghost use Rattle.eql_parser.specs.Adding.{Adds};
 ghost use Rattle.eql_parser.specs.Printed.{category_shown, term_shown, bracketed_shown, runs_shown, items_shown, span_shown, unit_text, until_shown, body_shown, pipe_shown, pipes_shown};
-ghost use Rattle.eql_parser.specs.QueryTree.{term_tree, body_tree};
+ghost use Rattle.eql_query.specs.QueryTree.{term_tree, body_tree};
 
 use super::expression::put_expr;
 use super::leaf::put_quoted;
 use super::list::put_by;
 use super::page::Page;
 use super::symbol::unit_text;
-use crate::query::{Body, PipeText, Span, Term, Unit};
+use eql_query::{Body, PipeText, Span, Term, Unit};
 use eql_values::{Memory, Text};
 
 /// Writes a category: a string, or `any`.

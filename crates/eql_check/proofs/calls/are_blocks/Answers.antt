@@ -2,7 +2,7 @@ use Rattle.std.proofs.Common.{inl, inr, map, ap, sym, ◌∙◌}
 use Rattle.std.specs.Iterator.Adapters.{zip_first, zip_second}
 use Rattle.std.specs.Slice.Iter.{iter_rest}
 use Rattle.std.proofs.lemmas.Slice.Zip.{either_empty_from_Zip}
-use Rattle.eql_parser.specs.View.{tree, trees_of}
+use Rattle.eql_query.specs.View.{tree, trees_of}
 use Rattle.eql_check.specs.Calls.{are_blocks}
 use Rattle.eql_check.proofs.Settling.{blocks_none}
 use Rattle.eql_check.proofs.calls.are_blocks.Goals as goal

@@ -1,5 +1,5 @@
 use Rattle.std.proofs.Common.{◌≡◌, map, drop}
-use Rattle.eql_parser.specs.View.{tree, trees_of}
+use Rattle.eql_query.specs.View.{tree, trees_of}
 use Rattle.eql_check.specs.Calls.{bad_block}
 use Rattle.eql_check.proofs.calls.bad_block.Given as goal
 

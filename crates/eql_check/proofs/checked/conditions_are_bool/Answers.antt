@@ -1,5 +1,5 @@
 use Rattle.std.proofs.Common.{subst}
-use Rattle.eql_parser.specs.QueryTree.{query_tree}
+use Rattle.eql_query.specs.QueryTree.{query_tree}
 use Rattle.eql_check.specs.Checks.{CheckedQuery}
 use Rattle.eql_check.specs.Kept.{ConditionsAreBool}
 use Rattle.eql_check.proofs.Fitting.{conditions_are_bool}

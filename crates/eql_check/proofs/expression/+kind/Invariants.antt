@@ -1,5 +1,5 @@
 use Rattle.std.proofs.Common.{◌≡◌, map, drop}
-use Rattle.eql_parser.specs.View.{tree, trees_of}
+use Rattle.eql_query.specs.View.{tree, trees_of}
 use Rattle.eql_check.specs.Kinds.{kind_at}
 use Rattle.eql_check.specs.FirstBroken.{kinds_of}
 use Rattle.eql_check.specs.Answers.{bools_of, with_bool, kinds_before}

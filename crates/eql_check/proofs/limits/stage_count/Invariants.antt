@@ -1,6 +1,6 @@
 use Rattle.std.proofs.Common.{◌≡◌, ◌*◌, ◌≤ℤ◌, ◌+ℤ◌, pos, true, map, drop}
 use Rattle.std.specs.List.{list_all}
-use Rattle.eql_parser.specs.QueryTree.{term_tree}
+use Rattle.eql_query.specs.QueryTree.{term_tree}
 use Rattle.eql_check.specs.Rules.{stage_count, has_runs}
 use Rattle.eql_check.proofs.limits.stage_count.Given as goal
 

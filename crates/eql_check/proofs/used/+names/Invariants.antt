@@ -1,5 +1,5 @@
 use Rattle.std.proofs.Common.{◌≡◌, ◌++◌, map, drop}
-use Rattle.eql_parser.specs.View.{tree, trees_of}
+use Rattle.eql_query.specs.View.{tree, trees_of}
 use Rattle.eql_check.specs.Used.{fields_among}
 use Rattle.eql_check.specs.Entries.{names_seen}
 use Rattle.eql_check.proofs.used.+names.Given as goal

@@ -1,5 +1,5 @@
 use Rattle.std.proofs.Common.{◌≡◌, ◌≤◌, ◌+◌, ◌-◌, max, map, drop, reverse, length, ap, sym, ◌∙◌, rules, arith}
-use Rattle.eql_parser.specs.View.{tree, trees, trees_of}
+use Rattle.eql_query.specs.View.{tree, trees, trees_of}
 use Rattle.eql_code.specs.Code.{depth_all, depth_each}
 use Rattle.eql_code.proofs.Emitting.{one_more, one_deeper, call_is}
 use Rattle.eql_code.proofs.emit.+emit.Goals as goal

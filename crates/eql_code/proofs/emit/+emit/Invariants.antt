@@ -1,5 +1,5 @@
 use Rattle.std.proofs.Common.{◌≡◌, ◌++◌, ◌+◌, ◌≤◌, map, drop, reverse, length}
-use Rattle.eql_parser.specs.View.{tree, trees_of}
+use Rattle.eql_query.specs.View.{tree, trees_of}
 use Rattle.eql_code.specs.Code.{code_each, code_all, depth_each, depth_all}
 use Rattle.eql_code.specs.Folds.{fold_op}
 use Rattle.eql_code.proofs.emit.+emit.Given as goal

@@ -1,5 +1,5 @@
 use Rattle.std.proofs.Common.{◌≡◌, map, drop}
-use Rattle.eql_parser.specs.View.{tree, trees_of}
+use Rattle.eql_query.specs.View.{tree, trees_of}
 use Rattle.eql_code.specs.Code.{blocks_in}
 use Rattle.eql_code.proofs.Prepared.{blocks_before}
 use Rattle.eql_code.proofs.emit.blocks_in.Given as goal

@@ -1,5 +1,5 @@
 use Rattle.std.proofs.Common.{◌≡◌, ap₂, ◌∙◌, rules}
-use Rattle.eql_parser.specs.View.{tree}
+use Rattle.eql_query.specs.View.{tree}
 use Rattle.eql_code.proofs.Emitting.{turned}
 use Rattle.eql_code.proofs.Runs.{compiled_sound}
 use Rattle.eql_code.proofs.machine.code_of.Goals as goal

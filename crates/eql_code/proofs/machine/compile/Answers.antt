@@ -1,5 +1,5 @@
 use Rattle.std.proofs.Common.{◌∷◌, Some, ap, ◌∙◌}
-use Rattle.eql_parser.specs.View.{tree}
+use Rattle.eql_query.specs.View.{tree}
 use Rattle.eql_check.specs.Truth.{means, value_at}
 use Rattle.eql_code.specs.Stack.{Compiled, is_free}
 use Rattle.eql_code.proofs.Runs.{compiled_gives, compiled_leaves}

@@ -5,7 +5,7 @@ use Rattle.std.proofs.lemmas.List.{length-map}
 use Rattle.eql_book.specs.Books.{FitsPipes}
 use Rattle.eql_check.specs.Kinds.{kind_at}
 use Rattle.eql_check.specs.Typing.{IsChecked}
-use Rattle.eql_parser.specs.QueryTree.{query_tree}
+use Rattle.eql_query.specs.QueryTree.{query_tree}
 use Rattle.eql_stages.specs.Judging.{reads_by}
 use Rattle.eql_stages.specs.Planned.{line_of, planned}
 use Rattle.eql_lane.specs.Slacks.{nanos_of}

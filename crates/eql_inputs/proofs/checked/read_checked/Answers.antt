@@ -1,6 +1,6 @@
 use Rattle.std.proofs.Common.{◌∙◌}
 use Rattle.std.proofs.lemmas.Result.{err_from_is_err_and, IfOk-weaker, IfErr-weaker}
-use Rattle.eql_parser.specs.QueryTree.{query_tree}
+use Rattle.eql_query.specs.QueryTree.{query_tree}
 use Rattle.eql_inputs.proofs.HaltLemmas.{mapping_then, checked_got, check_stopped, check_calm, text_faults, text_count, text_absence, same_later, faults_later, count_later, absence_later}
 use Rattle.eql_inputs.proofs.checked.read_checked.Goals as goal
 

@@ -1,6 +1,6 @@
 use Rattle.std.proofs.Common.{subst, List, ℕ}
 use Rattle.std.proofs.lemmas.Result.{err_from_is_err_and, IfOk-weaker, IfErr-weaker}
-use Rattle.eql_parser.specs.QueryTree.{query_tree}
+use Rattle.eql_query.specs.QueryTree.{query_tree}
 use Rattle.eql_inputs.specs.Steps.{IsQueryText, StoppedQuery}
 use Rattle.eql_inputs.proofs.HaltLemmas.{query_unread, query_got, query_stopped, query_calm, text_faults, text_count, text_absence}
 use Rattle.eql_inputs.proofs.checked.read_query.Goals as goal

@@ -1,4 +1,4 @@
-use Rattle.eql_parser.specs.QueryTree.{query_tree}
+use Rattle.eql_query.specs.QueryTree.{query_tree}
 use Rattle.eql_inputs.proofs.HaltLemmas.{stopped_checking}
 use Rattle.eql_inputs.proofs.query.checked_of.Goals as goal
 

@@ -1,5 +1,5 @@
 use Rattle.std.proofs.Common.{◌≡◌, ◌≤◌, subst, sym, ◌∙◌}
-use Rattle.eql_parser.specs.QueryTree.{QueryTree, query_tree}
+use Rattle.eql_query.specs.QueryTree.{QueryTree, query_tree}
 use Rattle.eql_parser.specs.QueryGrammar.{IsQuery}
 use Rattle.eql_parser.specs.Limits.{levels, OpensAtMost}
 use Rattle.eql_parser.specs.Refusing.{IsMemory, Refused}

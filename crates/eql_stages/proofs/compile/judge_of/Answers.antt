@@ -1,6 +1,6 @@
 use Rattle.std.proofs.Common.{◌≡◌, ◌++◌, map, sym, ◌∙◌, rules}
 use Rattle.std.proofs.lemmas.List.{map-append}
-use Rattle.eql_parser.specs.QueryTree.{term_tree}
+use Rattle.eql_query.specs.QueryTree.{term_tree}
 use Rattle.eql_stages.specs.Compiling.{key_field}
 use Rattle.eql_stages.proofs.Made.{judge_made}
 use Rattle.eql_stages.proofs.compile.judge_of.Goals as goal

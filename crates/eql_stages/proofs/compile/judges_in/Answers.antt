@@ -1,8 +1,8 @@
 use Rattle.std.proofs.Common.{◌≡◌, ◌≤◌, List, map, length, sym, ap, subst, ◌∙◌}
 use Rattle.std.specs.List.{flat_map}
-use Rattle.eql_parser.specs.declared.query.Body.{Body}
-use Rattle.eql_parser.specs.declared.query.Query.{Query}
-use Rattle.eql_parser.specs.QueryTree.{query_tree, body_tree, term_tree}
+use Rattle.eql_query.specs.declared.query.Body.{Body}
+use Rattle.eql_query.specs.declared.query.Query.{Query}
+use Rattle.eql_query.specs.QueryTree.{query_tree, body_tree, term_tree}
 use Rattle.eql_stages.specs.Stages.{Stage, item_stages, stages_in}
 use Rattle.eql_stages.proofs.Counted.{stages_between}
 use Rattle.eql_stages.proofs.compile.judges_in.Goals as goal

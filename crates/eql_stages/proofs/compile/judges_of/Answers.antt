@@ -1,7 +1,7 @@
 use Rattle.std.proofs.Common.{◌≡◌, ◌≤◌, ◌++◌, List, subst, ◌∙◌, arith}
 use Rattle.std.proofs.lemmas.Bool.{le-leb}
-use Rattle.eql_parser.specs.declared.expr.FieldRef.{FieldRef}
-use Rattle.eql_parser.specs.QueryTree.{term_tree}
+use Rattle.eql_query.specs.declared.expr.FieldRef.{FieldRef}
+use Rattle.eql_query.specs.QueryTree.{term_tree}
 use Rattle.eql_stages.specs.Compiling.{Judges}
 use Rattle.eql_stages.specs.Judging.{has_stage}
 use Rattle.eql_stages.specs.Stages.{count_of}

@@ -1,6 +1,6 @@
 use Rattle.std.proofs.Common.{◌≡◌, true, map, take}
 use Rattle.std.specs.List.{list_all, flat_map}
-use Rattle.eql_parser.specs.QueryTree.{term_tree}
+use Rattle.eql_query.specs.QueryTree.{term_tree}
 use Rattle.eql_stages.specs.Compiling.{JudgeAll}
 use Rattle.eql_stages.specs.Judging.{has_stage}
 use Rattle.eql_stages.specs.Stages.{item_stages}

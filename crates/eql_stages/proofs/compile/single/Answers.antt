@@ -1,5 +1,5 @@
 use Rattle.std.proofs.Common.{◌++◌, ◌∷◌, [], List, ap, ◌∙◌}
-use Rattle.eql_parser.specs.QueryTree.{term_tree}
+use Rattle.eql_query.specs.QueryTree.{term_tree}
 use Rattle.eql_stages.specs.declared.judge.Judge.{Judge}
 use Rattle.eql_stages.proofs.Made.{one_stage}
 use Rattle.eql_stages.proofs.compile.single.Goals as goal

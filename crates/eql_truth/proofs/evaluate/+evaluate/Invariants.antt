@@ -1,5 +1,5 @@
 use Rattle.std.proofs.Common.{◌≡◌, ◌++◌, map, drop, Some, true, false}
-use Rattle.eql_parser.specs.View.{tree, trees_of}
+use Rattle.eql_query.specs.View.{tree, trees_of}
 use Rattle.eql_check.specs.Truth.{values, value_at}
 use Rattle.eql_check.specs.ThreeValued.{all_from, any_from}
 use Rattle.eql_truth.proofs.evaluate.+evaluate.Given as goal

@@ -1,5 +1,5 @@
 use Rattle.std.proofs.Common.{◌≤◌, length, subst}
-use Rattle.eql_parser.specs.QueryTree.{query_tree}
+use Rattle.eql_query.specs.QueryTree.{query_tree}
 use Rattle.eql_check.specs.Checks.{CheckedQuery}
 use Rattle.eql_check.specs.Used.{AreOnce}
 use Rattle.eql_check.proofs.Bounds.{few_fields, fields_once}

@@ -1,7 +1,7 @@
 use Rattle.std.proofs.Common.{arith}
 use Rattle.std.proofs.lemmas.List.{length-map}
 use Rattle.std.specs.Str.{chars}
-use Rattle.eql_parser.specs.View.{tree}
+use Rattle.eql_query.specs.View.{tree}
 use Rattle.eql_parser.specs.Answering.{nodes_trees}
 use Rattle.eql_parser.proofs.Parts.{not_folding, not_two_arguments, just_two_arguments}
 use Rattle.eql_parser.proofs.parser.called.is_based.Goals as goal

@@ -2,8 +2,8 @@ use Rattle.std.proofs.Common.{◌-◌, ◌+◌, ◌++◌, ◌∷◌, [], length,
 use Rattle.std.proofs.lemmas.Result.{err_from_is_err_and}
 use Rattle.std.specs.Str.{chars}
 use Rattle.eql_parser.specs.Kinds.{kinds, and_, or_, adds, multiplies}
-use Rattle.eql_parser.specs.Tree as tree
-use Rattle.eql_parser.specs.View.{trees_of}
+use Rattle.eql_query.specs.Tree as tree
+use Rattle.eql_query.specs.View.{trees_of}
 use Rattle.eql_parser.specs.Marks.{Lacks, mark_kind}
 use Rattle.eql_parser.specs.Answering.{node_tree, nodes_trees, onto, room, inner, operand, joint_test, joint_mark, call_read}
 use Rattle.eql_parser.specs.Reading.{then_do, res_map, separated, joined, closing, is_or, is_and, adds_of, multiplies_of, unary, prod, neg, conj}

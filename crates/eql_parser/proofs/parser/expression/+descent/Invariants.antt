@@ -1,6 +1,6 @@
 use Rattle.std.proofs.Common.{◌≡◌, ◌+◌, ◌*◌, ◌-◌, length}
 use Rattle.eql_parser.specs.Kinds.{kinds}
-use Rattle.eql_parser.specs.View.{tree}
+use Rattle.eql_query.specs.View.{tree}
 use Rattle.eql_parser.specs.Answering.{room, inner, onto, joint_test, operand, nodes_trees, IsNode, IsNodes}
 use Rattle.eql_parser.specs.Reading.{separated, chain_from, adds_of, multiplies_of, unary, prod, sum}
 use Rattle.eql_parser.proofs.parser.expression.«+descent».Given as goal

@@ -2,7 +2,7 @@ use Rattle.std.proofs.Common.{◌∷◌, Ok, refl, sym, ap, ◌∙◌}
 use Rattle.eql_parser.specs.Kinds.{kinds, name, back, question_}
 use Rattle.std.specs.Str.{chars}
 use Rattle.std.specs.Option.{option_map}
-use Rattle.eql_parser.specs.View.{tree}
+use Rattle.eql_query.specs.View.{tree}
 use Rattle.eql_parser.specs.Pieces.{piece_kind}
 use Rattle.eql_parser.specs.Answering.{node_tree, room, inner}
 use Rattle.eql_parser.specs.Reading.{at_level, prim}

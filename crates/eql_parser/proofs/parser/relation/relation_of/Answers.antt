@@ -1,7 +1,7 @@
 use Rattle.std.proofs.Common.{◌∷◌, refl, false, sym, ap, ◌∙◌, if◌then◌else◌, codes, Err}
 use Rattle.eql_parser.specs.Kinds.{kinds, matches, in_, not_, regex_}
-use Rattle.eql_parser.specs.Tree as t
-use Rattle.eql_parser.specs.View.{tree}
+use Rattle.eql_query.specs.Tree as t
+use Rattle.eql_query.specs.View.{tree}
 use Rattle.eql_parser.specs.Pieces.{piece_kind}
 use Rattle.eql_parser.specs.Answering.{node_tree, room, inner}
 use Rattle.eql_parser.specs.Reading.{LeftOut, above, behind_sum, behind_not, members, patterns, res_map}

@@ -1,7 +1,7 @@
 use Rattle.std.proofs.Common.{◌-◌, ◌+◌, ◌∷◌, [], length, map, codes, ap, ◌∙◌, arith}
 use Rattle.std.proofs.lemmas.List.{map-append}
 use Rattle.eql_parser.specs.Kinds.{kinds}
-use Rattle.eql_parser.specs.QueryTree.{term_tree}
+use Rattle.eql_query.specs.QueryTree.{term_tree}
 use Rattle.eql_parser.specs.Reading.{expr}
 use Rattle.eql_parser.specs.QueryReading.{most_open, most_levels}
 use Rattle.eql_parser.proofs.Defaults.{length_kinds}

@@ -1,6 +1,6 @@
 use Rattle.std.proofs.Common.{codes, sym}
 use Rattle.eql_parser.specs.Kinds.{kinds}
-use Rattle.eql_parser.specs.QueryTree.{term_tree}
+use Rattle.eql_query.specs.QueryTree.{term_tree}
 use Rattle.eql_parser.specs.Reading.{expr}
 use Rattle.eql_parser.specs.QueryReading.{most_open, most_levels}
 use Rattle.eql_parser.proofs.Parts.{as_read, stops_by}

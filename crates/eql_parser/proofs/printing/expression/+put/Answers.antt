@@ -1,6 +1,6 @@
 use Rattle.std.proofs.Common.{refl, rules, map}
 use Rattle.eql_parser.specs.Printed.{shown, all_shown}
-use Rattle.eql_parser.specs.View.{tree, trees_of}
+use Rattle.eql_query.specs.View.{tree, trees_of}
 use Rattle.std.proofs.lemmas.Str.{IsUtf8-from_ascii}
 use Rattle.eql_parser.proofs.Lists.{joined}
 use Rattle.eql_parser.proofs.Pages.{each_ascii}

@@ -3,7 +3,7 @@ use denote.Text.{Utf8}
 use denote.Shadow.{shadow}
 use Rattle.eql_parser.specs.Adding.{all_ascii}
 use Rattle.eql_parser.specs.Printed.{all_shown}
-use Rattle.eql_parser.specs.View.{tree, trees_of}
+use Rattle.eql_query.specs.View.{tree, trees_of}
 use Rattle.eql_parser.proofs.Lists.{led}
 use Rattle.eql_parser.proofs.printing.expression.+put.Given as goal
 

@@ -1,6 +1,6 @@
 use Rattle.std.proofs.Common.{◌≡◌, ℕ, List, ◌++◌, drop, map}
 use Rattle.eql_parser.specs.Printed.{items_shown}
-use Rattle.eql_parser.specs.QueryTree.{term_tree}
+use Rattle.eql_query.specs.QueryTree.{term_tree}
 use Rattle.eql_parser.proofs.printing.term.put_items.Given as goal
 
 abbrev pub invariant-loop-item : goal.invariant-loop-item

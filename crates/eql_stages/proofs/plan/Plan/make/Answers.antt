@@ -1,6 +1,6 @@
 use Rattle.std.proofs.Common.{◌≡◌, length, map, ap, ◌∙◌, arith}
-use Rattle.eql_parser.specs.declared.query.Query.{Query}
-use Rattle.eql_parser.specs.QueryTree.{query_tree}
+use Rattle.eql_query.specs.declared.query.Query.{Query}
+use Rattle.eql_query.specs.QueryTree.{query_tree}
 use Rattle.eql_stages.specs.Stages.{stages_in, pipe_of}
 use Rattle.eql_stages.proofs.Counted.{stages_between}
 use Rattle.eql_stages.proofs.plan.Plan.make.Goals as goal

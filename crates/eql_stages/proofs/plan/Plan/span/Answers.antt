@@ -3,7 +3,7 @@ use Rattle.eql_laws.specs.Alive.{IsSpan}
 use Rattle.eql_check.specs.Checks.{CheckedQuery}
 use Rattle.eql_check.specs.Rules.{span_of}
 use Rattle.eql_check.specs.Typing.{may_span}
-use Rattle.eql_parser.specs.QueryTree.{query_tree}
+use Rattle.eql_query.specs.QueryTree.{query_tree}
 use Rattle.eql_stages.proofs.Counted.{span_is}
 use Rattle.eql_stages.proofs.plan.Plan.span.Goals as goal
 

@@ -1,6 +1,6 @@
 //! Expressions, and lists of them.
 ghost use Rattle.std.specs.Prelude.{◌≡◌, map};
-ghost use Rattle.eql_parser.specs.View.{tree, trees, trees_of};
+ghost use Rattle.eql_query.specs.View.{tree, trees, trees_of};
 
 use eql_values::{Literals, Text, Texts};
 use std::marker::Model;
@@ -65,7 +65,7 @@ pub struct FieldRefs {
 
 impl Model for FieldRefs {
     ghost use Rattle.std.specs.Prelude.{List};
-    ghost use Rattle.eql_parser.specs.declared.expr.FieldRef.{FieldRef};
+    ghost use Rattle.eql_query.specs.declared.expr.FieldRef.{FieldRef};
 
     ghost Value = { List FieldRef };
 

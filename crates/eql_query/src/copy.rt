@@ -1,7 +1,7 @@
 //! Copies of queries and of their parts.
 ghost use Rattle.std.specs.Prelude.{◌≡◌, map, option_map, IfOk};
-ghost use Rattle.eql_parser.specs.View.{tree, trees};
-ghost use Rattle.eql_parser.specs.QueryTree.{body_tree, query_tree, term_tree};
+ghost use Rattle.eql_query.specs.View.{tree, trees};
+ghost use Rattle.eql_query.specs.QueryTree.{body_tree, query_tree, term_tree};
 
 use crate::expr::{Expr, Exprs, FieldRef, FieldRefs};
 use crate::query::{Body, PipeTexts, Query, Term, Terms};

@@ -1,10 +1,10 @@
 -- The parts of what a query looks for.
 use Rattle.std.specs.Prelude.{List, Option, Some, None}
-use Rattle.eql_parser.specs.declared.expr.FieldRef.{FieldRef}
-use Rattle.eql_parser.specs.declared.query.Term.{Term}
-use Rattle.eql_parser.specs.declared.query.Span.{Span}
-use Rattle.eql_parser.specs.declared.query.Body.{Body}
-use Rattle.eql_parser.specs.declared.query.Body.TheVariants.{Event, Sequence}
+use Rattle.eql_query.specs.declared.expr.FieldRef.{FieldRef}
+use Rattle.eql_query.specs.declared.query.Term.{Term}
+use Rattle.eql_query.specs.declared.query.Span.{Span}
+use Rattle.eql_query.specs.declared.query.Body.{Body}
+use Rattle.eql_query.specs.declared.query.Body.TheVariants.{Event, Sequence}
 
 -- the term of a query for single events
 abbrev pub event_of : Body → Option Term

@@ -1,9 +1,9 @@
 -- Expressions as trees without pointers, one constructor for each variant.
 use Rattle.std.specs.Prelude.{ℕ, ℤ, List, Bool}
 use Rattle.eql_values.specs.declared.value.Value.{Value}
-use Rattle.eql_parser.specs.declared.expr.CmpOp.{CmpOp}
-use Rattle.eql_parser.specs.declared.expr.PatOp.{PatOp}
-use Rattle.eql_parser.specs.declared.expr.MathOp.{MathOp}
+use Rattle.eql_query.specs.declared.expr.CmpOp.{CmpOp}
+use Rattle.eql_query.specs.declared.expr.PatOp.{PatOp}
+use Rattle.eql_query.specs.declared.expr.MathOp.{MathOp}
 
 mutual
   pub data Tree : Type 0 where

@@ -1,6 +1,6 @@
 //! Queries and their parts.
 ghost use Rattle.std.specs.Prelude.{◌≡◌};
-ghost use Rattle.eql_parser.specs.Bodies.{event_of, sequence_of};
+ghost use Rattle.eql_query.specs.Bodies.{event_of, sequence_of};
 
 use crate::expr::{Expr, FieldRefs};
 use eql_values::Text;
@@ -43,8 +43,8 @@ pub struct Terms {
 impl Model for Terms {
     ghost use Rattle.std.specs.Prelude.{List};
     ghost use Rattle.std.specs.Coded.{codes};
-    ghost use Rattle.eql_parser.specs.declared.query.Term.{Term};
-    ghost use Rattle.eql_parser.specs.contracts.expr.Expr as e;
+    ghost use Rattle.eql_query.specs.declared.query.Term.{Term};
+    ghost use Rattle.eql_query.specs.contracts.expr.Expr as e;
 
     ghost Value = { List Term };
 
@@ -117,7 +117,7 @@ pub struct PipeTexts {
 
 impl Model for PipeTexts {
     ghost use Rattle.std.specs.Prelude.{List};
-    ghost use Rattle.eql_parser.specs.declared.query.PipeText.{PipeText};
+    ghost use Rattle.eql_query.specs.declared.query.PipeText.{PipeText};
 
     ghost Value = { List PipeText };
 

@@ -1,15 +1,15 @@
 -- Queries as trees without pointers, and the tree that a query stands for.
 use Rattle.std.specs.Prelude.{ℕ, ℤ, List, map, Option}
 use Rattle.std.specs.Option.{option_map}
-use Rattle.eql_parser.specs.Tree.{Tree}
-use Rattle.eql_parser.specs.View.{tree}
-use Rattle.eql_parser.specs.declared.expr.FieldRef.{FieldRef}
-use Rattle.eql_parser.specs.declared.query.Term.{Term}
-use Rattle.eql_parser.specs.declared.query.Span.{Span}
-use Rattle.eql_parser.specs.declared.query.PipeText.{PipeText}
-use Rattle.eql_parser.specs.declared.query.Body.{Body}
-use Rattle.eql_parser.specs.declared.query.Body.TheVariants.{Event, Sequence}
-use Rattle.eql_parser.specs.declared.query.Query.{Query}
+use Rattle.eql_query.specs.Tree.{Tree}
+use Rattle.eql_query.specs.View.{tree}
+use Rattle.eql_query.specs.declared.expr.FieldRef.{FieldRef}
+use Rattle.eql_query.specs.declared.query.Term.{Term}
+use Rattle.eql_query.specs.declared.query.Span.{Span}
+use Rattle.eql_query.specs.declared.query.PipeText.{PipeText}
+use Rattle.eql_query.specs.declared.query.Body.{Body}
+use Rattle.eql_query.specs.declared.query.Body.TheVariants.{Event, Sequence}
+use Rattle.eql_query.specs.declared.query.Query.{Query}
 
 -- a category, where it isn't `any`, a condition, key fields and runs
 pub record TermTree : Type 0 where

@@ -1,10 +1,10 @@
 -- The tree that an expression stands for.
 use Rattle.std.specs.Prelude.{List, [], ◌∷◌}
-use Rattle.eql_parser.specs.Tree.{Tree, Trees, none, more}
-use Rattle.eql_parser.specs.Tree as t
-use Rattle.eql_parser.specs.declared.expr.Expr.{Expr, fold-Expr}
-use Rattle.eql_parser.specs.declared.expr.Exprs.{Exprs, fold-Exprs}
-use Rattle.eql_parser.specs.declared.expr.Expr.TheOpen.{Expr-F, Exprs-F}
+use Rattle.eql_query.specs.Tree.{Tree, Trees, none, more}
+use Rattle.eql_query.specs.Tree as t
+use Rattle.eql_query.specs.declared.expr.Expr.{Expr, fold-Expr}
+use Rattle.eql_query.specs.declared.expr.Exprs.{Exprs, fold-Exprs}
+use Rattle.eql_query.specs.declared.expr.Expr.TheOpen.{Expr-F, Exprs-F}
 
 -- a list of trees as one
 abbrev pub trees_of : List Tree → Trees
