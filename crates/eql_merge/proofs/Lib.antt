@@ -1,3 +1,4 @@
-mod Fronts
+mod Pairs
 mod Splits
+mod Standing
 mod Ends

@@ -1,12 +1,12 @@
--- Lists of lists in two halves.
-use Rattle.std.proofs.Common.{◌≡◌, ◌∙◌, Bool, true, false, cond, List, [], ◌∷◌, ◌++◌, take, drop, length, Some, ℕ, refl, sym, ap, subst, arith}
+-- Lists of lists in two parts.
+use Rattle.std.proofs.Common.{◌≡◌, ◌∙◌, Bool, true, false, cond, List, [], ◌∷◌, ◌++◌, take, drop, Some, ℕ, refl, sym, ap, subst}
 use Rattle.std.specs.Prelude.{All, ◌||◌, is_some}
 use Rattle.std.specs.List.{find}
 use Rattle.std.specs.Cmp.{IsTotalOrder}
 use Rattle.std.specs.Ordering.{eq_by_cmp}
 use Rattle.std.specs.declared.cmp.Ordering.{Ordering}
 use Rattle.std.specs.declared.cmp.Ordering.TheVariants.{Equal}
-use Rattle.std.proofs.lemmas.List.{append_assoc, append-nil, take-append-drop}
+use Rattle.std.proofs.lemmas.List.{append_assoc, take-append-drop}
 use Rattle.std.proofs.lemmas.List.Folds.{list_any-append}
 use Rattle.std.proofs.lemmas.List.Elements.{All-nil, All-cons, All-head, All-tail}
 use Rattle.eql_values.specs.Ordered.{found_or}
@@ -16,17 +16,17 @@ use Rattle.eql_merge.specs.Ranks.{Ascends, NoTie, NoTies, IsOfOneRank, SameFirst
 use Rattle.eql_laws.specs.Apart.{NoKeyInOthers}
 
 module _ {X : Type 0} (R : X → X → Ordering) where
-  joined-append : (a b : List (List X)) → joined (a ++ b) ≡ joined a ++ joined b
+  pub joined-append : (a b : List (List X)) → joined (a ++ b) ≡ joined a ++ joined b
   joined-append [] b = refl
   joined-append (xs ∷ a) b = ap (λ (rest : List X). xs ++ rest) (joined-append a b) ∙ sym (append_assoc xs (joined a) (joined b))
 
-  abbrev has : X → List X → Bool
+  abbrev pub has : X → List X → Bool
   has = has_key R (λ (x : X). x)
 
-  abbrev NoTieWith : List X → List (List X) → Type 0
+  abbrev pub NoTieWith : List X → List (List X) → Type 0
   NoTieWith = NoKeyInOthers R (λ (x : X). x)
 
-  has-append : (k : X) (a b : List X) → has k (a ++ b) ≡ (has k a || has k b)
+  pub has-append : (k : X) (a b : List X) → has k (a ++ b) ≡ (has k a || has k b)
   has-append k a b = list_any-append (λ (x : X). eq_by_cmp R k x) a b
 
   neither : (a b : Bool) → a ≡ false → b ≡ false → (a || b) ≡ false
@@ -34,11 +34,11 @@ module _ {X : Type 0} (R : X → X → Ordering) where
   neither false b e f = f
 
   -- a list apart from each of several is apart from them joined
-  apart_joined : (a : List X) (b : List (List X)) → NoTieWith a b → NoTie R a (joined b)
+  pub apart_joined : (a : List X) (b : List (List X)) → NoTieWith a b → NoTie R a (joined b)
   apart_joined a [] h k e = refl
   apart_joined a (xs ∷ b) h k e = has-append k xs (joined b) ∙ neither (has k xs) (has k (joined b)) (h.0 k e) (apart_joined a b h.1 k e)
 
-  apart_parts : (a : List X) (b c : List (List X)) → NoTieWith a (b ++ c) → NoTieWith a b × NoTieWith a c
+  pub apart_parts : (a : List X) (b c : List (List X)) → NoTieWith a (b ++ c) → NoTieWith a b × NoTieWith a c
   apart_parts a [] c h = (tt, h)
   apart_parts a (xs ∷ b) c h = let rest = apart_parts a b c h.1 in ((h.0, rest.0), rest.1)
 
@@ -54,7 +54,7 @@ module _ {X : Type 0} (R : X → X → Ordering) where
     pub later : NoTies R b
     pub both : NoTie R (joined a) (joined b)
 
-  split_apart : (a b : List (List X)) → NoTies R (a ++ b) → AreApart a b
+  pub split_apart : (a b : List (List X)) → NoTies R (a ++ b) → AreApart a b
   split_apart [] b h = record { earlier = tt; later = h; both = λ k e. cc }
   split_apart (xs ∷ a) b h =
       let rest = split_apart a b h.1 in
@@ -65,17 +65,17 @@ module _ {X : Type 0} (R : X → X → Ordering) where
   all_first [] b h = All-nil (Ascends R)
   all_first (xs ∷ a) b h = All-cons (Ascends R) xs a (All-head (Ascends R) xs (a ++ b) h) (all_first a b (All-tail (Ascends R) xs (a ++ b) h))
 
-  all_last : (a b : List (List X)) → All (Ascends R) (a ++ b) → All (Ascends R) b
+  pub all_last : (a b : List (List X)) → All (Ascends R) (a ++ b) → All (Ascends R) b
   all_last [] b h = h
   all_last (xs ∷ a) b h = all_last a b (All-tail (Ascends R) xs (a ++ b) h)
 
-  pub record HalvesStand (n : ℕ) (lists : List (List X)) : Type 0 where
+  pub record PartsStand (n : ℕ) (lists : List (List X)) : Type 0 where
     pub earlier_ascend : All (Ascends R) (take n lists)
     pub later_ascend : All (Ascends R) (drop n lists)
     pub apart : AreApart (take n lists) (drop n lists)
 
-  pub halves_stand : (n : ℕ) (lists : List (List X)) → All (Ascends R) lists → NoTies R lists → HalvesStand n lists
-  halves_stand n lists up h =
+  pub parts_stand : (n : ℕ) (lists : List (List X)) → All (Ascends R) lists → NoTies R lists → PartsStand n lists
+  parts_stand n lists up h =
       let whole : All (Ascends R) (take n lists ++ drop n lists) = subst (All (Ascends R)) (sym (take-append-drop n lists)) up in
       record {
         earlier_ascend = all_first (take n lists) (drop n lists) whole;
@@ -83,16 +83,8 @@ module _ {X : Type 0} (R : X → X → Ordering) where
         apart = split_apart (take n lists) (drop n lists) (subst (NoTies R) (sym (take-append-drop n lists)) h);
       }
 
-  -- a list alone
-  pub one_joined : (lists rest : List (List X)) (only : List X) → lists ≡ only ∷ rest → length rest ≡ 0 → All (Ascends R) lists → Ascends R only × (only ≡ joined lists)
-  one_joined lists [] only e none up = (
-    All-head (Ascends R) only [] (subst (All (Ascends R)) e up),
-    sym (append-nil only) ∙ ap joined (sym e),
-  )
-  one_joined lists (xs ∷ rest) only e none up = absurd (omega arith)
-
   -- what is found in two lists
-  find-both : (test : X → Bool) (xs ys : List X) → find test (xs ++ ys) ≡ found_or (find test xs) (find test ys)
+  pub find-both : (test : X → Bool) (xs ys : List X) → find test (xs ++ ys) ≡ found_or (find test xs) (find test ys)
   find-both test [] ys = refl
   find-both test (x ∷ xs) ys = one (test x) (find-both test xs ys)
     where
@@ -100,16 +92,6 @@ module _ {X : Type 0} (R : X → X → Ordering) where
           → cond b (Some x) (find test (xs ++ ys)) ≡ found_or (cond b (Some x) (find test xs)) (find test ys)
       one true e = refl
       one false e = e
-
-  pub halves_merged : (n : ℕ) (lists : List (List X)) (earlier later all : List X) → SameFirsts R (joined (take n lists)) earlier → SameFirsts R (joined (drop n lists)) later
-      → SameFirsts R (earlier ++ later) all → SameFirsts R (joined lists) all
-  halves_merged n lists earlier later all p q whole test one =
-      ap (λ (l : List (List X)). find test (joined l)) (sym (take-append-drop n lists))
-      ∙ ap (find test) (joined-append (take n lists) (drop n lists))
-      ∙ find-both test (joined (take n lists)) (joined (drop n lists))
-      ∙ (λ i. found_or (p test one i) (q test one i))
-      ∙ sym (find-both test earlier later)
-      ∙ whole test one
 
   module _ (total : IsTotalOrder R) where
     ties : (o p : Ordering) → o ≡ Equal → p ≡ Equal → o ≡ p

@@ -2,7 +2,8 @@
 //! one from each part of the keys.
 #![tactic(auto)]
 
-mod halves;
+mod fronts;
+mod groups;
 mod lists;
 mod pair;
 mod ranked;

@@ -7,7 +7,7 @@ ghost use Rattle.eql_laws.specs.Apart.{AllApart, joined, InMatchOrder, MatchesAp
 ghost use Rattle.eql_laws.specs.Merging.{in_match_order, in_slot_order};
 ghost use Rattle.eql_merge.specs.Ranks.{HoldersApart};
 
-use crate::halves::merge_halves;
+use crate::groups::merge_all;
 use crate::run::Run;
 use eql_laws::below_ascends;
 use eql_values::{Holder, Holders, Item, ItemLists, Items, Match, Matches, Memory};
@@ -57,7 +57,7 @@ pub fn merge(alloc: Global, lists: ItemLists) -> Result<Items, Memory>
     ensures ascends { IfOk result Ascending }
 {
     let runs = item_runs(alloc, lists)?;
-    let all = merge_halves(alloc, runs)?;
+    let all = merge_all(alloc, runs)?;
     below_ascends();
     Ok(Items::of(all))
 }
@@ -71,7 +71,7 @@ pub fn merge_matches(alloc: Global, lists: Vec<Matches>) -> Result<Matches, Memo
     ensures in_order { IfOk result InMatchOrder }
 {
     let runs = match_runs(alloc, lists)?;
-    let all = merge_halves(alloc, runs)?;
+    let all = merge_all(alloc, runs)?;
     Ok(Matches::of(all))
 }
 
@@ -84,6 +84,6 @@ pub fn merge_holders(alloc: Global, lists: Vec<Holders>) -> Result<Holders, Memo
     ensures in_order { IfOk result HoldersInOrder }
 {
     let runs = holder_runs(alloc, lists)?;
-    let all = merge_halves(alloc, runs)?;
+    let all = merge_all(alloc, runs)?;
     Ok(Holders::of(all))
 }

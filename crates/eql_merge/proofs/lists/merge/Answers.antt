@@ -7,11 +7,11 @@ use Rattle.eql_merge.specs.Ranks.{Ascends, NoTies, SameFirsts, item_rank}
 use Rattle.eql_merge.proofs.Ends.{items_ascend, items_apart, items_merged, all_ascends}
 use Rattle.eql_merge.proofs.lists.merge.Goals as goal
 
-pub merge_halves-requires-clause-ascend : goal.merge_halves-requires-clause-ascend
-merge_halves-requires-clause-ascend c = subst (All (Ascends item_rank)) (sym (c.in_ok-runs.ensures {u = tt})) (items_ascend c.args.lists c.requires.ascend)
+pub merge_all-requires-clause-ascend : goal.merge_all-requires-clause-ascend
+merge_all-requires-clause-ascend c = subst (All (Ascends item_rank)) (sym (c.in_ok-runs.ensures {u = tt})) (items_ascend c.args.lists c.requires.ascend)
 
-pub merge_halves-requires-clause-apart : goal.merge_halves-requires-clause-apart
-merge_halves-requires-clause-apart c = subst (NoTies item_rank) (sym (c.in_ok-runs.ensures {u = tt})) (items_apart c.args.lists c.requires.apart)
+pub merge_all-requires-clause-apart : goal.merge_all-requires-clause-apart
+merge_all-requires-clause-apart c = subst (NoTies item_rank) (sym (c.in_ok-runs.ensures {u = tt})) (items_apart c.args.lists c.requires.apart)
 
 pub returns-clause-sorted : goal.returns-clause-sorted
 returns-clause-sorted c =

@@ -7,11 +7,11 @@ use Rattle.eql_merge.specs.Ranks.{Ascends, NoTies, SameFirsts, holder_rank}
 use Rattle.eql_merge.proofs.Ends.{holders_ascend, holders_apart, holders_merged, holders_stand}
 use Rattle.eql_merge.proofs.lists.merge_holders.Goals as goal
 
-pub merge_halves-requires-clause-ascend : goal.merge_halves-requires-clause-ascend
-merge_halves-requires-clause-ascend c = subst (All (Ascends holder_rank)) (sym (c.in_ok-runs.ensures {u = tt})) (holders_ascend c.args.lists.items c.requires.in_order)
+pub merge_all-requires-clause-ascend : goal.merge_all-requires-clause-ascend
+merge_all-requires-clause-ascend c = subst (All (Ascends holder_rank)) (sym (c.in_ok-runs.ensures {u = tt})) (holders_ascend c.args.lists.items c.requires.in_order)
 
-pub merge_halves-requires-clause-apart : goal.merge_halves-requires-clause-apart
-merge_halves-requires-clause-apart c = subst (NoTies holder_rank) (sym (c.in_ok-runs.ensures {u = tt})) (holders_apart c.args.lists.items c.requires.apart)
+pub merge_all-requires-clause-apart : goal.merge_all-requires-clause-apart
+merge_all-requires-clause-apart c = subst (NoTies holder_rank) (sym (c.in_ok-runs.ensures {u = tt})) (holders_apart c.args.lists.items c.requires.apart)
 
 pub returns-clause-sorted : goal.returns-clause-sorted
 returns-clause-sorted c =

@@ -6,11 +6,11 @@ use Rattle.eql_merge.specs.Ranks.{Ascends, NoTies, SameFirsts, match_rank}
 use Rattle.eql_merge.proofs.Ends.{matches_ascend, matches_apart, matches_merged, matches_stand}
 use Rattle.eql_merge.proofs.lists.merge_matches.Goals as goal
 
-pub merge_halves-requires-clause-ascend : goal.merge_halves-requires-clause-ascend
-merge_halves-requires-clause-ascend c = subst (All (Ascends match_rank)) (sym (c.in_ok-runs.ensures {u = tt})) (matches_ascend c.args.lists.items c.requires.in_order)
+pub merge_all-requires-clause-ascend : goal.merge_all-requires-clause-ascend
+merge_all-requires-clause-ascend c = subst (All (Ascends match_rank)) (sym (c.in_ok-runs.ensures {u = tt})) (matches_ascend c.args.lists.items c.requires.in_order)
 
-pub merge_halves-requires-clause-apart : goal.merge_halves-requires-clause-apart
-merge_halves-requires-clause-apart c = subst (NoTies match_rank) (sym (c.in_ok-runs.ensures {u = tt})) (matches_apart c.args.lists.items c.requires.apart)
+pub merge_all-requires-clause-apart : goal.merge_all-requires-clause-apart
+merge_all-requires-clause-apart c = subst (NoTies match_rank) (sym (c.in_ok-runs.ensures {u = tt})) (matches_apart c.args.lists.items c.requires.apart)
 
 pub returns-clause-sorted : goal.returns-clause-sorted
 returns-clause-sorted c =

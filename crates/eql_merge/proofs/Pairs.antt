@@ -32,7 +32,7 @@ module _ {X : Type 0} (R : X → X → Ordering) where
     pub apart : NoTie R left right
     pub firsts : SameFirsts R whole (merged ++ (left ++ right))
 
-  find_front : (test : X → Bool) (m xs ys : List X) → find test xs ≡ find test ys → find test (m ++ xs) ≡ find test (m ++ ys)
+  pub find_front : (test : X → Bool) (m xs ys : List X) → find test xs ≡ find test ys → find test (m ++ xs) ≡ find test (m ++ ys)
   find_front test [] xs ys e = e
   find_front test (x ∷ m) xs ys e = ap (λ (o : Option X). cond (test x) (Some x) o) (find_front test m xs ys e)
 
@@ -45,23 +45,23 @@ module _ {X : Type 0} (R : X → X → Ordering) where
     λ test one. on.firsts test one ∙ ap (find test) (append-nil merged),
   )
 
-  last_part : (m xs : List X) → Ascends R (m ++ xs) → Ascends R xs
+  pub last_part : (m xs : List X) → Ascends R (m ++ xs) → Ascends R xs
   last_part [] xs h = h
   last_part (x ∷ m) xs h = last_part m xs h.1
 
-  first_with : (y x : X) (m l r : List X) → StandsFirst R y (m ++ l) → StandsFirst R y (m ++ x ∷ r) → StandsFirst R y (m ++ x ∷ l)
+  pub first_with : (y x : X) (m l r : List X) → StandsFirst R y (m ++ l) → StandsFirst R y (m ++ x ∷ r) → StandsFirst R y (m ++ x ∷ l)
   first_with y x [] l r p q = (q.0, p)
   first_with y x (z ∷ m) l r p q = (p.0, first_with y x m l r p.1 q.1)
 
   -- a value that stands behind what was merged and before a list
-  ascends_with : (m : List X) (x : X) (l r : List X) → Ascends R (m ++ l) → Ascends R (m ++ x ∷ r) → StandsFirst R x l → Ascends R (m ++ x ∷ l)
+  pub ascends_with : (m : List X) (x : X) (l r : List X) → Ascends R (m ++ l) → Ascends R (m ++ x ∷ r) → StandsFirst R x l → Ascends R (m ++ x ∷ l)
   ascends_with [] x l r p q first = (first, p)
   ascends_with (y ∷ m) x l r p q first = (first_with y x m l r p.0 q.0, ascends_with m x l r p.1 q.1 first)
 
-  one_on : (m : List X) (x : X) (l : List X) → m ++ x ∷ l ≡ (m ++ x ∷ []) ++ l
+  pub one_on : (m : List X) (x : X) (l : List X) → m ++ x ∷ l ≡ (m ++ x ∷ []) ++ l
   one_on m x l = sym (append_assoc m (x ∷ []) l)
 
-  no_tie_tail : (x : X) (l r : List X) → NoTie R (x ∷ l) r → NoTie R l r
+  pub no_tie_tail : (x : X) (l r : List X) → NoTie R (x ∷ l) r → NoTie R l r
   no_tie_tail x l r apart k there = apart k (pass (eq_by_cmp R k x) (has_key R (λ (y : X). y) k l) there)
     where
       pass : (a b : Bool) → b ≡ true → (a || b) ≡ true
@@ -76,7 +76,7 @@ module _ {X : Type 0} (R : X → X → Ordering) where
     first_on x y [] lt h = tt
     first_on x y (z ∷ ys) lt h = (total.trans x y z lt h.0, first_on x y ys lt h.1)
 
-    is_less : (o : Ordering) → is_lt o ≡ true → o ≡ Less
+    pub is_less : (o : Ordering) → is_lt o ≡ true → o ≡ Less
     is_less Less e = refl
     is_less Equal e = cc
     is_less Greater e = cc
@@ -87,12 +87,12 @@ module _ {X : Type 0} (R : X → X → Ordering) where
     less_of Greater a b = cc
 
     -- the first of the later list comes before the earlier one
-    later_first : (l : List X) (x : X) (r : List X) → Ascends R l → later_is_first R l (x ∷ r) ≡ true → StandsFirst R x l
+    pub later_first : (l : List X) (x : X) (r : List X) → Ascends R l → later_is_first R l (x ∷ r) ≡ true → StandsFirst R x l
     later_first [] x r up least = tt
     later_first (a ∷ l) x r up least = let lt = is_less (R x a) least in (lt, first_on x a l lt up.0)
 
     -- and that of the earlier list before the later one
-    earlier_first : (x : X) (l r : List X) → Ascends R r → NoTie R (x ∷ l) r → later_is_first R (x ∷ l) r ≡ false → StandsFirst R x r
+    pub earlier_first : (x : X) (l r : List X) → Ascends R r → NoTie R (x ∷ l) r → later_is_first R (x ∷ l) r ≡ false → StandsFirst R x r
     earlier_first x l [] up apart least = tt
     earlier_first x l (b ∷ r) up apart least =
         let here : has_key R (λ (y : X). y) x (x ∷ l) ≡ true = ap (λ (c : Bool). c || has_key R (λ (y : X). y) x l) ((eq_by_cmp_equiv total).refl x) in
