@@ -1,5 +1,5 @@
 //! The machine on the events of a worked example, and at its greatest number of stages.
-ghost use Rattle.std.specs.Prelude.{◌≡◌, ◌+◌, ◌<◌, [], IfOk};
+ghost use Rattle.std.specs.Prelude.{◌≡◌, ◌+◌, ◌<◌, [], IfOk, OnOk};
 ghost use Rattle.eql_matching_tests.specs.Played.{at_line, AllFrom};
 
 use eql_auto::{Auto, Steps};
@@ -23,18 +23,22 @@ fn event_at(line: u32) -> OrderKey
     }
 }
 
+/// The number with this bit alone, counted from 0, or 0 where it has no such bit.
+fn bit(place: u32) -> u128 {
+    1u128.checked_shl(place).unwrap_or(0)
+}
+
 /// The mask of one stage, or of none for 0.
 fn mask_of(stage: u32) -> Mask {
-    match stage {
-        1..=128 => Mask {
-            low: 1 << (stage - 1),
-            high: 0,
+    match stage.checked_sub(1) {
+        None => Mask { low: 0, high: 0 },
+        Some(place) => Mask {
+            low: bit(place),
+            high: match place.checked_sub(128) {
+                Some(place) => bit(place),
+                None => 0,
+            },
         },
-        129..=256 => Mask {
-            low: 0,
-            high: 1 << (stage - 129),
-        },
-        _ => Mask { low: 0, high: 0 },
     }
 }
 
@@ -59,7 +63,8 @@ impl Told {
 
 /// Reads all tags of sequences that ceased, and adds them to these.
 fn read_ceased<L: Ledger>(machine: &mut Auto<u32, L>, ceased: &mut Vec<u32>) -> Result<(), Memory>
-    ensures { IfOk result (λ _. machine.new ≡ record machine.old { gone = [] }) }
+    ensures read { IfOk result (λ _. machine.new.gone ≡ []) }
+    ensures slots { machine.new.slots ≡ machine.old.slots }
 {
     while let Some(tag) = machine.next_gone() {
         ceased.push(tag)?;
@@ -67,14 +72,24 @@ fn read_ceased<L: Ledger>(machine: &mut Auto<u32, L>, ceased: &mut Vec<u32>) -> 
     Ok(())
 }
 
-/// Adds the lines of the events of a match, where there is one.
-fn add_lines(found: Option<Chain>, lines: &mut Vec<u32>) -> Result<(), Memory> {
-    if let Some(chain) = found {
-        for event in chain.items() {
-            lines.push(event.line)?;
-        }
+/// Adds the lines of the events of a match.
+fn add_lines(found: &Chain, lines: &mut Vec<u32>) -> Result<(), Memory> {
+    for event in found.items() {
+        lines.push(event.line)?;
     }
     Ok(())
+}
+
+/// Adds the lines of the events of a match, where there is one.
+fn add_match(found: Option<Chain>, lines: &mut Vec<u32>) -> Result<(), Memory> {
+    match found {
+        None => Ok(()),
+        Some(chain) => {
+            let added = add_lines(&chain, lines);
+            drop(chain);
+            added
+        }
+    }
 }
 
 /// Plays the event of a line, which fits one stage, or none for 0. The tag of a new sequence is the line.
@@ -95,7 +110,7 @@ fn play<L: Ledger>(
     let mask = mask_of(stage);
     let tag = mask.has(1).then_some(line);
     let found = machine.turn(event_at(line), mask, false, tag, steps);
-    add_lines(found, &mut told.matched)?;
+    add_match(found, &mut told.matched)?;
     read_ceased(machine, &mut told.ceased)
 }
 
@@ -158,14 +173,49 @@ fn only_pending<L: Ledger>(
 ) -> Result<Option<(u32, Option<u32>)>, Memory> {
     let holders = machine.holders(alloc)?;
     match holders.items().as_slice() {
-        [(stage, chain)] => Ok(Some((*stage, line_at(chain, 0)))),
+        [(stage, chain)] => Ok(Some((*stage, first_line(chain)))),
         _ => Ok(None),
     }
 }
 
-/// The line of an event of a chain.
-fn line_at(chain: &Chain, place: usize) -> Option<u32> {
-    chain.items().get(place).map(|event| event.line)
+/// The line of the first event of a chain.
+fn first_line(chain: &Chain) -> Option<u32> {
+    match chain.items().first() {
+        Some(event) => Some(event.line),
+        None => None,
+    }
+}
+
+/// Drops the sequences that are too old at a time, and sees which one alone is pending then, by its stage and line.
+fn check_expiry<R: Abort, L: Ledger>(
+    rt: &R,
+    alloc: Global,
+    machine: &mut Auto<u32, L>,
+    row: (i128, Option<(u32, Option<u32>)>),
+    told: &mut Told,
+    steps: &mut Steps<L>,
+) -> Result<(), Fail>
+    requires { machine.old.gone ≡ [] }
+    ensures { OnOk result (machine.new.gone ≡ []) }
+{
+    let (reach, pending) = row;
+    expire(machine, reach, told, steps)?;
+    assert_eq!(rt; only_pending(alloc, machine)?, pending);
+    Ok(())
+}
+
+/// The sequence of line 7 is pending at 27 nanoseconds, and too old at 28.
+fn check_expiries<R: Abort, L: Ledger>(
+    rt: &R,
+    alloc: Global,
+    machine: &mut Auto<u32, L>,
+    told: &mut Told,
+    steps: &mut Steps<L>,
+) -> Result<(), Fail>
+    requires { machine.old.gone ≡ [] }
+{
+    check_expiry(rt, alloc, machine, (27, Some((1, Some(7)))), told, steps)?;
+    check_expiry(rt, alloc, machine, (28, None), told, steps)
 }
 
 /// In the reference's example the events of lines 2, 4 and 9 are the user's one match, and that of line 7 stays pending
@@ -178,10 +228,9 @@ fn check_example<R: Abort, L: Ledger>(rt: &R, alloc: Global, blank: Blank) -> Re
     let mut told = Told::nothing(alloc);
     let mut machine = after_example(alloc, &mut told, &mut steps)?;
     assert_eq!(rt; told.matched.as_slice(), [2, 4, 9].as_slice());
-    expire(&mut machine, 27, &mut told, &mut steps)?;
-    assert_eq!(rt; only_pending(alloc, &machine)?, Some((1, Some(7))));
-    expire(&mut machine, 28, &mut told, &mut steps)?;
-    assert_eq!(rt; only_pending(alloc, &machine)?, None);
+    let expired = check_expiries(rt, alloc, &mut machine, &mut told, &mut steps);
+    drop(machine);
+    expired?;
     assert_eq!(rt; told.ceased.as_slice(), [1, 2, 7].as_slice());
     Ok(())
 }
@@ -213,14 +262,20 @@ fn a_match_may_have_256_events(rt: HostRuntime) -> Result<(), Fail> {
     check_each_stage::<HostRuntime, Brand>(&rt, rt.alloc(), Blank::new(1))
 }
 
-#[test]
-fn a_sequence_that_was_put_is_pending(rt: HostRuntime) -> Result<(), Fail> {
-    let alloc = rt.alloc();
-    let mut machine: Auto<u32, Brand> = Auto::new(alloc, 3, None)?;
-    machine.ready(alloc)?;
+/// The pending sequence of a machine into which one was put.
+fn only_put(alloc: Global) -> Result<Option<(u32, Option<u32>)>, Memory> {
     let mut events = Vec::new(alloc);
     events.push(event_at(5))?;
+    let mut machine: Auto<u32, Brand> = Auto::new(alloc, 3, None)?;
+    machine.ready(alloc)?;
     machine.put_holder(1, Chain::of(events), 50);
-    assert_eq!(rt; only_pending(alloc, &machine)?, Some((1, Some(5))));
+    let pending = only_pending(alloc, &machine);
+    drop(machine);
+    pending
+}
+
+#[test]
+fn a_sequence_that_was_put_is_pending(rt: HostRuntime) -> Result<(), Fail> {
+    assert_eq!(rt; only_put(rt.alloc())?, Some((1, Some(5))));
     Ok(())
 }

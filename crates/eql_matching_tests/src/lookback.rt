@@ -4,8 +4,11 @@ ghost use Rattle.eql_values.specs.Ascending.{AllAfter, Ascending};
 ghost use Rattle.eql_values.specs.Routes.{RoutesInOrder};
 
 use eql_lookback::find;
-use eql_values::{Item, Items, Key, Mask, Match, Memory, OrderKey, Route, Routes, Text, Value};
+use eql_values::{
+    Chain, Item, Items, Key, Mask, Matches, Memory, OrderKey, Route, Routes, Text, Value,
+};
 use std::alloc::{AllocError, Global};
+use std::fmt::Write;
 use std::process::Abort;
 use std::test::Fail;
 
@@ -17,6 +20,7 @@ pub(crate) enum Name {
     Empty,
     Root,
     Elkbee,
+    Nobody,
     Null,
     Seven,
 }
@@ -41,23 +45,37 @@ pub(crate) fn fits(ts: i128, key: Name, stages: u128) -> Event {
 }
 
 /// An event that fits stages and the until item.
-pub(crate) fn ends(ts: i128, stages: u128) -> Event {
+pub(crate) fn ends(ts: i128, key: Name, stages: u128) -> Event {
     Event {
         ts,
-        key: Name::Empty,
+        key,
         stages,
         until: true,
     }
 }
 
-pub(crate) fn key_of(alloc: Global, name: Name) -> Result<Key, Memory> {
-    let mut values = Vec::new(alloc);
+/// A text as a value.
+fn text(alloc: Global, characters: &str) -> Result<Option<Value>, Memory> {
+    Ok(Some(Value::Text(Text::of(String::from_str(alloc, characters)?))))
+}
+
+/// The one value of a key, where it has one.
+fn value_of(alloc: Global, name: Name) -> Result<Option<Value>, Memory> {
     match name {
-        Name::Empty => {}
-        Name::Root => values.push(Value::Text(Text::of(String::from_str(alloc, "root")?)))?,
-        Name::Elkbee => values.push(Value::Text(Text::of(String::from_str(alloc, "elkbee")?)))?,
-        Name::Null => values.push(Value::Null)?,
-        Name::Seven => values.push(Value::Long(7))?,
+        Name::Empty => Ok(None),
+        Name::Root => text(alloc, "root"),
+        Name::Elkbee => text(alloc, "elkbee"),
+        Name::Nobody => text(alloc, "nobody"),
+        Name::Null => Ok(Some(Value::Null)),
+        Name::Seven => Ok(Some(Value::Long(7))),
+    }
+}
+
+pub(crate) fn key_of(alloc: Global, name: Name) -> Result<Key, Memory> {
+    let value = value_of(alloc, name)?;
+    let mut values = Vec::new(alloc);
+    if let Some(value) = value {
+        values.push(value)?;
     }
     Ok(Key::of(values))
 }
@@ -114,30 +132,51 @@ pub(crate) fn ascend(items: &[Item]) -> bool
     }
 }
 
-fn show_value(alloc: Global, value: &Value) -> Result<String, AllocError> {
+/// Adds a value.
+fn push_value(shown: &mut String, value: &Value) -> Result<(), AllocError> {
     match value {
-        Value::Null => String::from_str(alloc, "null"),
-        Value::Bool(b) => format!(in alloc; "{b}"),
-        Value::Long(n) => format!(in alloc; "{n}"),
-        Value::Text(t) => t.text().clone(),
-        Value::Ip(n) => format!(in alloc; "{n}"),
+        Value::Null => shown.push_str("null"),
+        Value::Bool(b) => write!(shown, "{b}"),
+        Value::Long(n) => write!(shown, "{n}"),
+        Value::Text(t) => shown.push_str(t.text().as_str()),
+        Value::Ip(n) => write!(shown, "{n}"),
     }
 }
 
-/// The key of a match and the lines of its events.
-pub(crate) fn show_match(
-    alloc: Global,
-    found: &Match,
-    shown: &mut String,
-) -> Result<(), AllocError> {
-    for value in found.key.items() {
-        shown.push_str(show_value(alloc, value)?.as_str())?;
+/// Adds the values of a key.
+pub(crate) fn push_key(shown: &mut String, key: &Key) -> Result<(), AllocError> {
+    for value in key.items() {
+        push_value(shown, value)?;
     }
-    for event in found.chain.items() {
-        let line = event.line;
-        shown.push_str(format!(in alloc; " {line}")?.as_str())?;
+    Ok(())
+}
+
+/// Adds the lines of the events of a chain.
+pub(crate) fn push_chain(shown: &mut String, chain: &Chain) -> Result<(), AllocError> {
+    for event in chain.items() {
+        write!(shown, " {}", event.line)?;
     }
     shown.push_str(";")
+}
+
+/// Adds the keys of matches and the lines of their events.
+pub(crate) fn push_matches(shown: &mut String, found: &Matches) -> Result<(), AllocError> {
+    for found in found.items() {
+        push_key(shown, &found.key)?;
+        push_chain(shown, &found.chain)?;
+    }
+    Ok(())
+}
+
+/// The events, each on a line of its own, behind this line.
+pub(crate) fn items_of(alloc: Global, behind: u32, events: &[Event]) -> Result<Items, Fail> {
+    let mut items = Vec::new(alloc);
+    let mut line = behind;
+    for event in events {
+        line = line.checked_add(1).ok_or("lines")?;
+        items.push(item_of(alloc, line, *event)?)?;
+    }
+    Ok(Items::of(items))
 }
 
 /// The matches by these events.
@@ -148,21 +187,27 @@ pub(crate) fn shown(
     span: Option<i128>,
     events: &[Event],
 ) -> Result<String, Fail> {
-    let mut items = Vec::new(alloc);
-    let mut line = 0u32;
-    for event in events {
-        line = line.checked_add(1).ok_or("lines")?;
-        items.push(item_of(alloc, line, *event)?)?;
-    }
-    let items = Items::of(items);
+    let items = items_of(alloc, 0, events)?;
     assert!(rt; 1 <= stages && stages <= 256);
     assert!(rt; ascend(items.items()));
     let matches = find(alloc, &items, stages, span)?;
     let mut shown = String::new(alloc);
-    for found in matches.items() {
-        show_match(alloc, found, &mut shown)?;
-    }
+    push_matches(&mut shown, &matches)?;
     Ok(shown)
+}
+
+/// Sees that these are the matches by events.
+fn check<R: Abort>(
+    rt: &R,
+    alloc: Global,
+    stages: u32,
+    span: Option<i128>,
+    events: &[Event],
+    expected: &str,
+) -> Result<(), Fail> {
+    let found = shown(rt, alloc, stages, span, events)?;
+    assert_eq!(rt; found.as_str(), expected);
+    Ok(())
 }
 
 #[test]
@@ -180,8 +225,14 @@ fn the_references_example(rt: HostRuntime) -> Result<(), Fail> {
         fits(10, Name::Elkbee, 4),
         fits(11, Name::Root, 4),
     ];
-    let found = shown(&rt, rt.alloc(), 3, None, &events)?;
-    assert_eq!(rt; found.as_str(), "root 2 4 9;elkbee 6 8 10;");
+    check(
+        &rt,
+        rt.alloc(),
+        3,
+        None,
+        &events,
+        "root 2 4 9;elkbee 6 8 10;",
+    )?;
     Ok(())
 }
 
@@ -195,53 +246,50 @@ fn a_stage_that_runs(rt: HostRuntime) -> Result<(), Fail> {
         fits(4, Name::Empty, process),
         fits(5, Name::Empty, 8),
     ];
-    let found = shown(&rt, rt.alloc(), 4, None, &events)?;
-    assert_eq!(rt; found.as_str(), " 2 3 4 5;");
+    check(&rt, rt.alloc(), 4, None, &events, " 2 3 4 5;")?;
     Ok(())
 }
 
 #[test]
 fn until(rt: HostRuntime) -> Result<(), Fail> {
-    let between = [fits(1, Name::Empty, 1), ends(2, 0), fits(3, Name::Empty, 2)];
-    let found = shown(&rt, rt.alloc(), 2, None, &between)?;
-    assert_eq!(rt; found.as_str(), "");
-    let later = [fits(1, Name::Empty, 1), fits(2, Name::Empty, 2), ends(3, 0)];
-    let found = shown(&rt, rt.alloc(), 2, None, &later)?;
-    assert_eq!(rt; found.as_str(), " 1 2;");
-    let at_once = [fits(1, Name::Empty, 1), ends(2, 2)];
-    let found = shown(&rt, rt.alloc(), 2, None, &at_once)?;
-    assert_eq!(rt; found.as_str(), "");
-    Ok(())
+    let between = [
+        fits(1, Name::Empty, 1),
+        ends(2, Name::Empty, 0),
+        fits(3, Name::Empty, 2),
+    ];
+    check(&rt, rt.alloc(), 2, None, &between, "")?;
+    let later = [
+        fits(1, Name::Empty, 1),
+        fits(2, Name::Empty, 2),
+        ends(3, Name::Empty, 0),
+    ];
+    check(&rt, rt.alloc(), 2, None, &later, " 1 2;")?;
+    let at_once = [fits(1, Name::Empty, 1), ends(2, Name::Empty, 2)];
+    check(&rt, rt.alloc(), 2, None, &at_once, "")
 }
 
 #[test]
 fn maxspan_is_inclusive(rt: HostRuntime) -> Result<(), Fail> {
     let span = Some(10 * SECOND);
     let just = [fits(0, Name::Empty, 1), fits(10 * SECOND, Name::Empty, 2)];
-    let found = shown(&rt, rt.alloc(), 2, span, &just)?;
-    assert_eq!(rt; found.as_str(), " 1 2;");
+    check(&rt, rt.alloc(), 2, span, &just, " 1 2;")?;
     let late = [
         fits(0, Name::Empty, 1),
         fits(10 * SECOND + 1, Name::Empty, 2),
     ];
-    let found = shown(&rt, rt.alloc(), 2, span, &late)?;
-    assert_eq!(rt; found.as_str(), "");
-    Ok(())
+    check(&rt, rt.alloc(), 2, span, &late, "")
 }
 
 #[test]
 fn keys(rt: HostRuntime) -> Result<(), Fail> {
     // A key field that may be missing gives the key null, and one that may not gives none.
     let missing = [fits(1, Name::Null, 1), fits(2, Name::Null, 2)];
-    let found = shown(&rt, rt.alloc(), 2, None, &missing)?;
-    assert_eq!(rt; found.as_str(), "null 1 2;");
+    check(&rt, rt.alloc(), 2, None, &missing, "null 1 2;")?;
     let none = [fits(1, Name::Empty, 0), fits(2, Name::Empty, 0)];
-    let found = shown(&rt, rt.alloc(), 2, None, &none)?;
-    assert_eq!(rt; found.as_str(), "");
+    check(&rt, rt.alloc(), 2, None, &none, "")?;
     // Two items may take the key from two fields.
     let by_item = [fits(1, Name::Seven, 1), fits(2, Name::Seven, 2)];
-    let found = shown(&rt, rt.alloc(), 2, None, &by_item)?;
-    assert_eq!(rt; found.as_str(), "7 1 2;");
+    check(&rt, rt.alloc(), 2, None, &by_item, "7 1 2;")?;
     Ok(())
 }
 
@@ -253,7 +301,6 @@ fn an_event_may_stand_on_two_stages(rt: HostRuntime) -> Result<(), Fail> {
         fits(2, Name::Empty, both),
         fits(3, Name::Empty, both),
     ];
-    let found = shown(&rt, rt.alloc(), 2, None, &events)?;
-    assert_eq!(rt; found.as_str(), " 1 2; 2 3;");
+    check(&rt, rt.alloc(), 2, None, &events, " 1 2; 2 3;")?;
     Ok(())
 }

@@ -1,8 +1,9 @@
 //! Lists of many shards and of parts, merged.
 ghost use Rattle.std.specs.Prelude.{◌≡◌, All, IsTrue};
-ghost use Rattle.eql_values.specs.Ascending.{AllAfter, Ascending};
+ghost use Rattle.eql_values.specs.Ascending.{Ascending};
 ghost use Rattle.eql_laws.specs.Apart.{has_place, Apart, ApartFrom, AllApart};
 
+use crate::lookback::ascend;
 use eql_merge::{merge, merge_holders, merge_matches};
 use eql_values::{
     Chain, Holder, Holders, Item, ItemLists, Items, Key, Match, Matches, Memory, OrderKey, Routes,
@@ -28,33 +29,11 @@ fn list_of(alloc: Global, shard: u32) -> Result<Vec<Item>, Memory> {
     Ok(items)
 }
 
-/// Whether the event comes before all of these.
-fn is_before(event: &Item, items: &[Item]) -> bool
-    ensures { IsTrue result → AllAfter event.now.order items.now }
-{
-    match items {
-        [] => true,
-        [next, rest @ ..] => event.order < next.order && is_before(event, rest),
-    }
-}
-
-/// Whether the events ascend, and have no routes.
-fn is_ascending(items: &[Item]) -> bool
-    ensures { IsTrue result → Ascending items.now }
-{
-    match items {
-        [] => true,
-        [first, rest @ ..] => {
-            first.routes.items().is_empty() && is_before(first, rest) && is_ascending(rest)
-        }
-    }
-}
-
 /// Whether each list ascends.
-fn ascend(lists: &[Items]) -> bool
+fn each_ascends(lists: &[Items]) -> bool
     ensures { IsTrue result → All Ascending lists.now }
 {
-    lists.iter().all(|items| is_ascending(items.items()))
+    lists.iter().all(|items| ascend(items.items()))
 }
 
 /// Whether one of the events stands at this place.
@@ -94,28 +73,53 @@ fn are_apart(lists: &[Items]) -> bool
     }
 }
 
+/// The events of so many shards.
+fn lists_of(alloc: Global, shards: u32) -> Result<Vec<Items>, Memory> {
+    let mut lists = Vec::new(alloc);
+    for shard in 0..shards {
+        lists.push(Items::of(list_of(alloc, shard)?))?;
+    }
+    Ok(lists)
+}
+
+/// Adds the places of events.
+fn push_orders(orders: &mut Vec<OrderKey>, items: &Items) -> Result<(), Memory> {
+    for item in items.items() {
+        orders.push(item.order)?;
+    }
+    Ok(())
+}
+
+/// The places of the events of lists, in ascending order.
+fn sorted_orders(alloc: Global, lists: &[Items]) -> Result<Vec<OrderKey>, Memory> {
+    let mut orders = Vec::new(alloc);
+    for items in lists {
+        push_orders(&mut orders, items)?;
+    }
+    orders.sort()?;
+    Ok(orders)
+}
+
 #[test]
 fn lists_of_many_shards(rt: HostRuntime) -> Result<(), Fail> {
     let alloc = rt.alloc();
-    let mut lists = Vec::new(alloc);
-    let mut sorted = Vec::new(alloc);
-    for shard in 0..256 {
-        let items = list_of(alloc, shard)?;
-        for item in &items {
-            sorted.push(item.order)?;
-        }
-        lists.push(Items::of(items))?;
-    }
-    sorted.sort()?;
-    assert!(rt; ascend(&lists));
+    let lists = lists_of(alloc, 256)?;
+    let sorted = sorted_orders(alloc, &lists)?;
+    assert!(rt; each_ascends(&lists));
     assert!(rt; are_apart(&lists));
     let all = merge(alloc, ItemLists::of(lists))?;
     let mut merged = Vec::new(alloc);
-    for item in all.items() {
-        merged.push(item.order)?;
-    }
+    push_orders(&mut merged, &all)?;
     assert_eq!(rt; merged.as_slice(), sorted.as_slice());
     Ok(())
+}
+
+/// Whether a chain is one event, on this line.
+fn is_event(chain: &Chain, line: u32) -> bool {
+    match chain.items().as_slice() {
+        [event] => event.line == line,
+        _ => false,
+    }
 }
 
 /// The matches of a part: one, by an event at this time.
@@ -132,16 +136,19 @@ fn one_match(alloc: Global, ts: i128, line: u32) -> Result<Match, Memory> {
     Ok(Match { key, chain })
 }
 
+/// A match, merged with no others.
+fn merged_match(alloc: Global, found: Match) -> Result<Matches, Memory> {
+    let found = Matches::of(vec![in alloc; found]?);
+    merge_matches(alloc, vec![in alloc; found]?)
+}
+
 #[test]
 fn the_matches_of_one_part(rt: HostRuntime) -> Result<(), Fail> {
     let alloc = rt.alloc();
-    let found = Matches::of(vec![in alloc; one_match(alloc, 5, 3)?]?);
-    let all = merge_matches(alloc, vec![in alloc; found]?)?;
+    let all = merged_match(alloc, one_match(alloc, 5, 3)?)?;
     assert_eq!(rt; all.items().len(), 1);
     for found in all.items() {
-        for event in found.chain.items() {
-            assert_eq!(rt; event.line, 3);
-        }
+        assert!(rt; is_event(&found.chain, 3));
     }
     Ok(())
 }
@@ -156,17 +163,19 @@ fn one_holder(alloc: Global, ts: i128, line: u32) -> Result<Holder, Memory> {
     })
 }
 
+/// A pending sequence, merged with no others.
+fn merged_holder(alloc: Global, held: Holder) -> Result<Holders, Memory> {
+    let held = Holders::of(vec![in alloc; held]?);
+    merge_holders(alloc, vec![in alloc; held]?)
+}
+
 #[test]
 fn the_pending_sequences_of_one_part(rt: HostRuntime) -> Result<(), Fail> {
     let alloc = rt.alloc();
-    let held = Holders::of(vec![in alloc; one_holder(alloc, 5, 3)?]?);
-    let all = merge_holders(alloc, vec![in alloc; held]?)?;
+    let all = merged_holder(alloc, one_holder(alloc, 5, 3)?)?;
     assert_eq!(rt; all.items().len(), 1);
     for holder in all.items() {
-        assert_eq!(rt; holder.stage, 1);
-        for event in holder.chain.items() {
-            assert_eq!(rt; event.line, 3);
-        }
+        assert!(rt; holder.stage == 1 && is_event(&holder.chain, 3));
     }
     Ok(())
 }

@@ -6,11 +6,12 @@ ghost use Rattle.eql_laws.specs.Together.{AllBelow, NoneBelow};
 ghost use Rattle.eql_parts.specs.PartSteps.{CanDeliver};
 
 use crate::lookback::{
-    Event, Name, SECOND, ascend, ends, fits, item_of, key_of, show_match, shown,
+    Event, Name, SECOND, ascend, ends, fits, items_of, key_of, push_chain, push_key, push_matches,
+    shown,
 };
 use eql_auto::Steps;
 use eql_parts::{Part, PartOp, PartReply, part_of};
-use eql_values::{Holder, Holders, Item, Items, Key, Mark, Matches, Value};
+use eql_values::{Holders, Item, Items, Key, Mark, Matches, Value};
 use std::alloc::{AllocError, Global};
 use std::marker::Brand;
 use std::process::Abort;
@@ -80,7 +81,10 @@ fn deliver<R: Abort, L: Ledger>(
             *last = mark;
             Ok(())
         }
-        _ => Err(Fail::new("a delivery")),
+        other => {
+            drop(other);
+            Err(Fail::new("a delivery"))
+        }
     }
 }
 
@@ -95,7 +99,10 @@ fn play_all<L: Ledger>(part: &mut Part<L>, max: u32, steps: &mut Steps<L>) -> Re
         match part.play(PartOp::Turn { max }, steps) {
             PartReply::Turned { items } => played = played.saturating_add(items),
             PartReply::Idle => return Ok(played),
-            _ => return Err(Fail::new("a turn")),
+            other => {
+                drop(other);
+                return Err(Fail::new("a turn"));
+            }
         }
     }
     Err(Fail::new("too many turns"))
@@ -107,11 +114,14 @@ fn collect<L: Ledger>(part: &mut Part<L>, steps: &mut Steps<L>) -> Result<(Match
 {
     match part.play(PartOp::Collect, steps) {
         PartReply::Found { matches, done } => Ok((matches, done)),
-        _ => Err(Fail::new("a collection")),
+        other => {
+            drop(other);
+            Err(Fail::new("a collection"))
+        }
     }
 }
 
-/// The keys, stages and lines of what is pending.
+/// The keys and lines of what is pending.
 fn pending<L: Ledger>(
     alloc: Global,
     part: &mut Part<L>,
@@ -121,29 +131,27 @@ fn pending<L: Ledger>(
 {
     match part.play(PartOp::Snap, steps) {
         PartReply::Cut(held) => Ok(show_all(alloc, &held)?),
-        _ => Err(Fail::new("a copy")),
-    }
-}
-
-fn show_all(alloc: Global, held: &Holders) -> Result<String, AllocError> {
-    let mut shown = String::new(alloc);
-    for holder in held.items() {
-        show_holder(alloc, holder, &mut shown)?;
-    }
-    Ok(shown)
-}
-
-fn show_holder(alloc: Global, holder: &Holder, shown: &mut String) -> Result<(), AllocError> {
-    for value in holder.key.items() {
-        if let Value::Text(text) = value {
-            shown.push_str(text.text().as_str())?;
+        other => {
+            drop(other);
+            Err(Fail::new("a copy"))
         }
     }
-    for event in holder.chain.items() {
-        let line = event.line;
-        shown.push_str(format!(in alloc; " {line}")?.as_str())?;
+}
+
+/// Adds the keys and lines of pending sequences.
+fn push_holders(shown: &mut String, held: &Holders) -> Result<(), AllocError> {
+    for holder in held.items() {
+        push_key(shown, &holder.key)?;
+        push_chain(shown, &holder.chain)?;
     }
-    shown.push_str(";")
+    Ok(())
+}
+
+/// The keys and lines of pending sequences.
+fn show_all(alloc: Global, held: &Holders) -> Result<String, AllocError> {
+    let mut shown = String::new(alloc);
+    push_holders(&mut shown, held)?;
+    Ok(shown)
 }
 
 /// Events of a log, how many of them are delivered at once and up to which mark, and how many are played in a turn.
@@ -156,14 +164,46 @@ struct Row<'a> {
     max: u32,
 }
 
-/// The events of these lines, from the one after `line` on.
-fn items_from(alloc: Global, events: &[Event], line: u32, count: u32) -> Result<Vec<Item>, Fail> {
-    let mut items = Vec::new(alloc);
-    for next in line..line.saturating_add(count) {
-        let event = events.get(next as usize).ok_or("a line")?;
-        items.push(item_of(alloc, next.saturating_add(1), *event)?)?;
+/// Shows the matches that were found since they were last collected.
+fn show_found<L: Ledger>(
+    part: &mut Part<L>,
+    text: &mut String,
+    steps: &mut Steps<L>,
+) -> Result<(), Fail>
+    ensures last { OnOk result (part.new.state.last ≡ part.old.state.last) }
+{
+    let (matches, _) = collect(part, steps)?;
+    push_matches(text, &matches)?;
+    Ok(())
+}
+
+/// Delivers a row's events batch by batch, and shows the matches that the part finds.
+fn show_batches<R: Abort, L: Ledger>(
+    rt: &R,
+    alloc: Global,
+    row: Row<'_>,
+    part: &mut Part<L>,
+    last: &mut Mark,
+    text: &mut String,
+    steps: &mut Steps<L>,
+) -> Result<(), Fail>
+    requires from { 1 ≤ row.max }
+    requires to { row.max ≤ 4096 }
+    requires last { last.old ≡ part.old.state.last }
+{
+    let mut line = 0u32;
+    let mut rest = row.events;
+    for (count, mark) in row.batches {
+        let (events, later) = rest.split_at_checked(*count as usize).ok_or("lines")?;
+        let items = items_of(alloc, line, events)?;
+        line = line.saturating_add(*count);
+        rest = later;
+        deliver(rt, part, last, items, *mark, steps)?;
+        assert_eq!(rt; play_all(part, row.max, steps)?, *count);
+        show_found(part, text, steps)?;
     }
-    Ok(items)
+    assert!(rt; rest.is_empty());
+    Ok(())
 }
 
 /// The matches that a part finds, batch by batch.
@@ -182,27 +222,10 @@ fn found_in_batches<R: Abort, L: Ledger>(
     let mut last = Mark::Start;
     let none = Holders::of(Vec::new(alloc));
     let mut part = Part::new(alloc, row.stages, row.span, none, last, &mut steps)?;
-    let mut line = 0u32;
     let mut text = String::new(alloc);
-    for (count, mark) in row.batches {
-        let items = items_from(alloc, row.events, line, *count)?;
-        line = line.saturating_add(*count);
-        deliver(
-            rt,
-            &mut part,
-            &mut last,
-            Items::of(items),
-            *mark,
-            &mut steps,
-        )?;
-        let played = play_all(&mut part, row.max, &mut steps)?;
-        assert_eq!(rt; played, *count);
-        let (matches, _) = collect(&mut part, &mut steps)?;
-        for found in matches.items() {
-            show_match(alloc, found, &mut text)?;
-        }
-    }
-    assert_eq!(rt; line as usize, row.events.len());
+    let shown = show_batches(rt, alloc, row, &mut part, &mut last, &mut text, &mut steps);
+    drop(part);
+    shown?;
     Ok(text)
 }
 
@@ -253,7 +276,11 @@ fn batches_find_what_the_whole_finds(rt: HostRuntime) -> Result<(), Fail> {
     let until = Row {
         stages: 2,
         span: None,
-        events: &[fits(1, Name::Empty, 1), ends(2, 0), fits(3, Name::Empty, 2)],
+        events: &[
+            fits(1, Name::Empty, 1),
+            ends(2, Name::Empty, 0),
+            fits(3, Name::Empty, 2),
+        ],
         batches: &[(1, Mark::At(2)), (1, Mark::At(3)), (1, Mark::End)],
         max: 4096,
     };
@@ -288,8 +315,63 @@ fn batches_find_what_the_whole_finds(rt: HostRuntime) -> Result<(), Fail> {
     check_row(&rt, alloc, both, " 1 2; 2 3;")
 }
 
+/// Sees that these sequences are pending.
+fn holds<R: Abort, L: Ledger>(
+    rt: &R,
+    alloc: Global,
+    part: &mut Part<L>,
+    expected: &str,
+    steps: &mut Steps<L>,
+) -> Result<(), Fail>
+    ensures last { OnOk result (part.new.state.last ≡ part.old.state.last) }
+{
+    let held = pending(alloc, part, steps)?;
+    assert_eq!(rt; held.as_str(), expected);
+    Ok(())
+}
+
+/// Sees that this mark is done.
+fn is_done<R: Abort, L: Ledger>(
+    rt: &R,
+    part: &mut Part<L>,
+    mark: Mark,
+    steps: &mut Steps<L>,
+) -> Result<(), Fail>
+    ensures last { OnOk result (part.new.state.last ≡ part.old.state.last) }
+{
+    let (found, done) = collect(part, steps)?;
+    drop(found);
+    assert!(rt; done == mark);
+    Ok(())
+}
+
 /// A turn of an empty inbox is idle. A mark is done once its events were played. With a span of 10 nanoseconds a sequence
 /// that began at 0 is alive at the mark of 10, and dropped at that of 11.
+fn check_part<R: Abort, L: Ledger>(
+    rt: &R,
+    alloc: Global,
+    part: &mut Part<L>,
+    last: &mut Mark,
+    steps: &mut Steps<L>,
+) -> Result<(), Fail>
+    requires last { last.old ≡ part.old.state.last }
+{
+    assert_eq!(rt; play_all(part, 1, steps)?, 0);
+    let first = items_of(alloc, 0, &[fits(0, Name::Root, 1)])?;
+    deliver(rt, part, last, first, Mark::At(5), steps)?;
+    is_done(rt, part, Mark::Start, steps)?;
+    holds(rt, alloc, part, "", steps)?;
+    assert_eq!(rt; play_all(part, 1, steps)?, 1);
+    is_done(rt, part, Mark::At(5), steps)?;
+    holds(rt, alloc, part, "root 1;", steps)?;
+    for (time, expected) in [(10, "root 1;"), (11, "")] {
+        let nothing = Items::of(Vec::new(alloc));
+        deliver(rt, part, last, nothing, Mark::At(time), steps)?;
+        holds(rt, alloc, part, expected, steps)?;
+    }
+    Ok(())
+}
+
 fn check_marks<R: Abort, L: Ledger>(rt: &R, alloc: Global, blank: Blank) -> Result<(), Fail>
     requires { (blank.name ≡ L.name) × (blank.parts ≡ L.parts) × (0 < L.parts) }
 {
@@ -298,29 +380,9 @@ fn check_marks<R: Abort, L: Ledger>(rt: &R, alloc: Global, blank: Blank) -> Resu
     let mut last = Mark::Start;
     let none = Holders::of(Vec::new(alloc));
     let mut part = Part::new(alloc, 2, Some(10), none, last, &mut steps)?;
-    assert_eq!(rt; play_all(&mut part, 1, &mut steps)?, 0);
-    let first = Items::of(items_from(alloc, &[fits(0, Name::Root, 1)], 0, 1)?);
-    deliver(rt, &mut part, &mut last, first, Mark::At(5), &mut steps)?;
-    let (_, done) = collect(&mut part, &mut steps)?;
-    assert!(rt; done == Mark::Start);
-    assert_eq!(rt; pending(alloc, &mut part, &mut steps)?.as_str(), "");
-    assert_eq!(rt; play_all(&mut part, 1, &mut steps)?, 1);
-    let (_, done) = collect(&mut part, &mut steps)?;
-    assert!(rt; done == Mark::At(5));
-    for time in [10, 11] {
-        assert_eq!(rt; pending(alloc, &mut part, &mut steps)?.as_str(), "root 1;");
-        let nothing = Items::of(Vec::new(alloc));
-        deliver(
-            rt,
-            &mut part,
-            &mut last,
-            nothing,
-            Mark::At(time),
-            &mut steps,
-        )?;
-    }
-    assert_eq!(rt; pending(alloc, &mut part, &mut steps)?.as_str(), "");
-    Ok(())
+    let checked = check_part(rt, alloc, &mut part, &mut last, &mut steps);
+    drop(part);
+    checked
 }
 
 #[test]
@@ -331,7 +393,6 @@ fn marks_are_done_and_drop_the_dead(rt: HostRuntime) -> Result<(), Fail> {
 /// The parts of some keys, by the same hash in Python.
 #[test]
 fn keys_have_their_parts(rt: HostRuntime) -> Result<(), Fail> {
-    let alloc = rt.alloc();
     for (name, part) in [
         (Name::Root, 8),
         (Name::Elkbee, 11),
@@ -339,17 +400,34 @@ fn keys_have_their_parts(rt: HostRuntime) -> Result<(), Fail> {
         (Name::Seven, 1),
         (Name::Empty, 0),
     ] {
-        let key = key_of(alloc, name)?;
+        let key = key_of(rt.alloc(), name)?;
         assert_eq!(rt; part_of(&key), part);
     }
+    Ok(())
+}
+
+/// The part of the key of a number.
+fn part_of_number(alloc: Global, number: i64) -> Result<u32, Fail> {
+    let key = Key::of(vec![in alloc; Value::Long(number)]?);
+    Ok(part_of(&key))
+}
+
+/// Counts one more key of a part.
+fn count_part(counts: &mut [u32], part: u32) {
+    if let Some(count) = counts.get_mut(part as usize) {
+        *count = count.saturating_add(1);
+    }
+}
+
+/// The keys of numbers fall on the parts evenly.
+#[test]
+fn parts_have_as_many_keys(rt: HostRuntime) -> Result<(), Fail> {
     let mut counts = [0u32; 16];
     for number in 0..16_000 {
-        let key = Key::of(vec![in alloc; Value::Long(number)]?);
-        let part = part_of(&key) as usize;
-        counts[part] = counts[part].saturating_add(1);
+        count_part(&mut counts, part_of_number(rt.alloc(), number)?);
     }
     for count in counts {
-        assert!(rt; (998..=1_002).contains(&count));
+        assert!(rt; 998 <= count && count <= 1_002);
     }
     Ok(())
 }
