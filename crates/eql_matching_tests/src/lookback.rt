@@ -21,6 +21,10 @@ pub(crate) enum Name {
     Root,
     Elkbee,
     Nobody,
+    /// Of two names that are alike in their first sixteen bytes, the one that comes first.
+    Gate,
+    /// The other one.
+    Shop,
     Null,
     Seven,
 }
@@ -66,6 +70,8 @@ fn value_of(alloc: Global, name: Name) -> Result<Option<Value>, Memory> {
         Name::Root => text(alloc, "root"),
         Name::Elkbee => text(alloc, "elkbee"),
         Name::Nobody => text(alloc, "nobody"),
+        Name::Gate => text(alloc, "service-account-of-gate"),
+        Name::Shop => text(alloc, "service-account-of-shop"),
         Name::Null => Ok(Some(Value::Null)),
         Name::Seven => Ok(Some(Value::Long(7))),
     }

@@ -279,6 +279,26 @@ fn check_sweep<R: Abort, L: Ledger>(rt: &R, alloc: Global, blank: Blank) -> Resu
     swept
 }
 
+/// Keys that are alike in their first sixteen bytes are told in order, whichever came first.
+fn check_alike<R: Abort, L: Ledger>(rt: &R, alloc: Global, blank: Blank) -> Result<(), Fail>
+    requires { (blank.name ≡ L.name) × (blank.parts ≡ L.parts) × (0 < L.parts) }
+{
+    let (_book, share) = blank.open::<L>();
+    let mut steps = Steps::of(share);
+    let mut keys = nothing(alloc, 2, None)?;
+    let rows = [
+        begins(1, Name::Shop, 1),
+        begins(2, Name::Gate, 1),
+        Played {
+            pending: Some("root 1 3;service-account-of-gate 1 2;service-account-of-shop 1 1;"),
+            ..begins(3, Name::Root, 1)
+        },
+    ];
+    let played = play_each(rt, alloc, &mut keys, &rows, &mut steps);
+    drop(keys);
+    played
+}
+
 #[test]
 fn the_references_example(rt: HostRuntime) -> Result<(), Fail> {
     check_example::<HostRuntime, Brand>(&rt, rt.alloc(), Blank::new(1))
@@ -287,4 +307,9 @@ fn the_references_example(rt: HostRuntime) -> Result<(), Fail> {
 #[test]
 fn a_sweep_drops_what_is_too_old(rt: HostRuntime) -> Result<(), Fail> {
     check_sweep::<HostRuntime, Brand>(&rt, rt.alloc(), Blank::new(1))
+}
+
+#[test]
+fn keys_that_begin_alike(rt: HostRuntime) -> Result<(), Fail> {
+    check_alike::<HostRuntime, Brand>(&rt, rt.alloc(), Blank::new(1))
 }

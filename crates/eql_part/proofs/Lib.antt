@@ -16,6 +16,7 @@ mod Joining
 mod Expiring
 mod Putting
 mod Busy
+mod Copied
 mod Idle
 mod Later
 mod Housed

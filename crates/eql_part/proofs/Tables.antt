@@ -72,7 +72,7 @@ module _ {L : Type 0} (m : ℕ) (span : Option ℤ) where
 
   -- the rooms with this machine in place of that of a room
   abbrev pub with_machine : KeyTable L → ℕ → Room L → Machine Ticket → KeyTable L
-  with_machine t p room w = record { by_hash = t.by_hash; others = t.others; rooms = with_item t.rooms p (record { key = room.key; machine = w }); free = t.free }
+  with_machine t p room w = record { by_hash = t.by_hash; others = t.others; rooms = with_item t.rooms p (record { key = room.key; machine = w }); leads = t.leads; free = t.free }
 
   -- what a written machine is to its key
   pub record IsWritten (t : KeyTable L) (key : List Value) (p : ℕ) (room : Room L) (w : Machine Ticket) : Type 0 where

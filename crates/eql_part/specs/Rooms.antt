@@ -1,7 +1,10 @@
 -- The rooms of machines, and how the room of a key is found.
-use Rattle.std.specs.Prelude.{◌≡◌, ◌⊎◌, ℕ, ℤ, Bool, false, cond, List, [], Option, None, Some, All, IfNone, filter_map, slice_get, slice_set}
+use Rattle.std.specs.Prelude.{◌≡◌, ◌⊎◌, ℕ, ℤ, Bool, false, cond, List, [], Option, None, Some, All, IfNone, filter_map, length, map, slice_get, slice_set}
 use Rattle.std.specs.Borrow.{Bor}
 use Rattle.std.specs.Option.{option_map}
+use Rattle.std.specs.Ordering.{is_lt}
+use Rattle.std.specs.List.{AllAdjacentBelow}
+use Rattle.std.specs.List.Sorted.{IsPermutation}
 use Rattle.std.specs.BTreeMap.{get, is_at}
 use Rattle.eql_values.specs.declared.value.Value.{Value}
 use Rattle.eql_values.specs.Ordered.{in_order}
@@ -14,9 +17,23 @@ use Rattle.eql_part.specs.declared.table.KeyTable.{KeyTable}
 use Rattle.eql_part.specs.Hashes.{key_hash}
 use Rattle.eql_part.specs.KeyTables.{IsOf, machine_of}
 
--- a key with its machine, of which both are lent
-abbrev pub lent : Bor (List Value) × Bor (Machine Ticket) → List Value × Machine Ticket
-lent e = (e.0.now, e.1.now)
+-- a key with its machine, of which both are lent behind a number
+abbrev pub lent : ℕ × Bor (List Value) × Bor (Machine Ticket) → List Value × Machine Ticket
+lent e = (e.1.now, e.2.now)
+
+abbrev pub Lent : Type 0
+Lent = ℕ × Bor (List Value) × Bor (Machine Ticket)
+
+-- no key comes before the one in front of it
+abbrev pub NoneBefore : Lent → Lent → Type 0
+NoneBefore x y = is_lt (key_cmp (lent y).0 (lent x).0) ≡ false
+
+abbrev pub AreInKeyOrder : List Lent → Type 0
+AreInKeyOrder rows = AllAdjacentBelow NoneBefore rows (length rows)
+
+-- the rows are these entries once they are put in the order of keys
+abbrev pub AreUnsorted : List (List Value × Machine Ticket) → List Lent → Type 0
+AreUnsorted entries rows = (sorted : List Lent) → IsPermutation rows sorted → AreInKeyOrder sorted → map lent sorted ≡ entries
 
 -- whether that is this key
 abbrev pub is_key : Option (List Value) → List Value → Bool

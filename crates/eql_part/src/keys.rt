@@ -8,8 +8,8 @@ ghost use Rattle.eql_laws.specs.Alive.{HoldersInOrder, alive_holders};
 ghost use Rattle.eql_laws.specs.Shapes.{HasStageBefore, IsFull};
 ghost use Rattle.eql_part.specs.KeyTables.{ComesAfterAll, holders_in, probes_of_all};
 
+use crate::copies::{copy_all, copy_in_order};
 use crate::listing::Start;
-use crate::machine::KeyMachine;
 use crate::puts::{put_all, sort_by_start};
 use crate::rooms::Shape;
 use crate::routes::play;
@@ -21,7 +21,7 @@ use eql_laws::{
     opening_finds, same_holders,
 };
 use eql_span_list::SpanList;
-use eql_values::{Holders, Item, Key, Matches, Memory};
+use eql_values::{Holders, Item, Matches, Memory};
 use std::alloc::Global;
 use std::marker::Model;
 use std::sync::ledger::Ledger;
@@ -146,20 +146,12 @@ impl<L: Ledger> Keys<L> {
         ensures holders { IfOk result (λ found. found ≡ self.now.holders) }
         ensures order { IfOk result (λ found. HoldersInOrder found) }
     {
-        let entries = self.machines.entries(self.shape)?;
-        let mut found = Vec::with_capacity(self.shape.alloc, pending_in(&entries))?;
-        for entry in &entries {
-            entry.1.add_holders(self.shape.alloc, entry.0, &mut found)?;
+        let mut rows = self.machines.by_lead(self.shape)?;
+        if let Some(found) = copy_in_order(self.shape.alloc, &rows)? {
+            return Ok(Holders::of(found));
         }
+        rows.sort_by(|a, b| a.1.cmp(b.1))?;
+        let found = copy_all(self.shape.alloc, &rows)?;
         Ok(Holders::of(found))
     }
-}
-
-/// How many sequences are pending in these machines.
-fn pending_in<L: Ledger>(entries: &Vec<(&Key, &KeyMachine<L>)>) -> usize {
-    let mut count = 0usize;
-    for (_, machine) in entries {
-        count = count.saturating_add(machine.pending());
-    }
-    count
 }

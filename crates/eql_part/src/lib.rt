@@ -1,9 +1,11 @@
 //! The conductor's parts: the pending sequences of all keys of a part, and what an event does to them.
 #![tactic(auto)]
 
+mod copies;
 mod hash;
 mod index;
 mod keys;
+mod lead;
 mod listing;
 mod machine;
 mod prepared;

@@ -69,13 +69,6 @@ impl<L: Ledger> KeyMachine<L> {
         self.pending == 0
     }
 
-    /// How many sequences are pending.
-    pub fn pending(&self) -> usize
-        ensures { result ≡ length (tags_of self.now.slots) }
-    {
-        self.pending as usize
-    }
-
     /// Plays what an event says to the key, in the room taken before, and takes the sequences that ceased off the list.
     pub fn turn(
         &mut self,

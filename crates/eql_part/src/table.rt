@@ -8,10 +8,11 @@ ghost use Rattle.eql_values.specs.Orders.{key_cmp};
 ghost use Rattle.eql_part.specs.Hashes.{key_hash};
 ghost use Rattle.eql_part.specs.Indexed.{under_of};
 ghost use Rattle.eql_part.specs.KeyTables.{AreOf, IsEmptyAt};
-ghost use Rattle.eql_part.specs.Rooms.{AddsEmpty, Changes, HasKeyNow, IsNamed, IsTable, IsUnnamed, entries_of, is_key, key_at, lent, place_of, rows_of};
+ghost use Rattle.eql_part.specs.Rooms.{AddsEmpty, AreUnsorted, Changes, HasKeyNow, IsNamed, IsTable, IsUnnamed, entries_of, is_key, key_at, lent, place_of, rows_of};
 
 use crate::hash::hash_of;
 use crate::index::HashIndex;
+use crate::lead::{lead_of, set_lead};
 use crate::machine::KeyMachine;
 use crate::rooms::Shape;
 use eql_values::{Key, Memory};
@@ -35,6 +36,8 @@ pub(crate) struct KeyTable<L: Ledger> {
     pub others: BTreeMap<Key, usize>,
     /// The rooms, by place.
     pub rooms: Vec<Room<L>>,
+    /// The number of each room's key, by place, by which keys are sorted first.
+    pub leads: Vec<u128>,
     /// Places of rooms without a key.
     pub free: Vec<usize>,
 }
@@ -49,6 +52,7 @@ impl<L: Ledger> KeyTable<L> {
             by_hash: HashIndex::new(alloc),
             others: BTreeMap::new(alloc),
             rooms: Vec::new(alloc),
+            leads: Vec::new(alloc),
             free: Vec::new(alloc),
         }
     }
@@ -114,7 +118,9 @@ impl<L: Ledger> KeyTable<L> {
         let machine = KeyMachine::new(shape.alloc, shape.stages, shape.span)?;
         let place = self.rooms.len();
         self.free.reserve(place + 1)?;
+        self.leads.reserve(1)?;
         self.rooms.push(Room { key: None, machine })?;
+        self.leads.push_reserved(0);
         self.free.push_reserved(place);
         Ok(place)
     }
@@ -161,6 +167,7 @@ impl<L: Ledger> KeyTable<L> {
         ensures others { self.new.others ≡ self.old.others }
         ensures rooms { HasKeyNow place (Some key) self.old.rooms.items self.new.rooms.items }
     {
+        set_lead(&mut self.leads, place, lead_of(&key));
         self.rooms[place].key = Some(key);
         self.free.pop();
     }
@@ -236,26 +243,31 @@ impl<L: Ledger> KeyTable<L> {
         count
     }
 
-    /// The keys that have a machine, each with it, in the order of rooms. They are lent.
-    fn rows(&self, alloc: Global) -> Result<Vec<(&Key, &KeyMachine<L>)>, Memory>
+    /// The keys that have a machine, each with its number and its machine, in the order of rooms. They are lent.
+    fn rows(&self, alloc: Global) -> Result<Vec<(u128, &Key, &KeyMachine<L>)>, Memory>
         ensures { IfOk result (λ rows. map lent rows.items ≡ rows_of self.now.rooms.items) }
     {
-        let mut rows = Vec::with_capacity(alloc, self.len())?;
+        let keys = self.rooms.len().saturating_sub(self.free.len());
+        let mut rows = Vec::with_capacity(alloc, keys)?;
+        let mut place = 0usize;
         for room in &self.rooms {
             if let Some(key) = &room.key {
-                rows.push((key, &room.machine))?;
+                let lead = self.leads.get(place).copied().unwrap_or(0);
+                rows.push((lead, key, &room.machine))?;
             }
+            place = place.saturating_add(1);
         }
         Ok(rows)
     }
 
-    /// The keys that have a machine, each with it, in the order of keys. They are lent, so no key is copied.
-    pub fn entries(&self, shape: Shape) -> Result<Vec<(&Key, &KeyMachine<L>)>, Memory>
+    /// The keys that have a machine, each with its number and its machine, in the order of their numbers. They are lent, so no
+    /// key is copied, and none is looked at.
+    pub fn by_lead(&self, shape: Shape) -> Result<Vec<(u128, &Key, &KeyMachine<L>)>, Memory>
         requires { IsTable shape.stages shape.span self.now }
-        ensures { IfOk result (λ entries. map lent entries.items ≡ entries_of self.now) }
+        ensures { IfOk result (λ rows. AreUnsorted (entries_of self.now) rows.items) }
     {
-        let mut entries = self.rows(shape.alloc)?;
-        entries.sort_by(|a, b| a.0.cmp(b.0))?;
-        Ok(entries)
+        let mut rows = self.rows(shape.alloc)?;
+        rows.sort_unstable_by(|a, b| a.0.cmp(&b.0));
+        Ok(rows)
     }
 }

@@ -1,32 +1,40 @@
-use Rattle.std.proofs.Common.{◌≡◌, ◌+◌, ◌++◌, ◌∷◌, [], List, map, take, sym, ap, ◌∙◌, subst, arith}
-use Rattle.std.proofs.lemmas.List.{flat_map_more, map-append, take_all, take_more}
-use Rattle.eql_values.specs.declared.found.Holder.{Holder}
+use Rattle.std.proofs.Common.{◌≡◌, ◌∙◌, map, sym, ap, subst, rules, arith}
+use Rattle.std.specs.Ordering.{is_lt}
+use Rattle.std.proofs.lemmas.List.Sorted.{answers_always, ranks_by, IsPermutation-refl}
+use Rattle.eql_values.specs.Orders.{key_cmp}
+use Rattle.eql_values.specs.Totals.{key_cmp_total}
 use Rattle.eql_laws.specs.Alive.{HoldersInOrder}
-use Rattle.eql_part.specs.KeyTables.{Pendings, holders_in, holders_of}
-use Rattle.eql_part.specs.Rooms.{entries_of, lent}
+use Rattle.eql_part.specs.KeyTables.{Pendings, holders_in}
+use Rattle.eql_part.specs.Rooms.{AreInKeyOrder, entries_of, lent}
+use Rattle.eql_part.proofs.Copied.{holders_are, if_some}
 use Rattle.eql_part.proofs.Looked.{entries_sorted}
 use Rattle.eql_part.proofs.Rows.{holders_in_order}
 use Rattle.eql_part.proofs.keys.Keys.holders.Goals as goal
 
-pub loop-entry-preserved : goal.loop-entry-preserved
-loop-entry-preserved g c =
-    let items = c.deref-entry-items.result.now in let i = c.loop-entry.entry-index in let entry = c.entry-item.result in
-    let more : take (i + 1) items ≡ take i items ++ entry ∷ [] =
-    take_more items i entry c.loop-entry-test.true ∙ ap (λ e. take i items ++ e ∷ []) (sym c.entry-item.is) in
-    c.in_ok-add_holders.ensures {u = tt}
-    ∙ ap (λ (l : List Holder). l ++ holders_of (lent entry)) c.loop-entry.invariant
-    ∙ flat_map_more holders_of [] (map lent (take i items)) (lent entry)
-    ∙ ap holders_in (sym (map-append lent (take i items) (entry ∷ [])) ∙ ap (map lent) (sym more))
+pub returns-in-Some-clause-holders : goal.returns-in-Some-clause-holders
+returns-in-Some-clause-holders g c =
+    let rows = c.in_ok-rows.rows.items in
+    let copied = if_some c.in_ok-found.field-0 c.in-Some.found (λ found. found.items ≡ holders_in (map lent rows)) c.in-Some.is c.in_ok-found.ensures.copies in
+    let order = if_some c.in_ok-found.field-0 c.in-Some.found (λ found. AreInKeyOrder rows) c.in-Some.is c.in_ok-found.ensures.order in
+    c.of.ensures
+    ∙ holders_are (entries_of c.self.inside.machines) rows rows c.in-Some.found.items c.args.self.now.holders (c.in_ok-rows.ensures {u = tt}) (IsPermutation-refl rows) order copied
+    (ap (λ (p : Pendings). p.holders) c.self.view_is)
+
+pub returns-in-Some-clause-order : goal.returns-in-Some-clause-order
+returns-in-Some-clause-order g c =
+    subst HoldersInOrder (ap (λ (p : Pendings). p.holders) c.self.view_is ∙ sym (returns-in-Some-clause-holders g c))
+    (holders_in_order (entries_of c.self.inside.machines) (entries_sorted c.self.inside.machines.rooms.items))
 
 pub returns-clause-holders : goal.returns-clause-holders
 returns-clause-holders g c =
-    let items = c.deref-entry-items.result.now in let past = c.loop-entry-test.false in
-    c.of.ensures
-    ∙ c.loop-entry.invariant
-    ∙ ap (λ l. holders_in (map lent l)) (take_all c.loop-entry.entry-index items (omega (arith, past)) ∙ c.deref-entry-items.ensures.value)
-    ∙ ap holders_in (c.in_ok-entries.ensures {u = tt})
-    ∙ ap (λ (p : Pendings). p.holders) c.self.view_is
+    let rows = c.in_ok-rows.rows.items in
+    let sorted = c.sort_by.new.self.items in
+    let by_key = c.in_ok-sort_by.ensures.sorted (λ x y. is_lt (key_cmp (lent x).0 (lent y).0)) (ranks_by key_cmp_total (λ x. (lent x).0)) (answers_always _ _ _ (λ f a r g h. search rules)) in
+    c.of-2.ensures
+    ∙ holders_are (entries_of c.self.inside.machines) rows sorted c.in_ok-found-2.found.items c.args.self.now.holders (c.in_ok-rows.ensures {u = tt}) c.sort_by.ensures.permutation
+    (λ k d m. by_key k d (omega arith) m) (c.in_ok-found-2.ensures {u = tt}) (ap (λ (p : Pendings). p.holders) c.self.view_is)
 
 pub returns-clause-order : goal.returns-clause-order
 returns-clause-order g c =
-    subst HoldersInOrder (ap (λ (p : Pendings). p.holders) c.self.view_is ∙ sym (returns-clause-holders g c)) (holders_in_order (entries_of c.self.inside.machines) (entries_sorted c.self.inside.machines.rooms.items))
+    subst HoldersInOrder (ap (λ (p : Pendings). p.holders) c.self.view_is ∙ sym (returns-clause-holders g c))
+    (holders_in_order (entries_of c.self.inside.machines) (entries_sorted c.self.inside.machines.rooms.items))

@@ -1,0 +1,58 @@
+//! Copies of the pending sequences of keys that are lent.
+ghost use Rattle.std.specs.Prelude.{◌≡◌, ◌-◌, ◌<◌, false, IfOk, IfSome, length, map, slice_index_or};
+ghost use Rattle.eql_part.specs.KeyTables.{holders_in};
+ghost use Rattle.eql_part.specs.Rooms.{AreInKeyOrder, Lent, NoneBefore, lent};
+
+use crate::machine::KeyMachine;
+use eql_values::{Holder, Key, Memory};
+use std::alloc::Global;
+use std::sync::ledger::Ledger;
+
+/// Copies of the pending sequences, by key as the keys stand here and by stage.
+pub(crate) fn copy_all<L: Ledger>(
+    alloc: Global,
+    rows: &Vec<(u128, &Key, &KeyMachine<L>)>,
+) -> Result<Vec<Holder>, Memory>
+    ensures { IfOk result (λ found. found.items ≡ holders_in (map lent rows.now.items)) }
+{
+    // A key has one pending sequence or more, and mostly one.
+    let mut found = Vec::with_capacity(alloc, rows.len())?;
+    for row in rows {
+        row.2.add_holders(alloc, row.1, &mut found)?;
+    }
+    Ok(found)
+}
+
+/// Whether the key at a place comes before the one in front of it.
+fn is_before_last<L: Ledger>(rows: &Vec<(u128, &Key, &KeyMachine<L>)>, place: usize) -> bool
+    requires { place < length rows.now.items }
+    ensures { result ≡ false → 0 < place → (d : Lent) → NoneBefore
+        (slice_index_or rows.now.items (place - 1) d) (slice_index_or rows.now.items place d) }
+{
+    if place == 0 {
+        return false;
+    }
+    rows[place].1.cmp(rows[place - 1].1).is_lt()
+}
+
+/// Copies of the pending sequences, by key and stage, where the keys stand in order. Each key is compared with the one in front of
+/// it while both are at hand.
+pub(crate) fn copy_in_order<L: Ledger>(
+    alloc: Global,
+    rows: &Vec<(u128, &Key, &KeyMachine<L>)>,
+) -> Result<Option<Vec<Holder>>, Memory>
+    ensures copies { IfOk result (λ copied. IfSome copied (λ found.
+        found.items ≡ holders_in (map lent rows.now.items))) }
+    ensures order { IfOk result (λ copied. IfSome copied (λ found.
+        AreInKeyOrder rows.now.items)) }
+{
+    let mut found = Vec::with_capacity(alloc, rows.len())?;
+    for place in 0..rows.len() {
+        if is_before_last(rows, place) {
+            return Ok(None);
+        }
+        let row = &rows[place];
+        row.2.add_holders(alloc, row.1, &mut found)?;
+    }
+    Ok(Some(found))
+}
