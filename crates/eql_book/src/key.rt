@@ -42,7 +42,7 @@ fn ip_text(alloc: Global, ip: u32) -> Result<String, AllocError>
 fn text_bytes(text: &Text) -> Result<String, AllocError>
     ensures { IfOk result (λ copy. string_bytes copy ≡ encode_utf8_all text.now) }
 {
-    let copy = text.text().clone()?;
+    let copy = text.to_string()?;
     Ok(copy)
 }
 
@@ -66,8 +66,8 @@ fn json_value(alloc: Global, value: &FieldValue) -> Result<Value, AllocError>
 }
 
 /// The values of a key as JSON.
-fn json_values(alloc: Global, key: &Vec<FieldValue>) -> Result<Vec<Value>, AllocError>
-    ensures { IfOk result (λ list. map view list.items ≡ map json_value key.now.items) }
+fn json_values(alloc: Global, key: &[FieldValue]) -> Result<Vec<Value>, AllocError>
+    ensures { IfOk result (λ list. map view list.items ≡ map json_value key.now) }
 {
     let mut list = Vec::new(alloc);
     for value in key {
@@ -80,10 +80,10 @@ fn json_values(alloc: Global, key: &Vec<FieldValue>) -> Result<Vec<Value>, Alloc
 pub(crate) fn print_key(
     alloc: Global,
     waiting: &mut String,
-    key: &Vec<FieldValue>,
+    key: &[FieldValue],
 ) -> Result<(), AllocError>
     ensures { OnOk result
-        (string_bytes waiting.new ≡ string_bytes waiting.old ++ key_text key.now.items) }
+        (string_bytes waiting.new ≡ string_bytes waiting.old ++ key_text key.now) }
 {
     if key.is_empty() {
         return waiting.push_str("[]");
@@ -93,8 +93,8 @@ pub(crate) fn print_key(
 }
 
 /// The values of a key as a compact JSON array.
-fn key_string(alloc: Global, key: &Vec<FieldValue>) -> Result<String, AllocError>
-    ensures { IfOk result (λ text. string_bytes text ≡ key_text key.now.items) }
+fn key_string(alloc: Global, key: &[FieldValue]) -> Result<String, AllocError>
+    ensures { IfOk result (λ text. string_bytes text ≡ key_text key.now) }
 {
     Value::Array(json_values(alloc, key)?).to_string(alloc)
 }

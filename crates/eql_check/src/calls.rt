@@ -148,7 +148,7 @@ pub(crate) fn shown(name: &Text, fold: bool) -> Result<Text, AllocError>
 fn with_tilde(name: &Text) -> Result<Text, AllocError>
     ensures { IfOk result (λ text. text ≡ name.now ++ chars (codes "~")) }
 {
-    let mut text = name.text().clone()?;
+    let mut text = name.to_string()?;
     text.push_str("~")?;
     Ok(Text::of(text))
 }

@@ -13,7 +13,7 @@ fn named(alloc: Global, start: &str, name: &Text) -> Result<String, Memory>
     ensures { IfOk result (λ line. string_bytes line ≡ start.now ++ printed name.now) }
 {
     let mut line = String::from_str(alloc, start)?;
-    push_shown(&mut line, name.text().as_str())?;
+    push_shown(&mut line, name.text())?;
     Ok(line)
 }
 

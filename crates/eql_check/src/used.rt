@@ -47,7 +47,7 @@ impl Used {
         match mapping.kind(name) {
             None => Ok(()),
             Some(kind) => {
-                let name = name.text().clone()?;
+                let name = name.to_string()?;
                 self.fields.insert(name, kind)?;
                 Ok(())
             }

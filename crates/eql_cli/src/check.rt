@@ -22,7 +22,7 @@ fn query_line(alloc: Global, query: &Query) -> Result<String, Memory>
         ≡ encode_utf8_all (printed (query_tree query.now)) ++ codes "\n") }
 {
     let text = print(alloc, query)?;
-    let mut line = String::from_str(alloc, text.text().as_str())?;
+    let mut line = String::from_str(alloc, text.text())?;
     line.push_str("\n")?;
     Ok(line)
 }

@@ -29,7 +29,7 @@ fn shown(alloc: Global, checked: &Checked) -> Result<String, Fail> {
     let mut line = format!(in alloc; "{} keys", checked.keys())?;
     for field in checked.fields().items() {
         line.push(' ')?;
-        line.push_str(field.0.text().as_str())?;
+        line.push_str(field.0.text())?;
     }
     Ok(line)
 }

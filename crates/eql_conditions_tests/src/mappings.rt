@@ -24,7 +24,7 @@ fn mapping_is_read(rt: HostRuntime) -> Result<(), Fail> {
     assert_eq!(rt; names.len(), 3);
     let wanted = [("a.b", Kind::Text), ("b", Kind::Bool), ("n", Kind::Ip)];
     for ((name, kind), (wanted_name, wanted_kind)) in names.iter().zip(wanted.iter()) {
-        assert_eq!(rt; name.text().as_str(), *wanted_name);
+        assert_eq!(rt; name.text(), *wanted_name);
         assert_eq!(rt; *kind, *wanted_kind, "{wanted_name}");
     }
     Ok(())

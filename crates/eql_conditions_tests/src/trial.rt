@@ -41,7 +41,7 @@ fn value_of(alloc: Global, name: &str) -> Result<Value, Fail> {
 fn slots_of(alloc: Global, checked: &Checked) -> Result<Slots, Fail> {
     let mut values = Vec::new(alloc);
     for field in checked.fields().items() {
-        values.push(value_of(alloc, field.0.text().as_str())?)?;
+        values.push(value_of(alloc, field.0.text())?)?;
     }
     Ok(Slots::of(values))
 }

@@ -26,12 +26,7 @@ fn is_mapping(cut: &Cut) -> bool {
             (b, Kind::Bool),
             (ip, Kind::Ip),
             (n, Kind::Long),
-        ] => {
-            a.text().as_str() == "a"
-                && b.text().as_str() == "b"
-                && ip.text().as_str() == "ip"
-                && n.text().as_str() == "n"
-        }
+        ] => { a.text() == "a" && b.text() == "b" && ip.text() == "ip" && n.text() == "n" }
         _ => false,
     }
 }
@@ -40,10 +35,10 @@ fn is_mapping(cut: &Cut) -> bool {
 pub fn is_head(cut: &Cut) -> bool {
     let head = &cut.head;
     let is_tie = match &head.tie {
-        Some(tie) => tie.text().as_str() == "t",
+        Some(tie) => tie.text() == "t",
         None => false,
     };
-    head.query.text().as_str() == "q"
+    head.query.text() == "q"
         && is_mapping(cut)
         && is_tie
         && head.slack == 5

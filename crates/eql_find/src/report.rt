@@ -19,7 +19,7 @@ fn add_line(alloc: Global, report: &mut String, shard: u32, counts: Counts) -> R
         ≡ string_bytes report.old ++ report_text shard counts ++ codes "\n") }
 {
     let line = report_line(alloc, shard, &counts)?;
-    report.push_str(line.text().as_str())?;
+    report.push_str(line.text())?;
     report.push_str("\n")?;
     Ok(())
 }

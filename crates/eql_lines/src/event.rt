@@ -33,7 +33,7 @@ fn copied_texts(alloc: Global, texts: &[String]) -> Result<Texts, Memory>
 {
     let mut copies = Vec::with_capacity(alloc, texts.len())?;
     for text in texts {
-        copies.push(Text::of(text.clone()?))?;
+        copies.push(Text::copy_of(alloc, text)?)?;
     }
     Ok(Texts::of(copies))
 }

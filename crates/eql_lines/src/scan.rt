@@ -42,7 +42,8 @@ impl Model for LineScan {
 fn name_path(name: &Text) -> Result<String, Memory>
     ensures { IfOk result (λ p. string_bytes p ≡ encode_utf8_all name.now) }
 {
-    Ok(name.text().clone()?)
+    let path = name.to_string()?;
+    Ok(path)
 }
 
 /// The path of the tiebreaker; the empty one, which leads to nothing, where none is wanted.

@@ -24,7 +24,7 @@ use std::alloc::Global;
 fn text_value(alloc: Global, text: &str) -> Result<Value, Memory>
     ensures { IfOk result (λ v. v ≡ is.Text (chars text.now)) }
 {
-    Ok(Value::Text(Text::of(String::from_str(alloc, text)?)))
+    Ok(Value::Text(Text::copy_of(alloc, text)?))
 }
 
 /// The decimal digits of a number that isn't negative, as a value.

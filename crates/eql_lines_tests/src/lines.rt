@@ -314,7 +314,7 @@ fn tell_value(told: &mut String, value: &Value) -> Result<(), Fail> {
         Value::Null => told.push_str(" null")?,
         Value::Bool(truth) => write!(told, " {truth}")?,
         Value::Long(number) => write!(told, " {number}")?,
-        Value::Text(text) => write!(told, " {}", text.text().as_str())?,
+        Value::Text(text) => write!(told, " {}", text.text())?,
         Value::Ip(address) => write!(told, " {address}")?,
     }
     Ok(())
@@ -329,7 +329,7 @@ fn tell_event(alloc: Global, fields: &Fields) -> Result<String, Fail> {
     let mut between = "";
     for category in fields.categories.items() {
         told.push_str(between)?;
-        told.push_str(category.text().as_str())?;
+        told.push_str(category.text())?;
         between = " ";
     }
     told.push_str("]")?;

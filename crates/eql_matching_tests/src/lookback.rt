@@ -144,7 +144,7 @@ fn push_value(shown: &mut String, value: &Value) -> Result<(), AllocError> {
         Value::Null => shown.push_str("null"),
         Value::Bool(b) => write!(shown, "{b}"),
         Value::Long(n) => write!(shown, "{n}"),
-        Value::Text(t) => shown.push_str(t.text().as_str()),
+        Value::Text(t) => shown.push_str(t.text()),
         Value::Ip(n) => write!(shown, "{n}"),
     }
 }

@@ -45,7 +45,7 @@ pub fn append(text: &mut String, value: &Value) -> Result<bool, Memory>
         Value::Null => return Ok(false),
         Value::Bool(b) => text.push_str(word(*b))?,
         Value::Long(n) => append_number(text, *n)?,
-        Value::Text(more) => text.push_str(more.text().as_str())?,
+        Value::Text(more) => text.push_str(more.text())?,
         Value::Ip(ip) => append_address(text, *ip)?,
     }
     Ok(true)
@@ -68,7 +68,7 @@ pub fn length_of(value: &Value) -> Value
     ensures { result ≡ f.length_of value.now }
 {
     match value {
-        Value::Text(text) => Value::Long(characters(text.text().as_str()) as i64),
+        Value::Text(text) => Value::Long(characters(text.text()) as i64),
         _ => Value::Null,
     }
 }

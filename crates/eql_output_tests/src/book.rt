@@ -222,11 +222,11 @@ fn keys_are_printed_as_json(rt: HostRuntime) -> Result<(), Fail> {
         let expected = format!(in alloc; "12 {json} 0:5")?;
         let chain = Chain::of(vec![in alloc; placed(5, 50)]?);
         let line = keyed_line(alloc, text, chain, false)?;
-        assert_eq!(rt; line.text().as_str(), expected.as_str());
+        assert_eq!(rt; line.text(), expected.as_str());
         let expected = format!(in alloc; "12 {json} 0:5@50")?;
         let chain = Chain::of(vec![in alloc; placed(5, 50)]?);
         let line = keyed_line(alloc, text, chain, true)?;
-        assert_eq!(rt; line.text().as_str(), expected.as_str());
+        assert_eq!(rt; line.text(), expected.as_str());
     }
     Ok(())
 }
@@ -249,7 +249,7 @@ fn keys_of_each_kind_are_printed(rt: HostRuntime) -> Result<(), Fail> {
     };
     let expected =
         "18446744073709551615 [null,true,false,-9223372036854775808,9223372036854775807,\"10.0.255.1\"] 2:5";
-    assert_eq!(rt; line.text().as_str(), expected);
+    assert_eq!(rt; line.text(), expected);
     Ok(())
 }
 
@@ -315,7 +315,7 @@ fn reports_tell_the_counts(rt: HostRuntime) -> Result<(), Fail> {
             Ok(line) => line,
             Err(_) => return Err(Fail::from("memory")),
         };
-        assert_eq!(rt; line.text().as_str(), expected);
+        assert_eq!(rt; line.text(), expected);
     }
     Ok(())
 }

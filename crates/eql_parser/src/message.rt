@@ -28,7 +28,7 @@ fn left_out(alloc: Global, word: &Text, at: u32) -> Result<String, Memory>
 {
     let place = format!(in alloc; " at {at}")?;
     let mut line = String::from_str(alloc, "parse: LeftOut ")?;
-    push_shown(&mut line, word.text().as_str())?;
+    push_shown(&mut line, word.text())?;
     line.push_str(place.as_str())?;
     Ok(line)
 }

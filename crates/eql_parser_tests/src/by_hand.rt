@@ -109,7 +109,7 @@ fn sequence_with_keys(rt: HostRuntime) -> Result<(), Fail> {
     let pipes = pipes(alloc)?;
     let printed = print(alloc, &Query { body, pipes })?;
     assert_eq!(rt;
-        printed.text().as_str(),
+        printed.text(),
         "sequence by `a`, `b.c` with maxspan=1m [any where true] by ?`c``d` with runs=3 until [\"x y\" where false] | head 2 | tail 1"
     );
     Ok(())
@@ -153,7 +153,7 @@ fn condition(rt: HostRuntime) -> Result<(), Fail> {
     ]?));
     let printed = print(alloc, &event(alloc, None, cond))?;
     assert_eq!(rt;
-        printed.text().as_str(),
+        printed.text(),
         "any where ((`p` not in~ (-7, true)) or (not (null like \"a\\n\\u{1b}\\\"\")) or (length(\"é\", 2) >= (5 % (-3))))"
     );
     Ok(())

@@ -46,7 +46,7 @@ fn printed(alloc: Global, query: &Query) -> Result<String, Fail> {
         return Err(Fail::from("no memory"));
     };
     match print(alloc, &copy) {
-        Ok(text) => Ok(String::from_str(alloc, text.text().as_str())?),
+        Ok(text) => Ok(String::from_str(alloc, text.text())?),
         Err(_) => Err(Fail::from("no memory")),
     }
 }

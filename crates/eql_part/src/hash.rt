@@ -30,7 +30,7 @@ fn mix_characters(hash: u64, text: &str) -> u64
 fn mix_text(hash: u64, text: &Text) -> u64
     ensures { result ≡ fold mixed hash text.now }
 {
-    mix_characters(hash, text.text().as_str())
+    mix_characters(hash, text.text())
 }
 
 /// A hash that goes on by one value.

@@ -47,7 +47,7 @@ fn push_value(alloc: Global, text: &mut String, value: &Value) -> Result<(), All
         Value::Null => text.push_str("null"),
         Value::Bool(b) => text.push_str(format!(in alloc; "{b}")?.as_str()),
         Value::Long(n) => text.push_str(format!(in alloc; "{n}")?.as_str()),
-        Value::Text(t) => text.push_str(t.text().as_str()),
+        Value::Text(t) => text.push_str(t.text()),
         Value::Ip(n) => text.push_str(format!(in alloc; "ip {n}")?.as_str()),
     }
 }

@@ -40,7 +40,7 @@ fn ascend(items: &[Item]) -> bool
 fn push_value(listing: &mut String, value: &Value) -> Result<(), AllocError> {
     match value {
         Value::Text(text) => {
-            let text = text.text().as_str();
+            let text = text.text();
             write!(listing, "\"{text}\"")
         }
         _ => listing.push_str("null"),

@@ -73,9 +73,7 @@ const LINES: [(&[u8], &str); 18] = [
 fn told(alloc: Global, line: &[u8]) -> Result<String, Fail> {
     match read_first(alloc, line).map_err(|_| Fail::from("memory"))? {
         FirstLine::Blank => Ok(String::from_str(alloc, "blank")?),
-        FirstLine::Event { ts, category } => {
-            Ok(format!(in alloc; "{ts} {}", category.text().as_str())?)
-        }
+        FirstLine::Event { ts, category } => { Ok(format!(in alloc; "{ts} {}", category.text())?) }
         FirstLine::Other => Ok(String::from_str(alloc, "other")?),
     }
 }

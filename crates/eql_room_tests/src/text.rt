@@ -47,7 +47,7 @@ fn parts(rt: HostRuntime) -> Result<(), Fail> {
         let got = substring(rt.alloc(), &text(rt.alloc(), s)?, from, to)
             .ok()
             .ok_or("memory")?;
-        assert_eq!(rt; got.text().as_str(), want, "of {s} from {from}");
+        assert_eq!(rt; got.text(), want, "of {s} from {from}");
     }
     Ok(())
 }
@@ -72,7 +72,7 @@ fn parts_between(rt: HostRuntime) -> Result<(), Fail> {
         let got = between(rt.alloc(), &s, &l, &r, greedy, false)
             .ok()
             .ok_or("memory")?;
-        assert_eq!(rt; got.text().as_str(), want);
+        assert_eq!(rt; got.text(), want);
     }
     Ok(())
 }

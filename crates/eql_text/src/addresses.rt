@@ -57,7 +57,7 @@ fn plain(text: &str, most: u32) -> Option<u32>
 pub fn parse_ip4(s: &Text) -> Option<u32>
     ensures { result ≡ parse_ip4 s.now }
 {
-    ip4_from_str(s.text().as_str())
+    ip4_from_str(s.text())
 }
 
 /// The four parts of a text between three dots.
@@ -91,7 +91,7 @@ pub fn ip4_from_str(text: &str) -> Option<u32>
 pub fn parse_block(s: &Text) -> Option<Block>
     ensures { result ≡ parse_block s.now }
 {
-    block_in(s.text().as_str())
+    block_in(s.text())
 }
 
 /// The two parts of a text round one `/`.

@@ -12,7 +12,7 @@ pub fn equal(a: &Text, b: &Text, fold: bool) -> bool
     ensures { result ≡ equal fold a.now b.now }
 {
     if fold {
-        equal_folded(a.text().as_str(), b.text().as_str())
+        equal_folded(a.text(), b.text())
     } else {
         a == b
     }
@@ -31,14 +31,14 @@ fn equal_folded(a: &str, b: &str) -> bool
 pub fn starts(s: &Text, t: &Text, fold: bool) -> bool
     ensures { result ≡ starts fold s.now t.now }
 {
-    strip(s.text().as_str(), t.text().as_str(), fold).is_some()
+    strip(s.text(), t.text(), fold).is_some()
 }
 
 /// Whether `t` stands at the end of `s`.
 pub fn ends(s: &Text, t: &Text, fold: bool) -> bool
     ensures { result ≡ ends fold s.now t.now }
 {
-    ends_with(s.text().as_str(), t.text().as_str(), fold)
+    ends_with(s.text(), t.text(), fold)
 }
 
 fn ends_with(text: &str, back: &str, fold: bool) -> bool
@@ -63,5 +63,5 @@ fn ends_with(text: &str, back: &str, fold: bool) -> bool
 pub fn contains(s: &Text, t: &Text, fold: bool) -> bool
     ensures { result ≡ contains fold s.now t.now }
 {
-    find(s.text().as_str(), t.text().as_str(), 0, fold).is_some()
+    find(s.text(), t.text(), 0, fold).is_some()
 }

@@ -83,7 +83,7 @@ fn negative(text: &str) -> LongRead
 pub fn parse_long(s: &Text) -> LongRead
     ensures { result ≡ parse_long s.now }
 {
-    long_from_str(s.text().as_str())
+    long_from_str(s.text())
 }
 
 /// Reads a whole number from a `&str`, as `parse_long` does from a `Text`.
@@ -101,7 +101,7 @@ pub fn long_from_str(text: &str) -> LongRead
 pub fn parse_number(s: &Text) -> Option<i64>
     ensures { result ≡ parse_number s.now }
 {
-    read_number(s.text().as_str()).long()
+    read_number(s.text()).long()
 }
 
 fn read_number(text: &str) -> LongRead

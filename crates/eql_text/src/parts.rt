@@ -53,7 +53,7 @@ fn end_in(length: usize, number: Option<i64>) -> usize
 pub fn substring(alloc: Global, s: &Text, from: i64, to: Option<i64>) -> Result<Text, Memory>
     ensures { IfOk result (λ t. t ≡ substring s.now from to) }
 {
-    let text = s.text().as_str();
+    let text = s.text();
     let length = length(text);
     part(alloc, text, place_in(length, from), end_in(length, to))
 }
@@ -82,14 +82,7 @@ pub fn between(
 ) -> Result<Text, Memory>
     ensures { IfOk result (λ t. t ≡ between s.now l.now r.now greedy fold) }
 {
-    between_in(
-        alloc,
-        s.text().as_str(),
-        l.text().as_str(),
-        r.text().as_str(),
-        greedy,
-        fold,
-    )
+    between_in(alloc, s.text(), l.text(), r.text(), greedy, fold)
 }
 
 fn between_in(

@@ -169,5 +169,5 @@ fn fits_whole(pattern: &str, text: &str, fold: bool) -> bool
 pub fn wildcard(pattern: &Text, text: &Text, fold: bool) -> bool
     ensures { result ≡ wildcard fold pattern.now text.now }
 {
-    fits_whole(pattern.text().as_str(), text.text().as_str(), fold)
+    fits_whole(pattern.text(), text.text(), fold)
 }

@@ -87,11 +87,6 @@ fn place_after(s: &str, t: &str, start: u64, fold: bool) -> Option<u64>
 pub fn index_of(s: &Text, t: &Text, start: i64, fold: bool) -> Option<i64>
     ensures { result ≡ index_of fold s.now t.now start }
 {
-    let place = place_after(
-        s.text().as_str(),
-        t.text().as_str(),
-        start_place(start),
-        fold,
-    )?;
+    let place = place_after(s.text(), t.text(), start_place(start), fold)?;
     Some(place as i64)
 }

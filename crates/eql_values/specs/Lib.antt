@@ -1,6 +1,8 @@
 pub mod Wants
 pub mod Agreement
 pub mod Orders
+pub mod Texts
+pub mod Keys
 pub mod Names
 pub mod OrderKeys
 pub mod Masks

@@ -13,6 +13,7 @@ use crate::text::Text;
 use std::alloc::AllocError;
 use std::cmp::Ordering;
 use std::marker::Model;
+use std::slice;
 
 /// What a field holds, by the mapping.
 #[derive(Clone, Copy, Debug, PartialEq, Eq)]
@@ -119,19 +120,35 @@ impl PartialOrd for Value {
     }
 }
 
-/// A join key: the values of the key fields, in their order. Keys are ordered as lists.
+/// The values of a key. One alone stands in the key itself, so that a copy of the key takes no memory for a list.
 #[derive(Drop)]
+enum KeyValues {
+    /// One value.
+    One(Value),
+    /// Any number of values.
+    Many(Vec<Value>),
+}
+
+/// A join key: the values of the key fields, in their order. Keys are ordered as lists.
 pub struct Key {
-    items: Vec<Value>,
+    values: KeyValues,
 }
 
 impl Model for Key {
     ghost use Rattle.std.specs.Prelude.{List};
     ghost use Rattle.eql_values.specs.declared.value.Value.{Value as FieldValue};
+    ghost use Rattle.eql_values.specs.Keys.{values_of};
 
     ghost Value = { List FieldValue };
 
-    ghost view = { λ l. l.items.items };
+    ghost view = { λ k. values_of k.values };
+}
+
+// A drop of its own: where a key is dropped there is one call, and no match.
+impl Drop for Key {
+    fn drop(self) {
+        let Key { values: _ } = self;
+    }
 }
 
 impl Key {
@@ -139,21 +156,27 @@ impl Key {
     pub fn of(items: Vec<Value>) -> Key
         ensures { result ≡ items.items }
     {
-        Key { items }
+        let mut items = items;
+        if items.len() == 1 {
+            if let Some(value) = items.pop() {
+                return Key {
+                    values: KeyValues::One(value),
+                };
+            }
+        }
+        Key {
+            values: KeyValues::Many(items),
+        }
     }
 
     /// The values, lent.
-    pub fn items(&self) -> &Vec<Value>
-        ensures { result.now.items ≡ self.now }
+    pub fn items(&self) -> &[Value]
+        ensures { result.now ≡ self.now }
     {
-        &self.items
-    }
-
-    /// The values, taken out.
-    pub fn into_items(self) -> Vec<Value>
-        ensures { result.items ≡ self }
-    {
-        self.items
+        match &self.values {
+            KeyValues::One(value) => slice::from_ref(value),
+            KeyValues::Many(values) => values.as_slice(),
+        }
     }
 }
 
@@ -161,8 +184,20 @@ impl Clone for Key {
     ghost is_clone = { λ old new. new ≡ old };
 
     fn clone(&self) -> Result<Key, AllocError> {
-        let items = self.items.clone()?;
-        Ok(Key { items })
+        match &self.values {
+            KeyValues::One(value) => {
+                let value = value.clone()?;
+                Ok(Key {
+                    values: KeyValues::One(value),
+                })
+            }
+            KeyValues::Many(values) => {
+                let values = values.clone()?;
+                Ok(Key {
+                    values: KeyValues::Many(values),
+                })
+            }
+        }
     }
 }
 
@@ -190,7 +225,7 @@ impl Ord for Key {
     ghost matches_eq = { Prim.search (comparing, rules) };
 
     fn cmp(&self, other: &Key) -> Ordering {
-        self.items.as_slice().cmp(other.items.as_slice())
+        self.items().cmp(other.items())
     }
 }
 

@@ -101,7 +101,7 @@ fn tie_copied(alloc: Global, tie: Option<&str>) -> Result<Option<Text>, Memory>
     ensures { IfOk result (λ text. text ≡ option_map (λ t. chars t.now) tie.entry) }
 {
     match tie {
-        Some(tie) => Ok(Some(Text::of(String::from_str(alloc, tie)?))),
+        Some(tie) => Ok(Some(Text::copy_of(alloc, tie)?)),
         None => Ok(None),
     }
 }

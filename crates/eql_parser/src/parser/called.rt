@@ -24,7 +24,7 @@ fn callee_of(piece: Piece<'_>) -> Option<(&str, bool)>
         (λ x. piece_kind piece.entry ≡ callee_kind x.1 (chars x.0.now)) }
 {
     match piece {
-        Piece::Name(name) => Some((name.text().as_str(), false)),
+        Piece::Name(name) => Some((name.text(), false)),
         Piece::Folding(name) => Some((name, true)),
         _ => None,
     }
@@ -85,7 +85,7 @@ pub fn called<'a>(
     }
     let depth = arguments.depth + 1;
     let expr = Expr::Call {
-        name: Text::of(String::from_str(alloc, name)?),
+        name: Text::copy_of(alloc, name)?,
         fold,
         args: Exprs::of(arguments.items),
     };

@@ -22,8 +22,8 @@ fn first_part_of(piece: Piece<'_>) -> Option<&str>
     ensures { option_map spelled result ≡ first_part (piece_kind piece.entry) }
 {
     match piece {
-        Piece::Name(name) => Some(name.text().as_str()),
-        Piece::Back(name) => Some(name.text().as_str()),
+        Piece::Name(name) => Some(name.text()),
+        Piece::Back(name) => Some(name.text()),
         _ => None,
     }
 }
@@ -32,7 +32,7 @@ fn first_part_of(piece: Piece<'_>) -> Option<&str>
 fn unmarked(word: &Text) -> Option<&str>
     ensures { option_map spelled result ≡ part (word_kind word.now) }
 {
-    let spelling = word.text().as_str();
+    let spelling = word.text();
     match spelling.strip_suffix('~') {
         Some(_) => None,
         None => Some(spelling),
@@ -45,7 +45,7 @@ fn part_of(token: &Token) -> Option<&str>
 {
     match &token.tok {
         Tok::Word(word) => unmarked(word),
-        Tok::Back(name) => Some(name.text().as_str()),
+        Tok::Back(name) => Some(name.text()),
         Tok::Str(_) => None,
         Tok::Num(_) => None,
         Tok::Sign(_) => None,

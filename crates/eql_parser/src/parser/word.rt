@@ -61,7 +61,7 @@ pub fn is_word(text: &Text, word: &[u8]) -> bool
 fn plain_piece(word: &Text) -> Piece<'_>
     ensures { piece_kind result ≡ plain_kind word.now }
 {
-    match word.text().as_str().strip_suffix('~') {
+    match word.text().strip_suffix('~') {
         Some(front) => Piece::Folding(front),
         None => Piece::Name(word),
     }

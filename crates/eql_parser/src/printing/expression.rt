@@ -95,7 +95,7 @@ fn put_call(page: &mut Page, name: &Text, fold: bool, arguments: &Exprs) -> Resu
     ensures { OnOk result (Adds page.old page.new (shown
         (t.call name.now fold (trees arguments.now)))) }
 {
-    page.put_name(name.text().as_str())?;
+    page.put_name(name.text())?;
     page.put(if fold { "~(" } else { "(" })?;
     put_all(page, ", ", arguments)?;
     page.put(")")

@@ -69,7 +69,7 @@ pub(crate) fn put_quoted(page: &mut Page, text: &Text) -> Result<(), Memory>
     ensures { OnOk result (Adds page.old page.new (quoted text.now)) }
 {
     page.put("\"")?;
-    put_all_escaped(page, text.text().as_str())?;
+    put_all_escaped(page, text.text())?;
     page.put("\"")
 }
 
@@ -92,7 +92,7 @@ pub(crate) fn put_field(page: &mut Page, field: &FieldRef) -> Result<(), Memory>
     ensures { OnOk result (Adds page.old page.new (field_shown field.now.name field.now.optional)) }
 {
     page.put(if field.optional { "?`" } else { "`" })?;
-    put_doubled(page, field.name.text().as_str())?;
+    put_doubled(page, field.name.text())?;
     page.put("`")
 }
 

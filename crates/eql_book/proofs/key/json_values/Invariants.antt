@@ -4,4 +4,4 @@ use Rattle.eql_book.specs.Listing.{json_value}
 use Rattle.eql_book.proofs.key.json_values.Given as goal
 
 abbrev pub invariant-loop-value : goal.invariant-loop-value
-invariant-loop-value l = map view l.list.items ≡ map json_value (take l.value-index l.key.items)
+invariant-loop-value l = map view l.list.items ≡ map json_value (take l.value-index l.key)

@@ -4,6 +4,5 @@ use Rattle.eql_book.proofs.key.text_bytes.Goals as goal
 
 pub returns : goal.returns
 returns c =
-    (c.in_ok-copy.ensures {u = tt}).cases
-    ∙ sym (encodes-chars (string_bytes c.text.result.now) (IsUtf8-string_bytes c.text.result.now))
-    ∙ ap encode_utf8_all c.text.ensures
+    sym (encodes-chars (string_bytes c.in_ok-copy.copy) (IsUtf8-string_bytes c.in_ok-copy.copy))
+    ∙ ap encode_utf8_all c.in_ok-copy.ensures

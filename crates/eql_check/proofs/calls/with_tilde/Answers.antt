@@ -6,6 +6,6 @@ use Rattle.eql_check.proofs.calls.with_tilde.Goals as goal
 
 pub returns : goal.returns
 returns c =
-    let copied : chars (string_bytes c.in_ok-text.text) ≡ c.args.name.now = ap chars c.in_ok-text.ensures.cases ∙ c.text.ensures in
+    let copied : chars (string_bytes c.in_ok-text.text) ≡ c.args.name.now = c.in_ok-text.ensures in
     c.of.ensures ∙ ap chars c.in_ok-push_str.ensures.bytes ∙ chars-append _ _ (IsUtf8-string_bytes c.in_ok-text.text)
     ∙ ap (λ x. x ++ chars (codes "~")) copied

@@ -4,5 +4,4 @@ use Rattle.eql_lines.proofs.scan.name_path.Goals as goal
 
 pub returns : goal.returns
 returns c =
-    c.in_ok-clone.ensures.cases
-    ∙ sym (ap encode_utf8_all (sym c.text.ensures) ∙ encodes-chars _ (IsUtf8-string_bytes c.text.result.now))
+    sym (ap encode_utf8_all (sym c.in_ok-path.ensures) ∙ encodes-chars _ (IsUtf8-string_bytes c.in_ok-path.path))

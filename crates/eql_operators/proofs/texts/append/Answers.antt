@@ -20,8 +20,8 @@ returns-in_ok-append_number-in-Long c =
 
 pub returns-in_ok-push_str-in-Text : goal.returns-in_ok-push_str-in-Text
 returns-in_ok-push_str-in-Text c =
-    appended (string_bytes c.args.text.now) (string_bytes c.push_str-in-Text.new.self) c.as_str.result.now c.args.value.now (IsUtf8-string_bytes c.args.text.now)
-    c.in_ok-push_str-in-Text.ensures.bytes (ap text_of c.in-Text.is ∙ ap Some (sym (ap chars c.as_str.ensures.value ∙ c.text.ensures)))
+    appended (string_bytes c.args.text.now) (string_bytes c.push_str-in-Text.new.self) c.text.result.now c.args.value.now (IsUtf8-string_bytes c.args.text.now)
+    c.in_ok-push_str-in-Text.ensures.bytes (ap text_of c.in-Text.is ∙ ap Some (sym c.text.ensures))
 
 pub returns-in_ok-append_address-in-Ip : goal.returns-in_ok-append_address-in-Ip
 returns-in_ok-append_address-in-Ip c =

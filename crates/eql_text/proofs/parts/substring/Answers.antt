@@ -7,8 +7,8 @@ use Rattle.eql_text.proofs.parts.substring.Goals as goal
 
 pub returns : goal.returns
 returns c =
-    let text = chars c.as_str-text.result.now in
-    let same : text ≡ c.args.s.now = ap chars c.as_str-text.ensures.value ∙ c.text.ensures in
+    let text = chars c.text-text.result.now in
+    let same : text ≡ c.args.s.now = c.text-text.ensures in
     let Is : List ℕ → Type 0 = λ x. IfOk c.part.result (λ t. t ≡ x) in
     subst Is
     (substring_is text c.args.from c.args.to _ _ _ c.length-length.ensures.count (c.place_in.ensures ∙ ap (place_in c.length-length.result) (to_z-of_z w64 c.args.from c.ranges.from)) c.end_in.ensures
