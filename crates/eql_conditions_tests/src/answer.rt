@@ -3,7 +3,7 @@ use eql_check::{CheckRefused, Checked, Mapping, can_check, check};
 use eql_lexer::lex;
 use eql_parser::parse;
 use eql_query::Query;
-use std::alloc::Global;
+use std::alloc::{AllocError, Global};
 use std::process::Abort;
 use std::test::Fail;
 
@@ -24,13 +24,19 @@ fn told(alloc: Global, refused: &CheckRefused) -> Result<String, Fail> {
     }
 }
 
-/// A checked query as one line: the number of its keys, and the fields that it uses.
-fn shown(alloc: Global, checked: &Checked) -> Result<String, Fail> {
-    let mut line = format!(in alloc; "{} keys", checked.keys())?;
+/// Adds the fields that a checked query uses.
+fn push_fields(line: &mut String, checked: &Checked) -> Result<(), AllocError> {
     for field in checked.fields().items() {
         line.push(' ')?;
         line.push_str(field.0.text())?;
     }
+    Ok(())
+}
+
+/// A checked query as one line: the number of its keys, and the fields that it uses.
+fn shown(alloc: Global, checked: &Checked) -> Result<String, Fail> {
+    let mut line = format!(in alloc; "{} keys", checked.keys())?;
+    push_fields(&mut line, checked)?;
     Ok(line)
 }
 

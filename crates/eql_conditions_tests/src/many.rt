@@ -2,31 +2,44 @@
 use crate::answer::answers;
 use crate::mappings::read;
 use eql_check::Mapping;
-use std::alloc::Global;
+use std::alloc::{AllocError, Global};
+use std::fmt::Write;
 use std::test::Fail;
 
-/// The text of a mapping in which `f0`, `f1` and so on, so many, are Boolean fields.
-fn mapping_text(alloc: Global, count: usize) -> Result<String, Fail> {
-    let mut text = String::from_str(alloc, "{")?;
+/// Adds `f0`, `f1` and so on, so many, as Boolean fields of a mapping.
+fn push_fields(text: &mut String, count: usize) -> Result<(), AllocError> {
     for n in 0..count {
         if n > 0 {
             text.push(',')?;
         }
-        text.push_str(format!(in alloc; "\"f{n}\":\"boolean\"")?.as_str())?;
+        write!(text, "\"f{n}\":\"boolean\"")?;
     }
+    Ok(())
+}
+
+/// The text of a mapping of so many of these fields.
+fn mapping_text(alloc: Global, count: usize) -> Result<String, Fail> {
+    let mut text = String::from_str(alloc, "{")?;
+    push_fields(&mut text, count)?;
     text.push('}')?;
     Ok(text)
+}
+
+/// Adds the names of these fields, with this between two.
+fn push_names(text: &mut String, count: usize, between: &str) -> Result<(), AllocError> {
+    for n in 0..count {
+        if n > 0 {
+            text.push_str(between)?;
+        }
+        write!(text, "f{n}")?;
+    }
+    Ok(())
 }
 
 /// The names of these fields, with this between two.
 fn names(alloc: Global, count: usize, between: &str) -> Result<String, Fail> {
     let mut text = String::new(alloc);
-    for n in 0..count {
-        if n > 0 {
-            text.push_str(between)?;
-        }
-        text.push_str(format!(in alloc; "f{n}")?.as_str())?;
-    }
+    push_names(&mut text, count, between)?;
     Ok(text)
 }
 
@@ -85,12 +98,18 @@ fn key_limit_comes_before_field_limit(rt: HostRuntime) -> Result<(), Fail> {
     Ok(())
 }
 
+/// Adds a text so many times.
+fn push_times(text: &mut String, count: usize, piece: &str) -> Result<(), AllocError> {
+    for _ in 0..count {
+        text.push_str(piece)?;
+    }
+    Ok(())
+}
+
 /// A sequence of so many items.
 fn sequence(alloc: Global, count: usize) -> Result<String, Fail> {
     let mut text = String::from_str(alloc, "sequence")?;
-    for _ in 0..count {
-        text.push_str(" [any where true]")?;
-    }
+    push_times(&mut text, count, " [any where true]")?;
     Ok(text)
 }
 
@@ -113,9 +132,7 @@ fn many_items(rt: HostRuntime) -> Result<(), Fail> {
 /// So many optional fields that the mapping doesn't have, with commas between.
 fn optional_fields(alloc: Global, count: usize) -> Result<String, Fail> {
     let mut text = String::from_str(alloc, "?x")?;
-    for _ in 1..count {
-        text.push_str(",?x")?;
-    }
+    push_times(&mut text, count.saturating_sub(1), ",?x")?;
     Ok(text)
 }
 

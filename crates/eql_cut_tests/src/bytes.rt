@@ -3,7 +3,7 @@ use std::alloc::{AllocError, Global};
 
 /// The bytes of a cut after the front and the byte of the format, in hexadecimal, each part with
 /// the first format that has it.
-const PARTS: [(u8, &str); 56] = [
+const PARTS: &[(u8, &str)] = &[
     // The query `q`, and the mapping: a keyword, b boolean, ip address, n long.
     (1, "0100000000000000 71"),
     (1, "0400000000000000"),
@@ -119,7 +119,7 @@ pub fn text_of(alloc: Global, parts: &[(u8, &str)], format: u8) -> Result<Vec<u8
 
 /// The text of the cut in a format.
 pub fn text_in(alloc: Global, format: u8) -> Result<Vec<u8>, AllocError> {
-    text_of(alloc, &PARTS, format)
+    text_of(alloc, PARTS, format)
 }
 
 /// How many bytes a text in hexadecimal has.
@@ -148,13 +148,13 @@ pub fn spread_of(alloc: Global, format: u8) -> Result<Spread, AllocError> {
     }
     for (from, hex) in PARTS {
         let first = third.len();
-        if from <= format {
-            push_hex(&mut third, hex)?;
+        if *from <= format {
+            push_hex(&mut third, *hex)?;
             for i in first..third.len() {
                 index.push(i)?;
             }
         } else {
-            for _ in 0..count_of(hex) {
+            for _ in 0..count_of(*hex) {
                 third.push(0)?;
             }
         }

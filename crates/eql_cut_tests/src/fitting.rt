@@ -79,7 +79,7 @@ const FITTING: Plan = Plan {
 
 /// What differs from the cut that fits, the cut, and whether it fits the run of three stages, of
 /// keys of one value and of the pipes `head 2` and `tail 1`.
-const ROWS: [(&str, Plan, bool); 53] = [
+const ROWS: &[(&str, Plan, bool)] = &[
     ("as it is", FITTING, true),
     (
         "mark too low",
@@ -617,7 +617,7 @@ fn cut_of(alloc: Global, plan: &Plan) -> Result<Cut, Fail> {
 fn each_rule_is_kept(rt: HostRuntime) -> Result<(), Fail> {
     let alloc = rt.alloc();
     let pipes = Pipes::of(vec![in alloc; Pipe::Head(2), Pipe::Tail(1)]?);
-    for (what, plan, expected) in &ROWS {
+    for (what, plan, expected) in ROWS {
         let cut = cut_of(alloc, plan)?;
         assert_eq!(rt; fits(&cut, 3, 1, &pipes), *expected, "{what}");
     }

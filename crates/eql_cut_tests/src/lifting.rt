@@ -12,7 +12,7 @@ use std::test::Fail;
 /// The bytes of a cut after the front and the byte of the format, in hexadecimal, each part with
 /// the first format that has it. It has an event that a lane keeps, two pending sequences, and a
 /// match that a pipe keeps. In the formats with places these are those of `noted`.
-const PARTS: [(u8, &str); 36] = [
+const PARTS: &[(u8, &str)] = &[
     // The query `q`, no mapping, no tiebreaker, a slack of 5, 2 shards, the mark 1000, 2 lanes.
     (1, "0100000000000000 71 0000000000000000 00"),
     (1, "0500000000000000 02000000"),
@@ -78,7 +78,7 @@ fn first_cut(alloc: Global) -> Result<Cut, Fail>
     ensures unplaced { IfOk result (λ cut. IsUnplaced (orders_in cut)) }
     ensures stands { IfOk result IsCut }
 {
-    let bytes = text_of(alloc, &PARTS, 1)?;
+    let bytes = text_of(alloc, PARTS, 1)?;
     first_format_has_no_places();
     match decode(alloc, &bytes) {
         Ok(read) if read.format == 1 => Ok(read.cut),
@@ -106,7 +106,7 @@ fn lifted_text(alloc: Global, cut: Cut, places: PlaceLists) -> Result<Vec<u8>, F
 fn items_holders_and_kept_matches_are_lifted(rt: HostRuntime) -> Result<(), Fail> {
     let alloc = rt.alloc();
     let lifted = lifted_text(alloc, first_cut(alloc)?, noted(alloc)?)?;
-    let expected = text_of(alloc, &PARTS, 3)?;
+    let expected = text_of(alloc, PARTS, 3)?;
     assert_eq!(rt; lifted.as_slice(), expected.as_slice());
     Ok(())
 }

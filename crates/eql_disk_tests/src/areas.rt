@@ -1,7 +1,7 @@
 //! What a recovery finds in areas that were written by hand, and what a put writes.
 use crate::bytes::{bytes_of, cut_of, disk_of};
-use eql_ckdisk::{CkRefused, put, recover};
-use eql_outside::{Area, Disk};
+use eql_ckdisk::{CkRefused, Recovered, put, recover};
+use eql_outside::{Area, Disk, MemDisk};
 use std::alloc::Global;
 use std::test::Fail;
 
@@ -157,34 +157,48 @@ fn rows() -> [Row; 22] {
     ]
 }
 
-/// Whether a recovery of the disk finds this.
-fn is_found<D: Disk>(alloc: Global, disk: &mut D, expected: Finds) -> bool {
-    match (recover(alloc, disk), expected) {
-        (Ok(found), Finds::Nothing) => {
-            found.cut.is_none() && found.format == 0 && found.state.generation() == 0
-        }
-        (Ok(found), Finds::Cut(mark, area, generation)) => {
-            let is_cut = match &found.cut {
-                Some(cut) => cut.mark == mark,
-                None => false,
-            };
-            is_cut
+/// Whether this was found.
+fn is_as(found: &Recovered, expected: Finds) -> bool {
+    match (&found.cut, expected) {
+        (None, Finds::Nothing) => found.format == 0 && found.state.generation() == 0,
+        (Some(cut), Finds::Cut(mark, area, generation)) => {
+            cut.mark == mark
                 && found.format == 3
                 && found.state.area() == area
                 && found.state.generation() == generation
         }
-        (Err(refused), Finds::Damaged(area, at)) => refused == CkRefused::Damaged { area, at },
         _ => false,
     }
 }
 
+/// Whether a recovery of the disk finds this.
+fn is_found<D: Disk>(alloc: Global, disk: &mut D, expected: Finds) -> bool {
+    match recover(alloc, disk) {
+        Ok(found) => {
+            let is_as = is_as(&found, expected);
+            drop(found);
+            is_as
+        }
+        Err(refused) => match expected {
+            Finds::Damaged(area, at) => refused == CkRefused::Damaged { area, at },
+            _ => false,
+        },
+    }
+}
+
+/// Whether a recovery of a row's disk finds what it names, and how many faults the disk counts.
+fn recovery_of(alloc: Global, row: &Row) -> Result<(bool, u64), Fail> {
+    let mut disk = disk_of(alloc, row.a, row.b, None)?;
+    let is_found = is_found(alloc, &mut disk, row.finds);
+    let faults = disk.faults();
+    drop(disk);
+    Ok((is_found, faults))
+}
+
 #[test]
 fn areas_are_read(rt: HostRuntime) -> Result<(), Fail> {
-    let alloc = rt.alloc();
     for row in &rows() {
-        let mut disk = disk_of(alloc, row.a, row.b, None)?;
-        assert!(rt; is_found(alloc, &mut disk, row.finds), "{}", row.name);
-        assert_eq!(rt; disk.faults(), 0);
+        assert_eq!(rt; recovery_of(rt.alloc(), row)?, (true, 0), "{}", row.name);
     }
     Ok(())
 }
@@ -248,27 +262,56 @@ const PUTS: [Put; 6] = [
     },
 ];
 
+/// What a put of the cut with this mark answers, behind a recovery.
+fn put_marked(alloc: Global, disk: &mut MemDisk, mark: u8) -> Result<Result<(), CkRefused>, Fail> {
+    let Ok(found) = recover(alloc, disk) else {
+        return Err(Fail::from("refused"));
+    };
+    let mut state = found.state;
+    drop(found);
+    let cut = cut_of(alloc, mark)?;
+    let answer = put(alloc, disk, &mut state, &cut);
+    drop(cut);
+    Ok(answer)
+}
+
+/// The bytes of both areas.
+type Areas = (Vec<u8>, Vec<u8>);
+
+/// What a row's put answers, and the bytes of both areas then.
+fn put_row(alloc: Global, row: &Put) -> Result<(Result<(), CkRefused>, Areas), Fail> {
+    let mut disk = disk_of(alloc, row.a, row.b, None)?;
+    let answer = put_marked(alloc, &mut disk, row.mark);
+    let areas = disk.crashed(alloc, 0);
+    drop(disk);
+    Ok((answer?, areas?))
+}
+
 #[test]
 fn puts_write_areas(rt: HostRuntime) -> Result<(), Fail> {
     let alloc = rt.alloc();
     for row in &PUTS {
-        let mut disk = disk_of(alloc, row.a, row.b, None)?;
-        let Ok(found) = recover(alloc, &mut disk) else {
-            return Err(Fail::from("refused"));
-        };
-        let mut state = found.state;
-        let cut = cut_of(alloc, row.mark)?;
-        let answer = put(alloc, &mut disk, &mut state, &cut);
+        let (answer, (a, b)) = put_row(alloc, row)?;
         let (then, expected) = match row.then {
             Some(then) => (then, Ok(())),
             None => ((row.a, row.b), Err(CkRefused::Generation)),
         };
         assert_eq!(rt; answer, expected);
-        let (a, b) = disk.crashed(alloc, 0)?;
         assert_eq!(rt; a.as_slice(), bytes_of(alloc, then.0)?.as_slice());
         assert_eq!(rt; b.as_slice(), bytes_of(alloc, then.1)?.as_slice());
     }
     Ok(())
+}
+
+/// Whether a recovery answers a fault of the disk.
+fn is_fault(alloc: Global, disk: &mut MemDisk) -> bool {
+    match recover(alloc, disk) {
+        Ok(found) => {
+            drop(found);
+            false
+        }
+        Err(refused) => refused == CkRefused::DiskFault,
+    }
 }
 
 // A recovery of two areas, of which one is open, makes five calls on the disk: two syncs and three reads.
@@ -278,12 +321,11 @@ fn recovery_tells_faults(rt: HostRuntime) -> Result<(), Fail> {
     for stop in 1..=6 {
         let area = "01 0100000000000000 5b00000000000000 T";
         let mut disk = disk_of(alloc, area, "", Some(stop))?;
-        let is_fault = match recover(alloc, &mut disk) {
-            Err(CkRefused::DiskFault) => true,
-            _ => false,
-        };
+        let is_fault = is_fault(alloc, &mut disk);
+        let faults = disk.faults();
+        drop(disk);
         assert_eq!(rt; is_fault, stop < 6);
-        assert_eq!(rt; disk.faults(), if stop < 6 { 1 } else { 0 });
+        assert_eq!(rt; faults, if stop < 6 { 1 } else { 0 });
     }
     Ok(())
 }

@@ -20,7 +20,7 @@ enum Part {
 }
 
 /// What the cuts say of their run.
-const HEAD: [Part; 13] = [
+const HEAD: &[Part] = &[
     // The query, of 159 bytes.
     Bytes("9f00000000000000 'sequence by `user.name` '"),
     Bytes("'[\"process\" where (`process.name` == \"attrib\")] '"),
@@ -40,7 +40,7 @@ const HEAD: [Part; 13] = [
 ];
 
 /// The cut after five lines.
-const AFTER_FIVE: [Part; 18] = [
+const AFTER_FIVE: &[Part] = &[
     // The mark, 5 s. The lane: 506 bytes, open, best 5 s; 5 lines, all accepted.
     Bytes("00f2052a010000000000000000000000"),
     Bytes("0100000000000000 fa01000000000000 00 01 00f2052a010000000000000000000000"),
@@ -66,7 +66,7 @@ const AFTER_FIVE: [Part; 18] = [
 ];
 
 /// The cut after ten lines.
-const AFTER_TEN: [Part; 21] = [
+const AFTER_TEN: &[Part] = &[
     // The mark, 10 s. The lane: 1015 bytes, open, best 10 s; 10 lines, all accepted.
     Bytes("00e40b54020000000000000000000000"),
     Bytes("0100000000000000 f703000000000000 00 01 00e40b54020000000000000000000000"),
@@ -150,10 +150,10 @@ pub fn text_of(alloc: Global, kept: Kept, form: Form) -> Result<Vec<u8>, AllocEr
     let mut bytes = Vec::new(alloc);
     push_bytes(&mut bytes, "'EQLC'")?;
     bytes.push(form.told)?;
-    push_parts(&mut bytes, &HEAD, form)?;
+    push_parts(&mut bytes, HEAD, form)?;
     match kept {
-        Kept::AfterFive => push_parts(&mut bytes, &AFTER_FIVE, form)?,
-        Kept::AfterTen => push_parts(&mut bytes, &AFTER_TEN, form)?,
+        Kept::AfterFive => push_parts(&mut bytes, AFTER_FIVE, form)?,
+        Kept::AfterTen => push_parts(&mut bytes, AFTER_TEN, form)?,
     }
     Ok(bytes)
 }

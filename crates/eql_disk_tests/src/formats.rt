@@ -211,16 +211,35 @@ fn is_cut(alloc: Global, found: &Recovered, kept: Kept, format: u8) -> Result<bo
     Ok(found.format == format && text.as_slice() == third.as_slice())
 }
 
-/// Whether a recovery of the disk finds this.
-fn is_found(alloc: Global, disk: &mut MemDisk, expected: Finds) -> Result<bool, Fail> {
-    match (recover(alloc, disk), expected) {
-        (Ok(found), Cut(kept, format, area, generation)) => Ok(
-            is_cut(alloc, &found, kept, format)?
+/// Whether this was found.
+fn is_as(alloc: Global, found: &Recovered, expected: Finds) -> Result<bool, Fail>
+    requires { IsSound found.now }
+{
+    match expected {
+        Cut(kept, format, area, generation) => Ok(
+            is_cut(alloc, found, kept, format)?
                 && found.state.area() == area
                 && found.state.generation() == generation,
         ),
-        (Err(refused), Damaged(area, at)) => Ok(refused == CkRefused::Damaged { area, at }),
-        _ => Ok(false),
+        Damaged(_, _) => Ok(false),
+    }
+}
+
+/// Whether a recovery of the disk finds this.
+fn is_found(alloc: Global, disk: MemDisk, expected: Finds) -> Result<bool, Fail> {
+    let mut disk = disk;
+    let recovered = recover(alloc, &mut disk);
+    drop(disk);
+    match recovered {
+        Ok(found) => {
+            let is_as = is_as(alloc, &found, expected);
+            drop(found);
+            is_as
+        }
+        Err(refused) => match expected {
+            Damaged(area, at) => Ok(refused == CkRefused::Damaged { area, at }),
+            Cut(_, _, _, _) => Ok(false),
+        },
     }
 }
 
@@ -228,8 +247,8 @@ fn is_found(alloc: Global, disk: &mut MemDisk, expected: Finds) -> Result<bool, 
 fn wrong_row(alloc: Global, rows: &[Row]) -> Result<&'static str, Fail> {
     for row in rows {
         let (a, b) = (row.a.bytes(alloc)?, row.b.bytes(alloc)?);
-        let mut disk = MemDisk::new(alloc, a, b, Vec::new(alloc), None)?;
-        if !is_found(alloc, &mut disk, row.finds)? {
+        let disk = MemDisk::new(alloc, a, b, Vec::new(alloc), None)?;
+        if !is_found(alloc, disk, row.finds)? {
             return Ok(row.name);
         }
     }
@@ -252,28 +271,40 @@ fn texts_in_another_format_are_damaged(rt: HostRuntime) -> Result<(), Fail> {
 fn disk_of_each_format_is_found(rt: HostRuntime) -> Result<(), Fail> {
     let alloc = rt.alloc();
     for format in 1..=3u8 {
-        let mut disk = disk_in(alloc, format)?;
+        let disk = disk_in(alloc, format)?;
         let newer = Cut(AfterTen, format, Area::B, 2);
-        assert!(rt; is_found(alloc, &mut disk, newer)?, "format {format}");
+        assert!(rt; is_found(alloc, disk, newer)?, "format {format}");
     }
     Ok(())
+}
+
+/// Puts the cut that a disk holds again.
+fn put_again(alloc: Global, disk: &mut MemDisk) -> Result<(), Fail> {
+    let Ok(found) = recover(alloc, disk) else {
+        return Err(Fail::from("refused"));
+    };
+    let mut state = found.state;
+    let answer = match &found.cut {
+        Some(cut) => Some(put(alloc, disk, &mut state, cut)),
+        None => None,
+    };
+    drop(found);
+    match answer {
+        Some(Ok(())) => Ok(()),
+        Some(Err(_)) => Err(Fail::from("refused")),
+        None => Err(Fail::from("no cut")),
+    }
 }
 
 /// The bytes of both areas of the disk of a format once what it holds was put again: the older area has the cut in format 3
 /// with the generation 3.
 fn areas_after_put(alloc: Global, format: u8) -> Result<(Vec<u8>, Vec<u8>), Fail> {
     let mut disk = disk_in(alloc, format)?;
-    let Ok(found) = recover(alloc, &mut disk) else {
-        return Err(Fail::from("refused"));
-    };
-    let mut state = found.state;
-    let Some(cut) = &found.cut else {
-        return Err(Fail::from("no cut"));
-    };
-    match put(alloc, &mut disk, &mut state, cut) {
-        Ok(()) => Ok(disk.crashed(alloc, 0)?),
-        Err(_) => Err(Fail::from("refused")),
-    }
+    let put = put_again(alloc, &mut disk);
+    let areas = disk.crashed(alloc, 0);
+    drop(disk);
+    put?;
+    Ok(areas?)
 }
 
 #[test]

@@ -1,7 +1,8 @@
 //! Feeds of long lines, of many events, and after faults and want of memory.
-use crate::lanes::{END, NINE, ONE, TestLane, lane, play, source, write_reply};
+use crate::lanes::{END, NINE, ONE, TestLane, lane, play, replies, source, write_reply};
 use crate::reader::{FirstByte, LacksOnce};
 use eql_lane::{Lane, LaneOp, LaneReply, LaneStart};
+use eql_values::{Counts, Items};
 use std::alloc::Global;
 use std::fmt::Write;
 use std::test::Fail;
@@ -30,21 +31,24 @@ const LONG: [(usize, usize, u32, &str); 6] = [
     (5000000, 4099, 1, "fed 0;fed 2;taken 2@5000001;"),
 ];
 
+/// What two feeds and a take of such a text in pieces answer, and what is counted then.
+fn told_of_long(alloc: Global, bytes: usize, piece: usize) -> Result<(String, Counts), Fail> {
+    let text = long_text(alloc, bytes)?;
+    let source = source(alloc, text.as_slice(), piece, &[])?;
+    let mut lane = lane(alloc, source, None)?;
+    let told = replies(alloc, &mut lane, &[NINE, NINE, END]);
+    let counts = lane.counts();
+    drop(lane);
+    Ok((told?, counts))
+}
+
 #[test]
 fn long_lines_are_passed_over(rt: HostRuntime) -> Result<(), Fail> {
-    let alloc = rt.alloc();
     for (bytes, piece, rejected, told) in LONG {
-        let text = long_text(alloc, bytes)?;
-        let source = source(alloc, text.as_slice(), piece, &[])?;
-        let mut lane = lane(alloc, source, None)?;
-        let mut out = String::new(alloc);
-        for op in [NINE, NINE, END] {
-            let reply = play(&mut lane, op)?;
-            write_reply(&mut out, &reply)?;
-        }
+        let (out, counts) = told_of_long(rt.alloc(), bytes, piece)?;
         assert_eq!(rt; out.as_str(), told);
-        assert_eq!(rt; lane.counts().rejected, rejected);
-        assert_eq!(rt; lane.counts().accepted, 2 - rejected);
+        assert_eq!(rt; counts.rejected, rejected);
+        assert_eq!(rt; counts.accepted, 2 - rejected);
     }
     Ok(())
 }
@@ -61,6 +65,17 @@ fn full_text(alloc: Global, events: u32) -> Result<Vec<u8>, Fail> {
     Ok(text)
 }
 
+/// Whether a feed of so many lines at most reads some.
+fn is_fed(lane: &mut TestLane, max: u32) -> Result<bool, Fail> {
+    let reply = play(lane, LaneOp::Feed { max })?;
+    let is_fed = match &reply {
+        LaneReply::Fed { .. } => true,
+        _ => false,
+    };
+    drop(reply);
+    Ok(is_fed)
+}
+
 /// Reads so many lines of a lane and no more, so that it doesn't meet the end behind them.
 fn read_lines(lane: &mut TestLane, lines: u32) -> Result<(), Fail> {
     for _ in 0..100u32 {
@@ -68,9 +83,9 @@ fn read_lines(lane: &mut TestLane, lines: u32) -> Result<(), Fail> {
         if max == 0 {
             return Ok(());
         }
-        let LaneReply::Fed { .. } = play(lane, LaneOp::Feed { max })? else {
+        if !is_fed(lane, max)? {
             return Err(Fail::from("a feed ended"));
-        };
+        }
     }
     Err(Fail::from("too many feeds"))
 }
@@ -82,25 +97,47 @@ const FULL: [(u32, &str); 2] = [
     (65536, "held 65536;low 8000000000;65536;closed;"),
 ];
 
+/// Plays an operation, and writes the reply. Of what was taken the number is written.
+fn play_counted(lane: &mut TestLane, op: LaneOp, out: &mut String) -> Result<(), Fail> {
+    match play(lane, op)? {
+        LaneReply::Taken(items) => {
+            let count = items.items().len();
+            drop(items);
+            write!(out, "{count};")?;
+            Ok(())
+        }
+        reply => {
+            let written = write_reply(out, &reply);
+            drop(reply);
+            written
+        }
+    }
+}
+
+/// What a lane answers from which so many lines were read.
+fn told_behind(alloc: Global, lane: &mut TestLane, lines: u32) -> Result<String, Fail> {
+    read_lines(lane, lines)?;
+    let mut out = String::new(alloc);
+    for op in [ONE, LaneOp::Look, END, ONE] {
+        play_counted(lane, op, &mut out)?;
+    }
+    Ok(out)
+}
+
+/// What a lane answers behind so many events.
+fn told_of_full(alloc: Global, events: u32) -> Result<String, Fail> {
+    let text = full_text(alloc, events)?;
+    let source = source(alloc, text.as_slice(), 65536, &[])?;
+    let mut lane = lane(alloc, source, Some(1000))?;
+    let told = told_behind(alloc, &mut lane, events.saturating_add(1));
+    drop(lane);
+    told
+}
+
 #[test]
 fn feeds_wait_behind_many_events(rt: HostRuntime) -> Result<(), Fail> {
-    let alloc = rt.alloc();
     for (events, told) in FULL {
-        let text = full_text(alloc, events)?;
-        let source = source(alloc, text.as_slice(), 65536, &[])?;
-        let mut lane = lane(alloc, source, Some(1000))?;
-        read_lines(&mut lane, events + 1)?;
-        let mut out = String::new(alloc);
-        for op in [ONE, LaneOp::Look, END, ONE] {
-            match play(&mut lane, op)? {
-                LaneReply::Taken(items) => {
-                    let count = items.items().len();
-                    write!(out, "{count};")?;
-                }
-                reply => write_reply(&mut out, &reply)?,
-            }
-        }
-        assert_eq!(rt; out.as_str(), told);
+        assert_eq!(rt; told_of_full(rt.alloc(), events)?.as_str(), told);
     }
     Ok(())
 }
@@ -125,12 +162,9 @@ fn lines_before_a_fault_stand(rt: HostRuntime) -> Result<(), Fail> {
     let text = eleven_lines(alloc)?;
     let source = source(alloc, text.as_slice(), 102, &[2])?;
     let mut lane = lane(alloc, source, None)?;
-    let mut out = String::new(alloc);
-    for op in [MANY, MANY] {
-        let reply = play(&mut lane, op)?;
-        write_reply(&mut out, &reply)?;
-    }
-    assert_eq!(rt; out.as_str(), "failed 1;fed 10;");
+    let told = replies(alloc, &mut lane, &[MANY, MANY]);
+    drop(lane);
+    assert_eq!(rt; told?.as_str(), "failed 1;fed 10;");
     Ok(())
 }
 
@@ -143,23 +177,29 @@ const LACKS: [(u32, &str); 4] = [
     (4, "fed 3;closed;taken 2@2 3@4 1@0;"),
 ];
 
+/// What a lane answers whose reading of this number lacks memory.
+fn told_of_lack(alloc: Global, at: u32) -> Result<String, Fail> {
+    let source = source(alloc, b"3\n1\n2", 3, &[])?;
+    let reader = LacksOnce::at(at);
+    match Lane::make(alloc, source, reader, 0, None, LaneStart::Fresh) {
+        Ok(lane) => {
+            let mut lane = lane;
+            let told = replies(alloc, &mut lane, &[NINE, NINE, END]);
+            drop(lane);
+            told
+        }
+        Err((_, source)) => {
+            drop(source);
+            Err(Fail::from("the lane isn't made"))
+        }
+    }
+}
+
 /// After want of memory the line at hand is read again.
 #[test]
 fn feeds_go_on_after_want_of_memory(rt: HostRuntime) -> Result<(), Fail> {
-    let alloc = rt.alloc();
     for (at, told) in LACKS {
-        let source = source(alloc, b"3\n1\n2", 3, &[])?;
-        let reader = LacksOnce::at(at);
-        let mut lane = match Lane::make(alloc, source, reader, 0, None, LaneStart::Fresh) {
-            Ok(lane) => lane,
-            Err(_) => return Err(Fail::from("the lane isn't made")),
-        };
-        let mut out = String::new(alloc);
-        for op in [NINE, NINE, END] {
-            let reply = play(&mut lane, op)?;
-            write_reply(&mut out, &reply)?;
-        }
-        assert_eq!(rt; out.as_str(), told);
+        assert_eq!(rt; told_of_lack(rt.alloc(), at)?.as_str(), told);
     }
     Ok(())
 }
@@ -167,18 +207,34 @@ fn feeds_go_on_after_want_of_memory(rt: HostRuntime) -> Result<(), Fail> {
 /// Texts with lines of many lengths, each of which begins with its time.
 const TEXTS: [&[u8]; 3] = [b"5abc\n4\n\n \n6de\r\n3 f", b"\n\n\n9\n", b"7\n6\n5\n4\n"];
 
+/// Reads nine lines, and takes what was read.
+fn feed_and_take(lane: &mut TestLane) -> Result<Items, Fail> {
+    drop(play(lane, NINE)?);
+    match play(lane, END)? {
+        LaneReply::Taken(items) => Ok(items),
+        other => {
+            drop(other);
+            Err(Fail::from("nothing was taken"))
+        }
+    }
+}
+
+/// The events of a text, and how many were accepted.
+fn events_of(alloc: Global, text: &[u8]) -> Result<(Items, u32), Fail> {
+    let source = source(alloc, text, 2, &[])?;
+    let mut lane = lane(alloc, source, None)?;
+    let taken = feed_and_take(&mut lane);
+    let accepted = lane.counts().accepted;
+    drop(lane);
+    Ok((taken?, accepted))
+}
+
 /// Each event stands at the place of its line: there its first byte is, behind a line feed.
 #[test]
 fn places_are_those_of_lines(rt: HostRuntime) -> Result<(), Fail> {
-    let alloc = rt.alloc();
     for text in TEXTS {
-        let source = source(alloc, text, 2, &[])?;
-        let mut lane = lane(alloc, source, None)?;
-        let _ = play(&mut lane, NINE)?;
-        let LaneReply::Taken(items) = play(&mut lane, END)? else {
-            return Err(Fail::from("nothing was taken"));
-        };
-        assert_eq!(rt; items.items().len(), lane.counts().accepted as usize);
+        let (items, accepted) = events_of(rt.alloc(), text)?;
+        assert_eq!(rt; items.items().len(), accepted as usize);
         for item in items.items() {
             let at = item.order.at as usize;
             let seconds = item.order.ts / 1000000000;

@@ -1,7 +1,7 @@
 //! Rows of lanes: texts in pieces, batches, slacks and faults, with what each operation answers.
 //! The answers were worked out by hand.
 ghost use Rattle.std.specs.Prelude.{◌≡◌, ◌≤◌, [], IfOk};
-ghost use Rattle.eql_lane.specs.Starts.{MayBegin};
+ghost use Rattle.eql_lane.specs.Starts.{MayBegin, MayStart};
 
 use crate::reader::FirstByte;
 use eql_lane::{Lane, LaneOp, LaneRefused, LaneReply, LaneStart, LimitOf};
@@ -37,7 +37,7 @@ pub(crate) const ONE: LaneOp = LaneOp::Feed { max: 1 };
 pub(crate) const NINE: LaneOp = LaneOp::Feed { max: 9 };
 
 /// The rows whose answers are the same for all pieces.
-const ROWS: [Row; 7] = [
+const ROWS: &[Row] = &[
     // Line 2 comes 6 s behind line 1, line 3 comes 4 s behind it.
     Row {
         text: b":\n4\n6\n",
@@ -236,16 +236,38 @@ pub(crate) fn write_reply(out: &mut String, reply: &LaneReply) -> Result<(), Fai
     Ok(())
 }
 
+/// Plays an operation, and writes the reply.
+fn play_told<L: LineReader>(
+    lane: &mut Lane<MemSource, L>,
+    op: LaneOp,
+    out: &mut String,
+) -> Result<(), Fail> {
+    let reply = play(lane, op)?;
+    let written = write_reply(out, &reply);
+    drop(reply);
+    written
+}
+
+/// What operations in turn answer.
+pub(crate) fn replies<L: LineReader>(
+    alloc: Global,
+    lane: &mut Lane<MemSource, L>,
+    ops: &[LaneOp],
+) -> Result<String, Fail> {
+    let mut out = String::new(alloc);
+    for op in ops {
+        play_told(lane, *op, &mut out)?;
+    }
+    Ok(out)
+}
+
 /// What a lane over the row's text in such pieces answers.
 fn told(alloc: Global, row: &Row, piece: usize) -> Result<String, Fail> {
     let source = source(alloc, row.text, piece, row.fails)?;
     let mut lane = lane(alloc, source, row.slack)?;
-    let mut out = String::new(alloc);
-    for op in row.ops {
-        let reply = play(&mut lane, *op)?;
-        write_reply(&mut out, &reply)?;
-    }
-    Ok(out)
+    let told = replies(alloc, &mut lane, row.ops);
+    drop(lane);
+    told
 }
 
 /// A start from a cut with no events, and what is told of it.
@@ -264,7 +286,7 @@ struct Start {
     told: &'static str,
 }
 
-const STARTS: [Start; 9] = [
+const STARTS: &[Start] = &[
     Start {
         text: b"1\n2\n3",
         fails: &[],
@@ -364,7 +386,7 @@ pub(crate) fn empty_cut(alloc: Global, offset: u64, closed: bool, lines: u32) ->
 }
 
 /// Writes why a lane isn't made.
-pub(crate) fn write_refused(out: &mut String, refused: LaneRefused) -> Result<(), Fail> {
+fn write_refused(out: &mut String, refused: LaneRefused) -> Result<(), Fail> {
     match refused {
         LaneRefused::Short { offset, had } => write!(out, "short {offset} {had}")?,
         LaneRefused::NoLine { line } => write!(out, "no line {line}")?,
@@ -375,6 +397,13 @@ pub(crate) fn write_refused(out: &mut String, refused: LaneRefused) -> Result<()
     Ok(())
 }
 
+/// Why a lane isn't made.
+pub(crate) fn refusal(alloc: Global, refused: LaneRefused) -> Result<String, Fail> {
+    let mut out = String::new(alloc);
+    write_refused(&mut out, refused)?;
+    Ok(out)
+}
+
 /// What is told of a start, in pieces of one byte.
 fn told_of_start(alloc: Global, start: &Start) -> Result<String, Fail> {
     if 4294967294 < start.lines || 1099511627776 < start.offset {
@@ -382,18 +411,18 @@ fn told_of_start(alloc: Global, start: &Start) -> Result<String, Fail> {
     }
     let source = source(alloc, start.text, 1, start.fails)?;
     let cut = empty_cut(alloc, start.offset, start.closed, start.lines);
-    let mut out = String::new(alloc);
     match Lane::make(alloc, source, FirstByte, 0, None, LaneStart::From(cut)) {
-        Err((refused, _source)) => write_refused(&mut out, refused)?,
+        Err((refused, source)) => {
+            drop(source);
+            refusal(alloc, refused)
+        }
         Ok(lane) => {
             let mut lane = lane;
-            for op in [ONE, NINE, END] {
-                let reply = play(&mut lane, op)?;
-                write_reply(&mut out, &reply)?;
-            }
+            let told = replies(alloc, &mut lane, &[ONE, NINE, END]);
+            drop(lane);
+            told
         }
     }
-    Ok(out)
 }
 
 /// What a cut keeps of a lane with a slack of a second over the lines `5` and `1`: the first is
@@ -427,6 +456,19 @@ fn cut_of_two_lines(alloc: Global) -> Result<LaneCut, Memory>
     })
 }
 
+/// A lane with a slack of a second that begins so.
+pub(crate) fn begun(alloc: Global, source: MemSource, start: LaneStart) -> Result<TestLane, Fail>
+    requires { MayStart start }
+{
+    match Lane::make(alloc, source, FirstByte, 0, Some(1000), start) {
+        Ok(lane) => Ok(lane),
+        Err((_, source)) => {
+            drop(source);
+            Err(Fail::from("the lane isn't made"))
+        }
+    }
+}
+
 /// The time and the held events of a cut go on: line 3 isn't late, line 4 is.
 #[test]
 fn held_events_go_on_from_a_cut(rt: HostRuntime) -> Result<(), Fail> {
@@ -435,27 +477,20 @@ fn held_events_go_on_from_a_cut(rt: HostRuntime) -> Result<(), Fail> {
     let Ok(cut) = cut_of_two_lines(alloc) else {
         return Err(Fail::from("memory"));
     };
-    let start = LaneStart::From(cut);
-    let mut lane = match Lane::make(alloc, source, FirstByte, 0, Some(1000), start) {
-        Ok(lane) => lane,
-        Err(_) => return Err(Fail::from("the lane isn't made")),
-    };
-    let mut out = String::new(alloc);
-    for op in [LOOK, LaneOp::Snap, NINE, END] {
-        let reply = play(&mut lane, op)?;
-        write_reply(&mut out, &reply)?;
-    }
+    let mut lane = begun(alloc, source, LaneStart::From(cut))?;
+    let told = replies(alloc, &mut lane, &[LOOK, LaneOp::Snap, NINE, END]);
+    let counts = lane.counts();
+    drop(lane);
     let expected = "low 4000000000;cut 4 2 false 1@0;fed 2;taken 3@4 1@0;";
-    assert_eq!(rt; out.as_str(), expected);
-    assert_eq!(rt; lane.counts().late, 2);
-    assert_eq!(rt; lane.counts().accepted, 2);
+    assert_eq!(rt; told?.as_str(), expected);
+    assert_eq!(rt; (counts.late, counts.accepted), (2, 2));
     Ok(())
 }
 
 #[test]
 fn lanes_begin_from_cuts(rt: HostRuntime) -> Result<(), Fail> {
     let alloc = rt.alloc();
-    for start in &STARTS {
+    for start in STARTS {
         let out = told_of_start(alloc, start)?;
         assert_eq!(rt; out.as_str(), start.told);
     }
@@ -465,7 +500,7 @@ fn lanes_begin_from_cuts(rt: HostRuntime) -> Result<(), Fail> {
 #[test]
 fn rows_answer_in_all_pieces(rt: HostRuntime) -> Result<(), Fail> {
     let alloc = rt.alloc();
-    for row in &ROWS {
+    for row in ROWS {
         for piece in [1, 2, 3, 7, 65536] {
             let out = told(alloc, row, piece)?;
             assert_eq!(rt; out.as_str(), row.told);
@@ -490,13 +525,11 @@ fn cuts_tell_what_is_held(rt: HostRuntime) -> Result<(), Fail> {
     let source = source(alloc, b"3\n1\n2\n", 4, &[])?;
     let mut lane = lane(alloc, source, None)?;
     lane_crosses_threads(&lane);
-    let mut out = String::new(alloc);
-    for op in [LaneOp::Feed { max: 2 }, LaneOp::Snap, NINE, LaneOp::Snap] {
-        let reply = play(&mut lane, op)?;
-        write_reply(&mut out, &reply)?;
-    }
+    let ops = [LaneOp::Feed { max: 2 }, LaneOp::Snap, NINE, LaneOp::Snap];
+    let told = replies(alloc, &mut lane, &ops);
+    drop(lane);
     assert_eq!(rt;
-        out.as_str(),
+        told?.as_str(),
         "fed 2;cut 4 2 false 2@2 1@0;fed 1;cut 6 3 true 2@2 3@4 1@0;"
     );
     Ok(())

@@ -3,7 +3,7 @@ ghost use Rattle.std.specs.Prelude.{◌≡◌, IfOk};
 ghost use Rattle.std.specs.List.Sorted.{IsStrictlyIncreasing};
 ghost use Rattle.eql_lane.specs.Starts.{MayStart};
 
-use crate::lanes::{END, NINE, empty_cut, play, source, write_refused, write_reply};
+use crate::lanes::{END, NINE, TestLane, begun, empty_cut, refusal, replies, source};
 use crate::reader::FirstByte;
 use eql_lane::{Lane, LaneOp, LaneStart};
 use eql_values::{Counts, Item, Items, LaneCut, Lines, Memory, OrderKey, Places, Routes};
@@ -27,7 +27,7 @@ struct Lift {
     told: &'static str,
 }
 
-const LIFTS: [Lift; 16] = [
+const LIFTS: &[Lift] = &[
     Lift {
         text: b"ab\n\nc\nd\n",
         fails: &[],
@@ -204,28 +204,45 @@ fn write_places(out: &mut String, places: &Places) -> Result<(), Fail> {
     Ok(())
 }
 
+/// The places of a lane.
+fn told_of_places(alloc: Global, lane: &mut TestLane) -> Result<String, Fail> {
+    let mut out = String::new(alloc);
+    write_places(&mut out, &lane.places())?;
+    Ok(out)
+}
+
+/// The places of a lane, which has none a second time.
+fn only_places(alloc: Global, lane: &mut TestLane) -> Result<String, Fail> {
+    let told = told_of_places(alloc, lane)?;
+    if lane.places().items().is_empty() {
+        Ok(told)
+    } else {
+        Err(Fail::from("there are places a second time"))
+    }
+}
+
 /// What is told of a lift, in pieces of so many bytes.
 fn told_of_lift(alloc: Global, lift: &Lift, piece: usize) -> Result<String, Fail> {
     let source = source(alloc, lift.text, piece, lift.fails)?;
     let start = start_of(alloc, lift)?;
-    let mut out = String::new(alloc);
     match Lane::make(alloc, source, FirstByte, 0, None, start) {
-        Err((refused, _source)) => write_refused(&mut out, refused)?,
+        Err((refused, source)) => {
+            drop(source);
+            refusal(alloc, refused)
+        }
         Ok(lane) => {
             let mut lane = lane;
-            write_places(&mut out, &lane.places())?;
-            if !lane.places().items().is_empty() {
-                return Err(Fail::from("there are places a second time"));
-            }
+            let told = only_places(alloc, &mut lane);
+            drop(lane);
+            told
         }
     }
-    Ok(out)
 }
 
 #[test]
 fn wanted_lines_have_places(rt: HostRuntime) -> Result<(), Fail> {
     let alloc = rt.alloc();
-    for lift in &LIFTS {
+    for lift in LIFTS {
         for piece in [1, 2, 4, 65536] {
             if piece > 1 && !lift.fails.is_empty() {
                 continue;
@@ -274,6 +291,13 @@ fn lift_of_line_two(alloc: Global) -> Result<LaneStart, Memory>
     })
 }
 
+/// The places of a lane, and what it answers then.
+fn places_and_replies(alloc: Global, lane: &mut TestLane) -> Result<(String, String), Fail> {
+    let places = told_of_places(alloc, lane)?;
+    let replies = replies(alloc, lane, &[LaneOp::Snap, NINE, END])?;
+    Ok((places, replies))
+}
+
 /// The held event has the place of its line, and the lane goes on as from a cut with places.
 #[test]
 fn held_events_have_places(rt: HostRuntime) -> Result<(), Fail> {
@@ -282,17 +306,11 @@ fn held_events_have_places(rt: HostRuntime) -> Result<(), Fail> {
     let Ok(start) = lift_of_line_two(alloc) else {
         return Err(Fail::from("memory"));
     };
-    let mut lane = match Lane::make(alloc, source, FirstByte, 0, Some(1000), start) {
-        Ok(lane) => lane,
-        Err(_) => return Err(Fail::from("the lane isn't made")),
-    };
-    let mut out = String::new(alloc);
-    write_places(&mut out, &lane.places())?;
-    for op in [LaneOp::Snap, NINE, END] {
-        let reply = play(&mut lane, op)?;
-        write_reply(&mut out, &reply)?;
-    }
-    let expected = "2@2;cut 4 2 false 2@2;fed 2;taken 3@4 2@2;";
-    assert_eq!(rt; out.as_str(), expected);
+    let mut lane = begun(alloc, source, start)?;
+    let told = places_and_replies(alloc, &mut lane);
+    drop(lane);
+    let (places, replies) = told?;
+    assert_eq!(rt; places.as_str(), "2@2;");
+    assert_eq!(rt; replies.as_str(), "cut 4 2 false 2@2;fed 2;taken 3@4 2@2;");
     Ok(())
 }

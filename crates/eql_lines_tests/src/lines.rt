@@ -2,11 +2,12 @@
 use eql_lines::{Fields, LineRead, LineScan, Wanted, read_line};
 use eql_values::{Kind, NameKinds, Text, Value};
 use std::alloc::Global;
+use std::process::Abort;
 use std::test::Fail;
 
 /// Keywords and numbers, each line with what it is: `blank`, the reason, or an event's time, tiebreaker, categories
 /// and fields.
-const NUMBERS: [(&str, &str); 23] = [
+const NUMBERS: &[(&str, &str)] = &[
     (
         "{\"@timestamp\":7,\"k\":\"a\\u00e9\"}",
         "7000000 none [] aé null null null",
@@ -63,7 +64,7 @@ const NUMBERS: [(&str, &str); 23] = [
 ];
 
 /// Truth values and addresses.
-const TRUTHS: [(&str, &str); 16] = [
+const TRUTHS: &[(&str, &str)] = &[
     (
         "{\"@timestamp\":7,\"b\":\"true\"}",
         "7000000 none [] null null true null",
@@ -104,7 +105,7 @@ const TRUTHS: [(&str, &str); 16] = [
 ];
 
 /// What names lead to, tiebreakers, and which reason comes first.
-const REACHED: [(&str, &str); 23] = [
+const REACHED: &[(&str, &str)] = &[
     (
         "{\"@timestamp\":7,\"k\":null}",
         "7000000 none [] null null null null",
@@ -170,7 +171,7 @@ const REACHED: [(&str, &str); 23] = [
 ];
 
 /// Timestamps, and lines that are no events.
-const STAMPS: [(&str, &str); 22] = [
+const STAMPS: &[(&str, &str)] = &[
     ("null", "NotObject"),
     ("{} {}", "NotJson"),
     ("{}", "NoTime"),
@@ -213,7 +214,7 @@ const STAMPS: [(&str, &str); 22] = [
 
 /// Texts, each with the time that it names, in nanoseconds since the epoch, or `BadTime`. By Python's `datetime`, and
 /// years outside 1 to 9999 by a count of days.
-const TIMES: [(&str, &str); 62] = [
+const TIMES: &[(&str, &str)] = &[
     ("2024-05-01T08:00:00.123Z", "1714550400123000000"),
     ("2024-05-01T08:00:00Z", "1714550400000000000"),
     ("2024-05-01t08:00:00z", "1714550400000000000"),
@@ -347,74 +348,83 @@ fn tell(alloc: Global, read: &LineRead) -> Result<String, Fail> {
     }
 }
 
-/// What a line is to a reader of many lines, and to one of its own.
-fn tell_twice(
+/// What a reader that goes on reading tells of a line.
+fn tell_line(alloc: Global, scan: &mut LineScan, line: &[u8]) -> Result<String, Fail> {
+    let read = scan.read(alloc, line).map_err(|_| Fail::from("memory"))?;
+    let told = tell(alloc, &read);
+    drop(read);
+    told
+}
+
+/// What a line is to a reader of its own.
+fn tell_alone(alloc: Global, wanted: &Wanted, line: &[u8]) -> Result<String, Fail> {
+    let read = read_line(alloc, wanted, line).map_err(|_| Fail::from("memory"))?;
+    let told = tell(alloc, &read);
+    drop(read);
+    told
+}
+
+/// Sees that each line is what stands beside it, to a reader that goes on reading.
+fn each_is_told(
+    rt: &impl Abort,
+    alloc: Global,
+    scan: &mut LineScan,
+    rows: &[(&str, &str)],
+) -> Result<(), Fail> {
+    for (line, expected) in rows {
+        let told = tell_line(alloc, scan, line.as_bytes())?;
+        assert_eq!(rt; told.as_str(), *expected, "{line}");
+    }
+    Ok(())
+}
+
+/// Sees that each line is what stands beside it, to a reader of its own.
+fn each_is_told_alone(
+    rt: &impl Abort,
     alloc: Global,
     wanted: &Wanted,
-    scan: &mut LineScan,
-    line: &str,
-) -> Result<(String, String), Fail> {
-    let read = scan
-        .read(alloc, line.as_bytes())
-        .map_err(|_| Fail::from("memory"))?;
-    let alone = read_line(alloc, wanted, line.as_bytes()).map_err(|_| Fail::from("memory"))?;
-    Ok((tell(alloc, &read)?, tell(alloc, &alone)?))
+    rows: &[(&str, &str)],
+) -> Result<(), Fail> {
+    for (line, expected) in rows {
+        let told = tell_alone(alloc, wanted, line.as_bytes())?;
+        assert_eq!(rt; told.as_str(), *expected, "alone: {line}");
+    }
+    Ok(())
+}
+
+/// Sees that each line is what stands beside it where values of all kinds are wanted, to a reader of many lines and to
+/// one of its own.
+fn each_tells(rt: &impl Abort, alloc: Global, rows: &[(&str, &str)]) -> Result<(), Fail> {
+    let wanted = all_kinds(alloc)?;
+    each_is_told_alone(rt, alloc, &wanted, rows)?;
+    let mut scan = LineScan::new(alloc, &wanted).map_err(|_| Fail::from("memory"))?;
+    let told = each_is_told(rt, alloc, &mut scan, rows);
+    drop(scan);
+    told
 }
 
 #[test]
 fn keywords_and_numbers_are_read(rt: HostRuntime) -> Result<(), Fail> {
-    let alloc = rt.alloc();
-    let wanted = all_kinds(alloc)?;
-    let mut scan = LineScan::new(alloc, &wanted).map_err(|_| Fail::from("memory"))?;
-    for (line, expected) in NUMBERS {
-        let (kept, alone) = tell_twice(alloc, &wanted, &mut scan, line)?;
-        assert_eq!(rt; kept.as_str(), expected, "{line}");
-        assert_eq!(rt; alone.as_str(), expected, "{line}");
-    }
-    Ok(())
+    each_tells(&rt, rt.alloc(), NUMBERS)
 }
 
 #[test]
 fn truths_and_addresses_are_read(rt: HostRuntime) -> Result<(), Fail> {
-    let alloc = rt.alloc();
-    let wanted = all_kinds(alloc)?;
-    let mut scan = LineScan::new(alloc, &wanted).map_err(|_| Fail::from("memory"))?;
-    for (line, expected) in TRUTHS {
-        let (kept, alone) = tell_twice(alloc, &wanted, &mut scan, line)?;
-        assert_eq!(rt; kept.as_str(), expected, "{line}");
-        assert_eq!(rt; alone.as_str(), expected, "{line}");
-    }
-    Ok(())
+    each_tells(&rt, rt.alloc(), TRUTHS)
 }
 
 #[test]
 fn the_first_reason_is_told(rt: HostRuntime) -> Result<(), Fail> {
-    let alloc = rt.alloc();
-    let wanted = all_kinds(alloc)?;
-    let mut scan = LineScan::new(alloc, &wanted).map_err(|_| Fail::from("memory"))?;
-    for (line, expected) in REACHED {
-        let (kept, alone) = tell_twice(alloc, &wanted, &mut scan, line)?;
-        assert_eq!(rt; kept.as_str(), expected, "{line}");
-        assert_eq!(rt; alone.as_str(), expected, "{line}");
-    }
-    Ok(())
+    each_tells(&rt, rt.alloc(), REACHED)
 }
 
 #[test]
 fn stamps_are_read(rt: HostRuntime) -> Result<(), Fail> {
-    let alloc = rt.alloc();
-    let wanted = all_kinds(alloc)?;
-    let mut scan = LineScan::new(alloc, &wanted).map_err(|_| Fail::from("memory"))?;
-    for (line, expected) in STAMPS {
-        let (kept, alone) = tell_twice(alloc, &wanted, &mut scan, line)?;
-        assert_eq!(rt; kept.as_str(), expected, "{line}");
-        assert_eq!(rt; alone.as_str(), expected, "{line}");
-    }
-    Ok(())
+    each_tells(&rt, rt.alloc(), STAMPS)
 }
 
 /// Lines in which one name lies within another, or is wanted twice, each with what it is.
-const NAMED: [(&str, &str); 17] = [
+const NAMED: &[(&str, &str)] = &[
     (
         "{\"@timestamp\":7,\"a\":{\"b\":{\"c\":\"x\"}}}",
         "7000000 none [] x null 7 x null",
@@ -507,27 +517,13 @@ fn scan_of(alloc: Global, names: &[&str]) -> Result<LineScan, Fail> {
     LineScan::new(alloc, &wanted).map_err(|_| Fail::from("memory"))
 }
 
-/// What a reader that goes on reading tells of a line.
-fn tell_line(alloc: Global, scan: &mut LineScan, line: &[u8]) -> Result<String, Fail> {
-    let read = scan.read(alloc, line).map_err(|_| Fail::from("memory"))?;
-    tell(alloc, &read)
-}
-
-/// What a line is to a reader of its own.
-fn tell_alone(alloc: Global, wanted: &Wanted, line: &[u8]) -> Result<String, Fail> {
-    let read = read_line(alloc, wanted, line).map_err(|_| Fail::from("memory"))?;
-    tell(alloc, &read)
-}
-
 #[test]
 fn names_lead(rt: HostRuntime) -> Result<(), Fail> {
     let alloc = rt.alloc();
     let mut scan = scan_of(alloc, &["a.b.c", "a.b", "@timestamp", "a.b.c", "z."])?;
-    for (line, expected) in NAMED {
-        let told = tell_line(alloc, &mut scan, line.as_bytes())?;
-        assert_eq!(rt; told.as_str(), expected, "{line}");
-    }
-    Ok(())
+    let told = each_is_told(&rt, alloc, &mut scan, NAMED);
+    drop(scan);
+    told
 }
 
 /// What a line is with this text as its timestamp and nothing else.
@@ -536,16 +532,28 @@ fn tell_time(alloc: Global, scan: &mut LineScan, text: &str) -> Result<String, F
     tell_line(alloc, scan, line.as_bytes())
 }
 
+/// Sees that each text names the time beside it.
+fn each_is_timed(
+    rt: &impl Abort,
+    alloc: Global,
+    scan: &mut LineScan,
+    rows: &[(&str, &str)],
+) -> Result<(), Fail> {
+    for (text, expected) in rows {
+        let told = tell_time(alloc, scan, *text)?;
+        let time = told.as_str().split(' ').next().unwrap_or("");
+        assert_eq!(rt; time, *expected, "{text}");
+    }
+    Ok(())
+}
+
 #[test]
 fn times_are_read(rt: HostRuntime) -> Result<(), Fail> {
     let alloc = rt.alloc();
     let mut scan = scan_of(alloc, &[])?;
-    for (text, expected) in TIMES {
-        let told = tell_time(alloc, &mut scan, text)?;
-        let time = told.as_str().split(' ').next().unwrap_or("");
-        assert_eq!(rt; time, expected, "{text}");
-    }
-    Ok(())
+    let timed = each_is_timed(&rt, alloc, &mut scan, TIMES);
+    drop(scan);
+    timed
 }
 
 /// So many fields, each a whole number.

@@ -1,6 +1,19 @@
 //! The JSON of bytes: what is one, and what is none.
 use eql_json::read_json;
+use std::alloc::Global;
 use std::test::Fail;
+
+/// Whether bytes are one JSON text.
+fn is_json(alloc: Global, bytes: &[u8]) -> Result<bool, Fail> {
+    match read_json(alloc, bytes) {
+        Ok(value) => {
+            let is_some = value.is_some();
+            drop(value);
+            Ok(is_some)
+        }
+        Err(_) => Err(Fail::from("memory")),
+    }
+}
 
 #[test]
 fn json_is_told(rt: HostRuntime) -> Result<(), Fail> {
@@ -15,11 +28,8 @@ fn json_is_told(rt: HostRuntime) -> Result<(), Fail> {
         (b"\"\\u0041\"", true),
         (b"01", false),
     ];
-    for (bytes, is_json) in table {
-        match read_json(rt.alloc(), bytes) {
-            Ok(value) => assert_eq!(rt; value.is_some(), is_json),
-            Err(_) => return Err(Fail::from("memory")),
-        }
+    for (bytes, expected) in table {
+        assert_eq!(rt; is_json(rt.alloc(), bytes)?, expected);
     }
     Ok(())
 }

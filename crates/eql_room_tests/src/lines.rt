@@ -4,7 +4,7 @@ use std::alloc::Global;
 use std::test::Fail;
 
 /// Lines, each with what it is: `blank`, `other`, or an event's time in nanoseconds and its category.
-const LINES: [(&[u8], &str); 18] = [
+const LINES: &[(&[u8], &str)] = &[
     (b"", "blank"),
     (b" \t\r", "blank"),
     (b"\n", "other"),
@@ -82,8 +82,8 @@ fn told(alloc: Global, line: &[u8]) -> Result<String, Fail> {
 fn lines_are_told(rt: HostRuntime) -> Result<(), Fail> {
     let alloc = rt.alloc();
     for (line, expected) in LINES {
-        let line = told(alloc, line)?;
-        assert_eq!(rt; line.as_str(), expected);
+        let line = told(alloc, *line)?;
+        assert_eq!(rt; line.as_str(), *expected);
     }
     Ok(())
 }

@@ -12,24 +12,31 @@ fn text(alloc: Global, characters: &str) -> Result<Text, AllocError> {
     Ok(Text::of(String::from_str(alloc, characters)?))
 }
 
+/// A text, another one, from where on it is looked for, and where it is found.
+const PLACES: &[(&str, &str, i64, Option<i64>)] = &[
+    ("abcabc", "c", 3, Some(5)),
+    ("abc", "x", 0, None),
+    ("abc", "", 3, Some(3)),
+    ("abc", "", 4, None),
+    ("abc", "a", -1, Some(0)),
+    ("café é", "é", 4, Some(5)),
+    ("aaaaaaaab", "aaaab", 0, Some(4)),
+    ("abababababac", "ababababac", 0, Some(2)),
+    ("aabaabaabaabaac", "aabaabaac", 0, Some(6)),
+    ("ééééèéééééé", "éééééé", 0, Some(5)),
+    ("aaaaaaaaaaa", "aaaaaaaaaaaa", 0, None),
+];
+
 #[test]
 fn places(rt: HostRuntime) -> Result<(), Fail> {
-    let table = [
-        ("abcabc", "c", 3, Some(5)),
-        ("abc", "x", 0, None),
-        ("abc", "", 3, Some(3)),
-        ("abc", "", 4, None),
-        ("abc", "a", -1, Some(0)),
-        ("café é", "é", 4, Some(5)),
-        ("aaaaaaaab", "aaaab", 0, Some(4)),
-        ("abababababac", "ababababac", 0, Some(2)),
-        ("aabaabaabaabaac", "aabaabaac", 0, Some(6)),
-        ("ééééèéééééé", "éééééé", 0, Some(5)),
-        ("aaaaaaaaaaa", "aaaaaaaaaaaa", 0, None),
-    ];
-    for (s, t, start, want) in table {
-        let got = index_of(&text(rt.alloc(), s)?, &text(rt.alloc(), t)?, start, false);
-        assert_eq!(rt; got, want, "{t} in {s} from {start}");
+    for (s, t, start, want) in PLACES {
+        let got = index_of(
+            &text(rt.alloc(), *s)?,
+            &text(rt.alloc(), *t)?,
+            *start,
+            false,
+        );
+        assert_eq!(rt; got, *want, "{t} in {s} from {start}");
     }
     Ok(())
 }
@@ -77,34 +84,36 @@ fn parts_between(rt: HostRuntime) -> Result<(), Fail> {
     Ok(())
 }
 
+/// A text, the long that it is read as, and the number.
+const NUMBERS: &[(&str, LongRead, Option<i64>)] = &[
+    ("-12", LongRead::Long(-12), Some(-12)),
+    ("1x", LongRead::NoLong, None),
+    ("-", LongRead::NoLong, None),
+    ("+1", LongRead::NoLong, None),
+    (
+        "9223372036854775807",
+        LongRead::Long(i64::MAX),
+        Some(i64::MAX),
+    ),
+    ("9223372036854775808", LongRead::Range, None),
+    (
+        "-9223372036854775808",
+        LongRead::Long(i64::MIN),
+        Some(i64::MIN),
+    ),
+    ("00000000000000000000000007", LongRead::Long(7), Some(7)),
+    ("0x1F", LongRead::NoLong, Some(31)),
+    ("0x", LongRead::NoLong, None),
+    ("0x8000000000000000", LongRead::NoLong, None),
+];
+
 #[test]
 fn numbers(rt: HostRuntime) -> Result<(), Fail> {
-    let table = [
-        ("-12", LongRead::Long(-12), Some(-12)),
-        ("1x", LongRead::NoLong, None),
-        ("-", LongRead::NoLong, None),
-        ("+1", LongRead::NoLong, None),
-        (
-            "9223372036854775807",
-            LongRead::Long(i64::MAX),
-            Some(i64::MAX),
-        ),
-        ("9223372036854775808", LongRead::Range, None),
-        (
-            "-9223372036854775808",
-            LongRead::Long(i64::MIN),
-            Some(i64::MIN),
-        ),
-        ("00000000000000000000000007", LongRead::Long(7), Some(7)),
-        ("0x1F", LongRead::NoLong, Some(31)),
-        ("0x", LongRead::NoLong, None),
-        ("0x8000000000000000", LongRead::NoLong, None),
-    ];
-    for (s, long, number) in table {
-        assert_eq!(rt; long_from_str(s), long);
-        let s = text(rt.alloc(), s)?;
-        assert_eq!(rt; parse_long(&s), long);
-        assert_eq!(rt; parse_number(&s), number);
+    for (s, long, number) in NUMBERS {
+        assert_eq!(rt; long_from_str(*s), *long);
+        let s = text(rt.alloc(), *s)?;
+        assert_eq!(rt; parse_long(&s), *long);
+        assert_eq!(rt; parse_number(&s), *number);
     }
     Ok(())
 }
@@ -138,50 +147,54 @@ fn addresses(rt: HostRuntime) -> Result<(), Fail> {
     Ok(())
 }
 
+/// Two texts, and whether they are equal when folded. They are never equal otherwise.
+const FOLDED: &[(&str, &str, bool)] = &[
+    ("CMD.EXE", "cmd.exe", true),
+    ("ß", "ẞ", true),
+    ("ß", "ss", false),
+    ("İ", "i", false),
+    ("ı", "I", false),
+    ("\u{212a}", "k", true),
+    ("Σ", "ς", true),
+    ("\u{1f88}", "\u{1f80}", true),
+    ("\u{1f88}", "\u{1f00}\u{3b9}", false),
+];
+
 /// By the simple case foldings of the Unicode Character Database's CaseFolding.txt (its lines C and S).
 #[test]
 fn folding(rt: HostRuntime) -> Result<(), Fail> {
-    let table = [
-        ("CMD.EXE", "cmd.exe", true),
-        ("ß", "ẞ", true),
-        ("ß", "ss", false),
-        ("İ", "i", false),
-        ("ı", "I", false),
-        ("\u{212a}", "k", true),
-        ("Σ", "ς", true),
-        ("\u{1f88}", "\u{1f80}", true),
-        ("\u{1f88}", "\u{1f00}\u{3b9}", false),
-    ];
-    for (a, b, want) in table {
-        let (a, b) = (text(rt.alloc(), a)?, text(rt.alloc(), b)?);
-        assert_eq!(rt; equal(&a, &b, true), want);
-        assert_eq!(rt; wildcard(&a, &b, true), want);
+    for (a, b, want) in FOLDED {
+        let (a, b) = (text(rt.alloc(), *a)?, text(rt.alloc(), *b)?);
+        assert_eq!(rt; equal(&a, &b, true), *want);
+        assert_eq!(rt; wildcard(&a, &b, true), *want);
         assert!(rt; !equal(&a, &b, false));
     }
     Ok(())
 }
 
+/// A text, another one, whether case is folded, and whether the text starts with it, ends with it and contains it.
+const MIDDLES: &[(&str, &str, bool, (bool, bool, bool))] = &[
+    ("CMD.EXE", "cmd", true, (true, false, true)),
+    ("CMD.EXE", "CMD", false, (true, false, true)),
+    ("CMD.EXE", ".exe", true, (false, true, true)),
+    ("CMD.EXE", ".exe", false, (false, false, false)),
+    ("CMD.EXE", "d.E", true, (false, false, true)),
+    ("CMD.EXE", "d.E", false, (false, false, false)),
+    ("CMD.EXE", "", true, (true, true, true)),
+    ("", "", false, (true, true, true)),
+    ("10 \u{212a}elvin", "KELVIN", true, (false, true, true)),
+];
+
 #[test]
 fn ends_and_middles(rt: HostRuntime) -> Result<(), Fail> {
-    let table = [
-        ("CMD.EXE", "cmd", true, (true, false, true)),
-        ("CMD.EXE", "CMD", false, (true, false, true)),
-        ("CMD.EXE", ".exe", true, (false, true, true)),
-        ("CMD.EXE", ".exe", false, (false, false, false)),
-        ("CMD.EXE", "d.E", true, (false, false, true)),
-        ("CMD.EXE", "d.E", false, (false, false, false)),
-        ("CMD.EXE", "", true, (true, true, true)),
-        ("", "", false, (true, true, true)),
-        ("10 \u{212a}elvin", "KELVIN", true, (false, true, true)),
-    ];
-    for (s, t, fold, want) in table {
-        let (s, t) = (text(rt.alloc(), s)?, text(rt.alloc(), t)?);
+    for (s, t, fold, want) in MIDDLES {
+        let (s, t) = (text(rt.alloc(), *s)?, text(rt.alloc(), *t)?);
         let got = (
-            starts(&s, &t, fold),
-            ends(&s, &t, fold),
-            contains(&s, &t, fold),
+            starts(&s, &t, *fold),
+            ends(&s, &t, *fold),
+            contains(&s, &t, *fold),
         );
-        assert_eq!(rt; got, want);
+        assert_eq!(rt; got, *want);
     }
     Ok(())
 }

@@ -8,7 +8,7 @@ use std::alloc::Global;
 use std::test::Fail;
 
 /// Texts, each with how it is shown.
-const SHOWN: [(&str, &str); 8] = [
+const SHOWN: &[(&str, &str)] = &[
     ("", ""),
     ("process.name", "process.name"),
     ("a \"b\" \\ `c`", "a \"b\" \\ `c`"),
@@ -33,7 +33,7 @@ fn texts_are_shown(rt: HostRuntime) -> Result<(), Fail> {
     let alloc = rt.alloc();
     for (text, expected) in SHOWN {
         let mut line = String::from_str(alloc, "name ")?;
-        if push_shown(&mut line, text).is_err() {
+        if push_shown(&mut line, *text).is_err() {
             return Err(Fail::from("memory"));
         }
         let expected = format!(in alloc; "name {expected}")?;
@@ -106,87 +106,138 @@ fn item(alloc: Global) -> Result<Item, Fail> {
     })
 }
 
+/// Whether a pending sequence is one of those at stage 1, under this name.
+fn is_holder(alloc: Global, holder: &Holder, name: &str) -> Result<bool, Fail> {
+    let key = key(alloc, name)?;
+    let events = [event(1, 5)];
+    Ok(
+        holder.key == key
+            && holder.stage == 1
+            && holder.chain.items().as_slice() == events.as_slice(),
+    )
+}
+
 #[test]
 fn pending_sequences_are_copied(rt: HostRuntime) -> Result<(), Fail> {
     let copy = holders(rt.alloc())?.clone()?;
     let names = ["elkbee", "root"];
     assert_eq!(rt; copy.items().len(), 2);
     for (holder, name) in copy.items().iter().zip(names.iter()) {
-        assert!(rt; holder.key == key(rt.alloc(), name)?);
-        assert_eq!(rt; holder.stage, 1);
-        assert_eq!(rt; holder.chain.items().as_slice(), [event(1, 5)].as_slice());
+        assert!(rt; is_holder(rt.alloc(), holder, *name)?, "{name}");
     }
     Ok(())
 }
 
-#[test]
-fn shards_are_copied(rt: HostRuntime) -> Result<(), Fail> {
-    let alloc = rt.alloc();
-    let counts = Counts {
-        lines: 5,
-        accepted: 1,
-        late: 2,
-        rejected: 1,
-        first: None,
-    };
+/// Whether an event is that with one route.
+fn is_item(alloc: Global, item: &Item) -> Result<bool, Fail> {
+    let key = key(alloc, "root")?;
+    match item.routes.items().as_slice() {
+        [route] => Ok(
+            item.order == event(9, -4)
+                && route.key == key
+                && route.mask == Mask { low: 1, high: 2 }
+                && route.until,
+        ),
+        _ => Ok(false),
+    }
+}
+
+/// The counts of a shard.
+const COUNTS: Counts = Counts {
+    lines: 5,
+    accepted: 1,
+    late: 2,
+    rejected: 1,
+    first: None,
+};
+
+/// What a cut keeps of one shard with one event.
+fn lanes(alloc: Global) -> Result<LaneCuts, Fail> {
+    let items = Items::of(vec![in alloc; item(alloc)?]?);
     let lane = LaneCut {
         offset: 120,
         closed: true,
         best: Some(-4),
-        counts,
-        items: Items::of(vec![in alloc; item(alloc)?]?),
+        counts: COUNTS,
+        items,
     };
-    let copy = LaneCuts::of(vec![in alloc; lane]?).clone()?;
+    Ok(LaneCuts::of(vec![in alloc; lane]?))
+}
+
+/// Whether what is kept of a shard is as it was made.
+fn is_lane(alloc: Global, lane: &LaneCut) -> Result<bool, Fail> {
+    let is_read = (lane.offset, lane.closed, lane.best) == (120, true, Some(-4));
+    match lane.items.items().as_slice() {
+        [item] => Ok(is_read && lane.counts == COUNTS && is_item(alloc, item)?),
+        _ => Ok(false),
+    }
+}
+
+#[test]
+fn shards_are_copied(rt: HostRuntime) -> Result<(), Fail> {
+    let copy = lanes(rt.alloc())?.clone()?;
+    assert_eq!(rt; copy.items().len(), 1);
     for lane in copy.items() {
-        assert!(rt; lane.counts == counts);
-        assert_eq!(rt;
-            (lane.offset, lane.closed, lane.best),
-            (120, true, Some(-4))
-        );
-        for item in lane.items.items() {
-            assert_eq!(rt; item.order, event(9, -4));
-            for route in item.routes.items() {
-                assert!(rt; route.key == key(alloc, "root")?);
-                assert!(rt; route.mask == Mask { low: 1, high: 2 });
-                assert!(rt; route.until);
-            }
+        assert!(rt; is_lane(rt.alloc(), lane)?);
+    }
+    Ok(())
+}
+
+/// A list of events.
+fn lists(alloc: Global) -> Result<ItemLists, Fail> {
+    let items = Items::of(vec![in alloc; item(alloc)?]?);
+    Ok(ItemLists::of(vec![in alloc; items]?))
+}
+
+#[test]
+fn lists_are_copied(rt: HostRuntime) -> Result<(), Fail> {
+    let copy = lists(rt.alloc())?.clone()?;
+    assert_eq!(rt; copy.items().len(), 1);
+    Ok(())
+}
+
+/// A match of one event, that is kept under a number.
+fn numbered(alloc: Global) -> Result<Numbered, Fail> {
+    let chain = Chain::of(vec![in alloc; event(2, 6)]?);
+    let key = key(alloc, "root")?;
+    let found = Match { key, chain };
+    Ok(Numbered { number: 8, found })
+}
+
+/// What a cut keeps of the output: two pipes, of which one holds back a match.
+fn book(alloc: Global) -> Result<BookCut, Fail> {
+    let kept = Numbereds::of(vec![in alloc; numbered(alloc)?]?);
+    let states = vec![in alloc; PipeState::Head { passed: 3 }, PipeState::Tail { kept }]?;
+    Ok(BookCut {
+        found: 9,
+        listed: 2,
+        pipes: PipeStates::of(states),
+    })
+}
+
+/// Tells pipes as a text.
+fn tell_pipes(pipes: &PipeStates, told: &mut String) -> Result<(), Fail> {
+    for state in pipes.items() {
+        match state {
+            PipeState::Head { passed } => write!(told, "head {passed};")?,
+            PipeState::Tail { kept } => for one in kept.items() {
+                let events = one.found.chain.items().len();
+                write!(told, "tail {} of {events}", one.number)?;
+            },
         }
     }
-    let lists = ItemLists::of(vec![in alloc; Items::of(vec![in alloc; item(alloc)?]?)]?).clone()?;
-    assert_eq!(rt; lists.items().len(), 1);
     Ok(())
 }
 
 #[test]
 fn books_are_copied(rt: HostRuntime) -> Result<(), Fail> {
-    let alloc = rt.alloc();
-    let found = Match {
-        key: key(alloc, "root")?,
-        chain: Chain::of(vec![in alloc; event(2, 6)]?),
-    };
-    let kept = Numbereds::of(vec![in alloc; Numbered { number: 8, found }]?);
-    let states = vec![in alloc; PipeState::Head { passed: 3 }, PipeState::Tail { kept }]?;
-    let book = BookCut {
-        found: 9,
-        listed: 2,
-        pipes: PipeStates::of(states),
-    };
-    let copy = book.clone()?;
-    assert_eq!(rt; (copy.found, copy.listed), (9, 2));
-    let mut told = String::new(alloc);
-    for state in copy.pipes.items() {
-        match state {
-            PipeState::Head { passed } => write!(told, "head {passed};")?,
-            PipeState::Tail { kept } => for one in kept.items() {
-                write!(
-                    told,
-                    "tail {} of {}",
-                    one.number,
-                    one.found.chain.items().len()
-                )?;
-            },
-        }
-    }
+    let copy = book(rt.alloc())?.clone()?;
+    let mut told = String::new(rt.alloc());
+    let counted = (copy.found, copy.listed);
+    let all = tell_pipes(&copy.pipes, &mut told);
+    drop(copy);
+    all?;
+    assert_eq!(rt; counted, (9, 2));
     assert_eq!(rt; told.as_str(), "head 3;tail 8 of 1");
     Ok(())
 }
@@ -202,12 +253,17 @@ fn mapping(alloc: Global, names: &[(&str, Kind)]) -> Result<NameKinds, Fail> {
 
 #[test]
 fn mappings_are_compared(rt: HostRuntime) -> Result<(), Fail> {
-    let alloc = rt.alloc();
-    let one = mapping(alloc, &[("a", Kind::Long), ("b", Kind::Ip)])?;
+    let one = mapping(rt.alloc(), &[("a", Kind::Long), ("b", Kind::Ip)])?;
     assert!(rt; one == one.clone()?);
-    assert!(rt; one == mapping(alloc, &[("a", Kind::Long), ("b", Kind::Ip)])?);
-    assert!(rt; one != mapping(alloc, &[("a", Kind::Long), ("b", Kind::Text)])?);
-    assert!(rt; one != mapping(alloc, &[("a", Kind::Long), ("c", Kind::Ip)])?);
-    assert!(rt; one != mapping(alloc, &[("a", Kind::Long)])?);
+    let rows: [(&[(&str, Kind)], bool); 4] = [
+        (&[("a", Kind::Long), ("b", Kind::Ip)], true),
+        (&[("a", Kind::Long), ("b", Kind::Text)], false),
+        (&[("a", Kind::Long), ("c", Kind::Ip)], false),
+        (&[("a", Kind::Long)], false),
+    ];
+    for (names, is_same) in rows {
+        let other = mapping(rt.alloc(), names)?;
+        assert_eq!(rt; one == other, is_same);
+    }
     Ok(())
 }

@@ -17,7 +17,7 @@ enum Part {
 }
 
 /// What the cuts say of their run.
-const HEAD: [Part; 11] = [
+const HEAD: &[Part] = &[
     // The query, of 159 bytes.
     Bytes("9f00000000000000 'sequence by `user.name` '"),
     Bytes("'[\"process\" where (`process.name` == \"attrib\")] '"),
@@ -35,7 +35,7 @@ const HEAD: [Part; 11] = [
 ];
 
 /// The cut after five lines, but for its book.
-const AFTER_FIVE: [Part; 14] = [
+const AFTER_FIVE: &[Part] = &[
     // The mark, 5 s. The lane: 506 bytes, open, best 5 s; 5 lines, all accepted.
     Bytes("00f2052a010000000000000000000000"),
     Bytes("0100000000000000 fa01000000000000 00 01 00f2052a010000000000000000000000"),
@@ -56,7 +56,7 @@ const AFTER_FIVE: [Part; 14] = [
 ];
 
 /// The cut after ten lines, but for its book.
-const AFTER_TEN: [Part; 17] = [
+const AFTER_TEN: &[Part] = &[
     // The mark, 10 s. The lane: 1015 bytes, open, best 10 s; 10 lines, all accepted.
     Bytes("00e40b54020000000000000000000000"),
     Bytes("0100000000000000 f703000000000000 00 01 00e40b54020000000000000000000000"),
@@ -147,7 +147,7 @@ fn text_of(alloc: Global, format: u8, parts: &[Part], book: &str) -> Result<Vec<
     let mut bytes = Vec::new(alloc);
     push_bytes(&mut bytes, "'EQLC'")?;
     bytes.push(format)?;
-    push_parts(&mut bytes, &HEAD, format)?;
+    push_parts(&mut bytes, HEAD, format)?;
     push_parts(&mut bytes, parts, format)?;
     push_bytes(&mut bytes, book)?;
     Ok(bytes)
@@ -166,8 +166,8 @@ fn area_of(alloc: Global, generation: u64, text: &[u8]) -> Result<Vec<u8>, Alloc
 /// The disk that the run left in format 1 or 2: the cut after five lines in the first area with generation 1, and the cut after
 /// ten lines in the second with generation 2.
 pub(crate) fn disk_in(alloc: Global, format: u8) -> Result<Areas, Fail> {
-    let five = text_of(alloc, format, &AFTER_FIVE, NONE_FOUND)?;
-    let ten = text_of(alloc, format, &AFTER_TEN, ONE_FOUND)?;
+    let five = text_of(alloc, format, AFTER_FIVE, NONE_FOUND)?;
+    let ten = text_of(alloc, format, AFTER_TEN, ONE_FOUND)?;
     Ok(Areas {
         first: area_of(alloc, 1, &five)?,
         second: area_of(alloc, 2, &ten)?,
@@ -176,7 +176,7 @@ pub(crate) fn disk_in(alloc: Global, format: u8) -> Result<Areas, Fail> {
 
 /// A disk with the cut after ten lines, of the last generation that there is.
 pub(crate) fn last_disk(alloc: Global) -> Result<Areas, Fail> {
-    let ten = text_of(alloc, 2, &AFTER_TEN, ONE_FOUND)?;
+    let ten = text_of(alloc, 2, AFTER_TEN, ONE_FOUND)?;
     Ok(Areas {
         first: Vec::new(alloc),
         second: area_of(alloc, 9_223_372_036_854_775_808, &ten)?,
@@ -185,7 +185,7 @@ pub(crate) fn last_disk(alloc: Global) -> Result<Areas, Fail> {
 
 /// A disk with a cut that fits no run.
 pub(crate) fn unfit_disk(alloc: Global) -> Result<Areas, Fail> {
-    let ten = text_of(alloc, 2, &AFTER_TEN, TWO_LISTED)?;
+    let ten = text_of(alloc, 2, AFTER_TEN, TWO_LISTED)?;
     Ok(Areas {
         first: area_of(alloc, 1, &ten)?,
         second: Vec::new(alloc),

@@ -1,6 +1,6 @@
 //! What runs keep on their disk.
 use crate::run::{Areas, disk_of};
-use eql_ckdisk::recover;
+use eql_ckdisk::{Recovered, recover};
 use eql_cut::Cut;
 use std::alloc::Global;
 use std::test::Fail;
@@ -38,20 +38,30 @@ fn offset_in(cut: &Cut) -> u64 {
     }
 }
 
-/// What these areas keep, where they keep a cut.
-pub(crate) fn kept_in(alloc: Global, areas: &Areas) -> Result<Option<Kept>, Fail> {
-    let mut disk = disk_of(alloc, areas, &[], None)?;
-    let Ok(found) = recover(alloc, &mut disk) else {
-        return Err(Fail::from("an area is damaged"));
-    };
-    let generation = found.state.generation();
+/// What was found, where it is a cut.
+fn kept_of(found: &Recovered) -> Option<Kept> {
     match &found.cut {
-        Some(cut) => Ok(Some(Kept {
-            generation,
+        Some(cut) => Some(Kept {
+            generation: found.state.generation(),
             mark: cut.mark,
             offset: offset_in(cut),
             listed: cut.book.listed,
-        })),
-        None => Ok(None),
+        }),
+        None => None,
+    }
+}
+
+/// What these areas keep, where they keep a cut.
+pub(crate) fn kept_in(alloc: Global, areas: &Areas) -> Result<Option<Kept>, Fail> {
+    let mut disk = disk_of(alloc, areas, &[], None)?;
+    let recovered = recover(alloc, &mut disk);
+    drop(disk);
+    match recovered {
+        Ok(found) => {
+            let kept = kept_of(&found);
+            drop(found);
+            Ok(kept)
+        }
+        Err(_) => Err(Fail::from("an area is damaged")),
     }
 }

@@ -17,6 +17,7 @@ use eql_values::{
     Act, Chain, Item, Items, Key, Mask, Matches, Memory, OrderKey, Route, Routes, StageChains,
 };
 use std::alloc::{AllocError, Global};
+use std::fmt::Write;
 use std::marker::Brand;
 use std::process::Abort;
 use std::sync::ledger::{Blank, Ledger};
@@ -285,10 +286,9 @@ fn tags_found(alloc: Global, played: &Played, pending: &StageChains) -> Result<V
 }
 
 /// Adds the lines of a chain's events.
-fn show_chain(alloc: Global, chain: &Chain, shown: &mut String) -> Result<(), AllocError> {
+fn show_chain(chain: &Chain, shown: &mut String) -> Result<(), AllocError> {
     for event in chain.items() {
-        let line = event.line;
-        shown.push_str(format!(in alloc; " {line}")?.as_str())?;
+        write!(shown, " {}", event.line)?;
     }
     shown.push_str(";")
 }
@@ -297,7 +297,7 @@ fn show_chain(alloc: Global, chain: &Chain, shown: &mut String) -> Result<(), Al
 fn found(alloc: Global, matches: &Matches) -> Result<String, AllocError> {
     let mut shown = String::new(alloc);
     for one in matches.items() {
-        show_chain(alloc, &one.chain, &mut shown)?;
+        show_chain(&one.chain, &mut shown)?;
     }
     Ok(shown)
 }
@@ -306,7 +306,7 @@ fn found(alloc: Global, matches: &Matches) -> Result<String, AllocError> {
 fn answered(alloc: Global, chains: &[Chain]) -> Result<String, AllocError> {
     let mut shown = String::new(alloc);
     for chain in chains {
-        show_chain(alloc, chain, &mut shown)?;
+        show_chain(chain, &mut shown)?;
     }
     Ok(shown)
 }
@@ -315,8 +315,8 @@ fn answered(alloc: Global, chains: &[Chain]) -> Result<String, AllocError> {
 fn held(alloc: Global, pending: &StageChains) -> Result<String, AllocError> {
     let mut shown = String::new(alloc);
     for (stage, chain) in pending.items() {
-        shown.push_str(format!(in alloc; "{stage}:")?.as_str())?;
-        show_chain(alloc, chain, &mut shown)?;
+        write!(shown, "{stage}:")?;
+        show_chain(chain, &mut shown)?;
     }
     Ok(shown)
 }

@@ -152,9 +152,9 @@ fn run_beside<R: Threads + Wait + Sync, W: Gate + Sync>(
     fails: &[Failing],
     gate: &W,
 ) -> Result<(Ran, MemDisk), Fail> {
-    let mut shelf = MemShelf::new(alloc, files, disk, failing(alloc, fails, Object::Shelf)?)?;
     let out = MemSink::new(alloc, failing(alloc, fails, Object::Out)?);
     let err = MemSink::new(alloc, failing(alloc, fails, Object::Err)?);
+    let mut shelf = MemShelf::new(alloc, files, disk, failing(alloc, fails, Object::Shelf)?)?;
     let ran = eql_main(rt, alloc, words, &mut shelf, out, err, gate);
     Ok((ran, shelf.into_disk()))
 }

@@ -62,7 +62,7 @@ struct Row {
     line: &'static str,
 }
 
-const ROWS: [Row; 7] = [
+const ROWS: &[Row] = &[
     Row {
         query: 47,
         fields: 2,
@@ -142,7 +142,7 @@ fn run_row(
 fn a_query_and_a_mapping_are_read_up_to_their_length(rt: HostRuntime) -> Result<(), Fail> {
     let query = Name::of(String::from_str(rt.alloc(), "q")?);
     let fields = Name::of(String::from_str(rt.alloc(), "f")?);
-    for row in &ROWS {
+    for row in ROWS {
         run_row(&rt, rt.alloc(), &query, &fields, row)?;
     }
     Ok(())

@@ -2,6 +2,7 @@
 use crate::tables::{COMMANDS, OPTIONS, VALUES};
 use eql_words::{Command, Find, read_command, usage};
 use std::alloc::{AllocError, Global};
+use std::fmt::Write;
 use std::process::Abort;
 use std::test::Fail;
 
@@ -9,17 +10,14 @@ use std::test::Fail;
 fn shown_find(alloc: Global, find: &Find) -> Result<String, AllocError> {
     let mut line = format!(in alloc; "find {} {}", find.query.name(), find.fields.name())?;
     if let Some(tie) = &find.tie {
-        line.push_str(format!(in alloc; " tie={}", tie.text())?.as_str())?;
+        write!(line, " tie={}", tie.text())?;
     }
     if let Some(slack) = find.slack {
-        line.push_str(format!(in alloc; " slack={slack}")?.as_str())?;
+        write!(line, " slack={slack}")?;
     }
-    let batch = find.batch;
-    let hands = find.hands;
-    line.push_str(format!(in alloc; " batch={batch} hands={hands}")?.as_str())?;
+    write!(line, " batch={} hands={}", find.batch, find.hands)?;
     if let Some(kept) = &find.checkpoint {
-        let every = kept.every;
-        line.push_str(format!(in alloc; " at={}/{}", kept.name.name(), every)?.as_str())?;
+        write!(line, " at={}/{}", kept.name.name(), kept.every)?;
     }
     if find.places {
         line.push_str(" places")?;
@@ -60,11 +58,18 @@ fn command_in(alloc: Global, words: &Vec<String>) -> Result<Option<Command>, Fai
     }
 }
 
+/// The command that a line makes, as a text.
+fn shown_in(alloc: Global, line: &str) -> Result<String, Fail> {
+    let command = command_in(alloc, &words_of(alloc, line)?)?;
+    let text = shown(alloc, &command);
+    drop(command);
+    Ok(text?)
+}
+
 /// Reads each line of a table.
 fn run_rows(rt: &impl Abort, alloc: Global, rows: &[(&str, &str)]) -> Result<(), Fail> {
     for (line, expected) in rows {
-        let command = command_in(alloc, &words_of(alloc, *line)?)?;
-        let got = shown(alloc, &command)?;
+        let got = shown_in(alloc, *line)?;
         assert_eq!(rt; got.as_str(), *expected, "{line}");
     }
     Ok(())
@@ -72,9 +77,9 @@ fn run_rows(rt: &impl Abort, alloc: Global, rows: &[(&str, &str)]) -> Result<(),
 
 #[test]
 fn words_make_their_commands(rt: HostRuntime) -> Result<(), Fail> {
-    run_rows(&rt, rt.alloc(), &COMMANDS)?;
-    run_rows(&rt, rt.alloc(), &OPTIONS)?;
-    run_rows(&rt, rt.alloc(), &VALUES)
+    run_rows(&rt, rt.alloc(), COMMANDS)?;
+    run_rows(&rt, rt.alloc(), OPTIONS)?;
+    run_rows(&rt, rt.alloc(), VALUES)
 }
 
 #[test]
