@@ -1,9 +1,10 @@
 #!/usr/bin/env bash
 # What a checkpoint costs: the seconds of `eql find` over two million events of one shard while 100,000 sequences are pending,
-# without a checkpoint and with a cut after every 100 rounds of 4,096 lines, the least of three runs each, all from one run of
-# this script. It runs with the one hand that is the default, and without hands, whose rounds are shorter and whose cuts so are
-# more; over lines of some 95 bytes, which have no field that the query doesn't use, and over lines as long as those of the shipped
-# example, some 300 bytes. It prints which part of the time the cuts cost.
+# without a checkpoint and with a cut after every 100 rounds of 4,096 lines, all from one run of this script. It runs with the one
+# hand that is the default, and without hands, whose rounds are shorter and whose cuts so are more; over lines of some 100 bytes, which
+# have no field that the query doesn't use, and over lines as long as those of the shipped example, some 300 bytes. Runs without and
+# with cuts take turns, seven of each, so that what else the machine does meets both. It prints the medians, and which part of the time
+# the cuts cost by them.
 #
 # usage: bench/pending_times.sh [PROGRAM [EVENTS]]        PROGRAM is the built program, crates/eql/out/eql where none is given
 set -euo pipefail
@@ -29,24 +30,25 @@ printf '{"process.name":"keyword","user.name":"keyword"}' >fields.json
 printf 'sequence by user.name [process where process.name == "attrib"] [process where process.name == "bash"]' >query.eql
 words=(find --query query.eql --fields fields.json --slack 0ms --batch 4096)
 
-# The nanoseconds of the fastest of three runs with these words.
-least() { # WORD..
-    local least=0 begun took run
-    for run in 1 2 3; do
-        rm -f disk.0 disk.1
-        begun=$(date +%s%N)
-        "$program" "${words[@]}" "$@" log.json >out 2>err
-        took=$(($(date +%s%N) - begun))
-        if [ "$least" = 0 ] || [ "$took" -lt "$least" ]; then least=$took; fi
-    done
-    echo "$least"
+# The nanoseconds of a run with these words.
+took() { # WORD..
+    local begun
+    rm -f disk.0 disk.1
+    begun=$(date +%s%N)
+    "$program" "${words[@]}" "$@" log.json >out 2>err
+    echo $(($(date +%s%N) - begun))
 }
 for more in '' "$host$parent"; do
     make_log "$more"
     echo "lines of $(($(stat -c %s log.json) / events)) bytes"
     for hands in 1 0; do
-        without=$(least --hands "$hands")
-        with=$(least --hands "$hands" --checkpoint disk --every 100)
+        rm -f without with
+        for _ in 1 2 3 4 5 6 7; do
+            took --hands "$hands" >>without
+            took --hands "$hands" --checkpoint disk --every 100 >>with
+        done
+        without=$(sort -n without | sed -n 4p)
+        with=$(sort -n with | sed -n 4p)
         bytes=$(cat disk.0 disk.1 | wc -c)
         awk -v hands="$hands" -v without="$without" -v with="$with" -v bytes="$bytes" -v events="$events" 'BEGIN {
             printf "--hands %d, without a checkpoint %7.2f s %9.0f events/s\n", hands, without / 1e9, events * 1e9 / without
