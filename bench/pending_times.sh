@@ -4,7 +4,7 @@
 # hand that is the default, and without hands, whose rounds are shorter and whose cuts so are more; over lines of some 100 bytes, which
 # have no field that the query doesn't use, and over lines as long as those of the shipped example, some 300 bytes. Runs without and
 # with cuts take turns, seven of each, so that what else the machine does meets both. It prints the medians, and which part of the time
-# the cuts cost by them.
+# the cuts cost by them. A tenth at most is wanted.
 #
 # usage: bench/pending_times.sh [PROGRAM [EVENTS]]        PROGRAM is the built program, crates/eql/out/eql where none is given
 set -euo pipefail
