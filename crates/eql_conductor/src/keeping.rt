@@ -50,7 +50,8 @@ fn keep_at<B: Bench, D: Disk>(
         (B.known bench.old) (B.known bench.new) book.now (Some keep.old) (Some keep.new)) }
     ensures goes { LanesGo (B.known bench.old) (B.known bench.new) }
     ensures went { OnOk result (Went (B.known bench.old) (B.known bench.new)) }
-    ensures stops { IfErr result (λ stop. StopsSaving stop (B.known bench.old) (B.known bench.new)) }
+    ensures stops { IfErr result (λ stop.
+        StopsSaving stop (B.known bench.old) (B.known bench.new)) }
     ensures cause { result ≡ Err DiskFailed
         → Rose (D.fault_count keep.old.disk) (D.fault_count keep.new.disk) }
     ensures steady { result ≢ Err DiskFailed
@@ -86,7 +87,8 @@ pub(crate) fn keep_cut<B: Bench, D: Disk>(
         (B.known bench.old) (B.known bench.new) book.now keep.old keep.new) }
     ensures goes { LanesGo (B.known bench.old) (B.known bench.new) }
     ensures went { OnOk result (Went (B.known bench.old) (B.known bench.new)) }
-    ensures stops { IfErr result (λ stop. StopsSaving stop (B.known bench.old) (B.known bench.new)) }
+    ensures stops { IfErr result (λ stop.
+        StopsSaving stop (B.known bench.old) (B.known bench.new)) }
     ensures cause { result ≡ Err DiskFailed
         → Rose (disk_faults D.history D.fault_count keep.old)
         (disk_faults D.history D.fault_count keep.new) }

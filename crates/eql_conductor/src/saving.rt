@@ -158,7 +158,8 @@ pub(crate) fn save<B: Bench, D: Disk>(
     requires numbers { BookKeepsNumbers book.now.kept }
     requires head { IsHeadOf head.now (B.known bench.old) }
     requires stands { Stands (last_cut keep.old.state) (D.history keep.old.disk) }
-    ensures lanes { (texts : Option (List (List ℕ))) → LanesAt texts (AtTime time) (B.known bench.old)
+    ensures lanes { (texts : Option (List (List ℕ)))
+        → LanesAt texts (AtTime time) (B.known bench.old)
         → OnOk result (LanesAt texts (AtTime time) (B.known bench.new)) }
     ensures parts { (rules : Rules) (all : List Holder)
         → Resting rules all (AtTime time) (B.known bench.old)
@@ -169,10 +170,12 @@ pub(crate) fn save<B: Bench, D: Disk>(
         keep.old.state keep.new.state (D.history keep.old.disk) (D.history keep.new.disk)) }
     ensures goes { LanesGo (B.known bench.old) (B.known bench.new) }
     ensures went { OnOk result (Went (B.known bench.old) (B.known bench.new)) }
-    ensures stops { IfErr result (λ stop. StopsSaving stop (B.known bench.old) (B.known bench.new)) }
+    ensures stops { IfErr result (λ stop.
+        StopsSaving stop (B.known bench.old) (B.known bench.new)) }
     ensures notes { OnOk result (SaveNoted (B.known bench.old) (B.known bench.new)) }
     ensures broken_notes { OnErr result (SaveBroken (B.known bench.old) (B.known bench.new)) }
-    ensures full { result ≡ Err (AtLimit Generation) → (last_cut keep.new.state).generation ≡ 2 ^ 63 }
+    ensures full { result ≡ Err (AtLimit Generation)
+        → (last_cut keep.new.state).generation ≡ 2 ^ 63 }
     ensures stands_yet { IfErr result (λ stop. (stop ≢ DiskFailed) → (stop ≢ OutOfMemory)
         → Stands (last_cut keep.new.state) (D.history keep.new.disk)) }
     ensures cause { result ≡ Err DiskFailed

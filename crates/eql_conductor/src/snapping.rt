@@ -34,7 +34,8 @@ fn snap_lane<B: Bench>(bench: &mut B, s: u32) -> Result<LaneCut, Stop>
         → IfOk result (λ cut. IsSnap (text_at texts s) ((B.known bench.old).set s) mark cut) }
     ensures went { OnOk result (Went (B.known bench.old) (B.known bench.new)) }
     ensures stops { IfErr result (λ stop. StopsBy stop (B.known bench.old) (B.known bench.new)) }
-    ensures notes { OnOk result (LaneNoted s (Snapped ∷ []) (B.known bench.old) (B.known bench.new)) }
+    ensures notes { OnOk result (LaneNoted s (Snapped ∷ [])
+        (B.known bench.old) (B.known bench.new)) }
     ensures broken_notes { OnErr result (LaneBroken s (Snapped ∷ [])
         (B.known bench.old) (B.known bench.new)) }
 {

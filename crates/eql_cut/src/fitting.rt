@@ -170,7 +170,8 @@ impl Bounds {
     }
 
     fn items_fit(&self, shard: usize, lines: u32, items: &[Item]) -> bool
-        ensures { result ≡ list_all (item_fits self.now.stages self.now.keys self.now.mark shard lines)
+        ensures { result
+            ≡ list_all (item_fits self.now.stages self.now.keys self.now.mark shard lines)
             items.now }
     {
         items.iter().all(|item| self.item_fits(shard, lines, item))

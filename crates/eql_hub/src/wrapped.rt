@@ -130,7 +130,8 @@ impl<G: Ledger> Turned for TurnedPart<G> {
 
     ghost opens = { λ part op is. open_part_allowed part.state op is };
 
-    ghost stays_allowed = { λ x y op later reply is step may. part_stays_allowed x y op later reply is step may };
+    ghost stays_allowed = { λ x y op later reply is step may.
+        part_stays_allowed x y op later reply is step may };
 }
 
 /// Wraps lanes, in room for them.

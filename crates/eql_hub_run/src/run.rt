@@ -57,7 +57,8 @@ fn run_over<
     requires few { length pool.lanes ≤ 256 }
     requires hands { hands ≤ 65536 }
     requires texts { AreOfTexts S.left T.text pool.lanes }
-    requires may { MayRun plan.now (bench_known L.read_of T.text (bench_of pool.lanes pool.parts)) book.old }
+    requires may { MayRun plan.now
+        (bench_known L.read_of T.text (bench_of pool.lanes pool.parts)) book.old }
     requires keeps { MayKeepIf D.history D.fault_count plan.now
         (bench_known L.read_of T.text (bench_of pool.lanes pool.parts)) keep.old }
     ensures ran { RanBeside S.left S.lent_as S.fault_plan L.read_of D.history D.fault_count

@@ -49,7 +49,8 @@ fn tell_name<E: Sink>(alloc: Global, cause: &str, name: &Name, err: &mut E)
 
 /// Tells a line that has no line feed yet.
 fn tell_line<E: Sink>(alloc: Global, mut line: String, err: &mut E)
-    ensures told { WroteFront (string_bytes line ++ codes "\n") (E.written err.old) (E.written err.new) }
+    ensures told { WroteFront (string_bytes line ++ codes "\n")
+        (E.written err.old) (E.written err.new) }
     ensures counts { E.fault_count err.old ≤ E.fault_count err.new }
 {
     if line.push_str("\n").is_ok() {

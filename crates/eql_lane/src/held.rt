@@ -61,7 +61,8 @@ fn lies_below(order: &OrderKey, mark: Mark) -> bool
 /// Whether an event at this place comes behind all of a run.
 fn comes_last(run: &VecDeque<Item>, order: &OrderKey) -> bool
     requires { IsTrue (is_sorted order_cmp (map pair run.now.items)) }
-    ensures { result ≡ true → All (λ (item : Event). IsTrue (is_lt (order_cmp item.order order.now))) run.now.items }
+    ensures { result ≡ true
+        → All (λ (item : Event). IsTrue (is_lt (order_cmp item.order order.now))) run.now.items }
 {
     match run.back() {
         None => true,

@@ -67,7 +67,8 @@ impl LineReader for FirstByte {
         Ok(by_time(alloc, shard, line, bytes))
     }
 
-    ghost reads_at = { λ reader shard line bytes event is. reads_an_event shard line bytes event is };
+    ghost reads_at = { λ reader shard line bytes event is.
+        reads_an_event shard line bytes event is };
 
     ghost reads_long = { λ reader shard line bytes many. reads_a_long_line shard line bytes many };
 }
@@ -108,7 +109,8 @@ impl LineReader for LacksOnce {
         FirstByte.read(alloc, shard, line, bytes)
     }
 
-    ghost reads_at = { λ reader shard line bytes event is. reads_an_event shard line bytes event is };
+    ghost reads_at = { λ reader shard line bytes event is.
+        reads_an_event shard line bytes event is };
 
     ghost reads_long = { λ reader shard line bytes many. reads_a_long_line shard line bytes many };
 }

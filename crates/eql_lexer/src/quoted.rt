@@ -111,7 +111,8 @@ fn line_content(alloc: Global, bytes: &[u8], opening: usize) -> Result<(Vec<u8>,
 /// Why a string is refused in which a backslash begins no escape.
 fn bad_escape(rest: &[u8], opening: usize) -> Fault
     ensures { result ≡ (if is_closed rest.now
-        then fault.Broken rule.BadEscape (length rest.now) else fault.Broken rule.OpenString opening) }
+        then fault.Broken rule.BadEscape (length rest.now)
+        else fault.Broken rule.OpenString opening) }
 {
     if closes(rest) {
         Fault::Broken(Rule::BadEscape, rest.len())

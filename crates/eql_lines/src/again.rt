@@ -84,7 +84,8 @@ fn reach_all(items: &Vec<Value>, path: &[u8], slot: &mut Slot) -> Result<(), All
 #[cycle(again)]
 fn reach_each(members: &Map<String, Value>, path: &[u8], slot: &mut Slot) -> Result<(), AllocError>
     ensures { OnOk result (found_of slot.new
-        ≡ found_all (found_of slot.old) (reach_members (members_view members.now.entries) path.now)) }
+        ≡ found_all (found_of slot.old)
+        (reach_members (members_view members.now.entries) path.now)) }
 {
     for (key, member) in members.iter() {
         if let Some(rest) = behind(path, key.as_bytes()) {

@@ -105,7 +105,8 @@ impl Paths {
     ) -> Result<(), AllocError>
         requires { length slots.old.items ≡ length self.now.paths.items }
         ensures gains { OnOk result ((s : Scalar) → found_by seen text.now ≡ one s
-            → Gains self.now.paths.items active (λ path. at_end path s) slots.old.items slots.new.items) }
+            → Gains self.now.paths.items active (λ path. at_end path s)
+            slots.old.items slots.new.items) }
         ensures length { length slots.new.items ≡ length slots.old.items }
     {
         let mut left = active.places;

@@ -154,7 +154,8 @@ impl LineWalk {
     /// Reads a line. After `Object` the slots hold what the paths reach in it.
     pub(crate) fn read(&mut self, bytes: &[u8]) -> Result<Line, AllocError>
         ensures line { IfOk result (λ line. line ≡ line_of (json_of bytes.now)) }
-        ensures slots { OnOk result (AreFilled (names_of self.old.routes) self.new.slots.items (json_of bytes.now)) }
+        ensures slots { OnOk result (AreFilled (names_of self.old.routes)
+            self.new.slots.items (json_of bytes.now)) }
         ensures routes { self.new.routes ≡ self.old.routes }
     {
         let Ok(text) = simdutf8::compat::from_utf8(bytes) else {

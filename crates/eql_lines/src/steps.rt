@@ -93,7 +93,8 @@ fn empty_rows(alloc: Global) -> Result<Vec<Vec<Step>>, AllocError>
 /// Puts a step into a row.
 fn put(rows: &mut Vec<Vec<Step>>, place: usize, step: Step) -> Result<(), AllocError>
     requires { place < length rows.old.items }
-    ensures here { OnOk result (row_at rows.new.items place ≡ row_at rows.old.items place ++ step ∷ []) }
+    ensures here { OnOk result (row_at rows.new.items place
+        ≡ row_at rows.old.items place ++ step ∷ []) }
     ensures others { OnOk result ((j : ℕ) → j ≢ place
         → row_at rows.new.items j ≡ row_at rows.old.items j) }
     ensures length { OnOk result (length rows.new.items ≡ length rows.old.items) }

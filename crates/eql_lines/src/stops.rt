@@ -29,7 +29,8 @@ impl Stops {
     pub(crate) fn of(paths: Paths, table: Table) -> Stops
         requires steps { IsTable paths.paths.items table }
         requires opened { (n : ℕ) → IsOpen paths.paths.items table n }
-        requires whole { (i : ℕ) → rest_on paths.paths.items table 0 i ≡ path_at paths.paths.items i }
+        requires whole { (i : ℕ)
+            → rest_on paths.paths.items table 0 i ≡ path_at paths.paths.items i }
         ensures { result.paths ≡ paths }
     {
         Stops { paths, table }
@@ -47,10 +48,12 @@ impl Stops {
     #[inline(always)]
     pub(crate) fn under(&self, stop: u32, name: &str) -> Option<u32>
         ensures none { result ≡ None → (i : ℕ)
-            → option_and_then (behind name.now) (rest_on self.now.paths.paths.items self.now.table stop i) ≡ None }
+            → option_and_then (behind name.now)
+            (rest_on self.now.paths.paths.items self.now.table stop i) ≡ None }
         ensures some { IfSome result (λ inner. (i : ℕ)
             → rest_on self.now.paths.paths.items self.now.table inner i
-            ≡ option_and_then (behind name.now) (rest_on self.now.paths.paths.items self.now.table stop i)) }
+            ≡ option_and_then (behind name.now)
+            (rest_on self.now.paths.paths.items self.now.table stop i)) }
     {
         self.table.step(stop, name.as_bytes())
     }

@@ -62,7 +62,8 @@ pub(crate) fn walk_value(
     requires { length slots.old.items ≡ length stops.now.paths.paths.items }
     ensures ok { IfOk result (λ o. (d : Data)
         × (converted of_json (value depth reader.old) ≡ Some (d, reader.new))
-        × Gains stops.now.paths.paths.items (active_at stops.now.table.stops.items stop) (reach d) slots.old.items slots.new.items
+        × Gains stops.now.paths.paths.items (active_at stops.now.table.stops.items stop) (reach d)
+        slots.old.items slots.new.items
         × (o ≡ is_object d)) }
     ensures shorter { OnOk result (length reader.new < length reader.old) }
     ensures err { result ≡ Err Broke.Invalid → converted of_json (value depth reader.old) ≡ None }
@@ -119,7 +120,8 @@ fn walk_on(
 ) -> Result<bool, Broke>
     requires { length slots.old.items ≡ length stops.now.paths.paths.items }
     ensures ok { IfOk result (λ o. (d : Data)
-        × (converted of_json (value depth (token_of token.entry ∷ reader.old)) ≡ Some (d, reader.new))
+        × (converted of_json (value depth (token_of token.entry ∷ reader.old))
+        ≡ Some (d, reader.new))
         × Gains stops.now.paths.paths.items (active_at stops.now.table.stops.items stop) (reach d)
         slots.old.items slots.new.items
         × (o ≡ is_object d)) }
@@ -176,7 +178,8 @@ fn walk_items(
     ensures ok { OnOk result ((ds : Items)
         × (converted of_items (items (value depth) (length reader.old) reader.old)
         ≡ Some (ds, reader.new))
-        × Gains stops.now.paths.paths.items (active_at stops.now.table.stops.items stop) (reach_items ds) slots.old.items slots.new.items) }
+        × Gains stops.now.paths.paths.items (active_at stops.now.table.stops.items stop)
+        (reach_items ds) slots.old.items slots.new.items) }
     ensures shorter { OnOk result (length reader.new < length reader.old) }
     ensures err { result ≡ Err Broke.Invalid
         → converted of_items (items (value depth) (length reader.old) reader.old) ≡ None }
@@ -201,7 +204,8 @@ fn walk_members(
     ensures ok { OnOk result ((ms : Members)
         × (converted (λ ms. of_members ms no_members)
         (members (value depth) (length reader.old) reader.old) ≡ Some (ms, reader.new))
-        × Gains stops.now.paths.paths.items (active_at stops.now.table.stops.items stop) (reach_members ms) slots.old.items slots.new.items) }
+        × Gains stops.now.paths.paths.items (active_at stops.now.table.stops.items stop)
+        (reach_members ms) slots.old.items slots.new.items) }
     ensures shorter { OnOk result (length reader.new < length reader.old) }
     ensures err { result ≡ Err Broke.Invalid → converted (λ ms. of_members ms no_members)
         (members (value depth) (length reader.old) reader.old) ≡ None }

@@ -22,7 +22,8 @@ impl<T: Turned> LockRow<T> {
         requires may { MayPlayAt T.allows T.step_of T.is_open passes.old.views place op }
         ensures own { passes.new.locks ≡ self.now }
         ensures played { ChangesAt place (λ v w. MatchResult result
-            (λ reply. Plays T.step_of T.is_open v op reply w) (λ refused. RefusesWorn v op refused w)
+            (λ reply. Plays T.step_of T.is_open v op reply w)
+            (λ refused. RefusesWorn v op refused w)
             × KnowsHistory T.step_of T.is_open w) passes.old.views passes.new.views }
     {
         self.locks[place].call(rt, &mut passes.passes[place], op)
@@ -40,7 +41,8 @@ impl<T: Turned> LockRow<T> {
         requires may { MayPlayAt T.allows T.step_of T.is_open passes.old.views place op }
         ensures own { passes.new.locks ≡ self.now }
         ensures played { ChangesAt place (λ v w. MatchResult result
-            (λ reply. PlaysOnce T.step_of T.is_open v op reply w) (λ refused. Refuses v op refused w)
+            (λ reply. PlaysOnce T.step_of T.is_open v op reply w)
+            (λ refused. Refuses v op refused w)
             × KnowsHistory T.step_of T.is_open w) passes.old.views passes.new.views }
     {
         self.locks[place].try_call(&mut passes.passes[place], op)

@@ -10,7 +10,9 @@ use std::thread;
 /// Moves the value of a ticket to the end, or out where memory is short.
 fn move_to_back(list: &mut SpanList<u64>, ticket: Ticket) -> Result<Ticket, u64>
     requires { HasTicket list.old ticket }
-    ensures { AtTicket list.old ticket (λ xs x ys. MatchResult result (λ t. list.new ≡ (xs ++ ys) ++ (t, x) ∷ []) (λ back. (list.new ≡ xs ++ ys) × (back ≡ x))) }
+    ensures { AtTicket list.old ticket (λ xs x ys. MatchResult result
+        (λ t. list.new ≡ (xs ++ ys) ++ (t, x) ∷ [])
+        (λ back. (list.new ≡ xs ++ ys) × (back ≡ x))) }
 {
     let value = list.remove(ticket);
     list.push_back(value)
@@ -27,7 +29,8 @@ fn remove_both(list: &mut SpanList<u64>, first: Ticket, second: Ticket) -> (u64,
 
 /// Takes the first value out where it is below `reach`.
 fn pop_below(list: &mut SpanList<u64>, reach: u64) -> Option<u64>
-    ensures { MatchOption result (list.new ≡ list.old) (λ x. PopsFirst list.old list.new x × (x < reach)) }
+    ensures { MatchOption result (list.new ≡ list.old)
+        (λ x. PopsFirst list.old list.new x × (x < reach)) }
 {
     match list.front() {
         Some(first) if *first < reach => list.pop_front(),

@@ -73,7 +73,8 @@ pub trait Shelf {
 
         // One more is lent where a source is handed out, and none elsewhere.
         ensures lends { IfSome (lent_count self.old) (λ n. IfOk result
-            (λ o. MatchOption o (lent_count self.new ≡ Some n) (λ _. lent_count self.new ≡ Some (n + 1)))) }
+            (λ o. MatchOption o (lent_count self.new ≡ Some n)
+            (λ _. lent_count self.new ≡ Some (n + 1)))) }
         ensures lends_none { IsErr result → lent_count self.new ≡ lent_count self.old }
 
         // The count of faults rises where the call fails, that of absences where no file has the name, and

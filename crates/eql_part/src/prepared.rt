@@ -79,7 +79,8 @@ fn prepare<L: Ledger>(
     ensures sequences { KeepsSequences (entries_of machines.old) (entries_of machines.new) }
     ensures ready { KeepsReady (entries_of machines.old) (entries_of machines.new) }
     ensures there { OnOk result (IsReadyIn (entries_of machines.new) route.now.key) }
-    ensures others { KeepsOtherKeys route.now.key (entries_of machines.old) (entries_of machines.new) }
+    ensures others { KeepsOtherKeys route.now.key
+        (entries_of machines.old) (entries_of machines.new) }
     ensures prepared { IfOk result (IsPrepared shape.stages route.now) }
     ensures list { IfOk result (λ ready. list.new ≡ list.old
         ++ begun_by order route.now ready.begun) }
@@ -132,7 +133,8 @@ pub(crate) fn prepare_all<L: Ledger>(
     ensures table { IsTable shape.stages shape.span machines.new }
     ensures sequences { KeepsSequences (entries_of machines.old) (entries_of machines.new) }
     ensures ready { OnOk result (AreReadyFor routes.now.items (entries_of machines.new)) }
-    ensures others { KeepsOtherRoutes routes.now.items (entries_of machines.old) (entries_of machines.new) }
+    ensures others { KeepsOtherRoutes routes.now.items
+        (entries_of machines.old) (entries_of machines.new) }
     ensures prepared { IfOk result
         (λ prepared. ArePrepared shape.stages routes.now.items prepared.items) }
     ensures list { IfOk result (λ prepared. list.new ≡ list.old

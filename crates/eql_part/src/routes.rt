@@ -142,7 +142,8 @@ pub(crate) fn play<L: Ledger>(
         ≡ filter_map (match_there shape.stages shape.span
         (slots_in (entries_of machines.old)) order) routes.now.items) }
     ensures linked { IsLinked [] (sequences_in (entries_of machines.new)) list.new }
-    ensures unchanged { OnErr result (KeepsSequences (entries_of machines.old) (entries_of machines.new)) }
+    ensures unchanged { OnErr result
+        (KeepsSequences (entries_of machines.old) (entries_of machines.new)) }
     ensures probes { steps.new ≤ steps.old + probes_of_all shape.stages routes.now.items }
 {
     if routes.len() == 1 {

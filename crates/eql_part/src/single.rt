@@ -205,7 +205,8 @@ pub(crate) fn play_one<L: Ledger>(
         ≡ option_to_list (match_there shape.stages shape.span
         (slots_in (entries_of machines.old)) order route.now)) }
     ensures linked { IsLinked [] (sequences_in (entries_of machines.new)) list.new }
-    ensures unchanged { OnErr result (KeepsSequences (entries_of machines.old) (entries_of machines.new)) }
+    ensures unchanged { OnErr result
+        (KeepsSequences (entries_of machines.old) (entries_of machines.new)) }
     ensures probes { steps.new ≤ steps.old + probes_of shape.stages route.now }
 {
     let hash = hash_of(&route.key);

@@ -37,7 +37,8 @@ fn turn_machine<L: Ledger>(
         (sequences_in (entries_of machines.old)) list.old }
     ensures of { AreOf shape.stages shape.span (entries_of machines.new) }
     ensures table { IsTable shape.stages shape.span machines.new }
-    ensures others { KeepsOtherKeys route.now.key (entries_of machines.old) (entries_of machines.new) }
+    ensures others { KeepsOtherKeys route.now.key
+        (entries_of machines.old) (entries_of machines.new) }
     ensures slots { (k : ℕ) → 1 ≤ k → k < shape.stages
         → slots_in (entries_of machines.new) route.now.key k
         ≡ slots_after shape.span (slots_in (entries_of machines.old) route.now.key)
@@ -78,7 +79,8 @@ pub(crate) fn turn_key<L: Ledger>(
         (sequences_in (entries_of machines.old)) list.old }
     ensures of { AreOf shape.stages shape.span (entries_of machines.new) }
     ensures table { IsTable shape.stages shape.span machines.new }
-    ensures others { KeepsOtherKeys route.now.key (entries_of machines.old) (entries_of machines.new) }
+    ensures others { KeepsOtherKeys route.now.key
+        (entries_of machines.old) (entries_of machines.new) }
     ensures busy { IsBusyAt (entries_of machines.new) route.now.key }
     ensures slots { (k : ℕ) → 1 ≤ k → k < shape.stages
         → slots_in (entries_of machines.new) route.now.key k

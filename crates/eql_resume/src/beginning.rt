@@ -31,7 +31,8 @@ impl Model for Pending {
 
     ghost Value = { Rest };
 
-    ghost view = { λ p. record { mark = p.mark; holders = p.holders; book = p.book; unplaced = p.unplaced } };
+    ghost view = { λ p.
+        record { mark = p.mark; holders = p.holders; book = p.book; unplaced = p.unplaced } };
 }
 
 /// What a run begins with.
@@ -67,7 +68,8 @@ fn kept_lanes(alloc: Global, lanes: LaneCuts) -> Result<Vec<LaneStart>, Memory>
 
 // The lines of each shard that a cut names.
 fn wanted_lines(alloc: Global, cut: &Cut, shards: u32) -> Result<Vec<Lines>, Memory>
-    ensures { IfOk result (λ lists. (length lists.items ≡ shards) × WantedAre cut.now 0 lists.items) }
+    ensures { IfOk result (λ lists. (length lists.items ≡ shards)
+        × WantedAre cut.now 0 lists.items) }
 {
     let mut lists = Vec::new(alloc);
     for shard in 0..shards {
@@ -159,7 +161,8 @@ pub fn begin(
     shards: u32,
     pipes: &Pipes,
 ) -> Result<Beginning, Memory>
-    requires suits { IfSome cut (λ c. Suits stages values pipes.now c.head c × (c.head.shards ≡ shards)) }
+    requires suits { IfSome cut (λ c. Suits stages values pipes.now c.head c
+        × (c.head.shards ≡ shards)) }
     requires unplaced { IfSome cut (λ c. unplaced ≡ true → IsUnplaced (orders_in c)) }
     ensures lanes { IfOk result (λ b. LanesBegin cut unplaced shards b.lanes.items) }
     ensures rest { IfOk result (λ b. b.rest ≡ rest_by pipes.now unplaced cut) }

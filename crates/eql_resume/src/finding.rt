@@ -123,8 +123,10 @@ pub fn find_start<D: Disk>(
     // What the disk held is what it was found to hold, whatever image a crash would have left from now on.
     ensures holds { IfOk result (λ start. IfSome (D.history disk.old)
         (λ h. StandsFor (on_of start) (found (seen_areas h.now)))) }
-    ensures suits { IfOk result (λ start. IfSome start.cut (Suits stages values pipes.now head.now)) }
-    ensures unplaced { IfOk result (λ start. IfSome start.cut (λ cut. start.format ≡ 1 → IsUnplaced (orders_in cut))) }
+    ensures suits { IfOk result (λ start.
+        IfSome start.cut (Suits stages values pipes.now head.now)) }
+    ensures unplaced { IfOk result (λ start. IfSome start.cut (λ cut. start.format ≡ 1
+        → IsUnplaced (orders_in cut))) }
     ensures format { IfOk result (λ start. start.cut ≡ None → start.format ≡ 0) }
     ensures stands { IfOk result (λ start. Stands (last_cut start.state) (D.history disk.new)) }
 
@@ -137,7 +139,8 @@ pub fn find_start<D: Disk>(
     ensures kept { OnOk result (Told AllKept (D.history disk.old) (D.history disk.new)) }
 
     // The disk's count rises where its fault is answered, and nowhere else.
-    ensures fault { result ≡ Err StartRefused.Disk → Rose (D.fault_count disk.old) (D.fault_count disk.new) }
+    ensures fault { result ≡ Err StartRefused.Disk
+        → Rose (D.fault_count disk.old) (D.fault_count disk.new) }
     ensures steady { result ≢ Err StartRefused.Disk
         → D.fault_count disk.new ≡ D.fault_count disk.old }
     ensures counts { D.fault_count disk.old ≤ D.fault_count disk.new }

@@ -17,7 +17,8 @@ use std::marker::{Model, PhantomData, Send, Sync};
 pub(crate) struct NodeStore<T> {
     marker: PhantomData<*mut Node<T>>,
     pub(crate) ghost nodes: { Seq (PlacedNode T) },
-    pub(crate) ghost apart: { IsApart (places nodes) } by { prop_coded (IsApart-prop (places nodes)) },
+    pub(crate) ghost apart: { IsApart (places nodes) } by { prop_coded
+        (IsApart-prop (places nodes)) },
 }
 
 impl<T> Model for NodeStore<T> {

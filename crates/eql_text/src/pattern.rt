@@ -76,7 +76,8 @@ fn fits_back(pattern: &str, text: &str, fold: bool) -> bool
 /// What is left of a text from the first character on that the first one of a part fits.
 fn rest_fitting<'t>(part: &str, text: &'t str, fold: bool) -> &'t str
     requires { NonePass (λ c. c == 42) (chars part.now) }
-    ensures same { (q : List ℕ) → any_end (wildcard fold (chars part.now ++ (42 ∷ q))) (chars result.now)
+    ensures same { (q : List ℕ)
+        → any_end (wildcard fold (chars part.now ++ (42 ∷ q))) (chars result.now)
         ≡ any_end (wildcard fold (chars part.now ++ (42 ∷ q))) (chars text.now) }
     ensures shorter { length result.now ≤ length text.now }
 {
