@@ -3,3 +3,4 @@ pub mod Machine
 pub mod Kept
 pub mod Moves
 pub mod Holding
+pub mod Starts

@@ -9,6 +9,7 @@ ghost use Rattle.eql_values.specs.OrderKeys.{order_cmp};
 ghost use Rattle.eql_laws.specs.Slots.{Slots, slots_after, chain_coming};
 ghost use Rattle.eql_auto.specs.Holding.{holder_of};
 ghost use Rattle.eql_auto.specs.Machine.{ComesAfter, IsAfterTurn, act_of, alive_in, chains_of, slot_at, slot_after, stage_chains, stages, stages_in, tags_of};
+ghost use Rattle.eql_auto.specs.Starts.{first_start};
 
 use crate::moves::{advance_all, begin_new, empty_at_end, empty_stale};
 use crate::steps::Steps;
@@ -94,6 +95,13 @@ impl<T: Copy, L: Ledger> Auto<T, L> {
         } else {
             pending
         }
+    }
+
+    /// The timestamp of the first event of the pending sequence of the least stage that has one, in nanoseconds.
+    pub fn first_time(&self) -> Option<i128>
+        ensures { result ≡ first_start self.now.slots }
+    {
+        self.table.first_time()
     }
 
     /// Plays an event that fits the stages of the mask, and the until item where `until` is true. It answers the chain

@@ -8,6 +8,7 @@ ghost use Rattle.eql_auto.specs.Holding.{holder_of};
 ghost use Rattle.eql_auto.specs.Machine.{AllBefore, ComesAfter, tags_of, went_on, stage_chains};
 ghost use Rattle.eql_auto.specs.Moves.{chain_in, emptied};
 ghost use Rattle.eql_auto.specs.Kept.{seen};
+ghost use Rattle.eql_auto.specs.Starts.{first_start, start_of};
 
 use crate::steps::Steps;
 use eql_values::{Chain, Holder, Key, Memory, OrderKey, StageChains, is_in_time};
@@ -86,6 +87,16 @@ fn is_early(span: Option<i128>, events: &Vec<OrderKey>, event: &OrderKey) -> boo
     is_in_time(span, events.as_slice(), event.ts)
 }
 
+/// The timestamp of the first event of a pending sequence, in nanoseconds.
+fn start_of<T>(pending: &Pending<T>) -> Option<i128>
+    ensures { result ≡ start_of pending.now.events.items }
+{
+    match pending.events.first() {
+        None => None,
+        Some(first) => Some(first.ts),
+    }
+}
+
 /// So many empty slots.
 fn empty_slots<T: Copy>(alloc: Global, count: usize) -> Result<Vec<Option<Pending<T>>>, Memory>
     ensures { IfOk result (λ slots. slots.items ≡ replicate count None) }
@@ -161,6 +172,18 @@ impl<T: Copy, L: Ledger> SlotTable<T, L> {
             }
         }
         count
+    }
+
+    /// The timestamp of the first event of the pending sequence of the least stage that has one, in nanoseconds.
+    pub fn first_time(&self) -> Option<i128>
+        ensures { result ≡ first_start self.now }
+    {
+        for slot in &self.slots {
+            if let Some(pending) = slot {
+                return start_of(pending);
+            }
+        }
+        None
     }
 
     /// Puts a sequence with its last event into the slot of that event's stage, or out of the table after the last slot.

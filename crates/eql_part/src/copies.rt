@@ -1,5 +1,6 @@
 //! Copies of the pending sequences of keys that are lent.
-ghost use Rattle.std.specs.Prelude.{◌≡◌, ◌-◌, ◌<◌, false, IfOk, IfSome, length, map, slice_index_or};
+ghost use Rattle.std.specs.Prelude.{◌≡◌, ◌-◌, ◌<◌, ◌≤◌, false, IfOk, IfSome, length, map, slice_index_or, vec_capacity};
+ghost use Rattle.eql_part.specs.declared.copies.TheConstants.{AHEAD};
 ghost use Rattle.eql_part.specs.KeyTables.{holders_in};
 ghost use Rattle.eql_part.specs.Rooms.{AreInKeyOrder, Lent, NoneBefore, lent};
 
@@ -7,6 +8,29 @@ use crate::machine::KeyMachine;
 use eql_values::{Holder, Key, Memory};
 use std::alloc::Global;
 use std::sync::ledger::Ledger;
+
+/// How many rows are read ahead of their copies. In the order of keys the rooms, the slots and the events of the rows lie
+/// anywhere in memory. So many are enough that the processor waits for many of them at once. They are few enough that most
+/// of what was read is still close to the processor when it is copied.
+const AHEAD: usize = 128;
+
+/// Reads what the copies of the next rows will read, from a place on. Nothing rests on what is read, and it is read only so
+/// that it is at hand then. The loop is short, so the processor reads of many rows at once. The timestamps are kept in a list,
+/// as reading that nobody uses would be left out.
+fn read_ahead<L: Ledger>(
+    rows: &Vec<(u128, &Key, &KeyMachine<L>)>,
+    place: usize,
+    times: &mut Vec<i128>,
+)
+    requires { AHEAD ≤ vec_capacity times.old }
+    ensures { AHEAD ≤ vec_capacity times.new }
+{
+    times.clear();
+    let end = rows.len().min(place.saturating_add(AHEAD));
+    for at in place..end {
+        times.push_reserved(rows[at].2.first_time().unwrap_or(0));
+    }
+}
 
 /// Copies of the pending sequences, by key as the keys stand here and by stage.
 pub(crate) fn copy_all<L: Ledger>(
@@ -47,7 +71,11 @@ pub(crate) fn copy_in_order<L: Ledger>(
         AreInKeyOrder rows.now.items)) }
 {
     let mut found = Vec::with_capacity(alloc, rows.len())?;
+    let mut times = Vec::with_capacity(alloc, AHEAD)?;
     for place in 0..rows.len() {
+        if place % AHEAD == 0 {
+            read_ahead(rows, place, &mut times);
+        }
         if is_before_last(rows, place) {
             return Ok(None);
         }

@@ -5,6 +5,7 @@ ghost use Rattle.eql_values.specs.Masks.{has_after};
 ghost use Rattle.eql_values.specs.Matching.{act_by};
 ghost use Rattle.eql_laws.specs.Slots.{chain_coming, slots_after};
 ghost use Rattle.eql_auto.specs.Machine.{ComesAfter, alive_in, chains_of, slot_after, slot_at, stages, tags_of};
+ghost use Rattle.eql_auto.specs.Starts.{first_start};
 ghost use Rattle.eql_span_list.specs.Entries.{HasTicket};
 ghost use Rattle.eql_part.specs.KeyTables.{holders_of, probes_of};
 ghost use Rattle.eql_part.specs.Links.{Differ, IsOneOf, LeaveList};
@@ -149,6 +150,13 @@ impl<L: Ledger> KeyMachine<L> {
     {
         self.auto.put_holder(stage, chain, ticket);
         self.pending += 1;
+    }
+
+    /// The timestamp of the first event of the pending sequence of the least stage that has one, in nanoseconds.
+    pub fn first_time(&self) -> Option<i128>
+        ensures { result ≡ first_start self.now.slots }
+    {
+        self.auto.first_time()
     }
 
     /// Adds copies of the pending sequences, each with a copy of the key, by stage.

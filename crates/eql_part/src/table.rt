@@ -260,14 +260,14 @@ impl<L: Ledger> KeyTable<L> {
         Ok(rows)
     }
 
-    /// The keys that have a machine, each with its number and its machine, in the order of their numbers. They are lent, so no
-    /// key is copied, and none is looked at.
+    /// The keys that have a machine, each with its number and its machine, in the order of their numbers, and of the keys where
+    /// the numbers are equal. They are lent, so no key is copied. A key whose number no other has is not looked at.
     pub fn by_lead(&self, shape: Shape) -> Result<Vec<(u128, &Key, &KeyMachine<L>)>, Memory>
         requires { IsTable shape.stages shape.span self.now }
         ensures { IfOk result (λ rows. AreUnsorted (entries_of self.now) rows.items) }
     {
         let mut rows = self.rows(shape.alloc)?;
-        rows.sort_unstable_by(|a, b| a.0.cmp(&b.0));
+        rows.sort_unstable_by(|a, b| a.0.cmp(&b.0).then_with(|| a.1.cmp(b.1)));
         Ok(rows)
     }
 }

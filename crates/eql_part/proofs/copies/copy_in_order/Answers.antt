@@ -1,5 +1,6 @@
-use Rattle.std.proofs.Common.{◌<◌, length, arith}
+use Rattle.std.proofs.Common.{◌<◌, length, ap, arith, vec_capacity}
 use Rattle.eql_part.proofs.Copied.{copied_more, order_more}
+use Rattle.eql_part.proofs.copies.copy_in_order.Goals.{then-place-eq0, else-place-eq0}
 use Rattle.eql_part.proofs.copies.copy_in_order.Goals as goal
 
 pub loop-place-preserved : goal.loop-place-preserved
@@ -11,4 +12,8 @@ loop-place-preserved g c =
       copies = copied_more rows i c.index-row.result.now c.loop-place.found.items c.add_holders.new.found.items lt c.index-row.ensures c.loop-place.invariant.copies
           (c.in_ok-add_holders.ensures {u = tt});
       order = order_more rows i c.loop-place.invariant.order (λ some. c.is_before_last.ensures c.if-is_before_last.false some);
+      room = elim c.if-place-eq0.branch [
+        | then-place-eq0 w ↦ let same = ap (λ v. vec_capacity v) w.times-is in let had = w.read_ahead.ensures in omega (arith, same, had)
+        | else-place-eq0 w ↦ let same = ap (λ v. vec_capacity v) w.times-is in let had = c.loop-place.invariant.room in omega (arith, same, had)
+      ];
     }

@@ -1,5 +1,6 @@
-use Rattle.std.proofs.Common.{◌≡◌, map, take}
+use Rattle.std.proofs.Common.{◌≡◌, ◌≤◌, map, take, vec_capacity}
 use Rattle.std.specs.List.{AllAdjacentBelow}
+use Rattle.eql_part.specs.declared.copies.TheConstants.{AHEAD}
 use Rattle.eql_part.specs.KeyTables.{holders_in}
 use Rattle.eql_part.specs.Rooms.{NoneBefore, lent}
 use Rattle.eql_part.proofs.copies.copy_in_order.Given as goal
@@ -8,4 +9,5 @@ abbrev pub invariant-loop-place : goal.invariant-loop-place
 invariant-loop-place g l = record {
   copies : l.found.items ≡ holders_in (map lent (take l.place l.rows.items));
   order : AllAdjacentBelow NoneBefore l.rows.items l.place;
+  room : AHEAD ≤ vec_capacity l.times;
 }
