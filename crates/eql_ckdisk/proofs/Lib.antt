@@ -3,6 +3,7 @@ pub mod Moving
 pub mod Writes
 pub mod Taken
 pub mod Blocks
+pub mod BlockMade
 pub mod HeadLemmas
 pub mod Settling
 pub mod PutSteps

@@ -1,6 +1,8 @@
 //! Puts a cut into the area that doesn't count, behind a closed gate, and opens the gate once the cut is kept.
-ghost use Rattle.std.specs.Prelude.{◌≡◌, ◌≢◌, ◌≤◌, ◌<◌, ◌^◌, ◌↔◌, Err, IfOk, IfErr, IfSome, OnOk, OnErr};
+ghost use Rattle.std.specs.Prelude.{◌≡◌, ◌≢◌, ◌+◌, ◌≤◌, ◌<◌, ◌^◌, ◌↔◌, Err};
+ghost use Rattle.std.specs.Prelude.{IfOk, IfErr, IfSome, OnOk, OnErr, length, drop};
 ghost use Rattle.eql_cut.specs.Domain.{IsCut};
+ghost use Rattle.eql_cut.specs.Whole.{IsText};
 ghost use Rattle.eql_outside.specs.Moments.{Told};
 ghost use Rattle.eql_outside.specs.Outside.{Rose};
 ghost use Rattle.eql_outside.specs.Unfailing.{IsUnfailing};
@@ -12,33 +14,45 @@ ghost use Rattle.eql_ckdisk.specs.Refusing.{IfDamaged};
 use crate::refused::CkRefused;
 use crate::state::{CkState, GREATEST};
 use crate::through::write_through;
-use eql_cut::{Cut, encode};
+use eql_cut::{Cut, encode_behind};
 use eql_outside::{Disk, OutRefused, crashes_leave_images};
 use eql_values::Memory;
 use std::alloc::Global;
 
-// The generation, the length and the text.
-fn make_block(alloc: Global, generation: u64, text: &[u8]) -> Result<Vec<u8>, Memory>
-    ensures { IfOk result (λ made. made.items ≡ block generation text.now) }
+// Puts the generation and the length of the text over the 16 bytes before the text.
+fn put_head(made: &mut [u8], generation: u64)
+    requires { 16 ≤ length made.old }
+    ensures { made.new ≡ block generation (drop 16 made.old) }
 {
-    let mut made = Vec::from_slice(alloc, &generation.to_le_bytes())?;
-    made.extend_from_slice(&(text.len() as u64).to_le_bytes())?;
-    made.extend_from_slice(text)?;
+    let text_length = made.len() as u64 - 16;
+    made[..8].copy_from_slice(&generation.to_le_bytes());
+    made[8..16].copy_from_slice(&text_length.to_le_bytes());
+}
+
+// The generation, the length of the text, and the text of the cut.
+fn make_block(alloc: Global, generation: u64, cut: &Cut) -> Result<Vec<u8>, Memory>
+    requires { IsCut cut.now }
+    ensures text { IfOk result (λ made. IsText 3 cut.now (drop 16 made.items)) }
+    ensures head { IfOk result (λ made. made.items ≡ block generation (drop 16 made.items)) }
+{
+    let mut made = encode_behind(alloc, &[0; 16], cut)?;
+    put_head(&mut made, generation);
     Ok(made)
 }
 
-// Puts a text.
-fn put_text<D: Disk>(
+// Puts the text of a block that has the next generation.
+fn put_block<D: Disk>(
     alloc: Global,
     disk: &mut D,
     state: CkState,
-    text: &[u8],
+    made: &[u8],
 ) -> Result<(), OutRefused>
     requires stands { Stands (last_cut state) (D.history disk.old) }
     requires room { (last_cut state).generation < 2 ^ 63 }
-    ensures moments { Told (PutsText (last_cut state) text.now)
+    requires head { made.now ≡ block ((last_cut state).generation + 1) (drop 16 made.now) }
+    ensures moments { Told (PutsText (last_cut state) (drop 16 made.now))
         (D.history disk.old) (D.history disk.new) }
-    ensures done { OnOk result (Told (PutText (last_cut state) text.now)
+    ensures done { OnOk result (Told (PutText (last_cut state) (drop 16 made.now))
         (D.history disk.old) (D.history disk.new)) }
     ensures cause { result ≡ Err OutRefused.Failed
         → Rose (D.fault_count disk.old) (D.fault_count disk.new) }
@@ -50,9 +64,8 @@ fn put_text<D: Disk>(
 {
     crashes_leave_images();
     let area = state.next_area();
-    let block = make_block(alloc, state.generation() + 1, text)?;
     write_through(alloc, disk, area, 0, &[0])?;
-    write_through(alloc, disk, area, 1, &block)?;
+    write_through(alloc, disk, area, 1, made)?;
     write_through(alloc, disk, area, 0, &[1])
 }
 
@@ -100,8 +113,8 @@ pub fn put<D: Disk>(
     if state.generation() >= GREATEST {
         return Err(CkRefused::Generation);
     }
-    let text = encode(alloc, cut)?;
-    put_text(alloc, disk, *state, &text)?;
+    let made = make_block(alloc, state.generation() + 1, cut)?;
+    put_block(alloc, disk, *state, &made)?;
     *state = state.next();
     Ok(())
 }

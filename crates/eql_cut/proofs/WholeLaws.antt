@@ -1,5 +1,5 @@
 -- A lawful format read of all bytes.
-use Rattle.std.proofs.Common.{◌≡◌, ◌⊎◌, inl, inr, ℕ, List, Option, Some, None, Result, Ok, Err, Vec, Global, IfOk, OnOk, refl, sym, ◌∙◌, ap, arith}
+use Rattle.std.proofs.Common.{◌≡◌, ◌⊎◌, inl, inr, ℕ, List, ◌++◌, Option, Some, None, Result, Ok, Err, Vec, Global, IfOk, OnOk, refl, sym, ◌∙◌, ap, arith}
 use Rattle.eql_values.specs.declared.memory.Memory.{Memory}
 use Rattle.eql_cut.specs.declared.reader.CutRefused.{CutRefused}
 use Rattle.eql_cut.specs.declared.reader.CutRefused.TheVariants as cut_refused
@@ -8,7 +8,7 @@ use Rattle.eql_cut.specs.declared.reader.Version.{Version}
 use Rattle.eql_cut.specs.declared.reader.Version.TheVariants as version
 use Rattle.eql_cut.specs.CutValues.{header, cut, cut_file, cut_text, number_of}
 use Rattle.eql_cut.specs.Domain.{IsCut}
-use Rattle.eql_cut.specs.Whole.{IsText, IsTextOf, IsNoText, TextsAreDecided}
+use Rattle.eql_cut.specs.Whole.{IsText, IsTextBehind, IsTextOf, IsNoText, TextsAreDecided}
 use Rattle.eql_cut.specs.Formats.{IsBytes, whole}
 use Rattle.eql_cut.specs.Reading.{Refuses, IfDamaged}
 use Rattle.eql_cut.proofs.CutLaws.{cut_file_lawful}
@@ -62,3 +62,9 @@ pub encoded : (c : Cut) (r : Result (Vec ℕ Global) Memory) → IfOk r (λ v. v
     → IfOk r (λ v. IsText 3 c v.items)
 encoded c (Ok v) text fits = record { version = version.Three; number = refl; fits = fits; spelt = text }
 encoded c (Err e) text fits = tt
+
+-- and so it is behind a head
+pub encoded_behind : (head : List ℕ) (c : Cut) (r : Result (Vec ℕ Global) Memory) → IfOk r (λ v. v.items ≡ head ++ cut_text version.Three c)
+    → OnOk r ((cut version.Three).Fits c) → IfOk r (λ v. IsTextBehind head c v.items)
+encoded_behind head c (Ok v) text fits = (cut_text version.Three c, record { version = version.Three; number = refl; fits = fits; spelt = refl }, text)
+encoded_behind head c (Err e) text fits = tt

@@ -1,5 +1,5 @@
 -- The text of a cut.
-use Rattle.std.specs.Prelude.{◌≡◌, ◌⊎◌, ℕ, List}
+use Rattle.std.specs.Prelude.{◌≡◌, ◌⊎◌, ◌++◌, ℕ, List}
 use Rattle.eql_cut.specs.declared.cut.Cut.{Cut}
 use Rattle.eql_cut.specs.declared.reader.Version.{Version}
 use Rattle.eql_cut.specs.CutValues.{cut, cut_text, number_of}
@@ -12,6 +12,10 @@ pub record IsText (format : ℕ) (c : Cut) (bytes : List ℕ) : Type 0 where
   pub number : number_of version ≡ format
   pub fits : (cut version).Fits c
   pub spelt : bytes ≡ cut_text version c
+
+-- the bytes are those of the head, and behind them the text of the cut in format 3
+abbrev pub IsTextBehind : List ℕ → Cut → List ℕ → Type 0
+IsTextBehind head c bytes = (text : List ℕ) × IsText 3 c text × (bytes ≡ head ++ text)
 
 -- the bytes are the text of this cut in this format, and of no other cut and in no other format
 pub record IsTextOf (format : ℕ) (c : Cut) (bytes : List ℕ) : Type 0 where

@@ -31,4 +31,4 @@ pub use keeping::{
 };
 pub use lifting::{lift, named};
 pub use reader::CutRefused;
-pub use whole::{Decoded, decode, encode};
+pub use whole::{Decoded, decode, encode, encode_behind};

@@ -1,11 +1,11 @@
 //! A cut from all of the bytes.
-ghost use Rattle.std.specs.Prelude.{◌≡◌, OnOk, IfOk, IfErr};
+ghost use Rattle.std.specs.Prelude.{◌≡◌, ◌++◌, OnOk, IfOk, IfErr};
 ghost use Rattle.eql_cut.specs.declared.reader.Version.TheVariants as version;
 ghost use Rattle.eql_cut.specs.Reading.{Reads, Answers, IfDamaged};
 ghost use Rattle.eql_cut.specs.CutValues.{cut, cut_file, cut_text, cut_ordered};
 ghost use Rattle.eql_cut.specs.CutValues.{header, exactly, version_byte, number_of};
 ghost use Rattle.eql_cut.specs.Domain.{IsCut};
-ghost use Rattle.eql_cut.specs.Whole.{IsText, IsTextOf, IsNoText};
+ghost use Rattle.eql_cut.specs.Whole.{IsText, IsTextBehind, IsTextOf, IsNoText};
 
 use crate::coded::Coded;
 use crate::cut::Cut;
@@ -71,13 +71,20 @@ impl Version {
     }
 }
 
-/// Writes the text of a cut.
-fn write_whole(alloc: Global, given: &Cut) -> Result<Vec<u8>, Memory>
+/// Writes the text of a cut behind the bytes of a head.
+///
+/// It takes memory at once for about as much as the text of its pending sequences needs, so that what is written
+/// seldom has to move.
+fn write_whole(alloc: Global, head: &[u8], given: &Cut) -> Result<Vec<u8>, Memory>
     requires { cut_ordered given.now }
-    ensures text { IfOk result (λ v. v.items ≡ cut_text version.Three given.now) }
+    ensures text { IfOk result (λ v. v.items ≡ head.now ++ cut_text version.Three given.now) }
     ensures fits { OnOk result ((cut version.Three).Fits given.now) }
 {
-    let mut to = Vec::from_slice(alloc, &[0x45, 0x51, 0x4c, 0x43, 3])?;
+    let pending = given.holders.items().len();
+    let room = pending.saturating_mul(100).saturating_add(64);
+    let mut to = Vec::with_capacity(alloc, head.len().saturating_add(room))?;
+    to.extend_from_slice(head)?;
+    to.extend_from_slice(&[0x45, 0x51, 0x4c, 0x43, 3])?;
     given.write(&mut to)?;
     Ok(to)
 }
@@ -108,7 +115,22 @@ pub fn encode(alloc: Global, cut: &Cut) -> Result<Vec<u8>, Memory>
     ensures { IfOk result (λ bytes. IsText 3 cut.now bytes.items) }
 {
     orders_told_alike();
-    write_whole(alloc, cut)
+    write_whole(alloc, &[], cut)
+}
+
+/// The bytes of the head, and behind them the text of a cut in format 3.
+///
+/// So a text that is to stand behind other bytes needs no second copy. The cut is to stand as `encode` asks.
+///
+/// # Errors
+///
+/// [`Memory`] where memory ran out.
+pub fn encode_behind(alloc: Global, head: &[u8], cut: &Cut) -> Result<Vec<u8>, Memory>
+    requires { IsCut cut.now }
+    ensures { IfOk result (λ bytes. IsTextBehind head.now cut.now bytes.items) }
+{
+    orders_told_alike();
+    write_whole(alloc, head, cut)
 }
 
 /// The cut that the bytes spell, all of them, in any of the three formats.
