@@ -1,4 +1,4 @@
-mod TextBytes
+mod Words
 mod Fields
 mod Ascending
 mod Listing

@@ -1,13 +1,11 @@
 //! The functions of the language.
 ghost use Rattle.std.specs.Prelude.{◌≡◌};
-ghost use Rattle.std.specs.Str.{chars};
-ghost use Rattle.eql_values.specs.Orders.{text_eq};
 ghost use Rattle.eql_check.specs.Names.{function_of, has_folding, named};
 
 use eql_values::Text;
 
 /// A function of the language (EQL function reference).
-#[derive(Clone, Copy, Debug, PartialEq, Eq)]
+#[derive(Clone, Copy, PartialEq, Eq)]
 pub enum Function {
     /// `add(a, b)`
     Add,
@@ -76,46 +74,23 @@ impl Function {
 fn by_name(name: &Text) -> Option<Function>
     ensures { result ≡ named name.now }
 {
-    if is(name, "add") {
-        Some(Function::Add)
-    } else if is(name, "subtract") {
-        Some(Function::Subtract)
-    } else if is(name, "multiply") {
-        Some(Function::Multiply)
-    } else if is(name, "divide") {
-        Some(Function::Divide)
-    } else if is(name, "modulo") {
-        Some(Function::Modulo)
-    } else if is(name, "length") {
-        Some(Function::Length)
-    } else if is(name, "indexOf") {
-        Some(Function::IndexOf)
-    } else if is(name, "startsWith") {
-        Some(Function::StartsWith)
-    } else if is(name, "endsWith") {
-        Some(Function::EndsWith)
-    } else if is(name, "stringContains") {
-        Some(Function::StringContains)
-    } else if is(name, "concat") {
-        Some(Function::Concat)
-    } else if is(name, "substring") {
-        Some(Function::Substring)
-    } else if is(name, "between") {
-        Some(Function::Between)
-    } else if is(name, "string") {
-        Some(Function::String)
-    } else if is(name, "number") {
-        Some(Function::Number)
-    } else if is(name, "cidrMatch") {
-        Some(Function::CidrMatch)
-    } else {
-        None
+    match name.text() {
+        "add" => Some(Function::Add),
+        "subtract" => Some(Function::Subtract),
+        "multiply" => Some(Function::Multiply),
+        "divide" => Some(Function::Divide),
+        "modulo" => Some(Function::Modulo),
+        "length" => Some(Function::Length),
+        "indexOf" => Some(Function::IndexOf),
+        "startsWith" => Some(Function::StartsWith),
+        "endsWith" => Some(Function::EndsWith),
+        "stringContains" => Some(Function::StringContains),
+        "concat" => Some(Function::Concat),
+        "substring" => Some(Function::Substring),
+        "between" => Some(Function::Between),
+        "string" => Some(Function::String),
+        "number" => Some(Function::Number),
+        "cidrMatch" => Some(Function::CidrMatch),
+        _ => None,
     }
-}
-
-/// Whether a text is this word.
-fn is(text: &Text, word: &str) -> bool
-    ensures { result ≡ text_eq text.now (chars word.now) }
-{
-    text.text().as_bytes().cmp(word.as_bytes()).is_eq()
 }
