@@ -6,7 +6,7 @@ use eql_values::{Literals, Text, Texts};
 use std::marker::Model;
 
 /// A comparison.
-#[derive(Clone, Copy, Debug, PartialEq, Eq)]
+#[derive(Clone, Copy, PartialEq, Eq)]
 pub enum CmpOp {
     /// `<`
     Lt,
