@@ -5,6 +5,7 @@ use eql_parser::{parse, print};
 use eql_query::{Query, copy_query};
 use eql_values::Memory;
 use std::alloc::{AllocError, Global};
+use std::process::Abort;
 use std::test::Fail;
 
 /// A line that was made.
@@ -259,6 +260,27 @@ fn nested(
     Ok(text)
 }
 
+/// What stands before, what opens and how often, what stands inside, and what closes; and how the canonical text or the
+/// refusal begins.
+type Nested = (
+    &'static str,
+    &'static str,
+    usize,
+    &'static str,
+    &'static str,
+    &'static str,
+);
+
+/// Sees that the canonical text or the refusal of each of these begins so.
+fn each_begins(rt: &impl Abort, alloc: Global, rows: &[Nested]) -> Result<(), Fail> {
+    for (before, open, count, inside, close, expected) in rows {
+        let text = nested(alloc, before, open, *count, inside, close)?;
+        let got = canonical(alloc, text.as_str())?;
+        assert!(rt; got.as_str().starts_with(*expected));
+    }
+    Ok(())
+}
+
 #[test]
 fn limits_of_depth(rt: HostRuntime) -> Result<(), Fail> {
     let table = [
@@ -285,12 +307,7 @@ fn limits_of_depth(rt: HostRuntime) -> Result<(), Fail> {
         ("", "f(", 64, "(g~)", ")", "parse: TooDeep at 139"),
         ("", "f(", 63, "g~", ")", "parse: Syntax at 138"),
     ];
-    for (before, open, count, inside, close, expected) in table {
-        let text = nested(rt.alloc(), before, open, count, inside, close)?;
-        let got = canonical(rt.alloc(), text.as_str())?;
-        assert!(rt; got.as_str().starts_with(expected));
-    }
-    Ok(())
+    each_begins(&rt, rt.alloc(), &table)
 }
 
 #[test]
@@ -334,10 +351,5 @@ fn limits_above_and_behind_operands(rt: HostRuntime) -> Result<(), Fail> {
         ("", "(", 128, "a in (1)", ")", "parse: TooDeep at 143"),
         ("number(", "(", 128, "a, 2)", "", "parse: TooDeep at 144"),
     ];
-    for (before, open, count, inside, close, expected) in table {
-        let text = nested(rt.alloc(), before, open, count, inside, close)?;
-        let got = canonical(rt.alloc(), text.as_str())?;
-        assert!(rt; got.as_str().starts_with(expected));
-    }
-    Ok(())
+    each_begins(&rt, rt.alloc(), &table)
 }
