@@ -14,6 +14,8 @@ enum Finds {
     Cut(i128, Area, u64),
     /// An area that is damaged, and where.
     Damaged(u32, u64),
+    /// A fault of the disk.
+    Fault,
 }
 
 /// The bytes of both areas, in hexadecimal, and what is found.
@@ -181,6 +183,7 @@ fn is_found<D: Disk>(alloc: Global, disk: &mut D, expected: Finds) -> bool {
         }
         Err(refused) => match expected {
             Finds::Damaged(area, at) => refused == CkRefused::Damaged { area, at },
+            Finds::Fault => refused == CkRefused::DiskFault,
             _ => false,
         },
     }
@@ -303,17 +306,6 @@ fn puts_write_areas(rt: HostRuntime) -> Result<(), Fail> {
     Ok(())
 }
 
-/// Whether a recovery answers a fault of the disk.
-fn is_fault(alloc: Global, disk: &mut MemDisk) -> bool {
-    match recover(alloc, disk) {
-        Ok(found) => {
-            drop(found);
-            false
-        }
-        Err(refused) => refused == CkRefused::DiskFault,
-    }
-}
-
 // A recovery of two areas, of which one is open, makes five calls on the disk: two syncs and three reads.
 #[test]
 fn recovery_tells_faults(rt: HostRuntime) -> Result<(), Fail> {
@@ -321,7 +313,7 @@ fn recovery_tells_faults(rt: HostRuntime) -> Result<(), Fail> {
     for stop in 1..=6 {
         let area = "01 0100000000000000 5b00000000000000 T";
         let mut disk = disk_of(alloc, area, "", Some(stop))?;
-        let is_fault = is_fault(alloc, &mut disk);
+        let is_fault = is_found(alloc, &mut disk, Finds::Fault);
         let faults = disk.faults();
         drop(disk);
         assert_eq!(rt; is_fault, stop < 6);
