@@ -72,14 +72,22 @@ fn fresh_cut(alloc: Global, pipes: &[Pipe]) -> Result<BookCut, Fail> {
     })
 }
 
-/// An event at this line of shard 2, ten bytes a line.
-fn event(line: u32) -> OrderKey {
+/// An event at this line of shard 0, with its place.
+fn placed(line: u32, at: u64) -> OrderKey {
     OrderKey {
         ts: line as i128,
         tie: None,
-        shard: 2,
+        shard: 0,
         line,
-        at: line as u64 * 10,
+        at,
+    }
+}
+
+/// An event at this line of shard 2, ten bytes a line.
+fn event(line: u32) -> OrderKey {
+    OrderKey {
+        shard: 2,
+        ..placed(line, line as u64 * 10)
     }
 }
 
@@ -219,14 +227,12 @@ const KEYS: [(&str, &str); 3] = [
 fn keys_are_printed_as_json(rt: HostRuntime) -> Result<(), Fail> {
     let alloc = rt.alloc();
     for (text, json) in KEYS {
-        let expected = format!(in alloc; "12 {json} 0:5")?;
-        let chain = Chain::of(vec![in alloc; placed(5, 50)]?);
-        let line = keyed_line(alloc, text, chain, false)?;
-        assert_eq!(rt; line.text(), expected.as_str());
-        let expected = format!(in alloc; "12 {json} 0:5@50")?;
-        let chain = Chain::of(vec![in alloc; placed(5, 50)]?);
-        let line = keyed_line(alloc, text, chain, true)?;
-        assert_eq!(rt; line.text(), expected.as_str());
+        for (places, event) in [(false, "0:5"), (true, "0:5@50")] {
+            let expected = format!(in alloc; "12 {json} {event}")?;
+            let chain = Chain::of(vec![in alloc; placed(5, 50)]?);
+            let line = keyed_line(alloc, text, chain, places)?;
+            assert_eq!(rt; line.text(), expected.as_str());
+        }
     }
     Ok(())
 }
@@ -251,17 +257,6 @@ fn keys_of_each_kind_are_printed(rt: HostRuntime) -> Result<(), Fail> {
         "18446744073709551615 [null,true,false,-9223372036854775808,9223372036854775807,\"10.0.255.1\"] 2:5";
     assert_eq!(rt; line.text(), expected);
     Ok(())
-}
-
-/// An event at this line of shard 0, with its place.
-fn placed(line: u32, at: u64) -> OrderKey {
-    OrderKey {
-        ts: line as i128,
-        tie: None,
-        shard: 0,
-        line,
-        at,
-    }
 }
 
 /// Counts of a shard's lines, each with its line of the report.
