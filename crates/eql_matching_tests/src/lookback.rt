@@ -216,9 +216,9 @@ fn check<R: Abort>(
     Ok(())
 }
 
-#[test]
-fn the_references_example(rt: HostRuntime) -> Result<(), Fail> {
-    let events = [
+/// The events of the reference's example.
+pub(crate) fn reference_events() -> [Event; 11] {
+    [
         fits(1, Name::Root, 1),
         fits(2, Name::Root, 1),
         fits(3, Name::Elkbee, 2),
@@ -230,16 +230,22 @@ fn the_references_example(rt: HostRuntime) -> Result<(), Fail> {
         fits(9, Name::Root, 4),
         fits(10, Name::Elkbee, 4),
         fits(11, Name::Root, 4),
-    ];
+    ]
+}
+
+/// The matches by them.
+pub(crate) const REFERENCE_MATCHES: &str = "root 2 4 9;elkbee 6 8 10;";
+
+#[test]
+fn the_references_example(rt: HostRuntime) -> Result<(), Fail> {
     check(
         &rt,
         rt.alloc(),
         3,
         None,
-        &events,
-        "root 2 4 9;elkbee 6 8 10;",
-    )?;
-    Ok(())
+        &reference_events(),
+        REFERENCE_MATCHES,
+    )
 }
 
 #[test]

@@ -6,8 +6,8 @@ ghost use Rattle.eql_laws.specs.Together.{AllBelow, NoneBelow};
 ghost use Rattle.eql_parts.specs.PartSteps.{CanDeliver};
 
 use crate::lookback::{
-    Event, Name, SECOND, ascend, ends, fits, items_of, key_of, push_chain, push_key, push_matches,
-    shown,
+    Event, Name, REFERENCE_MATCHES, SECOND, ascend, ends, fits, items_of, key_of, push_chain,
+    push_key, push_matches, reference_events, shown,
 };
 use eql_auto::Steps;
 use eql_parts::{Part, PartOp, PartReply, part_of};
@@ -241,22 +241,11 @@ fn check_row<R: Abort>(rt: &R, alloc: Global, row: Row<'_>, expected: &str) -> R
 #[test]
 fn batches_find_what_the_whole_finds(rt: HostRuntime) -> Result<(), Fail> {
     let alloc = rt.alloc();
+    let events = reference_events();
     let reference = Row {
         stages: 3,
         span: None,
-        events: &[
-            fits(1, Name::Root, 1),
-            fits(2, Name::Root, 1),
-            fits(3, Name::Elkbee, 2),
-            fits(4, Name::Root, 2),
-            fits(5, Name::Root, 2),
-            fits(6, Name::Elkbee, 1),
-            fits(7, Name::Root, 1),
-            fits(8, Name::Elkbee, 2),
-            fits(9, Name::Root, 4),
-            fits(10, Name::Elkbee, 4),
-            fits(11, Name::Root, 4),
-        ],
+        events: &events,
         batches: &[
             (2, Mark::At(3)),
             (3, Mark::At(6)),
@@ -266,13 +255,13 @@ fn batches_find_what_the_whole_finds(rt: HostRuntime) -> Result<(), Fail> {
         ],
         max: 2,
     };
-    check_row(&rt, alloc, reference, "root 2 4 9;elkbee 6 8 10;")?;
+    check_row(&rt, alloc, reference, REFERENCE_MATCHES)?;
     let singly = Row {
         batches: &[(11, Mark::At(100)), (0, Mark::End)],
         max: 1,
         ..reference
     };
-    check_row(&rt, alloc, singly, "root 2 4 9;elkbee 6 8 10;")?;
+    check_row(&rt, alloc, singly, REFERENCE_MATCHES)?;
     let until = Row {
         stages: 2,
         span: None,
