@@ -2,7 +2,7 @@
 use crate::cuts::{damaged_disk, disk_in, last_disk, unfit_disk};
 use crate::kept::{kept_in, of_example};
 use crate::row::{Object, Row, ended, found};
-use crate::run::{Areas, Ran, check_on, compare, compare_run, disk_of, run_on, told_of};
+use crate::run::{Areas, Ran, check, check_on, compare, compare_run, disk_of, run_on, told_of};
 use crate::sequences::{ELEVEN, REFERENCE, REFERENCE_LISTS};
 use crate::text::Piece::{Bytes, Spaced, Starts};
 use crate::text::{Pieces, add_lines};
@@ -215,7 +215,7 @@ fn damaged() -> [Row; 2] {
 #[test]
 fn disks_fail_and_are_damaged(rt: HostRuntime) -> Result<(), Fail> {
     let alloc = rt.alloc();
-    check_on(&rt, alloc, &faults(), &Areas::empty(alloc))?;
+    check(&rt, alloc, &faults())?;
     let mut areas = damaged_disk(alloc)?;
     check_on(&rt, alloc, &damaged(), &areas)?;
     // The second cut of the first run stands in area 1 with generation 2.

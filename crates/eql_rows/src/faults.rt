@@ -1,6 +1,6 @@
 //! Objects that fail: each call of a run in turn, and which of several causes is told. No fault is passed over.
 use crate::row::{Failing, Object, Row, ended, found, printed, refused, usage};
-use crate::run::{Areas, check, check_on, compare, compare_run, listed_of, run};
+use crate::run::{check, compare, compare_run, listed_of, run};
 use crate::sequences::{ELEVEN, REFERENCE, REFERENCE_LISTS};
 use crate::text::Piece::{Bytes, Each, Events, Times};
 use std::alloc::Global;
@@ -392,5 +392,5 @@ fn two_faults() -> [Row; 4] {
 /// Without hands a run stops at the first fault. Hands read on, and of several faults a read fault is told.
 #[test]
 fn read_fault_is_told_before_others(rt: HostRuntime) -> Result<(), Fail> {
-    check_on(&rt, rt.alloc(), &two_faults(), &Areas::empty(rt.alloc()))
+    check(&rt, rt.alloc(), &two_faults())
 }

@@ -299,19 +299,6 @@ pub(crate) fn compare_run<R: Abort>(
     compare(rt, alloc, ran.err.bytes(), told, !err_fails, row.shows)
 }
 
-/// Runs the rows of a table, and compares what each gives.
-pub(crate) fn check<R: Threads + Wait + Sync + Abort>(
-    rt: &R,
-    alloc: Global,
-    rows: &[Row],
-) -> Result<(), Fail> {
-    for row in rows {
-        let ran = run(rt, alloc, row, row.fails)?;
-        compare_run(rt, alloc, row, &ran, row.fails)?;
-    }
-    Ok(())
-}
-
 /// Runs the rows of a table, each on a disk with these areas, and compares what each gives.
 pub(crate) fn check_on<R: Threads + Wait + Sync + Abort>(
     rt: &R,
@@ -325,4 +312,13 @@ pub(crate) fn check_on<R: Threads + Wait + Sync + Abort>(
         compare_run(rt, alloc, row, &ran, row.fails)?;
     }
     Ok(())
+}
+
+/// Runs the rows of a table, each on an empty disk, and compares what each gives.
+pub(crate) fn check<R: Threads + Wait + Sync + Abort>(
+    rt: &R,
+    alloc: Global,
+    rows: &[Row],
+) -> Result<(), Fail> {
+    check_on(rt, alloc, rows, &Areas::empty(alloc))
 }
