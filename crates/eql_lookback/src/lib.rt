@@ -2,9 +2,11 @@
 //! every later search with it.
 #![tactic(auto)]
 
+mod ascending;
 mod key_act;
 mod look_back;
 mod sequence;
 mod stages;
 
+pub use ascending::ascend;
 pub use look_back::find;

@@ -1,9 +1,5 @@
 //! Worked examples of the EQL syntax reference and of its rules, each event a line of one shard.
-ghost use Rattle.std.specs.Prelude.{IsTrue};
-ghost use Rattle.eql_values.specs.Ascending.{AllAfter, Ascending};
-ghost use Rattle.eql_values.specs.Routes.{RoutesInOrder};
-
-use eql_lookback::find;
+use eql_lookback::{ascend, find};
 use eql_values::{
     Chain, Item, Items, Key, Mask, Matches, Memory, OrderKey, Route, Routes, Text, Value,
 };
@@ -109,33 +105,6 @@ pub(crate) fn item_of(alloc: Global, line: u32, event: Event) -> Result<Item, Me
         },
         routes: Routes::of(routes),
     })
-}
-
-/// Whether the event comes before all of these.
-fn is_before(event: &Item, items: &[Item]) -> bool
-    ensures { IsTrue result → AllAfter event.now.order items.now }
-{
-    match items {
-        [] => true,
-        [next, rest @ ..] => event.order < next.order && is_before(event, rest),
-    }
-}
-
-/// Whether the event has at most one route.
-fn has_one_route(event: &Item) -> bool
-    ensures { IsTrue result → RoutesInOrder event.now.routes }
-{
-    event.routes.items().len() < 2
-}
-
-/// Whether the events ascend, and each has at most one route.
-pub(crate) fn ascend(items: &[Item]) -> bool
-    ensures { IsTrue result → Ascending items.now }
-{
-    match items {
-        [] => true,
-        [first, rest @ ..] => has_one_route(first) && is_before(first, rest) && ascend(rest),
-    }
 }
 
 /// Adds a value.

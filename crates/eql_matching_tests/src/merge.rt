@@ -3,7 +3,7 @@ ghost use Rattle.std.specs.Prelude.{◌≡◌, All, IsTrue};
 ghost use Rattle.eql_values.specs.Ascending.{Ascending};
 ghost use Rattle.eql_laws.specs.Apart.{has_place, Apart, ApartFrom, AllApart};
 
-use crate::lookback::ascend;
+use eql_lookback::ascend;
 use eql_merge::{merge, merge_holders, merge_matches};
 use eql_values::{
     Chain, Holder, Holders, Item, ItemLists, Items, Key, Match, Matches, Memory, OrderKey, Routes,

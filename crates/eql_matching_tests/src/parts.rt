@@ -6,10 +6,11 @@ ghost use Rattle.eql_laws.specs.Together.{AllBelow, NoneBelow};
 ghost use Rattle.eql_parts.specs.PartSteps.{CanDeliver};
 
 use crate::lookback::{
-    Event, Name, REFERENCE_MATCHES, SECOND, ascend, ends, fits, items_of, key_of, push_chain,
-    push_key, push_matches, reference_events, shown,
+    Event, Name, REFERENCE_MATCHES, SECOND, ends, fits, items_of, key_of, push_chain, push_key,
+    push_matches, reference_events, shown,
 };
 use eql_auto::Steps;
+use eql_lookback::ascend;
 use eql_parts::{Part, PartOp, PartReply, part_of};
 use eql_values::{Holders, Item, Items, Key, Mark, Matches, Value};
 use std::alloc::{AllocError, Global};

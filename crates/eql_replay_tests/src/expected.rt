@@ -1,40 +1,9 @@
 //! The listing that is expected: the matches that the look-back finds, line by line.
-ghost use Rattle.std.specs.Prelude.{IsTrue};
-ghost use Rattle.eql_values.specs.Ascending.{AllAfter, Ascending};
-ghost use Rattle.eql_values.specs.Routes.{RoutesInOrder};
-
-use eql_lookback::find;
+use eql_lookback::{ascend, find};
 use eql_values::{Item, Items, Match, Value};
 use std::alloc::{AllocError, Global};
 use std::fmt::Write;
 use std::test::Fail;
-
-/// Whether the event comes before all of these.
-fn is_before(event: &Item, items: &[Item]) -> bool
-    ensures { IsTrue result → AllAfter event.now.order items.now }
-{
-    match items {
-        [] => true,
-        [next, rest @ ..] => event.order < next.order && is_before(event, rest),
-    }
-}
-
-/// Whether the event has at most one route.
-fn has_one_route(event: &Item) -> bool
-    ensures { IsTrue result → RoutesInOrder event.now.routes }
-{
-    event.routes.items().len() < 2
-}
-
-/// Whether the events ascend, and each has at most one route.
-fn ascend(items: &[Item]) -> bool
-    ensures { IsTrue result → Ascending items.now }
-{
-    match items {
-        [] => true,
-        [first, rest @ ..] => has_one_route(first) && is_before(first, rest) && ascend(rest),
-    }
-}
 
 /// Adds a value as it stands in a key.
 fn push_value(listing: &mut String, value: &Value) -> Result<(), AllocError> {

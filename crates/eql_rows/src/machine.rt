@@ -4,15 +4,13 @@ ghost use Rattle.std.specs.Prelude.{◌≡◌, ◌<◌, ◌≤◌, [], is_some, 
 ghost use Rattle.std.specs.List.{All};
 ghost use Rattle.std.specs.declared.cmp.Ordering.TheVariants.{Less};
 ghost use Rattle.eql_values.specs.declared.order.OrderKey.{OrderKey};
-ghost use Rattle.eql_values.specs.Ascending.{AllAfter, Ascending};
 ghost use Rattle.eql_values.specs.Masks.{has_after};
 ghost use Rattle.eql_values.specs.OrderKeys.{order_cmp};
-ghost use Rattle.eql_values.specs.Routes.{RoutesInOrder};
 ghost use Rattle.eql_auto.specs.Machine.{ComesAfter};
 ghost use Rattle.eql_rows.specs.Played.{IsAfterLast};
 
 use eql_auto::{Auto, Steps};
-use eql_lookback::find;
+use eql_lookback::{ascend, find};
 use eql_values::{
     Act, Chain, Item, Items, Key, Mask, Matches, Memory, OrderKey, Route, Routes, StageChains,
 };
@@ -125,33 +123,6 @@ fn items_of(alloc: Global, events: &[Said]) -> Result<Items, Fail> {
         items.push(item_of(alloc, line, *said)?)?;
     }
     Ok(Items::of(items))
-}
-
-/// Whether the event comes before all of these.
-fn is_before(event: &Item, items: &[Item]) -> bool
-    ensures { IsTrue result → AllAfter event.now.order items.now }
-{
-    match items {
-        [] => true,
-        [next, rest @ ..] => event.order < next.order && is_before(event, rest),
-    }
-}
-
-/// Whether the event has at most one route.
-fn has_one_route(event: &Item) -> bool
-    ensures { IsTrue result → RoutesInOrder event.now.routes }
-{
-    event.routes.items().len() < 2
-}
-
-/// Whether the events ascend, and each has at most one route.
-fn ascend(items: &[Item]) -> bool
-    ensures { IsTrue result → Ascending items.now }
-{
-    match items {
-        [] => true,
-        [first, rest @ ..] => has_one_route(first) && is_before(first, rest) && ascend(rest),
-    }
 }
 
 /// What the events say to the machine of the one key.

@@ -1,5 +1,5 @@
 use Rattle.std.proofs.Common.{length}
-use Rattle.eql_matching_tests.proofs.lookback.+ascend.Given as goal
+use Rattle.eql_lookback.proofs.ascending.+ascend.Given as goal
 
 abbrev pub decreases-ascend : goal.decreases-ascend
 decreases-ascend l = length l.items.now

@@ -1,5 +1,5 @@
 use Rattle.std.proofs.Common.{length}
-use Rattle.eql_replay_tests.proofs.expected.+is_before.Given as goal
+use Rattle.eql_lookback.proofs.ascending.+is_before.Given as goal
 
 abbrev pub decreases-is_before : goal.decreases-is_before
 decreases-is_before l = length l.items.now

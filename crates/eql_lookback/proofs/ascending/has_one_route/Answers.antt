@@ -2,7 +2,7 @@ use Rattle.std.proofs.Common.{◌<◌, List, [], ◌∷◌, length, ap, arith, r
 use Rattle.std.proofs.lemmas.Bool.Decides.{nat_tests}
 use Rattle.eql_values.specs.declared.item.Route.{Route}
 use Rattle.eql_values.specs.Routes.{RoutesInOrder}
-use Rattle.eql_matching_tests.proofs.lookback.has_one_route.Goals as goal
+use Rattle.eql_lookback.proofs.ascending.has_one_route.Goals as goal
 
 few_in_order : (routes : List Route) → length routes < 2 → RoutesInOrder routes
 few_in_order [] lt = refl
