@@ -1,4 +1,5 @@
 mod Pairs
 mod Splits
-mod Standing
+mod Gathered
+mod FirstLists
 mod Ends

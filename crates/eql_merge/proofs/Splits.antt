@@ -15,11 +15,11 @@ use Rattle.eql_laws.proofs.Facts.{is_equal}
 use Rattle.eql_merge.specs.Ranks.{Ascends, NoTie, NoTies, IsOfOneRank, SameFirsts}
 use Rattle.eql_laws.specs.Apart.{NoKeyInOthers}
 
-module _ {X : Type 0} (R : X → X → Ordering) where
-  pub joined-append : (a b : List (List X)) → joined (a ++ b) ≡ joined a ++ joined b
-  joined-append [] b = refl
-  joined-append (xs ∷ a) b = ap (λ (rest : List X). xs ++ rest) (joined-append a b) ∙ sym (append_assoc xs (joined a) (joined b))
+pub joined-append : {X : Type 0} (a b : List (List X)) → joined (a ++ b) ≡ joined a ++ joined b
+joined-append [] b = refl
+joined-append {X} (xs ∷ a) b = ap (λ (rest : List X). xs ++ rest) (joined-append a b) ∙ sym (append_assoc xs (joined a) (joined b))
 
+module _ {X : Type 0} (R : X → X → Ordering) where
   abbrev pub has : X → List X → Bool
   has = has_key R (λ (x : X). x)
 

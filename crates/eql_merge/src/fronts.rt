@@ -1,90 +1,131 @@
-//! The merge of several lists that ascend. They stand in the order of their first values, so that the next value is
-//! the first of the first list. The list that it is taken from then goes to its new place among the others.
-ghost use Rattle.std.specs.Prelude.{◌≡◌, ◌+◌, ◌≤◌, ◌<◌, ◌++◌, ◌∷◌, [], List, All, IfNone, IfOk, IfSome, OnOk, IsTrue, drop, false, length, take, true};
-ghost use Rattle.std.specs.List.{insert};
+//! The merge of several lists that ascend. They stand by the numbers of their first values, which nearly always say which value
+//! comes first, and the next value is the first of the first list. That list then goes to its new place among the others.
+//! Nothing rests on the numbers. Each value is compared with the one in front of it, and where one doesn't come behind, all
+//! values are sorted in the end.
+ghost use Rattle.std.specs.Prelude.{◌≡◌, ◌+◌, ◌≤◌, ◌++◌, ◌∷◌, [], All, IfOk, IsPermutation, OnOk, length, true};
+ghost use Rattle.std.specs.List.{IsDistinct};
+ghost use Rattle.std.specs.Option.{option_to_list};
+ghost use Rattle.std.specs.Ordering.{eq_by_cmp};
 ghost use Rattle.eql_laws.specs.Apart.{joined};
 ghost use Rattle.eql_merge.specs.Ranks.{Ascends, NoTies, SameFirsts};
-ghost use Rattle.eql_merge.specs.Fronts.{InFrontOrder, StandOn, later_is_first};
 
 use crate::pair::is_later_first;
 use crate::ranked::Ranked;
 use crate::run::Run;
 use eql_values::Memory;
 use std::alloc::Global;
+use std::cmp::Ordering;
 use std::collections::VecDeque;
+use std::marker::Model;
 
-/// How many of the lists have a first value that comes before that of this one.
-fn place_of<T: Ranked>(fronts: &VecDeque<Run<T>>, run: &Run<T>) -> usize
-    requires { InFrontOrder T.rank fronts.now.items }
-    ensures within { result ≤ length fronts.now.items }
-    ensures before { All (λ front. later_is_first T.rank run.now front ≡ true)
-        (take result fronts.now.items) }
-    ensures behind { All (λ front. later_is_first T.rank run.now front ≡ false)
-        (drop result fronts.now.items) }
-{
-    fronts.partition_point(|front| is_later_first(run, front))
+/// A list, with the number of its first value.
+#[derive(Drop)]
+struct Front<T> {
+    lead: u128,
+    run: Run<T>,
+}
+
+impl<T> Model for Front<T> {
+    ghost use Rattle.std.specs.Prelude.{List};
+
+    ghost Value = { List T };
+
+    ghost view = { λ f. f.run };
+}
+
+/// Whether a list goes behind another: by the numbers of their first values, and by the values where the numbers are one.
+fn goes_behind<T: Ranked>(run: &Run<T>, lead: u128, front: &Front<T>) -> bool {
+    if front.lead == lead {
+        is_later_first(run, &front.run)
+    } else {
+        front.lead < lead
+    }
 }
 
 /// Puts a list to its place among the others. An empty one is left out.
-fn put<T: Ranked>(fronts: &mut VecDeque<Run<T>>, run: Run<T>) -> Result<(), Memory>
-    requires order { InFrontOrder T.rank fronts.old.items }
-    requires ascend { All (Ascends T.rank) (run ∷ fronts.old.items) }
-    requires apart { NoTies T.rank (run ∷ fronts.old.items) }
-    ensures count { OnOk result (length (joined fronts.new.items)
-        ≡ length run + length (joined fronts.old.items)) }
-    ensures order { OnOk result (InFrontOrder T.rank fronts.new.items) }
-    ensures stand { OnOk result ((whole merged : List T) (others : List (List T))
-        → StandOn T.rank whole merged (others ++ run ∷ fronts.old.items)
-        → StandOn T.rank whole merged (others ++ fronts.new.items)) }
+fn put<T: Ranked>(fronts: &mut VecDeque<Front<T>>, run: Run<T>) -> Result<(), Memory>
+    ensures all { OnOk result
+        (IsPermutation (run ++ joined fronts.old.items) (joined fronts.new.items)) }
+    ensures few { OnOk result (length fronts.new.items ≤ length fronts.old.items + 1) }
 {
-    if run.len() == 0 {
-        return Ok(());
-    }
-    let place = place_of(fronts, &run);
-    fronts.insert(place, run)?;
+    let lead = match run.first() {
+        None => return Ok(()),
+        Some(first) => first.lead(),
+    };
+    let place = fronts.partition_point(|front| goes_behind(&run, lead, front));
+    fronts.insert(place, Front { lead, run })?;
     Ok(())
 }
 
-/// The lists in the order of their first values, without those that are empty.
+/// The lists by the numbers of their first values, without those that are empty.
 fn in_front_order<T: Ranked>(
     alloc: Global,
     mut lists: VecDeque<Run<T>>,
-) -> Result<VecDeque<Run<T>>, Memory>
-    requires ascend { All (Ascends T.rank) lists.items }
-    requires apart { NoTies T.rank lists.items }
-    ensures order { IfOk result (λ fronts. InFrontOrder T.rank fronts.items) }
-    ensures stand { IfOk result (λ fronts.
-        StandOn T.rank (joined lists.items) [] fronts.items) }
+) -> Result<VecDeque<Front<T>>, Memory>
+    ensures { IfOk result (λ fronts. IsPermutation (joined lists.items) (joined fronts.items)) }
 {
     let mut fronts = VecDeque::with_capacity(alloc, lists.len())?;
-    while let Some(run) = lists.pop_back() {
+    while let Some(run) = lists.pop_front() {
         put(&mut fronts, run)?;
     }
     Ok(fronts)
 }
 
-/// Takes the value that comes first of all, if there is one.
-fn take_first<T: Ranked>(fronts: &mut VecDeque<Run<T>>) -> Result<Option<T>, Memory>
-    requires order { InFrontOrder T.rank fronts.old.items }
-    requires ascend { All (Ascends T.rank) fronts.old.items }
-    requires apart { NoTies T.rank fronts.old.items }
-    ensures none { IfOk result (λ taken. IfNone taken (joined fronts.old.items ≡ [])) }
-    ensures fewer { IfOk result (λ taken. IfSome taken (λ x.
-        length (joined fronts.new.items) < length (joined fronts.old.items))) }
-    ensures order { IfOk result (λ taken. IfSome taken (λ x.
-        InFrontOrder T.rank fronts.new.items)) }
-    ensures stand { IfOk result (λ taken. IfSome taken (λ x. (whole merged : List T)
-        → StandOn T.rank whole merged fronts.old.items
-        → StandOn T.rank whole (merged ++ x ∷ []) fronts.new.items)) }
+/// Takes the first value of a list, if it has one, and puts the list to its place among the others.
+fn take_first<T: Ranked>(
+    fronts: &mut VecDeque<Front<T>>,
+    front: Front<T>,
+) -> Result<Option<T>, Memory>
+    ensures all { IfOk result (λ taken. IsPermutation (front ++ joined fronts.old.items)
+        (option_to_list taken ++ joined fronts.new.items)) }
+    ensures fewer { OnOk result (length (joined fronts.new.items) + length fronts.new.items
+        ≤ length front + length (joined fronts.old.items) + length fronts.old.items) }
 {
-    match fronts.pop_front() {
+    let mut run = front.run;
+    match run.take_first() {
         None => Ok(None),
-        Some(mut run) => {
-            let first = run.take_first();
+        Some(first) => {
             put(fronts, run)?;
-            Ok(first)
+            Ok(Some(first))
         }
     }
+}
+
+/// Adds a value at the end, and answers whether it comes behind the one in front of it.
+fn add<T: Ranked>(merged: &mut Vec<T>, value: T) -> Result<bool, Memory>
+    ensures items { OnOk result (merged.new.items ≡ merged.old.items ++ value ∷ []) }
+    ensures order { IfOk result (λ follows. follows ≡ true
+        → Ascends T.rank merged.old.items → Ascends T.rank merged.new.items) }
+{
+    let follows = match merged.last() {
+        None => true,
+        Some(last) => last.is_before(&value),
+    };
+    merged.push(value)?;
+    Ok(follows)
+}
+
+/// How two values stand to each other.
+fn order_of<T: Ranked>(a: &T, b: &T) -> Ordering
+    ensures { result ≡ T.rank a.now b.now }
+{
+    if a.is_before(b) {
+        Ordering::Less
+    } else if b.is_before(a) {
+        Ordering::Greater
+    } else {
+        Ordering::Equal
+    }
+}
+
+/// Puts values in order, of which no two are of one rank.
+fn sort<T: Ranked>(values: &mut Vec<T>) -> Result<(), Memory>
+    requires { IsDistinct (eq_by_cmp T.rank) values.old.items }
+    ensures ascends { OnOk result (Ascends T.rank values.new.items) }
+    ensures all { IsPermutation values.old.items values.new.items }
+{
+    values.sort_by(|a, b| order_of(a, b))?;
+    Ok(())
 }
 
 /// How many values all lists have.
@@ -105,8 +146,14 @@ pub fn merge_fronts<T: Ranked>(alloc: Global, lists: VecDeque<Run<T>>) -> Result
 {
     let mut merged = Vec::with_capacity(alloc, count_all(&lists))?;
     let mut fronts = in_front_order(alloc, lists)?;
-    while let Some(value) = take_first(&mut fronts)? {
-        merged.push(value)?;
+    let mut in_order = true;
+    while let Some(front) = fronts.pop_front() {
+        if let Some(value) = take_first(&mut fronts, front)? {
+            in_order &= add(&mut merged, value)?;
+        }
+    }
+    if !in_order {
+        sort(&mut merged)?;
     }
     Ok(merged)
 }

@@ -48,8 +48,8 @@ fn holder_runs(alloc: Global, lists: Vec<Holders>) -> Result<VecDeque<Run<Holder
 }
 
 /// All events of the lists, in ascending order. Each list ascends, and no two have an event at the same place of
-/// the order. For n events in k lists the answer takes at most about n times log k comparisons, and moves each
-/// event without copying it. The one error is want of memory.
+/// the order. For n events in k lists the answer takes about n comparisons, or n times log k where many times are equal, and
+/// moves each event without copying it. The one error is want of memory.
 pub fn merge(alloc: Global, lists: ItemLists) -> Result<Items, Memory>
     requires ascend { All Ascending lists }
     requires apart { AllApart lists }

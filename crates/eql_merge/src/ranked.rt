@@ -17,6 +17,10 @@ pub trait Ranked: Sized + Drop {
     fn is_before(&self, other: &Self) -> bool
         ensures { result ≡ is_lt (rank self.now other.now) };
 
+    /// A number by which values are told apart before they are compared. Of two values with different numbers the one with the
+    /// lesser is nearly always the first; nothing rests on it.
+    fn lead(&self) -> u128;
+
     ghost total: { IsTotalOrder rank };
 }
 
@@ -29,6 +33,15 @@ impl Ranked for Item {
     fn is_before(&self, other: &Item) -> bool {
         self.order < other.order
     }
+
+    fn lead(&self) -> u128 {
+        lead_of_time(self.order.ts)
+    }
+}
+
+/// A number for a time, in nanoseconds since the epoch, that is the less the earlier the time is.
+fn lead_of_time(time: i128) -> u128 {
+    time.cast_unsigned() ^ (1 << 127)
 }
 
 /// The last event, as a list of at most one.
@@ -53,6 +66,13 @@ impl Ranked for Match {
             Ordering::Greater => false,
         }
     }
+
+    fn lead(&self) -> u128 {
+        match self.chain.items().last() {
+            None => 0,
+            Some(last) => lead_of_time(last.ts),
+        }
+    }
 }
 
 /// Pending sequences by key, then by stage.
@@ -67,5 +87,9 @@ impl Ranked for Holder {
             Ordering::Equal => self.stage < other.stage,
             Ordering::Greater => false,
         }
+    }
+
+    fn lead(&self) -> u128 {
+        self.key.lead()
     }
 }

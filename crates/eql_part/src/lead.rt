@@ -1,45 +1,4 @@
-//! A number for each key, by which keys are sorted before they are compared as a whole. Where the numbers of two keys differ,
-//! they are nearly always in the order of the keys. What follows is right whatever the numbers are, and fast where they put the
-//! keys in order.
-
-use eql_values::{Key, Value};
-
-/// The eight bytes of a text from a place on as a number, the first of them the highest.
-fn lead_of_bytes(bytes: &[u8], from: usize) -> u64 {
-    let mut lead = 0;
-    for place in 0..8 {
-        let byte = bytes.get(from.saturating_add(place)).copied().unwrap_or(0);
-        lead = (lead << 8) | u64::from(byte);
-    }
-    lead
-}
-
-/// The number of a value, with the eight bytes of a text from a place on.
-fn lead_of_value(value: &Value, from: usize) -> u64 {
-    match value {
-        Value::Null => 0,
-        Value::Bool(value) => u64::from(*value),
-        Value::Long(value) => u64::from_be_bytes(value.to_be_bytes()) ^ (1 << 63),
-        Value::Text(text) => lead_of_bytes(text.text().as_bytes(), from),
-        Value::Ip(value) => u64::from(*value),
-    }
-}
-
-/// The number of a key: that of its first value, and behind it that of its second one, or what comes next in the first where it
-/// is alone.
-pub(crate) fn lead_of(key: &Key) -> u128 {
-    let values = key.items();
-    let high = match values.first() {
-        None => 0,
-        Some(first) => lead_of_value(first, 0),
-    };
-    let low = match (values.first(), values.get(1)) {
-        (_, Some(second)) => lead_of_value(second, 0),
-        (Some(first), None) => lead_of_value(first, 8),
-        (None, None) => 0,
-    };
-    (u128::from(high) << 64) | u128::from(low)
-}
+//! The number of each room's key, by which keys are sorted before they are compared as a whole.
 
 /// Notes the number of the key of the room at a place.
 pub(crate) fn set_lead(leads: &mut Vec<u128>, place: usize, lead: u128) {

@@ -12,7 +12,7 @@ ghost use Rattle.eql_part.specs.Rooms.{AddsEmpty, AreUnsorted, Changes, HasKeyNo
 
 use crate::hash::hash_of;
 use crate::index::HashIndex;
-use crate::lead::{lead_of, set_lead};
+use crate::lead::set_lead;
 use crate::machine::KeyMachine;
 use crate::rooms::Shape;
 use eql_values::{Key, Memory};
@@ -167,7 +167,7 @@ impl<L: Ledger> KeyTable<L> {
         ensures others { self.new.others ≡ self.old.others }
         ensures rooms { HasKeyNow place (Some key) self.old.rooms.items self.new.rooms.items }
     {
-        set_lead(&mut self.leads, place, lead_of(&key));
+        set_lead(&mut self.leads, place, key.lead());
         self.rooms[place].key = Some(key);
         self.free.pop();
     }

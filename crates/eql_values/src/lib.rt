@@ -8,6 +8,7 @@ mod cut;
 mod found;
 mod item;
 mod laws;
+mod lead;
 mod memory;
 mod order;
 mod places;

@@ -1,38 +1,61 @@
-use Rattle.std.proofs.Common.{◌≡◌, ◌++◌, ◌∷◌, [], List, Option, subst, sym}
-use Rattle.std.specs.Prelude.{IfNone}
+use Rattle.std.proofs.Common.{◌≡◌, ◌++◌, [], List, Option, Vec, Global, sym, subst, arith}
+use Rattle.std.specs.Prelude.{IsPermutation}
+use Rattle.std.specs.Option.{option_to_list}
+use Rattle.std.specs.Cmp.{eq_by_cmp_equiv}
+use Rattle.std.specs.Ordering.{eq_by_cmp}
+use Rattle.std.proofs.lemmas.List.{nil_from_length}
+use Rattle.std.proofs.lemmas.List.Sorted.{IsPermutation-trans}
+use Rattle.std.proofs.lemmas.Map.Keys.{IsDistinct-IsPermutation}
 use Rattle.eql_laws.specs.Apart.{joined}
-use Rattle.eql_merge.specs.Fronts.{InFrontOrder, StandOn}
-use Rattle.eql_merge.proofs.Standing.{done, if_some, left_ascend}
+use Rattle.eql_merge.proofs.Gathered.{as_before, both_true, distinct_joined, nothing_left, one_more, same_firsts}
 use Rattle.eql_merge.proofs.fronts.merge_fronts.Goals as goal
+use Rattle.eql_merge.proofs.fronts.merge_fronts.Goals.{then-not-in_order+in_ok-sort, else-not-in_order}
 
-pub loop-fronts-init : goal.loop-fronts-init
-loop-fronts-init g c = record {
-  order = c.in_ok-fronts.ensures.order;
-  stand = subst (λ (m : List g.row.T.Denot). StandOn g.T.Ranked.rank (joined c.args.lists.items) m c.in_ok-fronts.fronts.items) (sym {A = List g.row.T.Denot} c.in_ok-merged.ensures.items)
-      c.in_ok-fronts.ensures.stand;
-}
-
-pub take_first-requires-clause-ascend : goal.take_first-requires-clause-ascend
-take_first-requires-clause-ascend g c =
-    left_ascend g.T.Ranked.rank (joined c.args.lists.items) c.loop-fronts.merged.items [] c.loop-fronts.fronts.items c.loop-fronts.invariant.stand
-
-pub loop-fronts-preserved : goal.loop-fronts-preserved
-loop-fronts-preserved g c =
-    let R = g.T.Ranked.rank in
-    let X = g.row.T.Denot in
-    let whole = joined c.args.lists.items in
-    let fronts = c.take_first.new.fronts.items in
-    let taken = c.in_ok-value.ensures in
+pub loop-front-preserved : goal.loop-front-preserved
+loop-front-preserved g c =
+    let rest = c.pop_front.new.self.items in
+    let new = c.take_first.new.fronts.items in
     record {
-      order = if_some c.in_ok-value.field-0 c.in-Some.value (λ (x : X). InFrontOrder R fronts) c.in-Some.is taken.order;
-      stand = subst (λ (m : List X). StandOn R whole m fronts) (sym {A = List X} c.in_ok-push.ensures.items)
-          (if_some c.in_ok-value.field-0 c.in-Some.value
-          (λ (x : X). (w m : List X) → StandOn R w m c.loop-fronts.fronts.items → StandOn R w (m ++ x ∷ []) fronts) c.in-Some.is taken.stand
-          whole c.loop-fronts.merged.items c.loop-fronts.invariant.stand);
+      all = as_before (joined c.args.lists.items) c.loop-front.merged.items c.in-Some.front c.loop-front.fronts.items rest new (c.in-Some.ensures {u = tt}).items c.loop-front.invariant.all
+          (subst (λ (o : Option g.row.T.Denot). IsPermutation (c.in-Some.front ++ joined rest) (option_to_list o ++ joined new)) c.in_default-2.is (c.in_ok-value.ensures {u = tt}).all);
+      order = c.loop-front.invariant.order;
     }
 
-pub returns : goal.returns
-returns g c =
-    let none = subst (λ (o : Option g.row.T.Denot). IfNone o (joined c.loop-fronts.fronts.items ≡ [])) c.in_default.is c.in_ok-value.ensures.none in
-    let all = done g.T.Ranked.rank (joined c.args.lists.items) c.loop-fronts.merged.items c.loop-fronts.fronts.items none c.loop-fronts.invariant.stand in
-    record { ascends = all.0; all = all.1 }
+pub loop-front-preserved-in-Some-2 : goal.loop-front-preserved-in-Some-2
+loop-front-preserved-in-Some-2 g c =
+    let whole = joined c.args.lists.items in
+    let rest = c.pop_front.new.self.items in
+    let new = c.take_first.new.fronts.items in
+    let added = c.in_ok-in_order.ensures {u = tt} in
+    record {
+      all = subst (λ (l : List g.row.T.Denot). IsPermutation whole (l ++ joined new)) (sym {A = List g.row.T.Denot} added.items)
+          (one_more whole c.loop-front.merged.items c.in-Some.front c.in-Some-2.value c.loop-front.fronts.items rest new (c.in-Some.ensures {u = tt}).items c.loop-front.invariant.all
+          (subst (λ (o : Option g.row.T.Denot). IsPermutation (c.in-Some.front ++ joined rest) (option_to_list o ++ joined new)) c.in-Some-2.is (c.in_ok-value.ensures {u = tt}).all));
+      order = λ both.
+          let each = both_true c.loop-front.in_order c.in_ok-in_order.field-0 both in
+          added.order each.1 (c.loop-front.invariant.order each.0);
+    }
+
+pub sort-requires : goal.sort-requires
+sort-requires g c =
+    let R = g.T.Ranked.rank in
+    let whole = joined c.args.lists.items in
+    let none : c.loop-front.fronts.items ≡ [] = nil_from_length c.loop-front.fronts.items (omega (arith, (c.in_default.ensures {u = tt}).cases)) in
+    IsDistinct-IsPermutation (eq_by_cmp R) (eq_by_cmp_equiv g.met.T.Ranked.total).symm whole c.loop-front.merged.items
+    (nothing_left whole c.loop-front.merged.items c.loop-front.fronts.items none c.loop-front.invariant.all)
+    (distinct_joined R g.met.T.Ranked.total c.args.lists.items c.requires.ascend c.requires.apart)
+
+pub returns-clause-all : goal.returns-clause-all
+returns-clause-all g c =
+    let R = g.T.Ranked.rank in
+    let total = g.met.T.Ranked.total in
+    let whole = joined c.args.lists.items in
+    let merged = c.loop-front.merged.items in
+    let none : c.loop-front.fronts.items ≡ [] = nil_from_length c.loop-front.fronts.items (omega (arith, (c.in_default.ensures {u = tt}).cases)) in
+    let moved : IsPermutation whole merged = nothing_left whole merged c.loop-front.fronts.items none c.loop-front.invariant.all in
+    same_firsts R total whole c.if-not-in_order.merged.items (distinct_joined R total c.args.lists.items c.requires.ascend c.requires.apart)
+    (elim c.if-not-in_order.branch [
+      | then-not-in_order+in_ok-sort w ↦
+          subst (λ (v : Vec g.row.T.Denot Global). IsPermutation whole v.items) (sym w.merged-is) (IsPermutation-trans whole merged w.sort.new.values.items moved w.sort.ensures.all)
+      | else-not-in_order w ↦ subst (λ (v : Vec g.row.T.Denot Global). IsPermutation whole v.items) (sym w.merged-is) moved
+    ])

@@ -2,7 +2,7 @@ use Rattle.std.proofs.Common.{◌≡◌, ◌≤◌, ◌++◌, ◌∷◌, List, l
 use Rattle.std.proofs.lemmas.Result.{IfOk-weaker}
 use Rattle.eql_laws.specs.Apart.{joined}
 use Rattle.eql_merge.specs.Ranks.{SameFirsts}
-use Rattle.eql_merge.proofs.Standing.{two_joined}
+use Rattle.eql_merge.proofs.FirstLists.{two_joined}
 use Rattle.eql_merge.proofs.groups.merge_at_once.Goals as goal
 
 pub returns-clause-all : goal.returns-clause-all

@@ -1,7 +1,7 @@
 use Rattle.std.proofs.Common.{List, subst, sym}
 use Rattle.eql_merge.specs.Ranks.{NoTies}
 use Rattle.eql_merge.proofs.Splits.{parts_stand}
-use Rattle.eql_merge.proofs.Standing.{first_put}
+use Rattle.eql_merge.proofs.FirstLists.{first_put}
 use Rattle.eql_merge.proofs.groups.merge_first.Goals as goal
 
 pub merge_at_once-requires-clause-apart : goal.merge_at_once-requires-clause-apart

@@ -1,0 +1,44 @@
+//! A number for each key, by which keys are told apart before they are compared as a whole. Where the numbers of two keys differ,
+//! they are nearly always in the order of the keys. No clause says so: what is done with the numbers is to be right whatever they
+//! are, and it is fast where they put the keys in order.
+
+use crate::value::{Key, Value};
+
+/// The eight bytes of a text from a place on as a number, the first of them the highest.
+fn lead_of_bytes(bytes: &[u8], from: usize) -> u64 {
+    let mut lead = 0;
+    for place in 0..8 {
+        let byte = bytes.get(from.saturating_add(place)).copied().unwrap_or(0);
+        lead = (lead << 8) | u64::from(byte);
+    }
+    lead
+}
+
+/// The number of a value, with the eight bytes of a text from a place on.
+fn lead_of_value(value: &Value, from: usize) -> u64 {
+    match value {
+        Value::Null => 0,
+        Value::Bool(value) => u64::from(*value),
+        Value::Long(value) => u64::from_be_bytes(value.to_be_bytes()) ^ (1 << 63),
+        Value::Text(text) => lead_of_bytes(text.text().as_bytes(), from),
+        Value::Ip(value) => u64::from(*value),
+    }
+}
+
+impl Key {
+    /// The number of the key: that of its first value, and behind it that of its second one, or what comes next in the first where
+    /// it is alone.
+    pub fn lead(&self) -> u128 {
+        let values = self.items();
+        let high = match values.first() {
+            None => 0,
+            Some(first) => lead_of_value(first, 0),
+        };
+        let low = match (values.first(), values.get(1)) {
+            (_, Some(second)) => lead_of_value(second, 0),
+            (Some(first), None) => lead_of_value(first, 8),
+            (None, None) => 0,
+        };
+        (u128::from(high) << 64) | u128::from(low)
+    }
+}
