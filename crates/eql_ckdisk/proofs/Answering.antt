@@ -1,7 +1,7 @@
 -- What is found, as cuts.
 use Rattle.std.proofs.Common.{◌≡◌, inl, inr, ⊎_elim, ℕ, List, Vec, Global, Option, Some, None, Result, Err, IfErr, IfSome, IsSomeAnd, refl, sym, ◌∙◌, ap, subst}
 use Rattle.eql_outside.specs.Areas.{Areas, seen_areas}
-use Rattle.eql_outside.specs.Moments.{History, Told}
+use Rattle.eql_outside.specs.Moments.{History, DiskTells}
 use Rattle.eql_cut.specs.declared.cut.Cut.{Cut}
 use Rattle.eql_cut.specs.Whole.{IsText, IsTextOf, IsNoText}
 use Rattle.eql_ckdisk.specs.declared.refused.CkRefused.{CkRefused}
@@ -10,7 +10,7 @@ use Rattle.eql_ckdisk.specs.declared.find.LastText.{LastText}
 use Rattle.eql_ckdisk.specs.declared.recovery.Recovered.{Recovered}
 use Rattle.eql_ckdisk.specs.Found.{Found, nothing, text, damaged, found, Finds, EachFinds, LastCut, IsAt, next}
 use Rattle.eql_ckdisk.specs.Going.{Keeps}
-use Rattle.eql_ckdisk.specs.Keeping.{all_kept, AllKept}
+use Rattle.eql_ckdisk.specs.Keeping.{all_kept, KeepsAll}
 use Rattle.eql_ckdisk.specs.Heads.{IsTextFound}
 use Rattle.eql_ckdisk.specs.Putting.{last_cut, Stands, text_at, PutsText, PutText}
 use Rattle.eql_ckdisk.specs.Cuts.{FindsCut, IsFound, Holds, KeepsOrPuts, Puts}
@@ -59,7 +59,7 @@ is_at last format None f is = subst (IsAt last) (sym is.0) is.2
 is_at last format (Some cut) f is = subst (IsAt last) (sym is.1) (refl, refl)
 
 -- where both areas are kept, each image is what reads give
-pub each_image : (P : Found → Type 0) (o p : Option History) → Told AllKept o p
+pub each_image : (P : Found → Type 0) (o p : Option History) → DiskTells KeepsAll o p
     → IfSome p (λ k. P (found (seen_areas k.now))) → IfSome p (λ k. EachFinds P k.now)
 each_image P None None told there = tt
 each_image P None (Some k) told there = absurd told
@@ -67,7 +67,7 @@ each_image P (Some h) None told there = tt
 each_image P (Some h) (Some k) told there = λ image i.
     subst (λ (x : Areas). P (found x)) (sym (seen_alone k.now image (told.now ∙ ap all_kept (sym told.now)) i)) there
 
-one_stands : (last : LastCut) (format : ℕ) (answer : Option Cut) (o p : Option History) → Told AllKept o p
+one_stands : (last : LastCut) (format : ℕ) (answer : Option Cut) (o p : Option History) → DiskTells KeepsAll o p
     → IfSome p (λ k. IsFound last format answer (found (seen_areas k.now))) → Stands last p
 one_stands last format answer None None told there = tt
 one_stands last format answer None (Some k) told there = absurd told
@@ -80,7 +80,7 @@ if_some P Q None f p = tt
 if_some P Q (Some x) f p = f x p
 
 -- of a text that was found after both areas were kept
-module _ (last : LastText) (r : Recovered) (o p : Option History) (kept : Told AllKept o p) (there : IfSome p (λ k. IsTextFound last (found (seen_areas k.now)))) (reads : (f : Found) → IsTextFound last f → IsAnswer r f) where
+module _ (last : LastText) (r : Recovered) (o p : Option History) (kept : DiskTells KeepsAll o p) (there : IfSome p (λ k. IsTextFound last (found (seen_areas k.now)))) (reads : (f : Found) → IsTextFound last f → IsAnswer r f) where
   answers_seen : IfSome p (λ k. IsAnswer r (found (seen_areas k.now)))
   answers_seen = if_some (λ (k : History). IsTextFound last (found (seen_areas k.now))) (λ (k : History). IsAnswer r (found (seen_areas k.now))) p (λ k is. reads (found (seen_areas k.now)) is) there
 
@@ -91,7 +91,7 @@ module _ (last : LastText) (r : Recovered) (o p : Option History) (kept : Told A
   answer_stands = one_stands (last_cut r.state) r.format r.cut o p kept answers_seen
 
 -- a head that is damaged
-pub head_each : (e : CkRefused) (o p : Option History) → Told AllKept o p
+pub head_each : (e : CkRefused) (o p : Option History) → DiskTells KeepsAll o p
     → IfDamaged e (λ number at. IfSome p (λ k. IsDamagedHead number at (found (seen_areas k.now))))
     → IfDamaged e (λ number at. IfSome p (λ k. EachFinds (IsDamaged number at) k.now))
 head_each ck.DiskFault o p kept is = tt
@@ -101,7 +101,7 @@ head_each ck.Generation o p kept is = tt
 head_each ck.Memory o p kept is = tt
 
 -- a text that is no cut's
-pub text_each : (last : LastText) (e : CkRefused) (o p : Option History) → Told AllKept o p
+pub text_each : (last : LastText) (e : CkRefused) (o p : Option History) → DiskTells KeepsAll o p
     → IfSome p (λ k. IsTextFound last (found (seen_areas k.now)))
     → IfDamaged e (λ number at. (f : Found) → IsTextFound last f → IsDamaged number at f) → IfDamaged e (λ number at. IfSome p (λ k. EachFinds (IsDamaged number at) k.now))
 text_each last ck.DiskFault o p kept there is = tt
@@ -121,12 +121,12 @@ refused_so r y e p q is same here said =
     (subst (λ (z : CkRefused). Said z q) (sym same) (subst (Said e) (sym here) said))
 
 pub head_refused : (r : Result Recovered CkRefused) (y e : CkRefused) (o p q : Option History) → r ≡ Err y → y ≡ e
-    → q ≡ p → Told AllKept o p
+    → q ≡ p → DiskTells KeepsAll o p
     → IfDamaged e (λ number at. IfSome p (λ k. IsDamagedHead number at (found (seen_areas k.now)))) → IfErr r (λ z. Said z q)
 head_refused r y e o p q is same here kept damage = refused_so r y e p q is same here (head_each e o p kept damage)
 
 pub text_refused : (last : LastText) (r : Result Recovered CkRefused) (y e : CkRefused) (o p q : Option History)
-    → r ≡ Err y → y ≡ e → q ≡ p → Told AllKept o p
+    → r ≡ Err y → y ≡ e → q ≡ p → DiskTells KeepsAll o p
     → IfSome p (λ k. IsTextFound last (found (seen_areas k.now))) → IfDamaged e (λ number at. (f : Found) → IsTextFound last f → IsDamaged number at f)
     → IfErr r (λ z. Said z q)
 text_refused last r y e o p q is same here kept there damage = refused_so r y e p q is same here (text_each last e o p kept there damage)
@@ -138,11 +138,11 @@ if_any (ck.Damaged area at) A a = a
 if_any ck.Generation A a = tt
 if_any ck.Memory A a = tt
 
-pub kept_refused : (r : Result Recovered CkRefused) (y : CkRefused) (o p q : Option History) → r ≡ Err y → q ≡ p → Told AllKept o p
-    → IfErr r (λ e. IfDamaged e (λ number at. Told AllKept o q))
+pub kept_refused : (r : Result Recovered CkRefused) (y : CkRefused) (o p q : Option History) → r ≡ Err y → q ≡ p → DiskTells KeepsAll o p
+    → IfErr r (λ e. IfDamaged e (λ number at. DiskTells KeepsAll o q))
 kept_refused r y o p q is same kept =
-    subst (λ (x : Result Recovered CkRefused). IfErr x (λ e. IfDamaged e (λ number at. Told AllKept o q))) (sym is)
-    (if_any y (Told AllKept o q) (subst (λ (x : Option History). Told AllKept o x) (sym same) kept))
+    subst (λ (x : Result Recovered CkRefused). IfErr x (λ e. IfDamaged e (λ number at. DiskTells KeepsAll o q))) (sym is)
+    (if_any y (DiskTells KeepsAll o q) (subst (λ (x : Option History). DiskTells KeepsAll o x) (sym same) kept))
 
 -- a text of a cut is put
 module _ (last : LastCut) (cut : Cut) (bytes : List ℕ) (t : IsText 3 cut bytes) where
@@ -154,13 +154,13 @@ module _ (last : LastCut) (cut : Cut) (bytes : List ℕ) (t : IsText 3 cut bytes
         no_older = r.no_older;
       }) h k (put f at finds)
 
-  pub told_put : (o p : Option History) → Told (PutsText last bytes) o p → Told (Puts last cut) o p
+  pub told_put : (o p : Option History) → DiskTells (PutsText last bytes) o p → DiskTells (Puts last cut) o p
   told_put None None put = tt
   told_put None (Some k) put = put
   told_put (Some h) None put = put
   told_put (Some h) (Some k) put = cut_put h k put
 
-  pub told_holds : (new : LastCut) (o p : Option History) → new ≡ next last → Told (PutText last bytes) o p
+  pub told_holds : (new : LastCut) (o p : Option History) → new ≡ next last → DiskTells (PutText last bytes) o p
       → IfSome p (λ k. Holds new cut k.now)
   told_holds new None None is put = tt
   told_holds new None (Some k) is put = absurd put

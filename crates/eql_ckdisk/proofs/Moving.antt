@@ -4,7 +4,7 @@ use Rattle.eql_outside.specs.declared.disk.Area.{Area}
 use Rattle.eql_outside.specs.declared.disk.Area.TheVariants.{A, B}
 use Rattle.eql_outside.specs.Areas.{Areas, Write, Store, MayLeave, Moment, IsImage, store, with_store, kept_areas}
 use Rattle.eql_outside.specs.DiskLaws.{ImagesAreThere}
-use Rattle.eql_outside.specs.Moments.{History, Told, later, LandsOn, after_write}
+use Rattle.eql_outside.specs.Moments.{History, DiskTells, later, LandsOn, after_write}
 use Rattle.eql_ckdisk.specs.Found.{Found, found, generation_of}
 use Rattle.eql_ckdisk.specs.Going.{Steps, Goes, Keeps}
 use Rattle.eql_ckdisk.specs.Writing.{LandsAsOne}
@@ -61,10 +61,10 @@ kept_while A w seen m = refl
 kept_while B w seen m = refl
 
 pub told_then : (R S T : History → History → Type 0) → ((h j k : History) → R h j → S j k → T h k)
-    → (a b c : Option History) → Told R a b → Told S b c → Told T a c
+    → (a b c : Option History) → DiskTells R a b → DiskTells S b c → DiskTells T a c
 told_then R S T f None None c r s = told_none c s
   where
-    told_none : (x : Option History) → Told S None x → Told T None x
+    told_none : (x : Option History) → DiskTells S None x → DiskTells T None x
     told_none None t = tt
     told_none (Some k) t = absurd t
 told_then R S T f None (Some j) c r s = absurd r

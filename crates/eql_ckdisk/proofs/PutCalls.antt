@@ -2,10 +2,10 @@
 use Rattle.std.proofs.Common.{◌≡◌, ℕ, ◌+◌, ◌≤◌, ◌<◌, ◌^◌, List, [], ◌∷◌, length, Option, Some, None, Result, Ok, Err, OnOk, OnErr, sym, subst, arith}
 use Rattle.eql_outside.specs.declared.disk.Area.{Area}
 use Rattle.eql_outside.specs.Areas.{Write}
-use Rattle.eql_outside.specs.Moments.{History, Told}
+use Rattle.eql_outside.specs.Moments.{History, DiskTells}
 use Rattle.eql_ckdisk.specs.Found.{Found, nothing, text, damaged, generation_of, Finds, LastCut, IsAt, next_area, next, block}
 use Rattle.eql_ckdisk.specs.Going.{Goes, Keeps}
-use Rattle.eql_ckdisk.specs.Writing.{Writing, WroteThrough}
+use Rattle.eql_ckdisk.specs.Writing.{WritesAndSyncs, WroteThrough}
 use Rattle.eql_outside.specs.DiskLaws.{ImagesAreThere}
 use Rattle.eql_ckdisk.specs.Putting.{Stands, text_at, PutsText, PutText}
 use Rattle.eql_ckdisk.proofs.Moving.{stays}
@@ -17,7 +17,7 @@ at_generation last (text a g bytes) at = at.1
 at_generation last (damaged a g) at = absurd at
 
 -- nothing was done
-pub put_nothing : (last : LastCut) (bytes : List ℕ) (o p : Option History) → p ≡ o → Told (PutsText last bytes) o p
+pub put_nothing : (last : LastCut) (bytes : List ℕ) (o p : Option History) → p ≡ o → DiskTells (PutsText last bytes) o p
 put_nothing last bytes None None is = tt
 put_nothing last bytes None (Some k) is = absurd (cc)
 put_nothing last bytes (Some h) None is = absurd (cc)
@@ -49,7 +49,7 @@ module _ (there : ImagesAreThere) (last : LastCut) (bytes : List ℕ) (limit : l
   abbrev open_ : Write
   open_ = record { at = 0; bytes = 1 ∷ [] }
 
-  pub put_first : (o p : Option History) → Told (Writing area shut) o p → Told (PutsText last bytes) o p
+  pub put_first : (o p : Option History) → DiskTells (WritesAndSyncs area shut) o p → DiskTells (PutsText last bytes) o p
   put_first None None told = tt
   put_first None (Some k) told = told
   put_first (Some h) None told = told
@@ -57,8 +57,8 @@ module _ (there : ImagesAreThere) (last : LastCut) (bytes : List ℕ) (limit : l
       here f at h k (first area f g bytes (older f at) (from f at) (to f at) short h k k k (others f at h finds) finds told)
 
   module _ (blk : List ℕ) (is_block : blk ≡ block (last.generation + 1) bytes) where
-    pub put_second : (o p q : Option History) → Told (WroteThrough area shut) o p
-        → Told (Writing area (record { at = 1; bytes = blk })) p q → Told (PutsText last bytes) o q
+    pub put_second : (o p q : Option History) → DiskTells (WroteThrough area shut) o p
+        → DiskTells (WritesAndSyncs area (record { at = 1; bytes = blk })) p q → DiskTells (PutsText last bytes) o q
     put_second None None None one two = tt
     put_second None None (Some k) one two = two
     put_second None (Some j) q one two = absurd one
@@ -67,18 +67,18 @@ module _ (there : ImagesAreThere) (last : LastCut) (bytes : List ℕ) (limit : l
     put_second (Some h) (Some j) (Some k) one two = λ f at finds.
         here f at h k
         (second area f g bytes (older f at) (from f at) (to f at) short h j k k (others f at h finds) finds one
-        (subst (λ (x : List ℕ). Writing area (record { at = 1; bytes = x }) j k) is_block two))
+        (subst (λ (x : List ℕ). WritesAndSyncs area (record { at = 1; bytes = x }) j k) is_block two))
 
     third_goes : (h i j k : History) → WroteThrough area shut h i
-        → WroteThrough area (record { at = 1; bytes = blk }) i j → Writing area open_ j k → PutsText last bytes h k
+        → WroteThrough area (record { at = 1; bytes = blk }) i j → WritesAndSyncs area open_ j k → PutsText last bytes h k
     third_goes h i j k one two three = λ f at finds.
         here f at h k
         (third area f g bytes (older f at) (from f at) (to f at) short h i j k (others f at h finds) finds one
         (subst (λ (x : List ℕ). WroteThrough area (record { at = 1; bytes = x }) i j) is_block two) three)
 
-    pub put_third : (o p q r : Option History) → Told (WroteThrough area shut) o p
-        → Told (WroteThrough area (record { at = 1; bytes = blk })) p q → Told (Writing area open_) q r
-        → Told (PutsText last bytes) o r
+    pub put_third : (o p q r : Option History) → DiskTells (WroteThrough area shut) o p
+        → DiskTells (WroteThrough area (record { at = 1; bytes = blk })) p q → DiskTells (WritesAndSyncs area open_) q r
+        → DiskTells (PutsText last bytes) o r
     put_third None None None None one two three = tt
     put_third None None None (Some k) one two three = three
     put_third None None (Some j) r one two three = absurd two
@@ -88,9 +88,9 @@ module _ (there : ImagesAreThere) (last : LastCut) (bytes : List ℕ) (limit : l
     put_third (Some h) (Some i) (Some j) None one two three = three
     put_third (Some h) (Some i) (Some j) (Some k) one two three = third_goes h i j k one two three
 
-    pub put_done : (o p q r : Option History) → Stands last o → Told (WroteThrough area shut) o p
-        → Told (WroteThrough area (record { at = 1; bytes = blk })) p q → Told (WroteThrough area open_) q r
-        → Told (PutText last bytes) o r
+    pub put_done : (o p q r : Option History) → Stands last o → DiskTells (WroteThrough area shut) o p
+        → DiskTells (WroteThrough area (record { at = 1; bytes = blk })) p q → DiskTells (WroteThrough area open_) q r
+        → DiskTells (PutText last bytes) o r
     put_done None None None None stands one two three = tt
     put_done None None None (Some k) stands one two three = three
     put_done None None (Some j) r stands one two three = absurd two
@@ -105,8 +105,8 @@ module _ (there : ImagesAreThere) (last : LastCut) (bytes : List ℕ) (limit : l
           (subst (λ (x : List ℕ). WroteThrough area (record { at = 1; bytes = x }) i j) is_block two) three);
     }
 
-pub weaker : (area : Area) (o p : Option History) (w : Write) → Told (WroteThrough area w) o p
-    → Told (Writing area w) o p
+pub weaker : (area : Area) (o p : Option History) (w : Write) → DiskTells (WroteThrough area w) o p
+    → DiskTells (WritesAndSyncs area w) o p
 weaker area None None w told = tt
 weaker area None (Some k) w told = told
 weaker area (Some h) None w told = told

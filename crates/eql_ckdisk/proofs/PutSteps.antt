@@ -7,7 +7,7 @@ use Rattle.eql_outside.specs.DiskLaws.{ImagesAreThere}
 use Rattle.eql_outside.specs.Moments.{History}
 use Rattle.eql_ckdisk.specs.Found.{Found, text, found, is_open, generation_in, holds, generation_of, Finds, LastCut, IsAt, next_area, block}
 use Rattle.eql_ckdisk.specs.Going.{Goes, Keeps}
-use Rattle.eql_ckdisk.specs.Writing.{with_bytes, LandsAsOne, Writing, WroteThrough}
+use Rattle.eql_ckdisk.specs.Writing.{with_bytes, LandsAsOne, WritesAndSyncs, WroteThrough}
 use Rattle.eql_ckdisk.proofs.Moving.{goes_further}
 use Rattle.eql_ckdisk.proofs.Taken.{alone, closed, newer, other_stands, alone_generation}
 use Rattle.eql_ckdisk.proofs.Blocks.{block_generation, block_holds}
@@ -121,13 +121,13 @@ module _ (area : Area) (f : Found) (g : ℕ) (bytes : List ℕ) (older : generat
     rest_a : List ℕ
     rest_a = drop 1 (store area a.now).seen
 
-    pub first : Writing area shut a b → Goes (Keeps f (text area g bytes)) a b
+    pub first : WritesAndSyncs area shut a b → Goes (Keeps f (text area g bytes)) a b
     first going = going f (text area g bytes) le finds (shuts a.now others finds)
 
     is_shut : WroteThrough area shut a b → Ready area f (0 ∷ drop 1 (store area a.now).seen) b.now
     is_shut one = ready area f (0 ∷ drop 1 (store area a.now).seen) a.now b.now others one.now
 
-    pub second : WroteThrough area shut a b → Writing area fill b c → Goes (Keeps f (text area g bytes)) a c
+    pub second : WroteThrough area shut a b → WritesAndSyncs area fill b c → Goes (Keeps f (text area g bytes)) a c
     second one going =
         let r = is_shut one in
         goes_further (Keeps f (text area g bytes)) a b c (first one.going)
@@ -160,7 +160,7 @@ module _ (area : Area) (f : Found) (g : ℕ) (bytes : List ℕ) (older : generat
         ready area f (0 ∷ (block g bytes ++ behind)) b.now c.now (is_shut one).others
         (subst (λ (x : List ℕ). c.now ≡ with_store area (settled (written fill x)) b.now) (seen_shut one) two.now)
 
-    pub third : WroteThrough area shut a b → WroteThrough area fill b c → Writing area open_ c d
+    pub third : WroteThrough area shut a b → WroteThrough area fill b c → WritesAndSyncs area open_ c d
         → Goes (Keeps f (text area g bytes)) a d
     third one two going =
         let r = is_filled one two in

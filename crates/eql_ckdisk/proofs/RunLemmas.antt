@@ -7,7 +7,7 @@ use Rattle.eql_outside.specs.declared.disk.Area.{Area}
 use Rattle.eql_outside.specs.declared.disk.Area.TheVariants.{A}
 use Rattle.eql_outside.specs.Areas.{Moment, IsImage, kept_areas}
 use Rattle.eql_outside.specs.DiskLaws.{ImagesAreThere}
-use Rattle.eql_outside.specs.Moments.{History, Told}
+use Rattle.eql_outside.specs.Moments.{History, DiskTells}
 use Rattle.eql_cut.specs.declared.cut.Cut.{Cut}
 use Rattle.eql_cut.specs.Whole.{IsText}
 use Rattle.eql_ckdisk.specs.Found.{Found, nothing, text, damaged, found, generation_of, LastCut, next}
@@ -48,7 +48,7 @@ recovery_steps last (suc n) h k (j, steps, m, is, r) = (
   },
 )
 
-recovery : (last : LastCut) (o p : Option History) → Told (Goes NoMore) o p → Told (PutsAll last []) o p
+recovery : (last : LastCut) (o p : Option History) → DiskTells (Goes NoMore) o p → DiskTells (PutsAll last []) o p
 recovery last None None told = tt
 recovery last None (Some k) told = told
 recovery last (Some h) None told = told
@@ -66,7 +66,7 @@ put_goes there last cut h k (f, at, finds) put =
     }) h k (put f at finds)
 
 one_put : ImagesAreThere → (last : LastCut) (cut : Cut) (o p : Option History) → Stands last o
-    → Told (Puts last cut) o p → Told (PutsAll last (cut ∷ [])) o p
+    → DiskTells (Puts last cut) o p → DiskTells (PutsAll last (cut ∷ [])) o p
 one_put there last cut None None stands told = tt
 one_put there last cut None (Some k) stands told = told
 one_put there last cut (Some h) None stands told = told
@@ -110,8 +110,8 @@ joined_goes last cuts more h j k first second =
       no_older = r.no_older;
     }) j k second)
 
-joined : (last : LastCut) (cuts more : List Cut) (o p q : Option History) → Told (PutsAll last cuts) o p
-    → Told (PutsAll (last_after last cuts) more) p q → Told (PutsAll last (cuts ++ more)) o q
+joined : (last : LastCut) (cuts more : List Cut) (o p q : Option History) → DiskTells (PutsAll last cuts) o p
+    → DiskTells (PutsAll (last_after last cuts) more) p q → DiskTells (PutsAll last (cuts ++ more)) o q
 joined last cuts more None None None one two = tt
 joined last cuts more None None (Some k) one two = two
 joined last cuts more None (Some j) q one two = absurd one

@@ -4,16 +4,16 @@ use Rattle.eql_outside.specs.declared.disk.Area.{Area}
 use Rattle.eql_outside.specs.declared.disk.Area.TheVariants.{A, B}
 use Rattle.eql_outside.specs.Areas.{Write, Store, MayLeave, Moment, IsImage, store, with_store, settled, written, kept_areas}
 use Rattle.eql_outside.specs.DiskLaws.{WholeLands, ImagesAreThere}
-use Rattle.eql_outside.specs.Moments.{History, Told, later, LandsOn, after_write, reading, Wrote, WriteRefused, Synced, SyncRefused}
+use Rattle.eql_outside.specs.Moments.{History, DiskTells, later, LandsOn, after_write, reading, Wrote, RefusesWrite, Syncs, RefusesSync}
 use Rattle.eql_ckdisk.specs.Found.{found}
 use Rattle.eql_ckdisk.specs.Going.{Keeps}
-use Rattle.eql_ckdisk.specs.Writing.{Writing, WroteThrough}
+use Rattle.eql_ckdisk.specs.Writing.{WritesAndSyncs, WroteThrough}
 use Rattle.eql_ckdisk.proofs.Moving.{stays, goes_on, goes_to, keeps, while_written, fewer, kept_while}
 
 module _ (there : ImagesAreThere) (whole : WholeLands) (area : Area) (w : Write) where
   -- the write was begun
   begins : (h k : History) (seen : List ℕ) → LandsOn w (store area h.now) seen
-      → k ≡ later (after_write area w seen h.now) h → Writing area w h k
+      → k ≡ later (after_write area w seen h.now) h → WritesAndSyncs area w h k
   begins h k seen on is f g le finds lands =
       goes_on (Keeps f g) h h k (after_write area w seen h.now) (stays (Keeps f g) h h refl) is
       (keeps there f g h.now (after_write area w seen h.now) le (finds (kept_areas h.now) (there.kept h.now)) (while_written area w f g h.now seen lands on))
@@ -21,7 +21,7 @@ module _ (there : ImagesAreThere) (whole : WholeLands) (area : Area) (w : Write)
   -- and then the area may leave no more
   ends : (h j k : History) (seen : List ℕ) (s : Store) → LandsOn w (store area h.now) seen
       → j ≡ later (after_write area w seen h.now) h → k ≡ later (with_store area s j.now) j
-      → ((c : List ℕ) → MayLeave s c → MayLeave (store area j.now) c) → Writing area w h k
+      → ((c : List ℕ) → MayLeave s c → MayLeave (store area j.now) c) → WritesAndSyncs area w h k
   ends h j k seen s on is then_ less f g le finds lands =
       let mid = after_write area w seen h.now in
       let now : j.now ≡ mid = ap (λ (x : History). x.now) is in
@@ -29,7 +29,7 @@ module _ (there : ImagesAreThere) (whole : WholeLands) (area : Area) (w : Write)
       goes_on (Keeps f g) h j k (with_store area s j.now) (begins h j seen on is f g le finds lands) then_
       (keeps there f g j.now (with_store area s j.now) le kept (λ image i. while_written area w f g h.now seen lands on image (subst (λ x. IsImage x image) now (fewer area j.now s less image i))))
 
-  refused : (h k : History) → WriteRefused area w h k → Writing area w h k
+  refused : (h k : History) → RefusesWrite area w h k → WritesAndSyncs area w h k
   refused h k (inl is) f g le finds lands = stays (Keeps f g) h k is
   refused h k (inr (seen, on, is)) f g le finds lands = begins h k seen on is f g le finds lands
 
@@ -40,7 +40,7 @@ module _ (there : ImagesAreThere) (whole : WholeLands) (area : Area) (w : Write)
     on : LandsOn w (store area h.now) (written w (store area h.now).seen)
     on = ((store area h.now).seen, inl refl, whole.there w (store area h.now).seen within)
 
-    unkept : SyncRefused area j k → Writing area w h k
+    unkept : RefusesSync area j k → WritesAndSyncs area w h k
     unkept (inl is) f g le finds lands = goes_to (Keeps f g) h j k (begins h j (written w (store area h.now).seen) on wrote f g le finds lands) is
     unkept (inr (seen, left, is)) f g le finds lands =
         ends h j k (written w (store area h.now).seen) (reading seen (store area j.now)) on wrote is less f g le finds lands
@@ -49,7 +49,7 @@ module _ (there : ImagesAreThere) (whole : WholeLands) (area : Area) (w : Write)
         less c (inl same) = subst (MayLeave (store area j.now)) (sym same) left
         less c (inr rest) = inr rest
 
-    done : Synced area j k → WroteThrough area w h k
+    done : Syncs area j k → WroteThrough area w h k
     done synced = record {
       going = ends h j k (written w (store area h.now).seen) (settled (store area j.now).seen) on wrote synced less;
       now = ap (λ (x : History). x.now) synced ∙ ap (λ (x : Moment). with_store area (settled (store area x).seen) x) (ap (λ (x : History). x.now) wrote) ∙ both area;
@@ -64,14 +64,14 @@ module _ (there : ImagesAreThere) (whole : WholeLands) (area : Area) (w : Write)
         both A = refl
         both B = refl
 
-  pub told_refused : (a b : Option History) → Told (WriteRefused area w) a b → Told (Writing area w) a b
+  pub told_refused : (a b : Option History) → DiskTells (RefusesWrite area w) a b → DiskTells (WritesAndSyncs area w) a b
   told_refused None None r = tt
   told_refused None (Some k) r = r
   told_refused (Some h) None r = r
   told_refused (Some h) (Some k) r = refused h k r
 
   pub told_unkept : (a b c : Option History) → IfSome a (λ h. w.at ≤ length (store area h.now).seen)
-      → Told (Wrote area w) a b → Told (SyncRefused area) b c → Told (Writing area w) a c
+      → DiskTells (Wrote area w) a b → DiskTells (RefusesSync area) b c → DiskTells (WritesAndSyncs area w) a c
   told_unkept None None None within r s = tt
   told_unkept None None (Some k) within r s = absurd s
   told_unkept None (Some j) c within r s = absurd r
@@ -80,7 +80,7 @@ module _ (there : ImagesAreThere) (whole : WholeLands) (area : Area) (w : Write)
   told_unkept (Some h) (Some j) (Some k) within r s = unkept h j k within r s
 
   pub told_done : (a b c : Option History) → IfSome a (λ h. w.at ≤ length (store area h.now).seen)
-      → Told (Wrote area w) a b → Told (Synced area) b c → Told (WroteThrough area w) a c
+      → DiskTells (Wrote area w) a b → DiskTells (Syncs area) b c → DiskTells (WroteThrough area w) a c
   told_done None None None within r s = tt
   told_done None None (Some k) within r s = absurd s
   told_done None (Some j) c within r s = absurd r

@@ -13,6 +13,6 @@ abbrev pub all_kept : Moment → Moment
 all_kept m = record { a = settled m.a.seen; b = settled m.b.seen }
 
 -- a crash never left more than before, and now it leaves what reads gave
-pub record AllKept (h k : History) : Type 0 where
+pub record KeepsAll (h k : History) : Type 0 where
   pub going : Goes NoMore h k
   pub now : k.now ≡ all_kept h.now

@@ -2,7 +2,7 @@
 use Rattle.std.specs.Prelude.{◌≡◌, ◌++◌, ◌∷◌, [], ℕ, List, All, AllPairs, Option, Some}
 use Rattle.eql_cut.specs.declared.cut.Cut.{Cut}
 use Rattle.eql_outside.specs.Areas.{Moment}
-use Rattle.eql_outside.specs.Moments.{History, Told}
+use Rattle.eql_outside.specs.Moments.{History, DiskTells}
 use Rattle.eql_ckdisk.specs.Found.{Found, LastCut}
 use Rattle.eql_ckdisk.specs.Going.{Goes, NoOlder}
 use Rattle.eql_ckdisk.specs.Keeping.{NoMore}
@@ -15,14 +15,14 @@ use Rattle.eql_ckdisk.specs.Runs.{last_after, KeepsStartOr, PutsAll}
 pub record PutsGoOn : Type 0 where
   -- a recovery is a run with no put
   pub recovery : (last : LastCut) (before now : Option History)
-      → Told (Goes NoMore) before now → Told (PutsAll last []) before now
+      → DiskTells (Goes NoMore) before now → DiskTells (PutsAll last []) before now
   -- one put is a run, whatever it answered
   pub one_put : (last : LastCut) (cut : Cut) (before now : Option History)
-      → Stands last before → Told (Puts last cut) before now → Told (PutsAll last (cut ∷ [])) before now
+      → Stands last before → DiskTells (Puts last cut) before now → DiskTells (PutsAll last (cut ∷ [])) before now
   -- a run and then another
   pub joined : (last : LastCut) (cuts more : List Cut) (before mid now : Option History)
-      → Told (PutsAll last cuts) before mid → Told (PutsAll (last_after last cuts) more) mid now
-      → Told (PutsAll last (cuts ++ more)) before now
+      → DiskTells (PutsAll last cuts) before mid → DiskTells (PutsAll (last_after last cuts) more) mid now
+      → DiskTells (PutsAll last (cuts ++ more)) before now
 
 -- the moments since, the last of them first: what each image stands for there, and that none is older than one before
 pub record MomentsSince (last : LastCut) (cuts : List Cut) (h k : History) : Type 0 where

@@ -19,12 +19,12 @@ LandsAsOne area w f g m =
     → (found (with_bytes area c image) ≡ f) ⊎ (found (with_bytes area c image) ≡ g)
 
 -- a write and a sync: at each moment since, what lands counts
-abbrev pub Writing : Area → Write → History → History → Type 0
-Writing area w h k =
+abbrev pub WritesAndSyncs : Area → Write → History → History → Type 0
+WritesAndSyncs area w h k =
     (f g : Found) → generation_of f ≤ generation_of g → Finds f h.now → LandsAsOne area w f g h.now
     → Goes (Keeps f g) h k
 
 -- and then it is kept
 pub record WroteThrough (area : Area) (w : Write) (h k : History) : Type 0 where
-  pub going : Writing area w h k
+  pub going : WritesAndSyncs area w h k
   pub now : k.now ≡ with_store area (settled (written w (store area h.now).seen)) h.now

@@ -1,12 +1,12 @@
 //! Finds the text that counts.
 ghost use Rattle.std.specs.Prelude.{◌≡◌, ◌≢◌, ◌≤◌, Option, Some, Err, IfOk, IfErr, IfSome, OnOk, OnErr};
 ghost use Rattle.eql_outside.specs.Areas.{seen_areas, store};
-ghost use Rattle.eql_outside.specs.Moments.{Told};
+ghost use Rattle.eql_outside.specs.Moments.{DiskTells};
 ghost use Rattle.eql_outside.specs.Outside.{Rose};
 ghost use Rattle.eql_outside.specs.Unfailing.{IsUnfailing};
 ghost use Rattle.eql_ckdisk.specs.Found.{found, holds};
 ghost use Rattle.eql_ckdisk.specs.Going.{Goes};
-ghost use Rattle.eql_ckdisk.specs.Keeping.{NoMore, AllKept};
+ghost use Rattle.eql_ckdisk.specs.Keeping.{NoMore, KeepsAll};
 ghost use Rattle.eql_ckdisk.specs.Refusing.{number_of, IfDamaged, IsDamagedHead};
 
 use crate::head::{HEAD_BYTES, Head};
@@ -46,8 +46,9 @@ fn damaged_in(area: Area) -> CkRefused
 
 /// Keeps what reads give of both areas.
 pub(crate) fn settle<D: Disk>(alloc: Global, disk: &mut D) -> Result<(), OutRefused>
-    ensures ok { OnOk result (Told AllKept (D.history disk.old) (D.history disk.new)) }
-    ensures refused { OnErr result (Told (Goes NoMore) (D.history disk.old) (D.history disk.new)) }
+    ensures ok { OnOk result (DiskTells KeepsAll (D.history disk.old) (D.history disk.new)) }
+    ensures refused { OnErr result (DiskTells (Goes NoMore)
+        (D.history disk.old) (D.history disk.new)) }
     ensures cause { result ≡ Err OutRefused.Failed
         → Rose (D.fault_count disk.old) (D.fault_count disk.new) }
     ensures steady { result ≢ Err OutRefused.Failed

@@ -3,7 +3,7 @@ ghost use Rattle.std.specs.Prelude.{◌≡◌, ◌≢◌, ◌+◌, ◌≤◌, �
 ghost use Rattle.std.specs.Prelude.{IfOk, IfErr, IfSome, OnOk, OnErr, length, drop};
 ghost use Rattle.eql_cut.specs.Domain.{IsCut};
 ghost use Rattle.eql_cut.specs.Whole.{IsText};
-ghost use Rattle.eql_outside.specs.Moments.{Told};
+ghost use Rattle.eql_outside.specs.Moments.{DiskTells};
 ghost use Rattle.eql_outside.specs.Outside.{Rose};
 ghost use Rattle.eql_outside.specs.Unfailing.{IsUnfailing};
 ghost use Rattle.eql_ckdisk.specs.Found.{block, next};
@@ -50,9 +50,9 @@ fn put_block<D: Disk>(
     requires stands { Stands (last_cut state) (D.history disk.old) }
     requires room { (last_cut state).generation < 2 ^ 63 }
     requires head { made.now ≡ block ((last_cut state).generation + 1) (drop 16 made.now) }
-    ensures moments { Told (PutsText (last_cut state) (drop 16 made.now))
+    ensures moments { DiskTells (PutsText (last_cut state) (drop 16 made.now))
         (D.history disk.old) (D.history disk.new) }
-    ensures done { OnOk result (Told (PutText (last_cut state) (drop 16 made.now))
+    ensures done { OnOk result (DiskTells (PutText (last_cut state) (drop 16 made.now))
         (D.history disk.old) (D.history disk.new)) }
     ensures cause { result ≡ Err OutRefused.Failed
         → Rose (D.fault_count disk.old) (D.fault_count disk.new) }
@@ -87,7 +87,7 @@ pub fn put<D: Disk>(
     requires ordered { IsCut cut.now }
 
     // At each moment of the call, whatever it answers.
-    ensures moments { Told (Puts (last_cut state.old) cut.now)
+    ensures moments { DiskTells (Puts (last_cut state.old) cut.now)
         (D.history disk.old) (D.history disk.new) }
     ensures done { OnOk result (IfSome (D.history disk.new)
         (λ k. Holds (last_cut state.new) cut.now k.now)) }

@@ -1,11 +1,11 @@
 //! Finds the cut that counts.
 ghost use Rattle.std.specs.Prelude.{◌≡◌, ◌≢◌, ◌≤◌, Option, Err, IfOk, IfErr, IfSome, OnOk};
-ghost use Rattle.eql_outside.specs.Moments.{Told};
+ghost use Rattle.eql_outside.specs.Moments.{DiskTells};
 ghost use Rattle.eql_outside.specs.Outside.{Rose};
 ghost use Rattle.eql_outside.specs.Unfailing.{IsUnfailing};
 ghost use Rattle.eql_ckdisk.specs.Found.{Found, EachFinds};
 ghost use Rattle.eql_ckdisk.specs.Going.{Goes};
-ghost use Rattle.eql_ckdisk.specs.Keeping.{NoMore, AllKept};
+ghost use Rattle.eql_ckdisk.specs.Keeping.{NoMore, KeepsAll};
 ghost use Rattle.eql_ckdisk.specs.Putting.{Stands, last_cut};
 ghost use Rattle.eql_ckdisk.specs.Recovering.{IsAnswer, IsSound};
 ghost use Rattle.eql_ckdisk.specs.Refusing.{IfDamaged, IsDamaged};
@@ -81,14 +81,14 @@ pub fn recover<D: Disk>(alloc: Global, disk: &mut D) -> Result<Recovered, CkRefu
     ensures found { IfOk result
         (λ r. IfSome (D.history disk.new) (λ k. EachFinds (IsAnswer r) k.now)) }
     ensures stands { IfOk result (λ r. Stands (last_cut r.state) (D.history disk.new)) }
-    ensures kept { OnOk result (Told AllKept (D.history disk.old) (D.history disk.new)) }
+    ensures kept { OnOk result (DiskTells KeepsAll (D.history disk.old) (D.history disk.new)) }
 
     // At each moment of the call, whatever it answers.
-    ensures moments { Told (Goes NoMore) (D.history disk.old) (D.history disk.new) }
+    ensures moments { DiskTells (Goes NoMore) (D.history disk.old) (D.history disk.new) }
     ensures damaged { IfErr result (λ e. IfDamaged e (λ area at. IfSome (D.history disk.new)
         (λ k. EachFinds (IsDamaged area at) k.now))) }
     ensures damaged_kept { IfErr result (λ e. IfDamaged e
-        (λ area at. Told AllKept (D.history disk.old) (D.history disk.new))) }
+        (λ area at. DiskTells KeepsAll (D.history disk.old) (D.history disk.new))) }
     ensures limit { result ≢ Err CkRefused.Generation }
 
     // The disk's count rises where its fault is answered, and nowhere else.

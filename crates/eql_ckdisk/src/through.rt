@@ -1,10 +1,10 @@
 //! A write that is kept before anything else is done.
 ghost use Rattle.std.specs.Prelude.{◌≡◌, ◌≢◌, ◌≤◌, Err, IfSome, OnOk, OnErr, length};
 ghost use Rattle.eql_outside.specs.Areas.{store};
-ghost use Rattle.eql_outside.specs.Moments.{Told};
+ghost use Rattle.eql_outside.specs.Moments.{DiskTells};
 ghost use Rattle.eql_outside.specs.Outside.{Rose};
 ghost use Rattle.eql_outside.specs.Unfailing.{IsUnfailing};
-ghost use Rattle.eql_ckdisk.specs.Writing.{Writing, WroteThrough};
+ghost use Rattle.eql_ckdisk.specs.Writing.{WritesAndSyncs, WroteThrough};
 
 use eql_outside::{Area, Disk, OutRefused, crashes_leave_images, unfailing_stays};
 use std::alloc::Global;
@@ -18,9 +18,10 @@ pub(crate) fn write_through<D: Disk>(
     bytes: &[u8],
 ) -> Result<(), OutRefused>
     requires { IfSome (D.history disk.old) (λ h. at ≤ length (store area h.now).seen) }
-    ensures ok { OnOk result (Told (WroteThrough area (record { at = at; bytes = bytes.now }))
+    ensures ok { OnOk result (DiskTells (WroteThrough area (record { at = at; bytes = bytes.now }))
         (D.history disk.old) (D.history disk.new)) }
-    ensures refused { OnErr result (Told (Writing area (record { at = at; bytes = bytes.now }))
+    ensures refused { OnErr result (DiskTells
+        (WritesAndSyncs area (record { at = at; bytes = bytes.now }))
         (D.history disk.old) (D.history disk.new)) }
     ensures cause { result ≡ Err OutRefused.Failed
         → Rose (D.fault_count disk.old) (D.fault_count disk.new) }

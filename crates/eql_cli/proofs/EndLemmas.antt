@@ -16,8 +16,8 @@ use Rattle.eql_runs.specs.CutRefusals.{CutRefusal, cut_text}
 use Rattle.eql_runs.specs.Files.{Files}
 use Rattle.eql_runs.specs.Refusals.{Names, Refusal, Refuses, refusal_status, refusal_text}
 use Rattle.eql_runs.specs.Refusals as refusal
-use Rattle.eql_runs.specs.RunLaws.{OneStatus, ListedOrRefused, ReadyOrRefused}
-use Rattle.eql_runs.specs.Runs.{AreTrusted, AskDisk, AsksDisk, CanRun, files_for, files_known, Finds, GenerationsEnd, IfFound, IfTold, IsAccepted, IsFindAccepted, IsReady, IsRefused, IsReportOf, known, Limited, limit_text, names_of, RefusedAs, RefusesCut, ReportsOn, Runs, Searches, SearchesBeyond, Tells, Told, Trusts, Writes, WroteAll, WroteListing, WroteSome, by_cut, by_disk, by_files, by_shard}
+use Rattle.eql_runs.specs.RunLaws.{OneStatus, WritesOrIsRefused, ReadyIsNotRefused}
+use Rattle.eql_runs.specs.Runs.{AreTrusted, AskDisk, AsksDisk, CanRun, files_for, files_known, Finds, GenerationsEnd, IfFound, IfTold, IsAccepted, IsFindAccepted, IsReady, IsRefused, IsReportOf, known, ReachesLimit, limit_text, names_of, IsRefusedAs, RefusesCut, ReportsOn, Runs, Searches, SearchesBeyond, Tells, TellsFront, Trusts, Writes, WroteAll, WroteListing, WroteSome, by_cut, by_disk, by_files, by_shard}
 use Rattle.eql_runs.specs.Runs as runs
 use Rattle.eql_runs.specs.Starts.{DiskHolds, OnDisk}
 use Rattle.eql_inputs.specs.declared.halt.Refused.{Refused}
@@ -272,14 +272,14 @@ module _ (words : List (List ℕ)) (find : Find) (is : command_of words ≡ Some
   }
 
 -- what a run writes isn't refused
-written_accepted : ListedOrRefused → (words : List (List ℕ)) (fs : Files) (on : OnDisk) (bytes report : List ℕ) → Writes words fs on bytes report
+written_accepted : WritesOrIsRefused → (words : List (List ℕ)) (fs : Files) (on : OnDisk) (bytes report : List ℕ) → Writes words fs on bytes report
     → IsAccepted words fs on
 written_accepted apart words fs on bytes report w = record {
   accepts = λ r refuses. apart words fs on bytes report r w refuses;
   writes = λ trusted. (bytes, report, w);
 }
 
-accepted_by : ListedOrRefused → (words : List (List ℕ)) (asked : Command) → command_of words ≡ Some asked → (fs : Files) (on : OnDisk)
+accepted_by : WritesOrIsRefused → (words : List (List ℕ)) (asked : Command) → command_of words ≡ Some asked → (fs : Files) (on : OnDisk)
     → IsAcceptedBy asked fs on → IsAccepted words fs on
 accepted_by apart words (command.Find f) is fs on a = find_accepted words f is fs on a
 accepted_by apart words (command.Check query fields) is fs on a =
@@ -393,7 +393,7 @@ module _ (words : List (List ℕ)) (asked : Command) (is : command_of words ≡ 
       → WroteSome words files disk out out'
   wrote_some files disk out out' h = told_by_run (RunFront out out') (FrontWritten out out') (front_written out out') files disk h
 
-  pub accepted_so : ListedOrRefused → (files : Option Files) (disk : Option History) → IfRun asked files disk (IsAcceptedBy asked)
+  pub accepted_so : WritesOrIsRefused → (files : Option Files) (disk : Option History) → IfRun asked files disk (IsAcceptedBy asked)
       → IfTold words files disk (IsAccepted words)
   accepted_so apart files disk h =
       told_by_run (IsAcceptedBy asked) (IsAccepted words) (λ fs on a. accepted_by apart words asked is fs on a) files disk h
@@ -410,9 +410,9 @@ module _ (words : List (List ℕ)) (asked : Command) (is : command_of words ≡ 
       → IsRefused words fs on (refusal.cut r)
   refuses_cut find same fs on r refuses = by_cut find (is ∙ ap (λ (c : Command). Some c) same) r refuses
 
-  module _ (apart : ListedOrRefused) (disk now : Option History) (before after : List ℕ → ℕ) (err err' : Option (List ℕ)) where
+  module _ (apart : WritesOrIsRefused) (disk now : Option History) (before after : List ℕ → ℕ) (err err' : Option (List ℕ)) where
     refused_so : (files : Option Files) (r : Refused) → HasCause asked files disk now err err' (run.Files (halt.Refused r))
-        → WroteFront (text_of (halt.Refused r)) err err' → Told words files disk now before after (status_of (halt.Refused r)) err err'
+        → WroteFront (text_of (halt.Refused r)) err err' → TellsFront words files disk now before after (status_of (halt.Refused r)) err err'
     refused_so files r cause told = (
       refusal_text (refusal_of r),
       subst (λ (n : ℕ). Tells words files disk now before after n (refusal_text (refusal_of r))) (sym (same_status r))
@@ -448,7 +448,7 @@ module _ (words : List (List ℕ)) (asked : Command) (is : command_of words ≡ 
     too_far find same limit fs on h = record { accepted = search_accepted find same fs on h.accepted; beyond = h.beyond }
 
     cut_told : (files : Option Files) (r : CutRefusal) (asks : AsksFind asked) → IfFound asks.find files disk (λ fs on. RefusesCut asks.find fs on r)
-        → WroteFront (cut_text r) err err' → Told words files disk now before after 7 err err'
+        → WroteFront (cut_text r) err err' → TellsFront words files disk now before after 7 err err'
     cut_told files r asks refuses told = (
       cut_text r,
       runs.cut_refused (asked, is, asks_disk asked asks) r
@@ -458,7 +458,7 @@ module _ (words : List (List ℕ)) (asked : Command) (is : command_of words ≡ 
     )
 
     pub told_so : (files : Option Files) (h : RunHalt) → HasCause asked files disk now err err' h → FaultsAs {A = Unit {0}} (Err h) before after
-        → TellsRun h err err' → Told words files disk now before after (run_status_of h) err err'
+        → TellsRun h err err' → TellsFront words files disk now before after (run_status_of h) err err'
     told_so files (run.Files (halt.Refused r)) cause faults told = refused_so files r cause told
     told_so files (run.Files (halt.Read name)) cause faults told = (
       text_of (halt.Read name),
@@ -501,7 +501,7 @@ module _ (words : List (List ℕ)) (asked : Command) (is : command_of words ≡ 
 
   -- a run that reached a limit
   pub limit_by_status : (files : Option Files) (disk now : Option History) (err err' : Option (List ℕ)) (h : RunHalt)
-      → HasCause asked files disk now err err' h → run_status_of h ≡ 9 → Limited words files disk now
+      → HasCause asked files disk now err err' h → run_status_of h ≡ 9 → ReachesLimit words files disk now
   limit_by_status files disk now err err' (run.Files (halt.Refused (refused.NoFile name))) cause e = absurd (omega (arith, e))
   limit_by_status files disk now err err' (run.Files (halt.Refused (refused.Lex r))) cause e = absurd (omega (arith, e))
   limit_by_status files disk now err err' (run.Files (halt.Refused (refused.Parse r))) cause e = absurd (omega (arith, e))
@@ -522,7 +522,7 @@ module _ (words : List (List ℕ)) (asked : Command) (is : command_of words ≡ 
   search_holds disk on holds find same has = holds (asked, is, subst (λ (c : Command). AsksDisk c) (sym same) has)
 
   -- a run that is ready stops for a fault or for want of memory alone
-  module _ (law : ReadyOrRefused) (fs : Files) (disk now : Option History) (err err' : Option (List ℕ)) (on : OnDisk)
+  module _ (law : ReadyIsNotRefused) (fs : Files) (disk now : Option History) (err err' : Option (List ℕ)) (on : OnDisk)
       (holds : AskDisk words → DiskHolds disk on) (ready : CanRun words fs on) where
     pub ready_stops : (h : RunHalt) → HasCause asked (Some fs) disk now err err' h → ¬ IsFault h → run_status_of h ≡ 8
     ready_stops (run.Files (halt.Refused r)) cause calm =
@@ -545,7 +545,7 @@ module _ (words : List (List ℕ)) (asked : Command) (is : command_of words ≡ 
     ready_stops (run.Report by.Memory) cause calm = refl
 
   -- a run that is refused stops by that refusal, unless a read or the disk fails
-  module _ (one : OneStatus) (apart : ListedOrRefused) (fs : Files) (disk now : Option History) (err err' : Option (List ℕ)) (on : OnDisk)
+  module _ (one : OneStatus) (apart : WritesOrIsRefused) (fs : Files) (disk now : Option History) (err err' : Option (List ℕ)) (on : OnDisk)
       (holds : AskDisk words → DiskHolds disk on) (r : Refusal) (refuses : IsRefused words fs on r) where
     never_accepted : {A : Type 0} → IsAccepted words fs on → A
     never_accepted a = absurd (a.accepts r refuses)
@@ -573,12 +573,12 @@ module _ (words : List (List ℕ)) (asked : Command) (is : command_of words ≡ 
         let of_run = cause.2.is_report on (search_holds disk on holds cause.0 cause.1) in
         never_accepted (search_accepted cause.0 cause.1 fs on of_run.accepted)
 
-  module _ {E : Type 0} (apart : ListedOrRefused) (written : E → Option (List ℕ)) (first mid last : E) (files : Option Files)
+  module _ {E : Type 0} (apart : WritesOrIsRefused) (written : E → Option (List ℕ)) (first mid last : E) (files : Option Files)
       (disk now : Option History) (before after : List ℕ → ℕ) where
     -- what is told of a run that stopped, with nothing told before it
     pub told_by : (h : RunHalt) → HasCause asked files disk now (written first) (written mid) h → FaultsAs {A = Unit {0}} (Err h) before after
         → (TellsNothing h → mid ≡ first) → TellsRun h (written mid) (written last) → (IsReport h → last ≡ mid)
-        → Told words files disk now before after (run_status_of h) (written first) (written last)
+        → TellsFront words files disk now before after (run_status_of h) (written first) (written last)
     told_by (run.Files h) cause faults quiet told silent =
         told_so apart disk now before after (written first) (written last) files (run.Files h) cause faults
         (subst (λ (x : E). TellsRun (run.Files h) (written x) (written last)) (quiet tt) told)
@@ -604,13 +604,13 @@ module _ (words : List (List ℕ)) (asked : Command) (is : command_of words ≡ 
     pub told_of : (h : RunHalt) (status : ℕ) → status ≡ run_status_of h → HasCause asked files disk now (written first) (written mid) h
         → FaultsAs {A = Unit {0}} (Err h) before after
         → (TellsNothing h → mid ≡ first) → TellsRun h (written mid) (written last) → (IsReport h → last ≡ mid)
-        → Told words files disk now before after status (written first) (written last)
+        → TellsFront words files disk now before after status (written first) (written last)
     told_of h status same cause faults quiet told silent =
-        subst (λ (n : ℕ). Told words files disk now before after n (written first) (written last)) (sym same)
+        subst (λ (n : ℕ). TellsFront words files disk now before after n (written first) (written last)) (sym same)
         (told_by h cause faults quiet told silent)
 
   pub limit_of_status : (files : Option Files) (disk now : Option History) (err err' : Option (List ℕ)) (h : RunHalt) (status : ℕ)
-      → status ≡ run_status_of h → HasCause asked files disk now err err' h → status ≡ 9 → Limited words files disk now
+      → status ≡ run_status_of h → HasCause asked files disk now err err' h → status ≡ 9 → ReachesLimit words files disk now
   limit_of_status files disk now err err' h status same cause e = limit_by_status files disk now err err' h cause (sym same ∙ e)
 
   -- what it takes that a run can be done
@@ -620,9 +620,9 @@ module _ (words : List (List ℕ)) (asked : Command) (is : command_of words ≡ 
   pub ready_over : (files : Option Files) (disk : Option History) → IsReady words files disk → IsSomeAnd (files_for asked files) (ReadyOver disk)
   ready_over files disk ready = subst (λ (o : Option Files). IsSomeAnd o (ReadyOver disk)) (known_is files) ready
 
-  pub stops_exact : OneStatus → ListedOrRefused → (files : Option Files) (disk now : Option History) (err err' : Option (List ℕ)) (h : RunHalt)
+  pub stops_exact : OneStatus → WritesOrIsRefused → (files : Option Files) (disk now : Option History) (err err' : Option (List ℕ)) (h : RunHalt)
       (status : ℕ) → status ≡ run_status_of h → HasCause asked files disk now err err' h → ¬ (run_status_of h ≡ 4) → ¬ (run_status_of h ≡ 6)
-      → RefusedAs words files disk status
+      → IsRefusedAs words files disk status
   stops_exact one apart None disk now err err' h status same cause calm steady = tt
   stops_exact one apart (Some fs) disk now err err' h status same cause calm steady = λ on r holds refuses.
       by (refusal_status r) (refused_as one apart fs disk now err err' on holds r refuses h cause calm steady)
@@ -632,8 +632,8 @@ module _ (words : List (List ℕ)) (asked : Command) (is : command_of words ≡ 
       by n (inr e) = inr (same ∙ e)
 
   -- a run that is done isn't refused
-  pub done_exact : ListedOrRefused → (files : Option Files) (disk : Option History) (status : ℕ) → IfRun asked files disk (IsAcceptedBy asked)
-      → RefusedAs words files disk status
+  pub done_exact : WritesOrIsRefused → (files : Option Files) (disk : Option History) (status : ℕ) → IfRun asked files disk (IsAcceptedBy asked)
+      → IsRefusedAs words files disk status
   done_exact apart None disk status h = tt
   done_exact apart (Some fs) disk status h = λ on r holds refuses.
       absurd ((accepted_by apart words asked is fs on (accepted_over asked fs disk h on (holds_on disk on holds))).accepts r refuses)
@@ -656,7 +656,7 @@ made_stops hands events files disk now err err' (run.Report by.Failed) cause cal
 made_stops hands events files disk now err err' (run.Report by.Memory) cause calm = refl
 
 -- a run that is ready and doesn't stop for a fault stops for want of memory
-ready_halts : (words : List (List ℕ)) (asked : Command) → command_of words ≡ Some asked → ReadyOrRefused → (files : Option Files)
+ready_halts : (words : List (List ℕ)) (asked : Command) → command_of words ≡ Some asked → ReadyIsNotRefused → (files : Option Files)
     (disk now : Option History) (err err' : Option (List ℕ)) (h : RunHalt) → HasCause asked files disk now err err' h → IsReady words files disk
     → ¬ IsFault h → run_status_of h ≡ 8
 ready_halts words (command.Made hands events) is law files disk now err err' h cause ready calm =
@@ -671,7 +671,7 @@ ready_halts words (command.Check query fields) is law (Some fs) disk now err err
     let there = ready_over words (command.Check query fields) is (Some fs) disk ready in
     ready_stops words (command.Check query fields) is law fs disk now err err' there.0 there.1 there.2 h cause calm
 
-pub stops_ready : (words : List (List ℕ)) (asked : Command) → command_of words ≡ Some asked → ReadyOrRefused → (files : Option Files)
+pub stops_ready : (words : List (List ℕ)) (asked : Command) → command_of words ≡ Some asked → ReadyIsNotRefused → (files : Option Files)
     (disk now : Option History) (err err' : Option (List ℕ)) (h : RunHalt) (status : ℕ) → status ≡ run_status_of h
     → HasCause asked files disk now err err' h → IsReady words files disk → ¬ IsFault h → (status ≡ 0) ⊎ (status ≡ 8)
 stops_ready words asked is law files disk now err err' h status same cause ready calm =

@@ -13,7 +13,7 @@ use Rattle.eql_ckdisk.specs.Going.{Goes}
 use Rattle.eql_ckdisk.specs.Keeping.{NoMore}
 use Rattle.eql_runs.specs.Files.{Files}
 use Rattle.eql_runs.specs.Refusals.{Refusal}
-use Rattle.eql_runs.specs.Runs.{AskDisk, AsksDisk, IsRefused, KeepsCuts, RefusedAs, by_cut, by_files}
+use Rattle.eql_runs.specs.Runs.{AskDisk, AsksDisk, IsRefused, KeepsCuts, IsRefusedAs, by_cut, by_files}
 use Rattle.eql_runs.specs.Starts.{OnDisk}
 use Rattle.eql_find.specs.declared.halt.RunHalt.{RunHalt}
 use Rattle.eql_find.specs.Halts.{IsRefusal}
@@ -33,13 +33,13 @@ kept_words words files out out' disk = λ find is has. same_keeps find files out
 
 -- nor is what it stands for changed, where the run is refused or not
 pub none_changed : (r : Result (Unit {0}) RunHalt) (disk now : Option History) → now ≡ disk
-    → IfErr r (λ h. IsRefusal h → moments.Told (Goes NoMore) disk now)
+    → IfErr r (λ h. IsRefusal h → moments.DiskTells (Goes NoMore) disk now)
 none_changed (Ok done) disk now same = tt
 none_changed (Err h) disk now same = λ refusal. same_no_more disk now same
 
 -- a search that is this command
 pub found_keeps : (asked : Command) (find : Find) → asked ≡ command.Find find → (files : Option Files) (out out' : Option (List ℕ))
-    (disk now : Option History) → (find.checkpoint ≢ None → moments.Told (KeepsCuts find files out out') disk now) → KeepsDisk asked files out out' disk now
+    (disk now : Option History) → (find.checkpoint ≢ None → moments.DiskTells (KeepsCuts find files out out') disk now) → KeepsDisk asked files out out' disk now
 found_keeps asked find is files out out' disk now keeps = subst (λ (c : Command). KeepsDisk c files out out' disk now) (sym is) keeps
 
 pub asks_found : (asked : Command) (find : Find) → asked ≡ command.Find find → find.checkpoint ≢ None → AsksDisk asked
@@ -68,6 +68,6 @@ never_refused words none fs on _ (by_files c is names named own refuses) = absur
 never_refused words none fs on _ (by_cut find is own refuses) = absurd (none-some (command.Find find) (sym none ∙ is))
 
 pub not_refused : (words : List (List ℕ)) → command_of words ≡ None → (files : Option Files) (disk : Option History) (status : ℕ)
-    → RefusedAs words files disk status
+    → IsRefusedAs words files disk status
 not_refused words none None disk status = tt
 not_refused words none (Some fs) disk status = λ on r holds refuses. never_refused words none fs on r refuses

@@ -13,16 +13,16 @@ use Rattle.eql_inputs.specs.Steps.{naming}
 use Rattle.eql_inputs.specs.declared.halt.Halt.TheVariants as halt
 use Rattle.eql_find.specs.declared.halt.RunHalt.{RunHalt}
 use Rattle.eql_find.specs.declared.halt.RunHalt.TheVariants as run
-use Rattle.eql_find.specs.Finding.{FoundAll, FoundListing, FoundSome, names_in}
+use Rattle.eql_find.specs.Finding.{FindsAll, FindsListing, FindsSome, names_in}
 use Rattle.eql_find.specs.Finding as found
 use Rattle.eql_find.specs.Halts.{AbsenceAs, CountAs, DiskAs, ErrAs, FaultsAs, IsRefusal, IsReport}
-use Rattle.eql_summary.specs.Written.{MadeAll, MadeFront}
+use Rattle.eql_summary.specs.Written.{MakesAll, MakesFront}
 use Rattle.eql_cli.specs.Printing.{PrintsAll, PrintsSome, StopsWriting}
 use Rattle.eql_cli.specs.Printing as printing
 use Rattle.eql_cli.specs.Running.{HasCause, IfRun, IsAcceptedBy, RunsAll, RunsListing, RunsSome}
 
 pub found_all : (asked : Command) (find : Find) → asked ≡ command.Find find → (files : Option Files) (disk : Option History)
-    (out out' err err' : Option (List ℕ)) → FoundAll find files disk out out' err err' → RunsAll asked files disk out out' err err'
+    (out out' err err' : Option (List ℕ)) → FindsAll find files disk out out' err err' → RunsAll asked files disk out out' err err'
 found_all asked find is files disk out out' err err' h = subst (λ (c : Command). RunsAll c files disk out out' err err') (sym is) h
 
 pub found_accepted : (asked : Command) (find : Find) → asked ≡ command.Find find → (files : Option Files) (disk : Option History)
@@ -30,11 +30,11 @@ pub found_accepted : (asked : Command) (find : Find) → asked ≡ command.Find 
 found_accepted asked find is files disk h = subst (λ (c : Command). IfRun c files disk (IsAcceptedBy c)) (sym is) h
 
 pub found_some : (asked : Command) (find : Find) → asked ≡ command.Find find → (files : Option Files) (disk : Option History)
-    (out out' : Option (List ℕ)) → FoundSome find files disk out out' → RunsSome asked files disk out out'
+    (out out' : Option (List ℕ)) → FindsSome find files disk out out' → RunsSome asked files disk out out'
 found_some asked find is files disk out out' h = subst (λ (c : Command). RunsSome c files disk out out') (sym is) h
 
 pub found_listing : (asked : Command) (find : Find) → asked ≡ command.Find find → (files : Option Files) (disk : Option History)
-    (out out' : Option (List ℕ)) (h : RunHalt) → (IsReport h → FoundListing find files disk out out') → IsReport h
+    (out out' : Option (List ℕ)) (h : RunHalt) → (IsReport h → FindsListing find files disk out out') → IsReport h
     → RunsListing asked files disk out out'
 found_listing asked find is files disk out out' h wrote report =
     subst (λ (c : Command). RunsListing c files disk out out') (sym is) (wrote report)
@@ -132,7 +132,7 @@ check_cause asked query fields is files disk now err h cause =
     subst (λ (c : Command). HasCause c files disk now err err h) (sym is) (cause_of_check query fields files disk now err h cause)
 
 -- ---- a run of `made`
-all_of_made : (hands events : ℕ) (files : Option Files) (disk : Option History) (out out' err : Option (List ℕ)) → MadeAll events out out'
+all_of_made : (hands events : ℕ) (files : Option Files) (disk : Option History) (out out' err : Option (List ℕ)) → MakesAll events out out'
     → RunsAll (command.Made hands events) files disk out out' err err
 all_of_made hands events files disk out out' err h = λ on holds trusted.
     (h.0, [], made_report events h.0 h.1 h.2, h.3, untouched err)
@@ -141,22 +141,22 @@ all_of_made hands events files disk out out' err h = λ on holds trusted.
     made_report events bytes report m = record { search = m.search; is_search = m.is_search; bytes_are = m.bytes_are; report_is = refl }
 
 pub made_all : (asked : Command) (hands events : ℕ) → asked ≡ command.Made hands events → (files : Option Files) (disk : Option History)
-    (out out' err : Option (List ℕ)) → MadeAll events out out' → RunsAll asked files disk out out' err err
+    (out out' err : Option (List ℕ)) → MakesAll events out out' → RunsAll asked files disk out out' err err
 made_all asked hands events is files disk out out' err h =
     subst (λ (c : Command). RunsAll c files disk out out' err err) (sym is) (all_of_made hands events files disk out out' err h)
 
 pub made_accepted : (asked : Command) (hands events : ℕ) → asked ≡ command.Made hands events → (files : Option Files) (disk : Option History)
-    (out out' : Option (List ℕ)) → MadeAll events out out' → IfRun asked files disk (IsAcceptedBy asked)
+    (out out' : Option (List ℕ)) → MakesAll events out out' → IfRun asked files disk (IsAcceptedBy asked)
 made_accepted asked hands events is files disk out out' h =
     subst (λ (c : Command). IfRun c files disk (IsAcceptedBy c)) (sym is) (λ on holds. (h.0, h.1, h.2))
 
-some_of_made : (hands events : ℕ) (files : Option Files) (disk : Option History) (out out' : Option (List ℕ)) → MadeFront events out out'
+some_of_made : (hands events : ℕ) (files : Option Files) (disk : Option History) (out out' : Option (List ℕ)) → MakesFront events out out'
     → RunsSome (command.Made hands events) files disk out out'
 some_of_made hands events files disk None out' h = λ on holds trusted. tt
 some_of_made hands events files disk (Some w) out' h = λ on holds trusted. inr (h.0, h.1, h.2, h.3)
 
 pub made_some : (asked : Command) (hands events : ℕ) → asked ≡ command.Made hands events → (files : Option Files) (disk : Option History)
-    (out out' : Option (List ℕ)) → MadeFront events out out' → RunsSome asked files disk out out'
+    (out out' : Option (List ℕ)) → MakesFront events out out' → RunsSome asked files disk out out'
 made_some asked hands events is files disk out out' h =
     subst (λ (c : Command). RunsSome c files disk out out') (sym is) (some_of_made hands events files disk out out' h)
 
@@ -174,7 +174,7 @@ pub made_listing : (asked : Command) (files : Option Files) (disk : Option Histo
 made_listing asked files disk out out' h stops report = absurd (made_reports h stops report)
 
 cause_of_made : (hands events : ℕ) (files : Option Files) (disk now : Option History) (out out' err : Option (List ℕ)) (h : RunHalt)
-    → MadeFront events out out' → StopsWriting h → HasCause (command.Made hands events) files disk now err err h
+    → MakesFront events out out' → StopsWriting h → HasCause (command.Made hands events) files disk now err err h
 cause_of_made hands events files disk now out out' err (run.Files (halt.Refused r)) front stops = absurd stops
 cause_of_made hands events files disk now out out' err (run.Files (halt.Read name)) front stops = absurd stops
 cause_of_made hands events files disk now out out' err (run.Files halt.Memory) front stops = tt
@@ -186,7 +186,7 @@ cause_of_made hands events files disk now out out' err run.Generation front stop
 cause_of_made hands events files disk now out out' err (run.Report r) front stops = absurd stops
 
 pub made_cause : (asked : Command) (hands events : ℕ) → asked ≡ command.Made hands events → (files : Option Files) (disk now : Option History)
-    (out out' err : Option (List ℕ)) (r : Result (Unit {0}) RunHalt) → OnErr r (MadeFront events out out') → IfErr r StopsWriting
+    (out out' err : Option (List ℕ)) (r : Result (Unit {0}) RunHalt) → OnErr r (MakesFront events out out') → IfErr r StopsWriting
     → IfErr r (HasCause asked files disk now err err)
 made_cause asked hands events is files disk now out out' err (Ok x) front stops = tt
 made_cause asked hands events is files disk now out out' err (Err h) front stops =

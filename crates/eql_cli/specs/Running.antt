@@ -93,7 +93,7 @@ HasCause asked files disk now err err' (run.Report r) =
 
 -- a command that keeps its state on a disk keeps its cuts there, and writes what they count
 abbrev pub KeepsDisk : Command → Option Files → (out out' : Option (List ℕ)) → (disk now : Option History) → Type 0
-KeepsDisk (command.Find f) files out out' disk now = f.checkpoint ≢ None → moments.Told (KeepsCuts f files out out') disk now
+KeepsDisk (command.Find f) files out out' disk now = f.checkpoint ≢ None → moments.DiskTells (KeepsCuts f files out out') disk now
 KeepsDisk (command.Check query fields) files out out' disk now = Unit {0}
 KeepsDisk (command.Made hands events) files out out' disk now = Unit {0}
 
@@ -101,4 +101,4 @@ KeepsDisk (command.Made hands events) files out out' disk now = Unit {0}
 abbrev pub KeepDisk : List (List ℕ) → Option Files → (out out' : Option (List ℕ)) → (disk now : Option History) → Type 0
 KeepDisk words files out out' disk now =
     (find : Find) → command_of words ≡ Some (command.Find find) → find.checkpoint ≢ None
-    → moments.Told (KeepsCuts find files out out') disk now
+    → moments.DiskTells (KeepsCuts find files out out') disk now

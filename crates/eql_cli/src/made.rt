@@ -2,7 +2,7 @@
 ghost use Rattle.std.specs.Prelude.{◌≤◌, IfErr, OnOk, OnErr};
 ghost use Rattle.eql_outside.specs.Unfailing.{IsUnfailing};
 ghost use Rattle.eql_find.specs.Halts.{IsFault, OutAs};
-ghost use Rattle.eql_summary.specs.Written.{MadeAll, MadeFront};
+ghost use Rattle.eql_summary.specs.Written.{MakesAll, MakesFront};
 ghost use Rattle.eql_cli.specs.Printing.{StopsWriting};
 
 use eql_find::RunHalt;
@@ -27,8 +27,8 @@ pub(crate) fn run_made<'a, R: Threads + Wait + Sync, K: Sink, W: Gate + Sync>(
 ) -> Result<(), RunHalt<'a>>
     requires hands { hands ≤ 16 }
     requires events { events ≤ 1000000 }
-    ensures done { OnOk result (MadeAll events (K.written out.old) (K.written out.new)) }
-    ensures prefix { OnErr result (MadeFront events (K.written out.old) (K.written out.new)) }
+    ensures done { OnOk result (MakesAll events (K.written out.old) (K.written out.new)) }
+    ensures prefix { OnErr result (MakesFront events (K.written out.old) (K.written out.new)) }
     ensures stops { IfErr result StopsWriting }
     ensures out { OutAs result (K.fault_count out.old) (K.fault_count out.new) }
     ensures counts { K.fault_count out.old ≤ K.fault_count out.new }

@@ -7,7 +7,7 @@ ghost use Rattle.eql_words.specs.Commands.{command_of};
 ghost use Rattle.eql_words.specs.Words.{bytes_of};
 ghost use Rattle.eql_ckdisk.specs.Going.{Goes};
 ghost use Rattle.eql_ckdisk.specs.Keeping.{NoMore};
-ghost use Rattle.eql_runs.specs.Runs.{AskDisk, IfTold, IsAccepted, WroteAll, WroteListing, WroteSome, Told, Limited, IsReady, RefusedAs};
+ghost use Rattle.eql_runs.specs.Runs.{AskDisk, IfTold, IsAccepted, WroteAll, WroteListing, WroteSome, TellsFront, ReachesLimit, IsReady, IsRefusedAs};
 ghost use Rattle.eql_cli.specs.Running.{KeepDisk};
 
 use crate::run::run_words;
@@ -79,11 +79,11 @@ pub fn eql_main<R: Threads + Wait + Sync, H: Shelf, K: Sink, E: Sink, G: Gate + 
     // Nor does the disk come to hold anything that it didn't: each image at each moment is one of those at the start.
     ensures cut_kept { (result.status ≡ 1) ⊎ (result.status ≡ 2) ⊎ (result.status ≡ 3)
         ⊎ (result.status ≡ 7)
-        → moments.Told (Goes NoMore) (H.disk_history shelf.old) (H.disk_history shelf.new) }
+        → moments.DiskTells (Goes NoMore) (H.disk_history shelf.old) (H.disk_history shelf.new) }
 
     // On every other status a text is told whose cause holds, or a front of it.
     ensures told { result.status ≢ 0
-        → Told (bytes_of words.now.items) (H.files shelf.old)
+        → TellsFront (bytes_of words.now.items) (H.files shelf.old)
         (H.disk_history shelf.old) (H.disk_history shelf.new)
         (H.faults_of shelf.old) (H.faults_of shelf.new) result.status
         (E.written err) (E.written result.err) }
@@ -103,7 +103,7 @@ pub fn eql_main<R: Threads + Wait + Sync, H: Shelf, K: Sink, E: Sink, G: Gate + 
         → Rose (H.disk_fault_count shelf.old) (H.disk_fault_count shelf.new) }
     ensures cut { result.status ≡ 7 → AskDisk (bytes_of words.now.items) }
     ensures limit { result.status ≡ 9
-        → Limited (bytes_of words.now.items) (H.files shelf.old)
+        → ReachesLimit (bytes_of words.now.items) (H.files shelf.old)
         (H.disk_history shelf.old) (H.disk_history shelf.new) }
 
     // No fault is passed over, and no absent file: where several faults come at once the read fault is told.
@@ -138,7 +138,7 @@ pub fn eql_main<R: Threads + Wait + Sync, H: Shelf, K: Sink, E: Sink, G: Gate + 
     ensures exact { ¬ (Rose (H.fault_count shelf.old) (H.fault_count shelf.new))
         → (AskDisk (bytes_of words.now.items)
         → ¬ (Rose (H.disk_fault_count shelf.old) (H.disk_fault_count shelf.new)))
-        → RefusedAs (bytes_of words.now.items) (H.files shelf.old) (H.disk_history shelf.old)
+        → IsRefusedAs (bytes_of words.now.items) (H.files shelf.old) (H.disk_history shelf.old)
         result.status }
 
     // The shelf keeps its files, and all that it lent came back.

@@ -9,7 +9,7 @@ ghost use Rattle.eql_ckdisk.specs.Keeping.{NoMore};
 ghost use Rattle.eql_find.specs.Halts.{AbsenceAs, CountAs, DiskAs, ErrAs, FaultsAs, IsFault, IsRefusal, IsReport, OutAs, TellsNothing};
 ghost use Rattle.eql_words.specs.Commands.{command_of};
 ghost use Rattle.eql_words.specs.Words.{bytes_of};
-ghost use Rattle.eql_runs.specs.Runs.{AskDisk, AsksDisk, IfTold, IsAccepted, WroteAll, WroteListing, WroteSome, Told, Limited, IsReady, RefusedAs};
+ghost use Rattle.eql_runs.specs.Runs.{AskDisk, AsksDisk, IfTold, IsAccepted, WroteAll, WroteListing, WroteSome, TellsFront, ReachesLimit, IsReady, IsRefusedAs};
 ghost use Rattle.eql_cli.specs.Running.{HasCause, IfRun, IsAcceptedBy, KeepDisk, KeepsDisk, RunsAll, RunsListing, RunsSome};
 
 use crate::check::check_query;
@@ -46,7 +46,7 @@ fn run_command<'a, R: Threads + Wait + Sync, H: Shelf, K: Sink, E: Sink, G: Gate
         (K.written out.old) (K.written out.new)) }
     ensures untouched { IfErr result (λ halt. IsRefusal halt → out.new ≡ out.old) }
     ensures cut_kept { IfErr result (λ halt. IsRefusal halt
-        → moments.Told (Goes NoMore) (H.disk_history shelf.old) (H.disk_history shelf.new)) }
+        → moments.DiskTells (Goes NoMore) (H.disk_history shelf.old) (H.disk_history shelf.new)) }
     ensures quiet { IfErr result (λ halt. TellsNothing halt → err.new ≡ err.old) }
     ensures cause { IfErr result (HasCause command.now (H.files shelf.old)
         (H.disk_history shelf.old) (H.disk_history shelf.new)
@@ -113,9 +113,9 @@ fn end_command<R: Threads + Wait + Sync, H: Shelf, K: Sink, E: Sink, G: Gate + S
     ensures refused { (result ≡ 1) ⊎ (result ≡ 2) ⊎ (result ≡ 3) ⊎ (result ≡ 7)
         → out.new ≡ out.old }
     ensures cut_kept { (result ≡ 1) ⊎ (result ≡ 2) ⊎ (result ≡ 3) ⊎ (result ≡ 7)
-        → moments.Told (Goes NoMore) (H.disk_history shelf.old) (H.disk_history shelf.new) }
+        → moments.DiskTells (Goes NoMore) (H.disk_history shelf.old) (H.disk_history shelf.new) }
     ensures told { result ≢ 0 → (words : List (List ℕ)) → command_of words ≡ Some command.now
-        → Told words (H.files shelf.old)
+        → TellsFront words (H.files shelf.old)
         (H.disk_history shelf.old) (H.disk_history shelf.new)
         (H.faults_of shelf.old) (H.faults_of shelf.new) result
         (E.written err.old) (E.written err.new) }
@@ -128,7 +128,7 @@ fn end_command<R: Threads + Wait + Sync, H: Shelf, K: Sink, E: Sink, G: Gate + S
         → Rose (H.disk_fault_count shelf.old) (H.disk_fault_count shelf.new) }
     ensures cut { result ≡ 7 → AsksDisk command.now }
     ensures limit { result ≡ 9 → (words : List (List ℕ)) → command_of words ≡ Some command.now
-        → Limited words (H.files shelf.old)
+        → ReachesLimit words (H.files shelf.old)
         (H.disk_history shelf.old) (H.disk_history shelf.new) }
     ensures reads_told { H.fault_count shelf.old < H.fault_count shelf.new → result ≡ 4 }
     ensures absences_told { H.absent_count shelf.old < H.absent_count shelf.new → result ≡ 1 }
@@ -155,7 +155,7 @@ fn end_command<R: Threads + Wait + Sync, H: Shelf, K: Sink, E: Sink, G: Gate + S
         → ¬ (Rose (H.fault_count shelf.old) (H.fault_count shelf.new))
         → (AsksDisk command.now
         → ¬ (Rose (H.disk_fault_count shelf.old) (H.disk_fault_count shelf.new)))
-        → RefusedAs words (H.files shelf.old) (H.disk_history shelf.old) result }
+        → IsRefusedAs words (H.files shelf.old) (H.disk_history shelf.old) result }
     ensures kept { H.files shelf.new ≡ H.files shelf.old }
     ensures lent { IfSome (H.lent_count shelf.old) (λ n. H.lent_count shelf.new ≡ Some n) }
     ensures moments { KeepsDisk command.now (H.files shelf.old)
@@ -205,8 +205,8 @@ pub(crate) fn run_words<R: Threads + Wait + Sync, H: Shelf, K: Sink, E: Sink, G:
     ensures refused { (result ≡ 1) ⊎ (result ≡ 2) ⊎ (result ≡ 3) ⊎ (result ≡ 7)
         → out.new ≡ out.old }
     ensures cut_kept { (result ≡ 1) ⊎ (result ≡ 2) ⊎ (result ≡ 3) ⊎ (result ≡ 7)
-        → moments.Told (Goes NoMore) (H.disk_history shelf.old) (H.disk_history shelf.new) }
-    ensures told { result ≢ 0 → Told (bytes_of words.now.items) (H.files shelf.old)
+        → moments.DiskTells (Goes NoMore) (H.disk_history shelf.old) (H.disk_history shelf.new) }
+    ensures told { result ≢ 0 → TellsFront (bytes_of words.now.items) (H.files shelf.old)
         (H.disk_history shelf.old) (H.disk_history shelf.new)
         (H.faults_of shelf.old) (H.faults_of shelf.new) result
         (E.written err.old) (E.written err.new) }
@@ -220,7 +220,7 @@ pub(crate) fn run_words<R: Threads + Wait + Sync, H: Shelf, K: Sink, E: Sink, G:
     ensures disk { result ≡ 6
         → Rose (H.disk_fault_count shelf.old) (H.disk_fault_count shelf.new) }
     ensures cut { result ≡ 7 → AskDisk (bytes_of words.now.items) }
-    ensures limit { result ≡ 9 → Limited (bytes_of words.now.items) (H.files shelf.old)
+    ensures limit { result ≡ 9 → ReachesLimit (bytes_of words.now.items) (H.files shelf.old)
         (H.disk_history shelf.old) (H.disk_history shelf.new) }
     ensures reads_told { H.fault_count shelf.old < H.fault_count shelf.new → result ≡ 4 }
     ensures absences_told { H.absent_count shelf.old < H.absent_count shelf.new → result ≡ 1 }
@@ -246,7 +246,7 @@ pub(crate) fn run_words<R: Threads + Wait + Sync, H: Shelf, K: Sink, E: Sink, G:
     ensures exact { ¬ (Rose (H.fault_count shelf.old) (H.fault_count shelf.new))
         → (AskDisk (bytes_of words.now.items)
         → ¬ (Rose (H.disk_fault_count shelf.old) (H.disk_fault_count shelf.new)))
-        → RefusedAs (bytes_of words.now.items) (H.files shelf.old) (H.disk_history shelf.old)
+        → IsRefusedAs (bytes_of words.now.items) (H.files shelf.old) (H.disk_history shelf.old)
         result }
     ensures kept { H.files shelf.new ≡ H.files shelf.old }
     ensures lent { IfSome (H.lent_count shelf.old) (λ n. H.lent_count shelf.new ≡ Some n) }

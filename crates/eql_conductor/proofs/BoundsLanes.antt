@@ -13,14 +13,14 @@ use Rattle.eql_laws.proofs.MarkLemmas.{below_up}
 use Rattle.eql_lane.specs.declared.ops.LaneReply.{LaneReply}
 use Rattle.eql_lane.specs.declared.ops.LaneReply.TheVariants as reply
 use Rattle.eql_lane.specs.declared.ops.LimitOf.TheVariants as limit
-use Rattle.eql_lane.specs.Lanes.{Setting, LaneState, Feeds, FeedStep, FedLines, Takes, lesser, low, ready}
+use Rattle.eql_lane.specs.Lanes.{Setting, LaneState, Feeds, FeedStep, FeedsLines, Takes, lesser, low, ready}
 use Rattle.eql_rounds.specs.LaneRounds.{Holds}
-use Rattle.eql_conductor.specs.Benches.{FedTimes, FedOn}
+use Rattle.eql_conductor.specs.Benches.{FeedsTimes, ComesByFeeds}
 use Rattle.eql_conductor.specs.Bounds.{Gains, GaveOut, HadLow, IsHolding, WasFed}
 use Rattle.eql_conductor.proofs.BoundsSteps.{gains_on, gains_self, reads_step, take_gains, takes_step}
 use Rattle.eql_conductor.proofs.Onward.{fed_onward}
 
-pub fed_gains : (set : Setting) (x y : LaneState) → FedOn set x y → Gains 0 x y
+pub fed_gains : (set : Setting) (x y : LaneState) → ComesByFeeds set x y → Gains 0 x y
 fed_gains set x y h = (fed_onward set x y h).gains
 
 -- ---- a lane that holds so much is left as it is
@@ -41,13 +41,13 @@ holding_feed set x max (reply.Taken items) y h step = absurd step
 holding_feed set x max (reply.Low mark) y h step = absurd step
 holding_feed set x max (reply.Cut cut) y h step = absurd step
 
-holding_times : (set : Setting) (n : ℕ) (x y : LaneState) → IsHolding set x → FedTimes set n x y → y ≡ x
+holding_times : (set : Setting) (n : ℕ) (x y : LaneState) → IsHolding set x → FeedsTimes set n x y → y ≡ x
 holding_times set zero x y h fed = fed
 holding_times set (suc n) x y h (mid, max, answer, step, rest) =
     let e : mid ≡ x = holding_feed set x max answer mid h step in
     holding_times set n mid y (subst (IsHolding set) (sym e) h) rest ∙ e
 
-pub holding_stays : (set : Setting) (x y : LaneState) → IsHolding set x → FedOn set x y → y ≡ x
+pub holding_stays : (set : Setting) (x y : LaneState) → IsHolding set x → ComesByFeeds set x y → y ≡ x
 holding_stays set x y h fed = holding_times set fed.0 x y h fed.1
 
 -- ---- a lane that is closed stays so
@@ -68,12 +68,12 @@ closed_feed set x max (reply.Taken items) y e step = absurd step
 closed_feed set x max (reply.Low mark) y e step = absurd step
 closed_feed set x max (reply.Cut cut) y e step = absurd step
 
-closed_times : (set : Setting) (n : ℕ) (x y : LaneState) → x.cut.closed ≡ true → FedTimes set n x y → y.cut.closed ≡ true
+closed_times : (set : Setting) (n : ℕ) (x y : LaneState) → x.cut.closed ≡ true → FeedsTimes set n x y → y.cut.closed ≡ true
 closed_times set zero x y e fed = ap (λ (z : LaneState). z.cut.closed) fed ∙ e
 closed_times set (suc n) x y e (mid, max, answer, step, rest) = closed_times set n mid y (closed_feed set x max answer mid e step) rest
 
 -- ---- the caller's own feed
-lines_step : (set : Setting) (x : LaneState) (max n : ℕ) (y : LaneState) → FedLines set x max n y → Gains 1 x y
+lines_step : (set : Setting) (x : LaneState) (max n : ℕ) (y : LaneState) → FeedsLines set x max n y → Gains 1 x y
 lines_step set x max zero y step = takes_step set x 0 y step.feeds.reads (let e = step.none refl in omega (arith, e))
 lines_step set x max (suc n) y step = reads_step set x (suc n) y step.feeds.reads (omega arith)
 
@@ -90,14 +90,14 @@ pub fed_closed : (set : Setting) (x : LaneState) (max : ℕ) (y : LaneState) →
 fed_closed set x max y on step = record { on = on; step = inr (inl step.closed) }
 
 -- ---- others feed before it and after it
-pub was_fed_before : (set : Setting) (x y z : LaneState) → FedOn set x y → WasFed set y z → WasFed set x z
+pub was_fed_before : (set : Setting) (x y z : LaneState) → ComesByFeeds set x y → WasFed set y z → WasFed set x z
 was_fed_before set x y z fed h = record { on = gains_on 0 0 x y z (fed_gains set x y fed) h.on; step = by h.step }
   where
     by : Gains 1 y z ⊎ ((z.cut.closed ≡ true) ⊎ IsHolding set z) → Gains 1 x z ⊎ ((z.cut.closed ≡ true) ⊎ IsHolding set z)
     by (inl g) = inl (gains_on 0 1 x y z (fed_gains set x y fed) g)
     by (inr other) = inr other
 
-pub was_fed_on : (set : Setting) (x y z : LaneState) → WasFed set x y → FedOn set y z → WasFed set x z
+pub was_fed_on : (set : Setting) (x y z : LaneState) → WasFed set x y → ComesByFeeds set y z → WasFed set x z
 was_fed_on set x y z h fed = record { on = gains_on 0 0 x y z h.on (fed_gains set y z fed); step = by h.step }
   where
     by : Gains 1 x y ⊎ ((y.cut.closed ≡ true) ⊎ IsHolding set y) → Gains 1 x z ⊎ ((z.cut.closed ≡ true) ⊎ IsHolding set z)
@@ -114,7 +114,7 @@ lesser_self m = by (is_le (mark_cmp m m))
     by false = refl
 
 -- others feed, what lies below the mark is taken, and others feed
-pub gave_out : (set : Setting) (mark : Mark) (x y : LaneState) (items : List Item) (z w : LaneState) → FedOn set x y → Takes y (lesser mark (low set y)) items z → FedOn set z w
+pub gave_out : (set : Setting) (mark : Mark) (x y : LaneState) (items : List Item) (z w : LaneState) → ComesByFeeds set x y → Takes y (lesser mark (low set y)) items z → ComesByFeeds set z w
     → GaveOut set mark x w
 gave_out set mark x y items z w before take later = record {
   on = gains_on 0 0 x y w (fed_gains set x y before) (gains_on 0 0 y z w (take_gains y (lesser mark (low set y)) items z take 0 (omega arith)) (fed_gains set z w later));
@@ -127,7 +127,7 @@ gave_out set mark x y items z w before take later = record {
       gains_on 0 1 x y w (fed_gains set x y before) (gains_on 1 0 y z w (take_gains y (lesser mark (low set y)) items z take 1 some) (fed_gains set z w later));
 }
 
-pub gave_out_before : (set : Setting) (mark : Mark) (x y z : LaneState) → FedOn set x y → GaveOut set mark y z → GaveOut set mark x z
+pub gave_out_before : (set : Setting) (mark : Mark) (x y z : LaneState) → ComesByFeeds set x y → GaveOut set mark y z → GaveOut set mark x z
 gave_out_before set mark x y z fed h = record {
   on = gains_on 0 0 x y z (fed_gains set x y fed) h.on;
   step = λ much is_low.
@@ -135,7 +135,7 @@ gave_out_before set mark x y z fed h = record {
       gains_on 0 1 x y z (fed_gains set x y fed) (h.step (subst (IsHolding set) (sym same) much) (ap (low set) same ∙ is_low));
 }
 
-pub gave_out_on : (set : Setting) (mark : Mark) (x y z : LaneState) → GaveOut set mark x y → FedOn set y z → GaveOut set mark x z
+pub gave_out_on : (set : Setting) (mark : Mark) (x y z : LaneState) → GaveOut set mark x y → ComesByFeeds set y z → GaveOut set mark x z
 gave_out_on set mark x y z h fed = record {
   on = gains_on 0 0 x y z h.on (fed_gains set y z fed);
   step = λ much is_low. gains_on 1 0 x y z (h.step much is_low) (fed_gains set y z fed);

@@ -6,7 +6,7 @@ use Rattle.eql_laws.specs.Lanes.{LaneFits}
 use Rattle.eql_lane.specs.Lanes.{Setting, LaneState, begun, fresh_cut}
 use Rattle.eql_lane.specs.Noting.{placed_cut, placed_item}
 use Rattle.eql_lane.specs.Starts.{MayBegin, MayLift}
-use Rattle.eql_conductor.specs.Benches.{Known, FedOn}
+use Rattle.eql_conductor.specs.Benches.{Known, ComesByFeeds}
 use Rattle.eql_conductor.specs.Bounds.{AreSized, IsSized}
 use Rattle.eql_conductor.specs.Going.{LanesGo}
 use Rattle.eql_conductor.proofs.Onward.{fed_onward}
@@ -40,7 +40,7 @@ fit_is_sized slack t shard cut faults fits = record {
 }
 
 -- others may feed
-pub fed_is_sized : (set : Setting) (x y : LaneState) → FedOn set x y → IsSized x → IsSized y
+pub fed_is_sized : (set : Setting) (x y : LaneState) → ComesByFeeds set x y → IsSized x → IsSized y
 fed_is_sized set x y fed sized = (fed_onward set x y fed).sized sized
 
 -- and the conductor may play: no lane ever has more bytes than a shard may have

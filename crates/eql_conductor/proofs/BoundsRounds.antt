@@ -8,8 +8,8 @@ use Rattle.eql_lane.specs.declared.ops.LaneOp.TheVariants as op
 use Rattle.eql_lane.specs.declared.ops.LaneReply.{LaneReply}
 use Rattle.eql_lane.specs.declared.ops.LaneReply.TheVariants as reply
 use Rattle.eql_lane.specs.Lanes.{Setting, LaneState, FeedStep, lesser}
-use Rattle.eql_conductor.specs.Benches.{Known, Same, FedOn, LaneLeft, LanesRest, LanePlays, Rests}
-use Rattle.eql_conductor.specs.Bounds.{AllFed, AllGaveOut, FedTo, GaveOut, GaveOutTo, HadLow, IsSomeLow, LaneGaveOut, LaneHadLow, LaneWasFed, OneGaveOut, WasFed}
+use Rattle.eql_conductor.specs.Benches.{Known, Same, ComesByFeeds, LeavesLane, LanesRest, LanePlays, Rests}
+use Rattle.eql_conductor.specs.Bounds.{FeedsAll, AllGaveOut, FeedsTo, GaveOut, GaveOutTo, HadLow, IsSomeLow, LaneGaveOut, LaneHadLow, LaneWasFed, OneGaveOut, WasFed}
 use Rattle.eql_conductor.proofs.BoundsLanes.{fed_closed, fed_held, fed_lines, gave_out, gave_out_before, gave_out_on, was_fed_before, was_fed_on}
 use Rattle.eql_conductor.proofs.Onward.{step_onward}
 use Rattle.eql_conductor.proofs.Resting.{fed_on, fed_self, is_lane, same_or}
@@ -32,11 +32,11 @@ pub closed_was_fed : (s max : ℕ) (a b : Known) → LanePlays s (op.Feed max) r
 closed_was_fed s max a b plays =
     plays_fed s max reply.Closed a b (λ x y step. fed_closed (a.set s) x max y (step_onward (a.set s) x (op.Feed max) reply.Closed y step).gains step) plays
 
-pub fed_none : (a : Known) → FedTo 0 a a
+pub fed_none : (a : Known) → FeedsTo 0 a a
 fed_none a = record { each = λ s l below. absurd (omega (arith, below)) }
 
 -- one more lane was fed
-pub fed_more : (n : ℕ) (a b c : Known) → Rests a b → Rests b c → FedTo n a b → LaneWasFed n b c → FedTo (n + 1) a c
+pub fed_more : (n : ℕ) (a b c : Known) → Rests a b → Rests b c → FeedsTo n a b → LaneWasFed n b c → FeedsTo (n + 1) a c
 fed_more n a b c before then was one = record {
   each = λ s l below. elim (same_or s n) [
     | inl e ↦ subst (λ (k : ℕ). LaneWasFed k a c) (sym e) (this (subst (λ (k : ℕ). k < a.lanes) e l))
@@ -59,10 +59,10 @@ fed_more n a b c before then was one = record {
       each = λ y here.
           let m = then.lanes.each s (is_lane a b s before.same l) y here in
           let x = fed.each m.0 m.1 in
-          (x.0, x.1, was_fed_on (a.set s) x.0 m.0 y x.2 (subst (λ (set : Setting). FedOn set m.0 y) (before.same.set s l) m.2));
+          (x.0, x.1, was_fed_on (a.set s) x.0 m.0 y x.2 (subst (λ (set : Setting). ComesByFeeds set m.0 y) (before.same.set s l) m.2));
     }
 
-pub fed_all : (n : ℕ) (a b : Known) → n ≡ a.lanes → FedTo n a b → AllFed a b
+pub fed_all : (n : ℕ) (a b : Known) → n ≡ a.lanes → FeedsTo n a b → FeedsAll a b
 fed_all n a b e fed = record { each = λ s l. fed.each s l (subst (λ (m : ℕ). s < m) (sym e) l) }
 
 -- ---- looks
@@ -82,7 +82,7 @@ looked_low s mark a b l plays = record {
             state = c.before;
             before = c.fed;
             low_is = sym c.step.0;
-            later = subst (λ (z : LaneState). FedOn (a.set s) c.before z) (sym c.step.1) (fed_self (a.set s) c.before);
+            later = subst (λ (z : LaneState). ComesByFeeds (a.set s) c.before z) (sym c.step.1) (fed_self (a.set s) c.before);
           },
         )
 
@@ -110,7 +110,7 @@ low_on s mark a b c same rests h = record {
   each = λ y here.
       let m = rests.each s (is_lane a b s same h.lane) y here in
       let x = h.each m.0 m.1 in
-      let fed : FedOn (a.set s) m.0 y = subst (λ (set : Setting). FedOn set m.0 y) (same.set s h.lane) m.2 in
+      let fed : ComesByFeeds (a.set s) m.0 y = subst (λ (set : Setting). ComesByFeeds set m.0 y) (same.set s h.lane) m.2 in
       let had = x.2 in
       (x.0, x.1, record { state = had.state; before = had.before; low_is = had.low_is; later = fed_on (a.set s) had.state m.0 y had.later fed });
 }
@@ -144,14 +144,14 @@ gave_out_none mark a = record {
   left = λ s l above y here. (y, here, fed_self (a.set s) y);
 }
 
-left_on : (s : ℕ) (a b c : Known) → s < a.lanes → Same a b → LaneLeft (a.set s) (a.lane s) (b.lane s) → LaneLeft (b.set s) (b.lane s) (c.lane s) → LaneLeft (a.set s) (a.lane s) (c.lane s)
+left_on : (s : ℕ) (a b c : Known) → s < a.lanes → Same a b → LeavesLane (a.set s) (a.lane s) (b.lane s) → LeavesLane (b.set s) (b.lane s) (c.lane s) → LeavesLane (a.set s) (a.lane s) (c.lane s)
 left_on s a b c l same h k y here =
     let m = k y here in
     let x = h m.0 m.1 in
-    (x.0, x.1, fed_on (a.set s) x.0 m.0 y x.2 (subst (λ (set : Setting). FedOn set m.0 y) (same.set s l) m.2))
+    (x.0, x.1, fed_on (a.set s) x.0 m.0 y x.2 (subst (λ (set : Setting). ComesByFeeds set m.0 y) (same.set s l) m.2))
 
 -- others feed before it and after it
-lane_gave_before : (s : ℕ) (mark : Mark) (a b c : Known) → s < a.lanes → Same a b → LaneLeft (a.set s) (a.lane s) (b.lane s) → LaneGaveOut s mark b c → LaneGaveOut s mark a c
+lane_gave_before : (s : ℕ) (mark : Mark) (a b c : Known) → s < a.lanes → Same a b → LeavesLane (a.set s) (a.lane s) (b.lane s) → LaneGaveOut s mark b c → LaneGaveOut s mark a c
 lane_gave_before s mark a b c l same h k = record {
   each = λ y here.
       let m = k.each y here in
@@ -159,12 +159,12 @@ lane_gave_before s mark a b c l same h k = record {
       (x.0, x.1, gave_out_before (a.set s) mark x.0 m.0 y x.2 (subst (λ (set : Setting). GaveOut set mark m.0 y) (same.set s l) m.2));
 }
 
-lane_gave_on : (s : ℕ) (mark : Mark) (a b c : Known) → s < a.lanes → Same a b → LaneGaveOut s mark a b → LaneLeft (b.set s) (b.lane s) (c.lane s) → LaneGaveOut s mark a c
+lane_gave_on : (s : ℕ) (mark : Mark) (a b c : Known) → s < a.lanes → Same a b → LaneGaveOut s mark a b → LeavesLane (b.set s) (b.lane s) (c.lane s) → LaneGaveOut s mark a c
 lane_gave_on s mark a b c l same h k = record {
   each = λ y here.
       let m = k y here in
       let x = h.each m.0 m.1 in
-      (x.0, x.1, gave_out_on (a.set s) mark x.0 m.0 y x.2 (subst (λ (set : Setting). FedOn set m.0 y) (same.set s l) m.2));
+      (x.0, x.1, gave_out_on (a.set s) mark x.0 m.0 y x.2 (subst (λ (set : Setting). ComesByFeeds set m.0 y) (same.set s l) m.2));
 }
 
 -- one more lane was taken from

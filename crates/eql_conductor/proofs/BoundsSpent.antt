@@ -6,7 +6,7 @@ use Rattle.eql_laws.specs.Lateness.{AtMost}
 use Rattle.eql_lane.specs.Lanes.{Setting, LaneState}
 use Rattle.eql_rounds.specs.LaneRounds.{Holds}
 use Rattle.eql_conductor.specs.Benches.{Known, Same}
-use Rattle.eql_conductor.specs.Bounds.{AllFed, AllGaveOut, AreSized, Gains, GaveOut, HadLow, HaveStates, IsSomeLow, RoundSpends, RoundsSpent, Spent, held_count, lane_steps, mark_after, sum_from}
+use Rattle.eql_conductor.specs.Bounds.{FeedsAll, AllGaveOut, AreSized, Gains, GaveOut, HadLow, HaveStates, IsSomeLow, RoundSpends, RoundsSpend, Spends, held_count, lane_steps, mark_after, sum_from}
 use Rattle.eql_conductor.specs.Going.{LanesGo}
 use Rattle.eql_conductor.specs.LaneRounds.{LanesAt}
 use Rattle.eql_conductor.proofs.BoundsLanes.{step_of_rest, step_of_take}
@@ -63,14 +63,14 @@ sum_one s k (suc n) le l = by (same_or k s) (λ apart. sum_one s (k + 1) n (omeg
         omega (arith, a, b)
 
 -- ---- what is spent goes on
-pub spent_none : (a b : Known) → LanesGo a b → Spent 0 a b
+pub spent_none : (a b : Known) → LanesGo a b → Spends 0 a b
 spent_none a b go = record {
   steps = none;
   total = sum_none 0 a.lanes;
   each = λ s l y here. let x = go.each s l y here in (x.0, x.1, x.2.gains);
 }
 
-pub spent_on : (n m : ℕ) (a b c : Known) → Same a b → Spent n a b → Spent m b c → Spent (n + m) a c
+pub spent_on : (n m : ℕ) (a b c : Known) → Same a b → Spends n a b → Spends m b c → Spends (n + m) a c
 spent_on n m a b c same h k = record {
   steps = λ s. h.steps s + k.steps s;
   total =
@@ -84,7 +84,7 @@ spent_on n m a b c same h k = record {
 }
 
 -- one lane went a step, and no other was taken back
-spent_one : (which : ℕ) (a b : Known) → which < a.lanes → LanesGo a b → ((y : LaneState) → b.lane which y → (x : LaneState) × a.lane which x × Gains 1 x y) → Spent 1 a b
+spent_one : (which : ℕ) (a b : Known) → which < a.lanes → LanesGo a b → ((y : LaneState) → b.lane which y → (x : LaneState) × a.lane which x × Gains 1 x y) → Spends 1 a b
 spent_one which a b l go step = record {
   steps = one which;
   total = sum_one which 0 a.lanes (omega arith) (omega (arith, l));
@@ -96,7 +96,7 @@ spent_one which a b l go step = record {
     by s below (inr apart) = λ y here. let x = go.each s below y here in (x.0, x.1, x.2.gains)
 
 -- ---- a round
-pub have_states : (a b : Known) → AllFed a b → HaveStates a
+pub have_states : (a b : Known) → FeedsAll a b → HaveStates a
 have_states a b fed = record { each = λ s l. (fed.each s l).some }
 
 end_last : (mark last : Mark) → mark ≡ End → AtMost mark last → last ≡ End
@@ -107,8 +107,8 @@ end_last End (At t) e le = cc
 end_last End End e le = refl
 
 -- the lanes were fed and looked at
-module _ (last mark : Mark) (a b c : Known) (same : Same a b) (fed : AllFed a b) (low : IsSomeLow mark b c) where
-  rest_by : LanesGo a c → Same b c → LanesAt None last c → AtMost mark last → last ≢ End → IsSomeLow mark b c → Spent 1 a c
+module _ (last mark : Mark) (a b c : Known) (same : Same a b) (fed : FeedsAll a b) (low : IsSomeLow mark b c) where
+  rest_by : LanesGo a c → Same b c → LanesAt None last c → AtMost mark last → last ≢ End → IsSomeLow mark b c → Spends 1 a c
   rest_by go later at le before_end (inl e) = absurd (before_end (end_last mark last e le))
   rest_by go later at le before_end (inr (s, had)) =
       let l : s < a.lanes = subst (λ (n : ℕ). s < n) same.lanes had.lane in
@@ -124,7 +124,7 @@ module _ (last mark : Mark) (a b c : Known) (same : Same a b) (fed : AllFed a b)
   pub rest_spends : LanesGo a c → Same b c → LanesAt None last c → AtMost mark last → RoundSpends last a c None
   rest_spends go later at le = record { some = have_states a b fed; step = λ before_end. rest_by go later at le before_end low }
 
-  take_by : (d : Known) → LanesGo a d → Same b c → AllGaveOut mark c d → mark ≢ End → IsSomeLow mark b c → Spent 1 a d
+  take_by : (d : Known) → LanesGo a d → Same b c → AllGaveOut mark c d → mark ≢ End → IsSomeLow mark b c → Spends 1 a d
   take_by d go later gave before_end (inl e) = absurd (before_end e)
   take_by d go later gave before_end (inr (s, had)) =
       let l : s < a.lanes = subst (λ (n : ℕ). s < n) same.lanes had.lane in
@@ -145,7 +145,7 @@ module _ (last mark : Mark) (a b c : Known) (same : Same a b) (fed : AllFed a b)
 pub steps_to : (k : ℕ) (x y : LaneState) → Gains k x y → k ≤ 3 * y.taken + held_count x
 steps_to k x y h = omega (arith, h)
 
-module _ (n : ℕ) (a b : Known) (spent : Spent n a b) where
+module _ (n : ℕ) (a b : Known) (spent : Spends n a b) where
   steps_few : (s : ℕ) → s < a.lanes → LanesGo a b → AreSized a → HaveStates b → b.lanes ≡ a.lanes → spent.steps s ≤ lane_steps
   steps_few s l go sized states same =
       let y = states.each s (subst (λ (i : ℕ). s < i) (sym same) l) in
@@ -173,28 +173,28 @@ module _ (n : ℕ) (a b : Known) (spent : Spent n a b) where
 pub round_stays : (last : Mark) (counted : Option Mark) (a b c : Known) → Same a b → LanesGo b c → RoundSpends last a b counted → RoundSpends last a c counted
 round_stays last counted a b c same go h = record {
   some = h.some;
-  step = λ before_end. subst (λ (k : ℕ). Spent k a c) (omega arith) (spent_on 1 0 a b c same (h.step before_end) (spent_none b c go));
+  step = λ before_end. subst (λ (k : ℕ). Spends k a c) (omega arith) (spent_on 1 0 a b c same (h.step before_end) (spent_none b c go));
 }
 
 -- ---- round after round
-pub rounds_none : (a : Known) → LanesGo a a → RoundsSpent 0 a a
+pub rounds_none : (a : Known) → LanesGo a a → RoundsSpend 0 a a
 rounds_none a go = record { spent = spent_none a a go; few = omega arith }
 
 -- one more round, after which the mark isn't the end
-pub rounds_more : (n : ℕ) (last : Mark) (counted : Option Mark) (a b c : Known) → LanesGo a b → AreSized a → RoundsSpent n a b → RoundSpends last b c counted
-    → mark_after last counted ≢ End → RoundsSpent (n + 1) a c
+pub rounds_more : (n : ℕ) (last : Mark) (counted : Option Mark) (a b c : Known) → LanesGo a b → AreSized a → RoundsSpend n a b → RoundSpends last b c counted
+    → mark_after last counted ≢ End → RoundsSpend (n + 1) a c
 rounds_more n last counted a b c go sized h round before_end = record {
   spent = spent_on n 1 a b c go.same h.spent (round.step before_end);
   few = let k = spent_few n a b h.spent go sized round.some in omega (arith, k);
 }
 
 -- a call that feeds no more than others do, or hands out: what was spent stays so
-pub rounds_stay : (n : ℕ) (a b c : Known) → Same a b → LanesGo b c → RoundsSpent n a b → RoundsSpent n a c
+pub rounds_stay : (n : ℕ) (a b c : Known) → Same a b → LanesGo b c → RoundsSpend n a b → RoundsSpend n a c
 rounds_stay n a b c same go h = record {
-  spent = subst (λ (k : ℕ). Spent k a c) (omega arith) (spent_on n 0 a b c same h.spent (spent_none b c go));
+  spent = subst (λ (k : ℕ). Spends k a c) (omega arith) (spent_on n 0 a b c same h.spent (spent_none b c go));
   few = h.few;
 }
 
 -- a count of them with 128 bits has room over all lanes that a number of 32 bits can name
-pub rounds_fit : (n : ℕ) (a b : Known) → a.lanes < 2 ^ 32 → RoundsSpent n a b → n < 2 ^ 74
+pub rounds_fit : (n : ℕ) (a b : Known) → a.lanes < 2 ^ 32 → RoundsSpend n a b → n < 2 ^ 74
 rounds_fit n a b lanes h = let few = h.few in omega (arith, few, lanes)

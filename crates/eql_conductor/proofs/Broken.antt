@@ -18,7 +18,7 @@ use Rattle.eql_conductor.specs.declared.stop.Stop.TheVariants as stop
 use Rattle.eql_conductor.specs.Benches.{Known, Same, LanesRest, PartsRest, Rests}
 use Rattle.eql_conductor.specs.Going.{LanesGo, Went, StopsBy}
 use Rattle.eql_conductor.specs.LaneRounds.{LanesAt}
-use Rattle.eql_conductor.specs.PartRounds.{Resting, pending_after}
+use Rattle.eql_conductor.specs.PartRounds.{AreAtRest, pending_after}
 use Rattle.eql_conductor.specs.Rounds.{OfTexts, found_by, Gave, GoesTo, RoundBreaks, RoundRests, RoundStops, StopsAt}
 use Rattle.eql_conductor.proofs.Onward.{stops_on, went_on}
 use Rattle.eql_laws.proofs.MarkLemmas.{at_most_self}
@@ -65,8 +65,8 @@ is_spoilt whole e f {X} = absurd (let g = sym e ∙ f in cc)
 module _ (last mark : Mark) (a b c : Known) (items : List Item) (found : List Match) (book then : BookState) (before now : Option (List ℕ))
     (same_taken : Same a b) (parts : PartsRest a b) (same_played : Same b c) (lanes : LanesRest b c)
     (told : (reads : Reads) (slack : Option ℤ) (texts : List (List ℕ)) → OfTexts reads slack texts last a → items ≡ between reads slack texts last mark)
-    (founds : (rules : Rules) (all : List Holder) → Resting rules all last b → found ≡ found_by rules all items) where
-  found_told : (reads : Reads) (slack : Option ℤ) (texts : List (List ℕ)) (rules : Rules) (all : List Holder) → OfTexts reads slack texts last a → Resting rules all last a
+    (founds : (rules : Rules) (all : List Holder) → AreAtRest rules all last b → found ≡ found_by rules all items) where
+  found_told : (reads : Reads) (slack : Option ℤ) (texts : List (List ℕ)) (rules : Rules) (all : List Holder) → OfTexts reads slack texts last a → AreAtRest rules all last a
       → found ≡ found_by rules all (between reads slack texts last mark)
   found_told reads slack texts rules all of was =
       founds rules all (parts_stay rules all last a b same_taken parts was) ∙ ap (found_by rules all) (told reads slack texts of)
@@ -80,7 +80,7 @@ module _ (last mark : Mark) (a b c : Known) (items : List Item) (found : List Ma
   }
 
   module _ (taken : (texts : Option (List (List ℕ))) → LanesAt texts last a → LanesAt texts mark b)
-      (played : (rules : Rules) (all : List Holder) → Resting rules all last b → Resting rules (pending_after rules all items) mark c) where
+      (played : (rules : Rules) (all : List Holder) → AreAtRest rules all last b → AreAtRest rules (pending_after rules all items) mark c) where
     -- they were given to it
     pub round_goes : AtMost last mark → Gave found book then before now → GoesTo last mark a c book then before now
     round_goes later gave = record {

@@ -7,7 +7,7 @@ use Rattle.eql_conductor.specs.declared.plan.End.{End as Ends}
 use Rattle.eql_conductor.specs.declared.plan.End.TheVariants as end
 use Rattle.eql_conductor.specs.declared.stop.Stop.{Stop}
 use Rattle.eql_conductor.specs.declared.stop.Stop.TheVariants as stop
-use Rattle.eql_conductor.specs.Benches.{Known, NoneFailed}
+use Rattle.eql_conductor.specs.Benches.{Known, NoFeedFailed}
 use Rattle.eql_conductor.specs.Going.{LanesGo, StopsBy, Went}
 use Rattle.eql_conductor.specs.Rounds.{StopsAt, StopsOut, StopsSaving}
 use Rattle.eql_conductor.specs.Running.{end_by}
@@ -100,7 +100,7 @@ out_not_disk (Err by) (inr h) e = cc
 
 -- ---- after rounds in which nothing failed
 module _ (a b c : Known) (s0 s1 s2 d0 d1 d2 : ℕ) (go : LanesGo a b) (went : Went a b) (se : s1 ≡ s0) (de : d1 ≡ d0) where
-  failed_on : NoneFailed b c → NoneFailed a c
+  failed_on : NoFeedFailed b c → NoFeedFailed a c
   failed_on h = λ k. h k ∙ went.failed k
 
   rose_from : (x y z : ℕ) → y ≡ x → Rose y z × (y ≤ z) → Rose x z × (x ≤ z)

@@ -11,7 +11,7 @@ use Rattle.eql_laws.specs.Alive.{alive_holders}
 use Rattle.eql_laws.specs.Belows.{between}
 use Rattle.eql_laws.specs.Lateness.{AtMost}
 use Rattle.eql_laws.proofs.MarkLemmas.{at_most_trans}
-use Rattle.eql_outside.specs.Moments.{History, Told}
+use Rattle.eql_outside.specs.Moments.{History, DiskTells}
 use Rattle.eql_outside.proofs.Landing.{images}
 use Rattle.eql_parts.specs.PartSteps.{Rules}
 use Rattle.eql_book.specs.Books.{BookState, kept_after}
@@ -29,9 +29,9 @@ use Rattle.eql_conductor.specs.declared.plan.End.TheVariants as end
 use Rattle.eql_conductor.specs.declared.plan.Keep.{Keep}
 use Rattle.eql_conductor.specs.declared.plan.RunPlan.{RunPlan}
 use Rattle.eql_conductor.specs.Benches.{Known, Same}
-use Rattle.eql_conductor.specs.PartRounds.{Resting, pending_after}
+use Rattle.eql_conductor.specs.PartRounds.{AreAtRest, pending_after}
 use Rattle.eql_conductor.specs.Rounds.{CountsInRange, GoesTo, IsInRange, OfTexts, found_by}
-use Rattle.eql_conductor.specs.Running.{IsTaken, PutEach, KeepPuts, KeepStands}
+use Rattle.eql_conductor.specs.Running.{IsTaken, PutsEach, KeepPuts, KeepStands}
 use Rattle.eql_conductor.specs.Runs.{IsCutOf, IsRunCut, LastHolds, RunPuts}
 use Rattle.eql_conductor.specs.Saving.{PutsCuts}
 use Rattle.eql_conductor.proofs.Goings.{texts_go}
@@ -55,7 +55,7 @@ last_holds last (one ∷ two ∷ cuts) cut now h = last_holds last (two ∷ cuts
 puts_join : (last : LastCut) (cuts more : List Cut) (before mid now : Option History) → PutsCuts last cuts before mid → PutsCuts (last_after last cuts) more mid now → PutsCuts last (cuts ++ more) before now
 puts_join last cuts more before mid now h k = (go_on images).joined last cuts more before mid now h k
 
-stands_still : (now : Option History) → Told (Goes NoMore) now now
+stands_still : (now : Option History) → DiskTells (Goes NoMore) now now
 stands_still None = tt
 stands_still (Some h) = (0, refl)
 
@@ -63,8 +63,8 @@ pub puts_none : (last : LastCut) (now : Option History) → PutsCuts last [] now
 puts_none last now = (go_on images).recovery last now now (stands_still now)
 
 -- ---- puts
-module _ (old mid new : CkState) (before between_them now : Option History) (cuts : List Cut) (h : PutEach old mid before between_them cuts) where
-  pub put_more : (cut : Cut) → PutEach mid new between_them now (cut ∷ []) → PutEach old new before now (cuts ++ cut ∷ [])
+module _ (old mid new : CkState) (before between_them now : Option History) (cuts : List Cut) (h : PutsEach old mid before between_them cuts) where
+  pub put_more : (cut : Cut) → PutsEach mid new between_them now (cut ∷ []) → PutsEach old new before now (cuts ++ cut ∷ [])
   put_more cut k = record {
     puts = puts_join (last_cut old) cuts (cut ∷ []) before between_them now h.puts (subst (λ (last : LastCut). PutsCuts last (cut ∷ []) between_them now) h.state_is k.puts);
     state_is = k.state_is ∙ ap (λ (last : LastCut). last_after last (cut ∷ [])) h.state_is ∙ sym (last_on (last_cut old) cuts (cut ∷ []));
@@ -116,7 +116,7 @@ module _ (head : CutHead) (from to : Mark) (a b : Known) (book then : BookState)
   pub taken_later : AtMost from (At cut.mark)
   taken_later = went.later
 
-  cut_of : (reads : Reads) (slack : Option ℤ) (texts : List (List ℕ)) (rules : Rules) (all : List Holder) → OfTexts reads slack texts from a → Resting rules all from a
+  cut_of : (reads : Reads) (slack : Option ℤ) (texts : List (List ℕ)) (rules : Rules) (all : List Holder) → OfTexts reads slack texts from a → AreAtRest rules all from a
       → IsCutOf rules all reads slack texts from book cut
   cut_of reads slack texts rules all of was =
       let played = went.played rules all was in
@@ -137,7 +137,7 @@ module _ (head : CutHead) (from to : Mark) (a b : Known) (book then : BookState)
 module _ (head : CutHead) (from to : Mark) (a b : Known) (book then : BookState) (before now : Option (List ℕ)) (same : Same a b)
     (goes : GoesTo from to a b book then before now) where
   module _ (cut : Cut) (is : IsRunCut head to b then cut) where
-    on_cut_of : (reads : Reads) (slack : Option ℤ) (texts : List (List ℕ)) (rules : Rules) (all : List Holder) → OfTexts reads slack texts from a → Resting rules all from a
+    on_cut_of : (reads : Reads) (slack : Option ℤ) (texts : List (List ℕ)) (rules : Rules) (all : List Holder) → OfTexts reads slack texts from a → AreAtRest rules all from a
         → IsCutOf rules all reads slack texts from book cut
     on_cut_of reads slack texts rules all of was =
         let time : Mark = At cut.mark in

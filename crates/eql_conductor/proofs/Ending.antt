@@ -32,18 +32,18 @@ use Rattle.eql_conductor.specs.declared.plan.RunPlan.{RunPlan}
 use Rattle.eql_conductor.specs.declared.stop.Stop.{Stop}
 use Rattle.eql_conductor.specs.declared.stop.Stop.TheVariants as stop
 use Rattle.eql_conductor.specs.Benches.{Known, Same}
-use Rattle.eql_conductor.specs.Bounds.{AreSized, RoundsSpent}
+use Rattle.eql_conductor.specs.Bounds.{AreSized, RoundsSpend}
 use Rattle.eql_conductor.specs.Going.{LanesGo}
 use Rattle.eql_conductor.specs.LaneRounds.{IsSafe, LanesAt}
-use Rattle.eql_conductor.specs.PartRounds.{Resting, pending_after}
+use Rattle.eql_conductor.specs.PartRounds.{AreAtRest, pending_after}
 use Rattle.eql_conductor.specs.Rounds.{CountsInRange, GoesTo, OfTexts, RoundRests, RoundStops, StopsOut, found_by}
-use Rattle.eql_conductor.specs.RoundNotes.{RoundBroken, RoundNoted}
-use Rattle.eql_conductor.specs.RunNotes.{CutNoted, Place, RoundPlayed, RoundsBroken, RoundsPlayed, RunNotes, SaveBroken, SaveNoted, cut_after, listed, moved, place, round_count, start}
-use Rattle.eql_conductor.specs.RunBounds.{RunBounded}
+use Rattle.eql_conductor.specs.RoundNotes.{NotesRoundFront, NotesRound}
+use Rattle.eql_conductor.specs.RunNotes.{NotesCut, Place, PlaysRound, PlaysRoundsFront, PlaysRounds, RunNotes, NotesSaveFront, NotesSave, cut_after, listed, moved, place, round_count, start}
+use Rattle.eql_conductor.specs.RunBounds.{RunIsBounded}
 use Rattle.eql_conductor.specs.Records.{ListsTold, Ran}
-use Rattle.eql_conductor.specs.Running.{Counted, CutGoes, CutStops, IsAtMark, IsTaken, KeepPuts, KeepStands, KeepStops, KeepsOne, Passed, RanAll, RanTo, StepStops, end_by, end_of, time_of}
-use Rattle.eql_conductor.specs.Runs.{cut_time, IsRunCut, KeepGoes, MayKeepIf, MayRun, RanWhole, RunIs, RunStops, StoppedAt, WroteLinesOf, lines_before_end, lines_by, whole_lines}
-use Rattle.eql_conductor.specs.Saving.{IsSavedAt, NotSaved, Saved}
+use Rattle.eql_conductor.specs.Running.{CountsRound, CutGoes, CutStops, IsAtMark, IsTaken, KeepPuts, KeepStands, KeepStops, KeepsOne, PassesRound, RanAll, RanTo, StepStops, end_by, end_of, time_of}
+use Rattle.eql_conductor.specs.Runs.{cut_time, IsRunCut, KeepGoes, MayKeepIf, MayRun, RanWhole, RunIs, RunStops, RunStopsAt, WroteLinesOf, lines_before_end, lines_by, whole_lines}
+use Rattle.eql_conductor.specs.Saving.{IsSavedAt, SavesNoCut, SavesCut}
 use Rattle.eql_conductor.proofs.Bounded.{run_bounded}
 use Rattle.eql_conductor.proofs.BoundsOpenings.{sized_on}
 use Rattle.eql_conductor.proofs.BoundsSpent.{rounds_stay}
@@ -106,8 +106,8 @@ module _ (reads : Reads) (slack : Option ℤ) (texts : List (List ℕ)) (rules :
 -- ---- a round that stopped
 module _ (last : Mark) (b c : Known) (book then : BookState) (before now : Option (List ℕ))
     (at : IsAtMark last b book) (go : LanesGo b c) (fits : FitsPipes book.pipes book.kept) (h : RoundStops last b book then before now) where
-  stopped_round : (reads : Reads) (slack : Option ℤ) (texts : List (List ℕ)) (rules : Rules) (all : List Holder) → OfTexts reads slack texts last b → Resting rules all last b
-      → StoppedAt rules all reads slack texts last last book then before now
+  stopped_round : (reads : Reads) (slack : Option ℤ) (texts : List (List ℕ)) (rules : Rules) (all : List Holder) → OfTexts reads slack texts last b → AreAtRest rules all last b
+      → RunStopsAt rules all reads slack texts last last book then before now
   stopped_round reads slack texts rules all of was =
       let first : List Item = between reads slack texts last h.mark in
       let part : List Match = found_by rules all first in
@@ -130,8 +130,8 @@ module _ (last : Mark) (b c : Known) (book then : BookState) (before now : Optio
 -- ---- a round that counted, and a cut that stopped
 module _ (last mark : Mark) (a b c : Known) (book then : BookState) (before now : Option (List ℕ)) (cuts : List Cut)
     (at : LanesAt None last a) (go : LanesGo b c) (goes : GoesTo last mark a b book then before now) (after_cuts : All (λ (cut : Cut). AtMost (At cut.mark) mark) cuts) where
-  stopped_cut : (reads : Reads) (slack : Option ℤ) (texts : List (List ℕ)) (rules : Rules) (all : List Holder) → OfTexts reads slack texts last a → Resting rules all last a
-      → StoppedAt rules all reads slack texts last mark book then before now
+  stopped_cut : (reads : Reads) (slack : Option ℤ) (texts : List (List ℕ)) (rules : Rules) (all : List Holder) → OfTexts reads slack texts last a → AreAtRest rules all last a
+      → RunStopsAt rules all reads slack texts last mark book then before now
   stopped_cut reads slack texts rules all of was =
       let played = goes.played rules all was in
       let told = goes.told reads slack texts of in
@@ -156,8 +156,8 @@ module _ (last mark : Mark) (a b c : Known) (book then : BookState) (before now 
 module _ (from later : Mark) (a b c : Known) (book mid then : BookState) (before between_them now : Option (List ℕ)) (cuts more : List Cut)
     (same : Same a b) (goes : GoesTo from later a b book mid before between_them) (at_most : All (λ (cut : Cut). AtMost (At cut.mark) later) cuts)
     (h : RunStops later b c mid then between_them now more) where
-  stopped_on : (reads : Reads) (slack : Option ℤ) (texts : List (List ℕ)) (rules : Rules) (all : List Holder) → OfTexts reads slack texts from a → Resting rules all from a
-      → StoppedAt rules all reads slack texts from h.mark book then before now
+  stopped_on : (reads : Reads) (slack : Option ℤ) (texts : List (List ℕ)) (rules : Rules) (all : List Holder) → OfTexts reads slack texts from a → AreAtRest rules all from a
+      → RunStopsAt rules all reads slack texts from h.mark book then before now
   stopped_on reads slack texts rules all of was =
       let played = goes.played rules all was in
       let told = goes.told reads slack texts of in
@@ -186,7 +186,7 @@ module _ (from later : Mark) (a b c : Known) (book mid then : BookState) (before
   }
 
   -- the lines that its cuts count were written
-  stopped_more : (reads : Reads) (slack : Option ℤ) (texts : List (List ℕ)) (rules : Rules) (all : List Holder) → OfTexts reads slack texts from a → Resting rules all from a → WroteMore between_them now
+  stopped_more : (reads : Reads) (slack : Option ℤ) (texts : List (List ℕ)) (rules : Rules) (all : List Holder) → OfTexts reads slack texts from a → AreAtRest rules all from a → WroteMore between_them now
   stopped_more reads slack texts rules all of was =
       let pending : List Holder = pending_after rules all goes.items in
       let k = h.told reads slack texts rules pending (texts_go reads slack texts from later a b same goes.lanes of) (goes.played rules all was).parts in
@@ -201,7 +201,7 @@ module _ (from later : Mark) (a b c : Known) (book mid then : BookState) (before
 module _ (from : Mark) (a b : Known) (book mid then : BookState) (before between_them now : Option (List ℕ)) (cuts : List Cut)
     (at : IsAtMark from a book) (goes : GoesTo from End a b book mid before between_them) where
   module _ (still : then ≡ mid) (whole : mid.whole ≡ true) (wrote : WroteAll (listing mid.places (held_back mid)) between_them now) where
-    wrote_to_end : (reads : Reads) (slack : Option ℤ) (texts : List (List ℕ)) (rules : Rules) (all : List Holder) → OfTexts reads slack texts from a → Resting rules all from a
+    wrote_to_end : (reads : Reads) (slack : Option ℤ) (texts : List (List ℕ)) (rules : Rules) (all : List Holder) → OfTexts reads slack texts from a → AreAtRest rules all from a
         → WroteAll (whole_lines book (found_by rules all (between reads slack texts from End))) before now
     wrote_to_end reads slack texts rules all of was =
         let played = goes.played rules all was in
@@ -216,8 +216,8 @@ module _ (from : Mark) (a b : Known) (book mid then : BookState) (before between
   -- or stopped there, as it ended the book
   module _ (spoilt : then.whole ≡ false) (wrote : WroteFront (listing mid.places (held_back mid)) between_them now)
       (at_most : All (λ (cut : Cut). AtMost (At cut.mark) End) cuts) (go : LanesGo b b) where
-    stopped_end : (reads : Reads) (slack : Option ℤ) (texts : List (List ℕ)) (rules : Rules) (all : List Holder) → OfTexts reads slack texts from a → Resting rules all from a
-        → StoppedAt rules all reads slack texts from End book then before now
+    stopped_end : (reads : Reads) (slack : Option ℤ) (texts : List (List ℕ)) (rules : Rules) (all : List Holder) → OfTexts reads slack texts from a → AreAtRest rules all from a
+        → RunStopsAt rules all reads slack texts from End book then before now
     stopped_end reads slack texts rules all of was =
         let played = goes.played rules all was in
         let found : List Match = found_by rules all goes.items in record {
@@ -330,8 +330,8 @@ module _ {D : Type 0} (history : D → Option History) (count : D → ℕ) where
   -- ---- a cut that was put, or wasn't
   pub saved_goes : {X : Type 0} (r : Result X Stop) (head : CutHead) (time : ℤ) (b c : Known) (book : BookState) (k l : Keep D)
       → ((texts : Option (List (List ℕ))) → LanesAt texts (At time) b → OnOk r (LanesAt texts (At time) c))
-      → ((rules : Rules) (all : List Holder) → Resting rules all (At time) b → OnOk r (Resting rules all (At time) c))
-      → OnOk r (Saved head time b book k.state l.state (history k.disk) (history l.disk)) → OnOk r (SaveNoted b c)
+      → ((rules : Rules) (all : List Holder) → AreAtRest rules all (At time) b → OnOk r (AreAtRest rules all (At time) c))
+      → OnOk r (SavesCut head time b book k.state l.state (history k.disk) (history l.disk)) → OnOk r (NotesSave b c)
       → OnOk r (CutGoes history count head (At time) (Some time) b c book (Some k) (Some l))
   saved_goes (Err by) head time b c book k l lanes parts h noted = tt
   saved_goes (Ok x) head time b c book k l lanes parts h noted = record {
@@ -345,9 +345,9 @@ module _ {D : Type 0} (history : D → Option History) (count : D → ℕ) where
   }
 
   pub saved_stops : {X : Type 0} (r : Result X Stop) (head : CutHead) (time : ℤ) (b c : Known) (book : BookState) (k l : Keep D)
-      → OnErr r (NotSaved head time b book k.state l.state (history k.disk) (history l.disk))
+      → OnErr r (SavesNoCut head time b book k.state l.state (history k.disk) (history l.disk))
       → (r ≡ Err (stop.Limit limit.Generation) → (last_cut l.state).generation ≡ 2 ^ 63)
-      → IfErr r (λ (by : Stop). (by ≢ stop.Disk) → (by ≢ stop.Memory) → Stands (last_cut l.state) (history l.disk)) → OnErr r (SaveBroken b c)
+      → IfErr r (λ (by : Stop). (by ≢ stop.Disk) → (by ≢ stop.Memory) → Stands (last_cut l.state) (history l.disk)) → OnErr r (NotesSaveFront b c)
       → IfErr r (CutStops history count head (At time) (Some time) b c book (Some k) (Some l))
   saved_stops (Ok x) head time b c book k l h full stands noted = tt
   saved_stops (Err by) head time b c book k l h full stands noted = record {
@@ -369,13 +369,13 @@ module _ {D : Type 0} (history : D → Option History) (count : D → ℕ) where
     is = tt;
     keeps = refl;
     time_is = e;
-    noted = subst (λ (t : Option ℤ). CutNoted t b b) e (cut_self b);
+    noted = subst (λ (t : Option ℤ). NotesCut t b b) e (cut_self b);
   }
 
   -- ---- one step
   module _ (plan : RunPlan) (at : Place) (b c : Known) (book then : BookState) (before now : Option (List ℕ)) (keep : Option (Keep D)) (go : LanesGo b c) where
     -- a round stopped
-    pub round_stopped : (by : Stop) → IsAtMark at.mark b book → FitsPipes book.pipes book.kept → RoundStops at.mark b book then before now → RoundBroken at.mark plan.batch b c
+    pub round_stopped : (by : Stop) → IsAtMark at.mark b book → FitsPipes book.pipes book.kept → RoundStops at.mark b book then before now → NotesRoundFront at.mark plan.batch b c
         → end_by by ≢ end.Limit limit.Generation → KeepStands history count plan b keep → StepStops history count plan at b c book then before now keep keep by
     round_stopped by is fits h broken other stands = record {
       ran = record {
@@ -389,7 +389,7 @@ module _ {D : Type 0} (history : D → Option History) (count : D → ℕ) where
     }
 
     -- it didn't count
-    pub passed : RoundRests at.mark b c book then before now → RoundNoted at.mark plan.batch b c None → Passed history count plan at b c book then before now keep keep
+    pub passed : RoundRests at.mark b c book then before now → NotesRound at.mark plan.batch b c None → PassesRound history count plan at b c book then before now keep keep
     passed rests noted = record {
       rests = rests;
       keeps = refl;
@@ -398,7 +398,7 @@ module _ {D : Type 0} (history : D → Option History) (count : D → ℕ) where
 
   module _ (plan : RunPlan) (at : Place) (mark : Mark) (a b c : Known) (book then : BookState) (before now : Option (List ℕ)) (keep kept : Option (Keep D))
       (is_at : IsAtMark at.mark a book) (same : Same a b) (goes : GoesTo at.mark mark a b book then before now) (in_range : CountsInRange at.mark a (Some mark))
-      (noted : RoundNoted at.mark plan.batch a b (Some mark)) (n : ℕ) (next : n ≡ suc at.counts) where
+      (noted : NotesRound at.mark plan.batch a b (Some mark)) (n : ℕ) (next : n ≡ suc at.counts) where
     one_is : (cut : Cut) → IsTaken plan.head mark b then cut → IsRunCut plan.head at.mark a book cut
     one_is cut taken = taken_is plan.head at.mark mark a b book then before now cut same goes in_range taken
 
@@ -406,13 +406,13 @@ module _ {D : Type 0} (history : D → Option History) (count : D → ℕ) where
     due_is = ap (λ (k : ℕ). cut_after plan.every k (Some mark)) next
 
     -- it counted, and a cut was kept where one was due
-    pub counted : CutGoes history count plan.head mark (cut_after plan.every n (Some mark)) b c then keep kept → Counted history count plan at mark a c book then before now keep kept
+    pub counted : CutGoes history count plan.head mark (cut_after plan.every n (Some mark)) b c then keep kept → CountsRound history count plan at mark a c book then before now keep kept
     counted h = record {
       goes = goes_stays at.mark mark a b c book then before now h.lanes h.parts goes;
       cut = h.cut;
       is = one_of h.cut h.is;
       keeps = h.keeps;
-      noted = round_played plan.batch plan.every at a b (Some mark) noted c same (time_of h.cut) (h.time_is ∙ due_is) (subst (λ (t : Option ℤ). CutNoted t b c) (sym h.time_is) h.noted);
+      noted = round_played plan.batch plan.every at a b (Some mark) noted c same (time_of h.cut) (h.time_is ∙ due_is) (subst (λ (t : Option ℤ). NotesCut t b c) (sym h.time_is) h.noted);
     }
       where
         one_of : (cut : Option Cut) → IfSome cut (IsTaken plan.head mark b then) → IfSome cut (λ c. (mark ≡ At c.mark) × IsRunCut plan.head at.mark a book c)
@@ -452,13 +452,13 @@ module _ {D : Type 0} (history : D → Option History) (count : D → ℕ) where
 
   -- the notes of rounds, with the times of cuts and a number of rounds
   abbrev PlayedTo : RunPlan → Place → (a c : Known) → ℕ → List ℤ → Type 0
-  PlayedTo plan to a c n times = (k : RoundsPlayed plan.batch plan.every (start plan) to times a c) × (length k.rounds ≡ n)
+  PlayedTo plan to a c n times = (k : PlaysRounds plan.batch plan.every (start plan) to times a c) × (length k.rounds ≡ n)
 
   abbrev BrokenAt : RunPlan → (a c : Known) → ℕ → List ℤ → Type 0
-  BrokenAt plan a c n times = (k : RoundsBroken plan.batch plan.every (start plan) times a c) × (length k.rounds ≡ n)
+  BrokenAt plan a c n times = (k : PlaysRoundsFront plan.batch plan.every (start plan) times a c) × (length k.rounds ≡ n)
 
-  stopped_with : (by : Stop) (plan : RunPlan) (times : List ℤ) (a c : Known) (k : RoundsBroken plan.batch plan.every (start plan) times a c) → RunBounded (suc (length k.rounds)) a c
-      → (notes : RunNotes plan times a c (end_by by)) × RunBounded (round_count plan times a c (end_by by) notes) a c
+  stopped_with : (by : Stop) (plan : RunPlan) (times : List ℤ) (a c : Known) (k : PlaysRoundsFront plan.batch plan.every (start plan) times a c) → RunIsBounded (suc (length k.rounds)) a c
+      → (notes : RunNotes plan times a c (end_by by)) × RunIsBounded (round_count plan times a c (end_by by) notes) a c
   stopped_with (stop.Read s) plan times a c k h = (k, h)
   stopped_with stop.Write plan times a c k h = (k, h)
   stopped_with stop.Disk plan times a c k h = (k, h)
@@ -470,13 +470,13 @@ module _ {D : Type 0} (history : D → Option History) (count : D → ℕ) where
     abbrev times : List ℤ
     times = map cut_time h.cuts
 
-    more_rounds : (time : Option ℤ) (answer : Option Mark) (all : List ℤ) → times ++ listed time ≡ all → RoundPlayed plan.batch plan.every at time b c answer
+    more_rounds : (time : Option ℤ) (answer : Option Mark) (all : List ℤ) → times ++ listed time ≡ all → PlaysRound plan.batch plan.every at time b c answer
         → PlayedTo plan (moved at answer) a c (n + 1) all
     more_rounds time answer all e noted =
         let k = rounds_more plan.batch plan.every (start plan) at times a b same h.noted c time answer begins noted in
         subst (PlayedTo plan (moved at answer) a c (n + 1)) e (k.0, k.1 ∙ ap (λ (m : ℕ). m + 1) h.rounds)
 
-    pub ran_rests : Passed history count plan at b c mid then between_them now kept_mid kept → RanTo history count plan at (n + 1) a c book then before now keep kept
+    pub ran_rests : PassesRound history count plan at b c mid then between_them now kept_mid kept → RanTo history count plan at (n + 1) a c book then before now keep kept
     ran_rests passed = let k = more_rounds None None times (append-nil times) passed.noted in record {
       goes = goes_rests plan.mark at.mark a b c book mid then before between_them now h.goes passed.rests;
       cuts = h.cuts;
@@ -495,7 +495,7 @@ module _ {D : Type 0} (history : D → Option History) (count : D → ℕ) where
         goes_more at.mark mark b c mid then between_them now rules (pending_after rules all h.goes.items) goes (h.goes.played rules all was).parts) h.cuts h.wrote
 
     ran_one : (mark : Mark) (goes : GoesTo at.mark mark b c mid then between_them now) (cut : Option Cut) → IfSome cut (λ c. (mark ≡ At c.mark) × IsRunCut plan.head at.mark b mid c)
-        → KeepsOne history count cut kept_mid kept → RoundPlayed plan.batch plan.every at (time_of cut) b c (Some mark)
+        → KeepsOne history count cut kept_mid kept → PlaysRound plan.batch plan.every at (time_of cut) b c (Some mark)
         → RanTo history count plan (moved at (Some mark)) (n + 1) a c book then before now keep kept
     ran_one mark goes None is keeps noted = let k = more_rounds None (Some mark) times (append-nil times) noted in record {
       goes = goes_join plan.mark at.mark mark a b c book mid then before between_them now same h.goes goes;
@@ -526,14 +526,14 @@ module _ {D : Type 0} (history : D → Option History) (count : D → ℕ) where
           rounds = k.1;
         }
 
-    pub ran_counted : (mark : Mark) (counts : ℕ) → counts ≡ suc at.counts → Counted history count plan at mark b c mid then between_them now kept_mid kept
+    pub ran_counted : (mark : Mark) (counts : ℕ) → counts ≡ suc at.counts → CountsRound history count plan at mark b c mid then between_them now kept_mid kept
         → RanTo history count plan (place mark counts) (n + 1) a c book then before now keep kept
     ran_counted mark counts e k =
         subst (λ (m : ℕ). RanTo history count plan (place mark m) (n + 1) a c book then before now keep kept) (sym e) (ran_one mark k.goes k.cut k.is k.keeps k.noted)
 
     -- a step stopped
-    module _ (book_is_kept : BookIsKept) (end_is_whole : EndIsWhole) (spent : RoundsSpent n a b) (sized : AreSized a) (go : LanesGo a b) (on : LanesGo b c) where
-      broken_bound : (times : List ℤ) (k : RoundsBroken plan.batch plan.every (start plan) times a c) → length k.rounds ≡ n → RunBounded (suc (length k.rounds)) a c
+    module _ (book_is_kept : BookIsKept) (end_is_whole : EndIsWhole) (spent : RoundsSpend n a b) (sized : AreSized a) (go : LanesGo a b) (on : LanesGo b c) where
+      broken_bound : (times : List ℤ) (k : PlaysRoundsFront plan.batch plan.every (start plan) times a c) → length k.rounds ≡ n → RunIsBounded (suc (length k.rounds)) a c
       broken_bound times k e =
           let both = lanes_go_on a b c go on in
           run_bounded (suc (length k.rounds)) n (4 * suc (length k.rounds)) a c (omega (arith, e)) both.same (rounds_stay n a b c same on spent) (sized_on a c both sized) k.parts
@@ -590,7 +590,7 @@ module _ {D : Type 0} (history : D → Option History) (count : D → ℕ) where
         let broken : BrokenAt plan a b (all.n + 1) times = subst (BrokenAt plan a b (all.n + 1)) (sym (map-append cut_time h.cuts [])) (ended.0, ended.1 ∙ h.rounds) in
         let k = broken.0 in
         let e = broken.1 in
-        let bound : RunBounded (suc (length k.rounds)) a b =
+        let bound : RunIsBounded (suc (length k.rounds)) a b =
         run_bounded (suc (length k.rounds)) all.n (4 * suc (length k.rounds)) a b (omega (arith, e)) go.same all.spent (sized_on a b go sized) k.parts
         (broken_in_rounds plan.batch plan.every (start plan) times a b k) k.in_rounds in
         let notes = stopped_with by plan times a b k bound in

@@ -13,7 +13,7 @@ use Rattle.eql_values.specs.declared.value.Value.{Value}
 use Rattle.eql_values.specs.declared.item.Route.{Route}
 use Rattle.eql_values.specs.declared.item.Item.{Item}
 use Rattle.eql_values.specs.declared.found.Holder.{Holder}
-use Rattle.eql_values.specs.Ascending.{AllAfter, Ascending}
+use Rattle.eql_values.specs.Ascending.{AllAfter, Ascend}
 use Rattle.eql_values.specs.Chains.{chain, holder}
 use Rattle.eql_values.specs.Matching.{Openings, Slot, slot_cmp, act_by, acts_of, onto, opening_of, entries_of, held_after, match_by, matches, matches_after, after}
 use Rattle.eql_values.specs.OrderKeys.{order_cmp}
@@ -96,16 +96,16 @@ all_after_fitting k (item ∷ items) h = one (has_routes item) (all_after_fittin
     one true rest = (h.0, rest)
     one false rest = rest
 
-pub fitting_ascends : (items : List Item) → Ascending items → Ascending (fitting items)
+pub fitting_ascends : (items : List Item) → Ascend items → Ascend (fitting items)
 fitting_ascends [] h = tt
 fitting_ascends (item ∷ items) h = one (has_routes item) (fitting_ascends items h.2)
   where
-    one : (b : Bool) → Ascending (fitting items) → Ascending (cond b (item ∷ fitting items) (fitting items))
+    one : (b : Bool) → Ascend (fitting items) → Ascend (cond b (item ∷ fitting items) (fitting items))
     one true rest = (h.0, all_after_fitting item.order items h.1, rest)
     one false rest = rest
 
-pub fitting_ascend : (lists : List (List Item)) → All Ascending lists → All Ascending (map fitting lists)
-fitting_ascend lists h = All-map Ascending fitting lists (All-weaker Ascending (λ (items : List Item). Ascending (fitting items)) fitting_ascends lists h)
+pub fitting_ascend : (lists : List (List Item)) → All Ascend lists → All Ascend (map fitting lists)
+fitting_ascend lists h = All-map Ascend fitting lists (All-weaker Ascend (λ (items : List Item). Ascend (fitting items)) fitting_ascends lists h)
 
 -- an event that has routes is one of all
 there_before : (k : OrderKey) (items : List Item) → has_place k (fitting items) ≡ true → has_place k items ≡ true
@@ -138,7 +138,7 @@ all_below : (k : OrderKey) (items : List Item) → AllAfter k items → T (below
 all_below k [] h = tt
 all_below k (item ∷ items) h = both_hold _ _ (less_is _ h.0) (all_below k items h.1)
 
-entries_sorted : (items : List Item) → Ascending items → T (is_sorted order_cmp (map pair items))
+entries_sorted : (items : List Item) → Ascend items → T (is_sorted order_cmp (map pair items))
 entries_sorted [] h = tt
 entries_sorted (item ∷ items) h = both_hold _ _ (all_below item.order items h.1) (entries_sorted items h.2)
 
@@ -166,23 +166,23 @@ nowhere_else k items (others ∷ lists) h there =
     find_more k others (joined lists)
     ∙ (λ i. found_or (not_found k others (h.0 k there) i) (nowhere_else k items lists h.1 there i))
 
-find_fitting : (k : OrderKey) (items : List Item) → Ascending items
+find_fitting : (k : OrderKey) (items : List Item) → Ascend items
     → find_entry order_cmp k (map pair (fitting items)) ≡ passed any_route (find_entry order_cmp k (map pair items))
 find_fitting k items up =
     ap (find_entry order_cmp k) (map_filter pair has_routes (λ e. any_route e.1) (λ item. refl) items)
     ∙ find_where any_route order_cmp order_cmp_total k (map pair items) (entries_sorted items up)
 
-find_joined : (k : OrderKey) (lists : List (List Item)) → All Ascending lists → AllApart lists
+find_joined : (k : OrderKey) (lists : List (List Item)) → All Ascend lists → AllApart lists
     → find_entry order_cmp k (map pair (joined (map fitting lists))) ≡ passed any_route (find_entry order_cmp k (map pair (joined lists)))
 find_joined k [] up apart = refl
 find_joined k (items ∷ lists) up apart =
     find_more k (fitting items) (joined (map fitting lists))
-    ∙ (λ i. found_or (find_fitting k items (All-head Ascending items lists up) i) (find_joined k lists (All-tail Ascending items lists up) apart.1 i))
+    ∙ (λ i. found_or (find_fitting k items (All-head Ascend items lists up) i) (find_joined k lists (All-tail Ascend items lists up) apart.1 i))
     ∙ passed_either any_route (find_entry order_cmp k (map pair items)) (find_entry order_cmp k (map pair (joined lists)))
     (λ there. nowhere_else k items lists apart.0 (has_found k items ∙ there))
     ∙ sym (ap (passed any_route) (find_more k items (joined lists)))
 
-pub fitting_sorted : (lists : List (List Item)) → All Ascending lists → AllApart lists → fitting (sorted_items (joined lists)) ≡ sorted_items (joined (map fitting lists))
+pub fitting_sorted : (lists : List (List Item)) → All Ascend lists → AllApart lists → fitting (sorted_items (joined lists)) ≡ sorted_items (joined (map fitting lists))
 fitting_sorted lists up apart =
     let all : List Entry = map pair (joined lists) in
     sym (map_filter back (λ e. any_route e.1) has_routes (λ e. refl) (in_order order_cmp all))

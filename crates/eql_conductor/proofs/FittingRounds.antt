@@ -7,7 +7,7 @@ use Rattle.eql_values.specs.declared.found.Match.{Match}
 use Rattle.eql_values.specs.declared.found.Holder.{Holder}
 use Rattle.eql_values.specs.declared.order.Mark.{Mark}
 use Rattle.eql_values.specs.Accepted.{sorted_items}
-use Rattle.eql_values.specs.Ascending.{Ascending}
+use Rattle.eql_values.specs.Ascending.{Ascend}
 use Rattle.eql_values.specs.Marks.{is_below}
 use Rattle.eql_laws.specs.Apart.{joined}
 use Rattle.eql_laws.specs.Belows.{HasRoutesInOrder}
@@ -20,20 +20,20 @@ use Rattle.eql_conductor.specs.Benches.{Known}
 use Rattle.eql_conductor.specs.Fitting.{TakesFitting, fitting, has_routes}
 use Rattle.eql_conductor.specs.Handed.{LanesHand, sizes}
 use Rattle.eql_conductor.specs.LaneRounds.{AllHandOver, LanesAt}
-use Rattle.eql_conductor.specs.PartRounds.{Resting, pending_after}
-use Rattle.eql_conductor.specs.RoundNotes.{GrewBy, PartsNoted, delivered_to}
+use Rattle.eql_conductor.specs.PartRounds.{AreAtRest, pending_after}
+use Rattle.eql_conductor.specs.RoundNotes.{GrewBy, NotesParts, delivered_to}
 use Rattle.eql_conductor.specs.Rounds.{found_by}
 use Rattle.eql_conductor.proofs.FittingLaws.{after_fitting, fitting_ascends, found_fitting, routed_fitting}
 use Rattle.eql_conductor.proofs.Handing.{handed_all}
 use Rattle.eql_conductor.proofs.Merged.{all_ascend, between_is, can_deliver}
 
 -- ---- what was taken
-routes_ascend : (items : List Item) → Ascending items → All HasRoutesInOrder items
+routes_ascend : (items : List Item) → Ascend items → All HasRoutesInOrder items
 routes_ascend [] h = All-nil HasRoutesInOrder
 routes_ascend (item ∷ items) h = All-cons HasRoutesInOrder item items h.0 (routes_ascend items h.2)
 
-joined_ascend : (lists : List (List Item)) → All Ascending lists → Ascending (sorted_items (joined lists))
-joined_ascend lists h = sorted_ascends (joined lists) (All-flat_map Ascending HasRoutesInOrder (λ (items : List Item). items) routes_ascend lists h)
+joined_ascend : (lists : List (List Item)) → All Ascend lists → Ascend (sorted_items (joined lists))
+joined_ascend lists h = sorted_ascends (joined lists) (All-flat_map Ascend HasRoutesInOrder (λ (items : List Item). items) routes_ascend lists h)
 
 pub takes_fitting : (last mark : Mark) (a b : Known) (lists : List (List Item)) (items : List Item) → AtMost last mark → LanesAt None last a
     → ((texts : Option (List (List ℕ))) → LanesAt texts last a → AllHandOver texts last mark a lists) → LanesHand (sizes lists) a b
@@ -68,15 +68,15 @@ module _ (items all : List Item) (e : items ≡ fitting all) where
   delivered_same : (p : ℕ) → delivered_to items p ≡ delivered_to all p
   delivered_same p = ap (λ (l : List Item). delivered_to l p) e ∙ ap (λ (l : List Item). length l) (routed_fitting part_number p all)
 
-  pub finds_all : (last : Mark) (b : Known) (found : List Match) → ((rules : Rules) (holders : List Holder) → Resting rules holders last b → found ≡ found_by rules holders items)
-      → (rules : Rules) (holders : List Holder) → Resting rules holders last b → found ≡ found_by rules holders all
+  pub finds_all : (last : Mark) (b : Known) (found : List Match) → ((rules : Rules) (holders : List Holder) → AreAtRest rules holders last b → found ≡ found_by rules holders items)
+      → (rules : Rules) (holders : List Holder) → AreAtRest rules holders last b → found ≡ found_by rules holders all
   finds_all last b found h rules holders was = h rules holders was ∙ found_same rules holders
 
-  pub plays_all : (last mark : Mark) (b c : Known) → ((rules : Rules) (holders : List Holder) → Resting rules holders last b → Resting rules (pending_after rules holders items) mark c)
-      → (rules : Rules) (holders : List Holder) → Resting rules holders last b → Resting rules (pending_after rules holders all) mark c
-  plays_all last mark b c h rules holders was = subst (λ (l : List Holder). Resting rules l mark c) (pending_same rules holders) (h rules holders was)
+  pub plays_all : (last mark : Mark) (b c : Known) → ((rules : Rules) (holders : List Holder) → AreAtRest rules holders last b → AreAtRest rules (pending_after rules holders items) mark c)
+      → (rules : Rules) (holders : List Holder) → AreAtRest rules holders last b → AreAtRest rules (pending_after rules holders all) mark c
+  plays_all last mark b c h rules holders was = subst (λ (l : List Holder). AreAtRest rules l mark c) (pending_same rules holders) (h rules holders was)
 
-  pub notes_all : (b c : Known) → PartsNoted (delivered_to items) 3 b c → PartsNoted (delivered_to all) 3 b c
+  pub notes_all : (b c : Known) → NotesParts (delivered_to items) 3 b c → NotesParts (delivered_to all) 3 b c
   notes_all b c h = record {
     parts = record { each = λ p l. subst (λ (n : ℕ). GrewBy n 3 (b.part_notes p) (c.part_notes p)) (delivered_same p) (h.parts.each p l) };
     lanes = h.lanes;

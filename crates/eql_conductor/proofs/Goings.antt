@@ -21,8 +21,8 @@ use Rattle.eql_rounds.specs.PartRounds.{PartIs}
 use Rattle.eql_rounds.proofs.Found.{rounds_find}
 use Rattle.eql_conductor.specs.Benches.{Known, Same}
 use Rattle.eql_conductor.specs.LaneRounds.{LanesAt}
-use Rattle.eql_conductor.specs.PartRounds.{IsAtRest, Resting, SomeFull, SomeResting, pending_after}
-use Rattle.eql_conductor.specs.Rounds.{Gave, GoesTo, OfTexts, Played, RoundRests, found_by}
+use Rattle.eql_conductor.specs.PartRounds.{IsAtRest, AreAtRest, AreSomehowFull, AreSomehowAtRest, pending_after}
+use Rattle.eql_conductor.specs.Rounds.{Gave, GoesTo, OfTexts, PlaysTo, RoundRests, found_by}
 use Rattle.eql_conductor.specs.Running.{IsAtMark}
 use Rattle.eql_conductor.specs.Runs.{lines_before_end}
 use Rattle.eql_conductor.specs.Saving.{BookKeepsNumbers}
@@ -48,11 +48,11 @@ texts_go reads slack texts from to a b same lanes of = record { read = read_stay
 -- ---- from one mark to a second, and from there to a third
 module _ (m0 m1 m2 : Mark) (a b c : Known) (book mid then : BookState) (before between_them now : Option (List ℕ))
     (same : Same a b) (h : GoesTo m0 m1 a b book mid before between_them) (k : GoesTo m1 m2 b c mid then between_them now) where
-  played_on : (rules : Rules) (all : List Holder) → Resting rules all m0 a → Played rules all (h.items ++ k.items) m2 c book then before now
+  played_on : (rules : Rules) (all : List Holder) → AreAtRest rules all m0 a → PlaysTo rules all (h.items ++ k.items) m2 c book then before now
   played_on rules all was =
       let first = h.played rules all was in
       let second = k.played rules (pending_after rules all h.items) first.parts in record {
-        parts = subst (λ (l : List Holder). Resting rules l m2 c) (sym (pending_joins rules all h.items k.items)) second.parts;
+        parts = subst (λ (l : List Holder). AreAtRest rules l m2 c) (sym (pending_joins rules all h.items k.items)) second.parts;
         gave = subst (λ (l : List Match). Gave l book then before now) (sym (found_joins rules all h.items k.items))
             (gave_joins book mid then (found_by rules all h.items) (found_by rules (pending_after rules all h.items) k.items) before between_them now first.gave second.gave);
       }
@@ -88,7 +88,7 @@ goes_rests m0 m1 a b c book mid then before between_them now h rests = record {
 -- and what keeps lanes and parts at the mark
 pub goes_stays : (m0 m1 : Mark) (a b c : Known) (book then : BookState) (before now : Option (List ℕ))
     → ((texts : Option (List (List ℕ))) → LanesAt texts m1 b → LanesAt texts m1 c)
-    → ((rules : Rules) (all : List Holder) → Resting rules all m1 b → Resting rules all m1 c)
+    → ((rules : Rules) (all : List Holder) → AreAtRest rules all m1 b → AreAtRest rules all m1 c)
     → GoesTo m0 m1 a b book then before now → GoesTo m0 m1 a c book then before now
 goes_stays m0 m1 a b c book then before now lanes parts h =
     goes_rests m0 m1 a b c book then then before now now h (record { lanes = lanes; parts = parts; book_is = refl; wrote_is = refl })
@@ -123,7 +123,7 @@ rest_none rules all mark p x h =
       last = h.last;
     })
 
-pub rests_none : (rules : Rules) (all : List Holder) (mark : Mark) (b : Known) → Resting rules all mark b → Resting rules (pending_after rules all []) mark b
+pub rests_none : (rules : Rules) (all : List Holder) (mark : Mark) (b : Known) → AreAtRest rules all mark b → AreAtRest rules (pending_after rules all []) mark b
 rests_none rules all mark b h = record { are = h.are; each = λ p l x here. rest_none rules all mark p x (h.each p l x here) }
 
 wrote_nothing : (w : Option (List ℕ)) → WroteAll [] w w
@@ -146,7 +146,7 @@ goes_self mark a book w fits = record {
 }
 
 -- ---- what a round needs
-pub some_rests : (mark : Mark) (b : Known) → SomeFull mark b → SomeResting mark b
+pub some_rests : (mark : Mark) (b : Known) → AreSomehowFull mark b → AreSomehowAtRest mark b
 some_rests mark b h = record { rules = h.rules; all = h.all; is = h.is }
 
 full_goes : (rules : Rules) (all : List Holder) (items : List Item) → All IsFull all → All IsFull (pending_after rules all items)

@@ -19,8 +19,8 @@ use Rattle.eql_lane.specs.declared.ops.LaneReply.TheVariants as reply
 use Rattle.eql_lane.specs.declared.ops.LimitOf.TheVariants as limit
 use Rattle.eql_lane.specs.Lanes.{Setting, LaneState, FeedStep, SnapStep, TakeStep, ReadsOn, Takes, lesser, low}
 use Rattle.eql_conductor.specs.declared.bench.NotPlayed.{NotPlayed}
-use Rattle.eql_conductor.specs.Benches.{Known, Same, FedTimes, FedOn, LanesRest, LanePlays, Unplayed}
-use Rattle.eql_conductor.specs.Handed.{HandsBy, total_to, LanesHand, LaneHands, HandedOut, sizes}
+use Rattle.eql_conductor.specs.Benches.{Known, Same, FeedsTimes, ComesByFeeds, LanesRest, LanePlays, WasNotPlayed}
+use Rattle.eql_conductor.specs.Handed.{HandsBy, total_to, LanesHand, LaneHands, AllHandOut, sizes}
 use Rattle.eql_conductor.proofs.Resting.{same_or, is_lane}
 
 -- ---- a lane
@@ -75,11 +75,11 @@ feed_hands set x max (reply.Taken items) y step = absurd step
 feed_hands set x max (reply.Low mark) y step = absurd step
 feed_hands set x max (reply.Cut cut) y step = absurd step
 
-fed_times_hand : (set : Setting) (n : ℕ) (x y : LaneState) → FedTimes set n x y → HandsBy 0 x y
+fed_times_hand : (set : Setting) (n : ℕ) (x y : LaneState) → FeedsTimes set n x y → HandsBy 0 x y
 fed_times_hand set zero x y h = hands_same x y h
 fed_times_hand set (suc n) x y (mid, max, answer, step, rest) = hands_after 0 x mid y (feed_hands set x max answer mid step) (fed_times_hand set n mid y rest)
 
-pub fed_hands : (set : Setting) (x y : LaneState) → FedOn set x y → HandsBy 0 x y
+pub fed_hands : (set : Setting) (x y : LaneState) → ComesByFeeds set x y → HandsBy 0 x y
 fed_hands set x y h = fed_times_hand set h.0 x y h.1
 
 apart_items : (mark : Mark) (items : List Item) → length (filter (is_below mark) items) + length (filter (λ (item : Item). not (is_below mark item)) items) ≡ length items
@@ -116,23 +116,23 @@ lanes_hand_on f g a b c same h k = record {
       (o.0, o.1, hands_on (f s) (g s) o.0 m.0 y o.2 m.2);
 }
 
-pub handed_none : (a b : Known) → LanesHand (λ s. 0) a b → HandedOut 0 a b
+pub handed_none : (a b : Known) → LanesHand (λ s. 0) a b → AllHandOut 0 a b
 handed_none a b h = record { counts = λ s. 0; total = let e = total_none a.lanes in omega (arith, e); each = h }
 
-pub handed_self : (a : Known) → HandedOut 0 a a
+pub handed_self : (a : Known) → AllHandOut 0 a a
 handed_self a = handed_none a a (record { each = λ s l y here. (y, here, hands_self y) })
 
 pub rest_hands : (a b : Known) → LanesRest a b → LanesHand (λ s. 0) a b
 rest_hands a b h = record { each = λ s l y here. let c = h.each s l y here in (c.0, c.1, fed_hands (a.set s) c.0 y c.2) }
 
-pub handed_on : (n m : ℕ) (a b c : Known) → Same a b → HandedOut n a b → HandedOut m b c → HandedOut (n + m) a c
+pub handed_on : (n m : ℕ) (a b c : Known) → Same a b → AllHandOut n a b → AllHandOut m b c → AllHandOut (n + m) a c
 handed_on n m a b c same h k = record {
   counts = λ s. h.counts s + k.counts s;
   total = let e = total_on a.lanes h.counts k.counts in let f = h.total in let g = subst (λ (lanes : ℕ). m ≤ total_to lanes k.counts) same.lanes k.total in omega (arith, e, f, g);
   each = lanes_hand_on h.counts k.counts a b c same h.each k.each;
 }
 
-pub handed_to : (n m : ℕ) (a b : Known) → n ≤ m → HandedOut m a b → HandedOut n a b
+pub handed_to : (n m : ℕ) (a b : Known) → n ≤ m → AllHandOut m a b → AllHandOut n a b
 handed_to n m a b le h = record { counts = h.counts; total = let t = h.total in omega (arith, le, t); each = h.each }
 
 -- ---- a take
@@ -169,7 +169,7 @@ lane_hands_less s n a b h = lane_hands_none s a b (record {
 pub lacked_hands : (s n : ℕ) (mark : Mark) (a b : Known) → LanePlays s (op.Take mark) (reply.Memory n) a b → LanesHand (λ k. 0) a b
 lacked_hands s n mark a b plays = lane_hands_none s a b (take_hands_at s 0 mark (reply.Memory n) a b (λ x y step. hands_same x y step.1) plays)
 
-pub unplayed_hands : (by : NotPlayed) (a b : Known) → Unplayed by a b → LanesHand (λ k. 0) a b
+pub unplayed_hands : (by : NotPlayed) (a b : Known) → WasNotPlayed by a b → LanesHand (λ k. 0) a b
 unplayed_hands by a b h = rest_hands a b h.rests.lanes
 
 -- a snap hands out none
@@ -223,7 +223,7 @@ module _ (n : ℕ) (lists more : List (List Item)) (items : List Item) (a b c : 
     ];
   }
 
-pub sizes_lacked : (lists : List (List Item)) (a b c : Known) → Same a b → LanesHand (sizes lists) a b → LanesHand (λ s. 0) b c → HandedOut 0 a c
+pub sizes_lacked : (lists : List (List Item)) (a b c : Known) → Same a b → LanesHand (sizes lists) a b → LanesHand (λ s. 0) b c → AllHandOut 0 a c
 sizes_lacked lists a b c same h k = handed_none a c (record {
   each = λ s l y here.
       let m = k.each s (is_lane a b s same l) y here in
@@ -243,7 +243,7 @@ total_joined (items ∷ lists) =
     let g = length-append items (joined lists) in
     omega (arith, e, f, g)
 
-pub handed_all : (lists : List (List Item)) (items : List Item) (a b : Known) → length lists ≡ a.lanes → items ≡ sorted_items (joined lists) → LanesHand (sizes lists) a b → HandedOut (length items) a b
+pub handed_all : (lists : List (List Item)) (items : List Item) (a b : Known) → length lists ≡ a.lanes → items ≡ sorted_items (joined lists) → LanesHand (sizes lists) a b → AllHandOut (length items) a b
 handed_all lists items a b count e h = record {
   counts = sizes lists;
   total =
@@ -255,7 +255,7 @@ handed_all lists items a b count e h = record {
 }
 
 -- so none at least
-pub sizes_handed : (lists : List (List Item)) (a b : Known) → LanesHand (sizes lists) a b → HandedOut 0 a b
+pub sizes_handed : (lists : List (List Item)) (a b : Known) → LanesHand (sizes lists) a b → AllHandOut 0 a b
 sizes_handed lists a b h = record {
   counts = sizes lists;
   total = omega arith;

@@ -16,8 +16,8 @@ use Rattle.eql_conductor.specs.declared.note.Note.{Note}
 use Rattle.eql_conductor.specs.declared.note.Note.TheVariants as note
 use Rattle.eql_conductor.specs.declared.bench.NotPlayed.{NotPlayed}
 use Rattle.eql_conductor.specs.Notes.{lane_note}
-use Rattle.eql_conductor.specs.Benches.{Known, Same, LaneNotesStay, PartNotesStay, LanePlays, Unplayed}
-use Rattle.eql_conductor.specs.RoundNotes.{low_at, GrewFront, LanesNoted, LanesBroken, LaneNoted, LaneBroken, NotedTo, LooksNoted, LooksBroken, LookedTo}
+use Rattle.eql_conductor.specs.Benches.{Known, Same, LaneNotesStay, PartNotesStay, LanePlays, WasNotPlayed}
+use Rattle.eql_conductor.specs.RoundNotes.{low_at, GrewFront, NotesLanes, NotesLanesFront, NotesLane, NotesLaneFront, NotesLanesTo, NotesLooks, NotesLooksFront, NotesLooksTo}
 use Rattle.eql_conductor.proofs.MarkOrder.{at_most_other}
 use Rattle.eql_conductor.proofs.Resting.{same_or, is_lane, is_part}
 
@@ -45,51 +45,51 @@ pub front_all : (old more new : List Note) → new ≡ old ++ more → GrewFront
 front_all old more new e = (length more, e ∙ ap (λ (l : List Note). old ++ l) (sym (take_all (length more) more (omega arith))))
 
 -- ---- one call
-pub lane_noted : (s : ℕ) (o : LaneOp) (answer : LaneReply) (a b : Known) → LanePlays s o answer a b → LaneNoted s (lane_note o answer ∷ []) a b
+pub lane_noted : (s : ℕ) (o : LaneOp) (answer : LaneReply) (a b : Known) → LanePlays s o answer a b → NotesLane s (lane_note o answer ∷ []) a b
 lane_noted s o answer a b plays = record { grew = plays.note; others = plays.other_notes; parts = plays.part_notes }
 
-pub noted_broken : (s : ℕ) (more : List Note) (a b : Known) → LaneNoted s more a b → LaneBroken s more a b
+pub noted_broken : (s : ℕ) (more : List Note) (a b : Known) → NotesLane s more a b → NotesLaneFront s more a b
 noted_broken s more a b h = record {
   n = length more;
-  noted = subst (λ (l : List Note). LaneNoted s l a b) (sym (take_all (length more) more (omega arith))) h;
+  noted = subst (λ (l : List Note). NotesLane s l a b) (sym (take_all (length more) more (omega arith))) h;
 }
 
-pub unplayed_noted : (s : ℕ) (by : NotPlayed) (a b : Known) → s < a.lanes → Unplayed by a b → LaneNoted s [] a b
+pub unplayed_noted : (s : ℕ) (by : NotPlayed) (a b : Known) → s < a.lanes → WasNotPlayed by a b → NotesLane s [] a b
 unplayed_noted s by a b l h = record {
   grew = h.lane_notes.each s l ∙ sym (append-nil (a.lane_notes s));
   others = λ k here apart. h.lane_notes.each k here;
   parts = h.part_notes;
 }
 
-pub none_broken : (s : ℕ) (more : List Note) (a b : Known) → LaneNoted s [] a b → LaneBroken s more a b
+pub none_broken : (s : ℕ) (more : List Note) (a b : Known) → NotesLane s [] a b → NotesLaneFront s more a b
 none_broken s more a b h = record { n = 0; noted = h }
 
-pub unplayed_broken : (s : ℕ) (more : List Note) (by : NotPlayed) (a b : Known) → s < a.lanes → Unplayed by a b → LaneBroken s more a b
+pub unplayed_broken : (s : ℕ) (more : List Note) (by : NotPlayed) (a b : Known) → s < a.lanes → WasNotPlayed by a b → NotesLaneFront s more a b
 unplayed_broken s more by a b l h = none_broken s more a b (unplayed_noted s by a b l h)
 
-pub fed_noted : (s max : ℕ) (answer : LaneReply) (a b : Known) → LanePlays s (op.Feed max) answer a b → LaneNoted s (note.Fed max ∷ []) a b
+pub fed_noted : (s max : ℕ) (answer : LaneReply) (a b : Known) → LanePlays s (op.Feed max) answer a b → NotesLane s (note.Fed max ∷ []) a b
 fed_noted s max answer a b plays = lane_noted s (op.Feed max) answer a b plays
 
-pub fed_broken : (s max : ℕ) (answer : LaneReply) (a b : Known) → LanePlays s (op.Feed max) answer a b → LaneBroken s (note.Fed max ∷ []) a b
+pub fed_broken : (s max : ℕ) (answer : LaneReply) (a b : Known) → LanePlays s (op.Feed max) answer a b → NotesLaneFront s (note.Fed max ∷ []) a b
 fed_broken s max answer a b plays = noted_broken s (note.Fed max ∷ []) a b (fed_noted s max answer a b plays)
 
-pub looked_noted : (s : ℕ) (mark : Mark) (a b : Known) → LanePlays s op.Look (reply.Low mark) a b → LaneNoted s (note.Looked mark ∷ []) a b
+pub looked_noted : (s : ℕ) (mark : Mark) (a b : Known) → LanePlays s op.Look (reply.Low mark) a b → NotesLane s (note.Looked mark ∷ []) a b
 looked_noted s mark a b plays = lane_noted s op.Look (reply.Low mark) a b plays
 
-pub took_noted : (s : ℕ) (mark : Mark) (answer : LaneReply) (a b : Known) → LanePlays s (op.Take mark) answer a b → LaneNoted s (note.Took mark ∷ []) a b
+pub took_noted : (s : ℕ) (mark : Mark) (answer : LaneReply) (a b : Known) → LanePlays s (op.Take mark) answer a b → NotesLane s (note.Took mark ∷ []) a b
 took_noted s mark answer a b plays = lane_noted s (op.Take mark) answer a b plays
 
-pub took_broken : (s : ℕ) (mark : Mark) (answer : LaneReply) (a b : Known) → LanePlays s (op.Take mark) answer a b → LaneBroken s (note.Took mark ∷ []) a b
+pub took_broken : (s : ℕ) (mark : Mark) (answer : LaneReply) (a b : Known) → LanePlays s (op.Take mark) answer a b → NotesLaneFront s (note.Took mark ∷ []) a b
 took_broken s mark answer a b plays = noted_broken s (note.Took mark ∷ []) a b (took_noted s mark answer a b plays)
 
-pub snapped_noted : (s : ℕ) (answer : LaneReply) (a b : Known) → LanePlays s op.Snap answer a b → LaneNoted s (note.Snapped ∷ []) a b
+pub snapped_noted : (s : ℕ) (answer : LaneReply) (a b : Known) → LanePlays s op.Snap answer a b → NotesLane s (note.Snapped ∷ []) a b
 snapped_noted s answer a b plays = lane_noted s op.Snap answer a b plays
 
-pub snapped_broken : (s : ℕ) (answer : LaneReply) (a b : Known) → LanePlays s op.Snap answer a b → LaneBroken s (note.Snapped ∷ []) a b
+pub snapped_broken : (s : ℕ) (answer : LaneReply) (a b : Known) → LanePlays s op.Snap answer a b → NotesLaneFront s (note.Snapped ∷ []) a b
 snapped_broken s answer a b plays = noted_broken s (note.Snapped ∷ []) a b (snapped_noted s answer a b plays)
 
 -- ---- a loop
-pub noted_none : (more : ℕ → List Note) (a : Known) → NotedTo 0 more a a
+pub noted_none : (more : ℕ → List Note) (a : Known) → NotesLanesTo 0 more a a
 noted_none more a = record {
   done = λ s l below. absurd (omega (arith, below));
   left = λ s l above. refl;
@@ -97,23 +97,23 @@ noted_none more a = record {
 }
 
 -- the lanes below n don't tell what the others are to have
-pub noted_with : (n : ℕ) (more next : ℕ → List Note) (a b : Known) → ((k : ℕ) → k < n → next k ≡ more k) → NotedTo n more a b → NotedTo n next a b
+pub noted_with : (n : ℕ) (more next : ℕ → List Note) (a b : Known) → ((k : ℕ) → k < n → next k ≡ more k) → NotesLanesTo n more a b → NotesLanesTo n next a b
 noted_with n more next a b e h = record {
   done = λ s l below. h.done s l below ∙ ap (λ (l : List Note). a.lane_notes s ++ l) (sym (e s below));
   left = h.left;
   parts = h.parts;
 }
 
-module _ (n : ℕ) (more : ℕ → List Note) (a b c : Known) (same : Same a b) (h : NotedTo n more a b) where
-  grew_at : (next : List Note) → LaneNoted n next b c → (s : ℕ) → s < a.lanes → s ≡ n → c.lane_notes s ≡ a.lane_notes s ++ next
+module _ (n : ℕ) (more : ℕ → List Note) (a b c : Known) (same : Same a b) (h : NotesLanesTo n more a b) where
+  grew_at : (next : List Note) → NotesLane n next b c → (s : ℕ) → s < a.lanes → s ≡ n → c.lane_notes s ≡ a.lane_notes s ++ next
   grew_at next one s l e =
       subst (λ (j : ℕ). c.lane_notes j ≡ a.lane_notes j ++ next) (sym e)
       (one.grew ∙ ap (λ (l : List Note). l ++ next) (h.left n (subst (λ (j : ℕ). j < a.lanes) e l) (omega arith)))
 
-  others_at : (next : List Note) → LaneNoted n next b c → (s : ℕ) → s < a.lanes → s ≢ n → c.lane_notes s ≡ b.lane_notes s
+  others_at : (next : List Note) → NotesLane n next b c → (s : ℕ) → s < a.lanes → s ≢ n → c.lane_notes s ≡ b.lane_notes s
   others_at next one s l apart = one.others s (is_lane a b s same l) apart
 
-  pub noted_more : LaneNoted n (more n) b c → NotedTo (n + 1) more a c
+  pub noted_more : NotesLane n (more n) b c → NotesLanesTo (n + 1) more a c
   noted_more one = record {
     done = λ s l below. elim (same_or s n) [
       | inl e ↦ grew_at (more n) one s l e ∙ ap (λ (j : ℕ). a.lane_notes s ++ more j) (sym e)
@@ -129,7 +129,7 @@ module _ (n : ℕ) (more : ℕ → List Note) (a b c : Known) (same : Same a b) 
     | inr above ↦ front_none (a.lane_notes s) (more s) (c.lane_notes s) (e ∙ h.left s l above)
   ]
 
-  pub loop_broken : LaneBroken n (more n) b c → LanesBroken more a c
+  pub loop_broken : NotesLaneFront n (more n) b c → NotesLanesFront more a c
   loop_broken one = record {
     lanes = record {
       each = λ s l. elim (same_or s n) [
@@ -140,13 +140,13 @@ module _ (n : ℕ) (more : ℕ → List Note) (a b c : Known) (same : Same a b) 
     parts = parts_stay_on a b c same h.parts one.noted.parts;
   }
 
-pub noted_all : (n : ℕ) (more : ℕ → List Note) (a b : Known) → n ≡ a.lanes → NotedTo n more a b → LanesNoted more a b
+pub noted_all : (n : ℕ) (more : ℕ → List Note) (a b : Known) → n ≡ a.lanes → NotesLanesTo n more a b → NotesLanes more a b
 noted_all n more a b e h = record {
   lanes = record { each = λ s l. h.done s l (subst (λ (m : ℕ). s < m) (sym e) l) };
   parts = h.parts;
 }
 
-pub lanes_broken : (more : ℕ → List Note) (a b : Known) → LanesNoted more a b → LanesBroken more a b
+pub lanes_broken : (more : ℕ → List Note) (a b : Known) → NotesLanes more a b → NotesLanesFront more a b
 lanes_broken more a b h = record {
   lanes = record { each = λ s l. front_all (a.lane_notes s) (more s) (b.lane_notes s) (h.lanes.each s l) };
   parts = h.parts;
@@ -189,31 +189,31 @@ looked lows s = note.Looked (low_at lows s) ∷ []
 looked_same : (lows more : List Mark) (k : ℕ) → k < length lows → looked (lows ++ more) k ≡ looked lows k
 looked_same lows more k below = ap (λ (m : Mark). note.Looked m ∷ []) (get_or_append_left lows more End k below)
 
-pub looked_none : (a : Known) → LookedTo 0 End a a
+pub looked_none : (a : Known) → NotesLooksTo 0 End a a
 looked_none a = record { lows = []; count = refl; least = refl; noted = noted_none (looked []) a }
 
-module _ (n : ℕ) (mark : Mark) (a b c : Known) (same : Same a b) (h : LookedTo n mark a b) where
-  was_looked : (more : List Mark) → NotedTo n (looked (h.lows ++ more)) a b
+module _ (n : ℕ) (mark : Mark) (a b c : Known) (same : Same a b) (h : NotesLooksTo n mark a b) where
+  was_looked : (more : List Mark) → NotesLanesTo n (looked (h.lows ++ more)) a b
   was_looked more =
       noted_with n (looked h.lows) (looked (h.lows ++ more)) a b (λ k below. looked_same h.lows more k (let e = h.count in omega (arith, e, below))) h.noted
 
-  pub looked_more : (low : Mark) → LaneNoted n (note.Looked low ∷ []) b c → LookedTo (n + 1) (lesser mark low) a c
+  pub looked_more : (low : Mark) → NotesLane n (note.Looked low ∷ []) b c → NotesLooksTo (n + 1) (lesser mark low) a c
   looked_more low one = record {
     lows = h.lows ++ low ∷ [];
     count = let e = length-append h.lows (low ∷ []) in let f = h.count in omega (arith, e, f);
     least = ap (λ (m : Mark). lesser m low) h.least ∙ sym (least_push h.lows low);
     noted = noted_more n (looked (h.lows ++ low ∷ [])) a b c same (was_looked (low ∷ []))
-        (subst (λ (m : Mark). LaneNoted n (note.Looked m ∷ []) b c) (sym (get_or_push h.lows low End n h.count)) one);
+        (subst (λ (m : Mark). NotesLane n (note.Looked m ∷ []) b c) (sym (get_or_push h.lows low End n h.count)) one);
   }
 
-  pub looked_broken : n ≤ a.lanes → LaneNoted n [] b c → LooksBroken a c
+  pub looked_broken : n ≤ a.lanes → NotesLane n [] b c → NotesLooksFront a c
   looked_broken to one = let rest : List Mark = replicate (a.lanes - n) End in record {
     lows = h.lows ++ rest;
     count = let e = length-append h.lows rest in let f = h.count in let g = length-replicate (a.lanes - n) End in omega (arith, e, f, g, to);
     noted = loop_broken n (looked (h.lows ++ rest)) a b c same (was_looked rest) (none_broken n (looked (h.lows ++ rest) n) b c one);
   }
 
-pub looked_all : (n : ℕ) (mark : Mark) (a b : Known) → n ≡ a.lanes → LookedTo n mark a b → LooksNoted a b mark
+pub looked_all : (n : ℕ) (mark : Mark) (a b : Known) → n ≡ a.lanes → NotesLooksTo n mark a b → NotesLooks a b mark
 looked_all n mark a b e h = record {
   lows = h.lows;
   count = h.count ∙ e;

@@ -10,7 +10,7 @@ use Rattle.eql_lane.specs.declared.ops.LaneReply.TheVariants as reply
 use Rattle.eql_lane.specs.declared.ops.LimitOf.TheVariants as limit
 use Rattle.eql_lane.specs.Lanes.{Setting, LaneState, low, lesser}
 use Rattle.eql_conductor.specs.declared.stop.Stop.TheVariants as stop
-use Rattle.eql_conductor.specs.Benches.{Known, FedOn, LanePlays, Rests}
+use Rattle.eql_conductor.specs.Benches.{Known, ComesByFeeds, LanePlays, Rests}
 use Rattle.eql_conductor.specs.Going.{LanesGo, StopsBy}
 use Rattle.eql_conductor.specs.LaneRounds.{IsSafe, IsSafeAt, SafeTo}
 use Rattle.eql_conductor.proofs.MarkOrder.{lesser_left, lesser_low}
@@ -41,7 +41,7 @@ look_rests s mark a b plays = record {
   same = plays.same;
   lanes = lane_rests s a b (λ y here.
       let c = plays.called y here in
-      (c.first, c.was, subst (λ (z : LaneState). FedOn (a.set s) c.first z) (sym c.step.1) c.fed)) plays.others;
+      (c.first, c.was, subst (λ (z : LaneState). ComesByFeeds (a.set s) c.first z) (sym c.step.1) c.fed)) plays.others;
   parts = plays.parts;
 }
 

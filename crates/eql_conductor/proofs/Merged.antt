@@ -8,7 +8,7 @@ use Rattle.eql_values.specs.declared.found.Holder.{Holder}
 use Rattle.eql_values.specs.declared.order.Mark.{Mark}
 use Rattle.eql_values.specs.declared.order.OrderKey.{OrderKey}
 use Rattle.eql_values.specs.Accepted.{Reads, accepted, sorted_items}
-use Rattle.eql_values.specs.Ascending.{Ascending}
+use Rattle.eql_values.specs.Ascending.{Ascend}
 use Rattle.eql_values.specs.Marks.{is_below}
 use Rattle.eql_values.specs.OrderKeys.{order_cmp}
 use Rattle.eql_values.specs.Ordered.{numbers}
@@ -38,9 +38,9 @@ module _ (texts : Option (List (List ℕ))) (last mark : Mark) (b : Known) where
   all_joined P s [] each h = All-nil P
   all_joined P s (items ∷ lists) each h = All-append P items (joined lists) (each s items h.0) (all_joined P (s + 1) lists each h.1)
 
-  pub hands_ascend : (s : ℕ) (lists : List (List Item)) → HandsFrom texts last mark b s lists → All Ascending lists
-  hands_ascend s [] h = All-nil Ascending
-  hands_ascend s (items ∷ lists) h = All-cons Ascending items lists h.0.ascends (hands_ascend (s + 1) lists h.1)
+  pub hands_ascend : (s : ℕ) (lists : List (List Item)) → HandsFrom texts last mark b s lists → All Ascend lists
+  hands_ascend s [] h = All-nil Ascend
+  hands_ascend s (items ∷ lists) h = All-cons Ascend items lists h.0.ascends (hands_ascend (s + 1) lists h.1)
 
   abbrev shard_of : OrderKey → ℕ
   shard_of k = k.shard
@@ -63,14 +63,14 @@ module _ (texts : Option (List (List ℕ))) (last mark : Mark) (b : Known) where
     hands_apart (s + 1) n lists (omega (arith, e)) le are h.1,
   )
 
-  pub all_ascend : (lists : List (List Item)) → AllHandOver texts last mark b lists → All Ascending lists
+  pub all_ascend : (lists : List (List Item)) → AllHandOver texts last mark b lists → All Ascend lists
   all_ascend lists h = hands_ascend 0 lists h.each
 
   pub all_apart : (lists : List (List Item)) → AreLanes b → AllHandOver texts last mark b lists → AllApart lists
   all_apart lists are h = hands_apart 0 b.lanes lists (let e = h.count in omega (arith, e)) (omega arith) are h.each
 
   -- put in order they may be delivered
-  pub can_deliver : (lists : List (List Item)) (items : List Item) → AtMost last mark → items ≡ sorted_items (joined lists) → Ascending items → AllHandOver texts last mark b lists → CanDeliver last items mark
+  pub can_deliver : (lists : List (List Item)) (items : List Item) → AtMost last mark → items ≡ sorted_items (joined lists) → Ascend items → AllHandOver texts last mark b lists → CanDeliver last items mark
   can_deliver lists items later e asc h = record {
     rises = later;
     ascends = asc;
@@ -116,13 +116,13 @@ module _ (reads : Reads) (slack : Option ℤ) (last mark : Mark) (b : Known) (ar
       ∙ between_by_shard reads slack texts last mark
 
 -- ---- what the parts found
-pub lists_in_order : (rules : Rules) (all : List Holder) (items : List Item) (lists : List (List Match)) → Ascending items → lists ≡ map (found_of rules all items) (numbers 16) → All InMatchOrder lists
+pub lists_in_order : (rules : Rules) (all : List Holder) (items : List Item) (lists : List (List Match)) → Ascend items → lists ≡ map (found_of rules all items) (numbers 16) → All InMatchOrder lists
 lists_in_order rules all items lists asc e = subst (All InMatchOrder) (sym e) (rounds_find rules all items asc).in_order
 
-pub lists_apart : (rules : Rules) (all : List Holder) (items : List Item) (lists : List (List Match)) → Ascending items → lists ≡ map (found_of rules all items) (numbers 16) → MatchesApart lists
+pub lists_apart : (rules : Rules) (all : List Holder) (items : List Item) (lists : List (List Match)) → Ascend items → lists ≡ map (found_of rules all items) (numbers 16) → MatchesApart lists
 lists_apart rules all items lists asc e = subst MatchesApart (sym e) (rounds_find rules all items asc).apart
 
-pub found_is : (rules : Rules) (all : List Holder) (items : List Item) (lists : List (List Match)) (found : List Match) → Ascending items
+pub found_is : (rules : Rules) (all : List Holder) (items : List Item) (lists : List (List Match)) (found : List Match) → Ascend items
     → lists ≡ map (found_of rules all items) (numbers 16) → found ≡ in_match_order (joined lists) → found ≡ found_by rules all items
 found_is rules all items lists found asc e is =
     is ∙ ap (λ (l : List (List Match)). in_match_order (joined l)) e ∙ (rounds_find rules all items asc).merged

@@ -3,8 +3,8 @@ use Rattle.std.proofs.Common.{◌∷◌, ℕ, List, [], ◌∙◌, arith}
 use Rattle.eql_conductor.specs.declared.note.Note.{Note}
 use Rattle.eql_conductor.specs.declared.note.Note.TheVariants as note
 use Rattle.eql_conductor.specs.Benches.{Known, Rests}
-use Rattle.eql_conductor.specs.RoundNotes.{LanesNoted, LanesBroken, PartsNoted, PartsPlayed, delivered_to}
-use Rattle.eql_conductor.specs.RunNotes.{SaveNoted, SaveBroken}
+use Rattle.eql_conductor.specs.RoundNotes.{NotesLanes, NotesLanesFront, NotesParts, PlaysParts, delivered_to}
+use Rattle.eql_conductor.specs.RunNotes.{NotesSave, NotesSaveFront}
 use Rattle.eql_conductor.proofs.Resting.{is_lane}
 use Rattle.eql_conductor.proofs.LaneNotes.{front_all}
 use Rattle.eql_conductor.proofs.PartNotes.{grew_to}
@@ -14,32 +14,32 @@ use Rattle.eql_conductor.proofs.NotedRounds.{none_played, played_after, rests_ha
 abbrev pub snap_each : ℕ → List Note
 snap_each s = note.Snapped ∷ []
 
-pub save_breaks : (a b : Known) → SaveNoted a b → SaveBroken a b
+pub save_breaks : (a b : Known) → NotesSave a b → NotesSaveFront a b
 save_breaks a b h = record {
   lanes = record { each = λ s l. front_all (a.lane_notes s) (snap_each s) (b.lane_notes s) (h.lanes.each s l) };
   parts = h.parts;
 }
 
 -- it broke off at a lane
-pub snapping_broken : (a b : Known) → Rests a b → LanesBroken snap_each a b → SaveBroken a b
+pub snapping_broken : (a b : Known) → Rests a b → NotesLanesFront snap_each a b → NotesSaveFront a b
 snapping_broken a b rests h = record { lanes = h.lanes; parts = none_played 1 a b (rests_handed a b rests) h.parts }
 
 -- parts played none of the events of a round
-parts_snapped : (a b : Known) → Rests a b → PartsNoted (λ p. 0) 1 a b → PartsPlayed 1 a b
+parts_snapped : (a b : Known) → Rests a b → NotesParts (λ p. 0) 1 a b → PlaysParts 1 a b
 parts_snapped a b rests h = record {
   items = [];
   handed = rests_handed a b rests;
   parts = record { each = λ p l. grew_to 0 1 (delivered_to [] p) 1 (a.part_notes p) (b.part_notes p) (omega arith) (omega arith) (h.parts.each p l) };
 }
 
-module _ (a b c : Known) (rests : Rests a b) (then : Rests b c) (lanes : LanesNoted snap_each a b) (parts : PartsNoted (λ p. 0) 1 b c) where
+module _ (a b c : Known) (rests : Rests a b) (then : Rests b c) (lanes : NotesLanes snap_each a b) (parts : NotesParts (λ p. 0) 1 b c) where
   -- of lanes and parts
-  pub save_noted : SaveNoted a c
+  pub save_noted : NotesSave a c
   save_noted = record {
     lanes = record { each = λ s l. parts.lanes.each s (is_lane a b s rests.same l) ∙ lanes.lanes.each s l };
     parts = played_after 1 a b c rests.same (rests_handed a b rests) lanes.parts (parts_snapped b c then parts);
   }
 
   -- it broke off behind the lanes
-  pub save_broken : SaveBroken a c
+  pub save_broken : NotesSaveFront a c
   save_broken = save_breaks a c save_noted

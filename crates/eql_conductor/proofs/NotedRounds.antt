@@ -11,8 +11,8 @@ use Rattle.eql_laws.specs.Lanes.{least_of}
 use Rattle.eql_conductor.specs.declared.note.Note.{Note}
 use Rattle.eql_conductor.specs.declared.note.Note.TheVariants as note
 use Rattle.eql_conductor.specs.Benches.{Known, Same, LanesRest, PartNotesStay, Rests}
-use Rattle.eql_conductor.specs.Handed.{HandedOut}
-use Rattle.eql_conductor.specs.RoundNotes.{low_at, counted, took, lane_round, LanesGrow, GrewFront, LanesNoted, LanesBroken, LooksNoted, LooksBroken, GrewBy, PartsNoted, PartsPlayed, AdvanceNoted, AdvanceBroken, RoundNoted, RoundBroken, delivered_to}
+use Rattle.eql_conductor.specs.Handed.{AllHandOut}
+use Rattle.eql_conductor.specs.RoundNotes.{low_at, counted, took, lane_round, LanesGrow, GrewFront, NotesLanes, NotesLanesFront, NotesLooks, NotesLooksFront, GrewBy, NotesParts, PlaysParts, NotesAdvance, NotesAdvanceFront, NotesRound, NotesRoundFront, delivered_to}
 use Rattle.eql_conductor.proofs.Resting.{same_on, is_lane, is_part}
 use Rattle.eql_conductor.proofs.LaneNotes.{below_or, front_all, parts_stay_on}
 use Rattle.eql_conductor.proofs.PartNotes.{grew_none}
@@ -50,14 +50,14 @@ counted_is last mark lows le e h =
     ∙ ap (λ (m : Mark). cond le None (Some m)) (sym e)
 
 -- ---- parts
-pub none_played : (others : ℕ) (a b : Known) → HandedOut 0 a b → PartNotesStay a b → PartsPlayed others a b
+pub none_played : (others : ℕ) (a b : Known) → AllHandOut 0 a b → PartNotesStay a b → PlaysParts others a b
 none_played others a b handed h = record {
   items = [];
   handed = handed;
   parts = record { each = λ p l. grew_none (delivered_to [] p) others (a.part_notes p) (b.part_notes p) (h.each p l) };
 }
 
-pub played_after : (others : ℕ) (a b c : Known) → Same a b → HandedOut 0 a b → PartNotesStay a b → PartsPlayed others b c → PartsPlayed others a c
+pub played_after : (others : ℕ) (a b c : Known) → Same a b → AllHandOut 0 a b → PartNotesStay a b → PlaysParts others b c → PlaysParts others a c
 played_after others a b c same handed stay h = record {
   items = h.items;
   handed = handed_to (length h.items) (0 + length h.items) a c (omega arith) (handed_on 0 (length h.items) a b c same handed h.handed);
@@ -68,12 +68,12 @@ played_after others a b c same handed stay h = record {
 }
 
 -- ---- what lies below a mark was taken and played
-module _ (mark : Mark) (items : List Item) (a b c : Known) (same : Same a b) (handed : HandedOut (length items) a b) (took_all : LanesNoted (λ s. note.Took mark ∷ []) a b)
-    (rest : LanesRest b c) (played : PartsNoted (delivered_to items) 3 b c) where
+module _ (mark : Mark) (items : List Item) (a b c : Known) (same : Same a b) (handed : AllHandOut (length items) a b) (took_all : NotesLanes (λ s. note.Took mark ∷ []) a b)
+    (rest : LanesRest b c) (played : NotesParts (delivered_to items) 3 b c) where
   lanes_after : LanesGrow (λ s. note.Took mark ∷ []) a c
   lanes_after = record { each = λ s l. played.lanes.each s (is_lane a b s same l) ∙ took_all.lanes.each s l }
 
-  parts_after : PartsPlayed 3 a c
+  parts_after : PlaysParts 3 a c
   parts_after = record {
     items = items;
     handed = handed_to (length items) (length items + 0) a c (omega arith) (handed_on (length items) 0 a b c same handed (handed_none b c (rest_hands b c rest)));
@@ -83,23 +83,23 @@ module _ (mark : Mark) (items : List Item) (a b c : Known) (same : Same a b) (ha
     };
   }
 
-  pub advance_noted : AdvanceNoted mark a c
+  pub advance_noted : NotesAdvance mark a c
   advance_noted = record { lanes = lanes_after; parts = parts_after }
 
-  pub advance_broken : AdvanceBroken mark a c
+  pub advance_broken : NotesAdvanceFront mark a c
   advance_broken = record {
     lanes = record { each = λ s l. front_all (a.lane_notes s) (note.Took mark ∷ []) (c.lane_notes s) (lanes_after.each s l) };
     parts = parts_after;
   }
 
-pub taking_broken : (mark : Mark) (a b : Known) → HandedOut 0 a b → LanesBroken (λ s. note.Took mark ∷ []) a b → AdvanceBroken mark a b
+pub taking_broken : (mark : Mark) (a b : Known) → AllHandOut 0 a b → NotesLanesFront (λ s. note.Took mark ∷ []) a b → NotesAdvanceFront mark a b
 taking_broken mark a b handed h = record { lanes = h.lanes; parts = none_played 3 a b handed h.parts }
 
 -- ---- a round
-pub rests_handed : (a b : Known) → Rests a b → HandedOut 0 a b
+pub rests_handed : (a b : Known) → Rests a b → AllHandOut 0 a b
 rests_handed a b h = handed_none a b (rest_hands a b h.lanes)
 
-pub feeding_broken : (last : Mark) (batch : ℕ) (a b : Known) → Rests a b → LanesBroken (λ s. note.Fed batch ∷ []) a b → RoundBroken last batch a b
+pub feeding_broken : (last : Mark) (batch : ℕ) (a b : Known) → Rests a b → NotesLanesFront (λ s. note.Fed batch ∷ []) a b → NotesRoundFront last batch a b
 feeding_broken last batch a b rests h = let lows : List Mark = replicate a.lanes End in record {
   lows = lows;
   count = length-replicate a.lanes End;
@@ -110,11 +110,11 @@ feeding_broken last batch a b rests h = let lows : List Mark = replicate a.lanes
   parts = none_played 3 a b (rests_handed a b rests) h.parts;
 }
 
-module _ (last : Mark) (batch : ℕ) (a b c : Known) (rests : Rests a b) (then : Rests b c) (fed : LanesNoted (λ s. note.Fed batch ∷ []) a b) where
-  both_handed : HandedOut 0 a c
+module _ (last : Mark) (batch : ℕ) (a b c : Known) (rests : Rests a b) (then : Rests b c) (fed : NotesLanes (λ s. note.Fed batch ∷ []) a b) where
+  both_handed : AllHandOut 0 a c
   both_handed = handed_on 0 0 a b c rests.same (rests_handed a b rests) (rests_handed b c then)
 
-  pub looking_broken : LooksBroken b c → RoundBroken last batch a c
+  pub looking_broken : NotesLooksFront b c → NotesRoundFront last batch a c
   looking_broken h = record {
     lows = h.lows;
     count = h.count ∙ rests.same.lanes;
@@ -126,7 +126,7 @@ module _ (last : Mark) (batch : ℕ) (a b c : Known) (rests : Rests a b) (then :
     parts = none_played 3 a c both_handed (parts_stay_on a b c rests.same fed.parts h.noted.parts);
   }
 
-  module _ (mark : Mark) (looked : LooksNoted b c mark) where
+  module _ (mark : Mark) (looked : NotesLooks b c mark) where
     looked_at : (s : ℕ) → s < a.lanes → c.lane_notes s ≡ a.lane_notes s ++ note.Fed batch ∷ note.Looked (low_at looked.lows s) ∷ []
     looked_at s l =
         looked.noted.lanes.each s (is_lane a b s rests.same l) ∙ ap (λ (x : List Note). x ++ note.Looked (low_at looked.lows s) ∷ []) (fed.lanes.each s l)
@@ -136,7 +136,7 @@ module _ (last : Mark) (batch : ℕ) (a b c : Known) (rests : Rests a b) (then :
     parts_stood = parts_stay_on a b c rests.same fed.parts looked.noted.parts
 
     -- it doesn't count
-    pub round_passes : is_le (mark_cmp mark last) ≡ true → RoundNoted last batch a c None
+    pub round_passes : is_le (mark_cmp mark last) ≡ true → NotesRound last batch a c None
     round_passes le = let counts = counted_is last mark looked.lows true looked.least le in record {
       lows = looked.lows;
       count = looked.count ∙ rests.same.lanes;
@@ -153,7 +153,7 @@ module _ (last : Mark) (batch : ℕ) (a b c : Known) (rests : Rests a b) (then :
       same_looked = same_on a b c rests.same then.same
 
       -- it counts
-      pub round_noted : AdvanceNoted mark c d → RoundNoted last batch a d (Some mark)
+      pub round_noted : NotesAdvance mark c d → NotesRound last batch a d (Some mark)
       round_noted h = record {
         lows = looked.lows;
         count = looked.count ∙ rests.same.lanes;
@@ -167,7 +167,7 @@ module _ (last : Mark) (batch : ℕ) (a b c : Known) (rests : Rests a b) (then :
         parts = played_after 3 a c d same_looked both_handed parts_stood h.parts;
       }
 
-      pub round_broken : AdvanceBroken mark c d → RoundBroken last batch a d
+      pub round_broken : NotesAdvanceFront mark c d → NotesRoundFront last batch a d
       round_broken h = record {
         lows = looked.lows;
         count = looked.count ∙ rests.same.lanes;

@@ -9,8 +9,8 @@ use Rattle.eql_conductor.specs.declared.note.Note.{Note}
 use Rattle.eql_conductor.specs.declared.note.Note.TheVariants as note
 use Rattle.eql_conductor.specs.Benches.{Known, Same}
 use Rattle.eql_laws.specs.Apart.{joined}
-use Rattle.eql_conductor.specs.RoundNotes.{low_at, counted, took, lane_round, LanesGrow, GrewFront, GrewInRounds, LanesInRounds, PartsInRounds, PartsPlayed, RoundNoted, RoundBroken, delivered_to, others_in}
-use Rattle.eql_conductor.specs.RunNotes.{BeginBeforeEnd, Place, moved, next_place, place_after, cut_after, cut_due, listed, cut_times, snapped, round_notes, rounds_notes, RoundPlayed, RoundBrokeOff, RoundsPlayed, RoundsBroken, CutNoted, SaveBroken}
+use Rattle.eql_conductor.specs.RoundNotes.{low_at, counted, took, lane_round, LanesGrow, GrewFront, GrewInRounds, LanesInRounds, PartsInRounds, PlaysParts, NotesRound, NotesRoundFront, delivered_to, others_in}
+use Rattle.eql_conductor.specs.RunNotes.{BeginBeforeEnd, Place, moved, next_place, place_after, cut_after, cut_due, listed, cut_times, snapped, round_notes, rounds_notes, PlaysRound, RoundBrokeOff, PlaysRounds, PlaysRoundsFront, NotesCut, NotesSaveFront}
 use Rattle.eql_conductor.proofs.Resting.{is_lane, is_part}
 use Rattle.eql_conductor.proofs.Handing.{handed_on, handed_self, handed_to}
 use Rattle.eql_conductor.proofs.LaneNotes.{front_none}
@@ -117,7 +117,7 @@ module _ (batch : ℕ) (every : Option ℕ) where
   }
 
 -- ---- parts
-pub played_on : (m k : ℕ) (a b c : Known) → Same a b → PartsPlayed m a b → PartsPlayed k b c → PartsPlayed (m + k) a c
+pub played_on : (m k : ℕ) (a b c : Known) → Same a b → PlaysParts m a b → PlaysParts k b c → PlaysParts (m + k) a c
 played_on m k a b c same h n = record {
   items = h.items ++ n.items;
   handed = let e = length-append h.items n.items in
@@ -130,7 +130,7 @@ played_on m k a b c same h n = record {
   };
 }
 
-pub played_to : (m k : ℕ) (a b : Known) → m ≤ k → PartsPlayed m a b → PartsPlayed k a b
+pub played_to : (m k : ℕ) (a b : Known) → m ≤ k → PlaysParts m a b → PlaysParts k a b
 played_to m k a b le h = record {
   items = h.items;
   handed = h.handed;
@@ -139,10 +139,10 @@ played_to m k a b le h = record {
 
 -- ---- one round
 -- no cut, where none is due
-pub cut_none : (a b : Known) → LanesGrow (λ s. []) a b → PartsPlayed 1 a b → CutNoted None a b
+pub cut_none : (a b : Known) → LanesGrow (λ s. []) a b → PlaysParts 1 a b → NotesCut None a b
 cut_none a b lanes parts = record { lanes = lanes; parts = parts }
 
-pub cut_self : (a : Known) → CutNoted None a a
+pub cut_self : (a : Known) → NotesCut None a a
 cut_self a = record {
   lanes = record { each = λ s l. sym (append-nil (a.lane_notes s)) };
   parts = none_played 1 a a (handed_self a) (record { each = λ p l. refl });
@@ -150,7 +150,7 @@ cut_self a = record {
 
 module _ (batch : ℕ) (every : Option ℕ) (at : Place) (a b : Known) where
   -- it broke off
-  pub round_broke : RoundBroken at.mark batch a b → RoundBrokeOff batch every at [] a b
+  pub round_broke : NotesRoundFront at.mark batch a b → RoundBrokeOff batch every at [] a b
   round_broke h = record {
     lows = h.lows;
     count = h.count;
@@ -161,7 +161,7 @@ module _ (batch : ℕ) (every : Option ℕ) (at : Place) (a b : Known) where
     parts = played_to 3 4 a b (omega arith) h.parts;
   }
 
-  module _ (answer : Option Mark) (h : RoundNoted at.mark batch a b answer) (c : Known) (same : Same a b) where
+  module _ (answer : Option Mark) (h : NotesRound at.mark batch a b answer) (c : Known) (same : Same a b) where
     due_is : cut_after every (moved at answer).counts answer ≡ cut_due every at h.lows
     due_is = ap (λ (m : Option Mark). cut_after every (moved at m).counts m) h.counts
 
@@ -170,7 +170,7 @@ module _ (batch : ℕ) (every : Option ℕ) (at : Place) (a b : Known) where
 
     module _ (time : Option ℤ) (e : time ≡ cut_after every (moved at answer).counts answer) where
       -- and then a cut, where one is due
-      pub round_played : CutNoted time b c → RoundPlayed batch every at time a c answer
+      pub round_played : NotesCut time b c → PlaysRound batch every at time a c answer
       round_played cut = record {
         lows = h.lows;
         count = h.count;
@@ -193,7 +193,7 @@ module _ (batch : ℕ) (every : Option ℕ) (at : Place) (a b : Known) where
       at_most_one (inl none) = inl none
       at_most_one (inr one) = inr (one ∙ ap (λ (t : Option ℤ). listed t) (sym is_time))
 
-      pub keep_broke : SaveBroken b c → RoundBrokeOff batch every at times a c
+      pub keep_broke : NotesSaveFront b c → RoundBrokeOff batch every at times a c
       keep_broke broken = record {
         lows = h.lows;
         count = h.count;
@@ -210,7 +210,7 @@ module _ (batch : ℕ) (every : Option ℕ) (at : Place) (a b : Known) where
 abbrev IsOf : ℕ → List Mark → Type 0
 IsOf n lows = length lows ≡ n
 
-pub rounds_none : (batch : ℕ) (every : Option ℕ) (from : Place) (a : Known) → (h : RoundsPlayed batch every from from [] a a) × (length h.rounds ≡ 0)
+pub rounds_none : (batch : ℕ) (every : Option ℕ) (from : Place) (a : Known) → (h : PlaysRounds batch every from from [] a a) × (length h.rounds ≡ 0)
 rounds_none batch every from a = (
   record {
     rounds = [];
@@ -225,12 +225,12 @@ rounds_none batch every from a = (
   refl,
 )
 
-module _ (batch : ℕ) (every : Option ℕ) (from at : Place) (times : List ℤ) (a b : Known) (same : Same a b) (h : RoundsPlayed batch every from at times a b) where
+module _ (batch : ℕ) (every : Option ℕ) (from at : Place) (times : List ℤ) (a b : Known) (same : Same a b) (h : PlaysRounds batch every from at times a b) where
   abbrev so_far : Place
   so_far = place_after from h.rounds
 
-  module _ (c : Known) (played : PartsPlayed 4 b c) where
-    parts_so : (n : ℕ) → 4 * length h.rounds + 4 ≤ n → PartsPlayed n a c
+  module _ (c : Known) (played : PlaysParts 4 b c) where
+    parts_so : (n : ℕ) → 4 * length h.rounds + 4 ≤ n → PlaysParts n a c
     parts_so n le = played_to (4 * length h.rounds + 4) n a c le (played_on (4 * length h.rounds) 4 a b c same h.parts played)
 
     in_rounds_so : (n : ℕ) → n ≡ length h.rounds + 1 → PartsInRounds n a c
@@ -241,11 +241,11 @@ module _ (batch : ℕ) (every : Option ℕ) (from at : Place) (times : List ℤ)
     }
 
   -- one more
-  module _ (c : Known) (time : Option ℤ) (answer : Option Mark) (begins : at.mark ≢ End) (noted : RoundPlayed batch every at time b c answer) where
-    one : RoundPlayed batch every so_far time b c answer
-    one = subst (λ (q : Place). RoundPlayed batch every q time b c answer) h.to_is noted
+  module _ (c : Known) (time : Option ℤ) (answer : Option Mark) (begins : at.mark ≢ End) (noted : PlaysRound batch every at time b c answer) where
+    one : PlaysRound batch every so_far time b c answer
+    one = subst (λ (q : Place). PlaysRound batch every q time b c answer) h.to_is noted
 
-    pub rounds_more : (k : RoundsPlayed batch every from (moved at answer) (times ++ listed time) a c) × (length k.rounds ≡ length h.rounds + 1)
+    pub rounds_more : (k : PlaysRounds batch every from (moved at answer) (times ++ listed time) a c) × (length k.rounds ≡ length h.rounds + 1)
     rounds_more = let e = length-append h.rounds (one.lows ∷ []) in (
       record {
         rounds = h.rounds ++ one.lows ∷ [];
@@ -279,7 +279,7 @@ module _ (batch : ℕ) (every : Option ℕ) (from at : Place) (times : List ℤ)
     put_times last (inl none) = inl (ap (λ (l : List ℤ). times ++ l) none ∙ append-nil times ∙ h.times_are)
     put_times last (inr due) = inr ((λ i. h.times_are i ++ due i) ∙ sym (times_more every from h.rounds last))
 
-    pub rounds_broke : (k : RoundsBroken batch every from (times ++ more) a c) × (length k.rounds ≡ length h.rounds)
+    pub rounds_broke : (k : PlaysRoundsFront batch every from (times ++ more) a c) × (length k.rounds ≡ length h.rounds)
     rounds_broke = (
       record {
         rounds = h.rounds;
@@ -306,16 +306,16 @@ module _ (batch : ℕ) (every : Option ℕ) (from at : Place) (times : List ℤ)
     parts = none_played 4 b b (handed_self b) (record { each = λ p l. refl });
   }
 
-  pub rounds_end : (k : RoundsBroken batch every from (times ++ []) a b) × (length k.rounds ≡ length h.rounds)
+  pub rounds_end : (k : PlaysRoundsFront batch every from (times ++ []) a b) × (length k.rounds ≡ length h.rounds)
   rounds_end = rounds_broke b [] (inr h.lanes) nothing
 
 -- ---- lanes and parts, round by round
-pub lanes_in_rounds : (batch : ℕ) (every : Option ℕ) (from to : Place) (times : List ℤ) (a b : Known) (h : RoundsPlayed batch every from to times a b) → LanesInRounds (length h.rounds) a b
+pub lanes_in_rounds : (batch : ℕ) (every : Option ℕ) (from to : Place) (times : List ℤ) (a b : Known) (h : PlaysRounds batch every from to times a b) → LanesInRounds (length h.rounds) a b
 lanes_in_rounds batch every from to times a b h = record {
   each = λ s l. notes_in_rounds batch every from h.rounds s (a.lane_notes s) (b.lane_notes s) (h.lanes.each s l);
 }
 
-pub broken_in_rounds : (batch : ℕ) (every : Option ℕ) (from : Place) (times : List ℤ) (a b : Known) (h : RoundsBroken batch every from times a b) → LanesInRounds (suc (length h.rounds)) a b
+pub broken_in_rounds : (batch : ℕ) (every : Option ℕ) (from : Place) (times : List ℤ) (a b : Known) (h : PlaysRoundsFront batch every from times a b) → LanesInRounds (suc (length h.rounds)) a b
 broken_in_rounds batch every from times a b h = record {
   each = λ s l.
       let whole : List Note = a.lane_notes s ++ rounds_notes batch every from h.rounds s in

@@ -17,7 +17,7 @@ use Rattle.eql_conductor.specs.declared.bench.NotPlayed.{NotPlayed}
 use Rattle.eql_conductor.specs.declared.bench.NotPlayed.TheVariants as not_played
 use Rattle.eql_conductor.specs.declared.stop.Stop.{Stop}
 use Rattle.eql_conductor.specs.declared.stop.Stop.TheVariants as stop
-use Rattle.eql_conductor.specs.Benches.{Known, Same, FedTimes, FedOn, LanesRest, LanePlays, Unplayed}
+use Rattle.eql_conductor.specs.Benches.{Known, Same, FeedsTimes, ComesByFeeds, LanesRest, LanePlays, WasNotPlayed}
 use Rattle.eql_conductor.specs.Going.{Onward, LanesGo, Went, FaultRose, StopsBy, stop_by}
 use Rattle.eql_conductor.proofs.BoundsSteps.{gains_on, gains_self, reads_gain, reads_sized, take_gains, take_sized}
 use Rattle.eql_conductor.proofs.Lows.{feed_low}
@@ -104,12 +104,12 @@ step_onward set x (op.Take mark) answer y step = take_onward set x mark answer y
 step_onward set x op.Look answer y step = look_onward set x answer y step
 step_onward set x op.Snap answer y step = snap_onward set x answer y step
 
-fed_times_onward : (set : Setting) (n : ℕ) (x y : LaneState) → FedTimes set n x y → Onward set x y
+fed_times_onward : (set : Setting) (n : ℕ) (x y : LaneState) → FeedsTimes set n x y → Onward set x y
 fed_times_onward set zero x y h = onward_same set x y h
 fed_times_onward set (suc n) x y (mid, max, answer, step, rest) =
     onward_on set x mid y (feed_onward set x max answer mid step) (fed_times_onward set n mid y rest)
 
-pub fed_onward : (set : Setting) (x y : LaneState) → FedOn set x y → Onward set x y
+pub fed_onward : (set : Setting) (x y : LaneState) → ComesByFeeds set x y → Onward set x y
 fed_onward set x y h = fed_times_onward set h.0 x y h.1
 
 -- ---- all lanes
@@ -191,9 +191,9 @@ stops_on stop.Disk a b c go went h = absurd h
 stops_on stop.Memory a b c go went h = went_on a b c went h
 
 -- where an operation wasn't played
-pub unplayed_stops : (by : NotPlayed) (a b : Known) → Unplayed by a b → StopsBy (stop_by by) a b
+pub unplayed_stops : (by : NotPlayed) (a b : Known) → WasNotPlayed by a b → StopsBy (stop_by by) a b
 unplayed_stops (not_played.Worn word) a b h = (h.worn.1, h.failed)
 unplayed_stops not_played.Memory a b h = record { failed = h.failed; worn = h.worn }
 
-pub unplayed_goes : (by : NotPlayed) (a b : Known) → Unplayed by a b → LanesGo a b
+pub unplayed_goes : (by : NotPlayed) (a b : Known) → WasNotPlayed by a b → LanesGo a b
 unplayed_goes by a b h = rest_goes a b h.rests.same h.rests.lanes

@@ -31,10 +31,10 @@ use Rattle.eql_rounds.proofs.Reaching.{by_later, left_order, time_self}
 use Rattle.eql_book.specs.Books.{BookState}
 use Rattle.eql_book.specs.Laws.{fresh_state}
 use Rattle.eql_conductor.specs.declared.plan.RunPlan.{RunPlan}
-use Rattle.eql_conductor.specs.Benches.{Known, TurnedOn}
+use Rattle.eql_conductor.specs.Benches.{Known, ComesByTurns}
 use Rattle.eql_conductor.specs.Bounds.{AreSized, IsSized}
 use Rattle.eql_conductor.specs.LaneRounds.{LanesAt, text_at}
-use Rattle.eql_conductor.specs.PartRounds.{IsAtRest, Resting, SomeFull}
+use Rattle.eql_conductor.specs.PartRounds.{IsAtRest, AreAtRest, AreSomehowFull}
 use Rattle.eql_conductor.specs.Rounds.{OfTexts}
 use Rattle.eql_conductor.specs.Runs.{MayRun}
 use Rattle.eql_conductor.specs.Saving.{BookKeepsNumbers, KeepsNumbers}
@@ -55,12 +55,12 @@ module _ (b : Known) (lane : ℕ → LaneState) (part : ℕ → PartState) (rule
   pub sized_begin : ((s : ℕ) → s < b.lanes → IsSized (lane s)) → AreSized b
   sized_begin sized = record { each = λ s l x here. fed_is_sized (b.set s) (lane s) x (opens.opened.lanes s l x here) (sized s l) }
 
-  pub parts_begin : (all : List Holder) (mark : Mark) → ((p : ℕ) → p < b.parts → IsAtRest rules all mark p (part p)) → Resting rules all mark b
+  pub parts_begin : (all : List Holder) (mark : Mark) → ((p : ℕ) → p < b.parts → IsAtRest rules all mark p (part p)) → AreAtRest rules all mark b
   parts_begin all mark at = record {
     are = opens.are_parts;
     each = λ p l x here.
         rest_stays rules all [] mark opens.are_parts.span p (part p) x
-        (subst (λ (r : Rules). TurnedOn r (part p) x) (opens.are_parts.each p l) (opens.opened.parts p l x here)) (at p l);
+        (subst (λ (r : Rules). ComesByTurns r (part p) x) (opens.are_parts.each p l) (opens.opened.parts p l x here)) (at p l);
   }
 
 -- ---- a part
@@ -116,7 +116,7 @@ may_run_at plan mark b book rules all before planned begins numbers = record {
   before_end = λ e. before (sym planned.mark_is ∙ e);
   lanes = subst (λ (m : Mark). LanesAt None m b) (sym planned.mark_is) begins.lanes;
   sized = begins.sized;
-  parts = subst (λ (m : Mark). SomeFull m b) (sym planned.mark_is) begins.parts;
+  parts = subst (λ (m : Mark). AreSomehowFull m b) (sym planned.mark_is) begins.parts;
   whole = planned.whole;
   numbers = numbers;
 }
@@ -152,7 +152,7 @@ fresh_numbers (p ∷ pipes) = All-cons (KeepsNumbers 0) (fresh_state p) (map fre
 
 -- ---- a fresh run
 module _ (b : Known) (lane : ℕ → LaneState) (part : ℕ → PartState) (rules : Rules) (fresh : OpensFresh b lane part rules) where
-  fresh_rests : Resting rules [] Start b
+  fresh_rests : AreAtRest rules [] Start b
   fresh_rests =
       parts_begin b lane part rules fresh.opens [] Start
       (λ p l. subst (IsAtRest rules [] Start p) (sym (fresh.parts p l)) (begun_rests rules [] Start p refl (All-nil (HasStageBefore rules.stages))))

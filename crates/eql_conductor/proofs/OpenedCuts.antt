@@ -34,7 +34,7 @@ use Rattle.eql_rounds.specs.LaneRounds.{Holds, IsOfShard, IsOfText, LaneAt}
 use Rattle.eql_conductor.specs.Benches.{Known}
 use Rattle.eql_conductor.specs.Bounds.{IsSized}
 use Rattle.eql_conductor.specs.LaneRounds.{text_at}
-use Rattle.eql_conductor.specs.PartRounds.{IsAtRest, Resting}
+use Rattle.eql_conductor.specs.PartRounds.{IsAtRest, AreAtRest}
 use Rattle.eql_conductor.specs.Saving.{BookKeepsNumbers, KeepsNumbers}
 use Rattle.eql_conductor.specs.Openings.{BeginsAt, CutRunsBegin, CutRunsHaveTexts, FitIsSafe, IsCutOfTexts, IsSafeCut, OpensFrom, SafeByPlaces, SuitsBench, TellsTexts}
 use Rattle.eql_conductor.specs.RunLaws.{RunCutsAreSafe}
@@ -112,7 +112,7 @@ module _ (b : Known) (lane : ℕ → LaneState) (part : ℕ → PartState) (rule
       All-weaker (IsPending run.stages shards (At kept.time)) (HasStageBefore rules.stages)
       (λ h is. (is.stage_from, subst (λ (m : ℕ). h.stage < m) (sym suits.stages) is.stage_to)) kept.holders suits.fits.holders.all
 
-  cut_rests : Resting rules kept.holders (At kept.time) b
+  cut_rests : AreAtRest rules kept.holders (At kept.time) b
   cut_rests =
       parts_begin b lane part rules opens.opens kept.holders (At kept.time)
       (λ p l. subst (IsAtRest rules kept.holders (At kept.time) p) (sym (opens.parts p l))

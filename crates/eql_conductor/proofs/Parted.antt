@@ -23,22 +23,22 @@ use Rattle.eql_parts.specs.declared.ops.PartReply.TheVariants as reply
 use Rattle.eql_parts.specs.PartSteps.{CanDeliver, Rules, PartState, PartStep, TurnStep}
 use Rattle.eql_parts.specs.Spreading.{part_number}
 use Rattle.eql_rounds.specs.Finding.{found_of, own_of}
-use Rattle.eql_rounds.specs.PartRounds.{PartIs, TurnedOn as TurnsOn, CollectedAll}
+use Rattle.eql_rounds.specs.PartRounds.{PartIs, TurnKeeps, CollectsAll}
 use Rattle.eql_rounds.proofs.Parting.{turn_keeps_part, deliver_moves_part, collect_moves_part}
-use Rattle.eql_conductor.specs.Benches.{Known, Same, TurnedTimes, TurnedOn, PartPlays, MayPlay}
-use Rattle.eql_conductor.specs.PartRounds.{AreParts, Phase, IsAtRest, IsDelivered, IsPlayed, pending_after, Resting, Delivering, Turning, Collecting, WaitAtMost, FewerWait}
+use Rattle.eql_conductor.specs.Benches.{Known, Same, TurnsTimes, ComesByTurns, PartPlays, MayPlay}
+use Rattle.eql_conductor.specs.PartRounds.{AreParts, Phase, IsAtRest, IsDelivered, IsPlayed, pending_after, AreAtRest, AreDelivered, ArePlayed, AreCollected, WaitAtMost, FewerWait}
 use Rattle.eql_conductor.proofs.Resting.{same_or, was_part}
 
 -- ---- turns of others
 module _ (rules : Rules) (own : List Holder) (delivered : List Item) (mark : Mark) (span : IsSpan rules.span) where
-  turned_times_keep : (n : ℕ) (x y : PartState) → TurnedTimes rules n x y → PartIs rules own delivered mark x → TurnsOn rules own delivered mark x y
-  turned_times_keep zero x y h is = subst (TurnsOn rules own delivered mark x) (sym h) (record { is = is; fewer = omega arith })
+  turned_times_keep : (n : ℕ) (x y : PartState) → TurnsTimes rules n x y → PartIs rules own delivered mark x → TurnKeeps rules own delivered mark x y
+  turned_times_keep zero x y h is = subst (TurnKeeps rules own delivered mark x) (sym h) (record { is = is; fewer = omega arith })
   turned_times_keep (suc n) x y (mid, max, answer, step, rest) is =
       let one = turn_keeps_part rules own delivered mark x max answer mid span step is in
       let more = turned_times_keep n mid y rest one.is in
       record { is = more.is; fewer = let a = one.fewer in let b = more.fewer in omega (arith, a, b) }
 
-  pub turned_keeps : (x y : PartState) → TurnedOn rules x y → PartIs rules own delivered mark x → TurnsOn rules own delivered mark x y
+  pub turned_keeps : (x y : PartState) → ComesByTurns rules x y → PartIs rules own delivered mark x → TurnKeeps rules own delivered mark x y
   turned_keeps x y h is = turned_times_keep h.0 x y h.1 is
 
 none_left : (xs : List Item) (n : ℕ) → length xs ≤ n → n ≡ 0 → xs ≡ []
@@ -50,7 +50,7 @@ empty_stays xs ys h e = none_left ys (length xs) h (ap (λ (l : List Item). leng
 
 -- what is so stays so as others turn
 abbrev pub Stays : Rules → (ℕ → PartState → Type 0) → Type 0
-Stays rules Is = (p : ℕ) (x y : PartState) → TurnedOn rules x y → Is p x → Is p y
+Stays rules Is = (p : ℕ) (x y : PartState) → ComesByTurns rules x y → Is p x → Is p y
 
 module _ (rules : Rules) (all : List Holder) (items : List Item) (mark : Mark) (span : IsSpan rules.span) where
   pub rest_stays : Stays rules (IsAtRest rules all mark)
@@ -81,7 +81,7 @@ module _ (rules : Rules) (p : ℕ) (o : PartOp) (answer : PartReply) (a b : Know
   other_is Is are stays k l apart is y here =
       let was = was_part a b k plays.same l in
       let c = plays.others k was apart y here in
-      stays k c.0 y (subst (λ (r : Rules). TurnedOn r c.0 y) (are.each k was) c.2) (is c.0 c.1)
+      stays k c.0 y (subst (λ (r : Rules). ComesByTurns r c.0 y) (are.each k was) c.2) (is c.0 c.1)
 
   called_is : AreParts rules a → ((x : PartState) → a.part p x → Before p x) → (Is : PartState → Type 0)
       → ((x y : PartState) → PartStep rules x o answer y → Before p x → Is y) → (y : PartState) → b.part p y → Is y
@@ -89,7 +89,7 @@ module _ (rules : Rules) (p : ℕ) (o : PartOp) (answer : PartReply) (a b : Know
       let c = plays.called y here in
       let r = are.each p place in
       moves c.before y (subst (λ (rules : Rules). PartStep rules c.before o answer y) r c.step)
-      (before_stays p c.first c.before (subst (λ (rules : Rules). TurnedOn rules c.first c.before) r c.turned) (was c.first c.was))
+      (before_stays p c.first c.before (subst (λ (rules : Rules). ComesByTurns rules c.first c.before) r c.turned) (was c.first c.was))
 
   pub phase_more : ((x y : PartState) → PartStep rules x o answer y → Before p x → After p y) → Phase rules p After Before a → Phase rules (p + 1) After Before b
   phase_more moves h = record {
@@ -140,7 +140,7 @@ can_route p last mark items can = record {
 }
 
 pub may_deliver : (rules : Rules) (all : List Holder) (items own : List Item) (last mark : Mark) (p : ℕ) (a : Known) → p < a.parts → CanDeliver last items mark
-    → own ≡ routed part_number p items → Delivering rules all items last mark p a → MayPlay a p (Deliver own mark)
+    → own ≡ routed part_number p items → AreDelivered rules all items last mark p a → MayPlay a p (Deliver own mark)
 may_deliver rules all items own last mark p a place can e h x here =
     let is = h.left p place (omega arith) x here in
     subst (λ (m : Mark). CanDeliver m own mark) (sym is.last) (subst (λ (l : List Item). CanDeliver last l mark) (sym e) (can_route p last mark items can))
@@ -163,13 +163,13 @@ delivers rules all items own last mark p can e x y step is =
     }
 
 pub deliver_more : (rules : Rules) (all : List Holder) (items own : List Item) (last mark : Mark) (p : ℕ) (a b : Known) → p < a.parts → CanDeliver last items mark
-    → own ≡ routed part_number p items → PartPlays p (Deliver own mark) reply.Done a b → Delivering rules all items last mark p a → Delivering rules all items last mark (p + 1) b
+    → own ≡ routed part_number p items → PartPlays p (Deliver own mark) reply.Done a b → AreDelivered rules all items last mark p a → AreDelivered rules all items last mark (p + 1) b
 deliver_more rules all items own last mark p a b place can e plays h =
     phase_more rules p (Deliver own mark) reply.Done a b (IsDelivered rules all items mark) (IsAtRest rules all last) plays place
     (delivered_stays rules all items mark h.are.span) (rest_stays rules all items last h.are.span)
     (delivers rules all items own last mark p can e) h
 
-pub delivering_none : (rules : Rules) (all : List Holder) (items : List Item) (last mark : Mark) (b : Known) → Resting rules all last b → Delivering rules all items last mark 0 b
+pub delivering_none : (rules : Rules) (all : List Holder) (items : List Item) (last mark : Mark) (b : Known) → AreAtRest rules all last b → AreDelivered rules all items last mark 0 b
 delivering_none rules all items last mark b h = record { are = h.are; done = λ p l below. absurd (omega (arith, below)); left = λ p l above. h.each p l }
 
 -- a phase that is over is the beginning of the next
@@ -191,21 +191,21 @@ module _ (rules : Rules) (all : List Holder) (items : List Item) (mark : Mark) (
   idles x y step d = subst (IsPlayed rules all items mark p) (sym step.1) (record { is = d.is; empty = step.0 })
 
 pub turn_more : (rules : Rules) (all : List Holder) (items : List Item) (mark : Mark) (p max n : ℕ) (a b : Known) → p < a.parts
-    → PartPlays p (Turn max) (reply.Turned n) a b → Turning rules all items mark p a → Turning rules all items mark p b
+    → PartPlays p (Turn max) (reply.Turned n) a b → ArePlayed rules all items mark p a → ArePlayed rules all items mark p b
 turn_more rules all items mark p max n a b place plays h =
     phase_same rules p (Turn max) (reply.Turned n) a b (IsPlayed rules all items mark) (IsDelivered rules all items mark) plays place
     (played_stays rules all items mark h.are.span) (delivered_stays rules all items mark h.are.span)
     (turns rules all items mark p h.are.span max (reply.Turned n)) h
 
 pub idle_more : (rules : Rules) (all : List Holder) (items : List Item) (mark : Mark) (p max : ℕ) (a b : Known) → p < a.parts
-    → PartPlays p (Turn max) reply.Idle a b → Turning rules all items mark p a → Turning rules all items mark (p + 1) b
+    → PartPlays p (Turn max) reply.Idle a b → ArePlayed rules all items mark p a → ArePlayed rules all items mark (p + 1) b
 idle_more rules all items mark p max a b place plays h =
     phase_more rules p (Turn max) reply.Idle a b (IsPlayed rules all items mark) (IsDelivered rules all items mark) plays place
     (played_stays rules all items mark h.are.span) (delivered_stays rules all items mark h.are.span)
     (idles rules all items mark p h.are.span) h
 
 -- how many events wait: a turn plays some of them
-pub fewer_times : (rules : Rules) (n : ℕ) (x y : PartState) → TurnedTimes rules n x y → length y.inbox ≤ length x.inbox
+pub fewer_times : (rules : Rules) (n : ℕ) (x y : PartState) → TurnsTimes rules n x y → length y.inbox ≤ length x.inbox
 fewer_times rules zero x y h = let e = ap (λ (z : PartState). length z.inbox) h in omega (arith, e)
 fewer_times rules (suc n) x y (mid, max, answer, step, rest) =
     let a = fewer_turn rules max answer x mid step in let b = fewer_times rules n mid y rest in omega (arith, a, b)
@@ -248,12 +248,12 @@ turn_fewer rules p max n left a b plays few =
     (omega (arith, most, some), record { few = λ y here. (turned_fewer rules p max n left a b plays few y here).less })
 
 -- at the start no more wait than were delivered
-pub waiting : (rules : Rules) (all : List Holder) (items : List Item) (mark : Mark) (p : ℕ) (a : Known) → p < a.parts → Turning rules all items mark p a → WaitAtMost p (length items) a
+pub waiting : (rules : Rules) (all : List Holder) (items : List Item) (mark : Mark) (p : ℕ) (a : Known) → p < a.parts → ArePlayed rules all items mark p a → WaitAtMost p (length items) a
 waiting rules all items mark p a place h = record { few = λ x here. (h.left p place (omega arith) x here).few }
 
 -- ---- a collection
 collects : (rules : Rules) (all : List Holder) (items : List Item) (mark done : Mark) (p : ℕ) (found : List Match) (x y : PartState)
-    → PartStep rules x Collect (reply.Found found done) y → IsPlayed rules all items mark p x → CollectedAll rules (own_of all p) (routed part_number p items) mark found y
+    → PartStep rules x Collect (reply.Found found done) y → IsPlayed rules all items mark p x → CollectsAll rules (own_of all p) (routed part_number p items) mark found y
 collects rules all items mark done p found x y step d =
     collect_moves_part rules (own_of all p) (routed part_number p items) mark done x found y d.empty step d.is
 
@@ -262,22 +262,22 @@ rests_then : (rules : Rules) (all : List Holder) (items : List Item) (mark : Mar
 rests_then rules all items mark p y is = subst (λ (own : List Holder). PartIs rules own [] mark y) (after_routed part_number p rules.stages rules.span all items) is
 
 pub collect_more : (rules : Rules) (all : List Holder) (items : List Item) (mark done : Mark) (p : ℕ) (found : List Match) (a b : Known) → p < a.parts
-    → PartPlays p Collect (reply.Found found done) a b → Collecting rules all items mark p a → Collecting rules all items mark (p + 1) b
+    → PartPlays p Collect (reply.Found found done) a b → AreCollected rules all items mark p a → AreCollected rules all items mark (p + 1) b
 collect_more rules all items mark done p found a b place plays h =
     phase_more rules p Collect (reply.Found found done) a b (IsAtRest rules (pending_after rules all items) mark) (IsPlayed rules all items mark) plays place
     (rest_stays rules (pending_after rules all items) items mark h.are.span) (played_stays rules all items mark h.are.span)
     (λ x y step d. rests_then rules all items mark p y (collects rules all items mark done p found x y step d).is) h
 
 pub collect_finds : (rules : Rules) (all : List Holder) (items : List Item) (mark done : Mark) (p : ℕ) (found : List Match) (a b : Known) → p < a.parts
-    → PartPlays p Collect (reply.Found found done) a b → Collecting rules all items mark p a → found ≡ found_of rules all items p
+    → PartPlays p Collect (reply.Found found done) a b → AreCollected rules all items mark p a → found ≡ found_of rules all items p
 collect_finds rules all items mark done p found a b place plays h =
     called_is rules p Collect (reply.Found found done) a b (IsAtRest rules (pending_after rules all items) mark) (IsPlayed rules all items mark) plays place
     (rest_stays rules (pending_after rules all items) items mark h.are.span) (played_stays rules all items mark h.are.span)
     h.are (h.left p place (omega arith)) (λ y. found ≡ found_of rules all items p)
     (λ x y step d. (collects rules all items mark done p found x y step d).found_is) plays.some.0 plays.some.1
 
-pub collected_all : (rules : Rules) (all : List Holder) (items : List Item) (mark : Mark) (n : ℕ) (b : Known) → n ≡ b.parts → Collecting rules all items mark n b
-    → Resting rules (pending_after rules all items) mark b
+pub collected_all : (rules : Rules) (all : List Holder) (items : List Item) (mark : Mark) (n : ℕ) (b : Known) → n ≡ b.parts → AreCollected rules all items mark n b
+    → AreAtRest rules (pending_after rules all items) mark b
 collected_all rules all items mark n b e h = record { are = h.are; each = λ p l. h.done p l (subst (λ (m : ℕ). p < m) (sym e) l) }
 
 -- one more list

@@ -21,7 +21,7 @@ use Rattle.eql_conductor.specs.declared.plan.End.TheVariants as end
 use Rattle.eql_conductor.specs.Benches.{Known}
 use Rattle.eql_conductor.specs.Openings.{IsCutOfTexts, IsSafeCut}
 use Rattle.eql_conductor.specs.Runs.{IsRunCut, RanWhole, RunIs, RunStops, WroteLinesOf}
-use Rattle.eql_conductor.specs.RunLaws.{BeginsTold, Listed, StopsListed, lines_after, listed_by, rules_of}
+use Rattle.eql_conductor.specs.RunLaws.{BeginsTold, ListsByAnswer, StopsListed, lines_after, listed_by, rules_of}
 use Rattle.eql_conductor.proofs.OpenedCuts.{run_cuts_are_safe}
 use Rattle.eql_conductor.proofs.Listed.{lines_to, run_cuts_are_of_texts, runs_stop_in_lines, runs_write_lines}
 
@@ -44,7 +44,7 @@ module _ (kept : BookIsKept) (whole : EndIsWhole) (rules : Rules) (reads : Reads
   }
 
   -- a run over told texts wrote the lines after those that its book counts, or stopped within them
-  pub run_listed : (cuts : List Cut) (answer : Ends) → RunIs from old new book then before now cuts answer → Listed rules reads slack texts from new book then before now cuts answer
+  pub run_listed : (cuts : List Cut) (answer : Ends) → RunIs from old new book then before now cuts answer → ListsByAnswer rules reads slack texts from new book then before now cuts answer
   run_listed cuts end.Done is = done_listed is
   run_listed cuts (end.ReadFault s) is = stopped_listed cuts is
   run_listed cuts end.WriteFault is = stopped_listed cuts is

@@ -6,7 +6,7 @@ use Rattle.eql_lane.specs.Lanes.{Setting, LaneState, FeedStep}
 use Rattle.eql_parts.specs.declared.ops.PartOp.TheVariants as part_op
 use Rattle.eql_parts.specs.declared.ops.PartReply.{PartReply}
 use Rattle.eql_parts.specs.PartSteps.{Rules, PartState, TurnStep}
-use Rattle.eql_conductor.specs.Benches.{Known, Same, FedTimes, FedOn, TurnedTimes, TurnedOn, LaneLeft, PartLeft, LanesRest, PartsRest, Rests, LanePlays, PartPlays}
+use Rattle.eql_conductor.specs.Benches.{Known, Same, FeedsTimes, ComesByFeeds, TurnsTimes, ComesByTurns, LeavesLane, LeavesPart, LanesRest, PartsRest, Rests, LanePlays, PartPlays}
 
 -- two numbers are the same or not
 pub same_or : (a b : ℕ) → (a ≡ b) ⊎ (a ≢ b)
@@ -19,33 +19,33 @@ same_or (suc a) (suc b) = elim (same_or a b) [
 ]
 
 -- ---- feeds
-fed_times_on : (set : Setting) (n : ℕ) (x y z : LaneState) (m : ℕ) → FedTimes set n x y → FedTimes set m y z → FedOn set x z
-fed_times_on set zero x y z m h k = (m, subst (λ (w : LaneState). FedTimes set m w z) h k)
+fed_times_on : (set : Setting) (n : ℕ) (x y z : LaneState) (m : ℕ) → FeedsTimes set n x y → FeedsTimes set m y z → ComesByFeeds set x z
+fed_times_on set zero x y z m h k = (m, subst (λ (w : LaneState). FeedsTimes set m w z) h k)
 fed_times_on set (suc n) x y z m (mid, max, answer, step, rest) k =
     let more = fed_times_on set n mid y z m rest k in (suc more.0, (mid, max, answer, step, more.1))
 
-pub fed_on : (set : Setting) (x y z : LaneState) → FedOn set x y → FedOn set y z → FedOn set x z
+pub fed_on : (set : Setting) (x y z : LaneState) → ComesByFeeds set x y → ComesByFeeds set y z → ComesByFeeds set x z
 fed_on set x y z h k = fed_times_on set h.0 x y z k.0 h.1 k.1
 
-pub fed_self : (set : Setting) (x : LaneState) → FedOn set x x
+pub fed_self : (set : Setting) (x : LaneState) → ComesByFeeds set x x
 fed_self set x = (0, refl)
 
-pub fed_once : (set : Setting) (x y : LaneState) (max : ℕ) (answer : LaneReply) → FeedStep set x max answer y → FedOn set x y
+pub fed_once : (set : Setting) (x y : LaneState) (max : ℕ) (answer : LaneReply) → FeedStep set x max answer y → ComesByFeeds set x y
 fed_once set x y max answer step = (1, (y, max, answer, step, refl))
 
 -- ---- turns
-turned_times_on : (rules : Rules) (n : ℕ) (x y z : PartState) (m : ℕ) → TurnedTimes rules n x y → TurnedTimes rules m y z → TurnedOn rules x z
-turned_times_on rules zero x y z m h k = (m, subst (λ (w : PartState). TurnedTimes rules m w z) h k)
+turned_times_on : (rules : Rules) (n : ℕ) (x y z : PartState) (m : ℕ) → TurnsTimes rules n x y → TurnsTimes rules m y z → ComesByTurns rules x z
+turned_times_on rules zero x y z m h k = (m, subst (λ (w : PartState). TurnsTimes rules m w z) h k)
 turned_times_on rules (suc n) x y z m (mid, max, answer, step, rest) k =
     let more = turned_times_on rules n mid y z m rest k in (suc more.0, (mid, max, answer, step, more.1))
 
-pub turned_on : (rules : Rules) (x y z : PartState) → TurnedOn rules x y → TurnedOn rules y z → TurnedOn rules x z
+pub turned_on : (rules : Rules) (x y z : PartState) → ComesByTurns rules x y → ComesByTurns rules y z → ComesByTurns rules x z
 turned_on rules x y z h k = turned_times_on rules h.0 x y z k.0 h.1 k.1
 
-pub turned_self : (rules : Rules) (x : PartState) → TurnedOn rules x x
+pub turned_self : (rules : Rules) (x : PartState) → ComesByTurns rules x x
 turned_self rules x = (0, refl)
 
-pub turned_once : (rules : Rules) (x y : PartState) (max : ℕ) (answer : PartReply) → TurnStep rules x max answer y → TurnedOn rules x y
+pub turned_once : (rules : Rules) (x y : PartState) (max : ℕ) (answer : PartReply) → TurnStep rules x max answer y → ComesByTurns rules x y
 turned_once rules x y max answer step = (1, (y, max, answer, step, refl))
 
 -- ---- the same settings
@@ -80,7 +80,7 @@ lanes_on a b c same h k = record {
   each = λ s l y here.
       let m = k.each s (is_lane a b s same l) y here in
       let f = h.each s l m.0 m.1 in
-      (f.0, f.1, fed_on (a.set s) f.0 m.0 y f.2 (subst (λ (set : Setting). FedOn set m.0 y) (same.set s l) m.2));
+      (f.0, f.1, fed_on (a.set s) f.0 m.0 y f.2 (subst (λ (set : Setting). ComesByFeeds set m.0 y) (same.set s l) m.2));
 }
 
 pub parts_on : (a b c : Known) → Same a b → PartsRest a b → PartsRest b c → PartsRest a c
@@ -88,7 +88,7 @@ parts_on a b c same h k = record {
   each = λ p l y here.
       let m = k.each p (is_part a b p same l) y here in
       let f = h.each p l m.0 m.1 in
-      (f.0, f.1, turned_on (a.rules p) f.0 m.0 y f.2 (subst (λ (rules : Rules). TurnedOn rules m.0 y) (same.rules p l) m.2));
+      (f.0, f.1, turned_on (a.rules p) f.0 m.0 y f.2 (subst (λ (rules : Rules). ComesByTurns rules m.0 y) (same.rules p l) m.2));
 }
 
 pub rests_self : (b : Known) → Rests b b
@@ -106,11 +106,11 @@ rests_on a b c h k = record {
 }
 
 -- a feed of the caller is as good as one of others, and so is a look
-pub lane_rests : (s : ℕ) (a b : Known) → ((y : LaneState) → b.lane s y → (x : LaneState) × a.lane s x × FedOn (a.set s) x y)
-    → ((k : ℕ) → k < a.lanes → k ≢ s → LaneLeft (a.set k) (a.lane k) (b.lane k)) → LanesRest a b
+pub lane_rests : (s : ℕ) (a b : Known) → ((y : LaneState) → b.lane s y → (x : LaneState) × a.lane s x × ComesByFeeds (a.set s) x y)
+    → ((k : ℕ) → k < a.lanes → k ≢ s → LeavesLane (a.set k) (a.lane k) (b.lane k)) → LanesRest a b
 lane_rests s a b called others = record {
   each = λ k l. elim (same_or k s) [
-    | inl e ↦ subst (λ (j : ℕ). LaneLeft (a.set j) (a.lane j) (b.lane j)) (sym e) called
+    | inl e ↦ subst (λ (j : ℕ). LeavesLane (a.set j) (a.lane j) (b.lane j)) (sym e) called
     | inr apart ↦ others k l apart
   ];
 }
@@ -125,11 +125,11 @@ feed_rests s max answer a b plays = record {
 }
 
 -- a turn of the caller is as good as one of others
-pub part_rests : (p : ℕ) (a b : Known) → ((y : PartState) → b.part p y → (x : PartState) × a.part p x × TurnedOn (a.rules p) x y)
-    → ((k : ℕ) → k < a.parts → k ≢ p → PartLeft (a.rules k) (a.part k) (b.part k)) → PartsRest a b
+pub part_rests : (p : ℕ) (a b : Known) → ((y : PartState) → b.part p y → (x : PartState) × a.part p x × ComesByTurns (a.rules p) x y)
+    → ((k : ℕ) → k < a.parts → k ≢ p → LeavesPart (a.rules k) (a.part k) (b.part k)) → PartsRest a b
 part_rests p a b called others = record {
   each = λ k l. elim (same_or k p) [
-    | inl e ↦ subst (λ (j : ℕ). PartLeft (a.rules j) (a.part j) (b.part j)) (sym e) called
+    | inl e ↦ subst (λ (j : ℕ). LeavesPart (a.rules j) (a.part j) (b.part j)) (sym e) called
     | inr apart ↦ others k l apart
   ];
 }

@@ -8,7 +8,7 @@ use Rattle.eql_values.specs.declared.found.Holder.{Holder}
 use Rattle.eql_values.specs.declared.order.Mark.{Mark}
 use Rattle.eql_values.specs.declared.order.Mark.TheVariants.{At}
 use Rattle.eql_values.specs.Accepted.{Reads}
-use Rattle.eql_values.specs.Ascending.{Ascending}
+use Rattle.eql_values.specs.Ascending.{Ascend}
 use Rattle.eql_values.specs.Marks.{is_safe, mark_cmp}
 use Rattle.eql_laws.specs.Alive.{HoldersInOrder, alive_holders}
 use Rattle.eql_laws.specs.Lanes.{lane_at, lanes_from}
@@ -24,13 +24,13 @@ use Rattle.eql_parts.specs.PartSteps.{Rules}
 use Rattle.eql_rounds.specs.LaneRounds.{IsOfText}
 use Rattle.eql_conductor.specs.Benches.{Known, PartsRest, Same}
 use Rattle.eql_conductor.specs.LaneRounds.{AreLanes, LanesAt, text_at}
-use Rattle.eql_conductor.specs.PartRounds.{Resting, SomeFull, pending_after}
+use Rattle.eql_conductor.specs.PartRounds.{AreAtRest, AreSomehowFull, pending_after}
 use Rattle.eql_conductor.specs.Rounds.{OfTexts, ReadTexts}
 use Rattle.eql_conductor.specs.Saving.{AreLanesOf, BookKeepsNumbers, IsHeadOf, IsSavedAt}
-use Rattle.eql_conductor.specs.Snaps.{AllSnapped, IsSnap, SnapsFrom, TypesSay}
+use Rattle.eql_conductor.specs.Snaps.{SnapsAll, IsSnap, SnapsFrom, TypesSay}
 use Rattle.eql_conductor.proofs.Stays.{parts_stay}
 
-pub full_stays : (mark : Mark) (a b : Known) → Same a b → PartsRest a b → SomeFull mark a → SomeFull mark b
+pub full_stays : (mark : Mark) (a b : Known) → Same a b → PartsRest a b → AreSomehowFull mark a → AreSomehowFull mark b
 full_stays mark a b same rest h = record { rules = h.rules; all = h.all; is = parts_stay h.rules h.all mark a b same rest h.is; full = h.full }
 
 -- ---- lanes of told texts
@@ -91,14 +91,14 @@ module _ (reads : Reads) (slack : Option ℤ) (time : ℤ) (b : Known) (are : Ar
       }
 
 are_lanes_of : (reads : Reads) (slack : Option ℤ) (texts : List (List ℕ)) (time : ℤ) (b : Known) (cuts : List LaneCut) → OfTexts reads slack texts (At time) b
-    → AllSnapped (Some texts) (At time) b cuts → AreLanesOf reads slack texts time cuts
+    → SnapsAll (Some texts) (At time) b cuts → AreLanesOf reads slack texts time cuts
 are_lanes_of reads slack texts time b cuts of h =
     let is = lanes_of reads slack time b of.lanes.are [] texts 0 cuts of.read refl (let a = h.count in let c = of.read.count in omega (arith, a, c)) h.each in
     record { shards = is.shards; are_places = is.are_places; texts_are = is.texts_are; safe = is.safe; lanes_are = is.cuts_are }
 
 -- ---- a cut
 abbrev LaneAscends : LaneCut → Type 0
-LaneAscends lane = Ascending lane.items
+LaneAscends lane = Ascend lane.items
 
 snaps_ascend : (texts : Option (List (List ℕ))) (mark : Mark) (b : Known) (s : ℕ) (cuts : List LaneCut) → SnapsFrom texts mark b s cuts → All LaneAscends cuts
 snaps_ascend texts mark b s [] h = All-nil LaneAscends
@@ -110,8 +110,8 @@ cut_with head time book lanes holders = record { head = head; mark = time; lanes
 
 saved_with : (head : CutHead) (time : ℤ) (b : Known) (book : BookState) (lanes : List LaneCut) (holders : List Holder)
     → LanesAt None (At time) b → BookKeepsNumbers book.kept → IsHeadOf head b
-    → ((texts : Option (List (List ℕ))) (mark : Mark) → LanesAt texts mark b → AllSnapped texts mark b lanes)
-    → ((rules : Rules) (all : List Holder) → Resting rules all (At time) b → holders ≡ alive_holders rules.span time (pending_after rules all []))
+    → ((texts : Option (List (List ℕ))) (mark : Mark) → LanesAt texts mark b → SnapsAll texts mark b lanes)
+    → ((rules : Rules) (all : List Holder) → AreAtRest rules all (At time) b → holders ≡ alive_holders rules.span time (pending_after rules all []))
     → HoldersInOrder holders → All IsFull holders → TypesSay (cut_with head time book lanes holders)
     → IsSavedAt head time b book (cut_with head time book lanes holders)
 saved_with head time b book lanes holders at numbers is snaps held order full says =
@@ -138,8 +138,8 @@ saved_with head time b book lanes holders at numbers is snaps held order full sa
 pub is_saved : (head : CutHead) (time : ℤ) (b : Known) (book : BookState) (lanes : List LaneCut) (holders : List Holder) (cut : Cut)
     → cut ≡ record { head = head; mark = time; lanes = lanes; holders = holders; book = book.kept }
     → LanesAt None (At time) b → BookKeepsNumbers book.kept → IsHeadOf head b
-    → ((texts : Option (List (List ℕ))) (mark : Mark) → LanesAt texts mark b → AllSnapped texts mark b lanes)
-    → ((rules : Rules) (all : List Holder) → Resting rules all (At time) b → holders ≡ alive_holders rules.span time (pending_after rules all []))
+    → ((texts : Option (List (List ℕ))) (mark : Mark) → LanesAt texts mark b → SnapsAll texts mark b lanes)
+    → ((rules : Rules) (all : List Holder) → AreAtRest rules all (At time) b → holders ≡ alive_holders rules.span time (pending_after rules all []))
     → HoldersInOrder holders → All IsFull holders → TypesSay cut → IsSavedAt head time b book cut
 is_saved head time b book lanes holders cut e at numbers is snaps held order full says =
     subst (IsSavedAt head time b book) (sym e) (saved_with head time b book lanes holders at numbers is snaps held order full (subst TypesSay e says))

@@ -21,9 +21,9 @@ use Rattle.eql_parts.specs.PartSteps.{Rules, PartState, SnapStep as PartSnaps, a
 use Rattle.eql_parts.specs.Spreading.{part_number}
 use Rattle.eql_rounds.specs.Finding.{own_of}
 use Rattle.eql_rounds.specs.PartRounds.{TimeTo}
-use Rattle.eql_conductor.specs.Benches.{Known, Same, FedOn, TurnedOn, LanePlays, PartPlays, Rests}
+use Rattle.eql_conductor.specs.Benches.{Known, Same, ComesByFeeds, ComesByTurns, LanePlays, PartPlays, Rests}
 use Rattle.eql_conductor.specs.LaneRounds.{LanesAt, text_at}
-use Rattle.eql_conductor.specs.PartRounds.{Resting, IsAtRest}
+use Rattle.eql_conductor.specs.PartRounds.{AreAtRest, IsAtRest}
 use Rattle.eql_conductor.specs.Snaps.{IsSnap, SnapsFrom, held_of}
 use Rattle.eql_conductor.proofs.Resting.{lane_rests, part_rests}
 use Rattle.eql_conductor.proofs.Takes.{fed_keeps}
@@ -46,7 +46,7 @@ snap_rests s answer a b plays = record {
   same = plays.same;
   lanes = lane_rests s a b (λ y here.
       let c = plays.called y here in
-      (c.first, c.was, subst (λ (z : LaneState). FedOn (a.set s) c.first z) (sym (lane_same c.before answer y c.step)) c.fed)) plays.others;
+      (c.first, c.was, subst (λ (z : LaneState). ComesByFeeds (a.set s) c.first z) (sym (lane_same c.before answer y c.step)) c.fed)) plays.others;
   parts = plays.parts;
 }
 
@@ -88,7 +88,7 @@ snap_part_rests p answer a b plays = record {
   lanes = plays.lanes;
   parts = part_rests p a b (λ y here.
       let c = plays.called y here in
-      (c.first, c.was, subst (λ (z : PartState). TurnedOn (a.rules p) c.first z) (sym (part_same c.before answer y c.step)) c.turned)) plays.others;
+      (c.first, c.was, subst (λ (z : PartState). ComesByTurns (a.rules p) c.first z) (sym (part_same c.before answer y c.step)) c.turned)) plays.others;
 }
 
 time_is : (reach : Option ℤ) (t : ℤ) → TimeTo (Some t) reach → TimeTo reach (Some t) → reach ≡ Some t
@@ -118,12 +118,12 @@ held_at_rest rules all time p x is =
     ∙ ap (alive_by rules.span (Some time)) (after_routed part_number p rules.stages rules.span all [])
 
 pub snap_holds : (rules : Rules) (all : List Holder) (time : ℤ) (p : ℕ) (held : List Holder) (a b : Known) → p < a.parts
-    → PartPlays p part_op.Snap (part_reply.Cut held) a b → Resting rules all (At time) a → held ≡ held_of rules all time p
+    → PartPlays p part_op.Snap (part_reply.Cut held) a b → AreAtRest rules all (At time) a → held ≡ held_of rules all time p
 snap_holds rules all time p held a b place plays rest =
     let c = plays.called plays.some.0 plays.some.1 in
     c.step.0
     ∙ held_at_rest rules all time p c.before
-    (rest_stays rules all [] (At time) rest.are.span p c.first c.before (subst (λ (r : Rules). TurnedOn r c.first c.before) (rest.are.each p place) c.turned) (rest.each p place c.first c.was))
+    (rest_stays rules all [] (At time) rest.are.span p c.first c.before (subst (λ (r : Rules). ComesByTurns r c.first c.before) (rest.are.each p place) c.turned) (rest.each p place c.first c.was))
 
 -- one more list
 pub held_more : (f : ℕ → List Holder) (p : ℕ) (old new : List (List Holder)) (held : List Holder) → old ≡ map f (numbers p) → new ≡ old ++ held ∷ [] → held ≡ f p → new ≡ map f (numbers (p + 1))

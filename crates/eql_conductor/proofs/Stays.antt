@@ -6,9 +6,9 @@ use Rattle.eql_values.specs.Accepted.{Reads}
 use Rattle.eql_lane.specs.Lanes.{Setting}
 use Rattle.eql_parts.specs.PartSteps.{Rules}
 use Rattle.eql_rounds.specs.LaneRounds.{LaneAt}
-use Rattle.eql_conductor.specs.Benches.{Known, Same, TurnedOn, LanesRest, PartsRest}
+use Rattle.eql_conductor.specs.Benches.{Known, Same, ComesByTurns, LanesRest, PartsRest}
 use Rattle.eql_conductor.specs.LaneRounds.{LanesAt, text_at}
-use Rattle.eql_conductor.specs.PartRounds.{Resting, SomeResting}
+use Rattle.eql_conductor.specs.PartRounds.{AreAtRest, AreSomehowAtRest}
 use Rattle.eql_conductor.specs.Rounds.{OfTexts, ReadTexts}
 use Rattle.eql_conductor.proofs.Resting.{was_lane, was_part}
 use Rattle.eql_conductor.proofs.Takes.{fed_keeps, lanes_are}
@@ -24,16 +24,16 @@ lanes_stay texts mark a b same rest h = record {
       (fed_keeps (text_at texts s) (a.set s) mark c.0 y (h.are.reading s was) c.2 (h.each s was c.0 c.1));
 }
 
-pub parts_stay : (rules : Rules) (all : List Holder) (mark : Mark) (a b : Known) → Same a b → PartsRest a b → Resting rules all mark a → Resting rules all mark b
+pub parts_stay : (rules : Rules) (all : List Holder) (mark : Mark) (a b : Known) → Same a b → PartsRest a b → AreAtRest rules all mark a → AreAtRest rules all mark b
 parts_stay rules all mark a b same rest h = record {
   are = parts_are rules a b same h.are;
   each = λ p l y here.
       let was = was_part a b p same l in
       let c = rest.each p was y here in
-      rest_stays rules all [] mark h.are.span p c.0 y (subst (λ (r : Rules). TurnedOn r c.0 y) (h.are.each p was) c.2) (h.each p was c.0 c.1);
+      rest_stays rules all [] mark h.are.span p c.0 y (subst (λ (r : Rules). ComesByTurns r c.0 y) (h.are.each p was) c.2) (h.each p was c.0 c.1);
 }
 
-pub some_stay : (mark : Mark) (a b : Known) → Same a b → PartsRest a b → SomeResting mark a → SomeResting mark b
+pub some_stay : (mark : Mark) (a b : Known) → Same a b → PartsRest a b → AreSomehowAtRest mark a → AreSomehowAtRest mark b
 some_stay mark a b same rest h = record { rules = h.rules; all = h.all; is = parts_stay h.rules h.all mark a b same rest h.is }
 
 pub read_stays : (reads : Reads) (slack : Option ℤ) (texts : List (List ℕ)) (a b : Known) → Same a b → ReadTexts reads slack texts a → ReadTexts reads slack texts b

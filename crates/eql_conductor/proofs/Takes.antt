@@ -8,20 +8,20 @@ use Rattle.eql_laws.proofs.MarkLemmas.{at_most_trans}
 use Rattle.eql_lane.specs.declared.ops.LaneOp.TheVariants as op
 use Rattle.eql_lane.specs.declared.ops.LaneReply.TheVariants as reply
 use Rattle.eql_lane.specs.Lanes.{Setting, LaneState, low}
-use Rattle.eql_rounds.specs.LaneRounds.{LaneAt, HandsOver, TakenTo}
+use Rattle.eql_rounds.specs.LaneRounds.{LaneAt, HandsOver, TakesTo}
 use Rattle.eql_rounds.proofs.Laning.{feed_keeps_lane, take_moves_lane}
-use Rattle.eql_conductor.specs.Benches.{Known, Same, FedTimes, FedOn, LanePlays}
-use Rattle.eql_conductor.specs.LaneRounds.{AreLanes, LanesAt, TakingTo, IsSafe, HandsFrom, TookTo, text_at}
+use Rattle.eql_conductor.specs.Benches.{Known, Same, FeedsTimes, ComesByFeeds, LanePlays}
+use Rattle.eql_conductor.specs.LaneRounds.{AreLanes, LanesAt, AreTakenTo, IsSafe, HandsFrom, TookTo, text_at}
 use Rattle.eql_conductor.proofs.Resting.{same_or, was_lane}
 use Rattle.eql_conductor.proofs.Onward.{fed_onward}
 
 -- ---- feeds of others
-fed_times_keep : (text : Option (List ℕ)) (set : Setting) (mark : Mark) (n : ℕ) (x y : LaneState) → IsReading set.reads → FedTimes set n x y → LaneAt text set mark x → LaneAt text set mark y
+fed_times_keep : (text : Option (List ℕ)) (set : Setting) (mark : Mark) (n : ℕ) (x y : LaneState) → IsReading set.reads → FeedsTimes set n x y → LaneAt text set mark x → LaneAt text set mark y
 fed_times_keep text set mark zero x y reading h at = subst (LaneAt text set mark) (sym h) at
 fed_times_keep text set mark (suc n) x y reading (mid, max, answer, step, rest) at =
     fed_times_keep text set mark n mid y reading rest (feed_keeps_lane text set mark x max answer mid reading step at)
 
-pub fed_keeps : (text : Option (List ℕ)) (set : Setting) (mark : Mark) (x y : LaneState) → IsReading set.reads → FedOn set x y → LaneAt text set mark x → LaneAt text set mark y
+pub fed_keeps : (text : Option (List ℕ)) (set : Setting) (mark : Mark) (x y : LaneState) → IsReading set.reads → ComesByFeeds set x y → LaneAt text set mark x → LaneAt text set mark y
 fed_keeps text set mark x y reading h at = fed_times_keep text set mark h.0 x y reading h.1 at
 
 pub lanes_are : (a b : Known) → Same a b → AreLanes a → AreLanes b
@@ -32,8 +32,8 @@ lanes_are a b same h = record {
 
 -- ---- a take
 module _ (s : ℕ) (last mark : Mark) (items : List Item) (a b : Known) (texts : Option (List (List ℕ))) (plays : LanePlays s (op.Take mark) (reply.Taken items) a b)
-    (place : s < a.lanes) (safe : IsSafe mark a) (later : AtMost last mark) (was : TakingTo texts s last mark a) where
-  taken_by : (y : LaneState) → b.lane s y → TakenTo (text_at texts s) (a.set s) last mark items y
+    (place : s < a.lanes) (safe : IsSafe mark a) (later : AtMost last mark) (was : AreTakenTo texts s last mark a) where
+  taken_by : (y : LaneState) → b.lane s y → TakesTo (text_at texts s) (a.set s) last mark items y
   taken_by y here =
       let c = plays.called y here in
       let low_is : AtMost mark (low (a.set s) c.before) =
@@ -55,7 +55,7 @@ module _ (s : ℕ) (last mark : Mark) (items : List Item) (a b : Known) (texts :
       subst (λ (set : Setting). LaneAt (text_at texts k) set m y) (sym (plays.same.set k here_was))
       (fed_keeps (text_at texts k) (a.set k) m c.0 y (was.are.reading k here_was) c.2 (at c.0 c.1))
 
-  pub take_more : TakingTo texts (s + 1) last mark b
+  pub take_more : AreTakenTo texts (s + 1) last mark b
   take_more = record {
     are = lanes_are a b plays.same was.are;
     taken = λ k l below. elim (same_or k s) [
@@ -66,10 +66,10 @@ module _ (s : ℕ) (last mark : Mark) (items : List Item) (a b : Known) (texts :
   }
 
 -- ---- all lanes
-pub taking_none : (texts : Option (List (List ℕ))) (last mark : Mark) (b : Known) → LanesAt texts last b → TakingTo texts 0 last mark b
+pub taking_none : (texts : Option (List (List ℕ))) (last mark : Mark) (b : Known) → LanesAt texts last b → AreTakenTo texts 0 last mark b
 taking_none texts last mark b h = record { are = h.are; taken = λ s l below. absurd (omega (arith, below)); left = λ s l above. h.each s l }
 
-pub taken_all : (texts : Option (List (List ℕ))) (n : ℕ) (last mark : Mark) (b : Known) → n ≡ b.lanes → TakingTo texts n last mark b → LanesAt texts mark b
+pub taken_all : (texts : Option (List (List ℕ))) (n : ℕ) (last mark : Mark) (b : Known) → n ≡ b.lanes → AreTakenTo texts n last mark b → LanesAt texts mark b
 taken_all texts n last mark b e h = record { are = h.are; each = λ s l. h.taken s l (subst (λ (m : ℕ). s < m) (sym e) l) }
 
 hands_last : (texts : Option (List (List ℕ))) (last mark : Mark) (b : Known) (s n : ℕ) (lists : List (List Item)) (items : List Item) → s + length lists ≡ n
@@ -80,7 +80,7 @@ hands_last texts last mark b s n (first ∷ lists) items e h one = (h.0, hands_l
 -- one more lane was taken from
 pub took_more : (texts : Option (List (List ℕ))) (n : ℕ) (last mark : Mark) (a b c : Known) (lists more : List (List Item)) (items : List Item)
     → length lists ≡ n → n < a.lanes → Same a b → more ≡ lists ++ items ∷ []
-    → TookTo texts n last mark a b lists → HandsOver (text_at texts n) (b.set n) last mark items → TakingTo texts (n + 1) last mark c
+    → TookTo texts n last mark a b lists → HandsOver (text_at texts n) (b.set n) last mark items → AreTakenTo texts (n + 1) last mark c
     → TookTo texts (n + 1) last mark a c more
 took_more texts n last mark a b c lists more items e l same push h one lanes = record {
   lanes = lanes;

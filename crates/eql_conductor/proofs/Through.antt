@@ -18,7 +18,7 @@ use Rattle.eql_cut.specs.declared.cut.Cut.{Cut}
 use Rattle.eql_cut.specs.declared.cut.CutHead.{CutHead}
 use Rattle.eql_cut.specs.Rising.{RiseFrom}
 use Rattle.eql_conductor.specs.Benches.{Known, Same}
-use Rattle.eql_conductor.specs.PartRounds.{Resting, pending_after}
+use Rattle.eql_conductor.specs.PartRounds.{AreAtRest, pending_after}
 use Rattle.eql_conductor.specs.Rounds.{GoesTo, OfTexts, found_by}
 use Rattle.eql_conductor.specs.Running.{IsTaken}
 use Rattle.eql_conductor.specs.Runs.{IsRunCut, WroteLinesOf, lines_before_end}
@@ -53,12 +53,12 @@ through_behind first then (Some w) mid now h k =
 
 -- ---- a run that came to a mark wrote something
 pub goes_more : (from to : Mark) (a b : Known) (book then : BookState) (before now : Option (List ℕ)) (rules : Rules) (all : List Holder) → GoesTo from to a b book then before now
-    → Resting rules all from a → WroteMore before now
+    → AreAtRest rules all from a → WroteMore before now
 goes_more from to a b book then before now rules all goes was = (lines_before_end book (found_by rules all goes.items), (goes.played rules all was).gave.wrote)
 
 -- ---- the lines of cuts that were put before something was written
 module _ (from : Mark) (a : Known) (book : BookState) (before mid now : Option (List ℕ))
-    (more : (reads : Reads) (slack : Option ℤ) (texts : List (List ℕ)) (rules : Rules) (all : List Holder) → OfTexts reads slack texts from a → Resting rules all from a → WroteMore mid now) where
+    (more : (reads : Reads) (slack : Option ℤ) (texts : List (List ℕ)) (rules : Rules) (all : List Holder) → OfTexts reads slack texts from a → AreAtRest rules all from a → WroteMore mid now) where
   lines_stay : (cut : Cut) → WroteLinesOf from a book before mid cut → WroteLinesOf from a book before now cut
   lines_stay cut wrote = λ reads slack texts rules all of was.
       through_more (lines_before_end book (found_by rules all (between reads slack texts from (At cut.mark)))) before mid now

@@ -37,34 +37,34 @@ pub record Same (old new : Known) : Type 0 where
 
 -- ---- what others do: they feed lanes, and turn parts
 -- from the one state, so many feeds lead to the other
-abbrev pub FedTimes : Setting → ℕ → LaneState → LaneState → Type 0
-FedTimes set zero old new = new ≡ old
-FedTimes set (suc n) old new = (mid : LaneState) × (max : ℕ) × (reply : LaneReply) × FeedStep set old max reply mid × FedTimes set n mid new
+abbrev pub FeedsTimes : Setting → ℕ → LaneState → LaneState → Type 0
+FeedsTimes set zero old new = new ≡ old
+FeedsTimes set (suc n) old new = (mid : LaneState) × (max : ℕ) × (reply : LaneReply) × FeedStep set old max reply mid × FeedsTimes set n mid new
 
-abbrev pub FedOn : Setting → LaneState → LaneState → Type 0
-FedOn set old new = (n : ℕ) × FedTimes set n old new
+abbrev pub ComesByFeeds : Setting → LaneState → LaneState → Type 0
+ComesByFeeds set old new = (n : ℕ) × FeedsTimes set n old new
 
 -- from the one state, so many turns lead to the other
-abbrev pub TurnedTimes : Rules → ℕ → PartState → PartState → Type 0
-TurnedTimes rules zero old new = new ≡ old
-TurnedTimes rules (suc n) old new = (mid : PartState) × (max : ℕ) × (reply : PartReply) × TurnStep rules old max reply mid × TurnedTimes rules n mid new
+abbrev pub TurnsTimes : Rules → ℕ → PartState → PartState → Type 0
+TurnsTimes rules zero old new = new ≡ old
+TurnsTimes rules (suc n) old new = (mid : PartState) × (max : ℕ) × (reply : PartReply) × TurnStep rules old max reply mid × TurnsTimes rules n mid new
 
-abbrev pub TurnedOn : Rules → PartState → PartState → Type 0
-TurnedOn rules old new = (n : ℕ) × TurnedTimes rules n old new
+abbrev pub ComesByTurns : Rules → PartState → PartState → Type 0
+ComesByTurns rules old new = (n : ℕ) × TurnsTimes rules n old new
 
 -- each state that a lane may have now comes by feeds of others from one that it might have
-abbrev pub LaneLeft : Setting → (LaneState → Type 0) → (LaneState → Type 0) → Type 0
-LaneLeft set old new = (y : LaneState) → new y → (x : LaneState) × old x × FedOn set x y
+abbrev pub LeavesLane : Setting → (LaneState → Type 0) → (LaneState → Type 0) → Type 0
+LeavesLane set old new = (y : LaneState) → new y → (x : LaneState) × old x × ComesByFeeds set x y
 
 -- each state that a part may have now comes by turns of others from one that it might have
-abbrev pub PartLeft : Rules → (PartState → Type 0) → (PartState → Type 0) → Type 0
-PartLeft rules old new = (y : PartState) → new y → (x : PartState) × old x × TurnedOn rules x y
+abbrev pub LeavesPart : Rules → (PartState → Type 0) → (PartState → Type 0) → Type 0
+LeavesPart rules old new = (y : PartState) → new y → (x : PartState) × old x × ComesByTurns rules x y
 
 pub record LanesRest (old new : Known) : Type 0 where
-  pub each : (s : ℕ) → s < old.lanes → LaneLeft (old.set s) (old.lane s) (new.lane s)
+  pub each : (s : ℕ) → s < old.lanes → LeavesLane (old.set s) (old.lane s) (new.lane s)
 
 pub record PartsRest (old new : Known) : Type 0 where
-  pub each : (p : ℕ) → p < old.parts → PartLeft (old.rules p) (old.part p) (new.part p)
+  pub each : (p : ℕ) → p < old.parts → LeavesPart (old.rules p) (old.part p) (new.part p)
 
 -- only others played
 pub record Rests (old new : Known) : Type 0 where
@@ -80,24 +80,24 @@ pub record PartNotesStay (old new : Known) : Type 0 where
   pub each : (p : ℕ) → p < old.parts → new.part_notes p ≡ old.part_notes p
 
 -- no feed of the caller failed
-abbrev pub NoneFailed : Known → Known → Type 0
-NoneFailed old new = (s : ℕ) → new.failed s ≡ old.failed s
+abbrev pub NoFeedFailed : Known → Known → Type 0
+NoFeedFailed old new = (s : ℕ) → new.failed s ≡ old.failed s
 
 -- ---- what a call does
 -- a state that a lane may have after a call: it comes by feeds of others and then the operation from one that it might have
-pub record LaneCalled (set : Setting) (might : LaneState → Type 0) (op : LaneOp) (reply : LaneReply) (now : LaneState) : Type 0 where
+pub record CallsLane (set : Setting) (might : LaneState → Type 0) (op : LaneOp) (reply : LaneReply) (now : LaneState) : Type 0 where
   pub first : LaneState
   pub before : LaneState
   pub was : might first
-  pub fed : FedOn set first before
+  pub fed : ComesByFeeds set first before
   pub step : LaneStep set before op reply now
 
 -- a state that a part may have after a call: it comes by turns of others and then the operation from one that it might have
-pub record PartCalled (rules : Rules) (might : PartState → Type 0) (op : PartOp) (reply : PartReply) (now : PartState) : Type 0 where
+pub record CallsPart (rules : Rules) (might : PartState → Type 0) (op : PartOp) (reply : PartReply) (now : PartState) : Type 0 where
   pub first : PartState
   pub before : PartState
   pub was : might first
-  pub turned : TurnedOn rules first before
+  pub turned : ComesByTurns rules first before
   pub step : PartStep rules before op reply now
 
 -- the number of a lane's feeds that failed rises where this one failed, and only there
@@ -108,9 +108,9 @@ FailsBy reply old new = new ≡ old
 -- an operation was played on a lane, which has a state; the other lanes and all parts were left to others
 pub record LanePlays (s : ℕ) (op : LaneOp) (reply : LaneReply) (old new : Known) : Type 0 where
   pub same : Same old new
-  pub called : (y : LaneState) → new.lane s y → LaneCalled (old.set s) (old.lane s) op reply y
+  pub called : (y : LaneState) → new.lane s y → CallsLane (old.set s) (old.lane s) op reply y
   pub some : (y : LaneState) × new.lane s y
-  pub others : (k : ℕ) → k < old.lanes → k ≢ s → LaneLeft (old.set k) (old.lane k) (new.lane k)
+  pub others : (k : ℕ) → k < old.lanes → k ≢ s → LeavesLane (old.set k) (old.lane k) (new.lane k)
   pub parts : PartsRest old new
   pub note : new.lane_notes s ≡ old.lane_notes s ++ lane_note op reply ∷ []
   pub other_notes : (k : ℕ) → k < old.lanes → k ≢ s → new.lane_notes k ≡ old.lane_notes k
@@ -122,28 +122,28 @@ pub record LanePlays (s : ℕ) (op : LaneOp) (reply : LaneReply) (old new : Know
 -- an operation was played on a part, which has a state; the other parts and all lanes were left to others
 pub record PartPlays (p : ℕ) (op : PartOp) (reply : PartReply) (old new : Known) : Type 0 where
   pub same : Same old new
-  pub called : (y : PartState) → new.part p y → PartCalled (old.rules p) (old.part p) op reply y
+  pub called : (y : PartState) → new.part p y → CallsPart (old.rules p) (old.part p) op reply y
   pub some : (y : PartState) × new.part p y
-  pub others : (k : ℕ) → k < old.parts → k ≢ p → PartLeft (old.rules k) (old.part k) (new.part k)
+  pub others : (k : ℕ) → k < old.parts → k ≢ p → LeavesPart (old.rules k) (old.part k) (new.part k)
   pub lanes : LanesRest old new
   pub note : new.part_notes p ≡ old.part_notes p ++ part_note op reply ∷ []
   pub other_notes : (k : ℕ) → k < old.parts → k ≢ p → new.part_notes k ≡ old.part_notes k
   pub lane_notes : LaneNotesStay old new
-  pub failed : NoneFailed old new
+  pub failed : NoFeedFailed old new
   pub worn : new.worn ≡ old.worn
 
 -- a lock was worn at a word of at least 2^63, or there was no room for a note
-abbrev pub WornBy : NotPlayed → ℕ → ℕ → Type 0
-WornBy (Worn word) old new = (2 ^ 63 ≤ word) × (old < new)
-WornBy Memory old new = new ≡ old
+abbrev pub IsWornBy : NotPlayed → ℕ → ℕ → Type 0
+IsWornBy (Worn word) old new = (2 ^ 63 ≤ word) × (old < new)
+IsWornBy Memory old new = new ≡ old
 
 -- the operation wasn't played
-pub record Unplayed (by : NotPlayed) (old new : Known) : Type 0 where
+pub record WasNotPlayed (by : NotPlayed) (old new : Known) : Type 0 where
   pub rests : Rests old new
   pub lane_notes : LaneNotesStay old new
   pub part_notes : PartNotesStay old new
-  pub failed : NoneFailed old new
-  pub worn : WornBy by old.worn new.worn
+  pub failed : NoFeedFailed old new
+  pub worn : IsWornBy by old.worn new.worn
 
 -- the operation is allowed in each state that the part may have
 abbrev pub MayPlay : Known → ℕ → PartOp → Type 0

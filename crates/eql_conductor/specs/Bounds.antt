@@ -4,7 +4,7 @@ use Rattle.eql_values.specs.declared.order.Mark.{Mark}
 use Rattle.eql_values.specs.declared.order.Mark.TheVariants.{End}
 use Rattle.eql_laws.specs.Counting.{greatest_bytes, greatest_lines}
 use Rattle.eql_lane.specs.Lanes.{Setting, LaneState, low, ready}
-use Rattle.eql_conductor.specs.Benches.{Known, FedOn, LaneLeft}
+use Rattle.eql_conductor.specs.Benches.{Known, ComesByFeeds, LeavesLane}
 
 -- ---- how far a lane is
 -- how many events it holds
@@ -40,9 +40,9 @@ pub record WasFed (set : Setting) (old new : LaneState) : Type 0 where
 -- it was looked at: it had this low, at a state between
 pub record HadLow (set : Setting) (mark : Mark) (old new : LaneState) : Type 0 where
   pub state : LaneState
-  pub before : FedOn set old state
+  pub before : ComesByFeeds set old state
   pub low_is : low set state ≡ mark
-  pub later : FedOn set state new
+  pub later : ComesByFeeds set state new
 
 -- it was taken from, up to this mark: where it held so many events below its low, and the mark is that, it went a step
 pub record GaveOut (set : Setting) (mark : Mark) (old new : LaneState) : Type 0 where
@@ -64,11 +64,11 @@ pub record LaneGaveOut (s : ℕ) (mark : Mark) (old new : Known) : Type 0 where
   pub each : (y : LaneState) → new.lane s y → (x : LaneState) × old.lane s x × GaveOut (old.set s) mark x y
 
 -- the lanes below n were fed
-pub record FedTo (n : ℕ) (old new : Known) : Type 0 where
+pub record FeedsTo (n : ℕ) (old new : Known) : Type 0 where
   pub each : (s : ℕ) → s < old.lanes → s < n → LaneWasFed s old new
 
 -- all were
-pub record AllFed (old new : Known) : Type 0 where
+pub record FeedsAll (old new : Known) : Type 0 where
   pub each : (s : ℕ) → s < old.lanes → LaneWasFed s old new
 
 -- the mark is the end, or a lane had it as its low
@@ -78,12 +78,12 @@ IsSomeLow mark old new = (mark ≡ End) ⊎ ((s : ℕ) × LaneHadLow s mark old 
 -- one lane was taken from, and the others were left to others
 pub record OneGaveOut (s : ℕ) (mark : Mark) (old new : Known) : Type 0 where
   pub lane : LaneGaveOut s mark old new
-  pub left : (k : ℕ) → k < old.lanes → k ≢ s → LaneLeft (old.set k) (old.lane k) (new.lane k)
+  pub left : (k : ℕ) → k < old.lanes → k ≢ s → LeavesLane (old.set k) (old.lane k) (new.lane k)
 
 -- the lanes below n were taken from, and the others were left to others
 pub record GaveOutTo (n : ℕ) (mark : Mark) (old new : Known) : Type 0 where
   pub done : (s : ℕ) → s < old.lanes → s < n → LaneGaveOut s mark old new
-  pub left : (s : ℕ) → s < old.lanes → n ≤ s → LaneLeft (old.set s) (old.lane s) (new.lane s)
+  pub left : (s : ℕ) → s < old.lanes → n ≤ s → LeavesLane (old.set s) (old.lane s) (new.lane s)
 
 -- all were taken from
 pub record AllGaveOut (mark : Mark) (old new : Known) : Type 0 where
@@ -96,7 +96,7 @@ sum_from steps s zero = 0
 sum_from steps s (suc count) = steps s + sum_from steps (s + 1) count
 
 -- the lanes went on by n steps in all: each by its own number of them, whatever state it may have now
-pub record Spent (n : ℕ) (old new : Known) : Type 0 where
+pub record Spends (n : ℕ) (old new : Known) : Type 0 where
   pub steps : ℕ → ℕ
   pub total : sum_from steps 0 old.lanes ≡ n
   pub each : (s : ℕ) → s < old.lanes → (y : LaneState) → new.lane s y → (x : LaneState) × old.lane s x × Gains (steps s) x y
@@ -113,7 +113,7 @@ mark_after last (Some mark) = mark
 -- a round after which the mark isn't the end took a step
 pub record RoundSpends (last : Mark) (old new : Known) (counted : Option Mark) : Type 0 where
   pub some : HaveStates old
-  pub step : mark_after last counted ≢ End → Spent 1 old new
+  pub step : mark_after last counted ≢ End → Spends 1 old new
 
 -- ---- a loop of rounds ends
 -- each lane is of a size that a shard may have, in each state that it may have
@@ -125,6 +125,6 @@ abbrev pub lane_steps : ℕ
 lane_steps = 3 * greatest_bytes + greatest_lines
 
 -- n rounds were played, none of which was the last
-pub record RoundsSpent (n : ℕ) (old new : Known) : Type 0 where
-  pub spent : Spent n old new
+pub record RoundsSpend (n : ℕ) (old new : Known) : Type 0 where
+  pub spent : Spends n old new
   pub few : n ≤ 1 + old.lanes * lane_steps

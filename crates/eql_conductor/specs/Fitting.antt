@@ -7,7 +7,7 @@ use Rattle.eql_values.specs.Accepted.{Reads}
 use Rattle.eql_laws.specs.Belows.{between}
 use Rattle.eql_parts.specs.PartSteps.{CanDeliver}
 use Rattle.eql_conductor.specs.Benches.{Known}
-use Rattle.eql_conductor.specs.Handed.{HandedOut}
+use Rattle.eql_conductor.specs.Handed.{AllHandOut}
 use Rattle.eql_conductor.specs.Rounds.{OfTexts}
 
 -- whether there is a route
@@ -29,4 +29,4 @@ pub record TakesFitting (last mark : Mark) (old new : Known) (items : List Item)
   pub items_are : items ≡ fitting all
   pub can : CanDeliver last all mark
   pub told : (reads : Reads) (slack : Option ℤ) (texts : List (List ℕ)) → OfTexts reads slack texts last old → all ≡ between reads slack texts last mark
-  pub handed : HandedOut (length all) old new
+  pub handed : AllHandOut (length all) old new

@@ -9,7 +9,7 @@ use Rattle.eql_conductor.specs.declared.bench.NotPlayed.{NotPlayed}
 use Rattle.eql_conductor.specs.declared.bench.NotPlayed.TheVariants as not_played
 use Rattle.eql_conductor.specs.declared.stop.Stop.{Stop}
 use Rattle.eql_conductor.specs.declared.stop.Stop.TheVariants as stop
-use Rattle.eql_conductor.specs.Benches.{Known, Same, NoneFailed}
+use Rattle.eql_conductor.specs.Benches.{Known, Same, NoFeedFailed}
 use Rattle.eql_conductor.specs.Bounds.{Gains, IsSized}
 
 -- neither the count of faults, the number of bytes that were taken, nor the low falls, it isn't taken back, and it stays of its size
@@ -27,7 +27,7 @@ pub record LanesGo (old new : Known) : Type 0 where
 
 -- no feed of the caller failed, and no lock was worn at its calls
 pub record Went (old new : Known) : Type 0 where
-  pub failed : NoneFailed old new
+  pub failed : NoFeedFailed old new
   pub worn : new.worn ≡ old.worn
 
 -- each state that the lane may have now has a count of faults that rose from one that it might have
@@ -35,7 +35,7 @@ abbrev pub FaultRose : ℕ → Known → Known → Type 0
 FaultRose s old new = (y : LaneState) → new.lane s y → (x : LaneState) × old.lane s x × Rose x.faults y.faults
 
 -- one of the caller's feeds of this lane failed, none of another lane, and no lock was worn
-pub record FailedAt (s : ℕ) (old new : Known) : Type 0 where
+pub record FailsAt (s : ℕ) (old new : Known) : Type 0 where
   pub failed : old.failed s < new.failed s
   pub others : (k : ℕ) → k ≢ s → new.failed k ≡ old.failed k
   pub worn : new.worn ≡ old.worn
@@ -43,10 +43,10 @@ pub record FailedAt (s : ℕ) (old new : Known) : Type 0 where
 -- why the conductor stops at a call of the bench: one of its own feeds failed, and the lane's count rose; a lane is at a limit in each
 -- state that it may have; a lock was worn. In every other case, and of every other count, nothing rose
 abbrev pub StopsBy : Stop → Known → Known → Type 0
-StopsBy (stop.Read s) old new = (s < old.lanes) × FaultRose s old new × FailedAt s old new
+StopsBy (stop.Read s) old new = (s < old.lanes) × FaultRose s old new × FailsAt s old new
 StopsBy (stop.Limit (limit.Lines s)) old new = (s < old.lanes) × ((y : LaneState) → new.lane s y → OutOfLines (old.set s) y) × Went old new
 StopsBy (stop.Limit (limit.Bytes s)) old new = (s < old.lanes) × ((y : LaneState) → new.lane s y → y.taken ≡ greatest_bytes) × Went old new
-StopsBy (stop.Limit limit.Turns) old new = (old.worn < new.worn) × NoneFailed old new
+StopsBy (stop.Limit limit.Turns) old new = (old.worn < new.worn) × NoFeedFailed old new
 StopsBy (stop.Limit limit.Generation) old new = ⊥
 StopsBy stop.Write old new = ⊥
 StopsBy stop.Disk old new = ⊥

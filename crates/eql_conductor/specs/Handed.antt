@@ -28,7 +28,7 @@ abbrev pub sizes : List (List Item) → ℕ → ℕ
 sizes lists s = length (get_or lists s [])
 
 -- all lanes together may have handed out so many
-pub record HandedOut (n : ℕ) (old new : Known) : Type 0 where
+pub record AllHandOut (n : ℕ) (old new : Known) : Type 0 where
   pub counts : ℕ → ℕ
   pub total : n ≤ total_to old.lanes counts
   pub each : LanesHand counts old new

@@ -24,7 +24,7 @@ pub record LanesAt (texts : Option (List (List ℕ))) (mark : Mark) (b : Known) 
   pub each : (s : ℕ) → s < b.lanes → (x : LaneState) → b.lane s x → LaneAt (text_at texts s) (b.set s) mark x
 
 -- the lanes below n handed out all that lies below the one mark, and the others all that lies below the last one
-pub record TakingTo (texts : Option (List (List ℕ))) (n : ℕ) (last mark : Mark) (b : Known) : Type 0 where
+pub record AreTakenTo (texts : Option (List (List ℕ))) (n : ℕ) (last mark : Mark) (b : Known) : Type 0 where
   pub are : AreLanes b
   pub taken : (s : ℕ) → s < b.lanes → s < n → (x : LaneState) → b.lane s x → LaneAt (text_at texts s) (b.set s) mark x
   pub left : (s : ℕ) → s < b.lanes → n ≤ s → (x : LaneState) → b.lane s x → LaneAt (text_at texts s) (b.set s) last x
@@ -53,5 +53,5 @@ pub record AllHandOver (texts : Option (List (List ℕ))) (last mark : Mark) (b 
 
 -- what is known once the lanes below n were taken from, where these texts are given
 pub record TookTo (texts : Option (List (List ℕ))) (n : ℕ) (last mark : Mark) (old now : Known) (lists : List (List Item)) : Type 0 where
-  pub lanes : TakingTo texts n last mark now
+  pub lanes : AreTakenTo texts n last mark now
   pub each : HandsFrom texts last mark old 0 lists

@@ -18,10 +18,10 @@ use Rattle.eql_rounds.specs.Finding.{own_of}
 use Rattle.eql_book.specs.Books.{BookState, FitsPipes}
 use Rattle.eql_book.specs.Laws.{fresh_cut as fresh_book}
 use Rattle.eql_conductor.specs.declared.plan.RunPlan.{RunPlan}
-use Rattle.eql_conductor.specs.Benches.{FedOn, Known, TurnedOn}
+use Rattle.eql_conductor.specs.Benches.{ComesByFeeds, Known, ComesByTurns}
 use Rattle.eql_conductor.specs.Bounds.{AreSized}
 use Rattle.eql_conductor.specs.LaneRounds.{AreLanes, LanesAt, text_at}
-use Rattle.eql_conductor.specs.PartRounds.{AreParts, Resting, SomeFull}
+use Rattle.eql_conductor.specs.PartRounds.{AreParts, AreAtRest, AreSomehowFull}
 use Rattle.eql_conductor.specs.Rounds.{OfTexts, ReadTexts}
 use Rattle.eql_conductor.specs.Runs.{MayRun}
 use Rattle.eql_conductor.specs.Saving.{BookKeepsNumbers}
@@ -43,13 +43,13 @@ begun_part rules holders mark = record {
 }
 
 -- each lane and each part began with its state of these, and only others played since
-pub record Opened (b : Known) (lane : ℕ → LaneState) (part : ℕ → PartState) : Type 0 where
-  pub lanes : (s : ℕ) → s < b.lanes → (x : LaneState) → b.lane s x → FedOn (b.set s) (lane s) x
-  pub parts : (p : ℕ) → p < b.parts → (x : PartState) → b.part p x → TurnedOn (b.rules p) (part p) x
+pub record OpensWith (b : Known) (lane : ℕ → LaneState) (part : ℕ → PartState) : Type 0 where
+  pub lanes : (s : ℕ) → s < b.lanes → (x : LaneState) → b.lane s x → ComesByFeeds (b.set s) (lane s) x
+  pub parts : (p : ℕ) → p < b.parts → (x : PartState) → b.part p x → ComesByTurns (b.rules p) (part p) x
 
 -- lanes and parts that a run may have, opened from these states
 pub record OpensAt (b : Known) (lane : ℕ → LaneState) (part : ℕ → PartState) (rules : Rules) : Type 0 where
-  pub opened : Opened b lane part
+  pub opened : OpensWith b lane part
   pub are_lanes : AreLanes b
   pub are_parts : AreParts rules b
 
@@ -88,8 +88,8 @@ IsSafeCut slack kept = IsTrue (is_safe (At kept.time) (map (λ (lane : LaneCut).
 pub record BeginsAt (rules : Rules) (all : List Holder) (mark : Mark) (b : Known) : Type 0 where
   pub lanes : LanesAt None mark b
   pub sized : AreSized b
-  pub parts : SomeFull mark b
-  pub rests : Resting rules all mark b
+  pub parts : AreSomehowFull mark b
+  pub rests : AreAtRest rules all mark b
 
 -- what a run's plan, its lanes' number and its book must be, however it begins
 pub record IsPlanned (plan : RunPlan) (mark : Mark) (b : Known) (book : BookState) : Type 0 where

@@ -45,49 +45,49 @@ module _ (rules : Rules) (all : List Holder) where
   pending_after items = after rules.stages rules.span all items
 
 -- each part is at rest at a mark
-pub record Resting (rules : Rules) (all : List Holder) (mark : Mark) (b : Known) : Type 0 where
+pub record AreAtRest (rules : Rules) (all : List Holder) (mark : Mark) (b : Known) : Type 0 where
   pub are : AreParts rules b
   pub each : (p : ℕ) → p < b.parts → (x : PartState) → b.part p x → IsAtRest rules all mark p x
 
 -- to the parts below n their events were delivered
-abbrev pub Delivering : Rules → List Holder → List Item → (last mark : Mark) → ℕ → Known → Type 0
-Delivering rules all items last mark n b = Phase rules n (IsDelivered rules all items mark) (IsAtRest rules all last) b
+abbrev pub AreDelivered : Rules → List Holder → List Item → (last mark : Mark) → ℕ → Known → Type 0
+AreDelivered rules all items last mark n b = Phase rules n (IsDelivered rules all items mark) (IsAtRest rules all last) b
 
 -- the parts below n played them
-abbrev pub Turning : Rules → List Holder → List Item → Mark → ℕ → Known → Type 0
-Turning rules all items mark n b = Phase rules n (IsPlayed rules all items mark) (IsDelivered rules all items mark) b
+abbrev pub ArePlayed : Rules → List Holder → List Item → Mark → ℕ → Known → Type 0
+ArePlayed rules all items mark n b = Phase rules n (IsPlayed rules all items mark) (IsDelivered rules all items mark) b
 
 -- of the parts below n the matches were collected
-abbrev pub Collecting : Rules → List Holder → List Item → Mark → ℕ → Known → Type 0
-Collecting rules all items mark n b = Phase rules n (IsAtRest rules (pending_after rules all items) mark) (IsPlayed rules all items mark) b
+abbrev pub AreCollected : Rules → List Holder → List Item → Mark → ℕ → Known → Type 0
+AreCollected rules all items mark n b = Phase rules n (IsAtRest rules (pending_after rules all items) mark) (IsPlayed rules all items mark) b
 
 -- there are rules and pending sequences so that it is so
-pub record SomeResting (mark : Mark) (b : Known) : Type 0 where
+pub record AreSomehowAtRest (mark : Mark) (b : Known) : Type 0 where
   pub rules : Rules
   pub all : List Holder
-  pub is : Resting rules all mark b
+  pub is : AreAtRest rules all mark b
 
 -- and each pending sequence has an event for each stage up to its own
-pub record SomeFull (mark : Mark) (b : Known) : Type 0 where
+pub record AreSomehowFull (mark : Mark) (b : Known) : Type 0 where
   pub rules : Rules
   pub all : List Holder
-  pub is : Resting rules all mark b
+  pub is : AreAtRest rules all mark b
   pub full : All IsFull all
 
-pub record SomeDelivering (items : List Item) (last mark : Mark) (n : ℕ) (b : Known) : Type 0 where
+pub record AreSomehowDelivered (items : List Item) (last mark : Mark) (n : ℕ) (b : Known) : Type 0 where
   pub rules : Rules
   pub all : List Holder
-  pub is : Delivering rules all items last mark n b
+  pub is : AreDelivered rules all items last mark n b
 
-pub record SomeTurning (items : List Item) (mark : Mark) (n : ℕ) (b : Known) : Type 0 where
+pub record AreSomehowPlayed (items : List Item) (mark : Mark) (n : ℕ) (b : Known) : Type 0 where
   pub rules : Rules
   pub all : List Holder
-  pub is : Turning rules all items mark n b
+  pub is : ArePlayed rules all items mark n b
 
-pub record SomeCollecting (items : List Item) (mark : Mark) (n : ℕ) (b : Known) : Type 0 where
+pub record AreSomehowCollected (items : List Item) (mark : Mark) (n : ℕ) (b : Known) : Type 0 where
   pub rules : Rules
   pub all : List Holder
-  pub is : Collecting rules all items mark n b
+  pub is : AreCollected rules all items mark n b
 
 -- no more events than this wait at the part
 pub record WaitAtMost (p n : ℕ) (b : Known) : Type 0 where
@@ -100,5 +100,5 @@ FewerWait p left b None = Unit {0}
 
 -- and the part is as before, or played all
 abbrev pub TurnGoes : Rules → List Holder → List Item → Mark → ℕ → Known → Option ℕ → Type 0
-TurnGoes rules all items mark p b (Some less) = Turning rules all items mark p b
-TurnGoes rules all items mark p b None = Turning rules all items mark (p + 1) b
+TurnGoes rules all items mark p b (Some less) = ArePlayed rules all items mark p b
+TurnGoes rules all items mark p b None = ArePlayed rules all items mark (p + 1) b

@@ -11,8 +11,8 @@ use Rattle.eql_conductor.specs.declared.plan.End.{End as Ends}
 use Rattle.eql_conductor.specs.declared.plan.Keep.{Keep}
 use Rattle.eql_conductor.specs.declared.plan.RunPlan.{RunPlan}
 use Rattle.eql_conductor.specs.Benches.{Known}
-use Rattle.eql_conductor.specs.RunBounds.{RunBounded}
-use Rattle.eql_conductor.specs.RunLaws.{BeginsTold, Listed}
+use Rattle.eql_conductor.specs.RunBounds.{RunIsBounded}
+use Rattle.eql_conductor.specs.RunLaws.{BeginsTold, ListsByAnswer}
 use Rattle.eql_conductor.specs.RunNotes.{RunNotes, round_count}
 use Rattle.eql_conductor.specs.Runs.{KeepGoes, RunIs, WroteLinesOf, cut_time}
 
@@ -21,7 +21,7 @@ use Rattle.eql_conductor.specs.Runs.{KeepGoes, RunIs, WroteLinesOf, cut_time}
 abbrev pub ListsTold : RunPlan → (old new : Known) → (book then : BookState) → (before now : Option (List ℕ)) → List Cut → Ends → Type 0
 ListsTold plan old new book then before now cuts answer =
     (rules : Rules) (reads : Reads) (slack : Option ℤ) (texts : List (List ℕ)) (all : List Holder) → BeginsTold rules reads slack texts plan.mark all old book
-    → Listed rules reads slack texts plan.mark new book then before now cuts answer
+    → ListsByAnswer rules reads slack texts plan.mark new book then before now cuts answer
 
 module _ {D : Type 0} (history : D → Option History) (count : D → ℕ) where
   -- which cuts a run put, what it wrote, the lines that each cut counts among it, and what it played for that, round by round
@@ -33,4 +33,4 @@ module _ {D : Type 0} (history : D → Option History) (count : D → ℕ) where
     pub wrote : All (WroteLinesOf plan.mark old book before now) cuts
     pub rise : RiseFrom plan.mark cuts
     pub notes : RunNotes plan (map cut_time cuts) old new answer
-    pub bound : RunBounded (round_count plan (map cut_time cuts) old new answer notes) old new
+    pub bound : RunIsBounded (round_count plan (map cut_time cuts) old new answer notes) old new

@@ -13,7 +13,7 @@ use Rattle.eql_conductor.specs.declared.note.Note.{Note}
 use Rattle.eql_conductor.specs.declared.note.Note.TheVariants as note
 use Rattle.eql_conductor.specs.Benches.{Known, LaneNotesStay, PartNotesStay}
 use Rattle.eql_conductor.specs.PartRounds.{WaitAtMost}
-use Rattle.eql_conductor.specs.Handed.{HandedOut}
+use Rattle.eql_conductor.specs.Handed.{AllHandOut}
 
 -- ---- a lane's round
 -- the low of a lane
@@ -47,48 +47,48 @@ pub record LanesGrowFront (more : ℕ → List Note) (old new : Known) : Type 0 
   pub each : (s : ℕ) → s < old.lanes → GrewFront (old.lane_notes s) (more s) (new.lane_notes s)
 
 -- the notes of each lane grew by these, and those of no part
-pub record LanesNoted (more : ℕ → List Note) (old new : Known) : Type 0 where
+pub record NotesLanes (more : ℕ → List Note) (old new : Known) : Type 0 where
   pub lanes : LanesGrow more old new
   pub parts : PartNotesStay old new
 
-pub record LanesBroken (more : ℕ → List Note) (old new : Known) : Type 0 where
+pub record NotesLanesFront (more : ℕ → List Note) (old new : Known) : Type 0 where
   pub lanes : LanesGrowFront more old new
   pub parts : PartNotesStay old new
 
 -- the notes of this lane grew by these, and those of nothing else
-pub record LaneNoted (s : ℕ) (more : List Note) (old new : Known) : Type 0 where
+pub record NotesLane (s : ℕ) (more : List Note) (old new : Known) : Type 0 where
   pub grew : new.lane_notes s ≡ old.lane_notes s ++ more
   pub others : (k : ℕ) → k < old.lanes → k ≢ s → new.lane_notes k ≡ old.lane_notes k
   pub parts : PartNotesStay old new
 
-pub record LaneBroken (s : ℕ) (more : List Note) (old new : Known) : Type 0 where
+pub record NotesLaneFront (s : ℕ) (more : List Note) (old new : Known) : Type 0 where
   pub n : ℕ
-  pub noted : LaneNoted s (take n more) old new
+  pub noted : NotesLane s (take n more) old new
 
 -- in a loop: the notes of the lanes below n grew by these
-pub record NotedTo (n : ℕ) (more : ℕ → List Note) (old now : Known) : Type 0 where
+pub record NotesLanesTo (n : ℕ) (more : ℕ → List Note) (old now : Known) : Type 0 where
   pub done : (s : ℕ) → s < old.lanes → s < n → now.lane_notes s ≡ old.lane_notes s ++ more s
   pub left : (s : ℕ) → s < old.lanes → n ≤ s → now.lane_notes s ≡ old.lane_notes s
   pub parts : PartNotesStay old now
 
 -- each lane was looked at, and the mark is the least of their lows
-pub record LooksNoted (old new : Known) (mark : Mark) : Type 0 where
+pub record NotesLooks (old new : Known) (mark : Mark) : Type 0 where
   pub lows : List Mark
   pub count : length lows ≡ old.lanes
   pub least : mark ≡ least_of lows
-  pub noted : LanesNoted (λ s. note.Looked (low_at lows s) ∷ []) old new
+  pub noted : NotesLanes (λ s. note.Looked (low_at lows s) ∷ []) old new
 
-pub record LooksBroken (old new : Known) : Type 0 where
+pub record NotesLooksFront (old new : Known) : Type 0 where
   pub lows : List Mark
   pub count : length lows ≡ old.lanes
-  pub noted : LanesBroken (λ s. note.Looked (low_at lows s) ∷ []) old new
+  pub noted : NotesLanesFront (λ s. note.Looked (low_at lows s) ∷ []) old new
 
 -- in a loop: the lanes below n were looked at
-pub record LookedTo (n : ℕ) (mark : Mark) (old now : Known) : Type 0 where
+pub record NotesLooksTo (n : ℕ) (mark : Mark) (old now : Known) : Type 0 where
   pub lows : List Mark
   pub count : length lows ≡ n
   pub least : mark ≡ least_of lows
-  pub noted : NotedTo n (λ s. note.Looked (low_at lows s) ∷ []) old now
+  pub noted : NotesLanesTo n (λ s. note.Looked (low_at lows s) ∷ []) old now
 
 -- ---- parts
 -- whether it tells of events that were played
@@ -114,12 +114,12 @@ pub record GrewBy (turns others : ℕ) (old new : List Note) : Type 0 where
 pub record PartsGrow (turns : ℕ → ℕ) (others : ℕ) (old new : Known) : Type 0 where
   pub each : (p : ℕ) → p < old.parts → GrewBy (turns p) others (old.part_notes p) (new.part_notes p)
 
-pub record PartsNoted (turns : ℕ → ℕ) (others : ℕ) (old new : Known) : Type 0 where
+pub record NotesParts (turns : ℕ → ℕ) (others : ℕ) (old new : Known) : Type 0 where
   pub parts : PartsGrow turns others old new
   pub lanes : LaneNotesStay old new
 
 -- those of this part, and of nothing else
-pub record PartNoted (p turns others : ℕ) (old new : Known) : Type 0 where
+pub record NotesPart (p turns others : ℕ) (old new : Known) : Type 0 where
   pub grew : GrewBy turns others (old.part_notes p) (new.part_notes p)
   pub rest : (k : ℕ) → k < old.parts → k ≢ p → new.part_notes k ≡ old.part_notes k
   pub lanes : LaneNotesStay old new
@@ -131,17 +131,17 @@ pub record PartsTo (n : ℕ) (turns : ℕ → ℕ) (others : ℕ) (old now : Kno
   pub lanes : LaneNotesStay old now
 
 -- a part at which at most so many events waited played some: as many turns and events that may still wait together are no more
-pub record TurnedSome (w p : ℕ) (old new : Known) : Type 0 where
+pub record TurnsSome (w p : ℕ) (old new : Known) : Type 0 where
   pub turns : ℕ
   pub wait : ℕ
   pub few : turns + wait ≤ w
   pub waits : WaitAtMost p wait new
-  pub noted : PartNoted p turns 0 old new
+  pub noted : NotesPart p turns 0 old new
 
 -- a turn at which at most so many events waited
-abbrev pub TurnNoted : (w p : ℕ) (old new : Known) → Option ℕ → Type 0
-TurnNoted w p old new (Some less) = TurnedSome w p old new
-TurnNoted w p old new None = PartNoted p 0 1 old new
+abbrev pub NotesTurn : (w p : ℕ) (old new : Known) → Option ℕ → Type 0
+NotesTurn w p old new (Some less) = TurnsSome w p old new
+NotesTurn w p old new None = NotesPart p 0 1 old new
 
 -- how many events of these are delivered to a part
 abbrev pub delivered_to : List Item → ℕ → ℕ
@@ -149,9 +149,9 @@ delivered_to items p = length (routed part_number p items)
 
 -- events that the lanes handed out were played: the notes of each part grew by at most one for each event that was delivered to it, and at
 -- most so many others
-pub record PartsPlayed (others : ℕ) (old new : Known) : Type 0 where
+pub record PlaysParts (others : ℕ) (old new : Known) : Type 0 where
   pub items : List Item
-  pub handed : HandedOut (length items) old new
+  pub handed : AllHandOut (length items) old new
   pub parts : PartsGrow (delivered_to items) others old new
 
 -- ---- over rounds
@@ -172,25 +172,25 @@ pub record PartsInRounds (rounds : ℕ) (old new : Known) : Type 0 where
 
 -- ---- a round
 -- what lies below a mark was taken and played
-pub record AdvanceNoted (mark : Mark) (old new : Known) : Type 0 where
+pub record NotesAdvance (mark : Mark) (old new : Known) : Type 0 where
   pub lanes : LanesGrow (λ s. note.Took mark ∷ []) old new
-  pub parts : PartsPlayed 3 old new
+  pub parts : PlaysParts 3 old new
 
-pub record AdvanceBroken (mark : Mark) (old new : Known) : Type 0 where
+pub record NotesAdvanceFront (mark : Mark) (old new : Known) : Type 0 where
   pub lanes : LanesGrowFront (λ s. note.Took mark ∷ []) old new
-  pub parts : PartsPlayed 3 old new
+  pub parts : PlaysParts 3 old new
 
 -- a round with these lows: each lane was fed and looked at, and where the least low is greater than the last mark it was taken from up to that
-pub record RoundNoted (last : Mark) (batch : ℕ) (old new : Known) (answer : Option Mark) : Type 0 where
+pub record NotesRound (last : Mark) (batch : ℕ) (old new : Known) (answer : Option Mark) : Type 0 where
   pub lows : List Mark
   pub count : length lows ≡ old.lanes
   pub counts : answer ≡ counted last lows
   pub lanes : LanesGrow (λ s. lane_round batch (low_at lows s) (counted last lows)) old new
-  pub parts : PartsPlayed 3 old new
+  pub parts : PlaysParts 3 old new
 
 -- a round that broke off
-pub record RoundBroken (last : Mark) (batch : ℕ) (old new : Known) : Type 0 where
+pub record NotesRoundFront (last : Mark) (batch : ℕ) (old new : Known) : Type 0 where
   pub lows : List Mark
   pub count : length lows ≡ old.lanes
   pub lanes : LanesGrowFront (λ s. lane_round batch (low_at lows s) (counted last lows)) old new
-  pub parts : PartsPlayed 3 old new
+  pub parts : PlaysParts 3 old new

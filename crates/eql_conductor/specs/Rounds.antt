@@ -19,7 +19,7 @@ use Rattle.eql_conductor.specs.declared.stop.Stop.TheVariants as stop
 use Rattle.eql_conductor.specs.Benches.{Known}
 use Rattle.eql_conductor.specs.Going.{StopsBy, Went}
 use Rattle.eql_conductor.specs.LaneRounds.{LanesAt}
-use Rattle.eql_conductor.specs.PartRounds.{Resting, pending_after}
+use Rattle.eql_conductor.specs.PartRounds.{AreAtRest, pending_after}
 
 -- there is a text for each lane, and all lanes have one reading and one slack
 pub record ReadTexts (reads : Reads) (slack : Option ℤ) (texts : List (List ℕ)) (b : Known) : Type 0 where
@@ -42,8 +42,8 @@ pub record Gave (more : List Match) (book then : BookState) (before now : Option
   pub wrote : WroteAll (listing book.places (let_out book.pipes book.kept more)) before now
 
 -- events were played up to a mark: the parts are at rest there, and the matches were given to the book
-pub record Played (rules : Rules) (all : List Holder) (items : List Item) (mark : Mark) (new : Known) (book then : BookState) (before now : Option (List ℕ)) : Type 0 where
-  pub parts : Resting rules (pending_after rules all items) mark new
+pub record PlaysTo (rules : Rules) (all : List Holder) (items : List Item) (mark : Mark) (new : Known) (book then : BookState) (before now : Option (List ℕ)) : Type 0 where
+  pub parts : AreAtRest rules (pending_after rules all items) mark new
   pub gave : Gave (found_by rules all items) book then before now
 
 -- from one mark on, all events below another were taken and played: of told texts these are those between the marks
@@ -52,18 +52,18 @@ pub record GoesTo (from to : Mark) (old new : Known) (book then : BookState) (be
   pub lanes : (texts : Option (List (List ℕ))) → LanesAt texts from old → LanesAt texts to new
   pub items : List Item
   pub told : (reads : Reads) (slack : Option ℤ) (texts : List (List ℕ)) → OfTexts reads slack texts from old → items ≡ between reads slack texts from to
-  pub played : (rules : Rules) (all : List Holder) → Resting rules all from old → Played rules all items to new book then before now
+  pub played : (rules : Rules) (all : List Holder) → AreAtRest rules all from old → PlaysTo rules all items to new book then before now
 
 -- a counted round that stopped: where the book is whole, nothing was given to it; and a front was written of what was to come out
 pub record RoundBreaks (last mark : Mark) (old : Known) (book then : BookState) (before now : Option (List ℕ)) : Type 0 where
   pub whole : then.whole ≡ true → then ≡ book
-  pub told : (reads : Reads) (slack : Option ℤ) (texts : List (List ℕ)) (rules : Rules) (all : List Holder) → OfTexts reads slack texts last old → Resting rules all last old
+  pub told : (reads : Reads) (slack : Option ℤ) (texts : List (List ℕ)) (rules : Rules) (all : List Holder) → OfTexts reads slack texts last old → AreAtRest rules all last old
       → WroteFront (listing book.places (let_out book.pipes book.kept (found_by rules all (between reads slack texts last mark)))) before now
 
 -- a round that doesn't count: all is as it was but for what others do
 pub record RoundRests (last : Mark) (old new : Known) (book then : BookState) (before now : Option (List ℕ)) : Type 0 where
   pub lanes : (texts : Option (List (List ℕ))) → LanesAt texts last old → LanesAt texts last new
-  pub parts : (rules : Rules) (all : List Holder) → Resting rules all last old → Resting rules all last new
+  pub parts : (rules : Rules) (all : List Holder) → AreAtRest rules all last old → AreAtRest rules all last new
   pub book_is : then ≡ book
   pub wrote_is : now ≡ before
 

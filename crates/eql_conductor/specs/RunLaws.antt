@@ -28,9 +28,9 @@ use Rattle.eql_conductor.specs.declared.plan.End.TheVariants as end
 use Rattle.eql_conductor.specs.Benches.{Known}
 use Rattle.eql_conductor.specs.LaneRounds.{IsSafe}
 use Rattle.eql_conductor.specs.Openings.{IsCutOfTexts, IsSafeCut, OpensFresh, OpensFrom, SuitsBench, TellsTexts}
-use Rattle.eql_conductor.specs.PartRounds.{Resting}
+use Rattle.eql_conductor.specs.PartRounds.{AreAtRest}
 use Rattle.eql_conductor.specs.Rounds.{OfTexts, found_by}
-use Rattle.eql_conductor.specs.Runs.{IsCutOf, StoppedAt, whole_lines}
+use Rattle.eql_conductor.specs.Runs.{IsCutOf, RunStopsAt, whole_lines}
 
 -- the rules of the parts of a run
 abbrev pub rules_of : Run → Rules
@@ -76,7 +76,7 @@ module _ (rules : Rules) (reads : Reads) (slack : Option ℤ) (texts : List (Lis
   -- it began where all events below its mark were played, and its matches have numbers
   pub record BeginsTold (from : Mark) (all : List Holder) (old : Known) (book : BookState) : Type 0 where
     pub texts_are : OfTexts reads slack texts from old
-    pub rests : Resting rules all from old
+    pub rests : AreAtRest rules all from old
     pub played : HavePlayed rules reads slack texts from all book
     pub numbers : HaveNumbers rules reads slack texts
 
@@ -89,9 +89,9 @@ module _ (rules : Rules) (reads : Reads) (slack : Option ℤ) (texts : List (Lis
     pub so : StopsInLines rules reads slack texts from mark book then before now
 
   -- what it wrote, by its answer
-  abbrev pub Listed : (from : Mark) (new : Known) (book then : BookState) (before now : Option (List ℕ)) (cuts : List Cut) → Ends → Type 0
-  Listed from new book then before now cuts end.Done = WroteAll (lines_after rules reads slack texts book) before now
-  Listed from new book then before now cuts answer = StopsListed from new book then before now cuts
+  abbrev pub ListsByAnswer : (from : Mark) (new : Known) (book then : BookState) (before now : Option (List ℕ)) (cuts : List Cut) → Ends → Type 0
+  ListsByAnswer from new book then before now cuts end.Done = WroteAll (lines_after rules reads slack texts book) before now
+  ListsByAnswer from new book then before now cuts answer = StopsListed from new book then before now cuts
 
 -- ---- how a run begins
 -- a fresh book counts the matches below the start, which are none
@@ -135,7 +135,7 @@ RunsWriteLines = (rules : Rules) (reads : Reads) (slack : Option ℤ) (texts : L
 abbrev pub RunsStopInLines : Type 0
 RunsStopInLines = (rules : Rules) (reads : Reads) (slack : Option ℤ) (texts : List (List ℕ)) (from mark : Mark) (all : List Holder) (book then : BookState)
     (before now : Option (List ℕ)) → IsSpan rules.span → HavePlayed rules reads slack texts from all book → HaveNumbers rules reads slack texts
-    → AtMost from mark → StoppedAt rules all reads slack texts from mark book then before now
+    → AtMost from mark → RunStopsAt rules all reads slack texts from mark book then before now
     → StopsInLines rules reads slack texts from mark book then before now
 
 -- ---- which cuts it puts

@@ -8,7 +8,7 @@ use Rattle.eql_conductor.specs.declared.plan.End.{End as Ends}
 use Rattle.eql_conductor.specs.declared.plan.End.TheVariants as end
 use Rattle.eql_conductor.specs.declared.plan.RunPlan.{RunPlan}
 use Rattle.eql_conductor.specs.Benches.{Known}
-use Rattle.eql_conductor.specs.RoundNotes.{low_at, counted, lane_round, LanesGrow, GrewFront, LanesGrowFront, PartsPlayed, PartsInRounds}
+use Rattle.eql_conductor.specs.RoundNotes.{low_at, counted, lane_round, LanesGrow, GrewFront, LanesGrowFront, PlaysParts, PartsInRounds}
 
 -- ---- how far a run is
 -- the last mark, and how many rounds counted
@@ -79,13 +79,13 @@ module _ (batch : ℕ) (every : Option ℕ) where
   rounds_notes at (lows ∷ rounds) s = round_notes at lows s ++ rounds_notes (next_place at lows) rounds s
 
   -- one round from a place, with this answer, and with a cut of this time where one was due
-  pub record RoundPlayed (at : Place) (time : Option ℤ) (old new : Known) (answer : Option Mark) : Type 0 where
+  pub record PlaysRound (at : Place) (time : Option ℤ) (old new : Known) (answer : Option Mark) : Type 0 where
     pub lows : List Mark
     pub count : length lows ≡ old.lanes
     pub counts : answer ≡ counted at.mark lows
     pub time_is : time ≡ cut_due every at lows
     pub lanes : LanesGrow (round_notes at lows) old new
-    pub parts : PartsPlayed 4 old new
+    pub parts : PlaysParts 4 old new
 
   -- a round that broke off, with cuts of these times: none, or the one that was due
   pub record RoundBrokeOff (at : Place) (times : List ℤ) (old new : Known) : Type 0 where
@@ -93,23 +93,23 @@ module _ (batch : ℕ) (every : Option ℕ) where
     pub count : length lows ≡ old.lanes
     pub times_are : (times ≡ []) ⊎ (times ≡ listed (cut_due every at lows))
     pub lanes : LanesGrowFront (round_notes at lows) old new
-    pub parts : PartsPlayed 4 old new
+    pub parts : PlaysParts 4 old new
 
   -- whole rounds were played from one place to another, with cuts of these times, and none once the end was come to. The notes of each part grew
   -- in each round by at most four, and by at most one for each event that was delivered to it
-  pub record RoundsPlayed (from to : Place) (times : List ℤ) (old new : Known) : Type 0 where
+  pub record PlaysRounds (from to : Place) (times : List ℤ) (old new : Known) : Type 0 where
     pub rounds : List (List Mark)
     pub lows : All (λ (lows : List Mark). length lows ≡ old.lanes) rounds
     pub to_is : to ≡ place_after from rounds
     pub before_end : BeginBeforeEnd from rounds
     pub times_are : times ≡ cut_times every from rounds
     pub lanes : LanesGrow (rounds_notes from rounds) old new
-    pub parts : PartsPlayed (4 * length rounds) old new
+    pub parts : PlaysParts (4 * length rounds) old new
     pub in_rounds : PartsInRounds (length rounds) old new
 
   -- rounds, of which the last may have broken off, with cuts of these times: those that were due in the rounds before it, or in all. At the end
   -- nothing was played of it
-  pub record RoundsBroken (from : Place) (times : List ℤ) (old new : Known) : Type 0 where
+  pub record PlaysRoundsFront (from : Place) (times : List ℤ) (old new : Known) : Type 0 where
     pub rounds : List (List Mark)
     pub last : List Mark
     pub lows : All (λ (lows : List Mark). length lows ≡ old.lanes) (last ∷ rounds)
@@ -117,35 +117,35 @@ module _ (batch : ℕ) (every : Option ℕ) where
     pub last_begins : ((place_after from rounds).mark ≢ End) ⊎ LanesGrow (rounds_notes from rounds) old new
     pub times_are : (times ≡ cut_times every from rounds) ⊎ (times ≡ cut_times every from (rounds ++ last ∷ []))
     pub lanes : (s : ℕ) → s < old.lanes → GrewFront (old.lane_notes s ++ rounds_notes from rounds s) (round_notes (place_after from rounds) last s) (new.lane_notes s)
-    pub parts : PartsPlayed (4 * suc (length rounds)) old new
+    pub parts : PlaysParts (4 * suc (length rounds)) old new
     pub in_rounds : PartsInRounds (suc (length rounds)) old new
 
 -- ---- a cut
 -- each lane and part was snapped
-pub record SaveNoted (old new : Known) : Type 0 where
+pub record NotesSave (old new : Known) : Type 0 where
   pub lanes : LanesGrow (λ s. note.Snapped ∷ []) old new
-  pub parts : PartsPlayed 1 old new
+  pub parts : PlaysParts 1 old new
 
-pub record SaveBroken (old new : Known) : Type 0 where
+pub record NotesSaveFront (old new : Known) : Type 0 where
   pub lanes : LanesGrowFront (λ s. note.Snapped ∷ []) old new
-  pub parts : PartsPlayed 1 old new
+  pub parts : PlaysParts 1 old new
 
 -- a cut of this time was kept, or none was
-pub record CutNoted (time : Option ℤ) (old new : Known) : Type 0 where
+pub record NotesCut (time : Option ℤ) (old new : Known) : Type 0 where
   pub lanes : LanesGrow (λ s. snapped time) old new
-  pub parts : PartsPlayed 1 old new
+  pub parts : PlaysParts 1 old new
 
 -- ---- a run
 -- it played rounds up to the end, with cuts of these times
 pub record RanToEnd (plan : RunPlan) (times : List ℤ) (old new : Known) : Type 0 where
   pub to : Place
   pub ended : to.mark ≡ End
-  pub played : RoundsPlayed plan.batch plan.every (start plan) to times old new
+  pub played : PlaysRounds plan.batch plan.every (start plan) to times old new
 
 -- a run that is done played whole rounds, up to the end and with the cuts that were due, and any other may have broken off in its last round
 abbrev pub RunNotes : RunPlan → (times : List ℤ) → (old new : Known) → Ends → Type 0
 RunNotes plan times old new end.Done = RanToEnd plan times old new
-RunNotes plan times old new answer = RoundsBroken plan.batch plan.every (start plan) times old new
+RunNotes plan times old new answer = PlaysRoundsFront plan.batch plan.every (start plan) times old new
 
 -- how many rounds it had, with the one that broke off
 abbrev pub round_count : (plan : RunPlan) (times : List ℤ) (old new : Known) (answer : Ends) → RunNotes plan times old new answer → ℕ

@@ -21,11 +21,11 @@ use Rattle.eql_conductor.specs.declared.plan.RunPlan.{RunPlan}
 use Rattle.eql_conductor.specs.declared.stop.Stop.{Stop}
 use Rattle.eql_conductor.specs.declared.stop.Stop.TheVariants as stop
 use Rattle.eql_conductor.specs.Benches.{Known}
-use Rattle.eql_conductor.specs.Bounds.{RoundsSpent}
+use Rattle.eql_conductor.specs.Bounds.{RoundsSpend}
 use Rattle.eql_conductor.specs.LaneRounds.{LanesAt}
-use Rattle.eql_conductor.specs.PartRounds.{Resting, SomeFull}
+use Rattle.eql_conductor.specs.PartRounds.{AreAtRest, AreSomehowFull}
 use Rattle.eql_conductor.specs.Rounds.{GoesTo, RoundRests}
-use Rattle.eql_conductor.specs.RunNotes.{CutNoted, Place, RoundBrokeOff, RoundPlayed, RoundsPlayed, SaveBroken, place, start}
+use Rattle.eql_conductor.specs.RunNotes.{NotesCut, Place, RoundBrokeOff, PlaysRound, PlaysRounds, NotesSaveFront, place, start}
 use Rattle.eql_conductor.specs.Runs.{IsRunCut, KeepGoes, LastHolds, RunIs, WroteLinesOf, cut_time}
 use Rattle.eql_conductor.specs.Saving.{BookKeepsNumbers, IsHeadOf, IsSavedAt, PutsCuts}
 
@@ -45,7 +45,7 @@ end_of (Err by) = end_by by
 -- between two rounds: each lane handed out all that lies below a mark, the parts are at rest there, and the book is whole
 pub record IsAtMark (mark : Mark) (b : Known) (book : BookState) : Type 0 where
   pub lanes : LanesAt None mark b
-  pub parts : SomeFull mark b
+  pub parts : AreSomehowFull mark b
   pub whole : book.whole ≡ true
   pub numbers : BookKeepsNumbers book.kept
 
@@ -66,7 +66,7 @@ pub record IsTaken (head : CutHead) (mark : Mark) (b : Known) (book : BookState)
   pub saved : IsSavedAt head cut.mark b book cut
 
 -- cuts were put one after another, and the last of them stands: the state says where
-pub record PutEach (old new : CkState) (before now : Option History) (cuts : List Cut) : Type 0 where
+pub record PutsEach (old new : CkState) (before now : Option History) (cuts : List Cut) : Type 0 where
   pub puts : PutsCuts (last_cut old) cuts before now
   pub state_is : last_cut new ≡ last_after (last_cut old) cuts
   pub holds : LastHolds (last_cut new) cuts now
@@ -91,7 +91,7 @@ module _ {D : Type 0} (history : D → Option History) (count : D → ℕ) where
   KeepPuts cuts None None = cuts ≡ []
   KeepPuts cuts None (Some k) = ⊥
   KeepPuts cuts (Some k) None = ⊥
-  KeepPuts cuts (Some k) (Some l) = PutEach k.state l.state (history k.disk) (history l.disk) cuts
+  KeepPuts cuts (Some k) (Some l) = PutsEach k.state l.state (history k.disk) (history l.disk) cuts
 
   -- one cut was put, or nothing was done
   abbrev pub KeepsOne : Option Cut → (keep kept : Option (Keep D)) → Type 0
@@ -106,12 +106,12 @@ module _ {D : Type 0} (history : D → Option History) (count : D → ℕ) where
   -- between two rounds a cut was kept where one of this time is due: lanes and parts stay as they were at the mark
   pub record CutGoes (head : CutHead) (mark : Mark) (due : Option ℤ) (old new : Known) (book : BookState) (keep kept : Option (Keep D)) : Type 0 where
     pub lanes : (texts : Option (List (List ℕ))) → LanesAt texts mark old → LanesAt texts mark new
-    pub parts : (rules : Rules) (all : List Holder) → Resting rules all mark old → Resting rules all mark new
+    pub parts : (rules : Rules) (all : List Holder) → AreAtRest rules all mark old → AreAtRest rules all mark new
     pub cut : Option Cut
     pub is : IfSome cut (IsTaken head mark old book)
     pub keeps : KeepsOne cut keep kept
     pub time_is : time_of cut ≡ due
-    pub noted : CutNoted due old new
+    pub noted : NotesCut due old new
 
   -- or it stopped there
   pub record CutStops (head : CutHead) (mark : Mark) (due : Option ℤ) (old new : Known) (book : BookState) (keep kept : Option (Keep D)) (by : Stop) : Type 0 where
@@ -121,26 +121,26 @@ module _ {D : Type 0} (history : D → Option History) (count : D → ℕ) where
     pub keeps : KeepStops by cuts keep kept
     pub time : ℤ
     pub time_is : due ≡ Some time
-    pub noted : SaveBroken old new
+    pub noted : NotesSaveFront old new
 
   -- ---- one round
   -- a round that counted, and then a cut where one was due
-  pub record Counted (plan : RunPlan) (at : Place) (mark : Mark) (old new : Known) (book then : BookState) (before now : Option (List ℕ)) (keep kept : Option (Keep D)) : Type 0 where
+  pub record CountsRound (plan : RunPlan) (at : Place) (mark : Mark) (old new : Known) (book then : BookState) (before now : Option (List ℕ)) (keep kept : Option (Keep D)) : Type 0 where
     pub goes : GoesTo at.mark mark old new book then before now
     pub cut : Option Cut
     pub is : IfSome cut (λ c. (mark ≡ At c.mark) × IsRunCut plan.head at.mark old book c)
     pub keeps : KeepsOne cut keep kept
-    pub noted : RoundPlayed plan.batch plan.every at (time_of cut) old new (Some mark)
+    pub noted : PlaysRound plan.batch plan.every at (time_of cut) old new (Some mark)
 
   -- one that didn't count, after which no cut is due
-  pub record Passed (plan : RunPlan) (at : Place) (old new : Known) (book then : BookState) (before now : Option (List ℕ)) (keep kept : Option (Keep D)) : Type 0 where
+  pub record PassesRound (plan : RunPlan) (at : Place) (old new : Known) (book then : BookState) (before now : Option (List ℕ)) (keep kept : Option (Keep D)) : Type 0 where
     pub rests : RoundRests at.mark old new book then before now
     pub keeps : kept ≡ keep
-    pub noted : RoundPlayed plan.batch plan.every at None old new None
+    pub noted : PlaysRound plan.batch plan.every at None old new None
 
   abbrev pub StepIs : RunPlan → Place → (old new : Known) → (book then : BookState) → (before now : Option (List ℕ)) → (keep kept : Option (Keep D)) → Option Mark → Type 0
-  StepIs plan at old new book then before now keep kept None = Passed plan at old new book then before now keep kept
-  StepIs plan at old new book then before now keep kept (Some mark) = Counted plan at mark old new book then before now keep kept
+  StepIs plan at old new book then before now keep kept None = PassesRound plan at old new book then before now keep kept
+  StepIs plan at old new book then before now keep kept (Some mark) = CountsRound plan at mark old new book then before now keep kept
 
   -- a run from a mark, as it ended
   pub record RanFrom (head : CutHead) (from : Mark) (old new : Known) (book then : BookState) (before now : Option (List ℕ)) (keep kept : Option (Keep D)) (answer : Ends) : Type 0 where
@@ -165,7 +165,7 @@ module _ {D : Type 0} (history : D → Option History) (count : D → ℕ) where
     pub puts : KeepPuts cuts keep kept
     pub wrote : All (WroteLinesOf plan.mark old book before now) cuts
     pub rise : RiseFrom plan.mark cuts
-    pub noted : RoundsPlayed plan.batch plan.every (start plan) at (map cut_time cuts) old new
+    pub noted : PlaysRounds plan.batch plan.every (start plan) at (map cut_time cuts) old new
     pub rounds : length noted.rounds ≡ n
 
   -- all rounds, of which the last one came to the end
@@ -173,4 +173,4 @@ module _ {D : Type 0} (history : D → Option History) (count : D → ℕ) where
     pub n : ℕ
     pub counts : ℕ
     pub ran : RanTo plan (place End counts) (n + 1) old new book then before now keep kept
-    pub spent : RoundsSpent n old new
+    pub spent : RoundsSpend n old new

@@ -31,11 +31,11 @@ use Rattle.eql_conductor.specs.declared.plan.End.{End as Ends}
 use Rattle.eql_conductor.specs.declared.plan.End.TheVariants as end
 use Rattle.eql_conductor.specs.declared.plan.Keep.{Keep}
 use Rattle.eql_conductor.specs.declared.plan.RunPlan.{RunPlan}
-use Rattle.eql_conductor.specs.Benches.{Known, NoneFailed}
+use Rattle.eql_conductor.specs.Benches.{Known, NoFeedFailed}
 use Rattle.eql_conductor.specs.Bounds.{AreSized}
-use Rattle.eql_conductor.specs.Going.{FailedAt, FaultRose}
+use Rattle.eql_conductor.specs.Going.{FailsAt, FaultRose}
 use Rattle.eql_conductor.specs.LaneRounds.{IsSafe, LanesAt}
-use Rattle.eql_conductor.specs.PartRounds.{Resting, SomeFull, pending_after}
+use Rattle.eql_conductor.specs.PartRounds.{AreAtRest, AreSomehowFull, pending_after}
 use Rattle.eql_conductor.specs.Rounds.{IsInRange, OfTexts, found_by}
 use Rattle.eql_conductor.specs.Saving.{AreLanesOf, BookKeepsNumbers, IsHeadOf, PutsCuts}
 
@@ -49,7 +49,7 @@ pub record MayRun (plan : RunPlan) (b : Known) (book : BookState) : Type 0 where
   pub before_end : plan.mark ≢ End
   pub lanes : LanesAt None plan.mark b
   pub sized : AreSized b
-  pub parts : SomeFull plan.mark b
+  pub parts : AreSomehowFull plan.mark b
   pub whole : book.whole ≡ true
   pub numbers : BookKeepsNumbers book.kept
 
@@ -78,12 +78,12 @@ pub record RanWhole (from : Mark) (old new : Known) (book then : BookState) (bef
   pub closed : (s : ℕ) → s < new.lanes → (x : LaneState) → new.lane s x → x.cut.closed ≡ true
   pub lanes : (texts : Option (List (List ℕ))) → LanesAt texts from old → LanesAt texts End new
   pub whole : then.whole ≡ true
-  pub told : (reads : Reads) (slack : Option ℤ) (texts : List (List ℕ)) (rules : Rules) (all : List Holder) → OfTexts reads slack texts from old → Resting rules all from old
+  pub told : (reads : Reads) (slack : Option ℤ) (texts : List (List ℕ)) (rules : Rules) (all : List Holder) → OfTexts reads slack texts from old → AreAtRest rules all from old
       → WroteAll (whole_lines book (found_by rules all (between reads slack texts from End))) before now
 
 -- what was written by a run that stopped at a mark: a front of that; and where the book is whole, it was given the matches by the events below
 -- the mark
-pub record StoppedAt (rules : Rules) (all : List Holder) (reads : Reads) (slack : Option ℤ) (texts : List (List ℕ)) (from mark : Mark) (book then : BookState) (before now : Option (List ℕ)) : Type 0 where
+pub record RunStopsAt (rules : Rules) (all : List Holder) (reads : Reads) (slack : Option ℤ) (texts : List (List ℕ)) (from mark : Mark) (book then : BookState) (before now : Option (List ℕ)) : Type 0 where
   pub front : WroteFront (lines_by mark book (found_by rules all (between reads slack texts from End))) before now
   pub given : then.whole ≡ true → then ≡ book_after book (found_by rules all (between reads slack texts from mark))
 
@@ -93,8 +93,8 @@ pub record RunStops (from : Mark) (old new : Known) (book then : BookState) (bef
   pub later : AtMost from mark
   pub safe : IsSafe mark new
   pub after_cuts : All (λ (cut : Cut). AtMost (At cut.mark) mark) cuts
-  pub told : (reads : Reads) (slack : Option ℤ) (texts : List (List ℕ)) (rules : Rules) (all : List Holder) → OfTexts reads slack texts from old → Resting rules all from old
-      → StoppedAt rules all reads slack texts from mark book then before now
+  pub told : (reads : Reads) (slack : Option ℤ) (texts : List (List ℕ)) (rules : Rules) (all : List Holder) → OfTexts reads slack texts from old → AreAtRest rules all from old
+      → RunStopsAt rules all reads slack texts from mark book then before now
 
 abbrev pub RunIs : (from : Mark) (old new : Known) (book then : BookState) (before now : Option (List ℕ)) (cuts : List Cut) → Ends → Type 0
 RunIs from old new book then before now cuts end.Done = RanWhole from old new book then before now
@@ -114,13 +114,13 @@ pub record IsRunCut (head : CutHead) (from : Mark) (old : Known) (book : BookSta
   pub head_is : cut.head ≡ head
   pub is_cut : IsCut cut
   pub later : AtMost from (At cut.mark)
-  pub told : (reads : Reads) (slack : Option ℤ) (texts : List (List ℕ)) (rules : Rules) (all : List Holder) → OfTexts reads slack texts from old → Resting rules all from old
+  pub told : (reads : Reads) (slack : Option ℤ) (texts : List (List ℕ)) (rules : Rules) (all : List Holder) → OfTexts reads slack texts from old → AreAtRest rules all from old
       → IsCutOf rules all reads slack texts from book cut
 
 -- the lines that a cut counts, of told texts, were written, and perhaps more behind them
 abbrev pub WroteLinesOf : (from : Mark) (old : Known) (book : BookState) (before now : Option (List ℕ)) → Cut → Type 0
 WroteLinesOf from old book before now cut =
-    (reads : Reads) (slack : Option ℤ) (texts : List (List ℕ)) (rules : Rules) (all : List Holder) → OfTexts reads slack texts from old → Resting rules all from old
+    (reads : Reads) (slack : Option ℤ) (texts : List (List ℕ)) (rules : Rules) (all : List Holder) → OfTexts reads slack texts from old → AreAtRest rules all from old
     → WroteThrough (lines_before_end book (found_by rules all (between reads slack texts from (At cut.mark)))) before now
 
 abbrev pub cut_time : Cut → ℤ
@@ -147,15 +147,15 @@ pub record RunPuts (head : CutHead) (from : Mark) (old : Known) (book : BookStat
 -- ---- why a run ends
 -- by the bench, and the counts of faults of the sink and of the disk
 abbrev pub EndsBy : Ends → (old new : Known) (sink_before sink_now disk_before disk_now : ℕ) → Type 0
-EndsBy end.Done old new sb sn db dn = NoneFailed old new × (new.worn ≡ old.worn) × (sn ≡ sb) × (dn ≡ db)
-EndsBy (end.ReadFault s) old new sb sn db dn = (s < old.lanes) × FaultRose s old new × FailedAt s old new × (sn ≡ sb) × (dn ≡ db)
-EndsBy end.WriteFault old new sb sn db dn = NoneFailed old new × (new.worn ≡ old.worn) × (Rose sb sn × (sb ≤ sn)) × (dn ≡ db)
-EndsBy end.DiskFault old new sb sn db dn = NoneFailed old new × (new.worn ≡ old.worn) × (sn ≡ sb) × (Rose db dn × (db ≤ dn))
-EndsBy end.Memory old new sb sn db dn = NoneFailed old new × (new.worn ≡ old.worn) × (sn ≡ sb) × (dn ≡ db)
-EndsBy (end.Limit (limit.Lines s)) old new sb sn db dn = (s < old.lanes) × ((y : LaneState) → new.lane s y → OutOfLines (old.set s) y) × NoneFailed old new × (new.worn ≡ old.worn) × (sn ≡ sb) × (dn ≡ db)
-EndsBy (end.Limit (limit.Bytes s)) old new sb sn db dn = (s < old.lanes) × ((y : LaneState) → new.lane s y → y.taken ≡ greatest_bytes) × NoneFailed old new × (new.worn ≡ old.worn) × (sn ≡ sb) × (dn ≡ db)
-EndsBy (end.Limit limit.Turns) old new sb sn db dn = (old.worn < new.worn) × NoneFailed old new × (sn ≡ sb) × (dn ≡ db)
-EndsBy (end.Limit limit.Generation) old new sb sn db dn = NoneFailed old new × (new.worn ≡ old.worn) × (sn ≡ sb) × (dn ≡ db)
+EndsBy end.Done old new sb sn db dn = NoFeedFailed old new × (new.worn ≡ old.worn) × (sn ≡ sb) × (dn ≡ db)
+EndsBy (end.ReadFault s) old new sb sn db dn = (s < old.lanes) × FaultRose s old new × FailsAt s old new × (sn ≡ sb) × (dn ≡ db)
+EndsBy end.WriteFault old new sb sn db dn = NoFeedFailed old new × (new.worn ≡ old.worn) × (Rose sb sn × (sb ≤ sn)) × (dn ≡ db)
+EndsBy end.DiskFault old new sb sn db dn = NoFeedFailed old new × (new.worn ≡ old.worn) × (sn ≡ sb) × (Rose db dn × (db ≤ dn))
+EndsBy end.Memory old new sb sn db dn = NoFeedFailed old new × (new.worn ≡ old.worn) × (sn ≡ sb) × (dn ≡ db)
+EndsBy (end.Limit (limit.Lines s)) old new sb sn db dn = (s < old.lanes) × ((y : LaneState) → new.lane s y → OutOfLines (old.set s) y) × NoFeedFailed old new × (new.worn ≡ old.worn) × (sn ≡ sb) × (dn ≡ db)
+EndsBy (end.Limit (limit.Bytes s)) old new sb sn db dn = (s < old.lanes) × ((y : LaneState) → new.lane s y → y.taken ≡ greatest_bytes) × NoFeedFailed old new × (new.worn ≡ old.worn) × (sn ≡ sb) × (dn ≡ db)
+EndsBy (end.Limit limit.Turns) old new sb sn db dn = (old.worn < new.worn) × NoFeedFailed old new × (sn ≡ sb) × (dn ≡ db)
+EndsBy (end.Limit limit.Generation) old new sb sn db dn = NoFeedFailed old new × (new.worn ≡ old.worn) × (sn ≡ sb) × (dn ≡ db)
 
 -- ---- a run with cuts or without
 -- no call of the disk that keeps them is planned to fail

@@ -12,7 +12,7 @@ use Rattle.eql_laws.specs.Alive.{alive_holders}
 use Rattle.eql_laws.specs.Books.{NumbersAscend, kept_of}
 use Rattle.eql_laws.specs.Lanes.{lanes_from}
 use Rattle.eql_laws.specs.Places.{ReadTo, ArePlaces, lows_from, whole}
-use Rattle.eql_outside.specs.Moments.{History, Told}
+use Rattle.eql_outside.specs.Moments.{History, DiskTells}
 use Rattle.eql_book.specs.Books.{BookState}
 use Rattle.eql_cut.specs.declared.cut.Cut.{Cut}
 use Rattle.eql_cut.specs.declared.cut.CutHead.{CutHead}
@@ -25,7 +25,7 @@ use Rattle.eql_ckdisk.specs.Putting.{Stands, last_cut}
 use Rattle.eql_ckdisk.specs.Runs.{PutsAll}
 use Rattle.eql_parts.specs.PartSteps.{Rules}
 use Rattle.eql_conductor.specs.Benches.{Known}
-use Rattle.eql_conductor.specs.PartRounds.{Resting, pending_after}
+use Rattle.eql_conductor.specs.PartRounds.{AreAtRest, pending_after}
 use Rattle.eql_conductor.specs.Rounds.{OfTexts}
 
 -- what a pipe keeps stands in order of its numbers, and is of matches that were found
@@ -58,14 +58,14 @@ pub record IsSavedAt (head : CutHead) (time : ℤ) (b : Known) (book : BookState
   pub book_is : cut.book ≡ book.kept
   pub is_cut : IsCut cut
   pub lanes : (reads : Reads) (slack : Option ℤ) (texts : List (List ℕ)) → OfTexts reads slack texts (At time) b → AreLanesOf reads slack texts time cut.lanes
-  pub holders : (rules : Rules) (all : List Holder) → Resting rules all (At time) b → cut.holders ≡ alive_holders rules.span time (pending_after rules all [])
+  pub holders : (rules : Rules) (all : List Holder) → AreAtRest rules all (At time) b → cut.holders ≡ alive_holders rules.span time (pending_after rules all [])
 
 -- the disk before and after cuts were put, one after another
 abbrev pub PutsCuts : LastCut → List Cut → (before now : Option History) → Type 0
-PutsCuts last cuts before now = Told (PutsAll last cuts) before now
+PutsCuts last cuts before now = DiskTells (PutsAll last cuts) before now
 
 -- a cut was put, and stands alone: the state says where
-pub record Saved (head : CutHead) (time : ℤ) (b : Known) (book : BookState) (old new : CkState) (before now : Option History) : Type 0 where
+pub record SavesCut (head : CutHead) (time : ℤ) (b : Known) (book : BookState) (old new : CkState) (before now : Option History) : Type 0 where
   pub cut : Cut
   pub is_saved : IsSavedAt head time b book cut
   pub puts : PutsCuts (last_cut old) (cut ∷ []) before now
@@ -74,7 +74,7 @@ pub record Saved (head : CutHead) (time : ℤ) (b : Known) (book : BookState) (o
   pub stands : Stands (last_cut new) now
 
 -- none was put whole: at each moment there stands what stood before, or the cut
-pub record NotSaved (head : CutHead) (time : ℤ) (b : Known) (book : BookState) (old new : CkState) (before now : Option History) : Type 0 where
+pub record SavesNoCut (head : CutHead) (time : ℤ) (b : Known) (book : BookState) (old new : CkState) (before now : Option History) : Type 0 where
   pub cuts : List Cut
   pub one : length cuts ≤ 1
   pub are_saved : All (IsSavedAt head time b book) cuts

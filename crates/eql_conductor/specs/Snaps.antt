@@ -32,7 +32,7 @@ SnapsFrom texts mark b s [] = Unit {0}
 SnapsFrom texts mark b s (cut ∷ cuts) = IsSnap (text_at texts s) (b.set s) mark cut × SnapsFrom texts mark b (s + 1) cuts
 
 -- and of each lane
-pub record AllSnapped (texts : Option (List (List ℕ))) (mark : Mark) (b : Known) (cuts : List LaneCut) : Type 0 where
+pub record SnapsAll (texts : Option (List (List ℕ))) (mark : Mark) (b : Known) (cuts : List LaneCut) : Type 0 where
   pub count : length cuts ≡ b.lanes
   pub each : SnapsFrom texts mark b 0 cuts
 

@@ -11,8 +11,8 @@ ghost use Rattle.eql_conductor.specs.declared.stop.Stop.TheVariants.{Write as Si
 ghost use Rattle.eql_conductor.specs.Bounds.{AllGaveOut, RoundSpends};
 ghost use Rattle.eql_conductor.specs.Going.{LanesGo, Went};
 ghost use Rattle.eql_conductor.specs.LaneRounds.{IsSafe, LanesAt};
-ghost use Rattle.eql_conductor.specs.PartRounds.{SomeResting};
-ghost use Rattle.eql_conductor.specs.RoundNotes.{AdvanceBroken, AdvanceNoted, RoundBroken, RoundNoted};
+ghost use Rattle.eql_conductor.specs.PartRounds.{AreSomehowAtRest};
+ghost use Rattle.eql_conductor.specs.RoundNotes.{NotesAdvanceFront, NotesAdvance, NotesRoundFront, NotesRound};
 ghost use Rattle.eql_conductor.specs.Rounds.{CountsInRange, Gave, RoundBreaks, GoesTo, RoundIs, RoundStops, StopsAt, StopsOut};
 
 use crate::bench::Bench;
@@ -69,7 +69,7 @@ fn advance<B: Bench, K: Sink>(
     requires lanes { LanesAt None last (B.known bench.old) }
     requires safe { IsSafe mark (B.known bench.old) }
     requires later { AtMost last mark }
-    requires some { SomeResting last (B.known bench.old) }
+    requires some { AreSomehowAtRest last (B.known bench.old) }
     requires whole { book.old.whole ≡ true }
     ensures round { OnOk result (GoesTo last mark (B.known bench.old) (B.known bench.new)
         book.old book.new (K.written sink.old) (K.written sink.new)) }
@@ -85,8 +85,8 @@ fn advance<B: Bench, K: Sink>(
         → K.fault_count sink.new ≡ K.fault_count sink.old }
     ensures counts { K.fault_count sink.old ≤ K.fault_count sink.new }
     ensures gave { OnOk result (AllGaveOut mark (B.known bench.old) (B.known bench.new)) }
-    ensures notes { OnOk result (AdvanceNoted mark (B.known bench.old) (B.known bench.new)) }
-    ensures broken_notes { OnErr result (AdvanceBroken mark
+    ensures notes { OnOk result (NotesAdvance mark (B.known bench.old) (B.known bench.new)) }
+    ensures broken_notes { OnErr result (NotesAdvanceFront mark
         (B.known bench.old) (B.known bench.new)) }
     ensures unfailing { IsUnfailing (K.fault_plan sink.old)
         → (result ≢ Err SinkFailed) × IsUnfailing (K.fault_plan sink.new) }
@@ -108,7 +108,7 @@ pub(crate) fn play_round<B: Bench, K: Sink>(
 ) -> Result<Option<Mark>, Stop>
     requires batch { (1 ≤ batch) × (batch ≤ 4096) }
     requires lanes { LanesAt None last (B.known bench.old) }
-    requires some { SomeResting last (B.known bench.old) }
+    requires some { AreSomehowAtRest last (B.known bench.old) }
     requires whole { book.old.whole ≡ true }
     ensures round { IfOk result (RoundIs last (B.known bench.old) (B.known bench.new)
         book.old book.new (K.written sink.old) (K.written sink.new)) }
@@ -125,8 +125,8 @@ pub(crate) fn play_round<B: Bench, K: Sink>(
     ensures counts { K.fault_count sink.old ≤ K.fault_count sink.new }
     ensures spends { IfOk result (RoundSpends last (B.known bench.old) (B.known bench.new)) }
     ensures in_range { IfOk result (CountsInRange last (B.known bench.old)) }
-    ensures notes { IfOk result (RoundNoted last batch (B.known bench.old) (B.known bench.new)) }
-    ensures broken_notes { OnErr result (RoundBroken last batch
+    ensures notes { IfOk result (NotesRound last batch (B.known bench.old) (B.known bench.new)) }
+    ensures broken_notes { OnErr result (NotesRoundFront last batch
         (B.known bench.old) (B.known bench.new)) }
     ensures unfailing { IsUnfailing (K.fault_plan sink.old)
         → (result ≢ Err SinkFailed) × IsUnfailing (K.fault_plan sink.new) }

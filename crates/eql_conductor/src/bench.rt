@@ -1,7 +1,7 @@
 //! What the conductor plays on.
 ghost use Rattle.std.specs.Prelude.{◌≡◌, ◌<◌, IfErr, IfOk};
 ghost use Rattle.eql_lane.specs.Lanes.{LaneAllows};
-ghost use Rattle.eql_conductor.specs.Benches.{Known, LanePlays, MayPlay, PartPlays, Unplayed};
+ghost use Rattle.eql_conductor.specs.Benches.{Known, LanePlays, MayPlay, PartPlays, WasNotPlayed};
 
 use eql_lane::{LaneOp, LaneReply};
 use eql_parts::{PartOp, PartReply};
@@ -39,7 +39,8 @@ pub trait Bench {
         requires allowed { LaneAllows op }
         ensures played { IfOk result (λ reply.
             LanePlays s op reply (known self.old) (known self.new)) }
-        ensures not_played { IfErr result (λ by. Unplayed by (known self.old) (known self.new)) };
+        ensures not_played { IfErr result (λ by.
+            WasNotPlayed by (known self.old) (known self.new)) };
 
     /// Plays an operation on a part, from 0.
     fn part(&mut self, p: u32, op: PartOp) -> Result<PartReply, NotPlayed>
@@ -47,5 +48,6 @@ pub trait Bench {
         requires allowed { MayPlay (known self.old) p op }
         ensures played { IfOk result (λ reply.
             PartPlays p op reply (known self.old) (known self.new)) }
-        ensures not_played { IfErr result (λ by. Unplayed by (known self.old) (known self.new)) };
+        ensures not_played { IfErr result (λ by.
+            WasNotPlayed by (known self.old) (known self.new)) };
 }

@@ -2,10 +2,10 @@
 ghost use Rattle.std.specs.Prelude.{◌≡◌, ◌<◌, ◌≤◌, ◌∷◌, [], IfErr, IfOk, OnErr, OnOk};
 ghost use Rattle.eql_lane.specs.Lanes.{lesser};
 ghost use Rattle.eql_conductor.specs.Benches.{Rests};
-ghost use Rattle.eql_conductor.specs.Bounds.{AllFed, IsSomeLow, LaneHadLow, LaneWasFed};
+ghost use Rattle.eql_conductor.specs.Bounds.{FeedsAll, IsSomeLow, LaneHadLow, LaneWasFed};
 ghost use Rattle.eql_conductor.specs.Going.{StopsBy, Went};
 ghost use Rattle.eql_conductor.specs.LaneRounds.{IsSafe, IsSafeAt};
-ghost use Rattle.eql_conductor.specs.RoundNotes.{LaneBroken, LaneNoted, LanesBroken, LanesNoted, LooksBroken, LooksNoted};
+ghost use Rattle.eql_conductor.specs.RoundNotes.{NotesLaneFront, NotesLane, NotesLanesFront, NotesLanes, NotesLooksFront, NotesLooks};
 ghost use Rattle.eql_conductor.specs.declared.note.Note.TheVariants.{Fed, Looked};
 
 use crate::bench::Bench;
@@ -22,9 +22,9 @@ fn feed_one<B: Bench>(bench: &mut B, s: u32, batch: u32) -> Result<(), Stop>
     ensures went { OnOk result (Went (B.known bench.old) (B.known bench.new)) }
     ensures stops { IfErr result (λ stop. StopsBy stop (B.known bench.old) (B.known bench.new)) }
     ensures fed { OnOk result (LaneWasFed s (B.known bench.old) (B.known bench.new)) }
-    ensures notes { OnOk result (LaneNoted s (Fed batch ∷ [])
+    ensures notes { OnOk result (NotesLane s (Fed batch ∷ [])
         (B.known bench.old) (B.known bench.new)) }
-    ensures broken_notes { OnErr result (LaneBroken s (Fed batch ∷ [])
+    ensures broken_notes { OnErr result (NotesLaneFront s (Fed batch ∷ [])
         (B.known bench.old) (B.known bench.new)) }
 {
     match bench.lane(s, LaneOp::Feed { max: batch }) {
@@ -50,10 +50,10 @@ pub(crate) fn feed_all<B: Bench>(bench: &mut B, batch: u32) -> Result<(), Stop>
     ensures rests { Rests (B.known bench.old) (B.known bench.new) }
     ensures went { OnOk result (Went (B.known bench.old) (B.known bench.new)) }
     ensures stops { IfErr result (λ stop. StopsBy stop (B.known bench.old) (B.known bench.new)) }
-    ensures fed { OnOk result (AllFed (B.known bench.old) (B.known bench.new)) }
-    ensures notes { OnOk result (LanesNoted (λ s. Fed batch ∷ [])
+    ensures fed { OnOk result (FeedsAll (B.known bench.old) (B.known bench.new)) }
+    ensures notes { OnOk result (NotesLanes (λ s. Fed batch ∷ [])
         (B.known bench.old) (B.known bench.new)) }
-    ensures broken_notes { OnErr result (LanesBroken (λ s. Fed batch ∷ [])
+    ensures broken_notes { OnErr result (NotesLanesFront (λ s. Fed batch ∷ [])
         (B.known bench.old) (B.known bench.new)) }
 {
     let count = bench.lanes();
@@ -81,8 +81,8 @@ fn look_one<B: Bench>(bench: &mut B, s: u32) -> Result<Mark, Stop>
     ensures low { IfOk result (λ mark.
         LaneHadLow s mark (B.known bench.old) (B.known bench.new)) }
     ensures notes { IfOk result (λ low.
-        LaneNoted s (Looked low ∷ []) (B.known bench.old) (B.known bench.new)) }
-    ensures broken_notes { OnErr result (LaneNoted s [] (B.known bench.old) (B.known bench.new)) }
+        NotesLane s (Looked low ∷ []) (B.known bench.old) (B.known bench.new)) }
+    ensures broken_notes { OnErr result (NotesLane s [] (B.known bench.old) (B.known bench.new)) }
 {
     match bench.lane(s, LaneOp::Look) {
         Err(by) => Err(unplayed(by)),
@@ -98,8 +98,8 @@ pub(crate) fn look_all<B: Bench>(bench: &mut B) -> Result<Mark, Stop>
     ensures went { OnOk result (Went (B.known bench.old) (B.known bench.new)) }
     ensures stops { IfErr result (λ stop. StopsBy stop (B.known bench.old) (B.known bench.new)) }
     ensures low { IfOk result (λ mark. IsSomeLow mark (B.known bench.old) (B.known bench.new)) }
-    ensures notes { IfOk result (LooksNoted (B.known bench.old) (B.known bench.new)) }
-    ensures broken_notes { OnErr result (LooksBroken (B.known bench.old) (B.known bench.new)) }
+    ensures notes { IfOk result (NotesLooks (B.known bench.old) (B.known bench.new)) }
+    ensures broken_notes { OnErr result (NotesLooksFront (B.known bench.old) (B.known bench.new)) }
 {
     let count = bench.lanes();
     let mut mark = Mark::End;

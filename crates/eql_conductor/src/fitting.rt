@@ -2,7 +2,7 @@
 //! before what the lanes handed out is put in order.
 ghost use Rattle.std.specs.Prelude.{◌≡◌, ◌++◌, ◌∷◌, [], map, All, IfOk, OnOk};
 ghost use Rattle.eql_values.specs.Accepted.{sorted_items};
-ghost use Rattle.eql_values.specs.Ascending.{Ascending};
+ghost use Rattle.eql_values.specs.Ascending.{Ascend};
 ghost use Rattle.eql_laws.specs.Apart.{AllApart, joined};
 ghost use Rattle.eql_conductor.specs.Fitting.{fitting, has_routes};
 
@@ -39,7 +39,7 @@ fn keep_all_fitting(alloc: Global, lists: ItemLists) -> Result<ItemLists, Memory
 
 /// Of all events of the lists those that have routes, in ascending order.
 pub(crate) fn merge_fitting(alloc: Global, lists: ItemLists) -> Result<Items, Memory>
-    requires ascend { All Ascending lists }
+    requires ascend { All Ascend lists }
     requires apart { AllApart lists }
     ensures { IfOk result (λ items. items ≡ fitting (sorted_items (joined lists))) }
 {

@@ -9,8 +9,8 @@ ghost use Rattle.eql_parts.specs.Spreading.{part_number};
 ghost use Rattle.eql_rounds.specs.Finding.{found_of};
 ghost use Rattle.eql_conductor.specs.Benches.{LanesRest, Same};
 ghost use Rattle.eql_conductor.specs.Going.{StopsBy, Went};
-ghost use Rattle.eql_conductor.specs.PartRounds.{Collecting, Delivering, FewerWait, Resting, SomeCollecting, SomeDelivering, SomeResting, SomeTurning, TurnGoes, Turning, WaitAtMost, pending_after};
-ghost use Rattle.eql_conductor.specs.RoundNotes.{PartNoted, PartsNoted, TurnNoted, delivered_to};
+ghost use Rattle.eql_conductor.specs.PartRounds.{AreCollected, AreDelivered, FewerWait, AreAtRest, AreSomehowCollected, AreSomehowDelivered, AreSomehowAtRest, AreSomehowPlayed, TurnGoes, ArePlayed, WaitAtMost, pending_after};
+ghost use Rattle.eql_conductor.specs.RoundNotes.{NotesPart, NotesParts, NotesTurn, delivered_to};
 ghost use Rattle.eql_conductor.specs.declared.stop.Stop.TheVariants.{Memory as OutOfMemory};
 
 use crate::bench::Bench;
@@ -32,15 +32,15 @@ fn deliver_one<B: Bench>(
     requires place { p < (B.known bench.old).parts }
     requires own { own ≡ routed part_number p items.now }
     requires can { CanDeliver last items.now mark }
-    requires some { SomeDelivering items.now last mark p (B.known bench.old) }
+    requires some { AreSomehowDelivered items.now last mark p (B.known bench.old) }
     ensures parts { (rules : Rules) (all : List Holder)
-        → Delivering rules all items.now last mark p (B.known bench.old)
-        → OnOk result (Delivering rules all items.now last mark (p + 1) (B.known bench.new)) }
+        → AreDelivered rules all items.now last mark p (B.known bench.old)
+        → OnOk result (AreDelivered rules all items.now last mark (p + 1) (B.known bench.new)) }
     ensures same { Same (B.known bench.old) (B.known bench.new) }
     ensures lanes { LanesRest (B.known bench.old) (B.known bench.new) }
     ensures went { OnOk result (Went (B.known bench.old) (B.known bench.new)) }
     ensures stops { IfErr result (λ stop. StopsBy stop (B.known bench.old) (B.known bench.new)) }
-    ensures notes { PartNoted p 0 1 (B.known bench.old) (B.known bench.new) }
+    ensures notes { NotesPart p 0 1 (B.known bench.old) (B.known bench.new) }
 {
     match bench.part(p, PartOp::Deliver { items: own, mark }) {
         Err(by) => Err(unplayed(by)),
@@ -59,15 +59,15 @@ pub(crate) fn deliver_all<B: Bench>(
     mark: Mark,
 ) -> Result<(), Stop>
     requires can { CanDeliver last items.now mark }
-    requires some { SomeResting last (B.known bench.old) }
+    requires some { AreSomehowAtRest last (B.known bench.old) }
     ensures parts { (rules : Rules) (all : List Holder)
-        → Resting rules all last (B.known bench.old)
-        → OnOk result (Turning rules all items.now mark 0 (B.known bench.new)) }
+        → AreAtRest rules all last (B.known bench.old)
+        → OnOk result (ArePlayed rules all items.now mark 0 (B.known bench.new)) }
     ensures same { Same (B.known bench.old) (B.known bench.new) }
     ensures lanes { LanesRest (B.known bench.old) (B.known bench.new) }
     ensures went { OnOk result (Went (B.known bench.old) (B.known bench.new)) }
     ensures stops { IfErr result (λ stop. StopsBy stop (B.known bench.old) (B.known bench.new)) }
-    ensures notes { PartsNoted (λ p. 0) 1 (B.known bench.old) (B.known bench.new) }
+    ensures notes { NotesParts (λ p. 0) 1 (B.known bench.old) (B.known bench.new) }
 {
     let mut lists = match spread(alloc, items) {
         Ok(lists) => lists.into_iter(),
@@ -96,19 +96,19 @@ fn turn_once<B: Bench>(
     requires place { p < (B.known bench.old).parts }
     requires batch { (1 ≤ batch) × (batch ≤ 4096) }
     requires left { WaitAtMost p left (B.known bench.old) }
-    requires some { SomeTurning items.now mark p (B.known bench.old) }
+    requires some { AreSomehowPlayed items.now mark p (B.known bench.old) }
     ensures fewer { IfOk result (FewerWait p left (B.known bench.new)) }
     ensures parts { (rules : Rules) (all : List Holder)
-        → Turning rules all items.now mark p (B.known bench.old)
+        → ArePlayed rules all items.now mark p (B.known bench.old)
         → IfOk result (TurnGoes rules all items.now mark p (B.known bench.new)) }
     ensures same { Same (B.known bench.old) (B.known bench.new) }
     ensures lanes { LanesRest (B.known bench.old) (B.known bench.new) }
     ensures went { OnOk result (Went (B.known bench.old) (B.known bench.new)) }
     ensures stops { IfErr result (λ stop. StopsBy stop (B.known bench.old) (B.known bench.new)) }
     ensures notes { (w : ℕ) → WaitAtMost p w (B.known bench.old)
-        → IfOk result (TurnNoted w p (B.known bench.old) (B.known bench.new)) }
+        → IfOk result (NotesTurn w p (B.known bench.old) (B.known bench.new)) }
     ensures broken_notes { (w : ℕ) → WaitAtMost p w (B.known bench.old)
-        → OnErr result (PartNoted p w 1 (B.known bench.old) (B.known bench.new)) }
+        → OnErr result (NotesPart p w 1 (B.known bench.old) (B.known bench.new)) }
 {
     match bench.part(p, PartOp::Turn { max: batch }) {
         Err(by) => Err(unplayed(by)),
@@ -129,15 +129,15 @@ fn turn_one<B: Bench>(
 ) -> Result<(), Stop>
     requires place { p < (B.known bench.old).parts }
     requires batch { (1 ≤ batch) × (batch ≤ 4096) }
-    requires some { SomeTurning items.now mark p (B.known bench.old) }
+    requires some { AreSomehowPlayed items.now mark p (B.known bench.old) }
     ensures parts { (rules : Rules) (all : List Holder)
-        → Turning rules all items.now mark p (B.known bench.old)
-        → OnOk result (Turning rules all items.now mark (p + 1) (B.known bench.new)) }
+        → ArePlayed rules all items.now mark p (B.known bench.old)
+        → OnOk result (ArePlayed rules all items.now mark (p + 1) (B.known bench.new)) }
     ensures same { Same (B.known bench.old) (B.known bench.new) }
     ensures lanes { LanesRest (B.known bench.old) (B.known bench.new) }
     ensures went { OnOk result (Went (B.known bench.old) (B.known bench.new)) }
     ensures stops { IfErr result (λ stop. StopsBy stop (B.known bench.old) (B.known bench.new)) }
-    ensures notes { PartNoted p (delivered_to items.now p) 1
+    ensures notes { NotesPart p (delivered_to items.now p) 1
         (B.known bench.old) (B.known bench.new) }
 {
     let mut left = items.items().len();
@@ -157,15 +157,15 @@ pub(crate) fn turn_all<B: Bench>(
     batch: u32,
 ) -> Result<(), Stop>
     requires batch { (1 ≤ batch) × (batch ≤ 4096) }
-    requires some { SomeTurning items.now mark 0 (B.known bench.old) }
+    requires some { AreSomehowPlayed items.now mark 0 (B.known bench.old) }
     ensures parts { (rules : Rules) (all : List Holder)
-        → Turning rules all items.now mark 0 (B.known bench.old)
-        → OnOk result (Collecting rules all items.now mark 0 (B.known bench.new)) }
+        → ArePlayed rules all items.now mark 0 (B.known bench.old)
+        → OnOk result (AreCollected rules all items.now mark 0 (B.known bench.new)) }
     ensures same { Same (B.known bench.old) (B.known bench.new) }
     ensures lanes { LanesRest (B.known bench.old) (B.known bench.new) }
     ensures went { OnOk result (Went (B.known bench.old) (B.known bench.new)) }
     ensures stops { IfErr result (λ stop. StopsBy stop (B.known bench.old) (B.known bench.new)) }
-    ensures notes { PartsNoted (delivered_to items.now) 1
+    ensures notes { NotesParts (delivered_to items.now) 1
         (B.known bench.old) (B.known bench.new) }
 {
     let count = bench.parts();
@@ -178,18 +178,18 @@ pub(crate) fn turn_all<B: Bench>(
 // Collects what one part found.
 fn collect_one<B: Bench>(bench: &mut B, p: u32, items: &Items, mark: Mark) -> Result<Matches, Stop>
     requires place { p < (B.known bench.old).parts }
-    requires some { SomeCollecting items.now mark p (B.known bench.old) }
+    requires some { AreSomehowCollected items.now mark p (B.known bench.old) }
     ensures found { (rules : Rules) (all : List Holder)
-        → Collecting rules all items.now mark p (B.known bench.old)
+        → AreCollected rules all items.now mark p (B.known bench.old)
         → IfOk result (λ found. found ≡ found_of rules all items.now p) }
     ensures parts { (rules : Rules) (all : List Holder)
-        → Collecting rules all items.now mark p (B.known bench.old)
-        → OnOk result (Collecting rules all items.now mark (p + 1) (B.known bench.new)) }
+        → AreCollected rules all items.now mark p (B.known bench.old)
+        → OnOk result (AreCollected rules all items.now mark (p + 1) (B.known bench.new)) }
     ensures same { Same (B.known bench.old) (B.known bench.new) }
     ensures lanes { LanesRest (B.known bench.old) (B.known bench.new) }
     ensures went { OnOk result (Went (B.known bench.old) (B.known bench.new)) }
     ensures stops { IfErr result (λ stop. StopsBy stop (B.known bench.old) (B.known bench.new)) }
-    ensures notes { PartNoted p 0 1 (B.known bench.old) (B.known bench.new) }
+    ensures notes { NotesPart p 0 1 (B.known bench.old) (B.known bench.new) }
 {
     match bench.part(p, PartOp::Collect) {
         Err(by) => Err(unplayed(by)),
@@ -216,18 +216,19 @@ pub(crate) fn collect_all<B: Bench>(
     items: &Items,
     mark: Mark,
 ) -> Result<Vec<Matches>, Stop>
-    requires some { SomeCollecting items.now mark 0 (B.known bench.old) }
+    requires some { AreSomehowCollected items.now mark 0 (B.known bench.old) }
     ensures found { (rules : Rules) (all : List Holder)
-        → Collecting rules all items.now mark 0 (B.known bench.old)
+        → AreCollected rules all items.now mark 0 (B.known bench.old)
         → IfOk result (λ lists. lists.items ≡ map (found_of rules all items.now) (numbers 16)) }
     ensures parts { (rules : Rules) (all : List Holder)
-        → Collecting rules all items.now mark 0 (B.known bench.old)
-        → OnOk result (Resting rules (pending_after rules all items.now) mark (B.known bench.new)) }
+        → AreCollected rules all items.now mark 0 (B.known bench.old)
+        → OnOk result (AreAtRest rules (pending_after rules all items.now) mark
+            (B.known bench.new)) }
     ensures same { Same (B.known bench.old) (B.known bench.new) }
     ensures lanes { LanesRest (B.known bench.old) (B.known bench.new) }
     ensures went { OnOk result (Went (B.known bench.old) (B.known bench.new)) }
     ensures stops { IfErr result (λ stop. StopsBy stop (B.known bench.old) (B.known bench.new)) }
-    ensures notes { PartsNoted (λ p. 0) 1 (B.known bench.old) (B.known bench.new) }
+    ensures notes { NotesParts (λ p. 0) 1 (B.known bench.old) (B.known bench.new) }
 {
     let count = bench.parts();
     let mut lists = Vec::new(alloc);

@@ -8,10 +8,10 @@ ghost use Rattle.eql_conductor.specs.Benches.{LanesRest, PartsRest, Same};
 ghost use Rattle.eql_conductor.specs.Bounds.{AllGaveOut};
 ghost use Rattle.eql_conductor.specs.Fitting.{TakesFitting};
 ghost use Rattle.eql_conductor.specs.Going.{LanesGo, StopsBy, Went};
-ghost use Rattle.eql_conductor.specs.Handed.{HandedOut};
+ghost use Rattle.eql_conductor.specs.Handed.{AllHandOut};
 ghost use Rattle.eql_conductor.specs.LaneRounds.{IsSafe, LanesAt};
-ghost use Rattle.eql_conductor.specs.PartRounds.{Resting, SomeResting, pending_after};
-ghost use Rattle.eql_conductor.specs.RoundNotes.{LanesBroken, LanesNoted, PartsNoted, delivered_to};
+ghost use Rattle.eql_conductor.specs.PartRounds.{AreAtRest, AreSomehowAtRest, pending_after};
+ghost use Rattle.eql_conductor.specs.RoundNotes.{NotesLanesFront, NotesLanes, NotesParts, delivered_to};
 ghost use Rattle.eql_conductor.specs.Rounds.{found_by};
 ghost use Rattle.eql_conductor.specs.declared.note.Note.TheVariants.{Took};
 
@@ -43,10 +43,10 @@ pub(crate) fn take_in_order<B: Bench>(
     ensures went { OnOk result (Went (B.known bench.old) (B.known bench.new)) }
     ensures stops { IfErr result (λ stop. StopsBy stop (B.known bench.old) (B.known bench.new)) }
     ensures gave { OnOk result (AllGaveOut mark (B.known bench.old) (B.known bench.new)) }
-    ensures none_handed { OnErr result (HandedOut 0 (B.known bench.old) (B.known bench.new)) }
-    ensures notes { OnOk result (LanesNoted (λ s. Took mark ∷ [])
+    ensures none_handed { OnErr result (AllHandOut 0 (B.known bench.old) (B.known bench.new)) }
+    ensures notes { OnOk result (NotesLanes (λ s. Took mark ∷ [])
         (B.known bench.old) (B.known bench.new)) }
-    ensures broken_notes { OnErr result (LanesBroken (λ s. Took mark ∷ [])
+    ensures broken_notes { OnErr result (NotesLanesFront (λ s. Took mark ∷ [])
         (B.known bench.old) (B.known bench.new)) }
 {
     let lists = take_all(alloc, bench, last, mark)?;
@@ -67,18 +67,19 @@ pub(crate) fn play_parts<B: Bench>(
 ) -> Result<Matches, Stop>
     requires batch { (1 ≤ batch) × (batch ≤ 4096) }
     requires can { CanDeliver last items.now mark }
-    requires some { SomeResting last (B.known bench.old) }
+    requires some { AreSomehowAtRest last (B.known bench.old) }
     ensures found { (rules : Rules) (all : List Holder)
-        → Resting rules all last (B.known bench.old)
+        → AreAtRest rules all last (B.known bench.old)
         → IfOk result (λ found. found ≡ found_by rules all items.now) }
     ensures parts { (rules : Rules) (all : List Holder)
-        → Resting rules all last (B.known bench.old)
-        → OnOk result (Resting rules (pending_after rules all items.now) mark (B.known bench.new)) }
+        → AreAtRest rules all last (B.known bench.old)
+        → OnOk result (AreAtRest rules (pending_after rules all items.now) mark
+            (B.known bench.new)) }
     ensures same { Same (B.known bench.old) (B.known bench.new) }
     ensures lanes { LanesRest (B.known bench.old) (B.known bench.new) }
     ensures went { OnOk result (Went (B.known bench.old) (B.known bench.new)) }
     ensures stops { IfErr result (λ stop. StopsBy stop (B.known bench.old) (B.known bench.new)) }
-    ensures notes { PartsNoted (delivered_to items.now) 3
+    ensures notes { NotesParts (delivered_to items.now) 3
         (B.known bench.old) (B.known bench.new) }
 {
     deliver_all(alloc, bench, items, last, mark)?;

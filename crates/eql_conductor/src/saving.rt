@@ -14,10 +14,10 @@ ghost use Rattle.eql_conductor.specs.declared.stop.Stop.TheVariants.{Disk as Dis
 ghost use Rattle.eql_conductor.specs.Benches.{Rests};
 ghost use Rattle.eql_conductor.specs.Going.{LanesGo, StopsBy, Went};
 ghost use Rattle.eql_conductor.specs.LaneRounds.{LanesAt};
-ghost use Rattle.eql_conductor.specs.PartRounds.{Resting, SomeFull};
-ghost use Rattle.eql_conductor.specs.RunNotes.{SaveBroken, SaveNoted};
+ghost use Rattle.eql_conductor.specs.PartRounds.{AreAtRest, AreSomehowFull};
+ghost use Rattle.eql_conductor.specs.RunNotes.{NotesSaveFront, NotesSave};
 ghost use Rattle.eql_conductor.specs.Rounds.{StopsKeeping, StopsSaving};
-ghost use Rattle.eql_conductor.specs.Saving.{BookKeepsNumbers, IsHeadOf, IsSavedAt, NotSaved, PutsCuts, Saved};
+ghost use Rattle.eql_conductor.specs.Saving.{BookKeepsNumbers, IsHeadOf, IsSavedAt, SavesNoCut, PutsCuts, SavesCut};
 
 use crate::bench::Bench;
 use crate::plan::Keep;
@@ -86,7 +86,7 @@ fn take_cut<B: Bench>(
     time: i128,
 ) -> Result<Cut, Stop>
     requires lanes { LanesAt None (AtTime time) (B.known bench.old) }
-    requires some { SomeFull (AtTime time) (B.known bench.old) }
+    requires some { AreSomehowFull (AtTime time) (B.known bench.old) }
     requires whole { book.now.whole ≡ true }
     requires numbers { BookKeepsNumbers book.now.kept }
     requires head { IsHeadOf head.now (B.known bench.old) }
@@ -94,8 +94,8 @@ fn take_cut<B: Bench>(
     ensures rests { Rests (B.known bench.old) (B.known bench.new) }
     ensures went { OnOk result (Went (B.known bench.old) (B.known bench.new)) }
     ensures stops { IfErr result (λ stop. StopsBy stop (B.known bench.old) (B.known bench.new)) }
-    ensures notes { OnOk result (SaveNoted (B.known bench.old) (B.known bench.new)) }
-    ensures broken_notes { OnErr result (SaveBroken (B.known bench.old) (B.known bench.new)) }
+    ensures notes { OnOk result (NotesSave (B.known bench.old) (B.known bench.new)) }
+    ensures broken_notes { OnErr result (NotesSaveFront (B.known bench.old) (B.known bench.new)) }
 {
     let lanes = snap_lanes(alloc, bench)?;
     let holders = snap_parts(alloc, bench, time)?;
@@ -153,7 +153,7 @@ pub(crate) fn save<B: Bench, D: Disk>(
     time: i128,
 ) -> Result<(), Stop>
     requires lanes { LanesAt None (AtTime time) (B.known bench.old) }
-    requires some { SomeFull (AtTime time) (B.known bench.old) }
+    requires some { AreSomehowFull (AtTime time) (B.known bench.old) }
     requires whole { book.now.whole ≡ true }
     requires numbers { BookKeepsNumbers book.now.kept }
     requires head { IsHeadOf head.now (B.known bench.old) }
@@ -162,18 +162,18 @@ pub(crate) fn save<B: Bench, D: Disk>(
         → LanesAt texts (AtTime time) (B.known bench.old)
         → OnOk result (LanesAt texts (AtTime time) (B.known bench.new)) }
     ensures parts { (rules : Rules) (all : List Holder)
-        → Resting rules all (AtTime time) (B.known bench.old)
-        → OnOk result (Resting rules all (AtTime time) (B.known bench.new)) }
-    ensures saved { OnOk result (Saved head.now time (B.known bench.old) book.now
+        → AreAtRest rules all (AtTime time) (B.known bench.old)
+        → OnOk result (AreAtRest rules all (AtTime time) (B.known bench.new)) }
+    ensures saved { OnOk result (SavesCut head.now time (B.known bench.old) book.now
         keep.old.state keep.new.state (D.history keep.old.disk) (D.history keep.new.disk)) }
-    ensures not_saved { OnErr result (NotSaved head.now time (B.known bench.old) book.now
+    ensures not_saved { OnErr result (SavesNoCut head.now time (B.known bench.old) book.now
         keep.old.state keep.new.state (D.history keep.old.disk) (D.history keep.new.disk)) }
     ensures goes { LanesGo (B.known bench.old) (B.known bench.new) }
     ensures went { OnOk result (Went (B.known bench.old) (B.known bench.new)) }
     ensures stops { IfErr result (λ stop.
         StopsSaving stop (B.known bench.old) (B.known bench.new)) }
-    ensures notes { OnOk result (SaveNoted (B.known bench.old) (B.known bench.new)) }
-    ensures broken_notes { OnErr result (SaveBroken (B.known bench.old) (B.known bench.new)) }
+    ensures notes { OnOk result (NotesSave (B.known bench.old) (B.known bench.new)) }
+    ensures broken_notes { OnErr result (NotesSaveFront (B.known bench.old) (B.known bench.new)) }
     ensures full { result ≡ Err (AtLimit Generation)
         → (last_cut keep.new.state).generation ≡ 2 ^ 63 }
     ensures stands_yet { IfErr result (λ stop. (stop ≢ DiskFailed) → (stop ≢ OutOfMemory)

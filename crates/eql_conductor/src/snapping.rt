@@ -10,10 +10,10 @@ ghost use Rattle.eql_parts.specs.PartSteps.{Rules};
 ghost use Rattle.eql_conductor.specs.Benches.{Rests};
 ghost use Rattle.eql_conductor.specs.Going.{StopsBy, Went};
 ghost use Rattle.eql_conductor.specs.LaneRounds.{LanesAt, text_at};
-ghost use Rattle.eql_conductor.specs.PartRounds.{Resting, SomeFull, pending_after};
-ghost use Rattle.eql_conductor.specs.RoundNotes.{LaneBroken, LaneNoted, LanesBroken, LanesNoted, PartNoted, PartsNoted};
+ghost use Rattle.eql_conductor.specs.PartRounds.{AreAtRest, AreSomehowFull, pending_after};
+ghost use Rattle.eql_conductor.specs.RoundNotes.{NotesLaneFront, NotesLane, NotesLanesFront, NotesLanes, NotesPart, NotesParts};
 ghost use Rattle.eql_conductor.specs.declared.note.Note.TheVariants.{Snapped};
-ghost use Rattle.eql_conductor.specs.Snaps.{AllSnapped, IsSnap, held_of};
+ghost use Rattle.eql_conductor.specs.Snaps.{SnapsAll, IsSnap, held_of};
 ghost use Rattle.eql_conductor.specs.declared.stop.Stop.TheVariants.{Memory as OutOfMemory};
 
 use crate::bench::Bench;
@@ -34,9 +34,9 @@ fn snap_lane<B: Bench>(bench: &mut B, s: u32) -> Result<LaneCut, Stop>
         → IfOk result (λ cut. IsSnap (text_at texts s) ((B.known bench.old).set s) mark cut) }
     ensures went { OnOk result (Went (B.known bench.old) (B.known bench.new)) }
     ensures stops { IfErr result (λ stop. StopsBy stop (B.known bench.old) (B.known bench.new)) }
-    ensures notes { OnOk result (LaneNoted s (Snapped ∷ [])
+    ensures notes { OnOk result (NotesLane s (Snapped ∷ [])
         (B.known bench.old) (B.known bench.new)) }
-    ensures broken_notes { OnErr result (LaneBroken s (Snapped ∷ [])
+    ensures broken_notes { OnErr result (NotesLaneFront s (Snapped ∷ [])
         (B.known bench.old) (B.known bench.new)) }
 {
     match bench.lane(s, LaneOp::Snap) {
@@ -63,12 +63,12 @@ pub(crate) fn snap_lanes<B: Bench>(alloc: Global, bench: &mut B) -> Result<LaneC
     ensures rests { Rests (B.known bench.old) (B.known bench.new) }
     ensures snaps { (texts : Option (List (List ℕ))) (mark : Mark)
         → LanesAt texts mark (B.known bench.old)
-        → IfOk result (λ cuts. AllSnapped texts mark (B.known bench.old) cuts) }
+        → IfOk result (λ cuts. SnapsAll texts mark (B.known bench.old) cuts) }
     ensures went { OnOk result (Went (B.known bench.old) (B.known bench.new)) }
     ensures stops { IfErr result (λ stop. StopsBy stop (B.known bench.old) (B.known bench.new)) }
-    ensures notes { OnOk result (LanesNoted (λ s. Snapped ∷ [])
+    ensures notes { OnOk result (NotesLanes (λ s. Snapped ∷ [])
         (B.known bench.old) (B.known bench.new)) }
-    ensures broken_notes { OnErr result (LanesBroken (λ s. Snapped ∷ [])
+    ensures broken_notes { OnErr result (NotesLanesFront (λ s. Snapped ∷ [])
         (B.known bench.old) (B.known bench.new)) }
 {
     let count = bench.lanes();
@@ -86,11 +86,11 @@ fn snap_part<B: Bench>(bench: &mut B, p: u32) -> Result<Holders, Stop>
     requires place { p < (B.known bench.old).parts }
     ensures rests { Rests (B.known bench.old) (B.known bench.new) }
     ensures held { (rules : Rules) (all : List Holder) (time : ℤ)
-        → Resting rules all (AtTime time) (B.known bench.old)
+        → AreAtRest rules all (AtTime time) (B.known bench.old)
         → IfOk result (λ held. held ≡ held_of rules all time p) }
     ensures went { OnOk result (Went (B.known bench.old) (B.known bench.new)) }
     ensures stops { IfErr result (λ stop. StopsBy stop (B.known bench.old) (B.known bench.new)) }
-    ensures notes { PartNoted p 0 1 (B.known bench.old) (B.known bench.new) }
+    ensures notes { NotesPart p 0 1 (B.known bench.old) (B.known bench.new) }
 {
     match bench.part(p, PartOp::Snap) {
         Err(by) => Err(unplayed(by)),
@@ -115,11 +115,11 @@ fn add_held(lists: &mut Vec<Holders>, held: Holders) -> Result<(), Stop>
 fn snap_each<B: Bench>(alloc: Global, bench: &mut B) -> Result<Vec<Holders>, Stop>
     ensures rests { Rests (B.known bench.old) (B.known bench.new) }
     ensures held { (rules : Rules) (all : List Holder) (time : ℤ)
-        → Resting rules all (AtTime time) (B.known bench.old)
+        → AreAtRest rules all (AtTime time) (B.known bench.old)
         → IfOk result (λ lists. lists.items ≡ map (held_of rules all time) (numbers 16)) }
     ensures went { OnOk result (Went (B.known bench.old) (B.known bench.new)) }
     ensures stops { IfErr result (λ stop. StopsBy stop (B.known bench.old) (B.known bench.new)) }
-    ensures notes { PartsNoted (λ p. 0) 1 (B.known bench.old) (B.known bench.new) }
+    ensures notes { NotesParts (λ p. 0) 1 (B.known bench.old) (B.known bench.new) }
 {
     let count = bench.parts();
     let mut lists = Vec::new(alloc);
@@ -136,16 +136,16 @@ pub(crate) fn snap_parts<B: Bench>(
     bench: &mut B,
     time: i128,
 ) -> Result<Holders, Stop>
-    requires some { SomeFull (AtTime time) (B.known bench.old) }
+    requires some { AreSomehowFull (AtTime time) (B.known bench.old) }
     ensures rests { Rests (B.known bench.old) (B.known bench.new) }
     ensures held { (rules : Rules) (all : List Holder)
-        → Resting rules all (AtTime time) (B.known bench.old)
+        → AreAtRest rules all (AtTime time) (B.known bench.old)
         → IfOk result (λ held. held ≡ alive_holders rules.span time (pending_after rules all [])) }
     ensures in_order { IfOk result (λ held. HoldersInOrder held) }
     ensures full { IfOk result (λ held. All IsFull held) }
     ensures went { OnOk result (Went (B.known bench.old) (B.known bench.new)) }
     ensures stops { IfErr result (λ stop. StopsBy stop (B.known bench.old) (B.known bench.new)) }
-    ensures notes { PartsNoted (λ p. 0) 1 (B.known bench.old) (B.known bench.new) }
+    ensures notes { NotesParts (λ p. 0) 1 (B.known bench.old) (B.known bench.new) }
 {
     let lists = snap_each(alloc, bench)?;
     match merge_holders(alloc, lists) {

@@ -5,9 +5,9 @@ ghost use Rattle.eql_rounds.specs.LaneRounds.{HandsOver};
 ghost use Rattle.eql_conductor.specs.Benches.{PartsRest};
 ghost use Rattle.eql_conductor.specs.Bounds.{AllGaveOut, OneGaveOut};
 ghost use Rattle.eql_conductor.specs.Going.{LanesGo, StopsBy, Went};
-ghost use Rattle.eql_conductor.specs.LaneRounds.{AllHandOver, IsSafe, LanesAt, TakingTo, text_at};
-ghost use Rattle.eql_conductor.specs.Handed.{HandedOut, LaneHands, LanesHand, sizes};
-ghost use Rattle.eql_conductor.specs.RoundNotes.{LaneBroken, LaneNoted, LanesBroken, LanesNoted};
+ghost use Rattle.eql_conductor.specs.LaneRounds.{AllHandOver, IsSafe, LanesAt, AreTakenTo, text_at};
+ghost use Rattle.eql_conductor.specs.Handed.{AllHandOut, LaneHands, LanesHand, sizes};
+ghost use Rattle.eql_conductor.specs.RoundNotes.{NotesLaneFront, NotesLane, NotesLanesFront, NotesLanes};
 ghost use Rattle.eql_conductor.specs.declared.note.Note.TheVariants.{Took};
 ghost use Rattle.eql_conductor.specs.declared.stop.Stop.TheVariants.{Memory as OutOfMemory};
 
@@ -21,15 +21,15 @@ use std::alloc::Global;
 #[tactic(auto, using(crate::proofs::Onward::unplayed_goes, crate::proofs::Onward::lane_went, crate::proofs::LaneNotes::took_noted, crate::proofs::LaneNotes::took_broken, crate::proofs::LaneNotes::unplayed_broken, crate::proofs::Handing::taken_hands, crate::proofs::Handing::lacked_hands, crate::proofs::Handing::unplayed_hands))]
 fn take_one<B: Bench>(bench: &mut B, s: u32, last: Mark, mark: Mark) -> Result<Items, Stop>
     requires place { s < (B.known bench.old).lanes }
-    requires lanes { TakingTo None s last mark (B.known bench.old) }
+    requires lanes { AreTakenTo None s last mark (B.known bench.old) }
     requires safe { IsSafe mark (B.known bench.old) }
     requires later { AtMost last mark }
     ensures hands { (texts : Option (List (List ℕ)))
-        → TakingTo texts s last mark (B.known bench.old)
+        → AreTakenTo texts s last mark (B.known bench.old)
         → IfOk result (HandsOver (text_at texts s) ((B.known bench.old).set s) last mark) }
     ensures lanes { (texts : Option (List (List ℕ)))
-        → TakingTo texts s last mark (B.known bench.old)
-        → OnOk result (TakingTo texts (s + 1) last mark (B.known bench.new)) }
+        → AreTakenTo texts s last mark (B.known bench.old)
+        → OnOk result (AreTakenTo texts (s + 1) last mark (B.known bench.new)) }
     ensures goes { LanesGo (B.known bench.old) (B.known bench.new) }
     ensures parts { PartsRest (B.known bench.old) (B.known bench.new) }
     ensures went { OnOk result (Went (B.known bench.old) (B.known bench.new)) }
@@ -39,9 +39,9 @@ fn take_one<B: Bench>(bench: &mut B, s: u32, last: Mark, mark: Mark) -> Result<I
         (B.known bench.old) (B.known bench.new)) }
     ensures none_handed { OnErr result (LanesHand (λ s. 0)
         (B.known bench.old) (B.known bench.new)) }
-    ensures notes { OnOk result (LaneNoted s (Took mark ∷ [])
+    ensures notes { OnOk result (NotesLane s (Took mark ∷ [])
         (B.known bench.old) (B.known bench.new)) }
-    ensures broken_notes { OnErr result (LaneBroken s (Took mark ∷ [])
+    ensures broken_notes { OnErr result (NotesLaneFront s (Took mark ∷ [])
         (B.known bench.old) (B.known bench.new)) }
 {
     match bench.lane(s, LaneOp::Take { mark }) {
@@ -84,10 +84,10 @@ pub(crate) fn take_all<B: Bench>(
     ensures gave { OnOk result (AllGaveOut mark (B.known bench.old) (B.known bench.new)) }
     ensures handed { IfOk result (λ lists. LanesHand (sizes lists)
         (B.known bench.old) (B.known bench.new)) }
-    ensures none_handed { OnErr result (HandedOut 0 (B.known bench.old) (B.known bench.new)) }
-    ensures notes { OnOk result (LanesNoted (λ s. Took mark ∷ [])
+    ensures none_handed { OnErr result (AllHandOut 0 (B.known bench.old) (B.known bench.new)) }
+    ensures notes { OnOk result (NotesLanes (λ s. Took mark ∷ [])
         (B.known bench.old) (B.known bench.new)) }
-    ensures broken_notes { OnErr result (LanesBroken (λ s. Took mark ∷ [])
+    ensures broken_notes { OnErr result (NotesLanesFront (λ s. Took mark ∷ [])
         (B.known bench.old) (B.known bench.new)) }
 {
     let count = bench.lanes();

@@ -14,7 +14,7 @@ use Rattle.eql_values.specs.declared.cut.Pipe.{Pipe}
 use Rattle.eql_values.specs.declared.cut.Pipe.TheVariants as pipe
 use Rattle.eql_values.specs.declared.cut.PipeState.{PipeState}
 use Rattle.eql_values.specs.declared.cut.PipeState.TheVariants as state
-use Rattle.eql_values.specs.Ascending.{AllAfter, Ascending}
+use Rattle.eql_values.specs.Ascending.{AllAfter, Ascend}
 use Rattle.eql_values.specs.Routes.{RoutesStand}
 use Rattle.eql_laws.specs.Alive.{HoldersInOrder}
 use Rattle.eql_laws.specs.Books.{NumbersAscend, StateStands}
@@ -138,7 +138,7 @@ module _ (place : ℕ → ℕ → ℕ) where
     above_up o items oz (All-tail (λ (e : OrderKey). e.at ≡ 0) x.order (map (λ (i : Item). i.order) items) none) up.1,
   )
 
-  items_up : (items : List Item) → IsUnplaced (map (λ (i : Item). i.order) items) → Ascending items → Ascending (map (lifted_item place) items)
+  items_up : (items : List Item) → IsUnplaced (map (λ (i : Item). i.order) items) → Ascend items → Ascend (map (lifted_item place) items)
   items_up [] none up = tt
   items_up (x ∷ items) none up =
       let rest = All-tail (λ (e : OrderKey). e.at ≡ 0) x.order (map (λ (i : Item). i.order) items) none in
@@ -152,7 +152,7 @@ module _ (place : ℕ → ℕ → ℕ) where
       (all_lifted lift None P keeps xs (All-tail None x xs none) (All-tail P x xs all))
 
   abbrev LaneStands : LaneCut → Type 0
-  LaneStands lane = Ascending lane.items × All (λ (item : Item). RoutesStand item.routes) lane.items
+  LaneStands lane = Ascend lane.items × All (λ (item : Item). RoutesStand item.routes) lane.items
 
   lane_stands : (lane : LaneCut) → IsUnplaced (lane_orders lane) → LaneStands lane → LaneStands (lifted_lane place lane)
   lane_stands lane none stands = (items_up lane.items none stands.0, All-map (λ (item : Item). RoutesStand item.routes) (lifted_item place) lane.items stands.1)

@@ -13,7 +13,7 @@ use Rattle.eql_values.specs.declared.cut.PipeState.{PipeState}
 use Rattle.eql_values.specs.declared.cut.PipeState.TheVariants as state
 use Rattle.eql_values.specs.Adjacent.{by_key, by_order, by_number}
 use Rattle.eql_values.specs.Orders.{key_cmp}
-use Rattle.eql_values.specs.Ascending.{Ascending}
+use Rattle.eql_values.specs.Ascending.{Ascend}
 use Rattle.eql_values.specs.Matching.{slot_cmp}
 use Rattle.eql_values.specs.OrderKeys.{order_cmp, EventsAscend}
 use Rattle.eql_values.specs.Routes.{RoutesInOrder, RoutesStand, says_something}
@@ -21,16 +21,16 @@ use Rattle.eql_laws.specs.Books.{NumbersAscend, StateStands}
 use Rattle.eql_cut.specs.declared.cut.Cut.{Cut}
 use Rattle.eql_cut.specs.declared.reader.Version.{Version}
 use Rattle.eql_cut.specs.Values.{items_ascend, item, lane}
-use Rattle.eql_cut.specs.CutValues.{cut, is_full, holder, holders_ascend, numbered, numbers_ascend, pipe_state, state_ordered, cut_ordered}
+use Rattle.eql_cut.specs.CutValues.{cut, is_full, holder, holders_ascend, numbered, numbers_ascend, pipe_state, IsOrderedState, IsOrderedCut}
 use Rattle.eql_cut.specs.Domain.{IsCut}
 use Rattle.eql_cut.proofs.Keyed.{sorted_alike}
 
 -- the laws of eql_values on events that ascend
 abbrev pub SortedItems : Type 0
-SortedItems = (items : List Item) → Ascending items → IsTrue (is_sorted order_cmp (by_order items))
+SortedItems = (items : List Item) → Ascend items → IsTrue (is_sorted order_cmp (by_order items))
 
 abbrev pub ItemsBack : Type 0
-ItemsBack = (items : List Item) → All (λ (item : Item). RoutesInOrder item.routes) items → IsTrue (is_sorted order_cmp (by_order items)) → Ascending items
+ItemsBack = (items : List Item) → All (λ (item : Item). RoutesInOrder item.routes) items → IsTrue (is_sorted order_cmp (by_order items)) → Ascend items
 
 is_less : (m n : ℕ) → is_lt (nat_cmp m n) ≡ true → m < n
 is_less m n is = grind arith
@@ -65,7 +65,7 @@ module _ (v : Version) where
   item_stands : (i : Item) → (item v).Fits i → RoutesStand i.routes
   item_stands i fits = and_parts (is_sorted key_cmp (by_key i.routes)) (list_all says_something i.routes) fits.0.1.1
 
-  lane_stands : ItemsBack → (l : LaneCut) → (lane v).Fits l → Ascending l.items × All (λ (i : Item). RoutesStand i.routes) l.items
+  lane_stands : ItemsBack → (l : LaneCut) → (lane v).Fits l → Ascend l.items × All (λ (i : Item). RoutesStand i.routes) l.items
   lane_stands back l fits =
       let items = fits.0.1.1.1.1 in
       let all : All (λ (i : Item). RoutesStand i.routes) l.items = All-weaker (item v).Fits (λ (i : Item). RoutesStand i.routes) item_stands l.items items.0.1 in
@@ -98,17 +98,17 @@ module _ (v : Version) where
         };
       }
 
-state_orders : (s : PipeState) → StateStands s → state_ordered s
+state_orders : (s : PipeState) → StateStands s → IsOrderedState s
 state_orders (state.Head passed) stands = tt
 state_orders (state.Tail kept) stands = numbers_are-sorted kept stands.0
 
-lane_orders : SortedItems → (l : LaneCut) → Ascending l.items × All (λ (i : Item). RoutesStand i.routes) l.items → IsTrue (items_ascend l.items)
+lane_orders : SortedItems → (l : LaneCut) → Ascend l.items × All (λ (i : Item). RoutesStand i.routes) l.items → IsTrue (items_ascend l.items)
 lane_orders sorted l stands = sorted l.items stands.0
 
 holder_orders : (h : Holder) → (length h.chain ≡ h.stage) × EventsAscend h.chain → IsTrue (is_full h)
 holder_orders h stands = eq-eqb (length h.chain) h.stage stands.0
 
-pub cut_orders : SortedItems → (c : Cut) → IsCut c → cut_ordered c
+pub cut_orders : SortedItems → (c : Cut) → IsCut c → IsOrderedCut c
 cut_orders sorted c is =
     let stands = is.stands in
     let ascend : IsTrue (holders_ascend c.holders) =
@@ -116,6 +116,6 @@ cut_orders sorted c is =
       is.names,
       All-weaker _ (λ (l : LaneCut). IsTrue (items_ascend l.items)) (lane_orders sorted) c.lanes stands.items,
       (All-weaker _ (λ (h : Holder). IsTrue (is_full h)) holder_orders c.holders stands.chains, ascend),
-      All-weaker StateStands state_ordered state_orders c.book.pipes stands.book,
+      All-weaker StateStands IsOrderedState state_orders c.book.pipes stands.book,
       eq-eqb (length c.lanes) c.head.shards stands.lane_for_each,
     )

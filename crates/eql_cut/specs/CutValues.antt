@@ -140,11 +140,11 @@ abbrev pub cut_text : Version → Cut → List ℕ
 cut_text v c = header.text v ++ (cut v).text c
 
 -- the orders that no width says: of what a pipe has seen, and of a whole cut
-abbrev pub state_ordered : PipeState → Type 0
-state_ordered (state.Head passed) = Unit {0}
-state_ordered (state.Tail kept) = IsTrue (numbers_ascend kept)
+abbrev pub IsOrderedState : PipeState → Type 0
+IsOrderedState (state.Head passed) = Unit {0}
+IsOrderedState (state.Tail kept) = IsTrue (numbers_ascend kept)
 
-abbrev pub cut_ordered : Cut → Type 0
-cut_ordered c =
+abbrev pub IsOrderedCut : Cut → Type 0
+IsOrderedCut c =
     IsTrue (names_ascend c.head.mapping) × All (λ (l : LaneCut). IsTrue (items_ascend l.items)) c.lanes
-    × (All (λ (h : Holder). IsTrue (is_full h)) c.holders × IsTrue (holders_ascend c.holders)) × All state_ordered c.book.pipes × IsTrue (has_lanes c)
+    × (All (λ (h : Holder). IsTrue (is_full h)) c.holders × IsTrue (holders_ascend c.holders)) × All IsOrderedState c.book.pipes × IsTrue (has_lanes c)

@@ -1,6 +1,6 @@
 //! What is kept of the output.
 ghost use Rattle.std.specs.Prelude.{◌≡◌, All};
-ghost use Rattle.eql_cut.specs.CutValues.{state_ordered};
+ghost use Rattle.eql_cut.specs.CutValues.{IsOrderedState};
 
 use crate::coded::Coded;
 use crate::lists::{read_list, write_list};
@@ -13,7 +13,7 @@ impl Coded for PipeState {
 
     ghost format = { pipe_state };
 
-    ghost ordered = { state_ordered };
+    ghost ordered = { IsOrderedState };
 
     fn write(&self, to: &mut Vec<u8>) -> Result<(), AllocError> {
         match self {
@@ -48,7 +48,7 @@ impl Coded for PipeStates {
 
     ghost format = { λ v. list (pipe_state v) };
 
-    ghost ordered = { λ ps. All state_ordered ps };
+    ghost ordered = { λ ps. All IsOrderedState ps };
 
     fn write(&self, to: &mut Vec<u8>) -> Result<(), AllocError> {
         write_list(self.items(), to)
@@ -64,7 +64,7 @@ impl Coded for BookCut {
 
     ghost format = { book };
 
-    ghost ordered = { λ b. All state_ordered b.pipes };
+    ghost ordered = { λ b. All IsOrderedState b.pipes };
 
     fn write(&self, to: &mut Vec<u8>) -> Result<(), AllocError> {
         self.found.write(to)?;

@@ -1,7 +1,7 @@
 //! What a cut says of its run, and the whole cut.
 ghost use Rattle.std.specs.Prelude.{◌≡◌, IsTrue, All};
 ghost use Rattle.eql_cut.specs.Values.{items_ascend};
-ghost use Rattle.eql_cut.specs.CutValues.{names_ascend, has_lanes, cut_ordered};
+ghost use Rattle.eql_cut.specs.CutValues.{names_ascend, has_lanes, IsOrderedCut};
 
 use crate::coded::Coded;
 use crate::cut::{Cut, CutHead};
@@ -160,7 +160,7 @@ impl Coded for Cut {
 
     ghost format = { cut };
 
-    ghost ordered = { cut_ordered };
+    ghost ordered = { IsOrderedCut };
 
     fn write(&self, to: &mut Vec<u8>) -> Result<(), AllocError> {
         self.head.write(to)?;

@@ -2,7 +2,7 @@
 ghost use Rattle.std.specs.Prelude.{◌≡◌, ◌++◌, OnOk, IfOk, IfErr};
 ghost use Rattle.eql_cut.specs.declared.reader.Version.TheVariants as version;
 ghost use Rattle.eql_cut.specs.Reading.{Reads, Answers, IfDamaged};
-ghost use Rattle.eql_cut.specs.CutValues.{cut, cut_file, cut_text, cut_ordered};
+ghost use Rattle.eql_cut.specs.CutValues.{cut, cut_file, cut_text, IsOrderedCut};
 ghost use Rattle.eql_cut.specs.CutValues.{header, exactly, version_byte, number_of};
 ghost use Rattle.eql_cut.specs.Domain.{IsCut};
 ghost use Rattle.eql_cut.specs.Whole.{IsText, IsTextBehind, IsTextOf, IsNoText};
@@ -76,7 +76,7 @@ impl Version {
 /// It takes memory at once for about as much as the text of its pending sequences needs, so that what is written
 /// seldom has to move.
 fn write_whole(alloc: Global, head: &[u8], given: &Cut) -> Result<Vec<u8>, Memory>
-    requires { cut_ordered given.now }
+    requires { IsOrderedCut given.now }
     ensures text { IfOk result (λ v. v.items ≡ head.now ++ cut_text version.Three given.now) }
     ensures fits { OnOk result ((cut version.Three).Fits given.now) }
 {

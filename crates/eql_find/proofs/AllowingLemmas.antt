@@ -22,7 +22,7 @@ use Rattle.eql_cut.specs.Placing.{IsUnplaced, LinesAscend, lifted, orders_in, pl
 use Rattle.eql_conductor.specs.Openings.{FitMayBegin}
 use Rattle.eql_resume.specs.Beginnings.{Rest, placed_if, rest_by}
 use Rattle.eql_resume.specs.Finding.{Suits}
-use Rattle.eql_resume.specs.Lifted.{LiftedAs, LiftedIsCut}
+use Rattle.eql_resume.specs.Lifted.{LiftsAs, LiftedIsCut}
 use Rattle.eql_runs.specs.RunLaws.{FitsAtAnySpan}
 use Rattle.eql_runs.specs.Searches.{run_of}
 use Rattle.eql_search.specs.Beginnings.{BeginsFrom, MayBegin, cuts_of}
@@ -60,7 +60,7 @@ module _ {S L : Type 0} (laws : BeginLaws) (find : Find) (p : Planning) (bounds 
     (lanes : List (LaneView S L)) (format : ℕ) (cut : Cut) (asked : find.checkpoint ≢ None)
     (suits : Suits (stages_of p) (values_of p) (pipes_of p) cut.head cut) (unplaced : format ≡ 1 → IsUnplaced (orders_in cut))
     (slack_is : cut.head.slack ≡ slack_told find.slack) (many : length lanes ≡ length cut.lanes) where
-  pub lifted_as : (began : BeganLifted texts cut lanes) → LiftedAs cut began.shards (cuts_of lanes) (places_in lanes)
+  pub lifted_as : (began : BeganLifted texts cut lanes) → LiftsAs cut began.shards (cuts_of lanes) (places_in lanes)
   lifted_as began =
       laws.lifted_is (stages_of p) (values_of p) (pipes_of p) cut began.shards (cuts_of lanes) (places_in lanes) suits
       (length-map lanes (λ (lane : LaneView S L). lane.state.cut) ∙ many) began.were_lifted

@@ -32,8 +32,8 @@ use Rattle.eql_find.specs.declared.halt.RunHalt.TheVariants as run
 use Rattle.eql_find.specs.declared.plan.Planning.{Planning}
 use Rattle.eql_find.specs.Halts.{DiskAs, ErrAs, IsFault, IsReport, OutAs}
 use Rattle.eql_find.specs.Reports.{counts_in}
-use Rattle.eql_find.specs.Running.{AreSearched, BeyondOn, Started}
-use Rattle.eql_find.specs.Searching.{AreCutsOf, LaneFaults, ReportOf, StoppedLanes, bare, search_in}
+use Rattle.eql_find.specs.Running.{AreSearched, BeyondOn, StartsOver}
+use Rattle.eql_find.specs.Searching.{AreCutsOf, LaneFaults, ReportOf, LanesStop, bare, search_in}
 use Rattle.eql_find.specs.Stops.{IsHaltOf, read, write, disk, memory, lines, bytes, generation}
 use Rattle.eql_find.proofs.KeepLemmas.{are_cuts_of}
 use Rattle.eql_find.proofs.RunLemmas.{StartsSo}
@@ -65,24 +65,24 @@ counts_are find p ts lanes plan were =
 
 -- ---- what a run says of told texts with which it may begin
 module _ {S L : Type 0} (find : Find) (p : Planning) (told : Option (List (List ℕ))) (lanes mids news : List (LaneView S L)) (rest placed : Rest)
-    (starts : (ts : List (List ℕ)) → told ≡ Some ts → Started told find p lanes rest ts → StartsSo find p ts mids placed)
+    (starts : (ts : List (List ℕ)) → told ≡ Some ts → StartsOver told find p lanes rest ts → StartsSo find p ts mids placed)
     (listed_is : placed.book.listed ≡ rest.book.listed) where
   -- what the search says of them
   pub of_started : (P Q : List (List ℕ) → Type 0) → ((ts : List (List ℕ)) → P ts → Q ts) → IfSome told (λ ts. StartsSo find p ts mids placed → P ts)
-      → IfSome told (λ ts. Started told find p lanes rest ts → Q ts)
-  of_started P Q f said = told_each told (λ ts. StartsSo find p ts mids placed → P ts) (λ ts. Started told find p lanes rest ts → Q ts)
+      → IfSome told (λ ts. StartsOver told find p lanes rest ts → Q ts)
+  of_started P Q f said = told_each told (λ ts. StartsSo find p ts mids placed → P ts) (λ ts. StartsOver told find p lanes rest ts → Q ts)
       (λ ts e h s. f ts (h (starts ts e s))) said
 
   pub listing_all : (before now : Option (List ℕ))
       → IfSome told (λ ts. StartsSo find p ts mids placed → WroteAll (rest_of (search_in find p) placed.book.listed ts) before now)
-      → IfSome told (λ ts. Started told find p lanes rest ts → WroteAll (rest_of (search_in find p) rest.book.listed ts) before now)
+      → IfSome told (λ ts. StartsOver told find p lanes rest ts → WroteAll (rest_of (search_in find p) rest.book.listed ts) before now)
   listing_all before now = of_started (λ ts. WroteAll (rest_of (search_in find p) placed.book.listed ts) before now)
       (λ ts. WroteAll (rest_of (search_in find p) rest.book.listed ts) before now)
       (λ ts. subst (λ (n : ℕ). WroteAll (rest_of (search_in find p) n ts) before now) listed_is)
 
   pub listing_front : (before now : Option (List ℕ))
       → IfSome told (λ ts. StartsSo find p ts mids placed → WroteFront (rest_of (search_in find p) placed.book.listed ts) before now)
-      → IfSome told (λ ts. Started told find p lanes rest ts → WroteFront (rest_of (search_in find p) rest.book.listed ts) before now)
+      → IfSome told (λ ts. StartsOver told find p lanes rest ts → WroteFront (rest_of (search_in find p) rest.book.listed ts) before now)
   listing_front before now = of_started (λ ts. WroteFront (rest_of (search_in find p) placed.book.listed ts) before now)
       (λ ts. WroteFront (rest_of (search_in find p) rest.book.listed ts) before now)
       (λ ts. subst (λ (n : ℕ). WroteFront (rest_of (search_in find p) n ts) before now) listed_is)
@@ -90,7 +90,7 @@ module _ {S L : Type 0} (find : Find) (p : Planning) (told : Option (List (List 
   -- the whole listing is a front of it too
   pub listing_some : (before now : Option (List ℕ))
       → IfSome told (λ ts. StartsSo find p ts mids placed → WroteAll (rest_of (search_in find p) placed.book.listed ts) before now)
-      → IfSome told (λ ts. Started told find p lanes rest ts → WroteFront (rest_of (search_in find p) rest.book.listed ts) before now)
+      → IfSome told (λ ts. StartsOver told find p lanes rest ts → WroteFront (rest_of (search_in find p) rest.book.listed ts) before now)
   listing_some before now = of_started (λ ts. WroteAll (rest_of (search_in find p) placed.book.listed ts) before now)
       (λ ts. WroteFront (rest_of (search_in find p) rest.book.listed ts) before now)
       (λ ts h. front_of_all (rest_of (search_in find p) rest.book.listed ts) before now
@@ -98,7 +98,7 @@ module _ {S L : Type 0} (find : Find) (p : Planning) (told : Option (List (List 
 
   module _ (plan : planned p.plan ≡ plan_of (search_in find p))
       (were : IfSome told (λ ts. StartsSo find p ts mids placed → WereRead (line_of (planned p.plan)) (nanos_of find.slack) ts news)) where
-    pub counted : IfSome told (λ ts. Started told find p lanes rest ts → counts_in news ≡ shard_counts_from (search_in find p) 0 ts)
+    pub counted : IfSome told (λ ts. StartsOver told find p lanes rest ts → counts_in news ≡ shard_counts_from (search_in find p) 0 ts)
     counted = of_started (λ ts. WereRead (line_of (planned p.plan)) (nanos_of find.slack) ts news)
         (λ ts. counts_in news ≡ shard_counts_from (search_in find p) 0 ts) (λ ts. counts_are find p ts news plan) were
 
@@ -106,12 +106,12 @@ module _ {S L : Type 0} (find : Find) (p : Planning) (told : Option (List (List 
     pub done_by : (out out' err err' : Option (List ℕ))
         → IfSome told (λ ts. StartsSo find p ts mids placed → WroteAll (rest_of (search_in find p) placed.book.listed ts) out out')
         → WroteAll (report_lines 0 (counts_in news)) err err'
-        → IfSome told (λ ts. Started told find p lanes rest ts
+        → IfSome told (λ ts. StartsOver told find p lanes rest ts
         → WroteAll (rest_of (search_in find p) rest.book.listed ts) out out' × WroteAll (report_of (search_in find p) ts) err err')
     done_by out out' err err' listed wrote =
-        told_two told (λ ts. Started told find p lanes rest ts → WroteAll (rest_of (search_in find p) rest.book.listed ts) out out')
-        (λ ts. Started told find p lanes rest ts → counts_in news ≡ shard_counts_from (search_in find p) 0 ts)
-        (λ ts. Started told find p lanes rest ts
+        told_two told (λ ts. StartsOver told find p lanes rest ts → WroteAll (rest_of (search_in find p) rest.book.listed ts) out out')
+        (λ ts. StartsOver told find p lanes rest ts → counts_in news ≡ shard_counts_from (search_in find p) 0 ts)
+        (λ ts. StartsOver told find p lanes rest ts
         → WroteAll (rest_of (search_in find p) rest.book.listed ts) out out' × WroteAll (report_of (search_in find p) ts) err err')
         (λ ts l c s. (l s, subst (λ (cs : List Counts). WroteAll (report_lines 0 cs) err err') (c s) wrote))
         (listing_all out out' listed) counted
@@ -119,7 +119,7 @@ module _ {S L : Type 0} (find : Find) (p : Planning) (told : Option (List (List 
     -- the report of which a front was written
     pub report_by : (err err' : Option (List ℕ)) → length news ≡ length lanes → length lanes ≡ length find.shards
         → WroteFront (report_lines 0 (counts_in news)) err err'
-        → ReportOf find (search_in find p) told (Started told find p lanes rest) err err'
+        → ReportOf find (search_in find p) told (StartsOver told find p lanes rest) err err'
     report_by err err' long many wrote = record {
       counts = counts_in news;
       count = length-map news (λ lane. lane.state.cut.counts) ∙ long ∙ many;
@@ -130,7 +130,7 @@ module _ {S L : Type 0} (find : Find) (p : Planning) (told : Option (List (List 
   -- the cuts that it put are cuts of the search, and what they count was written
   pub cuts_are : FindBounds find → (out out' : Option (List ℕ)) (cuts : List Cut)
       → IfSome told (λ ts. StartsSo find p ts mids placed → AreSearched (search_in find p) ts placed.book.listed out out' cuts)
-      → AreCutsOf (search_in find p) told rest.book.listed out out' (Started told find p lanes rest) cuts
+      → AreCutsOf (search_in find p) told rest.book.listed out out' (StartsOver told find p lanes rest) cuts
   cuts_are bounds out out' cuts = of_started (λ ts. AreSearched (search_in find p) ts placed.book.listed out out' cuts)
       (λ ts. length (matches_of (search_in find p) ts) < 2 ^ 64 → (slack : ℕ) → find.slack ≡ Some slack
       → All (λ (cut : Cut). IsCutOf (search_in find p) slack ts cut) cuts × All (WroteCounted (search_in find p) ts rest.book.listed out out') cuts)
@@ -138,10 +138,10 @@ module _ {S L : Type 0} (find : Find) (p : Planning) (told : Option (List (List 
       (subst (λ (n : ℕ). AreSearched (search_in find p) ts n out out' cuts) listed_is are))
 
 -- no cuts are such
-pub no_cuts : (search : Search) (told : Option (List (List ℕ))) (listed : ℕ) (out out' : Option (List ℕ)) (Started : List (List ℕ) → Type 0)
-    → AreCutsOf search told listed out out' Started []
-no_cuts search None listed out out' Started = tt
-no_cuts search (Some ts) listed out out' Started =
+pub no_cuts : (search : Search) (told : Option (List (List ℕ))) (listed : ℕ) (out out' : Option (List ℕ)) (StartsOver : List (List ℕ) → Type 0)
+    → AreCutsOf search told listed out out' StartsOver []
+no_cuts search None listed out out' StartsOver = tt
+no_cuts search (Some ts) listed out out' StartsOver =
     λ started less slack is. (All-nil (IsCutOf search slack ts), All-nil (WroteCounted search ts listed out out'))
 
 -- ---- halts
@@ -199,17 +199,17 @@ module _ {S L : Type 0} (left : S → Option (List ℕ)) (find : Find) (told : O
           }
 
   -- why the run halts, by why its search stopped
-  pub stopped_by : (search : Search) (Started : List (List ℕ) → Type 0) (before now disk_before disk_now : ℕ) (err err' : Option (List ℕ)) (why : Stop) (h : RunHalt)
+  pub stopped_by : (search : Search) (StartsOver : List (List ℕ) → Type 0) (before now disk_before disk_now : ℕ) (err err' : Option (List ℕ)) (why : Stop) (h : RunHalt)
       → HasCause told why mids news before now disk_before disk_now
       → (Rose disk_before disk_now → find.checkpoint ≢ None) → (why ≡ stop.Limit reached.Generation → find.checkpoint ≢ None)
-      → IsHaltOf find.shards why h → StoppedLanes find search told Started (BeyondOn lanes) err err' h
-  stopped_by search Started before now d e err err' _ _ cause rose ends (read shard name named) = tt
-  stopped_by search Started before now d e err err' _ _ cause rose ends write = tt
-  stopped_by search Started before now d e err err' _ _ cause rose ends disk = rose cause
-  stopped_by search Started before now d e err err' _ _ cause rose ends memory = tt
-  stopped_by search Started before now d e err err' _ _ cause rose ends (lines shard) = (within shard cause.old cause.was, beyond_lines shard cause)
-  stopped_by search Started before now d e err err' _ _ cause rose ends (bytes shard) = (within shard cause.old cause.was, beyond_bytes shard cause)
-  stopped_by search Started before now d e err err' _ _ cause rose ends generation = ends refl
+      → IsHaltOf find.shards why h → LanesStop find search told StartsOver (BeyondOn lanes) err err' h
+  stopped_by search StartsOver before now d e err err' _ _ cause rose ends (read shard name named) = tt
+  stopped_by search StartsOver before now d e err err' _ _ cause rose ends write = tt
+  stopped_by search StartsOver before now d e err err' _ _ cause rose ends disk = rose cause
+  stopped_by search StartsOver before now d e err err' _ _ cause rose ends memory = tt
+  stopped_by search StartsOver before now d e err err' _ _ cause rose ends (lines shard) = (within shard cause.old cause.was, beyond_lines shard cause)
+  stopped_by search StartsOver before now d e err err' _ _ cause rose ends (bytes shard) = (within shard cause.old cause.was, beyond_bytes shard cause)
+  stopped_by search StartsOver before now d e err err' _ _ cause rose ends generation = ends refl
 
   pub err_steady : {T : Type 0} (r : Result T Stop) (why : Stop) → r ≡ Err why → SteadyBut (λ shard. IsRead r) mids news
       → SteadyBut (λ shard. IsRead {A = T} (Err why)) lanes news

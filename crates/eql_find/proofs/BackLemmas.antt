@@ -9,7 +9,7 @@ use Rattle.std.proofs.lemmas.List.{append_assoc}
 use Rattle.eql_outside.specs.Outside.{Rose}
 use Rattle.eql_outside.specs.Faults.{SameFaults, RoseFor, RoseUnder}
 use Rattle.eql_lane.specs.Views.{LaneView}
-use Rattle.eql_find.specs.Lanes.{Returned, SomeFailed, CameBack, returned, lane_returned}
+use Rattle.eql_find.specs.Lanes.{Returned, SomeSourceFailed, CameBack, returned, lane_returned}
 
 -- what a shelf's counts say once one source comes back
 pub record CameOne (back : Returned) (before now : ℕ) (names names' : List ℕ → ℕ) : Type 0 where
@@ -85,7 +85,7 @@ one_came back backs before mid now first between last came one = record {
   );
 }
   where
-    by : (name : List ℕ) → SomeFailed name (back ∷ backs) → Rose before now × Rose (first name) (last name)
+    by : (name : List ℕ) → SomeSourceFailed name (back ∷ backs) → Rose before now × Rose (first name) (last name)
     by name (inl h) = (
       rose_first before mid now came.counts.0 (one.raised h.often),
       rose_first (first name) (between name) (last name) (came.counts.1 name) (by_name name back.name between last h.named (one.raised_named h.often)).rose,

@@ -13,7 +13,7 @@ use Rattle.eql_lane.specs.declared.make.LaneStart.{LaneStart}
 use Rattle.eql_lane.specs.declared.make.LaneStart.TheVariants as start
 use Rattle.eql_lane.specs.Lanes.{LaneState, begun, fresh_cut}
 use Rattle.eql_lane.specs.Slacks.{nanos_of}
-use Rattle.eql_lane.specs.Starts.{Made, MayStart}
+use Rattle.eql_lane.specs.Starts.{BeginsAs, MayStart}
 use Rattle.eql_lane.specs.Views.{LaneView}
 use Rattle.eql_cut.specs.declared.cut.Cut.{Cut}
 use Rattle.eql_resume.specs.Beginnings.{LaneBegins, LanesBegin}
@@ -40,25 +40,25 @@ module _ {S L : Type 0} (left lent_as : S → Option (List ℕ)) (faults : S →
   from_begun cut n lane e = e ∙ (λ i. begun (ap LaneState.cut (sym e) i) (ap LaneState.faults (sym e) i))
 
   made_state : (source : S) (reader : L) (shard : ℕ) (slack : Option ℕ) (b : LaneStart) (lane : LaneView S L)
-      → Made left lent_as faults source reader shard slack b lane → lane.state ≡ begun lane.state.cut lane.state.faults
+      → BeginsAs left lent_as faults source reader shard slack b lane → lane.state ≡ begun lane.state.cut lane.state.faults
   made_state source reader shard slack start.Fresh lane made = from_begun fresh_cut (faults source) lane made.state
   made_state source reader shard slack (start.From cut) lane made = from_begun cut (faults source) lane made.state
   made_state source reader shard slack (start.Lift cut wanted) lane made = from_begun _ (faults source) lane made.begins.state
 
   made_shard : (source : S) (reader : L) (shard : ℕ) (slack : Option ℕ) (b : LaneStart) (lane : LaneView S L)
-      → Made left lent_as faults source reader shard slack b lane → lane.shard ≡ shard
+      → BeginsAs left lent_as faults source reader shard slack b lane → lane.shard ≡ shard
   made_shard source reader shard slack start.Fresh lane made = made.shard_is
   made_shard source reader shard slack (start.From cut) lane made = made.shard_is
   made_shard source reader shard slack (start.Lift cut wanted) lane made = made.begins.shard_is
 
   made_slack : (source : S) (reader : L) (shard : ℕ) (slack : Option ℕ) (b : LaneStart) (lane : LaneView S L)
-      → Made left lent_as faults source reader shard slack b lane → lane.slack ≡ nanos_of slack
+      → BeginsAs left lent_as faults source reader shard slack b lane → lane.slack ≡ nanos_of slack
   made_slack source reader shard slack start.Fresh lane made = made.slack_is
   made_slack source reader shard slack (start.From cut) lane made = made.slack_is
   made_slack source reader shard slack (start.Lift cut wanted) lane made = made.begins.slack_is
 
   made_reader : (source : S) (reader : L) (shard : ℕ) (slack : Option ℕ) (b : LaneStart) (lane : LaneView S L)
-      → Made left lent_as faults source reader shard slack b lane → lane.reader ≡ reader
+      → BeginsAs left lent_as faults source reader shard slack b lane → lane.reader ≡ reader
   made_reader source reader shard slack start.Fresh lane made = made.reader_is
   made_reader source reader shard slack (start.From cut) lane made = made.reader_is
   made_reader source reader shard slack (start.Lift cut wanted) lane made = made.begins.reader_is
@@ -88,7 +88,7 @@ module _ {S L : Type 0} (left lent_as : S → Option (List ℕ)) (faults : S →
   fresh_lane : (shard : ℕ) (source : S) (b : LaneStart) (lane : LaneView S L)
       → IsOver left lent_as faults plan read_of reads slack shard source b lane → b ≡ start.Fresh → IsFresh lane
   fresh_lane shard source b lane over is =
-      let made = subst (λ (x : LaneStart). Made left lent_as faults source over.reader shard slack x lane) is over.made in
+      let made = subst (λ (x : LaneStart). BeginsAs left lent_as faults source over.reader shard slack x lane) is over.made in
       (ap LaneState.cut made.state, made.places_are)
 
   all_fresh : (shard : ℕ) (sources : List S) (starts : List LaneStart) (lanes : List (LaneView S L))
@@ -107,7 +107,7 @@ module _ {S L : Type 0} (left lent_as : S → Option (List ℕ)) (faults : S →
   from_lane : (shard : ℕ) (source : S) (b : LaneStart) (lane : LaneView S L) (kept : LaneCut)
       → IsOver left lent_as faults plan read_of reads slack shard source b lane → b ≡ start.From kept → (lane.state.cut ≡ kept) × (lane.places ≡ [])
   from_lane shard source b lane kept over is =
-      let made = subst (λ (x : LaneStart). Made left lent_as faults source over.reader shard slack x lane) is over.made in
+      let made = subst (λ (x : LaneStart). BeginsAs left lent_as faults source over.reader shard slack x lane) is over.made in
       (ap LaneState.cut made.state, made.places_are)
 
   from_each : (cut : Cut) (shard : ℕ) (sources : List S) (starts : List LaneStart) (lanes : List (LaneView S L))
@@ -163,7 +163,7 @@ module _ {S L : Type 0} (left lent_as : S → Option (List ℕ)) (faults : S →
       → IsOver left lent_as faults plan read_of reads slack shard source b lane → MayStart b → LaneBegins (Some cut) true shard b
       → (r : ReadTo) × WasLifted cut shard r lane.state.cut lane.places × ((t : List ℕ) → left source ≡ Some t → whole r ≡ t)
   one_lifted cut shard source b lane over may begins =
-      let made = subst (λ (x : LaneStart). Made left lent_as faults source over.reader shard slack x lane) begins.3 over.made in
+      let made = subst (λ (x : LaneStart). BeginsAs left lent_as faults source over.reader shard slack x lane) begins.3 over.made in
       let lifts = subst MayStart begins.3 may in
       let r : ReadTo = record { first = made.finds.first; rest = made.finds.rest; closed = false } in (
         r,

@@ -2,7 +2,7 @@
 use native.Mathlib.Omega.{arith}
 use Rattle.std.proofs.Common.{ℕ, List, [], Option, Some, None, refl}
 use Rattle.eql_outside.specs.declared.disk.Area.TheVariants.{A}
-use Rattle.eql_outside.specs.Moments.{History, Told}
+use Rattle.eql_outside.specs.Moments.{History, DiskTells}
 use Rattle.eql_words.specs.declared.commands.Find.{Find}
 use Rattle.eql_cut.specs.declared.cut.Cut.{Cut}
 use Rattle.eql_ckdisk.specs.Found.{LastCut}
@@ -14,8 +14,8 @@ use Rattle.eql_runs.specs.Files.{Files}
 use Rattle.eql_runs.specs.Runs.{KeepsCuts}
 
 -- the law: puts after a recovery are puts
-pub recovered_puts : PutsGoOn → (last : LastCut) (cuts : List Cut) (before mid now : Option History) → Told (Goes NoMore) before mid
-    → Told (PutsAll last cuts) mid now → Told (PutsAll last cuts) before now
+pub recovered_puts : PutsGoOn → (last : LastCut) (cuts : List Cut) (before mid now : Option History) → DiskTells (Goes NoMore) before mid
+    → DiskTells (PutsAll last cuts) mid now → DiskTells (PutsAll last cuts) before now
 recovered_puts law last cuts before mid now first puts = law.joined last [] cuts before mid now (law.recovery last before mid first) puts
 
 -- a recovery alone puts nothing
@@ -33,13 +33,13 @@ put_none find (Some fs) out out' h k puts = record {
   are_of = λ on search texts holds searches trusted few i d less. absurd (omega (arith, less));
 }
 
-told_none : (find : Find) (files : Option Files) (out out' : Option (List ℕ)) (before now : Option History) → Told (PutsAll no_last []) before now
-    → Told (KeepsCuts find files out out') before now
+told_none : (find : Find) (files : Option Files) (out out' : Option (List ℕ)) (before now : Option History) → DiskTells (PutsAll no_last []) before now
+    → DiskTells (KeepsCuts find files out out') before now
 told_none find files out out' None None puts = tt
 told_none find files out out' None (Some k) puts = puts
 told_none find files out out' (Some h) None puts = puts
 told_none find files out out' (Some h) (Some k) puts = put_none find files out out' h k puts
 
 pub recovered_keeps : PutsGoOn → (find : Find) (files : Option Files) (out out' : Option (List ℕ)) (before now : Option History)
-    → Told (Goes NoMore) before now → Told (KeepsCuts find files out out') before now
+    → DiskTells (Goes NoMore) before now → DiskTells (KeepsCuts find files out out') before now
 recovered_keeps law find files out out' before now going = told_none find files out out' before now (law.recovery no_last before now going)

@@ -4,7 +4,7 @@ use Rattle.std.specs.Prelude.{Result}
 use Rattle.std.proofs.lemmas.Option.{none-some}
 use Rattle.eql_outside.specs.Areas.{Moment, IsImage, seen_areas}
 use Rattle.eql_outside.specs.DiskLaws.{ImagesAreThere}
-use Rattle.eql_outside.specs.Moments.{History, Told}
+use Rattle.eql_outside.specs.Moments.{History, DiskTells}
 use Rattle.eql_words.specs.declared.commands.Checkpoint.{Checkpoint}
 use Rattle.eql_words.specs.declared.commands.Find.{Find}
 use Rattle.eql_cut.specs.declared.cut.Cut.{Cut}
@@ -12,7 +12,7 @@ use Rattle.eql_cut.specs.declared.cut.CutHead.{CutHead}
 use Rattle.eql_values.specs.declared.order.Mark.{Mark}
 use Rattle.eql_ckdisk.specs.Found.{Found, IsAt, LastCut, found, next, nothing}
 use Rattle.eql_ckdisk.specs.Going.{Steps}
-use Rattle.eql_ckdisk.specs.Keeping.{AllKept}
+use Rattle.eql_ckdisk.specs.Keeping.{KeepsAll}
 use Rattle.eql_ckdisk.specs.Putting.{Stands, StandsAt, last_cut}
 use Rattle.eql_ckdisk.specs.Runs.{FindsOneOf, IsFoundAt, KeepsOneOf, PutsAll}
 use Rattle.eql_conductor.specs.declared.plan.Keep.{Keep}
@@ -74,10 +74,10 @@ put_found images last cuts h k puts = by puts.0 puts.1
 -- ---- a run that was found to begin so
 module _ (images : ImagesAreThere) (one : OneOnDisk) (find : Find) (begun : Begun) (asked : find.checkpoint ≢ None) where
   -- the disk at its start, and once all that it holds was kept
-  start_seen : (h j : History) → AllKept h j → found (seen_areas h.now) ≡ found (seen_areas j.now)
+  start_seen : (h j : History) → KeepsAll h j → found (seen_areas h.now) ≡ found (seen_areas j.now)
   start_seen h j kept = ap (λ (m : Moment). found (seen_areas m)) (sym kept.now)
 
-  ended_by : (last then : LastCut) (cuts : List Cut) (h j k : History) → IsFound find (Some h) begun → AllKept h j → StandsAt last j.now
+  ended_by : (last then : LastCut) (cuts : List Cut) (h j k : History) → IsFound find (Some h) begun → KeepsAll h j → StandsAt last j.now
       → PutsAll last cuts j k → StandsAt then k.now → (on : OnDisk) × DiskHolds (Some k) on × (generation_on on ≡ then.generation)
   ended_by last then cuts h j k is kept stands puts now = by (put_found images last cuts j k puts)
     where
@@ -96,7 +96,7 @@ module _ (images : ImagesAreThere) (one : OneOnDisk) (find : Find) (begun : Begu
           (held 3 put.0 (Some put.1), put.2, generation_at then (found (seen_areas k.now)) 3 put.0 (Some put.1) put.2 at)
 
   -- it goes on from the generation of what the disk held at its start
-  pub began_by : (last : LastCut) (h j : History) (on : OnDisk) → IsFound find (Some h) begun → AllKept h j → StandsAt last j.now
+  pub began_by : (last : LastCut) (h j : History) (on : OnDisk) → IsFound find (Some h) begun → KeepsAll h j → StandsAt last j.now
       → DiskHolds (Some h) on → last.generation ≡ generation_on on
   began_by last h j on is kept stands holds =
       let at = subst (λ (x : Found). IsAt last x) (sym (start_seen h j kept)) (stands_seen images last j.now stands) in
@@ -106,7 +106,7 @@ module _ (images : ImagesAreThere) (one : OneOnDisk) (find : Find) (begun : Begu
 -- the generations came to their end
 module _ {D : Type 0} (history : D → Option History) (count : D → ℕ) (images : ImagesAreThere) (one : OneOnDisk) (find : Find) (begun : Begun) where
   by_cuts : (asked : find.checkpoint ≢ None) (last then : LastCut) (cuts : List Cut) (disk before now : Option History) → IsFound find disk begun
-      → Told AllKept disk before → Stands last before → PutsCuts last cuts before now → Stands then now → then.generation ≡ 2 ^ 63
+      → DiskTells KeepsAll disk before → Stands last before → PutsCuts last cuts before now → Stands then now → then.generation ≡ 2 ^ 63
       → 2 ^ 62 ≤ last.generation → GenerationsEnd disk now
   by_cuts asked last then cuts None None None is kept stands puts standing full far = record { began = λ on holds. absurd holds; ended = tt }
   by_cuts asked last then cuts None None (Some k) is kept stands puts standing full far = absurd puts

@@ -11,7 +11,7 @@ use Rattle.eql_outside.specs.Plans.{FaultPlan}
 use Rattle.eql_lane.specs.Views.{LaneView}
 use Rattle.eql_lane.specs.declared.make.LaneStart.{LaneStart}
 use Rattle.eql_search.specs.Answers.{BecameAt, RoseFaults, SteadyBut}
-use Rattle.eql_find.specs.Lanes.{AreOver, NoneFailed, SomeFailed, StaysSource, lane_returned}
+use Rattle.eql_find.specs.Lanes.{AreOver, NoSourceFailed, SomeSourceFailed, StaysSource, lane_returned}
 use Rattle.eql_find.proofs.MakingLemmas.{made_faults, made_named, rose_from_none}
 use Rattle.eql_find.proofs.TextLemmas.{parts_of}
 
@@ -55,7 +55,7 @@ steady_behind Told old new olds news steady = λ shard o n none was is. steady (
 module _ {S L : Type 0} (left lent_as : S → Option (List ℕ)) where
   pub none_failed_lanes : (names : List (List ℕ)) (olds news : List (LaneView S L)) (Told : ℕ → Type 0)
       → ((shard : ℕ) → ¬ Told shard) → AreNamed lent_as names olds
-      → AllZip (StaysSource left lent_as) olds news → SteadyBut Told olds news → NoneFailed (map (lane_returned lent_as) news)
+      → AllZip (StaysSource left lent_as) olds news → SteadyBut Told olds news → NoSourceFailed (map (lane_returned lent_as) news)
   none_failed_lanes names [] [] Told none named stays steady = tt
   none_failed_lanes names [] (n ∷ ns) Told none named stays steady = absurd stays
   none_failed_lanes names (o ∷ os) [] Told none named stays steady = absurd stays
@@ -68,7 +68,7 @@ module _ {S L : Type 0} (left lent_as : S → Option (List ℕ)) where
 
   pub some_failed_lane : (shard : ℕ) (name : List ℕ) (names : List (List ℕ)) (olds news : List (LaneView S L))
       → slice_get names shard ≡ Some name → AreNamed lent_as names olds → AllZip (StaysSource left lent_as) olds news
-      → BecameAt shard olds news RoseFaults → SomeFailed name (map (lane_returned lent_as) news)
+      → BecameAt shard olds news RoseFaults → SomeSourceFailed name (map (lane_returned lent_as) news)
   some_failed_lane shard name [] olds news is named stays became = absurd (none-some name is)
   some_failed_lane shard name (m ∷ ms) [] news is named stays became = absurd named
   some_failed_lane shard name (m ∷ ms) (o ∷ os) [] is named stays became = absurd stays

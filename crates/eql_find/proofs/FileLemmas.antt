@@ -4,7 +4,7 @@ use Rattle.eql_inputs.specs.declared.halt.Halt.{Halt}
 use Rattle.eql_inputs.specs.declared.halt.Halt.TheVariants as halt
 use Rattle.eql_inputs.specs.Halts as inputs
 use Rattle.eql_find.specs.declared.halt.RunHalt.TheVariants as run
-use Rattle.eql_find.specs.Halts.{DiskAs, FaultsAs, LeftBy, OutAs}
+use Rattle.eql_find.specs.Halts.{DiskAs, FaultsAs, IsLeftBy, OutAs}
 
 -- where one file at most failed, the faults of its name rose
 pub file_faults : (h : Halt) (before now : List ℕ → ℕ) → inputs.FaultsAs h before now → FaultsAs {A = Unit {0}} (Err (run.Files h)) before now
@@ -12,7 +12,7 @@ file_faults (halt.Refused r) before now faults = faults
 file_faults (halt.Read name) before now faults = record { rose = faults.rose; counts = faults.counts }
 file_faults halt.Memory before now faults = faults
 
-left_same : (h : Halt) (before now : ℕ) → now ≡ before → LeftBy h before now
+left_same : (h : Halt) (before now : ℕ) → now ≡ before → IsLeftBy h before now
 left_same (halt.Refused r) before now same = same
 left_same (halt.Read name) before now same = tt
 left_same halt.Memory before now same = same

@@ -18,8 +18,8 @@ use Rattle.eql_runs.specs.Runs.{Finds, IsFindAccepted, Searches, Trusts}
 use Rattle.eql_runs.specs.Searches.{rest_of, report_lines, report_of, shard_counts_from}
 use Rattle.eql_runs.specs.Starts.{BeginsWith, DiskHolds, IsTrusted, OnDisk, a_cut, bad_head, bad_text, listed_on, nothing_kept, start_asked, start_for}
 use Rattle.eql_find.specs.declared.plan.Planning.{Planning}
-use Rattle.eql_find.specs.Finding.{FoundAll, FoundListing, FoundSome, IsReportOf}
-use Rattle.eql_find.specs.Running.{Started}
+use Rattle.eql_find.specs.Finding.{FindsAll, FindsListing, FindsSome, IsReportOf}
+use Rattle.eql_find.specs.Running.{StartsOver}
 use Rattle.eql_find.specs.Searching.{BeganWith, search_in}
 use Rattle.eql_find.specs.Starting.{Begun, IsOwn, on_begun, pipes_of}
 use Rattle.eql_find.proofs.TextLemmas.{begins_asked}
@@ -56,7 +56,7 @@ pub record TheRun {S L : Type 0} (find : Find) (p : Planning) (told : Option (Li
   pub searches : Searches find fs (search_in find p) texts
   pub accepted : IsFindAccepted find fs on
   pub begins : Trusts find fs on → BeginsWith (search_in find p) texts (start_for find on)
-  pub started : Trusts find fs on → Started told find p lanes rest texts
+  pub started : Trusts find fs on → StartsOver told find p lanes rest texts
   pub listed : rest.book.listed ≡ listed_on (start_for find on)
 
 module _ {S L : Type 0} (law : TestedIsAccepted) (find : Find) (p : Planning) (told : Option (List (List ℕ))) (lanes : List (LaneView S L)) (rest : Rest)
@@ -88,7 +88,7 @@ module _ {S L : Type 0} (law : TestedIsAccepted) (find : Find) (p : Planning) (t
 abbrev Wrote : {S L : Type 0} → (find : Find) (p : Planning) (told : Option (List (List ℕ))) (lanes : List (LaneView S L)) (rest : Rest)
     → (List ℕ → List ℕ → Type 0) → Type 0
 Wrote find p told lanes rest Got =
-    IfSome told (λ ts. Started told find p lanes rest ts
+    IfSome told (λ ts. StartsOver told find p lanes rest ts
     → Got (rest_of (search_in find p) rest.book.listed ts) (report_of (search_in find p) ts))
 
 module _ {S L : Type 0} (find : Find) (p : Planning) (told : Option (List (List ℕ))) (lanes : List (LaneView S L)) (rest : Rest)
@@ -97,7 +97,7 @@ module _ {S L : Type 0} (find : Find) (p : Planning) (told : Option (List (List 
   found_by : (Got : List ℕ → List ℕ → Type 0) (fs : Files) (on : OnDisk) → Wrote find p told lanes rest Got → TheRun find p told lanes rest fs on
       → Trusts find fs on → (bytes : List ℕ) × (report : List ℕ) × Finds find fs on bytes report × Got bytes report
   found_by Got fs on wrote run trusts =
-      let own = subst (λ (o : Option (List (List ℕ))). IfSome o (λ ts. Started told find p lanes rest ts
+      let own = subst (λ (o : Option (List (List ℕ))). IfSome o (λ ts. StartsOver told find p lanes rest ts
       → Got (rest_of (search_in find p) rest.book.listed ts) (report_of (search_in find p) ts))) run.told_is wrote in (
         rest_of (search_in find p) (listed_on (start_for find on)) run.texts,
         report_of (search_in find p) run.texts,
@@ -116,19 +116,19 @@ module _ {S L : Type 0} (find : Find) (p : Planning) (told : Option (List (List 
   Runs files = IfSome files (λ fs. (on : OnDisk) → (find.checkpoint ≢ None → DiskHolds disk on) → TheRun find p told lanes rest fs on)
 
   pub found_all : (files : Option Files) (out out' err err' : Option (List ℕ)) → Runs files
-      → Wrote find p told lanes rest (λ bytes report. WroteAll bytes out out' × WroteAll report err err') → FoundAll find files disk out out' err err'
+      → Wrote find p told lanes rest (λ bytes report. WroteAll bytes out out' × WroteAll report err err') → FindsAll find files disk out out' err err'
   found_all None out out' err err' runs wrote = tt
   found_all (Some fs) out out' err err' runs wrote = λ on holds trusts.
       let f = found_by (λ bytes report. WroteAll bytes out out' × WroteAll report err err') fs on wrote (runs on holds) trusts in
       (f.0, f.1, f.2, f.3.0, f.3.1)
 
   pub found_listing : (files : Option Files) (out out' : Option (List ℕ)) → Runs files
-      → Wrote find p told lanes rest (λ bytes report. WroteAll bytes out out') → FoundListing find files disk out out'
+      → Wrote find p told lanes rest (λ bytes report. WroteAll bytes out out') → FindsListing find files disk out out'
   found_listing None out out' runs wrote = tt
   found_listing (Some fs) out out' runs wrote = λ on holds trusts. found_by (λ bytes report. WroteAll bytes out out') fs on wrote (runs on holds) trusts
 
   pub found_some : (files : Option Files) (out out' : Option (List ℕ)) → Runs files
-      → Wrote find p told lanes rest (λ bytes report. WroteFront bytes out out') → FoundSome find files disk out out'
+      → Wrote find p told lanes rest (λ bytes report. WroteFront bytes out out') → FindsSome find files disk out out'
   found_some None out out' runs wrote = tt
   found_some (Some fs) None out' runs wrote = λ on holds trusts. tt
   found_some (Some fs) (Some w) out' runs wrote = λ on holds trusts.
@@ -136,12 +136,12 @@ module _ {S L : Type 0} (find : Find) (p : Planning) (told : Option (List (List 
 
   -- ---- a report of which a front was written
   pub report_is : (report : List ℕ) (counts : List Counts) (fs : Files) (on : OnDisk) → report ≡ report_lines 0 counts
-      → IfSome told (λ ts. Started told find p lanes rest ts → counts ≡ shard_counts_from (search_in find p) 0 ts)
+      → IfSome told (λ ts. StartsOver told find p lanes rest ts → counts ≡ shard_counts_from (search_in find p) 0 ts)
       → TheRun find p told lanes rest fs on → IsReportOf find report fs on
   report_is report counts fs on lines counted run = record {
     accepted = run.accepted;
     reported = λ trusts.
-        let own = subst (λ (o : Option (List (List ℕ))). IfSome o (λ ts. Started told find p lanes rest ts
+        let own = subst (λ (o : Option (List (List ℕ))). IfSome o (λ ts. StartsOver told find p lanes rest ts
         → counts ≡ shard_counts_from (search_in find p) 0 ts)) run.told_is counted (run.started trusts) in (
           rest_of (search_in find p) (listed_on (start_for find on)) run.texts,
           record {

@@ -1,16 +1,16 @@
 -- A run that stops before anything is written and before the disk is touched.
 use Rattle.std.proofs.Common.{◌≡◌, ℕ, List, [], inl, Option, Some, None, refl, sym, subst, arith}
 use Rattle.eql_outside.specs.declared.disk.Area.TheVariants.{A}
-use Rattle.eql_outside.specs.Moments.{History, Told}
+use Rattle.eql_outside.specs.Moments.{History, DiskTells}
 use Rattle.eql_words.specs.declared.commands.Find.{Find}
 use Rattle.eql_ckdisk.specs.Going.{Goes}
 use Rattle.eql_ckdisk.specs.Keeping.{NoMore}
 use Rattle.eql_runs.specs.Files.{Files}
 use Rattle.eql_runs.specs.Runs.{KeepsCuts}
-use Rattle.eql_find.specs.Finding.{FoundSome}
+use Rattle.eql_find.specs.Finding.{FindsSome}
 
 -- nothing is a front of the listing
-pub none_is_some : (find : Find) (files : Option Files) (disk : Option History) (out : Option (List ℕ)) → FoundSome find files disk out out
+pub none_is_some : (find : Find) (files : Option Files) (disk : Option History) (out : Option (List ℕ)) → FindsSome find files disk out out
 none_is_some find None disk out = tt
 none_is_some find (Some fs) disk None = λ on holds trusted. tt
 none_is_some find (Some fs) disk (Some w) = λ on holds trusted. inl refl
@@ -32,19 +32,19 @@ still find (Some fs) out out' h = record {
   are_of = λ on search texts holds searches trusted few k d less. absurd (omega (arith, less));
 }
 
-still_keeps : (find : Find) (files : Option Files) (out out' : Option (List ℕ)) (h : Option History) → Told (KeepsCuts find files out out') h h
+still_keeps : (find : Find) (files : Option Files) (out out' : Option (List ℕ)) (h : Option History) → DiskTells (KeepsCuts find files out out') h h
 still_keeps find files out out' None = tt
 still_keeps find files out out' (Some h) = still find files out out' h
 
 pub same_keeps : (find : Find) (files : Option Files) (out out' : Option (List ℕ)) (before now : Option History) → now ≡ before
-    → Told (KeepsCuts find files out out') before now
+    → DiskTells (KeepsCuts find files out out') before now
 same_keeps find files out out' before now same =
-    subst (λ (d : Option History). Told (KeepsCuts find files out out') before d) (sym same) (still_keeps find files out out' before)
+    subst (λ (d : Option History). DiskTells (KeepsCuts find files out out') before d) (sym same) (still_keeps find files out out' before)
 
 -- and stands for no more than before
-still_no_more : (h : Option History) → Told (Goes NoMore) h h
+still_no_more : (h : Option History) → DiskTells (Goes NoMore) h h
 still_no_more None = tt
 still_no_more (Some h) = (0, refl)
 
-pub same_no_more : (before now : Option History) → now ≡ before → Told (Goes NoMore) before now
-same_no_more before now same = subst (λ (d : Option History). Told (Goes NoMore) before d) (sym same) (still_no_more before)
+pub same_no_more : (before now : Option History) → now ≡ before → DiskTells (Goes NoMore) before now
+same_no_more before now same = subst (λ (d : Option History). DiskTells (Goes NoMore) before d) (sym same) (still_no_more before)

@@ -26,7 +26,7 @@ use Rattle.eql_resume.specs.Beginnings.{LanesBegin}
 use Rattle.eql_resume.specs.Finding.{Suits}
 use Rattle.eql_find.specs.declared.plan.Planning.{Planning}
 use Rattle.eql_find.specs.Finding.{IsPlanOf}
-use Rattle.eql_find.specs.Lanes.{Serves, StoppedAt}
+use Rattle.eql_find.specs.Lanes.{Serves, StopsMakingAt}
 use Rattle.eql_find.specs.Searching.{head_in, search_in}
 use Rattle.eql_find.specs.Starting.{Begun, IsFound, IsOwn, on_begun, pipes_of, stages_of, values_of}
 use Rattle.eql_outside.specs.Plans.{FaultPlan}
@@ -69,7 +69,7 @@ module _ {S : Type 0} (left lent_as : S → Option (List ℕ)) (faults : S → �
   refuses_at : (cut : Cut) (why : LaneRefused) (shard : ℕ) (before now : ℕ) (names names' : List ℕ → ℕ) (r : CutRefusal) (on : OnDisk)
       → find.checkpoint ≢ None → Suits (stages_of p) (values_of p) (pipes_of p) (head_in find p) cut
       → LanesBegin (Some cut) (format == 1) (length find.shards) starts → a_cut format generation cut ≡ on
-      → StoppedAt left lent_as faults plan why shard sources starts before now names names' → refusal_at shard why ≡ Some r
+      → StopsMakingAt left lent_as faults plan why shard sources starts before now names names' → refusal_at shard why ≡ Some r
       → RefusesCut find fs on r
   refuses_at cut why shard before now names names' r on asked suits begins same at refusal =
       let text = text_of_source left sources texts shard at.source lefts at.is in
@@ -83,7 +83,7 @@ module _ {S : Type 0} (left lent_as : S → Option (List ℕ)) (faults : S → �
       → find.checkpoint ≢ None → IfSome o (Suits (stages_of p) (values_of p) (pipes_of p) (head_in find p))
       → LanesBegin o (format == 1) (length find.shards) starts
       → on_begun (record { format = format; generation = generation; cut = o }) ≡ on
-      → StoppedAt left lent_as faults plan why shard sources starts before now names names' → refusal_at shard why ≡ Some r
+      → StopsMakingAt left lent_as faults plan why shard sources starts before now names names' → refusal_at shard why ≡ Some r
       → RefusesCut find fs on r
   made_refuses None why shard before now names names' r on asked suits begins same at refusal =
       let fresh : at.start ≡ start.Fresh = begins.each shard at.start at.begins in

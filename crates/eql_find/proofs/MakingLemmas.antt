@@ -15,13 +15,13 @@ use Rattle.eql_values.specs.declared.cut.LaneCut.{LaneCut}
 use Rattle.eql_lane.specs.Lanes.{LaneState, begun}
 use Rattle.eql_lane.specs.Noting.{IsWholeLine}
 use Rattle.eql_lane.specs.Passing.{Finds}
-use Rattle.eql_lane.specs.Starts.{Made, Refused, cut_of, wanted_of}
+use Rattle.eql_lane.specs.Starts.{BeginsAs, IsNotMade, cut_of, wanted_of}
 use Rattle.eql_lane.specs.Views.{IsTextOf, LaneView}
 use Rattle.eql_lane.specs.declared.make.LaneRefused.{LaneRefused}
 use Rattle.eql_lane.specs.declared.make.LaneRefused.TheVariants as refused
 use Rattle.eql_lane.specs.declared.make.LaneStart.{LaneStart}
 use Rattle.eql_lane.specs.declared.make.LaneStart.TheVariants as start
-use Rattle.eql_find.specs.Lanes.{IsOver, AreOver, Serves, StoppedAt, StoppedMaking, CameBack, Filling, Halted, NoneFailed, returned, lane_returned}
+use Rattle.eql_find.specs.Lanes.{IsOver, AreOver, Serves, StopsMakingAt, StopsMaking, CameBack, HaveLanes, StopsAmong, NoSourceFailed, returned, lane_returned}
 use Rattle.eql_find.proofs.BackLemmas.{CameOne}
 
 abbrev is_failed : LaneRefused → Bool
@@ -97,7 +97,7 @@ module _ {S L : Type 0} (left lent_as : S → Option (List ℕ)) (faults : S →
 
   -- a lane over a text was made: so it serves
   pub made_serves : (source : S) (reader : L) (shard : ℕ) (slack : Option ℕ) (b : LaneStart) (lane : LaneView S L)
-      → Made left lent_as faults source reader shard slack b lane → IfSome (left source) (Serves b)
+      → BeginsAs left lent_as faults source reader shard slack b lane → IfSome (left source) (Serves b)
   made_serves source reader shard slack start.Fresh lane made = serves_fresh (left source)
   made_serves source reader shard slack (start.From cut) lane made =
       serves_from (left source) cut (fits_in (left source) lane cut (faults source) made.state made.text) made.ended
@@ -106,19 +106,19 @@ module _ {S L : Type 0} (left lent_as : S → Option (List ℕ)) (faults : S →
 
   -- what its source says when it comes back
   pub made_faults : (source : S) (reader : L) (shard : ℕ) (slack : Option ℕ) (b : LaneStart) (lane : LaneView S L)
-      → Made left lent_as faults source reader shard slack b lane → lane.state.faults ≡ faults source
+      → BeginsAs left lent_as faults source reader shard slack b lane → lane.state.faults ≡ faults source
   made_faults source reader shard slack start.Fresh lane made = ap LaneState.faults made.state
   made_faults source reader shard slack (start.From cut) lane made = ap LaneState.faults made.state
   made_faults source reader shard slack (start.Lift cut wanted) lane made = ap LaneState.faults made.begins.state
 
   pub made_named : (source : S) (reader : L) (shard : ℕ) (slack : Option ℕ) (b : LaneStart) (lane : LaneView S L)
-      → Made left lent_as faults source reader shard slack b lane → lent_as lane.source ≡ lent_as source
+      → BeginsAs left lent_as faults source reader shard slack b lane → lent_as lane.source ≡ lent_as source
   made_named source reader shard slack start.Fresh lane made = made.named
   made_named source reader shard slack (start.From cut) lane made = made.named
   made_named source reader shard slack (start.Lift cut wanted) lane made = made.begins.named
 
   pub made_text : (source : S) (reader : L) (shard : ℕ) (slack : Option ℕ) (b : LaneStart) (lane : LaneView S L)
-      → Made left lent_as faults source reader shard slack b lane → IsTextOf left (left source) lane
+      → BeginsAs left lent_as faults source reader shard slack b lane → IsTextOf left (left source) lane
   made_text source reader shard slack start.Fresh lane made = made.text
   made_text source reader shard slack (start.From cut) lane made = made.text
   made_text source reader shard slack (start.Lift cut wanted) lane made = made.begins.text
@@ -154,9 +154,9 @@ module _ {S L : Type 0} (left lent_as : S → Option (List ℕ)) (faults : S →
   -- one more lane was made
   pub filled_more : (all rest less : List S) (starts left_over fewer : List LaneStart) (lanes : List (LaneView S L)) (x : S) (b : LaneStart)
       (lane : LaneView S L) (shard : ℕ) → rest ≡ x ∷ less → left_over ≡ b ∷ fewer → shard ≡ length lanes
-      → Filling left lent_as faults plan read_of reads slack all rest starts left_over lanes
+      → HaveLanes left lent_as faults plan read_of reads slack all rest starts left_over lanes
       → IsOver left lent_as faults plan read_of reads slack shard x b lane
-      → Filling left lent_as faults plan read_of reads slack all less starts fewer (lanes ++ lane ∷ [])
+      → HaveLanes left lent_as faults plan read_of reads slack all less starts fewer (lanes ++ lane ∷ [])
   filled_more all rest less starts left_over fewer lanes x b lane shard is begins at f one = record {
     done = f.done ++ x ∷ [];
     began = f.began ++ b ∷ [];
@@ -190,7 +190,7 @@ front_at (d ∷ ds) rest (suc s) x less is = front_at ds rest s x (omega (arith,
 -- ---- a lane that isn't made
 module _ {S L : Type 0} (left lent_as : S → Option (List ℕ)) (faults : S → ℕ) (plan : S → Option FaultPlan) (read_of : L → Reads)
     (reads : Reads) (slack : Option ℕ) where
-  often : (why : LaneRefused) (b : LaneStart) (x back : S) → faults x ≡ 0 → Refused left lent_as faults (cut_of b) (wanted_of b) x why back
+  often : (why : LaneRefused) (b : LaneStart) (x back : S) → faults x ≡ 0 → IsNotMade left lent_as faults (cut_of b) (wanted_of b) x why back
       → why ≡ refused.Failed → 0 < faults back
   often (refused.Short at had) b x back none r e = absurd (false≢true (ap is_failed e))
   often (refused.NoLine line) b x back none r e = absurd (false≢true (ap is_failed e))
@@ -201,10 +201,10 @@ module _ {S L : Type 0} (left lent_as : S → Option (List ℕ)) (faults : S →
   -- it wasn't made, and its source went back
   pub halted : (why : LaneRefused) (all rest less : List S) (starts left_over fewer : List LaneStart) (lanes : List (LaneView S L)) (shard : ℕ)
       (x back : S) (b : LaneStart) (before now : ℕ) (names names' : List ℕ → ℕ) → rest ≡ x ∷ less → left_over ≡ b ∷ fewer → shard ≡ length lanes
-      → Filling left lent_as faults plan read_of reads slack all rest starts left_over lanes → faults x ≡ 0
-      → Refused left lent_as faults (cut_of b) (wanted_of b) x why back → (IsUnfailing (plan x) → why ≢ refused.Failed)
+      → HaveLanes left lent_as faults plan read_of reads slack all rest starts left_over lanes → faults x ≡ 0
+      → IsNotMade left lent_as faults (cut_of b) (wanted_of b) x why back → (IsUnfailing (plan x) → why ≢ refused.Failed)
       → CameOne (returned lent_as faults back) before now names names'
-      → Halted left lent_as faults plan read_of reads slack why shard all less starts lanes before now names names'
+      → StopsAmong left lent_as faults plan read_of reads slack why shard all less starts lanes before now names names'
   halted why all rest less starts left_over fewer lanes shard x back b before now names names' is begins at f none r calm one =
       let parts = f.all_are ∙ ap (λ ys. f.done ++ ys) is in
       let begun_with = f.starts_are ∙ ap (λ ys. f.began ++ ys) begins in
@@ -257,7 +257,7 @@ all_last P (y ∷ ys) x all = all_last P ys x (All-tail P y (ys ++ x ∷ []) all
 
 -- sources and lanes that didn't fail
 pub none_failed : {S : Type 0} (lent_as : S → Option (List ℕ)) (faults : S → ℕ) (sources : List S)
-    → All (λ source. faults source ≡ 0) sources → NoneFailed (map (returned lent_as faults) sources)
+    → All (λ source. faults source ≡ 0) sources → NoSourceFailed (map (returned lent_as faults) sources)
 none_failed lent_as faults [] all = tt
 none_failed lent_as faults (s ∷ ss) all = (
   All-head (λ source. faults source ≡ 0) s ss all,
@@ -277,7 +277,7 @@ module _ {S L : Type 0} (left lent_as : S → Option (List ℕ)) (faults : S →
     (reads : Reads) (slack : Option ℕ) where
   pub none_failed_over : (shard : ℕ) (sources : List S) (starts : List LaneStart) (lanes : List (LaneView S L))
       → AreOver left lent_as faults plan read_of reads slack shard sources starts lanes → All (λ source. faults source ≡ 0) sources
-      → NoneFailed (map (lane_returned lent_as) lanes)
+      → NoSourceFailed (map (lane_returned lent_as) lanes)
   none_failed_over shard [] [] [] h all = tt
   none_failed_over shard [] [] (l ∷ ls) h all = absurd h
   none_failed_over shard [] (b ∷ bs) ls h all = absurd h
@@ -296,8 +296,8 @@ roses_later agree (Some n) before mid now rose same = agree.later n before mid n
 
 pub stopped_then : {S : Type 0} (left lent_as : S → Option (List ℕ)) (faults : S → ℕ) (plan : S → Option FaultPlan) → RosesAgree → (why : LaneRefused)
     (shard : ℕ) (sources : List S) (starts : List LaneStart) (before mid now : ℕ) (first between last : List ℕ → ℕ)
-    → StoppedAt left lent_as faults plan why shard sources starts before mid first between → now ≡ mid → SameFaults between last
-    → StoppedAt left lent_as faults plan why shard sources starts before now first last
+    → StopsMakingAt left lent_as faults plan why shard sources starts before mid first between → now ≡ mid → SameFaults between last
+    → StopsMakingAt left lent_as faults plan why shard sources starts before now first last
 stopped_then left lent_as faults plan agree why shard sources starts before mid now first between last at same same_named = record {
   source = at.source;
   is = at.is;
@@ -343,10 +343,10 @@ module _ {S L : Type 0} (left lent_as : S → Option (List ℕ)) (faults : S →
   pub making_stopped : RosesAgree → (why : LaneRefused) (shard : ℕ) (sources all left_over : List S) (starts : List LaneStart)
       (lanes : List (LaneView S L)) (before mid then now : ℕ) (first between after last : List ℕ → ℕ) → all ≡ sources
       → All (λ source. faults source ≡ 0) sources
-      → Halted left lent_as faults plan read_of reads slack why shard all (reverse left_over) starts lanes before mid first between
+      → StopsAmong left lent_as faults plan read_of reads slack why shard all (reverse left_over) starts lanes before mid first between
       → CameBack (map (returned lent_as faults) left_over) mid then between after
       → CameBack (map (lane_returned lent_as) lanes) then now after last
-      → StoppedMaking left lent_as faults plan why shard sources starts before now first last
+      → StopsMaking left lent_as faults plan why shard sources starts before now first last
   making_stopped agree why shard sources all left_over starts lanes before mid then now first between after last is fresh halt back others =
       let parts = sym is ∙ halt.all_are in
       let all_fresh = subst (λ xs. All (λ source. faults source ≡ 0) xs) parts fresh in
@@ -358,12 +358,12 @@ module _ {S L : Type 0} (left lent_as : S → Option (List ℕ)) (faults : S →
       let two = others.none (none_failed_over left lent_as faults plan read_of reads slack 0 halt.done halt.began lanes halt.over
       (all_front (λ source. faults source ≡ 0) halt.done (halt.source ∷ rest) all_fresh)) in
       inr (stopped_then left lent_as faults plan agree why shard sources starts before mid now first between last
-      (subst (λ xs. StoppedAt left lent_as faults plan why shard xs starts before mid first between) is halt.at)
+      (subst (λ xs. StopsMakingAt left lent_as faults plan why shard xs starts before mid first between) is halt.at)
       (two.0 ∙ one.0) (λ name. two.1 name ∙ one.1 name))
 
   pub making_long : (why : LaneRefused) (shard : ℕ) (sources all rest left_over : List S) (starts : List LaneStart) (lanes : List (LaneView S L))
       (before mid : ℕ) (first between : List ℕ → ℕ) → all ≡ sources → rest ≡ reverse left_over
-      → Halted left lent_as faults plan read_of reads slack why shard all rest starts lanes before mid first between
+      → StopsAmong left lent_as faults plan read_of reads slack why shard all rest starts lanes before mid first between
       → length sources ≡ length lanes + 1 + length left_over
   making_long why shard sources all rest left_over starts lanes before mid first between is back halt =
       let parts = ap length (sym is ∙ halt.all_are) ∙ length-append halt.done (halt.source ∷ rest) in

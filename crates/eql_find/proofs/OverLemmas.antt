@@ -33,10 +33,10 @@ use Rattle.eql_resume.specs.Finding.{Suits, held}
 use Rattle.eql_find.specs.declared.halt.RunHalt.{RunHalt}
 use Rattle.eql_find.specs.declared.plan.Planning.{Planning}
 use Rattle.eql_find.specs.Finding.{HasCause, IsPlanOf, texts_told}
-use Rattle.eql_find.specs.Lanes.{AreOver, StoppedAt, StoppedMaking}
+use Rattle.eql_find.specs.Lanes.{AreOver, StopsMakingAt, StopsMaking}
 use Rattle.eql_find.specs.Running.{BeginsRun, KeepsIfAsked}
 use Rattle.eql_find.specs.Searching.{BeganWith, head_in}
-use Rattle.eql_find.specs.Starting.{BegunOn, pipes_of, stages_of, values_of}
+use Rattle.eql_find.specs.Starting.{BeginsOnDisk, pipes_of, stages_of, values_of}
 use Rattle.eql_search.specs.Searches.{AreTextsOf}
 use Rattle.eql_find.specs.Stops.{IsHaltAt, failed, grown, no_line, short, unmade}
 use Rattle.eql_find.proofs.BeginningLemmas.{are_begun, began_with}
@@ -62,7 +62,7 @@ module _ {S L D : Type 0} (left lent_as : S → Option (List ℕ)) (faults : S �
     (find : Find) (files : Option Files) (p : Planning) (disk : Option History) (told : Option (List (List ℕ))) (told_is : told ≡ texts_told files find.shards)
     (sources : List S) (starts : List LaneStart) (rest : Rest) (head : CutHead) (keep : Option (Keep D)) (bounds : FindBounds find)
     (is : IsPlanOf find files p) (whole : AreWholeFiles find.shards files (map left sources))
-    (named : map lent_as sources ≡ map (λ (n : List ℕ). Some n) find.shards) (begins : BegunOn find p disk head keep starts rest) where
+    (named : map lent_as sources ≡ map (λ (n : List ℕ). Some n) find.shards) (begins : BeginsOnDisk find p disk head keep starts rest) where
   -- ---- how many
   source_count : length sources ≡ length find.shards
   source_count = as_many lent_as sources find.shards named
@@ -97,7 +97,7 @@ module _ {S L D : Type 0} (left lent_as : S → Option (List ℕ)) (faults : S �
 
   -- ---- a lane that isn't made
   asked_by : (why : LaneRefused) (shard : ℕ) (before now : ℕ) (names names' : List ℕ → ℕ) (r : CutRefusal)
-      → StoppedAt left lent_as faults plan why shard sources starts before now names names' → refusal_at shard why ≡ Some r → find.checkpoint ≢ None
+      → StopsMakingAt left lent_as faults plan why shard sources starts before now names names' → refusal_at shard why ≡ Some r → find.checkpoint ≢ None
   asked_by why shard before now names names' r at refusal = by begins.begun.cut begins.own.asked begins.lanes
     where
       by : (o : Option Cut) → IfSome o (λ cut. find.checkpoint ≢ None) → LanesBegin o (begins.begun.format == 1) (length find.shards) starts
@@ -110,7 +110,7 @@ module _ {S L D : Type 0} (left lent_as : S → Option (List ℕ)) (faults : S �
 
   module _ (spans : FitsAtAnySpan) (one : OneOnDisk) where
     refused_at : (why : LaneRefused) (shard : ℕ) (before now : ℕ) (names names' : List ℕ → ℕ) (r : CutRefusal)
-        → StoppedAt left lent_as faults plan why shard sources starts before now names names' → refusal_at shard why ≡ Some r
+        → StopsMakingAt left lent_as faults plan why shard sources starts before now names names' → refusal_at shard why ≡ Some r
         → IfFound find files disk (λ fs on. RefusesCut find fs on r)
     refused_at why shard before now names names' r at refusal = by files is whole
       where
@@ -125,14 +125,14 @@ module _ {S L D : Type 0} (left lent_as : S → Option (List ℕ)) (faults : S �
             (begun_is one find disk begins.begun on begins.is_found asked (holds asked)) at refusal
 
     cut_cause : (why : LaneRefused) (shard : ℕ) (before now : ℕ) (names names' : List ℕ → ℕ) (r : CutRefusal)
-        → StoppedMaking left lent_as faults plan why shard sources starts before now names names' → refusal_at shard why ≡ Some r
+        → StopsMaking left lent_as faults plan why shard sources starts before now names names' → refusal_at shard why ≡ Some r
         → (find.checkpoint ≢ None) × IfFound find files disk (λ fs on. RefusesCut find fs on r)
     cut_cause why shard before now names names' r (inl h) refusal = absurd (none-some r (sym (ap (refusal_at shard) h.0) ∙ refusal))
     cut_cause why shard before now names names' r (inr at) refusal =
         (asked_by why shard before now names names' r at refusal, refused_at why shard before now names names' r at refusal)
 
     pub made_cause : (why : LaneRefused) (shard : ℕ) (h : RunHalt) (before now : ℕ) (names names' : List ℕ → ℕ) (then : Option History)
-        (err err' : Option (List ℕ)) → StoppedMaking left lent_as faults plan why shard sources starts before now names names'
+        (err err' : Option (List ℕ)) → StopsMaking left lent_as faults plan why shard sources starts before now names names'
         → IsHaltAt find.shards shard why h → HasCause find files disk then err err' h
     made_cause _ shard _ before now names names' then err err' stopped (short offset had) =
         cut_cause (refused.Short offset had) shard before now names names' (cut.short shard offset had) stopped refl

@@ -3,7 +3,7 @@ use Rattle.std.proofs.Common.{◌≡◌, ◌≢◌, ◌<◌, ◌==◌, ◌^◌, 
 use Rattle.std.specs.Prelude.{All, IfSome, Result}
 use Rattle.std.proofs.lemmas.List.Elements.{All-cons, All-head, All-nil, All-tail}
 use Rattle.eql_outside.specs.DiskLaws.{ImagesAreThere}
-use Rattle.eql_outside.specs.Moments.{History, Told}
+use Rattle.eql_outside.specs.Moments.{History, DiskTells}
 use Rattle.eql_values.specs.declared.order.Mark.{Mark}
 use Rattle.eql_words.specs.declared.commands.Checkpoint.{Checkpoint}
 use Rattle.eql_words.specs.declared.commands.Find.{Find}
@@ -14,7 +14,7 @@ use Rattle.eql_cut.specs.declared.cut.CutHead.{CutHead}
 use Rattle.eql_cut.specs.Rising.{RiseFrom}
 use Rattle.eql_ckdisk.specs.Found.{LastCut}
 use Rattle.eql_ckdisk.specs.Going.{Goes}
-use Rattle.eql_ckdisk.specs.Keeping.{AllKept, NoMore}
+use Rattle.eql_ckdisk.specs.Keeping.{KeepsAll, NoMore}
 use Rattle.eql_ckdisk.specs.Laws.{PutsGoOn}
 use Rattle.eql_ckdisk.specs.Putting.{Stands, StandsAt, last_cut}
 use Rattle.eql_conductor.specs.declared.plan.Keep.{Keep}
@@ -29,7 +29,7 @@ use Rattle.eql_resume.specs.Finding.{held}
 use Rattle.eql_search.specs.Keeping.{IsLaterCut}
 use Rattle.eql_find.specs.declared.halt.RunHalt.{RunHalt}
 use Rattle.eql_find.specs.declared.plan.Planning.{Planning}
-use Rattle.eql_find.specs.Running.{KeepsIfAsked, Started}
+use Rattle.eql_find.specs.Running.{KeepsIfAsked, StartsOver}
 use Rattle.eql_find.specs.Searching.{AreCutsOf, KeepsAs, head_in, search_in, slack_told}
 use Rattle.eql_find.specs.Starting.{Begun, IsFound, IsFreshKeep, disk_after, pipes_of}
 use Rattle.eql_find.proofs.DiskLemmas.{recovered_keeps, recovered_puts}
@@ -40,7 +40,7 @@ use Rattle.eql_find.proofs.MadeLemmas.{begun_is}
 use Rattle.eql_find.proofs.TextLemmas.{asked_slack, begins_asked, head_is, texts_long}
 
 -- all of a disk that was kept is no more than was there
-pub kept_no_more : (before now : Option History) → Told AllKept before now → Told (Goes NoMore) before now
+pub kept_no_more : (before now : Option History) → DiskTells KeepsAll before now → DiskTells (Goes NoMore) before now
 kept_no_more None None kept = tt
 kept_no_more None (Some k) kept = absurd kept
 kept_no_more (Some h) None kept = absurd kept
@@ -84,7 +84,7 @@ module _ {S L : Type 0} (go_on : PutsGoOn) (images : ImagesAreThere) (one : OneO
     (runs : Runs find p told lanes rest disk files) (head : CutHead) (own : head ≡ head_in find p) (out out' : Option (List ℕ)) where
   -- what the search says of its cuts
   abbrev AreOwn : Option (List (List ℕ)) → List Cut → Type 0
-  AreOwn o cuts = AreCutsOf (search_in find p) o rest.book.listed out out' (Started told find p lanes rest) cuts
+  AreOwn o cuts = AreCutsOf (search_in find p) o rest.book.listed out out' (StartsOver told find p lanes rest) cuts
 
   -- a search that is trusted on the disk is trusted
   trusts_by : (fs : Files) (on : OnDisk) (search : Search) (texts : List (List ℕ)) → find.checkpoint ≢ None → Searches find fs search texts
@@ -127,7 +127,7 @@ module _ {S L : Type 0} (go_on : PutsGoOn) (images : ImagesAreThere) (one : OneO
           are_put cuts fs on search texts asked (r on (λ also. own_holds)) later are searches trusted few
 
   -- the cuts go on from what was found
-  going_on : (last : LastCut) (cuts : List Cut) (h j : History) → disk ≡ Some h → find.checkpoint ≢ None → AllKept h j → StandsAt last j.now
+  going_on : (last : LastCut) (cuts : List Cut) (h j : History) → disk ≡ Some h → find.checkpoint ≢ None → KeepsAll h j → StandsAt last j.now
       → RiseFrom rest.mark cuts → (on : OnDisk) → DiskHolds (Some h) on → (last.generation ≡ generation_on on) × RiseFrom (mark_on on) cuts
   going_on last cuts h j is asked kept stands rise on holds =
       let own_found = subst (λ (o : Option History). IsFound find o begun) is found_so in
@@ -136,8 +136,8 @@ module _ {S L : Type 0} (go_on : PutsGoOn) (images : ImagesAreThere) (one : OneO
       (began_by images one find begun asked last h j on own_found kept stands holds, subst (λ (m : Mark). RiseFrom m cuts) mark rise)
 
   by_cuts : (last : LastCut) (cuts : List Cut) (before start now : Option History) → disk ≡ start → find.checkpoint ≢ None
-      → Told AllKept start before → Stands last before → PutsCuts last cuts before now → All (IsLaterCut head rest.mark) cuts → RiseFrom rest.mark cuts
-      → AreOwn told cuts → Told (KeepsCuts find files out out') start now
+      → DiskTells KeepsAll start before → Stands last before → PutsCuts last cuts before now → All (IsLaterCut head rest.mark) cuts → RiseFrom rest.mark cuts
+      → AreOwn told cuts → DiskTells (KeepsCuts find files out out') start now
   by_cuts last cuts None None None is asked kept stands puts later rise are = tt
   by_cuts last cuts None None (Some k) is asked kept stands puts later rise are = absurd puts
   by_cuts last cuts (Some j) None now is asked kept stands puts later rise are = absurd kept
@@ -155,7 +155,7 @@ module _ {S L : Type 0} (go_on : PutsGoOn) (images : ImagesAreThere) (one : OneO
     pub keeps_cuts : (keep kept : Option (Keep D)) → find.checkpoint ≢ None → KeepsIfAsked history find.checkpoint keep
         → IsFreshKeep history count disk keep
         → KeepsAs history head rest.mark (AreOwn told) keep kept r
-        → Told (KeepsCuts find files out out') disk (disk_after history disk kept)
+        → DiskTells (KeepsCuts find files out out') disk (disk_after history disk kept)
     keeps_cuts None None asked may fresh keeps = absurd (no_keep find.checkpoint asked may)
       where
         no_keep : (c : Option Checkpoint) → c ≢ None → KeepsIfAsked history c None → ⊥
@@ -171,7 +171,7 @@ module _ {S L : Type 0} (go_on : PutsGoOn) (images : ImagesAreThere) (one : OneO
 pub none_put : {D : Type 0} (history : D → Option History) (count : D → ℕ) → PutsGoOn → (find : Find) (files : Option Files)
     (out out' : Option (List ℕ)) (disk : Option History) (keep : Option (Keep D)) → find.checkpoint ≢ None
     → KeepsIfAsked history find.checkpoint keep → IsFreshKeep history count disk keep
-    → Told (KeepsCuts find files out out') disk (disk_after history disk keep)
+    → DiskTells (KeepsCuts find files out out') disk (disk_after history disk keep)
 none_put history count go_on find files out out' disk None asked may fresh = absurd (no_keep find.checkpoint asked may)
   where
     no_keep : (c : Option Checkpoint) → c ≢ None → KeepsIfAsked history c None → ⊥
@@ -182,6 +182,6 @@ none_put history count go_on find files out out' disk (Some k) asked may fresh =
 
 -- nor changed what the disk stands for
 pub none_changed : {D : Type 0} (history : D → Option History) (count : D → ℕ) (disk : Option History) (keep : Option (Keep D))
-    → IsFreshKeep history count disk keep → Told (Goes NoMore) disk (disk_after history disk keep)
+    → IsFreshKeep history count disk keep → DiskTells (Goes NoMore) disk (disk_after history disk keep)
 none_changed history count disk None fresh = same_no_more disk disk refl
 none_changed history count disk (Some k) fresh = kept_no_more disk (history k.disk) fresh.2

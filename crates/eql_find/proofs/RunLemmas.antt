@@ -30,7 +30,7 @@ use Rattle.eql_runs.specs.Starts.{BeginsWith}
 use Rattle.eql_search.specs.Beginnings.{MayBegin, MayKeepOn, cuts_of, run_by}
 use Rattle.eql_search.specs.Searches.{AreBegun, AreBegunFrom, AreTextsOf, Rules, reads_by, slack_by}
 use Rattle.eql_find.specs.declared.plan.Planning.{Planning}
-use Rattle.eql_find.specs.Running.{KeepsIfAsked, Started, every_of, plan_in}
+use Rattle.eql_find.specs.Running.{KeepsIfAsked, StartsOver, every_of, plan_in}
 use Rattle.eql_find.specs.Searching.{BeganWith, StartsOn, bare, head_in, places_in, rules_in, search_in}
 use Rattle.eql_find.specs.Starting.{Begun, IsOwn, pipes_of, stages_of, values_of}
 use Rattle.eql_find.proofs.AllowingLemmas.{BeginLaws, ascend_by, bare_cuts, fresh_ascend, may_fresh, may_from}
@@ -104,7 +104,7 @@ module _ {S L : Type 0} (laws : BeginLaws) (find : Find) (p : Planning) (bounds 
         (may_at told begun.format begun.cut own.asked own.suits own.unplaced began is))
 
     -- over texts with which the run may begin the search begins with nothing, or with a cut of them
-    pub starts : (told : Option (List (List ℕ))) (ts : List (List ℕ)) → told ≡ Some ts → Started told find p lanes rest ts → StartsSo find p ts mids placed
+    pub starts : (told : Option (List (List ℕ))) (ts : List (List ℕ)) → told ≡ Some ts → StartsOver told find p lanes rest ts → StartsSo find p ts mids placed
     starts told ts e s =
         subst (λ (r : Rest). StartsSo find p ts mids r) (sym placed_is)
         (subst (λ (cs : List LaneCut). let r = placed_rest rest lanes in StartsOn (search_in find p) ts r.mark cs r.holders r.book) same_cuts

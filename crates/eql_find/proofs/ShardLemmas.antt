@@ -23,7 +23,7 @@ use Rattle.eql_find.specs.declared.halt.CutStop.TheVariants as cut
 use Rattle.eql_find.specs.declared.halt.RunHalt.{RunHalt}
 use Rattle.eql_find.specs.declared.halt.RunHalt.TheVariants as run
 use Rattle.eql_find.specs.Halts.{FaultsAs, CountAs, DiskAs, OutAs, ErrAs, IsFault, IsReport, TellsNothing}
-use Rattle.eql_find.specs.Lanes.{AreOver, CameBack, StaysSource, StoppedMaking, lane_returned}
+use Rattle.eql_find.specs.Lanes.{AreOver, CameBack, StaysSource, StopsMaking, lane_returned}
 use Rattle.eql_find.specs.Searching.{LaneFaults}
 use Rattle.eql_find.specs.Stops.{IsHaltAt, short, no_line, grown, failed, unmade}
 use Rattle.eql_find.proofs.FailLemmas.{AreNamed, none_failed_lanes, some_failed_lane}
@@ -72,7 +72,7 @@ module _ {S : Type 0} (left lent_as : S → Option (List ℕ)) (faults : S → �
     (sources : List S) (starts : List LaneStart) (named : map lent_as sources ≡ map (λ (n : List ℕ). Some n) shards)
     (before now : ℕ) (names names' : List ℕ → ℕ) where
   -- which shard it may be that failed
-  pub may_make : (why : LaneRefused) (shard : ℕ) → StoppedMaking left lent_as faults plan why shard sources starts before now names names'
+  pub may_make : (why : LaneRefused) (shard : ℕ) → StopsMaking left lent_as faults plan why shard sources starts before now names names'
       → why ≡ refused.Failed → shard < length shards
   may_make why shard (inl h) is = absurd (false≢true (ap by_failure (sym h.0 ∙ is)))
   may_make why shard (inr at) is =
@@ -81,12 +81,12 @@ module _ {S : Type 0} (left lent_as : S → Option (List ℕ)) (faults : S → �
       omega (arith, within, same)
 
   steady_by : (why : LaneRefused) (shard : ℕ) → by_failure why ≡ false
-      → StoppedMaking left lent_as faults plan why shard sources starts before now names names' → (now ≡ before) × SameFaults names names'
+      → StopsMaking left lent_as faults plan why shard sources starts before now names names' → (now ≡ before) × SameFaults names names'
   steady_by why shard calm (inl h) = (h.1, h.2)
   steady_by why shard calm (inr at) = at.steady (not_failed why calm)
 
   refused_halt : (why : LaneRefused) (shard : ℕ) (c : _) → by_failure why ≡ false
-      → StoppedMaking left lent_as faults plan why shard sources starts before now names names'
+      → StopsMaking left lent_as faults plan why shard sources starts before now names names'
       → MadeHalt plan sources before now names names' (run.Cut c)
   refused_halt why shard c calm stopped =
       let same = steady_by why shard calm stopped in
@@ -105,7 +105,7 @@ module _ {S : Type 0} (left lent_as : S → Option (List ℕ)) (faults : S → �
   under_name o name same rose = subst (λ (x : Option (List ℕ)). RoseUnder x names names') same rose
 
   failed_halt : (shard : ℕ) (name : Bor (List ℕ)) → slice_get shards shard ≡ Some name.now
-      → StoppedMaking left lent_as faults plan refused.Failed shard sources starts before now names names'
+      → StopsMaking left lent_as faults plan refused.Failed shard sources starts before now names names'
       → MadeHalt plan sources before now names names' (run.Files (halt.Read name))
   failed_halt shard name there (inl h) = absurd (false≢true (sym (ap by_failure h.0)))
   failed_halt shard name there (inr at) =
@@ -127,7 +127,7 @@ module _ {S : Type 0} (left lent_as : S → Option (List ℕ)) (faults : S → �
           (all shard at.source (slice_get_within sources shard at.source at.is))
 
   pub made_halt : (why : LaneRefused) (shard : ℕ) (h : RunHalt)
-      → StoppedMaking left lent_as faults plan why shard sources starts before now names names' → IsHaltAt shards shard why h
+      → StopsMaking left lent_as faults plan why shard sources starts before now names names' → IsHaltAt shards shard why h
       → MadeHalt plan sources before now names names' h
   made_halt _ shard _ stopped (short offset had) = refused_halt (refused.Short offset had) shard (cut.Short shard offset had) refl stopped
   made_halt _ shard _ stopped (no_line line) = refused_halt (refused.NoLine line) shard (cut.NoLine shard line) refl stopped

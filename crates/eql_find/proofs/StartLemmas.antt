@@ -3,7 +3,7 @@ use Rattle.std.proofs.Common.{◌≡◌, ◌≢◌, ◌==◌, ℕ, Bool, false, 
 use Rattle.std.specs.Prelude.{IfSome, IsTrue}
 use Rattle.eql_values.specs.declared.cut.Pipe.{Pipe}
 use Rattle.eql_outside.specs.Areas.{seen_areas}
-use Rattle.eql_outside.specs.Moments.{History, Told}
+use Rattle.eql_outside.specs.Moments.{History, DiskTells}
 use Rattle.eql_words.specs.declared.commands.Find.{Find}
 use Rattle.eql_lane.specs.declared.make.LaneStart.{LaneStart}
 use Rattle.eql_cut.specs.declared.cut.Cut.{Cut}
@@ -20,7 +20,7 @@ use Rattle.eql_resume.specs.Beginnings.{LanesBegin, Rest, rest_by}
 use Rattle.eql_resume.specs.Finding.{Suits, held}
 use Rattle.eql_find.specs.declared.plan.Planning.{Planning}
 use Rattle.eql_find.specs.Searching.{head_in}
-use Rattle.eql_find.specs.Starting.{BegunOn, pipes_of, stages_of, values_of}
+use Rattle.eql_find.specs.Starting.{BeginsOnDisk, pipes_of, stages_of, values_of}
 
 -- ---- what it begins with
 module _ (find : Find) (p : Planning) where
@@ -43,7 +43,7 @@ module _ (find : Find) (p : Planning) where
       → IsTrue (names_ascend p.mapping) → stages ≡ stages_of p → values ≡ values_of p → pipes ≡ pipes_of p → unplaced ≡ (format == 1)
       → IfSome disk (λ h. StandsFor (held format (last_cut keep.state).generation cut) (found (seen_areas h.now)))
       → IfSome cut (Suits stages values pipes head) → IfSome cut (λ x. format ≡ 1 → IsUnplaced (orders_in x))
-      → LanesBegin cut unplaced head.shards starts → rest ≡ rest_by pipes unplaced cut → BegunOn find p disk head (Some keep) starts rest
+      → LanesBegin cut unplaced head.shards starts → rest ≡ rest_by pipes unplaced cut → BeginsOnDisk find p disk head (Some keep) starts rest
   begins_on disk head keep stages values pipes format cut unplaced starts rest asked is names s v ps u stands suits placed lanes rest_is = record {
     begun = record { format = format; generation = (last_cut keep.state).generation; cut = cut };
     is_found = λ some. stands;
@@ -63,7 +63,7 @@ module _ (find : Find) (p : Planning) where
   -- afresh, whatever a disk holds that isn't asked for
   pub begins_afresh : {D : Type 0} (disk : Option History) (head : CutHead) (pipes : List Pipe) (starts : List LaneStart) (rest : Rest)
       → find.checkpoint ≡ None → head ≡ head_in find p → IsTrue (names_ascend p.mapping) → pipes ≡ pipes_of p
-      → LanesBegin None false head.shards starts → rest ≡ rest_by pipes false None → BegunOn {D = D} find p disk head None starts rest
+      → LanesBegin None false head.shards starts → rest ≡ rest_by pipes false None → BeginsOnDisk {D = D} find p disk head None starts rest
   begins_afresh disk head pipes starts rest none is names ps lanes rest_is = record {
     begun = record { format = 0; generation = 0; cut = None };
     is_found = λ some. absurd (some none);
@@ -76,9 +76,9 @@ module _ (find : Find) (p : Planning) where
   }
 
 -- ---- nothing happens on the disk
-pub still_told : (h : Option History) → Told (Goes NoMore) h h
+pub still_told : (h : Option History) → DiskTells (Goes NoMore) h h
 still_told None = tt
 still_told (Some h) = (0, refl)
 
-pub same_told : (before now : Option History) → now ≡ before → Told (Goes NoMore) before now
-same_told before now is = subst (λ (x : Option History). Told (Goes NoMore) before x) (sym is) (still_told before)
+pub same_told : (before now : Option History) → now ≡ before → DiskTells (Goes NoMore) before now
+same_told before now is = subst (λ (x : Option History). DiskTells (Goes NoMore) before x) (sym is) (still_told before)

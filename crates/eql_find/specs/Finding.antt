@@ -27,22 +27,22 @@ names_in find = record { query = find.query; fields = find.fields; shards = find
 
 -- where files and disk are told, and the disk is trusted, the run was one that writes a listing and a report, and where the sinks
 -- tell too they got just these
-abbrev pub FoundAll : Find → Option Files → Option History → (out out' err err' : Option (List ℕ)) → Type 0
-FoundAll find files disk out out' err err' =
+abbrev pub FindsAll : Find → Option Files → Option History → (out out' err err' : Option (List ℕ)) → Type 0
+FindsAll find files disk out out' err err' =
     IfFound find files disk (λ fs on. Trusts find fs on
     → (bytes : List ℕ) × (report : List ℕ) × Finds find fs on bytes report
     × WroteAll bytes out out' × WroteAll report err err')
 
 -- where they are told, and so is the output, it got nothing, or a front of the listing
-abbrev pub FoundSome : Find → Option Files → Option History → (out out' : Option (List ℕ)) → Type 0
-FoundSome find files disk out out' =
+abbrev pub FindsSome : Find → Option Files → Option History → (out out' : Option (List ℕ)) → Type 0
+FindsSome find files disk out out' =
     IfFound find files disk (λ fs on. Trusts find fs on → IfSome out (λ w.
     (out' ≡ Some w)
     ⊎ ((bytes : List ℕ) × (report : List ℕ) × Finds find fs on bytes report × AppendsSome w bytes out')))
 
 -- where they are told, and the disk is trusted, the run was one that writes a listing, and where the output tells too it got just this
-abbrev pub FoundListing : Find → Option Files → Option History → (out out' : Option (List ℕ)) → Type 0
-FoundListing find files disk out out' =
+abbrev pub FindsListing : Find → Option Files → Option History → (out out' : Option (List ℕ)) → Type 0
+FindsListing find files disk out out' =
     IfFound find files disk (λ fs on. Trusts find fs on
     → (bytes : List ℕ) × (report : List ℕ) × Finds find fs on bytes report × WroteAll bytes out out')
 

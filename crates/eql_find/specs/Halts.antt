@@ -95,10 +95,10 @@ FileFaults (input.Read name) before now = RoseAmong name.now before now
 FileFaults input.Memory before now = SameFaults before now
 
 -- the count of something else is as it was, but where a read fault is told: then that may have failed too
-abbrev pub LeftBy : Halt → (before now : ℕ) → Type 0
-LeftBy (input.Refused r) before now = now ≡ before
-LeftBy (input.Read name) before now = Unit {0}
-LeftBy input.Memory before now = now ≡ before
+abbrev pub IsLeftBy : Halt → (before now : ℕ) → Type 0
+IsLeftBy (input.Refused r) before now = now ≡ before
+IsLeftBy (input.Read name) before now = Unit {0}
+IsLeftBy input.Memory before now = now ≡ before
 
 -- the faults of each name: those of a file that is told as failed rose, and where none is told none did
 abbrev pub FaultsAs : {A : Type 0} → Result A RunHalt → (before now : List ℕ → ℕ) → Type 0
@@ -136,7 +136,7 @@ AbsenceAs (Err (run.Report r)) before now = now ≡ before
 -- the count of the disk's faults rose where the disk is told as failed, and elsewhere only where a read fault is told
 abbrev pub DiskAs : {A : Type 0} → Result A RunHalt → (before now : ℕ) → Type 0
 DiskAs (Ok done) before now = now ≡ before
-DiskAs (Err (run.Files h)) before now = LeftBy h before now
+DiskAs (Err (run.Files h)) before now = IsLeftBy h before now
 DiskAs (Err (run.Cut why)) before now = now ≡ before
 DiskAs (Err run.Disk) before now = Rose before now
 DiskAs (Err run.Write) before now = now ≡ before
@@ -147,7 +147,7 @@ DiskAs (Err (run.Report r)) before now = now ≡ before
 -- the count of the output's faults rose where a write fault is told, and elsewhere only where a read fault is told
 abbrev pub OutAs : {A : Type 0} → Result A RunHalt → (before now : ℕ) → Type 0
 OutAs (Ok done) before now = now ≡ before
-OutAs (Err (run.Files h)) before now = LeftBy h before now
+OutAs (Err (run.Files h)) before now = IsLeftBy h before now
 OutAs (Err (run.Cut why)) before now = now ≡ before
 OutAs (Err run.Disk) before now = now ≡ before
 OutAs (Err run.Write) before now = Rose before now

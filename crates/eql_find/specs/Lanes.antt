@@ -9,7 +9,7 @@ use Rattle.eql_lane.specs.declared.make.LaneRefused.{LaneRefused}
 use Rattle.eql_lane.specs.declared.make.LaneRefused.TheVariants as refused
 use Rattle.eql_lane.specs.declared.make.LaneStart.{LaneStart}
 use Rattle.eql_lane.specs.Noting.{IsWholeLine}
-use Rattle.eql_lane.specs.Starts.{Made, Refused, cut_of, wanted_of}
+use Rattle.eql_lane.specs.Starts.{BeginsAs, IsNotMade, cut_of, wanted_of}
 use Rattle.eql_lane.specs.Views.{LaneView}
 
 module _ {S L : Type 0} (left lent_as : S → Option (List ℕ)) (faults : S → ℕ) (plan : S → Option FaultPlan) (read_of : L → Reads) where
@@ -17,7 +17,7 @@ module _ {S L : Type 0} (left lent_as : S → Option (List ℕ)) (faults : S →
   pub record IsOver (reads : Reads) (slack : Option ℕ) (shard : ℕ) (source : S) (start : LaneStart) (lane : LaneView S L) : Type 0 where
     pub reader : L
     pub reads_are : read_of reader ≡ reads
-    pub made : Made left lent_as faults source reader shard slack start lane
+    pub made : BeginsAs left lent_as faults source reader shard slack start lane
     pub unfailing : IsUnfailing (plan source) → IsUnfailing (plan lane.source)
 
   -- lanes over these sources that begin so, of which the first is of this shard and the others are of the shards after it
@@ -36,19 +36,19 @@ pub record Returned : Type 0 where
 abbrev pub DidNotFail : Returned → Type 0
 DidNotFail back = back.faults ≡ 0
 
-pub record Failed (name : List ℕ) (back : Returned) : Type 0 where
+pub record SourceFailed (name : List ℕ) (back : Returned) : Type 0 where
   pub often : 0 < back.faults
   pub named : back.name ≡ Some name
 
 -- of sources that come back none failed
-abbrev pub NoneFailed : List Returned → Type 0
-NoneFailed [] = Unit {0}
-NoneFailed (back ∷ backs) = DidNotFail back × NoneFailed backs
+abbrev pub NoSourceFailed : List Returned → Type 0
+NoSourceFailed [] = Unit {0}
+NoSourceFailed (back ∷ backs) = DidNotFail back × NoSourceFailed backs
 
 -- of sources that come back one failed that was lent under this name, and others may have failed too
-abbrev pub SomeFailed : List ℕ → List Returned → Type 0
-SomeFailed name [] = ⊥
-SomeFailed name (back ∷ backs) = Failed name back ⊎ SomeFailed name backs
+abbrev pub SomeSourceFailed : List ℕ → List Returned → Type 0
+SomeSourceFailed name [] = ⊥
+SomeSourceFailed name (back ∷ backs) = SourceFailed name back ⊎ SomeSourceFailed name backs
 
 -- the faults of this name rose in a call, and those of no name are fewer
 pub record RoseAmong (name : List ℕ) (before now : List ℕ → ℕ) : Type 0 where
@@ -58,8 +58,8 @@ pub record RoseAmong (name : List ℕ) (before now : List ℕ → ℕ) : Type 0 
 -- what the counts of a shelf say once these sources came back: none fell; where none failed they are as before, and where one did, those
 -- of its name rose
 pub record CameBack (backs : List Returned) (before now : ℕ) (names names' : List ℕ → ℕ) : Type 0 where
-  pub none : NoneFailed backs → (now ≡ before) × SameFaults names names'
-  pub one : (name : List ℕ) → SomeFailed name backs → Rose before now × Rose (names name) (names' name)
+  pub none : NoSourceFailed backs → (now ≡ before) × SameFaults names names'
+  pub one : (name : List ℕ) → SomeSourceFailed name backs → Rose before now × Rose (names name) (names' name)
   pub counts : (before ≤ now) × ((any : List ℕ) → names any ≤ names' any)
 
 module _ {S : Type 0} (lent_as : S → Option (List ℕ)) (faults : S → ℕ) where
@@ -82,14 +82,14 @@ pub record Serves (start : LaneStart) (text : List ℕ) : Type 0 where
 module _ {S : Type 0} (left lent_as : S → Option (List ℕ)) (faults : S → ℕ) (plan : S → Option FaultPlan) where
   -- making lanes stopped at the source of this shard, which went back to its shelf: why, and what the shelf's counts say; those
   -- before it were made
-  pub record StoppedAt (why : LaneRefused) (shard : ℕ) (sources : List S) (starts : List LaneStart) (before now : ℕ)
+  pub record StopsMakingAt (why : LaneRefused) (shard : ℕ) (sources : List S) (starts : List LaneStart) (before now : ℕ)
       (names names' : List ℕ → ℕ) : Type 0 where
     pub source : S
     pub is : slice_get sources shard ≡ Some source
     pub start : LaneStart
     pub begins : slice_get starts shard ≡ Some start
     pub back : S
-    pub refused_by : Refused left lent_as faults (cut_of start) (wanted_of start) source why back
+    pub refused_by : IsNotMade left lent_as faults (cut_of start) (wanted_of start) source why back
     pub earlier : (s : ℕ) (x : S) (b : LaneStart) → s < shard → slice_get sources s ≡ Some x → slice_get starts s ≡ Some b
         → IfSome (left x) (Serves b)
     pub steady : why ≢ refused.Failed → (now ≡ before) × SameFaults names names'
@@ -97,15 +97,15 @@ module _ {S : Type 0} (left lent_as : S → Option (List ℕ)) (faults : S → �
     pub unfailing : IsUnfailing (plan source) → why ≢ refused.Failed
 
   -- making lanes stopped: memory ran out before the first, or at one of them
-  abbrev pub StoppedMaking : LaneRefused → (shard : ℕ) → List S → List LaneStart → (before now : ℕ) → (names names' : List ℕ → ℕ) → Type 0
-  StoppedMaking why shard sources starts before now names names' =
+  abbrev pub StopsMaking : LaneRefused → (shard : ℕ) → List S → List LaneStart → (before now : ℕ) → (names names' : List ℕ → ℕ) → Type 0
+  StopsMaking why shard sources starts before now names names' =
       ((why ≡ refused.Memory) × (now ≡ before) × SameFaults names names')
-      ⊎ StoppedAt why shard sources starts before now names names'
+      ⊎ StopsMakingAt why shard sources starts before now names names'
 
 module _ {S L : Type 0} (left lent_as : S → Option (List ℕ)) (faults : S → ℕ) (plan : S → Option FaultPlan) (read_of : L → Reads)
     (reads : Reads) (slack : Option ℕ) where
   -- of these sources the first have lanes, which began with the first of these starts, and the rest not yet
-  pub record Filling (all rest : List S) (starts left_over : List LaneStart) (lanes : List (LaneView S L)) : Type 0 where
+  pub record HaveLanes (all rest : List S) (starts left_over : List LaneStart) (lanes : List (LaneView S L)) : Type 0 where
     pub done : List S
     pub began : List LaneStart
     pub all_are : all ≡ done ++ rest
@@ -113,14 +113,14 @@ module _ {S L : Type 0} (left lent_as : S → Option (List ℕ)) (faults : S →
     pub over : AreOver left lent_as faults plan read_of reads slack 0 done began lanes
 
   -- the same, with one source between them for which that stopped
-  pub record Halted (why : LaneRefused) (shard : ℕ) (all rest : List S) (starts : List LaneStart) (lanes : List (LaneView S L))
+  pub record StopsAmong (why : LaneRefused) (shard : ℕ) (all rest : List S) (starts : List LaneStart) (lanes : List (LaneView S L))
       (before now : ℕ) (names names' : List ℕ → ℕ) : Type 0 where
     pub done : List S
     pub source : S
     pub began : List LaneStart
     pub all_are : all ≡ done ++ source ∷ rest
     pub over : AreOver left lent_as faults plan read_of reads slack 0 done began lanes
-    pub at : StoppedAt left lent_as faults plan why shard all starts before now names names'
+    pub at : StopsMakingAt left lent_as faults plan why shard all starts before now names names'
 
 -- what no run changes of a lane: the name of its source, and that the source doesn't tell; the count of its faults doesn't fall
 pub record StaysSource {S L : Type 0} (left lent_as : S → Option (List ℕ)) (old new : LaneView S L) : Type 0 where

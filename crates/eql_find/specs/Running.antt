@@ -65,7 +65,7 @@ pub record BeginsRun {S L D : Type 0} (left : S → Option (List ℕ)) (read_of 
   pub keeps : KeepsIfAsked history find.checkpoint keep
 
 -- over these texts the run begins with nothing, or with a cut of them
-pub record Started {S L : Type 0} (told : Option (List (List ℕ))) (find : Find) (p : Planning) (lanes : List (LaneView S L)) (rest : Rest)
+pub record StartsOver {S L : Type 0} (told : Option (List (List ℕ))) (find : Find) (p : Planning) (lanes : List (LaneView S L)) (rest : Rest)
     (texts : List (List ℕ)) : Type 0 where
   pub begun : Begun
   pub own : IsOwn find p begun

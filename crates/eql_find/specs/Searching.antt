@@ -138,22 +138,22 @@ AreCutsOf search texts listed out out' Started cuts =
 
 -- ---- why it stops
 -- `Started` says that the run may begin so over texts, `Beyond` that a shard of them is beyond a limit
-abbrev pub StoppedLanes : Find → Search → (texts : Option (List (List ℕ))) → (Started : List (List ℕ) → Type 0)
+abbrev pub LanesStop : Find → Search → (texts : Option (List (List ℕ))) → (Started : List (List ℕ) → Type 0)
     → (Beyond : List (List ℕ) → ShardLimit → Type 0) → (err err' : Option (List ℕ)) → RunHalt → Type 0
-StoppedLanes find search texts Started Beyond err err' (run.Files (halt.Refused r)) = ⊥
-StoppedLanes find search texts Started Beyond err err' (run.Files (halt.Read name)) = Unit {0}
-StoppedLanes find search texts Started Beyond err err' (run.Files halt.Memory) = Unit {0}
-StoppedLanes find search texts Started Beyond err err' (run.Cut why) = ⊥
-StoppedLanes find search texts Started Beyond err err' run.Disk = find.checkpoint ≢ None
-StoppedLanes find search texts Started Beyond err err' run.Write = Unit {0}
-StoppedLanes find search texts Started Beyond err err' (run.Limit l) =
+LanesStop find search texts Started Beyond err err' (run.Files (halt.Refused r)) = ⊥
+LanesStop find search texts Started Beyond err err' (run.Files (halt.Read name)) = Unit {0}
+LanesStop find search texts Started Beyond err err' (run.Files halt.Memory) = Unit {0}
+LanesStop find search texts Started Beyond err err' (run.Cut why) = ⊥
+LanesStop find search texts Started Beyond err err' run.Disk = find.checkpoint ≢ None
+LanesStop find search texts Started Beyond err err' run.Write = Unit {0}
+LanesStop find search texts Started Beyond err err' (run.Limit l) =
     (shard_of (limit_of l) < length find.shards) × IfSome texts (λ ts. Beyond ts (limit_of l))
-StoppedLanes find search texts Started Beyond err err' run.Generation = find.checkpoint ≢ None
-StoppedLanes find search texts Started Beyond err err' (run.Report r) = ReportOf find search texts Started err err'
+LanesStop find search texts Started Beyond err err' run.Generation = find.checkpoint ≢ None
+LanesStop find search texts Started Beyond err err' (run.Report r) = ReportOf find search texts Started err err'
 
 -- the faults of the lanes' sources: where a read fault is told those of the lane of a shard with its name rose, and others may have risen;
 -- else none did
-pub record FailedLane {S L : Type 0} (find : Find) (name : List ℕ) (olds news : List (LaneView S L)) : Type 0 where
+pub record LaneFailed {S L : Type 0} (find : Find) (name : List ℕ) (olds news : List (LaneView S L)) : Type 0 where
   pub shard : ℕ
   pub named : slice_get find.shards shard ≡ Some name
   pub rose : BecameAt shard olds news RoseFaults
@@ -161,7 +161,7 @@ pub record FailedLane {S L : Type 0} (find : Find) (name : List ℕ) (olds news 
 abbrev pub LaneFaults : {A S L : Type 0} → Find → Result A RunHalt → (olds news : List (LaneView S L)) → Type 0
 LaneFaults find (Ok done) olds news = SteadyBut (λ s. ⊥) olds news
 LaneFaults find (Err (run.Files (halt.Refused r))) olds news = SteadyBut (λ s. ⊥) olds news
-LaneFaults find (Err (run.Files (halt.Read name))) olds news = FailedLane find name.now olds news
+LaneFaults find (Err (run.Files (halt.Read name))) olds news = LaneFailed find name.now olds news
 LaneFaults find (Err (run.Files halt.Memory)) olds news = SteadyBut (λ s. ⊥) olds news
 LaneFaults find (Err (run.Cut why)) olds news = SteadyBut (λ s. ⊥) olds news
 LaneFaults find (Err run.Disk) olds news = SteadyBut (λ s. ⊥) olds news

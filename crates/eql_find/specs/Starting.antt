@@ -3,7 +3,7 @@ use Rattle.std.specs.Prelude.{◌≡◌, ◌≢◌, ◌==◌, ℕ, List, length,
 use Rattle.eql_values.specs.declared.cut.Pipe.{Pipe}
 use Rattle.eql_outside.specs.Areas.{seen_areas}
 use Rattle.eql_outside.specs.Faults.{SameFaults}
-use Rattle.eql_outside.specs.Moments.{History, Told}
+use Rattle.eql_outside.specs.Moments.{History, DiskTells}
 use Rattle.eql_outside.specs.Outside.{Rose}
 use Rattle.eql_outside.specs.Plans.{FaultPlan}
 use Rattle.eql_check.specs.Conditions.{key_count}
@@ -16,7 +16,7 @@ use Rattle.eql_cut.specs.declared.cut.CutHead.{CutHead}
 use Rattle.eql_cut.specs.CutValues.{names_ascend}
 use Rattle.eql_cut.specs.Placing.{IsUnplaced, orders_in}
 use Rattle.eql_ckdisk.specs.Found.{found}
-use Rattle.eql_ckdisk.specs.Keeping.{AllKept}
+use Rattle.eql_ckdisk.specs.Keeping.{KeepsAll}
 use Rattle.eql_ckdisk.specs.Putting.{Stands, last_cut}
 use Rattle.eql_conductor.specs.declared.plan.Keep.{Keep}
 use Rattle.eql_runs.specs.Files.{Files}
@@ -68,7 +68,7 @@ generation_kept None = None
 generation_kept (Some k) = Some (last_cut k.state).generation
 
 -- a run begins so: its head, where it keeps its cuts, and how its lanes and all the rest begin
-pub record BegunOn {D : Type 0} (find : Find) (p : Planning) (disk : Option History) (head : CutHead) (keep : Option (Keep D))
+pub record BeginsOnDisk {D : Type 0} (find : Find) (p : Planning) (disk : Option History) (head : CutHead) (keep : Option (Keep D))
     (starts : List LaneStart) (rest : Rest) : Type 0 where
   pub begun : Begun
   pub is_found : IsFound find disk begun
@@ -84,7 +84,7 @@ module _ {D : Type 0} (history : D → Option History) (count : D → ℕ) where
   -- a disk that didn't fail, and on which the last cut stands as the state says; of what it held at the start no more was changed than that all is kept
   abbrev pub KeepsFor : (start : Option History) → Option (Keep D) → Type 0
   KeepsFor start None = ⊥
-  KeepsFor start (Some k) = (count k.disk ≡ 0) × Stands (last_cut k.state) (history k.disk) × Told AllKept start (history k.disk)
+  KeepsFor start (Some k) = (count k.disk ≡ 0) × Stands (last_cut k.state) (history k.disk) × DiskTells KeepsAll start (history k.disk)
 
   -- the same of a run that may have none
   abbrev pub IsFreshKeep : (start : Option History) → Option (Keep D) → Type 0

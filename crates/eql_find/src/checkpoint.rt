@@ -4,13 +4,13 @@ ghost use Rattle.eql_ckdisk.specs.Going.{Goes};
 ghost use Rattle.eql_ckdisk.specs.Keeping.{NoMore};
 ghost use Rattle.eql_cut.specs.CutValues.{names_ascend};
 ghost use Rattle.eql_conductor.specs.Runs.{IsKeptUnfailing};
-ghost use Rattle.eql_outside.specs.Moments.{Told};
+ghost use Rattle.eql_outside.specs.Moments.{DiskTells};
 ghost use Rattle.eql_outside.specs.Outside.{Rose};
 ghost use Rattle.eql_outside.specs.Unfailing.{IsUnfailing};
 ghost use Rattle.eql_words.specs.Bounds.{FindBounds};
 ghost use Rattle.eql_find.specs.Halts.{IsFault};
 ghost use Rattle.eql_find.specs.Searching.{head_in};
-ghost use Rattle.eql_find.specs.Starting.{BegunOn, DiskRose, HaltOfStart, IsDiskOrMemory, KeepsFor, OnlyDisk, StartCause, disk_after, plan_after};
+ghost use Rattle.eql_find.specs.Starting.{BeginsOnDisk, DiskRose, HaltOfStart, IsDiskOrMemory, KeepsFor, OnlyDisk, StartCause, disk_after, plan_after};
 
 use crate::halt::{CutStop, RunHalt};
 use crate::plan::{Planning, head_of};
@@ -110,12 +110,12 @@ fn start_on<'a, D: Disk>(
     requires fresh { D.fault_count disk ≡ 0 }
     requires head { head ≡ head_in find.now planning.now }
     requires names { IsTrue (names_ascend planning.now.mapping) }
-    ensures begins { IfOk result (λ start. BegunOn find.now planning.now (D.history disk)
+    ensures begins { IfOk result (λ start. BeginsOnDisk find.now planning.now (D.history disk)
         start.head start.keep start.lanes.items start.rest) }
     ensures keeps { IfOk result (λ start.
         KeepsFor D.history D.fault_count (D.history disk) start.keep) }
     ensures cause { IfErr result (λ r. StartCause find.now planning.now (D.history disk) r.0) }
-    ensures moments { IfErr result (λ r. Told (Goes NoMore) (D.history disk) (D.history r.1)) }
+    ensures moments { IfErr result (λ r. DiskTells (Goes NoMore) (D.history disk) (D.history r.1)) }
     ensures fault { IfErr result (λ r. DiskRose r.0 (D.fault_count disk) (D.fault_count r.1)) }
     ensures unfailing { IsUnfailing (D.fault_plan disk)
         → IfErr result (λ r. ¬ IsFault r.0)
@@ -164,7 +164,7 @@ fn start_afresh<'a, D: Disk>(
     requires none { find.now.checkpoint ≡ None }
     requires head { head ≡ head_in find.now planning.now }
     requires names { IsTrue (names_ascend planning.now.mapping) }
-    ensures begins { IfOk result (λ start. BegunOn find.now planning.now None
+    ensures begins { IfOk result (λ start. BeginsOnDisk find.now planning.now None
         start.head start.keep start.lanes.items start.rest) }
     ensures keeps { IfOk result (λ start. start.keep ≡ None) }
     ensures cause { IfErr result (λ halt. halt ≡ RunHalt.Files Halt.Memory) }
@@ -192,7 +192,7 @@ pub(crate) fn start_run<'a, H: Shelf>(
     shelf: &mut H,
 ) -> Result<Start<H::Dsk>, RunHalt<'a>>
     requires bounds { FindBounds find.now }
-    ensures begins { IfOk result (λ start. BegunOn find.now planning.now
+    ensures begins { IfOk result (λ start. BeginsOnDisk find.now planning.now
         (H.disk_history shelf.old) start.head start.keep start.lanes.items start.rest) }
     ensures keeps { IfOk result (λ start. (find.now.checkpoint ≡ None → start.keep ≡ None)
         × (find.now.checkpoint ≢ None
@@ -200,7 +200,8 @@ pub(crate) fn start_run<'a, H: Shelf>(
     ensures cause { IfErr result (StartCause find.now planning.now (H.disk_history shelf.old)) }
     ensures kept { OnlyDisk H.files H.source_plans H.fault_count H.absent_count H.faults_of
         H.lent_count shelf.old shelf.new }
-    ensures moments { Told (Goes NoMore) (H.disk_history shelf.old) (H.disk_history shelf.new) }
+    ensures moments { DiskTells (Goes NoMore)
+        (H.disk_history shelf.old) (H.disk_history shelf.new) }
     ensures still { OnOk result (H.disk_history shelf.new ≡ H.disk_history shelf.old) }
     ensures fault { IfErr result (λ halt. DiskRose halt
         (H.disk_fault_count shelf.old) (H.disk_fault_count shelf.new)) }

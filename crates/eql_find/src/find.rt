@@ -5,14 +5,14 @@ ghost use Rattle.eql_ckdisk.specs.Keeping.{NoMore};
 ghost use Rattle.eql_conductor.specs.Runs.{IsKeptUnfailing, disk_faults};
 ghost use Rattle.eql_inputs.specs.Shards.{AreWholeFiles};
 ghost use Rattle.eql_inputs.specs.Shelves.{KeepsShelf};
-ghost use Rattle.eql_outside.specs.Moments.{Told};
+ghost use Rattle.eql_outside.specs.Moments.{DiskTells};
 ghost use Rattle.eql_outside.specs.Unfailing.{IsUnfailing, AreUnfailing};
 ghost use Rattle.eql_words.specs.Bounds.{FindBounds};
 ghost use Rattle.eql_runs.specs.Runs.{IfFound, IsFindAccepted, KeepsCuts};
 ghost use Rattle.eql_find.specs.Halts.{AbsenceAs, CountAs, DiskAs, ErrAs, FaultsAs, IsFault, IsRefusal, IsReport, OutAs, TellsNothing};
-ghost use Rattle.eql_find.specs.Finding.{FoundAll, FoundListing, FoundSome, HasCause, IsPlanOf, texts_told};
+ghost use Rattle.eql_find.specs.Finding.{FindsAll, FindsListing, FindsSome, HasCause, IsPlanOf, texts_told};
 ghost use Rattle.eql_find.specs.Running.{KeepsIfAsked};
-ghost use Rattle.eql_find.specs.Starting.{BegunOn, IsFreshKeep, disk_after};
+ghost use Rattle.eql_find.specs.Starting.{BeginsOnDisk, IsFreshKeep, disk_after};
 
 use crate::checkpoint::{Start, give_keep, start_run};
 use crate::halt::RunHalt;
@@ -58,19 +58,19 @@ fn run_over<'a, R: Threads + Wait + Sync, H: Shelf, K: Sink, E: Sink, W: Gate + 
         (map H.Src.left sources.items) }
     requires named { map H.Src.lent_as sources.items ≡ map (λ name. Some name) find.now.shards }
     requires fresh { All (λ source. H.Src.fault_count source ≡ 0) sources.items }
-    requires begins { BegunOn find.now planning.now (H.disk_history shelf.old)
+    requires begins { BeginsOnDisk find.now planning.now (H.disk_history shelf.old)
         head keep.old starts.items rest }
     requires keeps { KeepsIfAsked H.Dsk.history find.now.checkpoint keep.old }
     requires kept { IsFreshKeep H.Dsk.history H.Dsk.fault_count
         (H.disk_history shelf.old) keep.old }
-    ensures done { OnOk result (FoundAll find.now (H.files shelf.old) (H.disk_history shelf.old)
+    ensures done { OnOk result (FindsAll find.now (H.files shelf.old) (H.disk_history shelf.old)
         (K.written out.old) (K.written out.new) (E.written err.old) (E.written err.new)) }
     ensures accepted { OnOk result (IfFound find.now (H.files shelf.old)
         (H.disk_history shelf.old) (IsFindAccepted find.now)) }
-    ensures prefix { OnErr result (FoundSome find.now (H.files shelf.old)
+    ensures prefix { OnErr result (FindsSome find.now (H.files shelf.old)
         (H.disk_history shelf.old) (K.written out.old) (K.written out.new)) }
     ensures listed { IfErr result (λ halt. IsReport halt
-        → FoundListing find.now (H.files shelf.old) (H.disk_history shelf.old)
+        → FindsListing find.now (H.files shelf.old) (H.disk_history shelf.old)
         (K.written out.old) (K.written out.new)) }
     ensures untouched { IfErr result (λ halt. IsRefusal halt → out.new ≡ out.old) }
     ensures quiet { IfErr result (λ halt. TellsNothing halt → err.new ≡ err.old) }
@@ -96,11 +96,11 @@ fn run_over<'a, R: Threads + Wait + Sync, H: Shelf, K: Sink, E: Sink, W: Gate + 
     ensures lent { IfSome (H.lent_count shelf.old)
         (λ n. H.lent_count shelf.new ≡ Some (n - length find.now.shards)) }
     ensures moments { find.now.checkpoint ≢ None
-        → Told (KeepsCuts find.now (H.files shelf.old) (K.written out.old) (K.written out.new))
+        → DiskTells (KeepsCuts find.now (H.files shelf.old) (K.written out.old) (K.written out.new))
         (H.disk_history shelf.old)
         (disk_after H.Dsk.history (H.disk_history shelf.old) keep.new) }
     ensures cut_kept { IfErr result (λ halt. IsRefusal halt
-        → Told (Goes NoMore) (H.disk_history shelf.old)
+        → DiskTells (Goes NoMore) (H.disk_history shelf.old)
         (disk_after H.Dsk.history (H.disk_history shelf.old) keep.new)) }
     ensures no_keep { keep.old ≡ None → keep.new ≡ None }
     ensures some_keep { keep.old ≢ None → keep.new ≢ None }
@@ -140,19 +140,19 @@ fn run_start<'a, R: Threads + Wait + Sync, H: Shelf, K: Sink, E: Sink, W: Gate +
         (map H.Src.left sources.items) }
     requires named { map H.Src.lent_as sources.items ≡ map (λ name. Some name) find.now.shards }
     requires fresh { All (λ source. H.Src.fault_count source ≡ 0) sources.items }
-    requires begins { BegunOn find.now planning.now (H.disk_history shelf.old)
+    requires begins { BeginsOnDisk find.now planning.now (H.disk_history shelf.old)
         start.head start.keep start.lanes.items start.rest }
     requires keeps { KeepsIfAsked H.Dsk.history find.now.checkpoint start.keep }
     requires kept { IsFreshKeep H.Dsk.history H.Dsk.fault_count
         (H.disk_history shelf.old) start.keep }
-    ensures done { OnOk result (FoundAll find.now (H.files shelf.old) (H.disk_history shelf.old)
+    ensures done { OnOk result (FindsAll find.now (H.files shelf.old) (H.disk_history shelf.old)
         (K.written out.old) (K.written out.new) (E.written err.old) (E.written err.new)) }
     ensures accepted { OnOk result (IfFound find.now (H.files shelf.old)
         (H.disk_history shelf.old) (IsFindAccepted find.now)) }
-    ensures prefix { OnErr result (FoundSome find.now (H.files shelf.old)
+    ensures prefix { OnErr result (FindsSome find.now (H.files shelf.old)
         (H.disk_history shelf.old) (K.written out.old) (K.written out.new)) }
     ensures listed { IfErr result (λ halt. IsReport halt
-        → FoundListing find.now (H.files shelf.old) (H.disk_history shelf.old)
+        → FindsListing find.now (H.files shelf.old) (H.disk_history shelf.old)
         (K.written out.old) (K.written out.new)) }
     ensures untouched { IfErr result (λ halt. IsRefusal halt → out.new ≡ out.old) }
     ensures quiet { IfErr result (λ halt. TellsNothing halt → err.new ≡ err.old) }
@@ -184,10 +184,10 @@ fn run_start<'a, R: Threads + Wait + Sync, H: Shelf, K: Sink, E: Sink, W: Gate +
         × (H.disk_fault_count shelf.new ≡ H.disk_fault_count shelf.old)
         × (H.disk_plan shelf.new ≡ H.disk_plan shelf.old) }
     ensures moments { find.now.checkpoint ≢ None
-        → Told (KeepsCuts find.now (H.files shelf.old) (K.written out.old) (K.written out.new))
+        → DiskTells (KeepsCuts find.now (H.files shelf.old) (K.written out.old) (K.written out.new))
         (H.disk_history shelf.old) (H.disk_history shelf.new) }
     ensures cut_kept { IfErr result (λ halt. IsRefusal halt
-        → Told (Goes NoMore) (H.disk_history shelf.old) (H.disk_history shelf.new)) }
+        → DiskTells (Goes NoMore) (H.disk_history shelf.old) (H.disk_history shelf.new)) }
 {
     let Start {
         head,
@@ -221,14 +221,14 @@ fn run_shards<'a, R: Threads + Wait + Sync, H: Shelf, K: Sink, E: Sink, W: Gate 
         (map H.Src.left sources.items) }
     requires named { map H.Src.lent_as sources.items ≡ map (λ name. Some name) find.now.shards }
     requires fresh { All (λ source. H.Src.fault_count source ≡ 0) sources.items }
-    ensures done { OnOk result (FoundAll find.now (H.files shelf.old) (H.disk_history shelf.old)
+    ensures done { OnOk result (FindsAll find.now (H.files shelf.old) (H.disk_history shelf.old)
         (K.written out.old) (K.written out.new) (E.written err.old) (E.written err.new)) }
     ensures accepted { OnOk result (IfFound find.now (H.files shelf.old)
         (H.disk_history shelf.old) (IsFindAccepted find.now)) }
-    ensures prefix { OnErr result (FoundSome find.now (H.files shelf.old)
+    ensures prefix { OnErr result (FindsSome find.now (H.files shelf.old)
         (H.disk_history shelf.old) (K.written out.old) (K.written out.new)) }
     ensures listed { IfErr result (λ halt. IsReport halt
-        → FoundListing find.now (H.files shelf.old) (H.disk_history shelf.old)
+        → FindsListing find.now (H.files shelf.old) (H.disk_history shelf.old)
         (K.written out.old) (K.written out.new)) }
     ensures untouched { IfErr result (λ halt. IsRefusal halt → out.new ≡ out.old) }
     ensures quiet { IfErr result (λ halt. TellsNothing halt → err.new ≡ err.old) }
@@ -261,10 +261,10 @@ fn run_shards<'a, R: Threads + Wait + Sync, H: Shelf, K: Sink, E: Sink, W: Gate 
         × (H.disk_fault_count shelf.new ≡ H.disk_fault_count shelf.old)
         × (H.disk_plan shelf.new ≡ H.disk_plan shelf.old) }
     ensures moments { find.now.checkpoint ≢ None
-        → Told (KeepsCuts find.now (H.files shelf.old) (K.written out.old) (K.written out.new))
+        → DiskTells (KeepsCuts find.now (H.files shelf.old) (K.written out.old) (K.written out.new))
         (H.disk_history shelf.old) (H.disk_history shelf.new) }
     ensures cut_kept { IfErr result (λ halt. IsRefusal halt
-        → Told (Goes NoMore) (H.disk_history shelf.old) (H.disk_history shelf.new)) }
+        → DiskTells (Goes NoMore) (H.disk_history shelf.old) (H.disk_history shelf.new)) }
 {
     puts_go_on();
     disks_hold_one_thing();
@@ -299,14 +299,14 @@ pub fn find_matches<'a, R: Threads + Wait + Sync, H: Shelf, K: Sink, E: Sink, W:
     requires { FindBounds find.now }
 
     // What was written.
-    ensures done { OnOk result (FoundAll find.now (H.files shelf.old) (H.disk_history shelf.old)
+    ensures done { OnOk result (FindsAll find.now (H.files shelf.old) (H.disk_history shelf.old)
         (K.written out.old) (K.written out.new) (E.written err.old) (E.written err.new)) }
     ensures accepted { OnOk result (IfFound find.now (H.files shelf.old)
         (H.disk_history shelf.old) (IsFindAccepted find.now)) }
-    ensures prefix { OnErr result (FoundSome find.now (H.files shelf.old)
+    ensures prefix { OnErr result (FindsSome find.now (H.files shelf.old)
         (H.disk_history shelf.old) (K.written out.old) (K.written out.new)) }
     ensures listed { IfErr result (λ halt. IsReport halt
-        → FoundListing find.now (H.files shelf.old) (H.disk_history shelf.old)
+        → FindsListing find.now (H.files shelf.old) (H.disk_history shelf.old)
         (K.written out.old) (K.written out.new)) }
     ensures untouched { IfErr result (λ halt. IsRefusal halt → out.new ≡ out.old) }
     ensures quiet { IfErr result (λ halt. TellsNothing halt → err.new ≡ err.old) }
@@ -346,10 +346,10 @@ pub fn find_matches<'a, R: Threads + Wait + Sync, H: Shelf, K: Sink, E: Sink, W:
         × (H.disk_fault_count shelf.new ≡ H.disk_fault_count shelf.old)
         × (H.disk_plan shelf.new ≡ H.disk_plan shelf.old) }
     ensures moments { find.now.checkpoint ≢ None
-        → Told (KeepsCuts find.now (H.files shelf.old) (K.written out.old) (K.written out.new))
+        → DiskTells (KeepsCuts find.now (H.files shelf.old) (K.written out.old) (K.written out.new))
         (H.disk_history shelf.old) (H.disk_history shelf.new) }
     ensures cut_kept { IfErr result (λ halt. IsRefusal halt
-        → Told (Goes NoMore) (H.disk_history shelf.old) (H.disk_history shelf.new)) }
+        → DiskTells (Goes NoMore) (H.disk_history shelf.old) (H.disk_history shelf.new)) }
 {
     let planning = match read_plan(alloc, find, shelf) {
         Ok(planning) => planning,

@@ -3,11 +3,11 @@ ghost use Rattle.std.specs.Prelude.{◌≡◌, ◌≢◌, ◌≤◌, ◌-◌, Al
 ghost use Rattle.eql_outside.specs.Unfailing.{IsUnfailing};
 ghost use Rattle.eql_outside.specs.Faults.{SameFaults};
 ghost use Rattle.eql_lane.specs.Slacks.{greatest_slack_ms};
-ghost use Rattle.eql_lane.specs.Starts.{MayStart, Refused, cut_of, wanted_of};
+ghost use Rattle.eql_lane.specs.Starts.{MayStart, IsNotMade, cut_of, wanted_of};
 ghost use Rattle.eql_stages.specs.Judging.{reads_by};
 ghost use Rattle.eql_stages.specs.Planned.{line_of, planned};
 ghost use Rattle.eql_inputs.specs.Shelves.{KeepsShelf};
-ghost use Rattle.eql_find.specs.Lanes.{AreOver, CameBack, Halted, IsOver, StoppedMaking, lane_returned, returned};
+ghost use Rattle.eql_find.specs.Lanes.{AreOver, CameBack, StopsAmong, IsOver, StopsMaking, lane_returned, returned};
 
 use eql_lane::{Lane, LaneRefused, LaneStart};
 use eql_outside::{Shelf, Source, faults_are_counted_by_name};
@@ -36,7 +36,7 @@ fn lane_over<S: Source>(
     requires start { MayStart start }
     ensures made { IfOk result (IsOver S.left S.lent_as S.fault_count S.fault_plan reads_by
         (line_of (planned plan.now)) slack shard source start) }
-    ensures refused { IfErr result (λ refused. Refused S.left S.lent_as S.fault_count
+    ensures refused { IfErr result (λ refused. IsNotMade S.left S.lent_as S.fault_count
         (cut_of start) (wanted_of start) source refused.0 refused.1) }
     ensures unfailing { IsUnfailing (S.fault_plan source)
         → IfErr result (λ refused. refused.0 ≢ LaneRefused.Failed) }
@@ -107,7 +107,7 @@ fn fill_lanes<H: Shelf>(
         × AreOver H.Src.left H.Src.lent_as H.Src.fault_count H.Src.fault_plan reads_by
         (line_of (planned plan.now)) slack 0
         (reverse sources.old.items) starts.items lanes.new.items) }
-    ensures stopped { IfErr result (λ stop. Halted H.Src.left H.Src.lent_as H.Src.fault_count
+    ensures stopped { IfErr result (λ stop. StopsAmong H.Src.left H.Src.lent_as H.Src.fault_count
         H.Src.fault_plan reads_by (line_of (planned plan.now)) slack stop.why stop.shard
         (reverse sources.old.items) (reverse sources.new.items) starts.items lanes.new.items
         (H.fault_count shelf.old) (H.fault_count shelf.new)
@@ -160,7 +160,7 @@ pub(crate) fn make_lanes<H: Shelf>(
     ensures made { IfOk result (λ lanes. AreOver H.Src.left H.Src.lent_as H.Src.fault_count
         H.Src.fault_plan reads_by (line_of (planned plan.now)) slack 0
         sources.items starts.items lanes.items) }
-    ensures stopped { IfErr result (λ stop. StoppedMaking H.Src.left H.Src.lent_as
+    ensures stopped { IfErr result (λ stop. StopsMaking H.Src.left H.Src.lent_as
         H.Src.fault_count H.Src.fault_plan stop.why stop.shard sources.items starts.items
         (H.fault_count shelf.old) (H.fault_count shelf.new)
         (H.faults_of shelf.old) (H.faults_of shelf.new)) }

@@ -20,8 +20,8 @@ ghost use Rattle.eql_lane.specs.Slacks.{nanos_of};
 ghost use Rattle.eql_words.specs.Bounds.{FindBounds};
 ghost use Rattle.eql_find.specs.Halts.{DiskAs, ErrAs, IsFault, IsReport, OutAs, TellsNothing};
 ghost use Rattle.eql_find.specs.Lanes.{StaysSource};
-ghost use Rattle.eql_find.specs.Running.{AreSearched, BeginsRun, BeyondOn, Started, every_asked, plan_in};
-ghost use Rattle.eql_find.specs.Searching.{AreCutsOf, KeepsAs, LaneFaults, StartsOn, StoppedLanes, bare, places_in, rules_in, search_in};
+ghost use Rattle.eql_find.specs.Running.{AreSearched, BeginsRun, BeyondOn, StartsOver, every_asked, plan_in};
+ghost use Rattle.eql_find.specs.Searching.{AreCutsOf, KeepsAs, LaneFaults, StartsOn, LanesStop, bare, places_in, rules_in, search_in};
 ghost use Rattle.eql_find.specs.Starting.{pipes_of};
 ghost use Rattle.eql_find.specs.Stops.{MayStop};
 
@@ -232,26 +232,26 @@ pub(crate) fn run_lanes<
 
     // What is said of texts holds where they are told, and what the run begins with is nothing, or a cut of them.
     ensures done { OnOk result (IfSome told (λ texts.
-        Started told find.now planning.now lanes.old.items rest texts
+        StartsOver told find.now planning.now lanes.old.items rest texts
         → WroteAll (rest_of (search_in find.now planning.now) rest.book.listed texts)
         (K.written out.old) (K.written out.new)
         × WroteAll (report_of (search_in find.now planning.now) texts)
         (E.written err.old) (E.written err.new))) }
     ensures prefix { OnErr result (IfSome told (λ texts.
-        Started told find.now planning.now lanes.old.items rest texts
+        StartsOver told find.now planning.now lanes.old.items rest texts
         → WroteFront (rest_of (search_in find.now planning.now) rest.book.listed texts)
         (K.written out.old) (K.written out.new))) }
     ensures listed { IfErr result (λ halt. IsReport halt → IfSome told (λ texts.
-        Started told find.now planning.now lanes.old.items rest texts
+        StartsOver told find.now planning.now lanes.old.items rest texts
         → WroteAll (rest_of (search_in find.now planning.now) rest.book.listed texts)
         (K.written out.old) (K.written out.new))) }
     ensures keeps { KeepsAs D.history head rest.mark
         (AreCutsOf (search_in find.now planning.now) told rest.book.listed
         (K.written out.old) (K.written out.new)
-        (Started told find.now planning.now lanes.old.items rest)) keep.old keep.new result }
+        (StartsOver told find.now planning.now lanes.old.items rest)) keep.old keep.new result }
     ensures quiet { IfErr result (λ halt. TellsNothing halt → err.new ≡ err.old) }
-    ensures cause { IfErr result (StoppedLanes find.now (search_in find.now planning.now) told
-        (Started told find.now planning.now lanes.old.items rest)
+    ensures cause { IfErr result (LanesStop find.now (search_in find.now planning.now) told
+        (StartsOver told find.now planning.now lanes.old.items rest)
         (BeyondOn lanes.old.items) (E.written err.old) (E.written err.new)) }
     ensures lanes { AllZip (StaysSource S.left S.lent_as) lanes.old.items lanes.new.items }
     ensures faults { LaneFaults find.now result lanes.old.items lanes.new.items }

@@ -3,7 +3,7 @@ use Rattle.std.proofs.Common.{◌≡◌, ◌≤◌, ◌+◌, inl, inr, ℕ, Bool
 use Rattle.std.proofs.lemmas.List.{append-nil}
 use Rattle.eql_turn_lock.specs.declared.view.View.{View}
 use Rattle.eql_turn_lock.specs.declared.refused.NotNow.TheVariants.{Busy, Worn}
-use Rattle.eql_turn_lock.specs.Calls.{IsUnplayed, MetIdle, PlaysOnce, Refuses}
+use Rattle.eql_turn_lock.specs.Calls.{IsUnplayed, MeetsIdle, PlaysOnce, Refuses}
 use Rattle.eql_turn_lock.specs.History.{StartsWith, entry}
 use Rattle.eql_hub.specs.Later.{IsLater}
 use Rattle.eql_hands.specs.Growth.{HasLooked, HasMineWithin}
@@ -108,7 +108,7 @@ module _ {T O R : Type 0} where
   step_worn v w op back word (same, is, great, looked) = unplayed v w is.0 is.1 is.2 is.3 is.4 is.5 (word ∷ [], looked)
 
   -- the last reply was idle, and nothing was played
-  module _ (step_of : T → O → R → T → Type 0) (is_idle : R → Bool) (v w : View T O R) (met : MetIdle step_of is_idle v w) where
+  module _ (step_of : T → O → R → T → Type 0) (is_idle : R → Bool) (v w : View T O R) (met : MeetsIdle step_of is_idle v w) where
     pub step_idle : IsUnplayed v w → IsStep v w
     step_idle is = unplayed v w is.0 is.1 is.2 is.3 is.4 is.5 (met.word ∷ [], met.looked_is)
 

@@ -12,7 +12,7 @@ use Rattle.eql_hub.specs.Hands.{HandView}
 use Rattle.eql_hub.specs.Later.{IsLater}
 use Rattle.eql_hub.specs.Steps.{Steps}
 use Rattle.eql_hands.specs.Growth.{AreLater, HasLooked, HasMineWithin, DidEnough, HaveLooked, HaveMineWithin, mine_of}
-use Rattle.eql_hands.specs.Runs.{MeetsFault, Played, Ran, fault_of, goes_on, idle_of}
+use Rattle.eql_hands.specs.Runs.{MeetsFault, PlaysSteps, Ran, fault_of, goes_on, idle_of}
 use Rattle.eql_hands.proofs.Passes.{IsStep, later_on, later_same, looked_grows}
 use Rattle.eql_hands.proofs.Places.{each_as, each_on, each_same}
 use Rattle.eql_hands.proofs.Stepping.{fed_adds, nothing_looks, steps_are, steps_keep, turned_adds}
@@ -49,7 +49,7 @@ stops_for most_idle most_steps dids none stops = elim (and_cases (is_none (fault
 ]
 
 module _ {S L : Type 0} (left lent_as : S → Option (List ℕ)) (fault_plan : S → Option FaultPlan) (read_of : L → Reads) (batch most_idle most_steps : ℕ) where
-  pub played_later : (dids : List Did) (old new : HandView S L) → Played left lent_as fault_plan read_of batch most_idle most_steps dids old new → AreLater old new
+  pub played_later : (dids : List Did) (old new : HandView S L) → PlaysSteps left lent_as fault_plan read_of batch most_idle most_steps dids old new → AreLater old new
   played_later [] old new e = record {
     lanes = each_same IsLater old.lanes.views new.lanes.views later_same (ap (λ (h : HandView S L). h.lanes.views) e);
     parts = each_same IsLater old.parts.views new.parts.views later_same (ap (λ (h : HandView S L). h.parts.views) e);
@@ -62,7 +62,7 @@ module _ {S L : Type 0} (left lent_as : S → Option (List ℕ)) (fault_plan : S
         parts = each_on IsLater IsStep IsLater old.parts.views mid.parts.views new.parts.views (λ u v w x y. later_on u v w x y.later) a.parts s.parts;
       }
 
-  pub played_bound : (dids : List Did) (old new : HandView S L) → Played left lent_as fault_plan read_of batch most_idle most_steps dids old new
+  pub played_bound : (dids : List Did) (old new : HandView S L) → PlaysSteps left lent_as fault_plan read_of batch most_idle most_steps dids old new
       → HaveMineWithin (length dids) old new
   played_bound [] old new e = record {
     lanes = each_same (HasMineWithin 0) old.lanes.views new.lanes.views (λ v w e. let m = ap (λ (u : _). length u.mine) e in omega (arith, m)) (ap (λ (h : HandView S L). h.lanes.views) e);
@@ -84,7 +84,7 @@ module _ {S L : Type 0} (left lent_as : S → Option (List ℕ)) (fault_plan : S
     parts = each_as IsLater (HasLooked 0) old.parts.views new.parts.views (λ v w l. let g = looked_grows v w l in omega (arith, g)) a.parts;
   }
 
-  pub played_looked : (dids : List Did) (old new : HandView S L) → Played left lent_as fault_plan read_of batch most_idle most_steps dids old new
+  pub played_looked : (dids : List Did) (old new : HandView S L) → PlaysSteps left lent_as fault_plan read_of batch most_idle most_steps dids old new
       → HaveLooked (idle_of dids) old new
   played_looked [] old new e = later_looked old new (played_later [] old new e)
   played_looked (did.Nothing ∷ before) old new (on, mid, played, step) =
@@ -100,7 +100,7 @@ module _ {S L : Type 0} (left lent_as : S → Option (List ℕ)) (fault_plan : S
   played_looked (did.Turned part ∷ before) old new p = later_looked old new (played_later (did.Turned part ∷ before) old new p)
   played_looked (did.Fault fault ∷ before) old new p = later_looked old new (played_later (did.Fault fault ∷ before) old new p)
 
-  pub played_adds : (dids : List Did) (old new : HandView S L) → Played left lent_as fault_plan read_of batch most_idle most_steps dids old new
+  pub played_adds : (dids : List Did) (old new : HandView S L) → PlaysSteps left lent_as fault_plan read_of batch most_idle most_steps dids old new
       → mine_of old + done_of dids ≤ mine_of new
   played_adds [] old new e = let m = ap mine_of e in omega (arith, m)
   played_adds (did.Nothing ∷ before) old new (on, mid, played, step) =
@@ -120,13 +120,13 @@ module _ {S L : Type 0} (left lent_as : S → Option (List ℕ)) (fault_plan : S
       let s = steps_keep left lent_as fault_plan read_of batch mid new (steps_are left lent_as fault_plan read_of batch (did.Fault fault) mid new step) in
       omega (arith, a, s)
 
-  pub played_within : (dids : List Did) (old new : HandView S L) → Played left lent_as fault_plan read_of batch most_idle most_steps dids old new → length dids ≤ most_steps
+  pub played_within : (dids : List Did) (old new : HandView S L) → PlaysSteps left lent_as fault_plan read_of batch most_idle most_steps dids old new → length dids ≤ most_steps
   played_within [] old new e = omega arith
   played_within (answer ∷ before) old new p = let s = (goes most_idle most_steps before p.0).steps in omega (arith, s)
 
 module _ {S L : Type 0} (left lent_as : S → Option (List ℕ)) (fault_plan : S → Option FaultPlan) (read_of : L → Reads) (batch most_steps : ℕ) where
   -- between two steps that did something fewer than 100,000 found nothing to do
-  played_count : (dids : List Did) (old new : HandView S L) → Played left lent_as fault_plan read_of batch 100000 most_steps dids old new
+  played_count : (dids : List Did) (old new : HandView S L) → PlaysSteps left lent_as fault_plan read_of batch 100000 most_steps dids old new
       → is_none (fault_of dids) ≡ true → length dids ≤ 100000 * done_of dids + idle_of dids
   played_count [] old new e none = omega arith
   played_count (did.Nothing ∷ before) old new (on, mid, played, step) none =
@@ -159,7 +159,7 @@ have_within entries most old new within a = record {
 
 module _ {S L : Type 0} (left lent_as : S → Option (List ℕ)) (fault_plan : S → Option FaultPlan) (read_of : L → Reads) (batch : ℕ) where
   -- it looked long enough, or so many steps did something
-  rests_by : (dids : List Did) (old new : HandView S L) → Played left lent_as fault_plan read_of batch 100000 (2 ^ 40) dids old new
+  rests_by : (dids : List Did) (old new : HandView S L) → PlaysSteps left lent_as fault_plan read_of batch 100000 (2 ^ 40) dids old new
       → length dids ≤ 100000 * done_of dids + idle_of dids
       → (idle_of dids < 100000) ⊎ (100000 ≤ idle_of dids) → (100000 ≤ idle_of dids) ⊎ (2 ^ 40 ≤ length dids) → DidEnough 100000 10000000 old new
   rests_by dids old new played count (inr idle) why =
@@ -188,7 +188,7 @@ module _ {S L : Type 0} (left lent_as : S → Option (List ℕ)) (fault_plan : S
       (played_bound left lent_as fault_plan read_of batch most_idle most_steps ran.dids old new ran.played)
 
   -- the latest step met the fault
-  meets : (dids : List Did) (f : HandFault) (old new : HandView S L) → Played left lent_as fault_plan read_of batch most_idle most_steps dids old new
+  meets : (dids : List Did) (f : HandFault) (old new : HandView S L) → PlaysSteps left lent_as fault_plan read_of batch most_idle most_steps dids old new
       → Some f ≡ fault_of dids → MeetsFault left lent_as fault_plan read_of batch most_idle most_steps f old new
   meets [] f old new played told = absurd (none-some f (sym told))
   meets (did.Nothing ∷ before) f old new played told = absurd (none-some f (sym told))
@@ -211,7 +211,7 @@ module _ {S L : Type 0} (left lent_as : S → Option (List ℕ)) (fault_plan : S
   -- how far a hand has come that is to go on
   pub record Going (steps idle : ℕ) (old new : HandView S L) : Type 0 where
     pub dids : List Did
-    pub played : Played left lent_as fault_plan read_of batch most_idle most_steps dids old new
+    pub played : PlaysSteps left lent_as fault_plan read_of batch most_idle most_steps dids old new
     pub no_fault : is_none (fault_of dids) ≡ true
     pub steps_are : length dids ≡ steps
     pub idle_is : idle_of dids ≡ idle

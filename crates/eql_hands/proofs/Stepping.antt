@@ -10,7 +10,7 @@ use Rattle.eql_hub.specs.declared.step.Did.{Did}
 use Rattle.eql_hub.specs.declared.step.Did.TheVariants as did
 use Rattle.eql_hub.specs.declared.step.HandFault.TheVariants as fault
 use Rattle.eql_hub.specs.Hands.{HandView, LaneKnown, PartKnown}
-use Rattle.eql_hub.specs.Steps.{EachPlace, LaneEnded, LaneEnds, LaneIdle, LaneQuiet, PartEnded, PartEnds, PartIdle, PartQuiet, Steps}
+use Rattle.eql_hub.specs.Steps.{EachPlace, StepEndsAtLane, LaneEnds, LaneIdle, LaneQuiet, StepEndsAtPart, PartEnds, PartIdle, PartQuiet, Steps}
 use Rattle.eql_hub.specs.Turns.{LaneTurn, PartTurn, is_idle_lane, is_idle_part, is_open_lane, is_open_part}
 use Rattle.eql_hands.specs.Growth.{EachPass, HasLooked, HaveLooked, mine_in, mine_of}
 use Rattle.eql_hands.proofs.Passes.{IsStep, busy_looked, idle_looked, mine_grows, played_looked, played_one, step_busy, step_idle, step_played, step_same, step_worn}
@@ -77,14 +77,14 @@ module _ {S L : Type 0} (left lent_as : S → Option (List ℕ)) (fault_plan : S
 
   -- ---- the whole step
   module _ (answer : Did) (old new : HandView S L) where
-    lane_ended_steps : LaneEnded left lent_as fault_plan read_of batch answer old new → AreSteps old new
+    lane_ended_steps : StepEndsAtLane left lent_as fault_plan read_of batch answer old new → AreSteps old new
     lane_ended_steps e = record {
       lanes = each_at IsStep e.lane old.lanes.views new.lanes.views e.before e.after e.count e.was e.is (lane_ends_step answer e.lane e.before e.after e.ends)
           (λ k v w apart at is. lane_quiet_step v w (e.others k v w apart at is));
       parts = each_as (PartQuiet batch) IsStep old.parts.views new.parts.views (part_quiet_step batch) e.parts;
     }
 
-    part_ended_steps : PartEnded left lent_as fault_plan read_of batch answer old new → AreSteps old new
+    part_ended_steps : StepEndsAtPart left lent_as fault_plan read_of batch answer old new → AreSteps old new
     part_ended_steps e = record {
       lanes = each_as (LaneQuiet left lent_as fault_plan read_of batch) IsStep old.lanes.views new.lanes.views lane_quiet_step e.lanes;
       parts = each_at IsStep e.part old.parts.views new.parts.views e.before e.after e.count e.was e.is (part_ends_step batch answer e.part e.before e.after e.ends)

@@ -30,15 +30,15 @@ goes_on most_idle most_steps dids = is_none (fault_of dids) && (nat_lt (idle_of 
 
 module _ {S L : Type 0} (left lent_as : S → Option (List ℕ)) (fault_plan : S → Option FaultPlan) (read_of : L → Reads) (batch most_idle most_steps : ℕ) where
   -- steps with these answers led from one hand to the other, and before each of them the hand was to go on
-  abbrev pub Played : List Did → HandView S L → HandView S L → Type 0
-  Played [] old new = new ≡ old
-  Played (answer ∷ before) old new =
-      (goes_on most_idle most_steps before ≡ true) × (mid : HandView S L) × Played before old mid × Steps left lent_as fault_plan read_of batch answer mid new
+  abbrev pub PlaysSteps : List Did → HandView S L → HandView S L → Type 0
+  PlaysSteps [] old new = new ≡ old
+  PlaysSteps (answer ∷ before) old new =
+      (goes_on most_idle most_steps before ≡ true) × (mid : HandView S L) × PlaysSteps before old mid × Steps left lent_as fault_plan read_of batch answer mid new
 
   -- a run of a hand: it did steps for as long as it was to go on, and returns the fault that the last one met
   pub record Ran (answer : Option HandFault) (old new : HandView S L) : Type 0 where
     pub dids : List Did
-    pub played : Played dids old new
+    pub played : PlaysSteps dids old new
     pub stops : goes_on most_idle most_steps dids ≡ false
     pub told : answer ≡ fault_of dids
 
@@ -46,6 +46,6 @@ module _ {S L : Type 0} (left lent_as : S → Option (List ℕ)) (fault_plan : S
   pub record MeetsFault (fault : HandFault) (old new : HandView S L) : Type 0 where
     pub mid : HandView S L
     pub dids : List Did
-    pub played : Played dids old mid
+    pub played : PlaysSteps dids old mid
     pub goes : goes_on most_idle most_steps dids ≡ true
     pub last : Steps left lent_as fault_plan read_of batch (did.Fault fault) mid new

@@ -17,7 +17,7 @@ use Rattle.eql_hub.specs.declared.step.Did.{Did}
 use Rattle.eql_hub.specs.declared.step.Did.TheVariants as did
 use Rattle.eql_hub.specs.declared.step.HandFault.TheVariants as fault
 use Rattle.eql_hub.specs.Hands.{HandView, LaneKnown, PartKnown}
-use Rattle.eql_hub.specs.Steps.{EachPlace, LaneEnded, LaneEnds, LaneIdle, LaneQuiet, OneMore, OneMoreEach, PartEnded, PartEnds, PartIdle, PartQuiet, Steps}
+use Rattle.eql_hub.specs.Steps.{EachPlace, StepEndsAtLane, LaneEnds, LaneIdle, LaneQuiet, OneMore, OneMoreEach, StepEndsAtPart, PartEnds, PartIdle, PartQuiet, Steps}
 use Rattle.eql_hub.specs.Turns.{LaneTurn, PartTurn, is_open_lane, is_open_part}
 use Rattle.eql_hub.proofs.Sweeping.{same_or}
 
@@ -93,14 +93,14 @@ module _ {S L : Type 0} (left lent_as : S → Option (List ℕ)) (fault_plan : S
   lane_ends_more (did.Turned part) place v w h = absurd h
   lane_ends_more did.Nothing place v w h = absurd h
 
-  lane_ended_more : (answer : Did) (old new : HandView S L) → LaneEnded left lent_as fault_plan read_of batch answer old new → OneMoreEach old new
+  lane_ended_more : (answer : Did) (old new : HandView S L) → StepEndsAtLane left lent_as fault_plan read_of batch answer old new → OneMoreEach old new
   lane_ended_more answer old new e = record {
     lanes = more_places e.lane old.lanes.views new.lanes.views e.before e.after e.count e.was e.is (lane_ends_more answer e.lane e.before e.after e.ends)
         (λ k v w apart at is. lane_quiet_more v w (e.others k v w apart at is));
     parts = record { count = e.parts.count; each = λ k v w at is. part_quiet_more batch v w (e.parts.each k v w at is) };
   }
 
-  part_ended_more : (answer : Did) (old new : HandView S L) → PartEnded left lent_as fault_plan read_of batch answer old new → OneMoreEach old new
+  part_ended_more : (answer : Did) (old new : HandView S L) → StepEndsAtPart left lent_as fault_plan read_of batch answer old new → OneMoreEach old new
   part_ended_more answer old new e = record {
     lanes = record { count = e.lanes.count; each = λ k v w at is. lane_quiet_more v w (e.lanes.each k v w at is) };
     parts = more_places e.part old.parts.views new.parts.views e.before e.after e.count e.was e.is (part_ends_more batch answer e.part e.before e.after e.ends)

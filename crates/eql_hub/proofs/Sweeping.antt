@@ -11,8 +11,8 @@ use Rattle.eql_lock_row.proofs.Places.{all_set, else_there, here}
 use Rattle.eql_hub.specs.declared.step.Did.{Did}
 use Rattle.eql_hub.specs.declared.step.Did.TheVariants as did
 use Rattle.eql_hub.specs.Hands.{HandView, Knows, LaneKnown, PartKnown}
-use Rattle.eql_hub.specs.Steps.{LaneEnded, LaneEnds, LaneIdle, LaneQuiet, PartEnded, PartEnds, PartIdle, PartQuiet, Steps}
-use Rattle.eql_hub.specs.Sweeps.{EndsAt, EndsAtLane, EndsAtPart, Passed, StopsAt, Swept, TriesPlace, did_in}
+use Rattle.eql_hub.specs.Steps.{StepEndsAtLane, LaneEnds, LaneIdle, LaneQuiet, StepEndsAtPart, PartEnds, PartIdle, PartQuiet, Steps}
+use Rattle.eql_hub.specs.Sweeps.{EndsAt, EndsAtLane, EndsAtPart, PassesPlaces, StopsAt, SweepEnds, TriesPlace, did_in}
 use Rattle.eql_hub.specs.Turns.{LaneTurn, PartTurn, is_open_lane, is_open_part}
 
 -- a number below another, or not
@@ -47,7 +47,7 @@ module _ {X : Type 0} {Changes : X → X → Type 0} (place : ℕ) (old new : Li
   changed_all P tells all = subst (All P) (sym c.is) (all_set P old place c.after all (tells c.before c.after c.changes))
 
 module _ {S L : Type 0} (left lent_as : S → Option (List ℕ)) (fault_plan : S → Option FaultPlan) (read_of : L → Reads) (batch n : ℕ) where
-  pub passed_none : (from : ℕ) (old : HandView S L) → Passed left lent_as fault_plan read_of batch n from from old old
+  pub passed_none : (from : ℕ) (old : HandView S L) → PassesPlaces left lent_as fault_plan read_of batch n from from old old
   passed_none from old = record {
     lane_locks = refl;
     part_locks = refl;
@@ -61,8 +61,8 @@ module _ {S L : Type 0} (left lent_as : S → Option (List ℕ)) (fault_plan : S
   }
 
   -- one place after others
-  pub passed_on : (from mid to : ℕ) (a b c : HandView S L) → from ≤ mid → mid ≤ to → Passed left lent_as fault_plan read_of batch n from mid a b
-      → Passed left lent_as fault_plan read_of batch n mid to b c → Passed left lent_as fault_plan read_of batch n from to a c
+  pub passed_on : (from mid to : ℕ) (a b c : HandView S L) → from ≤ mid → mid ≤ to → PassesPlaces left lent_as fault_plan read_of batch n from mid a b
+      → PassesPlaces left lent_as fault_plan read_of batch n mid to b c → PassesPlaces left lent_as fault_plan read_of batch n from to a c
   passed_on from mid to a b c before after h k = record {
     lane_locks = k.lane_locks ∙ h.lane_locks;
     part_locks = k.part_locks ∙ h.part_locks;
@@ -177,7 +177,7 @@ module _ {S L : Type 0} (left lent_as : S → Option (List ℕ)) (fault_plan : S
   same_view : {X : Type 0} (old new : List X) (k : ℕ) (v w : X) → slice_get new k ≡ slice_get old k → slice_get old k ≡ Some v → slice_get new k ≡ Some w → w ≡ v
   same_view old new k v w e at is = same_Some w v (sym is ∙ (e ∙ at))
 
-  lane_passed : (from to : ℕ) (old mid : HandView S L) → Passed left lent_as fault_plan read_of batch n from to old mid
+  lane_passed : (from to : ℕ) (old mid : HandView S L) → PassesPlaces left lent_as fault_plan read_of batch n from to old mid
       → (k : ℕ) (v w : LaneKnown S L) → k < n → slice_get old.lanes.views k ≡ Some v → slice_get mid.lanes.views k ≡ Some w → LaneQuiet left lent_as fault_plan read_of batch v w
   lane_passed from to old mid h k v w inside at is = elim (below_or k from) [
     | inl low ↦ inl (same_view old.lanes.views mid.lanes.views k v w (h.lanes_out k (inl low)) at is)
@@ -187,7 +187,7 @@ module _ {S L : Type 0} (left lent_as : S → Option (List ℕ)) (fault_plan : S
     ]
   ]
 
-  part_passed : (from to : ℕ) (old mid : HandView S L) → Passed left lent_as fault_plan read_of batch n from to old mid
+  part_passed : (from to : ℕ) (old mid : HandView S L) → PassesPlaces left lent_as fault_plan read_of batch n from to old mid
       → (k : ℕ) (v w : PartKnown) → slice_get old.parts.views k ≡ Some v → slice_get mid.parts.views k ≡ Some w → PartQuiet batch v w
   part_passed from to old mid h k v w at is = elim (below_or (n + k) from) [
     | inl low ↦ inl (same_view old.parts.views mid.parts.views k v w (h.parts_out k (inl low)) at is)
@@ -197,7 +197,7 @@ module _ {S L : Type 0} (left lent_as : S → Option (List ℕ)) (fault_plan : S
     ]
   ]
 
-  quiet_once : (from place : ℕ) (old mid : HandView S L) → Passed left lent_as fault_plan read_of batch n from place old mid → QuietBut place old mid
+  quiet_once : (from place : ℕ) (old mid : HandView S L) → PassesPlaces left lent_as fault_plan read_of batch n from place old mid → QuietBut place old mid
   quiet_once from place old mid h = record {
     lane_count = h.lane_count;
     part_count = h.part_count;
@@ -208,8 +208,8 @@ module _ {S L : Type 0} (left lent_as : S → Option (List ℕ)) (fault_plan : S
   }
 
   -- from a place to the end, and then from the beginning on
-  quiet_twice : (start count place : ℕ) (old u mid : HandView S L) → place < start → Passed left lent_as fault_plan read_of batch n start count old u
-      → Passed left lent_as fault_plan read_of batch n 0 place u mid → QuietBut place old mid
+  quiet_twice : (start count place : ℕ) (old u mid : HandView S L) → place < start → PassesPlaces left lent_as fault_plan read_of batch n start count old u
+      → PassesPlaces left lent_as fault_plan read_of batch n 0 place u mid → QuietBut place old mid
   quiet_twice start count place old u mid before h k = record {
     lane_count = k.lane_count ∙ h.lane_count;
     part_count = k.part_count ∙ h.part_count;
@@ -225,20 +225,20 @@ module _ {S L : Type 0} (left lent_as : S → Option (List ℕ)) (fault_plan : S
     part_same = λ j e. k.parts_out j (inr (omega (arith, e))) ∙ h.parts_out j (inl (omega (arith, e, before)));
   }
 
-  lane_steps : (answer : Did) (old new : HandView S L) → LaneEnded left lent_as fault_plan read_of batch answer old new → Steps left lent_as fault_plan read_of batch answer old new
+  lane_steps : (answer : Did) (old new : HandView S L) → StepEndsAtLane left lent_as fault_plan read_of batch answer old new → Steps left lent_as fault_plan read_of batch answer old new
   lane_steps (did.Fed lane) old new ended = ended
   lane_steps (did.Turned part) old new ended = absurd ended.ends
   lane_steps did.Nothing old new ended = absurd ended.ends
   lane_steps (did.Fault f) old new ended = inl ended
 
-  part_steps : (answer : Did) (old new : HandView S L) → PartEnded left lent_as fault_plan read_of batch answer old new → Steps left lent_as fault_plan read_of batch answer old new
+  part_steps : (answer : Did) (old new : HandView S L) → StepEndsAtPart left lent_as fault_plan read_of batch answer old new → Steps left lent_as fault_plan read_of batch answer old new
   part_steps (did.Fed lane) old new ended = absurd ended.ends
   part_steps (did.Turned part) old new ended = ended
   part_steps did.Nothing old new ended = absurd ended.ends
   part_steps (did.Fault f) old new ended = inr ended
 
   lane_ended : (place : ℕ) (answer : Did) (old mid new : HandView S L) → length old.lanes.views ≡ n → place < n → QuietBut place old mid
-      → EndsAtLane left lent_as fault_plan read_of batch place answer mid new → LaneEnded left lent_as fault_plan read_of batch answer old new
+      → EndsAtLane left lent_as fault_plan read_of batch place answer mid new → StepEndsAtLane left lent_as fault_plan read_of batch answer old new
   lane_ended place answer old mid new long inside quiet e = record {
     lane = place;
     before = e.changes.before;
@@ -257,7 +257,7 @@ module _ {S L : Type 0} (left lent_as : S → Option (List ℕ)) (fault_plan : S
   }
 
   part_ended : (place part : ℕ) (answer : Did) (old mid new : HandView S L) → length old.lanes.views ≡ n → place ≡ n + part → QuietBut place old mid
-      → EndsAtPart left lent_as fault_plan read_of batch part answer mid new → PartEnded left lent_as fault_plan read_of batch answer old new
+      → EndsAtPart left lent_as fault_plan read_of batch part answer mid new → StepEndsAtPart left lent_as fault_plan read_of batch answer old new
   part_ended place part answer old mid new long inside quiet e = record {
     part = part;
     before = e.changes.before;
@@ -295,7 +295,7 @@ module _ {S L : Type 0} (left lent_as : S → Option (List ℕ)) (fault_plan : S
     }
   ]
 
-  pub swept_knowing : (from to : ℕ) (swept : Option (ℕ × Did)) (old new : HandView S L) → Swept left lent_as fault_plan read_of batch n from to swept old new
+  pub swept_knowing : (from to : ℕ) (swept : Option (ℕ × Did)) (old new : HandView S L) → SweepEnds left lent_as fault_plan read_of batch n from to swept old new
       → Knows left lent_as fault_plan read_of old → Knows left lent_as fault_plan read_of new
   swept_knowing from to None old new h know = h.knows know
   swept_knowing from to (Some (place, answer)) old new h know = ends_knowing place answer h.mid new h.ends (h.passed.knows know)
@@ -306,16 +306,16 @@ module _ {S L : Type 0} (left lent_as : S → Option (List ℕ)) (fault_plan : S
   stopped_first start count place answer old new long h = ended place answer old h.mid new long (quiet_once start place old h.mid h.passed) h.ends
 
   pub swept_first : (start count : ℕ) (found : ℕ × Did) (old new : HandView S L) → length old.lanes.views ≡ n
-      → Swept left lent_as fault_plan read_of batch n start count (Some found) old new → Steps left lent_as fault_plan read_of batch (did_in (Some found)) old new
+      → SweepEnds left lent_as fault_plan read_of batch n start count (Some found) old new → Steps left lent_as fault_plan read_of batch (did_in (Some found)) old new
   swept_first start count (place, answer) old new long h = stopped_first start count place answer old new long h
 
-  pub ended_within : (from to : ℕ) (found : ℕ × Did) (old new : HandView S L) → Swept left lent_as fault_plan read_of batch n from to (Some found) old new → found.0 < to
+  pub ended_within : (from to : ℕ) (found : ℕ × Did) (old new : HandView S L) → SweepEnds left lent_as fault_plan read_of batch n from to (Some found) old new → found.0 < to
   ended_within from to (place, answer) old new h = h.to_place
 
   -- it ended in the second sweep, or in none
   pub swept_second : (start count m : ℕ) (swept : Option (ℕ × Did)) (old u new : HandView S L) → length old.lanes.views ≡ n → length old.parts.views ≡ m → count ≡ n + m
-      → Passed left lent_as fault_plan read_of batch n start count old u
-      → Swept left lent_as fault_plan read_of batch n 0 start swept u new → Steps left lent_as fault_plan read_of batch (did_in swept) old new
+      → PassesPlaces left lent_as fault_plan read_of batch n start count old u
+      → SweepEnds left lent_as fault_plan read_of batch n 0 start swept u new → Steps left lent_as fault_plan read_of batch (did_in swept) old new
   swept_second start count m (Some (place, answer)) old u new long parts all h k =
       ended place answer old k.mid new long (quiet_twice start count place old u k.mid k.to_place h k.passed) k.ends
   swept_second start count m None old u new long parts all h k = record {

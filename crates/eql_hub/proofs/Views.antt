@@ -6,7 +6,7 @@ use Rattle.std.proofs.lemmas.List.Elements.{All-map}
 use Rattle.eql_turn_lock.specs.declared.view.View.{View}
 use Rattle.eql_turn_lock.specs.Calls.{Closes}
 use Rattle.eql_turn_lock.specs.Passes.{first_view}
-use Rattle.eql_lock_row.specs.Rows.{AllJoined, AreFirst}
+use Rattle.eql_lock_row.specs.Rows.{AllAreJoined, AreFirst}
 use Rattle.eql_lock_row.proofs.Walks.{all_back}
 
 module _ {T O R : Type 0} where
@@ -14,7 +14,7 @@ module _ {T O R : Type 0} where
   fresh_first xs views is =
       subst (All (λ (v : View T O R). v.number ≡ 0)) (sym is) (All-map (λ (v : View T O R). v.number ≡ 0) first_view xs (λ k d h. refl))
 
-  pub fresh_joined : (xs : List T) (views : List (View T O R)) → views ≡ map first_view xs → AllJoined views
+  pub fresh_joined : (xs : List T) (views : List (View T O R)) → views ≡ map first_view xs → AllAreJoined views
   fresh_joined xs views is =
       subst (All (λ (v : View T O R). length v.ended ≡ v.made)) (sym is) (All-map (λ (v : View T O R). length v.ended ≡ v.made) first_view xs (λ k d h. refl))
 

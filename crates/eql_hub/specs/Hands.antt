@@ -12,7 +12,7 @@ use Rattle.eql_parts.specs.declared.ops.PartReply.{PartReply}
 use Rattle.eql_parts.specs.PartSteps.{PartView}
 use Rattle.eql_turn_lock.specs.declared.view.View.{View}
 use Rattle.eql_turn_lock.specs.History.{StartsWith}
-use Rattle.eql_lock_row.specs.Rows.{AllJoined, AllKnow, AreFirst, RowView}
+use Rattle.eql_lock_row.specs.Rows.{AllAreJoined, AllKnow, AreFirst, RowView}
 use Rattle.eql_hub.specs.Turns.{LaneTurn, PartTurn, is_open_lane, is_open_part}
 
 -- what is known of a lane, and of a part, by a pass of its lock
@@ -45,8 +45,8 @@ module _ {S L : Type 0} where
 
   -- all other hands were joined into it
   pub record AreAllJoined (hand : HandView S L) : Type 0 where
-    pub lanes : AllJoined hand.lanes.views
-    pub parts : AllJoined hand.parts.views
+    pub lanes : AllAreJoined hand.lanes.views
+    pub parts : AllAreJoined hand.parts.views
 
   -- what each pass of the one has seen begins with what the pass of the other has seen
   pub record AllBegin (hand other : HandView S L) : Type 0 where

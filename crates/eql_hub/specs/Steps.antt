@@ -12,7 +12,7 @@ use Rattle.eql_parts.specs.declared.ops.PartReply.{PartReply}
 use Rattle.eql_parts.specs.declared.ops.PartReply.TheVariants as part_reply
 use Rattle.eql_turn_lock.specs.declared.view.View.{View}
 use Rattle.eql_turn_lock.specs.declared.refused.NotNow.TheVariants.{Busy, Worn}
-use Rattle.eql_turn_lock.specs.Calls.{IsUnplayed, MetIdle, PlaysOnce, Refuses}
+use Rattle.eql_turn_lock.specs.Calls.{IsUnplayed, MeetsIdle, PlaysOnce, Refuses}
 use Rattle.eql_hub.specs.declared.step.Did.{Did}
 use Rattle.eql_hub.specs.declared.step.Did.TheVariants as did
 use Rattle.eql_hub.specs.declared.step.HandFault.TheVariants as fault
@@ -43,12 +43,12 @@ abbrev pub PartBusy : (batch : ℕ) → PartKnown → PartKnown → Type 0
 PartBusy batch v w = (word : ℕ) × Refuses v (part_op.Turn batch) (Busy word (part_op.Turn batch)) w
 
 -- the part's lock is worn
-abbrev pub PartWorn : (batch : ℕ) → PartKnown → PartKnown → Type 0
-PartWorn batch v w = (word : ℕ) × Refuses v (part_op.Turn batch) (Worn word (part_op.Turn batch)) w
+abbrev pub PartIsWorn : (batch : ℕ) → PartKnown → PartKnown → Type 0
+PartIsWorn batch v w = (word : ℕ) × Refuses v (part_op.Turn batch) (Worn word (part_op.Turn batch)) w
 
 -- the lock's word counts a history whose last reply was `Idle`, and nothing was played
 abbrev pub PartMetIdle : PartKnown → PartKnown → Type 0
-PartMetIdle v w = IsUnplayed v w × MetIdle PartTurn is_idle_part v w
+PartMetIdle v w = IsUnplayed v w × MeetsIdle PartTurn is_idle_part v w
 
 -- nothing was to be done there: no event waits, or the lock was busy, or the last reply there said that no event waits
 abbrev pub PartIdle : (batch : ℕ) → PartKnown → PartKnown → Type 0
@@ -62,7 +62,7 @@ PartQuiet batch v w = (w ≡ v) ⊎ PartIdle batch v w
 abbrev pub PartEnds : (batch : ℕ) → Did → (place : ℕ) → PartKnown → PartKnown → Type 0
 PartEnds batch (did.Turned part) place v w = (part ≡ place) × ((items : ℕ) × PartAnswers batch (part_reply.Turned items) v w)
 PartEnds batch (did.Fault fault.Memory) place v w = (back : List Item) × ((items : ℕ) × PartAnswers batch (part_reply.Memory back items) v w)
-PartEnds batch (did.Fault (fault.Limit of)) place v w = (of ≡ Turns) × PartWorn batch v w
+PartEnds batch (did.Fault (fault.Limit of)) place v w = (of ≡ Turns) × PartIsWorn batch v w
 PartEnds batch (did.Fault (fault.Read shard)) place v w = ⊥
 PartEnds batch (did.Fed lane) place v w = ⊥
 PartEnds batch did.Nothing place v w = ⊥
@@ -78,12 +78,12 @@ module _ {S L : Type 0} (left lent_as : S → Option (List ℕ)) (fault_plan : S
   LaneBusy v w = (word : ℕ) × Refuses v (lane_op.Feed batch) (Busy word (lane_op.Feed batch)) w
 
   -- the lane's lock is worn
-  abbrev pub LaneWorn : LaneKnown S L → LaneKnown S L → Type 0
-  LaneWorn v w = (word : ℕ) × Refuses v (lane_op.Feed batch) (Worn word (lane_op.Feed batch)) w
+  abbrev pub LaneIsWorn : LaneKnown S L → LaneKnown S L → Type 0
+  LaneIsWorn v w = (word : ℕ) × Refuses v (lane_op.Feed batch) (Worn word (lane_op.Feed batch)) w
 
   -- the lock's word counts a history whose last reply was `Held` or `Closed`, and nothing was played
   abbrev pub LaneMetIdle : LaneKnown S L → LaneKnown S L → Type 0
-  LaneMetIdle v w = IsUnplayed v w × MetIdle (LaneTurn left lent_as fault_plan read_of) is_idle_lane v w
+  LaneMetIdle v w = IsUnplayed v w × MeetsIdle (LaneTurn left lent_as fault_plan read_of) is_idle_lane v w
 
   -- nothing was to be done there: the lane holds enough or is closed, or the lock was busy, or the last reply there said that the lane holds enough or is
   -- closed
@@ -99,18 +99,18 @@ module _ {S L : Type 0} (left lent_as : S → Option (List ℕ)) (fault_plan : S
   LaneEnds (did.Fed lane) place v w = (lane ≡ place) × ((lines : ℕ) × LaneAnswers (lane_reply.Fed lines) v w)
   LaneEnds (did.Fault (fault.Read shard)) place v w = (shard ≡ place) × ((lines : ℕ) × LaneAnswers (lane_reply.Failed lines) v w)
   LaneEnds (did.Fault fault.Memory) place v w = (lines : ℕ) × LaneAnswers (lane_reply.Memory lines) v w
-  LaneEnds (did.Fault (fault.Limit of)) place v w = LaneAnswers (lane_reply.Limit of) v w ⊎ ((of ≡ Turns) × LaneWorn v w)
+  LaneEnds (did.Fault (fault.Limit of)) place v w = LaneAnswers (lane_reply.Limit of) v w ⊎ ((of ≡ Turns) × LaneIsWorn v w)
   LaneEnds (did.Turned part) place v w = ⊥
   LaneEnds did.Nothing place v w = ⊥
 
   -- ---- the whole step
   -- nothing was to be done at any lane or part
-  pub record NothingFound (old new : HandView S L) : Type 0 where
+  pub record FindsNothing (old new : HandView S L) : Type 0 where
     pub lanes : EachPlace LaneIdle old.lanes.views new.lanes.views
     pub parts : EachPlace (PartIdle batch) old.parts.views new.parts.views
 
   -- the step ended at a lane, and nothing was to be done where it was before
-  pub record LaneEnded (answer : Did) (old new : HandView S L) : Type 0 where
+  pub record StepEndsAtLane (answer : Did) (old new : HandView S L) : Type 0 where
     pub lane : ℕ
     pub before : LaneKnown S L
     pub after : LaneKnown S L
@@ -122,7 +122,7 @@ module _ {S L : Type 0} (left lent_as : S → Option (List ℕ)) (fault_plan : S
     pub parts : EachPlace (PartQuiet batch) old.parts.views new.parts.views
 
   -- the step ended at a part
-  pub record PartEnded (answer : Did) (old new : HandView S L) : Type 0 where
+  pub record StepEndsAtPart (answer : Did) (old new : HandView S L) : Type 0 where
     pub part : ℕ
     pub before : PartKnown
     pub after : PartKnown
@@ -135,7 +135,7 @@ module _ {S L : Type 0} (left lent_as : S → Option (List ℕ)) (fault_plan : S
 
   -- what a step that answers this has done: each lane and part was tried once at most
   abbrev pub Steps : Did → HandView S L → HandView S L → Type 0
-  Steps did.Nothing old new = NothingFound old new
-  Steps (did.Fed lane) old new = LaneEnded (did.Fed lane) old new
-  Steps (did.Turned part) old new = PartEnded (did.Turned part) old new
-  Steps (did.Fault f) old new = LaneEnded (did.Fault f) old new ⊎ PartEnded (did.Fault f) old new
+  Steps did.Nothing old new = FindsNothing old new
+  Steps (did.Fed lane) old new = StepEndsAtLane (did.Fed lane) old new
+  Steps (did.Turned part) old new = StepEndsAtPart (did.Turned part) old new
+  Steps (did.Fault f) old new = StepEndsAtLane (did.Fault f) old new ⊎ StepEndsAtPart (did.Fault f) old new

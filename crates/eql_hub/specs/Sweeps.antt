@@ -65,7 +65,7 @@ did_in (Some (place, answer)) = answer
 
 module _ {S L : Type 0} (left lent_as : S → Option (List ℕ)) (fault_plan : S → Option FaultPlan) (read_of : L → Reads) (batch : ℕ) where
   -- n lanes: nothing was to be done in the places from the one up to the other, and elsewhere nothing was tried
-  pub record Passed (n from to : ℕ) (old new : HandView S L) : Type 0 where
+  pub record PassesPlaces (n from to : ℕ) (old new : HandView S L) : Type 0 where
     pub lane_locks : new.lanes.locks ≡ old.lanes.locks
     pub part_locks : new.parts.locks ≡ old.parts.locks
     pub lane_count : length new.lanes.views ≡ length old.lanes.views
@@ -100,15 +100,15 @@ module _ {S L : Type 0} (left lent_as : S → Option (List ℕ)) (fault_plan : S
     pub from_place : from ≤ place
     pub to_place : place < to
     pub mid : HandView S L
-    pub passed : Passed n from place old mid
+    pub passed : PassesPlaces n from place old mid
     pub ends : EndsAt n place answer mid new
 
   -- where a sweep ended, if it did
-  abbrev pub Swept : (n from to : ℕ) → Option (ℕ × Did) → HandView S L → HandView S L → Type 0
-  Swept n from to None old new = Passed n from to old new
-  Swept n from to (Some (place, answer)) old new = StopsAt n from to place answer old new
+  abbrev pub SweepEnds : (n from to : ℕ) → Option (ℕ × Did) → HandView S L → HandView S L → Type 0
+  SweepEnds n from to None old new = PassesPlaces n from to old new
+  SweepEnds n from to (Some (place, answer)) old new = StopsAt n from to place answer old new
 
   -- what one try did
   abbrev pub TriesPlace : (n place : ℕ) → Option Did → HandView S L → HandView S L → Type 0
-  TriesPlace n place None old new = Passed n place (place + 1) old new
+  TriesPlace n place None old new = PassesPlaces n place (place + 1) old new
   TriesPlace n place (Some answer) old new = EndsAt n place answer old new

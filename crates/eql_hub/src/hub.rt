@@ -3,7 +3,7 @@ ghost use Rattle.std.specs.Prelude.{◌≡◌, ◌<◌, ◌≤◌, ◌^◌, [], 
 ghost use Rattle.std.specs.List.{AllZip};
 ghost use Rattle.eql_turn_lock.specs.Calls.{Closes};
 ghost use Rattle.eql_turn_lock.specs.Passes.{first_view, new_view, split_view};
-ghost use Rattle.eql_lock_row.specs.Rows.{AllJoined, AllKnow, AreFirst, joined_views};
+ghost use Rattle.eql_lock_row.specs.Rows.{AllAreJoined, AllKnow, AreFirst, joined_views};
 ghost use Rattle.eql_hub.specs.Turns.{LaneTurn, PartTurn, is_open_lane, is_open_part};
 ghost use Rattle.eql_hub.specs.Hands.{AllBegin, AreAllJoined, IsFirst, IsHandOf, Knows};
 
@@ -102,7 +102,7 @@ impl<S: Source, L: LineReader> LockedLanes<S, L> {
     fn unlock(self) -> Vec<Lane<S, L>>
         requires own { self.passes.locks ≡ self.locks }
         requires first { AreFirst self.passes.views }
-        requires all_joined { AllJoined self.passes.views }
+        requires all_joined { AllAreJoined self.passes.views }
         requires empty { self.room.items ≡ [] }
         requires room { length self.locks ≤ vec_capacity self.room }
         ensures { AllZip (Closes (LaneTurn S.left S.lent_as S.fault_plan L.read_of) is_open_lane)
@@ -127,7 +127,7 @@ impl<S: Source, L: LineReader> LockedLanes<S, L> {
     ) -> Result<(Hub<S, L, G>, Hand<S, L, G>), (Memory, Vec<Lane<S, L>>)>
         requires own { self.passes.locks ≡ self.locks }
         requires first { AreFirst self.passes.views }
-        requires all_joined { AllJoined self.passes.views }
+        requires all_joined { AllAreJoined self.passes.views }
         requires knows { AllKnow (LaneTurn S.left S.lent_as S.fault_plan L.read_of) is_open_lane
             self.passes.views }
         requires empty { self.room.items ≡ [] }

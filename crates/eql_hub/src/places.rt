@@ -4,7 +4,7 @@ ghost use Rattle.eql_turn_lock.specs.Passes.{KnowsHistory};
 ghost use Rattle.eql_lock_row.specs.Rows.{ChangesAt};
 ghost use Rattle.eql_hub.specs.Hands.{IsHandOf};
 ghost use Rattle.eql_hub.specs.Steps.{LaneEnds, LaneIdle, PartEnds, PartIdle};
-ghost use Rattle.eql_hub.specs.Sweeps.{Swept, TriesPlace};
+ghost use Rattle.eql_hub.specs.Sweeps.{SweepEnds, TriesPlace};
 ghost use Rattle.eql_hub.specs.Turns.{LaneTurn, PartTurn, is_open_lane, is_open_part};
 
 use crate::hub::{Hand, Hub};
@@ -89,7 +89,7 @@ impl<S: Source, L: LineReader, G: Ledger> Hub<S, L, G> {
         requires order { from ≤ to }
         requires places { to ≤ length self.now.lanes + length self.now.parts }
         ensures own { IsHandOf self.now hand.new }
-        ensures swept { Swept S.left S.lent_as S.fault_plan L.read_of batch
+        ensures swept { SweepEnds S.left S.lent_as S.fault_plan L.read_of batch
             (length self.now.lanes) from to result hand.old hand.new }
     {
         for place in from..to {

@@ -23,12 +23,12 @@ use Rattle.eql_turn_lock.specs.declared.view.Ended.{Ended}
 use Rattle.eql_turn_lock.specs.declared.view.View.{View}
 use Rattle.eql_turn_lock.specs.Calls.{Closes}
 use Rattle.eql_turn_lock.specs.History.{IsLegal}
-use Rattle.eql_turn_lock.specs.Passes.{EndedIn, KnowsHistory}
+use Rattle.eql_turn_lock.specs.Passes.{IsEndedIn, KnowsHistory}
 use Rattle.eql_conductor.specs.declared.plan.End.{End as Ends}
 use Rattle.eql_conductor.specs.declared.plan.End.TheVariants as end
 use Rattle.eql_conductor.specs.declared.plan.Keep.{Keep}
 use Rattle.eql_conductor.specs.declared.plan.RunPlan.{RunPlan}
-use Rattle.eql_conductor.specs.Benches.{FedOn, Known, NoneFailed}
+use Rattle.eql_conductor.specs.Benches.{ComesByFeeds, Known, NoFeedFailed}
 use Rattle.eql_conductor.specs.Going.{LanesGo}
 use Rattle.eql_conductor.specs.Records.{Ran}
 use Rattle.eql_conductor.specs.RunNotes.{round_count}
@@ -39,15 +39,15 @@ use Rattle.eql_hub.specs.Hands.{HandView, HubView, LaneKnown, PartKnown}
 use Rattle.eql_hub.specs.Turns.{LaneTurn, PartTurn, is_open_lane, is_open_part}
 use Rattle.eql_replay.specs.Listed as listed
 use Rattle.eql_replay.specs.Listed.{bench_known}
-use Rattle.eql_replay.specs.Opened.{AreOfTexts, IsAtPlace, LaneOn, LanesOn, LinesOn, ReadOn, ReadsFurther}
+use Rattle.eql_replay.specs.Opened.{AreOfTexts, IsAtPlace, LaneOn, LanesOn, LinesOn, LanesReadOn, ReadsFurther}
 use Rattle.eql_replay.proofs.Further.{self}
 use Rattle.eql_lock_bench.specs.Benched.{IsBenchHand}
 use Rattle.eql_lock_bench.specs.Locked.{entry_failed, known_by, mine_in}
 use Rattle.eql_lock_bench.proofs.Closings.{Further, closes_from, fails_as_planned, none_fail, same_lane}
 use Rattle.eql_lock_bench.proofs.LaneRuns.{Stands, fed_all}
 use Rattle.eql_hub_run.specs.Beside.{HandCause, IsOwn, RanBeside, SameBench, TellsRead, bench_of, rank}
-use Rattle.eql_hub_run.specs.Gathers.{FineLane, FinePart, Gathered, HandsAre, IsEndOf, IsKept, IsLeastOf, IsUnplayedHand, end_of_fault}
-use Rattle.eql_hub_run.specs.Workers.{AtPlace, Has, HandDid, HasPlayed, IsFailure, IsLimit, IsNoRead, IsWhole, Met, MetWorn, WorkerView}
+use Rattle.eql_hub_run.specs.Gathers.{FineLane, FinePart, GathersHands, HandsAre, IsEndOf, IsKept, IsLeastOf, IsUnplayedHand, end_of_fault}
+use Rattle.eql_hub_run.specs.Workers.{AtPlace, Has, HandDid, HasPlayed, IsFailure, IsLimit, IsNoRead, IsWhole, HandMeets, MeetsWorn, WorkerView}
 use Rattle.eql_hub_run.proofs.Moves.{fed_moves, rose_behind}
 use Rattle.eql_hub_run.proofs.Hands.{at_all, all_places}
 use Rattle.eql_hub_run.proofs.Histories.{IsCalm, didnt, all_calm, all_one, has_own, run_at, run_bytes, run_calm, run_failed, run_further, run_generation, run_lines, run_stands, run_turns}
@@ -65,7 +65,7 @@ least_reads (end.Limit of) l = absurd (omega (arith, l))
 least_reads end.Done l = absurd (omega (arith, l))
 
 -- where no file is told as failed, none of the conductor's feeds failed
-not_read_none : (ended : Ends) (first last : Known) (sb sn db dn : ℕ) → ((s : ℕ) → ended ≢ end.ReadFault s) → EndsBy ended first last sb sn db dn → NoneFailed first last
+not_read_none : (ended : Ends) (first last : Known) (sb sn db dn : ℕ) → ((s : ℕ) → ended ≢ end.ReadFault s) → EndsBy ended first last sb sn db dn → NoFeedFailed first last
 not_read_none end.Done first last sb sn db dn not cause = cause.0
 not_read_none (end.ReadFault s) first last sb sn db dn not cause = absurd (not s refl)
 not_read_none end.WriteFault first last sb sn db dn not cause = cause.0
@@ -83,7 +83,7 @@ module _ {S L : Type 0} (left lent_as : S → Option (List ℕ)) (fault_plan : S
     (hub : HubView) (first last joined : HandView S L) (split : ℕ) (workers : List (WorkerView S L)) (hands : List (HandView S L))
     (few : length olds ≤ 256) (of : AreOfTexts left text olds) (unplayed : IsUnplayedHand split olds parts first) (is : IsBenchHand left lent_as fault_plan read_of text hub first last)
     (played : All (HasPlayed hub) workers) (are : HandsAre workers hands) (many : length workers ≤ 65536)
-    (gathered : Gathered (All (λ (w : WorkerView S L). IsNoRead w.met) workers) hands last joined)
+    (gathered : GathersHands (All (λ (w : WorkerView S L). IsNoRead w.met) workers) hands last joined)
     (lanes_close : AllZip (Closes (LaneTurn left lent_as fault_plan read_of) is_open_lane) joined.lanes.views news)
     (parts_close : AllZip (Closes PartTurn is_open_part) joined.parts.views lefts) where
   abbrev Turns : LaneView S L → LaneOp → LaneReply → LaneView S L → Type 0
@@ -130,7 +130,7 @@ module _ {S L : Type 0} (left lent_as : S → Option (List ℕ)) (fault_plan : S
     record Fed : Type 0 where
       pub state : LaneState
       pub was : two.lane k state
-      pub fed : FedOn set state at.new.state
+      pub fed : ComesByFeeds set state at.new.state
 
     fed : Fed
     fed =
@@ -163,7 +163,7 @@ module _ {S L : Type 0} (left lent_as : S → Option (List ℕ)) (fault_plan : S
         → Has P view.mine → Has P at.ends.closes.log
     in_log P hand view kept here has =
         let h = kept k at.after view at.joined_there here in
-        let both = all_one (EndedIn at.ends.closes.log) (IsEndOf view) at.after.ended at.ends.closes.ended_in h in
+        let both = all_one (IsEndedIn at.ends.closes.log) (IsEndOf view) at.after.ended at.ends.closes.ended_in h in
         has_own P both.0.number at.ends.closes.log
         (subst (Has P) (sym (both.1.0 ∙ both.2.mine)) has)
 
@@ -174,7 +174,7 @@ module _ {S L : Type 0} (left lent_as : S → Option (List ℕ)) (fault_plan : S
     calm_is : All IsCalm at.ends.closes.log → at.new.state.faults ≡ old.state.faults
     calm_is calm = run_calm left lent_as fault_plan read_of (text k) set at.ends.closes.log old at.new at.ends.legal (stands k old there) calm
 
-    on : (quiet : Type 0) → (quiet → NoneFailed one two) → (quiet → Quiet) → LaneOn left lent_as fault_plan read_of quiet old at.new
+    on : (quiet : Type 0) → (quiet → NoFeedFailed one two) → (quiet → Quiet) → LaneOn left lent_as fault_plan read_of quiet old at.new
     on quiet none calm = record {
       same = same_lane left lent_as fault_plan read_of at.ends.closes.log old at.new at.ends.legal;
       unfailing = λ u.
@@ -219,7 +219,7 @@ module _ {S L : Type 0} (left lent_as : S → Option (List ℕ)) (fault_plan : S
   texts_stay : AreOfTexts left text news
   texts_stay = record { each = λ k new e. let o = old_of k new e in at_new k o.0 new o.1 e (IsTextOf left (text k)) (new_text k o.0 o.1) }
 
-  read_on : ReadOn read_of text olds news
+  read_on : LanesReadOn read_of text olds news
   read_on = record {
     each = λ k old new there e t told was. at_new k old new there e (λ (l : LaneView S L). IsAtPlace (setting_of read_of (Some t) l) t l.state) (read_to k old there t told was);
   }
@@ -227,7 +227,7 @@ module _ {S L : Type 0} (left lent_as : S → Option (List ℕ)) (fault_plan : S
   lines_on : LinesOn text olds news
   lines_on = record { each = λ k old new there e t told. at_new k old new there e (λ (l : LaneView S L). ReadsFurther t old.state l.state) (further k old there t told) }
 
-  lanes_on : (quiet : Type 0) → (quiet → NoneFailed one two) → (quiet → Quiet) → LanesOn left lent_as fault_plan read_of (λ s. quiet) olds news
+  lanes_on : (quiet : Type 0) → (quiet → NoFeedFailed one two) → (quiet → Quiet) → LanesOn left lent_as fault_plan read_of (λ s. quiet) olds news
   lanes_on quiet none calm = record {
     count = lanes_end.new_count;
     each = λ k old new there e. at_new k old new there e (LaneOn left lent_as fault_plan read_of quiet old) (on k old there quiet none calm);
@@ -264,7 +264,7 @@ module _ {S L : Type 0} (left lent_as : S → Option (List ℕ)) (fault_plan : S
     made_few : length hands ≤ 65536
     made_few = let a = are.0 in omega (arith, a, many)
 
-    no_word : {T O R : Type 0} (view : View T O R) (ended : List (Ended O R)) → All (λ (e : Ended O R). All (λ (n : ℕ). n < 2 ^ 63) e.looked) ended → Has (IsEndOf view) ended → MetWorn view → ⊥
+    no_word : {T O R : Type 0} (view : View T O R) (ended : List (Ended O R)) → All (λ (e : Ended O R). All (λ (n : ℕ). n < 2 ^ 63) e.looked) ended → Has (IsEndOf view) ended → MeetsWorn view → ⊥
     no_word {T} {O} {R} view ended small kept met =
         let e = all_one (λ (d : Ended O R). All (λ (n : ℕ). n < 2 ^ 63) d.looked) (IsEndOf view) ended small kept in
         let word = all_one (λ (n : ℕ). n < 2 ^ 63) (λ (n : ℕ). 2 ^ 63 ≤ n) e.0.looked e.1 (subst (Has (λ (n : ℕ). 2 ^ 63 ≤ n)) (sym e.2.looked) met) in
@@ -272,7 +272,7 @@ module _ {S L : Type 0} (left lent_as : S → Option (List ℕ)) (fault_plan : S
         let b = word.2 in
         omega (arith, a, b)
 
-    lane_worn : (hand : HandView S L) → IsWhole hub hand → IsKept joined.lanes.views hand.lanes.views → (k : ℕ) → AtPlace hand.lanes.views k (λ (v : LaneKnown S L). MetWorn v) → ⊥
+    lane_worn : (hand : HandView S L) → IsWhole hub hand → IsKept joined.lanes.views hand.lanes.views → (k : ℕ) → AtPlace hand.lanes.views k (λ (v : LaneKnown S L). MeetsWorn v) → ⊥
     lane_worn hand whole kept k met =
         let old = lane_under hand whole k met.one met.there in
         let end_at = at k old.0 old.1 in
@@ -281,7 +281,7 @@ module _ {S L : Type 0} (left lent_as : S → Option (List ℕ)) (fault_plan : S
         (own_lanes left lent_as fault_plan read_of text last own) k old.0 end_at)
         (kept k end_at.after met.one end_at.joined_there met.there) met.so
 
-    part_worn : (hand : HandView S L) → IsWhole hub hand → IsKept joined.parts.views hand.parts.views → (k : ℕ) → AtPlace hand.parts.views k (λ (v : PartKnown). MetWorn v) → ⊥
+    part_worn : (hand : HandView S L) → IsWhole hub hand → IsKept joined.parts.views hand.parts.views → (k : ℕ) → AtPlace hand.parts.views k (λ (v : PartKnown). MeetsWorn v) → ⊥
     part_worn hand whole kept k met =
         let old = part_under hand whole k met.one met.there in
         let end_at = parts_end.each k old.0 old.1 in
@@ -381,7 +381,7 @@ module _ {S L : Type 0} (left lent_as : S → Option (List ℕ)) (fault_plan : S
           absurd (run_generation left lent_as fault_plan read_of (text s) (set s o.0 o.1) end_at.ends.closes.log o.0 end_at.new end_at.ends.legal (stands s o.0 o.1)
           (in_log s o.0 o.1 (IsLimit limit.Generation) hand met.one kept_lanes met.there met.so))
 
-      fault_is : (met : HandFault) → Met hand met → FaultIs (end_of_fault met)
+      fault_is : (met : HandFault) → HandMeets hand met → FaultIs (end_of_fault met)
       fault_is (fault.Read s) met = read_is s met
       fault_is fault.Memory met = record { because = tt; not_own = λ own_one. own_one; not_turns = λ e. absurd cc; planned = λ s old there u e. absurd cc }
       fault_is (fault.Limit of_it) (inl (s, met)) = limit_is of_it s met
@@ -484,7 +484,7 @@ module _ {S L : Type 0} (left lent_as : S → Option (List ℕ)) (fault_plan : S
     by_hand : Has (λ (worker : WorkerView S L). (met : HandFault) × (worker.met ≡ Some met) × (answer ≡ end_of_fault met)) workers → FaultIs own_few answer
     by_hand has =
         let e = all_one HandOf (λ (worker : WorkerView S L). (met : HandFault) × (worker.met ≡ Some met) × (answer ≡ end_of_fault met)) workers hands_of has in
-        let met : Met e.1.hand e.2.0 = subst (λ (o : Option HandFault). IfSome o (Met e.1.hand)) e.2.1 e.1.hand_did.fault_is in
+        let met : HandMeets e.1.hand e.2.0 = subst (λ (o : Option HandFault). IfSome o (HandMeets e.1.hand)) e.2.1 e.1.hand_did.fault_is in
         subst (FaultIs own_few) (sym e.2.2) (fault_is own_few shards_are e.1.hand e.1.whole e.1.lanes_kept e.1.parts_kept e.2.0 met)
 
     pub ran_beside : RanBeside left lent_as fault_plan read_of history count text plan olds news parts book then before now sink_before sink_now keep kept answer
@@ -510,8 +510,8 @@ module _ {S L : Type 0} (left lent_as : S → Option (List ℕ)) (fault_plan : S
             let f = fed s o.0 o.1 in (
               f.state,
               f.was,
-              at_new s o.0 new o.1 e (λ (l : LaneView S L). FedOn (one.set s) f.state l.state)
-                  (subst (λ (u : Setting). FedOn u f.state (at s o.0 o.1).new.state) (sym (set_is s o.0 o.1)) f.fed),
+              at_new s o.0 new o.1 e (λ (l : LaneView S L). ComesByFeeds (one.set s) f.state l.state)
+                  (subst (λ (u : Setting). ComesByFeeds u f.state (at s o.0 o.1).new.state) (sym (set_is s o.0 o.1)) f.fed),
             );
         hand_cause = elim told.from [
           | inl e ↦ subst (HandCause read_of text olds news) (sym e)

@@ -21,12 +21,12 @@ use Rattle.eql_hub.specs.declared.step.Did.TheVariants as did
 use Rattle.eql_hub.specs.declared.step.HandFault.{HandFault}
 use Rattle.eql_hub.specs.declared.step.HandFault.TheVariants as fault
 use Rattle.eql_hub.specs.Hands.{HandView, HubView, IsHandOf, LaneKnown, PartKnown}
-use Rattle.eql_hub.specs.Steps.{EachPlace, LaneAnswers, LaneEnded, LaneEnds, LaneIdle, LaneQuiet, PartEnded, PartEnds, Steps}
+use Rattle.eql_hub.specs.Steps.{EachPlace, LaneAnswers, StepEndsAtLane, LaneEnds, LaneIdle, LaneQuiet, StepEndsAtPart, PartEnds, Steps}
 use Rattle.eql_hands.specs.Growth.{AreLater, HasMineWithin, HaveMineWithin}
-use Rattle.eql_hands.specs.Runs.{MeetsFault, Played, Ran, fault_of}
+use Rattle.eql_hands.specs.Runs.{MeetsFault, PlaysSteps, Ran, fault_of}
 use Rattle.eql_lock_bench.specs.Locked.{did_fail, entry_failed}
 use Rattle.eql_lock_bench.proofs.Counted.{count_snoc}
-use Rattle.eql_hub_run.specs.Workers.{Has, HandDid, HasFew, HasNone, IsFailure, IsLimit, IsNoRead, IsWhole, Met}
+use Rattle.eql_hub_run.specs.Workers.{Has, HandDid, HasFew, HasNone, IsFailure, IsLimit, IsNoRead, IsWhole, HandMeets}
 
 -- ---- lists and places
 pub has_last : {X : Type 0} (P : X → Type 0) (front : List X) (one : X) (list : List X) → list ≡ front ++ one ∷ [] → P one → Has P list
@@ -82,7 +82,7 @@ module _ {S L : Type 0} (left lent_as : S → Option (List ℕ)) (fault_plan : S
   ends (did.Turned part) place v w fine h = absurd h
   ends did.Nothing place v w fine h = absurd h
 
-  lane_ended : (answer : Did) (old new : HandView S L) → IsFine answer → LaneEnded left lent_as fault_plan read_of batch answer old new
+  lane_ended : (answer : Did) (old new : HandView S L) → IsFine answer → StepEndsAtLane left lent_as fault_plan read_of batch answer old new
       → EachPlace SameFails old.lanes.views new.lanes.views
   lane_ended answer old new fine e = record {
     count = e.count;
@@ -97,7 +97,7 @@ module _ {S L : Type 0} (left lent_as : S → Option (List ℕ)) (fault_plan : S
     ];
   }
 
-  part_ended : (answer : Did) (old new : HandView S L) → PartEnded left lent_as fault_plan read_of batch answer old new
+  part_ended : (answer : Did) (old new : HandView S L) → StepEndsAtPart left lent_as fault_plan read_of batch answer old new
       → EachPlace SameFails old.lanes.views new.lanes.views
   part_ended answer old new e = record { count = e.lanes.count; each = λ k v w was is. still v w (e.lanes.each k v w was is) }
 
@@ -138,17 +138,17 @@ module _ {S L : Type 0} (left lent_as : S → Option (List ℕ)) (fault_plan : S
     }
 
     played_quiet : (dids : List Did) (old new : HandView S L) → IsNoRead (fault_of dids)
-        → Played left lent_as fault_plan read_of batch most_idle most_steps dids old new → EachPlace SameFails old.lanes.views new.lanes.views
+        → PlaysSteps left lent_as fault_plan read_of batch most_idle most_steps dids old new → EachPlace SameFails old.lanes.views new.lanes.views
     played_quiet [] old new fine e = each_same old new e
     played_quiet (answer ∷ before) old new fine (goes, mid, run, last) =
         let calm = none_fine (fault_of before) (both_left (is_none (fault_of before)) _ goes) in
         each_on old.lanes.views mid.lanes.views new.lanes.views (played_quiet before old mid calm run) (step_quiet answer mid new (head_fine answer before fine) last)
 
     -- ---- the fault
-    lane_met : (f : HandFault) (old new : HandView S L) → LaneEnded left lent_as fault_plan read_of batch (did.Fault f) old new → Met new f
+    lane_met : (f : HandFault) (old new : HandView S L) → StepEndsAtLane left lent_as fault_plan read_of batch (did.Fault f) old new → HandMeets new f
     lane_met f old new e = by f e.lane e.before e.after e.is e.ends
       where
-        by : (f : HandFault) (place : ℕ) (v w : LaneKnown S L) → slice_get new.lanes.views place ≡ Some w → LaneEnds left lent_as fault_plan read_of batch (did.Fault f) place v w → Met new f
+        by : (f : HandFault) (place : ℕ) (v w : LaneKnown S L) → slice_get new.lanes.views place ≡ Some w → LaneEnds left lent_as fault_plan read_of batch (did.Fault f) place v w → HandMeets new f
         by (fault.Read shard) place v w is (same, (lines, plays)) = record {
           one = w;
           there = subst (λ (j : ℕ). slice_get new.lanes.views j ≡ Some w) (sym same) is;
@@ -168,10 +168,10 @@ module _ {S L : Type 0} (left lent_as : S → Option (List ℕ)) (fault_plan : S
           inl (place, record { one = w; there = is; so = has_last (λ (n : ℕ). 2 ^ 63 ≤ n) v.looked word w.looked r.3 r.2 }),
         )
 
-    part_met : (f : HandFault) (old new : HandView S L) → PartEnded left lent_as fault_plan read_of batch (did.Fault f) old new → Met new f
+    part_met : (f : HandFault) (old new : HandView S L) → StepEndsAtPart left lent_as fault_plan read_of batch (did.Fault f) old new → HandMeets new f
     part_met f old new e = by f e.part e.before e.after e.is e.ends
       where
-        by : (f : HandFault) (place : ℕ) (v w : PartKnown) → slice_get new.parts.views place ≡ Some w → PartEnds batch (did.Fault f) place v w → Met new f
+        by : (f : HandFault) (place : ℕ) (v w : PartKnown) → slice_get new.parts.views place ≡ Some w → PartEnds batch (did.Fault f) place v w → HandMeets new f
         by (fault.Read shard) place v w is h = absurd h
         by fault.Memory place v w is h = tt
         by (fault.Limit of) place v w is (same, (word, r)) = inr (
@@ -179,11 +179,11 @@ module _ {S L : Type 0} (left lent_as : S → Option (List ℕ)) (fault_plan : S
           inr (place, record { one = w; there = is; so = has_last (λ (n : ℕ). 2 ^ 63 ≤ n) v.looked word w.looked r.3 r.2 }),
         )
 
-    step_met : (f : HandFault) (old new : HandView S L) → Steps left lent_as fault_plan read_of batch (did.Fault f) old new → Met new f
+    step_met : (f : HandFault) (old new : HandView S L) → Steps left lent_as fault_plan read_of batch (did.Fault f) old new → HandMeets new f
     step_met f old new (inl h) = lane_met f old new h
     step_met f old new (inr h) = part_met f old new h
 
-    some_met : (met : Option HandFault) (old new : HandView S L) → IfSome met (λ f. MeetsFault left lent_as fault_plan read_of batch most_idle most_steps f old new) → IfSome met (Met new)
+    some_met : (met : Option HandFault) (old new : HandView S L) → IfSome met (λ f. MeetsFault left lent_as fault_plan read_of batch most_idle most_steps f old new) → IfSome met (HandMeets new)
     some_met None old new h = tt
     some_met (Some f) old new h = step_met f h.mid new h.last
 

@@ -21,7 +21,7 @@ use Rattle.eql_turn_lock.specs.declared.view.Ended.{Ended}
 use Rattle.eql_turn_lock.specs.declared.view.View.{View}
 use Rattle.eql_turn_lock.specs.Calls.{Closes}
 use Rattle.eql_turn_lock.specs.History.{IsLegal, calls_by}
-use Rattle.eql_turn_lock.specs.Passes.{EndedIn}
+use Rattle.eql_turn_lock.specs.Passes.{IsEndedIn}
 use Rattle.eql_hub.specs.Turns.{LaneTurn}
 use Rattle.eql_replay.specs.Noting.{did_fail as noted_fail}
 use Rattle.eql_replay.specs.Opened.{IsAtPlace, ReadsFurther}
@@ -121,7 +121,7 @@ all_calm step_of is_open w value closes own others k e l =
     elim (closes.covered k e l) [
       | inl mine ↦ calm_calls w.number closes.log (ap (count_by entry_failed) closes.all_mine ∙ own) k e l mine
       | inr (j, d, there, is) ↦
-          let in_log = at_elem (EndedIn closes.log) w.ended j d there closes.ended_in in
+          let in_log = at_elem (IsEndedIn closes.log) w.ended j d there closes.ended_in in
           let none = at_elem (λ (c : Ended LaneOp LaneReply). count_by entry_failed c.mine ≡ 0) w.ended j d there others in
           calm_calls d.number closes.log (ap (count_by entry_failed) in_log.0 ∙ none) k e l (sym is)
     ]

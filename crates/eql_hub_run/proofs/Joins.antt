@@ -17,7 +17,7 @@ use Rattle.eql_hub.specs.declared.step.HandFault.{HandFault}
 use Rattle.eql_hub.specs.Hands.{AllBegin, AreAllJoined, HandView, HubView, IsFirst, IsHandOf, LaneKnown, PartKnown}
 use Rattle.eql_lock_bench.specs.Benched.{AllGoOn}
 use Rattle.eql_lock_bench.specs.Locked.{entry_failed}
-use Rattle.eql_hub_run.specs.Gathers.{AreUnplayed, FineLane, FinePart, Gathered, HandsAre, IsEndOf, IsKept, IsUnplayedHand, TookIn}
+use Rattle.eql_hub_run.specs.Gathers.{AreUnplayed, FineLane, FinePart, GathersHands, HandsAre, IsEndOf, IsKept, IsUnplayedHand, TookIn}
 use Rattle.eql_hub_run.specs.Workers.{Has, HandDid, HasPlayed, IsNoRead, IsWhole, WorkerView}
 use Rattle.eql_hub_run.proofs.Ended.{there_in, zip_at}
 use Rattle.eql_hub_run.proofs.Hands.{all_places, at_all, has_last}
@@ -109,7 +109,7 @@ module _ {T O R : Type 0} where
 
 -- ---- hands
 module _ {S L : Type 0} where
-  pub gather_none : (quiet : Type 0) (hand : HandView S L) → Gathered quiet [] hand hand
+  pub gather_none : (quiet : Type 0) (hand : HandView S L) → GathersHands quiet [] hand hand
   gather_none quiet hand = record {
     lane_count = refl;
     part_count = refl;
@@ -118,10 +118,10 @@ module _ {S L : Type 0} where
     kept = All-nil (λ (h : HandView S L). IsKept hand.lanes.views h.lanes.views × IsKept hand.parts.views h.parts.views);
   }
 
-  pub gather_more : (quiet : Type 0) (hands : List (HandView S L)) (old mid new other : HandView S L) (met : Option HandFault) → Gathered quiet hands old mid
+  pub gather_more : (quiet : Type 0) (hands : List (HandView S L)) (old mid new other : HandView S L) (met : Option HandFault) → GathersHands quiet hands old mid
       → length other.lanes.views ≡ length mid.lanes.views → length other.parts.views ≡ length mid.parts.views
       → new.lanes.views ≡ joined_views mid.lanes.views other.lanes.views → new.parts.views ≡ joined_views mid.parts.views other.parts.views → AllBegin new mid
-      → HandDid met other → (quiet → IsNoRead met) → Gathered quiet (other ∷ hands) old new
+      → HandDid met other → (quiet → IsNoRead met) → GathersHands quiet (other ∷ hands) old new
   gather_more quiet hands old mid new other met was lane_count part_count lanes parts seen did calm = record {
     lane_count = new_count mid.lanes.views other.lanes.views new.lanes.views lane_count lanes ∙ was.lane_count;
     part_count = new_count mid.parts.views other.parts.views new.parts.views part_count parts ∙ was.part_count;
@@ -148,7 +148,7 @@ module _ {S L : Type 0} where
     pub hands : List (HandView S L)
     pub all_is : all ≡ rest ++ done
     pub are : HandsAre done hands
-    pub gathered : Gathered (All (λ (w : WorkerView S L). IsNoRead w.met) all) hands old now
+    pub gathered : GathersHands (All (λ (w : WorkerView S L). IsNoRead w.met) all) hands old now
     pub whole : IsWhole hub now
     pub first : IsFirst now
 
@@ -211,7 +211,7 @@ module _ {S L : Type 0} where
 
   -- all were taken in
   pub taken_all : (hub : HubView) (all rest : List (WorkerView S L)) (old now : HandView S L) → TakenSome hub all rest old now → rest ≡ []
-      → (hands : List (HandView S L)) × HandsAre all hands × Gathered (All (λ (w : WorkerView S L). IsNoRead w.met) all) hands old now
+      → (hands : List (HandView S L)) × HandsAre all hands × GathersHands (All (λ (w : WorkerView S L). IsNoRead w.met) all) hands old now
   taken_all hub all rest old now some none =
       let same : all ≡ some.done = some.all_is ∙ ap (λ (l : List (WorkerView S L)). l ++ some.done) none in
       (some.hands, subst (λ (l : List (WorkerView S L)). HandsAre l some.hands) (sym same) some.are, some.gathered)
@@ -233,7 +233,7 @@ module _ {T O R : Type 0} where
       omega (arith, a, b, c))
 
 pub are_joined : {S L : Type 0} (quiet : Type 0) (lanes : List (LaneView S L)) (parts : List PartView) (hands : List (HandView S L)) (first last joined : HandView S L)
-    → IsUnplayedHand (length hands) lanes parts first → AllGoOn first.lanes.views last.lanes.views → AllGoOn first.parts.views last.parts.views → Gathered quiet hands last joined → AreAllJoined joined
+    → IsUnplayedHand (length hands) lanes parts first → AllGoOn first.lanes.views last.lanes.views → AllGoOn first.parts.views last.parts.views → GathersHands quiet hands last joined → AreAllJoined joined
 are_joined quiet lanes parts hands first last joined unplayed a b gathered = record {
   lanes = row_joined (FineLane quiet) (length hands) lanes first.lanes.views last.lanes.views joined.lanes.views unplayed.lanes_are a gathered.lane_count gathered.lanes;
   parts = row_joined FinePart (length hands) parts first.parts.views last.parts.views joined.parts.views unplayed.parts_are b gathered.part_count gathered.parts;

@@ -14,7 +14,7 @@ use Rattle.eql_lane.specs.declared.ops.LaneReply.TheVariants as reply
 use Rattle.eql_lane.specs.declared.ops.LimitOf.TheVariants as limit
 use Rattle.eql_lane.specs.Lanes.{FeedStep, LaneState, LaneStep, LookStep, OutOfLines, ReadsOn, Setting, SnapStep, TakeStep, Takes}
 use Rattle.eql_lane.proofs.FeedLines.{length_numbered}
-use Rattle.eql_conductor.specs.Benches.{FedOn, FedTimes}
+use Rattle.eql_conductor.specs.Benches.{ComesByFeeds, FeedsTimes}
 
 -- ---- a text without lines has no bytes
 begun_lines : (byte : ℕ) (lines : List (List ℕ)) → 0 < length (begin_with byte lines)
@@ -161,11 +161,11 @@ module _ (set : Setting) where
   step_moves x op.Snap answer y step = snap_moves x answer y step
 
   -- ---- feeds of others
-  fed_times : (n : ℕ) (x y : LaneState) → FedTimes set n x y → Moves set x y
+  fed_times : (n : ℕ) (x y : LaneState) → FeedsTimes set n x y → Moves set x y
   fed_times zero x y h = moves_same x y h
   fed_times (suc n) x y (mid, max, answer, step, rest) = moves_on x mid y (feed_moves x max answer mid step) (fed_times n mid y rest)
 
-  pub fed_moves : (x y : LaneState) → FedOn set x y → Moves set x y
+  pub fed_moves : (x y : LaneState) → ComesByFeeds set x y → Moves set x y
   fed_moves x y h = fed_times h.0 x y h.1
 
   -- ---- what an answer tells

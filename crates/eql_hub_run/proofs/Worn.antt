@@ -11,11 +11,11 @@ use Rattle.eql_turn_lock.specs.declared.view.Ended.{Ended}
 use Rattle.eql_turn_lock.specs.declared.view.View.{View}
 use Rattle.eql_turn_lock.specs.Calls.{Closes}
 use Rattle.eql_conductor.specs.declared.note.Note.{Note}
-use Rattle.eql_conductor.specs.Benches.{FedOn, Known}
+use Rattle.eql_conductor.specs.Benches.{ComesByFeeds, Known}
 use Rattle.eql_conductor.specs.Bounds.{AreSized, held_count}
 use Rattle.eql_conductor.specs.Handed.{total_to}
 use Rattle.eql_conductor.specs.RoundNotes.{GrewInRounds, is_turn, others_in, turns_in}
-use Rattle.eql_conductor.specs.RunBounds.{BoundedBy, RunBounded, bytes_in, events_in}
+use Rattle.eql_conductor.specs.RunBounds.{IsBoundedBy, RunIsBounded, bytes_in, events_in}
 use Rattle.eql_conductor.proofs.Resting.{fed_self}
 use Rattle.eql_lock_bench.specs.Locked.{worn_in, worn_of}
 use Rattle.eql_lock_bench.proofs.Counted.{none_worn}
@@ -97,7 +97,7 @@ pub record FewNotes (new : Known) : Type 0 where
   pub parts : (p : ℕ) → p < new.parts → length (new.part_notes p) ≤ 2 ^ 54
 
 module _ (old new : Known) (began : ℕ → LaneState) (begins : BeganWith began old) (sized : AreSized old) (few : old.lanes ≤ 256) (lanes : new.lanes ≡ old.lanes) (parts : new.parts ≡ old.parts)
-    (some : (s : ℕ) → s < old.lanes → (x : LaneState) × new.lane s x) (rounds : ℕ) (bounded : RunBounded rounds old new) where
+    (some : (s : ℕ) → s < old.lanes → (x : LaneState) × new.lane s x) (rounds : ℕ) (bounded : RunIsBounded rounds old new) where
   abbrev now_by : (s : ℕ) → (s < old.lanes) ⊎ (old.lanes ≤ s) → LaneState
   now_by s (inl l) = (some s l).0
   now_by s (inr l) = begun fresh_cut 0
@@ -112,9 +112,9 @@ module _ (old new : Known) (began : ℕ → LaneState) (begins : BeganWith began
       by (inl k) = (some s k).1
       by (inr k) = absurd (omega (arith, k, l))
 
-  bounds : BoundedBy rounds old new (bytes_in old.lanes now) (events_in old.lanes began)
+  bounds : IsBoundedBy rounds old new (bytes_in old.lanes now) (events_in old.lanes began)
   bounds = bounded.bound began now (record {
-    from = λ s l x has. subst (FedOn (old.set s) (began s)) (sym (begins.is s l x has)) (fed_self (old.set s) (began s));
+    from = λ s l x has. subst (ComesByFeeds (old.set s) (began s)) (sym (begins.is s l x has)) (fed_self (old.set s) (began s));
     to = now_is;
   })
 

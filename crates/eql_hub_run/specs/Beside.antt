@@ -15,14 +15,14 @@ use Rattle.eql_conductor.specs.declared.plan.End.{End as Ends}
 use Rattle.eql_conductor.specs.declared.plan.End.TheVariants as end
 use Rattle.eql_conductor.specs.declared.plan.Keep.{Keep}
 use Rattle.eql_conductor.specs.declared.plan.RunPlan.{RunPlan}
-use Rattle.eql_conductor.specs.Benches.{FedOn, Known}
+use Rattle.eql_conductor.specs.Benches.{ComesByFeeds, Known}
 use Rattle.eql_conductor.specs.Going.{LanesGo}
 use Rattle.eql_conductor.specs.Records.{Ran}
 use Rattle.eql_conductor.specs.Runs.{EndsBy, disk_faults}
 use Rattle.eql_hub.specs.Hands.{HandView}
 use Rattle.eql_lock_bench.specs.Locked.{known_by}
 use Rattle.eql_replay.specs.Listed.{bench_known, BenchView}
-use Rattle.eql_replay.specs.Opened.{AreOfTexts, LanesOn, LinesOn, ReadOn}
+use Rattle.eql_replay.specs.Opened.{AreOfTexts, LanesOn, LinesOn, LanesReadOn}
 
 -- ---- which of several ends is told: the one with the least status
 -- the order of ends by their statuses: a file can't be read, the output can't be written, the disk fails, memory runs out, a limit is reached; and last
@@ -97,14 +97,14 @@ module _ {S L D : Type 0} (left lent_as : S → Option (List ℕ)) (fault_plan :
     pub cause : EndsBy ended first last sink_before sink_now (disk_faults history count keep) (disk_faults history count kept)
     pub goes : LanesGo first last
     -- each lane comes by feeds of hands from a state that it might have at the conductor's end
-    pub lanes : (s : ℕ) (new : LaneView S L) → slice_get news s ≡ Some new → (x : LaneState) × last.lane s x × FedOn (first.set s) x new.state
+    pub lanes : (s : ℕ) (new : LaneView S L) → slice_get news s ≡ Some new → (x : LaneState) × last.lane s x × ComesByFeeds (first.set s) x new.state
     pub hand_cause : HandCause read_of text olds news answer
     pub not_turns : (ended ≢ end.Limit limit.Turns) × (answer ≢ end.Limit limit.Turns)
     pub planned : (s : ℕ) (lane : LaneView S L) → slice_get olds s ≡ Some lane → IsUnfailing (fault_plan lane.source) → (ended ≢ end.ReadFault s) × (answer ≢ end.ReadFault s)
     -- no lane's faults rose where none is told
     pub on : LanesOn left lent_as fault_plan read_of (λ s. TellsRead answer → ⊥) olds news
     pub texts : AreOfTexts left text news
-    pub read : ReadOn read_of text olds news
+    pub read : LanesReadOn read_of text olds news
     pub lines : LinesOn text olds news
 
   -- so it ran, by what the first hand knew as the bench took it and as the bench gave it back

@@ -26,7 +26,7 @@ module _ {S L D : Type 0} (left lent_as : S → Option (List ℕ)) (fault_plan :
     pub keeps : MayKeepIf history count plan (known_by left lent_as fault_plan read_of text hand) keep
 
   -- it ran, and ended so
-  pub record Conducted (book then : BookState) (before now : Option (List ℕ)) (sink_before sink_now : ℕ) (keep kept : Option (Keep D)) (ended : Ends) (taken given : HandView S L) : Type 0 where
+  pub record Conducts (book then : BookState) (before now : Option (List ℕ)) (sink_before sink_now : ℕ) (keep kept : Option (Keep D)) (ended : Ends) (taken given : HandView S L) : Type 0 where
     pub is : IsBenchHand left lent_as fault_plan read_of text hub taken given
     pub ran : Ran history count plan (known_by left lent_as fault_plan read_of text taken) (known_by left lent_as fault_plan read_of text given) book then before now keep kept ended
     pub cause : EndsBy ended (known_by left lent_as fault_plan read_of text taken) (known_by left lent_as fault_plan read_of text given) sink_before sink_now

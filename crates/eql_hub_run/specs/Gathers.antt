@@ -70,7 +70,7 @@ FineLane quiet kept = (length kept.mine ≤ 2 ^ 40) × (quiet → count_by entry
 
 module _ {S L : Type 0} where
   -- these hands were joined into the first one, which was the one and is the other
-  pub record Gathered (quiet : Type 0) (hands : List (HandView S L)) (old new : HandView S L) : Type 0 where
+  pub record GathersHands (quiet : Type 0) (hands : List (HandView S L)) (old new : HandView S L) : Type 0 where
     pub lane_count : length new.lanes.views ≡ length old.lanes.views
     pub part_count : length new.parts.views ≡ length old.parts.views
     pub lanes : (k : ℕ) (v w : LaneKnown S L) → slice_get old.lanes.views k ≡ Some v → slice_get new.lanes.views k ≡ Some w → TookIn (FineLane quiet) (length hands) v w

@@ -35,8 +35,8 @@ abbrev pub IsLimit : LimitOf → Entry LaneOp LaneReply → Type 0
 IsLimit of entry = entry.reply ≡ lane_reply.Limit of
 
 -- a pass met a worn word
-abbrev pub MetWorn : {T O R : Type 0} → View T O R → Type 0
-MetWorn view = Has (λ (word : ℕ). 2 ^ 63 ≤ word) view.looked
+abbrev pub MeetsWorn : {T O R : Type 0} → View T O R → Type 0
+MeetsWorn view = Has (λ (word : ℕ). 2 ^ 63 ≤ word) view.looked
 
 -- it has at most so many entries of its own
 abbrev pub HasFew : {T O R : Type 0} → View T O R → Type 0
@@ -51,18 +51,18 @@ IsNoRead (Some (fault.Limit of)) = Unit {0}
 
 module _ {S L : Type 0} where
   -- the hand met this fault: at which lane or part, and by which entry or word
-  abbrev pub Met : HandView S L → HandFault → Type 0
-  Met hand (fault.Read shard) = AtPlace hand.lanes.views shard (λ (view : LaneKnown S L). Has IsFailure view.mine)
-  Met hand fault.Memory = Unit {0}
-  Met hand (fault.Limit of) = ((place : ℕ) × AtPlace hand.lanes.views place (λ (view : LaneKnown S L). Has (IsLimit of) view.mine))
-      ⊎ ((of ≡ limit.Turns) × (((place : ℕ) × AtPlace hand.lanes.views place (λ (view : LaneKnown S L). MetWorn view)) ⊎ ((place : ℕ) × AtPlace hand.parts.views place (λ (view : PartKnown). MetWorn view))))
+  abbrev pub HandMeets : HandView S L → HandFault → Type 0
+  HandMeets hand (fault.Read shard) = AtPlace hand.lanes.views shard (λ (view : LaneKnown S L). Has IsFailure view.mine)
+  HandMeets hand fault.Memory = Unit {0}
+  HandMeets hand (fault.Limit of) = ((place : ℕ) × AtPlace hand.lanes.views place (λ (view : LaneKnown S L). Has (IsLimit of) view.mine))
+      ⊎ ((of ≡ limit.Turns) × (((place : ℕ) × AtPlace hand.lanes.views place (λ (view : LaneKnown S L). MeetsWorn view)) ⊎ ((place : ℕ) × AtPlace hand.parts.views place (λ (view : PartKnown). MeetsWorn view))))
 
   -- a hand that began with no entries of its own ran, and met this fault or none
   pub record HandDid (met : Option HandFault) (hand : HandView S L) : Type 0 where
     pub few_lanes : All (λ (view : LaneKnown S L). HasFew view) hand.lanes.views
     pub few_parts : All (λ (view : PartKnown). HasFew view) hand.parts.views
     pub quiet : IsNoRead met → All (λ (view : LaneKnown S L). count_by entry_failed view.mine ≡ 0) hand.lanes.views
-    pub fault_is : IfSome met (Met hand)
+    pub fault_is : IfSome met (HandMeets hand)
 
   -- a hand that has played nothing yet
   pub record HasNone (hand : HandView S L) : Type 0 where

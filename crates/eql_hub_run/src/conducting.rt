@@ -5,7 +5,7 @@ ghost use Rattle.eql_conductor.specs.declared.plan.End.TheVariants.{DiskFault, W
 ghost use Rattle.eql_conductor.specs.Going.{LanesGo};
 ghost use Rattle.eql_conductor.specs.Records.{Ran};
 ghost use Rattle.eql_conductor.specs.Runs.{EndsBy, IsKeptUnfailing, MayKeepIf, MayRun, disk_faults};
-ghost use Rattle.eql_hub_run.specs.Conducted.{Conducted, MayConduct};
+ghost use Rattle.eql_hub_run.specs.Conducted.{Conducts, MayConduct};
 ghost use Rattle.eql_hub_run.specs.Workers.{HasPlayed, MayStart};
 
 use crate::workers::{Worker, play_crew};
@@ -113,7 +113,7 @@ pub(crate) fn conduct<
     requires may { MayConduct S.left S.lent_as S.fault_plan L.read_of D.history D.fault_count
         T.text hub.now plan.now book.old keep.old hand }
     requires start { All (MayStart hub.now) workers.items }
-    ensures ran { Conducted S.left S.lent_as S.fault_plan L.read_of D.history D.fault_count
+    ensures ran { Conducts S.left S.lent_as S.fault_plan L.read_of D.history D.fault_count
         T.text hub.now plan.now book.old book.new (K.written sink.old) (K.written sink.new)
         (K.fault_count sink.old) (K.fault_count sink.new) keep.old keep.new result.0
         hand result.1 }

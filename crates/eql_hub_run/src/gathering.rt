@@ -2,7 +2,7 @@
 ghost use Rattle.std.specs.Prelude.{◌≡◌, All, List};
 ghost use Rattle.eql_hub.specs.Hands.{HandView, IsFirst};
 ghost use Rattle.eql_hub_run.specs.Beside.{rank};
-ghost use Rattle.eql_hub_run.specs.Gathers.{Gathered, HandsAre, IsLeastOf, end_of_fault};
+ghost use Rattle.eql_hub_run.specs.Gathers.{GathersHands, HandsAre, IsLeastOf, end_of_fault};
 ghost use Rattle.eql_hub_run.specs.Workers.{HasPlayed, IsNoRead, IsWhole};
 
 use crate::workers::Worker;
@@ -68,7 +68,7 @@ pub(crate) fn join_all<S: Source, L: LineReader, G: Ledger>(
     ensures own { IsWhole hub.now hand.new }
     ensures first { IsFirst hand.new }
     ensures gathered { (hands : List (HandView S L)) × HandsAre workers.items hands
-        × Gathered (All (λ w. IsNoRead w.met) workers.items) hands hand.old hand.new }
+        × GathersHands (All (λ w. IsNoRead w.met) workers.items) hands hand.old hand.new }
 {
     let mut workers = workers;
     while let Some(worker) = workers.pop() {

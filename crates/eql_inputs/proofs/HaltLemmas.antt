@@ -32,7 +32,7 @@ use Rattle.eql_inputs.specs.declared.halt.Halt.{Halt}
 use Rattle.eql_inputs.specs.declared.halt.Halt.TheVariants as halt
 use Rattle.eql_inputs.specs.Fronts.{IsFrontOf, IsMissing}
 use Rattle.eql_inputs.specs.Halts.{HasCause, FaultsAs, CountAs, AbsenceAs}
-use Rattle.eql_inputs.specs.Steps.{naming, GotQuery, GotMapping, GotChecked, QueryCause, MappingCause, CheckCause, StoppedReading, IsQueryText, StoppedSpelling, StoppedParsing, StoppedQuery, halt_of_map, StoppedMapping, halt_of_check, StoppedChecking}
+use Rattle.eql_inputs.specs.Steps.{naming, GotQuery, GotMapping, GotChecked, QueryCause, MappingCause, CheckCause, StopsReading, IsQueryText, StopsSpelling, StopsParsing, StopsQuery, halt_of_map, StopsMapping, halt_of_check, StopsChecking}
 
 -- a front that is shorter than it may be is the whole text
 pub front_whole : (most n : ℕ) (bytes text : List ℕ) → n < most → bytes ≡ take most text → length bytes ≤ n
@@ -59,7 +59,7 @@ whole_tokens bytes text tokens front has =
 
 -- where a file isn't there, or failed
 pub unread_cause : (names : Names) (name : List ℕ) (files : Option Files) (h : Halt) → IsNamed names name
-    → StoppedReading name (IsMissing name files) h
+    → StopsReading name (IsMissing name files) h
     → IfSome files (λ fs. file_named name fs ≡ None → Refuses names fs (run.no_file name))
     → IfSome files (λ fs. Reaches names fs name) → HasCause names files h
 unread_cause names name None (halt.Refused (refused.NoFile n)) own stop rule reach =
@@ -91,7 +91,7 @@ query_reached : (query fields : List ℕ) (shards : List (List ℕ)) (files : Op
 query_reached query fields shards None = tt
 query_reached query fields shards (Some fs) = way.query_file
 
-pub query_unread : (query : List ℕ) (files : Option Files) (h : Halt) → StoppedReading query (IsMissing query files) h
+pub query_unread : (query : List ℕ) (files : Option Files) (h : Halt) → StopsReading query (IsMissing query files) h
     → QueryCause query files h
 query_unread query files h stop = λ fields shards.
     unread_cause (naming query fields shards) query files h (inl refl) stop (query_rule query fields shards files)
@@ -107,7 +107,7 @@ query_got query (Some fs) bytes tree front is = record {
 }
 
 pub query_stopped : (query : List ℕ) (files : Option Files) (bytes : List ℕ) (h : Halt)
-    → IsFrontOf query files 65537 bytes → StoppedQuery bytes h → QueryCause query files h
+    → IsFrontOf query files 65537 bytes → StopsQuery bytes h → QueryCause query files h
 query_stopped query files bytes (halt.Refused (refused.NoFile n)) front stop = absurd stop
 query_stopped query None bytes (halt.Refused (refused.Lex r)) front stop = λ fields shards. (tt, tt)
 query_stopped query (Some fs) bytes (halt.Refused (refused.Lex r)) front stop = λ fields shards.
@@ -125,7 +125,7 @@ query_stopped query files bytes (halt.Read n) front stop = absurd stop
 query_stopped query files bytes halt.Memory front stop = λ fields shards. tt
 
 -- what has no tokens, or is no query by its tokens, is no query
-pub spelling_stops : (text : List ℕ) (h : Halt) → StoppedSpelling text h → StoppedQuery text h
+pub spelling_stops : (text : List ℕ) (h : Halt) → StopsSpelling text h → StopsQuery text h
 spelling_stops text (halt.Refused (refused.NoFile n)) stop = absurd stop
 spelling_stops text (halt.Refused (refused.Lex r)) stop = stop
 spelling_stops text (halt.Refused (refused.Parse r)) stop = absurd stop
@@ -134,8 +134,8 @@ spelling_stops text (halt.Refused (refused.Broken r)) stop = absurd stop
 spelling_stops text (halt.Read n) stop = absurd stop
 spelling_stops text halt.Memory stop = tt
 
-pub parsing_stops : (text : List ℕ) (tokens : List Token) (h : Halt) → HasTokens text tokens → StoppedParsing tokens h
-    → StoppedQuery text h
+pub parsing_stops : (text : List ℕ) (tokens : List Token) (h : Halt) → HasTokens text tokens → StopsParsing tokens h
+    → StopsQuery text h
 parsing_stops text tokens (halt.Refused (refused.NoFile n)) has stop = absurd stop
 parsing_stops text tokens (halt.Refused (refused.Lex r)) has stop = absurd stop
 parsing_stops text tokens (halt.Refused (refused.Parse r)) has stop = (tokens, has, stop)
@@ -157,7 +157,7 @@ fields_reached query fields shards None tree got = tt
 fields_reached query fields shards (Some fs) tree got = way.fields_file tree got
 
 pub mapping_unread : (fields : List ℕ) (files : Option Files) (h : Halt)
-    → StoppedReading fields (IsMissing fields files) h → MappingCause fields files h
+    → StopsReading fields (IsMissing fields files) h → MappingCause fields files h
 mapping_unread fields files h stop = λ query shards tree got.
     unread_cause (naming query fields shards) fields files h (inr (inl refl)) stop
     (fields_rule query fields shards files tree got) (fields_reached query fields shards files tree got)
@@ -186,7 +186,7 @@ mapping_got fields (Some fs) bytes mapping front is = record {
 }
 
 pub mapping_stopped : (fields : List ℕ) (files : Option Files) (bytes : List ℕ) (h : Halt)
-    → IsFrontOf fields files 4194305 bytes → StoppedMapping bytes h → MappingCause fields files h
+    → IsFrontOf fields files 4194305 bytes → StopsMapping bytes h → MappingCause fields files h
 mapping_stopped fields files bytes (halt.Refused (refused.NoFile n)) front stop = absurd stop
 mapping_stopped fields files bytes (halt.Refused (refused.Lex r)) front stop = absurd stop
 mapping_stopped fields files bytes (halt.Refused (refused.Parse r)) front stop = absurd stop
@@ -198,7 +198,7 @@ mapping_stopped fields files bytes (halt.Read n) front stop = absurd stop
 mapping_stopped fields files bytes halt.Memory front stop = λ query shards tree got. tt
 
 pub stopped_mapping : (text : List ℕ) (r : MapRefused) → Reads (Err r) (mapping_of text)
-    → StoppedMapping text (halt_of_map r)
+    → StopsMapping text (halt_of_map r)
 stopped_mapping text map_refused.MapLong reads = sym reads
 stopped_mapping text map_refused.MapSyntax reads = sym reads
 stopped_mapping text map_refused.MapMany reads = sym reads
@@ -225,7 +225,7 @@ checked_got query fields (Some fs) later tree other mapping beside kept got has 
 
 pub check_stopped : (query fields : List ℕ) (files later : Option Files) (tree : QueryTree)
     (mapping : List (List ℕ × Kind)) (h : Halt) → later ≡ files → GotQuery query files tree
-    → GotMapping fields later mapping → StoppedChecking mapping tree h → CheckCause query fields files h
+    → GotMapping fields later mapping → StopsChecking mapping tree h → CheckCause query fields files h
 check_stopped query fields files later tree mapping (halt.Refused (refused.NoFile n)) kept got has stop = absurd stop
 check_stopped query fields files later tree mapping (halt.Refused (refused.Lex r)) kept got has stop = absurd stop
 check_stopped query fields files later tree mapping (halt.Refused (refused.Parse r)) kept got has stop = absurd stop
@@ -239,7 +239,7 @@ check_stopped query fields files later tree mapping halt.Memory kept got has sto
 
 pub stopped_checking : (mapping : List (List ℕ × Kind)) (tree : QueryTree) (r : CheckRefused)
     → (r ≢ check_memory → first_broken (kind_at mapping) tree ≡ Some r)
-    → StoppedChecking mapping tree (halt_of_check r)
+    → StopsChecking mapping tree (halt_of_check r)
 stopped_checking mapping tree (check_refused.UnknownField name) cause = cause (λ is. cc)
 stopped_checking mapping tree (check_refused.UnknownFunction name) cause = cause (λ is. cc)
 stopped_checking mapping tree (check_refused.Arity name) cause = cause (λ is. cc)
@@ -267,7 +267,7 @@ IsOfText (halt.Refused (refused.Broken r)) = Unit {0}
 IsOfText (halt.Read n) = ⊥
 IsOfText halt.Memory = Unit {0}
 
-pub query_calm : (text : List ℕ) (h : Halt) → StoppedQuery text h → IsOfText h
+pub query_calm : (text : List ℕ) (h : Halt) → StopsQuery text h → IsOfText h
 query_calm text (halt.Refused (refused.NoFile n)) stop = absurd stop
 query_calm text (halt.Refused (refused.Lex r)) stop = tt
 query_calm text (halt.Refused (refused.Parse r)) stop = tt
@@ -276,7 +276,7 @@ query_calm text (halt.Refused (refused.Broken r)) stop = absurd stop
 query_calm text (halt.Read n) stop = absurd stop
 query_calm text halt.Memory stop = tt
 
-pub mapping_calm : (text : List ℕ) (h : Halt) → StoppedMapping text h → IsOfText h
+pub mapping_calm : (text : List ℕ) (h : Halt) → StopsMapping text h → IsOfText h
 mapping_calm text (halt.Refused (refused.NoFile n)) stop = absurd stop
 mapping_calm text (halt.Refused (refused.Lex r)) stop = absurd stop
 mapping_calm text (halt.Refused (refused.Parse r)) stop = absurd stop
@@ -285,7 +285,7 @@ mapping_calm text (halt.Refused (refused.Broken r)) stop = absurd stop
 mapping_calm text (halt.Read n) stop = absurd stop
 mapping_calm text halt.Memory stop = tt
 
-pub check_calm : (mapping : List (List ℕ × Kind)) (tree : QueryTree) (h : Halt) → StoppedChecking mapping tree h
+pub check_calm : (mapping : List (List ℕ × Kind)) (tree : QueryTree) (h : Halt) → StopsChecking mapping tree h
     → IsOfText h
 check_calm mapping tree (halt.Refused (refused.NoFile n)) stop = absurd stop
 check_calm mapping tree (halt.Refused (refused.Lex r)) stop = absurd stop

@@ -12,7 +12,7 @@ use Rattle.eql_check.specs.declared.refused.CheckRefused.TheVariants as check_re
 use Rattle.eql_check.specs.Kinds.{kind_at}
 use Rattle.eql_check.specs.Mappings.{mapping_of}
 use Rattle.eql_check.specs.Rules.{first_broken}
-use Rattle.eql_runs.specs.Files.{Files, HasTokens, NoTokens, ReadAs, NotRead, HasQuery, HasMapping, HasChecked}
+use Rattle.eql_runs.specs.Files.{Files, HasTokens, NoTokens, ReadsAs, IsNotRead, HasQuery, HasMapping, HasChecked}
 use Rattle.eql_runs.specs.Refusals.{Names}
 use Rattle.eql_inputs.specs.declared.halt.Refused.TheVariants as refused
 use Rattle.eql_inputs.specs.declared.halt.Halt.{Halt}
@@ -50,14 +50,14 @@ CheckCause query fields files h =
     (shards : List (List ℕ)) → HasCause (naming query fields shards) files h
 
 -- the reading of the file of this name stopped so; `missing` holds where the file isn't there
-abbrev pub StoppedReading : List ℕ → Type 0 → Halt → Type 0
-StoppedReading name missing (halt.Refused (refused.NoFile n)) = (n.now ≡ name) × missing
-StoppedReading name missing (halt.Refused (refused.Lex r)) = ⊥
-StoppedReading name missing (halt.Refused (refused.Parse r)) = ⊥
-StoppedReading name missing (halt.Refused (refused.Mapping r)) = ⊥
-StoppedReading name missing (halt.Refused (refused.Broken r)) = ⊥
-StoppedReading name missing (halt.Read n) = n.now ≡ name
-StoppedReading name missing halt.Memory = Unit {0}
+abbrev pub StopsReading : List ℕ → Type 0 → Halt → Type 0
+StopsReading name missing (halt.Refused (refused.NoFile n)) = (n.now ≡ name) × missing
+StopsReading name missing (halt.Refused (refused.Lex r)) = ⊥
+StopsReading name missing (halt.Refused (refused.Parse r)) = ⊥
+StopsReading name missing (halt.Refused (refused.Mapping r)) = ⊥
+StopsReading name missing (halt.Refused (refused.Broken r)) = ⊥
+StopsReading name missing (halt.Read n) = n.now ≡ name
+StopsReading name missing halt.Memory = Unit {0}
 
 -- the halt of a text that has no tokens
 abbrev pub halt_of_lex : LexRefused → Halt
@@ -65,29 +65,29 @@ halt_of_lex lexed.Memory = halt.Memory
 halt_of_lex r = halt.Refused (refused.Lex r)
 
 -- a text has no tokens, and a run stopped so
-abbrev pub StoppedSpelling : List ℕ → Halt → Type 0
-StoppedSpelling text (halt.Refused (refused.Lex r)) = NoTokens text r
-StoppedSpelling text halt.Memory = Unit {0}
-StoppedSpelling text _ = ⊥
+abbrev pub StopsSpelling : List ℕ → Halt → Type 0
+StopsSpelling text (halt.Refused (refused.Lex r)) = NoTokens text r
+StopsSpelling text halt.Memory = Unit {0}
+StopsSpelling text _ = ⊥
 
 -- tokens are no query, and a run stopped so
-abbrev pub StoppedParsing : List Token → Halt → Type 0
-StoppedParsing tokens (halt.Refused (refused.Parse r)) = NotRead tokens r
-StoppedParsing tokens halt.Memory = Unit {0}
-StoppedParsing tokens _ = ⊥
+abbrev pub StopsParsing : List Token → Halt → Type 0
+StopsParsing tokens (halt.Refused (refused.Parse r)) = IsNotRead tokens r
+StopsParsing tokens halt.Memory = Unit {0}
+StopsParsing tokens _ = ⊥
 
 -- a text is this query
 pub record IsQueryText (text : List ℕ) (tree : QueryTree) : Type 0 where
   pub tokens : List Token
   pub spelled : HasTokens text tokens
-  pub read : ReadAs tokens tree
+  pub read : ReadsAs tokens tree
 
 -- a text is no query, and a run stopped so
-abbrev pub StoppedQuery : List ℕ → Halt → Type 0
-StoppedQuery text (halt.Refused (refused.Lex r)) = NoTokens text r
-StoppedQuery text (halt.Refused (refused.Parse r)) = (tokens : List Token) × HasTokens text tokens × NotRead tokens r
-StoppedQuery text halt.Memory = Unit {0}
-StoppedQuery text _ = ⊥
+abbrev pub StopsQuery : List ℕ → Halt → Type 0
+StopsQuery text (halt.Refused (refused.Lex r)) = NoTokens text r
+StopsQuery text (halt.Refused (refused.Parse r)) = (tokens : List Token) × HasTokens text tokens × IsNotRead tokens r
+StopsQuery text halt.Memory = Unit {0}
+StopsQuery text _ = ⊥
 
 -- the halt of a text that is no mapping
 abbrev pub halt_of_map : MapRefused → Halt
@@ -95,10 +95,10 @@ halt_of_map map_refused.Memory = halt.Memory
 halt_of_map r = halt.Refused (refused.Mapping r)
 
 -- a text is no mapping, and a run stopped so
-abbrev pub StoppedMapping : List ℕ → Halt → Type 0
-StoppedMapping text (halt.Refused (refused.Mapping r)) = mapping_of text ≡ Err r
-StoppedMapping text halt.Memory = Unit {0}
-StoppedMapping text _ = ⊥
+abbrev pub StopsMapping : List ℕ → Halt → Type 0
+StopsMapping text (halt.Refused (refused.Mapping r)) = mapping_of text ≡ Err r
+StopsMapping text halt.Memory = Unit {0}
+StopsMapping text _ = ⊥
 
 -- the halt of a query that breaks a rule
 abbrev pub halt_of_check : CheckRefused → Halt
@@ -106,7 +106,7 @@ halt_of_check check_refused.Memory = halt.Memory
 halt_of_check r = halt.Refused (refused.Broken r)
 
 -- a query breaks a rule, and a run stopped so
-abbrev pub StoppedChecking : List (List ℕ × Kind) → QueryTree → Halt → Type 0
-StoppedChecking mapping tree (halt.Refused (refused.Broken r)) = first_broken (kind_at mapping) tree ≡ Some r
-StoppedChecking mapping tree halt.Memory = Unit {0}
-StoppedChecking mapping tree _ = ⊥
+abbrev pub StopsChecking : List (List ℕ × Kind) → QueryTree → Halt → Type 0
+StopsChecking mapping tree (halt.Refused (refused.Broken r)) = first_broken (kind_at mapping) tree ≡ Some r
+StopsChecking mapping tree halt.Memory = Unit {0}
+StopsChecking mapping tree _ = ⊥

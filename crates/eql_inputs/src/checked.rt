@@ -7,7 +7,7 @@ ghost use Rattle.eql_check.specs.Typing.{IsChecked};
 ghost use Rattle.eql_check.specs.Used.{used_fields};
 ghost use Rattle.eql_inputs.specs.Halts.{FaultsAs, CountAs, AbsenceAs, IsNoFault};
 ghost use Rattle.eql_inputs.specs.Shelves.{KeepsShelf, LendsAsMany, NeverFails};
-ghost use Rattle.eql_inputs.specs.Steps.{GotQuery, GotMapping, GotChecked, QueryCause, MappingCause, CheckCause, StoppedChecking};
+ghost use Rattle.eql_inputs.specs.Steps.{GotQuery, GotMapping, GotChecked, QueryCause, MappingCause, CheckCause, StopsChecking};
 
 use crate::file::read_file;
 use crate::halt::Halt;
@@ -102,7 +102,7 @@ fn checked_with<'a>(alloc: Global, query: &Query, mapping: Mapping) -> Result<In
         × (inputs.mapping ≡ mapping)) }
     ensures fields { IfOk result (λ inputs. inputs.checked.fields
         ≡ used_fields (kind_at inputs.mapping) (query_tree inputs.checked.query)) }
-    ensures cause { IfErr result (StoppedChecking mapping (query_tree query.now)) }
+    ensures cause { IfErr result (StopsChecking mapping (query_tree query.now)) }
 {
     match checked_of(alloc, query, &mapping) {
         Ok(checked) => Ok(Inputs { checked, mapping }),

@@ -6,7 +6,7 @@ ghost use Rattle.eql_inputs.specs.Fronts.{IsFrontOf, IsMissing};
 ghost use Rattle.eql_inputs.specs.Halts.{FaultsAs, CountAs, AbsenceAs, IsNoFault};
 ghost use Rattle.eql_inputs.specs.Shards.{IsWholeFile};
 ghost use Rattle.eql_inputs.specs.Shelves.{KeepsShelf, LendsAsMany, LendsMore, NeverFails};
-ghost use Rattle.eql_inputs.specs.Steps.{StoppedReading};
+ghost use Rattle.eql_inputs.specs.Steps.{StopsReading};
 
 use crate::front::read_front;
 use crate::halt::{Halt, Refused};
@@ -25,7 +25,7 @@ pub(crate) fn open_file<'a, H: Shelf>(
     ensures fresh { IfOk result (λ source. H.Src.fault_count source ≡ 0) }
     ensures named { IfOk result (λ source. H.Src.lent_as source ≡ Some name.now) }
     ensures cause { IfErr result
-        (StoppedReading name.now (IsMissing name.now (H.files shelf.old))) }
+        (StopsReading name.now (IsMissing name.now (H.files shelf.old))) }
     ensures faults { MatchResult result
         (λ _. SameFaults (H.faults_of shelf.old) (H.faults_of shelf.new))
         (λ halt. FaultsAs halt (H.faults_of shelf.old) (H.faults_of shelf.new)) }
@@ -68,7 +68,7 @@ pub fn read_file<'a, H: Shelf>(
         (λ text. IsFrontOf name.now (H.files shelf.old) most text.items) }
     ensures few { IfOk result (λ text. length text.items ≤ most) }
     ensures cause { IfErr result
-        (StoppedReading name.now (IsMissing name.now (H.files shelf.old))) }
+        (StopsReading name.now (IsMissing name.now (H.files shelf.old))) }
     ensures faults { MatchResult result
         (λ _. SameFaults (H.faults_of shelf.old) (H.faults_of shelf.new))
         (λ halt. FaultsAs halt (H.faults_of shelf.old) (H.faults_of shelf.new)) }

@@ -5,8 +5,8 @@ ghost use Rattle.eql_check.specs.Kinds.{kind_at};
 ghost use Rattle.eql_check.specs.Mappings.{mapping_of};
 ghost use Rattle.eql_check.specs.Typing.{IsChecked};
 ghost use Rattle.eql_check.specs.Used.{used_fields};
-ghost use Rattle.eql_runs.specs.Files.{HasTokens, ReadAs};
-ghost use Rattle.eql_inputs.specs.Steps.{halt_of_lex, halt_of_map, halt_of_check, IsQueryText, StoppedSpelling, StoppedParsing, StoppedQuery, StoppedMapping, StoppedChecking};
+ghost use Rattle.eql_runs.specs.Files.{HasTokens, ReadsAs};
+ghost use Rattle.eql_inputs.specs.Steps.{halt_of_lex, halt_of_map, halt_of_check, IsQueryText, StopsSpelling, StopsParsing, StopsQuery, StopsMapping, StopsChecking};
 
 use crate::halt::{Halt, Refused};
 use eql_check::{CheckRefused, Checked, MapRefused, Mapping, can_check, check};
@@ -18,7 +18,7 @@ use std::alloc::Global;
 /// The tokens of a query's text.
 pub(crate) fn tokens_of<'a>(alloc: Global, text: &[u8]) -> Result<Tokens, Halt<'a>>
     ensures tokens { IfOk result (λ tokens. HasTokens text.now tokens) }
-    ensures cause { IfErr result (StoppedSpelling text.now) }
+    ensures cause { IfErr result (StopsSpelling text.now) }
 {
     match lex(alloc, text) {
         Ok(tokens) => Ok(tokens),
@@ -38,8 +38,8 @@ fn halt_of_lex<'a>(refused: LexRefused) -> Halt<'a>
 
 /// The query that tokens are.
 pub(crate) fn query_of<'a>(alloc: Global, tokens: &Tokens) -> Result<Query, Halt<'a>>
-    ensures query { IfOk result (λ query. ReadAs tokens.now (query_tree query)) }
-    ensures cause { IfErr result (StoppedParsing tokens.now) }
+    ensures query { IfOk result (λ query. ReadsAs tokens.now (query_tree query)) }
+    ensures cause { IfErr result (StopsParsing tokens.now) }
 {
     match parse(alloc, tokens) {
         Ok(query) => Ok(query),
@@ -51,7 +51,7 @@ pub(crate) fn query_of<'a>(alloc: Global, tokens: &Tokens) -> Result<Query, Halt
 /// The mapping that a text is.
 pub(crate) fn mapping_of<'a>(alloc: Global, text: &[u8]) -> Result<Mapping, Halt<'a>>
     ensures mapping { IfOk result (λ mapping. mapping_of text.now ≡ Ok mapping) }
-    ensures cause { IfErr result (StoppedMapping text.now) }
+    ensures cause { IfErr result (StopsMapping text.now) }
 {
     match Mapping::read(alloc, text) {
         Ok(mapping) => Ok(mapping),
@@ -80,7 +80,7 @@ pub(crate) fn checked_of<'a>(
     ensures query { IfOk result (λ checked. query_tree checked.query ≡ query_tree query.now) }
     ensures fields { IfOk result
         (λ checked. checked.fields ≡ used_fields (kind_at mapping.now) (query_tree query.now)) }
-    ensures cause { IfErr result (StoppedChecking mapping.now (query_tree query.now)) }
+    ensures cause { IfErr result (StopsChecking mapping.now (query_tree query.now)) }
 {
     if !can_check(query) {
         return Err(Halt::Memory);
@@ -104,7 +104,7 @@ fn halt_of_check<'a>(refused: CheckRefused) -> Halt<'a>
 /// The query of a text.
 pub(crate) fn query_in<'a>(alloc: Global, text: &[u8]) -> Result<Query, Halt<'a>>
     ensures query { IfOk result (λ query. IsQueryText text.now (query_tree query)) }
-    ensures cause { IfErr result (StoppedQuery text.now) }
+    ensures cause { IfErr result (StopsQuery text.now) }
 {
     let tokens = tokens_of(alloc, text)?;
     query_of(alloc, &tokens)

@@ -20,8 +20,8 @@ use Rattle.eql_laws.proofs.BelowLemmas.{All-sorted, All-accepted}
 use Rattle.eql_laws.proofs.Elements.{All-filter_map}
 use Rattle.eql_lane.specs.Lanes.{Setting, begun}
 use Rattle.eql_lane.specs.Views.{LaneView, IsTextOf}
-use Rattle.eql_lane.specs.Noting.{place_among, line_place, placed_item, placed_cut, unplaced_cut, whole_lines, Located}
-use Rattle.eql_lane.specs.Passing.{PassedOver, IsEnd, Finds}
+use Rattle.eql_lane.specs.Noting.{place_among, line_place, placed_item, placed_cut, unplaced_cut, whole_lines, Locates}
+use Rattle.eql_lane.specs.Passing.{PassesOver, IsEnd, Finds}
 use Rattle.eql_lane.specs.Starts.{Begins, Lifts}
 use Rattle.eql_lane.specs.Keeps.{LaneIs, CutsBegin, LiftedIs, PlacesHaveLines}
 use Rattle.eql_lane.proofs.Starting.{end_rest}
@@ -30,7 +30,7 @@ use Rattle.eql_lane.proofs.NoteLemmas.{place_stays}
 
 -- ---- a lane behind an offset
 module _ {S L : Type 0} (left lent_as : S → Option (List ℕ)) (fault_count : S → ℕ) (source back : S) (reader : L) (shard : ℕ) (slack : Option ℤ) (cut : LaneCut) (places : List (ℕ × ℕ))
-    (passed : PassedOver left lent_as cut.offset source back) (ended : cut.closed ≡ true → IsEnd left back) (steady : fault_count back ≡ fault_count source) where
+    (passed : PassesOver left lent_as cut.offset source back) (ended : cut.closed ≡ true → IsEnd left back) (steady : fault_count back ≡ fault_count source) where
   pub begins_of : (lane : LaneView S L) → lane ≡ record { source = back; reader = reader; shard = shard; slack = slack; buffer = record { long = None; unread = [] }; places = places; state = begun cut (fault_count back) }
       → Begins left lent_as fault_count source reader shard slack cut places lane
   begins_of lane e = record {
@@ -46,14 +46,14 @@ module _ {S L : Type 0} (left lent_as : S → Option (List ℕ)) (fault_count : 
   }
 
 module _ {S L : Type 0} (left lent_as : S → Option (List ℕ)) (fault_count : S → ℕ) (source back : S) (reader : L) (shard : ℕ) (slack : Option ℤ) (cut : LaneCut) (wanted : List ℕ) (places : List (ℕ × ℕ))
-    (passed : PassedOver left lent_as cut.offset source back) (ended : cut.closed ≡ true → IsEnd left back) (steady : fault_count back ≡ fault_count source) (finds : Finds (left source) cut.offset wanted places) where
+    (passed : PassesOver left lent_as cut.offset source back) (ended : cut.closed ≡ true → IsEnd left back) (steady : fault_count back ≡ fault_count source) (finds : Finds (left source) cut.offset wanted places) where
   pub lifts_of : (set_anew : LaneCut) → set_anew ≡ placed_cut finds.first cut → (lane : LaneView S L)
       → lane ≡ record { source = back; reader = reader; shard = shard; slack = slack; buffer = record { long = None; unread = [] }; places = places; state = begun set_anew (fault_count back) }
       → Lifts left lent_as fault_count source reader shard slack cut wanted lane
   lifts_of set_anew same lane e =
       let kept : places ≡ lane.places = sym (ap (λ (v : LaneView S L). v.places) e) in
       record {
-        finds = record { first = finds.first; rest = finds.rest; count = finds.count; told = finds.told; located = subst (Located finds.first finds.rest wanted) kept finds.located };
+        finds = record { first = finds.first; rest = finds.rest; count = finds.count; told = finds.told; located = subst (Locates finds.first finds.rest wanted) kept finds.located };
         begins = subst (λ (l : List (ℕ × ℕ)). Begins left lent_as fault_count source reader shard slack (placed_cut finds.first cut) l lane) kept
             (begins_of left lent_as fault_count source back reader shard slack (placed_cut finds.first cut) places passed ended steady lane
             (e ∙ ap (λ (k : LaneCut). let v : LaneView S L = record { source = back; reader = reader; shard = shard; slack = slack; buffer = record { long = None; unread = [] }; places = places; state = begun k (fault_count back) } in v) same));

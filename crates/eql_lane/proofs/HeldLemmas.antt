@@ -32,7 +32,7 @@ use Rattle.eql_laws.proofs.BelowLemmas.{All-sorted}
 use Rattle.eql_laws.proofs.Distinct.{sorted_keeps_all}
 use Rattle.eql_laws.proofs.Facts.{both_true, true_both, is_less, is_equal, holds_true}
 use Rattle.eql_values.proofs.InOrder.{in_order-sorted}
-use Rattle.eql_values.specs.Ascending.{Ascending}
+use Rattle.eql_values.specs.Ascending.{Ascend}
 use Rattle.eql_lane.proofs.Starting.{sorted_pairs}
 use Rattle.eql_laws.proofs.Lists.{map_back}
 use Rattle.eql_laws.proofs.Sorting.{pair, back, bare, sorted_alike, sorted_more, find_more}
@@ -370,7 +370,7 @@ inserted (Ok u) run others before item newest seen is lines new same =
 inserted (Err e) run others before item newest seen is lines new same = record { held = tt; unchanged = ap (held_in run) same ∙ seen; is = subst (IsHeld run) (sym same) is }
 
 -- the events of a cut are a run
-pub run_alone : (items : List Item) → Ascending items → (held_in items [] ≡ items) × IsHeld items []
+pub run_alone : (items : List Item) → Ascend items → (held_in items [] ≡ items) × IsHeld items []
 run_alone items up = (
   ap sorted_items (append-nil items) ∙ sym (ap sorted_items (map_back back pair (λ e. refl) items)) ∙ sym (sorted_again (map pair items) (sorted_pairs items up)) ∙ map_back back pair (λ e. refl) items,
   record { run_order = sorted_pairs items up; others_order = refl; apart = none_apart items },

@@ -18,7 +18,7 @@ use Rattle.eql_values.specs.declared.order.OrderKey.{OrderKey}
 use Rattle.eql_values.specs.declared.item.Item.{Item}
 use Rattle.eql_values.specs.declared.cut.LaneCut.{LaneCut}
 use Rattle.eql_values.specs.Accepted.{placed_at}
-use Rattle.eql_values.specs.Ascending.{Ascending, AllAfter}
+use Rattle.eql_values.specs.Ascending.{Ascend, AllAfter}
 use Rattle.eql_values.specs.OrderKeys.{order_cmp, tie_cmp}
 use Rattle.eql_lane.specs.Noting.{line_place, placed_lines, placed_item, placed_cut, place_noted, item_noted, LinesAscend, IsUnplaced}
 use Rattle.eql_lane.specs.Starts.{MayBegin, MayLift}
@@ -140,7 +140,7 @@ module _ (first : List ℕ) where
     after_up o items oz (All-tail (λ (i : Item). i.order.at ≡ 0) x items none) up.1,
   )
 
-  items_up : (items : List Item) → IsUnplaced items → Ascending items → Ascending (map (placed_item first) items)
+  items_up : (items : List Item) → IsUnplaced items → Ascend items → Ascend (map (placed_item first) items)
   items_up [] none up = tt
   items_up (x ∷ items) none up =
       let rest = All-tail (λ (i : Item). i.order.at ≡ 0) x items none in

@@ -15,7 +15,7 @@ use Rattle.eql_laws.proofs.Facts.{both_true}
 use Rattle.eql_laws.proofs.LineLemmas.{lines_go_on, line_by_line, lines_are_one}
 use Rattle.std.proofs.Math.Seq.{take-add}
 use Rattle.eql_lane.specs.Buffers.{IsOneLine, FeedAt}
-use Rattle.eql_lane.specs.Noting.{place_among, line_place, placed_lines, whole_lines, IsWholeLine, Located, IsMissing, Noted, is_line, is_cut, at_hand, last_line, line_ended, IsAtHand, AtHand, NotesOf}
+use Rattle.eql_lane.specs.Noting.{place_among, line_place, placed_lines, whole_lines, IsWholeLine, Locates, IsMissing, Noted, is_line, is_cut, at_hand, last_line, line_ended, IsAtHand, AtHand, NotesOf}
 use Rattle.eql_lane.proofs.BufferLemmas.{one_on}
 use Rattle.eql_lane.proofs.FeedLines.{ends_before, lines_both, behind}
 
@@ -401,7 +401,7 @@ module _ (whole more rest : List ℕ) (ends : IsTrue (ends_line whole)) where
 
 module _ (x : Noted) (front rest whole more noted : List ℕ) (parts : front ≡ whole ++ more) (ends : IsTrue (ends_line whole)) (passed : x.passed ≡ length front)
     (there : All (IsLineOf whole) noted) (places : x.places ≡ placed_lines whole noted) where
-  all_noted : x.wanted ≡ noted ++ [] → x.places ≡ placed_lines front noted → Located front rest x.wanted x.places
+  all_noted : x.wanted ≡ noted ++ [] → x.places ≡ placed_lines front noted → Locates front rest x.wanted x.places
   all_noted wanted e = record {
     whole = subst (All (IsWholeLine front rest)) (sym (wanted ∙ append-nil noted)) (subst (λ (l : List ℕ). All (IsWholeLine l rest) noted) (sym parts) (whole_there whole more rest ends noted there));
     places_are = e ∙ ap (placed_lines front) (sym (wanted ∙ append-nil noted));
@@ -471,7 +471,7 @@ module _ (x : Noted) (front rest whole more noted : List ℕ) (parts : front ≡
           (goes_on whole more ends ∙ ap (λ (l : List Line). lines_in whole ++ l) ((line_by_line whole more [] ends hand.one).last (some_more some)))
           ∙ place_next 1 0 (lines_of whole) (record { number = 1 + length (lines_of whole); at = length whole; bytes = more }) [] refl ∙ sym hand.at
 
-      located_last : left ≡ [] → Located front rest x.wanted (x.places ++ (x.line, x.at) ∷ [])
+      located_last : left ≡ [] → Locates front rest x.wanted (x.places ++ (x.line, x.at) ∷ [])
       located_last none =
           let all : x.wanted ≡ noted ++ next ∷ [] = wanted ∙ ap (λ (l : List ℕ). noted ++ next ∷ l) none in
           record {
@@ -498,7 +498,7 @@ module _ (x : Noted) (front rest whole more noted : List ℕ) (parts : front ≡
 
 -- how notes end: all wanted lines were noted, or one is missing
 pub record Finished (front rest : List ℕ) (x : Noted) (ended : Bool) (next : Option ℕ) (places : List (ℕ × ℕ)) : Type 0 where
-  pub located : next ≡ None → Located front rest x.wanted places
+  pub located : next ≡ None → Locates front rest x.wanted places
   pub missing : (ended ≡ false → rest ≡ [] → is_cut x ≡ false) → IfSome next (λ (line : ℕ). IsMissing front rest x.wanted line)
 
 module _ (x : Noted) (front rest whole more noted : List ℕ) (parts : front ≡ whole ++ more) (ends : IsTrue (ends_line whole)) (passed : x.passed ≡ length front)
@@ -516,7 +516,7 @@ module _ (x : Noted) (front rest whole more noted : List ℕ) (parts : front ≡
       let same : x.places ++ last_line ended x ≡ x.places = ap (λ (l : List (ℕ × ℕ)). x.places ++ cond (ended && nat_lt x.at x.passed) l []) no_hand ∙ empty (ended && nat_lt x.at x.passed) in
       let done : next ≡ None = same_next next same e ∙ none in
       record {
-        located = λ _. subst (Located front rest x.wanted) (sym same) (all_noted x front rest whole more noted parts ends passed there places wanted (in_front x front rest whole more noted parts ends passed there places));
+        located = λ _. subst (Locates front rest x.wanted) (sym same) (all_noted x front rest whole more noted parts ends passed there places wanted (in_front x front rest whole more noted parts ends passed there places));
         missing = λ _. subst (λ (o : Option ℕ). IfSome o (λ (line : ℕ). IsMissing front rest x.wanted line)) (sym done) tt;
       }
     where
@@ -549,7 +549,7 @@ module _ (x : Noted) (front rest whole more noted : List ℕ) (parts : front ≡
         ap length more_noted ∙ length-append x.places ((x.line, x.at) ∷ []) ∙ ap (λ (n : ℕ). n + 1) noted_many ∙ sym (length-append noted (line ∷ [])) in
         let next_is : next ≡ slice_get left 0 = e ∙ next_of (noted ++ line ∷ []) left x.wanted (length (x.places ++ last_line ended x)) (wanted ∙ sym (append_assoc noted (line ∷ []) left)) many in
         record {
-          located = λ n. subst (Located front rest x.wanted) (sym more_noted) (located_last x front rest whole more noted parts ends passed there places line left ended wanted rises hand some (at_end is_ended) same (none_there left (sym next_is ∙ n)));
+          located = λ n. subst (Locates front rest x.wanted) (sym more_noted) (located_last x front rest whole more noted parts ends passed there places line left ended wanted rises hand some (at_end is_ended) same (none_there left (sym next_is ∙ n)));
           missing = λ _. subst (λ (o : Option ℕ). IfSome o (λ (l : ℕ). IsMissing front rest x.wanted l)) (sym next_is)
               (first_missing left (λ later others f. missing_later x front rest whole more noted parts ends passed there places line left ended wanted rises hand some (at_end is_ended) same later others f));
         }

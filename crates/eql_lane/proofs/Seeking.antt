@@ -3,13 +3,13 @@ use Rattle.std.proofs.Common.{◌≡◌, ◌≢◌, ◌⊎◌, inl, inr, ℕ, �
 use Rattle.std.specs.Prelude.{IfSome, IfOk, IfErr, All}
 use Rattle.std.proofs.Math.Seq.{take-add}
 use Rattle.std.proofs.lemmas.List.{append-nil, take-append-drop}
-use Rattle.eql_lane.specs.Noting.{Noted, NotesOf, Located, IsMissing, IsWholeLine, is_cut}
-use Rattle.eql_lane.specs.Passing.{PassedOver, ReadOver, Finds, IsJudged, Misses, Grows, IsCause}
+use Rattle.eql_lane.specs.Noting.{Noted, NotesOf, Locates, IsMissing, IsWholeLine, is_cut}
+use Rattle.eql_lane.specs.Passing.{PassesOver, ReadsOver, Finds, IsJudged, Misses, Grows, IsCause}
 use Rattle.eql_lane.specs.declared.make.LaneRefused.{LaneRefused}
 use Rattle.eql_lane.specs.declared.make.LaneRefused.TheVariants as refused
 
 -- ---- bytes read in pieces
-pub read_start : (left : Option (List ℕ)) (x : Noted) → ReadOver left 0 x x
+pub read_start : (left : Option (List ℕ)) (x : Noted) → ReadsOver left 0 x x
 read_start left x = record {
   bytes = [];
   count = refl;
@@ -33,7 +33,7 @@ told_join (Some t) mid a b p q rest h k =
     (λ i. h i ++ m i) ∙ sym (take-add a b t)
 
 module _ {S : Type 0} (left lent_as : S → Option (List ℕ)) where
-  pub read_join : (a b : ℕ) (s t : S) (x y z : Noted) → PassedOver left lent_as a s t → ReadOver (left s) a x y → ReadOver (left t) b y z → ReadOver (left s) (a + b) x z
+  pub read_join : (a b : ℕ) (s t : S) (x y z : Noted) → PassesOver left lent_as a s t → ReadsOver (left s) a x y → ReadsOver (left t) b y z → ReadsOver (left s) (a + b) x z
   read_join a b s t x y z over p q = record {
     bytes = p.bytes ++ q.bytes;
     count = let c = length-append p.bytes q.bytes in let d = p.count in let e = q.count in omega (arith, c, d, e);
@@ -43,8 +43,8 @@ module _ {S : Type 0} (left lent_as : S → Option (List ℕ)) where
     passed = let c = p.passed in let d = q.passed in omega (arith, c, d);
   }
 
-  pub read_none : (a b : ℕ) (s t : S) (x y z : Noted) → b ≡ 0 → PassedOver left lent_as a s t → ReadOver (left s) a x y → ReadOver (left t) b y z → ReadOver (left s) a x z
-  read_none a b s t x y z e over p q = subst (λ (n : ℕ). ReadOver (left s) n x z) (same a b e) (read_join a b s t x y z over p q)
+  pub read_none : (a b : ℕ) (s t : S) (x y z : Noted) → b ≡ 0 → PassesOver left lent_as a s t → ReadsOver (left s) a x y → ReadsOver (left t) b y z → ReadsOver (left s) a x z
+  read_none a b s t x y z e over p q = subst (λ (n : ℕ). ReadsOver (left s) n x z) (same a b e) (read_join a b s t x y z over p q)
     where
       same : (a b : ℕ) → b ≡ 0 → a + b ≡ a
       same a b e = omega (arith, e)
@@ -65,14 +65,14 @@ told_rest : (text : Option (List ℕ)) (offset : ℕ) (ended : Bool) (bytes : Li
 told_rest None offset ended bytes told = tt
 told_rest (Some t) offset ended bytes told = sym (take-append-drop offset t) ∙ ap (λ (l : List ℕ). l ++ drop offset t) (sym told)
 
-pub finds_of : (text mid : Option (List ℕ)) (offset : ℕ) (ended : Bool) (x y : Noted) (wanted : List ℕ) (places : List (ℕ × ℕ)) → x.wanted ≡ wanted → NotesOf [] x → ReadOver text offset x y → Behind text mid offset
-    → (ended ≡ true → IfSome mid (λ l. l ≡ [])) → ((front rest : List ℕ) → NotesOf front y → (ended ≡ true → rest ≡ []) → Located front rest y.wanted places) → Finds text offset wanted places
+pub finds_of : (text mid : Option (List ℕ)) (offset : ℕ) (ended : Bool) (x y : Noted) (wanted : List ℕ) (places : List (ℕ × ℕ)) → x.wanted ≡ wanted → NotesOf [] x → ReadsOver text offset x y → Behind text mid offset
+    → (ended ≡ true → IfSome mid (λ l. l ≡ [])) → ((front rest : List ℕ) → NotesOf front y → (ended ≡ true → rest ≡ []) → Locates front rest y.wanted places) → Finds text offset wanted places
 finds_of text mid offset ended x y wanted places e start read behind gone located = record {
   first = read.bytes;
   rest = rest_of text offset ended;
   count = read.count;
   told = told_rest text offset ended read.bytes read.told;
-  located = subst (λ (l : List ℕ). Located read.bytes (rest_of text offset ended) l places) (read.wanted ∙ e) (located read.bytes (rest_of text offset ended) (read.noted [] start) (at_end text mid offset ended behind gone));
+  located = subst (λ (l : List ℕ). Locates read.bytes (rest_of text offset ended) l places) (read.wanted ∙ e) (located read.bytes (rest_of text offset ended) (read.noted [] start) (at_end text mid offset ended behind gone));
 }
 
 -- ---- what is refused
@@ -115,7 +115,7 @@ cause_by refused.Grown text mid before now offset ended closed cut wanted bytes 
 cause_by refused.Failed text mid before now offset ended closed cut wanted bytes behind told further judged = absurd judged
 cause_by refused.Memory text mid before now offset ended closed cut wanted bytes behind told further judged = absurd judged
 
-pub cause_of : (r : LaneRefused) (text mid : Option (List ℕ)) (before now offset : ℕ) (ended closed : Bool) (x y : Noted) (wanted : List ℕ) → x.wanted ≡ wanted → NotesOf [] x → ReadOver text offset x y → Behind text mid offset
+pub cause_of : (r : LaneRefused) (text mid : Option (List ℕ)) (before now offset : ℕ) (ended closed : Bool) (x y : Noted) (wanted : List ℕ) → x.wanted ≡ wanted → NotesOf [] x → ReadsOver text offset x y → Behind text mid offset
     → (ended ≡ true → IfSome mid (λ l. l ≡ [])) → (ended ≡ false → IfSome mid (λ l. l ≢ []) ⊎ ((closed ≡ false) × (is_cut y ≡ false)))
     → ((front rest : List ℕ) → NotesOf front y → (ended ≡ true → rest ≡ []) → (ended ≡ false → rest ≡ [] → is_cut y ≡ false) → IsJudged front rest y.wanted closed ended r) → IsCause text before now offset closed wanted r
 cause_of r text mid before now offset ended closed x y wanted e start read behind gone further judged =

@@ -7,11 +7,11 @@ use Rattle.std.specs.FinMap.Entries.{below_all, is_sorted}
 use Rattle.std.proofs.lemmas.List.{drop-drop}
 use Rattle.eql_values.specs.declared.order.OrderKey.{OrderKey}
 use Rattle.eql_values.specs.declared.item.Item.{Item}
-use Rattle.eql_values.specs.Ascending.{Ascending, AllAfter}
+use Rattle.eql_values.specs.Ascending.{Ascend, AllAfter}
 use Rattle.eql_values.specs.OrderKeys.{order_cmp}
 use Rattle.eql_laws.proofs.Facts.{true_both}
 use Rattle.eql_lane.specs.Holding.{pair}
-use Rattle.eql_lane.specs.Passing.{PassedOver, IsEnd}
+use Rattle.eql_lane.specs.Passing.{PassesOver, IsEnd}
 
 pub none_rest : (left now : Option (List ℕ)) → now ≡ left → IfSome left (λ t. (0 ≤ length t) × (now ≡ Some (drop 0 t)))
 none_rest None now e = tt
@@ -41,7 +41,7 @@ after_all : (a : OrderKey) (items : List Item) → AllAfter a items → IsTrue (
 after_all a [] h = refl
 after_all a (item ∷ items) h = true_both _ _ (is_below_key a item.order h.0) (after_all a items h.1)
 
-pub sorted_pairs : (items : List Item) → Ascending items → IsTrue (is_sorted order_cmp (map pair items))
+pub sorted_pairs : (items : List Item) → Ascend items → IsTrue (is_sorted order_cmp (map pair items))
 sorted_pairs [] h = refl
 sorted_pairs (item ∷ items) h = true_both _ _ (after_all item.order items h.1) (sorted_pairs items h.2)
 
@@ -60,18 +60,18 @@ end_rest_on (Some t) p n e h silent k =
     dropped (suc n) (x ∷ t) e = cc
 
 module _ {S : Type 0} (left lent_as : S → Option (List ℕ)) where
-  pub passed_start : (x : S) → PassedOver left lent_as 0 x x
+  pub passed_start : (x : S) → PassesOver left lent_as 0 x x
   passed_start x = record { rest = none_rest (left x) (left x) refl; silent = λ e. e; named = refl }
 
-  pub passed_join : (a b : ℕ) (x y z : S) → PassedOver left lent_as a x y → PassedOver left lent_as b y z → PassedOver left lent_as (a + b) x z
+  pub passed_join : (a b : ℕ) (x y z : S) → PassesOver left lent_as a x y → PassesOver left lent_as b y z → PassesOver left lent_as (a + b) x z
   passed_join a b x y z p q = record {
     rest = more_rest (left x) (left y) (left z) a b p.rest q.rest;
     silent = λ e. q.silent (p.silent e);
     named = q.named ∙ p.named;
   }
 
-  pub passed_none : (a b : ℕ) (x y z : S) → b ≡ 0 → PassedOver left lent_as a x y → PassedOver left lent_as b y z → PassedOver left lent_as a x z
-  passed_none a b x y z e p q = subst (λ (n : ℕ). PassedOver left lent_as n x z) (no_more a b e) (passed_join a b x y z p q)
+  pub passed_none : (a b : ℕ) (x y z : S) → b ≡ 0 → PassesOver left lent_as a x y → PassesOver left lent_as b y z → PassesOver left lent_as a x z
+  passed_none a b x y z e p q = subst (λ (n : ℕ). PassesOver left lent_as n x z) (no_more a b e) (passed_join a b x y z p q)
 
-  pub end_on : (x y : S) (n : ℕ) → n ≡ 0 → PassedOver left lent_as n x y → IsEnd left x → IsEnd left y
+  pub end_on : (x y : S) (n : ℕ) → n ≡ 0 → PassesOver left lent_as n x y → IsEnd left x → IsEnd left y
   end_on x y n e p h = end_rest_on (left x) (left y) n e p.rest p.silent h

@@ -18,10 +18,10 @@ use Rattle.eql_lane.specs.declared.buffer.FillRefused.{FillRefused}
 use Rattle.eql_lane.specs.declared.buffer.FillRefused.TheVariants as fill_refused
 use Rattle.eql_lane.specs.declared.step.Step.{Step}
 use Rattle.eql_lane.specs.declared.step.Step.TheVariants as step
-use Rattle.eql_lane.specs.Buffers.{Pending, Stands, FeedAt, IsFront, IsOneLine, seen, byte_count, Filled, NextOf}
+use Rattle.eql_lane.specs.Buffers.{Pending, Stands, FeedAt, IsFront, IsOneLine, seen, byte_count, FillsBuffer, NextOf}
 use Rattle.eql_lane.specs.Judging.{got_on, late_got, counts_got, held_got}
 use Rattle.eql_lane.specs.Lanes.{Setting, LaneState, IsState, GoesOn, ReadsOn, OutOfLines, read_on}
-use Rattle.eql_lane.specs.Views.{Told, IsTextAt, IsLane}
+use Rattle.eql_lane.specs.Views.{AreAtHand, IsTextAt, IsLane}
 use Rattle.eql_lane.specs.Feeding.{TookBytes, StepIs, line_step, end_step}
 use Rattle.eql_lane.proofs.BufferLemmas.{one_on}
 use Rattle.eql_laws.proofs.LineLemmas.{lines_are_one}
@@ -55,7 +55,7 @@ more_lines slack cut g width = by_got (late_got slack cut.best g) g
     by_got false (got.Item item) = refl
 
 told_on : (text left : Option (List ℕ)) (offset next taken : ℕ) (pending more rest : List ℕ) → pending ≡ more ++ rest → next ≡ offset + length more
-    → IfSome text (λ t. Told t left offset taken pending) → IfSome text (λ t. Told t left next taken rest)
+    → IfSome text (λ t. AreAtHand t left offset taken pending) → IfSome text (λ t. AreAtHand t left next taken rest)
 told_on None left offset next taken pending more rest parts e told = tt
 told_on (Some t) left offset next taken pending more rest parts e told = record {
   parts = ap (λ (n : ℕ). drop n t) e ∙ sym (drop-drop (length more) offset t)
@@ -69,7 +69,7 @@ none_left : (t : List ℕ) (left : Option (List ℕ)) (taken : ℕ) → left ≡
 none_left t left taken e h = let P : Option (List ℕ) → Type 0 = λ o. IfSome o (λ l. l ≡ []) in subst P e h
 
 goes_on : (text left : Option (List ℕ)) (offset taken : ℕ) (pending more rest : List ℕ) (closed : Bool) → pending ≡ more ++ rest
-    → (closed ≡ true → (rest ≡ []) × IfSome left (λ l. l ≡ [])) → IfSome text (λ t. Told t left offset taken pending) → IfSome text (λ t. GoesOn t offset more closed)
+    → (closed ≡ true → (rest ≡ []) × IfSome left (λ l. l ≡ [])) → IfSome text (λ t. AreAtHand t left offset taken pending) → IfSome text (λ t. GoesOn t offset more closed)
 goes_on None left offset taken pending more rest closed parts end told = tt
 goes_on (Some t) left offset taken pending more rest closed parts end told = record {
   rest = rest ++ drop taken t;
@@ -77,7 +77,7 @@ goes_on (Some t) left offset taken pending more rest closed parts end told = rec
   at_end = λ e. (λ i. (end e).0 i ++ none_left t left taken told.left_is (end e).1 i);
 }
 
-within_text : (text left : Option (List ℕ)) (offset taken : ℕ) (pending : List ℕ) → IfSome text (λ t. Told t left offset taken pending) → IfSome text (λ t. taken ≤ length t)
+within_text : (text left : Option (List ℕ)) (offset taken : ℕ) (pending : List ℕ) → IfSome text (λ t. AreAtHand t left offset taken pending) → IfSome text (λ t. taken ≤ length t)
 within_text None left offset taken pending told = tt
 within_text (Some t) left offset taken pending told = told.within
 
@@ -339,7 +339,7 @@ module _ (text left : Option (List ℕ)) (buffer : Pending) (cut : LaneCut) (tak
 
 -- ---- bytes that were taken
 told_more : (text left now : Option (List ℕ)) (offset taken n : ℕ) (pending piece : List ℕ) → length piece ≡ n
-    → IfSome left (λ l. NextOf l now piece) → IfSome text (λ t. Told t left offset taken pending) → IfSome text (λ t. Told t now offset (taken + n) (pending ++ piece))
+    → IfSome left (λ l. NextOf l now piece) → IfSome text (λ t. AreAtHand t left offset taken pending) → IfSome text (λ t. AreAtHand t now offset (taken + n) (pending ++ piece))
 told_more None left now offset taken n pending piece count next told = tt
 told_more (Some t) left now offset taken n pending piece count next told =
     let P : Option (List ℕ) → Type 0 = λ o. IfSome o (λ l. NextOf l now piece) in
@@ -359,7 +359,7 @@ module _ (text left : Option (List ℕ)) (buffer : Pending) (cut : LaneCut) (tak
 
   -- the lane once bytes were taken
   pub took_lane : (b next : Pending) (now : Option (List ℕ)) (n : ℕ) → Stands b is.pending → length b.unread ≤ 1048576 → n ≤ 65536 → taken + n ≤ greatest_bytes
-      → Filled left now b.unread next.unread n → next.long ≡ b.long → IsLane text now next cut (taken + n)
+      → FillsBuffer left now b.unread next.unread n → next.long ≡ b.long → IsLane text now next cut (taken + n)
   took_lane b next now n stands short few bytes f long = record {
     pending = is.pending ++ f.piece;
     stands = record {
@@ -391,7 +391,7 @@ module _ (text left : Option (List ℕ)) (buffer : Pending) (cut : LaneCut) (tak
     taken = refl;
   }
 
-pub filled_none : (left now : Option (List ℕ)) (before after : List ℕ) (n : ℕ) → Filled left now before after n → n ≡ 0 → after ≡ before
+pub filled_none : (left now : Option (List ℕ)) (before after : List ℕ) (n : ℕ) → FillsBuffer left now before after n → n ≡ 0 → after ≡ before
 filled_none left now before after n f e = f.after_is ∙ ap (λ (l : List ℕ). before ++ l) (none_of f.piece (f.count ∙ e)) ∙ append-nil before
 
 drop_nothing : (k : ℕ) (l : List ℕ) → l ≡ [] → drop k l ≡ []
@@ -399,7 +399,7 @@ drop_nothing zero l e = e
 drop_nothing (suc k) [] e = refl
 drop_nothing (suc k) (x ∷ l) e = cc
 
-pub left_none : (left now : Option (List ℕ)) (before after : List ℕ) (n : ℕ) → Filled left now before after n → (left ≡ None → now ≡ None) → IfSome left (λ l. l ≡ []) → IfSome now (λ l. l ≡ [])
+pub left_none : (left now : Option (List ℕ)) (before after : List ℕ) (n : ℕ) → FillsBuffer left now before after n → (left ≡ None → now ≡ None) → IfSome left (λ l. l ≡ []) → IfSome now (λ l. l ≡ [])
 left_none None now before after n f silent none = let P : Option (List ℕ) → Type 0 = λ o. IfSome o (λ l. l ≡ []) in subst P (sym (silent refl)) tt
 left_none (Some l) now before after n f silent none =
     let P : Option (List ℕ) → Type 0 = λ o. IfSome o (λ m. m ≡ []) in subst P (sym f.told.now_is) (drop_nothing (length f.piece) l none)
@@ -453,7 +453,7 @@ no_more : (taken n : ℕ) → n ≡ 0 → taken + n ≡ taken
 no_more taken n e = omega (arith, e)
 
 module _ (text left : Option (List ℕ)) (buffer : Pending) (cut : LaneCut) (taken : ℕ) (is : IsLane text left buffer cut taken) (is_open : cut.closed ≡ false) (b next : Pending) (now : Option (List ℕ)) (n : ℕ) (e : n ≡ 0)
-    (stands : Stands b is.pending) (short : length b.unread ≤ 1048576) (f : Filled left now b.unread next.unread n) (long : next.long ≡ b.long) where
+    (stands : Stands b is.pending) (short : length b.unread ≤ 1048576) (f : FillsBuffer left now b.unread next.unread n) (long : next.long ≡ b.long) where
   pub end_lane : IsLane text now next cut taken
   end_lane = subst (λ (t : ℕ). IsLane text now next cut t) (no_more taken n e)
       (took_lane text left buffer cut taken is is_open b next now n stands short (omega (arith, e)) (let a = is.bytes in omega (arith, e, a)) f long)

@@ -53,7 +53,7 @@ pub record NextOf (left : List ℕ) (now : Option (List ℕ)) (piece : List ℕ)
   pub now_is : now ≡ Some (drop (length piece) left)
 
 -- the next n bytes of a source are kept behind what was kept
-pub record Filled (old now : Option (List ℕ)) (before after : List ℕ) (n : ℕ) : Type 0 where
+pub record FillsBuffer (old now : Option (List ℕ)) (before after : List ℕ) (n : ℕ) : Type 0 where
   pub piece : List ℕ
   pub count : length piece ≡ n
   pub told : IfSome old (λ left. NextOf left now piece)

@@ -32,20 +32,20 @@ StepIs set old step.Lines new = (new ≡ old) × OutOfLines set new
 StepIs set old step.Bytes new = (new ≡ old) × (new.taken ≡ greatest_bytes)
 
 -- a step, for each text of the lane, which stays its text
-pub record Stepped {S L : Type 0} (left : S → Option (List ℕ)) (read_of : L → Reads) (text : Option (List ℕ)) (old : LaneView S L) (one : Step) (new : LaneView S L) : Type 0 where
+pub record StepsFor {S L : Type 0} (left : S → Option (List ℕ)) (read_of : L → Reads) (text : Option (List ℕ)) (old : LaneView S L) (one : Step) (new : LaneView S L) : Type 0 where
   pub did : StepIs (setting_of read_of text old) old.state one new.state
   pub keeps : IsTextOf left text new
 
 abbrev pub Steps : {S L : Type 0} → (S → Option (List ℕ)) → (L → Reads) → LaneView S L → Step → LaneView S L → Type 0
-Steps left read_of old did new = (text : Option (List ℕ)) → IsTextOf left text old → Stepped left read_of text old did new
+Steps left read_of old did new = (text : Option (List ℕ)) → IsTextOf left text old → StepsFor left read_of text old did new
 
 -- a feed, for each text of the lane, which stays its text
-pub record Fed {S L : Type 0} (left : S → Option (List ℕ)) (read_of : L → Reads) (text : Option (List ℕ)) (old : LaneView S L) (max : ℕ) (reply : LaneReply) (new : LaneView S L) : Type 0 where
+pub record FeedsFor {S L : Type 0} (left : S → Option (List ℕ)) (read_of : L → Reads) (text : Option (List ℕ)) (old : LaneView S L) (max : ℕ) (reply : LaneReply) (new : LaneView S L) : Type 0 where
   pub step : FeedStep (setting_of read_of text old) old.state max reply new.state
   pub keeps : IsTextOf left text new
 
 abbrev pub Feeds : {S L : Type 0} → (S → Option (List ℕ)) → (L → Reads) → LaneView S L → ℕ → LaneReply → LaneView S L → Type 0
-Feeds left read_of old max reply new = (text : Option (List ℕ)) → IsTextOf left text old → Fed left read_of text old max reply new
+Feeds left read_of old max reply new = (text : Option (List ℕ)) → IsTextOf left text old → FeedsFor left read_of text old max reply new
 
 -- the step by what reading a line answered
 abbrev pub line_step : {A B : Type 0} → Result A B → Step

@@ -111,7 +111,7 @@ pub record Feeds (set : Setting) (old : LaneState) (max n : ℕ) (new : LaneStat
   pub bytes : new.taken ≤ old.taken + early_bytes
 
 -- a feed read lines
-pub record FedLines (set : Setting) (old : LaneState) (max n : ℕ) (new : LaneState) : Type 0 where
+pub record FeedsLines (set : Setting) (old : LaneState) (max n : ℕ) (new : LaneState) : Type 0 where
   pub feeds : Feeds set old max n new
   pub fewer : n < max → (new.cut.closed ≡ true) ⊎ (new.taken ≡ old.taken + early_bytes)
   pub none : n ≡ 0 → new.taken ≡ old.taken + early_bytes
@@ -127,19 +127,19 @@ pub record WasClosed (set : Setting) (old new : LaneState) : Type 0 where
   pub faults : new.faults ≡ old.faults
 
 -- the source failed after lines
-pub record FailedAfter (set : Setting) (old : LaneState) (max n : ℕ) (new : LaneState) : Type 0 where
+pub record FailsAfter (set : Setting) (old : LaneState) (max n : ℕ) (new : LaneState) : Type 0 where
   pub feeds : Feeds set old max n new
   pub closed : new.cut.closed ≡ false
   pub faults : Rose old.faults new.faults
 
 -- memory ran out after lines
-pub record LackedAfter (set : Setting) (old : LaneState) (max n : ℕ) (new : LaneState) : Type 0 where
+pub record LacksAfter (set : Setting) (old : LaneState) (max n : ℕ) (new : LaneState) : Type 0 where
   pub feeds : Feeds set old max n new
   pub closed : new.cut.closed ≡ false
   pub faults : new.faults ≡ old.faults
 
 -- a feed came to a limit, after lines
-pub record Limited (set : Setting) (old : LaneState) (max : ℕ) (new : LaneState) : Type 0 where
+pub record ComesToLimit (set : Setting) (old : LaneState) (max : ℕ) (new : LaneState) : Type 0 where
   pub n : ℕ
   pub fewer : n < max
   pub early : new.taken < old.taken + early_bytes
@@ -153,18 +153,18 @@ pub record OutOfLines (set : Setting) (new : LaneState) : Type 0 where
   pub byte : new.cut.offset < new.taken
 
 abbrev pub FeedStep : Setting → LaneState → ℕ → LaneReply → LaneState → Type 0
-FeedStep set old max (reply.Fed n) new = FedLines set old max n new
+FeedStep set old max (reply.Fed n) new = FeedsLines set old max n new
 FeedStep set old max (reply.Held k) new = (k ≡ ready set old) × (65536 ≤ k) × (new ≡ old)
 FeedStep set old max reply.Closed new = WasClosed set old new
-FeedStep set old max (reply.Failed n) new = FailedAfter set old max n new
-FeedStep set old max (reply.Limit (limit.Lines shard)) new = (shard ≡ set.shard) × Limited set old max new × OutOfLines set new
-FeedStep set old max (reply.Limit (limit.Bytes shard)) new = (shard ≡ set.shard) × Limited set old max new × (new.taken ≡ greatest_bytes)
+FeedStep set old max (reply.Failed n) new = FailsAfter set old max n new
+FeedStep set old max (reply.Limit (limit.Lines shard)) new = (shard ≡ set.shard) × ComesToLimit set old max new × OutOfLines set new
+FeedStep set old max (reply.Limit (limit.Bytes shard)) new = (shard ≡ set.shard) × ComesToLimit set old max new × (new.taken ≡ greatest_bytes)
 FeedStep set old max (reply.Limit limit.Turns) new = ⊥
 FeedStep set old max (reply.Limit limit.Generation) new = ⊥
 FeedStep set old max (reply.Taken items) new = ⊥
 FeedStep set old max (reply.Low mark) new = ⊥
 FeedStep set old max (reply.Cut cut) new = ⊥
-FeedStep set old max (reply.Memory n) new = LackedAfter set old max n new
+FeedStep set old max (reply.Memory n) new = LacksAfter set old max n new
 
 -- all held events below the mark were handed out
 pub record Takes (old : LaneState) (mark : Mark) (items : List Item) (new : LaneState) : Type 0 where

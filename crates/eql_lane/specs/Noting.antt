@@ -75,7 +75,7 @@ abbrev pub IsWholeLine : (first rest : List ℕ) → ℕ → Type 0
 IsWholeLine first rest number = (1 ≤ number) × (number ≤ whole_lines first rest)
 
 -- all wanted lines are whole ones, and these are their places
-pub record Located (first rest wanted : List ℕ) (places : List (ℕ × ℕ)) : Type 0 where
+pub record Locates (first rest wanted : List ℕ) (places : List (ℕ × ℕ)) : Type 0 where
   pub whole : All (IsWholeLine first rest) wanted
   pub places_are : places ≡ placed_lines first wanted
 

@@ -1,12 +1,12 @@
 -- What passing over bytes of a source does.
 use Rattle.std.specs.Prelude.{◌≡◌, ◌≤◌, ◌<◌, ◌+◌, ◌++◌, ℕ, Bool, true, false, List, [], take, drop, length, Option, Some, None, IfSome, All, Contains}
 use Rattle.eql_outside.specs.Outside.{Rose}
-use Rattle.eql_lane.specs.Noting.{Noted, NotesOf, Located, IsMissing, IsWholeLine}
+use Rattle.eql_lane.specs.Noting.{Noted, NotesOf, Locates, IsMissing, IsWholeLine}
 use Rattle.eql_lane.specs.declared.make.LaneRefused.{LaneRefused}
 use Rattle.eql_lane.specs.declared.make.LaneRefused.TheVariants as refused
 
 -- the first n bytes were passed over
-pub record PassedOver {S : Type 0} (left lent_as : S → Option (List ℕ)) (n : ℕ) (old now : S) : Type 0 where
+pub record PassesOver {S : Type 0} (left lent_as : S → Option (List ℕ)) (n : ℕ) (old now : S) : Type 0 where
   pub rest : IfSome (left old) (λ text. (n ≤ length text) × (left now ≡ Some (drop n text)))
   pub silent : left old ≡ None → left now ≡ None
   pub named : lent_as now ≡ lent_as old
@@ -16,7 +16,7 @@ abbrev pub IsEnd : {S : Type 0} → (S → Option (List ℕ)) → S → Type 0
 IsEnd left source = IfSome (left source) (λ bytes. bytes ≡ [])
 
 -- n bytes of what a source had left were passed over, and the lines in them were noted
-pub record ReadOver (left : Option (List ℕ)) (n : ℕ) (old now : Noted) : Type 0 where
+pub record ReadsOver (left : Option (List ℕ)) (n : ℕ) (old now : Noted) : Type 0 where
   pub bytes : List ℕ
   pub count : length bytes ≡ n
   pub told : IfSome left (λ text. bytes ≡ take n text)
@@ -30,7 +30,7 @@ pub record Finds (text : Option (List ℕ)) (offset : ℕ) (wanted : List ℕ) (
   pub rest : List ℕ
   pub count : length first ≡ offset
   pub told : IfSome text (λ t. t ≡ first ++ rest)
-  pub located : Located first rest wanted places
+  pub located : Locates first rest wanted places
 
 -- what is found of a place that is refused: a wanted line is missing, or none is and the text goes on behind a closed place
 abbrev pub IsJudged : (first rest wanted : List ℕ) (closed ended : Bool) → LaneRefused → Type 0
@@ -62,5 +62,5 @@ IsCause text before now offset closed wanted refused.Memory = Unit {0}
 pub record GivesBack {S : Type 0} (left lent_as : S → Option (List ℕ)) (fault_count : S → ℕ) (offset : ℕ) (source back : S) : Type 0 where
   pub taken : ℕ
   pub few : taken ≤ offset + 1
-  pub passed : PassedOver left lent_as taken source back
+  pub passed : PassesOver left lent_as taken source back
   pub counts : fault_count source ≤ fault_count back

@@ -3,7 +3,7 @@ use Rattle.std.specs.Prelude.{◌≡◌, ◌≢◌, ◌≤◌, ℕ, ℤ, true, L
 use Rattle.std.specs.List.Sorted.{IsStrictlyIncreasing}
 use Rattle.eql_values.specs.declared.item.Item.{Item}
 use Rattle.eql_values.specs.declared.cut.LaneCut.{LaneCut}
-use Rattle.eql_values.specs.Ascending.{Ascending}
+use Rattle.eql_values.specs.Ascending.{Ascend}
 use Rattle.eql_values.specs.Reading.{IsTime}
 use Rattle.eql_laws.specs.Counting.{greatest_lines, greatest_bytes}
 use Rattle.eql_lane.specs.Judging.{CountsHold}
@@ -19,7 +19,7 @@ use Rattle.eql_lane.specs.declared.make.LaneRefused.TheVariants as refused
 
 -- what a cut may say of a lane: its events ascend and are of its lines, no more than it accepted; its greatest timestamp is a time, its counts hold, and it has no more lines and bytes than a shard may have
 pub record MayBegin (cut : LaneCut) : Type 0 where
-  pub ascending : Ascending cut.items
+  pub ascending : Ascend cut.items
   pub lines_to : All (λ (item : Item). item.order.line ≤ cut.counts.lines) cut.items
   pub few : length cut.items ≤ cut.counts.accepted
   pub best : IfSome cut.best IsTime
@@ -70,13 +70,13 @@ pub record Lifts {S L : Type 0} (left lent_as : S → Option (List ℕ)) (fault_
   pub begins : Begins left lent_as fault_count source reader shard slack (placed_cut finds.first cut) lane.places lane
 
 -- how a lane begins, by a slack in milliseconds
-abbrev pub Made : {S L : Type 0} → (left lent_as : S → Option (List ℕ)) → (S → ℕ) → S → L → (shard : ℕ) (slack : Option ℕ) → LaneStart → LaneView S L → Type 0
-Made left lent_as fault_count source reader shard slack start.Fresh lane = Begins left lent_as fault_count source reader shard (nanos_of slack) fresh_cut [] lane
-Made left lent_as fault_count source reader shard slack (start.From cut) lane = Begins left lent_as fault_count source reader shard (nanos_of slack) cut [] lane
-Made left lent_as fault_count source reader shard slack (start.Lift cut wanted) lane = Lifts left lent_as fault_count source reader shard (nanos_of slack) cut wanted lane
+abbrev pub BeginsAs : {S L : Type 0} → (left lent_as : S → Option (List ℕ)) → (S → ℕ) → S → L → (shard : ℕ) (slack : Option ℕ) → LaneStart → LaneView S L → Type 0
+BeginsAs left lent_as fault_count source reader shard slack start.Fresh lane = Begins left lent_as fault_count source reader shard (nanos_of slack) fresh_cut [] lane
+BeginsAs left lent_as fault_count source reader shard slack (start.From cut) lane = Begins left lent_as fault_count source reader shard (nanos_of slack) cut [] lane
+BeginsAs left lent_as fault_count source reader shard slack (start.Lift cut wanted) lane = Lifts left lent_as fault_count source reader shard (nanos_of slack) cut wanted lane
 
 -- why it isn't made, and that the source comes back
-pub record Refused {S : Type 0} (left lent_as : S → Option (List ℕ)) (fault_count : S → ℕ) (cut : LaneCut) (wanted : List ℕ) (source : S) (refused_by : LaneRefused) (back : S) : Type 0 where
+pub record IsNotMade {S : Type 0} (left lent_as : S → Option (List ℕ)) (fault_count : S → ℕ) (cut : LaneCut) (wanted : List ℕ) (source : S) (refused_by : LaneRefused) (back : S) : Type 0 where
   pub cause : IsCause (left source) (fault_count source) (fault_count back) cut.offset cut.closed wanted refused_by
   pub steady : refused_by ≢ refused.Failed → fault_count back ≡ fault_count source
   pub gives : GivesBack left lent_as fault_count cut.offset source back

@@ -42,7 +42,7 @@ pub record SameLane {S L : Type 0} (left lent_as : S → Option (List ℕ)) (rea
   pub silent : left old.source ≡ None → left new.source ≡ None
 
 -- the bytes at hand are those of the text behind the lines that were read, and what the source has left comes behind them
-pub record Told (text : List ℕ) (left : Option (List ℕ)) (offset taken : ℕ) (pending : List ℕ) : Type 0 where
+pub record AreAtHand (text : List ℕ) (left : Option (List ℕ)) (offset taken : ℕ) (pending : List ℕ) : Type 0 where
   pub parts : drop offset text ≡ pending ++ drop taken text
   pub within : taken ≤ length text
   pub left_is : left ≡ Some (drop taken text)
@@ -52,7 +52,7 @@ pub record IsLane (text left : Option (List ℕ)) (buffer : Pending) (cut : Lane
   pub pending : List ℕ
   pub stands : Stands buffer pending
   pub count : cut.offset + length pending ≡ taken
-  pub told : IfSome text (λ t. Told t left cut.offset taken pending)
+  pub told : IfSome text (λ t. AreAtHand t left cut.offset taken pending)
   pub bytes : taken ≤ greatest_bytes
   pub lines : cut.counts.lines ≤ greatest_lines
   pub closed : cut.closed ≡ true → pending ≡ []

@@ -4,7 +4,7 @@ ghost use Rattle.std.specs.Prelude.{◌≡◌, ◌≢◌, ◌≤◌, ◌<◌, �
 ghost use Rattle.eql_values.specs.Reading.{is_blank};
 ghost use Rattle.eql_outside.specs.Outside.{Rose};
 ghost use Rattle.eql_outside.specs.Unfailing.{IsUnfailing};
-ghost use Rattle.eql_lane.specs.Buffers.{byte_count, seen, seen_more, FeedAt, IsFront, Stands, Filled, IsOneLine};
+ghost use Rattle.eql_lane.specs.Buffers.{byte_count, seen, seen_more, FeedAt, IsFront, Stands, FillsBuffer, IsOneLine};
 
 use eql_outside::{Source, unfailing_stays};
 use eql_values::{LineGot, LineReader, Memory, Reason};
@@ -237,7 +237,7 @@ impl LineBuffer {
         requires room { length piece.old < 2 ^ 32 }
         requires short { length self.old.unread < 2 ^ 32 }
         ensures few { IfOk result (λ n. n ≤ length piece.old) }
-        ensures filled { IfOk result (λ n. Filled (S.left source.old) (S.left source.new)
+        ensures filled { IfOk result (λ n. FillsBuffer (S.left source.old) (S.left source.new)
             self.old.unread self.new.unread n) }
         ensures silent { S.left source.old ≡ None → S.left source.new ≡ None }
         ensures named { S.lent_as source.new ≡ S.lent_as source.old }
@@ -277,7 +277,7 @@ impl LineBuffer {
         requires room { most ≤ 65536 }
         requires short { length self.old.unread < 2 ^ 32 }
         ensures few { IfOk result (λ n. n ≤ most) }
-        ensures filled { IfOk result (λ n. Filled (S.left source.old) (S.left source.new)
+        ensures filled { IfOk result (λ n. FillsBuffer (S.left source.old) (S.left source.new)
             self.old.unread self.new.unread n) }
         ensures silent { S.left source.old ≡ None → S.left source.new ≡ None }
         ensures named { S.lent_as source.new ≡ S.lent_as source.old }

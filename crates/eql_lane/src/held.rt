@@ -6,7 +6,7 @@ ghost use Rattle.std.specs.Ordering.{is_lt};
 ghost use Rattle.std.specs.FinMap.Entries.{is_sorted};
 ghost use Rattle.eql_values.specs.declared.item.Item.{Item as Event};
 ghost use Rattle.eql_values.specs.Accepted.{sorted_items};
-ghost use Rattle.eql_values.specs.Ascending.{Ascending};
+ghost use Rattle.eql_values.specs.Ascending.{Ascend};
 ghost use Rattle.eql_values.specs.Marks.{is_below};
 ghost use Rattle.eql_values.specs.OrderKeys.{order_cmp};
 ghost use Rattle.eql_lane.specs.Holding.{pair, is_run_first};
@@ -143,7 +143,7 @@ impl Held {
 
     /// These events.
     pub(crate) fn of(alloc: Global, items: Items) -> Held
-        requires { Ascending items }
+        requires { Ascend items }
         ensures { result ≡ items }
     {
         Held {

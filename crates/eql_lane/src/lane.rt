@@ -9,7 +9,7 @@ ghost use Rattle.eql_lane.specs.Slacks.{IsSlack, nanos_of, greatest_slack_ms};
 ghost use Rattle.eql_lane.specs.Buffers.{seen, byte_count, FeedAt, IsFront, HasFront, IsOneLine};
 ghost use Rattle.eql_lane.specs.Judging.{got_on};
 ghost use Rattle.eql_lane.specs.Plays.{Plays, DidNotFail};
-ghost use Rattle.eql_lane.specs.Starts.{MayStart, MayBegin, MayLift, Begins, Lifts, Made, Refused, cut_of, wanted_of};
+ghost use Rattle.eql_lane.specs.Starts.{MayStart, MayBegin, MayLift, Begins, Lifts, BeginsAs, IsNotMade, cut_of, wanted_of};
 ghost use Rattle.eql_lane.specs.Feeding.{Steps, Feeds, TookTo, line_step as step_by_line, end_step as step_by_end};
 
 use crate::buffer::{FillRefused, LineBuffer, PIECE};
@@ -459,9 +459,9 @@ impl<S: Source, L: LineReader + Drop> Lane<S, L> {
     ) -> Result<Lane<S, L>, (LaneRefused, S)>
         requires slack { IfSome slack (λ ms. ms ≤ greatest_slack_ms) }
         requires start { MayStart start }
-        ensures made { IfOk result (λ lane. Made S.left S.lent_as S.fault_count
+        ensures made { IfOk result (λ lane. BeginsAs S.left S.lent_as S.fault_count
             source reader shard slack start lane) }
-        ensures refused { IfErr result (λ refused. Refused S.left S.lent_as S.fault_count
+        ensures refused { IfErr result (λ refused. IsNotMade S.left S.lent_as S.fault_count
             (cut_of start) (wanted_of start) source refused.0 refused.1) }
         ensures unfailing { IsUnfailing (S.fault_plan source)
             → IfOk result (λ lane. IsUnfailing (S.fault_plan lane.source))
@@ -494,7 +494,7 @@ impl<S: Source, L: LineReader + Drop> Lane<S, L> {
         requires cut { MayBegin cut }
         ensures made { IfOk result (λ lane. Begins S.left S.lent_as S.fault_count
             source reader shard slack cut [] lane) }
-        ensures refused { IfErr result (λ refused. Refused S.left S.lent_as S.fault_count
+        ensures refused { IfErr result (λ refused. IsNotMade S.left S.lent_as S.fault_count
             cut [] source refused.0 refused.1) }
         ensures unfailing { IsUnfailing (S.fault_plan source)
             → IfOk result (λ lane. IsUnfailing (S.fault_plan lane.source))
@@ -526,7 +526,7 @@ impl<S: Source, L: LineReader + Drop> Lane<S, L> {
         requires cut { MayLift cut wanted }
         ensures made { IfOk result (λ lane. Lifts S.left S.lent_as S.fault_count
             source reader shard slack cut wanted lane) }
-        ensures refused { IfErr result (λ refused. Refused S.left S.lent_as S.fault_count
+        ensures refused { IfErr result (λ refused. IsNotMade S.left S.lent_as S.fault_count
             cut wanted source refused.0 refused.1) }
         ensures unfailing { IsUnfailing (S.fault_plan source)
             → IfOk result (λ lane. IsUnfailing (S.fault_plan lane.source))

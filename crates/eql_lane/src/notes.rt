@@ -3,7 +3,7 @@ ghost use Rattle.std.specs.Prelude.{◌≡◌, ◌≢◌, ◌⊎◌, ◌≤◌, 
 ghost use Rattle.std.specs.List.{slice_get};
 ghost use Rattle.std.specs.List.Sorted.{IsStrictlyIncreasing};
 ghost use Rattle.eql_lane.specs.Buffers.{FeedAt, IsOneLine};
-ghost use Rattle.eql_lane.specs.Noting.{Noted, NotesOf, Located, IsMissing, is_line, is_cut, at_hand, last_line, line_ended};
+ghost use Rattle.eql_lane.specs.Noting.{Noted, NotesOf, Locates, IsMissing, is_line, is_cut, at_hand, last_line, line_ended};
 
 use crate::buffer::feed_in;
 use eql_values::{Lines, Memory, Places};
@@ -159,7 +159,7 @@ impl Notes {
     /// missing.
     pub(crate) fn finish(&mut self, ended: bool) -> Option<u32>
         ensures located { result ≡ None → (front rest : List ℕ) → NotesOf front self.old
-            → (ended ≡ true → rest ≡ []) → Located front rest self.old.wanted self.new.places }
+            → (ended ≡ true → rest ≡ []) → Locates front rest self.old.wanted self.new.places }
         ensures missing { IfSome result (λ line. (front rest : List ℕ) → NotesOf front self.old
             → (ended ≡ true → rest ≡ [])
             → (ended ≡ false → rest ≡ [] → is_cut self.old ≡ false)

@@ -3,8 +3,8 @@ ghost use Rattle.std.specs.Prelude.{◌≡◌, ◌≤◌, ◌<◌, ◌+◌, ◌�
 ghost use Rattle.std.specs.List.Sorted.{IsStrictlyIncreasing};
 ghost use Rattle.eql_outside.specs.Outside.{Rose};
 ghost use Rattle.eql_outside.specs.Unfailing.{IsUnfailing};
-ghost use Rattle.eql_lane.specs.Noting.{NotesOf, Located, IsMissing, is_cut};
-ghost use Rattle.eql_lane.specs.Passing.{PassedOver, ReadOver, Finds, IsEnd, IsJudged, IsCause, GivesBack};
+ghost use Rattle.eql_lane.specs.Noting.{NotesOf, Locates, IsMissing, is_cut};
+ghost use Rattle.eql_lane.specs.Passing.{PassesOver, ReadsOver, Finds, IsEnd, IsJudged, IsCause, GivesBack};
 
 use crate::buffer::PIECE;
 use crate::make::LaneRefused;
@@ -23,10 +23,10 @@ fn pass_piece<S: Source>(
     requires some { 1 ≤ length piece.old }
     requires far { notes.old.passed + length piece.old < 2 ^ 63 }
     ensures few { IfOk result (λ n. n ≤ length piece.old) }
-    ensures passed { IfOk result (λ n. PassedOver S.left S.lent_as n source.old source.new) }
-    ensures read { IfOk result (λ n. ReadOver (S.left source.old) n notes.old notes.new) }
+    ensures passed { IfOk result (λ n. PassesOver S.left S.lent_as n source.old source.new) }
+    ensures read { IfOk result (λ n. ReadsOver (S.left source.old) n notes.old notes.new) }
     ensures end { result ≡ Ok 0 → IsEnd S.left source.old }
-    ensures kept { IsErr result → PassedOver S.left S.lent_as 0 source.old source.new }
+    ensures kept { IsErr result → PassesOver S.left S.lent_as 0 source.old source.new }
     ensures cause { IsErr result → Rose (S.fault_count source.old) (S.fault_count source.new) }
     ensures steady { IsOk result → S.fault_count source.new ≡ S.fault_count source.old }
     ensures counts { S.fault_count source.old ≤ S.fault_count source.new }
@@ -45,10 +45,10 @@ fn pass_some<S: Source>(source: &mut S, most: u64, notes: &mut Notes) -> Result<
     requires some { 1 ≤ most }
     requires far { notes.old.passed + most < 2 ^ 63 }
     ensures few { IfOk result (λ n. n ≤ most) }
-    ensures passed { IfOk result (λ n. PassedOver S.left S.lent_as n source.old source.new) }
-    ensures read { IfOk result (λ n. ReadOver (S.left source.old) n notes.old notes.new) }
+    ensures passed { IfOk result (λ n. PassesOver S.left S.lent_as n source.old source.new) }
+    ensures read { IfOk result (λ n. ReadsOver (S.left source.old) n notes.old notes.new) }
     ensures end { result ≡ Ok 0 → IsEnd S.left source.old }
-    ensures kept { IsErr result → PassedOver S.left S.lent_as 0 source.old source.new }
+    ensures kept { IsErr result → PassesOver S.left S.lent_as 0 source.old source.new }
     ensures cause { IsErr result → Rose (S.fault_count source.old) (S.fault_count source.new) }
     ensures steady { IsOk result → S.fault_count source.new ≡ S.fault_count source.old }
     ensures counts { S.fault_count source.old ≤ S.fault_count source.new }
@@ -66,11 +66,11 @@ fn pass_some<S: Source>(source: &mut S, most: u64, notes: &mut Notes) -> Result<
 fn pass_over<S: Source>(source: &mut S, count: u64, notes: &mut Notes) -> Result<u64, Failed>
     requires far { notes.old.passed + count < 2 ^ 63 }
     ensures few { IfOk result (λ n. n ≤ count) }
-    ensures passed { IfOk result (λ n. PassedOver S.left S.lent_as n source.old source.new) }
-    ensures read { IfOk result (λ n. ReadOver (S.left source.old) n notes.old notes.new) }
+    ensures passed { IfOk result (λ n. PassesOver S.left S.lent_as n source.old source.new) }
+    ensures read { IfOk result (λ n. ReadsOver (S.left source.old) n notes.old notes.new) }
     ensures end { IfOk result (λ n. n < count → IsEnd S.left source.new) }
     ensures kept { IsErr result
-        → (n : ℕ) × (n ≤ count) × PassedOver S.left S.lent_as n source.old source.new }
+        → (n : ℕ) × (n ≤ count) × PassesOver S.left S.lent_as n source.old source.new }
     ensures cause { IsErr result → Rose (S.fault_count source.old) (S.fault_count source.new) }
     ensures steady { IsOk result → S.fault_count source.new ≡ S.fault_count source.old }
     ensures counts { S.fault_count source.old ≤ S.fault_count source.new }
@@ -91,11 +91,11 @@ fn pass_over<S: Source>(source: &mut S, count: u64, notes: &mut Notes) -> Result
 // Whether a source is at its end. Where it isn't, a byte is taken.
 fn is_end<S: Source>(source: &mut S) -> Result<bool, Failed>
     ensures passed { IfOk result (λ ended. (n : ℕ) × (n ≤ 1)
-        × PassedOver S.left S.lent_as n source.old source.new) }
+        × PassesOver S.left S.lent_as n source.old source.new) }
     ensures ended { result ≡ Ok true
-        → IsEnd S.left source.old × PassedOver S.left S.lent_as 0 source.old source.new }
+        → IsEnd S.left source.old × PassesOver S.left S.lent_as 0 source.old source.new }
     ensures further { result ≡ Ok false → IfSome (S.left source.old) (λ left. left ≢ []) }
-    ensures kept { IsErr result → PassedOver S.left S.lent_as 0 source.old source.new }
+    ensures kept { IsErr result → PassesOver S.left S.lent_as 0 source.old source.new }
     ensures cause { IsErr result → Rose (S.fault_count source.old) (S.fault_count source.new) }
     ensures steady { IsOk result → S.fault_count source.new ≡ S.fault_count source.old }
     ensures counts { S.fault_count source.old ≤ S.fault_count source.new }
@@ -112,14 +112,14 @@ fn is_end<S: Source>(source: &mut S) -> Result<bool, Failed>
 // cuts the next wanted line. Elsewhere none is told, and no byte is taken.
 fn ends_here<S: Source>(source: &mut S, closed: bool, notes: &Notes) -> Result<bool, Failed>
     ensures passed { IfOk result (λ ended. (n : ℕ) × (n ≤ 1)
-        × PassedOver S.left S.lent_as n source.old source.new) }
+        × PassesOver S.left S.lent_as n source.old source.new) }
     ensures ended { result ≡ Ok true
-        → IsEnd S.left source.old × PassedOver S.left S.lent_as 0 source.old source.new }
+        → IsEnd S.left source.old × PassesOver S.left S.lent_as 0 source.old source.new }
     ensures further { result ≡ Ok false → IfSome (S.left source.old) (λ left. left ≢ [])
         ⊎ ((closed ≡ false) × (is_cut notes.now ≡ false)) }
     ensures same { closed ≡ false → is_cut notes.now ≡ false
-        → PassedOver S.left S.lent_as 0 source.old source.new }
-    ensures kept { IsErr result → PassedOver S.left S.lent_as 0 source.old source.new }
+        → PassesOver S.left S.lent_as 0 source.old source.new }
+    ensures kept { IsErr result → PassesOver S.left S.lent_as 0 source.old source.new }
     ensures cause { IsErr result → Rose (S.fault_count source.old) (S.fault_count source.new) }
     ensures steady { IsOk result → S.fault_count source.new ≡ S.fault_count source.old }
     ensures counts { S.fault_count source.old ≤ S.fault_count source.new }
@@ -136,7 +136,7 @@ fn ends_here<S: Source>(source: &mut S, closed: bool, notes: &Notes) -> Result<b
 // found and no byte follows a closed place.
 fn judge(notes: Notes, closed: bool, ended: bool) -> Result<Places, LaneRefused>
     ensures located { IfOk result (λ places. (front rest : List ℕ) → NotesOf front notes
-        → (ended ≡ true → rest ≡ []) → Located front rest notes.wanted places) }
+        → (ended ≡ true → rest ≡ []) → Locates front rest notes.wanted places) }
     ensures whole { IsOk result → (closed ≡ true → ended ≡ true)
         × (ended ≡ false → is_cut notes ≡ false) }
     ensures refused { IfErr result (λ refused. (front rest : List ℕ) → NotesOf front notes
@@ -165,7 +165,7 @@ pub(crate) fn seek<S: Source>(
 ) -> Result<Places, LaneRefused>
     requires far { offset < 2 ^ 63 }
     requires ascend { IsStrictlyIncreasing wanted }
-    ensures passed { IsOk result → PassedOver S.left S.lent_as offset source.old source.new }
+    ensures passed { IsOk result → PassesOver S.left S.lent_as offset source.old source.new }
     ensures ended { IsOk result → closed ≡ true → IsEnd S.left source.new }
     ensures finds { IfOk result (λ places. Finds (S.left source.old) offset wanted places) }
     ensures cause { IfErr result (λ refused. IsCause (S.left source.old)

@@ -10,7 +10,7 @@ use Rattle.eql_values.specs.declared.order.OrderKey.{OrderKey}
 use Rattle.eql_values.specs.declared.item.Item.{Item}
 use Rattle.eql_values.specs.declared.order.Mark.{Mark}
 use Rattle.eql_values.specs.Accepted.{Reads, accepted, sorted_items}
-use Rattle.eql_values.specs.Ascending.{Ascending}
+use Rattle.eql_values.specs.Ascending.{Ascend}
 use Rattle.eql_values.specs.Marks.{is_below}
 use Rattle.eql_values.specs.OrderKeys.{order_cmp}
 use Rattle.eql_values.proofs.Same.{order_same}
@@ -77,7 +77,7 @@ module _ (reads : Reads) (slack : Option ℤ) (from to : Mark) (reading : IsRead
       All-filter (is_below to) (IsAcceptedOf shard text) (filter (λ item. not (is_below from item)) (accepted reads slack shard text))
       (All-filter (λ item. not (is_below from item)) (IsAcceptedOf shard text) (accepted reads slack shard text) (accepted_of_text reads slack shard text reading).all)
 
-  out_ascends : (shard : ℕ) (text : List ℕ) → Ascending (out shard text)
+  out_ascends : (shard : ℕ) (text : List ℕ) → Ascend (out shard text)
   out_ascends shard text =
       sorted_ascends (from_to from to (accepted reads slack shard text))
       (All-weaker (IsAcceptedOf shard text) HasRoutesInOrder (λ x h. h.routes_stand.0) (from_to from to (accepted reads slack shard text)) (accepted_are shard text))
@@ -102,11 +102,11 @@ module _ (reads : Reads) (slack : Option ℤ) (from to : Mark) (reading : IsRead
   )
 
   merges : (shard : ℕ) (texts : List (List ℕ)) → HandsOutApart reads slack shard texts from to
-  merges shard [] = record { ascend = All-nil Ascending; apart = tt }
+  merges shard [] = record { ascend = All-nil Ascend; apart = tt }
   merges shard (text ∷ texts) =
       let rest = merges (shard + 1) texts in
       record {
-        ascend = All-cons Ascending (out shard text) (handed_out reads slack (shard + 1) texts from to) (out_ascends shard text) rest.ascend;
+        ascend = All-cons Ascend (out shard text) (handed_out reads slack (shard + 1) texts from to) (out_ascends shard text) rest.ascend;
         apart = (out_apart shard (shard + 1) (out shard text) texts (omega arith) (out_of_shard shard text), rest.apart);
       }
 

@@ -17,7 +17,7 @@ use Rattle.eql_values.specs.declared.item.Item.{Item}
 use Rattle.eql_values.specs.declared.reader.LineGot.{LineGot}
 use Rattle.eql_values.specs.declared.reader.LineGot.TheVariants as got
 use Rattle.eql_values.specs.Accepted.{Reads, event_at, readable, is_late, accepted, accepted_after, accepted_from, sorted_items}
-use Rattle.eql_values.specs.Ascending.{AllAfter, Ascending}
+use Rattle.eql_values.specs.Ascending.{AllAfter, Ascend}
 use Rattle.eql_values.specs.Lines.{Line, begin_with, lines_of, numbered_lines, lines_in}
 use Rattle.eql_values.specs.Marks.{is_below}
 use Rattle.eql_values.specs.OrderKeys.{order_cmp}
@@ -112,7 +112,7 @@ all_later : (k : OrderKey) (es : List Entry) → T (below_all order_cmp k es) �
 all_later k [] h = tt
 all_later k (e ∷ es) h = (is_less (order_cmp k e.0) (left_holds _ _ h), all_later k es (right_holds _ _ h))
 
-ascends : (es : List Entry) → T (is_sorted order_cmp es) → All (λ (e : Entry). RoutesInOrder e.1) es → Ascending (map back es)
+ascends : (es : List Entry) → T (is_sorted order_cmp es) → All (λ (e : Entry). RoutesInOrder e.1) es → Ascend (map back es)
 ascends [] h routes = tt
 ascends (e ∷ es) h routes = (
   All-head (λ (e : Entry). RoutesInOrder e.1) e es routes,

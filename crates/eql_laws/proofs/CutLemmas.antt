@@ -15,7 +15,7 @@ use Rattle.eql_values.specs.declared.found.Holder.{Holder}
 use Rattle.eql_values.specs.declared.reader.LineGot.{LineGot}
 use Rattle.eql_values.specs.declared.reader.LineGot.TheVariants as got
 use Rattle.eql_values.specs.Accepted.{Reads, event_at, readable, accepted, accepted_from, sorted_items, below}
-use Rattle.eql_values.specs.Ascending.{Ascending}
+use Rattle.eql_values.specs.Ascending.{Ascend}
 use Rattle.eql_values.specs.Lines.{Line, lines_in}
 use Rattle.eql_values.specs.Marks.{is_below}
 use Rattle.eql_values.specs.Matching.{matches, after, opening_of}
@@ -101,14 +101,14 @@ module _ (m : ℕ) (span : Option ℤ) (t : ℤ) (reads : Reads) (slack : Option
   abbrev items : List Item
   items = below reads slack texts mark
 
-  up : Ascending items
+  up : Ascend items
   up = below_ascends reads slack texts mark reading
 
   events : EventsKeep m span (is_of (length texts) mark) [] items
   events = events_stay m span (is_of (length texts) mark) [] items (no_holders (λ (h : Holder). EventsPass (is_of (length texts) mark) h.chain)) (events_of reads slack texts mark reading)
 
   ready : All (IsReady []) (after m span [] items)
-  ready = after_is_ready m span [] items [] (subst Ascending (sym (append-nil items)) up) (no_holders (IsReady (items ++ [])))
+  ready = after_is_ready m span [] items [] (subst Ascend (sym (append-nil items)) up) (no_holders (IsReady (items ++ [])))
 
   all_pending : All (IsPending m (length texts) mark) (after m span [] items)
   all_pending k d lt = record {

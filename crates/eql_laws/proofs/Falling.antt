@@ -14,7 +14,7 @@ use Rattle.eql_values.specs.declared.value.Value.{Value}
 use Rattle.eql_values.specs.declared.item.Act.{Act}
 use Rattle.eql_values.specs.declared.item.Item.{Item}
 use Rattle.eql_values.specs.declared.found.Holder.{Holder}
-use Rattle.eql_values.specs.Ascending.{Ascending}
+use Rattle.eql_values.specs.Ascending.{Ascend}
 use Rattle.eql_values.specs.Chains.{fits_after, in_time, holder}
 use Rattle.eql_values.specs.Matching.{Slot, slot_cmp, onto, acts_of, opening_of, held_after, after}
 use Rattle.eql_values.specs.OrderKeys.{order_cmp}
@@ -147,7 +147,7 @@ module _ (span : Option ℤ) (slots : Slots) (item : Act) (falls : Falls slots)
   falls_stepped : Falls (slots_after span slots item)
   falls_stepped j k c d lt e f = falls_came j k c d lt (came span slots item j c e) (came span slots item k d f)
 
-module _ (m : ℕ) (span : Option ℤ) (holders : List Holder) (items : List Item) (up : Ascending items) (ready : All (IsReady items) holders) (full : All IsFull holders) (first_falls : FirstsFall holders) where
+module _ (m : ℕ) (span : Option ℤ) (holders : List Holder) (items : List Item) (up : Ascend items) (ready : All (IsReady items) holders) (full : All IsFull holders) (first_falls : FirstsFall holders) where
   falls_held : (key : List Value) (bound : Option OrderKey) (past : List Act)
       → LeadsTo ComesBefore AscendsBefore AscendsTo alone goes_to made_before still_before before_before span (opening_of holders key) bound past
       → Falls (λ k. holder span (opening_of holders key) k past)
@@ -166,7 +166,7 @@ module _ (m : ℕ) (span : Option ℤ) (holders : List Holder) (items : List Ite
       (lead_onto ComesBefore AscendsBefore AscendsTo alone goes_to made_before still_before before_before span (opening_of holders) items [] []
       (subst (λ (l : List Item). (key : List Value) (k : ℕ) → IfSome (opening_of holders key (suc k)) (AscendsBefore (first_of l) (suc k))) (sym (append-nil items))
       (ready_openings holders items ready))
-      (ascending_rises (items ++ []) (subst Ascending (sym (append-nil items)) up))))
+      (ascending_rises (items ++ []) (subst Ascend (sym (append-nil items)) up))))
 
   -- what the list has of a slot is what is held there
   is_held : (key : List Value) (k : ℕ) (c : List OrderKey) → opening_of (after m span holders items) key k ≡ Some c → held_after span (opening_of holders) items key k ≡ Some c

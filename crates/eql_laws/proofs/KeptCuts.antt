@@ -10,7 +10,7 @@ use Rattle.eql_values.specs.declared.item.Item.{Item}
 use Rattle.eql_values.specs.declared.found.Holder.{Holder}
 use Rattle.eql_values.specs.declared.found.Match.{Match}
 use Rattle.eql_values.specs.Accepted.{Reads, below}
-use Rattle.eql_values.specs.Ascending.{Ascending}
+use Rattle.eql_values.specs.Ascending.{Ascend}
 use Rattle.eql_values.specs.Matching.{matches}
 use Rattle.eql_values.specs.OrderKeys.{EventsAscend}
 use Rattle.eql_values.specs.Routes.{RoutesStand}
@@ -73,7 +73,7 @@ cuts_stand run reads t shards reading =
     let pending = pending_fits run.stages run.span t reads slack whole_texts (At t) reading in
     record {
       lane_for_each = length-lanes reads slack (At t) 0 shards;
-      items = all_lanes reads slack (At t) (λ (lane : LaneCut). Ascending lane.items × All (λ (item : Item). RoutesStand item.routes) lane.items)
+      items = all_lanes reads slack (At t) (λ (lane : LaneCut). Ascend lane.items × All (λ (item : Item). RoutesStand item.routes) lane.items)
           (λ shard r. let held = held_back_fits reads slack shard r.first (At t) reading in
           (held.ascending, All-weaker (IsHeldBack shard r.first (At t)) (λ (item : Item). RoutesStand item.routes) (λ item h. h.accepted.routes_stand) (held_back reads slack shard r.first (At t)) held.all)) 0 shards;
       holders = pending.in_order;

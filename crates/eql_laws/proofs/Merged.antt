@@ -28,7 +28,7 @@ use Rattle.eql_values.specs.Ordered.{numbers}
 use Rattle.eql_values.proofs.InOrder.{is_in_order, in_order-sorted}
 use Rattle.eql_values.specs.Matching.{Openings, act_by, acts_of, match_by, matches_after, matches, opening_of}
 use Rattle.eql_values.specs.Routing.{routed}
-use Rattle.eql_values.specs.Ascending.{AllAfter, Ascending}
+use Rattle.eql_values.specs.Ascending.{AllAfter, Ascend}
 use Rattle.eql_laws.specs.Merging.{last_of, Ending, ending_cmp, by_ending, match_of, by_slot, holder_of}
 use Rattle.eql_laws.specs.Shapes.{MatchesInOrder}
 use Rattle.eql_laws.specs.Parts.{KeysMerge, KeysGather, holders_in}
@@ -162,7 +162,7 @@ module _ (m : ℕ) (span : Option ℤ) (openings : Openings) where
       (below_same order r.key past routes rest (left_holds _ _ keys) (below r.key))
       (sorted_item order past routes rest (right_holds _ _ keys) below s))
 
-  ends_sorted : (past items : List Item) → Ascending items → T (is_sorted ending_cmp (ends_after past items))
+  ends_sorted : (past items : List Item) → Ascend items → T (is_sorted ending_cmp (ends_after past items))
   ends_sorted past [] up = tt
   ends_sorted past (item ∷ items) up =
       sorted_item item.order past item.routes (ends_after (item ∷ past) items) (subst T (sym up.0) tt)
@@ -172,7 +172,7 @@ within : (k n : ℕ) → k < n → nat_lt k n ≡ true
 within k n h = grind (arith, nat_tests)
 
 -- the matches ascend by last event, and then by key
-pub endings_ascend : (m : ℕ) (span : Option ℤ) (holders : List Holder) (items : List Item) → Ascending items
+pub endings_ascend : (m : ℕ) (span : Option ℤ) (holders : List Holder) (items : List Item) → Ascend items
     → T (is_sorted ending_cmp (map by_ending (matches m span holders items)))
 endings_ascend m span holders items up =
     subst (λ (es : List EndingEntry). T (is_sorted ending_cmp es)) (sym (ends_are m span (opening_of holders) [] items)) (ends_sorted m span (opening_of holders) [] items up)

@@ -11,7 +11,7 @@ use Rattle.eql_values.specs.declared.value.Value.{Value}
 use Rattle.eql_values.specs.declared.item.Item.{Item}
 use Rattle.eql_values.specs.declared.found.Match.{Match}
 use Rattle.eql_values.specs.declared.found.Holder.{Holder}
-use Rattle.eql_values.specs.Ascending.{Ascending}
+use Rattle.eql_values.specs.Ascending.{Ascend}
 use Rattle.eql_values.specs.Chains.{in_time}
 use Rattle.eql_values.specs.Matching.{matches, after}
 use Rattle.eql_values.specs.Ordered.{numbers}
@@ -93,7 +93,7 @@ module _ {X : Type 0} (kind : X → ℕ) where
   kinds_all n h xs = subst (IsPermutation (flat_map (λ p. of_kind p xs) (numbers n))) (all_below n h xs) (kinds_below n xs)
 
 module _ (m : ℕ) (span : Option ℤ) (part : List Value → ℕ) (n : ℕ) (holders : List Holder) (items : List Item)
-    (parts : (key : List Value) → part key < n) (up : Ascending items) where
+    (parts : (key : List Value) → part key < n) (up : Ascend items) where
   abbrev found_in : ℕ → List Match
   found_in p = matches m span holders (routed part p items)
 

@@ -16,7 +16,7 @@ use Rattle.eql_values.specs.declared.value.Value.{Value}
 use Rattle.eql_values.specs.declared.item.Route.{Route}
 use Rattle.eql_values.specs.declared.item.Item.{Item}
 use Rattle.eql_values.specs.Accepted.{accepted_from}
-use Rattle.eql_values.specs.Ascending.{AllAfter, Ascending}
+use Rattle.eql_values.specs.Ascending.{AllAfter, Ascend}
 use Rattle.eql_values.specs.Marks.{is_below}
 use Rattle.eql_values.specs.OrderKeys.{order_cmp}
 use Rattle.eql_values.specs.Orders.{key_cmp}
@@ -71,12 +71,12 @@ module _ (part : List Value → ℕ) (p : ℕ) where
       holds_true _ (subst (λ (es : List (List Value × Route)). T (is_sorted key_cmp es)) (sym (map_filter (λ (r : Route). (r.key, r)) of_part (λ e. part e.0 == p) (λ r. refl) routes))
       (is_sorted-where_key key_cmp (λ k. part k == p) (map (λ (r : Route). (r.key, r)) routes) (subst T (sym h) tt)))
 
-  ascends_one : (item : Item) (routes : List Route) (items : List Item) → RoutesInOrder routes → AllAfter item.order items → Ascending items
-      → Ascending (cons_option (with_routes item routes) items)
+  ascends_one : (item : Item) (routes : List Route) (items : List Item) → RoutesInOrder routes → AllAfter item.order items → Ascend items
+      → Ascend (cons_option (with_routes item routes) items)
   ascends_one item [] items h k up = up
   ascends_one item (route ∷ routes) items h k up = (h, k, up)
 
-  routed_ascends : (items : List Item) → Ascending items → Ascending (routed part p items)
+  routed_ascends : (items : List Item) → Ascend items → Ascend (routed part p items)
   routed_ascends [] up = tt
   routed_ascends (item ∷ items) up =
       ascends_one item (filter of_part item.routes) (routed part p items) (routes_of_part item.routes up.0) (after_routed_items item.order items up.1) (routed_ascends items up.2)

@@ -13,7 +13,7 @@ use Rattle.eql_values.specs.declared.item.Route.{Route}
 use Rattle.eql_values.specs.declared.item.Item.{Item}
 use Rattle.eql_values.specs.declared.found.Match.{Match}
 use Rattle.eql_values.specs.declared.found.Holder.{Holder}
-use Rattle.eql_values.specs.Ascending.{AllAfter, Ascending}
+use Rattle.eql_values.specs.Ascending.{AllAfter, Ascend}
 use Rattle.eql_values.specs.Matching.{Openings, opening_of, onto, keys_in, act_by, acts_of, match_by, matches_after, after, held_after}
 use Rattle.std.specs.declared.cmp.Ordering.{Ordering}
 use Rattle.std.proofs.lemmas.List.{append-nil}
@@ -136,7 +136,7 @@ pub before_before : (x y : OrderKey) (bound : Option OrderKey) → ComesBefore x
 before_before x y None a b = tt
 before_before x y (Some other) a b = order_cmp_total.trans x y other a b
 
-pub ascending_rises : (items : List Item) → Ascending items → Rises ComesBefore items
+pub ascending_rises : (items : List Item) → Ascend items → Rises ComesBefore items
 ascending_rises [] up = tt
 ascending_rises (item ∷ []) up = (tt, tt)
 ascending_rises (item ∷ next ∷ items) up = (up.1.0, ascending_rises (next ∷ items) up.2)
@@ -161,7 +161,7 @@ later_after : (e x : OrderKey) (items : List Item) → order_cmp e x ≡ Less �
 later_after e x [] lt h = tt
 later_after e x (item ∷ items) lt h = (order_cmp_total.trans e x item.order lt h.0, later_after e x items lt h.1)
 
-made_ready : (more : List Item) (k : ℕ) (key : List Value) (c : List OrderKey) → Ascending more → AscendsBefore (first_of more) k c
+made_ready : (more : List Item) (k : ℕ) (key : List Value) (c : List OrderKey) → Ascend more → AscendsBefore (first_of more) k c
     → IsReady more (record { key = key; stage = k; chain = c })
 made_ready [] k key c up h = record { ascends = h; before = λ i d lt. tt }
 made_ready (item ∷ more) k key c up h = record {
@@ -170,7 +170,7 @@ made_ready (item ∷ more) k key c up h = record {
       (λ e lt. (lt, later_after e item.order more lt up.1)) c h.1;
 }
 
-ascending_more : (items more : List Item) → Ascending (items ++ more) → Ascending more
+ascending_more : (items more : List Item) → Ascend (items ++ more) → Ascend more
 ascending_more [] more up = up
 ascending_more (item ∷ items) more up = ascending_more items more up.2
 

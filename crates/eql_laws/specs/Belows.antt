@@ -6,7 +6,7 @@ use Rattle.eql_values.specs.declared.order.Mark.{Mark}
 use Rattle.eql_values.specs.declared.order.Mark.TheVariants.{At}
 use Rattle.eql_values.specs.declared.reader.LineGot.TheVariants as got
 use Rattle.eql_values.specs.Accepted.{Reads, readable, accepted, accepted_from, sorted_items, below}
-use Rattle.eql_values.specs.Ascending.{Ascending}
+use Rattle.eql_values.specs.Ascending.{Ascend}
 use Rattle.eql_values.specs.Lines.{lines_of, lines_in}
 use Rattle.eql_values.specs.Marks.{is_below, low_of}
 use Rattle.eql_values.specs.Reading.{IsTime, IsReadAt, time_bound}
@@ -23,11 +23,11 @@ HasRoutesInOrder item = RoutesInOrder item.routes
 
 -- items in the order of their places ascend, where their routes stand in order
 abbrev pub SortedAscends : Type 0
-SortedAscends = (items : List Item) → All HasRoutesInOrder items → Ascending (sorted_items items)
+SortedAscends = (items : List Item) → All HasRoutesInOrder items → Ascend (sorted_items items)
 
 -- so the events below a mark ascend
 abbrev pub BelowAscends : Type 0
-BelowAscends = (reads : Reads) (slack : Option ℤ) (texts : List (List ℕ)) (mark : Mark) → IsReading reads → Ascending (below reads slack texts mark)
+BelowAscends = (reads : Reads) (slack : Option ℤ) (texts : List (List ℕ)) (mark : Mark) → IsReading reads → Ascend (below reads slack texts mark)
 
 -- putting lists in order one by one, and then all of them, is putting all in order at once
 abbrev pub SortedEach : Type 0

@@ -8,7 +8,7 @@ use Rattle.eql_values.specs.declared.found.Holder.{Holder}
 use Rattle.eql_values.specs.declared.order.Mark.{Mark}
 use Rattle.eql_values.specs.declared.reader.LineGot.TheVariants as got
 use Rattle.eql_values.specs.Accepted.{Reads, accepted, accepted_from, sorted_items, below}
-use Rattle.eql_values.specs.Ascending.{Ascending}
+use Rattle.eql_values.specs.Ascending.{Ascend}
 use Rattle.eql_values.specs.Marks.{is_below}
 use Rattle.eql_values.specs.Matching.{matches, after}
 use Rattle.eql_values.specs.OrderKeys.{EventsAscend}
@@ -42,7 +42,7 @@ pub record IsHeldBack (shard : ℕ) (text : List ℕ) (mark : Mark) (item : Item
 
 pub record HeldBackAre (reads : Reads) (slack : Option ℤ) (shard : ℕ) (text : List ℕ) (mark : Mark) : Type 0 where
   pub all : All (IsHeldBack shard text mark) (held_back reads slack shard text mark)
-  pub ascending : Ascending (held_back reads slack shard text mark)
+  pub ascending : Ascend (held_back reads slack shard text mark)
   pub fewer : length (held_back reads slack shard text mark) ≤ length (accepted reads slack shard text)
 
 abbrev pub HeldBackFits : Type 0

@@ -12,7 +12,7 @@ use Rattle.eql_values.specs.declared.reader.LineGot.TheVariants as got
 use Rattle.eql_values.specs.Accepted.{Reads, below}
 use Rattle.eql_values.specs.Marks.{is_safe}
 use Rattle.eql_values.specs.Matching.{matches}
-use Rattle.eql_values.specs.Ascending.{Ascending}
+use Rattle.eql_values.specs.Ascending.{Ascend}
 use Rattle.eql_values.specs.OrderKeys.{EventsAscend}
 use Rattle.eql_values.specs.Routes.{RoutesStand}
 use Rattle.eql_laws.specs.Alive.{HoldersInOrder}
@@ -88,7 +88,7 @@ CutsFit = (run : Run) (reads : Reads) (t : ℤ) (shards : List ReadTo) → Reads
 -- its events in order
 pub record StandsInOrder (shards : ℕ) (kept : Kept) : Type 0 where
   pub lane_for_each : length kept.lanes ≡ shards
-  pub items : All (λ (lane : LaneCut). Ascending lane.items × All (λ (item : Item). RoutesStand item.routes) lane.items) kept.lanes
+  pub items : All (λ (lane : LaneCut). Ascend lane.items × All (λ (item : Item). RoutesStand item.routes) lane.items) kept.lanes
   pub holders : HoldersInOrder kept.holders
   pub chains : All (λ (h : Holder). (length h.chain ≡ h.stage) × EventsAscend h.chain) kept.holders
   pub book : All StateStands kept.book.pipes

@@ -7,7 +7,7 @@ use Rattle.eql_values.specs.declared.order.Mark.{Mark}
 use Rattle.eql_values.specs.declared.order.Mark.TheVariants.{At, End}
 use Rattle.eql_values.specs.declared.cut.LaneCut.{LaneCut}
 use Rattle.eql_values.specs.Accepted.{Reads, readable}
-use Rattle.eql_values.specs.Ascending.{Ascending}
+use Rattle.eql_values.specs.Ascending.{Ascend}
 use Rattle.eql_values.specs.Lines.{lines_in}
 use Rattle.eql_values.specs.Marks.{mark_cmp, is_below, is_safe}
 use Rattle.eql_values.specs.Reading.{IsTime, time_bound}
@@ -47,7 +47,7 @@ pub record LaneFits (slack t : ℤ) (shard : ℕ) (lane : LaneCut) : Type 0 wher
   pub best_in_range : IfSome lane.best IsTime
   pub open_best : lane.closed ≡ false → (best : ℤ) × (lane.best ≡ Some best) × (t ≤ℤ (best -ℤ slack))
   pub items : All (IsKeptBy shard lane.counts.lines (At t)) lane.items
-  pub ascending : Ascending lane.items
+  pub ascending : Ascend lane.items
   pub no_more_items : length lane.items ≤ lane.counts.accepted
   pub counts_stand : CountsStand lane.counts
   pub lines_to : lane.counts.lines ≤ greatest_lines

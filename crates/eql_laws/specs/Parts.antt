@@ -5,7 +5,7 @@ use Rattle.eql_values.specs.declared.value.Value.{Value}
 use Rattle.eql_values.specs.declared.item.Item.{Item}
 use Rattle.eql_values.specs.declared.found.Match.{Match}
 use Rattle.eql_values.specs.declared.found.Holder.{Holder}
-use Rattle.eql_values.specs.Ascending.{Ascending}
+use Rattle.eql_values.specs.Ascending.{Ascend}
 use Rattle.eql_values.specs.Matching.{opening_of, matches, after}
 use Rattle.eql_values.specs.Ordered.{numbers}
 use Rattle.eql_values.specs.Routing.{routed}
@@ -16,7 +16,7 @@ use Rattle.eql_laws.specs.Merging.{in_match_order, in_slot_order}
 -- keys in n parts: the matches are those by the items routed to each part, merged
 abbrev pub KeysMerge : Type 0
 KeysMerge = (m : ℕ) (span : Option ℤ) (part : List Value → ℕ) (n : ℕ) (holders : List Holder) (items : List Item)
-    → ((key : List Value) → part key < n) → Ascending items
+    → ((key : List Value) → part key < n) → Ascend items
     → matches m span holders items ≡ in_match_order (flat_map (λ p. matches m span holders (routed part p items)) (numbers n))
 
 -- the matches of a part's keys
@@ -72,7 +72,7 @@ pub record PartsFind (m : ℕ) (span : Option ℤ) (part : List Value → ℕ) (
 
 abbrev pub PartsFindAll : Type 0
 PartsFindAll = (m : ℕ) (span : Option ℤ) (part : List Value → ℕ) (n : ℕ) (holders : List Holder) (items : List Item)
-    → ((key : List Value) → part key < n) → Ascending items → PartsFind m span part n holders items
+    → ((key : List Value) → part key < n) → Ascend items → PartsFind m span part n holders items
 
 -- what is pending of a part's keys and alive
 abbrev pub alive_in : (span : Option ℤ) (t : ℤ) (part : List Value → ℕ) (p : ℕ) → List Holder → List Holder

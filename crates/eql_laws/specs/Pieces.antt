@@ -6,24 +6,24 @@ use Rattle.eql_values.specs.declared.order.Mark.TheVariants.{At}
 use Rattle.eql_values.specs.declared.value.Value.{Value}
 use Rattle.eql_values.specs.declared.item.Item.{Item}
 use Rattle.eql_values.specs.Accepted.{Reads}
-use Rattle.eql_values.specs.Ascending.{AllAfter, Ascending}
+use Rattle.eql_values.specs.Ascending.{AllAfter, Ascend}
 use Rattle.eql_values.specs.Routing.{routed}
 use Rattle.eql_laws.specs.Alive.{ItemsFrom}
 use Rattle.eql_laws.specs.Belows.{IsReading, between}
 
 -- a beginning of ascending items ascends, and so does the rest
 abbrev pub AscendingPieces : Type 0
-AscendingPieces = (a b : List Item) → Ascending (a ++ b) → Ascending a × Ascending b
+AscendingPieces = (a b : List Item) → Ascend (a ++ b) → Ascend a × Ascend b
 
 -- what lies between two marks ascends
 abbrev pub BetweenAscends : Type 0
-BetweenAscends = (reads : Reads) (slack : Option ℤ) (texts : List (List ℕ)) (from to : Mark) → IsReading reads → Ascending (between reads slack texts from to)
+BetweenAscends = (reads : Reads) (slack : Option ℤ) (texts : List (List ℕ)) (from to : Mark) → IsReading reads → Ascend (between reads slack texts from to)
 
 -- the items of a part: those of two lists one after the other, no more than all, and ascending where all ascend
 pub record RoutedKeeps (part : List Value → ℕ) (p : ℕ) : Type 0 where
   pub pieces : (a b : List Item) → routed part p (a ++ b) ≡ routed part p a ++ routed part p b
   pub fewer : (items : List Item) → length (routed part p items) ≤ length items
-  pub ascends : (items : List Item) → Ascending items → Ascending (routed part p items)
+  pub ascends : (items : List Item) → Ascend items → Ascend (routed part p items)
   pub times : (t : ℤ) (items : List Item) → ItemsFrom t items → ItemsFrom t (routed part p items)
 
 abbrev pub RoutedPieces : Type 0

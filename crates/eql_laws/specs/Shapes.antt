@@ -9,7 +9,7 @@ use Rattle.eql_values.specs.declared.item.Route.{Route}
 use Rattle.eql_values.specs.declared.item.Item.{Item}
 use Rattle.eql_values.specs.declared.found.Match.{Match}
 use Rattle.eql_values.specs.declared.found.Holder.{Holder}
-use Rattle.eql_values.specs.Ascending.{AllAfter, Ascending}
+use Rattle.eql_values.specs.Ascending.{AllAfter, Ascend}
 use Rattle.eql_values.specs.Matching.{opening_of, matches, after}
 use Rattle.eql_values.specs.OrderKeys.{order_cmp, EventsAscend}
 use Rattle.eql_laws.specs.Alive.{HoldersInOrder}
@@ -27,12 +27,12 @@ MatchAscends m = EventsAscend m.chain
 -- by ascending items, from sequences that stand before them, the events of each match ascend
 abbrev pub MatchesAscend : Type 0
 MatchesAscend = (m : ℕ) (span : Option ℤ) (holders : List Holder) (items : List Item)
-    → Ascending items → All (IsReady items) holders → All MatchAscends (matches m span holders items)
+    → Ascend items → All (IsReady items) holders → All MatchAscends (matches m span holders items)
 
 -- and what is pending then stands before all later items
 abbrev pub AfterIsReady : Type 0
 AfterIsReady = (m : ℕ) (span : Option ℤ) (holders : List Holder) (items more : List Item)
-    → Ascending (items ++ more) → All (IsReady (items ++ more)) holders → All (IsReady more) (after m span holders items)
+    → Ascend (items ++ more) → All (IsReady (items ++ more)) holders → All (IsReady more) (after m span holders items)
 
 -- a pending sequence has an event for each stage up to its own
 abbrev pub IsFull : Holder → Type 0
@@ -87,7 +87,7 @@ KeysStay = (m : ℕ) (span : Option ℤ) (test : List Value → Bool) (holders :
 -- the matches ascend strictly by last event, and then by key
 abbrev pub MatchesInOrder : Type 0
 MatchesInOrder = (m : ℕ) (span : Option ℤ) (holders : List Holder) (items : List Item)
-    → Ascending items → IsTrue (is_sorted ending_cmp (map by_ending (matches m span holders items)))
+    → Ascend items → IsTrue (is_sorted ending_cmp (map by_ending (matches m span holders items)))
 
 -- the first event of the one chain comes before that of the other
 abbrev pub FirstBefore : List OrderKey → List OrderKey → Type 0
@@ -102,7 +102,7 @@ FirstsFall holders = (key : List Value) (j k : ℕ) (c d : List OrderKey) → j 
 
 abbrev pub AfterFalls : Type 0
 AfterFalls = (m : ℕ) (span : Option ℤ) (holders : List Holder) (items : List Item)
-    → Ascending items → All (IsReady items) holders → All IsFull holders → FirstsFall holders → FirstsFall (after m span holders items)
+    → Ascend items → All (IsReady items) holders → All IsFull holders → FirstsFall holders → FirstsFall (after m span holders items)
 
 -- of pending sequences in order each is the one that a look-up finds
 abbrev pub OpeningFinds : Type 0

@@ -6,7 +6,7 @@ use Rattle.eql_values.specs.declared.order.Mark.{Mark}
 use Rattle.eql_values.specs.Accepted.{Reads, readable, accepted, sorted_items}
 use Rattle.eql_values.specs.Lines.{lines_in}
 use Rattle.eql_values.specs.Marks.{is_below, low_of}
-use Rattle.eql_values.specs.Ascending.{Ascending}
+use Rattle.eql_values.specs.Ascending.{Ascend}
 use Rattle.eql_laws.specs.Apart.{AllApart}
 use Rattle.eql_laws.specs.Belows.{IsReading, from_to, between}
 use Rattle.eql_laws.specs.Cuts.{held_back}
@@ -46,7 +46,7 @@ HeldBackGrows = (reads : Reads) (slack : Option ℤ) (shard : ℕ) (a b : List �
 
 -- the lists that shards hand out may be merged: each ascends, and no place is in two of them
 pub record HandsOutApart (reads : Reads) (slack : Option ℤ) (shard : ℕ) (texts : List (List ℕ)) (from to : Mark) : Type 0 where
-  pub ascend : All Ascending (handed_out reads slack shard texts from to)
+  pub ascend : All Ascend (handed_out reads slack shard texts from to)
   pub apart : AllApart (handed_out reads slack shard texts from to)
 
 abbrev pub HandedOutMerges : Type 0

@@ -3,7 +3,7 @@ use Rattle.std.specs.Prelude.{◌≡◌, ℤ, true, false, List, ◌++◌, All}
 use Rattle.eql_values.specs.declared.order.Mark.{Mark}
 use Rattle.eql_values.specs.declared.order.Mark.TheVariants.{At}
 use Rattle.eql_values.specs.declared.item.Item.{Item}
-use Rattle.eql_values.specs.Ascending.{AllAfter, Ascending}
+use Rattle.eql_values.specs.Ascending.{AllAfter, Ascend}
 use Rattle.eql_values.specs.Marks.{is_below}
 use Rattle.eql_laws.specs.Alive.{ItemsFrom}
 
@@ -17,7 +17,7 @@ NoneBelow mark items = All (λ (item : Item). is_below mark item ≡ false) item
 
 -- two ascending lists, all of the first below a mark and none of the second, ascend together
 abbrev pub AscendTogether : Type 0
-AscendTogether = (mark : Mark) (a b : List Item) → Ascending a → Ascending b → AllBelow mark a → NoneBelow mark b → Ascending (a ++ b)
+AscendTogether = (mark : Mark) (a b : List Item) → Ascend a → Ascend b → AllBelow mark a → NoneBelow mark b → Ascend (a ++ b)
 
 -- an event below a mark stands before all of a list of which none is below it
 abbrev pub StandsBefore : Type 0

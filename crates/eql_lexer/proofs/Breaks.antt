@@ -6,7 +6,7 @@ use Rattle.eql_lexer.specs.declared.refusal.Rule.TheVariants as rule
 use Rattle.eql_lexer.specs.Blanks.{gap}
 use Rattle.eql_lexer.specs.Strings.{BadEscape, bad_here, bad_after_plain, bad_after_escape}
 use Rattle.eql_lexer.specs.Spelling.{UpTo}
-use Rattle.eql_lexer.specs.Refusing.{IsOpen, Broken, BreaksAt}
+use Rattle.eql_lexer.specs.Refusing.{IsOpen, BreaksRule, BreaksAt}
 use Rattle.eql_lexer.proofs.Unique.{true_not_false, not_digit, escape_one, lexeme_one}
 use Rattle.eql_lexer.proofs.Refusals.{broken_no}
 
@@ -28,7 +28,7 @@ open_byte b bs (inl h) q t = q h.0
 open_byte b bs (inr (inl h)) q t = q h.0
 open_byte b bs (inr (inr h)) q t = t h.0
 
-open_escape : (b : ℕ) (bs place : List ℕ) → IsOpen b bs → Broken rule.BadEscape (b ∷ bs) place → ⊥
+open_escape : (b : ℕ) (bs place : List ℕ) → IsOpen b bs → BreaksRule rule.BadEscape (b ∷ bs) place → ⊥
 open_escape b bs place (inl h) k = true_not_false (sym h.1 ∙ k.1)
 open_escape b bs place (inr (inl h)) k = true_not_false (sym k.2 ∙ h.2)
 open_escape b bs place (inr (inr h)) k = omega (arith, h.0, k.0)
@@ -36,14 +36,14 @@ open_escape b bs place (inr (inr h)) k = omega (arith, h.0, k.0)
 open_at : (b c : ℕ) (bs : List ℕ) → IsOpen b bs → b ≡ c → c ≢ 34 → c ≢ 96 → ⊥
 open_at b c bs h e q t = open_byte b bs h (λ f. q (sym e ∙ f)) (λ f. t (sym e ∙ f))
 
-open_digit : (b : ℕ) (bs place : List ℕ) → IsOpen b bs → Broken rule.Fraction (b ∷ bs) place → ⊥
+open_digit : (b : ℕ) (bs place : List ℕ) → IsOpen b bs → BreaksRule rule.Fraction (b ∷ bs) place → ⊥
 open_digit b bs place h k = open_byte b bs h (not_digit b 34 k.1 refl) (not_digit b 96 k.1 refl)
 
-open_range : (b : ℕ) (bs place : List ℕ) → IsOpen b bs → Broken rule.NumberRange (b ∷ bs) place → ⊥
+open_range : (b : ℕ) (bs place : List ℕ) → IsOpen b bs → BreaksRule rule.NumberRange (b ∷ bs) place → ⊥
 open_range b bs place h k = open_byte b bs h (not_digit b 34 k.1 refl) (not_digit b 96 k.1 refl)
 
 -- what begins no token breaks one rule, and from one place on
-broken_one : (r s : Rule) (from p q : List ℕ) → Broken r from p → Broken s from q → (r ≡ s) × (p ≡ q)
+broken_one : (r s : Rule) (from p q : List ℕ) → BreaksRule r from p → BreaksRule s from q → (r ≡ s) × (p ≡ q)
 broken_one r s [] p q h k = absurd h
 broken_one rule.BadByte rule.BadByte (b ∷ bs) p q h k = (refl, h.0 ∙ sym k.0)
 broken_one rule.BadByte rule.OpenString (b ∷ bs) p q h k = absurd (open_byte b bs k.1 h.3 h.4)
@@ -96,10 +96,10 @@ broken_one rule.OpenComment rule.NumberRange (b ∷ bs) p q h k = absurd (not_di
 broken_one rule.OpenComment rule.OpenComment (b ∷ bs) p q h k = (refl, h.0 ∙ sym k.0)
 
 -- tokens that end where a rule is broken end at one place
-stop_one : (n : ℕ) (text : List ℕ) (ts us : List Token) (m l p q : List ℕ) (r s : Rule) → UpTo n text ts m → UpTo n text us l → Broken r (gap m) p → Broken s (gap l) q → m ≡ l
+stop_one : (n : ℕ) (text : List ℕ) (ts us : List Token) (m l p q : List ℕ) (r s : Rule) → UpTo n text ts m → UpTo n text us l → BreaksRule r (gap m) p → BreaksRule s (gap l) q → m ≡ l
 stop_one n text [] [] m l p q r s h k a b = h ∙ sym k
-stop_one n text [] (u ∷ us) m l p q r s h k a b = absurd (broken_no r (gap text) p u.tok k.0 (subst (λ x. Broken r (gap x) p) h a) k.1)
-stop_one n text (t ∷ ts) [] m l p q r s h k a b = absurd (broken_no s (gap text) q t.tok h.0 (subst (λ x. Broken s (gap x) q) k b) h.1)
+stop_one n text [] (u ∷ us) m l p q r s h k a b = absurd (broken_no r (gap text) p u.tok k.0 (subst (λ x. BreaksRule r (gap x) p) h a) k.1)
+stop_one n text (t ∷ ts) [] m l p q r s h k a b = absurd (broken_no s (gap text) q t.tok h.0 (subst (λ x. BreaksRule s (gap x) q) k b) h.1)
 stop_one n text (t ∷ ts) (u ∷ us) m l p q r s h k a b =
     stop_one n h.0 ts us m l p q r s h.4 (subst (λ x. UpTo n x us l) (sym (lexeme_one _ _ _ _ _ h.1 k.1).1) k.4) a b
 
@@ -107,5 +107,5 @@ stop_one n text (t ∷ ts) (u ∷ us) m l p q r s h k a b =
 pub one_break : (text : List ℕ) (r s : Rule) (at to : ℕ) → BreaksAt text r at → BreaksAt text s to → (r ≡ s) × (at ≡ to)
 one_break text r s at to h k =
     let same = stop_one (length text) text h.0 k.0 h.1 k.1 h.2 k.2 r s h.3 k.3 h.4 k.4 in
-    let one = broken_one r s (gap k.1) h.2 k.2 (subst (λ x. Broken r (gap x) h.2) same h.4) k.4 in
+    let one = broken_one r s (gap k.1) h.2 k.2 (subst (λ x. BreaksRule r (gap x) h.2) same h.4) k.4 in
     (one.0, omega (arith, h.5, k.5, ap length one.1))

@@ -17,7 +17,7 @@ use Rattle.eql_lexer.specs.Bytes.{begins, is_letter, is_word}
 use Rattle.eql_lexer.specs.Blanks.{gap}
 use Rattle.eql_lexer.specs.Strings.{triple, is_closed, quoted_name, is_name}
 use Rattle.eql_lexer.specs.Spelling.{word_more, RawString, LineString, QuotedName, Lexeme, UpTo}
-use Rattle.eql_lexer.specs.Refusing.{Broken, Refuses, BreaksWithin, BreaksAt, Refused, RawFault, ContentFault, NameFault, refusal_of}
+use Rattle.eql_lexer.specs.Refusing.{BreaksRule, Refuses, BreaksWithin, BreaksAt, RefusesText, RawFault, ContentFault, NameFault, refusal_of}
 use Rattle.eql_lexer.proofs.Closing.{rest_after}
 use Rattle.eql_lexer.proofs.Utf8.{behind_utf8, split_utf8}
 use Rattle.eql_lexer.proofs.Tails.{Tail, tail_here, tail_more, tail_on, tail_within, gap_tail, lexeme_tail, bad_within}
@@ -129,7 +129,7 @@ tail_utf8 text from h b more e small u =
     let cut = split_utf8 h.0 more b small (subst IsUtf8 (h.1 ∙ ap (λ l. h.0 ++ l) e) u) in
     subst IsUtf8 (sym e) (one_utf8 b more small cut.1)
 
-pub broken_within : (r : Rule) (from place : List ℕ) → Broken r from place → length place ≤ length from
+pub broken_within : (r : Rule) (from place : List ℕ) → BreaksRule r from place → length place ≤ length from
 broken_within r [] place h = absurd h
 broken_within rule.BadEscape (b ∷ bs) place h = omega (arith, bad_within bs place h.3)
 broken_within _ (b ∷ bs) place h = omega (arith, ap length h.0)
@@ -149,7 +149,7 @@ one_more n text [] mid t rest h k s e =
     subst (λ l. UpTo n l (t ∷ []) rest) h (rest, k, s, e, refl)
 one_more n text (u ∷ ts) mid t rest h k s e = (h.0, h.1, h.2, h.3, one_more n h.0 ts mid t rest h.4 k s e)
 
-pub refused_by : (text : List ℕ) (r : Rule) (at : ℕ) → BreaksAt text r at → Refused text (refusal_of r at)
+pub refused_by : (text : List ℕ) (r : Rule) (at : ℕ) → BreaksAt text r at → RefusesText text (refusal_of r at)
 refused_by text rule.BadByte at h = h
 refused_by text _ at h = h
 

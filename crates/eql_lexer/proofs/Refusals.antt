@@ -14,7 +14,7 @@ use Rattle.eql_lexer.specs.Blanks.{gap}
 use Rattle.eql_lexer.specs.Signs.{spelling, grows, sign_at}
 use Rattle.eql_lexer.specs.Strings.{Content, closed, plain, escaped, BadEscape, bad_here, bad_after_plain, bad_after_escape}
 use Rattle.eql_lexer.specs.Spelling.{Lexeme, UpTo, Spells}
-use Rattle.eql_lexer.specs.Refusing.{IsOpen, Broken, BreaksAt, Refused, IsMemory}
+use Rattle.eql_lexer.specs.Refusing.{IsOpen, BreaksRule, BreaksAt, RefusesText, IsMemory}
 use Rattle.eql_lexer.proofs.Unique.{true_not_false, not_letter, not_digit, not_letter_digit, no_sign, sign_at_is, escape_one, further, one_list}
 use Rattle.eql_lexer.proofs.Closing.{content_closed}
 
@@ -47,7 +47,7 @@ open_name b bs s rest (inl h) k = omega (arith, h.0, k.0)
 open_name b bs s rest (inr (inl h)) k = omega (arith, h.0, k.0)
 open_name b bs s rest (inr (inr h)) k = true_not_false (sym k.1.2 ∙ h.1)
 
-bad_string : (b : ℕ) (bs s rest place : List ℕ) → Broken rule.BadEscape (b ∷ bs) place → Lexeme (b ∷ bs) (tok.Str s) rest → ⊥
+bad_string : (b : ℕ) (bs s rest place : List ℕ) → BreaksRule rule.BadEscape (b ∷ bs) place → Lexeme (b ∷ bs) (tok.Str s) rest → ⊥
 bad_string b bs s rest place h (q, inl k) = true_not_false (sym k.0 ∙ h.1)
 bad_string b bs s rest place h (q, inr k) = bad_no _ _ _ _ k.1.1 h.3
 
@@ -58,7 +58,7 @@ comment_sign b bs rest x e o h k =
     cc
 
 -- what breaks a rule begins no token
-pub broken_no : (r : Rule) (from place : List ℕ) (t : Tok) (rest : List ℕ) → Broken r from place → Lexeme from t rest → ⊥
+pub broken_no : (r : Rule) (from place : List ℕ) (t : Tok) (rest : List ℕ) → BreaksRule r from place → Lexeme from t rest → ⊥
 broken_no r [] place t rest h k = h
 broken_no rule.OpenString (b ∷ bs) place (tok.Word w) rest h k = open_word b bs h.1 (not_letter b 34 k.0 refl) (not_letter b 96 k.0 refl)
 broken_no rule.OpenString (b ∷ bs) place (tok.Back w) rest h k = open_name b bs w rest h.1 k
@@ -96,8 +96,8 @@ broken_no rule.BadByte (b ∷ bs) place (tok.Str s) rest h k = h.3 k.0
 broken_no rule.BadByte (b ∷ bs) place (tok.Num n) rest h k = true_not_false (sym k.0 ∙ h.2)
 broken_no rule.BadByte (b ∷ bs) place (tok.Sign x) rest h k = let some = sign_at_is x (b ∷ bs) rest k.0 k.1 in cc
 
-none_further : (n : ℕ) (r : Rule) (mid place : List ℕ) (more : List Token) (stop : List ℕ) → Broken r (gap mid) place → UpTo n mid more stop → gap stop ≡ [] → ⊥
-none_further n r mid place [] stop h k e = subst (λ l. Broken r l place) (ap gap (sym k) ∙ e) h
+none_further : (n : ℕ) (r : Rule) (mid place : List ℕ) (more : List Token) (stop : List ℕ) → BreaksRule r (gap mid) place → UpTo n mid more stop → gap stop ≡ [] → ⊥
+none_further n r mid place [] stop h k e = subst (λ l. BreaksRule r l place) (ap gap (sym k) ∙ e) h
 none_further n r mid place (t ∷ ts) stop h k e = broken_no r (gap mid) place t.tok k.0 h k.1
 
 -- a text in which a rule is broken spells no tokens
@@ -107,7 +107,7 @@ none_spelled text r at us h k =
     none_further (length text) r h.1 h.2 far.0 k.0 h.4 far.2 k.2
 
 -- tokens that a text spells are its answer, unless memory runs out
-pub answered : (text : List ℕ) (r : Result (List Token) LexRefused) → length text ≤ 65536 → IsUtf8 text → IfOk r (Spells text) → IfErr r (Refused text)
+pub answered : (text : List ℕ) (r : Result (List Token) LexRefused) → length text ≤ 65536 → IsUtf8 text → IfOk r (Spells text) → IfErr r (RefusesText text)
     → (tokens : List Token) → Spells text tokens → MatchResult r (λ answer. answer ≡ tokens) IsMemory
 answered text (Ok ts) short u h k tokens s = one_list text ts tokens h s
 answered text (Err refused.Memory) short u h k tokens s = tt

@@ -15,7 +15,7 @@ use Rattle.eql_lexer.specs.Escapes.{escape}
 use Rattle.eql_lexer.specs.Signs.{spelling, sign_at}
 use Rattle.eql_lexer.specs.Strings.{IsPlain, Content, closed, plain, escaped, BadEscape, bad_here, bad_after_plain, bad_after_escape, is_closed, is_closed_behind, triple, before_triple, quoted_name, is_name}
 use Rattle.eql_lexer.specs.Spelling.{word_more, Lexeme, UpTo, Spells}
-use Rattle.eql_lexer.specs.Refusing.{Broken, BreaksAt}
+use Rattle.eql_lexer.specs.Refusing.{BreaksRule, BreaksAt}
 use Rattle.eql_lexer.proofs.Unique.{true_not_false}
 use Rattle.eql_lexer.proofs.Closing.{equal, closed_plain, closed_escape}
 use Rattle.eql_lexer.proofs.SignsFound.{sign_found}
@@ -65,7 +65,7 @@ contents (suc k) (b ∷ bs) q h =
 
 -- what a text begins with: a token, or a place where a rule is broken
 abbrev Front : List ℕ → Type 0
-Front from = ((t : Tok) × (rest : List ℕ) × Lexeme from t rest) ⊎ ((r : Rule) × (place : List ℕ) × Broken r from place)
+Front from = ((t : Tok) × (rest : List ℕ) × Lexeme from t rest) ⊎ ((r : Rule) × (place : List ℕ) × BreaksRule r from place)
 
 number_front : (f : Bool) (b : ℕ) (bs : List ℕ) → is_digit b ≡ true → begins_fraction (drop (prefix_len is_digit bs) bs) ≡ f
     → (number 0 (b ∷ take_while is_digit bs) < 2 ^ 63) ⊎ (2 ^ 63 ≤ number 0 (b ∷ take_while is_digit bs)) → Front (b ∷ bs)
@@ -130,7 +130,7 @@ first_front false false b bs e f = other_front (b == 34) (b == 96) (b == 39) b b
 abbrev Whole : ℕ → List ℕ → Type 0
 Whole n text =
     ((ts : List Token) × (stop : List ℕ) × UpTo n text ts stop × (gap stop ≡ []))
-    ⊎ ((r : Rule) × (at : ℕ) × (ts : List Token) × (stop place : List ℕ) × UpTo n text ts stop × Broken r (gap stop) place × (at + length place ≡ n))
+    ⊎ ((r : Rule) × (at : ℕ) × (ts : List Token) × (stop place : List ℕ) × UpTo n text ts stop × BreaksRule r (gap stop) place × (at + length place ≡ n))
 
 behind_token : (n : ℕ) (text : List ℕ) (t : Tok) (rest : List ℕ) → Lexeme (gap text) t rest → length (gap text) ≤ n → length rest ≤ n → Whole n rest → Whole n text
 behind_token n text t rest h p q (inl k) =
@@ -144,7 +144,7 @@ whole_at k n text from e p q go (inl h) =
     behind_token n text h.0 h.1 (subst (λ l. Lexeme l h.0 h.1) (sym e) h.2) (omega (arith, ap length e, q)) (omega (arith, less, q)) (go h.1 (omega (arith, less, p)) (omega (arith, less, q)))
 whole_at k n text from e p q go (inr h) =
     let within : length h.1 ≤ length from = broken_within h.0 from h.1 h.2 in
-    inr (h.0, n - length h.1, [], text, h.1, refl, subst (λ l. Broken h.0 l h.1) (sym e) h.2, omega (arith, within, q))
+    inr (h.0, n - length h.1, [], text, h.1, refl, subst (λ l. BreaksRule h.0 l h.1) (sym e) h.2, omega (arith, within, q))
 
 whole_from : (k n : ℕ) (text from : List ℕ) → gap text ≡ from → length from ≤ k → length from ≤ n → ((j : ℕ) → suc j ≡ k → (rest : List ℕ) → length rest ≤ j → length rest ≤ n → Whole n rest) → Whole n text
 whole_from k n text [] e p q go = inl ([], text, refl, e)

@@ -24,24 +24,24 @@ IsOpen b bs =
     ⊎ ((b ≡ 96) × (is_name (quoted_name bs) ≡ false))
 
 -- Of a text that begins no token: the rule that it breaks, and from where on.
-abbrev pub Broken : Rule → List ℕ → List ℕ → Type 0
-Broken r [] place = ⊥
-Broken rule.OpenString (b ∷ bs) place = (place ≡ b ∷ bs) × IsOpen b bs
-Broken rule.BadEscape (b ∷ bs) place = (b ≡ 34) × (triple (b ∷ bs) ≡ false) × (is_closed bs ≡ true) × BadEscape bs place
-Broken rule.Fraction (b ∷ bs) place = (place ≡ b ∷ bs) × (is_digit b ≡ true) × (begins_fraction (drop (prefix_len is_digit bs) bs) ≡ true)
-Broken rule.NumberRange (b ∷ bs) place =
+abbrev pub BreaksRule : Rule → List ℕ → List ℕ → Type 0
+BreaksRule r [] place = ⊥
+BreaksRule rule.OpenString (b ∷ bs) place = (place ≡ b ∷ bs) × IsOpen b bs
+BreaksRule rule.BadEscape (b ∷ bs) place = (b ≡ 34) × (triple (b ∷ bs) ≡ false) × (is_closed bs ≡ true) × BadEscape bs place
+BreaksRule rule.Fraction (b ∷ bs) place = (place ≡ b ∷ bs) × (is_digit b ≡ true) × (begins_fraction (drop (prefix_len is_digit bs) bs) ≡ true)
+BreaksRule rule.NumberRange (b ∷ bs) place =
     (place ≡ b ∷ bs) × (is_digit b ≡ true) × (begins_fraction (drop (prefix_len is_digit bs) bs) ≡ false)
     × (2 ^ 63 ≤ number 0 (b ∷ take_while is_digit bs))
-Broken rule.SingleQuote (b ∷ bs) place = (place ≡ b ∷ bs) × (b ≡ 39)
-Broken rule.OpenComment (b ∷ bs) place = (place ≡ b ∷ bs) × (b ≡ 47) × (begins 42 bs ≡ true)
-Broken rule.BadByte (b ∷ bs) place =
+BreaksRule rule.SingleQuote (b ∷ bs) place = (place ≡ b ∷ bs) × (b ≡ 39)
+BreaksRule rule.OpenComment (b ∷ bs) place = (place ≡ b ∷ bs) × (b ≡ 47) × (begins 42 bs ≡ true)
+BreaksRule rule.BadByte (b ∷ bs) place =
     (place ≡ b ∷ bs) × (is_letter b ≡ false) × (is_digit b ≡ false) × (b ≢ 34) × (b ≢ 96) × (b ≢ 39)
     × ((b ≡ 47) → begins 42 bs ≡ false) × (sign_at (b ∷ bs) ≡ None)
 
 -- why a text begins no token, or want of memory
 abbrev pub Refuses : List ℕ → Fault → Type 0
 Refuses from fault.Memory = Unit {0}
-Refuses from (fault.Broken r left) = (place : List ℕ) × Broken r from place × (left ≡ length place)
+Refuses from (fault.Broken r left) = (place : List ℕ) × BreaksRule r from place × (left ≡ length place)
 
 -- why what stands behind `"""` is no string: the refusal names the opening, where so many bytes are left
 abbrev pub RawFault : List ℕ → ℕ → Fault → Type 0
@@ -70,20 +70,20 @@ BreaksWithin from (fault.Broken r left) = left ≤ length from
 -- What stands before the token of the place spells tokens, and there the rule is broken.
 abbrev pub BreaksAt : List ℕ → Rule → ℕ → Type 0
 BreaksAt text r at =
-    (ts : List Token) × (stop place : List ℕ) × UpTo (length text) text ts stop × Broken r (gap stop) place × (at + length place ≡ length text)
+    (ts : List Token) × (stop place : List ℕ) × UpTo (length text) text ts stop × BreaksRule r (gap stop) place × (at + length place ≡ length text)
 
 -- the cause of each refusal
-abbrev pub Refused : List ℕ → LexRefused → Type 0
-Refused text refused.Memory = Unit {0}
-Refused text refused.TooLong = 65536 < length text
-Refused text refused.NotUtf8 = (length text ≤ 65536) × (IsUtf8 text → ⊥)
-Refused text (refused.BadByte at) = BreaksAt text rule.BadByte at
-Refused text (refused.OpenString at) = BreaksAt text rule.OpenString at
-Refused text (refused.BadEscape at) = BreaksAt text rule.BadEscape at
-Refused text (refused.Fraction at) = BreaksAt text rule.Fraction at
-Refused text (refused.SingleQuote at) = BreaksAt text rule.SingleQuote at
-Refused text (refused.NumberRange at) = BreaksAt text rule.NumberRange at
-Refused text (refused.OpenComment at) = BreaksAt text rule.OpenComment at
+abbrev pub RefusesText : List ℕ → LexRefused → Type 0
+RefusesText text refused.Memory = Unit {0}
+RefusesText text refused.TooLong = 65536 < length text
+RefusesText text refused.NotUtf8 = (length text ≤ 65536) × (IsUtf8 text → ⊥)
+RefusesText text (refused.BadByte at) = BreaksAt text rule.BadByte at
+RefusesText text (refused.OpenString at) = BreaksAt text rule.OpenString at
+RefusesText text (refused.BadEscape at) = BreaksAt text rule.BadEscape at
+RefusesText text (refused.Fraction at) = BreaksAt text rule.Fraction at
+RefusesText text (refused.SingleQuote at) = BreaksAt text rule.SingleQuote at
+RefusesText text (refused.NumberRange at) = BreaksAt text rule.NumberRange at
+RefusesText text (refused.OpenComment at) = BreaksAt text rule.OpenComment at
 
 -- the refusal for a rule that is broken at a place
 abbrev pub refusal_of : Rule → ℕ → LexRefused

@@ -6,7 +6,7 @@ ghost use Rattle.eql_lexer.specs.declared.refusal.LexRefused.TheVariants.{TooLon
 ghost use Rattle.eql_lexer.specs.Bytes.{begins, is_digit, is_letter};
 ghost use Rattle.eql_lexer.specs.Strings.{triple};
 ghost use Rattle.eql_lexer.specs.Spelling.{Lexeme, Spells, word_more};
-ghost use Rattle.eql_lexer.specs.Refusing.{BreaksWithin, IsMemory, Refused, Refuses};
+ghost use Rattle.eql_lexer.specs.Refusing.{BreaksWithin, IsMemory, RefusesText, Refuses};
 
 use crate::blank::after_gap;
 use crate::byte::{
@@ -189,7 +189,7 @@ fn tokens_of(alloc: Global, text: &[u8]) -> Result<Tokens, LexRefused>
     requires utf8 { IsUtf8 text.now }
     requires short { length text.now ≤ 65536 }
     ensures found { IfOk result (Spells text.now) }
-    ensures refused { IfErr result (Refused text.now) }
+    ensures refused { IfErr result (RefusesText text.now) }
 {
     let mut tokens = Vec::new(alloc);
     let mut rest = text;
@@ -231,7 +231,7 @@ pub fn lex(alloc: Global, text: &[u8]) -> Result<Tokens, LexRefused>
     // What is answered is what the text spells.
     ensures found { IfOk result (Spells text.now) }
     // Each refusal has its cause.
-    ensures refused { IfErr result (Refused text.now) }
+    ensures refused { IfErr result (RefusesText text.now) }
     // A text that is too long, or not UTF-8, is always refused as such.
     ensures too_long { 65536 < length text.now → result ≡ Err TooLong }
     ensures not_utf8 { length text.now ≤ 65536 → (IsUtf8 text.now → ⊥) → result ≡ Err NotUtf8 }

@@ -21,7 +21,7 @@ use Rattle.eql_turn_lock.specs.History.{IsLegal, OthersOpen, StartsWith, calls_b
 use Rattle.eql_turn_lock.specs.Passes.{KnowsHistory, joined_view}
 use Rattle.eql_turn_lock.proofs.Histories.{all_right, rest_is_of_others, starts_in, starts_self}
 use Rattle.eql_lock_row.specs.Rows.{joined_views}
-use Rattle.eql_conductor.specs.Benches.{FedOn, TurnedOn}
+use Rattle.eql_conductor.specs.Benches.{ComesByFeeds, ComesByTurns}
 use Rattle.eql_hub.specs.Hands.{LaneKnown, PartKnown}
 use Rattle.eql_hub.specs.Turns.{LaneTurn, PartTurn, is_open_lane, is_open_part}
 use Rattle.eql_lock_bench.specs.Locked.{did_fail, entry_failed}
@@ -126,7 +126,7 @@ module _ {S L : Type 0} (left lent_as : S → Option (List ℕ)) (fault_plan : S
     pub opened : v.opening ≡ Some opening
     -- the bench knew this state, and from there others fed the lane
     pub was : IsLegal Turns opening v.seen first
-    pub fed : FedOn (setting_of read_of text opening) first.state lane.state
+    pub fed : ComesByFeeds (setting_of read_of text opening) first.state lane.state
     pub same : SameLane left lent_as read_of opening lane
     pub of : IsTextOf left text lane
     pub unfailing : IsUnfailing (fault_plan opening.source) → IsUnfailing (fault_plan lane.source)
@@ -191,7 +191,7 @@ pub record PartCloses (v : PartKnown) (part : PartView) : Type 0 where
   pub opened : v.opening ≡ Some opening
   -- the bench knew this state, and from there others turned the part
   pub was : IsLegal PartTurn opening v.seen first
-  pub turned : TurnedOn opening.rules first.state part.state
+  pub turned : ComesByTurns opening.rules first.state part.state
   pub rules : part.rules ≡ opening.rules
 
 pub part_closes : (v w : PartKnown) (part : PartView) → Further v w → v.number ≡ 0 → KnowsHistory PartTurn is_open_part v → Closes PartTurn is_open_part w part → PartCloses v part

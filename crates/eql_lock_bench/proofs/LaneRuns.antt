@@ -24,7 +24,7 @@ use Rattle.eql_lock_row.specs.Rows.{AreFirst, ChangesAt}
 use Rattle.eql_lock_row.proofs.Places.{all_at}
 use Rattle.eql_conductor.specs.declared.bench.NotPlayed.{NotPlayed}
 use Rattle.eql_conductor.specs.declared.bench.NotPlayed.TheVariants as not_played
-use Rattle.eql_conductor.specs.Benches.{FailsBy, FedOn, LaneCalled, LaneLeft, LanePlays, PartLeft, Same, Unplayed}
+use Rattle.eql_conductor.specs.Benches.{FailsBy, ComesByFeeds, CallsLane, LeavesLane, LanePlays, LeavesPart, Same, WasNotPlayed}
 use Rattle.eql_conductor.specs.Notes.{lane_note}
 use Rattle.eql_conductor.proofs.Resting.{fed_on, fed_once, fed_self, same_or, turned_self}
 use Rattle.eql_hub.specs.Hands.{HandView, LaneKnown}
@@ -58,14 +58,14 @@ module _ {S L : Type 0} (left lent_as : S → Option (List ℕ)) (fault_plan : S
     step_of x op reply y turn is = subst (λ (t : Setting). LaneStep t x.state op reply y.state) is.set_is (turn.plays text is.of).step
 
     -- an open entry is a feed
-    fed_one : (op : LaneOp) (reply : LaneReply) (x y : LaneView S L) → is_open_lane op ≡ true → Turns x op reply y → Stands x → FedOn set x.state y.state
+    fed_one : (op : LaneOp) (reply : LaneReply) (x y : LaneView S L) → is_open_lane op ≡ true → Turns x op reply y → Stands x → ComesByFeeds set x.state y.state
     fed_one (lane_op.Feed max) reply x y open_to turn is = fed_once set x.state y.state max reply (step_of x (lane_op.Feed max) reply y turn is)
     fed_one (lane_op.Take mark) reply x y open_to turn is = absurd (false≢true open_to)
     fed_one lane_op.Look reply x y open_to turn is = absurd (false≢true open_to)
     fed_one lane_op.Snap reply x y open_to turn is = absurd (false≢true open_to)
 
-    pub fed_all : (es : List (Entry LaneOp LaneReply)) (x y : LaneView S L) → IsLegal Turns x es y → All (IsOpenTo is_open_lane) es → Stands x → FedOn set x.state y.state
-    fed_all [] x y same all is = subst (λ (v : LaneView S L). FedOn set x.state v.state) same (fed_self set x.state)
+    pub fed_all : (es : List (Entry LaneOp LaneReply)) (x y : LaneView S L) → IsLegal Turns x es y → All (IsOpenTo is_open_lane) es → Stands x → ComesByFeeds set x.state y.state
+    fed_all [] x y same all is = subst (λ (v : LaneView S L). ComesByFeeds set x.state v.state) same (fed_self set x.state)
     fed_all (e ∷ es) x y (after, turn, rest) all is =
         fed_on set x.state after.state y.state
         (fed_one e.op e.reply x after (All-head (IsOpenTo is_open_lane) e es all) turn is)
@@ -77,7 +77,7 @@ module _ {S L : Type 0} (left lent_as : S → Option (List ℕ)) (fault_plan : S
     module _ (reply : LaneReply)
         (c : ChangesAt s (λ (v w : LaneKnown S L). Plays Turns is_open_lane v op reply w × KnowsHistory Turns is_open_lane w) a.lanes.views b.lanes.views) where
       pub called : (y : LaneState) → MayBe Turns lane_state b.lanes.views s y
-          → LaneCalled (set_in read_of (text s) (opening_in (slice_get a.lanes.views s))) (MayBe Turns lane_state a.lanes.views s) op reply y
+          → CallsLane (set_in read_of (text s) (opening_in (slice_get a.lanes.views s))) (MayBe Turns lane_state a.lanes.views s) op reply y
       called y may =
           let plays = c.changes.0.2 in
           let v = c.before in
@@ -107,7 +107,7 @@ module _ {S L : Type 0} (left lent_as : S → Option (List ℕ)) (fault_plan : S
       some_at = some_state Turns lane_state is_open_lane b.lanes.views s c.after (changed_here s a.lanes.views b.lanes.views c) knows
 
       others : (k : ℕ) → k ≢ s
-          → LaneLeft (set_in read_of (text k) (opening_in (slice_get a.lanes.views k))) (MayBe Turns lane_state a.lanes.views k) (MayBe Turns lane_state b.lanes.views k)
+          → LeavesLane (set_in read_of (text k) (opening_in (slice_get a.lanes.views k))) (MayBe Turns lane_state a.lanes.views k) (MayBe Turns lane_state b.lanes.views k)
       others k apart y may = (
         y,
         may_back Turns lane_state a.lanes.views b.lanes.views k (changed_else s a.lanes.views b.lanes.views c k apart) y may,
@@ -127,7 +127,7 @@ module _ {S L : Type 0} (left lent_as : S → Option (List ℕ)) (fault_plan : S
         some_part = λ p l has. (has.0, may_back PartTurn part_state b.parts.views a.parts.views p (ap (λ (r : _). slice_get r.views p) (sym parts)) has.0 has.1);
       }
 
-    parts_left : (p : ℕ) → PartLeft (rules_in (opening_in (slice_get a.parts.views p))) (MayBe PartTurn part_state a.parts.views p) (MayBe PartTurn part_state b.parts.views p)
+    parts_left : (p : ℕ) → LeavesPart (rules_in (opening_in (slice_get a.parts.views p))) (MayBe PartTurn part_state a.parts.views p) (MayBe PartTurn part_state b.parts.views p)
     parts_left p y may = (
       y,
       may_back PartTurn part_state a.parts.views b.parts.views p (ap (λ (r : _). slice_get r.views p) parts) y may,
@@ -187,7 +187,7 @@ module _ {S L : Type 0} (left lent_as : S → Option (List ℕ)) (fault_plan : S
     -- ---- the lock was worn
     module _ (word : ℕ) (back : LaneOp)
         (c : ChangesAt s (λ (v w : LaneKnown S L). RefusesWorn v op (not_now.Worn word back) w × KnowsHistory Turns is_open_lane w) a.lanes.views b.lanes.views) where
-      pub unplayed : Unplayed (not_played.Worn word) (known_by left lent_as fault_plan read_of text a) (known_by left lent_as fault_plan read_of text b)
+      pub unplayed : WasNotPlayed (not_played.Worn word) (known_by left lent_as fault_plan read_of text a) (known_by left lent_as fault_plan read_of text b)
       unplayed =
           let rested = c.changes.0.1 in
           let mine : c.after.mine ≡ c.before.mine = rested.1 in
@@ -196,7 +196,7 @@ module _ {S L : Type 0} (left lent_as : S → Option (List ℕ)) (fault_plan : S
               same = same c rested.3 c.changes.1;
               lanes = record {
                 each = λ k l. elim (same_or k s) [
-                  | inl e ↦ subst (λ (j : ℕ). LaneLeft (set_in read_of (text j) (opening_in (slice_get a.lanes.views j))) (MayBe Turns lane_state a.lanes.views j) (MayBe Turns lane_state b.lanes.views j)) (sym e)
+                  | inl e ↦ subst (λ (j : ℕ). LeavesLane (set_in read_of (text j) (opening_in (slice_get a.lanes.views j))) (MayBe Turns lane_state a.lanes.views j) (MayBe Turns lane_state b.lanes.views j)) (sym e)
                       (λ y may. (
                         y,
                         may_seen Turns lane_state a.lanes.views b.lanes.views s c.before c.after c.was (changed_here s a.lanes.views b.lanes.views c) rested.0 rested.3 y may,
@@ -223,7 +223,7 @@ module _ {S L : Type 0} (left lent_as : S → Option (List ℕ)) (fault_plan : S
     -- ---- either
     pub record Says (result : Result LaneReply NotPlayed) : Type 0 where
       pub played : IfOk result (λ reply. LanePlays s op reply (known_by left lent_as fault_plan read_of text a) (known_by left lent_as fault_plan read_of text b))
-      pub not_played : IfErr result (λ by. Unplayed by (known_by left lent_as fault_plan read_of text a) (known_by left lent_as fault_plan read_of text b))
+      pub not_played : IfErr result (λ by. WasNotPlayed by (known_by left lent_as fault_plan read_of text a) (known_by left lent_as fault_plan read_of text b))
 
     pub lane_says : (answer : Result LaneReply (NotNow LaneOp)) (result : Result LaneReply NotPlayed) → result ≡ told_of answer
         → ChangesAt s (λ (v w : LaneKnown S L). MatchResult answer (λ reply. Plays Turns is_open_lane v op reply w) (λ refused. RefusesWorn v op refused w) × KnowsHistory Turns is_open_lane w) a.lanes.views b.lanes.views

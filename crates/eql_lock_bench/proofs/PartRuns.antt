@@ -25,7 +25,7 @@ use Rattle.eql_lock_row.specs.Rows.{AreFirst, ChangesAt}
 use Rattle.eql_lock_row.proofs.Places.{all_at}
 use Rattle.eql_conductor.specs.declared.bench.NotPlayed.{NotPlayed}
 use Rattle.eql_conductor.specs.declared.bench.NotPlayed.TheVariants as not_played
-use Rattle.eql_conductor.specs.Benches.{LaneLeft, PartCalled, PartLeft, PartPlays, Same, TurnedOn, Unplayed}
+use Rattle.eql_conductor.specs.Benches.{LeavesLane, CallsPart, LeavesPart, PartPlays, Same, ComesByTurns, WasNotPlayed}
 use Rattle.eql_conductor.specs.Notes.{part_note}
 use Rattle.eql_conductor.proofs.Resting.{fed_self, same_or, turned_on, turned_once, turned_self}
 use Rattle.eql_hub.specs.Hands.{HandView, PartKnown}
@@ -47,14 +47,14 @@ module _ (rules : Rules) where
   step_of x op reply y turn is = subst (λ (r : Rules). PartStep r x.state op reply y.state) is.rules_are turn.step
 
   -- an open entry is a turn
-  turned_one : (op : PartOp) (reply : PartReply) (x y : PartView) → is_open_part op ≡ true → PartTurn x op reply y → Stands x → TurnedOn rules x.state y.state
+  turned_one : (op : PartOp) (reply : PartReply) (x y : PartView) → is_open_part op ≡ true → PartTurn x op reply y → Stands x → ComesByTurns rules x.state y.state
   turned_one (part_op.Turn max) reply x y open_to turn is = turned_once rules x.state y.state max reply (step_of x (part_op.Turn max) reply y turn is)
   turned_one (part_op.Deliver items mark) reply x y open_to turn is = absurd (false≢true open_to)
   turned_one part_op.Collect reply x y open_to turn is = absurd (false≢true open_to)
   turned_one part_op.Snap reply x y open_to turn is = absurd (false≢true open_to)
 
-  pub turned_all : (es : List (Entry PartOp PartReply)) (x y : PartView) → IsLegal PartTurn x es y → All (IsOpenTo is_open_part) es → Stands x → TurnedOn rules x.state y.state
-  turned_all [] x y same all is = subst (λ (v : PartView). TurnedOn rules x.state v.state) same (turned_self rules x.state)
+  pub turned_all : (es : List (Entry PartOp PartReply)) (x y : PartView) → IsLegal PartTurn x es y → All (IsOpenTo is_open_part) es → Stands x → ComesByTurns rules x.state y.state
+  turned_all [] x y same all is = subst (λ (v : PartView). ComesByTurns rules x.state v.state) same (turned_self rules x.state)
   turned_all (e ∷ es) x y (after, turn, rest) all is =
       turned_on rules x.state after.state y.state
       (turned_one e.op e.reply x after (All-head (IsOpenTo is_open_part) e es all) turn is)
@@ -72,7 +72,7 @@ module _ {S L : Type 0} (left lent_as : S → Option (List ℕ)) (fault_plan : S
     some_at : (x : PartState) × MayBe PartTurn part_state b.parts.views p x
     some_at = some_state PartTurn part_state is_open_part b.parts.views p c.after (changed_here p a.parts.views b.parts.views c) knows
 
-    others : (k : ℕ) → k ≢ p → PartLeft (rules_in (opening_in (slice_get a.parts.views k))) (MayBe PartTurn part_state a.parts.views k) (MayBe PartTurn part_state b.parts.views k)
+    others : (k : ℕ) → k ≢ p → LeavesPart (rules_in (opening_in (slice_get a.parts.views k))) (MayBe PartTurn part_state a.parts.views k) (MayBe PartTurn part_state b.parts.views k)
     others k apart y may = (
       y,
       may_back PartTurn part_state a.parts.views b.parts.views k (changed_else p a.parts.views b.parts.views c k apart) y may,
@@ -92,7 +92,7 @@ module _ {S L : Type 0} (left lent_as : S → Option (List ℕ)) (fault_plan : S
       ];
     }
 
-  lanes_left : (s : ℕ) → LaneLeft (set_in read_of (text s) (opening_in (slice_get a.lanes.views s))) (MayBe Turns lane_state a.lanes.views s) (MayBe Turns lane_state b.lanes.views s)
+  lanes_left : (s : ℕ) → LeavesLane (set_in read_of (text s) (opening_in (slice_get a.lanes.views s))) (MayBe Turns lane_state a.lanes.views s) (MayBe Turns lane_state b.lanes.views s)
   lanes_left s y may = (
     y,
     may_back Turns lane_state a.lanes.views b.lanes.views s (ap (λ (r : _). slice_get r.views s) lanes) y may,
@@ -103,7 +103,7 @@ module _ {S L : Type 0} (left lent_as : S → Option (List ℕ)) (fault_plan : S
   module _ (reply : PartReply)
       (c : ChangesAt p (λ (v w : PartKnown). Plays PartTurn is_open_part v op reply w × KnowsHistory PartTurn is_open_part w) a.parts.views b.parts.views) where
     called : (y : PartState) → MayBe PartTurn part_state b.parts.views p y
-        → PartCalled (rules_in (opening_in (slice_get a.parts.views p))) (MayBe PartTurn part_state a.parts.views p) op reply y
+        → CallsPart (rules_in (opening_in (slice_get a.parts.views p))) (MayBe PartTurn part_state a.parts.views p) op reply y
     called y may =
         let plays = c.changes.0.2 in
         let v = c.before in
@@ -157,7 +157,7 @@ module _ {S L : Type 0} (left lent_as : S → Option (List ℕ)) (fault_plan : S
   -- ---- the lock was worn
   module _ (word : ℕ) (back : PartOp)
       (c : ChangesAt p (λ (v w : PartKnown). RefusesWorn v op (not_now.Worn word back) w × KnowsHistory PartTurn is_open_part w) a.parts.views b.parts.views) where
-    unplayed : Unplayed (not_played.Worn word) (known_by left lent_as fault_plan read_of text a) (known_by left lent_as fault_plan read_of text b)
+    unplayed : WasNotPlayed (not_played.Worn word) (known_by left lent_as fault_plan read_of text a) (known_by left lent_as fault_plan read_of text b)
     unplayed =
         let rested = c.changes.0.1 in
         let mine : c.after.mine ≡ c.before.mine = rested.1 in
@@ -167,7 +167,7 @@ module _ {S L : Type 0} (left lent_as : S → Option (List ℕ)) (fault_plan : S
             lanes = record { each = λ s l. lanes_left s };
             parts = record {
               each = λ k l. elim (same_or k p) [
-                | inl e ↦ subst (λ (j : ℕ). PartLeft (rules_in (opening_in (slice_get a.parts.views j))) (MayBe PartTurn part_state a.parts.views j) (MayBe PartTurn part_state b.parts.views j)) (sym e)
+                | inl e ↦ subst (λ (j : ℕ). LeavesPart (rules_in (opening_in (slice_get a.parts.views j))) (MayBe PartTurn part_state a.parts.views j) (MayBe PartTurn part_state b.parts.views j)) (sym e)
                     (λ y may. (
                       y,
                       may_seen PartTurn part_state a.parts.views b.parts.views p c.before c.after c.was (changed_here p a.parts.views b.parts.views c) rested.0 rested.3 y may,
@@ -193,7 +193,7 @@ module _ {S L : Type 0} (left lent_as : S → Option (List ℕ)) (fault_plan : S
   -- ---- either
   pub record Says (result : Result PartReply NotPlayed) : Type 0 where
     pub played : IfOk result (λ reply. PartPlays p op reply (known_by left lent_as fault_plan read_of text a) (known_by left lent_as fault_plan read_of text b))
-    pub not_played : IfErr result (λ by. Unplayed by (known_by left lent_as fault_plan read_of text a) (known_by left lent_as fault_plan read_of text b))
+    pub not_played : IfErr result (λ by. WasNotPlayed by (known_by left lent_as fault_plan read_of text a) (known_by left lent_as fault_plan read_of text b))
 
   pub part_says : (answer : Result PartReply (NotNow PartOp)) (result : Result PartReply NotPlayed) → result ≡ told_of answer
       → ChangesAt p (λ (v w : PartKnown). MatchResult answer (λ reply. Plays PartTurn is_open_part v op reply w) (λ refused. RefusesWorn v op refused w) × KnowsHistory PartTurn is_open_part w) a.parts.views b.parts.views

@@ -1,7 +1,7 @@
 //! A bench over a hub of locks.
 ghost use Rattle.std.specs.Prelude.{◌≡◌, ◌<◌, IfErr, IfOk, length};
 ghost use Rattle.eql_lane.specs.Lanes.{LaneAllows};
-ghost use Rattle.eql_conductor.specs.Benches.{LanePlays, MayPlay, PartPlays, Unplayed};
+ghost use Rattle.eql_conductor.specs.Benches.{LanePlays, MayPlay, PartPlays, WasNotPlayed};
 ghost use Rattle.eql_lock_row.specs.Rows.{ChangesAt};
 ghost use Rattle.eql_hub.specs.Hands.{IsFirst, IsHandOf, Knows};
 ghost use Rattle.eql_hub.specs.Turns.{LaneTurn, PartTurn, is_open_lane, is_open_part};
@@ -116,7 +116,7 @@ impl<'a, R: Wait, S: Source, L: LineReader, G: Ledger, T: LockOpening<S, L>> Ben
         ensures played { IfOk result (λ reply. LanePlays s op reply
             (known_by S.left S.lent_as S.fault_plan L.read_of T.text self.old)
             (known_by S.left S.lent_as S.fault_plan L.read_of T.text self.new)) }
-        ensures not_played { IfErr result (λ by. Unplayed by
+        ensures not_played { IfErr result (λ by. WasNotPlayed by
             (known_by S.left S.lent_as S.fault_plan L.read_of T.text self.old)
             (known_by S.left S.lent_as S.fault_plan L.read_of T.text self.new)) }
         ensures call { ChangesAt s
@@ -135,7 +135,7 @@ impl<'a, R: Wait, S: Source, L: LineReader, G: Ledger, T: LockOpening<S, L>> Ben
         ensures played { IfOk result (λ reply. PartPlays p op reply
             (known_by S.left S.lent_as S.fault_plan L.read_of T.text self.old)
             (known_by S.left S.lent_as S.fault_plan L.read_of T.text self.new)) }
-        ensures not_played { IfErr result (λ by. Unplayed by
+        ensures not_played { IfErr result (λ by. WasNotPlayed by
             (known_by S.left S.lent_as S.fault_plan L.read_of T.text self.old)
             (known_by S.left S.lent_as S.fault_plan L.read_of T.text self.new)) }
         ensures call { ChangesAt p

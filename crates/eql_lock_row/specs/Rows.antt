@@ -24,8 +24,8 @@ module _ {T O R : Type 0} where
   AreFirst views = All (λ (v : View T O R). v.number ≡ 0) views
 
   -- all passes that were split off were joined in
-  abbrev pub AllJoined : List (View T O R) → Type 0
-  AllJoined views = All (λ (v : View T O R). length v.ended ≡ v.made) views
+  abbrev pub AllAreJoined : List (View T O R) → Type 0
+  AllAreJoined views = All (λ (v : View T O R). length v.ended ≡ v.made) views
 
   -- what each pass has seen is a legal history, with its own entries
   abbrev pub AllKnow : (T → O → R → T → Type 0) → (O → Bool) → List (View T O R) → Type 0

@@ -4,7 +4,7 @@ ghost use Rattle.std.specs.List.{AllZip};
 ghost use Rattle.eql_turn_lock.specs.Calls.{Closes};
 ghost use Rattle.eql_turn_lock.specs.History.{StartsWith};
 ghost use Rattle.eql_turn_lock.specs.Passes.{first_view, new_view, split_view};
-ghost use Rattle.eql_lock_row.specs.Rows.{AllJoined, AllKnow, AreFirst, joined_views};
+ghost use Rattle.eql_lock_row.specs.Rows.{AllAreJoined, AllKnow, AreFirst, joined_views};
 
 use crate::whole::{join_all, lock_all, split_all, unlock_all};
 use eql_turn_lock::{Memory, Pass, TurnLock, Turned};
@@ -160,7 +160,7 @@ impl<T: Turned> LockRow<T> {
     pub fn close(self, passes: PassRow<T>) -> Vec<T>
         requires own { passes.locks ≡ self }
         requires first { AreFirst passes.views }
-        requires all_joined { AllJoined passes.views }
+        requires all_joined { AllAreJoined passes.views }
         ensures { AllZip (Closes T.step_of T.is_open) passes.views result.items }
     {
         let mut values = self.room;

@@ -4,7 +4,7 @@ ghost use Rattle.std.specs.List.{AllZip};
 ghost use Rattle.eql_turn_lock.specs.Calls.{Closes};
 ghost use Rattle.eql_turn_lock.specs.History.{StartsWith};
 ghost use Rattle.eql_turn_lock.specs.Passes.{first_view, new_view, split_view};
-ghost use Rattle.eql_lock_row.specs.Rows.{AllJoined, AllKnow, AreFirst, AreOf, joined_views, views_in};
+ghost use Rattle.eql_lock_row.specs.Rows.{AllAreJoined, AllKnow, AreFirst, AreOf, joined_views, views_in};
 
 use eql_turn_lock::{Memory, Pass, TurnLock, Turned};
 use std::alloc::Global;
@@ -50,7 +50,7 @@ pub(crate) fn unlock_all<T: Turned>(
 )
     requires own { AreOf locks.items passes.items }
     requires first { AreFirst (views_in passes.items) }
-    requires all_joined { AllJoined (views_in passes.items) }
+    requires all_joined { AllAreJoined (views_in passes.items) }
     requires room { vec_len values.old + length locks.items ≤ vec_capacity values.old }
     ensures { (closed : List T) × AllZip (Closes T.step_of T.is_open) (views_in passes.items) closed
         × (values.new.items ≡ values.old.items ++ reverse closed) }

@@ -15,7 +15,7 @@ use Rattle.eql_values.specs.declared.found.Match.{Match}
 use Rattle.eql_values.specs.Orders.{key_cmp, key_eq}
 use Rattle.eql_values.specs.Totals.{key_cmp_total}
 use Rattle.eql_values.proofs.Same.{key_same}
-use Rattle.eql_values.specs.Ascending.{Ascending}
+use Rattle.eql_values.specs.Ascending.{Ascend}
 use Rattle.eql_values.specs.Chains.{chain}
 use Rattle.eql_values.specs.Matching.{act_by, acts_of, match_by, matches_after, matches, opening_of}
 use Rattle.eql_laws.specs.Shapes.{MatchAscends, MatchesAscend}
@@ -93,7 +93,7 @@ module _ (m : ℕ) (span : Option ℤ) where
       ∙ ap (cons_option (match_by m span (opening_of []) items order r))
       (made_by order (key_act_of order r ∷ past) items rs (right_holds _ _ h) (agree_on (key_act_of order r) past items rs (left_holds _ _ h) a.1))
 
-  made_are : (past : List KeyAct) (before items : List Item) → Ascending items → ((key : List Value) → to_key key past ≡ acts_of key before)
+  made_are : (past : List KeyAct) (before items : List Item) → Ascend items → ((key : List Value) → to_key key past ≡ acts_of key before)
       → made past (key_acts items) ≡ matches_after m span (opening_of []) before items
   made_are past before [] up h = refl
   made_are past before (item ∷ items) up h =
@@ -103,7 +103,7 @@ module _ (m : ℕ) (span : Option ℤ) where
       ++ made_are (back_over (key_acts_of item) past) (item ∷ before) items up.2
       (λ key. said_there item.order key item.routes past sorted ∙ ap (cons_option (act_there item.order key item.routes)) (h key)) i)
 
-  pub all_made : (items : List Item) → Ascending items → made [] (key_acts items) ≡ matches m span [] items
+  pub all_made : (items : List Item) → Ascend items → made [] (key_acts items) ≡ matches m span [] items
   all_made items up = made_are [] [] items up (λ key. refl)
 
 each_ascends : (all : List KeyAct) (chains : List (Option (List OrderKey))) → length chains ≡ length all → All MatchAscends (matches_at all chains) → All ChainAscends chains
@@ -115,7 +115,7 @@ each_ascends (x ∷ all) (Some c ∷ chains) e h =
     (each_ascends all chains (omega arith) (All-tail MatchAscends _ (matches_at all chains) h))
 
 -- the chains at all places ascend
-pub chains_ascend : MatchesAscend → (m : ℕ) (span : Option ℤ) (items : List Item) → Ascending items → All ChainAscends (chains_at span m [] (key_acts items))
+pub chains_ascend : MatchesAscend → (m : ℕ) (span : Option ℤ) (items : List Item) → Ascend items → All ChainAscends (chains_at span m [] (key_acts items))
 chains_ascend ascend m span items up =
     each_ascends (key_acts items) (chains_at span m [] (key_acts items)) (length-chains_at span m [] (key_acts items))
     (subst (All MatchAscends) (sym (all_made m span items up)) (ascend m span [] items up (All-nil _)))

@@ -1,6 +1,6 @@
 //! Whether a list of events stands as the search requires.
 ghost use Rattle.std.specs.Prelude.{IsTrue};
-ghost use Rattle.eql_values.specs.Ascending.{AllAfter, Ascending};
+ghost use Rattle.eql_values.specs.Ascending.{AllAfter, Ascend};
 ghost use Rattle.eql_values.specs.Routes.{RoutesInOrder};
 
 use eql_values::Item;
@@ -24,7 +24,7 @@ fn has_one_route(event: &Item) -> bool
 
 /// Whether the events ascend, and each has at most one route. It compares each event with all behind it.
 pub fn ascend(items: &[Item]) -> bool
-    ensures { IsTrue result → Ascending items.now }
+    ensures { IsTrue result → Ascend items.now }
 {
     match items {
         [] => true,

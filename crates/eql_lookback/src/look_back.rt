@@ -1,6 +1,6 @@
 //! The matches of a list of events.
 ghost use Rattle.std.specs.Prelude.{◌≡◌, ◌≤◌, [], All, IfOk, length};
-ghost use Rattle.eql_values.specs.Ascending.{Ascending};
+ghost use Rattle.eql_values.specs.Ascending.{Ascend};
 ghost use Rattle.eql_values.specs.Matching.{matches};
 ghost use Rattle.eql_lookback.specs.Places.{ChainAscends, match_at, matches_at};
 
@@ -51,7 +51,7 @@ pub fn find(
     stages: u32,
     span: Option<i128>,
 ) -> Result<Matches, Memory>
-    requires ascending { Ascending items.now }
+    requires ascending { Ascend items.now }
     requires from { 1 ≤ stages }
     requires to { stages ≤ 256 }
     ensures { IfOk result (λ found. found ≡ matches stages span [] items.now) }

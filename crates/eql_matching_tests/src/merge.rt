@@ -1,6 +1,6 @@
 //! Lists of many shards and of parts, merged.
 ghost use Rattle.std.specs.Prelude.{◌≡◌, All, IsTrue};
-ghost use Rattle.eql_values.specs.Ascending.{Ascending};
+ghost use Rattle.eql_values.specs.Ascending.{Ascend};
 ghost use Rattle.eql_laws.specs.Apart.{has_place, Apart, ApartFrom, AllApart};
 
 use eql_lookback::ascend;
@@ -31,7 +31,7 @@ fn list_of(alloc: Global, shard: u32) -> Result<Vec<Item>, Memory> {
 
 /// Whether each list ascends.
 fn each_ascends(lists: &[Items]) -> bool
-    ensures { IsTrue result → All Ascending lists.now }
+    ensures { IsTrue result → All Ascend lists.now }
 {
     lists.iter().all(|items| ascend(items.items()))
 }

@@ -17,7 +17,7 @@ use Rattle.eql_values.specs.declared.found.Match.{Match}
 use Rattle.eql_values.specs.declared.found.Holder.{Holder}
 use Rattle.eql_values.specs.Matching.{slot_cmp}
 use Rattle.eql_values.specs.Accepted.{sorted_items}
-use Rattle.eql_values.specs.Ascending.{AllAfter, Ascending}
+use Rattle.eql_values.specs.Ascending.{AllAfter, Ascend}
 use Rattle.eql_values.specs.OrderKeys.{order_cmp}
 use Rattle.eql_values.specs.Ordered.{in_order}
 use Rattle.eql_values.specs.Totals.{order_cmp_total, slot_cmp_total}
@@ -89,12 +89,12 @@ after_first : (item : Item) (items : List Item) → AllAfter item.order items �
 after_first item [] h = tt
 after_first item (next ∷ items) h = (h.0, after_first item items h.1)
 
-ascending_ascends : (items : List Item) → Ascending items → Ascends item_rank items
+ascending_ascends : (items : List Item) → Ascend items → Ascends item_rank items
 ascending_ascends [] h = tt
 ascending_ascends (item ∷ items) h = (after_first item items h.1, ascending_ascends items h.2)
 
-pub items_ascend : (lists : List (List Item)) → All Ascending lists → All (Ascends item_rank) lists
-items_ascend lists h = All-weaker Ascending (Ascends item_rank) ascending_ascends lists h
+pub items_ascend : (lists : List (List Item)) → All Ascend lists → All (Ascends item_rank) lists
+items_ascend lists h = All-weaker Ascend (Ascends item_rank) ascending_ascends lists h
 
 abbrev routes_in : Item → List Route
 routes_in item = item.routes
@@ -111,12 +111,12 @@ items_merged lists all up firsts =
     sym (items_back all)
     ∙ ap (map (λ (e : OrderKey × List Route). record { order = e.0; routes = e.1 })) (merged_in_order order_cmp order_cmp_total order_same place_of routes_in (joined lists) all up firsts)
 
-routes_stand : (items : List Item) → Ascending items → All HasRoutesInOrder items
+routes_stand : (items : List Item) → Ascend items → All HasRoutesInOrder items
 routes_stand [] h = All-nil HasRoutesInOrder
 routes_stand (item ∷ items) h = All-cons HasRoutesInOrder item items h.0 (routes_stand items h.2)
 
-pub all_ascends : SortedAscends → (lists : List (List Item)) → All Ascending lists → Ascending (sorted_items (joined lists))
-all_ascends ascends lists h = ascends (joined lists) (All-flat_map Ascending HasRoutesInOrder (λ (items : List Item). items) routes_stand lists h)
+pub all_ascends : SortedAscends → (lists : List (List Item)) → All Ascend lists → Ascend (sorted_items (joined lists))
+all_ascends ascends lists h = ascends (joined lists) (All-flat_map Ascend HasRoutesInOrder (λ (items : List Item). items) routes_stand lists h)
 
 -- ---- matches
 abbrev chain_in : Match → List OrderKey

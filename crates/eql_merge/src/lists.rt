@@ -1,7 +1,7 @@
 //! Lists of events, of matches and of pending sequences, merged.
 ghost use Rattle.std.specs.Prelude.{◌≡◌, All, IfOk};
 ghost use Rattle.eql_values.specs.Accepted.{sorted_items};
-ghost use Rattle.eql_values.specs.Ascending.{Ascending};
+ghost use Rattle.eql_values.specs.Ascending.{Ascend};
 ghost use Rattle.eql_laws.specs.Alive.{HoldersInOrder};
 ghost use Rattle.eql_laws.specs.Apart.{AllApart, joined, InMatchOrder, MatchesApart};
 ghost use Rattle.eql_laws.specs.Merging.{in_match_order, in_slot_order};
@@ -51,10 +51,10 @@ fn holder_runs(alloc: Global, lists: Vec<Holders>) -> Result<VecDeque<Run<Holder
 /// the order. For n events in k lists the answer takes about n comparisons, or n times log k where many times are equal, and
 /// moves each event without copying it. The one error is want of memory.
 pub fn merge(alloc: Global, lists: ItemLists) -> Result<Items, Memory>
-    requires ascend { All Ascending lists }
+    requires ascend { All Ascend lists }
     requires apart { AllApart lists }
     ensures sorted { IfOk result (λ all. all ≡ sorted_items (joined lists)) }
-    ensures ascends { IfOk result Ascending }
+    ensures ascends { IfOk result Ascend }
 {
     let runs = item_runs(alloc, lists)?;
     let all = merge_all(alloc, runs)?;

@@ -1,7 +1,7 @@
 -- What a write that lands, or is torn, leaves.
 use Rattle.std.proofs.Common.{◌≡◌, inl, inr, ℕ, ◌+◌, ◌-◌, ◌≤◌, min, List, [], ◌∷◌, ◌++◌, length, take, drop, refl, sym, ◌∙◌, ap, subst, arith, append_assoc, length-append, length-drop}
 use Rattle.std.proofs.lemmas.List.{take_at, drop_at, drop-drop, length-take-le}
-use Rattle.eql_outside.specs.Areas.{Write, Torn, Lands, LeftAfter, written}
+use Rattle.eql_outside.specs.Areas.{Write, IsTorn, Lands, IsLeftAfter, written}
 use Rattle.eql_outside.specs.DiskLaws.{WholeLands, ImagesAreThere, SeenIsLeft}
 
 pub same_lands : (w : Write) (d : List ℕ) → Lands w d d
@@ -28,7 +28,7 @@ behind_is at made d within =
     ∙ drop_at (take at d ++ made) (drop (at + length made) d) (at + length made) (omega (arith, front_length at d within, length-append (take at d) made))
 
 -- fewer bytes in the place of a write's are the write torn
-pub torn_by : (w : Write) (made d : List ℕ) → length made ≤ length w.bytes → w.at ≤ length d → Torn w d (written (record { at = w.at; bytes = made }) d)
+pub torn_by : (w : Write) (made d : List ℕ) → length made ≤ length w.bytes → w.at ≤ length d → IsTorn w d (written (record { at = w.at; bytes = made }) d)
 torn_by w made d few within =
     let m : Write = record { at = w.at; bytes = made } in
     let new : List ℕ = written m d in
@@ -59,7 +59,7 @@ pub whole_lands : (w : Write) (d : List ℕ) → w.at ≤ length d → Lands w d
 whole_lands w d within = lands_by w w.bytes d (omega arith) (λ one. refl) within
 
 -- what was kept may be left
-pub kept_left : (kept : List ℕ) (writes : List Write) → LeftAfter kept writes kept
+pub kept_left : (kept : List ℕ) (writes : List Write) → IsLeftAfter kept writes kept
 kept_left kept [] = refl
 kept_left kept (w ∷ writes) = (kept, kept_left kept writes, same_lands w kept)
 

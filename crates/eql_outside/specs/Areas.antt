@@ -19,7 +19,7 @@ abbrev pub written : Write → List ℕ → List ℕ
 written w old = take w.at old ++ (w.bytes ++ drop (w.at + length w.bytes) old)
 
 -- a write that a crash tears: any bytes in its range and past the old end, and all others as they were
-pub record Torn (w : Write) (old new : List ℕ) : Type 0 where
+pub record IsTorn (w : Write) (old new : List ℕ) : Type 0 where
   pub before : take (min w.at (length old)) new ≡ take (min w.at (length old)) old
   pub behind : drop (w.at + length w.bytes) new ≡ drop (w.at + length w.bytes) old
   pub no_shorter : length old ≤ length new
@@ -27,7 +27,7 @@ pub record Torn (w : Write) (old new : List ℕ) : Type 0 where
 
 -- what a crash may leave of a write: one of one byte, at a place that isn't behind a gap, is there whole or not at all
 pub record Lands (w : Write) (old new : List ℕ) : Type 0 where
-  pub torn : Torn w old new
+  pub torn : IsTorn w old new
   pub whole : length w.bytes ≡ 1 → w.at ≤ length old → (new ≡ old) ⊎ (new ≡ written w old)
 
 -- an area: the bytes that the last good sync kept, the writes since, of which the last stands first, and what a read gives
@@ -37,13 +37,13 @@ pub record Store : Type 0 where
   pub seen : List ℕ
 
 -- what is left of the bytes after writes, each of which lands or is torn
-abbrev pub LeftAfter : List ℕ → List Write → List ℕ → Type 0
-LeftAfter kept [] c = c ≡ kept
-LeftAfter kept (w ∷ writes) c = (d : List ℕ) × LeftAfter kept writes d × Lands w d c
+abbrev pub IsLeftAfter : List ℕ → List Write → List ℕ → Type 0
+IsLeftAfter kept [] c = c ≡ kept
+IsLeftAfter kept (w ∷ writes) c = (d : List ℕ) × IsLeftAfter kept writes d × Lands w d c
 
 -- what a crash may leave of an area
 abbrev pub MayLeave : Store → List ℕ → Type 0
-MayLeave s c = (c ≡ s.seen) ⊎ LeftAfter s.kept s.writes c
+MayLeave s c = (c ≡ s.seen) ⊎ IsLeftAfter s.kept s.writes c
 
 -- nothing was written since these bytes were kept
 abbrev pub settled : List ℕ → Store

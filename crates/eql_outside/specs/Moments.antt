@@ -24,24 +24,24 @@ abbrev pub LandsOn : Write → Store → List ℕ → Type 0
 LandsOn w s seen = (d : List ℕ) × MayLeave s d × Lands w d seen
 
 -- a write was refused: nothing was done, or it was begun, and a read gives what it may have left
-abbrev pub WriteRefused : Area → Write → History → History → Type 0
-WriteRefused area w h k = (k ≡ h) ⊎ ((seen : List ℕ) × LandsOn w (store area h.now) seen × (k ≡ later (after_write area w seen h.now) h))
+abbrev pub RefusesWrite : Area → Write → History → History → Type 0
+RefusesWrite area w h k = (k ≡ h) ⊎ ((seen : List ℕ) × LandsOn w (store area h.now) seen × (k ≡ later (after_write area w seen h.now) h))
 
 -- a sync was done: a crash leaves of the area what a read gives
-abbrev pub Synced : Area → History → History → Type 0
-Synced area h k = k ≡ later (with_store area (settled (store area h.now).seen) h.now) h
+abbrev pub Syncs : Area → History → History → Type 0
+Syncs area h k = k ≡ later (with_store area (settled (store area h.now).seen) h.now) h
 
 -- what a read gives, and nothing else, is now this
 abbrev pub reading : List ℕ → Store → Store
 reading seen s = record { kept = s.kept; writes = s.writes; seen = seen }
 
 -- a sync was refused: nothing was done, or a read gives something else that a crash could have left
-abbrev pub SyncRefused : Area → History → History → Type 0
-SyncRefused area h k = (k ≡ h) ⊎ ((seen : List ℕ) × MayLeave (store area h.now) seen × (k ≡ later (with_store area (reading seen (store area h.now)) h.now) h))
+abbrev pub RefusesSync : Area → History → History → Type 0
+RefusesSync area h k = (k ≡ h) ⊎ ((seen : List ℕ) × MayLeave (store area h.now) seen × (k ≡ later (with_store area (reading seen (store area h.now)) h.now) h))
 
 -- what is said of a disk before and after a call, where it tells; one that doesn't tell goes on so
-abbrev pub Told : (History → History → Type 0) → Option History → Option History → Type 0
-Told R None None = Unit {0}
-Told R None (Some k) = ⊥
-Told R (Some h) None = ⊥
-Told R (Some h) (Some k) = R h k
+abbrev pub DiskTells : (History → History → Type 0) → Option History → Option History → Type 0
+DiskTells R None None = Unit {0}
+DiskTells R None (Some k) = ⊥
+DiskTells R (Some h) None = ⊥
+DiskTells R (Some h) (Some k) = R h k

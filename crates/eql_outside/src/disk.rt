@@ -2,7 +2,7 @@
 ghost use Rattle.std.specs.Prelude.{◌≡◌, ◌≢◌, ◌≤◌, ◌↔◌, ℕ, List, Option, Some, None, Err, IfOk, OnOk, OnErr, IfSome, length, take, drop};
 ghost use Rattle.eql_outside.specs.Outside.{Rose};
 ghost use Rattle.eql_outside.specs.Areas.{Write, Store, Moment, store};
-ghost use Rattle.eql_outside.specs.Moments.{History, Told, Wrote, WriteRefused, Synced, SyncRefused};
+ghost use Rattle.eql_outside.specs.Moments.{History, DiskTells, Wrote, RefusesWrite, Syncs, RefusesSync};
 ghost use Rattle.eql_outside.specs.Plans.{FaultPlan, called, FailsNext};
 
 use crate::refused::OutRefused;
@@ -57,10 +57,10 @@ pub trait Disk {
     /// or reads give what a crash could have left of the write.
     fn write(&mut self, alloc: Global, area: Area, at: u64, bytes: &[u8]) -> Result<(), OutRefused>
         requires { IfSome (history self.old) (λ h. at ≤ length (store area h.now).seen) }
-        ensures ok { OnOk result (Told (Wrote area (record { at = at; bytes = bytes.now }))
+        ensures ok { OnOk result (DiskTells (Wrote area (record { at = at; bytes = bytes.now }))
             (history self.old) (history self.new)) }
         ensures refused { OnErr result
-            (Told (WriteRefused area (record { at = at; bytes = bytes.now }))
+            (DiskTells (RefusesWrite area (record { at = at; bytes = bytes.now }))
             (history self.old) (history self.new)) }
 
         // As of a read.
@@ -77,9 +77,9 @@ pub trait Disk {
     /// Keeps what was written to an area: after `Ok` a crash leaves of it what reads give. After a refusal nothing
     /// changed, or reads give something else that a crash could have left.
     fn sync(&mut self, alloc: Global, area: Area) -> Result<(), OutRefused>
-        ensures ok { OnOk result (Told (Synced area) (history self.old) (history self.new)) }
+        ensures ok { OnOk result (DiskTells (Syncs area) (history self.old) (history self.new)) }
         ensures refused { OnErr result
-            (Told (SyncRefused area) (history self.old) (history self.new)) }
+            (DiskTells (RefusesSync area) (history self.old) (history self.new)) }
 
         // As of a read.
         ensures cause { result ≡ Err OutRefused.Failed

@@ -5,7 +5,7 @@ use Rattle.eql_query.specs.QueryTree.{QueryTree}
 use Rattle.eql_parser.specs.Kinds.{Kind, kind, kinds, any_, assign_, bar_, close_item_, folding, matches, name, null_, number, open_, open_item_, where_, with_}
 use Rattle.eql_parser.specs.QueryGrammar.{Reads, IsQuery}
 use Rattle.eql_parser.specs.Limits.{levels, levels_but, open_behind, FewOpen}
-use Rattle.eql_parser.specs.Refusing.{Begins, BeginsWithin, NoQueryBegins, IsDeeperThan, Split, IsLeftOut, samples, joins, missing_event, regex, folding_regex, fine_unit, other_pipe, number_with_base, end_of, LeavesOut, IsPlainSyntax, IsTooDeep}
+use Rattle.eql_parser.specs.Refusing.{Begins, BeginsWithin, NoQueryBegins, IsDeeperThan, SplitsAt, IsLeftOut, samples, joins, missing_event, regex, folding_regex, fine_unit, other_pipe, number_with_base, end_of, LeavesOut, IsPlainSyntax, IsTooDeep}
 use Rattle.eql_parser.specs.Reading.{Fail, Syntax, LeftOut, TooDeep, TooOpen, Res, expr}
 use Rattle.eql_parser.specs.QueryReading.{query, query_by}
 use Rattle.eql_parser.proofs.Eventually.{Eventually}
@@ -176,13 +176,13 @@ kinds_both [] behind = refl
 kinds_both (t ∷ before) behind = ap (λ l. kind t.tok ∷ l) (kinds_both before behind)
 
 -- the descent stops at a left-out form
-pub leaves_out_stops : {tokens : List Token} {at : ℕ} (s : Split tokens at) (word : List ℕ) → LeavesOut s word → StopsAt (kinds tokens) (LeftOut word (length (kinds (s.here ∷ s.behind))))
+pub leaves_out_stops : {tokens : List Token} {at : ℕ} (s : SplitsAt tokens at) (word : List ℕ) → LeavesOut s word → StopsAt (kinds tokens) (LeftOut word (length (kinds (s.here ∷ s.behind))))
 leaves_out_stops s word out =
     subst (λ l. StopsAt l (LeftOut word (length (kinds (s.here ∷ s.behind))))) (sym (ap kinds s.whole ∙ kinds_both s.before (s.here ∷ s.behind)))
     (left_out_stops (kinds s.before) (kinds (s.here ∷ s.behind)) word out.0 out.1 out.2)
 
 -- where Syntax comes, nowhere a left-out form stands
-plain : (tokens : List Token) (n : ℕ) → query (kinds tokens) ≡ Err (Syntax n) → (there : ℕ) (s : Split tokens there) (word : List ℕ) → LeavesOut s word → ⊥
+plain : (tokens : List Token) (n : ℕ) → query (kinds tokens) ≡ Err (Syntax n) → (there : ℕ) (s : SplitsAt tokens there) (word : List ℕ) → LeavesOut s word → ⊥
 plain tokens n h there s word out = no_syntax (kinds tokens) word (length (kinds (s.here ∷ s.behind))) n (leaves_out_stops s word out) h
 
 -- no more tokens are left at the place than were given
@@ -218,7 +218,7 @@ same_cut (x ∷ a) (y ∷ b) c d e l =
 
 -- The tokens are some before, one at the place of the refusal, and some behind it.
 module _ (tokens before behind : List Token) (here : Token) (whole : tokens ≡ before ++ here ∷ behind) where
-  abbrev the_split : Split tokens here.start
+  abbrev the_split : SplitsAt tokens here.start
   the_split = record { before = before; here = here; behind = behind; whole = whole; starts = refl }
 
   kinds_cut : kinds tokens ≡ kinds before ++ kind here.tok ∷ kinds behind
@@ -265,7 +265,7 @@ module _ (tokens before behind : List Token) (here : Token) (whole : tokens ≡ 
   )
 
   pub left_out_cause : (w : List ℕ) → query (kinds tokens) ≡ Err (LeftOut w (suc (length behind)))
-      → ((s : Split tokens here.start) × LeavesOut s w × BeginsWithin 64 (kinds s.before) × FewOpen 128 (kinds s.before)) × ((query : QueryTree) → IsQuery tokens query → ⊥)
+      → ((s : SplitsAt tokens here.start) × LeavesOut s w × BeginsWithin 64 (kinds s.before) × FewOpen 128 (kinds s.before)) × ((query : QueryTree) → IsQuery tokens query → ⊥)
   left_out_cause w h =
       let on = goes_on_there (LeftOut w (suc (length behind))) refl h in
       let e : Fail = LeftOut w (suc (length behind)) in

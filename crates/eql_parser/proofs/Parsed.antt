@@ -10,7 +10,7 @@ use Rattle.eql_parser.specs.Kinds.{kinds}
 use Rattle.eql_query.specs.QueryTree.{QueryTree}
 use Rattle.eql_parser.specs.QueryGrammar.{IsQuery}
 use Rattle.eql_parser.specs.Limits.{levels, OpensAtMost}
-use Rattle.eql_parser.specs.Refusing.{end_of, IsMemory, Refused}
+use Rattle.eql_parser.specs.Refusing.{end_of, IsMemory, RefusesTokens}
 use Rattle.eql_parser.specs.Refusals.{refusal_of}
 use Rattle.eql_parser.specs.Places.{place}
 use Rattle.eql_parser.specs.Answering.{Stops}
@@ -39,7 +39,7 @@ is_read : Res QueryTree → Bool
 is_read (Ok x) = true
 is_read (Err e) = false
 
-pub refused_by : (tokens : List Token) (e : Stop) → Stops e (query (kinds tokens)) → Refused tokens (refusal_of tokens e)
+pub refused_by : (tokens : List Token) (e : Stop) → Stops e (query (kinds tokens)) → RefusesTokens tokens (refusal_of tokens e)
 refused_by tokens stop.Memory h = tt
 refused_by tokens (stop.Syntax n) h = cause tokens (Syntax n) h
 refused_by tokens (stop.LeftOut w n) h = cause tokens (LeftOut w n) h
@@ -74,7 +74,7 @@ only_memory tokens (stop.TooOpen n) h q read few calm = absurd (not_read tokens 
 abbrev Known : List Token → Type 0
 Known tokens =
     ((q : QueryTree) × IsQuery tokens q × (levels q ≤ 64) × OpensAtMost 128 tokens)
-    ⊎ ((r : ParseRefused) × (IsMemory r → ⊥) × Refused tokens r)
+    ⊎ ((r : ParseRefused) × (IsMemory r → ⊥) × RefusesTokens tokens r)
 
 known_refused : (tokens : List Token) (e : Fail) → query (kinds tokens) ≡ Err e → Known tokens
 known_refused tokens (Syntax n) h = inr (refusal.Syntax (place tokens n), (λ no. no), cause tokens (Syntax n) h)

@@ -8,7 +8,7 @@ use Rattle.eql_query.specs.QueryTree.{QueryTree}
 use Rattle.eql_parser.specs.Kinds.{kinds}
 use Rattle.eql_parser.specs.QueryGrammar.{IsQuery, Reads}
 use Rattle.eql_parser.specs.Limits.{levels, OpensAtMost}
-use Rattle.eql_parser.specs.Refusing.{Split, through, end_of, IsPlainSyntax, IsLeftOutAt, IsTooDeep, Refused, IsMemory}
+use Rattle.eql_parser.specs.Refusing.{SplitsAt, through, end_of, IsPlainSyntax, IsLeftOutAt, IsTooDeep, RefusesTokens, IsMemory}
 use Rattle.eql_parser.specs.Places.{start_or, place, Cause}
 use Rattle.eql_parser.specs.Reading.{Fail, Syntax, LeftOut, TooDeep, TooOpen}
 use Rattle.eql_parser.specs.QueryReading.{query}
@@ -68,7 +68,7 @@ cause tokens (TooOpen n) h =
     (too_open_cause tokens c.before c.behind c.here c.whole (subst (λ k. query (kinds tokens) ≡ Err (TooOpen k)) c.count h))
 
 -- the kinds of all tokens, cut behind a place
-split_through : {tokens : List Token} {at : ℕ} (s : Split tokens at) → kinds tokens ≡ through s ++ kinds s.behind
+split_through : {tokens : List Token} {at : ℕ} (s : SplitsAt tokens at) → kinds tokens ≡ through s ++ kinds s.behind
 split_through s = ap kinds s.whole ∙ kinds_both s.before (s.here ∷ s.behind) ∙ sym (append_assoc (kinds s.before) (kinds (s.here ∷ [])) (kinds s.behind))
 
 not_syntax : (tokens : List Token) (at : ℕ) (q : QueryTree) → IsQuery tokens q → IsPlainSyntax tokens at → ⊥
@@ -82,7 +82,7 @@ not_too_deep tokens at q read few calm (s, b, within, below, inr deep) =
     omega (arith, few, but_levels hole q, deep hole (above_new (through s)) (kinds s.behind) q (subst (λ l. Reads l q) (split_through s) read))
 
 -- For a query within the limits nothing but want of memory has a cause.
-pub memory_alone : (tokens : List Token) (q : QueryTree) (refusal : ParseRefused) → IsQuery tokens q → levels q ≤ 64 → OpensAtMost 128 tokens → Refused tokens refusal → IsMemory refusal
+pub memory_alone : (tokens : List Token) (q : QueryTree) (refusal : ParseRefused) → IsQuery tokens q → levels q ≤ 64 → OpensAtMost 128 tokens → RefusesTokens tokens refusal → IsMemory refusal
 memory_alone tokens q refused.Memory read few calm h = tt
 memory_alone tokens q (refused.Syntax at) read few calm h = absurd (not_syntax tokens at q read h)
 memory_alone tokens q (refused.LeftOut word at) read few calm h = absurd (h.1 q read)

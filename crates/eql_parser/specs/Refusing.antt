@@ -64,7 +64,7 @@ end_of (t ∷ []) = t.end
 end_of (t ∷ u ∷ ts) = end_of (u ∷ ts)
 
 -- tokens up to one that starts at a place, and those behind it
-pub record Split (tokens : List Token) (at : ℕ) : Type 0 where
+pub record SplitsAt (tokens : List Token) (at : ℕ) : Type 0 where
   pub before : List Token
   pub here : Token
   pub behind : List Token
@@ -72,43 +72,43 @@ pub record Split (tokens : List Token) (at : ℕ) : Type 0 where
   pub starts : here.start ≡ at
 
 -- the kinds of the tokens through the one at the place
-abbrev pub through : {tokens : List Token} {at : ℕ} → Split tokens at → List Kind
+abbrev pub through : {tokens : List Token} {at : ℕ} → SplitsAt tokens at → List Kind
 through s = kinds s.before ++ kinds (s.here ∷ [])
 
 -- The tokens before the place begin a query and at most 64 levels, and no query begins with those through it. Or the tokens end too early: they begin a
 -- query and at most 64 levels, and are none. Nowhere before the place more than 128 parentheses stand open.
 abbrev pub IsSyntax : List Token → ℕ → Type 0
 IsSyntax tokens at =
-    ((s : Split tokens at) × BeginsWithin 64 (kinds s.before) × NoQueryBegins (through s) × FewOpen 128 (kinds s.before))
+    ((s : SplitsAt tokens at) × BeginsWithin 64 (kinds s.before) × NoQueryBegins (through s) × FewOpen 128 (kinds s.before))
     ⊎ ((at ≡ end_of tokens) × BeginsWithin 64 (kinds tokens) × ((query : QueryTree) → IsQuery tokens query → ⊥) × FewOpen 128 (kinds tokens))
 
 -- a left-out form begins at the place, where some query goes on with another form in its stead
-abbrev pub LeavesOut : {tokens : List Token} {at : ℕ} → Split tokens at → List ℕ → Type 0
+abbrev pub LeavesOut : {tokens : List Token} {at : ℕ} → SplitsAt tokens at → List ℕ → Type 0
 LeavesOut s word = (instead : List Kind) × IsLeftOut (kinds s.before) (kinds (s.here ∷ s.behind)) word instead × Begins (kinds s.before ++ instead)
 
 -- As `IsSyntax`, and nowhere in the tokens a left-out form stands where some query goes on with another form in its stead.
 abbrev pub IsPlainSyntax : List Token → ℕ → Type 0
-IsPlainSyntax tokens at = IsSyntax tokens at × ((there : ℕ) (s : Split tokens there) (word : List ℕ) → LeavesOut s word → ⊥)
+IsPlainSyntax tokens at = IsSyntax tokens at × ((there : ℕ) (s : SplitsAt tokens there) (word : List ℕ) → LeavesOut s word → ⊥)
 
 -- Some query begins with the tokens through the place, and there the first limit is passed: there the 129th parenthesis opens of those that stand open, or
 -- the 65th level begins. The tokens before the place begin at most 64 levels, and nowhere in them more than 128 parentheses stand open.
 abbrev pub IsTooDeep : List Token → ℕ → Type 0
 IsTooDeep tokens at =
-    (s : Split tokens at) × Begins (through s) × BeginsWithin 64 (kinds s.before) × FewOpen 128 (kinds s.before) × ((128 < open_behind 0 (through s)) ⊎ IsDeeperThan 64 (through s))
+    (s : SplitsAt tokens at) × Begins (through s) × BeginsWithin 64 (kinds s.before) × FewOpen 128 (kinds s.before) × ((128 < open_behind 0 (through s)) ⊎ IsDeeperThan 64 (through s))
 
 -- A left-out form begins at the place, some query goes on there with another form in its stead, and the tokens are no query. The tokens before the place
 -- begin at most 64 levels, and nowhere in them more than 128 parentheses stand open. And nowhere in the tokens a limit is passed.
 abbrev pub IsLeftOutAt : List Token → List ℕ → ℕ → Type 0
 IsLeftOutAt tokens word at =
-    ((s : Split tokens at) × LeavesOut s word × BeginsWithin 64 (kinds s.before) × FewOpen 128 (kinds s.before)) × ((query : QueryTree) → IsQuery tokens query → ⊥)
+    ((s : SplitsAt tokens at) × LeavesOut s word × BeginsWithin 64 (kinds s.before) × FewOpen 128 (kinds s.before)) × ((query : QueryTree) → IsQuery tokens query → ⊥)
     × ((there : ℕ) → IsTooDeep tokens there → ⊥)
 
 -- the cause of each refusal
-abbrev pub Refused : List Token → ParseRefused → Type 0
-Refused tokens refused.Memory = Unit {0}
-Refused tokens (refused.Syntax at) = IsPlainSyntax tokens at
-Refused tokens (refused.LeftOut word at) = IsLeftOutAt tokens word at
-Refused tokens (refused.TooDeep at) = IsTooDeep tokens at
+abbrev pub RefusesTokens : List Token → ParseRefused → Type 0
+RefusesTokens tokens refused.Memory = Unit {0}
+RefusesTokens tokens (refused.Syntax at) = IsPlainSyntax tokens at
+RefusesTokens tokens (refused.LeftOut word at) = IsLeftOutAt tokens word at
+RefusesTokens tokens (refused.TooDeep at) = IsTooDeep tokens at
 
 abbrev pub IsMemory : ParseRefused → Type 0
 IsMemory refused.Memory = Unit {0}

@@ -8,7 +8,7 @@ ghost use Rattle.eql_parser.specs.Limits.{levels, OpensAtMost};
 ghost use Rattle.eql_parser.specs.Printed.{printed};
 ghost use Rattle.eql_parser.specs.QueryGrammar.{IsQuery};
 ghost use Rattle.eql_query.specs.QueryTree.{QueryTree};
-ghost use Rattle.eql_parser.specs.Refusing.{IsMemory, Refused};
+ghost use Rattle.eql_parser.specs.Refusing.{IsMemory, RefusesTokens};
 
 /// Tokens are one query at most.
 pub fn one_query()
@@ -21,14 +21,15 @@ pub fn one_query()
 pub fn query_or_refused()
     ensures { (tokens : List Token)
         → ((q : QueryTree) × IsQuery tokens q × (levels q ≤ 64) × OpensAtMost 128 tokens)
-        ⊎ ((r : ParseRefused) × (IsMemory r → ⊥) × Refused tokens r) }
+        ⊎ ((r : ParseRefused) × (IsMemory r → ⊥) × RefusesTokens tokens r) }
 {}
 
 /// Two refusals of the same tokens are the same, with their word and their place, where neither is
 /// want of memory.
 pub fn one_refusal()
     ensures { (tokens : List Token) (r s : ParseRefused)
-        → (IsMemory r → ⊥) → (IsMemory s → ⊥) → Refused tokens r → Refused tokens s → r ≡ s }
+        → (IsMemory r → ⊥) → (IsMemory s → ⊥)
+        → RefusesTokens tokens r → RefusesTokens tokens s → r ≡ s }
 {}
 
 /// The canonical text of a query that a text spells spells this query again. In it at most as many

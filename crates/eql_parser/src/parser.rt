@@ -3,7 +3,7 @@ ghost use Rattle.std.specs.Prelude.{◌≡◌, ◌≤◌, IfOk, IfErr, MatchResu
 ghost use Rattle.eql_query.specs.QueryTree.{QueryTree, query_tree};
 ghost use Rattle.eql_parser.specs.QueryGrammar.{IsQuery};
 ghost use Rattle.eql_parser.specs.Limits.{levels, OpensAtMost};
-ghost use Rattle.eql_parser.specs.Refusing.{end_of, IsMemory, Refused};
+ghost use Rattle.eql_parser.specs.Refusing.{end_of, IsMemory, RefusesTokens};
 ghost use Rattle.eql_parser.specs.Places as places;
 ghost use Rattle.eql_parser.specs.Refusals.{refusal_of};
 
@@ -86,7 +86,7 @@ pub fn parse(alloc: Global, tokens: &Tokens) -> Result<Query, ParseRefused>
     ensures levels { IfOk result (λ q. levels (query_tree q) ≤ 64) }
     ensures open { IfOk result (λ _. OpensAtMost 128 tokens.now) }
     // Each refusal has its cause.
-    ensures refused { IfErr result (Refused tokens.now) }
+    ensures refused { IfErr result (RefusesTokens tokens.now) }
     // A query within the limits is what is answered, unless memory runs out.
     ensures answered { (q : QueryTree)
         → IsQuery tokens.now q → levels q ≤ 64 → OpensAtMost 128 tokens.now

@@ -43,7 +43,11 @@ impl<L: Ledger> Model for Keys<L> {
 
     ghost Value = { Pendings };
 
-    ghost view = { λ k. record { stages = k.shape.stages; span = k.shape.span; holders = holders_in (entries_of k.machines) } };
+    ghost view = { λ k. record {
+      stages = k.shape.stages;
+      span = k.shape.span;
+      holders = holders_in (entries_of k.machines);
+    } };
 
     ghost invariant = { λ k. IsKept k.shape.stages k.shape.span k.machines k.list };
 }

@@ -9,7 +9,7 @@ use Rattle.eql_values.specs.declared.order.Mark.{Mark}
 use Rattle.eql_values.specs.declared.order.Mark.TheVariants.{Start, At, End}
 use Rattle.eql_values.specs.declared.item.Item.{Item}
 use Rattle.eql_values.specs.declared.found.Holder.{Holder}
-use Rattle.eql_values.specs.Ascending.{Ascending}
+use Rattle.eql_values.specs.Ascending.{Ascend}
 use Rattle.eql_values.specs.Marks.{is_below}
 use Rattle.eql_values.specs.OrderKeys.{order_cmp}
 use Rattle.eql_laws.specs.Lateness.{AtMost}
@@ -44,7 +44,7 @@ after_below stands mark h item below not_below =
 
 -- delivered events wait behind those that were delivered before
 pub next_delivered : AscendTogether → StandsBefore → (last : Mark) (held : List Holder) (inbox items : List Item)
-    → IsNext held inbox → LiesBelow last held inbox → Ascending items → NoneBelow last items → IsNext held (inbox ++ items)
+    → IsNext held inbox → LiesBelow last held inbox → Ascend items → NoneBelow last items → IsNext held (inbox ++ items)
 next_delivered together stands last held inbox items next below ascends none = record {
   ascends = together last inbox items next.ascends ascends below.inbox_below none;
   later = All-append (IsLater held) inbox items next.later

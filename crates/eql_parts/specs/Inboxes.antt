@@ -5,7 +5,7 @@ use Rattle.eql_values.specs.declared.order.Mark.{Mark}
 use Rattle.eql_values.specs.declared.item.Item.{Item}
 use Rattle.eql_values.specs.declared.found.Match.{Match}
 use Rattle.eql_values.specs.declared.found.Holder.{Holder}
-use Rattle.eql_values.specs.Ascending.{Ascending}
+use Rattle.eql_values.specs.Ascending.{Ascend}
 use Rattle.eql_values.specs.Marks.{is_below}
 use Rattle.eql_values.specs.Matching.{after, matches}
 use Rattle.eql_laws.specs.Alive.{HoldersInOrder}
@@ -29,7 +29,7 @@ IsLater held item = ComesAfterAll item.order held
 
 -- the events that wait ascend, and each comes after all that is pending
 pub record IsNext (held : List Holder) (inbox : List Item) : Type 0 where
-  pub ascends : Ascending inbox
+  pub ascends : Ascend inbox
   pub later : All (IsLater held) inbox
 
 -- the pending sequences stand by key and stage, each at a stage before the last, and the events that wait come after them

@@ -6,7 +6,7 @@ use Rattle.eql_values.specs.declared.order.Mark.TheVariants.{Start, At, End}
 use Rattle.eql_values.specs.declared.item.Item.{Item}
 use Rattle.eql_values.specs.declared.found.Match.{Match}
 use Rattle.eql_values.specs.declared.found.Holder.{Holder}
-use Rattle.eql_values.specs.Ascending.{Ascending}
+use Rattle.eql_values.specs.Ascending.{Ascend}
 use Rattle.eql_values.specs.Chains.{in_time}
 use Rattle.eql_values.specs.Matching.{after, matches}
 use Rattle.eql_laws.specs.Alive.{HoldersInOrder, alive_holders}
@@ -138,7 +138,7 @@ PartStep rules old Snap reply new = SnapStep old reply new
 -- events that may be delivered after a mark, up to another that isn't less
 pub record CanDeliver (from : Mark) (items : List Item) (mark : Mark) : Type 0 where
   pub rises : AtMost from mark
-  pub ascends : Ascending items
+  pub ascends : Ascend items
   pub not_below : NoneBelow from items
   pub below : AllBelow mark items
 

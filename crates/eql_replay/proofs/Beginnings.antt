@@ -12,7 +12,7 @@ use Rattle.eql_lane.specs.Views.{LaneView, setting_of}
 use Rattle.eql_parts.specs.PartSteps.{PartView, Rules}
 use Rattle.eql_rounds.specs.LaneRounds.{LaneAt}
 use Rattle.eql_conductor.specs.LaneRounds.{LanesAt, text_at}
-use Rattle.eql_conductor.specs.PartRounds.{IsAtRest, Resting}
+use Rattle.eql_conductor.specs.PartRounds.{IsAtRest, AreAtRest}
 use Rattle.eql_conductor.specs.Rounds.{OfTexts}
 use Rattle.eql_replay.specs.declared.foreign.Foreign.{Foreign}
 use Rattle.eql_replay.specs.declared.noted.Noted.{Noted}
@@ -65,7 +65,7 @@ module _ {S L : Type 0} (read_of : L → Reads) (text : ℕ → Option (List ℕ
 
   -- sixteen parts at rest
   pub parts_rest : (rules : Rules) (all : List Holder) (mark : Mark) → length pool.parts ≡ 16 → IsSpan rules.span
-      → ((p : ℕ) (part : PartView) → slice_get pool.parts p ≡ Some part → (part.rules ≡ rules) × IsAtRest rules all mark p part.state) → Resting rules all mark (known_of read_of text pool notes)
+      → ((p : ℕ) (part : PartView) → slice_get pool.parts p ≡ Some part → (part.rules ≡ rules) × IsAtRest rules all mark p part.state) → AreAtRest rules all mark (known_of read_of text pool notes)
   parts_rest rules all mark count span each = record {
     are = record {
       count = count;

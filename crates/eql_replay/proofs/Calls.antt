@@ -12,7 +12,7 @@ use Rattle.eql_lane.specs.Views.{LaneView, IsTextOf, setting_of}
 use Rattle.eql_parts.specs.declared.ops.PartOp.{PartOp}
 use Rattle.eql_parts.specs.declared.ops.PartReply.{PartReply}
 use Rattle.eql_parts.specs.PartSteps.{PartState, PartStep, PartView, Rules}
-use Rattle.eql_conductor.specs.Benches.{LaneCalled, LaneLeft, LanePlays, PartCalled, PartLeft, PartPlays}
+use Rattle.eql_conductor.specs.Benches.{CallsLane, LeavesLane, LanePlays, CallsPart, LeavesPart, PartPlays}
 use Rattle.eql_conductor.specs.Notes.{lane_note, part_note}
 use Rattle.eql_conductor.proofs.Resting.{fed_self, same_or, turned_self}
 use Rattle.eql_replay.specs.declared.noted.Noted.{Noted}
@@ -20,7 +20,7 @@ use Rattle.eql_replay.specs.declared.noted.Noted.TheVariants.{OfLane, OfPart}
 use Rattle.eql_replay.specs.Listed.{HasLane, HasPart, known_of, rules_in, set_in}
 use Rattle.eql_replay.specs.Noting.{did_fail}
 use Rattle.eql_replay.specs.Opened.{AreOfTexts}
-use Rattle.eql_replay.specs.Pools.{PoolView, LanePlayed, PartPlayed}
+use Rattle.eql_replay.specs.Pools.{PoolView, PlaysLaneAt, PlaysPartAt}
 use Rattle.eql_replay.proofs.Places.{else_there, here}
 use Rattle.eql_replay.proofs.NoteLemmas.{fails_by, lane_not_noted, lane_noted, none_fails, other_fails, other_lane_noted, other_part_noted, part_not_noted, part_noted}
 
@@ -38,20 +38,20 @@ has_part n (part ∷ parts) (suc p) e l =
     let h = has_part (length parts) parts p refl (omega (arith, e, l)) in (h.0, record { part = h.1.part; there = h.1.there; state_is = h.1.state_is })
 
 -- ---- lanes that stay, and parts
-pub lane_stays : {S L : Type 0} (set : Setting) (old new : List (LaneView S L)) (s : ℕ) → slice_get new s ≡ slice_get old s → LaneLeft set (HasLane old s) (HasLane new s)
+pub lane_stays : {S L : Type 0} (set : Setting) (old new : List (LaneView S L)) (s : ℕ) → slice_get new s ≡ slice_get old s → LeavesLane set (HasLane old s) (HasLane new s)
 lane_stays set old new s e y has = (y, record { lane = has.lane; there = sym e ∙ has.there; state_is = has.state_is }, fed_self set y)
 
-pub part_stays : (rules : Rules) (old new : List PartView) (p : ℕ) → slice_get new p ≡ slice_get old p → PartLeft rules (HasPart old p) (HasPart new p)
+pub part_stays : (rules : Rules) (old new : List PartView) (p : ℕ) → slice_get new p ≡ slice_get old p → LeavesPart rules (HasPart old p) (HasPart new p)
 part_stays rules old new p e y has = (y, record { part = has.part; there = sym e ∙ has.there; state_is = has.state_is }, turned_self rules y)
 
-pub lanes_stay : {S L : Type 0} (sets : ℕ → Setting) (old new : List (LaneView S L)) → new ≡ old → (s : ℕ) → LaneLeft (sets s) (HasLane old s) (HasLane new s)
+pub lanes_stay : {S L : Type 0} (sets : ℕ → Setting) (old new : List (LaneView S L)) → new ≡ old → (s : ℕ) → LeavesLane (sets s) (HasLane old s) (HasLane new s)
 lanes_stay sets old new e s = lane_stays (sets s) old new s (ap (λ (l : List _). slice_get l s) e)
 
-pub parts_stay : (rules : ℕ → Rules) (old new : List PartView) → new ≡ old → (p : ℕ) → PartLeft (rules p) (HasPart old p) (HasPart new p)
+pub parts_stay : (rules : ℕ → Rules) (old new : List PartView) → new ≡ old → (p : ℕ) → LeavesPart (rules p) (HasPart old p) (HasPart new p)
 parts_stay rules old new e p = part_stays (rules p) old new p (ap (λ (l : List PartView). slice_get l p) e)
 
 -- ---- one part played
-module _ (p : ℕ) (op : PartOp) (reply : PartReply) (old new : List PartView) (played : PartPlayed p op reply old new) where
+module _ (p : ℕ) (op : PartOp) (reply : PartReply) (old new : List PartView) (played : PlaysPartAt p op reply old new) where
   pub part_count : length new ≡ length old
   part_count = ap length played.is ∙ length-set old p played.after
 
@@ -68,7 +68,7 @@ module _ (p : ℕ) (op : PartOp) (reply : PartReply) (old new : List PartView) (
     | inr apart ↦ ap rules_in (part_else k apart)
   ]
 
-  pub part_called : (y : PartState) → HasPart new p y → PartCalled (rules_in (slice_get old p)) (HasPart old p) op reply y
+  pub part_called : (y : PartState) → HasPart new p y → CallsPart (rules_in (slice_get old p)) (HasPart old p) op reply y
   part_called y has =
       let e : has.part ≡ played.after = same_Some has.part played.after (sym has.there ∙ part_here) in
       let rules : rules_in (slice_get old p) ≡ played.before.rules = ap rules_in played.was in
@@ -83,7 +83,7 @@ module _ (p : ℕ) (op : PartOp) (reply : PartReply) (old new : List PartView) (
 
 module _ {S L : Type 0} (left lent_as : S → Option (List ℕ)) (fault_plan : S → Option FaultPlan) (read_of : L → Reads) where
   -- ---- one lane played
-  module _ (s : ℕ) (op : LaneOp) (reply : LaneReply) (old new : List (LaneView S L)) (played : LanePlayed left lent_as fault_plan read_of s op reply old new) where
+  module _ (s : ℕ) (op : LaneOp) (reply : LaneReply) (old new : List (LaneView S L)) (played : PlaysLaneAt left lent_as fault_plan read_of s op reply old new) where
     pub lane_count : length new ≡ length old
     lane_count = ap length played.is ∙ length-set old s played.after
 
@@ -121,7 +121,7 @@ module _ {S L : Type 0} (left lent_as : S → Option (List ℕ)) (fault_plan : S
     }
 
     pub lane_called : (text : ℕ → Option (List ℕ)) → AreOfTexts left text old → (y : LaneState) → HasLane new s y
-        → LaneCalled (set_in read_of (text s) (slice_get old s)) (HasLane old s) op reply y
+        → CallsLane (set_in read_of (text s) (slice_get old s)) (HasLane old s) op reply y
     lane_called text are y has =
         let e = is_after has.lane has.there in
         let set : set_in read_of (text s) (slice_get old s) ≡ setting_of read_of (text s) played.before = ap (set_in read_of (text s)) played.was in
@@ -138,7 +138,7 @@ module _ {S L : Type 0} (left lent_as : S → Option (List ℕ)) (fault_plan : S
   -- ---- a play of the caller
   module _ (text : ℕ → Option (List ℕ)) (old new : PoolView S L) (notes : List Noted) where
     pub lane_plays : (s : ℕ) (op : LaneOp) (reply : LaneReply) → AreOfTexts left text old.lanes
-        → LanePlayed left lent_as fault_plan read_of s op reply old.lanes new.lanes → new.parts ≡ old.parts
+        → PlaysLaneAt left lent_as fault_plan read_of s op reply old.lanes new.lanes → new.parts ≡ old.parts
         → LanePlays s op reply (known_of read_of text old notes) (known_of read_of text new (notes ++ OfLane s (lane_note op reply) (did_fail reply) ∷ []))
     lane_plays s op reply are played parts = record {
       same = record {
@@ -161,7 +161,7 @@ module _ {S L : Type 0} (left lent_as : S → Option (List ℕ)) (fault_plan : S
       worn = refl;
     }
 
-    pub part_plays : (p : ℕ) (op : PartOp) (reply : PartReply) → PartPlayed p op reply old.parts new.parts → new.lanes ≡ old.lanes
+    pub part_plays : (p : ℕ) (op : PartOp) (reply : PartReply) → PlaysPartAt p op reply old.parts new.parts → new.lanes ≡ old.lanes
         → PartPlays p op reply (known_of read_of text old notes) (known_of read_of text new (notes ++ OfPart p (part_note op reply) ∷ []))
     part_plays p op reply played lanes = record {
       same = record {

@@ -20,7 +20,7 @@ use Rattle.eql_conductor.proofs.Resting.{same_or}
 use Rattle.eql_replay.specs.declared.foreign.Foreign.{Foreign}
 use Rattle.eql_replay.specs.declared.foreign.Foreign.TheVariants.{Feed, Turn}
 use Rattle.eql_replay.specs.Opened.{AreOfTexts, LinesOn, ReadsFurther}
-use Rattle.eql_replay.specs.Pools.{AllPlayed, ForeignPlayed, LanePlayed, PoolView}
+use Rattle.eql_replay.specs.Pools.{ForeignsPlay, ForeignPlays, PlaysLaneAt, PoolView}
 use Rattle.eql_replay.proofs.Calls.{is_after, lane_else}
 use Rattle.eql_replay.proofs.Others.{foreign_texts}
 
@@ -180,7 +180,7 @@ module _ {S L : Type 0} (left lent_as : S → Option (List ℕ)) (fault_plan : S
   }
 
   -- a lane of its text played
-  module _ (s : ℕ) (o : LaneOp) (answer : LaneReply) (old new : List (LaneView S L)) (played : LanePlayed left lent_as fault_plan read_of s o answer old new)
+  module _ (s : ℕ) (o : LaneOp) (answer : LaneReply) (old new : List (LaneView S L)) (played : PlaysLaneAt left lent_as fault_plan read_of s o answer old new)
       (are : AreOfTexts left text old) where
     after_further : (t : List ℕ) → text s ≡ Some t → (one : LaneState) → ReadsFurther t one played.before.state → ReadsFurther t one played.after.state
     after_further t is one was =
@@ -202,12 +202,12 @@ module _ {S L : Type 0} (left lent_as : S → Option (List ℕ)) (fault_plan : S
     }
 
   -- others played
-  foreign_lines : (first : List (LaneView S L)) (f : Foreign) (a b : PoolView S L) → AreOfTexts left text a.lanes → ForeignPlayed left lent_as fault_plan read_of f a b
+  foreign_lines : (first : List (LaneView S L)) (f : Foreign) (a b : PoolView S L) → AreOfTexts left text a.lanes → ForeignPlays left lent_as fault_plan read_of f a b
       → LinesOn text first a.lanes → LinesOn text first b.lanes
   foreign_lines first (Feed lane max) a b are played was = lines_on lane (op.Feed max) played.0 a.lanes b.lanes played.1 are first was
   foreign_lines first (Turn part max) a b are played was = subst (LinesOn text first) (sym played.2) was
 
-  pub all_lines : (first : List (LaneView S L)) (fs : List Foreign) (a b : PoolView S L) → AreOfTexts left text a.lanes → AllPlayed left lent_as fault_plan read_of fs a b
+  pub all_lines : (first : List (LaneView S L)) (fs : List Foreign) (a b : PoolView S L) → AreOfTexts left text a.lanes → ForeignsPlay left lent_as fault_plan read_of fs a b
       → LinesOn text first a.lanes → LinesOn text first b.lanes
   all_lines first [] a b are played was = subst (λ (p : PoolView S L). LinesOn text first p.lanes) (sym played) was
   all_lines first (f ∷ fs) a b are (mid, one, rest) was =

@@ -18,7 +18,7 @@ use Rattle.eql_replay.specs.declared.foreign.Foreign.{Foreign}
 use Rattle.eql_replay.specs.declared.foreign.Foreign.TheVariants.{Feed, Turn}
 use Rattle.eql_replay.specs.Noting.{did_fail}
 use Rattle.eql_replay.specs.Opened.{FeedsElsewhere, LaneOn, LanesOn}
-use Rattle.eql_replay.specs.Pools.{AllPlayed, ForeignPlayed, LanePlayed, PoolView}
+use Rattle.eql_replay.specs.Pools.{ForeignsPlay, ForeignPlays, PlaysLaneAt, PoolView}
 use Rattle.eql_replay.proofs.Calls.{is_after, lane_count, lane_else}
 
 -- ---- only a feed that fails counts a fault
@@ -114,7 +114,7 @@ module _ {S L : Type 0} (left lent_as : S → Option (List ℕ)) (fault_plan : S
   }
 
   -- a lane played, and nothing failed while it was quiet
-  module _ (s : ℕ) (o : LaneOp) (answer : LaneReply) (old new : List (LaneView S L)) (played : LanePlayed left lent_as fault_plan read_of s o answer old new) where
+  module _ (s : ℕ) (o : LaneOp) (answer : LaneReply) (old new : List (LaneView S L)) (played : PlaysLaneAt left lent_as fault_plan read_of s o answer old new) where
     stays_steady : did_fail answer ≡ false → played.after.state.faults ≡ played.before.state.faults
     stays_steady none =
         step_faults (setting_of read_of None played.before) played.before.state o answer played.after.state none (played.plays None tt).step
@@ -157,14 +157,14 @@ module _ {S L : Type 0} (left lent_as : S → Option (List ℕ)) (fault_plan : S
 
   -- others played, and feed none of the quiet lanes
   foreign_on : (quiet : ℕ → Type 0) (first : List (LaneView S L)) (f : Foreign) (a b : PoolView S L) → ((s : ℕ) → quiet s → FeedsElsewhere s f)
-      → ForeignPlayed left lent_as fault_plan read_of f a b → LanesOn left lent_as fault_plan read_of quiet first a.lanes → LanesOn left lent_as fault_plan read_of quiet first b.lanes
+      → ForeignPlays left lent_as fault_plan read_of f a b → LanesOn left lent_as fault_plan read_of quiet first a.lanes → LanesOn left lent_as fault_plan read_of quiet first b.lanes
   foreign_on quiet first (Feed lane max) a b elsewhere played on =
       lanes_on lane (op.Feed max) played.0 a.lanes b.lanes played.1 quiet quiet first (λ k q. q) (λ q. absurd (elsewhere lane q refl)) on
   foreign_on quiet first (Turn part max) a b elsewhere played on =
       subst (λ (lanes : List (LaneView S L)). LanesOn left lent_as fault_plan read_of quiet first lanes) (sym played.2) on
 
   pub all_on : (quiet : ℕ → Type 0) (first : List (LaneView S L)) (fs : List Foreign) (a b : PoolView S L) → ((s : ℕ) → quiet s → All (FeedsElsewhere s) fs)
-      → AllPlayed left lent_as fault_plan read_of fs a b → LanesOn left lent_as fault_plan read_of quiet first a.lanes → LanesOn left lent_as fault_plan read_of quiet first b.lanes
+      → ForeignsPlay left lent_as fault_plan read_of fs a b → LanesOn left lent_as fault_plan read_of quiet first a.lanes → LanesOn left lent_as fault_plan read_of quiet first b.lanes
   all_on quiet first [] a b elsewhere played on =
       subst (λ (p : PoolView S L). LanesOn left lent_as fault_plan read_of quiet first p.lanes) (sym played) on
   all_on quiet first (f ∷ fs) a b elsewhere (mid, one, rest) on =

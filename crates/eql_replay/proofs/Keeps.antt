@@ -20,8 +20,8 @@ use Rattle.eql_replay.specs.declared.noted.Noted.{Noted}
 use Rattle.eql_replay.specs.declared.noted.Noted.TheVariants.{OfLane, OfPart}
 use Rattle.eql_replay.specs.Listed.{BenchView}
 use Rattle.eql_replay.specs.Noting.{asked_note, did_fail, fails_in, told_note}
-use Rattle.eql_replay.specs.Opened.{AreOfTexts, FeedsElsewhere, IsBench, IsQuiet, LanesOn, LinesOn, ReadOn, list_at, list_in}
-use Rattle.eql_replay.specs.Pools.{AllPlayed, ForeignPlayed, IsPlay, LanePlayed, PartPlayed, PoolView}
+use Rattle.eql_replay.specs.Opened.{AreOfTexts, FeedsElsewhere, IsBench, IsQuiet, LanesOn, LinesOn, LanesReadOn, list_at, list_in}
+use Rattle.eql_replay.specs.Pools.{ForeignsPlay, ForeignPlays, IsPlay, PlaysLaneAt, PlaysPartAt, PoolView}
 use Rattle.eql_replay.proofs.Calls.{lane_count, part_count, texts_stay}
 use Rattle.eql_replay.proofs.Goings.{didnt, all_on as all_go_on, lanes_begin, lanes_on, lanes_quieter}
 use Rattle.eql_replay.proofs.NoteLemmas.{didnt_fail, last_didnt, none_before, none_fails, other_fails}
@@ -51,7 +51,7 @@ list_past plays lists calls e past = subst (λ (ls : List (List Foreign)). list_
 
 module _ {S L : Type 0} (left lent_as : S → Option (List ℕ)) (fault_plan : S → Option FaultPlan) (read_of : L → Reads) where
   -- ---- a loop over a list
-  pub next_fits : (fs : List Foreign) (i : ℕ) (f : Foreign) (a b : PoolView S L) → AllPlayed left lent_as fault_plan read_of (take i fs) a b
+  pub next_fits : (fs : List Foreign) (i : ℕ) (f : Foreign) (a b : PoolView S L) → ForeignsPlay left lent_as fault_plan read_of (take i fs) a b
       → All (IsPlay (length a.lanes) (length a.parts)) fs → i < length fs → f ≡ get_or fs i f → IsPlay (length b.lanes) (length b.parts) f
   next_fits fs i f a b played fit inside is =
       subst (λ (n : ℕ). IsPlay n (length b.parts) f) (sym (all_lanes left lent_as fault_plan read_of (take i fs) a b played))
@@ -59,14 +59,14 @@ module _ {S L : Type 0} (left lent_as : S → Option (List ℕ)) (fault_plan : S
       (subst (IsPlay (length a.lanes) (length a.parts)) (sym is) (All-get_or (IsPlay (length a.lanes) (length a.parts)) fs i f inside fit)))
 
   pub next_played : (fs : List Foreign) (i : ℕ) (f : Foreign) (a b c : PoolView S L) → i < length fs → f ≡ get_or fs i f
-      → AllPlayed left lent_as fault_plan read_of (take i fs) a b → ForeignPlayed left lent_as fault_plan read_of f b c → AllPlayed left lent_as fault_plan read_of (take (i + 1) fs) a c
+      → ForeignsPlay left lent_as fault_plan read_of (take i fs) a b → ForeignPlays left lent_as fault_plan read_of f b c → ForeignsPlay left lent_as fault_plan read_of (take (i + 1) fs) a c
   next_played fs i f a b c inside is played then =
       let more : take (i + 1) fs ≡ take i fs ++ f ∷ [] = take_more fs i f inside ∙ ap (λ (g : Foreign). take i fs ++ g ∷ []) (sym is) in
-      subst (λ (gs : List Foreign). AllPlayed left lent_as fault_plan read_of gs a c) (sym more) (all_on left lent_as fault_plan read_of (take i fs) f a b c played then)
+      subst (λ (gs : List Foreign). ForeignsPlay left lent_as fault_plan read_of gs a c) (sym more) (all_on left lent_as fault_plan read_of (take i fs) f a b c played then)
 
-  pub all_played : (fs gs : List Foreign) (i : ℕ) (a b : PoolView S L) → fs ≡ gs → length fs ≤ i → AllPlayed left lent_as fault_plan read_of (take i fs) a b → AllPlayed left lent_as fault_plan read_of gs a b
+  pub all_played : (fs gs : List Foreign) (i : ℕ) (a b : PoolView S L) → fs ≡ gs → length fs ≤ i → ForeignsPlay left lent_as fault_plan read_of (take i fs) a b → ForeignsPlay left lent_as fault_plan read_of gs a b
   all_played fs gs i a b e past played =
-      subst (λ (hs : List Foreign). AllPlayed left lent_as fault_plan read_of hs a b) (take_all i fs past ∙ e) played
+      subst (λ (hs : List Foreign). ForeignsPlay left lent_as fault_plan read_of hs a b) (take_all i fs past ∙ e) played
 
   module _ (first : List (LaneView S L)) (text : ℕ → Option (List ℕ)) (plays : List (List Foreign)) where
     abbrev Is : BenchView S L → Type 0
@@ -82,7 +82,7 @@ module _ {S L : Type 0} (left lent_as : S → Option (List ℕ)) (fault_plan : S
               (lanes_begin left lent_as fault_plan read_of (IsQuiet plays notes) lanes);
           planned = record { each = λ s one there u. ap (fails_in s) none };
           texts = are;
-          read = subst (λ (ls : List (LaneView S L)). ReadOn read_of text ls lanes) same_lanes (read_self left lent_as fault_plan read_of text lanes);
+          read = subst (λ (ls : List (LaneView S L)). LanesReadOn read_of text ls lanes) same_lanes (read_self left lent_as fault_plan read_of text lanes);
           lines = subst (λ (ls : List (LaneView S L)). LinesOn text ls lanes) same_lanes (lines_self left lent_as fault_plan read_of text lanes);
           few_lanes = few_lanes;
           few_parts = few_parts;
@@ -96,7 +96,7 @@ module _ {S L : Type 0} (left lent_as : S → Option (List ℕ)) (fault_plan : S
         (subst (λ (j : ℕ). All (λ (fs : List Foreign). All (IsPlay m j) fs) plays) (sym f) h)
 
     -- ---- others played their list
-    pub others_keep : (b : BenchView S L) (pool : PoolView S L) (calls : ℕ) → Is b → calls ≤ length plays → AllPlayed left lent_as fault_plan read_of (list_at plays b.calls) b.pool pool
+    pub others_keep : (b : BenchView S L) (pool : PoolView S L) (calls : ℕ) → Is b → calls ≤ length plays → ForeignsPlay left lent_as fault_plan read_of (list_at plays b.calls) b.pool pool
         → Is (record { pool = pool; calls = calls; notes = b.notes })
     others_keep b pool calls is few played =
         let fs = list_at plays b.calls in
@@ -116,7 +116,7 @@ module _ {S L : Type 0} (left lent_as : S → Option (List ℕ)) (fault_plan : S
 
     -- ---- the caller played
     pub lane_keeps : (old new : PoolView S L) (calls : ℕ) (notes : List Noted) (s : ℕ) (op : LaneOp) (reply : LaneReply) (note : Note) → Is (record { pool = old; calls = calls; notes = notes })
-        → LanePlayed left lent_as fault_plan read_of s op reply old.lanes new.lanes → new.parts ≡ old.parts
+        → PlaysLaneAt left lent_as fault_plan read_of s op reply old.lanes new.lanes → new.parts ≡ old.parts
         → Is (record { pool = new; calls = calls; notes = notes ++ OfLane s note (did_fail reply) ∷ [] })
     lane_keeps old new calls notes s op reply note is played parts =
         let lanes = lane_count left lent_as fault_plan read_of s op reply old.lanes new.lanes played in
@@ -145,7 +145,7 @@ module _ {S L : Type 0} (left lent_as : S → Option (List ℕ)) (fault_plan : S
         }
 
     pub part_keeps : (old new : PoolView S L) (calls : ℕ) (notes : List Noted) (p : ℕ) (op : PartOp) (reply : PartReply) (note : Note) → Is (record { pool = old; calls = calls; notes = notes })
-        → PartPlayed p op reply old.parts new.parts → new.lanes ≡ old.lanes
+        → PlaysPartAt p op reply old.parts new.parts → new.lanes ≡ old.lanes
         → Is (record { pool = new; calls = calls; notes = notes ++ OfPart p note ∷ [] })
     part_keeps old new calls notes p op reply note is played lanes =
         let parts = part_count p op reply old.parts new.parts played in
@@ -156,7 +156,7 @@ module _ {S L : Type 0} (left lent_as : S → Option (List ℕ)) (fault_plan : S
               (lanes_quieter left lent_as fault_plan read_of (IsQuiet plays notes) (IsQuiet plays (notes ++ one ∷ [])) first old.lanes (λ k q. (q.0, none_before k notes one q.1)) is.on);
           planned = record { each = λ k first_one there u. none_fails k p notes note ∙ is.planned.each k first_one there u };
           texts = subst (AreOfTexts left text) (sym lanes) is.texts;
-          read = subst (ReadOn read_of text first) (sym lanes) is.read;
+          read = subst (LanesReadOn read_of text first) (sym lanes) is.read;
           lines = subst (LinesOn text first) (sym lanes) is.lines;
           few_lanes = subst (λ (n : ℕ). n < 2 ^ 32) (sym same_lanes) is.few_lanes;
           few_parts = subst (λ (n : ℕ). n < 2 ^ 32) (sym parts) is.few_parts;

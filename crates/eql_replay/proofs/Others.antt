@@ -17,45 +17,45 @@ use Rattle.eql_values.specs.declared.order.Mark.{Mark}
 use Rattle.eql_conductor.specs.declared.note.Note.{Note}
 use Rattle.eql_conductor.specs.Notes.{lane_note, part_note}
 use Rattle.eql_conductor.specs.declared.bench.NotPlayed.TheVariants as not_played
-use Rattle.eql_conductor.specs.Benches.{FailsBy, FedOn, Known, LanePlays, MayPlay, PartPlays, Rests, Same, TurnedOn, TurnedTimes, Unplayed}
+use Rattle.eql_conductor.specs.Benches.{FailsBy, ComesByFeeds, Known, LanePlays, MayPlay, PartPlays, Rests, Same, ComesByTurns, TurnsTimes, WasNotPlayed}
 use Rattle.eql_conductor.proofs.Resting.{fed_on, fed_once, is_lane, is_part, lane_rests, lanes_on, part_rests, parts_on, rests_on, rests_self, same_on, turned_on, turned_once}
 use Rattle.eql_replay.specs.declared.foreign.Foreign.{Foreign}
 use Rattle.eql_replay.specs.declared.foreign.Foreign.TheVariants.{Feed, Turn}
 use Rattle.eql_replay.specs.declared.noted.Noted.{Noted}
 use Rattle.eql_replay.specs.Listed.{known_of, rules_in, set_in}
 use Rattle.eql_replay.specs.Opened.{AreOfTexts}
-use Rattle.eql_replay.specs.Pools.{AllPlayed, ForeignPlayed, PoolView}
+use Rattle.eql_replay.specs.Pools.{ForeignsPlay, ForeignPlays, PoolView}
 use Rattle.eql_replay.proofs.Calls.{has_lane, has_part, lane_called, lane_count, lane_else, lane_stays, lanes_stay, part_called, part_count, part_else, part_stays, parts_stay, rules_stay, sets_stay, texts_stay}
 
 module _ {S L : Type 0} (left lent_as : S → Option (List ℕ)) (fault_plan : S → Option FaultPlan) (read_of : L → Reads) where
   -- ---- one after another
-  pub all_on : (fs : List Foreign) (f : Foreign) (a b c : PoolView S L) → AllPlayed left lent_as fault_plan read_of fs a b → ForeignPlayed left lent_as fault_plan read_of f b c
-      → AllPlayed left lent_as fault_plan read_of (fs ++ f ∷ []) a c
-  all_on [] f a b c first then = (c, subst (λ (p : PoolView S L). ForeignPlayed left lent_as fault_plan read_of f p c) first then, refl)
+  pub all_on : (fs : List Foreign) (f : Foreign) (a b c : PoolView S L) → ForeignsPlay left lent_as fault_plan read_of fs a b → ForeignPlays left lent_as fault_plan read_of f b c
+      → ForeignsPlay left lent_as fault_plan read_of (fs ++ f ∷ []) a c
+  all_on [] f a b c first then = (c, subst (λ (p : PoolView S L). ForeignPlays left lent_as fault_plan read_of f p c) first then, refl)
   all_on (g ∷ fs) f a b c (mid, one, rest) then = (mid, one, all_on fs f mid b c rest then)
 
-  pub foreign_lanes : (f : Foreign) (a b : PoolView S L) → ForeignPlayed left lent_as fault_plan read_of f a b → length b.lanes ≡ length a.lanes
+  pub foreign_lanes : (f : Foreign) (a b : PoolView S L) → ForeignPlays left lent_as fault_plan read_of f a b → length b.lanes ≡ length a.lanes
   foreign_lanes (Feed lane max) a b played = lane_count left lent_as fault_plan read_of lane (lane_op.Feed max) played.0 a.lanes b.lanes played.1
   foreign_lanes (Turn part max) a b played = ap length played.2
 
-  pub foreign_parts : (f : Foreign) (a b : PoolView S L) → ForeignPlayed left lent_as fault_plan read_of f a b → length b.parts ≡ length a.parts
+  pub foreign_parts : (f : Foreign) (a b : PoolView S L) → ForeignPlays left lent_as fault_plan read_of f a b → length b.parts ≡ length a.parts
   foreign_parts (Feed lane max) a b played = ap length played.2
   foreign_parts (Turn part max) a b played = part_count part (part_op.Turn max) played.0 a.parts b.parts played.1
 
-  pub all_lanes : (fs : List Foreign) (a b : PoolView S L) → AllPlayed left lent_as fault_plan read_of fs a b → length b.lanes ≡ length a.lanes
+  pub all_lanes : (fs : List Foreign) (a b : PoolView S L) → ForeignsPlay left lent_as fault_plan read_of fs a b → length b.lanes ≡ length a.lanes
   all_lanes [] a b played = ap (λ (p : PoolView S L). length p.lanes) played
   all_lanes (f ∷ fs) a b (mid, one, rest) = all_lanes fs mid b rest ∙ foreign_lanes f a mid one
 
-  pub all_parts : (fs : List Foreign) (a b : PoolView S L) → AllPlayed left lent_as fault_plan read_of fs a b → length b.parts ≡ length a.parts
+  pub all_parts : (fs : List Foreign) (a b : PoolView S L) → ForeignsPlay left lent_as fault_plan read_of fs a b → length b.parts ≡ length a.parts
   all_parts [] a b played = ap (λ (p : PoolView S L). length p.parts) played
   all_parts (f ∷ fs) a b (mid, one, rest) = all_parts fs mid b rest ∙ foreign_parts f a mid one
 
   -- ---- each lane stays of its text
-  pub foreign_texts : (text : ℕ → Option (List ℕ)) (f : Foreign) (a b : PoolView S L) → ForeignPlayed left lent_as fault_plan read_of f a b → AreOfTexts left text a.lanes → AreOfTexts left text b.lanes
+  pub foreign_texts : (text : ℕ → Option (List ℕ)) (f : Foreign) (a b : PoolView S L) → ForeignPlays left lent_as fault_plan read_of f a b → AreOfTexts left text a.lanes → AreOfTexts left text b.lanes
   foreign_texts text (Feed lane max) a b played are = texts_stay left lent_as fault_plan read_of lane (lane_op.Feed max) played.0 a.lanes b.lanes played.1 text are
   foreign_texts text (Turn part max) a b played are = subst (AreOfTexts left text) (sym played.2) are
 
-  pub all_texts : (text : ℕ → Option (List ℕ)) (fs : List Foreign) (a b : PoolView S L) → AllPlayed left lent_as fault_plan read_of fs a b → AreOfTexts left text a.lanes → AreOfTexts left text b.lanes
+  pub all_texts : (text : ℕ → Option (List ℕ)) (fs : List Foreign) (a b : PoolView S L) → ForeignsPlay left lent_as fault_plan read_of fs a b → AreOfTexts left text a.lanes → AreOfTexts left text b.lanes
   all_texts text [] a b played are = subst (λ (p : PoolView S L). AreOfTexts left text p.lanes) (sym played) are
   all_texts text (f ∷ fs) a b (mid, one, rest) are = all_texts text fs mid b rest (foreign_texts text f a mid one are)
 
@@ -64,7 +64,7 @@ module _ {S L : Type 0} (left lent_as : S → Option (List ℕ)) (fault_plan : S
     abbrev known : PoolView S L → Known
     known pool = known_of read_of text pool notes
 
-    foreign_rests : (f : Foreign) (a b : PoolView S L) → AreOfTexts left text a.lanes → ForeignPlayed left lent_as fault_plan read_of f a b → Rests (known a) (known b)
+    foreign_rests : (f : Foreign) (a b : PoolView S L) → AreOfTexts left text a.lanes → ForeignPlays left lent_as fault_plan read_of f a b → Rests (known a) (known b)
     foreign_rests (Feed lane max) a b are played =
         let one = played.1 in
         record {
@@ -100,13 +100,13 @@ module _ {S L : Type 0} (left lent_as : S → Option (List ℕ)) (fault_plan : S
               (λ k l apart. part_stays ((known a).rules k) a.parts b.parts k (part_else part (part_op.Turn max) played.0 a.parts b.parts one k apart));
         }
 
-    all_rest : (fs : List Foreign) (a b : PoolView S L) → AreOfTexts left text a.lanes → AllPlayed left lent_as fault_plan read_of fs a b → Rests (known a) (known b)
+    all_rest : (fs : List Foreign) (a b : PoolView S L) → AreOfTexts left text a.lanes → ForeignsPlay left lent_as fault_plan read_of fs a b → Rests (known a) (known b)
     all_rest [] a b are played = subst (λ (p : PoolView S L). Rests (known a) (known p)) (sym played) (rests_self (known a))
     all_rest (f ∷ fs) a b are (mid, one, rest) =
         rests_on (known a) (known mid) (known b) (foreign_rests f a mid are one) (all_rest fs mid b (foreign_texts text f a mid one are) rest)
 
     -- nothing of the caller was played
-    pub others_alone : (fs : List Foreign) (a b : PoolView S L) → AreOfTexts left text a.lanes → AllPlayed left lent_as fault_plan read_of fs a b → Unplayed not_played.Memory (known a) (known b)
+    pub others_alone : (fs : List Foreign) (a b : PoolView S L) → AreOfTexts left text a.lanes → ForeignsPlay left lent_as fault_plan read_of fs a b → WasNotPlayed not_played.Memory (known a) (known b)
     others_alone fs a b are played = record {
       rests = all_rest fs a b are played;
       lane_notes = record { each = λ s l. refl };
@@ -116,7 +116,7 @@ module _ {S L : Type 0} (left lent_as : S → Option (List ℕ)) (fault_plan : S
     }
 
 -- ---- others first, and then a call
-pub then_lane : (s : ℕ) (op : LaneOp) (reply : LaneReply) (a b c : Known) → s < a.lanes → Unplayed not_played.Memory a b → LanePlays s op reply b c → LanePlays s op reply a c
+pub then_lane : (s : ℕ) (op : LaneOp) (reply : LaneReply) (a b c : Known) → s < a.lanes → WasNotPlayed not_played.Memory a b → LanePlays s op reply b c → LanePlays s op reply a c
 then_lane s op reply a b c inside alone plays =
     let rests = alone.rests in
     let same : Same a b = rests.same in
@@ -129,14 +129,14 @@ then_lane s op reply a b c inside alone plays =
             first = e.0;
             before = d.before;
             was = e.1;
-            fed = fed_on (a.set s) e.0 d.first d.before e.2 (subst (λ (t : Setting). FedOn t d.first d.before) (same.set s inside) d.fed);
+            fed = fed_on (a.set s) e.0 d.first d.before e.2 (subst (λ (t : Setting). ComesByFeeds t d.first d.before) (same.set s inside) d.fed);
             step = subst (λ (t : Setting). LaneStep t d.before op reply y) (same.set s inside) d.step;
           };
       some = plays.some;
       others = λ k l apart y here.
           let d = plays.others k (is_lane a b k same l) apart y here in
           let e = rests.lanes.each k l d.0 d.1 in
-          (e.0, e.1, fed_on (a.set k) e.0 d.0 y e.2 (subst (λ (t : Setting). FedOn t d.0 y) (same.set k l) d.2));
+          (e.0, e.1, fed_on (a.set k) e.0 d.0 y e.2 (subst (λ (t : Setting). ComesByFeeds t d.0 y) (same.set k l) d.2));
       parts = parts_on a b c same rests.parts plays.parts;
       note = plays.note ∙ ap (λ (notes : List Note). notes ++ lane_note op reply ∷ []) (alone.lane_notes.each s inside);
       other_notes = λ k l apart. plays.other_notes k (is_lane a b k same l) apart ∙ alone.lane_notes.each k l;
@@ -146,7 +146,7 @@ then_lane s op reply a b c inside alone plays =
       worn = plays.worn ∙ alone.worn;
     }
 
-pub then_part : (p : ℕ) (op : PartOp) (reply : PartReply) (a b c : Known) → p < a.parts → Unplayed not_played.Memory a b → PartPlays p op reply b c → PartPlays p op reply a c
+pub then_part : (p : ℕ) (op : PartOp) (reply : PartReply) (a b c : Known) → p < a.parts → WasNotPlayed not_played.Memory a b → PartPlays p op reply b c → PartPlays p op reply a c
 then_part p op reply a b c inside alone plays =
     let rests = alone.rests in
     let same : Same a b = rests.same in
@@ -159,14 +159,14 @@ then_part p op reply a b c inside alone plays =
             first = e.0;
             before = d.before;
             was = e.1;
-            turned = turned_on (a.rules p) e.0 d.first d.before e.2 (subst (λ (r : Rules). TurnedOn r d.first d.before) (same.rules p inside) d.turned);
+            turned = turned_on (a.rules p) e.0 d.first d.before e.2 (subst (λ (r : Rules). ComesByTurns r d.first d.before) (same.rules p inside) d.turned);
             step = subst (λ (r : Rules). PartStep r d.before op reply y) (same.rules p inside) d.step;
           };
       some = plays.some;
       others = λ k l apart y here.
           let d = plays.others k (is_part a b k same l) apart y here in
           let e = rests.parts.each k l d.0 d.1 in
-          (e.0, e.1, turned_on (a.rules k) e.0 d.0 y e.2 (subst (λ (r : Rules). TurnedOn r d.0 y) (same.rules k l) d.2));
+          (e.0, e.1, turned_on (a.rules k) e.0 d.0 y e.2 (subst (λ (r : Rules). ComesByTurns r d.0 y) (same.rules k l) d.2));
       lanes = lanes_on a b c same rests.lanes plays.lanes;
       note = plays.note ∙ ap (λ (notes : List Note). notes ++ part_note op reply ∷ []) (alone.part_notes.each p inside);
       other_notes = λ k l apart. plays.other_notes k (is_part a b k same l) apart ∙ alone.part_notes.each k l;
@@ -184,11 +184,11 @@ turn_last rules x max part_reply.Done y step = absurd step
 turn_last rules x max (part_reply.Found found done) y step = absurd step
 turn_last rules x max (part_reply.Cut holders) y step = absurd step
 
-turned_last : (rules : Rules) (n : ℕ) (x y : PartState) → TurnedTimes rules n x y → y.last ≡ x.last
+turned_last : (rules : Rules) (n : ℕ) (x y : PartState) → TurnsTimes rules n x y → y.last ≡ x.last
 turned_last rules zero x y h = ap (λ (z : PartState). z.last) h
 turned_last rules (suc n) x y (mid, max, reply, step, rest) = turned_last rules n mid y rest ∙ turn_last rules x max reply mid step
 
-stays_allowed : (rules : Rules) (op : PartOp) (x y : PartState) → TurnedOn rules x y → PartAllows x op → PartAllows y op
+stays_allowed : (rules : Rules) (op : PartOp) (x y : PartState) → ComesByTurns rules x y → PartAllows x op → PartAllows y op
 stays_allowed rules (part_op.Deliver items mark) x y h may = subst (λ (m : Mark). CanDeliver m items mark) (sym (turned_last rules h.0 x y h.1)) may
 stays_allowed rules (part_op.Turn max) x y h may = may
 stays_allowed rules part_op.Collect x y h may = may

@@ -14,8 +14,8 @@ use Rattle.eql_lane.proofs.Keeping.{feed_keeps, take_keeps}
 use Rattle.eql_conductor.proofs.Resting.{same_or}
 use Rattle.eql_replay.specs.declared.foreign.Foreign.{Foreign}
 use Rattle.eql_replay.specs.declared.foreign.Foreign.TheVariants.{Feed, Turn}
-use Rattle.eql_replay.specs.Opened.{AreOfTexts, IsAtPlace, ReadOn}
-use Rattle.eql_replay.specs.Pools.{AllPlayed, ForeignPlayed, LanePlayed, PoolView}
+use Rattle.eql_replay.specs.Opened.{AreOfTexts, IsAtPlace, LanesReadOn}
+use Rattle.eql_replay.specs.Pools.{ForeignsPlay, ForeignPlays, PlaysLaneAt, PoolView}
 use Rattle.eql_replay.proofs.Calls.{is_after, lane_else, same_setting}
 use Rattle.eql_replay.proofs.Others.{foreign_texts}
 
@@ -69,7 +69,7 @@ module _ (set : Setting) (t : List ℕ) where
 -- ---- lanes
 module _ {S L : Type 0} (left lent_as : S → Option (List ℕ)) (fault_plan : S → Option FaultPlan) (read_of : L → Reads) (text : ℕ → Option (List ℕ)) where
   -- each lane goes on from itself
-  pub read_self : (lanes : List (LaneView S L)) → ReadOn read_of text lanes lanes
+  pub read_self : (lanes : List (LaneView S L)) → LanesReadOn read_of text lanes lanes
   read_self lanes = record {
     each = λ s one lane e f t is at.
         let same : one ≡ lane = let both : Some one ≡ Some lane = sym e ∙ f in cc in
@@ -77,7 +77,7 @@ module _ {S L : Type 0} (left lent_as : S → Option (List ℕ)) (fault_plan : S
   }
 
   -- a lane of its text played
-  module _ (s : ℕ) (o : LaneOp) (answer : LaneReply) (old new : List (LaneView S L)) (played : LanePlayed left lent_as fault_plan read_of s o answer old new)
+  module _ (s : ℕ) (o : LaneOp) (answer : LaneReply) (old new : List (LaneView S L)) (played : PlaysLaneAt left lent_as fault_plan read_of s o answer old new)
       (are : AreOfTexts left text old) where
     after_at : (t : List ℕ) → text s ≡ Some t → IsAtPlace (setting_of read_of (Some t) played.before) t played.before.state
         → IsAtPlace (setting_of read_of (Some t) played.after) t played.after.state
@@ -87,7 +87,7 @@ module _ {S L : Type 0} (left lent_as : S → Option (List ℕ)) (fault_plan : S
         subst (λ (u : Setting). IsAtPlace u t played.after.state) (sym (same_setting left lent_as fault_plan read_of s o answer old new played (Some t)))
         (step_at set t played.before.state o answer played.after.state refl (played.plays (Some t) of).step at)
 
-    pub read_on : (first : List (LaneView S L)) → ReadOn read_of text first old → ReadOn read_of text first new
+    pub read_on : (first : List (LaneView S L)) → LanesReadOn read_of text first old → LanesReadOn read_of text first new
     read_on first was = record {
       each = λ k one lane e f t is at. elim (same_or k s) [
         | inl same ↦
@@ -102,13 +102,13 @@ module _ {S L : Type 0} (left lent_as : S → Option (List ℕ)) (fault_plan : S
     }
 
   -- others played
-  foreign_read : (first : List (LaneView S L)) (f : Foreign) (a b : PoolView S L) → AreOfTexts left text a.lanes → ForeignPlayed left lent_as fault_plan read_of f a b
-      → ReadOn read_of text first a.lanes → ReadOn read_of text first b.lanes
+  foreign_read : (first : List (LaneView S L)) (f : Foreign) (a b : PoolView S L) → AreOfTexts left text a.lanes → ForeignPlays left lent_as fault_plan read_of f a b
+      → LanesReadOn read_of text first a.lanes → LanesReadOn read_of text first b.lanes
   foreign_read first (Feed lane max) a b are played was = read_on lane (op.Feed max) played.0 a.lanes b.lanes played.1 are first was
-  foreign_read first (Turn part max) a b are played was = subst (ReadOn read_of text first) (sym played.2) was
+  foreign_read first (Turn part max) a b are played was = subst (LanesReadOn read_of text first) (sym played.2) was
 
-  pub all_read : (first : List (LaneView S L)) (fs : List Foreign) (a b : PoolView S L) → AreOfTexts left text a.lanes → AllPlayed left lent_as fault_plan read_of fs a b
-      → ReadOn read_of text first a.lanes → ReadOn read_of text first b.lanes
-  all_read first [] a b are played was = subst (λ (p : PoolView S L). ReadOn read_of text first p.lanes) (sym played) was
+  pub all_read : (first : List (LaneView S L)) (fs : List Foreign) (a b : PoolView S L) → AreOfTexts left text a.lanes → ForeignsPlay left lent_as fault_plan read_of fs a b
+      → LanesReadOn read_of text first a.lanes → LanesReadOn read_of text first b.lanes
+  all_read first [] a b are played was = subst (λ (p : PoolView S L). LanesReadOn read_of text first p.lanes) (sym played) was
   all_read first (f ∷ fs) a b are (mid, one, rest) was =
       all_read first fs mid b (foreign_texts left lent_as fault_plan read_of text f a mid one are) rest (foreign_read first f a mid are one was)

@@ -19,7 +19,7 @@ use Rattle.eql_replay.specs.declared.foreign.Foreign.TheVariants.{Feed, Turn}
 use Rattle.eql_replay.specs.declared.noted.Noted.{Noted}
 use Rattle.eql_replay.specs.Listed.{BenchView}
 use Rattle.eql_replay.specs.Noting.{fails_in}
-use Rattle.eql_replay.specs.Pools.{PoolView, LanePlayed, PartPlayed, AllPlayed, IsPlay}
+use Rattle.eql_replay.specs.Pools.{PoolView, PlaysLaneAt, PlaysPartAt, ForeignsPlay, IsPlay}
 
 -- others don't feed this lane by the one play, and by none of all
 abbrev pub FeedsElsewhere : ℕ → Foreign → Type 0
@@ -47,7 +47,7 @@ pub record IsAtPlace (set : Setting) (text : List ℕ) (x : LaneState) : Type 0 
   pub is : LaneIs set text mark x
 
 -- each lane that had read the text named for it up to a place has read it up to a place now
-pub record ReadOn {S L : Type 0} (read_of : L → Reads) (text : ℕ → Option (List ℕ)) (first lanes : List (LaneView S L)) : Type 0 where
+pub record LanesReadOn {S L : Type 0} (read_of : L → Reads) (text : ℕ → Option (List ℕ)) (first lanes : List (LaneView S L)) : Type 0 where
   pub each : (s : ℕ) (one lane : LaneView S L) → slice_get first s ≡ Some one → slice_get lanes s ≡ Some lane → (t : List ℕ) → text s ≡ Some t
       → IsAtPlace (setting_of read_of (Some t) one) t one.state → IsAtPlace (setting_of read_of (Some t) lane) t lane.state
 
@@ -81,15 +81,15 @@ module _ {S L : Type 0} (left lent_as : S → Option (List ℕ)) (fault_plan : S
   -- others played their list, and then the operation was played on a lane, or on a part: it always is
   pub record LaneCall (plays : List (List Foreign)) (s : ℕ) (op : LaneOp) (result : Result LaneReply NotPlayed) (old new : BenchView S L) : Type 0 where
     pub between : PoolView S L
-    pub others : AllPlayed left lent_as fault_plan read_of (list_at plays old.calls) old.pool between
+    pub others : ForeignsPlay left lent_as fault_plan read_of (list_at plays old.calls) old.pool between
     pub calls : new.calls ≡ min (old.calls + 1) (length plays)
-    pub is : IsOkAnd result (λ reply. LanePlayed left lent_as fault_plan read_of s op reply between.lanes new.pool.lanes × (new.pool.parts ≡ between.parts))
+    pub is : IsOkAnd result (λ reply. PlaysLaneAt left lent_as fault_plan read_of s op reply between.lanes new.pool.lanes × (new.pool.parts ≡ between.parts))
 
   pub record PartCall (plays : List (List Foreign)) (p : ℕ) (op : PartOp) (result : Result PartReply NotPlayed) (old new : BenchView S L) : Type 0 where
     pub between : PoolView S L
-    pub others : AllPlayed left lent_as fault_plan read_of (list_at plays old.calls) old.pool between
+    pub others : ForeignsPlay left lent_as fault_plan read_of (list_at plays old.calls) old.pool between
     pub calls : new.calls ≡ min (old.calls + 1) (length plays)
-    pub is : IsOkAnd result (λ reply. PartPlayed p op reply between.parts new.pool.parts × (new.pool.lanes ≡ between.lanes))
+    pub is : IsOkAnd result (λ reply. PlaysPartAt p op reply between.parts new.pool.parts × (new.pool.lanes ≡ between.lanes))
 
 -- others don't feed the lane, and none of the caller's own feeds failed
 abbrev pub IsQuiet : List (List Foreign) → List Noted → ℕ → Type 0
@@ -104,7 +104,7 @@ pub record IsBench {S L : Type 0} (left lent_as : S → Option (List ℕ)) (faul
   pub on : LanesOn left lent_as fault_plan read_of (IsQuiet plays b.notes) first b.pool.lanes
   pub planned : FailsAsPlanned fault_plan first b.notes
   pub texts : AreOfTexts left text b.pool.lanes
-  pub read : ReadOn read_of text first b.pool.lanes
+  pub read : LanesReadOn read_of text first b.pool.lanes
   pub lines : LinesOn text first b.pool.lanes
   pub few_lanes : length b.pool.lanes < 2 ^ 32
   pub few_parts : length b.pool.parts < 2 ^ 32

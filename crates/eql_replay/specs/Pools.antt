@@ -26,7 +26,7 @@ IsPlay lanes parts (Feed lane max) = (lane < lanes) × (1 ≤ max) × (max ≤ 4
 IsPlay lanes parts (Turn part max) = (part < parts) × (1 ≤ max) × (max ≤ 4096)
 
 -- the part in a place played an operation with this answer, and the others are as they were
-pub record PartPlayed (p : ℕ) (op : PartOp) (reply : PartReply) (old new : List PartView) : Type 0 where
+pub record PlaysPartAt (p : ℕ) (op : PartOp) (reply : PartReply) (old new : List PartView) : Type 0 where
   pub before : PartView
   pub after : PartView
   pub was : slice_get old p ≡ Some before
@@ -36,7 +36,7 @@ pub record PartPlayed (p : ℕ) (op : PartOp) (reply : PartReply) (old new : Lis
 
 module _ {S L : Type 0} (left lent_as : S → Option (List ℕ)) (fault_plan : S → Option FaultPlan) (read_of : L → Reads) where
   -- the lane in a place played an operation with this answer, and the others are as they were
-  pub record LanePlayed (s : ℕ) (op : LaneOp) (reply : LaneReply) (old new : List (LaneView S L)) : Type 0 where
+  pub record PlaysLaneAt (s : ℕ) (op : LaneOp) (reply : LaneReply) (old new : List (LaneView S L)) : Type 0 where
     pub before : LaneView S L
     pub after : LaneView S L
     pub was : slice_get old s ≡ Some before
@@ -46,11 +46,11 @@ module _ {S L : Type 0} (left lent_as : S → Option (List ℕ)) (fault_plan : S
     pub unfailing : IsUnfailing (fault_plan before.source) → DidNotFail reply × IsUnfailing (fault_plan after.source)
 
   -- others played this
-  abbrev pub ForeignPlayed : Foreign → (old new : PoolView S L) → Type 0
-  ForeignPlayed (Feed lane max) old new = (reply : LaneReply) × LanePlayed lane (lane_op.Feed max) reply old.lanes new.lanes × (new.parts ≡ old.parts)
-  ForeignPlayed (Turn part max) old new = (reply : PartReply) × PartPlayed part (part_op.Turn max) reply old.parts new.parts × (new.lanes ≡ old.lanes)
+  abbrev pub ForeignPlays : Foreign → (old new : PoolView S L) → Type 0
+  ForeignPlays (Feed lane max) old new = (reply : LaneReply) × PlaysLaneAt lane (lane_op.Feed max) reply old.lanes new.lanes × (new.parts ≡ old.parts)
+  ForeignPlays (Turn part max) old new = (reply : PartReply) × PlaysPartAt part (part_op.Turn max) reply old.parts new.parts × (new.lanes ≡ old.lanes)
 
   -- others played these, in order
-  abbrev pub AllPlayed : List Foreign → (old new : PoolView S L) → Type 0
-  AllPlayed [] old new = new ≡ old
-  AllPlayed (f ∷ fs) old new = (mid : PoolView S L) × ForeignPlayed f old mid × AllPlayed fs mid new
+  abbrev pub ForeignsPlay : List Foreign → (old new : PoolView S L) → Type 0
+  ForeignsPlay [] old new = new ≡ old
+  ForeignsPlay (f ∷ fs) old new = (mid : PoolView S L) × ForeignPlays f old mid × ForeignsPlay fs mid new

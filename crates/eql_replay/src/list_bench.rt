@@ -1,10 +1,10 @@
 //! A bench of lanes and parts in lists.
 ghost use Rattle.std.specs.Prelude.{◌≡◌, ◌≤◌, ◌<◌, ◌^◌, ◌+◌, [], All, IfErr, IfOk, length, min};
 ghost use Rattle.eql_lane.specs.Lanes.{LaneAllows};
-ghost use Rattle.eql_conductor.specs.Benches.{LanePlays, MayPlay, PartPlays, Unplayed};
+ghost use Rattle.eql_conductor.specs.Benches.{LanePlays, MayPlay, PartPlays, WasNotPlayed};
 ghost use Rattle.eql_replay.specs.Listed.{bench_known};
-ghost use Rattle.eql_replay.specs.Opened.{AreOfTexts, FailsAsPlanned, IsQuiet, LaneCall, LanesOn, LinesOn, PartCall, ReadOn, list_at};
-ghost use Rattle.eql_replay.specs.Pools.{AllPlayed, IsPlay};
+ghost use Rattle.eql_replay.specs.Opened.{AreOfTexts, FailsAsPlanned, IsQuiet, LaneCall, LanesOn, LinesOn, PartCall, LanesReadOn, list_at};
+ghost use Rattle.eql_replay.specs.Pools.{ForeignsPlay, IsPlay};
 
 use crate::foreign::Foreigns;
 use crate::noted::{Noted, has_failed, note_of_lane, note_of_part, with_reply};
@@ -82,7 +82,7 @@ impl<S: Source, L: LineReader, G: Ledger, T: Opening<S, L>> ListBench<S, L, G, T
         ensures on { LanesOn S.left S.lent_as S.fault_plan L.read_of
             (IsQuiet T.plays self.notes) T.lanes result.items }
         ensures texts { AreOfTexts S.left T.text result.items }
-        ensures read { ReadOn L.read_of T.text T.lanes result.items }
+        ensures read { LanesReadOn L.read_of T.text T.lanes result.items }
         ensures lines { LinesOn T.text T.lanes result.items }
     {
         self.pool.into_lanes()
@@ -97,11 +97,11 @@ impl<S: Source, L: LineReader, G: Ledger, T: Opening<S, L>> ListBench<S, L, G, T
 
     // Others play what they do before the next call.
     fn others_play(&mut self)
-        ensures others { AllPlayed S.left S.lent_as S.fault_plan L.read_of
+        ensures others { ForeignsPlay S.left S.lent_as S.fault_plan L.read_of
             (list_at T.plays self.old.calls) self.old.pool self.new.pool }
         ensures calls { self.new.calls ≡ min (self.old.calls + 1) (length T.plays) }
         ensures notes { self.new.notes ≡ self.old.notes }
-        ensures alone { Unplayed NotPlayed.Memory
+        ensures alone { WasNotPlayed NotPlayed.Memory
             (bench_known L.read_of T.text self.old) (bench_known L.read_of T.text self.new) }
     {
         if self.calls < self.plays.len() {
@@ -127,7 +127,7 @@ impl<S: Source, L: LineReader, G: Ledger, T: Opening<S, L>> Bench for ListBench<
         requires allowed { LaneAllows op }
         ensures played { IfOk result (λ reply. LanePlays s op reply
             (bench_known L.read_of T.text self.old) (bench_known L.read_of T.text self.new)) }
-        ensures not_played { IfErr result (λ by. Unplayed by
+        ensures not_played { IfErr result (λ by. WasNotPlayed by
             (bench_known L.read_of T.text self.old) (bench_known L.read_of T.text self.new)) }
         ensures call { LaneCall S.left S.lent_as S.fault_plan L.read_of T.plays s op result
             self.old self.new }
@@ -149,7 +149,7 @@ impl<S: Source, L: LineReader, G: Ledger, T: Opening<S, L>> Bench for ListBench<
         requires allowed { MayPlay (bench_known L.read_of T.text self.old) p op }
         ensures played { IfOk result (λ reply. PartPlays p op reply
             (bench_known L.read_of T.text self.old) (bench_known L.read_of T.text self.new)) }
-        ensures not_played { IfErr result (λ by. Unplayed by
+        ensures not_played { IfErr result (λ by. WasNotPlayed by
             (bench_known L.read_of T.text self.old) (bench_known L.read_of T.text self.new)) }
         ensures call { PartCall S.left S.lent_as S.fault_plan L.read_of T.plays p op result
             self.old self.new }

@@ -2,7 +2,7 @@
 ghost use Rattle.std.specs.Prelude.{◌≡◌, ◌<◌, Some, All, length, slice_get};
 ghost use Rattle.eql_lane.specs.Lanes.{LaneAllows};
 ghost use Rattle.eql_parts.specs.PartSteps.{PartAllows, PartView};
-ghost use Rattle.eql_replay.specs.Pools.{AllPlayed, ForeignPlayed, IsPlay, LanePlayed, PartPlayed};
+ghost use Rattle.eql_replay.specs.Pools.{ForeignsPlay, ForeignPlays, IsPlay, PlaysLaneAt, PlaysPartAt};
 
 use crate::foreign::{Foreign, Foreigns};
 use eql_auto::Steps;
@@ -37,7 +37,7 @@ fn play_lane<S: Source, L: LineReader>(
 ) -> LaneReply
     requires place { s < length lanes.old.items }
     requires allowed { LaneAllows op }
-    ensures { LanePlayed S.left S.lent_as S.fault_plan L.read_of s op result
+    ensures { PlaysLaneAt S.left S.lent_as S.fault_plan L.read_of s op result
         lanes.old.items lanes.new.items }
 {
     lanes[s].play(op)
@@ -53,7 +53,7 @@ fn play_part<G: Ledger>(
     requires place { p < length parts.old.items }
     requires allowed { (part : PartView) → slice_get parts.old.items p ≡ Some part
         → PartAllows part.state op }
-    ensures { PartPlayed p op result parts.old.items parts.new.items }
+    ensures { PlaysPartAt p op result parts.old.items parts.new.items }
 {
     parts[p].play(op, steps)
 }
@@ -95,7 +95,7 @@ impl<S: Source, L: LineReader, G: Ledger> Pool<S, L, G> {
     pub(crate) fn lane(&mut self, s: u32, op: LaneOp) -> LaneReply
         requires place { s < length self.old.lanes }
         requires allowed { LaneAllows op }
-        ensures played { LanePlayed S.left S.lent_as S.fault_plan L.read_of s op result
+        ensures played { PlaysLaneAt S.left S.lent_as S.fault_plan L.read_of s op result
             self.old.lanes self.new.lanes }
         ensures parts { self.new.parts ≡ self.old.parts }
     {
@@ -107,7 +107,7 @@ impl<S: Source, L: LineReader, G: Ledger> Pool<S, L, G> {
         requires place { p < length self.old.parts }
         requires allowed { (part : PartView) → slice_get self.old.parts p ≡ Some part
             → PartAllows part.state op }
-        ensures played { PartPlayed p op result self.old.parts self.new.parts }
+        ensures played { PlaysPartAt p op result self.old.parts self.new.parts }
         ensures lanes { self.new.lanes ≡ self.old.lanes }
     {
         play_part(&mut self.parts, p as usize, op, &mut self.steps)
@@ -116,7 +116,7 @@ impl<S: Source, L: LineReader, G: Ledger> Pool<S, L, G> {
     // Plays an operation of others.
     fn play(&mut self, foreign: Foreign)
         requires fits { IsPlay (length self.old.lanes) (length self.old.parts) foreign }
-        ensures { ForeignPlayed S.left S.lent_as S.fault_plan L.read_of foreign
+        ensures { ForeignPlays S.left S.lent_as S.fault_plan L.read_of foreign
             self.old self.new }
     {
         match foreign {
@@ -132,7 +132,7 @@ impl<S: Source, L: LineReader, G: Ledger> Pool<S, L, G> {
     /// Plays operations of others, in order.
     pub(crate) fn play_all(&mut self, foreigns: &Foreigns)
         requires fit { All (IsPlay (length self.old.lanes) (length self.old.parts)) foreigns.now }
-        ensures { AllPlayed S.left S.lent_as S.fault_plan L.read_of foreigns.now
+        ensures { ForeignsPlay S.left S.lent_as S.fault_plan L.read_of foreigns.now
             self.old self.new }
     {
         for foreign in foreigns.items() {

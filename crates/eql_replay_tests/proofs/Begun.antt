@@ -15,7 +15,7 @@ use Rattle.eql_lane.specs.Lanes.{LaneState, Setting, begun, fresh_cut as fresh_l
 use Rattle.eql_lane.specs.declared.make.LaneStart.{LaneStart}
 use Rattle.eql_lane.specs.declared.make.LaneStart.TheVariants as start
 use Rattle.eql_lane.specs.Slacks.{nanos_of}
-use Rattle.eql_lane.specs.Starts.{Made}
+use Rattle.eql_lane.specs.Starts.{BeginsAs}
 use Rattle.eql_lane.specs.Views.{IsTextOf, LaneView}
 use Rattle.eql_parts.specs.Inboxes.{HolderBelow}
 use Rattle.eql_parts.specs.PartSteps.{PartState, PartView, Rules}
@@ -26,7 +26,7 @@ use Rattle.eql_conductor.specs.declared.plan.Keep.{Keep}
 use Rattle.eql_conductor.specs.declared.plan.RunPlan.{RunPlan}
 use Rattle.eql_conductor.specs.LaneRounds.{AreLanes}
 use Rattle.eql_conductor.specs.PartRounds.{AreParts}
-use Rattle.eql_conductor.specs.Openings.{CutRunsBegin, FitMayBegin, FreshRunsBegin, IsBegun, IsPlanned, OpensAt, Opened, begun_part}
+use Rattle.eql_conductor.specs.Openings.{CutRunsBegin, FitMayBegin, FreshRunsBegin, IsBegun, IsPlanned, OpensAt, OpensWith, begun_part}
 use Rattle.eql_conductor.specs.Runs.{MayKeepIf, MayRun}
 use Rattle.eql_replay.specs.Listed.{BenchView, bench_known, known_of, rules_in, set_in}
 use Rattle.eql_replay.specs.Opened.{AreOfTexts}
@@ -37,7 +37,7 @@ use Rattle.eql_replay_tests.proofs.Pushed.{each_more, each_none}
 
 -- ---- lanes
 pub begins_with : {S L : Type 0} (left lent_as : S → Option (List ℕ)) (count : S → ℕ) (source : S) (reader : L) (shard : ℕ) (slack : Option ℕ) (how : LaneStart) (lane : LaneView S L)
-    → Made left lent_as count source reader shard slack how lane → BeginsWith (nanos_of slack) (StartsAs how) shard lane
+    → BeginsAs left lent_as count source reader shard slack how lane → BeginsWith (nanos_of slack) (StartsAs how) shard lane
 begins_with left lent_as count source reader shard slack start.Fresh lane made = record {
   shard = made.shard_is;
   slack_is = made.slack_is;

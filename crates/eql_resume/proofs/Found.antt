@@ -3,7 +3,7 @@ use Rattle.std.proofs.Common.{◌≡◌, ℕ, List, Option, Some, None, Result, 
 use Rattle.std.proofs.lemmas.Option.{none-some}
 use Rattle.eql_values.specs.declared.cut.Pipe.{Pipe}
 use Rattle.eql_outside.specs.Areas.{IsImage, Moment, seen_areas}
-use Rattle.eql_outside.specs.Moments.{History, Told}
+use Rattle.eql_outside.specs.Moments.{History, DiskTells}
 use Rattle.eql_laws.specs.Fitting.{Fits}
 use Rattle.eql_cut.specs.declared.cut.Cut.{Cut}
 use Rattle.eql_cut.specs.declared.cut.CutHead.{CutHead}
@@ -18,7 +18,7 @@ use Rattle.eql_ckdisk.specs.declared.refused.CkRefused.TheVariants as ck
 use Rattle.eql_ckdisk.specs.Cuts.{IsFound}
 use Rattle.eql_ckdisk.specs.Found.{EachFinds, Found, LastCut, found, text}
 use Rattle.eql_ckdisk.specs.Found as areas
-use Rattle.eql_ckdisk.specs.Keeping.{AllKept, all_kept}
+use Rattle.eql_ckdisk.specs.Keeping.{KeepsAll, all_kept}
 use Rattle.eql_ckdisk.specs.Putting.{last_cut}
 use Rattle.eql_ckdisk.specs.Recovering.{IsAnswer, IsNoneOrCut}
 use Rattle.eql_ckdisk.specs.Refusing.{IfDamaged, IsDamaged}
@@ -35,7 +35,7 @@ stands_for last format None f is = is.0
 stands_for last format (Some cut) f is = (last.area, is.0, is.1, is.2)
 
 -- what reads gave, once it is kept
-pub seen_now : (seen : (m : Moment) → IsImage m (seen_areas m)) (P : Found → Type 0) (o p : Option History) → Told AllKept o p
+pub seen_now : (seen : (m : Moment) → IsImage m (seen_areas m)) (P : Found → Type 0) (o p : Option History) → DiskTells KeepsAll o p
     → IfSome p (λ k. EachFinds P k.now) → IfSome o (λ h. P (found (seen_areas h.now)))
 seen_now seen P None None kept each = tt
 seen_now seen P None (Some k) kept each = absurd kept
@@ -43,7 +43,7 @@ seen_now seen P (Some h) None kept each = absurd kept
 seen_now seen P (Some h) (Some k) kept each =
     each (seen_areas h.now) (subst (λ (m : Moment). IsImage m (seen_areas h.now)) (sym kept.now) (seen (all_kept h.now)))
 
-pub held_there : (seen : (m : Moment) → IsImage m (seen_areas m)) (r : Recovered) (o p : Option History) → Told AllKept o p
+pub held_there : (seen : (m : Moment) → IsImage m (seen_areas m)) (r : Recovered) (o p : Option History) → DiskTells KeepsAll o p
     → IfSome p (λ k. EachFinds (IsAnswer r) k.now)
     → IfSome o (λ h. StandsFor (held r.format (last_cut r.state).generation r.cut) (found (seen_areas h.now)))
 held_there seen r o p kept each = by o (seen_now seen (IsAnswer r) o p kept each)
@@ -89,7 +89,7 @@ module _ (stages values : ℕ) (pipes : List Pipe) (head : CutHead) where
   by_refusal ck.Memory (Some h) is = tt
 
   -- a damage of each image now is that of what reads gave
-  damage_seen : (seen : (m : Moment) → IsImage m (seen_areas m)) (e : CkRefused) (o p : Option History) → IfDamaged e (λ number at. Told AllKept o p)
+  damage_seen : (seen : (m : Moment) → IsImage m (seen_areas m)) (e : CkRefused) (o p : Option History) → IfDamaged e (λ number at. DiskTells KeepsAll o p)
       → IfDamaged e (λ number at. IfSome p (λ k. EachFinds (IsDamaged number at) k.now))
       → IfDamaged e (λ number at. IfSome o (λ h. IsDamaged number at (found (seen_areas h.now))))
   damage_seen seen ck.DiskFault o p kept each = tt
@@ -98,7 +98,7 @@ module _ (stages values : ℕ) (pipes : List Pipe) (head : CutHead) where
   damage_seen seen ck.Memory o p kept each = tt
 
   pub refused_there : (seen : (m : Moment) → IsImage m (seen_areas m)) (e : CkRefused) (r : StartRefused) (o p : Option History) → r ≡ refused_by e
-      → IfDamaged e (λ number at. Told AllKept o p) → IfDamaged e (λ number at. IfSome p (λ k. EachFinds (IsDamaged number at) k.now))
+      → IfDamaged e (λ number at. DiskTells KeepsAll o p) → IfDamaged e (λ number at. IfSome p (λ k. EachFinds (IsDamaged number at) k.now))
       → IfSome o (λ h. HasCause (found (seen_areas h.now)) stages values pipes head r)
   refused_there seen e r o p is kept each =
       subst (λ (x : StartRefused). IfSome o (λ h. HasCause (found (seen_areas h.now)) stages values pipes head x)) (sym is)
@@ -125,7 +125,7 @@ module _ (stages values : ℕ) (pipes : List Pipe) (head : CutHead) where
   by_found_cut format generation (Some cut) r None is stands = tt
   by_found_cut format generation (Some cut) r (Some h) is stands = by_cut format generation cut (found (seen_areas h.now)) r stands is
 
-  pub cut_refused : (seen : (m : Moment) → IsImage m (seen_areas m)) (found_cut : Recovered) (r : StartRefused) (o p : Option History) → Told AllKept o p
+  pub cut_refused : (seen : (m : Moment) → IsImage m (seen_areas m)) (found_cut : Recovered) (r : StartRefused) (o p : Option History) → DiskTells KeepsAll o p
       → IfSome p (λ k. EachFinds (IsAnswer found_cut) k.now) → FoundCause stages values pipes head found_cut.cut r
       → IfSome o (λ h. HasCause (found (seen_areas h.now)) stages values pipes head r)
   cut_refused seen found_cut r o p kept each is =

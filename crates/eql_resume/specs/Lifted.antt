@@ -3,7 +3,7 @@ use Rattle.std.specs.Prelude.{◌≡◌, ◌+◌, ℕ, List, [], ◌∷◌, Some
 use Rattle.eql_values.specs.declared.cut.LaneCut.{LaneCut}
 use Rattle.eql_values.specs.declared.cut.Pipe.{Pipe}
 use Rattle.eql_laws.specs.Places.{ReadTo, whole}
-use Rattle.eql_lane.specs.Noting.{Located, placed_cut}
+use Rattle.eql_lane.specs.Noting.{Locates, placed_cut}
 use Rattle.eql_cut.specs.declared.cut.Cut.{Cut}
 use Rattle.eql_cut.specs.Placing.{LinesAscend, lifted, place_of}
 use Rattle.eql_placed.specs.Placed.{placed}
@@ -17,7 +17,7 @@ pub record WasLifted (cut : Cut) (shard : ℕ) (r : ReadTo) (kept : LaneCut) (pl
   pub there : slice_get cut.lanes shard ≡ Some lane
   pub wanted : List ℕ
   pub are : AreWanted cut shard wanted
-  pub located : Located r.first r.rest wanted places
+  pub located : Locates r.first r.rest wanted places
   pub kept_is : kept ≡ placed_cut r.first lane
 
 -- so did the lanes of this shard and of those after it
@@ -28,7 +28,7 @@ WereLifted cut shard (r ∷ shards) (kept ∷ lanes) (places ∷ lists) =
 WereLifted cut shard _ _ _ = ⊥
 
 -- what the lanes keep is what the cut does once it has their places; and these are the places of the whole texts
-pub record LiftedAs (cut : Cut) (shards : List ReadTo) (lanes : List LaneCut) (lists : List (List (ℕ × ℕ))) : Type 0 where
+pub record LiftsAs (cut : Cut) (shards : List ReadTo) (lanes : List LaneCut) (lists : List (List (ℕ × ℕ))) : Type 0 where
   pub ascend : LinesAscend lists
   pub lanes_are : lanes ≡ (lifted (place_of lists) cut).lanes
   pub placed_is : lifted (place_of lists) cut ≡ placed (map whole shards) cut
@@ -38,4 +38,4 @@ abbrev pub LiftedIsCut : Type 0
 LiftedIsCut =
     (stages values : ℕ) (pipes : List Pipe) (cut : Cut) (shards : List ReadTo) (lanes : List LaneCut) (lists : List (List (ℕ × ℕ)))
     → Suits stages values pipes cut.head cut → length lanes ≡ length cut.lanes → WereLifted cut 0 shards lanes lists
-    → LiftedAs cut shards lanes lists
+    → LiftsAs cut shards lanes lists

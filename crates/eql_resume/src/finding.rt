@@ -1,14 +1,14 @@
 //! The cut that a disk holds, tested against the run that is to go on from it.
 ghost use Rattle.std.specs.Prelude.{◌≡◌, ◌≢◌, ◌≤◌, Err, IfErr, IfOk, IfSome, None, OnOk};
 ghost use Rattle.eql_outside.specs.Areas.{seen_areas};
-ghost use Rattle.eql_outside.specs.Moments.{Told};
+ghost use Rattle.eql_outside.specs.Moments.{DiskTells};
 ghost use Rattle.eql_outside.specs.Outside.{Rose};
 ghost use Rattle.eql_outside.specs.Unfailing.{IsUnfailing};
 ghost use Rattle.eql_cut.specs.Fitting.{FitsRun};
 ghost use Rattle.eql_cut.specs.Placing.{IsUnplaced, orders_in};
 ghost use Rattle.eql_ckdisk.specs.Found.{found};
 ghost use Rattle.eql_ckdisk.specs.Going.{Goes};
-ghost use Rattle.eql_ckdisk.specs.Keeping.{AllKept, NoMore};
+ghost use Rattle.eql_ckdisk.specs.Keeping.{KeepsAll, NoMore};
 ghost use Rattle.eql_ckdisk.specs.Putting.{Stands, last_cut};
 ghost use Rattle.eql_runs.specs.Starts.{StandsFor};
 ghost use Rattle.eql_resume.specs.Finding.{CutCause, FoundCause, HasCause, Suits, on_of, refused_by};
@@ -135,8 +135,8 @@ pub fn find_start<D: Disk>(
         (λ h. HasCause (found (seen_areas h.now)) stages values pipes.now head.now refused)) }
 
     // At each moment of the call each image is one of those at its start.
-    ensures moments { Told (Goes NoMore) (D.history disk.old) (D.history disk.new) }
-    ensures kept { OnOk result (Told AllKept (D.history disk.old) (D.history disk.new)) }
+    ensures moments { DiskTells (Goes NoMore) (D.history disk.old) (D.history disk.new) }
+    ensures kept { OnOk result (DiskTells KeepsAll (D.history disk.old) (D.history disk.new)) }
 
     // The disk's count rises where its fault is answered, and nowhere else.
     ensures fault { result ≡ Err StartRefused.Disk

@@ -9,7 +9,7 @@ use Rattle.eql_values.specs.declared.order.OrderKey.{OrderKey}
 use Rattle.eql_values.specs.declared.reader.LineGot.{LineGot}
 use Rattle.eql_values.specs.declared.reader.LineGot.TheVariants as got
 use Rattle.eql_values.specs.Accepted.{Reads, accepted, event_at, readable, sorted_items}
-use Rattle.eql_values.specs.Ascending.{AllAfter, Ascending}
+use Rattle.eql_values.specs.Ascending.{AllAfter, Ascend}
 use Rattle.eql_values.specs.Lines.{Line, lines_of, numbered_lines}
 use Rattle.eql_values.specs.Marks.{is_below, low_of}
 use Rattle.eql_laws.specs.Belows.{HasRoutesInOrder, IsReading, from_to}
@@ -72,7 +72,7 @@ none_accepted mark slack best (item ∷ items) le =
     (at_most_trans mark (low_of false slack best) (low_of false slack (Some (larger item.order.ts best))) le (low_up slack best item.order.ts)))
 
 -- ---- events in order
-routes_of_ascending : (items : List Item) → Ascending items → All HasRoutesInOrder items
+routes_of_ascending : (items : List Item) → Ascend items → All HasRoutesInOrder items
 routes_of_ascending [] h = All-nil HasRoutesInOrder
 routes_of_ascending (item ∷ items) h = All-cons HasRoutesInOrder item items h.0 (routes_of_ascending items h.2)
 
@@ -84,12 +84,12 @@ after_filter : (p : Item → Bool) (event : OrderKey) (items : List Item) → Al
 after_filter p event [] h = tt
 after_filter p event (item ∷ items) h = after_one (p item) event item (filter p items) (h.0, tt) (after_filter p event items h.1)
 
-ascends_one : (b : Bool) (item : Item) (items : List Item) → HasRoutesInOrder item → AllAfter item.order items → Ascending items → Ascending (cond b (item ∷ items) items)
+ascends_one : (b : Bool) (item : Item) (items : List Item) → HasRoutesInOrder item → AllAfter item.order items → Ascend items → Ascend (cond b (item ∷ items) items)
 ascends_one true item items h k asc = (h, k, asc)
 ascends_one false item items h k asc = asc
 
 -- what is left of ascending events ascends
-ascends_filter : (p : Item → Bool) (items : List Item) → Ascending items → Ascending (filter p items)
+ascends_filter : (p : Item → Bool) (items : List Item) → Ascend items → Ascend (filter p items)
 ascends_filter p [] h = tt
 ascends_filter p (item ∷ items) h =
     ascends_one (p item) item (filter p items) h.0 (after_filter p item.order items h.1) (ascends_filter p items h.2)
@@ -117,7 +117,7 @@ module _ (set : Setting) (mark : Mark) (old : LaneState) (n : ℕ) (new : LaneSt
 
   pub reads_hold : Holds set mark new
   reads_hold = record {
-    ascends = subst Ascending (sym items_are) (sorted_ascends (old.cut.items ++ taken)
+    ascends = subst Ascend (sym items_are) (sorted_ascends (old.cut.items ++ taken)
         (All-append HasRoutesInOrder old.cut.items taken (routes_of_ascending old.cut.items h.ascends)
         (All-weaker (IsRead set.shard) HasRoutesInOrder (λ item is. is.1) taken read_are)));
     of_shard = subst (All (IsOfShard set.shard)) (sym items_are) (All-sorted (IsOfShard set.shard) (old.cut.items ++ taken)
@@ -186,7 +186,7 @@ module _ (text : Option (List ℕ)) (set : Setting) (from to : Mark) (old : Lane
 
   holds_then : Holds set to new
   holds_then = record {
-    ascends = subst Ascending (sym items_left) (ascends_filter (λ item. not (is_below to item)) old.cut.items at.holds.ascends);
+    ascends = subst Ascend (sym items_left) (ascends_filter (λ item. not (is_below to item)) old.cut.items at.holds.ascends);
     of_shard = subst (All (IsOfShard set.shard)) (sym items_left) (All-filter (λ item. not (is_below to item)) (IsOfShard set.shard) old.cut.items at.holds.of_shard);
     none_below = subst (NoneBelow to) (sym items_left) (passes_not (is_below to) old.cut.items);
     safe = subst (λ (cut : LaneCut). AtMost to (low_of cut.closed set.slack cut.best)) (sym step.cut) safe;
@@ -194,7 +194,7 @@ module _ (text : Option (List ℕ)) (set : Setting) (from to : Mark) (old : Lane
 
   hands_then : (told : IfSome text (λ t. items ≡ sorted_items (from_to from to (accepted set.reads set.slack set.shard t)))) → HandsOver text set from to items
   hands_then told = record {
-    ascends = subst Ascending (sym step.items_are) (ascends_filter (is_below to) old.cut.items at.holds.ascends);
+    ascends = subst Ascend (sym step.items_are) (ascends_filter (is_below to) old.cut.items at.holds.ascends);
     of_shard = subst (All (IsOfShard set.shard)) (sym step.items_are) (All-filter (is_below to) (IsOfShard set.shard) old.cut.items at.holds.of_shard);
     none_below = subst (NoneBelow from) (sym step.items_are) (All-filter (is_below to) (λ (x : Item). is_below from x ≡ false) old.cut.items at.holds.none_below);
     below = subst (AllBelow to) (sym step.items_are) (filter_passes (is_below to) old.cut.items);

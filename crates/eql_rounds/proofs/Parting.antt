@@ -6,7 +6,7 @@ use Rattle.std.proofs.lemmas.List.Elements.{All-append, All-cons, All-head, All-
 use Rattle.eql_values.specs.declared.item.Item.{Item}
 use Rattle.eql_values.specs.declared.found.Holder.{Holder}
 use Rattle.eql_values.specs.declared.order.Mark.{Mark}
-use Rattle.eql_values.specs.Ascending.{Ascending}
+use Rattle.eql_values.specs.Ascending.{Ascend}
 use Rattle.eql_values.specs.Marks.{is_below}
 use Rattle.eql_values.specs.Matching.{after, matches}
 use Rattle.eql_laws.specs.Alive.{HoldersInOrder, IsSpan}
@@ -18,7 +18,7 @@ use Rattle.eql_laws.proofs.Splitting.{after_split, matches_split}
 use Rattle.eql_laws.proofs.Togethers.{ascend_together}
 use Rattle.eql_parts.specs.declared.ops.PartReply.TheVariants.{Done, Turned, Idle, Found, Cut, Memory}
 use Rattle.eql_parts.specs.PartSteps.{Rules, PartState, Plays, alive_by, done_by, last_time, mark_time, still_held}
-use Rattle.eql_rounds.specs.PartRounds.{PartIs, FromBy, TimeTo, ReachTo, TurnedOn, TurnKeepsPart, DeliverMovesPart, CollectMovesPart, CollectedAll}
+use Rattle.eql_rounds.specs.PartRounds.{PartIs, FromBy, TimeTo, ReachTo, TurnKeeps, TurnKeepsPart, DeliverMovesPart, CollectMovesPart, CollectsAll}
 use Rattle.eql_rounds.proofs.Reaching.{time_self, time_on, reach_up, from_pieces, from_join, from_mark, last_from, last_to, time_rises, last_reach, left_order, by_later, by_still, alike_later, alike_find, SettlesAt, settles_at}
 
 -- what holds of all of two lists holds of each
@@ -34,7 +34,7 @@ backs P (x ∷ xs) ys h = backs P xs ys (All-tail P x (xs ++ ys) h)
 module _ (rules : Rules) (own : List Holder) (delivered : List Item) (mark : Mark) (new : PartState) (hs : List Holder) (done : Mark) (played : List Item) (reach : Option ℤ)
     (split : delivered ≡ played ++ new.inbox) (found : new.found ≡ matches rules.stages rules.span own played) (order : HoldersInOrder hs)
     (alike : alive_by rules.span reach hs ≡ alive_by rules.span reach (after rules.stages rules.span own played))
-    (ascends : Ascending new.inbox) (below : AllBelow mark new.inbox) (waits : FromBy reach new.inbox) (to : ReachTo reach mark)
+    (ascends : Ascend new.inbox) (below : AllBelow mark new.inbox) (waits : FromBy reach new.inbox) (to : ReachTo reach mark)
     (processed : TimeTo new.processed reach) (done_to : TimeTo (mark_time done) reach)
     (held_is : new.held ≡ still_held rules.span new.processed new.done hs) (done_is : new.done ≡ done_by new.inbox done mark) (last : new.last ≡ mark) where
   pub settled : PartIs rules own delivered mark new
@@ -74,8 +74,8 @@ module _ (rules : Rules) (own : List Holder) (delivered : List Item) (mark : Mar
   abbrev before : List Holder
   before = after rules.stages rules.span own is.played
 
-  asc : Ascending (more ++ new.inbox)
-  asc = subst Ascending plays.inbox is.ascends
+  asc : Ascend (more ++ new.inbox)
+  asc = subst Ascend plays.inbox is.ascends
 
   all_below : AllBelow mark (more ++ new.inbox)
   all_below = subst (AllBelow mark) plays.inbox is.below
@@ -118,15 +118,15 @@ module _ (rules : Rules) (own : List Holder) (delivered : List Item) (mark : Mar
       (plays.done ∙ ap (done_by new.inbox old.done) is.last)
       (plays.last ∙ is.last)
 
-  pub plays_on : TurnedOn rules own delivered mark old new
+  pub plays_on : TurnKeeps rules own delivered mark old new
   plays_on = record {
     is = played_on;
     fewer = let e = ap (λ (l : List Item). length l) plays.inbox ∙ length-append more new.inbox in omega (arith, e);
   }
 
 unturned : (rules : Rules) (own : List Holder) (delivered : List Item) (mark : Mark) (old new : PartState) → new ≡ old
-    → PartIs rules own delivered mark old → TurnedOn rules own delivered mark old new
-unturned rules own delivered mark old new e is = subst (TurnedOn rules own delivered mark old) (sym e) (record { is = is; fewer = omega arith })
+    → PartIs rules own delivered mark old → TurnKeeps rules own delivered mark old new
+unturned rules own delivered mark old new e is = subst (TurnKeeps rules own delivered mark old) (sym e) (record { is = is; fewer = omega arith })
 
 pub turn_keeps_part : TurnKeepsPart
 turn_keeps_part rules own delivered mark old max (Turned n) new span step is = plays_on rules own delivered mark old new n span step.0 is
@@ -145,7 +145,7 @@ deliver_moves_part rules own delivered items from to old new le asc none all ste
     (step.found ∙ is.found)
     is.order
     is.alike
-    (subst Ascending (sym inbox) (ascend_together from old.inbox items is.ascends asc is.below none))
+    (subst Ascend (sym inbox) (ascend_together from old.inbox items is.ascends asc is.below none))
     (subst (AllBelow to) (sym inbox)
     (All-append (λ (item : Item). is_below to item ≡ true) old.inbox items
     (All-weaker (λ (item : Item). is_below from item ≡ true) (λ (item : Item). is_below to item ≡ true) (λ item e. below_up from to item le e) old.inbox is.below) all))
@@ -163,7 +163,7 @@ collect_moves_part rules own delivered mark done old found new empty step is =
     let all : is.played ≡ delivered = sym (append-nil is.played) ∙ ap (λ (l : List Item). is.played ++ l) (sym empty) ∙ sym is.split in
     let then : after rules.stages rules.span own is.played ≡ after rules.stages rules.span (after rules.stages rules.span own delivered) [] =
     ap (after rules.stages rules.span own) (all ∙ sym (append-nil delivered)) ∙ after_split rules.stages rules.span own delivered [] in
-    subst (CollectedAll rules own delivered mark found) (sym step.2) (record {
+    subst (CollectsAll rules own delivered mark found) (sym step.2) (record {
       found_is = step.0 ∙ is.found ∙ ap (matches rules.stages rules.span own) all;
       is = record {
         played = [];

@@ -7,7 +7,7 @@ use Rattle.eql_values.specs.declared.item.Item.{Item}
 use Rattle.eql_values.specs.declared.found.Holder.{Holder}
 use Rattle.eql_values.specs.declared.order.Mark.{Mark}
 use Rattle.eql_values.specs.declared.order.Mark.TheVariants.{Start, At, End}
-use Rattle.eql_values.specs.Ascending.{Ascending}
+use Rattle.eql_values.specs.Ascending.{Ascend}
 use Rattle.eql_values.specs.Marks.{is_below}
 use Rattle.eql_values.specs.Matching.{after, matches}
 use Rattle.eql_laws.specs.Alive.{HoldersInOrder, IsSpan, ItemsFrom}
@@ -66,7 +66,7 @@ from_mark (Some r) End [] h none = tt
 from_mark (Some r) End (x ∷ items) h none = let e = All-head (λ (item : Item). is_below End item ≡ false) x items none in cc
 
 -- ---- the time of the last event
-pub last_from : (time : Option ℤ) (items rest : List Item) → Ascending (items ++ rest) → FromBy time (items ++ rest) → FromBy (last_time time items) rest
+pub last_from : (time : Option ℤ) (items rest : List Item) → Ascend (items ++ rest) → FromBy time (items ++ rest) → FromBy (last_time time items) rest
 last_from time [] rest asc h = h
 last_from time (x ∷ items) rest asc h = last_from (Some x.order.ts) items rest asc.2 (times_after x.order (items ++ rest) asc.1)
 
@@ -78,7 +78,7 @@ first_from : (time : Option ℤ) (x : Item) (items : List Item) → FromBy time 
 first_from None x items h = tt
 first_from (Some t) x items h = h.0
 
-pub time_rises : (time : Option ℤ) (items : List Item) → Ascending items → FromBy time items → TimeTo time (last_time time items)
+pub time_rises : (time : Option ℤ) (items : List Item) → Ascend items → FromBy time items → TimeTo time (last_time time items)
 time_rises time [] asc h = time_self time
 time_rises time (x ∷ items) asc h =
     time_on time (Some x.order.ts) (last_time (Some x.order.ts) items) (first_from time x items h)

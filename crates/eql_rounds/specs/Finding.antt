@@ -3,7 +3,7 @@ use Rattle.std.specs.Prelude.{◌≡◌, ℕ, List, map, All}
 use Rattle.eql_values.specs.declared.item.Item.{Item}
 use Rattle.eql_values.specs.declared.found.Match.{Match}
 use Rattle.eql_values.specs.declared.found.Holder.{Holder}
-use Rattle.eql_values.specs.Ascending.{Ascending}
+use Rattle.eql_values.specs.Ascending.{Ascend}
 use Rattle.eql_values.specs.Matching.{after, matches}
 use Rattle.eql_values.specs.Ordered.{numbers}
 use Rattle.eql_values.specs.Routing.{routed}
@@ -30,4 +30,4 @@ pub record RoundFinds (rules : Rules) (all : List Holder) (items : List Item) : 
   pub own_then : (p : ℕ) → after rules.stages rules.span (own_of all p) (routed part_number p items) ≡ own_of (after rules.stages rules.span all items) p
 
 abbrev pub RoundsFind : Type 0
-RoundsFind = (rules : Rules) (all : List Holder) (items : List Item) → Ascending items → RoundFinds rules all items
+RoundsFind = (rules : Rules) (all : List Holder) (items : List Item) → Ascend items → RoundFinds rules all items

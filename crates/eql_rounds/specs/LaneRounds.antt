@@ -3,7 +3,7 @@ use Rattle.std.specs.Prelude.{◌≡◌, ℕ, List, Option, Some, IfSome, All}
 use Rattle.eql_values.specs.declared.item.Item.{Item}
 use Rattle.eql_values.specs.declared.order.Mark.{Mark}
 use Rattle.eql_values.specs.Accepted.{accepted, sorted_items}
-use Rattle.eql_values.specs.Ascending.{Ascending}
+use Rattle.eql_values.specs.Ascending.{Ascend}
 use Rattle.eql_laws.specs.Belows.{IsReading, from_to}
 use Rattle.eql_laws.specs.Lateness.{AtMost}
 use Rattle.eql_laws.specs.Together.{AllBelow, NoneBelow}
@@ -17,7 +17,7 @@ IsOfShard shard item = item.order.shard ≡ shard
 
 -- the held events ascend, are of the lane's shard, and none is below the mark, which is at most the lane's low
 pub record Holds (set : Setting) (mark : Mark) (x : LaneState) : Type 0 where
-  pub ascends : Ascending x.cut.items
+  pub ascends : Ascend x.cut.items
   pub of_shard : All (IsOfShard set.shard) x.cut.items
   pub none_below : NoneBelow mark x.cut.items
   pub safe : AtMost mark (low set x)
@@ -34,7 +34,7 @@ pub record LaneAt (text : Option (List ℕ)) (set : Setting) (mark : Mark) (x : 
 
 -- what a lane hands out from one mark on and below another: it ascends, is of the lane's shard, and is what the text has there
 pub record HandsOver (text : Option (List ℕ)) (set : Setting) (from to : Mark) (items : List Item) : Type 0 where
-  pub ascends : Ascending items
+  pub ascends : Ascend items
   pub of_shard : All (IsOfShard set.shard) items
   pub none_below : NoneBelow from items
   pub below : AllBelow to items
@@ -46,11 +46,11 @@ FeedKeepsLane = (text : Option (List ℕ)) (set : Setting) (mark : Mark) (old : 
     → IsReading set.reads → FeedStep set old max reply new → LaneAt text set mark old → LaneAt text set mark new
 
 -- a take up to a greater mark that is at most the low hands out what lies between, and what is known then is of that mark
-pub record TakenTo (text : Option (List ℕ)) (set : Setting) (from to : Mark) (items : List Item) (new : LaneState) : Type 0 where
+pub record TakesTo (text : Option (List ℕ)) (set : Setting) (from to : Mark) (items : List Item) (new : LaneState) : Type 0 where
   pub hands : HandsOver text set from to items
   pub at : LaneAt text set to new
 
 abbrev pub TakeMovesLane : Type 0
 TakeMovesLane = (text : Option (List ℕ)) (set : Setting) (from to : Mark) (old : LaneState) (items : List Item) (new : LaneState)
     → AtMost from to → AtMost to (low set old) → Takes old (lesser to (low set old)) items new → LaneAt text set from old
-    → TakenTo text set from to items new
+    → TakesTo text set from to items new

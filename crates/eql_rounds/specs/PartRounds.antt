@@ -5,7 +5,7 @@ use Rattle.eql_values.specs.declared.found.Match.{Match}
 use Rattle.eql_values.specs.declared.found.Holder.{Holder}
 use Rattle.eql_values.specs.declared.order.Mark.{Mark}
 use Rattle.eql_values.specs.declared.order.Mark.TheVariants.{Start, At, End}
-use Rattle.eql_values.specs.Ascending.{Ascending}
+use Rattle.eql_values.specs.Ascending.{Ascend}
 use Rattle.eql_values.specs.Matching.{after, matches}
 use Rattle.eql_laws.specs.Alive.{HoldersInOrder, IsSpan, ItemsFrom}
 use Rattle.eql_laws.specs.Lateness.{AtMost}
@@ -40,7 +40,7 @@ pub record PartIs (rules : Rules) (own : List Holder) (delivered : List Item) (m
   pub order : HoldersInOrder x.held
   pub reach : Option ℤ
   pub alike : alive_by rules.span reach x.held ≡ alive_by rules.span reach (after rules.stages rules.span own played)
-  pub ascends : Ascending x.inbox
+  pub ascends : Ascend x.inbox
   pub below : AllBelow mark x.inbox
   pub waits : FromBy reach x.inbox
   pub to : ReachTo reach mark
@@ -51,25 +51,25 @@ pub record PartIs (rules : Rules) (own : List Holder) (delivered : List Item) (m
   pub last : x.last ≡ mark
 
 -- each turn keeps it, and no event comes to the inbox
-pub record TurnedOn (rules : Rules) (own : List Holder) (delivered : List Item) (mark : Mark) (old new : PartState) : Type 0 where
+pub record TurnKeeps (rules : Rules) (own : List Holder) (delivered : List Item) (mark : Mark) (old new : PartState) : Type 0 where
   pub is : PartIs rules own delivered mark new
   pub fewer : length new.inbox ≤ length old.inbox
 
 abbrev pub TurnKeepsPart : Type 0
 TurnKeepsPart = (rules : Rules) (own : List Holder) (delivered : List Item) (mark : Mark) (old : PartState) (max : ℕ) (reply : PartReply) (new : PartState)
-    → IsSpan rules.span → TurnStep rules old max reply new → PartIs rules own delivered mark old → TurnedOn rules own delivered mark old new
+    → IsSpan rules.span → TurnStep rules old max reply new → PartIs rules own delivered mark old → TurnKeeps rules own delivered mark old new
 
 -- a delivery of events from the mark on and below a greater one puts them behind what was delivered
 abbrev pub DeliverMovesPart : Type 0
 DeliverMovesPart = (rules : Rules) (own : List Holder) (delivered items : List Item) (from to : Mark) (old new : PartState)
-    → AtMost from to → Ascending items → NoneBelow from items → AllBelow to items
+    → AtMost from to → Ascend items → NoneBelow from items → AllBelow to items
     → DeliverStep rules old items to Done new → PartIs rules own delivered from old → PartIs rules own (delivered ++ items) to new
 
 -- a collection where nothing waits gives all matches of what was delivered; what is pending after it is the part's own then
-pub record CollectedAll (rules : Rules) (own : List Holder) (delivered : List Item) (mark : Mark) (found : List Match) (new : PartState) : Type 0 where
+pub record CollectsAll (rules : Rules) (own : List Holder) (delivered : List Item) (mark : Mark) (found : List Match) (new : PartState) : Type 0 where
   pub found_is : found ≡ matches rules.stages rules.span own delivered
   pub is : PartIs rules (after rules.stages rules.span own delivered) [] mark new
 
 abbrev pub CollectMovesPart : Type 0
 CollectMovesPart = (rules : Rules) (own : List Holder) (delivered : List Item) (mark done : Mark) (old : PartState) (found : List Match) (new : PartState)
-    → old.inbox ≡ [] → CollectStep old (Found found done) new → PartIs rules own delivered mark old → CollectedAll rules own delivered mark found new
+    → old.inbox ≡ [] → CollectStep old (Found found done) new → PartIs rules own delivered mark old → CollectsAll rules own delivered mark found new

@@ -17,7 +17,7 @@ use Rattle.eql_parser.specs.declared.refusal.ParseRefused.{ParseRefused}
 use Rattle.eql_parser.specs.Limits.{levels, OpensAtMost}
 use Rattle.eql_parser.specs.QueryGrammar.{IsQuery}
 use Rattle.eql_query.specs.QueryTree.{QueryTree}
-use Rattle.eql_parser.specs.Refusing.{IsMemory, Refused}
+use Rattle.eql_parser.specs.Refusing.{IsMemory, RefusesTokens}
 use Rattle.eql_check.specs.Kinds.{kind_at}
 use Rattle.eql_check.specs.Mappings.{mapping_of}
 use Rattle.eql_check.specs.Rules.{first_broken}
@@ -34,7 +34,7 @@ SpelledOrBroken text = ((ts : List Token) × Spells text ts) ⊎ ((r : Rule) × 
 abbrev QueryOrRefused : List Token → Type 0
 QueryOrRefused tokens =
     ((q : QueryTree) × IsQuery tokens q × (levels q ≤ 64) × OpensAtMost 128 tokens)
-    ⊎ ((r : ParseRefused) × (IsMemory r → ⊥) × Refused tokens r)
+    ⊎ ((r : ParseRefused) × (IsMemory r → ⊥) × RefusesTokens tokens r)
 
 -- the laws on which this rests
 pub record CoverLaws : Type 0 where

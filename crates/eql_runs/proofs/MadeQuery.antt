@@ -22,7 +22,7 @@ use Rattle.eql_check.specs.Kinds.{kind_at}
 use Rattle.eql_check.specs.Mappings.{mapping_of}
 use Rattle.eql_check.specs.Rules.{first_broken}
 use Rattle.eql_check.specs.Typing.{ExactlyChecked}
-use Rattle.eql_runs.specs.Files.{HasTokens, ReadAs}
+use Rattle.eql_runs.specs.Files.{HasTokens, ReadsAs}
 use Rattle.eql_runs.specs.SummaryExamples.{made_tree, made_kinds, made_search}
 use Rattle.eql_runs.specs.RunLaws.{MadeIsASearch}
 use Rattle.eql_runs.specs.Summaries.{made_query, made_mapping}
@@ -275,7 +275,7 @@ is_read : query (kinds made_tokens) ≡ Ok (made_tree, [])
 unfolding lib.Utf8.encode separated dotted chain_from unary neg expr items pipes
 is_read = refl
 
-is_read_so : ReadAs made_tokens made_tree
+is_read_so : ReadsAs made_tokens made_tree
 is_read_so = record {
   is_query = found_by made_tokens made_tree [] is_read;
   shallow = levels_by made_tokens made_tree [] is_read;

@@ -12,12 +12,12 @@ use Rattle.eql_lexer.specs.Refusing.{BreaksAt, refusal_of}
 use Rattle.eql_parser.specs.declared.refusal.ParseRefused.{ParseRefused}
 use Rattle.eql_query.specs.QueryTree.{QueryTree}
 use Rattle.eql_parser.specs.QueryGrammar.{IsQuery}
-use Rattle.eql_parser.specs.Refusing.{Refused, IsMemory}
+use Rattle.eql_parser.specs.Refusing.{RefusesTokens, IsMemory}
 use Rattle.eql_parser.proofs.Refusals.{memory_alone}
 use Rattle.eql_check.specs.declared.mapping.MapRefused.{MapRefused}
 use Rattle.eql_check.specs.Mappings.{mapping_of}
 use Rattle.eql_check.specs.Typing.{ExactlyChecked}
-use Rattle.eql_runs.specs.Files.{Files, first_missing, HasTokens, NoTokens, too_long, not_utf8, breaks, ReadAs, NotRead, HasQueryTokens, HasQuery, HasMapping, HasTexts}
+use Rattle.eql_runs.specs.Files.{Files, first_missing, HasTokens, NoTokens, too_long, not_utf8, breaks, ReadsAs, IsNotRead, HasQueryTokens, HasQuery, HasMapping, HasTexts}
 
 -- the laws of tokens, queries and checks on which the causes rest
 pub record QueryLaws : Type 0 where
@@ -25,8 +25,8 @@ pub record QueryLaws : Type 0 where
   pub none_spelled : (text : List ℕ) (r : Rule) (at : ℕ) (us : List Token) → BreaksAt text r at → Spells text us → ⊥
   pub one_break : (text : List ℕ) (r s : Rule) (at to : ℕ) → BreaksAt text r at → BreaksAt text s to → (r ≡ s) × (at ≡ to)
   pub one_query : (tokens : List Token) (p q : QueryTree) → IsQuery tokens p → IsQuery tokens q → p ≡ q
-  pub one_refusal : (tokens : List Token) (r s : ParseRefused) → (IsMemory r → ⊥) → (IsMemory s → ⊥) → Refused tokens r
-      → Refused tokens s → r ≡ s
+  pub one_refusal : (tokens : List Token) (r s : ParseRefused) → (IsMemory r → ⊥) → (IsMemory s → ⊥) → RefusesTokens tokens r
+      → RefusesTokens tokens s → r ≡ s
   pub exact : ExactlyChecked
 
 -- a file has one text
@@ -59,11 +59,11 @@ one_cause laws text _ _ (breaks short utf8 rule at b) (breaks few utf other to d
     ap (λ x. refusal_of x at) one.0 ∙ ap (λ n. refusal_of other n) one.1
 
 -- tokens are a query within the limits, or they aren't
-pub read_or_not : (tokens : List Token) (q : QueryTree) (r : ParseRefused) → ReadAs tokens q → NotRead tokens r → ⊥
+pub read_or_not : (tokens : List Token) (q : QueryTree) (r : ParseRefused) → ReadsAs tokens q → IsNotRead tokens r → ⊥
 read_or_not tokens q r read (h, denied) = denied (memory_alone tokens q r read.is_query read.shallow read.few_open h)
 
 -- two refusals of tokens are the same
-pub agree : (laws : QueryLaws) (tokens : List Token) (r s : ParseRefused) → NotRead tokens r → NotRead tokens s → r ≡ s
+pub agree : (laws : QueryLaws) (tokens : List Token) (r s : ParseRefused) → IsNotRead tokens r → IsNotRead tokens s → r ≡ s
 agree laws tokens r s a b = laws.one_refusal tokens r s a.1 b.1 a.0 b.0
 
 -- the query file has one list of tokens and is one query

@@ -11,7 +11,7 @@ use Rattle.eql_check.specs.Kinds.{kind_at}
 use Rattle.eql_check.specs.Rules.{first_broken}
 use Rattle.eql_words.specs.declared.commands.Command.{Command}
 use Rattle.eql_words.specs.Commands.{command_of}
-use Rattle.eql_runs.specs.Files.{Files, first_missing, HasTokens, NoTokens, ReadAs, NotRead, HasQueryTokens, HasQuery, HasBoth, HasChecked}
+use Rattle.eql_runs.specs.Files.{Files, first_missing, HasTokens, NoTokens, ReadsAs, IsNotRead, HasQueryTokens, HasQuery, HasBoth, HasChecked}
 use Rattle.eql_runs.specs.Refusals.{Names, Refusal, Refuses, refusal_status, no_file, lex, parse, mapping, broken, no_query, not_spelled, not_read, no_fields, bad_mapping, is_broken, no_shard}
 use Rattle.eql_runs.specs.RunLaws.{SameRefusal, same, other_place}
 use Rattle.eql_runs.proofs.Reading.{QueryLaws, one_text, missing_text, has_or_not, one_cause, read_or_not, agree, one_tokens, one_query, one_mapping, one_bad_mapping, mapping_or_not}
@@ -115,7 +115,7 @@ module _ (laws : QueryLaws) (names : Names) (files : Files) where
       (one_text names.query files h.spelled.text text h.spelled.there is) h.spelled.has)
   stops _ (not_read tokens has r denied) h =
       let one : h.query.tokens ≡ tokens = one_tokens laws names.query files h.query.tokens tokens h.query.spelled has in
-      read_or_not tokens h.tree r (subst (λ (x : List Token). ReadAs x h.tree) one h.query.read) denied
+      read_or_not tokens h.tree r (subst (λ (x : List Token). ReadsAs x h.tree) one h.query.read) denied
   stops _ (no_fields q has none) h = missing_text names.fields files h.fields.text none h.fields.there
   stops _ (bad_mapping q has text is r bad) h =
       mapping_or_not names.fields files h.kinds text r h.both.mapping_there is bad
@@ -143,7 +143,7 @@ module _ (laws : QueryLaws) (names : Names) (files : Files) where
       same_of (lex r) (lex s) (ap lex (one_cause laws other r s one gone))
   same_there _ _ (not_read tokens has r denied) (not_read others had s refused) e =
       let one : tokens ≡ others = one_tokens laws names.query files tokens others has had in
-      same_of (parse r) (parse s) (ap parse (agree laws others r s (subst (λ (x : List Token). NotRead x r) one denied) refused))
+      same_of (parse r) (parse s) (ap parse (agree laws others r s (subst (λ (x : List Token). IsNotRead x r) one denied) refused))
   same_there _ _ (no_fields q has none) (no_fields p had gone) e = same
   same_there _ _ (bad_mapping q has text is r bad) (bad_mapping p had other there s worse) e =
       same_of (mapping r) (mapping s)

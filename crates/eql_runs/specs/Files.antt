@@ -16,7 +16,7 @@ use Rattle.eql_parser.specs.declared.refusal.ParseRefused.{ParseRefused}
 use Rattle.eql_query.specs.QueryTree.{QueryTree}
 use Rattle.eql_parser.specs.QueryGrammar.{IsQuery}
 use Rattle.eql_parser.specs.Limits.{levels, OpensAtMost}
-use Rattle.eql_parser.specs.Refusing.{Refused, IsMemory}
+use Rattle.eql_parser.specs.Refusing.{RefusesTokens, IsMemory}
 use Rattle.eql_check.specs.Kinds.{kind_at}
 use Rattle.eql_check.specs.Mappings.{mapping_of}
 use Rattle.eql_check.specs.Typing.{IsChecked}
@@ -50,14 +50,14 @@ pub data NoTokens (text : List ℕ) : LexRefused → Type 0 where
 
 -- the tokens are this query, which has at most 64 levels, and in them at most 128 parentheses stand
 -- open
-pub record ReadAs (tokens : List Token) (query : QueryTree) : Type 0 where
+pub record ReadsAs (tokens : List Token) (query : QueryTree) : Type 0 where
   pub is_query : IsQuery tokens query
   pub shallow : levels query ≤ 64
   pub few_open : OpensAtMost 128 tokens
 
 -- why tokens are no query within these limits
-abbrev pub NotRead : List Token → ParseRefused → Type 0
-NotRead tokens r = Refused tokens r × ¬ (IsMemory r)
+abbrev pub IsNotRead : List Token → ParseRefused → Type 0
+IsNotRead tokens r = RefusesTokens tokens r × ¬ (IsMemory r)
 
 -- the query file of this name is there, and its text spells these tokens
 pub record HasQueryTokens (name : List ℕ) (files : Files) (tokens : List Token) : Type 0 where
@@ -69,7 +69,7 @@ pub record HasQueryTokens (name : List ℕ) (files : Files) (tokens : List Token
 pub record HasQuery (name : List ℕ) (files : Files) (query : QueryTree) : Type 0 where
   pub tokens : List Token
   pub spelled : HasQueryTokens name files tokens
-  pub read : ReadAs tokens query
+  pub read : ReadsAs tokens query
 
 -- the fields file of this name is there and is this mapping
 pub record HasMapping (name : List ℕ) (files : Files) (mapping : List (List ℕ × Kind)) : Type 0 where

@@ -82,8 +82,8 @@ OneStatus =
     → IsRefused words files on s → refusal_status r ≡ refusal_status s
 
 -- no run writes anything over words, files and a disk that are refused
-abbrev pub ListedOrRefused : Type 0
-ListedOrRefused =
+abbrev pub WritesOrIsRefused : Type 0
+WritesOrIsRefused =
     (words : List (List ℕ)) (files : Files) (on : OnDisk) (bytes report : List ℕ) (r : Refusal)
     → Writes words files on bytes report → IsRefused words files on r → ⊥
 
@@ -99,15 +99,15 @@ NoRunIsLeftOut =
     → (bytes report : List ℕ) × Writes words files on bytes report))
 
 -- files that are all there, with a query that is checked, aren't refused
-abbrev pub AcceptedOrRefused : Type 0
-AcceptedOrRefused =
+abbrev pub CheckedIsAccepted : Type 0
+CheckedIsAccepted =
     (names : Names) (files : Files) (query : QueryTree) (mapping : List (List ℕ × Kind)) (r : Refusal)
     → HasChecked names.query names.fields files query mapping → first_missing files names.shards ≡ None
     → Refuses names files r → ⊥
 
 -- a run that can be done isn't refused, and no shard of it is beyond a limit
-abbrev pub ReadyOrRefused : Type 0
-ReadyOrRefused =
+abbrev pub ReadyIsNotRefused : Type 0
+ReadyIsNotRefused =
     (words : List (List ℕ)) (files : Files) (on : OnDisk) → CanRun words files on
     → ((r : Refusal) → IsRefused words files on r → ⊥)
     × ((find : Find) (limit : ShardLimit) → command_of words ≡ Some (command.Find find)

@@ -306,10 +306,10 @@ WroteListing words files disk out out' =
     → (bytes : List ℕ) × (report : List ℕ) × Writes words fs on bytes report × written.WroteAll bytes out out')
 
 -- a run of this status told a text whose cause holds, or a front of it, which may be empty
-abbrev pub Told :
+abbrev pub TellsFront :
     List (List ℕ) → Option Files → (disk now : Option History) → (before after : List ℕ → ℕ) → ℕ
     → (err err' : Option (List ℕ)) → Type 0
-Told words files disk now before after status err err' =
+TellsFront words files disk now before after status err err' =
     (text : List ℕ) × Tells words files disk now before after status text × WroteFront text err err'
 
 -- each shard of the search that the words ask for can be read to its end
@@ -329,18 +329,18 @@ IsReady words files disk =
     IsSomeAnd (known words files) (λ fs. (on : OnDisk) × (AskDisk words → DiskHolds disk on) × CanRun words fs on)
 
 -- where words, files and disk are refused, the status is that of the cause, or memory ran out
-abbrev pub RefusedAs : List (List ℕ) → Option Files → Option History → ℕ → Type 0
-RefusedAs words files disk status =
+abbrev pub IsRefusedAs : List (List ℕ) → Option Files → Option History → ℕ → Type 0
+IsRefusedAs words files disk status =
     IfSome files (λ fs. (on : OnDisk) (r : Refusal) → (AskDisk words → DiskHolds disk on) → IsRefused words fs on r
     → (status ≡ refusal_status r) ⊎ (status ≡ 8))
 
 -- a limit was reached: a shard of the search is beyond it, or the generations of the disk came to their end
-pub data Limited (words : List (List ℕ)) (files : Option Files) (disk now : Option History) : Type 0 where
+pub data ReachesLimit (words : List (List ℕ)) (files : Option Files) (disk now : Option History) : Type 0 where
   by_shard :
       (find : Find) → command_of words ≡ Some (command.Find find)
       → IfTold words files disk (λ fs on. (limit : ShardLimit) × SearchesBeyond find fs on limit)
-      → Limited words files disk now
-  by_disk : AskDisk words → GenerationsEnd disk now → Limited words files disk now
+      → ReachesLimit words files disk now
+  by_disk : AskDisk words → GenerationsEnd disk now → ReachesLimit words files disk now
 
 -- ---- the disk
 -- the lines of the listing that a cut counts, behind the first ones, were written, and perhaps more behind them

@@ -7,7 +7,7 @@ use Rattle.eql_check.specs.Mappings.{mapping_of}
 use Rattle.eql_check.specs.Typing.{IsChecked}
 use Rattle.eql_book.specs.Listing.{match_text}
 use Rattle.eql_made.specs.Made.{made_texts}
-use Rattle.eql_runs.specs.Files.{HasTokens, ReadAs}
+use Rattle.eql_runs.specs.Files.{HasTokens, ReadsAs}
 use Rattle.eql_runs.specs.Searches.{Search, listed_of}
 
 -- the text of the query
@@ -24,7 +24,7 @@ made_mapping = codes "{\"process.name\":\"keyword\",\"user.name\":\"keyword\"}"
 pub record IsMadeSearch (search : Search) : Type 0 where
   pub tokens : List Token
   pub spelled : HasTokens made_query tokens
-  pub read : ReadAs tokens search.query
+  pub read : ReadsAs tokens search.query
   pub is_mapping : mapping_of made_mapping ≡ Ok search.mapping
   pub checked : IsChecked (kind_at search.mapping) search.query
   pub tie : search.tie ≡ None

@@ -1,5 +1,5 @@
 //! Laws of what a run writes and refuses, each the contract of a function that does nothing.
-ghost use Rattle.eql_runs.specs.RunLaws.{FitsAtAnySpan, OneListing, OneRefusal, OneSearch, OneStatus, TestedIsAccepted, ListedOrRefused, AcceptedOrRefused, HeadsAgree, ReadyOrRefused, MadeIsASearch, MadeIsWithin, MatchesAreFew, NoRunIsLeftOut, OneOnDisk, RunsFindFew, SomethingOnDisk};
+ghost use Rattle.eql_runs.specs.RunLaws.{FitsAtAnySpan, OneListing, OneRefusal, OneSearch, OneStatus, TestedIsAccepted, WritesOrIsRefused, CheckedIsAccepted, HeadsAgree, ReadyIsNotRefused, MadeIsASearch, MadeIsWithin, MatchesAreFew, NoRunIsLeftOut, OneOnDisk, RunsFindFew, SomethingOnDisk};
 
 use eql_check::check_is_exact;
 use eql_cut::{first_format_has_no_places, lifted_cuts_fit, texts_are_decided};
@@ -18,9 +18,9 @@ pub fn runs_are_determined()
     ensures listing { OneListing }
     ensures refusal { OneRefusal }
     ensures status { OneStatus }
-    ensures apart { ListedOrRefused }
-    ensures accepted { AcceptedOrRefused }
-    ensures ready { ReadyOrRefused }
+    ensures apart { WritesOrIsRefused }
+    ensures accepted { CheckedIsAccepted }
+    ensures ready { ReadyIsNotRefused }
 {
     one_list();
     none_spelled();

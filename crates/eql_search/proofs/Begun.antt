@@ -9,7 +9,7 @@ use Rattle.eql_parts.specs.PartSteps.{Rules}
 use Rattle.eql_rounds.specs.LaneRounds.{LaneAt}
 use Rattle.eql_conductor.specs.Benches.{Known}
 use Rattle.eql_conductor.specs.LaneRounds.{AreLanes, LanesAt, text_at}
-use Rattle.eql_conductor.specs.PartRounds.{Resting}
+use Rattle.eql_conductor.specs.PartRounds.{AreAtRest}
 use Rattle.eql_conductor.specs.Rounds.{OfTexts}
 use Rattle.eql_hub_run.specs.Beside.{SameBench}
 
@@ -43,7 +43,7 @@ module _ (a b : Known) (same : SameBench a b) where
     lanes = lanes_at (Some texts) mark of.lanes;
   }
 
-  pub same_rests : (rules : Rules) (all : List Holder) (mark : Mark) → Resting rules all mark a → Resting rules all mark b
+  pub same_rests : (rules : Rules) (all : List Holder) (mark : Mark) → AreAtRest rules all mark a → AreAtRest rules all mark b
   same_rests rules all mark rests = record {
     are = record {
       count = same.parts ∙ rests.are.count;

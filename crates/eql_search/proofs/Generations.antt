@@ -12,11 +12,11 @@ use Rattle.eql_cut.specs.declared.cut.Cut.{Cut}
 use Rattle.eql_conductor.specs.declared.plan.End.{End as Ends}
 use Rattle.eql_conductor.specs.declared.plan.End.TheVariants as end
 use Rattle.eql_conductor.specs.declared.plan.RunPlan.{RunPlan}
-use Rattle.eql_conductor.specs.Benches.{FedOn, Known}
+use Rattle.eql_conductor.specs.Benches.{ComesByFeeds, Known}
 use Rattle.eql_conductor.specs.Bounds.{AreSized, IsSized, held_count}
 use Rattle.eql_conductor.specs.Handed.{total_to}
-use Rattle.eql_conductor.specs.RunBounds.{BoundedBy, RunBounded, bytes_in, events_in}
-use Rattle.eql_conductor.specs.RunNotes.{Place, RoundsBroken, RunNotes, cut_due, cut_times, listed, next_place, round_count, start}
+use Rattle.eql_conductor.specs.RunBounds.{IsBoundedBy, RunIsBounded, bytes_in, events_in}
+use Rattle.eql_conductor.specs.RunNotes.{Place, PlaysRoundsFront, RunNotes, cut_due, cut_times, listed, next_place, round_count, start}
 use Rattle.eql_conductor.specs.Runs.{cut_time}
 use Rattle.eql_hub_run.specs.Beside.{SameBench, bench_of}
 use Rattle.eql_replay.specs.Listed.{bench_known}
@@ -36,7 +36,7 @@ fewer_times every at (lows ∷ rounds) =
     omega (arith, a, b, c)
 
 module _ (plan : RunPlan) (times : List ℤ) (old new : Known) where
-  few_broken : (notes : RoundsBroken plan.batch plan.every (start plan) times old new) → length times ≤ suc (length notes.rounds)
+  few_broken : (notes : PlaysRoundsFront plan.batch plan.every (start plan) times old new) → length times ≤ suc (length notes.rounds)
   few_broken notes = elim notes.times_are [
     | inl e ↦ let a = ap length e in let b = fewer_times plan.every (start plan) notes.rounds in omega (arith, a, b)
     | inr e ↦
@@ -78,7 +78,7 @@ state_in (Some lane) = lane.state
 
 module _ {S L : Type 0} (read_of : L → Reads) (text : ℕ → Option (List ℕ)) (olds news : List (LaneView S L)) (parts : List PartView) (first last : Known)
     (same : SameBench (bench_known read_of text (bench_of olds parts)) first) (as_many : last.lanes ≡ first.lanes)
-    (left : (s : ℕ) (new : LaneView S L) → slice_get news s ≡ Some new → (x : LaneState) × last.lane s x × FedOn (first.set s) x new.state)
+    (left : (s : ℕ) (new : LaneView S L) → slice_get news s ≡ Some new → (x : LaneState) × last.lane s x × ComesByFeeds (first.set s) x new.state)
     (many : length news ≡ length olds) (few : length olds ≤ 256)
     (sizes : AreSized (bench_known read_of text (bench_of olds parts))) where
   -- the states with which the lanes began, and such as they might have at the conductor's end
@@ -111,16 +111,16 @@ module _ {S L : Type 0} (read_of : L → Reads) (text : ℕ → Option (List ℕ
       let c = ap (λ (o : Option (LaneView S L)). held_count (state_in o)) one.1 in
       omega (arith, a, b, c)
 
-  taken_to : (rounds : ℕ) → RunBounded rounds first last → (s : ℕ) → s < first.lanes → (now s).taken ≤ greatest_bytes
+  taken_to : (rounds : ℕ) → RunIsBounded rounds first last → (s : ℕ) → s < first.lanes → (now s).taken ≤ greatest_bytes
   taken_to rounds bounded s l = (bounded.sized.each s (omega (arith, l, as_many)) (now s) (has_now s l)).bytes
 
-  bounded_by : (rounds : ℕ) → RunBounded rounds first last → BoundedBy rounds first last (bytes_in first.lanes now) (events_in first.lanes began)
+  bounded_by : (rounds : ℕ) → RunIsBounded rounds first last → IsBoundedBy rounds first last (bytes_in first.lanes now) (events_in first.lanes began)
   bounded_by rounds bounded = bounded.bound began now (record {
     from = λ s l x has. let was = same.lane_from s x has in (0, was.state_is ∙ sym (ap state_in was.there));
     to = has_now;
   })
 
-  pub few_rounds : (rounds : ℕ) → RunBounded rounds first last → rounds ≤ 2 ^ 51
+  pub few_rounds : (rounds : ℕ) → RunIsBounded rounds first last → rounds ≤ 2 ^ 51
   few_rounds rounds bounded =
       let a = (bounded_by rounds bounded).rounds_to in
       let b = total_bytes first.lanes (λ s. (now s).taken) (taken_to rounds bounded) in
@@ -128,7 +128,7 @@ module _ {S L : Type 0} (read_of : L → Reads) (text : ℕ → Option (List ℕ
       let e = same.lanes in
       omega (arith, a, b, c, e, few)
 
-  pub few_cuts : (plan : RunPlan) (cuts : List Cut) (answer : Ends) (notes : RunNotes plan (map cut_time cuts) first last answer) → RunBounded (round_count plan (map cut_time cuts) first last answer notes) first last
+  pub few_cuts : (plan : RunPlan) (cuts : List Cut) (answer : Ends) (notes : RunNotes plan (map cut_time cuts) first last answer) → RunIsBounded (round_count plan (map cut_time cuts) first last answer notes) first last
       → length cuts ≤ 2 ^ 51
   few_cuts plan cuts answer notes bounded =
       let a = few_times plan (map cut_time cuts) first last answer notes in

@@ -41,7 +41,7 @@ use Rattle.eql_conductor.specs.declared.plan.Keep.{Keep}
 use Rattle.eql_conductor.specs.declared.plan.RunPlan.{RunPlan}
 use Rattle.eql_conductor.specs.Benches.{Known}
 use Rattle.eql_conductor.specs.LaneRounds.{IsSafe, text_at}
-use Rattle.eql_conductor.specs.PartRounds.{Resting}
+use Rattle.eql_conductor.specs.PartRounds.{AreAtRest}
 use Rattle.eql_conductor.specs.Records.{Ran}
 use Rattle.eql_conductor.specs.Rounds.{OfTexts, found_by}
 use Rattle.eql_conductor.specs.RunLaws.{BeginsTold, HavePlayed, StopsListed, found_below}
@@ -199,7 +199,7 @@ module _ (A : Type 0) {S L D : Type 0} (left lent_as : S → Option (List ℕ)) 
     of_first : OfTexts reads slack texts plan.mark first
     of_first = same_texts bench first same reads slack texts plan.mark of_bench
 
-    rests_first : Resting rules holders plan.mark first
+    rests_first : AreAtRest rules holders plan.mark first
     rests_first = same_rests bench first same rules holders plan.mark begins.begins.rests
 
     -- where each match has a number, the run began so over the texts

@@ -29,7 +29,7 @@ use Rattle.eql_search.specs.declared.stop.Stop.TheVariants as stop
 use Rattle.eql_search.specs.Answers.{AreUnfailing, HasCause, IsClosed, IsNoFault, IsRead, SteadyBut, StaysLane, WereRead}
 use Rattle.eql_search.specs.Beginnings.{BeginsOn, MayBegin, MayKeepOn, cuts_of, start_at}
 use Rattle.eql_search.specs.Keeping.{AreSearchCuts, IsSearchCut, KeepsOn, WroteCounted}
-use Rattle.eql_search.specs.Running.{NotBegun, Searched, end_of}
+use Rattle.eql_search.specs.Running.{DidNotBegin, TriesToSearch, end_of}
 use Rattle.eql_search.specs.Searches.{AreBegunFrom, AreTextsOf, HasNumbers, Rules, rest_of}
 use Rattle.eql_search.proofs.Causes.{counts_so, has_cause, lanes_unfailing, no_fault, reads_steady}
 use Rattle.eql_search.proofs.Kept.{ends_memory, keeps, keeps_nothing}
@@ -119,7 +119,7 @@ module _ (A : Type 0) {S L D : Type 0} (left lent_as : S → Option (List ℕ)) 
       disk_counts = omega arith;
     }
 
-    not_begun : (news : List (LaneView S L)) (now : Option (List ℕ)) (sink_now : ℕ) (kept : Option (Keep D)) (r : Result A Stop) → NotBegun olds news before now sink_before sink_now keep kept (end_of r)
+    not_begun : (news : List (LaneView S L)) (now : Option (List ℕ)) (sink_now : ℕ) (kept : Option (Keep D)) (r : Result A Stop) → DidNotBegin olds news before now sink_before sink_now keep kept (end_of r)
         → SearchEnds news now sink_now kept r
     not_begun news now sink_now kept r none =
         subst (λ (a : Result A Stop). SearchEnds news now sink_now kept a) (sym (ends_memory r none.memory))
@@ -167,7 +167,7 @@ module _ (A : Type 0) {S L D : Type 0} (left lent_as : S → Option (List ℕ)) 
     -- ---- both
     searched_ends : (readers : (reader : L) → IsReading (read_of reader)) → 1 ≤ plan.batch → plan.batch ≤ 4096 → 1 ≤ length olds → length olds ≤ 256 → IsSpan span → book.whole ≡ true
         → MayBegin by book.pipes plan.mark (cuts_of olds) holders book.kept → (news : List (LaneView S L)) (then : BookState) (now : Option (List ℕ)) (sink_now : ℕ) (kept : Option (Keep D)) (r : Result A Stop)
-        → Searched left lent_as fault_plan read_of history count (text_at told) plan olds news rules holders book then before now sink_before sink_now keep kept (end_of r) → SearchEnds news now sink_now kept r
+        → TriesToSearch left lent_as fault_plan read_of history count (text_at told) plan olds news rules holders book then before now sink_before sink_now keep kept (end_of r) → SearchEnds news now sink_now kept r
     searched_ends readers batch_from batch_to some few is_span whole may news then now sink_now kept r did = elim did [
       | inl searched ↦
           run_ends is_span few news searched.parts then now sink_now kept (known_by left lent_as fault_plan read_of (text_at told) searched.run.first) (known_by left lent_as fault_plan read_of (text_at told) searched.run.last)
@@ -179,8 +179,8 @@ module _ (A : Type 0) {S L D : Type 0} (left lent_as : S → Option (List ℕ)) 
     pub ends : (readers : (reader : L) → IsReading (read_of reader)) → 1 ≤ plan.batch → plan.batch ≤ 4096 → 1 ≤ length olds → length olds ≤ 256 → IsSpan span → book.whole ≡ true
         → MayBegin by book.pipes plan.mark (cuts_of olds) holders book.kept → (news taken back : List (LaneView S L)) (then : BookState) (now : Option (List ℕ)) (sink_now : ℕ) (kept : Option (Keep D)) (r : Result A Stop)
         → taken ≡ olds → back ≡ news
-        → Searched left lent_as fault_plan read_of history count (text_at told) plan taken back rules holders book then before now sink_before sink_now keep kept (end_of r) → SearchEnds news now sink_now kept r
+        → TriesToSearch left lent_as fault_plan read_of history count (text_at told) plan taken back rules holders book then before now sink_before sink_now keep kept (end_of r) → SearchEnds news now sink_now kept r
     ends readers batch_from batch_to some few is_span whole may news taken back then now sink_now kept r from to did =
         searched_ends readers batch_from batch_to some few is_span whole may news then now sink_now kept r
-        (subst (λ (ls : List (LaneView S L)). Searched left lent_as fault_plan read_of history count (text_at told) plan olds ls rules holders book then before now sink_before sink_now keep kept (end_of r)) to
-        (subst (λ (ls : List (LaneView S L)). Searched left lent_as fault_plan read_of history count (text_at told) plan ls back rules holders book then before now sink_before sink_now keep kept (end_of r)) from did))
+        (subst (λ (ls : List (LaneView S L)). TriesToSearch left lent_as fault_plan read_of history count (text_at told) plan olds ls rules holders book then before now sink_before sink_now keep kept (end_of r)) to
+        (subst (λ (ls : List (LaneView S L)). TriesToSearch left lent_as fault_plan read_of history count (text_at told) plan ls back rules holders book then before now sink_before sink_now keep kept (end_of r)) from did))

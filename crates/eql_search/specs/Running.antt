@@ -63,7 +63,7 @@ end_of (Err stop.Memory) = end.Memory
 end_of (Err (stop.Limit of)) = end.Limit of
 
 -- there was no memory to begin, and nothing changed
-pub record NotBegun {S L D : Type 0} (olds news : List (LaneView S L)) (before now : Option (List ℕ)) (sink_before sink_now : ℕ) (keep kept : Option (Keep D)) (answer : Ends) : Type 0 where
+pub record DidNotBegin {S L D : Type 0} (olds news : List (LaneView S L)) (before now : Option (List ℕ)) (sink_before sink_now : ℕ) (keep kept : Option (Keep D)) (answer : Ends) : Type 0 where
   pub memory : answer ≡ end.Memory
   pub lanes : news ≡ olds
   pub wrote : now ≡ before
@@ -79,7 +79,7 @@ module _ {S L D : Type 0} (left lent_as : S → Option (List ℕ)) (fault_plan :
     pub run : RanBeside left lent_as fault_plan read_of history count text plan olds news parts book then before now sink_before sink_now keep kept answer
 
   -- a search ran, or there was no memory to begin
-  abbrev pub Searched : Rules → List Holder → (book then : BookState) → (before now : Option (List ℕ)) → (sink_before sink_now : ℕ) → (keep kept : Option (Keep D)) → Ends → Type 0
-  Searched rules holders book then before now sink_before sink_now keep kept answer =
+  abbrev pub TriesToSearch : Rules → List Holder → (book then : BookState) → (before now : Option (List ℕ)) → (sink_before sink_now : ℕ) → (keep kept : Option (Keep D)) → Ends → Type 0
+  TriesToSearch rules holders book then before now sink_before sink_now keep kept answer =
       HasSearched rules holders book then before now sink_before sink_now keep kept answer
-      ⊎ NotBegun olds news before now sink_before sink_now keep kept answer
+      ⊎ DidNotBegin olds news before now sink_before sink_now keep kept answer

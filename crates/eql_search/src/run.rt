@@ -11,7 +11,7 @@ ghost use Rattle.eql_replay.specs.Opened.{AreOfTexts};
 ghost use Rattle.eql_search.specs.Answers.{AreUnfailing, HasCause, IsClosed, IsNoFault, IsRead, SteadyBut, StaysLane, WereRead};
 ghost use Rattle.eql_search.specs.Beginnings.{BeginsOn, MayBegin, MayKeepOn, cuts_of, start_at};
 ghost use Rattle.eql_search.specs.Keeping.{AreSearchCuts, KeepsOn, WroteCounted};
-ghost use Rattle.eql_search.specs.Running.{Searched, end_of};
+ghost use Rattle.eql_search.specs.Running.{TriesToSearch, end_of};
 ghost use Rattle.eql_search.specs.Searches.{AreBegun, AreTextsOf, HasNumbers, reads_by, rest_of, rules_of, slack_by};
 
 use crate::parting::{PARTS, make_parts};
@@ -70,7 +70,7 @@ fn search_lanes<
         plan.now.mark (cuts_of lanes.items) holders book.old.kept }
     requires keeps { MayKeepOn D.history plan.now (length lanes.items) keep.old }
     requires hands { hands ≤ 65536 }
-    ensures ran { Searched S.left S.lent_as S.fault_plan L.read_of D.history D.fault_count
+    ensures ran { TriesToSearch S.left S.lent_as S.fault_plan L.read_of D.history D.fault_count
         T.text plan.now lanes.items result.1.items (record { stages = stages; span = span }) holders
         book.old book.new (K.written sink.old) (K.written sink.new)
         (K.fault_count sink.old) (K.fault_count sink.new) keep.old keep.new (end_of result.0) }

@@ -12,7 +12,7 @@ use Rattle.eql_made.specs.Made.{made_texts}
 use Rattle.eql_runs.specs.Searches.{listed_of}
 use Rattle.eql_runs.specs.RunLaws.{MadeIsASearch}
 use Rattle.eql_runs.specs.Summaries.{made_lines, Makes, summary}
-use Rattle.eql_summary.specs.Written.{IsMadeListing, MadeFront}
+use Rattle.eql_summary.specs.Written.{IsMadeListing, MakesFront}
 use Rattle.eql_summary.proofs.FeedLemmas.{one_match}
 use Rattle.eql_summary.proofs.LineLemmas.{line_fed}
 
@@ -44,7 +44,7 @@ nothing_wrote : (bytes : List ℕ) (out : Option (List ℕ)) → WroteFront byte
 nothing_wrote bytes None = tt
 nothing_wrote bytes (Some w) = (0, ap (λ (x : List ℕ). Some x) (sym (append-nil w)))
 
-pub made_nothing : MadeIsASearch → (events : ℕ) (out : Option (List ℕ)) → MadeFront events out out
+pub made_nothing : MadeIsASearch → (events : ℕ) (out : Option (List ℕ)) → MakesFront events out out
 made_nothing made events out = (
   made_lines events made.0,
   [],

@@ -12,7 +12,7 @@ use Rattle.eql_outside.specs.Unfailing.{IsUnfailing}
 use Rattle.eql_made.specs.Made.{made_texts}
 use Rattle.eql_words.specs.declared.commands.Find.{Find}
 use Rattle.eql_runs.specs.Files.{Files, first_missing, HasTokens, HasTexts, HasChecked, IsWithin}
-use Rattle.eql_runs.specs.RunLaws.{AcceptedOrRefused, MadeIsASearch, MadeIsWithin}
+use Rattle.eql_runs.specs.RunLaws.{CheckedIsAccepted, MadeIsASearch, MadeIsWithin}
 use Rattle.eql_runs.specs.Runs.{Finds, Searches, SearchesBeyond, ShardLimit}
 use Rattle.eql_runs.specs.Starts.{nothing_kept}
 use Rattle.eql_runs.specs.Searches.{Search, listed_of, listing_of, rest_of}
@@ -23,7 +23,7 @@ use Rattle.eql_inputs.specs.declared.halt.Halt.TheVariants as halt
 use Rattle.eql_inputs.specs.Halts.{refusal_of}
 use Rattle.eql_find.specs.declared.halt.RunHalt.{RunHalt}
 use Rattle.eql_find.specs.declared.halt.RunHalt.TheVariants as run
-use Rattle.eql_find.specs.Finding.{FoundAll, HasCause, names_in}
+use Rattle.eql_find.specs.Finding.{FindsAll, HasCause, names_in}
 use Rattle.eql_find.specs.Halts.{IsFault, limit_of}
 use Rattle.eql_summary.specs.Inputs.{made_files, made_find}
 use Rattle.eql_summary.specs.Written.{IsMadeListing, IsWant}
@@ -65,7 +65,7 @@ module _ (hands events : ℕ) where
   unfolding lib.Utf8.encode
   none_missing = refl
 
-  module _ (law : LinesGoOn) (accepted : AcceptedOrRefused) (made : MadeIsASearch) (within : MadeIsWithin) (few : events ≤ 1000000) where
+  module _ (law : LinesGoOn) (accepted : CheckedIsAccepted) (made : MadeIsASearch) (within : MadeIsWithin) (few : events ≤ 1000000) where
     no_limit : (limit : ShardLimit) → SearchesBeyond (made_find hands) (made_files events) nothing_kept limit → ⊥
     no_limit limit b =
         let same = one_texts (made_find hands).shards (made_files events) b.texts (made_texts events) b.searches.there are_there in
@@ -124,18 +124,18 @@ module _ (hands events : ℕ) where
   )
 
   made_found : (disk : Option History) (out' err err' : Option (List ℕ))
-      → FoundAll (made_find hands) (Some (made_files events)) disk (Some []) out' err err' → IsMadeListing events out'
+      → FindsAll (made_find hands) (Some (made_files events)) disk (Some []) out' err err' → IsMadeListing events out'
   made_found disk out' err err' h =
       let found = h nothing_kept (λ has. absurd (has refl)) (λ search texts searches. tt) in
       subst (IsMadeListing events) (sym found.3) (found_made found.0 found.1 found.2)
 
   pub all_found : (find : Find) (files : Option Files) (disk : Option History) (out out' err err' : Option (List ℕ)) → find ≡ made_find hands
-      → files ≡ Some (made_files events) → out ≡ Some [] → FoundAll find files disk out out' err err' → IsMadeListing events out'
+      → files ≡ Some (made_files events) → out ≡ Some [] → FindsAll find files disk out out' err err' → IsMadeListing events out'
   all_found find files disk out out' err err' find_is files_are empty found =
       made_found disk out' err err'
-      (subst (λ (f : Find). FoundAll f (Some (made_files events)) disk (Some []) out' err err') find_is
-      (subst (λ (fs : Option Files). FoundAll find fs disk (Some []) out' err err') files_are
-      (subst (λ (o : Option (List ℕ)). FoundAll find files disk o out' err err') empty found)))
+      (subst (λ (f : Find). FindsAll f (Some (made_files events)) disk (Some []) out' err err') find_is
+      (subst (λ (fs : Option Files). FindsAll find fs disk (Some []) out' err err') files_are
+      (subst (λ (o : Option (List ℕ)). FindsAll find files disk o out' err err') empty found)))
 
 -- a search of made events has no checkpoint
 pub never_kept : {A : Type 0} (find : Find) (hands : ℕ) → find ≡ made_find hands → find.checkpoint ≢ None → A

@@ -28,11 +28,11 @@ IsWant (run.Report refused_by.Failed) = ⊥
 IsWant (run.Report refused_by.Memory) = Unit {0}
 
 -- the output got what a run over so many events writes
-abbrev pub MadeAll : (events : ℕ) → (out out' : Option (List ℕ)) → Type 0
-MadeAll events out out' =
+abbrev pub MakesAll : (events : ℕ) → (out out' : Option (List ℕ)) → Type 0
+MakesAll events out out' =
     (bytes : List ℕ) × (report : List ℕ) × Makes events bytes report × WroteAll bytes out out'
 
 -- the output got a front of that, which may be nothing
-abbrev pub MadeFront : (events : ℕ) → (out out' : Option (List ℕ)) → Type 0
-MadeFront events out out' =
+abbrev pub MakesFront : (events : ℕ) → (out out' : Option (List ℕ)) → Type 0
+MakesFront events out out' =
     (bytes : List ℕ) × (report : List ℕ) × Makes events bytes report × WroteFront bytes out out'

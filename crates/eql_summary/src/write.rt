@@ -4,7 +4,7 @@ ghost use Rattle.eql_outside.specs.Outside.{Rose};
 ghost use Rattle.eql_outside.specs.Unfailing.{IsUnfailing};
 ghost use Rattle.eql_values.specs.Lines.{lines_of};
 ghost use Rattle.eql_runs.specs.Summaries.{Makes, summary};
-ghost use Rattle.eql_summary.specs.Written.{MadeAll, MadeFront};
+ghost use Rattle.eql_summary.specs.Written.{MakesAll, MakesFront};
 
 use crate::ends::Ends;
 use crate::search::list_made;
@@ -60,8 +60,8 @@ pub fn write_summary<R: Threads + Wait + Sync, K: Sink, W: Gate + Sync>(
 ) -> Result<(), OutRefused>
     requires hands { hands ≤ 16 }
     requires events { events ≤ 1000000 }
-    ensures whole { OnOk result (MadeAll events (K.written out.old) (K.written out.new)) }
-    ensures front { OnErr result (MadeFront events (K.written out.old) (K.written out.new)) }
+    ensures whole { OnOk result (MakesAll events (K.written out.old) (K.written out.new)) }
+    ensures front { OnErr result (MakesFront events (K.written out.old) (K.written out.new)) }
 
     // The output's count rises where it failed, and nowhere else.
     ensures cause { result ≡ Err OutRefused.Failed

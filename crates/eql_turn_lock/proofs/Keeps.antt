@@ -19,7 +19,7 @@ use Rattle.eql_turn_lock.specs.declared.slot.LastCall.{LastCall}
 use Rattle.eql_turn_lock.specs.declared.slot.Slot.{Slot}
 use Rattle.eql_turn_lock.specs.declared.view.View.{View}
 use Rattle.eql_turn_lock.specs.History.{StartsWith, entry, calls_by, OthersOpen, EndsIdle, IsLegal}
-use Rattle.eql_turn_lock.specs.Passes.{first_view, spent_view, is_live, HasEnded, EndedIn, AreDistinct, longer, split_view, new_view, ended_of, joined_view, KnowsHistory}
+use Rattle.eql_turn_lock.specs.Passes.{first_view, spent_view, is_live, HasEnded, IsEndedIn, AreDistinct, longer, split_view, new_view, ended_of, joined_view, KnowsHistory}
 use Rattle.eql_turn_lock.specs.Rule.{Phase, free, taken, live_count, looked_at, in_turn, played, SeatFits, Stands, EndedFits, FirstFits, IsIdleFront, HasOneHistory, FindsIdle, loads, loads_idle, takes_turn, ends_turn, learns, tells_idle}
 use Rattle.eql_turn_lock.specs.Calls.{Closes}
 use Rattle.eql_turn_lock.proofs.Histories.{all_both, all_left, all_snoc, starts_longer, starts_in, starts_self, starts_shorter, calls_mine, calls_other, legal_snoc, legal_split}
@@ -60,7 +60,7 @@ module _ {T O R : Type 0} (step_of : T → O → R → T → Type 0) (is_open : 
       → All (λ (e : Entry O R). e.by < length s.views) log' → IsLegal step_of first log' value' → Stands value' log' word' homes' phase' → OthersOpen is_open log' → SeatFits first log' word' phase' id w
       → ((j : ℕ) (u : View T O R) → j ≢ id → SeatFits first r.log r.word r.phase j u → SeatFits first log' word' phase' j u)
       → ((k : ℕ) → phase' ≡ taken k → (u : View T O R) × (get_elem? (set s.views id w) k ≡ some u) × (is_live u ≡ true) × ((l : List (Entry O R)) × (u.turn ≡ Some l)))
-      → (id ≡ 0 → All (EndedIn w.seen) w.ended)
+      → (id ≡ 0 → All (IsEndedIn w.seen) w.ended)
       → HasOneHistory step_of is_open is_idle first record { words = word' ∷ r.idle ∷ []; homes = homes'; views = set s.views id w }
   moved s r id v w log' value' word' phase' homes' here live_v opening_is made_is ended_is grows longer_log quiet below legal stands opened mine others takes_it seen_ok =
       let live_w : is_live w ≡ true = ap is_some opening_is ∙ live_v in
@@ -97,7 +97,7 @@ module _ {T O R : Type 0} (step_of : T → O → R → T → Type 0) (is_open : 
       }
 
       led : {u' : View T O R} (u : View T O R) → is_live w ≡ true → length (set s.views id w) ≡ length s.views → u.made ≡ u'.made → u.ended ≡ u'.ended → FirstFits r.log r.word s.views u'
-          → All (EndedIn u.seen) u.ended → FirstFits log' word' (set s.views id w) u
+          → All (IsEndedIn u.seen) u.ended → FirstFits log' word' (set s.views id w) u
       led {u'} u live_w same_length made_u ended_u l seen_u = record {
         made_is = same_length ∙ (l.made_is ∙ ap (λ (n : ℕ). n + 1) (sym made_u));
         ended_fit = subst (All (EndedFits log' word' (set s.views id w))) (sym ended_u) (All-weaker (EndedFits r.log r.word s.views) (EndedFits log' word' (set s.views id w)) (still_ended live_w) u'.ended l.ended_fit);
@@ -183,10 +183,10 @@ module _ {T O R : Type 0} (step_of : T → O → R → T → Type 0) (is_open : 
   abbrev Goes : ℕ → ℕ → (ℕ → Me (Slot T O R) (View T O R) → Type 0) → State (Slot T O R) (View T O R) → ℕ → Me (Slot T O R) (View T O R) → Type 0
   Goes id x told s n me = (w : View T O R) × (a : Act (Slot T O R)) × Valid s.homes me.1 a × HasOneHistory step_of is_open is_idle first (stepped s 0 n id me.1 w a) × told x (w, carried_after me.1 a)
 
-  ended_in_log : (log : List (Entry O R)) (word : ℕ) (views : List (View T O R)) (seen : List (Entry O R)) (ended : List (Ended O R)) → StartsWith log seen → All (EndedFits log word views) ended → All (EndedIn seen) ended
-      → All (λ (e : Ended O R). (0 < e.number) × EndedIn log e) ended
-  ended_in_log log word views seen ended begins fit in_seen = All-weaker (λ (e : Ended O R). EndedFits log word views e × EndedIn seen e) (λ (e : Ended O R). (0 < e.number) × EndedIn log e)
-      (λ e p. (p.0.some_number, (p.0.all_mine, starts_in log seen e.seen begins p.1.1, starts_in log seen e.before begins p.1.2))) ended (all_both (EndedFits log word views) (EndedIn seen) ended fit in_seen)
+  ended_in_log : (log : List (Entry O R)) (word : ℕ) (views : List (View T O R)) (seen : List (Entry O R)) (ended : List (Ended O R)) → StartsWith log seen → All (EndedFits log word views) ended → All (IsEndedIn seen) ended
+      → All (λ (e : Ended O R). (0 < e.number) × IsEndedIn log e) ended
+  ended_in_log log word views seen ended begins fit in_seen = All-weaker (λ (e : Ended O R). EndedFits log word views e × IsEndedIn seen e) (λ (e : Ended O R). (0 < e.number) × IsEndedIn log e)
+      (λ e p. (p.0.some_number, (p.0.all_mine, starts_in log seen e.seen begins p.1.1, starts_in log seen e.before begins p.1.2))) ended (all_both (EndedFits log word views) (IsEndedIn seen) ended fit in_seen)
 
   -- the word is even: the seat takes the value
   takes_turn_at : (s : State (Slot T O R) (View T O R)) (r : HasOneHistory step_of is_open is_idle first s) (slots id : ℕ) (me : Me (Slot T O R) (View T O R)) (old new : ℕ) → is_live me.0 ≡ true → old % 2 ≡ 0 → new ≡ old + 1
@@ -298,7 +298,7 @@ module _ {T O R : Type 0} (step_of : T → O → R → T → Type 0) (is_open : 
             })
             (λ k none_is. not_taken none_is)
             (λ zero_is. let l = r.first_seat me.0 (subst (λ (k : ℕ). get_elem? s.views k ≡ some me.0) zero_is at) live in
-            All-weaker (λ (z : Ended O R). (0 < z.number) × EndedIn r.log z) (EndedIn (log ++ e ∷ []))
+            All-weaker (λ (z : Ended O R). (0 < z.number) × IsEndedIn r.log z) (IsEndedIn (log ++ e ∷ []))
             (λ z g. let pos = g.0 in (
               calls_other z.number log e (λ by. let a : z.number ≡ 0 = sym by ∙ (f.number ∙ zero_is) in omega arith) ∙ (ap (calls_by z.number) is ∙ g.1.0),
               starts_longer log z.seen (e ∷ []) (subst (λ (q : List (Entry O R)). StartsWith q z.seen) (sym is) g.1.1),
@@ -330,7 +330,7 @@ module _ {T O R : Type 0} (step_of : T → O → R → T → Type 0) (is_open : 
     first_seat = λ v at live. subst (FirstFits [] 0 (first_view first ∷ [])) (some-injective _ _ at) record {
       made_is = refl;
       ended_fit = All-nil (EndedFits [] 0 (first_view first ∷ []));
-      ended_seen = All-nil (EndedIn []);
+      ended_seen = All-nil (IsEndedIn []);
       distinct = λ i j d lt wide. absurd (omega arith);
       each_spent = none_spent;
       count = refl;
@@ -470,7 +470,7 @@ module _ {T O R : Type 0} (step_of : T → O → R → T → Type 0) (is_open : 
                     below = h.below;
                     is_spent = ap (get_elem? us) h.number ∙ us_here;
                   };
-              ended_seen = all_snoc (EndedIn (longer v.seen u.seen)) v.ended (ended_of v u) (kept_seen l both)
+              ended_seen = all_snoc (IsEndedIn (longer v.seen u.seen)) v.ended (ended_of v u) (kept_seen l both)
                   (calls_between u.number r.log (longer v.seen u.seen) u.seen u.mine both.2 both.1 (ap (λ (n : ℕ). calls_by n r.log) h.number ∙ h.all_mine) (ap (λ (n : ℕ). calls_by n u.seen) h.number ∙ h.seen_mine), both.1, both.0);
               distinct = all_pairs_push (λ (d e : Ended O R). d.number ≢ e.number) v.ended (ended_of v u) l.distinct
                   (λ k d lt same. let q = l.ended_fit k d lt in dead_live spent_view u (some-injective spent_view u (sym q.is_spent ∙ (ap (get_elem? s.views) (same ∙ h.number) ∙ there))) refl live_u);
@@ -486,10 +486,10 @@ module _ {T O R : Type 0} (step_of : T → O → R → T → Type 0) (is_open : 
       }
     where
       kept_seen : {log : List (Entry O R)} {word : ℕ} {views : List (View T O R)} → FirstFits log word views v → StartsWith (longer v.seen u.seen) v.seen × StartsWith (longer v.seen u.seen) u.seen × StartsWith log (longer v.seen u.seen)
-          → All (EndedIn (longer v.seen u.seen)) v.ended
-      kept_seen {log} {word} {views} l both = All-weaker (λ (e : Ended O R). EndedFits log word views e × EndedIn v.seen e) (EndedIn (longer v.seen u.seen))
+          → All (IsEndedIn (longer v.seen u.seen)) v.ended
+      kept_seen {log} {word} {views} l both = All-weaker (λ (e : Ended O R). EndedFits log word views e × IsEndedIn v.seen e) (IsEndedIn (longer v.seen u.seen))
           (λ e p. (calls_between e.number log (longer v.seen u.seen) v.seen e.mine both.2 both.0 p.0.all_mine p.1.0, starts_in (longer v.seen u.seen) v.seen e.seen both.0 p.1.1, starts_in (longer v.seen u.seen) v.seen e.before both.0 p.1.2)) v.ended
-          (all_both (EndedFits log word views) (EndedIn v.seen) v.ended l.ended_fit l.ended_seen)
+          (all_both (EndedFits log word views) (IsEndedIn v.seen) v.ended l.ended_fit l.ended_seen)
 
   idle_is : (s : State (Slot T O R) (View T O R)) (r : HasOneHistory step_of is_open is_idle first s) → get_or s.words 1 0 ≡ r.idle
   idle_is s r = ap (λ (ws : List ℕ). get_or ws 1 0) r.words_are
@@ -577,7 +577,7 @@ module _ {T O R : Type 0} (step_of : T → O → R → T → Type 0) (is_open : 
           legal = r.legal;
           begins = f.begins;
           all_mine = ap (λ (n : ℕ). calls_by n r.log) f.number ∙ f.all_mine;
-          ended_in = All-weaker (λ (e : Ended O R). (0 < e.number) × EndedIn r.log e) (EndedIn r.log) (λ e p. p.1) v.ended (ended_in_log r.log r.word s.views v.seen v.ended f.begins l.ended_fit l.ended_seen);
+          ended_in = All-weaker (λ (e : Ended O R). (0 < e.number) × IsEndedIn r.log e) (IsEndedIn r.log) (λ e p. p.1) v.ended (ended_in_log r.log r.word s.views v.seen v.ended f.begins l.ended_fit l.ended_seen);
           others_open = r.others_open;
           by_made = All-weaker (λ (e : Entry O R). e.by < length s.views) (λ (e : Entry O R). e.by ≤ v.made) (λ e lt. let b = l.made_is in omega arith) r.log r.by_below;
           covered = covered_now;

@@ -10,10 +10,10 @@ use Rattle.eql_turn_lock.specs.declared.view.Ended.{Ended}
 use Rattle.eql_turn_lock.specs.declared.slot.Slot.{Slot}
 use Rattle.eql_turn_lock.specs.declared.view.View.{View}
 use Rattle.eql_turn_lock.specs.History.{StartsWith, entry, calls_by, OthersOpen, IsLegal}
-use Rattle.eql_turn_lock.specs.Passes.{EndedIn, first_view, split_view, new_view, ended_of, joined_view, KnowsHistory}
+use Rattle.eql_turn_lock.specs.Passes.{IsEndedIn, first_view, split_view, new_view, ended_of, joined_view, KnowsHistory}
 use Rattle.eql_turn_lock.specs.Rule.{looked_at, played, HoldsTurn, IsSameBut, FindsIdle}
 use Rattle.eql_turn_lock.specs.Tries.{LostTry, held, moved, IsLost, words_of}
-use Rattle.eql_turn_lock.specs.Calls.{MayPlay, Plays, PlaysOnce, PlaysLooking, IsUnplayed, MetIdle}
+use Rattle.eql_turn_lock.specs.Calls.{MayPlay, Plays, PlaysOnce, PlaysLooking, IsUnplayed, MeetsIdle}
 use Rattle.eql_turn_lock.proofs.Histories.{all_right, all_snoc, calls_mine, calls_other, starts_longer, legal_snoc, legal_split, rest_is_of_others, still_allowed}
 use Rattle.eql_turn_lock.proofs.Views.{calls_none, prefix_of}
 
@@ -107,7 +107,7 @@ module _ {T O R : Type 0} (allows : T → O → Type 0) (step_of : T → O → R
       own = calls_mine m.0.number t.log e refl ∙ ap (λ (l : List (Entry O R)). l ++ e ∷ []) t.all_mine;
       others_open = all_snoc (λ (z : Entry O R). z.by ≢ 0 → is_open z.op ≡ true) t.log e t.others_open (open_or_first m.0 op op refl may);
       by_made = λ zero_is. all_snoc (λ (z : Entry O R). z.by ≤ m.0.made) t.log e (t.by_made zero_is) (omega arith);
-      ended_in = λ zero_is. All-weaker (λ (z : Ended O R). (0 < z.number) × EndedIn t.log z) (EndedIn (t.log ++ e ∷ []))
+      ended_in = λ zero_is. All-weaker (λ (z : Ended O R). (0 < z.number) × IsEndedIn t.log z) (IsEndedIn (t.log ++ e ∷ []))
           (λ z g. let pos = g.0 in (calls_other z.number t.log e (λ by. let a : z.number ≡ 0 = sym by ∙ zero_is in omega arith) ∙ g.1.0, starts_longer t.log z.seen (e ∷ []) g.1.1, starts_longer t.log z.before (e ∷ []) g.1.2)) m.0.ended (t.ended_all zero_is);
       distinct = t.distinct;
     };
@@ -152,12 +152,12 @@ module _ {T O R : Type 0} (allows : T → O → Type 0) (step_of : T → O → R
 
 module _ {T O R : Type 0} where
   -- what a load after a join tells
-  pub joined_seen : (v u : View T O R) (w : View T O R) → w ≡ joined_view v u → All (EndedIn w.seen) w.ended → StartsWith w.seen v.seen × StartsWith w.seen u.seen
+  pub joined_seen : (v u : View T O R) (w : View T O R) → w ≡ joined_view v u → All (IsEndedIn w.seen) w.ended → StartsWith w.seen v.seen × StartsWith w.seen u.seen
   joined_seen v u w is all = let e : Ended O R = ended_of v u in
-      let last = All-head (EndedIn w.seen) e [] (all_right (EndedIn w.seen) v.ended (e ∷ []) (subst (All (EndedIn w.seen)) (ap (λ (z : View T O R). z.ended) is) all)) in (last.2, last.1)
+      let last = All-head (IsEndedIn w.seen) e [] (all_right (IsEndedIn w.seen) v.ended (e ∷ []) (subst (All (IsEndedIn w.seen)) (ap (λ (z : View T O R). z.ended) is) all)) in (last.2, last.1)
 
   module _ (step_of : T → O → R → T → Type 0) (is_idle : R → Bool) where
-    found_idle : (v : View T O R) (word : ℕ) → word < 2 ^ 63 → 2 * length v.seen ≤ word → FindsIdle step_of is_idle word (looked_at word v) → MetIdle step_of is_idle v (looked_at word v)
+    found_idle : (v : View T O R) (word : ℕ) → word < 2 ^ 63 → 2 * length v.seen ≤ word → FindsIdle step_of is_idle word (looked_at word v) → MeetsIdle step_of is_idle v (looked_at word v)
     found_idle v word low counts found = let front = found.front in let long : word ≡ 2 * length front.0 = front.2 in record {
       word = word;
       low = low;
@@ -173,11 +173,11 @@ module _ {T O R : Type 0} where
     }
 
     -- of a word that is the idle word, where nothing was done between the two loads
-    pub met_idle : (v a w : View T O R) (word idle : ℕ) → word < 2 ^ 63 → idle ≡ word → a ≡ looked_at word v → w ≡ a → 2 * length v.seen ≤ word → (idle < 2 ^ 63 → FindsIdle step_of is_idle idle a) → IsUnplayed v w × MetIdle step_of is_idle v w
+    pub met_idle : (v a w : View T O R) (word idle : ℕ) → word < 2 ^ 63 → idle ≡ word → a ≡ looked_at word v → w ≡ a → 2 * length v.seen ≤ word → (idle < 2 ^ 63 → FindsIdle step_of is_idle idle a) → IsUnplayed v w × MeetsIdle step_of is_idle v w
     met_idle v a w word idle low same is then counts found =
         let low_idle : idle < 2 ^ 63 = omega (arith, same) in
         let there : FindsIdle step_of is_idle word (looked_at word v) = subst (λ (z : ℕ × View T O R). FindsIdle step_of is_idle z.0 z.1) (λ i. (same i, is i)) (found low_idle) in
-        subst (λ (z : View T O R). IsUnplayed v z × MetIdle step_of is_idle v z) (sym (then ∙ is)) ((refl, refl, refl, refl, refl, refl), found_idle v word low counts there)
+        subst (λ (z : View T O R). IsUnplayed v z × MeetsIdle step_of is_idle v z) (sym (then ∙ is)) ((refl, refl, refl, refl, refl, refl), found_idle v word low counts there)
 
   module _ (step_of : T → O → R → T → Type 0) (is_open : O → Bool) where
     -- a word more changes nothing of the history
@@ -219,6 +219,6 @@ module _ {T O R : Type 0} where
       own = refl;
       others_open = All-nil (λ (e : Entry O R). e.by ≢ 0 → is_open e.op ≡ true);
       by_made = λ _. All-nil (λ (e : Entry O R). e.by ≤ 0);
-      ended_in = λ _. All-nil (EndedIn {O = O} {R = R} []);
+      ended_in = λ _. All-nil (IsEndedIn {O = O} {R = R} []);
       distinct = λ _ i j d lt wide. absurd (omega arith);
     }

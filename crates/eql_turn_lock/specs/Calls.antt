@@ -8,7 +8,7 @@ use Rattle.eql_turn_lock.specs.declared.tried.Tried.TheVariants.{Idle, Played, R
 use Rattle.eql_turn_lock.specs.declared.refused.NotNow.{NotNow}
 use Rattle.eql_turn_lock.specs.declared.refused.NotNow.TheVariants.{Busy, Worn}
 use Rattle.eql_turn_lock.specs.History.{StartsWith, entry, calls_by, OthersOpen, EndsIdle, IsLegal}
-use Rattle.eql_turn_lock.specs.Passes.{EndedIn, HasEnded, AreDistinct, KnowsHistory}
+use Rattle.eql_turn_lock.specs.Passes.{IsEndedIn, HasEnded, AreDistinct, KnowsHistory}
 use Rattle.eql_turn_lock.specs.Tries.{LostTry, IsLost, words_of}
 
 module _ {T O R : Type 0} where
@@ -59,25 +59,25 @@ module _ {T O R : Type 0} where
       × (w.made ≡ v.made) × (w.ended ≡ v.ended)
 
   -- the turn was held: the one word that the call met is odd
-  abbrev pub MetHeld : View T O R → ℕ → View T O R → Type 0
-  MetHeld v word w = (word % 2 ≡ 1) × (word < 2 ^ 63) × (w.looked ≡ v.looked ++ word ∷ [])
+  abbrev pub MeetsHeld : View T O R → ℕ → View T O R → Type 0
+  MeetsHeld v word w = (word % 2 ≡ 1) × (word < 2 ^ 63) × (w.looked ≡ v.looked ++ word ∷ [])
 
   -- the turn was free, and the word moved between the load and the exchange
-  abbrev pub MetMoved : View T O R → ℕ → View T O R → Type 0
-  MetMoved v word w =
+  abbrev pub MeetsMoved : View T O R → ℕ → View T O R → Type 0
+  MeetsMoved v word w =
       (loaded : ℕ) × (loaded % 2 ≡ 0) × (loaded < 2 ^ 63) × (word ≢ loaded)
       × (w.looked ≡ (v.looked ++ loaded ∷ []) ++ word ∷ [])
 
   -- One try: nothing was played, and the operation comes back with the last word that was met.
   abbrev pub Refuses : View T O R → O → NotNow O → View T O R → Type 0
   Refuses v op (Busy word back) w =
-      (back ≡ op) × IsUnplayed v w × (MetHeld v word w ⊎ MetMoved v word w)
+      (back ≡ op) × IsUnplayed v w × (MeetsHeld v word w ⊎ MeetsMoved v word w)
   Refuses v op (Worn word back) w =
       (back ≡ op) × IsUnplayed v w × (2 ^ 63 ≤ word) × (w.looked ≡ v.looked ++ word ∷ [])
 
   -- The one word that the call met counts a history that begins with all that the pass has seen, and
   -- whose last reply was idle.
-  pub record MetIdle (step_of : T → O → R → T → Type 0) (is_idle : R → Bool) (v w : View T O R) :
+  pub record MeetsIdle (step_of : T → O → R → T → Type 0) (is_idle : R → Bool) (v w : View T O R) :
       Type 0 where
     pub word : ℕ
     pub low : word < 2 ^ 63
@@ -97,7 +97,7 @@ module _ {T O R : Type 0} where
       (T → O → R → T → Type 0) → (O → Bool) → (R → Bool) → View T O R → O → Tried R O → View T O R
       → Type 0
   PlaysUnlessIdle step_of is_open is_idle v op (Idle back) w =
-      (back ≡ op) × IsUnplayed v w × MetIdle step_of is_idle v w
+      (back ≡ op) × IsUnplayed v w × MeetsIdle step_of is_idle v w
   PlaysUnlessIdle step_of is_open is_idle v op (Played reply) w =
       PlaysOnce step_of is_open v op reply w
   PlaysUnlessIdle step_of is_open is_idle v op (Refused refused) w = Refuses v op refused w
@@ -120,7 +120,7 @@ module _ {T O R : Type 0} where
     pub legal : IsLegal step_of opening log value
     pub begins : StartsWith log v.seen
     pub all_mine : calls_by v.number log ≡ v.mine
-    pub ended_in : All (EndedIn log) v.ended
+    pub ended_in : All (IsEndedIn log) v.ended
     pub others_open : OthersOpen is_open log
     pub by_made : All (λ (e : Entry O R). e.by ≤ v.made) log
     -- each entry is one of the closing pass or of one that was joined in

@@ -10,8 +10,8 @@ use Rattle.eql_turn_lock.specs.History.{StartsWith, calls_by, OthersOpen, IsLega
 module _ {O R : Type 0} where
   -- Of a pass that was joined in, the entries are those that the list has under its number. What it
   -- had seen begins the list, and so does what the first pass had seen by then.
-  abbrev pub EndedIn : List (Entry O R) → Ended O R → Type 0
-  EndedIn entries e =
+  abbrev pub IsEndedIn : List (Entry O R) → Ended O R → Type 0
+  IsEndedIn entries e =
       (calls_by e.number entries ≡ e.mine) × StartsWith entries e.seen × StartsWith entries e.before
 
   -- one of the passes that were joined in has this number
@@ -107,5 +107,5 @@ pub record KnowsHistory {T O R : Type 0} (step_of : T → O → R → T → Type
   -- of the first pass: no entry has a greater number than the passes that were made
   pub by_made : v.number ≡ 0 → All (λ (e : Entry O R). e.by ≤ v.made) v.seen
   -- of the first pass: the entries of each pass that was joined in are all in what it has seen
-  pub ended_in : v.number ≡ 0 → All (EndedIn v.seen) v.ended
+  pub ended_in : v.number ≡ 0 → All (IsEndedIn v.seen) v.ended
   pub distinct : v.number ≡ 0 → AreDistinct v.ended

@@ -13,7 +13,7 @@ use Rattle.eql_turn_lock.specs.declared.view.View.{View}
 use Rattle.eql_turn_lock.specs.declared.slot.LastCall.{LastCall}
 use Rattle.eql_turn_lock.specs.declared.slot.Slot.{Slot}
 use Rattle.eql_turn_lock.specs.History.{StartsWith, entry, calls_by, OthersOpen, EndsIdle, IsLegal}
-use Rattle.eql_turn_lock.specs.Passes.{EndedIn, HasEnded, AreDistinct, spent_view, is_live, KnowsHistory}
+use Rattle.eql_turn_lock.specs.Passes.{IsEndedIn, HasEnded, AreDistinct, spent_view, is_live, KnowsHistory}
 
 -- who has the turn: nobody, or the pass with this number
 pub data Phase : Type 0 where
@@ -76,7 +76,7 @@ module _ {T O R : Type 0} where
       (v : View T O R) : Type 0 where
     pub made_is : length views ≡ v.made + 1
     pub ended_fit : All (EndedFits log word views) v.ended
-    pub ended_seen : All (EndedIn v.seen) v.ended
+    pub ended_seen : All (IsEndedIn v.seen) v.ended
     pub distinct : AreDistinct v.ended
     pub each_spent :
         (j : ℕ) (u : View T O R) → get_elem? views j ≡ some u → is_live u ≡ false
@@ -155,7 +155,7 @@ module _ {T O R : Type 0} where
     pub others_open : OthersOpen is_open log
     pub by_made : me.0.number ≡ 0 → All (λ (e : Entry O R). e.by ≤ me.0.made) log
     pub ended_all :
-        me.0.number ≡ 0 → All (λ (e : Ended O R). (0 < e.number) × EndedIn log e) me.0.ended
+        me.0.number ≡ 0 → All (λ (e : Ended O R). (0 < e.number) × IsEndedIn log e) me.0.ended
     pub distinct : me.0.number ≡ 0 → AreDistinct me.0.ended
 
   abbrev pub IsSameBut : View T O R → View T O R → Type 0

@@ -10,6 +10,6 @@ MeetingReply Stay reply = ⊤
 MeetingReply Leave reply = reply ≡ true
 
 -- one operation more was played
-abbrev pub meeting_step : Meeting → MeetingOp → Bool → Meeting → Type 0
-meeting_step x op reply y =
+abbrev pub MeetingStep : Meeting → MeetingOp → Bool → Meeting → Type 0
+MeetingStep x op reply y =
     MeetingReply op reply × (x.played + 1 < 2 ^ 32 → y.played ≡ x.played + 1)

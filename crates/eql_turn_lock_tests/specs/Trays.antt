@@ -15,9 +15,9 @@ use Rattle.eql_turn_lock_tests.specs.declared.tray.TrayReply.{TrayReply}
 use Rattle.eql_turn_lock_tests.specs.declared.tray.TrayReply.TheVariants.{Delivered, Taken}
 
 -- a letter is delivered only where there is room
-abbrev pub tray_allows : Tray → TrayOp → Type 0
-tray_allows x (Deliver letter) = deque_len x.letters < deque_capacity x.letters
-tray_allows x Take = ⊤
+abbrev pub TrayAllows : Tray → TrayOp → Type 0
+TrayAllows x (Deliver letter) = deque_len x.letters < deque_capacity x.letters
+TrayAllows x Take = ⊤
 
 -- everyone may take a letter
 abbrev pub tray_open : TrayOp → Bool
@@ -34,23 +34,23 @@ SameRoom x y = deque_capacity y.letters ≡ deque_capacity x.letters
 
 -- A letter that is delivered is the last one. The first one is taken, and none only where there is
 -- none.
-abbrev pub tray_step : Tray → TrayOp → TrayReply → Tray → Type 0
-tray_step x (Deliver letter) Delivered y =
+abbrev pub TrayStep : Tray → TrayOp → TrayReply → Tray → Type 0
+TrayStep x (Deliver letter) Delivered y =
     (y.letters.items ≡ x.letters.items ++ letter ∷ []) × SameRoom x y
-tray_step x Take (Taken letter) y =
+TrayStep x Take (Taken letter) y =
     (x.letters.items ≡ option_to_list letter ++ y.letters.items)
     × (letter ≡ None → deque_len x.letters ≡ 0) × (deque_len y.letters ≤ deque_len x.letters)
     × SameRoom x y
-tray_step x (Deliver letter) (Taken taken) y = ⊥
-tray_step x Take Delivered y = ⊥
+TrayStep x (Deliver letter) (Taken taken) y = ⊥
+TrayStep x Take Delivered y = ⊥
 
-pub tray_opens : (x : Tray) (op : TrayOp) → tray_open op ≡ true → tray_allows x op
+pub tray_opens : (x : Tray) (op : TrayOp) → tray_open op ≡ true → TrayAllows x op
 tray_opens x (Deliver letter) open_is = absurd (true≢false (sym open_is))
 tray_opens x Take open_is = tt
 
 pub tray_stays_allowed :
     (x y : Tray) (op later : TrayOp) (reply : TrayReply) → tray_open op ≡ true
-    → tray_step x op reply y → tray_allows x later → tray_allows y later
+    → TrayStep x op reply y → TrayAllows x later → TrayAllows y later
 tray_stays_allowed x y (Deliver letter) later reply open_is step may =
     absurd (true≢false (sym open_is))
 tray_stays_allowed x y Take Take reply open_is step may = tt
@@ -84,8 +84,8 @@ taken (e ∷ es) = letters_out e.reply ++ taken es
 
 -- Every letter that the first pass delivered was taken out in the one history or is still in the
 -- tray, in order. So none is lost because someone held the turn.
-abbrev pub NothingLost : View Tray TrayOp TrayReply → Tray → Type 0
-NothingLost v tray =
+abbrev pub LosesNothing : View Tray TrayOp TrayReply → Tray → Type 0
+LosesNothing v tray =
     (log : List (Entry TrayOp TrayReply)) × (opening : Tray) × (v.opening ≡ Some opening)
     × StartsWith log v.seen
     × (opening.letters.items ++ delivered v.mine ≡ taken log ++ tray.letters.items)

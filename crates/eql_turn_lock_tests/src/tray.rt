@@ -41,15 +41,15 @@ impl Tray {
 }
 
 impl Turned for Tray {
-    ghost use Rattle.eql_turn_lock_tests.specs.Trays.{tray_allows, tray_step, tray_open, tray_idle, tray_opens, tray_stays_allowed};
+    ghost use Rattle.eql_turn_lock_tests.specs.Trays.{TrayAllows, TrayStep, tray_open, tray_idle, tray_opens, tray_stays_allowed};
 
     type Op = TrayOp;
 
     type Reply = TrayReply;
 
-    ghost allows = { tray_allows };
+    ghost allows = { TrayAllows };
 
-    ghost step_of = { tray_step };
+    ghost step_of = { TrayStep };
 
     ghost is_open = { tray_open };
 

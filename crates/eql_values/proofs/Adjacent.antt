@@ -12,7 +12,7 @@ use Rattle.eql_values.specs.declared.order.OrderKey.{OrderKey}
 use Rattle.eql_values.specs.declared.item.Item.{Item}
 use Rattle.eql_values.specs.OrderKeys.{order_cmp, before_all, events_ascend}
 use Rattle.eql_values.specs.Adjacent.{begins_above, ascends_next, by_order}
-use Rattle.eql_values.specs.Ascending.{AllAfter, Ascending}
+use Rattle.eql_values.specs.Ascending.{AllAfter, Ascend}
 use Rattle.eql_values.specs.Routes.{RoutesInOrder}
 
 less : (o : Ordering) → is_lt o ≡ true → o ≡ Less
@@ -80,16 +80,16 @@ below_after event (item ∷ items) below =
     let p = and_parts (is_lt (order_cmp event item.order)) (below_all order_cmp event (by_order items)) below in
     (less (order_cmp event item.order) p.0, below_after event items p.1)
 
-pub items_sorted : (items : List Item) → Ascending items → is_sorted order_cmp (by_order items) ≡ true
+pub items_sorted : (items : List Item) → Ascend items → is_sorted order_cmp (by_order items) ≡ true
 items_sorted [] up = refl
 items_sorted (item ∷ items) up =
     and_from (below_all order_cmp item.order (by_order items)) (is_sorted order_cmp (by_order items)) (after_below item.order items up.1) (items_sorted items up.2)
 
-pub routes_in_order : (items : List Item) → Ascending items → All (λ (item : Item). RoutesInOrder item.routes) items
+pub routes_in_order : (items : List Item) → Ascend items → All (λ (item : Item). RoutesInOrder item.routes) items
 routes_in_order [] up = All-nil (λ (item : Item). RoutesInOrder item.routes)
 routes_in_order (item ∷ items) up = All-cons (λ (item : Item). RoutesInOrder item.routes) item items up.0 (routes_in_order items up.2)
 
-pub items_ascend : (items : List Item) → All (λ (item : Item). RoutesInOrder item.routes) items → is_sorted order_cmp (by_order items) ≡ true → Ascending items
+pub items_ascend : (items : List Item) → All (λ (item : Item). RoutesInOrder item.routes) items → is_sorted order_cmp (by_order items) ≡ true → Ascend items
 items_ascend [] routes sorted = tt
 items_ascend (item ∷ items) routes sorted =
     let p = and_parts (below_all order_cmp item.order (by_order items)) (is_sorted order_cmp (by_order items)) sorted in

@@ -12,6 +12,6 @@ AllAfter event [] = Unit {0}
 AllAfter event (item ∷ items) = (order_cmp event item.order ≡ Less) × AllAfter event items
 
 -- the items ascend strictly, and the routes of each by key
-abbrev pub Ascending : List Item → Type 0
-Ascending [] = Unit {0}
-Ascending (item ∷ items) = RoutesInOrder item.routes × AllAfter item.order items × Ascending items
+abbrev pub Ascend : List Item → Type 0
+Ascend [] = Unit {0}
+Ascend (item ∷ items) = RoutesInOrder item.routes × AllAfter item.order items × Ascend items

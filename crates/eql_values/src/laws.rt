@@ -11,7 +11,7 @@ ghost use Rattle.eql_values.specs.declared.found.Numbered.{Numbered as Listed};
 ghost use Rattle.eql_values.specs.Adjacent.{ascends_next, NextTells};
 ghost use Rattle.eql_values.specs.Adjacent.{by_key, by_order, by_itself, by_slot, by_number};
 ghost use Rattle.eql_values.specs.Agreement.{Agrees, Tells};
-ghost use Rattle.eql_values.specs.Ascending.{Ascending};
+ghost use Rattle.eql_values.specs.Ascending.{Ascend};
 ghost use Rattle.eql_values.specs.Marks.{mark_cmp};
 ghost use Rattle.eql_values.specs.Matching.{slot_cmp};
 ghost use Rattle.eql_values.specs.Names.{names_eq};
@@ -45,10 +45,10 @@ pub fn order_from_next()
 pub fn orders_told_alike()
     ensures chains { (events : List Place)
         → is_sorted order_cmp (by_itself events) ≡ events_ascend events }
-    ensures items { (items : List Event) → Ascending items
+    ensures items { (items : List Event) → Ascend items
         → IsTrue (is_sorted order_cmp (by_order items)) }
-    ensures routes { (items : List Event) → Ascending items
+    ensures routes { (items : List Event) → Ascend items
         → All (λ item. RoutesInOrder item.routes) items }
     ensures back { (items : List Event) → All (λ item. RoutesInOrder item.routes) items
-        → IsTrue (is_sorted order_cmp (by_order items)) → Ascending items }
+        → IsTrue (is_sorted order_cmp (by_order items)) → Ascend items }
 {}

@@ -1,6 +1,6 @@
 //! What a disk in memory keeps of its areas: what the last good sync kept, the writes since, and what reads give.
 ghost use Rattle.std.specs.Prelude.{◌≡◌, ◌≤◌, IfOk, length, map};
-ghost use Rattle.eql_outside.specs.Areas.{Write, LeftAfter, Lands, MayLeave, store, with_store, settled, begun, written};
+ghost use Rattle.eql_outside.specs.Areas.{Write, IsLeftAfter, Lands, MayLeave, store, with_store, settled, begun, written};
 ghost use Rattle.eql_outside.specs.Disks.{write_of, store_of, moment_of};
 
 use crate::disk::Area;
@@ -207,7 +207,7 @@ fn left_after(
     writes: &[MemWrite],
     choice: u64,
 ) -> Result<(Vec<u8>, u64), Memory>
-    ensures { IfOk result (λ left. LeftAfter kept.now (map write_of writes.now) left.0.items) }
+    ensures { IfOk result (λ left. IsLeftAfter kept.now (map write_of writes.now) left.0.items) }
 {
     let Some((write, earlier)) = writes.split_first() else {
         return Ok((Vec::from_slice(alloc, kept)?, choice));

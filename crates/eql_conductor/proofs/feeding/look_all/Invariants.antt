@@ -2,7 +2,7 @@ use Rattle.eql_conductor.specs.Benches.{Rests}
 use Rattle.eql_conductor.specs.Bounds.{IsSomeLow}
 use Rattle.eql_conductor.specs.Going.{Went}
 use Rattle.eql_conductor.specs.LaneRounds.{SafeTo}
-use Rattle.eql_conductor.specs.RoundNotes.{LookedTo}
+use Rattle.eql_conductor.specs.RoundNotes.{NotesLooksTo}
 use Rattle.eql_conductor.proofs.feeding.look_all.Given as goal
 
 abbrev pub invariant-loop-s : goal.invariant-loop-s
@@ -11,5 +11,5 @@ invariant-loop-s g l = record {
   safe : SafeTo l.s l.mark (g.B.Bench.known l.bench);
   went : Went (g.B.Bench.known l.fn.bench) (g.B.Bench.known l.bench);
   low : IsSomeLow l.mark (g.B.Bench.known l.fn.bench) (g.B.Bench.known l.bench);
-  looked : LookedTo l.s l.mark (g.B.Bench.known l.fn.bench) (g.B.Bench.known l.bench);
+  looked : NotesLooksTo l.s l.mark (g.B.Bench.known l.fn.bench) (g.B.Bench.known l.bench);
 }

@@ -7,7 +7,7 @@ use Rattle.eql_parts.specs.PartSteps.{Rules}
 use Rattle.eql_parts.specs.Spreading.{part_number}
 use Rattle.eql_conductor.specs.Benches.{LanesRest, Same}
 use Rattle.eql_conductor.specs.Going.{Went}
-use Rattle.eql_conductor.specs.PartRounds.{Delivering, Resting}
+use Rattle.eql_conductor.specs.PartRounds.{AreDelivered, AreAtRest}
 use Rattle.eql_conductor.specs.RoundNotes.{PartsTo}
 use Rattle.eql_conductor.proofs.playing.deliver_all.Given as goal
 
@@ -15,7 +15,7 @@ abbrev pub invariant-loop-p : goal.invariant-loop-p
 invariant-loop-p g l = record {
   left : into_iter_items l.lists ≡ drop l.p (map (λ p. routed part_number p l.items) (numbers 16));
   count : into_iter_len l.lists + l.p ≡ 16;
-  parts : (rules : Rules) (all : List Holder) → Resting rules all l.last (g.B.Bench.known l.fn.bench) → Delivering rules all l.items l.last l.mark l.p (g.B.Bench.known l.bench);
+  parts : (rules : Rules) (all : List Holder) → AreAtRest rules all l.last (g.B.Bench.known l.fn.bench) → AreDelivered rules all l.items l.last l.mark l.p (g.B.Bench.known l.bench);
   same : Same (g.B.Bench.known l.fn.bench) (g.B.Bench.known l.bench);
   lanes : LanesRest (g.B.Bench.known l.fn.bench) (g.B.Bench.known l.bench);
   went : Went (g.B.Bench.known l.fn.bench) (g.B.Bench.known l.bench);

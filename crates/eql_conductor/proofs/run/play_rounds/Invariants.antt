@@ -1,7 +1,7 @@
 use Rattle.std.proofs.Common.{◌≡◌, ◌≢◌, ◌≤◌, ◌-◌, None}
 use Rattle.eql_values.specs.declared.order.Mark.TheVariants.{End}
 use Rattle.eql_outside.specs.Unfailing.{IsUnfailing}
-use Rattle.eql_conductor.specs.Bounds.{RoundsSpent}
+use Rattle.eql_conductor.specs.Bounds.{RoundsSpend}
 use Rattle.eql_conductor.specs.Going.{LanesGo, Went}
 use Rattle.eql_conductor.specs.RunNotes.{place}
 use Rattle.eql_conductor.specs.Running.{RanTo}
@@ -12,7 +12,7 @@ abbrev pub invariant-loop-round : goal.invariant-loop-round
 invariant-loop-round g l = record {
   ran : RanTo g.D.Disk.history g.D.Disk.fault_count l.plan (place l.last l.count) l.round (g.B.Bench.known l.fn.bench) (g.B.Bench.known l.bench) l.fn.book l.book
       (g.K.Sink.written l.fn.sink) (g.K.Sink.written l.sink) l.fn.keep l.keep;
-  spent : RoundsSpent l.round (g.B.Bench.known l.fn.bench) (g.B.Bench.known l.bench);
+  spent : RoundsSpend l.round (g.B.Bench.known l.fn.bench) (g.B.Bench.known l.bench);
   before_end : l.last ≢ End;
   goes : LanesGo (g.B.Bench.known l.fn.bench) (g.B.Bench.known l.bench);
   went : Went (g.B.Bench.known l.fn.bench) (g.B.Bench.known l.bench);

@@ -4,7 +4,7 @@ use Rattle.std.proofs.lemmas.Int.{to_z-of_z}
 use Rattle.std.proofs.lemmas.Result.{err_from_is_err_and}
 use Rattle.eql_values.specs.declared.order.Mark.TheVariants.{At}
 use Rattle.eql_laws.specs.Alive.{alive_holders}
-use Rattle.eql_conductor.specs.PartRounds.{Resting, SomeFull, pending_after}
+use Rattle.eql_conductor.specs.PartRounds.{AreAtRest, AreSomehowFull, pending_after}
 use Rattle.eql_conductor.proofs.Resting.{rests_on}
 use Rattle.eql_conductor.proofs.Onward.{rest_goes, stops_on}
 use Rattle.eql_conductor.proofs.Broken.{on_err}
@@ -17,7 +17,7 @@ pub snap_parts-requires : goal.snap_parts-requires
 snap_parts-requires g c =
     let rests = c.snap_lanes.ensures.rests in
     record {
-      some = subst (λ (t : ℤ). SomeFull (At t) (g.B.Bench.known c.snap_lanes.new.bench)) (sym (to_z-of_z w128 c.args.time c.ranges.time))
+      some = subst (λ (t : ℤ). AreSomehowFull (At t) (g.B.Bench.known c.snap_lanes.new.bench)) (sym (to_z-of_z w128 c.args.time c.ranges.time))
           (full_stays (At c.args.time) (g.B.Bench.known c.args.bench.now) (g.B.Bench.known c.snap_lanes.new.bench) rests.same rests.parts c.requires.some);
     }
 
@@ -43,7 +43,7 @@ returns-in-Ok-clause-saved g c =
     (subst (λ (t : ℤ). c.in-Ok.cut ≡ record { head = c.args.head.now; mark = t; lanes = c.in_ok-lanes.lanes; holders = c.in_ok-holders.holders; book = c.args.book.now.kept }) time c.in-Ok.ensures)
     c.requires.lanes c.requires.numbers c.requires.head c.in_ok-lanes.ensures.snaps
     (λ rules all rest.
-    subst (λ (t : ℤ). Resting rules all (At t) b → c.in_ok-holders.holders ≡ alive_holders rules.span t (pending_after rules all [])) time
+    subst (λ (t : ℤ). AreAtRest rules all (At t) b → c.in_ok-holders.holders ≡ alive_holders rules.span t (pending_after rules all [])) time
     (c.in_ok-holders.ensures.held rules all) (parts_stay rules all (At c.args.time) a b rests.same rests.parts rest))
     c.in_ok-holders.ensures.in_order c.in_ok-holders.ensures.full c.types_say.ensures
 

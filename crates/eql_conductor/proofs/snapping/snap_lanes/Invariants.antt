@@ -3,7 +3,7 @@ use Rattle.eql_values.specs.declared.order.Mark.{Mark}
 use Rattle.eql_conductor.specs.Benches.{Rests}
 use Rattle.eql_conductor.specs.Going.{Went}
 use Rattle.eql_conductor.specs.LaneRounds.{LanesAt}
-use Rattle.eql_conductor.specs.RoundNotes.{NotedTo}
+use Rattle.eql_conductor.specs.RoundNotes.{NotesLanesTo}
 use Rattle.eql_conductor.specs.declared.note.Note.TheVariants.{Snapped}
 use Rattle.eql_conductor.specs.Snaps.{SnapsFrom}
 use Rattle.eql_conductor.proofs.snapping.snap_lanes.Given as goal
@@ -14,5 +14,5 @@ invariant-loop-s g l = record {
   snaps : (texts : Option (List (List ℕ))) (mark : Mark) → LanesAt texts mark (g.B.Bench.known l.fn.bench) → SnapsFrom texts mark (g.B.Bench.known l.fn.bench) 0 l.cuts.items;
   count : length l.cuts.items ≡ l.s;
   went : Went (g.B.Bench.known l.fn.bench) (g.B.Bench.known l.bench);
-  noted : NotedTo l.s (λ s. Snapped ∷ []) (g.B.Bench.known l.fn.bench) (g.B.Bench.known l.bench);
+  noted : NotesLanesTo l.s (λ s. Snapped ∷ []) (g.B.Bench.known l.fn.bench) (g.B.Bench.known l.bench);
 }

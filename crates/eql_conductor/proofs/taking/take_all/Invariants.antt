@@ -5,7 +5,7 @@ use Rattle.eql_conductor.specs.Going.{LanesGo, Went}
 use Rattle.eql_conductor.specs.LaneRounds.{LanesAt, TookTo}
 use Rattle.eql_conductor.specs.Handed.{LanesHand, sizes}
 use Rattle.eql_conductor.specs.declared.note.Note.TheVariants.{Took}
-use Rattle.eql_conductor.specs.RoundNotes.{NotedTo}
+use Rattle.eql_conductor.specs.RoundNotes.{NotesLanesTo}
 use Rattle.eql_conductor.proofs.taking.take_all.Given as goal
 
 abbrev pub invariant-loop-s : goal.invariant-loop-s
@@ -18,5 +18,5 @@ invariant-loop-s g l = record {
   went : Went (g.B.Bench.known l.fn.bench) (g.B.Bench.known l.bench);
   gave : GaveOutTo l.s l.mark (g.B.Bench.known l.fn.bench) (g.B.Bench.known l.bench);
   handed : LanesHand (sizes l.lists.items) (g.B.Bench.known l.fn.bench) (g.B.Bench.known l.bench);
-  noted : NotedTo l.s (λ s. Took l.mark ∷ []) (g.B.Bench.known l.fn.bench) (g.B.Bench.known l.bench);
+  noted : NotesLanesTo l.s (λ s. Took l.mark ∷ []) (g.B.Bench.known l.fn.bench) (g.B.Bench.known l.bench);
 }

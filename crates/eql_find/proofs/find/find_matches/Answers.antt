@@ -1,6 +1,6 @@
 use Rattle.std.proofs.Common.{ℕ, Option, refl, subst, sym, ◌∙◌}
 use Rattle.std.specs.Prelude.{IfErr}
-use Rattle.eql_outside.specs.Moments.{History, Told}
+use Rattle.eql_outside.specs.Moments.{History, DiskTells}
 use Rattle.eql_outside.specs.Plans.{FaultPlan}
 use Rattle.eql_outside.specs.Unfailing.{IsUnfailing}
 use Rattle.eql_ckdisk.specs.Going.{Goes}
@@ -75,11 +75,11 @@ returns-in-Ok-open_shards-clause-unfailing g c =
 pub returns-in-Ok-open_shards-clause-moments : goal.returns-in-Ok-open_shards-clause-moments
 returns-in-Ok-open_shards-clause-moments g c =
     λ asked.
-    over_both (λ (fs : Option Files) (h : Option History). Told (KeepsCuts c.args.find.now fs (g.K.Sink.written c.args.out.now) (g.K.Sink.written c.run_shards.new.out)) h (g.H.Shelf.disk_history c.run_shards.new.shelf))
+    over_both (λ (fs : Option Files) (h : Option History). DiskTells (KeepsCuts c.args.find.now fs (g.K.Sink.written c.args.out.now) (g.K.Sink.written c.run_shards.new.out)) h (g.H.Shelf.disk_history c.run_shards.new.shelf))
     (c.open_shards.ensures.kept.files_are ∙ c.read_plan.ensures.kept.files_are) (c.open_shards.ensures.kept.history_is ∙ c.read_plan.ensures.kept.history_is)
     (c.run_shards.ensures.moments asked)
 
 pub returns-in-Ok-open_shards-clause-cut_kept : goal.returns-in-Ok-open_shards-clause-cut_kept
 returns-in-Ok-open_shards-clause-cut_kept g c =
-    subst (λ (h : Option History). IfErr c.run_shards.result (λ halt. IsRefusal halt → Told (Goes NoMore) h (g.H.Shelf.disk_history c.run_shards.new.shelf)))
+    subst (λ (h : Option History). IfErr c.run_shards.result (λ halt. IsRefusal halt → DiskTells (Goes NoMore) h (g.H.Shelf.disk_history c.run_shards.new.shelf)))
     (c.open_shards.ensures.kept.history_is ∙ c.read_plan.ensures.kept.history_is) c.run_shards.ensures.cut_kept

@@ -1,11 +1,11 @@
 use Rattle.std.proofs.Common.{ℕ, Option, ap, subst, sym, ◌∙◌}
 use Rattle.std.specs.Prelude.{IfErr, OnErr, OnOk}
-use Rattle.eql_outside.specs.Moments.{History, Told}
+use Rattle.eql_outside.specs.Moments.{History, DiskTells}
 use Rattle.eql_ckdisk.specs.Going.{Goes}
 use Rattle.eql_ckdisk.specs.Keeping.{NoMore}
 use Rattle.eql_runs.specs.Files.{Files}
 use Rattle.eql_runs.specs.Runs.{IfFound, IsFindAccepted, KeepsCuts}
-use Rattle.eql_find.specs.Finding.{FoundAll, FoundListing, FoundSome, HasCause}
+use Rattle.eql_find.specs.Finding.{FindsAll, FindsListing, FindsSome, HasCause}
 use Rattle.eql_find.specs.Halts.{AbsenceAs, DiskAs, IsRefusal, IsReport}
 use Rattle.eql_find.specs.Starting.{IsFreshKeep}
 use Rattle.eql_find.proofs.DiskLemmas.{recovered_keeps}
@@ -68,20 +68,20 @@ returns-in-Err-clause-err g c =
 pub returns-in-Err-clause-moments : goal.returns-in-Err-clause-moments
 returns-in-Err-clause-moments g c =
     λ asked.
-    subst (λ (d : Option History). Told (KeepsCuts c.args.find.now (g.H.Shelf.files c.args.shelf.now) (g.K.Sink.written c.args.out.now) (g.K.Sink.written c.args.out.now)) (g.H.Shelf.disk_history c.args.shelf.now) d)
+    subst (λ (d : Option History). DiskTells (KeepsCuts c.args.find.now (g.H.Shelf.files c.args.shelf.now) (g.K.Sink.written c.args.out.now) (g.K.Sink.written c.args.out.now)) (g.H.Shelf.disk_history c.args.shelf.now) d)
     (sym c.give_sources.ensures.kept.history_is) (recovered_keeps c.puts_go_on.ensures _ _ _ _ _ _ c.in-Err.ensures.moments)
 
 pub returns-in-Err-clause-cut_kept : goal.returns-in-Err-clause-cut_kept
 returns-in-Err-clause-cut_kept g c =
     λ refusal.
-    subst (λ (d : Option History). Told (Goes NoMore) (g.H.Shelf.disk_history c.args.shelf.now) d) (sym c.give_sources.ensures.kept.history_is)
+    subst (λ (d : Option History). DiskTells (Goes NoMore) (g.H.Shelf.disk_history c.args.shelf.now) d) (sym c.give_sources.ensures.kept.history_is)
     c.in-Err.ensures.moments
 
 -- it is begun
 
 pub returns-in-Ok-clause-done : goal.returns-in-Ok-clause-done
 returns-in-Ok-clause-done g c =
-    over_both (λ (fs : Option Files) (h : Option History). OnOk c.run_start.result (FoundAll c.args.find.now fs h (g.K.Sink.written c.args.out.now) (g.K.Sink.written c.run_start.new.out) (g.E.Sink.written c.args.err.now) (g.E.Sink.written c.run_start.new.err))) c.in-Ok.ensures.kept.files_are c.in-Ok.ensures.still c.run_start.ensures.done
+    over_both (λ (fs : Option Files) (h : Option History). OnOk c.run_start.result (FindsAll c.args.find.now fs h (g.K.Sink.written c.args.out.now) (g.K.Sink.written c.run_start.new.out) (g.E.Sink.written c.args.err.now) (g.E.Sink.written c.run_start.new.err))) c.in-Ok.ensures.kept.files_are c.in-Ok.ensures.still c.run_start.ensures.done
 
 pub returns-in-Ok-clause-accepted : goal.returns-in-Ok-clause-accepted
 returns-in-Ok-clause-accepted g c =
@@ -89,11 +89,11 @@ returns-in-Ok-clause-accepted g c =
 
 pub returns-in-Ok-clause-prefix : goal.returns-in-Ok-clause-prefix
 returns-in-Ok-clause-prefix g c =
-    over_both (λ (fs : Option Files) (h : Option History). OnErr c.run_start.result (FoundSome c.args.find.now fs h (g.K.Sink.written c.args.out.now) (g.K.Sink.written c.run_start.new.out))) c.in-Ok.ensures.kept.files_are c.in-Ok.ensures.still c.run_start.ensures.prefix
+    over_both (λ (fs : Option Files) (h : Option History). OnErr c.run_start.result (FindsSome c.args.find.now fs h (g.K.Sink.written c.args.out.now) (g.K.Sink.written c.run_start.new.out))) c.in-Ok.ensures.kept.files_are c.in-Ok.ensures.still c.run_start.ensures.prefix
 
 pub returns-in-Ok-clause-listed : goal.returns-in-Ok-clause-listed
 returns-in-Ok-clause-listed g c =
-    over_both (λ (fs : Option Files) (h : Option History). IfErr c.run_start.result (λ halt. IsReport halt → FoundListing c.args.find.now fs h (g.K.Sink.written c.args.out.now) (g.K.Sink.written c.run_start.new.out))) c.in-Ok.ensures.kept.files_are c.in-Ok.ensures.still c.run_start.ensures.listed
+    over_both (λ (fs : Option Files) (h : Option History). IfErr c.run_start.result (λ halt. IsReport halt → FindsListing c.args.find.now fs h (g.K.Sink.written c.args.out.now) (g.K.Sink.written c.run_start.new.out))) c.in-Ok.ensures.kept.files_are c.in-Ok.ensures.still c.run_start.ensures.listed
 
 pub returns-in-Ok-clause-cause : goal.returns-in-Ok-clause-cause
 returns-in-Ok-clause-cause g c =
@@ -134,9 +134,9 @@ returns-in-Ok-clause-disk_kept g c =
 pub returns-in-Ok-clause-moments : goal.returns-in-Ok-clause-moments
 returns-in-Ok-clause-moments g c =
     λ asked.
-    over_both (λ (fs : Option Files) (h : Option History). Told (KeepsCuts c.args.find.now fs (g.K.Sink.written c.args.out.now) (g.K.Sink.written c.run_start.new.out)) h (g.H.Shelf.disk_history c.run_start.new.shelf)) c.in-Ok.ensures.kept.files_are c.in-Ok.ensures.still (c.run_start.ensures.moments asked)
+    over_both (λ (fs : Option Files) (h : Option History). DiskTells (KeepsCuts c.args.find.now fs (g.K.Sink.written c.args.out.now) (g.K.Sink.written c.run_start.new.out)) h (g.H.Shelf.disk_history c.run_start.new.shelf)) c.in-Ok.ensures.kept.files_are c.in-Ok.ensures.still (c.run_start.ensures.moments asked)
 
 pub returns-in-Ok-clause-cut_kept : goal.returns-in-Ok-clause-cut_kept
 returns-in-Ok-clause-cut_kept g c =
-    subst (λ (h : Option History). IfErr c.run_start.result (λ halt. IsRefusal halt → Told (Goes NoMore) h (g.H.Shelf.disk_history c.run_start.new.shelf)))
+    subst (λ (h : Option History). IfErr c.run_start.result (λ halt. IsRefusal halt → DiskTells (Goes NoMore) h (g.H.Shelf.disk_history c.run_start.new.shelf)))
     c.in-Ok.ensures.still c.run_start.ensures.cut_kept

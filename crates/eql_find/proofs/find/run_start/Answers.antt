@@ -3,7 +3,7 @@ use Rattle.std.proofs.Common.{Option, ℕ, ap, subst, sym, ◌∙◌, refl}
 use Rattle.std.specs.Prelude.{IfErr}
 use Rattle.eql_ckdisk.specs.Going.{Goes}
 use Rattle.eql_ckdisk.specs.Keeping.{NoMore}
-use Rattle.eql_outside.specs.Moments.{History, Told}
+use Rattle.eql_outside.specs.Moments.{History, DiskTells}
 use Rattle.eql_runs.specs.Runs.{KeepsCuts}
 use Rattle.eql_find.specs.Finding.{HasCause}
 use Rattle.eql_find.specs.Halts.{AbsenceAs, DiskAs, IsRefusal}
@@ -50,13 +50,13 @@ pub returns-clause-moments : goal.returns-clause-moments
 returns-clause-moments g c =
     λ asked.
     let same = c.give_keep.ensures.taken.0 ∙ ap (λ (d : Option History). disk_after g.H.Dsk.Disk.history d c.run_over-ran.new.keep) c.run_over-ran.ensures.kept.history_is in
-    subst (λ (d : Option History). Told (KeepsCuts c.args.find.now (g.H.Shelf.files c.args.shelf.now) (g.K.Sink.written c.args.out.now) (g.K.Sink.written c.run_over-ran.new.out)) (g.H.Shelf.disk_history c.args.shelf.now) d)
+    subst (λ (d : Option History). DiskTells (KeepsCuts c.args.find.now (g.H.Shelf.files c.args.shelf.now) (g.K.Sink.written c.args.out.now) (g.K.Sink.written c.run_over-ran.new.out)) (g.H.Shelf.disk_history c.args.shelf.now) d)
     (sym same) (c.run_over-ran.ensures.moments asked)
 
 pub returns-clause-cut_kept : goal.returns-clause-cut_kept
 returns-clause-cut_kept g c =
     let same = c.give_keep.ensures.taken.0 ∙ ap (λ (d : Option History). disk_after g.H.Dsk.Disk.history d c.run_over-ran.new.keep) c.run_over-ran.ensures.kept.history_is in
-    subst (λ (d : Option History). IfErr c.run_over-ran.result (λ halt. IsRefusal halt → Told (Goes NoMore) (g.H.Shelf.disk_history c.args.shelf.now) d))
+    subst (λ (d : Option History). IfErr c.run_over-ran.result (λ halt. IsRefusal halt → DiskTells (Goes NoMore) (g.H.Shelf.disk_history c.args.shelf.now) d))
     (sym same) c.run_over-ran.ensures.cut_kept
 
 pub run_over-ran-requires : goal.run_over-ran-requires

@@ -1,7 +1,7 @@
 use Rattle.std.proofs.Common.{◌≡◌, subst, List, ℕ, Ok}
 use Rattle.std.proofs.lemmas.Result.{err_from_is_err_and, IfOk-weaker, IfErr-weaker}
 use Rattle.eql_check.specs.Mappings.{mapping_of}
-use Rattle.eql_inputs.specs.Steps.{StoppedMapping}
+use Rattle.eql_inputs.specs.Steps.{StopsMapping}
 use Rattle.eql_inputs.proofs.HaltLemmas.{mapping_unread, mapping_got, mapping_stopped, mapping_calm, text_faults, text_count, text_absence}
 use Rattle.eql_inputs.proofs.checked.read_mapping.Goals as goal
 
@@ -19,7 +19,7 @@ pub returns-clause-cause : goal.returns-clause-cause
 returns-clause-cause g c =
     IfErr-weaker c.mapping_of.result _ _
     (λ halt stop. mapping_stopped _ _ _ halt c.in_ok-text.ensures.front
-    (subst (λ (x : List ℕ). StoppedMapping x halt) c.as_slice.ensures.value stop)) c.mapping_of.ensures.cause
+    (subst (λ (x : List ℕ). StopsMapping x halt) c.as_slice.ensures.value stop)) c.mapping_of.ensures.cause
 
 pub returns-clause-faults : goal.returns-clause-faults
 returns-clause-faults g c =

@@ -1,7 +1,7 @@
 use Rattle.std.proofs.Common.{subst, List, ℕ}
 use Rattle.std.proofs.lemmas.Result.{err_from_is_err_and, IfOk-weaker, IfErr-weaker}
 use Rattle.eql_query.specs.QueryTree.{query_tree}
-use Rattle.eql_inputs.specs.Steps.{IsQueryText, StoppedQuery}
+use Rattle.eql_inputs.specs.Steps.{IsQueryText, StopsQuery}
 use Rattle.eql_inputs.proofs.HaltLemmas.{query_unread, query_got, query_stopped, query_calm, text_faults, text_count, text_absence}
 use Rattle.eql_inputs.proofs.checked.read_query.Goals as goal
 
@@ -19,7 +19,7 @@ pub returns-clause-cause : goal.returns-clause-cause
 returns-clause-cause g c =
     IfErr-weaker c.query_in.result _ _
     (λ halt stop. query_stopped _ _ _ halt c.in_ok-text.ensures.front
-    (subst (λ (x : List ℕ). StoppedQuery x halt) c.as_slice.ensures.value stop)) c.query_in.ensures.cause
+    (subst (λ (x : List ℕ). StopsQuery x halt) c.as_slice.ensures.value stop)) c.query_in.ensures.cause
 
 pub returns-clause-faults : goal.returns-clause-faults
 returns-clause-faults g c =

@@ -1,5 +1,5 @@
 use Rattle.std.proofs.Common.{refl, sym, subst}
-use Rattle.eql_lane.specs.Noting.{Located}
+use Rattle.eql_lane.specs.Noting.{Locates}
 use Rattle.eql_lane.proofs.pass.judge.Goals as goal
 
 pub returns-then-not-ended-clause-refused : goal.returns-then-not-ended-clause-refused
@@ -8,4 +8,4 @@ returns-then-not-ended-clause-refused c front rest n at_end tested =
 
 pub returns-clause-located : goal.returns-clause-located
 returns-clause-located c front rest n at_end =
-    subst (Located front rest c.args.notes.wanted) (sym c.into_places.ensures) (c.in_default.ensures.located refl front rest n at_end)
+    subst (Locates front rest c.args.notes.wanted) (sym c.into_places.ensures) (c.in_default.ensures.located refl front rest n at_end)

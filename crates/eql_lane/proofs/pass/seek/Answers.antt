@@ -1,5 +1,5 @@
 use Rattle.std.proofs.Common.{◌+◌, ℕ, Bool, Ok, refl, ap, arith}
-use Rattle.eql_lane.specs.Passing.{PassedOver, ReadOver}
+use Rattle.eql_lane.specs.Passing.{PassesOver, ReadsOver}
 use Rattle.eql_lane.proofs.Starting.{passed_join, passed_none}
 use Rattle.eql_lane.proofs.Seeking.{finds_of, cause_of, map_ok, map_err, by_end, to_offset, not_closed}
 use Rattle.eql_lane.proofs.pass.seek.Goals as goal
@@ -9,9 +9,9 @@ returns-clause-passed g c ok =
     let whole = c.judge.ensures.whole ok in
     let ends = c.in-Ok-ends_here.ensures {u = tt} in
     let over = c.in-Ok-pass_over.ensures {u = tt} in
-    let last : PassedOver g.S.Source.left g.S.Source.lent_as 0 c.pass_over.new.source c.ends_here.new.source =
+    let last : PassesOver g.S.Source.left g.S.Source.lent_as 0 c.pass_over.new.source c.ends_here.new.source =
     by_end _ c.in-Ok-ends_here.ended (λ e. (ends.ended (ap (λ (b : Bool). Ok b) e)).1) (λ e. ends.same (not_closed c.args.closed c.in-Ok-ends_here.ended whole.0 e) (whole.1 e)) in
-    to_offset (λ n. PassedOver g.S.Source.left g.S.Source.lent_as n c.args.source.now c.ends_here.new.source) c.in-Ok-pass_over.had c.args.offset over.few c.if-had-offset.false
+    to_offset (λ n. PassesOver g.S.Source.left g.S.Source.lent_as n c.args.source.now c.ends_here.new.source) c.in-Ok-pass_over.had c.args.offset over.few c.if-had-offset.false
     (passed_none g.S.Source.left g.S.Source.lent_as c.in-Ok-pass_over.had 0 c.args.source.now c.pass_over.new.source c.ends_here.new.source refl over.passed last)
 
 pub returns-clause-finds : goal.returns-clause-finds
@@ -19,10 +19,10 @@ returns-clause-finds g c =
     let over = c.in-Ok-pass_over.ensures {u = tt} in
     let ends = c.in-Ok-ends_here.ensures {u = tt} in
     let start = c.in-Ok.ensures {u = tt} in
-    let read : ReadOver (g.S.Source.left c.args.source.now) c.args.offset c.in-Ok.notes c.pass_over.new.notes =
-    to_offset (λ (n : ℕ). ReadOver (g.S.Source.left c.args.source.now) n c.in-Ok.notes c.pass_over.new.notes) c.in-Ok-pass_over.had c.args.offset over.few c.if-had-offset.false over.read in
-    let passed : PassedOver g.S.Source.left g.S.Source.lent_as c.args.offset c.args.source.now c.pass_over.new.source =
-    to_offset (λ (n : ℕ). PassedOver g.S.Source.left g.S.Source.lent_as n c.args.source.now c.pass_over.new.source) c.in-Ok-pass_over.had c.args.offset over.few c.if-had-offset.false over.passed in
+    let read : ReadsOver (g.S.Source.left c.args.source.now) c.args.offset c.in-Ok.notes c.pass_over.new.notes =
+    to_offset (λ (n : ℕ). ReadsOver (g.S.Source.left c.args.source.now) n c.in-Ok.notes c.pass_over.new.notes) c.in-Ok-pass_over.had c.args.offset over.few c.if-had-offset.false over.read in
+    let passed : PassesOver g.S.Source.left g.S.Source.lent_as c.args.offset c.args.source.now c.pass_over.new.source =
+    to_offset (λ (n : ℕ). PassesOver g.S.Source.left g.S.Source.lent_as n c.args.source.now c.pass_over.new.source) c.in-Ok-pass_over.had c.args.offset over.few c.if-had-offset.false over.passed in
     map_ok c.judge.result _ _ (λ places located.
     finds_of (g.S.Source.left c.args.source.now) (g.S.Source.left c.pass_over.new.source) c.args.offset c.in-Ok-ends_here.ended c.in-Ok.notes c.pass_over.new.notes c.args.wanted places start.wanted start.noted read passed.rest
     (λ e. (ends.ended (ap (λ (b : Bool). Ok b) e)).0) located) c.judge.ensures.located
@@ -32,10 +32,10 @@ returns-clause-cause g c =
     let over = c.in-Ok-pass_over.ensures {u = tt} in
     let ends = c.in-Ok-ends_here.ensures {u = tt} in
     let start = c.in-Ok.ensures {u = tt} in
-    let read : ReadOver (g.S.Source.left c.args.source.now) c.args.offset c.in-Ok.notes c.pass_over.new.notes =
-    to_offset (λ (n : ℕ). ReadOver (g.S.Source.left c.args.source.now) n c.in-Ok.notes c.pass_over.new.notes) c.in-Ok-pass_over.had c.args.offset over.few c.if-had-offset.false over.read in
-    let passed : PassedOver g.S.Source.left g.S.Source.lent_as c.args.offset c.args.source.now c.pass_over.new.source =
-    to_offset (λ (n : ℕ). PassedOver g.S.Source.left g.S.Source.lent_as n c.args.source.now c.pass_over.new.source) c.in-Ok-pass_over.had c.args.offset over.few c.if-had-offset.false over.passed in
+    let read : ReadsOver (g.S.Source.left c.args.source.now) c.args.offset c.in-Ok.notes c.pass_over.new.notes =
+    to_offset (λ (n : ℕ). ReadsOver (g.S.Source.left c.args.source.now) n c.in-Ok.notes c.pass_over.new.notes) c.in-Ok-pass_over.had c.args.offset over.few c.if-had-offset.false over.read in
+    let passed : PassesOver g.S.Source.left g.S.Source.lent_as c.args.offset c.args.source.now c.pass_over.new.source =
+    to_offset (λ (n : ℕ). PassesOver g.S.Source.left g.S.Source.lent_as n c.args.source.now c.pass_over.new.source) c.in-Ok-pass_over.had c.args.offset over.few c.if-had-offset.false over.passed in
     map_err c.judge.result _ _ (λ refused judged.
     cause_of refused (g.S.Source.left c.args.source.now) (g.S.Source.left c.pass_over.new.source) (g.S.Source.fault_count c.args.source.now) (g.S.Source.fault_count c.ends_here.new.source)
     c.args.offset c.in-Ok-ends_here.ended c.args.closed c.in-Ok.notes c.pass_over.new.notes c.args.wanted start.wanted start.noted read passed.rest

@@ -1,7 +1,7 @@
 use Rattle.std.proofs.Common.{sym, subst, ◌∙◌, List}
 use Rattle.std.specs.Prelude.{All}
 use Rattle.eql_values.specs.declared.item.Item.{Item}
-use Rattle.eql_values.specs.Ascending.{Ascending}
+use Rattle.eql_values.specs.Ascending.{Ascend}
 use Rattle.eql_laws.specs.Apart.{joined}
 use Rattle.eql_merge.specs.Ranks.{Ascends, NoTies, SameFirsts, item_rank}
 use Rattle.eql_merge.proofs.Ends.{items_ascend, items_apart, items_merged, all_ascends}
@@ -21,4 +21,4 @@ returns-clause-sorted c =
 pub returns-clause-ascends : goal.returns-clause-ascends
 returns-clause-ascends c =
     let firsts = subst (λ (l : List (List Item)). SameFirsts item_rank (joined l) c.in_ok-all.all.items) (c.in_ok-runs.ensures {u = tt}) c.in_ok-all.ensures.all in
-    subst Ascending (sym (c.of.ensures ∙ items_merged c.args.lists c.in_ok-all.all.items c.in_ok-all.ensures.ascends firsts)) (all_ascends c.below_ascends.ensures.sorted c.args.lists c.requires.ascend)
+    subst Ascend (sym (c.of.ensures ∙ items_merged c.args.lists c.in_ok-all.all.items c.in_ok-all.ensures.ascends firsts)) (all_ascends c.below_ascends.ensures.sorted c.args.lists c.requires.ascend)

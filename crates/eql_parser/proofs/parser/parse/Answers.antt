@@ -2,7 +2,7 @@ use Rattle.std.proofs.Common.{◌≡◌, ◌≤◌, subst, sym, ◌∙◌}
 use Rattle.eql_query.specs.QueryTree.{QueryTree, query_tree}
 use Rattle.eql_parser.specs.QueryGrammar.{IsQuery}
 use Rattle.eql_parser.specs.Limits.{levels, OpensAtMost}
-use Rattle.eql_parser.specs.Refusing.{IsMemory, Refused}
+use Rattle.eql_parser.specs.Refusing.{IsMemory, RefusesTokens}
 use Rattle.eql_parser.specs.Refusals.{refusal_of}
 use Rattle.eql_parser.proofs.Parsed.{found_by, levels_by, opens_by, same_query, only_memory, refused_by}
 use Rattle.eql_parser.proofs.parser.parse.Goals as goal
@@ -25,7 +25,7 @@ returns-in-Ok-clause-answered c =
 pub returns-in-Err-clause-refused : goal.returns-in-Err-clause-refused
 returns-in-Err-clause-refused c =
     let items = c.as_slice-items.result.now in
-    subst (λ r. Refused c.args.tokens.now r) (sym c.refused.ensures) (subst (λ ts. Refused ts (refusal_of items c.in-Err.stop)) (c.as_slice-items.ensures.value ∙ c.items.ensures) (refused_by items c.in-Err.stop c.in-Err.ensures))
+    subst (λ r. RefusesTokens c.args.tokens.now r) (sym c.refused.ensures) (subst (λ ts. RefusesTokens ts (refusal_of items c.in-Err.stop)) (c.as_slice-items.ensures.value ∙ c.items.ensures) (refused_by items c.in-Err.stop c.in-Err.ensures))
 
 pub returns-in-Err-clause-answered : goal.returns-in-Err-clause-answered
 returns-in-Err-clause-answered c =

@@ -1,7 +1,7 @@
 use Rattle.std.proofs.Common.{length, sym, ap, subst, arith}
 use Rattle.std.proofs.lemmas.Slice.Zip.{AllZip-long}
 use Rattle.eql_turn_lock.specs.Calls.{Closes}
-use Rattle.eql_lock_row.specs.Rows.{AllJoined, AreFirst}
+use Rattle.eql_lock_row.specs.Rows.{AllAreJoined, AreFirst}
 use Rattle.eql_hub.specs.Hands.{HandView, HubView}
 use Rattle.eql_hub.specs.Turns.{LaneTurn, is_open_lane}
 use Rattle.eql_hub.proofs.hub.Hub.close.Goals as goal
@@ -10,7 +10,7 @@ pub close-requires-clause-first : goal.close-requires-clause-first
 close-requires-clause-first g c = subst (λ (h : HandView _ _). AreFirst h.lanes.views) (sym c.hand.view_is) c.requires.first.lanes
 
 pub close-requires-clause-all_joined : goal.close-requires-clause-all_joined
-close-requires-clause-all_joined g c = subst (λ (h : HandView _ _). AllJoined h.lanes.views) (sym c.hand.view_is) c.requires.all_joined.lanes
+close-requires-clause-all_joined g c = subst (λ (h : HandView _ _). AllAreJoined h.lanes.views) (sym c.hand.view_is) c.requires.all_joined.lanes
 
 pub unwrap_all-requires-clause-room : goal.unwrap_all-requires-clause-room
 unwrap_all-requires-clause-room g c =
@@ -28,4 +28,4 @@ pub close-requires-2-clause-first : goal.close-requires-2-clause-first
 close-requires-2-clause-first g c = subst (λ (h : HandView _ _). AreFirst h.parts.views) (sym c.hand.view_is) c.requires.first.parts
 
 pub close-requires-2-clause-all_joined : goal.close-requires-2-clause-all_joined
-close-requires-2-clause-all_joined g c = subst (λ (h : HandView _ _). AllJoined h.parts.views) (sym c.hand.view_is) c.requires.all_joined.parts
+close-requires-2-clause-all_joined g c = subst (λ (h : HandView _ _). AllAreJoined h.parts.views) (sym c.hand.view_is) c.requires.all_joined.parts

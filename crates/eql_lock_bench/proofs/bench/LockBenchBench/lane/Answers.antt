@@ -1,5 +1,5 @@
 use Rattle.std.proofs.Common.{IfErr, IfOk, subst}
-use Rattle.eql_conductor.specs.Benches.{LanePlays, Unplayed}
+use Rattle.eql_conductor.specs.Benches.{LanePlays, WasNotPlayed}
 use Rattle.eql_lock_row.specs.Rows.{ChangesAt}
 use Rattle.eql_hub.specs.Hands.{HandView, HubView, IsHandOf}
 use Rattle.eql_hub.specs.Turns.{LaneTurn, is_open_lane}
@@ -37,7 +37,7 @@ returns-clause-not_played g c =
     let call = c.call_lane-answer in
     let says = lane_says g.S.Source.left g.S.Source.lent_as g.S.Source.fault_plan g.L.LineReader.read_of g.T.LockOpening.text
     c.args.s c.args.op c.self.inside.hand call.new.hand call.ensures.parts c.self.invariant.1.texts c.self.invariant.1.first.lanes call.result c.told.result c.told.ensures call.ensures.played in
-    subst (λ (hand : HandView _ _). IfErr c.told.result (λ by. Unplayed by (known_by g.S.Source.left g.S.Source.lent_as g.S.Source.fault_plan g.L.LineReader.read_of g.T.LockOpening.text hand) (known_by g.S.Source.left g.S.Source.lent_as g.S.Source.fault_plan g.L.LineReader.read_of g.T.LockOpening.text call.new.hand)))
+    subst (λ (hand : HandView _ _). IfErr c.told.result (λ by. WasNotPlayed by (known_by g.S.Source.left g.S.Source.lent_as g.S.Source.fault_plan g.L.LineReader.read_of g.T.LockOpening.text hand) (known_by g.S.Source.left g.S.Source.lent_as g.S.Source.fault_plan g.L.LineReader.read_of g.T.LockOpening.text call.new.hand)))
     c.self.view_is says.not_played
 
 pub returns-clause-call : goal.returns-clause-call

@@ -1,6 +1,6 @@
 use Rattle.std.proofs.Common.{◌++◌, ◌∷◌, [], length, sym, ap, arith, subst}
 use Rattle.eql_conductor.specs.declared.bench.NotPlayed.TheVariants.{Memory}
-use Rattle.eql_conductor.specs.Benches.{Unplayed}
+use Rattle.eql_conductor.specs.Benches.{WasNotPlayed}
 use Rattle.eql_conductor.specs.Notes.{lane_note}
 use Rattle.eql_replay.specs.declared.noted.Noted.TheVariants.{OfLane}
 use Rattle.eql_replay.specs.Listed.{BenchView, bench_known, known_of}
@@ -33,8 +33,8 @@ returns-clause-played g c =
     let old = c.self.inside in
     let first : BenchView _ _ = c.args.self.now in
     let now : BenchView _ _ = record { pool = old.pool; calls = old.calls; notes = old.notes } in
-    let alone : Unplayed Memory (bench_known g.L.LineReader.read_of g.T.Opening.text first) (bench_known g.L.LineReader.read_of g.T.Opening.text now) =
-    subst (λ (b : BenchView _ _). Unplayed Memory (bench_known g.L.LineReader.read_of g.T.Opening.text first) (bench_known g.L.LineReader.read_of g.T.Opening.text b)) (sym c.self.view_is) c.others_play.ensures.alone in
+    let alone : WasNotPlayed Memory (bench_known g.L.LineReader.read_of g.T.Opening.text first) (bench_known g.L.LineReader.read_of g.T.Opening.text now) =
+    subst (λ (b : BenchView _ _). WasNotPlayed Memory (bench_known g.L.LineReader.read_of g.T.Opening.text first) (bench_known g.L.LineReader.read_of g.T.Opening.text b)) (sym c.self.view_is) c.others_play.ensures.alone in
     let plays = lane_plays g.S.Source.left g.S.Source.lent_as g.S.Source.fault_plan g.L.LineReader.read_of g.T.Opening.text old.pool c.lane-reply.new.self old.notes
     c.args.s c.args.op c.lane-reply.result c.self.invariant.0.texts c.lane-reply.ensures.played c.lane-reply.ensures.parts in
     let notes = c.push.ensures in

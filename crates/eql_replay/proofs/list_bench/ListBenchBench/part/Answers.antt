@@ -1,7 +1,7 @@
 use Rattle.std.proofs.Common.{◌≡◌, ◌++◌, ◌∷◌, [], length, sym, ap, ◌∙◌, refl, arith, subst}
 use Rattle.eql_conductor.specs.declared.bench.NotPlayed.TheVariants.{Memory}
 use Rattle.eql_conductor.specs.declared.note.Note.{Note}
-use Rattle.eql_conductor.specs.Benches.{Unplayed}
+use Rattle.eql_conductor.specs.Benches.{WasNotPlayed}
 use Rattle.eql_conductor.specs.Notes.{part_note}
 use Rattle.eql_replay.specs.declared.noted.Noted.TheVariants.{OfPart}
 use Rattle.eql_replay.specs.Listed.{BenchView, bench_known, known_of}
@@ -22,8 +22,8 @@ part-reply-requires-clause-allowed g c part there =
     let old = c.self.inside in
     let first : BenchView _ _ = c.args.self.now in
     let now : BenchView _ _ = record { pool = old.pool; calls = old.calls; notes = old.notes } in
-    let alone : Unplayed Memory (bench_known g.L.LineReader.read_of g.T.Opening.text first) (bench_known g.L.LineReader.read_of g.T.Opening.text now) =
-    subst (λ (b : BenchView _ _). Unplayed Memory (bench_known g.L.LineReader.read_of g.T.Opening.text first) (bench_known g.L.LineReader.read_of g.T.Opening.text b)) (sym c.self.view_is) c.others_play.ensures.alone in
+    let alone : WasNotPlayed Memory (bench_known g.L.LineReader.read_of g.T.Opening.text first) (bench_known g.L.LineReader.read_of g.T.Opening.text now) =
+    subst (λ (b : BenchView _ _). WasNotPlayed Memory (bench_known g.L.LineReader.read_of g.T.Opening.text first) (bench_known g.L.LineReader.read_of g.T.Opening.text b)) (sym c.self.view_is) c.others_play.ensures.alone in
     may_still c.args.p c.args.op (bench_known g.L.LineReader.read_of g.T.Opening.text first) (bench_known g.L.LineReader.read_of g.T.Opening.text now)
     c.requires.place alone.rests c.requires.allowed part.state (record { part = part; there = there; state_is = refl })
 
@@ -43,8 +43,8 @@ returns-clause-played g c =
     let old = c.self.inside in
     let first : BenchView _ _ = c.args.self.now in
     let now : BenchView _ _ = record { pool = old.pool; calls = old.calls; notes = old.notes } in
-    let alone : Unplayed Memory (bench_known g.L.LineReader.read_of g.T.Opening.text first) (bench_known g.L.LineReader.read_of g.T.Opening.text now) =
-    subst (λ (b : BenchView _ _). Unplayed Memory (bench_known g.L.LineReader.read_of g.T.Opening.text first) (bench_known g.L.LineReader.read_of g.T.Opening.text b)) (sym c.self.view_is) c.others_play.ensures.alone in
+    let alone : WasNotPlayed Memory (bench_known g.L.LineReader.read_of g.T.Opening.text first) (bench_known g.L.LineReader.read_of g.T.Opening.text now) =
+    subst (λ (b : BenchView _ _). WasNotPlayed Memory (bench_known g.L.LineReader.read_of g.T.Opening.text first) (bench_known g.L.LineReader.read_of g.T.Opening.text b)) (sym c.self.view_is) c.others_play.ensures.alone in
     let plays = part_plays g.S.Source.left g.S.Source.lent_as g.S.Source.fault_plan g.L.LineReader.read_of g.T.Opening.text old.pool c.part-reply.new.self old.notes
     c.args.p c.args.op c.part-reply.result c.part-reply.ensures.played c.part-reply.ensures.lanes in
     let notes = c.push.ensures in

@@ -1,7 +1,7 @@
 use Rattle.std.specs.Prelude.{take}
-use Rattle.eql_replay.specs.Pools.{AllPlayed}
+use Rattle.eql_replay.specs.Pools.{ForeignsPlay}
 use Rattle.eql_replay.proofs.pool.Pool.play_all.Given as goal
 
 abbrev pub invariant-loop-foreign : goal.invariant-loop-foreign
 invariant-loop-foreign g l =
-    AllPlayed g.S.Source.left g.S.Source.lent_as g.S.Source.fault_plan g.L.LineReader.read_of (take l.foreign-index l.foreign-items) l.fn.self l.self
+    ForeignsPlay g.S.Source.left g.S.Source.lent_as g.S.Source.fault_plan g.L.LineReader.read_of (take l.foreign-index l.foreign-items) l.fn.self l.self
