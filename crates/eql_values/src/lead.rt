@@ -18,26 +18,37 @@ fn lead_of_bytes(bytes: &[u8], from: usize) -> u64 {
 fn lead_of_value(value: &Value, from: usize) -> u64 {
     match value {
         Value::Null => 0,
-        Value::Bool(value) => u64::from(*value),
+        Value::Bool(value) => 1 + u64::from(*value),
         Value::Long(value) => u64::from_be_bytes(value.to_be_bytes()) ^ (1 << 63),
         Value::Text(text) => lead_of_bytes(text.text().as_bytes(), from),
-        Value::Ip(value) => u64::from(*value),
+        Value::Ip(value) => 1 + u64::from(*value),
+    }
+}
+
+/// Whether eight bytes don't tell the value from those that begin with it.
+fn goes_on(value: &Value) -> bool {
+    match value {
+        Value::Text(text) => 8 <= text.text().len(),
+        _ => false,
     }
 }
 
 impl Key {
-    /// The number of the key: that of its first value, and behind it that of its second one, or what comes next in the first where
-    /// it is alone.
+    /// The number of the key: that of its first value, and behind it what comes next in the first value where that is a text of
+    /// eight bytes or more, and else that of the second value.
     pub fn lead(&self) -> u128 {
         let values = self.items();
-        let high = match values.first() {
-            None => 0,
-            Some(first) => lead_of_value(first, 0),
+        let Some(first) = values.first() else {
+            return 0;
         };
-        let low = match (values.first(), values.get(1)) {
-            (_, Some(second)) => lead_of_value(second, 0),
-            (Some(first), None) => lead_of_value(first, 8),
-            (None, None) => 0,
+        let high = lead_of_value(first, 0);
+        let low = if goes_on(first) {
+            lead_of_value(first, 8)
+        } else {
+            match values.get(1) {
+                None => 0,
+                Some(second) => lead_of_value(second, 0),
+            }
         };
         (u128::from(high) << 64) | u128::from(low)
     }
