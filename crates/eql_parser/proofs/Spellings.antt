@@ -31,6 +31,12 @@ same_test bs p u h =
     (λ e. ap chars (by_bytes.0 e) ∙ chars-IsAscii p plain, λ e. by_bytes.1 (sym (encodes-chars bs u) ∙ ap encode_utf8_all e ∙ encodes-IsAscii p plain)) in
     same_from_decides _ (bytes_eq (chars bs) p) both by_chars
 
+-- a text with other bytes than an ASCII word is another text
+pub no_word : (bs cs : List ℕ) → IsUtf8 bs → chars bs ≡ cs → (word : List ℕ) → list_all (λ b. nat_lt b 128) word ≡ true → bs ≢ word → bytes_eq cs word ≡ false
+no_word bs cs u e word plain other =
+    let differ : bytes_eq bs word ≡ false = false_from_ne_true (bytes_eq bs word) (λ t. other ((bytes_eq-Decides bs word).0 t)) in
+    rw e at (sym (same_test bs word u plain) ∙ differ)
+
 pub same_entry : (bs : List ℕ) (table : List (List ℕ × Kind)) → IsUtf8 bs → is_plain_table table ≡ true → word_in table bs ≡ word_in table (chars bs)
 same_entry bs [] u h = refl
 same_entry bs (e ∷ es) u h =

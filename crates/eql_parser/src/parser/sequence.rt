@@ -22,22 +22,14 @@ use std::alloc::Global;
 fn unit_named(word: &Text) -> Option<Unit>
     ensures { result ≡ grammar.unit_of word.now }
 {
-    if is_word(word, b"ms") {
-        return Some(Unit::Ms);
+    match word.text() {
+        "ms" => Some(Unit::Ms),
+        "s" => Some(Unit::S),
+        "m" => Some(Unit::M),
+        "h" => Some(Unit::H),
+        "d" => Some(Unit::D),
+        _ => None,
     }
-    if is_word(word, b"s") {
-        return Some(Unit::S);
-    }
-    if is_word(word, b"m") {
-        return Some(Unit::M);
-    }
-    if is_word(word, b"h") {
-        return Some(Unit::H);
-    }
-    if is_word(word, b"d") {
-        return Some(Unit::D);
-    }
-    None
 }
 
 /// Whether a word names a unit of time of the language that isn't read.
