@@ -6,6 +6,7 @@ use std::alloc::{AllocError, AllocFailed};
 
 /// Why the check refuses a query: the first rule that it breaks. Items are numbered from 1 in the order of the text, the
 /// until item last; single events are item 1. The name of a function's form with `~` has it at its end.
+#[derive(Debug)]
 pub enum CheckRefused {
     /// The mapping doesn't have this field, and it isn't marked as optional.
     UnknownField {

@@ -5,7 +5,7 @@ ghost use Rattle.eql_lexer.specs.Refusing.{refusal_of};
 use std::alloc::{AllocError, AllocFailed};
 
 /// Why `lex` gave no tokens. `at` is the place that breaks the rule, in bytes from 0.
-#[derive(Clone, Copy, PartialEq, Eq, Drop)]
+#[derive(Clone, Copy, Debug, PartialEq, Eq, Drop)]
 pub enum LexRefused {
     /// A byte that begins no token.
     BadByte { at: u32 },
