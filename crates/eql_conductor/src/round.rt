@@ -74,7 +74,7 @@ pub(crate) fn play_parts<B: Bench>(
     ensures parts { (rules : Rules) (all : List Holder)
         → AreAtRest rules all last (B.known bench.old)
         → OnOk result (AreAtRest rules (pending_after rules all items.now) mark
-            (B.known bench.new)) }
+        (B.known bench.new)) }
     ensures same { Same (B.known bench.old) (B.known bench.new) }
     ensures lanes { LanesRest (B.known bench.old) (B.known bench.new) }
     ensures went { OnOk result (Went (B.known bench.old) (B.known bench.new)) }
