@@ -9,7 +9,7 @@ ghost use Rattle.eql_values.specs.OrderKeys.{order_cmp};
 ghost use Rattle.eql_laws.specs.Slots.{Slots, slots_after, chain_coming};
 ghost use Rattle.eql_auto.specs.Holding.{holder_of};
 ghost use Rattle.eql_auto.specs.Machine.{ComesAfter, IsAfterTurn, act_of, alive_in, chains_of, slot_at, slot_after, stage_chains, stages, stages_in, tags_of};
-ghost use Rattle.eql_auto.specs.Starts.{first_start};
+ghost use Rattle.eql_auto.specs.Starts.{first_event};
 
 use crate::moves::{advance_all, begin_new, empty_at_end, empty_stale};
 use crate::steps::Steps;
@@ -97,11 +97,11 @@ impl<T: Copy, L: Ledger> Auto<T, L> {
         }
     }
 
-    /// The timestamp of the first event of the pending sequence of the least stage that has one, in nanoseconds.
-    pub fn first_time(&self) -> Option<i128>
-        ensures { result ≡ first_start self.now.slots }
+    /// The first event of the pending sequence of the least stage that has one.
+    pub fn first_event(&self) -> Option<OrderKey>
+        ensures { result ≡ first_event self.now.slots }
     {
-        self.table.first_time()
+        self.table.first_event()
     }
 
     /// Plays an event that fits the stages of the mask, and the until item where `until` is true. It answers the chain

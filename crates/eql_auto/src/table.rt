@@ -8,7 +8,7 @@ ghost use Rattle.eql_auto.specs.Holding.{holder_of};
 ghost use Rattle.eql_auto.specs.Machine.{AllBefore, ComesAfter, tags_of, went_on, stage_chains};
 ghost use Rattle.eql_auto.specs.Moves.{chain_in, emptied};
 ghost use Rattle.eql_auto.specs.Kept.{seen};
-ghost use Rattle.eql_auto.specs.Starts.{first_start, start_of};
+ghost use Rattle.eql_auto.specs.Starts.{first_event, first_of};
 
 use crate::steps::Steps;
 use eql_values::{Chain, Holder, Key, Memory, OrderKey, StageChains, is_in_time};
@@ -87,14 +87,11 @@ fn is_early(span: Option<i128>, events: &Vec<OrderKey>, event: &OrderKey) -> boo
     is_in_time(span, events.as_slice(), event.ts)
 }
 
-/// The timestamp of the first event of a pending sequence, in nanoseconds.
-fn start_of<T>(pending: &Pending<T>) -> Option<i128>
-    ensures { result ≡ start_of pending.now.events.items }
+/// The first event of a pending sequence.
+fn first_of<T>(pending: &Pending<T>) -> Option<OrderKey>
+    ensures { result ≡ first_of pending.now.events.items }
 {
-    match pending.events.first() {
-        None => None,
-        Some(first) => Some(first.ts),
-    }
+    pending.events.first().copied()
 }
 
 /// So many empty slots.
@@ -174,13 +171,13 @@ impl<T: Copy, L: Ledger> SlotTable<T, L> {
         count
     }
 
-    /// The timestamp of the first event of the pending sequence of the least stage that has one, in nanoseconds.
-    pub fn first_time(&self) -> Option<i128>
-        ensures { result ≡ first_start self.now }
+    /// The first event of the pending sequence of the least stage that has one.
+    pub fn first_event(&self) -> Option<OrderKey>
+        ensures { result ≡ first_event self.now }
     {
         for slot in &self.slots {
             if let Some(pending) = slot {
-                return start_of(pending);
+                return first_of(pending);
             }
         }
         None
@@ -352,9 +349,7 @@ fn chain_of<T>(alloc: Global, pending: &Pending<T>) -> Result<Chain, Memory>
     requires { EventsAscend pending.now.events.items }
     ensures { IfOk result (λ chain. chain ≡ pending.now.events.items) }
 {
-    let mut events = Vec::with_capacity(alloc, pending.events.len())?;
-    events.extend_from_slice(&pending.events)?;
-    Ok(Chain::of(events))
+    Ok(Chain::copy_of(alloc, &pending.events)?)
 }
 
 /// Adds a copy of the chain of a slot, if it has a sequence.
@@ -397,12 +392,12 @@ fn add_keyed<T: Copy>(
 }
 
 /// Copies events to where there is room, which takes no memory.
-fn copy_in_room(room: &mut Vec<OrderKey>, events: &Vec<OrderKey>)
+fn copy_in_room(room: &mut Vec<OrderKey>, events: &[OrderKey])
     requires empty { room.old.items ≡ [] }
     requires none { vec_len room.old ≡ 0 }
-    requires fits { length events.now.items ≤ vec_capacity room.old }
-    ensures items { room.new.items ≡ events.now.items }
-    ensures len { vec_len room.new ≡ length events.now.items }
+    requires fits { length events.now ≤ vec_capacity room.old }
+    ensures items { room.new.items ≡ events.now }
+    ensures len { vec_len room.new ≡ length events.now }
     ensures room { vec_capacity room.old ≤ vec_capacity room.new }
 {
     match room.extend_from_slice(events) {

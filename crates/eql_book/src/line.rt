@@ -27,12 +27,12 @@ fn print_event(waiting: &mut String, event: &OrderKey, places: bool) -> Result<(
 /// Prints the events of a match.
 fn print_events(
     waiting: &mut String,
-    events: &Vec<OrderKey>,
+    events: &[OrderKey],
     places: bool,
 ) -> Result<(), AllocError>
     ensures { OnOk result
         (string_bytes waiting.new
-        ≡ string_bytes waiting.old ++ flat_map (event_text places) events.now.items) }
+        ≡ string_bytes waiting.old ++ flat_map (event_text places) events.now) }
 {
     for event in events {
         print_event(waiting, event, places)?;

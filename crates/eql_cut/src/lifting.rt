@@ -25,8 +25,10 @@ impl Placed for Chain {
 
     fn lift(self, alloc: Global, places: &PlaceLists) -> Result<Chain, AllocError> {
         self.ascends();
-        let events: Vec<OrderKey> = lift_each(alloc, self.into_items(), places)?;
-        Ok(Chain::of(events))
+        let mut events = Vec::with_capacity(alloc, self.items().len())?;
+        events.extend_from_slice(self.items())?;
+        let lifted: Vec<OrderKey> = lift_each(alloc, events, places)?;
+        Ok(Chain::of(lifted))
     }
 }
 

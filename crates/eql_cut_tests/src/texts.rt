@@ -117,7 +117,7 @@ pub fn are_lanes(cut: &Cut, format: u8, text: &Value) -> bool {
 fn is_holder(holder: &Holder, stage: u32, events: &[OrderKey]) -> bool {
     is_key(holder.key.items(), &Value::Ip(0x0a00_0001))
         && holder.stage == stage
-        && holder.chain.items().as_slice() == events
+        && holder.chain.items() == events
 }
 
 /// Whether the pending sequences are those of the text.
@@ -146,7 +146,7 @@ pub fn is_book(cut: &Cut, format: u8) -> bool {
             [five, six] => {
                 five.number == 5
                     && is_key(five.found.key.items(), &Value::Long(-1))
-                    && five.found.chain.items().as_slice()
+                    && five.found.chain.items()
                         == [place(format, 700, None, 1, 1, 0)].as_slice()
                     && six.number == 6
                     && six.found.key.items().is_empty()

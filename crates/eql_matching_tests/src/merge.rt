@@ -116,7 +116,7 @@ fn lists_of_many_shards(rt: HostRuntime) -> Result<(), Fail> {
 
 /// Whether a chain is one event, on this line.
 fn is_event(chain: &Chain, line: u32) -> bool {
-    match chain.items().as_slice() {
+    match chain.items() {
         [event] => event.line == line,
         _ => false,
     }

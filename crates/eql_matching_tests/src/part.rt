@@ -36,7 +36,7 @@ fn is_after_all(order: &OrderKey, holders: &Vec<Holder>) -> bool
     ensures { IsTrue result → ComesAfterAll order.now holders.now.items }
 {
     for holder in holders {
-        if !is_after(order, holder.chain.items().as_slice()) {
+        if !is_after(order, holder.chain.items()) {
             return false;
         }
     }

@@ -15,20 +15,23 @@ use std::sync::ledger::Ledger;
 const AHEAD: usize = 128;
 
 /// Reads what the copies of the next rows will read, from a place on. Nothing rests on what is read, and it is read only so
-/// that it is at hand then. The loop is short, so the processor reads of many rows at once. The timestamps are kept in a list,
-/// as reading that nobody uses would be left out.
+/// that it is at hand then. The loop is short, so the processor reads of many rows at once. The beginning and the end of each
+/// event are joined in a list, as reading that nobody uses would be left out.
 fn read_ahead<L: Ledger>(
     rows: &Vec<(u128, &Key, &KeyMachine<L>)>,
     place: usize,
-    times: &mut Vec<i128>,
+    read: &mut Vec<i128>,
 )
-    requires { AHEAD ≤ vec_capacity times.old }
-    ensures { AHEAD ≤ vec_capacity times.new }
+    requires { AHEAD ≤ vec_capacity read.old }
+    ensures { AHEAD ≤ vec_capacity read.new }
 {
-    times.clear();
+    read.clear();
     let end = rows.len().min(place.saturating_add(AHEAD));
     for at in place..end {
-        times.push_reserved(rows[at].2.first_time().unwrap_or(0));
+        read.push_reserved(match rows[at].2.first_event() {
+            None => 0,
+            Some(event) => event.ts ^ i128::from(event.at),
+        });
     }
 }
 
@@ -71,10 +74,10 @@ pub(crate) fn copy_in_order<L: Ledger>(
         AreInKeyOrder rows.now.items)) }
 {
     let mut found = Vec::with_capacity(alloc, rows.len())?;
-    let mut times = Vec::with_capacity(alloc, AHEAD)?;
+    let mut read = Vec::with_capacity(alloc, AHEAD)?;
     for place in 0..rows.len() {
         if place % AHEAD == 0 {
-            read_ahead(rows, place, &mut times);
+            read_ahead(rows, place, &mut read);
         }
         if is_before_last(rows, place) {
             return Ok(None);

@@ -5,7 +5,7 @@ ghost use Rattle.eql_values.specs.Masks.{has_after};
 ghost use Rattle.eql_values.specs.Matching.{act_by};
 ghost use Rattle.eql_laws.specs.Slots.{chain_coming, slots_after};
 ghost use Rattle.eql_auto.specs.Machine.{ComesAfter, alive_in, chains_of, slot_after, slot_at, stages, tags_of};
-ghost use Rattle.eql_auto.specs.Starts.{first_start};
+ghost use Rattle.eql_auto.specs.Starts.{first_event};
 ghost use Rattle.eql_span_list.specs.Entries.{HasTicket};
 ghost use Rattle.eql_part.specs.KeyTables.{holders_of, probes_of};
 ghost use Rattle.eql_part.specs.Links.{Differ, IsOneOf, LeaveList};
@@ -152,11 +152,11 @@ impl<L: Ledger> KeyMachine<L> {
         self.pending += 1;
     }
 
-    /// The timestamp of the first event of the pending sequence of the least stage that has one, in nanoseconds.
-    pub fn first_time(&self) -> Option<i128>
-        ensures { result ≡ first_start self.now.slots }
+    /// The first event of the pending sequence of the least stage that has one.
+    pub fn first_event(&self) -> Option<OrderKey>
+        ensures { result ≡ first_event self.now.slots }
     {
-        self.auto.first_time()
+        self.auto.first_event()
     }
 
     /// Adds copies of the pending sequences, each with a copy of the key, by stage.

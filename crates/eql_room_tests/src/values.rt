@@ -113,7 +113,7 @@ fn is_holder(alloc: Global, holder: &Holder, name: &str) -> Result<bool, Fail> {
     Ok(
         holder.key == key
             && holder.stage == 1
-            && holder.chain.items().as_slice() == events.as_slice(),
+            && holder.chain.items() == events.as_slice(),
     )
 }
 

@@ -3,6 +3,7 @@ pub mod Agreement
 pub mod Orders
 pub mod Texts
 pub mod Keys
+pub mod Events
 pub mod Names
 pub mod OrderKeys
 pub mod Masks

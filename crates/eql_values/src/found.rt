@@ -1,28 +1,45 @@
 //! Pending sequences and matches.
-ghost use Rattle.std.specs.Prelude.{◌≡◌};
+ghost use Rattle.std.specs.Prelude.{◌≡◌, IfOk};
 ghost use Rattle.eql_values.specs.OrderKeys.{EventsAscend};
 
 use crate::order::OrderKey;
 use crate::value::Key;
-use std::alloc::AllocError;
+use std::alloc::{AllocError, Global};
 use std::marker::Model;
+use std::slice;
+
+/// The events of a chain. One alone stands in the chain itself, so that a copy of the chain takes no memory for a list.
+#[derive(Drop)]
+enum Events {
+    /// One event.
+    One(OrderKey),
+    /// Any number of events.
+    Many(Vec<OrderKey>),
+}
 
 /// The events of a sequence, in strictly ascending order.
-#[derive(Drop)]
 pub struct Chain {
-    items: Vec<OrderKey>,
+    events: Events,
 }
 
 impl Model for Chain {
     ghost use Rattle.std.specs.Prelude.{List};
     ghost use Rattle.eql_values.specs.declared.order.OrderKey.{OrderKey};
     ghost use Rattle.eql_values.specs.OrderKeys.{EventsAscend};
+    ghost use Rattle.eql_values.specs.Events.{events_of};
 
     ghost Value = { List OrderKey };
 
-    ghost view = { λ l. l.items.items };
+    ghost view = { λ c. events_of c.events };
 
-    ghost invariant = { λ l. EventsAscend l.items.items };
+    ghost invariant = { λ c. EventsAscend (events_of c.events) };
+}
+
+// A drop of its own: where a chain is dropped there is one call, and no match.
+impl Drop for Chain {
+    fn drop(self) {
+        let Chain { events: _ } = self;
+    }
 }
 
 impl Chain {
@@ -31,28 +48,48 @@ impl Chain {
         requires ascend { EventsAscend items.items }
         ensures { result ≡ items.items }
     {
-        Chain { items }
+        if let [event] = items.as_slice() {
+            return Chain {
+                events: Events::One(*event),
+            };
+        }
+        Chain {
+            events: Events::Many(items),
+        }
+    }
+
+    /// A list of copies of these events. One alone takes no memory, and more take what they need.
+    pub fn copy_of(alloc: Global, events: &[OrderKey]) -> Result<Chain, AllocError>
+        requires ascend { EventsAscend events.now }
+        ensures { IfOk result (λ chain. chain ≡ events.now) }
+    {
+        if let [event] = events {
+            return Ok(Chain {
+                events: Events::One(*event),
+            });
+        }
+        let mut items = Vec::with_capacity(alloc, events.len())?;
+        items.extend_from_slice(events)?;
+        Ok(Chain {
+            events: Events::Many(items),
+        })
     }
 
     /// The events, lent.
-    pub fn items(&self) -> &Vec<OrderKey>
-        ensures { result.now.items ≡ self.now }
+    pub fn items(&self) -> &[OrderKey]
+        ensures { result.now ≡ self.now }
     {
-        &self.items
-    }
-
-    /// The events, taken out.
-    pub fn into_items(self) -> Vec<OrderKey>
-        ensures { result.items ≡ self }
-    {
-        self.items
+        match &self.events {
+            Events::One(event) => slice::from_ref(event),
+            Events::Many(events) => events.as_slice(),
+        }
     }
 
     /// The events of every chain ascend. It does nothing.
     pub fn ascends(&self)
         ensures { EventsAscend self.now }
     {
-        let _ = &self.items;
+        let _ = &self.events;
     }
 }
 
@@ -60,8 +97,17 @@ impl Clone for Chain {
     ghost is_clone = { λ old new. new ≡ old };
 
     fn clone(&self) -> Result<Chain, AllocError> {
-        let items = self.items.clone()?;
-        Ok(Chain { items })
+        match &self.events {
+            Events::One(event) => Ok(Chain {
+                events: Events::One(*event),
+            }),
+            Events::Many(events) => {
+                let events = events.clone()?;
+                Ok(Chain {
+                    events: Events::Many(events),
+                })
+            }
+        }
     }
 }
 

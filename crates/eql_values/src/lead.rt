@@ -4,12 +4,18 @@
 
 use crate::value::{Key, Value};
 
-/// The eight bytes of a text from a place on as a number, the first of them the highest.
+/// The eight bytes of a text from a place on as a number, the first of them the highest. Bytes that it lacks count as 0.
 fn lead_of_bytes(bytes: &[u8], from: usize) -> u64 {
+    let rest = bytes.get(from..).unwrap_or(&[]);
+    if let [a, b, c, d, e, f, g, h, ..] = rest {
+        return u64::from_be_bytes([*a, *b, *c, *d, *e, *f, *g, *h]);
+    }
     let mut lead = 0;
-    for place in 0..8 {
-        let byte = bytes.get(from.saturating_add(place)).copied().unwrap_or(0);
-        lead = (lead << 8) | u64::from(byte);
+    for byte in rest {
+        lead = (lead << 8) | u64::from(*byte);
+    }
+    for _lacking in rest.len()..8 {
+        lead <<= 8;
     }
     lead
 }

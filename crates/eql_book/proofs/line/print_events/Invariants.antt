@@ -6,4 +6,4 @@ use Rattle.eql_book.proofs.line.print_events.Given as goal
 
 abbrev pub invariant-loop-event : goal.invariant-loop-event
 invariant-loop-event l =
-    string_bytes l.waiting ≡ string_bytes l.initial.waiting ++ flat_map (event_text l.places) (take l.event-index l.events.items)
+    string_bytes l.waiting ≡ string_bytes l.initial.waiting ++ flat_map (event_text l.places) (take l.event-index l.events)

@@ -13,7 +13,7 @@ loop-place-preserved g c =
           (c.in_ok-add_holders.ensures {u = tt});
       order = order_more rows i c.loop-place.invariant.order (λ some. c.is_before_last.ensures c.if-is_before_last.false some);
       room = elim c.if-place-eq0.branch [
-        | then-place-eq0 w ↦ let same = ap (λ v. vec_capacity v) w.times-is in let had = w.read_ahead.ensures in omega (arith, same, had)
-        | else-place-eq0 w ↦ let same = ap (λ v. vec_capacity v) w.times-is in let had = c.loop-place.invariant.room in omega (arith, same, had)
+        | then-place-eq0 w ↦ let same = ap (λ v. vec_capacity v) w.read-is in let had = w.read_ahead.ensures in omega (arith, same, had)
+        | else-place-eq0 w ↦ let same = ap (λ v. vec_capacity v) w.read-is in let had = c.loop-place.invariant.room in omega (arith, same, had)
       ];
     }

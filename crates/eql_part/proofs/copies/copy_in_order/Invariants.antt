@@ -9,5 +9,5 @@ abbrev pub invariant-loop-place : goal.invariant-loop-place
 invariant-loop-place g l = record {
   copies : l.found.items ≡ holders_in (map lent (take l.place l.rows.items));
   order : AllAdjacentBelow NoneBefore l.rows.items l.place;
-  room : AHEAD ≤ vec_capacity l.times;
+  room : AHEAD ≤ vec_capacity l.read;
 }

@@ -4,6 +4,6 @@ use Rattle.eql_part.proofs.copies.read_ahead.Given as goal
 
 abbrev pub invariant-loop-at : goal.invariant-loop-at
 invariant-loop-at g l = record {
-  len : vec_len l.times + l.place ≡ l.at;
-  room : AHEAD ≤ vec_capacity l.times;
+  len : vec_len l.read + l.place ≡ l.at;
+  room : AHEAD ≤ vec_capacity l.read;
 }
