@@ -9,5 +9,5 @@ pub returns : goal.returns
 returns c =
     on_ok_weaker c.push_each.result
     (λ pushed. pushed ∙ ap (λ (l : List ℕ). c.args.to.now.items ++ l)
-    (lines_each c.args.shard (λ (o : OrderKey). o ∷ []) c.deref.result.now ∙ ap (lines_at c.args.shard) (flat_single c.deref.result.now ∙ c.deref.ensures.value ∙ c.items.ensures)))
+    (lines_each c.args.shard (λ (o : OrderKey). o ∷ []) c.items.result.now ∙ ap (lines_at c.args.shard) (flat_single c.items.result.now ∙ c.items.ensures)))
     c.push_each.ensures
