@@ -25,11 +25,7 @@ fn print_event(waiting: &mut String, event: &OrderKey, places: bool) -> Result<(
 }
 
 /// Prints the events of a match.
-fn print_events(
-    waiting: &mut String,
-    events: &[OrderKey],
-    places: bool,
-) -> Result<(), AllocError>
+fn print_events(waiting: &mut String, events: &[OrderKey], places: bool) -> Result<(), AllocError>
     ensures { OnOk result
         (string_bytes waiting.new
         ≡ string_bytes waiting.old ++ flat_map (event_text places) events.now) }

@@ -146,8 +146,7 @@ pub fn is_book(cut: &Cut, format: u8) -> bool {
             [five, six] => {
                 five.number == 5
                     && is_key(five.found.key.items(), &Value::Long(-1))
-                    && five.found.chain.items()
-                        == [place(format, 700, None, 1, 1, 0)].as_slice()
+                    && five.found.chain.items() == [place(format, 700, None, 1, 1, 0)].as_slice()
                     && six.number == 6
                     && six.found.key.items().is_empty()
                     && six.found.chain.items().is_empty()

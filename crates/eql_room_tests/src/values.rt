@@ -110,11 +110,7 @@ fn item(alloc: Global) -> Result<Item, Fail> {
 fn is_holder(alloc: Global, holder: &Holder, name: &str) -> Result<bool, Fail> {
     let key = key(alloc, name)?;
     let events = [event(1, 5)];
-    Ok(
-        holder.key == key
-            && holder.stage == 1
-            && holder.chain.items() == events.as_slice(),
-    )
+    Ok(holder.key == key && holder.stage == 1 && holder.chain.items() == events.as_slice())
 }
 
 #[test]
