@@ -8,7 +8,7 @@ use std::process::Abort;
 use std::test::Fail;
 
 /// The fields that most queries here name.
-const MAPPING: &[u8] = br#"{"t":"keyword","n":"long","m":"long","b":"boolean","a":"ip","c":"ip"}"#;
+static MAPPING: &[u8] = br#"{"t":"keyword","n":"long","m":"long","b":"boolean","a":"ip","c":"ip"}"#;
 
 /// The mapping of these fields.
 pub fn mapping(alloc: Global) -> Result<Mapping, Fail> {
@@ -75,11 +75,23 @@ pub fn answers(
     Ok(())
 }
 
+/// Sees that the check of each query over these fields answers what stands beside it.
+fn each_answers_by(
+    rt: &impl Abort,
+    alloc: Global,
+    mapping: &Mapping,
+    rows: &[(&str, &str)],
+) -> Result<(), Fail> {
+    for (text, wanted) in rows {
+        answers(rt, alloc, mapping, text, wanted)?;
+    }
+    Ok(())
+}
+
 /// Sees that the check of each query answers what stands beside it.
 pub fn each_answers(rt: &impl Abort, alloc: Global, rows: &[(&str, &str)]) -> Result<(), Fail> {
     let mapping = mapping(alloc)?;
-    for (text, wanted) in rows {
-        answers(rt, alloc, &mapping, text, wanted)?;
-    }
-    Ok(())
+    let seen = each_answers_by(rt, alloc, &mapping, rows);
+    drop(mapping);
+    seen
 }

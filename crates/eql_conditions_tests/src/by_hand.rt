@@ -5,6 +5,7 @@ use eql_query::{
 };
 use eql_values::Text;
 use std::alloc::Global;
+use std::process::Abort;
 use std::test::Fail;
 
 /// `any where cond`, so many in a row.
@@ -39,54 +40,72 @@ fn sequence(alloc: Global, runs: i64, span: Option<Span>) -> Result<Query, Fail>
     })
 }
 
-#[test]
-fn counts_below_zero_of_pipes(rt: HostRuntime) -> Result<(), Fail> {
-    let alloc = rt.alloc();
-    let rows = [
-        (PipeText::Head(-1), "Pipe"),
-        (PipeText::Head(0), "0 keys"),
-        (PipeText::Tail(-1), "Pipe"),
-        (PipeText::Tail(0), "0 keys"),
-    ];
-    for (pipe, wanted) in rows {
-        let body = Body::Event(item(alloc, Expr::Bool(true), 1));
-        let pipes = PipeTexts::of(vec![in alloc; pipe]?);
-        let got = answer_to(alloc, &Query { body, pipes }, &mapping(alloc)?)?;
-        assert_eq!(rt; got.as_str(), wanted, "{pipe:?}");
-    }
+/// Sees what is answered to single events with this pipe.
+fn answers_to_pipe(
+    rt: &impl Abort,
+    alloc: Global,
+    pipe: PipeText,
+    wanted: &str,
+) -> Result<(), Fail> {
+    let body = Body::Event(item(alloc, Expr::Bool(true), 1));
+    let pipes = PipeTexts::of(vec![in alloc; pipe]?);
+    let got = answer_to(alloc, &Query { body, pipes }, &mapping(alloc)?)?;
+    assert_eq!(rt; got.as_str(), wanted);
     Ok(())
 }
 
 #[test]
-fn counts_below_zero_of_sequences(rt: HostRuntime) -> Result<(), Fail> {
+fn counts_below_zero_of_pipes(rt: HostRuntime) -> Result<(), Fail> {
     let alloc = rt.alloc();
-    for (runs, days, wanted) in [
-        (-1, 1, "Runs -1"),
-        (2, -1, "Span"),
-        (2, i64::MIN, "Span"),
-        (2, 1, "0 keys"),
-    ] {
-        let span = Span {
-            count: days,
-            unit: Unit::D,
-        };
-        let query = sequence(alloc, runs, Some(span))?;
-        let got = answer_to(alloc, &query, &mapping(alloc)?)?;
+    answers_to_pipe(&rt, alloc, PipeText::Head(-1), "Pipe")?;
+    answers_to_pipe(&rt, alloc, PipeText::Head(0), "0 keys")?;
+    answers_to_pipe(&rt, alloc, PipeText::Tail(-1), "Pipe")?;
+    answers_to_pipe(&rt, alloc, PipeText::Tail(0), "0 keys")
+}
+
+/// How many runs and days a sequence has, and what is answered.
+static SEQUENCES: &[(i64, i64, &str)] = &[
+    (-1, 1, "Runs -1"),
+    (2, -1, "Span"),
+    (2, i64::MIN, "Span"),
+    (2, 1, "0 keys"),
+];
+
+/// What is answered to a sequence of one item, so many in a row, within so many days.
+fn answer_to_days(alloc: Global, runs: i64, days: i64) -> Result<String, Fail> {
+    let span = Span {
+        count: days,
+        unit: Unit::D,
+    };
+    let query = sequence(alloc, runs, Some(span))?;
+    answer_to(alloc, &query, &mapping(alloc)?)
+}
+
+#[test]
+fn counts_below_zero_of_sequences(rt: HostRuntime) -> Result<(), Fail> {
+    for &(runs, days, wanted) in SEQUENCES {
+        let got = answer_to_days(rt.alloc(), runs, days)?;
         assert_eq!(rt; got.as_str(), wanted, "{runs} runs in {days} days");
     }
     Ok(())
 }
 
+/// A number in the base 2.
+fn based_number(alloc: Global) -> Result<Expr, Fail> {
+    let name = Text::of(String::from_str(alloc, "number")?);
+    let text = Text::of(String::from_str(alloc, "1")?);
+    let args = Exprs::of(vec![in alloc; Expr::Str(text), Expr::Long(2)]?);
+    Ok(Expr::Call {
+        name,
+        fold: false,
+        args,
+    })
+}
+
 #[test]
 fn number_with_a_base(rt: HostRuntime) -> Result<(), Fail> {
-    let alloc = rt.alloc();
-    let text = Text::of(String::from_str(alloc, "1")?);
-    let call = Expr::Call {
-        name: Text::of(String::from_str(alloc, "number")?),
-        fold: false,
-        args: Exprs::of(vec![in alloc; Expr::Str(text), Expr::Long(2)]?),
-    };
-    let got = answer_to(alloc, &event(alloc, call), &mapping(alloc)?)?;
+    let query = event(rt.alloc(), based_number(rt.alloc())?);
+    let got = answer_to(rt.alloc(), &query, &mapping(rt.alloc())?)?;
     assert_eq!(rt; got.as_str(), "Arity number");
     Ok(())
 }

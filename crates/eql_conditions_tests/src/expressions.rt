@@ -3,7 +3,7 @@ use crate::answer::each_answers;
 use std::test::Fail;
 
 /// A field is one of the mapping's, or it is marked as optional.
-const FIELDS: &[(&str, &str)] = &[
+static FIELDS: &[(&str, &str)] = &[
     ("any where n == 1", "0 keys n"),
     ("any where x == 1", "UnknownField x"),
     ("any where ?x == 1", "0 keys"),
@@ -38,7 +38,7 @@ const FIELDS: &[(&str, &str)] = &[
 ];
 
 /// The used fields, in the order of first use: the shared keys, and of each item its condition's and its keys.
-const USED: &[(&str, &str)] = &[
+static USED: &[(&str, &str)] = &[
     ("any where m == 1 and n == 2 and m == 3", "0 keys m n"),
     (r#"any where concat(t, ?x, n) == "a" or b"#, "0 keys t n b"),
     (
@@ -58,7 +58,7 @@ fn fields(rt: HostRuntime) -> Result<(), Fail> {
 }
 
 /// A function is one of the table's, and its form with `~` is there where it compares texts.
-const FUNCTIONS: &[(&str, &str)] = &[
+static FUNCTIONS: &[(&str, &str)] = &[
     (r#"any where length("a") == 1"#, "0 keys"),
     (r#"any where Length("a") == 1"#, "UnknownFunction Length"),
     (r#"any where strlen("a") == 1"#, "UnknownFunction strlen"),
@@ -97,7 +97,7 @@ const FUNCTIONS: &[(&str, &str)] = &[
 ];
 
 /// The fewest arguments and one less, the most and one more.
-const ARITY: &[(&str, &str)] = &[
+static ARITY: &[(&str, &str)] = &[
     ("any where add(1) == 1", "Arity add"),
     ("any where add(1, 2) == 1", "0 keys"),
     ("any where add(1, 2, 3) == 1", "Arity add"),
@@ -166,7 +166,7 @@ const ARITY: &[(&str, &str)] = &[
 ];
 
 /// A block of `cidrMatch` is an IPv4 address, `/` and 0 to 32.
-const BLOCKS: &[(&str, &str)] = &[
+static BLOCKS: &[(&str, &str)] = &[
     (r#"any where cidrMatch(a, "10.0.0.0/0")"#, "0 keys a"),
     (r#"any where cidrMatch(a, "10.0.0.0/32")"#, "0 keys a"),
     (
@@ -204,7 +204,7 @@ fn functions(rt: HostRuntime) -> Result<(), Fail> {
 }
 
 /// Conditions, and operands of `not`, `and` and `or`, are Boolean or always null.
-const BOOLEANS: &[(&str, &str)] = &[
+static BOOLEANS: &[(&str, &str)] = &[
     ("any where b", "0 keys b"),
     ("any where true", "0 keys"),
     ("any where null", "0 keys"),
@@ -232,7 +232,7 @@ const BOOLEANS: &[(&str, &str)] = &[
 ];
 
 /// `==` and `!=` take two sides of one kind, or an address and a text in quotes that is one.
-const EQUALITY: &[(&str, &str)] = &[
+static EQUALITY: &[(&str, &str)] = &[
     ("any where n == 1", "0 keys n"),
     (r#"any where n == "1""#, "KindMismatch 1"),
     ("any where n == true", "KindMismatch 1"),
@@ -257,7 +257,7 @@ const EQUALITY: &[(&str, &str)] = &[
 ];
 
 /// The other comparisons take two numbers, two texts, or what is always null.
-const ORDER: &[(&str, &str)] = &[
+static ORDER: &[(&str, &str)] = &[
     ("any where n < 1", "0 keys n"),
     (r#"any where t >= "a""#, "0 keys t"),
     (r#"any where n < "1""#, "KindMismatch 1"),
@@ -271,7 +271,7 @@ const ORDER: &[(&str, &str)] = &[
 ];
 
 /// No comparison has a field on both sides.
-const TWO_FIELDS: &[(&str, &str)] = &[
+static TWO_FIELDS: &[(&str, &str)] = &[
     ("any where n == m", "FieldToField 1"),
     ("any where n == n", "FieldToField 1"),
     ("any where n < m + 1", "FieldToField 1"),
@@ -306,7 +306,7 @@ fn comparisons(rt: HostRuntime) -> Result<(), Fail> {
 }
 
 /// Patterns are for texts, and the literals of a list have the kind of the value; with `~` all are texts.
-const LISTS: &[(&str, &str)] = &[
+static LISTS: &[(&str, &str)] = &[
     (r#"any where t : "*""#, "0 keys t"),
     (r#"any where null like "*""#, "0 keys"),
     (r#"any where n : "*""#, "KindMismatch 1"),
@@ -334,7 +334,7 @@ const LISTS: &[(&str, &str)] = &[
 ];
 
 /// Numbers are for arithmetic, and each function has its kinds.
-const OPERANDS: &[(&str, &str)] = &[
+static OPERANDS: &[(&str, &str)] = &[
     ("any where -n == 1", "0 keys n"),
     ("any where -null == 1", "0 keys"),
     ("any where -t == 1", "KindMismatch 1"),

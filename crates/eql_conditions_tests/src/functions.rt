@@ -3,7 +3,7 @@ use crate::trial::each_gives;
 use std::test::Fail;
 
 /// Functions that ask for a place or a length. Places count characters from 0.
-const PLACES: &[(&str, &str)] = &[
+static PLACES: &[(&str, &str)] = &[
     (r#"length("café") == 4"#, "true"),
     (r#"length("") == 0"#, "true"),
     (r#"indexOf("abcabc", "c", 3) == 5"#, "true"),
@@ -18,7 +18,7 @@ const PLACES: &[(&str, &str)] = &[
 ];
 
 /// Functions that give a part of a text, or join texts.
-const PARTS: &[(&str, &str)] = &[
+static PARTS: &[(&str, &str)] = &[
     (
         r#"substring("start regsvr32.exe", 6) == "regsvr32.exe""#,
         "true",
@@ -61,7 +61,7 @@ const PARTS: &[(&str, &str)] = &[
 ];
 
 /// Functions that test a text or an address.
-const TESTS: &[(&str, &str)] = &[
+static TESTS: &[(&str, &str)] = &[
     (r#"startsWith("cmd.exe", "cmd")"#, "true"),
     (r#"startsWith("cmd.exe", "CMD")"#, "false"),
     (r#"startsWith~("cmd.exe", "CMD")"#, "true"),
@@ -105,7 +105,7 @@ const TESTS: &[(&str, &str)] = &[
 ];
 
 /// Functions that give a number.
-const NUMBERS: &[(&str, &str)] = &[
+static NUMBERS: &[(&str, &str)] = &[
     (r#"number("-12") == -12"#, "true"),
     (r#"number("1x") == null"#, "true"),
     (r#"number("0x1F") == 31"#, "true"),
@@ -133,7 +133,7 @@ const NUMBERS: &[(&str, &str)] = &[
 ];
 
 /// Calls in one another.
-const NESTED: &[(&str, &str)] = &[
+static NESTED: &[(&str, &str)] = &[
     (r#"substring(t, -4) : ".EXE""#, "true"),
     (r#"length(concat(t, "é")) == 8"#, "true"),
     (r#"number(substring("pid=12", 4)) + l == 17"#, "true"),
@@ -145,16 +145,32 @@ const NESTED: &[(&str, &str)] = &[
 ];
 
 #[test]
-fn calls(rt: HostRuntime) -> Result<(), Fail> {
-    each_gives(&rt, rt.alloc(), PLACES)?;
-    each_gives(&rt, rt.alloc(), PARTS)?;
-    each_gives(&rt, rt.alloc(), TESTS)?;
-    each_gives(&rt, rt.alloc(), NUMBERS)?;
+fn places_in_texts(rt: HostRuntime) -> Result<(), Fail> {
+    each_gives(&rt, rt.alloc(), PLACES)
+}
+
+#[test]
+fn parts_of_texts(rt: HostRuntime) -> Result<(), Fail> {
+    each_gives(&rt, rt.alloc(), PARTS)
+}
+
+#[test]
+fn tests_of_texts(rt: HostRuntime) -> Result<(), Fail> {
+    each_gives(&rt, rt.alloc(), TESTS)
+}
+
+#[test]
+fn calls_with_numbers(rt: HostRuntime) -> Result<(), Fail> {
+    each_gives(&rt, rt.alloc(), NUMBERS)
+}
+
+#[test]
+fn nested_calls(rt: HostRuntime) -> Result<(), Fail> {
     each_gives(&rt, rt.alloc(), NESTED)
 }
 
 /// Calls with a null argument, in each place, or with a text that writes no address, are null.
-const NULLS: &[(&str, &str)] = &[
+static NULLS: &[(&str, &str)] = &[
     ("add(nl, 1) == null", "true"),
     ("add(1, ?x) == null", "true"),
     ("subtract(nl, 1) == null", "true"),

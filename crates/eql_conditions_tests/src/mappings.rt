@@ -31,7 +31,7 @@ fn mapping_is_read(rt: HostRuntime) -> Result<(), Fail> {
 }
 
 /// Texts of mappings, and how they are read.
-const MAPPINGS: &[(&str, &str)] = &[
+static MAPPINGS: &[(&str, &str)] = &[
     (r#"{"a":"date"}"#, "MapKind a"),
     (
         r#"{"a":"keyword","b":"long","c":"boolean","d":"ip"}"#,

@@ -3,7 +3,7 @@ use crate::trial::each_gives;
 use std::test::Fail;
 
 /// `and` is false where an operand is false, else null where one is null, else true.
-const ALL: &[(&str, &str)] = &[
+static ALL: &[(&str, &str)] = &[
     ("true and true", "true"),
     ("true and false", "false"),
     ("false and true", "false"),
@@ -30,7 +30,7 @@ const ALL: &[(&str, &str)] = &[
 ];
 
 /// `or` is true where an operand is true, else null where one is null, else false.
-const ANY: &[(&str, &str)] = &[
+static ANY: &[(&str, &str)] = &[
     ("true or true", "true"),
     ("true or false", "true"),
     ("false or true", "true"),
@@ -57,7 +57,7 @@ const ANY: &[(&str, &str)] = &[
 ];
 
 /// `not`, and operands that stand alone.
-const ONE: &[(&str, &str)] = &[
+static ONE: &[(&str, &str)] = &[
     ("not true", "false"),
     ("not false", "true"),
     ("not b", "false"),
@@ -80,7 +80,7 @@ fn connectives(rt: HostRuntime) -> Result<(), Fail> {
 }
 
 /// Comparisons with the literal `null`: `==` and `!=` ask whether the other side is null, and no order is known.
-const WITH_NULL: &[(&str, &str)] = &[
+static WITH_NULL: &[(&str, &str)] = &[
     ("nl == null", "true"),
     ("nl != null", "false"),
     ("l == null", "false"),
@@ -107,7 +107,7 @@ const WITH_NULL: &[(&str, &str)] = &[
 ];
 
 /// Comparisons of two values.
-const VALUES: &[(&str, &str)] = &[
+static VALUES: &[(&str, &str)] = &[
     ("l == 5", "true"),
     ("l != 5", "false"),
     ("l < 5", "false"),
@@ -132,7 +132,7 @@ const VALUES: &[(&str, &str)] = &[
 ];
 
 /// Comparisons of a value with a field that has none.
-const WITHOUT_VALUE: &[(&str, &str)] = &[
+static WITHOUT_VALUE: &[(&str, &str)] = &[
     ("nl < 5", "null"),
     ("nl <= 5", "null"),
     ("nl == 5", "null"),
@@ -168,7 +168,7 @@ const WITHOUT_VALUE: &[(&str, &str)] = &[
 ];
 
 /// Comparisons of a value with a field that the mapping doesn't have.
-const WITHOUT_FIELD: &[(&str, &str)] = &[
+static WITHOUT_FIELD: &[(&str, &str)] = &[
     ("?x < 5", "null"),
     ("?x <= 5", "null"),
     ("?x == 5", "null"),
@@ -208,7 +208,7 @@ fn comparisons(rt: HostRuntime) -> Result<(), Fail> {
 }
 
 /// Operators on two numbers: quotients are floors, and a result outside 64 signed bits is null.
-const NUMBERS: &[(&str, &str)] = &[
+static NUMBERS: &[(&str, &str)] = &[
     ("-7 / 2 == -4", "true"),
     ("-7 % 2 == 1", "true"),
     ("7 / -2 == -4", "true"),
@@ -234,7 +234,7 @@ const NUMBERS: &[(&str, &str)] = &[
 ];
 
 /// Operators on a number and a null give null, which no number equals.
-const NO_NUMBERS: &[(&str, &str)] = &[
+static NO_NUMBERS: &[(&str, &str)] = &[
     ("nl + 2 == null", "true"),
     ("nl - 2 == null", "true"),
     ("nl * 2 == null", "true"),

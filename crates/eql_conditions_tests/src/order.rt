@@ -3,7 +3,7 @@ use crate::answer::each_answers;
 use std::test::Fail;
 
 /// At one node: function, arity, block, kinds, two fields.
-const AT_ONE_NODE: &[(&str, &str)] = &[
+static AT_ONE_NODE: &[(&str, &str)] = &[
     ("any where length~() == 1", "UnknownFunction length~"),
     (
         r#"any where cidrMatch~(1, "x")"#,
@@ -25,7 +25,7 @@ const AT_ONE_NODE: &[(&str, &str)] = &[
 ];
 
 /// Operands come before their operator, and left before right.
-const IN_AN_EXPRESSION: &[(&str, &str)] = &[
+static IN_AN_EXPRESSION: &[(&str, &str)] = &[
     ("any where strlen(x) == 1", "UnknownField x"),
     (r#"any where cidrMatch(x, "y")"#, "UnknownField x"),
     (r#"any where length(1 + "a", 2) == 1"#, "KindMismatch 1"),
@@ -52,7 +52,7 @@ fn conditions(rt: HostRuntime) -> Result<(), Fail> {
 }
 
 /// The shared keys come first, and then each item: its condition, its keys, its runs. The until item is the last.
-const ITEMS: &[(&str, &str)] = &[
+static ITEMS: &[(&str, &str)] = &[
     (
         "sequence by z [any where x] by y with runs=0 [any where w]",
         "UnknownField z",
@@ -110,7 +110,7 @@ fn items(rt: HostRuntime) -> Result<(), Fail> {
 
 /// The rules of the whole query come after those of the items: counts of keys, kinds of keys, stages, then the limits of
 /// keys and of fields, spans and pipes.
-const WHOLE: &[(&str, &str)] = &[
+static WHOLE: &[(&str, &str)] = &[
     (
         "sequence [any where true] by t [any where true] until [any where v]",
         "UnknownField v",

@@ -3,7 +3,7 @@ use crate::trial::each_gives;
 use std::test::Fail;
 
 /// `:` and `like~` fold, `like` doesn't. A pattern fits a whole text; one of several is enough.
-const PATTERNS: &[(&str, &str)] = &[
+static PATTERNS: &[(&str, &str)] = &[
     (r#"nt : "*""#, "null"),
     (r#"?x like "*""#, "null"),
     (r#"null like~ "*""#, "null"),
@@ -34,7 +34,7 @@ fn texts_and_patterns(rt: HostRuntime) -> Result<(), Fail> {
 }
 
 /// `in` asks for an equal literal, and `in~` folds; a null is in no list and out of none.
-const MEMBERS: &[(&str, &str)] = &[
+static MEMBERS: &[(&str, &str)] = &[
     ("nl in (1, 2)", "null"),
     ("nl not in (1)", "null"),
     (r#"nt in ("a")"#, "null"),
@@ -74,7 +74,7 @@ fn values_and_lists(rt: HostRuntime) -> Result<(), Fail> {
 }
 
 /// Folding goes character by character, by the simple case folding of Unicode.
-const FOLDED: &[(&str, &str)] = &[
+static FOLDED: &[(&str, &str)] = &[
     (r#""ÉCLAIR" : "éclair""#, "true"),
     (r#""ÉCLAIR" like "éclair""#, "false"),
     (r#""ÉCLAIR" in~ ("a", "éclair")"#, "true"),

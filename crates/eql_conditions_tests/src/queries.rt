@@ -3,7 +3,7 @@ use crate::trial::each_gives;
 use std::test::Fail;
 
 /// A comparison with a field without value, and a result that is none, are null and not false.
-const NULL_IS_NOT_FALSE: &[(&str, &str)] = &[
+static NULL_IS_NOT_FALSE: &[(&str, &str)] = &[
     ("process.pid == 1", "null"),
     ("not (process.pid == 1)", "null"),
     ("5 / 0 == 0", "null"),
@@ -24,7 +24,7 @@ fn null_is_not_false(rt: HostRuntime) -> Result<(), Fail> {
 
 /// Operators bind as the grammar has it: `-`, then `*`, `/` and `%`, then `+` and `-`, each from the left, then
 /// comparisons, `not`, `and`, `or`.
-const PRECEDENCE: &[(&str, &str)] = &[
+static PRECEDENCE: &[(&str, &str)] = &[
     ("-7 / 2 == -4 and -7 % 2 == 1", "true"),
     ("1 + 2 * 3 == 7", "true"),
     ("(1 + 2) * 3 == 9", "true"),
@@ -54,7 +54,7 @@ fn operators_bind(rt: HostRuntime) -> Result<(), Fail> {
 }
 
 /// One text fits two patterns.
-const PATTERNS: &[(&str, &str)] = &[
+static PATTERNS: &[(&str, &str)] = &[
     (r#"user.name : "a*""#, "true"),
     (r#"user.name : "*b""#, "true"),
     (r#""AB" : "a*""#, "true"),
@@ -68,7 +68,7 @@ fn one_text_fits_two_patterns(rt: HostRuntime) -> Result<(), Fail> {
 }
 
 /// The conditions of a chain of events: a process starts, connects and ends. Each conjunct stands also by itself.
-const CHAIN: &[(&str, &str)] = &[
+static CHAIN: &[(&str, &str)] = &[
     (
         r#"event.type == "start" and process.name : "cmd.exe" and process.args_count > 1"#,
         "true",
@@ -93,7 +93,7 @@ fn a_chain_of_events(rt: HostRuntime) -> Result<(), Fail> {
 }
 
 /// Fields and texts in each of their spellings: in backticks, with `?`, between three quotes, by escapes.
-const SPELLINGS: &[(&str, &str)] = &[
+static SPELLINGS: &[(&str, &str)] = &[
     (r#"`process.name` == "CMD.EXE""#, "true"),
     (r#"process.`name` == "CMD.EXE""#, "true"),
     (r#"?process.name == "CMD.EXE""#, "true"),
@@ -117,7 +117,7 @@ fn spellings(rt: HostRuntime) -> Result<(), Fail> {
 
 /// Lists in lists: where an `and` is false or an `or` is true, what is left of that list says no more, and what stands
 /// behind the list does.
-const SHORT_CUTS: &[(&str, &str)] = &[
+static SHORT_CUTS: &[(&str, &str)] = &[
     ("(false and b or true) and (nb or true)", "true"),
     ("not (true or nb) or (b and l == 5 and false)", "false"),
     ("(b or nb) and (false and nb) and b", "false"),

@@ -3,7 +3,7 @@ use crate::answer::each_answers;
 use std::test::Fail;
 
 /// All items have as many keys of their own as the first, the until item among them.
-const KEY_COUNT: &[(&str, &str)] = &[
+static KEY_COUNT: &[(&str, &str)] = &[
     (
         "sequence [any where true] by t [any where true] by t",
         "1 keys t",
@@ -51,7 +51,7 @@ const KEY_COUNT: &[(&str, &str)] = &[
 ];
 
 /// The keys at one place are of one kind; what is always null fits every kind.
-const KEY_KIND: &[(&str, &str)] = &[
+static KEY_KIND: &[(&str, &str)] = &[
     (
         "sequence [any where true] by n [any where true] by m",
         "1 keys n m",
@@ -109,7 +109,7 @@ fn keys(rt: HostRuntime) -> Result<(), Fail> {
 }
 
 /// An item has 1 to 100 runs, and a sequence 2 to 256 stages. The until item is no stage.
-const STAGES: &[(&str, &str)] = &[
+static STAGES: &[(&str, &str)] = &[
     ("sequence [any where true] [any where true]", "0 keys"),
     ("sequence [any where true]", "FewStages"),
     ("sequence [any where true] with runs=1", "FewStages"),
@@ -162,7 +162,7 @@ fn stages(rt: HostRuntime) -> Result<(), Fail> {
 }
 
 /// There are at most 8 keys, the shared ones and those of an item.
-const MANY_KEYS: &[(&str, &str)] = &[
+static MANY_KEYS: &[(&str, &str)] = &[
     (
         "sequence by t, n, m, b, a, c, ?x, ?y [any where true] [any where true]",
         "8 keys t n m b a c",
@@ -186,7 +186,7 @@ const MANY_KEYS: &[(&str, &str)] = &[
 ];
 
 /// A span is a millisecond to 36,500 days.
-const SPANS: &[(&str, &str)] = &[
+static SPANS: &[(&str, &str)] = &[
     (
         "sequence with maxspan=0ms [any where true] [any where true]",
         "Span",
@@ -262,7 +262,7 @@ const SPANS: &[(&str, &str)] = &[
 ];
 
 /// There are at most 8 pipes, with counts of 0 to 1,000,000.
-const PIPES: &[(&str, &str)] = &[
+static PIPES: &[(&str, &str)] = &[
     ("any where true | head 0", "0 keys"),
     ("any where true | tail 0", "0 keys"),
     ("any where true | head 1000000", "0 keys"),

@@ -11,7 +11,7 @@ use std::process::Abort;
 use std::test::Fail;
 
 /// The fields that conditions name. `nb`, `nl`, `nt`, `ni` and `process.pid` have no value, and `?x` isn't among them.
-const MAPPING: &[u8] = br#"{"b":"boolean","l":"long","t":"keyword","i":"ip",
+static MAPPING: &[u8] = br#"{"b":"boolean","l":"long","t":"keyword","i":"ip",
 "nb":"boolean","nl":"long","nt":"keyword","ni":"ip",
 "event.type":"keyword","process.name":"keyword","process.args_count":"long","process.pid":"long",
 "destination.ip":"ip","destination.port":"long","user.name":"keyword"}"#;
@@ -96,12 +96,24 @@ fn answer(alloc: Global, mapping: &Mapping, condition: &str) -> Result<&'static 
     }
 }
 
-/// Sees that each condition gives the value beside it: `true`, `false` or `null`.
-pub fn each_gives(rt: &impl Abort, alloc: Global, rows: &[(&str, &str)]) -> Result<(), Fail> {
-    let mapping = Mapping::read(alloc, MAPPING)?;
+/// Sees that each condition over these fields gives the value beside it.
+fn each_gives_by(
+    rt: &impl Abort,
+    alloc: Global,
+    mapping: &Mapping,
+    rows: &[(&str, &str)],
+) -> Result<(), Fail> {
     for (condition, value) in rows {
-        let got = answer(alloc, &mapping, condition)?;
+        let got = answer(alloc, mapping, condition)?;
         assert_eq!(rt; got, *value, "{condition}");
     }
     Ok(())
+}
+
+/// Sees that each condition gives the value beside it: `true`, `false` or `null`.
+pub fn each_gives(rt: &impl Abort, alloc: Global, rows: &[(&str, &str)]) -> Result<(), Fail> {
+    let mapping = Mapping::read(alloc, MAPPING)?;
+    let seen = each_gives_by(rt, alloc, &mapping, rows);
+    drop(mapping);
+    seen
 }

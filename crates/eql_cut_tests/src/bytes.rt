@@ -3,7 +3,7 @@ use std::alloc::{AllocError, Global};
 
 /// The bytes of a cut after the front and the byte of the format, in hexadecimal, each part with
 /// the first format that has it.
-const PARTS: &[(u8, &str)] = &[
+static PARTS: &[(u8, &str)] = &[
     // The query `q`, and the mapping: a keyword, b boolean, ip address, n long.
     (1, "0100000000000000 71"),
     (1, "0400000000000000"),

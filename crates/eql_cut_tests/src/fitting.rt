@@ -79,7 +79,7 @@ const FITTING: Plan = Plan {
 
 /// What differs from the cut that fits, the cut, and whether it fits the run of three stages, of
 /// keys of one value and of the pipes `head 2` and `tail 1`.
-const ROWS: &[(&str, Plan, bool)] = &[
+static ROWS: &[(&str, Plan, bool)] = &[
     ("as it is", FITTING, true),
     (
         "mark too low",
@@ -625,7 +625,7 @@ fn each_rule_is_kept(rt: HostRuntime) -> Result<(), Fail> {
 }
 
 /// Stages, values of a key, pipes, and whether the cut that fits the run above fits such a run.
-const RUNS: [(u32, u32, &[Pipe], bool); 9] = [
+static RUNS: &[(u32, u32, &[Pipe], bool)] = &[
     (3, 1, &[Pipe::Head(2), Pipe::Tail(1)], true),
     (3, 1, &[Pipe::Head(9), Pipe::Tail(9)], true),
     (3, 1, &[Pipe::Head(2), Pipe::Tail(0)], false),
@@ -641,7 +641,7 @@ const RUNS: [(u32, u32, &[Pipe], bool); 9] = [
 fn runs_are_told_apart(rt: HostRuntime) -> Result<(), Fail> {
     let alloc = rt.alloc();
     let cut = cut_of(alloc, &FITTING)?;
-    for (m, keys, pipes, expected) in RUNS {
+    for &(m, keys, pipes, expected) in RUNS {
         let pipes = Pipes::of(Vec::from_slice(alloc, pipes)?);
         assert_eq!(rt; fits(&cut, m, keys, &pipes), expected);
     }

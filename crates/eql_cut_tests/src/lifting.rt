@@ -12,7 +12,7 @@ use std::test::Fail;
 /// The bytes of a cut after the front and the byte of the format, in hexadecimal, each part with
 /// the first format that has it. It has an event that a lane keeps, two pending sequences, and a
 /// match that a pipe keeps. In the formats with places these are those of `noted`.
-const PARTS: &[(u8, &str)] = &[
+static PARTS: &[(u8, &str)] = &[
     // The query `q`, no mapping, no tiebreaker, a slack of 5, 2 shards, the mark 1000, 2 lanes.
     (1, "0100000000000000 71 0000000000000000 00"),
     (1, "0500000000000000 02000000"),

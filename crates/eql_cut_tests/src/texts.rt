@@ -275,7 +275,7 @@ fn nothing_may_be_cut_off_or_follow(rt: HostRuntime) -> Result<(), Fail> {
 }
 
 /// Bytes that are refused, each with the number of bytes before what can't be read.
-const REFUSED: [(&str, u64); 6] = [
+static REFUSED: &[(&str, u64)] = &[
     ("", 0),
     ("00", 0),
     ("45514c43", 4),
@@ -288,7 +288,7 @@ const REFUSED: [(&str, u64); 6] = [
 #[test]
 fn refusals_tell_their_places(rt: HostRuntime) -> Result<(), Fail> {
     let alloc = rt.alloc();
-    for (hex, expected) in REFUSED {
+    for &(hex, expected) in REFUSED {
         let mut bytes = Vec::new(alloc);
         push_hex(&mut bytes, hex)?;
         match decode(alloc, &bytes) {

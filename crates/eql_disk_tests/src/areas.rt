@@ -27,137 +27,143 @@ struct Row {
     finds: Finds,
 }
 
-fn area_row(name: &'static str, a: &'static str, b: &'static str, finds: Finds) -> Row {
-    Row { name, a, b, finds }
+/// The areas of this name, and what is found in them.
+macro_rules! area_row {
+    ($name:expr, $a:expr, $b:expr, $finds:expr $(,)?) => {
+        Row {
+            name: $name,
+            a: $a,
+            b: $b,
+            finds: $finds,
+        }
+    };
 }
 
-// A text has 91 bytes, 5b.
-fn rows() -> [Row; 22] {
-    [
-        area_row("two empty areas", "", "", Finds::Nothing),
-        area_row(
-            "closed",
-            "00 0100000000000000 5b00000000000000 T",
-            "02",
-            Finds::Nothing,
-        ),
-        area_row(
-            "one in area 0",
-            "01 0100000000000000 5b00000000000000 T",
-            "",
-            Finds::Cut(1, Area::A, 1),
-        ),
-        area_row(
-            "one in area 1",
-            "",
-            "01 0200000000000000 5b00000000000000 U",
-            Finds::Cut(2, Area::B, 2),
-        ),
-        area_row(
-            "the greater generation in area 0",
-            "01 0301000000000000 5b00000000000000 V",
-            "01 0400000000000000 5b00000000000000 U",
-            Finds::Cut(3, Area::A, 259),
-        ),
-        area_row(
-            "the greater generation in area 1",
-            "01 0900000000000000 5b00000000000000 V",
-            "01 0a00000000000000 5b00000000000000 U",
-            Finds::Cut(2, Area::B, 10),
-        ),
-        area_row(
-            "equal generations",
-            "01 0900000000000000 5b00000000000000 V",
-            "01 0900000000000000 5b00000000000000 U",
-            Finds::Cut(3, Area::A, 9),
-        ),
-        area_row(
-            "bytes behind the text",
-            "01 0100000000000000 5b00000000000000 T ffff",
-            "",
-            Finds::Cut(1, Area::A, 1),
-        ),
-        area_row(
-            "the greatest generation",
-            "01 0000000000000080 5b00000000000000 T",
-            "",
-            Finds::Cut(1, Area::A, 9223372036854775808),
-        ),
-        area_row(
-            "a greater one",
-            "01 0100000000000080 5b00000000000000 T",
-            "01 0100000000000000 5b00000000000000 U",
-            Finds::Damaged(0, 0),
-        ),
-        area_row(
-            "generation 0",
-            "01 0000000000000000 5b00000000000000 T",
-            "",
-            Finds::Damaged(0, 0),
-        ),
-        area_row("a gate alone", "", "01", Finds::Damaged(1, 0)),
-        area_row(
-            "16 bytes",
-            "01 0100000000000000 00000000000000",
-            "",
-            Finds::Damaged(0, 0),
-        ),
-        area_row(
-            "a gate alone, which is older",
-            "01 ff",
-            "01 0100000000000000 5b00000000000000 U",
-            Finds::Cut(2, Area::B, 1),
-        ),
-        area_row(
-            "the text 00",
-            "01 0100000000000000 0100000000000000 00",
-            "",
-            Finds::Damaged(0, 0),
-        ),
-        area_row(
-            "a damaged area that is older",
-            "01 0100000000000000 0100000000000000 00",
-            "01 0200000000000000 5b00000000000000 T",
-            Finds::Cut(1, Area::B, 2),
-        ),
-        area_row(
-            "no text",
-            "01 0100000000000000 0000000000000000",
-            "",
-            Finds::Damaged(0, 0),
-        ),
-        area_row(
-            "a format 4",
-            "",
-            "01 0100000000000000 0500000000000000 45514c4304",
-            Finds::Damaged(1, 4),
-        ),
-        area_row(
-            "a text cut short",
-            "01 0100000000000000 5a00000000000000 T",
-            "",
-            Finds::Damaged(0, 83),
-        ),
-        area_row(
-            "a text too long",
-            "01 0100000000000000 5c00000000000000 T 00",
-            "",
-            Finds::Damaged(0, 91),
-        ),
-        area_row(
-            "a text that isn't there",
-            "01 0100000000000000 5c00000000000000 T",
-            "",
-            Finds::Damaged(0, 0),
-        ),
-        area_row(
-            "a length of all bits",
-            "01 0100000000000000 ffffffffffffffff T",
-            "",
-            Finds::Damaged(0, 0),
-        ),
-    ]
-}
+/// Areas of every kind. A text has 91 bytes, 5b.
+static ROWS: &[Row] = &[
+    area_row!("two empty areas", "", "", Finds::Nothing),
+    area_row!(
+        "closed",
+        "00 0100000000000000 5b00000000000000 T",
+        "02",
+        Finds::Nothing,
+    ),
+    area_row!(
+        "one in area 0",
+        "01 0100000000000000 5b00000000000000 T",
+        "",
+        Finds::Cut(1, Area::A, 1),
+    ),
+    area_row!(
+        "one in area 1",
+        "",
+        "01 0200000000000000 5b00000000000000 U",
+        Finds::Cut(2, Area::B, 2),
+    ),
+    area_row!(
+        "the greater generation in area 0",
+        "01 0301000000000000 5b00000000000000 V",
+        "01 0400000000000000 5b00000000000000 U",
+        Finds::Cut(3, Area::A, 259),
+    ),
+    area_row!(
+        "the greater generation in area 1",
+        "01 0900000000000000 5b00000000000000 V",
+        "01 0a00000000000000 5b00000000000000 U",
+        Finds::Cut(2, Area::B, 10),
+    ),
+    area_row!(
+        "equal generations",
+        "01 0900000000000000 5b00000000000000 V",
+        "01 0900000000000000 5b00000000000000 U",
+        Finds::Cut(3, Area::A, 9),
+    ),
+    area_row!(
+        "bytes behind the text",
+        "01 0100000000000000 5b00000000000000 T ffff",
+        "",
+        Finds::Cut(1, Area::A, 1),
+    ),
+    area_row!(
+        "the greatest generation",
+        "01 0000000000000080 5b00000000000000 T",
+        "",
+        Finds::Cut(1, Area::A, 9223372036854775808),
+    ),
+    area_row!(
+        "a greater one",
+        "01 0100000000000080 5b00000000000000 T",
+        "01 0100000000000000 5b00000000000000 U",
+        Finds::Damaged(0, 0),
+    ),
+    area_row!(
+        "generation 0",
+        "01 0000000000000000 5b00000000000000 T",
+        "",
+        Finds::Damaged(0, 0),
+    ),
+    area_row!("a gate alone", "", "01", Finds::Damaged(1, 0)),
+    area_row!(
+        "16 bytes",
+        "01 0100000000000000 00000000000000",
+        "",
+        Finds::Damaged(0, 0),
+    ),
+    area_row!(
+        "a gate alone, which is older",
+        "01 ff",
+        "01 0100000000000000 5b00000000000000 U",
+        Finds::Cut(2, Area::B, 1),
+    ),
+    area_row!(
+        "the text 00",
+        "01 0100000000000000 0100000000000000 00",
+        "",
+        Finds::Damaged(0, 0),
+    ),
+    area_row!(
+        "a damaged area that is older",
+        "01 0100000000000000 0100000000000000 00",
+        "01 0200000000000000 5b00000000000000 T",
+        Finds::Cut(1, Area::B, 2),
+    ),
+    area_row!(
+        "no text",
+        "01 0100000000000000 0000000000000000",
+        "",
+        Finds::Damaged(0, 0),
+    ),
+    area_row!(
+        "a format 4",
+        "",
+        "01 0100000000000000 0500000000000000 45514c4304",
+        Finds::Damaged(1, 4),
+    ),
+    area_row!(
+        "a text cut short",
+        "01 0100000000000000 5a00000000000000 T",
+        "",
+        Finds::Damaged(0, 83),
+    ),
+    area_row!(
+        "a text too long",
+        "01 0100000000000000 5c00000000000000 T 00",
+        "",
+        Finds::Damaged(0, 91),
+    ),
+    area_row!(
+        "a text that isn't there",
+        "01 0100000000000000 5c00000000000000 T",
+        "",
+        Finds::Damaged(0, 0),
+    ),
+    area_row!(
+        "a length of all bits",
+        "01 0100000000000000 ffffffffffffffff T",
+        "",
+        Finds::Damaged(0, 0),
+    ),
+];
 
 /// Whether this was found.
 fn is_as(found: &Recovered, expected: Finds) -> bool {
@@ -200,7 +206,7 @@ fn recovery_of(alloc: Global, row: &Row) -> Result<(bool, u64), Fail> {
 
 #[test]
 fn areas_are_read(rt: HostRuntime) -> Result<(), Fail> {
-    for row in &rows() {
+    for row in ROWS {
         assert_eq!(rt; recovery_of(rt.alloc(), row)?, (true, 0), "{}", row.name);
     }
     Ok(())
@@ -215,7 +221,7 @@ struct Put {
     then: Option<(&'static str, &'static str)>,
 }
 
-const PUTS: [Put; 6] = [
+static PUTS: &[Put] = &[
     Put {
         a: "",
         b: "07 ff",
@@ -293,7 +299,7 @@ fn put_row(alloc: Global, row: &Put) -> Result<(Result<(), CkRefused>, Areas), F
 #[test]
 fn puts_write_areas(rt: HostRuntime) -> Result<(), Fail> {
     let alloc = rt.alloc();
-    for row in &PUTS {
+    for row in PUTS {
         let (answer, (a, b)) = put_row(alloc, row)?;
         let (then, expected) = match row.then {
             Some(then) => (then, Ok(())),

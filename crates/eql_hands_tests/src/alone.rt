@@ -15,10 +15,10 @@ use std::sync::ledger::{Blank, Ledger};
 use std::test::Fail;
 
 /// The query of the reference's example of pending sequences, and its events.
-const QUERY: &[u8] =
+static QUERY: &[u8] =
     br#"sequence by user.name [process where process.name == "attrib"] [process where process.name == "bash"] [process where process.name == "cat"]"#;
 
-const ELEVEN: &[u8] =
+static ELEVEN: &[u8] =
     br#"{"@timestamp":1000,"event":{"category":"process"},"user":{"name":"root"},"process":{"name":"attrib"}}
 {"@timestamp":2000,"event":{"category":"process"},"user":{"name":"root"},"process":{"name":"attrib"}}
 {"@timestamp":3000,"event":{"category":"process"},"user":{"name":"elkbee"},"process":{"name":"bash"}}

@@ -123,9 +123,9 @@ fn meeting(
 }
 
 /// The event of each shard.
-const FIRST: &[u8] = b"{\"@timestamp\":1,\"event\":{\"category\":\"a\"}}\n";
+static FIRST: &[u8] = b"{\"@timestamp\":1,\"event\":{\"category\":\"a\"}}\n";
 
-const SECOND: &[u8] = b"{\"@timestamp\":2,\"event\":{\"category\":\"a\"}}\n";
+static SECOND: &[u8] = b"{\"@timestamp\":2,\"event\":{\"category\":\"a\"}}\n";
 
 /// Whoever asks one source first stays there until the other one is asked. So a conductor whose hands play no steps can't end.
 #[test]

@@ -7,7 +7,7 @@ use std::alloc::Global;
 use std::test::Fail;
 
 /// The fields that queries name.
-const MAPPING: &[u8] = br#"{"process.name":"keyword","user.name":"keyword"}"#;
+static MAPPING: &[u8] = br#"{"process.name":"keyword","user.name":"keyword"}"#;
 
 /// The plan of a query, with no tiebreaker.
 pub(crate) fn plan_of(alloc: Global, query: &[u8]) -> Result<Plan, Fail> {

@@ -22,7 +22,7 @@ fn long_text(alloc: Global, bytes: usize) -> Result<Vec<u8>, Fail> {
 
 /// The bytes of the first line, the bytes of a piece, how many lines are rejected, and the answers
 /// to two feeds and a take.
-const LONG: [(usize, usize, u32, &str); 6] = [
+static LONG: &[(usize, usize, u32, &str)] = &[
     (1048576, 65536, 0, "fed 2;closed;taken 2@1048577 1@0;"),
     (1048577, 65536, 1, "fed 2;closed;taken 2@1048578;"),
     (1048577, 4099, 1, "fed 2;closed;taken 2@1048578;"),
@@ -44,7 +44,7 @@ fn told_of_long(alloc: Global, bytes: usize, piece: usize) -> Result<(String, Co
 
 #[test]
 fn long_lines_are_passed_over(rt: HostRuntime) -> Result<(), Fail> {
-    for (bytes, piece, rejected, told) in LONG {
+    for &(bytes, piece, rejected, told) in LONG {
         let (out, counts) = told_of_long(rt.alloc(), bytes, piece)?;
         assert_eq!(rt; out.as_str(), told);
         assert_eq!(rt; counts.rejected, rejected);
@@ -92,7 +92,7 @@ fn read_lines(lane: &mut TestLane, lines: u32) -> Result<(), Fail> {
 
 /// How many events lie below the low, and what a feed, a look, a take and a feed answer. Of what was
 /// taken the number is told.
-const FULL: [(u32, &str); 2] = [
+static FULL: &[(u32, &str)] = &[
     (65535, "closed;low end;65536;closed;"),
     (65536, "held 65536;low 8000000000;65536;closed;"),
 ];
@@ -136,7 +136,7 @@ fn told_of_full(alloc: Global, events: u32) -> Result<String, Fail> {
 
 #[test]
 fn feeds_wait_behind_many_events(rt: HostRuntime) -> Result<(), Fail> {
-    for (events, told) in FULL {
+    for &(events, told) in FULL {
         assert_eq!(rt; told_of_full(rt.alloc(), events)?.as_str(), told);
     }
     Ok(())
@@ -170,7 +170,7 @@ fn lines_before_a_fault_stand(rt: HostRuntime) -> Result<(), Fail> {
 
 /// The reading that lacks memory, from 1, and what two feeds of nine lines and a take answer over
 /// `3\n1\n2`.
-const LACKS: [(u32, &str); 4] = [
+static LACKS: &[(u32, &str)] = &[
     (1, "memory 0;fed 3;taken 2@2 3@4 1@0;"),
     (2, "memory 1;fed 2;taken 2@2 3@4 1@0;"),
     (3, "memory 2;fed 1;taken 2@2 3@4 1@0;"),
@@ -198,14 +198,14 @@ fn told_of_lack(alloc: Global, at: u32) -> Result<String, Fail> {
 /// After want of memory the line at hand is read again.
 #[test]
 fn feeds_go_on_after_want_of_memory(rt: HostRuntime) -> Result<(), Fail> {
-    for (at, told) in LACKS {
+    for &(at, told) in LACKS {
         assert_eq!(rt; told_of_lack(rt.alloc(), at)?.as_str(), told);
     }
     Ok(())
 }
 
 /// Texts with lines of many lengths, each of which begins with its time.
-const TEXTS: [&[u8]; 3] = [b"5abc\n4\n\n \n6de\r\n3 f", b"\n\n\n9\n", b"7\n6\n5\n4\n"];
+static TEXTS: &[&[u8]] = &[b"5abc\n4\n\n \n6de\r\n3 f", b"\n\n\n9\n", b"7\n6\n5\n4\n"];
 
 /// Reads nine lines, and takes what was read.
 fn feed_and_take(lane: &mut TestLane) -> Result<Items, Fail> {
@@ -232,7 +232,7 @@ fn events_of(alloc: Global, text: &[u8]) -> Result<(Items, u32), Fail> {
 /// Each event stands at the place of its line: there its first byte is, behind a line feed.
 #[test]
 fn places_are_those_of_lines(rt: HostRuntime) -> Result<(), Fail> {
-    for text in TEXTS {
+    for &text in TEXTS {
         let (items, accepted) = events_of(rt.alloc(), text)?;
         assert_eq!(rt; items.items().len(), accepted as usize);
         for item in items.items() {

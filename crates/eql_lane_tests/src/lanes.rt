@@ -37,7 +37,7 @@ pub(crate) const ONE: LaneOp = LaneOp::Feed { max: 1 };
 pub(crate) const NINE: LaneOp = LaneOp::Feed { max: 9 };
 
 /// The rows whose answers are the same for all pieces.
-const ROWS: &[Row] = &[
+static ROWS: &[Row] = &[
     // Line 2 comes 6 s behind line 1, line 3 comes 4 s behind it.
     Row {
         text: b":\n4\n6\n",
@@ -108,7 +108,7 @@ const ROWS: &[Row] = &[
 ];
 
 /// A failed take is told with the lines before it, and the next feed goes on.
-const FAULTS: [Row; 4] = [
+static FAULTS: &[Row] = &[
     Row {
         text: b"1\n2\n3\n",
         fails: &[1],
@@ -286,7 +286,7 @@ struct Start {
     told: &'static str,
 }
 
-const STARTS: &[Start] = &[
+static STARTS: &[Start] = &[
     Start {
         text: b"1\n2\n3",
         fails: &[],
@@ -512,7 +512,7 @@ fn rows_answer_in_all_pieces(rt: HostRuntime) -> Result<(), Fail> {
 #[test]
 fn feeds_go_on_after_faults(rt: HostRuntime) -> Result<(), Fail> {
     let alloc = rt.alloc();
-    for row in &FAULTS {
+    for row in FAULTS {
         let out = told(alloc, row, 2)?;
         assert_eq!(rt; out.as_str(), row.told);
     }

@@ -27,7 +27,7 @@ struct Lift {
     told: &'static str,
 }
 
-const LIFTS: &[Lift] = &[
+static LIFTS: &[Lift] = &[
     Lift {
         text: b"ab\n\nc\nd\n",
         fails: &[],

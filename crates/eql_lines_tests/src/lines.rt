@@ -7,7 +7,7 @@ use std::test::Fail;
 
 /// Keywords and numbers, each line with what it is: `blank`, the reason, or an event's time, tiebreaker, categories
 /// and fields.
-const NUMBERS: &[(&str, &str)] = &[
+static NUMBERS: &[(&str, &str)] = &[
     (
         "{\"@timestamp\":7,\"k\":\"a\\u00e9\"}",
         "7000000 none [] aé null null null",
@@ -64,7 +64,7 @@ const NUMBERS: &[(&str, &str)] = &[
 ];
 
 /// Truth values and addresses.
-const TRUTHS: &[(&str, &str)] = &[
+static TRUTHS: &[(&str, &str)] = &[
     (
         "{\"@timestamp\":7,\"b\":\"true\"}",
         "7000000 none [] null null true null",
@@ -105,7 +105,7 @@ const TRUTHS: &[(&str, &str)] = &[
 ];
 
 /// What names lead to, tiebreakers, and which reason comes first.
-const REACHED: &[(&str, &str)] = &[
+static REACHED: &[(&str, &str)] = &[
     (
         "{\"@timestamp\":7,\"k\":null}",
         "7000000 none [] null null null null",
@@ -171,7 +171,7 @@ const REACHED: &[(&str, &str)] = &[
 ];
 
 /// Timestamps, and lines that are no events.
-const STAMPS: &[(&str, &str)] = &[
+static STAMPS: &[(&str, &str)] = &[
     ("null", "NotObject"),
     ("{} {}", "NotJson"),
     ("{}", "NoTime"),
@@ -214,7 +214,7 @@ const STAMPS: &[(&str, &str)] = &[
 
 /// Texts, each with the time that it names, in nanoseconds since the epoch, or `BadTime`. By Python's `datetime`, and
 /// years outside 1 to 9999 by a count of days.
-const TIMES: &[(&str, &str)] = &[
+static TIMES: &[(&str, &str)] = &[
     ("2024-05-01T08:00:00.123Z", "1714550400123000000"),
     ("2024-05-01T08:00:00Z", "1714550400000000000"),
     ("2024-05-01t08:00:00z", "1714550400000000000"),
@@ -424,7 +424,7 @@ fn stamps_are_read(rt: HostRuntime) -> Result<(), Fail> {
 }
 
 /// Lines in which one name lies within another, or is wanted twice, each with what it is.
-const NAMED: &[(&str, &str)] = &[
+static NAMED: &[(&str, &str)] = &[
     (
         "{\"@timestamp\":7,\"a\":{\"b\":{\"c\":\"x\"}}}",
         "7000000 none [] x null 7 x null",

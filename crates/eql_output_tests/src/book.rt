@@ -148,7 +148,7 @@ fn lines_of(alloc: Global, from: u32, to: u32) -> Result<String, Fail> {
 
 /// Pipes, each with the numbers of the matches of fifty that they keep: the first and the one after
 /// the last.
-const PIPES: [(&[Pipe], u32, u32); 9] = [
+static PIPES: &[(&[Pipe], u32, u32)] = &[
     (&[], 1, 51),
     (&[Pipe::Head(3)], 1, 4),
     (&[Pipe::Head(0)], 1, 1),
@@ -163,7 +163,7 @@ const PIPES: [(&[Pipe], u32, u32); 9] = [
 #[test]
 fn pipes_keep_their_matches_from_cut_to_cut(rt: HostRuntime) -> Result<(), Fail> {
     let alloc = rt.alloc();
-    for (pipes, from, to) in PIPES {
+    for &(pipes, from, to) in PIPES {
         let expected = lines_of(alloc, from, to)?;
         for stop in 0..=50 {
             let sink = listing_of(alloc, pipes, stop, 50)?;
@@ -174,7 +174,7 @@ fn pipes_keep_their_matches_from_cut_to_cut(rt: HostRuntime) -> Result<(), Fail>
 }
 
 /// Pipes over five matches, each with the lines that come out.
-const FEW: [(&[Pipe], &str); 6] = [
+static FEW: &[(&[Pipe], &str)] = &[
     (&[Pipe::Tail(2), Pipe::Head(1)], "4 [] 2:4\n"),
     (&[Pipe::Head(3), Pipe::Tail(1)], "3 [] 2:3\n"),
     (&[Pipe::Head(0)], ""),
@@ -192,7 +192,7 @@ const FEW: [(&[Pipe], &str); 6] = [
 #[test]
 fn pipes_apply_from_left_to_right(rt: HostRuntime) -> Result<(), Fail> {
     let alloc = rt.alloc();
-    for (pipes, expected) in FEW {
+    for &(pipes, expected) in FEW {
         let sink = listing_of(alloc, pipes, 2, 5)?;
         assert_eq!(rt; sink.bytes().as_slice(), expected.as_bytes());
     }
@@ -211,7 +211,7 @@ fn keyed_line(alloc: Global, text: &str, chain: Chain, places: bool) -> Result<T
 
 /// Texts of a key, each with the JSON that Python's `json.dumps` prints of it with the separators
 /// `,` and `:` and `ensure_ascii=False`.
-const KEYS: [(&str, &str); 3] = [
+static KEYS: &[(&str, &str)] = &[
     ("", "[\"\"]"),
     (
         "\u{0}\u{1}\u{2}\u{3}\u{4}\u{5}\u{6}\u{7}\u{8}\t\n\u{b}\u{c}\r\u{e}\u{f}\u{10}\u{11}\u{12}\u{13}\u{14}\u{15}\u{16}\u{17}\u{18}\u{19}\u{1a}\u{1b}\u{1c}\u{1d}\u{1e}\u{1f}",
@@ -226,7 +226,7 @@ const KEYS: [(&str, &str); 3] = [
 #[test]
 fn keys_are_printed_as_json(rt: HostRuntime) -> Result<(), Fail> {
     let alloc = rt.alloc();
-    for (text, json) in KEYS {
+    for &(text, json) in KEYS {
         for (places, event) in [(false, "0:5"), (true, "0:5@50")] {
             let expected = format!(in alloc; "12 {json} {event}")?;
             let chain = Chain::of(vec![in alloc; placed(5, 50)]?);
@@ -260,7 +260,7 @@ fn keys_of_each_kind_are_printed(rt: HostRuntime) -> Result<(), Fail> {
 }
 
 /// Counts of a shard's lines, each with its line of the report.
-const REPORTS: [(u32, Counts, &str); 3] = [
+static REPORTS: &[(u32, Counts, &str)] = &[
     (
         0,
         Counts {
@@ -305,7 +305,7 @@ const REPORTS: [(u32, Counts, &str); 3] = [
 #[test]
 fn reports_tell_the_counts(rt: HostRuntime) -> Result<(), Fail> {
     let alloc = rt.alloc();
-    for (shard, counts, expected) in REPORTS {
+    for &(shard, counts, expected) in REPORTS {
         let line = match report_line(alloc, shard, &counts) {
             Ok(line) => line,
             Err(_) => return Err(Fail::from("memory")),

@@ -64,52 +64,54 @@ fn canonical(alloc: Global, text: &str) -> Result<String, Fail> {
     }
 }
 
+/// Texts, each with its tokens and their places, or with its refusal.
+static TOKENS: &[(&[u8], &str)] = &[
+    (
+        b"any where like~ @x",
+        "word any 0..3; word where 4..9; word like~ 10..15; word @x 16..18; ",
+    ),
+    (b"`a``b` `c d`", "back a`b 0..6; back c d 7..12; "),
+    (
+        b"\"a\\n\\\"\\u{e9}\" \"\"\"x\\\"\"\"",
+        "str a\n\"\u{e9} 0..13; str x\\ 14..22; ",
+    ),
+    (b"\"\\t\\\\\"", "str \t\\ 0..6; "),
+    (
+        b"<= < == = != ! >= >",
+        "AtMost 0..2; Less 3..4; Equal 5..7; Assign 8..9; NotEqual 10..12; Bang 13..14; AtLeast 15..17; Greater 18..19; ",
+    ),
+    (
+        b"1 // 2\n/* 3 **/9223372036854775807",
+        "num 1 0..1; num 9223372036854775807 15..34; ",
+    ),
+    (b"1 // 2\r3\n4", "num 1 0..1; num 4 9..10; "),
+    (
+        b"()[],.|?:+-*/%",
+        "Open 0..1; Close 1..2; OpenBracket 2..3; CloseBracket 3..4; Comma 4..5; Dot 5..6; Bar 6..7; Question 7..8; Colon 8..9; Plus 9..10; Minus 10..11; Star 11..12; Slash 12..13; Percent 13..14; ",
+    ),
+    (b"any where x == \"a", "lex: OpenString at 15"),
+    (b"\"a\\q", "lex: OpenString at 0"),
+    (b"x ``", "lex: OpenString at 2"),
+    (b"\"\"\"a\"\"", "lex: OpenString at 0"),
+    (b"\"a\\q\"", "lex: BadEscape at 2"),
+    (b"\"\\u{d800}\"", "lex: BadEscape at 1"),
+    (b"process where process.pid == 1.5", "lex: Fraction at 29"),
+    (b"99999999999999999999.5", "lex: Fraction at 0"),
+    (
+        b"process where process.name == 'a'",
+        "lex: SingleQuote at 30",
+    ),
+    (b"x 9223372036854775808", "lex: NumberRange at 2"),
+    (b"a /* b *", "lex: OpenComment at 2"),
+    (b"a #", "lex: BadByte at 2"),
+    (&[b'a', 255], "lex: NotUtf8"),
+];
+
 #[test]
 fn texts_have_these_tokens(rt: HostRuntime) -> Result<(), Fail> {
-    let table: [(&[u8], &str); 21] = [
-        (
-            b"any where like~ @x",
-            "word any 0..3; word where 4..9; word like~ 10..15; word @x 16..18; ",
-        ),
-        (b"`a``b` `c d`", "back a`b 0..6; back c d 7..12; "),
-        (
-            b"\"a\\n\\\"\\u{e9}\" \"\"\"x\\\"\"\"",
-            "str a\n\"\u{e9} 0..13; str x\\ 14..22; ",
-        ),
-        (b"\"\\t\\\\\"", "str \t\\ 0..6; "),
-        (
-            b"<= < == = != ! >= >",
-            "AtMost 0..2; Less 3..4; Equal 5..7; Assign 8..9; NotEqual 10..12; Bang 13..14; AtLeast 15..17; Greater 18..19; ",
-        ),
-        (
-            b"1 // 2\n/* 3 **/9223372036854775807",
-            "num 1 0..1; num 9223372036854775807 15..34; ",
-        ),
-        (b"1 // 2\r3\n4", "num 1 0..1; num 4 9..10; "),
-        (
-            b"()[],.|?:+-*/%",
-            "Open 0..1; Close 1..2; OpenBracket 2..3; CloseBracket 3..4; Comma 4..5; Dot 5..6; Bar 6..7; Question 7..8; Colon 8..9; Plus 9..10; Minus 10..11; Star 11..12; Slash 12..13; Percent 13..14; ",
-        ),
-        (b"any where x == \"a", "lex: OpenString at 15"),
-        (b"\"a\\q", "lex: OpenString at 0"),
-        (b"x ``", "lex: OpenString at 2"),
-        (b"\"\"\"a\"\"", "lex: OpenString at 0"),
-        (b"\"a\\q\"", "lex: BadEscape at 2"),
-        (b"\"\\u{d800}\"", "lex: BadEscape at 1"),
-        (b"process where process.pid == 1.5", "lex: Fraction at 29"),
-        (b"99999999999999999999.5", "lex: Fraction at 0"),
-        (
-            b"process where process.name == 'a'",
-            "lex: SingleQuote at 30",
-        ),
-        (b"x 9223372036854775808", "lex: NumberRange at 2"),
-        (b"a /* b *", "lex: OpenComment at 2"),
-        (b"a #", "lex: BadByte at 2"),
-        (&[b'a', 255], "lex: NotUtf8"),
-    ];
-    for (text, expected) in table {
-        let got = tokens_of(rt.alloc(), text)?;
-        assert_eq!(rt; got.as_str(), expected);
+    for (text, expected) in TOKENS {
+        let got = tokens_of(rt.alloc(), *text)?;
+        assert_eq!(rt; got.as_str(), *expected);
     }
     Ok(())
 }
@@ -128,109 +130,113 @@ fn most_bytes(rt: HostRuntime) -> Result<(), Fail> {
     Ok(())
 }
 
+/// Queries, each with its canonical text or its refusal.
+static QUERIES: &[(&str, &str)] = &[
+    (
+        "sequence by host.id with maxspan=1m [process where true] by ?user with runs=3 [\"a b\" where 1 == 1] until [any where false] | head 5 | tail 2",
+        "sequence by `host.id` with maxspan=1m [\"process\" where true] by ?`user` with runs=3 [\"a b\" where (1 == 1)] until [any where false] | head 5 | tail 2",
+    ),
+    (
+        "sequence by a, b.c with maxspan=1m [any where true] until [\"x y\" where false]",
+        "sequence by `a`, `b.c` with maxspan=1m [any where true] until [\"x y\" where false]",
+    ),
+    (
+        "process where process.name == \"a\" and not process.pid in (1,2)",
+        "\"process\" where ((`process.name` == \"a\") and (not (`process.pid` in (1, 2))))",
+    ),
+    ("any where a == b == c", "parse: Syntax at 17"),
+    (
+        "sequence [process where true] ![file where true]",
+        "parse: LeftOut ! at 30",
+    ),
+    (
+        "sample by user.name [process where true]",
+        "parse: LeftOut sample at 0",
+    ),
+    (
+        "process where process.name regex \"a\"",
+        "parse: LeftOut regex at 27",
+    ),
+    ("any where 1 | sort a", "parse: LeftOut sort at 14"),
+    (
+        "sequence with maxspan=5 nanos [a where true]",
+        "parse: LeftOut nanos at 24",
+    ),
+    ("any where number(\"1\", 2)", "parse: LeftOut number at 10"),
+    ("any where a regex~ \"b\"", "parse: LeftOut regex~ at 12"),
+    (
+        "sequence by a.until ![any where true]",
+        "parse: LeftOut ! at 20",
+    ),
+    (
+        "sequence [any where true] until ![any where true]",
+        "parse: Syntax at 32",
+    ),
+    ("any where sample", "parse: Syntax at 10"),
+    ("any where 5 micros", "parse: Syntax at 12"),
+    ("any where number(1, regex)", "parse: Syntax at 20"),
+    (
+        "any where number(1, 2) regex \"a\"",
+        "parse: LeftOut number at 10",
+    ),
+    (
+        "any where number(number(1, 2), 3",
+        "parse: LeftOut number at 17",
+    ),
+    ("any where number~(1, 2) 3", "parse: Syntax at 24"),
+    ("any where", "parse: Syntax at 9"),
+    ("", "parse: Syntax at 0"),
+    ("until where true", "parse: Syntax at 0"),
+    ("any where a in ()", "parse: Syntax at 16"),
+    ("any where not", "parse: Syntax at 13"),
+    ("any where 'a'", "lex: SingleQuote at 10"),
+];
+
 #[test]
 fn queries_have_these_canonical_texts(rt: HostRuntime) -> Result<(), Fail> {
-    let table = [
-        (
-            "sequence by host.id with maxspan=1m [process where true] by ?user with runs=3 [\"a b\" where 1 == 1] until [any where false] | head 5 | tail 2",
-            "sequence by `host.id` with maxspan=1m [\"process\" where true] by ?`user` with runs=3 [\"a b\" where (1 == 1)] until [any where false] | head 5 | tail 2",
-        ),
-        (
-            "sequence by a, b.c with maxspan=1m [any where true] until [\"x y\" where false]",
-            "sequence by `a`, `b.c` with maxspan=1m [any where true] until [\"x y\" where false]",
-        ),
-        (
-            "process where process.name == \"a\" and not process.pid in (1,2)",
-            "\"process\" where ((`process.name` == \"a\") and (not (`process.pid` in (1, 2))))",
-        ),
-        ("any where a == b == c", "parse: Syntax at 17"),
-        (
-            "sequence [process where true] ![file where true]",
-            "parse: LeftOut ! at 30",
-        ),
-        (
-            "sample by user.name [process where true]",
-            "parse: LeftOut sample at 0",
-        ),
-        (
-            "process where process.name regex \"a\"",
-            "parse: LeftOut regex at 27",
-        ),
-        ("any where 1 | sort a", "parse: LeftOut sort at 14"),
-        (
-            "sequence with maxspan=5 nanos [a where true]",
-            "parse: LeftOut nanos at 24",
-        ),
-        ("any where number(\"1\", 2)", "parse: LeftOut number at 10"),
-        ("any where a regex~ \"b\"", "parse: LeftOut regex~ at 12"),
-        (
-            "sequence by a.until ![any where true]",
-            "parse: LeftOut ! at 20",
-        ),
-        (
-            "sequence [any where true] until ![any where true]",
-            "parse: Syntax at 32",
-        ),
-        ("any where sample", "parse: Syntax at 10"),
-        ("any where 5 micros", "parse: Syntax at 12"),
-        ("any where number(1, regex)", "parse: Syntax at 20"),
-        (
-            "any where number(1, 2) regex \"a\"",
-            "parse: LeftOut number at 10",
-        ),
-        (
-            "any where number(number(1, 2), 3",
-            "parse: LeftOut number at 17",
-        ),
-        ("any where number~(1, 2) 3", "parse: Syntax at 24"),
-        ("any where", "parse: Syntax at 9"),
-        ("", "parse: Syntax at 0"),
-        ("until where true", "parse: Syntax at 0"),
-        ("any where a in ()", "parse: Syntax at 16"),
-        ("any where not", "parse: Syntax at 13"),
-        ("any where 'a'", "lex: SingleQuote at 10"),
-    ];
-    for (text, expected) in table {
-        let got = canonical(rt.alloc(), text)?;
-        assert_eq!(rt; got.as_str(), expected);
+    for (text, expected) in QUERIES {
+        let got = canonical(rt.alloc(), *text)?;
+        assert_eq!(rt; got.as_str(), *expected);
     }
     Ok(())
 }
 
+/// Conditions, each with its canonical text.
+static CONDITIONS: &[(&str, &str)] = &[
+    ("null", "null"),
+    ("true", "true"),
+    ("7", "7"),
+    ("\"a\"", "\"a\""),
+    ("a.`b c`.where", "`a.b c.where`"),
+    ("?a", "?`a`"),
+    ("not a and b", "((not `a`) and `b`)"),
+    ("not (a and b)", "(not (`a` and `b`))"),
+    ("a and b or c", "((`a` and `b`) or `c`)"),
+    ("a < -1 + 2", "(`a` < ((-1) + 2))"),
+    ("a <= b", "(`a` <= `b`)"),
+    ("a == b", "(`a` == `b`)"),
+    ("a != b", "(`a` != `b`)"),
+    ("a >= b", "(`a` >= `b`)"),
+    ("a > b", "(`a` > `b`)"),
+    ("a : \"x*\"", "(`a` : \"x*\")"),
+    ("a like (\"x\", \"y\")", "(`a` like (\"x\", \"y\"))"),
+    ("a like~ \"x\"", "(`a` like~ \"x\")"),
+    ("a in (1, -2, \"x\", true)", "(`a` in (1, -2, \"x\", true))"),
+    ("a in~ (\"x\")", "(`a` in~ (\"x\"))"),
+    ("a not in (1)", "(`a` not in (1))"),
+    ("a not in~ (1)", "(`a` not in~ (1))"),
+    ("-a", "(-`a`)"),
+    ("1 + 2 * 3", "(1 + (2 * 3))"),
+    ("1 - 2 - 3", "((1 - 2) - 3)"),
+    ("1 * 2 / 3", "((1 * 2) / 3)"),
+    ("1 % 2", "(1 % 2)"),
+    ("length()", "length()"),
+    ("startsWith~(a, \"x\")", "startsWith~(`a`, \"x\")"),
+];
+
 #[test]
 fn conditions_have_these_canonical_texts(rt: HostRuntime) -> Result<(), Fail> {
-    let table = [
-        ("null", "null"),
-        ("true", "true"),
-        ("7", "7"),
-        ("\"a\"", "\"a\""),
-        ("a.`b c`.where", "`a.b c.where`"),
-        ("?a", "?`a`"),
-        ("not a and b", "((not `a`) and `b`)"),
-        ("not (a and b)", "(not (`a` and `b`))"),
-        ("a and b or c", "((`a` and `b`) or `c`)"),
-        ("a < -1 + 2", "(`a` < ((-1) + 2))"),
-        ("a <= b", "(`a` <= `b`)"),
-        ("a == b", "(`a` == `b`)"),
-        ("a != b", "(`a` != `b`)"),
-        ("a >= b", "(`a` >= `b`)"),
-        ("a > b", "(`a` > `b`)"),
-        ("a : \"x*\"", "(`a` : \"x*\")"),
-        ("a like (\"x\", \"y\")", "(`a` like (\"x\", \"y\"))"),
-        ("a like~ \"x\"", "(`a` like~ \"x\")"),
-        ("a in (1, -2, \"x\", true)", "(`a` in (1, -2, \"x\", true))"),
-        ("a in~ (\"x\")", "(`a` in~ (\"x\"))"),
-        ("a not in (1)", "(`a` not in (1))"),
-        ("a not in~ (1)", "(`a` not in~ (1))"),
-        ("-a", "(-`a`)"),
-        ("1 + 2 * 3", "(1 + (2 * 3))"),
-        ("1 - 2 - 3", "((1 - 2) - 3)"),
-        ("1 * 2 / 3", "((1 * 2) / 3)"),
-        ("1 % 2", "(1 % 2)"),
-        ("length()", "length()"),
-        ("startsWith~(a, \"x\")", "startsWith~(`a`, \"x\")"),
-    ];
-    for (condition, expected) in table {
+    for (condition, expected) in CONDITIONS {
         let text = format!(in rt.alloc(); "any where {condition}")?;
         let wanted = format!(in rt.alloc(); "any where {expected}")?;
         let got = canonical(rt.alloc(), text.as_str())?;
@@ -281,75 +287,79 @@ fn each_begins(rt: &impl Abort, alloc: Global, rows: &[Nested]) -> Result<(), Fa
     Ok(())
 }
 
+/// Levels of conditions, up to the greatest depth and beyond it.
+static DEPTHS: &[Nested] = &[
+    // The 65th level begins at what is negated, at one more `not` or `-`, or at an argument.
+    ("", "not ", 63, "true", "", "any where (not "),
+    ("", "not ", 64, "true", "", "parse: TooDeep at 266"),
+    ("", "not ", 65, "true", "", "parse: TooDeep at 266"),
+    ("", "not ", 64, "", "", "parse: Syntax at 265"),
+    ("", "not ", 64, "or", "", "parse: Syntax at 266"),
+    ("", "-", 63, "a", "", "any where (-"),
+    ("", "-", 64, "a", "", "parse: TooDeep at 74"),
+    ("", "-", 65, "a", "", "parse: TooDeep at 74"),
+    ("", "f(", 64, "", ")", "any where f(f("),
+    ("", "f(", 64, "true", ")", "parse: TooDeep at 138"),
+    ("", "f(", 64, "g(true)", ")", "parse: TooDeep at 138"),
+    ("", "f(", 64, "not true", ")", "parse: TooDeep at 138"),
+    ("", "f(", 64, "or", ")", "parse: Syntax at 138"),
+    // Parentheses are no level. What stands in them begins one.
+    ("", "not ", 64, "((true))", "", "parse: TooDeep at 268"),
+    ("", "f(", 64, "((true))", ")", "parse: TooDeep at 140"),
+    ("", "f(", 64, "()", ")", "parse: Syntax at 139"),
+    // With `~` behind it a name is called or refused, so it begins a level.
+    ("", "f(", 64, "g~", ")", "parse: TooDeep at 138"),
+    ("", "f(", 64, "(g~)", ")", "parse: TooDeep at 139"),
+    ("", "f(", 63, "g~", ")", "parse: Syntax at 138"),
+];
+
 #[test]
 fn limits_of_depth(rt: HostRuntime) -> Result<(), Fail> {
-    let table = [
-        // The 65th level begins at what is negated, at one more `not` or `-`, or at an argument.
-        ("", "not ", 63, "true", "", "any where (not "),
-        ("", "not ", 64, "true", "", "parse: TooDeep at 266"),
-        ("", "not ", 65, "true", "", "parse: TooDeep at 266"),
-        ("", "not ", 64, "", "", "parse: Syntax at 265"),
-        ("", "not ", 64, "or", "", "parse: Syntax at 266"),
-        ("", "-", 63, "a", "", "any where (-"),
-        ("", "-", 64, "a", "", "parse: TooDeep at 74"),
-        ("", "-", 65, "a", "", "parse: TooDeep at 74"),
-        ("", "f(", 64, "", ")", "any where f(f("),
-        ("", "f(", 64, "true", ")", "parse: TooDeep at 138"),
-        ("", "f(", 64, "g(true)", ")", "parse: TooDeep at 138"),
-        ("", "f(", 64, "not true", ")", "parse: TooDeep at 138"),
-        ("", "f(", 64, "or", ")", "parse: Syntax at 138"),
-        // Parentheses are no level. What stands in them begins one.
-        ("", "not ", 64, "((true))", "", "parse: TooDeep at 268"),
-        ("", "f(", 64, "((true))", ")", "parse: TooDeep at 140"),
-        ("", "f(", 64, "()", ")", "parse: Syntax at 139"),
-        // With `~` behind it a name is called or refused, so it begins a level.
-        ("", "f(", 64, "g~", ")", "parse: TooDeep at 138"),
-        ("", "f(", 64, "(g~)", ")", "parse: TooDeep at 139"),
-        ("", "f(", 63, "g~", ")", "parse: Syntax at 138"),
-    ];
-    each_begins(&rt, rt.alloc(), &table)
+    each_begins(&rt, rt.alloc(), DEPTHS)
 }
+
+/// Levels that operators begin above their operands, and what comes behind an operand.
+static OPERANDS: &[Nested] = &[
+    // An operator behind its operand begins the level above it.
+    ("", "not ", 62, "a or b", "", "any where ((not "),
+    ("", "not ", 63, "a or b", "", "parse: TooDeep at 264"),
+    ("", "not ", 63, "a and b", "", "parse: TooDeep at 264"),
+    ("", "not ", 63, "a == b", "", "parse: TooDeep at 264"),
+    ("", "not ", 63, "a : \"b\"", "", "parse: TooDeep at 264"),
+    ("", "not ", 63, "a in (1)", "", "parse: TooDeep at 264"),
+    ("", "not ", 63, "a not in (1)", "", "parse: TooDeep at 264"),
+    ("", "-", 62, "a + b", "", "any where ((-"),
+    ("", "-", 63, "a + b", "", "parse: TooDeep at 75"),
+    ("", "-", 63, "a * b", "", "parse: TooDeep at 75"),
+    ("", "f(", 63, "a + b", ")", "parse: TooDeep at 138"),
+    ("a or b or (", "not ", 62, "c)", "", "any where ("),
+    ("a or b or ", "not ", 63, "c", "", "parse: TooDeep at 272"),
+    // What comes first in the text is told.
+    (
+        "number(",
+        "not ",
+        62,
+        "a, 2)",
+        "",
+        "parse: LeftOut number at 10",
+    ),
+    ("number(", "not ", 63, "a, 2)", "", "parse: TooDeep at 269"),
+    (
+        "a regex ",
+        "not ",
+        65,
+        "a",
+        "",
+        "parse: LeftOut regex at 12",
+    ),
+    ("", "not ", 65, "a regex", "", "parse: TooDeep at 266"),
+    ("", "(", 128, "true", ")", "any where true"),
+    ("", "(", 129, "true", ")", "parse: TooDeep at 138"),
+    ("", "(", 128, "a in (1)", ")", "parse: TooDeep at 143"),
+    ("number(", "(", 128, "a, 2)", "", "parse: TooDeep at 144"),
+];
 
 #[test]
 fn limits_above_and_behind_operands(rt: HostRuntime) -> Result<(), Fail> {
-    let table = [
-        // An operator behind its operand begins the level above it.
-        ("", "not ", 62, "a or b", "", "any where ((not "),
-        ("", "not ", 63, "a or b", "", "parse: TooDeep at 264"),
-        ("", "not ", 63, "a and b", "", "parse: TooDeep at 264"),
-        ("", "not ", 63, "a == b", "", "parse: TooDeep at 264"),
-        ("", "not ", 63, "a : \"b\"", "", "parse: TooDeep at 264"),
-        ("", "not ", 63, "a in (1)", "", "parse: TooDeep at 264"),
-        ("", "not ", 63, "a not in (1)", "", "parse: TooDeep at 264"),
-        ("", "-", 62, "a + b", "", "any where ((-"),
-        ("", "-", 63, "a + b", "", "parse: TooDeep at 75"),
-        ("", "-", 63, "a * b", "", "parse: TooDeep at 75"),
-        ("", "f(", 63, "a + b", ")", "parse: TooDeep at 138"),
-        ("a or b or (", "not ", 62, "c)", "", "any where ("),
-        ("a or b or ", "not ", 63, "c", "", "parse: TooDeep at 272"),
-        // What comes first in the text is told.
-        (
-            "number(",
-            "not ",
-            62,
-            "a, 2)",
-            "",
-            "parse: LeftOut number at 10",
-        ),
-        ("number(", "not ", 63, "a, 2)", "", "parse: TooDeep at 269"),
-        (
-            "a regex ",
-            "not ",
-            65,
-            "a",
-            "",
-            "parse: LeftOut regex at 12",
-        ),
-        ("", "not ", 65, "a regex", "", "parse: TooDeep at 266"),
-        ("", "(", 128, "true", ")", "any where true"),
-        ("", "(", 129, "true", ")", "parse: TooDeep at 138"),
-        ("", "(", 128, "a in (1)", ")", "parse: TooDeep at 143"),
-        ("number(", "(", 128, "a, 2)", "", "parse: TooDeep at 144"),
-    ];
-    each_begins(&rt, rt.alloc(), &table)
+    each_begins(&rt, rt.alloc(), OPERANDS)
 }

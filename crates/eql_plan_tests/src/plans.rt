@@ -7,7 +7,7 @@ use std::marker::Send;
 use std::test::Fail;
 
 /// Queries, each with its stages, its span in nanoseconds, its keys and its pipes.
-const PLANS: [(&str, &str); 10] = [
+static PLANS: &[(&str, &str)] = &[
     ("any where true", "1 none 0"),
     ("any where true | tail 2 | head 0", "1 none 0 tail 2 head 0"),
     ("sequence [any where true] [any where true]", "2 none 0"),
@@ -62,7 +62,7 @@ fn told(alloc: Global, plan: &Plan) -> Result<String, AllocError> {
 #[test]
 fn plans_tell_their_queries(rt: HostRuntime) -> Result<(), Fail> {
     let alloc = rt.alloc();
-    for (query, expected) in &PLANS {
+    for (query, expected) in PLANS {
         let Some(plan) = plan_of(alloc, *query, "")? else {
             assert!(&rt; false, "refused: {query}");
             return Ok(());

@@ -14,7 +14,7 @@ const SHARD: u32 = 3;
 const LINE: u32 = 7;
 
 /// The fields that queries name.
-const MAPPING: &[u8] = br#"{"destination.ip":"ip","destination.port":"long","event.type":"keyword",
+static MAPPING: &[u8] = br#"{"destination.ip":"ip","destination.port":"long","event.type":"keyword",
 "file.pid":"long","host.id":"keyword","process.args_count":"long","process.name":"keyword","process.pid":"long",
 "user.id":"keyword","user.name":"keyword"}"#;
 

@@ -7,10 +7,10 @@ use std::alloc::Global;
 use std::test::Fail;
 
 /// The fields that queries name.
-const MAPPING: &[u8] = br#"{"process.name":"keyword","user.name":"keyword"}"#;
+static MAPPING: &[u8] = br#"{"process.name":"keyword","user.name":"keyword"}"#;
 
 /// The query of the reference's example of pending sequences.
-pub(crate) const REFERENCE: &[u8] =
+pub(crate) static REFERENCE: &[u8] =
     br#"sequence by user.name [process where process.name == "attrib"] [process where process.name == "bash"] [process where process.name == "cat"]"#;
 
 /// The plan of a query, with no tiebreaker.

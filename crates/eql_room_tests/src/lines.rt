@@ -4,7 +4,7 @@ use std::alloc::Global;
 use std::test::Fail;
 
 /// Lines, each with what it is: `blank`, `other`, or an event's time in nanoseconds and its category.
-const LINES: &[(&[u8], &str)] = &[
+static LINES: &[(&[u8], &str)] = &[
     (b"", "blank"),
     (b" \t\r", "blank"),
     (b"\n", "other"),

@@ -114,12 +114,27 @@ fn reader_that_fails_is_not_at_its_end(rt: HostRuntime) -> Result<(), Fail> {
     Ok(())
 }
 
+/// Bytes that are written, and what the sink answers.
+type Written<'a> = (&'a [u8], Result<(), OutRefused>);
+
+// Writes to a sink in turn, and compares what it answers.
+fn run_writes<R: Abort, K: Sink>(rt: &R, alloc: Global, sink: &mut K, writes: &[Written<'_>]) {
+    for (bytes, answer) in writes {
+        assert!(rt; sink.write(alloc, *bytes) == *answer);
+    }
+}
+
+/// Writes of which the second one fails.
+static WRITES: &[Written<'static>] = &[
+    (b"one ", Ok(())),
+    (b"lost", Err(OutRefused::Failed)),
+    (b"two", Ok(())),
+];
+
 #[test]
 fn memory_sink_keeps_bytes(rt: HostRuntime) -> Result<(), Fail> {
     let mut sink = MemSink::new(rt.alloc(), Vec::from_slice(rt.alloc(), &[2])?);
-    assert_eq!(rt; sink.write(rt.alloc(), b"one "), Ok(()));
-    assert_eq!(rt; sink.write(rt.alloc(), b"lost"), Err(OutRefused::Failed));
-    assert_eq!(rt; sink.write(rt.alloc(), b"two"), Ok(()));
+    run_writes(&rt, rt.alloc(), &mut sink, WRITES);
     assert_eq!(rt; sink.bytes().as_slice(), b"one two".as_slice());
     assert_eq!(rt; sink.faults(), 1);
     Ok(())
@@ -155,9 +170,14 @@ fn stream_sink_writes_on(rt: HostRuntime) -> Result<(), Fail> {
     let mut sink = StdSink::new(Slow {
         taken: Vec::new(rt.alloc()),
     });
-    assert_eq!(rt; sink.write(rt.alloc(), b"abcde"), Ok(()));
+    run_writes(&rt, rt.alloc(), &mut sink, &[(b"abcde", Ok(()))]);
     assert_eq!(rt; sink.faults(), 0);
-    assert_eq!(rt; sink.write(rt.alloc(), b"fg.h"), Err(OutRefused::Failed));
+    run_writes(
+        &rt,
+        rt.alloc(),
+        &mut sink,
+        &[(b"fg.h", Err(OutRefused::Failed))],
+    );
     assert_eq!(rt; sink.faults(), 1);
     assert_eq!(rt; sink.into_inner().taken.as_slice(), b"abcdefg".as_slice());
     Ok(())
@@ -234,7 +254,7 @@ struct Named {
 }
 
 // A folder opens, and fails at its first read. A path through a file is no file. A name with a zero byte is no name.
-const NAMES: [Named; 4] = [
+static NAMES: &[Named] = &[
     Named {
         name: "/",
         takes: &[Take {
@@ -267,13 +287,27 @@ const NAMES: [Named; 4] = [
     },
 ];
 
+// Sees what a new shelf says of a name, and how many faults it counts then.
+fn see_named<R: Abort, H: Shelf>(
+    rt: &R,
+    alloc: Global,
+    shelf: &mut H,
+    named: &Named,
+) -> Result<(), Fail> {
+    let said = ask(rt, alloc, shelf, named.name, named.takes)?;
+    assert!(rt;
+        said == named.says && shelf.faults() == named.faults,
+        "{}",
+        named.name
+    );
+    Ok(())
+}
+
 #[test]
 fn file_shelf_tells_faults_from_missing_files(rt: HostRuntime) -> Result<(), Fail> {
-    for named in &NAMES {
+    for named in NAMES {
         let mut shelf = FileShelf::new(rt.clone()?);
-        let said = ask(&rt, rt.alloc(), &mut shelf, named.name, named.takes)?;
-        assert_eq!(rt; said, named.says, "{}", named.name);
-        assert_eq!(rt; shelf.faults(), named.faults, "{}", named.name);
+        see_named(&rt, rt.alloc(), &mut shelf, named)?;
     }
     Ok(())
 }
@@ -322,7 +356,7 @@ fn memory_disk_fails_where_planned(rt: HostRuntime) -> Result<(), Fail> {
 
 // What a crash leaves of the byte 0, behind which 1, 2 and 3 were written, and over which 1 was written, by the choices
 // from 0 on. The byte a5 stands for what a torn write spoiled.
-const IMAGES: [&[u8]; 14] = [
+static IMAGES: &[&[u8]] = &[
     &[0],
     &[1, 1, 2, 3],
     &[0],

@@ -13,7 +13,7 @@ fn text(alloc: Global, characters: &str) -> Result<Text, AllocError> {
 }
 
 /// A text, another one, from where on it is looked for, and where it is found.
-const PLACES: &[(&str, &str, i64, Option<i64>)] = &[
+static PLACES: &[(&str, &str, i64, Option<i64>)] = &[
     ("abcabc", "c", 3, Some(5)),
     ("abc", "x", 0, None),
     ("abc", "", 3, Some(3)),
@@ -41,51 +41,55 @@ fn places(rt: HostRuntime) -> Result<(), Fail> {
     Ok(())
 }
 
+/// A text, from where and to where a part of it is taken, and the part.
+static PARTS: &[(&str, i64, Option<i64>, &str)] = &[
+    ("start regsvr32.exe", 6, None, "regsvr32.exe"),
+    ("start regsvr32.exe", -4, None, ".exe"),
+    ("start regsvr32.exe", -4, Some(-1), ".ex"),
+    ("abc", 5, None, ""),
+    ("café", -2, Some(9), "fé"),
+];
+
 #[test]
 fn parts(rt: HostRuntime) -> Result<(), Fail> {
-    let table = [
-        ("start regsvr32.exe", 6, None, "regsvr32.exe"),
-        ("start regsvr32.exe", -4, None, ".exe"),
-        ("start regsvr32.exe", -4, Some(-1), ".ex"),
-        ("abc", 5, None, ""),
-        ("café", -2, Some(9), "fé"),
-    ];
-    for (s, from, to, want) in table {
-        let got = substring(rt.alloc(), &text(rt.alloc(), s)?, from, to)
+    for (s, from, to, want) in PARTS {
+        let got = substring(rt.alloc(), &text(rt.alloc(), *s)?, *from, *to)
             .ok()
             .ok_or("memory")?;
-        assert_eq!(rt; got.text(), want, "of {s} from {from}");
+        assert_eq!(rt; got.text(), *want, "of {s} from {from}");
     }
     Ok(())
 }
 
+/// A text, what stands before a part and behind it, whether the longest part is taken, and the part.
+static BETWEEN: &[(&str, &str, &str, bool, &str)] = &[
+    ("system event log", "system ", " log", false, "event"),
+    ("a-b-c-d", "a", "-", false, ""),
+    ("a-b-c-d", "a", "-", true, "-b-c"),
+    ("a-b", "x", "b", false, ""),
+    ("<aaaaaaaaaa>", "<", "aaaaa", true, "aaaaa"),
+    ("<abababababa>", "<", "ababa", true, "ababab"),
+    ("<éaéaéaéaéa", "<", "éaéa", true, "éaéaéa"),
+];
+
 #[test]
 fn parts_between(rt: HostRuntime) -> Result<(), Fail> {
-    let table = [
-        ("system event log", "system ", " log", false, "event"),
-        ("a-b-c-d", "a", "-", false, ""),
-        ("a-b-c-d", "a", "-", true, "-b-c"),
-        ("a-b", "x", "b", false, ""),
-        ("<aaaaaaaaaa>", "<", "aaaaa", true, "aaaaa"),
-        ("<abababababa>", "<", "ababa", true, "ababab"),
-        ("<éaéaéaéaéa", "<", "éaéa", true, "éaéaéa"),
-    ];
-    for (s, l, r, greedy, want) in table {
+    for (s, l, r, greedy, want) in BETWEEN {
         let (s, l, r) = (
-            text(rt.alloc(), s)?,
-            text(rt.alloc(), l)?,
-            text(rt.alloc(), r)?,
+            text(rt.alloc(), *s)?,
+            text(rt.alloc(), *l)?,
+            text(rt.alloc(), *r)?,
         );
-        let got = between(rt.alloc(), &s, &l, &r, greedy, false)
+        let got = between(rt.alloc(), &s, &l, &r, *greedy, false)
             .ok()
             .ok_or("memory")?;
-        assert_eq!(rt; got.text(), want);
+        assert_eq!(rt; got.text(), *want);
     }
     Ok(())
 }
 
 /// A text, the long that it is read as, and the number.
-const NUMBERS: &[(&str, LongRead, Option<i64>)] = &[
+static NUMBERS: &[(&str, LongRead, Option<i64>)] = &[
     ("-12", LongRead::Long(-12), Some(-12)),
     ("1x", LongRead::NoLong, None),
     ("-", LongRead::NoLong, None),
@@ -118,37 +122,39 @@ fn numbers(rt: HostRuntime) -> Result<(), Fail> {
     Ok(())
 }
 
+/// An address, a block, the address as a number, and whether it lies in the block.
+static ADDRESSES: &[(&str, &str, Option<u32>, Option<bool>)] = &[
+    ("10.9.8.7", "10.0.0.0/8", Some(0x0a09_0807), Some(true)),
+    ("11.0.0.1", "10.0.0.0/8", Some(0x0b00_0001), Some(false)),
+    ("11.0.0.1", "0.0.0.0/0", Some(0x0b00_0001), Some(true)),
+    (
+        "255.255.255.255",
+        "255.255.255.255/32",
+        Some(u32::MAX),
+        Some(true),
+    ),
+    ("1.2.3", "1.2.3.4/33", None, None),
+    ("1.2.3.04", "1.2.3.4/08", None, None),
+    ("1.2.3.4.5", "1.2.3.4", None, None),
+];
+
 #[test]
 fn addresses(rt: HostRuntime) -> Result<(), Fail> {
-    let table = [
-        ("10.9.8.7", "10.0.0.0/8", Some(0x0a09_0807), Some(true)),
-        ("11.0.0.1", "10.0.0.0/8", Some(0x0b00_0001), Some(false)),
-        ("11.0.0.1", "0.0.0.0/0", Some(0x0b00_0001), Some(true)),
-        (
-            "255.255.255.255",
-            "255.255.255.255/32",
-            Some(u32::MAX),
-            Some(true),
-        ),
-        ("1.2.3", "1.2.3.4/33", None, None),
-        ("1.2.3.04", "1.2.3.4/08", None, None),
-        ("1.2.3.4.5", "1.2.3.4", None, None),
-    ];
-    for (address, block, want, inside) in table {
-        let ip = parse_ip4(&text(rt.alloc(), address)?);
-        assert_eq!(rt; ip4_from_str(address), want);
-        let block = parse_block(&text(rt.alloc(), block)?);
-        assert_eq!(rt; ip, want);
+    for (address, block, want, inside) in ADDRESSES {
+        let ip = parse_ip4(&text(rt.alloc(), *address)?);
+        assert_eq!(rt; ip4_from_str(*address), *want);
+        let block = parse_block(&text(rt.alloc(), *block)?);
+        assert_eq!(rt; ip, *want);
         assert_eq!(rt;
             block.map(|block: Block| in_block(ip.unwrap_or(0), block)),
-            inside
+            *inside
         );
     }
     Ok(())
 }
 
 /// Two texts, and whether they are equal when folded. They are never equal otherwise.
-const FOLDED: &[(&str, &str, bool)] = &[
+static FOLDED: &[(&str, &str, bool)] = &[
     ("CMD.EXE", "cmd.exe", true),
     ("ß", "ẞ", true),
     ("ß", "ss", false),
@@ -173,7 +179,7 @@ fn folding(rt: HostRuntime) -> Result<(), Fail> {
 }
 
 /// A text, another one, whether case is folded, and whether the text starts with it, ends with it and contains it.
-const MIDDLES: &[(&str, &str, bool, (bool, bool, bool))] = &[
+static MIDDLES: &[(&str, &str, bool, (bool, bool, bool))] = &[
     ("CMD.EXE", "cmd", true, (true, false, true)),
     ("CMD.EXE", "CMD", false, (true, false, true)),
     ("CMD.EXE", ".exe", true, (false, true, true)),

@@ -8,7 +8,7 @@ use std::alloc::Global;
 use std::test::Fail;
 
 /// Texts, each with how it is shown.
-const SHOWN: &[(&str, &str)] = &[
+static SHOWN: &[(&str, &str)] = &[
     ("", ""),
     ("process.name", "process.name"),
     ("a \"b\" \\ `c`", "a \"b\" \\ `c`"),
@@ -53,20 +53,22 @@ fn event(line: u32, ts: i128) -> OrderKey {
     }
 }
 
+/// A span, the time of the first event and of the last one, and whether the span holds both.
+static SPANS: &[(Option<i128>, i128, i128, bool)] = &[
+    (Some(10), 100, 110, true),
+    (Some(10), 100, 111, false),
+    (Some(0), 100, 100, true),
+    (Some(0), 100, 99, true),
+    (None, 0, i128::MAX, true),
+    (Some(i128::MAX), i128::MIN, i128::MAX, false),
+    (Some(i128::MIN), i128::MAX, i128::MIN, true),
+];
+
 #[test]
 fn spans_are_inclusive(rt: HostRuntime) -> Result<(), Fail> {
-    let table = [
-        (Some(10), 100, 110, true),
-        (Some(10), 100, 111, false),
-        (Some(0), 100, 100, true),
-        (Some(0), 100, 99, true),
-        (None, 0, i128::MAX, true),
-        (Some(i128::MAX), i128::MIN, i128::MAX, false),
-        (Some(i128::MIN), i128::MAX, i128::MIN, true),
-    ];
-    for (span, first, now, expected) in table {
-        let events = [event(1, first), event(2, i128::MAX)];
-        assert_eq!(rt; is_in_time(span, &events, now), expected);
+    for (span, first, now, expected) in SPANS {
+        let events = [event(1, *first), event(2, i128::MAX)];
+        assert_eq!(rt; is_in_time(*span, &events, *now), *expected);
     }
     assert!(rt; is_in_time(Some(0), &[], 1));
     Ok(())

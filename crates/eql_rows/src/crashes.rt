@@ -1,12 +1,13 @@
 //! A stop at each call of the disk, and runs that go on from whatever a crash may leave then.
 //!
 //! What both runs write is the listing together, each line under its number, and no cut is lost once it was put.
-use crate::checkpoints::{ALONE, BESIDE, first_run};
+use crate::checkpoints::{ALONE, BESIDE, FIRST_RUN};
 use crate::kept::{Kept, cut_at, kept_in, of_example};
-use crate::row::{Row, found};
-use crate::run::{Areas, Ran, compare, compare_run, disk_of, listed_of, run_on};
+use crate::row::{Row, Words, found};
+use crate::run::{Areas, Ran, compare_run, disk_of, listed_of, run_on};
 use crate::sequences::REFERENCE;
 use crate::text::Piece::Starts;
+use eql_outside::MemDisk;
 use std::alloc::Global;
 use std::process::Abort;
 use std::sync::Wait;
@@ -76,7 +77,10 @@ fn go_on<R: Threads + Wait + Sync + Abort>(
         Some(kept) => kept.listed,
         None => 0,
     };
-    let rest = second.lists(behind(second.listed, count));
+    let rest = Row {
+        listed: behind(second.listed, count),
+        ..*second
+    };
     let disk = disk_of(alloc, areas, &[], None)?;
     let (again, _) = run_on(rt, alloc, &rest, disk, &[])?;
     compare_run(rt, alloc, &rest, &again, &[])?;
@@ -101,6 +105,28 @@ fn see_whole<R: Abort>(
     Ok(())
 }
 
+/// Goes on from one of the things that a crash may leave of a run's disk.
+fn go_on_from<R: Threads + Wait + Sync + Abort>(
+    rt: &R,
+    alloc: Global,
+    crash: &Crash<'_>,
+    ran: &Ran,
+    disk: &MemDisk,
+    choice: u64,
+    put: u64,
+) -> Result<(), Fail> {
+    let second = if choice == 0 {
+        Row {
+            words: Words::Find(crash.beside),
+            ..crash.second
+        }
+    } else {
+        crash.second
+    };
+    let areas = Areas::left_by(alloc, disk, choice)?;
+    go_on(rt, alloc, crash, &second, ran, &areas, put)
+}
+
 /// Stops the first run at a call of its disk, and goes on from what a crash may leave.
 fn stop_at<R: Threads + Wait + Sync + Abort>(
     rt: &R,
@@ -117,13 +143,7 @@ fn stop_at<R: Threads + Wait + Sync + Abort>(
     };
     compare_run(rt, alloc, &row, &ran, &[])?;
     for choice in 0..crash.images {
-        let areas = Areas::left_by(alloc, &disk, choice)?;
-        let second = if choice == 0 {
-            crash.second.with(crash.beside)
-        } else {
-            crash.second
-        };
-        go_on(rt, alloc, crash, &second, &ran, &areas, put_before(call))?;
+        go_on_from(rt, alloc, crash, &ran, &disk, choice, put_before(call))?;
     }
     Ok(ran.status)
 }
@@ -147,9 +167,12 @@ fn stop_at_each<R: Threads + Wait + Sync + Abort>(
 fn crash_loses_no_cut(rt: HostRuntime) -> Result<(), Fail> {
     let cuts = of_example();
     let crash = Crash {
-        first: first_run(),
+        first: FIRST_RUN,
         cuts: &cuts,
-        second: first_run().with(ALONE),
+        second: Row {
+            words: Words::Find(ALONE),
+            ..FIRST_RUN
+        },
         beside: BESIDE,
         images: 16,
     };
@@ -157,25 +180,23 @@ fn crash_loses_no_cut(rt: HostRuntime) -> Result<(), Fail> {
 }
 
 /// Events of three shards by turns, each a second after the one before. Each line of a shard is a round.
-fn three_shards(options: &'static str) -> Row {
-    found(
-        "three shards",
-        REFERENCE,
-        &[Starts("1000 a attrib, 4000 b bash, 7000 c cat, 10000 a attrib, 13000 a cat")],
-        &[
-            r#"1 ["c"] 2:1 1:2 0:3"#,
-            r#"2 ["a"] 0:1 2:2 1:3"#,
-            r#"3 ["b"] 1:1 0:2 2:3"#,
-            r#"4 ["a"] 0:4 1:4 0:5"#,
-            r#"5 ["b"] 2:4 1:5 2:5"#,
-        ],
-    )
-    .and(&[
+const THREE_SHARDS: Row = found!(
+    "three shards",
+    REFERENCE,
+    &[Starts("1000 a attrib, 4000 b bash, 7000 c cat, 10000 a attrib, 13000 a cat")],
+    &[
+        r#"1 ["c"] 2:1 1:2 0:3"#,
+        r#"2 ["a"] 0:1 2:2 1:3"#,
+        r#"3 ["b"] 1:1 0:2 2:3"#,
+        r#"4 ["a"] 0:4 1:4 0:5"#,
+        r#"5 ["b"] 2:4 1:5 2:5"#,
+    ],
+    more: &[
         &[Starts("2000 b attrib, 5000 c bash, 8000 a cat, 11000 a bash, 14000 b bash")],
         &[Starts("3000 c attrib, 6000 a bash, 9000 b cat, 12000 b attrib, 15000 b cat")],
-    ])
-    .with(options)
-}
+    ],
+    words: Words::Find("--slack 0ms --batch 1 --hands 0 --checkpoint c --every 1"),
+);
 
 /// The cuts that are kept over three shards, one each round.
 fn of_three_shards() -> [Kept; 5] {
@@ -192,9 +213,12 @@ fn of_three_shards() -> [Kept; 5] {
 fn run_that_is_cut_off_in_any_round_is_gone_on_with(rt: HostRuntime) -> Result<(), Fail> {
     let cuts = of_three_shards();
     let crash = Crash {
-        first: three_shards("--slack 0ms --batch 1 --hands 0 --checkpoint c --every 1"),
+        first: THREE_SHARDS,
         cuts: &cuts,
-        second: three_shards("--slack 0ms --batch 3 --hands 0 --checkpoint c --every 2"),
+        second: Row {
+            words: Words::Find("--slack 0ms --batch 3 --hands 0 --checkpoint c --every 2"),
+            ..THREE_SHARDS
+        },
         beside: "--slack 0ms --batch 3 --hands 1 --checkpoint c --every 2",
         images: 4,
     };

@@ -17,7 +17,7 @@ enum Part {
 }
 
 /// What the cuts say of their run.
-const HEAD: &[Part] = &[
+static HEAD: &[Part] = &[
     // The query, of 159 bytes.
     Bytes("9f00000000000000 'sequence by `user.name` '"),
     Bytes("'[\"process\" where (`process.name` == \"attrib\")] '"),
@@ -35,7 +35,7 @@ const HEAD: &[Part] = &[
 ];
 
 /// The cut after five lines, but for its book.
-const AFTER_FIVE: &[Part] = &[
+static AFTER_FIVE: &[Part] = &[
     // The mark, 5 s. The lane: 506 bytes, open, best 5 s; 5 lines, all accepted.
     Bytes("00f2052a010000000000000000000000"),
     Bytes("0100000000000000 fa01000000000000 00 01 00f2052a010000000000000000000000"),
@@ -56,7 +56,7 @@ const AFTER_FIVE: &[Part] = &[
 ];
 
 /// The cut after ten lines, but for its book.
-const AFTER_TEN: &[Part] = &[
+static AFTER_TEN: &[Part] = &[
     // The mark, 10 s. The lane: 1015 bytes, open, best 10 s; 10 lines, all accepted.
     Bytes("00e40b54020000000000000000000000"),
     Bytes("0100000000000000 f703000000000000 00 01 00e40b54020000000000000000000000"),

@@ -1,6 +1,6 @@
 //! Objects that fail: each call of a run in turn, and which of several causes is told. No fault is passed over.
-use crate::row::{Failing, Object, Row, ended, found, printed, refused, usage};
-use crate::run::{check, compare, compare_run, listed_of, run};
+use crate::row::{Failing, Object, Row, Told, Words, ended, found, printed, refused, usage};
+use crate::run::{check, check_each, compare, compare_run, listed_of, run};
 use crate::sequences::{ELEVEN, REFERENCE, REFERENCE_LISTS};
 use crate::text::Piece::{Bytes, Each, Events, Times};
 use std::alloc::Global;
@@ -25,281 +25,325 @@ const OUT: Failing = (Object::Out, 1);
 const ERR: Failing = (Object::Err, 1);
 
 /// A search that ends with a read fault of this file.
-fn unread(shows: &'static str, line: &'static str, fails: &'static [Failing]) -> Row {
-    ended(shows, 4, line).fails(fails)
+macro_rules! unread {
+    ($shows:expr, $line:expr, $fails:expr $(, $field:ident: $value:expr)* $(,)?) => {
+        ended!($shows, 4, $line, fails: $fails $(, $field: $value)*)
+    };
 }
 
 /// Files that can't be read.
-fn reads() -> [Row; 15] {
-    [
-        unread("a query", "read fault: q", &[QUERY]).fields(&[Bytes(b"x")]),
-        unread("a mapping", "read fault: f", &[FIELDS]).by("any where x == 1"),
-        unread("a shard, and nothing is listed", "read fault: s0", &[SHARD])
-            .by(REFERENCE)
-            .over(ELEVEN)
-            .with("--hands 0"),
-        unread("an empty query", "read fault: q", &[QUERY]).by(""),
-        unread("an empty shard", "read fault: s0", &[SHARD]),
-        unread("a query to check", "read fault: q", &[QUERY]).words("check --query q --fields f"),
-        unread("a mapping to check with", "read fault: f", &[FIELDS]).words(
-            "check --query q --fields f",
-        ),
-        unread(
-            "the second of three shards",
-            "read fault: s1",
-            &[(Object::Shard(1), 1)],
-        )
-        .over(&[Events("1 a")])
-        .and(&[&[Events("2 a")], &[Events("3 a")]])
-        .with("--hands 0")
-        .lists(&["1 [] 0:1", "2 [] 1:1", "3 [] 2:1"]),
-        unread(
-            "the last of three shards at its end",
-            "read fault: s2",
-            &[(Object::Shard(2), 2)],
-        )
-        .and(&[&[], &[Events("3 a")]])
-        .in_pieces(1000)
-        .with("--hands 0")
-        .lists(&["1 [] 2:1"]),
-        unread(
-            "two shards",
-            "read fault: s0",
-            &[SHARD, (Object::Shard(1), 1)],
-        )
-        .and(&[&[]])
-        .with("--hands 0"),
-        unread(
-            "one of the shards that are one file",
-            "read fault: s0",
-            &[(Object::Shard(0), 2)],
-        )
-        .over(&[Events("1 a")])
-        .in_pieces(1000)
-        .words("find --query q --fields f s0 s0")
-        .lists(&["1 [] 0:1", "2 [] 1:1"]),
-        unread(
-            "a shard behind all that is let through",
-            "read fault: s0",
-            &[(Object::Shard(0), 2)],
-        )
-        .by("any where true | head 1")
-        .over(&[Events("1 a, 2 a")])
-        .in_pieces(1000)
-        .lists(&["1 [] 0:1"]),
-        unread(
-            "a shard of which nothing is let through",
-            "read fault: s0",
-            &[(Object::Shard(0), 2)],
-        )
-        .by("any where true | head 0")
-        .over(&[Events("1 a, 2 a")])
-        .in_pieces(1000),
-        unread(
-            "a shard behind a line that is too long",
-            "read fault: s0",
-            &[(Object::Shard(0), 18)],
-        )
-        .over(&[Times("x", 1_048_577)])
-        .in_pieces(65_536),
-        unread(
-            "a shard behind its blank lines",
-            "read fault: s0",
-            &[(Object::Shard(0), 2)],
-        )
-        .over(&[Bytes(b"\n \n\r\n")]),
-    ]
-}
+static READS: &[Row] = &[
+    unread!("a query", "read fault: q", &[QUERY], fields: &[Bytes(b"x")]),
+    unread!("a mapping", "read fault: f", &[FIELDS], query: "any where x == 1"),
+    unread!(
+        "a shard, and nothing is listed",
+        "read fault: s0",
+        &[SHARD],
+        query: REFERENCE,
+        shard: ELEVEN,
+        words: Words::Find("--hands 0"),
+    ),
+    unread!("an empty query", "read fault: q", &[QUERY], query: ""),
+    unread!("an empty shard", "read fault: s0", &[SHARD]),
+    unread!(
+        "a query to check",
+        "read fault: q",
+        &[QUERY],
+        words: Words::Line("check --query q --fields f"),
+    ),
+    unread!(
+        "a mapping to check with",
+        "read fault: f",
+        &[FIELDS],
+        words: Words::Line("check --query q --fields f"),
+    ),
+    unread!(
+        "the second of three shards",
+        "read fault: s1",
+        &[(Object::Shard(1), 1)],
+        shard: &[Events("1 a")],
+        more: &[&[Events("2 a")], &[Events("3 a")]],
+        words: Words::Find("--hands 0"),
+        listed: &["1 [] 0:1", "2 [] 1:1", "3 [] 2:1"],
+    ),
+    unread!(
+        "the last of three shards at its end",
+        "read fault: s2",
+        &[(Object::Shard(2), 2)],
+        more: &[&[], &[Events("3 a")]],
+        piece: 1000,
+        words: Words::Find("--hands 0"),
+        listed: &["1 [] 2:1"],
+    ),
+    unread!(
+        "two shards",
+        "read fault: s0",
+        &[SHARD, (Object::Shard(1), 1)],
+        more: &[&[]],
+        words: Words::Find("--hands 0"),
+    ),
+    unread!(
+        "one of the shards that are one file",
+        "read fault: s0",
+        &[(Object::Shard(0), 2)],
+        shard: &[Events("1 a")],
+        piece: 1000,
+        words: Words::Line("find --query q --fields f s0 s0"),
+        listed: &["1 [] 0:1", "2 [] 1:1"],
+    ),
+    unread!(
+        "a shard behind all that is let through",
+        "read fault: s0",
+        &[(Object::Shard(0), 2)],
+        query: "any where true | head 1",
+        shard: &[Events("1 a, 2 a")],
+        piece: 1000,
+        listed: &["1 [] 0:1"],
+    ),
+    unread!(
+        "a shard of which nothing is let through",
+        "read fault: s0",
+        &[(Object::Shard(0), 2)],
+        query: "any where true | head 0",
+        shard: &[Events("1 a, 2 a")],
+        piece: 1000,
+    ),
+    unread!(
+        "a shard behind a line that is too long",
+        "read fault: s0",
+        &[(Object::Shard(0), 18)],
+        shard: &[Times("x", 1_048_577)],
+        piece: 65_536,
+    ),
+    unread!(
+        "a shard behind its blank lines",
+        "read fault: s0",
+        &[(Object::Shard(0), 2)],
+        shard: &[Bytes(b"\n \n\r\n")],
+    ),
+];
 
 /// Faults of the shelf, each time that it is asked for a file.
-fn shelf_calls() -> [Row; 8] {
-    [
-        unread("the query", "read fault: q", &[(Object::Shelf, 1)]),
-        unread("the mapping", "read fault: f", &[(Object::Shelf, 2)]),
-        unread("the shard", "read fault: s0", &[(Object::Shelf, 3)]),
-        found("no further call", REFERENCE, ELEVEN, REFERENCE_LISTS)
-            .with("--batch 2 --hands 0")
-            .in_pieces(100)
-            .fails(&[(Object::Shelf, 4)]),
-        unread("the second shard", "read fault: s1", &[(Object::Shelf, 4)])
-            .over(&[Events("1 a")])
-            .and(&[&[Events("2 a")], &[Events("3 a")]])
-            .lists(&["1 [] 0:1", "2 [] 1:1", "3 [] 2:1"]),
-        unread(
-            "a name that no file has",
-            "read fault: p",
-            &[(Object::Shelf, 1)],
-        )
-        .words("find --query p --fields f s0"),
-        unread(
-            "the mapping of a check",
-            "read fault: f",
-            &[(Object::Shelf, 2)],
-        )
-        .words("check --query q --fields f"),
-        printed(
-            "no further call of a check",
-            "any where true",
-            &["any where true"],
-        )
-        .fails(&[(Object::Shelf, 3)]),
-    ]
-}
+static SHELF_CALLS: &[Row] = &[
+    unread!("the query", "read fault: q", &[(Object::Shelf, 1)]),
+    unread!("the mapping", "read fault: f", &[(Object::Shelf, 2)]),
+    unread!("the shard", "read fault: s0", &[(Object::Shelf, 3)]),
+    found!(
+        "no further call",
+        REFERENCE,
+        ELEVEN,
+        REFERENCE_LISTS,
+        words: Words::Find("--batch 2 --hands 0"),
+        piece: 100,
+        fails: &[(Object::Shelf, 4)],
+    ),
+    unread!(
+        "the second shard",
+        "read fault: s1",
+        &[(Object::Shelf, 4)],
+        shard: &[Events("1 a")],
+        more: &[&[Events("2 a")], &[Events("3 a")]],
+        listed: &["1 [] 0:1", "2 [] 1:1", "3 [] 2:1"],
+    ),
+    unread!(
+        "a name that no file has",
+        "read fault: p",
+        &[(Object::Shelf, 1)],
+        words: Words::Line("find --query p --fields f s0"),
+    ),
+    unread!(
+        "the mapping of a check",
+        "read fault: f",
+        &[(Object::Shelf, 2)],
+        words: Words::Line("check --query q --fields f"),
+    ),
+    printed!(
+        "no further call of a check",
+        "any where true",
+        &["any where true"],
+        fails: &[(Object::Shelf, 3)],
+    ),
+];
 
 /// Faults that a run doesn't come to, since it stops before.
-fn unreached() -> [Row; 8] {
-    [
-        usage("words", "find").fails(&[(Object::Shelf, 1), QUERY]),
-        ended(
-            "a missing shard before the disk of a checkpoint",
-            1,
-            "no file t",
-        )
-        .words("find --query q --fields f --slack 1s --checkpoint c --every 5 s0 t")
-        .fails(&[(Object::Shelf, 5), (Object::Disk, 1)]),
-        refused("the grammar", "x", "parse: Syntax at 1").fails(&[FIELDS, SHARD]),
-        refused("the grammar of a query to check", "x", "parse: Syntax at 1")
-            .words("check --query q --fields f")
-            .fails(&[(Object::Shelf, 2)]),
-        refused("the check", "any where x == 1", "check: UnknownField x").fails(&[
-            (Object::Shelf, 3),
-            SHARD,
-        ]),
-        ended("a missing shard", 1, "no file t")
-            .words("find --query q --fields f s0 t")
-            .fails(&[SHARD]),
-        // Of a query without end 65,537 bytes are taken, and of a mapping 4,194,305.
-        refused("a query that is too long", "", "lex: TooLong")
-            .behind(&[Times("x", 70_000)])
-            .in_pieces(65_536)
-            .fails(&[(Object::Query, 3)]),
-        ended("a mapping that is too long", 3, "mapping: MapLong")
-            .fields(&[Times(" ", 4_300_000)])
-            .in_pieces(65_536)
-            .fails(&[(Object::Fields, 66)]),
-    ]
-}
+static UNREACHED: &[Row] = &[
+    usage!("words", "find", fails: &[(Object::Shelf, 1), QUERY]),
+    ended!(
+        "a missing shard before the disk of a checkpoint",
+        1,
+        "no file t",
+        words: Words::Line("find --query q --fields f --slack 1s --checkpoint c --every 5 s0 t"),
+        fails: &[(Object::Shelf, 5), (Object::Disk, 1)],
+    ),
+    refused!("the grammar", "x", "parse: Syntax at 1", fails: &[FIELDS, SHARD]),
+    refused!(
+        "the grammar of a query to check",
+        "x",
+        "parse: Syntax at 1",
+        words: Words::Line("check --query q --fields f"),
+        fails: &[(Object::Shelf, 2)],
+    ),
+    refused!(
+        "the check",
+        "any where x == 1",
+        "check: UnknownField x",
+        fails: &[(Object::Shelf, 3), SHARD],
+    ),
+    ended!(
+        "a missing shard",
+        1,
+        "no file t",
+        words: Words::Line("find --query q --fields f s0 t"),
+        fails: &[SHARD],
+    ),
+    // Of a query without end 65,537 bytes are taken, and of a mapping 4,194,305.
+    refused!(
+        "a query that is too long",
+        "",
+        "lex: TooLong",
+        behind: &[Times("x", 70_000)],
+        piece: 65_536,
+        fails: &[(Object::Query, 3)],
+    ),
+    ended!(
+        "a mapping that is too long",
+        3,
+        "mapping: MapLong",
+        fields: &[Times(" ", 4_300_000)],
+        piece: 65_536,
+        fails: &[(Object::Fields, 66)],
+    ),
+];
 
 /// A search that ends with a write fault.
-fn unwritten(shows: &'static str, fails: &'static [Failing]) -> Row {
-    ended(shows, 5, "write fault").fails(fails)
+macro_rules! unwritten {
+    ($shows:expr, $fails:expr $(, $field:ident: $value:expr)* $(,)?) => {
+        ended!($shows, 5, "write fault", fails: $fails $(, $field: $value)*)
+    };
 }
 
 /// Outputs that refuse a write.
-fn writes() -> [Row; 6] {
-    [
-        unwritten("the reference's example", &[OUT])
-            .by(REFERENCE)
-            .over(ELEVEN)
-            .lists(REFERENCE_LISTS),
-        unwritten("what a pipe holds back until the end", &[OUT])
-            .by("any where true | tail 1")
-            .over(&[Events("1 a, 2 a")])
-            .lists(&["2 [] 0:2"]),
-        unwritten("the second piece of a long listing", &[(Object::Out, 2)])
-            .over(&[Each("{\"@timestamp\":#}\n", 7000)])
-            .in_pieces(1000)
-            .lists_text(&[Each("# [] 0:#\n", 7000)]),
-        unwritten("the canonical text", &[OUT])
-            .words("check --query q --fields f")
-            .lists(&["any where true"]),
-        unwritten("both outputs", &[OUT, ERR]).over(&[Events("1 a")]),
-        found(
-            "an empty listing isn't written",
-            "any where false",
-            &[Events("1 a")],
-            &[],
-        )
-        .fails(&[OUT]),
-    ]
-}
+static WRITES: &[Row] = &[
+    unwritten!(
+        "the reference's example",
+        &[OUT],
+        query: REFERENCE,
+        shard: ELEVEN,
+        listed: REFERENCE_LISTS,
+    ),
+    unwritten!(
+        "what a pipe holds back until the end",
+        &[OUT],
+        query: "any where true | tail 1",
+        shard: &[Events("1 a, 2 a")],
+        listed: &["2 [] 0:2"],
+    ),
+    unwritten!(
+        "the second piece of a long listing",
+        &[(Object::Out, 2)],
+        shard: &[Each("{\"@timestamp\":#}\n", 7000)],
+        piece: 1000,
+        rest: &[Each("# [] 0:#\n", 7000)],
+    ),
+    unwritten!(
+        "the canonical text",
+        &[OUT],
+        words: Words::Line("check --query q --fields f"),
+        listed: &["any where true"],
+    ),
+    unwritten!("both outputs", &[OUT, ERR], shard: &[Events("1 a")]),
+    found!(
+        "an empty listing isn't written",
+        "any where false",
+        &[Events("1 a")],
+        &[],
+        fails: &[OUT],
+    ),
+];
 
 /// Faults that can't be told leave the status. A report that can't be written leaves the listing whole.
-fn untold() -> [Row; 8] {
-    [
-        usage("words", "find").fails(&[ERR]),
-        ended("a missing file", 1, "no file p")
-            .words("find --query p --fields f s0")
-            .fails(&[ERR]),
-        refused("a query", "x", "parse: Syntax at 1").fails(&[ERR]),
-        unread("a query that can't be read", "read fault: q", &[QUERY, ERR]),
-        unread(
-            "a shard that can't be read",
-            "read fault: s0",
-            &[SHARD, ERR],
-        ),
-        printed(
-            "a check tells nothing",
-            "any where true",
-            &["any where true"],
-        )
-        .fails(&[ERR]),
-        Row {
-            status: 5,
-            ..found(
-                "a report",
-                "any where true",
-                &[Events("1 a")],
-                &["1 [] 0:1"],
-            )
-            .fails(&[ERR])
-        },
-        Row {
-            status: 5,
-            ..found(
-                "a report, and what a pipe holds back until the end",
-                "any where true | tail 1",
-                &[Events("1 a, 2 a")],
-                &["2 [] 0:2"],
-            )
-            .fails(&[ERR])
-        },
-    ]
-}
+static UNTOLD: &[Row] = &[
+    usage!("words", "find", fails: &[ERR]),
+    ended!(
+        "a missing file",
+        1,
+        "no file p",
+        words: Words::Line("find --query p --fields f s0"),
+        fails: &[ERR],
+    ),
+    refused!("a query", "x", "parse: Syntax at 1", fails: &[ERR]),
+    unread!("a query that can't be read", "read fault: q", &[QUERY, ERR]),
+    unread!(
+        "a shard that can't be read",
+        "read fault: s0",
+        &[SHARD, ERR]
+    ),
+    printed!("a check tells nothing", "any where true", &["any where true"], fails: &[ERR]),
+    found!("a report", "any where true", &[Events("1 a")], &["1 [] 0:1"], status: 5, fails: &[ERR]),
+    found!(
+        "a report, and what a pipe holds back until the end",
+        "any where true | tail 1",
+        &[Events("1 a, 2 a")],
+        &["2 [] 0:2"],
+        status: 5,
+        fails: &[ERR],
+    ),
+];
 
 #[test]
 fn faults_are_told(rt: HostRuntime) -> Result<(), Fail> {
-    check(&rt, rt.alloc(), &reads())?;
-    check(&rt, rt.alloc(), &shelf_calls())?;
-    check(&rt, rt.alloc(), &unreached())?;
-    check(&rt, rt.alloc(), &writes())?;
-    check(&rt, rt.alloc(), &untold())
+    check_each(
+        &rt,
+        rt.alloc(),
+        &[READS, SHELF_CALLS, UNREACHED, WRITES, UNTOLD],
+    )
 }
 
-/// A shard of four lines that come in one take, read line by line. The next take fails.
-fn line_by_line(shows: &'static str, words: &'static str) -> Row {
-    unread(shows, "read fault: s0", &[(Object::Shard(0), 2)])
-        .over(&[Events("10 a, 20 a, 30 a, 40 a")])
-        .with(words)
-        .in_pieces(1000)
+/// A shard of four lines that come in one take, read line by line with these options. The next take fails.
+macro_rules! line_by_line {
+    ($shows:expr, $options:expr $(, $field:ident: $value:expr)* $(,)?) => {
+        unread!(
+            $shows,
+            "read fault: s0",
+            &[(Object::Shard(0), 2)],
+            shard: &[Events("10 a, 20 a, 30 a, 40 a")],
+            words: Words::Find($options),
+            piece: 1000
+            $(, $field: $value)*
+        )
+    };
 }
 
 /// What was found before a fault stands. In the first row each round from the second on reads a line, and finds the event of
 /// the line before below its low. The last event isn't below any. Without a slack nothing is. A round writes once all lanes
 /// were fed, so nothing of the round that fails is written. With hands rounds read other numbers of lines.
-fn before_a_fault() -> [Row; 5] {
-    [
-        line_by_line("line by line", "--slack 1ms --batch 1 --hands 0").lists(&[
-            "1 [] 0:1", "2 [] 0:2", "3 [] 0:3",
-        ]),
-        line_by_line("with a slack of ten", "--slack 10ms --batch 1 --hands 0").lists(&[
-            "1 [] 0:1", "2 [] 0:2",
-        ]),
-        line_by_line("all lines in one round", "--slack 1ms --batch 4 --hands 0").lists(&[
-            "1 [] 0:1", "2 [] 0:2", "3 [] 0:3",
-        ]),
-        line_by_line(
-            "all lines and the end in one round",
-            "--slack 1ms --batch 5 --hands 0",
-        ),
-        line_by_line("without a slack", "--batch 1 --hands 0"),
-    ]
-}
+static BEFORE_A_FAULT: &[Row] = &[
+    line_by_line!(
+        "line by line",
+        "--slack 1ms --batch 1 --hands 0",
+        listed: &["1 [] 0:1", "2 [] 0:2", "3 [] 0:3"],
+    ),
+    line_by_line!(
+        "with a slack of ten",
+        "--slack 10ms --batch 1 --hands 0",
+        listed: &["1 [] 0:1", "2 [] 0:2"],
+    ),
+    line_by_line!(
+        "all lines in one round",
+        "--slack 1ms --batch 4 --hands 0",
+        listed: &["1 [] 0:1", "2 [] 0:2", "3 [] 0:3"],
+    ),
+    line_by_line!(
+        "all lines and the end in one round",
+        "--slack 1ms --batch 5 --hands 0"
+    ),
+    line_by_line!("without a slack", "--batch 1 --hands 0"),
+];
 
 #[test]
 fn matches_are_written_while_shards_are_read(rt: HostRuntime) -> Result<(), Fail> {
     let alloc = rt.alloc();
-    for row in &before_a_fault() {
+    for row in BEFORE_A_FAULT {
         let ran = run(&rt, alloc, row, row.fails)?;
         compare_run(&rt, alloc, row, &ran, row.fails)?;
         compare(
@@ -315,11 +359,24 @@ fn matches_are_written_while_shards_are_read(rt: HostRuntime) -> Result<(), Fail
 }
 
 /// The search in which each call fails in turn, with these options.
-fn whole(options: &'static str) -> Row {
-    found("each call in turn", REFERENCE, ELEVEN, REFERENCE_LISTS)
-        .with(options)
-        .in_pieces(100)
+macro_rules! whole {
+    ($options:expr $(, $field:ident: $value:expr)* $(,)?) => {
+        found!(
+            "each call in turn",
+            REFERENCE,
+            ELEVEN,
+            REFERENCE_LISTS,
+            words: Words::Find($options),
+            piece: 100
+            $(, $field: $value)*
+        )
+    };
 }
+
+/// That search without hands, and beside two.
+const ALONE: Row = whole!("--batch 2 --hands 0");
+
+const BESIDE: Row = whole!("--batch 2 --hands 2");
 
 /// Lets one call of an object fail after another, until a run of the first row is done. Each run before has to end as the
 /// second row says, and there have to be at least so many.
@@ -364,33 +421,45 @@ fn each_object_fails<R: Threads + Wait + Sync + Abort>(
 
 #[test]
 fn each_call_fails_in_turn(rt: HostRuntime) -> Result<(), Fail> {
-    each_object_fails(&rt, rt.alloc(), &whole("--batch 2 --hands 0"))
+    each_object_fails(&rt, rt.alloc(), &ALONE)
 }
 
 /// Where a hand meets the fault of a take the conductor reads on, so more may be listed than without hands.
 #[test]
 fn each_call_fails_in_turn_beside_hands(rt: HostRuntime) -> Result<(), Fail> {
-    each_object_fails(&rt, rt.alloc(), &whole("--batch 2 --hands 2"))
+    each_object_fails(&rt, rt.alloc(), &BESIDE)
 }
 
 /// Searches line by line in which the take at the end of the shard fails and, before it, another call.
-fn two_faults() -> [Row; 4] {
-    let end = whole("--slack 0ms --batch 1 --hands 0").ends(5, "write fault");
-    let beside = whole("--slack 0ms --batch 1 --hands 2").ends(4, "read fault: s0");
-    [
-        end.fails(&[(Object::Shard(0), 13), OUT]),
-        beside.fails(&[(Object::Shard(0), 13), OUT]),
-        end.with("--slack 0ms --batch 1 --hands 0 --checkpoint c --every 5")
-            .ends(6, "checkpoint disk fault")
-            .fails(&[(Object::Shard(0), 13), (Object::Disk, 5)]),
-        beside
-            .with("--slack 0ms --batch 1 --hands 2 --checkpoint c --every 5")
-            .fails(&[(Object::Shard(0), 13), (Object::Disk, 5)]),
-    ]
-}
+static TWO_FAULTS: &[Row] = &[
+    whole!(
+        "--slack 0ms --batch 1 --hands 0",
+        status: 5,
+        told: Told::Line("write fault"),
+        fails: &[(Object::Shard(0), 13), OUT],
+    ),
+    whole!(
+        "--slack 0ms --batch 1 --hands 2",
+        status: 4,
+        told: Told::Line("read fault: s0"),
+        fails: &[(Object::Shard(0), 13), OUT],
+    ),
+    whole!(
+        "--slack 0ms --batch 1 --hands 0 --checkpoint c --every 5",
+        status: 6,
+        told: Told::Line("checkpoint disk fault"),
+        fails: &[(Object::Shard(0), 13), (Object::Disk, 5)],
+    ),
+    whole!(
+        "--slack 0ms --batch 1 --hands 2 --checkpoint c --every 5",
+        status: 4,
+        told: Told::Line("read fault: s0"),
+        fails: &[(Object::Shard(0), 13), (Object::Disk, 5)],
+    ),
+];
 
 /// Without hands a run stops at the first fault. Hands read on, and of several faults a read fault is told.
 #[test]
 fn read_fault_is_told_before_others(rt: HostRuntime) -> Result<(), Fail> {
-    check(&rt, rt.alloc(), &two_faults())
+    check(&rt, rt.alloc(), TWO_FAULTS)
 }

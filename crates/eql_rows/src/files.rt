@@ -1,12 +1,13 @@
 //! Searches in files of the system.
-use crate::run::words_in;
+use crate::run::{Ran, words_in};
 use eql_cli::{NoGate, eql_main};
 use eql_outside::{FileShelf, MemSink};
+use std::process::Abort;
 use std::test::Fail;
 
 /// Words, with the status and the line of each run. A folder opens, and fails at its first read. A path through a file is no
 /// file.
-const RUNS: [(&str, u8, &str); 4] = [
+static RUNS: &[(&str, u8, &str)] = &[
     ("find --query / --fields f s", 4, "read fault: /\n"),
     (
         "find --query /dev/null/q --fields f s",
@@ -25,18 +26,23 @@ const RUNS: [(&str, u8, &str); 4] = [
     ),
 ];
 
+/// Sees that a run ended with this status, listed nothing and told this.
+fn see_told<R: Abort>(rt: &R, ran: &Ran, status: u8, told: &[u8]) {
+    assert_eq!(rt; ran.status, status);
+    assert!(rt; ran.out.bytes().is_empty());
+    assert_eq!(rt; ran.err.bytes().as_slice(), told);
+}
+
 #[test]
 fn files_of_the_system_are_opened(rt: HostRuntime) -> Result<(), Fail> {
     let alloc = rt.alloc();
-    for (line, status, told) in &RUNS {
+    for (line, status, told) in RUNS {
         let mut shelf = FileShelf::new(rt.clone()?);
         let out = MemSink::new(alloc, Vec::new(alloc));
         let err = MemSink::new(alloc, Vec::new(alloc));
         let words = words_in(alloc, line)?;
         let ran = eql_main(&rt, alloc, &words, &mut shelf, out, err, &NoGate);
-        assert_eq!(rt; ran.status, *status, "{line}");
-        assert_eq!(rt; ran.err.bytes().as_slice(), told.as_bytes(), "{line}");
-        assert!(rt; ran.out.bytes().is_empty(), "{line}");
+        see_told(&rt, &ran, *status, told.as_bytes());
     }
     Ok(())
 }

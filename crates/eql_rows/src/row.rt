@@ -1,20 +1,9 @@
 //! The rows of the tables of runs.
 //!
-//! A row is made by a helper that says only what differs from a search for any event in an empty shard, and may be
-//! changed further by the methods of [`Row`].
+//! A row is made by a macro that says only what differs from a search for any event in an empty shard. Behind what all
+//! rows of its sort say, it takes further fields, as `found!(shows, query, shard, listed, piece: 1000)`. So a table can be
+//! a `static`, which a check reads as one value. An array of rows that functions make costs half a second for each call.
 use crate::text::{Piece, Pieces};
-
-/// The mapping of a row that says nothing of it.
-const FIELDS: Pieces = &[Piece::Bytes(
-    br#"{"destination.ip":"ip","destination.port":"long","event.type":"keyword","file.pid":"long","host.id":"keyword","process.args_count":"long","process.name":"keyword","process.pid":"long","user.id":"keyword","user.name":"keyword"}"#,
-)];
-
-/// What is told of words that make no command.
-const USAGE: &[&str] = &[
-    "usage: eql find --query FILE --fields FILE [--tiebreaker FIELD] [--slack TIME] [--batch N] [--hands N] [--checkpoint NAME --every N] [--places] SHARD..",
-    "usage: eql check --query FILE --fields FILE",
-    "usage: eql made [--hands N] N",
-];
 
 /// What a run calls, where a call may fail.
 #[derive(Clone, Copy, Debug, PartialEq, Eq)]
@@ -52,6 +41,8 @@ pub(crate) enum Words {
 pub(crate) enum Told {
     /// The report of a search in which each line was accepted.
     Accepted,
+    /// The three lines of words that make no command.
+    Usage,
     /// The report of a search in one line, which was rejected for this reason.
     Rejected(&'static str),
     /// This line.
@@ -90,7 +81,7 @@ pub(crate) const PLAIN: Row = Row {
     words: Words::Find(""),
     query: "any where true",
     behind: &[],
-    fields: FIELDS,
+    fields: &[Piece::AllFields],
     shard: &[],
     more: &[],
     piece: 7,
@@ -101,139 +92,106 @@ pub(crate) const PLAIN: Row = Row {
     told: Told::Accepted,
 };
 
+/// A check of a query.
+pub(crate) const CHECK: Row = Row {
+    words: Words::Line("check --query q --fields f"),
+    told: Told::Lines(&[]),
+    ..PLAIN
+};
+
+/// A run whose words make no command.
+pub(crate) const NO_COMMAND: Row = Row {
+    status: 2,
+    told: Told::Usage,
+    ..PLAIN
+};
+
 /// A search that is done, with these lines.
-pub(crate) fn found(
-    shows: &'static str,
-    query: &'static str,
-    shard: Pieces,
-    listed: &'static [&'static str],
-) -> Row {
-    Row {
-        shows,
-        query,
-        shard,
-        listed,
-        ..PLAIN
-    }
+macro_rules! found {
+    ($shows:expr, $query:expr, $shard:expr, $listed:expr $(, $field:ident: $value:expr)* $(,)?) => {
+        $crate::row::Row {
+            shows: $shows,
+            query: $query,
+            shard: $shard,
+            listed: $listed,
+            $($field: $value,)*
+            ..$crate::row::PLAIN
+        }
+    };
 }
+
+pub(crate) use found;
 
 /// A search that ends with this status, tells this line and lists nothing.
-pub(crate) fn ended(shows: &'static str, status: u8, line: &'static str) -> Row {
-    Row {
-        shows,
-        status,
-        told: Told::Line(line),
-        ..PLAIN
-    }
+macro_rules! ended {
+    ($shows:expr, $status:expr, $line:expr $(, $field:ident: $value:expr)* $(,)?) => {
+        $crate::row::Row {
+            shows: $shows,
+            status: $status,
+            told: $crate::row::Told::Line($line),
+            $($field: $value,)*
+            ..$crate::row::PLAIN
+        }
+    };
 }
+
+pub(crate) use ended;
 
 /// A search whose query is refused with this line.
-pub(crate) fn refused(shows: &'static str, query: &'static str, line: &'static str) -> Row {
-    ended(shows, 3, line).by(query)
+macro_rules! refused {
+    ($shows:expr, $query:expr, $line:expr $(, $field:ident: $value:expr)* $(,)?) => {
+        $crate::row::ended!($shows, 3, $line, query: $query $(, $field: $value)*)
+    };
 }
+
+pub(crate) use refused;
 
 /// A check of a query, which prints it so.
-pub(crate) fn printed(
-    shows: &'static str,
-    query: &'static str,
-    listed: &'static [&'static str],
-) -> Row {
-    Row {
-        words: Words::Line("check --query q --fields f"),
-        told: Told::Lines(&[]),
-        ..found(shows, query, &[], listed)
-    }
+macro_rules! printed {
+    ($shows:expr, $query:expr, $listed:expr $(, $field:ident: $value:expr)* $(,)?) => {
+        $crate::row::Row {
+            shows: $shows,
+            query: $query,
+            listed: $listed,
+            $($field: $value,)*
+            ..$crate::row::CHECK
+        }
+    };
 }
+
+pub(crate) use printed;
 
 /// A search in one line, which is rejected for this reason.
-pub(crate) fn rejected(shows: &'static str, shard: Pieces, reason: &'static str) -> Row {
-    Row {
-        told: Told::Rejected(reason),
-        ..found(shows, "any where process.pid == null", shard, &[])
-    }
+macro_rules! rejected {
+    ($shows:expr, $shard:expr, $reason:expr $(, $field:ident: $value:expr)* $(,)?) => {
+        $crate::row::found!(
+            $shows,
+            "any where process.pid == null",
+            $shard,
+            &[],
+            told: $crate::row::Told::Rejected($reason)
+            $(, $field: $value)*
+        )
+    };
 }
+
+pub(crate) use rejected;
 
 /// Words that make no command.
-pub(crate) fn usage(shows: &'static str, line: &'static str) -> Row {
-    Row {
-        shows,
-        words: Words::Line(line),
-        status: 2,
-        told: Told::Lines(USAGE),
-        ..PLAIN
-    }
+macro_rules! usage {
+    ($shows:expr, $line:expr $(, $field:ident: $value:expr)* $(,)?) => {
+        $crate::row::Row {
+            shows: $shows,
+            words: $crate::row::Words::Line($line),
+            $($field: $value,)*
+            ..$crate::row::NO_COMMAND
+        }
+    };
 }
 
+pub(crate) use usage;
+
 impl Row {
-    /// The row with these words, which have a space between each two.
-    pub(crate) fn words(self, line: &'static str) -> Row {
-        Row {
-            words: Words::Line(line),
-            ..self
-        }
-    }
-
-    /// The row with these options of the search, which have a space between each two.
-    pub(crate) fn with(self, options: &'static str) -> Row {
-        Row {
-            words: Words::Find(options),
-            ..self
-        }
-    }
-
-    /// The row with this query.
-    pub(crate) fn by(self, query: &'static str) -> Row {
-        Row { query, ..self }
-    }
-
-    /// The row with this behind its query.
-    pub(crate) fn behind(self, behind: Pieces) -> Row {
-        Row { behind, ..self }
-    }
-
-    /// The row with this mapping.
-    pub(crate) fn fields(self, fields: Pieces) -> Row {
-        Row { fields, ..self }
-    }
-
-    /// The row over this shard.
-    pub(crate) fn over(self, shard: Pieces) -> Row {
-        Row { shard, ..self }
-    }
-
-    /// The row with these shards behind the first.
-    pub(crate) fn and(self, more: &'static [Pieces]) -> Row {
-        Row { more, ..self }
-    }
-
-    /// The row whose takes give this many bytes at most.
-    pub(crate) fn in_pieces(self, piece: usize) -> Row {
-        Row { piece, ..self }
-    }
-
-    /// The row with these lines on the output.
-    pub(crate) fn lists(self, listed: &'static [&'static str]) -> Row {
-        Row { listed, ..self }
-    }
-
-    /// The row with this on the output behind its lines.
-    pub(crate) fn lists_text(self, rest: Pieces) -> Row {
-        Row { rest, ..self }
-    }
-
-    /// The row with this report.
-    pub(crate) fn reports(self, lines: &'static [&'static str]) -> Row {
-        Row {
-            told: Told::Lines(lines),
-            ..self
-        }
-    }
-
-    /// The row with these calls failing.
-    pub(crate) fn fails(self, fails: &'static [Failing]) -> Row {
-        Row { fails, ..self }
-    }
-
     /// The row with this status and this line in place of its report.
     pub(crate) fn ends(self, status: u8, line: &'static str) -> Row {
         Row {

@@ -9,6 +9,13 @@ use std::sync::Wait;
 use std::test::Fail;
 use std::thread::Threads;
 
+/// What is told of words that make no command.
+const USAGE: &[&str] = &[
+    "usage: eql find --query FILE --fields FILE [--tiebreaker FIELD] [--slack TIME] [--batch N] [--hands N] [--checkpoint NAME --every N] [--places] SHARD..",
+    "usage: eql check --query FILE --fields FILE",
+    "usage: eql made [--hands N] N",
+];
+
 /// How a run ended.
 pub(crate) type Ran = Ended<MemSink, MemSink>;
 
@@ -46,20 +53,23 @@ fn failing(alloc: Global, fails: &[Failing], object: Object) -> Result<Vec<u64>,
     Ok(numbers)
 }
 
-/// A file of these bytes, of which a take gives at most so many.
-pub(crate) fn file(
+/// Adds a file of these bytes, of which a take gives at most so many.
+pub(crate) fn push_file(
     alloc: Global,
+    files: &mut Vec<MemFile>,
     name: &str,
     bytes: Vec<u8>,
     piece: usize,
     fails: Vec<u64>,
-) -> Result<MemFile, Fail> {
-    Ok(MemFile {
-        name: String::from_str(alloc, name)?,
+) -> Result<(), Fail> {
+    let name = String::from_str(alloc, name)?;
+    files.push(MemFile {
+        name,
         bytes,
         piece: piece.max(1),
         fails,
-    })
+    })?;
+    Ok(())
 }
 
 /// The texts of the shards of a row.
@@ -79,6 +89,30 @@ fn query_of(alloc: Global, row: &Row) -> Result<Vec<u8>, Fail> {
     Ok(bytes)
 }
 
+/// Adds the files of a row with these shards.
+fn push_files(
+    alloc: Global,
+    files: &mut Vec<MemFile>,
+    row: &Row,
+    shards: Vec<Vec<u8>>,
+    fails: &[Failing],
+) -> Result<(), Fail> {
+    let query = query_of(alloc, row)?;
+    let query_fails = failing(alloc, fails, Object::Query)?;
+    push_file(alloc, files, "q", query, row.piece, query_fails)?;
+    let fields = text_of(alloc, row.fields)?;
+    let fields_fail = failing(alloc, fails, Object::Fields)?;
+    push_file(alloc, files, "f", fields, row.piece, fields_fail)?;
+    let mut number = 0usize;
+    for shard in shards {
+        let shard_fails = failing(alloc, fails, Object::Shard(number))?;
+        let name = format!(in alloc; "s{number}")?;
+        push_file(alloc, files, name.as_str(), shard, row.piece, shard_fails)?;
+        number = number.saturating_add(1);
+    }
+    Ok(())
+}
+
 /// The files of a row with these shards.
 fn files_of(
     alloc: Global,
@@ -87,19 +121,7 @@ fn files_of(
     fails: &[Failing],
 ) -> Result<Vec<MemFile>, Fail> {
     let mut files = Vec::new(alloc);
-    let query = query_of(alloc, row)?;
-    let query_fails = failing(alloc, fails, Object::Query)?;
-    files.push(file(alloc, "q", query, row.piece, query_fails)?)?;
-    let fields = text_of(alloc, row.fields)?;
-    let fields_fail = failing(alloc, fails, Object::Fields)?;
-    files.push(file(alloc, "f", fields, row.piece, fields_fail)?)?;
-    let mut number = 0usize;
-    for shard in shards {
-        let name = format!(in alloc; "s{number}")?;
-        let shard_fails = failing(alloc, fails, Object::Shard(number))?;
-        files.push(file(alloc, name.as_str(), shard, row.piece, shard_fails)?)?;
-        number = number.saturating_add(1);
-    }
+    push_files(alloc, &mut files, row, shards, fails)?;
     Ok(files)
 }
 
@@ -242,6 +264,7 @@ pub(crate) fn told_of(alloc: Global, row: &Row) -> Result<Vec<u8>, Fail> {
     let mut told = Vec::new(alloc);
     match row.told {
         Told::Accepted => return accepted(alloc, row),
+        Told::Usage => add_lines(&mut told, USAGE)?,
         Told::Rejected(reason) => {
             let line = format!(in alloc;
                 "shard 0: lines 1 accepted 0 late 0 rejected 1 first 1 {reason}"
@@ -299,6 +322,34 @@ pub(crate) fn compare_run<R: Abort>(
     compare(rt, alloc, ran.err.bytes(), told, !err_fails, row.shows)
 }
 
+/// Runs a row on a disk with these calls failing, sees that it gave what the row says, and hands the disk back.
+pub(crate) fn run_as_said<R: Threads + Wait + Sync + Abort>(
+    rt: &R,
+    alloc: Global,
+    row: &Row,
+    disk: MemDisk,
+    fails: &[Failing],
+) -> Result<MemDisk, Fail> {
+    let (ran, disk) = run_on(rt, alloc, row, disk, fails)?;
+    let compared = compare_run(rt, alloc, row, &ran, fails);
+    drop(ran);
+    match compared {
+        Ok(()) => Ok(disk),
+        Err(fail) => Err(fail),
+    }
+}
+
+/// Runs a row on an empty disk, sees that it gave what the row says, and answers what is left on the disk.
+pub(crate) fn areas_after<R: Threads + Wait + Sync + Abort>(
+    rt: &R,
+    alloc: Global,
+    row: &Row,
+) -> Result<Areas, Fail> {
+    let disk = disk_of(alloc, &Areas::empty(alloc), &[], None)?;
+    let disk = run_as_said(rt, alloc, row, disk, &[])?;
+    Areas::left_by(alloc, &disk, 0)
+}
+
 /// Runs the rows of a table, each on a disk with these areas, and compares what each gives.
 pub(crate) fn check_on<R: Threads + Wait + Sync + Abort>(
     rt: &R,
@@ -308,8 +359,7 @@ pub(crate) fn check_on<R: Threads + Wait + Sync + Abort>(
 ) -> Result<(), Fail> {
     for row in rows {
         let disk = disk_of(alloc, areas, row.fails, None)?;
-        let (ran, _) = run_on(rt, alloc, row, disk, row.fails)?;
-        compare_run(rt, alloc, row, &ran, row.fails)?;
+        drop(run_as_said(rt, alloc, row, disk, row.fails)?);
     }
     Ok(())
 }
@@ -321,4 +371,16 @@ pub(crate) fn check<R: Threads + Wait + Sync + Abort>(
     rows: &[Row],
 ) -> Result<(), Fail> {
     check_on(rt, alloc, rows, &Areas::empty(alloc))
+}
+
+/// Runs the rows of several tables, each on an empty disk, and compares what each gives.
+pub(crate) fn check_each<R: Threads + Wait + Sync + Abort>(
+    rt: &R,
+    alloc: Global,
+    tables: &[&[Row]],
+) -> Result<(), Fail> {
+    for rows in tables {
+        check(rt, alloc, *rows)?;
+    }
+    Ok(())
 }

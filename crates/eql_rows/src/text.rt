@@ -2,6 +2,10 @@
 use std::alloc::Global;
 use std::test::Fail;
 
+/// The mapping of a row that says nothing of it: ten fields of three kinds.
+const ALL_FIELDS: &[u8] =
+    br#"{"destination.ip":"ip","destination.port":"long","event.type":"keyword","file.pid":"long","host.id":"keyword","process.args_count":"long","process.name":"keyword","process.pid":"long","user.id":"keyword","user.name":"keyword"}"#;
+
 /// What stands in a text, piece by piece.
 #[derive(Clone, Copy)]
 pub(crate) enum Piece {
@@ -15,6 +19,8 @@ pub(crate) enum Piece {
     Lines(&'static [&'static str]),
     /// These bytes.
     Bytes(&'static [u8]),
+    /// A mapping of all fields that rows name.
+    AllFields,
     /// This text, so many times.
     Times(&'static str, usize),
     /// This text, once for each number from 1 on, so many times, with the number in place of each `#`.
@@ -110,6 +116,7 @@ fn add_piece(alloc: Global, bytes: &mut Vec<u8>, piece: Piece) -> Result<(), Fai
         Piece::Spaced(starts) => add_starts(alloc, bytes, starts, b' '),
         Piece::Lines(lines) => add_lines(bytes, lines),
         Piece::Bytes(more) => Ok(bytes.extend_from_slice(more)?),
+        Piece::AllFields => Ok(bytes.extend_from_slice(ALL_FIELDS)?),
         Piece::Times(text, times) => add_times(alloc, bytes, text, times),
         Piece::Each(text, times) => add_each(alloc, bytes, text, times),
     }

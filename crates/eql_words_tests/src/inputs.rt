@@ -62,7 +62,7 @@ struct Row {
     line: &'static str,
 }
 
-const ROWS: &[Row] = &[
+static ROWS: &[Row] = &[
     Row {
         query: 47,
         fields: 2,

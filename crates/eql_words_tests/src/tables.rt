@@ -2,7 +2,7 @@
 //! rules in Python. `none` says that they make none.
 
 /// Which words are commands at all, and the plain words of `check` and `made`.
-pub(crate) const COMMANDS: &[(&str, &str)] = &[
+pub(crate) static COMMANDS: &[(&str, &str)] = &[
     ("", "none"),
     ("help", "none"),
     ("--help", "none"),
@@ -60,7 +60,7 @@ pub(crate) const COMMANDS: &[(&str, &str)] = &[
 ];
 
 /// Options: their order, both spellings, `--`, and names.
-pub(crate) const OPTIONS: &[(&str, &str)] = &[
+pub(crate) static OPTIONS: &[(&str, &str)] = &[
     (
         "find --fields f --query q a",
         "find q f batch=256 hands=1 a",
@@ -196,7 +196,7 @@ pub(crate) const OPTIONS: &[(&str, &str)] = &[
 ];
 
 /// Numbers, times, and what goes together.
-pub(crate) const VALUES: &[(&str, &str)] = &[
+pub(crate) static VALUES: &[(&str, &str)] = &[
     (
         "find --query q --fields f --batch 1 a",
         "find q f batch=1 hands=1 a",
