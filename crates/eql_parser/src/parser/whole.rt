@@ -13,7 +13,6 @@ use crate::parser::piece::{Piece, split};
 use crate::parser::sequence::sequence_of;
 use crate::parser::stop::{Stop, left_out};
 use crate::parser::term::{Bracketed, item_from, keys_of, number_of, term_of};
-use crate::parser::word::is_word;
 use eql_lexer::Token;
 use eql_query::{Body, FieldRefs, PipeText, PipeTexts, Query};
 use eql_values::Text;
@@ -42,21 +41,19 @@ fn named_pipe<'a>(
     ensures { Answers (λ p. p) result (pipe_named word.now (grammar.pipe_of word.now)
         (kinds rest.now)) }
 {
-    if is_word(word, b"head") {
-        return match number_of(rest) {
+    match word.text() {
+        "head" => match number_of(rest) {
             Ok((count, behind)) => Ok((PipeText::Head(count), behind)),
             Err(stop) => Err(stop),
-        };
-    }
-    if is_word(word, b"tail") {
-        return match number_of(rest) {
+        },
+        "tail" => match number_of(rest) {
             Ok((count, behind)) => Ok((PipeText::Tail(count), behind)),
             Err(stop) => Err(stop),
-        };
-    }
-    match word.clone() {
-        Ok(word) => Err(Stop::LeftOut(word, place)),
-        Err(_) => Err(Stop::Memory),
+        },
+        _ => match word.clone() {
+            Ok(word) => Err(Stop::LeftOut(word, place)),
+            Err(_) => Err(Stop::Memory),
+        },
     }
 }
 
