@@ -76,7 +76,7 @@ pub fn answers(
 }
 
 /// Sees that the check of each query over these fields answers what stands beside it.
-fn each_answers_by(
+fn table_answers(
     rt: &impl Abort,
     alloc: Global,
     mapping: &Mapping,
@@ -88,10 +88,27 @@ fn each_answers_by(
     Ok(())
 }
 
-/// Sees that the check of each query answers what stands beside it.
-pub fn each_answers(rt: &impl Abort, alloc: Global, rows: &[(&str, &str)]) -> Result<(), Fail> {
+/// The same for each of these tables.
+fn each_table_answers(
+    rt: &impl Abort,
+    alloc: Global,
+    mapping: &Mapping,
+    tables: &[&[(&str, &str)]],
+) -> Result<(), Fail> {
+    for rows in tables {
+        table_answers(rt, alloc, mapping, rows)?;
+    }
+    Ok(())
+}
+
+/// Sees that the check of each query of these tables answers what stands beside it.
+pub fn each_answers(
+    rt: &impl Abort,
+    alloc: Global,
+    tables: &[&[(&str, &str)]],
+) -> Result<(), Fail> {
     let mapping = mapping(alloc)?;
-    let seen = each_answers_by(rt, alloc, &mapping, rows);
+    let seen = each_table_answers(rt, alloc, &mapping, tables);
     drop(mapping);
     seen
 }

@@ -51,12 +51,6 @@ static USED: &[(&str, &str)] = &[
     ),
 ];
 
-#[test]
-fn fields(rt: HostRuntime) -> Result<(), Fail> {
-    each_answers(&rt, rt.alloc(), FIELDS)?;
-    each_answers(&rt, rt.alloc(), USED)
-}
-
 /// A function is one of the table's, and its form with `~` is there where it compares texts.
 static FUNCTIONS: &[(&str, &str)] = &[
     (r#"any where length("a") == 1"#, "0 keys"),
@@ -196,13 +190,6 @@ static BLOCKS: &[(&str, &str)] = &[
     (r#"any where cidrMatch(a, null, "x")"#, "Cidr x"),
 ];
 
-#[test]
-fn functions(rt: HostRuntime) -> Result<(), Fail> {
-    each_answers(&rt, rt.alloc(), FUNCTIONS)?;
-    each_answers(&rt, rt.alloc(), ARITY)?;
-    each_answers(&rt, rt.alloc(), BLOCKS)
-}
-
 /// Conditions, and operands of `not`, `and` and `or`, are Boolean or always null.
 static BOOLEANS: &[(&str, &str)] = &[
     ("any where b", "0 keys b"),
@@ -297,14 +284,6 @@ static TWO_FIELDS: &[(&str, &str)] = &[
     ),
 ];
 
-#[test]
-fn comparisons(rt: HostRuntime) -> Result<(), Fail> {
-    each_answers(&rt, rt.alloc(), BOOLEANS)?;
-    each_answers(&rt, rt.alloc(), EQUALITY)?;
-    each_answers(&rt, rt.alloc(), ORDER)?;
-    each_answers(&rt, rt.alloc(), TWO_FIELDS)
-}
-
 /// Patterns are for texts, and the literals of a list have the kind of the value; with `~` all are texts.
 static LISTS: &[(&str, &str)] = &[
     (r#"any where t : "*""#, "0 keys t"),
@@ -387,7 +366,13 @@ static OPERANDS: &[(&str, &str)] = &[
 ];
 
 #[test]
-fn operands(rt: HostRuntime) -> Result<(), Fail> {
-    each_answers(&rt, rt.alloc(), LISTS)?;
-    each_answers(&rt, rt.alloc(), OPERANDS)
+fn expressions_are_checked(rt: HostRuntime) -> Result<(), Fail> {
+    each_answers(
+        &rt,
+        rt.alloc(),
+        &[
+            FIELDS, USED, FUNCTIONS, ARITY, BLOCKS, BOOLEANS, EQUALITY, ORDER, TWO_FIELDS, LISTS,
+            OPERANDS,
+        ],
+    )
 }

@@ -144,31 +144,6 @@ static NESTED: &[(&str, &str)] = &[
     (r#"startsWith(concat(t, nt), "C")"#, "null"),
 ];
 
-#[test]
-fn places_in_texts(rt: HostRuntime) -> Result<(), Fail> {
-    each_gives(&rt, rt.alloc(), PLACES)
-}
-
-#[test]
-fn parts_of_texts(rt: HostRuntime) -> Result<(), Fail> {
-    each_gives(&rt, rt.alloc(), PARTS)
-}
-
-#[test]
-fn tests_of_texts(rt: HostRuntime) -> Result<(), Fail> {
-    each_gives(&rt, rt.alloc(), TESTS)
-}
-
-#[test]
-fn calls_with_numbers(rt: HostRuntime) -> Result<(), Fail> {
-    each_gives(&rt, rt.alloc(), NUMBERS)
-}
-
-#[test]
-fn nested_calls(rt: HostRuntime) -> Result<(), Fail> {
-    each_gives(&rt, rt.alloc(), NESTED)
-}
-
 /// Calls with a null argument, in each place, or with a text that writes no address, are null.
 static NULLS: &[(&str, &str)] = &[
     ("add(nl, 1) == null", "true"),
@@ -228,6 +203,10 @@ static NULLS: &[(&str, &str)] = &[
 ];
 
 #[test]
-fn calls_with_null(rt: HostRuntime) -> Result<(), Fail> {
-    each_gives(&rt, rt.alloc(), NULLS)
+fn calls_give_these_values(rt: HostRuntime) -> Result<(), Fail> {
+    each_gives(
+        &rt,
+        rt.alloc(),
+        &[PLACES, PARTS, TESTS, NUMBERS, NESTED, NULLS],
+    )
 }

@@ -45,12 +45,6 @@ static IN_AN_EXPRESSION: &[(&str, &str)] = &[
     ("any where length(x) + 1", "UnknownField x"),
 ];
 
-#[test]
-fn conditions(rt: HostRuntime) -> Result<(), Fail> {
-    each_answers(&rt, rt.alloc(), AT_ONE_NODE)?;
-    each_answers(&rt, rt.alloc(), IN_AN_EXPRESSION)
-}
-
 /// The shared keys come first, and then each item: its condition, its keys, its runs. The until item is the last.
 static ITEMS: &[(&str, &str)] = &[
     (
@@ -102,11 +96,6 @@ static ITEMS: &[(&str, &str)] = &[
         "UnknownField u",
     ),
 ];
-
-#[test]
-fn items(rt: HostRuntime) -> Result<(), Fail> {
-    each_answers(&rt, rt.alloc(), ITEMS)
-}
 
 /// The rules of the whole query come after those of the items: counts of keys, kinds of keys, stages, then the limits of
 /// keys and of fields, spans and pipes.
@@ -165,6 +154,10 @@ static WHOLE: &[(&str, &str)] = &[
 ];
 
 #[test]
-fn whole_queries(rt: HostRuntime) -> Result<(), Fail> {
-    each_answers(&rt, rt.alloc(), WHOLE)
+fn refusals_come_in_this_order(rt: HostRuntime) -> Result<(), Fail> {
+    each_answers(
+        &rt,
+        rt.alloc(),
+        &[AT_ONE_NODE, IN_AN_EXPRESSION, ITEMS, WHOLE],
+    )
 }

@@ -28,11 +28,6 @@ static PATTERNS: &[(&str, &str)] = &[
     (r#""abc" like "a.c""#, "false"),
 ];
 
-#[test]
-fn texts_and_patterns(rt: HostRuntime) -> Result<(), Fail> {
-    each_gives(&rt, rt.alloc(), PATTERNS)
-}
-
 /// `in` asks for an equal literal, and `in~` folds; a null is in no list and out of none.
 static MEMBERS: &[(&str, &str)] = &[
     ("nl in (1, 2)", "null"),
@@ -68,11 +63,6 @@ static MEMBERS: &[(&str, &str)] = &[
     ("not (l in (1))", "true"),
 ];
 
-#[test]
-fn values_and_lists(rt: HostRuntime) -> Result<(), Fail> {
-    each_gives(&rt, rt.alloc(), MEMBERS)
-}
-
 /// Folding goes character by character, by the simple case folding of Unicode.
 static FOLDED: &[(&str, &str)] = &[
     (r#""ÉCLAIR" : "éclair""#, "true"),
@@ -103,6 +93,6 @@ static FOLDED: &[(&str, &str)] = &[
 ];
 
 #[test]
-fn folding(rt: HostRuntime) -> Result<(), Fail> {
-    each_gives(&rt, rt.alloc(), FOLDED)
+fn patterns_give_these_values(rt: HostRuntime) -> Result<(), Fail> {
+    each_gives(&rt, rt.alloc(), &[PATTERNS, MEMBERS, FOLDED])
 }

@@ -17,11 +17,6 @@ static NULL_IS_NOT_FALSE: &[(&str, &str)] = &[
     ("process.pid != null or process.args_count == 4", "false"),
 ];
 
-#[test]
-fn null_is_not_false(rt: HostRuntime) -> Result<(), Fail> {
-    each_gives(&rt, rt.alloc(), NULL_IS_NOT_FALSE)
-}
-
 /// Operators bind as the grammar has it: `-`, then `*`, `/` and `%`, then `+` and `-`, each from the left, then
 /// comparisons, `not`, `and`, `or`.
 static PRECEDENCE: &[(&str, &str)] = &[
@@ -48,11 +43,6 @@ static PRECEDENCE: &[(&str, &str)] = &[
     ("(nl == 5) == null", "true"),
 ];
 
-#[test]
-fn operators_bind(rt: HostRuntime) -> Result<(), Fail> {
-    each_gives(&rt, rt.alloc(), PRECEDENCE)
-}
-
 /// One text fits two patterns.
 static PATTERNS: &[(&str, &str)] = &[
     (r#"user.name : "a*""#, "true"),
@@ -61,11 +51,6 @@ static PATTERNS: &[(&str, &str)] = &[
     (r#""AB" : "*b""#, "true"),
     (r#"process.name : "a*""#, "false"),
 ];
-
-#[test]
-fn one_text_fits_two_patterns(rt: HostRuntime) -> Result<(), Fail> {
-    each_gives(&rt, rt.alloc(), PATTERNS)
-}
 
 /// The conditions of a chain of events: a process starts, connects and ends. Each conjunct stands also by itself.
 static CHAIN: &[(&str, &str)] = &[
@@ -87,11 +72,6 @@ static CHAIN: &[(&str, &str)] = &[
     ("destination.port not in (80, 443)", "true"),
 ];
 
-#[test]
-fn a_chain_of_events(rt: HostRuntime) -> Result<(), Fail> {
-    each_gives(&rt, rt.alloc(), CHAIN)
-}
-
 /// Fields and texts in each of their spellings: in backticks, with `?`, between three quotes, by escapes.
 static SPELLINGS: &[(&str, &str)] = &[
     (r#"`process.name` == "CMD.EXE""#, "true"),
@@ -109,11 +89,6 @@ static SPELLINGS: &[(&str, &str)] = &[
         "true",
     ),
 ];
-
-#[test]
-fn spellings(rt: HostRuntime) -> Result<(), Fail> {
-    each_gives(&rt, rt.alloc(), SPELLINGS)
-}
 
 /// Lists in lists: where an `and` is false or an `or` is true, what is left of that list says no more, and what stands
 /// behind the list does.
@@ -147,6 +122,17 @@ static SHORT_CUTS: &[(&str, &str)] = &[
 ];
 
 #[test]
-fn lists_in_lists(rt: HostRuntime) -> Result<(), Fail> {
-    each_gives(&rt, rt.alloc(), SHORT_CUTS)
+fn conditions_give_these_values(rt: HostRuntime) -> Result<(), Fail> {
+    each_gives(
+        &rt,
+        rt.alloc(),
+        &[
+            NULL_IS_NOT_FALSE,
+            PRECEDENCE,
+            PATTERNS,
+            CHAIN,
+            SPELLINGS,
+            SHORT_CUTS,
+        ],
+    )
 }

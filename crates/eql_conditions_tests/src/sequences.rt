@@ -102,12 +102,6 @@ static KEY_KIND: &[(&str, &str)] = &[
     ),
 ];
 
-#[test]
-fn keys(rt: HostRuntime) -> Result<(), Fail> {
-    each_answers(&rt, rt.alloc(), KEY_COUNT)?;
-    each_answers(&rt, rt.alloc(), KEY_KIND)
-}
-
 /// An item has 1 to 100 runs, and a sequence 2 to 256 stages. The until item is no stage.
 static STAGES: &[(&str, &str)] = &[
     ("sequence [any where true] [any where true]", "0 keys"),
@@ -155,11 +149,6 @@ static STAGES: &[(&str, &str)] = &[
         "0 keys",
     ),
 ];
-
-#[test]
-fn stages(rt: HostRuntime) -> Result<(), Fail> {
-    each_answers(&rt, rt.alloc(), STAGES)
-}
 
 /// There are at most 8 keys, the shared ones and those of an item.
 static MANY_KEYS: &[(&str, &str)] = &[
@@ -285,8 +274,10 @@ static PIPES: &[(&str, &str)] = &[
 ];
 
 #[test]
-fn limits(rt: HostRuntime) -> Result<(), Fail> {
-    each_answers(&rt, rt.alloc(), MANY_KEYS)?;
-    each_answers(&rt, rt.alloc(), SPANS)?;
-    each_answers(&rt, rt.alloc(), PIPES)
+fn sequences_are_checked(rt: HostRuntime) -> Result<(), Fail> {
+    each_answers(
+        &rt,
+        rt.alloc(),
+        &[KEY_COUNT, KEY_KIND, STAGES, MANY_KEYS, SPANS, PIPES],
+    )
 }

@@ -97,7 +97,7 @@ fn answer(alloc: Global, mapping: &Mapping, condition: &str) -> Result<&'static 
 }
 
 /// Sees that each condition over these fields gives the value beside it.
-fn each_gives_by(
+fn table_gives(
     rt: &impl Abort,
     alloc: Global,
     mapping: &Mapping,
@@ -110,10 +110,23 @@ fn each_gives_by(
     Ok(())
 }
 
-/// Sees that each condition gives the value beside it: `true`, `false` or `null`.
-pub fn each_gives(rt: &impl Abort, alloc: Global, rows: &[(&str, &str)]) -> Result<(), Fail> {
+/// The same for each of these tables.
+fn each_table_gives(
+    rt: &impl Abort,
+    alloc: Global,
+    mapping: &Mapping,
+    tables: &[&[(&str, &str)]],
+) -> Result<(), Fail> {
+    for rows in tables {
+        table_gives(rt, alloc, mapping, rows)?;
+    }
+    Ok(())
+}
+
+/// Sees that each condition of these tables gives the value beside it: `true`, `false` or `null`.
+pub fn each_gives(rt: &impl Abort, alloc: Global, tables: &[&[(&str, &str)]]) -> Result<(), Fail> {
     let mapping = Mapping::read(alloc, MAPPING)?;
-    let seen = each_gives_by(rt, alloc, &mapping, rows);
+    let seen = each_table_gives(rt, alloc, &mapping, tables);
     drop(mapping);
     seen
 }

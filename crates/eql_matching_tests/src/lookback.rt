@@ -28,31 +28,39 @@ pub(crate) enum Name {
 /// An event: its time in nanoseconds, and what it says to its key.
 #[derive(Clone, Copy)]
 pub(crate) struct Event {
-    ts: i128,
-    key: Name,
-    stages: u128,
-    until: bool,
+    pub(crate) ts: i128,
+    pub(crate) key: Name,
+    pub(crate) stages: u128,
+    pub(crate) until: bool,
 }
 
 /// An event that fits stages, given by their bits.
-pub(crate) fn fits(ts: i128, key: Name, stages: u128) -> Event {
-    Event {
-        ts,
-        key,
-        stages,
-        until: false,
-    }
+macro_rules! fits {
+    ($ts:expr, $key:ident, $stages:expr) => {
+        $crate::lookback::Event {
+            ts: $ts,
+            key: $crate::lookback::Name::$key,
+            stages: $stages,
+            until: false,
+        }
+    };
 }
 
+pub(crate) use fits;
+
 /// An event that fits stages and the until item.
-pub(crate) fn ends(ts: i128, key: Name, stages: u128) -> Event {
-    Event {
-        ts,
-        key,
-        stages,
-        until: true,
-    }
+macro_rules! ends {
+    ($ts:expr, $key:ident, $stages:expr) => {
+        $crate::lookback::Event {
+            ts: $ts,
+            key: $crate::lookback::Name::$key,
+            stages: $stages,
+            until: true,
+        }
+    };
 }
+
+pub(crate) use ends;
 
 /// A text as a value.
 fn text(alloc: Global, characters: &str) -> Result<Option<Value>, Memory> {
@@ -171,117 +179,130 @@ pub(crate) fn shown(
     Ok(shown)
 }
 
-/// Sees that these are the matches by events.
-fn check<R: Abort>(
-    rt: &R,
-    alloc: Global,
+/// A worked example: events, and the matches by them.
+struct Example {
+    shows: &'static str,
     stages: u32,
     span: Option<i128>,
-    events: &[Event],
-    expected: &str,
-) -> Result<(), Fail> {
-    let found = shown(rt, alloc, stages, span, events)?;
-    assert_eq!(rt; found.as_str(), expected);
-    Ok(())
+    events: &'static [Event],
+    matches: &'static str,
 }
 
 /// The events of the reference's example.
-pub(crate) fn reference_events() -> [Event; 11] {
-    [
-        fits(1, Name::Root, 1),
-        fits(2, Name::Root, 1),
-        fits(3, Name::Elkbee, 2),
-        fits(4, Name::Root, 2),
-        fits(5, Name::Root, 2),
-        fits(6, Name::Elkbee, 1),
-        fits(7, Name::Root, 1),
-        fits(8, Name::Elkbee, 2),
-        fits(9, Name::Root, 4),
-        fits(10, Name::Elkbee, 4),
-        fits(11, Name::Root, 4),
-    ]
-}
+pub(crate) const REFERENCE_EVENTS: &[Event] = &[
+    fits!(1, Root, 1),
+    fits!(2, Root, 1),
+    fits!(3, Elkbee, 2),
+    fits!(4, Root, 2),
+    fits!(5, Root, 2),
+    fits!(6, Elkbee, 1),
+    fits!(7, Root, 1),
+    fits!(8, Elkbee, 2),
+    fits!(9, Root, 4),
+    fits!(10, Elkbee, 4),
+    fits!(11, Root, 4),
+];
 
 /// The matches by them.
 pub(crate) const REFERENCE_MATCHES: &str = "root 2 4 9;elkbee 6 8 10;";
 
-#[test]
-fn the_references_example(rt: HostRuntime) -> Result<(), Fail> {
-    check(
-        &rt,
-        rt.alloc(),
-        3,
-        None,
-        &reference_events(),
-        REFERENCE_MATCHES,
-    )
-}
+static EXAMPLES: &[Example] = &[
+    Example {
+        shows: "the reference's example",
+        stages: 3,
+        span: None,
+        events: REFERENCE_EVENTS,
+        matches: REFERENCE_MATCHES,
+    },
+    Example {
+        shows: "a stage that runs",
+        stages: 4,
+        span: None,
+        events: &[
+            fits!(1, Empty, 7),
+            fits!(2, Empty, 7),
+            fits!(3, Empty, 7),
+            fits!(4, Empty, 7),
+            fits!(5, Empty, 8),
+        ],
+        matches: " 2 3 4 5;",
+    },
+    Example {
+        shows: "an until event between two stages",
+        stages: 2,
+        span: None,
+        events: &[fits!(1, Empty, 1), ends!(2, Empty, 0), fits!(3, Empty, 2)],
+        matches: "",
+    },
+    Example {
+        shows: "an until event behind the match",
+        stages: 2,
+        span: None,
+        events: &[fits!(1, Empty, 1), fits!(2, Empty, 2), ends!(3, Empty, 0)],
+        matches: " 1 2;",
+    },
+    Example {
+        shows: "an event that fits the last stage and until",
+        stages: 2,
+        span: None,
+        events: &[fits!(1, Empty, 1), ends!(2, Empty, 2)],
+        matches: "",
+    },
+    Example {
+        shows: "maxspan is inclusive",
+        stages: 2,
+        span: Some(10 * SECOND),
+        events: &[fits!(0, Empty, 1), fits!(10 * SECOND, Empty, 2)],
+        matches: " 1 2;",
+    },
+    Example {
+        shows: "a nanosecond more than maxspan",
+        stages: 2,
+        span: Some(10 * SECOND),
+        events: &[fits!(0, Empty, 1), fits!(10 * SECOND + 1, Empty, 2)],
+        matches: "",
+    },
+    Example {
+        shows: "a key field that may be missing gives the key null",
+        stages: 2,
+        span: None,
+        events: &[fits!(1, Null, 1), fits!(2, Null, 2)],
+        matches: "null 1 2;",
+    },
+    Example {
+        shows: "a key field that may not be missing gives no key",
+        stages: 2,
+        span: None,
+        events: &[fits!(1, Empty, 0), fits!(2, Empty, 0)],
+        matches: "",
+    },
+    Example {
+        shows: "two items may take the key from two fields",
+        stages: 2,
+        span: None,
+        events: &[fits!(1, Seven, 1), fits!(2, Seven, 2)],
+        matches: "7 1 2;",
+    },
+    Example {
+        shows: "an event may stand on two stages",
+        stages: 2,
+        span: None,
+        events: &[fits!(1, Empty, 3), fits!(2, Empty, 3), fits!(3, Empty, 3)],
+        matches: " 1 2; 2 3;",
+    },
+];
 
-#[test]
-fn a_stage_that_runs(rt: HostRuntime) -> Result<(), Fail> {
-    let process = 7;
-    let events = [
-        fits(1, Name::Empty, process),
-        fits(2, Name::Empty, process),
-        fits(3, Name::Empty, process),
-        fits(4, Name::Empty, process),
-        fits(5, Name::Empty, 8),
-    ];
-    check(&rt, rt.alloc(), 4, None, &events, " 2 3 4 5;")?;
+/// Sees that an example's events have its matches.
+fn check<R: Abort>(rt: &R, alloc: Global, row: &Example) -> Result<(), Fail> {
+    let found = shown(rt, alloc, row.stages, row.span, row.events)?;
+    assert_eq!(rt; (row.shows, found.as_str()), (row.shows, row.matches));
     Ok(())
 }
 
 #[test]
-fn until(rt: HostRuntime) -> Result<(), Fail> {
-    let between = [
-        fits(1, Name::Empty, 1),
-        ends(2, Name::Empty, 0),
-        fits(3, Name::Empty, 2),
-    ];
-    check(&rt, rt.alloc(), 2, None, &between, "")?;
-    let later = [
-        fits(1, Name::Empty, 1),
-        fits(2, Name::Empty, 2),
-        ends(3, Name::Empty, 0),
-    ];
-    check(&rt, rt.alloc(), 2, None, &later, " 1 2;")?;
-    let at_once = [fits(1, Name::Empty, 1), ends(2, Name::Empty, 2)];
-    check(&rt, rt.alloc(), 2, None, &at_once, "")
-}
-
-#[test]
-fn maxspan_is_inclusive(rt: HostRuntime) -> Result<(), Fail> {
-    let span = Some(10 * SECOND);
-    let just = [fits(0, Name::Empty, 1), fits(10 * SECOND, Name::Empty, 2)];
-    check(&rt, rt.alloc(), 2, span, &just, " 1 2;")?;
-    let late = [
-        fits(0, Name::Empty, 1),
-        fits(10 * SECOND + 1, Name::Empty, 2),
-    ];
-    check(&rt, rt.alloc(), 2, span, &late, "")
-}
-
-#[test]
-fn keys(rt: HostRuntime) -> Result<(), Fail> {
-    // A key field that may be missing gives the key null, and one that may not gives none.
-    let missing = [fits(1, Name::Null, 1), fits(2, Name::Null, 2)];
-    check(&rt, rt.alloc(), 2, None, &missing, "null 1 2;")?;
-    let none = [fits(1, Name::Empty, 0), fits(2, Name::Empty, 0)];
-    check(&rt, rt.alloc(), 2, None, &none, "")?;
-    // Two items may take the key from two fields.
-    let by_item = [fits(1, Name::Seven, 1), fits(2, Name::Seven, 2)];
-    check(&rt, rt.alloc(), 2, None, &by_item, "7 1 2;")?;
-    Ok(())
-}
-
-#[test]
-fn an_event_may_stand_on_two_stages(rt: HostRuntime) -> Result<(), Fail> {
-    let both = 3;
-    let events = [
-        fits(1, Name::Empty, both),
-        fits(2, Name::Empty, both),
-        fits(3, Name::Empty, both),
-    ];
-    check(&rt, rt.alloc(), 2, None, &events, " 1 2; 2 3;")?;
+fn the_look_back_finds_the_matches(rt: HostRuntime) -> Result<(), Fail> {
+    for row in EXAMPLES {
+        check(&rt, rt.alloc(), row)?;
+    }
     Ok(())
 }

@@ -6,7 +6,7 @@ ghost use Rattle.eql_auto.specs.Machine.{AllBefore};
 ghost use Rattle.eql_laws.specs.Shapes.{HasStageBefore, IsFull};
 ghost use Rattle.eql_part.specs.KeyTables.{ComesAfterAll};
 
-use crate::lookback::{Event, Name, ends, fits, item_of, push_chain, push_key, push_matches};
+use crate::lookback::{Event, ends, fits, item_of, push_chain, push_key, push_matches};
 use eql_auto::Steps;
 use eql_part::Keys;
 use eql_values::{Holder, Holders, Matches, Memory, OrderKey};
@@ -108,15 +108,25 @@ struct Played {
     pending: Option<&'static str>,
 }
 
-/// An event at as many nanoseconds as its line, that completes no match.
-fn begins(line: u32, name: Name, stages: u128) -> Played {
-    Played {
-        line,
-        event: fits(i128::from(line), name, stages),
-        matched: "",
-        pending: None,
-    }
+/// The event of a line, that completes no match where nothing else is said.
+macro_rules! played {
+    ($line:expr, $event:expr $(, $field:ident: $value:expr)* $(,)?) => {
+        Played {
+            line: $line,
+            event: $event,
+            $($field: $value,)*
+            ..NOTHING
+        }
+    };
 }
+
+/// No event of note.
+const NOTHING: Played = Played {
+    line: 0,
+    event: fits!(0, Empty, 0),
+    matched: "",
+    pending: None,
+};
 
 /// The keys and the lines of the matches that an event completes.
 fn matched_by<R: Abort, L: Ledger>(
@@ -164,36 +174,62 @@ fn play_each<R: Abort, L: Ledger>(
 
 /// The first eight lines of the syntax reference's example "How sequence queries handle matches" leave three sequences
 /// pending, and the ninth completes one of them. An until item then ends the other of its key.
+static EXAMPLE: &[Played] = &[
+    played!(1, fits!(1, Root, 1)),
+    played!(2, fits!(2, Root, 1)),
+    played!(3, fits!(3, Elkbee, 2)),
+    played!(4, fits!(4, Root, 2)),
+    played!(5, fits!(5, Root, 2)),
+    played!(6, fits!(6, Elkbee, 1)),
+    played!(7, fits!(7, Root, 1)),
+    played!(
+        8,
+        fits!(8, Elkbee, 2),
+        pending: Some("elkbee 2 6 8;root 1 7;root 2 2 4;"),
+    ),
+    played!(
+        9,
+        fits!(9, Root, 4),
+        matched: "root 2 4 9;",
+        pending: Some("elkbee 2 6 8;root 1 7;"),
+    ),
+    played!(10, ends!(10, Root, 0), pending: Some("elkbee 2 6 8;")),
+];
+
+/// The event that completes the other sequence.
+static LAST: &[Played] = &[played!(
+    10,
+    fits!(10, Elkbee, 4),
+    matched: "elkbee 6 8 10;",
+    pending: Some(""),
+)];
+
+/// Events that begin sequences of three keys.
+static BEGIN: &[Played] = &[
+    played!(1, fits!(0, Root, 1)),
+    played!(5, fits!(5, Elkbee, 1)),
+    played!(20, fits!(20, Nobody, 1)),
+];
+
+/// Keys that are alike in their first sixteen bytes.
+static ALIKE: &[Played] = &[
+    played!(1, fits!(1, Shop, 1)),
+    played!(2, fits!(2, Gate, 1)),
+    played!(
+        3,
+        fits!(3, Root, 1),
+        pending: Some("root 1 3;service-account-of-gate 1 2;service-account-of-shop 1 1;"),
+    ),
+];
+
+/// Plays the example, and what is pending behind it in another part.
 fn play_example<R: Abort, L: Ledger>(
     rt: &R,
     alloc: Global,
     keys: &mut Keys<L>,
     steps: &mut Steps<L>,
 ) -> Result<(), Fail> {
-    let rows = [
-        begins(1, Name::Root, 1),
-        begins(2, Name::Root, 1),
-        begins(3, Name::Elkbee, 2),
-        begins(4, Name::Root, 2),
-        begins(5, Name::Root, 2),
-        begins(6, Name::Elkbee, 1),
-        begins(7, Name::Root, 1),
-        Played {
-            pending: Some("elkbee 2 6 8;root 1 7;root 2 2 4;"),
-            ..begins(8, Name::Elkbee, 2)
-        },
-        Played {
-            matched: "root 2 4 9;",
-            pending: Some("elkbee 2 6 8;root 1 7;"),
-            ..begins(9, Name::Root, 4)
-        },
-        Played {
-            event: ends(10, Name::Root, 0),
-            pending: Some("elkbee 2 6 8;"),
-            ..begins(10, Name::Root, 0)
-        },
-    ];
-    play_each(rt, alloc, keys, &rows, steps)?;
+    play_each(rt, alloc, keys, EXAMPLE, steps)?;
     assert_eq!(rt; keys.machines(), 1);
     goes_on(rt, alloc, keys, steps)
 }
@@ -221,12 +257,7 @@ fn completes<R: Abort, L: Ledger>(
     steps: &mut Steps<L>,
 ) -> Result<(), Fail> {
     holds(rt, alloc, keys, "elkbee 2 6 8;")?;
-    let last = Played {
-        matched: "elkbee 6 8 10;",
-        pending: Some(""),
-        ..begins(10, Name::Elkbee, 4)
-    };
-    play_each(rt, alloc, keys, &[last], steps)
+    play_each(rt, alloc, keys, LAST, steps)
 }
 
 fn check_example<R: Abort, L: Ledger>(rt: &R, alloc: Global, blank: Blank) -> Result<(), Fail>
@@ -240,6 +271,14 @@ fn check_example<R: Abort, L: Ledger>(rt: &R, alloc: Global, blank: Blank) -> Re
     played
 }
 
+/// Times in nanoseconds, and what is pending once the table was swept at them.
+static SWEEPS: &[(i128, &str)] = &[
+    (10, "elkbee 1 5;nobody 1 20;root 1 1;"),
+    (11, "elkbee 1 5;nobody 1 20;"),
+    (15, "elkbee 1 5;nobody 1 20;"),
+    (16, "nobody 1 20;"),
+];
+
 /// With a span of 10 nanoseconds sequences that began at 0 and 5 are alive at 10 and 15, and not a nanosecond later.
 fn sweep_each<R: Abort, L: Ledger>(
     rt: &R,
@@ -247,21 +286,8 @@ fn sweep_each<R: Abort, L: Ledger>(
     keys: &mut Keys<L>,
     steps: &mut Steps<L>,
 ) -> Result<(), Fail> {
-    let rows = [
-        Played {
-            event: fits(0, Name::Root, 1),
-            ..begins(1, Name::Root, 1)
-        },
-        begins(5, Name::Elkbee, 1),
-        begins(20, Name::Nobody, 1),
-    ];
-    play_each(rt, alloc, keys, &rows, steps)?;
-    for (time, expected) in [
-        (10, "elkbee 1 5;nobody 1 20;root 1 1;"),
-        (11, "elkbee 1 5;nobody 1 20;"),
-        (15, "elkbee 1 5;nobody 1 20;"),
-        (16, "nobody 1 20;"),
-    ] {
+    play_each(rt, alloc, keys, BEGIN, steps)?;
+    for &(time, expected) in SWEEPS {
         keys.sweep(time, steps);
         holds(rt, alloc, keys, expected)?;
     }
@@ -286,15 +312,7 @@ fn check_alike<R: Abort, L: Ledger>(rt: &R, alloc: Global, blank: Blank) -> Resu
     let (_book, share) = blank.open::<L>();
     let mut steps = Steps::of(share);
     let mut keys = nothing(alloc, 2, None)?;
-    let rows = [
-        begins(1, Name::Shop, 1),
-        begins(2, Name::Gate, 1),
-        Played {
-            pending: Some("root 1 3;service-account-of-gate 1 2;service-account-of-shop 1 1;"),
-            ..begins(3, Name::Root, 1)
-        },
-    ];
-    let played = play_each(rt, alloc, &mut keys, &rows, &mut steps);
+    let played = play_each(rt, alloc, &mut keys, ALIKE, &mut steps);
     drop(keys);
     played
 }

@@ -6,8 +6,8 @@ ghost use Rattle.eql_laws.specs.Together.{AllBelow, NoneBelow};
 ghost use Rattle.eql_parts.specs.PartSteps.{CanDeliver};
 
 use crate::lookback::{
-    Event, Name, REFERENCE_MATCHES, SECOND, ends, fits, items_of, key_of, push_chain, push_key,
-    push_matches, reference_events, shown,
+    Event, Name, REFERENCE_EVENTS, REFERENCE_MATCHES, SECOND, ends, fits, items_of, key_of,
+    push_chain, push_key, push_matches, shown,
 };
 use eql_auto::Steps;
 use eql_lookback::ascend;
@@ -155,14 +155,15 @@ fn show_all(alloc: Global, held: &Holders) -> Result<String, AllocError> {
     Ok(shown)
 }
 
-/// Events of a log, how many of them are delivered at once and up to which mark, and how many are played in a turn.
-#[derive(Clone, Copy)]
-struct Row<'a> {
+/// Events of a log, how many of them are delivered at once and up to which mark, how many are played in a turn, and
+/// the matches.
+struct Row {
     stages: u32,
     span: Option<i128>,
-    events: &'a [Event],
-    batches: &'a [(u32, Mark)],
+    events: &'static [Event],
+    batches: &'static [(u32, Mark)],
     max: u32,
+    matches: &'static str,
 }
 
 /// Shows the matches that were found since they were last collected.
@@ -182,25 +183,25 @@ fn show_found<L: Ledger>(
 fn show_batches<R: Abort, L: Ledger>(
     rt: &R,
     alloc: Global,
-    row: Row<'_>,
+    row: &Row,
     part: &mut Part<L>,
     last: &mut Mark,
     text: &mut String,
     steps: &mut Steps<L>,
 ) -> Result<(), Fail>
-    requires from { 1 ≤ row.max }
-    requires to { row.max ≤ 4096 }
+    requires from { 1 ≤ row.now.max }
+    requires to { row.now.max ≤ 4096 }
     requires last { last.old ≡ part.old.state.last }
 {
     let mut line = 0u32;
     let mut rest = row.events;
-    for (count, mark) in row.batches {
-        let (events, later) = rest.split_at_checked(*count as usize).ok_or("lines")?;
+    for &(count, mark) in row.batches {
+        let (events, later) = rest.split_at_checked(count as usize).ok_or("lines")?;
         let items = items_of(alloc, line, events)?;
-        line = line.saturating_add(*count);
+        line = line.saturating_add(count);
         rest = later;
-        deliver(rt, part, last, items, *mark, steps)?;
-        assert_eq!(rt; play_all(part, row.max, steps)?, *count);
+        deliver(rt, part, last, items, mark, steps)?;
+        assert_eq!(rt; play_all(part, row.max, steps)?, count);
         show_found(part, text, steps)?;
     }
     assert!(rt; rest.is_empty());
@@ -211,7 +212,7 @@ fn show_batches<R: Abort, L: Ledger>(
 fn found_in_batches<R: Abort, L: Ledger>(
     rt: &R,
     alloc: Global,
-    row: Row<'_>,
+    row: &Row,
     blank: Blank,
 ) -> Result<String, Fail>
     requires { (blank.name ≡ L.name) × (blank.parts ≡ L.parts) × (0 < L.parts) }
@@ -231,22 +232,19 @@ fn found_in_batches<R: Abort, L: Ledger>(
 }
 
 /// A part finds by batches what the look-back finds in the whole.
-fn check_row<R: Abort>(rt: &R, alloc: Global, row: Row<'_>, expected: &str) -> Result<(), Fail> {
+fn check_row<R: Abort>(rt: &R, alloc: Global, row: &Row) -> Result<(), Fail> {
     let whole = shown(rt, alloc, row.stages, row.span, row.events)?;
-    assert_eq!(rt; whole.as_str(), expected);
+    assert_eq!(rt; whole.as_str(), row.matches);
     let pieces = found_in_batches::<R, Brand>(rt, alloc, row, Blank::new(1))?;
-    assert_eq!(rt; pieces.as_str(), expected);
+    assert_eq!(rt; pieces.as_str(), row.matches);
     Ok(())
 }
 
-#[test]
-fn batches_find_what_the_whole_finds(rt: HostRuntime) -> Result<(), Fail> {
-    let alloc = rt.alloc();
-    let events = reference_events();
-    let reference = Row {
+static ROWS: &[Row] = &[
+    Row {
         stages: 3,
         span: None,
-        events: &events,
+        events: REFERENCE_EVENTS,
         batches: &[
             (2, Mark::At(3)),
             (3, Mark::At(6)),
@@ -255,54 +253,56 @@ fn batches_find_what_the_whole_finds(rt: HostRuntime) -> Result<(), Fail> {
             (2, Mark::End),
         ],
         max: 2,
-    };
-    check_row(&rt, alloc, reference, REFERENCE_MATCHES)?;
-    let singly = Row {
+        matches: REFERENCE_MATCHES,
+    },
+    Row {
+        stages: 3,
+        span: None,
+        events: REFERENCE_EVENTS,
         batches: &[(11, Mark::At(100)), (0, Mark::End)],
         max: 1,
-        ..reference
-    };
-    check_row(&rt, alloc, singly, REFERENCE_MATCHES)?;
-    let until = Row {
+        matches: REFERENCE_MATCHES,
+    },
+    Row {
         stages: 2,
         span: None,
-        events: &[
-            fits(1, Name::Empty, 1),
-            ends(2, Name::Empty, 0),
-            fits(3, Name::Empty, 2),
-        ],
+        events: &[fits!(1, Empty, 1), ends!(2, Empty, 0), fits!(3, Empty, 2)],
         batches: &[(1, Mark::At(2)), (1, Mark::At(3)), (1, Mark::End)],
         max: 4096,
-    };
-    check_row(&rt, alloc, until, "")?;
-    let just = Row {
+        matches: "",
+    },
+    Row {
         stages: 2,
         span: Some(10 * SECOND),
-        events: &[fits(0, Name::Empty, 1), fits(10 * SECOND, Name::Empty, 2)],
+        events: &[fits!(0, Empty, 1), fits!(10 * SECOND, Empty, 2)],
         batches: &[(1, Mark::At(10 * SECOND)), (1, Mark::End)],
         max: 7,
-    };
-    check_row(&rt, alloc, just, " 1 2;")?;
-    let late = Row {
-        events: &[
-            fits(0, Name::Empty, 1),
-            fits(10 * SECOND + 1, Name::Empty, 2),
-        ],
-        ..just
-    };
-    check_row(&rt, alloc, late, "")?;
-    let both = Row {
+        matches: " 1 2;",
+    },
+    Row {
+        stages: 2,
+        span: Some(10 * SECOND),
+        events: &[fits!(0, Empty, 1), fits!(10 * SECOND + 1, Empty, 2)],
+        batches: &[(1, Mark::At(10 * SECOND)), (1, Mark::End)],
+        max: 7,
+        matches: "",
+    },
+    Row {
         stages: 2,
         span: None,
-        events: &[
-            fits(1, Name::Empty, 3),
-            fits(2, Name::Empty, 3),
-            fits(3, Name::Empty, 3),
-        ],
+        events: &[fits!(1, Empty, 3), fits!(2, Empty, 3), fits!(3, Empty, 3)],
         batches: &[(2, Mark::At(3)), (1, Mark::At(4))],
         max: 1,
-    };
-    check_row(&rt, alloc, both, " 1 2; 2 3;")
+        matches: " 1 2; 2 3;",
+    },
+];
+
+#[test]
+fn batches_find_what_the_whole_finds(rt: HostRuntime) -> Result<(), Fail> {
+    for row in ROWS {
+        check_row(&rt, rt.alloc(), row)?;
+    }
+    Ok(())
 }
 
 /// Sees that these sequences are pending.
@@ -335,6 +335,12 @@ fn is_done<R: Abort, L: Ledger>(
     Ok(())
 }
 
+/// The event that begins a sequence.
+static FIRST: &[Event] = &[fits!(0, Root, 1)];
+
+/// Marks in nanoseconds, and what is pending at them.
+static PENDING_AT: &[(i128, &str)] = &[(10, "root 1;"), (11, "")];
+
 /// A turn of an empty inbox is idle. A mark is done once its events were played. With a span of 10 nanoseconds a sequence
 /// that began at 0 is alive at the mark of 10, and dropped at that of 11.
 fn check_part<R: Abort, L: Ledger>(
@@ -347,14 +353,14 @@ fn check_part<R: Abort, L: Ledger>(
     requires last { last.old ≡ part.old.state.last }
 {
     assert_eq!(rt; play_all(part, 1, steps)?, 0);
-    let first = items_of(alloc, 0, &[fits(0, Name::Root, 1)])?;
+    let first = items_of(alloc, 0, FIRST)?;
     deliver(rt, part, last, first, Mark::At(5), steps)?;
     is_done(rt, part, Mark::Start, steps)?;
     holds(rt, alloc, part, "", steps)?;
     assert_eq!(rt; play_all(part, 1, steps)?, 1);
     is_done(rt, part, Mark::At(5), steps)?;
     holds(rt, alloc, part, "root 1;", steps)?;
-    for (time, expected) in [(10, "root 1;"), (11, "")] {
+    for &(time, expected) in PENDING_AT {
         let nothing = Items::of(Vec::new(alloc));
         deliver(rt, part, last, nothing, Mark::At(time), steps)?;
         holds(rt, alloc, part, expected, steps)?;
@@ -381,15 +387,17 @@ fn marks_are_done_and_drop_the_dead(rt: HostRuntime) -> Result<(), Fail> {
 }
 
 /// The parts of some keys, by the same hash in Python.
+static KEY_PARTS: &[(Name, u32)] = &[
+    (Name::Root, 8),
+    (Name::Elkbee, 11),
+    (Name::Null, 0),
+    (Name::Seven, 1),
+    (Name::Empty, 0),
+];
+
 #[test]
 fn keys_have_their_parts(rt: HostRuntime) -> Result<(), Fail> {
-    for (name, part) in [
-        (Name::Root, 8),
-        (Name::Elkbee, 11),
-        (Name::Null, 0),
-        (Name::Seven, 1),
-        (Name::Empty, 0),
-    ] {
+    for &(name, part) in KEY_PARTS {
         let key = key_of(rt.alloc(), name)?;
         assert_eq!(rt; part_of(&key), part);
     }

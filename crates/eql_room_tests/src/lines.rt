@@ -88,18 +88,22 @@ fn lines_are_told(rt: HostRuntime) -> Result<(), Fail> {
     Ok(())
 }
 
-/// A line of as many bytes as are read as JSON, and one of one byte more.
+/// What an event's line is with blanks behind it, up to so many bytes.
+fn told_padded(alloc: Global, bytes: usize) -> Result<String, Fail> {
+    let event = b"{\"@timestamp\":1,\"event\":{\"category\":\"process\"}}";
+    let mut line = event.as_slice().to_vec(alloc)?;
+    line.resize(bytes, b' ')?;
+    told(alloc, &line)
+}
+
+/// As many bytes as are read as JSON, and one more, with what the line is.
+static LENGTHS: &[(usize, &str)] = &[(1_048_576, "1000000 process"), (1_048_577, "other")];
+
 #[test]
 fn the_longest_line(rt: HostRuntime) -> Result<(), Fail> {
-    let alloc = rt.alloc();
-    let mut line = Vec::new(alloc);
-    line.extend_from_slice(b"{\"@timestamp\":1,\"event\":{\"category\":\"process\"}}")?;
-    for _ in 47..1_048_576 {
-        line.push(b' ')?;
+    for &(bytes, expected) in LENGTHS {
+        let line = told_padded(rt.alloc(), bytes)?;
+        assert_eq!(rt; line.as_str(), expected);
     }
-    assert_eq!(rt; line.len(), 1_048_576);
-    assert_eq!(rt; told(alloc, &line)?.as_str(), "1000000 process");
-    line.push(b' ')?;
-    assert_eq!(rt; told(alloc, &line)?.as_str(), "other");
     Ok(())
 }

@@ -21,15 +21,24 @@ struct Take {
     gives: Option<&'static [u8]>,
 }
 
-fn gives(room: usize, bytes: &'static [u8]) -> Take {
-    Take {
-        room,
-        gives: Some(bytes),
-    }
+/// A take with this room that gives these bytes.
+macro_rules! gives {
+    ($room:expr, $bytes:expr) => {
+        Take {
+            room: $room,
+            gives: Some($bytes),
+        }
+    };
 }
 
-fn fails(room: usize) -> Take {
-    Take { room, gives: None }
+/// A take with this room that fails.
+macro_rules! fails {
+    ($room:expr) => {
+        Take {
+            room: $room,
+            gives: None,
+        }
+    };
 }
 
 // Takes of a source in turn, with what each gives.
@@ -63,17 +72,19 @@ fn file(
     })
 }
 
+/// Takes of the bytes `abcde` in pieces of two, of which the second fails.
+static PIECES: &[Take] = &[
+    gives!(4, b"ab"),
+    fails!(4),
+    gives!(1, b"c"),
+    gives!(4, b"de"),
+    gives!(4, b""),
+];
+
 #[test]
 fn memory_source_gives_pieces(rt: HostRuntime) -> Result<(), Fail> {
     let mut source = MemSource::new(file(rt.alloc(), "log", b"abcde", 2, &[2])?);
-    let takes = [
-        gives(4, b"ab"),
-        fails(4),
-        gives(1, b"c"),
-        gives(4, b"de"),
-        gives(4, b""),
-    ];
-    run_takes(&rt, &mut source, &takes);
+    run_takes(&rt, &mut source, PIECES);
     assert_eq!(rt; source.faults(), 1);
     Ok(())
 }
@@ -105,11 +116,13 @@ impl ReadsAlike for Faulty {
     ghost alike = { λ reader other silent. refl };
 }
 
+/// Takes of such a reader.
+static AROUND_A_FAULT: &[Take] = &[gives!(4, b"x"), fails!(4), gives!(4, b"x"), gives!(4, b"")];
+
 #[test]
 fn reader_that_fails_is_not_at_its_end(rt: HostRuntime) -> Result<(), Fail> {
     let mut source = FileSource::new(Faulty { reads: 0 });
-    let takes = [gives(4, b"x"), fails(4), gives(4, b"x"), gives(4, b"")];
-    run_takes(&rt, &mut source, &takes);
+    run_takes(&rt, &mut source, AROUND_A_FAULT);
     assert_eq!(rt; source.faults(), 1);
     Ok(())
 }
@@ -214,21 +227,48 @@ fn ask<R: Abort, H: Shelf>(
     }
 }
 
-#[test]
-fn memory_shelf_lends_files(rt: HostRuntime) -> Result<(), Fail> {
-    let alloc = rt.alloc();
-    let mut files = Vec::new(alloc);
-    files.push(file(alloc, "log", b"x", 1, &[1])?)?;
-    let disk = empty_disk(alloc, &[], None)?;
-    let mut shelf = MemShelf::new(alloc, files, disk, Vec::from_slice(alloc, &[3])?)?;
-    assert_eq!(rt; ask(&rt, alloc, &mut shelf, "none", &[])?, Said::Absent);
-    let takes = [fails(2), gives(2, b"x"), gives(2, b"")];
-    assert_eq!(rt; ask(&rt, alloc, &mut shelf, "log", &takes)?, Said::Lent);
-    assert_eq!(rt; shelf.faults(), 1);
-    assert_eq!(rt; ask(&rt, alloc, &mut shelf, "log", &[])?, Said::Failed);
-    assert_eq!(rt; shelf.faults(), 2);
+// Sees what a shelf says of a name, and how many faults it counts then.
+fn see_asked<R: Abort, H: Shelf>(
+    rt: &R,
+    alloc: Global,
+    shelf: &mut H,
+    name: &str,
+    takes: &[Take],
+    said: Said,
+    faults: u64,
+) -> Result<(), Fail> {
+    let answer = ask(rt, alloc, shelf, name, takes)?;
+    assert!(rt; answer == said && shelf.faults() == faults, "{name}");
     Ok(())
 }
+
+/// Takes of a file of one byte, of which the first fails.
+static BEHIND_A_FAULT: &[Take] = &[fails!(2), gives!(2, b"x"), gives!(2, b"")];
+
+// Sees that a shelf has a file of one byte whose first take fails, and that its third call fails.
+fn lends_files<R: Abort, H: Shelf>(rt: &R, alloc: Global, shelf: &mut H) -> Result<(), Fail> {
+    see_asked(rt, alloc, shelf, "none", &[], Said::Absent, 0)?;
+    see_asked(rt, alloc, shelf, "log", BEHIND_A_FAULT, Said::Lent, 1)?;
+    see_asked(rt, alloc, shelf, "log", &[], Said::Failed, 2)
+}
+
+// A shelf of such a file.
+fn shelf_of_one(alloc: Global) -> Result<MemShelf, Fail> {
+    let files = vec![in alloc; file(alloc, "log", b"x", 1, &[1])?]?;
+    let disk = empty_disk(alloc, &[], None)?;
+    Ok(MemShelf::new(alloc, files, disk, Vec::from_slice(alloc, &[3])?)?)
+}
+
+#[test]
+fn memory_shelf_lends_files(rt: HostRuntime) -> Result<(), Fail> {
+    let mut shelf = shelf_of_one(rt.alloc())?;
+    let lends = lends_files(&rt, rt.alloc(), &mut shelf);
+    drop(shelf);
+    lends
+}
+
+/// Takes of a file of three bytes.
+static WHOLE: &[Take] = &[gives!(2, b"ab"), gives!(2, b"c"), gives!(2, b"")];
 
 #[test]
 fn file_shelf_opens_files(rt: HostRuntime) -> Result<(), Fail> {
@@ -236,13 +276,10 @@ fn file_shelf_opens_files(rt: HostRuntime) -> Result<(), Fail> {
     let path = format!(in alloc; "/tmp/eql_outside_{}", process::id(rt.process()))?;
     fs::write(&rt, &path, "abc")?;
     let mut shelf = FileShelf::new(rt.clone()?);
-    let takes = [gives(2, b"ab"), gives(2, b"c"), gives(2, b"")];
-    let said = ask(&rt, alloc, &mut shelf, &path, &takes)?;
+    let said = ask(&rt, alloc, &mut shelf, &path, WHOLE)?;
     fs::remove_file(&rt, &path)?;
     assert_eq!(rt; said, Said::Lent);
-    assert_eq!(rt; ask(&rt, alloc, &mut shelf, &path, &[])?, Said::Absent);
-    assert_eq!(rt; shelf.faults(), 0);
-    Ok(())
+    see_asked(&rt, alloc, &mut shelf, &path, &[], Said::Absent, 0)
 }
 
 /// A name that is no plain file, what a file shelf says of it, and the faults that are counted then.
@@ -257,10 +294,7 @@ struct Named {
 static NAMES: &[Named] = &[
     Named {
         name: "/",
-        takes: &[Take {
-            room: 1,
-            gives: None,
-        }],
+        takes: &[fails!(1)],
         says: Said::Lent,
         faults: 1,
     },
@@ -278,36 +312,25 @@ static NAMES: &[Named] = &[
     },
     Named {
         name: "/dev/null",
-        takes: &[Take {
-            room: 1,
-            gives: Some(b""),
-        }],
+        takes: &[gives!(1, b"")],
         says: Said::Lent,
         faults: 0,
     },
 ];
 
-// Sees what a new shelf says of a name, and how many faults it counts then.
-fn see_named<R: Abort, H: Shelf>(
-    rt: &R,
-    alloc: Global,
-    shelf: &mut H,
-    named: &Named,
-) -> Result<(), Fail> {
-    let said = ask(rt, alloc, shelf, named.name, named.takes)?;
-    assert!(rt;
-        said == named.says && shelf.faults() == named.faults,
-        "{}",
-        named.name
-    );
-    Ok(())
-}
-
 #[test]
 fn file_shelf_tells_faults_from_missing_files(rt: HostRuntime) -> Result<(), Fail> {
     for named in NAMES {
         let mut shelf = FileShelf::new(rt.clone()?);
-        see_named(&rt, rt.alloc(), &mut shelf, named)?;
+        see_asked(
+            &rt,
+            rt.alloc(),
+            &mut shelf,
+            named.name,
+            named.takes,
+            named.says,
+            named.faults,
+        )?;
     }
     Ok(())
 }

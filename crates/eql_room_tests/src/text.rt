@@ -6,6 +6,7 @@ use eql_text::{
 };
 use eql_values::Text;
 use std::alloc::{AllocError, Global};
+use std::process::Abort;
 use std::test::Fail;
 
 fn text(alloc: Global, characters: &str) -> Result<Text, AllocError> {
@@ -252,17 +253,44 @@ fn repeated(alloc: Global, count: u32, end: &str) -> Result<Text, AllocError> {
     Ok(Text::of(text))
 }
 
+/// A long text of one letter, a part that it nearly has, and that part as a pattern.
+fn long_texts(alloc: Global) -> Result<(Text, Text, Text), AllocError> {
+    let long = repeated(alloc, 200_000, "")?;
+    let part = repeated(alloc, 20_000, "b")?;
+    let wide = Text::of(format!(in alloc; "*{}*", part.text())?);
+    Ok((long, part, wide))
+}
+
+/// Sees whether a pattern fits a long text.
+fn see_fits(
+    rt: &impl Abort,
+    alloc: Global,
+    pattern: &str,
+    long: &Text,
+    fold: bool,
+    want: bool,
+) -> Result<(), Fail> {
+    assert_eq!(rt; wildcard(&text(alloc, pattern)?, long, fold), want);
+    Ok(())
+}
+
+/// Searches a long text in each way, with case as it is or folded.
+fn search_long(
+    rt: &impl Abort,
+    alloc: Global,
+    (long, part, wide): &(Text, Text, Text),
+    fold: bool,
+) -> Result<(), Fail> {
+    assert!(rt; !contains(long, part, fold));
+    assert_eq!(rt; index_of(long, part, 100, fold), None);
+    assert!(rt; !wildcard(wide, long, fold));
+    see_fits(rt, alloc, "*a*a*a*a*b", long, fold, false)?;
+    see_fits(rt, alloc, "*a*a*a*a*", long, fold, true)
+}
+
 #[test]
 fn no_search_takes_long(rt: HostRuntime) -> Result<(), Fail> {
-    let long = repeated(rt.alloc(), 200_000, "")?;
-    let part = repeated(rt.alloc(), 20_000, "b")?;
-    let wide = Text::of(format!(in rt.alloc(); "*{}*", part.text())?);
-    for fold in [false, true] {
-        assert!(rt; !contains(&long, &part, fold));
-        assert_eq!(rt; index_of(&long, &part, 100, fold), None);
-        assert!(rt; !wildcard(&text(rt.alloc(), "*a*a*a*a*b")?, &long, fold));
-        assert!(rt; wildcard(&text(rt.alloc(), "*a*a*a*a*")?, &long, fold));
-        assert!(rt; !wildcard(&wide, &long, fold));
-    }
-    Ok(())
+    let texts = long_texts(rt.alloc())?;
+    search_long(&rt, rt.alloc(), &texts, false)?;
+    search_long(&rt, rt.alloc(), &texts, true)
 }

@@ -2,7 +2,7 @@
 use crate::cuts::{damaged_disk, disk_in, last_disk, unfit_disk};
 use crate::kept::{kept_in, of_example};
 use crate::row::{Object, Row, Told, Words, ended, found};
-use crate::run::{Ran, areas_after, check, check_on, compare, disk_of, run_on, told_of};
+use crate::run::{Areas, Ran, areas_after, check, check_on, compare, disk_of, run_on, told_of};
 use crate::sequences::{ELEVEN, REFERENCE, REFERENCE_LISTS};
 use crate::text::Piece::{Bytes, Spaced, Starts};
 use crate::text::{Pieces, add_lines};
@@ -135,14 +135,22 @@ static REFUSED: &[Row] = &[
     ),
 ];
 
+/// Sees that the second cut of the example is kept, and what later runs make of it.
+fn see_later_runs<R: Threads + Wait + Sync + Abort>(
+    rt: &R,
+    alloc: Global,
+    areas: &Areas,
+) -> Result<(), Fail> {
+    let [_, second] = of_example();
+    assert_eq!(rt; kept_in(alloc, areas)?, Some(second));
+    check_on(rt, alloc, RESUMED, areas)?;
+    check_on(rt, alloc, REFUSED, areas)
+}
+
 #[test]
 fn later_runs_go_on(rt: HostRuntime) -> Result<(), Fail> {
-    let alloc = rt.alloc();
-    let areas = areas_after(&rt, alloc, &FIRST_RUN)?;
-    let [_, second] = of_example();
-    assert_eq!(rt; kept_in(alloc, &areas)?, Some(second));
-    check_on(&rt, alloc, RESUMED, &areas)?;
-    check_on(&rt, alloc, REFUSED, &areas)
+    let areas = areas_after(&rt, rt.alloc(), &FIRST_RUN)?;
+    see_later_runs(&rt, rt.alloc(), &areas)
 }
 
 /// Whether a text is the lines of the reference's example from this one on.
@@ -283,15 +291,19 @@ static DAMAGED_BEFORE: &[Row] = &[second_run!("a damaged area that is older")];
 /// A run on a disk whose cut can't be gone on from.
 static UNFIT: &[Row] = &[not_resumed!("a cut that fits no run", "checkpoint: Unfit")];
 
+/// A damaged area, and in the other one the second cut of the first run, with generation 2.
+fn damaged_before<R: Threads + Wait + Sync + Abort>(rt: &R, alloc: Global) -> Result<Areas, Fail> {
+    let mut areas = areas_after(rt, alloc, &FIRST_RUN)?;
+    areas.first = damaged_disk(alloc)?.first;
+    Ok(areas)
+}
+
 #[test]
 fn disks_fail_and_are_damaged(rt: HostRuntime) -> Result<(), Fail> {
     let alloc = rt.alloc();
     check(&rt, alloc, FAULTS)?;
-    let mut areas = damaged_disk(alloc)?;
-    check_on(&rt, alloc, DAMAGED, &areas)?;
-    // The second cut of the first run stands in area 1 with generation 2.
-    areas.second = areas_after(&rt, alloc, &FIRST_RUN)?.second;
-    check_on(&rt, alloc, DAMAGED_BEFORE, &areas)?;
+    check_on(&rt, alloc, DAMAGED, &damaged_disk(alloc)?)?;
+    check_on(&rt, alloc, DAMAGED_BEFORE, &damaged_before(&rt, alloc)?)?;
     check_on(&rt, alloc, UNFIT, &unfit_disk(alloc)?)
 }
 

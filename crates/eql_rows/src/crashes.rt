@@ -83,18 +83,19 @@ fn go_on<R: Threads + Wait + Sync + Abort>(
     };
     let disk = disk_of(alloc, areas, &[], None)?;
     let (again, _) = run_on(rt, alloc, &rest, disk, &[])?;
-    compare_run(rt, alloc, &rest, &again, &[])?;
-    see_whole(rt, alloc, crash, ran, &again)
+    see_whole(rt, alloc, crash, ran, &rest, &again)
 }
 
-/// Sees that a run and one that goes on from it wrote each line of the listing.
+/// Sees that a run that goes on gave what its row says, and that both wrote each line of the listing.
 fn see_whole<R: Abort>(
     rt: &R,
     alloc: Global,
     crash: &Crash<'_>,
     ran: &Ran,
+    rest: &Row,
     again: &Ran,
 ) -> Result<(), Fail> {
+    compare_run(rt, alloc, rest, again, &[])?;
     let whole = listed_of(alloc, &crash.second)?.len();
     let both = ran
         .out
@@ -136,16 +137,35 @@ fn stop_at<R: Threads + Wait + Sync + Abort>(
 ) -> Result<u8, Fail> {
     let disk = disk_of(alloc, &Areas::empty(alloc), &[], Some(call))?;
     let (ran, disk) = run_on(rt, alloc, &crash.first, disk, &[])?;
+    let status = ran.status;
+    let seen = see_stopped(rt, alloc, crash, &ran, &disk, put_before(call));
+    drop(disk);
+    drop(ran);
+    match seen {
+        Ok(()) => Ok(status),
+        Err(fail) => Err(fail),
+    }
+}
+
+/// Sees that a first run was done or ended by its disk, and goes on from what a crash may leave.
+fn see_stopped<R: Threads + Wait + Sync + Abort>(
+    rt: &R,
+    alloc: Global,
+    crash: &Crash<'_>,
+    ran: &Ran,
+    disk: &MemDisk,
+    put: u64,
+) -> Result<(), Fail> {
     let row = if ran.status == 0 {
         crash.first
     } else {
         crash.first.ends(6, "checkpoint disk fault")
     };
-    compare_run(rt, alloc, &row, &ran, &[])?;
+    compare_run(rt, alloc, &row, ran, &[])?;
     for choice in 0..crash.images {
-        go_on_from(rt, alloc, crash, &ran, &disk, choice, put_before(call))?;
+        go_on_from(rt, alloc, crash, ran, disk, choice, put)?;
     }
-    Ok(ran.status)
+    Ok(())
 }
 
 /// Stops the first run at each call of its disk, until it isn't stopped any more.

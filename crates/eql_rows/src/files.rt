@@ -1,9 +1,12 @@
 //! Searches in files of the system.
 use crate::run::{Ran, words_in};
 use eql_cli::{NoGate, eql_main};
-use eql_outside::{FileShelf, MemSink};
+use eql_outside::{FileShelf, MemSink, Shelf};
+use std::alloc::Global;
 use std::process::Abort;
+use std::sync::Wait;
 use std::test::Fail;
+use std::thread::Threads;
 
 /// Words, with the status and the line of each run. A folder opens, and fails at its first read. A path through a file is no
 /// file.
@@ -33,16 +36,25 @@ fn see_told<R: Abort>(rt: &R, ran: &Ran, status: u8, told: &[u8]) {
     assert_eq!(rt; ran.err.bytes().as_slice(), told);
 }
 
+/// Runs words over a shelf.
+fn run_words<R: Threads + Wait + Sync, H: Shelf>(
+    rt: &R,
+    alloc: Global,
+    line: &str,
+    shelf: &mut H,
+) -> Result<Ran, Fail> {
+    let words = words_in(alloc, line)?;
+    let out = MemSink::new(alloc, Vec::new(alloc));
+    let err = MemSink::new(alloc, Vec::new(alloc));
+    Ok(eql_main(rt, alloc, &words, shelf, out, err, &NoGate))
+}
+
 #[test]
 fn files_of_the_system_are_opened(rt: HostRuntime) -> Result<(), Fail> {
-    let alloc = rt.alloc();
-    for (line, status, told) in RUNS {
+    for &(line, status, told) in RUNS {
         let mut shelf = FileShelf::new(rt.clone()?);
-        let out = MemSink::new(alloc, Vec::new(alloc));
-        let err = MemSink::new(alloc, Vec::new(alloc));
-        let words = words_in(alloc, line)?;
-        let ran = eql_main(&rt, alloc, &words, &mut shelf, out, err, &NoGate);
-        see_told(&rt, &ran, *status, told.as_bytes());
+        let ran = run_words(&rt, rt.alloc(), line, &mut shelf)?;
+        see_told(&rt, &ran, status, told.as_bytes());
     }
     Ok(())
 }

@@ -336,6 +336,27 @@ fn is_same(
     Ok(chains.as_str() == matches && tags.as_slice() == played.given.as_slice())
 }
 
+/// The pending sequences of a new machine behind the events, where it finds these matches.
+fn pending_if_same<L: Ledger, R: Abort>(
+    rt: &R,
+    alloc: Global,
+    stages: u32,
+    span: Option<i128>,
+    items: &Items,
+    matches: &str,
+    steps: &mut Steps<L>,
+) -> Result<Option<String>, Fail>
+    requires from { 1 ≤ stages }
+    requires to { stages ≤ 256 }
+{
+    let (played, pending) = play_items(rt, alloc, stages, span, items, steps)?;
+    if is_same(alloc, matches, &played, &pending)? {
+        Ok(Some(held(alloc, &pending)?))
+    } else {
+        Ok(None)
+    }
+}
+
 /// Takes a list of events through the machine and through the look-back, compares what they find, and answers the
 /// lines of the matches and the pending sequences.
 fn compare<L: Ledger, R: Abort>(
@@ -349,12 +370,11 @@ fn compare<L: Ledger, R: Abort>(
     assert!(rt; 1 <= stages && stages <= 256);
     let items = items_of(alloc, events)?;
     let matches = look_back(rt, alloc, stages, span, &items)?;
-    let (played, pending) = play_items(rt, alloc, stages, span, &items, steps)?;
-    assert!(rt;
-        is_same(alloc, matches.as_str(), &played, &pending)?,
-        "{stages} stages, span {span:?}, {events:?}: the look-back finds {matches}"
-    );
-    Ok((matches, held(alloc, &pending)?))
+    let Some(pending) = pending_if_same(rt, alloc, stages, span, &items, matches.as_str(), steps)?
+    else {
+        panic!(rt; "{stages} stages, span {span:?}, {events:?}: the look-back finds {matches}")
+    };
+    Ok((matches, pending))
 }
 
 /// A count of probes.

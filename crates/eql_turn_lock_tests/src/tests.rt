@@ -22,13 +22,20 @@ fn a_free_lock_answers_and_closes(rt: HostRuntime) -> Result<(), Fail> {
     let Ok((lock, mut first)) = made else {
         panic!(rt; "no memory")
     };
-    let reply = deliver(&lock, &mut first, 7);
-    assert!(rt; matches!(&reply, Ok(TrayReply::Delivered)));
+    assert!(rt; matches!(deliver(&lock, &mut first, 7), Ok(TrayReply::Delivered)));
     let mut other = lock.split(&mut first);
-    let reply = take(&lock, &mut other);
-    assert!(rt; matches!(&reply, Ok(TrayReply::Taken { letter: Some(7) })));
-    let reply = lock.call(&rt, &mut other, TrayOp::Take);
-    assert!(rt; matches!(&reply, Ok(TrayReply::Taken { letter: None })));
+    assert!(rt;
+        matches!(
+            take(&lock, &mut other),
+            Ok(TrayReply::Taken { letter: Some(7) })
+        )
+    );
+    assert!(rt;
+        matches!(
+            lock.call(&rt, &mut other, TrayOp::Take),
+            Ok(TrayReply::Taken { letter: None })
+        )
+    );
     let tray = close_tray(lock, first, other);
     assert!(rt; tray.letters.is_empty());
     Ok(())
@@ -41,8 +48,12 @@ fn a_waiting_delivery_is_in(rt: HostRuntime) -> Result<(), Fail> {
     let Ok((lock, mut first)) = made else {
         panic!(rt; "no memory")
     };
-    let reply = deliver_waiting(&rt, &lock, &mut first, 9);
-    assert!(rt; matches!(&reply, Ok(TrayReply::Delivered)));
+    assert!(rt;
+        matches!(
+            deliver_waiting(&rt, &lock, &mut first, 9),
+            Ok(TrayReply::Delivered)
+        )
+    );
     let tray = lock.close(first);
     assert_eq!(rt; tray.letters.front(), Some(&9));
     Ok(())
@@ -88,8 +99,12 @@ fn an_idle_reply_is_told_by_a_look(rt: HostRuntime) -> Result<(), Fail> {
     let mut other = lock.split(&mut first);
 
     // Nobody called yet, so the operation is played. Its reply is idle.
-    let tried = take_unless_empty(&lock, &mut other);
-    assert!(rt; matches!(&tried, Tried::Played(TrayReply::Taken { letter: None })));
+    assert!(rt;
+        matches!(
+            take_unless_empty(&lock, &mut other),
+            Tried::Played(TrayReply::Taken { letter: None })
+        )
+    );
 
     // Another pass takes no turn, and has its operation back.
     let tried = lock.try_unless_idle(&mut first, TrayOp::Deliver { letter: 7 });
@@ -102,20 +117,39 @@ fn an_idle_reply_is_told_by_a_look(rt: HostRuntime) -> Result<(), Fail> {
     assert_eq!(rt; letter, 7);
 
     // A reply that isn't idle ends it, whichever pass looks.
-    let reply = deliver(&lock, &mut first, letter);
-    assert!(rt; matches!(&reply, Ok(TrayReply::Delivered)));
-    let tried = take_unless_empty(&lock, &mut other);
-    assert!(rt; matches!(&tried, Tried::Played(TrayReply::Taken { letter: Some(7) })));
-    let tried = take_unless_empty(&lock, &mut first);
-    assert!(rt; matches!(&tried, Tried::Played(TrayReply::Taken { letter: None })));
-    let tried = take_unless_empty(&lock, &mut other);
-    assert!(rt; matches!(&tried, Tried::Idle { op: TrayOp::Take }));
+    assert!(rt; matches!(deliver(&lock, &mut first, letter), Ok(TrayReply::Delivered)));
+    assert!(rt;
+        matches!(
+            take_unless_empty(&lock, &mut other),
+            Tried::Played(TrayReply::Taken { letter: Some(7) })
+        )
+    );
+    assert!(rt;
+        matches!(
+            take_unless_empty(&lock, &mut first),
+            Tried::Played(TrayReply::Taken { letter: None })
+        )
+    );
+    assert!(rt;
+        matches!(
+            take_unless_empty(&lock, &mut other),
+            Tried::Idle { op: TrayOp::Take }
+        )
+    );
 
     // A call that doesn't look is played, and its reply is the last one then.
-    let reply = take(&lock, &mut other);
-    assert!(rt; matches!(&reply, Ok(TrayReply::Taken { letter: None })));
-    let tried = take_unless_empty(&lock, &mut first);
-    assert!(rt; matches!(&tried, Tried::Idle { op: TrayOp::Take }));
+    assert!(rt;
+        matches!(
+            take(&lock, &mut other),
+            Ok(TrayReply::Taken { letter: None })
+        )
+    );
+    assert!(rt;
+        matches!(
+            take_unless_empty(&lock, &mut first),
+            Tried::Idle { op: TrayOp::Take }
+        )
+    );
     let tray = close_tray(lock, first, other);
     assert!(rt; tray.letters.is_empty());
     Ok(())
