@@ -8,3 +8,6 @@ returns-in-Ok-clause-value c = sym (json_of-utf8 c.args.bytes.now c.in-Ok.ensure
 pub returns-else-is_memory-clause-value : goal.returns-else-is_memory-clause-value
 returns-else-is_memory-clause-value c =
     sym (json_of-none c.args.bytes.now (c.in-Err.ensures.err (λ memory. search (rules, c.is_memory.ensures.1 memory, c.if-is_memory.false))))
+
+pub returns-then-is_memory-clause-value : goal.returns-then-is_memory-clause-value
+returns-then-is_memory-clause-value c = search rules

@@ -1,3 +1,4 @@
+use Rattle.std.proofs.lemmas.Grind.{common_steps}
 use Rattle.std.proofs.Common.{◌≡◌, ◌≤◌, ◌+◌, ◌-◌, max, map, drop, reverse, length, ap, sym, ◌∙◌, rules, arith}
 use Rattle.eql_query.specs.View.{tree, trees, trees_of}
 use Rattle.eql_code.specs.Code.{depth_all, depth_each}
@@ -32,3 +33,6 @@ emit_all-loop-below-preserved below c =
       omega (arith, most, longer, c.in_ok-deep.ensures.some, c.loop-below.invariant.2, c.loop-below.invariant.3),
       omega (arith, longer, c.loop-below.invariant.3),
     )
+
+pub emit_each-loop-at-preserved : goal.emit_each-loop-at-preserved
+emit_each-loop-at-preserved c = grind (arith, common_steps)

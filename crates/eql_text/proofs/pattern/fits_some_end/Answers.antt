@@ -16,3 +16,6 @@ loop-part-preserved c = (
   sym (c.in-Some-behind_part.ensures (chars c.in-Some.after.now))
       ∙ ap (λ p. any_end (wildcard c.args.fold p) (chars c.loop-part.rest.now)) (sym c.in-Some.ensures.1) ∙ c.loop-part.invariant.2,
 )
+
+pub returns : goal.returns
+returns c = search rules

@@ -1,3 +1,4 @@
+use Rattle.std.proofs.lemmas.Grind.{common_steps}
 use Rattle.std.proofs.Common.{◌++◌, length, sym, ap, ◌∙◌, subst, arith}
 use Rattle.std.specs.Prelude.{All}
 use Rattle.std.specs.Option.{option_to_list}
@@ -63,3 +64,6 @@ invariant_of-self g c =
     let pending = c.self.invariant in
     let same = ap (λ (m : Machine Ticket). length (tags_of m.slots)) c.take_off-taken.ensures.machine in
     omega arith
+
+pub returns-clause-sequences : goal.returns-clause-sequences
+returns-clause-sequences g c = grind (arith, common_steps)

@@ -39,3 +39,6 @@ pub returns-then-found-word-clause-played : goal.returns-then-found-word-clause-
 returns-then-found-word-clause-played g c = let look = c.load-word.ensures.2 in let won = c.compare_exchange-found.ensures.2.0 c.if-found-word.true (search rules) in
     played_after g.T.Turned.allows g.T.Turned.step_of g.T.Turned.is_open c.args.pass.now.seat.me.0 c.loop.pass.seat.me.0 c.compare_exchange-found.new.seat.me.0 c.load-word.result _ _ c.play_in_turn.new.seat.me.0
     c.loop.invariant.0 look.1 (search rules) (won.1.0 ∙ ap (λ m. m.0.number) look.0, won.1.1 ∙ ap (λ m. m.0.opening) look.0, won.1.2 ∙ ap (λ m. m.0.seen) look.0, won.1.3 ∙ ap (λ m. m.0.mine) look.0, won.1.4 ∙ ap (λ m. m.0.looked) look.0, won.1.5 ∙ ap (λ m. m.0.made) look.0, won.1.6 ∙ ap (λ m. m.0.ended) look.0) c.play_in_turn.ensures.played c.play_in_turn.ensures.counted
+
+pub returns-then-word-ge-WORN-clause-played : goal.returns-then-word-ge-WORN-clause-played
+returns-then-word-ge-WORN-clause-played g c = search rules

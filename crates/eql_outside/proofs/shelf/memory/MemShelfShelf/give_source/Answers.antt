@@ -1,5 +1,8 @@
-use Rattle.std.proofs.Common.{refl}
+use Rattle.std.proofs.Common.{rules, refl}
 use Rattle.eql_outside.proofs.shelf.memory.MemShelfShelf.give_source.Goals as goal
 
 pub returns-in_default-clause-kept : goal.returns-in_default-clause-kept
 returns-in_default-clause-kept c = refl
+
+pub returns-in-Some-clause-raised_named : goal.returns-in-Some-clause-raised_named
+returns-in-Some-clause-raised_named c = search rules
