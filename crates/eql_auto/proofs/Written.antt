@@ -1,5 +1,5 @@
 -- What writing a slot does to what a table shows, and to its tags.
-use Rattle.std.proofs.Common.{◌≡◌, ◌≢◌, ◌<◌, ◌+◌, ℕ, zero, suc, ℤ, Bool, true, false, cond, List, [], ◌∷◌, ◌++◌, length, set, get_or, Option, Some, None, replicate, refl, sym, ap, ◌∙◌, arith, subst, IfSome, inl, inr}
+use Rattle.std.proofs.Common.{◌≡◌, ◌≢◌, ◌<◌, ◌+◌, ℕ, zero, suc, ℤ, Bool, true, false, cond, List, [], ◌∷◌, ◌++◌, length, set, get_or, Option, Some, None, replicate, refl, sym, ap, ◌∙◌, add-one, arith, rules, subst, IfSome, inl, inr}
 use Rattle.std.specs.Prelude.{◌==◌, ◌&&◌, MatchBool}
 use Rattle.std.specs.Option.{option_map, option_to_list}
 use Rattle.std.specs.List.{cons_option}
@@ -7,6 +7,7 @@ use Rattle.std.specs.List.Sorted.{IsPermutation}
 use Rattle.std.specs.Ordering.{is_lt}
 use Rattle.std.specs.declared.cmp.Ordering.TheVariants.{Less}
 use Rattle.std.proofs.lemmas.Bool.{cases_order, cases_lt}
+use Rattle.std.proofs.lemmas.Bool.Decides.{nat_tests}
 use Rattle.std.proofs.lemmas.List.{map-set, set-get_or, get_or-set_same, get_or-set_other, length-set, length-map, set_past, append_assoc}
 use Rattle.std.proofs.lemmas.List.Elements.{filter_map-append}
 use Rattle.std.proofs.lemmas.List.Sorted.{IsPermutation-trans, IsPermutation-append_right, IsPermutation-append_left, IsPermutation-append_comm}
@@ -43,6 +44,19 @@ ascend_push event (first ∷ chain) h l =
 empties : (b : Bool) (A B : Type 0) → MatchBool b A B → b ≡ false → B
 empties true A B h e = cc
 empties false A B h e = h
+
+-- a chain comes out of the last place alone
+pub comes_out : {X : Type 0} (m n : ℕ) (out x : X) → m ≡ n → out ≡ x → Some out ≡ cond (m == n) (Some x) None
+comes_out m n out x at is = ap Some is ∙ same (m == n) (search (rules, nat_tests)) where
+  same : (b : Bool) → b ≡ true → Some x ≡ cond b (Some x) None
+  same true e = refl
+  same false e = cc
+
+pub stays_in : {X : Type 0} (m n : ℕ) (x : X) → m < n → None ≡ cond (m == n) (Some x) None
+stays_in m n x before = apart (m == n) (search (rules, nat_tests)) where
+  apart : (b : Bool) → b ≡ false → None ≡ cond b (Some x) None
+  apart true e = cc
+  apart false e = refl
 
 abbrev at_stage : ℕ → List OrderKey → ℕ × List OrderKey
 at_stage k chain = (k, chain)
@@ -131,6 +145,17 @@ module _ {T : Type 0} where
   empty_kept slots n e place =
       subst (λ (o : Option (Pending T)). IfSome o (IsKept (length slots) place)) (sym (ap (λ (l : List (Option (Pending T))). get_or l place None) e ∙ none_of n place)) tt
 
+  -- one more empty slot
+  pub empty_more : (slots new : List (Option (Pending T))) (n : ℕ) → slots ≡ replicate n None → new ≡ slots ++ None ∷ [] → new ≡ replicate (n + 1) None
+  empty_more slots new n e pushed =
+      subst (λ (m : ℕ). new ≡ replicate m None) (sym (add-one n)) (pushed ∙ ap (λ (l : List (Option (Pending T))). l ++ None ∷ []) e ∙ further n) where
+        further : (n : ℕ) → ◌≡◌ {A = List (Option (Pending T))} (replicate n None ++ None ∷ []) (replicate (suc n) None)
+        further zero = refl
+        further (suc n) = ap (λ (l : List (Option (Pending T))). None ∷ l) (further n)
+
+  pub empty_whole : (slots : List (Option (Pending T))) (m n : ℕ) → slots ≡ replicate m None → m ≡ n → slots ≡ replicate n None
+  empty_whole slots m n e whole = subst (λ (k : ℕ). slots ≡ replicate k None) whole e
+
   -- a kept table stays so where a slot is written with what is kept
   pub kept_set : (slots new : List (Option (Pending T))) (i : ℕ) (v : Option (Pending T)) → AreKept slots → new ≡ set slots i v
       → IfSome v (IsKept (length slots) i) → AreKept new
@@ -155,6 +180,31 @@ module _ {T : Type 0} where
       → IsPermutation (held.tag ∷ tags_of (shown new)) (tags_of now)
   taken_tags slots new now i held e l w taken = tags_written slots new now i None (Some held) (Some held.tag) e l w taken refl
 
+  -- taking out what a slot has leaves the table as long
+  pub taken_length : (slots new : List (Option (Pending T))) (now : List (Option (Sequence T))) (i : ℕ) → shown slots ≡ now → new ≡ set slots i None → length (shown new) ≡ length now
+  taken_length slots new now i e w = ap length (ap shown w ∙ shown_set slots now i None e) ∙ length-set now i None
+
+  -- where nothing moves on, no chain comes out
+  none_out : (b : Bool) (o : Option (Sequence T)) → o ≡ None → ◌≡◌ {A = Option (List OrderKey)} None (cond b (chain_in o) None)
+  none_out true o e = ap chain_in (sym e)
+  none_out false o e = refl
+
+  -- an empty slot has nothing to move on
+  module _ (span : Option ℤ) (event : OrderKey) (slots new : List (Option (Pending T))) (now : List (Option (Sequence T))) (a k : ℕ)
+      (e : shown slots ≡ now) (taken : ◌≡◌ {A = Option (Pending T)} None (get_or slots a None)) where
+    none_on : went_on span event (get_or now a None) ≡ None
+    none_on = ap (went_on span event) (shown_at slots now a e ∙ ap (option_map seen) (sym taken))
+
+    pub nothing : new ≡ set slots a None → k ≡ a + 1
+        → shown new ≡ set (set now a None) k (found_or (went_on span event (get_or now a None)) (get_or now k None))
+    nothing w next =
+        let apart : k ≢ a = λ q. absurd (omega arith) in
+        ap shown w ∙ shown_set slots now a None e ∙ sym (set-get_or (set now a None) k None)
+        ∙ ap (λ (o : Option (Sequence T)). set (set now a None) k o) (get_or-set_other now a k None None apart ∙ ap (λ (o : Option (Sequence T)). found_or o (get_or now k None)) (sym none_on))
+
+    pub nothing_out : ◌≡◌ {A = Option (List OrderKey)} None (cond (k == length now) (chain_in (went_on span event (get_or now a None))) None)
+    nothing_out = none_out (k == length now) (went_on span event (get_or now a None)) none_on
+
   module _ (span : Option ℤ) (event : OrderKey) (slots new : List (Option (Pending T))) (now : List (Option (Sequence T))) (a k : ℕ) (held : Pending T)
       (e : shown slots ≡ now) (w : new ≡ set slots a None) (taken : Some held ≡ get_or slots a None) (next : k ≡ a + 1) where
     left_is : shown new ≡ set now a None
@@ -171,6 +221,11 @@ module _ {T : Type 0} where
         let gone : went_on span event (get_or now a None) ≡ None = ap (went_on span event) was ∙ ap (λ b. cond b (Some (held.events.items ++ event ∷ [], held.tag)) None) late in
         left_is ∙ sym (set-get_or (set now a None) k None)
         ∙ ap (λ (o : Option (Sequence T)). set (set now a None) k o) (get_or-set_other now a k None None apart ∙ ap (λ (o : Option (Sequence T)). found_or o (get_or now k None)) (sym gone))
+
+    pub dropped_out : in_time span held.events.items event.ts ≡ false → ◌≡◌ {A = Option (List OrderKey)} None (cond (k == length now) (chain_in (went_on span event (get_or now a None))) None)
+    dropped_out late =
+        none_out (k == length now) (went_on span event (get_or now a None))
+        (ap (went_on span event) was ∙ ap (λ b. cond b (Some (held.events.items ++ event ∷ [], held.tag)) None) late)
 
     module _ (events : List OrderKey) (early : in_time span held.events.items event.ts ≡ true) (pushed : events ≡ held.events.items ++ event ∷ []) where
       -- what moved on
@@ -200,6 +255,11 @@ module _ {T : Type 0} where
   pub kept_at : (slots : List (Option (Pending T))) (i : ℕ) (held : Pending T) → AreKept slots → Some held ≡ get_or slots i None → IsKept (length slots) i held
   kept_at slots i held all is = subst (λ (o : Option (Pending T)). IfSome o (IsKept (length slots) i)) (sym is) (all i)
 
+  pub ascends_at : (slots : List (Option (Pending T))) (i : ℕ) (slot : Option (Pending T)) → AreKept slots → slot ≡ get_or slots i None
+      → IfSome slot (λ p. EventsAscend p.events.items)
+  ascends_at slots i None all is = tt
+  ascends_at slots i (Some p) all is = (kept_at slots i p all is).ascends
+
   -- a written sequence with this chain
   pub wrote : (slots new : List (Option (Pending T))) (now : List (Option (Sequence T))) (i : ℕ) (p : Pending T) (chain : List OrderKey) → shown slots ≡ now
       → new ≡ set slots i (Some p) → p.events.items ≡ chain → shown new ≡ set now i (Some (chain, p.tag))
@@ -215,10 +275,11 @@ module _ {T : Type 0} where
       tags_written slots new now i (Some p) (get_or slots i None) None e l w refl (no_tag (get_or slots i None) (sym (shown_at slots now i e) ∙ free))
 
   -- a slot that an emptying leaves
-  pub left_alone : (slots : List (Option (Pending T))) (now : List (Option (Sequence T))) (i : ℕ) (which : Which) → shown slots ≡ now
-      → emptied which (option_map seen (get_or slots i None)) ≡ option_map seen (get_or slots i None) → now ≡ set now i (emptied which (get_or now i None))
-  left_alone slots now i which e h =
-      sym (set-get_or now i None) ∙ ap (λ (o : Option (Sequence T)). set now i o) (shown_at slots now i e ∙ sym h ∙ ap (emptied which) (sym (shown_at slots now i e)))
+  pub left_alone : (slots : List (Option (Pending T))) (now : List (Option (Sequence T))) (i : ℕ) (which : Which) (slot : Option (Pending T)) → shown slots ≡ now
+      → slot ≡ get_or slots i None → emptied which (option_map seen slot) ≡ option_map seen slot → now ≡ set now i (emptied which (get_or now i None))
+  left_alone slots now i which slot e is h =
+      let held : get_or now i None ≡ option_map seen slot = shown_at slots now i e ∙ ap (option_map seen) (sym is) in
+      sym (set-get_or now i None) ∙ ap (λ (o : Option (Sequence T)). set now i o) (held ∙ sym h ∙ ap (emptied which) (sym held))
 
   pub emptied_out : (slots new : List (Option (Pending T))) (now : List (Option (Sequence T))) (i : ℕ) (which : Which) (slot : Option (Pending T)) (spared : Bool)
       → shown slots ≡ now → new ≡ set slots i None → slot ≡ get_or slots i None

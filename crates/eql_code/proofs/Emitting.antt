@@ -1,6 +1,8 @@
--- The code of a whole expression, and that of the arguments of a call.
-use Rattle.std.proofs.Common.{◌≡◌, ℕ, suc, ◌+◌, ◌<◌, max, List, [], ◌∷◌, ◌++◌, length, map, get_or, drop, drop-cons, add-one, append_assoc, append-nil, reverse, Bool, Option, Some, refl, sym, ap, ◌∙◌, arith}
+-- The code of a whole expression, that of the arguments of a call, and the blocks of `cidrMatch`.
+use Rattle.std.proofs.Common.{◌≡◌, ℕ, suc, ◌+◌, ◌<◌, ◌≤◌, max, List, [], ◌∷◌, ◌++◌, length, map, get_or, drop, drop-cons, add-one, append_assoc, append-nil, reverse, Bool, Option, Some, None, refl, sym, ap, ◌∙◌, arith}
+use Rattle.std.proofs.lemmas.List.{drop_all}
 use Rattle.eql_values.specs.declared.value.Kind.{Kind}
+use Rattle.eql_text.specs.declared.addresses.Block.{Block}
 use Rattle.eql_query.specs.declared.expr.Expr.{Expr}
 use Rattle.eql_query.specs.Tree.{Trees}
 use Rattle.eql_query.specs.Tree as t
@@ -8,7 +10,8 @@ use Rattle.eql_query.specs.View.{tree, trees_of}
 use Rattle.eql_check.specs.declared.function.Function.{Function}
 use Rattle.eql_code.specs.declared.emit.Op.{Op}
 use Rattle.eql_code.specs.declared.emit.Op.TheVariants as op
-use Rattle.eql_code.specs.Code.{code, code_all, plain_call, count_of, depth, depth_all}
+use Rattle.eql_code.specs.Code.{code, code_all, plain_call, count_of, depth, depth_all, block_before, block_of, blocks_in}
+use Rattle.eql_code.proofs.Prepared.{blocks_before, one_more_block}
 
 -- what was put together from its end, turned round
 pub turned : (c before back all : List Op) → before ≡ [] → back ≡ c ++ reverse before → all ≡ back → all ≡ c
@@ -53,3 +56,27 @@ call_is fields o fold f ts items n was now new named is count call before =
     ∙ ap (λ m. code_all fields ts ++ (op.Call f fold m ∷ was)) (count ∙ sym (ap count_of is ∙ count_is items))
     ∙ sym (append_assoc (code_all fields ts) (op.Call f fold (count_of ts) ∷ []) was)
     ∙ ap (λ o. plain_call o fold (count_of ts) (code_all fields ts) ++ was) named
+
+-- the blocks that were read, and those of the texts from a place on
+pub no_blocks : (blocks : List Block) (o : Option (List Block)) → blocks ≡ [] → blocks_before blocks o ≡ o
+no_blocks blocks None e = refl
+no_blocks blocks (Some others) e = ap (λ bs. Some (bs ++ others)) e
+
+pub one_block : (items : List Expr) (i : ℕ) (e : Expr) (b : Block) (was now : List Block) (all : Option (List Block)) → i < length items → e ≡ get_or items i e →
+    Some b ≡ block_of (tree e) → now ≡ was ++ b ∷ [] → blocks_before was (blocks_in (trees_of (map tree (drop i items)))) ≡ all →
+    blocks_before now (blocks_in (trees_of (map tree (drop (i + 1) items)))) ≡ all
+one_block items i e b was now all h is block pushed before =
+    let rest = blocks_in (trees_of (map tree (drop (i + 1) items))) in
+    ap (λ bs. blocks_before bs rest) pushed ∙ one_more_block was b rest ∙ ap (λ o. blocks_before was (block_before o rest)) block
+    ∙ ap (λ ts. blocks_before was (blocks_in ts)) (sym (from_place items i e h is)) ∙ before
+
+pub no_block : (items : List Expr) (i : ℕ) (e : Expr) (was : List Block) (all : Option (List Block)) → i < length items → e ≡ get_or items i e →
+    None ≡ block_of (tree e) → blocks_before was (blocks_in (trees_of (map tree (drop i items)))) ≡ all → None ≡ all
+no_block items i e was all h is block before =
+    let rest = blocks_in (trees_of (map tree (drop (i + 1) items))) in
+    ap (λ o. blocks_before was (block_before o rest)) block ∙ ap (λ ts. blocks_before was (blocks_in ts)) (sym (from_place items i e h is)) ∙ before
+
+pub all_blocks : (items : List Expr) (i : ℕ) (was out : List Block) (all : Option (List Block)) → length items ≤ i → out ≡ was →
+    blocks_before was (blocks_in (trees_of (map tree (drop i items)))) ≡ all → Some out ≡ all
+all_blocks items i was out all past is before =
+    ap Some (is ∙ sym (append-nil was)) ∙ ap (λ es. blocks_before was (blocks_in (trees_of (map tree es)))) (sym (drop_all i items past)) ∙ before

@@ -1,3 +1,4 @@
+pub mod Gaps
 pub mod Numbers
 pub mod Unique
 pub mod Closing

@@ -62,7 +62,10 @@ impl Told {
 }
 
 /// Reads all tags of sequences that ceased, and adds them to these.
-fn read_ceased<L: Ledger>(machine: &mut Auto<u32, L>, ceased: &mut Vec<u32>) -> Result<(), Memory>
+pub(crate) fn read_ceased<L: Ledger>(
+    machine: &mut Auto<u32, L>,
+    ceased: &mut Vec<u32>,
+) -> Result<(), Memory>
     ensures read { IfOk result (λ _. machine.new.gone ≡ []) }
     ensures slots { machine.new.slots ≡ machine.old.slots }
 {
@@ -227,12 +230,26 @@ fn check_example<R: Abort, L: Ledger>(rt: &R, alloc: Global, blank: Blank) -> Re
     let mut steps = Steps::of(share);
     let mut told = Told::nothing(alloc);
     let mut machine = after_example(alloc, &mut told, &mut steps)?;
-    assert_eq!(rt; told.matched.as_slice(), [2, 4, 9].as_slice());
     let expired = check_expiries(rt, alloc, &mut machine, &mut told, &mut steps);
     drop(machine);
     expired?;
-    assert_eq!(rt; told.ceased.as_slice(), [1, 2, 7].as_slice());
+    has_told(rt, &told, &[2, 4, 9], &[1, 2, 7]);
     Ok(())
+}
+
+/// The lines from 1 to 256.
+fn lines_to_256(alloc: Global) -> Result<Vec<u32>, Memory> {
+    let mut lines = Vec::new(alloc);
+    for line in 1..257u32 {
+        lines.push(line)?;
+    }
+    Ok(lines)
+}
+
+/// Sees that the machine matched these lines, and that sequences with these tags ceased.
+fn has_told(rt: &impl Abort, told: &Told, matched: &[u32], ceased: &[u32]) {
+    assert_eq!(rt; told.matched.as_slice(), matched);
+    assert_eq!(rt; told.ceased.as_slice(), ceased);
 }
 
 /// At 256 stages an event of each stage in turn makes a match of as many events.
@@ -243,12 +260,7 @@ fn check_each_stage<R: Abort, L: Ledger>(rt: &R, alloc: Global, blank: Blank) ->
     let mut steps = Steps::of(share);
     let mut told = Told::nothing(alloc);
     play_each_stage(alloc, &mut told, &mut steps)?;
-    let mut lines = Vec::new(alloc);
-    for line in 1..257u32 {
-        lines.push(line)?;
-    }
-    assert_eq!(rt; told.matched.as_slice(), lines.as_slice());
-    assert_eq!(rt; told.ceased.as_slice(), [1].as_slice());
+    has_told(rt, &told, &lines_to_256(alloc)?, &[1]);
     Ok(())
 }
 

@@ -7,6 +7,8 @@ mod auto;
 #[cfg(test)]
 mod lookback;
 #[cfg(test)]
+mod machine;
+#[cfg(test)]
 mod merge;
 #[cfg(test)]
 mod part;

@@ -109,6 +109,22 @@ fn play_all<L: Ledger>(part: &mut Part<L>, max: u32, steps: &mut Steps<L>) -> Re
     Err(Fail::new("too many turns"))
 }
 
+/// Sees that so many events are played in turns of this most.
+fn plays<R: Abort, L: Ledger>(
+    rt: &R,
+    part: &mut Part<L>,
+    max: u32,
+    count: u32,
+    steps: &mut Steps<L>,
+) -> Result<(), Fail>
+    requires from { 1 ≤ max }
+    requires to { max ≤ 4096 }
+    ensures last { OnOk result (part.new.state.last ≡ part.old.state.last) }
+{
+    assert_eq!(rt; play_all(part, max, steps)?, count);
+    Ok(())
+}
+
 /// The matches that were found, and the mark that is done.
 fn collect<L: Ledger>(part: &mut Part<L>, steps: &mut Steps<L>) -> Result<(Matches, Mark), Fail>
     ensures last { OnOk result (part.new.state.last ≡ part.old.state.last) }
@@ -201,7 +217,7 @@ fn show_batches<R: Abort, L: Ledger>(
         line = line.saturating_add(count);
         rest = later;
         deliver(rt, part, last, items, mark, steps)?;
-        assert_eq!(rt; play_all(part, row.max, steps)?, count);
+        plays(rt, part, row.max, count, steps)?;
         show_found(part, text, steps)?;
     }
     assert!(rt; rest.is_empty());
@@ -335,14 +351,46 @@ fn is_done<R: Abort, L: Ledger>(
     Ok(())
 }
 
+/// Sees that this mark is done, and that these sequences are pending.
+fn is_at<R: Abort, L: Ledger>(
+    rt: &R,
+    alloc: Global,
+    part: &mut Part<L>,
+    done: Mark,
+    expected: &str,
+    steps: &mut Steps<L>,
+) -> Result<(), Fail>
+    ensures last { OnOk result (part.new.state.last ≡ part.old.state.last) }
+{
+    is_done(rt, part, done, steps)?;
+    holds(rt, alloc, part, expected, steps)
+}
+
 /// The event that begins a sequence.
 static FIRST: &[Event] = &[fits!(0, Root, 1)];
 
 /// Marks in nanoseconds, and what is pending at them.
 static PENDING_AT: &[(i128, &str)] = &[(10, "root 1;"), (11, "")];
 
-/// A turn of an empty inbox is idle. A mark is done once its events were played. With a span of 10 nanoseconds a sequence
-/// that began at 0 is alive at the mark of 10, and dropped at that of 11.
+/// With a span of 10 nanoseconds a sequence that began at 0 is alive at the mark of 10, and dropped at that of 11.
+fn check_sweeps<R: Abort, L: Ledger>(
+    rt: &R,
+    alloc: Global,
+    part: &mut Part<L>,
+    last: &mut Mark,
+    steps: &mut Steps<L>,
+) -> Result<(), Fail>
+    requires last { last.old ≡ part.old.state.last }
+{
+    for &(time, expected) in PENDING_AT {
+        let nothing = Items::of(Vec::new(alloc));
+        deliver(rt, part, last, nothing, Mark::At(time), steps)?;
+        holds(rt, alloc, part, expected, steps)?;
+    }
+    Ok(())
+}
+
+/// A turn of an empty inbox is idle. A mark is done once its events were played.
 fn check_part<R: Abort, L: Ledger>(
     rt: &R,
     alloc: Global,
@@ -352,20 +400,13 @@ fn check_part<R: Abort, L: Ledger>(
 ) -> Result<(), Fail>
     requires last { last.old ≡ part.old.state.last }
 {
-    assert_eq!(rt; play_all(part, 1, steps)?, 0);
+    plays(rt, part, 1, 0, steps)?;
     let first = items_of(alloc, 0, FIRST)?;
     deliver(rt, part, last, first, Mark::At(5), steps)?;
-    is_done(rt, part, Mark::Start, steps)?;
-    holds(rt, alloc, part, "", steps)?;
-    assert_eq!(rt; play_all(part, 1, steps)?, 1);
-    is_done(rt, part, Mark::At(5), steps)?;
-    holds(rt, alloc, part, "root 1;", steps)?;
-    for &(time, expected) in PENDING_AT {
-        let nothing = Items::of(Vec::new(alloc));
-        deliver(rt, part, last, nothing, Mark::At(time), steps)?;
-        holds(rt, alloc, part, expected, steps)?;
-    }
-    Ok(())
+    is_at(rt, alloc, part, Mark::Start, "", steps)?;
+    plays(rt, part, 1, 1, steps)?;
+    is_at(rt, alloc, part, Mark::At(5), "root 1;", steps)?;
+    check_sweeps(rt, alloc, part, last, steps)
 }
 
 fn check_marks<R: Abort, L: Ledger>(rt: &R, alloc: Global, blank: Blank) -> Result<(), Fail>

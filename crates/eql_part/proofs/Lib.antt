@@ -26,3 +26,5 @@ mod Tables
 mod Emptied
 mod Sorting
 mod Indexing
+mod Probed
+mod Unnamed

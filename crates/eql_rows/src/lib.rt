@@ -21,8 +21,6 @@ mod kept;
 #[cfg(test)]
 mod lines;
 #[cfg(test)]
-mod machine;
-#[cfg(test)]
 mod queries;
 #[cfg(test)]
 mod row;

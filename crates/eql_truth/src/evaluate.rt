@@ -1,7 +1,7 @@
 //! The evaluation of expressions.
-ghost use Rattle.std.specs.Prelude.{◌≡◌, [], IfOk, Some, true, false};
+ghost use Rattle.std.specs.Prelude.{◌≡◌, ◌||◌, [], IfOk, Some, true, false};
 ghost use Rattle.eql_query.specs.View.{tree, trees};
-ghost use Rattle.eql_check.specs.Truth.{means, values, value_at, call_of};
+ghost use Rattle.eql_check.specs.Truth.{means, values, value_at, call_of, is_literal_null};
 ghost use Rattle.eql_check.specs.Names.{function_of};
 ghost use Rattle.eql_check.specs.ThreeValued.{truth, truth_in, negation, all_from, any_from};
 
@@ -32,6 +32,13 @@ pub fn eval_constant(alloc: Global, expr: &Expr) -> Result<Value, Memory>
     evaluate_in(alloc, expr, &fields, &slots)
 }
 
+/// Whether one of two expressions is the literal `null`.
+fn has_literal_null(a: &Expr, b: &Expr) -> bool
+    ensures { result ≡ (is_literal_null (tree a.now) || is_literal_null (tree b.now)) }
+{
+    is_null(a) || is_null(b)
+}
+
 /// What an expression means where the used fields have these values.
 #[cycle(evaluate)]
 fn evaluate_in(
@@ -54,7 +61,7 @@ fn evaluate_in(
         Expr::Cmp(op, a, b) => {
             let x = evaluate_in(alloc, a, fields, slots)?;
             let y = evaluate_in(alloc, b, fields, slots)?;
-            Ok(compare(is_null(a) || is_null(b), *op, &x, &y))
+            Ok(compare(has_literal_null(a, b), *op, &x, &y))
         }
         Expr::Pattern(op, a, patterns) => {
             let value = evaluate_in(alloc, a, fields, slots)?;

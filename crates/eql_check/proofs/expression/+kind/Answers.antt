@@ -1,11 +1,13 @@
-use Rattle.std.proofs.Common.{◌≡◌, ◌+◌, ◌∷◌, map, drop, refl, ap, sym, ◌∙◌}
+use Rattle.std.proofs.Common.{◌≡◌, ◌+◌, ◌∷◌, map, drop, refl, ap, sym, ◌∙◌, arith}
 use Rattle.std.proofs.lemmas.List.{at_drop_more}
 use Rattle.std.proofs.lemmas.Result.{err_from_is_err_and}
+use Rattle.std.proofs.lemmas.Grind.{common_steps}
 use Rattle.eql_query.specs.View.{tree, trees, trees_of}
 use Rattle.eql_check.specs.Kinds.{kind_at}
 use Rattle.eql_check.specs.FirstBroken.{and_more, kind_of, kinds_of}
 use Rattle.eql_check.specs.Answers.{bools_of, kinds_before, with_bool}
 use Rattle.eql_check.proofs.Answering.{refused_argument, refused_bind, refused_bool, refused_call, refused_operands}
+use Rattle.eql_check.proofs.Listing.{one_more_kind}
 use Rattle.eql_check.proofs.expression.+kind.Goals as goal
 
 pub operator-returns-in_err-k : goal.operator-returns-in_err-k
@@ -51,3 +53,30 @@ kinds_of-returns-in_err-kind t c =
     ap (λ y. kinds_before c.loop-arg.items.items (kinds (trees_of (map tree (y ∷ drop (c.loop-arg.arg-index + 1) read))))) c.arg-item.is ∙ sym (at_drop_more (λ xs. kinds_before c.loop-arg.items.items (kinds (trees_of (map tree xs)))) read c.loop-arg.arg-index c.arg-item.result c.loop-arg-test.true)
     ∙ c.loop-arg.invariant ∙ ap (λ xs. kinds (trees_of (map tree xs))) c.deref-arg-items.ensures.value ∙ ap (λ es. kinds es) (sym c.items-2.ensures.trees) in
     rw (p.1, p.2) (refused_argument c.loop-arg.items.items q rest _ c.in_err-kind.field-0.0 same c.in_err-kind.ensures)
+
+pub are_bools-loop-operand-preserved : goal.are_bools-loop-operand-preserved
+are_bools-loop-operand-preserved t c = grind (arith, common_steps)
+
+pub are_bools-returns : goal.are_bools-returns
+are_bools-returns t c = grind (arith, common_steps)
+
+pub kinds_of-returns : goal.kinds_of-returns
+kinds_of-returns t c = grind (arith, common_steps)
+
+pub called-returns : goal.called-returns
+called-returns t c = grind (arith, common_steps)
+
+pub operator-returns : goal.operator-returns
+operator-returns t c = grind (arith, common_steps)
+
+pub kinds_of-loop-arg-preserved : goal.kinds_of-loop-arg-preserved
+kinds_of-loop-arg-preserved t c =
+    let kinds = kinds_of c.args.item (kind_at c.args.mapping.now) in
+    let read = c.deref-arg-items.result.now in
+    let rest = kinds (trees_of (map tree (drop (c.loop-arg.arg-index + 1) read))) in
+    ap (λ ks. kinds_before ks rest) c.in_ok-push.ensures.items
+    ∙ one_more_kind c.loop-arg.items.items c.in_ok-kind.kind rest
+    ∙ ap (λ r. kinds_before c.loop-arg.items.items (and_more r rest)) c.in_ok-kind.ensures
+    ∙ ap (λ y. kinds_before c.loop-arg.items.items (kinds (trees_of (map tree (y ∷ drop (c.loop-arg.arg-index + 1) read))))) c.arg-item.is
+    ∙ sym (at_drop_more (λ xs. kinds_before c.loop-arg.items.items (kinds (trees_of (map tree xs)))) read c.loop-arg.arg-index c.arg-item.result c.loop-arg-test.true)
+    ∙ c.loop-arg.invariant

@@ -1,4 +1,4 @@
-use Rattle.std.proofs.Common.{◌≡◌, ◌+◌, ◌++◌, ◌∷◌, [], List, take, sym, ap, ◌∙◌, subst, arith}
+use Rattle.std.proofs.Common.{◌≡◌, ◌+◌, ◌++◌, ◌∷◌, [], List, take, refl, sym, ap, ◌∙◌, subst, arith}
 use Rattle.std.specs.Prelude.{All}
 use Rattle.std.proofs.lemmas.List.{append_assoc, take_more}
 use Rattle.std.proofs.lemmas.List.Elements.{All-push, All-weaker}
@@ -57,3 +57,18 @@ returns-in-Err-clause-others g c = λ key apart.
     c.in-Err.ensures.others key
     (apart_at key c.deref-route-items.result.now c.args.routes.now.items c.loop-route.route-index c.route-item.result c.deref-route-items.ensures.value c.loop-route-test.true c.route-item.is apart)
     ∙ c.loop-route.invariant.others key apart
+
+pub returns-in_err-prepared-clause-sequences : goal.returns-in_err-prepared-clause-sequences
+returns-in_err-prepared-clause-sequences g c = λ q k. refl
+
+pub returns-in_err-prepared-clause-others : goal.returns-in_err-prepared-clause-others
+returns-in_err-prepared-clause-others g c = λ key apart. refl
+
+pub returns-in-Err-clause-sequences : goal.returns-in-Err-clause-sequences
+returns-in-Err-clause-sequences g c = λ q k. c.in-Err.ensures.sequences q k ∙ c.loop-route.invariant.sequences q k
+
+pub returns-clause-sequences : goal.returns-clause-sequences
+returns-clause-sequences g c = c.loop-route.invariant.sequences
+
+pub returns-clause-others : goal.returns-clause-others
+returns-clause-others g c = c.loop-route.invariant.others

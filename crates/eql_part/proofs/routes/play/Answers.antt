@@ -1,5 +1,5 @@
-use Rattle.std.proofs.Common.{◌≡◌, ◌++◌, ◌∷◌, [], ℕ, suc, List, Option, sym, ap, ◌∙◌, subst, arith}
-use Rattle.std.specs.Prelude.{IfOk, IfSome, find}
+use Rattle.std.proofs.Common.{◌≡◌, ◌++◌, ◌<◌, ◌∷◌, [], ℕ, suc, List, Option, sym, ap, ◌∙◌, subst, arith}
+use Rattle.std.specs.Prelude.{IfOk, IfSome, OnOk, find}
 use Rattle.std.specs.List.{filter_map}
 use Rattle.eql_values.specs.declared.order.OrderKey.{OrderKey}
 use Rattle.eql_values.specs.declared.found.Match.{Match}
@@ -75,3 +75,18 @@ returns-then-len-eq1-clause-found g c =
     let many = c.if-len-eq1.true in let len = c.len.ensures in let ok = c.args.routes.now.ok.0 in
     let is : c.args.routes.now.items ≡ route ∷ [] = one_alone c.args.routes.now.items route (omega arith) c.index.ensures in
     subst (λ (l : List Match). IfOk c.play_one.result (λ found. found.items ≡ l)) (one_cons (find_match route) ∙ ap (filter_map find_match) (sym is)) c.play_one.ensures.found
+
+pub returns-then-len-eq1-clause-slots : goal.returns-then-len-eq1-clause-slots
+returns-then-len-eq1-clause-slots g c =
+    let route = c.index.result.now in
+    let many = c.if-len-eq1.true in let len = c.len.ensures in let ok = c.args.routes.now.ok.0 in
+    let is : c.args.routes.now.items ≡ route ∷ [] = one_alone c.args.routes.now.items route (omega arith) c.index.ensures in
+    subst (λ (l : List Route). OnOk c.play_one.result ((key : List Value) (k : ℕ) → suc k < c.args.shape.stages → slots_in (entries_of c.play_one.new.machines) key (suc k)
+    ≡ slots_after_event c.args.shape.span c.args.order (find (λ (r : Route). key_eq key r.key) l) (slots_in (entries_of c.args.machines.now) key) (suc k)))
+    (sym is) c.play_one.ensures.slots
+
+pub returns-then-len-eq1-clause-unchanged : goal.returns-then-len-eq1-clause-unchanged
+returns-then-len-eq1-clause-unchanged g c = c.play_one.ensures.unchanged
+
+pub returns-in-Err-clause-unchanged : goal.returns-in-Err-clause-unchanged
+returns-in-Err-clause-unchanged g c = λ q k. c.drop_all_empty.ensures.sequences q k ∙ c.in-Err.ensures.sequences q k

@@ -66,3 +66,7 @@ returns-in-Err-clause-busy g c =
 pub returns-in-Err-clause-linked : goal.returns-in-Err-clause-linked
 returns-in-Err-clause-linked g c =
     linked_alike (entries_of c.play_there.new.machines) (entries_of c.drop_empty_at.new.machines) [] c.play_there.new.list c.drop_empty_at.ensures.sequences c.play_there.ensures.linked
+
+pub returns-in-Err-clause-unchanged : goal.returns-in-Err-clause-unchanged
+returns-in-Err-clause-unchanged g c = λ q k.
+    c.drop_empty_at.ensures.sequences q k ∙ c.in-Err.ensures.unchanged q k ∙ c.room_for.ensures.sequences q k

@@ -4,7 +4,7 @@ use Rattle.std.proofs.lemmas.List.{append_assoc, map-append}
 use Rattle.eql_values.specs.declared.found.Holder.{Holder}
 use Rattle.eql_auto.specs.Machine.{chains_to}
 use Rattle.eql_auto.specs.Holding.{holder_of}
-use Rattle.eql_auto.proofs.Written.{shown_length, chains_more, get_or_any}
+use Rattle.eql_auto.proofs.Written.{shown_length, chains_more, get_or_any, ascends_at}
 use Rattle.eql_auto.proofs.table.SlotTable.add_holders.Goals as goal
 
 pub loop-place-preserved : goal.loop-place-preserved
@@ -28,3 +28,26 @@ returns g c =
     let within = c.loop-place.auto.place-end in
     let whole : c.loop-place.place ≡ length c.args.self.now = omega arith in
     c.loop-place.invariant ∙ ap (λ n. c.args.found.now.items ++ map (holder_of c.args.key.now) (chains_to c.args.self.now n)) whole
+
+pub add_keyed-requires : goal.add_keyed-requires
+add_keyed-requires g c =
+    let slots = c.self.inside.slots.items in
+    ascends_at slots c.loop-place.place c.slot-item.result c.self.invariant
+    (c.slot-item.is ∙ get_or_any c.deref-slot-items.result.now c.loop-place.place c.slot-item.result None c.loop-place-test.true
+    ∙ ap (λ xs. get_or xs c.loop-place.place None) c.deref-slot-items.ensures.value)
+
+pub overflow_cast-place : goal.overflow_cast-place
+overflow_cast-place g c =
+    let len = shown_length c.self.inside.slots.items c.args.self.now c.self.view_is in
+    let same = ap length c.deref-slot-items.ensures.value in
+    let below = c.loop-place-test.true in
+    let few = c.requires in
+    omega arith
+
+pub overflow_add-place : goal.overflow_add-place
+overflow_add-place g c =
+    let len = shown_length c.self.inside.slots.items c.args.self.now c.self.view_is in
+    let same = ap length c.deref-slot-items.ensures.value in
+    let below = c.loop-place-test.true in
+    let few = c.requires in
+    omega arith

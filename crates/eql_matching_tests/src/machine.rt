@@ -7,34 +7,17 @@ ghost use Rattle.eql_values.specs.declared.order.OrderKey.{OrderKey};
 ghost use Rattle.eql_values.specs.Masks.{has_after};
 ghost use Rattle.eql_values.specs.OrderKeys.{order_cmp};
 ghost use Rattle.eql_auto.specs.Machine.{ComesAfter};
-ghost use Rattle.eql_rows.specs.Played.{IsAfterLast};
+ghost use Rattle.eql_matching_tests.specs.Played.{IsAfterLast};
 
+use crate::auto::read_ceased;
+use crate::lookback::{Event, Name, items_of, push_chain, shown};
 use eql_auto::{Auto, Steps};
-use eql_lookback::{ascend, find};
-use eql_values::{
-    Act, Chain, Item, Items, Key, Mask, Matches, Memory, OrderKey, Route, Routes, StageChains,
-};
+use eql_values::{Act, Chain, Items, Memory, OrderKey, StageChains};
 use std::alloc::{AllocError, Global};
-use std::fmt::Write;
 use std::marker::Brand;
 use std::process::Abort;
 use std::sync::ledger::{Blank, Ledger};
 use std::test::Fail;
-
-/// What an event says: the stages that it fits, by their bits, and whether it ends the key.
-#[derive(Clone, Copy, Debug)]
-struct Said {
-    stages: u128,
-    until: bool,
-}
-
-/// An event that fits these stages.
-fn fits(stages: u128) -> Said {
-    Said {
-        stages,
-        until: false,
-    }
-}
 
 /// A sequence of so many stages with this span in nanoseconds, and two sets of stages of which the events are made.
 #[derive(Clone, Copy)]
@@ -47,19 +30,29 @@ struct Case {
     until: bool,
 }
 
+/// An event at this time in nanoseconds that fits these stages.
+fn fits(ts: i128, stages: u128) -> Event {
+    Event {
+        ts,
+        key: Name::Empty,
+        stages,
+        until: false,
+    }
+}
+
 impl Case {
     /// Six events: those of all stages begin and carry on what the others move and end.
-    fn events(self) -> [Said; 6] {
+    fn events(self) -> [Event; 6] {
         [
-            fits(self.full),
-            fits(self.a),
-            Said {
-                stages: self.b,
+            fits(1, self.full),
+            fits(2, self.a),
+            Event {
                 until: self.until,
+                ..fits(3, self.b)
             },
-            fits(self.full),
-            fits(self.a),
-            fits(self.full),
+            fits(4, self.full),
+            fits(5, self.a),
+            fits(6, self.full),
         ]
     }
 }
@@ -87,42 +80,6 @@ fn add_cases(cases: &mut Vec<Case>, stages: u32, full: u128) -> Result<(), Memor
         }
     }
     Ok(())
-}
-
-/// The event of this line, at as many nanoseconds, with a route of the empty key where it says something.
-fn item_of(alloc: Global, line: u32, said: Said) -> Result<Item, Memory> {
-    let mut routes = Vec::new(alloc);
-    if said.stages != 0 || said.until {
-        routes.push(Route {
-            key: Key::of(Vec::new(alloc)),
-            mask: Mask {
-                low: said.stages,
-                high: 0,
-            },
-            until: said.until,
-        })?;
-    }
-    Ok(Item {
-        order: OrderKey {
-            ts: i128::from(line),
-            tie: None,
-            shard: 0,
-            line,
-            at: 0,
-        },
-        routes: Routes::of(routes),
-    })
-}
-
-/// The events of lines from 1 on.
-fn items_of(alloc: Global, events: &[Said]) -> Result<Items, Fail> {
-    let mut items = Vec::new(alloc);
-    let mut line = 0u32;
-    for said in events {
-        line = line.checked_add(1).ok_or("lines")?;
-        items.push(item_of(alloc, line, *said)?)?;
-    }
-    Ok(Items::of(items))
 }
 
 /// What the events say to the machine of the one key.
@@ -179,17 +136,6 @@ fn note(played: &mut Played, tag: Option<u32>, answer: Option<Chain>) -> Result<
     }
     if let Some(chain) = answer {
         played.matches.push(chain)?;
-    }
-    Ok(())
-}
-
-/// Reads all tags of sequences that ceased.
-fn read_ceased<L: Ledger>(machine: &mut Auto<u32, L>, ceased: &mut Vec<u32>) -> Result<(), Memory>
-    ensures read { IfOk result (λ _. machine.new.gone ≡ []) }
-    ensures slots { machine.new.slots ≡ machine.old.slots }
-{
-    while let Some(tag) = machine.next_gone() {
-        ceased.push(tag)?;
     }
     Ok(())
 }
@@ -256,55 +202,13 @@ fn tags_found(alloc: Global, played: &Played, pending: &StageChains) -> Result<V
     Ok(tags)
 }
 
-/// Adds the lines of a chain's events.
-fn show_chain(chain: &Chain, shown: &mut String) -> Result<(), AllocError> {
-    for event in chain.items() {
-        write!(shown, " {}", event.line)?;
-    }
-    shown.push_str(";")
-}
-
-/// The lines of the matches that the look-back found.
-fn found(alloc: Global, matches: &Matches) -> Result<String, AllocError> {
-    let mut shown = String::new(alloc);
-    for one in matches.items() {
-        show_chain(&one.chain, &mut shown)?;
-    }
-    Ok(shown)
-}
-
 /// The lines of the chains that the machine answered.
 fn answered(alloc: Global, chains: &[Chain]) -> Result<String, AllocError> {
-    let mut shown = String::new(alloc);
+    let mut lines = String::new(alloc);
     for chain in chains {
-        show_chain(chain, &mut shown)?;
+        push_chain(&mut lines, chain)?;
     }
-    Ok(shown)
-}
-
-/// The pending sequences, each by its stage and its lines.
-fn held(alloc: Global, pending: &StageChains) -> Result<String, AllocError> {
-    let mut shown = String::new(alloc);
-    for (stage, chain) in pending.items() {
-        write!(shown, "{stage}:")?;
-        show_chain(chain, &mut shown)?;
-    }
-    Ok(shown)
-}
-
-/// The lines of the matches of the look-back.
-fn look_back<R: Abort>(
-    rt: &R,
-    alloc: Global,
-    stages: u32,
-    span: Option<i128>,
-    items: &Items,
-) -> Result<String, Fail>
-    requires from { 1 ≤ stages }
-    requires to { stages ≤ 256 }
-{
-    assert!(rt; ascend(items.items()));
-    Ok(found(alloc, &find(alloc, items, stages, span)?)?)
+    Ok(lines)
 }
 
 /// What a new machine does with the events.
@@ -336,101 +240,59 @@ fn is_same(
     Ok(chains.as_str() == matches && tags.as_slice() == played.given.as_slice())
 }
 
-/// The pending sequences of a new machine behind the events, where it finds these matches.
-fn pending_if_same<L: Ledger, R: Abort>(
+/// Whether a new machine finds these matches of the events, and each tag that it was given ceased or is pending.
+fn finds<L: Ledger, R: Abort>(
     rt: &R,
     alloc: Global,
-    stages: u32,
-    span: Option<i128>,
+    case: Case,
     items: &Items,
     matches: &str,
     steps: &mut Steps<L>,
-) -> Result<Option<String>, Fail>
-    requires from { 1 ≤ stages }
-    requires to { stages ≤ 256 }
+) -> Result<bool, Fail>
+    requires from { 1 ≤ case.stages }
+    requires to { case.stages ≤ 256 }
 {
-    let (played, pending) = play_items(rt, alloc, stages, span, items, steps)?;
-    if is_same(alloc, matches, &played, &pending)? {
-        Ok(Some(held(alloc, &pending)?))
-    } else {
-        Ok(None)
-    }
+    let (played, pending) = play_items(rt, alloc, case.stages, case.span, items, steps)?;
+    is_same(alloc, matches, &played, &pending)
 }
 
-/// Takes a list of events through the machine and through the look-back, compares what they find, and answers the
-/// lines of the matches and the pending sequences.
+/// Takes the events of a case through the look-back and through a machine, and compares what they find.
 fn compare<L: Ledger, R: Abort>(
     rt: &R,
     alloc: Global,
-    stages: u32,
-    span: Option<i128>,
-    events: &[Said],
+    case: Case,
     steps: &mut Steps<L>,
-) -> Result<(String, String), Fail> {
-    assert!(rt; 1 <= stages && stages <= 256);
-    let items = items_of(alloc, events)?;
-    let matches = look_back(rt, alloc, stages, span, &items)?;
-    let Some(pending) = pending_if_same(rt, alloc, stages, span, &items, matches.as_str(), steps)?
-    else {
-        panic!(rt; "{stages} stages, span {span:?}, {events:?}: the look-back finds {matches}")
-    };
-    Ok((matches, pending))
-}
-
-/// A count of probes.
-fn counted<L: Ledger>(blank: Blank) -> Steps<L>
-    requires name { blank.name ≡ L.name }
-    requires parts { blank.parts ≡ L.parts }
-    requires some { 0 < blank.parts }
-{
-    let (_book, share) = blank.open();
-    Steps::of(share)
+) -> Result<(), Fail> {
+    let events = case.events();
+    let matches = shown(rt, alloc, case.stages, case.span, &events)?;
+    let items = items_of(alloc, 0, &events)?;
+    assert!(rt; 1 <= case.stages && case.stages <= 256);
+    let Case { stages, a, b, .. } = case;
+    let is_found = finds(rt, alloc, case, &items, matches.as_str(), steps)?;
+    assert!(rt;
+        is_found,
+        "{stages} stages, events of {a} and {b}: the look-back finds {matches}"
+    );
+    Ok(())
 }
 
 /// Compares all cases of one to four stages.
-fn compare_all<L: Ledger, R: Abort>(rt: &R, alloc: Global, blank: Blank) -> Result<(), Fail>
-    requires name { blank.name ≡ L.name }
-    requires parts { blank.parts ≡ L.parts }
-    requires some { 0 < blank.parts }
+fn compare_all<R: Abort, L: Ledger>(rt: &R, alloc: Global, blank: Blank) -> Result<(), Fail>
+    requires { (blank.name ≡ L.name) × (blank.parts ≡ L.parts) × (0 < L.parts) }
 {
-    let mut steps: Steps<L> = counted(blank);
+    let (_book, share) = blank.open::<L>();
+    let mut steps = Steps::of(share);
     let mut cases = Vec::new(alloc);
     for (stages, full) in [(1, 1), (2, 3), (3, 7), (4, 15)] {
         add_cases(&mut cases, stages, full)?;
     }
     for case in &cases {
-        compare(
-            rt,
-            alloc,
-            case.stages,
-            case.span,
-            &case.events(),
-            &mut steps,
-        )?;
+        compare(rt, alloc, *case, &mut steps)?;
     }
-    Ok(())
-}
-
-/// Compares the events of user root of the reference's example, whose other events say nothing to that key.
-fn compare_root<L: Ledger, R: Abort>(rt: &R, alloc: Global, blank: Blank) -> Result<(), Fail>
-    requires name { blank.name ≡ L.name }
-    requires parts { blank.parts ≡ L.parts }
-    requires some { 0 < blank.parts }
-{
-    let mut steps: Steps<L> = counted(blank);
-    let events = [1, 1, 0, 2, 2, 0, 1, 0, 4, 0, 4].map(fits);
-    let (matches, pending) = compare(rt, alloc, 3, None, &events, &mut steps)?;
-    assert_eq!(rt; matches.as_str(), " 2 4 9;");
-    assert_eq!(rt; pending.as_str(), "1: 7;");
     Ok(())
 }
 
 #[test]
 fn the_machine_finds_what_the_look_back_finds(rt: HostRuntime) -> Result<(), Fail> {
-    compare_all::<Brand, HostRuntime>(&rt, rt.alloc(), Blank::new(1))
-}
-
-#[test]
-fn the_references_example_in_the_machine(rt: HostRuntime) -> Result<(), Fail> {
-    compare_root::<Brand, HostRuntime>(&rt, rt.alloc(), Blank::new(1))
+    compare_all::<HostRuntime, Brand>(&rt, rt.alloc(), Blank::new(1))
 }

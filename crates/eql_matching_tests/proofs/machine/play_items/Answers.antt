@@ -2,7 +2,7 @@ use Rattle.std.proofs.Common.{◌≡◌, ◌-◌, ℕ, None, [], ap, sym, subst}
 use Rattle.std.specs.List.{All}
 use Rattle.std.proofs.lemmas.List.Elements.{All-replicate}
 use Rattle.eql_auto.specs.Machine.{Machine, ComesAfter}
-use Rattle.eql_rows.proofs.machine.play_items.Goals as goal
+use Rattle.eql_matching_tests.proofs.machine.play_items.Goals as goal
 
 pub play-requires-clause-empty : goal.play-requires-clause-empty
 play-requires-clause-empty g c = λ next.
