@@ -86,11 +86,12 @@ returns-clause-answer g c =
 pub returns-clause-list : goal.returns-clause-list
 returns-clause-list g c =
     let turned = c.turn-completed.new.self in
-    let tag = option_to_list c.args.tag in
-    (turned.gone,
-    subst (λ (m : Machine Ticket). IsPermutation (turned.gone ++ tags_of c.take_off-taken.new.machine.slots) (tag ++ tags_of m.slots)) c.self.view_is
-    (subst (λ (m : Machine Ticket). IsPermutation (turned.gone ++ tags_of m.slots) (tag ++ tags_of c.self.inside.auto.slots)) (sym c.take_off-taken.ensures.machine) c.turn-completed.ensures.gone),
-    c.take_off-taken.ensures.list)
+    let tag = option_to_list c.args.tag in (
+      turned.gone,
+      subst (λ (m : Machine Ticket). IsPermutation (turned.gone ++ tags_of c.take_off-taken.new.machine.slots) (tag ++ tags_of m.slots)) c.self.view_is
+          (subst (λ (m : Machine Ticket). IsPermutation (turned.gone ++ tags_of m.slots) (tag ++ tags_of c.self.inside.auto.slots)) (sym c.take_off-taken.ensures.machine) c.turn-completed.ensures.gone),
+      c.take_off-taken.ensures.list,
+    )
 
 pub returns-clause-probes : goal.returns-clause-probes
 returns-clause-probes g c =
