@@ -1,6 +1,6 @@
 //! A condition from its text: read, checked against a mapping, and what it gives over the values of fields.
 use eql_check::{Checked, Mapping, can_check, check};
-use eql_code::{Stack, compile};
+use eql_code::{Code, Stack, compile};
 use eql_lexer::lex;
 use eql_parser::parse;
 use eql_query::{Body, Expr};
@@ -46,22 +46,31 @@ fn slots_of(alloc: Global, checked: &Checked) -> Result<Slots, Fail> {
     Ok(Slots::of(values))
 }
 
-/// What a condition of a checked query gives, plainly evaluated; none where its code gives another value, or a copy of
-/// its code does on the same stack, or `holds` answers otherwise.
+/// What code gives, and whether it holds, one after the other on one stack.
+fn given_by(alloc: Global, code: &Code, slots: &Slots) -> Result<(Value, bool), Fail> {
+    let mut stack = Stack::with(alloc, code.depth())?;
+    let value = code.run(alloc, slots, &mut stack)?;
+    let holds = code.holds(alloc, slots, &mut stack)?;
+    Ok((value, holds))
+}
+
+/// Whether code and its copy give this value, and hold where it is true.
+fn code_gives(alloc: Global, code: &Code, slots: &Slots, value: &Value) -> Result<bool, Fail> {
+    let copy = code.clone()?;
+    let (by_code, holds) = given_by(alloc, code, slots)?;
+    let (by_copy, copy_holds) = given_by(alloc, &copy, slots)?;
+    let is_true = *value == Value::Bool(true);
+    Ok(by_code == *value && by_copy == *value && holds == is_true && copy_holds == is_true)
+}
+
+/// What a condition of a checked query gives, plainly evaluated; none where its code or a copy of that gives another
+/// value, or `holds` answers otherwise.
 fn value_by_both(alloc: Global, cond: &Expr, checked: &Checked) -> Result<Option<Value>, Fail> {
     let slots = slots_of(alloc, checked)?;
     let plain = eval(alloc, cond, checked, &slots)?;
     let code = compile(alloc, cond, checked)?;
-    let mut stack = Stack::with(alloc, code.depth())?;
-    let run = code.run(alloc, &slots, &mut stack)?;
-    let copy = code.clone()?;
-    let again = copy.run(alloc, &slots, &mut stack)?;
-    let holds = copy.holds(alloc, &slots, &mut stack)?;
-    if plain == run && plain == again && holds == (plain == Value::Bool(true)) {
-        Ok(Some(plain))
-    } else {
-        Ok(None)
-    }
+    let is_same = code_gives(alloc, &code, &slots, &plain)?;
+    Ok(is_same.then_some(plain))
 }
 
 /// What a condition of a checked query gives: `true`, `false` or `null`.

@@ -1,5 +1,5 @@
 //! Texts of queries: their tokens, their canonical texts, and the lines by which others are refused;
-//! and queries built by hand. Rows are run by one function each.
+//! the parts of queries, and refusals made by hand. Rows are run by one function each.
 #![tactic(auto)]
 
 #[cfg(test)]

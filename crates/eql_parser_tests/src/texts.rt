@@ -9,7 +9,7 @@ use std::process::Abort;
 use std::test::Fail;
 
 /// A line that was made.
-fn made(line: Result<String, Memory>) -> Result<String, Fail> {
+pub(crate) fn made(line: Result<String, Memory>) -> Result<String, Fail> {
     match line {
         Ok(line) => Ok(line),
         Err(_) => Err(Fail::from("no memory")),
@@ -116,17 +116,24 @@ fn texts_have_these_tokens(rt: HostRuntime) -> Result<(), Fail> {
     Ok(())
 }
 
-#[test]
-fn most_bytes(rt: HostRuntime) -> Result<(), Fail> {
-    let mut text = Vec::new(rt.alloc());
-    for _ in 0..65536 {
+/// How many blanks a text has, and its tokens or its refusal.
+static BLANKS: &[(usize, &str)] = &[(65536, ""), (65537, "lex: TooLong")];
+
+/// The tokens of so many blanks, or their refusal.
+fn tokens_of_blanks(alloc: Global, count: usize) -> Result<String, Fail> {
+    let mut text = Vec::new(alloc);
+    for _ in 0..count {
         text.push(b' ')?;
     }
-    let most = tokens_of(rt.alloc(), text.as_slice())?;
-    assert_eq!(rt; most.as_str(), "");
-    text.push(b' ')?;
-    let more = tokens_of(rt.alloc(), text.as_slice())?;
-    assert_eq!(rt; more.as_str(), "lex: TooLong");
+    tokens_of(alloc, text.as_slice())
+}
+
+#[test]
+fn most_bytes(rt: HostRuntime) -> Result<(), Fail> {
+    for &(count, expected) in BLANKS {
+        let got = tokens_of_blanks(rt.alloc(), count)?;
+        assert_eq!(rt; got.as_str(), expected);
+    }
     Ok(())
 }
 
@@ -135,6 +142,10 @@ static QUERIES: &[(&str, &str)] = &[
     (
         "sequence by host.id with maxspan=1m [process where true] by ?user with runs=3 [\"a b\" where 1 == 1] until [any where false] | head 5 | tail 2",
         "sequence by `host.id` with maxspan=1m [\"process\" where true] by ?`user` with runs=3 [\"a b\" where (1 == 1)] until [any where false] | head 5 | tail 2",
+    ),
+    (
+        "sequence by a, b.c with maxspan=1m [any where true] by ?`c``d` with runs=3 until [\"x y\" where false] | head 2 | tail 1",
+        "sequence by `a`, `b.c` with maxspan=1m [any where true] by ?`c``d` with runs=3 until [\"x y\" where false] | head 2 | tail 1",
     ),
     (
         "sequence by a, b.c with maxspan=1m [any where true] until [\"x y\" where false]",
@@ -190,6 +201,48 @@ static QUERIES: &[(&str, &str)] = &[
     ("any where a in ()", "parse: Syntax at 16"),
     ("any where not", "parse: Syntax at 13"),
     ("any where 'a'", "lex: SingleQuote at 10"),
+    ("any where null", "any where null"),
+    ("any where true", "any where true"),
+    ("any where 7", "any where 7"),
+    ("any where \"a\"", "any where \"a\""),
+    ("any where a.`b c`.where", "any where `a.b c.where`"),
+    ("any where ?a", "any where ?`a`"),
+    ("any where not a and b", "any where ((not `a`) and `b`)"),
+    ("any where not (a and b)", "any where (not (`a` and `b`))"),
+    ("any where a and b or c", "any where ((`a` and `b`) or `c`)"),
+    ("any where a < -1 + 2", "any where (`a` < ((-1) + 2))"),
+    ("any where a <= b", "any where (`a` <= `b`)"),
+    ("any where a == b", "any where (`a` == `b`)"),
+    ("any where a != b", "any where (`a` != `b`)"),
+    ("any where a >= b", "any where (`a` >= `b`)"),
+    ("any where a > b", "any where (`a` > `b`)"),
+    ("any where a : \"x*\"", "any where (`a` : \"x*\")"),
+    (
+        "any where a like (\"x\", \"y\")",
+        "any where (`a` like (\"x\", \"y\"))",
+    ),
+    ("any where a like~ \"x\"", "any where (`a` like~ \"x\")"),
+    (
+        "any where a in (1, -2, \"x\", true)",
+        "any where (`a` in (1, -2, \"x\", true))",
+    ),
+    ("any where a in~ (\"x\")", "any where (`a` in~ (\"x\"))"),
+    ("any where a not in (1)", "any where (`a` not in (1))"),
+    ("any where a not in~ (1)", "any where (`a` not in~ (1))"),
+    ("any where -a", "any where (-`a`)"),
+    ("any where 1 + 2 * 3", "any where (1 + (2 * 3))"),
+    ("any where 1 - 2 - 3", "any where ((1 - 2) - 3)"),
+    ("any where 1 * 2 / 3", "any where ((1 * 2) / 3)"),
+    ("any where 1 % 2", "any where (1 % 2)"),
+    ("any where length()", "any where length()"),
+    (
+        "any where startsWith~(a, \"x\")",
+        "any where startsWith~(`a`, \"x\")",
+    ),
+    (
+        "any where p not in~ (-7, true) or not null like \"a\\n\\u{1b}\\\"\" or length(\"é\", 2) >= 5 % -3",
+        "any where ((`p` not in~ (-7, true)) or (not (null like \"a\\n\\u{1b}\\\"\")) or (length(\"é\", 2) >= (5 % (-3))))",
+    ),
 ];
 
 #[test]
@@ -197,50 +250,6 @@ fn queries_have_these_canonical_texts(rt: HostRuntime) -> Result<(), Fail> {
     for (text, expected) in QUERIES {
         let got = canonical(rt.alloc(), *text)?;
         assert_eq!(rt; got.as_str(), *expected);
-    }
-    Ok(())
-}
-
-/// Conditions, each with its canonical text.
-static CONDITIONS: &[(&str, &str)] = &[
-    ("null", "null"),
-    ("true", "true"),
-    ("7", "7"),
-    ("\"a\"", "\"a\""),
-    ("a.`b c`.where", "`a.b c.where`"),
-    ("?a", "?`a`"),
-    ("not a and b", "((not `a`) and `b`)"),
-    ("not (a and b)", "(not (`a` and `b`))"),
-    ("a and b or c", "((`a` and `b`) or `c`)"),
-    ("a < -1 + 2", "(`a` < ((-1) + 2))"),
-    ("a <= b", "(`a` <= `b`)"),
-    ("a == b", "(`a` == `b`)"),
-    ("a != b", "(`a` != `b`)"),
-    ("a >= b", "(`a` >= `b`)"),
-    ("a > b", "(`a` > `b`)"),
-    ("a : \"x*\"", "(`a` : \"x*\")"),
-    ("a like (\"x\", \"y\")", "(`a` like (\"x\", \"y\"))"),
-    ("a like~ \"x\"", "(`a` like~ \"x\")"),
-    ("a in (1, -2, \"x\", true)", "(`a` in (1, -2, \"x\", true))"),
-    ("a in~ (\"x\")", "(`a` in~ (\"x\"))"),
-    ("a not in (1)", "(`a` not in (1))"),
-    ("a not in~ (1)", "(`a` not in~ (1))"),
-    ("-a", "(-`a`)"),
-    ("1 + 2 * 3", "(1 + (2 * 3))"),
-    ("1 - 2 - 3", "((1 - 2) - 3)"),
-    ("1 * 2 / 3", "((1 * 2) / 3)"),
-    ("1 % 2", "(1 % 2)"),
-    ("length()", "length()"),
-    ("startsWith~(a, \"x\")", "startsWith~(`a`, \"x\")"),
-];
-
-#[test]
-fn conditions_have_these_canonical_texts(rt: HostRuntime) -> Result<(), Fail> {
-    for (condition, expected) in CONDITIONS {
-        let text = format!(in rt.alloc(); "any where {condition}")?;
-        let wanted = format!(in rt.alloc(); "any where {expected}")?;
-        let got = canonical(rt.alloc(), text.as_str())?;
-        assert_eq!(rt; got.as_str(), wanted.as_str());
     }
     Ok(())
 }
