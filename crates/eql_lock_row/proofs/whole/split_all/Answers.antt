@@ -6,7 +6,7 @@ use Rattle.eql_turn_lock.specs.declared.view.View.{View}
 use Rattle.eql_turn_lock.specs.Locks.{view_of}
 use Rattle.eql_lock_row.specs.Rows.{id_of_lock, id_of_pass, views_in}
 use Rattle.eql_lock_row.proofs.Places.{all_at}
-use Rattle.eql_lock_row.proofs.Walks.{SplitSome, next_is, own_at, split_few, split_next}
+use Rattle.eql_lock_row.proofs.Walks.{SplitSome, next_is, own_at, split_few, split_next, split_none}
 use Rattle.eql_lock_row.proofs.whole.split_all.Goals as goal
 
 pub split-pass-requires-clause-own : goal.split-pass-requires-clause-own
@@ -34,6 +34,12 @@ push_reserved-requires g c =
     let few = split_few g.T.Turned.step_of g.T.Turned.is_open c.loop-place.place c.args.locks.now.items c.args.passes.now.items c.loop-place.passes.items c.loop-place.new.items inv.0 in
     let room = c.requires.room in let cap = inv.1 in let len = c.loop-place.new.ok.0 in
     omega (arith, inside, few, room, cap, len)
+
+pub loop-place-init : goal.loop-place-init
+loop-place-init g c = (
+  split_none g.T.Turned.step_of g.T.Turned.is_open c.args.locks.now.items c.args.passes.now.items c.args.new.now.items c.requires.own c.requires.empty,
+  refl,
+)
 
 pub loop-place-preserved : goal.loop-place-preserved
 loop-place-preserved g c =
