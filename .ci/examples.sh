@@ -51,9 +51,9 @@ try() { # PAGE-AND-LINE FOLDER COMMAND
     judge "$1: $3" 0 0
 }
 
-# Runs the sessions of a page in a folder of its own: in its blocks of `console` a line that begins with `$ ` is a command, and what
+# Runs the blocks of `console` of a page in a folder of its own: in them a line that begins with `$ ` is a command, and what
 # follows, up to the next command or the end of the block, is what it writes.
-sessions() { # PAGE
+console_blocks() { # PAGE
     local page=$1 folder number=0 at='' line command='' inside=''
     folder=$(mktemp -u -p .)
     place "$folder"
@@ -71,7 +71,7 @@ sessions() { # PAGE
     done <"$top/$page"
 }
 for page in README.md docs/OPERATIONS.md examples/rules/README.md; do
-    [ ! -f "$top/$page" ] || sessions "$page"
+    [ ! -f "$top/$page" ] || console_blocks "$page"
 done
 
 end
