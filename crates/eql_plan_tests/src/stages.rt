@@ -1,7 +1,9 @@
 //! What lines give to queries. An expected text has the timestamp in nanoseconds, the tiebreaker, the shard, the line and
 //! the place, and for each key its values, its stages, and `until` where the event ends it.
 use crate::trial::{each_gives, line_told, plan_of};
-use eql_stages::PlanReader;
+use eql_stages::{Plan, PlanReader};
+use std::alloc::Global;
+use std::process::Abort;
 use std::test::Fail;
 
 /// A query, the tiebreaker field or nothing, and lines with what they give.
@@ -11,7 +13,8 @@ type Row = (
     &'static [(&'static str, &'static str)],
 );
 
-const ROWS: [Row; 24] = [
+/// Queries whose keys are fields that all items share.
+static KEYS: &[Row] = &[
     // one key by a shared field
     (
         r#"sequence by user.name [process where process.name == "attrib"] [process where process.name == "bash"] [process where process.name == "cat"]"#,
@@ -41,67 +44,6 @@ const ROWS: [Row; 24] = [
             (
                 r#"{"@timestamp":9000,"event":{"category":"process"},"process":{"name":"cat"}}"#,
                 "9000000000 none 3:7@0",
-            ),
-        ],
-    ),
-    // an item that runs stands for as many stages
-    (
-        "sequence [process where true] with runs=3 [file where true]",
-        "",
-        &[
-            (
-                r#"{"@timestamp":1,"event":{"category":"process"}}"#,
-                "1000000 none 3:7@0 [] 1-3",
-            ),
-            (
-                r#"{"@timestamp":5,"event":{"category":"file"}}"#,
-                "5000000 none 3:7@0 [] 4",
-            ),
-            (
-                r#"{"@timestamp":5,"event":{"category":["file","process"]}}"#,
-                "5000000 none 3:7@0 [] 1-4",
-            ),
-            (
-                r#"{"@timestamp":5,"event":{"category":"network"}}"#,
-                "5000000 none 3:7@0",
-            ),
-        ],
-    ),
-    // the item that ends sequences
-    (
-        "sequence [process where true] [file where true] until [network where true]",
-        "",
-        &[
-            (
-                r#"{"@timestamp":1,"event":{"category":"process"}}"#,
-                "1000000 none 3:7@0 [] 1",
-            ),
-            (
-                r#"{"@timestamp":2,"event":{"category":"network"}}"#,
-                "2000000 none 3:7@0 [] until",
-            ),
-            (
-                r#"{"@timestamp":2,"event":{"category":["file","network"]}}"#,
-                "2000000 none 3:7@0 [] 2 until",
-            ),
-        ],
-    ),
-    // it has key fields of its own
-    (
-        "sequence [process where true] by process.pid [file where true] by file.pid until [process where true] by file.pid",
-        "",
-        &[
-            (
-                r#"{"@timestamp":1,"event.category":"process","process.pid":9,"file.pid":7}"#,
-                "1000000 none 3:7@0 [7] until [9] 1",
-            ),
-            (
-                r#"{"@timestamp":1,"event.category":"process","process.pid":7,"file.pid":7}"#,
-                "1000000 none 3:7@0 [7] 1 until",
-            ),
-            (
-                r#"{"@timestamp":1,"event.category":"process","process.pid":9}"#,
-                "1000000 none 3:7@0 [9] 1",
             ),
         ],
     ),
@@ -140,6 +82,38 @@ const ROWS: [Row; 24] = [
             (
                 r#"{"@timestamp":1,"event":{"category":"process"},"nowhere":"x"}"#,
                 "1000000 none 3:7@0",
+            ),
+        ],
+    ),
+    // a key of several kinds of values
+    (
+        "sequence by process.pid, destination.ip, ?user.id [any where true] [file where true]",
+        "",
+        &[(
+            r#"{"@timestamp":1,"process.pid":-3,"destination.ip":"0.0.1.2","user.id":"u"}"#,
+            "1000000 none 3:7@0 [-3, ip 258, u] 1",
+        )],
+    ),
+];
+
+/// Queries with key fields of their items, and of the item that ends sequences.
+static KEYS_OF_ITEMS: &[Row] = &[
+    // it has key fields of its own
+    (
+        "sequence [process where true] by process.pid [file where true] by file.pid until [process where true] by file.pid",
+        "",
+        &[
+            (
+                r#"{"@timestamp":1,"event.category":"process","process.pid":9,"file.pid":7}"#,
+                "1000000 none 3:7@0 [7] until [9] 1",
+            ),
+            (
+                r#"{"@timestamp":1,"event.category":"process","process.pid":7,"file.pid":7}"#,
+                "1000000 none 3:7@0 [7] 1 until",
+            ),
+            (
+                r#"{"@timestamp":1,"event.category":"process","process.pid":9}"#,
+                "1000000 none 3:7@0 [9] 1",
             ),
         ],
     ),
@@ -185,57 +159,67 @@ const ROWS: [Row; 24] = [
             ),
         ],
     ),
-    // one of several categories, and no part of one
+    // shared key fields come first
     (
-        r#"process where process.name == "x""#,
+        "sequence by host.id [process where true] by process.pid [file where true] by file.pid",
+        "",
+        &[(
+            r#"{"@timestamp":1,"event.category":"process","process.pid":7,"host.id":"h"}"#,
+            "1000000 none 3:7@0 [h, 7] 1",
+        )],
+    ),
+    // keys are ordered by their first value that differs
+    (
+        "sequence [any where true] by user.name, process.pid [any where true] by user.name, file.pid",
+        "",
+        &[(
+            r#"{"@timestamp":1,"user.name":"ann","process.pid":8,"file.pid":2}"#,
+            "1000000 none 3:7@0 [ann, 2] 2 [ann, 8] 1",
+        )],
+    ),
+];
+
+/// Queries whose events stand for several stages.
+static STAGES: &[Row] = &[
+    // an item that runs stands for as many stages
+    (
+        "sequence [process where true] with runs=3 [file where true]",
         "",
         &[
             (
-                r#"{"@timestamp":1,"event":{"category":["network","process"]},"process.name":"x"}"#,
-                "1000000 none 3:7@0 [] 1",
+                r#"{"@timestamp":1,"event":{"category":"process"}}"#,
+                "1000000 none 3:7@0 [] 1-3",
             ),
             (
-                r#"{"@timestamp":1,"event":{"category":["network","processes"]},"process.name":"x"}"#,
-                "1000000 none 3:7@0",
+                r#"{"@timestamp":5,"event":{"category":"file"}}"#,
+                "5000000 none 3:7@0 [] 4",
             ),
             (
-                r#"{"@timestamp":1,"event":{"category":["network","proc"]},"process.name":"x"}"#,
-                "1000000 none 3:7@0",
+                r#"{"@timestamp":5,"event":{"category":["file","process"]}}"#,
+                "5000000 none 3:7@0 [] 1-4",
             ),
             (
-                r#"{"@timestamp":1,"process.name":"x"}"#,
-                "1000000 none 3:7@0",
+                r#"{"@timestamp":5,"event":{"category":"network"}}"#,
+                "5000000 none 3:7@0",
             ),
         ],
     ),
+    // the item that ends sequences
     (
-        r#"network where process.name : "X""#,
-        "",
-        &[(
-            r#"{"@timestamp":1,"event":{"category":["network","process"]},"process.name":"x"}"#,
-            "1000000 none 3:7@0 [] 1",
-        )],
-    ),
-    // a sequence as users write it
-    (
-        r#"sequence by host.id, user.name with maxspan=1m [process where event.type == "start" and process.name : "cmd.exe" and process.args_count > 1] [network where cidrMatch(destination.ip, "10.0.0.0/8") and destination.port in (445, 3389)] until [process where event.type == "end"]"#,
+        "sequence [process where true] [file where true] until [network where true]",
         "",
         &[
             (
-                r#"{"@timestamp":"2024-05-01T08:00:00.000Z","ecs":{"version":"8.0.0"},"host":{"id":"h1","ip":["10.1.2.3","fe80::1"]},"user":{"name":"ann"},"event":{"category":["process"],"type":["start"]},"process":{"name":"CMD.EXE","pid":412,"args_count":3},"load":0.25}"#,
-                "1714550400000000000 none 3:7@0 [h1, ann] 1",
+                r#"{"@timestamp":1,"event":{"category":"process"}}"#,
+                "1000000 none 3:7@0 [] 1",
             ),
             (
-                r#"{"@timestamp":"2024-05-01T08:00:30.500Z","host":{"id":"h1"},"user":{"name":"ann"},"event":{"category":["network"],"type":["connection"]},"destination":{"ip":"10.9.8.7","port":445}}"#,
-                "1714550430500000000 none 3:7@0 [h1, ann] 2",
+                r#"{"@timestamp":2,"event":{"category":"network"}}"#,
+                "2000000 none 3:7@0 [] until",
             ),
             (
-                r#"{"@timestamp":"2024-05-01T08:00:30.500Z","host":{"id":"h1"},"user":{"name":"ann"},"event":{"category":["network"],"type":["connection"]},"destination":{"ip":"fe80::1","port":445}}"#,
-                "1714550430500000000 none 3:7@0",
-            ),
-            (
-                r#"{"@timestamp":"2024-05-01T08:00:30.500Z","host":{"id":"h1"},"user":{"name":"ann"},"event":{"category":"process","type":"end"}}"#,
-                "1714550430500000000 none 3:7@0 [h1, ann] until",
+                r#"{"@timestamp":2,"event":{"category":["file","network"]}}"#,
+                "2000000 none 3:7@0 [] 2 until",
             ),
         ],
     ),
@@ -253,67 +237,6 @@ const ROWS: [Row; 24] = [
                 "1000000 none 3:7@0 [] 1",
             ),
         ],
-    ),
-    // the tiebreaker
-    (
-        "any where true",
-        "event.sequence",
-        &[
-            (
-                r#"{"@timestamp":1000,"event.sequence":2}"#,
-                "1000000000 2 3:7@0 [] 1",
-            ),
-            (r#"{"@timestamp":1000}"#, "1000000000 none 3:7@0 [] 1"),
-            (
-                r#"{"@timestamp":1000,"event.sequence":1.5}"#,
-                "bad Fraction",
-            ),
-        ],
-    ),
-    (
-        "any where true",
-        "",
-        &[
-            (
-                r#"{"@timestamp":1000,"event.sequence":2}"#,
-                "1000000000 none 3:7@0 [] 1",
-            ),
-            (
-                r#"{"@timestamp":1000,"event.sequence":1.5}"#,
-                "1000000000 none 3:7@0 [] 1",
-            ),
-        ],
-    ),
-    // lines that are rejected
-    (
-        "any where process.pid == null",
-        "",
-        &[
-            (r#"{"@timestamp":1,"event":{"cat"#, "bad NotJson"),
-            (r#"{"@timestamp":2,"process.pid":1.5}"#, "bad Fraction"),
-            (r#"{"@timestamp":3,"other":1.5}"#, "3000000 none 3:7@0 [] 1"),
-            ("[]", "bad NotObject"),
-            (r#"{"process.pid":1}"#, "bad NoTime"),
-            (" \t", "blank"),
-            ("", "blank"),
-        ],
-    ),
-    // null is no match
-    (
-        "process where not (process.pid == 1)",
-        "",
-        &[(
-            r#"{"@timestamp":1,"event":{"category":"process"}}"#,
-            "1000000 none 3:7@0",
-        )],
-    ),
-    (
-        "process where ?x == null",
-        "",
-        &[(
-            r#"{"@timestamp":1,"event":{"category":"process"}}"#,
-            "1000000 none 3:7@0 [] 1",
-        )],
     ),
     // stages in both halves of a mask
     (
@@ -373,22 +296,79 @@ const ROWS: [Row; 24] = [
             ),
         ],
     ),
-    // a key of several kinds of values
+];
+
+/// Queries whose events are told by a category and a condition.
+static CONDITIONS: &[Row] = &[
+    // one of several categories, and no part of one
     (
-        "sequence by process.pid, destination.ip, ?user.id [any where true] [file where true]",
+        r#"process where process.name == "x""#,
+        "",
+        &[
+            (
+                r#"{"@timestamp":1,"event":{"category":["network","process"]},"process.name":"x"}"#,
+                "1000000 none 3:7@0 [] 1",
+            ),
+            (
+                r#"{"@timestamp":1,"event":{"category":["network","processes"]},"process.name":"x"}"#,
+                "1000000 none 3:7@0",
+            ),
+            (
+                r#"{"@timestamp":1,"event":{"category":["network","proc"]},"process.name":"x"}"#,
+                "1000000 none 3:7@0",
+            ),
+            (
+                r#"{"@timestamp":1,"process.name":"x"}"#,
+                "1000000 none 3:7@0",
+            ),
+        ],
+    ),
+    (
+        r#"network where process.name : "X""#,
         "",
         &[(
-            r#"{"@timestamp":1,"process.pid":-3,"destination.ip":"0.0.1.2","user.id":"u"}"#,
-            "1000000 none 3:7@0 [-3, ip 258, u] 1",
+            r#"{"@timestamp":1,"event":{"category":["network","process"]},"process.name":"x"}"#,
+            "1000000 none 3:7@0 [] 1",
         )],
     ),
-    // shared key fields come first
+    // a sequence as users write it
     (
-        "sequence by host.id [process where true] by process.pid [file where true] by file.pid",
+        r#"sequence by host.id, user.name with maxspan=1m [process where event.type == "start" and process.name : "cmd.exe" and process.args_count > 1] [network where cidrMatch(destination.ip, "10.0.0.0/8") and destination.port in (445, 3389)] until [process where event.type == "end"]"#,
+        "",
+        &[
+            (
+                r#"{"@timestamp":"2024-05-01T08:00:00.000Z","ecs":{"version":"8.0.0"},"host":{"id":"h1","ip":["10.1.2.3","fe80::1"]},"user":{"name":"ann"},"event":{"category":["process"],"type":["start"]},"process":{"name":"CMD.EXE","pid":412,"args_count":3},"load":0.25}"#,
+                "1714550400000000000 none 3:7@0 [h1, ann] 1",
+            ),
+            (
+                r#"{"@timestamp":"2024-05-01T08:00:30.500Z","host":{"id":"h1"},"user":{"name":"ann"},"event":{"category":["network"],"type":["connection"]},"destination":{"ip":"10.9.8.7","port":445}}"#,
+                "1714550430500000000 none 3:7@0 [h1, ann] 2",
+            ),
+            (
+                r#"{"@timestamp":"2024-05-01T08:00:30.500Z","host":{"id":"h1"},"user":{"name":"ann"},"event":{"category":["network"],"type":["connection"]},"destination":{"ip":"fe80::1","port":445}}"#,
+                "1714550430500000000 none 3:7@0",
+            ),
+            (
+                r#"{"@timestamp":"2024-05-01T08:00:30.500Z","host":{"id":"h1"},"user":{"name":"ann"},"event":{"category":"process","type":"end"}}"#,
+                "1714550430500000000 none 3:7@0 [h1, ann] until",
+            ),
+        ],
+    ),
+    // null is no match
+    (
+        "process where not (process.pid == 1)",
         "",
         &[(
-            r#"{"@timestamp":1,"event.category":"process","process.pid":7,"host.id":"h"}"#,
-            "1000000 none 3:7@0 [h, 7] 1",
+            r#"{"@timestamp":1,"event":{"category":"process"}}"#,
+            "1000000 none 3:7@0",
+        )],
+    ),
+    (
+        "process where ?x == null",
+        "",
+        &[(
+            r#"{"@timestamp":1,"event":{"category":"process"}}"#,
+            "1000000 none 3:7@0 [] 1",
         )],
     ),
     // texts are made in a condition
@@ -406,38 +386,103 @@ const ROWS: [Row; 24] = [
             ),
         ],
     ),
-    // keys are ordered by their first value that differs
+];
+
+/// Queries with a tiebreaker or without, and lines that are rejected.
+static LINES: &[Row] = &[
+    // the tiebreaker
     (
-        "sequence [any where true] by user.name, process.pid [any where true] by user.name, file.pid",
+        "any where true",
+        "event.sequence",
+        &[
+            (
+                r#"{"@timestamp":1000,"event.sequence":2}"#,
+                "1000000000 2 3:7@0 [] 1",
+            ),
+            (r#"{"@timestamp":1000}"#, "1000000000 none 3:7@0 [] 1"),
+            (
+                r#"{"@timestamp":1000,"event.sequence":1.5}"#,
+                "bad Fraction",
+            ),
+        ],
+    ),
+    (
+        "any where true",
         "",
-        &[(
-            r#"{"@timestamp":1,"user.name":"ann","process.pid":8,"file.pid":2}"#,
-            "1000000 none 3:7@0 [ann, 2] 2 [ann, 8] 1",
-        )],
+        &[
+            (
+                r#"{"@timestamp":1000,"event.sequence":2}"#,
+                "1000000000 none 3:7@0 [] 1",
+            ),
+            (
+                r#"{"@timestamp":1000,"event.sequence":1.5}"#,
+                "1000000000 none 3:7@0 [] 1",
+            ),
+        ],
+    ),
+    // lines that are rejected
+    (
+        "any where process.pid == null",
+        "",
+        &[
+            (r#"{"@timestamp":1,"event":{"cat"#, "bad NotJson"),
+            (r#"{"@timestamp":2,"process.pid":1.5}"#, "bad Fraction"),
+            (r#"{"@timestamp":3,"other":1.5}"#, "3000000 none 3:7@0 [] 1"),
+            ("[]", "bad NotObject"),
+            (r#"{"process.pid":1}"#, "bad NoTime"),
+            (" \t", "blank"),
+            ("", "blank"),
+        ],
     ),
 ];
 
-#[test]
-fn lines_give_routes(rt: HostRuntime) -> Result<(), Fail> {
-    for (query, tie, lines) in &ROWS {
-        each_gives(&rt, rt.alloc(), *query, *tie, *lines)?;
+// Sees that the lines of each row give what stands beside them.
+fn each_row_gives(rt: &impl Abort, alloc: Global, rows: &[Row]) -> Result<(), Fail> {
+    for &(query, tie, lines) in rows {
+        each_gives(rt, alloc, query, tie, lines)?;
     }
     Ok(())
+}
+
+#[test]
+fn lines_give_routes(rt: HostRuntime) -> Result<(), Fail> {
+    let alloc = rt.alloc();
+    each_row_gives(&rt, alloc, KEYS)?;
+    each_row_gives(&rt, alloc, KEYS_OF_ITEMS)?;
+    each_row_gives(&rt, alloc, STAGES)?;
+    each_row_gives(&rt, alloc, CONDITIONS)?;
+    each_row_gives(&rt, alloc, LINES)
+}
+
+// Sees that a line of this byte alone, one more than may be read, gives this to a plan.
+fn long_line_gives(
+    rt: &impl Abort,
+    alloc: Global,
+    plan: &Plan,
+    byte: u8,
+    expected: &str,
+) -> Result<(), Fail> {
+    let mut reader = PlanReader::new(alloc, plan)?;
+    let bytes = vec![in alloc; byte; 1_048_577]?;
+    let got = line_told(alloc, &mut reader, &bytes)?;
+    assert_eq!(rt; got.as_str(), expected);
+    Ok(())
+}
+
+// Sees what lines of one byte more than may be read give to a plan.
+fn long_lines_give(rt: &impl Abort, alloc: Global, plan: &Plan) -> Result<(), Fail> {
+    long_line_gives(rt, alloc, plan, b'x', "bad Long")?;
+    long_line_gives(rt, alloc, plan, b' ', "blank")
 }
 
 /// A line of one byte more than may be read is rejected, and one of spaces is blank.
 #[test]
 fn a_line_may_be_too_long(rt: HostRuntime) -> Result<(), Fail> {
-    let alloc = rt.alloc();
-    let Some(plan) = plan_of(alloc, "any where true", "")? else {
+    let Some(plan) = plan_of(rt.alloc(), "any where true", "")? else {
         assert!(&rt; false);
         return Ok(());
     };
-    let mut reader = PlanReader::new(alloc, &plan)?;
-    for (byte, expected) in [(b'x', "bad Long"), (b' ', "blank")] {
-        let bytes = vec![in alloc; byte; 1_048_577]?;
-        let got = line_told(alloc, &mut reader, &bytes)?;
-        assert_eq!(&rt; got.as_str(), expected);
-    }
-    Ok(())
+    let given = long_lines_give(&rt, rt.alloc(), &plan);
+    drop(plan);
+    given
 }

@@ -132,6 +132,37 @@ pub fn line_told(alloc: Global, reader: &mut PlanReader, bytes: &[u8]) -> Result
     Ok(told(alloc, &got)?)
 }
 
+// Sees that a line gives this text to a reader, and to a fresh reader of its plan.
+fn line_gives(
+    rt: &impl Abort,
+    alloc: Global,
+    plan: &Plan,
+    reader: &mut PlanReader,
+    line: &str,
+    expected: &str,
+) -> Result<(), Fail> {
+    let got = line_told(alloc, reader, line.as_bytes())?;
+    assert_eq!(rt; got.as_str(), expected, "{line}");
+    let mut fresh = PlanReader::new(alloc, plan)?;
+    let again = line_told(alloc, &mut fresh, line.as_bytes())?;
+    assert_eq!(rt; again.as_str(), expected, "by a fresh reader: {line}");
+    Ok(())
+}
+
+// Sees that each line gives the text beside it to a plan: to one reader, line by line, and to a reader of its own.
+fn lines_give(
+    rt: &impl Abort,
+    alloc: Global,
+    plan: &Plan,
+    lines: &[(&str, &str)],
+) -> Result<(), Fail> {
+    let mut reader = PlanReader::new(alloc, plan)?;
+    for (line, expected) in lines {
+        line_gives(rt, alloc, plan, &mut reader, *line, *expected)?;
+    }
+    Ok(())
+}
+
 /// Sees that each line gives the text beside it to the plan of a query: to one reader, line by line, and to a reader of
 /// its own.
 pub fn each_gives(
@@ -145,17 +176,7 @@ pub fn each_gives(
         assert!(rt; false, "refused: {query}");
         return Ok(());
     };
-    let mut reader = PlanReader::new(alloc, &plan)?;
-    for (line, expected) in lines {
-        let got = line_told(alloc, &mut reader, line.as_bytes())?;
-        assert_eq!(rt; got.as_str(), *expected, "{query}: {line}");
-        let mut fresh = PlanReader::new(alloc, &plan)?;
-        let again = line_told(alloc, &mut fresh, line.as_bytes())?;
-        assert_eq!(rt;
-            again.as_str(),
-            *expected,
-            "by a fresh reader: {query}: {line}"
-        );
-    }
-    Ok(())
+    let given = lines_give(rt, alloc, &plan, lines);
+    drop(plan);
+    given
 }
