@@ -18,8 +18,8 @@ use Rattle.eql_values.specs.Totals.{order_cmp_total}
 use Rattle.std.specs.declared.cmp.Ordering.TheVariants.{Less}
 use Rattle.eql_values.specs.Ordered.{found_or}
 use Rattle.eql_laws.specs.Slots.{Slots, chain_moved_on, chain_coming, slots_after}
-use Rattle.eql_laws.specs.Steps.{SlotStep, ChainStep}
-use Rattle.eql_auto.specs.Machine.{AllBefore, ComesAfter, Sequence, act_of, alive_in, arrived_at, chains_of, slot_at, slot_after, tags_of, went_on}
+use Rattle.eql_laws.specs.Steps.{StepMovesSlots, StepMakesChain}
+use Rattle.eql_auto.specs.Machine.{AllAreBefore, ComesAfter, Sequence, act_of, alive_in, arrived_at, chains_of, slot_at, slot_after, tags_of, went_on}
 use Rattle.eql_auto.specs.Moves.{begun, chain_in, come, moved_to}
 use Rattle.eql_auto.proofs.Written.{get_or_any}
 
@@ -96,7 +96,7 @@ module _ {T : Type 0} where
     first_chain (Some t) completed tagged is = ap (λ b. chain_in (cond b (Some (event ∷ [], t)) None)) tagged
     first_chain None completed tagged is = is
 
-    -- the chain that is answered
+    -- the chain that is returned
     pub answered : (n : ℕ) (tag : Option T) (new completed answer : Option (List OrderKey)) → is_some tag ≡ has_after 0 mask
         → new ≡ cond (0 == n) (option_map (λ _. event ∷ []) tag) None → completed ≡ chain_in (come span event mask emptied (suc n)) → answer ≡ option_or new completed
         → answer ≡ chain_in (arrived_at span tag (act_of event mask until) old (suc n))
@@ -149,14 +149,14 @@ arrived_alike span s t act zero same = refl
 arrived_alike span s t act (suc zero) same = refl
 arrived_alike span s t act (suc (suc k)) same = ap (λ (o : Option (List OrderKey)). cond (fits_after (suc k) act && not act.until) (chain_moved_on span o act) None) (same (suc k) (omega arith) (omega arith))
 
-pub slots_go_on : SlotStep → (span : Option ℤ) (opening s : Slots) (act : Act) (past : List Act) (k : ℕ) → 1 ≤ k → ((j : ℕ) → 1 ≤ j → j < suc k → s j ≡ holder span opening j past)
+pub slots_go_on : StepMovesSlots → (span : Option ℤ) (opening s : Slots) (act : Act) (past : List Act) (k : ℕ) → 1 ≤ k → ((j : ℕ) → 1 ≤ j → j < suc k → s j ≡ holder span opening j past)
     → slots_after span s act k ≡ holder span opening k (act ∷ past)
 slots_go_on law span opening s act past k low same =
     (λ i. found_or (arrived_alike span s (λ j. holder span opening j past) act k (λ j from below. same j from (omega arith)) i)
     (cond (fits_after k act || act.until) None (same k low (omega arith) i)))
     ∙ sym (law span opening k act past)
 
-pub answer_goes_on : ChainStep → (span : Option ℤ) (opening s : Slots) (act : Act) (past : List Act) (m : ℕ) → ((j : ℕ) → 1 ≤ j → j < m → s j ≡ holder span opening j past)
+pub answer_goes_on : StepMakesChain → (span : Option ℤ) (opening s : Slots) (act : Act) (past : List Act) (m : ℕ) → ((j : ℕ) → 1 ≤ j → j < m → s j ≡ holder span opening j past)
     → chain_coming span s act m ≡ chain span opening m (act ∷ past)
 answer_goes_on law span opening s act past m same =
     arrived_alike span s (λ j. holder span opening j past) act m same ∙ sym (law span opening m act past)
@@ -210,7 +210,7 @@ later_still : {T : Type 0} (event next : OrderKey) (slot : Option (Sequence T)) 
 later_still event next None less h = tt
 later_still event next (Some s) less h = λ k d l. order_cmp_total.trans (get_or s.0 k d) event next (h k d l) less
 
-before_next : (event next : OrderKey) (chain : List OrderKey) → order_cmp event next ≡ Less → AllBefore event chain → AllBefore next (chain ++ event ∷ [])
+before_next : (event next : OrderKey) (chain : List OrderKey) → order_cmp event next ≡ Less → AllAreBefore event chain → AllAreBefore next (chain ++ event ∷ [])
 before_next event next [] less h zero d l = less
 before_next event next [] less h (suc k) d l = absurd (omega arith)
 before_next event next (first ∷ chain) less h zero d l = order_cmp_total.trans first event next (h 0 d (omega arith)) less

@@ -19,7 +19,7 @@ use Rattle.eql_values.specs.OrderKeys.{order_cmp, before_all, events_ascend, Eve
 use Rattle.eql_values.specs.Ordered.{found_or}
 use Rattle.eql_auto.specs.declared.table.Pending.{Pending}
 use Rattle.eql_auto.specs.declared.table.Which.{Which}
-use Rattle.eql_auto.specs.Machine.{Sequence, AllBefore, ComesAfter, tags_of, went_on, chains_of, chains_to}
+use Rattle.eql_auto.specs.Machine.{Sequence, AllAreBefore, ComesAfter, tags_of, went_on, chains_of, chains_to}
 use Rattle.eql_auto.specs.Moves.{chain_in, emptied}
 use Rattle.eql_auto.specs.Kept.{IsKept, seen, shown, AreKept}
 
@@ -31,7 +31,7 @@ before_push first event (next ∷ chain) h l = both (is_lt (order_cmp first next
   both true b d h f = f h
   both false b d h f = h
 
-pub ascend_push : (event : OrderKey) (chain : List OrderKey) → events_ascend chain ≡ true → AllBefore event chain → events_ascend (chain ++ event ∷ []) ≡ true
+pub ascend_push : (event : OrderKey) (chain : List OrderKey) → events_ascend chain ≡ true → AllAreBefore event chain → events_ascend (chain ++ event ∷ []) ≡ true
 ascend_push event [] h l = refl
 ascend_push event (first ∷ chain) h l =
     both (before_all first chain) (events_ascend chain) (before_all first (chain ++ event ∷ [])) (events_ascend (chain ++ event ∷ [])) h
@@ -248,7 +248,7 @@ module _ {T : Type 0} where
     -- the events with the new one ascend
     pub goes_in_order : (events : List OrderKey) → events ≡ held.events.items ++ event ∷ [] → EventsAscend held.events.items → ComesAfter event (get_or now a None) → EventsAscend events
     goes_in_order events pushed h later =
-        let before : AllBefore event held.events.items = subst (λ (o : Option (Sequence T)). ComesAfter event o) was later in
+        let before : AllAreBefore event held.events.items = subst (λ (o : Option (Sequence T)). ComesAfter event o) was later in
         subst EventsAscend (sym pushed) (ascend_push event held.events.items h before)
 
   -- a sequence of a kept table

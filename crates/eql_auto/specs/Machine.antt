@@ -18,8 +18,8 @@ abbrev pub Sequence : Type 0 → Type 0
 Sequence T = List OrderKey × T
 
 -- all events of the chain come before this one
-abbrev pub AllBefore : OrderKey → List OrderKey → Type 0
-AllBefore event chain = All (λ (before : OrderKey). order_cmp before event ≡ Less) chain
+abbrev pub AllAreBefore : OrderKey → List OrderKey → Type 0
+AllAreBefore event chain = All (λ (before : OrderKey). order_cmp before event ≡ Less) chain
 
 -- how many of the stages from 1 to n the mask has
 abbrev pub stages_in : Mask → ℕ → ℕ
@@ -56,7 +56,7 @@ module _ {T : Type 0} where
 
   -- the event comes after all events of the sequence
   abbrev pub ComesAfter : OrderKey → Option (Sequence T) → Type 0
-  ComesAfter event slot = IfSome slot (λ s. AllBefore event s.0)
+  ComesAfter event slot = IfSome slot (λ s. AllAreBefore event s.0)
 
   -- a sequence that an event moves on, where it is in time
   abbrev pub went_on : Option ℤ → OrderKey → Option (Sequence T) → Option (Sequence T)
@@ -95,7 +95,7 @@ module _ {T : Type 0} where
   abbrev pub IsAfter : Slots → List Act → Machine T → Type 0
   IsAfter opening past machine = (k : ℕ) → 1 ≤ k → k < stages machine → chains_of machine.slots k ≡ holder machine.span opening k past
 
-  -- after any past that a machine stood after, the turn takes it on by one act, and answers the chain that the look-back finds of the last stage
+  -- after any past that a machine stood after, the turn takes it on by one act, and returns the chain that the look-back finds of the last stage
   abbrev pub IsAfterTurn : Slots → Machine T → Act → Machine T → Option (List OrderKey) → Type 0
   IsAfterTurn opening before act now answer = (past : List Act) → IsAfter opening past before
       → IsAfter opening (act ∷ past) now × (answer ≡ chain before.span opening (stages before) (act ∷ past))

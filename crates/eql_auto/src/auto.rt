@@ -104,7 +104,7 @@ impl<T: Copy, L: Ledger> Auto<T, L> {
         self.table.first_event()
     }
 
-    /// Plays an event that fits the stages of the mask, and the until item where `until` is true. It answers the chain
+    /// Plays an event that fits the stages of the mask, and the until item where `until` is true. It returns the chain
     /// that has its event for the last stage then, or `None` where none has. It takes no memory.
     ///
     /// An event that ends the key first empties all slots. Then it acts from the last stage to the first: a sequence

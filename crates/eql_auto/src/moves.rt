@@ -25,7 +25,7 @@ fn add_gone<T: Copy>(gone: &mut Vec<T>, ceased: Option<T>)
 }
 
 /// Empties each slot, of every sequence or of stale ones.
-pub(crate) fn empty_slots<T: Copy, L: Ledger>(
+pub(crate) fn drop_from_slots<T: Copy, L: Ledger>(
     table: &mut SlotTable<T, L>,
     gone: &mut Vec<T>,
     which: Which,
@@ -64,11 +64,11 @@ pub(crate) fn empty_at_end<T: Copy, L: Ledger>(
     ensures probes { steps.new ≡ steps.old + (if until then length table.old else 0) }
 {
     if until {
-        empty_slots(table, gone, Which::All, steps);
+        drop_from_slots(table, gone, Which::All, steps);
     }
 }
 
-/// Moves on the sequences of the slots after whose stage the event fits, from the last to the first, and answers the
+/// Moves on the sequences of the slots after whose stage the event fits, from the last to the first, and returns the
 /// chain that has its last event then.
 pub(crate) fn advance_all<T: Copy, L: Ledger>(
     table: &mut SlotTable<T, L>,
@@ -104,7 +104,7 @@ pub(crate) fn advance_all<T: Copy, L: Ledger>(
     completed
 }
 
-/// Begins a sequence of the event where there is a tag for it, in the room that is kept for it, and answers its chain
+/// Begins a sequence of the event where there is a tag for it, in the room that is kept for it, and returns its chain
 /// where there is one stage alone.
 pub(crate) fn begin_new<T: Copy, L: Ledger>(
     table: &mut SlotTable<T, L>,
@@ -155,6 +155,6 @@ pub(crate) fn empty_stale<T: Copy, L: Ledger>(
     ensures idle { span ≡ None → steps.new ≡ steps.old }
 {
     if let Some(span) = span {
-        empty_slots(table, gone, Which::Stale { span, reach }, steps);
+        drop_from_slots(table, gone, Which::Stale { span, reach }, steps);
     }
 }

@@ -5,7 +5,7 @@ ghost use Rattle.eql_values.specs.Chains.{in_time};
 ghost use Rattle.eql_values.specs.Ordered.{found_or};
 ghost use Rattle.eql_values.specs.OrderKeys.{EventsAscend};
 ghost use Rattle.eql_auto.specs.Holding.{holder_of};
-ghost use Rattle.eql_auto.specs.Machine.{AllBefore, ComesAfter, tags_of, went_on, stage_chains};
+ghost use Rattle.eql_auto.specs.Machine.{AllAreBefore, ComesAfter, tags_of, went_on, stage_chains};
 ghost use Rattle.eql_auto.specs.Moves.{chain_in, emptied};
 ghost use Rattle.eql_auto.specs.Kept.{seen};
 ghost use Rattle.eql_auto.specs.Starts.{first_event, first_of};
@@ -277,7 +277,7 @@ impl<T: Copy, L: Ledger> SlotTable<T, L> {
         self.settle(0, Pending { events, tag })
     }
 
-    /// Empties the slot of a stage of every sequence, or of a stale one alone, and answers the tag of what it dropped.
+    /// Empties the slot of a stage of every sequence, or of a stale one alone, and returns the tag of what it dropped.
     /// One probe.
     pub fn empty(&mut self, stage: u32, which: Which, steps: &mut Steps<L>) -> Option<T>
         requires from { 1 ≤ stage }

@@ -69,7 +69,7 @@ impl Book {
     /// Numbers the matches, passes them through the pipes and writes the lines of those that come
     /// out before the end. A match beyond the greatest number of 64 bits is left out. After a
     /// refusal a front of the lines is written, and the book isn't whole. `Failed` comes exactly
-    /// where the sink failed.
+    /// when the sink failed.
     pub fn add<K: Sink>(
         &mut self,
         alloc: Global,

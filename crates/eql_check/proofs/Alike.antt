@@ -1,4 +1,4 @@
--- Keys are alike exactly where none differs from what is settled before it.
+-- Keys are alike exactly when none differs from what is settled before it.
 use Rattle.std.proofs.Common.{◌≡◌, ℕ, ◌+◌, List, [], ◌∷◌, true, Option, Some, None, refl, subst}
 use Rattle.std.specs.Prelude.{is_none}
 use Rattle.std.specs.List.{list_all}

@@ -9,7 +9,7 @@ use Rattle.std.proofs.lemmas.Bool.{cond-true, cond-false, cases_lt}
 use Rattle.std.proofs.lemmas.Bool.Decides.{nat_tests}
 use Rattle.std.proofs.lemmas.Cmp.{nat_list_cmp_total}
 use Rattle.std.proofs.lemmas.Str.{length-le-encodes}
-use Rattle.eql_check.specs.ByCharacters.{TextsByCharacters}
+use Rattle.eql_check.specs.ByCharacters.{TextsCompareByCharacters}
 
 -- the order of lists of bytes
 abbrev order : List ℕ → List ℕ → Ordering
@@ -129,7 +129,7 @@ first_decides c d s t rest = ⊎_elim less (λ (m : d ≤ c). ⊎_elim greater (
         ∙ past_same (encode_utf8 c) (encode_utf8_all s) (encode_utf8_all t) ∙ rest ∙ sym (past_same (c ∷ []) s t)
         ∙ ap (λ x. order (c ∷ s) (x ∷ t)) e
 
-pub texts_by_characters : TextsByCharacters
+pub texts_by_characters : TextsCompareByCharacters
 texts_by_characters [] [] = refl
 texts_by_characters [] (d ∷ t) = nothing_before_text d t
 texts_by_characters (c ∷ s) [] = turned (encode_utf8_all (c ∷ s)) [] (nothing_before_text c s)

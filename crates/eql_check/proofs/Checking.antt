@@ -1,4 +1,4 @@
--- No rule is broken exactly where there is no first broken rule.
+-- No rule is broken exactly when there is no first broken rule.
 use Rattle.std.proofs.Common.{◌≡◌, ℕ, ◌+◌, pos, List, [], ◌∷◌, length, true, ◌&&◌, Option, Some, None, refl, ap, ◌∙◌}
 use Rattle.std.specs.Prelude.{int_le, nat_le, ◌==◌}
 use Rattle.std.specs.List.{list_all}
@@ -15,7 +15,7 @@ use Rattle.eql_check.specs.FirstBroken.{Found, kind_of}
 use Rattle.eql_check.specs.Conditions.{all_items, own_count, shared_keys, key_count}
 use Rattle.eql_check.specs.Used.{used_fields}
 use Rattle.eql_check.specs.Rules.{Broken, unless, or_next, unless_bool, are_runs, is_known, keys_broken, item_broken, items_broken, kinds_broken, counts_broken, stage_count, stages_broken, counted, limit_broken, is_span, span_broken, span_of, is_pipe, pipes_broken, whole_broken, first_broken}
-use Rattle.eql_check.specs.Typing.{IsItem, AreItems, no_items, more_items, has_stages, may_span, IsChecked, ExactlyChecked}
+use Rattle.eql_check.specs.Typing.{IsItem, AreItems, no_items, more_items, has_stages, may_span, IsChecked, CheckIsExact}
 use Rattle.eql_check.proofs.Breaking.{or_none, none_of, unless_none, unless_true, both_true}
 use Rattle.eql_check.proofs.Typing.{both_ok, finds, holds}
 use Rattle.eql_check.proofs.Alike.{alike_from, alike_to}
@@ -173,7 +173,7 @@ module _ (mapping : List ℕ → Option Kind) where
         (unless_true (nat_le (length query.pipes) 8 && list_all is_pipe query.pipes) broken.Pipe
         (both_true (nat_le (length query.pipes) 8) (list_all is_pipe query.pipes) c.few_pipes c.pipes)))))))))
 
-pub exactly_checked : ExactlyChecked
+pub exactly_checked : CheckIsExact
 exactly_checked mapping query = (λ e. checked_from mapping query e, λ c. checked_to mapping query c)
 
 pub is_checked : (mapping : List ℕ → Option Kind) (query : QueryTree) → first_broken mapping query ≡ None → IsChecked mapping query

@@ -11,7 +11,7 @@ use Rattle.indexmap.specs.IndexMap.{insert_entry}
 use Rattle.eql_values.specs.declared.value.Kind.{Kind}
 use Rattle.eql_values.specs.Orders.{text_eq}
 use Rattle.eql_check.specs.Entering.{use_field}
-use Rattle.eql_check.specs.Entries.{fields_of}
+use Rattle.eql_check.specs.Entries.{fields_in_entries}
 
 -- strings are equal where their characters are
 same_text : (a b : String Global) → text_eq (chars (string_bytes a)) (chars (string_bytes b)) ≡ string_eq a b
@@ -21,17 +21,17 @@ same_text a b =
     ∙ is_eq-slice_cmp (string_bytes a) (string_bytes b)
 
 by_test : (e : String Global × Kind) (k : Kind) (es : List (String Global × Kind)) (fs gs : List (List ℕ × Kind)) (s : String Global) (b : Bool) →
-    fields_of (insert_entry string_eq es s k) ≡ gs → fields_of es ≡ fs →
-    fields_of (if b then (e.0, k) ∷ es else e ∷ insert_entry string_eq es s k)
+    fields_in_entries (insert_entry string_eq es s k) ≡ gs → fields_in_entries es ≡ fs →
+    fields_in_entries (if b then (e.0, k) ∷ es else e ∷ insert_entry string_eq es s k)
     ≡ (if b then (chars (string_bytes e.0), k) ∷ fs else (chars (string_bytes e.0), e.1) ∷ gs)
 by_test e k es fs gs s true h i = ap (λ xs. (chars (string_bytes e.0), k) ∷ xs) i
 by_test e k es fs gs s false h i = ap (λ xs. (chars (string_bytes e.0), e.1) ∷ xs) h
 
 -- an entry is entered as a field is used
 pub entered : (entries : List (String Global × Kind)) (name : String Global) (k : Kind) →
-    fields_of (insert_entry string_eq entries name k) ≡ use_field (fields_of entries) (chars (string_bytes name)) k
+    fields_in_entries (insert_entry string_eq entries name k) ≡ use_field (fields_in_entries entries) (chars (string_bytes name)) k
 entered [] name k = refl
 entered (e ∷ es) name k =
-    by_test e k es (fields_of es) (use_field (fields_of es) (chars (string_bytes name)) k) name (string_eq name e.0) (entered es name k) refl
-    ∙ ap (λ b. if b then (chars (string_bytes e.0), k) ∷ fields_of es else (chars (string_bytes e.0), e.1) ∷ use_field (fields_of es) (chars (string_bytes name)) k)
+    by_test e k es (fields_in_entries es) (use_field (fields_in_entries es) (chars (string_bytes name)) k) name (string_eq name e.0) (entered es name k) refl
+    ∙ ap (λ b. if b then (chars (string_bytes e.0), k) ∷ fields_in_entries es else (chars (string_bytes e.0), e.1) ∷ use_field (fields_in_entries es) (chars (string_bytes name)) k)
     (sym (same_text name e.0))

@@ -1,4 +1,4 @@
--- The rules of kinds hold exactly where a kind is found.
+-- The rules of kinds hold exactly when a kind is found.
 use Rattle.std.proofs.Common.{◌≡◌, ℕ, List, ◌∷◌, length, Bool, true, false, ◌&&◌, Option, Some, None, refl, ap, ◌∙◌, subst, if◌then◌else◌}
 use Rattle.std.specs.declared.result.Result.TheVariants.{Ok, Err}
 use Rattle.eql_values.specs.declared.value.Kind.{Kind}
@@ -12,7 +12,7 @@ use Rattle.eql_values.specs.Fitting.{may_be}
 use Rattle.eql_check.specs.Kinds.{can_compare, can_be_among, holds_field}
 use Rattle.eql_check.specs.Calls.{takes_count, takes_kinds, given_by, bad_block_of, shown}
 use Rattle.eql_check.specs.FirstBroken.{Found, AllFound, bind, bind_all, and_more, given, unless_fields, connective, comparison, in_form, call_kind, field_kind, all_bool, kind_of, kinds_of}
-use Rattle.eql_check.specs.Typing.{HasKind, HaveKinds, of_null, of_bool, of_long, of_str, of_field, of_no_field, of_not, of_and, of_or, of_cmp, of_pattern, of_member, of_neg, of_math, of_call, of_none, of_more, ExactlyTyped}
+use Rattle.eql_check.specs.Typing.{HasKind, HaveKinds, of_null, of_bool, of_long, of_str, of_field, of_no_field, of_not, of_and, of_or, of_cmp, of_pattern, of_member, of_neg, of_math, of_call, of_none, of_more, KindsAreExact}
 use Rattle.eql_check.proofs.Breaking.{both_true}
 
 -- what came out fine came from parts that did
@@ -190,5 +190,5 @@ module _ (item : ℕ) (mapping : List ℕ → Option Kind) where
         let x = and_more_ok (kind_of item mapping a) (kinds_of item mapping es) ks e in
         subst (λ y. HaveKinds mapping (more a es) y) x.4 (of_more (holds a x.0 x.2) (all_hold es x.1 x.3))
 
-pub exactly_typed : ExactlyTyped
+pub exactly_typed : KindsAreExact
 exactly_typed item mapping a k = (λ e. holds item mapping a k e, λ h. finds item mapping h)

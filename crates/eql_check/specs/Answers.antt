@@ -1,4 +1,4 @@
--- What the parts of the check answer.
+-- What the parts of the check return.
 use Rattle.std.specs.Prelude.{◌≡◌, ℕ, List, ◌++◌, Bool, ◌&&◌, Option, Some, None, ⊤}
 use Rattle.std.specs.declared.result.Result.{Result}
 use Rattle.std.specs.declared.result.Result.TheVariants.{Ok, Err}
@@ -7,7 +7,7 @@ use Rattle.eql_check.specs.declared.refused.CheckRefused.{CheckRefused}
 use Rattle.eql_check.specs.declared.refused.CheckRefused.TheVariants.{Memory}
 use Rattle.eql_check.specs.FirstBroken.{AllFound, all_bool}
 
--- the answer or the broken rule, or else want of memory
+-- the value or the broken rule, or else want of memory
 abbrev pub Answers : {A : Type 0} → Result A CheckRefused → Result A CheckRefused → Type 0
 Answers (Err Memory) wanted = Unit {0}
 Answers got wanted = got ≡ wanted

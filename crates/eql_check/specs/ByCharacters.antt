@@ -7,8 +7,8 @@ use Rattle.eql_values.specs.Orders.{text_cmp}
 
 -- the order of two texts is that of their characters: the first that differ decide, by their numbers, and a text
 -- comes before one that goes on after it
-abbrev pub TextsByCharacters : Type 0
-TextsByCharacters = (s t : List ℕ) → text_cmp s t ≡ slice_cmp nat_cmp s t
+abbrev pub TextsCompareByCharacters : Type 0
+TextsCompareByCharacters = (s t : List ℕ) → text_cmp s t ≡ slice_cmp nat_cmp s t
 
 -- U+FFFD comes before U+10000, which UTF-16 would have the other way round
 above_16_bits : text_cmp (65533 ∷ []) (65536 ∷ []) ≡ Less

@@ -45,7 +45,7 @@ says Gt o = not (is_le o)
 abbrev pub compared : CmpOp → Value → Value → Value
 compared op a b = truth (option_map (says op) (order_of a b))
 
--- a comparison with the literal `null` on a side: a value equals it exactly where it is null
+-- a comparison with the literal `null` on a side: a value equals it exactly when it is null
 abbrev pub compared_with_null : CmpOp → Value → Value → Value
 compared_with_null Eq a b = value.Bool (is_null a && is_null b)
 compared_with_null Ne a b = value.Bool (not (is_null a && is_null b))
@@ -70,15 +70,15 @@ matches_one op (value.Text s) patterns = value.Bool (fits_one (pattern_folds op)
 matches_one op _ patterns = value.Null
 
 -- whether an address was read, and is this one
-abbrev pub is_address : ℕ → Option ℕ → Bool
-is_address a None = false
-is_address a (Some b) = a == b
+abbrev pub is_this_address : ℕ → Option ℕ → Bool
+is_this_address a None = false
+is_this_address a (Some b) = a == b
 
 -- whether a value equals a literal of a list: texts with folding where it is asked for, an address where the
 -- literal writes it, and every other value where the two are one and the same
 abbrev pub is_literal : Bool → Value → Value → Bool
 is_literal fold (value.Text a) (value.Text b) = equal fold a b
-is_literal fold (value.Ip a) (value.Text t) = is_address a (parse_ip4 t)
+is_literal fold (value.Ip a) (value.Text t) = is_this_address a (parse_ip4 t)
 is_literal fold a b = value_eq a b
 
 abbrev pub is_one : Bool → Value → List Value → Bool

@@ -8,8 +8,8 @@ use Rattle.eql_query.specs.declared.query.Term.{Term}
 use Rattle.eql_query.specs.QueryTree.{TermTree, term_tree}
 
 -- fields by their names' characters
-abbrev pub fields_of : List (String Global × Kind) → List (List ℕ × Kind)
-fields_of entries = map (λ entry. (chars (string_bytes entry.0), entry.1)) entries
+abbrev pub fields_in_entries : List (String Global × Kind) → List (List ℕ × Kind)
+fields_in_entries entries = map (λ entry. (chars (string_bytes entry.0), entry.1)) entries
 
 -- the trees of lent items
 abbrev pub terms_in : List (Bor Term) → List TermTree

@@ -1,4 +1,4 @@
--- What the reading of a mapping answers.
+-- What the reading of a mapping returns.
 use Rattle.std.specs.Prelude.{◌≡◌}
 use Rattle.std.specs.declared.result.Result.TheVariants.{Err}
 use Rattle.eql_check.specs.declared.mapping.MapRefused.TheVariants.{Memory}

@@ -104,10 +104,10 @@ pub record IsChecked (mapping : List ℕ → Option Kind) (query : QueryTree) : 
   pub few_pipes : nat_le (length query.pipes) 8 ≡ true
   pub pipes : list_all is_pipe query.pipes ≡ true
 
--- the function that gives the first broken rule gives none exactly where none is broken
-abbrev pub ExactlyChecked : Type 0
-ExactlyChecked = (mapping : List ℕ → Option Kind) (query : QueryTree) → (first_broken mapping query ≡ None) ↔ IsChecked mapping query
+-- the function that gives the first broken rule gives none exactly when none is broken
+abbrev pub CheckIsExact : Type 0
+CheckIsExact = (mapping : List ℕ → Option Kind) (query : QueryTree) → (first_broken mapping query ≡ None) ↔ IsChecked mapping query
 
--- an expression of an item has a kind by the rules exactly where the function finds that kind
-abbrev pub ExactlyTyped : Type 0
-ExactlyTyped = (item : ℕ) (mapping : List ℕ → Option Kind) (a : Tree) (k : Option Kind) → (kind_of item mapping a ≡ Ok k) ↔ HasKind mapping a k
+-- an expression of an item has a kind by the rules exactly when the function finds that kind
+abbrev pub KindsAreExact : Type 0
+KindsAreExact = (item : ℕ) (mapping : List ℕ → Option Kind) (a : Tree) (k : Option Kind) → (kind_of item mapping a ≡ Ok k) ↔ HasKind mapping a k

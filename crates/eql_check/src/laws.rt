@@ -1,18 +1,18 @@
 //! Laws of the rules of kinds, and of what the operators mean.
-ghost use Rattle.eql_check.specs.ByCharacters.{TextsByCharacters};
+ghost use Rattle.eql_check.specs.ByCharacters.{TextsCompareByCharacters};
 ghost use Rattle.eql_check.specs.Arithmetic.{FloorsAreExact};
-ghost use Rattle.eql_check.specs.Typing.{ExactlyChecked, ExactlyTyped};
+ghost use Rattle.eql_check.specs.Typing.{CheckIsExact, KindsAreExact};
 ghost use Rattle.eql_check.specs.Kept.{KeepsKinds, MeetsKinds};
 ghost use Rattle.eql_check.specs.ThreeValued.{ConnectivesRead};
 
-/// The rules, one by one, hold of an expression exactly where no first broken rule is found in it.
+/// The rules, one by one, hold of an expression exactly when no first broken rule is found in it.
 pub fn kinds_are_exact()
-    ensures { ExactlyTyped }
+    ensures { KindsAreExact }
 {}
 
-/// No rule is broken exactly where there is no first broken rule.
+/// No rule is broken exactly when there is no first broken rule.
 pub fn check_is_exact()
-    ensures { ExactlyChecked }
+    ensures { CheckIsExact }
 {}
 
 /// Where each field has a value of its kind, or null, each expression means a value of its kind, or null.
@@ -39,5 +39,5 @@ pub fn floors_are_exact()
 
 /// Texts are ordered by their characters: the first that differ decide, by their numbers.
 pub fn texts_by_characters()
-    ensures { TextsByCharacters }
+    ensures { TextsCompareByCharacters }
 {}

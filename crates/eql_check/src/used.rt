@@ -22,11 +22,11 @@ pub(crate) struct Used {
 impl Model for Used {
     ghost use Rattle.std.specs.Prelude.{List, ℕ, map};
     ghost use Rattle.eql_values.specs.declared.value.Kind.{Kind as FieldKind};
-    ghost use Rattle.eql_check.specs.Entries.{fields_of};
+    ghost use Rattle.eql_check.specs.Entries.{fields_in_entries};
 
     ghost Value = { List (List ℕ × FieldKind) };
 
-    ghost view = { λ u. fields_of u.fields.entries };
+    ghost view = { λ u. fields_in_entries u.fields.entries };
 }
 
 impl Used {

@@ -12,7 +12,7 @@ use Rattle.eql_ckdisk.specs.Found.{Found, nothing, text, damaged, found, Finds, 
 use Rattle.eql_ckdisk.specs.Going.{Keeps}
 use Rattle.eql_ckdisk.specs.Keeping.{all_kept, KeepsAll}
 use Rattle.eql_ckdisk.specs.Heads.{IsTextFound}
-use Rattle.eql_ckdisk.specs.Putting.{last_cut, Stands, text_at, PutsText, PutText}
+use Rattle.eql_ckdisk.specs.Putting.{last_cut, Stands, text_at, PutsText, HasPutText}
 use Rattle.eql_ckdisk.specs.Cuts.{FindsCut, IsFound, Holds, KeepsOrPuts, Puts}
 use Rattle.eql_ckdisk.specs.Recovering.{IsAnswer}
 use Rattle.eql_ckdisk.specs.Refusing.{number_of, IsDamaged, IsDamagedHead, IfDamaged}
@@ -160,7 +160,7 @@ module _ (last : LastCut) (cut : Cut) (bytes : List ℕ) (t : IsText 3 cut bytes
   told_put (Some h) None put = put
   told_put (Some h) (Some k) put = cut_put h k put
 
-  pub told_holds : (new : LastCut) (o p : Option History) → new ≡ next last → DiskTells (PutText last bytes) o p
+  pub told_holds : (new : LastCut) (o p : Option History) → new ≡ next last → DiskTells (HasPutText last bytes) o p
       → IfSome p (λ k. Holds new cut k.now)
   told_holds new None None is put = tt
   told_holds new None (Some k) is put = absurd put

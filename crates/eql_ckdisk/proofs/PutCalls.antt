@@ -7,7 +7,7 @@ use Rattle.eql_ckdisk.specs.Found.{Found, nothing, text, damaged, generation_of,
 use Rattle.eql_ckdisk.specs.Going.{Goes, Keeps}
 use Rattle.eql_ckdisk.specs.Writing.{WritesAndSyncs, WroteThrough}
 use Rattle.eql_outside.specs.DiskLaws.{ImagesAreThere}
-use Rattle.eql_ckdisk.specs.Putting.{Stands, text_at, PutsText, PutText}
+use Rattle.eql_ckdisk.specs.Putting.{Stands, text_at, PutsText, HasPutText}
 use Rattle.eql_ckdisk.proofs.Moving.{stays}
 use Rattle.eql_ckdisk.proofs.PutSteps.{OtherFinds, others_at_start, first, second, third, done}
 
@@ -90,7 +90,7 @@ module _ (there : ImagesAreThere) (last : LastCut) (bytes : List ℕ) (limit : l
 
     pub put_done : (o p q r : Option History) → Stands last o → DiskTells (WroteThrough area shut) o p
         → DiskTells (WroteThrough area (record { at = 1; bytes = blk })) p q → DiskTells (WroteThrough area open_) q r
-        → DiskTells (PutText last bytes) o r
+        → DiskTells (HasPutText last bytes) o r
     put_done None None None None stands one two three = tt
     put_done None None None (Some k) stands one two three = three
     put_done None None (Some j) r stands one two three = absurd two
@@ -112,7 +112,7 @@ weaker area None (Some k) w told = told
 weaker area (Some h) None w told = told
 weaker area (Some h) (Some k) w told = told.going
 
--- whatever the last call answered
+-- whatever the last call returned
 pub either : {T E : Type 0} (r : Result T E) (P Q X : Type 0) → OnOk r P → OnErr r Q → (P → X) → (Q → X) → X
 either (Ok x) P Q X p q f g = f p
 either (Err e) P Q X p q f g = g q

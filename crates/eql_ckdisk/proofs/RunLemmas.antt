@@ -11,13 +11,13 @@ use Rattle.eql_outside.specs.Moments.{History, DiskTells}
 use Rattle.eql_cut.specs.declared.cut.Cut.{Cut}
 use Rattle.eql_cut.specs.Whole.{IsText}
 use Rattle.eql_ckdisk.specs.Found.{Found, nothing, text, damaged, found, generation_of, LastCut, next}
-use Rattle.eql_ckdisk.specs.Going.{Steps, Goes, AtLeast, NoOlder}
-use Rattle.eql_ckdisk.specs.Keeping.{NoMore}
+use Rattle.eql_ckdisk.specs.Going.{Steps, Goes, IsAtLeast, IsNoOlder}
+use Rattle.eql_ckdisk.specs.Keeping.{LeavesNoMore}
 use Rattle.eql_ckdisk.specs.Putting.{StandsAt, Stands, text_at}
 use Rattle.eql_ckdisk.specs.Cuts.{FindsPut, IsFound, KeepsOrPuts, Puts}
 use Rattle.eql_ckdisk.specs.Refusing.{IsDamaged}
 use Rattle.eql_ckdisk.specs.Runs.{last_after, IsFoundAt, FindsOneOf, KeepsStartOr, KeepsOneOf, PutsAll}
-use Rattle.eql_ckdisk.specs.Laws.{PutsGoOn, AtEachMoment, NothingMore, RecoveryAddsNothing, FoundIsOne, NeverOlder, PutsAreFound}
+use Rattle.eql_ckdisk.specs.Laws.{PutsGoOn, PutsKeepEachMoment, AddsNothing, RecoveryAddsNothing, FoundIsOne, PutsAreNoOlder, PutsAreFound}
 use Rattle.eql_ckdisk.proofs.Moving.{goes_further}
 
 steps_as : (R S : Moment → Moment → Type 0) → ((a b : Moment) → R a b → S a b) → (n : ℕ) (h k : History)
@@ -30,11 +30,11 @@ pub goes_as : (R S : Moment → Moment → Type 0) → ((a b : Moment) → R a b
 goes_as R S as_ h k goes = (goes.0, steps_as R S as_ goes.0 h k goes.1)
 
 -- an image after a recovery is one of those before it
-no_more : (n : ℕ) (h k : History) → Steps NoMore n h k → NoMore h.now k.now
+no_more : (n : ℕ) (h k : History) → Steps LeavesNoMore n h k → LeavesNoMore h.now k.now
 no_more zero h k is image i = subst (λ (x : History). IsImage x.now image) is i
 no_more (suc n) h k (j, steps, m, is, r) image i = no_more n h j steps image (r image (subst (λ (x : History). IsImage x.now image) is i))
 
-recovery_steps : (last : LastCut) (n : ℕ) (h k : History) → Steps NoMore n h k
+recovery_steps : (last : LastCut) (n : ℕ) (h k : History) → Steps LeavesNoMore n h k
     → Steps (KeepsOneOf h.now last []) n h k
 recovery_steps last zero h k is = is
 recovery_steps last (suc n) h k (j, steps, m, is, r) = (
@@ -48,7 +48,7 @@ recovery_steps last (suc n) h k (j, steps, m, is, r) = (
   },
 )
 
-recovery : (last : LastCut) (o p : Option History) → DiskTells (Goes NoMore) o p → DiskTells (PutsAll last []) o p
+recovery : (last : LastCut) (o p : Option History) → DiskTells (Goes LeavesNoMore) o p → DiskTells (PutsAll last []) o p
 recovery last None None told = tt
 recovery last None (Some k) told = told
 recovery last (Some h) None told = told
@@ -131,10 +131,10 @@ module _ (last : LastCut) (cuts : List Cut) (h : History) where
     moments : List Moment
     are_all : k.now ∷ k.past ≡ moments ++ h.now ∷ h.past
     each : All (KeepsStartOr h.now last cuts) moments
-    newest : All (λ m. NoOlder m k.now) (moments ++ h.now ∷ [])
-    no_older : AllPairs (λ m before. NoOlder before m) (moments ++ h.now ∷ [])
+    newest : All (λ m. IsNoOlder m k.now) (moments ++ h.now ∷ [])
+    no_older : AllPairs (λ m before. IsNoOlder before m) (moments ++ h.now ∷ [])
 
-  no_older_here : (m : Moment) → NoOlder m m
+  no_older_here : (m : Moment) → IsNoOlder m m
   no_older_here m n at_least = at_least
 
   since : (n : ℕ) (k : History) → Steps (KeepsOneOf h.now last cuts) n h k → Since k
@@ -142,27 +142,27 @@ module _ (last : LastCut) (cuts : List Cut) (h : History) where
     moments = [];
     are_all = (λ i. (is i).now ∷ (is i).past);
     each = λ k d lt. absurd (omega arith);
-    newest = All-cons (λ m. NoOlder m k.now) h.now [] (subst (λ (x : History). NoOlder h.now x.now) (sym is) (no_older_here h.now)) (λ k d lt. absurd (omega arith));
-    no_older = AllPairs-cons (λ m before. NoOlder before m) h.now [] (λ k d lt. absurd (omega arith)) (λ i j d lt within. absurd (omega arith));
+    newest = All-cons (λ m. IsNoOlder m k.now) h.now [] (subst (λ (x : History). IsNoOlder h.now x.now) (sym is) (no_older_here h.now)) (λ k d lt. absurd (omega arith));
+    no_older = AllPairs-cons (λ m before. IsNoOlder before m) h.now [] (λ k d lt. absurd (omega arith)) (λ i j d lt within. absurd (omega arith));
   }
   since (suc n) k (j, steps, m, is, r) =
       let so = since n j steps in
-      let older : All (λ before. NoOlder before m) (so.moments ++ h.now ∷ []) = λ i d lt g at_least. r.no_older g (so.newest i d lt g at_least) in
+      let older : All (λ before. IsNoOlder before m) (so.moments ++ h.now ∷ []) = λ i d lt g at_least. r.no_older g (so.newest i d lt g at_least) in
       let here : k.now ≡ m = ap (λ (x : History). x.now) is in
       record {
         moments = m ∷ so.moments;
         are_all = (λ i. (is i).now ∷ (is i).past) ∙ ap (λ (l : List Moment). m ∷ l) so.are_all;
         each = All-cons (KeepsStartOr h.now last cuts) m so.moments r.one so.each;
-        newest = subst (λ (x : Moment). All (λ before. NoOlder before x) (m ∷ (so.moments ++ h.now ∷ []))) (sym here)
-            (All-cons (λ before. NoOlder before m) m (so.moments ++ h.now ∷ []) (no_older_here m) older);
-        no_older = AllPairs-cons (λ x before. NoOlder before x) m (so.moments ++ h.now ∷ []) older so.no_older;
+        newest = subst (λ (x : Moment). All (λ before. IsNoOlder before x) (m ∷ (so.moments ++ h.now ∷ []))) (sym here)
+            (All-cons (λ before. IsNoOlder before m) m (so.moments ++ h.now ∷ []) (no_older_here m) older);
+        no_older = AllPairs-cons (λ x before. IsNoOlder before x) m (so.moments ++ h.now ∷ []) older so.no_older;
       }
 
-  no_older_end : (n : ℕ) (k : History) → Steps (KeepsOneOf h.now last cuts) n h k → NoOlder h.now k.now
-  no_older_end zero k is g at = subst (λ (x : History). AtLeast g x.now) (sym is) at
-  no_older_end (suc n) k (j, steps, m, is, r) g at = subst (λ (x : History). AtLeast g x.now) (sym is) (r.no_older g (no_older_end n j steps g at))
+  no_older_end : (n : ℕ) (k : History) → Steps (KeepsOneOf h.now last cuts) n h k → IsNoOlder h.now k.now
+  no_older_end zero k is g at = subst (λ (x : History). IsAtLeast g x.now) (sym is) at
+  no_older_end (suc n) k (j, steps, m, is, r) g at = subst (λ (x : History). IsAtLeast g x.now) (sym is) (r.no_older g (no_older_end n j steps g at))
 
-nothing_more : (n : ℕ) (h k : History) → Steps NoMore n h k → NothingMore h k
+nothing_more : (n : ℕ) (h k : History) → Steps LeavesNoMore n h k → AddsNothing h k
 nothing_more zero h k is = record {
   moments = [];
   are_all = (λ i. (is i).now ∷ (is i).past);
@@ -173,18 +173,18 @@ nothing_more (suc n) h k (j, steps, m, is, r) =
     record {
       moments = m ∷ so.moments;
       are_all = (λ i. (is i).now ∷ (is i).past) ∙ ap (λ (l : List Moment). m ∷ l) so.are_all;
-      each = All-cons (NoMore h.now) m so.moments (λ image i. no_more n h j steps image (r image i)) so.each;
+      each = All-cons (LeavesNoMore h.now) m so.moments (λ image i. no_more n h j steps image (r image i)) so.each;
     }
 
 pub recovery_adds_nothing : RecoveryAddsNothing
 recovery_adds_nothing h k goes = nothing_more goes.0 h k goes.1
 
-pub each_moment : AtEachMoment
+pub each_moment : PutsKeepEachMoment
 each_moment last cuts h k goes =
     let so = since last cuts h goes.0 k goes.1 in
     record { moments = so.moments; are_all = so.are_all; each = so.each; no_older = so.no_older }
 
-pub never_older : NeverOlder
+pub never_older : PutsAreNoOlder
 never_older last cuts h k goes = no_older_end last cuts h goes.0 k goes.1
 
 abbrev area_in : Found → Area

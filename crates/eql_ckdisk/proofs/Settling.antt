@@ -5,17 +5,17 @@ use Rattle.eql_outside.specs.declared.disk.Area.TheVariants.{A, B}
 use Rattle.eql_outside.specs.Areas.{Areas, MayLeave, Moment, IsImage, store, with_store, settled, seen_areas}
 use Rattle.eql_outside.specs.Moments.{History, DiskTells, reading, Syncs, RefusesSync}
 use Rattle.eql_ckdisk.specs.Going.{Goes}
-use Rattle.eql_ckdisk.specs.Keeping.{NoMore, all_kept, KeepsAll}
+use Rattle.eql_ckdisk.specs.Keeping.{LeavesNoMore, all_kept, KeepsAll}
 use Rattle.eql_ckdisk.proofs.Moving.{stays, goes_on, goes_further, fewer}
 
-synced : (area : Area) (h k : History) → Syncs area h k → Goes NoMore h k
+synced : (area : Area) (h k : History) → Syncs area h k → Goes LeavesNoMore h k
 synced area h k is =
-    goes_on NoMore h h k (with_store area (settled (store area h.now).seen) h.now) (stays NoMore h h refl) is (λ image i. fewer area h.now (settled (store area h.now).seen) (λ c left. inl (⊎_elim (λ (e : c ≡ (store area h.now).seen). e) (λ (e : c ≡ (store area h.now).seen). e) left)) image i)
+    goes_on LeavesNoMore h h k (with_store area (settled (store area h.now).seen) h.now) (stays LeavesNoMore h h refl) is (λ image i. fewer area h.now (settled (store area h.now).seen) (λ c left. inl (⊎_elim (λ (e : c ≡ (store area h.now).seen). e) (λ (e : c ≡ (store area h.now).seen). e) left)) image i)
 
-refused : (area : Area) (h k : History) → RefusesSync area h k → Goes NoMore h k
-refused area h k (inl is) = stays NoMore h k is
+refused : (area : Area) (h k : History) → RefusesSync area h k → Goes LeavesNoMore h k
+refused area h k (inl is) = stays LeavesNoMore h k is
 refused area h k (inr (seen, left, is)) =
-    goes_on NoMore h h k (with_store area (reading seen (store area h.now)) h.now) (stays NoMore h h refl) is (λ image i. fewer area h.now (reading seen (store area h.now)) less image i)
+    goes_on LeavesNoMore h h k (with_store area (reading seen (store area h.now)) h.now) (stays LeavesNoMore h h refl) is (λ image i. fewer area h.now (reading seen (store area h.now)) less image i)
   where
     less : (c : List ℕ) → MayLeave (reading seen (store area h.now)) c → MayLeave (store area h.now) c
     less c (inl same) = subst (MayLeave (store area h.now)) (sym same) left
@@ -23,7 +23,7 @@ refused area h k (inr (seen, left, is)) =
 
 both : (h j k : History) → Syncs A h j → Syncs B j k → KeepsAll h k
 both h j k a b = record {
-  going = goes_further NoMore h j k (synced A h j a) (synced B j k b);
+  going = goes_further LeavesNoMore h j k (synced A h j a) (synced B j k b);
   now =
       let kept : k.now ≡ record { a = j.now.a; b = settled j.now.b.seen } = ap (λ (x : History). x.now) b in
       let here : j.now.a ≡ settled h.now.a.seen = ap (λ (x : History). x.now.a) a in
@@ -31,19 +31,19 @@ both h j k a b = record {
       kept ∙ (λ i. record { a = here i; b = settled (there i).seen });
 }
 
-pub told_first : (o p : Option History) → DiskTells (RefusesSync A) o p → DiskTells (Goes NoMore) o p
+pub told_first : (o p : Option History) → DiskTells (RefusesSync A) o p → DiskTells (Goes LeavesNoMore) o p
 told_first None None told = tt
 told_first None (Some k) told = told
 told_first (Some h) None told = told
 told_first (Some h) (Some k) told = refused A h k told
 
-pub told_second : (o p q : Option History) → DiskTells (Syncs A) o p → DiskTells (RefusesSync B) p q → DiskTells (Goes NoMore) o q
+pub told_second : (o p q : Option History) → DiskTells (Syncs A) o p → DiskTells (RefusesSync B) p q → DiskTells (Goes LeavesNoMore) o q
 told_second None None None one two = tt
 told_second None None (Some k) one two = two
 told_second None (Some j) q one two = absurd one
 told_second (Some h) None q one two = absurd one
 told_second (Some h) (Some j) None one two = two
-told_second (Some h) (Some j) (Some k) one two = goes_further NoMore h j k (synced A h j one) (refused B j k two)
+told_second (Some h) (Some j) (Some k) one two = goes_further LeavesNoMore h j k (synced A h j one) (refused B j k two)
 
 pub told_both : (o p q : Option History) → DiskTells (Syncs A) o p → DiskTells (Syncs B) p q → DiskTells KeepsAll o q
 told_both None None None one two = tt
@@ -61,7 +61,7 @@ seen_alone m image kept i =
     let b : image.b ≡ m.b.seen = ⊎_elim (λ (e : image.b ≡ m.b.seen). e) (λ (e : image.b ≡ m.b.seen). e) j.b in
     (λ i. record { a = a i; b = b i })
 
-pub told_going : (o p : Option History) → DiskTells KeepsAll o p → DiskTells (Goes NoMore) o p
+pub told_going : (o p : Option History) → DiskTells KeepsAll o p → DiskTells (Goes LeavesNoMore) o p
 told_going None None told = tt
 told_going None (Some k) told = told
 told_going (Some h) None told = told

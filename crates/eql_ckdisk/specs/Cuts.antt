@@ -5,7 +5,7 @@ use Rattle.eql_cut.specs.Whole.{IsText, IsTextOf}
 use Rattle.eql_outside.specs.Areas.{Moment}
 use Rattle.eql_outside.specs.Moments.{History}
 use Rattle.eql_ckdisk.specs.Found.{Found, nothing, Finds, EachFinds, LastCut, IsAt, next}
-use Rattle.eql_ckdisk.specs.Going.{Goes, NoOlder}
+use Rattle.eql_ckdisk.specs.Going.{Goes, IsNoOlder}
 use Rattle.eql_ckdisk.specs.Putting.{text_at}
 
 -- what was found is the text of this cut in format 3, in this area with this generation
@@ -16,7 +16,7 @@ FindsPut last cut found = (bytes : List ℕ) × (found ≡ text_at last bytes) �
 abbrev pub FindsCut : LastCut → ℕ → Cut → Found → Type 0
 FindsCut last format cut found = (bytes : List ℕ) × (found ≡ text_at last bytes) × IsTextOf format cut bytes
 
--- what was found is nothing and the answer is none, with format and generation 0; or it is this cut
+-- what was found is nothing and the result is none, with format and generation 0; or it is this cut
 abbrev pub IsFound : LastCut → ℕ → Option Cut → Found → Type 0
 IsFound last format None found = (found ≡ nothing) × (format ≡ 0) × (last.generation ≡ 0)
 IsFound last format (Some cut) found = FindsCut last format cut found
@@ -29,7 +29,7 @@ Holds last cut m = (bytes : List ℕ) × IsText 3 cut bytes × Finds (text_at la
 -- before
 pub record KeepsOrPuts (f : Found) (last : LastCut) (cut : Cut) (before m : Moment) : Type 0 where
   pub one : EachFinds (λ x. (x ≡ f) ⊎ FindsPut last cut x) m
-  pub no_older : NoOlder before m
+  pub no_older : IsNoOlder before m
 
 -- a cut is put: so it is at each moment since
 abbrev pub Puts : LastCut → Cut → History → History → Type 0

@@ -14,14 +14,14 @@ abbrev pub Goes : (Moment → Moment → Type 0) → History → History → Typ
 Goes R h k = (n : ℕ) × Steps R n h k
 
 -- each image at the moment has at least this generation
-abbrev pub AtLeast : ℕ → Moment → Type 0
-AtLeast g m = EachFinds (λ x. g ≤ generation_of x) m
+abbrev pub IsAtLeast : ℕ → Moment → Type 0
+IsAtLeast g m = EachFinds (λ x. g ≤ generation_of x) m
 
 -- where each image at the earlier moment has at least a generation, so has each at the later one
-abbrev pub NoOlder : Moment → Moment → Type 0
-NoOlder before m = (n : ℕ) → AtLeast n before → AtLeast n m
+abbrev pub IsNoOlder : Moment → Moment → Type 0
+IsNoOlder before m = (n : ℕ) → IsAtLeast n before → IsAtLeast n m
 
 -- each image at the moment stands for one of these, and none is older than all at the moment before
 pub record Keeps (f g : Found) (before m : Moment) : Type 0 where
   pub one : EachFinds (λ x. (x ≡ f) ⊎ (x ≡ g)) m
-  pub no_older : NoOlder before m
+  pub no_older : IsNoOlder before m

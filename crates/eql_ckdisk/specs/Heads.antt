@@ -17,7 +17,7 @@ IsTextFound last (text area generation bytes) =
     IsSomeAnd last.text (λ v. v.items ≡ bytes) × (last.state.area ≡ area) × (last.state.generation ≡ generation)
 IsTextFound last (damaged area generation) = ⊥
 
--- there is a text exactly where the generation isn't 0
+-- there is a text exactly when the generation isn't 0
 abbrev pub IsNoneOrText : {T : Type 0} → Option T → ℕ → Type 0
 IsNoneOrText None generation = generation ≡ 0
 IsNoneOrText (Some bytes) generation = (1 ≤ generation) × (generation ≤ 2 ^ 63)

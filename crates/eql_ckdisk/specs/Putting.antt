@@ -30,6 +30,6 @@ PutsText last bytes h k =
     (f : Found) → IsAt last f → Finds f h.now → Goes (Keeps f (text_at (next last) bytes)) h k
 
 -- and then the new one alone stands there
-pub record PutText (last : LastCut) (bytes : List ℕ) (h k : History) : Type 0 where
+pub record HasPutText (last : LastCut) (bytes : List ℕ) (h k : History) : Type 0 where
   pub going : PutsText last bytes h k
   pub finds : Finds (text_at (next last) bytes) k.now

@@ -1,4 +1,4 @@
--- What a recovery answers, of any disk.
+-- What a recovery returns, of any disk.
 use Rattle.std.specs.Prelude.{◌≡◌, ◌≤◌, ◌^◌, ℕ, List, Option, Some, None}
 use Rattle.eql_cut.specs.declared.cut.Cut.{Cut}
 use Rattle.eql_cut.specs.Domain.{IsCut}
@@ -18,6 +18,6 @@ IsNoneOrCut (Some cut) format generation =
 abbrev pub IsSound : Recovered → Type 0
 IsSound recovered = IsNoneOrCut recovered.cut recovered.format (last_cut recovered.state).generation
 
--- the answer is what was found
+-- the result is what was found
 abbrev pub IsAnswer : Recovered → Found → Type 0
 IsAnswer recovered found = IsFound (last_cut recovered.state) recovered.format recovered.cut found

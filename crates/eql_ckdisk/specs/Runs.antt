@@ -4,7 +4,7 @@ use Rattle.eql_cut.specs.declared.cut.Cut.{Cut}
 use Rattle.eql_outside.specs.Areas.{Areas, Moment, IsImage}
 use Rattle.eql_outside.specs.Moments.{History}
 use Rattle.eql_ckdisk.specs.Found.{Found, found, EachFinds, LastCut, next}
-use Rattle.eql_ckdisk.specs.Going.{Goes, NoOlder}
+use Rattle.eql_ckdisk.specs.Going.{Goes, IsNoOlder}
 use Rattle.eql_ckdisk.specs.Cuts.{FindsPut}
 
 -- where the last cut stands after these were put
@@ -28,7 +28,7 @@ KeepsStartOr start last cuts m = EachFinds (λ x. IsFoundAt start x ⊎ FindsOne
 -- and none is older than all at the moment before
 pub record KeepsOneOf (start : Moment) (last : LastCut) (cuts : List Cut) (before m : Moment) : Type 0 where
   pub one : KeepsStartOr start last cuts m
-  pub no_older : NoOlder before m
+  pub no_older : IsNoOlder before m
 
 -- the cuts are put one after another: so it is at each moment since
 abbrev pub PutsAll : LastCut → List Cut → History → History → Type 0

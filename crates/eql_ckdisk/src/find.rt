@@ -6,7 +6,7 @@ ghost use Rattle.eql_outside.specs.Outside.{Rose};
 ghost use Rattle.eql_outside.specs.Unfailing.{IsUnfailing};
 ghost use Rattle.eql_ckdisk.specs.Found.{found, holds};
 ghost use Rattle.eql_ckdisk.specs.Going.{Goes};
-ghost use Rattle.eql_ckdisk.specs.Keeping.{NoMore, KeepsAll};
+ghost use Rattle.eql_ckdisk.specs.Keeping.{LeavesNoMore, KeepsAll};
 ghost use Rattle.eql_ckdisk.specs.Refusing.{number_of, IfDamaged, IsDamagedHead};
 
 use crate::head::{HEAD_BYTES, Head};
@@ -47,7 +47,7 @@ fn damaged_in(area: Area) -> CkRefused
 /// Keeps what reads give of both areas.
 pub(crate) fn settle<D: Disk>(alloc: Global, disk: &mut D) -> Result<(), OutRefused>
     ensures ok { OnOk result (DiskTells KeepsAll (D.history disk.old) (D.history disk.new)) }
-    ensures refused { OnErr result (DiskTells (Goes NoMore)
+    ensures refused { OnErr result (DiskTells (Goes LeavesNoMore)
         (D.history disk.old) (D.history disk.new)) }
     ensures cause { result ≡ Err OutRefused.Failed
         → Rose (D.fault_count disk.old) (D.fault_count disk.new) }

@@ -1,5 +1,5 @@
 //! Laws of recoveries and of puts one after another, each as the contract of a function that does nothing.
-ghost use Rattle.eql_ckdisk.specs.Laws.{AtEachMoment, FoundIsOne, NeverOlder, PutsAreFound, PutsGoOn};
+ghost use Rattle.eql_ckdisk.specs.Laws.{FoundIsOne, PutsAreFound, PutsAreNoOlder, PutsGoOn, PutsKeepEachMoment};
 ghost use Rattle.eql_ckdisk.specs.Laws.{RecoveryAddsNothing};
 
 use eql_outside::crashes_leave_images;
@@ -14,7 +14,7 @@ pub fn puts_go_on()
 /// At each moment of a run of puts each image stands for what an image at its start stands for, or for one of the
 /// cuts, and none is older than one before it.
 pub fn at_each_moment()
-    ensures { AtEachMoment }
+    ensures { PutsKeepEachMoment }
 {}
 
 /// At each moment of a recovery each image is one of those at its start.
@@ -25,15 +25,15 @@ pub fn recovery_adds_nothing()
 /// At the end of a run of puts no image is older than all at its start, so what was acknowledged is never followed by
 /// something older.
 pub fn never_older()
-    ensures { NeverOlder }
+    ensures { PutsAreNoOlder }
 {}
 
-/// A recovery that finds a cut that was put answers that cut, in format 3, with its area and its generation.
+/// A recovery that finds a cut that was put returns that cut, in format 3, with its area and its generation.
 pub fn puts_are_found()
     ensures { PutsAreFound }
 {}
 
-/// What is found has one answer of a recovery, and none where it is damaged.
+/// What is found has one result of a recovery, and none where it is damaged.
 pub fn found_is_one()
     ensures { FoundIsOne }
 {}

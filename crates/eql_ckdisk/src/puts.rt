@@ -8,7 +8,7 @@ ghost use Rattle.eql_outside.specs.Outside.{Rose};
 ghost use Rattle.eql_outside.specs.Unfailing.{IsUnfailing};
 ghost use Rattle.eql_ckdisk.specs.Found.{block, next};
 ghost use Rattle.eql_ckdisk.specs.Cuts.{Holds, Puts};
-ghost use Rattle.eql_ckdisk.specs.Putting.{PutText, PutsText, Stands, last_cut};
+ghost use Rattle.eql_ckdisk.specs.Putting.{HasPutText, PutsText, Stands, last_cut};
 ghost use Rattle.eql_ckdisk.specs.Refusing.{IfDamaged};
 
 use crate::refused::CkRefused;
@@ -52,7 +52,7 @@ fn put_block<D: Disk>(
     requires head { made.now ≡ block ((last_cut state).generation + 1) (drop 16 made.now) }
     ensures moments { DiskTells (PutsText (last_cut state) (drop 16 made.now))
         (D.history disk.old) (D.history disk.new) }
-    ensures done { OnOk result (DiskTells (PutText (last_cut state) (drop 16 made.now))
+    ensures done { OnOk result (DiskTells (HasPutText (last_cut state) (drop 16 made.now))
         (D.history disk.old) (D.history disk.new)) }
     ensures cause { result ≡ Err OutRefused.Failed
         → Rose (D.fault_count disk.old) (D.fault_count disk.new) }
@@ -86,7 +86,7 @@ pub fn put<D: Disk>(
     requires stands { Stands (last_cut state.old) (D.history disk.old) }
     requires ordered { IsCut cut.now }
 
-    // At each moment of the call, whatever it answers.
+    // At each moment of the call, whatever it returns.
     ensures moments { DiskTells (Puts (last_cut state.old) cut.now)
         (D.history disk.old) (D.history disk.new) }
     ensures done { OnOk result (IfSome (D.history disk.new)
@@ -99,7 +99,7 @@ pub fn put<D: Disk>(
     ensures untouched { result ≡ Err CkRefused.Generation → disk.new ≡ disk.old }
     ensures undamaged { IfErr result (λ e. IfDamaged e (λ _ _. ⊥)) }
 
-    // The disk's count rises where its fault is answered, and nowhere else.
+    // The disk's count rises where its fault is returned, and nowhere else.
     ensures cause { result ≡ Err CkRefused.DiskFault
         → Rose (D.fault_count disk.old) (D.fault_count disk.new) }
     ensures steady { result ≢ Err CkRefused.DiskFault

@@ -5,7 +5,7 @@ ghost use Rattle.eql_outside.specs.Outside.{Rose};
 ghost use Rattle.eql_outside.specs.Unfailing.{IsUnfailing};
 ghost use Rattle.eql_ckdisk.specs.Found.{Found, EachFinds};
 ghost use Rattle.eql_ckdisk.specs.Going.{Goes};
-ghost use Rattle.eql_ckdisk.specs.Keeping.{NoMore, KeepsAll};
+ghost use Rattle.eql_ckdisk.specs.Keeping.{LeavesNoMore, KeepsAll};
 ghost use Rattle.eql_ckdisk.specs.Putting.{Stands, last_cut};
 ghost use Rattle.eql_ckdisk.specs.Recovering.{IsAnswer, IsSound};
 ghost use Rattle.eql_ckdisk.specs.Refusing.{IfDamaged, IsDamaged};
@@ -77,21 +77,21 @@ pub fn recover<D: Disk>(alloc: Global, disk: &mut D) -> Result<Recovered, CkRefu
     // Of any disk: a cut has a text in its format, and a generation from 1 on.
     ensures sound { IfOk result IsSound }
 
-    // Each image is answered so from now on.
+    // Each image gives this result from now on.
     ensures found { IfOk result
         (λ r. IfSome (D.history disk.new) (λ k. EachFinds (IsAnswer r) k.now)) }
     ensures stands { IfOk result (λ r. Stands (last_cut r.state) (D.history disk.new)) }
     ensures kept { OnOk result (DiskTells KeepsAll (D.history disk.old) (D.history disk.new)) }
 
-    // At each moment of the call, whatever it answers.
-    ensures moments { DiskTells (Goes NoMore) (D.history disk.old) (D.history disk.new) }
+    // At each moment of the call, whatever it returns.
+    ensures moments { DiskTells (Goes LeavesNoMore) (D.history disk.old) (D.history disk.new) }
     ensures damaged { IfErr result (λ e. IfDamaged e (λ area at. IfSome (D.history disk.new)
         (λ k. EachFinds (IsDamaged area at) k.now))) }
     ensures damaged_kept { IfErr result (λ e. IfDamaged e
         (λ area at. DiskTells KeepsAll (D.history disk.old) (D.history disk.new))) }
     ensures limit { result ≢ Err CkRefused.Generation }
 
-    // The disk's count rises where its fault is answered, and nowhere else.
+    // The disk's count rises where its fault is returned, and nowhere else.
     ensures cause { result ≡ Err CkRefused.DiskFault
         → Rose (D.fault_count disk.old) (D.fault_count disk.new) }
     ensures steady { result ≢ Err CkRefused.DiskFault

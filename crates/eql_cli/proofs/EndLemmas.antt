@@ -16,7 +16,7 @@ use Rattle.eql_runs.specs.CutRefusals.{CutRefusal, cut_text}
 use Rattle.eql_runs.specs.Files.{Files}
 use Rattle.eql_runs.specs.Refusals.{Names, Refusal, Refuses, refusal_status, refusal_text}
 use Rattle.eql_runs.specs.Refusals as refusal
-use Rattle.eql_runs.specs.RunLaws.{OneStatus, WritesOrIsRefused, ReadyIsNotRefused}
+use Rattle.eql_runs.specs.RunLaws.{StatusIsOne, WritesOrIsRefused, ReadyIsNotRefused}
 use Rattle.eql_runs.specs.Runs.{AreTrusted, AskDisk, AsksDisk, CanRun, files_for, files_known, Finds, GenerationsEnd, IfFound, IfTold, IsAccepted, IsFindAccepted, IsReady, IsRefused, IsReportOf, known, ReachesLimit, limit_text, names_of, IsRefusedAs, RefusesCut, ReportsOn, Runs, Searches, SearchesBeyond, Tells, TellsFront, Trusts, Writes, WroteAll, WroteListing, WroteSome, by_cut, by_disk, by_files, by_shard}
 use Rattle.eql_runs.specs.Runs as runs
 use Rattle.eql_runs.specs.Starts.{DiskHolds, OnDisk}
@@ -26,7 +26,7 @@ use Rattle.eql_inputs.specs.declared.halt.Halt.TheVariants as halt
 use Rattle.eql_inputs.specs.Halts.{status_of, text_of, refusal_of}
 use Rattle.eql_find.specs.declared.halt.RunHalt.{RunHalt}
 use Rattle.eql_find.specs.declared.halt.RunHalt.TheVariants as run
-use Rattle.eql_find.specs.Halts.{run_status_of, cut_refusal_of, limit_of, IsRefusal, IsReport, IsFault, TellsNothing, FaultsAs, CountAs, AbsenceAs, DiskAs, OutAs, ErrAs}
+use Rattle.eql_find.specs.Halts.{run_status_of, cut_refusal_of, limit_of, IsRefusal, IsReport, IsFault, TellsNothing, FaultsFollow, CountFollows, AbsencesFollow, DiskFollows, OutFollows, ErrFollows}
 use Rattle.eql_find.specs.Finding.{ReportsFront}
 use Rattle.eql_find.specs.Finding as found
 use Rattle.eql_cli.specs.Running.{AsksFind, HasCause, IfRun, IsAcceptedBy, IsTrustedBy, RunsAll, RunsListing, RunsSome}
@@ -77,7 +77,7 @@ same_status (refused.Mapping r) = refl
 same_status (refused.Broken r) = refl
 
 -- each status with a cause that is counted
-pub absent_by_status : (h : RunHalt) (before now : ℕ) → AbsenceAs {A = Unit {0}} (Err h) before now → run_status_of h ≡ 1 → Rose before now
+pub absent_by_status : (h : RunHalt) (before now : ℕ) → AbsencesFollow {A = Unit {0}} (Err h) before now → run_status_of h ≡ 1 → Rose before now
 absent_by_status (run.Files (halt.Refused (refused.NoFile name))) before now rose e = rose
 absent_by_status (run.Files (halt.Refused (refused.Lex r))) before now rose e = absurd (omega (arith, e))
 absent_by_status (run.Files (halt.Refused (refused.Parse r))) before now rose e = absurd (omega (arith, e))
@@ -93,7 +93,7 @@ absent_by_status run.Generation before now rose e = absurd (omega (arith, e))
 absent_by_status (run.Report by.Failed) before now rose e = absurd (omega (arith, e))
 absent_by_status (run.Report by.Memory) before now rose e = absurd (omega (arith, e))
 
-pub read_by_status : (h : RunHalt) (before now : ℕ) → CountAs {A = Unit {0}} (Err h) before now → run_status_of h ≡ 4 → Rose before now
+pub read_by_status : (h : RunHalt) (before now : ℕ) → CountFollows {A = Unit {0}} (Err h) before now → run_status_of h ≡ 4 → Rose before now
 read_by_status (run.Files (halt.Refused (refused.NoFile name))) before now rose e = absurd (omega (arith, e))
 read_by_status (run.Files (halt.Refused (refused.Lex r))) before now rose e = absurd (omega (arith, e))
 read_by_status (run.Files (halt.Refused (refused.Parse r))) before now rose e = absurd (omega (arith, e))
@@ -109,7 +109,7 @@ read_by_status run.Generation before now rose e = absurd (omega (arith, e))
 read_by_status (run.Report by.Failed) before now rose e = absurd (omega (arith, e))
 read_by_status (run.Report by.Memory) before now rose e = absurd (omega (arith, e))
 
-pub disk_by_status : (h : RunHalt) (before now : ℕ) → DiskAs {A = Unit {0}} (Err h) before now → run_status_of h ≡ 6 → Rose before now
+pub disk_by_status : (h : RunHalt) (before now : ℕ) → DiskFollows {A = Unit {0}} (Err h) before now → run_status_of h ≡ 6 → Rose before now
 disk_by_status (run.Files (halt.Refused (refused.NoFile name))) before now rose e = absurd (omega (arith, e))
 disk_by_status (run.Files (halt.Refused (refused.Lex r))) before now rose e = absurd (omega (arith, e))
 disk_by_status (run.Files (halt.Refused (refused.Parse r))) before now rose e = absurd (omega (arith, e))
@@ -125,7 +125,7 @@ disk_by_status run.Generation before now rose e = absurd (omega (arith, e))
 disk_by_status (run.Report by.Failed) before now rose e = absurd (omega (arith, e))
 disk_by_status (run.Report by.Memory) before now rose e = absurd (omega (arith, e))
 
-pub write_by_status : (h : RunHalt) (out out' err err' : ℕ) → OutAs {A = Unit {0}} (Err h) out out' → ErrAs {A = Unit {0}} (Err h) err err'
+pub write_by_status : (h : RunHalt) (out out' err err' : ℕ) → OutFollows {A = Unit {0}} (Err h) out out' → ErrFollows {A = Unit {0}} (Err h) err err'
     → run_status_of h ≡ 5 → Rose out out' ⊎ Rose err err'
 write_by_status (run.Files (halt.Refused (refused.NoFile name))) out out' err err' o x e = absurd (omega (arith, e))
 write_by_status (run.Files (halt.Refused (refused.Lex r))) out out' err err' o x e = absurd (omega (arith, e))
@@ -143,7 +143,7 @@ write_by_status (run.Report by.Failed) out out' err err' o x e = inr x
 write_by_status (run.Report by.Memory) out out' err err' o x e = absurd (omega (arith, e))
 
 -- where the output didn't fail, status 5 is of the report alone
-pub report_by_status : (h : RunHalt) (out out' : ℕ) → OutAs {A = Unit {0}} (Err h) out out' → run_status_of h ≡ 5 → ¬ Rose out out' → IsReport h
+pub report_by_status : (h : RunHalt) (out out' : ℕ) → OutFollows {A = Unit {0}} (Err h) out out' → run_status_of h ≡ 5 → ¬ Rose out out' → IsReport h
 report_by_status (run.Files (halt.Refused (refused.NoFile name))) out out' o e calm = absurd (omega (arith, e))
 report_by_status (run.Files (halt.Refused (refused.Lex r))) out out' o e calm = absurd (omega (arith, e))
 report_by_status (run.Files (halt.Refused (refused.Parse r))) out out' o e calm = absurd (omega (arith, e))
@@ -160,7 +160,7 @@ report_by_status (run.Report by.Failed) out out' o e calm = tt
 report_by_status (run.Report by.Memory) out out' o e calm = tt
 
 -- a fault isn't passed over
-pub read_told : (h : RunHalt) (before now : ℕ) → CountAs {A = Unit {0}} (Err h) before now → before < now → run_status_of h ≡ 4
+pub read_told : (h : RunHalt) (before now : ℕ) → CountFollows {A = Unit {0}} (Err h) before now → before < now → run_status_of h ≡ 4
 read_told (run.Files (halt.Refused r)) before now same lt = absurd (omega (arith, same, lt))
 read_told (run.Files (halt.Read name)) before now same lt = refl
 read_told (run.Files halt.Memory) before now same lt = absurd (omega (arith, same, lt))
@@ -172,7 +172,7 @@ read_told run.Generation before now same lt = absurd (omega (arith, same, lt))
 read_told (run.Report x) before now same lt = absurd (omega (arith, same, lt))
 
 -- nor is a file that isn't there
-pub absence_told : (h : RunHalt) (before now : ℕ) → AbsenceAs {A = Unit {0}} (Err h) before now → before < now → run_status_of h ≡ 1
+pub absence_told : (h : RunHalt) (before now : ℕ) → AbsencesFollow {A = Unit {0}} (Err h) before now → before < now → run_status_of h ≡ 1
 absence_told (run.Files (halt.Refused (refused.NoFile name))) before now rose lt = refl
 absence_told (run.Files (halt.Refused (refused.Lex r))) before now same lt = absurd (omega (arith, same, lt))
 absence_told (run.Files (halt.Refused (refused.Parse r))) before now same lt = absurd (omega (arith, same, lt))
@@ -187,7 +187,7 @@ absence_told (run.Limit l) before now same lt = absurd (omega (arith, same, lt))
 absence_told run.Generation before now same lt = absurd (omega (arith, same, lt))
 absence_told (run.Report x) before now same lt = absurd (omega (arith, same, lt))
 
-pub write_told : (h : RunHalt) (before now : ℕ) → OutAs {A = Unit {0}} (Err h) before now → before < now → (run_status_of h ≡ 5) ⊎ (run_status_of h ≡ 4)
+pub write_told : (h : RunHalt) (before now : ℕ) → OutFollows {A = Unit {0}} (Err h) before now → before < now → (run_status_of h ≡ 5) ⊎ (run_status_of h ≡ 4)
 write_told (run.Files (halt.Refused r)) before now same lt = absurd (omega (arith, same, lt))
 write_told (run.Files (halt.Read name)) before now same lt = inr refl
 write_told (run.Files halt.Memory) before now same lt = absurd (omega (arith, same, lt))
@@ -198,7 +198,7 @@ write_told (run.Limit l) before now same lt = absurd (omega (arith, same, lt))
 write_told run.Generation before now same lt = absurd (omega (arith, same, lt))
 write_told (run.Report x) before now same lt = absurd (omega (arith, same, lt))
 
-pub disk_told : (h : RunHalt) (before now : ℕ) → DiskAs {A = Unit {0}} (Err h) before now → before < now → (run_status_of h ≡ 6) ⊎ (run_status_of h ≡ 4)
+pub disk_told : (h : RunHalt) (before now : ℕ) → DiskFollows {A = Unit {0}} (Err h) before now → before < now → (run_status_of h ≡ 6) ⊎ (run_status_of h ≡ 4)
 disk_told (run.Files (halt.Refused r)) before now same lt = absurd (omega (arith, same, lt))
 disk_told (run.Files (halt.Read name)) before now same lt = inr refl
 disk_told (run.Files halt.Memory) before now same lt = absurd (omega (arith, same, lt))
@@ -362,7 +362,7 @@ module _ (words : List (List ℕ)) (asked : Command) (is : command_of words ≡ 
 
   -- where the output didn't fail, a run of status 5 wrote its listing
   pub listed_by : (files : Option Files) (disk : Option History) (out out' : Option (List ℕ)) (outs outs' : ℕ) (h : RunHalt) (status : ℕ)
-      → status ≡ run_status_of h → OutAs {A = Unit {0}} (Err h) outs outs' → (IsReport h → RunsListing asked files disk out out') → status ≡ 5
+      → status ≡ run_status_of h → OutFollows {A = Unit {0}} (Err h) outs outs' → (IsReport h → RunsListing asked files disk out out') → status ≡ 5
       → ¬ Rose outs outs' → WroteListing words files disk out out'
   listed_by files disk out out' outs outs' h status same o wrote e calm =
       wrote_listing files disk out out' (wrote (report_by_status h outs outs' o (sym same ∙ e) calm))
@@ -457,7 +457,7 @@ module _ (words : List (List ℕ)) (asked : Command) (is : command_of words ≡ 
       told,
     )
 
-    pub told_so : (files : Option Files) (h : RunHalt) → HasCause asked files disk now err err' h → FaultsAs {A = Unit {0}} (Err h) before after
+    pub told_so : (files : Option Files) (h : RunHalt) → HasCause asked files disk now err err' h → FaultsFollow {A = Unit {0}} (Err h) before after
         → TellsRun h err err' → TellsFront words files disk now before after (run_status_of h) err err'
     told_so files (run.Files (halt.Refused r)) cause faults told = refused_so files r cause told
     told_so files (run.Files (halt.Read name)) cause faults told = (
@@ -545,7 +545,7 @@ module _ (words : List (List ℕ)) (asked : Command) (is : command_of words ≡ 
     ready_stops (run.Report by.Memory) cause calm = refl
 
   -- a run that is refused stops by that refusal, unless a read or the disk fails
-  module _ (one : OneStatus) (apart : WritesOrIsRefused) (fs : Files) (disk now : Option History) (err err' : Option (List ℕ)) (on : OnDisk)
+  module _ (one : StatusIsOne) (apart : WritesOrIsRefused) (fs : Files) (disk now : Option History) (err err' : Option (List ℕ)) (on : OnDisk)
       (holds : AskDisk words → DiskHolds disk on) (r : Refusal) (refuses : IsRefused words fs on r) where
     never_accepted : {A : Type 0} → IsAccepted words fs on → A
     never_accepted a = absurd (a.accepts r refuses)
@@ -576,7 +576,7 @@ module _ (words : List (List ℕ)) (asked : Command) (is : command_of words ≡ 
   module _ {E : Type 0} (apart : WritesOrIsRefused) (written : E → Option (List ℕ)) (first mid last : E) (files : Option Files)
       (disk now : Option History) (before after : List ℕ → ℕ) where
     -- what is told of a run that stopped, with nothing told before it
-    pub told_by : (h : RunHalt) → HasCause asked files disk now (written first) (written mid) h → FaultsAs {A = Unit {0}} (Err h) before after
+    pub told_by : (h : RunHalt) → HasCause asked files disk now (written first) (written mid) h → FaultsFollow {A = Unit {0}} (Err h) before after
         → (TellsNothing h → mid ≡ first) → TellsRun h (written mid) (written last) → (IsReport h → last ≡ mid)
         → TellsFront words files disk now before after (run_status_of h) (written first) (written last)
     told_by (run.Files h) cause faults quiet told silent =
@@ -602,7 +602,7 @@ module _ (words : List (List ℕ)) (asked : Command) (is : command_of words ≡ 
         (subst (λ (x : E). HasCause asked files disk now (written first) (written x) (run.Report o)) (sym (silent tt)) cause) faults tt
 
     pub told_of : (h : RunHalt) (status : ℕ) → status ≡ run_status_of h → HasCause asked files disk now (written first) (written mid) h
-        → FaultsAs {A = Unit {0}} (Err h) before after
+        → FaultsFollow {A = Unit {0}} (Err h) before after
         → (TellsNothing h → mid ≡ first) → TellsRun h (written mid) (written last) → (IsReport h → last ≡ mid)
         → TellsFront words files disk now before after status (written first) (written last)
     told_of h status same cause faults quiet told silent =
@@ -620,7 +620,7 @@ module _ (words : List (List ℕ)) (asked : Command) (is : command_of words ≡ 
   pub ready_over : (files : Option Files) (disk : Option History) → IsReady words files disk → IsSomeAnd (files_for asked files) (ReadyOver disk)
   ready_over files disk ready = subst (λ (o : Option Files). IsSomeAnd o (ReadyOver disk)) (known_is files) ready
 
-  pub stops_exact : OneStatus → WritesOrIsRefused → (files : Option Files) (disk now : Option History) (err err' : Option (List ℕ)) (h : RunHalt)
+  pub stops_exact : StatusIsOne → WritesOrIsRefused → (files : Option Files) (disk now : Option History) (err err' : Option (List ℕ)) (h : RunHalt)
       (status : ℕ) → status ≡ run_status_of h → HasCause asked files disk now err err' h → ¬ (run_status_of h ≡ 4) → ¬ (run_status_of h ≡ 6)
       → IsRefusedAs words files disk status
   stops_exact one apart None disk now err err' h status same cause calm steady = tt
@@ -681,8 +681,8 @@ stops_ready words asked is law files disk now err err' h status same cause ready
 module _ (asked : Command) (files : Option Files) (disk now : Option History) (err-text err-text' : Option (List ℕ))
     (reads reads' disks disks' out out' err mid err' : ℕ) (read : ¬ Rose reads reads') (on_disk : AsksDisk asked → ¬ Rose disks disks')
     (write : ¬ Rose out out') (error : ¬ Rose err err') where
-  pub is_calm : (h : RunHalt) → HasCause asked files disk now err-text err-text' h → CountAs {A = Unit {0}} (Err h) reads reads'
-      → DiskAs {A = Unit {0}} (Err h) disks disks' → OutAs {A = Unit {0}} (Err h) out out' → ErrAs {A = Unit {0}} (Err h) err mid
+  pub is_calm : (h : RunHalt) → HasCause asked files disk now err-text err-text' h → CountFollows {A = Unit {0}} (Err h) reads reads'
+      → DiskFollows {A = Unit {0}} (Err h) disks disks' → OutFollows {A = Unit {0}} (Err h) out out' → ErrFollows {A = Unit {0}} (Err h) err mid
       → (IsReport h → err' ≡ mid) → ¬ IsFault h
   is_calm (run.Files (halt.Refused r)) cause c d o e silent fault = fault
   is_calm (run.Files (halt.Read name)) cause c d o e silent fault = read c
@@ -696,7 +696,7 @@ module _ (asked : Command) (files : Option Files) (disk now : Option History) (e
   is_calm (run.Report by.Memory) cause c d o e silent fault = fault
 
 -- where no read failed, the status isn't that of a read fault; nor is it that of a fault of the disk where that didn't fail
-pub no_read : (h : RunHalt) (reads reads' : ℕ) → CountAs {A = Unit {0}} (Err h) reads reads' → ¬ Rose reads reads' → ¬ (run_status_of h ≡ 4)
+pub no_read : (h : RunHalt) (reads reads' : ℕ) → CountFollows {A = Unit {0}} (Err h) reads reads' → ¬ Rose reads reads' → ¬ (run_status_of h ≡ 4)
 no_read h reads reads' c calm e = calm (read_by_status h reads reads' c e)
 
 disk_is_asked : (asked : Command) (files : Option Files) (disk now : Option History) (err err' : Option (List ℕ)) (h : RunHalt)
@@ -717,7 +717,7 @@ disk_is_asked asked files disk now err err' (run.Report by.Failed) cause e = abs
 disk_is_asked asked files disk now err err' (run.Report by.Memory) cause e = absurd (omega (arith, e))
 
 pub no_disk : (asked : Command) (files : Option Files) (disk now : Option History) (err err' : Option (List ℕ)) (h : RunHalt) (disks disks' : ℕ)
-    → HasCause asked files disk now err err' h → DiskAs {A = Unit {0}} (Err h) disks disks' → (AsksDisk asked → ¬ Rose disks disks')
+    → HasCause asked files disk now err err' h → DiskFollows {A = Unit {0}} (Err h) disks disks' → (AsksDisk asked → ¬ Rose disks disks')
     → ¬ (run_status_of h ≡ 6)
 no_disk asked files disk now err err' h disks disks' cause d calm e =
     calm (disk_is_asked asked files disk now err err' h cause e) (disk_by_status h disks disks' d e)

@@ -10,7 +10,7 @@ use Rattle.eql_words.specs.declared.commands.Command.TheVariants as command
 use Rattle.eql_words.specs.declared.commands.Find.{Find}
 use Rattle.eql_words.specs.Commands.{command_of}
 use Rattle.eql_ckdisk.specs.Going.{Goes}
-use Rattle.eql_ckdisk.specs.Keeping.{NoMore}
+use Rattle.eql_ckdisk.specs.Keeping.{LeavesNoMore}
 use Rattle.eql_runs.specs.Files.{Files}
 use Rattle.eql_runs.specs.Refusals.{Refusal}
 use Rattle.eql_runs.specs.Runs.{AskDisk, AsksDisk, IsRefused, KeepsCuts, IsRefusedAs, by_cut, by_files}
@@ -33,7 +33,7 @@ kept_words words files out out' disk = λ find is has. same_keeps find files out
 
 -- nor is what it stands for changed, where the run is refused or not
 pub none_changed : (r : Result (Unit {0}) RunHalt) (disk now : Option History) → now ≡ disk
-    → IfErr r (λ h. IsRefusal h → moments.DiskTells (Goes NoMore) disk now)
+    → IfErr r (λ h. IsRefusal h → moments.DiskTells (Goes LeavesNoMore) disk now)
 none_changed (Ok done) disk now same = tt
 none_changed (Err h) disk now same = λ refusal. same_no_more disk now same
 

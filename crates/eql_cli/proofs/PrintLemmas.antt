@@ -9,11 +9,11 @@ use Rattle.eql_inputs.specs.Steps.{GotChecked}
 use Rattle.eql_inputs.specs.declared.halt.Halt.TheVariants as halt
 use Rattle.eql_find.specs.declared.halt.RunHalt.{RunHalt}
 use Rattle.eql_find.specs.declared.halt.RunHalt.TheVariants as run
-use Rattle.eql_cli.specs.Printing.{HasCause, StopsWriting}
+use Rattle.eql_cli.specs.Printing.{HasPrintCause, StopsWriting}
 
 -- the text of a checked query wasn't written whole
 pub stop_cause : (query fields : List ℕ) (files : Option Files) (tree : QueryTree) (kinds : List (List ℕ × FieldKind))
-    → GotChecked query fields files tree kinds → (h : RunHalt) → StopsWriting h → HasCause query fields files h
+    → GotChecked query fields files tree kinds → (h : RunHalt) → StopsWriting h → HasPrintCause query fields files h
 stop_cause query fields files tree kinds got (run.Files (halt.Refused r)) stops = absurd stops
 stop_cause query fields files tree kinds got (run.Files (halt.Read name)) stops = absurd stops
 stop_cause query fields files tree kinds got (run.Files halt.Memory) stops = tt

@@ -15,7 +15,7 @@ use Rattle.eql_find.specs.declared.halt.RunHalt.{RunHalt}
 use Rattle.eql_find.specs.declared.halt.RunHalt.TheVariants as run
 use Rattle.eql_find.specs.Finding.{FindsAll, FindsListing, FindsSome, names_in}
 use Rattle.eql_find.specs.Finding as found
-use Rattle.eql_find.specs.Halts.{AbsenceAs, CountAs, DiskAs, ErrAs, FaultsAs, IsRefusal, IsReport}
+use Rattle.eql_find.specs.Halts.{AbsencesFollow, CountFollows, DiskFollows, ErrFollows, FaultsFollow, IsRefusal, IsReport}
 use Rattle.eql_summary.specs.Written.{MakesAll, MakesFront}
 use Rattle.eql_cli.specs.Printing.{PrintsAll, PrintsSome, StopsWriting}
 use Rattle.eql_cli.specs.Printing as printing
@@ -95,7 +95,7 @@ printed_some asked query fields is files disk out out' h =
     subst (λ (c : Command). RunsSome c files disk out out') (sym is) (some_of_check query fields files disk out out' h)
 
 -- a run of `check` and of `made` has no report that may be refused
-check_reports : (query fields : List ℕ) (files : Option Files) (h : RunHalt) → printing.HasCause query fields files h → ¬ IsReport h
+check_reports : (query fields : List ℕ) (files : Option Files) (h : RunHalt) → printing.HasPrintCause query fields files h → ¬ IsReport h
 check_reports query fields files (run.Files h) cause report = report
 check_reports query fields files (run.Cut why) cause report = report
 check_reports query fields files run.Disk cause report = report
@@ -105,16 +105,16 @@ check_reports query fields files run.Generation cause report = report
 check_reports query fields files (run.Report r) cause report = cause
 
 pub printed_listing : (asked : Command) (query fields : List ℕ) (files : Option Files) (disk : Option History) (out out' : Option (List ℕ))
-    (h : RunHalt) → printing.HasCause query fields files h → IsReport h → RunsListing asked files disk out out'
+    (h : RunHalt) → printing.HasPrintCause query fields files h → IsReport h → RunsListing asked files disk out out'
 printed_listing asked query fields files disk out out' h cause report = absurd (check_reports query fields files h cause report)
 
 accepted_by_check : (query fields : List ℕ) (files : Option Files) (disk : Option History)
-    → printing.HasCause query fields files run.Write → IfRun (command.Check query fields) files disk (IsAcceptedBy (command.Check query fields))
+    → printing.HasPrintCause query fields files run.Write → IfRun (command.Check query fields) files disk (IsAcceptedBy (command.Check query fields))
 accepted_by_check query fields None disk cause = tt
 accepted_by_check query fields (Some fs) disk cause = λ on holds. cause
 
 cause_of_check : (query fields : List ℕ) (files : Option Files) (disk now : Option History) (err : Option (List ℕ)) (h : RunHalt)
-    → printing.HasCause query fields files h → HasCause (command.Check query fields) files disk now err err h
+    → printing.HasPrintCause query fields files h → HasCause (command.Check query fields) files disk now err err h
 cause_of_check query fields files disk now err (run.Files (halt.Refused r)) cause = (naming query fields [], refl, cause)
 cause_of_check query fields files disk now err (run.Files (halt.Read name)) cause = (naming query fields [], refl, cause)
 cause_of_check query fields files disk now err (run.Files halt.Memory) cause = tt
@@ -126,7 +126,7 @@ cause_of_check query fields files disk now err run.Generation cause = absurd cau
 cause_of_check query fields files disk now err (run.Report r) cause = absurd cause
 
 pub check_cause : (asked : Command) (query fields : List ℕ) → asked ≡ command.Check query fields → (files : Option Files)
-    (disk now : Option History) (err : Option (List ℕ)) (h : RunHalt) → printing.HasCause query fields files h
+    (disk now : Option History) (err : Option (List ℕ)) (h : RunHalt) → printing.HasPrintCause query fields files h
     → HasCause asked files disk now err err h
 check_cause asked query fields is files disk now err h cause =
     subst (λ (c : Command). HasCause c files disk now err err h) (sym is) (cause_of_check query fields files disk now err h cause)
@@ -206,7 +206,7 @@ module _ {T : Type 0} where
   made_untouched (Err run.Generation) old new stops = absurd stops
   made_untouched (Err (run.Report r)) old new stops = absurd stops
 
-pub made_faults : (r : Result (Unit {0}) RunHalt) (faults : List ℕ → ℕ) → IfErr r StopsWriting → FaultsAs r faults faults
+pub made_faults : (r : Result (Unit {0}) RunHalt) (faults : List ℕ → ℕ) → IfErr r StopsWriting → FaultsFollow r faults faults
 made_faults (Ok x) faults stops = λ name. refl
 made_faults (Err (run.Files (halt.Refused r))) faults stops = absurd stops
 made_faults (Err (run.Files (halt.Read name))) faults stops = absurd stops
@@ -218,7 +218,7 @@ made_faults (Err (run.Limit l)) faults stops = absurd stops
 made_faults (Err run.Generation) faults stops = absurd stops
 made_faults (Err (run.Report r)) faults stops = absurd stops
 
-pub made_count : (r : Result (Unit {0}) RunHalt) (count : ℕ) → IfErr r StopsWriting → CountAs r count count
+pub made_count : (r : Result (Unit {0}) RunHalt) (count : ℕ) → IfErr r StopsWriting → CountFollows r count count
 made_count (Ok x) count stops = refl
 made_count (Err (run.Files (halt.Refused r))) count stops = absurd stops
 made_count (Err (run.Files (halt.Read name))) count stops = absurd stops
@@ -230,7 +230,7 @@ made_count (Err (run.Limit l)) count stops = absurd stops
 made_count (Err run.Generation) count stops = absurd stops
 made_count (Err (run.Report r)) count stops = absurd stops
 
-pub made_absences : (r : Result (Unit {0}) RunHalt) (count : ℕ) → IfErr r StopsWriting → AbsenceAs r count count
+pub made_absences : (r : Result (Unit {0}) RunHalt) (count : ℕ) → IfErr r StopsWriting → AbsencesFollow r count count
 made_absences (Ok x) count stops = refl
 made_absences (Err (run.Files (halt.Refused r))) count stops = absurd stops
 made_absences (Err (run.Files (halt.Read name))) count stops = absurd stops
@@ -242,7 +242,7 @@ made_absences (Err (run.Limit l)) count stops = absurd stops
 made_absences (Err run.Generation) count stops = absurd stops
 made_absences (Err (run.Report r)) count stops = absurd stops
 
-pub made_errors : (r : Result (Unit {0}) RunHalt) (count : ℕ) → IfErr r StopsWriting → ErrAs r count count
+pub made_errors : (r : Result (Unit {0}) RunHalt) (count : ℕ) → IfErr r StopsWriting → ErrFollows r count count
 made_errors (Ok x) count stops = refl
 made_errors (Err (run.Files h)) count stops = refl
 made_errors (Err (run.Cut why)) count stops = absurd stops
@@ -252,7 +252,7 @@ made_errors (Err (run.Limit l)) count stops = absurd stops
 made_errors (Err run.Generation) count stops = absurd stops
 made_errors (Err (run.Report r)) count stops = absurd stops
 
-pub made_disks : (r : Result (Unit {0}) RunHalt) (count : ℕ) → IfErr r StopsWriting → DiskAs r count count
+pub made_disks : (r : Result (Unit {0}) RunHalt) (count : ℕ) → IfErr r StopsWriting → DiskFollows r count count
 made_disks (Ok x) count stops = refl
 made_disks (Err (run.Files (halt.Refused r))) count stops = absurd stops
 made_disks (Err (run.Files (halt.Read name))) count stops = absurd stops
@@ -266,7 +266,7 @@ made_disks (Err (run.Report r)) count stops = absurd stops
 
 -- the disk isn't asked for by `check`, so none is told as failed
 pub check_disks : (query fields : List ℕ) (files : Option Files) (r : Result (Unit {0}) RunHalt) (before now : ℕ) → now ≡ before
-    → IfErr r (printing.HasCause query fields files) → DiskAs r before now
+    → IfErr r (printing.HasPrintCause query fields files) → DiskFollows r before now
 check_disks query fields files (Ok x) before now same cause = same
 check_disks query fields files (Err (run.Files (halt.Refused r))) before now same cause = same
 check_disks query fields files (Err (run.Files (halt.Read name))) before now same cause = tt

@@ -24,15 +24,15 @@ PrintsSome query fields files out out' =
     ⊎ ((bytes : List ℕ) × (report : List ℕ) × Prints query fields fs bytes report × AppendsSome w bytes out')))
 
 -- why a run stopped
-abbrev pub HasCause : (query fields : List ℕ) → Option Files → RunHalt → Type 0
-HasCause query fields files (run.Files h) = inputs.HasCause (naming query fields []) files h
-HasCause query fields files (run.Cut why) = ⊥
-HasCause query fields files run.Disk = ⊥
-HasCause query fields files run.Write =
+abbrev pub HasPrintCause : (query fields : List ℕ) → Option Files → RunHalt → Type 0
+HasPrintCause query fields files (run.Files h) = inputs.HasCause (naming query fields []) files h
+HasPrintCause query fields files (run.Cut why) = ⊥
+HasPrintCause query fields files run.Disk = ⊥
+HasPrintCause query fields files run.Write =
     IfSome files (λ fs. (bytes : List ℕ) × (report : List ℕ) × Prints query fields fs bytes report)
-HasCause query fields files (run.Limit l) = ⊥
-HasCause query fields files run.Generation = ⊥
-HasCause query fields files (run.Report r) = ⊥
+HasPrintCause query fields files (run.Limit l) = ⊥
+HasPrintCause query fields files run.Generation = ⊥
+HasPrintCause query fields files (run.Report r) = ⊥
 
 -- writing the text stopped: the output failed, or memory ran out
 abbrev pub StopsWriting : RunHalt → Type 0

@@ -67,16 +67,16 @@ pub record AsksFind (asked : Command) : Type 0 where
   pub has_disk : find.checkpoint ≢ None
 
 -- why the reading of the files that a command names stopped, or that memory ran out
-abbrev pub FilesCause : Command → Option Files → Halt → Type 0
-FilesCause asked files (halt.Refused r) =
+abbrev pub HasFilesCause : Command → Option Files → Halt → Type 0
+HasFilesCause asked files (halt.Refused r) =
     (names : Names) × (names_of asked ≡ Some names) × inputs.HasCause names files (halt.Refused r)
-FilesCause asked files (halt.Read name) =
+HasFilesCause asked files (halt.Read name) =
     (names : Names) × (names_of asked ≡ Some names) × inputs.HasCause names files (halt.Read name)
-FilesCause asked files halt.Memory = Unit {0}
+HasFilesCause asked files halt.Memory = Unit {0}
 
 -- why a run stopped, by its files, and by its disk before and now
 abbrev pub HasCause : Command → Option Files → (disk now : Option History) → (err err' : Option (List ℕ)) → RunHalt → Type 0
-HasCause asked files disk now err err' (run.Files h) = FilesCause asked files h
+HasCause asked files disk now err err' (run.Files h) = HasFilesCause asked files h
 HasCause asked files disk now err err' (run.Cut r) =
     (asks : AsksFind asked) × IfFound asks.find files disk (λ fs on. RefusesCut asks.find fs on (cut_refusal_of r))
 HasCause asked files disk now err err' run.Disk =

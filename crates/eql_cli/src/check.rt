@@ -4,8 +4,8 @@ ghost use Rattle.eql_outside.specs.Unfailing.{IsUnfailing, AreUnfailing};
 ghost use Rattle.eql_outside.specs.Written.{WroteAll, WroteFront};
 ghost use Rattle.eql_query.specs.QueryTree.{query_tree};
 ghost use Rattle.eql_parser.specs.Printed.{printed};
-ghost use Rattle.eql_find.specs.Halts.{AbsenceAs, CountAs, FaultsAs, IsFault, IsRefusal, OutAs};
-ghost use Rattle.eql_cli.specs.Printing.{HasCause, PrintsAll, PrintsSome, StopsWriting};
+ghost use Rattle.eql_find.specs.Halts.{AbsencesFollow, CountFollows, FaultsFollow, IsFault, IsRefusal, OutFollows};
+ghost use Rattle.eql_cli.specs.Printing.{HasPrintCause, PrintsAll, PrintsSome, StopsWriting};
 
 use eql_find::RunHalt;
 use eql_inputs::{Halt, read_checked};
@@ -36,7 +36,7 @@ fn write_query<'a, K: Sink>(alloc: Global, query: &Query, out: &mut K) -> Result
         (encode_utf8_all (printed (query_tree query.now)) ++ codes "\n")
         (K.written out.old) (K.written out.new)) }
     ensures stops { IfErr result StopsWriting }
-    ensures out { OutAs result (K.fault_count out.old) (K.fault_count out.new) }
+    ensures out { OutFollows result (K.fault_count out.old) (K.fault_count out.new) }
     ensures counts { K.fault_count out.old ≤ K.fault_count out.new }
     ensures unfailing { IsUnfailing (K.fault_plan out.old) → IfErr result (λ halt. ¬ IsFault halt) }
 {
@@ -65,11 +65,11 @@ pub(crate) fn check_query<'a, H: Shelf, K: Sink>(
     ensures prefix { OnErr result (PrintsSome query.now fields.now (H.files shelf.old)
         (K.written out.old) (K.written out.new)) }
     ensures untouched { IfErr result (λ halt. IsRefusal halt → out.new ≡ out.old) }
-    ensures cause { IfErr result (HasCause query.now fields.now (H.files shelf.old)) }
-    ensures faults { FaultsAs result (H.faults_of shelf.old) (H.faults_of shelf.new) }
-    ensures count { CountAs result (H.fault_count shelf.old) (H.fault_count shelf.new) }
-    ensures absences { AbsenceAs result (H.absent_count shelf.old) (H.absent_count shelf.new) }
-    ensures out { OutAs result (K.fault_count out.old) (K.fault_count out.new) }
+    ensures cause { IfErr result (HasPrintCause query.now fields.now (H.files shelf.old)) }
+    ensures faults { FaultsFollow result (H.faults_of shelf.old) (H.faults_of shelf.new) }
+    ensures count { CountFollows result (H.fault_count shelf.old) (H.fault_count shelf.new) }
+    ensures absences { AbsencesFollow result (H.absent_count shelf.old) (H.absent_count shelf.new) }
+    ensures out { OutFollows result (K.fault_count out.old) (K.fault_count out.new) }
     ensures counts { (H.fault_count shelf.old ≤ H.fault_count shelf.new)
         × (H.absent_count shelf.old ≤ H.absent_count shelf.new)
         × (K.fault_count out.old ≤ K.fault_count out.new) }

@@ -1,7 +1,7 @@
 //! A run of `made`: the summary of a search over made events.
 ghost use Rattle.std.specs.Prelude.{◌≤◌, IfErr, OnOk, OnErr};
 ghost use Rattle.eql_outside.specs.Unfailing.{IsUnfailing};
-ghost use Rattle.eql_find.specs.Halts.{IsFault, OutAs};
+ghost use Rattle.eql_find.specs.Halts.{IsFault, OutFollows};
 ghost use Rattle.eql_summary.specs.Written.{MakesAll, MakesFront};
 ghost use Rattle.eql_cli.specs.Printing.{StopsWriting};
 
@@ -30,7 +30,7 @@ pub(crate) fn run_made<'a, R: Threads + Wait + Sync, K: Sink, W: Gate + Sync>(
     ensures done { OnOk result (MakesAll events (K.written out.old) (K.written out.new)) }
     ensures prefix { OnErr result (MakesFront events (K.written out.old) (K.written out.new)) }
     ensures stops { IfErr result StopsWriting }
-    ensures out { OutAs result (K.fault_count out.old) (K.fault_count out.new) }
+    ensures out { OutFollows result (K.fault_count out.old) (K.fault_count out.new) }
     ensures counts { K.fault_count out.old ≤ K.fault_count out.new }
     ensures unfailing { IsUnfailing (K.fault_plan out.old) → IfErr result (λ halt. ¬ IsFault halt) }
 {

@@ -6,7 +6,7 @@ ghost use Rattle.eql_outside.specs.Unfailing.{IsUnfailing, AreUnfailing};
 ghost use Rattle.eql_words.specs.Commands.{command_of};
 ghost use Rattle.eql_words.specs.Words.{bytes_of};
 ghost use Rattle.eql_ckdisk.specs.Going.{Goes};
-ghost use Rattle.eql_ckdisk.specs.Keeping.{NoMore};
+ghost use Rattle.eql_ckdisk.specs.Keeping.{LeavesNoMore};
 ghost use Rattle.eql_runs.specs.Runs.{AskDisk, IfTold, IsAccepted, WroteAll, WroteListing, WroteSome, TellsFront, ReachesLimit, IsReady, IsRefusedAs};
 ghost use Rattle.eql_cli.specs.Running.{KeepDisk};
 
@@ -79,7 +79,8 @@ pub fn eql_main<R: Threads + Wait + Sync, H: Shelf, K: Sink, E: Sink, G: Gate + 
     // Nor does the disk come to hold anything that it didn't: each image at each moment is one of those at the start.
     ensures cut_kept { (result.status ≡ 1) ⊎ (result.status ≡ 2) ⊎ (result.status ≡ 3)
         ⊎ (result.status ≡ 7)
-        → moments.DiskTells (Goes NoMore) (H.disk_history shelf.old) (H.disk_history shelf.new) }
+        → moments.DiskTells (Goes LeavesNoMore)
+        (H.disk_history shelf.old) (H.disk_history shelf.new) }
 
     // On every other status a text is told whose cause holds, or a front of it.
     ensures told { result.status ≢ 0

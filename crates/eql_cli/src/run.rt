@@ -3,10 +3,10 @@ ghost use Rattle.std.specs.Prelude.{◌≡◌, ◌≢◌, ◌⊎◌, ◌≤◌, 
 ghost use Rattle.eql_outside.specs.Moments as moments;
 ghost use Rattle.eql_outside.specs.Outside.{Rose};
 ghost use Rattle.eql_outside.specs.Unfailing.{AreUnfailing, IsUnfailing};
-ghost use Rattle.eql_words.specs.Bounds.{Bounds};
+ghost use Rattle.eql_words.specs.Bounds.{IsBounded};
 ghost use Rattle.eql_ckdisk.specs.Going.{Goes};
-ghost use Rattle.eql_ckdisk.specs.Keeping.{NoMore};
-ghost use Rattle.eql_find.specs.Halts.{AbsenceAs, CountAs, DiskAs, ErrAs, FaultsAs, IsFault, IsRefusal, IsReport, OutAs, TellsNothing};
+ghost use Rattle.eql_ckdisk.specs.Keeping.{LeavesNoMore};
+ghost use Rattle.eql_find.specs.Halts.{AbsencesFollow, CountFollows, DiskFollows, ErrFollows, FaultsFollow, IsFault, IsRefusal, IsReport, OutFollows, TellsNothing};
 ghost use Rattle.eql_words.specs.Commands.{command_of};
 ghost use Rattle.eql_words.specs.Words.{bytes_of};
 ghost use Rattle.eql_runs.specs.Runs.{AskDisk, AsksDisk, IfTold, IsAccepted, WroteAll, WroteListing, WroteSome, TellsFront, ReachesLimit, IsReady, IsRefusedAs};
@@ -34,7 +34,7 @@ fn run_command<'a, R: Threads + Wait + Sync, H: Shelf, K: Sink, E: Sink, G: Gate
     err: &mut E,
     gate: &G,
 ) -> Result<(), RunHalt<'a>>
-    requires { Bounds command.now }
+    requires { IsBounded command.now }
     ensures done { OnOk result (RunsAll command.now (H.files shelf.old) (H.disk_history shelf.old)
         (K.written out.old) (K.written out.new) (E.written err.old) (E.written err.new)) }
     ensures accepted { OnOk result (IfRun command.now (H.files shelf.old)
@@ -46,17 +46,18 @@ fn run_command<'a, R: Threads + Wait + Sync, H: Shelf, K: Sink, E: Sink, G: Gate
         (K.written out.old) (K.written out.new)) }
     ensures untouched { IfErr result (λ halt. IsRefusal halt → out.new ≡ out.old) }
     ensures cut_kept { IfErr result (λ halt. IsRefusal halt
-        → moments.DiskTells (Goes NoMore) (H.disk_history shelf.old) (H.disk_history shelf.new)) }
+        → moments.DiskTells (Goes LeavesNoMore)
+        (H.disk_history shelf.old) (H.disk_history shelf.new)) }
     ensures quiet { IfErr result (λ halt. TellsNothing halt → err.new ≡ err.old) }
     ensures cause { IfErr result (HasCause command.now (H.files shelf.old)
         (H.disk_history shelf.old) (H.disk_history shelf.new)
         (E.written err.old) (E.written err.new)) }
-    ensures faults { FaultsAs result (H.faults_of shelf.old) (H.faults_of shelf.new) }
-    ensures count { CountAs result (H.fault_count shelf.old) (H.fault_count shelf.new) }
-    ensures absences { AbsenceAs result (H.absent_count shelf.old) (H.absent_count shelf.new) }
-    ensures disk { DiskAs result (H.disk_fault_count shelf.old) (H.disk_fault_count shelf.new) }
-    ensures out { OutAs result (K.fault_count out.old) (K.fault_count out.new) }
-    ensures err { ErrAs result (E.fault_count err.old) (E.fault_count err.new) }
+    ensures faults { FaultsFollow result (H.faults_of shelf.old) (H.faults_of shelf.new) }
+    ensures count { CountFollows result (H.fault_count shelf.old) (H.fault_count shelf.new) }
+    ensures absences { AbsencesFollow result (H.absent_count shelf.old) (H.absent_count shelf.new) }
+    ensures disk { DiskFollows result (H.disk_fault_count shelf.old) (H.disk_fault_count shelf.new) }
+    ensures out { OutFollows result (K.fault_count out.old) (K.fault_count out.new) }
+    ensures err { ErrFollows result (E.fault_count err.old) (E.fault_count err.new) }
     ensures counts { (H.fault_count shelf.old ≤ H.fault_count shelf.new)
         × (H.absent_count shelf.old ≤ H.absent_count shelf.new)
         × (H.disk_fault_count shelf.old ≤ H.disk_fault_count shelf.new)
@@ -86,7 +87,7 @@ fn run_command<'a, R: Threads + Wait + Sync, H: Shelf, K: Sink, E: Sink, G: Gate
     }
 }
 
-/// Runs a command, tells why it stopped, and answers its status.
+/// Runs a command, tells why it stopped, and returns its status.
 fn end_command<R: Threads + Wait + Sync, H: Shelf, K: Sink, E: Sink, G: Gate + Sync>(
     rt: &R,
     alloc: Global,
@@ -96,7 +97,7 @@ fn end_command<R: Threads + Wait + Sync, H: Shelf, K: Sink, E: Sink, G: Gate + S
     err: &mut E,
     gate: &G,
 ) -> u8
-    requires { Bounds command.now }
+    requires { IsBounded command.now }
     ensures done { result ≡ 0 → (words : List (List ℕ)) → command_of words ≡ Some command.now
         → WroteAll words (H.files shelf.old) (H.disk_history shelf.old)
         (K.written out.old) (K.written out.new) (E.written err.old) (E.written err.new) }
@@ -113,7 +114,8 @@ fn end_command<R: Threads + Wait + Sync, H: Shelf, K: Sink, E: Sink, G: Gate + S
     ensures refused { (result ≡ 1) ⊎ (result ≡ 2) ⊎ (result ≡ 3) ⊎ (result ≡ 7)
         → out.new ≡ out.old }
     ensures cut_kept { (result ≡ 1) ⊎ (result ≡ 2) ⊎ (result ≡ 3) ⊎ (result ≡ 7)
-        → moments.DiskTells (Goes NoMore) (H.disk_history shelf.old) (H.disk_history shelf.new) }
+        → moments.DiskTells (Goes LeavesNoMore)
+        (H.disk_history shelf.old) (H.disk_history shelf.new) }
     ensures told { result ≢ 0 → (words : List (List ℕ)) → command_of words ≡ Some command.now
         → TellsFront words (H.files shelf.old)
         (H.disk_history shelf.old) (H.disk_history shelf.new)
@@ -180,7 +182,7 @@ fn end_command<R: Threads + Wait + Sync, H: Shelf, K: Sink, E: Sink, G: Gate + S
     }
 }
 
-/// Runs the program on the words after its name, and answers its status.
+/// Runs the program on the words after its name, and returns its status.
 pub(crate) fn run_words<R: Threads + Wait + Sync, H: Shelf, K: Sink, E: Sink, G: Gate + Sync>(
     rt: &R,
     alloc: Global,
@@ -205,7 +207,8 @@ pub(crate) fn run_words<R: Threads + Wait + Sync, H: Shelf, K: Sink, E: Sink, G:
     ensures refused { (result ≡ 1) ⊎ (result ≡ 2) ⊎ (result ≡ 3) ⊎ (result ≡ 7)
         → out.new ≡ out.old }
     ensures cut_kept { (result ≡ 1) ⊎ (result ≡ 2) ⊎ (result ≡ 3) ⊎ (result ≡ 7)
-        → moments.DiskTells (Goes NoMore) (H.disk_history shelf.old) (H.disk_history shelf.new) }
+        → moments.DiskTells (Goes LeavesNoMore)
+        (H.disk_history shelf.old) (H.disk_history shelf.new) }
     ensures told { result ≢ 0 → TellsFront (bytes_of words.now.items) (H.files shelf.old)
         (H.disk_history shelf.old) (H.disk_history shelf.new)
         (H.faults_of shelf.old) (H.faults_of shelf.new) result

@@ -119,7 +119,7 @@ fn tell_run<'a, E: Sink>(alloc: Global, halt: &RunHalt<'a>, err: &mut E)
     }
 }
 
-/// Tells why a run stopped, and answers its status.
+/// Tells why a run stopped, and returns its status.
 pub(crate) fn tell_end<'a, E: Sink>(alloc: Global, halt: &RunHalt<'a>, err: &mut E) -> u8
     ensures status { result ≡ run_status_of halt.now }
     ensures told { TellsRun halt.now (E.written err.old) (E.written err.new) }

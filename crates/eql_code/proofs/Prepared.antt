@@ -19,7 +19,7 @@ use Rattle.eql_check.specs.declared.function.Function.{Function}
 use Rattle.eql_check.specs.declared.function.Function.TheVariants.{Add, Subtract, Multiply, Divide, Modulo, Length, IndexOf, StartsWith, EndsWith, StringContains, Concat, Substring, Between, String, Number, CidrMatch}
 use Rattle.eql_check.specs.Kinds.{holds_field}
 use Rattle.eql_check.specs.ThreeValued.{truth}
-use Rattle.eql_check.specs.Comparisons.{compares, says, is_among, is_address, is_one}
+use Rattle.eql_check.specs.Comparisons.{compares, says, is_among, is_this_address, is_one}
 use Rattle.eql_check.specs.Functions as f
 use Rattle.eql_check.specs.Truth.{means, values, is_literal_null}
 use Rattle.eql_operators.specs.Prepared.{addresses_in, in_one, is_in_blocks, equality, equals_address, is_among_read}
@@ -198,7 +198,7 @@ module _ (env : List ℕ → Value) where
 
 -- an address among literals
 text_among : (ip : ℕ) (o : Option ℕ) (rest : List ℕ) (q : Bool) → list_any (λ other. ip == other) rest ≡ q →
-    list_any (λ other. ip == other) (cons_option o rest) ≡ (is_address ip o || q)
+    list_any (λ other. ip == other) (cons_option o rest) ≡ (is_this_address ip o || q)
 text_among ip None rest q e = e
 text_among ip (Some a) rest q e = ap (λ q. (ip == a) || q) e
 

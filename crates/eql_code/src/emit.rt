@@ -186,7 +186,7 @@ impl Fold {
 }
 
 /// One more operation.
-fn put(ops: &mut Vec<Op>, op: Op) -> Result<(), Memory>
+fn put_op(ops: &mut Vec<Op>, op: Op) -> Result<(), Memory>
     ensures items { OnOk result (reverse ops.new.items ≡ op ∷ reverse ops.old.items) }
     ensures len { OnOk result (vec_len ops.new ≡ vec_len ops.old + 1) }
 {
@@ -200,7 +200,7 @@ fn put_value(ops: &mut Vec<Op>, value: Value) -> Result<usize, Memory>
     ensures depth { IfOk result (λ d. d ≡ 1) }
     ensures len { OnOk result (vec_len ops.new ≡ vec_len ops.old + 1) }
 {
-    put(ops, Op::Push(value))?;
+    put_op(ops, Op::Push(value))?;
     Ok(1)
 }
 
@@ -213,7 +213,7 @@ fn put_field(ops: &mut Vec<Op>, fields: &NameKinds, name: &Text) -> Result<usize
 {
     match slot_of(fields.items(), name) {
         Some(slot) => {
-            put(ops, Op::Slot(slot))?;
+            put_op(ops, Op::Slot(slot))?;
             Ok(1)
         }
         None => put_value(ops, Value::Null),
@@ -322,7 +322,7 @@ fn emit_after(
     ensures some { IfOk result (λ d. 1 ≤ d) }
     ensures len { IfOk result (λ d. vec_len ops.old + d ≤ vec_len ops.new) }
 {
-    put(ops, op)?;
+    put_op(ops, op)?;
     emit(alloc, ops, a, fields)
 }
 
@@ -344,13 +344,13 @@ fn emit_two(
 {
     match expr {
         Expr::Math(_, a, b) => {
-            put(ops, op)?;
+            put_op(ops, op)?;
             let right = emit(alloc, ops, b, fields)?;
             let left = emit(alloc, ops, a, fields)?;
             Ok(left.max(right + 1))
         }
         Expr::Cmp(_, a, b) => {
-            put(ops, op)?;
+            put_op(ops, op)?;
             let right = emit(alloc, ops, b, fields)?;
             let left = emit(alloc, ops, a, fields)?;
             Ok(left.max(right + 1))
@@ -583,7 +583,7 @@ fn emit_plain_call(
         return put_value(ops, Value::Null);
     };
     let count = args.items().len();
-    put(
+    put_op(
         ops,
         Op::Call {
             function,
@@ -612,7 +612,7 @@ fn emit_list(
     ensures len { IfOk result (λ d. vec_len ops.old + d ≤ vec_len ops.new) }
 {
     let deep = emit_each(alloc, ops, fold, es, fields)?;
-    put(ops, Op::Push(fold.first()))?;
+    put_op(ops, Op::Push(fold.first()))?;
     Ok(deep + 1)
 }
 
@@ -635,7 +635,7 @@ fn emit_each(
     let mut deepest = 0;
     for at in (0..items.len()).rev() {
         let rest = ops.len() - start;
-        put(ops, fold.op(rest))?;
+        put_op(ops, fold.op(rest))?;
         let deep = emit(alloc, ops, &items[at], fields)?;
         deepest = deepest.max(deep);
     }

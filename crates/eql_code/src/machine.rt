@@ -112,7 +112,7 @@ fn code_of(alloc: Global, expr: &Expr, fields: &NameKinds) -> Result<Code, Memor
 }
 
 /// Puts a cell on the top, where there is room.
-fn put(cells: &mut Vec<Cell>, cell: Cell)
+fn put_cell(cells: &mut Vec<Cell>, cell: Cell)
     requires { vec_len cells.old < vec_capacity cells.old }
     ensures items { cells.new.items ≡ cells.old.items ++ cell ∷ [] }
     ensures capacity { vec_capacity cells.new ≡ vec_capacity cells.old }
@@ -203,7 +203,7 @@ fn call_top(
     };
     let value = call(alloc, function, fold, &operands)?;
     cells.truncate(at);
-    put(cells, Cell::Made(value));
+    put_cell(cells, Cell::Made(value));
     Ok(())
 }
 
@@ -227,11 +227,11 @@ fn step(alloc: Global, frame: &Frame<'_>, at: usize, cells: &mut Vec<Cell>) -> R
     let op = &frame.ops[at];
     match op {
         Op::Push(_) => {
-            put(cells, Cell::Here(at));
+            put_cell(cells, Cell::Here(at));
             Ok(0)
         }
         Op::Slot(slot) => {
-            put(cells, Cell::Slot(*slot));
+            put_cell(cells, Cell::Slot(*slot));
             Ok(0)
         }
         Op::Not
@@ -242,7 +242,7 @@ fn step(alloc: Global, frame: &Frame<'_>, at: usize, cells: &mut Vec<Cell>) -> R
         | Op::Negate => {
             let a = take(cells);
             let value = unary(op, frame.seen(&a));
-            put(cells, Cell::Made(value));
+            put_cell(cells, Cell::Made(value));
             Ok(0)
         }
         Op::And { .. } | Op::Or { .. } | Op::Compare { .. } | Op::Math(_) => {
@@ -250,7 +250,7 @@ fn step(alloc: Global, frame: &Frame<'_>, at: usize, cells: &mut Vec<Cell>) -> R
             let a = take(cells);
             let value = binary(op, frame.seen(&a), frame.seen(&b));
             let passed = passed_over(op, &value);
-            put(cells, Cell::Made(value));
+            put_cell(cells, Cell::Made(value));
             Ok(passed)
         }
         Op::Call {

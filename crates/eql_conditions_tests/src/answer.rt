@@ -1,4 +1,4 @@
-//! What the check of a query answers, as one line.
+//! What the check of a query returns, as one line.
 use eql_check::{CheckRefused, Checked, Mapping, can_check, check};
 use eql_lexer::lex;
 use eql_parser::parse;
@@ -40,7 +40,7 @@ fn shown(alloc: Global, checked: &Checked) -> Result<String, Fail> {
     Ok(line)
 }
 
-/// What the check of a query answers.
+/// What the check of a query returns.
 pub fn answer_to(alloc: Global, query: &Query, mapping: &Mapping) -> Result<String, Fail> {
     if !can_check(query) {
         return Ok(String::from_str(alloc, "too many items")?);
@@ -51,7 +51,7 @@ pub fn answer_to(alloc: Global, query: &Query, mapping: &Mapping) -> Result<Stri
     }
 }
 
-/// What the check of the query that a text is answers.
+/// What the check of a text's query returns.
 fn answer(alloc: Global, text: &str, mapping: &Mapping) -> Result<String, Fail> {
     let Ok(tokens) = lex(alloc, text.as_bytes()) else {
         return Ok(String::from_str(alloc, "no tokens")?);
@@ -62,7 +62,7 @@ fn answer(alloc: Global, text: &str, mapping: &Mapping) -> Result<String, Fail> 
     }
 }
 
-/// Sees that the check of a query answers this.
+/// Sees that the check of a query returns this.
 pub fn answers(
     rt: &impl Abort,
     alloc: Global,
@@ -75,7 +75,7 @@ pub fn answers(
     Ok(())
 }
 
-/// Sees that the check of each query over these fields answers what stands beside it.
+/// Sees that the check of each query over these fields returns what stands beside it.
 fn table_answers(
     rt: &impl Abort,
     alloc: Global,
@@ -101,7 +101,7 @@ fn each_table_answers(
     Ok(())
 }
 
-/// Sees that the check of each query of these tables answers what stands beside it.
+/// Sees that the check of each query of these tables returns what stands beside it.
 pub fn each_answers(
     rt: &impl Abort,
     alloc: Global,

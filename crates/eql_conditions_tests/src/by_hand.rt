@@ -40,7 +40,7 @@ fn sequence(alloc: Global, runs: i64, span: Option<Span>) -> Result<Query, Fail>
     })
 }
 
-/// Sees what is answered to single events with this pipe.
+/// Sees what is returned for single events with this pipe.
 fn answers_to_pipe(
     rt: &impl Abort,
     alloc: Global,
@@ -63,7 +63,7 @@ fn counts_below_zero_of_pipes(rt: HostRuntime) -> Result<(), Fail> {
     answers_to_pipe(&rt, alloc, PipeText::Tail(0), "0 keys")
 }
 
-/// How many runs and days a sequence has, and what is answered.
+/// How many runs and days a sequence has, and what is returned.
 static SEQUENCES: &[(i64, i64, &str)] = &[
     (-1, 1, "Runs -1"),
     (2, -1, "Span"),
@@ -71,7 +71,7 @@ static SEQUENCES: &[(i64, i64, &str)] = &[
     (2, 1, "0 keys"),
 ];
 
-/// What is answered to a sequence of one item, so many in a row, within so many days.
+/// What is returned for a sequence of one item, so many in a row, within so many days.
 fn answer_to_days(alloc: Global, runs: i64, days: i64) -> Result<String, Fail> {
     let span = Span {
         count: days,

@@ -50,7 +50,7 @@ fn mapping(alloc: Global) -> Result<Mapping, Fail> {
     Ok(Mapping::read(alloc, text.as_str().as_bytes())?)
 }
 
-/// Sees that the check answers so where this stands before the names of fields, and this behind them.
+/// Sees what the check returns where this stands before the names of fields, and this behind them.
 fn answers_between(
     rt: &impl Abort,
     alloc: Global,
@@ -125,7 +125,7 @@ fn many_fields(rt: HostRuntime) -> Result<(), Fail> {
     seen
 }
 
-/// Sees what is answered to a sequence with so many keys, whose first item names these fields.
+/// Sees what is returned for a sequence with so many keys, whose first item names these fields.
 fn answers_to_keys(
     rt: &impl Abort,
     alloc: Global,
@@ -175,7 +175,7 @@ fn sequence(alloc: Global, count: usize) -> Result<String, Fail> {
     Ok(text)
 }
 
-/// How many items a sequence has, and what is answered.
+/// How many items a sequence has, and what is returned.
 static ITEMS: &[(usize, &str)] = &[
     (1, "FewStages"),
     (2, "0 keys"),
@@ -183,7 +183,7 @@ static ITEMS: &[(usize, &str)] = &[
     (257, "ManyStages 257"),
 ];
 
-/// Sees what is answered to a sequence of so many items.
+/// Sees what is returned for a sequence of so many items.
 fn answers_to_items(
     rt: &impl Abort,
     alloc: Global,
@@ -195,7 +195,7 @@ fn answers_to_items(
     answers(rt, alloc, mapping, text.as_str(), wanted)
 }
 
-/// Sees what is answered to each.
+/// Sees what is returned for each.
 fn each_count(rt: &impl Abort, alloc: Global, mapping: &Mapping) -> Result<(), Fail> {
     for &(count, wanted) in ITEMS {
         answers_to_items(rt, alloc, mapping, count, wanted)?;
@@ -218,7 +218,7 @@ fn optional_fields(alloc: Global, count: usize) -> Result<String, Fail> {
     Ok(text)
 }
 
-/// Sees what is answered to a sequence of two items that have these keys, and one more behind those of the second.
+/// Sees what is returned for a sequence of two items that have these keys, and one more behind those of the second.
 fn answers_to_item_keys(
     rt: &impl Abort,
     alloc: Global,
@@ -233,7 +233,7 @@ fn answers_to_item_keys(
     answers(rt, alloc, mapping, text.as_str(), wanted)
 }
 
-/// Sees what is answered to as many keys of both items, and to one more of the second.
+/// Sees what is returned for as many keys of both items, and for one more of the second.
 fn item_keys_are_judged(
     rt: &impl Abort,
     alloc: Global,

@@ -64,7 +64,7 @@ fn code_gives(alloc: Global, code: &Code, slots: &Slots, value: &Value) -> Resul
 }
 
 /// What a condition of a checked query gives, plainly evaluated; none where its code or a copy of that gives another
-/// value, or `holds` answers otherwise.
+/// value, or `holds` returns something else.
 fn value_by_both(alloc: Global, cond: &Expr, checked: &Checked) -> Result<Option<Value>, Fail> {
     let slots = slots_of(alloc, checked)?;
     let plain = eval(alloc, cond, checked, &slots)?;

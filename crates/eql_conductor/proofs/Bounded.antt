@@ -3,10 +3,10 @@ use Rattle.std.proofs.Common.{◌≡◌, ◌+◌, ◌*◌, ◌<◌, ◌≤◌, �
 use Rattle.eql_laws.proofs.PieceLemmas.{routed_pieces}
 use Rattle.eql_lane.specs.Lanes.{LaneState}
 use Rattle.eql_parts.specs.Spreading.{part_number}
-use Rattle.eql_conductor.specs.Benches.{Known, Same}
+use Rattle.eql_conductor.specs.Benches.{Known, StaysSame}
 use Rattle.eql_conductor.specs.Bounds.{AreSized, RoundsSpend, Spends, held_count, sum_from}
 use Rattle.eql_conductor.specs.Handed.{AllHandOut, total_to}
-use Rattle.eql_conductor.specs.RoundNotes.{LanesInRounds, PartsInRounds, PlaysParts, turns_in}
+use Rattle.eql_conductor.specs.RoundNotes.{LanesGrowInRounds, PartsGrowInRounds, PlaysParts, turns_in}
 use Rattle.eql_conductor.specs.RunBounds.{LaneStates, RunIsBounded, bytes_in, events_in}
 use Rattle.eql_conductor.proofs.BoundsLanes.{fed_gains}
 use Rattle.eql_conductor.proofs.BoundsSpent.{steps_to}
@@ -57,7 +57,7 @@ module _ (began now : ℕ → LaneState) (a b : Known) (states : LaneStates bega
       let from : total_to (0 + a.lanes) spent.steps ≡ total_to a.lanes spent.steps = (let e : 0 + a.lanes ≡ a.lanes = omega arith in ap (λ (k : ℕ). total_to k spent.steps) e) in
       omega (arith, all, total, sum, from)
 
-  handed_by : (n : ℕ) → Same a b → AreSized b → AllHandOut n a b → n ≤ bytes + events
+  handed_by : (n : ℕ) → StaysSame a b → AreSized b → AllHandOut n a b → n ≤ bytes + events
   handed_by n same sized h =
       let each : (s : ℕ) → s < a.lanes → h.counts s ≤ (now s).taken + held_count (began s) = (λ s l.
       let x = h.each.each s l (now s) (states.to s l) in
@@ -69,7 +69,7 @@ module _ (began now : ℕ → LaneState) (a b : Known) (states : LaneStates bega
       let total = h.total in
       omega (arith, all, total)
 
-  turns_by : (others : ℕ) → Same a b → AreSized b → PlaysParts others a b → (p : ℕ) → p < a.parts → turns_in (b.part_notes p) ≤ turns_in (a.part_notes p) + (bytes + events)
+  turns_by : (others : ℕ) → StaysSame a b → AreSized b → PlaysParts others a b → (p : ℕ) → p < a.parts → turns_in (b.part_notes p) ≤ turns_in (a.part_notes p) + (bytes + events)
   turns_by others same sized h p l =
       let one = h.parts.each p l in
       let grew : turns_in (b.part_notes p) ≡ turns_in (a.part_notes p) + turns_in one.more = ap turns_in one.grew ∙ turns_on (a.part_notes p) one.more in
@@ -79,8 +79,8 @@ module _ (began now : ℕ → LaneState) (a b : Known) (states : LaneStates bega
       omega (arith, grew, few, fewer, all)
 
 -- so many rounds, of which all but the last two took a step
-pub run_bounded : (rounds n others : ℕ) (a b : Known) → rounds ≤ n + 2 → Same a b → RoundsSpend n a b → AreSized b → PlaysParts others a b
-    → LanesInRounds rounds a b → PartsInRounds rounds a b → RunIsBounded rounds a b
+pub run_bounded : (rounds n others : ℕ) (a b : Known) → rounds ≤ n + 2 → StaysSame a b → RoundsSpend n a b → AreSized b → PlaysParts others a b
+    → LanesGrowInRounds rounds a b → PartsGrowInRounds rounds a b → RunIsBounded rounds a b
 run_bounded rounds n others a b few same spent sized played lanes parts = record {
   bound = λ began now states. record {
     rounds_to = let steps = steps_by began now a b states n spent.spent in omega (arith, few, steps);

@@ -7,13 +7,13 @@ use Rattle.eql_values.specs.declared.item.Item.{Item}
 use Rattle.eql_values.specs.declared.order.Mark.{Mark}
 use Rattle.eql_values.specs.declared.order.Mark.TheVariants.{End}
 use Rattle.eql_values.specs.Marks.{is_below, low_of, mark_cmp}
-use Rattle.eql_laws.specs.Lateness.{AtMost}
-use Rattle.eql_laws.specs.Together.{NoneBelow}
+use Rattle.eql_laws.specs.Lateness.{IsAtMost}
+use Rattle.eql_laws.specs.Together.{NoneIsBelow}
 use Rattle.eql_laws.proofs.MarkLemmas.{below_up}
 use Rattle.eql_lane.specs.declared.ops.LaneReply.{LaneReply}
 use Rattle.eql_lane.specs.declared.ops.LaneReply.TheVariants as reply
 use Rattle.eql_lane.specs.declared.ops.LimitOf.TheVariants as limit
-use Rattle.eql_lane.specs.Lanes.{Setting, LaneState, Feeds, FeedStep, FeedsLines, Takes, lesser, low, ready}
+use Rattle.eql_lane.specs.Lanes.{Setting, LaneState, Feeds, IsFeedStep, FeedsLines, Takes, lesser, low, ready}
 use Rattle.eql_rounds.specs.LaneRounds.{Holds}
 use Rattle.eql_conductor.specs.Benches.{FeedsTimes, ComesByFeeds}
 use Rattle.eql_conductor.specs.Bounds.{Gains, GaveOut, HadLow, IsHolding, WasFed}
@@ -27,7 +27,7 @@ fed_gains set x y h = (fed_onward set x y h).gains
 too_full : (set : Setting) (x : LaneState) {X : Type 0} → IsHolding set x → ready set x < 65536 → X
 too_full set x {X} h k = absurd (omega (arith, h, k))
 
-holding_feed : (set : Setting) (x : LaneState) (max : ℕ) (answer : LaneReply) (y : LaneState) → IsHolding set x → FeedStep set x max answer y → y ≡ x
+holding_feed : (set : Setting) (x : LaneState) (max : ℕ) (answer : LaneReply) (y : LaneState) → IsHolding set x → IsFeedStep set x max answer y → y ≡ x
 holding_feed set x max (reply.Fed n) y h step = too_full set x h step.feeds.not_full
 holding_feed set x max (reply.Held k) y h step = step.2
 holding_feed set x max reply.Closed y h step = too_full set x h step.not_full
@@ -54,7 +54,7 @@ holding_stays set x y h fed = holding_times set fed.0 x y h fed.1
 was_open : (set : Setting) (x : LaneState) (max n : ℕ) (y : LaneState) → x.cut.closed ≡ true → Feeds set x max n y → y.cut.closed ≡ true
 was_open set x max n y e feeds = absurd (let f = sym feeds.was_open ∙ e in cc)
 
-closed_feed : (set : Setting) (x : LaneState) (max : ℕ) (answer : LaneReply) (y : LaneState) → x.cut.closed ≡ true → FeedStep set x max answer y → y.cut.closed ≡ true
+closed_feed : (set : Setting) (x : LaneState) (max : ℕ) (answer : LaneReply) (y : LaneState) → x.cut.closed ≡ true → IsFeedStep set x max answer y → y.cut.closed ≡ true
 closed_feed set x max (reply.Fed n) y e step = was_open set x max n y e step.feeds
 closed_feed set x max (reply.Held k) y e step = ap (λ (z : LaneState). z.cut.closed) step.2 ∙ e
 closed_feed set x max reply.Closed y e step = step.closed
@@ -77,16 +77,16 @@ lines_step : (set : Setting) (x : LaneState) (max n : ℕ) (y : LaneState) → F
 lines_step set x max zero y step = takes_step set x 0 y step.feeds.reads (let e = step.none refl in omega (arith, e))
 lines_step set x max (suc n) y step = reads_step set x (suc n) y step.feeds.reads (omega arith)
 
-pub fed_lines : (set : Setting) (x : LaneState) (max n : ℕ) (y : LaneState) → FeedStep set x max (reply.Fed n) y → WasFed set x y
+pub fed_lines : (set : Setting) (x : LaneState) (max n : ℕ) (y : LaneState) → IsFeedStep set x max (reply.Fed n) y → WasFed set x y
 fed_lines set x max n y step = record { on = (let a = lines_step set x max n y step in omega (arith, a)); step = inl (lines_step set x max n y step) }
 
-pub fed_held : (set : Setting) (x : LaneState) (max k : ℕ) (y : LaneState) → FeedStep set x max (reply.Held k) y → WasFed set x y
+pub fed_held : (set : Setting) (x : LaneState) (max k : ℕ) (y : LaneState) → IsFeedStep set x max (reply.Held k) y → WasFed set x y
 fed_held set x max k y step = record {
   on = subst (Gains 0 x) (sym step.2) (gains_self x);
   step = inr (inr (subst (IsHolding set) (sym step.2) (let a = step.0 in let b = step.1 in omega (arith, a, b))));
 }
 
-pub fed_closed : (set : Setting) (x : LaneState) (max : ℕ) (y : LaneState) → Gains 0 x y → FeedStep set x max reply.Closed y → WasFed set x y
+pub fed_closed : (set : Setting) (x : LaneState) (max : ℕ) (y : LaneState) → Gains 0 x y → IsFeedStep set x max reply.Closed y → WasFed set x y
 fed_closed set x max y on step = record { on = on; step = inr (inl step.closed) }
 
 -- ---- others feed before it and after it
@@ -147,11 +147,11 @@ none_one : (p : Bool) (item : Item) (items : List Item) → p ≡ false → item
 none_one true item items e f = cc
 none_one false item items e f = f
 
-not_below : (mark last : Mark) (item : Item) (b : Bool) → AtMost mark last → is_below mark item ≡ b → is_below last item ≡ false → b ≡ false
+not_below : (mark last : Mark) (item : Item) (b : Bool) → IsAtMost mark last → is_below mark item ≡ b → is_below last item ≡ false → b ≡ false
 not_below mark last item true le e f = let g = below_up mark last item le e in cc
 not_below mark last item false le e f = refl
 
-none_ready : (mark last : Mark) (items : List Item) → AtMost mark last → NoneBelow last items → filter (is_below mark) items ≡ []
+none_ready : (mark last : Mark) (items : List Item) → IsAtMost mark last → NoneIsBelow last items → filter (is_below mark) items ≡ []
 none_ready mark last [] le none = refl
 none_ready mark last (item ∷ items) le none =
     none_one (is_below mark item) item (filter (is_below mark) items)
@@ -172,13 +172,13 @@ module _ (set : Setting) (mark : Mark) (x y z : LaneState) (fed : WasFed set x y
           inr (subst (IsHolding set) (sym same) much, ap (low set) same ∙ had.low_is)
 
   -- where the round doesn't count, it went a step
-  pub step_of_rest : (last : Mark) → Holds set last z → AtMost mark last → Gains 1 x z
+  pub step_of_rest : (last : Mark) → Holds set last z → IsAtMost mark last → Gains 1 x z
   step_of_rest last holds le = by looked
     where
       by : Gains 1 x z ⊎ (IsHolding set z × (low set z ≡ mark)) → Gains 1 x z
       by (inl g) = g
       by (inr (much, is_low)) = absurd (
-          let none = ap (λ (l : List Item). length l) (none_ready (low set z) last z.cut.items (subst (λ (m : Mark). AtMost m last) (sym is_low) le) holds.none_below) in
+          let none = ap (λ (l : List Item). length l) (none_ready (low set z) last z.cut.items (subst (λ (m : Mark). IsAtMost m last) (sym is_low) le) holds.none_below) in
           omega (arith, much, none))
 
   -- where it counts, it did so too, once it was taken from

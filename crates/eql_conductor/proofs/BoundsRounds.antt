@@ -7,15 +7,15 @@ use Rattle.eql_values.specs.Marks.{mark_cmp}
 use Rattle.eql_lane.specs.declared.ops.LaneOp.TheVariants as op
 use Rattle.eql_lane.specs.declared.ops.LaneReply.{LaneReply}
 use Rattle.eql_lane.specs.declared.ops.LaneReply.TheVariants as reply
-use Rattle.eql_lane.specs.Lanes.{Setting, LaneState, FeedStep, lesser}
-use Rattle.eql_conductor.specs.Benches.{Known, Same, ComesByFeeds, LeavesLane, LanesRest, LanePlays, Rests}
+use Rattle.eql_lane.specs.Lanes.{Setting, LaneState, IsFeedStep, lesser}
+use Rattle.eql_conductor.specs.Benches.{Known, StaysSame, ComesByFeeds, LeavesLane, LanesRest, LanePlays, Rests}
 use Rattle.eql_conductor.specs.Bounds.{FeedsAll, AllGaveOut, FeedsTo, GaveOut, GaveOutTo, HadLow, IsSomeLow, LaneGaveOut, LaneHadLow, LaneWasFed, OneGaveOut, WasFed}
 use Rattle.eql_conductor.proofs.BoundsLanes.{fed_closed, fed_held, fed_lines, gave_out, gave_out_before, gave_out_on, was_fed_before, was_fed_on}
 use Rattle.eql_conductor.proofs.Onward.{step_onward}
 use Rattle.eql_conductor.proofs.Resting.{fed_on, fed_self, is_lane, same_or}
 
 -- ---- feeds
-plays_fed : (s max : ℕ) (answer : LaneReply) (a b : Known) → ((x y : LaneState) → FeedStep (a.set s) x max answer y → WasFed (a.set s) x y)
+plays_fed : (s max : ℕ) (answer : LaneReply) (a b : Known) → ((x y : LaneState) → IsFeedStep (a.set s) x max answer y → WasFed (a.set s) x y)
     → LanePlays s (op.Feed max) answer a b → LaneWasFed s a b
 plays_fed s max answer a b one plays = record {
   some = let c = plays.called plays.some.0 plays.some.1 in (c.first, c.was);
@@ -103,7 +103,7 @@ low_before s mark a b c rests h = record {
         let had : HadLow (a.set s) mark m y = subst (λ (set : Setting). HadLow set mark m y) (rests.same.set s l) was in
         (x.0, x.1, record { state = had.state; before = fed_on (a.set s) x.0 m had.state x.2 had.before; low_is = had.low_is; later = had.later })
 
-low_on : (s : ℕ) (mark : Mark) (a b c : Known) → Same a b → LanesRest b c → LaneHadLow s mark a b → LaneHadLow s mark a c
+low_on : (s : ℕ) (mark : Mark) (a b c : Known) → StaysSame a b → LanesRest b c → LaneHadLow s mark a b → LaneHadLow s mark a c
 low_on s mark a b c same rests h = record {
   lane = h.lane;
   some = h.some;
@@ -115,7 +115,7 @@ low_on s mark a b c same rests h = record {
       (x.0, x.1, record { state = had.state; before = had.before; low_is = had.low_is; later = fed_on (a.set s) had.state m.0 y had.later fed });
 }
 
-some_low_on : (mark : Mark) (a b c : Known) → Same a b → LanesRest b c → IsSomeLow mark a b → IsSomeLow mark a c
+some_low_on : (mark : Mark) (a b c : Known) → StaysSame a b → LanesRest b c → IsSomeLow mark a b → IsSomeLow mark a c
 some_low_on mark a b c same rests (inl e) = inl e
 some_low_on mark a b c same rests (inr (s, h)) = inr (s, low_on s mark a b c same rests h)
 
@@ -144,14 +144,14 @@ gave_out_none mark a = record {
   left = λ s l above y here. (y, here, fed_self (a.set s) y);
 }
 
-left_on : (s : ℕ) (a b c : Known) → s < a.lanes → Same a b → LeavesLane (a.set s) (a.lane s) (b.lane s) → LeavesLane (b.set s) (b.lane s) (c.lane s) → LeavesLane (a.set s) (a.lane s) (c.lane s)
+left_on : (s : ℕ) (a b c : Known) → s < a.lanes → StaysSame a b → LeavesLane (a.set s) (a.lane s) (b.lane s) → LeavesLane (b.set s) (b.lane s) (c.lane s) → LeavesLane (a.set s) (a.lane s) (c.lane s)
 left_on s a b c l same h k y here =
     let m = k y here in
     let x = h m.0 m.1 in
     (x.0, x.1, fed_on (a.set s) x.0 m.0 y x.2 (subst (λ (set : Setting). ComesByFeeds set m.0 y) (same.set s l) m.2))
 
 -- others feed before it and after it
-lane_gave_before : (s : ℕ) (mark : Mark) (a b c : Known) → s < a.lanes → Same a b → LeavesLane (a.set s) (a.lane s) (b.lane s) → LaneGaveOut s mark b c → LaneGaveOut s mark a c
+lane_gave_before : (s : ℕ) (mark : Mark) (a b c : Known) → s < a.lanes → StaysSame a b → LeavesLane (a.set s) (a.lane s) (b.lane s) → LaneGaveOut s mark b c → LaneGaveOut s mark a c
 lane_gave_before s mark a b c l same h k = record {
   each = λ y here.
       let m = k.each y here in
@@ -159,7 +159,7 @@ lane_gave_before s mark a b c l same h k = record {
       (x.0, x.1, gave_out_before (a.set s) mark x.0 m.0 y x.2 (subst (λ (set : Setting). GaveOut set mark m.0 y) (same.set s l) m.2));
 }
 
-lane_gave_on : (s : ℕ) (mark : Mark) (a b c : Known) → s < a.lanes → Same a b → LaneGaveOut s mark a b → LeavesLane (b.set s) (b.lane s) (c.lane s) → LaneGaveOut s mark a c
+lane_gave_on : (s : ℕ) (mark : Mark) (a b c : Known) → s < a.lanes → StaysSame a b → LaneGaveOut s mark a b → LeavesLane (b.set s) (b.lane s) (c.lane s) → LaneGaveOut s mark a c
 lane_gave_on s mark a b c l same h k = record {
   each = λ y here.
       let m = k y here in
@@ -168,7 +168,7 @@ lane_gave_on s mark a b c l same h k = record {
 }
 
 -- one more lane was taken from
-pub gave_out_more : (n : ℕ) (mark : Mark) (a b c : Known) → Same a b → GaveOutTo n mark a b → OneGaveOut n mark b c → GaveOutTo (n + 1) mark a c
+pub gave_out_more : (n : ℕ) (mark : Mark) (a b c : Known) → StaysSame a b → GaveOutTo n mark a b → OneGaveOut n mark b c → GaveOutTo (n + 1) mark a c
 gave_out_more n mark a b c same h one = record {
   done = λ s l below. elim (same_or s n) [
     | inl e ↦ lane_gave_before s mark a b c l same (h.left s l (omega (arith, e))) (subst (λ (k : ℕ). LaneGaveOut k mark b c) (sym e) one.lane)
@@ -181,7 +181,7 @@ pub gave_out_all : (n : ℕ) (mark : Mark) (a b : Known) → n ≡ a.lanes → G
 gave_out_all n mark a b e h = record { each = λ s l. h.done s l (subst (λ (m : ℕ). s < m) (sym e) l) }
 
 -- parts played then
-pub gave_out_rest : (mark : Mark) (a b c : Known) → Same a b → LanesRest b c → AllGaveOut mark a b → AllGaveOut mark a c
+pub gave_out_rest : (mark : Mark) (a b c : Known) → StaysSame a b → LanesRest b c → AllGaveOut mark a b → AllGaveOut mark a c
 gave_out_rest mark a b c same rests h = record {
   each = λ s l. lane_gave_on s mark a b c l same (h.each s l) (rests.each s (is_lane a b s same l));
 }

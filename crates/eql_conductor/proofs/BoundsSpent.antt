@@ -2,13 +2,13 @@
 use Rattle.std.proofs.Common.{◌≡◌, ◌≢◌, ◌⊎◌, inl, inr, ◌+◌, ◌*◌, ◌<◌, ◌≤◌, ◌^◌, ℕ, zero, suc, Option, None, Some, refl, sym, ap, ◌∙◌, arith, subst}
 use Rattle.eql_values.specs.declared.order.Mark.{Mark}
 use Rattle.eql_values.specs.declared.order.Mark.TheVariants.{Start, At, End}
-use Rattle.eql_laws.specs.Lateness.{AtMost}
+use Rattle.eql_laws.specs.Lateness.{IsAtMost}
 use Rattle.eql_lane.specs.Lanes.{Setting, LaneState}
 use Rattle.eql_rounds.specs.LaneRounds.{Holds}
-use Rattle.eql_conductor.specs.Benches.{Known, Same}
+use Rattle.eql_conductor.specs.Benches.{Known, StaysSame}
 use Rattle.eql_conductor.specs.Bounds.{FeedsAll, AllGaveOut, AreSized, Gains, GaveOut, HadLow, HaveStates, IsSomeLow, RoundSpends, RoundsSpend, Spends, held_count, lane_steps, mark_after, sum_from}
 use Rattle.eql_conductor.specs.Going.{LanesGo}
-use Rattle.eql_conductor.specs.LaneRounds.{LanesAt}
+use Rattle.eql_conductor.specs.LaneRounds.{LanesAreAt}
 use Rattle.eql_conductor.proofs.BoundsLanes.{step_of_rest, step_of_take}
 use Rattle.eql_conductor.proofs.BoundsSteps.{gains_on}
 use Rattle.eql_conductor.proofs.Resting.{is_lane, same_or}
@@ -70,7 +70,7 @@ spent_none a b go = record {
   each = λ s l y here. let x = go.each s l y here in (x.0, x.1, x.2.gains);
 }
 
-pub spent_on : (n m : ℕ) (a b c : Known) → Same a b → Spends n a b → Spends m b c → Spends (n + m) a c
+pub spent_on : (n m : ℕ) (a b c : Known) → StaysSame a b → Spends n a b → Spends m b c → Spends (n + m) a c
 spent_on n m a b c same h k = record {
   steps = λ s. h.steps s + k.steps s;
   total =
@@ -99,7 +99,7 @@ spent_one which a b l go step = record {
 pub have_states : (a b : Known) → FeedsAll a b → HaveStates a
 have_states a b fed = record { each = λ s l. (fed.each s l).some }
 
-end_last : (mark last : Mark) → mark ≡ End → AtMost mark last → last ≡ End
+end_last : (mark last : Mark) → mark ≡ End → IsAtMost mark last → last ≡ End
 end_last Start last e le = cc
 end_last (At t) last e le = cc
 end_last End Start e le = cc
@@ -107,8 +107,8 @@ end_last End (At t) e le = cc
 end_last End End e le = refl
 
 -- the lanes were fed and looked at
-module _ (last mark : Mark) (a b c : Known) (same : Same a b) (fed : FeedsAll a b) (low : IsSomeLow mark b c) where
-  rest_by : LanesGo a c → Same b c → LanesAt None last c → AtMost mark last → last ≢ End → IsSomeLow mark b c → Spends 1 a c
+module _ (last mark : Mark) (a b c : Known) (same : StaysSame a b) (fed : FeedsAll a b) (low : IsSomeLow mark b c) where
+  rest_by : LanesGo a c → StaysSame b c → LanesAreAt None last c → IsAtMost mark last → last ≢ End → IsSomeLow mark b c → Spends 1 a c
   rest_by go later at le before_end (inl e) = absurd (before_end (end_last mark last e le))
   rest_by go later at le before_end (inr (s, had)) =
       let l : s < a.lanes = subst (λ (n : ℕ). s < n) same.lanes had.lane in
@@ -121,10 +121,10 @@ module _ (last mark : Mark) (a b c : Known) (same : Same a b) (fed : FeedsAll a 
       (x.0, x.1, step_of_rest (a.set s) mark x.0 m.0 y x.2 had_at (λ e. before_end (end_last mark last e le)) last (subst (λ (set : Setting). Holds set last y) set_is holds) le))
 
   -- the round doesn't count
-  pub rest_spends : LanesGo a c → Same b c → LanesAt None last c → AtMost mark last → RoundSpends last a c None
+  pub rest_spends : LanesGo a c → StaysSame b c → LanesAreAt None last c → IsAtMost mark last → RoundSpends last a c None
   rest_spends go later at le = record { some = have_states a b fed; step = λ before_end. rest_by go later at le before_end low }
 
-  take_by : (d : Known) → LanesGo a d → Same b c → AllGaveOut mark c d → mark ≢ End → IsSomeLow mark b c → Spends 1 a d
+  take_by : (d : Known) → LanesGo a d → StaysSame b c → AllGaveOut mark c d → mark ≢ End → IsSomeLow mark b c → Spends 1 a d
   take_by d go later gave before_end (inl e) = absurd (before_end e)
   take_by d go later gave before_end (inr (s, had)) =
       let l : s < a.lanes = subst (λ (n : ℕ). s < n) same.lanes had.lane in
@@ -137,7 +137,7 @@ module _ (last mark : Mark) (a b c : Known) (same : Same a b) (fed : FeedsAll a 
       (x.0, x.1, step_of_take (a.set s) mark x.0 m.0 z.0 x.2 had_at before_end y gave_at))
 
   -- the round counts, and what lies below the mark was taken
-  pub take_spends : (d : Known) → LanesGo a d → Same b c → AllGaveOut mark c d → RoundSpends last a d (Some mark)
+  pub take_spends : (d : Known) → LanesGo a d → StaysSame b c → AllGaveOut mark c d → RoundSpends last a d (Some mark)
   take_spends d go later gave = record { some = have_states a b fed; step = λ before_end. take_by d go later gave before_end low }
 
 -- ---- the bound
@@ -170,7 +170,7 @@ module _ (n : ℕ) (a b : Known) (spent : Spends n a b) where
   spent_few go sized states = let h = sum_few go sized states 0 a.lanes (omega arith) in let e = spent.total in omega (arith, h, e)
 
 -- a call behind the round, as that of a cut, takes none of that back
-pub round_stays : (last : Mark) (counted : Option Mark) (a b c : Known) → Same a b → LanesGo b c → RoundSpends last a b counted → RoundSpends last a c counted
+pub round_stays : (last : Mark) (counted : Option Mark) (a b c : Known) → StaysSame a b → LanesGo b c → RoundSpends last a b counted → RoundSpends last a c counted
 round_stays last counted a b c same go h = record {
   some = h.some;
   step = λ before_end. subst (λ (k : ℕ). Spends k a c) (omega arith) (spent_on 1 0 a b c same (h.step before_end) (spent_none b c go));
@@ -189,7 +189,7 @@ rounds_more n last counted a b c go sized h round before_end = record {
 }
 
 -- a call that feeds no more than others do, or hands out: what was spent stays so
-pub rounds_stay : (n : ℕ) (a b c : Known) → Same a b → LanesGo b c → RoundsSpend n a b → RoundsSpend n a c
+pub rounds_stay : (n : ℕ) (a b c : Known) → StaysSame a b → LanesGo b c → RoundsSpend n a b → RoundsSpend n a c
 rounds_stay n a b c same go h = record {
   spent = subst (λ (k : ℕ). Spends k a c) (omega arith) (spent_on n 0 a b c same h.spent (spent_none b c go));
   few = h.few;

@@ -8,18 +8,18 @@ use Rattle.eql_values.specs.declared.found.Holder.{Holder}
 use Rattle.eql_values.specs.declared.order.Mark.{Mark}
 use Rattle.eql_values.specs.Accepted.{Reads}
 use Rattle.eql_laws.specs.Belows.{between}
-use Rattle.eql_laws.specs.Lateness.{AtMost}
+use Rattle.eql_laws.specs.Lateness.{IsAtMost}
 use Rattle.eql_outside.specs.Written.{WroteFront}
 use Rattle.eql_book.specs.Books.{BookState, let_out}
 use Rattle.eql_book.specs.Listing.{listing}
 use Rattle.eql_parts.specs.PartSteps.{Rules}
 use Rattle.eql_conductor.specs.declared.stop.Stop.{Stop}
 use Rattle.eql_conductor.specs.declared.stop.Stop.TheVariants as stop
-use Rattle.eql_conductor.specs.Benches.{Known, Same, LanesRest, PartsRest, Rests}
+use Rattle.eql_conductor.specs.Benches.{Known, StaysSame, LanesRest, PartsRest, Rests}
 use Rattle.eql_conductor.specs.Going.{LanesGo, Went, StopsBy}
-use Rattle.eql_conductor.specs.LaneRounds.{LanesAt}
+use Rattle.eql_conductor.specs.LaneRounds.{LanesAreAt}
 use Rattle.eql_conductor.specs.PartRounds.{AreAtRest, pending_after}
-use Rattle.eql_conductor.specs.Rounds.{OfTexts, found_by, Gave, GoesTo, RoundBreaks, RoundRests, RoundStops, StopsAt}
+use Rattle.eql_conductor.specs.Rounds.{BenchIsOfTexts, found_by, Gave, GoesTo, RoundBreaks, RoundRests, RoundStops, StopsAt}
 use Rattle.eql_conductor.proofs.Onward.{stops_on, went_on}
 use Rattle.eql_laws.proofs.MarkLemmas.{at_most_self}
 use Rattle.eql_conductor.proofs.Stays.{lanes_stay, parts_stay, texts_stay}
@@ -63,10 +63,10 @@ is_spoilt whole e f {X} = absurd (let g = sym e ∙ f in cc)
 
 -- of lanes that were taken from and parts that played
 module _ (last mark : Mark) (a b c : Known) (items : List Item) (found : List Match) (book then : BookState) (before now : Option (List ℕ))
-    (same_taken : Same a b) (parts : PartsRest a b) (same_played : Same b c) (lanes : LanesRest b c)
-    (told : (reads : Reads) (slack : Option ℤ) (texts : List (List ℕ)) → OfTexts reads slack texts last a → items ≡ between reads slack texts last mark)
+    (same_taken : StaysSame a b) (parts : PartsRest a b) (same_played : StaysSame b c) (lanes : LanesRest b c)
+    (told : (reads : Reads) (slack : Option ℤ) (texts : List (List ℕ)) → BenchIsOfTexts reads slack texts last a → items ≡ between reads slack texts last mark)
     (founds : (rules : Rules) (all : List Holder) → AreAtRest rules all last b → found ≡ found_by rules all items) where
-  found_told : (reads : Reads) (slack : Option ℤ) (texts : List (List ℕ)) (rules : Rules) (all : List Holder) → OfTexts reads slack texts last a → AreAtRest rules all last a
+  found_told : (reads : Reads) (slack : Option ℤ) (texts : List (List ℕ)) (rules : Rules) (all : List Holder) → BenchIsOfTexts reads slack texts last a → AreAtRest rules all last a
       → found ≡ found_by rules all (between reads slack texts last mark)
   found_told reads slack texts rules all of was =
       founds rules all (parts_stay rules all last a b same_taken parts was) ∙ ap (found_by rules all) (told reads slack texts of)
@@ -79,10 +79,10 @@ module _ (last mark : Mark) (a b c : Known) (items : List Item) (found : List Ma
         subst (λ (l : List Match). WroteFront (listing book.places (let_out book.pipes book.kept l)) before now) (found_told reads slack texts rules all of was) front;
   }
 
-  module _ (taken : (texts : Option (List (List ℕ))) → LanesAt texts last a → LanesAt texts mark b)
+  module _ (taken : (texts : Option (List (List ℕ))) → LanesAreAt texts last a → LanesAreAt texts mark b)
       (played : (rules : Rules) (all : List Holder) → AreAtRest rules all last b → AreAtRest rules (pending_after rules all items) mark c) where
     -- they were given to it
-    pub round_goes : AtMost last mark → Gave found book then before now → GoesTo last mark a c book then before now
+    pub round_goes : IsAtMost last mark → Gave found book then before now → GoesTo last mark a c book then before now
     round_goes later gave = record {
       later = later;
       lanes = λ texts at. lanes_stay texts mark b c same_played lanes (taken texts at);

@@ -9,7 +9,7 @@ use Rattle.eql_values.specs.declared.order.Mark.TheVariants.{At}
 use Rattle.eql_values.specs.Accepted.{Reads}
 use Rattle.eql_laws.specs.Alive.{alive_holders}
 use Rattle.eql_laws.specs.Belows.{between}
-use Rattle.eql_laws.specs.Lateness.{AtMost}
+use Rattle.eql_laws.specs.Lateness.{IsAtMost}
 use Rattle.eql_laws.proofs.MarkLemmas.{at_most_trans}
 use Rattle.eql_outside.specs.Moments.{History, DiskTells}
 use Rattle.eql_outside.proofs.Landing.{images}
@@ -20,7 +20,7 @@ use Rattle.eql_cut.specs.declared.cut.CutHead.{CutHead}
 use Rattle.eql_ckdisk.specs.declared.state.CkState.{CkState}
 use Rattle.eql_ckdisk.specs.Found.{LastCut, next}
 use Rattle.eql_ckdisk.specs.Going.{Goes}
-use Rattle.eql_ckdisk.specs.Keeping.{NoMore}
+use Rattle.eql_ckdisk.specs.Keeping.{LeavesNoMore}
 use Rattle.eql_ckdisk.specs.Putting.{last_cut}
 use Rattle.eql_ckdisk.specs.Runs.{last_after}
 use Rattle.eql_ckdisk.proofs.RunLemmas.{go_on}
@@ -28,9 +28,9 @@ use Rattle.eql_conductor.specs.declared.plan.End.{End as Ends}
 use Rattle.eql_conductor.specs.declared.plan.End.TheVariants as end
 use Rattle.eql_conductor.specs.declared.plan.Keep.{Keep}
 use Rattle.eql_conductor.specs.declared.plan.RunPlan.{RunPlan}
-use Rattle.eql_conductor.specs.Benches.{Known, Same}
+use Rattle.eql_conductor.specs.Benches.{Known, StaysSame}
 use Rattle.eql_conductor.specs.PartRounds.{AreAtRest, pending_after}
-use Rattle.eql_conductor.specs.Rounds.{CountsInRange, GoesTo, IsInRange, OfTexts, found_by}
+use Rattle.eql_conductor.specs.Rounds.{BenchIsOfTexts, CountsAreInRange, GoesTo, IsInRange, found_by}
 use Rattle.eql_conductor.specs.Running.{IsTaken, PutsEach, KeepPuts, KeepStands}
 use Rattle.eql_conductor.specs.Runs.{IsCutOf, IsRunCut, LastHolds, RunPuts}
 use Rattle.eql_conductor.specs.Saving.{PutsCuts}
@@ -55,7 +55,7 @@ last_holds last (one ∷ two ∷ cuts) cut now h = last_holds last (two ∷ cuts
 puts_join : (last : LastCut) (cuts more : List Cut) (before mid now : Option History) → PutsCuts last cuts before mid → PutsCuts (last_after last cuts) more mid now → PutsCuts last (cuts ++ more) before now
 puts_join last cuts more before mid now h k = (go_on images).joined last cuts more before mid now h k
 
-stands_still : (now : Option History) → DiskTells (Goes NoMore) now now
+stands_still : (now : Option History) → DiskTells (Goes LeavesNoMore) now now
 stands_still None = tt
 stands_still (Some h) = (0, refl)
 
@@ -105,18 +105,18 @@ module _ (old mid new : CkState) (before between_them now : Option History) (cut
 
 -- ---- which cuts
 -- one that was taken where rounds came to
-module _ (head : CutHead) (from to : Mark) (a b : Known) (book then : BookState) (before now : Option (List ℕ)) (cut : Cut) (same : Same a b)
-    (goes : GoesTo from to a b book then before now) (in_range : CountsInRange from a (Some to)) (taken : IsTaken head to b then cut) where
+module _ (head : CutHead) (from to : Mark) (a b : Known) (book then : BookState) (before now : Option (List ℕ)) (cut : Cut) (same : StaysSame a b)
+    (goes : GoesTo from to a b book then before now) (in_range : CountsAreInRange from a (Some to)) (taken : IsTaken head to b then cut) where
   time : Mark
   time = At cut.mark
 
   went : GoesTo from (At cut.mark) a b book then before now
   went = subst (λ (m : Mark). GoesTo from m a b book then before now) taken.mark_is goes
 
-  pub taken_later : AtMost from (At cut.mark)
+  pub taken_later : IsAtMost from (At cut.mark)
   taken_later = went.later
 
-  cut_of : (reads : Reads) (slack : Option ℤ) (texts : List (List ℕ)) (rules : Rules) (all : List Holder) → OfTexts reads slack texts from a → AreAtRest rules all from a
+  cut_of : (reads : Reads) (slack : Option ℤ) (texts : List (List ℕ)) (rules : Rules) (all : List Holder) → BenchIsOfTexts reads slack texts from a → AreAtRest rules all from a
       → IsCutOf rules all reads slack texts from book cut
   cut_of reads slack texts rules all of was =
       let played = went.played rules all was in
@@ -134,10 +134,10 @@ module _ (head : CutHead) (from to : Mark) (a b : Known) (book then : BookState)
   taken_is = record { head_is = taken.saved.head_is; is_cut = taken.saved.is_cut; later = taken_later; told = cut_of }
 
 -- one of a run that went on from where rounds came to
-module _ (head : CutHead) (from to : Mark) (a b : Known) (book then : BookState) (before now : Option (List ℕ)) (same : Same a b)
+module _ (head : CutHead) (from to : Mark) (a b : Known) (book then : BookState) (before now : Option (List ℕ)) (same : StaysSame a b)
     (goes : GoesTo from to a b book then before now) where
   module _ (cut : Cut) (is : IsRunCut head to b then cut) where
-    on_cut_of : (reads : Reads) (slack : Option ℤ) (texts : List (List ℕ)) (rules : Rules) (all : List Holder) → OfTexts reads slack texts from a → AreAtRest rules all from a
+    on_cut_of : (reads : Reads) (slack : Option ℤ) (texts : List (List ℕ)) (rules : Rules) (all : List Holder) → BenchIsOfTexts reads slack texts from a → AreAtRest rules all from a
         → IsCutOf rules all reads slack texts from book cut
     on_cut_of reads slack texts rules all of was =
         let time : Mark = At cut.mark in
@@ -179,13 +179,13 @@ module _ {D : Type 0} (history : D → Option History) (count : D → ℕ) where
   keep_puts_more cuts cut (Some o) (Some m) (Some l) h k = put_more o.state m.state l.state (history o.disk) (history m.disk) (history l.disk) cuts h cut k
 
   -- what is needed for the next cut
-  pub keep_stands_on : (plan : RunPlan) (a b : Known) (cuts : List Cut) (keep kept : Option (Keep D)) → Same a b → KeepStands history count plan a keep → KeepPuts history count cuts keep kept
+  pub keep_stands_on : (plan : RunPlan) (a b : Known) (cuts : List Cut) (keep kept : Option (Keep D)) → StaysSame a b → KeepStands history count plan a keep → KeepPuts history count cuts keep kept
       → KeepStands history count plan b kept
   keep_stands_on plan a b cuts None None same h k = h
   keep_stands_on plan a b cuts None (Some l) same h k = absurd k
   keep_stands_on plan a b cuts (Some o) None same h k = absurd k
   keep_stands_on plan a b cuts (Some o) (Some l) same h k = (record { names = h.0.names; shards = h.0.shards ∙ sym same.lanes }, k.stands)
 
-  pub stands_on : (plan : RunPlan) (a b : Known) (keep : Option (Keep D)) → Same a b → KeepStands history count plan a keep → KeepStands history count plan b keep
+  pub stands_on : (plan : RunPlan) (a b : Known) (keep : Option (Keep D)) → StaysSame a b → KeepStands history count plan a keep → KeepStands history count plan b keep
   stands_on plan a b None same h = h
   stands_on plan a b (Some k) same h = (record { names = h.0.names; shards = h.0.shards ∙ sym same.lanes }, h.1)

@@ -11,7 +11,7 @@ use Rattle.eql_values.specs.declared.order.Mark.TheVariants.{At, End}
 use Rattle.eql_values.specs.Accepted.{Reads}
 use Rattle.eql_values.specs.Marks.{low_of}
 use Rattle.eql_laws.specs.Belows.{between}
-use Rattle.eql_laws.specs.Lateness.{AtMost}
+use Rattle.eql_laws.specs.Lateness.{IsAtMost}
 use Rattle.eql_laws.proofs.MarkLemmas.{at_most_end, at_most_self, at_most_trans}
 use Rattle.eql_lane.specs.declared.ops.LimitOf.TheVariants as limit
 use Rattle.eql_lane.specs.Lanes.{LaneState, Setting, low}
@@ -31,12 +31,12 @@ use Rattle.eql_conductor.specs.declared.plan.Keep.{Keep}
 use Rattle.eql_conductor.specs.declared.plan.RunPlan.{RunPlan}
 use Rattle.eql_conductor.specs.declared.stop.Stop.{Stop}
 use Rattle.eql_conductor.specs.declared.stop.Stop.TheVariants as stop
-use Rattle.eql_conductor.specs.Benches.{Known, Same}
+use Rattle.eql_conductor.specs.Benches.{Known, StaysSame}
 use Rattle.eql_conductor.specs.Bounds.{AreSized, RoundsSpend}
 use Rattle.eql_conductor.specs.Going.{LanesGo}
-use Rattle.eql_conductor.specs.LaneRounds.{IsSafe, LanesAt}
+use Rattle.eql_conductor.specs.LaneRounds.{IsSafe, LanesAreAt}
 use Rattle.eql_conductor.specs.PartRounds.{AreAtRest, pending_after}
-use Rattle.eql_conductor.specs.Rounds.{CountsInRange, GoesTo, OfTexts, RoundRests, RoundStops, StopsOut, found_by}
+use Rattle.eql_conductor.specs.Rounds.{BenchIsOfTexts, CountsAreInRange, GoesTo, RoundRests, RoundStops, StopsOut, found_by}
 use Rattle.eql_conductor.specs.RoundNotes.{NotesRoundFront, NotesRound}
 use Rattle.eql_conductor.specs.RunNotes.{NotesCut, Place, PlaysRound, PlaysRoundsFront, PlaysRounds, RunNotes, NotesSaveFront, NotesSave, cut_after, listed, moved, place, round_count, start}
 use Rattle.eql_conductor.specs.RunBounds.{RunIsBounded}
@@ -61,25 +61,25 @@ use Rattle.eql_conductor.proofs.Resting.{was_lane}
 use Rattle.eql_conductor.proofs.Through.{WroteMore, all_stay, both_wrote, front_more, goes_more, lines_at, rise_on, taken_rise, taken_wrote}
 
 -- ---- lanes
-pub safe_at : (mark : Mark) (b c : Known) → LanesAt None mark b → LanesGo b c → IsSafe mark c
+pub safe_at : (mark : Mark) (b c : Known) → LanesAreAt None mark b → LanesGo b c → IsSafe mark c
 safe_at mark b c at go = record {
   each = λ s l. record {
     low_is = λ y here.
         let was = was_lane b c s go.same l in
         let m = go.each s was y here in
-        subst (λ (set : Setting). AtMost mark (low set y)) (sym (go.same.set s was))
+        subst (λ (set : Setting). IsAtMost mark (low set y)) (sym (go.same.set s was))
         (at_most_trans mark (low (b.set s) m.0) (low (b.set s) y) (at.each s was m.0 m.1).holds.safe m.2.low_up);
   };
 }
 
 -- only a closed lane has the end as its low
-closed_low : (closed : Bool) (slack best : Option ℤ) → AtMost End (low_of closed slack best) → closed ≡ true
+closed_low : (closed : Bool) (slack best : Option ℤ) → IsAtMost End (low_of closed slack best) → closed ≡ true
 closed_low true slack best h = refl
 closed_low false (Some slack) (Some best) h = cc
 closed_low false (Some slack) None h = cc
 closed_low false None best h = cc
 
-pub all_closed : (b : Known) → LanesAt None End b → (s : ℕ) → s < b.lanes → (x : LaneState) → b.lane s x → x.cut.closed ≡ true
+pub all_closed : (b : Known) → LanesAreAt None End b → (s : ℕ) → s < b.lanes → (x : LaneState) → b.lane s x → x.cut.closed ≡ true
 all_closed b at s l x here = closed_low x.cut.closed (b.set s).slack x.cut.best (at.each s l x here).holds.safe
 
 -- ---- lines
@@ -96,7 +96,7 @@ module _ (mark : Mark) (book : BookState) (part rest : List Match) (before mid n
 
 -- the matches from a mark to the end, of which those up to another were found
 module _ (reads : Reads) (slack : Option ℤ) (texts : List (List ℕ)) (rules : Rules) (all : List Holder) (from to last : Mark) (items : List Item)
-    (later : AtMost from to) (on : AtMost to last) (told : items ≡ between reads slack texts from to) where
+    (later : IsAtMost from to) (on : IsAtMost to last) (told : items ≡ between reads slack texts from to) where
   pub found_on : found_by rules all items ++ found_by rules (pending_after rules all items) (between reads slack texts to last) ≡ found_by rules all (between reads slack texts from last)
   found_on =
       sym (found_joins rules all items (between reads slack texts to last))
@@ -106,7 +106,7 @@ module _ (reads : Reads) (slack : Option ℤ) (texts : List (List ℕ)) (rules :
 -- ---- a round that stopped
 module _ (last : Mark) (b c : Known) (book then : BookState) (before now : Option (List ℕ))
     (at : IsAtMark last b book) (go : LanesGo b c) (fits : FitsPipes book.pipes book.kept) (h : RoundStops last b book then before now) where
-  stopped_round : (reads : Reads) (slack : Option ℤ) (texts : List (List ℕ)) (rules : Rules) (all : List Holder) → OfTexts reads slack texts last b → AreAtRest rules all last b
+  stopped_round : (reads : Reads) (slack : Option ℤ) (texts : List (List ℕ)) (rules : Rules) (all : List Holder) → BenchIsOfTexts reads slack texts last b → AreAtRest rules all last b
       → RunStopsAt rules all reads slack texts last last book then before now
   stopped_round reads slack texts rules all of was =
       let first : List Item = between reads slack texts last h.mark in
@@ -123,14 +123,14 @@ module _ (last : Mark) (b c : Known) (book then : BookState) (before now : Optio
     mark = last;
     later = at_most_self last;
     safe = safe_at last b c at.lanes go;
-    after_cuts = All-nil (λ (cut : Cut). AtMost (At cut.mark) last);
+    after_cuts = All-nil (λ (cut : Cut). IsAtMost (At cut.mark) last);
     told = stopped_round;
   }
 
 -- ---- a round that counted, and a cut that stopped
 module _ (last mark : Mark) (a b c : Known) (book then : BookState) (before now : Option (List ℕ)) (cuts : List Cut)
-    (at : LanesAt None last a) (go : LanesGo b c) (goes : GoesTo last mark a b book then before now) (after_cuts : All (λ (cut : Cut). AtMost (At cut.mark) mark) cuts) where
-  stopped_cut : (reads : Reads) (slack : Option ℤ) (texts : List (List ℕ)) (rules : Rules) (all : List Holder) → OfTexts reads slack texts last a → AreAtRest rules all last a
+    (at : LanesAreAt None last a) (go : LanesGo b c) (goes : GoesTo last mark a b book then before now) (after_cuts : All (λ (cut : Cut). IsAtMost (At cut.mark) mark) cuts) where
+  stopped_cut : (reads : Reads) (slack : Option ℤ) (texts : List (List ℕ)) (rules : Rules) (all : List Holder) → BenchIsOfTexts reads slack texts last a → AreAtRest rules all last a
       → RunStopsAt rules all reads slack texts last mark book then before now
   stopped_cut reads slack texts rules all of was =
       let played = goes.played rules all was in
@@ -154,9 +154,9 @@ module _ (last mark : Mark) (a b c : Known) (book then : BookState) (before now 
 
 -- ---- a run that was stopped, after rounds
 module _ (from later : Mark) (a b c : Known) (book mid then : BookState) (before between_them now : Option (List ℕ)) (cuts more : List Cut)
-    (same : Same a b) (goes : GoesTo from later a b book mid before between_them) (at_most : All (λ (cut : Cut). AtMost (At cut.mark) later) cuts)
+    (same : StaysSame a b) (goes : GoesTo from later a b book mid before between_them) (at_most : All (λ (cut : Cut). IsAtMost (At cut.mark) later) cuts)
     (h : RunStops later b c mid then between_them now more) where
-  stopped_on : (reads : Reads) (slack : Option ℤ) (texts : List (List ℕ)) (rules : Rules) (all : List Holder) → OfTexts reads slack texts from a → AreAtRest rules all from a
+  stopped_on : (reads : Reads) (slack : Option ℤ) (texts : List (List ℕ)) (rules : Rules) (all : List Holder) → BenchIsOfTexts reads slack texts from a → AreAtRest rules all from a
       → RunStopsAt rules all reads slack texts from h.mark book then before now
   stopped_on reads slack texts rules all of was =
       let played = goes.played rules all was in
@@ -179,14 +179,14 @@ module _ (from later : Mark) (a b c : Known) (book mid then : BookState) (before
     mark = h.mark;
     later = at_most_trans from later h.mark goes.later h.later;
     safe = h.safe;
-    after_cuts = All-append (λ (cut : Cut). AtMost (At cut.mark) h.mark) cuts more
-        (All-weaker (λ (cut : Cut). AtMost (At cut.mark) later) (λ (cut : Cut). AtMost (At cut.mark) h.mark) (λ cut le. at_most_trans (At cut.mark) later h.mark le h.later) cuts at_most)
+    after_cuts = All-append (λ (cut : Cut). IsAtMost (At cut.mark) h.mark) cuts more
+        (All-weaker (λ (cut : Cut). IsAtMost (At cut.mark) later) (λ (cut : Cut). IsAtMost (At cut.mark) h.mark) (λ cut le. at_most_trans (At cut.mark) later h.mark le h.later) cuts at_most)
         h.after_cuts;
     told = stopped_on;
   }
 
   -- the lines that its cuts count were written
-  stopped_more : (reads : Reads) (slack : Option ℤ) (texts : List (List ℕ)) (rules : Rules) (all : List Holder) → OfTexts reads slack texts from a → AreAtRest rules all from a → WroteMore between_them now
+  stopped_more : (reads : Reads) (slack : Option ℤ) (texts : List (List ℕ)) (rules : Rules) (all : List Holder) → BenchIsOfTexts reads slack texts from a → AreAtRest rules all from a → WroteMore between_them now
   stopped_more reads slack texts rules all of was =
       let pending : List Holder = pending_after rules all goes.items in
       let k = h.told reads slack texts rules pending (texts_go reads slack texts from later a b same goes.lanes of) (goes.played rules all was).parts in
@@ -201,7 +201,7 @@ module _ (from later : Mark) (a b c : Known) (book mid then : BookState) (before
 module _ (from : Mark) (a b : Known) (book mid then : BookState) (before between_them now : Option (List ℕ)) (cuts : List Cut)
     (at : IsAtMark from a book) (goes : GoesTo from End a b book mid before between_them) where
   module _ (still : then ≡ mid) (whole : mid.whole ≡ true) (wrote : WroteAll (listing mid.places (held_back mid)) between_them now) where
-    wrote_to_end : (reads : Reads) (slack : Option ℤ) (texts : List (List ℕ)) (rules : Rules) (all : List Holder) → OfTexts reads slack texts from a → AreAtRest rules all from a
+    wrote_to_end : (reads : Reads) (slack : Option ℤ) (texts : List (List ℕ)) (rules : Rules) (all : List Holder) → BenchIsOfTexts reads slack texts from a → AreAtRest rules all from a
         → WroteAll (whole_lines book (found_by rules all (between reads slack texts from End))) before now
     wrote_to_end reads slack texts rules all of was =
         let played = goes.played rules all was in
@@ -215,8 +215,8 @@ module _ (from : Mark) (a b : Known) (book mid then : BookState) (before between
 
   -- or stopped there, as it ended the book
   module _ (spoilt : then.whole ≡ false) (wrote : WroteFront (listing mid.places (held_back mid)) between_them now)
-      (at_most : All (λ (cut : Cut). AtMost (At cut.mark) End) cuts) (go : LanesGo b b) where
-    stopped_end : (reads : Reads) (slack : Option ℤ) (texts : List (List ℕ)) (rules : Rules) (all : List Holder) → OfTexts reads slack texts from a → AreAtRest rules all from a
+      (at_most : All (λ (cut : Cut). IsAtMost (At cut.mark) End) cuts) (go : LanesGo b b) where
+    stopped_end : (reads : Reads) (slack : Option ℤ) (texts : List (List ℕ)) (rules : Rules) (all : List Holder) → BenchIsOfTexts reads slack texts from a → AreAtRest rules all from a
         → RunStopsAt rules all reads slack texts from End book then before now
     stopped_end reads slack texts rules all of was =
         let played = goes.played rules all was in
@@ -329,7 +329,7 @@ module _ {D : Type 0} (history : D → Option History) (count : D → ℕ) where
 
   -- ---- a cut that was put, or wasn't
   pub saved_goes : {X : Type 0} (r : Result X Stop) (head : CutHead) (time : ℤ) (b c : Known) (book : BookState) (k l : Keep D)
-      → ((texts : Option (List (List ℕ))) → LanesAt texts (At time) b → OnOk r (LanesAt texts (At time) c))
+      → ((texts : Option (List (List ℕ))) → LanesAreAt texts (At time) b → OnOk r (LanesAreAt texts (At time) c))
       → ((rules : Rules) (all : List Holder) → AreAtRest rules all (At time) b → OnOk r (AreAtRest rules all (At time) c))
       → OnOk r (SavesCut head time b book k.state l.state (history k.disk) (history l.disk)) → OnOk r (NotesSave b c)
       → OnOk r (CutGoes history count head (At time) (Some time) b c book (Some k) (Some l))
@@ -397,7 +397,7 @@ module _ {D : Type 0} (history : D → Option History) (count : D → ℕ) where
     }
 
   module _ (plan : RunPlan) (at : Place) (mark : Mark) (a b c : Known) (book then : BookState) (before now : Option (List ℕ)) (keep kept : Option (Keep D))
-      (is_at : IsAtMark at.mark a book) (same : Same a b) (goes : GoesTo at.mark mark a b book then before now) (in_range : CountsInRange at.mark a (Some mark))
+      (is_at : IsAtMark at.mark a book) (same : StaysSame a b) (goes : GoesTo at.mark mark a b book then before now) (in_range : CountsAreInRange at.mark a (Some mark))
       (noted : NotesRound at.mark plan.batch a b (Some mark)) (n : ℕ) (next : n ≡ suc at.counts) where
     one_is : (cut : Cut) → IsTaken plan.head mark b then cut → IsRunCut plan.head at.mark a book cut
     one_is cut taken = taken_is plan.head at.mark mark a b book then before now cut same goes in_range taken
@@ -426,7 +426,7 @@ module _ {D : Type 0} (history : D → Option History) (count : D → ℕ) where
       ran = record {
         cuts = h.cuts;
         is = run_is by at.mark a c book then before now h.cuts (cut_run_stops at.mark mark a b c book then before now h.cuts is_at.lanes go goes
-            (All-weaker (IsTaken plan.head mark b then) (λ (cut : Cut). AtMost (At cut.mark) mark) (λ cut taken. subst (λ (m : Mark). AtMost m mark) taken.mark_is (at_most_self mark)) h.cuts h.are));
+            (All-weaker (IsTaken plan.head mark b then) (λ (cut : Cut). IsAtMost (At cut.mark) mark) (λ cut taken. subst (λ (m : Mark). IsAtMost m mark) taken.mark_is (at_most_self mark)) h.cuts h.are));
         keeps = keeps_stopped plan.head at.mark a book by h.cuts keep kept (All-weaker (IsTaken plan.head mark b then) (IsRunCut plan.head at.mark a book) one_is h.cuts h.are) h.keeps;
         wrote = taken_wrote at.mark mark a b book then before now goes plan.head h.cuts h.are;
         rise = taken_rise at.mark mark a b book then before now goes plan.head h.cuts h.are h.one;
@@ -442,7 +442,7 @@ module _ {D : Type 0} (history : D → Option History) (count : D → ℕ) where
     goes = goes_self plan.mark a book w fits;
     cuts = [];
     are_cuts = All-nil (IsRunCut plan.head plan.mark a book);
-    at_most = All-nil (λ (cut : Cut). AtMost (At cut.mark) plan.mark);
+    at_most = All-nil (λ (cut : Cut). IsAtMost (At cut.mark) plan.mark);
     puts = keep_puts_none history count plan a keep stands;
     wrote = All-nil (WroteLinesOf plan.mark a book w w);
     rise = tt;
@@ -466,7 +466,7 @@ module _ {D : Type 0} (history : D → Option History) (count : D → ℕ) where
   stopped_with (stop.Limit of) plan times a c k h = (k, h)
 
   module _ (plan : RunPlan) (at : Place) (n : ℕ) (a b c : Known) (book mid then : BookState) (before between_them now : Option (List ℕ)) (keep kept_mid kept : Option (Keep D))
-      (same : Same a b) (begins : at.mark ≢ End) (h : RanTo history count plan at n a b book mid before between_them keep kept_mid) where
+      (same : StaysSame a b) (begins : at.mark ≢ End) (h : RanTo history count plan at n a b book mid before between_them keep kept_mid) where
     abbrev times : List ℤ
     times = map cut_time h.cuts
 
@@ -501,7 +501,7 @@ module _ {D : Type 0} (history : D → Option History) (count : D → ℕ) where
       goes = goes_join plan.mark at.mark mark a b c book mid then before between_them now same h.goes goes;
       cuts = h.cuts;
       are_cuts = h.are_cuts;
-      at_most = All-weaker (λ (cut : Cut). AtMost (At cut.mark) at.mark) (λ (cut : Cut). AtMost (At cut.mark) mark) (λ cut le. at_most_trans (At cut.mark) at.mark mark le goes.later) h.cuts h.at_most;
+      at_most = All-weaker (λ (cut : Cut). IsAtMost (At cut.mark) at.mark) (λ (cut : Cut). IsAtMost (At cut.mark) mark) (λ cut le. at_most_trans (At cut.mark) at.mark mark le goes.later) h.cuts h.at_most;
       puts = subst (KeepPuts history count h.cuts keep) (sym keeps) h.puts;
       wrote = wrote_still mark goes;
       rise = h.rise;
@@ -515,13 +515,13 @@ module _ {D : Type 0} (history : D → Option History) (count : D → ℕ) where
           cuts = h.cuts ++ cut ∷ [];
           are_cuts = All-append (IsRunCut plan.head plan.mark a book) h.cuts (cut ∷ []) h.are_cuts
               (cuts_on plan.head plan.mark at.mark a b book mid before between_them same h.goes (cut ∷ []) (All-cons (IsRunCut plan.head at.mark b mid) cut [] is.1 (All-nil (IsRunCut plan.head at.mark b mid))));
-          at_most = All-append (λ (cut : Cut). AtMost (At cut.mark) mark) h.cuts (cut ∷ [])
-              (All-weaker (λ (cut : Cut). AtMost (At cut.mark) at.mark) (λ (cut : Cut). AtMost (At cut.mark) mark) (λ cut le. at_most_trans (At cut.mark) at.mark mark le goes.later) h.cuts h.at_most)
-              (All-cons (λ (cut : Cut). AtMost (At cut.mark) mark) cut [] (subst (λ (m : Mark). AtMost m mark) is.0 (at_most_self mark)) (All-nil (λ (cut : Cut). AtMost (At cut.mark) mark)));
+          at_most = All-append (λ (cut : Cut). IsAtMost (At cut.mark) mark) h.cuts (cut ∷ [])
+              (All-weaker (λ (cut : Cut). IsAtMost (At cut.mark) at.mark) (λ (cut : Cut). IsAtMost (At cut.mark) mark) (λ cut le. at_most_trans (At cut.mark) at.mark mark le goes.later) h.cuts h.at_most)
+              (All-cons (λ (cut : Cut). IsAtMost (At cut.mark) mark) cut [] (subst (λ (m : Mark). IsAtMost m mark) is.0 (at_most_self mark)) (All-nil (λ (cut : Cut). IsAtMost (At cut.mark) mark)));
           puts = keep_puts_more history count h.cuts cut keep kept_mid kept h.puts keeps;
           wrote = All-append (WroteLinesOf plan.mark a book before now) h.cuts (cut ∷ []) (wrote_still mark goes)
               (All-cons (WroteLinesOf plan.mark a book before now) cut [] (lines_at plan.mark mark a c book then before now went cut is.0) (All-nil (WroteLinesOf plan.mark a book before now)));
-          rise = rise_on plan.mark at.mark h.cuts (cut ∷ []) h.goes.later h.at_most h.rise (subst (AtMost at.mark) is.0 goes.later, tt);
+          rise = rise_on plan.mark at.mark h.cuts (cut ∷ []) h.goes.later h.at_most h.rise (subst (IsAtMost at.mark) is.0 goes.later, tt);
           noted = k.0;
           rounds = k.1;
         }
@@ -596,7 +596,7 @@ module _ {D : Type 0} (history : D → Option History) (count : D → ℕ) where
         let notes = stopped_with by plan times a b k bound in
         let is : RunIs plan.mark a b book then before now (h.cuts ++ []) (end_by by) =
         run_is by plan.mark a b book then before now (h.cuts ++ []) (end_run_stops plan.mark a b book mid then before between_them now (h.cuts ++ []) at h.goes spoilt wrote
-        (All-append (λ (cut : Cut). AtMost (At cut.mark) End) h.cuts [] h.at_most (All-nil (λ (cut : Cut). AtMost (At cut.mark) End))) (lanes_go_self b)) in
+        (All-append (λ (cut : Cut). IsAtMost (At cut.mark) End) h.cuts [] h.at_most (All-nil (λ (cut : Cut). IsAtMost (At cut.mark) End))) (lanes_go_self b)) in
         record {
           cuts = h.cuts ++ [];
           is = is;

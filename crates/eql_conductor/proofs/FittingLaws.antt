@@ -13,7 +13,7 @@ use Rattle.eql_values.specs.declared.value.Value.{Value}
 use Rattle.eql_values.specs.declared.item.Route.{Route}
 use Rattle.eql_values.specs.declared.item.Item.{Item}
 use Rattle.eql_values.specs.declared.found.Holder.{Holder}
-use Rattle.eql_values.specs.Ascending.{AllAfter, Ascend}
+use Rattle.eql_values.specs.Ascending.{AllAreAfter, Ascend}
 use Rattle.eql_values.specs.Chains.{chain, holder}
 use Rattle.eql_values.specs.Matching.{Openings, Slot, slot_cmp, act_by, acts_of, onto, opening_of, entries_of, held_after, match_by, matches, matches_after, after}
 use Rattle.eql_values.specs.OrderKeys.{order_cmp}
@@ -23,7 +23,7 @@ use Rattle.eql_values.specs.Routing.{with_routes, routed}
 use Rattle.eql_values.specs.Totals.{order_cmp_total}
 use Rattle.eql_values.proofs.InOrder.{find-in_order, in_order-sorted, is_in_order}
 use Rattle.eql_values.proofs.Same.{order_same}
-use Rattle.eql_laws.specs.Apart.{ApartFrom, AllApart, has_place, joined}
+use Rattle.eql_laws.specs.Apart.{IsApartFrom, AllAreApart, has_place, joined}
 use Rattle.eql_laws.proofs.Facts.{both_hold, left_holds, right_holds, less_is, less_not_equal, is_equal}
 use Rattle.eql_laws.proofs.Lists.{map_filter}
 use Rattle.eql_laws.proofs.Sorting.{Entry, pair, back, find_more}
@@ -88,11 +88,11 @@ module _ {X : Type 0} (test : X → Bool) where
         one false false tie is rest = rest
 
 -- ---- lists of events
-all_after_fitting : (k : OrderKey) (items : List Item) → AllAfter k items → AllAfter k (fitting items)
+all_after_fitting : (k : OrderKey) (items : List Item) → AllAreAfter k items → AllAreAfter k (fitting items)
 all_after_fitting k [] h = tt
 all_after_fitting k (item ∷ items) h = one (has_routes item) (all_after_fitting k items h.1)
   where
-    one : (b : Bool) → AllAfter k (fitting items) → AllAfter k (cond b (item ∷ fitting items) (fitting items))
+    one : (b : Bool) → AllAreAfter k (fitting items) → AllAreAfter k (cond b (item ∷ fitting items) (fitting items))
     one true rest = (h.0, rest)
     one false rest = rest
 
@@ -125,16 +125,16 @@ none_of k items none = one (has_place k (fitting items)) refl
     one true there = sym (there_before k items there) ∙ none
     one false there = refl
 
-apart_from : (items : List Item) (lists : List (List Item)) → ApartFrom items lists → ApartFrom (fitting items) (map fitting lists)
+apart_from : (items : List Item) (lists : List (List Item)) → IsApartFrom items lists → IsApartFrom (fitting items) (map fitting lists)
 apart_from items [] h = tt
 apart_from items (others ∷ lists) h = (λ k there. none_of k others (h.0 k (there_before k items there)), apart_from items lists h.1)
 
-pub fitting_apart : (lists : List (List Item)) → AllApart lists → AllApart (map fitting lists)
+pub fitting_apart : (lists : List (List Item)) → AllAreApart lists → AllAreApart (map fitting lists)
 fitting_apart [] h = tt
 fitting_apart (items ∷ lists) h = (apart_from items lists h.0, fitting_apart lists h.1)
 
 -- ---- putting in order
-all_below : (k : OrderKey) (items : List Item) → AllAfter k items → T (below_all order_cmp k (map pair items))
+all_below : (k : OrderKey) (items : List Item) → AllAreAfter k items → T (below_all order_cmp k (map pair items))
 all_below k [] h = tt
 all_below k (item ∷ items) h = both_hold _ _ (less_is _ h.0) (all_below k items h.1)
 
@@ -159,7 +159,7 @@ not_found : (k : OrderKey) (items : List Item) → has_place k items ≡ false �
 not_found k items none = is_none (find_entry order_cmp k (map pair items)) (sym (has_found k items) ∙ none)
 
 -- what is in one list is in none of those that it is apart from
-nowhere_else : (k : OrderKey) (items : List Item) (lists : List (List Item)) → ApartFrom items lists → has_place k items ≡ true
+nowhere_else : (k : OrderKey) (items : List Item) (lists : List (List Item)) → IsApartFrom items lists → has_place k items ≡ true
     → find_entry order_cmp k (map pair (joined lists)) ≡ None
 nowhere_else k items [] h there = refl
 nowhere_else k items (others ∷ lists) h there =
@@ -172,7 +172,7 @@ find_fitting k items up =
     ap (find_entry order_cmp k) (map_filter pair has_routes (λ e. any_route e.1) (λ item. refl) items)
     ∙ find_where any_route order_cmp order_cmp_total k (map pair items) (entries_sorted items up)
 
-find_joined : (k : OrderKey) (lists : List (List Item)) → All Ascend lists → AllApart lists
+find_joined : (k : OrderKey) (lists : List (List Item)) → All Ascend lists → AllAreApart lists
     → find_entry order_cmp k (map pair (joined (map fitting lists))) ≡ passed any_route (find_entry order_cmp k (map pair (joined lists)))
 find_joined k [] up apart = refl
 find_joined k (items ∷ lists) up apart =
@@ -182,7 +182,7 @@ find_joined k (items ∷ lists) up apart =
     (λ there. nowhere_else k items lists apart.0 (has_found k items ∙ there))
     ∙ sym (ap (passed any_route) (find_more k items (joined lists)))
 
-pub fitting_sorted : (lists : List (List Item)) → All Ascend lists → AllApart lists → fitting (sorted_items (joined lists)) ≡ sorted_items (joined (map fitting lists))
+pub fitting_sorted : (lists : List (List Item)) → All Ascend lists → AllAreApart lists → fitting (sorted_items (joined lists)) ≡ sorted_items (joined (map fitting lists))
 fitting_sorted lists up apart =
     let all : List Entry = map pair (joined lists) in
     sym (map_filter back (λ e. any_route e.1) has_routes (λ e. refl) (in_order order_cmp all))

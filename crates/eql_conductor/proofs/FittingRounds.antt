@@ -11,7 +11,7 @@ use Rattle.eql_values.specs.Ascending.{Ascend}
 use Rattle.eql_values.specs.Marks.{is_below}
 use Rattle.eql_laws.specs.Apart.{joined}
 use Rattle.eql_laws.specs.Belows.{HasRoutesInOrder}
-use Rattle.eql_laws.specs.Lateness.{AtMost}
+use Rattle.eql_laws.specs.Lateness.{IsAtMost}
 use Rattle.eql_laws.proofs.BelowLemmas.{sorted_ascends}
 use Rattle.eql_laws.proofs.Elements.{All-flat_map}
 use Rattle.eql_parts.specs.PartSteps.{CanDeliver, Rules}
@@ -19,7 +19,7 @@ use Rattle.eql_parts.specs.Spreading.{part_number}
 use Rattle.eql_conductor.specs.Benches.{Known}
 use Rattle.eql_conductor.specs.Fitting.{TakesFitting, fitting, has_routes}
 use Rattle.eql_conductor.specs.Handed.{LanesHand, sizes}
-use Rattle.eql_conductor.specs.LaneRounds.{AllHandOver, LanesAt}
+use Rattle.eql_conductor.specs.LaneRounds.{AllHandOver, LanesAreAt}
 use Rattle.eql_conductor.specs.PartRounds.{AreAtRest, pending_after}
 use Rattle.eql_conductor.specs.RoundNotes.{GrewBy, NotesParts, delivered_to}
 use Rattle.eql_conductor.specs.Rounds.{found_by}
@@ -35,8 +35,8 @@ routes_ascend (item ∷ items) h = All-cons HasRoutesInOrder item items h.0 (rou
 joined_ascend : (lists : List (List Item)) → All Ascend lists → Ascend (sorted_items (joined lists))
 joined_ascend lists h = sorted_ascends (joined lists) (All-flat_map Ascend HasRoutesInOrder (λ (items : List Item). items) routes_ascend lists h)
 
-pub takes_fitting : (last mark : Mark) (a b : Known) (lists : List (List Item)) (items : List Item) → AtMost last mark → LanesAt None last a
-    → ((texts : Option (List (List ℕ))) → LanesAt texts last a → AllHandOver texts last mark a lists) → LanesHand (sizes lists) a b
+pub takes_fitting : (last mark : Mark) (a b : Known) (lists : List (List Item)) (items : List Item) → IsAtMost last mark → LanesAreAt None last a
+    → ((texts : Option (List (List ℕ))) → LanesAreAt texts last a → AllHandOver texts last mark a lists) → LanesHand (sizes lists) a b
     → items ≡ fitting (sorted_items (joined lists)) → TakesFitting last mark a b items
 takes_fitting last mark a b lists items later at hands handed e =
     let all : List Item = sorted_items (joined lists) in

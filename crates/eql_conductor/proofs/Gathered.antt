@@ -10,7 +10,7 @@ use Rattle.eql_values.specs.declared.item.Item.{Item}
 use Rattle.eql_values.specs.Chains.{in_time}
 use Rattle.eql_values.specs.Matching.{Slot, slot_cmp}
 use Rattle.eql_values.specs.Ordered.{numbers}
-use Rattle.eql_laws.specs.Alive.{HoldersInOrder, alive_holders}
+use Rattle.eql_laws.specs.Alive.{HoldersAreInOrder, alive_holders}
 use Rattle.eql_laws.specs.Apart.{joined}
 use Rattle.eql_laws.specs.Merging.{in_slot_order}
 use Rattle.eql_laws.specs.Parts.{PartsHold, holders_in}
@@ -21,7 +21,7 @@ use Rattle.eql_laws.proofs.Held.{slot_same}
 use Rattle.eql_laws.proofs.PartsWhole.{parts_gather}
 use Rattle.eql_laws.proofs.Shaping.{after_is_full}
 use Rattle.eql_laws.proofs.Splitting.{after_split}
-use Rattle.eql_merge.specs.Ranks.{HoldersApart, slot_of}
+use Rattle.eql_merge.specs.Ranks.{HoldersAreApart, slot_of}
 use Rattle.eql_parts.specs.PartSteps.{Rules}
 use Rattle.eql_parts.specs.Spreading.{part_number}
 use Rattle.eql_rounds.proofs.Found.{sixteen}
@@ -40,9 +40,9 @@ module _ (rules : Rules) (all : List Holder) (time : ℤ) where
   hold : PartsHold rules.stages rules.span time part_number 16 all []
   hold = parts_gather rules.stages rules.span time part_number 16 all [] sixteen
 
-  in_order_each : (ns : List ℕ) → All HoldersInOrder (map (held_of rules all time) ns)
-  in_order_each [] = All-nil HoldersInOrder
-  in_order_each (p ∷ ns) = All-cons HoldersInOrder (held_of rules all time p) (map (held_of rules all time) ns) (hold.part_in_order p) (in_order_each ns)
+  in_order_each : (ns : List ℕ) → All HoldersAreInOrder (map (held_of rules all time) ns)
+  in_order_each [] = All-nil HoldersAreInOrder
+  in_order_each (p ∷ ns) = All-cons HoldersAreInOrder (held_of rules all time p) (map (held_of rules all time) ns) (hold.part_in_order p) (in_order_each ns)
 
   abbrev part_of_slot : Slot → ℕ
   part_of_slot slot = part_number slot.0
@@ -58,11 +58,11 @@ module _ (rules : Rules) (all : List Holder) (time : ℤ) where
       All-filter (λ (h : Holder). in_time rules.span h.chain time) (OfPart p) (holders_in part_number p (pending_after rules all []))
       (All-passed (λ (h : Holder). Unit {0}) (OfPart p) (λ (h : Holder). part_number h.key == p) (λ h u e. same_number (part_number h.key) p e) (pending_after rules all []) (λ k d lt. tt))
 
-  pub held_in_order : (lists : List (List Holder)) → lists ≡ map (held_of rules all time) (numbers 16) → All HoldersInOrder lists
-  held_in_order lists e = subst (All HoldersInOrder) (sym e) (in_order_each (numbers 16))
+  pub held_in_order : (lists : List (List Holder)) → lists ≡ map (held_of rules all time) (numbers 16) → All HoldersAreInOrder lists
+  held_in_order lists e = subst (All HoldersAreInOrder) (sym e) (in_order_each (numbers 16))
 
-  pub held_apart : (lists : List (List Holder)) → lists ≡ map (held_of rules all time) (numbers 16) → HoldersApart lists
-  held_apart lists e = subst HoldersApart (sym e) (each_apart slot_cmp slot_same slot_of part_of_slot (held_of rules all time) of_part 16)
+  pub held_apart : (lists : List (List Holder)) → lists ≡ map (held_of rules all time) (numbers 16) → HoldersAreApart lists
+  held_apart lists e = subst HoldersAreApart (sym e) (each_apart slot_cmp slot_same slot_of part_of_slot (held_of rules all time) of_part 16)
 
   pub held_together : (lists : List (List Holder)) (held : List Holder) → lists ≡ map (held_of rules all time) (numbers 16) → held ≡ in_slot_order (joined lists)
       → held ≡ alive_holders rules.span time (pending_after rules all [])

@@ -19,10 +19,10 @@ use Rattle.eql_parts.specs.PartSteps.{PartState, Rules, alive_by}
 use Rattle.eql_rounds.specs.Finding.{own_of}
 use Rattle.eql_rounds.specs.PartRounds.{PartIs}
 use Rattle.eql_rounds.proofs.Found.{rounds_find}
-use Rattle.eql_conductor.specs.Benches.{Known, Same}
-use Rattle.eql_conductor.specs.LaneRounds.{LanesAt}
+use Rattle.eql_conductor.specs.Benches.{Known, StaysSame}
+use Rattle.eql_conductor.specs.LaneRounds.{LanesAreAt}
 use Rattle.eql_conductor.specs.PartRounds.{IsAtRest, AreAtRest, AreSomehowFull, AreSomehowAtRest, pending_after}
-use Rattle.eql_conductor.specs.Rounds.{Gave, GoesTo, OfTexts, PlaysTo, RoundRests, found_by}
+use Rattle.eql_conductor.specs.Rounds.{BenchIsOfTexts, Gave, GoesTo, PlaysTo, RoundRests, found_by}
 use Rattle.eql_conductor.specs.Running.{IsAtMark}
 use Rattle.eql_conductor.specs.Runs.{lines_before_end}
 use Rattle.eql_conductor.specs.Saving.{BookKeepsNumbers}
@@ -41,13 +41,13 @@ gave_joins book mid then a b before between_them now h k = record {
 }
 
 -- ---- texts
-pub texts_go : (reads : Reads) (slack : Option ℤ) (texts : List (List ℕ)) (from to : Mark) (a b : Known) → Same a b
-    → ((texts : Option (List (List ℕ))) → LanesAt texts from a → LanesAt texts to b) → OfTexts reads slack texts from a → OfTexts reads slack texts to b
+pub texts_go : (reads : Reads) (slack : Option ℤ) (texts : List (List ℕ)) (from to : Mark) (a b : Known) → StaysSame a b
+    → ((texts : Option (List (List ℕ))) → LanesAreAt texts from a → LanesAreAt texts to b) → BenchIsOfTexts reads slack texts from a → BenchIsOfTexts reads slack texts to b
 texts_go reads slack texts from to a b same lanes of = record { read = read_stays reads slack texts a b same of.read; lanes = lanes (Some texts) of.lanes }
 
 -- ---- from one mark to a second, and from there to a third
 module _ (m0 m1 m2 : Mark) (a b c : Known) (book mid then : BookState) (before between_them now : Option (List ℕ))
-    (same : Same a b) (h : GoesTo m0 m1 a b book mid before between_them) (k : GoesTo m1 m2 b c mid then between_them now) where
+    (same : StaysSame a b) (h : GoesTo m0 m1 a b book mid before between_them) (k : GoesTo m1 m2 b c mid then between_them now) where
   played_on : (rules : Rules) (all : List Holder) → AreAtRest rules all m0 a → PlaysTo rules all (h.items ++ k.items) m2 c book then before now
   played_on rules all was =
       let first = h.played rules all was in
@@ -87,7 +87,7 @@ goes_rests m0 m1 a b c book mid then before between_them now h rests = record {
 
 -- and what keeps lanes and parts at the mark
 pub goes_stays : (m0 m1 : Mark) (a b c : Known) (book then : BookState) (before now : Option (List ℕ))
-    → ((texts : Option (List (List ℕ))) → LanesAt texts m1 b → LanesAt texts m1 c)
+    → ((texts : Option (List (List ℕ))) → LanesAreAt texts m1 b → LanesAreAt texts m1 c)
     → ((rules : Rules) (all : List Holder) → AreAtRest rules all m1 b → AreAtRest rules all m1 c)
     → GoesTo m0 m1 a b book then before now → GoesTo m0 m1 a c book then before now
 goes_stays m0 m1 a b c book then before now lanes parts h =

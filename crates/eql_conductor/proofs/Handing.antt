@@ -17,9 +17,9 @@ use Rattle.eql_lane.specs.declared.ops.LaneOp.TheVariants as op
 use Rattle.eql_lane.specs.declared.ops.LaneReply.{LaneReply}
 use Rattle.eql_lane.specs.declared.ops.LaneReply.TheVariants as reply
 use Rattle.eql_lane.specs.declared.ops.LimitOf.TheVariants as limit
-use Rattle.eql_lane.specs.Lanes.{Setting, LaneState, FeedStep, SnapStep, TakeStep, ReadsOn, Takes, lesser, low}
+use Rattle.eql_lane.specs.Lanes.{Setting, LaneState, IsFeedStep, IsSnapStep, IsTakeStep, ReadsOn, Takes, lesser, low}
 use Rattle.eql_conductor.specs.declared.bench.NotPlayed.{NotPlayed}
-use Rattle.eql_conductor.specs.Benches.{Known, Same, FeedsTimes, ComesByFeeds, LanesRest, LanePlays, WasNotPlayed}
+use Rattle.eql_conductor.specs.Benches.{Known, StaysSame, FeedsTimes, ComesByFeeds, LanesRest, LanePlays, WasNotPlayed}
 use Rattle.eql_conductor.specs.Handed.{HandsBy, total_to, LanesHand, LaneHands, AllHandOut, sizes}
 use Rattle.eql_conductor.proofs.Resting.{same_or, is_lane}
 
@@ -61,7 +61,7 @@ reads_hand set x n y r =
     let bytes = lines_by_bytes r.more in
     record { most = omega (arith, items, offset, sorted, both, few, lines, bytes) }
 
-feed_hands : (set : Setting) (x : LaneState) (max : ℕ) (answer : LaneReply) (y : LaneState) → FeedStep set x max answer y → HandsBy 0 x y
+feed_hands : (set : Setting) (x : LaneState) (max : ℕ) (answer : LaneReply) (y : LaneState) → IsFeedStep set x max answer y → HandsBy 0 x y
 feed_hands set x max (reply.Fed n) y step = reads_hand set x n y step.feeds.reads
 feed_hands set x max (reply.Held k) y step = hands_same x y step.2
 feed_hands set x max reply.Closed y step = reads_hand set x 0 y step.reads
@@ -108,7 +108,7 @@ total_none zero = refl
 total_none (suc k) = let e = total_none k in omega (arith, e)
 
 -- ---- all lanes
-pub lanes_hand_on : (f g : ℕ → ℕ) (a b c : Known) → Same a b → LanesHand f a b → LanesHand g b c → LanesHand (λ s. f s + g s) a c
+pub lanes_hand_on : (f g : ℕ → ℕ) (a b c : Known) → StaysSame a b → LanesHand f a b → LanesHand g b c → LanesHand (λ s. f s + g s) a c
 lanes_hand_on f g a b c same h k = record {
   each = λ s l y here.
       let m = k.each s (is_lane a b s same l) y here in
@@ -125,7 +125,7 @@ handed_self a = handed_none a a (record { each = λ s l y here. (y, here, hands_
 pub rest_hands : (a b : Known) → LanesRest a b → LanesHand (λ s. 0) a b
 rest_hands a b h = record { each = λ s l y here. let c = h.each s l y here in (c.0, c.1, fed_hands (a.set s) c.0 y c.2) }
 
-pub handed_on : (n m : ℕ) (a b c : Known) → Same a b → AllHandOut n a b → AllHandOut m b c → AllHandOut (n + m) a c
+pub handed_on : (n m : ℕ) (a b c : Known) → StaysSame a b → AllHandOut n a b → AllHandOut m b c → AllHandOut (n + m) a c
 handed_on n m a b c same h k = record {
   counts = λ s. h.counts s + k.counts s;
   total = let e = total_on a.lanes h.counts k.counts in let f = h.total in let g = subst (λ (lanes : ℕ). m ≤ total_to lanes k.counts) same.lanes k.total in omega (arith, e, f, g);
@@ -139,7 +139,7 @@ handed_to n m a b le h = record { counts = h.counts; total = let t = h.total in 
 hands_less : (n : ℕ) (x y : LaneState) → HandsBy n x y → HandsBy 0 x y
 hands_less n x y h = record { most = let a = h.most in omega (arith, a) }
 
-take_hands_at : (s n : ℕ) (mark : Mark) (answer : LaneReply) (a b : Known) → ((x y : LaneState) → TakeStep (a.set s) x mark answer y → HandsBy n x y)
+take_hands_at : (s n : ℕ) (mark : Mark) (answer : LaneReply) (a b : Known) → ((x y : LaneState) → IsTakeStep (a.set s) x mark answer y → HandsBy n x y)
     → LanePlays s (op.Take mark) answer a b → LaneHands s n a b
 take_hands_at s n mark answer a b hands plays = record {
   called = λ y here.
@@ -173,7 +173,7 @@ pub unplayed_hands : (by : NotPlayed) (a b : Known) → WasNotPlayed by a b → 
 unplayed_hands by a b h = rest_hands a b h.rests.lanes
 
 -- a snap hands out none
-snap_hands_at : (set : Setting) (x : LaneState) (answer : LaneReply) (y : LaneState) → SnapStep x answer y → HandsBy 0 x y
+snap_hands_at : (set : Setting) (x : LaneState) (answer : LaneReply) (y : LaneState) → IsSnapStep x answer y → HandsBy 0 x y
 snap_hands_at set x (reply.Cut cut) y step = hands_same x y step.1
 snap_hands_at set x (reply.Memory n) y step = hands_same x y step.1
 snap_hands_at set x (reply.Low mark) y step = absurd step
@@ -202,7 +202,7 @@ sizes_else [] items (suc k) apart = refl
 sizes_else (first ∷ lists) items zero apart = refl
 sizes_else (first ∷ lists) items (suc k) apart = sizes_else lists items k (λ e. apart (ap suc e))
 
-module _ (n : ℕ) (lists more : List (List Item)) (items : List Item) (a b c : Known) (count : length lists ≡ n) (push : more ≡ lists ++ items ∷ []) (same : Same a b) where
+module _ (n : ℕ) (lists more : List (List Item)) (items : List Item) (a b c : Known) (count : length lists ≡ n) (push : more ≡ lists ++ items ∷ []) (same : StaysSame a b) where
   at_this : sizes more n ≡ length items
   at_this = ap (λ (l : List (List Item)). sizes l n) push ∙ ap (λ (l : List Item). length l) (get_or_push lists items [] n count)
 
@@ -223,7 +223,7 @@ module _ (n : ℕ) (lists more : List (List Item)) (items : List Item) (a b c : 
     ];
   }
 
-pub sizes_lacked : (lists : List (List Item)) (a b c : Known) → Same a b → LanesHand (sizes lists) a b → LanesHand (λ s. 0) b c → AllHandOut 0 a c
+pub sizes_lacked : (lists : List (List Item)) (a b c : Known) → StaysSame a b → LanesHand (sizes lists) a b → LanesHand (λ s. 0) b c → AllHandOut 0 a c
 sizes_lacked lists a b c same h k = handed_none a c (record {
   each = λ s l y here.
       let m = k.each s (is_lane a b s same l) y here in

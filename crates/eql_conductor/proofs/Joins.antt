@@ -9,7 +9,7 @@ use Rattle.eql_values.specs.declared.order.Mark.{Mark}
 use Rattle.eql_values.specs.declared.order.Mark.TheVariants.{Start, At, End}
 use Rattle.eql_values.specs.Accepted.{Reads, below}
 use Rattle.eql_laws.specs.Belows.{between}
-use Rattle.eql_laws.specs.Lateness.{AtMost}
+use Rattle.eql_laws.specs.Lateness.{IsAtMost}
 use Rattle.eql_laws.proofs.BelowLemmas.{below_grows}
 use Rattle.eql_laws.proofs.MarkLemmas.{at_most_self, at_most_trans}
 use Rattle.eql_laws.proofs.Splitting.{after_split, matches_split}
@@ -23,7 +23,7 @@ use Rattle.eql_conductor.specs.Runs.{lines_before_end, lines_by, whole_lines}
 
 -- ---- marks
 module _ (reads : Reads) (slack : Option ℤ) (texts : List (List ℕ)) where
-  pub between_joins : (a b c : Mark) → AtMost a b → AtMost b c → between reads slack texts a c ≡ between reads slack texts a b ++ between reads slack texts b c
+  pub between_joins : (a b c : Mark) → IsAtMost a b → IsAtMost b c → between reads slack texts a c ≡ between reads slack texts a b ++ between reads slack texts b c
   between_joins a b c ab bc =
       let from : List Item = below reads slack texts a in
       let first : List Item = between reads slack texts a b in

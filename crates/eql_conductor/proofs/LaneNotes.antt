@@ -16,7 +16,7 @@ use Rattle.eql_conductor.specs.declared.note.Note.{Note}
 use Rattle.eql_conductor.specs.declared.note.Note.TheVariants as note
 use Rattle.eql_conductor.specs.declared.bench.NotPlayed.{NotPlayed}
 use Rattle.eql_conductor.specs.Notes.{lane_note}
-use Rattle.eql_conductor.specs.Benches.{Known, Same, LaneNotesStay, PartNotesStay, LanePlays, WasNotPlayed}
+use Rattle.eql_conductor.specs.Benches.{Known, StaysSame, LaneNotesStay, PartNotesStay, LanePlays, WasNotPlayed}
 use Rattle.eql_conductor.specs.RoundNotes.{low_at, GrewFront, NotesLanes, NotesLanesFront, NotesLane, NotesLaneFront, NotesLanesTo, NotesLooks, NotesLooksFront, NotesLooksTo}
 use Rattle.eql_conductor.proofs.MarkOrder.{at_most_other}
 use Rattle.eql_conductor.proofs.Resting.{same_or, is_lane, is_part}
@@ -31,10 +31,10 @@ below_or (suc a) (suc b) = elim (below_or a b) [
   | inr h ↦ inr (omega (arith, h))
 ]
 
-pub parts_stay_on : (a b c : Known) → Same a b → PartNotesStay a b → PartNotesStay b c → PartNotesStay a c
+pub parts_stay_on : (a b c : Known) → StaysSame a b → PartNotesStay a b → PartNotesStay b c → PartNotesStay a c
 parts_stay_on a b c same h k = record { each = λ p l. k.each p (is_part a b p same l) ∙ h.each p l }
 
-pub lanes_stay_on : (a b c : Known) → Same a b → LaneNotesStay a b → LaneNotesStay b c → LaneNotesStay a c
+pub lanes_stay_on : (a b c : Known) → StaysSame a b → LaneNotesStay a b → LaneNotesStay b c → LaneNotesStay a c
 lanes_stay_on a b c same h k = record { each = λ s l. k.each s (is_lane a b s same l) ∙ h.each s l }
 
 -- nothing more, and a front that is all
@@ -104,7 +104,7 @@ noted_with n more next a b e h = record {
   parts = h.parts;
 }
 
-module _ (n : ℕ) (more : ℕ → List Note) (a b c : Known) (same : Same a b) (h : NotesLanesTo n more a b) where
+module _ (n : ℕ) (more : ℕ → List Note) (a b c : Known) (same : StaysSame a b) (h : NotesLanesTo n more a b) where
   grew_at : (next : List Note) → NotesLane n next b c → (s : ℕ) → s < a.lanes → s ≡ n → c.lane_notes s ≡ a.lane_notes s ++ next
   grew_at next one s l e =
       subst (λ (j : ℕ). c.lane_notes j ≡ a.lane_notes j ++ next) (sym e)
@@ -192,7 +192,7 @@ looked_same lows more k below = ap (λ (m : Mark). note.Looked m ∷ []) (get_or
 pub looked_none : (a : Known) → NotesLooksTo 0 End a a
 looked_none a = record { lows = []; count = refl; least = refl; noted = noted_none (looked []) a }
 
-module _ (n : ℕ) (mark : Mark) (a b c : Known) (same : Same a b) (h : NotesLooksTo n mark a b) where
+module _ (n : ℕ) (mark : Mark) (a b c : Known) (same : StaysSame a b) (h : NotesLooksTo n mark a b) where
   was_looked : (more : List Mark) → NotesLanesTo n (looked (h.lows ++ more)) a b
   was_looked more =
       noted_with n (looked h.lows) (looked (h.lows ++ more)) a b (λ k below. looked_same h.lows more k (let e = h.count in omega (arith, e, below))) h.noted

@@ -20,7 +20,7 @@ use Rattle.eql_laws.specs.Belows.{between}
 use Rattle.eql_laws.specs.Books.{book_of}
 use Rattle.eql_laws.specs.Counting.{IsShardText}
 use Rattle.eql_laws.specs.Fitting.{Fits, Kept, Run, cut_of}
-use Rattle.eql_laws.specs.Lateness.{AtMost}
+use Rattle.eql_laws.specs.Lateness.{IsAtMost}
 use Rattle.eql_laws.specs.Places.{ReadTo, whole}
 use Rattle.eql_laws.specs.Resuming.{rest_from}
 use Rattle.eql_laws.proofs.BelowLemmas.{below_grows}
@@ -115,7 +115,7 @@ module _ (rules : Rules) (reads : Reads) (slack : Option ℤ) (texts : List (Lis
       dead_matches stages span t (pending (At t)) (later_events (At t) to) is (after_in_order stages span [] (events (At t))) (times_between reads slack texts t to)
   alive_matches is End to = refl
 
-  alive_after : IsSpan span → (from : Mark) (t : ℤ) → AtMost from (At t)
+  alive_after : IsSpan span → (from : Mark) (t : ℤ) → IsAtMost from (At t)
       → alive_holders span t (after stages span (alive_by span (mark_time from) (pending from)) (later_events from (At t))) ≡ alive_holders span t (after stages span (pending from) (later_events from (At t)))
   alive_after is Start t le = refl
   alive_after is (At u) t le =
@@ -124,7 +124,7 @@ module _ (rules : Rules) (reads : Reads) (slack : Option ℤ) (texts : List (Lis
   alive_after is End t le = refl
 
   -- the matches below the greater of two marks
-  found_grows : (from to : Mark) → AtMost from to → found_below rules reads slack texts to ≡ found_below rules reads slack texts from ++ matches stages span (pending from) (later_events from to)
+  found_grows : (from to : Mark) → IsAtMost from to → found_below rules reads slack texts to ≡ found_below rules reads slack texts from ++ matches stages span (pending from) (later_events from to)
   found_grows from to le = ap (matches stages span []) (below_grows reads slack texts from to le) ∙ matches_split stages span [] (events from) (later_events from to)
 
   few_below : HaveNumbers rules reads slack texts → (mark : Mark) → length (found_below rules reads slack texts mark) < 2 ^ 64
@@ -137,10 +137,10 @@ module _ (rules : Rules) (reads : Reads) (slack : Option ℤ) (texts : List (Lis
     found_from : (to : Mark) → found_by rules all (later_events from to) ≡ matches stages span (pending from) (later_events from to)
     found_from to = ap (λ (h : List Holder). matches stages span h (later_events from to)) played.pending ∙ alive_matches is_span from to
 
-    found_on : (to : Mark) → AtMost from to → found_below rules reads slack texts to ≡ found_below rules reads slack texts from ++ found_by rules all (later_events from to)
+    found_on : (to : Mark) → IsAtMost from to → found_below rules reads slack texts to ≡ found_below rules reads slack texts from ++ found_by rules all (later_events from to)
     found_on to le = found_grows from to le ∙ ap (λ (more : List Match). found_below rules reads slack texts from ++ more) (sym (found_from to))
 
-    few_on : HaveNumbers rules reads slack texts → (to : Mark) → AtMost from to → length (found_below rules reads slack texts from ++ found_by rules all (later_events from to)) < 2 ^ 64
+    few_on : HaveNumbers rules reads slack texts → (to : Mark) → IsAtMost from to → length (found_below rules reads slack texts from ++ found_by rules all (later_events from to)) < 2 ^ 64
     few_on few to le = subst (λ (found : List Match). length found < 2 ^ 64) (found_on to le) (few_below few to)
 
     pub lines_are : HaveNumbers rules reads slack texts → whole_lines book (found_by rules all (later_events from End)) ≡ lines_after rules reads slack texts book
@@ -149,7 +149,7 @@ module _ (rules : Rules) (reads : Reads) (slack : Option ℤ) (texts : List (Lis
         ∙ ap (λ (found : List Match). listing book.places (drop book.kept.listed (piped book.pipes (numbered found)))) (sym (found_on End (at_most_end from)))
 
     -- what a book keeps once these were given to it
-    pub kept_on : HaveNumbers rules reads slack texts → (to : Mark) → AtMost from to
+    pub kept_on : HaveNumbers rules reads slack texts → (to : Mark) → IsAtMost from to
         → kept_after book.pipes book.kept (found_by rules all (later_events from to)) ≡ book_of book.pipes (found_below rules reads slack texts to)
     kept_on few to le =
         ap (λ (k : BookCut). kept_after book.pipes k (found_by rules all (later_events from to))) played.counted
@@ -157,7 +157,7 @@ module _ (rules : Rules) (reads : Reads) (slack : Option ℤ) (texts : List (Lis
         ∙ ap (book_of book.pipes) (sym (found_on to le))
 
     -- the lines that are written up to a mark are those of the listing after the ones that the book counts, up to those that it counts then
-    pub lines_to : HaveNumbers rules reads slack texts → (to : Mark) → AtMost from to → (then : BookCut) → then ≡ kept_after book.pipes book.kept (found_by rules all (later_events from to))
+    pub lines_to : HaveNumbers rules reads slack texts → (to : Mark) → IsAtMost from to → (then : BookCut) → then ≡ kept_after book.pipes book.kept (found_by rules all (later_events from to))
         → lines_before_end book (found_by rules all (later_events from to)) ≡ listing book.places (drop book.kept.listed (take then.listed (listed_by rules reads slack texts book.pipes)))
     lines_to few to le then e =
         let first : List Match = found_below rules reads slack texts from in
@@ -169,13 +169,13 @@ module _ (rules : Rules) (reads : Reads) (slack : Option ℤ) (texts : List (Lis
         ∙ ap (λ (found : List Match). listing book.places (drop book.kept.listed (take (kept_after book.pipes book.kept more).listed (piped book.pipes (numbered found))))) whole
         ∙ ap (λ (k : BookCut). listing book.places (drop book.kept.listed (take k.listed (listed_by rules reads slack texts book.pipes)))) (sym e)
 
-    pub pending_on : (t : ℤ) → AtMost from (At t) → alive_holders span t (pending_after rules all (later_events from (At t))) ≡ alive_holders span t (pending (At t))
+    pub pending_on : (t : ℤ) → IsAtMost from (At t) → alive_holders span t (pending_after rules all (later_events from (At t))) ≡ alive_holders span t (pending (At t))
     pending_on t le =
         ap (λ (h : List Holder). alive_holders span t (after stages span h (later_events from (At t)))) played.pending
         ∙ alive_after is_span from t le
         ∙ ap (alive_holders span t) (sym (ap (after stages span []) (below_grows reads slack texts from (At t) le) ∙ after_split stages span [] (events from) (later_events from (At t))))
 
-    pub were_given : HaveNumbers rules reads slack texts → (mark : Mark) → AtMost from mark → (then : BookState) → then ≡ book_after book (found_by rules all (later_events from mark))
+    pub were_given : HaveNumbers rules reads slack texts → (mark : Mark) → IsAtMost from mark → (then : BookState) → then ≡ book_after book (found_by rules all (later_events from mark))
         → WereGiven rules reads slack texts from mark book then
     were_given few mark le then e = record {
       given = found_by rules all (later_events from mark);
@@ -236,7 +236,7 @@ runs_stop_in_lines kept end rules reads slack texts from mark all book then befo
 -- ---- which cuts it puts
 run_cut_is : (kept : BookIsKept) (end : EndIsWhole) (run : Run) (reads : Reads) (texts : List (List ℕ)) (from : Mark) (all : List Holder) (book : BookState) (cut : Cut)
     → IsSpan run.span → HavePlayed (rules_of run) reads (Some run.slack) texts from all book → HaveNumbers (rules_of run) reads (Some run.slack) texts
-    → book.pipes ≡ run.pipes → AtMost from (At cut.mark) → (of : IsCutOf (rules_of run) all reads (Some run.slack) texts from book cut)
+    → book.pipes ≡ run.pipes → IsAtMost from (At cut.mark) → (of : IsCutOf (rules_of run) all reads (Some run.slack) texts from book cut)
     → kept_by cut ≡ cut_of run reads cut.mark of.lanes.shards
 run_cut_is kept end run reads texts from all book cut span played few pipes later of =
     let rules : Rules = rules_of run in

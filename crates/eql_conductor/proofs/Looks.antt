@@ -3,7 +3,7 @@ use Rattle.std.proofs.Common.{◌≡◌, inl, inr, ◌+◌, ◌<◌, ℕ, refl, 
 use Rattle.std.specs.Ordering.{is_le}
 use Rattle.eql_values.specs.declared.order.Mark.{Mark}
 use Rattle.eql_values.specs.Marks.{mark_cmp}
-use Rattle.eql_laws.specs.Lateness.{AtMost}
+use Rattle.eql_laws.specs.Lateness.{IsAtMost}
 use Rattle.eql_laws.proofs.MarkLemmas.{at_most_self, at_most_trans}
 use Rattle.eql_lane.specs.declared.ops.LaneOp.TheVariants as op
 use Rattle.eql_lane.specs.declared.ops.LaneReply.TheVariants as reply
@@ -12,7 +12,7 @@ use Rattle.eql_lane.specs.Lanes.{Setting, LaneState, low, lesser}
 use Rattle.eql_conductor.specs.declared.stop.Stop.TheVariants as stop
 use Rattle.eql_conductor.specs.Benches.{Known, ComesByFeeds, LanePlays, Rests}
 use Rattle.eql_conductor.specs.Going.{LanesGo, StopsBy}
-use Rattle.eql_conductor.specs.LaneRounds.{IsSafe, IsSafeAt, SafeTo}
+use Rattle.eql_conductor.specs.LaneRounds.{AreSafeTo, IsSafe, IsSafeAt}
 use Rattle.eql_conductor.proofs.MarkOrder.{lesser_left, lesser_low}
 use Rattle.eql_conductor.proofs.Resting.{same_or, lane_rests, was_lane}
 use Rattle.eql_conductor.proofs.Onward.{fed_onward, lane_went, rest_goes, rose_on}
@@ -49,9 +49,9 @@ pub look_safe : (s : ℕ) (mark : Mark) (a b : Known) → s < a.lanes → LanePl
 look_safe s mark a b l plays = record {
   low_is = λ y here.
       let c = plays.called y here in
-      subst (λ (set : Setting). AtMost mark (low set y)) (sym (plays.same.set s l))
-      (subst (λ (z : LaneState). AtMost mark (low (a.set s) z)) (sym c.step.1)
-      (subst (λ (m : Mark). AtMost mark m) c.step.0 (at_most_self mark)));
+      subst (λ (set : Setting). IsAtMost mark (low set y)) (sym (plays.same.set s l))
+      (subst (λ (z : LaneState). IsAtMost mark (low (a.set s) z)) (sym c.step.1)
+      (subst (λ (m : Mark). IsAtMost mark m) c.step.0 (at_most_self mark)));
 }
 
 -- a mark that is safe stays so
@@ -59,7 +59,7 @@ pub safe_goes : (s : ℕ) (mark : Mark) (a b : Known) → s < a.lanes → LanesG
 safe_goes s mark a b l goes safe = record {
   low_is = λ y here.
       let c = goes.each s l y here in
-      subst (λ (set : Setting). AtMost mark (low set y)) (sym (goes.same.set s l))
+      subst (λ (set : Setting). IsAtMost mark (low set y)) (sym (goes.same.set s l))
       (at_most_trans mark (low (a.set s) c.0) (low (a.set s) y) (safe.low_is c.0 c.1) c.2.low_up);
 }
 
@@ -69,7 +69,7 @@ safe_on mark a b goes safe = record {
 }
 
 -- one more lane was looked at
-pub look_more : (n : ℕ) (mark seen : Mark) (a b : Known) → Rests a b → SafeTo n mark a → IsSafeAt n seen b → SafeTo (n + 1) (lesser mark seen) b
+pub look_more : (n : ℕ) (mark seen : Mark) (a b : Known) → Rests a b → AreSafeTo n mark a → IsSafeAt n seen b → AreSafeTo (n + 1) (lesser mark seen) b
 look_more n mark seen a b rests safe one = record {
   each = λ s l below. elim (same_or s n) [
     | inl e ↦ record {
@@ -86,8 +86,8 @@ look_more n mark seen a b rests safe one = record {
   ];
 }
 
-pub safe_none : (mark : Mark) (b : Known) → SafeTo 0 mark b
+pub safe_none : (mark : Mark) (b : Known) → AreSafeTo 0 mark b
 safe_none mark b = record { each = λ s l below. absurd (omega (arith, below)) }
 
-pub safe_all : (n : ℕ) (mark : Mark) (b : Known) → n ≡ b.lanes → SafeTo n mark b → IsSafe mark b
+pub safe_all : (n : ℕ) (mark : Mark) (b : Known) → n ≡ b.lanes → AreSafeTo n mark b → IsSafe mark b
 safe_all n mark b e safe = record { each = λ s l. safe.each s l (subst (λ (m : ℕ). s < m) (sym e) l) }

@@ -5,28 +5,28 @@ use Rattle.eql_values.specs.declared.cut.LaneCut.{LaneCut}
 use Rattle.eql_values.specs.Accepted.{readable}
 use Rattle.eql_values.specs.Lines.{lines_of, numbered_lines}
 use Rattle.eql_values.specs.Marks.{low_of}
-use Rattle.eql_laws.specs.Lateness.{AtMost}
+use Rattle.eql_laws.specs.Lateness.{IsAtMost}
 use Rattle.eql_laws.proofs.MarkLemmas.{at_most_end, at_most_self}
 use Rattle.eql_laws.proofs.Kept.{low_rises}
 use Rattle.eql_lane.specs.declared.ops.LaneReply.{LaneReply}
 use Rattle.eql_lane.specs.declared.ops.LaneReply.TheVariants as reply
 use Rattle.eql_lane.specs.declared.ops.LimitOf.TheVariants as limit
-use Rattle.eql_lane.specs.Lanes.{Setting, LaneState, FeedStep, ReadsOn, low}
+use Rattle.eql_lane.specs.Lanes.{Setting, LaneState, IsFeedStep, ReadsOn, low}
 
-pub low_same : (set : Setting) (x y : LaneState) → y ≡ x → AtMost (low set x) (low set y)
-low_same set x y e = subst (λ (z : LaneState). AtMost (low set x) (low set z)) (sym e) (at_most_self (low set x))
+pub low_same : (set : Setting) (x y : LaneState) → y ≡ x → IsAtMost (low set x) (low set y)
+low_same set x y e = subst (λ (z : LaneState). IsAtMost (low set x) (low set z)) (sym e) (at_most_self (low set x))
 
-closed_low : (set : Setting) (x y : LaneState) → y.cut.closed ≡ true → AtMost (low set x) (low set y)
-closed_low set x y e = subst (λ (c : Bool). AtMost (low set x) (low_of c set.slack y.cut.best)) (sym e) (at_most_end (low set x))
+closed_low : (set : Setting) (x y : LaneState) → y.cut.closed ≡ true → IsAtMost (low set x) (low set y)
+closed_low set x y e = subst (λ (c : Bool). IsAtMost (low set x) (low_of c set.slack y.cut.best)) (sym e) (at_most_end (low set x))
 
-reads_low : (set : Setting) (x : LaneState) (n : ℕ) (y : LaneState) → x.cut.closed ≡ false → ReadsOn set x n y → AtMost (low set x) (low set y)
+reads_low : (set : Setting) (x : LaneState) (n : ℕ) (y : LaneState) → x.cut.closed ≡ false → ReadsOn set x n y → IsAtMost (low set x) (low set y)
 reads_low set x n y was_open r =
     let fresh : List Item = readable set.reads set.shard (numbered_lines (1 + x.cut.counts.lines) x.cut.offset (lines_of r.more)) in
-    subst (λ (c : Bool). AtMost (low_of c set.slack x.cut.best) (low set y)) (sym was_open)
-    (subst (λ (best : Option ℤ). AtMost (low_of false set.slack x.cut.best) (low_of y.cut.closed set.slack best)) (sym (ap (λ (cut : LaneCut). cut.best) r.cut))
+    subst (λ (c : Bool). IsAtMost (low_of c set.slack x.cut.best) (low set y)) (sym was_open)
+    (subst (λ (best : Option ℤ). IsAtMost (low_of false set.slack x.cut.best) (low_of y.cut.closed set.slack best)) (sym (ap (λ (cut : LaneCut). cut.best) r.cut))
     (low_rises y.cut.closed set.slack x.cut.best fresh))
 
-pub feed_low : (set : Setting) (x : LaneState) (max : ℕ) (answer : LaneReply) (y : LaneState) → FeedStep set x max answer y → AtMost (low set x) (low set y)
+pub feed_low : (set : Setting) (x : LaneState) (max : ℕ) (answer : LaneReply) (y : LaneState) → IsFeedStep set x max answer y → IsAtMost (low set x) (low set y)
 feed_low set x max (reply.Fed n) y step = reads_low set x n y step.feeds.was_open step.feeds.reads
 feed_low set x max (reply.Held k) y step = low_same set x y step.2
 feed_low set x max reply.Closed y step = closed_low set x y step.closed

@@ -19,7 +19,7 @@ use Rattle.eql_laws.specs.Lanes.{IsKeptBy, LaneFits, LanesFit}
 use Rattle.eql_laws.specs.Shapes.{HasStageBefore, IsFull}
 use Rattle.eql_laws.proofs.Facts.{both_true, true_both}
 use Rattle.eql_lane.specs.Starts.{MayBegin}
-use Rattle.eql_parts.specs.Inboxes.{HolderBelow, below_mark}
+use Rattle.eql_parts.specs.Inboxes.{HolderIsBelow, below_mark}
 use Rattle.eql_parts.specs.Spreading.{part_number}
 use Rattle.eql_rounds.specs.Finding.{own_of}
 use Rattle.eql_book.specs.Books.{FitsPipe}
@@ -56,7 +56,7 @@ part_may stages shards t holders p are =
       order = own_in_order holders p are.in_order;
       before = All-weaker (IsPending stages shards (At t)) (HasStageBefore stages) (λ h is. (is.stage_from, is.stage_to)) (own_of holders p) own;
       full = All-weaker (IsPending stages shards (At t)) IsFull (λ h is. is.full) (own_of holders p) own;
-      below = All-weaker (IsPending stages shards (At t)) (HolderBelow (At t)) (λ h is. all_below shards (At t) h.chain is.events) (own_of holders p) own;
+      below = All-weaker (IsPending stages shards (At t)) (HolderIsBelow (At t)) (λ h is. all_below shards (At t) h.chain is.events) (own_of holders p) own;
     }
 
 -- ---- the book

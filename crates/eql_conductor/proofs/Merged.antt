@@ -13,12 +13,12 @@ use Rattle.eql_values.specs.Marks.{is_below}
 use Rattle.eql_values.specs.OrderKeys.{order_cmp}
 use Rattle.eql_values.specs.Ordered.{numbers}
 use Rattle.eql_values.proofs.Same.{order_same}
-use Rattle.eql_laws.specs.Apart.{AllApart, ApartFrom, InMatchOrder, MatchesApart, joined, place_of}
+use Rattle.eql_laws.specs.Apart.{AllAreApart, AreInMatchOrder, IsApartFrom, MatchesAreApart, joined, place_of}
 use Rattle.eql_laws.specs.Belows.{between, from_to}
-use Rattle.eql_laws.specs.Lateness.{AtMost}
+use Rattle.eql_laws.specs.Lateness.{IsAtMost}
 use Rattle.eql_laws.specs.Merging.{in_match_order}
 use Rattle.eql_laws.specs.Taking.{handed_out}
-use Rattle.eql_laws.specs.Together.{AllBelow, NoneBelow}
+use Rattle.eql_laws.specs.Together.{AllAreBelow, NoneIsBelow}
 use Rattle.eql_laws.proofs.Aparts.{kinds_apart}
 use Rattle.eql_laws.proofs.BelowLemmas.{All-sorted}
 use Rattle.eql_laws.proofs.Handing.{between_by_shard}
@@ -49,14 +49,14 @@ module _ (texts : Option (List (List ℕ))) (last mark : Mark) (b : Known) where
   is_of s items e h = subst (λ (n : ℕ). All (IsOfShard n) items) e h.of_shard
 
   apart_others : (first s n : ℕ) (xs : List Item) (lists : List (List Item)) → first < s → s + length lists ≡ n → n ≤ b.lanes → AreLanes b → All (IsOfShard first) xs
-      → HandsFrom texts last mark b s lists → ApartFrom xs lists
+      → HandsFrom texts last mark b s lists → IsApartFrom xs lists
   apart_others first s n xs [] lt e le are of_xs h = tt
   apart_others first s n xs (items ∷ lists) lt e le are of_xs h = (
     kinds_apart order_cmp order_same place_of shard_of first s xs items (λ same. omega (arith, same, lt)) of_xs (is_of s items (are.shard s (omega (arith, e, le))) h.0),
     apart_others first (s + 1) n xs lists (omega (arith, lt)) (omega (arith, e)) le are of_xs h.1,
   )
 
-  hands_apart : (s n : ℕ) (lists : List (List Item)) → s + length lists ≡ n → n ≤ b.lanes → AreLanes b → HandsFrom texts last mark b s lists → AllApart lists
+  hands_apart : (s n : ℕ) (lists : List (List Item)) → s + length lists ≡ n → n ≤ b.lanes → AreLanes b → HandsFrom texts last mark b s lists → AllAreApart lists
   hands_apart s n [] e le are h = tt
   hands_apart s n (items ∷ lists) e le are h = (
     apart_others s (s + 1) n items lists (omega arith) (omega (arith, e)) le are (is_of s items (are.shard s (omega (arith, e, le))) h.0) h.1,
@@ -66,17 +66,17 @@ module _ (texts : Option (List (List ℕ))) (last mark : Mark) (b : Known) where
   pub all_ascend : (lists : List (List Item)) → AllHandOver texts last mark b lists → All Ascend lists
   all_ascend lists h = hands_ascend 0 lists h.each
 
-  pub all_apart : (lists : List (List Item)) → AreLanes b → AllHandOver texts last mark b lists → AllApart lists
+  pub all_apart : (lists : List (List Item)) → AreLanes b → AllHandOver texts last mark b lists → AllAreApart lists
   all_apart lists are h = hands_apart 0 b.lanes lists (let e = h.count in omega (arith, e)) (omega arith) are h.each
 
   -- put in order they may be delivered
-  pub can_deliver : (lists : List (List Item)) (items : List Item) → AtMost last mark → items ≡ sorted_items (joined lists) → Ascend items → AllHandOver texts last mark b lists → CanDeliver last items mark
+  pub can_deliver : (lists : List (List Item)) (items : List Item) → IsAtMost last mark → items ≡ sorted_items (joined lists) → Ascend items → AllHandOver texts last mark b lists → CanDeliver last items mark
   can_deliver lists items later e asc h = record {
     rises = later;
     ascends = asc;
-    not_below = subst (NoneBelow last) (sym e) (All-sorted (λ (x : Item). is_below last x ≡ false) (joined lists)
+    not_below = subst (NoneIsBelow last) (sym e) (All-sorted (λ (x : Item). is_below last x ≡ false) (joined lists)
         (all_joined (λ (x : Item). is_below last x ≡ false) 0 lists (λ k items hands. hands.none_below) h.each));
-    below = subst (AllBelow mark) (sym e) (All-sorted (λ (x : Item). is_below mark x ≡ true) (joined lists)
+    below = subst (AllAreBelow mark) (sym e) (All-sorted (λ (x : Item). is_below mark x ≡ true) (joined lists)
         (all_joined (λ (x : Item). is_below mark x ≡ true) 0 lists (λ k items hands. hands.below) h.each));
   }
 
@@ -116,11 +116,11 @@ module _ (reads : Reads) (slack : Option ℤ) (last mark : Mark) (b : Known) (ar
       ∙ between_by_shard reads slack texts last mark
 
 -- ---- what the parts found
-pub lists_in_order : (rules : Rules) (all : List Holder) (items : List Item) (lists : List (List Match)) → Ascend items → lists ≡ map (found_of rules all items) (numbers 16) → All InMatchOrder lists
-lists_in_order rules all items lists asc e = subst (All InMatchOrder) (sym e) (rounds_find rules all items asc).in_order
+pub lists_in_order : (rules : Rules) (all : List Holder) (items : List Item) (lists : List (List Match)) → Ascend items → lists ≡ map (found_of rules all items) (numbers 16) → All AreInMatchOrder lists
+lists_in_order rules all items lists asc e = subst (All AreInMatchOrder) (sym e) (rounds_find rules all items asc).in_order
 
-pub lists_apart : (rules : Rules) (all : List Holder) (items : List Item) (lists : List (List Match)) → Ascend items → lists ≡ map (found_of rules all items) (numbers 16) → MatchesApart lists
-lists_apart rules all items lists asc e = subst MatchesApart (sym e) (rounds_find rules all items asc).apart
+pub lists_apart : (rules : Rules) (all : List Holder) (items : List Item) (lists : List (List Match)) → Ascend items → lists ≡ map (found_of rules all items) (numbers 16) → MatchesAreApart lists
+lists_apart rules all items lists asc e = subst MatchesAreApart (sym e) (rounds_find rules all items asc).apart
 
 pub found_is : (rules : Rules) (all : List Holder) (items : List Item) (lists : List (List Match)) (found : List Match) → Ascend items
     → lists ≡ map (found_of rules all items) (numbers 16) → found ≡ in_match_order (joined lists) → found ≡ found_by rules all items

@@ -10,7 +10,7 @@ use Rattle.eql_values.specs.Marks.{mark_cmp}
 use Rattle.eql_laws.specs.Lanes.{least_of}
 use Rattle.eql_conductor.specs.declared.note.Note.{Note}
 use Rattle.eql_conductor.specs.declared.note.Note.TheVariants as note
-use Rattle.eql_conductor.specs.Benches.{Known, Same, LanesRest, PartNotesStay, Rests}
+use Rattle.eql_conductor.specs.Benches.{Known, StaysSame, LanesRest, PartNotesStay, Rests}
 use Rattle.eql_conductor.specs.Handed.{AllHandOut}
 use Rattle.eql_conductor.specs.RoundNotes.{low_at, counted, took, lane_round, LanesGrow, GrewFront, NotesLanes, NotesLanesFront, NotesLooks, NotesLooksFront, GrewBy, NotesParts, PlaysParts, NotesAdvance, NotesAdvanceFront, NotesRound, NotesRoundFront, delivered_to}
 use Rattle.eql_conductor.proofs.Resting.{same_on, is_lane, is_part}
@@ -57,7 +57,7 @@ none_played others a b handed h = record {
   parts = record { each = λ p l. grew_none (delivered_to [] p) others (a.part_notes p) (b.part_notes p) (h.each p l) };
 }
 
-pub played_after : (others : ℕ) (a b c : Known) → Same a b → AllHandOut 0 a b → PartNotesStay a b → PlaysParts others b c → PlaysParts others a c
+pub played_after : (others : ℕ) (a b c : Known) → StaysSame a b → AllHandOut 0 a b → PartNotesStay a b → PlaysParts others b c → PlaysParts others a c
 played_after others a b c same handed stay h = record {
   items = h.items;
   handed = handed_to (length h.items) (0 + length h.items) a c (omega arith) (handed_on 0 (length h.items) a b c same handed h.handed);
@@ -68,7 +68,7 @@ played_after others a b c same handed stay h = record {
 }
 
 -- ---- what lies below a mark was taken and played
-module _ (mark : Mark) (items : List Item) (a b c : Known) (same : Same a b) (handed : AllHandOut (length items) a b) (took_all : NotesLanes (λ s. note.Took mark ∷ []) a b)
+module _ (mark : Mark) (items : List Item) (a b c : Known) (same : StaysSame a b) (handed : AllHandOut (length items) a b) (took_all : NotesLanes (λ s. note.Took mark ∷ []) a b)
     (rest : LanesRest b c) (played : NotesParts (delivered_to items) 3 b c) where
   lanes_after : LanesGrow (λ s. note.Took mark ∷ []) a c
   lanes_after = record { each = λ s l. played.lanes.each s (is_lane a b s same l) ∙ took_all.lanes.each s l }
@@ -149,7 +149,7 @@ module _ (last : Mark) (batch : ℕ) (a b c : Known) (rests : Rests a b) (then :
       counts_by : counted last looked.lows ≡ Some mark
       counts_by = counted_is last mark looked.lows false looked.least le
 
-      same_looked : Same a c
+      same_looked : StaysSame a c
       same_looked = same_on a b c rests.same then.same
 
       -- it counts

@@ -7,9 +7,9 @@ use Rattle.eql_values.specs.declared.order.Mark.{Mark}
 use Rattle.eql_values.specs.declared.order.Mark.TheVariants.{End}
 use Rattle.eql_conductor.specs.declared.note.Note.{Note}
 use Rattle.eql_conductor.specs.declared.note.Note.TheVariants as note
-use Rattle.eql_conductor.specs.Benches.{Known, Same}
+use Rattle.eql_conductor.specs.Benches.{Known, StaysSame}
 use Rattle.eql_laws.specs.Apart.{joined}
-use Rattle.eql_conductor.specs.RoundNotes.{low_at, counted, took, lane_round, LanesGrow, GrewFront, GrewInRounds, LanesInRounds, PartsInRounds, PlaysParts, NotesRound, NotesRoundFront, delivered_to, others_in}
+use Rattle.eql_conductor.specs.RoundNotes.{low_at, counted, took, lane_round, LanesGrow, GrewFront, GrewInRounds, LanesGrowInRounds, PartsGrowInRounds, PlaysParts, NotesRound, NotesRoundFront, delivered_to, others_in}
 use Rattle.eql_conductor.specs.RunNotes.{BeginBeforeEnd, Place, moved, next_place, place_after, cut_after, cut_due, listed, cut_times, snapped, round_notes, rounds_notes, PlaysRound, RoundBrokeOff, PlaysRounds, PlaysRoundsFront, NotesCut, NotesSaveFront}
 use Rattle.eql_conductor.proofs.Resting.{is_lane, is_part}
 use Rattle.eql_conductor.proofs.Handing.{handed_on, handed_self, handed_to}
@@ -117,7 +117,7 @@ module _ (batch : ℕ) (every : Option ℕ) where
   }
 
 -- ---- parts
-pub played_on : (m k : ℕ) (a b c : Known) → Same a b → PlaysParts m a b → PlaysParts k b c → PlaysParts (m + k) a c
+pub played_on : (m k : ℕ) (a b c : Known) → StaysSame a b → PlaysParts m a b → PlaysParts k b c → PlaysParts (m + k) a c
 played_on m k a b c same h n = record {
   items = h.items ++ n.items;
   handed = let e = length-append h.items n.items in
@@ -161,7 +161,7 @@ module _ (batch : ℕ) (every : Option ℕ) (at : Place) (a b : Known) where
     parts = played_to 3 4 a b (omega arith) h.parts;
   }
 
-  module _ (answer : Option Mark) (h : NotesRound at.mark batch a b answer) (c : Known) (same : Same a b) where
+  module _ (answer : Option Mark) (h : NotesRound at.mark batch a b answer) (c : Known) (same : StaysSame a b) where
     due_is : cut_after every (moved at answer).counts answer ≡ cut_due every at h.lows
     due_is = ap (λ (m : Option Mark). cut_after every (moved at m).counts m) h.counts
 
@@ -225,7 +225,7 @@ rounds_none batch every from a = (
   refl,
 )
 
-module _ (batch : ℕ) (every : Option ℕ) (from at : Place) (times : List ℤ) (a b : Known) (same : Same a b) (h : PlaysRounds batch every from at times a b) where
+module _ (batch : ℕ) (every : Option ℕ) (from at : Place) (times : List ℤ) (a b : Known) (same : StaysSame a b) (h : PlaysRounds batch every from at times a b) where
   abbrev so_far : Place
   so_far = place_after from h.rounds
 
@@ -233,7 +233,7 @@ module _ (batch : ℕ) (every : Option ℕ) (from at : Place) (times : List ℤ)
     parts_so : (n : ℕ) → 4 * length h.rounds + 4 ≤ n → PlaysParts n a c
     parts_so n le = played_to (4 * length h.rounds + 4) n a c le (played_on (4 * length h.rounds) 4 a b c same h.parts played)
 
-    in_rounds_so : (n : ℕ) → n ≡ length h.rounds + 1 → PartsInRounds n a c
+    in_rounds_so : (n : ℕ) → n ≡ length h.rounds + 1 → PartsGrowInRounds n a c
     in_rounds_so n e = record {
       each = λ p l.
           let k = played.parts.each p (is_part a b p same l) in
@@ -310,12 +310,12 @@ module _ (batch : ℕ) (every : Option ℕ) (from at : Place) (times : List ℤ)
   rounds_end = rounds_broke b [] (inr h.lanes) nothing
 
 -- ---- lanes and parts, round by round
-pub lanes_in_rounds : (batch : ℕ) (every : Option ℕ) (from to : Place) (times : List ℤ) (a b : Known) (h : PlaysRounds batch every from to times a b) → LanesInRounds (length h.rounds) a b
+pub lanes_in_rounds : (batch : ℕ) (every : Option ℕ) (from to : Place) (times : List ℤ) (a b : Known) (h : PlaysRounds batch every from to times a b) → LanesGrowInRounds (length h.rounds) a b
 lanes_in_rounds batch every from to times a b h = record {
   each = λ s l. notes_in_rounds batch every from h.rounds s (a.lane_notes s) (b.lane_notes s) (h.lanes.each s l);
 }
 
-pub broken_in_rounds : (batch : ℕ) (every : Option ℕ) (from : Place) (times : List ℤ) (a b : Known) (h : PlaysRoundsFront batch every from times a b) → LanesInRounds (suc (length h.rounds)) a b
+pub broken_in_rounds : (batch : ℕ) (every : Option ℕ) (from : Place) (times : List ℤ) (a b : Known) (h : PlaysRoundsFront batch every from times a b) → LanesGrowInRounds (suc (length h.rounds)) a b
 broken_in_rounds batch every from times a b h = record {
   each = λ s l.
       let whole : List Note = a.lane_notes s ++ rounds_notes batch every from h.rounds s in

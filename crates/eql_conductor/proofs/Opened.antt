@@ -14,7 +14,7 @@ use Rattle.eql_values.specs.Accepted.{Reads}
 use Rattle.eql_values.specs.Marks.{is_below, low_of}
 use Rattle.eql_values.specs.Matching.{Slot, slot_cmp}
 use Rattle.eql_values.specs.declared.order.OrderKey.{OrderKey}
-use Rattle.eql_laws.specs.Alive.{HoldersInOrder}
+use Rattle.eql_laws.specs.Alive.{HoldersAreInOrder}
 use Rattle.eql_laws.specs.Merging.{by_slot}
 use Rattle.eql_laws.specs.Shapes.{HasStageBefore, IsFull}
 use Rattle.eql_laws.proofs.EventLemmas.{after_none}
@@ -25,17 +25,17 @@ use Rattle.eql_lane.proofs.Keeping.{fresh_is}
 use Rattle.eql_parts.specs.PartSteps.{PartState, Rules, alive_by, mark_time}
 use Rattle.eql_parts.specs.Spreading.{part_number}
 use Rattle.eql_rounds.specs.Finding.{own_of}
-use Rattle.eql_rounds.specs.LaneRounds.{Holds, IsOfShard, IsOfText, LaneAt}
-use Rattle.eql_rounds.specs.PartRounds.{FromBy, ReachTo}
+use Rattle.eql_rounds.specs.LaneRounds.{Holds, IsOfShard, IsOfText, LaneIsAt}
+use Rattle.eql_rounds.specs.PartRounds.{ComeFrom, ReachesTo}
 use Rattle.eql_rounds.proofs.Reaching.{by_later, left_order, time_self}
 use Rattle.eql_book.specs.Books.{BookState}
 use Rattle.eql_book.specs.Laws.{fresh_state}
 use Rattle.eql_conductor.specs.declared.plan.RunPlan.{RunPlan}
 use Rattle.eql_conductor.specs.Benches.{Known, ComesByTurns}
 use Rattle.eql_conductor.specs.Bounds.{AreSized, IsSized}
-use Rattle.eql_conductor.specs.LaneRounds.{LanesAt, text_at}
+use Rattle.eql_conductor.specs.LaneRounds.{LanesAreAt, text_at}
 use Rattle.eql_conductor.specs.PartRounds.{IsAtRest, AreAtRest, AreSomehowFull}
-use Rattle.eql_conductor.specs.Rounds.{OfTexts}
+use Rattle.eql_conductor.specs.Rounds.{BenchIsOfTexts}
 use Rattle.eql_conductor.specs.Runs.{MayRun}
 use Rattle.eql_conductor.specs.Saving.{BookKeepsNumbers, KeepsNumbers}
 use Rattle.eql_conductor.specs.Openings.{BeginsAt, FreshRunsBegin, IsPlanned, OpensAt, OpensFresh, TellsTexts, begun_part}
@@ -46,7 +46,7 @@ use Rattle.eql_conductor.proofs.Takes.{fed_keeps}
 
 -- ---- what others do keeps it
 module _ (b : Known) (lane : ℕ → LaneState) (part : ℕ → PartState) (rules : Rules) (opens : OpensAt b lane part rules) where
-  pub lanes_begin : (texts : Option (List (List ℕ))) (mark : Mark) → ((s : ℕ) → s < b.lanes → LaneAt (text_at texts s) (b.set s) mark (lane s)) → LanesAt texts mark b
+  pub lanes_begin : (texts : Option (List (List ℕ))) (mark : Mark) → ((s : ℕ) → s < b.lanes → LaneIsAt (text_at texts s) (b.set s) mark (lane s)) → LanesAreAt texts mark b
   lanes_begin texts mark at = record {
     are = opens.are_lanes;
     each = λ s l x here. fed_keeps (text_at texts s) (b.set s) mark (lane s) x (opens.are_lanes.reading s l) (opens.opened.lanes s l x here) (at s l);
@@ -64,27 +64,27 @@ module _ (b : Known) (lane : ℕ → LaneState) (part : ℕ → PartState) (rule
   }
 
 -- ---- a part
-reach_self : (mark : Mark) → ReachTo (mark_time mark) mark
+reach_self : (mark : Mark) → ReachesTo (mark_time mark) mark
 reach_self Start = refl
 reach_self (At t) = time_self (Some t)
 reach_self End = tt
 
-from_none : (time : Option ℤ) → FromBy time []
+from_none : (time : Option ℤ) → ComeFrom time []
 from_none None = tt
 from_none (Some t) = tt
 
 -- the pending sequences of a part's keys stand in order where all do
-pub own_in_order : (all : List Holder) (p : ℕ) → HoldersInOrder all → HoldersInOrder (own_of all p)
+pub own_in_order : (all : List Holder) (p : ℕ) → HoldersAreInOrder all → HoldersAreInOrder (own_of all p)
 own_in_order all p order =
     holds_true _ (subst (λ (es : List (Slot × List OrderKey)). T (is_sorted slot_cmp es)) (sym (holders_where part_number p all))
     (is_sorted-where_key slot_cmp (slot_of_part part_number p) (map by_slot all) (subst T (sym order) tt)))
 
 -- a part that begins with the pending sequences of its keys is at rest
-pub begun_rests : (rules : Rules) (all : List Holder) (mark : Mark) (p : ℕ) → HoldersInOrder all → All (HasStageBefore rules.stages) all
+pub begun_rests : (rules : Rules) (all : List Holder) (mark : Mark) (p : ℕ) → HoldersAreInOrder all → All (HasStageBefore rules.stages) all
     → IsAtRest rules all mark p (begun_part rules (own_of all p) mark)
 begun_rests rules all mark p order before =
     let own : List Holder = own_of all p in
-    let own_order : HoldersInOrder own = own_in_order all p order in
+    let own_order : HoldersAreInOrder own = own_in_order all p order in
     let time : Option ℤ = mark_time mark in
     record {
       played = [];
@@ -114,7 +114,7 @@ may_run_at plan mark b book rules all before planned begins numbers = record {
   batch_to = planned.batch_to;
   some_lane = planned.some_lane;
   before_end = λ e. before (sym planned.mark_is ∙ e);
-  lanes = subst (λ (m : Mark). LanesAt None m b) (sym planned.mark_is) begins.lanes;
+  lanes = subst (λ (m : Mark). LanesAreAt None m b) (sym planned.mark_is) begins.lanes;
   sized = begins.sized;
   parts = subst (λ (m : Mark). AreSomehowFull m b) (sym planned.mark_is) begins.parts;
   whole = planned.whole;
@@ -134,8 +134,8 @@ fresh_told : (text : Option (List ℕ)) (set : Setting) (faults : ℕ) → IfSom
 fresh_told None set faults h = tt
 fresh_told (Some t) set faults h = record { text_is = h; is = fresh_is set t faults }
 
-fresh_at : (text : Option (List ℕ)) (set : Setting) (x : LaneState) → x ≡ begun fresh_lane x.faults → IfSome text (λ t. set.text ≡ Some t) → LaneAt text set Start x
-fresh_at text set x e h = subst (LaneAt text set Start) (sym e) (record { holds = fresh_holds set x.faults; told = fresh_told text set x.faults h })
+fresh_at : (text : Option (List ℕ)) (set : Setting) (x : LaneState) → x ≡ begun fresh_lane x.faults → IfSome text (λ t. set.text ≡ Some t) → LaneIsAt text set Start x
+fresh_at text set x e h = subst (LaneIsAt text set Start) (sym e) (record { holds = fresh_holds set x.faults; told = fresh_told text set x.faults h })
 
 some_of : (text told : Option (List ℕ)) → told ≡ text → IfSome text (λ t. told ≡ Some t)
 some_of None told e = tt
@@ -165,7 +165,7 @@ module _ (b : Known) (lane : ℕ → LaneState) (part : ℕ → PartState) (rule
     rests = fresh_rests;
   }
 
-  fresh_texts : (reads : Reads) (slack : Option ℤ) (texts : List (List ℕ)) → TellsTexts reads slack texts b → OfTexts reads slack texts Start b
+  fresh_texts : (reads : Reads) (slack : Option ℤ) (texts : List (List ℕ)) → TellsTexts reads slack texts b → BenchIsOfTexts reads slack texts Start b
   fresh_texts reads slack texts tells = record {
     read = tells.read;
     lanes = lanes_begin b lane part rules fresh.opens (Some texts) Start

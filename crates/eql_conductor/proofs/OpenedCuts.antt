@@ -20,7 +20,7 @@ use Rattle.eql_laws.specs.Books.{IsKeptMatch, StateFits, StateStands}
 use Rattle.eql_laws.specs.Cuts.{IsHeldBack, IsPending, held_back}
 use Rattle.eql_laws.specs.Fitting.{Kept, Run}
 use Rattle.eql_laws.specs.Lanes.{IsKeptBy, LaneFits, LanesFit, lane_at, lanes_from}
-use Rattle.eql_laws.specs.Lateness.{AtMost}
+use Rattle.eql_laws.specs.Lateness.{IsAtMost}
 use Rattle.eql_laws.specs.Places.{ArePlaces, IsPlace, ReadTo, lows_from, whole}
 use Rattle.eql_laws.specs.Shapes.{HasStageBefore, IsFull}
 use Rattle.eql_laws.proofs.CutLemmas.{held_back_fits}
@@ -30,13 +30,13 @@ use Rattle.eql_lane.specs.Keeps.{LaneIs}
 use Rattle.eql_lane.specs.Lanes.{LaneState, Setting, begun}
 use Rattle.eql_lane.proofs.Keeping.{cuts_begin}
 use Rattle.eql_parts.specs.PartSteps.{PartState, Rules}
-use Rattle.eql_rounds.specs.LaneRounds.{Holds, IsOfShard, IsOfText, LaneAt}
+use Rattle.eql_rounds.specs.LaneRounds.{Holds, IsOfShard, IsOfText, LaneIsAt}
 use Rattle.eql_conductor.specs.Benches.{Known}
 use Rattle.eql_conductor.specs.Bounds.{IsSized}
 use Rattle.eql_conductor.specs.LaneRounds.{text_at}
 use Rattle.eql_conductor.specs.PartRounds.{IsAtRest, AreAtRest}
 use Rattle.eql_conductor.specs.Saving.{BookKeepsNumbers, KeepsNumbers}
-use Rattle.eql_conductor.specs.Openings.{BeginsAt, CutRunsBegin, CutRunsHaveTexts, FitIsSafe, IsCutOfTexts, IsSafeCut, OpensFrom, SafeByPlaces, SuitsBench, TellsTexts}
+use Rattle.eql_conductor.specs.Openings.{BeginsAt, CutRunsBegin, CutRunsHaveTexts, FitIsSafe, IsCutOfTexts, IsSafeCut, OpensFrom, PlacesMakeSafe, SuitsBench, TellsTexts}
 use Rattle.eql_conductor.specs.RunLaws.{RunCutsAreSafe}
 use Rattle.eql_conductor.proofs.BoundsOpenings.{fit_is_sized}
 use Rattle.eql_conductor.proofs.Opened.{begun_rests, lanes_begin, may_run_at, parts_begin, sized_begin}
@@ -46,14 +46,14 @@ abbrev low_in : Option ℤ → LaneCut → Mark
 low_in slack lane = low_of lane.closed slack lane.best
 
 -- ---- lanes that fit
-pub fit_low : (slack t : ℤ) (shard : ℕ) (cut : LaneCut) → LaneFits slack t shard cut → AtMost (At t) (low_in (Some slack) cut)
+pub fit_low : (slack t : ℤ) (shard : ℕ) (cut : LaneCut) → LaneFits slack t shard cut → IsAtMost (At t) (low_in (Some slack) cut)
 fit_low slack t shard cut fits = by_closed cut.closed refl
   where
-    by_closed : (c : Bool) → cut.closed ≡ c → AtMost (At t) (low_of c (Some slack) cut.best)
+    by_closed : (c : Bool) → cut.closed ≡ c → IsAtMost (At t) (low_of c (Some slack) cut.best)
     by_closed true e = at_most_end (At t)
     by_closed false e =
         let best = fits.open_best e in
-        subst (λ (o : Option ℤ). AtMost (At t) (low_of false (Some slack) o)) (sym best.1) (at_most_times t (best.0 -ℤ slack) best.2)
+        subst (λ (o : Option ℤ). IsAtMost (At t) (low_of false (Some slack) o)) (sym best.1) (at_most_times t (best.0 -ℤ slack) best.2)
 
 fits_at : (slack t : ℤ) (shard : ℕ) (lanes : List LaneCut) (s : ℕ) (cut : LaneCut) → LanesFit slack t shard lanes → slice_get lanes s ≡ Some cut
     → LaneFits slack t (shard + s) cut
@@ -70,7 +70,7 @@ fit_holds set slack t cut faults e fits = record {
   ascends = fits.ascending;
   of_shard = All-weaker (IsKeptBy set.shard cut.counts.lines (At t)) (IsOfShard set.shard) (λ item is. is.shard_is) cut.items fits.items;
   none_below = All-weaker (IsKeptBy set.shard cut.counts.lines (At t)) (λ (item : Item). is_below (At t) item ≡ false) (λ item is. is.not_below) cut.items fits.items;
-  safe = subst (λ (o : Option ℤ). AtMost (At t) (low_of cut.closed o cut.best)) (sym e) (fit_low slack t set.shard cut fits);
+  safe = subst (λ (o : Option ℤ). IsAtMost (At t) (low_of cut.closed o cut.best)) (sym e) (fit_low slack t set.shard cut fits);
 }
 
 -- ---- a book that fits
@@ -100,9 +100,9 @@ module _ (b : Known) (lane : ℕ → LaneState) (part : ℕ → PartState) (rule
       let place : 0 + s ≡ (b.set s).shard = omega (arith, is) in
       subst (λ (n : ℕ). LaneFits run.slack kept.time n (lane s).cut) place (fits_at run.slack kept.time 0 kept.lanes s (lane s).cut suits.fits.lanes (opens.cuts s l))
 
-  lane_begins : (s : ℕ) → s < b.lanes → LaneAt None (b.set s) (At kept.time) (lane s)
+  lane_begins : (s : ℕ) → s < b.lanes → LaneIsAt None (b.set s) (At kept.time) (lane s)
   lane_begins s l =
-      subst (LaneAt None (b.set s) (At kept.time)) (sym (opens.lanes s l)) (record {
+      subst (LaneIsAt None (b.set s) (At kept.time)) (sym (opens.lanes s l)) (record {
         holds = fit_holds (b.set s) run.slack kept.time (lane s).cut (lane s).faults (suits.slack s l) (lane_fits s l);
         told = tt;
       })
@@ -156,7 +156,7 @@ same_lows : (reads : Reads) (slack : Option ℤ) (mark : Mark) (shard : ℕ) (sh
 same_lows reads slack mark shard [] = refl
 same_lows reads slack mark shard (r ∷ shards) = ap (λ (lows : List Mark). low_in slack (lane_at reads slack shard mark r) ∷ lows) (same_lows reads slack mark (shard + 1) shards)
 
-pub safe_by_places : SafeByPlaces
+pub safe_by_places : PlacesMakeSafe
 safe_by_places run reads t shards safe =
     subst (λ (lows : List Mark). IsTrue (is_safe (At t) lows)) (sym (same_lows reads (Some run.slack) (At t) 0 shards)) safe
 
@@ -166,9 +166,9 @@ run_cuts_are_safe run reads texts from all book cut of =
     (subst (λ (lows : List Mark). IsTrue (is_safe (At cut.mark) lows)) (sym (same_lows reads (Some run.slack) (At cut.mark) 0 of.lanes.shards)) of.lanes.safe)
 
 safe_at : (slack : Option ℤ) (mark : Mark) (lanes : List LaneCut) (s : ℕ) (cut : LaneCut) → IsTrue (is_safe mark (map (low_in slack) lanes)) → slice_get lanes s ≡ Some cut
-    → AtMost mark (low_in slack cut)
+    → IsAtMost mark (low_in slack cut)
 safe_at slack mark [] s cut safe e = cc
-safe_at slack mark (lane ∷ lanes) zero cut safe e = subst (λ (c : LaneCut). AtMost mark (low_in slack c)) (same_Some lane cut e) (both_true _ _ safe).0
+safe_at slack mark (lane ∷ lanes) zero cut safe e = subst (λ (c : LaneCut). IsAtMost mark (low_in slack c)) (same_Some lane cut e) (both_true _ _ safe).0
 safe_at slack mark (lane ∷ lanes) (suc s) cut safe e = safe_at slack mark lanes s cut (both_true _ _ safe).1 e
 
 -- ---- lanes of told texts
@@ -195,9 +195,9 @@ place_at reads slack mark shard (r ∷ shards) (suc s) cut places e =
     subst (λ (n : ℕ). PlaceAt reads slack mark n cut (slice_get (map whole shards) s)) next (place_at reads slack mark (shard + 1) shards s cut places.1 e)
 
 module _ (set : Setting) (mark : Mark) (place : ReadTo) (cut : LaneCut) (faults : ℕ) (e : cut ≡ lane_at set.reads set.slack set.shard mark place)
-    (safe : AtMost mark (low_in set.slack cut)) where
-  low_there : AtMost mark (low_in set.slack (lane_at set.reads set.slack set.shard mark place))
-  low_there = subst (λ (c : LaneCut). AtMost mark (low_in set.slack c)) e safe
+    (safe : IsAtMost mark (low_in set.slack cut)) where
+  low_there : IsAtMost mark (low_in set.slack (lane_at set.reads set.slack set.shard mark place))
+  low_there = subst (λ (c : LaneCut). IsAtMost mark (low_in set.slack c)) e safe
 
   text_lane : IsPlace place → LaneIs set (whole place) mark (begun cut faults)
   text_lane is = subst (λ (c : LaneCut). LaneIs set (whole place) mark (begun c faults)) (sym e) (cuts_begin set mark place faults is low_there)
@@ -223,7 +223,7 @@ module _ (b : Known) (lane : ℕ → LaneState) (part : ℕ → PartState) (rule
       place_at reads (Some run.slack) mark 0 is.shards s (lane s).cut is.are_places
       (ap (λ (k : Kept). slice_get k.lanes s) (sym is.kept_is) ∙ opens.cuts s l)
 
-  lane_told : (s : ℕ) → s < b.lanes → LaneAt (text_at (Some texts) s) (b.set s) mark (lane s)
+  lane_told : (s : ℕ) → s < b.lanes → LaneIsAt (text_at (Some texts) s) (b.set s) mark (lane s)
   lane_told s l =
       let set : Setting = b.set s in
       let at = lane_at_place s l in
@@ -231,10 +231,10 @@ module _ (b : Known) (lane : ℕ → LaneState) (part : ℕ → PartState) (rule
       let here : 0 + s ≡ set.shard = omega (arith, shard) in
       let cut_is : (lane s).cut ≡ lane_at set.reads set.slack set.shard mark at.place =
       at.cut_is ∙ (λ i. lane_at (sym (tells.read.reads_are s l) i) (sym (tells.read.slack_is s l) i) (here i) mark at.place) in
-      let low : AtMost mark (low_in set.slack (lane s).cut) =
-      subst (λ (o : Option ℤ). AtMost mark (low_in o (lane s).cut)) (sym (tells.read.slack_is s l)) (safe_at (Some run.slack) mark kept.lanes s (lane s).cut safe (opens.cuts s l)) in
+      let low : IsAtMost mark (low_in set.slack (lane s).cut) =
+      subst (λ (o : Option ℤ). IsAtMost mark (low_in o (lane s).cut)) (sym (tells.read.slack_is s l)) (safe_at (Some run.slack) mark kept.lanes s (lane s).cut safe (opens.cuts s l)) in
       let text : text_at (Some texts) s ≡ Some (whole at.place) = ap (λ (ts : List (List ℕ)). slice_get ts s) (sym is.texts_are) ∙ at.text_is in
-      subst (LaneAt (text_at (Some texts) s) set mark) (sym (opens.lanes s l)) (record {
+      subst (LaneIsAt (text_at (Some texts) s) set mark) (sym (opens.lanes s l)) (record {
         holds = text_holds set mark at.place (lane s).cut (lane s).faults cut_is low (opens.opens.are_lanes.reading s l);
         told = subst (λ (o : Option (List ℕ)). IfSome o (IsOfText set mark (begun (lane s).cut (lane s).faults))) (sym text) (record {
           text_is = tells.have s l ∙ text;

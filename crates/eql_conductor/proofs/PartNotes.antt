@@ -17,9 +17,9 @@ use Rattle.eql_parts.specs.PartSteps.{Rules}
 use Rattle.eql_conductor.specs.declared.note.Note.{Note}
 use Rattle.eql_conductor.specs.declared.bench.NotPlayed.{NotPlayed}
 use Rattle.eql_conductor.specs.Notes.{part_note}
-use Rattle.eql_conductor.specs.Benches.{Known, Same, PartPlays, WasNotPlayed}
+use Rattle.eql_conductor.specs.Benches.{Known, StaysSame, PartPlays, WasNotPlayed}
 use Rattle.eql_conductor.specs.PartRounds.{ArePlayed, WaitAtMost}
-use Rattle.eql_conductor.specs.RoundNotes.{is_turn, turns_in, others_in, GrewBy, NotesParts, NotesPart, PartsTo, TurnsSome, delivered_to}
+use Rattle.eql_conductor.specs.RoundNotes.{is_turn, turns_in, others_in, GrewBy, NotesParts, NotesPart, PartsGrowTo, TurnsSome, delivered_to}
 use Rattle.eql_conductor.proofs.Parted.{fewer_times, turn_fewer, turn_fits}
 use Rattle.eql_conductor.proofs.Resting.{same_or, is_part}
 use Rattle.eql_conductor.proofs.LaneNotes.{below_or, lanes_stay_on}
@@ -98,7 +98,7 @@ turn_noted p max zero a b plays some = absurd (omega (arith, some))
 turn_noted p max (suc n) a b plays some = part_noted p 1 0 (Turn max) (reply.Turned (suc n)) a b plays (omega arith) (omega arith)
 
 -- ---- a loop over parts
-pub parts_none : (turns : ℕ → ℕ) (others : ℕ) (a : Known) → PartsTo 0 turns others a a
+pub parts_none : (turns : ℕ → ℕ) (others : ℕ) (a : Known) → PartsGrowTo 0 turns others a a
 parts_none turns others a = record {
   done = λ p l below. absurd (omega (arith, below));
   left = λ p l above. refl;
@@ -106,7 +106,7 @@ parts_none turns others a = record {
 }
 
 module _ (n : ℕ) (turns : ℕ → ℕ) (others : ℕ) (a b c : Known) where
-  pub parts_more : Same a b → PartsTo n turns others a b → NotesPart n (turns n) others b c → PartsTo (n + 1) turns others a c
+  pub parts_more : StaysSame a b → PartsGrowTo n turns others a b → NotesPart n (turns n) others b c → PartsGrowTo (n + 1) turns others a c
   parts_more same h one = record {
     done = λ p l below. elim (same_or p n) [
       | inl e ↦ subst (λ (j : ℕ). GrewBy (turns j) others (a.part_notes j) (c.part_notes j)) (sym e)
@@ -117,7 +117,7 @@ module _ (n : ℕ) (turns : ℕ → ℕ) (others : ℕ) (a b c : Known) where
     lanes = lanes_stay_on a b c same h.lanes one.lanes;
   }
 
-pub parts_any : (n : ℕ) (turns : ℕ → ℕ) (others : ℕ) (a b : Known) → PartsTo n turns others a b → NotesParts turns others a b
+pub parts_any : (n : ℕ) (turns : ℕ → ℕ) (others : ℕ) (a b : Known) → PartsGrowTo n turns others a b → NotesParts turns others a b
 parts_any n turns others a b h = record {
   parts = record {
     each = λ p l. elim (below_or p n) [
@@ -129,7 +129,7 @@ parts_any n turns others a b h = record {
 }
 
 -- a loop that ends at this part
-pub parts_end : (n : ℕ) (turns : ℕ → ℕ) (others : ℕ) (a b c : Known) → Same a b → PartsTo n turns others a b → NotesPart n (turns n) others b c → NotesParts turns others a c
+pub parts_end : (n : ℕ) (turns : ℕ → ℕ) (others : ℕ) (a b c : Known) → StaysSame a b → PartsGrowTo n turns others a b → NotesPart n (turns n) others b c → NotesParts turns others a c
 parts_end n turns others a b c same h one = parts_any (n + 1) turns others a c (parts_more n turns others a b c same h one)
 
 -- ---- turns
@@ -153,7 +153,7 @@ lacked_noted p max (suc n) w back a b plays few =
 pub turned_none : (w p : ℕ) (a : Known) → WaitAtMost p w a → TurnsSome w p a a
 turned_none w p a few = record { turns = 0; wait = w; few = omega arith; waits = few; noted = part_self p 0 0 a }
 
-part_on : (p t o u v : ℕ) (a b c : Known) → Same a b → NotesPart p t o a b → NotesPart p u v b c → NotesPart p (t + u) (o + v) a c
+part_on : (p t o u v : ℕ) (a b c : Known) → StaysSame a b → NotesPart p t o a b → NotesPart p u v b c → NotesPart p (t + u) (o + v) a c
 part_on p t o u v a b c same h k = record {
   grew = grew_on t o u v (a.part_notes p) (b.part_notes p) (c.part_notes p) h.grew k.grew;
   rest = λ q l apart. k.rest q (is_part a b q same l) apart ∙ h.rest q l apart;
@@ -167,7 +167,7 @@ part_to p t o u v a b few less h = record {
   lanes = h.lanes;
 }
 
-module _ (w p : ℕ) (a b c : Known) (same : Same a b) (h : TurnsSome w p a b) where
+module _ (w p : ℕ) (a b c : Known) (same : StaysSame a b) (h : TurnsSome w p a b) where
   pub turned_more : TurnsSome h.wait p b c → TurnsSome w p a c
   turned_more k = record {
     turns = h.turns + k.turns;
@@ -192,7 +192,7 @@ waiting_own rules all items mark p a place h = record {
 }
 
 -- ---- one loop after another
-pub noted_on : (f g : ℕ → ℕ) (m k : ℕ) (a b c : Known) → Same a b → NotesParts f m a b → NotesParts g k b c → NotesParts (λ p. f p + g p) (m + k) a c
+pub noted_on : (f g : ℕ → ℕ) (m k : ℕ) (a b c : Known) → StaysSame a b → NotesParts f m a b → NotesParts g k b c → NotesParts (λ p. f p + g p) (m + k) a c
 noted_on f g m k a b c same h n = record {
   parts = record { each = λ p l. grew_on (f p) m (g p) k (a.part_notes p) (b.part_notes p) (c.part_notes p) (h.parts.each p l) (n.parts.each p (is_part a b p same l)) };
   lanes = lanes_stay_on a b c same h.lanes n.lanes;
@@ -208,11 +208,11 @@ module _ (items : List Item) (a b c d : Known) where
   pub played_one : NotesParts (λ p. 0) 1 a b → NotesParts (delivered_to items) 3 a b
   played_one h = noted_to (λ p. 0) (delivered_to items) 1 3 a b (λ p. omega arith) (omega arith) h
 
-  pub played_two : Same a b → NotesParts (λ p. 0) 1 a b → NotesParts (delivered_to items) 1 b c → NotesParts (delivered_to items) 3 a c
+  pub played_two : StaysSame a b → NotesParts (λ p. 0) 1 a b → NotesParts (delivered_to items) 1 b c → NotesParts (delivered_to items) 3 a c
   played_two same h k =
       noted_to (λ p. 0 + delivered_to items p) (delivered_to items) 2 3 a c (λ p. omega arith) (omega arith) (noted_on (λ p. 0) (delivered_to items) 1 1 a b c same h k)
 
-  pub played_three : Same a b → Same a c → NotesParts (λ p. 0) 1 a b → NotesParts (delivered_to items) 1 b c → NotesParts (λ p. 0) 1 c d → NotesParts (delivered_to items) 3 a d
+  pub played_three : StaysSame a b → StaysSame a c → NotesParts (λ p. 0) 1 a b → NotesParts (delivered_to items) 1 b c → NotesParts (λ p. 0) 1 c d → NotesParts (delivered_to items) 3 a d
   played_three same then h k n =
       noted_to (λ p. 0 + delivered_to items p + 0) (delivered_to items) 3 3 a d (λ p. omega arith) (omega arith)
       (noted_on (λ p. 0 + delivered_to items p) (λ p. 0) 2 1 a c d then (noted_on (λ p. 0) (delivered_to items) 1 1 a b c same h k) n)

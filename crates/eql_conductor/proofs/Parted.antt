@@ -20,13 +20,13 @@ use Rattle.eql_parts.specs.declared.ops.PartOp.{PartOp}
 use Rattle.eql_parts.specs.declared.ops.PartOp.TheVariants.{Deliver, Turn, Collect}
 use Rattle.eql_parts.specs.declared.ops.PartReply.{PartReply}
 use Rattle.eql_parts.specs.declared.ops.PartReply.TheVariants as reply
-use Rattle.eql_parts.specs.PartSteps.{CanDeliver, Rules, PartState, PartStep, TurnStep}
+use Rattle.eql_parts.specs.PartSteps.{CanDeliver, Rules, PartState, IsPartStep, IsTurnStep}
 use Rattle.eql_parts.specs.Spreading.{part_number}
 use Rattle.eql_rounds.specs.Finding.{found_of, own_of}
 use Rattle.eql_rounds.specs.PartRounds.{PartIs, TurnKeeps, CollectsAll}
 use Rattle.eql_rounds.proofs.Parting.{turn_keeps_part, deliver_moves_part, collect_moves_part}
-use Rattle.eql_conductor.specs.Benches.{Known, Same, TurnsTimes, ComesByTurns, PartPlays, MayPlay}
-use Rattle.eql_conductor.specs.PartRounds.{AreParts, Phase, IsAtRest, IsDelivered, IsPlayed, pending_after, AreAtRest, AreDelivered, ArePlayed, AreCollected, WaitAtMost, FewerWait}
+use Rattle.eql_conductor.specs.Benches.{Known, StaysSame, TurnsTimes, ComesByTurns, PartPlays, MayPlay}
+use Rattle.eql_conductor.specs.PartRounds.{AreParts, AreInPhase, IsAtRest, IsDelivered, IsPlayed, pending_after, AreAtRest, AreDelivered, ArePlayed, AreCollected, WaitAtMost, FewerWait}
 use Rattle.eql_conductor.proofs.Resting.{same_or, was_part}
 
 -- ---- turns of others
@@ -67,7 +67,7 @@ module _ (rules : Rules) (all : List Holder) (items : List Item) (mark : Mark) (
       record { is = t.is; empty = empty_stays x.inbox y.inbox t.fewer d.empty }
 
 -- ---- one more part was played on
-pub parts_are : (rules : Rules) (a b : Known) → Same a b → AreParts rules a → AreParts rules b
+pub parts_are : (rules : Rules) (a b : Known) → StaysSame a b → AreParts rules a → AreParts rules b
 parts_are rules a b same h = record {
   count = same.parts ∙ h.count;
   each = λ p l. let was = was_part a b p same l in same.rules p was ∙ h.each p was;
@@ -84,14 +84,14 @@ module _ (rules : Rules) (p : ℕ) (o : PartOp) (answer : PartReply) (a b : Know
       stays k c.0 y (subst (λ (r : Rules). ComesByTurns r c.0 y) (are.each k was) c.2) (is c.0 c.1)
 
   called_is : AreParts rules a → ((x : PartState) → a.part p x → Before p x) → (Is : PartState → Type 0)
-      → ((x y : PartState) → PartStep rules x o answer y → Before p x → Is y) → (y : PartState) → b.part p y → Is y
+      → ((x y : PartState) → IsPartStep rules x o answer y → Before p x → Is y) → (y : PartState) → b.part p y → Is y
   called_is are was Is moves y here =
       let c = plays.called y here in
       let r = are.each p place in
-      moves c.before y (subst (λ (rules : Rules). PartStep rules c.before o answer y) r c.step)
+      moves c.before y (subst (λ (rules : Rules). IsPartStep rules c.before o answer y) r c.step)
       (before_stays p c.first c.before (subst (λ (rules : Rules). ComesByTurns rules c.first c.before) r c.turned) (was c.first c.was))
 
-  pub phase_more : ((x y : PartState) → PartStep rules x o answer y → Before p x → After p y) → Phase rules p After Before a → Phase rules (p + 1) After Before b
+  pub phase_more : ((x y : PartState) → IsPartStep rules x o answer y → Before p x → After p y) → AreInPhase rules p After Before a → AreInPhase rules (p + 1) After Before b
   phase_more moves h = record {
     are = parts_are rules a b plays.same h.are;
     done = λ k l below. elim (same_or k p) [
@@ -101,7 +101,7 @@ module _ (rules : Rules) (p : ℕ) (o : PartOp) (answer : PartReply) (a b : Know
     left = λ k l above. other_is Before h.are before_stays k l (λ e. omega (arith, e, above)) (h.left k (was_part a b k plays.same l) (omega (arith, above)));
   }
 
-  pub phase_same : ((x y : PartState) → PartStep rules x o answer y → Before p x → Before p y) → Phase rules p After Before a → Phase rules p After Before b
+  pub phase_same : ((x y : PartState) → IsPartStep rules x o answer y → Before p x → Before p y) → AreInPhase rules p After Before a → AreInPhase rules p After Before b
   phase_same moves h = record {
     are = parts_are rules a b plays.same h.are;
     done = λ k l below. other_is After h.are after_stays k l (λ e. omega (arith, e, below)) (h.done k (was_part a b k plays.same l) below);
@@ -149,7 +149,7 @@ empty_at_rest : (rules : Rules) (own : List Holder) (mark : Mark) (x : PartState
 empty_at_rest rules own mark x is = let e = ap (λ (l : List Item). length l) is.split ∙ length-append is.played x.inbox in none_left x.inbox (length x.inbox) (omega arith) (omega (arith, e))
 
 delivers : (rules : Rules) (all : List Holder) (items own : List Item) (last mark : Mark) (p : ℕ) → CanDeliver last items mark → own ≡ routed part_number p items
-    → (x y : PartState) → PartStep rules x (Deliver own mark) reply.Done y → IsAtRest rules all last p x → IsDelivered rules all items mark p y
+    → (x y : PartState) → IsPartStep rules x (Deliver own mark) reply.Done y → IsAtRest rules all last p x → IsDelivered rules all items mark p y
 delivers rules all items own last mark p can e x y step is =
     let can_own : CanDeliver last own mark = subst (λ (l : List Item). CanDeliver last l mark) (sym e) (can_route p last mark items can) in
     let moved = deliver_moves_part rules (own_of all p) [] own last mark x y can_own.rises can_own.ascends can_own.not_below can_own.below step is in
@@ -173,7 +173,7 @@ pub delivering_none : (rules : Rules) (all : List Holder) (items : List Item) (l
 delivering_none rules all items last mark b h = record { are = h.are; done = λ p l below. absurd (omega (arith, below)); left = λ p l above. h.each p l }
 
 -- a phase that is over is the beginning of the next
-pub next_phase : (rules : Rules) (n : ℕ) (Later After Before : ℕ → PartState → Type 0) (b : Known) → n ≡ b.parts → Phase rules n After Before b → Phase rules 0 Later After b
+pub next_phase : (rules : Rules) (n : ℕ) (Later After Before : ℕ → PartState → Type 0) (b : Known) → n ≡ b.parts → AreInPhase rules n After Before b → AreInPhase rules 0 Later After b
 next_phase rules n Later After Before b e h = record {
   are = h.are;
   done = λ p l below. absurd (omega (arith, below));
@@ -182,7 +182,7 @@ next_phase rules n Later After Before b e h = record {
 
 -- ---- a turn
 module _ (rules : Rules) (all : List Holder) (items : List Item) (mark : Mark) (p : ℕ) (span : IsSpan rules.span) where
-  turns : (max : ℕ) (answer : PartReply) (x y : PartState) → TurnStep rules x max answer y → IsDelivered rules all items mark p x → IsDelivered rules all items mark p y
+  turns : (max : ℕ) (answer : PartReply) (x y : PartState) → IsTurnStep rules x max answer y → IsDelivered rules all items mark p x → IsDelivered rules all items mark p y
   turns max answer x y step d =
       let t = turn_keeps_part rules (own_of all p) (routed part_number p items) mark x max answer y span step d.is in
       record { is = t.is; few = let a = t.fewer in let b = d.few in omega (arith, a, b) }
@@ -213,7 +213,7 @@ fewer_times rules (suc n) x y (mid, max, answer, step, rest) =
     fewer_played : (xs played ys : List Item) → xs ≡ played ++ ys → length ys ≤ length xs
     fewer_played xs played ys e = let l = ap (λ (l : List Item). length l) e ∙ length-append played ys in omega (arith, l)
 
-    fewer_turn : (rules : Rules) (max : ℕ) (answer : PartReply) (x y : PartState) → TurnStep rules x max answer y → length y.inbox ≤ length x.inbox
+    fewer_turn : (rules : Rules) (max : ℕ) (answer : PartReply) (x y : PartState) → IsTurnStep rules x max answer y → length y.inbox ≤ length x.inbox
     fewer_turn rules max (reply.Turned k) x y step = fewer_played x.inbox step.0.played y.inbox step.0.inbox
     fewer_turn rules max reply.Idle x y step = let e = ap (λ (z : PartState). length z.inbox) step.1 in omega (arith, e)
     fewer_turn rules max (reply.Memory back k) x y step = fewer_played x.inbox step.1.played y.inbox step.1.inbox
@@ -253,7 +253,7 @@ waiting rules all items mark p a place h = record { few = λ x here. (h.left p p
 
 -- ---- a collection
 collects : (rules : Rules) (all : List Holder) (items : List Item) (mark done : Mark) (p : ℕ) (found : List Match) (x y : PartState)
-    → PartStep rules x Collect (reply.Found found done) y → IsPlayed rules all items mark p x → CollectsAll rules (own_of all p) (routed part_number p items) mark found y
+    → IsPartStep rules x Collect (reply.Found found done) y → IsPlayed rules all items mark p x → CollectsAll rules (own_of all p) (routed part_number p items) mark found y
 collects rules all items mark done p found x y step d =
     collect_moves_part rules (own_of all p) (routed part_number p items) mark done x found y d.empty step d.is
 

@@ -13,11 +13,11 @@ use Rattle.eql_laws.specs.Lateness.{best_of}
 use Rattle.eql_laws.proofs.BelowLemmas.{accepted_of_text, open_low}
 use Rattle.eql_lane.specs.Keeps.{LaneIs}
 use Rattle.eql_lane.specs.Lanes.{LaneState, Setting, low}
-use Rattle.eql_rounds.specs.LaneRounds.{IsOfText, LaneAt}
+use Rattle.eql_rounds.specs.LaneRounds.{IsOfText, LaneIsAt}
 use Rattle.eql_conductor.specs.Benches.{Known, Rests}
 use Rattle.eql_conductor.specs.Bounds.{IsSomeLow, LaneHadLow}
 use Rattle.eql_conductor.specs.LaneRounds.{text_at}
-use Rattle.eql_conductor.specs.Rounds.{IsInRange, OfTexts}
+use Rattle.eql_conductor.specs.Rounds.{BenchIsOfTexts, IsInRange}
 use Rattle.eql_conductor.proofs.Stays.{texts_stay}
 use Rattle.eql_conductor.proofs.Takes.{fed_keeps}
 
@@ -35,7 +35,7 @@ low_in_range set text mark x reading is =
     (accepted_of_text set.reads None set.shard is.place.first reading).best_in_range)
 
 module _ (last mark : Mark) (reads : Reads) (slack : Option ℤ) (texts : List (List ℕ)) where
-  had_in_range : (s : ℕ) (a b : Known) → OfTexts reads slack texts last a → LaneHadLow s mark a b → IsInRange mark slack
+  had_in_range : (s : ℕ) (a b : Known) → BenchIsOfTexts reads slack texts last a → LaneHadLow s mark a b → IsInRange mark slack
   had_in_range s a b of low_was =
       let set : Setting = a.set s in
       let l = low_was.lane in
@@ -45,12 +45,12 @@ module _ (last mark : Mark) (reads : Reads) (slack : Option ℤ) (texts : List (
       let reading = of.lanes.are.reading s l in
       let text : List ℕ = get_or texts s [] in
       let within : s < length texts = subst (λ (n : ℕ). s < n) (sym of.read.count) l in
-      let at : LaneAt (text_at (Some texts) s) set last z = fed_keeps (text_at (Some texts) s) set last x z reading had.before (of.lanes.each s l x low_was.some.2) in
+      let at : LaneIsAt (text_at (Some texts) s) set last z = fed_keeps (text_at (Some texts) s) set last x z reading had.before (of.lanes.each s l x low_was.some.2) in
       let told : IsOfText set last z text = subst (λ (o : Option (List ℕ)). IfSome o (IsOfText set last z)) (slice_get-get_or texts s [] within) at.told in
       subst (λ (m : Mark). IsInRange m slack) had.low_is
       (subst (λ (o : Option ℤ). IsInRange (low set z) o) (of.read.slack_is s l) (low_in_range set text last z reading told.is))
 
   -- the least of the lows that were looked at
-  pub mark_in_range : (a b c : Known) → Rests a b → IsSomeLow mark b c → OfTexts reads slack texts last a → IsInRange mark slack
+  pub mark_in_range : (a b c : Known) → Rests a b → IsSomeLow mark b c → BenchIsOfTexts reads slack texts last a → IsInRange mark slack
   mark_in_range a b c rests (inl e) of = subst (λ (m : Mark). IsInRange m slack) (sym e) tt
   mark_in_range a b c rests (inr (s, low_was)) of = had_in_range s b c (texts_stay reads slack texts last a b rests.same rests.lanes of) low_was

@@ -2,11 +2,11 @@
 use Rattle.std.proofs.Common.{◌≡◌, ◌≢◌, ◌⊎◌, inl, inr, ◌<◌, ℕ, zero, suc, refl, sym, ap, ◌∙◌, arith, subst}
 use Rattle.eql_lane.specs.declared.ops.LaneOp.TheVariants as op
 use Rattle.eql_lane.specs.declared.ops.LaneReply.{LaneReply}
-use Rattle.eql_lane.specs.Lanes.{Setting, LaneState, FeedStep}
+use Rattle.eql_lane.specs.Lanes.{Setting, LaneState, IsFeedStep}
 use Rattle.eql_parts.specs.declared.ops.PartOp.TheVariants as part_op
 use Rattle.eql_parts.specs.declared.ops.PartReply.{PartReply}
-use Rattle.eql_parts.specs.PartSteps.{Rules, PartState, TurnStep}
-use Rattle.eql_conductor.specs.Benches.{Known, Same, FeedsTimes, ComesByFeeds, TurnsTimes, ComesByTurns, LeavesLane, LeavesPart, LanesRest, PartsRest, Rests, LanePlays, PartPlays}
+use Rattle.eql_parts.specs.PartSteps.{Rules, PartState, IsTurnStep}
+use Rattle.eql_conductor.specs.Benches.{Known, StaysSame, FeedsTimes, ComesByFeeds, TurnsTimes, ComesByTurns, LeavesLane, LeavesPart, LanesRest, PartsRest, Rests, LanePlays, PartPlays}
 
 -- two numbers are the same or not
 pub same_or : (a b : ℕ) → (a ≡ b) ⊎ (a ≢ b)
@@ -30,7 +30,7 @@ fed_on set x y z h k = fed_times_on set h.0 x y z k.0 h.1 k.1
 pub fed_self : (set : Setting) (x : LaneState) → ComesByFeeds set x x
 fed_self set x = (0, refl)
 
-pub fed_once : (set : Setting) (x y : LaneState) (max : ℕ) (answer : LaneReply) → FeedStep set x max answer y → ComesByFeeds set x y
+pub fed_once : (set : Setting) (x y : LaneState) (max : ℕ) (answer : LaneReply) → IsFeedStep set x max answer y → ComesByFeeds set x y
 fed_once set x y max answer step = (1, (y, max, answer, step, refl))
 
 -- ---- turns
@@ -45,26 +45,26 @@ turned_on rules x y z h k = turned_times_on rules h.0 x y z k.0 h.1 k.1
 pub turned_self : (rules : Rules) (x : PartState) → ComesByTurns rules x x
 turned_self rules x = (0, refl)
 
-pub turned_once : (rules : Rules) (x y : PartState) (max : ℕ) (answer : PartReply) → TurnStep rules x max answer y → ComesByTurns rules x y
+pub turned_once : (rules : Rules) (x y : PartState) (max : ℕ) (answer : PartReply) → IsTurnStep rules x max answer y → ComesByTurns rules x y
 turned_once rules x y max answer step = (1, (y, max, answer, step, refl))
 
 -- ---- the same settings
-pub same_self : (b : Known) → Same b b
+pub same_self : (b : Known) → StaysSame b b
 same_self b = record { lanes = refl; parts = refl; set = λ s h. refl; rules = λ p h. refl; some_lane = λ s l has. has; some_part = λ p l has. has }
 
-pub was_lane : (a b : Known) (s : ℕ) → Same a b → s < b.lanes → s < a.lanes
+pub was_lane : (a b : Known) (s : ℕ) → StaysSame a b → s < b.lanes → s < a.lanes
 was_lane a b s same h = subst (λ (n : ℕ). s < n) same.lanes h
 
-pub is_lane : (a b : Known) (s : ℕ) → Same a b → s < a.lanes → s < b.lanes
+pub is_lane : (a b : Known) (s : ℕ) → StaysSame a b → s < a.lanes → s < b.lanes
 is_lane a b s same h = subst (λ (n : ℕ). s < n) (sym same.lanes) h
 
-pub was_part : (a b : Known) (p : ℕ) → Same a b → p < b.parts → p < a.parts
+pub was_part : (a b : Known) (p : ℕ) → StaysSame a b → p < b.parts → p < a.parts
 was_part a b p same h = subst (λ (n : ℕ). p < n) same.parts h
 
-pub is_part : (a b : Known) (p : ℕ) → Same a b → p < a.parts → p < b.parts
+pub is_part : (a b : Known) (p : ℕ) → StaysSame a b → p < a.parts → p < b.parts
 is_part a b p same h = subst (λ (n : ℕ). p < n) (sym same.parts) h
 
-pub same_on : (a b c : Known) → Same a b → Same b c → Same a c
+pub same_on : (a b c : Known) → StaysSame a b → StaysSame b c → StaysSame a c
 same_on a b c h k = record {
   lanes = k.lanes ∙ h.lanes;
   parts = k.parts ∙ h.parts;
@@ -75,7 +75,7 @@ same_on a b c h k = record {
 }
 
 -- ---- others alone
-pub lanes_on : (a b c : Known) → Same a b → LanesRest a b → LanesRest b c → LanesRest a c
+pub lanes_on : (a b c : Known) → StaysSame a b → LanesRest a b → LanesRest b c → LanesRest a c
 lanes_on a b c same h k = record {
   each = λ s l y here.
       let m = k.each s (is_lane a b s same l) y here in
@@ -83,7 +83,7 @@ lanes_on a b c same h k = record {
       (f.0, f.1, fed_on (a.set s) f.0 m.0 y f.2 (subst (λ (set : Setting). ComesByFeeds set m.0 y) (same.set s l) m.2));
 }
 
-pub parts_on : (a b c : Known) → Same a b → PartsRest a b → PartsRest b c → PartsRest a c
+pub parts_on : (a b c : Known) → StaysSame a b → PartsRest a b → PartsRest b c → PartsRest a c
 parts_on a b c same h k = record {
   each = λ p l y here.
       let m = k.each p (is_part a b p same l) y here in

@@ -10,9 +10,9 @@ use Rattle.eql_values.specs.declared.order.Mark.TheVariants.{At}
 use Rattle.eql_values.specs.Accepted.{Reads}
 use Rattle.eql_values.specs.Ascending.{Ascend}
 use Rattle.eql_values.specs.Marks.{is_safe, mark_cmp}
-use Rattle.eql_laws.specs.Alive.{HoldersInOrder, alive_holders}
+use Rattle.eql_laws.specs.Alive.{HoldersAreInOrder, alive_holders}
 use Rattle.eql_laws.specs.Lanes.{lane_at, lanes_from}
-use Rattle.eql_laws.specs.Lateness.{AtMost}
+use Rattle.eql_laws.specs.Lateness.{IsAtMost}
 use Rattle.eql_laws.specs.Places.{ArePlaces, IsPlace, ReadTo, low_at, lows_from, whole}
 use Rattle.eql_laws.proofs.Facts.{true_both}
 use Rattle.eql_laws.specs.Shapes.{IsFull}
@@ -22,15 +22,15 @@ use Rattle.eql_cut.specs.declared.cut.Cut.{Cut}
 use Rattle.eql_cut.specs.declared.cut.CutHead.{CutHead}
 use Rattle.eql_parts.specs.PartSteps.{Rules}
 use Rattle.eql_rounds.specs.LaneRounds.{IsOfText}
-use Rattle.eql_conductor.specs.Benches.{Known, PartsRest, Same}
-use Rattle.eql_conductor.specs.LaneRounds.{AreLanes, LanesAt, text_at}
+use Rattle.eql_conductor.specs.Benches.{Known, PartsRest, StaysSame}
+use Rattle.eql_conductor.specs.LaneRounds.{AreLanes, LanesAreAt, text_at}
 use Rattle.eql_conductor.specs.PartRounds.{AreAtRest, AreSomehowFull, pending_after}
-use Rattle.eql_conductor.specs.Rounds.{OfTexts, ReadTexts}
+use Rattle.eql_conductor.specs.Rounds.{BenchIsOfTexts, ReadTexts}
 use Rattle.eql_conductor.specs.Saving.{AreLanesOf, BookKeepsNumbers, IsHeadOf, IsSavedAt}
 use Rattle.eql_conductor.specs.Snaps.{SnapsAll, IsSnap, SnapsFrom, TypesSay}
 use Rattle.eql_conductor.proofs.Stays.{parts_stay}
 
-pub full_stays : (mark : Mark) (a b : Known) → Same a b → PartsRest a b → AreSomehowFull mark a → AreSomehowFull mark b
+pub full_stays : (mark : Mark) (a b : Known) → StaysSame a b → PartsRest a b → AreSomehowFull mark a → AreSomehowFull mark b
 full_stays mark a b same rest h = record { rules = h.rules; all = h.all; is = parts_stay h.rules h.all mark a b same rest h.is; full = h.full }
 
 -- ---- lanes of told texts
@@ -47,7 +47,7 @@ record LaneOf (reads : Reads) (slack : Option ℤ) (time : ℤ) (s : ℕ) (text 
   place : ReadTo
   is_place : IsPlace place
   text_is : whole place ≡ text
-  safe : AtMost (At time) (low_at reads slack s place)
+  safe : IsAtMost (At time) (low_at reads slack s place)
   cut_is : cut ≡ lane_at reads slack s (At time) place
 
 get-seam : {X : Type 0} (xs : List X) (y : X) (ys : List X) → slice_get (xs ++ y ∷ ys) (length xs) ≡ Some y
@@ -64,7 +64,7 @@ module _ (reads : Reads) (slack : Option ℤ) (time : ℤ) (b : Known) (are : Ar
         place = is.place;
         is_place = is.is_place;
         text_is = is.text_is;
-        safe = subst (λ (low : Mark). AtMost (At time) low) (λ i. low_at (r i) (k i) (are.shard s l i) is.place) is.safe;
+        safe = subst (λ (low : Mark). IsAtMost (At time) low) (λ i. low_at (r i) (k i) (are.shard s l i) is.place) is.safe;
         cut_is = h.cut_is ∙ is.cut ∙ (λ i. lane_at (r i) (k i) (are.shard s l i) (At time) is.place);
       }
 
@@ -90,7 +90,7 @@ module _ (reads : Reads) (slack : Option ℤ) (time : ℤ) (b : Known) (are : Ar
         cuts_are = λ i. one.cut_is i ∷ rest.cuts_are i;
       }
 
-are_lanes_of : (reads : Reads) (slack : Option ℤ) (texts : List (List ℕ)) (time : ℤ) (b : Known) (cuts : List LaneCut) → OfTexts reads slack texts (At time) b
+are_lanes_of : (reads : Reads) (slack : Option ℤ) (texts : List (List ℕ)) (time : ℤ) (b : Known) (cuts : List LaneCut) → BenchIsOfTexts reads slack texts (At time) b
     → SnapsAll (Some texts) (At time) b cuts → AreLanesOf reads slack texts time cuts
 are_lanes_of reads slack texts time b cuts of h =
     let is = lanes_of reads slack time b of.lanes.are [] texts 0 cuts of.read refl (let a = h.count in let c = of.read.count in omega (arith, a, c)) h.each in
@@ -109,10 +109,10 @@ abbrev cut_with : CutHead → ℤ → BookState → List LaneCut → List Holder
 cut_with head time book lanes holders = record { head = head; mark = time; lanes = lanes; holders = holders; book = book.kept }
 
 saved_with : (head : CutHead) (time : ℤ) (b : Known) (book : BookState) (lanes : List LaneCut) (holders : List Holder)
-    → LanesAt None (At time) b → BookKeepsNumbers book.kept → IsHeadOf head b
-    → ((texts : Option (List (List ℕ))) (mark : Mark) → LanesAt texts mark b → SnapsAll texts mark b lanes)
+    → LanesAreAt None (At time) b → BookKeepsNumbers book.kept → IsHeadOf head b
+    → ((texts : Option (List (List ℕ))) (mark : Mark) → LanesAreAt texts mark b → SnapsAll texts mark b lanes)
     → ((rules : Rules) (all : List Holder) → AreAtRest rules all (At time) b → holders ≡ alive_holders rules.span time (pending_after rules all []))
-    → HoldersInOrder holders → All IsFull holders → TypesSay (cut_with head time book lanes holders)
+    → HoldersAreInOrder holders → All IsFull holders → TypesSay (cut_with head time book lanes holders)
     → IsSavedAt head time b book (cut_with head time book lanes holders)
 saved_with head time b book lanes holders at numbers is snaps held order full says =
     let snapped = snaps None (At time) at in
@@ -137,9 +137,9 @@ saved_with head time b book lanes holders at numbers is snaps held order full sa
 
 pub is_saved : (head : CutHead) (time : ℤ) (b : Known) (book : BookState) (lanes : List LaneCut) (holders : List Holder) (cut : Cut)
     → cut ≡ record { head = head; mark = time; lanes = lanes; holders = holders; book = book.kept }
-    → LanesAt None (At time) b → BookKeepsNumbers book.kept → IsHeadOf head b
-    → ((texts : Option (List (List ℕ))) (mark : Mark) → LanesAt texts mark b → SnapsAll texts mark b lanes)
+    → LanesAreAt None (At time) b → BookKeepsNumbers book.kept → IsHeadOf head b
+    → ((texts : Option (List (List ℕ))) (mark : Mark) → LanesAreAt texts mark b → SnapsAll texts mark b lanes)
     → ((rules : Rules) (all : List Holder) → AreAtRest rules all (At time) b → holders ≡ alive_holders rules.span time (pending_after rules all []))
-    → HoldersInOrder holders → All IsFull holders → TypesSay cut → IsSavedAt head time b book cut
+    → HoldersAreInOrder holders → All IsFull holders → TypesSay cut → IsSavedAt head time b book cut
 is_saved head time b book lanes holders cut e at numbers is snaps held order full says =
     subst (IsSavedAt head time b book) (sym e) (saved_with head time b book lanes holders at numbers is snaps held order full (subst TypesSay e says))

@@ -13,16 +13,16 @@ use Rattle.eql_laws.proofs.PartMatches.{after_routed}
 use Rattle.eql_lane.specs.declared.ops.LaneOp.TheVariants as op
 use Rattle.eql_lane.specs.declared.ops.LaneReply.{LaneReply}
 use Rattle.eql_lane.specs.declared.ops.LaneReply.TheVariants as reply
-use Rattle.eql_lane.specs.Lanes.{Setting, LaneState, SnapStep}
+use Rattle.eql_lane.specs.Lanes.{Setting, LaneState, IsSnapStep}
 use Rattle.eql_parts.specs.declared.ops.PartOp.TheVariants as part_op
 use Rattle.eql_parts.specs.declared.ops.PartReply.{PartReply}
 use Rattle.eql_parts.specs.declared.ops.PartReply.TheVariants as part_reply
-use Rattle.eql_parts.specs.PartSteps.{Rules, PartState, SnapStep as PartSnaps, alive_by, mark_time}
+use Rattle.eql_parts.specs.PartSteps.{Rules, PartState, IsSnapStep as PartSnaps, alive_by, mark_time}
 use Rattle.eql_parts.specs.Spreading.{part_number}
 use Rattle.eql_rounds.specs.Finding.{own_of}
-use Rattle.eql_rounds.specs.PartRounds.{TimeTo}
-use Rattle.eql_conductor.specs.Benches.{Known, Same, ComesByFeeds, ComesByTurns, LanePlays, PartPlays, Rests}
-use Rattle.eql_conductor.specs.LaneRounds.{LanesAt, text_at}
+use Rattle.eql_rounds.specs.PartRounds.{TimeIsAtMost}
+use Rattle.eql_conductor.specs.Benches.{Known, StaysSame, ComesByFeeds, ComesByTurns, LanePlays, PartPlays, Rests}
+use Rattle.eql_conductor.specs.LaneRounds.{LanesAreAt, text_at}
 use Rattle.eql_conductor.specs.PartRounds.{AreAtRest, IsAtRest}
 use Rattle.eql_conductor.specs.Snaps.{IsSnap, SnapsFrom, held_of}
 use Rattle.eql_conductor.proofs.Resting.{lane_rests, part_rests}
@@ -30,7 +30,7 @@ use Rattle.eql_conductor.proofs.Takes.{fed_keeps}
 use Rattle.eql_conductor.proofs.Parted.{rest_stays}
 
 -- ---- a lane
-lane_same : (x : LaneState) (answer : LaneReply) (y : LaneState) → SnapStep x answer y → y ≡ x
+lane_same : (x : LaneState) (answer : LaneReply) (y : LaneState) → IsSnapStep x answer y → y ≡ x
 lane_same x (reply.Cut cut) y step = step.1
 lane_same x (reply.Memory n) y step = step.1
 lane_same x (reply.Low mark) y step = absurd step
@@ -50,7 +50,7 @@ snap_rests s answer a b plays = record {
   parts = plays.parts;
 }
 
-pub snap_is : (s : ℕ) (cut : LaneCut) (a b : Known) (texts : Option (List (List ℕ))) (mark : Mark) → s < a.lanes → LanePlays s op.Snap (reply.Cut cut) a b → LanesAt texts mark a
+pub snap_is : (s : ℕ) (cut : LaneCut) (a b : Known) (texts : Option (List (List ℕ))) (mark : Mark) → s < a.lanes → LanePlays s op.Snap (reply.Cut cut) a b → LanesAreAt texts mark a
     → IsSnap (text_at texts s) (a.set s) mark cut
 snap_is s cut a b texts mark place plays at =
     let c = plays.called plays.some.0 plays.some.1 in
@@ -67,7 +67,7 @@ snaps_last texts mark b s n [] cut e h one = (subst (λ (k : ℕ). IsSnap (text_
 snaps_last texts mark b s n (first ∷ cuts) cut e h one = (h.0, snaps_last texts mark b (s + 1) n cuts cut (omega (arith, e)) h.1 one)
 
 pub snapped_more : (texts : Option (List (List ℕ))) (n : ℕ) (mark : Mark) (a b : Known) (cuts more : List LaneCut) (cut : LaneCut)
-    → length cuts ≡ n → n < a.lanes → Same a b → more ≡ cuts ++ cut ∷ []
+    → length cuts ≡ n → n < a.lanes → StaysSame a b → more ≡ cuts ++ cut ∷ []
     → SnapsFrom texts mark a 0 cuts → IsSnap (text_at texts n) (b.set n) mark cut → SnapsFrom texts mark a 0 more
 snapped_more texts n mark a b cuts more cut e l same push h one =
     subst (SnapsFrom texts mark a 0) (sym push) (snaps_last texts mark a 0 n cuts cut (omega (arith, e)) h
@@ -91,7 +91,7 @@ snap_part_rests p answer a b plays = record {
       (c.first, c.was, subst (λ (z : PartState). ComesByTurns (a.rules p) c.first z) (sym (part_same c.before answer y c.step)) c.turned)) plays.others;
 }
 
-time_is : (reach : Option ℤ) (t : ℤ) → TimeTo (Some t) reach → TimeTo reach (Some t) → reach ≡ Some t
+time_is : (reach : Option ℤ) (t : ℤ) → TimeIsAtMost (Some t) reach → TimeIsAtMost reach (Some t) → reach ≡ Some t
 time_is None t h k = absurd h
 time_is (Some u) t h k = ap Some (grind (arith, ints, h, k))
 
@@ -110,7 +110,7 @@ held_at_rest rules all time p x is =
     let none : is.played ≡ [] = none_first is.played x.inbox is.split in
     let done : x.done ≡ At time = is.done empty in
     let fresh : alive_by rules.span (Some time) x.held ≡ x.held = subst (λ (m : Mark). alive_by rules.span (mark_time m) x.held ≡ x.held) done is.fresh in
-    let at : is.reach ≡ Some time = time_is is.reach time (subst (λ (m : Mark). TimeTo (mark_time m) is.reach) done is.done_to) is.to in
+    let at : is.reach ≡ Some time = time_is is.reach time (subst (λ (m : Mark). TimeIsAtMost (mark_time m) is.reach) done is.done_to) is.to in
     let alike : alive_by rules.span (Some time) x.held ≡ alive_by rules.span (Some time) (after rules.stages rules.span (own_of all p) is.played) =
     subst (λ (r : Option ℤ). alive_by rules.span r x.held ≡ alive_by rules.span r (after rules.stages rules.span (own_of all p) is.played)) at is.alike in
     sym fresh ∙ alike

@@ -9,7 +9,7 @@ use Rattle.eql_values.specs.declared.order.Mark.{Mark}
 use Rattle.eql_values.specs.declared.order.Mark.TheVariants.{At}
 use Rattle.eql_values.specs.Accepted.{Reads}
 use Rattle.eql_laws.specs.Belows.{between}
-use Rattle.eql_laws.specs.Lateness.{AtMost}
+use Rattle.eql_laws.specs.Lateness.{IsAtMost}
 use Rattle.eql_laws.proofs.MarkLemmas.{at_most_trans}
 use Rattle.eql_outside.specs.Written.{WroteAll, WroteFront, WroteThrough}
 use Rattle.eql_parts.specs.PartSteps.{Rules}
@@ -17,9 +17,9 @@ use Rattle.eql_book.specs.Books.{BookState, book_after}
 use Rattle.eql_cut.specs.declared.cut.Cut.{Cut}
 use Rattle.eql_cut.specs.declared.cut.CutHead.{CutHead}
 use Rattle.eql_cut.specs.Rising.{RiseFrom}
-use Rattle.eql_conductor.specs.Benches.{Known, Same}
+use Rattle.eql_conductor.specs.Benches.{Known, StaysSame}
 use Rattle.eql_conductor.specs.PartRounds.{AreAtRest, pending_after}
-use Rattle.eql_conductor.specs.Rounds.{GoesTo, OfTexts, found_by}
+use Rattle.eql_conductor.specs.Rounds.{BenchIsOfTexts, GoesTo, found_by}
 use Rattle.eql_conductor.specs.Running.{IsTaken}
 use Rattle.eql_conductor.specs.Runs.{IsRunCut, WroteLinesOf, lines_before_end}
 use Rattle.eql_conductor.proofs.Goings.{texts_go}
@@ -58,7 +58,7 @@ goes_more from to a b book then before now rules all goes was = (lines_before_en
 
 -- ---- the lines of cuts that were put before something was written
 module _ (from : Mark) (a : Known) (book : BookState) (before mid now : Option (List ℕ))
-    (more : (reads : Reads) (slack : Option ℤ) (texts : List (List ℕ)) (rules : Rules) (all : List Holder) → OfTexts reads slack texts from a → AreAtRest rules all from a → WroteMore mid now) where
+    (more : (reads : Reads) (slack : Option ℤ) (texts : List (List ℕ)) (rules : Rules) (all : List Holder) → BenchIsOfTexts reads slack texts from a → AreAtRest rules all from a → WroteMore mid now) where
   lines_stay : (cut : Cut) → WroteLinesOf from a book before mid cut → WroteLinesOf from a book before now cut
   lines_stay cut wrote = λ reads slack texts rules all of was.
       through_more (lines_before_end book (found_by rules all (between reads slack texts from (At cut.mark)))) before mid now
@@ -83,13 +83,13 @@ module _ (from to : Mark) (a b : Known) (book then : BookState) (before now : Op
     -- of which there is at most one
     pub taken_rise : (cuts : List Cut) → All (IsTaken head to b then) cuts → length cuts ≤ 1 → RiseFrom from cuts
     taken_rise [] are one = tt
-    taken_rise (cut ∷ []) are one = (subst (AtMost from) (All-head (IsTaken head to b then) cut [] are).mark_is goes.later, tt)
+    taken_rise (cut ∷ []) are one = (subst (IsAtMost from) (All-head (IsTaken head to b then) cut [] are).mark_is goes.later, tt)
     taken_rise (cut ∷ next ∷ cuts) are one = absurd (omega (arith, one))
 
 -- ---- those of a run that went on from where rounds came to
-module _ (from to : Mark) (a b : Known) (book mid : BookState) (before between_them now : Option (List ℕ)) (same : Same a b)
+module _ (from to : Mark) (a b : Known) (book mid : BookState) (before between_them now : Option (List ℕ)) (same : StaysSame a b)
     (goes : GoesTo from to a b book mid before between_them) where
-  lines_on : (cut : Cut) → AtMost to (At cut.mark) → WroteLinesOf to b mid between_them now cut → WroteLinesOf from a book before now cut
+  lines_on : (cut : Cut) → IsAtMost to (At cut.mark) → WroteLinesOf to b mid between_them now cut → WroteLinesOf from a book before now cut
   lines_on cut later wrote = λ reads slack texts rules all of was.
       let time : Mark = At cut.mark in
       let played = goes.played rules all was in
@@ -120,12 +120,12 @@ module _ (from to : Mark) (a b : Known) (book mid : BookState) (before between_t
     both_wrote cuts more wrote are also = All-append (WroteLinesOf from a book before now) cuts more wrote (on_wrote more are also)
 
 -- ---- times
-rise_later : (from to : Mark) (cuts : List Cut) → AtMost from to → RiseFrom to cuts → RiseFrom from cuts
+rise_later : (from to : Mark) (cuts : List Cut) → IsAtMost from to → RiseFrom to cuts → RiseFrom from cuts
 rise_later from to [] le h = tt
 rise_later from to (cut ∷ cuts) le h = (at_most_trans from to (At cut.mark) le h.0, h.1)
 
 -- cuts to a mark, and then cuts from there on
-pub rise_on : (from to : Mark) (cuts more : List Cut) → AtMost from to → All (λ (cut : Cut). AtMost (At cut.mark) to) cuts → RiseFrom from cuts → RiseFrom to more → RiseFrom from (cuts ++ more)
+pub rise_on : (from to : Mark) (cuts more : List Cut) → IsAtMost from to → All (λ (cut : Cut). IsAtMost (At cut.mark) to) cuts → RiseFrom from cuts → RiseFrom to more → RiseFrom from (cuts ++ more)
 rise_on from to [] more le at_most h k = rise_later from to more le k
 rise_on from to (cut ∷ cuts) more le at_most h k =
-    (h.0, rise_on (At cut.mark) to cuts more (All-head (λ (c : Cut). AtMost (At c.mark) to) cut cuts at_most) (All-tail (λ (c : Cut). AtMost (At c.mark) to) cut cuts at_most) h.1 k)
+    (h.0, rise_on (At cut.mark) to cuts more (All-head (λ (c : Cut). IsAtMost (At c.mark) to) cut cuts at_most) (All-tail (λ (c : Cut). IsAtMost (At c.mark) to) cut cuts at_most) h.1 k)

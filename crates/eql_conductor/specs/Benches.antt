@@ -3,10 +3,10 @@ use Rattle.std.specs.Prelude.{◌≡◌, ◌≢◌, ◌<◌, ◌≤◌, ◌^◌,
 use Rattle.eql_lane.specs.declared.ops.LaneOp.{LaneOp}
 use Rattle.eql_lane.specs.declared.ops.LaneReply.{LaneReply}
 use Rattle.eql_lane.specs.declared.ops.LaneReply.TheVariants.{Failed}
-use Rattle.eql_lane.specs.Lanes.{Setting, LaneState, FeedStep, LaneStep}
+use Rattle.eql_lane.specs.Lanes.{Setting, LaneState, IsFeedStep, IsLaneStep}
 use Rattle.eql_parts.specs.declared.ops.PartOp.{PartOp}
 use Rattle.eql_parts.specs.declared.ops.PartReply.{PartReply}
-use Rattle.eql_parts.specs.PartSteps.{Rules, PartState, TurnStep, PartStep, PartAllows}
+use Rattle.eql_parts.specs.PartSteps.{Rules, PartState, IsTurnStep, IsPartStep, PartAllows}
 use Rattle.eql_conductor.specs.declared.note.Note.{Note}
 use Rattle.eql_conductor.specs.declared.bench.NotPlayed.{NotPlayed}
 use Rattle.eql_conductor.specs.declared.bench.NotPlayed.TheVariants.{Worn, Memory}
@@ -27,7 +27,7 @@ pub record Known : Type 1 where
   pub worn : ℕ
 
 -- what no step changes is the same, and each lane and part that might have a state has one
-pub record Same (old new : Known) : Type 0 where
+pub record StaysSame (old new : Known) : Type 0 where
   pub lanes : new.lanes ≡ old.lanes
   pub parts : new.parts ≡ old.parts
   pub set : (s : ℕ) → s < old.lanes → new.set s ≡ old.set s
@@ -39,7 +39,7 @@ pub record Same (old new : Known) : Type 0 where
 -- from the one state, so many feeds lead to the other
 abbrev pub FeedsTimes : Setting → ℕ → LaneState → LaneState → Type 0
 FeedsTimes set zero old new = new ≡ old
-FeedsTimes set (suc n) old new = (mid : LaneState) × (max : ℕ) × (reply : LaneReply) × FeedStep set old max reply mid × FeedsTimes set n mid new
+FeedsTimes set (suc n) old new = (mid : LaneState) × (max : ℕ) × (reply : LaneReply) × IsFeedStep set old max reply mid × FeedsTimes set n mid new
 
 abbrev pub ComesByFeeds : Setting → LaneState → LaneState → Type 0
 ComesByFeeds set old new = (n : ℕ) × FeedsTimes set n old new
@@ -47,7 +47,7 @@ ComesByFeeds set old new = (n : ℕ) × FeedsTimes set n old new
 -- from the one state, so many turns lead to the other
 abbrev pub TurnsTimes : Rules → ℕ → PartState → PartState → Type 0
 TurnsTimes rules zero old new = new ≡ old
-TurnsTimes rules (suc n) old new = (mid : PartState) × (max : ℕ) × (reply : PartReply) × TurnStep rules old max reply mid × TurnsTimes rules n mid new
+TurnsTimes rules (suc n) old new = (mid : PartState) × (max : ℕ) × (reply : PartReply) × IsTurnStep rules old max reply mid × TurnsTimes rules n mid new
 
 abbrev pub ComesByTurns : Rules → PartState → PartState → Type 0
 ComesByTurns rules old new = (n : ℕ) × TurnsTimes rules n old new
@@ -68,7 +68,7 @@ pub record PartsRest (old new : Known) : Type 0 where
 
 -- only others played
 pub record Rests (old new : Known) : Type 0 where
-  pub same : Same old new
+  pub same : StaysSame old new
   pub lanes : LanesRest old new
   pub parts : PartsRest old new
 
@@ -90,7 +90,7 @@ pub record CallsLane (set : Setting) (might : LaneState → Type 0) (op : LaneOp
   pub before : LaneState
   pub was : might first
   pub fed : ComesByFeeds set first before
-  pub step : LaneStep set before op reply now
+  pub step : IsLaneStep set before op reply now
 
 -- a state that a part may have after a call: it comes by turns of others and then the operation from one that it might have
 pub record CallsPart (rules : Rules) (might : PartState → Type 0) (op : PartOp) (reply : PartReply) (now : PartState) : Type 0 where
@@ -98,7 +98,7 @@ pub record CallsPart (rules : Rules) (might : PartState → Type 0) (op : PartOp
   pub before : PartState
   pub was : might first
   pub turned : ComesByTurns rules first before
-  pub step : PartStep rules before op reply now
+  pub step : IsPartStep rules before op reply now
 
 -- the number of a lane's feeds that failed rises where this one failed, and only there
 abbrev pub FailsBy : LaneReply → ℕ → ℕ → Type 0
@@ -107,7 +107,7 @@ FailsBy reply old new = new ≡ old
 
 -- an operation was played on a lane, which has a state; the other lanes and all parts were left to others
 pub record LanePlays (s : ℕ) (op : LaneOp) (reply : LaneReply) (old new : Known) : Type 0 where
-  pub same : Same old new
+  pub same : StaysSame old new
   pub called : (y : LaneState) → new.lane s y → CallsLane (old.set s) (old.lane s) op reply y
   pub some : (y : LaneState) × new.lane s y
   pub others : (k : ℕ) → k < old.lanes → k ≢ s → LeavesLane (old.set k) (old.lane k) (new.lane k)
@@ -121,7 +121,7 @@ pub record LanePlays (s : ℕ) (op : LaneOp) (reply : LaneReply) (old new : Know
 
 -- an operation was played on a part, which has a state; the other parts and all lanes were left to others
 pub record PartPlays (p : ℕ) (op : PartOp) (reply : PartReply) (old new : Known) : Type 0 where
-  pub same : Same old new
+  pub same : StaysSame old new
   pub called : (y : PartState) → new.part p y → CallsPart (old.rules p) (old.part p) op reply y
   pub some : (y : PartState) × new.part p y
   pub others : (k : ℕ) → k < old.parts → k ≢ p → LeavesPart (old.rules k) (old.part k) (new.part k)

@@ -8,7 +8,7 @@ use Rattle.eql_laws.specs.Belows.{between}
 use Rattle.eql_parts.specs.PartSteps.{CanDeliver}
 use Rattle.eql_conductor.specs.Benches.{Known}
 use Rattle.eql_conductor.specs.Handed.{AllHandOut}
-use Rattle.eql_conductor.specs.Rounds.{OfTexts}
+use Rattle.eql_conductor.specs.Rounds.{BenchIsOfTexts}
 
 -- whether there is a route
 abbrev pub any_route : List Route → Bool
@@ -28,5 +28,5 @@ pub record TakesFitting (last mark : Mark) (old new : Known) (items : List Item)
   pub all : List Item
   pub items_are : items ≡ fitting all
   pub can : CanDeliver last all mark
-  pub told : (reads : Reads) (slack : Option ℤ) (texts : List (List ℕ)) → OfTexts reads slack texts last old → all ≡ between reads slack texts last mark
+  pub told : (reads : Reads) (slack : Option ℤ) (texts : List (List ℕ)) → BenchIsOfTexts reads slack texts last old → all ≡ between reads slack texts last mark
   pub handed : AllHandOut (length all) old new

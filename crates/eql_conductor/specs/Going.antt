@@ -2,28 +2,28 @@
 use Rattle.std.specs.Prelude.{◌≡◌, ◌≢◌, ◌<◌, ◌≤◌, ℕ}
 use Rattle.eql_outside.specs.Outside.{Rose}
 use Rattle.eql_laws.specs.Counting.{greatest_bytes}
-use Rattle.eql_laws.specs.Lateness.{AtMost}
+use Rattle.eql_laws.specs.Lateness.{IsAtMost}
 use Rattle.eql_lane.specs.declared.ops.LimitOf.TheVariants as limit
-use Rattle.eql_lane.specs.Lanes.{Setting, LaneState, OutOfLines, low}
+use Rattle.eql_lane.specs.Lanes.{Setting, LaneState, IsOutOfLines, low}
 use Rattle.eql_conductor.specs.declared.bench.NotPlayed.{NotPlayed}
 use Rattle.eql_conductor.specs.declared.bench.NotPlayed.TheVariants as not_played
 use Rattle.eql_conductor.specs.declared.stop.Stop.{Stop}
 use Rattle.eql_conductor.specs.declared.stop.Stop.TheVariants as stop
-use Rattle.eql_conductor.specs.Benches.{Known, Same, NoFeedFailed}
+use Rattle.eql_conductor.specs.Benches.{Known, StaysSame, NoFeedFailed}
 use Rattle.eql_conductor.specs.Bounds.{Gains, IsSized}
 
 -- neither the count of faults, the number of bytes that were taken, nor the low falls, it isn't taken back, and it stays of its size
-pub record Onward (set : Setting) (old new : LaneState) : Type 0 where
+pub record GoesOnward (set : Setting) (old new : LaneState) : Type 0 where
   pub faults : old.faults ≤ new.faults
   pub taken : old.taken ≤ new.taken
-  pub low_up : AtMost (low set old) (low set new)
+  pub low_up : IsAtMost (low set old) (low set new)
   pub gains : Gains 0 old new
   pub sized : IsSized old → IsSized new
 
 -- each state that a lane may have now goes on from one that it might have
 pub record LanesGo (old new : Known) : Type 0 where
-  pub same : Same old new
-  pub each : (s : ℕ) → s < old.lanes → (y : LaneState) → new.lane s y → (x : LaneState) × old.lane s x × Onward (old.set s) x y
+  pub same : StaysSame old new
+  pub each : (s : ℕ) → s < old.lanes → (y : LaneState) → new.lane s y → (x : LaneState) × old.lane s x × GoesOnward (old.set s) x y
 
 -- no feed of the caller failed, and no lock was worn at its calls
 pub record Went (old new : Known) : Type 0 where
@@ -44,7 +44,7 @@ pub record FailsAt (s : ℕ) (old new : Known) : Type 0 where
 -- state that it may have; a lock was worn. In every other case, and of every other count, nothing rose
 abbrev pub StopsBy : Stop → Known → Known → Type 0
 StopsBy (stop.Read s) old new = (s < old.lanes) × FaultRose s old new × FailsAt s old new
-StopsBy (stop.Limit (limit.Lines s)) old new = (s < old.lanes) × ((y : LaneState) → new.lane s y → OutOfLines (old.set s) y) × Went old new
+StopsBy (stop.Limit (limit.Lines s)) old new = (s < old.lanes) × ((y : LaneState) → new.lane s y → IsOutOfLines (old.set s) y) × Went old new
 StopsBy (stop.Limit (limit.Bytes s)) old new = (s < old.lanes) × ((y : LaneState) → new.lane s y → y.taken ≡ greatest_bytes) × Went old new
 StopsBy (stop.Limit limit.Turns) old new = (old.worn < new.worn) × NoFeedFailed old new
 StopsBy (stop.Limit limit.Generation) old new = ⊥

@@ -3,9 +3,9 @@ use Rattle.std.specs.Prelude.{◌≡◌, ◌<◌, ◌≤◌, ◌+◌, ℕ, List,
 use Rattle.eql_values.specs.declared.item.Item.{Item}
 use Rattle.eql_values.specs.declared.order.Mark.{Mark}
 use Rattle.eql_laws.specs.Belows.{IsReading}
-use Rattle.eql_laws.specs.Lateness.{AtMost}
+use Rattle.eql_laws.specs.Lateness.{IsAtMost}
 use Rattle.eql_lane.specs.Lanes.{LaneState, low}
-use Rattle.eql_rounds.specs.LaneRounds.{LaneAt, HandsOver}
+use Rattle.eql_rounds.specs.LaneRounds.{LaneIsAt, HandsOver}
 use Rattle.eql_conductor.specs.Benches.{Known}
 
 -- the text of a lane, where texts are given
@@ -19,22 +19,22 @@ pub record AreLanes (b : Known) : Type 0 where
   pub reading : (s : ℕ) → s < b.lanes → IsReading (b.set s).reads
 
 -- each lane handed out all that lies below the mark, which is safe
-pub record LanesAt (texts : Option (List (List ℕ))) (mark : Mark) (b : Known) : Type 0 where
+pub record LanesAreAt (texts : Option (List (List ℕ))) (mark : Mark) (b : Known) : Type 0 where
   pub are : AreLanes b
-  pub each : (s : ℕ) → s < b.lanes → (x : LaneState) → b.lane s x → LaneAt (text_at texts s) (b.set s) mark x
+  pub each : (s : ℕ) → s < b.lanes → (x : LaneState) → b.lane s x → LaneIsAt (text_at texts s) (b.set s) mark x
 
 -- the lanes below n handed out all that lies below the one mark, and the others all that lies below the last one
 pub record AreTakenTo (texts : Option (List (List ℕ))) (n : ℕ) (last mark : Mark) (b : Known) : Type 0 where
   pub are : AreLanes b
-  pub taken : (s : ℕ) → s < b.lanes → s < n → (x : LaneState) → b.lane s x → LaneAt (text_at texts s) (b.set s) mark x
-  pub left : (s : ℕ) → s < b.lanes → n ≤ s → (x : LaneState) → b.lane s x → LaneAt (text_at texts s) (b.set s) last x
+  pub taken : (s : ℕ) → s < b.lanes → s < n → (x : LaneState) → b.lane s x → LaneIsAt (text_at texts s) (b.set s) mark x
+  pub left : (s : ℕ) → s < b.lanes → n ≤ s → (x : LaneState) → b.lane s x → LaneIsAt (text_at texts s) (b.set s) last x
 
 -- no further event of this lane can come below the mark
 pub record IsSafeAt (s : ℕ) (mark : Mark) (b : Known) : Type 0 where
-  pub low_is : (x : LaneState) → b.lane s x → AtMost mark (low (b.set s) x)
+  pub low_is : (x : LaneState) → b.lane s x → IsAtMost mark (low (b.set s) x)
 
 -- none of the lanes below n
-pub record SafeTo (n : ℕ) (mark : Mark) (b : Known) : Type 0 where
+pub record AreSafeTo (n : ℕ) (mark : Mark) (b : Known) : Type 0 where
   pub each : (s : ℕ) → s < b.lanes → s < n → IsSafeAt s mark b
 
 -- none of any lane

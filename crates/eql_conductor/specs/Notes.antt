@@ -13,7 +13,7 @@ use Rattle.eql_parts.specs.declared.ops.PartReply.TheVariants as part_reply
 use Rattle.eql_conductor.specs.declared.note.Note.{Note}
 use Rattle.eql_conductor.specs.declared.note.Note.TheVariants as note
 
--- the low that was answered
+-- the low that was returned
 abbrev pub low_in : LaneReply → Mark
 low_in (lane_reply.Low mark) = mark
 low_in reply = Start

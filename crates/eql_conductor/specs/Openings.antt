@@ -6,13 +6,13 @@ use Rattle.eql_values.specs.declared.order.Mark.{Mark}
 use Rattle.eql_values.specs.declared.order.Mark.TheVariants.{Start, At}
 use Rattle.eql_values.specs.Accepted.{Reads}
 use Rattle.eql_values.specs.Marks.{is_safe, low_of}
-use Rattle.eql_laws.specs.Alive.{HoldersInOrder}
+use Rattle.eql_laws.specs.Alive.{HoldersAreInOrder}
 use Rattle.eql_laws.specs.Fitting.{Fits, Kept, Run, StandsInOrder, cut_of}
 use Rattle.eql_laws.specs.Places.{ArePlaces, ReadTo, lows_from, whole}
 use Rattle.eql_laws.specs.Shapes.{HasStageBefore, IsFull}
 use Rattle.eql_lane.specs.Lanes.{LaneState, begun, fresh_cut as fresh_lane}
 use Rattle.eql_lane.specs.Starts.{MayBegin}
-use Rattle.eql_parts.specs.Inboxes.{HolderBelow}
+use Rattle.eql_parts.specs.Inboxes.{HolderIsBelow}
 use Rattle.eql_parts.specs.PartSteps.{PartState, Rules, alive_by, mark_time}
 use Rattle.eql_rounds.specs.Finding.{own_of}
 use Rattle.eql_book.specs.Books.{BookState, FitsPipes}
@@ -20,9 +20,9 @@ use Rattle.eql_book.specs.Laws.{fresh_cut as fresh_book}
 use Rattle.eql_conductor.specs.declared.plan.RunPlan.{RunPlan}
 use Rattle.eql_conductor.specs.Benches.{ComesByFeeds, Known, ComesByTurns}
 use Rattle.eql_conductor.specs.Bounds.{AreSized}
-use Rattle.eql_conductor.specs.LaneRounds.{AreLanes, LanesAt, text_at}
+use Rattle.eql_conductor.specs.LaneRounds.{AreLanes, LanesAreAt, text_at}
 use Rattle.eql_conductor.specs.PartRounds.{AreParts, AreAtRest, AreSomehowFull}
-use Rattle.eql_conductor.specs.Rounds.{OfTexts, ReadTexts}
+use Rattle.eql_conductor.specs.Rounds.{BenchIsOfTexts, ReadTexts}
 use Rattle.eql_conductor.specs.Runs.{MayRun}
 use Rattle.eql_conductor.specs.Saving.{BookKeepsNumbers}
 
@@ -86,7 +86,7 @@ IsSafeCut slack kept = IsTrue (is_safe (At kept.time) (map (λ (lane : LaneCut).
 -- ---- what is known where a run begins
 -- lanes of a size that a shard may have, at a mark, with what is pending
 pub record BeginsAt (rules : Rules) (all : List Holder) (mark : Mark) (b : Known) : Type 0 where
-  pub lanes : LanesAt None mark b
+  pub lanes : LanesAreAt None mark b
   pub sized : AreSized b
   pub parts : AreSomehowFull mark b
   pub rests : AreAtRest rules all mark b
@@ -102,7 +102,7 @@ pub record IsPlanned (plan : RunPlan) (mark : Mark) (b : Known) (book : BookStat
 -- ---- a fresh run
 pub record FreshBegins (rules : Rules) (b : Known) : Type 0 where
   pub begins : BeginsAt rules [] Start b
-  pub told : (reads : Reads) (slack : Option ℤ) (texts : List (List ℕ)) → TellsTexts reads slack texts b → OfTexts reads slack texts Start b
+  pub told : (reads : Reads) (slack : Option ℤ) (texts : List (List ℕ)) → TellsTexts reads slack texts b → BenchIsOfTexts reads slack texts Start b
   pub may_run : (plan : RunPlan) (book : BookState) → IsPlanned plan Start b book → book.kept ≡ fresh_book book.pipes → MayRun plan b book
 
 abbrev pub FreshRunsBegin : Known → Type 0
@@ -129,23 +129,23 @@ CutRunsBegin b = (lane : ℕ → LaneState) (part : ℕ → PartState) (rules : 
 abbrev pub CutRunsHaveTexts : Known → Type 0
 CutRunsHaveTexts b = (lane : ℕ → LaneState) (part : ℕ → PartState) (rules : Rules) (run : Run) (reads : Reads) (texts : List (List ℕ)) (kept : Kept)
     → OpensFrom b lane part rules kept → IsCutOfTexts run reads texts kept → IsSafeCut (Some run.slack) kept → TellsTexts reads (Some run.slack) texts b
-    → OfTexts reads (Some run.slack) texts (At kept.time) b
+    → BenchIsOfTexts reads (Some run.slack) texts (At kept.time) b
 
 -- a cut that fits is safe, and so is one of texts whose time is at most the low at each place
 abbrev pub FitIsSafe : Type 0
 FitIsSafe = (run : Run) (shards : ℕ) (kept : Kept) → Fits run shards kept → IsSafeCut (Some run.slack) kept
 
-abbrev pub SafeByPlaces : Type 0
-SafeByPlaces = (run : Run) (reads : Reads) (t : ℤ) (shards : List ReadTo) → IsTrue (is_safe (At t) (lows_from reads (Some run.slack) 0 shards))
+abbrev pub PlacesMakeSafe : Type 0
+PlacesMakeSafe = (run : Run) (reads : Reads) (t : ℤ) (shards : List ReadTo) → IsTrue (is_safe (At t) (lows_from reads (Some run.slack) 0 shards))
     → IsSafeCut (Some run.slack) (cut_of run reads t shards)
 
 -- ---- what lanes, parts and a book are made of
 -- pending sequences with which a part of so many stages may begin at a time
 pub record PartMayBegin (stages : ℕ) (time : ℤ) (own : List Holder) : Type 0 where
-  pub order : HoldersInOrder own
+  pub order : HoldersAreInOrder own
   pub before : All (HasStageBefore stages) own
   pub full : All IsFull own
-  pub below : All (HolderBelow (At time)) own
+  pub below : All (HolderIsBelow (At time)) own
 
 -- each lane, each part and the book may begin with what the cut keeps
 pub record AllMayBegin (run : Run) (kept : Kept) : Type 0 where

@@ -20,7 +20,7 @@ pub record AreParts (rules : Rules) (b : Known) : Type 0 where
   pub span : IsSpan rules.span
 
 -- the parts below n are the one, and the others are the other
-pub record Phase (rules : Rules) (n : ℕ) (After Before : ℕ → PartState → Type 0) (b : Known) : Type 0 where
+pub record AreInPhase (rules : Rules) (n : ℕ) (After Before : ℕ → PartState → Type 0) (b : Known) : Type 0 where
   pub are : AreParts rules b
   pub done : (p : ℕ) → p < b.parts → p < n → (x : PartState) → b.part p x → After p x
   pub left : (p : ℕ) → p < b.parts → n ≤ p → (x : PartState) → b.part p x → Before p x
@@ -51,15 +51,15 @@ pub record AreAtRest (rules : Rules) (all : List Holder) (mark : Mark) (b : Know
 
 -- to the parts below n their events were delivered
 abbrev pub AreDelivered : Rules → List Holder → List Item → (last mark : Mark) → ℕ → Known → Type 0
-AreDelivered rules all items last mark n b = Phase rules n (IsDelivered rules all items mark) (IsAtRest rules all last) b
+AreDelivered rules all items last mark n b = AreInPhase rules n (IsDelivered rules all items mark) (IsAtRest rules all last) b
 
 -- the parts below n played them
 abbrev pub ArePlayed : Rules → List Holder → List Item → Mark → ℕ → Known → Type 0
-ArePlayed rules all items mark n b = Phase rules n (IsPlayed rules all items mark) (IsDelivered rules all items mark) b
+ArePlayed rules all items mark n b = AreInPhase rules n (IsPlayed rules all items mark) (IsDelivered rules all items mark) b
 
 -- of the parts below n the matches were collected
 abbrev pub AreCollected : Rules → List Holder → List Item → Mark → ℕ → Known → Type 0
-AreCollected rules all items mark n b = Phase rules n (IsAtRest rules (pending_after rules all items) mark) (IsPlayed rules all items mark) b
+AreCollected rules all items mark n b = AreInPhase rules n (IsAtRest rules (pending_after rules all items) mark) (IsPlayed rules all items mark) b
 
 -- there are rules and pending sequences so that it is so
 pub record AreSomehowAtRest (mark : Mark) (b : Known) : Type 0 where

@@ -125,7 +125,7 @@ pub record NotesPart (p turns others : ℕ) (old new : Known) : Type 0 where
   pub lanes : LaneNotesStay old new
 
 -- in a loop: those of the parts below n
-pub record PartsTo (n : ℕ) (turns : ℕ → ℕ) (others : ℕ) (old now : Known) : Type 0 where
+pub record PartsGrowTo (n : ℕ) (turns : ℕ → ℕ) (others : ℕ) (old now : Known) : Type 0 where
   pub done : (p : ℕ) → p < old.parts → p < n → GrewBy (turns p) others (old.part_notes p) (now.part_notes p)
   pub left : (p : ℕ) → p < old.parts → n ≤ p → now.part_notes p ≡ old.part_notes p
   pub lanes : LaneNotesStay old now
@@ -163,11 +163,11 @@ pub record GrewInRounds (count : List Note → ℕ) (rounds : ℕ) (old new : Li
   pub four : All (λ (list : List Note). count list ≤ 4) lists
 
 -- the notes of each lane
-pub record LanesInRounds (rounds : ℕ) (old new : Known) : Type 0 where
+pub record LanesGrowInRounds (rounds : ℕ) (old new : Known) : Type 0 where
   pub each : (s : ℕ) → s < old.lanes → GrewInRounds (λ (list : List Note). length list) rounds (old.lane_notes s) (new.lane_notes s)
 
 -- the notes of each part that tell of no events played
-pub record PartsInRounds (rounds : ℕ) (old new : Known) : Type 0 where
+pub record PartsGrowInRounds (rounds : ℕ) (old new : Known) : Type 0 where
   pub each : (p : ℕ) → p < old.parts → GrewInRounds others_in rounds (old.part_notes p) (new.part_notes p)
 
 -- ---- a round

@@ -8,7 +8,7 @@ use Rattle.eql_values.specs.declared.order.Mark.TheVariants.{At}
 use Rattle.eql_values.specs.Accepted.{Reads}
 use Rattle.eql_values.specs.Matching.{matches}
 use Rattle.eql_laws.specs.Belows.{IsMarkTime, between, greatest_slack}
-use Rattle.eql_laws.specs.Lateness.{AtMost}
+use Rattle.eql_laws.specs.Lateness.{IsAtMost}
 use Rattle.eql_lane.specs.declared.ops.LimitOf.TheVariants as limit
 use Rattle.eql_outside.specs.Written.{WroteAll, WroteFront}
 use Rattle.eql_book.specs.Books.{BookState, book_after, let_out}
@@ -18,7 +18,7 @@ use Rattle.eql_conductor.specs.declared.stop.Stop.{Stop}
 use Rattle.eql_conductor.specs.declared.stop.Stop.TheVariants as stop
 use Rattle.eql_conductor.specs.Benches.{Known}
 use Rattle.eql_conductor.specs.Going.{StopsBy, Went}
-use Rattle.eql_conductor.specs.LaneRounds.{LanesAt}
+use Rattle.eql_conductor.specs.LaneRounds.{LanesAreAt}
 use Rattle.eql_conductor.specs.PartRounds.{AreAtRest, pending_after}
 
 -- there is a text for each lane, and all lanes have one reading and one slack
@@ -28,9 +28,9 @@ pub record ReadTexts (reads : Reads) (slack : Option ℤ) (texts : List (List �
   pub slack_is : (s : ℕ) → s < b.lanes → (b.set s).slack ≡ slack
 
 -- the lanes have these texts, and what lies below a mark was handed out
-pub record OfTexts (reads : Reads) (slack : Option ℤ) (texts : List (List ℕ)) (mark : Mark) (b : Known) : Type 0 where
+pub record BenchIsOfTexts (reads : Reads) (slack : Option ℤ) (texts : List (List ℕ)) (mark : Mark) (b : Known) : Type 0 where
   pub read : ReadTexts reads slack texts b
-  pub lanes : LanesAt (Some texts) mark b
+  pub lanes : LanesAreAt (Some texts) mark b
 
 -- the matches by events, from what is pending on
 abbrev pub found_by : Rules → List Holder → List Item → List Match
@@ -48,21 +48,21 @@ pub record PlaysTo (rules : Rules) (all : List Holder) (items : List Item) (mark
 
 -- from one mark on, all events below another were taken and played: of told texts these are those between the marks
 pub record GoesTo (from to : Mark) (old new : Known) (book then : BookState) (before now : Option (List ℕ)) : Type 0 where
-  pub later : AtMost from to
-  pub lanes : (texts : Option (List (List ℕ))) → LanesAt texts from old → LanesAt texts to new
+  pub later : IsAtMost from to
+  pub lanes : (texts : Option (List (List ℕ))) → LanesAreAt texts from old → LanesAreAt texts to new
   pub items : List Item
-  pub told : (reads : Reads) (slack : Option ℤ) (texts : List (List ℕ)) → OfTexts reads slack texts from old → items ≡ between reads slack texts from to
+  pub told : (reads : Reads) (slack : Option ℤ) (texts : List (List ℕ)) → BenchIsOfTexts reads slack texts from old → items ≡ between reads slack texts from to
   pub played : (rules : Rules) (all : List Holder) → AreAtRest rules all from old → PlaysTo rules all items to new book then before now
 
 -- a counted round that stopped: where the book is whole, nothing was given to it; and a front was written of what was to come out
 pub record RoundBreaks (last mark : Mark) (old : Known) (book then : BookState) (before now : Option (List ℕ)) : Type 0 where
   pub whole : then.whole ≡ true → then ≡ book
-  pub told : (reads : Reads) (slack : Option ℤ) (texts : List (List ℕ)) (rules : Rules) (all : List Holder) → OfTexts reads slack texts last old → AreAtRest rules all last old
+  pub told : (reads : Reads) (slack : Option ℤ) (texts : List (List ℕ)) (rules : Rules) (all : List Holder) → BenchIsOfTexts reads slack texts last old → AreAtRest rules all last old
       → WroteFront (listing book.places (let_out book.pipes book.kept (found_by rules all (between reads slack texts last mark)))) before now
 
 -- a round that doesn't count: all is as it was but for what others do
 pub record RoundRests (last : Mark) (old new : Known) (book then : BookState) (before now : Option (List ℕ)) : Type 0 where
-  pub lanes : (texts : Option (List (List ℕ))) → LanesAt texts last old → LanesAt texts last new
+  pub lanes : (texts : Option (List (List ℕ))) → LanesAreAt texts last old → LanesAreAt texts last new
   pub parts : (rules : Rules) (all : List Holder) → AreAtRest rules all last old → AreAtRest rules all last new
   pub book_is : then ≡ book
   pub wrote_is : now ≡ before
@@ -78,14 +78,14 @@ IsInRange (At t) (Some slack) = pos 0 ≤ℤ slack → slack ≤ℤ greatest_sla
 IsInRange mark slack = Unit {0}
 
 -- and so is the mark of a round over told texts that counts
-abbrev pub CountsInRange : Mark → (old : Known) → Option Mark → Type 0
-CountsInRange last old None = Unit {0}
-CountsInRange last old (Some mark) = (reads : Reads) (slack : Option ℤ) (texts : List (List ℕ)) → OfTexts reads slack texts last old → IsInRange mark slack
+abbrev pub CountsAreInRange : Mark → (old : Known) → Option Mark → Type 0
+CountsAreInRange last old None = Unit {0}
+CountsAreInRange last old (Some mark) = (reads : Reads) (slack : Option ℤ) (texts : List (List ℕ)) → BenchIsOfTexts reads slack texts last old → IsInRange mark slack
 
 -- a round that stopped, at a mark that is at least the last one
 pub record RoundStops (last : Mark) (old : Known) (book then : BookState) (before now : Option (List ℕ)) : Type 0 where
   pub mark : Mark
-  pub later : AtMost last mark
+  pub later : IsAtMost last mark
   pub breaks : RoundBreaks last mark old book then before now
 
 -- the conductor stops for want of memory, or by a fault of the sink

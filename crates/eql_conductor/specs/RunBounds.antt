@@ -4,7 +4,7 @@ use Rattle.eql_lane.specs.Lanes.{LaneState}
 use Rattle.eql_conductor.specs.Benches.{Known, ComesByFeeds}
 use Rattle.eql_conductor.specs.Bounds.{AreSized, held_count}
 use Rattle.eql_conductor.specs.Handed.{total_to}
-use Rattle.eql_conductor.specs.RoundNotes.{LanesInRounds, PartsInRounds, turns_in}
+use Rattle.eql_conductor.specs.RoundNotes.{LanesGrowInRounds, PartsGrowInRounds, turns_in}
 
 -- the lanes began with the one states, and only others fed them until the run; and they may have the other states after it
 pub record LaneStates (began now : ℕ → LaneState) (old new : Known) : Type 0 where
@@ -28,6 +28,6 @@ pub record IsBoundedBy (rounds : ℕ) (old new : Known) (b c : ℕ) : Type 0 whe
 -- more bytes than a shard may have
 pub record RunIsBounded (rounds : ℕ) (old new : Known) : Type 0 where
   pub bound : (began now : ℕ → LaneState) → LaneStates began now old new → IsBoundedBy rounds old new (bytes_in old.lanes now) (events_in old.lanes began)
-  pub lanes : LanesInRounds rounds old new
-  pub parts : PartsInRounds rounds old new
+  pub lanes : LanesGrowInRounds rounds old new
+  pub parts : PartsGrowInRounds rounds old new
   pub sized : AreSized new

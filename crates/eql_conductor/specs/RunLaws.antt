@@ -14,7 +14,7 @@ use Rattle.eql_laws.specs.Belows.{between, greatest_slack}
 use Rattle.eql_laws.specs.Books.{book_of, greatest_shards}
 use Rattle.eql_laws.specs.Counting.{IsShardText}
 use Rattle.eql_laws.specs.Fitting.{Fits, Kept, ReadsFor, Run}
-use Rattle.eql_laws.specs.Lateness.{AtMost}
+use Rattle.eql_laws.specs.Lateness.{IsAtMost}
 use Rattle.eql_outside.specs.Written.{WroteAll, WroteFront}
 use Rattle.eql_book.specs.Books.{BookState, book_after}
 use Rattle.eql_book.specs.Laws.{fresh_cut as fresh_book}
@@ -29,7 +29,7 @@ use Rattle.eql_conductor.specs.Benches.{Known}
 use Rattle.eql_conductor.specs.LaneRounds.{IsSafe}
 use Rattle.eql_conductor.specs.Openings.{IsCutOfTexts, IsSafeCut, OpensFresh, OpensFrom, SuitsBench, TellsTexts}
 use Rattle.eql_conductor.specs.PartRounds.{AreAtRest}
-use Rattle.eql_conductor.specs.Rounds.{OfTexts, found_by}
+use Rattle.eql_conductor.specs.Rounds.{BenchIsOfTexts, found_by}
 use Rattle.eql_conductor.specs.Runs.{IsCutOf, RunStopsAt, whole_lines}
 
 -- the rules of the parts of a run
@@ -75,7 +75,7 @@ module _ (rules : Rules) (reads : Reads) (slack : Option ℤ) (texts : List (Lis
 module _ (rules : Rules) (reads : Reads) (slack : Option ℤ) (texts : List (List ℕ)) where
   -- it began where all events below its mark were played, and its matches have numbers
   pub record BeginsTold (from : Mark) (all : List Holder) (old : Known) (book : BookState) : Type 0 where
-    pub texts_are : OfTexts reads slack texts from old
+    pub texts_are : BenchIsOfTexts reads slack texts from old
     pub rests : AreAtRest rules all from old
     pub played : HavePlayed rules reads slack texts from all book
     pub numbers : HaveNumbers rules reads slack texts
@@ -83,12 +83,12 @@ module _ (rules : Rules) (reads : Reads) (slack : Option ℤ) (texts : List (Lis
   -- it stopped at a mark that is safe and at least that of each cut
   pub record StopsListed (from : Mark) (new : Known) (book then : BookState) (before now : Option (List ℕ)) (cuts : List Cut) : Type 0 where
     pub mark : Mark
-    pub later : AtMost from mark
+    pub later : IsAtMost from mark
     pub safe : IsSafe mark new
-    pub after_cuts : All (λ (cut : Cut). AtMost (At cut.mark) mark) cuts
+    pub after_cuts : All (λ (cut : Cut). IsAtMost (At cut.mark) mark) cuts
     pub so : StopsInLines rules reads slack texts from mark book then before now
 
-  -- what it wrote, by its answer
+  -- what it wrote, by its result
   abbrev pub ListsByAnswer : (from : Mark) (new : Known) (book then : BookState) (before now : Option (List ℕ)) (cuts : List Cut) → Ends → Type 0
   ListsByAnswer from new book then before now cuts end.Done = WroteAll (lines_after rules reads slack texts book) before now
   ListsByAnswer from new book then before now cuts answer = StopsListed from new book then before now cuts
@@ -135,7 +135,7 @@ RunsWriteLines = (rules : Rules) (reads : Reads) (slack : Option ℤ) (texts : L
 abbrev pub RunsStopInLines : Type 0
 RunsStopInLines = (rules : Rules) (reads : Reads) (slack : Option ℤ) (texts : List (List ℕ)) (from mark : Mark) (all : List Holder) (book then : BookState)
     (before now : Option (List ℕ)) → IsSpan rules.span → HavePlayed rules reads slack texts from all book → HaveNumbers rules reads slack texts
-    → AtMost from mark → RunStopsAt rules all reads slack texts from mark book then before now
+    → IsAtMost from mark → RunStopsAt rules all reads slack texts from mark book then before now
     → StopsInLines rules reads slack texts from mark book then before now
 
 -- ---- which cuts it puts
@@ -143,14 +143,14 @@ RunsStopInLines = (rules : Rules) (reads : Reads) (slack : Option ℤ) (texts : 
 abbrev pub RunCutsAreOfTexts : Type 0
 RunCutsAreOfTexts = (run : Run) (reads : Reads) (texts : List (List ℕ)) (from : Mark) (all : List Holder) (book : BookState) (cut : Cut)
     → IsSpan run.span → HavePlayed (rules_of run) reads (Some run.slack) texts from all book → HaveNumbers (rules_of run) reads (Some run.slack) texts
-    → book.pipes ≡ run.pipes → AtMost from (At cut.mark) → IsCutOf (rules_of run) all reads (Some run.slack) texts from book cut
+    → book.pipes ≡ run.pipes → IsAtMost from (At cut.mark) → IsCutOf (rules_of run) all reads (Some run.slack) texts from book cut
     → IsCutOfTexts run reads texts (kept_by cut)
 
 -- it fits the run, where its texts and its slack are those that a run may have
 abbrev pub RunCutsFit : Type 0
 RunCutsFit = (run : Run) (reads : Reads) (texts : List (List ℕ)) (from : Mark) (all : List Holder) (book : BookState) (cut : Cut)
     → IsSpan run.span → HavePlayed (rules_of run) reads (Some run.slack) texts from all book → HaveNumbers (rules_of run) reads (Some run.slack) texts
-    → book.pipes ≡ run.pipes → AtMost from (At cut.mark) → IsCutOf (rules_of run) all reads (Some run.slack) texts from book cut
+    → book.pipes ≡ run.pipes → IsAtMost from (At cut.mark) → IsCutOf (rules_of run) all reads (Some run.slack) texts from book cut
     → ReadsFor run reads → All IsShardText texts → length texts ≤ greatest_shards → pos 0 ≤ℤ run.slack → run.slack ≤ℤ greatest_slack
     → Fits run (length texts) (kept_by cut)
 

@@ -8,7 +8,7 @@ use Rattle.eql_conductor.specs.declared.plan.End.{End as Ends}
 use Rattle.eql_conductor.specs.declared.plan.End.TheVariants as end
 use Rattle.eql_conductor.specs.declared.plan.RunPlan.{RunPlan}
 use Rattle.eql_conductor.specs.Benches.{Known}
-use Rattle.eql_conductor.specs.RoundNotes.{low_at, counted, lane_round, LanesGrow, GrewFront, LanesGrowFront, PlaysParts, PartsInRounds}
+use Rattle.eql_conductor.specs.RoundNotes.{low_at, counted, lane_round, LanesGrow, GrewFront, LanesGrowFront, PlaysParts, PartsGrowInRounds}
 
 -- ---- how far a run is
 -- the last mark, and how many rounds counted
@@ -78,7 +78,7 @@ module _ (batch : ℕ) (every : Option ℕ) where
   rounds_notes at [] s = []
   rounds_notes at (lows ∷ rounds) s = round_notes at lows s ++ rounds_notes (next_place at lows) rounds s
 
-  -- one round from a place, with this answer, and with a cut of this time where one was due
+  -- one round from a place, with this result, and with a cut of this time where one was due
   pub record PlaysRound (at : Place) (time : Option ℤ) (old new : Known) (answer : Option Mark) : Type 0 where
     pub lows : List Mark
     pub count : length lows ≡ old.lanes
@@ -105,7 +105,7 @@ module _ (batch : ℕ) (every : Option ℕ) where
     pub times_are : times ≡ cut_times every from rounds
     pub lanes : LanesGrow (rounds_notes from rounds) old new
     pub parts : PlaysParts (4 * length rounds) old new
-    pub in_rounds : PartsInRounds (length rounds) old new
+    pub in_rounds : PartsGrowInRounds (length rounds) old new
 
   -- rounds, of which the last may have broken off, with cuts of these times: those that were due in the rounds before it, or in all. At the end
   -- nothing was played of it
@@ -118,7 +118,7 @@ module _ (batch : ℕ) (every : Option ℕ) where
     pub times_are : (times ≡ cut_times every from rounds) ⊎ (times ≡ cut_times every from (rounds ++ last ∷ []))
     pub lanes : (s : ℕ) → s < old.lanes → GrewFront (old.lane_notes s ++ rounds_notes from rounds s) (round_notes (place_after from rounds) last s) (new.lane_notes s)
     pub parts : PlaysParts (4 * suc (length rounds)) old new
-    pub in_rounds : PartsInRounds (suc (length rounds)) old new
+    pub in_rounds : PartsGrowInRounds (suc (length rounds)) old new
 
 -- ---- a cut
 -- each lane and part was snapped

@@ -3,7 +3,7 @@ use Rattle.std.specs.Prelude.{◌≡◌, ◌≢◌, ◌≤◌, ◌+◌, ◌^◌,
 use Rattle.eql_values.specs.declared.found.Holder.{Holder}
 use Rattle.eql_values.specs.declared.order.Mark.{Mark}
 use Rattle.eql_values.specs.declared.order.Mark.TheVariants.{Start, At, End}
-use Rattle.eql_laws.specs.Lateness.{AtMost}
+use Rattle.eql_laws.specs.Lateness.{IsAtMost}
 use Rattle.eql_lane.specs.declared.ops.LimitOf.TheVariants as limit
 use Rattle.eql_outside.specs.Moments.{History}
 use Rattle.eql_parts.specs.PartSteps.{Rules}
@@ -22,7 +22,7 @@ use Rattle.eql_conductor.specs.declared.stop.Stop.{Stop}
 use Rattle.eql_conductor.specs.declared.stop.Stop.TheVariants as stop
 use Rattle.eql_conductor.specs.Benches.{Known}
 use Rattle.eql_conductor.specs.Bounds.{RoundsSpend}
-use Rattle.eql_conductor.specs.LaneRounds.{LanesAt}
+use Rattle.eql_conductor.specs.LaneRounds.{LanesAreAt}
 use Rattle.eql_conductor.specs.PartRounds.{AreAtRest, AreSomehowFull}
 use Rattle.eql_conductor.specs.Rounds.{GoesTo, RoundRests}
 use Rattle.eql_conductor.specs.RunNotes.{NotesCut, Place, RoundBrokeOff, PlaysRound, PlaysRounds, NotesSaveFront, place, start}
@@ -44,7 +44,7 @@ end_of (Err by) = end_by by
 
 -- between two rounds: each lane handed out all that lies below a mark, the parts are at rest there, and the book is whole
 pub record IsAtMark (mark : Mark) (b : Known) (book : BookState) : Type 0 where
-  pub lanes : LanesAt None mark b
+  pub lanes : LanesAreAt None mark b
   pub parts : AreSomehowFull mark b
   pub whole : book.whole ≡ true
   pub numbers : BookKeepsNumbers book.kept
@@ -105,7 +105,7 @@ module _ {D : Type 0} (history : D → Option History) (count : D → ℕ) where
 
   -- between two rounds a cut was kept where one of this time is due: lanes and parts stay as they were at the mark
   pub record CutGoes (head : CutHead) (mark : Mark) (due : Option ℤ) (old new : Known) (book : BookState) (keep kept : Option (Keep D)) : Type 0 where
-    pub lanes : (texts : Option (List (List ℕ))) → LanesAt texts mark old → LanesAt texts mark new
+    pub lanes : (texts : Option (List (List ℕ))) → LanesAreAt texts mark old → LanesAreAt texts mark new
     pub parts : (rules : Rules) (all : List Holder) → AreAtRest rules all mark old → AreAtRest rules all mark new
     pub cut : Option Cut
     pub is : IfSome cut (IsTaken head mark old book)
@@ -161,7 +161,7 @@ module _ {D : Type 0} (history : D → Option History) (count : D → ℕ) where
     pub goes : GoesTo plan.mark at.mark old new book then before now
     pub cuts : List Cut
     pub are_cuts : All (IsRunCut plan.head plan.mark old book) cuts
-    pub at_most : All (λ (cut : Cut). AtMost (At cut.mark) at.mark) cuts
+    pub at_most : All (λ (cut : Cut). IsAtMost (At cut.mark) at.mark) cuts
     pub puts : KeepPuts cuts keep kept
     pub wrote : All (WroteLinesOf plan.mark old book before now) cuts
     pub rise : RiseFrom plan.mark cuts

@@ -8,14 +8,14 @@ use Rattle.eql_values.specs.Accepted.{Reads}
 use Rattle.eql_laws.specs.Alive.{alive_holders}
 use Rattle.eql_laws.specs.Belows.{between}
 use Rattle.eql_laws.specs.Counting.{greatest_bytes}
-use Rattle.eql_laws.specs.Lateness.{AtMost}
+use Rattle.eql_laws.specs.Lateness.{IsAtMost}
 use Rattle.eql_outside.specs.Moments.{History}
 use Rattle.eql_outside.specs.Outside.{Rose}
 use Rattle.eql_outside.specs.Plans.{FaultPlan}
 use Rattle.eql_outside.specs.Unfailing.{IsUnfailing}
 use Rattle.eql_outside.specs.Written.{WroteAll, WroteFront, WroteThrough}
 use Rattle.eql_lane.specs.declared.ops.LimitOf.TheVariants as limit
-use Rattle.eql_lane.specs.Lanes.{LaneState, OutOfLines}
+use Rattle.eql_lane.specs.Lanes.{IsOutOfLines, LaneState}
 use Rattle.eql_parts.specs.PartSteps.{Rules}
 use Rattle.eql_book.specs.Books.{BookState, book_after, held_back, kept_after, let_out}
 use Rattle.eql_book.specs.Listing.{listing}
@@ -34,9 +34,9 @@ use Rattle.eql_conductor.specs.declared.plan.RunPlan.{RunPlan}
 use Rattle.eql_conductor.specs.Benches.{Known, NoFeedFailed}
 use Rattle.eql_conductor.specs.Bounds.{AreSized}
 use Rattle.eql_conductor.specs.Going.{FailsAt, FaultRose}
-use Rattle.eql_conductor.specs.LaneRounds.{IsSafe, LanesAt}
+use Rattle.eql_conductor.specs.LaneRounds.{IsSafe, LanesAreAt}
 use Rattle.eql_conductor.specs.PartRounds.{AreAtRest, AreSomehowFull, pending_after}
-use Rattle.eql_conductor.specs.Rounds.{IsInRange, OfTexts, found_by}
+use Rattle.eql_conductor.specs.Rounds.{BenchIsOfTexts, IsInRange, found_by}
 use Rattle.eql_conductor.specs.Saving.{AreLanesOf, BookKeepsNumbers, IsHeadOf, PutsCuts}
 
 -- ---- how a run may begin
@@ -47,7 +47,7 @@ pub record MayRun (plan : RunPlan) (b : Known) (book : BookState) : Type 0 where
   pub batch_to : plan.batch ≤ 4096
   pub some_lane : 1 ≤ b.lanes
   pub before_end : plan.mark ≢ End
-  pub lanes : LanesAt None plan.mark b
+  pub lanes : LanesAreAt None plan.mark b
   pub sized : AreSized b
   pub parts : AreSomehowFull plan.mark b
   pub whole : book.whole ≡ true
@@ -76,9 +76,9 @@ lines_by End book found = whole_lines book found
 -- the run wrote all lines of the matches by all events from its mark on; each lane is closed and read to its end, and the book is whole
 pub record RanWhole (from : Mark) (old new : Known) (book then : BookState) (before now : Option (List ℕ)) : Type 0 where
   pub closed : (s : ℕ) → s < new.lanes → (x : LaneState) → new.lane s x → x.cut.closed ≡ true
-  pub lanes : (texts : Option (List (List ℕ))) → LanesAt texts from old → LanesAt texts End new
+  pub lanes : (texts : Option (List (List ℕ))) → LanesAreAt texts from old → LanesAreAt texts End new
   pub whole : then.whole ≡ true
-  pub told : (reads : Reads) (slack : Option ℤ) (texts : List (List ℕ)) (rules : Rules) (all : List Holder) → OfTexts reads slack texts from old → AreAtRest rules all from old
+  pub told : (reads : Reads) (slack : Option ℤ) (texts : List (List ℕ)) (rules : Rules) (all : List Holder) → BenchIsOfTexts reads slack texts from old → AreAtRest rules all from old
       → WroteAll (whole_lines book (found_by rules all (between reads slack texts from End))) before now
 
 -- what was written by a run that stopped at a mark: a front of that; and where the book is whole, it was given the matches by the events below
@@ -90,10 +90,10 @@ pub record RunStopsAt (rules : Rules) (all : List Holder) (reads : Reads) (slack
 -- the run stopped, at a mark that is safe and at least that of each cut
 pub record RunStops (from : Mark) (old new : Known) (book then : BookState) (before now : Option (List ℕ)) (cuts : List Cut) : Type 0 where
   pub mark : Mark
-  pub later : AtMost from mark
+  pub later : IsAtMost from mark
   pub safe : IsSafe mark new
-  pub after_cuts : All (λ (cut : Cut). AtMost (At cut.mark) mark) cuts
-  pub told : (reads : Reads) (slack : Option ℤ) (texts : List (List ℕ)) (rules : Rules) (all : List Holder) → OfTexts reads slack texts from old → AreAtRest rules all from old
+  pub after_cuts : All (λ (cut : Cut). IsAtMost (At cut.mark) mark) cuts
+  pub told : (reads : Reads) (slack : Option ℤ) (texts : List (List ℕ)) (rules : Rules) (all : List Holder) → BenchIsOfTexts reads slack texts from old → AreAtRest rules all from old
       → RunStopsAt rules all reads slack texts from mark book then before now
 
 abbrev pub RunIs : (from : Mark) (old new : Known) (book then : BookState) (before now : Option (List ℕ)) (cuts : List Cut) → Ends → Type 0
@@ -113,14 +113,14 @@ pub record IsCutOf (rules : Rules) (all : List Holder) (reads : Reads) (slack : 
 pub record IsRunCut (head : CutHead) (from : Mark) (old : Known) (book : BookState) (cut : Cut) : Type 0 where
   pub head_is : cut.head ≡ head
   pub is_cut : IsCut cut
-  pub later : AtMost from (At cut.mark)
-  pub told : (reads : Reads) (slack : Option ℤ) (texts : List (List ℕ)) (rules : Rules) (all : List Holder) → OfTexts reads slack texts from old → AreAtRest rules all from old
+  pub later : IsAtMost from (At cut.mark)
+  pub told : (reads : Reads) (slack : Option ℤ) (texts : List (List ℕ)) (rules : Rules) (all : List Holder) → BenchIsOfTexts reads slack texts from old → AreAtRest rules all from old
       → IsCutOf rules all reads slack texts from book cut
 
 -- the lines that a cut counts, of told texts, were written, and perhaps more behind them
 abbrev pub WroteLinesOf : (from : Mark) (old : Known) (book : BookState) (before now : Option (List ℕ)) → Cut → Type 0
 WroteLinesOf from old book before now cut =
-    (reads : Reads) (slack : Option ℤ) (texts : List (List ℕ)) (rules : Rules) (all : List Holder) → OfTexts reads slack texts from old → AreAtRest rules all from old
+    (reads : Reads) (slack : Option ℤ) (texts : List (List ℕ)) (rules : Rules) (all : List Holder) → BenchIsOfTexts reads slack texts from old → AreAtRest rules all from old
     → WroteThrough (lines_before_end book (found_by rules all (between reads slack texts from (At cut.mark)))) before now
 
 abbrev pub cut_time : Cut → ℤ
@@ -152,7 +152,7 @@ EndsBy (end.ReadFault s) old new sb sn db dn = (s < old.lanes) × FaultRose s ol
 EndsBy end.WriteFault old new sb sn db dn = NoFeedFailed old new × (new.worn ≡ old.worn) × (Rose sb sn × (sb ≤ sn)) × (dn ≡ db)
 EndsBy end.DiskFault old new sb sn db dn = NoFeedFailed old new × (new.worn ≡ old.worn) × (sn ≡ sb) × (Rose db dn × (db ≤ dn))
 EndsBy end.Memory old new sb sn db dn = NoFeedFailed old new × (new.worn ≡ old.worn) × (sn ≡ sb) × (dn ≡ db)
-EndsBy (end.Limit (limit.Lines s)) old new sb sn db dn = (s < old.lanes) × ((y : LaneState) → new.lane s y → OutOfLines (old.set s) y) × NoFeedFailed old new × (new.worn ≡ old.worn) × (sn ≡ sb) × (dn ≡ db)
+EndsBy (end.Limit (limit.Lines s)) old new sb sn db dn = (s < old.lanes) × ((y : LaneState) → new.lane s y → IsOutOfLines (old.set s) y) × NoFeedFailed old new × (new.worn ≡ old.worn) × (sn ≡ sb) × (dn ≡ db)
 EndsBy (end.Limit (limit.Bytes s)) old new sb sn db dn = (s < old.lanes) × ((y : LaneState) → new.lane s y → y.taken ≡ greatest_bytes) × NoFeedFailed old new × (new.worn ≡ old.worn) × (sn ≡ sb) × (dn ≡ db)
 EndsBy (end.Limit limit.Turns) old new sb sn db dn = (old.worn < new.worn) × NoFeedFailed old new × (sn ≡ sb) × (dn ≡ db)
 EndsBy (end.Limit limit.Generation) old new sb sn db dn = NoFeedFailed old new × (new.worn ≡ old.worn) × (sn ≡ sb) × (dn ≡ db)
@@ -169,7 +169,7 @@ module _ {D : Type 0} (history : D → Option History) (count : D → ℕ) where
   disk_faults None = 0
   disk_faults (Some k) = count k.disk
 
-  -- cuts are kept exactly where the plan says how often
+  -- cuts are kept exactly when the plan says how often
   abbrev pub MayKeepIf : RunPlan → Known → Option (Keep D) → Type 0
   MayKeepIf plan b None = plan.every ≡ None
   MayKeepIf plan b (Some k) = (plan.every ≢ None) × MayKeep plan b k.state (history k.disk)

@@ -26,7 +26,7 @@ use Rattle.eql_ckdisk.specs.Runs.{PutsAll}
 use Rattle.eql_parts.specs.PartSteps.{Rules}
 use Rattle.eql_conductor.specs.Benches.{Known}
 use Rattle.eql_conductor.specs.PartRounds.{AreAtRest, pending_after}
-use Rattle.eql_conductor.specs.Rounds.{OfTexts}
+use Rattle.eql_conductor.specs.Rounds.{BenchIsOfTexts}
 
 -- what a pipe keeps stands in order of its numbers, and is of matches that were found
 pub record KeepsNumbers (found : ℕ) (s : PipeState) : Type 0 where
@@ -57,7 +57,7 @@ pub record IsSavedAt (head : CutHead) (time : ℤ) (b : Known) (book : BookState
   pub mark_is : cut.mark ≡ time
   pub book_is : cut.book ≡ book.kept
   pub is_cut : IsCut cut
-  pub lanes : (reads : Reads) (slack : Option ℤ) (texts : List (List ℕ)) → OfTexts reads slack texts (At time) b → AreLanesOf reads slack texts time cut.lanes
+  pub lanes : (reads : Reads) (slack : Option ℤ) (texts : List (List ℕ)) → BenchIsOfTexts reads slack texts (At time) b → AreLanesOf reads slack texts time cut.lanes
   pub holders : (rules : Rules) (all : List Holder) → AreAtRest rules all (At time) b → cut.holders ≡ alive_holders rules.span time (pending_after rules all [])
 
 -- the disk before and after cuts were put, one after another

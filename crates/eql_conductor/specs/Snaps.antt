@@ -14,7 +14,7 @@ use Rattle.eql_lane.specs.Lanes.{Setting, LaneState}
 use Rattle.eql_cut.specs.declared.cut.Cut.{Cut}
 use Rattle.eql_parts.specs.PartSteps.{Rules}
 use Rattle.eql_parts.specs.Spreading.{part_number}
-use Rattle.eql_rounds.specs.LaneRounds.{LaneAt}
+use Rattle.eql_rounds.specs.LaneRounds.{LaneIsAt}
 use Rattle.eql_conductor.specs.Benches.{Known}
 use Rattle.eql_conductor.specs.LaneRounds.{text_at}
 use Rattle.eql_conductor.specs.PartRounds.{pending_after}
@@ -23,7 +23,7 @@ use Rattle.eql_conductor.specs.PartRounds.{pending_after}
 -- what a cut keeps of a lane in a state of which this is known
 pub record IsSnap (text : Option (List ℕ)) (set : Setting) (mark : Mark) (cut : LaneCut) : Type 0 where
   pub state : LaneState
-  pub at : LaneAt text set mark state
+  pub at : LaneIsAt text set mark state
   pub cut_is : cut ≡ state.cut
 
 -- what it keeps of lanes, of which the first is this one

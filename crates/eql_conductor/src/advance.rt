@@ -1,7 +1,7 @@
 //! A round of the conductor: the lanes are fed and looked at, and where the least low is greater than the last mark, what lies
 //! below it is taken and played, and what is found is given to the book.
 ghost use Rattle.std.specs.Prelude.{◌≡◌, ◌≢◌, ◌≤◌, None, Err, false, true, IfErr, IfOk, OnErr, OnOk};
-ghost use Rattle.eql_laws.specs.Lateness.{AtMost};
+ghost use Rattle.eql_laws.specs.Lateness.{IsAtMost};
 ghost use Rattle.eql_outside.specs.Outside.{Rose};
 ghost use Rattle.eql_outside.specs.Unfailing.{IsUnfailing};
 ghost use Rattle.eql_outside.specs.Written.{WroteFront};
@@ -10,10 +10,10 @@ ghost use Rattle.eql_book.specs.Listing.{listing};
 ghost use Rattle.eql_conductor.specs.declared.stop.Stop.TheVariants.{Write as SinkFailed};
 ghost use Rattle.eql_conductor.specs.Bounds.{AllGaveOut, RoundSpends};
 ghost use Rattle.eql_conductor.specs.Going.{LanesGo, Went};
-ghost use Rattle.eql_conductor.specs.LaneRounds.{IsSafe, LanesAt};
+ghost use Rattle.eql_conductor.specs.LaneRounds.{IsSafe, LanesAreAt};
 ghost use Rattle.eql_conductor.specs.PartRounds.{AreSomehowAtRest};
 ghost use Rattle.eql_conductor.specs.RoundNotes.{NotesAdvanceFront, NotesAdvance, NotesRoundFront, NotesRound};
-ghost use Rattle.eql_conductor.specs.Rounds.{CountsInRange, Gave, RoundBreaks, GoesTo, RoundIs, RoundStops, StopsAt, StopsOut};
+ghost use Rattle.eql_conductor.specs.Rounds.{CountsAreInRange, Gave, RoundBreaks, GoesTo, RoundIs, RoundStops, StopsAt, StopsOut};
 
 use crate::bench::Bench;
 use crate::feeding::{feed_all, look_all};
@@ -66,9 +66,9 @@ fn advance<B: Bench, K: Sink>(
     batch: u32,
 ) -> Result<(), Stop>
     requires batch { (1 ≤ batch) × (batch ≤ 4096) }
-    requires lanes { LanesAt None last (B.known bench.old) }
+    requires lanes { LanesAreAt None last (B.known bench.old) }
     requires safe { IsSafe mark (B.known bench.old) }
-    requires later { AtMost last mark }
+    requires later { IsAtMost last mark }
     requires some { AreSomehowAtRest last (B.known bench.old) }
     requires whole { book.old.whole ≡ true }
     ensures round { OnOk result (GoesTo last mark (B.known bench.old) (B.known bench.new)
@@ -96,7 +96,7 @@ fn advance<B: Bench, K: Sink>(
     add_found(alloc, book, found, sink)
 }
 
-/// Plays one round. The answer is its mark where it counts: where the least low is greater than
+/// Plays one round. Returns its mark where it counts: where the least low is greater than
 /// the last mark.
 pub(crate) fn play_round<B: Bench, K: Sink>(
     alloc: Global,
@@ -107,7 +107,7 @@ pub(crate) fn play_round<B: Bench, K: Sink>(
     batch: u32,
 ) -> Result<Option<Mark>, Stop>
     requires batch { (1 ≤ batch) × (batch ≤ 4096) }
-    requires lanes { LanesAt None last (B.known bench.old) }
+    requires lanes { LanesAreAt None last (B.known bench.old) }
     requires some { AreSomehowAtRest last (B.known bench.old) }
     requires whole { book.old.whole ≡ true }
     ensures round { IfOk result (RoundIs last (B.known bench.old) (B.known bench.new)
@@ -124,7 +124,7 @@ pub(crate) fn play_round<B: Bench, K: Sink>(
         → K.fault_count sink.new ≡ K.fault_count sink.old }
     ensures counts { K.fault_count sink.old ≤ K.fault_count sink.new }
     ensures spends { IfOk result (RoundSpends last (B.known bench.old) (B.known bench.new)) }
-    ensures in_range { IfOk result (CountsInRange last (B.known bench.old)) }
+    ensures in_range { IfOk result (CountsAreInRange last (B.known bench.old)) }
     ensures notes { IfOk result (NotesRound last batch (B.known bench.old) (B.known bench.new)) }
     ensures broken_notes { OnErr result (NotesRoundFront last batch
         (B.known bench.old) (B.known bench.new)) }

@@ -91,7 +91,7 @@ fn look_one<B: Bench>(bench: &mut B, s: u32) -> Result<Mark, Stop>
     }
 }
 
-/// Looks at each lane. The answer is the least low.
+/// Looks at each lane. Returns the least low.
 pub(crate) fn look_all<B: Bench>(bench: &mut B) -> Result<Mark, Stop>
     ensures rests { Rests (B.known bench.old) (B.known bench.new) }
     ensures safe { IfOk result (λ mark. IsSafe mark (B.known bench.new)) }

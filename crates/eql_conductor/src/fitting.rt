@@ -3,7 +3,7 @@
 ghost use Rattle.std.specs.Prelude.{◌≡◌, ◌++◌, ◌∷◌, [], map, All, IfOk, OnOk};
 ghost use Rattle.eql_values.specs.Accepted.{sorted_items};
 ghost use Rattle.eql_values.specs.Ascending.{Ascend};
-ghost use Rattle.eql_laws.specs.Apart.{AllApart, joined};
+ghost use Rattle.eql_laws.specs.Apart.{AllAreApart, joined};
 ghost use Rattle.eql_conductor.specs.Fitting.{fitting, has_routes};
 
 use eql_merge::merge;
@@ -40,7 +40,7 @@ fn keep_all_fitting(alloc: Global, lists: ItemLists) -> Result<ItemLists, Memory
 /// Of all events of the lists those that have routes, in ascending order.
 pub(crate) fn merge_fitting(alloc: Global, lists: ItemLists) -> Result<Items, Memory>
     requires ascend { All Ascend lists }
-    requires apart { AllApart lists }
+    requires apart { AllAreApart lists }
     ensures { IfOk result (λ items. items ≡ fitting (sorted_items (joined lists))) }
 {
     let kept = keep_all_fitting(alloc, lists)?;

@@ -1,6 +1,6 @@
 //! Laws of the opening of runs, of what they list, and of their cuts. Each is the contract of a
 //! function that does nothing.
-ghost use Rattle.eql_conductor.specs.Openings.{CutRunsBegin, CutRunsHaveTexts, FitIsSafe, FitMayBegin, FreshRunsBegin, SafeByPlaces};
+ghost use Rattle.eql_conductor.specs.Openings.{CutRunsBegin, CutRunsHaveTexts, FitIsSafe, FitMayBegin, FreshRunsBegin, PlacesMakeSafe};
 ghost use Rattle.eql_conductor.specs.RunLaws.{CutHavePlayed, CutRunsAreTold, FreshHavePlayed, FreshListsAll, FreshRunsAreTold, RunCutsAreOfTexts, RunCutsAreSafe, RunCutsFit, RunsStopInLines, RunsWriteLines};
 
 use crate::bench::Bench;
@@ -26,7 +26,7 @@ pub fn cuts_may_begin()
 /// The time of a cut that fits is safe, and so is one that is at most the low at each place.
 pub fn cut_times_are_safe()
     ensures fitting { FitIsSafe }
-    ensures places { SafeByPlaces }
+    ensures places { PlacesMakeSafe }
 {}
 
 /// Where a run begins, all events below its mark were played: none where it begins afresh, and

@@ -7,7 +7,7 @@ ghost use Rattle.eql_values.specs.Routing.{routed};
 ghost use Rattle.eql_parts.specs.PartSteps.{CanDeliver, Rules};
 ghost use Rattle.eql_parts.specs.Spreading.{part_number};
 ghost use Rattle.eql_rounds.specs.Finding.{found_of};
-ghost use Rattle.eql_conductor.specs.Benches.{LanesRest, Same};
+ghost use Rattle.eql_conductor.specs.Benches.{LanesRest, StaysSame};
 ghost use Rattle.eql_conductor.specs.Going.{StopsBy, Went};
 ghost use Rattle.eql_conductor.specs.PartRounds.{AreCollected, AreDelivered, FewerWait, AreAtRest, AreSomehowCollected, AreSomehowDelivered, AreSomehowAtRest, AreSomehowPlayed, TurnGoes, ArePlayed, WaitAtMost, pending_after};
 ghost use Rattle.eql_conductor.specs.RoundNotes.{NotesPart, NotesParts, NotesTurn, delivered_to};
@@ -36,7 +36,7 @@ fn deliver_one<B: Bench>(
     ensures parts { (rules : Rules) (all : List Holder)
         → AreDelivered rules all items.now last mark p (B.known bench.old)
         → OnOk result (AreDelivered rules all items.now last mark (p + 1) (B.known bench.new)) }
-    ensures same { Same (B.known bench.old) (B.known bench.new) }
+    ensures same { StaysSame (B.known bench.old) (B.known bench.new) }
     ensures lanes { LanesRest (B.known bench.old) (B.known bench.new) }
     ensures went { OnOk result (Went (B.known bench.old) (B.known bench.new)) }
     ensures stops { IfErr result (λ stop. StopsBy stop (B.known bench.old) (B.known bench.new)) }
@@ -63,7 +63,7 @@ pub(crate) fn deliver_all<B: Bench>(
     ensures parts { (rules : Rules) (all : List Holder)
         → AreAtRest rules all last (B.known bench.old)
         → OnOk result (ArePlayed rules all items.now mark 0 (B.known bench.new)) }
-    ensures same { Same (B.known bench.old) (B.known bench.new) }
+    ensures same { StaysSame (B.known bench.old) (B.known bench.new) }
     ensures lanes { LanesRest (B.known bench.old) (B.known bench.new) }
     ensures went { OnOk result (Went (B.known bench.old) (B.known bench.new)) }
     ensures stops { IfErr result (λ stop. StopsBy stop (B.known bench.old) (B.known bench.new)) }
@@ -83,7 +83,7 @@ pub(crate) fn deliver_all<B: Bench>(
     Ok(())
 }
 
-// Turns one part once, at which at most so many events wait. The answer is how many may wait now,
+// Turns one part once, at which at most so many events wait. Returns how many may wait now,
 // if some may.
 fn turn_once<B: Bench>(
     bench: &mut B,
@@ -101,7 +101,7 @@ fn turn_once<B: Bench>(
     ensures parts { (rules : Rules) (all : List Holder)
         → ArePlayed rules all items.now mark p (B.known bench.old)
         → IfOk result (TurnGoes rules all items.now mark p (B.known bench.new)) }
-    ensures same { Same (B.known bench.old) (B.known bench.new) }
+    ensures same { StaysSame (B.known bench.old) (B.known bench.new) }
     ensures lanes { LanesRest (B.known bench.old) (B.known bench.new) }
     ensures went { OnOk result (Went (B.known bench.old) (B.known bench.new)) }
     ensures stops { IfErr result (λ stop. StopsBy stop (B.known bench.old) (B.known bench.new)) }
@@ -133,7 +133,7 @@ fn turn_one<B: Bench>(
     ensures parts { (rules : Rules) (all : List Holder)
         → ArePlayed rules all items.now mark p (B.known bench.old)
         → OnOk result (ArePlayed rules all items.now mark (p + 1) (B.known bench.new)) }
-    ensures same { Same (B.known bench.old) (B.known bench.new) }
+    ensures same { StaysSame (B.known bench.old) (B.known bench.new) }
     ensures lanes { LanesRest (B.known bench.old) (B.known bench.new) }
     ensures went { OnOk result (Went (B.known bench.old) (B.known bench.new)) }
     ensures stops { IfErr result (λ stop. StopsBy stop (B.known bench.old) (B.known bench.new)) }
@@ -161,7 +161,7 @@ pub(crate) fn turn_all<B: Bench>(
     ensures parts { (rules : Rules) (all : List Holder)
         → ArePlayed rules all items.now mark 0 (B.known bench.old)
         → OnOk result (AreCollected rules all items.now mark 0 (B.known bench.new)) }
-    ensures same { Same (B.known bench.old) (B.known bench.new) }
+    ensures same { StaysSame (B.known bench.old) (B.known bench.new) }
     ensures lanes { LanesRest (B.known bench.old) (B.known bench.new) }
     ensures went { OnOk result (Went (B.known bench.old) (B.known bench.new)) }
     ensures stops { IfErr result (λ stop. StopsBy stop (B.known bench.old) (B.known bench.new)) }
@@ -185,7 +185,7 @@ fn collect_one<B: Bench>(bench: &mut B, p: u32, items: &Items, mark: Mark) -> Re
     ensures parts { (rules : Rules) (all : List Holder)
         → AreCollected rules all items.now mark p (B.known bench.old)
         → OnOk result (AreCollected rules all items.now mark (p + 1) (B.known bench.new)) }
-    ensures same { Same (B.known bench.old) (B.known bench.new) }
+    ensures same { StaysSame (B.known bench.old) (B.known bench.new) }
     ensures lanes { LanesRest (B.known bench.old) (B.known bench.new) }
     ensures went { OnOk result (Went (B.known bench.old) (B.known bench.new)) }
     ensures stops { IfErr result (λ stop. StopsBy stop (B.known bench.old) (B.known bench.new)) }
@@ -224,7 +224,7 @@ pub(crate) fn collect_all<B: Bench>(
         → AreCollected rules all items.now mark 0 (B.known bench.old)
         → OnOk result (AreAtRest rules (pending_after rules all items.now) mark
         (B.known bench.new)) }
-    ensures same { Same (B.known bench.old) (B.known bench.new) }
+    ensures same { StaysSame (B.known bench.old) (B.known bench.new) }
     ensures lanes { LanesRest (B.known bench.old) (B.known bench.new) }
     ensures went { OnOk result (Went (B.known bench.old) (B.known bench.new)) }
     ensures stops { IfErr result (λ stop. StopsBy stop (B.known bench.old) (B.known bench.new)) }

@@ -2,14 +2,14 @@
 //! put in order and played by the parts. What they find is put in order.
 ghost use Rattle.std.specs.Prelude.{◌≡◌, ◌≤◌, ◌∷◌, [], ℕ, List, Option, None, IfErr, IfOk, OnErr, OnOk};
 ghost use Rattle.eql_values.specs.declared.found.Holder.{Holder};
-ghost use Rattle.eql_laws.specs.Lateness.{AtMost};
+ghost use Rattle.eql_laws.specs.Lateness.{IsAtMost};
 ghost use Rattle.eql_parts.specs.PartSteps.{CanDeliver, Rules};
-ghost use Rattle.eql_conductor.specs.Benches.{LanesRest, PartsRest, Same};
+ghost use Rattle.eql_conductor.specs.Benches.{LanesRest, PartsRest, StaysSame};
 ghost use Rattle.eql_conductor.specs.Bounds.{AllGaveOut};
 ghost use Rattle.eql_conductor.specs.Fitting.{TakesFitting};
 ghost use Rattle.eql_conductor.specs.Going.{LanesGo, StopsBy, Went};
 ghost use Rattle.eql_conductor.specs.Handed.{AllHandOut};
-ghost use Rattle.eql_conductor.specs.LaneRounds.{IsSafe, LanesAt};
+ghost use Rattle.eql_conductor.specs.LaneRounds.{IsSafe, LanesAreAt};
 ghost use Rattle.eql_conductor.specs.PartRounds.{AreAtRest, AreSomehowAtRest, pending_after};
 ghost use Rattle.eql_conductor.specs.RoundNotes.{NotesLanesFront, NotesLanes, NotesParts, delivered_to};
 ghost use Rattle.eql_conductor.specs.Rounds.{found_by};
@@ -31,13 +31,13 @@ pub(crate) fn take_in_order<B: Bench>(
     last: Mark,
     mark: Mark,
 ) -> Result<Items, Stop>
-    requires lanes { LanesAt None last (B.known bench.old) }
+    requires lanes { LanesAreAt None last (B.known bench.old) }
     requires safe { IsSafe mark (B.known bench.old) }
-    requires later { AtMost last mark }
+    requires later { IsAtMost last mark }
     ensures taken { IfOk result (TakesFitting last mark
         (B.known bench.old) (B.known bench.new)) }
-    ensures lanes { (texts : Option (List (List ℕ))) → LanesAt texts last (B.known bench.old)
-        → OnOk result (LanesAt texts mark (B.known bench.new)) }
+    ensures lanes { (texts : Option (List (List ℕ))) → LanesAreAt texts last (B.known bench.old)
+        → OnOk result (LanesAreAt texts mark (B.known bench.new)) }
     ensures goes { LanesGo (B.known bench.old) (B.known bench.new) }
     ensures parts { PartsRest (B.known bench.old) (B.known bench.new) }
     ensures went { OnOk result (Went (B.known bench.old) (B.known bench.new)) }
@@ -56,7 +56,7 @@ pub(crate) fn take_in_order<B: Bench>(
     }
 }
 
-/// Has the events played by the parts. The answer is what they find, in order.
+/// Has the events played by the parts. Returns what they find, in order.
 pub(crate) fn play_parts<B: Bench>(
     alloc: Global,
     bench: &mut B,
@@ -75,7 +75,7 @@ pub(crate) fn play_parts<B: Bench>(
         → AreAtRest rules all last (B.known bench.old)
         → OnOk result (AreAtRest rules (pending_after rules all items.now) mark
         (B.known bench.new)) }
-    ensures same { Same (B.known bench.old) (B.known bench.new) }
+    ensures same { StaysSame (B.known bench.old) (B.known bench.new) }
     ensures lanes { LanesRest (B.known bench.old) (B.known bench.new) }
     ensures went { OnOk result (Went (B.known bench.old) (B.known bench.new)) }
     ensures stops { IfErr result (λ stop. StopsBy stop (B.known bench.old) (B.known bench.new)) }

@@ -161,13 +161,13 @@ impl Conductor {
         ensures ran { Ran D.history D.fault_count plan.now (B.known bench.old) (B.known bench.new)
             book.old book.new (K.written sink.old) (K.written sink.new) keep.old keep.new result }
 
-        // Why it ended. No count of faults rises but where its fault is the answer.
+        // Why it ended. No count of faults rises but where its fault is returned.
         ensures cause { EndsBy result (B.known bench.old) (B.known bench.new)
             (K.fault_count sink.old) (K.fault_count sink.new)
             (disk_faults D.history D.fault_count keep.old)
             (disk_faults D.history D.fault_count keep.new) }
 
-        // What no answer changes of the lanes and parts, and that no count or low of a lane falls.
+        // What stays of the lanes and parts whatever is returned, and that no count or low of a lane falls.
         ensures goes { LanesGo (B.known bench.old) (B.known bench.new) }
         ensures silent { K.written sink.old ≡ None → K.written sink.new ≡ None }
 

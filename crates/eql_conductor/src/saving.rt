@@ -13,7 +13,7 @@ ghost use Rattle.eql_ckdisk.specs.Putting.{Stands, last_cut};
 ghost use Rattle.eql_conductor.specs.declared.stop.Stop.TheVariants.{Disk as DiskFailed, Limit as AtLimit, Memory as OutOfMemory};
 ghost use Rattle.eql_conductor.specs.Benches.{Rests};
 ghost use Rattle.eql_conductor.specs.Going.{LanesGo, StopsBy, Went};
-ghost use Rattle.eql_conductor.specs.LaneRounds.{LanesAt};
+ghost use Rattle.eql_conductor.specs.LaneRounds.{LanesAreAt};
 ghost use Rattle.eql_conductor.specs.PartRounds.{AreAtRest, AreSomehowFull};
 ghost use Rattle.eql_conductor.specs.RunNotes.{NotesSaveFront, NotesSave};
 ghost use Rattle.eql_conductor.specs.Rounds.{StopsKeeping, StopsSaving};
@@ -85,7 +85,7 @@ fn take_cut<B: Bench>(
     book: &Book,
     time: i128,
 ) -> Result<Cut, Stop>
-    requires lanes { LanesAt None (AtTime time) (B.known bench.old) }
+    requires lanes { LanesAreAt None (AtTime time) (B.known bench.old) }
     requires some { AreSomehowFull (AtTime time) (B.known bench.old) }
     requires whole { book.now.whole ≡ true }
     requires numbers { BookKeepsNumbers book.now.kept }
@@ -152,15 +152,15 @@ pub(crate) fn save<B: Bench, D: Disk>(
     keep: &mut Keep<D>,
     time: i128,
 ) -> Result<(), Stop>
-    requires lanes { LanesAt None (AtTime time) (B.known bench.old) }
+    requires lanes { LanesAreAt None (AtTime time) (B.known bench.old) }
     requires some { AreSomehowFull (AtTime time) (B.known bench.old) }
     requires whole { book.now.whole ≡ true }
     requires numbers { BookKeepsNumbers book.now.kept }
     requires head { IsHeadOf head.now (B.known bench.old) }
     requires stands { Stands (last_cut keep.old.state) (D.history keep.old.disk) }
     ensures lanes { (texts : Option (List (List ℕ)))
-        → LanesAt texts (AtTime time) (B.known bench.old)
-        → OnOk result (LanesAt texts (AtTime time) (B.known bench.new)) }
+        → LanesAreAt texts (AtTime time) (B.known bench.old)
+        → OnOk result (LanesAreAt texts (AtTime time) (B.known bench.new)) }
     ensures parts { (rules : Rules) (all : List Holder)
         → AreAtRest rules all (AtTime time) (B.known bench.old)
         → OnOk result (AreAtRest rules all (AtTime time) (B.known bench.new)) }

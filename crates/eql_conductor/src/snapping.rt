@@ -4,12 +4,12 @@ ghost use Rattle.eql_values.specs.declared.found.Holder.{Holder};
 ghost use Rattle.eql_values.specs.declared.order.Mark.{Mark};
 ghost use Rattle.eql_values.specs.declared.order.Mark.TheVariants.{At as AtTime};
 ghost use Rattle.eql_values.specs.Ordered.{numbers};
-ghost use Rattle.eql_laws.specs.Alive.{HoldersInOrder, alive_holders};
+ghost use Rattle.eql_laws.specs.Alive.{HoldersAreInOrder, alive_holders};
 ghost use Rattle.eql_laws.specs.Shapes.{IsFull};
 ghost use Rattle.eql_parts.specs.PartSteps.{Rules};
 ghost use Rattle.eql_conductor.specs.Benches.{Rests};
 ghost use Rattle.eql_conductor.specs.Going.{StopsBy, Went};
-ghost use Rattle.eql_conductor.specs.LaneRounds.{LanesAt, text_at};
+ghost use Rattle.eql_conductor.specs.LaneRounds.{LanesAreAt, text_at};
 ghost use Rattle.eql_conductor.specs.PartRounds.{AreAtRest, AreSomehowFull, pending_after};
 ghost use Rattle.eql_conductor.specs.RoundNotes.{NotesLaneFront, NotesLane, NotesLanesFront, NotesLanes, NotesPart, NotesParts};
 ghost use Rattle.eql_conductor.specs.declared.note.Note.TheVariants.{Snapped};
@@ -30,7 +30,7 @@ fn snap_lane<B: Bench>(bench: &mut B, s: u32) -> Result<LaneCut, Stop>
     requires place { s < (B.known bench.old).lanes }
     ensures rests { Rests (B.known bench.old) (B.known bench.new) }
     ensures snap { (texts : Option (List (List ℕ))) (mark : Mark)
-        → LanesAt texts mark (B.known bench.old)
+        → LanesAreAt texts mark (B.known bench.old)
         → IfOk result (λ cut. IsSnap (text_at texts s) ((B.known bench.old).set s) mark cut) }
     ensures went { OnOk result (Went (B.known bench.old) (B.known bench.new)) }
     ensures stops { IfErr result (λ stop. StopsBy stop (B.known bench.old) (B.known bench.new)) }
@@ -62,7 +62,7 @@ fn add_cut(cuts: &mut Vec<LaneCut>, cut: LaneCut) -> Result<(), Stop>
 pub(crate) fn snap_lanes<B: Bench>(alloc: Global, bench: &mut B) -> Result<LaneCuts, Stop>
     ensures rests { Rests (B.known bench.old) (B.known bench.new) }
     ensures snaps { (texts : Option (List (List ℕ))) (mark : Mark)
-        → LanesAt texts mark (B.known bench.old)
+        → LanesAreAt texts mark (B.known bench.old)
         → IfOk result (λ cuts. SnapsAll texts mark (B.known bench.old) cuts) }
     ensures went { OnOk result (Went (B.known bench.old) (B.known bench.new)) }
     ensures stops { IfErr result (λ stop. StopsBy stop (B.known bench.old) (B.known bench.new)) }
@@ -141,7 +141,7 @@ pub(crate) fn snap_parts<B: Bench>(
     ensures held { (rules : Rules) (all : List Holder)
         → AreAtRest rules all (AtTime time) (B.known bench.old)
         → IfOk result (λ held. held ≡ alive_holders rules.span time (pending_after rules all [])) }
-    ensures in_order { IfOk result (λ held. HoldersInOrder held) }
+    ensures in_order { IfOk result (λ held. HoldersAreInOrder held) }
     ensures full { IfOk result (λ held. All IsFull held) }
     ensures went { OnOk result (Went (B.known bench.old) (B.known bench.new)) }
     ensures stops { IfErr result (λ stop. StopsBy stop (B.known bench.old) (B.known bench.new)) }

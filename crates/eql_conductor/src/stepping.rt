@@ -18,8 +18,8 @@ use eql_outside::{Disk, Sink};
 use eql_values::Mark;
 use std::alloc::Global;
 
-/// Plays one round after so many that counted, and keeps a cut where it counts and one is due. The
-/// answer is the round's mark where it counts.
+/// Plays one round after so many that counted, and keeps a cut where it counts and one is due.
+/// Returns the round's mark where it counts.
 pub(crate) fn play_and_keep<B: Bench, K: Sink, D: Disk>(
     alloc: Global,
     plan: &RunPlan,

@@ -1,11 +1,11 @@
 //! The lanes' half of a round, from the mark on: what lies below it is taken from each lane.
 ghost use Rattle.std.specs.Prelude.{◌≡◌, ◌<◌, ◌+◌, ◌∷◌, ◌++◌, [], ℕ, List, Option, None, length, IfErr, IfOk, OnErr, OnOk};
-ghost use Rattle.eql_laws.specs.Lateness.{AtMost};
+ghost use Rattle.eql_laws.specs.Lateness.{IsAtMost};
 ghost use Rattle.eql_rounds.specs.LaneRounds.{HandsOver};
 ghost use Rattle.eql_conductor.specs.Benches.{PartsRest};
 ghost use Rattle.eql_conductor.specs.Bounds.{AllGaveOut, OneGaveOut};
 ghost use Rattle.eql_conductor.specs.Going.{LanesGo, StopsBy, Went};
-ghost use Rattle.eql_conductor.specs.LaneRounds.{AllHandOver, IsSafe, LanesAt, AreTakenTo, text_at};
+ghost use Rattle.eql_conductor.specs.LaneRounds.{AllHandOver, IsSafe, LanesAreAt, AreTakenTo, text_at};
 ghost use Rattle.eql_conductor.specs.Handed.{AllHandOut, LaneHands, LanesHand, sizes};
 ghost use Rattle.eql_conductor.specs.RoundNotes.{NotesLaneFront, NotesLane, NotesLanesFront, NotesLanes};
 ghost use Rattle.eql_conductor.specs.declared.note.Note.TheVariants.{Took};
@@ -23,7 +23,7 @@ fn take_one<B: Bench>(bench: &mut B, s: u32, last: Mark, mark: Mark) -> Result<I
     requires place { s < (B.known bench.old).lanes }
     requires lanes { AreTakenTo None s last mark (B.known bench.old) }
     requires safe { IsSafe mark (B.known bench.old) }
-    requires later { AtMost last mark }
+    requires later { IsAtMost last mark }
     ensures hands { (texts : Option (List (List ℕ)))
         → AreTakenTo texts s last mark (B.known bench.old)
         → IfOk result (HandsOver (text_at texts s) ((B.known bench.old).set s) last mark) }
@@ -70,13 +70,13 @@ pub(crate) fn take_all<B: Bench>(
     last: Mark,
     mark: Mark,
 ) -> Result<ItemLists, Stop>
-    requires lanes { LanesAt None last (B.known bench.old) }
+    requires lanes { LanesAreAt None last (B.known bench.old) }
     requires safe { IsSafe mark (B.known bench.old) }
-    requires later { AtMost last mark }
-    ensures hands { (texts : Option (List (List ℕ))) → LanesAt texts last (B.known bench.old)
+    requires later { IsAtMost last mark }
+    ensures hands { (texts : Option (List (List ℕ))) → LanesAreAt texts last (B.known bench.old)
         → IfOk result (AllHandOver texts last mark (B.known bench.old)) }
-    ensures lanes { (texts : Option (List (List ℕ))) → LanesAt texts last (B.known bench.old)
-        → OnOk result (LanesAt texts mark (B.known bench.new)) }
+    ensures lanes { (texts : Option (List (List ℕ))) → LanesAreAt texts last (B.known bench.old)
+        → OnOk result (LanesAreAt texts mark (B.known bench.new)) }
     ensures goes { LanesGo (B.known bench.old) (B.known bench.new) }
     ensures parts { PartsRest (B.known bench.old) (B.known bench.new) }
     ensures went { OnOk result (Went (B.known bench.old) (B.known bench.new)) }

@@ -19,10 +19,10 @@ use Rattle.eql_values.specs.Orders.{key_cmp, key_eq}
 use Rattle.eql_values.specs.OrderKeys.{order_cmp, events_ascend}
 use Rattle.eql_values.specs.Reading.{IsTime}
 use Rattle.eql_values.specs.Totals.{key_cmp_total, order_cmp_total}
-use Rattle.eql_laws.specs.Alive.{HoldersInOrder}
+use Rattle.eql_laws.specs.Alive.{HoldersAreInOrder}
 use Rattle.eql_laws.specs.Bounds.{HasTimes}
 use Rattle.eql_laws.specs.Cuts.{IsPending, is_of}
-use Rattle.eql_laws.specs.Shapes.{FirstBefore, FirstsFall}
+use Rattle.eql_laws.specs.Shapes.{FirstIsBefore, FirstsFall}
 use Rattle.eql_cut.specs.CutValues.{is_full}
 use Rattle.eql_cut.specs.Fitting.{is_time, event_fits, holder_fits, first_before, falls_to, firsts_fall}
 use Rattle.eql_cut.proofs.FitLaws.{all_from, all_to, time_from, time_to}
@@ -63,17 +63,17 @@ not_or true b is = is refl
 not_or false b is = refl
 
 -- the first events
-first_from : (chain other : List OrderKey) → first_before chain other ≡ true → FirstBefore chain other
+first_from : (chain other : List OrderKey) → first_before chain other ≡ true → FirstIsBefore chain other
 first_from [] other is = cc
 first_from (event ∷ chain) [] is = cc
 first_from (event ∷ chain) (first ∷ other) is = less_is (order_cmp event first) is
 
-first_to : (chain other : List OrderKey) → FirstBefore chain other → first_before chain other ≡ true
+first_to : (chain other : List OrderKey) → FirstIsBefore chain other → first_before chain other ≡ true
 first_to [] other is = absurd is
 first_to (event ∷ chain) [] is = absurd is
 first_to (event ∷ chain) (first ∷ other) is = is_less (order_cmp event first) is
 
-first_through : (a b c : List OrderKey) → FirstBefore a b → FirstBefore b c → FirstBefore a c
+first_through : (a b c : List OrderKey) → FirstIsBefore a b → FirstIsBefore b c → FirstIsBefore a c
 first_through [] b c ab bc = absurd ab
 first_through (x ∷ a) [] c ab bc = absurd ab
 first_through (x ∷ a) (y ∷ b) [] ab bc = absurd bc
@@ -94,7 +94,7 @@ KeyTo x y = (key_cmp x y ≡ Less) ⊎ (x ≡ y)
 
 -- of two pending sequences of one key, that of the greater stage has the lesser first event
 abbrev FallsTo : Holder → Holder → Type 0
-FallsTo h g = g.key ≡ h.key → FirstBefore g.chain h.chain
+FallsTo h g = g.key ≡ h.key → FirstIsBefore g.chain h.chain
 
 module _ (keys : Agrees key_cmp) (slots : Agrees slot_cmp) where
   not_less : (x y : List Value) → key_cmp x y ≡ Less → x ≡ y → ⊥
@@ -185,7 +185,7 @@ module _ (keys : Agrees key_cmp) (slots : Agrees slot_cmp) where
   module _ (h : Holder) (holders : List Holder) (order : in_order (h ∷ holders) ≡ true) (falls : firsts_fall (h ∷ holders) ≡ true) (rest : FirstsFall holders)
       (key : List Value) (j k : ℕ) (c d : List OrderKey) (lt : j < k) where
     looked : (a b : Bool) → eq_by_cmp slot_cmp (key, j) (slot_of h) ≡ a → eq_by_cmp slot_cmp (key, k) (slot_of h) ≡ b
-        → cond a (Some h.chain) (opening_of holders key j) ≡ Some c → cond b (Some h.chain) (opening_of holders key k) ≡ Some d → FirstBefore d c
+        → cond a (Some h.chain) (opening_of holders key j) ≡ Some c → cond b (Some h.chain) (opening_of holders key k) ≡ Some d → FirstIsBefore d c
     looked false false ja kb jc kd = rest key j k c d lt jc kd
     looked true true ja kb jc kd =
         let at_j = slots (key, j) (slot_of h) (equal_is (slot_cmp (key, j) (slot_of h)) ja) in
@@ -196,7 +196,7 @@ module _ (keys : Agrees key_cmp) (slots : Agrees slot_cmp) where
         let at_j = slots (key, j) (slot_of h) (equal_is (slot_cmp (key, j) (slot_of h)) ja) in
         let f = found (FallsTo h) holders (all_fall h holders order falls) key k d kd in
         let same : f.at.key ≡ h.key = ap (λ (s : Slot). s.0) f.slot_is ∙ ap (λ (s : Slot). s.0) at_j in
-        subst (λ (x : List OrderKey). FirstBefore x c) f.chain_is (subst (λ (x : List OrderKey). FirstBefore f.at.chain x) (some_is h.chain c jc) (f.passes same))
+        subst (λ (x : List OrderKey). FirstIsBefore x c) f.chain_is (subst (λ (x : List OrderKey). FirstIsBefore f.at.chain x) (some_is h.chain c jc) (f.passes same))
     looked false true ja kb jc kd =
         let at_k = slots (key, k) (slot_of h) (equal_is (slot_cmp (key, k) (slot_of h)) kb) in
         let f = found (Before h) holders (first_of h holders order).before key j c jc in
@@ -206,7 +206,7 @@ module _ (keys : Agrees key_cmp) (slots : Agrees slot_cmp) where
         let its_stage : f.at.stage ≡ j = ap (λ (s : Slot). s.1) f.slot_is in
         absurd (omega arith)
 
-  pub falls_from : (holders : List Holder) → HoldersInOrder holders → firsts_fall holders ≡ true → FirstsFall holders
+  pub falls_from : (holders : List Holder) → HoldersAreInOrder holders → firsts_fall holders ≡ true → FirstsFall holders
   falls_from [] order falls key j k c d lt jc kd = absurd (none_isnt c jc)
   falls_from (h ∷ holders) order falls key j k c d lt jc kd =
       looked h holders order falls

@@ -14,8 +14,8 @@ use Rattle.eql_values.specs.declared.cut.LaneCut.{LaneCut}
 use Rattle.eql_values.specs.Adjacent.{by_key}
 use Rattle.eql_values.specs.Orders.{key_cmp}
 use Rattle.eql_values.specs.Reading.{IsTime}
-use Rattle.eql_values.specs.Routes.{RoutesInOrder, says_something}
-use Rattle.eql_laws.specs.Bounds.{HasStagesTo, MasksTo, KeysHave}
+use Rattle.eql_values.specs.Routes.{RoutesAreInOrder, says_something}
+use Rattle.eql_laws.specs.Bounds.{HasStagesTo, HasMasksTo, KeysHave}
 use Rattle.eql_laws.specs.Counting.{CountsStand, greatest_lines, greatest_bytes}
 use Rattle.eql_laws.specs.Lanes.{IsKeptBy, LaneFits, LanesFit}
 use Rattle.eql_cut.specs.Values.{routes_stand, items_ascend}
@@ -49,7 +49,7 @@ module _ (m values : ℕ) where
 
   record ItemFits (t : ℤ) (shard lines : ℕ) (item : Item) : Type 0 where
     kept : IsKeptBy shard lines (At t) item
-    masks : MasksTo m item
+    masks : HasMasksTo m item
     keys : KeysHave values item
 
   module _ (t : ℤ) (shard lines : ℕ) (item : Item) where
@@ -90,16 +90,16 @@ module _ (m values : ℕ) where
         (all_to (route_fits m values) RouteFits route_to item.routes (routes_fit item.routes fits.masks fits.keys))
 
   module _ (t : ℤ) (shard lines : ℕ) where
-    items_told : (items : List Item) → All (IsKeptBy shard lines (At t)) items → All (MasksTo m) items → All (KeysHave values) items → All (ItemFits t shard lines) items
+    items_told : (items : List Item) → All (IsKeptBy shard lines (At t)) items → All (HasMasksTo m) items → All (KeysHave values) items → All (ItemFits t shard lines) items
     items_told [] kept masks keys = All-nil _
     items_told (i ∷ items) kept masks keys =
         All-cons (ItemFits t shard lines) i items
         (record {
           kept = All-head (IsKeptBy shard lines (At t)) i items kept;
-          masks = All-head (MasksTo m) i items masks;
+          masks = All-head (HasMasksTo m) i items masks;
           keys = All-head (KeysHave values) i items keys;
         })
-        (items_told items (All-tail (IsKeptBy shard lines (At t)) i items kept) (All-tail (MasksTo m) i items masks) (All-tail (KeysHave values) i items keys))
+        (items_told items (All-tail (IsKeptBy shard lines (At t)) i items kept) (All-tail (HasMasksTo m) i items masks) (All-tail (KeysHave values) i items keys))
 
 -- what a lane is to have of its greatest timestamp
 record BestFits (slack t : ℤ) (closed : Bool) (best : Option ℤ) : Type 0 where
@@ -179,7 +179,7 @@ module _ (m values : ℕ) where
   -- all that is said of a lane
   pub record LaneTold (slack t : ℤ) (shard : ℕ) (lane : LaneCut) : Type 0 where
     pub fits : LaneFits slack t shard lane
-    pub masks : All (MasksTo m) lane.items
+    pub masks : All (HasMasksTo m) lane.items
     pub keys : All (KeysHave values) lane.items
 
   module _ (sorted : SortedItems) (back : ItemsBack) (slack t : ℤ) (shard : ℕ) (lane : LaneCut) where
@@ -200,13 +200,13 @@ module _ (m values : ℕ) where
             best_in_range = best.in_range;
             open_best = best.open_;
             items = All-weaker (ItemFits m values t shard lines) (IsKeptBy shard lines (At t)) (λ (i : Item) f. f.kept) lane.items fit;
-            ascending = back lane.items (All-weaker (ItemFits m values t shard lines) (λ (i : Item). RoutesInOrder i.routes) (λ (i : Item) f. f.kept.routes_stand.0) lane.items fit) ascend.1;
+            ascending = back lane.items (All-weaker (ItemFits m values t shard lines) (λ (i : Item). RoutesAreInOrder i.routes) (λ (i : Item) f. f.kept.routes_stand.0) lane.items fit) ascend.1;
             no_more_items = leb-true (length lane.items) lane.counts.accepted few.1;
             counts_stand = told.stand;
             lines_to = told.lines_to;
             offset_to = leb-true lane.offset greatest_bytes offset.1;
           };
-          masks = All-weaker (ItemFits m values t shard lines) (MasksTo m) (λ (i : Item) f. f.masks) lane.items fit;
+          masks = All-weaker (ItemFits m values t shard lines) (HasMasksTo m) (λ (i : Item) f. f.masks) lane.items fit;
           keys = All-weaker (ItemFits m values t shard lines) (KeysHave values) (λ (i : Item) f. f.keys) lane.items fit;
         }
 
@@ -229,7 +229,7 @@ module _ (m values : ℕ) where
 module _ (m values : ℕ) (sorted : SortedItems) (back : ItemsBack) (slack t : ℤ) where
   pub record LanesTold (shard : ℕ) (lanes : List LaneCut) : Type 0 where
     pub fit : LanesFit slack t shard lanes
-    pub masks : All (λ (lane : LaneCut). All (MasksTo m) lane.items) lanes
+    pub masks : All (λ (lane : LaneCut). All (HasMasksTo m) lane.items) lanes
     pub keys : All (λ (lane : LaneCut). All (KeysHave values) lane.items) lanes
 
   pub lanes_from : (shard : ℕ) (lanes : List LaneCut) → lanes_fit m values slack t shard lanes ≡ true → LanesTold shard lanes
@@ -240,7 +240,7 @@ module _ (m values : ℕ) (sorted : SortedItems) (back : ItemsBack) (slack t : �
       let rest = lanes_from (shard + 1) lanes p.1 in
       record {
         fit = (here.fits, rest.fit);
-        masks = All-cons (λ (l : LaneCut). All (MasksTo m) l.items) lane lanes here.masks rest.masks;
+        masks = All-cons (λ (l : LaneCut). All (HasMasksTo m) l.items) lane lanes here.masks rest.masks;
         keys = All-cons (λ (l : LaneCut). All (KeysHave values) l.items) lane lanes here.keys rest.keys;
       }
 
@@ -251,12 +251,12 @@ module _ (m values : ℕ) (sorted : SortedItems) (back : ItemsBack) (slack t : �
       (lane_to m values sorted back slack t shard lane
       (record {
         fits = told.fit.0;
-        masks = All-head (λ (l : LaneCut). All (MasksTo m) l.items) lane lanes told.masks;
+        masks = All-head (λ (l : LaneCut). All (HasMasksTo m) l.items) lane lanes told.masks;
         keys = All-head (λ (l : LaneCut). All (KeysHave values) l.items) lane lanes told.keys;
       }))
       (lanes_to (shard + 1) lanes
       (record {
         fit = told.fit.1;
-        masks = All-tail (λ (l : LaneCut). All (MasksTo m) l.items) lane lanes told.masks;
+        masks = All-tail (λ (l : LaneCut). All (HasMasksTo m) l.items) lane lanes told.masks;
         keys = All-tail (λ (l : LaneCut). All (KeysHave values) l.items) lane lanes told.keys;
       }))

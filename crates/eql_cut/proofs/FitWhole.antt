@@ -15,7 +15,7 @@ use Rattle.eql_values.specs.Agreement.{Agrees}
 use Rattle.eql_values.specs.Matching.{slot_cmp}
 use Rattle.eql_values.specs.Orders.{key_cmp}
 use Rattle.eql_values.specs.Reading.{IsTime}
-use Rattle.eql_laws.specs.Alive.{HoldersInOrder}
+use Rattle.eql_laws.specs.Alive.{HoldersAreInOrder}
 use Rattle.eql_laws.specs.Bounds.{HasTimes}
 use Rattle.eql_laws.specs.Books.{kept_of, IsKeptMatch, StateFits, greatest_found}
 use Rattle.eql_laws.specs.Cuts.{is_of_shards, IsPending}
@@ -157,10 +157,10 @@ module _ (m values shards found : ℕ) where
       (states_to pipes states (record { fit = told.fit.1; times = All-tail StateTimes s states told.times; keys = All-tail StateKeys s states told.keys }))
 
 module _ (sorted : SortedItems) (back : ItemsBack) (keys : Agrees key_cmp) (slots : Agrees slot_cmp) (finds : OpeningFinds) (m values : ℕ) (pipes : List Pipe) (c : Cut) where
-  alike : holders_ascend c.holders ≡ true → HoldersInOrder c.holders
+  alike : holders_ascend c.holders ≡ true → HoldersAreInOrder c.holders
   alike is = sym (sorted_alike slot_cmp (λ (h : Holder). (h.key, h.stage)) (λ (h : Holder). h) (λ (h : Holder). h.chain) c.holders) ∙ is
 
-  alike_back : HoldersInOrder c.holders → holders_ascend c.holders ≡ true
+  alike_back : HoldersAreInOrder c.holders → holders_ascend c.holders ≡ true
   alike_back is = sorted_alike slot_cmp (λ (h : Holder). (h.key, h.stage)) (λ (h : Holder). h) (λ (h : Holder). h.chain) c.holders ∙ is
 
   pub fits_from : cut_fits m values pipes c ≡ true → FitsRun m values pipes c
@@ -176,7 +176,7 @@ module _ (sorted : SortedItems) (back : ItemsBack) (keys : Agrees key_cmp) (slot
       let count = and_parts (is_mark_time t) (eqb (length c.lanes) shards) lanes.0 in
       let l = lanes_from m values sorted back slack t 0 c.lanes lanes.1 in
       let hs : All (HolderTold m values t shards) c.holders = all_from (holder_fits m values t shards) (HolderTold m values t shards) (holder_from m values t shards) c.holders holders.1 in
-      let order : HoldersInOrder c.holders = alike ascend.1 in
+      let order : HoldersAreInOrder c.holders = alike ascend.1 in
       let states = and_parts _ (states_fit m values shards c.book.found pipes c.book.pipes) book.1 in
       let numbers = and_parts (leb c.book.listed c.book.found) (leb c.book.found greatest_found) states.0 in
       let told = states_from m values shards c.book.found pipes c.book.pipes states.1 in

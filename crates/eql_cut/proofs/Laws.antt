@@ -221,7 +221,7 @@ module _ {A : Type 0} (f : Format A) (lf : Lawful f) where
     exact = list_exact;
   }
 
-  -- a value is read of all bytes exactly where they are its spelling
+  -- a value is read of all bytes exactly when they are its spelling
   pub whole_again : (a : A) (bytes : List ℕ) → f.Fits a → bytes ≡ f.text a → whole f bytes ≡ Some a
   whole_again a bytes fits is =
       ap (whole f) (is ∙ sym (append-nil (f.text a))) ∙ ap (λ (o : Option (A × List ℕ)). o >>= λ x. at_end x.0 x.1) (lf.again a [] fits)

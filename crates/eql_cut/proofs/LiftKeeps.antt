@@ -14,9 +14,9 @@ use Rattle.eql_values.specs.declared.cut.Pipe.{Pipe}
 use Rattle.eql_values.specs.declared.cut.Pipe.TheVariants as pipe
 use Rattle.eql_values.specs.declared.cut.PipeState.{PipeState}
 use Rattle.eql_values.specs.declared.cut.PipeState.TheVariants as state
-use Rattle.eql_values.specs.Ascending.{AllAfter, Ascend}
+use Rattle.eql_values.specs.Ascending.{AllAreAfter, Ascend}
 use Rattle.eql_values.specs.Routes.{RoutesStand}
-use Rattle.eql_laws.specs.Alive.{HoldersInOrder}
+use Rattle.eql_laws.specs.Alive.{HoldersAreInOrder}
 use Rattle.eql_laws.specs.Books.{NumbersAscend, StateStands}
 use Rattle.eql_values.specs.Adjacent.{by_order, by_slot}
 use Rattle.eql_values.specs.Matching.{Slot, slot_cmp}
@@ -131,7 +131,7 @@ module _ (place : ℕ → ℕ → ℕ) where
         && slots_alike c.holders i && all_fall_alike c.holders holders i
         && (leb c.book.listed c.book.found && leb c.book.found 1099511627776 && states_alike c.head.shards c.book.found pipes c.book.pipes i)
 
-  above_up : (o : OrderKey) (items : List Item) → o.at ≡ 0 → IsUnplaced (map (λ (i : Item). i.order) items) → AllAfter o items → AllAfter (lifted_order place o) (map (lifted_item place) items)
+  above_up : (o : OrderKey) (items : List Item) → o.at ≡ 0 → IsUnplaced (map (λ (i : Item). i.order) items) → AllAreAfter o items → AllAreAfter (lifted_order place o) (map (lifted_item place) items)
   above_up o [] oz none up = tt
   above_up o (x ∷ items) oz none up = (
     order_alike place o x.order oz (All-head (λ (e : OrderKey). e.at ≡ 0) x.order (map (λ (y : Item). y.order) items) none) ∙ up.0,
@@ -181,7 +181,7 @@ module _ (place : ℕ → ℕ → ℕ) where
         (each_unplaced (λ (n : Numbered). n.found.chain) kept none) stands.1,
   )
 
-  order_kept : (holders : List Holder) → HoldersInOrder holders → HoldersInOrder (map (lifted_holder place) holders)
+  order_kept : (holders : List Holder) → HoldersAreInOrder holders → HoldersAreInOrder (map (lifted_holder place) holders)
   order_kept holders up =
       let sorted : holders_ascend holders ≡ true = sorted_alike slot_cmp (λ (h : Holder). (h.key, h.stage)) (λ (h : Holder). h) (λ (h : Holder). h.chain) holders ∙ up in
       sym (sorted_alike slot_cmp (λ (h : Holder). (h.key, h.stage)) (λ (h : Holder). h) (λ (h : Holder). h.chain) (map (lifted_holder place) holders)) ∙ slots_alike holders ∙ sorted

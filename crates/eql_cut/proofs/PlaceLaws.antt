@@ -154,7 +154,7 @@ less_apart a line less is = let tied : nat_cmp a line ≡ Equal = ap (nat_cmp a)
 more_apart : (a line : ℕ) → nat_cmp a line ≡ Greater → a ≡ line → ⊥
 more_apart a line more is = let tied : nat_cmp a line ≡ Equal = ap (nat_cmp a) (sym is) ∙ tied_itself nat_cmp_total a in cc
 
--- what a binary search by line answers
+-- what a binary search by line returns
 pub searched_none : (places : List (ℕ × ℕ)) (line i : ℕ) → is_sorted nat_cmp places ≡ true
     → (IsNonDecreasingBy (λ (y : ℕ × ℕ). ordering_index (nat_cmp y.0 line)) places → IsPartitionPoint (λ (y : ℕ × ℕ). nat_cmp y.0 line ≡ Less) (λ (y : ℕ × ℕ). nat_cmp y.0 line ≡ Greater) places i)
     → place_in places line ≡ 0

@@ -16,7 +16,7 @@ use Rattle.eql_values.specs.Orders.{key_cmp}
 use Rattle.eql_values.specs.Ascending.{Ascend}
 use Rattle.eql_values.specs.Matching.{slot_cmp}
 use Rattle.eql_values.specs.OrderKeys.{order_cmp, EventsAscend}
-use Rattle.eql_values.specs.Routes.{RoutesInOrder, RoutesStand, says_something}
+use Rattle.eql_values.specs.Routes.{RoutesAreInOrder, RoutesStand, says_something}
 use Rattle.eql_laws.specs.Books.{NumbersAscend, StateStands}
 use Rattle.eql_cut.specs.declared.cut.Cut.{Cut}
 use Rattle.eql_cut.specs.declared.reader.Version.{Version}
@@ -30,7 +30,7 @@ abbrev pub SortedItems : Type 0
 SortedItems = (items : List Item) → Ascend items → IsTrue (is_sorted order_cmp (by_order items))
 
 abbrev pub ItemsBack : Type 0
-ItemsBack = (items : List Item) → All (λ (item : Item). RoutesInOrder item.routes) items → IsTrue (is_sorted order_cmp (by_order items)) → Ascend items
+ItemsBack = (items : List Item) → All (λ (item : Item). RoutesAreInOrder item.routes) items → IsTrue (is_sorted order_cmp (by_order items)) → Ascend items
 
 is_less : (m n : ℕ) → is_lt (nat_cmp m n) ≡ true → m < n
 is_less m n is = grind arith
@@ -69,7 +69,7 @@ module _ (v : Version) where
   lane_stands back l fits =
       let items = fits.0.1.1.1.1 in
       let all : All (λ (i : Item). RoutesStand i.routes) l.items = All-weaker (item v).Fits (λ (i : Item). RoutesStand i.routes) item_stands l.items items.0.1 in
-      (back l.items (All-weaker (λ (i : Item). RoutesStand i.routes) (λ (i : Item). RoutesInOrder i.routes) (λ i stands. stands.0) l.items all) items.1, all)
+      (back l.items (All-weaker (λ (i : Item). RoutesStand i.routes) (λ (i : Item). RoutesAreInOrder i.routes) (λ i stands. stands.0) l.items all) items.1, all)
 
   holder_stands : (h : Holder) → (holder v).Fits h → (length h.chain ≡ h.stage) × EventsAscend h.chain
   holder_stands h fits = (eqb-true (length h.chain) h.stage fits.1, fits.0.0.1.1.1)

@@ -9,7 +9,7 @@ use Rattle.std.specs.Str.{chars, is_utf8}
 use Rattle.eql_cut.specs.declared.reader.Version.{Version}
 use Rattle.eql_cut.specs.declared.reader.Version.TheVariants as version
 use Rattle.eql_cut.specs.Formats.{number, both, only, option, truth, list, byte, empty, never, case}
-use Rattle.eql_cut.specs.Values.{sixteen, signed_16, signed_8, order_with_place, order_without, order, text, value_of, parts_of, field, mask_of_two, mask_of_one, mask, route, routes_stand, routes, item, items_ascend, items, reason_of, place_of, why, first_bad, counts, lane}
+use Rattle.eql_cut.specs.Values.{sixteen, signed_16, signed_8, order_with_place, order_without, order, text, value_of, parts_of, field, mask_of_two, mask_of_one, mask, route, routes_stand, routes, item, items_ascend, items, reason_of, reason_number, why, first_bad, counts, lane}
 use Rattle.eql_cut.proofs.Laws.{Lawful, eight, four, both_lawful, as_lawful, only_lawful, option_lawful, list_lawful, truth_lawful, byte_lawful, empty_lawful, never_lawful, case_lawful}
 
 split_16 : (x : ℕ × ℕ) → (x.0 < 2 ^ 64) × (x.1 < 2 ^ 64) → ((x.1 * 2 ^ 64 + x.0) % 2 ^ 64, (x.1 * 2 ^ 64 + x.0) / 2 ^ 64) ≡ x
@@ -89,7 +89,7 @@ module _ (v : Version) where
   items_lawful : Lawful (items v)
   items_lawful = only_lawful items_ascend (list (item v)) (list_lawful (item v) item_lawful)
 
-place_back : (n : ℕ) → n < 8 → place_of (reason_of n) ≡ n
+place_back : (n : ℕ) → n < 8 → reason_number (reason_of n) ≡ n
 place_back zero lt = refl
 place_back (suc zero) lt = refl
 place_back (suc (suc zero)) lt = refl
@@ -101,7 +101,7 @@ place_back (suc (suc (suc (suc (suc (suc (suc zero))))))) lt = refl
 place_back (suc (suc (suc (suc (suc (suc (suc (suc n)))))))) lt = absurd (omega arith)
 
 why_lawful : Lawful why
-why_lawful = as_lawful reason_of place_of (only (λ n. ltb n 8) byte) (only_lawful (λ n. ltb n 8) byte byte_lawful) (λ n fits. place_back n (ltb-true n 8 fits.1))
+why_lawful = as_lawful reason_of reason_number (only (λ n. ltb n 8) byte) (only_lawful (λ n. ltb n 8) byte byte_lawful) (λ n fits. place_back n (ltb-true n 8 fits.1))
 
 first_bad_lawful : Lawful first_bad
 first_bad_lawful = as_lawful _ _ (both (number w32) why) (both_lawful (number w32) why four why_lawful) (λ x fits. refl)

@@ -59,7 +59,7 @@ abbrev pub best_fits : (slack t : ℤ) (closed : Bool) → Option ℤ → Bool
 best_fits slack t closed None = closed
 best_fits slack t closed (Some best) = is_time best && (closed || le_z t (best -ℤ slack))
 
--- there is a first bad line exactly where some are rejected
+-- there is a first bad line exactly when some are rejected
 abbrev pub first_fits : Option FirstBad → (rejected : ℕ) → Bool
 first_fits None rejected = rejected == 0
 first_fits (Some bad) rejected = not (rejected == 0)

@@ -9,8 +9,8 @@ use Rattle.eql_cut.specs.Placing.{IsUnplaced, orders_in, lifted}
 use Rattle.eql_cut.specs.Whole.{IsText}
 
 -- no event of a cut whose text is in the first format has a place
-abbrev pub FirstFormatUnplaced : Type 0
-FirstFormatUnplaced = (cut : Cut) (bytes : List ℕ) → IsText 1 cut bytes → IsUnplaced (orders_in cut)
+abbrev pub FirstFormatHasNoPlaces : Type 0
+FirstFormatHasNoPlaces = (cut : Cut) (bytes : List ℕ) → IsText 1 cut bytes → IsUnplaced (orders_in cut)
 
 -- a cut without places that stands in the orders and counts of a text does so with any places
 abbrev pub LiftedStands : Type 0

@@ -1,4 +1,4 @@
--- What a reader of the code answers.
+-- What a reader of the code returns.
 use Rattle.std.specs.Prelude.{◌≡◌, ℕ, Option, Some, None, Result, Ok, Err, Vec, List}
 use Rattle.eql_cut.specs.declared.reader.CutRefused.{CutRefused}
 use Rattle.eql_cut.specs.declared.reader.CutRefused.TheVariants as cut
@@ -10,7 +10,7 @@ abbrev pub Refuses : {A : Type 0} → Option A → CutRefused → Type 0
 Refuses read cut.Memory = Unit {0}
 Refuses read (cut.Damaged at) = read ≡ None
 
--- the answer is what reading gives, from what was left to what is left
+-- the result is what reading gives, from what was left to what is left
 abbrev pub Reads : {A : Type 0} → Format A → Result A CutRefused → List ℕ → List ℕ → Type 0
 Reads f (Ok a) old new = f.read old ≡ Some (a, new)
 Reads f (Err e) old new = Refuses (f.read old) e
@@ -25,7 +25,7 @@ abbrev pub ReadsTimes : {A : Type 0} → Format A → ℕ → Result (Vec A Glob
 ReadsTimes f n (Ok v) old new = times f.read n old ≡ Some (v.items, new)
 ReadsTimes f n (Err e) old new = Refuses (times f.read n old) e
 
--- the answer is what all of the bytes spell
+-- the result is what all of the bytes spell
 abbrev pub Answers : {A : Type 0} → Format A → Result A CutRefused → List ℕ → Type 0
 Answers f (Ok a) bytes = whole f bytes ≡ Some a
 Answers f (Err e) bytes = Refuses (whole f bytes) e

@@ -114,18 +114,18 @@ reason_of n =
     if n == 0 then reason.Long else if n == 1 then reason.NotJson else if n == 2 then reason.NotObject else if n == 3 then reason.NoTime
     else if n == 4 then reason.BadTime else if n == 5 then reason.Kind else if n == 6 then reason.Fraction else reason.Range
 
-abbrev pub place_of : Reason → ℕ
-place_of reason.Long = 0
-place_of reason.NotJson = 1
-place_of reason.NotObject = 2
-place_of reason.NoTime = 3
-place_of reason.BadTime = 4
-place_of reason.Kind = 5
-place_of reason.Fraction = 6
-place_of reason.Range = 7
+abbrev pub reason_number : Reason → ℕ
+reason_number reason.Long = 0
+reason_number reason.NotJson = 1
+reason_number reason.NotObject = 2
+reason_number reason.NoTime = 3
+reason_number reason.BadTime = 4
+reason_number reason.Kind = 5
+reason_number reason.Fraction = 6
+reason_number reason.Range = 7
 
 abbrev pub why : Format Reason
-why = seen_as reason_of place_of (only (λ n. nat_lt n 8) byte)
+why = seen_as reason_of reason_number (only (λ n. nat_lt n 8) byte)
 
 abbrev pub first_bad : Format FirstBad
 first_bad = seen_as (λ (x : ℕ × Reason). record { line = x.0; reason = x.1 }) (λ b. (b.line, b.reason)) (both (number w32) why)

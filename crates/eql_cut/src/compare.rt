@@ -105,7 +105,7 @@ fn first_difference(cut: &CutHead, now: &CutHead) -> Result<Option<Differs>, All
 }
 
 /// The first of query, mapping, tiebreaker, slack and number of shards in which a cut and a run
-/// differ, with both values; `None` exactly where they agree in all of them.
+/// differ, with both values; `None` exactly when they agree in all of them.
 ///
 /// # Errors
 ///

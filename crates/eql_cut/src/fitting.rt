@@ -69,7 +69,7 @@ fn has_none_above(mask: &Mask, stage: u32) -> bool
     }
 }
 
-/// Whether there is a first bad line exactly where lines were rejected.
+/// Whether there is a first bad line exactly when lines were rejected.
 fn first_fits(first: &Option<FirstBad>, rejected: u32) -> bool
     ensures { result ≡ first_fits first.now rejected }
 {

@@ -1,5 +1,5 @@
 //! Laws of cuts, each the contract of a function that does nothing.
-ghost use Rattle.eql_cut.specs.Lifting.{FirstFormatUnplaced, LiftedStands, LiftedFits};
+ghost use Rattle.eql_cut.specs.Lifting.{FirstFormatHasNoPlaces, LiftedStands, LiftedFits};
 ghost use Rattle.eql_cut.specs.Lifting.{LiftedIsPlaced};
 ghost use Rattle.eql_cut.specs.Whole.{TextsAreDecided};
 
@@ -8,7 +8,7 @@ use eql_values::{orders_agree_with_equality, orders_told_alike};
 
 /// A cut whose text is in the first format has no places, as `lift` asks.
 pub fn first_format_has_no_places()
-    ensures { FirstFormatUnplaced }
+    ensures { FirstFormatHasNoPlaces }
 {}
 
 /// A cut whose places are set anew stands in the orders and counts of a text, where it did before,

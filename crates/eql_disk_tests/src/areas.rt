@@ -271,7 +271,7 @@ static PUTS: &[Put] = &[
     },
 ];
 
-/// What a put of the cut with this mark answers, behind a recovery.
+/// What a put of the cut with this mark returns, behind a recovery.
 fn put_marked(alloc: Global, disk: &mut MemDisk, mark: u8) -> Result<Result<(), CkRefused>, Fail> {
     let Ok(found) = recover(alloc, disk) else {
         return Err(Fail::from("refused"));
@@ -287,7 +287,7 @@ fn put_marked(alloc: Global, disk: &mut MemDisk, mark: u8) -> Result<Result<(), 
 /// The bytes of both areas.
 type Areas = (Vec<u8>, Vec<u8>);
 
-/// What a row's put answers, and the bytes of both areas then.
+/// What a row's put returns, and the bytes of both areas then.
 fn put_row(alloc: Global, row: &Put) -> Result<(Result<(), CkRefused>, Areas), Fail> {
     let mut disk = disk_of(alloc, row.a, row.b, None)?;
     let answer = put_marked(alloc, &mut disk, row.mark);

@@ -17,13 +17,13 @@ const CALLS: u64 = 4 + 3 * 6;
 struct Run {
     /// How many puts were acknowledged.
     acknowledged: u64,
-    /// Whether the disk's fault was answered.
+    /// Whether the disk's fault was returned.
     is_fault: bool,
     /// The disk as the run left it.
     disk: MemDisk,
 }
 
-/// What a put answers.
+/// What a put returns.
 type Answer = Result<(), CkRefused>;
 
 /// Puts the cut with this mark.
@@ -58,7 +58,7 @@ fn put_three<D: Disk>(alloc: Global, disk: &mut D, state: &mut CkState) -> Resul
     put_marked(alloc, disk, state, 3)
 }
 
-/// How many of the puts behind a recovery are acknowledged, and whether the disk's fault is answered.
+/// How many of the puts behind a recovery are acknowledged, and whether the disk's fault is returned.
 fn recover_and_put(alloc: Global, disk: &mut MemDisk) -> Result<(u64, bool), Fail> {
     match recover(alloc, disk) {
         Ok(found) => {

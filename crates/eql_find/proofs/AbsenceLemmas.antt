@@ -7,12 +7,12 @@ use Rattle.eql_inputs.specs.declared.halt.Refused.{Refused}
 use Rattle.eql_find.specs.declared.halt.CutStop.{CutStop}
 use Rattle.eql_find.specs.declared.halt.RunHalt.{RunHalt}
 use Rattle.eql_find.specs.declared.halt.RunHalt.TheVariants as run
-use Rattle.eql_find.specs.Halts.{AbsenceAs, IsRefusal}
+use Rattle.eql_find.specs.Halts.{AbsencesFollow, IsRefusal}
 use Rattle.eql_find.specs.Stops.{IsHaltAt, failed, grown, no_line, short, unmade}
 
 -- one whose lanes weren't made
 pub made_absence : (shards : List (List ℕ)) (shard : ℕ) (why : LaneRefused) (h : RunHalt) (before now : ℕ) → IsHaltAt shards shard why h
-    → now ≡ before → AbsenceAs {A = Unit {0}} (Err h) before now
+    → now ≡ before → AbsencesFollow {A = Unit {0}} (Err h) before now
 made_absence shards shard _ _ before now (short offset had) same = same
 made_absence shards shard _ _ before now (no_line line) same = same
 made_absence shards shard _ _ before now grown same = same
@@ -21,7 +21,7 @@ made_absence shards shard _ _ before now unmade same = same
 
 -- one that searched them, whose causes are no refusal
 pub absence_as : (Cause : RunHalt → Type 0) → ((r : Refused) → ¬ (Cause (run.Files (halt.Refused r)))) → (r : Result (Unit {0}) RunHalt) (before now : ℕ)
-    → IfErr r Cause → now ≡ before → AbsenceAs r before now
+    → IfErr r Cause → now ≡ before → AbsencesFollow r before now
 absence_as Cause none (Ok done) before now stops same = same
 absence_as Cause none (Err (run.Files (halt.Refused r))) before now stops same = absurd (none r stops)
 absence_as Cause none (Err (run.Files (halt.Read name))) before now stops same = same

@@ -11,7 +11,7 @@ use Rattle.eql_values.specs.declared.cut.LaneCut.{LaneCut}
 use Rattle.eql_values.specs.declared.order.Mark.TheVariants.{At}
 use Rattle.eql_laws.specs.Fitting.{Fits, Kept, StandsInOrder}
 use Rattle.eql_words.specs.declared.commands.Find.{Find}
-use Rattle.eql_words.specs.Bounds.{FindBounds}
+use Rattle.eql_words.specs.Bounds.{FindIsBounded}
 use Rattle.eql_lane.specs.Lanes.{fresh_cut}
 use Rattle.eql_lane.specs.Views.{LaneView}
 use Rattle.eql_cut.specs.declared.cut.Cut.{Cut}
@@ -56,7 +56,7 @@ placed_by lists true cut = lifted (place_of lists) cut
 placed_by lists false cut = cut
 
 -- ---- with a cut
-module _ {S L : Type 0} (laws : BeginLaws) (find : Find) (p : Planning) (bounds : FindBounds find) (texts : Option (List (List ℕ)))
+module _ {S L : Type 0} (laws : BeginLaws) (find : Find) (p : Planning) (bounds : FindIsBounded find) (texts : Option (List (List ℕ)))
     (lanes : List (LaneView S L)) (format : ℕ) (cut : Cut) (asked : find.checkpoint ≢ None)
     (suits : Suits (stages_of p) (values_of p) (pipes_of p) cut.head cut) (unplaced : format ≡ 1 → IsUnplaced (orders_in cut))
     (slack_is : cut.head.slack ≡ slack_told find.slack) (many : length lanes ≡ length cut.lanes) where

@@ -1,4 +1,4 @@
--- What a run over lanes answers: its listing and its report, and why it halts.
+-- What a run over lanes returns: its listing and its report, and why it halts.
 use native.Mathlib.Omega.{arith}
 use Rattle.std.proofs.Common.{◌≡◌, ◌≢◌, ◌<◌, ◌+◌, ◌^◌, ℕ, zero, suc, ℤ, List, [], ◌∷◌, ◌++◌, Option, Some, None, Ok, Err, refl, sym, ap, ap₂, ◌∙◌, subst, length, map}
 use Rattle.std.specs.Prelude.{IfSome, Result, All, slice_get, drop}
@@ -13,7 +13,7 @@ use Rattle.eql_outside.specs.Written.{WroteAll, WroteFront}
 use Rattle.eql_laws.specs.Counting.{greatest_lines}
 use Rattle.eql_stages.specs.Planned.{line_of, planned}
 use Rattle.eql_words.specs.declared.commands.Find.{Find}
-use Rattle.eql_words.specs.Bounds.{FindBounds}
+use Rattle.eql_words.specs.Bounds.{FindIsBounded}
 use Rattle.eql_lane.specs.Slacks.{nanos_of}
 use Rattle.eql_lane.specs.Views.{LaneView}
 use Rattle.eql_lane.specs.declared.ops.LimitOf.TheVariants as reached
@@ -25,15 +25,15 @@ use Rattle.eql_runs.specs.Searches.{Search, matches_of, plan_of, reads_of, repor
 use Rattle.eql_runs.specs.Starts.{IsCutOf}
 use Rattle.eql_search.specs.declared.stop.Stop.{Stop}
 use Rattle.eql_search.specs.declared.stop.Stop.TheVariants as stop
-use Rattle.eql_search.specs.Answers.{BecameAt, CountWhole, HasCause, IsNoFault, IsRead, OutOfBytes, OutOfLines, SteadyBut, WereRead}
+use Rattle.eql_search.specs.Answers.{AreSteadyBut, BecameAt, CountWhole, HasCause, IsNoFault, IsRead, RanOutOfBytes, RanOutOfLines, WereRead}
 use Rattle.eql_search.specs.Searches.{AreTextsOf}
 use Rattle.eql_find.specs.declared.halt.RunHalt.{RunHalt}
 use Rattle.eql_find.specs.declared.halt.RunHalt.TheVariants as run
 use Rattle.eql_find.specs.declared.plan.Planning.{Planning}
-use Rattle.eql_find.specs.Halts.{DiskAs, ErrAs, IsFault, IsReport, OutAs}
+use Rattle.eql_find.specs.Halts.{DiskFollows, ErrFollows, IsFault, IsReport, OutFollows}
 use Rattle.eql_find.specs.Reports.{counts_in}
-use Rattle.eql_find.specs.Running.{AreSearched, BeyondOn, StartsOver}
-use Rattle.eql_find.specs.Searching.{AreCutsOf, LaneFaults, ReportOf, LanesStop, bare, search_in}
+use Rattle.eql_find.specs.Running.{AreSearched, IsBeyondOn, StartsOver}
+use Rattle.eql_find.specs.Searching.{AreCutsOf, LaneFaultsFollow, WroteReportOf, LanesStop, bare, search_in}
 use Rattle.eql_find.specs.Stops.{IsHaltOf, read, write, disk, memory, lines, bytes, generation}
 use Rattle.eql_find.proofs.KeepLemmas.{are_cuts_of}
 use Rattle.eql_find.proofs.RunLemmas.{StartsSo}
@@ -119,7 +119,7 @@ module _ {S L : Type 0} (find : Find) (p : Planning) (told : Option (List (List 
     -- the report of which a front was written
     pub report_by : (err err' : Option (List ℕ)) → length news ≡ length lanes → length lanes ≡ length find.shards
         → WroteFront (report_lines 0 (counts_in news)) err err'
-        → ReportOf find (search_in find p) told (StartsOver told find p lanes rest) err err'
+        → WroteReportOf find (search_in find p) told (StartsOver told find p lanes rest) err err'
     report_by err err' long many wrote = record {
       counts = counts_in news;
       count = length-map news (λ lane. lane.state.cut.counts) ∙ long ∙ many;
@@ -128,7 +128,7 @@ module _ {S L : Type 0} (find : Find) (p : Planning) (told : Option (List (List 
     }
 
   -- the cuts that it put are cuts of the search, and what they count was written
-  pub cuts_are : FindBounds find → (out out' : Option (List ℕ)) (cuts : List Cut)
+  pub cuts_are : FindIsBounded find → (out out' : Option (List ℕ)) (cuts : List Cut)
       → IfSome told (λ ts. StartsSo find p ts mids placed → AreSearched (search_in find p) ts placed.book.listed out out' cuts)
       → AreCutsOf (search_in find p) told rest.book.listed out out' (StartsOver told find p lanes rest) cuts
   cuts_are bounds out out' cuts = of_started (λ ts. AreSearched (search_in find p) ts placed.book.listed out out' cuts)
@@ -162,11 +162,11 @@ module _ {S L : Type 0} (left : S → Option (List ℕ)) (find : Find) (told : O
       let less = slice_get_within lanes shard own.own own.was in
       omega (arith, less, many)
 
-  beyond_lines : (shard : ℕ) → BecameAt shard mids news (OutOfLines (text_at told shard)) → IfSome told (λ ts. BeyondOn lanes ts (many_lines shard))
+  beyond_lines : (shard : ℕ) → BecameAt shard mids news (RanOutOfLines (text_at told shard)) → IfSome told (λ ts. IsBeyondOn lanes ts (many_lines shard))
   beyond_lines shard b = by told texts_of b
     where
-      by : (o : Option (List (List ℕ))) → IfSome o (λ ts. AreTextsOf left ts lanes) → BecameAt shard mids news (OutOfLines (text_at o shard))
-          → IfSome o (λ ts. BeyondOn lanes ts (many_lines shard))
+      by : (o : Option (List (List ℕ))) → IfSome o (λ ts. AreTextsOf left ts lanes) → BecameAt shard mids news (RanOutOfLines (text_at o shard))
+          → IfSome o (λ ts. IsBeyondOn lanes ts (many_lines shard))
       by None of out = tt
       by (Some ts) of out =
           let own = own_of lanes mids news taken shard out.old out.was in
@@ -181,11 +181,11 @@ module _ {S L : Type 0} (left : S → Option (List ℕ)) (find : Find) (told : O
                 out.became.beyond);
           }
 
-  beyond_bytes : (shard : ℕ) → BecameAt shard mids news (OutOfBytes (text_at told shard)) → IfSome told (λ ts. BeyondOn lanes ts (many_bytes shard))
+  beyond_bytes : (shard : ℕ) → BecameAt shard mids news (RanOutOfBytes (text_at told shard)) → IfSome told (λ ts. IsBeyondOn lanes ts (many_bytes shard))
   beyond_bytes shard b = by told texts_of b
     where
-      by : (o : Option (List (List ℕ))) → IfSome o (λ ts. AreTextsOf left ts lanes) → BecameAt shard mids news (OutOfBytes (text_at o shard))
-          → IfSome o (λ ts. BeyondOn lanes ts (many_bytes shard))
+      by : (o : Option (List (List ℕ))) → IfSome o (λ ts. AreTextsOf left ts lanes) → BecameAt shard mids news (RanOutOfBytes (text_at o shard))
+          → IfSome o (λ ts. IsBeyondOn lanes ts (many_bytes shard))
       by None of out = tt
       by (Some ts) of out =
           let own = own_of lanes mids news taken shard out.old out.was in
@@ -202,7 +202,7 @@ module _ {S L : Type 0} (left : S → Option (List ℕ)) (find : Find) (told : O
   pub stopped_by : (search : Search) (StartsOver : List (List ℕ) → Type 0) (before now disk_before disk_now : ℕ) (err err' : Option (List ℕ)) (why : Stop) (h : RunHalt)
       → HasCause told why mids news before now disk_before disk_now
       → (Rose disk_before disk_now → find.checkpoint ≢ None) → (why ≡ stop.Limit reached.Generation → find.checkpoint ≢ None)
-      → IsHaltOf find.shards why h → LanesStop find search told StartsOver (BeyondOn lanes) err err' h
+      → IsHaltOf find.shards why h → LanesStop find search told StartsOver (IsBeyondOn lanes) err err' h
   stopped_by search StartsOver before now d e err err' _ _ cause rose ends (read shard name named) = tt
   stopped_by search StartsOver before now d e err err' _ _ cause rose ends write = tt
   stopped_by search StartsOver before now d e err err' _ _ cause rose ends disk = rose cause
@@ -211,14 +211,14 @@ module _ {S L : Type 0} (left : S → Option (List ℕ)) (find : Find) (told : O
   stopped_by search StartsOver before now d e err err' _ _ cause rose ends (bytes shard) = (within shard cause.old cause.was, beyond_bytes shard cause)
   stopped_by search StartsOver before now d e err err' _ _ cause rose ends generation = ends refl
 
-  pub err_steady : {T : Type 0} (r : Result T Stop) (why : Stop) → r ≡ Err why → SteadyBut (λ shard. IsRead r) mids news
-      → SteadyBut (λ shard. IsRead {A = T} (Err why)) lanes news
+  pub err_steady : {T : Type 0} (r : Result T Stop) (why : Stop) → r ≡ Err why → AreSteadyBut (λ shard. IsRead r) mids news
+      → AreSteadyBut (λ shard. IsRead {A = T} (Err why)) lanes news
   err_steady {T = T} r why is steady =
       steady_over lanes mids news taken (λ shard. IsRead {A = T} (Err why))
-      (subst (λ (a : Result T Stop). SteadyBut (λ shard. IsRead a) mids news) is steady)
+      (subst (λ (a : Result T Stop). AreSteadyBut (λ shard. IsRead a) mids news) is steady)
 
   pub faults_by : (T : Type 0) (before now disk_before disk_now : ℕ) (why : Stop) (h : RunHalt) → HasCause told why mids news before now disk_before disk_now
-      → SteadyBut (λ shard. IsRead {A = T} (Err why)) lanes news → IsHaltOf find.shards why h → LaneFaults {A = T} find (Err h) lanes news
+      → AreSteadyBut (λ shard. IsRead {A = T} (Err why)) lanes news → IsHaltOf find.shards why h → LaneFaultsFollow {A = T} find (Err h) lanes news
   faults_by T before now d f _ _ cause steady (read shard name named) = record {
     shard = shard;
     named = named;
@@ -232,16 +232,16 @@ module _ {S L : Type 0} (left : S → Option (List ℕ)) (find : Find) (told : O
   faults_by T before now d f _ _ cause steady generation = steady
 
   -- a search that was done leaves the faults of all lanes
-  pub faults_done : {T : Type 0} (r : Result T Stop) (x : T) → r ≡ Ok x → SteadyBut (λ shard. IsRead r) mids news
-      → SteadyBut (λ shard. ⊥) lanes news
+  pub faults_done : {T : Type 0} (r : Result T Stop) (x : T) → r ≡ Ok x → AreSteadyBut (λ shard. IsRead r) mids news
+      → AreSteadyBut (λ shard. ⊥) lanes news
   faults_done {T = T} r x is steady =
       steady_over lanes mids news taken (λ shard. ⊥)
-      (subst (λ (a : Result T Stop). SteadyBut (λ shard. IsRead a) mids news) is steady)
+      (subst (λ (a : Result T Stop). AreSteadyBut (λ shard. IsRead a) mids news) is steady)
 
 -- the counts of the disk, of the output and of the error output, by why the search stopped
 module _ {S L : Type 0} (A : Type 0) (shards : List (List ℕ)) (told : Option (List (List ℕ))) (olds news : List (LaneView S L)) (before now disk_before disk_now : ℕ) where
   pub disk_as : (why : Stop) (h : RunHalt) → HasCause told why olds news before now disk_before disk_now
-      → (why ≢ stop.Disk → ¬ IsRead {A = A} (Err why) → disk_now ≡ disk_before) → IsHaltOf shards why h → DiskAs {A = A} (Err h) disk_before disk_now
+      → (why ≢ stop.Disk → ¬ IsRead {A = A} (Err why) → disk_now ≡ disk_before) → IsHaltOf shards why h → DiskFollows {A = A} (Err h) disk_before disk_now
   disk_as _ _ cause steady (read shard name named) = tt
   disk_as _ _ cause steady write = steady (λ e. absurd cc) (λ e. e)
   disk_as _ _ cause steady disk = cause
@@ -251,7 +251,7 @@ module _ {S L : Type 0} (A : Type 0) (shards : List (List ℕ)) (told : Option (
   disk_as _ _ cause steady generation = steady (λ e. absurd cc) (λ e. e)
 
   pub out_as : (why : Stop) (h : RunHalt) → HasCause told why olds news before now disk_before disk_now
-      → (why ≢ stop.Write → ¬ IsRead {A = A} (Err why) → now ≡ before) → IsHaltOf shards why h → OutAs {A = A} (Err h) before now
+      → (why ≢ stop.Write → ¬ IsRead {A = A} (Err why) → now ≡ before) → IsHaltOf shards why h → OutFollows {A = A} (Err h) before now
   out_as _ _ cause steady (read shard name named) = tt
   out_as _ _ cause steady write = cause
   out_as _ _ cause steady disk = steady (λ e. absurd cc) (λ e. e)
@@ -260,7 +260,7 @@ module _ {S L : Type 0} (A : Type 0) (shards : List (List ℕ)) (told : Option (
   out_as _ _ cause steady (bytes shard) = steady (λ e. absurd cc) (λ e. e)
   out_as _ _ cause steady generation = steady (λ e. absurd cc) (λ e. e)
 
-pub err_as : (A : Type 0) (shards : List (List ℕ)) (n : ℕ) (why : Stop) (h : RunHalt) → IsHaltOf shards why h → ErrAs {A = A} (Err h) n n
+pub err_as : (A : Type 0) (shards : List (List ℕ)) (n : ℕ) (why : Stop) (h : RunHalt) → IsHaltOf shards why h → ErrFollows {A = A} (Err h) n n
 err_as A shards n _ _ (read shard name named) = refl
 err_as A shards n _ _ write = refl
 err_as A shards n _ _ disk = refl

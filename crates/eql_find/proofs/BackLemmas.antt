@@ -7,7 +7,7 @@ use Rattle.std.proofs.lemmas.Bool.{false≢true}
 use Rattle.std.proofs.lemmas.Slice.Eq.{bytes_eq-Decides}
 use Rattle.std.proofs.lemmas.List.{append_assoc}
 use Rattle.eql_outside.specs.Outside.{Rose}
-use Rattle.eql_outside.specs.Faults.{SameFaults, RoseFor, RoseUnder}
+use Rattle.eql_outside.specs.Faults.{FaultsAreSame, RoseFor, RoseUnder}
 use Rattle.eql_lane.specs.Views.{LaneView}
 use Rattle.eql_find.specs.Lanes.{Returned, SomeSourceFailed, CameBack, returned, lane_returned}
 
@@ -16,7 +16,7 @@ pub record CameOne (back : Returned) (before now : ℕ) (names names' : List ℕ
   pub raised : 0 < back.faults → Rose before now
   pub raised_named : 0 < back.faults → RoseUnder back.name names names'
   pub same : back.faults ≡ 0 → now ≡ before
-  pub same_named : back.faults ≡ 0 → SameFaults names names'
+  pub same_named : back.faults ≡ 0 → FaultsAreSame names names'
   pub counts : before ≤ now
 
 -- ---- counts that grow
@@ -44,7 +44,7 @@ module _ (names names' : List ℕ → ℕ) where
   rose_or_same (Some name) rose any = by_equal any name rose (bytes_eq any name) (bytes_eq-Decides any name)
 
   -- by whether the source failed
-  module _ (faults : ℕ) (o : Option (List ℕ)) (raised : 0 < faults → RoseUnder o names names') (same : faults ≡ 0 → SameFaults names names') where
+  module _ (faults : ℕ) (o : Option (List ℕ)) (raised : 0 < faults → RoseUnder o names names') (same : faults ≡ 0 → FaultsAreSame names names') where
     pub grown : (any : List ℕ) → names any ≤ names' any
     grown any = by faults refl
       where

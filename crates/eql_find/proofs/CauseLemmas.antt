@@ -30,8 +30,8 @@ use Rattle.eql_find.specs.declared.halt.RunHalt.TheVariants as run
 use Rattle.eql_find.specs.declared.plan.Planning.{Planning}
 use Rattle.eql_find.specs.Finding.{IsPlanOf, HasCause, names_in}
 use Rattle.eql_find.specs.Halts.{limit_of}
-use Rattle.eql_find.specs.Running.{BeyondOn, StartsOver}
-use Rattle.eql_find.specs.Searching.{BeganWith, IsFresh, LaneFaults, LanesStop, places_in, search_in}
+use Rattle.eql_find.specs.Running.{IsBeyondOn, StartsOver}
+use Rattle.eql_find.specs.Searching.{BeganWith, IsFresh, LaneFaultsFollow, LanesStop, places_in, search_in}
 use Rattle.eql_find.proofs.FoundLemmas.{Runs, TheRun, report_is}
 use Rattle.eql_find.proofs.TextLemmas.{searches_in}
 
@@ -145,9 +145,9 @@ module _ {S L : Type 0} (find : Find) (p : Planning) (told : Option (List (List 
       by (Some fs) r = λ on holds. f fs on holds (r on holds)
 
   beyond_is : (limit : ShardLimit) (fs : Files) (on : OnDisk) → (find.checkpoint ≢ None → DiskHolds disk on) → (run : TheRun find p told lanes rest fs on)
-      → IfSome told (λ ts. BeyondOn lanes ts limit) → IsBeyond run.texts (start_for find on) limit
+      → IfSome told (λ ts. IsBeyondOn lanes ts limit) → IsBeyond run.texts (start_for find on) limit
   beyond_is limit fs on holds run beyond =
-      let own = subst (λ (x : Option (List (List ℕ))). IfSome x (λ ts. BeyondOn lanes ts limit)) run.told_is beyond in (
+      let own = subst (λ (x : Option (List (List ℕ))). IfSome x (λ ts. IsBeyondOn lanes ts limit)) run.told_is beyond in (
         own.text,
         own.there,
         subst (λ (d : OnDisk). GoesBeyond limit (lane_on d (shard_of limit)) own.text) (sym (start on holds))
@@ -164,8 +164,8 @@ module _ {S L : Type 0} (find : Find) (p : Planning) (told : Option (List (List 
       by (Some fs) plan all = (search_in find p, all.texts, searches_in find fs p all.texts plan all.there)
 
   pub run_cause : (h : RunHalt) (err err' : Option (List ℕ))
-      → LanesStop find (search_in find p) told (StartsOver told find p lanes rest) (BeyondOn lanes) err err' h
-      → LaneFaults {A = Unit {0}} find (Err h) lanes news → (h ≡ run.Generation → GenerationsEnd disk now)
+      → LanesStop find (search_in find p) told (StartsOver told find p lanes rest) (IsBeyondOn lanes) err err' h
+      → LaneFaultsFollow {A = Unit {0}} find (Err h) lanes news → (h ≡ run.Generation → GenerationsEnd disk now)
       → HasCause find files disk now err err' h
   run_cause (run.Files (halt.Refused r)) err err' stops failed ends = absurd stops
   run_cause (run.Files (halt.Read name)) err err' stops failed ends = read_cause find files p lefts failed.shard name.now is whole failed.named
@@ -195,7 +195,7 @@ module _ {S L : Type 0} (find : Find) (p : Planning) (told : Option (List (List 
   all_accepted (Err h) = tt
 
   pub all_causes : (r : Result (Unit {0}) RunHalt) (err err' : Option (List ℕ))
-      → IfErr r (LanesStop find (search_in find p) told (StartsOver told find p lanes rest) (BeyondOn lanes) err err') → LaneFaults find r lanes news
+      → IfErr r (LanesStop find (search_in find p) told (StartsOver told find p lanes rest) (IsBeyondOn lanes) err err') → LaneFaultsFollow find r lanes news
       → (r ≡ Err run.Generation → GenerationsEnd disk now) → IfErr r (HasCause find files disk now err err')
   all_causes (Ok done) err err' stops failed ends = tt
   all_causes (Err h) err err' stops failed ends = run_cause h err err' stops failed (λ e. ends (ap Err e))

@@ -7,14 +7,14 @@ use Rattle.eql_words.specs.declared.commands.Find.{Find}
 use Rattle.eql_cut.specs.declared.cut.Cut.{Cut}
 use Rattle.eql_ckdisk.specs.Found.{LastCut}
 use Rattle.eql_ckdisk.specs.Going.{Goes}
-use Rattle.eql_ckdisk.specs.Keeping.{NoMore}
+use Rattle.eql_ckdisk.specs.Keeping.{LeavesNoMore}
 use Rattle.eql_ckdisk.specs.Laws.{PutsGoOn}
 use Rattle.eql_ckdisk.specs.Runs.{PutsAll}
 use Rattle.eql_runs.specs.Files.{Files}
 use Rattle.eql_runs.specs.Runs.{KeepsCuts}
 
 -- the law: puts after a recovery are puts
-pub recovered_puts : PutsGoOn → (last : LastCut) (cuts : List Cut) (before mid now : Option History) → DiskTells (Goes NoMore) before mid
+pub recovered_puts : PutsGoOn → (last : LastCut) (cuts : List Cut) (before mid now : Option History) → DiskTells (Goes LeavesNoMore) before mid
     → DiskTells (PutsAll last cuts) mid now → DiskTells (PutsAll last cuts) before now
 recovered_puts law last cuts before mid now first puts = law.joined last [] cuts before mid now (law.recovery last before mid first) puts
 
@@ -41,5 +41,5 @@ told_none find files out out' (Some h) None puts = puts
 told_none find files out out' (Some h) (Some k) puts = put_none find files out out' h k puts
 
 pub recovered_keeps : PutsGoOn → (find : Find) (files : Option Files) (out out' : Option (List ℕ)) (before now : Option History)
-    → DiskTells (Goes NoMore) before now → DiskTells (KeepsCuts find files out out') before now
+    → DiskTells (Goes LeavesNoMore) before now → DiskTells (KeepsCuts find files out out') before now
 recovered_keeps law find files out out' before now going = told_none find files out out' before now (law.recovery no_last before now going)

@@ -17,7 +17,7 @@ use Rattle.eql_ckdisk.specs.Putting.{Stands, StandsAt, last_cut}
 use Rattle.eql_ckdisk.specs.Runs.{FindsOneOf, IsFoundAt, KeepsOneOf, PutsAll}
 use Rattle.eql_conductor.specs.declared.plan.Keep.{Keep}
 use Rattle.eql_conductor.specs.Saving.{PutsCuts}
-use Rattle.eql_runs.specs.RunLaws.{OneOnDisk}
+use Rattle.eql_runs.specs.RunLaws.{DiskHoldsOne}
 use Rattle.eql_runs.specs.Runs.{GenerationsEnd}
 use Rattle.eql_runs.specs.Starts.{DiskHolds, OnDisk, StandsFor, generation_on}
 use Rattle.eql_resume.specs.Finding.{held}
@@ -72,7 +72,7 @@ put_found images last cuts h k puts = by puts.0 puts.1
         subst (λ (m : Moment). StartOr last cuts h.now (found (seen_areas m))) (sym now) (steps.4.one (seen_areas steps.2) (images.seen steps.2))
 
 -- ---- a run that was found to begin so
-module _ (images : ImagesAreThere) (one : OneOnDisk) (find : Find) (begun : Begun) (asked : find.checkpoint ≢ None) where
+module _ (images : ImagesAreThere) (one : DiskHoldsOne) (find : Find) (begun : Begun) (asked : find.checkpoint ≢ None) where
   -- the disk at its start, and once all that it holds was kept
   start_seen : (h j : History) → KeepsAll h j → found (seen_areas h.now) ≡ found (seen_areas j.now)
   start_seen h j kept = ap (λ (m : Moment). found (seen_areas m)) (sym kept.now)
@@ -104,7 +104,7 @@ module _ (images : ImagesAreThere) (one : OneOnDisk) (find : Find) (begun : Begu
       sym own ∙ ap generation_on (begun_is one find (Some h) begun on is asked holds)
 
 -- the generations came to their end
-module _ {D : Type 0} (history : D → Option History) (count : D → ℕ) (images : ImagesAreThere) (one : OneOnDisk) (find : Find) (begun : Begun) where
+module _ {D : Type 0} (history : D → Option History) (count : D → ℕ) (images : ImagesAreThere) (one : DiskHoldsOne) (find : Find) (begun : Begun) where
   by_cuts : (asked : find.checkpoint ≢ None) (last then : LastCut) (cuts : List Cut) (disk before now : Option History) → IsFound find disk begun
       → DiskTells KeepsAll disk before → Stands last before → PutsCuts last cuts before now → Stands then now → then.generation ≡ 2 ^ 63
       → 2 ^ 62 ≤ last.generation → GenerationsEnd disk now

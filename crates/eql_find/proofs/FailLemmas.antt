@@ -10,7 +10,7 @@ use Rattle.eql_outside.specs.Outside.{Rose}
 use Rattle.eql_outside.specs.Plans.{FaultPlan}
 use Rattle.eql_lane.specs.Views.{LaneView}
 use Rattle.eql_lane.specs.declared.make.LaneStart.{LaneStart}
-use Rattle.eql_search.specs.Answers.{BecameAt, RoseFaults, SteadyBut}
+use Rattle.eql_search.specs.Answers.{AreSteadyBut, BecameAt, RoseFaults}
 use Rattle.eql_find.specs.Lanes.{AreOver, NoSourceFailed, SomeSourceFailed, StaysSource, lane_returned}
 use Rattle.eql_find.proofs.MakingLemmas.{made_faults, made_named, rose_from_none}
 use Rattle.eql_find.proofs.TextLemmas.{parts_of}
@@ -49,13 +49,13 @@ named_over left lent_as faults plan read_of reads slack shard (s ∷ ss) (b ∷ 
 
 -- what holds behind the first lane
 steady_behind : {S L : Type 0} (Told : ℕ → Type 0) (old new : LaneView S L) (olds news : List (LaneView S L))
-    → SteadyBut Told (old ∷ olds) (new ∷ news) → SteadyBut (λ shard. Told (suc shard)) olds news
+    → AreSteadyBut Told (old ∷ olds) (new ∷ news) → AreSteadyBut (λ shard. Told (suc shard)) olds news
 steady_behind Told old new olds news steady = λ shard o n none was is. steady (suc shard) o n none was is
 
 module _ {S L : Type 0} (left lent_as : S → Option (List ℕ)) where
   pub none_failed_lanes : (names : List (List ℕ)) (olds news : List (LaneView S L)) (Told : ℕ → Type 0)
       → ((shard : ℕ) → ¬ Told shard) → AreNamed lent_as names olds
-      → AllZip (StaysSource left lent_as) olds news → SteadyBut Told olds news → NoSourceFailed (map (lane_returned lent_as) news)
+      → AllZip (StaysSource left lent_as) olds news → AreSteadyBut Told olds news → NoSourceFailed (map (lane_returned lent_as) news)
   none_failed_lanes names [] [] Told none named stays steady = tt
   none_failed_lanes names [] (n ∷ ns) Told none named stays steady = absurd stays
   none_failed_lanes names (o ∷ os) [] Told none named stays steady = absurd stays

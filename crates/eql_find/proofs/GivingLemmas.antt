@@ -3,7 +3,7 @@ use native.Mathlib.Omega.{arith}
 use Rattle.std.proofs.Common.{◌≡◌, ◌≢◌, ◌<◌, ◌≤◌, ℕ, Bool, false, List, Option, Some, None, Ok, Err, refl, sym, subst, ◌∙◌}
 use Rattle.std.specs.Prelude.{IfSome, Result}
 use Rattle.std.proofs.lemmas.Option.{none-some}
-use Rattle.eql_outside.specs.Faults.{SameFaults}
+use Rattle.eql_outside.specs.Faults.{FaultsAreSame}
 use Rattle.eql_outside.specs.Moments.{History}
 use Rattle.eql_outside.specs.Outside.{Rose}
 use Rattle.eql_values.specs.declared.order.Mark.{Mark}
@@ -15,7 +15,7 @@ use Rattle.eql_conductor.specs.Runs.{disk_faults}
 use Rattle.eql_inputs.specs.declared.halt.Halt.TheVariants as halt
 use Rattle.eql_find.specs.declared.halt.RunHalt.{RunHalt}
 use Rattle.eql_find.specs.declared.halt.RunHalt.TheVariants as run
-use Rattle.eql_find.specs.Halts.{DiskAs, FaultsAs}
+use Rattle.eql_find.specs.Halts.{DiskFollows, FaultsFollow}
 use Rattle.eql_find.specs.Running.{KeepsIfAsked}
 use Rattle.eql_find.specs.Searching.{KeepsAs}
 use Rattle.eql_find.specs.Starting.{IsFreshKeep, KeepsFor}
@@ -23,7 +23,7 @@ use Rattle.eql_find.proofs.MakingLemmas.{rose_from_none}
 
 -- ---- where a run keeps its cuts
 module _ {D : Type 0} (history : D → Option History) (count : D → ℕ) where
-  -- a run keeps cuts exactly where it is asked to
+  -- a run keeps cuts exactly when it is asked to
   pub keeps_if_asked : (checkpoint : Option Checkpoint) (start : Option History) (keep : Option (Keep D)) → (checkpoint ≡ None → keep ≡ None)
       → (checkpoint ≢ None → KeepsFor history count start keep) → KeepsIfAsked history checkpoint keep
   keeps_if_asked None start None none some = tt
@@ -81,7 +81,7 @@ module _ {D : Type 0} (history : D → Option History) (count : D → ℕ) where
 
   pub disk_told : (start : Option History) (keep kept : Option (Keep D)) (r : Result (Unit {0}) RunHalt) (before now : ℕ)
       → IsFreshKeep history count start keep → GaveBack kept before now
-      → DiskAs r (disk_faults history count keep) (disk_faults history count kept) → DiskAs r before now
+      → DiskFollows r (disk_faults history count keep) (disk_faults history count kept) → DiskFollows r before now
   disk_told start keep kept (Ok done) before now fresh gave told = back_same kept before now gave (told ∙ fresh_count start keep fresh)
   disk_told start keep kept (Err (run.Files (halt.Refused r))) before now fresh gave told = back_same kept before now gave (told ∙ fresh_count start keep fresh)
   disk_told start keep kept (Err (run.Files (halt.Read name))) before now fresh gave told = tt
@@ -101,7 +101,7 @@ there None P some h = absurd (some refl)
 there (Some x) P some h = h
 
 -- a call after which no count is another
-pub then_faults : (before mid now : List ℕ → ℕ) (r : Result (Unit {0}) RunHalt) → SameFaults mid now → FaultsAs r before mid → FaultsAs r before now
+pub then_faults : (before mid now : List ℕ → ℕ) (r : Result (Unit {0}) RunHalt) → FaultsAreSame mid now → FaultsFollow r before mid → FaultsFollow r before now
 then_faults before mid now (Ok done) same h = λ name. same name ∙ h name
 then_faults before mid now (Err (run.Files (halt.Refused r))) same h = λ name. same name ∙ h name
 then_faults before mid now (Err (run.Files (halt.Read name))) same h = record {

@@ -4,7 +4,7 @@ use Rattle.eql_outside.specs.declared.disk.Area.TheVariants.{A}
 use Rattle.eql_outside.specs.Moments.{History, DiskTells}
 use Rattle.eql_words.specs.declared.commands.Find.{Find}
 use Rattle.eql_ckdisk.specs.Going.{Goes}
-use Rattle.eql_ckdisk.specs.Keeping.{NoMore}
+use Rattle.eql_ckdisk.specs.Keeping.{LeavesNoMore}
 use Rattle.eql_runs.specs.Files.{Files}
 use Rattle.eql_runs.specs.Runs.{KeepsCuts}
 use Rattle.eql_find.specs.Finding.{FindsSome}
@@ -42,9 +42,9 @@ same_keeps find files out out' before now same =
     subst (λ (d : Option History). DiskTells (KeepsCuts find files out out') before d) (sym same) (still_keeps find files out out' before)
 
 -- and stands for no more than before
-still_no_more : (h : Option History) → DiskTells (Goes NoMore) h h
+still_no_more : (h : Option History) → DiskTells (Goes LeavesNoMore) h h
 still_no_more None = tt
 still_no_more (Some h) = (0, refl)
 
-pub same_no_more : (before now : Option History) → now ≡ before → DiskTells (Goes NoMore) before now
-same_no_more before now same = subst (λ (d : Option History). DiskTells (Goes NoMore) before d) (sym same) (still_no_more before)
+pub same_no_more : (before now : Option History) → now ≡ before → DiskTells (Goes LeavesNoMore) before now
+same_no_more before now same = subst (λ (d : Option History). DiskTells (Goes LeavesNoMore) before d) (sym same) (still_no_more before)

@@ -18,7 +18,7 @@ use Rattle.eql_laws.specs.Lanes.{lane_at, lanes_from}
 use Rattle.eql_laws.specs.Places.{ReadTo, lows_from}
 use Rattle.eql_words.specs.declared.commands.Checkpoint.{Checkpoint}
 use Rattle.eql_words.specs.declared.commands.Find.{Find}
-use Rattle.eql_words.specs.Bounds.{FindBounds}
+use Rattle.eql_words.specs.Bounds.{FindIsBounded}
 use Rattle.eql_lane.specs.declared.ops.LimitOf.TheVariants as reached
 use Rattle.eql_cut.specs.declared.cut.Cut.{Cut}
 use Rattle.eql_cut.specs.declared.cut.CutHead.{CutHead}
@@ -171,7 +171,7 @@ is_cut_of search slack ts cut h =
       kept_is = h.is_cut.kept_is;
     }
 
-pub are_cuts_of : (find : Find) (p : Planning) → FindBounds find → (ts : List (List ℕ)) (listed : ℕ) (out out' : Option (List ℕ)) (cuts : List Cut)
+pub are_cuts_of : (find : Find) (p : Planning) → FindIsBounded find → (ts : List (List ℕ)) (listed : ℕ) (out out' : Option (List ℕ)) (cuts : List Cut)
     → AreSearched (search_in find p) ts listed out out' cuts → length (matches_of (search_in find p) ts) < 2 ^ 64
     → (slack : ℕ) → find.slack ≡ Some slack
     → All (λ (cut : Cut). IsCutOf (search_in find p) slack ts cut) cuts × All (WroteCounted (search_in find p) ts listed out out') cuts

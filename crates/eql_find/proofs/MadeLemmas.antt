@@ -8,7 +8,7 @@ use Rattle.eql_outside.specs.Areas.{seen_areas}
 use Rattle.eql_outside.specs.Moments.{History}
 use Rattle.eql_words.specs.declared.commands.Checkpoint.{Checkpoint}
 use Rattle.eql_words.specs.declared.commands.Find.{Find}
-use Rattle.eql_words.specs.Bounds.{FindBounds}
+use Rattle.eql_words.specs.Bounds.{FindIsBounded}
 use Rattle.eql_lane.specs.declared.make.LaneRefused.{LaneRefused}
 use Rattle.eql_lane.specs.declared.make.LaneRefused.TheVariants as refused
 use Rattle.eql_lane.specs.declared.make.LaneStart.{LaneStart}
@@ -17,9 +17,9 @@ use Rattle.eql_lane.specs.Passing.{IsCause}
 use Rattle.eql_lane.specs.Starts.{cut_of, wanted_of}
 use Rattle.eql_cut.specs.declared.cut.Cut.{Cut}
 use Rattle.eql_ckdisk.specs.Found.{found}
-use Rattle.eql_runs.specs.CutRefusals.{CutRefusal, IsTested, NoneRefusedBefore, ShardRefuses}
+use Rattle.eql_runs.specs.CutRefusals.{CutRefusal, IsTested, NoneIsRefusedBefore, ShardRefuses}
 use Rattle.eql_runs.specs.Files.{Files, HasTexts}
-use Rattle.eql_runs.specs.RunLaws.{FitsAtAnySpan, OneOnDisk}
+use Rattle.eql_runs.specs.RunLaws.{DiskHoldsOne, FitsAtAnySpan}
 use Rattle.eql_runs.specs.Runs.{RefusesCut}
 use Rattle.eql_runs.specs.Starts.{DiskHolds, OnDisk, a_cut, nothing_kept, start_asked, start_for}
 use Rattle.eql_resume.specs.Beginnings.{LanesBegin}
@@ -34,7 +34,7 @@ use Rattle.eql_find.proofs.RefusingLemmas.{none_refused, no_element, refusal_at,
 use Rattle.eql_find.proofs.TextLemmas.{begins_asked, searches_in, some_at, source_of_text, text_of_source, texts_long}
 
 -- what a disk holds is what the run was found to begin with
-pub begun_is : OneOnDisk → (find : Find) (disk : Option History) (begun : Begun) (on : OnDisk) → IsFound find disk begun → find.checkpoint ≢ None
+pub begun_is : DiskHoldsOne → (find : Find) (disk : Option History) (begun : Begun) (on : OnDisk) → IsFound find disk begun → find.checkpoint ≢ None
     → DiskHolds disk on → on_begun begun ≡ on
 begun_is law find None begun on is asked holds = absurd holds
 begun_is law find (Some h) begun on is asked holds = law (found (seen_areas h.now)) (on_begun begun) on (is asked) holds
@@ -48,8 +48,8 @@ fresh_or_refused shard text before now refused.Grown r cause is = false≢true c
 fresh_or_refused shard text before now refused.Failed r cause is = none-some r is
 fresh_or_refused shard text before now refused.Memory r cause is = none-some r is
 
-module _ {S : Type 0} (left lent_as : S → Option (List ℕ)) (faults : S → ℕ) (plan : S → Option FaultPlan) (spans : FitsAtAnySpan) (one : OneOnDisk)
-    (find : Find) (p : Planning) (bounds : FindBounds find) (fs : Files) (is : IsPlanOf find (Some fs) p) (disk : Option History)
+module _ {S : Type 0} (left lent_as : S → Option (List ℕ)) (faults : S → ℕ) (plan : S → Option FaultPlan) (spans : FitsAtAnySpan) (one : DiskHoldsOne)
+    (find : Find) (p : Planning) (bounds : FindIsBounded find) (fs : Files) (is : IsPlanOf find (Some fs) p) (disk : Option History)
     (format generation : ℕ) (texts : List (List ℕ)) (there : HasTexts find.shards fs texts) (sources : List S)
     (lefts : map left sources ≡ map (λ (t : List ℕ). Some t) texts) (starts : List LaneStart) where
   many : length texts ≡ length find.shards
@@ -58,7 +58,7 @@ module _ {S : Type 0} (left lent_as : S → Option (List ℕ)) (faults : S → �
   -- shards that serve are refused for no cause
   none_before : (cut : Cut) (shard : ℕ) → LanesBegin (Some cut) (format == 1) (length find.shards) starts
       → ((s : ℕ) (x : S) (b : LaneStart) → s < shard → slice_get sources s ≡ Some x → slice_get starts s ≡ Some b → IfSome (left x) (Serves b))
-      → NoneRefusedBefore format cut shard texts
+      → NoneIsRefusedBefore format cut shard texts
   none_before cut shard begins serve = none_refused format cut shard texts (λ s text less at.
       let x = source_of_text left sources texts s text lefts at in
       let within = slice_get_within texts s text at in

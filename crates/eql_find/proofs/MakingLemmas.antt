@@ -8,7 +8,7 @@ use Rattle.std.proofs.lemmas.List.{append_assoc, length-append, length-reverse, 
 use Rattle.std.proofs.lemmas.Option.{none-some, same_Some}
 use Rattle.eql_values.specs.Accepted.{Reads}
 use Rattle.eql_outside.specs.Outside.{Rose}
-use Rattle.eql_outside.specs.Faults.{SameFaults, RoseUnder, RosesAgree}
+use Rattle.eql_outside.specs.Faults.{FaultsAreSame, RoseUnder, RosesAgree}
 use Rattle.eql_outside.specs.Plans.{FaultPlan}
 use Rattle.eql_outside.specs.Unfailing.{IsUnfailing}
 use Rattle.eql_values.specs.declared.cut.LaneCut.{LaneCut}
@@ -289,14 +289,14 @@ module _ {S L : Type 0} (left lent_as : S → Option (List ℕ)) (faults : S →
   )
 
 -- counts that stay after a stop
-roses_later : RosesAgree → (o : Option (List ℕ)) (before mid now : List ℕ → ℕ) → RoseUnder o before mid → SameFaults mid now
+roses_later : RosesAgree → (o : Option (List ℕ)) (before mid now : List ℕ → ℕ) → RoseUnder o before mid → FaultsAreSame mid now
     → RoseUnder o before now
 roses_later agree None before mid now rose same = λ name. same name ∙ rose name
 roses_later agree (Some n) before mid now rose same = agree.later n before mid now rose same
 
 pub stopped_then : {S : Type 0} (left lent_as : S → Option (List ℕ)) (faults : S → ℕ) (plan : S → Option FaultPlan) → RosesAgree → (why : LaneRefused)
     (shard : ℕ) (sources : List S) (starts : List LaneStart) (before mid now : ℕ) (first between last : List ℕ → ℕ)
-    → StopsMakingAt left lent_as faults plan why shard sources starts before mid first between → now ≡ mid → SameFaults between last
+    → StopsMakingAt left lent_as faults plan why shard sources starts before mid first between → now ≡ mid → FaultsAreSame between last
     → StopsMakingAt left lent_as faults plan why shard sources starts before now first last
 stopped_then left lent_as faults plan agree why shard sources starts before mid now first between last at same same_named = record {
   source = at.source;

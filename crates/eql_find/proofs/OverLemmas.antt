@@ -10,7 +10,7 @@ use Rattle.eql_check.specs.Kinds.{kind_at}
 use Rattle.eql_check.specs.Typing.{IsChecked}
 use Rattle.eql_query.specs.QueryTree.{query_tree}
 use Rattle.eql_stages.specs.Planned.{line_of, planned}
-use Rattle.eql_words.specs.Bounds.{FindBounds}
+use Rattle.eql_words.specs.Bounds.{FindIsBounded}
 use Rattle.eql_words.specs.declared.commands.Find.{Find}
 use Rattle.eql_lane.specs.declared.make.LaneRefused.{LaneRefused}
 use Rattle.eql_lane.specs.declared.make.LaneRefused.TheVariants as refused
@@ -24,7 +24,7 @@ use Rattle.eql_conductor.specs.declared.plan.Keep.{Keep}
 use Rattle.eql_runs.specs.CutRefusals.{CutRefusal}
 use Rattle.eql_runs.specs.CutRefusals as cut
 use Rattle.eql_runs.specs.Files.{Files}
-use Rattle.eql_runs.specs.RunLaws.{FitsAtAnySpan, OneOnDisk, TestedIsAccepted}
+use Rattle.eql_runs.specs.RunLaws.{DiskHoldsOne, FitsAtAnySpan, TestedIsAccepted}
 use Rattle.eql_runs.specs.Runs.{IfFound, RefusesCut}
 use Rattle.eql_runs.specs.Starts.{DiskHolds, OnDisk, start_for}
 use Rattle.eql_inputs.specs.Shards.{AreWholeFiles}
@@ -60,7 +60,7 @@ cut_count find p count (Some cut) many suits = many ∙ sym (suits.is_cut.stands
 
 module _ {S L D : Type 0} (left lent_as : S → Option (List ℕ)) (faults : S → ℕ) (plan : S → Option FaultPlan) (read_of : L → Reads)
     (find : Find) (files : Option Files) (p : Planning) (disk : Option History) (told : Option (List (List ℕ))) (told_is : told ≡ texts_told files find.shards)
-    (sources : List S) (starts : List LaneStart) (rest : Rest) (head : CutHead) (keep : Option (Keep D)) (bounds : FindBounds find)
+    (sources : List S) (starts : List LaneStart) (rest : Rest) (head : CutHead) (keep : Option (Keep D)) (bounds : FindIsBounded find)
     (is : IsPlanOf find files p) (whole : AreWholeFiles find.shards files (map left sources))
     (named : map lent_as sources ≡ map (λ (n : List ℕ). Some n) find.shards) (begins : BeginsOnDisk find p disk head keep starts rest) where
   -- ---- how many
@@ -108,7 +108,7 @@ module _ {S L D : Type 0} (left lent_as : S → Option (List ℕ)) (faults : S �
           (lanes.each shard at.start at.begins) at.refused_by.cause) refusal)
       by (Some cut) asked lanes = asked
 
-  module _ (spans : FitsAtAnySpan) (one : OneOnDisk) where
+  module _ (spans : FitsAtAnySpan) (one : DiskHoldsOne) where
     refused_at : (why : LaneRefused) (shard : ℕ) (before now : ℕ) (names names' : List ℕ → ℕ) (r : CutRefusal)
         → StopsMakingAt left lent_as faults plan why shard sources starts before now names names' → refusal_at shard why ≡ Some r
         → IfFound find files disk (λ fs on. RefusesCut find fs on r)
@@ -177,14 +177,14 @@ module _ {S L D : Type 0} (left lent_as : S → Option (List ℕ)) (faults : S �
     }
 
     -- what it begins with is what its disk holds
-    pub start_on : OneOnDisk → (on : OnDisk) → (find.checkpoint ≢ None → DiskHolds disk on)
+    pub start_on : DiskHoldsOne → (on : OnDisk) → (find.checkpoint ≢ None → DiskHolds disk on)
         → start_for find on ≡ held begins.begun.format begins.begun.generation begins.begun.cut
     start_on one on holds =
         start_is find begins.begun.format begins.begun.generation begins.begun.cut on begins.own.asked
         (λ asked. begun_is one find disk begins.begun on begins.is_found asked (holds asked))
 
     -- it is one that nothing refuses
-    pub over_runs : FitsAtAnySpan → OneOnDisk → TestedIsAccepted → Runs find p told lanes rest disk files
+    pub over_runs : FitsAtAnySpan → DiskHoldsOne → TestedIsAccepted → Runs find p told lanes rest disk files
     over_runs spans one law = by files is whole told_is
       where
         by : (o : Option Files) → IsPlanOf find o p → AreWholeFiles find.shards o (map left sources) → told ≡ texts_told o find.shards

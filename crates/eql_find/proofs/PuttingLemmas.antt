@@ -7,20 +7,20 @@ use Rattle.eql_outside.specs.Moments.{History, DiskTells}
 use Rattle.eql_values.specs.declared.order.Mark.{Mark}
 use Rattle.eql_words.specs.declared.commands.Checkpoint.{Checkpoint}
 use Rattle.eql_words.specs.declared.commands.Find.{Find}
-use Rattle.eql_words.specs.Bounds.{FindBounds}
+use Rattle.eql_words.specs.Bounds.{FindIsBounded}
 use Rattle.eql_lane.specs.Views.{LaneView}
 use Rattle.eql_cut.specs.declared.cut.Cut.{Cut}
 use Rattle.eql_cut.specs.declared.cut.CutHead.{CutHead}
 use Rattle.eql_cut.specs.Rising.{RiseFrom}
 use Rattle.eql_ckdisk.specs.Found.{LastCut}
 use Rattle.eql_ckdisk.specs.Going.{Goes}
-use Rattle.eql_ckdisk.specs.Keeping.{KeepsAll, NoMore}
+use Rattle.eql_ckdisk.specs.Keeping.{KeepsAll, LeavesNoMore}
 use Rattle.eql_ckdisk.specs.Laws.{PutsGoOn}
 use Rattle.eql_ckdisk.specs.Putting.{Stands, StandsAt, last_cut}
 use Rattle.eql_conductor.specs.declared.plan.Keep.{Keep}
 use Rattle.eql_conductor.specs.Saving.{PutsCuts}
 use Rattle.eql_runs.specs.Files.{Files}
-use Rattle.eql_runs.specs.RunLaws.{OneOnDisk, OneSearch}
+use Rattle.eql_runs.specs.RunLaws.{DiskHoldsOne, SearchIsOne}
 use Rattle.eql_runs.specs.Runs.{IsPut, KeepsCuts, Searches, Trusts, WroteCounted}
 use Rattle.eql_runs.specs.Searches.{Search, matches_of}
 use Rattle.eql_runs.specs.Starts.{DiskHolds, IsCutOf, IsHeadOf, IsTrusted, OnDisk, generation_on, listed_on, mark_on}
@@ -40,7 +40,7 @@ use Rattle.eql_find.proofs.MadeLemmas.{begun_is}
 use Rattle.eql_find.proofs.TextLemmas.{asked_slack, begins_asked, head_is, texts_long}
 
 -- all of a disk that was kept is no more than was there
-pub kept_no_more : (before now : Option History) → DiskTells KeepsAll before now → DiskTells (Goes NoMore) before now
+pub kept_no_more : (before now : Option History) → DiskTells KeepsAll before now → DiskTells (Goes LeavesNoMore) before now
 kept_no_more None None kept = tt
 kept_no_more None (Some k) kept = absurd kept
 kept_no_more (Some h) None kept = absurd kept
@@ -53,7 +53,7 @@ mark_is p u format generation None rest is = ap Rest.mark is
 mark_is p u format generation (Some cut) rest is = ap Rest.mark is
 
 -- what the cuts of a run are, of the search that is made
-module _ (find : Find) (p : Planning) (bounds : FindBounds find) (asked : find.checkpoint ≢ None) (head : CutHead) (own : head ≡ head_in find p)
+module _ (find : Find) (p : Planning) (bounds : FindIsBounded find) (asked : find.checkpoint ≢ None) (head : CutHead) (own : head ≡ head_in find p)
     (texts : List (List ℕ)) (many : length texts ≡ length find.shards) (from : Mark) (listed : ℕ) (out out' : Option (List ℕ)) where
   abbrev IsOwnCut : Cut → Type 0
   IsOwnCut cut = IsCutOf (search_in find p) (slack_told find.slack) texts cut
@@ -78,8 +78,8 @@ module _ (find : Find) (p : Planning) (bounds : FindBounds find) (asked : find.c
       (one_put cut (All-head (IsLaterCut head from) cut cuts later) (All-head (λ (cut : Cut). IsOwnCut cut) cut cuts are) (All-head Wrote cut cuts wrote))
       (all_put cuts (All-tail (IsLaterCut head from) cut cuts later) (All-tail (λ (cut : Cut). IsOwnCut cut) cut cuts are) (All-tail Wrote cut cuts wrote))
 
-module _ {S L : Type 0} (go_on : PutsGoOn) (images : ImagesAreThere) (one : OneOnDisk) (search_one : OneSearch) (find : Find) (p : Planning)
-    (bounds : FindBounds find) (disk : Option History) (files : Option Files) (told : Option (List (List ℕ))) (lanes : List (LaneView S L)) (rest : Rest)
+module _ {S L : Type 0} (go_on : PutsGoOn) (images : ImagesAreThere) (one : DiskHoldsOne) (search_one : SearchIsOne) (find : Find) (p : Planning)
+    (bounds : FindIsBounded find) (disk : Option History) (files : Option Files) (told : Option (List (List ℕ))) (lanes : List (LaneView S L)) (rest : Rest)
     (begun : Begun) (found_so : IsFound find disk begun) (rest_is : rest ≡ rest_by (pipes_of p) (begun.format == 1) begun.cut)
     (runs : Runs find p told lanes rest disk files) (head : CutHead) (own : head ≡ head_in find p) (out out' : Option (List ℕ)) where
   -- what the search says of its cuts
@@ -182,6 +182,6 @@ none_put history count go_on find files out out' disk (Some k) asked may fresh =
 
 -- nor changed what the disk stands for
 pub none_changed : {D : Type 0} (history : D → Option History) (count : D → ℕ) (disk : Option History) (keep : Option (Keep D))
-    → IsFreshKeep history count disk keep → DiskTells (Goes NoMore) disk (disk_after history disk keep)
+    → IsFreshKeep history count disk keep → DiskTells (Goes LeavesNoMore) disk (disk_after history disk keep)
 none_changed history count disk None fresh = same_no_more disk disk refl
 none_changed history count disk (Some k) fresh = kept_no_more disk (history k.disk) fresh.2

@@ -11,7 +11,7 @@ use Rattle.eql_outside.specs.Areas.{seen_areas}
 use Rattle.eql_outside.specs.Moments.{History}
 use Rattle.eql_laws.specs.Fitting.{Fits, Kept}
 use Rattle.eql_words.specs.declared.commands.Find.{Find}
-use Rattle.eql_words.specs.Bounds.{FindBounds}
+use Rattle.eql_words.specs.Bounds.{FindIsBounded}
 use Rattle.eql_lane.specs.declared.make.LaneRefused.{LaneRefused}
 use Rattle.eql_lane.specs.declared.make.LaneRefused.TheVariants as refused
 use Rattle.eql_lane.specs.declared.make.LaneStart.{LaneStart}
@@ -23,9 +23,9 @@ use Rattle.eql_cut.specs.declared.cut.CutHead.{CutHead}
 use Rattle.eql_cut.specs.Domain.{kept_by}
 use Rattle.eql_cut.specs.Fitting.{run_of as bare_run}
 use Rattle.eql_ckdisk.specs.Found.{found}
-use Rattle.eql_runs.specs.CutRefusals.{CutRefusal, CutRefuses, FoundRefuses, IsTestedCut, NoneRefusedBefore, ShardRefuses, by_found, by_shard, grown, has_no_line, head_damaged, head_differs, is_grown, is_short, is_unfit, no_line, short, text_damaged}
+use Rattle.eql_runs.specs.CutRefusals.{CutRefusal, CutRefuses, FoundRefuses, IsTestedCut, NoneIsRefusedBefore, ShardRefuses, by_found, by_shard, grown, has_no_line, head_damaged, head_differs, is_grown, is_short, is_unfit, no_line, short, text_damaged}
 use Rattle.eql_runs.specs.Files.{Files}
-use Rattle.eql_runs.specs.RunLaws.{FitsAtAnySpan, OneOnDisk}
+use Rattle.eql_runs.specs.RunLaws.{DiskHoldsOne, FitsAtAnySpan}
 use Rattle.eql_runs.specs.Runs.{RefusesCut, Searches}
 use Rattle.eql_runs.specs.Searches.{run_of}
 use Rattle.eql_runs.specs.Starts.{DiskHolds, IsHeadOf, OnDisk, StandsFor, a_cut, start_for}
@@ -59,12 +59,12 @@ module _ (spans : FitsAtAnySpan) (find : Find) (p : Planning) where
       is_unfit format generation cut is (λ fits. unfit (unspanned head.slack head.shards (kept_by cut) fits))
 
 -- what a disk is told to hold
-holds_one : OneOnDisk → (h : History) (on other : OnDisk) → StandsFor on (found (seen_areas h.now)) → DiskHolds (Some h) other → on ≡ other
+holds_one : DiskHoldsOne → (h : History) (on other : OnDisk) → StandsFor on (found (seen_areas h.now)) → DiskHolds (Some h) other → on ≡ other
 holds_one law h on other stands holds = law (found (seen_areas h.now)) on other stands holds
 
 -- ---- a cut that is refused as it was found
-pub refused_found : FitsAtAnySpan → OneOnDisk → (find : Find) (p : Planning) (files : Files) (texts : List (List ℕ)) (disk : Option History) (r : CutRefusal)
-    → FindBounds find → find.checkpoint ≢ None → Searches find files (search_in find p) texts → length texts ≡ length find.shards
+pub refused_found : FitsAtAnySpan → DiskHoldsOne → (find : Find) (p : Planning) (files : Files) (texts : List (List ℕ)) (disk : Option History) (r : CutRefusal)
+    → FindIsBounded find → find.checkpoint ≢ None → Searches find files (search_in find p) texts → length texts ≡ length find.shards
     → IfSome disk (λ h. IsRefusedBy (stages_of p) (values_of p) (pipes_of p) (head_in find p) (found (seen_areas h.now)) r)
     → (on : OnDisk) → DiskHolds disk on → RefusesCut find files on r
 refused_found spans law find p files texts None r bounds asked searches many by on holds = absurd holds
@@ -126,7 +126,7 @@ serves_or_refused format cut shard text true b _ is begins serves (is_grown lane
 pub none_refused : (format : ℕ) (cut : Cut) (shard : ℕ) (texts : List (List ℕ))
     → ((s : ℕ) (text : List ℕ) → s < shard → slice_get texts s ≡ Some text
     → (b : LaneStart) × LaneBegins (Some cut) (format == 1) s b × Serves b text)
-    → NoneRefusedBefore format cut shard texts
+    → NoneIsRefusedBefore format cut shard texts
 none_refused format cut shard texts each = λ s text r less there refused.
     let one = each s text less there in
     serves_or_refused format cut s text (format == 1) one.0 r refl one.1 one.2 refused
@@ -192,7 +192,7 @@ shard_refuses format cut shard text u b before now refused.Failed is begins caus
 shard_refuses format cut shard text u b before now refused.Memory is begins cause = tt
 
 -- ---- a run that begins with a cut
-module _ (spans : FitsAtAnySpan) (find : Find) (p : Planning) (texts : List (List ℕ)) (bounds : FindBounds find) (asked : find.checkpoint ≢ None)
+module _ (spans : FitsAtAnySpan) (find : Find) (p : Planning) (texts : List (List ℕ)) (bounds : FindIsBounded find) (asked : find.checkpoint ≢ None)
     (many : length texts ≡ length find.shards) (cut : Cut) (suits : Suits (stages_of p) (values_of p) (pipes_of p) (head_in find p) cut) where
   own_head : IsHeadOf (search_in find p) (length texts) cut.head
   own_head = subst (λ (h : CutHead). IsHeadOf (search_in find p) (length texts) h) (sym suits.head_is) (head_is find p (length texts) bounds asked many)
@@ -201,12 +201,12 @@ module _ (spans : FitsAtAnySpan) (find : Find) (p : Planning) (texts : List (Lis
   own_fits = subst (λ (n : ℕ). Fits (run_of (search_in find p) cut.head.slack) n (kept_by cut)) own_head.shards_are
       (spanned spans find p cut.head.slack cut.head.shards (kept_by cut) suits.fits)
 
-  pub tested_cut : (format : ℕ) → NoneRefusedBefore format cut (length texts) texts → IsTestedCut (search_in find p) texts format cut
+  pub tested_cut : (format : ℕ) → NoneIsRefusedBefore format cut (length texts) texts → IsTestedCut (search_in find p) texts format cut
   tested_cut format none = record { head = own_head; fits = own_fits; shards = none }
 
   pub refused_by_shard : (files : Files) (format generation : ℕ) (shard : ℕ) (text : List ℕ) (r : CutRefusal) (on : OnDisk)
       → Searches find files (search_in find p) texts → a_cut format generation cut ≡ on → slice_get texts shard ≡ Some text
-      → NoneRefusedBefore format cut shard texts → ShardRefuses format cut shard text r → RefusesCut find files on r
+      → NoneIsRefusedBefore format cut shard texts → ShardRefuses format cut shard text r → RefusesCut find files on r
   refused_by_shard files format generation shard text r on searches one there none refuses =
       let start : start_for find on ≡ on = begins_asked find.checkpoint on asked in
       record {

@@ -16,7 +16,7 @@ use Rattle.eql_book.specs.Books.{FitsPipes}
 use Rattle.eql_book.specs.Laws.{fresh_cut as fresh_book}
 use Rattle.eql_words.specs.declared.commands.Checkpoint.{Checkpoint}
 use Rattle.eql_words.specs.declared.commands.Find.{Find}
-use Rattle.eql_words.specs.Bounds.{FindBounds, KeptBounds}
+use Rattle.eql_words.specs.Bounds.{FindIsBounded, KeptIsBounded}
 use Rattle.eql_lane.specs.Views.{LaneView}
 use Rattle.eql_cut.specs.declared.cut.Cut.{Cut}
 use Rattle.eql_cut.specs.declared.cut.CutHead.{CutHead}
@@ -55,7 +55,7 @@ abbrev pub StartsSo : {S L : Type 0} → Find → Planning → List (List ℕ) �
 StartsSo find p ts lanes r = StartsOn (search_in find p) ts r.mark (cuts_of lanes) r.holders r.book
 
 -- ---- with what the search begins
-module _ {S L : Type 0} (laws : BeginLaws) (find : Find) (p : Planning) (bounds : FindBounds find)
+module _ {S L : Type 0} (laws : BeginLaws) (find : Find) (p : Planning) (bounds : FindIsBounded find)
     (lanes : List (LaneView S L)) (rest : Rest) (many : length lanes ≡ length find.shards) where
   ascend_at : (told : Option (List (List ℕ))) (format : ℕ) (o : Option Cut) → IfSome o (λ cut. find.checkpoint ≢ None)
       → IfSome o (Suits (stages_of p) (values_of p) (pipes_of p) (head_in find p))
@@ -188,12 +188,12 @@ module _ {S L : Type 0} (read_of : L → Reads) (reads : Reads) (slack : Option 
 
 -- ---- the disk
 -- a run that keeps cuts if it is asked to may keep them in a search
-pub keeps_on : {D : Type 0} (history : D → Option History) (find : Find) (p : Planning) (bounds : FindBounds find) (mark : Mark) (head : CutHead)
+pub keeps_on : {D : Type 0} (history : D → Option History) (find : Find) (p : Planning) (bounds : FindIsBounded find) (mark : Mark) (head : CutHead)
     (keep : Option (Keep D)) (lanes : ℕ) → head ≡ head_in find p → IsTrue (names_ascend p.mapping) → lanes ≡ length find.shards
     → KeepsIfAsked history find.checkpoint keep → MayKeepOn history (plan_in find head mark) lanes keep
 keeps_on history find p bounds mark head keep lanes is names many keeps = by find.checkpoint bounds.kept keep keeps
   where
-    by : (c : Option Checkpoint) → IfSome c KeptBounds → (k : Option (Keep _)) → KeepsIfAsked history c k
+    by : (c : Option Checkpoint) → IfSome c KeptIsBounded → (k : Option (Keep _)) → KeepsIfAsked history c k
         → MayKeepOn history (record { batch = find.batch; every = every_of c; head = head; mark = mark }) lanes k
     by None kept None h = refl
     by None kept (Some k) h = absurd h

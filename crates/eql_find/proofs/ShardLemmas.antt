@@ -9,7 +9,7 @@ use Rattle.std.proofs.lemmas.List.Elements.{All-head, All-tail, All-cons, All-ni
 use Rattle.std.proofs.lemmas.Option.{same_Some, none-some, slice_get_within, get_or_from_slice_get}
 use Rattle.eql_values.specs.Accepted.{Reads}
 use Rattle.eql_outside.specs.Outside.{Rose}
-use Rattle.eql_outside.specs.Faults.{SameFaults, RoseFor, RoseUnder}
+use Rattle.eql_outside.specs.Faults.{FaultsAreSame, RoseFor, RoseUnder}
 use Rattle.eql_outside.specs.Plans.{FaultPlan}
 use Rattle.eql_outside.specs.Unfailing.{IsUnfailing}
 use Rattle.eql_words.specs.declared.commands.Find.{Find}
@@ -18,13 +18,13 @@ use Rattle.eql_lane.specs.declared.make.LaneRefused.TheVariants as refused
 use Rattle.eql_lane.specs.declared.make.LaneStart.{LaneStart}
 use Rattle.eql_lane.specs.Views.{LaneView}
 use Rattle.eql_inputs.specs.declared.halt.Halt.TheVariants as halt
-use Rattle.eql_search.specs.Answers.{AreUnfailing, SteadyBut}
+use Rattle.eql_search.specs.Answers.{AreSteadyBut, AreUnfailing}
 use Rattle.eql_find.specs.declared.halt.CutStop.TheVariants as cut
 use Rattle.eql_find.specs.declared.halt.RunHalt.{RunHalt}
 use Rattle.eql_find.specs.declared.halt.RunHalt.TheVariants as run
-use Rattle.eql_find.specs.Halts.{FaultsAs, CountAs, DiskAs, OutAs, ErrAs, IsFault, IsReport, TellsNothing}
+use Rattle.eql_find.specs.Halts.{FaultsFollow, CountFollows, DiskFollows, OutFollows, ErrFollows, IsFault, IsReport, TellsNothing}
 use Rattle.eql_find.specs.Lanes.{AreOver, CameBack, StaysSource, StopsMaking, lane_returned}
-use Rattle.eql_find.specs.Searching.{LaneFaults}
+use Rattle.eql_find.specs.Searching.{LaneFaultsFollow}
 use Rattle.eql_find.specs.Stops.{IsHaltAt, short, no_line, grown, failed, unmade}
 use Rattle.eql_find.proofs.FailLemmas.{AreNamed, none_failed_lanes, some_failed_lane}
 use Rattle.eql_find.proofs.MakingLemmas.{by_failure, not_failed}
@@ -59,11 +59,11 @@ named_at lent_as (s ∷ ss) (n ∷ ns) (suc shard) source name is at has =
 -- ---- a run whose lanes weren't made: all that its halt says beside its cause
 pub record MadeHalt {S : Type 0} (plan : S → Option FaultPlan) (sources : List S) (before now : ℕ) (names names' : List ℕ → ℕ) (h : RunHalt)
     : Type 0 where
-  pub faults : FaultsAs {A = Unit {0}} (Err h) names names'
-  pub count : CountAs {A = Unit {0}} (Err h) before now
-  pub disk : (n : ℕ) → DiskAs {A = Unit {0}} (Err h) n n
-  pub out : (n : ℕ) → OutAs {A = Unit {0}} (Err h) n n
-  pub err : (n : ℕ) → ErrAs {A = Unit {0}} (Err h) n n
+  pub faults : FaultsFollow {A = Unit {0}} (Err h) names names'
+  pub count : CountFollows {A = Unit {0}} (Err h) before now
+  pub disk : (n : ℕ) → DiskFollows {A = Unit {0}} (Err h) n n
+  pub out : (n : ℕ) → OutFollows {A = Unit {0}} (Err h) n n
+  pub err : (n : ℕ) → ErrFollows {A = Unit {0}} (Err h) n n
   pub quiet : TellsNothing h
   pub no_report : ¬ IsReport h
   pub calm : All (λ source. IsUnfailing (plan source)) sources → ¬ IsFault h
@@ -81,7 +81,7 @@ module _ {S : Type 0} (left lent_as : S → Option (List ℕ)) (faults : S → �
       omega (arith, within, same)
 
   steady_by : (why : LaneRefused) (shard : ℕ) → by_failure why ≡ false
-      → StopsMaking left lent_as faults plan why shard sources starts before now names names' → (now ≡ before) × SameFaults names names'
+      → StopsMaking left lent_as faults plan why shard sources starts before now names names' → (now ≡ before) × FaultsAreSame names names'
   steady_by why shard calm (inl h) = (h.1, h.2)
   steady_by why shard calm (inr at) = at.steady (not_failed why calm)
 
@@ -151,10 +151,10 @@ module _ {S L : Type 0} (left lent_as : S → Option (List ℕ)) (find : Find)
     (olds news : List (LaneView S L)) (before now : ℕ) (names names' : List ℕ → ℕ)
     (named : AreNamed lent_as find.shards olds) (stays : AllZip (StaysSource left lent_as) olds news)
     (back : CameBack (map (lane_returned lent_as) news) before now names names') where
-  none_back : SteadyBut (λ s. ⊥) olds news → (now ≡ before) × SameFaults names names'
+  none_back : AreSteadyBut (λ s. ⊥) olds news → (now ≡ before) × FaultsAreSame names names'
   none_back steady = back.none (none_failed_lanes left lent_as find.shards olds news (λ s. ⊥) (λ s h. h) named stays steady)
 
-  pub faults_as : (r : Result (Unit {0}) RunHalt) → LaneFaults find r olds news → FaultsAs r names names'
+  pub faults_as : (r : Result (Unit {0}) RunHalt) → LaneFaultsFollow find r olds news → FaultsFollow r names names'
   faults_as (Ok done) fails = (none_back fails).1
   faults_as (Err (run.Files (halt.Refused r))) fails = (none_back fails).1
   faults_as (Err (run.Files (halt.Read name))) fails =
@@ -167,7 +167,7 @@ module _ {S L : Type 0} (left lent_as : S → Option (List ℕ)) (find : Find)
   faults_as (Err (run.Limit l)) fails = (none_back fails).1
   faults_as (Err (run.Report r)) fails = (none_back fails).1
 
-  pub count_as : (r : Result (Unit {0}) RunHalt) → LaneFaults find r olds news → CountAs r before now
+  pub count_as : (r : Result (Unit {0}) RunHalt) → LaneFaultsFollow find r olds news → CountFollows r before now
   count_as (Ok done) fails = (none_back fails).0
   count_as (Err (run.Files (halt.Refused r))) fails = (none_back fails).0
   count_as (Err (run.Files (halt.Read name))) fails =
@@ -195,8 +195,8 @@ lent_all lanes all (Some n) mid now is first second =
     subst (λ (o : Option ℕ). IfSome o (λ n. now ≡ Some (n - lanes))) first second ∙ ap (λ (x : ℕ). Some x) (ap (λ (k : ℕ). n - k) is)
 
 -- a call that changes no count, before one that does
-pub faults_then : (before mid now : List ℕ → ℕ) → SameFaults before mid → (r : Result (Unit {0}) RunHalt) → FaultsAs r mid now
-    → FaultsAs r before now
+pub faults_then : (before mid now : List ℕ → ℕ) → FaultsAreSame before mid → (r : Result (Unit {0}) RunHalt) → FaultsFollow r mid now
+    → FaultsFollow r before now
 faults_then before mid now same (Ok done) h = λ name. h name ∙ same name
 faults_then before mid now same (Err (run.Files (halt.Refused r))) h = λ name. h name ∙ same name
 faults_then before mid now same (Err (run.Files (halt.Read name))) h = record {
@@ -211,5 +211,5 @@ faults_then before mid now same (Err run.Generation) h = λ name. h name ∙ sam
 faults_then before mid now same (Err (run.Limit l)) h = λ name. h name ∙ same name
 faults_then before mid now same (Err (run.Report r)) h = λ name. h name ∙ same name
 
-pub count_then : (before mid now : ℕ) → mid ≡ before → (r : Result (Unit {0}) RunHalt) → CountAs r mid now → CountAs r before now
-count_then before mid now same r h = subst (λ (n : ℕ). CountAs r n now) same h
+pub count_then : (before mid now : ℕ) → mid ≡ before → (r : Result (Unit {0}) RunHalt) → CountFollows r mid now → CountFollows r before now
+count_then before mid now same r h = subst (λ (n : ℕ). CountFollows r n now) same h

@@ -12,7 +12,7 @@ use Rattle.eql_cut.specs.CutValues.{names_ascend}
 use Rattle.eql_cut.specs.Placing.{IsUnplaced, orders_in}
 use Rattle.eql_ckdisk.specs.Found.{found}
 use Rattle.eql_ckdisk.specs.Going.{Goes}
-use Rattle.eql_ckdisk.specs.Keeping.{NoMore}
+use Rattle.eql_ckdisk.specs.Keeping.{LeavesNoMore}
 use Rattle.eql_ckdisk.specs.Putting.{last_cut}
 use Rattle.eql_conductor.specs.declared.plan.Keep.{Keep}
 use Rattle.eql_runs.specs.Starts.{StandsFor}
@@ -76,9 +76,9 @@ module _ (find : Find) (p : Planning) where
   }
 
 -- ---- nothing happens on the disk
-pub still_told : (h : Option History) → DiskTells (Goes NoMore) h h
+pub still_told : (h : Option History) → DiskTells (Goes LeavesNoMore) h h
 still_told None = tt
 still_told (Some h) = (0, refl)
 
-pub same_told : (before now : Option History) → now ≡ before → DiskTells (Goes NoMore) before now
-same_told before now is = subst (λ (x : Option History). DiskTells (Goes NoMore) before x) (sym is) (still_told before)
+pub same_told : (before now : Option History) → now ≡ before → DiskTells (Goes LeavesNoMore) before now
+same_told before now is = subst (λ (x : Option History). DiskTells (Goes LeavesNoMore) before x) (sym is) (still_told before)

@@ -11,7 +11,7 @@ use Rattle.eql_outside.specs.Outside.{Rose}
 use Rattle.eql_outside.specs.Plans.{FaultPlan}
 use Rattle.eql_outside.specs.Unfailing.{IsUnfailing}
 use Rattle.eql_lane.specs.Views.{LaneView}
-use Rattle.eql_search.specs.Answers.{AreUnfailing, BecameAt, RoseFaults, SteadyBut, StaysLane}
+use Rattle.eql_search.specs.Answers.{AreUnfailing, BecameAt, RoseFaults, AreSteadyBut, StaysLane}
 use Rattle.eql_find.specs.Lanes.{StaysSource}
 use Rattle.eql_find.specs.Searching.{bare}
 
@@ -87,15 +87,15 @@ module _ {S L : Type 0} (left lent_as : S → Option (List ℕ)) where
 -- ---- faults
 module _ {S L : Type 0} where
   -- no lane's faults rose
-  steady_none : (lanes : List (LaneView S L)) → SteadyBut (λ s. ⊥) lanes lanes
+  steady_none : (lanes : List (LaneView S L)) → AreSteadyBut (λ s. ⊥) lanes lanes
   steady_none lanes = λ shard old new untold was is. ap (λ (l : LaneView S L). l.state.faults) (same_Some new old (sym is ∙ was))
 
-  steady_bare : (lanes : List (LaneView S L)) → SteadyBut (λ s. ⊥) lanes (map bare lanes)
+  steady_bare : (lanes : List (LaneView S L)) → AreSteadyBut (λ s. ⊥) lanes (map bare lanes)
   steady_bare lanes = λ shard old new untold was is. ap (λ (l : LaneView S L). l.state.faults) (same_Some new (bare old) (sym is ∙ bare_at lanes shard old was))
 
-  pub steady_taken : (lanes mids : List (LaneView S L)) → (mids ≡ lanes) ⊎ (mids ≡ map bare lanes) → SteadyBut (λ s. ⊥) lanes mids
-  steady_taken lanes mids (inl e) = subst (λ (ls : List (LaneView S L)). SteadyBut (λ s. ⊥) lanes ls) (sym e) (steady_none lanes)
-  steady_taken lanes mids (inr e) = subst (λ (ls : List (LaneView S L)). SteadyBut (λ s. ⊥) lanes ls) (sym e) (steady_bare lanes)
+  pub steady_taken : (lanes mids : List (LaneView S L)) → (mids ≡ lanes) ⊎ (mids ≡ map bare lanes) → AreSteadyBut (λ s. ⊥) lanes mids
+  steady_taken lanes mids (inl e) = subst (λ (ls : List (LaneView S L)). AreSteadyBut (λ s. ⊥) lanes ls) (sym e) (steady_none lanes)
+  steady_taken lanes mids (inr e) = subst (λ (ls : List (LaneView S L)). AreSteadyBut (λ s. ⊥) lanes ls) (sym e) (steady_bare lanes)
 
   module _ (lanes mids news : List (LaneView S L)) (taken : mids ≡ map bare lanes) where
     at_mids : (s : ℕ) (lane : LaneView S L) → slice_get mids s ≡ Some lane → slice_get (map bare lanes) s ≡ Some lane
@@ -104,7 +104,7 @@ module _ {S L : Type 0} where
     pub own_of : (s : ℕ) (lane : LaneView S L) → slice_get mids s ≡ Some lane → FromBare lanes s lane
     own_of s lane was = from_bare lanes s lane (at_mids s lane was)
 
-    pub steady_over : (IsTold : ℕ → Type 0) → SteadyBut IsTold mids news → SteadyBut IsTold lanes news
+    pub steady_over : (IsTold : ℕ → Type 0) → AreSteadyBut IsTold mids news → AreSteadyBut IsTold lanes news
     steady_over IsTold steady = λ shard old new untold was is.
         steady shard (bare old) new untold (ap (λ (ls : List (LaneView S L)). slice_get ls shard) taken ∙ bare_at lanes shard old was) is
 

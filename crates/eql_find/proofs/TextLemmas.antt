@@ -17,7 +17,7 @@ use Rattle.eql_check.specs.Used.{used_fields}
 use Rattle.eql_inputs.specs.Steps.{GotChecked}
 use Rattle.eql_words.specs.declared.commands.Checkpoint.{Checkpoint}
 use Rattle.eql_words.specs.declared.commands.Find.{Find}
-use Rattle.eql_words.specs.Bounds.{FindBounds}
+use Rattle.eql_words.specs.Bounds.{FindIsBounded}
 use Rattle.eql_lane.specs.declared.make.LaneStart.{LaneStart}
 use Rattle.eql_lane.specs.Views.{LaneView, IsTextOf}
 use Rattle.eql_runs.specs.Files.{Files, HasTexts}
@@ -65,7 +65,7 @@ some_asked : (c : Option Checkpoint) → c ≢ None → is_some c ≡ true
 some_asked None asked = absurd (asked refl)
 some_asked (Some c) asked = refl
 
-pub asked_slack : (find : Find) → FindBounds find → find.checkpoint ≢ None → find.slack ≡ Some (slack_told find.slack)
+pub asked_slack : (find : Find) → FindIsBounded find → find.checkpoint ≢ None → find.slack ≡ Some (slack_told find.slack)
 asked_slack find bounds asked = slack_there find.slack (bounds.slack_too (some_asked find.checkpoint asked))
 
 pub texts_long : (names : List (List ℕ)) (fs : Files) (texts : List (List ℕ)) → HasTexts names fs texts → length texts ≡ length names
@@ -75,7 +75,7 @@ texts_long (n ∷ ns) fs [] h = absurd h
 texts_long (n ∷ ns) fs (t ∷ ts) h = ap suc (texts_long ns fs ts h.1)
 
 -- what its cuts say is what cuts of the search say
-pub head_is : (find : Find) (p : Planning) (count : ℕ) → FindBounds find → find.checkpoint ≢ None → count ≡ length find.shards
+pub head_is : (find : Find) (p : Planning) (count : ℕ) → FindIsBounded find → find.checkpoint ≢ None → count ≡ length find.shards
     → IsHeadOf (search_in find p) count (head_in find p)
 head_is find p count bounds asked many =
     record { query = refl; mapping_is = refl; tie = refl; slack = asked_slack find bounds asked; shards_are = sym many }

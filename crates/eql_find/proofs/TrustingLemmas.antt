@@ -5,7 +5,7 @@ use Rattle.std.specs.Option.{option_map}
 use Rattle.eql_values.specs.declared.cut.LaneCut.{LaneCut}
 use Rattle.eql_laws.specs.Fitting.{Kept}
 use Rattle.eql_words.specs.declared.commands.Find.{Find}
-use Rattle.eql_words.specs.Bounds.{FindBounds}
+use Rattle.eql_words.specs.Bounds.{FindIsBounded}
 use Rattle.eql_lane.specs.Views.{LaneView}
 use Rattle.eql_cut.specs.declared.cut.Cut.{Cut}
 use Rattle.eql_cut.specs.Domain.{kept_by}
@@ -23,7 +23,7 @@ use Rattle.eql_find.specs.Starting.{pipes_of, stages_of, values_of}
 use Rattle.eql_find.proofs.AllowingLemmas.{BeginLaws, lanes_are, lifted_as, placed_by, rest_placed, same_mark}
 use Rattle.eql_find.proofs.TextLemmas.{asked_slack}
 
-module _ {S L : Type 0} (laws : BeginLaws) (find : Find) (p : Planning) (bounds : FindBounds find) (ts : List (List ℕ))
+module _ {S L : Type 0} (laws : BeginLaws) (find : Find) (p : Planning) (bounds : FindIsBounded find) (ts : List (List ℕ))
     (lanes : List (LaneView S L)) (format : ℕ) (cut : Cut) (asked : find.checkpoint ≢ None)
     (suits : Suits (stages_of p) (values_of p) (pipes_of p) cut.head cut) (unplaced : format ≡ 1 → IsUnplaced (orders_in cut))
     (slack_is : cut.head.slack ≡ slack_told find.slack) (many : length lanes ≡ length cut.lanes) where

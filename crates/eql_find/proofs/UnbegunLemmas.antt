@@ -1,13 +1,13 @@
 -- A run that isn't begun, by what its disk held: all that its halt says.
 use Rattle.std.proofs.Common.{◌≡◌, ℕ, List, Option, Some, None, Err, refl, sym, subst, ◌∙◌}
 use Rattle.std.specs.Prelude.{IfSome}
-use Rattle.eql_outside.specs.Faults.{SameFaults}
+use Rattle.eql_outside.specs.Faults.{FaultsAreSame}
 use Rattle.eql_outside.specs.Moments.{History}
 use Rattle.eql_outside.specs.Outside.{Rose}
 use Rattle.eql_words.specs.declared.commands.Find.{Find}
-use Rattle.eql_words.specs.Bounds.{FindBounds}
+use Rattle.eql_words.specs.Bounds.{FindIsBounded}
 use Rattle.eql_runs.specs.Files.{Files}
-use Rattle.eql_runs.specs.RunLaws.{FitsAtAnySpan, OneOnDisk}
+use Rattle.eql_runs.specs.RunLaws.{DiskHoldsOne, FitsAtAnySpan}
 use Rattle.eql_runs.specs.Runs.{IfFound, RefusesCut, Searches}
 use Rattle.eql_runs.specs.Searches.{Search}
 use Rattle.eql_inputs.specs.Shards.{AreWholeFiles}
@@ -17,24 +17,24 @@ use Rattle.eql_find.specs.declared.halt.RunHalt.{RunHalt}
 use Rattle.eql_find.specs.declared.halt.RunHalt.TheVariants as run
 use Rattle.eql_find.specs.declared.plan.Planning.{Planning}
 use Rattle.eql_find.specs.Finding.{HasCause, IsPlanOf}
-use Rattle.eql_find.specs.Halts.{AbsenceAs, CountAs, DiskAs, ErrAs, FaultsAs, IsReport, OutAs, TellsNothing, cut_refusal_of}
+use Rattle.eql_find.specs.Halts.{AbsencesFollow, CountFollows, DiskFollows, ErrFollows, FaultsFollow, IsReport, OutFollows, TellsNothing, cut_refusal_of}
 use Rattle.eql_find.specs.Searching.{search_in}
-use Rattle.eql_find.specs.Starting.{DiskRose, StartCause}
+use Rattle.eql_find.specs.Starting.{DiskRose, HasStartCause}
 use Rattle.eql_find.proofs.RefusingLemmas.{refused_found}
 use Rattle.eql_find.proofs.TextLemmas.{searches_in, texts_long}
 
 -- beside its cause
 pub record Unbegun (h : RunHalt) : Type 0 where
-  pub faults : (names names' : List ℕ → ℕ) → SameFaults names names' → FaultsAs {A = Unit {0}} (Err h) names names'
-  pub count : (before now : ℕ) → now ≡ before → CountAs {A = Unit {0}} (Err h) before now
-  pub absence : (before now : ℕ) → now ≡ before → AbsenceAs {A = Unit {0}} (Err h) before now
-  pub disk : (before mid now : ℕ) → DiskRose h before mid → now ≡ mid → DiskAs {A = Unit {0}} (Err h) before now
-  pub out : (n : ℕ) → OutAs {A = Unit {0}} (Err h) n n
-  pub err : (n : ℕ) → ErrAs {A = Unit {0}} (Err h) n n
+  pub faults : (names names' : List ℕ → ℕ) → FaultsAreSame names names' → FaultsFollow {A = Unit {0}} (Err h) names names'
+  pub count : (before now : ℕ) → now ≡ before → CountFollows {A = Unit {0}} (Err h) before now
+  pub absence : (before now : ℕ) → now ≡ before → AbsencesFollow {A = Unit {0}} (Err h) before now
+  pub disk : (before mid now : ℕ) → DiskRose h before mid → now ≡ mid → DiskFollows {A = Unit {0}} (Err h) before now
+  pub out : (n : ℕ) → OutFollows {A = Unit {0}} (Err h) n n
+  pub err : (n : ℕ) → ErrFollows {A = Unit {0}} (Err h) n n
   pub quiet : TellsNothing h
   pub no_report : ¬ IsReport h
 
-pub unbegun : (find : Find) (p : Planning) (disk : Option History) (h : RunHalt) → StartCause find p disk h → Unbegun h
+pub unbegun : (find : Find) (p : Planning) (disk : Option History) (h : RunHalt) → HasStartCause find p disk h → Unbegun h
 unbegun find p disk (run.Files (halt.Refused r)) cause = absurd cause
 unbegun find p disk (run.Files (halt.Read name)) cause = absurd cause
 unbegun find p disk (run.Files halt.Memory) cause = record {
@@ -73,10 +73,10 @@ unbegun find p disk run.Generation cause = absurd cause
 unbegun find p disk (run.Report r) cause = absurd cause
 
 -- its cause
-module _ (spans : FitsAtAnySpan) (one : OneOnDisk) (find : Find) (p : Planning) (bounds : FindBounds find) (lefts : List (Option (List ℕ)))
+module _ (spans : FitsAtAnySpan) (one : DiskHoldsOne) (find : Find) (p : Planning) (bounds : FindIsBounded find) (lefts : List (Option (List ℕ)))
     (disk : Option History) where
   refused_cut : (files : Option Files) (why : CutStop) → IsPlanOf find files p → AreWholeFiles find.shards files lefts
-      → StartCause find p disk (run.Cut why) → IfFound find files disk (λ fs on. RefusesCut find fs on (cut_refusal_of why))
+      → HasStartCause find p disk (run.Cut why) → IfFound find files disk (λ fs on. RefusesCut find fs on (cut_refusal_of why))
   refused_cut None why is whole cause = tt
   refused_cut (Some fs) why is whole cause = λ on holds.
       refused_found spans one find p fs whole.texts disk (cut_refusal_of why) bounds cause.0 (searches_in find fs p whole.texts is whole.there)
@@ -88,7 +88,7 @@ module _ (spans : FitsAtAnySpan) (one : OneOnDisk) (find : Find) (p : Planning) 
   searched (Some fs) is whole = (search_in find p, whole.texts, searches_in find fs p whole.texts is whole.there)
 
   pub unbegun_cause : (files : Option Files) (now : Option History) (err err' : Option (List ℕ)) (h : RunHalt) → IsPlanOf find files p
-      → AreWholeFiles find.shards files lefts → StartCause find p disk h → HasCause find files disk now err err' h
+      → AreWholeFiles find.shards files lefts → HasStartCause find p disk h → HasCause find files disk now err err' h
   unbegun_cause files now err err' (run.Files (halt.Refused r)) is whole cause = absurd cause
   unbegun_cause files now err err' (run.Files (halt.Read name)) is whole cause = absurd cause
   unbegun_cause files now err err' (run.Files halt.Memory) is whole cause = tt

@@ -1,7 +1,7 @@
 -- Why a run stops, and what its counts of faults say then.
 use Rattle.std.specs.Prelude.{◌≡◌, ℕ, List, Result, Ok, Err}
 use Rattle.eql_outside.specs.Outside.{Rose}
-use Rattle.eql_outside.specs.Faults.{SameFaults}
+use Rattle.eql_outside.specs.Faults.{FaultsAreSame}
 use Rattle.eql_outside.specs.declared.refused.OutRefused.TheVariants as refused_by
 use Rattle.eql_runs.specs.CutRefusals.{CutRefusal, damaged, differs, unfit, short, no_line, grown}
 use Rattle.eql_runs.specs.Runs.{many_lines, many_bytes}
@@ -89,10 +89,10 @@ IsFault (run.Report refused_by.Failed) = Unit {0}
 IsFault (run.Report refused_by.Memory) = ⊥
 
 -- several files may fail at once, of which one is told: those of its name rose. Where none is told, none did
-abbrev pub FileFaults : Halt → (before now : List ℕ → ℕ) → Type 0
-FileFaults (input.Refused r) before now = SameFaults before now
-FileFaults (input.Read name) before now = RoseAmong name.now before now
-FileFaults input.Memory before now = SameFaults before now
+abbrev pub FileFaultsFollow : Halt → (before now : List ℕ → ℕ) → Type 0
+FileFaultsFollow (input.Refused r) before now = FaultsAreSame before now
+FileFaultsFollow (input.Read name) before now = RoseAmong name.now before now
+FileFaultsFollow input.Memory before now = FaultsAreSame before now
 
 -- the count of something else is as it was, but where a read fault is told: then that may have failed too
 abbrev pub IsLeftBy : Halt → (before now : ℕ) → Type 0
@@ -101,68 +101,68 @@ IsLeftBy (input.Read name) before now = Unit {0}
 IsLeftBy input.Memory before now = now ≡ before
 
 -- the faults of each name: those of a file that is told as failed rose, and where none is told none did
-abbrev pub FaultsAs : {A : Type 0} → Result A RunHalt → (before now : List ℕ → ℕ) → Type 0
-FaultsAs (Ok done) before now = SameFaults before now
-FaultsAs (Err (run.Files h)) before now = FileFaults h before now
-FaultsAs (Err (run.Cut why)) before now = SameFaults before now
-FaultsAs (Err run.Disk) before now = SameFaults before now
-FaultsAs (Err run.Write) before now = SameFaults before now
-FaultsAs (Err (run.Limit l)) before now = SameFaults before now
-FaultsAs (Err run.Generation) before now = SameFaults before now
-FaultsAs (Err (run.Report r)) before now = SameFaults before now
+abbrev pub FaultsFollow : {A : Type 0} → Result A RunHalt → (before now : List ℕ → ℕ) → Type 0
+FaultsFollow (Ok done) before now = FaultsAreSame before now
+FaultsFollow (Err (run.Files h)) before now = FileFaultsFollow h before now
+FaultsFollow (Err (run.Cut why)) before now = FaultsAreSame before now
+FaultsFollow (Err run.Disk) before now = FaultsAreSame before now
+FaultsFollow (Err run.Write) before now = FaultsAreSame before now
+FaultsFollow (Err (run.Limit l)) before now = FaultsAreSame before now
+FaultsFollow (Err run.Generation) before now = FaultsAreSame before now
+FaultsFollow (Err (run.Report r)) before now = FaultsAreSame before now
 
 -- the count of all read faults rose where one is told, and nowhere else
-abbrev pub CountAs : {A : Type 0} → Result A RunHalt → (before now : ℕ) → Type 0
-CountAs (Ok done) before now = now ≡ before
-CountAs (Err (run.Files h)) before now = inputs.CountAs h before now
-CountAs (Err (run.Cut why)) before now = now ≡ before
-CountAs (Err run.Disk) before now = now ≡ before
-CountAs (Err run.Write) before now = now ≡ before
-CountAs (Err (run.Limit l)) before now = now ≡ before
-CountAs (Err run.Generation) before now = now ≡ before
-CountAs (Err (run.Report r)) before now = now ≡ before
+abbrev pub CountFollows : {A : Type 0} → Result A RunHalt → (before now : ℕ) → Type 0
+CountFollows (Ok done) before now = now ≡ before
+CountFollows (Err (run.Files h)) before now = inputs.CountFollows h before now
+CountFollows (Err (run.Cut why)) before now = now ≡ before
+CountFollows (Err run.Disk) before now = now ≡ before
+CountFollows (Err run.Write) before now = now ≡ before
+CountFollows (Err (run.Limit l)) before now = now ≡ before
+CountFollows (Err run.Generation) before now = now ≡ before
+CountFollows (Err (run.Report r)) before now = now ≡ before
 
 -- the count of absences rose where a file isn't there, and nowhere else
-abbrev pub AbsenceAs : {A : Type 0} → Result A RunHalt → (before now : ℕ) → Type 0
-AbsenceAs (Ok done) before now = now ≡ before
-AbsenceAs (Err (run.Files h)) before now = inputs.AbsenceAs h before now
-AbsenceAs (Err (run.Cut why)) before now = now ≡ before
-AbsenceAs (Err run.Disk) before now = now ≡ before
-AbsenceAs (Err run.Write) before now = now ≡ before
-AbsenceAs (Err (run.Limit l)) before now = now ≡ before
-AbsenceAs (Err run.Generation) before now = now ≡ before
-AbsenceAs (Err (run.Report r)) before now = now ≡ before
+abbrev pub AbsencesFollow : {A : Type 0} → Result A RunHalt → (before now : ℕ) → Type 0
+AbsencesFollow (Ok done) before now = now ≡ before
+AbsencesFollow (Err (run.Files h)) before now = inputs.AbsencesFollow h before now
+AbsencesFollow (Err (run.Cut why)) before now = now ≡ before
+AbsencesFollow (Err run.Disk) before now = now ≡ before
+AbsencesFollow (Err run.Write) before now = now ≡ before
+AbsencesFollow (Err (run.Limit l)) before now = now ≡ before
+AbsencesFollow (Err run.Generation) before now = now ≡ before
+AbsencesFollow (Err (run.Report r)) before now = now ≡ before
 
 -- the count of the disk's faults rose where the disk is told as failed, and elsewhere only where a read fault is told
-abbrev pub DiskAs : {A : Type 0} → Result A RunHalt → (before now : ℕ) → Type 0
-DiskAs (Ok done) before now = now ≡ before
-DiskAs (Err (run.Files h)) before now = IsLeftBy h before now
-DiskAs (Err (run.Cut why)) before now = now ≡ before
-DiskAs (Err run.Disk) before now = Rose before now
-DiskAs (Err run.Write) before now = now ≡ before
-DiskAs (Err (run.Limit l)) before now = now ≡ before
-DiskAs (Err run.Generation) before now = now ≡ before
-DiskAs (Err (run.Report r)) before now = now ≡ before
+abbrev pub DiskFollows : {A : Type 0} → Result A RunHalt → (before now : ℕ) → Type 0
+DiskFollows (Ok done) before now = now ≡ before
+DiskFollows (Err (run.Files h)) before now = IsLeftBy h before now
+DiskFollows (Err (run.Cut why)) before now = now ≡ before
+DiskFollows (Err run.Disk) before now = Rose before now
+DiskFollows (Err run.Write) before now = now ≡ before
+DiskFollows (Err (run.Limit l)) before now = now ≡ before
+DiskFollows (Err run.Generation) before now = now ≡ before
+DiskFollows (Err (run.Report r)) before now = now ≡ before
 
 -- the count of the output's faults rose where a write fault is told, and elsewhere only where a read fault is told
-abbrev pub OutAs : {A : Type 0} → Result A RunHalt → (before now : ℕ) → Type 0
-OutAs (Ok done) before now = now ≡ before
-OutAs (Err (run.Files h)) before now = IsLeftBy h before now
-OutAs (Err (run.Cut why)) before now = now ≡ before
-OutAs (Err run.Disk) before now = now ≡ before
-OutAs (Err run.Write) before now = Rose before now
-OutAs (Err (run.Limit l)) before now = now ≡ before
-OutAs (Err run.Generation) before now = now ≡ before
-OutAs (Err (run.Report r)) before now = now ≡ before
+abbrev pub OutFollows : {A : Type 0} → Result A RunHalt → (before now : ℕ) → Type 0
+OutFollows (Ok done) before now = now ≡ before
+OutFollows (Err (run.Files h)) before now = IsLeftBy h before now
+OutFollows (Err (run.Cut why)) before now = now ≡ before
+OutFollows (Err run.Disk) before now = now ≡ before
+OutFollows (Err run.Write) before now = Rose before now
+OutFollows (Err (run.Limit l)) before now = now ≡ before
+OutFollows (Err run.Generation) before now = now ≡ before
+OutFollows (Err (run.Report r)) before now = now ≡ before
 
 -- the count of the error output's faults rose where it refused the report, and nowhere else
-abbrev pub ErrAs : {A : Type 0} → Result A RunHalt → (before now : ℕ) → Type 0
-ErrAs (Ok done) before now = now ≡ before
-ErrAs (Err (run.Files h)) before now = now ≡ before
-ErrAs (Err (run.Cut why)) before now = now ≡ before
-ErrAs (Err run.Disk) before now = now ≡ before
-ErrAs (Err run.Write) before now = now ≡ before
-ErrAs (Err (run.Limit l)) before now = now ≡ before
-ErrAs (Err run.Generation) before now = now ≡ before
-ErrAs (Err (run.Report refused_by.Failed)) before now = Rose before now
-ErrAs (Err (run.Report refused_by.Memory)) before now = now ≡ before
+abbrev pub ErrFollows : {A : Type 0} → Result A RunHalt → (before now : ℕ) → Type 0
+ErrFollows (Ok done) before now = now ≡ before
+ErrFollows (Err (run.Files h)) before now = now ≡ before
+ErrFollows (Err (run.Cut why)) before now = now ≡ before
+ErrFollows (Err run.Disk) before now = now ≡ before
+ErrFollows (Err run.Write) before now = now ≡ before
+ErrFollows (Err (run.Limit l)) before now = now ≡ before
+ErrFollows (Err run.Generation) before now = now ≡ before
+ErrFollows (Err (run.Report refused_by.Failed)) before now = Rose before now
+ErrFollows (Err (run.Report refused_by.Memory)) before now = now ≡ before

@@ -2,7 +2,7 @@
 use Rattle.std.specs.Prelude.{◌≡◌, ◌≢◌, ◌≤◌, ◌<◌, ◌+◌, ◌⊎◌, ℕ, true, List, [], ◌∷◌, ◌++◌, All, drop, take, length, slice_get, IfSome, Option, None, Some}
 use Rattle.eql_values.specs.Accepted.{Reads}
 use Rattle.eql_outside.specs.Outside.{Rose}
-use Rattle.eql_outside.specs.Faults.{SameFaults, RoseUnder}
+use Rattle.eql_outside.specs.Faults.{FaultsAreSame, RoseUnder}
 use Rattle.eql_outside.specs.Plans.{FaultPlan}
 use Rattle.eql_outside.specs.Unfailing.{IsUnfailing}
 use Rattle.eql_lane.specs.declared.make.LaneRefused.{LaneRefused}
@@ -58,7 +58,7 @@ pub record RoseAmong (name : List ℕ) (before now : List ℕ → ℕ) : Type 0 
 -- what the counts of a shelf say once these sources came back: none fell; where none failed they are as before, and where one did, those
 -- of its name rose
 pub record CameBack (backs : List Returned) (before now : ℕ) (names names' : List ℕ → ℕ) : Type 0 where
-  pub none : NoSourceFailed backs → (now ≡ before) × SameFaults names names'
+  pub none : NoSourceFailed backs → (now ≡ before) × FaultsAreSame names names'
   pub one : (name : List ℕ) → SomeSourceFailed name backs → Rose before now × Rose (names name) (names' name)
   pub counts : (before ≤ now) × ((any : List ℕ) → names any ≤ names' any)
 
@@ -92,14 +92,14 @@ module _ {S : Type 0} (left lent_as : S → Option (List ℕ)) (faults : S → �
     pub refused_by : IsNotMade left lent_as faults (cut_of start) (wanted_of start) source why back
     pub earlier : (s : ℕ) (x : S) (b : LaneStart) → s < shard → slice_get sources s ≡ Some x → slice_get starts s ≡ Some b
         → IfSome (left x) (Serves b)
-    pub steady : why ≢ refused.Failed → (now ≡ before) × SameFaults names names'
+    pub steady : why ≢ refused.Failed → (now ≡ before) × FaultsAreSame names names'
     pub rose : why ≡ refused.Failed → Rose before now × RoseUnder (lent_as source) names names'
     pub unfailing : IsUnfailing (plan source) → why ≢ refused.Failed
 
   -- making lanes stopped: memory ran out before the first, or at one of them
   abbrev pub StopsMaking : LaneRefused → (shard : ℕ) → List S → List LaneStart → (before now : ℕ) → (names names' : List ℕ → ℕ) → Type 0
   StopsMaking why shard sources starts before now names names' =
-      ((why ≡ refused.Memory) × (now ≡ before) × SameFaults names names')
+      ((why ≡ refused.Memory) × (now ≡ before) × FaultsAreSame names names')
       ⊎ StopsMakingAt why shard sources starts before now names names'
 
 module _ {S L : Type 0} (left lent_as : S → Option (List ℕ)) (faults : S → ℕ) (plan : S → Option FaultPlan) (read_of : L → Reads)

@@ -39,7 +39,7 @@ every_asked find = every_of find.checkpoint
 abbrev pub plan_in : Find → CutHead → Mark → RunPlan
 plan_in find head mark = record { batch = find.batch; every = every_asked find; head = head; mark = mark }
 
--- a run keeps cuts exactly where it has a checkpoint, on a disk that stands as the state says
+-- a run keeps cuts exactly when it has a checkpoint, on a disk that stands as the state says
 module _ {D : Type 0} (history : D → Option History) where
   abbrev pub KeepsIfAsked : Option Checkpoint → Option (Keep D) → Type 0
   KeepsIfAsked None None = Unit {0}
@@ -74,7 +74,7 @@ pub record StartsOver {S L : Type 0} (told : Option (List (List ℕ))) (find : F
   pub begins : BeginsWith (search_in find p) texts (on_begun begun)
 
 -- the text of the limit's shard is beyond it, with the lines that its lane counted at the beginning
-pub record BeyondOn {S L : Type 0} (lanes : List (LaneView S L)) (texts : List (List ℕ)) (limit : ShardLimit) : Type 0 where
+pub record IsBeyondOn {S L : Type 0} (lanes : List (LaneView S L)) (texts : List (List ℕ)) (limit : ShardLimit) : Type 0 where
   pub lane : LaneView S L
   pub was : slice_get lanes (shard_of limit) ≡ Some lane
   pub text : List ℕ

@@ -26,7 +26,7 @@ use Rattle.eql_runs.specs.Searches.{Search, matches_of, pipes_of, reads_of, repo
 use Rattle.eql_runs.specs.Starts.{IsCutOf}
 use Rattle.eql_inputs.specs.declared.halt.Halt.TheVariants as halt
 use Rattle.eql_resume.specs.Lifted.{WereLifted}
-use Rattle.eql_search.specs.Answers.{BecameAt, RoseFaults, SteadyBut}
+use Rattle.eql_search.specs.Answers.{AreSteadyBut, BecameAt, RoseFaults}
 use Rattle.eql_search.specs.Beginnings.{BeginsOn, cuts_of, start_at}
 use Rattle.eql_search.specs.Keeping.{IsLaterCut}
 use Rattle.eql_search.specs.Searches.{Rules}
@@ -101,7 +101,7 @@ StartsOn search texts mark lanes holders book = BeginsOn (rules_in search) (pipe
 -- ---- the report
 -- a report of as many shards as the words name, of which the error output got a front; where a run may begin so over told texts it is that of
 -- the search
-pub record ReportOf (find : Find) (search : Search) (texts : Option (List (List ℕ))) (Started : List (List ℕ) → Type 0)
+pub record WroteReportOf (find : Find) (search : Search) (texts : Option (List (List ℕ))) (Started : List (List ℕ) → Type 0)
     (err err' : Option (List ℕ)) : Type 0 where
   pub counts : List Counts
   pub count : length counts ≡ length find.shards
@@ -149,7 +149,7 @@ LanesStop find search texts Started Beyond err err' run.Write = Unit {0}
 LanesStop find search texts Started Beyond err err' (run.Limit l) =
     (shard_of (limit_of l) < length find.shards) × IfSome texts (λ ts. Beyond ts (limit_of l))
 LanesStop find search texts Started Beyond err err' run.Generation = find.checkpoint ≢ None
-LanesStop find search texts Started Beyond err err' (run.Report r) = ReportOf find search texts Started err err'
+LanesStop find search texts Started Beyond err err' (run.Report r) = WroteReportOf find search texts Started err err'
 
 -- the faults of the lanes' sources: where a read fault is told those of the lane of a shard with its name rose, and others may have risen;
 -- else none did
@@ -158,14 +158,14 @@ pub record LaneFailed {S L : Type 0} (find : Find) (name : List ℕ) (olds news 
   pub named : slice_get find.shards shard ≡ Some name
   pub rose : BecameAt shard olds news RoseFaults
 
-abbrev pub LaneFaults : {A S L : Type 0} → Find → Result A RunHalt → (olds news : List (LaneView S L)) → Type 0
-LaneFaults find (Ok done) olds news = SteadyBut (λ s. ⊥) olds news
-LaneFaults find (Err (run.Files (halt.Refused r))) olds news = SteadyBut (λ s. ⊥) olds news
-LaneFaults find (Err (run.Files (halt.Read name))) olds news = LaneFailed find name.now olds news
-LaneFaults find (Err (run.Files halt.Memory)) olds news = SteadyBut (λ s. ⊥) olds news
-LaneFaults find (Err (run.Cut why)) olds news = SteadyBut (λ s. ⊥) olds news
-LaneFaults find (Err run.Disk) olds news = SteadyBut (λ s. ⊥) olds news
-LaneFaults find (Err run.Write) olds news = SteadyBut (λ s. ⊥) olds news
-LaneFaults find (Err (run.Limit l)) olds news = SteadyBut (λ s. ⊥) olds news
-LaneFaults find (Err run.Generation) olds news = SteadyBut (λ s. ⊥) olds news
-LaneFaults find (Err (run.Report r)) olds news = SteadyBut (λ s. ⊥) olds news
+abbrev pub LaneFaultsFollow : {A S L : Type 0} → Find → Result A RunHalt → (olds news : List (LaneView S L)) → Type 0
+LaneFaultsFollow find (Ok done) olds news = AreSteadyBut (λ s. ⊥) olds news
+LaneFaultsFollow find (Err (run.Files (halt.Refused r))) olds news = AreSteadyBut (λ s. ⊥) olds news
+LaneFaultsFollow find (Err (run.Files (halt.Read name))) olds news = LaneFailed find name.now olds news
+LaneFaultsFollow find (Err (run.Files halt.Memory)) olds news = AreSteadyBut (λ s. ⊥) olds news
+LaneFaultsFollow find (Err (run.Cut why)) olds news = AreSteadyBut (λ s. ⊥) olds news
+LaneFaultsFollow find (Err run.Disk) olds news = AreSteadyBut (λ s. ⊥) olds news
+LaneFaultsFollow find (Err run.Write) olds news = AreSteadyBut (λ s. ⊥) olds news
+LaneFaultsFollow find (Err (run.Limit l)) olds news = AreSteadyBut (λ s. ⊥) olds news
+LaneFaultsFollow find (Err run.Generation) olds news = AreSteadyBut (λ s. ⊥) olds news
+LaneFaultsFollow find (Err (run.Report r)) olds news = AreSteadyBut (λ s. ⊥) olds news

@@ -2,7 +2,7 @@
 use Rattle.std.specs.Prelude.{◌≡◌, ◌≢◌, ◌==◌, ℕ, List, length, Option, None, Some, IfSome, IsTrue, map}
 use Rattle.eql_values.specs.declared.cut.Pipe.{Pipe}
 use Rattle.eql_outside.specs.Areas.{seen_areas}
-use Rattle.eql_outside.specs.Faults.{SameFaults}
+use Rattle.eql_outside.specs.Faults.{FaultsAreSame}
 use Rattle.eql_outside.specs.Moments.{History, DiskTells}
 use Rattle.eql_outside.specs.Outside.{Rose}
 use Rattle.eql_outside.specs.Plans.{FaultPlan}
@@ -103,13 +103,13 @@ module _ {D : Type 0} (plan : D → Option FaultPlan) where
   plan_after before (Some k) = plan k.disk
 
 -- a shelf is the same but for its disk
-pub record OnlyDisk {S : Type 0} (files : S → Option Files) (plans : S → Option (List (List ℕ × List ℕ))) (faults absences : S → ℕ)
+pub record ChangesOnlyDisk {S : Type 0} (files : S → Option Files) (plans : S → Option (List (List ℕ × List ℕ))) (faults absences : S → ℕ)
     (names : S → List ℕ → ℕ) (lent : S → Option ℕ) (before now : S) : Type 0 where
   pub files_are : files now ≡ files before
   pub plans_are : plans now ≡ plans before
   pub faults_are : faults now ≡ faults before
   pub absences_are : absences now ≡ absences before
-  pub names_are : SameFaults (names before) (names now)
+  pub names_are : FaultsAreSame (names before) (names now)
   pub lent_are : lent now ≡ lent before
 
 -- ---- why it isn't begun
@@ -126,26 +126,26 @@ IsDiskOrMemory run.Generation = ⊥
 IsDiskOrMemory (run.Report r) = ⊥
 
 -- the halt of a refusal
-abbrev pub HaltOfStart : StartRefused → RunHalt → Type 0
-HaltOfStart by.Disk h = h ≡ run.Disk
-HaltOfStart (by.Damaged area at) h = h ≡ run.Cut (cut.Damaged area at)
-HaltOfStart (by.Differs d) h = h ≡ run.Cut (cut.Differs d)
-HaltOfStart by.Unfit h = h ≡ run.Cut cut.Unfit
-HaltOfStart by.Memory h = h ≡ run.Files halt.Memory
+abbrev pub IsHaltOfStart : StartRefused → RunHalt → Type 0
+IsHaltOfStart by.Disk h = h ≡ run.Disk
+IsHaltOfStart (by.Damaged area at) h = h ≡ run.Cut (cut.Damaged area at)
+IsHaltOfStart (by.Differs d) h = h ≡ run.Cut (cut.Differs d)
+IsHaltOfStart by.Unfit h = h ≡ run.Cut cut.Unfit
+IsHaltOfStart by.Memory h = h ≡ run.Files halt.Memory
 
 -- why a run isn't begun: by what its disk held, where it tells
-abbrev pub StartCause : Find → Planning → Option History → RunHalt → Type 0
-StartCause find p disk (run.Files (halt.Refused r)) = ⊥
-StartCause find p disk (run.Files (halt.Read name)) = ⊥
-StartCause find p disk (run.Files halt.Memory) = Unit {0}
-StartCause find p disk (run.Cut why) =
+abbrev pub HasStartCause : Find → Planning → Option History → RunHalt → Type 0
+HasStartCause find p disk (run.Files (halt.Refused r)) = ⊥
+HasStartCause find p disk (run.Files (halt.Read name)) = ⊥
+HasStartCause find p disk (run.Files halt.Memory) = Unit {0}
+HasStartCause find p disk (run.Cut why) =
     (find.checkpoint ≢ None)
     × IfSome disk (λ h. IsRefusedBy (stages_of p) (values_of p) (pipes_of p) (head_in find p) (found (seen_areas h.now)) (cut_refusal_of why))
-StartCause find p disk run.Disk = find.checkpoint ≢ None
-StartCause find p disk run.Write = ⊥
-StartCause find p disk (run.Limit l) = ⊥
-StartCause find p disk run.Generation = ⊥
-StartCause find p disk (run.Report r) = ⊥
+HasStartCause find p disk run.Disk = find.checkpoint ≢ None
+HasStartCause find p disk run.Write = ⊥
+HasStartCause find p disk (run.Limit l) = ⊥
+HasStartCause find p disk run.Generation = ⊥
+HasStartCause find p disk (run.Report r) = ⊥
 
 -- the disk's count of faults rose where it is told as failed, and else it is as before
 abbrev pub DiskRose : RunHalt → (before now : ℕ) → Type 0

@@ -1,16 +1,16 @@
 //! What a run begins with: afresh, or with the cut that the disk of its checkpoint holds.
 ghost use Rattle.std.specs.Prelude.{◌≡◌, ◌≢◌, ◌<◌, ◌≤◌, IfErr, IfOk, IfSome, IsTrue, None, OnErr, OnOk, false};
 ghost use Rattle.eql_ckdisk.specs.Going.{Goes};
-ghost use Rattle.eql_ckdisk.specs.Keeping.{NoMore};
+ghost use Rattle.eql_ckdisk.specs.Keeping.{LeavesNoMore};
 ghost use Rattle.eql_cut.specs.CutValues.{names_ascend};
 ghost use Rattle.eql_conductor.specs.Runs.{IsKeptUnfailing};
 ghost use Rattle.eql_outside.specs.Moments.{DiskTells};
 ghost use Rattle.eql_outside.specs.Outside.{Rose};
 ghost use Rattle.eql_outside.specs.Unfailing.{IsUnfailing};
-ghost use Rattle.eql_words.specs.Bounds.{FindBounds};
+ghost use Rattle.eql_words.specs.Bounds.{FindIsBounded};
 ghost use Rattle.eql_find.specs.Halts.{IsFault};
 ghost use Rattle.eql_find.specs.Searching.{head_in};
-ghost use Rattle.eql_find.specs.Starting.{BeginsOnDisk, DiskRose, HaltOfStart, IsDiskOrMemory, KeepsFor, OnlyDisk, StartCause, disk_after, plan_after};
+ghost use Rattle.eql_find.specs.Starting.{BeginsOnDisk, ChangesOnlyDisk, DiskRose, HasStartCause, IsDiskOrMemory, IsHaltOfStart, KeepsFor, disk_after, plan_after};
 
 use crate::halt::{CutStop, RunHalt};
 use crate::plan::{Planning, head_of};
@@ -37,7 +37,7 @@ pub(crate) struct Start<D> {
 
 /// Why a run isn't begun, as a halt.
 fn halt_of_start<'a>(refused: StartRefused) -> RunHalt<'a>
-    ensures { HaltOfStart refused result }
+    ensures { IsHaltOfStart refused result }
 {
     match refused {
         StartRefused::Disk => RunHalt::Disk,
@@ -62,7 +62,7 @@ fn open_disk<'a, H: Shelf>(
     ensures steady { OnOk result (H.disk_fault_count shelf.new ≡ H.disk_fault_count shelf.old) }
     ensures counts { H.disk_fault_count shelf.old ≤ H.disk_fault_count shelf.new }
     ensures not_out { OnErr result (H.is_out shelf.new ≡ H.is_out shelf.old) }
-    ensures kept { OnlyDisk H.files H.source_plans H.fault_count H.absent_count H.faults_of
+    ensures kept { ChangesOnlyDisk H.files H.source_plans H.fault_count H.absent_count H.faults_of
         H.lent_count shelf.old shelf.new }
     ensures history { (H.disk_history shelf.new ≡ H.disk_history shelf.old)
         × (H.disk_plan shelf.new ≡ H.disk_plan shelf.old) }
@@ -84,7 +84,7 @@ pub(crate) fn give_keep<H: Shelf>(keep: Option<Keep<H::Dsk>>, shelf: &mut H)
         × (H.disk_plan shelf.new ≡ plan_after H.Dsk.fault_plan (H.disk_plan shelf.old) keep) }
     ensures back { IfSome keep (λ _. H.is_out shelf.new ≡ false) }
     ensures none { keep ≡ None → shelf.new ≡ shelf.old }
-    ensures kept { OnlyDisk H.files H.source_plans H.fault_count H.absent_count H.faults_of
+    ensures kept { ChangesOnlyDisk H.files H.source_plans H.fault_count H.absent_count H.faults_of
         H.lent_count shelf.old shelf.new }
     ensures raised { IfSome keep (λ k. 0 < H.Dsk.fault_count k.disk
         → Rose (H.disk_fault_count shelf.old) (H.disk_fault_count shelf.new)) }
@@ -105,7 +105,7 @@ fn start_on<'a, D: Disk>(
     planning: &Planning,
     find: &Find,
 ) -> Result<Start<D>, (RunHalt<'a>, D)>
-    requires bounds { FindBounds find.now }
+    requires bounds { FindIsBounded find.now }
     requires asked { find.now.checkpoint ≢ None }
     requires fresh { D.fault_count disk ≡ 0 }
     requires head { head ≡ head_in find.now planning.now }
@@ -114,8 +114,9 @@ fn start_on<'a, D: Disk>(
         start.head start.keep start.lanes.items start.rest) }
     ensures keeps { IfOk result (λ start.
         KeepsFor D.history D.fault_count (D.history disk) start.keep) }
-    ensures cause { IfErr result (λ r. StartCause find.now planning.now (D.history disk) r.0) }
-    ensures moments { IfErr result (λ r. DiskTells (Goes NoMore) (D.history disk) (D.history r.1)) }
+    ensures cause { IfErr result (λ r. HasStartCause find.now planning.now (D.history disk) r.0) }
+    ensures moments { IfErr result (λ r.
+        DiskTells (Goes LeavesNoMore) (D.history disk) (D.history r.1)) }
     ensures fault { IfErr result (λ r. DiskRose r.0 (D.fault_count disk) (D.fault_count r.1)) }
     ensures unfailing { IsUnfailing (D.fault_plan disk)
         → IfErr result (λ r. ¬ IsFault r.0)
@@ -160,7 +161,7 @@ fn start_afresh<'a, D: Disk>(
     planning: &Planning,
     find: &Find,
 ) -> Result<Start<D>, RunHalt<'a>>
-    requires bounds { FindBounds find.now }
+    requires bounds { FindIsBounded find.now }
     requires none { find.now.checkpoint ≡ None }
     requires head { head ≡ head_in find.now planning.now }
     requires names { IsTrue (names_ascend planning.now.mapping) }
@@ -191,16 +192,16 @@ pub(crate) fn start_run<'a, H: Shelf>(
     find: &'a Find,
     shelf: &mut H,
 ) -> Result<Start<H::Dsk>, RunHalt<'a>>
-    requires bounds { FindBounds find.now }
+    requires bounds { FindIsBounded find.now }
     ensures begins { IfOk result (λ start. BeginsOnDisk find.now planning.now
         (H.disk_history shelf.old) start.head start.keep start.lanes.items start.rest) }
     ensures keeps { IfOk result (λ start. (find.now.checkpoint ≡ None → start.keep ≡ None)
         × (find.now.checkpoint ≢ None
         → KeepsFor H.Dsk.history H.Dsk.fault_count (H.disk_history shelf.old) start.keep)) }
-    ensures cause { IfErr result (StartCause find.now planning.now (H.disk_history shelf.old)) }
-    ensures kept { OnlyDisk H.files H.source_plans H.fault_count H.absent_count H.faults_of
+    ensures cause { IfErr result (HasStartCause find.now planning.now (H.disk_history shelf.old)) }
+    ensures kept { ChangesOnlyDisk H.files H.source_plans H.fault_count H.absent_count H.faults_of
         H.lent_count shelf.old shelf.new }
-    ensures moments { DiskTells (Goes NoMore)
+    ensures moments { DiskTells (Goes LeavesNoMore)
         (H.disk_history shelf.old) (H.disk_history shelf.new) }
     ensures still { OnOk result (H.disk_history shelf.new ≡ H.disk_history shelf.old) }
     ensures fault { IfErr result (λ halt. DiskRose halt

@@ -1,15 +1,15 @@
 //! The run.
 ghost use Rattle.std.specs.Prelude.{◌≡◌, ◌≢◌, ◌≤◌, ◌-◌, All, IfErr, IfSome, None, OnOk, OnErr, Some, false, length, map, ℕ, List, Option};
 ghost use Rattle.eql_ckdisk.specs.Going.{Goes};
-ghost use Rattle.eql_ckdisk.specs.Keeping.{NoMore};
+ghost use Rattle.eql_ckdisk.specs.Keeping.{LeavesNoMore};
 ghost use Rattle.eql_conductor.specs.Runs.{IsKeptUnfailing, disk_faults};
 ghost use Rattle.eql_inputs.specs.Shards.{AreWholeFiles};
 ghost use Rattle.eql_inputs.specs.Shelves.{KeepsShelf};
 ghost use Rattle.eql_outside.specs.Moments.{DiskTells};
 ghost use Rattle.eql_outside.specs.Unfailing.{IsUnfailing, AreUnfailing};
-ghost use Rattle.eql_words.specs.Bounds.{FindBounds};
+ghost use Rattle.eql_words.specs.Bounds.{FindIsBounded};
 ghost use Rattle.eql_runs.specs.Runs.{IfFound, IsFindAccepted, KeepsCuts};
-ghost use Rattle.eql_find.specs.Halts.{AbsenceAs, CountAs, DiskAs, ErrAs, FaultsAs, IsFault, IsRefusal, IsReport, OutAs, TellsNothing};
+ghost use Rattle.eql_find.specs.Halts.{AbsencesFollow, CountFollows, DiskFollows, ErrFollows, FaultsFollow, IsFault, IsRefusal, IsReport, OutFollows, TellsNothing};
 ghost use Rattle.eql_find.specs.Finding.{FindsAll, FindsListing, FindsSome, HasCause, IsPlanOf, texts_told};
 ghost use Rattle.eql_find.specs.Running.{KeepsIfAsked};
 ghost use Rattle.eql_find.specs.Starting.{BeginsOnDisk, IsFreshKeep, disk_after};
@@ -52,7 +52,7 @@ fn run_over<'a, R: Threads + Wait + Sync, H: Shelf, K: Sink, E: Sink, W: Gate + 
 ) -> Result<(), RunHalt<'a>>
     ghost told: { Option (List (List ℕ)) }
     requires told { told ≡ texts_told (H.files shelf.old) find.now.shards }
-    requires bounds { FindBounds find.now }
+    requires bounds { FindIsBounded find.now }
     requires plan { IsPlanOf find.now (H.files shelf.old) planning.now }
     requires whole { AreWholeFiles find.now.shards (H.files shelf.old)
         (map H.Src.left sources.items) }
@@ -77,13 +77,13 @@ fn run_over<'a, R: Threads + Wait + Sync, H: Shelf, K: Sink, E: Sink, W: Gate + 
     ensures cause { IfErr result (HasCause find.now (H.files shelf.old) (H.disk_history shelf.old)
         (disk_after H.Dsk.history (H.disk_history shelf.old) keep.new)
         (E.written err.old) (E.written err.new)) }
-    ensures faults { FaultsAs result (H.faults_of shelf.old) (H.faults_of shelf.new) }
-    ensures count { CountAs result (H.fault_count shelf.old) (H.fault_count shelf.new) }
-    ensures absences { AbsenceAs result (H.absent_count shelf.old) (H.absent_count shelf.new) }
-    ensures disk_count { DiskAs result (disk_faults H.Dsk.history H.Dsk.fault_count keep.old)
+    ensures faults { FaultsFollow result (H.faults_of shelf.old) (H.faults_of shelf.new) }
+    ensures count { CountFollows result (H.fault_count shelf.old) (H.fault_count shelf.new) }
+    ensures absences { AbsencesFollow result (H.absent_count shelf.old) (H.absent_count shelf.new) }
+    ensures disk_count { DiskFollows result (disk_faults H.Dsk.history H.Dsk.fault_count keep.old)
         (disk_faults H.Dsk.history H.Dsk.fault_count keep.new) }
-    ensures out { OutAs result (K.fault_count out.old) (K.fault_count out.new) }
-    ensures err { ErrAs result (E.fault_count err.old) (E.fault_count err.new) }
+    ensures out { OutFollows result (K.fault_count out.old) (K.fault_count out.new) }
+    ensures err { ErrFollows result (E.fault_count err.old) (E.fault_count err.new) }
     ensures counts { (H.fault_count shelf.old ≤ H.fault_count shelf.new)
         × (H.absent_count shelf.old ≤ H.absent_count shelf.new)
         × (K.fault_count out.old ≤ K.fault_count out.new)
@@ -100,7 +100,7 @@ fn run_over<'a, R: Threads + Wait + Sync, H: Shelf, K: Sink, E: Sink, W: Gate + 
         (H.disk_history shelf.old)
         (disk_after H.Dsk.history (H.disk_history shelf.old) keep.new) }
     ensures cut_kept { IfErr result (λ halt. IsRefusal halt
-        → DiskTells (Goes NoMore) (H.disk_history shelf.old)
+        → DiskTells (Goes LeavesNoMore) (H.disk_history shelf.old)
         (disk_after H.Dsk.history (H.disk_history shelf.old) keep.new)) }
     ensures no_keep { keep.old ≡ None → keep.new ≡ None }
     ensures some_keep { keep.old ≢ None → keep.new ≢ None }
@@ -134,7 +134,7 @@ fn run_start<'a, R: Threads + Wait + Sync, H: Shelf, K: Sink, E: Sink, W: Gate +
     err: &mut E,
     gate: &W,
 ) -> Result<(), RunHalt<'a>>
-    requires bounds { FindBounds find.now }
+    requires bounds { FindIsBounded find.now }
     requires plan { IsPlanOf find.now (H.files shelf.old) planning.now }
     requires whole { AreWholeFiles find.now.shards (H.files shelf.old)
         (map H.Src.left sources.items) }
@@ -158,13 +158,13 @@ fn run_start<'a, R: Threads + Wait + Sync, H: Shelf, K: Sink, E: Sink, W: Gate +
     ensures quiet { IfErr result (λ halt. TellsNothing halt → err.new ≡ err.old) }
     ensures cause { IfErr result (HasCause find.now (H.files shelf.old) (H.disk_history shelf.old)
         (H.disk_history shelf.new) (E.written err.old) (E.written err.new)) }
-    ensures faults { FaultsAs result (H.faults_of shelf.old) (H.faults_of shelf.new) }
-    ensures count { CountAs result (H.fault_count shelf.old) (H.fault_count shelf.new) }
-    ensures absences { AbsenceAs result (H.absent_count shelf.old) (H.absent_count shelf.new) }
-    ensures disk_count { DiskAs result (H.disk_fault_count shelf.old)
+    ensures faults { FaultsFollow result (H.faults_of shelf.old) (H.faults_of shelf.new) }
+    ensures count { CountFollows result (H.fault_count shelf.old) (H.fault_count shelf.new) }
+    ensures absences { AbsencesFollow result (H.absent_count shelf.old) (H.absent_count shelf.new) }
+    ensures disk_count { DiskFollows result (H.disk_fault_count shelf.old)
         (H.disk_fault_count shelf.new) }
-    ensures out { OutAs result (K.fault_count out.old) (K.fault_count out.new) }
-    ensures err { ErrAs result (E.fault_count err.old) (E.fault_count err.new) }
+    ensures out { OutFollows result (K.fault_count out.old) (K.fault_count out.new) }
+    ensures err { ErrFollows result (E.fault_count err.old) (E.fault_count err.new) }
     ensures counts { (H.fault_count shelf.old ≤ H.fault_count shelf.new)
         × (H.absent_count shelf.old ≤ H.absent_count shelf.new)
         × (H.disk_fault_count shelf.old ≤ H.disk_fault_count shelf.new)
@@ -187,7 +187,7 @@ fn run_start<'a, R: Threads + Wait + Sync, H: Shelf, K: Sink, E: Sink, W: Gate +
         → DiskTells (KeepsCuts find.now (H.files shelf.old) (K.written out.old) (K.written out.new))
         (H.disk_history shelf.old) (H.disk_history shelf.new) }
     ensures cut_kept { IfErr result (λ halt. IsRefusal halt
-        → DiskTells (Goes NoMore) (H.disk_history shelf.old) (H.disk_history shelf.new)) }
+        → DiskTells (Goes LeavesNoMore) (H.disk_history shelf.old) (H.disk_history shelf.new)) }
 {
     let Start {
         head,
@@ -215,7 +215,7 @@ fn run_shards<'a, R: Threads + Wait + Sync, H: Shelf, K: Sink, E: Sink, W: Gate 
     err: &mut E,
     gate: &W,
 ) -> Result<(), RunHalt<'a>>
-    requires bounds { FindBounds find.now }
+    requires bounds { FindIsBounded find.now }
     requires plan { IsPlanOf find.now (H.files shelf.old) planning.now }
     requires whole { AreWholeFiles find.now.shards (H.files shelf.old)
         (map H.Src.left sources.items) }
@@ -234,13 +234,13 @@ fn run_shards<'a, R: Threads + Wait + Sync, H: Shelf, K: Sink, E: Sink, W: Gate 
     ensures quiet { IfErr result (λ halt. TellsNothing halt → err.new ≡ err.old) }
     ensures cause { IfErr result (HasCause find.now (H.files shelf.old) (H.disk_history shelf.old)
         (H.disk_history shelf.new) (E.written err.old) (E.written err.new)) }
-    ensures faults { FaultsAs result (H.faults_of shelf.old) (H.faults_of shelf.new) }
-    ensures count { CountAs result (H.fault_count shelf.old) (H.fault_count shelf.new) }
-    ensures absences { AbsenceAs result (H.absent_count shelf.old) (H.absent_count shelf.new) }
-    ensures disk_count { DiskAs result (H.disk_fault_count shelf.old)
+    ensures faults { FaultsFollow result (H.faults_of shelf.old) (H.faults_of shelf.new) }
+    ensures count { CountFollows result (H.fault_count shelf.old) (H.fault_count shelf.new) }
+    ensures absences { AbsencesFollow result (H.absent_count shelf.old) (H.absent_count shelf.new) }
+    ensures disk_count { DiskFollows result (H.disk_fault_count shelf.old)
         (H.disk_fault_count shelf.new) }
-    ensures out { OutAs result (K.fault_count out.old) (K.fault_count out.new) }
-    ensures err { ErrAs result (E.fault_count err.old) (E.fault_count err.new) }
+    ensures out { OutFollows result (K.fault_count out.old) (K.fault_count out.new) }
+    ensures err { ErrFollows result (E.fault_count err.old) (E.fault_count err.new) }
     ensures counts { (H.fault_count shelf.old ≤ H.fault_count shelf.new)
         × (H.absent_count shelf.old ≤ H.absent_count shelf.new)
         × (H.disk_fault_count shelf.old ≤ H.disk_fault_count shelf.new)
@@ -264,7 +264,7 @@ fn run_shards<'a, R: Threads + Wait + Sync, H: Shelf, K: Sink, E: Sink, W: Gate 
         → DiskTells (KeepsCuts find.now (H.files shelf.old) (K.written out.old) (K.written out.new))
         (H.disk_history shelf.old) (H.disk_history shelf.new) }
     ensures cut_kept { IfErr result (λ halt. IsRefusal halt
-        → DiskTells (Goes NoMore) (H.disk_history shelf.old) (H.disk_history shelf.new)) }
+        → DiskTells (Goes LeavesNoMore) (H.disk_history shelf.old) (H.disk_history shelf.new)) }
 {
     puts_go_on();
     disks_hold_one_thing();
@@ -296,7 +296,7 @@ pub fn find_matches<'a, R: Threads + Wait + Sync, H: Shelf, K: Sink, E: Sink, W:
     err: &mut E,
     gate: &W,
 ) -> Result<(), RunHalt<'a>>
-    requires { FindBounds find.now }
+    requires { FindIsBounded find.now }
 
     // What was written.
     ensures done { OnOk result (FindsAll find.now (H.files shelf.old) (H.disk_history shelf.old)
@@ -314,13 +314,13 @@ pub fn find_matches<'a, R: Threads + Wait + Sync, H: Shelf, K: Sink, E: Sink, W:
     // Why it stopped, and that no fault is passed over.
     ensures cause { IfErr result (HasCause find.now (H.files shelf.old) (H.disk_history shelf.old)
         (H.disk_history shelf.new) (E.written err.old) (E.written err.new)) }
-    ensures faults { FaultsAs result (H.faults_of shelf.old) (H.faults_of shelf.new) }
-    ensures count { CountAs result (H.fault_count shelf.old) (H.fault_count shelf.new) }
-    ensures absences { AbsenceAs result (H.absent_count shelf.old) (H.absent_count shelf.new) }
-    ensures disk_count { DiskAs result (H.disk_fault_count shelf.old)
+    ensures faults { FaultsFollow result (H.faults_of shelf.old) (H.faults_of shelf.new) }
+    ensures count { CountFollows result (H.fault_count shelf.old) (H.fault_count shelf.new) }
+    ensures absences { AbsencesFollow result (H.absent_count shelf.old) (H.absent_count shelf.new) }
+    ensures disk_count { DiskFollows result (H.disk_fault_count shelf.old)
         (H.disk_fault_count shelf.new) }
-    ensures out { OutAs result (K.fault_count out.old) (K.fault_count out.new) }
-    ensures err { ErrAs result (E.fault_count err.old) (E.fault_count err.new) }
+    ensures out { OutFollows result (K.fault_count out.old) (K.fault_count out.new) }
+    ensures err { ErrFollows result (E.fault_count err.old) (E.fault_count err.new) }
     ensures counts { (H.fault_count shelf.old ≤ H.fault_count shelf.new)
         × (H.absent_count shelf.old ≤ H.absent_count shelf.new)
         × (H.disk_fault_count shelf.old ≤ H.disk_fault_count shelf.new)
@@ -349,7 +349,7 @@ pub fn find_matches<'a, R: Threads + Wait + Sync, H: Shelf, K: Sink, E: Sink, W:
         → DiskTells (KeepsCuts find.now (H.files shelf.old) (K.written out.old) (K.written out.new))
         (H.disk_history shelf.old) (H.disk_history shelf.new) }
     ensures cut_kept { IfErr result (λ halt. IsRefusal halt
-        → DiskTells (Goes NoMore) (H.disk_history shelf.old) (H.disk_history shelf.new)) }
+        → DiskTells (Goes LeavesNoMore) (H.disk_history shelf.old) (H.disk_history shelf.new)) }
 {
     let planning = match read_plan(alloc, find, shelf) {
         Ok(planning) => planning,

@@ -1,7 +1,7 @@
 //! The lanes of a run: made over the sources of its shards, and given back.
 ghost use Rattle.std.specs.Prelude.{◌≡◌, ◌≢◌, ◌≤◌, ◌-◌, All, IfErr, IfOk, IfSome, MatchResult, OnErr, OnOk, Some, [], length, reverse, vec_capacity, map};
 ghost use Rattle.eql_outside.specs.Unfailing.{IsUnfailing};
-ghost use Rattle.eql_outside.specs.Faults.{SameFaults};
+ghost use Rattle.eql_outside.specs.Faults.{FaultsAreSame};
 ghost use Rattle.eql_lane.specs.Slacks.{greatest_slack_ms};
 ghost use Rattle.eql_lane.specs.Starts.{MayStart, IsNotMade, cut_of, wanted_of};
 ghost use Rattle.eql_stages.specs.Judging.{reads_by};
@@ -170,7 +170,7 @@ pub(crate) fn make_lanes<H: Shelf>(
         H.lent_count shelf.new ≡ Some (n - length sources.items))) }
     ensures steady { OnOk result (H.fault_count shelf.new ≡ H.fault_count shelf.old) }
     ensures steady_named { OnOk result
-        (SameFaults (H.faults_of shelf.old) (H.faults_of shelf.new)) }
+        (FaultsAreSame (H.faults_of shelf.old) (H.faults_of shelf.new)) }
     ensures counts { (H.fault_count shelf.old ≤ H.fault_count shelf.new)
         × (H.absent_count shelf.new ≡ H.absent_count shelf.old) }
     ensures kept { KeepsShelf H.files H.source_plans H.disk_history H.is_out H.disk_fault_count

@@ -1,11 +1,11 @@
 //! The plan of a search.
 ghost use Rattle.std.specs.Prelude.{◌≡◌, ◌≤◌, IfErr, IfOk, IsTrue, MatchResult};
-ghost use Rattle.eql_outside.specs.Faults.{SameFaults};
-ghost use Rattle.eql_inputs.specs.Halts.{AbsenceAs, CountAs, FaultsAs, IsNoFault};
+ghost use Rattle.eql_outside.specs.Faults.{FaultsAreSame};
+ghost use Rattle.eql_inputs.specs.Halts.{AbsencesFollow, CountFollows, FaultsFollow, IsNoFault};
 ghost use Rattle.eql_inputs.specs.Shelves.{KeepsShelf, LendsAsMany, NeverFails};
-ghost use Rattle.eql_inputs.specs.Steps.{CheckCause};
+ghost use Rattle.eql_inputs.specs.Steps.{HasCheckCause};
 ghost use Rattle.eql_cut.specs.CutValues.{names_ascend};
-ghost use Rattle.eql_words.specs.Bounds.{FindBounds};
+ghost use Rattle.eql_words.specs.Bounds.{FindIsBounded};
 ghost use Rattle.eql_find.specs.Finding.{IsPlanOf};
 ghost use Rattle.eql_find.specs.Searching.{head_in};
 
@@ -35,16 +35,17 @@ pub(crate) fn read_plan<'a, H: Shelf>(
     shelf: &mut H,
 ) -> Result<Planning, Halt<'a>>
     ensures plan { IfOk result (IsPlanOf find.now (H.files shelf.old)) }
-    ensures cause { IfErr result (CheckCause find.now.query find.now.fields (H.files shelf.old)) }
+    ensures cause { IfErr result (HasCheckCause find.now.query find.now.fields
+        (H.files shelf.old)) }
     ensures faults { MatchResult result
-        (λ _. SameFaults (H.faults_of shelf.old) (H.faults_of shelf.new))
-        (λ halt. FaultsAs halt (H.faults_of shelf.old) (H.faults_of shelf.new)) }
+        (λ _. FaultsAreSame (H.faults_of shelf.old) (H.faults_of shelf.new))
+        (λ halt. FaultsFollow halt (H.faults_of shelf.old) (H.faults_of shelf.new)) }
     ensures count { MatchResult result
         (λ _. H.fault_count shelf.new ≡ H.fault_count shelf.old)
-        (λ halt. CountAs halt (H.fault_count shelf.old) (H.fault_count shelf.new)) }
+        (λ halt. CountFollows halt (H.fault_count shelf.old) (H.fault_count shelf.new)) }
     ensures absences { MatchResult result
         (λ _. H.absent_count shelf.new ≡ H.absent_count shelf.old)
-        (λ halt. AbsenceAs halt (H.absent_count shelf.old) (H.absent_count shelf.new)) }
+        (λ halt. AbsencesFollow halt (H.absent_count shelf.old) (H.absent_count shelf.new)) }
     ensures counts { (H.fault_count shelf.old ≤ H.fault_count shelf.new)
         × (H.absent_count shelf.old ≤ H.absent_count shelf.new) }
     ensures kept { KeepsShelf H.files H.source_plans H.disk_history H.is_out H.disk_fault_count
@@ -82,7 +83,7 @@ fn copy_tie(tie: &Option<Text>) -> Result<Option<Text>, Memory>
 
 /// What the cuts of a run say of it.
 pub(crate) fn head_of(alloc: Global, find: &Find, planning: &Planning) -> Result<CutHead, Memory>
-    requires { FindBounds find.now }
+    requires { FindIsBounded find.now }
     ensures head { IfOk result (λ head. head ≡ head_in find.now planning.now) }
     ensures names { IsTrue (names_ascend planning.now.mapping) }
 {

@@ -11,17 +11,17 @@ ghost use Rattle.eql_runs.specs.Searches.{plan_of, report_of, rest_of};
 ghost use Rattle.eql_check.specs.Kinds.{kind_at};
 ghost use Rattle.eql_check.specs.Typing.{IsChecked};
 ghost use Rattle.eql_query.specs.QueryTree.{query_tree};
-ghost use Rattle.eql_search.specs.Answers.{AreUnfailing as AreLanesUnfailing, HasCause as StoppedBy, IsNoFault, IsRead, SteadyBut, StaysLane, WereRead};
+ghost use Rattle.eql_search.specs.Answers.{AreUnfailing as AreLanesUnfailing, HasCause as StoppedBy, IsNoFault, IsRead, AreSteadyBut, StaysLane, WereRead};
 ghost use Rattle.eql_search.specs.Beginnings.{MayBegin, MayKeepOn, cuts_of};
 ghost use Rattle.eql_search.specs.Keeping.{KeepsOn};
 ghost use Rattle.eql_search.specs.Searches.{AreBegun, AreTextsOf, reads_by, slack_by};
 ghost use Rattle.eql_stages.specs.Planned.{line_of, planned};
 ghost use Rattle.eql_lane.specs.Slacks.{nanos_of};
-ghost use Rattle.eql_words.specs.Bounds.{FindBounds};
-ghost use Rattle.eql_find.specs.Halts.{DiskAs, ErrAs, IsFault, IsReport, OutAs, TellsNothing};
+ghost use Rattle.eql_words.specs.Bounds.{FindIsBounded};
+ghost use Rattle.eql_find.specs.Halts.{DiskFollows, ErrFollows, IsFault, IsReport, OutFollows, TellsNothing};
 ghost use Rattle.eql_find.specs.Lanes.{StaysSource};
-ghost use Rattle.eql_find.specs.Running.{AreSearched, BeginsRun, BeyondOn, StartsOver, every_asked, plan_in};
-ghost use Rattle.eql_find.specs.Searching.{AreCutsOf, KeepsAs, LaneFaults, StartsOn, LanesStop, bare, places_in, rules_in, search_in};
+ghost use Rattle.eql_find.specs.Running.{AreSearched, BeginsRun, IsBeyondOn, StartsOver, every_asked, plan_in};
+ghost use Rattle.eql_find.specs.Searching.{AreCutsOf, KeepsAs, LaneFaultsFollow, StartsOn, LanesStop, bare, places_in, rules_in, search_in};
 ghost use Rattle.eql_find.specs.Starting.{pipes_of};
 ghost use Rattle.eql_find.specs.Stops.{MayStop};
 
@@ -119,7 +119,7 @@ fn search_lanes<
     gate: &W,
 ) -> Result<(), Stop>
     ghost told: { Option (List (List ℕ)) }
-    requires bounds { FindBounds find.now }
+    requires bounds { FindIsBounded find.now }
     requires many { length lanes.old.items ≡ length find.now.shards }
     requires texts { IfSome told (λ texts. AreTextsOf S.left texts lanes.old.items) }
     requires begun { AreBegun ⟦<PlanReader as LineReader>⟧.read_of lanes.old.items }
@@ -163,7 +163,7 @@ fn search_lanes<
         (K.fault_count out.old) (K.fault_count out.new)
         (disk_faults D.history D.fault_count keep.old)
         (disk_faults D.history D.fault_count keep.new)) }
-    ensures reads_steady { SteadyBut (λ shard. IsRead result) lanes.old.items lanes.new.items }
+    ensures reads_steady { AreSteadyBut (λ shard. IsRead result) lanes.old.items lanes.new.items }
     ensures writes_steady { result ≢ Err Stop.Write → ¬ IsRead result
         → K.fault_count out.new ≡ K.fault_count out.old }
     ensures disk_steady { result ≢ Err Stop.Disk → ¬ IsRead result
@@ -226,7 +226,7 @@ pub(crate) fn run_lanes<
     gate: &W,
 ) -> Result<(), RunHalt<'a>>
     ghost told: { Option (List (List ℕ)) }
-    requires bounds { FindBounds find.now }
+    requires bounds { FindIsBounded find.now }
     requires begins { BeginsRun S.left ⟦<PlanReader as LineReader>⟧.read_of D.history told
         find.now planning.now lanes.old.items rest head keep.old }
 
@@ -252,13 +252,13 @@ pub(crate) fn run_lanes<
     ensures quiet { IfErr result (λ halt. TellsNothing halt → err.new ≡ err.old) }
     ensures cause { IfErr result (LanesStop find.now (search_in find.now planning.now) told
         (StartsOver told find.now planning.now lanes.old.items rest)
-        (BeyondOn lanes.old.items) (E.written err.old) (E.written err.new)) }
+        (IsBeyondOn lanes.old.items) (E.written err.old) (E.written err.new)) }
     ensures lanes { AllZip (StaysSource S.left S.lent_as) lanes.old.items lanes.new.items }
-    ensures faults { LaneFaults find.now result lanes.old.items lanes.new.items }
-    ensures disk { DiskAs result (disk_faults D.history D.fault_count keep.old)
+    ensures faults { LaneFaultsFollow find.now result lanes.old.items lanes.new.items }
+    ensures disk { DiskFollows result (disk_faults D.history D.fault_count keep.old)
         (disk_faults D.history D.fault_count keep.new) }
-    ensures out { OutAs result (K.fault_count out.old) (K.fault_count out.new) }
-    ensures err { ErrAs result (E.fault_count err.old) (E.fault_count err.new) }
+    ensures out { OutFollows result (K.fault_count out.old) (K.fault_count out.new) }
+    ensures err { ErrFollows result (E.fault_count err.old) (E.fault_count err.new) }
     ensures counts { (K.fault_count out.old ≤ K.fault_count out.new)
         × (E.fault_count err.old ≤ E.fault_count err.new)
         × (disk_faults D.history D.fault_count keep.old

@@ -4,7 +4,7 @@ use Rattle.std.specs.Prelude.{slice_get, sum_by}
 use Rattle.std.proofs.lemmas.Bool.{cases_eq}
 use Rattle.std.proofs.lemmas.Option.{same_Some, slice_get_within}
 use Rattle.std.proofs.lemmas.List.Sums.{sum_by-cons}
-use Rattle.eql_hub.specs.Steps.{EachPlace}
+use Rattle.eql_hub.specs.Steps.{EachIsRelated}
 
 module _ {X : Type 0} where
   -- what stands in the same place of a list of the same length
@@ -17,7 +17,7 @@ module _ {X : Type 0} where
   -- one place is related so, and the others are
   pub each_at : (Related : X → X → Type 0) (place : ℕ) (old new : List X) (before after : X) → length new ≡ length old
       → slice_get old place ≡ Some before → slice_get new place ≡ Some after → Related before after
-      → ((k : ℕ) (v w : X) → k ≢ place → slice_get old k ≡ Some v → slice_get new k ≡ Some w → Related v w) → EachPlace Related old new
+      → ((k : ℕ) (v w : X) → k ≢ place → slice_get old k ≡ Some v → slice_get new k ≡ Some w → Related v w) → EachIsRelated Related old new
   each_at Related place old new before after count was is here others = record {
     count = count;
     each = λ k v w at there. elim (cases_eq k place) [
@@ -30,10 +30,10 @@ module _ {X : Type 0} where
   }
 
   -- a weaker relation
-  pub each_as : (Related Weaker : X → X → Type 0) (old new : List X) → ((v w : X) → Related v w → Weaker v w) → EachPlace Related old new → EachPlace Weaker old new
+  pub each_as : (Related Weaker : X → X → Type 0) (old new : List X) → ((v w : X) → Related v w → Weaker v w) → EachIsRelated Related old new → EachIsRelated Weaker old new
   each_as Related Weaker old new weaken e = record { count = e.count; each = λ k v w at is. weaken v w (e.each k v w at is) }
 
-  pub each_same : (Related : X → X → Type 0) (old new : List X) → ((x y : X) → y ≡ x → Related x y) → new ≡ old → EachPlace Related old new
+  pub each_same : (Related : X → X → Type 0) (old new : List X) → ((x y : X) → y ≡ x → Related x y) → new ≡ old → EachIsRelated Related old new
   each_same Related old new same e = record {
     count = ap length e;
     each = λ k v w at is. same v w (same_Some w v (sym is ∙ (ap (λ (l : List X). slice_get l k) e ∙ at)));
@@ -41,7 +41,7 @@ module _ {X : Type 0} where
 
   -- one after the other
   pub each_on : (First Second Both : X → X → Type 0) (a b c : List X) → ((u v w : X) → First u v → Second v w → Both u w)
-      → EachPlace First a b → EachPlace Second b c → EachPlace Both a c
+      → EachIsRelated First a b → EachIsRelated Second b c → EachIsRelated Both a c
   each_on First Second Both a b c join f s = record {
     count = s.count ∙ f.count;
     each = λ k u w at is.
@@ -49,7 +49,7 @@ module _ {X : Type 0} where
         join u mid.0 w (f.each k u mid.0 at mid.1) (s.each k mid.0 w mid.1 is);
   }
 
-  each_tail : (Related : X → X → Type 0) (x y : X) (xs ys : List X) → EachPlace Related (x ∷ xs) (y ∷ ys) → EachPlace Related xs ys
+  each_tail : (Related : X → X → Type 0) (x y : X) (xs ys : List X) → EachIsRelated Related (x ∷ xs) (y ∷ ys) → EachIsRelated Related xs ys
   each_tail Related x y xs ys e = record {
     count = let c = e.count in omega (arith, c);
     each = λ k v w at is. e.each (suc k) v w at is;
@@ -57,7 +57,7 @@ module _ {X : Type 0} where
 
   module _ (f : X → ℕ) where
     -- where no place has less the sum isn't less
-    pub sum_grows : (old new : List X) → EachPlace (λ v w. f v ≤ f w) old new → sum_by f old ≤ sum_by f new
+    pub sum_grows : (old new : List X) → EachIsRelated (λ v w. f v ≤ f w) old new → sum_by f old ≤ sum_by f new
     sum_grows [] [] e = omega arith
     sum_grows [] (y ∷ ys) e = absurd (let c = e.count in omega (arith, c))
     sum_grows (x ∷ xs) [] e = absurd (let c = e.count in omega (arith, c))
@@ -70,7 +70,7 @@ module _ {X : Type 0} where
 
     -- and where one has more it is greater
     pub sum_grows_at : (place : ℕ) (old new : List X) (before after : X) → slice_get old place ≡ Some before → slice_get new place ≡ Some after
-        → f before + 1 ≤ f after → EachPlace (λ v w. f v ≤ f w) old new → sum_by f old + 1 ≤ sum_by f new
+        → f before + 1 ≤ f after → EachIsRelated (λ v w. f v ≤ f w) old new → sum_by f old + 1 ≤ sum_by f new
     sum_grows_at place [] new before after was is more e = absurd (let w = slice_get_within [] place before was in omega (arith, w))
     sum_grows_at place (x ∷ xs) [] before after was is more e = absurd (let c = e.count in omega (arith, c))
     sum_grows_at zero (x ∷ xs) (y ∷ ys) before after was is more e =

@@ -1,4 +1,4 @@
--- Worked examples of when a hand goes on, computed. The answers stand the latest first.
+-- Worked examples of when a hand goes on, computed. The results stand the latest first.
 use Rattle.std.specs.Prelude.{◌≡◌, true, false, [], ◌∷◌, None, Some, refl}
 use Rattle.eql_hub.specs.declared.step.Did.TheVariants as did
 use Rattle.eql_hub.specs.declared.step.HandFault.TheVariants as fault

@@ -3,7 +3,7 @@ use Rattle.std.specs.Prelude.{◌⊎◌, ◌≤◌, ◌+◌, ℕ, length, sum_by
 use Rattle.eql_turn_lock.specs.declared.view.View.{View}
 use Rattle.eql_hub.specs.Hands.{HandView, LaneKnown, PartKnown}
 use Rattle.eql_hub.specs.Later.{IsLater}
-use Rattle.eql_hub.specs.Steps.{EachPlace}
+use Rattle.eql_hub.specs.Steps.{EachIsRelated}
 
 module _ {T O R : Type 0} where
   -- it has at most so many entries more of its own
@@ -21,8 +21,8 @@ module _ {T O R : Type 0} where
 module _ {S L : Type 0} where
   -- each pass of a lane is related so to what it was before, and each pass of a part so
   pub record EachPass (OnLane : LaneKnown S L → LaneKnown S L → Type 0) (OnPart : PartKnown → PartKnown → Type 0) (old new : HandView S L) : Type 0 where
-    pub lanes : EachPlace OnLane old.lanes.views new.lanes.views
-    pub parts : EachPlace OnPart old.parts.views new.parts.views
+    pub lanes : EachIsRelated OnLane old.lanes.views new.lanes.views
+    pub parts : EachIsRelated OnPart old.parts.views new.parts.views
 
   -- each pass is the same one later
   abbrev pub AreLater : HandView S L → HandView S L → Type 0

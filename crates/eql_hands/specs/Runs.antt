@@ -1,4 +1,4 @@
--- What a hand does in a run of steps. The answers of the steps stand in a list, the latest first.
+-- What a hand does in a run of steps. The results of the steps stand in a list, the latest first.
 use Rattle.std.specs.Prelude.{◌≡◌, ◌+◌, ℕ, Bool, true, false, ◌&&◌, is_none, nat_lt, List, [], ◌∷◌, Option, None, Some, length}
 use Rattle.eql_values.specs.Accepted.{Reads}
 use Rattle.eql_outside.specs.Plans.{FaultPlan}
@@ -29,7 +29,7 @@ abbrev pub goes_on : (most_idle most_steps : ℕ) → List Did → Bool
 goes_on most_idle most_steps dids = is_none (fault_of dids) && (nat_lt (idle_of dids) most_idle && nat_lt (length dids) most_steps)
 
 module _ {S L : Type 0} (left lent_as : S → Option (List ℕ)) (fault_plan : S → Option FaultPlan) (read_of : L → Reads) (batch most_idle most_steps : ℕ) where
-  -- steps with these answers led from one hand to the other, and before each of them the hand was to go on
+  -- steps with these results led from one hand to the other, and before each of them the hand was to go on
   abbrev pub PlaysSteps : List Did → HandView S L → HandView S L → Type 0
   PlaysSteps [] old new = new ≡ old
   PlaysSteps (answer ∷ before) old new =

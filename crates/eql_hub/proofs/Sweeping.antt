@@ -11,9 +11,9 @@ use Rattle.eql_lock_row.proofs.Places.{all_set, else_there, here}
 use Rattle.eql_hub.specs.declared.step.Did.{Did}
 use Rattle.eql_hub.specs.declared.step.Did.TheVariants as did
 use Rattle.eql_hub.specs.Hands.{HandView, Knows, LaneKnown, PartKnown}
-use Rattle.eql_hub.specs.Steps.{StepEndsAtLane, LaneEnds, LaneIdle, LaneQuiet, StepEndsAtPart, PartEnds, PartIdle, PartQuiet, Steps}
+use Rattle.eql_hub.specs.Steps.{StepEndsAtLane, LaneEnds, LaneIsIdle, LaneIsQuiet, StepEndsAtPart, PartEnds, PartIsIdle, PartIsQuiet, Steps}
 use Rattle.eql_hub.specs.Sweeps.{EndsAt, EndsAtLane, EndsAtPart, PassesPlaces, StopsAt, SweepEnds, TriesPlace, did_in}
-use Rattle.eql_hub.specs.Turns.{LaneTurn, PartTurn, is_open_lane, is_open_part}
+use Rattle.eql_hub.specs.Turns.{IsLaneTurn, IsPartTurn, is_open_lane, is_open_part}
 
 -- a number below another, or not
 below_or : (a b : ℕ) → (a < b) ⊎ (b ≤ a)
@@ -89,8 +89,8 @@ module _ {S L : Type 0} (left lent_as : S → Option (List ℕ)) (fault_plan : S
 
   -- ---- one try
   pub lane_tried : (place : ℕ) (tried : Option Did) (old new : HandView S L) → place < n → new.lanes.locks ≡ old.lanes.locks → new.parts ≡ old.parts
-      → ChangesAt place (λ (v w : LaneKnown S L). MatchOption tried (LaneIdle left lent_as fault_plan read_of batch v w) (λ answer. LaneEnds left lent_as fault_plan read_of batch answer place v w)
-      × KnowsHistory (LaneTurn left lent_as fault_plan read_of) is_open_lane w) old.lanes.views new.lanes.views
+      → ChangesAt place (λ (v w : LaneKnown S L). MatchOption tried (LaneIsIdle left lent_as fault_plan read_of batch v w) (λ answer. LaneEnds left lent_as fault_plan read_of batch answer place v w)
+      × KnowsHistory (IsLaneTurn left lent_as fault_plan read_of) is_open_lane w) old.lanes.views new.lanes.views
       → TriesPlace left lent_as fault_plan read_of batch n place tried old new
   lane_tried place (Some answer) old new inside locks parts c = record {
     ends = inl (
@@ -111,14 +111,14 @@ module _ {S L : Type 0} (left lent_as : S → Option (List ℕ)) (fault_plan : S
         let e : k ≡ place = omega (arith, above, below) in
         let first : c.before ≡ v = same_Some c.before v (sym c.was ∙ (ap (slice_get old.lanes.views) (sym e) ∙ at)) in
         let last : c.after ≡ w = same_Some c.after w (sym (changed_here place old.lanes.views new.lanes.views c) ∙ (ap (slice_get new.lanes.views) (sym e) ∙ is)) in
-        subst (λ (x : LaneKnown S L). LaneIdle left lent_as fault_plan read_of batch x w) first
-        (subst (λ (x : LaneKnown S L). LaneIdle left lent_as fault_plan read_of batch c.before x) last c.changes.0);
+        subst (λ (x : LaneKnown S L). LaneIsIdle left lent_as fault_plan read_of batch x w) first
+        (subst (λ (x : LaneKnown S L). LaneIsIdle left lent_as fault_plan read_of batch c.before x) last c.changes.0);
     lanes_out = λ k out. changed_else place old.lanes.views new.lanes.views c k (apart k out);
     parts_in = λ k v w above below at is. absurd (omega (arith, above, below, inside));
     parts_out = λ k out. ap (λ (r : _). slice_get r.views k) parts;
     knows = λ know. record {
-      lanes = changed_all place old.lanes.views new.lanes.views c (KnowsHistory (LaneTurn left lent_as fault_plan read_of) is_open_lane) (λ v w h. h.1) know.lanes;
-      parts = subst (λ (r : _). AllKnow PartTurn is_open_part r.views) (sym parts) know.parts;
+      lanes = changed_all place old.lanes.views new.lanes.views c (KnowsHistory (IsLaneTurn left lent_as fault_plan read_of) is_open_lane) (λ v w h. h.1) know.lanes;
+      parts = subst (λ (r : _). AllKnow IsPartTurn is_open_part r.views) (sym parts) know.parts;
     };
   }
     where
@@ -127,7 +127,7 @@ module _ {S L : Type 0} (left lent_as : S → Option (List ℕ)) (fault_plan : S
       apart k (inr high) e = omega (arith, high, e)
 
   pub part_tried : (place part : ℕ) (tried : Option Did) (old new : HandView S L) → place ≡ n + part → new.parts.locks ≡ old.parts.locks → new.lanes ≡ old.lanes
-      → ChangesAt part (λ (v w : PartKnown). MatchOption tried (PartIdle batch v w) (λ answer. PartEnds batch answer part v w) × KnowsHistory PartTurn is_open_part w) old.parts.views new.parts.views
+      → ChangesAt part (λ (v w : PartKnown). MatchOption tried (PartIsIdle batch v w) (λ answer. PartEnds batch answer part v w) × KnowsHistory IsPartTurn is_open_part w) old.parts.views new.parts.views
       → TriesPlace left lent_as fault_plan read_of batch n place tried old new
   part_tried place part (Some answer) old new inside locks lanes c = record {
     ends = inr (
@@ -151,11 +151,11 @@ module _ {S L : Type 0} (left lent_as : S → Option (List ℕ)) (fault_plan : S
         let e : k ≡ part = omega (arith, above, below, inside) in
         let first : c.before ≡ v = same_Some c.before v (sym c.was ∙ (ap (slice_get old.parts.views) (sym e) ∙ at)) in
         let last : c.after ≡ w = same_Some c.after w (sym (changed_here part old.parts.views new.parts.views c) ∙ (ap (slice_get new.parts.views) (sym e) ∙ is)) in
-        subst (λ (x : PartKnown). PartIdle batch x w) first (subst (λ (x : PartKnown). PartIdle batch c.before x) last c.changes.0);
+        subst (λ (x : PartKnown). PartIsIdle batch x w) first (subst (λ (x : PartKnown). PartIsIdle batch c.before x) last c.changes.0);
     parts_out = λ k out. changed_else part old.parts.views new.parts.views c k (apart k out);
     knows = λ know. record {
-      lanes = subst (λ (r : _). AllKnow (LaneTurn left lent_as fault_plan read_of) is_open_lane r.views) (sym lanes) know.lanes;
-      parts = changed_all part old.parts.views new.parts.views c (KnowsHistory PartTurn is_open_part) (λ v w h. h.1) know.parts;
+      lanes = subst (λ (r : _). AllKnow (IsLaneTurn left lent_as fault_plan read_of) is_open_lane r.views) (sym lanes) know.lanes;
+      parts = changed_all part old.parts.views new.parts.views c (KnowsHistory IsPartTurn is_open_part) (λ v w h. h.1) know.parts;
     };
   }
     where
@@ -169,16 +169,16 @@ module _ {S L : Type 0} (left lent_as : S → Option (List ℕ)) (fault_plan : S
     pub lane_count : length mid.lanes.views ≡ length old.lanes.views
     pub part_count : length mid.parts.views ≡ length old.parts.views
     pub lanes : (k : ℕ) (v w : LaneKnown S L) → k < n → slice_get old.lanes.views k ≡ Some v → slice_get mid.lanes.views k ≡ Some w
-        → LaneQuiet left lent_as fault_plan read_of batch v w
+        → LaneIsQuiet left lent_as fault_plan read_of batch v w
     pub lane_same : (k : ℕ) → k ≡ place → slice_get mid.lanes.views k ≡ slice_get old.lanes.views k
-    pub parts : (k : ℕ) (v w : PartKnown) → slice_get old.parts.views k ≡ Some v → slice_get mid.parts.views k ≡ Some w → PartQuiet batch v w
+    pub parts : (k : ℕ) (v w : PartKnown) → slice_get old.parts.views k ≡ Some v → slice_get mid.parts.views k ≡ Some w → PartIsQuiet batch v w
     pub part_same : (k : ℕ) → n + k ≡ place → slice_get mid.parts.views k ≡ slice_get old.parts.views k
 
   same_view : {X : Type 0} (old new : List X) (k : ℕ) (v w : X) → slice_get new k ≡ slice_get old k → slice_get old k ≡ Some v → slice_get new k ≡ Some w → w ≡ v
   same_view old new k v w e at is = same_Some w v (sym is ∙ (e ∙ at))
 
   lane_passed : (from to : ℕ) (old mid : HandView S L) → PassesPlaces left lent_as fault_plan read_of batch n from to old mid
-      → (k : ℕ) (v w : LaneKnown S L) → k < n → slice_get old.lanes.views k ≡ Some v → slice_get mid.lanes.views k ≡ Some w → LaneQuiet left lent_as fault_plan read_of batch v w
+      → (k : ℕ) (v w : LaneKnown S L) → k < n → slice_get old.lanes.views k ≡ Some v → slice_get mid.lanes.views k ≡ Some w → LaneIsQuiet left lent_as fault_plan read_of batch v w
   lane_passed from to old mid h k v w inside at is = elim (below_or k from) [
     | inl low ↦ inl (same_view old.lanes.views mid.lanes.views k v w (h.lanes_out k (inl low)) at is)
     | inr above ↦ elim (below_or k to) [
@@ -188,7 +188,7 @@ module _ {S L : Type 0} (left lent_as : S → Option (List ℕ)) (fault_plan : S
   ]
 
   part_passed : (from to : ℕ) (old mid : HandView S L) → PassesPlaces left lent_as fault_plan read_of batch n from to old mid
-      → (k : ℕ) (v w : PartKnown) → slice_get old.parts.views k ≡ Some v → slice_get mid.parts.views k ≡ Some w → PartQuiet batch v w
+      → (k : ℕ) (v w : PartKnown) → slice_get old.parts.views k ≡ Some v → slice_get mid.parts.views k ≡ Some w → PartIsQuiet batch v w
   part_passed from to old mid h k v w at is = elim (below_or (n + k) from) [
     | inl low ↦ inl (same_view old.parts.views mid.parts.views k v w (h.parts_out k (inl low)) at is)
     | inr above ↦ elim (below_or (n + k) to) [
@@ -286,12 +286,12 @@ module _ {S L : Type 0} (left lent_as : S → Option (List ℕ)) (fault_plan : S
       → Knows left lent_as fault_plan read_of mid → Knows left lent_as fault_plan read_of new
   ends_knowing place answer mid new at know = elim at.ends [
     | inl e ↦ record {
-      lanes = changed_all place mid.lanes.views new.lanes.views e.1.changes (KnowsHistory (LaneTurn left lent_as fault_plan read_of) is_open_lane) (λ v w h. h.1) know.lanes;
-      parts = subst (λ (r : _). AllKnow PartTurn is_open_part r.views) (sym e.1.parts) know.parts;
+      lanes = changed_all place mid.lanes.views new.lanes.views e.1.changes (KnowsHistory (IsLaneTurn left lent_as fault_plan read_of) is_open_lane) (λ v w h. h.1) know.lanes;
+      parts = subst (λ (r : _). AllKnow IsPartTurn is_open_part r.views) (sym e.1.parts) know.parts;
     }
     | inr e ↦ record {
-      lanes = subst (λ (r : _). AllKnow (LaneTurn left lent_as fault_plan read_of) is_open_lane r.views) (sym e.2.lanes) know.lanes;
-      parts = changed_all e.0 mid.parts.views new.parts.views e.2.changes (KnowsHistory PartTurn is_open_part) (λ v w h. h.1) know.parts;
+      lanes = subst (λ (r : _). AllKnow (IsLaneTurn left lent_as fault_plan read_of) is_open_lane r.views) (sym e.2.lanes) know.lanes;
+      parts = changed_all e.0 mid.parts.views new.parts.views e.2.changes (KnowsHistory IsPartTurn is_open_part) (λ v w h. h.1) know.parts;
     }
   ]
 

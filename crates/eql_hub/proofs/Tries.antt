@@ -23,9 +23,9 @@ use Rattle.eql_turn_lock.specs.History.{IsLegal, entry}
 use Rattle.eql_turn_lock.proofs.Histories.{legal_split}
 use Rattle.eql_hub.specs.declared.step.Did.{Did}
 use Rattle.eql_hub.specs.Hands.{LaneKnown, PartKnown}
-use Rattle.eql_hub.specs.Steps.{LaneEnds, LaneIdle, PartEnds, PartIdle}
+use Rattle.eql_hub.specs.Steps.{LaneEnds, LaneIsIdle, PartEnds, PartIsIdle}
 use Rattle.eql_hub.specs.Sweeps.{tried_lane, tried_part}
-use Rattle.eql_hub.specs.Turns.{LaneTurn, PartTurn, is_batch, is_idle_lane, is_idle_part, is_open_lane, is_open_part}
+use Rattle.eql_hub.specs.Turns.{IsLaneTurn, IsPartTurn, is_batch, is_idle_lane, is_idle_part, is_open_lane, is_open_part}
 use Rattle.std.proofs.lemmas.Bool.{le-leb}
 
 pub batch_open : (batch : ℕ) → 1 ≤ batch → batch ≤ 4096 → is_batch batch ≡ true
@@ -43,8 +43,8 @@ last_step step_of is_open v w op reply plays =
 
 module _ {S L : Type 0} (left lent_as : S → Option (List ℕ)) (fault_plan : S → Option FaultPlan) (read_of : L → Reads) (batch : ℕ) where
   pub lane_went : (lane : ℕ) (tried : Tried LaneReply LaneOp) (v w : LaneKnown S L)
-      → PlaysUnlessIdle (LaneTurn left lent_as fault_plan read_of) is_open_lane is_idle_lane v (lane_op.Feed batch) tried w
-      → MatchOption (tried_lane lane tried) (LaneIdle left lent_as fault_plan read_of batch v w) (λ answer. LaneEnds left lent_as fault_plan read_of batch answer lane v w)
+      → PlaysUnlessIdle (IsLaneTurn left lent_as fault_plan read_of) is_open_lane is_idle_lane v (lane_op.Feed batch) tried w
+      → MatchOption (tried_lane lane tried) (LaneIsIdle left lent_as fault_plan read_of batch v w) (λ answer. LaneEnds left lent_as fault_plan read_of batch answer lane v w)
   lane_went lane (Idle op) v w h = inr (inr (inr (h.1, h.2)))
   lane_went lane (Played (lane_reply.Fed lines)) v w h = (refl, (lines, h))
   lane_went lane (Played (lane_reply.Failed lines)) v w h = (refl, (lines, h))
@@ -53,56 +53,56 @@ module _ {S L : Type 0} (left lent_as : S → Option (List ℕ)) (fault_plan : S
   lane_went lane (Played (lane_reply.Held ready)) v w h = inl (ready, h)
   lane_went lane (Played lane_reply.Closed) v w h = inr (inl h)
   lane_went lane (Played (lane_reply.Taken items)) v w h =
-      absurd ((last_step (LaneTurn left lent_as fault_plan read_of) is_open_lane v w (lane_op.Feed batch) (lane_reply.Taken items) h).2.plays None tt).step
+      absurd ((last_step (IsLaneTurn left lent_as fault_plan read_of) is_open_lane v w (lane_op.Feed batch) (lane_reply.Taken items) h).2.plays None tt).step
   lane_went lane (Played (lane_reply.Low mark)) v w h =
-      absurd ((last_step (LaneTurn left lent_as fault_plan read_of) is_open_lane v w (lane_op.Feed batch) (lane_reply.Low mark) h).2.plays None tt).step
+      absurd ((last_step (IsLaneTurn left lent_as fault_plan read_of) is_open_lane v w (lane_op.Feed batch) (lane_reply.Low mark) h).2.plays None tt).step
   lane_went lane (Played (lane_reply.Cut cut)) v w h =
-      absurd ((last_step (LaneTurn left lent_as fault_plan read_of) is_open_lane v w (lane_op.Feed batch) (lane_reply.Cut cut) h).2.plays None tt).step
+      absurd ((last_step (IsLaneTurn left lent_as fault_plan read_of) is_open_lane v w (lane_op.Feed batch) (lane_reply.Cut cut) h).2.plays None tt).step
   lane_went lane (Refused (Busy word op)) v w h = inr (inr (inl (word, subst (λ (o : LaneOp). Refuses v (lane_op.Feed batch) (Busy word o) w) h.0 h)))
   lane_went lane (Refused (Worn word op)) v w h = inr (refl, (word, subst (λ (o : LaneOp). Refuses v (lane_op.Feed batch) (Worn word o) w) h.0 h))
 
   pub lane_try : (lane : ℕ) (tried : Tried LaneReply LaneOp) (answer : Option Did) (old new : List (LaneKnown S L)) → answer ≡ tried_lane lane tried
-      → ChangesAt lane (λ (v w : LaneKnown S L). PlaysUnlessIdle (LaneTurn left lent_as fault_plan read_of) is_open_lane is_idle_lane v (lane_op.Feed batch) tried w
-      × KnowsHistory (LaneTurn left lent_as fault_plan read_of) is_open_lane w) old new
-      → ChangesAt lane (λ (v w : LaneKnown S L). MatchOption answer (LaneIdle left lent_as fault_plan read_of batch v w) (λ a. LaneEnds left lent_as fault_plan read_of batch a lane v w)
-      × KnowsHistory (LaneTurn left lent_as fault_plan read_of) is_open_lane w) old new
+      → ChangesAt lane (λ (v w : LaneKnown S L). PlaysUnlessIdle (IsLaneTurn left lent_as fault_plan read_of) is_open_lane is_idle_lane v (lane_op.Feed batch) tried w
+      × KnowsHistory (IsLaneTurn left lent_as fault_plan read_of) is_open_lane w) old new
+      → ChangesAt lane (λ (v w : LaneKnown S L). MatchOption answer (LaneIsIdle left lent_as fault_plan read_of batch v w) (λ a. LaneEnds left lent_as fault_plan read_of batch a lane v w)
+      × KnowsHistory (IsLaneTurn left lent_as fault_plan read_of) is_open_lane w) old new
   lane_try lane tried answer old new is c = record {
     before = c.before;
     after = c.after;
     was = c.was;
     is = c.is;
     changes = (
-      subst (λ (o : Option Did). MatchOption o (LaneIdle left lent_as fault_plan read_of batch c.before c.after) (λ a. LaneEnds left lent_as fault_plan read_of batch a lane c.before c.after)) (sym is)
+      subst (λ (o : Option Did). MatchOption o (LaneIsIdle left lent_as fault_plan read_of batch c.before c.after) (λ a. LaneEnds left lent_as fault_plan read_of batch a lane c.before c.after)) (sym is)
           (lane_went lane tried c.before c.after c.changes.0),
       c.changes.1,
     );
   }
 
 pub part_went : (batch part : ℕ) (tried : Tried PartReply PartOp) (v w : PartKnown)
-    → PlaysUnlessIdle PartTurn is_open_part is_idle_part v (part_op.Turn batch) tried w
-    → MatchOption (tried_part part tried) (PartIdle batch v w) (λ answer. PartEnds batch answer part v w)
+    → PlaysUnlessIdle IsPartTurn is_open_part is_idle_part v (part_op.Turn batch) tried w
+    → MatchOption (tried_part part tried) (PartIsIdle batch v w) (λ answer. PartEnds batch answer part v w)
 part_went batch part (Idle op) v w h = inr (inr (h.1, h.2))
 part_went batch part (Played (part_reply.Turned items)) v w h = (refl, (items, h))
 part_went batch part (Played (part_reply.Memory back items)) v w h = (back, (items, h))
 part_went batch part (Played part_reply.Idle) v w h = inl h
-part_went batch part (Played part_reply.Done) v w h = absurd (last_step PartTurn is_open_part v w (part_op.Turn batch) part_reply.Done h).2.step
+part_went batch part (Played part_reply.Done) v w h = absurd (last_step IsPartTurn is_open_part v w (part_op.Turn batch) part_reply.Done h).2.step
 part_went batch part (Played (part_reply.Found found done)) v w h =
-    absurd (last_step PartTurn is_open_part v w (part_op.Turn batch) (part_reply.Found found done) h).2.step
+    absurd (last_step IsPartTurn is_open_part v w (part_op.Turn batch) (part_reply.Found found done) h).2.step
 part_went batch part (Played (part_reply.Cut holders)) v w h =
-    absurd (last_step PartTurn is_open_part v w (part_op.Turn batch) (part_reply.Cut holders) h).2.step
+    absurd (last_step IsPartTurn is_open_part v w (part_op.Turn batch) (part_reply.Cut holders) h).2.step
 part_went batch part (Refused (Busy word op)) v w h = inr (inl (word, subst (λ (o : PartOp). Refuses v (part_op.Turn batch) (Busy word o) w) h.0 h))
 part_went batch part (Refused (Worn word op)) v w h = (refl, (word, subst (λ (o : PartOp). Refuses v (part_op.Turn batch) (Worn word o) w) h.0 h))
 
 pub part_try : (batch part : ℕ) (tried : Tried PartReply PartOp) (answer : Option Did) (old new : List PartKnown) → answer ≡ tried_part part tried
-    → ChangesAt part (λ (v w : PartKnown). PlaysUnlessIdle PartTurn is_open_part is_idle_part v (part_op.Turn batch) tried w × KnowsHistory PartTurn is_open_part w) old new
-    → ChangesAt part (λ (v w : PartKnown). MatchOption answer (PartIdle batch v w) (λ a. PartEnds batch a part v w) × KnowsHistory PartTurn is_open_part w) old new
+    → ChangesAt part (λ (v w : PartKnown). PlaysUnlessIdle IsPartTurn is_open_part is_idle_part v (part_op.Turn batch) tried w × KnowsHistory IsPartTurn is_open_part w) old new
+    → ChangesAt part (λ (v w : PartKnown). MatchOption answer (PartIsIdle batch v w) (λ a. PartEnds batch a part v w) × KnowsHistory IsPartTurn is_open_part w) old new
 part_try batch part tried answer old new is c = record {
   before = c.before;
   after = c.after;
   was = c.was;
   is = c.is;
   changes = (
-    subst (λ (o : Option Did). MatchOption o (PartIdle batch c.before c.after) (λ a. PartEnds batch a part c.before c.after)) (sym is)
+    subst (λ (o : Option Did). MatchOption o (PartIsIdle batch c.before c.after) (λ a. PartEnds batch a part c.before c.after)) (sym is)
         (part_went batch part tried c.before c.after c.changes.0),
     c.changes.1,
   );

@@ -13,7 +13,7 @@ use Rattle.eql_parts.specs.PartSteps.{PartView}
 use Rattle.eql_turn_lock.specs.declared.view.View.{View}
 use Rattle.eql_turn_lock.specs.History.{StartsWith}
 use Rattle.eql_lock_row.specs.Rows.{AllAreJoined, AllKnow, AreFirst, RowView}
-use Rattle.eql_hub.specs.Turns.{LaneTurn, PartTurn, is_open_lane, is_open_part}
+use Rattle.eql_hub.specs.Turns.{IsLaneTurn, IsPartTurn, is_open_lane, is_open_part}
 
 -- what is known of a lane, and of a part, by a pass of its lock
 abbrev pub LaneKnown : (S L : Type 0) → Type 0
@@ -55,5 +55,5 @@ module _ {S L : Type 0} where
 
   -- what each pass has seen is a legal history of its lane or part, with its own entries
   pub record Knows (left lent_as : S → Option (List ℕ)) (fault_plan : S → Option FaultPlan) (read_of : L → Reads) (hand : HandView S L) : Type 0 where
-    pub lanes : AllKnow (LaneTurn left lent_as fault_plan read_of) is_open_lane hand.lanes.views
-    pub parts : AllKnow PartTurn is_open_part hand.parts.views
+    pub lanes : AllKnow (IsLaneTurn left lent_as fault_plan read_of) is_open_lane hand.lanes.views
+    pub parts : AllKnow IsPartTurn is_open_part hand.parts.views

@@ -17,30 +17,30 @@ use Rattle.eql_hub.specs.declared.step.Did.{Did}
 use Rattle.eql_hub.specs.declared.step.Did.TheVariants as did
 use Rattle.eql_hub.specs.declared.step.HandFault.TheVariants as fault
 use Rattle.eql_hub.specs.Hands.{HandView, LaneKnown, PartKnown}
-use Rattle.eql_hub.specs.Turns.{LaneTurn, PartTurn, is_idle_lane, is_idle_part, is_open_lane, is_open_part}
+use Rattle.eql_hub.specs.Turns.{IsLaneTurn, IsPartTurn, is_idle_lane, is_idle_part, is_open_lane, is_open_part}
 
 -- two lists are related so, place by place
-pub record EachPlace {X : Type 0} (Related : X → X → Type 0) (old new : List X) : Type 0 where
+pub record EachIsRelated {X : Type 0} (Related : X → X → Type 0) (old new : List X) : Type 0 where
   pub count : length new ≡ length old
   pub each : (k : ℕ) (v w : X) → slice_get old k ≡ Some v → slice_get new k ≡ Some w → Related v w
 
 -- a pass after a step: it is the same pass, and has at most one entry more of its own
-abbrev pub OneMore : {T O R : Type 0} → View T O R → View T O R → Type 0
-OneMore v w = (w.number ≡ v.number) × (length w.mine ≤ length v.mine + 1)
+abbrev pub AddsAtMostOne : {T O R : Type 0} → View T O R → View T O R → Type 0
+AddsAtMostOne v w = (w.number ≡ v.number) × (length w.mine ≤ length v.mine + 1)
 
 -- so it is of each pass of a hand
-pub record OneMoreEach {S L : Type 0} (old new : HandView S L) : Type 0 where
-  pub lanes : EachPlace OneMore old.lanes.views new.lanes.views
-  pub parts : EachPlace OneMore old.parts.views new.parts.views
+pub record AddsAtMostOneEach {S L : Type 0} (old new : HandView S L) : Type 0 where
+  pub lanes : EachIsRelated AddsAtMostOne old.lanes.views new.lanes.views
+  pub parts : EachIsRelated AddsAtMostOne old.parts.views new.parts.views
 
 -- ---- parts
 -- the part answered a turn of the hand so
 abbrev pub PartAnswers : (batch : ℕ) → PartReply → PartKnown → PartKnown → Type 0
-PartAnswers batch reply v w = PlaysOnce PartTurn is_open_part v (part_op.Turn batch) reply w
+PartAnswers batch reply v w = PlaysOnce IsPartTurn is_open_part v (part_op.Turn batch) reply w
 
 -- the part's lock was busy: its word was odd, or moved between load and exchange
-abbrev pub PartBusy : (batch : ℕ) → PartKnown → PartKnown → Type 0
-PartBusy batch v w = (word : ℕ) × Refuses v (part_op.Turn batch) (Busy word (part_op.Turn batch)) w
+abbrev pub PartIsBusy : (batch : ℕ) → PartKnown → PartKnown → Type 0
+PartIsBusy batch v w = (word : ℕ) × Refuses v (part_op.Turn batch) (Busy word (part_op.Turn batch)) w
 
 -- the part's lock is worn
 abbrev pub PartIsWorn : (batch : ℕ) → PartKnown → PartKnown → Type 0
@@ -48,17 +48,17 @@ PartIsWorn batch v w = (word : ℕ) × Refuses v (part_op.Turn batch) (Worn word
 
 -- the lock's word counts a history whose last reply was `Idle`, and nothing was played
 abbrev pub PartMetIdle : PartKnown → PartKnown → Type 0
-PartMetIdle v w = IsUnplayed v w × MeetsIdle PartTurn is_idle_part v w
+PartMetIdle v w = IsUnplayed v w × MeetsIdle IsPartTurn is_idle_part v w
 
 -- nothing was to be done there: no event waits, or the lock was busy, or the last reply there said that no event waits
-abbrev pub PartIdle : (batch : ℕ) → PartKnown → PartKnown → Type 0
-PartIdle batch v w = PartAnswers batch part_reply.Idle v w ⊎ (PartBusy batch v w ⊎ PartMetIdle v w)
+abbrev pub PartIsIdle : (batch : ℕ) → PartKnown → PartKnown → Type 0
+PartIsIdle batch v w = PartAnswers batch part_reply.Idle v w ⊎ (PartIsBusy batch v w ⊎ PartMetIdle v w)
 
 -- it wasn't tried, or nothing was to be done
-abbrev pub PartQuiet : (batch : ℕ) → PartKnown → PartKnown → Type 0
-PartQuiet batch v w = (w ≡ v) ⊎ PartIdle batch v w
+abbrev pub PartIsQuiet : (batch : ℕ) → PartKnown → PartKnown → Type 0
+PartIsQuiet batch v w = (w ≡ v) ⊎ PartIsIdle batch v w
 
--- the step ended at the part in a place with this answer
+-- the step ended at the part in a place with this result
 abbrev pub PartEnds : (batch : ℕ) → Did → (place : ℕ) → PartKnown → PartKnown → Type 0
 PartEnds batch (did.Turned part) place v w = (part ≡ place) × ((items : ℕ) × PartAnswers batch (part_reply.Turned items) v w)
 PartEnds batch (did.Fault fault.Memory) place v w = (back : List Item) × ((items : ℕ) × PartAnswers batch (part_reply.Memory back items) v w)
@@ -71,11 +71,11 @@ module _ {S L : Type 0} (left lent_as : S → Option (List ℕ)) (fault_plan : S
   -- ---- lanes
   -- the lane answered a feed of the hand so
   abbrev pub LaneAnswers : LaneReply → LaneKnown S L → LaneKnown S L → Type 0
-  LaneAnswers reply v w = PlaysOnce (LaneTurn left lent_as fault_plan read_of) is_open_lane v (lane_op.Feed batch) reply w
+  LaneAnswers reply v w = PlaysOnce (IsLaneTurn left lent_as fault_plan read_of) is_open_lane v (lane_op.Feed batch) reply w
 
   -- the lane's lock was busy: its word was odd, or moved between load and exchange
-  abbrev pub LaneBusy : LaneKnown S L → LaneKnown S L → Type 0
-  LaneBusy v w = (word : ℕ) × Refuses v (lane_op.Feed batch) (Busy word (lane_op.Feed batch)) w
+  abbrev pub LaneIsBusy : LaneKnown S L → LaneKnown S L → Type 0
+  LaneIsBusy v w = (word : ℕ) × Refuses v (lane_op.Feed batch) (Busy word (lane_op.Feed batch)) w
 
   -- the lane's lock is worn
   abbrev pub LaneIsWorn : LaneKnown S L → LaneKnown S L → Type 0
@@ -83,18 +83,18 @@ module _ {S L : Type 0} (left lent_as : S → Option (List ℕ)) (fault_plan : S
 
   -- the lock's word counts a history whose last reply was `Held` or `Closed`, and nothing was played
   abbrev pub LaneMetIdle : LaneKnown S L → LaneKnown S L → Type 0
-  LaneMetIdle v w = IsUnplayed v w × MeetsIdle (LaneTurn left lent_as fault_plan read_of) is_idle_lane v w
+  LaneMetIdle v w = IsUnplayed v w × MeetsIdle (IsLaneTurn left lent_as fault_plan read_of) is_idle_lane v w
 
   -- nothing was to be done there: the lane holds enough or is closed, or the lock was busy, or the last reply there said that the lane holds enough or is
   -- closed
-  abbrev pub LaneIdle : LaneKnown S L → LaneKnown S L → Type 0
-  LaneIdle v w = ((ready : ℕ) × LaneAnswers (lane_reply.Held ready) v w) ⊎ (LaneAnswers lane_reply.Closed v w ⊎ (LaneBusy v w ⊎ LaneMetIdle v w))
+  abbrev pub LaneIsIdle : LaneKnown S L → LaneKnown S L → Type 0
+  LaneIsIdle v w = ((ready : ℕ) × LaneAnswers (lane_reply.Held ready) v w) ⊎ (LaneAnswers lane_reply.Closed v w ⊎ (LaneIsBusy v w ⊎ LaneMetIdle v w))
 
   -- it wasn't tried, or nothing was to be done
-  abbrev pub LaneQuiet : LaneKnown S L → LaneKnown S L → Type 0
-  LaneQuiet v w = (w ≡ v) ⊎ LaneIdle v w
+  abbrev pub LaneIsQuiet : LaneKnown S L → LaneKnown S L → Type 0
+  LaneIsQuiet v w = (w ≡ v) ⊎ LaneIsIdle v w
 
-  -- the step ended at the lane in a place with this answer
+  -- the step ended at the lane in a place with this result
   abbrev pub LaneEnds : Did → (place : ℕ) → LaneKnown S L → LaneKnown S L → Type 0
   LaneEnds (did.Fed lane) place v w = (lane ≡ place) × ((lines : ℕ) × LaneAnswers (lane_reply.Fed lines) v w)
   LaneEnds (did.Fault (fault.Read shard)) place v w = (shard ≡ place) × ((lines : ℕ) × LaneAnswers (lane_reply.Failed lines) v w)
@@ -106,8 +106,8 @@ module _ {S L : Type 0} (left lent_as : S → Option (List ℕ)) (fault_plan : S
   -- ---- the whole step
   -- nothing was to be done at any lane or part
   pub record FindsNothing (old new : HandView S L) : Type 0 where
-    pub lanes : EachPlace LaneIdle old.lanes.views new.lanes.views
-    pub parts : EachPlace (PartIdle batch) old.parts.views new.parts.views
+    pub lanes : EachIsRelated LaneIsIdle old.lanes.views new.lanes.views
+    pub parts : EachIsRelated (PartIsIdle batch) old.parts.views new.parts.views
 
   -- the step ended at a lane, and nothing was to be done where it was before
   pub record StepEndsAtLane (answer : Did) (old new : HandView S L) : Type 0 where
@@ -118,8 +118,8 @@ module _ {S L : Type 0} (left lent_as : S → Option (List ℕ)) (fault_plan : S
     pub is : slice_get new.lanes.views lane ≡ Some after
     pub ends : LaneEnds answer lane before after
     pub count : length new.lanes.views ≡ length old.lanes.views
-    pub others : (k : ℕ) (v w : LaneKnown S L) → k ≢ lane → slice_get old.lanes.views k ≡ Some v → slice_get new.lanes.views k ≡ Some w → LaneQuiet v w
-    pub parts : EachPlace (PartQuiet batch) old.parts.views new.parts.views
+    pub others : (k : ℕ) (v w : LaneKnown S L) → k ≢ lane → slice_get old.lanes.views k ≡ Some v → slice_get new.lanes.views k ≡ Some w → LaneIsQuiet v w
+    pub parts : EachIsRelated (PartIsQuiet batch) old.parts.views new.parts.views
 
   -- the step ended at a part
   pub record StepEndsAtPart (answer : Did) (old new : HandView S L) : Type 0 where
@@ -130,10 +130,10 @@ module _ {S L : Type 0} (left lent_as : S → Option (List ℕ)) (fault_plan : S
     pub is : slice_get new.parts.views part ≡ Some after
     pub ends : PartEnds batch answer part before after
     pub count : length new.parts.views ≡ length old.parts.views
-    pub others : (k : ℕ) (v w : PartKnown) → k ≢ part → slice_get old.parts.views k ≡ Some v → slice_get new.parts.views k ≡ Some w → PartQuiet batch v w
-    pub lanes : EachPlace LaneQuiet old.lanes.views new.lanes.views
+    pub others : (k : ℕ) (v w : PartKnown) → k ≢ part → slice_get old.parts.views k ≡ Some v → slice_get new.parts.views k ≡ Some w → PartIsQuiet batch v w
+    pub lanes : EachIsRelated LaneIsQuiet old.lanes.views new.lanes.views
 
-  -- what a step that answers this has done: each lane and part was tried once at most
+  -- what a step that returns this has done: each lane and part was tried once at most
   abbrev pub Steps : Did → HandView S L → HandView S L → Type 0
   Steps did.Nothing old new = FindsNothing old new
   Steps (did.Fed lane) old new = StepEndsAtLane (did.Fed lane) old new

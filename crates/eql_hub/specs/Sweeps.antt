@@ -19,8 +19,8 @@ use Rattle.eql_hub.specs.declared.step.Did.{Did}
 use Rattle.eql_hub.specs.declared.step.Did.TheVariants as did
 use Rattle.eql_hub.specs.declared.step.HandFault.TheVariants as fault
 use Rattle.eql_hub.specs.Hands.{HandView, Knows, LaneKnown, PartKnown}
-use Rattle.eql_hub.specs.Steps.{LaneEnds, LaneIdle, PartEnds, PartIdle}
-use Rattle.eql_hub.specs.Turns.{LaneTurn, PartTurn, is_open_lane, is_open_part}
+use Rattle.eql_hub.specs.Steps.{LaneEnds, LaneIsIdle, PartEnds, PartIsIdle}
+use Rattle.eql_hub.specs.Turns.{IsLaneTurn, IsPartTurn, is_open_lane, is_open_part}
 
 -- what the answer of a feed ends the step with, if with anything
 abbrev pub fed_with : (lane : ℕ) → LaneReply → Option Did
@@ -71,10 +71,10 @@ module _ {S L : Type 0} (left lent_as : S → Option (List ℕ)) (fault_plan : S
     pub lane_count : length new.lanes.views ≡ length old.lanes.views
     pub part_count : length new.parts.views ≡ length old.parts.views
     pub lanes_in : (k : ℕ) (v w : LaneKnown S L) → k < n → from ≤ k → k < to → slice_get old.lanes.views k ≡ Some v → slice_get new.lanes.views k ≡ Some w
-        → LaneIdle left lent_as fault_plan read_of batch v w
+        → LaneIsIdle left lent_as fault_plan read_of batch v w
     pub lanes_out : (k : ℕ) → (k < from) ⊎ (to ≤ k) → slice_get new.lanes.views k ≡ slice_get old.lanes.views k
     pub parts_in : (k : ℕ) (v w : PartKnown) → from ≤ n + k → n + k < to → slice_get old.parts.views k ≡ Some v → slice_get new.parts.views k ≡ Some w
-        → PartIdle batch v w
+        → PartIsIdle batch v w
     pub parts_out : (k : ℕ) → (n + k < from) ⊎ (to ≤ n + k) → slice_get new.parts.views k ≡ slice_get old.parts.views k
     pub knows : Knows left lent_as fault_plan read_of old → Knows left lent_as fault_plan read_of new
 
@@ -82,13 +82,13 @@ module _ {S L : Type 0} (left lent_as : S → Option (List ℕ)) (fault_plan : S
   pub record EndsAtLane (lane : ℕ) (answer : Did) (old new : HandView S L) : Type 0 where
     pub lane_locks : new.lanes.locks ≡ old.lanes.locks
     pub changes : ChangesAt lane (λ (v w : LaneKnown S L). LaneEnds left lent_as fault_plan read_of batch answer lane v w
-        × KnowsHistory (LaneTurn left lent_as fault_plan read_of) is_open_lane w) old.lanes.views new.lanes.views
+        × KnowsHistory (IsLaneTurn left lent_as fault_plan read_of) is_open_lane w) old.lanes.views new.lanes.views
     pub parts : new.parts ≡ old.parts
 
   -- the step ended at a part, and nothing else was tried
   pub record EndsAtPart (part : ℕ) (answer : Did) (old new : HandView S L) : Type 0 where
     pub part_locks : new.parts.locks ≡ old.parts.locks
-    pub changes : ChangesAt part (λ (v w : PartKnown). PartEnds batch answer part v w × KnowsHistory PartTurn is_open_part w) old.parts.views new.parts.views
+    pub changes : ChangesAt part (λ (v w : PartKnown). PartEnds batch answer part v w × KnowsHistory IsPartTurn is_open_part w) old.parts.views new.parts.views
     pub lanes : new.lanes ≡ old.lanes
 
   -- the step ended in a place

@@ -12,12 +12,12 @@ use Rattle.eql_lane.specs.declared.ops.LaneReply.{LaneReply}
 use Rattle.eql_lane.specs.declared.ops.LaneReply.TheVariants as lane_reply
 use Rattle.eql_lane.specs.Lanes.{LaneAllows}
 use Rattle.eql_lane.specs.Plays.{Plays, DidNotFail}
-use Rattle.eql_lane.specs.Views.{LaneView, SameLane}
+use Rattle.eql_lane.specs.Views.{IsSameLane, LaneView}
 use Rattle.eql_parts.specs.declared.ops.PartOp.{PartOp}
 use Rattle.eql_parts.specs.declared.ops.PartOp.TheVariants as part_op
 use Rattle.eql_parts.specs.declared.ops.PartReply.{PartReply}
 use Rattle.eql_parts.specs.declared.ops.PartReply.TheVariants as part_reply
-use Rattle.eql_parts.specs.PartSteps.{CanDeliver, PartAllows, PartState, PartStep, PartView, Rules, TurnStep}
+use Rattle.eql_parts.specs.PartSteps.{CanDeliver, IsPartStep, IsTurnStep, PartAllows, PartState, PartView, Rules}
 
 -- from 1 to 4,096
 abbrev pub is_batch : ℕ → Bool
@@ -50,15 +50,15 @@ is_idle_part reply = false
 
 -- an operation on a lane: its step for each text of the lane; what no step changes is the same; and where the source isn't planned to fail, it
 -- didn't and stays so
-pub record LaneTurn {S L : Type 0} (left lent_as : S → Option (List ℕ)) (fault_plan : S → Option FaultPlan) (read_of : L → Reads)
+pub record IsLaneTurn {S L : Type 0} (left lent_as : S → Option (List ℕ)) (fault_plan : S → Option FaultPlan) (read_of : L → Reads)
     (old : LaneView S L) (op : LaneOp) (reply : LaneReply) (new : LaneView S L) : Type 0 where
   pub plays : Plays left read_of old op reply new
-  pub same : SameLane left lent_as read_of old new
+  pub same : IsSameLane left lent_as read_of old new
   pub unfailing : IsUnfailing (fault_plan old.source) → DidNotFail reply × IsUnfailing (fault_plan new.source)
 
 -- an operation on a part: its step, by rules that stay
-pub record PartTurn (old : PartView) (op : PartOp) (reply : PartReply) (new : PartView) : Type 0 where
-  pub step : PartStep old.rules old.state op reply new.state
+pub record IsPartTurn (old : PartView) (op : PartOp) (reply : PartReply) (new : PartView) : Type 0 where
+  pub step : IsPartStep old.rules old.state op reply new.state
   pub rules : new.rules ≡ old.rules
 
 -- ---- the laws of both
@@ -83,7 +83,7 @@ open_part_allowed x part_op.Collect is = tt
 open_part_allowed x part_op.Snap is = tt
 
 -- no turn changes the last delivered mark
-turn_last : (rules : Rules) (x : PartState) (max : ℕ) (reply : PartReply) (y : PartState) → TurnStep rules x max reply y → y.last ≡ x.last
+turn_last : (rules : Rules) (x : PartState) (max : ℕ) (reply : PartReply) (y : PartState) → IsTurnStep rules x max reply y → y.last ≡ x.last
 turn_last rules x max (part_reply.Turned n) y step = step.0.last
 turn_last rules x max part_reply.Idle y step = ap (λ (z : PartState). z.last) step.1
 turn_last rules x max (part_reply.Memory back n) y step = step.1.last
@@ -98,7 +98,7 @@ still_allowed x y (part_op.Turn max) same may = may
 still_allowed x y part_op.Collect same may = may
 still_allowed x y part_op.Snap same may = may
 
-pub part_stays_allowed : (x y : PartView) (op later : PartOp) (reply : PartReply) → is_open_part op ≡ true → PartTurn x op reply y → PartAllows x.state later → PartAllows y.state later
+pub part_stays_allowed : (x y : PartView) (op later : PartOp) (reply : PartReply) → is_open_part op ≡ true → IsPartTurn x op reply y → PartAllows x.state later → PartAllows y.state later
 part_stays_allowed x y (part_op.Deliver items mark) later reply is step may = absurd (false≢true is)
 part_stays_allowed x y (part_op.Turn max) later reply is step may = still_allowed x.state y.state later (turn_last x.rules x.state max reply y.state step.step) may
 part_stays_allowed x y part_op.Collect later reply is step may = absurd (false≢true is)

@@ -6,7 +6,7 @@ ghost use Rattle.eql_turn_lock.specs.Calls.{Plays, RefusesWorn};
 ghost use Rattle.eql_turn_lock.specs.Passes.{KnowsHistory};
 ghost use Rattle.eql_lock_row.specs.Rows.{ChangesAt, MayPlayAt};
 ghost use Rattle.eql_hub.specs.Hands.{IsHandOf};
-ghost use Rattle.eql_hub.specs.Turns.{LaneTurn, PartTurn, is_open_lane, is_open_part};
+ghost use Rattle.eql_hub.specs.Turns.{IsLaneTurn, IsPartTurn, is_open_lane, is_open_part};
 
 use crate::hub::{Hand, Hub};
 use eql_lane::{LaneOp, LaneReply};
@@ -18,7 +18,7 @@ use std::sync::Wait;
 use std::sync::ledger::Ledger;
 
 impl<S: Source, L: LineReader, G: Ledger> Hub<S, L, G> {
-    /// Plays the operation on a lane, from 0, and waits for its turn. It never answers `Busy`.
+    /// Plays the operation on a lane, from 0, and waits for its turn. It never returns `Busy`.
     pub fn call_lane<R: Wait>(
         &self,
         rt: &R,
@@ -29,20 +29,20 @@ impl<S: Source, L: LineReader, G: Ledger> Hub<S, L, G> {
         requires own { IsHandOf self.now hand.old }
         requires place { lane < length self.now.lanes }
         requires may { MayPlayAt (λ x o. LaneAllows o)
-            (LaneTurn S.left S.lent_as S.fault_plan L.read_of) is_open_lane
+            (IsLaneTurn S.left S.lent_as S.fault_plan L.read_of) is_open_lane
             hand.old.lanes.views lane op }
         ensures own { IsHandOf self.now hand.new }
         ensures played { ChangesAt lane (λ v w. MatchResult result
-            (λ reply. Plays (LaneTurn S.left S.lent_as S.fault_plan L.read_of) is_open_lane
+            (λ reply. Plays (IsLaneTurn S.left S.lent_as S.fault_plan L.read_of) is_open_lane
             v op reply w) (λ refused. RefusesWorn v op refused w)
-            × KnowsHistory (LaneTurn S.left S.lent_as S.fault_plan L.read_of) is_open_lane w)
+            × KnowsHistory (IsLaneTurn S.left S.lent_as S.fault_plan L.read_of) is_open_lane w)
             hand.old.lanes.views hand.new.lanes.views }
         ensures parts { hand.new.parts ≡ hand.old.parts }
     {
         self.lanes.call(rt, &mut hand.lanes, lane as usize, op)
     }
 
-    /// Plays the operation on a part, from 0, and waits for its turn. It never answers `Busy`.
+    /// Plays the operation on a part, from 0, and waits for its turn. It never returns `Busy`.
     pub fn call_part<R: Wait>(
         &self,
         rt: &R,
@@ -52,12 +52,12 @@ impl<S: Source, L: LineReader, G: Ledger> Hub<S, L, G> {
     ) -> Result<PartReply, NotNow<PartOp>>
         requires own { IsHandOf self.now hand.old }
         requires place { part < length self.now.parts }
-        requires may { MayPlayAt (λ x o. PartAllows x.state o) PartTurn is_open_part
+        requires may { MayPlayAt (λ x o. PartAllows x.state o) IsPartTurn is_open_part
             hand.old.parts.views part op }
         ensures own { IsHandOf self.now hand.new }
         ensures played { ChangesAt part (λ v w. MatchResult result
-            (λ reply. Plays PartTurn is_open_part v op reply w)
-            (λ refused. RefusesWorn v op refused w) × KnowsHistory PartTurn is_open_part w)
+            (λ reply. Plays IsPartTurn is_open_part v op reply w)
+            (λ refused. RefusesWorn v op refused w) × KnowsHistory IsPartTurn is_open_part w)
             hand.old.parts.views hand.new.parts.views }
         ensures lanes { hand.new.lanes ≡ hand.old.lanes }
     {

@@ -1,7 +1,7 @@
 //! A step of a hand.
 ghost use Rattle.std.specs.Prelude.{◌≡◌, ◌<◌, ◌≤◌, ◌+◌, IfSome, length};
 ghost use Rattle.eql_hub.specs.Hands.{IsHandOf, Knows};
-ghost use Rattle.eql_hub.specs.Steps.{OneMoreEach, Steps};
+ghost use Rattle.eql_hub.specs.Steps.{AddsAtMostOneEach, Steps};
 ghost use Rattle.eql_hub.specs.Sweeps.{did_in};
 
 use crate::hub::{Hand, Hub};
@@ -50,7 +50,7 @@ impl<S: Source, L: LineReader, G: Ledger> Hub<S, L, G> {
             → Knows S.left S.lent_as S.fault_plan L.read_of hand.new }
         ensures steps { Steps S.left S.lent_as S.fault_plan L.read_of batch result
             hand.old hand.new }
-        ensures mine { OneMoreEach hand.old hand.new }
+        ensures mine { AddsAtMostOneEach hand.old hand.new }
     {
         self.are_few();
         let count = hand.lane_count() + hand.part_count();

@@ -4,7 +4,7 @@ ghost use Rattle.std.specs.List.{AllZip};
 ghost use Rattle.eql_turn_lock.specs.Calls.{Closes};
 ghost use Rattle.eql_turn_lock.specs.Passes.{first_view, new_view, split_view};
 ghost use Rattle.eql_lock_row.specs.Rows.{AllAreJoined, AllKnow, AreFirst, joined_views};
-ghost use Rattle.eql_hub.specs.Turns.{LaneTurn, PartTurn, is_open_lane, is_open_part};
+ghost use Rattle.eql_hub.specs.Turns.{IsLaneTurn, IsPartTurn, is_open_lane, is_open_part};
 ghost use Rattle.eql_hub.specs.Hands.{AllBegin, AreAllJoined, IsFirst, IsHandOf, Knows};
 
 use crate::wrapped::{TurnedLane, TurnedPart, unwrap_all, wrap_all};
@@ -70,7 +70,7 @@ fn lock_lanes<S: Source, L: LineReader>(
     ensures own { IfOk result (λ held. held.passes.locks ≡ held.locks) }
     ensures first { IfOk result (λ held. held.passes.views ≡ map first_view lanes.items) }
     ensures knows { IfOk result (λ held. AllKnow
-        (LaneTurn S.left S.lent_as S.fault_plan L.read_of) is_open_lane held.passes.views) }
+        (IsLaneTurn S.left S.lent_as S.fault_plan L.read_of) is_open_lane held.passes.views) }
     ensures count { IfOk result (λ held. length held.locks ≡ length lanes.items) }
     ensures room { IfOk result (λ held. (held.room.items ≡ [])
         × (length held.locks ≤ vec_capacity held.room)) }
@@ -105,7 +105,7 @@ impl<S: Source, L: LineReader> LockedLanes<S, L> {
         requires all_joined { AllAreJoined self.passes.views }
         requires empty { self.room.items ≡ [] }
         requires room { length self.locks ≤ vec_capacity self.room }
-        ensures { AllZip (Closes (LaneTurn S.left S.lent_as S.fault_plan L.read_of) is_open_lane)
+        ensures { AllZip (Closes (IsLaneTurn S.left S.lent_as S.fault_plan L.read_of) is_open_lane)
             self.passes.views result.items }
     {
         let _ = self.passes.len();
@@ -128,7 +128,7 @@ impl<S: Source, L: LineReader> LockedLanes<S, L> {
         requires own { self.passes.locks ≡ self.locks }
         requires first { AreFirst self.passes.views }
         requires all_joined { AllAreJoined self.passes.views }
-        requires knows { AllKnow (LaneTurn S.left S.lent_as S.fault_plan L.read_of) is_open_lane
+        requires knows { AllKnow (IsLaneTurn S.left S.lent_as S.fault_plan L.read_of) is_open_lane
             self.passes.views }
         requires empty { self.room.items ≡ [] }
         requires room { length self.locks ≤ vec_capacity self.room }
@@ -140,7 +140,7 @@ impl<S: Source, L: LineReader> LockedLanes<S, L> {
         ensures knows { IfOk result
             (λ made. Knows S.left S.lent_as S.fault_plan L.read_of made.1) }
         ensures back { IfErr result (λ refused. AllZip
-            (Closes (LaneTurn S.left S.lent_as S.fault_plan L.read_of) is_open_lane)
+            (Closes (IsLaneTurn S.left S.lent_as S.fault_plan L.read_of) is_open_lane)
             self.passes.views refused.1.items) }
     {
         match LockRow::make(alloc, parts) {
@@ -305,9 +305,9 @@ impl<S: Source, L: LineReader, G: Ledger> Hub<S, L, G> {
         requires first { IsFirst hand }
         requires all_joined { AreAllJoined hand }
         ensures lanes { AllZip
-            (Closes (LaneTurn S.left S.lent_as S.fault_plan L.read_of) is_open_lane)
+            (Closes (IsLaneTurn S.left S.lent_as S.fault_plan L.read_of) is_open_lane)
             hand.lanes.views result.0.items }
-        ensures parts { AllZip (Closes PartTurn is_open_part) hand.parts.views result.1.items }
+        ensures parts { AllZip (Closes IsPartTurn is_open_part) hand.parts.views result.1.items }
     {
         let _ = hand.lane_count();
         let mut lanes = self.room;

@@ -3,9 +3,9 @@ ghost use Rattle.std.specs.Prelude.{◌≡◌, ◌≤◌, ◌<◌, ◌+◌, Matc
 ghost use Rattle.eql_turn_lock.specs.Passes.{KnowsHistory};
 ghost use Rattle.eql_lock_row.specs.Rows.{ChangesAt};
 ghost use Rattle.eql_hub.specs.Hands.{IsHandOf};
-ghost use Rattle.eql_hub.specs.Steps.{LaneEnds, LaneIdle, PartEnds, PartIdle};
+ghost use Rattle.eql_hub.specs.Steps.{LaneEnds, LaneIsIdle, PartEnds, PartIsIdle};
 ghost use Rattle.eql_hub.specs.Sweeps.{SweepEnds, TriesPlace};
-ghost use Rattle.eql_hub.specs.Turns.{LaneTurn, PartTurn, is_open_lane, is_open_part};
+ghost use Rattle.eql_hub.specs.Turns.{IsLaneTurn, IsPartTurn, is_open_lane, is_open_part};
 
 use crate::hub::{Hand, Hub};
 use crate::step::{Did, after_feed, after_turn};
@@ -24,9 +24,9 @@ impl<S: Source, L: LineReader, G: Ledger> Hub<S, L, G> {
         requires place { lane < length self.now.lanes }
         ensures own { IsHandOf self.now hand.new }
         ensures lanes { ChangesAt lane (λ v w. MatchOption result
-            (LaneIdle S.left S.lent_as S.fault_plan L.read_of batch v w)
+            (LaneIsIdle S.left S.lent_as S.fault_plan L.read_of batch v w)
             (λ did. LaneEnds S.left S.lent_as S.fault_plan L.read_of batch did lane v w)
-            × KnowsHistory (LaneTurn S.left S.lent_as S.fault_plan L.read_of) is_open_lane w)
+            × KnowsHistory (IsLaneTurn S.left S.lent_as S.fault_plan L.read_of) is_open_lane w)
             hand.old.lanes.views hand.new.lanes.views }
         ensures parts { hand.new.parts ≡ hand.old.parts }
     {
@@ -44,8 +44,8 @@ impl<S: Source, L: LineReader, G: Ledger> Hub<S, L, G> {
         requires batch_to { batch ≤ 4096 }
         requires place { part < length self.now.parts }
         ensures own { IsHandOf self.now hand.new }
-        ensures parts { ChangesAt part (λ v w. MatchOption result (PartIdle batch v w)
-            (λ did. PartEnds batch did part v w) × KnowsHistory PartTurn is_open_part w)
+        ensures parts { ChangesAt part (λ v w. MatchOption result (PartIsIdle batch v w)
+            (λ did. PartEnds batch did part v w) × KnowsHistory IsPartTurn is_open_part w)
             hand.old.parts.views hand.new.parts.views }
         ensures lanes { hand.new.lanes ≡ hand.old.lanes }
     {

@@ -1,4 +1,4 @@
-//! What a step of a hand answers.
+//! What a step of a hand returns.
 ghost use Rattle.std.specs.Prelude.{◌≡◌};
 ghost use Rattle.eql_hub.specs.Sweeps.{tried_lane, tried_part};
 

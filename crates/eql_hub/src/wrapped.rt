@@ -44,7 +44,7 @@ impl<S: Source, L: LineReader> TurnedLane<S, L> {
 
 impl<S: Source, L: LineReader> Turned for TurnedLane<S, L> {
     ghost use Rattle.eql_lane.specs.Lanes.{LaneAllows};
-    ghost use Rattle.eql_hub.specs.Turns.{LaneTurn, is_idle_lane, is_open_lane, open_lane_allowed};
+    ghost use Rattle.eql_hub.specs.Turns.{IsLaneTurn, is_idle_lane, is_open_lane, open_lane_allowed};
 
     type Op = LaneOp;
 
@@ -52,7 +52,7 @@ impl<S: Source, L: LineReader> Turned for TurnedLane<S, L> {
 
     ghost allows = { λ lane op. LaneAllows op };
 
-    ghost step_of = { LaneTurn S.left S.lent_as S.fault_plan L.read_of };
+    ghost step_of = { IsLaneTurn S.left S.lent_as S.fault_plan L.read_of };
 
     ghost is_open = { is_open_lane };
 
@@ -106,7 +106,7 @@ impl<G: Ledger> TurnedPart<G> {
 
 impl<G: Ledger> Turned for TurnedPart<G> {
     ghost use Rattle.eql_parts.specs.PartSteps.{PartAllows};
-    ghost use Rattle.eql_hub.specs.Turns.{PartTurn, is_idle_part, is_open_part, open_part_allowed, part_stays_allowed};
+    ghost use Rattle.eql_hub.specs.Turns.{IsPartTurn, is_idle_part, is_open_part, open_part_allowed, part_stays_allowed};
 
     type Op = PartOp;
 
@@ -114,7 +114,7 @@ impl<G: Ledger> Turned for TurnedPart<G> {
 
     ghost allows = { λ part op. PartAllows part.state op };
 
-    ghost step_of = { PartTurn };
+    ghost step_of = { IsPartTurn };
 
     ghost is_open = { is_open_part };
 

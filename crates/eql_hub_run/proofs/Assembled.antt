@@ -13,7 +13,7 @@ use Rattle.eql_lane.specs.declared.ops.LaneOp.{LaneOp}
 use Rattle.eql_lane.specs.declared.ops.LaneReply.{LaneReply}
 use Rattle.eql_lane.specs.declared.ops.LimitOf.{LimitOf}
 use Rattle.eql_lane.specs.declared.ops.LimitOf.TheVariants as limit
-use Rattle.eql_lane.specs.Lanes.{LaneState, OutOfLines, Setting}
+use Rattle.eql_lane.specs.Lanes.{IsOutOfLines, LaneState, Setting}
 use Rattle.eql_lane.specs.Plays.{DidNotFail}
 use Rattle.eql_lane.specs.Views.{IsTextOf, LaneView, setting_of}
 use Rattle.eql_parts.specs.PartSteps.{PartView}
@@ -36,18 +36,18 @@ use Rattle.eql_conductor.specs.Runs.{EndsBy, MayRun, disk_faults}
 use Rattle.eql_hub.specs.declared.step.HandFault.{HandFault}
 use Rattle.eql_hub.specs.declared.step.HandFault.TheVariants as fault
 use Rattle.eql_hub.specs.Hands.{HandView, HubView, LaneKnown, PartKnown}
-use Rattle.eql_hub.specs.Turns.{LaneTurn, PartTurn, is_open_lane, is_open_part}
+use Rattle.eql_hub.specs.Turns.{IsLaneTurn, IsPartTurn, is_open_lane, is_open_part}
 use Rattle.eql_replay.specs.Listed as listed
 use Rattle.eql_replay.specs.Listed.{bench_known}
-use Rattle.eql_replay.specs.Opened.{AreOfTexts, IsAtPlace, LaneOn, LanesOn, LinesOn, LanesReadOn, ReadsFurther}
+use Rattle.eql_replay.specs.Opened.{AreOfTexts, IsAtPlace, LaneGoesOn, LanesGoOn, LanesReadFurther, LanesReadOn, ReadsFurther}
 use Rattle.eql_replay.proofs.Further.{self}
 use Rattle.eql_lock_bench.specs.Benched.{IsBenchHand}
 use Rattle.eql_lock_bench.specs.Locked.{entry_failed, known_by, mine_in}
 use Rattle.eql_lock_bench.proofs.Closings.{Further, closes_from, fails_as_planned, none_fail, same_lane}
 use Rattle.eql_lock_bench.proofs.LaneRuns.{Stands, fed_all}
-use Rattle.eql_hub_run.specs.Beside.{HandCause, IsOwn, RanBeside, SameBench, TellsRead, bench_of, rank}
-use Rattle.eql_hub_run.specs.Gathers.{FineLane, FinePart, GathersHands, HandsAre, IsEndOf, IsKept, IsLeastOf, IsUnplayedHand, end_of_fault}
-use Rattle.eql_hub_run.specs.Workers.{AtPlace, Has, HandDid, HasPlayed, IsFailure, IsLimit, IsNoRead, IsWhole, HandMeets, MeetsWorn, WorkerView}
+use Rattle.eql_hub_run.specs.Beside.{HasHandCause, IsOwn, IsSameBench, RanBeside, TellsRead, bench_of, rank}
+use Rattle.eql_hub_run.specs.Gathers.{GathersHands, HandsAre, IsEndOf, IsKept, IsLeastOf, IsUnplayedHand, LaneIsFine, PartIsFine, end_of_fault}
+use Rattle.eql_hub_run.specs.Workers.{HoldsAtPlace, Has, HandDid, HasPlayed, IsFailure, IsLimit, IsNoRead, IsWhole, HandMeets, MeetsWorn, WorkerView}
 use Rattle.eql_hub_run.proofs.Moves.{fed_moves, rose_behind}
 use Rattle.eql_hub_run.proofs.Hands.{at_all, all_places}
 use Rattle.eql_hub_run.proofs.Histories.{IsCalm, didnt, all_calm, all_one, has_own, run_at, run_bytes, run_calm, run_failed, run_further, run_generation, run_lines, run_stands, run_turns}
@@ -84,10 +84,10 @@ module _ {S L : Type 0} (left lent_as : S → Option (List ℕ)) (fault_plan : S
     (few : length olds ≤ 256) (of : AreOfTexts left text olds) (unplayed : IsUnplayedHand split olds parts first) (is : IsBenchHand left lent_as fault_plan read_of text hub first last)
     (played : All (HasPlayed hub) workers) (are : HandsAre workers hands) (many : length workers ≤ 65536)
     (gathered : GathersHands (All (λ (w : WorkerView S L). IsNoRead w.met) workers) hands last joined)
-    (lanes_close : AllZip (Closes (LaneTurn left lent_as fault_plan read_of) is_open_lane) joined.lanes.views news)
-    (parts_close : AllZip (Closes PartTurn is_open_part) joined.parts.views lefts) where
+    (lanes_close : AllZip (Closes (IsLaneTurn left lent_as fault_plan read_of) is_open_lane) joined.lanes.views news)
+    (parts_close : AllZip (Closes IsPartTurn is_open_part) joined.parts.views lefts) where
   abbrev Turns : LaneView S L → LaneOp → LaneReply → LaneView S L → Type 0
-  Turns = LaneTurn left lent_as fault_plan read_of
+  Turns = IsLaneTurn left lent_as fault_plan read_of
 
   abbrev Quiet : Type 0
   Quiet = All (λ (w : WorkerView S L). IsNoRead w.met) workers
@@ -98,19 +98,19 @@ module _ {S L : Type 0} (left lent_as : S → Option (List ℕ)) (fault_plan : S
   abbrev two : Known
   two = known_by left lent_as fault_plan read_of text last
 
-  same : SameBench (bench_known read_of text (bench_of olds parts)) one
+  same : IsSameBench (bench_known read_of text (bench_of olds parts)) one
   same = begins left lent_as fault_plan read_of text split olds parts first unplayed
 
-  lanes_end : AllEnd Turns is_open_lane (FineLane Quiet) (length hands) olds last.lanes.views joined.lanes.views news
-  lanes_end = all_end Turns is_open_lane (FineLane Quiet) split (length hands) olds first.lanes.views last.lanes.views joined.lanes.views news
+  lanes_end : AllEnd Turns is_open_lane (LaneIsFine Quiet) (length hands) olds last.lanes.views joined.lanes.views news
+  lanes_end = all_end Turns is_open_lane (LaneIsFine Quiet) split (length hands) olds first.lanes.views last.lanes.views joined.lanes.views news
       unplayed.lanes_are is.lanes gathered.lane_count gathered.lanes lanes_close
 
-  parts_end : AllEnd PartTurn is_open_part FinePart (length hands) parts last.parts.views joined.parts.views lefts
-  parts_end = all_end PartTurn is_open_part FinePart split (length hands) parts first.parts.views last.parts.views joined.parts.views lefts
+  parts_end : AllEnd IsPartTurn is_open_part PartIsFine (length hands) parts last.parts.views joined.parts.views lefts
+  parts_end = all_end IsPartTurn is_open_part PartIsFine split (length hands) parts first.parts.views last.parts.views joined.parts.views lefts
       unplayed.parts_are is.parts gathered.part_count gathered.parts parts_close
 
   abbrev LaneEndsAt : ℕ → LaneView S L → Type 0
-  LaneEndsAt k old = EndsAt Turns is_open_lane (FineLane Quiet) (length hands) last.lanes.views joined.lanes.views news k old
+  LaneEndsAt k old = EndsAt Turns is_open_lane (LaneIsFine Quiet) (length hands) last.lanes.views joined.lanes.views news k old
 
   -- the history of a lane begins with its text
   stands : (k : ℕ) (old : LaneView S L) → slice_get olds k ≡ Some old → Stands left lent_as fault_plan read_of (text k) (setting_of read_of (text k) old) old
@@ -174,7 +174,7 @@ module _ {S L : Type 0} (left lent_as : S → Option (List ℕ)) (fault_plan : S
     calm_is : All IsCalm at.ends.closes.log → at.new.state.faults ≡ old.state.faults
     calm_is calm = run_calm left lent_as fault_plan read_of (text k) set at.ends.closes.log old at.new at.ends.legal (stands k old there) calm
 
-    on : (quiet : Type 0) → (quiet → NoFeedFailed one two) → (quiet → Quiet) → LaneOn left lent_as fault_plan read_of quiet old at.new
+    on : (quiet : Type 0) → (quiet → NoFeedFailed one two) → (quiet → Quiet) → LaneGoesOn left lent_as fault_plan read_of quiet old at.new
     on quiet none calm = record {
       same = same_lane left lent_as fault_plan read_of at.ends.closes.log old at.new at.ends.legal;
       unfailing = λ u.
@@ -224,13 +224,13 @@ module _ {S L : Type 0} (left lent_as : S → Option (List ℕ)) (fault_plan : S
     each = λ k old new there e t told was. at_new k old new there e (λ (l : LaneView S L). IsAtPlace (setting_of read_of (Some t) l) t l.state) (read_to k old there t told was);
   }
 
-  lines_on : LinesOn text olds news
+  lines_on : LanesReadFurther text olds news
   lines_on = record { each = λ k old new there e t told. at_new k old new there e (λ (l : LaneView S L). ReadsFurther t old.state l.state) (further k old there t told) }
 
-  lanes_on : (quiet : Type 0) → (quiet → NoFeedFailed one two) → (quiet → Quiet) → LanesOn left lent_as fault_plan read_of (λ s. quiet) olds news
+  lanes_on : (quiet : Type 0) → (quiet → NoFeedFailed one two) → (quiet → Quiet) → LanesGoOn left lent_as fault_plan read_of (λ s. quiet) olds news
   lanes_on quiet none calm = record {
     count = lanes_end.new_count;
-    each = λ k old new there e. at_new k old new there e (LaneOn left lent_as fault_plan read_of quiet old) (on k old there quiet none calm);
+    each = λ k old new there e. at_new k old new there e (LaneGoesOn left lent_as fault_plan read_of quiet old) (on k old there quiet none calm);
   }
 
   -- ---- the hands
@@ -272,36 +272,36 @@ module _ {S L : Type 0} (left lent_as : S → Option (List ℕ)) (fault_plan : S
         let b = word.2 in
         omega (arith, a, b)
 
-    lane_worn : (hand : HandView S L) → IsWhole hub hand → IsKept joined.lanes.views hand.lanes.views → (k : ℕ) → AtPlace hand.lanes.views k (λ (v : LaneKnown S L). MeetsWorn v) → ⊥
+    lane_worn : (hand : HandView S L) → IsWhole hub hand → IsKept joined.lanes.views hand.lanes.views → (k : ℕ) → HoldsAtPlace hand.lanes.views k (λ (v : LaneKnown S L). MeetsWorn v) → ⊥
     lane_worn hand whole kept k met =
         let old = lane_under hand whole k met.one met.there in
         let end_at = at k old.0 old.1 in
         no_word met.one end_at.after.ended
-        (kept_words Turns is_open_lane (FineLane Quiet) (length hands) olds last.lanes.views joined.lanes.views news lanes_end made_few (λ e fine. fine.0)
+        (kept_words Turns is_open_lane (LaneIsFine Quiet) (length hands) olds last.lanes.views joined.lanes.views news lanes_end made_few (λ e fine. fine.0)
         (own_lanes left lent_as fault_plan read_of text last own) k old.0 end_at)
         (kept k end_at.after met.one end_at.joined_there met.there) met.so
 
-    part_worn : (hand : HandView S L) → IsWhole hub hand → IsKept joined.parts.views hand.parts.views → (k : ℕ) → AtPlace hand.parts.views k (λ (v : PartKnown). MeetsWorn v) → ⊥
+    part_worn : (hand : HandView S L) → IsWhole hub hand → IsKept joined.parts.views hand.parts.views → (k : ℕ) → HoldsAtPlace hand.parts.views k (λ (v : PartKnown). MeetsWorn v) → ⊥
     part_worn hand whole kept k met =
         let old = part_under hand whole k met.one met.there in
         let end_at = parts_end.each k old.0 old.1 in
         no_word met.one end_at.after.ended
-        (kept_words PartTurn is_open_part FinePart (length hands) parts last.parts.views joined.parts.views lefts parts_end made_few (λ e fine. fine)
+        (kept_words IsPartTurn is_open_part PartIsFine (length hands) parts last.parts.views joined.parts.views lefts parts_end made_few (λ e fine. fine)
         (own_parts left lent_as fault_plan read_of text last own) k old.0 end_at)
         (kept k end_at.after met.one end_at.joined_there met.there) met.so
 
     none_worn : two.worn ≡ 0
     none_worn =
-        let a = none_worn_in Turns is_open_lane (FineLane Quiet) (length hands) olds last.lanes.views joined.lanes.views news lanes_end made_few (λ e fine. fine.0)
+        let a = none_worn_in Turns is_open_lane (LaneIsFine Quiet) (length hands) olds last.lanes.views joined.lanes.views news lanes_end made_few (λ e fine. fine.0)
         (own_lanes left lent_as fault_plan read_of text last own) in
-        let b = none_worn_in PartTurn is_open_part FinePart (length hands) parts last.parts.views joined.parts.views lefts parts_end made_few (λ e fine. fine)
+        let b = none_worn_in IsPartTurn is_open_part PartIsFine (length hands) parts last.parts.views joined.parts.views lefts parts_end made_few (λ e fine. fine)
         (own_parts left lent_as fault_plan read_of text last own) in
         omega (arith, a, b)
 
     -- ---- a fault that a hand met
     -- why it is told, and that a hand can tell it
     record FaultIs (answer : Ends) : Type 0 where
-      pub because : HandCause read_of text olds news answer
+      pub because : HasHandCause read_of text olds news answer
       pub not_own : IsOwn answer → ⊥
       pub not_turns : answer ≢ end.Limit limit.Turns
       pub planned : (s : ℕ) (old : LaneView S L) → slice_get olds s ≡ Some old → IsUnfailing (fault_plan old.source) → answer ≢ end.ReadFault s
@@ -319,7 +319,7 @@ module _ {S L : Type 0} (left lent_as : S → Option (List ℕ)) (fault_plan : S
           let e = all_one (λ (d : Entry LaneOp LaneReply). DidNotFail d.reply) IsFailure end_at.ends.closes.log both.0 has in
           e.1 e.2.0 e.2.1
 
-      read_is : (s : ℕ) → AtPlace hand.lanes.views s (λ (v : LaneKnown S L). Has IsFailure v.mine) → FaultIs (end.ReadFault s)
+      read_is : (s : ℕ) → HoldsAtPlace hand.lanes.views s (λ (v : LaneKnown S L). Has IsFailure v.mine) → FaultIs (end.ReadFault s)
       read_is s met =
           let o = lane_under hand whole s met.one met.there in
           let has = in_log s o.0 o.1 IsFailure hand met.one kept_lanes met.there met.so in
@@ -336,7 +336,7 @@ module _ {S L : Type 0} (left lent_as : S → Option (List ℕ)) (fault_plan : S
                 none_failed r old there u (in_log r old there IsFailure hand met.one kept_lanes (subst (λ (j : ℕ). slice_get hand.lanes.views j ≡ Some met.one) same_s met.there) met.so);
           }
 
-      limit_is : (of_it : LimitOf) (s : ℕ) → AtPlace hand.lanes.views s (λ (v : LaneKnown S L). Has (IsLimit of_it) v.mine) → FaultIs (end.Limit of_it)
+      limit_is : (of_it : LimitOf) (s : ℕ) → HoldsAtPlace hand.lanes.views s (λ (v : LaneKnown S L). Has (IsLimit of_it) v.mine) → FaultIs (end.Limit of_it)
       limit_is (limit.Lines shard) s met =
           let o = lane_under hand whole s met.one met.there in
           let end_at = at s o.0 o.1 in
@@ -344,9 +344,9 @@ module _ {S L : Type 0} (left lent_as : S → Option (List ℕ)) (fault_plan : S
           (in_log s o.0 o.1 (IsLimit (limit.Lines shard)) hand met.one kept_lanes met.there met.so) in
           let e : shard ≡ s = told.0 ∙ shards s o.0 o.1 in
           record {
-            because = subst (λ (r : ℕ). HandCause read_of text olds news (end.Limit (limit.Lines r))) (sym e) (
+            because = subst (λ (r : ℕ). HasHandCause read_of text olds news (end.Limit (limit.Lines r))) (sym e) (
               inside s o.0 o.1,
-              λ old new there f. at_new s old new there f (λ (l : LaneView S L). OutOfLines (setting_of read_of (text s) old) l.state)
+              λ old new there f. at_new s old new there f (λ (l : LaneView S L). IsOutOfLines (setting_of read_of (text s) old) l.state)
                   (let end_here = at s old there in
                   (run_lines left lent_as fault_plan read_of (text s) (set s old there) shard end_here.ends.closes.log old end_here.new end_here.ends.legal (stands s old there)
                   (in_log s old there (IsLimit (limit.Lines shard)) hand met.one kept_lanes met.there met.so)).1),
@@ -362,7 +362,7 @@ module _ {S L : Type 0} (left lent_as : S → Option (List ℕ)) (fault_plan : S
           (in_log s o.0 o.1 (IsLimit (limit.Bytes shard)) hand met.one kept_lanes met.there met.so) in
           let e : shard ≡ s = told.0 ∙ shards s o.0 o.1 in
           record {
-            because = subst (λ (r : ℕ). HandCause read_of text olds news (end.Limit (limit.Bytes r))) (sym e) (
+            because = subst (λ (r : ℕ). HasHandCause read_of text olds news (end.Limit (limit.Bytes r))) (sym e) (
               inside s o.0 o.1,
               λ new f. at_new s o.0 new o.1 f (λ (l : LaneView S L). l.state.taken ≡ greatest_bytes) told.1,
             );
@@ -409,7 +409,7 @@ module _ {S L : Type 0} (left lent_as : S → Option (List ℕ)) (fault_plan : S
           omega (arith, a, b)
 
       -- why it is told what a hand could have told too
-      conductor_cause : (ended : Ends) → LanesGo one two → EndsBy ended one two sb sn db dn → HandCause read_of text olds news ended
+      conductor_cause : (ended : Ends) → LanesGo one two → EndsBy ended one two sb sn db dn → HasHandCause read_of text olds news ended
       conductor_cause end.Done goes cause = tt
       conductor_cause end.WriteFault goes cause = tt
       conductor_cause end.DiskFault goes cause = tt
@@ -432,7 +432,7 @@ module _ {S L : Type 0} (left lent_as : S → Option (List ℕ)) (fault_plan : S
       )
       conductor_cause (end.Limit (limit.Lines s)) goes cause = (
         (let a = cause.0 in let b = same.lanes in omega (arith, a, b)),
-        λ old new there e. at_new s old new there e (λ (l : LaneView S L). OutOfLines (setting_of read_of (text s) old) l.state)
+        λ old new there e. at_new s old new there e (λ (l : LaneView S L). IsOutOfLines (setting_of read_of (text s) old) l.state)
             (let f = fed s old there in
             let out = cause.1 f.state f.was in
             (fed_moves (set s old there) f.state (at s old there).new.state f.fed).lines (record { lines = out.lines; byte = out.byte })),
@@ -514,7 +514,7 @@ module _ {S L : Type 0} (left lent_as : S → Option (List ℕ)) (fault_plan : S
                   (subst (λ (u : Setting). ComesByFeeds u f.state (at s o.0 o.1).new.state) (sym (set_is s o.0 o.1)) f.fed),
             );
         hand_cause = elim told.from [
-          | inl e ↦ subst (HandCause read_of text olds news) (sym e)
+          | inl e ↦ subst (HasHandCause read_of text olds news) (sym e)
               (conductor_cause own_few sink_before sink_now (disk_faults history count keep) (disk_faults history count kept) ended goes cause)
           | inr has ↦ (by_hand has).because
         ];

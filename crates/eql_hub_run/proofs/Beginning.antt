@@ -11,7 +11,7 @@ use Rattle.eql_lane.specs.Lanes.{LaneState, Setting, begun, fresh_cut}
 use Rattle.eql_lane.specs.Views.{LaneView}
 use Rattle.eql_parts.specs.PartSteps.{PartView}
 use Rattle.eql_book.specs.Books.{BookState}
-use Rattle.eql_rounds.specs.LaneRounds.{LaneAt}
+use Rattle.eql_rounds.specs.LaneRounds.{LaneIsAt}
 use Rattle.eql_turn_lock.specs.declared.history.Entry.{Entry}
 use Rattle.eql_turn_lock.specs.declared.view.View.{View}
 use Rattle.eql_turn_lock.specs.History.{IsLegal}
@@ -20,12 +20,12 @@ use Rattle.eql_conductor.specs.declared.plan.RunPlan.{RunPlan}
 use Rattle.eql_conductor.specs.Benches.{Known}
 use Rattle.eql_conductor.specs.Runs.{MayKeepIf, MayRun}
 use Rattle.eql_hub.specs.Hands.{HandView}
-use Rattle.eql_hub.specs.Turns.{LaneTurn, PartTurn}
+use Rattle.eql_hub.specs.Turns.{IsLaneTurn, IsPartTurn}
 use Rattle.eql_replay.specs.Listed as listed
 use Rattle.eql_replay.specs.Listed.{bench_known}
 use Rattle.eql_lock_bench.specs.Locked.{MayBe, entry_failed, known_by, lane_state, noted_lane, noted_part, part_state, rules_in, set_in}
 use Rattle.eql_lock_bench.proofs.Beginnings.{AreFresh, fresh_count, fresh_mine, fresh_openings, fresh_state, fresh_worn}
-use Rattle.eql_hub_run.specs.Beside.{SameBench, bench_of}
+use Rattle.eql_hub_run.specs.Beside.{IsSameBench, bench_of}
 use Rattle.eql_hub_run.specs.Gathers.{AreUnplayed, IsUnplayed, IsUnplayedHand}
 use Rattle.eql_hub_run.proofs.Worn.{BeganWith}
 
@@ -79,7 +79,7 @@ state_in (Some lane) = lane.state
 
 module _ {S L : Type 0} (left lent_as : S → Option (List ℕ)) (fault_plan : S → Option FaultPlan) (read_of : L → Reads) (text : ℕ → Option (List ℕ))
     (made : ℕ) (olds : List (LaneView S L)) (parts : List PartView) (first : HandView S L) (are : IsUnplayedHand made olds parts first) where
-  pub begins : SameBench (bench_known read_of text (bench_of olds parts)) (known_by left lent_as fault_plan read_of text first)
+  pub begins : IsSameBench (bench_known read_of text (bench_of olds parts)) (known_by left lent_as fault_plan read_of text first)
   begins =
       let lanes = unplayed_fresh made olds first.lanes.views are.lanes_are in
       let turned = unplayed_fresh made parts first.parts.views are.parts_are in
@@ -89,15 +89,15 @@ module _ {S L : Type 0} (left lent_as : S → Option (List ℕ)) (fault_plan : S
         set = λ s. ap (set_in read_of (text s)) (fresh_openings olds first.lanes.views lanes s) ∙ same_set read_of (text s) (slice_get olds s);
         rules = λ p. ap rules_in (fresh_openings parts first.parts.views turned p) ∙ same_rules (slice_get parts p);
         lane_to = λ s x has.
-            subst (MayBe (LaneTurn left lent_as fault_plan read_of) lane_state first.lanes.views s) (sym has.state_is)
-            (may_begin (LaneTurn left lent_as fault_plan read_of) lane_state made olds first.lanes.views are.lanes_are s has.lane has.there);
+            subst (MayBe (IsLaneTurn left lent_as fault_plan read_of) lane_state first.lanes.views s) (sym has.state_is)
+            (may_begin (IsLaneTurn left lent_as fault_plan read_of) lane_state made olds first.lanes.views are.lanes_are s has.lane has.there);
         lane_from = λ s x may.
-            let one = fresh_state (LaneTurn left lent_as fault_plan read_of) lane_state olds first.lanes.views lanes s x may in
+            let one = fresh_state (IsLaneTurn left lent_as fault_plan read_of) lane_state olds first.lanes.views lanes s x may in
             record { lane = one.0; there = one.1; state_is = one.2 };
         part_to = λ p x has.
-            subst (MayBe PartTurn part_state first.parts.views p) (sym has.state_is) (may_begin PartTurn part_state made parts first.parts.views are.parts_are p has.part has.there);
+            subst (MayBe IsPartTurn part_state first.parts.views p) (sym has.state_is) (may_begin IsPartTurn part_state made parts first.parts.views are.parts_are p has.part has.there);
         part_from = λ p x may.
-            let one = fresh_state PartTurn part_state parts first.parts.views turned p x may in
+            let one = fresh_state IsPartTurn part_state parts first.parts.views turned p x may in
             record { part = one.0; there = one.1; state_is = one.2 };
         lane_notes = λ s. ap (map noted_lane) (fresh_mine olds first.lanes.views lanes s);
         part_notes = λ p. ap (map noted_part) (fresh_mine parts first.parts.views turned p);
@@ -106,7 +106,7 @@ module _ {S L : Type 0} (left lent_as : S → Option (List ℕ)) (fault_plan : S
       }
 
 -- ---- what may begin over the one bench may begin over the other
-module _ (a b : Known) (same : SameBench a b) where
+module _ (a b : Known) (same : IsSameBench a b) where
   pub may_run : (plan : RunPlan) (book : BookState) → MayRun plan a book → MayRun plan b book
   may_run plan book may = record {
     batch_from = may.batch_from;
@@ -119,7 +119,7 @@ module _ (a b : Known) (same : SameBench a b) where
         reading = λ s l. subst (λ (set : Setting). IsReading set.reads) (sym (same.set s)) (may.lanes.are.reading s (let d = same.lanes in omega (arith, d, l)));
       };
       each = λ s l x has.
-          subst (λ (set : Setting). LaneAt None set plan.mark x) (sym (same.set s)) (may.lanes.each s (let d = same.lanes in omega (arith, d, l)) x (same.lane_from s x has));
+          subst (λ (set : Setting). LaneIsAt None set plan.mark x) (sym (same.set s)) (may.lanes.each s (let d = same.lanes in omega (arith, d, l)) x (same.lane_from s x has));
     };
     sized = record { each = λ s l x has. may.sized.each s (let d = same.lanes in omega (arith, d, l)) x (same.lane_from s x has) };
     parts = record {
@@ -151,7 +151,7 @@ module _ (a b : Known) (same : SameBench a b) where
   )
 
 -- the state in which each lane began
-module _ {S L : Type 0} (read_of : L → Reads) (text : ℕ → Option (List ℕ)) (olds : List (LaneView S L)) (parts : List PartView) (b : Known) (same : SameBench (bench_known read_of text (bench_of olds parts)) b) where
+module _ {S L : Type 0} (read_of : L → Reads) (text : ℕ → Option (List ℕ)) (olds : List (LaneView S L)) (parts : List PartView) (b : Known) (same : IsSameBench (bench_known read_of text (bench_of olds parts)) b) where
   abbrev pub began : ℕ → LaneState
   began s = state_in (slice_get olds s)
 

@@ -21,7 +21,7 @@ use Rattle.eql_hub.specs.declared.step.Did.TheVariants as did
 use Rattle.eql_hub.specs.declared.step.HandFault.{HandFault}
 use Rattle.eql_hub.specs.declared.step.HandFault.TheVariants as fault
 use Rattle.eql_hub.specs.Hands.{HandView, HubView, IsHandOf, LaneKnown, PartKnown}
-use Rattle.eql_hub.specs.Steps.{EachPlace, LaneAnswers, StepEndsAtLane, LaneEnds, LaneIdle, LaneQuiet, StepEndsAtPart, PartEnds, Steps}
+use Rattle.eql_hub.specs.Steps.{EachIsRelated, LaneAnswers, StepEndsAtLane, LaneEnds, LaneIsIdle, LaneIsQuiet, StepEndsAtPart, PartEnds, Steps}
 use Rattle.eql_hands.specs.Growth.{AreLater, HasMineWithin, HaveMineWithin}
 use Rattle.eql_hands.specs.Runs.{MeetsFault, PlaysSteps, Ran, fault_of}
 use Rattle.eql_lock_bench.specs.Locked.{did_fail, entry_failed}
@@ -58,13 +58,13 @@ module _ {S L : Type 0} (left lent_as : S → Option (List ℕ)) (fault_plan : S
   refused op (not_now.Busy word back) v w r = ap (count_by entry_failed) r.1.1
   refused op (not_now.Worn word back) v w r = ap (count_by entry_failed) r.1.1
 
-  idle : (v w : LaneKnown S L) → LaneIdle left lent_as fault_plan read_of batch v w → SameFails v w
+  idle : (v w : LaneKnown S L) → LaneIsIdle left lent_as fault_plan read_of batch v w → SameFails v w
   idle v w (inl (ready, plays)) = answered (lane_reply.Held ready) v w refl plays
   idle v w (inr (inl plays)) = answered lane_reply.Closed v w refl plays
   idle v w (inr (inr (inl (word, r)))) = refused (lane_op.Feed batch) (not_now.Busy word (lane_op.Feed batch)) v w r
   idle v w (inr (inr (inr found))) = ap (count_by entry_failed) found.0.1
 
-  still : (v w : LaneKnown S L) → LaneQuiet left lent_as fault_plan read_of batch v w → SameFails v w
+  still : (v w : LaneKnown S L) → LaneIsQuiet left lent_as fault_plan read_of batch v w → SameFails v w
   still v w (inl e) = ap (λ (u : LaneKnown S L). count_by entry_failed u.mine) e
   still v w (inr h) = idle v w h
 
@@ -83,7 +83,7 @@ module _ {S L : Type 0} (left lent_as : S → Option (List ℕ)) (fault_plan : S
   ends did.Nothing place v w fine h = absurd h
 
   lane_ended : (answer : Did) (old new : HandView S L) → IsFine answer → StepEndsAtLane left lent_as fault_plan read_of batch answer old new
-      → EachPlace SameFails old.lanes.views new.lanes.views
+      → EachIsRelated SameFails old.lanes.views new.lanes.views
   lane_ended answer old new fine e = record {
     count = e.count;
     each = λ k v w was is. elim (same_or k e.lane) [
@@ -98,11 +98,11 @@ module _ {S L : Type 0} (left lent_as : S → Option (List ℕ)) (fault_plan : S
   }
 
   part_ended : (answer : Did) (old new : HandView S L) → StepEndsAtPart left lent_as fault_plan read_of batch answer old new
-      → EachPlace SameFails old.lanes.views new.lanes.views
+      → EachIsRelated SameFails old.lanes.views new.lanes.views
   part_ended answer old new e = record { count = e.lanes.count; each = λ k v w was is. still v w (e.lanes.each k v w was is) }
 
   step_quiet : (answer : Did) (old new : HandView S L) → IsFine answer → Steps left lent_as fault_plan read_of batch answer old new
-      → EachPlace SameFails old.lanes.views new.lanes.views
+      → EachIsRelated SameFails old.lanes.views new.lanes.views
   step_quiet did.Nothing old new fine h = record { count = h.lanes.count; each = λ k v w was is. idle v w (h.lanes.each k v w was is) }
   step_quiet (did.Fed lane) old new fine h = lane_ended (did.Fed lane) old new fine h
   step_quiet (did.Turned part) old new fine h = part_ended (did.Turned part) old new h
@@ -125,20 +125,20 @@ module _ {S L : Type 0} (left lent_as : S → Option (List ℕ)) (fault_plan : S
     head_fine (did.Turned part) before h = tt
     head_fine (did.Fault f) before h = h
 
-    each_same : (old new : HandView S L) → new ≡ old → EachPlace SameFails old.lanes.views new.lanes.views
-    each_same old new e = subst (λ (h : HandView S L). EachPlace SameFails old.lanes.views h.lanes.views) (sym e) (record {
+    each_same : (old new : HandView S L) → new ≡ old → EachIsRelated SameFails old.lanes.views new.lanes.views
+    each_same old new e = subst (λ (h : HandView S L). EachIsRelated SameFails old.lanes.views h.lanes.views) (sym e) (record {
       count = refl;
       each = λ k v w was is. ap (λ (u : LaneKnown S L). count_by entry_failed u.mine) (same_Some w v (sym is ∙ was));
     })
 
-    each_on : (a b c : List (LaneKnown S L)) → EachPlace SameFails a b → EachPlace SameFails b c → EachPlace SameFails a c
+    each_on : (a b c : List (LaneKnown S L)) → EachIsRelated SameFails a b → EachIsRelated SameFails b c → EachIsRelated SameFails a c
     each_on a b c h k = record {
       count = k.count ∙ h.count;
       each = λ j v w was is. let mid = old_there b c j w k.count is in k.each j mid.0 w mid.1 is ∙ h.each j v mid.0 was mid.1;
     }
 
     played_quiet : (dids : List Did) (old new : HandView S L) → IsNoRead (fault_of dids)
-        → PlaysSteps left lent_as fault_plan read_of batch most_idle most_steps dids old new → EachPlace SameFails old.lanes.views new.lanes.views
+        → PlaysSteps left lent_as fault_plan read_of batch most_idle most_steps dids old new → EachIsRelated SameFails old.lanes.views new.lanes.views
     played_quiet [] old new fine e = each_same old new e
     played_quiet (answer ∷ before) old new fine (goes, mid, run, last) =
         let calm = none_fine (fault_of before) (both_left (is_none (fault_of before)) _ goes) in
@@ -187,7 +187,7 @@ module _ {S L : Type 0} (left lent_as : S → Option (List ℕ)) (fault_plan : S
     some_met None old new h = tt
     some_met (Some f) old new h = step_met f h.mid new h.last
 
-    few : {T O R : Type 0} (old new : List (View T O R)) → EachPlace (HasMineWithin (2 ^ 40)) old new → All (λ (v : View T O R). v.mine ≡ []) old → All (λ (v : View T O R). HasFew v) new
+    few : {T O R : Type 0} (old new : List (View T O R)) → EachIsRelated (HasMineWithin (2 ^ 40)) old new → All (λ (v : View T O R). v.mine ≡ []) old → All (λ (v : View T O R). HasFew v) new
     few old new each none = all_places (λ v. HasFew v) new (λ k w is.
         let was = old_there old new k w each.count is in
         let a = each.each k was.0 w was.1 is in

@@ -13,7 +13,7 @@ use Rattle.eql_lane.specs.declared.ops.LaneOp.{LaneOp}
 use Rattle.eql_lane.specs.declared.ops.LaneReply.{LaneReply}
 use Rattle.eql_lane.specs.declared.ops.LaneReply.TheVariants as lane_reply
 use Rattle.eql_lane.specs.declared.ops.LimitOf.TheVariants as limit
-use Rattle.eql_lane.specs.Lanes.{LaneState, LaneStep, OutOfLines, Setting}
+use Rattle.eql_lane.specs.Lanes.{IsLaneStep, IsOutOfLines, LaneState, Setting}
 use Rattle.eql_lane.specs.Plays.{DidNotFail}
 use Rattle.eql_lane.specs.Views.{LaneView}
 use Rattle.eql_turn_lock.specs.declared.history.Entry.{Entry}
@@ -22,7 +22,7 @@ use Rattle.eql_turn_lock.specs.declared.view.View.{View}
 use Rattle.eql_turn_lock.specs.Calls.{Closes}
 use Rattle.eql_turn_lock.specs.History.{IsLegal, calls_by}
 use Rattle.eql_turn_lock.specs.Passes.{IsEndedIn}
-use Rattle.eql_hub.specs.Turns.{LaneTurn}
+use Rattle.eql_hub.specs.Turns.{IsLaneTurn}
 use Rattle.eql_replay.specs.Noting.{did_fail as noted_fail}
 use Rattle.eql_replay.specs.Opened.{IsAtPlace, ReadsFurther}
 use Rattle.eql_replay.proofs.Further.{step_further}
@@ -129,20 +129,20 @@ all_calm step_of is_open w value closes own others k e l =
 -- ---- along a history
 module _ {S L : Type 0} (left lent_as : S → Option (List ℕ)) (fault_plan : S → Option FaultPlan) (read_of : L → Reads) where
   abbrev Turns : LaneView S L → LaneOp → LaneReply → LaneView S L → Type 0
-  Turns = LaneTurn left lent_as fault_plan read_of
+  Turns = IsLaneTurn left lent_as fault_plan read_of
 
   module _ (text : Option (List ℕ)) (set : Setting) where
     abbrev Is : LaneView S L → Type 0
     Is = Stands left lent_as fault_plan read_of text set
 
-    step_in : (x : LaneView S L) (op : LaneOp) (answer : LaneReply) (y : LaneView S L) → Turns x op answer y → Is x → LaneStep set x.state op answer y.state
-    step_in x op answer y turn is = subst (λ (t : Setting). LaneStep t x.state op answer y.state) is.set_is (turn.plays text is.of).step
+    step_in : (x : LaneView S L) (op : LaneOp) (answer : LaneReply) (y : LaneView S L) → Turns x op answer y → Is x → IsLaneStep set x.state op answer y.state
+    step_in x op answer y turn is = subst (λ (t : Setting). IsLaneStep t x.state op answer y.state) is.set_is (turn.plays text is.of).step
 
     next : (x : LaneView S L) (op : LaneOp) (answer : LaneReply) (y : LaneView S L) → Turns x op answer y → Is x → Is y
     next = stands_on left lent_as fault_plan read_of text set
 
     -- what each step of the lane keeps, a history keeps
-    pub run_keeps : (Q : LaneState → Type 0) → ((x : LaneState) (op : LaneOp) (answer : LaneReply) (y : LaneState) → LaneStep set x op answer y → Q x → Q y)
+    pub run_keeps : (Q : LaneState → Type 0) → ((x : LaneState) (op : LaneOp) (answer : LaneReply) (y : LaneState) → IsLaneStep set x op answer y → Q x → Q y)
         → (es : List (Entry LaneOp LaneReply)) (x y : LaneView S L) → IsLegal Turns x es y → Is x → Q x.state → Q y.state
     run_keeps Q keeps es x y legal is so =
         (legal_keeps Turns (λ z. Is z × Q z.state) (λ u op answer v turn both. (next u op answer v turn both.0, keeps u.state op answer v.state (step_in u op answer v turn both.0) both.1)) es x y legal (is, so)).1
@@ -169,7 +169,7 @@ module _ {S L : Type 0} (left lent_as : S → Option (List ℕ)) (fault_plan : S
       pub after : LaneView S L
       pub so : P one
       pub first : Moves set x.state before.state
-      pub step : LaneStep set before.state one.op one.reply after.state
+      pub step : IsLaneStep set before.state one.op one.reply after.state
       pub last : Moves set after.state y.state
 
     pub came : (P : Entry LaneOp LaneReply → Type 0) (es : List (Entry LaneOp LaneReply)) (x y : LaneView S L) → IsLegal Turns x es y → Is x → Has P es → Came P x y
@@ -191,7 +191,7 @@ module _ {S L : Type 0} (left lent_as : S → Option (List ℕ)) (fault_plan : S
     pub run_failed : (es : List (Entry LaneOp LaneReply)) (x y : LaneView S L) → IsLegal Turns x es y → Is x → Has IsFailure es → Rose x.state.faults y.state.faults
     run_failed es x y legal is has =
         let c = came IsFailure es x y legal is has in
-        let step = subst (λ (r : LaneReply). LaneStep set c.before.state c.one.op r c.after.state) c.so.1 c.step in
+        let step = subst (λ (r : LaneReply). IsLaneStep set c.before.state c.one.op r c.after.state) c.so.1 c.step in
         let moved = step_moves set c.before.state c.one.op (lane_reply.Failed c.so.0) c.after.state step in
         let rose = rose_before x.state.faults c.before.state.faults c.after.state.faults c.first.faults (step_failed set c.before.state c.one.op c.so.0 c.after.state step) in
         let a = c.first.faults in
@@ -199,10 +199,10 @@ module _ {S L : Type 0} (left lent_as : S → Option (List ℕ)) (fault_plan : S
         rose_behind x.state.faults c.after.state.faults y.state.faults (omega (arith, a, b)) rose c.last.rise
 
     pub run_lines : (shard : ℕ) (es : List (Entry LaneOp LaneReply)) (x y : LaneView S L) → IsLegal Turns x es y → Is x → Has (IsLimit (limit.Lines shard)) es
-        → (shard ≡ set.shard) × OutOfLines set y.state
+        → (shard ≡ set.shard) × IsOutOfLines set y.state
     run_lines shard es x y legal is has =
         let c = came (IsLimit (limit.Lines shard)) es x y legal is has in
-        let step = subst (λ (r : LaneReply). LaneStep set c.before.state c.one.op r c.after.state) c.so c.step in
+        let step = subst (λ (r : LaneReply). IsLaneStep set c.before.state c.one.op r c.after.state) c.so c.step in
         let told = step_lines set c.before.state c.one.op shard c.after.state step in
         (told.0, c.last.lines told.1)
 
@@ -210,19 +210,19 @@ module _ {S L : Type 0} (left lent_as : S → Option (List ℕ)) (fault_plan : S
         → (shard ≡ set.shard) × (y.state.taken ≡ greatest_bytes)
     run_bytes shard es x y legal is has =
         let c = came (IsLimit (limit.Bytes shard)) es x y legal is has in
-        let step = subst (λ (r : LaneReply). LaneStep set c.before.state c.one.op r c.after.state) c.so c.step in
+        let step = subst (λ (r : LaneReply). IsLaneStep set c.before.state c.one.op r c.after.state) c.so c.step in
         let told = step_bytes set c.before.state c.one.op shard c.after.state step in
         (told.0, c.last.bytes told.1)
 
     pub run_turns : (es : List (Entry LaneOp LaneReply)) (x y : LaneView S L) → IsLegal Turns x es y → Is x → Has (IsLimit limit.Turns) es → ⊥
     run_turns es x y legal is has =
         let c = came (IsLimit limit.Turns) es x y legal is has in
-        step_turns set c.before.state c.one.op c.after.state (subst (λ (r : LaneReply). LaneStep set c.before.state c.one.op r c.after.state) c.so c.step)
+        step_turns set c.before.state c.one.op c.after.state (subst (λ (r : LaneReply). IsLaneStep set c.before.state c.one.op r c.after.state) c.so c.step)
 
     pub run_generation : (es : List (Entry LaneOp LaneReply)) (x y : LaneView S L) → IsLegal Turns x es y → Is x → Has (IsLimit limit.Generation) es → ⊥
     run_generation es x y legal is has =
         let c = came (IsLimit limit.Generation) es x y legal is has in
-        step_generation set c.before.state c.one.op c.after.state (subst (λ (r : LaneReply). LaneStep set c.before.state c.one.op r c.after.state) c.so c.step)
+        step_generation set c.before.state c.one.op c.after.state (subst (λ (r : LaneReply). IsLaneStep set c.before.state c.one.op r c.after.state) c.so c.step)
 
     -- ---- over a told text
     pub run_at : (t : List ℕ) → set.text ≡ Some t → (es : List (Entry LaneOp LaneReply)) (x y : LaneView S L) → IsLegal Turns x es y → Is x

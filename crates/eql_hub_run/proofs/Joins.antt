@@ -17,7 +17,7 @@ use Rattle.eql_hub.specs.declared.step.HandFault.{HandFault}
 use Rattle.eql_hub.specs.Hands.{AllBegin, AreAllJoined, HandView, HubView, IsFirst, IsHandOf, LaneKnown, PartKnown}
 use Rattle.eql_lock_bench.specs.Benched.{AllGoOn}
 use Rattle.eql_lock_bench.specs.Locked.{entry_failed}
-use Rattle.eql_hub_run.specs.Gathers.{AreUnplayed, FineLane, FinePart, GathersHands, HandsAre, IsEndOf, IsKept, IsUnplayedHand, TookIn}
+use Rattle.eql_hub_run.specs.Gathers.{AreUnplayed, GathersHands, HandsAre, IsEndOf, IsKept, IsUnplayedHand, LaneIsFine, PartIsFine, TookIn}
 use Rattle.eql_hub_run.specs.Workers.{Has, HandDid, HasPlayed, IsNoRead, IsWhole, WorkerView}
 use Rattle.eql_hub_run.proofs.Ended.{there_in, zip_at}
 use Rattle.eql_hub_run.proofs.Hands.{all_places, at_all, has_last}
@@ -113,8 +113,8 @@ module _ {S L : Type 0} where
   gather_none quiet hand = record {
     lane_count = refl;
     part_count = refl;
-    lanes = λ k v w a b. took_none (FineLane quiet) v w (same_Some w v (sym b ∙ a));
-    parts = λ k v w a b. took_none FinePart v w (same_Some w v (sym b ∙ a));
+    lanes = λ k v w a b. took_none (LaneIsFine quiet) v w (same_Some w v (sym b ∙ a));
+    parts = λ k v w a b. took_none PartIsFine v w (same_Some w v (sym b ∙ a));
     kept = All-nil (λ (h : HandView S L). IsKept hand.lanes.views h.lanes.views × IsKept hand.parts.views h.parts.views);
   }
 
@@ -125,12 +125,12 @@ module _ {S L : Type 0} where
   gather_more quiet hands old mid new other met was lane_count part_count lanes parts seen did calm = record {
     lane_count = new_count mid.lanes.views other.lanes.views new.lanes.views lane_count lanes ∙ was.lane_count;
     part_count = new_count mid.parts.views other.parts.views new.parts.views part_count parts ∙ was.part_count;
-    lanes = took_on mid.lanes.views other.lanes.views new.lanes.views lane_count lanes (FineLane quiet) (length hands) old.lanes.views was.lane_count was.lanes seen.lanes
+    lanes = took_on mid.lanes.views other.lanes.views new.lanes.views lane_count lanes (LaneIsFine quiet) (length hands) old.lanes.views was.lane_count was.lanes seen.lanes
         (λ k w u there. (
           at_all (λ (v : LaneKnown S L). length v.mine ≤ 2 ^ 40) other.lanes.views k u there did.few_lanes,
           λ q. at_all (λ (v : LaneKnown S L). count_by entry_failed v.mine ≡ 0) other.lanes.views k u there (did.quiet (calm q)),
         ));
-    parts = took_on mid.parts.views other.parts.views new.parts.views part_count parts FinePart (length hands) old.parts.views was.part_count was.parts seen.parts
+    parts = took_on mid.parts.views other.parts.views new.parts.views part_count parts PartIsFine (length hands) old.parts.views was.part_count was.parts seen.parts
         (λ k w u there. at_all (λ (v : PartKnown). length v.mine ≤ 2 ^ 40) other.parts.views k u there did.few_parts);
     kept = All-cons (λ (h : HandView S L). IsKept new.lanes.views h.lanes.views × IsKept new.parts.views h.parts.views) other hands
         (kept_new mid.lanes.views other.lanes.views new.lanes.views lane_count lanes, kept_new mid.parts.views other.parts.views new.parts.views part_count parts)
@@ -235,6 +235,6 @@ module _ {T O R : Type 0} where
 pub are_joined : {S L : Type 0} (quiet : Type 0) (lanes : List (LaneView S L)) (parts : List PartView) (hands : List (HandView S L)) (first last joined : HandView S L)
     → IsUnplayedHand (length hands) lanes parts first → AllGoOn first.lanes.views last.lanes.views → AllGoOn first.parts.views last.parts.views → GathersHands quiet hands last joined → AreAllJoined joined
 are_joined quiet lanes parts hands first last joined unplayed a b gathered = record {
-  lanes = row_joined (FineLane quiet) (length hands) lanes first.lanes.views last.lanes.views joined.lanes.views unplayed.lanes_are a gathered.lane_count gathered.lanes;
-  parts = row_joined FinePart (length hands) parts first.parts.views last.parts.views joined.parts.views unplayed.parts_are b gathered.part_count gathered.parts;
+  lanes = row_joined (LaneIsFine quiet) (length hands) lanes first.lanes.views last.lanes.views joined.lanes.views unplayed.lanes_are a gathered.lane_count gathered.lanes;
+  parts = row_joined PartIsFine (length hands) parts first.parts.views last.parts.views joined.parts.views unplayed.parts_are b gathered.part_count gathered.parts;
 }

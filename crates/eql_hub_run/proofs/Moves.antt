@@ -12,7 +12,7 @@ use Rattle.eql_lane.specs.declared.ops.LaneOp.TheVariants as op
 use Rattle.eql_lane.specs.declared.ops.LaneReply.{LaneReply}
 use Rattle.eql_lane.specs.declared.ops.LaneReply.TheVariants as reply
 use Rattle.eql_lane.specs.declared.ops.LimitOf.TheVariants as limit
-use Rattle.eql_lane.specs.Lanes.{FeedStep, LaneState, LaneStep, LookStep, OutOfLines, ReadsOn, Setting, SnapStep, TakeStep, Takes}
+use Rattle.eql_lane.specs.Lanes.{IsFeedStep, IsLaneStep, IsLookStep, IsOutOfLines, IsSnapStep, IsTakeStep, LaneState, ReadsOn, Setting, Takes}
 use Rattle.eql_lane.proofs.FeedLines.{length_numbered}
 use Rattle.eql_conductor.specs.Benches.{ComesByFeeds, FeedsTimes}
 
@@ -34,7 +34,7 @@ no_lines (byte ∷ bytes) e = absurd (let a = one_line (byte == 10) byte (lines_
 pub record Moves (set : Setting) (x y : LaneState) : Type 0 where
   pub faults : x.faults ≤ y.faults
   pub rise : (y.faults ≡ x.faults) ⊎ Rose x.faults y.faults
-  pub lines : OutOfLines set x → OutOfLines set y
+  pub lines : IsOutOfLines set x → IsOutOfLines set y
   pub bytes : x.taken ≡ greatest_bytes → y.taken ≡ greatest_bytes
 
 rise_on : (a b c : ℕ) → a ≤ b → (b ≡ a) ⊎ Rose a b → (c ≡ b) ⊎ Rose b c → (c ≡ a) ⊎ Rose a c
@@ -72,7 +72,7 @@ module _ (set : Setting) where
   moves_same : (x y : LaneState) → y ≡ x → Moves set x y
   moves_same x y e = subst (Moves set x) (sym e) (moves_self x)
 
-  out_reads : (x : LaneState) (n : ℕ) (y : LaneState) → ReadsOn set x n y → OutOfLines set x → OutOfLines set y
+  out_reads : (x : LaneState) (n : ℕ) (y : LaneState) → ReadsOn set x n y → IsOutOfLines set x → IsOutOfLines set y
   out_reads x n y r out =
       let a : y.cut.counts.lines ≡ x.cut.counts.lines + length (numbered_lines (1 + x.cut.counts.lines) x.cut.offset (lines_of r.more)) = ap (λ (cut : LaneCut). cut.counts.lines) r.cut in
       let b = length_numbered (1 + x.cut.counts.lines) x.cut.offset (lines_of r.more) in
@@ -93,7 +93,7 @@ module _ (set : Setting) where
     bytes = λ e. let a = r.taken in let b = r.is.bytes in omega (arith, a, b, e);
   }
 
-  feed_moves : (x : LaneState) (max : ℕ) (answer : LaneReply) (y : LaneState) → FeedStep set x max answer y → Moves set x y
+  feed_moves : (x : LaneState) (max : ℕ) (answer : LaneReply) (y : LaneState) → IsFeedStep set x max answer y → Moves set x y
   feed_moves x max (reply.Fed n) y step = moves_reads x n y step.feeds.reads (inl step.faults)
   feed_moves x max (reply.Held k) y step = moves_same x y step.2
   feed_moves x max reply.Closed y step = moves_reads x 0 y step.reads (inl step.faults)
@@ -121,7 +121,7 @@ module _ (set : Setting) where
     bytes = λ e. let c = step.taken in omega (arith, c, e);
   }
 
-  take_moves : (x : LaneState) (mark : Mark) (answer : LaneReply) (y : LaneState) → TakeStep set x mark answer y → Moves set x y
+  take_moves : (x : LaneState) (mark : Mark) (answer : LaneReply) (y : LaneState) → IsTakeStep set x mark answer y → Moves set x y
   take_moves x mark (reply.Taken items) y step = moves_takes x _ items y step
   take_moves x mark (reply.Memory n) y step = moves_same x y step.1
   take_moves x mark (reply.Fed n) y step = absurd step
@@ -132,7 +132,7 @@ module _ (set : Setting) where
   take_moves x mark (reply.Low m) y step = absurd step
   take_moves x mark (reply.Cut cut) y step = absurd step
 
-  look_moves : (x : LaneState) (answer : LaneReply) (y : LaneState) → LookStep set x answer y → Moves set x y
+  look_moves : (x : LaneState) (answer : LaneReply) (y : LaneState) → IsLookStep set x answer y → Moves set x y
   look_moves x (reply.Low mark) y step = moves_same x y step.1
   look_moves x (reply.Taken items) y step = absurd step
   look_moves x (reply.Memory n) y step = absurd step
@@ -143,7 +143,7 @@ module _ (set : Setting) where
   look_moves x (reply.Limit of) y step = absurd step
   look_moves x (reply.Cut cut) y step = absurd step
 
-  snap_moves : (x : LaneState) (answer : LaneReply) (y : LaneState) → SnapStep x answer y → Moves set x y
+  snap_moves : (x : LaneState) (answer : LaneReply) (y : LaneState) → IsSnapStep x answer y → Moves set x y
   snap_moves x (reply.Cut cut) y step = moves_same x y step.1
   snap_moves x (reply.Memory n) y step = moves_same x y step.1
   snap_moves x (reply.Low mark) y step = absurd step
@@ -154,7 +154,7 @@ module _ (set : Setting) where
   snap_moves x (reply.Failed n) y step = absurd step
   snap_moves x (reply.Limit of) y step = absurd step
 
-  pub step_moves : (x : LaneState) (o : LaneOp) (answer : LaneReply) (y : LaneState) → LaneStep set x o answer y → Moves set x y
+  pub step_moves : (x : LaneState) (o : LaneOp) (answer : LaneReply) (y : LaneState) → IsLaneStep set x o answer y → Moves set x y
   step_moves x (op.Feed max) answer y step = feed_moves x max answer y step
   step_moves x (op.Take mark) answer y step = take_moves x mark answer y step
   step_moves x op.Look answer y step = look_moves x answer y step
@@ -170,31 +170,31 @@ module _ (set : Setting) where
 
   -- ---- what an answer tells
   -- a feed that failed
-  pub step_failed : (x : LaneState) (o : LaneOp) (n : ℕ) (y : LaneState) → LaneStep set x o (reply.Failed n) y → Rose x.faults y.faults
+  pub step_failed : (x : LaneState) (o : LaneOp) (n : ℕ) (y : LaneState) → IsLaneStep set x o (reply.Failed n) y → Rose x.faults y.faults
   step_failed x (op.Feed max) n y step = step.faults
   step_failed x (op.Take mark) n y step = absurd step
   step_failed x op.Look n y step = absurd step
   step_failed x op.Snap n y step = absurd step
 
-  pub step_lines : (x : LaneState) (o : LaneOp) (shard : ℕ) (y : LaneState) → LaneStep set x o (reply.Limit (limit.Lines shard)) y → (shard ≡ set.shard) × OutOfLines set y
+  pub step_lines : (x : LaneState) (o : LaneOp) (shard : ℕ) (y : LaneState) → IsLaneStep set x o (reply.Limit (limit.Lines shard)) y → (shard ≡ set.shard) × IsOutOfLines set y
   step_lines x (op.Feed max) shard y step = (step.0, step.2)
   step_lines x (op.Take mark) shard y step = absurd step
   step_lines x op.Look shard y step = absurd step
   step_lines x op.Snap shard y step = absurd step
 
-  pub step_bytes : (x : LaneState) (o : LaneOp) (shard : ℕ) (y : LaneState) → LaneStep set x o (reply.Limit (limit.Bytes shard)) y → (shard ≡ set.shard) × (y.taken ≡ greatest_bytes)
+  pub step_bytes : (x : LaneState) (o : LaneOp) (shard : ℕ) (y : LaneState) → IsLaneStep set x o (reply.Limit (limit.Bytes shard)) y → (shard ≡ set.shard) × (y.taken ≡ greatest_bytes)
   step_bytes x (op.Feed max) shard y step = (step.0, step.2)
   step_bytes x (op.Take mark) shard y step = absurd step
   step_bytes x op.Look shard y step = absurd step
   step_bytes x op.Snap shard y step = absurd step
 
-  pub step_turns : (x : LaneState) (o : LaneOp) (y : LaneState) → LaneStep set x o (reply.Limit limit.Turns) y → ⊥
+  pub step_turns : (x : LaneState) (o : LaneOp) (y : LaneState) → IsLaneStep set x o (reply.Limit limit.Turns) y → ⊥
   step_turns x (op.Feed max) y step = step
   step_turns x (op.Take mark) y step = step
   step_turns x op.Look y step = step
   step_turns x op.Snap y step = step
 
-  pub step_generation : (x : LaneState) (o : LaneOp) (y : LaneState) → LaneStep set x o (reply.Limit limit.Generation) y → ⊥
+  pub step_generation : (x : LaneState) (o : LaneOp) (y : LaneState) → IsLaneStep set x o (reply.Limit limit.Generation) y → ⊥
   step_generation x (op.Feed max) y step = step
   step_generation x (op.Take mark) y step = step
   step_generation x op.Look y step = step

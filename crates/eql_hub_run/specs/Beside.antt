@@ -7,7 +7,7 @@ use Rattle.eql_outside.specs.Unfailing.{IsUnfailing}
 use Rattle.eql_values.specs.Accepted.{Reads}
 use Rattle.eql_laws.specs.Counting.{greatest_bytes}
 use Rattle.eql_lane.specs.declared.ops.LimitOf.TheVariants as limit
-use Rattle.eql_lane.specs.Lanes.{LaneState, OutOfLines}
+use Rattle.eql_lane.specs.Lanes.{IsOutOfLines, LaneState}
 use Rattle.eql_lane.specs.Views.{LaneView, setting_of}
 use Rattle.eql_parts.specs.PartSteps.{PartState, PartView}
 use Rattle.eql_book.specs.Books.{BookState}
@@ -22,7 +22,7 @@ use Rattle.eql_conductor.specs.Runs.{EndsBy, disk_faults}
 use Rattle.eql_hub.specs.Hands.{HandView}
 use Rattle.eql_lock_bench.specs.Locked.{known_by}
 use Rattle.eql_replay.specs.Listed.{bench_known, BenchView}
-use Rattle.eql_replay.specs.Opened.{AreOfTexts, LanesOn, LinesOn, LanesReadOn}
+use Rattle.eql_replay.specs.Opened.{AreOfTexts, LanesGoOn, LanesReadFurther, LanesReadOn}
 
 -- ---- which of several ends is told: the one with the least status
 -- the order of ends by their statuses: a file can't be read, the output can't be written, the disk fails, memory runs out, a limit is reached; and last
@@ -52,7 +52,7 @@ pub record IsTold (ended answer : Ends) : Type 0 where
 
 -- ---- how the bench begins
 -- two benches may be in the same states, and nothing was played on the other
-pub record SameBench (a b : Known) : Type 0 where
+pub record IsSameBench (a b : Known) : Type 0 where
   pub lanes : b.lanes ≡ a.lanes
   pub parts : b.parts ≡ a.parts
   pub set : (s : ℕ) → b.set s ≡ a.set s
@@ -78,11 +78,11 @@ TellsRead answer = ⊥
 
 module _ {S L : Type 0} (read_of : L → Reads) (text : ℕ → Option (List ℕ)) (olds news : List (LaneView S L)) where
   -- why this is told, by the lanes before and after, where a hand can tell it
-  abbrev pub HandCause : Ends → Type 0
-  HandCause (end.ReadFault s) = (s < length olds) × ((old new : LaneView S L) → slice_get olds s ≡ Some old → slice_get news s ≡ Some new → Rose old.state.faults new.state.faults)
-  HandCause (end.Limit (limit.Lines s)) = (s < length olds) × ((old new : LaneView S L) → slice_get olds s ≡ Some old → slice_get news s ≡ Some new → OutOfLines (setting_of read_of (text s) old) new.state)
-  HandCause (end.Limit (limit.Bytes s)) = (s < length olds) × ((new : LaneView S L) → slice_get news s ≡ Some new → new.state.taken ≡ greatest_bytes)
-  HandCause answer = Unit {0}
+  abbrev pub HasHandCause : Ends → Type 0
+  HasHandCause (end.ReadFault s) = (s < length olds) × ((old new : LaneView S L) → slice_get olds s ≡ Some old → slice_get news s ≡ Some new → Rose old.state.faults new.state.faults)
+  HasHandCause (end.Limit (limit.Lines s)) = (s < length olds) × ((old new : LaneView S L) → slice_get olds s ≡ Some old → slice_get news s ≡ Some new → IsOutOfLines (setting_of read_of (text s) old) new.state)
+  HasHandCause (end.Limit (limit.Bytes s)) = (s < length olds) × ((new : LaneView S L) → slice_get news s ≡ Some new → new.state.taken ≡ greatest_bytes)
+  HasHandCause answer = Unit {0}
 
 -- ---- the run
 module _ {S L D : Type 0} (left lent_as : S → Option (List ℕ)) (fault_plan : S → Option FaultPlan) (read_of : L → Reads) (history : D → Option History) (count : D → ℕ)
@@ -90,7 +90,7 @@ module _ {S L D : Type 0} (left lent_as : S → Option (List ℕ)) (fault_plan :
   -- by what was known of the bench first and last: the conductor ran over the lanes and parts, and ended so; hands fed lanes and turned parts
   -- meanwhile; this is told, and these are the lanes then
   pub record RanFrom (first last : Known) (parts : List PartView) (book then : BookState) (before now : Option (List ℕ)) (sink_before sink_now : ℕ) (keep kept : Option (Keep D)) (answer : Ends) : Type 0 where
-    pub begins : SameBench (bench_known read_of text (bench_of olds parts)) first
+    pub begins : IsSameBench (bench_known read_of text (bench_of olds parts)) first
     pub ended : Ends
     pub told : IsTold ended answer
     pub ran : Ran history count plan first last book then before now keep kept ended
@@ -98,14 +98,14 @@ module _ {S L D : Type 0} (left lent_as : S → Option (List ℕ)) (fault_plan :
     pub goes : LanesGo first last
     -- each lane comes by feeds of hands from a state that it might have at the conductor's end
     pub lanes : (s : ℕ) (new : LaneView S L) → slice_get news s ≡ Some new → (x : LaneState) × last.lane s x × ComesByFeeds (first.set s) x new.state
-    pub hand_cause : HandCause read_of text olds news answer
+    pub hand_cause : HasHandCause read_of text olds news answer
     pub not_turns : (ended ≢ end.Limit limit.Turns) × (answer ≢ end.Limit limit.Turns)
     pub planned : (s : ℕ) (lane : LaneView S L) → slice_get olds s ≡ Some lane → IsUnfailing (fault_plan lane.source) → (ended ≢ end.ReadFault s) × (answer ≢ end.ReadFault s)
     -- no lane's faults rose where none is told
-    pub on : LanesOn left lent_as fault_plan read_of (λ s. TellsRead answer → ⊥) olds news
+    pub on : LanesGoOn left lent_as fault_plan read_of (λ s. TellsRead answer → ⊥) olds news
     pub texts : AreOfTexts left text news
     pub read : LanesReadOn read_of text olds news
-    pub lines : LinesOn text olds news
+    pub lines : LanesReadFurther text olds news
 
   -- so it ran, by what the first hand knew as the bench took it and as the bench gave it back
   pub record RanBeside (parts : List PartView) (book then : BookState) (before now : Option (List ℕ)) (sink_before sink_now : ℕ) (keep kept : Option (Keep D)) (answer : Ends) : Type 0 where

@@ -61,20 +61,20 @@ abbrev pub IsKept : {T O R : Type 0} → List (View T O R) → List (View T O R)
 IsKept {T} {O} {R} views others = (k : ℕ) (view other : View T O R) → slice_get views k ≡ Some view → slice_get others k ≡ Some other → Has (IsEndOf other) view.ended
 
 -- it has few entries
-abbrev pub FinePart : Ended PartOp PartReply → Type 0
-FinePart kept = length kept.mine ≤ 2 ^ 40
+abbrev pub PartIsFine : Ended PartOp PartReply → Type 0
+PartIsFine kept = length kept.mine ≤ 2 ^ 40
 
 -- and none failed while it was quiet
-abbrev pub FineLane : (quiet : Type 0) → Ended LaneOp LaneReply → Type 0
-FineLane quiet kept = (length kept.mine ≤ 2 ^ 40) × (quiet → count_by entry_failed kept.mine ≡ 0)
+abbrev pub LaneIsFine : (quiet : Type 0) → Ended LaneOp LaneReply → Type 0
+LaneIsFine quiet kept = (length kept.mine ≤ 2 ^ 40) × (quiet → count_by entry_failed kept.mine ≡ 0)
 
 module _ {S L : Type 0} where
   -- these hands were joined into the first one, which was the one and is the other
   pub record GathersHands (quiet : Type 0) (hands : List (HandView S L)) (old new : HandView S L) : Type 0 where
     pub lane_count : length new.lanes.views ≡ length old.lanes.views
     pub part_count : length new.parts.views ≡ length old.parts.views
-    pub lanes : (k : ℕ) (v w : LaneKnown S L) → slice_get old.lanes.views k ≡ Some v → slice_get new.lanes.views k ≡ Some w → TookIn (FineLane quiet) (length hands) v w
-    pub parts : (k : ℕ) (v w : PartKnown) → slice_get old.parts.views k ≡ Some v → slice_get new.parts.views k ≡ Some w → TookIn FinePart (length hands) v w
+    pub lanes : (k : ℕ) (v w : LaneKnown S L) → slice_get old.lanes.views k ≡ Some v → slice_get new.lanes.views k ≡ Some w → TookIn (LaneIsFine quiet) (length hands) v w
+    pub parts : (k : ℕ) (v w : PartKnown) → slice_get old.parts.views k ≡ Some v → slice_get new.parts.views k ≡ Some w → TookIn PartIsFine (length hands) v w
     pub kept : All (λ (hand : HandView S L). IsKept new.lanes.views hand.lanes.views × IsKept new.parts.views hand.parts.views) hands
 
   -- the hands of workers

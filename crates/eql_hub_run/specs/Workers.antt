@@ -22,7 +22,7 @@ pub record Has {X : Type 0} (P : X → Type 0) (list : List X) : Type 0 where
   pub so : P one
 
 -- what stands in a place is so
-pub record AtPlace {X : Type 0} (list : List X) (place : ℕ) (P : X → Type 0) : Type 0 where
+pub record HoldsAtPlace {X : Type 0} (list : List X) (place : ℕ) (P : X → Type 0) : Type 0 where
   pub one : X
   pub there : slice_get list place ≡ Some one
   pub so : P one
@@ -52,10 +52,10 @@ IsNoRead (Some (fault.Limit of)) = Unit {0}
 module _ {S L : Type 0} where
   -- the hand met this fault: at which lane or part, and by which entry or word
   abbrev pub HandMeets : HandView S L → HandFault → Type 0
-  HandMeets hand (fault.Read shard) = AtPlace hand.lanes.views shard (λ (view : LaneKnown S L). Has IsFailure view.mine)
+  HandMeets hand (fault.Read shard) = HoldsAtPlace hand.lanes.views shard (λ (view : LaneKnown S L). Has IsFailure view.mine)
   HandMeets hand fault.Memory = Unit {0}
-  HandMeets hand (fault.Limit of) = ((place : ℕ) × AtPlace hand.lanes.views place (λ (view : LaneKnown S L). Has (IsLimit of) view.mine))
-      ⊎ ((of ≡ limit.Turns) × (((place : ℕ) × AtPlace hand.lanes.views place (λ (view : LaneKnown S L). MeetsWorn view)) ⊎ ((place : ℕ) × AtPlace hand.parts.views place (λ (view : PartKnown). MeetsWorn view))))
+  HandMeets hand (fault.Limit of) = ((place : ℕ) × HoldsAtPlace hand.lanes.views place (λ (view : LaneKnown S L). Has (IsLimit of) view.mine))
+      ⊎ ((of ≡ limit.Turns) × (((place : ℕ) × HoldsAtPlace hand.lanes.views place (λ (view : LaneKnown S L). MeetsWorn view)) ⊎ ((place : ℕ) × HoldsAtPlace hand.parts.views place (λ (view : PartKnown). MeetsWorn view))))
 
   -- a hand that began with no entries of its own ran, and met this fault or none
   pub record HandDid (met : Option HandFault) (hand : HandView S L) : Type 0 where

@@ -38,6 +38,6 @@ takes_after (Some r) r1 r2 text most n h is few g =
       left_is = next.left_is ∙ ap Some (drop-drop next.n h.n r);
     }
 
--- what is answered is no error
+-- what is returned is no error
 pub ok_not_err : {A B : Type 0} (a : A) (e : B) → (let r : Result A B = Ok a in r) ≡ Err e → ⊥
 ok_not_err a e is = cc

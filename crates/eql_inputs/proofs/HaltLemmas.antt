@@ -7,7 +7,7 @@ use Rattle.std.proofs.lemmas.List.{take_all, length-take}
 use Rattle.std.proofs.lemmas.Bool.{cases_lt, lt-ltb}
 use Rattle.eql_values.specs.declared.value.Kind.{Kind}
 use Rattle.eql_outside.specs.Outside.{Rose, file_named}
-use Rattle.eql_outside.specs.Faults.{SameFaults, RoseFor}
+use Rattle.eql_outside.specs.Faults.{FaultsAreSame, RoseFor}
 use Rattle.eql_lexer.specs.declared.token.Token.{Token}
 use Rattle.eql_lexer.specs.declared.refusal.LexRefused.{LexRefused}
 use Rattle.eql_query.specs.QueryTree.{QueryTree}
@@ -22,7 +22,7 @@ use Rattle.eql_check.specs.MappingAnswers.{Reads}
 use Rattle.eql_check.specs.Rules.{first_broken}
 use Rattle.eql_check.specs.Typing.{IsChecked}
 use Rattle.eql_check.specs.Wants.{check_memory}
-use Rattle.eql_runs.specs.Files.{Files, HasTokens, NoTokens, too_long, not_utf8, breaks, HasChecked}
+use Rattle.eql_runs.specs.Files.{Files, HasTokens, HasNoTokens, too_long, not_utf8, breaks, HasChecked}
 use Rattle.eql_runs.specs.Refusals.{Names, Refuses}
 use Rattle.eql_runs.specs.Refusals as run
 use Rattle.eql_runs.specs.Runs.{IsNamed, Reaches}
@@ -31,8 +31,8 @@ use Rattle.eql_inputs.specs.declared.halt.Refused.TheVariants as refused
 use Rattle.eql_inputs.specs.declared.halt.Halt.{Halt}
 use Rattle.eql_inputs.specs.declared.halt.Halt.TheVariants as halt
 use Rattle.eql_inputs.specs.Fronts.{IsFrontOf, IsMissing}
-use Rattle.eql_inputs.specs.Halts.{HasCause, FaultsAs, CountAs, AbsenceAs}
-use Rattle.eql_inputs.specs.Steps.{naming, GotQuery, GotMapping, GotChecked, QueryCause, MappingCause, CheckCause, StopsReading, IsQueryText, StopsSpelling, StopsParsing, StopsQuery, halt_of_map, StopsMapping, halt_of_check, StopsChecking}
+use Rattle.eql_inputs.specs.Halts.{HasCause, FaultsFollow, CountFollows, AbsencesFollow}
+use Rattle.eql_inputs.specs.Steps.{naming, GotQuery, GotMapping, GotChecked, HasQueryCause, HasMappingCause, HasCheckCause, StopsReading, IsQueryText, StopsSpelling, StopsParsing, StopsQuery, halt_of_map, StopsMapping, halt_of_check, StopsChecking}
 
 -- a front that is shorter than it may be is the whole text
 pub front_whole : (most n : ℕ) (bytes text : List ℕ) → n < most → bytes ≡ take most text → length bytes ≤ n
@@ -42,13 +42,13 @@ front_whole most n bytes text more front few =
     front ∙ take_all most text short
 
 -- a text that isn't spelled
-tokens_front : (bytes text : List ℕ) (r : LexRefused) → bytes ≡ take 65537 text → NoTokens bytes r → NoTokens text r
+tokens_front : (bytes text : List ℕ) (r : LexRefused) → bytes ≡ take 65537 text → HasNoTokens bytes r → HasNoTokens text r
 tokens_front bytes text _ front (too_long long) = too_long (omega (arith, long, ap length front, length-take 65537 text))
 tokens_front bytes text r front (not_utf8 short denied) =
-    subst (λ (x : List ℕ). NoTokens x r) (front_whole 65537 65536 bytes text (omega arith) front short)
+    subst (λ (x : List ℕ). HasNoTokens x r) (front_whole 65537 65536 bytes text (omega arith) front short)
     (not_utf8 short denied)
 tokens_front bytes text r front (breaks short utf8 rule at b) =
-    subst (λ (x : List ℕ). NoTokens x r) (front_whole 65537 65536 bytes text (omega arith) front short)
+    subst (λ (x : List ℕ). HasNoTokens x r) (front_whole 65537 65536 bytes text (omega arith) front short)
     (breaks short utf8 rule at b)
 
 whole_tokens : (bytes text : List ℕ) (tokens : List Token) → bytes ≡ take 65537 text → HasTokens bytes tokens
@@ -92,7 +92,7 @@ query_reached query fields shards None = tt
 query_reached query fields shards (Some fs) = way.query_file
 
 pub query_unread : (query : List ℕ) (files : Option Files) (h : Halt) → StopsReading query (IsMissing query files) h
-    → QueryCause query files h
+    → HasQueryCause query files h
 query_unread query files h stop = λ fields shards.
     unread_cause (naming query fields shards) query files h (inl refl) stop (query_rule query fields shards files)
     (query_reached query fields shards files)
@@ -107,7 +107,7 @@ query_got query (Some fs) bytes tree front is = record {
 }
 
 pub query_stopped : (query : List ℕ) (files : Option Files) (bytes : List ℕ) (h : Halt)
-    → IsFrontOf query files 65537 bytes → StopsQuery bytes h → QueryCause query files h
+    → IsFrontOf query files 65537 bytes → StopsQuery bytes h → HasQueryCause query files h
 query_stopped query files bytes (halt.Refused (refused.NoFile n)) front stop = absurd stop
 query_stopped query None bytes (halt.Refused (refused.Lex r)) front stop = λ fields shards. (tt, tt)
 query_stopped query (Some fs) bytes (halt.Refused (refused.Lex r)) front stop = λ fields shards.
@@ -157,7 +157,7 @@ fields_reached query fields shards None tree got = tt
 fields_reached query fields shards (Some fs) tree got = way.fields_file tree got
 
 pub mapping_unread : (fields : List ℕ) (files : Option Files) (h : Halt)
-    → StopsReading fields (IsMissing fields files) h → MappingCause fields files h
+    → StopsReading fields (IsMissing fields files) h → HasMappingCause fields files h
 mapping_unread fields files h stop = λ query shards tree got.
     unread_cause (naming query fields shards) fields files h (inr (inl refl)) stop
     (fields_rule query fields shards files tree got) (fields_reached query fields shards files tree got)
@@ -186,7 +186,7 @@ mapping_got fields (Some fs) bytes mapping front is = record {
 }
 
 pub mapping_stopped : (fields : List ℕ) (files : Option Files) (bytes : List ℕ) (h : Halt)
-    → IsFrontOf fields files 4194305 bytes → StopsMapping bytes h → MappingCause fields files h
+    → IsFrontOf fields files 4194305 bytes → StopsMapping bytes h → HasMappingCause fields files h
 mapping_stopped fields files bytes (halt.Refused (refused.NoFile n)) front stop = absurd stop
 mapping_stopped fields files bytes (halt.Refused (refused.Lex r)) front stop = absurd stop
 mapping_stopped fields files bytes (halt.Refused (refused.Parse r)) front stop = absurd stop
@@ -207,9 +207,9 @@ stopped_mapping text map_refused.Memory reads = tt
 
 -- what is read later, of a shelf that keeps its files
 pub mapping_then : (query fields : List ℕ) (files later : Option Files) (tree : QueryTree) (h : Halt) → later ≡ files
-    → GotQuery query files tree → MappingCause fields later h → CheckCause query fields files h
+    → GotQuery query files tree → HasMappingCause fields later h → HasCheckCause query fields files h
 mapping_then query fields files later tree h kept got cause = λ shards.
-    (subst (λ (x : Option Files). MappingCause fields x h) kept cause) query shards tree got
+    (subst (λ (x : Option Files). HasMappingCause fields x h) kept cause) query shards tree got
 
 -- the check
 pub checked_got : (query fields : List ℕ) (files later : Option Files) (tree other : QueryTree)
@@ -225,7 +225,7 @@ checked_got query fields (Some fs) later tree other mapping beside kept got has 
 
 pub check_stopped : (query fields : List ℕ) (files later : Option Files) (tree : QueryTree)
     (mapping : List (List ℕ × Kind)) (h : Halt) → later ≡ files → GotQuery query files tree
-    → GotMapping fields later mapping → StopsChecking mapping tree h → CheckCause query fields files h
+    → GotMapping fields later mapping → StopsChecking mapping tree h → HasCheckCause query fields files h
 check_stopped query fields files later tree mapping (halt.Refused (refused.NoFile n)) kept got has stop = absurd stop
 check_stopped query fields files later tree mapping (halt.Refused (refused.Lex r)) kept got has stop = absurd stop
 check_stopped query fields files later tree mapping (halt.Refused (refused.Parse r)) kept got has stop = absurd stop
@@ -295,18 +295,18 @@ check_calm mapping tree (halt.Refused (refused.Broken r)) stop = tt
 check_calm mapping tree (halt.Read n) stop = absurd stop
 check_calm mapping tree halt.Memory stop = tt
 
--- faults stay, whatever is answered of a text
-calm_faults : (h : Halt) (a b : List ℕ → ℕ) → IsOfText h → SameFaults a b → FaultsAs h a b
+-- faults stay, whatever is returned of a text
+calm_faults : (h : Halt) (a b : List ℕ → ℕ) → IsOfText h → FaultsAreSame a b → FaultsFollow h a b
 calm_faults (halt.Refused r) a b calm same = same
 calm_faults (halt.Read n) a b calm same = absurd calm
 calm_faults halt.Memory a b calm same = same
 
-calm_count : (h : Halt) (a b : ℕ) → IsOfText h → b ≡ a → CountAs h a b
+calm_count : (h : Halt) (a b : ℕ) → IsOfText h → b ≡ a → CountFollows h a b
 calm_count (halt.Refused r) a b calm same = same
 calm_count (halt.Read n) a b calm same = absurd calm
 calm_count halt.Memory a b calm same = same
 
-calm_absence : (h : Halt) (a b : ℕ) → IsOfText h → b ≡ a → AbsenceAs h a b
+calm_absence : (h : Halt) (a b : ℕ) → IsOfText h → b ≡ a → AbsencesFollow h a b
 calm_absence (halt.Refused (refused.NoFile n)) a b calm same = absurd calm
 calm_absence (halt.Refused (refused.Lex r)) a b calm same = same
 calm_absence (halt.Refused (refused.Parse r)) a b calm same = same
@@ -315,39 +315,39 @@ calm_absence (halt.Refused (refused.Broken r)) a b calm same = same
 calm_absence (halt.Read n) a b calm same = absurd calm
 calm_absence halt.Memory a b calm same = same
 
-pub text_faults : {T : Type 0} (r : Result T Halt) (a b : List ℕ → ℕ) → IfErr r IsOfText → SameFaults a b
-    → MatchResult r (λ _. SameFaults a b) (λ h. FaultsAs h a b)
+pub text_faults : {T : Type 0} (r : Result T Halt) (a b : List ℕ → ℕ) → IfErr r IsOfText → FaultsAreSame a b
+    → MatchResult r (λ _. FaultsAreSame a b) (λ h. FaultsFollow h a b)
 text_faults (Ok x) a b calm same = same
 text_faults (Err h) a b calm same = calm_faults h a b calm same
 
 pub text_count : {T : Type 0} (r : Result T Halt) (a b : ℕ) → IfErr r IsOfText → b ≡ a
-    → MatchResult r (λ _. b ≡ a) (λ h. CountAs h a b)
+    → MatchResult r (λ _. b ≡ a) (λ h. CountFollows h a b)
 text_count (Ok x) a b calm same = same
 text_count (Err h) a b calm same = calm_count h a b calm same
 
 pub text_absence : {T : Type 0} (r : Result T Halt) (a b : ℕ) → IfErr r IsOfText → b ≡ a
-    → MatchResult r (λ _. b ≡ a) (λ h. AbsenceAs h a b)
+    → MatchResult r (λ _. b ≡ a) (λ h. AbsencesFollow h a b)
 text_absence (Ok x) a b calm same = same
 text_absence (Err h) a b calm same = calm_absence h a b calm same
 
 -- a call in which no count changes, before another
-pub same_later : (a b c : List ℕ → ℕ) → SameFaults a b → SameFaults b c → SameFaults a c
+pub same_later : (a b c : List ℕ → ℕ) → FaultsAreSame a b → FaultsAreSame b c → FaultsAreSame a c
 same_later a b c first then = λ name. then name ∙ first name
 
-pub rose_later : (name : List ℕ) (a b c : List ℕ → ℕ) → SameFaults a b → RoseFor name b c → RoseFor name a c
+pub rose_later : (name : List ℕ) (a b c : List ℕ → ℕ) → FaultsAreSame a b → RoseFor name b c → RoseFor name a c
 rose_later name a b c same rose = record {
   rose = subst (λ (n : ℕ). Rose n (c name)) (same name) rose.rose;
   others = λ other differ. rose.others other differ ∙ same other;
   counts = λ any. subst (λ (n : ℕ). n ≤ c any) (same any) (rose.counts any);
 }
 
-pub faults_later : (h : Halt) (a b c : List ℕ → ℕ) → SameFaults a b → FaultsAs h b c → FaultsAs h a c
+pub faults_later : (h : Halt) (a b c : List ℕ → ℕ) → FaultsAreSame a b → FaultsFollow h b c → FaultsFollow h a c
 faults_later (halt.Refused r) a b c first then = same_later a b c first then
 faults_later (halt.Read n) a b c first then = rose_later n.now a b c first then
 faults_later halt.Memory a b c first then = same_later a b c first then
 
-pub count_later : (h : Halt) (a b c : ℕ) → b ≡ a → CountAs h b c → CountAs h a c
-count_later h a b c first then = subst (λ (n : ℕ). CountAs h n c) first then
+pub count_later : (h : Halt) (a b c : ℕ) → b ≡ a → CountFollows h b c → CountFollows h a c
+count_later h a b c first then = subst (λ (n : ℕ). CountFollows h n c) first then
 
-pub absence_later : (h : Halt) (a b c : ℕ) → b ≡ a → AbsenceAs h b c → AbsenceAs h a c
-absence_later h a b c first then = subst (λ (n : ℕ). AbsenceAs h n c) first then
+pub absence_later : (h : Halt) (a b c : ℕ) → b ≡ a → AbsencesFollow h b c → AbsencesFollow h a c
+absence_later h a b c first then = subst (λ (n : ℕ). AbsencesFollow h n c) first then

@@ -17,7 +17,7 @@ use Rattle.eql_runs.proofs.Reading.{none_missing}
 use Rattle.eql_inputs.specs.declared.halt.Halt.{Halt}
 use Rattle.eql_inputs.specs.Fronts.{IsMissing}
 use Rattle.eql_inputs.specs.Steps.{naming, GotChecked, StopsReading}
-use Rattle.eql_inputs.specs.Shards.{IsWholeFile, AreWholeFiles, ShardsCause}
+use Rattle.eql_inputs.specs.Shards.{IsWholeFile, AreWholeFiles, HasShardsCause}
 use Rattle.eql_inputs.proofs.HaltLemmas.{unread_cause}
 
 -- no shards, and one more
@@ -98,7 +98,7 @@ module _ (query fields : List ℕ) (names before : List (List ℕ)) (name : List
 
 pub shard_stopped : (names before : List (List ℕ)) (name : List ℕ) (after : List (List ℕ)) (files later : Option Files)
     (lefts : List (Option (List ℕ))) (h : Halt) → names ≡ before ++ name ∷ after → later ≡ files
-    → AreWholeFiles before files lefts → StopsReading name (IsMissing name later) h → ShardsCause names files h
+    → AreWholeFiles before files lefts → StopsReading name (IsMissing name later) h → HasShardsCause names files h
 shard_stopped names before name after files later lefts h parts kept whole stop = λ query fields tree mapping got.
     unread_cause (naming query fields names) name files h (inr (inr (before, after, parts)))
     (subst (λ (x : Option Files). StopsReading name (IsMissing name x) h) kept stop)

@@ -10,17 +10,17 @@ use Rattle.eql_lexer.specs.declared.refusal.LexRefused.{LexRefused}
 use Rattle.eql_lexer.specs.declared.refusal.LexRefused.TheVariants as lexed
 use Rattle.eql_lexer.specs.Spelling.{Spells}
 use Rattle.eql_lexer.specs.Refusing.{BreaksAt, RefusesText, refusal_of}
-use Rattle.eql_runs.specs.Files.{HasTokens, NoTokens, too_long, not_utf8, breaks}
+use Rattle.eql_runs.specs.Files.{HasTokens, HasNoTokens, too_long, not_utf8, breaks}
 use Rattle.eql_inputs.specs.Steps.{halt_of_lex, StopsSpelling}
 
--- what `lex` answers for a text that is too long, and for one that isn't UTF-8
+-- what `lex` returns for a text that is too long, and for one that isn't UTF-8
 abbrev pub IfLong : List ℕ → Result (List Token) LexRefused → Type 0
 IfLong text r = 65536 < length text → r ≡ Err lexed.TooLong
 
 abbrev pub IfNotUtf8 : List ℕ → Result (List Token) LexRefused → Type 0
 IfNotUtf8 text r = length text ≤ 65536 → (IsUtf8 text → ⊥) → r ≡ Err lexed.NotUtf8
 
--- so whatever else it answers is for a text that is neither
+-- so whatever else it returns is for a text that is neither
 short_of : (n : ℕ) → (65536 < n → ⊥) → (65536 < n) ⊎ (n ≤ 65536) → n ≤ 65536
 short_of n never (inl long) = absurd (never long)
 short_of n never (inr short) = short
@@ -38,7 +38,7 @@ is_text text r not short other = utf8_of text (λ none. other (not short none)) 
 tokens_no_err : (tokens : List Token) (e : LexRefused) → (let r : Result (List Token) LexRefused = Ok tokens in r) ≡ Err e → ⊥
 tokens_no_err tokens e is = cc
 
--- tokens that are answered
+-- tokens that are returned
 pub has_tokens : (text : List ℕ) (tokens : List Token) → Spells text tokens → IfLong text (Ok tokens) → IfNotUtf8 text (Ok tokens) → HasTokens text tokens
 has_tokens text tokens spells long not =
     let short = is_short text (Ok tokens) long (λ is. tokens_no_err tokens _ is) in
@@ -62,12 +62,12 @@ not_bytes rule.SingleQuote at is = cc
 not_bytes rule.NumberRange at is = cc
 not_bytes rule.OpenComment at is = cc
 
-no_tokens_at : (text : List ℕ) (r : Rule) (at : ℕ) → BreaksAt text r at → IfLong text (Err (refusal_of r at)) → IfNotUtf8 text (Err (refusal_of r at)) → NoTokens text (refusal_of r at)
+no_tokens_at : (text : List ℕ) (r : Rule) (at : ℕ) → BreaksAt text r at → IfLong text (Err (refusal_of r at)) → IfNotUtf8 text (Err (refusal_of r at)) → HasNoTokens text (refusal_of r at)
 no_tokens_at text r at b long not =
     let short = is_short text (Err (refusal_of r at)) long (not_long r at) in
     breaks short (is_text text (Err (refusal_of r at)) not short (not_bytes r at)) r at b
 
--- a refusal that is answered
+-- a refusal that is returned
 pub stopped_spelling : (text : List ℕ) (r : LexRefused) → RefusesText text r → IfLong text (Err r) → IfNotUtf8 text (Err r) → StopsSpelling text (halt_of_lex r)
 stopped_spelling text (lexed.BadByte at) cause long not = no_tokens_at text rule.BadByte at cause long not
 stopped_spelling text (lexed.OpenString at) cause long not = no_tokens_at text rule.OpenString at cause long not

@@ -4,14 +4,14 @@ use Rattle.eql_outside.specs.Outside.{file_named}
 use Rattle.eql_runs.specs.Files.{Files}
 
 -- the bytes are the first of the file of this name, as many of them as are kept at most
-pub record FrontOf (name : List ℕ) (files : Files) (most : ℕ) (bytes : List ℕ) : Type 0 where
+pub record IsFileFront (name : List ℕ) (files : Files) (most : ℕ) (bytes : List ℕ) : Type 0 where
   pub text : List ℕ
   pub there : file_named name files ≡ Some text
   pub front : bytes ≡ take most text
 
 -- the same, where the shelf tells its files
 abbrev pub IsFrontOf : List ℕ → Option Files → ℕ → List ℕ → Type 0
-IsFrontOf name files most bytes = IfSome files (λ fs. FrontOf name fs most bytes)
+IsFrontOf name files most bytes = IfSome files (λ fs. IsFileFront name fs most bytes)
 
 -- no file has this name, where the shelf tells its files
 abbrev pub IsMissing : List ℕ → Option Files → Type 0

@@ -1,7 +1,7 @@
 -- Why the reading of a command's files stops, in the words of runs.
 use Rattle.std.specs.Prelude.{◌≡◌, ◌++◌, ℕ, List, Option, IfSome, codes}
 use Rattle.eql_outside.specs.Outside.{Rose}
-use Rattle.eql_outside.specs.Faults.{SameFaults, RoseFor}
+use Rattle.eql_outside.specs.Faults.{FaultsAreSame, RoseFor}
 use Rattle.eql_runs.specs.Files.{Files}
 use Rattle.eql_runs.specs.Refusals.{Names, Refusal, Refuses, refusal_text, printed_name}
 use Rattle.eql_runs.specs.Refusals as run
@@ -51,23 +51,23 @@ IsNoFault (halt.Read name) = ⊥
 IsNoFault halt.Memory = Unit {0}
 
 -- of a read fault the count of the file that it tells of rose, and no other; else none rose
-abbrev pub FaultsAs : Halt → (before now : List ℕ → ℕ) → Type 0
-FaultsAs (halt.Refused r) before now = SameFaults before now
-FaultsAs (halt.Read name) before now = RoseFor name.now before now
-FaultsAs halt.Memory before now = SameFaults before now
+abbrev pub FaultsFollow : Halt → (before now : List ℕ → ℕ) → Type 0
+FaultsFollow (halt.Refused r) before now = FaultsAreSame before now
+FaultsFollow (halt.Read name) before now = RoseFor name.now before now
+FaultsFollow halt.Memory before now = FaultsAreSame before now
 
--- the count of all read faults rose where one is answered, and nowhere else
-abbrev pub CountAs : Halt → (before now : ℕ) → Type 0
-CountAs (halt.Refused r) before now = now ≡ before
-CountAs (halt.Read name) before now = Rose before now
-CountAs halt.Memory before now = now ≡ before
+-- the count of all read faults rose where one is returned, and nowhere else
+abbrev pub CountFollows : Halt → (before now : ℕ) → Type 0
+CountFollows (halt.Refused r) before now = now ≡ before
+CountFollows (halt.Read name) before now = Rose before now
+CountFollows halt.Memory before now = now ≡ before
 
 -- the count of absences rose where a file isn't there, and nowhere else
-abbrev pub AbsenceAs : Halt → (before now : ℕ) → Type 0
-AbsenceAs (halt.Refused (refused.NoFile name)) before now = Rose before now
-AbsenceAs (halt.Refused (refused.Lex r)) before now = now ≡ before
-AbsenceAs (halt.Refused (refused.Parse r)) before now = now ≡ before
-AbsenceAs (halt.Refused (refused.Mapping r)) before now = now ≡ before
-AbsenceAs (halt.Refused (refused.Broken r)) before now = now ≡ before
-AbsenceAs (halt.Read name) before now = now ≡ before
-AbsenceAs halt.Memory before now = now ≡ before
+abbrev pub AbsencesFollow : Halt → (before now : ℕ) → Type 0
+AbsencesFollow (halt.Refused (refused.NoFile name)) before now = Rose before now
+AbsencesFollow (halt.Refused (refused.Lex r)) before now = now ≡ before
+AbsencesFollow (halt.Refused (refused.Parse r)) before now = now ≡ before
+AbsencesFollow (halt.Refused (refused.Mapping r)) before now = now ≡ before
+AbsencesFollow (halt.Refused (refused.Broken r)) before now = now ≡ before
+AbsencesFollow (halt.Read name) before now = now ≡ before
+AbsencesFollow halt.Memory before now = now ≡ before

@@ -33,7 +33,7 @@ abbrev pub AreThere : List (List ℕ) → Option Files → Type 0
 AreThere names files = IfSome files (λ fs. first_missing fs names ≡ None)
 
 -- opening the shards stopped so, in a run whose query was checked
-abbrev pub ShardsCause : List (List ℕ) → Option Files → Halt → Type 0
-ShardsCause shards files h =
+abbrev pub HasShardsCause : List (List ℕ) → Option Files → Halt → Type 0
+HasShardsCause shards files h =
     (query fields : List ℕ) (tree : QueryTree) (mapping : List (List ℕ × Kind))
     → GotChecked query fields files tree mapping → HasCause (naming query fields shards) files h

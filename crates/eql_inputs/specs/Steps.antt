@@ -12,7 +12,7 @@ use Rattle.eql_check.specs.declared.refused.CheckRefused.TheVariants as check_re
 use Rattle.eql_check.specs.Kinds.{kind_at}
 use Rattle.eql_check.specs.Mappings.{mapping_of}
 use Rattle.eql_check.specs.Rules.{first_broken}
-use Rattle.eql_runs.specs.Files.{Files, HasTokens, NoTokens, ReadsAs, IsNotRead, HasQuery, HasMapping, HasChecked}
+use Rattle.eql_runs.specs.Files.{Files, HasTokens, HasNoTokens, ReadsAs, IsNotRead, HasQuery, HasMapping, HasChecked}
 use Rattle.eql_runs.specs.Refusals.{Names}
 use Rattle.eql_inputs.specs.declared.halt.Refused.TheVariants as refused
 use Rattle.eql_inputs.specs.declared.halt.Halt.{Halt}
@@ -34,19 +34,19 @@ abbrev pub GotChecked : (query fields : List ℕ) → Option Files → QueryTree
 GotChecked query fields files tree mapping = IfSome files (λ fs. HasChecked query fields fs tree mapping)
 
 -- the reading of the query stopped so, whatever else the command names
-abbrev pub QueryCause : List ℕ → Option Files → Halt → Type 0
-QueryCause query files h =
+abbrev pub HasQueryCause : List ℕ → Option Files → Halt → Type 0
+HasQueryCause query files h =
     (fields : List ℕ) (shards : List (List ℕ)) → HasCause (naming query fields shards) files h
 
 -- the reading of the mapping stopped so, in a run whose query was read
-abbrev pub MappingCause : List ℕ → Option Files → Halt → Type 0
-MappingCause fields files h =
+abbrev pub HasMappingCause : List ℕ → Option Files → Halt → Type 0
+HasMappingCause fields files h =
     (query : List ℕ) (shards : List (List ℕ)) (tree : QueryTree) → GotQuery query files tree
     → HasCause (naming query fields shards) files h
 
 -- the reading of the query and the mapping stopped so, whatever shards the command names
-abbrev pub CheckCause : (query fields : List ℕ) → Option Files → Halt → Type 0
-CheckCause query fields files h =
+abbrev pub HasCheckCause : (query fields : List ℕ) → Option Files → Halt → Type 0
+HasCheckCause query fields files h =
     (shards : List (List ℕ)) → HasCause (naming query fields shards) files h
 
 -- the reading of the file of this name stopped so; `missing` holds where the file isn't there
@@ -66,7 +66,7 @@ halt_of_lex r = halt.Refused (refused.Lex r)
 
 -- a text has no tokens, and a run stopped so
 abbrev pub StopsSpelling : List ℕ → Halt → Type 0
-StopsSpelling text (halt.Refused (refused.Lex r)) = NoTokens text r
+StopsSpelling text (halt.Refused (refused.Lex r)) = HasNoTokens text r
 StopsSpelling text halt.Memory = Unit {0}
 StopsSpelling text _ = ⊥
 
@@ -84,7 +84,7 @@ pub record IsQueryText (text : List ℕ) (tree : QueryTree) : Type 0 where
 
 -- a text is no query, and a run stopped so
 abbrev pub StopsQuery : List ℕ → Halt → Type 0
-StopsQuery text (halt.Refused (refused.Lex r)) = NoTokens text r
+StopsQuery text (halt.Refused (refused.Lex r)) = HasNoTokens text r
 StopsQuery text (halt.Refused (refused.Parse r)) = (tokens : List Token) × HasTokens text tokens × IsNotRead tokens r
 StopsQuery text halt.Memory = Unit {0}
 StopsQuery text _ = ⊥

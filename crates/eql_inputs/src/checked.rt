@@ -1,13 +1,13 @@
 //! The query and the mapping of a command, read and checked.
 ghost use Rattle.std.specs.Prelude.{◌≡◌, ◌≤◌, IfOk, IfErr, MatchResult};
-ghost use Rattle.eql_outside.specs.Faults.{SameFaults};
+ghost use Rattle.eql_outside.specs.Faults.{FaultsAreSame};
 ghost use Rattle.eql_query.specs.QueryTree.{query_tree};
 ghost use Rattle.eql_check.specs.Kinds.{kind_at};
 ghost use Rattle.eql_check.specs.Typing.{IsChecked};
 ghost use Rattle.eql_check.specs.Used.{used_fields};
-ghost use Rattle.eql_inputs.specs.Halts.{FaultsAs, CountAs, AbsenceAs, IsNoFault};
+ghost use Rattle.eql_inputs.specs.Halts.{FaultsFollow, CountFollows, AbsencesFollow, IsNoFault};
 ghost use Rattle.eql_inputs.specs.Shelves.{KeepsShelf, LendsAsMany, NeverFails};
-ghost use Rattle.eql_inputs.specs.Steps.{GotQuery, GotMapping, GotChecked, QueryCause, MappingCause, CheckCause, StopsChecking};
+ghost use Rattle.eql_inputs.specs.Steps.{GotQuery, GotMapping, GotChecked, HasQueryCause, HasMappingCause, HasCheckCause, StopsChecking};
 
 use crate::file::read_file;
 use crate::halt::Halt;
@@ -41,16 +41,16 @@ fn read_query<'a, H: Shelf>(
 ) -> Result<Query, Halt<'a>>
     ensures query { IfOk result
         (λ tree. GotQuery query.now (H.files shelf.old) (query_tree tree)) }
-    ensures cause { IfErr result (QueryCause query.now (H.files shelf.old)) }
+    ensures cause { IfErr result (HasQueryCause query.now (H.files shelf.old)) }
     ensures faults { MatchResult result
-        (λ _. SameFaults (H.faults_of shelf.old) (H.faults_of shelf.new))
-        (λ halt. FaultsAs halt (H.faults_of shelf.old) (H.faults_of shelf.new)) }
+        (λ _. FaultsAreSame (H.faults_of shelf.old) (H.faults_of shelf.new))
+        (λ halt. FaultsFollow halt (H.faults_of shelf.old) (H.faults_of shelf.new)) }
     ensures count { MatchResult result
         (λ _. H.fault_count shelf.new ≡ H.fault_count shelf.old)
-        (λ halt. CountAs halt (H.fault_count shelf.old) (H.fault_count shelf.new)) }
+        (λ halt. CountFollows halt (H.fault_count shelf.old) (H.fault_count shelf.new)) }
     ensures absences { MatchResult result
         (λ _. H.absent_count shelf.new ≡ H.absent_count shelf.old)
-        (λ halt. AbsenceAs halt (H.absent_count shelf.old) (H.absent_count shelf.new)) }
+        (λ halt. AbsencesFollow halt (H.absent_count shelf.old) (H.absent_count shelf.new)) }
     ensures counts { (H.fault_count shelf.old ≤ H.fault_count shelf.new)
         × (H.absent_count shelf.old ≤ H.absent_count shelf.new) }
     ensures kept { KeepsShelf H.files H.source_plans H.disk_history H.is_out H.disk_fault_count
@@ -72,16 +72,16 @@ fn read_mapping<'a, H: Shelf>(
 ) -> Result<Mapping, Halt<'a>>
     ensures mapping { IfOk result
         (λ mapping. GotMapping fields.now (H.files shelf.old) mapping) }
-    ensures cause { IfErr result (MappingCause fields.now (H.files shelf.old)) }
+    ensures cause { IfErr result (HasMappingCause fields.now (H.files shelf.old)) }
     ensures faults { MatchResult result
-        (λ _. SameFaults (H.faults_of shelf.old) (H.faults_of shelf.new))
-        (λ halt. FaultsAs halt (H.faults_of shelf.old) (H.faults_of shelf.new)) }
+        (λ _. FaultsAreSame (H.faults_of shelf.old) (H.faults_of shelf.new))
+        (λ halt. FaultsFollow halt (H.faults_of shelf.old) (H.faults_of shelf.new)) }
     ensures count { MatchResult result
         (λ _. H.fault_count shelf.new ≡ H.fault_count shelf.old)
-        (λ halt. CountAs halt (H.fault_count shelf.old) (H.fault_count shelf.new)) }
+        (λ halt. CountFollows halt (H.fault_count shelf.old) (H.fault_count shelf.new)) }
     ensures absences { MatchResult result
         (λ _. H.absent_count shelf.new ≡ H.absent_count shelf.old)
-        (λ halt. AbsenceAs halt (H.absent_count shelf.old) (H.absent_count shelf.new)) }
+        (λ halt. AbsencesFollow halt (H.absent_count shelf.old) (H.absent_count shelf.new)) }
     ensures counts { (H.fault_count shelf.old ≤ H.fault_count shelf.new)
         × (H.absent_count shelf.old ≤ H.absent_count shelf.new) }
     ensures kept { KeepsShelf H.files H.source_plans H.disk_history H.is_out H.disk_fault_count
@@ -124,16 +124,16 @@ pub fn read_checked<'a, H: Shelf>(
         (query_tree inputs.checked.query) inputs.mapping) }
     ensures fields { IfOk result (λ inputs. inputs.checked.fields
         ≡ used_fields (kind_at inputs.mapping) (query_tree inputs.checked.query)) }
-    ensures cause { IfErr result (CheckCause query.now fields.now (H.files shelf.old)) }
+    ensures cause { IfErr result (HasCheckCause query.now fields.now (H.files shelf.old)) }
     ensures faults { MatchResult result
-        (λ _. SameFaults (H.faults_of shelf.old) (H.faults_of shelf.new))
-        (λ halt. FaultsAs halt (H.faults_of shelf.old) (H.faults_of shelf.new)) }
+        (λ _. FaultsAreSame (H.faults_of shelf.old) (H.faults_of shelf.new))
+        (λ halt. FaultsFollow halt (H.faults_of shelf.old) (H.faults_of shelf.new)) }
     ensures count { MatchResult result
         (λ _. H.fault_count shelf.new ≡ H.fault_count shelf.old)
-        (λ halt. CountAs halt (H.fault_count shelf.old) (H.fault_count shelf.new)) }
+        (λ halt. CountFollows halt (H.fault_count shelf.old) (H.fault_count shelf.new)) }
     ensures absences { MatchResult result
         (λ _. H.absent_count shelf.new ≡ H.absent_count shelf.old)
-        (λ halt. AbsenceAs halt (H.absent_count shelf.old) (H.absent_count shelf.new)) }
+        (λ halt. AbsencesFollow halt (H.absent_count shelf.old) (H.absent_count shelf.new)) }
     ensures counts { (H.fault_count shelf.old ≤ H.fault_count shelf.new)
         × (H.absent_count shelf.old ≤ H.absent_count shelf.new) }
     ensures kept { KeepsShelf H.files H.source_plans H.disk_history H.is_out H.disk_fault_count

@@ -1,9 +1,9 @@
 //! Reading a file of the shelf, up to a number of bytes.
 ghost use Rattle.std.specs.Prelude.{◌≡◌, ◌≤◌, ◌<◌, IfOk, IfErr, MatchResult, length, string_bytes};
-ghost use Rattle.eql_outside.specs.Faults.{SameFaults};
+ghost use Rattle.eql_outside.specs.Faults.{FaultsAreSame};
 ghost use Rattle.eql_outside.specs.Unfailing.{IsUnfailing};
 ghost use Rattle.eql_inputs.specs.Fronts.{IsFrontOf, IsMissing};
-ghost use Rattle.eql_inputs.specs.Halts.{FaultsAs, CountAs, AbsenceAs, IsNoFault};
+ghost use Rattle.eql_inputs.specs.Halts.{FaultsFollow, CountFollows, AbsencesFollow, IsNoFault};
 ghost use Rattle.eql_inputs.specs.Shards.{IsWholeFile};
 ghost use Rattle.eql_inputs.specs.Shelves.{KeepsShelf, LendsAsMany, LendsMore, NeverFails};
 ghost use Rattle.eql_inputs.specs.Steps.{StopsReading};
@@ -27,14 +27,14 @@ pub(crate) fn open_file<'a, H: Shelf>(
     ensures cause { IfErr result
         (StopsReading name.now (IsMissing name.now (H.files shelf.old))) }
     ensures faults { MatchResult result
-        (λ _. SameFaults (H.faults_of shelf.old) (H.faults_of shelf.new))
-        (λ halt. FaultsAs halt (H.faults_of shelf.old) (H.faults_of shelf.new)) }
+        (λ _. FaultsAreSame (H.faults_of shelf.old) (H.faults_of shelf.new))
+        (λ halt. FaultsFollow halt (H.faults_of shelf.old) (H.faults_of shelf.new)) }
     ensures count { MatchResult result
         (λ _. H.fault_count shelf.new ≡ H.fault_count shelf.old)
-        (λ halt. CountAs halt (H.fault_count shelf.old) (H.fault_count shelf.new)) }
+        (λ halt. CountFollows halt (H.fault_count shelf.old) (H.fault_count shelf.new)) }
     ensures absences { MatchResult result
         (λ _. H.absent_count shelf.new ≡ H.absent_count shelf.old)
-        (λ halt. AbsenceAs halt (H.absent_count shelf.old) (H.absent_count shelf.new)) }
+        (λ halt. AbsencesFollow halt (H.absent_count shelf.old) (H.absent_count shelf.new)) }
     ensures counts { (H.fault_count shelf.old ≤ H.fault_count shelf.new)
         × (H.absent_count shelf.old ≤ H.absent_count shelf.new) }
     ensures kept { KeepsShelf H.files H.source_plans H.disk_history H.is_out H.disk_fault_count
@@ -70,14 +70,14 @@ pub fn read_file<'a, H: Shelf>(
     ensures cause { IfErr result
         (StopsReading name.now (IsMissing name.now (H.files shelf.old))) }
     ensures faults { MatchResult result
-        (λ _. SameFaults (H.faults_of shelf.old) (H.faults_of shelf.new))
-        (λ halt. FaultsAs halt (H.faults_of shelf.old) (H.faults_of shelf.new)) }
+        (λ _. FaultsAreSame (H.faults_of shelf.old) (H.faults_of shelf.new))
+        (λ halt. FaultsFollow halt (H.faults_of shelf.old) (H.faults_of shelf.new)) }
     ensures count { MatchResult result
         (λ _. H.fault_count shelf.new ≡ H.fault_count shelf.old)
-        (λ halt. CountAs halt (H.fault_count shelf.old) (H.fault_count shelf.new)) }
+        (λ halt. CountFollows halt (H.fault_count shelf.old) (H.fault_count shelf.new)) }
     ensures absences { MatchResult result
         (λ _. H.absent_count shelf.new ≡ H.absent_count shelf.old)
-        (λ halt. AbsenceAs halt (H.absent_count shelf.old) (H.absent_count shelf.new)) }
+        (λ halt. AbsencesFollow halt (H.absent_count shelf.old) (H.absent_count shelf.new)) }
     ensures counts { (H.fault_count shelf.old ≤ H.fault_count shelf.new)
         × (H.absent_count shelf.old ≤ H.absent_count shelf.new) }
     ensures kept { KeepsShelf H.files H.source_plans H.disk_history H.is_out H.disk_fault_count

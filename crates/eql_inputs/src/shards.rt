@@ -1,9 +1,9 @@
 //! The shards of a command, opened.
 ghost use Rattle.std.specs.Prelude.{◌≡◌, ◌≤◌, ◌-◌, [], All, IfOk, IfErr, IfSome, IsOk, MatchResult, Some, length, map, vec_capacity};
-ghost use Rattle.eql_outside.specs.Faults.{SameFaults};
+ghost use Rattle.eql_outside.specs.Faults.{FaultsAreSame};
 ghost use Rattle.eql_outside.specs.Unfailing.{IsUnfailing};
-ghost use Rattle.eql_inputs.specs.Halts.{FaultsAs, CountAs, AbsenceAs, IsNoFault};
-ghost use Rattle.eql_inputs.specs.Shards.{AreWholeFiles, ShardsCause};
+ghost use Rattle.eql_inputs.specs.Halts.{FaultsFollow, CountFollows, AbsencesFollow, IsNoFault};
+ghost use Rattle.eql_inputs.specs.Shards.{AreWholeFiles, HasShardsCause};
 ghost use Rattle.eql_inputs.specs.Shelves.{KeepsShelf, LendsAsMany, LendsMore, NeverFails};
 
 use crate::file::open_file;
@@ -15,7 +15,7 @@ use std::alloc::Global;
 /// Gives sources back that haven't failed.
 fn give_back<H: Shelf>(mut sources: Vec<H::Src>, shelf: &mut H)
     requires fresh { All (λ source. H.Src.fault_count source ≡ 0) sources.items }
-    ensures faults { SameFaults (H.faults_of shelf.old) (H.faults_of shelf.new) }
+    ensures faults { FaultsAreSame (H.faults_of shelf.old) (H.faults_of shelf.new) }
     ensures count { H.fault_count shelf.new ≡ H.fault_count shelf.old }
     ensures absences { H.absent_count shelf.new ≡ H.absent_count shelf.old }
     ensures kept { KeepsShelf H.files H.source_plans H.disk_history H.is_out H.disk_fault_count
@@ -46,16 +46,16 @@ fn open_all<'a, H: Shelf>(
     ensures named { IsOk result → map H.Src.lent_as sources.new.items
         ≡ map (λ name. Some name) shards.now }
     ensures fresh { All (λ source. H.Src.fault_count source ≡ 0) sources.new.items }
-    ensures cause { IfErr result (ShardsCause shards.now (H.files shelf.old)) }
+    ensures cause { IfErr result (HasShardsCause shards.now (H.files shelf.old)) }
     ensures faults { MatchResult result
-        (λ _. SameFaults (H.faults_of shelf.old) (H.faults_of shelf.new))
-        (λ halt. FaultsAs halt (H.faults_of shelf.old) (H.faults_of shelf.new)) }
+        (λ _. FaultsAreSame (H.faults_of shelf.old) (H.faults_of shelf.new))
+        (λ halt. FaultsFollow halt (H.faults_of shelf.old) (H.faults_of shelf.new)) }
     ensures count { MatchResult result
         (λ _. H.fault_count shelf.new ≡ H.fault_count shelf.old)
-        (λ halt. CountAs halt (H.fault_count shelf.old) (H.fault_count shelf.new)) }
+        (λ halt. CountFollows halt (H.fault_count shelf.old) (H.fault_count shelf.new)) }
     ensures absences { MatchResult result
         (λ _. H.absent_count shelf.new ≡ H.absent_count shelf.old)
-        (λ halt. AbsenceAs halt (H.absent_count shelf.old) (H.absent_count shelf.new)) }
+        (λ halt. AbsencesFollow halt (H.absent_count shelf.old) (H.absent_count shelf.new)) }
     ensures counts { (H.fault_count shelf.old ≤ H.fault_count shelf.new)
         × (H.absent_count shelf.old ≤ H.absent_count shelf.new) }
     ensures kept { KeepsShelf H.files H.source_plans H.disk_history H.is_out H.disk_fault_count
@@ -90,16 +90,16 @@ pub fn open_shards<'a, H: Shelf>(
         ≡ map (λ name. Some name) shards.now) }
     ensures fresh { IfOk result
         (λ sources. All (λ source. H.Src.fault_count source ≡ 0) sources.items) }
-    ensures cause { IfErr result (ShardsCause shards.now (H.files shelf.old)) }
+    ensures cause { IfErr result (HasShardsCause shards.now (H.files shelf.old)) }
     ensures faults { MatchResult result
-        (λ _. SameFaults (H.faults_of shelf.old) (H.faults_of shelf.new))
-        (λ halt. FaultsAs halt (H.faults_of shelf.old) (H.faults_of shelf.new)) }
+        (λ _. FaultsAreSame (H.faults_of shelf.old) (H.faults_of shelf.new))
+        (λ halt. FaultsFollow halt (H.faults_of shelf.old) (H.faults_of shelf.new)) }
     ensures count { MatchResult result
         (λ _. H.fault_count shelf.new ≡ H.fault_count shelf.old)
-        (λ halt. CountAs halt (H.fault_count shelf.old) (H.fault_count shelf.new)) }
+        (λ halt. CountFollows halt (H.fault_count shelf.old) (H.fault_count shelf.new)) }
     ensures absences { MatchResult result
         (λ _. H.absent_count shelf.new ≡ H.absent_count shelf.old)
-        (λ halt. AbsenceAs halt (H.absent_count shelf.old) (H.absent_count shelf.new)) }
+        (λ halt. AbsencesFollow halt (H.absent_count shelf.old) (H.absent_count shelf.new)) }
     ensures counts { (H.fault_count shelf.old ≤ H.fault_count shelf.new)
         × (H.absent_count shelf.old ≤ H.absent_count shelf.new) }
     ensures kept { KeepsShelf H.files H.source_plans H.disk_history H.is_out H.disk_fault_count

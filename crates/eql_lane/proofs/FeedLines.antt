@@ -7,7 +7,7 @@ use Rattle.eql_laws.specs.Places.{ends_line, is_line_end, lines_after}
 use Rattle.eql_laws.proofs.LineLemmas.{lines_go_on}
 use Rattle.eql_laws.proofs.Facts.{both_true, true_both}
 use Rattle.eql_lane.proofs.BufferLemmas.{one_on}
-use Rattle.eql_lane.specs.Buffers.{FeedAt, IsOneLine}
+use Rattle.eql_lane.specs.Buffers.{HasFeedAt, IsOneLine}
 
 -- ---- lines by any number and place
 abbrev bytes_in : Line → List ℕ
@@ -32,13 +32,13 @@ one_added : (k n : ℕ) → suc (k + n) ≡ suc k + n
 one_added k n = omega arith
 
 -- a line feed behind bytes that have none
-pub found_later : (k at : ℕ) (text : List ℕ) → k ≤ length text → IsOneLine (take k text) → FeedAt at (drop k text) → FeedAt (k + at) text
-found_later zero at text le one feed = subst (λ (n : ℕ). FeedAt n text) (none_added at) feed
+pub found_later : (k at : ℕ) (text : List ℕ) → k ≤ length text → IsOneLine (take k text) → HasFeedAt at (drop k text) → HasFeedAt (k + at) text
+found_later zero at text le one feed = subst (λ (n : ℕ). HasFeedAt n text) (none_added at) feed
 found_later (suc k) at [] le one feed = absurd (omega (arith, le))
 found_later (suc k) at (x ∷ text) le one feed =
     let both = both_true _ _ one in
     let m = found_later k at text (omega (arith, le)) both.1 feed in
-    subst (λ (n : ℕ). FeedAt n (x ∷ text)) (one_added k at) (record {
+    subst (λ (n : ℕ). HasFeedAt n (x ∷ text)) (one_added k at) (record {
       within = omega (arith, m.within);
       one = true_both _ _ both.0 m.one;
       parts = ap (λ (l : List ℕ). x ∷ l) m.parts;
@@ -53,8 +53,8 @@ pub behind : (k : ℕ) (rest unread : List ℕ) → rest ≡ unread → take (le
 behind k rest unread e = take_all (length rest - k) (drop k rest) (let a = length-drop k rest in omega (arith, a)) ∙ ap (drop k) e
 
 -- a line feed behind the first bytes, as a search from there finds it
-pub found_after : (k : ℕ) (rest unread : List ℕ) → rest ≡ unread → k ≤ length unread → IsOneLine (take k unread) → (at : ℕ) → FeedAt at (take (length rest - k) (drop k rest)) → FeedAt (k + at) unread
-found_after k rest unread e le one at feed = found_later k at unread le one (subst (FeedAt at) (behind k rest unread e) feed)
+pub found_after : (k : ℕ) (rest unread : List ℕ) → rest ≡ unread → k ≤ length unread → IsOneLine (take k unread) → (at : ℕ) → HasFeedAt at (take (length rest - k) (drop k rest)) → HasFeedAt (k + at) unread
+found_after k rest unread e le one at feed = found_later k at unread le one (subst (HasFeedAt at) (behind k rest unread e) feed)
 
 pub none_after : (k : ℕ) (rest unread : List ℕ) → rest ≡ unread → IsOneLine (take k unread) → IsOneLine (take (length rest - k) (drop k rest)) → IsOneLine unread
 none_after k rest unread e one more = none_later k unread one (subst IsOneLine (behind k rest unread e) more)

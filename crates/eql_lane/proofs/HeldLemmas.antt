@@ -36,7 +36,7 @@ use Rattle.eql_values.specs.Ascending.{Ascend}
 use Rattle.eql_lane.proofs.Starting.{sorted_pairs}
 use Rattle.eql_laws.proofs.Lists.{map_back}
 use Rattle.eql_laws.proofs.Sorting.{pair, back, bare, sorted_alike, sorted_more, find_more}
-use Rattle.eql_lane.specs.Holding.{Entries, items_in, LinesBelow, held_in, IsHeld, AreApart, is_run_first}
+use Rattle.eql_lane.specs.Holding.{Entries, items_in, LinesAreBelow, held_in, IsHeld, AreApart, is_run_first}
 use Rattle.eql_lane.proofs.StoreLemmas.{taken_out, sorted_again, none_there, one_more, insert_is_put, insert_keeps_order, by_order_below, of_place}
 
 abbrev Comes : OrderKey → Item → Type 0
@@ -119,7 +119,7 @@ all_more : (P : Item → Type 0) (run : List Item) (more : List Item) → All P 
 all_more P [] more all = all
 all_more P (x ∷ run) more all = all_more P run more (All-tail P x (run ++ more) all)
 
-lines_of_others : (n : ℕ) (es : Entries) → All (λ (i : Item). i.order.line < n) (items_in es) → LinesBelow n es
+lines_of_others : (n : ℕ) (es : Entries) → All (λ (i : Item). i.order.line < n) (items_in es) → LinesAreBelow n es
 lines_of_others n [] all = All-nil (λ (k : OrderKey). k.line < n)
 lines_of_others n (e ∷ es) all = All-cons (λ (k : OrderKey). k.line < n) e.0 (keys_of es) (All-head (λ (i : Item). i.order.line < n) (back e) (items_in es) all) (lines_of_others n es (All-tail (λ (i : Item). i.order.line < n) (back e) (items_in es) all))
 
@@ -138,7 +138,7 @@ bare_entries : (es : Entries) → map pair (items_in es) ≡ es
 bare_entries es = map_back pair back (λ e. refl) es
 
 -- the place of a new line is none of a lesser line
-new_place : (item : Item) (es : Entries) → LinesBelow item.order.line es → (q : OrderKey) → eq_by_cmp order_cmp q item.order ≡ true → find order_cmp q es ≡ None
+new_place : (item : Item) (es : Entries) → LinesAreBelow item.order.line es → (q : OrderKey) → eq_by_cmp order_cmp q item.order ≡ true → find order_cmp q es ≡ None
 new_place item es below q same =
     none_there item.order.line q es (let e : q.line ≡ item.order.line = ap (λ (k : OrderKey). k.line) (order_same q item.order (is_equal _ same)) in omega (arith, e)) below
 
@@ -146,7 +146,7 @@ module _ (run : List Item) (others : Entries) (item : Item) (is : IsHeld run oth
   each : All (λ (i : Item). i.order.line < item.order.line) (run ++ items_in others)
   each = all_each (λ (i : Item). i.order.line < item.order.line) run others is lines
 
-  below : LinesBelow item.order.line others
+  below : LinesAreBelow item.order.line others
   below = lines_of_others item.order.line others (all_more (λ (i : Item). i.order.line < item.order.line) run (items_in others) each)
 
   abbrev look : OrderKey → List Item → Option (List Route)

@@ -10,7 +10,7 @@ use Rattle.eql_laws.specs.Places.{ends_line}
 use Rattle.eql_lane.specs.Lanes.{Setting, LaneState, IsState, GoesOn, ReadsOn, read_on}
 use Rattle.eql_laws.specs.Counting.{first_or}
 use Rattle.eql_laws.proofs.LineLemmas.{lines_end_on}
-use Rattle.eql_lane.specs.Views.{LaneView, SameLane, setting_of}
+use Rattle.eql_lane.specs.Views.{IsSameLane, LaneView, setting_of}
 use Rattle.eql_lane.specs.Feeding.{ReadsAt}
 use Rattle.eql_lane.proofs.FeedLines.{lines_both}
 use Rattle.eql_lane.proofs.Reading.{read_both_on}
@@ -96,16 +96,16 @@ reads_at_join set a b c n m closed p q = record {
 
 -- ---- the lane stays the same
 module _ {S L : Type 0} (left lent_as : S → Option (List ℕ)) (read_of : L → Reads) where
-  pub same_self : (a : LaneView S L) → SameLane left lent_as read_of a a
+  pub same_self : (a : LaneView S L) → IsSameLane left lent_as read_of a a
   same_self a = record { shard = refl; slack = refl; reads = refl; places = refl; named = refl; silent = λ e. e }
 
-  pub same_both : (a b c : LaneView S L) → SameLane left lent_as read_of a b → SameLane left lent_as read_of b c → SameLane left lent_as read_of a c
+  pub same_both : (a b c : LaneView S L) → IsSameLane left lent_as read_of a b → IsSameLane left lent_as read_of b c → IsSameLane left lent_as read_of a c
   same_both a b c p q = record { shard = q.shard ∙ p.shard; slack = q.slack ∙ p.slack; reads = q.reads ∙ p.reads; places = q.places ∙ p.places; named = q.named ∙ p.named; silent = λ e. q.silent (p.silent e) }
 
-  pub setting_same : (text : Option (List ℕ)) (a b : LaneView S L) → SameLane left lent_as read_of a b → setting_of read_of text b ≡ setting_of read_of text a
+  pub setting_same : (text : Option (List ℕ)) (a b : LaneView S L) → IsSameLane left lent_as read_of a b → setting_of read_of text b ≡ setting_of read_of text a
   setting_same text a b s = λ i. record { text = text; shard = s.shard i; slack = s.slack i; reads = s.reads i }
 
-  module _ (text : Option (List ℕ)) (a x y : LaneView S L) (k : ℕ) (reads : ReadsAt (setting_of read_of text a) a.state k false x.state) (same : SameLane left lent_as read_of a x) where
+  module _ (text : Option (List ℕ)) (a x y : LaneView S L) (k : ℕ) (reads : ReadsAt (setting_of read_of text a) a.state k false x.state) (same : IsSameLane left lent_as read_of a x) where
     -- a step of this many lines goes on
     pub step_on : (m : ℕ) (closed : Bool) → ReadsAt (setting_of read_of text x) x.state m closed y.state → ReadsAt (setting_of read_of text a) a.state (k + m) closed y.state
     step_on m closed s =

@@ -17,7 +17,7 @@ use Rattle.std.proofs.lemmas.Cmp.{int_ranked}
 use Rattle.eql_laws.specs.Belows.{from_to}
 use Rattle.eql_laws.specs.Cuts.{held_back}
 use Rattle.eql_laws.specs.Lanes.{lane_at}
-use Rattle.eql_laws.specs.Lateness.{AtMost, best_of, best_from, accepted_by}
+use Rattle.eql_laws.specs.Lateness.{IsAtMost, best_of, best_from, accepted_by}
 use Rattle.eql_laws.specs.Places.{ReadTo, IsPlace, low_at, is_line_end, ends_line, lines_after}
 use Rattle.eql_laws.proofs.Handing.{held_back_grows, take_splits, late_between}
 use Rattle.eql_laws.proofs.SafePlaces.{readable_goes_on}
@@ -52,14 +52,14 @@ line_end_on a [] (y ∷ c) h e = subst (λ (l : List ℕ). IsTrue (ends_line l))
 line_end_on a (x ∷ b) (y ∷ c) h e = ends_last a x b e
 
 -- ---- held
-module _ (set : Setting) (mark : Mark) (place : ReadTo) (is_place : IsPlace place) (safe : AtMost mark (low_at set.reads set.slack set.shard place)) where
+module _ (set : Setting) (mark : Mark) (place : ReadTo) (is_place : IsPlace place) (safe : IsAtMost mark (low_at set.reads set.slack set.shard place)) where
   held_more : (more rest : List ℕ) → place.rest ≡ more ++ rest → (closed : Bool) → place.closed ≡ closed
       → held_back set.reads set.slack set.shard (place.first ++ more) mark
       ≡ sorted_items (held_back set.reads set.slack set.shard place.first mark ++ accepted_by set.slack (best_of (readable set.reads set.shard (lines_in place.first))) (readable set.reads set.shard (lines_after place.first more)))
   held_more more rest parts false is_open =
       held_back_grows set.reads set.slack set.shard place.first more mark
       (line_end_front place.first more rest (subst (λ (l : List ℕ). IsTrue (is_line_end place.first l)) parts is_place.line_end))
-      (subst (λ (c : Bool). AtMost mark (low_of c set.slack (best_of (readable set.reads set.shard (lines_in place.first))))) is_open safe)
+      (subst (λ (c : Bool). IsAtMost mark (low_of c set.slack (best_of (readable set.reads set.shard (lines_in place.first))))) is_open safe)
   held_more [] rest parts true was =
       ap (λ (l : List ℕ). held_back set.reads set.slack set.shard l mark) (append-nil place.first)
       ∙ ap sorted_items (sym (append-nil (filter (λ item. not (is_below mark item)) (accepted set.reads set.slack set.shard place.first))))
@@ -67,14 +67,14 @@ module _ (set : Setting) (mark : Mark) (place : ReadTo) (is_place : IsPlace plac
   held_more (x ∷ more) rest parts true was = let e = sym parts ∙ is_place.at_end was in cc
 
   safe_more : (more : List ℕ) (closed now : Bool) → place.closed ≡ closed → (closed ≡ true → now ≡ true) → IsTrue (is_line_end place.first more)
-      → AtMost mark (low_of now set.slack (best_of (readable set.reads set.shard (lines_in (place.first ++ more)))))
-  safe_more more true now was up line_end = subst (λ (c : Bool). AtMost mark (low_of c set.slack (best_of (readable set.reads set.shard (lines_in (place.first ++ more)))))) (sym (up refl)) (at_most_end mark)
+      → IsAtMost mark (low_of now set.slack (best_of (readable set.reads set.shard (lines_in (place.first ++ more)))))
+  safe_more more true now was up line_end = subst (λ (c : Bool). IsAtMost mark (low_of c set.slack (best_of (readable set.reads set.shard (lines_in (place.first ++ more)))))) (sym (up refl)) (at_most_end mark)
   safe_more more false now was up line_end =
       let best : Option ℤ = best_of (readable set.reads set.shard (lines_in place.first)) in
       let b : List Item = readable set.reads set.shard (lines_after place.first more) in
-      subst (λ (o : Option ℤ). AtMost mark (low_of now set.slack o)) (sym (ap best_of (readable_goes_on set.reads set.shard place.first more line_end) ∙ (best_goes_on (readable set.reads set.shard (lines_in place.first)) b).0))
+      subst (λ (o : Option ℤ). IsAtMost mark (low_of now set.slack o)) (sym (ap best_of (readable_goes_on set.reads set.shard place.first more line_end) ∙ (best_goes_on (readable set.reads set.shard (lines_in place.first)) b).0))
       (at_most_trans mark (low_of false set.slack best) (low_of now set.slack (best_from best b))
-      (subst (λ (c : Bool). AtMost mark (low_of c set.slack best)) was safe) (low_rises now set.slack best b))
+      (subst (λ (c : Bool). IsAtMost mark (low_of c set.slack best)) was safe) (low_rises now set.slack best b))
 
   cut_more : (more rest : List ℕ) → place.rest ≡ more ++ rest → (now : Bool)
       → ◌≡◌ {A = LaneCut} (record (read_on set (lane_at set.reads set.slack set.shard mark place) more) { closed = now }) (lane_at set.reads set.slack set.shard mark (record { first = place.first ++ more; rest = rest; closed = now }))
@@ -111,7 +111,7 @@ reads_keep set text mark old n new e up r is =
         at_end = goes.at_end;
       };
       cut = r.cut ∙ ap (λ (cut : LaneCut). let c : LaneCut = record (read_on set cut r.more) { closed = new.cut.closed } in c) is.cut ∙ cut_more set mark place is.is_place is.safe r.more goes.rest parts new.cut.closed;
-      given = subst (λ (m : Mark). AtMost m mark) (sym r.given) is.given;
+      given = subst (λ (m : Mark). IsAtMost m mark) (sym r.given) is.given;
       safe = safe_more set mark place is.is_place is.safe r.more place.closed new.cut.closed refl
           (λ was. up (ap (λ (cut : LaneCut). cut.closed) is.cut ∙ was)) (line_end_front place.first r.more goes.rest line_end);
     }
@@ -139,13 +139,13 @@ below_after t u Less e h = cc
 below_after t u Equal e h = cc
 below_after t u Greater e h = let k = int_ranked t u Greater e in omega (arith, ints, k)
 
-at_most_start : (m : Mark) → AtMost Start m
+at_most_start : (m : Mark) → IsAtMost Start m
 at_most_start Start = refl
 at_most_start (At t) = refl
 at_most_start End = refl
 
 -- one of two marks is at most the other
-at_most_other : (m n : Mark) → is_le (mark_cmp m n) ≡ false → AtMost n m
+at_most_other : (m n : Mark) → is_le (mark_cmp m n) ≡ false → IsAtMost n m
 at_most_other m Start h = at_most_start m
 at_most_other (At t) (At u) h = at_most_times u t (below_after t u (int_cmp t u) refl h)
 at_most_other End (At u) h = refl
@@ -154,12 +154,12 @@ at_most_other Start (At u) h = cc
 at_most_other Start End h = cc
 at_most_other (At t) End h = cc
 
-lesser_low : (a b : Mark) (c : Bool) → is_le (mark_cmp a b) ≡ c → AtMost (cond c a b) b
+lesser_low : (a b : Mark) (c : Bool) → is_le (mark_cmp a b) ≡ c → IsAtMost (cond c a b) b
 lesser_low a b true h = h
 lesser_low a b false h = at_most_self b
 
 -- nothing from one mark on lies below a lesser one
-none_between : (from to : Mark) (items : List Item) → AtMost to from → from_to from to items ≡ []
+none_between : (from to : Mark) (items : List Item) → IsAtMost to from → from_to from to items ≡ []
 none_between from to [] le = refl
 none_between from to (item ∷ items) le = one (is_below from item) (is_below to item) refl refl (none_between from to items le)
   where
@@ -169,7 +169,7 @@ none_between from to (item ∷ items) le = one (is_below from item) (is_below to
     one false false e f h = ap (λ (d : Bool). cond d (item ∷ from_to from to items) (from_to from to items)) f ∙ h
 
 -- of items from one mark on none is left out by a lesser one
-all_from : (from to : Mark) (items : List Item) → AtMost to from → filter (λ item. not (is_below to item)) (filter (λ item. not (is_below from item)) items) ≡ filter (λ item. not (is_below from item)) items
+all_from : (from to : Mark) (items : List Item) → IsAtMost to from → filter (λ item. not (is_below to item)) (filter (λ item. not (is_below from item)) items) ≡ filter (λ item. not (is_below from item)) items
 all_from from to items le = filter_implied (λ item. not (is_below to item)) (λ item. not (is_below from item)) (λ item h. not_up item (is_below from item) (is_below to item) refl refl h) items
   where
     not_up : (item : Item) (b c : Bool) → is_below from item ≡ b → is_below to item ≡ c → not (is_below from item) ≡ true → not (is_below to item) ≡ true
@@ -177,17 +177,17 @@ all_from from to items le = filter_implied (λ item. not (is_below to item)) (λ
     not_up item true true e f h = let a = sym (ap not e) ∙ h in cc
     not_up item false true e f h = let a = sym e ∙ below_up to from item le f in cc
 
-greater_up : (a b c : Mark) → AtMost a b → AtMost (greater a c) (greater b c)
+greater_up : (a b c : Mark) → IsAtMost a b → IsAtMost (greater a c) (greater b c)
 greater_up a b c h = by_order (is_le (mark_cmp a c)) (is_le (mark_cmp b c)) refl refl
   where
-    by_order : (d e : Bool) → is_le (mark_cmp a c) ≡ d → is_le (mark_cmp b c) ≡ e → AtMost (cond d c a) (cond e c b)
+    by_order : (d e : Bool) → is_le (mark_cmp a c) ≡ d → is_le (mark_cmp b c) ≡ e → IsAtMost (cond d c a) (cond e c b)
     by_order true true f g = at_most_self c
     by_order true false f g = at_most_other b c g
     by_order false true f g = at_most_trans a b c h g
     by_order false false f g = h
 
 module _ (set : Setting) (text : List ℕ) (from : Mark) (old : LaneState) (items : List Item) (new : LaneState) (is : LaneIs set text from old) (bound : Mark) (step : Takes old bound items new)
-    (safe : AtMost bound (low_at set.reads set.slack set.shard is.place)) where
+    (safe : IsAtMost bound (low_at set.reads set.slack set.shard is.place)) where
   abbrev place : ReadTo
   place = is.place
 
@@ -201,15 +201,15 @@ module _ (set : Setting) (text : List ℕ) (from : Mark) (old : LaneState) (item
   handed_is : items ≡ sorted_items (from_to from bound (accepted set.reads set.slack set.shard place.first))
   handed_is = step.items_are ∙ ap (filter (is_below bound)) held_is ∙ (sorted_below bound kept).0
 
-  given_is : AtMost new.given (greater from bound)
-  given_is = subst (λ (m : Mark). AtMost m (greater from bound)) (sym step.given) (greater_up old.given from bound is.given)
+  given_is : IsAtMost new.given (greater from bound)
+  given_is = subst (λ (m : Mark). IsAtMost m (greater from bound)) (sym step.given) (greater_up old.given from bound is.given)
 
   cut_is : (rest : List Item) → filter (λ item. not (is_below bound item)) (held_back set.reads set.slack set.shard place.first from) ≡ rest
       → ◌≡◌ {A = LaneCut} new.cut (record (lane_at set.reads set.slack set.shard from place) { items = rest })
   cut_is rest e = step.cut ∙ (λ i. let c : LaneCut = record (is.cut i) { items = filter (λ item. not (is_below bound item)) (held_is i) } in c)
       ∙ (λ i. let c : LaneCut = record (lane_at set.reads set.slack set.shard from place) { items = e i } in c)
 
-  taken_on : AtMost from bound → HandsOut set text from bound items new
+  taken_on : IsAtMost from bound → HandsOut set text from bound items new
   taken_on le =
       let splits = take_splits set.reads set.slack set.shard place.first from bound le in
       let mark : greater from bound ≡ bound = ap (λ (c : Bool). cond c bound from) le in
@@ -222,13 +222,13 @@ module _ (set : Setting) (text : List ℕ) (from : Mark) (old : LaneState) (item
           is_place = is.is_place;
           cut = cut_is (held_back set.reads set.slack set.shard place.first bound) splits.held ∙ ap (λ (m : Mark). lane_at set.reads set.slack set.shard m place) (sym mark);
           given = given_is;
-          safe = subst (λ (m : Mark). AtMost m (low_at set.reads set.slack set.shard place)) (sym mark) safe;
+          safe = subst (λ (m : Mark). IsAtMost m (low_at set.reads set.slack set.shard place)) (sym mark) safe;
         };
       }
 
   taken_none : is_le (mark_cmp from bound) ≡ false → HandsOut set text from bound items new
   taken_none more =
-      let le : AtMost bound from = at_most_other from bound more in
+      let le : IsAtMost bound from = at_most_other from bound more in
       let mark : greater from bound ≡ from = ap (λ (c : Bool). cond c bound from) more in
       record {
         items_are = handed_is ∙ ap sorted_items (none_between from bound (accepted set.reads set.slack set.shard place.first) le ∙ sym (none_between from bound (accepted set.reads set.slack set.shard text) le));
@@ -239,7 +239,7 @@ module _ (set : Setting) (text : List ℕ) (from : Mark) (old : LaneState) (item
           cut = cut_is (held_back set.reads set.slack set.shard place.first from) ((sorted_below bound kept).1 ∙ ap sorted_items (all_from from bound (accepted set.reads set.slack set.shard place.first) le))
               ∙ ap (λ (m : Mark). lane_at set.reads set.slack set.shard m place) (sym mark);
           given = given_is;
-          safe = subst (λ (m : Mark). AtMost m (low_at set.reads set.slack set.shard place)) (sym mark) is.safe;
+          safe = subst (λ (m : Mark). IsAtMost m (low_at set.reads set.slack set.shard place)) (sym mark) is.safe;
         };
       }
 
@@ -252,7 +252,7 @@ take_keeps set text from mark old items new step is =
     let bound : Mark = lesser mark (low set old) in
     let low_is : low set old ≡ low_at set.reads set.slack set.shard is.place = ap (λ (cut : LaneCut). low_of cut.closed set.slack cut.best) is.cut in
     taken_either set text from old items new is bound step
-    (subst (AtMost bound) low_is (lesser_low mark (low set old) (is_le (mark_cmp mark (low set old))) refl))
+    (subst (IsAtMost bound) low_is (lesser_low mark (low set old) (is_le (mark_cmp mark (low set old))) refl))
     (is_le (mark_cmp from bound)) refl
 
 -- ---- the start
@@ -260,7 +260,7 @@ from_start_of : (text : List ℕ) → IsTrue (is_line_end [] text)
 from_start_of [] = refl
 from_start_of (x ∷ text) = refl
 
-start_low : (slack : Option ℤ) → AtMost Start (low_of false slack None)
+start_low : (slack : Option ℤ) → IsAtMost Start (low_of false slack None)
 start_low slack = at_most_start (low_of false slack None)
 
 pub cuts_begin : CutsBegin

@@ -18,7 +18,7 @@ use Rattle.eql_values.specs.declared.order.OrderKey.{OrderKey}
 use Rattle.eql_values.specs.declared.item.Item.{Item}
 use Rattle.eql_values.specs.declared.cut.LaneCut.{LaneCut}
 use Rattle.eql_values.specs.Accepted.{placed_at}
-use Rattle.eql_values.specs.Ascending.{Ascend, AllAfter}
+use Rattle.eql_values.specs.Ascending.{Ascend, AllAreAfter}
 use Rattle.eql_values.specs.OrderKeys.{order_cmp, tie_cmp}
 use Rattle.eql_lane.specs.Noting.{line_place, placed_lines, placed_item, placed_cut, place_noted, item_noted, LinesAscend, IsUnplaced}
 use Rattle.eql_lane.specs.Starts.{MayBegin, MayLift}
@@ -70,7 +70,7 @@ more_apart a line more is = let tied : nat_cmp a line ≡ Equal = ap (nat_cmp a)
 nat_same : (m n : ℕ) → nat_cmp m n ≡ Equal → m ≡ n
 nat_same m n is = grind arith
 
--- what a binary search answers
+-- what a binary search returns
 pub searched_none : (places : List (ℕ × ℕ)) (line i : ℕ) → LinesAscend places
     → (IsNonDecreasingBy (λ (y : ℕ × ℕ). ordering_index (nat_cmp y.0 line)) places → IsPartitionPoint (λ (y : ℕ × ℕ). nat_cmp y.0 line ≡ Less) (λ (y : ℕ × ℕ). nat_cmp y.0 line ≡ Greater) places i)
     → place_noted places line ≡ 0
@@ -133,7 +133,7 @@ module _ (first : List ℕ) where
       then_alike (nat_cmp a.shard b.shard) _ _ (λ shards.
       then_alike (nat_cmp a.line b.line) _ _ (λ lines. places_tie a b az bz lines))))
 
-  after_up : (o : OrderKey) (items : List Item) → o.at ≡ 0 → IsUnplaced items → AllAfter o items → AllAfter (order_of o) (map (placed_item first) items)
+  after_up : (o : OrderKey) (items : List Item) → o.at ≡ 0 → IsUnplaced items → AllAreAfter o items → AllAreAfter (order_of o) (map (placed_item first) items)
   after_up o [] oz none up = tt
   after_up o (x ∷ items) oz none up = (
     order_alike o x.order oz (All-head (λ (i : Item). i.order.at ≡ 0) x items none) ∙ up.0,

@@ -14,8 +14,8 @@ use Rattle.eql_laws.specs.Places.{ends_line, is_line_end, lines_after}
 use Rattle.eql_laws.proofs.Facts.{both_true}
 use Rattle.eql_laws.proofs.LineLemmas.{lines_go_on, line_by_line, lines_are_one}
 use Rattle.std.proofs.Math.Seq.{take-add}
-use Rattle.eql_lane.specs.Buffers.{IsOneLine, FeedAt}
-use Rattle.eql_lane.specs.Noting.{place_among, line_place, placed_lines, whole_lines, IsWholeLine, Locates, IsMissing, Noted, is_line, is_cut, at_hand, last_line, line_ended, IsAtHand, AtHand, NotesOf}
+use Rattle.eql_lane.specs.Buffers.{IsOneLine, HasFeedAt}
+use Rattle.eql_lane.specs.Noting.{place_among, line_place, placed_lines, whole_lines, IsWholeLine, Locates, IsMissing, Noted, is_line, is_cut, at_hand, last_line, line_ended, IsAtHand, NextIsAtHand, NotesOf}
 use Rattle.eql_lane.proofs.BufferLemmas.{one_on}
 use Rattle.eql_lane.proofs.FeedLines.{ends_before, lines_both, behind}
 
@@ -87,7 +87,7 @@ pub rest_rises : (n : ℕ) (ns : List ℕ) → AllPairs (λ (a b : ℕ). a < b) 
 rest_rises n ns rises i j d less lt = rises (suc i) (suc j) d (omega (arith, less)) (omega (arith, lt))
 
 -- ---- the start
-start_hand : (left : List ℕ) (x : Noted) → x.line ≡ 1 → x.at ≡ 0 → AtHand [] [] left x
+start_hand : (left : List ℕ) (x : Noted) → x.line ≡ 1 → x.at ≡ 0 → NextIsAtHand [] [] left x
 start_hand [] x line at = tt
 start_hand (zero ∷ left) x line at = record { one = refl; line = line; at = at; next_is = inl refl }
 start_hand (suc n ∷ left) x line at = record { one = refl; line = line; at = at; next_is = inr (omega (arith, line)) }
@@ -202,7 +202,7 @@ module _ (x : Noted) (front line : List ℕ) (count : ℕ) (one : IsOneLine line
       at_is : x.passed + count ≡ length all
       at_is = front_length passed ∙ ap length all_parts ∙ ap length (append-nil all)
 
-      hand_on : (left : List ℕ) → ((n : ℕ) (ns : List ℕ) → left ≡ n ∷ ns → (n ≡ 0) ⊎ (x.line + 1 ≤ n)) → AtHand all [] left (line_ended x count)
+      hand_on : (left : List ℕ) → ((n : ℕ) (ns : List ℕ) → left ≡ n ∷ ns → (n ≡ 0) ⊎ (x.line + 1 ≤ n)) → NextIsAtHand all [] left (line_ended x count)
       hand_on [] later = tt
       hand_on (n ∷ ns) later = record { one = refl; line = line_is; at = at_is; next_is = later n ns refl }
 
@@ -247,7 +247,7 @@ module _ (x : Noted) (front line : List ℕ) (count : ℕ) (one : IsOneLine line
       line_by true same = line_wanted same
       line_by false other = line_passed other
 
-    line_any : (left : List ℕ) → x.wanted ≡ noted ++ left → AllPairs (λ (a b : ℕ). a < b) left → AtHand whole more left x → NotesOf longer_front (line_ended x count)
+    line_any : (left : List ℕ) → x.wanted ≡ noted ++ left → AllPairs (λ (a b : ℕ). a < b) left → NextIsAtHand whole more left x → NotesOf longer_front (line_ended x count)
     line_any [] wanted rises hand = line_unwanted wanted
     line_any (next ∷ left) wanted rises hand = line_by next left wanted rises hand (next == x.line) refl
 
@@ -256,8 +256,8 @@ module _ (x : Noted) (front line : List ℕ) (count : ℕ) (one : IsOneLine line
   line_noted n = line_any n.whole n.more n.noted n.parts n.ends n.passed n.there n.places n.left n.wanted n.rises n.hand
 
 -- further bytes of the line at hand
-more_hand : (whole more left bytes : List ℕ) (x : Noted) (passed : ℕ) → IsOneLine bytes ⊎ (slice_get left 0 ≡ None) → AtHand whole more left x
-    → AtHand whole (more ++ bytes) left (record { wanted = x.wanted; line = x.line; at = x.at; passed = passed; places = x.places })
+more_hand : (whole more left bytes : List ℕ) (x : Noted) (passed : ℕ) → IsOneLine bytes ⊎ (slice_get left 0 ≡ None) → NextIsAtHand whole more left x
+    → NextIsAtHand whole (more ++ bytes) left (record { wanted = x.wanted; line = x.line; at = x.at; passed = passed; places = x.places })
 more_hand whole more [] bytes x passed one hand = tt
 more_hand whole more (next ∷ left) bytes x passed (inl one) hand = record { one = one_on more bytes hand.one one; line = hand.line; at = hand.at; next_is = hand.next_is }
 more_hand whole more (next ∷ left) bytes x passed (inr none) hand = cc
@@ -289,16 +289,16 @@ drop_front a b n e = ap (λ (k : ℕ). drop k (a ++ b)) e ∙ behind a b
     behind [] b = refl
     behind (x ∷ a) b = behind a b
 
-pub take_line : (end : ℕ) (bytes : List ℕ) → FeedAt end bytes → take (end + 1) bytes ≡ take end bytes ++ 10 ∷ []
+pub take_line : (end : ℕ) (bytes : List ℕ) → HasFeedAt end bytes → take (end + 1) bytes ≡ take end bytes ++ 10 ∷ []
 take_line end bytes feed =
     let count : end ≡ length (take end bytes) = sym (length-take-le end bytes (omega (arith, feed.within))) in
     take-add end 1 bytes ∙ ap (λ (l : List ℕ). take end bytes ++ take 1 l) (ap (drop end) feed.parts ∙ drop_front (take end bytes) (10 ∷ drop (suc end) bytes) end count)
 
 -- one more line was passed over
-pub pass_line : (x : Noted) (front bytes : List ℕ) (from end : ℕ) → FeedAt end (take (length bytes - from) (drop from bytes)) → NotesOf (front ++ take from bytes) x
+pub pass_line : (x : Noted) (front bytes : List ℕ) (from end : ℕ) → HasFeedAt end (take (length bytes - from) (drop from bytes)) → NotesOf (front ++ take from bytes) x
     → NotesOf (front ++ take (from + (end + 1)) bytes) (line_ended x (end + 1))
 pass_line x front bytes from end found n =
-    let feed : FeedAt end (drop from bytes) = subst (FeedAt end) (behind from bytes bytes refl) found in
+    let feed : HasFeedAt end (drop from bytes) = subst (HasFeedAt end) (behind from bytes bytes refl) found in
     let line : List ℕ = take end (drop from bytes) in
     let count : end + 1 ≡ length line + 1 = let a = length-take-le end (drop from bytes) (omega (arith, feed.within)) in omega (arith, a) in
     subst (λ (l : List ℕ). NotesOf l (line_ended x (end + 1)))
@@ -587,7 +587,7 @@ module _ (x : Noted) (front rest whole more noted : List ℕ) (parts : front ≡
           | inr some ↦ count_cut whole more rest ends hand.one some further
         ]
 
-  finished_any : (left : List ℕ) → x.wanted ≡ noted ++ left → AllPairs (λ (a b : ℕ). a < b) left → AtHand whole more left x → (ended ≡ true → rest ≡ [])
+  finished_any : (left : List ℕ) → x.wanted ≡ noted ++ left → AllPairs (λ (a b : ℕ). a < b) left → NextIsAtHand whole more left x → (ended ≡ true → rest ≡ [])
       → (next : Option ℕ) → next ≡ slice_get x.wanted (length (x.places ++ last_line ended x)) → Finished front rest x ended next (x.places ++ last_line ended x)
   finished_any [] wanted rises hand at_end = finished_all wanted
   finished_any (line ∷ left) wanted rises hand at_end = finished_by line left wanted rises hand ended (nat_lt x.at x.passed) (line == x.line) refl refl refl at_end

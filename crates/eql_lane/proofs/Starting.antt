@@ -7,7 +7,7 @@ use Rattle.std.specs.FinMap.Entries.{below_all, is_sorted}
 use Rattle.std.proofs.lemmas.List.{drop-drop}
 use Rattle.eql_values.specs.declared.order.OrderKey.{OrderKey}
 use Rattle.eql_values.specs.declared.item.Item.{Item}
-use Rattle.eql_values.specs.Ascending.{Ascend, AllAfter}
+use Rattle.eql_values.specs.Ascending.{Ascend, AllAreAfter}
 use Rattle.eql_values.specs.OrderKeys.{order_cmp}
 use Rattle.eql_laws.proofs.Facts.{true_both}
 use Rattle.eql_lane.specs.Holding.{pair}
@@ -37,7 +37,7 @@ end_rest (Some t) p n h k =
 is_below_key : (a b : OrderKey) → order_cmp a b ≡ Less → IsTrue (is_lt (order_cmp a b))
 is_below_key a b h = ap is_lt h
 
-after_all : (a : OrderKey) (items : List Item) → AllAfter a items → IsTrue (below_all order_cmp a (map pair items))
+after_all : (a : OrderKey) (items : List Item) → AllAreAfter a items → IsTrue (below_all order_cmp a (map pair items))
 after_all a [] h = refl
 after_all a (item ∷ items) h = true_both _ _ (is_below_key a item.order h.0) (after_all a items h.1)
 

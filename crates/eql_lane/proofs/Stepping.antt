@@ -18,9 +18,9 @@ use Rattle.eql_lane.specs.declared.buffer.FillRefused.{FillRefused}
 use Rattle.eql_lane.specs.declared.buffer.FillRefused.TheVariants as fill_refused
 use Rattle.eql_lane.specs.declared.step.Step.{Step}
 use Rattle.eql_lane.specs.declared.step.Step.TheVariants as step
-use Rattle.eql_lane.specs.Buffers.{Pending, Stands, FeedAt, IsFront, IsOneLine, seen, byte_count, FillsBuffer, NextOf}
+use Rattle.eql_lane.specs.Buffers.{Pending, Stands, HasFeedAt, IsFront, IsOneLine, seen, byte_count, FillsBuffer, IsNextOf}
 use Rattle.eql_lane.specs.Judging.{got_on, late_got, counts_got, held_got}
-use Rattle.eql_lane.specs.Lanes.{Setting, LaneState, IsState, GoesOn, ReadsOn, OutOfLines, read_on}
+use Rattle.eql_lane.specs.Lanes.{Setting, LaneState, IsState, GoesOn, ReadsOn, IsOutOfLines, read_on}
 use Rattle.eql_lane.specs.Views.{AreAtHand, IsTextAt, IsLane}
 use Rattle.eql_lane.specs.Feeding.{TookBytes, StepIs, line_step, end_step}
 use Rattle.eql_lane.proofs.BufferLemmas.{one_on}
@@ -157,7 +157,7 @@ module _ (text left : Option (List ℕ)) (buffer : Pending) (cut : LaneCut) (tak
   swapped n = omega arith
 
   -- a line with its line feed
-  module _ (given : Mark) (faults : ℕ) (is_open : cut.closed ≡ false) (end : ℕ) (feed : FeedAt end buffer.unread) (fewer : cut.counts.lines < greatest_lines) where
+  module _ (given : Mark) (faults : ℕ) (is_open : cut.closed ≡ false) (end : ℕ) (feed : HasFeedAt end buffer.unread) (fewer : cut.counts.lines < greatest_lines) where
     abbrev line : List ℕ
     line = is.stands.front ++ take end buffer.unread
 
@@ -243,7 +243,7 @@ module _ (text left : Option (List ℕ)) (buffer : Pending) (cut : LaneCut) (tak
 
   -- a byte of a further line is there
   pub out_of_lines : (given : Mark) (faults : ℕ) (b : Pending) → Stands b is.pending → 0 < byte_count b → cut.counts.lines ≡ greatest_lines
-      → OutOfLines set (record { cut = cut; taken = taken; given = given; faults = faults })
+      → IsOutOfLines set (record { cut = cut; taken = taken; given = given; faults = faults })
   out_of_lines given faults b s some all = record { lines = all; byte = let a = is.count in let c = stands_count b is.pending s in omega (arith, a, c, some) }
 
   -- nothing was read
@@ -339,11 +339,11 @@ module _ (text left : Option (List ℕ)) (buffer : Pending) (cut : LaneCut) (tak
 
 -- ---- bytes that were taken
 told_more : (text left now : Option (List ℕ)) (offset taken n : ℕ) (pending piece : List ℕ) → length piece ≡ n
-    → IfSome left (λ l. NextOf l now piece) → IfSome text (λ t. AreAtHand t left offset taken pending) → IfSome text (λ t. AreAtHand t now offset (taken + n) (pending ++ piece))
+    → IfSome left (λ l. IsNextOf l now piece) → IfSome text (λ t. AreAtHand t left offset taken pending) → IfSome text (λ t. AreAtHand t now offset (taken + n) (pending ++ piece))
 told_more None left now offset taken n pending piece count next told = tt
 told_more (Some t) left now offset taken n pending piece count next told =
-    let P : Option (List ℕ) → Type 0 = λ o. IfSome o (λ l. NextOf l now piece) in
-    let there : NextOf (drop taken t) now piece = subst P told.left_is next in
+    let P : Option (List ℕ) → Type 0 = λ o. IfSome o (λ l. IsNextOf l now piece) in
+    let there : IsNextOf (drop taken t) now piece = subst P told.left_is next in
     let dropped : drop (length piece) (drop taken t) ≡ drop (taken + n) t = drop-drop (length piece) taken t ∙ ap (λ (k : ℕ). drop (taken + k) t) count in
     record {
       parts = told.parts

@@ -28,7 +28,7 @@ use Rattle.eql_values.proofs.InOrder.{is_in_order}
 use Rattle.eql_laws.proofs.Facts.{is_equal, holds_true, both_true, is_less}
 use Rattle.eql_laws.proofs.Lists.{map_back}
 use Rattle.eql_laws.proofs.Sorting.{Entry, pair, back, bare, filter_back}
-use Rattle.eql_lane.specs.Holding.{Entries, items_in, LinesBelow}
+use Rattle.eql_lane.specs.Holding.{Entries, items_in, LinesAreBelow}
 
 true_there : (b : Bool) → b ≡ true → T b
 true_there b h = subst T (sym h) tt
@@ -60,7 +60,7 @@ not_there n q e o true h le lt none =
     let line : q.line ≡ e.0.line = ap (λ (k : OrderKey). k.line) (order_same q e.0 (is_equal _ h)) in absurd (omega arith)
 not_there n q e o false h le lt none = none
 
-pub none_there : (n : ℕ) (q : OrderKey) (es : Entries) → n ≤ q.line → LinesBelow n es → find order_cmp q es ≡ None
+pub none_there : (n : ℕ) (q : OrderKey) (es : Entries) → n ≤ q.line → LinesAreBelow n es → find order_cmp q es ≡ None
 none_there n q [] le below = refl
 none_there n q (e ∷ es) le below =
     not_there n q e (find order_cmp q es) (eq_by_cmp order_cmp q e.0) refl le (All-head (λ (k : OrderKey). k.line < n) e.0 (keys_of es) below)

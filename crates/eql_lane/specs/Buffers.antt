@@ -47,7 +47,7 @@ pub record Stands (buffer : Pending) (bytes : List ℕ) : Type 0 where
   pub parts : bytes ≡ front ++ buffer.unread
 
 -- of what a source had left, these are the first bytes, and it has the others left now
-pub record NextOf (left : List ℕ) (now : Option (List ℕ)) (piece : List ℕ) : Type 0 where
+pub record IsNextOf (left : List ℕ) (now : Option (List ℕ)) (piece : List ℕ) : Type 0 where
   pub there : length piece ≤ length left
   pub piece_is : piece ≡ take (length piece) left
   pub now_is : now ≡ Some (drop (length piece) left)
@@ -56,11 +56,11 @@ pub record NextOf (left : List ℕ) (now : Option (List ℕ)) (piece : List ℕ)
 pub record FillsBuffer (old now : Option (List ℕ)) (before after : List ℕ) (n : ℕ) : Type 0 where
   pub piece : List ℕ
   pub count : length piece ≡ n
-  pub told : IfSome old (λ left. NextOf left now piece)
+  pub told : IfSome old (λ left. IsNextOf left now piece)
   pub after_is : after ≡ before ++ piece
 
 -- a line feed after the first bytes, which have none
-pub record FeedAt (end : ℕ) (bytes : List ℕ) : Type 0 where
+pub record HasFeedAt (end : ℕ) (bytes : List ℕ) : Type 0 where
   pub within : end < length bytes
   pub one : IsOneLine (take end bytes)
   pub parts : bytes ≡ take end bytes ++ 10 ∷ drop (suc end) bytes

@@ -23,8 +23,8 @@ abbrev pub pair : Item → OrderKey × List Route
 pair item = (item.order, item.routes)
 
 -- the lines of its items are below this
-abbrev pub LinesBelow : ℕ → Entries → Type 0
-LinesBelow n entries = All (λ (k : OrderKey). k.line < n) (keys_of entries)
+abbrev pub LinesAreBelow : ℕ → Entries → Type 0
+LinesAreBelow n entries = All (λ (k : OrderKey). k.line < n) (keys_of entries)
 
 -- the events of a run and the others, in order
 abbrev pub held_in : List Item → Entries → List Item

@@ -7,12 +7,12 @@ use Rattle.eql_values.specs.Accepted.{accepted, sorted_items}
 use Rattle.eql_values.specs.Lines.{lines_of}
 use Rattle.eql_laws.specs.Belows.{from_to, IsReading}
 use Rattle.eql_laws.specs.Lanes.{lane_at}
-use Rattle.eql_laws.specs.Lateness.{AtMost}
+use Rattle.eql_laws.specs.Lateness.{IsAtMost}
 use Rattle.eql_laws.specs.Places.{ReadTo, IsPlace, whole, low_at}
 use Rattle.eql_lane.specs.declared.ops.LaneReply.{LaneReply}
 use Rattle.eql_values.specs.declared.order.Mark.TheVariants.{Start}
 use Rattle.eql_lane.specs.Noting.{line_place, placed_cut, unplaced_cut, whole_lines, IsWholeLine}
-use Rattle.eql_lane.specs.Lanes.{Setting, LaneState, FeedStep, Takes, low, lesser, greater, fresh_cut, begun}
+use Rattle.eql_lane.specs.Lanes.{Setting, LaneState, IsFeedStep, Takes, low, lesser, greater, fresh_cut, begun}
 
 -- the lane read its text up to a place, keeps what isn't below the mark, which is safe there, and handed out no further than the mark
 pub record LaneIs (set : Setting) (text : List ℕ) (mark : Mark) (x : LaneState) : Type 0 where
@@ -20,8 +20,8 @@ pub record LaneIs (set : Setting) (text : List ℕ) (mark : Mark) (x : LaneState
   pub text_is : whole place ≡ text
   pub is_place : IsPlace place
   pub cut : x.cut ≡ lane_at set.reads set.slack set.shard mark place
-  pub given : AtMost x.given mark
-  pub safe : AtMost mark (low_at set.reads set.slack set.shard place)
+  pub given : IsAtMost x.given mark
+  pub safe : IsAtMost mark (low_at set.reads set.slack set.shard place)
 
 -- of what the lane held from a mark on, a take hands out what lies below another, by the whole text; the greater of both is the mark then
 pub record HandsOut (set : Setting) (text : List ℕ) (from to : Mark) (items : List Item) (new : LaneState) : Type 0 where
@@ -35,11 +35,11 @@ TakesHandOut = (set : Setting) (text : List ℕ) (from mark : Mark) (old : LaneS
 -- each feed keeps it
 abbrev pub FeedsKeep : Type 0
 FeedsKeep = (set : Setting) (text : List ℕ) (mark : Mark) (old : LaneState) (max : ℕ) (reply : LaneReply) (new : LaneState) → set.text ≡ Some text
-    → FeedStep set old max reply new → LaneIs set text mark old → LaneIs set text mark new
+    → IsFeedStep set old max reply new → LaneIs set text mark old → LaneIs set text mark new
 
 -- a lane that begins with what a cut keeps of the text at a place and a safe mark is so
 abbrev pub CutsBegin : Type 0
-CutsBegin = (set : Setting) (mark : Mark) (place : ReadTo) (faults : ℕ) → IsPlace place → AtMost mark (low_at set.reads set.slack set.shard place)
+CutsBegin = (set : Setting) (mark : Mark) (place : ReadTo) (faults : ℕ) → IsPlace place → IsAtMost mark (low_at set.reads set.slack set.shard place)
     → LaneIs set (whole place) mark (begun (lane_at set.reads set.slack set.shard mark place) faults)
 
 -- and so is one that begins afresh
@@ -48,7 +48,7 @@ FreshIs = (set : Setting) (text : List ℕ) (faults : ℕ) → LaneIs set text S
 
 -- and so is one that is lifted, where its cut is what a cut keeps of the text there but for the places of its events
 abbrev pub LiftedIs : Type 0
-LiftedIs = (set : Setting) (mark : Mark) (place : ReadTo) (faults : ℕ) (cut : LaneCut) → IsReading set.reads → IsPlace place → AtMost mark (low_at set.reads set.slack set.shard place)
+LiftedIs = (set : Setting) (mark : Mark) (place : ReadTo) (faults : ℕ) (cut : LaneCut) → IsReading set.reads → IsPlace place → IsAtMost mark (low_at set.reads set.slack set.shard place)
     → unplaced_cut cut ≡ unplaced_cut (lane_at set.reads set.slack set.shard mark place)
     → LaneIs set (whole place) mark (begun (placed_cut place.first cut) faults)
 

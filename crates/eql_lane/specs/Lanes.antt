@@ -148,23 +148,23 @@ pub record ComesToLimit (set : Setting) (old : LaneState) (max : ℕ) (new : Lan
   pub faults : new.faults ≡ old.faults
 
 -- there are no more lines that may be read, and a byte of a further one was taken
-pub record OutOfLines (set : Setting) (new : LaneState) : Type 0 where
+pub record IsOutOfLines (set : Setting) (new : LaneState) : Type 0 where
   pub lines : new.cut.counts.lines ≡ greatest_lines
   pub byte : new.cut.offset < new.taken
 
-abbrev pub FeedStep : Setting → LaneState → ℕ → LaneReply → LaneState → Type 0
-FeedStep set old max (reply.Fed n) new = FeedsLines set old max n new
-FeedStep set old max (reply.Held k) new = (k ≡ ready set old) × (65536 ≤ k) × (new ≡ old)
-FeedStep set old max reply.Closed new = WasClosed set old new
-FeedStep set old max (reply.Failed n) new = FailsAfter set old max n new
-FeedStep set old max (reply.Limit (limit.Lines shard)) new = (shard ≡ set.shard) × ComesToLimit set old max new × OutOfLines set new
-FeedStep set old max (reply.Limit (limit.Bytes shard)) new = (shard ≡ set.shard) × ComesToLimit set old max new × (new.taken ≡ greatest_bytes)
-FeedStep set old max (reply.Limit limit.Turns) new = ⊥
-FeedStep set old max (reply.Limit limit.Generation) new = ⊥
-FeedStep set old max (reply.Taken items) new = ⊥
-FeedStep set old max (reply.Low mark) new = ⊥
-FeedStep set old max (reply.Cut cut) new = ⊥
-FeedStep set old max (reply.Memory n) new = LacksAfter set old max n new
+abbrev pub IsFeedStep : Setting → LaneState → ℕ → LaneReply → LaneState → Type 0
+IsFeedStep set old max (reply.Fed n) new = FeedsLines set old max n new
+IsFeedStep set old max (reply.Held k) new = (k ≡ ready set old) × (65536 ≤ k) × (new ≡ old)
+IsFeedStep set old max reply.Closed new = WasClosed set old new
+IsFeedStep set old max (reply.Failed n) new = FailsAfter set old max n new
+IsFeedStep set old max (reply.Limit (limit.Lines shard)) new = (shard ≡ set.shard) × ComesToLimit set old max new × IsOutOfLines set new
+IsFeedStep set old max (reply.Limit (limit.Bytes shard)) new = (shard ≡ set.shard) × ComesToLimit set old max new × (new.taken ≡ greatest_bytes)
+IsFeedStep set old max (reply.Limit limit.Turns) new = ⊥
+IsFeedStep set old max (reply.Limit limit.Generation) new = ⊥
+IsFeedStep set old max (reply.Taken items) new = ⊥
+IsFeedStep set old max (reply.Low mark) new = ⊥
+IsFeedStep set old max (reply.Cut cut) new = ⊥
+IsFeedStep set old max (reply.Memory n) new = LacksAfter set old max n new
 
 -- all held events below the mark were handed out
 pub record Takes (old : LaneState) (mark : Mark) (items : List Item) (new : LaneState) : Type 0 where
@@ -174,26 +174,26 @@ pub record Takes (old : LaneState) (mark : Mark) (items : List Item) (new : Lane
   pub taken : new.taken ≡ old.taken
   pub faults : new.faults ≡ old.faults
 
-abbrev pub TakeStep : Setting → LaneState → Mark → LaneReply → LaneState → Type 0
-TakeStep set old mark (reply.Taken items) new = Takes old (lesser mark (low set old)) items new
-TakeStep set old mark (reply.Memory n) new = (n ≡ 0) × (new ≡ old)
-TakeStep set old mark answer new = ⊥
+abbrev pub IsTakeStep : Setting → LaneState → Mark → LaneReply → LaneState → Type 0
+IsTakeStep set old mark (reply.Taken items) new = Takes old (lesser mark (low set old)) items new
+IsTakeStep set old mark (reply.Memory n) new = (n ≡ 0) × (new ≡ old)
+IsTakeStep set old mark answer new = ⊥
 
-abbrev pub LookStep : Setting → LaneState → LaneReply → LaneState → Type 0
-LookStep set old (reply.Low mark) new = (mark ≡ low set old) × (new ≡ old)
-LookStep set old answer new = ⊥
+abbrev pub IsLookStep : Setting → LaneState → LaneReply → LaneState → Type 0
+IsLookStep set old (reply.Low mark) new = (mark ≡ low set old) × (new ≡ old)
+IsLookStep set old answer new = ⊥
 
-abbrev pub SnapStep : LaneState → LaneReply → LaneState → Type 0
-SnapStep old (reply.Cut cut) new = (cut ≡ old.cut) × (new ≡ old)
-SnapStep old (reply.Memory n) new = (n ≡ 0) × (new ≡ old)
-SnapStep old answer new = ⊥
+abbrev pub IsSnapStep : LaneState → LaneReply → LaneState → Type 0
+IsSnapStep old (reply.Cut cut) new = (cut ≡ old.cut) × (new ≡ old)
+IsSnapStep old (reply.Memory n) new = (n ≡ 0) × (new ≡ old)
+IsSnapStep old answer new = ⊥
 
--- what an operation with this answer does to a lane
-abbrev pub LaneStep : Setting → LaneState → LaneOp → LaneReply → LaneState → Type 0
-LaneStep set old (op.Feed max) answer new = FeedStep set old max answer new
-LaneStep set old (op.Take mark) answer new = TakeStep set old mark answer new
-LaneStep set old op.Look answer new = LookStep set old answer new
-LaneStep set old op.Snap answer new = SnapStep old answer new
+-- what an operation with this result does to a lane
+abbrev pub IsLaneStep : Setting → LaneState → LaneOp → LaneReply → LaneState → Type 0
+IsLaneStep set old (op.Feed max) answer new = IsFeedStep set old max answer new
+IsLaneStep set old (op.Take mark) answer new = IsTakeStep set old mark answer new
+IsLaneStep set old op.Look answer new = IsLookStep set old answer new
+IsLaneStep set old op.Snap answer new = IsSnapStep old answer new
 
 -- which operations may be played, in every state
 abbrev pub LaneAllows : LaneOp → Type 0

@@ -122,9 +122,9 @@ pub record IsAtHand (whole more : List ℕ) (next : ℕ) (x : Noted) : Type 0 wh
   pub at : x.at ≡ length whole
   pub next_is : (next ≡ 0) ⊎ (x.line ≤ next)
 
-abbrev pub AtHand : (whole more left : List ℕ) → Noted → Type 0
-AtHand whole more [] x = Unit {0}
-AtHand whole more (next ∷ left) x = IsAtHand whole more next x
+abbrev pub NextIsAtHand : (whole more left : List ℕ) → Noted → Type 0
+NextIsAtHand whole more [] x = Unit {0}
+NextIsAtHand whole more (next ∷ left) x = IsAtHand whole more next x
 
 -- what was noted of the bytes that were passed over: of the wanted lines the first ones, all of whole lines
 pub record NotesOf (front : List ℕ) (x : Noted) : Type 0 where
@@ -139,4 +139,4 @@ pub record NotesOf (front : List ℕ) (x : Noted) : Type 0 where
   pub rises : AllPairs (λ (a b : ℕ). a < b) left
   pub there : All (λ (number : ℕ). (1 ≤ number) × (number ≤ length (lines_of whole))) noted
   pub places : x.places ≡ placed_lines whole noted
-  pub hand : AtHand whole more left x
+  pub hand : NextIsAtHand whole more left x

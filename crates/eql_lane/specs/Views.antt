@@ -33,7 +33,7 @@ abbrev pub setting_of : {S L : Type 0} → (L → Reads) → (text : Option (Lis
 setting_of read_of text lane = record { text = text; shard = lane.shard; slack = lane.slack; reads = read_of lane.reader }
 
 -- what no step changes is the same: the shard, the slack, what lines give, the places, the name of the source, and that it doesn't tell
-pub record SameLane {S L : Type 0} (left lent_as : S → Option (List ℕ)) (read_of : L → Reads) (old new : LaneView S L) : Type 0 where
+pub record IsSameLane {S L : Type 0} (left lent_as : S → Option (List ℕ)) (read_of : L → Reads) (old new : LaneView S L) : Type 0 where
   pub shard : new.shard ≡ old.shard
   pub slack : new.slack ≡ old.slack
   pub reads : read_of new.reader ≡ read_of old.reader

@@ -4,7 +4,7 @@ ghost use Rattle.std.specs.Prelude.{◌≡◌, ◌≢◌, ◌≤◌, ◌<◌, �
 ghost use Rattle.eql_values.specs.Reading.{is_blank};
 ghost use Rattle.eql_outside.specs.Outside.{Rose};
 ghost use Rattle.eql_outside.specs.Unfailing.{IsUnfailing};
-ghost use Rattle.eql_lane.specs.Buffers.{byte_count, seen, seen_more, FeedAt, IsFront, Stands, FillsBuffer, IsOneLine};
+ghost use Rattle.eql_lane.specs.Buffers.{byte_count, seen, seen_more, HasFeedAt, IsFront, Stands, FillsBuffer, IsOneLine};
 
 use eql_outside::{Source, unfailing_stays};
 use eql_values::{LineGot, LineReader, Memory, Reason};
@@ -96,7 +96,7 @@ fn goes_on(line: LongLine, more: &[u8]) -> LongLine
 
 /// Where the first line feed stands.
 pub(crate) fn feed_in(bytes: &[u8]) -> Option<usize>
-    ensures found { IfSome result (λ end. FeedAt end bytes.now) }
+    ensures found { IfSome result (λ end. HasFeedAt end bytes.now) }
     ensures none { result ≡ None → IsOneLine bytes.now }
 {
     memchr(b'\n', bytes)
@@ -133,7 +133,7 @@ impl LineBuffer {
 
     // Where the first line feed stands behind the bytes that were searched.
     fn next_feed(&self) -> Option<usize>
-        ensures found { IfSome result (λ end. FeedAt end self.now.unread) }
+        ensures found { IfSome result (λ end. HasFeedAt end self.now.unread) }
         ensures none { result ≡ None → IsOneLine self.now.unread }
     {
         match feed_in(&self.rest()[self.searched..]) {
@@ -144,7 +144,7 @@ impl LineBuffer {
 
     /// Where the line at hand ends, if its line feed is there. Each byte is searched once.
     pub(crate) fn line_end(&mut self) -> Option<usize>
-        ensures found { IfSome result (λ end. FeedAt end self.old.unread) }
+        ensures found { IfSome result (λ end. HasFeedAt end self.old.unread) }
         ensures none { result ≡ None → IsOneLine self.old.unread }
         ensures same { self.new ≡ self.old }
     {

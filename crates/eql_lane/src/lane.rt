@@ -3,14 +3,14 @@ ghost use Rattle.std.specs.Prelude.{◌≡◌, ◌≢◌, ◌≤◌, ◌<◌, �
 ghost use Rattle.eql_outside.specs.Outside.{Rose};
 ghost use Rattle.eql_outside.specs.Unfailing.{IsUnfailing};
 ghost use Rattle.eql_laws.specs.Counting.{greatest_lines, greatest_bytes};
-ghost use Rattle.eql_lane.specs.Lanes.{Setting, LaneState, IsState, lesser, greater, ready, TakeStep, SnapStep, LaneAllows, begun};
-ghost use Rattle.eql_lane.specs.Views.{LaneView, IsTextOf, setting_of, SameLane};
+ghost use Rattle.eql_lane.specs.Lanes.{Setting, LaneState, IsState, lesser, greater, ready, IsTakeStep, IsSnapStep, LaneAllows, begun};
+ghost use Rattle.eql_lane.specs.Views.{LaneView, IsTextOf, setting_of, IsSameLane};
 ghost use Rattle.eql_lane.specs.Slacks.{IsSlack, nanos_of, greatest_slack_ms};
-ghost use Rattle.eql_lane.specs.Buffers.{seen, byte_count, FeedAt, IsFront, HasFront, IsOneLine};
+ghost use Rattle.eql_lane.specs.Buffers.{seen, byte_count, HasFeedAt, IsFront, HasFront, IsOneLine};
 ghost use Rattle.eql_lane.specs.Judging.{got_on};
 ghost use Rattle.eql_lane.specs.Plays.{Plays, DidNotFail};
 ghost use Rattle.eql_lane.specs.Starts.{MayStart, MayBegin, MayLift, Begins, Lifts, BeginsAs, IsNotMade, cut_of, wanted_of};
-ghost use Rattle.eql_lane.specs.Feeding.{Steps, Feeds, TookTo, line_step as step_by_line, end_step as step_by_end};
+ghost use Rattle.eql_lane.specs.Feeding.{Steps, FeedsView, TookTo, line_step as step_by_line, end_step as step_by_end};
 
 use crate::buffer::{FillRefused, LineBuffer, PIECE};
 use crate::kept::{Kept, placed};
@@ -130,7 +130,7 @@ fn read_line<L: LineReader>(
     Ok(())
 }
 
-// Reads the last line, if bytes of it are there, and closes. It answers whether there was one.
+// Reads the last line, if bytes of it are there, and closes. It returns whether there was one.
 fn finish<L: LineReader>(
     alloc: Global,
     buffer: &mut LineBuffer,
@@ -178,7 +178,7 @@ fn greatest(a: Mark, b: Mark) -> Mark
     if a <= b { b } else { a }
 }
 
-// The step by what reading a line answered.
+// The step by what reading a line returned.
 fn line_step(read: Result<(), Memory>) -> Step
     ensures { result ≡ step_by_line read }
 {
@@ -188,7 +188,7 @@ fn line_step(read: Result<(), Memory>) -> Step
     }
 }
 
-// The step by what reading the last line answered.
+// The step by what reading the last line returned.
 fn end_step(ended: Result<bool, Memory>) -> Step
     ensures { result ≡ step_by_end ended }
 {
@@ -201,7 +201,7 @@ fn end_step(ended: Result<bool, Memory>) -> Step
 impl<S: Source, L: LineReader> Lane<S, L> {
     // Where the line at hand ends, if its line feed is there.
     fn line_end(&mut self) -> Option<usize>
-        ensures found { IfSome result (λ end. FeedAt end self.old.buffer.unread) }
+        ensures found { IfSome result (λ end. HasFeedAt end self.old.buffer.unread) }
         ensures none { result ≡ None → IsOneLine self.old.buffer.unread }
         ensures same { self.new ≡ self.old }
     {
@@ -211,10 +211,10 @@ impl<S: Source, L: LineReader> Lane<S, L> {
     // Reads the line at hand, whose line feed stands behind so many of the kept bytes.
     fn next_line(&mut self, end: usize) -> Step
         requires was_open { self.old.state.cut.closed ≡ false }
-        requires feed { FeedAt end self.old.buffer.unread }
+        requires feed { HasFeedAt end self.old.buffer.unread }
         ensures steps { Steps S.left L.read_of self.old result self.new }
         ensures room { TookTo 0 result }
-        ensures same { SameLane S.left S.lent_as L.read_of self.old self.new }
+        ensures same { IsSameLane S.left S.lent_as L.read_of self.old self.new }
         ensures unfailing { IsUnfailing (S.fault_plan self.old.source)
             → (result ≢ Step.Failed) × IsUnfailing (S.fault_plan self.new.source) }
     {
@@ -240,7 +240,7 @@ impl<S: Source, L: LineReader> Lane<S, L> {
         requires one { IsOneLine self.old.buffer.unread }
         ensures steps { Steps S.left L.read_of self.old result self.new }
         ensures room { TookTo room result }
-        ensures same { SameLane S.left S.lent_as L.read_of self.old self.new }
+        ensures same { IsSameLane S.left S.lent_as L.read_of self.old self.new }
         ensures unfailing { IsUnfailing (S.fault_plan self.old.source)
             → (result ≢ Step.Failed) × IsUnfailing (S.fault_plan self.new.source) }
     {
@@ -278,7 +278,7 @@ impl<S: Source, L: LineReader> Lane<S, L> {
         requires some { 1 ≤ room }
         ensures steps { Steps S.left L.read_of self.old result self.new }
         ensures room { TookTo room result }
-        ensures same { SameLane S.left S.lent_as L.read_of self.old self.new }
+        ensures same { IsSameLane S.left S.lent_as L.read_of self.old self.new }
         ensures unfailing { IsUnfailing (S.fault_plan self.old.source)
             → (result ≢ Step.Failed) × IsUnfailing (S.fault_plan self.new.source) }
     {
@@ -296,8 +296,8 @@ impl<S: Source, L: LineReader> Lane<S, L> {
         requires some { 1 ≤ max }
         requires state { (text : Option (List ℕ)) → IsTextOf S.left text self.old
             → IsState (setting_of L.read_of text self.old) self.old.state }
-        ensures feeds { Feeds S.left L.read_of self.old max result self.new }
-        ensures same { SameLane S.left S.lent_as L.read_of self.old self.new }
+        ensures feeds { FeedsView S.left L.read_of self.old max result self.new }
+        ensures same { IsSameLane S.left S.lent_as L.read_of self.old self.new }
         ensures unfailing { IsUnfailing (S.fault_plan self.old.source)
             → DidNotFail result × IsUnfailing (S.fault_plan self.new.source) }
     {
@@ -357,8 +357,8 @@ impl<S: Source, L: LineReader> Lane<S, L> {
     // Reads at most so many lines.
     fn feed(&mut self, max: u32) -> LaneReply
         requires some { 1 ≤ max }
-        ensures feeds { Feeds S.left L.read_of self.old max result self.new }
-        ensures same { SameLane S.left S.lent_as L.read_of self.old self.new }
+        ensures feeds { FeedsView S.left L.read_of self.old max result self.new }
+        ensures same { IsSameLane S.left S.lent_as L.read_of self.old self.new }
         ensures unfailing { IsUnfailing (S.fault_plan self.old.source)
             → DidNotFail result × IsUnfailing (S.fault_plan self.new.source) }
     {
@@ -376,11 +376,11 @@ impl<S: Source, L: LineReader> Lane<S, L> {
     // Hands out the events below the mark and the low.
     fn take(&mut self, mark: Mark) -> LaneReply
         ensures step { (text : Option (List ℕ))
-            → TakeStep (setting_of L.read_of text self.old) self.old.state mark result
+            → IsTakeStep (setting_of L.read_of text self.old) self.old.state mark result
             self.new.state }
         ensures keeps { (text : Option (List ℕ)) → IsTextOf S.left text self.old
             → IsTextOf S.left text self.new }
-        ensures same { SameLane S.left S.lent_as L.read_of self.old self.new }
+        ensures same { IsSameLane S.left S.lent_as L.read_of self.old self.new }
         ensures unfailing { IsUnfailing (S.fault_plan self.old.source)
             → DidNotFail result × IsUnfailing (S.fault_plan self.new.source) }
     {
@@ -397,7 +397,7 @@ impl<S: Source, L: LineReader> Lane<S, L> {
 
     // Tells what a cut keeps of the lane.
     fn snap(&self) -> LaneReply
-        ensures { SnapStep self.now.state result self.now.state }
+        ensures { IsSnapStep self.now.state result self.now.state }
     {
         match self.kept.snap(self.alloc) {
             Err(_) => LaneReply::Memory { lines: 0 },
@@ -405,10 +405,10 @@ impl<S: Source, L: LineReader> Lane<S, L> {
         }
     }
 
-    /// Plays an operation. After every answer the lane is as the step says, and plays on.
+    /// Plays an operation. Whatever it returns, the lane is as the step says, and plays on.
     ///
     /// - `Feed` reads at most as many lines as it says, and ends early once it took 4,194,304 bytes.
-    ///   It answers `Held` where at least 65,536 events lie below the low, and reads nothing then;
+    ///   It returns `Held` where at least 65,536 events lie below the low, and reads nothing then;
     ///   `Closed` where no line was left; `Failed` where the source failed, and a later feed goes on.
     /// - `Take` hands out the held events below the lesser of the mark and the low, in order.
     /// - `Look` tells the low. It takes no memory.
@@ -416,7 +416,7 @@ impl<S: Source, L: LineReader> Lane<S, L> {
     pub fn play(&mut self, op: LaneOp) -> LaneReply
         requires { LaneAllows op }
         ensures plays { Plays S.left L.read_of self.old op result self.new }
-        ensures same { SameLane S.left S.lent_as L.read_of self.old self.new }
+        ensures same { IsSameLane S.left S.lent_as L.read_of self.old self.new }
         ensures unfailing { IsUnfailing (S.fault_plan self.old.source)
             → DidNotFail result × IsUnfailing (S.fault_plan self.new.source) }
     {

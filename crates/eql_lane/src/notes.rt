@@ -2,7 +2,7 @@
 ghost use Rattle.std.specs.Prelude.{◌≡◌, ◌≢◌, ◌⊎◌, ◌≤◌, ◌<◌, ◌+◌, ◌++◌, ◌^◌, true, false, ℕ, List, [], None, Some, Ok, IfOk, IfErr, IfSome, length};
 ghost use Rattle.std.specs.List.{slice_get};
 ghost use Rattle.std.specs.List.Sorted.{IsStrictlyIncreasing};
-ghost use Rattle.eql_lane.specs.Buffers.{FeedAt, IsOneLine};
+ghost use Rattle.eql_lane.specs.Buffers.{HasFeedAt, IsOneLine};
 ghost use Rattle.eql_lane.specs.Noting.{Noted, NotesOf, Locates, IsMissing, is_line, is_cut, at_hand, last_line, line_ended};
 
 use crate::buffer::feed_in;
@@ -112,7 +112,7 @@ impl Notes {
 
     // Where the line at hand ends in these bytes, if its line feed is there and a line is wanted.
     fn line_end(&self, bytes: &[u8]) -> Option<usize>
-        ensures found { IfSome result (λ end. FeedAt end bytes.now) }
+        ensures found { IfSome result (λ end. HasFeedAt end bytes.now) }
         ensures none { result ≡ None
             → IsOneLine bytes.now ⊎ (slice_get self.now.wanted (length self.now.places) ≡ None) }
     {
@@ -155,7 +155,7 @@ impl Notes {
         }
     }
 
-    /// Ends the notes, where the text ends here or not. It answers the least wanted line that is
+    /// Ends the notes, where the text ends here or not. It returns the least wanted line that is
     /// missing.
     pub(crate) fn finish(&mut self, ended: bool) -> Option<u32>
         ensures located { result ≡ None → (front rest : List ℕ) → NotesOf front self.old

@@ -1,4 +1,4 @@
-//! What is played on a lane, and what is answered.
+//! What is played on a lane, and what is returned.
 
 use eql_values::{Items, LaneCut, Mark};
 
@@ -40,7 +40,7 @@ pub enum LimitOf {
     Generation,
 }
 
-/// What a lane answers.
+/// What a lane returns.
 #[derive(Drop)]
 pub enum LaneReply {
     /// So many lines were read.

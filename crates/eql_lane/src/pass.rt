@@ -13,7 +13,7 @@ use eql_outside::{Failed, Source, unfailing_stays};
 use eql_values::{Lines, Places};
 use std::alloc::Global;
 
-// Takes at most as many bytes as the piece has, notes the lines in them and drops them. It answers
+// Takes at most as many bytes as the piece has, notes the lines in them and drops them. It returns
 // how many they were; none are the end.
 fn pass_piece<S: Source>(
     source: &mut S,
@@ -39,7 +39,7 @@ fn pass_piece<S: Source>(
     Ok(n)
 }
 
-// Takes at most so many bytes, notes the lines in them and drops them. It answers how many they
+// Takes at most so many bytes, notes the lines in them and drops them. It returns how many they
 // were; none are the end.
 fn pass_some<S: Source>(source: &mut S, most: u64, notes: &mut Notes) -> Result<u64, Failed>
     requires some { 1 ≤ most }
@@ -62,7 +62,7 @@ fn pass_some<S: Source>(source: &mut S, most: u64, notes: &mut Notes) -> Result<
 }
 
 // Passes over so many bytes, or over all where the source has fewer, and notes the lines in them.
-// It answers how many they were.
+// It returns how many they were.
 fn pass_over<S: Source>(source: &mut S, count: u64, notes: &mut Notes) -> Result<u64, Failed>
     requires far { notes.old.passed + count < 2 ^ 63 }
     ensures few { IfOk result (λ n. n ≤ count) }

@@ -20,8 +20,8 @@ fn long_text(alloc: Global, bytes: usize) -> Result<Vec<u8>, Fail> {
     Ok(text)
 }
 
-/// The bytes of the first line, the bytes of a piece, how many lines are rejected, and the answers
-/// to two feeds and a take.
+/// The bytes of the first line, the bytes of a piece, how many lines are rejected, and the results
+/// of two feeds and a take.
 static LONG: &[(usize, usize, u32, &str)] = &[
     (1048576, 65536, 0, "fed 2;closed;taken 2@1048577 1@0;"),
     (1048577, 65536, 1, "fed 2;closed;taken 2@1048578;"),
@@ -31,7 +31,7 @@ static LONG: &[(usize, usize, u32, &str)] = &[
     (5000000, 4099, 1, "fed 0;fed 2;taken 2@5000001;"),
 ];
 
-/// What two feeds and a take of such a text in pieces answer, and what is counted then.
+/// What two feeds and a take of such a text in pieces return, and what is counted then.
 fn told_of_long(alloc: Global, bytes: usize, piece: usize) -> Result<(String, Counts), Fail> {
     let text = long_text(alloc, bytes)?;
     let source = source(alloc, text.as_slice(), piece, &[])?;
@@ -90,7 +90,7 @@ fn read_lines(lane: &mut TestLane, lines: u32) -> Result<(), Fail> {
     Err(Fail::from("too many feeds"))
 }
 
-/// How many events lie below the low, and what a feed, a look, a take and a feed answer. Of what was
+/// How many events lie below the low, and what a feed, a look, a take and a feed return. Of what was
 /// taken the number is told.
 static FULL: &[(u32, &str)] = &[
     (65535, "closed;low end;65536;closed;"),
@@ -114,7 +114,7 @@ fn play_counted(lane: &mut TestLane, op: LaneOp, out: &mut String) -> Result<(),
     }
 }
 
-/// What a lane answers from which so many lines were read.
+/// What a lane returns from which so many lines were read.
 fn told_behind(alloc: Global, lane: &mut TestLane, lines: u32) -> Result<String, Fail> {
     read_lines(lane, lines)?;
     let mut out = String::new(alloc);
@@ -124,7 +124,7 @@ fn told_behind(alloc: Global, lane: &mut TestLane, lines: u32) -> Result<String,
     Ok(out)
 }
 
-/// What a lane answers behind so many events.
+/// What a lane returns behind so many events.
 fn told_of_full(alloc: Global, events: u32) -> Result<String, Fail> {
     let text = full_text(alloc, events)?;
     let source = source(alloc, text.as_slice(), 65536, &[])?;
@@ -168,7 +168,7 @@ fn lines_before_a_fault_stand(rt: HostRuntime) -> Result<(), Fail> {
     Ok(())
 }
 
-/// The reading that lacks memory, from 1, and what two feeds of nine lines and a take answer over
+/// The reading that lacks memory, from 1, and what two feeds of nine lines and a take return over
 /// `3\n1\n2`.
 static LACKS: &[(u32, &str)] = &[
     (1, "memory 0;fed 3;taken 2@2 3@4 1@0;"),
@@ -177,7 +177,7 @@ static LACKS: &[(u32, &str)] = &[
     (4, "fed 3;closed;taken 2@2 3@4 1@0;"),
 ];
 
-/// What a lane answers whose reading of this number lacks memory.
+/// What a lane returns whose reading of this number lacks memory.
 fn told_of_lack(alloc: Global, at: u32) -> Result<String, Fail> {
     let source = source(alloc, b"3\n1\n2", 3, &[])?;
     let reader = LacksOnce::at(at);

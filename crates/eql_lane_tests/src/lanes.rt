@@ -1,5 +1,5 @@
-//! Rows of lanes: texts in pieces, batches, slacks and faults, with what each operation answers.
-//! The answers were worked out by hand.
+//! Rows of lanes: texts in pieces, batches, slacks and faults, with what each operation returns.
+//! The results were worked out by hand.
 ghost use Rattle.std.specs.Prelude.{◌≡◌, ◌≤◌, [], IfOk};
 ghost use Rattle.eql_lane.specs.Starts.{MayBegin, MayStart};
 
@@ -24,7 +24,7 @@ struct Row {
     slack: Option<u64>,
     /// What is played.
     ops: &'static [LaneOp],
-    /// Each answer, followed by `;`.
+    /// Each result, followed by `;`.
     told: &'static str,
 }
 
@@ -36,7 +36,7 @@ pub(crate) const ONE: LaneOp = LaneOp::Feed { max: 1 };
 
 pub(crate) const NINE: LaneOp = LaneOp::Feed { max: 9 };
 
-/// The rows whose answers are the same for all pieces.
+/// The rows whose results are the same for all pieces.
 static ROWS: &[Row] = &[
     // Line 2 comes 6 s behind line 1, line 3 comes 4 s behind it.
     Row {
@@ -213,7 +213,7 @@ fn write_cut(out: &mut String, cut: &LaneCut) -> Result<(), Fail> {
     write_items(out, &cut.items)
 }
 
-/// Writes an answer, followed by `;`.
+/// Writes a result, followed by `;`.
 pub(crate) fn write_reply(out: &mut String, reply: &LaneReply) -> Result<(), Fail> {
     match reply {
         LaneReply::Fed { lines } => write!(out, "fed {lines}")?,
@@ -248,7 +248,7 @@ fn play_told<L: LineReader>(
     written
 }
 
-/// What operations in turn answer.
+/// What operations in turn return.
 pub(crate) fn replies<L: LineReader>(
     alloc: Global,
     lane: &mut Lane<MemSource, L>,
@@ -261,7 +261,7 @@ pub(crate) fn replies<L: LineReader>(
     Ok(out)
 }
 
-/// What a lane over the row's text in such pieces answers.
+/// What a lane over the row's text in such pieces returns.
 fn told(alloc: Global, row: &Row, piece: usize) -> Result<String, Fail> {
     let source = source(alloc, row.text, piece, row.fails)?;
     let mut lane = lane(alloc, source, row.slack)?;
@@ -282,7 +282,7 @@ struct Start {
     closed: bool,
     /// The lines that the cut says were read.
     lines: u32,
-    /// Why the lane isn't made, or what it answers to feeds of one line and of nine, and a take.
+    /// Why the lane isn't made, or what feeds of one line and of nine, and a take return.
     told: &'static str,
 }
 

@@ -291,7 +291,7 @@ fn lift_of_line_two(alloc: Global) -> Result<LaneStart, Memory>
     })
 }
 
-/// The places of a lane, and what it answers then.
+/// The places of a lane, and what it returns then.
 fn places_and_replies(alloc: Global, lane: &mut TestLane) -> Result<(String, String), Fail> {
     let places = told_of_places(alloc, lane)?;
     let replies = replies(alloc, lane, &[LaneOp::Snap, NINE, END])?;

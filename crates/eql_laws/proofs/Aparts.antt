@@ -15,7 +15,7 @@ use Rattle.eql_values.specs.Marks.{is_below}
 use Rattle.eql_values.specs.OrderKeys.{order_cmp}
 use Rattle.eql_values.proofs.Same.{order_same}
 use Rattle.eql_values.specs.Ordered.{numbers}
-use Rattle.eql_laws.specs.Apart.{has_key, NoKeyInBoth, NoKeyInOthers, NoKeyTwice, place_of}
+use Rattle.eql_laws.specs.Apart.{has_key, place_of, RepeatNoKey, ShareNoKey, SharesNoKey}
 use Rattle.eql_laws.specs.Belows.{IsReading, IsAcceptedOf, HasRoutesInOrder, from_to}
 use Rattle.eql_laws.specs.Taking.{handed_out, HandsOutApart, HandedOutMerges}
 use Rattle.eql_laws.proofs.BelowLemmas.{All-sorted, accepted_of_text, sorted_ascends}
@@ -34,38 +34,38 @@ module _ {X K : Type 0} (R : K → K → Ordering) (same : IsAntisymmetric R) (k
       by_first true e t more = ap kind (same k (key x) (is_equal _ e)) ∙ All-head (OfKind n) x xs h
       by_first false e t more = more t
 
-  pub kinds_apart : (n m : ℕ) (xs ys : List X) → (n ≡ m → ⊥) → All (OfKind n) xs → All (OfKind m) ys → NoKeyInBoth R key xs ys
+  pub kinds_apart : (n m : ℕ) (xs ys : List X) → (n ≡ m → ⊥) → All (OfKind n) xs → All (OfKind m) ys → ShareNoKey R key xs ys
   kinds_apart n m xs ys differ of_n of_m k there = by_case (has_key R key k ys) refl
     where
       by_case : (b : Bool) → has_key R key k ys ≡ b → b ≡ false
       by_case true e = absurd (differ (sym (key_kind n k xs of_n there) ∙ key_kind m k ys of_m e))
       by_case false e = refl
 
-  others_more : (xs : List X) (lists : List (List X)) (ys : List X) → NoKeyInOthers R key xs lists → NoKeyInBoth R key xs ys → NoKeyInOthers R key xs (lists ++ ys ∷ [])
+  others_more : (xs : List X) (lists : List (List X)) (ys : List X) → SharesNoKey R key xs lists → ShareNoKey R key xs ys → SharesNoKey R key xs (lists ++ ys ∷ [])
   others_more xs [] ys h apart = (apart, tt)
   others_more xs (zs ∷ lists) ys h apart = (h.0, others_more xs lists ys h.1 apart)
 
-  twice_more : (lists : List (List X)) (ys : List X) → NoKeyTwice R key lists → All (λ (xs : List X). NoKeyInBoth R key xs ys) lists → NoKeyTwice R key (lists ++ ys ∷ [])
+  twice_more : (lists : List (List X)) (ys : List X) → RepeatNoKey R key lists → All (λ (xs : List X). ShareNoKey R key xs ys) lists → RepeatNoKey R key (lists ++ ys ∷ [])
   twice_more [] ys h apart = (tt, tt)
   twice_more (xs ∷ lists) ys h apart = (
-    others_more xs lists ys h.0 (All-head (λ (xs : List X). NoKeyInBoth R key xs ys) xs lists apart),
-    twice_more lists ys h.1 (All-tail (λ (xs : List X). NoKeyInBoth R key xs ys) xs lists apart),
+    others_more xs lists ys h.0 (All-head (λ (xs : List X). ShareNoKey R key xs ys) xs lists apart),
+    twice_more lists ys h.1 (All-tail (λ (xs : List X). ShareNoKey R key xs ys) xs lists apart),
   )
 
   -- lists of the kinds below a number, one for each
   module _ (each : ℕ → List X) (of : (n : ℕ) → All (OfKind n) (each n)) where
-    apart_from : (b n : ℕ) → b ≤ n → All (λ (xs : List X). NoKeyInBoth R key xs (each n)) (map each (numbers b))
-    apart_from zero n le = All-nil (λ (xs : List X). NoKeyInBoth R key xs (each n))
+    apart_from : (b n : ℕ) → b ≤ n → All (λ (xs : List X). ShareNoKey R key xs (each n)) (map each (numbers b))
+    apart_from zero n le = All-nil (λ (xs : List X). ShareNoKey R key xs (each n))
     apart_from (suc b) n le =
-        subst (All (λ (xs : List X). NoKeyInBoth R key xs (each n))) (sym (map-append each (numbers b) (b ∷ [])))
-        (All-append (λ (xs : List X). NoKeyInBoth R key xs (each n)) (map each (numbers b)) (each b ∷ []) (apart_from b n (omega (arith, le)))
-        (All-cons (λ (xs : List X). NoKeyInBoth R key xs (each n)) (each b) [] (kinds_apart b n (each b) (each n) (λ e. omega (arith, e, le)) (of b) (of n))
-        (All-nil (λ (xs : List X). NoKeyInBoth R key xs (each n)))))
+        subst (All (λ (xs : List X). ShareNoKey R key xs (each n))) (sym (map-append each (numbers b) (b ∷ [])))
+        (All-append (λ (xs : List X). ShareNoKey R key xs (each n)) (map each (numbers b)) (each b ∷ []) (apart_from b n (omega (arith, le)))
+        (All-cons (λ (xs : List X). ShareNoKey R key xs (each n)) (each b) [] (kinds_apart b n (each b) (each n) (λ e. omega (arith, e, le)) (of b) (of n))
+        (All-nil (λ (xs : List X). ShareNoKey R key xs (each n)))))
 
-    pub each_apart : (n : ℕ) → NoKeyTwice R key (map each (numbers n))
+    pub each_apart : (n : ℕ) → RepeatNoKey R key (map each (numbers n))
     each_apart zero = tt
     each_apart (suc n) =
-        subst (NoKeyTwice R key) (sym (map-append each (numbers n) (n ∷ []))) (twice_more (map each (numbers n)) (each n) (each_apart n) (apart_from n n (omega arith)))
+        subst (RepeatNoKey R key) (sym (map-append each (numbers n) (n ∷ []))) (twice_more (map each (numbers n)) (each n) (each_apart n) (apart_from n n (omega arith)))
 
 -- what shards hand out
 module _ (reads : Reads) (slack : Option ℤ) (from to : Mark) (reading : IsReading reads) where
@@ -94,7 +94,7 @@ module _ (reads : Reads) (slack : Option ℤ) (from to : Mark) (reading : IsRead
       (All-weaker (IsAcceptedOf shard text) (OfShard shard) (λ x h. h.shard_is) (from_to from to (accepted reads slack shard text)) (accepted_are shard text))
 
   out_apart : (first next : ℕ) (xs : List Item) (texts : List (List ℕ)) → first < next → All (OfShard first) xs
-      → NoKeyInOthers order_cmp place_of xs (handed_out reads slack next texts from to)
+      → SharesNoKey order_cmp place_of xs (handed_out reads slack next texts from to)
   out_apart first next xs [] lt h = tt
   out_apart first next xs (text ∷ texts) lt h = (
     kinds_apart order_cmp order_same place_of shard_of first next xs (out next text) (λ e. omega (arith, e, lt)) h (out_of_shard next text),

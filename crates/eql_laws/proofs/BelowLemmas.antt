@@ -17,7 +17,7 @@ use Rattle.eql_values.specs.declared.item.Item.{Item}
 use Rattle.eql_values.specs.declared.reader.LineGot.{LineGot}
 use Rattle.eql_values.specs.declared.reader.LineGot.TheVariants as got
 use Rattle.eql_values.specs.Accepted.{Reads, event_at, readable, is_late, accepted, accepted_after, accepted_from, sorted_items}
-use Rattle.eql_values.specs.Ascending.{AllAfter, Ascend}
+use Rattle.eql_values.specs.Ascending.{AllAreAfter, Ascend}
 use Rattle.eql_values.specs.Lines.{Line, begin_with, lines_of, numbered_lines, lines_in}
 use Rattle.eql_values.specs.Marks.{is_below}
 use Rattle.eql_values.specs.OrderKeys.{order_cmp}
@@ -26,9 +26,9 @@ use Rattle.eql_values.proofs.Same.{order_same}
 use Rattle.eql_values.specs.Ordered.{in_order}
 use Rattle.eql_values.proofs.InOrder.{in_order-sorted}
 use Rattle.eql_values.specs.Reading.{IsTime, IsReadAt}
-use Rattle.eql_values.specs.Routes.{RoutesInOrder, RoutesStand}
-use Rattle.eql_laws.specs.Belows.{IsReading, HasRoutesInOrder, SortedAscends, BelowAscends, SortedEach, SortedMore, SortedBelow, BelowGrows, IsAcceptedOf, AcceptedOfText, IsBelow, BelowAre, OpenLow, OpenLowAtLeast, IsMarkTime, greatest_slack}
-use Rattle.eql_laws.specs.Lateness.{AtMost, larger, best_of}
+use Rattle.eql_values.specs.Routes.{RoutesAreInOrder, RoutesStand}
+use Rattle.eql_laws.specs.Belows.{IsReading, HasRoutesInOrder, SortedAscends, BelowAscends, SortingEachSortsAll, SortingGoesOn, SortingKeepsBelow, BelowGrows, IsAcceptedOf, AcceptedComeFromText, IsBelow, BelowAre, OpenLowIsTime, OpenLowIsAtLeast, IsMarkTime, greatest_slack}
+use Rattle.eql_laws.specs.Lateness.{IsAtMost, larger, best_of}
 use Rattle.eql_laws.proofs.Lists.{filter_implied}
 use Rattle.eql_laws.proofs.Elements.{All-filter_map, All-passed, All-in_order}
 use Rattle.eql_laws.proofs.Facts.{left_holds, right_holds, is_less}
@@ -44,13 +44,13 @@ of_place End i = refl
 not_of_place : (m : Mark) → OfPlace (λ i. not (is_below m i))
 not_of_place m i = ap not (of_place m i)
 
-pub sorted_below : SortedBelow
+pub sorted_below : SortingKeepsBelow
 sorted_below mark items = (filter_sorted (is_below mark) (of_place mark) items, filter_sorted (λ i. not (is_below mark i)) (not_of_place mark) items)
 
-pub sorted_one_by_one : SortedEach
+pub sorted_one_by_one : SortingEachSortsAll
 sorted_one_by_one lists = sorted_each (λ (items : List Item). items) lists
 
-pub sorted_with_more : SortedMore
+pub sorted_with_more : SortingGoesOn
 sorted_with_more a b = sorted_more a b
 
 earlier_time : (t u : ℤ) (r : Ordering) → r ≡ int_cmp t u → (o : Ordering) → T (is_lt (ordering_then r o)) → t ≤ℤ u
@@ -93,7 +93,7 @@ module _ (m : Mark) where
   split_sorted [] h = refl
   split_sorted (e ∷ es) h = split_one e es (is_below m (back e)) refl (left_holds _ _ h) (split_sorted es (right_holds _ _ h))
 
-sorted_grows : (items : List Item) (from to : Mark) → AtMost from to
+sorted_grows : (items : List Item) (from to : Mark) → IsAtMost from to
     → sorted_items (filter (is_below to) items) ≡ sorted_items (filter (is_below from) items) ++ sorted_items (filter (is_below to) (filter (λ i. not (is_below from i)) items))
 sorted_grows items from to le =
     let s : List Item = sorted_items items in
@@ -108,16 +108,16 @@ pub below_grows : BelowGrows
 below_grows reads slack texts from to le = sorted_grows (accepted_from reads slack 0 texts) from to le
 
 -- items in order ascend
-all_later : (k : OrderKey) (es : List Entry) → T (below_all order_cmp k es) → AllAfter k (map back es)
+all_later : (k : OrderKey) (es : List Entry) → T (below_all order_cmp k es) → AllAreAfter k (map back es)
 all_later k [] h = tt
 all_later k (e ∷ es) h = (is_less (order_cmp k e.0) (left_holds _ _ h), all_later k es (right_holds _ _ h))
 
-ascends : (es : List Entry) → T (is_sorted order_cmp es) → All (λ (e : Entry). RoutesInOrder e.1) es → Ascend (map back es)
+ascends : (es : List Entry) → T (is_sorted order_cmp es) → All (λ (e : Entry). RoutesAreInOrder e.1) es → Ascend (map back es)
 ascends [] h routes = tt
 ascends (e ∷ es) h routes = (
-  All-head (λ (e : Entry). RoutesInOrder e.1) e es routes,
+  All-head (λ (e : Entry). RoutesAreInOrder e.1) e es routes,
   all_later e.0 es (left_holds _ _ h),
-  ascends es (right_holds _ _ h) (All-tail (λ (e : Entry). RoutesInOrder e.1) e es routes),
+  ascends es (right_holds _ _ h) (All-tail (λ (e : Entry). RoutesAreInOrder e.1) e es routes),
 )
 
 -- what holds of each item holds of each of them in order
@@ -129,7 +129,7 @@ All-sorted P items h =
 pub sorted_ascends : SortedAscends
 sorted_ascends items h =
     ascends (in_order order_cmp (map pair items)) (in_order-sorted order_cmp order_cmp_total (map pair items))
-    (All-in_order order_cmp order_same (λ (e : Entry). RoutesInOrder e.1) (map pair items) (All-map (λ (e : Entry). RoutesInOrder e.1) pair items h))
+    (All-in_order order_cmp order_same (λ (e : Entry). RoutesAreInOrder e.1) (map pair items) (All-map (λ (e : Entry). RoutesAreInOrder e.1) pair items h))
 
 -- where a line of a text may stand
 pub record IsLineOf (number at lines bytes : ℕ) (line : Line) : Type 0 where
@@ -240,7 +240,7 @@ best_is_time (item ∷ items) h =
     larger_is item.order.ts (best_of items) (All-head (λ (item : Item). IsTime item.order.ts) item items h)
     (best_is_time items (All-tail (λ (item : Item). IsTime item.order.ts) item items h))
 
-pub accepted_of_text : AcceptedOfText
+pub accepted_of_text : AcceptedComeFromText
 accepted_of_text reads slack shard text reading = record {
   all = All-accepted (IsAcceptedOf shard text) slack [] (readable reads shard (lines_in text)) (readable_are reads shard text reading);
   fewer = fewer_accepted slack [] (readable reads shard (lines_in text));
@@ -290,12 +290,12 @@ abbrev time_of : Mark → ℤ
 time_of (At t) = t
 time_of _ = pos 0
 
-pub open_low : OpenLow
+pub open_low : OpenLowIsTime
 open_low slack None t from to best e = cc
 open_low slack (Some b) t from to best e =
     subst IsMarkTime (ap time_of e) (low_in_range slack b from to best)
 
-pub open_low_at_least : OpenLowAtLeast
+pub open_low_at_least : OpenLowIsAtLeast
 open_low_at_least None best t h = cc
 open_low_at_least (Some s) None t h = cc
 open_low_at_least (Some s) (Some b) t h = (s, b, refl, refl, times_le t (b -ℤ s) h)

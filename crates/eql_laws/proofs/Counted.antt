@@ -9,7 +9,7 @@ use Rattle.eql_values.specs.declared.reader.LineGot.{LineGot}
 use Rattle.eql_values.specs.declared.reader.LineGot.TheVariants as got
 use Rattle.eql_values.specs.Accepted.{Reads, event_at, readable, is_late, accepted_after}
 use Rattle.eql_values.specs.Lines.{Line, begin_with, lines_of, numbered_lines, lines_in}
-use Rattle.eql_laws.specs.Counting.{is_blank_line, blank, bad_at, rejections, late_after, first_in, CountsOfStand, LinesAreOfFour, FirstBadIsLine, IsShardText, front, FrontsWithin, FrontsFit}
+use Rattle.eql_laws.specs.Counting.{is_blank_line, blank, bad_at, rejections, late_after, first_in, CountsOfStand, LinesAreOfFour, FirstBadIsLine, IsShardText, front, FrontsAreWithin, FrontsFit}
 use Rattle.eql_laws.specs.Places.{ReadTo, whole}
 use Rattle.eql_laws.proofs.BelowLemmas.{IsLineOf, lines_stand}
 use Rattle.eql_laws.proofs.Elements.{All-filter_map}
@@ -94,7 +94,7 @@ pub lines_by_bytes : (text : List ℕ) → length (lines_of text) ≤ length tex
 lines_by_bytes [] = omega arith
 lines_by_bytes (byte ∷ bytes) = one_begun byte (byte == 10) (lines_of bytes) (length bytes) (lines_by_bytes bytes)
 
-pub fronts_within : FrontsWithin
+pub fronts_within : FrontsAreWithin
 fronts_within r = record {
   lines = more_lines r.first r.rest;
   bytes = (let whole = length-append r.first r.rest in omega (arith, whole));

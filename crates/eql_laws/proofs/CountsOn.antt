@@ -7,7 +7,7 @@ use Rattle.eql_values.specs.declared.cut.Counts.{Counts}
 use Rattle.eql_values.specs.declared.cut.FirstBad.{FirstBad}
 use Rattle.eql_values.specs.Accepted.{Reads, readable}
 use Rattle.eql_values.specs.Lines.{Line, lines_of, numbered_lines, lines_in}
-use Rattle.eql_laws.specs.Counting.{counts_of, late_from, rejections, first_in, first_or, counts_from, LateByKept, CountsGoOn, CountsStepOn}
+use Rattle.eql_laws.specs.Counting.{counts_of, late_from, rejections, first_in, first_or, counts_from, KeptTellsLate, CountsGoOn, CountsStepOn}
 use Rattle.eql_laws.specs.Lateness.{larger, late_by, best_of, best_from, accepted_by}
 use Rattle.eql_laws.specs.Places.{is_line_end, lines_after}
 use Rattle.eql_laws.proofs.Kept.{late_by_best, accepted_by_best, accepted_split, best_is_from}
@@ -17,7 +17,7 @@ length-numbered_lines : (number at : ℕ) (lines : List (List ℕ)) → length (
 length-numbered_lines number at [] = refl
 length-numbered_lines number at (line ∷ lines) = ap suc (length-numbered_lines (number + 1) (at + length line + 1) lines)
 
-pub late_by_kept : LateByKept
+pub late_by_kept : KeptTellsLate
 late_by_kept slack earlier [] = refl
 late_by_kept slack earlier (item ∷ items) = λ i.
     cond (late_by_best slack earlier item i) (item ∷ late_by_kept slack (item ∷ earlier) items i) (late_by_kept slack (item ∷ earlier) items i)

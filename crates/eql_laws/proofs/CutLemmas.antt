@@ -23,7 +23,7 @@ use Rattle.eql_values.specs.OrderKeys.{order_cmp}
 use Rattle.eql_values.specs.Totals.{order_cmp_total}
 use Rattle.eql_values.specs.Ordered.{in_order}
 use Rattle.eql_values.proofs.InOrder.{in_order-sorted}
-use Rattle.eql_laws.specs.Alive.{alive_at, HoldersInOrder, alive_holders}
+use Rattle.eql_laws.specs.Alive.{alive_at, HoldersAreInOrder, alive_holders}
 use Rattle.eql_laws.specs.Belows.{IsReading, IsAcceptedOf, IsBelow, HasRoutesInOrder}
 use Rattle.eql_laws.specs.Cuts.{held_back, IsHeldBack, HeldBackFits, is_of, IsPending, PendingFits, IsFound, FoundFits, RoutesStay}
 use Rattle.eql_laws.specs.Shapes.{IsReady, IsFull, EventsPass, EventsKeep, FirstsFall}
@@ -134,7 +134,7 @@ alive_some span t None c e = cc
 alive_some span t (Some x) c e = (when_some _ (Some x) c e).1
 
 -- the living among those whose first events fall
-alive_fall : (span : Option ℤ) (t : ℤ) (holders : List Holder) → HoldersInOrder holders → FirstsFall holders → FirstsFall (alive_holders span t holders)
+alive_fall : (span : Option ℤ) (t : ℤ) (holders : List Holder) → HoldersAreInOrder holders → FirstsFall holders → FirstsFall (alive_holders span t holders)
 alive_fall span t holders order falls key j k c d lt e f =
     falls key j k c d lt
     (alive_some span t (opening_of holders key j) c (sym (opening_alive span t holders order key j) ∙ e))
@@ -143,7 +143,7 @@ alive_fall span t holders order falls key j k c d lt e f =
 pub pending_fits : PendingFits
 pending_fits m span t reads slack texts mark reading =
     let holders : List Holder = after m span [] (below reads slack texts mark) in
-    let order : HoldersInOrder holders = after_in_order m span [] (below reads slack texts mark) in
+    let order : HoldersAreInOrder holders = after_in_order m span [] (below reads slack texts mark) in
     record {
       all = All-filter _ (IsPending m (length texts) mark) holders (all_pending m span t reads slack texts mark reading);
       in_order = alive_in_order span t holders order;

@@ -15,7 +15,7 @@ use Rattle.eql_values.specs.Orders.{key_eq}
 use Rattle.eql_values.specs.Ordered.{found_or}
 use Rattle.eql_values.specs.Matching.{slot_cmp, act_by, match_by, opening_of, held_after, after}
 use Rattle.eql_laws.specs.Merging.{by_slot, holder_of}
-use Rattle.eql_laws.specs.OneEvent.{AfterLooksUp, AfterHasNoOther, SameHolders, slots_after_event, AfterOne, MatchesOne, AfterNone}
+use Rattle.eql_laws.specs.OneEvent.{AfterLooksUp, AfterHasNoOther, HoldersAreSame, slots_after_event, OneItemMovesSlots, OneItemMatches, AfterNoneIsSame}
 use Rattle.eql_laws.specs.Shapes.{HasStageBefore}
 use Rattle.eql_laws.specs.Slots.{Slots, chain_coming}
 use Rattle.eql_laws.proofs.Lists.{map_back}
@@ -39,7 +39,7 @@ after_has_no_other m span holders items key = (
       ∙ ap (λ (b : Bool). cond b (held_after span (opening_of holders) items key k) None) (no_stage_above m k lt),
 )
 
-pub same_holders : SameHolders
+pub same_holders : HoldersAreSame
 same_holders a b order_a order_b same =
     sym (map_back holder_of by_slot (λ h. refl) a)
     ∙ ap (map holder_of) (same_entries slot_cmp slot_cmp_total slot_same (map by_slot a) (map by_slot b) (subst T (sym order_a) tt) (subst T (sym order_b) tt) (λ q. same q.0 q.1))
@@ -60,12 +60,12 @@ module _ (span : Option ℤ) (opening : Slots) where
       chain_step span opening m (act_by order route) []
       ∙ arrived_alike span (λ j. holder span opening j []) opening (act_by order route) m m (omega arith) (λ j lt. holder_start span opening j)
 
-pub after_one : AfterOne
+pub after_one : OneItemMovesSlots
 after_one m span holders item key k lt =
     opening_after m span holders (item ∷ []) key k lt
     ∙ one_held span (opening_of holders key) item.order (find (λ (route : Route). key_eq key route.key) item.routes) k
 
-pub matches_one : MatchesOne
+pub matches_one : OneItemMatches
 matches_one m span holders item =
     append-nil (filter_map (match_by m span (opening_of holders) [] item.order) item.routes)
     ∙ (λ i. filter_map (λ (route : Route). option_map (λ c. record { key = route.key; chain = c }) (one_chain span (opening_of holders route.key) item.order route m i)) item.routes)
@@ -96,6 +96,6 @@ same_stages m span holders h key zero =
     (after_has_no_other m span holders [] key).0 ∙ sym (no_stage m holders h key zero (λ (g : (1 ≤ 0) × (0 < m)). let le = g.0 in omega (arith, le)))
 same_stages m span holders h key (suc k) = same_stage m span holders h key k (nat_lt (suc k) m) refl
 
-pub after_none : AfterNone
+pub after_none : AfterNoneIsSame
 after_none m span holders order h =
     same_holders (after m span holders []) holders (after_in_order m span holders []) order (same_stages m span holders h)

@@ -21,7 +21,7 @@ use Rattle.eql_values.specs.OrderKeys.{order_cmp}
 use Rattle.eql_values.specs.Ordered.{found_or}
 use Rattle.eql_laws.specs.Merging.{by_slot}
 use Rattle.eql_laws.specs.Slots.{Slots, chain_moved_on, chain_coming, slots_after}
-use Rattle.eql_laws.specs.Shapes.{IsReady, IsFull, FirstBefore, FirstsFall, AfterFalls, OpeningFinds}
+use Rattle.eql_laws.specs.Shapes.{IsReady, IsFull, FirstIsBefore, FirstsFall, AfterFalls, OpeningFinds}
 use Rattle.eql_laws.proofs.Stepping.{holder_step, holder_start}
 use Rattle.eql_laws.proofs.Elements.{some_is}
 use Rattle.eql_laws.proofs.Facts.{left_holds, right_holds}
@@ -88,28 +88,28 @@ module _ (span : Option ℤ) (slots : Slots) (item : Act) where
         | inr b ↦ inl (came_kept (suc k) c b)
       ]
 
-first_on_left : (d c xs : List OrderKey) → FirstBefore d c → FirstBefore (d ++ xs) c
+first_on_left : (d c xs : List OrderKey) → FirstIsBefore d c → FirstIsBefore (d ++ xs) c
 first_on_left [] c xs h = absurd h
 first_on_left (e ∷ d) [] xs h = h
 first_on_left (e ∷ d) (f ∷ c) xs h = h
 
-first_on_right : (d c xs : List OrderKey) → FirstBefore d c → FirstBefore d (c ++ xs)
+first_on_right : (d c xs : List OrderKey) → FirstIsBefore d c → FirstIsBefore d (c ++ xs)
 first_on_right [] c xs h = absurd h
 first_on_right (e ∷ d) [] xs h = absurd h
 first_on_right (e ∷ d) (f ∷ c) xs h = h
 
 -- a sequence that has events, all before this one
-first_before : (d : List OrderKey) (k : ℕ) (x : OrderKey) → length d ≡ suc k → AllBefore x d → FirstBefore d (x ∷ [])
+first_before : (d : List OrderKey) (k : ℕ) (x : OrderKey) → length d ≡ suc k → AllBefore x d → FirstIsBefore d (x ∷ [])
 first_before [] k x h lt = absurd (omega (arith, h))
 first_before (e ∷ d) k x h lt = All-head (λ (event : OrderKey). order_cmp event x ≡ Less) e d lt
 
 -- the first events fall with the stages
 abbrev Falls : Slots → Type 0
-Falls slots = (j k : ℕ) (c d : List OrderKey) → j < k → slots (suc j) ≡ Some c → slots (suc k) ≡ Some d → FirstBefore d c
+Falls slots = (j k : ℕ) (c d : List OrderKey) → j < k → slots (suc j) ≡ Some c → slots (suc k) ≡ Some d → FirstIsBefore d c
 
 module _ (span : Option ℤ) (slots : Slots) (item : Act) (falls : Falls slots)
     (full : (k : ℕ) → IfSome (slots (suc k)) (λ c. length c ≡ suc k)) (before : (k : ℕ) → IfSome (slots (suc k)) (AscendsBefore (Some item.order) (suc k))) where
-  was_before : (k : ℕ) (d : List OrderKey) → slots (suc k) ≡ Some d → FirstBefore d (item.order ∷ [])
+  was_before : (k : ℕ) (d : List OrderKey) → slots (suc k) ≡ Some d → FirstIsBefore d (item.order ∷ [])
   was_before k d e =
       first_before d k item.order (some_is (λ (c : List OrderKey). length c ≡ suc k) (slots (suc k)) d e (full k))
       (some_is (AscendsBefore (Some item.order) (suc k)) (slots (suc k)) d e (before k)).1
@@ -120,27 +120,27 @@ module _ (span : Option ℤ) (slots : Slots) (item : Act) (falls : Falls slots)
       let same : j ≡ k = grind (arith, nat_tests) in
       let fits : fits_after (suc j) item ≡ true = ap (λ (n : ℕ). fits_after (suc n) item) same ∙ fit in cc
 
-  falls_came : (j k : ℕ) (c d : List OrderKey) → j < k → Came span slots item j c → Came span slots item k d → FirstBefore d c
+  falls_came : (j k : ℕ) (c d : List OrderKey) → j < k → Came span slots item j c → Came span slots item k d → FirstIsBefore d c
   falls_came zero zero c d lt a b = absurd (omega (arith, lt))
   falls_came (suc j) zero c d lt a b = absurd (omega (arith, lt))
   falls_came zero (suc k) c d lt (inl a) (inl b) = falls zero (suc k) c d lt a.was b.was
   falls_came zero (suc k) c d lt (inl a) (inr b) =
-      subst (λ (l : List OrderKey). FirstBefore l c) (sym b.is)
+      subst (λ (l : List OrderKey). FirstIsBefore l c) (sym b.is)
       (first_on_left b.from c (item.order ∷ []) (falls zero k c b.from (apart zero k (nat_lt zero k) a.stays b.fits lt refl) a.was b.was))
-  falls_came zero (suc k) c d lt (inr a) (inl b) = subst (λ (l : List OrderKey). FirstBefore d l) (sym a) (was_before (suc k) d b.was)
+  falls_came zero (suc k) c d lt (inr a) (inl b) = subst (λ (l : List OrderKey). FirstIsBefore d l) (sym a) (was_before (suc k) d b.was)
   falls_came zero (suc k) c d lt (inr a) (inr b) =
-      subst (λ (l : List OrderKey). FirstBefore d l) (sym a)
-      (subst (λ (l : List OrderKey). FirstBefore l (item.order ∷ [])) (sym b.is) (first_on_left b.from (item.order ∷ []) (item.order ∷ []) (was_before k b.from b.was)))
+      subst (λ (l : List OrderKey). FirstIsBefore d l) (sym a)
+      (subst (λ (l : List OrderKey). FirstIsBefore l (item.order ∷ [])) (sym b.is) (first_on_left b.from (item.order ∷ []) (item.order ∷ []) (was_before k b.from b.was)))
   falls_came (suc j) (suc k) c d lt (inl a) (inl b) = falls (suc j) (suc k) c d lt a.was b.was
   falls_came (suc j) (suc k) c d lt (inl a) (inr b) =
-      subst (λ (l : List OrderKey). FirstBefore l c) (sym b.is)
+      subst (λ (l : List OrderKey). FirstIsBefore l c) (sym b.is)
       (first_on_left b.from c (item.order ∷ []) (falls (suc j) k c b.from (apart (suc j) k (nat_lt (suc j) k) a.stays b.fits lt refl) a.was b.was))
   falls_came (suc j) (suc k) c d lt (inr a) (inl b) =
-      subst (λ (l : List OrderKey). FirstBefore d l) (sym a.is)
+      subst (λ (l : List OrderKey). FirstIsBefore d l) (sym a.is)
       (first_on_right d a.from (item.order ∷ []) (falls j (suc k) a.from d (omega (arith, lt)) a.was b.was))
   falls_came (suc j) (suc k) c d lt (inr a) (inr b) =
-      subst (λ (l : List OrderKey). FirstBefore d l) (sym a.is)
-      (subst (λ (l : List OrderKey). FirstBefore l (a.from ++ item.order ∷ [])) (sym b.is)
+      subst (λ (l : List OrderKey). FirstIsBefore d l) (sym a.is)
+      (subst (λ (l : List OrderKey). FirstIsBefore l (a.from ++ item.order ∷ [])) (sym b.is)
       (first_on_left b.from (a.from ++ item.order ∷ []) (item.order ∷ [])
       (first_on_right b.from a.from (item.order ∷ []) (falls j k a.from b.from (omega (arith, lt)) a.was b.was))))
 
@@ -178,7 +178,7 @@ module _ (m : ℕ) (span : Option ℤ) (holders : List Holder) (items : List Ite
       let never = (when_some (nat_lt 0 0 && nat_le 0 (m - 1)) (held_after span (opening_of holders) items key zero) c (sym (find-after m span holders items (key, zero)) ∙ e)).0 in cc
 
   falls_from : (key : List Value) (j k : ℕ) (c d : List OrderKey) → j < k
-      → opening_of (after m span holders items) key j ≡ Some c → opening_of (after m span holders items) key k ≡ Some d → FirstBefore d c
+      → opening_of (after m span holders items) key j ≡ Some c → opening_of (after m span holders items) key k ≡ Some d → FirstIsBefore d c
   falls_from key zero k c d lt e f = absurd (no_zero key c e)
   falls_from key (suc j) zero c d lt e f = absurd (no_zero key d f)
   falls_from key (suc j) (suc k) c d lt e f = falls_after key j k c d (omega (arith, lt)) (is_held key (suc j) c e) (is_held key (suc k) d f)

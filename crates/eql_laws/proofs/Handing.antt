@@ -9,9 +9,9 @@ use Rattle.eql_values.specs.Accepted.{Reads, readable, accepted, accepted_from, 
 use Rattle.eql_values.specs.Lines.{lines_in}
 use Rattle.eql_values.specs.Marks.{is_below}
 use Rattle.eql_laws.specs.Belows.{from_to}
-use Rattle.eql_laws.specs.Lateness.{AtMost, best_of, accepted_by}
+use Rattle.eql_laws.specs.Lateness.{IsAtMost, best_of, accepted_by}
 use Rattle.eql_laws.specs.Places.{whole, lines_after}
-use Rattle.eql_laws.specs.Taking.{handed_out, BetweenByShard, TakeSplits, LateBetween, HeldBackGrows}
+use Rattle.eql_laws.specs.Taking.{handed_out, ShardsMakeBetween, TakeSplits, RestIsLateBetween, HeldBackGrows}
 use Rattle.eql_laws.proofs.Lists.{filters_swap, filter_implied}
 use Rattle.eql_laws.proofs.BelowLemmas.{sorted_below}
 use Rattle.eql_laws.proofs.Kept.{none_below}
@@ -48,7 +48,7 @@ by_shard reads slack shard (text ∷ texts) from to =
     (from_to from to (accepted_from reads slack (shard + 1) texts)) (by_shard reads slack (shard + 1) texts from to)
     ∙ ap sorted_items (sym (from_to_append from to (accepted reads slack shard text) (accepted_from reads slack (shard + 1) texts)))
 
-pub between_by_shard : BetweenByShard
+pub between_by_shard : ShardsMakeBetween
 between_by_shard reads slack texts from to = by_shard reads slack 0 texts from to
 
 above_too : (a b : Bool) → (a ≡ true → b ≡ true) → not b ≡ true → not a ≡ true
@@ -57,7 +57,7 @@ above_too true false up e = up refl
 above_too false b up e = refl
 
 -- what is above the greater mark is above the lesser
-above_both : (from to : Mark) → AtMost from to → (xs : List Item) → filter (above to) (filter (above from) xs) ≡ filter (above to) xs
+above_both : (from to : Mark) → IsAtMost from to → (xs : List Item) → filter (above to) (filter (above from) xs) ≡ filter (above to) xs
 above_both from to le xs =
     filters_swap (above to) (above from) xs
     ∙ filter_implied (above from) (above to) (λ item e. above_too (is_below from item) (is_below to item) (λ is. below_up from to item le is) e) xs
@@ -70,7 +70,7 @@ take_splits reads slack shard text from to le =
       held = (sorted_below to kept).1 ∙ ap sorted_items (above_both from to le (accepted reads slack shard text));
     }
 
-pub late_between : LateBetween
+pub late_between : RestIsLateBetween
 late_between reads slack shard from to r place low =
     filters_swap (is_below to) (above from) (accepted reads slack shard (whole r))
     ∙ ap (filter (above from)) (late_of_shard reads slack shard to r place low)

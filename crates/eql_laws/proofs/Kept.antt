@@ -9,7 +9,7 @@ use Rattle.eql_values.specs.declared.order.Mark.{Mark}
 use Rattle.eql_values.specs.declared.item.Item.{Item}
 use Rattle.eql_values.specs.Marks.{is_below, low_of}
 use Rattle.eql_values.specs.Matching.{onto}
-use Rattle.eql_laws.specs.Lateness.{larger, best_of, best_from, late_by, accepted_by, AtMost, LateByBest, AcceptedByBest, BestGoesOn, BestFromGoesOn, AcceptedSplit, LowRises, NoneComesBelow}
+use Rattle.eql_laws.specs.Lateness.{larger, best_of, best_from, late_by, accepted_by, IsAtMost, BestTellsLate, BestTellsAccepted, BestGoesOn, BestFromGoesOn, AcceptedSplits, LowRises, NoneComesBelow}
 use Rattle.eql_laws.proofs.MarkLemmas.{at_most_self, at_most_trans, at_most_end, low_up, accepted_above}
 
 larger_late : (slack t u now : ℤ) → lt_z slack ((cond (lt_z t u) u t) -ℤ now) ≡ (lt_z slack (t -ℤ now) || lt_z slack (u -ℤ now))
@@ -19,7 +19,7 @@ no_more : (b : Bool) → b ≡ (b || false)
 no_more true = refl
 no_more false = refl
 
-pub late_by_best : LateByBest
+pub late_by_best : BestTellsLate
 late_by_best None earlier item = refl
 late_by_best (Some slack) [] item = refl
 late_by_best (Some slack) (e ∷ []) item = sym (no_more (lt_z slack (e.order.ts -ℤ item.order.ts)))
@@ -27,7 +27,7 @@ late_by_best (Some slack) (e ∷ f ∷ earlier) item =
     ap (λ (b : Bool). lt_z slack (e.order.ts -ℤ item.order.ts) || b) (late_by_best (Some slack) (f ∷ earlier) item)
     ∙ sym (larger_late slack e.order.ts (larger f.order.ts (best_of earlier)) item.order.ts)
 
-pub accepted_by_best : AcceptedByBest
+pub accepted_by_best : BestTellsAccepted
 accepted_by_best slack earlier [] = refl
 accepted_by_best slack earlier (item ∷ items) = λ i.
     cond (late_by_best slack earlier item i) (accepted_by_best slack (item ∷ earlier) items i) (item ∷ accepted_by_best slack (item ∷ earlier) items i)
@@ -84,13 +84,13 @@ in_turn : (c : Bool) (item : Item) (xs ys zs : List Item) → zs ≡ xs ++ ys �
 in_turn true item xs ys zs e = e
 in_turn false item xs ys zs e = ap (λ (l : List Item). item ∷ l) e
 
-pub accepted_split : AcceptedSplit
+pub accepted_split : AcceptedSplits
 accepted_split slack best [] b = refl
 accepted_split slack best (item ∷ a) b =
     in_turn (late_by slack best item) item (accepted_by slack (Some (larger item.order.ts best)) a) (accepted_by slack (best_from (Some (larger item.order.ts best)) a) b)
     (accepted_by slack (Some (larger item.order.ts best)) (a ++ b)) (accepted_split slack (Some (larger item.order.ts best)) a b)
 
-low_on : (slack best : Option ℤ) (b : List Item) → AtMost (low_of false slack best) (low_of false slack (best_from best b))
+low_on : (slack best : Option ℤ) (b : List Item) → IsAtMost (low_of false slack best) (low_of false slack (best_from best b))
 low_on slack best [] = at_most_self (low_of false slack best)
 low_on slack best (item ∷ b) =
     at_most_trans (low_of false slack best) (low_of false slack (Some (larger item.order.ts best))) (low_of false slack (best_from (Some (larger item.order.ts best)) b))
@@ -100,14 +100,14 @@ pub low_rises : LowRises
 low_rises true slack best b = at_most_end (low_of false slack best)
 low_rises false slack best b = low_on slack best b
 
-none_one : (slack best : Option ℤ) (mark : Mark) (item : Item) (items : List Item) (c : Bool) → late_by slack best item ≡ c → AtMost mark (low_of false slack best)
+none_one : (slack best : Option ℤ) (mark : Mark) (item : Item) (items : List Item) (c : Bool) → late_by slack best item ≡ c → IsAtMost mark (low_of false slack best)
     → filter (is_below mark) items ≡ [] → filter (is_below mark) (cond c items (item ∷ items)) ≡ []
 none_one slack best mark item items true e h rest = rest
 none_one slack best mark item items false e h rest =
     ap (λ (c : Bool). cond c (item ∷ filter (is_below mark) items) (filter (is_below mark) items)) (accepted_above slack best mark item h e) ∙ rest
 
 -- of what is accepted after a place nothing is below a mark that is safe there
-pub none_below : (slack best : Option ℤ) (mark : Mark) (items : List Item) → AtMost mark (low_of false slack best) → filter (is_below mark) (accepted_by slack best items) ≡ []
+pub none_below : (slack best : Option ℤ) (mark : Mark) (items : List Item) → IsAtMost mark (low_of false slack best) → filter (is_below mark) (accepted_by slack best items) ≡ []
 none_below slack best mark [] h = refl
 none_below slack best mark (item ∷ items) h =
     none_one slack best mark item (accepted_by slack (Some (larger item.order.ts best)) items) (late_by slack best item) refl h

@@ -23,7 +23,7 @@ use Rattle.eql_values.specs.Marks.{is_below}
 use Rattle.eql_values.specs.Masks.{has_stage}
 use Rattle.eql_values.specs.Matching.{Openings, opening_of, act_by, acts_of, match_by, matches_after, matches}
 use Rattle.eql_values.specs.Numbering.{numbered_from, numbered, through, piped, is_head, emitted}
-use Rattle.eql_laws.specs.Books.{book_of, state_of, states_after, InputsGoOn, kept_of, KeptPass, NumbersAscend, IsKeptMatch, StateFits, BookOfFits, StateStands, BookOfStands, completing, FoundByRoutes, CompletesOnce, FoundByEvents, BelowsAreFew, greatest_shards, greatest_found, FoundIsFew}
+use Rattle.eql_laws.specs.Books.{book_of, state_of, states_after, InputsGoOn, kept_of, KeptPass, NumbersAscend, IsKeptMatch, StateFits, BookOfFits, StateStands, BookOfStands, completing, RoutesBoundFound, CompletesOnce, EventsBoundFound, BelowsAreFew, greatest_shards, greatest_found, FoundIsFew}
 use Rattle.eql_laws.specs.Counting.{IsShardText, greatest_lines}
 use Rattle.eql_laws.specs.Cuts.{IsFound, is_of, is_of_shards}
 use Rattle.eql_laws.specs.Shapes.{EventsPass}
@@ -248,7 +248,7 @@ module _ (m : ℕ) (span : Option ℤ) (openings : Openings) where
       let d = by_items (item ∷ past) items in
       omega (arith, a, b, c, d)
 
-pub found_by_routes : FoundByRoutes
+pub found_by_routes : RoutesBoundFound
 found_by_routes m span holders items = by_items m span (opening_of holders) [] items
 
 pairs_once : (m : ℕ) (items : List Item) → All (CompletesOnce m) items → length (flat_map (λ (item : Item). completing m item.routes) items) ≤ length items
@@ -259,7 +259,7 @@ pairs_once m (item ∷ items) h =
     let c = pairs_once m items (All-tail (CompletesOnce m) item items h) in
     omega (arith, a, b, c)
 
-pub found_by_events : FoundByEvents
+pub found_by_events : EventsBoundFound
 found_by_events m span holders items h = let a = found_by_routes m span holders items in let b = pairs_once m items h in omega (arith, a, b)
 
 abbrev lines_count : List ℕ → ℕ

@@ -16,7 +16,7 @@ use Rattle.eql_values.specs.OrderKeys.{EventsAscend}
 use Rattle.eql_values.specs.Routes.{RoutesStand}
 use Rattle.eql_laws.specs.Books.{book_of, BookFits, greatest_shards, greatest_found}
 use Rattle.eql_laws.specs.Counting.{front}
-use Rattle.eql_laws.specs.Bounds.{KeysHave, MasksTo, HasTimes}
+use Rattle.eql_laws.specs.Bounds.{KeysHave, HasMasksTo, HasTimes}
 use Rattle.eql_laws.specs.Cuts.{held_back, IsHeldBack, pending_at, IsPending, PendingAre}
 use Rattle.eql_laws.specs.Fitting.{CutsFit, CutsStand}
 use Rattle.eql_laws.specs.Lanes.{lane_at, lanes_from}
@@ -51,7 +51,7 @@ cuts_fit run reads t shards for places texts few safe range =
       time_in_range = range;
       lane_for_each = length-lanes reads slack (At t) 0 shards;
       lanes = lanes_of_fit reads run.slack t shards for.reading texts safe;
-      lane_masks = all_lanes reads slack (At t) (λ (lane : LaneCut). All (MasksTo run.stages) lane.items)
+      lane_masks = all_lanes reads slack (At t) (λ (lane : LaneCut). All (HasMasksTo run.stages) lane.items)
           (λ shard r. masks_fit run.stages reads slack shard r.first (At t) (λ s line bytes item e. (for.each s line bytes item e).masks)) 0 shards;
       lane_keys = all_lanes reads slack (At t) (λ (lane : LaneCut). All (KeysHave run.values) lane.items) (λ shard r. keys.held_back shard r.first) 0 shards;
       holders = subst (λ (n : ℕ). PendingAre run.stages n (At t) holders) as_many (pending_fits run.stages run.span t reads slack whole_texts (At t) for.reading);

@@ -17,8 +17,8 @@ use Rattle.eql_values.specs.Reading.{IsTime, time_bound}
 use Rattle.eql_laws.specs.Belows.{IsReading, IsMarkTime, greatest_slack}
 use Rattle.eql_laws.specs.Counting.{counts_of, IsShardText, front}
 use Rattle.eql_laws.specs.Cuts.{IsHeldBack}
-use Rattle.eql_laws.specs.Lanes.{lane_at, lanes_from, IsKeptBy, LaneFits, LanesFit, LanesOfFit, least_of, LeastLowFits, SafeTimeTo}
-use Rattle.eql_laws.specs.Lateness.{AtMost, best_of}
+use Rattle.eql_laws.specs.Lanes.{lane_at, lanes_from, IsKeptBy, LaneFits, LanesFit, LanesOfFit, least_of, LeastLowFits, SafeTimeIsBounded}
+use Rattle.eql_laws.specs.Lateness.{IsAtMost, best_of}
 use Rattle.eql_laws.specs.Places.{ReadTo, low_at, lows_from}
 use Rattle.eql_laws.proofs.BelowLemmas.{accepted_of_text, open_low}
 use Rattle.eql_laws.proofs.Counted.{counts_of_stand}
@@ -28,7 +28,7 @@ use Rattle.eql_laws.proofs.Facts.{both_true, true_both}
 use Rattle.eql_laws.proofs.MarkLemmas.{times_le, at_most_self, at_most_trans}
 
 -- an open shard whose low is at least a time
-open_above : (slack t : ℤ) (best : Option ℤ) → AtMost (At t) (low_of false (Some slack) best) → (b : ℤ) × (best ≡ Some b) × (t ≤ℤ (b -ℤ slack))
+open_above : (slack t : ℤ) (best : Option ℤ) → IsAtMost (At t) (low_of false (Some slack) best) → (b : ℤ) × (best ≡ Some b) × (t ≤ℤ (b -ℤ slack))
 open_above slack t None h = cc
 open_above slack t (Some b) h = (b, refl, times_le t (b -ℤ slack) h)
 
@@ -39,13 +39,13 @@ best_at reads shard r = best_of (readable reads shard (lines_in r.first))
 best_time : (reads : Reads) (shard : ℕ) (r : ReadTo) → IsReading reads → IfSome (best_at reads shard r) IsTime
 best_time reads shard r reading = (accepted_of_text reads None shard r.first reading).best_in_range
 
-lane_fits : (reads : Reads) (slack t : ℤ) (shard : ℕ) (r : ReadTo) → IsReading reads → IsShardText r.first → AtMost (At t) (low_at reads (Some slack) shard r)
+lane_fits : (reads : Reads) (slack t : ℤ) (shard : ℕ) (r : ReadTo) → IsReading reads → IsShardText r.first → IsAtMost (At t) (low_at reads (Some slack) shard r)
     → LaneFits slack t shard (lane_at reads (Some slack) shard (At t) r)
 lane_fits reads slack t shard r reading text low =
     let held = held_back_fits reads (Some slack) shard r.first (At t) reading in
     record {
       best_in_range = best_time reads shard r reading;
-      open_best = λ e. open_above slack t (best_at reads shard r) (subst (λ (c : Bool). AtMost (At t) (low_of c (Some slack) (best_at reads shard r))) e low);
+      open_best = λ e. open_above slack t (best_at reads shard r) (subst (λ (c : Bool). IsAtMost (At t) (low_of c (Some slack) (best_at reads shard r))) e low);
       items = All-weaker (IsHeldBack shard r.first (At t)) (IsKeptBy shard (counts_of reads (Some slack) shard r.first).lines (At t))
           (λ item h. record {
             shard_is = h.accepted.shard_is;
@@ -75,7 +75,7 @@ lanes_fit reads slack t shard (r ∷ shards) reading texts safe =
 pub lanes_of_fit : LanesOfFit
 lanes_of_fit reads slack t shards reading texts safe = lanes_fit reads slack t 0 shards reading texts safe
 
-safe_below : (m n : Mark) (marks : List Mark) → AtMost m n → IsTrue (is_safe n marks) → IsTrue (is_safe m marks)
+safe_below : (m n : Mark) (marks : List Mark) → IsAtMost m n → IsTrue (is_safe n marks) → IsTrue (is_safe m marks)
 safe_below m n [] le safe = refl
 safe_below m n (mark ∷ marks) le safe =
     let both = both_true _ _ safe in true_both _ _ (at_most_trans m n mark le both.0) (safe_below m n marks le both.1)
@@ -86,7 +86,7 @@ other_order a Equal e h = let k : is_le Equal ≡ false = subst (λ (o : Orderin
 other_order a Greater e h = let k : is_le Less ≡ false = subst (λ (o : Ordering). is_le o ≡ false) e h in cc
 
 -- of two marks one is at most the other
-other_way : (m n : Mark) → is_le (mark_cmp m n) ≡ false → AtMost n m
+other_way : (m n : Mark) → is_le (mark_cmp m n) ≡ false → IsAtMost n m
 other_way m n h = other_order (mark_cmp m n) (mark_cmp n m) (mark_cmp_total.antisymm m n) h
 
 least_safe : (marks : List Mark) → IsTrue (is_safe (least_of marks) marks)
@@ -123,12 +123,12 @@ module _ (reads : Reads) (slack : ℤ) (reading : IsReading reads) (from : pos 0
   below_bound : (t best : ℤ) → t ≤ℤ (best -ℤ slack) → IsTime best → t ≤ℤ time_bound
   below_bound t best h is = let to = is.1 in omega (arith, ints, h, to, from)
 
-  open_time : (shard : ℕ) (r : ReadTo) (t : ℤ) → AtMost (At t) (low_at reads (Some slack) shard r) → r.closed ≡ false → t ≤ℤ time_bound
+  open_time : (shard : ℕ) (r : ReadTo) (t : ℤ) → IsAtMost (At t) (low_at reads (Some slack) shard r) → r.closed ≡ false → t ≤ℤ time_bound
   open_time shard r t low e =
-      let above = open_above slack t (best_at reads shard r) (subst (λ (c : Bool). AtMost (At t) (low_of c (Some slack) (best_at reads shard r))) e low) in
+      let above = open_above slack t (best_at reads shard r) (subst (λ (c : Bool). IsAtMost (At t) (low_of c (Some slack) (best_at reads shard r))) e low) in
       below_bound t above.0 above.2 (some_is IsTime (best_at reads shard r) above.0 above.1 (best_time reads shard r reading))
 
-  one_open : (shard : ℕ) (r : ReadTo) (t : ℤ) (others closed : Bool) → r.closed ≡ closed → AtMost (At t) (low_at reads (Some slack) shard r)
+  one_open : (shard : ℕ) (r : ReadTo) (t : ℤ) (others closed : Bool) → r.closed ≡ closed → IsAtMost (At t) (low_at reads (Some slack) shard r)
       → (others ≡ true → t ≤ℤ time_bound) → (not closed || others) ≡ true → t ≤ℤ time_bound
   one_open shard r t others true e low rest h = rest h
   one_open shard r t others false e low rest h = open_time shard r t low e
@@ -140,7 +140,7 @@ module _ (reads : Reads) (slack : ℤ) (reading : IsReading reads) (from : pos 0
       let both = both_true _ _ safe in
       one_open shard r t (list_any (λ (r : ReadTo). not r.closed) shards) r.closed refl both.0 (safe_to t (shard + 1) shards both.1) some
 
-pub safe_time_to : SafeTimeTo
+pub safe_time_to : SafeTimeIsBounded
 safe_time_to reads slack t shards reading from safe some = safe_to reads slack reading from t 0 shards safe some
 
 lows_of_closed : (reads : Reads) (slack : ℤ) (shard : ℕ) (shards : List ReadTo) → IsTrue (list_all (λ (r : ReadTo). r.closed) shards)

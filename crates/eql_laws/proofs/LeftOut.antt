@@ -12,7 +12,7 @@ use Rattle.eql_values.specs.declared.found.Holder.{Holder}
 use Rattle.eql_values.specs.Chains.{in_time}
 use Rattle.eql_values.specs.Orders.{key_eq}
 use Rattle.eql_values.specs.Matching.{matches, after, Openings, Slot, slot_cmp, act_by, acts_of, onto, opening_of, held_after, matches_after}
-use Rattle.eql_laws.specs.Alive.{alive_at, alive_holders, ItemsFrom, IsSpan, HoldersInOrder, DeadMatches, DeadAfter, DeadForGood, AfterInOrder, AliveInOrder, DeadAlike, AliveLooksUp, SlotsAfterAlive}
+use Rattle.eql_laws.specs.Alive.{alive_at, alive_holders, ItemsComeFrom, IsSpan, HoldersAreInOrder, DeadMakeNoMatch, AliveAreSameAfter, DeadStayDead, AfterIsInOrder, AliveAreInOrder, DeadChangeNothing, AliveLooksUp, SlotsLeaveOutDead}
 use Rattle.eql_values.specs.Ordered.{in_order}
 use Rattle.eql_values.proofs.InOrder.{in_order-sorted}
 use Rattle.eql_laws.specs.Merging.{by_slot, holder_of}
@@ -76,13 +76,13 @@ module _ (span : Option ℤ) (t : ℤ) where
   holders_filter : (es : List Entry) → map holder_of (filter (alive_entry span t) es) ≡ alive_holders span t (map holder_of es)
   holders_filter es = map_filter holder_of (alive_entry span t) (λ h. in_time span h.chain t) (λ e. refl) es
 
-  pub opening_alive : (holders : List Holder) → HoldersInOrder holders → (key : List Value) (stage : ℕ)
+  pub opening_alive : (holders : List Holder) → HoldersAreInOrder holders → (key : List Value) (stage : ℕ)
       → opening_of (alive_holders span t holders) key stage ≡ alive_at span t (opening_of holders key stage)
   opening_alive holders order key stage =
       ap (find_entry slot_cmp (key, stage)) (entries_filter holders) ∙ find_filter (key, stage) (map by_slot holders) (subst T (sym order) tt)
 
   -- what items say comes when the items come
-  acts_from : (key : List Value) (items : List Item) → ItemsFrom t items → AllFrom t (acts_of key items)
+  acts_from : (key : List Value) (items : List Item) → ItemsComeFrom t items → AllFrom t (acts_of key items)
   acts_from key [] from = tt
   acts_from key (item ∷ items) from =
       elim (find (λ (route : Route). key_eq key route.key) item.routes) as (λ o. AllFrom t (cons_option (option_map (act_by item.order) o) (acts_of key items))) [
@@ -90,11 +90,11 @@ module _ (span : Option ℤ) (t : ℤ) where
         | Some r ↦ (from.0, acts_from key items from.1)
       ]
 
-  onto_from : (items past : List Item) → ItemsFrom t items → ItemsFrom t past → ItemsFrom t (onto items past)
+  onto_from : (items past : List Item) → ItemsComeFrom t items → ItemsComeFrom t past → ItemsComeFrom t (onto items past)
   onto_from [] past from before = before
   onto_from (item ∷ items) past from before = onto_from items (item ∷ past) from.1 (from.0, before)
 
-  matches_alive : (m : ℕ) (openings : Openings) (past items : List Item) → IsSpan span → ItemsFrom t items → ItemsFrom t past
+  matches_alive : (m : ℕ) (openings : Openings) (past items : List Item) → IsSpan span → ItemsComeFrom t items → ItemsComeFrom t past
       → matches_after m span (λ key stage. alive_at span t (openings key stage)) past items ≡ matches_after m span openings past items
   matches_alive m openings past [] s from before = refl
   matches_alive m openings past (item ∷ items) s from before = λ i.
@@ -102,7 +102,7 @@ module _ (span : Option ℤ) (t : ℤ) where
       (chain_alive span s t (openings r.key) (act_by item.order r) (acts_of r.key past) m (from.0, acts_from r.key past before) i)) item.routes
       ++ matches_alive m openings (item ∷ past) items s from.1 (from.0, before) i
 
-pub dead_matches : DeadMatches
+pub dead_matches : DeadMakeNoMatch
 dead_matches m span t holders items s order from =
     (λ i. matches_after m span (λ key stage. opening_alive span t holders order key stage i) [] items)
     ∙ matches_alive span t m (opening_of holders) [] items s from tt
@@ -112,7 +112,7 @@ up_to_alive : (span : Option ℤ) (t : ℤ) (n : ℕ) (slots : Openings) (q : Sl
 up_to_alive span t n slots q =
     elim (nat_lt 0 q.1 && nat_le q.1 n) as (λ b. cond b (alive_at span t (slots q.0 q.1)) None ≡ alive_at span t (cond b (slots q.0 q.1) None)) [ true ↦ refl | false ↦ refl ]
 
-pub dead_after : DeadAfter
+pub dead_after : AliveAreSameAfter
 dead_after m span t holders items s order from =
     ap (map holder_of) (same_entries slot_cmp slot_cmp_total slot_same
     (in_order slot_cmp (all_entries m span (alive_holders span t holders) items))
@@ -137,22 +137,22 @@ twice_one span t later le h hs true y e f rest =
 twice_one span t later le h hs false true e f rest = let k = in_time_before span h.chain t later le f in cc
 twice_one span t later le h hs false false e f rest = rest
 
-pub dead_for_good : DeadForGood
+pub dead_for_good : DeadStayDead
 dead_for_good span t later [] le = refl
 dead_for_good span t later (h ∷ hs) le =
     twice_one span t later le h hs (in_time span h.chain t) (in_time span h.chain later) refl refl (dead_for_good span t later hs le)
 
-pub after_in_order : AfterInOrder
+pub after_in_order : AfterIsInOrder
 after_in_order m span holders items =
     holds_true _ (subst (λ (es : List Entry). T (is_sorted slot_cmp es)) (sym (map_back by_slot holder_of (λ e. refl) (in_order slot_cmp (all_entries m span holders items))))
     (in_order-sorted slot_cmp slot_cmp_total (all_entries m span holders items)))
 
-pub alive_in_order : AliveInOrder
+pub alive_in_order : AliveAreInOrder
 alive_in_order span t holders order =
     holds_true _ (subst (λ (es : List Entry). T (is_sorted slot_cmp es)) (sym (entries_filter span t holders))
     (sorted_filter span t (map by_slot holders) (subst T (sym order) tt)))
 
-pub dead_alike : DeadAlike
+pub dead_alike : DeadChangeNothing
 dead_alike m span t a b items s order_a order_b alike from = (
   sym (dead_matches m span t a items s order_a from) ∙ ap (λ (h : List Holder). matches m span h items) alike ∙ dead_matches m span t b items s order_b from,
   sym (dead_after m span t a items s order_a from) ∙ ap (λ (h : List Holder). after m span h items) alike ∙ dead_after m span t b items s order_b from,
@@ -161,5 +161,5 @@ dead_alike m span t a b items s order_a order_b alike from = (
 pub alive_looks_up : AliveLooksUp
 alive_looks_up span t holders order key stage = opening_alive span t holders order key stage
 
-pub slots_alive : SlotsAfterAlive
+pub slots_alive : SlotsLeaveOutDead
 slots_alive span t slots item k s le = slots_after_alive span s t slots item k le

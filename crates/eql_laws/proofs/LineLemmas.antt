@@ -4,7 +4,7 @@ use Rattle.std.specs.Prelude.{◌==◌, IsTrue}
 use Rattle.std.proofs.lemmas.List.{append-nil}
 use Rattle.std.proofs.Common.{length-append}
 use Rattle.eql_values.specs.Lines.{Line, begin_with, lines_of, numbered_lines}
-use Rattle.eql_laws.specs.Places.{ends_line, is_line_end, is_one_line, lines_after, NextLine, LinesGoOn, LinesStepOn, LineByLine, NumberedGoOn, LinesAreOne, LinesEndOn}
+use Rattle.eql_laws.specs.Places.{ends_line, is_line_end, is_one_line, lines_after, LineIsNext, LinesGoOn, LinesStepOn, LinesAreNext, NumberedGoOn, LinesAreOne, LinesEndOn}
 use Rattle.eql_laws.proofs.Facts.{both_true}
 use Rattle.std.proofs.Common.{◌≢◌, append_assoc}
 use Rattle.std.specs.Prelude.{not}
@@ -145,7 +145,7 @@ module _ (first line rest : List ℕ) (start : IsTrue (ends_line first)) (one : 
   next_number : 1 + length (lines_of first) + 1 ≡ 1 + length (lines_of (first ++ line ++ 10 ∷ []))
   next_number = let a = counted in omega (arith, a)
 
-  pub next_line : NextLine first line rest
+  pub next_line : LineIsNext first line rest
   next_line = record {
     with_feed =
         ap (numbered_lines (1 + length (lines_of first)) (length first)) (one_line_fed line rest one)
@@ -159,7 +159,7 @@ module _ (first line rest : List ℕ) (start : IsTrue (ends_line first)) (one : 
       last_is [] one some = absurd (some refl)
       last_is (byte ∷ line) one some = ap (numbered_lines (1 + length (lines_of first)) (length first)) (one_line_alone byte line one)
 
-pub line_by_line : LineByLine
+pub line_by_line : LinesAreNext
 line_by_line first line rest start one = next_line first line rest start one
 
 pub numbered_go_on : NumberedGoOn

@@ -10,7 +10,7 @@ use Rattle.eql_values.specs.declared.order.Mark.{Mark}
 use Rattle.eql_values.specs.declared.order.Mark.TheVariants.{Start, At, End}
 use Rattle.eql_values.specs.declared.item.Item.{Item}
 use Rattle.eql_values.specs.Marks.{is_below, low_of}
-use Rattle.eql_laws.specs.Lateness.{AtMost, larger, late_by}
+use Rattle.eql_laws.specs.Lateness.{IsAtMost, larger, late_by}
 
 le_by_order : (t u : ℤ) (o : Ordering) → o ≡ int_cmp t u → is_le o ≡ true → t ≤ℤ u
 le_by_order t u Less e h = let k = int_ranked t u Less e in omega (arith, ints, k)
@@ -23,23 +23,23 @@ order_by_le t u Equal e h = refl
 order_by_le t u Greater e h = let k = int_ranked t u Greater e in absurd (omega (arith, ints, k, h))
 
 -- marks with times are in the order of the times
-pub times_le : (t u : ℤ) → AtMost (At t) (At u) → t ≤ℤ u
+pub times_le : (t u : ℤ) → IsAtMost (At t) (At u) → t ≤ℤ u
 times_le t u h = le_by_order t u (int_cmp t u) refl h
 
-pub at_most_times : (t u : ℤ) → t ≤ℤ u → AtMost (At t) (At u)
+pub at_most_times : (t u : ℤ) → t ≤ℤ u → IsAtMost (At t) (At u)
 at_most_times t u h = order_by_le t u (int_cmp t u) refl h
 
-pub at_most_end : (m : Mark) → AtMost m End
+pub at_most_end : (m : Mark) → IsAtMost m End
 at_most_end Start = refl
 at_most_end (At t) = refl
 at_most_end End = refl
 
-pub at_most_self : (m : Mark) → AtMost m m
+pub at_most_self : (m : Mark) → IsAtMost m m
 at_most_self Start = refl
 at_most_self (At t) = at_most_times t t (omega (arith, ints))
 at_most_self End = refl
 
-pub at_most_trans : (a b c : Mark) → AtMost a b → AtMost b c → AtMost a c
+pub at_most_trans : (a b c : Mark) → IsAtMost a b → IsAtMost b c → IsAtMost a c
 at_most_trans Start Start c h k = k
 at_most_trans Start (At u) Start h k = cc
 at_most_trans Start (At u) (At v) h k = refl
@@ -65,7 +65,7 @@ earlier_below : (t u ts : ℤ) → t ≤ℤ u → lt_z ts t ≡ true → lt_z ts
 earlier_below t u ts h e = grind (arith, ints)
 
 -- what is below a mark is below each greater one
-pub below_up : (m n : Mark) (i : Item) → AtMost m n → is_below m i ≡ true → is_below n i ≡ true
+pub below_up : (m n : Mark) (i : Item) → IsAtMost m n → is_below m i ≡ true → is_below n i ≡ true
 below_up Start n i h e = cc
 below_up (At t) (At u) i h e = earlier_below t u i.order.ts (times_le t u h) e
 below_up (At t) End i h e = refl
@@ -78,7 +78,7 @@ not_below_time : (t best slack ts : ℤ) → t ≤ℤ (best -ℤ slack) → lt_z
 not_below_time t best slack ts h e = grind (arith, ints)
 
 -- what isn't late is not below a mark that is at most the low
-pub accepted_above : (slack best : Option ℤ) (m : Mark) (i : Item) → AtMost m (low_of false slack best) → late_by slack best i ≡ false → is_below m i ≡ false
+pub accepted_above : (slack best : Option ℤ) (m : Mark) (i : Item) → IsAtMost m (low_of false slack best) → late_by slack best i ≡ false → is_below m i ≡ false
 accepted_above slack best Start i h e = refl
 accepted_above None best (At t) i h e = cc
 accepted_above (Some slack) None (At t) i h e = cc
@@ -95,7 +95,7 @@ less_slack : (a b slack : ℤ) → a ≤ℤ b → (a -ℤ slack) ≤ℤ (b -ℤ 
 less_slack a b slack h = omega (arith, ints, h)
 
 -- one more time lets the low rise or stay
-pub low_up : (slack best : Option ℤ) (ts : ℤ) → AtMost (low_of false slack best) (low_of false slack (Some (larger ts best)))
+pub low_up : (slack best : Option ℤ) (ts : ℤ) → IsAtMost (low_of false slack best) (low_of false slack (Some (larger ts best)))
 low_up None best ts = refl
 low_up (Some slack) None ts = refl
 low_up (Some slack) (Some best) ts =

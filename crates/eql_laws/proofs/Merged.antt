@@ -28,9 +28,9 @@ use Rattle.eql_values.specs.Ordered.{numbers}
 use Rattle.eql_values.proofs.InOrder.{is_in_order, in_order-sorted}
 use Rattle.eql_values.specs.Matching.{Openings, act_by, acts_of, match_by, matches_after, matches, opening_of}
 use Rattle.eql_values.specs.Routing.{routed}
-use Rattle.eql_values.specs.Ascending.{AllAfter, Ascend}
+use Rattle.eql_values.specs.Ascending.{AllAreAfter, Ascend}
 use Rattle.eql_laws.specs.Merging.{last_of, Ending, ending_cmp, by_ending, match_of, by_slot, holder_of}
-use Rattle.eql_laws.specs.Shapes.{MatchesInOrder}
+use Rattle.eql_laws.specs.Shapes.{MatchesAreInOrder}
 use Rattle.eql_laws.specs.Parts.{KeysMerge, KeysGather, holders_in}
 use Rattle.eql_laws.proofs.Lists.{map_back, find_kinds}
 use Rattle.eql_laws.proofs.Stepping.{chain_step, slots_of_past}
@@ -130,7 +130,7 @@ module _ (m : ℕ) (span : Option ℤ) (openings : Openings) where
       (less_is _ (ap (λ (o : Ordering). ordering_then (ordering_then o Equal) (key_cmp key r.key)) lt))
       (below_later event order key past routes rest lt h))
 
-  below_all_later : (event : OrderKey) (key : List Value) (past items : List Item) → AllAfter event items
+  below_all_later : (event : OrderKey) (key : List Value) (past items : List Item) → AllAreAfter event items
       → T (below_all ending_cmp (event ∷ [], key) (ends_after past items))
   below_all_later event key past [] after = tt
   below_all_later event key past (item ∷ items) after =
@@ -177,7 +177,7 @@ pub endings_ascend : (m : ℕ) (span : Option ℤ) (holders : List Holder) (item
 endings_ascend m span holders items up =
     subst (λ (es : List EndingEntry). T (is_sorted ending_cmp es)) (sym (ends_are m span (opening_of holders) [] items)) (ends_sorted m span (opening_of holders) [] items up)
 
-pub matches_in_order : MatchesInOrder
+pub matches_in_order : MatchesAreInOrder
 matches_in_order m span holders items up = holds_true _ (endings_ascend m span holders items up)
 
 pub keys_merge : KeysMerge

@@ -16,8 +16,8 @@ use Rattle.eql_values.specs.Chains.{in_time}
 use Rattle.eql_values.specs.Matching.{matches, after}
 use Rattle.eql_values.specs.Ordered.{numbers}
 use Rattle.eql_values.specs.Routing.{routed}
-use Rattle.eql_laws.specs.Alive.{HoldersInOrder, alive_holders}
-use Rattle.eql_laws.specs.Apart.{joined, InMatchOrder, ending_of}
+use Rattle.eql_laws.specs.Alive.{HoldersAreInOrder, alive_holders}
+use Rattle.eql_laws.specs.Apart.{joined, AreInMatchOrder, ending_of}
 use Rattle.eql_laws.specs.Merging.{Ending, ending_cmp, in_match_order, in_slot_order}
 use Rattle.eql_laws.specs.Parts.{holders_in, matches_in, found_by_parts, alive_in, PartsFindAll, PartsGather}
 use Rattle.eql_laws.specs.Shapes.{HasStageBefore}
@@ -115,12 +115,12 @@ module _ (m : ℕ) (span : Option ℤ) (part : List Value → ℕ) (n : ℕ) (ho
       (All-passed (λ (f : Match). Unit {0}) (OfKind ending_cmp ending_same ending_of part_of_ending p) (λ (f : Match). part f.key == p)
       (λ f u e. is_equal_kind (part f.key) p e) whole (λ k d lt. tt))
 
-  found_in_order : (p : ℕ) → InMatchOrder (found_in p)
+  found_in_order : (p : ℕ) → AreInMatchOrder (found_in p)
   found_in_order p = matches_in_order m span holders (routed part p items) ((routed_pieces part p).ascends items up)
 
-  all_in_order : (ns : List ℕ) → All InMatchOrder (map found_in ns)
-  all_in_order [] = All-nil InMatchOrder
-  all_in_order (p ∷ ns) = All-cons InMatchOrder (found_in p) (map found_in ns) (found_in_order p) (all_in_order ns)
+  all_in_order : (ns : List ℕ) → All AreInMatchOrder (map found_in ns)
+  all_in_order [] = All-nil AreInMatchOrder
+  all_in_order (p ∷ ns) = All-cons AreInMatchOrder (found_in p) (map found_in ns) (found_in_order p) (all_in_order ns)
 
   pub parts_find : Rattle.eql_laws.specs.Parts.PartsFind m span part n holders items
   parts_find = record {
@@ -142,8 +142,8 @@ module _ (m : ℕ) (span : Option ℤ) (t : ℤ) (part : List Value → ℕ) (n 
   abbrev living : List Holder
   living = alive_holders span t all
 
-  part_stands : (p : ℕ) → HoldersInOrder (holders_in part p all)
-  part_stands p = subst HoldersInOrder (after_routed part p m span holders items) (after_in_order m span (holders_in part p holders) (routed part p items))
+  part_stands : (p : ℕ) → HoldersAreInOrder (holders_in part p all)
+  part_stands p = subst HoldersAreInOrder (after_routed part p m span holders items) (after_in_order m span (holders_in part p holders) (routed part p items))
 
   living_stays : after m span living [] ≡ living
   living_stays =

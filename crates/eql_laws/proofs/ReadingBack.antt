@@ -5,14 +5,14 @@ use Rattle.std.specs.List.{list_any}
 use Rattle.eql_values.specs.declared.order.OrderKey.{OrderKey}
 use Rattle.eql_values.specs.declared.item.Act.{Act}
 use Rattle.eql_values.specs.Chains.{Placed, fits_after, ends, in_time, here_or, at_start, latest, followed, chain}
-use Rattle.eql_laws.specs.InWords.{NoneBetween, Follows}
+use Rattle.eql_laws.specs.InWords.{NoneStandsBetween, Follows}
 
 -- what the search for the greatest place found
 record Found (f : List Act → Option (List OrderKey)) (past : List Act) (found : Placed) : Type 0 where
   place : List Act
   parts : past ≡ found.1 ++ place
   there : f place ≡ Some found.0
-  greatest : NoneBetween f found.1 place
+  greatest : NoneStandsBetween f found.1 place
 
 found_at_start : (f : List Act → Option (List OrderKey)) (o : Option (List OrderKey)) (found : Placed) → f [] ≡ o → at_start o ≡ Some found → Found f [] found
 found_at_start f None found e is = cc
@@ -87,7 +87,7 @@ latest_here : (f : List Act → Option (List OrderKey)) (place : List Act) (befo
 latest_here f [] before e = ap at_start e
 latest_here f (x ∷ place) before e = ap (λ (o : Option (List OrderKey)). here_or o x (latest f place)) e
 
-latest_is : (f : List Act → Option (List OrderKey)) (between place : List Act) (before : List OrderKey) → f place ≡ Some before → NoneBetween f between place
+latest_is : (f : List Act → Option (List OrderKey)) (between place : List Act) (before : List OrderKey) → f place ≡ Some before → NoneStandsBetween f between place
     → latest f (between ++ place) ≡ Some (before, between)
 latest_is f [] place before e none = latest_here f place before e
 latest_is f (x ∷ between) place before e none =

@@ -13,7 +13,7 @@ use Rattle.eql_values.specs.declared.item.Route.{Route}
 use Rattle.eql_values.specs.declared.item.Item.{Item}
 use Rattle.eql_values.specs.declared.found.Match.{Match}
 use Rattle.eql_values.specs.declared.found.Holder.{Holder}
-use Rattle.eql_values.specs.Ascending.{AllAfter, Ascend}
+use Rattle.eql_values.specs.Ascending.{AllAreAfter, Ascend}
 use Rattle.eql_values.specs.Matching.{Openings, opening_of, onto, keys_in, act_by, acts_of, match_by, matches_after, after, held_after}
 use Rattle.std.specs.declared.cmp.Ordering.{Ordering}
 use Rattle.std.proofs.lemmas.List.{append-nil}
@@ -144,7 +144,7 @@ ascending_rises (item ∷ next ∷ items) up = (up.1.0, ascending_rises (next �
 ready_before : (items : List Item) (h : Holder) → IsReady items h → AscendsBefore (first_of items) h.stage h.chain
 ready_before [] h r = r.ascends
 ready_before (item ∷ items) h r =
-    (r.ascends, All-weaker (λ (event : OrderKey). AllAfter event (item ∷ items)) (λ (event : OrderKey). order_cmp event item.order ≡ Less) (λ e a. a.0) h.chain r.before)
+    (r.ascends, All-weaker (λ (event : OrderKey). AllAreAfter event (item ∷ items)) (λ (event : OrderKey). order_cmp event item.order ≡ Less) (λ e a. a.0) h.chain r.before)
 
 pub ready_openings : (holders : List Holder) (items : List Item) → All (IsReady items) holders → (key : List Value) (k : ℕ)
     → IfSome (opening_of holders key (suc k)) (AscendsBefore (first_of items) (suc k))
@@ -157,7 +157,7 @@ matches_ascend m span holders items up h =
     matches_made ComesBefore AscendsBefore AscendsTo alone goes_to made_before still_before before_before span (opening_of holders)
     m MatchAscends (λ key x bound c made b. made.0) [] items (ready_openings holders items h) (ascending_rises items up)
 
-later_after : (e x : OrderKey) (items : List Item) → order_cmp e x ≡ Less → AllAfter x items → AllAfter e items
+later_after : (e x : OrderKey) (items : List Item) → order_cmp e x ≡ Less → AllAreAfter x items → AllAreAfter e items
 later_after e x [] lt h = tt
 later_after e x (item ∷ items) lt h = (order_cmp_total.trans e x item.order lt h.0, later_after e x items lt h.1)
 
@@ -166,7 +166,7 @@ made_ready : (more : List Item) (k : ℕ) (key : List Value) (c : List OrderKey)
 made_ready [] k key c up h = record { ascends = h; before = λ i d lt. tt }
 made_ready (item ∷ more) k key c up h = record {
   ascends = h.0;
-  before = All-weaker (λ (event : OrderKey). order_cmp event item.order ≡ Less) (λ (event : OrderKey). AllAfter event (item ∷ more))
+  before = All-weaker (λ (event : OrderKey). order_cmp event item.order ≡ Less) (λ (event : OrderKey). AllAreAfter event (item ∷ more))
       (λ e lt. (lt, later_after e item.order more lt up.1)) c h.1;
 }
 

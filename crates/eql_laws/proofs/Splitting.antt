@@ -12,7 +12,7 @@ use Rattle.eql_values.specs.declared.item.Act.{Act}
 use Rattle.eql_values.specs.Chains.{holder}
 use Rattle.eql_values.specs.Matching.{Openings, Slot, slot_cmp, acts_of, onto, opening_of, held_after, after, matches}
 use Rattle.eql_laws.specs.Merging.{holder_of}
-use Rattle.eql_laws.specs.Splits.{MatchesSplit, AfterSplit}
+use Rattle.eql_laws.specs.Splits.{MatchesSplit, AfterSplits}
 use Rattle.eql_values.proofs.InOrder.{in_order-sorted}
 use Rattle.eql_laws.proofs.Halves.{holder_append, holder_alike}
 use Rattle.eql_laws.proofs.Onward.{split_openings, matches_alike, acts_append}
@@ -62,7 +62,7 @@ up_to_split : (m : ℕ) (x y : Openings) (q : Slot) → ((key : List Value) (j :
 up_to_split m x y (key, zero) same = refl
 up_to_split m x y (key, suc j) same = guarded (nat_lt 0 (suc j) && nat_le (suc j) (m - 1)) (x key (suc j)) (y key (suc j)) (λ h. same key j (below m j h))
 
-pub after_split : AfterSplit
+pub after_split : AfterSplits
 after_split m span holders a b =
     ap (map holder_of) (same_entries slot_cmp slot_cmp_total slot_same _ _ (in_order-sorted slot_cmp slot_cmp_total (all_entries m span holders (a ++ b))) (in_order-sorted slot_cmp slot_cmp_total (all_entries m span (after m span holders a) b)) (λ q.
     find-held m span holders (a ++ b) q

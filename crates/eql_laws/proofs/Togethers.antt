@@ -11,10 +11,10 @@ use Rattle.eql_values.specs.declared.order.OrderKey.{OrderKey}
 use Rattle.eql_values.specs.declared.order.Mark.{Mark}
 use Rattle.eql_values.specs.declared.order.Mark.TheVariants.{Start, At, End}
 use Rattle.eql_values.specs.declared.item.Item.{Item}
-use Rattle.eql_values.specs.Ascending.{AllAfter}
+use Rattle.eql_values.specs.Ascending.{AllAreAfter}
 use Rattle.eql_values.specs.Marks.{is_below}
 use Rattle.eql_values.specs.OrderKeys.{order_cmp}
-use Rattle.eql_laws.specs.Together.{AscendTogether, StandsBefore, NoneBelowFrom}
+use Rattle.eql_laws.specs.Together.{AscendTogether, StandsBefore, NotBelowComesFrom}
 
 earlier : (t ts us : ℤ) (o rest : Ordering) → o ≡ int_cmp ts us → lt_z ts t ≡ true → lt_z us t ≡ false → ordering_then o rest ≡ Less
 earlier t ts us Less rest e p q = refl
@@ -33,7 +33,7 @@ stands_before mark item (next ∷ items) p q = (
   stands_before mark item items p (All-tail (λ (x : Item). is_below mark x ≡ false) next items q),
 )
 
-after_both : (event : OrderKey) (a b : List Item) → AllAfter event a → AllAfter event b → AllAfter event (a ++ b)
+after_both : (event : OrderKey) (a b : List Item) → AllAreAfter event a → AllAreAfter event b → AllAreAfter event (a ++ b)
 after_both event [] b p q = q
 after_both event (item ∷ a) b p q = (p.0, after_both event a b p.1 q)
 
@@ -46,7 +46,7 @@ ascend_together mark (item ∷ a) b up more p q =
 not_before : (t ts : ℤ) → lt_z ts t ≡ false → t ≤ℤ ts
 not_before t ts e = grind (arith, ints)
 
-pub none_below_from : NoneBelowFrom
+pub none_below_from : NotBelowComesFrom
 none_below_from t [] h = tt
 none_below_from t (item ∷ items) h = (
   not_before t item.order.ts (All-head (λ (x : Item). is_below (At t) x ≡ false) item items h),

@@ -20,18 +20,18 @@ module _ {X K : Type 0} (R : K → K → Ordering) (key : X → K) where
   has_key k xs = list_any (λ (x : X). eq_by_cmp R k (key x)) xs
 
   -- no key is in both lists
-  abbrev pub NoKeyInBoth : List X → List X → Type 0
-  NoKeyInBoth xs ys = (k : K) → has_key k xs ≡ true → has_key k ys ≡ false
+  abbrev pub ShareNoKey : List X → List X → Type 0
+  ShareNoKey xs ys = (k : K) → has_key k xs ≡ true → has_key k ys ≡ false
 
   -- no key is in this list and in one of those
-  abbrev pub NoKeyInOthers : List X → List (List X) → Type 0
-  NoKeyInOthers xs [] = Unit {0}
-  NoKeyInOthers xs (ys ∷ lists) = NoKeyInBoth xs ys × NoKeyInOthers xs lists
+  abbrev pub SharesNoKey : List X → List (List X) → Type 0
+  SharesNoKey xs [] = Unit {0}
+  SharesNoKey xs (ys ∷ lists) = ShareNoKey xs ys × SharesNoKey xs lists
 
   -- no key is in two of the lists
-  abbrev pub NoKeyTwice : List (List X) → Type 0
-  NoKeyTwice [] = Unit {0}
-  NoKeyTwice (xs ∷ lists) = NoKeyInOthers xs lists × NoKeyTwice lists
+  abbrev pub RepeatNoKey : List (List X) → Type 0
+  RepeatNoKey [] = Unit {0}
+  RepeatNoKey (xs ∷ lists) = SharesNoKey xs lists × RepeatNoKey lists
 
 -- the place of an item in the order of events
 abbrev pub place_of : Item → OrderKey
@@ -42,25 +42,25 @@ abbrev pub has_place : OrderKey → List Item → Bool
 has_place = has_key order_cmp place_of
 
 -- no place is in both lists
-abbrev pub Apart : List Item → List Item → Type 0
-Apart = NoKeyInBoth order_cmp place_of
+abbrev pub AreApart : List Item → List Item → Type 0
+AreApart = ShareNoKey order_cmp place_of
 
 -- no place is in this list and in one of those
-abbrev pub ApartFrom : List Item → List (List Item) → Type 0
-ApartFrom = NoKeyInOthers order_cmp place_of
+abbrev pub IsApartFrom : List Item → List (List Item) → Type 0
+IsApartFrom = SharesNoKey order_cmp place_of
 
 -- no place is in two of the lists
-abbrev pub AllApart : List (List Item) → Type 0
-AllApart = NoKeyTwice order_cmp place_of
+abbrev pub AllAreApart : List (List Item) → Type 0
+AllAreApart = RepeatNoKey order_cmp place_of
 
 -- the last event and the key of a match
 abbrev pub ending_of : Match → Ending
 ending_of m = (by_ending m).0
 
 -- the matches ascend strictly by last event, and then by key
-abbrev pub InMatchOrder : List Match → Type 0
-InMatchOrder found = IsTrue (is_sorted ending_cmp (map by_ending found))
+abbrev pub AreInMatchOrder : List Match → Type 0
+AreInMatchOrder found = IsTrue (is_sorted ending_cmp (map by_ending found))
 
 -- no last event and key is in two of the lists
-abbrev pub MatchesApart : List (List Match) → Type 0
-MatchesApart = NoKeyTwice ending_cmp ending_of
+abbrev pub MatchesAreApart : List (List Match) → Type 0
+MatchesAreApart = RepeatNoKey ending_cmp ending_of

@@ -10,8 +10,8 @@ use Rattle.eql_values.specs.Ascending.{Ascend}
 use Rattle.eql_values.specs.Lines.{lines_of, lines_in}
 use Rattle.eql_values.specs.Marks.{is_below, low_of}
 use Rattle.eql_values.specs.Reading.{IsTime, IsReadAt, time_bound}
-use Rattle.eql_values.specs.Routes.{RoutesInOrder, RoutesStand}
-use Rattle.eql_laws.specs.Lateness.{AtMost, best_of}
+use Rattle.eql_values.specs.Routes.{RoutesAreInOrder, RoutesStand}
+use Rattle.eql_laws.specs.Lateness.{IsAtMost, best_of}
 
 -- these readings are those of a reader of lines: each event has the shard and the line that it was read at
 abbrev pub IsReading : Reads → Type 0
@@ -19,7 +19,7 @@ IsReading reads = (shard line : ℕ) (bytes : List ℕ) (item : Item) → reads 
 
 -- the item's routes stand in order
 abbrev pub HasRoutesInOrder : Item → Type 0
-HasRoutesInOrder item = RoutesInOrder item.routes
+HasRoutesInOrder item = RoutesAreInOrder item.routes
 
 -- items in the order of their places ascend, where their routes stand in order
 abbrev pub SortedAscends : Type 0
@@ -30,16 +30,16 @@ abbrev pub BelowAscends : Type 0
 BelowAscends = (reads : Reads) (slack : Option ℤ) (texts : List (List ℕ)) (mark : Mark) → IsReading reads → Ascend (below reads slack texts mark)
 
 -- putting lists in order one by one, and then all of them, is putting all in order at once
-abbrev pub SortedEach : Type 0
-SortedEach = (lists : List (List Item)) → sorted_items (flat_map sorted_items lists) ≡ sorted_items (flat_map (λ (items : List Item). items) lists)
+abbrev pub SortingEachSortsAll : Type 0
+SortingEachSortsAll = (lists : List (List Item)) → sorted_items (flat_map sorted_items lists) ≡ sorted_items (flat_map (λ (items : List Item). items) lists)
 
 -- further items may be put in order with those that stand in order
-abbrev pub SortedMore : Type 0
-SortedMore = (a b : List Item) → sorted_items (sorted_items a ++ b) ≡ sorted_items (a ++ b)
+abbrev pub SortingGoesOn : Type 0
+SortingGoesOn = (a b : List Item) → sorted_items (sorted_items a ++ b) ≡ sorted_items (a ++ b)
 
 -- what lies below a mark, and what doesn't, may be taken before or after putting in order
-abbrev pub SortedBelow : Type 0
-SortedBelow = (mark : Mark) (items : List Item)
+abbrev pub SortingKeepsBelow : Type 0
+SortingKeepsBelow = (mark : Mark) (items : List Item)
     → (filter (is_below mark) (sorted_items items) ≡ sorted_items (filter (is_below mark) items))
     × (filter (λ item. not (is_below mark item)) (sorted_items items) ≡ sorted_items (filter (λ item. not (is_below mark item)) items))
 
@@ -53,7 +53,7 @@ between reads slack texts from to = sorted_items (from_to from to (accepted_from
 
 -- the events below the greater of two marks are those below the lesser, followed by those between
 abbrev pub BelowGrows : Type 0
-BelowGrows = (reads : Reads) (slack : Option ℤ) (texts : List (List ℕ)) (from to : Mark) → AtMost from to
+BelowGrows = (reads : Reads) (slack : Option ℤ) (texts : List (List ℕ)) (from to : Mark) → IsAtMost from to
     → below reads slack texts to ≡ below reads slack texts from ++ between reads slack texts from to
 
 -- an accepted event of a text: it has its shard, a line of the text and its place, a time within the bound, and routes in order
@@ -72,8 +72,8 @@ pub record AcceptedAre (reads : Reads) (slack : Option ℤ) (shard : ℕ) (text 
   pub readable_fewer : length (readable reads shard (lines_in text)) ≤ length (lines_of text)
   pub best_in_range : IfSome (best_of (readable reads shard (lines_in text))) IsTime
 
-abbrev pub AcceptedOfText : Type 0
-AcceptedOfText = (reads : Reads) (slack : Option ℤ) (shard : ℕ) (text : List ℕ) → IsReading reads → AcceptedAre reads slack shard text
+abbrev pub AcceptedComeFromText : Type 0
+AcceptedComeFromText = (reads : Reads) (slack : Option ℤ) (shard : ℕ) (text : List ℕ) → IsReading reads → AcceptedAre reads slack shard text
 
 -- an event of all texts below a mark: it is of one of the shards, has a time within the bound and routes in order, and is below the mark
 pub record IsBelow (shards : ℕ) (mark : Mark) (item : Item) : Type 0 where
@@ -96,11 +96,11 @@ abbrev pub IsMarkTime : ℤ → Type 0
 IsMarkTime t = ((neg_ℤ time_bound -ℤ greatest_slack) ≤ℤ t) × (t ≤ℤ time_bound)
 
 -- the low of an open shard, where it is a time, is the greatest timestamp less the slack, and the time of a mark
-abbrev pub OpenLow : Type 0
-OpenLow = (slack : ℤ) (best : Option ℤ) (t : ℤ) → pos 0 ≤ℤ slack → slack ≤ℤ greatest_slack → IfSome best IsTime
+abbrev pub OpenLowIsTime : Type 0
+OpenLowIsTime = (slack : ℤ) (best : Option ℤ) (t : ℤ) → pos 0 ≤ℤ slack → slack ≤ℤ greatest_slack → IfSome best IsTime
     → low_of false (Some slack) best ≡ At t → IsMarkTime t
 
 -- an open shard whose low is at least a time has a slack and a greatest timestamp, which less the slack is at least that time
-abbrev pub OpenLowAtLeast : Type 0
-OpenLowAtLeast = (slack best : Option ℤ) (t : ℤ) → AtMost (At t) (low_of false slack best)
+abbrev pub OpenLowIsAtLeast : Type 0
+OpenLowIsAtLeast = (slack best : Option ℤ) (t : ℤ) → IsAtMost (At t) (low_of false slack best)
     → (s : ℤ) × (b : ℤ) × (slack ≡ Some s) × (best ≡ Some b) × (t ≤ℤ (b -ℤ s))

@@ -102,8 +102,8 @@ abbrev pub completing : ℕ → List Route → List Route
 completing m routes = filter (λ (r : Route). has_stage r.mask m) routes
 
 -- no more matches than pairs of an event and a route of it that fits the last stage
-abbrev pub FoundByRoutes : Type 0
-FoundByRoutes = (m : ℕ) (span : Option ℤ) (holders : List Holder) (items : List Item)
+abbrev pub RoutesBoundFound : Type 0
+RoutesBoundFound = (m : ℕ) (span : Option ℤ) (holders : List Holder) (items : List Item)
     → length (matches m span holders items) ≤ length (flat_map (λ (item : Item). completing m item.routes) items)
 
 -- the event has at most one key at the last stage
@@ -111,8 +111,8 @@ abbrev pub CompletesOnce : ℕ → Item → Type 0
 CompletesOnce m item = length (completing m item.routes) ≤ 1
 
 -- so no more matches than events, where each has at most one key at the last stage
-abbrev pub FoundByEvents : Type 0
-FoundByEvents = (m : ℕ) (span : Option ℤ) (holders : List Holder) (items : List Item)
+abbrev pub EventsBoundFound : Type 0
+EventsBoundFound = (m : ℕ) (span : Option ℤ) (holders : List Holder) (items : List Item)
     → All (CompletesOnce m) items → length (matches m span holders items) ≤ length items
 
 -- no more events below a mark than lines of all texts, and no more lines than bytes

@@ -36,24 +36,24 @@ abbrev pub HasStagesTo : ℕ → Mask → Type 0
 HasStagesTo m mask = (k : ℕ) → m < k → k ≤ 256 → has_stage mask k ≡ false
 
 -- nor has any mask of the event
-abbrev pub MasksTo : ℕ → Item → Type 0
-MasksTo m item = All (λ (r : Route). HasStagesTo m r.mask) item.routes
+abbrev pub HasMasksTo : ℕ → Item → Type 0
+HasMasksTo m item = All (λ (r : Route). HasStagesTo m r.mask) item.routes
 
 -- where no mask that is read has a stage above the last, none of an event that is held back has
 abbrev pub MasksFit : Type 0
 MasksFit = (m : ℕ) (reads : Reads) (slack : Option ℤ) (shard : ℕ) (text : List ℕ) (mark : Mark)
-    → ((shard line : ℕ) (bytes : List ℕ) (item : Item) → reads shard line bytes ≡ got.Item item → MasksTo m item)
-    → All (MasksTo m) (held_back reads slack shard text mark)
+    → ((shard line : ℕ) (bytes : List ℕ) (item : Item) → reads shard line bytes ≡ got.Item item → HasMasksTo m item)
+    → All (HasMasksTo m) (held_back reads slack shard text mark)
 
 -- each event of the chain has a time within the bound
 abbrev pub HasTimes : List OrderKey → Type 0
 HasTimes chain = All (λ (event : OrderKey). IsTime event.ts) chain
 
 -- each event of what is pending and of what was found at a mark has a time within the bound
-pub record KeptTimes (m : ℕ) (span : Option ℤ) (t : ℤ) (reads : Reads) (slack : Option ℤ) (texts : List (List ℕ)) (mark : Mark) : Type 0 where
+pub record KeptHaveTimes (m : ℕ) (span : Option ℤ) (t : ℤ) (reads : Reads) (slack : Option ℤ) (texts : List (List ℕ)) (mark : Mark) : Type 0 where
   pub pending : All (λ (h : Holder). HasTimes h.chain) (pending_at m span t reads slack texts mark)
   pub found : All (λ (found : Match). HasTimes found.chain) (matches m span [] (below reads slack texts mark))
 
 abbrev pub TimesFit : Type 0
 TimesFit = (m : ℕ) (span : Option ℤ) (t : ℤ) (reads : Reads) (slack : Option ℤ) (texts : List (List ℕ)) (mark : Mark) → IsReading reads
-    → KeptTimes m span t reads slack texts mark
+    → KeptHaveTimes m span t reads slack texts mark

@@ -82,8 +82,8 @@ counts_from reads slack shard best counts lines = record {
 }
 
 -- one kept time tells which events are late
-abbrev pub LateByKept : Type 0
-LateByKept = (slack : Option ℤ) (earlier items : List Item) → late_after slack earlier items ≡ late_from slack (best_of earlier) items
+abbrev pub KeptTellsLate : Type 0
+KeptTellsLate = (slack : Option ℤ) (earlier items : List Item) → late_after slack earlier items ≡ late_from slack (best_of earlier) items
 
 -- the counts of two texts go on from those of the first
 abbrev pub CountsGoOn : Type 0
@@ -97,7 +97,7 @@ CountsStepOn = (reads : Reads) (slack : Option ℤ) (shard : ℕ) (best : Option
     → counts_from reads slack shard best counts (a ++ b)
     ≡ counts_from reads slack shard (best_from best (readable reads shard a)) (counts_from reads slack shard best counts a) b
 
--- counts as a cut has them: the accepted, the late and the rejected lines are no more than all, and the first bad line is there exactly where some are rejected
+-- counts as a cut has them: the accepted, the late and the rejected lines are no more than all, and the first bad line is there exactly when some are rejected
 pub record CountsStand (counts : Counts) : Type 0 where
   pub fewer : counts.accepted + counts.late + counts.rejected ≤ counts.lines
   pub first_bad : (counts.first ≡ None) ↔ (counts.rejected ≡ 0)
@@ -137,8 +137,8 @@ pub record FrontIsWithin (r : ReadTo) : Type 0 where
   pub bytes : length r.first ≤ length (whole r)
   pub by_bytes : length (lines_of r.first) ≤ length r.first
 
-abbrev pub FrontsWithin : Type 0
-FrontsWithin = (r : ReadTo) → FrontIsWithin r
+abbrev pub FrontsAreWithin : Type 0
+FrontsAreWithin = (r : ReadTo) → FrontIsWithin r
 
 -- so what was read of texts that shards may have are texts that shards may have
 abbrev pub FrontsFit : Type 0

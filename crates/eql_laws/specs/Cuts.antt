@@ -12,7 +12,7 @@ use Rattle.eql_values.specs.Ascending.{Ascend}
 use Rattle.eql_values.specs.Marks.{is_below}
 use Rattle.eql_values.specs.Matching.{matches, after}
 use Rattle.eql_values.specs.OrderKeys.{EventsAscend}
-use Rattle.eql_laws.specs.Alive.{HoldersInOrder, alive_holders}
+use Rattle.eql_laws.specs.Alive.{HoldersAreInOrder, alive_holders}
 use Rattle.eql_laws.specs.Belows.{IsReading, IsAcceptedOf}
 use Rattle.eql_laws.specs.Shapes.{EventsPass, FirstsFall}
 
@@ -71,7 +71,7 @@ pending_at m span t reads slack texts mark = alive_holders span t (after m span 
 
 pub record PendingAre (m shards : ℕ) (mark : Mark) (holders : List Holder) : Type 0 where
   pub all : All (IsPending m shards mark) holders
-  pub in_order : HoldersInOrder holders
+  pub in_order : HoldersAreInOrder holders
   pub firsts_fall : FirstsFall holders
 
 abbrev pub PendingFits : Type 0

@@ -15,10 +15,10 @@ use Rattle.eql_values.specs.Matching.{matches}
 use Rattle.eql_values.specs.Ascending.{Ascend}
 use Rattle.eql_values.specs.OrderKeys.{EventsAscend}
 use Rattle.eql_values.specs.Routes.{RoutesStand}
-use Rattle.eql_laws.specs.Alive.{HoldersInOrder}
+use Rattle.eql_laws.specs.Alive.{HoldersAreInOrder}
 use Rattle.eql_laws.specs.Belows.{IsReading, IsMarkTime}
 use Rattle.eql_laws.specs.Books.{book_of, kept_of, BookFits, StateStands, CompletesOnce, greatest_shards, greatest_found}
-use Rattle.eql_laws.specs.Bounds.{KeysHave, MasksTo, HasTimes}
+use Rattle.eql_laws.specs.Bounds.{KeysHave, HasMasksTo, HasTimes}
 use Rattle.eql_laws.specs.Counting.{IsShardText, front}
 use Rattle.eql_laws.specs.Cuts.{pending_at, PendingAre}
 use Rattle.eql_laws.specs.Lanes.{lanes_from, LanesFit}
@@ -52,7 +52,7 @@ cut_of run reads t shards =
 
 -- an event that the run's reader may read: its masks have no stage above the last, its keys have the number of values, and at most one of them is at the last stage
 pub record IsFor (run : Run) (item : Item) : Type 0 where
-  pub masks : MasksTo run.stages item
+  pub masks : HasMasksTo run.stages item
   pub keys : KeysHave run.values item
   pub once : CompletesOnce run.stages item
 
@@ -66,7 +66,7 @@ pub record Fits (run : Run) (shards : ℕ) (kept : Kept) : Type 0 where
   pub time_in_range : IsMarkTime kept.time
   pub lane_for_each : length kept.lanes ≡ shards
   pub lanes : LanesFit run.slack kept.time 0 kept.lanes
-  pub lane_masks : All (λ (lane : LaneCut). All (MasksTo run.stages) lane.items) kept.lanes
+  pub lane_masks : All (λ (lane : LaneCut). All (HasMasksTo run.stages) lane.items) kept.lanes
   pub lane_keys : All (λ (lane : LaneCut). All (KeysHave run.values) lane.items) kept.lanes
   pub holders : PendingAre run.stages shards (At kept.time) kept.holders
   pub holder_times : All (λ (h : Holder). HasTimes h.chain) kept.holders
@@ -89,7 +89,7 @@ CutsFit = (run : Run) (reads : Reads) (t : ℤ) (shards : List ReadTo) → Reads
 pub record StandsInOrder (shards : ℕ) (kept : Kept) : Type 0 where
   pub lane_for_each : length kept.lanes ≡ shards
   pub items : All (λ (lane : LaneCut). Ascend lane.items × All (λ (item : Item). RoutesStand item.routes) lane.items) kept.lanes
-  pub holders : HoldersInOrder kept.holders
+  pub holders : HoldersAreInOrder kept.holders
   pub chains : All (λ (h : Holder). (length h.chain ≡ h.stage) × EventsAscend h.chain) kept.holders
   pub book : All StateStands kept.book.pipes
 

@@ -6,9 +6,9 @@ use Rattle.eql_values.specs.declared.item.Act.{Act}
 use Rattle.eql_values.specs.Chains.{fits_after, ends, in_time, chain}
 
 -- at no place between, nor at the place of the last of them, there is a chain
-abbrev pub NoneBetween : (List Act → Option (List OrderKey)) → List Act → List Act → Type 0
-NoneBetween chain_at [] past = Unit {0}
-NoneBetween chain_at (item ∷ between) past = (chain_at (item ∷ (between ++ past)) ≡ None) × NoneBetween chain_at between past
+abbrev pub NoneStandsBetween : (List Act → Option (List OrderKey)) → List Act → List Act → Type 0
+NoneStandsBetween chain_at [] past = Unit {0}
+NoneStandsBetween chain_at (item ∷ between) past = (chain_at (item ∷ (between ++ past)) ≡ None) × NoneStandsBetween chain_at between past
 
 -- a chain of stage k + 2 at an item: the item fits the stage; before it, at the greatest place that has one, is a chain of stage k + 1; no item
 -- strictly between fits stage k + 2; no item after that place, this one included, ends the key; and this one is in time
@@ -19,7 +19,7 @@ pub record Follows (span : Option ℤ) (opening : ℕ → Option (List OrderKey)
   pub parts : past ≡ between ++ place
   pub fits : fits_after (suc k) item ≡ true
   pub there : chain span opening (suc k) place ≡ Some before
-  pub greatest : NoneBetween (chain span opening (suc k)) between place
+  pub greatest : NoneStandsBetween (chain span opening (suc k)) between place
   pub none_fits : list_any (fits_after (suc k)) between ≡ false
   pub none_ends : list_any ends (item ∷ between) ≡ false
   pub within : in_time span before item.order.ts ≡ true

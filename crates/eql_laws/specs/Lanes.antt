@@ -70,16 +70,16 @@ least_of [] = End
 least_of (mark ∷ marks) = if is_le (mark_cmp mark (least_of marks)) then mark else least_of marks
 
 -- the least of the shards' lows: it is safe; where it has a time, that is the time of a mark and some shard is open; where all shards are closed it is the end
-pub record LeastLow (reads : Reads) (slack : ℤ) (shards : List ReadTo) : Type 0 where
+pub record LeastLowIsSafe (reads : Reads) (slack : ℤ) (shards : List ReadTo) : Type 0 where
   pub safe : IsTrue (is_safe (least_of (lows_from reads (Some slack) 0 shards)) (lows_from reads (Some slack) 0 shards))
   pub in_range : (t : ℤ) → least_of (lows_from reads (Some slack) 0 shards) ≡ At t → IsMarkTime t
   pub some_open : (t : ℤ) → least_of (lows_from reads (Some slack) 0 shards) ≡ At t → IsTrue (list_any (λ (r : ReadTo). not r.closed) shards)
   pub all_closed : IsTrue (list_all (λ (r : ReadTo). r.closed) shards) → least_of (lows_from reads (Some slack) 0 shards) ≡ End
 
 abbrev pub LeastLowFits : Type 0
-LeastLowFits = (reads : Reads) (slack : ℤ) (shards : List ReadTo) → IsReading reads → pos 0 ≤ℤ slack → slack ≤ℤ greatest_slack → LeastLow reads slack shards
+LeastLowFits = (reads : Reads) (slack : ℤ) (shards : List ReadTo) → IsReading reads → pos 0 ≤ℤ slack → slack ≤ℤ greatest_slack → LeastLowIsSafe reads slack shards
 
 -- any safe time is within the bound above, where some shard is open
-abbrev pub SafeTimeTo : Type 0
-SafeTimeTo = (reads : Reads) (slack t : ℤ) (shards : List ReadTo) → IsReading reads → pos 0 ≤ℤ slack
+abbrev pub SafeTimeIsBounded : Type 0
+SafeTimeIsBounded = (reads : Reads) (slack t : ℤ) (shards : List ReadTo) → IsReading reads → pos 0 ≤ℤ slack
     → IsTrue (is_safe (At t) (lows_from reads (Some slack) 0 shards)) → IsTrue (list_any (λ (r : ReadTo). not r.closed) shards) → t ≤ℤ time_bound

@@ -38,16 +38,16 @@ accepted_by slack best (item ∷ items) =
     else item ∷ accepted_by slack (Some (larger item.order.ts best)) items
 
 -- the one mark is at most the other
-abbrev pub AtMost : Mark → Mark → Type 0
-AtMost mark other = IsTrue (is_le (mark_cmp mark other))
+abbrev pub IsAtMost : Mark → Mark → Type 0
+IsAtMost mark other = IsTrue (is_le (mark_cmp mark other))
 
 -- one kept time tells who is late
-abbrev pub LateByBest : Type 0
-LateByBest = (slack : Option ℤ) (earlier : List Item) (item : Item) → is_late slack earlier item ≡ late_by slack (best_of earlier) item
+abbrev pub BestTellsLate : Type 0
+BestTellsLate = (slack : Option ℤ) (earlier : List Item) (item : Item) → is_late slack earlier item ≡ late_by slack (best_of earlier) item
 
 -- and so which events are accepted
-abbrev pub AcceptedByBest : Type 0
-AcceptedByBest = (slack : Option ℤ) (earlier items : List Item) → accepted_after slack earlier items ≡ accepted_by slack (best_of earlier) items
+abbrev pub BestTellsAccepted : Type 0
+BestTellsAccepted = (slack : Option ℤ) (earlier items : List Item) → accepted_after slack earlier items ≡ accepted_by slack (best_of earlier) items
 
 -- the greatest time of two lists goes on from that of the first, whichever way the first is read
 abbrev pub BestGoesOn : Type 0
@@ -58,15 +58,15 @@ abbrev pub BestFromGoesOn : Type 0
 BestFromGoesOn = (best : Option ℤ) (a b : List Item) → best_from best (a ++ b) ≡ best_from (best_from best a) b
 
 -- the accepted events of two lists are those of the first, and those of the second with the time going on
-abbrev pub AcceptedSplit : Type 0
-AcceptedSplit = (slack best : Option ℤ) (a b : List Item)
+abbrev pub AcceptedSplits : Type 0
+AcceptedSplits = (slack best : Option ℤ) (a b : List Item)
     → accepted_by slack best (a ++ b) ≡ accepted_by slack best a ++ accepted_by slack (best_from best a) b
 
 -- the low only rises with further events, and with the end
 abbrev pub LowRises : Type 0
-LowRises = (closed : Bool) (slack best : Option ℤ) (b : List Item) → AtMost (low_of false slack best) (low_of closed slack (best_from best b))
+LowRises = (closed : Bool) (slack best : Option ℤ) (b : List Item) → IsAtMost (low_of false slack best) (low_of closed slack (best_from best b))
 
 -- every accepted event below a mark that is at most the low of some events stands among them: no further one is below it
 abbrev pub NoneComesBelow : Type 0
-NoneComesBelow = (slack : Option ℤ) (mark : Mark) (a b : List Item) → AtMost mark (low_of false slack (best_of a))
+NoneComesBelow = (slack : Option ℤ) (mark : Mark) (a b : List Item) → IsAtMost mark (low_of false slack (best_of a))
     → filter (is_below mark) (accepted_after slack [] (a ++ b)) ≡ filter (is_below mark) (accepted_after slack [] a)

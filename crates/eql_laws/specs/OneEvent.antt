@@ -10,7 +10,7 @@ use Rattle.eql_values.specs.declared.found.Match.{Match}
 use Rattle.eql_values.specs.declared.found.Holder.{Holder}
 use Rattle.eql_values.specs.Orders.{key_eq}
 use Rattle.eql_values.specs.Matching.{act_by, opening_of, held_after, matches, after}
-use Rattle.eql_laws.specs.Alive.{HoldersInOrder}
+use Rattle.eql_laws.specs.Alive.{HoldersAreInOrder}
 use Rattle.eql_laws.specs.Shapes.{HasStageBefore}
 use Rattle.eql_laws.specs.Slots.{Slots, chain_coming, slots_after}
 
@@ -26,8 +26,8 @@ AfterHasNoOther = (m : ℕ) (span : Option ℤ) (holders : List Holder) (items :
     × ((k : ℕ) → m < suc k → opening_of (after m span holders items) key k ≡ None)
 
 -- lists of pending sequences in order with the same look-ups are one and the same
-abbrev pub SameHolders : Type 0
-SameHolders = (a b : List Holder) → HoldersInOrder a → HoldersInOrder b
+abbrev pub HoldersAreSame : Type 0
+HoldersAreSame = (a b : List Holder) → HoldersAreInOrder a → HoldersAreInOrder b
     → ((key : List Value) (stage : ℕ) → opening_of a key stage ≡ opening_of b key stage) → a ≡ b
 
 -- what an item does to the slots of a key, by the route that it has of the key, if any
@@ -36,8 +36,8 @@ slots_after_event span order None slots = slots
 slots_after_event span order (Some route) slots = slots_after span slots (act_by order route)
 
 -- after one item the slots of each key are those before it, moved where the item has a route of the key
-abbrev pub AfterOne : Type 0
-AfterOne = (m : ℕ) (span : Option ℤ) (holders : List Holder) (item : Item) (key : List Value) (k : ℕ) → suc k < m
+abbrev pub OneItemMovesSlots : Type 0
+OneItemMovesSlots = (m : ℕ) (span : Option ℤ) (holders : List Holder) (item : Item) (key : List Value) (k : ℕ) → suc k < m
     → opening_of (after m span holders (item ∷ [])) key (suc k)
     ≡ slots_after_event span item.order (find (λ (route : Route). key_eq key route.key) item.routes) (opening_of holders key) (suc k)
 
@@ -47,10 +47,10 @@ match_at m span holders order route =
     option_map (λ c. record { key = route.key; chain = c }) (chain_coming span (opening_of holders route.key) (act_by order route) m)
 
 -- the matches by one item are what comes to the last stage of each key that it has a route of
-abbrev pub MatchesOne : Type 0
-MatchesOne = (m : ℕ) (span : Option ℤ) (holders : List Holder) (item : Item)
+abbrev pub OneItemMatches : Type 0
+OneItemMatches = (m : ℕ) (span : Option ℤ) (holders : List Holder) (item : Item)
     → matches m span holders (item ∷ []) ≡ filter_map (match_at m span holders item.order) item.routes
 
 -- after no item what is pending is what was
-abbrev pub AfterNone : Type 0
-AfterNone = (m : ℕ) (span : Option ℤ) (holders : List Holder) → HoldersInOrder holders → All (HasStageBefore m) holders → after m span holders [] ≡ holders
+abbrev pub AfterNoneIsSame : Type 0
+AfterNoneIsSame = (m : ℕ) (span : Option ℤ) (holders : List Holder) → HoldersAreInOrder holders → All (HasStageBefore m) holders → after m span holders [] ≡ holders

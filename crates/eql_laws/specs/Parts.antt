@@ -9,8 +9,8 @@ use Rattle.eql_values.specs.Ascending.{Ascend}
 use Rattle.eql_values.specs.Matching.{opening_of, matches, after}
 use Rattle.eql_values.specs.Ordered.{numbers}
 use Rattle.eql_values.specs.Routing.{routed}
-use Rattle.eql_laws.specs.Alive.{HoldersInOrder, alive_holders}
-use Rattle.eql_laws.specs.Apart.{joined, InMatchOrder, MatchesApart}
+use Rattle.eql_laws.specs.Alive.{HoldersAreInOrder, alive_holders}
+use Rattle.eql_laws.specs.Apart.{joined, AreInMatchOrder, MatchesAreApart}
 use Rattle.eql_laws.specs.Merging.{in_match_order, in_slot_order}
 
 -- keys in n parts: the matches are those by the items routed to each part, merged
@@ -39,23 +39,23 @@ PartLooksUp = (part : List Value → ℕ) (p : ℕ) (holders : List Holder) (key
     → opening_of (holders_in part p holders) key stage ≡ (if part key == p then opening_of holders key stage else None)
 
 -- the matches by a part's items are the matches of the part's keys
-abbrev pub MatchesRouted : Type 0
-MatchesRouted = (part : List Value → ℕ) (p m : ℕ) (span : Option ℤ) (holders : List Holder) (items : List Item)
+abbrev pub RoutingKeepsMatches : Type 0
+RoutingKeepsMatches = (part : List Value → ℕ) (p m : ℕ) (span : Option ℤ) (holders : List Holder) (items : List Item)
     → matches m span holders (routed part p items) ≡ matches_in part p (matches m span holders items)
 
 -- for a part's items the part's pending sequences are enough
-abbrev pub OwnHolders : Type 0
-OwnHolders = (part : List Value → ℕ) (p m : ℕ) (span : Option ℤ) (holders : List Holder) (items : List Item)
+abbrev pub OwnHoldersSuffice : Type 0
+OwnHoldersSuffice = (part : List Value → ℕ) (p m : ℕ) (span : Option ℤ) (holders : List Holder) (items : List Item)
     → matches m span (holders_in part p holders) (routed part p items) ≡ matches m span holders (routed part p items)
 
 -- what is pending of a part's keys is what is pending after the part's items from the part's pending sequences
-abbrev pub AfterRouted : Type 0
-AfterRouted = (part : List Value → ℕ) (p m : ℕ) (span : Option ℤ) (holders : List Holder) (items : List Item)
+abbrev pub RoutingKeepsAfter : Type 0
+RoutingKeepsAfter = (part : List Value → ℕ) (p m : ℕ) (span : Option ℤ) (holders : List Holder) (items : List Item)
     → after m span (holders_in part p holders) (routed part p items) ≡ holders_in part p (after m span holders items)
 
 -- a part's later matches depend on its own opening sequences and its own earlier items alone
-abbrev pub PartApart : Type 0
-PartApart = (part : List Value → ℕ) (p m : ℕ) (span : Option ℤ) (holders : List Holder) (a b : List Item)
+abbrev pub PartStandsAlone : Type 0
+PartStandsAlone = (part : List Value → ℕ) (p m : ℕ) (span : Option ℤ) (holders : List Holder) (a b : List Item)
     → matches m span (after m span (holders_in part p holders) (routed part p a)) (routed part p b)
     ≡ matches m span (after m span holders a) (routed part p b)
 
@@ -67,8 +67,8 @@ found_by_parts m span part n holders items = map (λ p. matches m span holders (
 pub record PartsFind (m : ℕ) (span : Option ℤ) (part : List Value → ℕ) (n : ℕ) (holders : List Holder) (items : List Item) : Type 0 where
   pub all : IsPermutation (joined (found_by_parts m span part n holders items)) (matches m span holders items)
   pub merged : matches m span holders items ≡ in_match_order (joined (found_by_parts m span part n holders items))
-  pub in_order : All InMatchOrder (found_by_parts m span part n holders items)
-  pub apart : MatchesApart (found_by_parts m span part n holders items)
+  pub in_order : All AreInMatchOrder (found_by_parts m span part n holders items)
+  pub apart : MatchesAreApart (found_by_parts m span part n holders items)
 
 abbrev pub PartsFindAll : Type 0
 PartsFindAll = (m : ℕ) (span : Option ℤ) (part : List Value → ℕ) (n : ℕ) (holders : List Holder) (items : List Item)
@@ -82,8 +82,8 @@ alive_in span t part p holders = alive_holders span t (holders_in part p holders
 pub record PartsHold (m : ℕ) (span : Option ℤ) (t : ℤ) (part : List Value → ℕ) (n : ℕ) (holders : List Holder) (items : List Item) : Type 0 where
   pub all : in_slot_order (flat_map (λ p. alive_in span t part p (after m span holders items)) (numbers n))
       ≡ alive_holders span t (after m span holders items)
-  pub part_in_order : (p : ℕ) → HoldersInOrder (alive_in span t part p (after m span holders items))
-  pub in_order : HoldersInOrder (alive_holders span t (after m span holders items))
+  pub part_in_order : (p : ℕ) → HoldersAreInOrder (alive_in span t part p (after m span holders items))
+  pub in_order : HoldersAreInOrder (alive_holders span t (after m span holders items))
 
 abbrev pub PartsGather : Type 0
 PartsGather = (m : ℕ) (span : Option ℤ) (t : ℤ) (part : List Value → ℕ) (n : ℕ) (holders : List Holder) (items : List Item)

@@ -6,14 +6,14 @@ use Rattle.eql_values.specs.declared.order.Mark.TheVariants.{At}
 use Rattle.eql_values.specs.declared.value.Value.{Value}
 use Rattle.eql_values.specs.declared.item.Item.{Item}
 use Rattle.eql_values.specs.Accepted.{Reads}
-use Rattle.eql_values.specs.Ascending.{AllAfter, Ascend}
+use Rattle.eql_values.specs.Ascending.{AllAreAfter, Ascend}
 use Rattle.eql_values.specs.Routing.{routed}
-use Rattle.eql_laws.specs.Alive.{ItemsFrom}
+use Rattle.eql_laws.specs.Alive.{ItemsComeFrom}
 use Rattle.eql_laws.specs.Belows.{IsReading, between}
 
 -- a beginning of ascending items ascends, and so does the rest
-abbrev pub AscendingPieces : Type 0
-AscendingPieces = (a b : List Item) → Ascend (a ++ b) → Ascend a × Ascend b
+abbrev pub PiecesAscend : Type 0
+PiecesAscend = (a b : List Item) → Ascend (a ++ b) → Ascend a × Ascend b
 
 -- what lies between two marks ascends
 abbrev pub BetweenAscends : Type 0
@@ -24,20 +24,20 @@ pub record RoutedKeeps (part : List Value → ℕ) (p : ℕ) : Type 0 where
   pub pieces : (a b : List Item) → routed part p (a ++ b) ≡ routed part p a ++ routed part p b
   pub fewer : (items : List Item) → length (routed part p items) ≤ length items
   pub ascends : (items : List Item) → Ascend items → Ascend (routed part p items)
-  pub times : (t : ℤ) (items : List Item) → ItemsFrom t items → ItemsFrom t (routed part p items)
+  pub times : (t : ℤ) (items : List Item) → ItemsComeFrom t items → ItemsComeFrom t (routed part p items)
 
-abbrev pub RoutedPieces : Type 0
-RoutedPieces = (part : List Value → ℕ) (p : ℕ) → RoutedKeeps part p
+abbrev pub RoutedKeepsPieces : Type 0
+RoutedKeepsPieces = (part : List Value → ℕ) (p : ℕ) → RoutedKeeps part p
 
 -- items that come at a time or later: pieces of them do, and they come at each lesser time or later
 pub record TimesKeep : Type 0 where
-  pub pieces : (t : ℤ) (a b : List Item) → ItemsFrom t (a ++ b) → ItemsFrom t a × ItemsFrom t b
-  pub lesser : (t u : ℤ) (items : List Item) → t ≤ℤ u → ItemsFrom u items → ItemsFrom t items
+  pub pieces : (t : ℤ) (a b : List Item) → ItemsComeFrom t (a ++ b) → ItemsComeFrom t a × ItemsComeFrom t b
+  pub lesser : (t u : ℤ) (items : List Item) → t ≤ℤ u → ItemsComeFrom u items → ItemsComeFrom t items
 
 -- items after an event come at its time or later
-abbrev pub TimesAfter : Type 0
-TimesAfter = (event : OrderKey) (items : List Item) → AllAfter event items → ItemsFrom event.ts items
+abbrev pub TimesComeAfter : Type 0
+TimesComeAfter = (event : OrderKey) (items : List Item) → AllAreAfter event items → ItemsComeFrom event.ts items
 
 -- and what lies from a mark on comes at the mark's time or later
-abbrev pub TimesBetween : Type 0
-TimesBetween = (reads : Reads) (slack : Option ℤ) (texts : List (List ℕ)) (t : ℤ) (to : Mark) → ItemsFrom t (between reads slack texts (At t) to)
+abbrev pub TimesComeBetween : Type 0
+TimesComeBetween = (reads : Reads) (slack : Option ℤ) (texts : List (List ℕ)) (t : ℤ) (to : Mark) → ItemsComeFrom t (between reads slack texts (At t) to)

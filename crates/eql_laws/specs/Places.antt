@@ -5,7 +5,7 @@ use Rattle.eql_values.specs.declared.order.Mark.{Mark}
 use Rattle.eql_values.specs.Accepted.{Reads, readable, accepted, below}
 use Rattle.eql_values.specs.Lines.{Line, lines_of, numbered_lines, lines_in}
 use Rattle.eql_values.specs.Marks.{is_below, low_of, is_safe}
-use Rattle.eql_laws.specs.Lateness.{best_of, accepted_by, AtMost}
+use Rattle.eql_laws.specs.Lateness.{best_of, accepted_by, IsAtMost}
 
 -- the text is empty or ends with a line feed
 abbrev pub ends_line : List ℕ → Bool
@@ -41,14 +41,14 @@ abbrev pub is_one_line : List ℕ → Bool
 is_one_line bytes = list_all (λ byte. not (byte == 10)) bytes
 
 -- the first line after a place that is a line's start: up to the line feed, after which the next line starts; or, where bytes remain, up to the end
-pub record NextLine (first line rest : List ℕ) : Type 0 where
+pub record LineIsNext (first line rest : List ℕ) : Type 0 where
   pub with_feed : lines_after first (line ++ 10 ∷ rest)
       ≡ record { number = 1 + length (lines_of first); at = length first; bytes = line } ∷ lines_after (first ++ line ++ 10 ∷ []) rest
   pub next_starts : IsTrue (ends_line (first ++ line ++ 10 ∷ []))
   pub last : line ≢ [] → lines_after first line ≡ record { number = 1 + length (lines_of first); at = length first; bytes = line } ∷ []
 
-abbrev pub LineByLine : Type 0
-LineByLine = (first line rest : List ℕ) → IsTrue (ends_line first) → IsTrue (is_one_line line) → NextLine first line rest
+abbrev pub LinesAreNext : Type 0
+LinesAreNext = (first line rest : List ℕ) → IsTrue (ends_line first) → IsTrue (is_one_line line) → LineIsNext first line rest
 
 -- the lines of two texts with any number and place for the first line: those of the first text, and those of the second numbered and placed on
 abbrev pub NumberedGoOn : Type 0
@@ -57,13 +57,13 @@ NumberedGoOn = (number at : ℕ) (a b : List ℕ) → IsTrue (is_line_end a b)
     ≡ numbered_lines number at (lines_of a) ++ numbered_lines (number + length (lines_of a)) (at + length a) (lines_of b)
 
 -- one line with its line feed is one line, after which another may start, and so is one without it, where it has bytes
-pub record OneLine (line : List ℕ) : Type 0 where
+pub record LineIsOne (line : List ℕ) : Type 0 where
   pub with_feed : lines_of (line ++ 10 ∷ []) ≡ line ∷ []
   pub next_starts : IsTrue (ends_line (line ++ 10 ∷ []))
   pub without : line ≢ [] → lines_of line ≡ line ∷ []
 
 abbrev pub LinesAreOne : Type 0
-LinesAreOne = (line : List ℕ) → IsTrue (is_one_line line) → OneLine line
+LinesAreOne = (line : List ℕ) → IsTrue (is_one_line line) → LineIsOne line
 
 -- texts that end with a line, one after the other, end with a line
 abbrev pub LinesEndOn : Type 0
@@ -110,12 +110,12 @@ ArePlaces [] = Unit {0}
 ArePlaces (r ∷ shards) = IsPlace r × ArePlaces shards
 
 -- every accepted event of a shard below a mark that is at most its low stands before the place
-abbrev pub LateOfShard : Type 0
-LateOfShard = (reads : Reads) (slack : Option ℤ) (shard : ℕ) (mark : Mark) (r : ReadTo) → IsPlace r → AtMost mark (low_at reads slack shard r)
+abbrev pub RestOfShardIsLate : Type 0
+RestOfShardIsLate = (reads : Reads) (slack : Option ℤ) (shard : ℕ) (mark : Mark) (r : ReadTo) → IsPlace r → IsAtMost mark (low_at reads slack shard r)
     → filter (is_below mark) (accepted reads slack shard (whole r)) ≡ filter (is_below mark) (accepted reads slack shard r.first)
 
 -- every accepted event below a safe mark stands before the places at which the mark is safe
-abbrev pub Late : Type 0
-Late = (reads : Reads) (slack : Option ℤ) (mark : Mark) (shards : List ReadTo) → ArePlaces shards
+abbrev pub RestIsLate : Type 0
+RestIsLate = (reads : Reads) (slack : Option ℤ) (mark : Mark) (shards : List ReadTo) → ArePlaces shards
     → IsTrue (is_safe mark (lows_from reads slack 0 shards))
     → below reads slack (map whole shards) mark ≡ below reads slack (map (λ (r : ReadTo). r.first) shards) mark

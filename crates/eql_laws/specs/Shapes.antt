@@ -9,16 +9,16 @@ use Rattle.eql_values.specs.declared.item.Route.{Route}
 use Rattle.eql_values.specs.declared.item.Item.{Item}
 use Rattle.eql_values.specs.declared.found.Match.{Match}
 use Rattle.eql_values.specs.declared.found.Holder.{Holder}
-use Rattle.eql_values.specs.Ascending.{AllAfter, Ascend}
+use Rattle.eql_values.specs.Ascending.{AllAreAfter, Ascend}
 use Rattle.eql_values.specs.Matching.{opening_of, matches, after}
 use Rattle.eql_values.specs.OrderKeys.{order_cmp, EventsAscend}
-use Rattle.eql_laws.specs.Alive.{HoldersInOrder}
+use Rattle.eql_laws.specs.Alive.{HoldersAreInOrder}
 use Rattle.eql_laws.specs.Merging.{ending_cmp, by_ending}
 
 -- a pending sequence as it stands before items: its events ascend strictly, and each of the items comes after each of its events
 pub record IsReady (items : List Item) (h : Holder) : Type 0 where
   pub ascends : EventsAscend h.chain
-  pub before : All (λ (event : OrderKey). AllAfter event items) h.chain
+  pub before : All (λ (event : OrderKey). AllAreAfter event items) h.chain
 
 -- the events of a match ascend strictly
 abbrev pub MatchAscends : Match → Type 0
@@ -85,20 +85,20 @@ KeysStay = (m : ℕ) (span : Option ℤ) (test : List Value → Bool) (holders :
     → KeysKeep m span test holders items
 
 -- the matches ascend strictly by last event, and then by key
-abbrev pub MatchesInOrder : Type 0
-MatchesInOrder = (m : ℕ) (span : Option ℤ) (holders : List Holder) (items : List Item)
+abbrev pub MatchesAreInOrder : Type 0
+MatchesAreInOrder = (m : ℕ) (span : Option ℤ) (holders : List Holder) (items : List Item)
     → Ascend items → IsTrue (is_sorted ending_cmp (map by_ending (matches m span holders items)))
 
 -- the first event of the one chain comes before that of the other
-abbrev pub FirstBefore : List OrderKey → List OrderKey → Type 0
-FirstBefore [] other = ⊥
-FirstBefore (event ∷ chain) [] = ⊥
-FirstBefore (event ∷ chain) (first ∷ other) = order_cmp event first ≡ Less
+abbrev pub FirstIsBefore : List OrderKey → List OrderKey → Type 0
+FirstIsBefore [] other = ⊥
+FirstIsBefore (event ∷ chain) [] = ⊥
+FirstIsBefore (event ∷ chain) (first ∷ other) = order_cmp event first ≡ Less
 
 -- of two pending sequences of one key that at the greater stage has the lesser first event
 abbrev pub FirstsFall : List Holder → Type 0
 FirstsFall holders = (key : List Value) (j k : ℕ) (c d : List OrderKey) → j < k
-    → opening_of holders key j ≡ Some c → opening_of holders key k ≡ Some d → FirstBefore d c
+    → opening_of holders key j ≡ Some c → opening_of holders key k ≡ Some d → FirstIsBefore d c
 
 abbrev pub AfterFalls : Type 0
 AfterFalls = (m : ℕ) (span : Option ℤ) (holders : List Holder) (items : List Item)
@@ -106,4 +106,4 @@ AfterFalls = (m : ℕ) (span : Option ℤ) (holders : List Holder) (items : List
 
 -- of pending sequences in order each is the one that a look-up finds
 abbrev pub OpeningFinds : Type 0
-OpeningFinds = (holders : List Holder) → HoldersInOrder holders → All (λ (h : Holder). opening_of holders h.key h.stage ≡ Some h.chain) holders
+OpeningFinds = (holders : List Holder) → HoldersAreInOrder holders → All (λ (h : Holder). opening_of holders h.key h.stage ≡ Some h.chain) holders

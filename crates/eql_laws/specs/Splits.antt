@@ -10,6 +10,6 @@ MatchesSplit = (m : ℕ) (span : Option ℤ) (holders : List Holder) (a b : List
     → matches m span holders (a ++ b) ≡ matches m span holders a ++ matches m span (after m span holders a) b
 
 -- what is pending after two lists is what is pending after the second, from what is pending after the first
-abbrev pub AfterSplit : Type 0
-AfterSplit = (m : ℕ) (span : Option ℤ) (holders : List Holder) (a b : List Item)
+abbrev pub AfterSplits : Type 0
+AfterSplits = (m : ℕ) (span : Option ℤ) (holders : List Holder) (a b : List Item)
     → after m span holders (a ++ b) ≡ after m span (after m span holders a) b

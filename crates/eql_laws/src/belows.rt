@@ -1,5 +1,5 @@
 //! Laws of the events below a mark: they stand in order, and grow by what lies between two marks.
-ghost use Rattle.eql_laws.specs.Belows.{SortedAscends, BelowAscends, SortedEach, SortedMore, SortedBelow, BelowGrows, AcceptedOfText, BelowAre, OpenLow, OpenLowAtLeast};
+ghost use Rattle.eql_laws.specs.Belows.{SortedAscends, BelowAscends, SortingEachSortsAll, SortingGoesOn, SortingKeepsBelow, BelowGrows, AcceptedComeFromText, BelowAre, OpenLowIsTime, OpenLowIsAtLeast};
 
 /// Events put in order ascend, and so do those below a mark.
 pub fn below_ascends()
@@ -9,9 +9,9 @@ pub fn below_ascends()
 
 /// Putting events in order goes together with doing so list by list, with more events, and with leaving out by a mark.
 pub fn sorted_together()
-    ensures each { SortedEach }
-    ensures more { SortedMore }
-    ensures below { SortedBelow }
+    ensures each { SortingEachSortsAll }
+    ensures more { SortingGoesOn }
+    ensures below { SortingKeepsBelow }
 {}
 
 /// The events below the greater of two marks are those below the lesser, followed by those between.
@@ -21,12 +21,12 @@ pub fn below_grows()
 
 /// What each accepted event of a text is, and each event below a mark.
 pub fn accepted_are()
-    ensures of_text { AcceptedOfText }
+    ensures of_text { AcceptedComeFromText }
     ensures below { BelowAre }
 {}
 
 /// The low of an open shard: the greatest timestamp less the slack.
 pub fn open_low()
-    ensures in_range { OpenLow }
-    ensures at_least { OpenLowAtLeast }
+    ensures in_range { OpenLowIsTime }
+    ensures at_least { OpenLowIsAtLeast }
 {}

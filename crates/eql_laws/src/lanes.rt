@@ -1,5 +1,5 @@
 //! Laws of what a cut keeps of shards, and of its mark.
-ghost use Rattle.eql_laws.specs.Lanes.{LanesOfFit, LeastLowFits, SafeTimeTo};
+ghost use Rattle.eql_laws.specs.Lanes.{LanesOfFit, LeastLowFits, SafeTimeIsBounded};
 
 /// What is kept of shards at a safe time is as a checkpoint is to have it, where what was read of them is no more than
 /// shards may have.
@@ -11,5 +11,5 @@ pub fn lanes_fit()
 /// some shard is open, every safe time is within the bound above.
 pub fn marks_fit()
     ensures least { LeastLowFits }
-    ensures safe { SafeTimeTo }
+    ensures safe { SafeTimeIsBounded }
 {}

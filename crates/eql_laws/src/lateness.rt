@@ -1,14 +1,14 @@
 //! Laws of late events: one kept time tells who is late, and no event below a safe mark is still to come.
-ghost use Rattle.eql_laws.specs.Lateness.{LateByBest, AcceptedByBest, BestGoesOn, BestFromGoesOn, AcceptedSplit, LowRises, NoneComesBelow};
+ghost use Rattle.eql_laws.specs.Lateness.{BestTellsLate, BestTellsAccepted, BestGoesOn, BestFromGoesOn, AcceptedSplits, LowRises, NoneComesBelow};
 
 /// One kept time, the greatest so far, tells who is late.
 pub fn late_by_best()
-    ensures { LateByBest }
+    ensures { BestTellsLate }
 {}
 
 /// And so it tells which events are accepted.
 pub fn accepted_by_best()
-    ensures { AcceptedByBest }
+    ensures { BestTellsAccepted }
 {}
 
 /// The greatest time of two lists goes on from that of the first, and so from any kept time.
@@ -19,7 +19,7 @@ pub fn best_goes_on()
 
 /// The accepted events of two lists are those of the first, and those of the second with the kept time going on.
 pub fn accepted_split()
-    ensures { AcceptedSplit }
+    ensures { AcceptedSplits }
 {}
 
 /// The low of a shard only rises with further events, and with the end.

@@ -1,5 +1,5 @@
 //! Laws of keys in parts: which keys are handled where doesn't matter.
-ghost use Rattle.eql_laws.specs.Parts.{KeysMerge, KeysGather, MatchesRouted, OwnHolders, AfterRouted, PartApart, PartLooksUp, PartsFindAll, PartsGather};
+ghost use Rattle.eql_laws.specs.Parts.{KeysMerge, KeysGather, RoutingKeepsMatches, OwnHoldersSuffice, RoutingKeepsAfter, PartStandsAlone, PartLooksUp, PartsFindAll, PartsGather};
 
 /// The matches are those by the events routed to each part of the keys, merged by last event and then by key.
 pub fn keys_merge()
@@ -13,22 +13,22 @@ pub fn keys_gather()
 
 /// The matches by a part's events are the matches of the part's keys.
 pub fn matches_routed()
-    ensures { MatchesRouted }
+    ensures { RoutingKeepsMatches }
 {}
 
 /// For a part's events the part's pending sequences are enough.
 pub fn own_holders()
-    ensures { OwnHolders }
+    ensures { OwnHoldersSuffice }
 {}
 
 /// What is pending of a part's keys is what is pending after the part's events, from the part's sequences.
 pub fn after_routed()
-    ensures { AfterRouted }
+    ensures { RoutingKeepsAfter }
 {}
 
 /// A part's later matches depend on its own opening sequences and its own earlier events alone.
 pub fn part_apart()
-    ensures { PartApart }
+    ensures { PartStandsAlone }
 {}
 
 /// A look-up in a part's pending sequences finds those of the part's keys.

@@ -1,5 +1,5 @@
 //! Laws of events in two lists, one after the other: where the log is cut doesn't matter.
-ghost use Rattle.eql_laws.specs.Splits.{MatchesSplit, AfterSplit};
+ghost use Rattle.eql_laws.specs.Splits.{MatchesSplit, AfterSplits};
 
 /// The matches by two lists are those by the first, and those by the second from what is pending then.
 #[tactic(auto, using(crate::proofs::Splitting::matches_split))]
@@ -9,5 +9,5 @@ pub fn matches_split()
 
 /// What is pending after two lists is what is pending after the second, from what is pending after the first.
 pub fn after_split()
-    ensures { AfterSplit }
+    ensures { AfterSplits }
 {}

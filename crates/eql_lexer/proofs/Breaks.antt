@@ -4,13 +4,13 @@ use Rattle.eql_lexer.specs.declared.token.Token.{Token}
 use Rattle.eql_lexer.specs.declared.refusal.Rule.{Rule}
 use Rattle.eql_lexer.specs.declared.refusal.Rule.TheVariants as rule
 use Rattle.eql_lexer.specs.Blanks.{gap}
-use Rattle.eql_lexer.specs.Strings.{BadEscape, bad_here, bad_after_plain, bad_after_escape}
-use Rattle.eql_lexer.specs.Spelling.{UpTo}
+use Rattle.eql_lexer.specs.Strings.{IsBadEscape, bad_here, bad_after_plain, bad_after_escape}
+use Rattle.eql_lexer.specs.Spelling.{AreTokensTo}
 use Rattle.eql_lexer.specs.Refusing.{IsOpen, BreaksRule, BreaksAt}
 use Rattle.eql_lexer.proofs.Unique.{true_not_false, not_digit, escape_one, lexeme_one}
 use Rattle.eql_lexer.proofs.Refusals.{broken_no}
 
-bad_one : (bs p q : List ℕ) → BadEscape bs p → BadEscape bs q → p ≡ q
+bad_one : (bs p q : List ℕ) → IsBadEscape bs p → IsBadEscape bs q → p ≡ q
 bad_one _ _ _ (bad_here e n) (bad_here f m) = refl
 bad_one _ _ _ (bad_here e n) (bad_after_plain f k) = absurd (f.1 e)
 bad_one _ _ _ (bad_here e n) (bad_after_escape f m k) = cc
@@ -20,7 +20,7 @@ bad_one _ _ _ (bad_after_plain e h) (bad_after_escape f m k) = absurd (e.1 f)
 bad_one _ _ _ (bad_after_escape e n h) (bad_here f m) = cc
 bad_one _ _ _ (bad_after_escape e n h) (bad_after_plain f k) = absurd (f.1 e)
 bad_one _ p q (bad_after_escape {c = c} {more = m} e n h) (bad_after_escape {c = d} {more = l} f o k) =
-    bad_one _ p q h (subst (λ x. BadEscape x q) (escape_one _ d c l m o n).1 k)
+    bad_one _ p q h (subst (λ x. IsBadEscape x q) (escape_one _ d c l m o n).1 k)
 
 -- an opening quote or backtick that isn't closed is no other fault
 open_byte : (b : ℕ) (bs : List ℕ) → IsOpen b bs → b ≢ 34 → b ≢ 96 → ⊥
@@ -96,12 +96,12 @@ broken_one rule.OpenComment rule.NumberRange (b ∷ bs) p q h k = absurd (not_di
 broken_one rule.OpenComment rule.OpenComment (b ∷ bs) p q h k = (refl, h.0 ∙ sym k.0)
 
 -- tokens that end where a rule is broken end at one place
-stop_one : (n : ℕ) (text : List ℕ) (ts us : List Token) (m l p q : List ℕ) (r s : Rule) → UpTo n text ts m → UpTo n text us l → BreaksRule r (gap m) p → BreaksRule s (gap l) q → m ≡ l
+stop_one : (n : ℕ) (text : List ℕ) (ts us : List Token) (m l p q : List ℕ) (r s : Rule) → AreTokensTo n text ts m → AreTokensTo n text us l → BreaksRule r (gap m) p → BreaksRule s (gap l) q → m ≡ l
 stop_one n text [] [] m l p q r s h k a b = h ∙ sym k
 stop_one n text [] (u ∷ us) m l p q r s h k a b = absurd (broken_no r (gap text) p u.tok k.0 (subst (λ x. BreaksRule r (gap x) p) h a) k.1)
 stop_one n text (t ∷ ts) [] m l p q r s h k a b = absurd (broken_no s (gap text) q t.tok h.0 (subst (λ x. BreaksRule s (gap x) q) k b) h.1)
 stop_one n text (t ∷ ts) (u ∷ us) m l p q r s h k a b =
-    stop_one n h.0 ts us m l p q r s h.4 (subst (λ x. UpTo n x us l) (sym (lexeme_one _ _ _ _ _ h.1 k.1).1) k.4) a b
+    stop_one n h.0 ts us m l p q r s h.4 (subst (λ x. AreTokensTo n x us l) (sym (lexeme_one _ _ _ _ _ h.1 k.1).1) k.4) a b
 
 -- a text breaks one rule at one place at most
 pub one_break : (text : List ℕ) (r s : Rule) (at to : ℕ) → BreaksAt text r at → BreaksAt text s to → (r ≡ s) × (at ≡ to)

@@ -4,7 +4,7 @@ use Rattle.std.proofs.lemmas.Bool.Decides.{nat_tests}
 use Rattle.std.specs.List.{prefix_len}
 use Rattle.eql_lexer.specs.Bytes.{begins, is_hex}
 use Rattle.eql_lexer.specs.Escapes.{escape, unicode}
-use Rattle.eql_lexer.specs.Strings.{IsPlain, is_closed, is_closed_behind, Content, closed, plain, escaped}
+use Rattle.eql_lexer.specs.Strings.{IsPlain, is_closed, is_closed_behind, IsContent, closed, plain, escaped}
 use Rattle.eql_lexer.proofs.Unique.{true_not_false, char_of, behind_of}
 
 pub unequal : (b c : ℕ) → b ≢ c → (b == c) ≡ false
@@ -88,7 +88,7 @@ closed_escape (b ∷ bs) c more h =
     rw (unequal b 10 (escape_line b bs c more h))
     (closed_behind bs more c (escape_cases (b == 110) (b == 114) (b == 116) (b == 92) (b == 34) (b == 117) bs (unicode bs) c more h))
 
-pub content_closed : (bs s rest : List ℕ) → Content bs s rest → is_closed bs ≡ true
+pub content_closed : (bs s rest : List ℕ) → IsContent bs s rest → is_closed bs ≡ true
 content_closed _ _ _ (closed p) = rw p refl
 content_closed _ _ _ (plain {b = b} {bs = bs} p h) = closed_plain b bs p ∙ content_closed _ _ _ h
 content_closed _ _ _ (escaped {c = c} {bs = bs} {more = more} p e f h) = rw p (closed_escape bs c more e ∙ content_closed _ _ _ h)

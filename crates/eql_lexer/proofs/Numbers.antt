@@ -6,7 +6,7 @@ use Rattle.std.proofs.lemmas.List.Sums.{prefix_len_passes}
 use Rattle.std.specs.List.{take_while, prefix_len}
 use Rattle.eql_lexer.specs.declared.token.Tok.TheVariants as tok
 use Rattle.eql_lexer.specs.Bytes.{is_digit, is_hex, begins_fraction, number}
-use Rattle.eql_lexer.specs.Spelling.{Lexeme}
+use Rattle.eql_lexer.specs.Spelling.{IsLexeme}
 
 pub number_grows : (n : ℕ) (bs : List ℕ) → n ≤ number n bs
 number_grows n [] = omega arith
@@ -16,10 +16,10 @@ pub number_next : (n i : ℕ) (bs : List ℕ) (d : ℕ) → i < length bs → n 
 number_next n i bs d h = rw (drop-cons bs i d h) (number_grows (n * 10 + (get_or bs i d - 48)) (drop (suc i) bs))
 
 pub lexeme_num : (text more rest : List ℕ) (b len : ℕ) (n : ℤ) → text ≡ b ∷ more → is_digit b ≡ true → len ≡ prefix_len is_digit more
-    → n ≡ pos (number 0 (take (len + 1) text)) → number 0 (take (len + 1) text) < 2 ^ 63 → rest ≡ drop len more → begins_fraction rest ≡ false → Lexeme text (tok.Num n) rest
+    → n ≡ pos (number 0 (take (len + 1) text)) → number 0 (take (len + 1) text) < 2 ^ 63 → rest ≡ drop len more → begins_fraction rest ≡ false → IsLexeme text (tok.Num n) rest
 lexeme_num text more rest b len n cons digit is value small behind whole =
     let front : take (len + 1) text ≡ b ∷ take_while is_digit more = rw (cons, add-one, is) refl in
-    subst (λ l. Lexeme l (tok.Num n) rest) (sym cons)
+    subst (λ l. IsLexeme l (tok.Num n) rest) (sym cons)
     (digit, value ∙ ap (λ l. pos (number 0 l)) front, subst (λ l. number 0 l < 2 ^ 63) front small, behind ∙ ap (λ k. drop k more) is, whole)
 
 -- eight hexadecimal digits fit 32 bits

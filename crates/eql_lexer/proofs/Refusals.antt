@@ -12,13 +12,13 @@ use Rattle.eql_lexer.specs.declared.refusal.LexRefused.TheVariants as refused
 use Rattle.eql_lexer.specs.Bytes.{begins, begins_fraction}
 use Rattle.eql_lexer.specs.Blanks.{gap}
 use Rattle.eql_lexer.specs.Signs.{spelling, grows, sign_at}
-use Rattle.eql_lexer.specs.Strings.{Content, closed, plain, escaped, BadEscape, bad_here, bad_after_plain, bad_after_escape}
-use Rattle.eql_lexer.specs.Spelling.{Lexeme, UpTo, Spells}
+use Rattle.eql_lexer.specs.Strings.{IsContent, closed, plain, escaped, IsBadEscape, bad_here, bad_after_plain, bad_after_escape}
+use Rattle.eql_lexer.specs.Spelling.{IsLexeme, AreTokensTo, Spells}
 use Rattle.eql_lexer.specs.Refusing.{IsOpen, BreaksRule, BreaksAt, RefusesText, IsMemory}
 use Rattle.eql_lexer.proofs.Unique.{true_not_false, not_letter, not_digit, not_letter_digit, no_sign, sign_at_is, escape_one, further, one_list}
 use Rattle.eql_lexer.proofs.Closing.{content_closed}
 
-bad_no : (bs s rest place : List ℕ) → Content bs s rest → BadEscape bs place → ⊥
+bad_no : (bs s rest place : List ℕ) → IsContent bs s rest → IsBadEscape bs place → ⊥
 bad_no _ _ _ _ (closed p) (bad_here q h) = omega (arith, p, q)
 bad_no _ _ _ _ (closed p) (bad_after_plain q h) = q.0 p
 bad_no _ _ _ _ (closed p) (bad_after_escape q e h) = omega (arith, p, q)
@@ -28,26 +28,26 @@ bad_no _ _ _ _ (plain p k) (bad_after_escape q e h) = p.1 q
 bad_no _ _ _ _ (escaped p e f k) (bad_here q h) = cc
 bad_no _ _ _ _ (escaped p e f k) (bad_after_plain q h) = q.1 p
 bad_no _ _ _ place (escaped {c = c} {more = m} p e f k) (bad_after_escape {c = d} {more = n} q g h) =
-    bad_no _ _ _ place k (subst (λ l. BadEscape l place) (escape_one _ d c n m g e).1 h)
+    bad_no _ _ _ place k (subst (λ l. IsBadEscape l place) (escape_one _ d c n m g e).1 h)
 
 open_word : (b : ℕ) (bs : List ℕ) → IsOpen b bs → (b ≡ 34 → ⊥) → (b ≡ 96 → ⊥) → ⊥
 open_word b bs (inl h) q t = q h.0
 open_word b bs (inr (inl h)) q t = q h.0
 open_word b bs (inr (inr h)) q t = t h.0
 
-open_string : (b : ℕ) (bs s rest : List ℕ) → IsOpen b bs → Lexeme (b ∷ bs) (tok.Str s) rest → ⊥
+open_string : (b : ℕ) (bs s rest : List ℕ) → IsOpen b bs → IsLexeme (b ∷ bs) (tok.Str s) rest → ⊥
 open_string b bs s rest (inl h) (q, inl k) = true_not_false (sym k.1.1 ∙ h.2)
 open_string b bs s rest (inl h) (q, inr k) = true_not_false (sym h.1 ∙ k.0)
 open_string b bs s rest (inr (inl h)) (q, inl k) = true_not_false (sym k.0 ∙ h.1)
 open_string b bs s rest (inr (inl h)) (q, inr k) = true_not_false (sym (content_closed _ _ _ k.1.1) ∙ h.2)
 open_string b bs s rest (inr (inr h)) k = omega (arith, h.0, k.0)
 
-open_name : (b : ℕ) (bs s rest : List ℕ) → IsOpen b bs → Lexeme (b ∷ bs) (tok.Back s) rest → ⊥
+open_name : (b : ℕ) (bs s rest : List ℕ) → IsOpen b bs → IsLexeme (b ∷ bs) (tok.Back s) rest → ⊥
 open_name b bs s rest (inl h) k = omega (arith, h.0, k.0)
 open_name b bs s rest (inr (inl h)) k = omega (arith, h.0, k.0)
 open_name b bs s rest (inr (inr h)) k = true_not_false (sym k.1.2 ∙ h.1)
 
-bad_string : (b : ℕ) (bs s rest place : List ℕ) → BreaksRule rule.BadEscape (b ∷ bs) place → Lexeme (b ∷ bs) (tok.Str s) rest → ⊥
+bad_string : (b : ℕ) (bs s rest place : List ℕ) → BreaksRule rule.BadEscape (b ∷ bs) place → IsLexeme (b ∷ bs) (tok.Str s) rest → ⊥
 bad_string b bs s rest place h (q, inl k) = true_not_false (sym k.0 ∙ h.1)
 bad_string b bs s rest place h (q, inr k) = bad_no _ _ _ _ k.1.1 h.3
 
@@ -58,7 +58,7 @@ comment_sign b bs rest x e o h k =
     cc
 
 -- what breaks a rule begins no token
-pub broken_no : (r : Rule) (from place : List ℕ) (t : Tok) (rest : List ℕ) → BreaksRule r from place → Lexeme from t rest → ⊥
+pub broken_no : (r : Rule) (from place : List ℕ) (t : Tok) (rest : List ℕ) → BreaksRule r from place → IsLexeme from t rest → ⊥
 broken_no r [] place t rest h k = h
 broken_no rule.OpenString (b ∷ bs) place (tok.Word w) rest h k = open_word b bs h.1 (not_letter b 34 k.0 refl) (not_letter b 96 k.0 refl)
 broken_no rule.OpenString (b ∷ bs) place (tok.Back w) rest h k = open_name b bs w rest h.1 k
@@ -96,7 +96,7 @@ broken_no rule.BadByte (b ∷ bs) place (tok.Str s) rest h k = h.3 k.0
 broken_no rule.BadByte (b ∷ bs) place (tok.Num n) rest h k = true_not_false (sym k.0 ∙ h.2)
 broken_no rule.BadByte (b ∷ bs) place (tok.Sign x) rest h k = let some = sign_at_is x (b ∷ bs) rest k.0 k.1 in cc
 
-none_further : (n : ℕ) (r : Rule) (mid place : List ℕ) (more : List Token) (stop : List ℕ) → BreaksRule r (gap mid) place → UpTo n mid more stop → gap stop ≡ [] → ⊥
+none_further : (n : ℕ) (r : Rule) (mid place : List ℕ) (more : List Token) (stop : List ℕ) → BreaksRule r (gap mid) place → AreTokensTo n mid more stop → gap stop ≡ [] → ⊥
 none_further n r mid place [] stop h k e = subst (λ l. BreaksRule r l place) (ap gap (sym k) ∙ e) h
 none_further n r mid place (t ∷ ts) stop h k e = broken_no r (gap mid) place t.tok k.0 h k.1
 

@@ -5,7 +5,7 @@ use Rattle.eql_lexer.specs.declared.token.Sign.TheVariants.{Open, Close, OpenBra
 use Rattle.eql_lexer.specs.declared.token.Tok.TheVariants as tok
 use Rattle.eql_lexer.specs.Bytes.{begins}
 use Rattle.eql_lexer.specs.Signs.{spelling, grows, sign_at}
-use Rattle.eql_lexer.specs.Spelling.{Lexeme}
+use Rattle.eql_lexer.specs.Spelling.{IsLexeme}
 use Rattle.eql_lexer.proofs.Closing.{equal, rest_after}
 
 abbrev Stands : ℕ → List ℕ → Sign → Type 0
@@ -60,7 +60,7 @@ sign_cases b bs =
     (λ e. choose b bs (b == 37) _ _ (λ e. some_stands b bs Percent (one_byte b 37 bs e, refl))
     (λ e. none_stands b bs))))))))))))))))))
 
-pub sign_found : (text more rest : List ℕ) (b : ℕ) (x : Sign) → text ≡ b ∷ more → sign_at text ≡ Some x → rest ≡ drop (length (spelling x)) text → Lexeme text (tok.Sign x) rest
+pub sign_found : (text more rest : List ℕ) (b : ℕ) (x : Sign) → text ≡ b ∷ more → sign_at text ≡ Some x → rest ≡ drop (length (spelling x)) text → IsLexeme text (tok.Sign x) rest
 sign_found text more rest b x e s k =
-    subst (λ l. Lexeme l (tok.Sign x) rest) (sym e)
+    subst (λ l. IsLexeme l (tok.Sign x) rest) (sym e)
     (subst (λ r. (b ∷ more ≡ spelling x ++ r) × (grows x r ≡ false)) (sym (k ∙ ap (λ l. drop (length (spelling x)) l) e)) ((sign_cases b more).all x (ap sign_at (sym e) ∙ s)))

@@ -7,16 +7,16 @@ use Rattle.eql_lexer.specs.declared.refusal.Fault.TheVariants as fault
 use Rattle.eql_lexer.specs.declared.refusal.Rule.TheVariants as rule
 use Rattle.eql_lexer.specs.Bytes.{begins}
 use Rattle.eql_lexer.specs.Escapes.{escape}
-use Rattle.eql_lexer.specs.Strings.{IsPlain, Content, closed, plain, escaped, BadEscape, bad_here, bad_after_plain, bad_after_escape, is_closed, put, quoted_name, name_behind, is_name}
-use Rattle.eql_lexer.specs.Refusing.{ContentFault}
+use Rattle.eql_lexer.specs.Strings.{IsPlain, IsContent, closed, plain, escaped, IsBadEscape, bad_here, bad_after_plain, bad_after_escape, is_closed, put, quoted_name, name_behind, is_name}
+use Rattle.eql_lexer.specs.Refusing.{HasContentFault}
 use Rattle.eql_lexer.proofs.Closing.{closed_plain, closed_escape, unequal, rest_after}
 use Rattle.eql_lexer.proofs.Utf8.{split_utf8, escape_utf8, escape_scalar}
 
 -- what is left completes the content
 pub record Completes (bytes out rest : List ℕ) : Type 0 where
-  pub content : (s stop : List ℕ) → Content rest s stop → Content bytes (out ++ s) stop
+  pub content : (s stop : List ℕ) → IsContent rest s stop → IsContent bytes (out ++ s) stop
   pub closes : is_closed rest ≡ is_closed bytes
-  pub bad : (place : List ℕ) → BadEscape rest place → BadEscape bytes place
+  pub bad : (place : List ℕ) → IsBadEscape rest place → IsBadEscape bytes place
   pub utf8 : IsUtf8 (out ++ rest)
 
 pub completes_none : (bytes : List ℕ) → IsUtf8 bytes → Completes bytes [] bytes
@@ -27,9 +27,9 @@ one_more_utf8 out more b u = subst IsUtf8 (sym (append_assoc out (b ∷ []) more
 
 pub completes_plain : (bytes out rest more : List ℕ) (b : ℕ) → Completes bytes out rest → rest ≡ b ∷ more → IsPlain b → Completes bytes (out ++ b ∷ []) more
 completes_plain bytes out rest more b h e p = record {
-  content = λ s stop k. subst (λ l. Content bytes l stop) (sym (append_assoc out (b ∷ []) s)) (h.content _ _ (subst (λ l. Content l (b ∷ s) stop) (sym e) (plain p k)));
+  content = λ s stop k. subst (λ l. IsContent bytes l stop) (sym (append_assoc out (b ∷ []) s)) (h.content _ _ (subst (λ l. IsContent l (b ∷ s) stop) (sym e) (plain p k)));
   closes = sym (closed_plain b more p) ∙ ap is_closed (sym e) ∙ h.closes;
-  bad = λ place k. h.bad place (subst (λ l. BadEscape l place) (sym e) (bad_after_plain p k));
+  bad = λ place k. h.bad place (subst (λ l. IsBadEscape l place) (sym e) (bad_after_plain p k));
   utf8 = one_more_utf8 out more b (subst (λ l. IsUtf8 (out ++ l)) e h.utf8);
 }
 
@@ -39,17 +39,17 @@ completes_escape bytes out rest more behind b c h e p q =
     let e' : rest ≡ 92 ∷ more = e ∙ ap (λ x. x ∷ more) p in
     let cut = split_utf8 out more 92 (omega arith) (subst (λ l. IsUtf8 (out ++ l)) e' h.utf8) in
     record {
-      content = λ s stop k. subst (λ l. Content bytes l stop) (sym (append_assoc out (encode_utf8 c) s)) (h.content _ _ (subst (λ l. Content l (encode_utf8 c ++ s) stop) (sym e) (escaped p q refl k)));
+      content = λ s stop k. subst (λ l. IsContent bytes l stop) (sym (append_assoc out (encode_utf8 c) s)) (h.content _ _ (subst (λ l. IsContent l (encode_utf8 c ++ s) stop) (sym e) (escaped p q refl k)));
       closes = sym (closed_escape more c behind q) ∙ ap is_closed (sym e') ∙ h.closes;
-      bad = λ place k. h.bad place (subst (λ l. BadEscape l place) (sym e) (bad_after_escape p q k));
+      bad = λ place k. h.bad place (subst (λ l. IsBadEscape l place) (sym e) (bad_after_escape p q k));
       utf8 = IsUtf8-append (out ++ encode_utf8 c) behind (IsUtf8-append out (encode_utf8 c) cut.0 (IsUtf8-encode c (escape_scalar more c behind q))) (escape_utf8 more c behind q cut.1);
     }
 
-pub bad_escape_at : (rest more : List ℕ) (b : ℕ) → rest ≡ b ∷ more → b ≡ 92 → escape more ≡ None → BadEscape rest rest
-bad_escape_at rest more b e p none = subst (λ l. BadEscape l l) (sym e) (bad_here p none)
+pub bad_escape_at : (rest more : List ℕ) (b : ℕ) → rest ≡ b ∷ more → b ≡ 92 → escape more ≡ None → IsBadEscape rest rest
+bad_escape_at rest more b e p none = subst (λ l. IsBadEscape l l) (sym e) (bad_here p none)
 
-pub closed_at : (bytes out rest more : List ℕ) (b : ℕ) → Completes bytes out rest → rest ≡ b ∷ more → b ≡ 34 → Content bytes out more
-closed_at bytes out rest more b h e p = subst (λ l. Content bytes l more) (append-nil out) (h.content [] more (subst (λ l. Content l [] more) (sym e) (closed p)))
+pub closed_at : (bytes out rest more : List ℕ) (b : ℕ) → Completes bytes out rest → rest ≡ b ∷ more → b ≡ 34 → IsContent bytes out more
+closed_at bytes out rest more b h e p = subst (λ l. IsContent bytes l more) (append-nil out) (h.content [] more (subst (λ l. IsContent l [] more) (sym e) (closed p)))
 
 pub closed_utf8 : (bytes out rest more : List ℕ) (b : ℕ) → Completes bytes out rest → rest ≡ b ∷ more → b ≡ 34 → IsUtf8 out
 closed_utf8 bytes out rest more b h e p = (split_utf8 out more b (omega (arith, p)) (subst (λ l. IsUtf8 (out ++ l)) e h.utf8)).0
@@ -117,13 +117,13 @@ no_name_line bytes out rest more b h e p =
 pub no_name_end : (bytes out rest : List ℕ) → Gathers bytes out rest → rest ≡ [] → quoted_name bytes ≡ None
 no_name_end bytes out rest h e = sym h.name ∙ ap (λ l. put_all out (quoted_name l)) e
 
-bad_by : (t : Bool) (bytes out rest : List ℕ) (opening : ℕ) (f : Fault) → Completes bytes out rest → BadEscape rest rest → is_closed rest ≡ t
-    → f ≡ cond t (fault.Broken rule.BadEscape (length rest)) (fault.Broken rule.OpenString opening) → ContentFault bytes opening f
-bad_by true bytes out rest opening f h bad e g = subst (ContentFault bytes opening) (sym g) (sym h.closes ∙ e, (rest, h.bad rest bad, refl))
-bad_by false bytes out rest opening f h bad e g = subst (ContentFault bytes opening) (sym g) (sym h.closes ∙ e, refl)
+bad_by : (t : Bool) (bytes out rest : List ℕ) (opening : ℕ) (f : Fault) → Completes bytes out rest → IsBadEscape rest rest → is_closed rest ≡ t
+    → f ≡ cond t (fault.Broken rule.BadEscape (length rest)) (fault.Broken rule.OpenString opening) → HasContentFault bytes opening f
+bad_by true bytes out rest opening f h bad e g = subst (HasContentFault bytes opening) (sym g) (sym h.closes ∙ e, (rest, h.bad rest bad, refl))
+bad_by false bytes out rest opening f h bad e g = subst (HasContentFault bytes opening) (sym g) (sym h.closes ∙ e, refl)
 
-pub bad_refused : (bytes out rest : List ℕ) (opening : ℕ) (f : Fault) → Completes bytes out rest → BadEscape rest rest
-    → f ≡ cond (is_closed rest) (fault.Broken rule.BadEscape (length rest)) (fault.Broken rule.OpenString opening) → ContentFault bytes opening f
+pub bad_refused : (bytes out rest : List ℕ) (opening : ℕ) (f : Fault) → Completes bytes out rest → IsBadEscape rest rest
+    → f ≡ cond (is_closed rest) (fault.Broken rule.BadEscape (length rest)) (fault.Broken rule.OpenString opening) → HasContentFault bytes opening f
 bad_refused bytes out rest opening f h bad g = bad_by (is_closed rest) bytes out rest opening f h bad refl g
 
 pub is_name_some : (o : Option (List ℕ × List ℕ)) (s rest : List ℕ) → o ≡ Some (s, rest) → 0 < length s → is_name o ≡ true

@@ -12,8 +12,8 @@ use Rattle.eql_lexer.specs.Bytes.{begins, is_digit, is_hex, is_white}
 use Rattle.eql_lexer.specs.Blanks.{gap, line_comment, block_comment, within_block, block_end}
 use Rattle.eql_lexer.specs.Signs.{spelling}
 use Rattle.eql_lexer.specs.Escapes.{escape, unicode}
-use Rattle.eql_lexer.specs.Strings.{before_triple, Content, closed, plain, escaped, BadEscape, bad_here, bad_after_plain, bad_after_escape, put, quoted_name, name_behind}
-use Rattle.eql_lexer.specs.Spelling.{word_more, Lexeme}
+use Rattle.eql_lexer.specs.Strings.{before_triple, IsContent, closed, plain, escaped, IsBadEscape, bad_here, bad_after_plain, bad_after_escape, put, quoted_name, name_behind}
+use Rattle.eql_lexer.specs.Spelling.{word_more, IsLexeme}
 use Rattle.eql_lexer.proofs.Unique.{rest_of}
 use Rattle.eql_lexer.proofs.Closing.{escape_cases, unicode_given}
 
@@ -81,12 +81,12 @@ escape_tail [] c more h = cc
 escape_tail (b ∷ bs) c more h =
     tail_more b bs more (either_tail bs c more (escape_cases (b == 110) (b == 114) (b == 116) (b == 92) (b == 34) (b == 117) bs (unicode bs) c more h))
 
-pub content_tail : (bs s rest : List ℕ) → Content bs s rest → Tail bs rest
+pub content_tail : (bs s rest : List ℕ) → IsContent bs s rest → Tail bs rest
 content_tail _ _ _ (closed {b = b} {rest = rest} p) = tail_more b rest rest (tail_here rest)
 content_tail _ _ rest (plain {b = b} {bs = bs} p h) = tail_more b bs rest (content_tail _ _ _ h)
 content_tail _ _ rest (escaped {b = b} {c = c} {bs = bs} {more = more} p e f h) = tail_more b bs rest (tail_on bs more rest (escape_tail bs c more e) (content_tail _ _ _ h))
 
-pub bad_within : (bs place : List ℕ) → BadEscape bs place → length place ≤ length bs
+pub bad_within : (bs place : List ℕ) → IsBadEscape bs place → length place ≤ length bs
 bad_within _ _ (bad_here p none) = omega arith
 bad_within _ _ (bad_after_plain p h) = omega (arith, bad_within _ _ h)
 bad_within _ _ (bad_after_escape {c = c} {bs = bs} {more = more} p e h) = omega (arith, bad_within _ _ h, tail_within bs more (escape_tail bs c more e))
@@ -119,12 +119,12 @@ sign_rest : (x : Sign) (b : ℕ) (bs rest : List ℕ) → b ∷ bs ≡ spelling 
 sign_rest Open b bs rest h = cc
 sign_rest _ b bs rest h = cc
 
-string_tail : (b : ℕ) (bs s rest : List ℕ) → Lexeme (b ∷ bs) (tok.Str s) rest → Tail bs rest
+string_tail : (b : ℕ) (bs s rest : List ℕ) → IsLexeme (b ∷ bs) (tok.Str s) rest → Tail bs rest
 string_tail b bs s rest (q, inl h) = tail_on bs (drop 2 bs) rest (tail_drop 2 bs _ refl) (tail_on (drop 2 bs) (drop (before_triple (drop 2 bs)) (drop 2 bs)) rest (tail_drop (before_triple (drop 2 bs)) (drop 2 bs) _ refl) (tail_drop 3 (drop (before_triple (drop 2 bs)) (drop 2 bs)) rest h.1.2))
 string_tail b bs s rest (q, inr h) = content_tail bs h.1.0 rest h.1.1
 
 -- what a token leaves is a tail of what follows its first byte
-pub lexeme_tail : (b : ℕ) (bs : List ℕ) (t : Tok) (rest : List ℕ) → Lexeme (b ∷ bs) t rest → Tail bs rest
+pub lexeme_tail : (b : ℕ) (bs : List ℕ) (t : Tok) (rest : List ℕ) → IsLexeme (b ∷ bs) t rest → Tail bs rest
 lexeme_tail b bs (tok.Word w) rest h = tail_drop (word_more bs) bs rest h.2
 lexeme_tail b bs (tok.Back w) rest h = name_tail bs h.1.0 rest h.1.1
 lexeme_tail b bs (tok.Str s) rest h = string_tail b bs s rest h

@@ -10,8 +10,8 @@ use Rattle.eql_lexer.specs.declared.token.Token.{Token}
 use Rattle.eql_lexer.specs.Bytes.{is_digit, is_letter, begins}
 use Rattle.eql_lexer.specs.Blanks.{gap}
 use Rattle.eql_lexer.specs.Signs.{spelling, grows, sign_at}
-use Rattle.eql_lexer.specs.Strings.{Content, closed, plain, escaped, triple, quoted_name}
-use Rattle.eql_lexer.specs.Spelling.{RawString, LineString, Lexeme, UpTo, Spells}
+use Rattle.eql_lexer.specs.Strings.{IsContent, closed, plain, escaped, triple, quoted_name}
+use Rattle.eql_lexer.specs.Spelling.{IsRawString, IsLineString, IsLexeme, AreTokensTo, Spells}
 
 -- the parts of what a reading gave
 abbrev pub char_of : Option (ℕ × List ℕ) → ℕ
@@ -36,7 +36,7 @@ escape_one o c d m n h k = (sym (ap char_of h) ∙ ap char_of k, sym (ap behind_
 pub name_one : (o : Option (List ℕ × List ℕ)) (s t m n : List ℕ) → o ≡ Some (s, m) → o ≡ Some (t, n) → (s ≡ t) × (m ≡ n)
 name_one o s t m n h k = (sym (ap name_of h) ∙ ap name_of k, sym (ap rest_of h) ∙ ap rest_of k)
 
-pub content_one : (bs s r s' r' : List ℕ) → Content bs s r → Content bs s' r' → (s ≡ s') × (r ≡ r')
+pub content_one : (bs s r s' r' : List ℕ) → IsContent bs s r → IsContent bs s' r' → (s ≡ s') × (r ≡ r')
 content_one _ _ _ _ _ (closed p) (closed q) = (refl, refl)
 content_one _ _ _ _ _ (closed p) (plain q k) = absurd (q.0 p)
 content_one _ _ _ _ _ (closed p) (escaped q e f k) = absurd (omega (arith, p, q))
@@ -47,7 +47,7 @@ content_one _ _ _ _ _ (escaped q e f k) (closed p) = absurd (omega (arith, p, q)
 content_one _ _ _ _ _ (escaped q e f k) (plain p h) = absurd (p.1 q)
 content_one _ _ _ s' r' (escaped {c = c} {bs = bs} {more = m} {s = s} q e f h) (escaped {c = d} {more = n} {s = t} p e' f' k) =
     let one = escape_one _ c d m n e e' in
-    let ih = content_one _ _ _ _ _ h (subst (λ l. Content l t r') (sym one.1) k) in
+    let ih = content_one _ _ _ _ _ h (subst (λ l. IsContent l t r') (sym one.1) k) in
     (cc, ih.1)
 
 -- the kind of token that begins with a byte
@@ -115,17 +115,17 @@ sign_one x y from r s h j k l =
     let e : x ≡ y = let a = sign_at_is x from r h j in let b = sign_at_is y from s k l in cc in
     (e, same_rest x r s (sym h ∙ k ∙ ap (λ z. spelling z ++ s) (sym e)))
 
-string_one : (bs v w r s : List ℕ) → Lexeme bs (tok.Str v) r → Lexeme bs (tok.Str w) s → (v ≡ w) × (r ≡ s)
+string_one : (bs v w r s : List ℕ) → IsLexeme bs (tok.Str v) r → IsLexeme bs (tok.Str w) s → (v ≡ w) × (r ≡ s)
 string_one [] v w r s h k = absurd h
 string_one (b ∷ bs) v w r s (q, inl h) (p, inl k) = (h.1.0 ∙ sym k.1.0, h.1.2 ∙ sym k.1.2)
 string_one (b ∷ bs) v w r s (q, inl h) (p, inr k) = absurd (true_not_false (sym h.0 ∙ k.0))
 string_one (b ∷ bs) v w r s (q, inr h) (p, inl k) = absurd (true_not_false (sym k.0 ∙ h.0))
 string_one (b ∷ bs) v w r s (q, inr h) (p, inr k) = let one = content_one _ _ _ _ _ h.1.1 k.1.1 in (h.1.2 ∙ ap chars one.0 ∙ sym k.1.2, one.1)
 
-back_one : (b : ℕ) (bs v w r s : List ℕ) → Lexeme (b ∷ bs) (tok.Back v) r → Lexeme (b ∷ bs) (tok.Back w) s → (v ≡ w) × (r ≡ s)
+back_one : (b : ℕ) (bs v w r s : List ℕ) → IsLexeme (b ∷ bs) (tok.Back v) r → IsLexeme (b ∷ bs) (tok.Back w) s → (v ≡ w) × (r ≡ s)
 back_one b bs v w r s h k = let one = name_one (quoted_name bs) _ _ _ _ h.1.1 k.1.1 in (h.1.3 ∙ ap chars one.0 ∙ sym k.1.3, one.1)
 
-pub lexeme_one : (from : List ℕ) (t u : Tok) (r s : List ℕ) → Lexeme from t r → Lexeme from u s → (t ≡ u) × (r ≡ s)
+pub lexeme_one : (from : List ℕ) (t u : Tok) (r s : List ℕ) → IsLexeme from t r → IsLexeme from u s → (t ≡ u) × (r ≡ s)
 lexeme_one [] t u r s h k = absurd h
 lexeme_one (b ∷ bs) (tok.Word v) (tok.Word w) r s h k = (cc, cc)
 lexeme_one (b ∷ bs) (tok.Word v) (tok.Back w) r s h k = absurd (not_letter b 96 h.0 refl k.0)
@@ -157,22 +157,22 @@ same_token : (t u : Token) → t.tok ≡ u.tok → t.start ≡ u.start → t.end
 same_token t u p q r = λ i. record { tok = p i; start = q i; end = r i }
 
 -- what has the tokens up to a place, and other tokens, has those behind the place
-pub further : (n : ℕ) (text : List ℕ) (ts us : List Token) (mid stop : List ℕ) → UpTo n text ts mid → UpTo n text us stop → gap stop ≡ []
-    → (more : List Token) × (us ≡ ts ++ more) × UpTo n mid more stop
-further n text [] us mid stop h k e = (us, refl, subst (λ l. UpTo n l us stop) (sym h) k)
-further n text (t ∷ ts) [] mid stop h k e = absurd (subst (λ l. Lexeme l t.tok h.0) (ap gap (sym k) ∙ e) h.1)
+pub further : (n : ℕ) (text : List ℕ) (ts us : List Token) (mid stop : List ℕ) → AreTokensTo n text ts mid → AreTokensTo n text us stop → gap stop ≡ []
+    → (more : List Token) × (us ≡ ts ++ more) × AreTokensTo n mid more stop
+further n text [] us mid stop h k e = (us, refl, subst (λ l. AreTokensTo n l us stop) (sym h) k)
+further n text (t ∷ ts) [] mid stop h k e = absurd (subst (λ l. IsLexeme l t.tok h.0) (ap gap (sym k) ∙ e) h.1)
 further n text (t ∷ ts) (u ∷ us) mid stop h k e =
     let one = lexeme_one _ _ _ _ _ h.1 k.1 in
-    let again = further n h.0 ts us mid stop h.4 (subst (λ l. UpTo n l us stop) (sym one.1) k.4) e in
+    let again = further n h.0 ts us mid stop h.4 (subst (λ l. AreTokensTo n l us stop) (sym one.1) k.4) e in
     let starts : t.start ≡ u.start = omega (arith, h.2, k.2) in
     let lengths : length h.0 ≡ length k.0 = ap length one.1 in
     let ends : t.end ≡ u.end = omega (arith, h.3, k.3, lengths) in
     let same : u ≡ t = sym (same_token t u one.0 starts ends) in
     (again.0, cc, again.2)
 
-no_more : (n : ℕ) (mid : List ℕ) (more : List Token) (stop : List ℕ) → UpTo n mid more stop → gap mid ≡ [] → more ≡ []
+no_more : (n : ℕ) (mid : List ℕ) (more : List Token) (stop : List ℕ) → AreTokensTo n mid more stop → gap mid ≡ [] → more ≡ []
 no_more n mid [] stop h e = refl
-no_more n mid (t ∷ ts) stop h e = absurd (subst (λ l. Lexeme l t.tok h.0) e h.1)
+no_more n mid (t ∷ ts) stop h e = absurd (subst (λ l. IsLexeme l t.tok h.0) e h.1)
 
 -- a text spells one list of tokens at most
 pub one_list : (text : List ℕ) (ts us : List Token) → Spells text ts → Spells text us → ts ≡ us

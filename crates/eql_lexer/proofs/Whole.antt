@@ -13,8 +13,8 @@ use Rattle.eql_lexer.specs.Bytes.{begins, begins_fraction, is_digit, is_letter, 
 use Rattle.eql_lexer.specs.Blanks.{gap}
 use Rattle.eql_lexer.specs.Escapes.{escape}
 use Rattle.eql_lexer.specs.Signs.{spelling, sign_at}
-use Rattle.eql_lexer.specs.Strings.{IsPlain, Content, closed, plain, escaped, BadEscape, bad_here, bad_after_plain, bad_after_escape, is_closed, is_closed_behind, triple, before_triple, quoted_name, is_name}
-use Rattle.eql_lexer.specs.Spelling.{word_more, Lexeme, UpTo, Spells}
+use Rattle.eql_lexer.specs.Strings.{IsPlain, IsContent, closed, plain, escaped, IsBadEscape, bad_here, bad_after_plain, bad_after_escape, is_closed, is_closed_behind, triple, before_triple, quoted_name, is_name}
+use Rattle.eql_lexer.specs.Spelling.{word_more, IsLexeme, AreTokensTo, Spells}
 use Rattle.eql_lexer.specs.Refusing.{BreaksRule, BreaksAt}
 use Rattle.eql_lexer.proofs.Unique.{true_not_false}
 use Rattle.eql_lexer.proofs.Closing.{equal, closed_plain, closed_escape}
@@ -31,7 +31,7 @@ below_at false x y h = inr (grind (arith, nat_tests))
 
 -- what stands behind a quote: a string, or a backslash that begins no escape
 abbrev Contents : List ℕ → Type 0
-Contents bs = ((s : List ℕ) × (rest : List ℕ) × Content bs s rest) ⊎ ((place : List ℕ) × BadEscape bs place)
+Contents bs = ((s : List ℕ) × (rest : List ℕ) × IsContent bs s rest) ⊎ ((place : List ℕ) × IsBadEscape bs place)
 
 behind_plain : (b : ℕ) (bs : List ℕ) → IsPlain b → Contents bs → Contents (b ∷ bs)
 behind_plain b bs p (inl h) = inl (b ∷ h.0, h.1, plain p h.2)
@@ -65,7 +65,7 @@ contents (suc k) (b ∷ bs) q h =
 
 -- what a text begins with: a token, or a place where a rule is broken
 abbrev Front : List ℕ → Type 0
-Front from = ((t : Tok) × (rest : List ℕ) × Lexeme from t rest) ⊎ ((r : Rule) × (place : List ℕ) × BreaksRule r from place)
+Front from = ((t : Tok) × (rest : List ℕ) × IsLexeme from t rest) ⊎ ((r : Rule) × (place : List ℕ) × BreaksRule r from place)
 
 number_front : (f : Bool) (b : ℕ) (bs : List ℕ) → is_digit b ≡ true → begins_fraction (drop (prefix_len is_digit bs) bs) ≡ f
     → (number 0 (b ∷ take_while is_digit bs) < 2 ^ 63) ⊎ (2 ^ 63 ≤ number 0 (b ∷ take_while is_digit bs)) → Front (b ∷ bs)
@@ -129,10 +129,10 @@ first_front false false b bs e f = other_front (b == 34) (b == 96) (b == 39) b b
 -- of a text of n bytes, from here on: tokens up to its end, or up to a place where a rule is broken
 abbrev Whole : ℕ → List ℕ → Type 0
 Whole n text =
-    ((ts : List Token) × (stop : List ℕ) × UpTo n text ts stop × (gap stop ≡ []))
-    ⊎ ((r : Rule) × (at : ℕ) × (ts : List Token) × (stop place : List ℕ) × UpTo n text ts stop × BreaksRule r (gap stop) place × (at + length place ≡ n))
+    ((ts : List Token) × (stop : List ℕ) × AreTokensTo n text ts stop × (gap stop ≡ []))
+    ⊎ ((r : Rule) × (at : ℕ) × (ts : List Token) × (stop place : List ℕ) × AreTokensTo n text ts stop × BreaksRule r (gap stop) place × (at + length place ≡ n))
 
-behind_token : (n : ℕ) (text : List ℕ) (t : Tok) (rest : List ℕ) → Lexeme (gap text) t rest → length (gap text) ≤ n → length rest ≤ n → Whole n rest → Whole n text
+behind_token : (n : ℕ) (text : List ℕ) (t : Tok) (rest : List ℕ) → IsLexeme (gap text) t rest → length (gap text) ≤ n → length rest ≤ n → Whole n rest → Whole n text
 behind_token n text t rest h p q (inl k) =
     inl (record { tok = t; start = n - length (gap text); end = n - length rest } ∷ k.0, k.1, (rest, h, omega (arith, p), omega (arith, q), k.2), k.3)
 behind_token n text t rest h p q (inr k) =
@@ -141,7 +141,7 @@ behind_token n text t rest h p q (inr k) =
 whole_at : (k n : ℕ) (text from : List ℕ) → gap text ≡ from → length from ≤ suc k → length from ≤ n → ((rest : List ℕ) → length rest ≤ k → length rest ≤ n → Whole n rest) → Front from → Whole n text
 whole_at k n text from e p q go (inl h) =
     let less : length h.1 < length from = lexeme_within from h.0 h.1 h.2 in
-    behind_token n text h.0 h.1 (subst (λ l. Lexeme l h.0 h.1) (sym e) h.2) (omega (arith, ap length e, q)) (omega (arith, less, q)) (go h.1 (omega (arith, less, p)) (omega (arith, less, q)))
+    behind_token n text h.0 h.1 (subst (λ l. IsLexeme l h.0 h.1) (sym e) h.2) (omega (arith, ap length e, q)) (omega (arith, less, q)) (go h.1 (omega (arith, less, p)) (omega (arith, less, q)))
 whole_at k n text from e p q go (inr h) =
     let within : length h.1 ≤ length from = broken_within h.0 from h.1 h.2 in
     inr (h.0, n - length h.1, [], text, h.1, refl, subst (λ l. BreaksRule h.0 l h.1) (sym e) h.2, omega (arith, within, q))

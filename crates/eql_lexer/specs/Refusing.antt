@@ -12,8 +12,8 @@ use Rattle.eql_lexer.specs.declared.refusal.LexRefused.TheVariants as refused
 use Rattle.eql_lexer.specs.Bytes.{is_digit, is_letter, begins, begins_fraction, number}
 use Rattle.eql_lexer.specs.Blanks.{gap}
 use Rattle.eql_lexer.specs.Signs.{sign_at}
-use Rattle.eql_lexer.specs.Strings.{BadEscape, triple, before_triple, is_closed, quoted_name, is_name}
-use Rattle.eql_lexer.specs.Spelling.{UpTo}
+use Rattle.eql_lexer.specs.Strings.{IsBadEscape, triple, before_triple, is_closed, quoted_name, is_name}
+use Rattle.eql_lexer.specs.Spelling.{AreTokensTo}
 
 -- A text that begins with a quote or a backtick that isn't closed: `"""` without another one, a quote without a closing
 -- one on its line, a backtick without a name that is closed on its line.
@@ -27,7 +27,7 @@ IsOpen b bs =
 abbrev pub BreaksRule : Rule → List ℕ → List ℕ → Type 0
 BreaksRule r [] place = ⊥
 BreaksRule rule.OpenString (b ∷ bs) place = (place ≡ b ∷ bs) × IsOpen b bs
-BreaksRule rule.BadEscape (b ∷ bs) place = (b ≡ 34) × (triple (b ∷ bs) ≡ false) × (is_closed bs ≡ true) × BadEscape bs place
+BreaksRule rule.BadEscape (b ∷ bs) place = (b ≡ 34) × (triple (b ∷ bs) ≡ false) × (is_closed bs ≡ true) × IsBadEscape bs place
 BreaksRule rule.Fraction (b ∷ bs) place = (place ≡ b ∷ bs) × (is_digit b ≡ true) × (begins_fraction (drop (prefix_len is_digit bs) bs) ≡ true)
 BreaksRule rule.NumberRange (b ∷ bs) place =
     (place ≡ b ∷ bs) × (is_digit b ≡ true) × (begins_fraction (drop (prefix_len is_digit bs) bs) ≡ false)
@@ -44,23 +44,23 @@ Refuses from fault.Memory = Unit {0}
 Refuses from (fault.Broken r left) = (place : List ℕ) × BreaksRule r from place × (left ≡ length place)
 
 -- why what stands behind `"""` is no string: the refusal names the opening, where so many bytes are left
-abbrev pub RawFault : List ℕ → ℕ → Fault → Type 0
-RawFault bs opening fault.Memory = Unit {0}
-RawFault bs opening (fault.Broken rule.OpenString left) = (triple (drop (before_triple bs) bs) ≡ false) × (left ≡ opening)
-RawFault bs opening (fault.Broken _ left) = ⊥
+abbrev pub HasRawFault : List ℕ → ℕ → Fault → Type 0
+HasRawFault bs opening fault.Memory = Unit {0}
+HasRawFault bs opening (fault.Broken rule.OpenString left) = (triple (drop (before_triple bs) bs) ≡ false) × (left ≡ opening)
+HasRawFault bs opening (fault.Broken _ left) = ⊥
 
 -- why what stands behind a quote is no string
-abbrev pub ContentFault : List ℕ → ℕ → Fault → Type 0
-ContentFault bs opening fault.Memory = Unit {0}
-ContentFault bs opening (fault.Broken rule.OpenString left) = (is_closed bs ≡ false) × (left ≡ opening)
-ContentFault bs opening (fault.Broken rule.BadEscape left) = (is_closed bs ≡ true) × ((place : List ℕ) × BadEscape bs place × (left ≡ length place))
-ContentFault bs opening (fault.Broken _ left) = ⊥
+abbrev pub HasContentFault : List ℕ → ℕ → Fault → Type 0
+HasContentFault bs opening fault.Memory = Unit {0}
+HasContentFault bs opening (fault.Broken rule.OpenString left) = (is_closed bs ≡ false) × (left ≡ opening)
+HasContentFault bs opening (fault.Broken rule.BadEscape left) = (is_closed bs ≡ true) × ((place : List ℕ) × IsBadEscape bs place × (left ≡ length place))
+HasContentFault bs opening (fault.Broken _ left) = ⊥
 
 -- why what stands behind a backtick is no name
-abbrev pub NameFault : List ℕ → ℕ → Fault → Type 0
-NameFault bs opening fault.Memory = Unit {0}
-NameFault bs opening (fault.Broken rule.OpenString left) = (is_name (quoted_name bs) ≡ false) × (left ≡ opening)
-NameFault bs opening (fault.Broken _ left) = ⊥
+abbrev pub HasNameFault : List ℕ → ℕ → Fault → Type 0
+HasNameFault bs opening fault.Memory = Unit {0}
+HasNameFault bs opening (fault.Broken rule.OpenString left) = (is_name (quoted_name bs) ≡ false) × (left ≡ opening)
+HasNameFault bs opening (fault.Broken _ left) = ⊥
 
 -- the place lies within the text
 abbrev pub BreaksWithin : List ℕ → Fault → Type 0
@@ -70,7 +70,7 @@ BreaksWithin from (fault.Broken r left) = left ≤ length from
 -- What stands before the token of the place spells tokens, and there the rule is broken.
 abbrev pub BreaksAt : List ℕ → Rule → ℕ → Type 0
 BreaksAt text r at =
-    (ts : List Token) × (stop place : List ℕ) × UpTo (length text) text ts stop × BreaksRule r (gap stop) place × (at + length place ≡ length text)
+    (ts : List Token) × (stop place : List ℕ) × AreTokensTo (length text) text ts stop × BreaksRule r (gap stop) place × (at + length place ≡ length text)
 
 -- the cause of each refusal
 abbrev pub RefusesText : List ℕ → LexRefused → Type 0

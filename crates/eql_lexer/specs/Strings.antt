@@ -17,17 +17,17 @@ abbrev pub IsPlain : ℕ → Type 0
 IsPlain b = (b ≢ 34) × (b ≢ 92) × (b ≢ 10)
 
 -- a text behind an opening quote, the bytes that the string stands for, and what follows its closing quote
-pub data Content : List ℕ → List ℕ → List ℕ → Type 0 where
-  closed : {b : ℕ} {rest : List ℕ} → b ≡ 34 → Content (b ∷ rest) [] rest
-  plain : {b : ℕ} {bs s rest : List ℕ} → IsPlain b → Content bs s rest → Content (b ∷ bs) (b ∷ s) rest
-  escaped : {b c : ℕ} {bs more s t rest : List ℕ} → b ≡ 92 → escape bs ≡ Some (c, more) → t ≡ encode_utf8 c ++ s → Content more s rest
-      → Content (b ∷ bs) t rest
+pub data IsContent : List ℕ → List ℕ → List ℕ → Type 0 where
+  closed : {b : ℕ} {rest : List ℕ} → b ≡ 34 → IsContent (b ∷ rest) [] rest
+  plain : {b : ℕ} {bs s rest : List ℕ} → IsPlain b → IsContent bs s rest → IsContent (b ∷ bs) (b ∷ s) rest
+  escaped : {b c : ℕ} {bs more s t rest : List ℕ} → b ≡ 92 → escape bs ≡ Some (c, more) → t ≡ encode_utf8 c ++ s → IsContent more s rest
+      → IsContent (b ∷ bs) t rest
 
 -- a text behind an opening quote, and from where on a backslash begins no escape
-pub data BadEscape : List ℕ → List ℕ → Type 0 where
-  bad_here : {b : ℕ} {bs : List ℕ} → b ≡ 92 → escape bs ≡ None → BadEscape (b ∷ bs) (b ∷ bs)
-  bad_after_plain : {b : ℕ} {bs place : List ℕ} → IsPlain b → BadEscape bs place → BadEscape (b ∷ bs) place
-  bad_after_escape : {b c : ℕ} {bs more place : List ℕ} → b ≡ 92 → escape bs ≡ Some (c, more) → BadEscape more place → BadEscape (b ∷ bs) place
+pub data IsBadEscape : List ℕ → List ℕ → Type 0 where
+  bad_here : {b : ℕ} {bs : List ℕ} → b ≡ 92 → escape bs ≡ None → IsBadEscape (b ∷ bs) (b ∷ bs)
+  bad_after_plain : {b : ℕ} {bs place : List ℕ} → IsPlain b → IsBadEscape bs place → IsBadEscape (b ∷ bs) place
+  bad_after_escape : {b c : ℕ} {bs more place : List ℕ} → b ≡ 92 → escape bs ≡ Some (c, more) → IsBadEscape more place → IsBadEscape (b ∷ bs) place
 
 abbrev mutual
   -- Behind an opening quote a closing one stands before the end of the line. A quote behind a backslash closes nothing.

@@ -4,9 +4,9 @@ ghost use Rattle.std.specs.Prelude.{if◌then◌else◌};
 ghost use Rattle.std.specs.Str.{IsUtf8, chars};
 ghost use Rattle.eql_lexer.specs.declared.refusal.Rule.TheVariants as rule;
 ghost use Rattle.eql_lexer.specs.declared.refusal.Fault.TheVariants as fault;
-ghost use Rattle.eql_lexer.specs.Strings.{BadEscape, Content, before_triple, is_closed, quoted_name, triple};
-ghost use Rattle.eql_lexer.specs.Spelling.{RawString, LineString, QuotedName};
-ghost use Rattle.eql_lexer.specs.Refusing.{ContentFault, RawFault, NameFault};
+ghost use Rattle.eql_lexer.specs.Strings.{IsBadEscape, IsContent, before_triple, is_closed, quoted_name, triple};
+ghost use Rattle.eql_lexer.specs.Spelling.{IsRawString, IsLineString, IsQuotedName};
+ghost use Rattle.eql_lexer.specs.Refusing.{HasContentFault, HasRawFault, HasNameFault};
 
 use crate::byte::{begins_triple, begins_with, skip, split};
 use crate::escape::leading_escape;
@@ -46,8 +46,8 @@ fn raw_len(bytes: &[u8]) -> usize
 /// left where the string begins.
 pub fn raw_string(alloc: Global, bytes: &[u8], opening: usize) -> Result<(Text, &[u8]), Fault>
     requires { IsUtf8 bytes.now }
-    ensures found { IfOk result (λ x. RawString bytes.now x.0 x.1.now) }
-    ensures refused { IfErr result (RawFault bytes.now opening) }
+    ensures found { IfOk result (λ x. IsRawString bytes.now x.0 x.1.now) }
+    ensures refused { IfErr result (HasRawFault bytes.now opening) }
 {
     let len = raw_len(bytes);
     let behind = skip(bytes, len);
@@ -81,9 +81,9 @@ fn closes(bytes: &[u8]) -> bool
 /// how many bytes are left where the string begins.
 fn line_content(alloc: Global, bytes: &[u8], opening: usize) -> Result<(Vec<u8>, &[u8]), Fault>
     requires { IsUtf8 bytes.now }
-    ensures found { IfOk result (λ x. Content bytes.now x.0.items x.1.now) }
+    ensures found { IfOk result (λ x. IsContent bytes.now x.0.items x.1.now) }
     ensures utf8 { IfOk result (λ x. IsUtf8 x.0.items) }
-    ensures refused { IfErr result (ContentFault bytes.now opening) }
+    ensures refused { IfErr result (HasContentFault bytes.now opening) }
 {
     let mut out = Vec::new(alloc);
     let mut rest = bytes;
@@ -125,8 +125,8 @@ fn bad_escape(rest: &[u8], opening: usize) -> Fault
 /// how many bytes are left where the string begins.
 pub fn line_string(alloc: Global, bytes: &[u8], opening: usize) -> Result<(Text, &[u8]), Fault>
     requires { IsUtf8 bytes.now }
-    ensures found { IfOk result (λ x. LineString bytes.now x.0 x.1.now) }
-    ensures refused { IfErr result (ContentFault bytes.now opening) }
+    ensures found { IfOk result (λ x. IsLineString bytes.now x.0 x.1.now) }
+    ensures refused { IfErr result (HasContentFault bytes.now opening) }
 {
     let (content, rest) = line_content(alloc, bytes, opening)?;
     Ok((text_of(content), rest))
@@ -138,7 +138,7 @@ fn name_content(alloc: Global, bytes: &[u8], opening: usize) -> Result<(Vec<u8>,
     requires { IsUtf8 bytes.now }
     ensures found { IfOk result (λ x. quoted_name bytes.now ≡ Some (x.0.items, x.1.now)) }
     ensures utf8 { IfOk result (λ x. IsUtf8 x.0.items) }
-    ensures refused { IfErr result (NameFault bytes.now opening) }
+    ensures refused { IfErr result (HasNameFault bytes.now opening) }
 {
     let mut out = Vec::new(alloc);
     let mut rest = bytes;
@@ -163,8 +163,8 @@ fn name_content(alloc: Global, bytes: &[u8], opening: usize) -> Result<(Vec<u8>,
 /// how many bytes are left where the name begins.
 pub fn back_name(alloc: Global, bytes: &[u8], opening: usize) -> Result<(Text, &[u8]), Fault>
     requires { IsUtf8 bytes.now }
-    ensures found { IfOk result (λ x. QuotedName bytes.now x.0 x.1.now) }
-    ensures refused { IfErr result (NameFault bytes.now opening) }
+    ensures found { IfOk result (λ x. IsQuotedName bytes.now x.0 x.1.now) }
+    ensures refused { IfErr result (HasNameFault bytes.now opening) }
 {
     let (content, rest) = name_content(alloc, bytes, opening)?;
     if content.is_empty() {

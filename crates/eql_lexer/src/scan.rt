@@ -5,7 +5,7 @@ ghost use Rattle.eql_lexer.specs.declared.token.Token.{Token as Placed};
 ghost use Rattle.eql_lexer.specs.declared.refusal.LexRefused.TheVariants.{TooLong, NotUtf8};
 ghost use Rattle.eql_lexer.specs.Bytes.{begins, is_digit, is_letter};
 ghost use Rattle.eql_lexer.specs.Strings.{triple};
-ghost use Rattle.eql_lexer.specs.Spelling.{Lexeme, Spells, word_more};
+ghost use Rattle.eql_lexer.specs.Spelling.{IsLexeme, Spells, word_more};
 ghost use Rattle.eql_lexer.specs.Refusing.{BreaksWithin, IsMemory, RefusesText, Refuses};
 
 use crate::blank::after_gap;
@@ -44,7 +44,7 @@ fn word<'a>(
 ) -> Result<(Tok, &'a [u8]), Fault>
     requires cons { text.now ≡ first ∷ more.now }
     requires letter { is_letter first ≡ true }
-    ensures found { IfOk result (λ x. Lexeme text.now x.0 x.1.now) }
+    ensures found { IfOk result (λ x. IsLexeme text.now x.0 x.1.now) }
     ensures refused { IfErr result (Refuses text.now) }
 {
     let len = word_more_len(more);
@@ -56,7 +56,7 @@ fn word<'a>(
 fn numeral<'a>(text: &'a [u8], first: u8, more: &'a [u8]) -> Result<(Tok, &'a [u8]), Fault>
     requires cons { text.now ≡ first ∷ more.now }
     requires digit { is_digit first ≡ true }
-    ensures found { IfOk result (λ x. Lexeme text.now x.0 x.1.now) }
+    ensures found { IfOk result (λ x. IsLexeme text.now x.0 x.1.now) }
     ensures refused { IfErr result (Refuses text.now) }
 {
     let len = digits_len(more);
@@ -81,7 +81,7 @@ fn raw<'a>(
     requires quote { first ≡ 34 }
     requires quotes { triple text.now ≡ true }
     requires utf8 { IsUtf8 text.now }
-    ensures found { IfOk result (λ x. Lexeme text.now x.0 x.1.now) }
+    ensures found { IfOk result (λ x. IsLexeme text.now x.0 x.1.now) }
     ensures refused { IfErr result (Refuses text.now) }
 {
     match raw_string(alloc, skip(more, 2), text.len()) {
@@ -101,7 +101,7 @@ fn line<'a>(
     requires quote { first ≡ 34 }
     requires quotes { triple text.now ≡ false }
     requires utf8 { IsUtf8 text.now }
-    ensures found { IfOk result (λ x. Lexeme text.now x.0 x.1.now) }
+    ensures found { IfOk result (λ x. IsLexeme text.now x.0 x.1.now) }
     ensures refused { IfErr result (Refuses text.now) }
 {
     match line_string(alloc, more, text.len()) {
@@ -120,7 +120,7 @@ fn name<'a>(
     requires cons { text.now ≡ first ∷ more.now }
     requires tick { first ≡ 96 }
     requires utf8 { IsUtf8 text.now }
-    ensures found { IfOk result (λ x. Lexeme text.now x.0 x.1.now) }
+    ensures found { IfOk result (λ x. IsLexeme text.now x.0 x.1.now) }
     ensures refused { IfErr result (Refuses text.now) }
 {
     match back_name(alloc, more, text.len()) {
@@ -137,7 +137,7 @@ fn signed<'a>(text: &'a [u8], first: u8, more: &'a [u8]) -> Result<(Tok, &'a [u8
     requires quote { first ≢ 34 }
     requires tick { first ≢ 96 }
     requires single { first ≢ 39 }
-    ensures found { IfOk result (λ x. Lexeme text.now x.0 x.1.now) }
+    ensures found { IfOk result (λ x. IsLexeme text.now x.0 x.1.now) }
     ensures refused { IfErr result (Refuses text.now) }
 {
     if first == b'/' && begins_with(b'*', more) {
@@ -159,7 +159,7 @@ fn lexeme<'a>(
 ) -> Result<(Tok, &'a [u8]), Fault>
     requires cons { text.now ≡ first ∷ more.now }
     requires utf8 { first < 128 → IsUtf8 text.now }
-    ensures found { IfOk result (λ x. Lexeme text.now x.0 x.1.now) }
+    ensures found { IfOk result (λ x. IsLexeme text.now x.0 x.1.now) }
     ensures shorter { IfOk result (λ x. length x.1.now < length text.now) }
     ensures refused { IfErr result (Refuses text.now) }
     ensures within { IfErr result (BreaksWithin text.now) }
@@ -228,14 +228,14 @@ fn place(text: &[u8], left: usize) -> u32
 /// tokens and are dropped. The place of a refusal is the first, from left to right, that breaks a
 /// rule; what stands before its token spells tokens.
 pub fn lex(alloc: Global, text: &[u8]) -> Result<Tokens, LexRefused>
-    // What is answered is what the text spells.
+    // What is returned is what the text spells.
     ensures found { IfOk result (Spells text.now) }
     // Each refusal has its cause.
     ensures refused { IfErr result (RefusesText text.now) }
     // A text that is too long, or not UTF-8, is always refused as such.
     ensures too_long { 65536 < length text.now → result ≡ Err TooLong }
     ensures not_utf8 { length text.now ≤ 65536 → (IsUtf8 text.now → ⊥) → result ≡ Err NotUtf8 }
-    // Tokens that the text spells are what is answered, unless memory runs out.
+    // Tokens that the text spells are what is returned, unless memory runs out.
     ensures spelled { (tokens : List Placed)
         → Spells text.now tokens → length text.now ≤ 65536 → IsUtf8 text.now
         → MatchResult result (λ answer. answer ≡ tokens) IsMemory }

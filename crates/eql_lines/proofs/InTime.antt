@@ -6,7 +6,7 @@ use Rattle.serde_json.specs.Data.{Data, null, boolean, number, string, array, ob
 use Rattle.serde_json.specs.Find.{as_integer}
 use Rattle.eql_values.specs.Reading.{IsTime, is_blank}
 use Rattle.eql_json.specs.Json.{json_of}
-use Rattle.eql_lines.specs.First.{fits_long, event_at, event_with, event_of, line_of, first_line, IsInTime}
+use Rattle.eql_lines.specs.First.{fits_long, event_at, event_with, event_of, first_line_of, first_line, IsInTime}
 use Rattle.eql_lines.specs.declared.first.FirstLine.{FirstLine}
 use Rattle.eql_lines.specs.declared.first.FirstLine.TheVariants.{Blank, Event, Other}
 
@@ -58,13 +58,13 @@ event_of_in_time (object (member name (string s) rest)) = tt
 event_of_in_time (object (member name (array items) rest)) = tt
 event_of_in_time (object (member name (object inner) rest)) = tt
 
-line_of_in_time : (value : Option Data) → IsInTime (line_of value)
+line_of_in_time : (value : Option Data) → IsInTime (first_line_of value)
 line_of_in_time None = tt
 line_of_in_time (Some value) = event_of_in_time value
 
 -- every event that a line is has a timestamp within the bound
 pub first_line_in_time : (bytes : List ℕ) → IsInTime (first_line bytes)
 first_line_in_time bytes =
-    let json = line_of (json_of bytes) in
+    let json = first_line_of (json_of bytes) in
     let short = either (nat_lt 1048576 (length bytes)) Other json tt (line_of_in_time (json_of bytes)) in
     either (is_blank bytes) Blank (if nat_lt 1048576 (length bytes) then Other else json) tt short

@@ -30,13 +30,13 @@ event_of (object (member name (number time) (member next event no_members))) =
     if bytes_eq name (codes "@timestamp") && bytes_eq next (codes "event") then event_with (as_integer time) event else Other
 event_of _ = Other
 
-abbrev pub line_of : Option Data → FirstLine
-line_of None = Other
-line_of (Some value) = event_of value
+abbrev pub first_line_of : Option Data → FirstLine
+first_line_of None = Other
+first_line_of (Some value) = event_of value
 
 -- what a line is
 abbrev pub first_line : List ℕ → FirstLine
-first_line bytes = if is_blank bytes then Blank else if nat_lt 1048576 (length bytes) then Other else line_of (json_of bytes)
+first_line bytes = if is_blank bytes then Blank else if nat_lt 1048576 (length bytes) then Other else first_line_of (json_of bytes)
 
 -- an event's timestamp lies within the bound of timestamps
 abbrev pub IsInTime : FirstLine → Type 0

@@ -7,16 +7,14 @@ ghost use Rattle.eql_lines.specs.First.{first_line, event_of as event_in};
 ghost use Rattle.eql_lines.specs.First.{event_with as event_under, IsInTime};
 
 use crate::blank::is_blank;
+use crate::times::NANOS_IN_MILLI;
 use eql_json::read_json;
 use eql_values::{Memory, Text};
 use serde_json::{Number, Value};
 use std::alloc::Global;
 
 /// The most bytes of a line that is read as JSON.
-const LONGEST_LINE: usize = 1_048_576;
-
-/// Nanoseconds in a millisecond.
-const NANOS_IN_MILLI: i128 = 1_000_000;
+pub(crate) const LONGEST_LINE: usize = 1_048_576;
 
 /// What a line of a shard is.
 #[derive(Debug, Drop)]

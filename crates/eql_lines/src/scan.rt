@@ -9,6 +9,7 @@ ghost use Rattle.eql_lines.specs.WantedPaths.{tie_path, wanted_paths};
 
 use crate::blank::is_blank;
 use crate::event::event_in;
+use crate::first::LONGEST_LINE;
 use crate::line::Line;
 use crate::read::LineWalk;
 use crate::refused::Refused;
@@ -17,9 +18,6 @@ use crate::wanted::{LineRead, Wanted};
 use eql_values::{Memory, Reason, Text};
 use std::alloc::Global;
 use std::marker::Model;
-
-/// The most bytes of a line that is read as JSON.
-const LONGEST_LINE: usize = 1_048_576;
 
 /// A reader of lines, seen as what it wants of them. What it needs for the reading is kept from
 /// line to line.
@@ -71,7 +69,7 @@ fn wanted_paths(alloc: Global, wanted: &Wanted) -> Result<Vec<String>, Memory>
 }
 
 /// What an object is, from what was found in it.
-fn object_line(alloc: Global, wanted: &Wanted, slots: &Vec<Slot>) -> Result<LineRead, Memory>
+fn event_of_object(alloc: Global, wanted: &Wanted, slots: &Vec<Slot>) -> Result<LineRead, Memory>
     requires { length slots.now.items ≡ 3 + length wanted.now.fields }
     ensures { IfOk result (λ line. line ≡ event_in_slots wanted.now slots.now.items) }
 {
@@ -95,7 +93,7 @@ fn line_in(
     match line {
         Line::NotJson => Ok(LineRead::Bad(Reason::NotJson)),
         Line::NotObject => Ok(LineRead::Bad(Reason::NotObject)),
-        Line::Object => object_line(alloc, wanted, slots),
+        Line::Object => event_of_object(alloc, wanted, slots),
     }
 }
 

@@ -15,7 +15,7 @@ use Rattle.eql_turn_lock.specs.History.{IsLegal}
 use Rattle.eql_turn_lock.specs.Passes.{first_view, split_view}
 use Rattle.eql_conductor.specs.Benches.{Known}
 use Rattle.eql_hub.specs.Hands.{HandView, LaneKnown}
-use Rattle.eql_hub.specs.Turns.{LaneTurn, PartTurn}
+use Rattle.eql_hub.specs.Turns.{IsLaneTurn, IsPartTurn}
 use Rattle.eql_lock_bench.specs.Benched.{AreOfTexts}
 use Rattle.eql_lock_bench.specs.Locked.{MayBe, entry_failed, is_worn, known_by, lane_state, mine_in, noted_lane, noted_part, opening_in, part_state, rules_in, set_in, worn_in, worn_of}
 
@@ -123,7 +123,7 @@ module _ {S L : Type 0} (left lent_as : S → Option (List ℕ)) (fault_plan : S
   known_lane s lane there = (
     ap (set_in read_of (text s)) (fresh_openings lanes hand.lanes.views fresh_lanes s ∙ there),
     λ x may.
-        let one = fresh_state (LaneTurn left lent_as fault_plan read_of) lane_state lanes hand.lanes.views fresh_lanes s x may in
+        let one = fresh_state (IsLaneTurn left lent_as fault_plan read_of) lane_state lanes hand.lanes.views fresh_lanes s x may in
         one.2 ∙ ap (λ (v : LaneView S L). v.state) (same_Some one.0 lane (sym one.1 ∙ there)),
   )
 
@@ -131,7 +131,7 @@ module _ {S L : Type 0} (left lent_as : S → Option (List ℕ)) (fault_plan : S
   known_part p part there = (
     ap rules_in (fresh_openings parts hand.parts.views fresh_parts p ∙ there),
     λ x may.
-        let one = fresh_state PartTurn part_state parts hand.parts.views fresh_parts p x may in
+        let one = fresh_state IsPartTurn part_state parts hand.parts.views fresh_parts p x may in
         one.2 ∙ ap (λ (v : PartView). v.state) (same_Some one.0 part (sym one.1 ∙ there)),
   )
 

@@ -12,7 +12,7 @@ use Rattle.eql_lane.specs.declared.ops.LaneReply.{LaneReply}
 use Rattle.eql_lane.specs.declared.ops.LaneReply.TheVariants as lane_reply
 use Rattle.eql_lane.specs.Lanes.{Setting}
 use Rattle.eql_lane.specs.Plays.{DidNotFail}
-use Rattle.eql_lane.specs.Views.{IsTextOf, LaneView, SameLane, setting_of}
+use Rattle.eql_lane.specs.Views.{IsSameLane, IsTextOf, LaneView, setting_of}
 use Rattle.eql_parts.specs.PartSteps.{PartView, Rules}
 use Rattle.eql_turn_lock.specs.declared.history.Entry.{Entry}
 use Rattle.eql_turn_lock.specs.declared.view.View.{View}
@@ -23,7 +23,7 @@ use Rattle.eql_turn_lock.proofs.Histories.{all_right, rest_is_of_others, starts_
 use Rattle.eql_lock_row.specs.Rows.{joined_views}
 use Rattle.eql_conductor.specs.Benches.{ComesByFeeds, ComesByTurns}
 use Rattle.eql_hub.specs.Hands.{LaneKnown, PartKnown}
-use Rattle.eql_hub.specs.Turns.{LaneTurn, PartTurn, is_open_lane, is_open_part}
+use Rattle.eql_hub.specs.Turns.{IsLaneTurn, IsPartTurn, is_open_lane, is_open_part}
 use Rattle.eql_lock_bench.specs.Locked.{did_fail, entry_failed}
 use Rattle.eql_lock_bench.proofs.Counted.{count_cons}
 use Rattle.eql_lock_bench.proofs.LaneRuns.{fed_all, stands_on as lane_stands_on, Stands as LaneStands}
@@ -92,10 +92,10 @@ module _ {T O R : Type 0} where
 -- ---- lanes
 module _ {S L : Type 0} (left lent_as : S → Option (List ℕ)) (fault_plan : S → Option FaultPlan) (read_of : L → Reads) where
   abbrev pub Turns : LaneView S L → LaneOp → LaneReply → LaneView S L → Type 0
-  Turns = LaneTurn left lent_as fault_plan read_of
+  Turns = IsLaneTurn left lent_as fault_plan read_of
 
   -- what no step changes is the same from the one to the other
-  pub same_lane_on : (x y z : LaneView S L) → SameLane left lent_as read_of x y → SameLane left lent_as read_of y z → SameLane left lent_as read_of x z
+  pub same_lane_on : (x y z : LaneView S L) → IsSameLane left lent_as read_of x y → IsSameLane left lent_as read_of y z → IsSameLane left lent_as read_of x z
   same_lane_on x y z h k = record {
     shard = k.shard ∙ h.shard;
     slack = k.slack ∙ h.slack;
@@ -105,9 +105,9 @@ module _ {S L : Type 0} (left lent_as : S → Option (List ℕ)) (fault_plan : S
     silent = λ e. k.silent (h.silent e);
   }
 
-  pub same_lane : (es : List (Entry LaneOp LaneReply)) (x y : LaneView S L) → IsLegal Turns x es y → SameLane left lent_as read_of x y
+  pub same_lane : (es : List (Entry LaneOp LaneReply)) (x y : LaneView S L) → IsLegal Turns x es y → IsSameLane left lent_as read_of x y
   same_lane es x y legal =
-      legal_keeps Turns (λ (z : LaneView S L). SameLane left lent_as read_of x z) (λ u op reply v turn is. same_lane_on x u v is turn.same) es x y legal
+      legal_keeps Turns (λ (z : LaneView S L). IsSameLane left lent_as read_of x z) (λ u op reply v turn is. same_lane_on x u v is turn.same) es x y legal
       (record { shard = refl; slack = refl; reads = refl; places = refl; named = refl; silent = λ e. e })
 
   -- where no call of the source is planned to fail, no entry failed
@@ -127,7 +127,7 @@ module _ {S L : Type 0} (left lent_as : S → Option (List ℕ)) (fault_plan : S
     -- the bench knew this state, and from there others fed the lane
     pub was : IsLegal Turns opening v.seen first
     pub fed : ComesByFeeds (setting_of read_of text opening) first.state lane.state
-    pub same : SameLane left lent_as read_of opening lane
+    pub same : IsSameLane left lent_as read_of opening lane
     pub of : IsTextOf left text lane
     pub unfailing : IsUnfailing (fault_plan opening.source) → IsUnfailing (fault_plan lane.source)
 
@@ -190,17 +190,17 @@ pub record PartCloses (v : PartKnown) (part : PartView) : Type 0 where
   pub first : PartView
   pub opened : v.opening ≡ Some opening
   -- the bench knew this state, and from there others turned the part
-  pub was : IsLegal PartTurn opening v.seen first
+  pub was : IsLegal IsPartTurn opening v.seen first
   pub turned : ComesByTurns opening.rules first.state part.state
   pub rules : part.rules ≡ opening.rules
 
-pub part_closes : (v w : PartKnown) (part : PartView) → Further v w → v.number ≡ 0 → KnowsHistory PartTurn is_open_part v → Closes PartTurn is_open_part w part → PartCloses v part
+pub part_closes : (v w : PartKnown) (part : PartView) → Further v w → v.number ≡ 0 → KnowsHistory IsPartTurn is_open_part v → Closes IsPartTurn is_open_part w part → PartCloses v part
 part_closes v w part further first knows closes =
-    let from = closes_from PartTurn is_open_part v w part further first knows closes in
+    let from = closes_from IsPartTurn is_open_part v w part further first knows closes in
     let rules : Rules = from.opening.rules in
     let begun : PartStands rules from.opening = record { rules_are = refl } in
-    let at_first = legal_keeps PartTurn (PartStands rules) (part_stands_on rules) v.seen from.opening from.first from.was begun in
-    let at_last = legal_keeps PartTurn (PartStands rules) (part_stands_on rules) from.rest from.first part from.others at_first in
+    let at_first = legal_keeps IsPartTurn (PartStands rules) (part_stands_on rules) v.seen from.opening from.first from.was begun in
+    let at_last = legal_keeps IsPartTurn (PartStands rules) (part_stands_on rules) from.rest from.first part from.others at_first in
     record {
       opening = from.opening;
       first = from.first;

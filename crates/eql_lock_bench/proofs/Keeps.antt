@@ -25,7 +25,7 @@ use Rattle.eql_conductor.specs.Benches.{MayPlay}
 use Rattle.eql_conductor.proofs.Resting.{same_or}
 use Rattle.eql_hub.specs.Hands.{HandView, HubView, IsFirst, IsHandOf, Knows, LaneKnown, PartKnown}
 use Rattle.eql_hub.specs.Later.{IsLater}
-use Rattle.eql_hub.specs.Turns.{LaneTurn, PartTurn, is_open_lane, is_open_part}
+use Rattle.eql_hub.specs.Turns.{IsLaneTurn, IsPartTurn, is_open_lane, is_open_part}
 use Rattle.eql_lock_bench.specs.Benched.{AllGoOn, AreOfTexts, IsBenchHand}
 use Rattle.eql_lock_bench.specs.Locked.{known_by}
 use Rattle.eql_lock_bench.proofs.Placed.{changed_count, changed_else, changed_here}
@@ -131,7 +131,7 @@ module _ {T O R : Type 0} where
 
 module _ {S L : Type 0} (left lent_as : S → Option (List ℕ)) (fault_plan : S → Option FaultPlan) (read_of : L → Reads) (text : ℕ → Option (List ℕ)) where
   abbrev Turns : LaneView S L → LaneOp → LaneReply → LaneView S L → Type 0
-  Turns = LaneTurn left lent_as fault_plan read_of
+  Turns = IsLaneTurn left lent_as fault_plan read_of
 
   -- ---- how it begins
   pub begins : (hub : HubView) (hand : HandView S L) → IsHandOf hub hand → IsFirst hand → Knows left lent_as fault_plan read_of hand → AreOfTexts left text hand.lanes.views
@@ -160,7 +160,7 @@ module _ {S L : Type 0} (left lent_as : S → Option (List ℕ)) (fault_plan : S
       };
       knows = record {
         lanes = all_know Turns is_open_lane op answer s a.lanes.views b.lanes.views c was.knows.lanes;
-        parts = subst (λ (r : _). All (KnowsHistory PartTurn is_open_part) r.views) (sym parts) was.knows.parts;
+        parts = subst (λ (r : _). All (KnowsHistory IsPartTurn is_open_part) r.views) (sym parts) was.knows.parts;
       };
       texts = record {
         each = λ k view lane at opened.
@@ -173,21 +173,21 @@ module _ {S L : Type 0} (left lent_as : S → Option (List ℕ)) (fault_plan : S
       part_count = ap (λ (r : _). length r.views) parts ∙ was.part_count;
     }
 
-    pub part_keeps : (p : ℕ) (op : PartOp) (answer : Result PartReply (NotNow PartOp)) → ChangesAt p (Called PartTurn is_open_part op answer) a.parts.views b.parts.views → b.lanes ≡ a.lanes
+    pub part_keeps : (p : ℕ) (op : PartOp) (answer : Result PartReply (NotNow PartOp)) → ChangesAt p (Called IsPartTurn is_open_part op answer) a.parts.views b.parts.views → b.lanes ≡ a.lanes
         → IsBenchHand left lent_as fault_plan read_of text hub taken b
     part_keeps p op answer c lanes = record {
       own = own;
       first = record {
         lanes = subst (λ (r : _). AreFirst r.views) (sym lanes) was.first.lanes;
-        parts = stay_first PartTurn is_open_part op answer p a.parts.views b.parts.views c was.first.parts;
+        parts = stay_first IsPartTurn is_open_part op answer p a.parts.views b.parts.views c was.first.parts;
       };
       knows = record {
         lanes = subst (λ (r : _). All (KnowsHistory Turns is_open_lane) r.views) (sym lanes) was.knows.lanes;
-        parts = all_know PartTurn is_open_part op answer p a.parts.views b.parts.views c was.knows.parts;
+        parts = all_know IsPartTurn is_open_part op answer p a.parts.views b.parts.views c was.knows.parts;
       };
       texts = subst (λ (r : _). AreOfTexts left text r.views) (sym lanes) was.texts;
       lanes = subst (λ (r : _). AllGoOn taken.lanes.views r.views) (sym lanes) was.lanes;
-      parts = all_go_on PartTurn is_open_part op answer p a.parts.views b.parts.views c taken.parts.views was.parts;
+      parts = all_go_on IsPartTurn is_open_part op answer p a.parts.views b.parts.views c taken.parts.views was.parts;
       lane_count = ap (λ (r : _). length r.views) lanes ∙ was.lane_count;
       part_count = changed_count p a.parts.views b.parts.views c ∙ was.part_count;
     }
@@ -198,7 +198,7 @@ module _ {S L : Type 0} (left lent_as : S → Option (List ℕ)) (fault_plan : S
   lane_may a s op first allowed v there = inr (all_at (λ (u : LaneKnown S L). u.number ≡ 0) a.lanes.views s v first there, λ opening x opened legal. allowed)
 
   pub part_may : (a : HandView S L) (p : ℕ) (op : PartOp) → AreFirst a.parts.views → MayPlay (known_by left lent_as fault_plan read_of text a) p op
-      → MayPlayAt (λ (x : PartView) (o : PartOp). PartAllows x.state o) PartTurn is_open_part a.parts.views p op
+      → MayPlayAt (λ (x : PartView) (o : PartOp). PartAllows x.state o) IsPartTurn is_open_part a.parts.views p op
   part_may a p op first allowed v there = inr (
     all_at (λ (u : PartKnown). u.number ≡ 0) a.parts.views p v first there,
     λ opening x opened legal.

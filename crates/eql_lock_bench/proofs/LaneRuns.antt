@@ -11,7 +11,7 @@ use Rattle.eql_lane.specs.declared.ops.LaneOp.{LaneOp}
 use Rattle.eql_lane.specs.declared.ops.LaneOp.TheVariants as lane_op
 use Rattle.eql_lane.specs.declared.ops.LaneReply.{LaneReply}
 use Rattle.eql_lane.specs.declared.ops.LaneReply.TheVariants as lane_reply
-use Rattle.eql_lane.specs.Lanes.{LaneState, LaneStep, Setting}
+use Rattle.eql_lane.specs.Lanes.{IsLaneStep, LaneState, Setting}
 use Rattle.eql_lane.specs.Views.{IsTextOf, LaneView, setting_of}
 use Rattle.eql_turn_lock.specs.declared.history.Entry.{Entry}
 use Rattle.eql_turn_lock.specs.declared.refused.NotNow.{NotNow}
@@ -24,11 +24,11 @@ use Rattle.eql_lock_row.specs.Rows.{AreFirst, ChangesAt}
 use Rattle.eql_lock_row.proofs.Places.{all_at}
 use Rattle.eql_conductor.specs.declared.bench.NotPlayed.{NotPlayed}
 use Rattle.eql_conductor.specs.declared.bench.NotPlayed.TheVariants as not_played
-use Rattle.eql_conductor.specs.Benches.{FailsBy, ComesByFeeds, CallsLane, LeavesLane, LanePlays, LeavesPart, Same, WasNotPlayed}
+use Rattle.eql_conductor.specs.Benches.{FailsBy, ComesByFeeds, CallsLane, LeavesLane, LanePlays, LeavesPart, StaysSame, WasNotPlayed}
 use Rattle.eql_conductor.specs.Notes.{lane_note}
 use Rattle.eql_conductor.proofs.Resting.{fed_on, fed_once, fed_self, same_or, turned_self}
 use Rattle.eql_hub.specs.Hands.{HandView, LaneKnown}
-use Rattle.eql_hub.specs.Turns.{LaneTurn, PartTurn, is_open_lane}
+use Rattle.eql_hub.specs.Turns.{IsLaneTurn, IsPartTurn, is_open_lane}
 use Rattle.eql_lock_bench.specs.Benched.{AreOfTexts}
 use Rattle.eql_lock_bench.specs.Locked.{MayBe, did_fail, entry_failed, known_by, lane_state, mine_in, noted_lane, noted_part, opening_in, part_state, rules_in, set_in, told_of, worn_in, worn_of}
 use Rattle.eql_lock_bench.proofs.Counted.{count_snoc, worn_in_rises, worn_in_stays, worn_rises, worn_stays}
@@ -37,7 +37,7 @@ use Rattle.eql_lock_bench.proofs.Runs.{IsOpenTo, led, legal_keeps}
 
 module _ {S L : Type 0} (left lent_as : S → Option (List ℕ)) (fault_plan : S → Option FaultPlan) (read_of : L → Reads) where
   abbrev pub Turns : LaneView S L → LaneOp → LaneReply → LaneView S L → Type 0
-  Turns = LaneTurn left lent_as fault_plan read_of
+  Turns = IsLaneTurn left lent_as fault_plan read_of
 
   -- ---- one lane, by its text and by what no step changes
   module _ (text : Option (List ℕ)) (set : Setting) where
@@ -54,8 +54,8 @@ module _ {S L : Type 0} (left lent_as : S → Option (List ℕ)) (fault_plan : S
           same ∙ is.set_is;
     }
 
-    step_of : (x : LaneView S L) (op : LaneOp) (reply : LaneReply) (y : LaneView S L) → Turns x op reply y → Stands x → LaneStep set x.state op reply y.state
-    step_of x op reply y turn is = subst (λ (t : Setting). LaneStep t x.state op reply y.state) is.set_is (turn.plays text is.of).step
+    step_of : (x : LaneView S L) (op : LaneOp) (reply : LaneReply) (y : LaneView S L) → Turns x op reply y → Stands x → IsLaneStep set x.state op reply y.state
+    step_of x op reply y turn is = subst (λ (t : Setting). IsLaneStep t x.state op reply y.state) is.set_is (turn.plays text is.of).step
 
     -- an open entry is a feed
     fed_one : (op : LaneOp) (reply : LaneReply) (x y : LaneView S L) → is_open_lane op ≡ true → Turns x op reply y → Stands x → ComesByFeeds set x.state y.state
@@ -97,7 +97,7 @@ module _ {S L : Type 0} (left lent_as : S → Option (List ℕ)) (fault_plan : S
             before = ran.before.state;
             was = record { view = v; opening = may.opening; value = ran.first; there = c.was; opened = opened; legal = ran.was; state_is = refl };
             fed = fed_all (text s) set ran.between ran.first ran.before ran.others ran.are_open at_first;
-            step = subst (λ (z : LaneState). LaneStep set ran.before.state op reply z) (sym may.state_is) (step_of (text s) set ran.before op reply may.value ran.step at_before);
+            step = subst (λ (z : LaneState). IsLaneStep set ran.before.state op reply z) (sym may.state_is) (step_of (text s) set ran.before op reply may.value ran.step at_before);
           }
 
     -- ---- what is known of all places, where the lane's opening stayed and its history is known
@@ -114,7 +114,7 @@ module _ {S L : Type 0} (left lent_as : S → Option (List ℕ)) (fault_plan : S
         fed_self (set_in read_of (text k) (opening_in (slice_get a.lanes.views k))) y,
       )
 
-      same : Same (known_by left lent_as fault_plan read_of text a) (known_by left lent_as fault_plan read_of text b)
+      same : StaysSame (known_by left lent_as fault_plan read_of text a) (known_by left lent_as fault_plan read_of text b)
       same = record {
         lanes = changed_count s a.lanes.views b.lanes.views c;
         parts = ap (λ (r : _). length r.views) parts;
@@ -124,13 +124,13 @@ module _ {S L : Type 0} (left lent_as : S → Option (List ℕ)) (fault_plan : S
           | inl e ↦ subst (λ (j : ℕ). (x : LaneState) × MayBe Turns lane_state b.lanes.views j x) (sym e) some_at
           | inr apart ↦ (has.0, may_back Turns lane_state b.lanes.views a.lanes.views k (sym (changed_else s a.lanes.views b.lanes.views c k apart)) has.0 has.1)
         ];
-        some_part = λ p l has. (has.0, may_back PartTurn part_state b.parts.views a.parts.views p (ap (λ (r : _). slice_get r.views p) (sym parts)) has.0 has.1);
+        some_part = λ p l has. (has.0, may_back IsPartTurn part_state b.parts.views a.parts.views p (ap (λ (r : _). slice_get r.views p) (sym parts)) has.0 has.1);
       }
 
-    parts_left : (p : ℕ) → LeavesPart (rules_in (opening_in (slice_get a.parts.views p))) (MayBe PartTurn part_state a.parts.views p) (MayBe PartTurn part_state b.parts.views p)
+    parts_left : (p : ℕ) → LeavesPart (rules_in (opening_in (slice_get a.parts.views p))) (MayBe IsPartTurn part_state a.parts.views p) (MayBe IsPartTurn part_state b.parts.views p)
     parts_left p y may = (
       y,
-      may_back PartTurn part_state a.parts.views b.parts.views p (ap (λ (r : _). slice_get r.views p) parts) y may,
+      may_back IsPartTurn part_state a.parts.views b.parts.views p (ap (λ (r : _). slice_get r.views p) parts) y may,
       turned_self (rules_in (opening_in (slice_get a.parts.views p))) y,
     )
 

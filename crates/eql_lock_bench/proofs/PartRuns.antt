@@ -13,7 +13,7 @@ use Rattle.eql_lane.specs.Views.{LaneView}
 use Rattle.eql_parts.specs.declared.ops.PartOp.{PartOp}
 use Rattle.eql_parts.specs.declared.ops.PartOp.TheVariants as part_op
 use Rattle.eql_parts.specs.declared.ops.PartReply.{PartReply}
-use Rattle.eql_parts.specs.PartSteps.{PartState, PartStep, PartView, Rules}
+use Rattle.eql_parts.specs.PartSteps.{IsPartStep, PartState, PartView, Rules}
 use Rattle.eql_turn_lock.specs.declared.history.Entry.{Entry}
 use Rattle.eql_turn_lock.specs.declared.refused.NotNow.{NotNow}
 use Rattle.eql_turn_lock.specs.declared.refused.NotNow.TheVariants as not_now
@@ -25,11 +25,11 @@ use Rattle.eql_lock_row.specs.Rows.{AreFirst, ChangesAt}
 use Rattle.eql_lock_row.proofs.Places.{all_at}
 use Rattle.eql_conductor.specs.declared.bench.NotPlayed.{NotPlayed}
 use Rattle.eql_conductor.specs.declared.bench.NotPlayed.TheVariants as not_played
-use Rattle.eql_conductor.specs.Benches.{LeavesLane, CallsPart, LeavesPart, PartPlays, Same, ComesByTurns, WasNotPlayed}
+use Rattle.eql_conductor.specs.Benches.{LeavesLane, CallsPart, LeavesPart, PartPlays, StaysSame, ComesByTurns, WasNotPlayed}
 use Rattle.eql_conductor.specs.Notes.{part_note}
 use Rattle.eql_conductor.proofs.Resting.{fed_self, same_or, turned_on, turned_once, turned_self}
 use Rattle.eql_hub.specs.Hands.{HandView, PartKnown}
-use Rattle.eql_hub.specs.Turns.{LaneTurn, PartTurn, is_open_part}
+use Rattle.eql_hub.specs.Turns.{IsLaneTurn, IsPartTurn, is_open_part}
 use Rattle.eql_lock_bench.specs.Locked.{MayBe, entry_failed, known_by, lane_state, mine_in, noted_lane, noted_part, opening_in, part_state, rules_in, set_in, told_of, worn_in, worn_of}
 use Rattle.eql_lock_bench.proofs.Counted.{worn_in_rises, worn_in_stays, worn_rises, worn_stays}
 use Rattle.eql_lock_bench.proofs.Placed.{changed_count, changed_else, changed_here, is_after, may_back, may_seen, same_each, some_state}
@@ -40,20 +40,20 @@ module _ (rules : Rules) where
   pub record Stands (part : PartView) : Type 0 where
     pub rules_are : part.rules ≡ rules
 
-  pub stands_on : (x : PartView) (op : PartOp) (reply : PartReply) (y : PartView) → PartTurn x op reply y → Stands x → Stands y
+  pub stands_on : (x : PartView) (op : PartOp) (reply : PartReply) (y : PartView) → IsPartTurn x op reply y → Stands x → Stands y
   stands_on x op reply y turn is = record { rules_are = turn.rules ∙ is.rules_are }
 
-  step_of : (x : PartView) (op : PartOp) (reply : PartReply) (y : PartView) → PartTurn x op reply y → Stands x → PartStep rules x.state op reply y.state
-  step_of x op reply y turn is = subst (λ (r : Rules). PartStep r x.state op reply y.state) is.rules_are turn.step
+  step_of : (x : PartView) (op : PartOp) (reply : PartReply) (y : PartView) → IsPartTurn x op reply y → Stands x → IsPartStep rules x.state op reply y.state
+  step_of x op reply y turn is = subst (λ (r : Rules). IsPartStep r x.state op reply y.state) is.rules_are turn.step
 
   -- an open entry is a turn
-  turned_one : (op : PartOp) (reply : PartReply) (x y : PartView) → is_open_part op ≡ true → PartTurn x op reply y → Stands x → ComesByTurns rules x.state y.state
+  turned_one : (op : PartOp) (reply : PartReply) (x y : PartView) → is_open_part op ≡ true → IsPartTurn x op reply y → Stands x → ComesByTurns rules x.state y.state
   turned_one (part_op.Turn max) reply x y open_to turn is = turned_once rules x.state y.state max reply (step_of x (part_op.Turn max) reply y turn is)
   turned_one (part_op.Deliver items mark) reply x y open_to turn is = absurd (false≢true open_to)
   turned_one part_op.Collect reply x y open_to turn is = absurd (false≢true open_to)
   turned_one part_op.Snap reply x y open_to turn is = absurd (false≢true open_to)
 
-  pub turned_all : (es : List (Entry PartOp PartReply)) (x y : PartView) → IsLegal PartTurn x es y → All (IsOpenTo is_open_part) es → Stands x → ComesByTurns rules x.state y.state
+  pub turned_all : (es : List (Entry PartOp PartReply)) (x y : PartView) → IsLegal IsPartTurn x es y → All (IsOpenTo is_open_part) es → Stands x → ComesByTurns rules x.state y.state
   turned_all [] x y same all is = subst (λ (v : PartView). ComesByTurns rules x.state v.state) same (turned_self rules x.state)
   turned_all (e ∷ es) x y (after, turn, rest) all is =
       turned_on rules x.state after.state y.state
@@ -64,22 +64,22 @@ module _ (rules : Rules) where
 module _ {S L : Type 0} (left lent_as : S → Option (List ℕ)) (fault_plan : S → Option FaultPlan) (read_of : L → Reads)
     (text : ℕ → Option (List ℕ)) (p : ℕ) (op : PartOp) (a b : HandView S L) (lanes : b.lanes ≡ a.lanes) (first : AreFirst a.parts.views) where
   abbrev Turns : LaneView S L → LaneOp → LaneReply → LaneView S L → Type 0
-  Turns = LaneTurn left lent_as fault_plan read_of
+  Turns = IsLaneTurn left lent_as fault_plan read_of
 
   -- ---- what is known of all places, where the part's opening stayed and its history is known
   module _ {Changes : PartKnown → PartKnown → Type 0} (c : ChangesAt p Changes a.parts.views b.parts.views)
-      (opening : c.after.opening ≡ c.before.opening) (knows : KnowsHistory PartTurn is_open_part c.after) where
-    some_at : (x : PartState) × MayBe PartTurn part_state b.parts.views p x
-    some_at = some_state PartTurn part_state is_open_part b.parts.views p c.after (changed_here p a.parts.views b.parts.views c) knows
+      (opening : c.after.opening ≡ c.before.opening) (knows : KnowsHistory IsPartTurn is_open_part c.after) where
+    some_at : (x : PartState) × MayBe IsPartTurn part_state b.parts.views p x
+    some_at = some_state IsPartTurn part_state is_open_part b.parts.views p c.after (changed_here p a.parts.views b.parts.views c) knows
 
-    others : (k : ℕ) → k ≢ p → LeavesPart (rules_in (opening_in (slice_get a.parts.views k))) (MayBe PartTurn part_state a.parts.views k) (MayBe PartTurn part_state b.parts.views k)
+    others : (k : ℕ) → k ≢ p → LeavesPart (rules_in (opening_in (slice_get a.parts.views k))) (MayBe IsPartTurn part_state a.parts.views k) (MayBe IsPartTurn part_state b.parts.views k)
     others k apart y may = (
       y,
-      may_back PartTurn part_state a.parts.views b.parts.views k (changed_else p a.parts.views b.parts.views c k apart) y may,
+      may_back IsPartTurn part_state a.parts.views b.parts.views k (changed_else p a.parts.views b.parts.views c k apart) y may,
       turned_self (rules_in (opening_in (slice_get a.parts.views k))) y,
     )
 
-    same : Same (known_by left lent_as fault_plan read_of text a) (known_by left lent_as fault_plan read_of text b)
+    same : StaysSame (known_by left lent_as fault_plan read_of text a) (known_by left lent_as fault_plan read_of text b)
     same = record {
       lanes = ap (λ (r : _). length r.views) lanes;
       parts = changed_count p a.parts.views b.parts.views c;
@@ -87,8 +87,8 @@ module _ {S L : Type 0} (left lent_as : S → Option (List ℕ)) (fault_plan : S
       rules = λ k l. same_each p a.parts.views b.parts.views c (λ (o : Option PartKnown). rules_in (opening_in o)) (ap rules_in opening) k;
       some_lane = λ s l has. (has.0, may_back Turns lane_state b.lanes.views a.lanes.views s (ap (λ (r : _). slice_get r.views s) (sym lanes)) has.0 has.1);
       some_part = λ k l has. elim (same_or k p) [
-        | inl e ↦ subst (λ (j : ℕ). (x : PartState) × MayBe PartTurn part_state b.parts.views j x) (sym e) some_at
-        | inr apart ↦ (has.0, may_back PartTurn part_state b.parts.views a.parts.views k (sym (changed_else p a.parts.views b.parts.views c k apart)) has.0 has.1)
+        | inl e ↦ subst (λ (j : ℕ). (x : PartState) × MayBe IsPartTurn part_state b.parts.views j x) (sym e) some_at
+        | inr apart ↦ (has.0, may_back IsPartTurn part_state b.parts.views a.parts.views k (sym (changed_else p a.parts.views b.parts.views c k apart)) has.0 has.1)
       ];
     }
 
@@ -101,28 +101,28 @@ module _ {S L : Type 0} (left lent_as : S → Option (List ℕ)) (fault_plan : S
 
   -- ---- the call was answered
   module _ (reply : PartReply)
-      (c : ChangesAt p (λ (v w : PartKnown). Plays PartTurn is_open_part v op reply w × KnowsHistory PartTurn is_open_part w) a.parts.views b.parts.views) where
-    called : (y : PartState) → MayBe PartTurn part_state b.parts.views p y
-        → CallsPart (rules_in (opening_in (slice_get a.parts.views p))) (MayBe PartTurn part_state a.parts.views p) op reply y
+      (c : ChangesAt p (λ (v w : PartKnown). Plays IsPartTurn is_open_part v op reply w × KnowsHistory IsPartTurn is_open_part w) a.parts.views b.parts.views) where
+    called : (y : PartState) → MayBe IsPartTurn part_state b.parts.views p y
+        → CallsPart (rules_in (opening_in (slice_get a.parts.views p))) (MayBe IsPartTurn part_state a.parts.views p) op reply y
     called y may =
         let plays = c.changes.0.2 in
         let v = c.before in
         let rules : Rules = rules_in (opening_in (slice_get a.parts.views p)) in
         let e : may.view ≡ c.after = is_after p a.parts.views b.parts.views c may.view may.there in
         let opened : v.opening ≡ Some may.opening = sym plays.same.1 ∙ (ap (λ (u : PartKnown). u.opening) (sym e) ∙ may.opened) in
-        let legal : IsLegal PartTurn may.opening c.after.seen may.value = subst (λ (u : PartKnown). IsLegal PartTurn may.opening u.seen may.value) e may.legal in
-        let ran = led PartTurn is_open_part (words_of c.changes.0.0 ++ c.changes.0.1 ∷ []) v op reply c.after may.opening may.value
+        let legal : IsLegal IsPartTurn may.opening c.after.seen may.value = subst (λ (u : PartKnown). IsLegal IsPartTurn may.opening u.seen may.value) e may.legal in
+        let ran = led IsPartTurn is_open_part (words_of c.changes.0.0 ++ c.changes.0.1 ∷ []) v op reply c.after may.opening may.value
         (all_at (λ (u : PartKnown). u.number ≡ 0) a.parts.views p v first c.was) plays legal in
         let rules_are : rules ≡ may.opening.rules = ap (λ (o : Option PartKnown). rules_in (opening_in o)) c.was ∙ ap rules_in opened in
         let begun : Stands rules may.opening = record { rules_are = sym rules_are } in
-        let at_first : Stands rules ran.first = legal_keeps PartTurn (Stands rules) (stands_on rules) v.seen may.opening ran.first ran.was begun in
-        let at_before : Stands rules ran.before = legal_keeps PartTurn (Stands rules) (stands_on rules) ran.between ran.first ran.before ran.others at_first in
+        let at_first : Stands rules ran.first = legal_keeps IsPartTurn (Stands rules) (stands_on rules) v.seen may.opening ran.first ran.was begun in
+        let at_before : Stands rules ran.before = legal_keeps IsPartTurn (Stands rules) (stands_on rules) ran.between ran.first ran.before ran.others at_first in
         record {
           first = ran.first.state;
           before = ran.before.state;
           was = record { view = v; opening = may.opening; value = ran.first; there = c.was; opened = opened; legal = ran.was; state_is = refl };
           turned = turned_all rules ran.between ran.first ran.before ran.others ran.are_open at_first;
-          step = subst (λ (z : PartState). PartStep rules ran.before.state op reply z) (sym may.state_is) (step_of rules ran.before op reply may.value ran.step at_before);
+          step = subst (λ (z : PartState). IsPartStep rules ran.before.state op reply z) (sym may.state_is) (step_of rules ran.before op reply may.value ran.step at_before);
         }
 
     looked_same : worn_of c.after ≡ worn_of c.before
@@ -156,7 +156,7 @@ module _ {S L : Type 0} (left lent_as : S → Option (List ℕ)) (fault_plan : S
 
   -- ---- the lock was worn
   module _ (word : ℕ) (back : PartOp)
-      (c : ChangesAt p (λ (v w : PartKnown). RefusesWorn v op (not_now.Worn word back) w × KnowsHistory PartTurn is_open_part w) a.parts.views b.parts.views) where
+      (c : ChangesAt p (λ (v w : PartKnown). RefusesWorn v op (not_now.Worn word back) w × KnowsHistory IsPartTurn is_open_part w) a.parts.views b.parts.views) where
     unplayed : WasNotPlayed (not_played.Worn word) (known_by left lent_as fault_plan read_of text a) (known_by left lent_as fault_plan read_of text b)
     unplayed =
         let rested = c.changes.0.1 in
@@ -167,10 +167,10 @@ module _ {S L : Type 0} (left lent_as : S → Option (List ℕ)) (fault_plan : S
             lanes = record { each = λ s l. lanes_left s };
             parts = record {
               each = λ k l. elim (same_or k p) [
-                | inl e ↦ subst (λ (j : ℕ). LeavesPart (rules_in (opening_in (slice_get a.parts.views j))) (MayBe PartTurn part_state a.parts.views j) (MayBe PartTurn part_state b.parts.views j)) (sym e)
+                | inl e ↦ subst (λ (j : ℕ). LeavesPart (rules_in (opening_in (slice_get a.parts.views j))) (MayBe IsPartTurn part_state a.parts.views j) (MayBe IsPartTurn part_state b.parts.views j)) (sym e)
                     (λ y may. (
                       y,
-                      may_seen PartTurn part_state a.parts.views b.parts.views p c.before c.after c.was (changed_here p a.parts.views b.parts.views c) rested.0 rested.3 y may,
+                      may_seen IsPartTurn part_state a.parts.views b.parts.views p c.before c.after c.was (changed_here p a.parts.views b.parts.views c) rested.0 rested.3 y may,
                       turned_self (rules_in (opening_in (slice_get a.parts.views p))) y,
                     ))
                 | inr apart ↦ others c rested.3 c.changes.1 k apart
@@ -196,7 +196,7 @@ module _ {S L : Type 0} (left lent_as : S → Option (List ℕ)) (fault_plan : S
     pub not_played : IfErr result (λ by. WasNotPlayed by (known_by left lent_as fault_plan read_of text a) (known_by left lent_as fault_plan read_of text b))
 
   pub part_says : (answer : Result PartReply (NotNow PartOp)) (result : Result PartReply NotPlayed) → result ≡ told_of answer
-      → ChangesAt p (λ (v w : PartKnown). MatchResult answer (λ reply. Plays PartTurn is_open_part v op reply w) (λ refused. RefusesWorn v op refused w) × KnowsHistory PartTurn is_open_part w) a.parts.views b.parts.views
+      → ChangesAt p (λ (v w : PartKnown). MatchResult answer (λ reply. Plays IsPartTurn is_open_part v op reply w) (λ refused. RefusesWorn v op refused w) × KnowsHistory IsPartTurn is_open_part w) a.parts.views b.parts.views
       → Says result
   part_says (Ok reply) result is c = subst Says (sym is) (record {
     played = plays reply (record { before = c.before; after = c.after; was = c.was; is = c.is; changes = c.changes });

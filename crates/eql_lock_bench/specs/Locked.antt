@@ -19,7 +19,7 @@ use Rattle.eql_turn_lock.specs.declared.view.View.{View}
 use Rattle.eql_turn_lock.specs.Calls.{Plays, RefusesWorn}
 use Rattle.eql_turn_lock.specs.History.{IsLegal}
 use Rattle.eql_hub.specs.Hands.{HandView}
-use Rattle.eql_hub.specs.Turns.{LaneTurn, PartTurn}
+use Rattle.eql_hub.specs.Turns.{IsLaneTurn, IsPartTurn}
 use Rattle.eql_conductor.specs.declared.bench.NotPlayed.{NotPlayed}
 use Rattle.eql_conductor.specs.declared.bench.NotPlayed.TheVariants as not_played
 use Rattle.eql_conductor.specs.declared.note.Note.{Note}
@@ -93,15 +93,15 @@ known_by left lent_as fault_plan read_of text hand = record {
   parts = length hand.parts.views;
   set = λ s. set_in read_of (text s) (opening_in (slice_get hand.lanes.views s));
   rules = λ p. rules_in (opening_in (slice_get hand.parts.views p));
-  lane = MayBe (LaneTurn left lent_as fault_plan read_of) lane_state hand.lanes.views;
-  part = MayBe PartTurn part_state hand.parts.views;
+  lane = MayBe (IsLaneTurn left lent_as fault_plan read_of) lane_state hand.lanes.views;
+  part = MayBe IsPartTurn part_state hand.parts.views;
   lane_notes = λ s. map noted_lane (mine_in (slice_get hand.lanes.views s));
   part_notes = λ p. map noted_part (mine_in (slice_get hand.parts.views p));
   failed = λ s. count_by entry_failed (mine_in (slice_get hand.lanes.views s));
   worn = worn_in hand.lanes.views + worn_in hand.parts.views;
 }
 
--- ---- what a call answers
+-- ---- what a call returns
 -- the word that was met
 abbrev pub word_of : {O : Type 0} → NotNow O → ℕ
 word_of (not_now.Busy word op) = word

@@ -4,7 +4,7 @@ ghost use Rattle.eql_lane.specs.Lanes.{LaneAllows};
 ghost use Rattle.eql_conductor.specs.Benches.{LanePlays, MayPlay, PartPlays, WasNotPlayed};
 ghost use Rattle.eql_lock_row.specs.Rows.{ChangesAt};
 ghost use Rattle.eql_hub.specs.Hands.{IsFirst, IsHandOf, Knows};
-ghost use Rattle.eql_hub.specs.Turns.{LaneTurn, PartTurn, is_open_lane, is_open_part};
+ghost use Rattle.eql_hub.specs.Turns.{IsLaneTurn, IsPartTurn, is_open_lane, is_open_part};
 ghost use Rattle.eql_lock_bench.specs.Benched.{AreOfTexts, IsBenchHand};
 ghost use Rattle.eql_lock_bench.specs.Locked.{Answers, IsNeverBusy, known_by, told_of};
 
@@ -120,7 +120,7 @@ impl<'a, R: Wait, S: Source, L: LineReader, G: Ledger, T: LockOpening<S, L>> Ben
             (known_by S.left S.lent_as S.fault_plan L.read_of T.text self.old)
             (known_by S.left S.lent_as S.fault_plan L.read_of T.text self.new)) }
         ensures call { ChangesAt s
-            (Answers (LaneTurn S.left S.lent_as S.fault_plan L.read_of) is_open_lane op result)
+            (Answers (IsLaneTurn S.left S.lent_as S.fault_plan L.read_of) is_open_lane op result)
             self.old.lanes.views self.new.lanes.views }
         ensures parts { self.new.parts ≡ self.old.parts }
     {
@@ -139,7 +139,7 @@ impl<'a, R: Wait, S: Source, L: LineReader, G: Ledger, T: LockOpening<S, L>> Ben
             (known_by S.left S.lent_as S.fault_plan L.read_of T.text self.old)
             (known_by S.left S.lent_as S.fault_plan L.read_of T.text self.new)) }
         ensures call { ChangesAt p
-            (Answers PartTurn is_open_part op result)
+            (Answers IsPartTurn is_open_part op result)
             self.old.parts.views self.new.parts.views }
         ensures lanes { self.new.lanes ≡ self.old.lanes }
     {

@@ -9,7 +9,7 @@ use eql_turn_lock::{NotNow, Tried, Turned};
 use std::sync::Wait;
 
 impl<T: Turned> LockRow<T> {
-    /// Plays the operation on the value in a place, from 0, and waits for the turn. It never answers `Busy`.
+    /// Plays the operation on the value in a place, from 0, and waits for the turn. It never returns `Busy`.
     pub fn call<R: Wait>(
         &self,
         rt: &R,

@@ -15,7 +15,7 @@ use Rattle.eql_values.specs.Chains.{fits_after, chain, holder}
 use Rattle.eql_values.specs.Ordered.{found_or}
 use Rattle.eql_laws.specs.Slots.{chain_moved_on}
 use Rattle.eql_laws.proofs.Facts.{is_equal}
-use Rattle.eql_laws.specs.Steps.{SlotStep, ChainStep}
+use Rattle.eql_laws.specs.Steps.{StepMovesSlots, StepMakesChain}
 use Rattle.eql_lookback.specs.declared.key_act.KeyAct.{KeyAct}
 use Rattle.eql_lookback.specs.KeyActs.{to_key, back_over}
 use Rattle.eql_lookback.specs.Places.{no_opening, chains_at, match_at, matches_at}
@@ -68,13 +68,13 @@ module _ (span : Option ℤ) (stage : ℕ) where
       ∙ chain_there [] all i one found lt
       ∙ ap (chain_of (back_over (take i all) [])) (sym is)
 
-  step_is : SlotStep → ChainStep → (one : Act) (past : List Act) → holder span no_opening stage (one ∷ past)
+  step_is : StepMovesSlots → StepMakesChain → (one : Act) (past : List Act) → holder span no_opening stage (one ∷ past)
       ≡ found_or (chain span no_opening stage (one ∷ past)) (cond (fits_after stage one || one.until) None (holder span no_opening stage past))
   step_is steps comes one past =
       steps span no_opening stage one past
       ∙ ap (λ (o : Option (List OrderKey)). found_or o (cond (fits_after stage one || one.until) None (holder span no_opening stage past))) (sym (comes span no_opening stage one past))
 
-  passed_one : SlotStep → ChainStep → (past : List KeyAct) (one : KeyAct) (here now : Option (List OrderKey)) (key : List Value) (b : Bool) → key_eq one.key key ≡ b
+  passed_one : StepMovesSlots → StepMakesChain → (past : List KeyAct) (one : KeyAct) (here now : Option (List OrderKey)) (key : List Value) (b : Bool) → key_eq one.key key ≡ b
       → here ≡ chain_of past one → now ≡ holder span no_opening stage (to_key key past)
       → cond b (found_or here (cond (fits_after stage one.act || one.act.until) None now)) now ≡ holder span no_opening stage (cond b (one.act ∷ to_key key past) (to_key key past))
   passed_one steps comes past one here now key true same is was =
@@ -85,7 +85,7 @@ module _ (span : Option ℤ) (stage : ℕ) where
   passed_one steps comes past one here now key false same is was = was
 
   -- what is pending after one more item
-  pub passed : SlotStep → ChainStep → (all : List KeyAct) (i : ℕ) (one : KeyAct) (here : Option (List OrderKey)) (key : List Value) (old new : Option (List OrderKey))
+  pub passed : StepMovesSlots → StepMakesChain → (all : List KeyAct) (i : ℕ) (one : KeyAct) (here : Option (List OrderKey)) (key : List Value) (old new : Option (List OrderKey))
       → i < length all → one ≡ get_or all i one → here ≡ chain_of (back_over (take i all) []) one
       → old ≡ holder span no_opening stage (to_key key (back_over (take i all) []))
       → new ≡ cond (key_eq one.key key) (found_or here (cond (fits_after stage one.act || one.act.until) None old)) old
@@ -97,7 +97,7 @@ module _ (span : Option ℤ) (stage : ℕ) where
       ∙ ap (λ (past : List KeyAct). holder span no_opening stage (to_key key past)) (sym (back_over_more all i one [] lt is))
 
 -- the chain that follows what is pending
-pub followed_at : ChainStep → (span : Option ℤ) (stage : ℕ) (past : List KeyAct) (one : KeyAct) (pending found : Option (List OrderKey)) → 1 ≤ stage
+pub followed_at : StepMakesChain → (span : Option ℤ) (stage : ℕ) (past : List KeyAct) (one : KeyAct) (pending found : Option (List OrderKey)) → 1 ≤ stage
     → pending ≡ holder span no_opening stage (to_key one.key past)
     → found ≡ cond (fits_after stage one.act && not one.act.until) (chain_moved_on span pending one.act) None
     → found ≡ chain_of span (suc stage) past one

@@ -1,13 +1,13 @@
 //! Whether a list of events stands as the search requires.
 ghost use Rattle.std.specs.Prelude.{IsTrue};
-ghost use Rattle.eql_values.specs.Ascending.{AllAfter, Ascend};
-ghost use Rattle.eql_values.specs.Routes.{RoutesInOrder};
+ghost use Rattle.eql_values.specs.Ascending.{AllAreAfter, Ascend};
+ghost use Rattle.eql_values.specs.Routes.{RoutesAreInOrder};
 
 use eql_values::Item;
 
 /// Whether the event comes before all of these.
 fn is_before(event: &Item, items: &[Item]) -> bool
-    ensures { IsTrue result → AllAfter event.now.order items.now }
+    ensures { IsTrue result → AllAreAfter event.now.order items.now }
 {
     match items {
         [] => true,
@@ -17,7 +17,7 @@ fn is_before(event: &Item, items: &[Item]) -> bool
 
 /// Whether the event has at most one route.
 fn has_one_route(event: &Item) -> bool
-    ensures { IsTrue result → RoutesInOrder event.now.routes }
+    ensures { IsTrue result → RoutesAreInOrder event.now.routes }
 {
     event.routes.items().len() < 2
 }

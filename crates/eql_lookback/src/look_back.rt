@@ -43,7 +43,7 @@ fn matches_of(alloc: Global, all: &[KeyAct], chains: &[Option<Sequence>]) -> Res
 }
 
 /// The matches by these events, with nothing pending before them: of a sequence with this many stages, from 1
-/// to 256, and this span in nanoseconds, where there is one. The events stand in ascending order. The answer
+/// to 256, and this span in nanoseconds, where there is one. The events stand in ascending order. The call
 /// takes about as many steps as there are events, times stages, times the logarithm of the number of keys.
 pub fn find(
     alloc: Global,

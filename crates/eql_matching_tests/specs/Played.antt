@@ -11,8 +11,8 @@ abbrev pub at_line : ℕ → OrderKey
 at_line line = record { ts = pos line; tie = None; shard = 0; line = line; at = 0 }
 
 -- the event of this line and those of all later ones come after all sequences
-abbrev pub AllFrom : {T : Type 0} → ℕ → List (Option (Sequence T)) → Type 0
-AllFrom line slots = (next : ℕ) → line ≤ next → All (ComesAfter (at_line next)) slots
+abbrev pub AllComeFrom : {T : Type 0} → ℕ → List (Option (Sequence T)) → Type 0
+AllComeFrom line slots = (next : ℕ) → line ≤ next → All (ComesAfter (at_line next)) slots
 
 -- the event comes after the last one, where there was one
 abbrev pub IsAfterLast : Option OrderKey → OrderKey → Type 0

@@ -1,6 +1,6 @@
 //! The machine on the events of a worked example, and at its greatest number of stages.
 ghost use Rattle.std.specs.Prelude.{◌≡◌, ◌+◌, ◌<◌, [], IfOk, OnOk};
-ghost use Rattle.eql_matching_tests.specs.Played.{at_line, AllFrom};
+ghost use Rattle.eql_matching_tests.specs.Played.{at_line, AllComeFrom};
 
 use eql_auto::{Auto, Steps};
 use eql_values::{Chain, Mask, Memory, OrderKey};
@@ -105,9 +105,9 @@ fn play<L: Ledger>(
     steps: &mut Steps<L>,
 ) -> Result<(), Memory>
     requires read { machine.old.gone ≡ [] }
-    requires later { AllFrom line machine.old.slots }
+    requires later { AllComeFrom line machine.old.slots }
     ensures read { IfOk result (λ _. machine.new.gone ≡ []) }
-    ensures later { IfOk result (λ _. AllFrom (line + 1) machine.new.slots) }
+    ensures later { IfOk result (λ _. AllComeFrom (line + 1) machine.new.slots) }
 {
     machine.ready(alloc)?;
     let mask = mask_of(stage);

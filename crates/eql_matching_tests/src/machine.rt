@@ -110,7 +110,7 @@ fn is_after(last: Option<OrderKey>, event: OrderKey) -> bool
 /// What the machine did so far. A tag is the line of the event that begins its sequence.
 #[derive(Drop)]
 struct Played {
-    /// The chains that it answered.
+    /// The chains that it returned.
     matches: Vec<Chain>,
     /// The tags given.
     given: Vec<u32>,
@@ -129,7 +129,7 @@ fn tag_of(act: &Act) -> Option<u32>
     }
 }
 
-/// Notes the tag that a turn was given, and the chain that it answered.
+/// Notes the tag that a turn was given, and the chain that it returned.
 fn note(played: &mut Played, tag: Option<u32>, answer: Option<Chain>) -> Result<(), Memory> {
     if let Some(tag) = tag {
         played.given.push(tag)?;
@@ -161,7 +161,7 @@ fn play_one<L: Ledger>(
     read_ceased(machine, &mut played.ceased)
 }
 
-/// Plays the acts, and answers what the machine did and what it has pending.
+/// Plays the acts, and returns what the machine did and what it has pending.
 fn play<L: Ledger, R: Abort>(
     rt: &R,
     alloc: Global,
@@ -202,7 +202,7 @@ fn tags_found(alloc: Global, played: &Played, pending: &StageChains) -> Result<V
     Ok(tags)
 }
 
-/// The lines of the chains that the machine answered.
+/// The lines of the chains that the machine returned.
 fn answered(alloc: Global, chains: &[Chain]) -> Result<String, AllocError> {
     let mut lines = String::new(alloc);
     for chain in chains {

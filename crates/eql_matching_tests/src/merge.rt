@@ -1,7 +1,7 @@
 //! Lists of many shards and of parts, merged.
 ghost use Rattle.std.specs.Prelude.{◌≡◌, All, IsTrue};
 ghost use Rattle.eql_values.specs.Ascending.{Ascend};
-ghost use Rattle.eql_laws.specs.Apart.{has_place, Apart, ApartFrom, AllApart};
+ghost use Rattle.eql_laws.specs.Apart.{has_place, AreApart, IsApartFrom, AllAreApart};
 
 use eql_lookback::ascend;
 use eql_merge::{merge, merge_holders, merge_matches};
@@ -45,7 +45,7 @@ fn is_among(order: &OrderKey, items: &[Item]) -> bool
 
 /// Whether no place is in both lists.
 fn is_apart(a: &[Item], b: &[Item]) -> bool
-    ensures { IsTrue result → Apart a.now b.now }
+    ensures { IsTrue result → AreApart a.now b.now }
 {
     match a {
         [] => true,
@@ -55,7 +55,7 @@ fn is_apart(a: &[Item], b: &[Item]) -> bool
 
 /// Whether no place is in this list and in one of those.
 fn is_apart_from(a: &[Item], lists: &[Items]) -> bool
-    ensures { IsTrue result → ApartFrom a.now lists.now }
+    ensures { IsTrue result → IsApartFrom a.now lists.now }
 {
     match lists {
         [] => true,
@@ -65,7 +65,7 @@ fn is_apart_from(a: &[Item], lists: &[Items]) -> bool
 
 /// Whether no place is in two of the lists.
 fn are_apart(lists: &[Items]) -> bool
-    ensures { IsTrue result → AllApart lists.now }
+    ensures { IsTrue result → AllAreApart lists.now }
 {
     match lists {
         [] => true,

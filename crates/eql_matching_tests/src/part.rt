@@ -2,7 +2,7 @@
 ghost use Rattle.std.specs.Prelude.{◌≡◌, ◌<◌, ◌≤◌, [], All, IfOk, IsTrue};
 ghost use Rattle.std.specs.declared.cmp.Ordering.TheVariants.{Less};
 ghost use Rattle.eql_values.specs.OrderKeys.{order_cmp};
-ghost use Rattle.eql_auto.specs.Machine.{AllBefore};
+ghost use Rattle.eql_auto.specs.Machine.{AllAreBefore};
 ghost use Rattle.eql_laws.specs.Shapes.{HasStageBefore, IsFull};
 ghost use Rattle.eql_part.specs.KeyTables.{ComesAfterAll};
 
@@ -26,7 +26,7 @@ fn is_before(event: &OrderKey, order: &OrderKey) -> bool
 
 /// Whether the event comes after all of these.
 fn is_after(order: &OrderKey, events: &[OrderKey]) -> bool
-    ensures { IsTrue result → AllBefore order.now events.now }
+    ensures { IsTrue result → AllAreBefore order.now events.now }
 {
     events.iter().all(|event| is_before(event, order))
 }

@@ -2,7 +2,7 @@
 //! one shard.
 ghost use Rattle.std.specs.Prelude.{◌≡◌, ◌<◌, ◌≤◌, IsTrue, OnOk};
 ghost use Rattle.eql_values.specs.Marks.{is_below};
-ghost use Rattle.eql_laws.specs.Together.{AllBelow, NoneBelow};
+ghost use Rattle.eql_laws.specs.Together.{AllAreBelow, NoneIsBelow};
 ghost use Rattle.eql_parts.specs.PartSteps.{CanDeliver};
 
 use crate::lookback::{
@@ -32,7 +32,7 @@ fn lies_below(mark: Mark, item: &Item) -> bool
 
 /// Whether all of the events lie below the mark.
 fn all_below(mark: Mark, items: &Vec<Item>) -> bool
-    ensures { IsTrue result → AllBelow mark items.now.items }
+    ensures { IsTrue result → AllAreBelow mark items.now.items }
 {
     for item in items {
         if !lies_below(mark, item) {
@@ -44,7 +44,7 @@ fn all_below(mark: Mark, items: &Vec<Item>) -> bool
 
 /// Whether none of the events lies below the mark.
 fn none_below(mark: Mark, items: &Vec<Item>) -> bool
-    ensures { IsTrue result → NoneBelow mark items.now.items }
+    ensures { IsTrue result → NoneIsBelow mark items.now.items }
 {
     for item in items {
         if lies_below(mark, item) {
@@ -89,7 +89,7 @@ fn deliver<R: Abort, L: Ledger>(
     }
 }
 
-/// Plays the events that wait, so many at most in a turn, and answers how many were played.
+/// Plays the events that wait, so many at most in a turn, and returns how many were played.
 fn play_all<L: Ledger>(part: &mut Part<L>, max: u32, steps: &mut Steps<L>) -> Result<u32, Fail>
     requires from { 1 ≤ max }
     requires to { max ≤ 4096 }

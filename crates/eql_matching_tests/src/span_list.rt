@@ -1,6 +1,6 @@
 //! The list as a caller uses it: through its clauses alone, with no proof file.
 ghost use Rattle.std.specs.Prelude.{◌≡◌, ◌≢◌, ◌<◌, [], ◌∷◌, ◌++◌, MatchOption, MatchResult};
-ghost use Rattle.eql_span_list.specs.Entries.{HasTicket, AtTicket, IsAbsent, PopsFirst};
+ghost use Rattle.eql_span_list.specs.Entries.{HasTicket, HoldsAtTicket, IsAbsent, PopsFirst};
 
 use eql_span_list::{SpanList, Ticket};
 use std::marker::Send;
@@ -10,7 +10,7 @@ use std::thread;
 /// Moves the value of a ticket to the end, or out where memory is short.
 fn move_to_back(list: &mut SpanList<u64>, ticket: Ticket) -> Result<Ticket, u64>
     requires { HasTicket list.old ticket }
-    ensures { AtTicket list.old ticket (λ xs x ys. MatchResult result
+    ensures { HoldsAtTicket list.old ticket (λ xs x ys. MatchResult result
         (λ t. list.new ≡ (xs ++ ys) ++ (t, x) ∷ [])
         (λ back. (list.new ≡ xs ++ ys) × (back ≡ x))) }
 {

@@ -17,14 +17,14 @@ use Rattle.eql_values.specs.declared.found.Match.{Match}
 use Rattle.eql_values.specs.declared.found.Holder.{Holder}
 use Rattle.eql_values.specs.Matching.{slot_cmp}
 use Rattle.eql_values.specs.Accepted.{sorted_items}
-use Rattle.eql_values.specs.Ascending.{AllAfter, Ascend}
+use Rattle.eql_values.specs.Ascending.{AllAreAfter, Ascend}
 use Rattle.eql_values.specs.OrderKeys.{order_cmp}
 use Rattle.eql_values.specs.Ordered.{in_order}
 use Rattle.eql_values.specs.Totals.{order_cmp_total, slot_cmp_total}
 use Rattle.eql_values.proofs.InOrder.{is_in_order}
 use Rattle.eql_values.proofs.Same.{order_same}
-use Rattle.eql_laws.specs.Alive.{HoldersInOrder}
-use Rattle.eql_laws.specs.Apart.{place_of, ending_of, NoKeyInOthers, NoKeyTwice, AllApart, MatchesApart, InMatchOrder, joined}
+use Rattle.eql_laws.specs.Alive.{HoldersAreInOrder}
+use Rattle.eql_laws.specs.Apart.{place_of, ending_of, SharesNoKey, RepeatNoKey, AllAreApart, MatchesAreApart, AreInMatchOrder, joined}
 use Rattle.eql_laws.specs.Belows.{HasRoutesInOrder, SortedAscends}
 use Rattle.eql_laws.specs.Merging.{ending_cmp, by_ending, by_slot, holder_of, match_of, in_match_order, in_slot_order, last_of}
 use Rattle.eql_laws.specs.Totals.{ending_cmp_total}
@@ -33,7 +33,7 @@ use Rattle.eql_laws.proofs.Facts.{both_hold, holds_true, left_holds, right_holds
 use Rattle.eql_laws.proofs.Held.{slot_same}
 use Rattle.eql_laws.proofs.Lists.{map_back}
 use Rattle.eql_laws.proofs.Merged.{ending_same}
-use Rattle.eql_merge.specs.Ranks.{StandsFirst, Ascends, HoldersApart, NoTies, SameFirsts, holder_rank, item_rank, match_rank, slot_of}
+use Rattle.eql_merge.specs.Ranks.{StandsFirst, Ascends, HoldersAreApart, HaveNoTies, HaveSameFirsts, holder_rank, item_rank, match_rank, slot_of}
 
 -- values by keys: lists that ascend by the ranks of their keys are their entries in order
 module _ {X K V : Type 0} (R : K → K → Ordering) (total : IsTotalOrder R) (same : (x y : K) → R x y ≡ Equal → x ≡ y) (key : X → K) (rest : X → V) where
@@ -59,11 +59,11 @@ module _ {X K V : Type 0} (R : K → K → Ordering) (total : IsTotalOrder R) (s
   sorted_ascends_by [] h = tt
   sorted_ascends_by (x ∷ xs) h = (below_first x xs (left_holds _ _ h), sorted_ascends_by xs (right_holds _ _ h))
 
-  others_apart : (xs : List X) (lists : List (List X)) → NoKeyInOthers R key xs lists → NoKeyInOthers rank (λ (x : X). x) xs lists
+  others_apart : (xs : List X) (lists : List (List X)) → SharesNoKey R key xs lists → SharesNoKey rank (λ (x : X). x) xs lists
   others_apart xs [] h = tt
   others_apart xs (ys ∷ lists) h = (λ x there. h.0 (key x) there, others_apart xs lists h.1)
 
-  pub apart_by : (lists : List (List X)) → NoKeyTwice R key lists → NoTies rank lists
+  pub apart_by : (lists : List (List X)) → RepeatNoKey R key lists → HaveNoTies rank lists
   apart_by [] h = tt
   apart_by (xs ∷ lists) h = (others_apart xs lists h.0, apart_by lists h.1)
 
@@ -76,7 +76,7 @@ module _ {X K V : Type 0} (R : K → K → Ordering) (total : IsTotalOrder R) (s
       one true e = refl
       one false e = e
 
-  pub merged_in_order : (whole all : List X) → Ascends rank all → SameFirsts rank whole all → map entry all ≡ in_order R (map entry whole)
+  pub merged_in_order : (whole all : List X) → Ascends rank all → HaveSameFirsts rank whole all → map entry all ≡ in_order R (map entry whole)
   merged_in_order whole all up firsts =
       is_in_order R total same (map entry all) (map entry whole) (ascends_sorted all up)
       (λ q. find_by q all
@@ -85,7 +85,7 @@ module _ {X K V : Type 0} (R : K → K → Ordering) (total : IsTotalOrder R) (s
       ∙ sym (find_by q whole))
 
 -- ---- events
-after_first : (item : Item) (items : List Item) → AllAfter item.order items → StandsFirst item_rank item items
+after_first : (item : Item) (items : List Item) → AllAreAfter item.order items → StandsFirst item_rank item items
 after_first item [] h = tt
 after_first item (next ∷ items) h = (h.0, after_first item items h.1)
 
@@ -99,14 +99,14 @@ items_ascend lists h = All-weaker Ascend (Ascends item_rank) ascending_ascends l
 abbrev routes_in : Item → List Route
 routes_in item = item.routes
 
-pub items_apart : (lists : List (List Item)) → AllApart lists → NoTies item_rank lists
+pub items_apart : (lists : List (List Item)) → AllAreApart lists → HaveNoTies item_rank lists
 items_apart lists h = apart_by order_cmp order_cmp_total order_same place_of routes_in lists h
 
 items_back : (items : List Item) → map (λ (e : OrderKey × List Route). let item : Item = record { order = e.0; routes = e.1 } in item) (map (λ (item : Item). (item.order, item.routes)) items) ≡ items
 items_back [] = refl
 items_back (item ∷ items) = ap (λ (rest : List Item). item ∷ rest) (items_back items)
 
-pub items_merged : (lists : List (List Item)) (all : List Item) → Ascends item_rank all → SameFirsts item_rank (joined lists) all → all ≡ sorted_items (joined lists)
+pub items_merged : (lists : List (List Item)) (all : List Item) → Ascends item_rank all → HaveSameFirsts item_rank (joined lists) all → all ≡ sorted_items (joined lists)
 items_merged lists all up firsts =
     sym (items_back all)
     ∙ ap (map (λ (e : OrderKey × List Route). record { order = e.0; routes = e.1 })) (merged_in_order order_cmp order_cmp_total order_same place_of routes_in (joined lists) all up firsts)
@@ -122,38 +122,38 @@ all_ascends ascends lists h = ascends (joined lists) (All-flat_map Ascend HasRou
 abbrev chain_in : Match → List OrderKey
 chain_in found = found.chain
 
-pub matches_ascend : (lists : List (List Match)) → All InMatchOrder lists → All (Ascends match_rank) lists
+pub matches_ascend : (lists : List (List Match)) → All AreInMatchOrder lists → All (Ascends match_rank) lists
 matches_ascend lists h =
-    All-weaker InMatchOrder (Ascends match_rank) (λ found up. sorted_ascends_by ending_cmp ending_cmp_total ending_same ending_of chain_in found (subst T (sym up) tt)) lists h
+    All-weaker AreInMatchOrder (Ascends match_rank) (λ found up. sorted_ascends_by ending_cmp ending_cmp_total ending_same ending_of chain_in found (subst T (sym up) tt)) lists h
 
-pub matches_apart : (lists : List (List Match)) → MatchesApart lists → NoTies match_rank lists
+pub matches_apart : (lists : List (List Match)) → MatchesAreApart lists → HaveNoTies match_rank lists
 matches_apart lists h = apart_by ending_cmp ending_cmp_total ending_same ending_of chain_in lists h
 
-pub matches_merged : (lists : List (List Match)) (all : List Match) → Ascends match_rank all → SameFirsts match_rank (joined lists) all → all ≡ in_match_order (joined lists)
+pub matches_merged : (lists : List (List Match)) (all : List Match) → Ascends match_rank all → HaveSameFirsts match_rank (joined lists) all → all ≡ in_match_order (joined lists)
 matches_merged lists all up firsts =
     sym (map_back match_of by_ending (λ m. refl) all)
     ∙ ap (map match_of) (merged_in_order ending_cmp ending_cmp_total ending_same ending_of chain_in (joined lists) all up firsts)
 
-pub matches_stand : (all : List Match) → Ascends match_rank all → InMatchOrder all
+pub matches_stand : (all : List Match) → Ascends match_rank all → AreInMatchOrder all
 matches_stand all up = holds_true _ (ascends_sorted ending_cmp ending_cmp_total ending_same ending_of chain_in all up)
 
 -- ---- pending sequences
 abbrev events_of : Holder → List OrderKey
 events_of h = h.chain
 
-pub holders_ascend : (lists : List (List Holder)) → All HoldersInOrder lists → All (Ascends holder_rank) lists
+pub holders_ascend : (lists : List (List Holder)) → All HoldersAreInOrder lists → All (Ascends holder_rank) lists
 holders_ascend lists h =
-    All-weaker HoldersInOrder (Ascends holder_rank) (λ held up. sorted_ascends_by slot_cmp slot_cmp_total slot_same slot_of events_of held (subst T (sym up) tt)) lists h
+    All-weaker HoldersAreInOrder (Ascends holder_rank) (λ held up. sorted_ascends_by slot_cmp slot_cmp_total slot_same slot_of events_of held (subst T (sym up) tt)) lists h
 
-pub holders_apart : (lists : List (List Holder)) → HoldersApart lists → NoTies holder_rank lists
+pub holders_apart : (lists : List (List Holder)) → HoldersAreApart lists → HaveNoTies holder_rank lists
 holders_apart lists h = apart_by slot_cmp slot_cmp_total slot_same slot_of events_of lists h
 
-pub holders_merged : (lists : List (List Holder)) (all : List Holder) → Ascends holder_rank all → SameFirsts holder_rank (joined lists) all → all ≡ in_slot_order (joined lists)
+pub holders_merged : (lists : List (List Holder)) (all : List Holder) → Ascends holder_rank all → HaveSameFirsts holder_rank (joined lists) all → all ≡ in_slot_order (joined lists)
 holders_merged lists all up firsts =
     sym (map_back holder_of by_slot (λ h. refl) all)
     ∙ ap (map holder_of) (merged_in_order slot_cmp slot_cmp_total slot_same slot_of events_of (joined lists) all up firsts)
 
-pub holders_stand : (all : List Holder) → Ascends holder_rank all → HoldersInOrder all
+pub holders_stand : (all : List Holder) → Ascends holder_rank all → HoldersAreInOrder all
 holders_stand all up = holds_true _ (ascends_sorted slot_cmp slot_cmp_total slot_same slot_of events_of all up)
 
 -- the last event of a chain

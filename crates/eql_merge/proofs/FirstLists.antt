@@ -11,7 +11,7 @@ use Rattle.std.proofs.lemmas.List.Elements.{All-push}
 use Rattle.eql_values.specs.Ordered.{found_or}
 use Rattle.eql_laws.specs.Apart.{joined}
 use Rattle.eql_laws.proofs.Facts.{any_false, is_equal}
-use Rattle.eql_merge.specs.Ranks.{Ascends, NoTie, NoTies, IsOfOneRank, SameFirsts}
+use Rattle.eql_merge.specs.Ranks.{Ascends, HaveNoTie, HaveNoTies, IsOfOneRank, HaveSameFirsts}
 use Rattle.eql_merge.proofs.Splits.{joined-append, has, has-append, NoTieWith, find-both, parts_stand, merged_apart}
 
 found_none : {Y : Type 0} (o : Option Y) → found_or o None ≡ o
@@ -28,14 +28,14 @@ two_joined lists a b l (x ∷ r) e f few =
 
 module _ {X : Type 0} (R : X → X → Ordering) where
   -- ---- what has no ties
-  no_tie_back : (a b : List X) → NoTie R a b → NoTie R b a
+  no_tie_back : (a b : List X) → HaveNoTie R a b → HaveNoTie R b a
   no_tie_back a b h k there = go (has R k a) refl
     where
       go : (c : Bool) → has R k a ≡ c → c ≡ false
       go true e = let none : has R k b ≡ false = h k e in cc
       go false e = refl
 
-  no_tie_parts : (m x ys : List X) → NoTie R m (x ++ ys) → NoTie R m x × NoTie R m ys
+  no_tie_parts : (m x ys : List X) → HaveNoTie R m (x ++ ys) → HaveNoTie R m x × HaveNoTie R m ys
   no_tie_parts m x ys h = (
     λ k there. (any_false (has R k x) (has R k ys) (sym (has-append R k x ys) ∙ h k there)).0,
     λ k there. (any_false (has R k x) (has R k ys) (sym (has-append R k x ys) ∙ h k there)).1,
@@ -63,7 +63,7 @@ module _ {X : Type 0} (R : X → X → Ordering) where
         go true later e = let same : y ≡ u = cc in ap (λ (c : Bool). c || has R k xs) (ap (eq_by_cmp R k) same ∙ ap is_eq tie)
         go false later e = pass (eq_by_cmp R k y) (has R k xs) (later e)
 
-    swapped : (test : X → Bool) → IsOfOneRank R test → (x a : List X) → NoTie R x a → (o : Option X)
+    swapped : (test : X → Bool) → IsOfOneRank R test → (x a : List X) → HaveNoTie R x a → (o : Option X)
         → found_or (find test x) (found_or (find test a) o) ≡ found_or (find test a) (found_or (find test x) o)
     swapped test one x a apart o = go (find test x) (find test a) refl refl
       where
@@ -78,11 +78,11 @@ module _ {X : Type 0} (R : X → X → Ordering) where
             cc
 
     -- ---- the first of many lists merged, and put behind the others
-    others_end : (q m : List X) (b : List (List X)) → NoTieWith R q b → NoTie R q m → NoTieWith R q (b ++ m ∷ [])
+    others_end : (q m : List X) (b : List (List X)) → NoTieWith R q b → HaveNoTie R q m → NoTieWith R q (b ++ m ∷ [])
     others_end q m [] h one = (one, tt)
     others_end q m (x ∷ b) h one = (h.0, others_end q m b h.1 one)
 
-    ties_end : (b : List (List X)) (m : List X) → NoTies R b → NoTie R m (joined b) → NoTies R (b ++ m ∷ [])
+    ties_end : (b : List (List X)) (m : List X) → HaveNoTies R b → HaveNoTie R m (joined b) → HaveNoTies R (b ++ m ∷ [])
     ties_end [] m h g = (tt, tt)
     ties_end (x ∷ b) m h g =
         let parts = no_tie_parts m x (joined b) g in
@@ -90,10 +90,10 @@ module _ {X : Type 0} (R : X → X → Ordering) where
 
     pub record FirstMerged (lists rest : List (List X)) : Type 0 where
       pub ascend : All (Ascends R) rest
-      pub apart : NoTies R rest
-      pub firsts : SameFirsts R (joined lists) (joined rest)
+      pub apart : HaveNoTies R rest
+      pub firsts : HaveSameFirsts R (joined lists) (joined rest)
 
-    firsts_end : (a b : List (List X)) (m : List X) → NoTie R (joined a) (joined b) → SameFirsts R (joined a) m → SameFirsts R (joined (a ++ b)) (joined (b ++ m ∷ []))
+    firsts_end : (a b : List (List X)) (m : List X) → HaveNoTie R (joined a) (joined b) → HaveSameFirsts R (joined a) m → HaveSameFirsts R (joined (a ++ b)) (joined (b ++ m ∷ []))
     firsts_end a b m apart same test one =
         ap (find test) (joined-append a b)
         ∙ find-both R test (joined a) (joined b)
@@ -104,7 +104,7 @@ module _ {X : Type 0} (R : X → X → Ordering) where
         ∙ ap (λ (l : List X). find test (joined b ++ l)) (sym (append-nil m))
         ∙ ap (find test) (sym (joined-append b (m ∷ [])))
 
-    first_merged : (n : ℕ) (lists : List (List X)) (m : List X) → All (Ascends R) lists → NoTies R lists → Ascends R m → SameFirsts R (joined (take n lists)) m
+    first_merged : (n : ℕ) (lists : List (List X)) (m : List X) → All (Ascends R) lists → HaveNoTies R lists → Ascends R m → HaveSameFirsts R (joined (take n lists)) m
         → FirstMerged lists (drop n lists ++ m ∷ [])
     first_merged n lists m ups apart up same =
         let stand = parts_stand R n lists ups apart in
@@ -116,8 +116,8 @@ module _ {X : Type 0} (R : X → X → Ordering) where
           firsts = λ test one. ap (λ (l : List (List X)). find test (joined l)) (sym (take-append-drop n lists)) ∙ firsts_end a b m stand.apart.both same test one;
         }
 
-    pub first_put : (n : ℕ) (lists first rest new : List (List X)) (m run : List X) → All (Ascends R) lists → NoTies R lists → Ascends R m → SameFirsts R (joined first) m
+    pub first_put : (n : ℕ) (lists first rest new : List (List X)) (m run : List X) → All (Ascends R) lists → HaveNoTies R lists → Ascends R m → HaveSameFirsts R (joined first) m
         → first ≡ take n lists → rest ≡ drop n lists → run ≡ m → new ≡ rest ++ run ∷ [] → FirstMerged lists new
     first_put n lists first rest new m run ups apart up same first_is rest_is run_is new_is =
         let is : new ≡ drop n lists ++ m ∷ [] = new_is ∙ ap (λ (k : List X). rest ++ k ∷ []) run_is ∙ ap (λ (l : List (List X)). l ++ m ∷ []) rest_is in
-        subst (FirstMerged lists) (sym is) (first_merged n lists m ups apart up (subst (λ (l : List (List X)). SameFirsts R (joined l) m) first_is same))
+        subst (FirstMerged lists) (sym is) (first_merged n lists m ups apart up (subst (λ (l : List (List X)). HaveSameFirsts R (joined l) m) first_is same))

@@ -15,7 +15,7 @@ use Rattle.std.proofs.lemmas.List.Sorted.{All-permutation, IsPermutation-refl, I
 use Rattle.std.proofs.lemmas.Map.Keys.{apart_from_distinct, sorted_from_all_adjacent}
 use Rattle.eql_laws.specs.Apart.{has_key, joined}
 use Rattle.eql_laws.proofs.Facts.{any_false}
-use Rattle.eql_merge.specs.Ranks.{StandsFirst, Ascends, NoTie, NoTies, IsOfOneRank, SameFirsts}
+use Rattle.eql_merge.specs.Ranks.{StandsFirst, Ascends, HaveNoTie, HaveNoTies, IsOfOneRank, HaveSameFirsts}
 use Rattle.eql_merge.proofs.Pairs.{is_less, no_tie_tail}
 use Rattle.eql_merge.proofs.Splits.{joined-append, apart_joined}
 
@@ -129,14 +129,14 @@ module _ {X : Type 0} (R : X → X → Ordering) (total : IsTotalOrder R) where
   apart_all x [] ys h rest = rest
   apart_all x (y ∷ xs) ys h rest = (ap is_eq h.0, apart_all x xs ys h.1 rest)
 
-  distinct_with : (xs ys : List X) → Ascends R xs → NoTie R xs ys → IsDistinct (eq_by_cmp R) ys → IsDistinct (eq_by_cmp R) (xs ++ ys)
+  distinct_with : (xs ys : List X) → Ascends R xs → HaveNoTie R xs ys → IsDistinct (eq_by_cmp R) ys → IsDistinct (eq_by_cmp R) (xs ++ ys)
   unfolding IsDistinct
   distinct_with [] ys up apart h = h
   distinct_with (x ∷ xs) ys up apart h =
       let here : has_key R (λ (y : X). y) x (x ∷ xs) ≡ true = ap (λ (c : Bool). c || has_key R (λ (y : X). y) x xs) ((eq_by_cmp_equiv total).refl x) in
       (apart_all x xs ys up.0 (none_there x ys (apart x here)), distinct_with xs ys up.1 (no_tie_tail R x xs ys apart) h)
 
-  pub distinct_joined : (lists : List (List X)) → All (Ascends R) lists → NoTies R lists → IsDistinct (eq_by_cmp R) (joined lists)
+  pub distinct_joined : (lists : List (List X)) → All (Ascends R) lists → HaveNoTies R lists → IsDistinct (eq_by_cmp R) (joined lists)
   unfolding IsDistinct
   distinct_joined [] up apart = tt
   distinct_joined (xs ∷ lists) up apart =
@@ -161,7 +161,7 @@ module _ {X : Type 0} (R : X → X → Ordering) (total : IsTotalOrder R) where
           All-cons P z xs (λ u. same) (subst (λ (v : X). All (λ (y : X). test y ≡ true → y ≡ v) xs) same (others xs t apart.0))
       go false t e rest = All-cons P z xs (λ u. let no : true ≡ false = sym u ∙ t in cc) (rest e)
 
-  pub same_firsts : (xs ys : List X) → IsDistinct (eq_by_cmp R) xs → IsPermutation xs ys → SameFirsts R xs ys
+  pub same_firsts : (xs ys : List X) → IsDistinct (eq_by_cmp R) xs → IsPermutation xs ys → HaveSameFirsts R xs ys
   same_firsts xs ys apart moved test one = go (find test xs) refl
     where
       F : X → Type 0

@@ -10,7 +10,7 @@ use Rattle.std.specs.declared.cmp.Ordering.TheVariants.{Less, Equal, Greater}
 use Rattle.std.proofs.lemmas.List.{append-nil}
 use Rattle.eql_laws.specs.Apart.{has_key}
 use Rattle.eql_laws.proofs.Facts.{any_false}
-use Rattle.eql_merge.specs.Ranks.{StandsFirst, Ascends, NoTie, IsOfOneRank, SameFirsts}
+use Rattle.eql_merge.specs.Ranks.{StandsFirst, Ascends, HaveNoTie, IsOfOneRank, HaveSameFirsts}
 use Rattle.eql_merge.specs.Fronts.{later_is_first, TakesFrom, TakesFirst}
 
 module _ {X : Type 0} (R : X → X → Ordering) where
@@ -29,17 +29,17 @@ module _ {X : Type 0} (R : X → X → Ordering) where
   pub record MergesOn (whole merged left right : List X) : Type 0 where
     pub left_ascends : Ascends R (merged ++ left)
     pub right_ascends : Ascends R (merged ++ right)
-    pub apart : NoTie R left right
-    pub firsts : SameFirsts R whole (merged ++ (left ++ right))
+    pub apart : HaveNoTie R left right
+    pub firsts : HaveSameFirsts R whole (merged ++ (left ++ right))
 
   pub find_front : (test : X → Bool) (m xs ys : List X) → find test xs ≡ find test ys → find test (m ++ xs) ≡ find test (m ++ ys)
   find_front test [] xs ys e = e
   find_front test (x ∷ m) xs ys e = ap (λ (o : Option X). cond (test x) (Some x) o) (find_front test m xs ys e)
 
-  pub begin : (left right : List X) → Ascends R left → Ascends R right → NoTie R left right → MergesOn (left ++ right) [] left right
+  pub begin : (left right : List X) → Ascends R left → Ascends R right → HaveNoTie R left right → MergesOn (left ++ right) [] left right
   begin left right p q apart = record { left_ascends = p; right_ascends = q; apart = apart; firsts = λ test one. refl }
 
-  pub ended : (whole merged : List X) → MergesOn whole merged [] [] → Ascends R merged × SameFirsts R whole merged
+  pub ended : (whole merged : List X) → MergesOn whole merged [] [] → Ascends R merged × HaveSameFirsts R whole merged
   ended whole merged on = (
     subst (Ascends R) (append-nil merged) on.left_ascends,
     λ test one. on.firsts test one ∙ ap (find test) (append-nil merged),
@@ -61,14 +61,14 @@ module _ {X : Type 0} (R : X → X → Ordering) where
   pub one_on : (m : List X) (x : X) (l : List X) → m ++ x ∷ l ≡ (m ++ x ∷ []) ++ l
   one_on m x l = sym (append_assoc m (x ∷ []) l)
 
-  pub no_tie_tail : (x : X) (l r : List X) → NoTie R (x ∷ l) r → NoTie R l r
+  pub no_tie_tail : (x : X) (l r : List X) → HaveNoTie R (x ∷ l) r → HaveNoTie R l r
   no_tie_tail x l r apart k there = apart k (pass (eq_by_cmp R k x) (has_key R (λ (y : X). y) k l) there)
     where
       pass : (a b : Bool) → b ≡ true → (a || b) ≡ true
       pass true b e = refl
       pass false b e = e
 
-  no_tie_right : (l : List X) (x : X) (r : List X) → NoTie R l (x ∷ r) → NoTie R l r
+  no_tie_right : (l : List X) (x : X) (r : List X) → HaveNoTie R l (x ∷ r) → HaveNoTie R l r
   no_tie_right l x r apart k there = (any_false (eq_by_cmp R k x) (has_key R (λ (y : X). y) k r) (apart k there)).1
 
   module _ (total : IsTotalOrder R) where
@@ -92,7 +92,7 @@ module _ {X : Type 0} (R : X → X → Ordering) where
     later_first (a ∷ l) x r up least = let lt = is_less (R x a) least in (lt, first_on x a l lt up.0)
 
     -- and that of the earlier list before the later one
-    pub earlier_first : (x : X) (l r : List X) → Ascends R r → NoTie R (x ∷ l) r → later_is_first R (x ∷ l) r ≡ false → StandsFirst R x r
+    pub earlier_first : (x : X) (l r : List X) → Ascends R r → HaveNoTie R (x ∷ l) r → later_is_first R (x ∷ l) r ≡ false → StandsFirst R x r
     earlier_first x l [] up apart least = tt
     earlier_first x l (b ∷ r) up apart least =
         let here : has_key R (λ (y : X). y) x (x ∷ l) ≡ true = ap (λ (c : Bool). c || has_key R (λ (y : X). y) x l) ((eq_by_cmp_equiv total).refl x) in

@@ -12,8 +12,8 @@ use Rattle.std.proofs.lemmas.List.Elements.{All-nil, All-cons, All-head, All-tai
 use Rattle.eql_values.specs.Ordered.{found_or}
 use Rattle.eql_laws.specs.Apart.{joined, has_key}
 use Rattle.eql_laws.proofs.Facts.{is_equal}
-use Rattle.eql_merge.specs.Ranks.{Ascends, NoTie, NoTies, IsOfOneRank, SameFirsts}
-use Rattle.eql_laws.specs.Apart.{NoKeyInOthers}
+use Rattle.eql_merge.specs.Ranks.{Ascends, HaveNoTie, HaveNoTies, IsOfOneRank, HaveSameFirsts}
+use Rattle.eql_laws.specs.Apart.{SharesNoKey}
 
 pub joined-append : {X : Type 0} (a b : List (List X)) → joined (a ++ b) ≡ joined a ++ joined b
 joined-append [] b = refl
@@ -24,7 +24,7 @@ module _ {X : Type 0} (R : X → X → Ordering) where
   has = has_key R (λ (x : X). x)
 
   abbrev pub NoTieWith : List X → List (List X) → Type 0
-  NoTieWith = NoKeyInOthers R (λ (x : X). x)
+  NoTieWith = SharesNoKey R (λ (x : X). x)
 
   pub has-append : (k : X) (a b : List X) → has k (a ++ b) ≡ (has k a || has k b)
   has-append k a b = list_any-append (λ (x : X). eq_by_cmp R k x) a b
@@ -34,7 +34,7 @@ module _ {X : Type 0} (R : X → X → Ordering) where
   neither false b e f = f
 
   -- a list apart from each of several is apart from them joined
-  pub apart_joined : (a : List X) (b : List (List X)) → NoTieWith a b → NoTie R a (joined b)
+  pub apart_joined : (a : List X) (b : List (List X)) → NoTieWith a b → HaveNoTie R a (joined b)
   apart_joined a [] h k e = refl
   apart_joined a (xs ∷ b) h k e = has-append k xs (joined b) ∙ neither (has k xs) (has k (joined b)) (h.0 k e) (apart_joined a b h.1 k e)
 
@@ -42,7 +42,7 @@ module _ {X : Type 0} (R : X → X → Ordering) where
   apart_parts a [] c h = (tt, h)
   apart_parts a (xs ∷ b) c h = let rest = apart_parts a b c h.1 in ((h.0, rest.0), rest.1)
 
-  either_list : (xs : List X) (a b : List (List X)) → NoTie R xs (joined b) → NoTie R (joined a) (joined b) → NoTie R (joined (xs ∷ a)) (joined b)
+  either_list : (xs : List X) (a b : List (List X)) → HaveNoTie R xs (joined b) → HaveNoTie R (joined a) (joined b) → HaveNoTie R (joined (xs ∷ a)) (joined b)
   either_list xs a b h g k e = go (has k xs) refl
     where
       go : (c : Bool) → has k xs ≡ c → has k (joined b) ≡ false
@@ -50,11 +50,11 @@ module _ {X : Type 0} (R : X → X → Ordering) where
       go false is = g k (ap (λ (d : Bool). d || has k (joined a)) (sym is) ∙ sym (has-append k xs (joined a)) ∙ e)
 
   pub record AreApart (a b : List (List X)) : Type 0 where
-    pub earlier : NoTies R a
-    pub later : NoTies R b
-    pub both : NoTie R (joined a) (joined b)
+    pub earlier : HaveNoTies R a
+    pub later : HaveNoTies R b
+    pub both : HaveNoTie R (joined a) (joined b)
 
-  pub split_apart : (a b : List (List X)) → NoTies R (a ++ b) → AreApart a b
+  pub split_apart : (a b : List (List X)) → HaveNoTies R (a ++ b) → AreApart a b
   split_apart [] b h = record { earlier = tt; later = h; both = λ k e. cc }
   split_apart (xs ∷ a) b h =
       let rest = split_apart a b h.1 in
@@ -74,13 +74,13 @@ module _ {X : Type 0} (R : X → X → Ordering) where
     pub later_ascend : All (Ascends R) (drop n lists)
     pub apart : AreApart (take n lists) (drop n lists)
 
-  pub parts_stand : (n : ℕ) (lists : List (List X)) → All (Ascends R) lists → NoTies R lists → PartsStand n lists
+  pub parts_stand : (n : ℕ) (lists : List (List X)) → All (Ascends R) lists → HaveNoTies R lists → PartsStand n lists
   parts_stand n lists up h =
       let whole : All (Ascends R) (take n lists ++ drop n lists) = subst (All (Ascends R)) (sym (take-append-drop n lists)) up in
       record {
         earlier_ascend = all_first (take n lists) (drop n lists) whole;
         later_ascend = all_last (take n lists) (drop n lists) whole;
-        apart = split_apart (take n lists) (drop n lists) (subst (NoTies R) (sym (take-append-drop n lists)) h);
+        apart = split_apart (take n lists) (drop n lists) (subst (HaveNoTies R) (sym (take-append-drop n lists)) h);
       }
 
   -- what is found in two lists
@@ -109,8 +109,8 @@ module _ {X : Type 0} (R : X → X → Ordering) where
         one true e = refl
         one false e = e
 
-    same_ranks : (k : X) (xs ys : List X) → SameFirsts R xs ys → has k ys ≡ has k xs
+    same_ranks : (k : X) (xs ys : List X) → HaveSameFirsts R xs ys → has k ys ≡ has k xs
     same_ranks k xs ys same = has_found k ys ∙ ap is_some (sym (same (λ (x : X). eq_by_cmp R k x) (of_rank k))) ∙ sym (has_found k xs)
 
-    pub merged_apart : (a b earlier later : List X) → NoTie R a b → SameFirsts R a earlier → SameFirsts R b later → NoTie R earlier later
+    pub merged_apart : (a b earlier later : List X) → HaveNoTie R a b → HaveSameFirsts R a earlier → HaveSameFirsts R b later → HaveNoTie R earlier later
     merged_apart a b earlier later apart p q k there = same_ranks k b later q ∙ apart k (sym (same_ranks k a earlier p) ∙ there)

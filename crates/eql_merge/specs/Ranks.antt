@@ -12,7 +12,7 @@ use Rattle.eql_values.specs.declared.found.Holder.{Holder}
 use Rattle.eql_values.specs.Matching.{Slot, slot_cmp}
 use Rattle.eql_values.specs.OrderKeys.{order_cmp}
 use Rattle.eql_values.specs.Totals.{order_cmp_total, slot_cmp_total}
-use Rattle.eql_laws.specs.Apart.{place_of, ending_of, NoKeyInBoth, NoKeyTwice}
+use Rattle.eql_laws.specs.Apart.{place_of, ending_of, ShareNoKey, RepeatNoKey}
 use Rattle.eql_laws.specs.Merging.{ending_cmp}
 use Rattle.eql_laws.specs.Totals.{ending_cmp_total}
 
@@ -28,20 +28,20 @@ module _ {X : Type 0} (R : X → X → Ordering) where
   Ascends (x ∷ xs) = StandsFirst x xs × Ascends xs
 
   -- no value of the one list has the rank of one of the other
-  abbrev pub NoTie : List X → List X → Type 0
-  NoTie = NoKeyInBoth R (λ x. x)
+  abbrev pub HaveNoTie : List X → List X → Type 0
+  HaveNoTie = ShareNoKey R (λ x. x)
 
   -- no rank is in two of the lists
-  abbrev pub NoTies : List (List X) → Type 0
-  NoTies = NoKeyTwice R (λ x. x)
+  abbrev pub HaveNoTies : List (List X) → Type 0
+  HaveNoTies = RepeatNoKey R (λ x. x)
 
   -- a test that values of one rank alone pass
   abbrev pub IsOfOneRank : (X → Bool) → Type 0
   IsOfOneRank test = (x y : X) → test x ≡ true → test y ≡ true → R x y ≡ Equal
 
   -- of each rank the lists have the same first value
-  abbrev pub SameFirsts : List X → List X → Type 0
-  SameFirsts xs ys = (test : X → Bool) → IsOfOneRank test → find test xs ≡ find test ys
+  abbrev pub HaveSameFirsts : List X → List X → Type 0
+  HaveSameFirsts xs ys = (test : X → Bool) → IsOfOneRank test → find test xs ≡ find test ys
 
 -- events by their places
 abbrev pub item_rank : Item → Item → Ordering
@@ -69,5 +69,5 @@ pub holder_rank_total : IsTotalOrder holder_rank
 holder_rank_total = on_total slot_of slot_cmp_total
 
 -- no key and stage is in two of the lists
-abbrev pub HoldersApart : List (List Holder) → Type 0
-HoldersApart = NoKeyTwice slot_cmp slot_of
+abbrev pub HoldersAreApart : List (List Holder) → Type 0
+HoldersAreApart = RepeatNoKey slot_cmp slot_of

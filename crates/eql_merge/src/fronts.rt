@@ -7,7 +7,7 @@ ghost use Rattle.std.specs.List.{IsDistinct};
 ghost use Rattle.std.specs.Option.{option_to_list};
 ghost use Rattle.std.specs.Ordering.{eq_by_cmp};
 ghost use Rattle.eql_laws.specs.Apart.{joined};
-ghost use Rattle.eql_merge.specs.Ranks.{Ascends, NoTies, SameFirsts};
+ghost use Rattle.eql_merge.specs.Ranks.{Ascends, HaveNoTies, HaveSameFirsts};
 
 use crate::pair::is_later_first;
 use crate::ranked::Ranked;
@@ -72,7 +72,7 @@ fn in_front_order<T: Ranked>(
 }
 
 /// Takes the first value of a list, if it has one, and puts the list to its place among the others.
-fn take_first<T: Ranked>(
+fn take_of_front<T: Ranked>(
     fronts: &mut VecDeque<Front<T>>,
     front: Front<T>,
 ) -> Result<Option<T>, Memory>
@@ -91,7 +91,7 @@ fn take_first<T: Ranked>(
     }
 }
 
-/// Adds a value at the end, and answers whether it comes behind the one in front of it.
+/// Adds a value at the end, and returns whether it comes behind the one in front of it.
 fn add<T: Ranked>(merged: &mut Vec<T>, value: T) -> Result<bool, Memory>
     ensures items { OnOk result (merged.new.items ≡ merged.old.items ++ value ∷ []) }
     ensures order { IfOk result (λ follows. follows ≡ true
@@ -142,15 +142,15 @@ fn room_for<T: Ranked>(lists: &VecDeque<Run<T>>) -> usize {
 /// All values of the lists, in order.
 pub fn merge_fronts<T: Ranked>(alloc: Global, lists: VecDeque<Run<T>>) -> Result<Vec<T>, Memory>
     requires ascend { All (Ascends T.rank) lists.items }
-    requires apart { NoTies T.rank lists.items }
+    requires apart { HaveNoTies T.rank lists.items }
     ensures ascends { IfOk result (λ all. Ascends T.rank all.items) }
-    ensures all { IfOk result (λ all. SameFirsts T.rank (joined lists.items) all.items) }
+    ensures all { IfOk result (λ all. HaveSameFirsts T.rank (joined lists.items) all.items) }
 {
     let mut merged = Vec::with_capacity(alloc, room_for(&lists))?;
     let mut fronts = in_front_order(alloc, lists)?;
     let mut in_order = true;
     while let Some(front) = fronts.pop_front() {
-        if let Some(value) = take_first(&mut fronts, front)? {
+        if let Some(value) = take_of_front(&mut fronts, front)? {
             in_order &= add(&mut merged, value)?;
         }
     }

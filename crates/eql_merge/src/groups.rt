@@ -1,7 +1,7 @@
 //! The merge of many lists that ascend: up to sixteen of them at once.
 ghost use Rattle.std.specs.Prelude.{◌≡◌, ◌≤◌, ◌<◌, All, IfOk, IfSome, length};
 ghost use Rattle.eql_laws.specs.Apart.{joined};
-ghost use Rattle.eql_merge.specs.Ranks.{Ascends, NoTies, SameFirsts};
+ghost use Rattle.eql_merge.specs.Ranks.{Ascends, HaveNoTies, HaveSameFirsts};
 
 use crate::fronts::merge_fronts;
 use crate::pair::merge_pair;
@@ -20,9 +20,9 @@ const MOST: usize = 16;
 /// All values of the lists, in order, each moved once. A list alone stays as it is.
 fn merge_at_once<T: Ranked>(alloc: Global, mut lists: VecDeque<Run<T>>) -> Result<Vec<T>, Memory>
     requires ascend { All (Ascends T.rank) lists.items }
-    requires apart { NoTies T.rank lists.items }
+    requires apart { HaveNoTies T.rank lists.items }
     ensures ascends { IfOk result (λ all. Ascends T.rank all.items) }
-    ensures all { IfOk result (λ all. SameFirsts T.rank (joined lists.items) all.items) }
+    ensures all { IfOk result (λ all. HaveSameFirsts T.rank (joined lists.items) all.items) }
 {
     if 2 < lists.len() {
         return merge_fronts(alloc, lists);
@@ -57,12 +57,12 @@ fn merge_first<T: Ranked>(
     requires from { 2 ≤ first }
     requires to { first ≤ length lists.items }
     requires ascend { All (Ascends T.rank) lists.items }
-    requires apart { NoTies T.rank lists.items }
+    requires apart { HaveNoTies T.rank lists.items }
     ensures fewer { IfOk result (λ rest. length rest.items < length lists.items) }
     ensures ascend { IfOk result (λ rest. All (Ascends T.rank) rest.items) }
-    ensures apart { IfOk result (λ rest. NoTies T.rank rest.items) }
+    ensures apart { IfOk result (λ rest. HaveNoTies T.rank rest.items) }
     ensures all { IfOk result (λ rest.
-        SameFirsts T.rank (joined lists.items) (joined rest.items)) }
+        HaveSameFirsts T.rank (joined lists.items) (joined rest.items)) }
 {
     let mut rest = lists.split_off(first)?;
     let merged = merge_at_once(alloc, lists)?;
@@ -74,9 +74,9 @@ fn merge_first<T: Ranked>(
 /// moved once in each.
 pub fn merge_all<T: Ranked>(alloc: Global, mut lists: VecDeque<Run<T>>) -> Result<Vec<T>, Memory>
     requires ascend { All (Ascends T.rank) lists.items }
-    requires apart { NoTies T.rank lists.items }
+    requires apart { HaveNoTies T.rank lists.items }
     ensures ascends { IfOk result (λ all. Ascends T.rank all.items) }
-    ensures all { IfOk result (λ all. SameFirsts T.rank (joined lists.items) all.items) }
+    ensures all { IfOk result (λ all. HaveSameFirsts T.rank (joined lists.items) all.items) }
 {
     while let Some(first) = first_group(lists.len()) {
         lists = merge_first(alloc, lists, first)?;

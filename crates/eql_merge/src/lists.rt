@@ -2,10 +2,10 @@
 ghost use Rattle.std.specs.Prelude.{◌≡◌, All, IfOk};
 ghost use Rattle.eql_values.specs.Accepted.{sorted_items};
 ghost use Rattle.eql_values.specs.Ascending.{Ascend};
-ghost use Rattle.eql_laws.specs.Alive.{HoldersInOrder};
-ghost use Rattle.eql_laws.specs.Apart.{AllApart, joined, InMatchOrder, MatchesApart};
+ghost use Rattle.eql_laws.specs.Alive.{HoldersAreInOrder};
+ghost use Rattle.eql_laws.specs.Apart.{AllAreApart, joined, AreInMatchOrder, MatchesAreApart};
 ghost use Rattle.eql_laws.specs.Merging.{in_match_order, in_slot_order};
-ghost use Rattle.eql_merge.specs.Ranks.{HoldersApart};
+ghost use Rattle.eql_merge.specs.Ranks.{HoldersAreApart};
 
 use crate::groups::merge_all;
 use crate::run::Run;
@@ -48,11 +48,11 @@ fn holder_runs(alloc: Global, lists: Vec<Holders>) -> Result<VecDeque<Run<Holder
 }
 
 /// All events of the lists, in ascending order. Each list ascends, and no two have an event at the same place of
-/// the order. For n events in k lists the answer takes about n comparisons, or n times log k where many times are equal, and
+/// the order. For n events in k lists the call takes about n comparisons, or n times log k where many times are equal, and
 /// moves each event without copying it. The one error is want of memory.
 pub fn merge(alloc: Global, lists: ItemLists) -> Result<Items, Memory>
     requires ascend { All Ascend lists }
-    requires apart { AllApart lists }
+    requires apart { AllAreApart lists }
     ensures sorted { IfOk result (λ all. all ≡ sorted_items (joined lists)) }
     ensures ascends { IfOk result Ascend }
 {
@@ -65,10 +65,10 @@ pub fn merge(alloc: Global, lists: ItemLists) -> Result<Items, Memory>
 /// All matches of the lists, by last event and then by key. Each list stands in that order, and no two have a match
 /// with the same last event and key. It takes as many steps as `merge`, and its one error is want of memory.
 pub fn merge_matches(alloc: Global, lists: Vec<Matches>) -> Result<Matches, Memory>
-    requires in_order { All InMatchOrder lists.items }
-    requires apart { MatchesApart lists.items }
+    requires in_order { All AreInMatchOrder lists.items }
+    requires apart { MatchesAreApart lists.items }
     ensures sorted { IfOk result (λ all. all ≡ in_match_order (joined lists.items)) }
-    ensures in_order { IfOk result InMatchOrder }
+    ensures in_order { IfOk result AreInMatchOrder }
 {
     let runs = match_runs(alloc, lists)?;
     let all = merge_all(alloc, runs)?;
@@ -78,10 +78,10 @@ pub fn merge_matches(alloc: Global, lists: Vec<Matches>) -> Result<Matches, Memo
 /// All pending sequences of the lists, by key and then by stage. Each list stands in that order, and no two have a
 /// sequence with the same key and stage. It takes as many steps as `merge`, and its one error is want of memory.
 pub fn merge_holders(alloc: Global, lists: Vec<Holders>) -> Result<Holders, Memory>
-    requires in_order { All HoldersInOrder lists.items }
-    requires apart { HoldersApart lists.items }
+    requires in_order { All HoldersAreInOrder lists.items }
+    requires apart { HoldersAreApart lists.items }
     ensures sorted { IfOk result (λ all. all ≡ in_slot_order (joined lists.items)) }
-    ensures in_order { IfOk result HoldersInOrder }
+    ensures in_order { IfOk result HoldersAreInOrder }
 {
     let runs = holder_runs(alloc, lists)?;
     let all = merge_all(alloc, runs)?;

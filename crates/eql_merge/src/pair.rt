@@ -1,6 +1,6 @@
 //! The merge of two lists that ascend.
 ghost use Rattle.std.specs.Prelude.{◌≡◌, ◌++◌, [], IfNone, IfSome, IfOk};
-ghost use Rattle.eql_merge.specs.Ranks.{Ascends, NoTie, SameFirsts};
+ghost use Rattle.eql_merge.specs.Ranks.{Ascends, HaveNoTie, HaveSameFirsts};
 ghost use Rattle.eql_merge.specs.Fronts.{later_is_first, TakesFirst};
 
 use crate::ranked::Ranked;
@@ -40,9 +40,9 @@ pub fn merge_pair<T: Ranked>(
 ) -> Result<Vec<T>, Memory>
     requires earlier_ascends { Ascends T.rank earlier }
     requires later_ascends { Ascends T.rank later }
-    requires apart { NoTie T.rank earlier later }
+    requires apart { HaveNoTie T.rank earlier later }
     ensures ascends { IfOk result (λ all. Ascends T.rank all.items) }
-    ensures all { IfOk result (λ all. SameFirsts T.rank (earlier ++ later) all.items) }
+    ensures all { IfOk result (λ all. HaveSameFirsts T.rank (earlier ++ later) all.items) }
 {
     let mut merged = Vec::with_capacity(alloc, earlier.len().saturating_add(later.len()))?;
     while let Some(value) = take_first(&mut earlier, &mut later) {

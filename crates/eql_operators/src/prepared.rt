@@ -81,7 +81,7 @@ pub fn addresses_in(alloc: Global, list: &Literals) -> Result<Addresses, Memory>
     Ok(Addresses { items })
 }
 
-fn lies_in(ip: u32, blocks: &[Block]) -> bool
+fn lies_in_blocks(ip: u32, blocks: &[Block]) -> bool
     ensures { result ≡ list_any (in_block ip) blocks.now }
 {
     blocks.iter().any(|block| in_block(ip, *block))
@@ -92,7 +92,7 @@ pub fn is_in_blocks(value: &Value, blocks: &Blocks) -> Value
     ensures { result ≡ p.is_in_blocks value.now blocks.now }
 {
     match address(value) {
-        Some(ip) => Value::Bool(lies_in(ip, &blocks.items)),
+        Some(ip) => Value::Bool(lies_in_blocks(ip, &blocks.items)),
         None => Value::Null,
     }
 }

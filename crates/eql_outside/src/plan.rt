@@ -53,7 +53,7 @@ impl PlannedFaults {
         })
     }
 
-    /// Numbers one more call, and answers whether it is planned to fail.
+    /// Numbers one more call, and returns whether it is planned to fail.
     pub(crate) fn next(&mut self) -> bool
         ensures planned { IsTrue result ↔ FailsNext (plan_of self.old) }
         ensures numbered { plan_of self.new ≡ called (plan_of self.old) }

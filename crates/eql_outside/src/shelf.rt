@@ -1,7 +1,7 @@
 //! What a shelf is: where files stand under their names.
 ghost use Rattle.std.specs.Prelude.{◌≡◌, ◌≢◌, ◌≤◌, ◌<◌, ◌↔◌, ◌+◌, ◌-◌, ℕ, Bool, true, false, List, Option, Some, None, Ok, Err, IfOk, IfSome, IsErr, IsNone, IsSomeAnd, MatchOption, string_bytes};
 ghost use Rattle.eql_outside.specs.Outside.{Rose, file_named};
-ghost use Rattle.eql_outside.specs.Faults.{RoseFor, RoseUnder, SameFaults};
+ghost use Rattle.eql_outside.specs.Faults.{FaultsAreSame, RoseFor, RoseUnder};
 ghost use Rattle.eql_outside.specs.Moments.{History};
 ghost use Rattle.eql_outside.specs.Plans.{FaultPlan, unstarted, called, FailsNext};
 
@@ -55,7 +55,7 @@ pub trait Shelf {
     /// The names of the files, each with the numbers of the takes that fail, where the shelf tells.
     ghost source_plans: { Self → Option (List (List ℕ × List ℕ)) } = { λ _. None };
 
-    /// A source over the file of this name, from its first byte on. `None` comes exactly where no file has the
+    /// A source over the file of this name, from its first byte on. `None` comes exactly when no file has the
     /// name. The shelf keeps the file, so that its name may be asked for again.
     fn source(&mut self, alloc: Global, name: &String) -> Result<Option<Self::Src>, OutRefused>
         ensures found { IfOk result (λ o. IfSome (files self.old) (λ fs.
@@ -86,7 +86,7 @@ pub trait Shelf {
         ensures steady { result ≢ Err OutRefused.Failed
             → fault_count self.new ≡ fault_count self.old }
         ensures steady_named { result ≢ Err OutRefused.Failed
-            → SameFaults (faults_of self.old) (faults_of self.new) }
+            → FaultsAreSame (faults_of self.old) (faults_of self.new) }
         ensures absent { IfOk result (λ o. IsNone o
             → Rose (absent_count self.old) (absent_count self.new)) }
         ensures present { result ≢ Ok None → absent_count self.new ≡ absent_count self.old }
@@ -120,7 +120,7 @@ pub trait Shelf {
             → RoseUnder (Self.Src.lent_as src) (faults_of self.old) (faults_of self.new) }
         ensures same { Self.Src.fault_count src ≡ 0 → fault_count self.new ≡ fault_count self.old }
         ensures same_named { Self.Src.fault_count src ≡ 0
-            → SameFaults (faults_of self.old) (faults_of self.new) }
+            → FaultsAreSame (faults_of self.old) (faults_of self.new) }
         ensures counts { (fault_count self.old ≤ fault_count self.new)
             × (absent_count self.new ≡ absent_count self.old) }
         ensures numbered { fault_plan self.new ≡ fault_plan self.old }
@@ -141,7 +141,7 @@ pub trait Shelf {
             × (absent_count self.new ≡ absent_count self.old)
             × (source_plans self.new ≡ source_plans self.old)
             × (lent_count self.new ≡ lent_count self.old)
-            × SameFaults (faults_of self.old) (faults_of self.new) }
+            × FaultsAreSame (faults_of self.old) (faults_of self.new) }
 
         // The count of the disk's faults rises where the call fails, and nowhere else.
         ensures cause { result ≡ Err OutRefused.Failed
@@ -167,7 +167,7 @@ pub trait Shelf {
             × (absent_count self.new ≡ absent_count self.old)
             × (source_plans self.new ≡ source_plans self.old)
             × (lent_count self.new ≡ lent_count self.old)
-            × SameFaults (faults_of self.old) (faults_of self.new) }
+            × FaultsAreSame (faults_of self.old) (faults_of self.new) }
         ensures raised { 0 < Self.Dsk.fault_count disk
             → Rose (disk_fault_count self.old) (disk_fault_count self.new) }
         ensures same { Self.Dsk.fault_count disk ≡ 0

@@ -25,7 +25,7 @@ pub trait Source {
     /// Which takes fail, where the source tells.
     ghost fault_plan: { Self → Option FaultPlan } = { λ _. None };
 
-    /// Takes the next bytes, puts them at the front of the buffer, and answers how many they are. None for a
+    /// Takes the next bytes, puts them at the front of the buffer, and returns how many they are. None for a
     /// buffer that isn't empty is exactly the end. A failed call takes nothing. Behind the bytes that were put
     /// there, and after a failure, what stands in the buffer is open.
     fn take(&mut self, into: &mut [u8]) -> Result<usize, Failed>

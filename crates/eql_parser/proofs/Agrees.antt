@@ -1,5 +1,5 @@
--- Two runs of the descent, over tokens that begin alike and end in x and in y: what the first answers before its end rests on what they share,
--- so the second answers the same there, or refuses where the first does.
+-- Two runs of the descent, over tokens that begin alike and end in x and in y: what the first returns before its end rests on what they share,
+-- so the second returns the same there, or refuses where the first does.
 use Rattle.std.proofs.Common.{◌≡◌, ℕ, zero, suc, ◌-◌, ◌<◌, ◌≤◌, nat_lt, Bool, true, false, if◌then◌else◌, ◌⊎◌, inl, inr, List, [], ◌∷◌, ◌++◌, length, Option, Some, None, Ok, Err, refl, sym, ap, subst, arith, length-append, codes}
 use Rattle.std.specs.Prelude.{neg_ℤ}
 use Rattle.eql_values.specs.declared.value.Value.TheVariants as value
@@ -57,12 +57,12 @@ short_if l false r s h k = k
 pub short_call : (w : List ℕ) (place : ℕ) (es : List Tree) (us : List Kind) → Short (length us) (call_of w place es us)
 short_call w place es us = short_if (length us) (is_left_out_call w (trees_of es)) (Err (LeftOut (codes "number") place)) (Ok (t.call w false (trees_of es), us)) (omega arith) (omega arith)
 
--- no tree is answered
+-- no tree is returned
 abbrev pub Refuses : {A : Type 0} → Res A → Type 0
 Refuses (Ok p) = ⊥
 Refuses (Err e) = Unit {0}
 
--- no tree is answered, and no limit is passed
+-- no tree is returned, and no limit is passed
 abbrev pub Rejects : {A : Type 0} → Res A → Type 0
 Rejects (Ok p) = ⊥
 Rejects (Err (Syntax n)) = Unit {0}

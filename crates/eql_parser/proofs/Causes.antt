@@ -1,10 +1,10 @@
--- The cause of each refusal, and that every query within the limits is answered.
+-- The cause of each refusal, and that every query within the limits is returned.
 use Rattle.std.proofs.Common.{◌≡◌, ℕ, suc, ◌<◌, ◌≤◌, max, inl, inr, ⊎_elim, List, [], ◌∷◌, ◌++◌, length, Ok, Err, refl, sym, ap, subst, ◌∙◌, arith, length-append, append_assoc, append-nil, codes}
 use Rattle.eql_lexer.specs.declared.token.Token.{Token}
 use Rattle.eql_query.specs.QueryTree.{QueryTree}
 use Rattle.eql_parser.specs.Kinds.{Kind, kind, kinds, any_, assign_, bar_, close_item_, folding, matches, name, null_, number, open_, open_item_, where_, with_}
 use Rattle.eql_parser.specs.QueryGrammar.{Reads, IsQuery}
-use Rattle.eql_parser.specs.Limits.{levels, levels_but, open_behind, FewOpen}
+use Rattle.eql_parser.specs.Limits.{levels, levels_but, open_behind, FewAreOpen}
 use Rattle.eql_parser.specs.Refusing.{Begins, BeginsWithin, NoQueryBegins, IsDeeperThan, SplitsAt, IsLeftOut, samples, joins, missing_event, regex, folding_regex, fine_unit, other_pipe, number_with_base, end_of, LeavesOut, IsPlainSyntax, IsTooDeep}
 use Rattle.eql_parser.specs.Reading.{Fail, Syntax, LeftOut, TooDeep, TooOpen, Res, expr}
 use Rattle.eql_parser.specs.QueryReading.{query, query_by}
@@ -129,7 +129,7 @@ one_left_out ts w v n m s r =
 deep_at : (y : List Kind) (r : Res QueryTree) (n : ℕ) → r ≡ Err (TooDeep n) → DeepBefore y r → length y < n
 deep_at y r n e h = subst (DeepBefore y) e h
 
--- where a level too many begins in m, no query is answered that begins with it, and none is refused behind it
+-- where a level too many begins in m, no query is returned that begins with it, and none is refused behind it
 not_reached : (m x y : List Kind) (n : ℕ) (q : QueryTree) → query (m ++ x) ≡ Err (TooDeep n) → length x < n → Reaches (length y) (λ d. query_by (expr d 64) (m ++ y)) (q, []) → ⊥
 not_reached m x y n q h i (inl all) =
     let d : ℕ = max 128 all.0 in
@@ -160,7 +160,7 @@ answers_it ts q (Err (TooOpen n)) s e f i read few calm =
     let cut : ts ≡ (place.0 ++ open_ ∷ []) ++ place.1 = place.2 ∙ sym (append_assoc place.0 (open_ ∷ []) place.1) in
     absurd (omega (arith, place.4, calm (place.0 ++ open_ ∷ []) place.1 cut))
 
--- a query within the limits is answered
+-- a query within the limits is returned
 pub answered : (ts : List Kind) (q : QueryTree) → Reads ts q → levels q ≤ 64 → ((before behind : List Kind) → ts ≡ before ++ behind → open_behind 0 before ≤ 128) → query ts ≡ Ok (q, [])
 answered ts q read few calm =
     let all = query_complete ts q read few in
@@ -247,11 +247,11 @@ module _ (tokens before behind : List Token) (here : Token) (whole : tokens ≡ 
       let same = same_cut b.front (kinds before) b.behind (kinds (here ∷ behind)) (sym b.cut ∙ kinds_cut) (b.count ∙ p ∙ ap suc (sym (kinds_length behind))) in
       subst (BeginsWithin 64) same.0 b.begins
 
-  few_before : (e : Fail) → place_of e ≡ suc (length behind) → query (kinds tokens) ≡ Err e → FewOpen 128 (kinds before)
+  few_before : (e : Fail) → place_of e ≡ suc (length behind) → query (kinds tokens) ≡ Err e → FewAreOpen 128 (kinds before)
   few_before e p h =
       let u = few_upto (kinds tokens) e h in
       let same = same_cut u.0 (kinds before) u.1 (kinds (here ∷ behind)) (sym u.2 ∙ kinds_cut) (u.3 ∙ p ∙ ap suc (sym (kinds_length behind))) in
-      subst (FewOpen 128) same.0 u.4
+      subst (FewAreOpen 128) same.0 u.4
 
   pub syntax_cause : query (kinds tokens) ≡ Err (Syntax (suc (length behind))) → IsPlainSyntax tokens here.start
   syntax_cause h = (
@@ -265,7 +265,7 @@ module _ (tokens before behind : List Token) (here : Token) (whole : tokens ≡ 
   )
 
   pub left_out_cause : (w : List ℕ) → query (kinds tokens) ≡ Err (LeftOut w (suc (length behind)))
-      → ((s : SplitsAt tokens here.start) × LeavesOut s w × BeginsWithin 64 (kinds s.before) × FewOpen 128 (kinds s.before)) × ((query : QueryTree) → IsQuery tokens query → ⊥)
+      → ((s : SplitsAt tokens here.start) × LeavesOut s w × BeginsWithin 64 (kinds s.before) × FewAreOpen 128 (kinds s.before)) × ((query : QueryTree) → IsQuery tokens query → ⊥)
   left_out_cause w h =
       let on = goes_on_there (LeftOut w (suc (length behind))) refl h in
       let e : Fail = LeftOut w (suc (length behind)) in
@@ -303,4 +303,4 @@ early_cause tokens h =
     let u = few_upto (kinds tokens) (Syntax 0) h in
     let all : u.0 ≡ kinds tokens = sym (u.2 ∙ ap (λ l. u.0 ++ l) (no_token u.1 u.3) ∙ append-nil u.0) in
     let whole : b.front ≡ kinds tokens = sym (b.cut ∙ ap (λ l. b.front ++ l) (no_token b.behind b.count) ∙ append-nil b.front) in
-    (inr (refl, subst (BeginsWithin 64) whole b.begins, none_read (kinds tokens) (Syntax 0) tt h, subst (FewOpen 128) all u.4), plain tokens 0 h)
+    (inr (refl, subst (BeginsWithin 64) whole b.begins, none_read (kinds tokens) (Syntax 0) tt h, subst (FewAreOpen 128) all u.4), plain tokens 0 h)

@@ -1,4 +1,4 @@
--- A query of the grammar is answered, with enough parentheses and levels allowed, and tokens are one query at most.
+-- A query of the grammar is returned, with enough parentheses and levels allowed, and tokens are one query at most.
 use Rattle.std.proofs.Common.{◌≡◌, ℕ, zero, suc, ◌<◌, ◌≤◌, max, inl, ℤ, pos, List, [], ◌∷◌, length, Option, Some, None, Ok, Err, refl, sym, ap, ◌∙◌, le_refl, arith}
 use Rattle.std.specs.Str.{bytes_eq}
 use Rattle.std.specs.Prelude.{codes}
@@ -289,7 +289,7 @@ query_all l ts x h i =
     reaches_now (λ d. query_by (expr d l) ts) (x, [])
     (query_reached (above_all ts) 0 l ts x h (late_never (above_all ts) ts (above_new ts)) (omega (arith, i, but_levels (above_all ts) x)))
 
--- A query of at most 64 levels is answered, with enough parentheses allowed.
+-- A query of at most 64 levels is returned, with enough parentheses allowed.
 pub query_complete : (ts : List Kind) (x : QueryTree) → Reads ts x → levels x ≤ 64 → (k : ℕ) × ((d : ℕ) → k ≤ d → query_by (expr d 64) ts ≡ Ok (x, []))
 query_complete ts x h i = query_all 64 ts x h i
 

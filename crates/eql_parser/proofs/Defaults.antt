@@ -1,4 +1,4 @@
--- What the descent answers where a piece is none of those that the code names.
+-- What the descent returns where a piece is none of those that the code names.
 use Rattle.std.proofs.Common.{◌≡◌, ℤ, suc, List, [], ◌∷◌, length, Err, refl, sym, ap, ◌∙◌}
 use Rattle.std.specs.Borrow.{Bor}
 use Rattle.eql_values.specs.declared.text.Text.{Text}

@@ -1,4 +1,4 @@
--- A condition of the grammar is answered, with enough parentheses and levels allowed.
+-- A condition of the grammar is returned, with enough parentheses and levels allowed.
 use Rattle.std.proofs.Common.{◌≡◌, ℕ, zero, suc, ◌-◌, ◌<◌, ◌≤◌, ◌==◌, ℤ, pos, negsuc, inl, inr, Bool, true, false, if◌then◌else◌, List, [], ◌∷◌, ◌++◌, length, Some, Ok, Err, refl, sym, ap, ◌∙◌, subst, le_refl, arith}
 use Rattle.eql_values.specs.declared.value.Value.{Value}
 use Rattle.eql_query.specs.declared.expr.FieldRef.{FieldRef}
@@ -180,7 +180,7 @@ unfolding expr
 expr_close zero l us = level_close false (λ _ vs. Err (Syntax (length vs))) l us
 expr_close (suc d) l us = level_close true (expr d) l us
 
--- what is answered, other than Syntax, where neither `not` nor `-` comes first
+-- what is returned, other than Syntax, where neither `not` nor `-` comes first
 neg_opens : (l : ℕ) (ts : List Kind) (x : Res Tree) → NoSyntax x → Eventually (λ d. r.pred true (expr d) l ts) x → Eventually (λ d. r.neg true (expr d) l ts) x
 unfolding r.neg
 neg_opens zero [] x is_other h = h
@@ -207,7 +207,7 @@ unary_reaches : (most l : ℕ) (ts : List Kind) (x : Tree × List Kind) → Reac
 unary_reaches most l ts x (inl h) = inl (unary_opens l ts (Ok x) tt h)
 unary_reaches most l ts x (inr (j, i, h)) = inr (j, i, unary_opens l ts (Err (TooDeep (suc j))) tt h)
 
--- what the list answers, other than Syntax, up to the parenthesis that closes
+-- what the list returns, other than Syntax, up to the parenthesis that closes
 arguments_open : (l : ℕ) (ts : List Kind) (x : Res (List Tree)) → NoSyntax x → Eventually (λ d. listed (expr d l) ts) x → Eventually (λ d. arguments true (expr d) l ts) (then_do x closing)
 unfolding separated
 arguments_open l (close_ ∷ us) x is_other h =

@@ -1,4 +1,4 @@
--- With more parentheses and more levels allowed a condition is answered the same, but where there was one too many.
+-- With more parentheses and more levels allowed a condition is returned the same, but where there was one too many.
 use Rattle.std.proofs.Common.{◌≡◌, ℕ, zero, suc, ◌-◌, ◌≤◌, Bool, true, false, if◌then◌else◌, nat_lt, List, [], ◌∷◌, length, Option, None, Some, Ok, Err, refl, sym, subst, ap, ltb-true, lt-ltb, arith}
 use Rattle.eql_query.specs.declared.expr.MathOp.{MathOp}
 use Rattle.eql_query.specs.declared.expr.MathOp.TheVariants.{Sub}

@@ -1,4 +1,4 @@
--- What the descent answers is in the grammar, and has no more levels than are allowed.
+-- What the descent returns is in the grammar, and has no more levels than are allowed.
 use Rattle.std.proofs.Common.{◌≡◌, ℕ, zero, suc, ◌-◌, ◌<◌, ◌≤◌, Bool, true, false, if◌then◌else◌, nat_lt, List, [], ◌∷◌, ◌++◌, length, Option, Some, None, Ok, Err, refl, subst, ltb-true, arith}
 use Rattle.eql_query.specs.declared.expr.FieldRef.{FieldRef}
 use Rattle.eql_query.specs.declared.expr.CmpOp.{CmpOp}
@@ -16,7 +16,7 @@ use Rattle.eql_parser.specs.Reading.{Fail, Syntax, Res, then_do, res_map, closin
 use Rattle.eql_parser.specs.Reading as r
 use Rattle.eql_parser.proofs.Rows.{Row, last_of, next_of, or_only, and_only, comma_only, row_listed, Within, row_operands}
 
--- what is answered is so
+-- what is returned is so
 abbrev pub Gives : {A : Type 0} → (A → List Kind → Type 0) → Res A → Type 0
 Gives P (Ok x) = P x.0 x.1
 Gives P (Err e) = Unit {0}
@@ -334,7 +334,7 @@ module _ (room : Bool) (inner : ℕ → List Kind → Res Tree) (good : (l : ℕ
       gives_then (Within IsConj l ts) (Within IsExpr l ts) (r.conj room inner l ts) (joined is_or t.or (r.conj room inner) l) (conj_good l ts)
       (joined_good by_or is_or t.or (r.conj room inner) IsConj IsExpr or_only (λ es. refl) conj_good (λ us e vs h. of_or h) (λ us e vs h. conj h) (λ us vs e es rest h i. any_of h i) l ts)
 
--- a condition that is answered is in the grammar, and has at most l levels
+-- a condition that is returned is in the grammar, and has at most l levels
 pub expr_good : (d l : ℕ) (ts : List Kind) → Gives (Within IsExpr l ts) (expr d l ts)
 unfolding expr
 expr_good zero l ts = level_good false (λ _ us. Err (Syntax (length us))) (λ _ us. tt) l ts

@@ -1,4 +1,4 @@
--- With more parentheses and more levels allowed a query is answered the same, but where there was one too many.
+-- With more parentheses and more levels allowed a query is returned the same, but where there was one too many.
 use Rattle.std.proofs.Common.{ℕ, zero, suc, ◌≤◌, pos, Bool, List, [], ◌∷◌, length, Option, None, Some, Err, refl}
 use Rattle.eql_query.specs.declared.expr.FieldRef.{FieldRef}
 use Rattle.eql_query.specs.declared.query.Span.{Span}

@@ -14,8 +14,8 @@ use Rattle.eql_lexer.specs.declared.token.Tok.TheVariants as tok
 use Rattle.eql_lexer.specs.declared.token.Token.{Token}
 use Rattle.eql_lexer.specs.Bytes.{is_letter, is_word}
 use Rattle.eql_lexer.specs.Blanks.{gap}
-use Rattle.eql_lexer.specs.Strings.{Content, closed, plain, escaped, triple, before_triple, quoted_name, name_behind, put, is_name}
-use Rattle.eql_lexer.specs.Spelling.{Lexeme, UpTo, Spells, RawString, LineString, word_more}
+use Rattle.eql_lexer.specs.Strings.{IsContent, closed, plain, escaped, triple, before_triple, quoted_name, name_behind, put, is_name}
+use Rattle.eql_lexer.specs.Spelling.{IsLexeme, AreTokensTo, Spells, IsRawString, IsLineString, word_more}
 use Rattle.eql_lexer.proofs.Utf8.{split_utf8, escape_utf8, escape_scalar, behind_utf8, raw_utf8, raw_cut}
 use Rattle.eql_lexer.proofs.Tails.{Tail, tail_here, tail_more, tail_on, gap_tail, lexeme_tail}
 use Rattle.eql_lexer.proofs.Places.{tail_utf8}
@@ -108,7 +108,7 @@ back out bs more u = subst IsUtf8 (append_assoc out bs more) u
 alone : (out : List ℕ) → IsUtf8 out → IsUtf8 (out ++ [])
 alone out u = subst IsUtf8 (sym (append-nil out)) u
 
-content_utf8 : (bs s rest out : List ℕ) → Content bs s rest → IsUtf8 (out ++ bs) → IsUtf8 (out ++ s)
+content_utf8 : (bs s rest out : List ℕ) → IsContent bs s rest → IsUtf8 (out ++ bs) → IsUtf8 (out ++ s)
 content_utf8 _ _ _ out (closed {b} {rest} e) u = alone out (split_utf8 out rest b (omega (arith, e)) u).0
 content_utf8 _ _ _ out (plain {b} {bs} {s} {rest} p k) u = back out (b ∷ []) s (content_utf8 bs s rest (out ++ b ∷ []) k (moved out bs b u))
 content_utf8 _ _ _ out (escaped {b} {c} {bs} {more} {s} {t} {rest} e h x k) u =
@@ -218,14 +218,14 @@ sign_good sign.Star = tt
 sign_good sign.Slash = tt
 sign_good sign.Percent = tt
 
-text_good : (b : ℕ) (bs s rest : List ℕ) → b < 128 → IsUtf8 (b ∷ bs) → ((triple (b ∷ bs) ≡ true) × RawString (drop 2 bs) s rest) ⊎ ((triple (b ∷ bs) ≡ false) × LineString bs s rest) → scalars s ≡ true
+text_good : (b : ℕ) (bs s rest : List ℕ) → b < 128 → IsUtf8 (b ∷ bs) → ((triple (b ∷ bs) ≡ true) × IsRawString (drop 2 bs) s rest) ⊎ ((triple (b ∷ bs) ≡ false) × IsLineString bs s rest) → scalars s ≡ true
 text_good b bs s rest small u (inl h) =
     let raw = raw_cut (drop 2 bs) (before_triple (drop 2 bs)) h.1.1 (raw_utf8 (b ∷ bs) bs b refl h.0 u) in
     subst (λ x. scalars x ≡ true) (sym h.1.0) (scalars-chars (take (before_triple (drop 2 bs)) (drop 2 bs)) raw)
 text_good b bs s rest small u (inr h) =
     subst (λ x. scalars x ≡ true) (sym h.1.2) (scalars-chars h.1.0 (content_utf8 bs h.1.0 rest [] h.1.1 (behind_utf8 b bs small u)))
 
-tok_good : (from : List ℕ) (t : Tok) (rest : List ℕ) → ((b : ℕ) (more : List ℕ) → from ≡ b ∷ more → b < 128 → IsUtf8 from) → Lexeme from t rest → GoodKind (kind t)
+tok_good : (from : List ℕ) (t : Tok) (rest : List ℕ) → ((b : ℕ) (more : List ℕ) → from ≡ b ∷ more → b < 128 → IsUtf8 from) → IsLexeme from t rest → GoodKind (kind t)
 tok_good [] t rest u h = absurd h
 tok_good (b ∷ bs) (tok.Word w) rest u h = subst (λ x. GoodKind (word_kind x)) (sym h.1) (word_good (b ∷ take (word_more bs) bs) (h.0, goes_taken bs))
 tok_good (b ∷ bs) (tok.Back w) rest u h =
@@ -239,11 +239,11 @@ tok_good (b ∷ bs) (tok.Str s) rest u h =
 tok_good (b ∷ bs) (tok.Num n) rest u h = subst IsCount (sym h.1) h.2
 tok_good (b ∷ bs) (tok.Sign x) rest u h = sign_good x
 
-lexeme_rest : (from : List ℕ) (t : Tok) (rest : List ℕ) → Lexeme from t rest → Tail from rest
+lexeme_rest : (from : List ℕ) (t : Tok) (rest : List ℕ) → IsLexeme from t rest → Tail from rest
 lexeme_rest [] t rest h = absurd h
 lexeme_rest (b ∷ bs) t rest h = tail_more b bs rest (lexeme_tail b bs t rest h)
 
-kinds_good : (text : List ℕ) (n : ℕ) (at : List ℕ) (ts : List Token) (stop : List ℕ) → IsUtf8 text → Tail text at → UpTo n at ts stop → GoodKinds (kinds ts)
+kinds_good : (text : List ℕ) (n : ℕ) (at : List ℕ) (ts : List Token) (stop : List ℕ) → IsUtf8 text → Tail text at → AreTokensTo n at ts stop → GoodKinds (kinds ts)
 kinds_good text n at [] stop u tail h = tt
 kinds_good text n at (t ∷ ts) stop u tail h =
     let here = tail_on text at (gap at) tail (gap_tail at) in (

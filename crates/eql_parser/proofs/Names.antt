@@ -8,7 +8,7 @@ use Rattle.eql_parser.specs.declared.parser.mark.Mark.TheVariants as m
 use Rattle.eql_parser.specs.Kinds.{Kind, kinds, dot_}
 use Rattle.eql_parser.specs.Grammar.{first_part}
 use Rattle.eql_parser.specs.Marks.{Lacks}
-use Rattle.eql_parser.specs.Pieces.{IsPart, NoPart}
+use Rattle.eql_parser.specs.Pieces.{BeginsNoPart, IsPart}
 use Rattle.eql_parser.specs.Reading.{Syntax, Res, dotted, behind_dot, dotted_part, named, named_by}
 use Rattle.eql_parser.proofs.Defaults.{length_kinds, refused_here}
 
@@ -23,7 +23,7 @@ one_turn : (n m : ℕ) (w : List ℕ) (ts us : List Kind) → n ≡ suc m → ts
 unfolding dotted
 one_turn n m w ts us e f = rw (e, f) refl
 
-no_part : (again : List ℕ → List Kind → Res (List ℕ)) (w : List ℕ) (us : List Token) → NoPart (kinds us) → behind_dot again w (kinds us) ≡ Err (Syntax (length us))
+no_part : (again : List ℕ → List Kind → Res (List ℕ)) (w : List ℕ) (us : List Token) → BeginsNoPart (kinds us) → behind_dot again w (kinds us) ≡ Err (Syntax (length us))
 no_part again w [] h = refl
 no_part again w (t ∷ us) h = ap (λ p. dotted_part again w p (kinds us)) h ∙ ap (λ n. Err (Syntax (suc n))) (length_kinds us)
 
@@ -31,7 +31,7 @@ one_more : (rest behind : List Token) → kinds rest ≡ dot_ ∷ kinds behind �
 one_more rest behind e = sym (length_kinds rest) ∙ ap length e ∙ ap suc (length_kinds behind)
 
 pub dot_refused : (n : ℕ) (w : List ℕ) (rest behind : List Token) (whole : Res (List ℕ)) → length rest ≤ n → dotted n w (kinds rest) ≡ whole → kinds rest ≡ dot_ ∷ kinds behind
-    → NoPart (kinds behind) → whole ≡ Err (Syntax (length behind))
+    → BeginsNoPart (kinds behind) → whole ≡ Err (Syntax (length behind))
 dot_refused n w rest behind whole l h e p =
     let long = one_more rest behind e in
     sym h ∙ one_turn n (n - 1) w (kinds rest) (kinds behind) (omega arith) e ∙ no_part (dotted (n - 1)) w behind p

@@ -2,7 +2,7 @@
 use Rattle.std.proofs.Common.{◌≡◌, ℕ, ◌<◌, ◌≤◌, ◌⊎◌, inl, inr, List, [], ◌∷◌, ◌++◌, length, sym, ap, subst, ◌∙◌, arith, length-append, append_assoc}
 use Rattle.eql_lexer.specs.declared.token.Token.{Token}
 use Rattle.eql_parser.specs.Kinds.{Kind, kind, kinds}
-use Rattle.eql_parser.specs.Limits.{FewOpen}
+use Rattle.eql_parser.specs.Limits.{FewAreOpen}
 use Rattle.eql_parser.specs.QueryGrammar.{Reads}
 use Rattle.eql_parser.specs.declared.refusal.ParseRefused.{ParseRefused}
 use Rattle.eql_parser.specs.declared.refusal.ParseRefused.TheVariants as refused
@@ -94,7 +94,7 @@ one_deep : (tokens : List Token) (at to : ℕ) → IsTooDeep tokens at → IsToo
 one_deep tokens at to a b = two_deep tokens at to a b (which (length a.0.before) (length b.0.before)) (which (length b.0.before) (length a.0.before))
 
 -- where no query goes on, no limit is passed
-stuck_or_deep : (tokens : List Token) (at to : ℕ) (s : SplitsAt tokens at) (r : SplitsAt tokens to) → NoQueryBegins (through s) → BeginsWithin 64 (kinds s.before) → FewOpen 128 (kinds s.before) → Begins (through r)
+stuck_or_deep : (tokens : List Token) (at to : ℕ) (s : SplitsAt tokens at) (r : SplitsAt tokens to) → NoQueryBegins (through s) → BeginsWithin 64 (kinds s.before) → FewAreOpen 128 (kinds s.before) → Begins (through r)
     → BeginsWithin 64 (kinds r.before) → PassesLimit (through r)
     → (length s.before < length r.before) ⊎ (length r.before ≤ length s.before) → (length r.before < length s.before) ⊎ (length s.before ≤ length r.before) → ⊥
 stuck_or_deep tokens at to s r n b f c v q (inl h) k =
@@ -103,7 +103,7 @@ stuck_or_deep tokens at to s r n b f c v q (inr h) (inl k) =
     none_passed (through r) (kinds s.before) (cut_front r.before s.before r.here s.here r.behind s.behind (sym r.whole ∙ s.whole) k) q b f
 stuck_or_deep tokens at to s r n b f c v q (inr h) (inr k) = n c.rest c.query (subst (λ l. Reads (l ++ c.rest) c.query) (same_through r s (omega (arith, h, k))) c.reads)
 
-stuck_there : (tokens : List Token) (at to : ℕ) (s : SplitsAt tokens at) → NoQueryBegins (through s) → BeginsWithin 64 (kinds s.before) → FewOpen 128 (kinds s.before) → IsTooDeep tokens to → ⊥
+stuck_there : (tokens : List Token) (at to : ℕ) (s : SplitsAt tokens at) → NoQueryBegins (through s) → BeginsWithin 64 (kinds s.before) → FewAreOpen 128 (kinds s.before) → IsTooDeep tokens to → ⊥
 stuck_there tokens at to s n b f (r, c, v, g, q) =
     stuck_or_deep tokens at to s r n b f c v q (which (length s.before) (length r.before)) (which (length r.before) (length s.before))
 

@@ -1,8 +1,8 @@
--- Where the descent stops at a parenthesis too many, and that a query that is answered has none.
+-- Where the descent stops at a parenthesis too many, and that a query that is returned has none.
 use Rattle.std.proofs.Common.{◌≡◌, ℕ, suc, ◌≤◌, List, [], ◌∷◌, ◌++◌, length, Ok, Err, sym, subst, ◌∙◌, ap, arith, append-nil}
 use Rattle.eql_query.specs.QueryTree.{QueryTree}
 use Rattle.eql_parser.specs.Kinds.{Kind, open_}
-use Rattle.eql_parser.specs.Limits.{open_behind, FewOpen}
+use Rattle.eql_parser.specs.Limits.{open_behind, FewAreOpen}
 use Rattle.eql_parser.specs.Reading.{Fail, Syntax, LeftOut, TooDeep, TooOpen, expr}
 use Rattle.eql_parser.specs.QueryReading.{query}
 use Rattle.eql_parser.proofs.Sound.{query_sound}
@@ -23,7 +23,7 @@ opened ts n e =
     let h = subst (λ r. Told 128 ts r) e (told_of ts) in
     (h.0, h.1, h.2, h.3, open_behind_both 0 h.0 (open_ ∷ []) ∙ ap suc (h.4 0))
 
--- an answered query has at most 128 open at each place
+-- a query that is returned has at most 128 open at each place
 pub opens_at_most : (ts : List Kind) (q : QueryTree) (rest : List Kind) → query ts ≡ Ok (q, rest) → (before behind : List Kind) → ts ≡ before ++ behind → open_behind 0 before ≤ 128
 opens_at_most ts q rest e before behind cut =
     let h = subst (λ r. Told 128 ts r) e (told_of ts) in
@@ -36,11 +36,11 @@ upto_of ts (LeftOut w n) h = h.1
 upto_of ts (TooDeep n) h = h.1
 upto_of ts (TooOpen n) h = (h.0, open_ ∷ h.1, h.2, h.3, h.5)
 
-under_few : (ks : List Kind) → Under 128 ks → FewOpen 128 ks
+under_few : (ks : List Kind) → Under 128 ks → FewAreOpen 128 ks
 under_few ks u before behind cut = open_to_front 128 0 before behind (subst (OpenTo 128 0) cut (u 0 128 (omega arith)))
 
 -- up to where the descent stops, nowhere more than 128 parentheses stand open
-pub few_upto : (ts : List Kind) (e : Fail) → query ts ≡ Err e → (front : List Kind) × (behind : List Kind) × (ts ≡ front ++ behind) × (length behind ≡ place_of e) × FewOpen 128 front
+pub few_upto : (ts : List Kind) (e : Fail) → query ts ≡ Err e → (front : List Kind) × (behind : List Kind) × (ts ≡ front ++ behind) × (length behind ≡ place_of e) × FewAreOpen 128 front
 few_upto ts e h =
     let u = upto_of ts e (subst (λ r. Told 128 ts r) h (told_of ts)) in
     (u.0, u.1, u.2, u.3, under_few u.0 u.4)

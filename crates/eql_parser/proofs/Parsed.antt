@@ -1,4 +1,4 @@
--- What the parser answers, by what the descent does.
+-- What the parser returns, by what the descent does.
 use Rattle.std.proofs.Common.{◌≡◌, ◌≤◌, ◌⊎◌, inl, inr, ℕ, Bool, true, false, List, [], ◌∷◌, Ok, Err, refl, sym, ap, ◌∙◌}
 use Rattle.std.proofs.lemmas.Bool.{false≢true}
 use Rattle.eql_lexer.specs.declared.token.Token.{Token}

@@ -1,4 +1,4 @@
--- What the descent answers at a token, by what the code does there.
+-- What the descent returns at a token, by what the code does there.
 use Rattle.std.proofs.Common.{◌≡◌, ◌≢◌, ◌⊎◌, inl, inr, ◌==◌, ℕ, suc, Bool, true, false, not, ◌&&◌, if◌then◌else◌, List, [], ◌∷◌, length, Some, None, Result, Ok, Err, codes, refl, sym, ap, ◌∙◌, subst, arith}
 use Rattle.std.specs.Str.{bytes_eq, chars}
 use Rattle.std.specs.Borrow.{Bor}
@@ -16,10 +16,10 @@ use Rattle.eql_query.specs.Tree.{Tree}
 use Rattle.eql_query.specs.Tree as t
 use Rattle.eql_query.specs.View.{trees_of}
 use Rattle.eql_parser.specs.Grammar.{is_left_out_call}
-use Rattle.eql_parser.specs.Marks.{Lacks, NoCall}
+use Rattle.eql_parser.specs.Marks.{BeginsNoCall, Lacks}
 use Rattle.eql_parser.specs.Pieces.{piece_kind}
 use Rattle.eql_parser.specs.Limits.{depth}
-use Rattle.eql_parser.specs.Answering.{Answers, Stops, LeavesOut, constant_tree, room, inner, call_read}
+use Rattle.eql_parser.specs.Answering.{Answers, Stops, StopLeavesOut, constant_tree, room, inner, call_read}
 use Rattle.eql_parser.specs.Reading.{Syntax, LeftOut, Res, res_map, at_level, behind_not, behind_sum, field_tree, field, named, prim}
 use Rattle.eql_parser.proofs.Defaults.{length_kinds, refused_here}
 
@@ -31,7 +31,7 @@ pub at_place : {A : Type 0} (read : List Kind → Res A) (g : ℕ → Res A) (ts
     → g (length ts) ≡ read (kinds ts)
 at_place read g ts k us e h = ap g (sym (length_kinds ts) ∙ ap length e) ∙ sym h ∙ sym (ap read e)
 
-pub stops_by : {A : Type 0} (e : Stop) (w v : List ℕ) (n : ℕ) (r : Res A) → LeavesOut e w n → w ≡ v → r ≡ Err (LeftOut v n) → Stops e r
+pub stops_by : {A : Type 0} (e : Stop) (w v : List ℕ) (n : ℕ) (r : Res A) → StopLeavesOut e w n → w ≡ v → r ≡ Err (LeftOut v n) → Stops e r
 stops_by stop.Memory w v n r h f q = tt
 stops_by (stop.Syntax m) w v n r h f q = absurd h
 stops_by (stop.LeftOut u m) w v n r h f q = q ∙ ap (λ x. Err (LeftOut x n)) (sym (h.0 ∙ f)) ∙ ap (λ x. Err (LeftOut u x)) (sym h.1)
@@ -51,15 +51,15 @@ folding_alone d l w (open_ ∷ us) h = absurd (h refl)
 folding_alone d l w (_ ∷ us) h = refl
 
 -- a name stands alone where no call comes first
-pub alone : (ts : List Kind) (w : List ℕ) (us : List Kind) → ts ≡ name w ∷ us → NoCall ts → Lacks m.Open us
-alone ts w us e h = lacks_open us (subst NoCall e h)
+pub alone : (ts : List Kind) (w : List ℕ) (us : List Kind) → ts ≡ name w ∷ us → BeginsNoCall ts → Lacks m.Open us
+alone ts w us e h = lacks_open us (subst BeginsNoCall e h)
   where
     lacks_open : (us : List Kind) → (⊥ ⊎ Lacks m.Open us) → Lacks m.Open us
     lacks_open us (inl h) = absurd h
     lacks_open us (inr h) = h
 
-pub folding_by_itself : (ts : List Kind) (w : List ℕ) (us : List Kind) → ts ≡ folding w ∷ us → NoCall ts → Lacks m.Open us
-folding_by_itself ts w us e h = lacks_open us (subst NoCall e h)
+pub folding_by_itself : (ts : List Kind) (w : List ℕ) (us : List Kind) → ts ≡ folding w ∷ us → BeginsNoCall ts → Lacks m.Open us
+folding_by_itself ts w us e h = lacks_open us (subst BeginsNoCall e h)
   where
     lacks_open : (us : List Kind) → (⊥ ⊎ Lacks m.Open us) → Lacks m.Open us
     lacks_open us (inl h) = absurd h

@@ -3,13 +3,13 @@ use Rattle.std.proofs.Common.{◌≡◌, ℕ, ◌-◌, ◌≤◌, List, [], ◌�
 use Rattle.eql_lexer.specs.declared.token.Tok.{Tok}
 use Rattle.eql_lexer.specs.declared.token.Token.{Token}
 use Rattle.eql_lexer.specs.Blanks.{gap}
-use Rattle.eql_lexer.specs.Spelling.{UpTo}
+use Rattle.eql_lexer.specs.Spelling.{AreTokensTo}
 use Rattle.eql_lexer.proofs.Tails.{tail_within, gap_tail}
 use Rattle.eql_lexer.proofs.Places.{lexeme_within}
 use Rattle.eql_parser.specs.Kinds.{kind, kinds}
 use Rattle.eql_parser.proofs.Spelt.{Lexes}
 
-pub placed : (n : ℕ) (text : List ℕ) (ts : List Tok) → length text ≤ n → Lexes text ts → (us : List Token) × (stop : List ℕ) × UpTo n text us stop × (gap stop ≡ []) × (map kind ts ≡ kinds us)
+pub placed : (n : ℕ) (text : List ℕ) (ts : List Tok) → length text ≤ n → Lexes text ts → (us : List Token) × (stop : List ℕ) × AreTokensTo n text us stop × (gap stop ≡ []) × (map kind ts ≡ kinds us)
 placed n text [] h k = ([], text, refl, k, refl)
 placed n text (t ∷ ts) h k =
     let gaps = tail_within text (gap text) (gap_tail text) in

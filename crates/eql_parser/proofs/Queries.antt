@@ -1,4 +1,4 @@
--- What the descent answers for the parts of a query, by what the code does there.
+-- What the descent returns for the parts of a query, by what the code does there.
 use Rattle.std.proofs.Common.{◌≡◌, ◌≢◌, ◌<◌, ◌==◌, ℕ, ℤ, pos, zero, suc, Bool, true, false, if◌then◌else◌, List, [], ◌∷◌, ◌++◌, length, Option, Some, None, Ok, Err, codes, refl, sym, ap, ◌∙◌, append_assoc, append-nil, arith}
 use Rattle.std.specs.Str.{chars}
 use Rattle.std.specs.Borrow.{Bor}
@@ -19,7 +19,7 @@ use Rattle.eql_parser.specs.QueryGrammar.{category, unit_of}
 use Rattle.eql_parser.specs.Marks.{Lacks}
 use Rattle.eql_parser.specs.Pieces.{piece_kind}
 use Rattle.eql_parser.specs.Answering.{Stops, onto}
-use Rattle.eql_parser.specs.QueryAnswering.{LacksRuns, NoMissing, NoUnit, event_view}
+use Rattle.eql_parser.specs.QueryAnswering.{BeginsNoMissing, LacksRuns, StopsAtNoUnit, event_view}
 use Rattle.eql_parser.specs.Reading.{Syntax, LeftOut, Res, then_do, res_map}
 use Rattle.eql_parser.specs.QueryReading.{expected, is_where, is_maxspan, is_runs, is_assign, is_open_item, is_close_item, number_at, keys, runs, term_of, term, term_tree_of, bracketed, item, items, items_more, is_fine_unit, unit_named, unit_at, span, pipe, pipes, until, body}
 use Rattle.eql_parser.proofs.Defaults.{length_kinds, refused_here}
@@ -91,7 +91,7 @@ no_name_first n _ us h = refl
 pub no_unit_name : (n : ℤ) (ts : List Token) (x : Piece) (us : List Kind) → kinds ts ≡ piece_kind x ∷ us → ((s : Bor Text) → x ≡ p.Name s → ⊥) → unit_at n (kinds ts) ≡ Err (Syntax (length ts))
 no_unit_name n ts x us e h = refused_here ts (piece_kind x) us e (unit_at n) (no_name_first n x us h)
 
-stops_unit : (e : Stop) (w : List ℕ) (left : ℕ) (r : Res (Option Span)) → NoUnit e w left → r ≡ Err (if is_fine_unit w then LeftOut w left else Syntax left) → Stops e r
+stops_unit : (e : Stop) (w : List ℕ) (left : ℕ) (r : Res (Option Span)) → StopsAtNoUnit e w left → r ≡ Err (if is_fine_unit w then LeftOut w left else Syntax left) → Stops e r
 stops_unit stop.Memory w left r h q = tt
 stops_unit (stop.Syntax n) w left r h q = q ∙ ap (λ b. Err (if b then LeftOut w left else Syntax left)) h.0 ∙ ap (λ k. Err (Syntax k)) (sym h.1)
 stops_unit (stop.LeftOut v n) w left r h q =
@@ -99,7 +99,7 @@ stops_unit (stop.LeftOut v n) w left r h q =
 stops_unit (stop.TooDeep n) w left r h q = absurd h
 stops_unit (stop.TooOpen n) w left r h q = absurd h
 
-pub no_unit : (n : ℤ) (ts : List Token) (w : List ℕ) (us : List Kind) (e : Stop) → kinds ts ≡ name w ∷ us → None ≡ unit_of w → NoUnit e w (length ts) → Stops e (unit_at n (kinds ts))
+pub no_unit : (n : ℤ) (ts : List Token) (w : List ℕ) (us : List Kind) (e : Stop) → kinds ts ≡ name w ∷ us → None ≡ unit_of w → StopsAtNoUnit e w (length ts) → Stops e (unit_at n (kinds ts))
 no_unit n ts w us e h u q =
     stops_unit e w (length ts) (unit_at n (kinds ts)) q
     (ap (unit_at n) h ∙ ap (λ x. unit_named n w x us) (sym u) ∙ ap (λ k. Err (if is_fine_unit w then LeftOut w k else Syntax k)) (sym (ap length h) ∙ length_kinds ts))
@@ -183,7 +183,7 @@ module _ (condition : List Kind → Res Tree) where
   pub missing_item : (ts : List Token) (us : List Kind) → kinds ts ≡ bang_ ∷ open_item_ ∷ us → item condition (kinds ts) ≡ Err (LeftOut (codes "!") (length ts))
   missing_item ts us e = ap (item condition) e ∙ ap (λ n. Err (LeftOut (codes "!") n)) (sym (ap length e) ∙ length_kinds ts)
 
-  pub plain_item : (ts : List Kind) → NoMissing ts → item condition ts ≡ then_do (bracketed condition ts) (λ x us. res_map (term_tree_of x.0 x.1) (runs us))
+  pub plain_item : (ts : List Kind) → BeginsNoMissing ts → item condition ts ≡ then_do (bracketed condition ts) (λ x us. res_map (term_tree_of x.0 x.1) (runs us))
   plain_item [] h = refl
   plain_item (bang_ ∷ []) h = refl
   plain_item (bang_ ∷ open_item_ ∷ ts) h = absurd h
@@ -209,7 +209,7 @@ module _ (condition : List Kind → Res Tree) where
   unfolding items
   items_turn n m ts i = rw i refl
 
-  last_item : (again : List Kind → Res (List TermTree)) (x : TermTree) (us : List Kind) → NoMissing us → Lacks mark.OpenItem us → items_more again x us ≡ Ok (x ∷ [], us)
+  last_item : (again : List Kind → Res (List TermTree)) (x : TermTree) (us : List Kind) → BeginsNoMissing us → Lacks mark.OpenItem us → items_more again x us ≡ Ok (x ∷ [], us)
   last_item again x [] h o = refl
   last_item again x (open_item_ ∷ us) h o = absurd (o refl)
   last_item again x (bang_ ∷ []) h o = refl
@@ -231,7 +231,7 @@ module _ (condition : List Kind → Res Tree) where
       sym h ∙ ap (onto xs) (one_read n m x ts (kinds behind) i r ∙ ap (items_more (items condition m) x) e) ∙ ap (λ k. Err (LeftOut (codes "!") k)) (sym (ap length e) ∙ length_kinds behind)
 
   pub items_end : (n m : ℕ) (xs ys : List TermTree) (x : TermTree) (ts behind : List Kind) (whole : Res (List TermTree)) → n ≡ suc m → onto xs (items condition n ts) ≡ whole → item condition ts ≡ Ok (x, behind)
-      → NoMissing behind → Lacks mark.OpenItem behind → ys ≡ xs ++ x ∷ [] → whole ≡ Ok (ys, behind)
+      → BeginsNoMissing behind → Lacks mark.OpenItem behind → ys ≡ xs ++ x ∷ [] → whole ≡ Ok (ys, behind)
   items_end n m xs ys x ts behind whole i h r q o f =
       sym h ∙ ap (onto xs) (one_read n m x ts behind i r ∙ last_item (items condition m) x behind q o) ∙ ap (λ l. Ok (l, behind)) (sym f)
 

@@ -9,7 +9,7 @@ use Rattle.eql_parser.specs.Kinds.{kinds}
 use Rattle.eql_parser.specs.QueryGrammar.{IsQuery, Reads}
 use Rattle.eql_parser.specs.Limits.{levels, OpensAtMost}
 use Rattle.eql_parser.specs.Refusing.{SplitsAt, through, end_of, IsPlainSyntax, IsLeftOutAt, IsTooDeep, RefusesTokens, IsMemory}
-use Rattle.eql_parser.specs.Places.{start_or, place, Cause}
+use Rattle.eql_parser.specs.Places.{start_or, place, StopHasCause}
 use Rattle.eql_parser.specs.Reading.{Fail, Syntax, LeftOut, TooDeep, TooOpen}
 use Rattle.eql_parser.specs.QueryReading.{query}
 use Rattle.eql_parser.proofs.Agrees.{which}
@@ -48,7 +48,7 @@ place_end : (tokens : List Token) → place tokens 0 ≡ end_of tokens
 place_end tokens = ap (start_or (end_of tokens)) (drop_of_length-le tokens {i = length tokens - 0} (omega arith))
 
 -- each stop of the descent has its cause
-pub cause : (tokens : List Token) (e : Fail) → query (kinds tokens) ≡ Err e → Cause tokens e
+pub cause : (tokens : List Token) (e : Fail) → query (kinds tokens) ≡ Err e → StopHasCause tokens e
 cause tokens (Syntax zero) h = subst (IsPlainSyntax tokens) (sym (place_end tokens)) (early_cause tokens h)
 cause tokens (Syntax (suc n)) h =
     let c = counted tokens (suc n) (omega arith) (place_within tokens (Syntax (suc n)) h) in

@@ -1,4 +1,4 @@
--- What the descent answers for a query is in the grammar, and has no more levels than are allowed.
+-- What the descent returns for a query is in the grammar, and has no more levels than are allowed.
 use Rattle.std.proofs.Common.{◌≡◌, ℕ, zero, suc, ◌≤◌, ℤ, pos, Bool, true, List, [], ◌∷◌, length, Option, Some, None, Ok, refl, sym, subst, arith}
 use Rattle.eql_query.specs.declared.expr.FieldRef.{FieldRef}
 use Rattle.eql_query.specs.declared.query.Span.{Span}
@@ -221,6 +221,6 @@ module _ (l : ℕ) (condition : List Kind → Res Tree) (good : (ts : List Kind)
 pub query_by_sound : (d l : ℕ) (ts : List Kind) → Gives (λ x us. Reads ts x × (us ≡ []) × (levels x ≤ l)) (query_by (expr d l) ts)
 query_by_sound d l ts = whole_good l (expr d l) (expr_good d l) ts
 
--- A query that is answered is in the grammar, with nothing behind it.
+-- A query that is returned is in the grammar, with nothing behind it.
 pub query_sound : (ts : List Kind) (x : QueryTree) (rest : List Kind) → query ts ≡ Ok (x, rest) → Reads ts x × (rest ≡ []) × (levels x ≤ 64)
 query_sound ts x rest e = subst (Gives (λ y us. Reads ts y × (us ≡ []) × (levels y ≤ 64))) e (query_by_sound 128 64 ts)

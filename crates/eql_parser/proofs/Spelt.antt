@@ -10,7 +10,7 @@ use Rattle.eql_lexer.specs.declared.token.Tok.{Tok}
 use Rattle.eql_lexer.specs.declared.token.Tok.TheVariants as tok
 use Rattle.eql_lexer.specs.Bytes.{is_letter, is_word, is_white, begins}
 use Rattle.eql_lexer.specs.Blanks.{gap}
-use Rattle.eql_lexer.specs.Spelling.{Lexeme, word_more}
+use Rattle.eql_lexer.specs.Spelling.{IsLexeme, word_more}
 use Rattle.eql_query.specs.declared.expr.CmpOp.{CmpOp}
 use Rattle.eql_query.specs.declared.expr.CmpOp.TheVariants as cmp
 use Rattle.eql_query.specs.declared.expr.MathOp.{MathOp}
@@ -21,7 +21,7 @@ use Rattle.eql_parser.proofs.Canonical.{open_tok, close_tok, comma_tok, cmp_sign
 -- the bytes are these tokens, one after another
 abbrev pub Lexes : List ℕ → List Tok → Type 0
 Lexes text [] = gap text ≡ []
-Lexes text (t ∷ ts) = (rest : List ℕ) × Lexeme (gap text) t rest × Lexes rest ts
+Lexes text (t ∷ ts) = (rest : List ℕ) × IsLexeme (gap text) t rest × Lexes rest ts
 
 -- the characters are these tokens
 abbrev pub Spelt : List ℕ → List Tok → Type 0
@@ -151,4 +151,4 @@ word_s (c ∷ cs) rest us h e k =
     encodes-append (c ∷ cs) rest ∙ ap (λ l. l ++ encodes rest) (one_byte c cs cs (letter_small c h.0) (goes_bytes cs h.1)) in
     let more = front cs (encodes rest) h.1 (word_ends rest e) in
     subst (λ text. Lexes text (tok.Word (c ∷ cs) ∷ us)) (sym bytes)
-    (encodes rest, subst (λ text. Lexeme text (tok.Word (c ∷ cs)) (encodes rest)) (sym (letter_solid c (cs ++ encodes rest) h.0)) (h.0, ap (λ l. c ∷ l) (sym more.0), sym more.1), k)
+    (encodes rest, subst (λ text. IsLexeme text (tok.Word (c ∷ cs)) (encodes rest)) (sym (letter_solid c (cs ++ encodes rest) h.0)) (h.0, ap (λ l. c ∷ l) (sym more.0), sym more.1), k)

@@ -10,7 +10,7 @@ use Rattle.eql_lexer.specs.declared.token.Tok.{Tok}
 use Rattle.eql_lexer.specs.declared.token.Tok.TheVariants as tok
 use Rattle.eql_lexer.specs.Bytes.{is_hex, hex_number}
 use Rattle.eql_lexer.specs.Escapes.{escape, unicode}
-use Rattle.eql_lexer.specs.Strings.{IsPlain, Content, closed, plain, escaped, triple, quoted_name, name_behind, put, is_name}
+use Rattle.eql_lexer.specs.Strings.{IsPlain, IsContent, closed, plain, escaped, triple, quoted_name, name_behind, put, is_name}
 use Rattle.eql_parser.specs.Printed as p
 use Rattle.eql_parser.specs.Printed.{hex_digit, is_control, all_escaped, quoted, doubled}
 use Rattle.eql_parser.proofs.Canonical.{OneLine, IsThere, IsName}
@@ -20,7 +20,7 @@ abbrev AllPlain : List ℕ → Type 0
 AllPlain [] = Unit {0}
 AllPlain (b ∷ bs) = IsPlain b × AllPlain bs
 
-plain_content : (bs more s rest : List ℕ) → AllPlain bs → Content more s rest → Content (bs ++ more) (bs ++ s) rest
+plain_content : (bs more s rest : List ℕ) → AllPlain bs → IsContent more s rest → IsContent (bs ++ more) (bs ++ s) rest
 plain_content [] more s rest h k = k
 plain_content (b ∷ bs) more s rest h k = plain h.0 (plain_content bs more s rest h.1 k)
 
@@ -45,7 +45,7 @@ equal b c h = grind (arith, nat_tests)
 unequal : (b c : ℕ) → (b == c) ≡ false → b ≡ c → ⊥
 unequal b c h e = grind (arith, nat_tests)
 
-short_s : (c d l : ℕ) (more s rest : List ℕ) → c ≡ d → escape (l ∷ more) ≡ Some (d, more) → Content more s rest → Content (92 ∷ l ∷ more) (encode c ++ s) rest
+short_s : (c d l : ℕ) (more s rest : List ℕ) → c ≡ d → escape (l ∷ more) ≡ Some (d, more) → IsContent more s rest → IsContent (92 ∷ l ∷ more) (encode c ++ s) rest
 short_s c d l more s rest e h k = escaped refl h (ap (λ x. encode x ++ s) e) k
 
 hex_is : (d : ℕ) → d < 16 → is_hex (hex_digit d) ≡ true
@@ -69,8 +69,8 @@ hex_two c h =
 unicode_two : (a b v : ℕ) (more : List ℕ) → is_hex a ≡ true → is_hex b ≡ true → hex_number 0 (a ∷ b ∷ []) ≡ v → scalar v ≡ true → unicode (123 ∷ a ∷ b ∷ 125 ∷ more) ≡ Some (v, more)
 unicode_two a b v more h k e s = rw (h, k, e, s) refl
 
-code_s : (c : ℕ) (cs s rest : List ℕ) → is_control c ≡ true → scalar c ≡ true → Content (encodes cs) s rest
-    → Content (encodes (codes "\\u{" ++ hex_digit (c / 16) ∷ hex_digit (c % 16) ∷ 125 ∷ cs)) (encode c ++ s) rest
+code_s : (c : ℕ) (cs s rest : List ℕ) → is_control c ≡ true → scalar c ≡ true → IsContent (encodes cs) s rest
+    → IsContent (encodes (codes "\\u{" ++ hex_digit (c / 16) ∷ hex_digit (c % 16) ∷ 125 ∷ cs)) (encode c ++ s) rest
 unfolding encode
 code_s c cs s rest h u k =
     let small : c < 128 = grind (arith, nat_tests) in
@@ -79,14 +79,14 @@ code_s c cs s rest h u k =
     let bytes : encodes (codes "\\u{" ++ hex_digit (c / 16) ∷ hex_digit (c % 16) ∷ 125 ∷ cs) ≡ 92 ∷ 117 ∷ 123 ∷ hex_digit (c / 16) ∷ hex_digit (c % 16) ∷ 125 ∷ encodes cs =
     ap (λ x. 92 ∷ 117 ∷ 123 ∷ (x ++ (encode (hex_digit (c % 16)) ++ (125 ∷ encodes cs)))) (encode_ascii (hex_digit (c / 16)) (hex_small (c / 16) a))
     ∙ ap (λ x. 92 ∷ 117 ∷ 123 ∷ hex_digit (c / 16) ∷ (x ++ (125 ∷ encodes cs))) (encode_ascii (hex_digit (c % 16)) (hex_small (c % 16) b)) in
-    subst (λ text. Content text (encode c ++ s) rest) (sym bytes)
+    subst (λ text. IsContent text (encode c ++ s) rest) (sym bytes)
     (escaped refl (unicode_two (hex_digit (c / 16)) (hex_digit (c % 16)) c (encodes cs) (hex_is (c / 16) a) (hex_is (c % 16) b) (hex_two c small) u) refl k)
 
-choose : (b : Bool) (xs ys t rest : List ℕ) → (b ≡ true → Content (encodes xs) t rest) → (b ≡ false → Content (encodes ys) t rest) → Content (encodes (cond b xs ys)) t rest
+choose : (b : Bool) (xs ys t rest : List ℕ) → (b ≡ true → IsContent (encodes xs) t rest) → (b ≡ false → IsContent (encodes ys) t rest) → IsContent (encodes (cond b xs ys)) t rest
 choose true xs ys t rest h k = h refl
 choose false xs ys t rest h k = k refl
 
-escaped_s : (c : ℕ) (cs s rest : List ℕ) → scalar c ≡ true → Content (encodes cs) s rest → Content (encodes (p.escaped c cs)) (encode c ++ s) rest
+escaped_s : (c : ℕ) (cs s rest : List ℕ) → scalar c ≡ true → IsContent (encodes cs) s rest → IsContent (encodes (p.escaped c cs)) (encode c ++ s) rest
 unfolding encode
 escaped_s c cs s rest u k =
     choose (c == 10) _ _ _ rest (λ e. short_s c 10 110 (encodes cs) s rest (equal c 10 e) refl k) (λ n.
@@ -101,7 +101,7 @@ both : (a b : Bool) → a && b ≡ true → (a ≡ true) × (b ≡ true)
 both true b h = (refl, h)
 both false b h = absurd (false≢true h)
 
-content_s : (s rest : List ℕ) → scalars s ≡ true → Content (encodes (all_escaped s (34 ∷ rest))) (encodes s) (encodes rest)
+content_s : (s rest : List ℕ) → scalars s ≡ true → IsContent (encodes (all_escaped s (34 ∷ rest))) (encodes s) (encodes rest)
 unfolding encode
 content_s [] rest u = closed refl
 content_s (c ∷ cs) rest u =
@@ -126,7 +126,7 @@ no_triple_empty [] h = refl
 no_triple_empty (b ∷ bs) h = let e = h.0 in rw e refl
 
 -- a string that holds something begins with another byte
-first_other : (bs s rest : List ℕ) (c : ℕ) → Content bs (c ∷ s) rest → triple (34 ∷ bs) ≡ false
+first_other : (bs s rest : List ℕ) (c : ℕ) → IsContent bs (c ∷ s) rest → triple (34 ∷ bs) ≡ false
 first_other _ _ _ c (plain {b} {bs} h k) = not_quote b bs h.0
   where
     not_quote : (b : ℕ) (bs : List ℕ) → (b ≡ 34 → ⊥) → triple (34 ∷ b ∷ bs) ≡ false
@@ -154,7 +154,7 @@ unfolding encode
 no_triple [] rest u e = no_triple_empty (encodes rest) (quote_ends rest e)
 no_triple (c ∷ cs) rest u e =
     let first = encode_filled c in
-    first_other _ (first.1 ++ encodes cs) _ first.0 (subst (λ bs. Content (encodes (all_escaped (c ∷ cs) (34 ∷ rest))) (bs ++ encodes cs) (encodes rest)) first.2 (content_s (c ∷ cs) rest u))
+    first_other _ (first.1 ++ encodes cs) _ first.0 (subst (λ bs. IsContent (encodes (all_escaped (c ∷ cs) (34 ∷ rest))) (bs ++ encodes cs) (encodes rest)) first.2 (content_s (c ∷ cs) rest u))
 
 pub quoted_s : (s rest : List ℕ) (us : List Tok) → scalars s ≡ true → AfterQuote rest → Spelt rest us → Spelt (quoted s rest) (tok.Str s ∷ us)
 unfolding encode

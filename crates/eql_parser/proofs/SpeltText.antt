@@ -10,7 +10,7 @@ use Rattle.eql_lexer.specs.declared.token.Tok.{Tok}
 use Rattle.eql_lexer.specs.declared.token.Tok.TheVariants as tok
 use Rattle.eql_lexer.specs.Bytes.{is_white, is_digit, begins, begins_fraction, number}
 use Rattle.eql_lexer.specs.Blanks.{gap}
-use Rattle.eql_lexer.specs.Spelling.{Lexeme}
+use Rattle.eql_lexer.specs.Spelling.{IsLexeme}
 use Rattle.eql_parser.proofs.Spelt.{Lexes, Spelt}
 
 abbrev AllDigits : List ℕ → Type 0
@@ -116,7 +116,7 @@ digits_s n (d ∷ ds) rest us small h e k =
     let value : number 0 (d ∷ take_while is_digit (ds ++ encodes rest)) ≡ n = ap (λ l. number 0 (d ∷ l)) more.0 ∙ h.1 in
     subst (λ text. Lexes text (tok.Num (pos n) ∷ us)) (sym bytes) (
       encodes rest,
-      subst (λ text. Lexeme text (tok.Num (pos n)) (encodes rest)) (sym (digit_solid d (ds ++ encodes rest) h.0.0))
+      subst (λ text. IsLexeme text (tok.Num (pos n)) (encodes rest)) (sym (digit_solid d (ds ++ encodes rest) h.0.0))
           (h.0.0, ap pos (sym value), subst (λ m. m < 2 ^ 63) (sym value) small, sym more.1, no_fraction (encodes rest) (number_ends rest e)),
       k,
     )

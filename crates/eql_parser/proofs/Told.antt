@@ -1,4 +1,4 @@
--- What the descent answers, against the tokens that it was given: what it read is a front of them, and each refusal has its place in them.
+-- What the descent returns, against the tokens that it was given: what it read is a front of them, and each refusal has its place in them.
 use Rattle.std.proofs.Common.{◌≡◌, ℕ, zero, suc, ◌+◌, ◌-◌, ◌<◌, ◌≤◌, nat_lt, Bool, true, false, if◌then◌else◌, List, [], ◌∷◌, ◌++◌, length, Option, Some, None, Ok, Err, refl, sym, ap, subst, ◌∙◌, arith, length-append, append_assoc, codes}
 use Rattle.std.specs.Prelude.{neg_ℤ}
 use Rattle.eql_values.specs.declared.value.Value.TheVariants as value

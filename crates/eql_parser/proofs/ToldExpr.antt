@@ -1,4 +1,4 @@
--- What the descent answers for a condition, against the tokens that it was given.
+-- What the descent returns for a condition, against the tokens that it was given.
 use Rattle.std.proofs.Common.{ℕ, zero, suc, ◌-◌, ◌<◌, Bool, true, false, List, [], ◌∷◌, length, Ok, Err, refl, arith}
 use Rattle.eql_query.specs.declared.expr.MathOp.TheVariants.{Sub}
 use Rattle.eql_query.specs.Tree.{Tree, Trees}

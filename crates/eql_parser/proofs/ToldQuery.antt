@@ -1,4 +1,4 @@
--- What the descent answers for a query, against the tokens that it was given.
+-- What the descent returns for a query, against the tokens that it was given.
 use Rattle.std.proofs.Common.{◌≡◌, ℕ, zero, suc, Bool, true, false, if◌then◌else◌, List, [], ◌∷◌, length, Option, Some, None, Err, refl, arith}
 use Rattle.std.specs.Prelude.{ℤ, pos}
 use Rattle.eql_query.specs.declared.expr.FieldRef.{FieldRef}

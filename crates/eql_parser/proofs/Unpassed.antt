@@ -4,7 +4,7 @@ use Rattle.eql_lexer.specs.declared.token.Token.{Token}
 use Rattle.eql_query.specs.QueryTree.{QueryTree}
 use Rattle.eql_parser.specs.Kinds.{Kind, kinds, name, folding, open_}
 use Rattle.eql_parser.specs.QueryGrammar.{Reads}
-use Rattle.eql_parser.specs.Limits.{open_behind, FewOpen}
+use Rattle.eql_parser.specs.Limits.{open_behind, FewAreOpen}
 use Rattle.eql_parser.specs.Refusing.{Begins, IsNewTo, BeginsWithin, IsDeeperThan, through, IsLeftOut, samples, joins, missing_event, regex, folding_regex, fine_unit, other_pipe, number_with_base, IsTooDeep}
 use Rattle.eql_parser.specs.Reading.{Fail, Syntax, LeftOut, TooDeep, TooOpen, Res}
 use Rattle.eql_parser.specs.QueryReading.{query}
@@ -27,7 +27,7 @@ abbrev pub PassesLimit : List Kind → Type 0
 PassesLimit front = (128 < open_behind 0 front) ⊎ IsDeeperThan 64 front
 
 -- no limit is passed in tokens that begin at most 64 levels
-pub none_passed : (front all : List Kind) → IsFront front all → PassesLimit front → BeginsWithin 64 all → FewOpen 128 all → ⊥
+pub none_passed : (front all : List Kind) → IsFront front all → PassesLimit front → BeginsWithin 64 all → FewAreOpen 128 all → ⊥
 none_passed front all f (inl over) b few = omega (arith, over, few front f.0 f.1)
 none_passed front all f (inr deep) b few =
     let more = deep b.unbegun (new_front b.unbegun front f.0 (subst (IsNewTo b.unbegun) f.1 b.new)) (f.0 ++ b.rest) b.query (subst (λ l. Reads l b.query) (ap (λ l. l ++ b.rest) f.1 ∙ append_assoc front f.0 b.rest) b.reads) in
@@ -68,7 +68,7 @@ module _ (m y : List Kind) (w : List ℕ) (n : ℕ) (left_out : query (m ++ y) �
   told_there : (e : Fail) → query m ≡ Err e → Because 128 m e
   told_there e h = subst (λ r. Told 128 m r) h (told_of m)
 
-  -- what the descent answers for the tokens up to the place
+  -- what the descent returns for the tokens up to the place
   by_answer : (r : Res QueryTree) → query m ≡ r → ⊥
   by_answer (Ok p) h =
       let sound = query_sound m p.0 p.1 h in
@@ -87,7 +87,7 @@ module _ (m y : List Kind) (w : List ℕ) (n : ℕ) (left_out : query (m ++ y) �
       let u = few_upto m (Syntax 0) h in
       let all : u.0 ≡ m = sym (u.2 ∙ ap (λ l. u.0 ++ l) (no_token u.1 u.3) ∙ append-nil u.0) in
       let whole : b.front ≡ m = sym (b.cut ∙ ap (λ l. b.front ++ l) (no_token b.behind b.count) ∙ append-nil b.front) in
-      none_passed m m whole_front passed (subst (BeginsWithin 64) whole b.begins) (subst (FewOpen 128) all u.4)
+      none_passed m m whole_front passed (subst (BeginsWithin 64) whole b.begins) (subst (FewAreOpen 128) all u.4)
   by_answer (Err (Syntax (suc k))) h =
       let b = ended m (Syntax (suc k)) h in
       stuck_in b.front b.behind begins.rest k begins.query (ap query (sym b.cut) ∙ h) b.count (subst (λ l. Reads (l ++ begins.rest) begins.query) b.cut begins.reads)

@@ -1,4 +1,4 @@
--- What a function of the parser returned is what the descent answers, unless memory ran out.
+-- What a function of the parser returned is what the descent returns, unless memory ran out.
 use Rattle.std.specs.Prelude.{◌≡◌, ℕ, ◌≤◌, zero, suc, ◌++◌, Bool, true, false, List, map, Option, Some, None, Result, Ok, Err, length}
 use Rattle.std.specs.Borrow.{Bor}
 use Rattle.eql_lexer.specs.declared.token.Token.{Token}
@@ -26,10 +26,10 @@ Stops (stop.TooDeep left) read = read ≡ Err (TooDeep left)
 Stops (stop.TooOpen left) read = read ≡ Err (TooOpen left)
 
 -- a form is left out that is called by this word, unless memory ran out
-abbrev pub LeavesOut : Stop → List ℕ → ℕ → Type 0
-LeavesOut stop.Memory word left = Unit {0}
-LeavesOut (stop.LeftOut w n) word left = (w ≡ word) × (n ≡ left)
-LeavesOut _ word left = ⊥
+abbrev pub StopLeavesOut : Stop → List ℕ → ℕ → Type 0
+StopLeavesOut stop.Memory word left = Unit {0}
+StopLeavesOut (stop.LeftOut w n) word left = (w ≡ word) × (n ≡ left)
+StopLeavesOut _ word left = ⊥
 
 abbrev pub Answers : {A X : Type 0} → (X → A) → Result (X × Bor (List Token)) Stop → Res A → Type 0
 Answers view (Ok x) read = read ≡ Ok (view x.0, kinds x.1.now)

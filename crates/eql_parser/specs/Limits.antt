@@ -91,8 +91,8 @@ open_behind n (close_ ∷ ts) = open_behind (n - 1) ts
 open_behind n (_ ∷ ts) = open_behind n ts
 
 -- nowhere more than so many parentheses stand open
-abbrev pub FewOpen : ℕ → List Kind → Type 0
-FewOpen most ks = (before behind : List Kind) → ks ≡ before ++ behind → open_behind 0 before ≤ most
+abbrev pub FewAreOpen : ℕ → List Kind → Type 0
+FewAreOpen most ks = (before behind : List Kind) → ks ≡ before ++ behind → open_behind 0 before ≤ most
 
 abbrev pub OpensAtMost : ℕ → List Token → Type 0
-OpensAtMost most tokens = FewOpen most (kinds tokens)
+OpensAtMost most tokens = FewAreOpen most (kinds tokens)

@@ -74,12 +74,12 @@ abbrev pub callee_kind : (fold : Bool) → List ℕ → Kind
 callee_kind false w = name w
 callee_kind true w = folding w
 
-abbrev pub NoCallee : Kind → Type 0
-NoCallee (name w) = ⊥
-NoCallee (folding w) = ⊥
-NoCallee _ = Unit {0}
+abbrev pub IsNoCallee : Kind → Type 0
+IsNoCallee (name w) = ⊥
+IsNoCallee (folding w) = ⊥
+IsNoCallee _ = Unit {0}
 
 -- no call comes first
-abbrev pub NoCall : List Kind → Type 0
-NoCall (k ∷ ts) = NoCallee k ⊎ Lacks m.Open ts
-NoCall [] = Unit {0}
+abbrev pub BeginsNoCall : List Kind → Type 0
+BeginsNoCall (k ∷ ts) = IsNoCallee k ⊎ Lacks m.Open ts
+BeginsNoCall [] = Unit {0}

@@ -64,6 +64,6 @@ abbrev pub IsPart : List Kind → List ℕ → List Kind → Type 0
 IsPart ts w rest = (k : Kind) × (ts ≡ k ∷ rest) × (part k ≡ Some w)
 
 -- no part of a field's name comes first
-abbrev pub NoPart : List Kind → Type 0
-NoPart [] = Unit {0}
-NoPart (k ∷ ts) = part k ≡ None
+abbrev pub BeginsNoPart : List Kind → Type 0
+BeginsNoPart [] = Unit {0}
+BeginsNoPart (k ∷ ts) = part k ≡ None

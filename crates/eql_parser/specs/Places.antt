@@ -14,8 +14,8 @@ abbrev pub place : List Token → ℕ → ℕ
 place tokens left = start_or (end_of tokens) (drop (length tokens - left) tokens)
 
 -- the cause of a stop of the descent, at its place
-abbrev pub Cause : List Token → Fail → Type 0
-Cause tokens (Syntax left) = IsPlainSyntax tokens (place tokens left)
-Cause tokens (LeftOut word left) = IsLeftOutAt tokens word (place tokens left)
-Cause tokens (TooDeep left) = IsTooDeep tokens (place tokens left)
-Cause tokens (TooOpen left) = IsTooDeep tokens (place tokens left)
+abbrev pub StopHasCause : List Token → Fail → Type 0
+StopHasCause tokens (Syntax left) = IsPlainSyntax tokens (place tokens left)
+StopHasCause tokens (LeftOut word left) = IsLeftOutAt tokens word (place tokens left)
+StopHasCause tokens (TooDeep left) = IsTooDeep tokens (place tokens left)
+StopHasCause tokens (TooOpen left) = IsTooDeep tokens (place tokens left)

@@ -43,16 +43,16 @@ LacksRuns (k ∷ ts) = is_runs k ≡ false
 abbrev pub IsMissing : List Kind → Type 0
 IsMissing ts = (us : List Kind) × (ts ≡ bang_ ∷ open_item_ ∷ us)
 
-abbrev pub NoMissing : List Kind → Type 0
-NoMissing (bang_ ∷ open_item_ ∷ ts) = ⊥
-NoMissing _ = Unit {0}
+abbrev pub BeginsNoMissing : List Kind → Type 0
+BeginsNoMissing (bang_ ∷ open_item_ ∷ ts) = ⊥
+BeginsNoMissing _ = Unit {0}
 
 -- a word that stands where a unit has to is none: the language has it, or hasn't
-abbrev pub NoUnit : Stop → List ℕ → ℕ → Type 0
-NoUnit stop.Memory word left = Unit {0}
-NoUnit (stop.Syntax n) word left = (is_fine_unit word ≡ false) × (n ≡ left)
-NoUnit (stop.LeftOut w n) word left = (is_fine_unit word ≡ true) × (w ≡ word) × (n ≡ left)
-NoUnit _ word left = ⊥
+abbrev pub StopsAtNoUnit : Stop → List ℕ → ℕ → Type 0
+StopsAtNoUnit stop.Memory word left = Unit {0}
+StopsAtNoUnit (stop.Syntax n) word left = (is_fine_unit word ≡ false) × (n ≡ left)
+StopsAtNoUnit (stop.LeftOut w n) word left = (is_fine_unit word ≡ true) × (w ≡ word) × (n ≡ left)
+StopsAtNoUnit _ word left = ⊥
 
 -- an item that is no missing event
 abbrev pub plain_item : (List Kind → Res Tree) → List Kind → Res TermTree

@@ -1,4 +1,4 @@
--- What the recursive descent answers for queries, as functions on lists.
+-- What the recursive descent returns for queries, as functions on lists.
 use Rattle.std.specs.Prelude.{ℕ, zero, suc, ℤ, pos, Bool, true, false, if◌then◌else◌, List, [], ◌∷◌, length, Ok, Err, Option, Some, None, codes}
 use Rattle.std.specs.Str.{bytes_eq}
 use Rattle.eql_query.specs.declared.expr.FieldRef.{FieldRef}

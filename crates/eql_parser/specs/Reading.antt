@@ -1,4 +1,4 @@
--- What the recursive descent answers for conditions, as functions on lists.
+-- What the recursive descent returns for conditions, as functions on lists.
 use Rattle.std.specs.Prelude.{ℕ, zero, suc, ◌-◌, nat_lt, neg_ℤ, ◌++◌, Bool, true, false, if◌then◌else◌, List, [], ◌∷◌, length, Result, Ok, Err, Option, Some, None, codes}
 use Rattle.eql_values.specs.declared.value.Value.{Value}
 use Rattle.eql_values.specs.declared.value.Value.TheVariants as value

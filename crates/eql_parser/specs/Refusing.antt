@@ -10,7 +10,7 @@ use Rattle.eql_query.specs.QueryTree.{QueryTree}
 use Rattle.eql_parser.specs.Kinds.{Kind, any_, assign_, bang_, bar_, close_item_, join_, matches, null_, regex_, sample_, sequence_, where_, with_, name, folding, number, open_, open_item_, kinds}
 use Rattle.eql_parser.specs.Grammar.{IsArguments}
 use Rattle.eql_parser.specs.QueryGrammar.{IsQuery, Reads, is_fine_unit, pipe_of}
-use Rattle.eql_parser.specs.Limits.{levels_but, open_behind, FewOpen}
+use Rattle.eql_parser.specs.Limits.{levels_but, open_behind, FewAreOpen}
 
 -- some query begins with these tokens
 pub record Begins (front : List Kind) : Type 0 where
@@ -79,8 +79,8 @@ through s = kinds s.before ++ kinds (s.here ∷ [])
 -- query and at most 64 levels, and are none. Nowhere before the place more than 128 parentheses stand open.
 abbrev pub IsSyntax : List Token → ℕ → Type 0
 IsSyntax tokens at =
-    ((s : SplitsAt tokens at) × BeginsWithin 64 (kinds s.before) × NoQueryBegins (through s) × FewOpen 128 (kinds s.before))
-    ⊎ ((at ≡ end_of tokens) × BeginsWithin 64 (kinds tokens) × ((query : QueryTree) → IsQuery tokens query → ⊥) × FewOpen 128 (kinds tokens))
+    ((s : SplitsAt tokens at) × BeginsWithin 64 (kinds s.before) × NoQueryBegins (through s) × FewAreOpen 128 (kinds s.before))
+    ⊎ ((at ≡ end_of tokens) × BeginsWithin 64 (kinds tokens) × ((query : QueryTree) → IsQuery tokens query → ⊥) × FewAreOpen 128 (kinds tokens))
 
 -- a left-out form begins at the place, where some query goes on with another form in its stead
 abbrev pub LeavesOut : {tokens : List Token} {at : ℕ} → SplitsAt tokens at → List ℕ → Type 0
@@ -94,13 +94,13 @@ IsPlainSyntax tokens at = IsSyntax tokens at × ((there : ℕ) (s : SplitsAt tok
 -- the 65th level begins. The tokens before the place begin at most 64 levels, and nowhere in them more than 128 parentheses stand open.
 abbrev pub IsTooDeep : List Token → ℕ → Type 0
 IsTooDeep tokens at =
-    (s : SplitsAt tokens at) × Begins (through s) × BeginsWithin 64 (kinds s.before) × FewOpen 128 (kinds s.before) × ((128 < open_behind 0 (through s)) ⊎ IsDeeperThan 64 (through s))
+    (s : SplitsAt tokens at) × Begins (through s) × BeginsWithin 64 (kinds s.before) × FewAreOpen 128 (kinds s.before) × ((128 < open_behind 0 (through s)) ⊎ IsDeeperThan 64 (through s))
 
 -- A left-out form begins at the place, some query goes on there with another form in its stead, and the tokens are no query. The tokens before the place
 -- begin at most 64 levels, and nowhere in them more than 128 parentheses stand open. And nowhere in the tokens a limit is passed.
 abbrev pub IsLeftOutAt : List Token → List ℕ → ℕ → Type 0
 IsLeftOutAt tokens word at =
-    ((s : SplitsAt tokens at) × LeavesOut s word × BeginsWithin 64 (kinds s.before) × FewOpen 128 (kinds s.before)) × ((query : QueryTree) → IsQuery tokens query → ⊥)
+    ((s : SplitsAt tokens at) × LeavesOut s word × BeginsWithin 64 (kinds s.before) × FewAreOpen 128 (kinds s.before)) × ((query : QueryTree) → IsQuery tokens query → ⊥)
     × ((there : ℕ) → IsTooDeep tokens there → ⊥)
 
 -- the cause of each refusal

@@ -33,7 +33,7 @@ pub fn one_refusal()
 {}
 
 /// The canonical text of a query that a text spells spells this query again. In it at most as many
-/// parentheses stand open as the query has levels, so `parse` answers this query for it where the
+/// parentheses stand open as the query has levels, so `parse` returns this query for it where the
 /// query has at most 64 levels.
 pub fn prints_back()
     ensures { (text : List ℕ) (tokens : List Token) (query : QueryTree)

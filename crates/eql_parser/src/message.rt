@@ -15,7 +15,7 @@ impl ParseRefused {
     {
         match self {
             ParseRefused::Syntax { at } => Ok(format!(in alloc; "parse: Syntax at {at}")?),
-            ParseRefused::LeftOut { word, at } => left_out(alloc, word, *at),
+            ParseRefused::LeftOut { word, at } => left_out_line(alloc, word, *at),
             ParseRefused::TooDeep { at } => Ok(format!(in alloc; "parse: TooDeep at {at}")?),
             ParseRefused::Memory => Ok(String::from_str(alloc, "parse: Memory")?),
         }
@@ -23,7 +23,7 @@ impl ParseRefused {
 }
 
 /// The line for a left-out form. A word is printed so that no terminal is steered by it.
-fn left_out(alloc: Global, word: &Text, at: u32) -> Result<String, Memory>
+fn left_out_line(alloc: Global, word: &Text, at: u32) -> Result<String, Memory>
     ensures { IfOk result (λ line. string_bytes line ≡ left_out word.now at) }
 {
     let place = format!(in alloc; " at {at}")?;

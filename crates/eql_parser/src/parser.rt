@@ -80,14 +80,14 @@ fn refused(tokens: &[Token], stop: Stop) -> ParseRefused
 /// The query that tokens are, by the grammar of the syntax reference of the Event Query Language.
 /// A condition has at most 64 levels, and at most 128 parentheses stand open in it.
 pub fn parse(alloc: Global, tokens: &Tokens) -> Result<Query, ParseRefused>
-    // What is answered is the query that the tokens are.
+    // What is returned is the query that the tokens are.
     ensures found { IfOk result (λ q. IsQuery tokens.now (query_tree q)) }
     // It keeps within the limits.
     ensures levels { IfOk result (λ q. levels (query_tree q) ≤ 64) }
     ensures open { IfOk result (λ _. OpensAtMost 128 tokens.now) }
     // Each refusal has its cause.
     ensures refused { IfErr result (RefusesTokens tokens.now) }
-    // A query within the limits is what is answered, unless memory runs out.
+    // A query within the limits is what is returned, unless memory runs out.
     ensures answered { (q : QueryTree)
         → IsQuery tokens.now q → levels q ≤ 64 → OpensAtMost 128 tokens.now
         → MatchResult result (λ answer. query_tree answer ≡ q) IsMemory }

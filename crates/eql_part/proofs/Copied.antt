@@ -10,7 +10,7 @@ use Rattle.eql_values.specs.declared.value.Value.{Value}
 use Rattle.eql_auto.specs.Machine.{Machine}
 use Rattle.eql_span_list.specs.declared.node.Ticket.{Ticket}
 use Rattle.eql_part.specs.KeyTables.{holders_in, holders_of}
-use Rattle.eql_part.specs.Rooms.{AreInKeyOrder, AreUnsorted, Lent, NoneBefore, lent}
+use Rattle.eql_part.specs.Rooms.{AreInKeyOrder, AreUnsorted, Lent, NoneIsBefore, lent}
 
 pub copied_more : (rows : List Lent) (i : ℕ) (row : Lent) (found new : List Holder) → i < length rows → row ≡ get_or rows i row → found ≡ holders_in (map lent (take i rows))
     → new ≡ found ++ holders_of (lent row) → new ≡ holders_in (map lent (take (i + 1) rows))
@@ -24,12 +24,12 @@ copied_more rows i row found new lt is copied more =
 pub all_copied : (rows : List Lent) (i : ℕ) (found : List Holder) → length rows ≤ i → found ≡ holders_in (map lent (take i rows)) → found ≡ holders_in (map lent rows)
 all_copied rows i found past copied = copied ∙ ap (λ (l : List Lent). holders_in (map lent l)) (take_all i rows past)
 
-pub order_more : (rows : List Lent) (i : ℕ) → AllAdjacentBelow NoneBefore rows i → (0 < i → (d : Lent) → NoneBefore (get_or rows (i - 1) d) (get_or rows i d))
-    → AllAdjacentBelow NoneBefore rows (i + 1)
+pub order_more : (rows : List Lent) (i : ℕ) → AllAdjacentBelow NoneIsBefore rows i → (0 < i → (d : Lent) → NoneIsBefore (get_or rows (i - 1) d) (get_or rows i d))
+    → AllAdjacentBelow NoneIsBefore rows (i + 1)
 order_more rows zero h here = λ k d m. absurd (omega arith)
-order_more rows (suc i) h here = all_adjacent_more rows NoneBefore (suc i) (omega arith) h (here (omega arith))
+order_more rows (suc i) h here = all_adjacent_more rows NoneIsBefore (suc i) (omega arith) h (here (omega arith))
 
-pub all_in_order : (rows : List Lent) (i : ℕ) → length rows ≤ i → AllAdjacentBelow NoneBefore rows i → AllAdjacentBelow NoneBefore rows (length rows)
+pub all_in_order : (rows : List Lent) (i : ℕ) → length rows ≤ i → AllAdjacentBelow NoneIsBefore rows i → AllAdjacentBelow NoneIsBefore rows (length rows)
 all_in_order rows i past h = λ k d m. h k d (omega arith)
 
 pub if_some : {Y : Type 0} (o : Option Y) (x : Y) (P : Y → Type 0) → o ≡ Some x → IfSome o P → P x

@@ -14,7 +14,7 @@ use Rattle.eql_values.specs.declared.order.OrderKey.{OrderKey}
 use Rattle.eql_values.specs.declared.value.Value.{Value}
 use Rattle.eql_values.specs.declared.item.Route.{Route}
 use Rattle.eql_values.specs.OrderKeys.{order_cmp}
-use Rattle.eql_auto.specs.Machine.{Machine, Sequence, AllBefore}
+use Rattle.eql_auto.specs.Machine.{Machine, Sequence, AllAreBefore}
 use Rattle.eql_span_list.specs.declared.node.Ticket.{Ticket}
 use Rattle.eql_span_list.specs.Entries.{Names, HasDistinctTickets}
 use Rattle.eql_part.specs.declared.listing.Start.{Start}
@@ -117,7 +117,7 @@ head_greater Greater r e f = cc
 not_after : (a b : OrderKey) → order_cmp a b ≡ Less → a.ts ≤ℤ b.ts
 not_after a b less = by_lt_z b.ts a.ts (λ lt. absurd (head_greater (int_cmp a.ts b.ts) _ (sym (int_cmp_is a.ts b.ts Greater lt)) less)) (λ le. le)
 
-first_before : (order : OrderKey) (c : List OrderKey) → 1 ≤ length c → AllBefore order c → first_time c ≤ℤ order.ts
+first_before : (order : OrderKey) (c : List OrderKey) → 1 ≤ length c → AllAreBefore order c → first_time c ≤ℤ order.ts
 first_before order [] h before = absurd (omega arith)
 first_before order (first ∷ rest) h before = not_after first order (All-head (λ (before : OrderKey). order_cmp before order ≡ Less) first rest before)
 
@@ -138,7 +138,7 @@ later_up m span es order list of linked later =
     by e (inl (k, s, there, t, same)) =
         let chain : slots_in es e.1.key k ≡ Some s.0 = slots_are (machine_of es e.1.key) k ∙ ap (option_map (λ (s : Sequence Ticket). s.0)) there in
         subst (λ (x : Start). x.time ≤ℤ order.ts) same
-        (first_before order s.0 (sequence_filled m span es of e.1.key k s there) (subst (λ (o : Option (List OrderKey)). IfSome o (AllBefore order)) chain (later e.1.key k)))
+        (first_before order s.0 (sequence_filled m span es of e.1.key k s there) (subst (λ (o : Option (List OrderKey)). IfSome o (AllAreBefore order)) chain (later e.1.key k)))
     by e (inr c) = let in' = c.1 in absurd (omega arith)
 
 -- there is nothing at the start

@@ -13,7 +13,7 @@ use Rattle.eql_values.specs.Matching.{after}
 use Rattle.eql_values.specs.OrderKeys.{order_cmp}
 use Rattle.eql_values.specs.Totals.{order_cmp_total}
 use Rattle.eql_laws.specs.Shapes.{EventsPass, EventsStay}
-use Rattle.eql_auto.specs.Machine.{AllBefore}
+use Rattle.eql_auto.specs.Machine.{AllAreBefore}
 use Rattle.eql_part.specs.KeyTables.{ComesAfterAll, ComesAfterHolder}
 
 less_of : (o : Ordering) → is_lt o ≡ true → o ≡ Less
@@ -25,18 +25,18 @@ module _ (next : OrderKey) where
   abbrev comes_before : OrderKey → Bool
   comes_before event = is_lt (order_cmp event next)
 
-  passes : (chain : List OrderKey) → AllBefore next chain → EventsPass comes_before chain
+  passes : (chain : List OrderKey) → AllAreBefore next chain → EventsPass comes_before chain
   passes chain h =
       list_all-from_AllPass comes_before chain
       (All-weaker (λ (e : OrderKey). order_cmp e next ≡ Less) (λ (e : OrderKey). comes_before e ≡ true) (λ e less. ap is_lt less) chain h)
 
-  comes_after : (chain : List OrderKey) → EventsPass comes_before chain → AllBefore next chain
+  comes_after : (chain : List OrderKey) → EventsPass comes_before chain → AllAreBefore next chain
   comes_after chain h =
       All-weaker (λ (e : OrderKey). comes_before e ≡ true) (λ (e : OrderKey). order_cmp e next ≡ Less) (λ e lt. less_of (order_cmp e next) lt) chain
       (AllPass-from_list_all comes_before chain h)
 
   module _ (event : OrderKey) (less : order_cmp event next ≡ Less) where
-    still_before : (chain : List OrderKey) → AllBefore event chain → AllBefore next chain
+    still_before : (chain : List OrderKey) → AllAreBefore event chain → AllAreBefore next chain
     still_before chain h =
         All-weaker (λ (e : OrderKey). order_cmp e event ≡ Less) (λ (e : OrderKey). order_cmp e next ≡ Less) (λ e before. order_cmp_total.trans e event next before less) chain h
 

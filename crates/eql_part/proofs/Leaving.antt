@@ -7,7 +7,7 @@ use Rattle.std.specs.List.{Contains}
 use Rattle.std.proofs.lemmas.List.{append_assoc}
 use Rattle.std.proofs.lemmas.List.Elements.{All-head, All-tail, All-cons, All-contains, All-contains_itself, Contains-append_left, Contains-push}
 use Rattle.eql_span_list.specs.declared.node.Ticket.{Ticket}
-use Rattle.eql_span_list.specs.Entries.{Names, HasTicket, AtTicket, IsAbsent, KeepsOthers}
+use Rattle.eql_span_list.specs.Entries.{Names, HasTicket, HoldsAtTicket, IsAbsent, KeepsOthers}
 use Rattle.eql_part.specs.declared.listing.Start.{Start}
 use Rattle.eql_part.specs.Links.{Listed, Differ, TimesAscend, IsWithout, IsOneOf}
 use Rattle.eql_part.proofs.Naming.{names_apart}
@@ -35,7 +35,7 @@ without_none list = record {
 
 -- one more was taken off
 module _ (first list after : List Listed) (gone rest done : List Ticket) (t : Ticket) (start : Start) (differ : Differ gone) (is : gone ≡ (rest ++ t ∷ []) ++ done)
-    (without : IsWithout first done list) (listed : All (HasTicket list) (rest ++ t ∷ [])) (taken : AtTicket list t (λ xs x ys. (after ≡ xs ++ ys) × (start ≡ x)))
+    (without : IsWithout first done list) (listed : All (HasTicket list) (rest ++ t ∷ [])) (taken : HoldsAtTicket list t (λ xs x ys. (after ≡ xs ++ ys) × (start ≡ x)))
     (absent : IsAbsent after t) (others : KeepsOthers list after t) where
   here : HasTicket list t
   here = All-contains (HasTicket list) (rest ++ t ∷ []) t listed (Contains-push rest t)

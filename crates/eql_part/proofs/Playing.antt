@@ -16,7 +16,7 @@ use Rattle.eql_values.specs.Chains.{fits_after}
 use Rattle.eql_values.specs.Masks.{has_stage}
 use Rattle.eql_values.specs.Matching.{act_by}
 use Rattle.eql_values.specs.Orders.{key_cmp, key_eq}
-use Rattle.eql_values.specs.Routes.{RoutesInOrder}
+use Rattle.eql_values.specs.Routes.{RoutesAreInOrder}
 use Rattle.eql_laws.specs.OneEvent.{slots_after_event}
 use Rattle.eql_laws.specs.Slots.{Slots, chain_coming, slots_after, chain_moved_on}
 use Rattle.eql_laws.proofs.Facts.{both_true, is_less, less_is, less_not_equal}
@@ -41,10 +41,10 @@ keys_after key (route ∷ routes) e =
     (is_less (key_cmp key route.key) (subst T (sym both.0) tt), keys_after key routes both.1)
 
 -- the routes behind the first of routes in order have later keys, and stand in order
-pub later_keys : (route : Route) (routes : List Route) → RoutesInOrder (route ∷ routes) → AllByRecursion (λ (y : List Value). key_cmp route.key y ≡ Less) (map (λ (r : Route). r.key) routes)
+pub later_keys : (route : Route) (routes : List Route) → RoutesAreInOrder (route ∷ routes) → AllByRecursion (λ (y : List Value). key_cmp route.key y ≡ Less) (map (λ (r : Route). r.key) routes)
 later_keys route routes e = keys_after route.key routes (both_true (below_all key_cmp route.key (by_key routes)) (is_sorted key_cmp (by_key routes)) e).0
 
-pub rest_in_order : (route : Route) (routes : List Route) → RoutesInOrder (route ∷ routes) → RoutesInOrder routes
+pub rest_in_order : (route : Route) (routes : List Route) → RoutesAreInOrder (route ∷ routes) → RoutesAreInOrder routes
 rest_in_order route routes e = (both_true (below_all key_cmp route.key (by_key routes)) (is_sorted key_cmp (by_key routes)) e).1
 
 -- another key comes after
@@ -76,7 +76,7 @@ later_same key (route ∷ routes) start cur new h others same =
     (later_same key routes start cur new h.1 others (All-tail was route routes same))
 
 -- what is left to do to a key, one route on
-pub one_on : (m : ℕ) (span : Option ℤ) (order : OrderKey) (route : Route) (routes : List Route) (cur new : List (Row Ticket)) → RoutesInOrder (route ∷ routes) → KeepsOtherKeys route.key cur new
+pub one_on : (m : ℕ) (span : Option ℤ) (order : OrderKey) (route : Route) (routes : List Route) (cur new : List (Row Ticket)) → RoutesAreInOrder (route ∷ routes) → KeepsOtherKeys route.key cur new
     → ((k : ℕ) → 1 ≤ k → k < m → slots_in new route.key k ≡ slots_after span (slots_in cur route.key) (act_by order route) k)
     → (key : List Value) (k : ℕ) → suc k < m
     → slots_after_event span order (find (λ (r : Route). key_eq key r.key) routes) (slots_in new key) (suc k) ≡ slots_after_event span order (find (λ (r : Route). key_eq key r.key) (route ∷ routes)) (slots_in cur key) (suc k)

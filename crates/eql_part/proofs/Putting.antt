@@ -20,8 +20,8 @@ use Rattle.eql_values.specs.Matching.{Slot, opening_of, slot_cmp}
 use Rattle.eql_values.specs.Orders.{key_cmp, key_eq}
 use Rattle.eql_values.specs.Totals.{key_cmp_total}
 use Rattle.eql_laws.specs.Merging.{by_slot}
-use Rattle.eql_laws.specs.Alive.{HoldersInOrder}
-use Rattle.eql_laws.specs.OneEvent.{SameHolders}
+use Rattle.eql_laws.specs.Alive.{HoldersAreInOrder}
+use Rattle.eql_laws.specs.OneEvent.{HoldersAreSame}
 use Rattle.eql_laws.specs.Shapes.{OpeningFinds}
 use Rattle.eql_laws.proofs.Facts.{is_less, left_holds, right_holds}
 use Rattle.eql_auto.specs.Machine.{Sequence, slot_at}
@@ -86,7 +86,7 @@ differ_sorted (x ∷ hs) h =
     differ_cons (slot_of x) (map slot_of hs) (none_below (slot_of x) hs (left_holds below (is_sorted slot_cmp (map by_slot hs)) h))
     (differ_sorted hs (right_holds below (is_sorted slot_cmp (map by_slot hs)) h))
 
-pub differ_in_order : (hs : List Holder) → HoldersInOrder hs → Differ (map slot_of hs)
+pub differ_in_order : (hs : List Holder) → HoldersAreInOrder hs → Differ (map slot_of hs)
 differ_in_order hs order = differ_sorted hs (subst T (sym order) tt)
 
 -- sorted by their first timestamps they ascend
@@ -144,7 +144,7 @@ module _ (old new : List (Row Ticket)) (done left : List Holder) (h : Holder) (d
         by false b e f = old_one (λ same at. both_ways (key_eq h.key q) e (own_key h.key q same))
 
 -- with all put in, a look-up finds what a look-up among them finds
-pub put_is : SameHolders → OpeningFinds → (holders sorted : List Holder) (new : List (Row Ticket)) → HoldersInOrder holders → HoldersInOrder (holders_in new) → ((key : List Value) (stage : ℕ) → opening_of (holders_in new) key stage ≡ slots_in new key stage)
+pub put_is : HoldersAreSame → OpeningFinds → (holders sorted : List Holder) (new : List (Row Ticket)) → HoldersAreInOrder holders → HoldersAreInOrder (holders_in new) → ((key : List Value) (stage : ℕ) → opening_of (holders_in new) key stage ≡ slots_in new key stage)
     → IsPermutation holders sorted → All (λ (x : Holder). slots_in new x.key x.stage ≡ Some x.chain) sorted
     → ((q : List Value) (k : ℕ) (c : List OrderKey) → slots_in new q k ≡ Some c → Contains sorted (record { key = q; stage = k; chain = c })) → holders_in new ≡ holders
 put_is same_holders opening_finds holders sorted new order order_new look_up moves there no_other =

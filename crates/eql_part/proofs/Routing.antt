@@ -7,7 +7,7 @@ use Rattle.std.proofs.lemmas.List.Elements.{filter_map-append}
 use Rattle.eql_values.specs.declared.order.OrderKey.{OrderKey}
 use Rattle.eql_values.specs.declared.item.Route.{Route}
 use Rattle.eql_span_list.specs.declared.node.Ticket.{Ticket}
-use Rattle.eql_span_list.specs.Entries.{HasTicket, AtTicket}
+use Rattle.eql_span_list.specs.Entries.{HasTicket, HoldsAtTicket}
 use Rattle.eql_part.specs.declared.listing.Start.{Start}
 use Rattle.eql_part.specs.declared.prepared.Prepared.{Prepared}
 use Rattle.eql_part.specs.Links.{Listed, begun_by}
@@ -38,7 +38,7 @@ split_tickets (x ∷ es) (t ∷ ts) us e =
 pub last_has : (list base begun : List Listed) (t : Ticket) → list ≡ base ++ begun → map ticket begun ≡ t ∷ [] → HasTicket list t
 last_has list base begun t is tickets = let one = one_entry begun t tickets in (one.0, (base, [], is ∙ ap (λ (l : List Listed). base ++ l) one.1))
 
-pub last_off : (list after base begun : List Listed) (t : Ticket) (start : Start) → AtTicket list t (λ xs x ys. (after ≡ xs ++ ys) × (start ≡ x)) → list ≡ base ++ begun → map ticket begun ≡ t ∷ [] → after ≡ base
+pub last_off : (list after base begun : List Listed) (t : Ticket) (start : Start) → HoldsAtTicket list t (λ xs x ys. (after ≡ xs ++ ys) × (start ≡ x)) → list ≡ base ++ begun → map ticket begun ≡ t ∷ [] → after ≡ base
 last_off list after base begun t start taken is tickets =
     let one = one_entry begun t tickets in
     (taken base one.0 [] (is ∙ ap (λ (l : List Listed). base ++ l) one.1)).0 ∙ append-nil base

@@ -23,7 +23,7 @@ use Rattle.eql_values.specs.Orders.{key_eq, key_cmp}
 use Rattle.eql_values.specs.Totals.{key_cmp_total}
 use Rattle.eql_values.proofs.Same.{key_same}
 use Rattle.eql_values.specs.Matching.{Slot, slot_cmp, opening_of, stages_to}
-use Rattle.eql_laws.specs.Alive.{HoldersInOrder}
+use Rattle.eql_laws.specs.Alive.{HoldersAreInOrder}
 use Rattle.eql_laws.specs.Merging.{by_slot}
 use Rattle.eql_laws.specs.Slots.{Slots}
 use Rattle.eql_laws.proofs.Facts.{is_equal, ties_both, both_hold, left_holds, right_holds, holds_true, less_is, less_not_equal}
@@ -186,7 +186,7 @@ module _ {X : Type 0} where
       (λ x of. rows_after e.0 es (sorted_head key_cmp e.0 (keys_of es) h) x.0 of.0) (row slots e.0 n) (of_row slots e.0 n))
 
   -- the pending sequences of machines in the order of their keys stand by key and stage
-  pub holders_in_order : (es : List (Row X)) → IsStrictlySortedBy key_cmp (keys_of es) → HoldersInOrder (holders_in es)
+  pub holders_in_order : (es : List (Row X)) → IsStrictlySortedBy key_cmp (keys_of es) → HoldersAreInOrder (holders_in es)
   holders_in_order es h = holds_true _ (subst (λ (l : List Entry). T (is_sorted slot_cmp l)) (sym (by_slot_rows es)) (sorted_rows es h))
 
   -- a key before all others is none of them

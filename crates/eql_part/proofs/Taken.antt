@@ -15,10 +15,10 @@ use Rattle.eql_values.specs.declared.item.Route.{Route}
 use Rattle.eql_values.specs.declared.item.Item.{Item}
 use Rattle.eql_values.specs.Orders.{key_cmp, key_eq}
 use Rattle.eql_values.specs.Matching.{act_by, opening_of, matches, after}
-use Rattle.eql_laws.specs.Alive.{AfterInOrder, AliveInOrder, AliveLooksUp, alive_at, alive_holders}
-use Rattle.eql_laws.specs.OneEvent.{slots_after_event, AfterHasNoOther, AfterOne, MatchesOne, SameHolders}
+use Rattle.eql_laws.specs.Alive.{AfterIsInOrder, AliveAreInOrder, AliveLooksUp, alive_at, alive_holders}
+use Rattle.eql_laws.specs.OneEvent.{slots_after_event, AfterHasNoOther, HoldersAreSame, OneItemMatches, OneItemMovesSlots}
 use Rattle.eql_laws.specs.Slots.{chain_coming}
-use Rattle.eql_auto.specs.Machine.{Machine, Sequence, AllBefore}
+use Rattle.eql_auto.specs.Machine.{Machine, Sequence, AllAreBefore}
 use Rattle.eql_part.specs.KeyTables.{ComesAfterAll, ComesAfterHolder, IsOf, AreOf, IsLaterAt, KeepsSequences, holders_in, slots_of, machine_of, slots_in}
 use Rattle.eql_part.specs.Routed.{match_there}
 use Rattle.eql_part.proofs.Turned.{slots_alike}
@@ -40,17 +40,17 @@ module _ {X : Type 0} where
     -- an event after all that is pending comes after what each key has
     pub later_at : (event : OrderKey) → ComesAfterAll event (holders_in old) → (key : List Value) → IsLaterAt event old key
     later_at event later key k =
-        subst (λ (o : Option (List OrderKey)). IfSome o (AllBefore event)) (looks_up old order_old key k) (opening_is (ComesAfterHolder event) (holders_in old) later key k)
+        subst (λ (o : Option (List OrderKey)). IfSome o (AllAreBefore event)) (looks_up old order_old key k) (opening_is (ComesAfterHolder event) (holders_in old) later key k)
 
     -- the matches of an event are what comes to the last stages of its routes' keys
-    pub matches_are : MatchesOne → (item : Item) → filter_map (match_there m span (slots_in old) item.order) item.routes ≡ matches m span (holders_in old) (item ∷ [])
+    pub matches_are : OneItemMatches → (item : Item) → filter_map (match_there m span (slots_in old) item.order) item.routes ≡ matches m span (holders_in old) (item ∷ [])
     matches_are matches_one item =
         sym (matches_one m span (holders_in old) item
         ∙ (λ i. filter_map (λ (route : Route). option_map (λ c. record { key = route.key; chain = c })
         (chain_coming span (λ j. looks_up old order_old route.key j i) (act_by item.order route) m)) item.routes))
 
     -- machines whose slots moved by the event, each by the route of its key, have what is pending after the event
-    module _ (same_holders : SameHolders) (after_in_order : AfterInOrder) (after_one : AfterOne) (after_has_no_other : AfterHasNoOther)
+    module _ (same_holders : HoldersAreSame) (after_in_order : AfterIsInOrder) (after_one : OneItemMovesSlots) (after_has_no_other : AfterHasNoOther)
         (order_new : IsStrictlySortedBy key_cmp (keys_of new)) (of : AreOf m span new) (item : Item)
         (moved : (key : List Value) (k : ℕ) → suc k < m
         → slots_in new key (suc k) ≡ slots_after_event span item.order (find (λ (route : Route). key_eq key route.key) item.routes) (slots_in old key) (suc k)) where
@@ -75,13 +75,13 @@ module _ {X : Type 0} where
           (λ key stage. looks_up new order_new key stage ∙ at_each key stage)
 
   -- machines with the same sequences have the same holders
-  pub alike : SameHolders → (old new : List (Row X)) → IsStrictlySortedBy key_cmp (keys_of old) → IsStrictlySortedBy key_cmp (keys_of new) → KeepsSequences old new → holders_in new ≡ holders_in old
+  pub alike : HoldersAreSame → (old new : List (Row X)) → IsStrictlySortedBy key_cmp (keys_of old) → IsStrictlySortedBy key_cmp (keys_of new) → KeepsSequences old new → holders_in new ≡ holders_in old
   alike same_holders old new order_old order_new same =
       same_holders (holders_in new) (holders_in old) (holders_in_order new order_new) (holders_in_order old order_old)
       (λ key stage. looks_up new order_new key stage ∙ slots_alike old new key stage same ∙ sym (looks_up old order_old key stage))
 
   -- machines whose slots are what was alive have the holders that were alive
-  pub swept_is : SameHolders → AliveInOrder → AliveLooksUp → (span : Option ℤ) (now : ℤ) (old new : List (Row X)) → IsStrictlySortedBy key_cmp (keys_of old) → IsStrictlySortedBy key_cmp (keys_of new)
+  pub swept_is : HoldersAreSame → AliveAreInOrder → AliveLooksUp → (span : Option ℤ) (now : ℤ) (old new : List (Row X)) → IsStrictlySortedBy key_cmp (keys_of old) → IsStrictlySortedBy key_cmp (keys_of new)
       → ((key : List Value) (k : ℕ) → slots_in new key k ≡ alive_at span now (slots_in old key k)) → holders_in new ≡ alive_holders span now (holders_in old)
   swept_is same_holders alive_in_order alive_looks_up span now old new order_old order_new slots =
       let in_order = holders_in_order old order_old in

@@ -18,7 +18,7 @@ use Rattle.eql_values.specs.Orders.{key_cmp}
 use Rattle.eql_values.proofs.Same.{key_same}
 use Rattle.eql_laws.proofs.Elements.{some_is}
 use Rattle.eql_laws.proofs.Facts.{is_equal}
-use Rattle.eql_auto.specs.Machine.{Machine, Sequence, AllBefore, ComesAfter, slot_at, tags_of}
+use Rattle.eql_auto.specs.Machine.{Machine, Sequence, AllAreBefore, ComesAfter, slot_at, tags_of}
 use Rattle.eql_part.specs.KeyTables.{IsOf, AreOf, KeepsReady, KeepsSequences, sequence_of, sequences_in, slots_of, machine_of, slots_in}
 use Rattle.eql_part.specs.Links.{Differ}
 use Rattle.eql_part.proofs.Rows.{Row}
@@ -42,12 +42,12 @@ module _ {X : Type 0} where
   pub found_of : (m : ℕ) (span : Option ℤ) (es : List (Row X)) (key : List Value) (machine : Machine X) → AreOf m span es → machine_of es key ≡ Some machine → IsOf m span machine
   found_of m span es key machine of found = some_is (IsOf m span) (machine_of es key) machine found (IfSome-lookup_from_All (IsOf m span) (is_at (key_cmp key)) es of)
 
-  slot_later : (order : OrderKey) (o : Option (Sequence X)) → IfSome (option_map (λ s. s.0) o) (AllBefore order) → ComesAfter order o
+  slot_later : (order : OrderKey) (o : Option (Sequence X)) → IfSome (option_map (λ s. s.0) o) (AllAreBefore order) → ComesAfter order o
   slot_later order None h = tt
   slot_later order (Some s) h = h
 
   -- an event after all of a machine's chains
-  pub later_slots : (order : OrderKey) (machine : Machine X) → ((k : ℕ) → IfSome (slots_of (Some machine) k) (AllBefore order)) → All (ComesAfter order) machine.slots
+  pub later_slots : (order : OrderKey) (machine : Machine X) → ((k : ℕ) → IfSome (slots_of (Some machine) k) (AllAreBefore order)) → All (ComesAfter order) machine.slots
   later_slots order machine h =
       All-from_get_or (ComesAfter order) machine.slots None (λ i lt. slot_later order (get_or machine.slots i None) (h (suc i)))
 

@@ -11,7 +11,7 @@ use Rattle.std.specs.BTreeMap.{is_at}
 use Rattle.eql_values.specs.Masks.{has_after}
 use Rattle.eql_values.specs.Orders.{key_cmp, key_eq}
 use Rattle.eql_laws.specs.Slots.{Slots}
-use Rattle.eql_auto.specs.Machine.{Machine, Sequence, AllBefore, stages_in, stage_chains, chains_of, slot_at, tags_of}
+use Rattle.eql_auto.specs.Machine.{Machine, Sequence, AllAreBefore, stages_in, stage_chains, chains_of, slot_at, tags_of}
 use Rattle.eql_part.specs.Links.{Differ}
 
 -- how many stages a sequence goes through, the span, and the pending sequences by key and stage
@@ -22,7 +22,7 @@ pub record Pendings : Type 0 where
 
 -- the event comes after all events of the pending sequence
 abbrev pub ComesAfterHolder : OrderKey → Holder → Type 0
-ComesAfterHolder event h = AllBefore event h.chain
+ComesAfterHolder event h = AllAreBefore event h.chain
 
 -- the event comes after all events of these pending sequences
 abbrev pub ComesAfterAll : OrderKey → List Holder → Type 0
@@ -90,7 +90,7 @@ module _ {T : Type 0} where
 
   -- the event comes after all events of the pending sequences of a key
   abbrev pub IsLaterAt : OrderKey → List (List Value × Machine T) → List Value → Type 0
-  IsLaterAt order machines key = (k : ℕ) → IfSome (slots_in machines key k) (AllBefore order)
+  IsLaterAt order machines key = (k : ℕ) → IfSome (slots_in machines key k) (AllAreBefore order)
 
   -- the keys but this one have the machines that they had
   abbrev pub KeepsOtherKeys : List Value → List (List Value × Machine T) → List (List Value × Machine T) → Type 0

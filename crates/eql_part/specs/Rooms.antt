@@ -25,11 +25,11 @@ abbrev pub Lent : Type 0
 Lent = ℕ × Bor (List Value) × Bor (Machine Ticket)
 
 -- no key comes before the one in front of it
-abbrev pub NoneBefore : Lent → Lent → Type 0
-NoneBefore x y = is_lt (key_cmp (lent y).0 (lent x).0) ≡ false
+abbrev pub NoneIsBefore : Lent → Lent → Type 0
+NoneIsBefore x y = is_lt (key_cmp (lent y).0 (lent x).0) ≡ false
 
 abbrev pub AreInKeyOrder : List Lent → Type 0
-AreInKeyOrder rows = AllAdjacentBelow NoneBefore rows (length rows)
+AreInKeyOrder rows = AllAdjacentBelow NoneIsBefore rows (length rows)
 
 -- the rows are these entries once they are put in the order of keys
 abbrev pub AreUnsorted : List (List Value × Machine Ticket) → List Lent → Type 0

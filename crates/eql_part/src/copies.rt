@@ -2,7 +2,7 @@
 ghost use Rattle.std.specs.Prelude.{◌≡◌, ◌-◌, ◌<◌, ◌≤◌, false, IfOk, IfSome, length, map, slice_index_or, vec_capacity};
 ghost use Rattle.eql_part.specs.declared.copies.TheConstants.{AHEAD};
 ghost use Rattle.eql_part.specs.KeyTables.{holders_in};
-ghost use Rattle.eql_part.specs.Rooms.{AreInKeyOrder, Lent, NoneBefore, lent};
+ghost use Rattle.eql_part.specs.Rooms.{AreInKeyOrder, Lent, NoneIsBefore, lent};
 
 use crate::machine::KeyMachine;
 use eql_values::{Holder, Key, Memory};
@@ -53,7 +53,7 @@ pub(crate) fn copy_all<L: Ledger>(
 /// Whether the key at a place comes before the one in front of it.
 fn is_before_last<L: Ledger>(rows: &Vec<(u128, &Key, &KeyMachine<L>)>, place: usize) -> bool
     requires { place < length rows.now.items }
-    ensures { result ≡ false → 0 < place → (d : Lent) → NoneBefore
+    ensures { result ≡ false → 0 < place → (d : Lent) → NoneIsBefore
         (slice_index_or rows.now.items (place - 1) d) (slice_index_or rows.now.items place d) }
 {
     if place == 0 {

@@ -106,7 +106,7 @@ fn empty_slot(bucket: &[Slot]) -> Option<usize>
     None
 }
 
-/// Puts a place into an empty slot of a bucket, and answers whether there was one.
+/// Puts a place into an empty slot of a bucket, and returns whether there was one.
 fn put_in(bucket: &mut [Slot], hash: u64, place: u32) -> bool
     requires { place_in bucket.old hash ≡ None }
     ensures noted { IsTrue result → Notes hash place (place_in bucket.old) (place_in bucket.new) }
@@ -176,7 +176,7 @@ impl HashIndex {
         }
     }
 
-    /// Notes a place under a hash that has none, and answers whether its bucket had an empty slot.
+    /// Notes a place under a hash that has none, and returns whether its bucket had an empty slot.
     fn note(&mut self, hash: u64, place: u32) -> bool
         requires { under_of self.old hash ≡ None }
         ensures noted { IsTrue result → Notes hash place (under_of self.old) (under_of self.new) }
@@ -219,7 +219,7 @@ impl HashIndex {
         }
     }
 
-    /// Notes a place under a hash, and answers whether it did: not where the hash has a place, nor where its bucket is full and
+    /// Notes a place under a hash, and returns whether it did: not where the hash has a place, nor where its bucket is full and
     /// the index doesn't grow. The number of rooms says whether it may.
     pub fn put(&mut self, alloc: Global, hash: u64, place: usize, rooms: usize) -> bool
         ensures absent { IsTrue result → under_of self.old hash ≡ None }

@@ -4,7 +4,7 @@ ghost use Rattle.std.specs.declared.cmp.Ordering.TheVariants.{Less};
 ghost use Rattle.eql_values.specs.declared.order.OrderKey.{OrderKey};
 ghost use Rattle.eql_values.specs.Matching.{after, matches};
 ghost use Rattle.eql_values.specs.OrderKeys.{order_cmp};
-ghost use Rattle.eql_laws.specs.Alive.{HoldersInOrder, alive_holders};
+ghost use Rattle.eql_laws.specs.Alive.{HoldersAreInOrder, alive_holders};
 ghost use Rattle.eql_laws.specs.Shapes.{HasStageBefore, IsFull};
 ghost use Rattle.eql_part.specs.KeyTables.{ComesAfterAll, holders_in, probes_of_all};
 
@@ -62,7 +62,7 @@ impl<L: Ledger> Keys<L> {
     ) -> Result<Keys<L>, Memory>
         requires from { 1 ≤ m }
         requires to { m ≤ 256 }
-        requires order { HoldersInOrder holders }
+        requires order { HoldersAreInOrder holders }
         requires stages { All (HasStageBefore m) holders }
         requires full { All IsFull holders }
         ensures { IfOk result (λ keys. keys
@@ -87,7 +87,7 @@ impl<L: Ledger> Keys<L> {
         })
     }
 
-    /// Plays an event that comes after all events of the pending sequences, and answers the matches that it completes, in
+    /// Plays an event that comes after all events of the pending sequences, and returns the matches that it completes, in
     /// the order of its routes: at most one for each. An event that comes after this one comes after all that is pending
     /// then. After want of memory nothing has changed.
     pub fn take(&mut self, item: &Item, steps: &mut Steps<L>) -> Result<Matches, Memory>
@@ -148,7 +148,7 @@ impl<L: Ledger> Keys<L> {
     /// The pending sequences, by key and stage.
     pub fn holders(&self) -> Result<Holders, Memory>
         ensures holders { IfOk result (λ found. found ≡ self.now.holders) }
-        ensures order { IfOk result (λ found. HoldersInOrder found) }
+        ensures order { IfOk result (λ found. HoldersAreInOrder found) }
     {
         let mut rows = self.machines.by_lead(self.shape)?;
         if let Some(found) = copy_in_order(self.shape.alloc, &rows)? {

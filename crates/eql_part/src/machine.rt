@@ -106,7 +106,7 @@ impl<L: Ledger> KeyMachine<L> {
     }
 
     /// Drops the sequences whose first timestamp plus the span is below `reach`, in nanoseconds, and takes them off the
-    /// list. It answers what the list had of one of them, if any.
+    /// list. It returns what the list had of one of them, if any.
     pub fn expire(
         &mut self,
         list: &mut SpanList<Start>,

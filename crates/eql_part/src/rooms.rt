@@ -21,7 +21,7 @@ pub(crate) struct Shape {
     pub span: Option<i128>,
 }
 
-/// Gives a key without a machine one without sequences, and answers the place of its room. The hash is the key's. After want
+/// Gives a key without a machine one without sequences, and returns the place of its room. The hash is the key's. After want
 /// of memory all sequences are as they were.
 pub(crate) fn add_machine<L: Ledger>(
     machines: &mut KeyTable<L>,

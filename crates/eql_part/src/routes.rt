@@ -5,7 +5,7 @@ ghost use Rattle.std.specs.Option.{option_map, option_to_list};
 ghost use Rattle.eql_values.specs.declared.item.Route.{Route};
 ghost use Rattle.eql_values.specs.declared.value.Value.{Value};
 ghost use Rattle.eql_values.specs.Orders.{key_cmp, key_eq};
-ghost use Rattle.eql_values.specs.Routes.{RoutesInOrder};
+ghost use Rattle.eql_values.specs.Routes.{RoutesAreInOrder};
 ghost use Rattle.eql_laws.specs.OneEvent.{slots_after_event};
 ghost use Rattle.eql_part.specs.KeyTables.{AreBusy, AreBusyBut, AreOf, AreReadyFor, IsIdle, IsLaterAt, KeepsSequences, probes_of_all, sequences_in, slots_in};
 ghost use Rattle.eql_part.specs.Links.{IsLinked};
@@ -53,7 +53,7 @@ pub(crate) fn turn_all<L: Ledger>(
     requires to { shape.stages ≤ 256 }
     requires of { AreOf shape.stages shape.span (entries_of machines.old) }
     requires table { IsTable shape.stages shape.span machines.old }
-    requires order { RoutesInOrder routes.now.items }
+    requires order { RoutesAreInOrder routes.now.items }
     requires ready { AreReadyFor routes.now.items (entries_of machines.old) }
     requires busy { AreBusyBut routes.now.items (entries_of machines.old) }
     requires later { (key : List Value) → IsLaterAt order (entries_of machines.old) key }
@@ -112,7 +112,7 @@ fn are_idle<L: Ledger>(machines: &KeyTable<L>, shape: Shape, routes: &Vec<Route>
     true
 }
 
-/// Plays an event that comes after all that is pending, and answers the matches that it completes. An event of one route
+/// Plays an event that comes after all that is pending, and returns the matches that it completes. An event of one route
 /// searches for its key once, and an event that says nothing to any key takes no memory. After want of memory the pending sequences are as they were.
 pub(crate) fn play<L: Ledger>(
     machines: &mut KeyTable<L>,
@@ -127,7 +127,7 @@ pub(crate) fn play<L: Ledger>(
     requires of { AreOf shape.stages shape.span (entries_of machines.old) }
     requires table { IsTable shape.stages shape.span machines.old }
     requires busy { AreBusy (entries_of machines.old) }
-    requires order { RoutesInOrder routes.now.items }
+    requires order { RoutesAreInOrder routes.now.items }
     requires later { (key : List Value) → IsLaterAt order (entries_of machines.old) key }
     requires linked { IsLinked [] (sequences_in (entries_of machines.old)) list.old }
     ensures of { AreOf shape.stages shape.span (entries_of machines.new) }

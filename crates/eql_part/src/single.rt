@@ -97,7 +97,7 @@ fn play_machine<L: Ledger>(
 }
 
 /// The place of the room of a route's key, by one search for it. A key without a machine gets one without sequences where the
-/// event begins a sequence, and else the answer is `None`. The hash is the key's. After want of memory all sequences are as
+/// event begins a sequence, and else the result is `None`. The hash is the key's. After want of memory all sequences are as
 /// they were.
 fn room_for<L: Ledger>(
     machines: &mut KeyTable<L>,
@@ -176,7 +176,7 @@ fn play_there<L: Ledger>(
     play_machine(&mut room.machine, list, shape, order, route, steps)
 }
 
-/// Plays an event of one route that comes after all that is pending, and answers the match that it completes. An event that
+/// Plays an event of one route that comes after all that is pending, and returns the match that it completes. An event that
 /// says nothing to its key takes no memory. After want of memory the pending sequences are as they were.
 pub(crate) fn play_one<L: Ledger>(
     machines: &mut KeyTable<L>,

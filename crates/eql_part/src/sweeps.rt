@@ -44,7 +44,7 @@ fn is_front_stale(list: &SpanList<Start>, span: Option<i128>, now: i128) -> bool
     }
 }
 
-/// Drops the sequences of the key of the first on the list that are no longer alive, and answers what the list had of one
+/// Drops the sequences of the key of the first on the list that are no longer alive, and returns what the list had of one
 /// of them.
 fn expire_machine<L: Ledger>(
     machines: &mut KeyTable<L>,

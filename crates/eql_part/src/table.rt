@@ -172,7 +172,7 @@ impl<L: Ledger> KeyTable<L> {
         self.free.pop();
     }
 
-    /// Gives a key without a machine one without sequences, and answers the place of its room. After want of memory no key's
+    /// Gives a key without a machine one without sequences, and returns the place of its room. After want of memory no key's
     /// machine has changed.
     pub fn add(&mut self, shape: Shape, hash: u64, key: &Key) -> Result<usize, Memory>
         requires from { 1 ≤ shape.stages }

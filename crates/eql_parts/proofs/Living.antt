@@ -8,10 +8,10 @@ use Rattle.eql_values.specs.Marks.{is_below}
 use Rattle.eql_values.specs.declared.order.Mark.{Mark}
 use Rattle.eql_values.specs.declared.item.Item.{Item}
 use Rattle.eql_values.specs.declared.found.Holder.{Holder}
-use Rattle.eql_laws.specs.Alive.{AliveInOrder}
+use Rattle.eql_laws.specs.Alive.{AliveAreInOrder}
 use Rattle.eql_laws.specs.Shapes.{HasStageBefore}
 use Rattle.eql_part.specs.KeyTables.{ComesAfterHolder}
-use Rattle.eql_parts.specs.Inboxes.{HolderBelow, IsLater, IsWaiting, LiesBelow, WaitingView}
+use Rattle.eql_parts.specs.Inboxes.{HolderIsBelow, IsLater, IsWaiting, LiesBelow, WaitingView}
 use Rattle.eql_parts.specs.PartSteps.{HasNothingStale, IsAliveBy, PartState, Rules, alive_by, mark_time, still_held}
 use Rattle.eql_parts.specs.Viewed.{IsPart}
 
@@ -44,12 +44,12 @@ still_fresh rules state hs is = record {
 pub still_below : (span processed : Option ℤ) (done last : Mark) (hs : List Holder) (inbox : List Item)
     → LiesBelow last hs inbox → LiesBelow last (still_held span processed done hs) inbox
 still_below span processed done last hs inbox h = record {
-  held_below = still_keep (HolderBelow last) span processed done hs h.held_below;
+  held_below = still_keep (HolderIsBelow last) span processed done hs h.held_below;
   inbox_below = h.inbox_below;
 }
 
 -- the events still wait for those that are left
-pub left_waiting : AliveInOrder → (stages : ℕ) (span : Option ℤ) (t : ℤ) (hs : List Holder) (inbox : List Item)
+pub left_waiting : AliveAreInOrder → (stages : ℕ) (span : Option ℤ) (t : ℤ) (hs : List Holder) (inbox : List Item)
     → IsWaiting stages hs inbox → IsWaiting stages (alive_by span (Some t) hs) inbox
 left_waiting in_order stages span t hs inbox h = record {
   in_order = in_order span t hs h.in_order;
@@ -63,10 +63,10 @@ left_waiting in_order stages span t hs inbox h = record {
 -- a part that begins, with those that are alive at its mark
 pub begun : (w : WaitingView) (m : ℕ) (span : Option ℤ) (hs : List Holder) (done : Mark)
     → w ≡ record { stages = m; span = span; held = alive_by span (mark_time done) hs; inbox = []; found = []; processed = None }
-    → All (HolderBelow done) hs → IsPart w done done
+    → All (HolderIsBelow done) hs → IsPart w done done
 begun w m span hs done is below =
     subst (λ (x : WaitingView). IsPart x done done) (sym is)
     (record {
-      below = record { held_below = left_keep (HolderBelow done) span (mark_time done) hs below; inbox_below = All-nil (λ (x : Item). is_below done x ≡ true) };
+      below = record { held_below = left_keep (HolderIsBelow done) span (mark_time done) hs below; inbox_below = All-nil (λ (x : Item). is_below done x ≡ true) };
       fresh = record { by_event = left_alive span None (alive_by span (mark_time done) hs); by_mark = left_alive span (mark_time done) hs };
     })

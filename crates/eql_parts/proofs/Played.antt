@@ -8,11 +8,11 @@ use Rattle.eql_values.specs.declared.order.OrderKey.{OrderKey}
 use Rattle.eql_values.specs.declared.item.Item.{Item}
 use Rattle.eql_values.specs.declared.found.Match.{Match}
 use Rattle.eql_values.specs.declared.found.Holder.{Holder}
-use Rattle.eql_values.specs.Ascending.{AllAfter}
+use Rattle.eql_values.specs.Ascending.{AllAreAfter}
 use Rattle.eql_values.specs.Matching.{after, matches}
 use Rattle.eql_values.specs.OrderKeys.{order_cmp}
-use Rattle.eql_laws.specs.OneEvent.{AfterNone}
-use Rattle.eql_laws.specs.Splits.{AfterSplit, MatchesSplit}
+use Rattle.eql_laws.specs.OneEvent.{AfterNoneIsSame}
+use Rattle.eql_laws.specs.Splits.{AfterSplits, MatchesSplit}
 use Rattle.eql_part.specs.KeyTables.{ComesAfterAll}
 use Rattle.eql_parts.specs.Inboxes.{IsLater, IsNext, IsWaiting, PlaysFirst, WaitingView}
 use Rattle.eql_parts.specs.PartSteps.{last_time}
@@ -28,7 +28,7 @@ last_time_on time [] ys = refl
 last_time_on time (x ∷ xs) ys = last_time_on (Some x.order.ts) xs ys
 
 -- no event was played
-pub played_none : AfterNone → (w : WaitingView) → IsWaiting w.stages w.held w.inbox → PlaysFirst w 0 w
+pub played_none : AfterNoneIsSame → (w : WaitingView) → IsWaiting w.stages w.held w.inbox → PlaysFirst w 0 w
 played_none none w is = record {
   played = [];
   count = refl;
@@ -41,7 +41,7 @@ played_none none w is = record {
 }
 
 -- events were played, and then others
-pub played_more : AfterSplit → MatchesSplit → (a b c : WaitingView) (n k : ℕ) → PlaysFirst a n b → PlaysFirst b k c → PlaysFirst a (n + k) c
+pub played_more : AfterSplits → MatchesSplit → (a b c : WaitingView) (n k : ℕ) → PlaysFirst a n b → PlaysFirst b k c → PlaysFirst a (n + k) c
 played_more after_split matches_split a b c n k p q = record {
   played = p.played ++ q.played;
   count = length-append p.played q.played ∙ (λ i. p.count i + q.count i);
@@ -58,7 +58,7 @@ played_more after_split matches_split a b c n k p q = record {
 
 -- what comes after an event comes after all that is pending after it
 pub later_all : (event : OrderKey) (held : List Holder) → ((next : OrderKey) → order_cmp event next ≡ Less → ComesAfterAll next held)
-    → (rest : List Item) → AllAfter event rest → All (IsLater held) rest
+    → (rest : List Item) → AllAreAfter event rest → All (IsLater held) rest
 later_all event held later [] h = All-nil (IsLater held)
 later_all event held later (item ∷ rest) h = All-cons (IsLater held) item rest (later item.order h.0) (later_all event held later rest h.1)
 

@@ -8,9 +8,9 @@ use Rattle.eql_values.specs.declared.found.Holder.{Holder}
 use Rattle.eql_values.specs.Ascending.{Ascend}
 use Rattle.eql_values.specs.Marks.{is_below}
 use Rattle.eql_values.specs.Matching.{after, matches}
-use Rattle.eql_laws.specs.Alive.{HoldersInOrder}
+use Rattle.eql_laws.specs.Alive.{HoldersAreInOrder}
 use Rattle.eql_laws.specs.Shapes.{EventsPass, HasStageBefore}
-use Rattle.eql_laws.specs.Together.{AllBelow}
+use Rattle.eql_laws.specs.Together.{AllAreBelow}
 use Rattle.eql_part.specs.KeyTables.{ComesAfterAll}
 use Rattle.eql_parts.specs.PartSteps.{last_time}
 
@@ -34,7 +34,7 @@ pub record IsNext (held : List Holder) (inbox : List Item) : Type 0 where
 
 -- the pending sequences stand by key and stage, each at a stage before the last, and the events that wait come after them
 pub record IsWaiting (stages : ℕ) (held : List Holder) (inbox : List Item) : Type 0 where
-  pub in_order : HoldersInOrder held
+  pub in_order : HoldersAreInOrder held
   pub before : All (HasStageBefore stages) held
   pub next : IsNext held inbox
 
@@ -54,10 +54,10 @@ abbrev pub below_mark : Mark → OrderKey → Bool
 below_mark mark event = is_below mark (record { order = event; routes = [] })
 
 -- the events of the pending sequence lie below the mark
-abbrev pub HolderBelow : Mark → Holder → Type 0
-HolderBelow mark h = EventsPass (below_mark mark) h.chain
+abbrev pub HolderIsBelow : Mark → Holder → Type 0
+HolderIsBelow mark h = EventsPass (below_mark mark) h.chain
 
 -- all that a part has lies below the last delivered mark
 pub record LiesBelow (mark : Mark) (held : List Holder) (inbox : List Item) : Type 0 where
-  pub held_below : All (HolderBelow mark) held
-  pub inbox_below : AllBelow mark inbox
+  pub held_below : All (HolderIsBelow mark) held
+  pub inbox_below : AllAreBelow mark inbox

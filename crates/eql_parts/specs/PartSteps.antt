@@ -1,6 +1,6 @@
 -- What a part does at each call: its state before and after, by operation and reply.
 use Rattle.std.specs.Prelude.{◌≡◌, ◌<◌, ◌≤◌, ◌++◌, ℕ, ℤ, List, [], ◌∷◌, Option, None, Some, All, IsTrue, length, min}
-use Rattle.eql_laws.specs.Lateness.{AtMost}
+use Rattle.eql_laws.specs.Lateness.{IsAtMost}
 use Rattle.eql_values.specs.declared.order.Mark.{Mark}
 use Rattle.eql_values.specs.declared.order.Mark.TheVariants.{Start, At, End}
 use Rattle.eql_values.specs.declared.item.Item.{Item}
@@ -9,8 +9,8 @@ use Rattle.eql_values.specs.declared.found.Holder.{Holder}
 use Rattle.eql_values.specs.Ascending.{Ascend}
 use Rattle.eql_values.specs.Chains.{in_time}
 use Rattle.eql_values.specs.Matching.{after, matches}
-use Rattle.eql_laws.specs.Alive.{HoldersInOrder, alive_holders}
-use Rattle.eql_laws.specs.Together.{AllBelow, NoneBelow}
+use Rattle.eql_laws.specs.Alive.{HoldersAreInOrder, alive_holders}
+use Rattle.eql_laws.specs.Together.{AllAreBelow, NoneIsBelow}
 use Rattle.eql_parts.specs.declared.ops.PartOp.{PartOp}
 use Rattle.eql_parts.specs.declared.ops.PartOp.TheVariants.{Deliver, Turn, Collect, Snap}
 use Rattle.eql_parts.specs.declared.ops.PartReply.{PartReply}
@@ -93,54 +93,54 @@ pub record Delivers (rules : Rules) (old : PartState) (items : List Item) (mark 
   pub last : new.last ≡ mark
 
 -- a delivery is done, or handed back with nothing changed
-abbrev pub DeliverStep : Rules → PartState → List Item → Mark → PartReply → PartState → Type 0
-DeliverStep rules old items mark Done new = Delivers rules old items mark new
-DeliverStep rules old items mark (Memory back n) new = (back ≡ items) × (n ≡ 0) × (new ≡ old)
-DeliverStep rules old items mark (Turned n) new = ⊥
-DeliverStep rules old items mark Idle new = ⊥
-DeliverStep rules old items mark (Found matches done) new = ⊥
-DeliverStep rules old items mark (Cut holders) new = ⊥
+abbrev pub IsDeliverStep : Rules → PartState → List Item → Mark → PartReply → PartState → Type 0
+IsDeliverStep rules old items mark Done new = Delivers rules old items mark new
+IsDeliverStep rules old items mark (Memory back n) new = (back ≡ items) × (n ≡ 0) × (new ≡ old)
+IsDeliverStep rules old items mark (Turned n) new = ⊥
+IsDeliverStep rules old items mark Idle new = ⊥
+IsDeliverStep rules old items mark (Found matches done) new = ⊥
+IsDeliverStep rules old items mark (Cut holders) new = ⊥
 
 -- a turn plays as many events as wait, at most max; none wait; or memory ran out at an event, which is still the first
-abbrev pub TurnStep : Rules → PartState → ℕ → PartReply → PartState → Type 0
-TurnStep rules old max (Turned n) new = Plays rules old n new × (n ≡ min max (length old.inbox)) × (0 < n)
-TurnStep rules old max Idle new = (old.inbox ≡ []) × (new ≡ old)
-TurnStep rules old max (Memory back n) new = (back ≡ []) × Plays rules old n new × (n < min max (length old.inbox))
-TurnStep rules old max Done new = ⊥
-TurnStep rules old max (Found matches done) new = ⊥
-TurnStep rules old max (Cut holders) new = ⊥
+abbrev pub IsTurnStep : Rules → PartState → ℕ → PartReply → PartState → Type 0
+IsTurnStep rules old max (Turned n) new = Plays rules old n new × (n ≡ min max (length old.inbox)) × (0 < n)
+IsTurnStep rules old max Idle new = (old.inbox ≡ []) × (new ≡ old)
+IsTurnStep rules old max (Memory back n) new = (back ≡ []) × Plays rules old n new × (n < min max (length old.inbox))
+IsTurnStep rules old max Done new = ⊥
+IsTurnStep rules old max (Found matches done) new = ⊥
+IsTurnStep rules old max (Cut holders) new = ⊥
 
 -- a collection hands out all matches found, and the mark that is done
-abbrev pub CollectStep : PartState → PartReply → PartState → Type 0
-CollectStep old (Found found done) new = (found ≡ old.found) × (done ≡ old.done) × (new ≡ record old { found = [] })
-CollectStep old Done new = ⊥
-CollectStep old (Turned n) new = ⊥
-CollectStep old Idle new = ⊥
-CollectStep old (Cut holders) new = ⊥
-CollectStep old (Memory back n) new = ⊥
+abbrev pub IsCollectStep : PartState → PartReply → PartState → Type 0
+IsCollectStep old (Found found done) new = (found ≡ old.found) × (done ≡ old.done) × (new ≡ record old { found = [] })
+IsCollectStep old Done new = ⊥
+IsCollectStep old (Turned n) new = ⊥
+IsCollectStep old Idle new = ⊥
+IsCollectStep old (Cut holders) new = ⊥
+IsCollectStep old (Memory back n) new = ⊥
 
 -- a copy of the pending sequences by key and stage, or memory ran out
-abbrev pub SnapStep : PartState → PartReply → PartState → Type 0
-SnapStep old (Cut holders) new = (holders ≡ old.held) × HoldersInOrder holders × (new ≡ old)
-SnapStep old (Memory back n) new = (back ≡ []) × (n ≡ 0) × (new ≡ old)
-SnapStep old Done new = ⊥
-SnapStep old (Turned n) new = ⊥
-SnapStep old Idle new = ⊥
-SnapStep old (Found found done) new = ⊥
+abbrev pub IsSnapStep : PartState → PartReply → PartState → Type 0
+IsSnapStep old (Cut holders) new = (holders ≡ old.held) × HoldersAreInOrder holders × (new ≡ old)
+IsSnapStep old (Memory back n) new = (back ≡ []) × (n ≡ 0) × (new ≡ old)
+IsSnapStep old Done new = ⊥
+IsSnapStep old (Turned n) new = ⊥
+IsSnapStep old Idle new = ⊥
+IsSnapStep old (Found found done) new = ⊥
 
 -- a call of a part: its operation, its reply, and the state before and after
-abbrev pub PartStep : Rules → PartState → PartOp → PartReply → PartState → Type 0
-PartStep rules old (Deliver items mark) reply new = DeliverStep rules old items mark reply new
-PartStep rules old (Turn max) reply new = TurnStep rules old max reply new
-PartStep rules old Collect reply new = CollectStep old reply new
-PartStep rules old Snap reply new = SnapStep old reply new
+abbrev pub IsPartStep : Rules → PartState → PartOp → PartReply → PartState → Type 0
+IsPartStep rules old (Deliver items mark) reply new = IsDeliverStep rules old items mark reply new
+IsPartStep rules old (Turn max) reply new = IsTurnStep rules old max reply new
+IsPartStep rules old Collect reply new = IsCollectStep old reply new
+IsPartStep rules old Snap reply new = IsSnapStep old reply new
 
 -- events that may be delivered after a mark, up to another that isn't less
 pub record CanDeliver (from : Mark) (items : List Item) (mark : Mark) : Type 0 where
-  pub rises : AtMost from mark
+  pub rises : IsAtMost from mark
   pub ascends : Ascend items
-  pub not_below : NoneBelow from items
-  pub below : AllBelow mark items
+  pub not_below : NoneIsBelow from items
+  pub below : AllAreBelow mark items
 
 -- which operations may be played in a state
 abbrev pub PartAllows : PartState → PartOp → Type 0

@@ -1,9 +1,9 @@
 //! A part: its calls, and what each does to its state.
 ghost use Rattle.std.specs.Prelude.{◌≡◌, ◌≤◌, [], All, IfOk, OnErr};
-ghost use Rattle.eql_laws.specs.Alive.{HoldersInOrder};
+ghost use Rattle.eql_laws.specs.Alive.{HoldersAreInOrder};
 ghost use Rattle.eql_laws.specs.Shapes.{HasStageBefore, IsFull};
-ghost use Rattle.eql_parts.specs.Inboxes.{HolderBelow};
-ghost use Rattle.eql_parts.specs.PartSteps.{CanDeliver, CollectStep, DeliverStep, HasNothingStale, PartAllows, PartStep, SnapStep, TurnStep, alive_by, done_by, mark_time, still_held};
+ghost use Rattle.eql_parts.specs.Inboxes.{HolderIsBelow};
+ghost use Rattle.eql_parts.specs.PartSteps.{CanDeliver, HasNothingStale, IsCollectStep, IsDeliverStep, IsPartStep, IsSnapStep, IsTurnStep, PartAllows, alive_by, done_by, mark_time, still_held};
 
 use crate::ops::{PartOp, PartReply};
 use crate::waiting::Waiting;
@@ -78,10 +78,10 @@ impl<L: Ledger> Part<L> {
     ) -> Result<Part<L>, Memory>
         requires from { 1 ≤ m }
         requires to { m ≤ 256 }
-        requires order { HoldersInOrder holders }
+        requires order { HoldersAreInOrder holders }
         requires stages { All (HasStageBefore m) holders }
         requires full { All IsFull holders }
-        requires below { All (HolderBelow done) holders }
+        requires below { All (HolderIsBelow done) holders }
         ensures { IfOk result (λ part. part ≡ record {
           rules = record { stages = m; span = span };
           state = record {
@@ -109,7 +109,7 @@ impl<L: Ledger> Part<L> {
     pub fn play(&mut self, op: PartOp, steps: &mut Steps<L>) -> PartReply
         requires allowed { PartAllows self.old.state op }
         ensures rules { self.new.rules ≡ self.old.rules }
-        ensures step { PartStep self.old.rules self.old.state op result self.new.state }
+        ensures step { IsPartStep self.old.rules self.old.state op result self.new.state }
         ensures fresh { HasNothingStale self.new.rules self.new.state }
     {
         let reply = match op {
@@ -133,7 +133,7 @@ impl<L: Ledger> Part<L> {
     fn deliver(&mut self, items: Items, mark: Mark, steps: &mut Steps<L>) -> PartReply
         requires can { CanDeliver self.old.state.last items mark }
         ensures rules { self.new.rules ≡ self.old.rules }
-        ensures step { DeliverStep self.old.rules self.old.state items mark result
+        ensures step { IsDeliverStep self.old.rules self.old.state items mark result
             self.new.state }
     {
         ascend_together();
@@ -152,7 +152,7 @@ impl<L: Ledger> Part<L> {
     fn turn(&mut self, max: u32, steps: &mut Steps<L>) -> PartReply
         requires from { 1 ≤ max }
         ensures rules { self.new.rules ≡ self.old.rules }
-        ensures step { TurnStep self.old.rules self.old.state max result self.new.state }
+        ensures step { IsTurnStep self.old.rules self.old.state max result self.new.state }
     {
         events_and_keys_stay();
         if self.waiting.is_idle() {
@@ -174,7 +174,7 @@ impl<L: Ledger> Part<L> {
     /// Hands out the matches found.
     fn collect(&mut self) -> PartReply
         ensures rules { self.new.rules ≡ self.old.rules }
-        ensures step { CollectStep self.old.state result self.new.state }
+        ensures step { IsCollectStep self.old.state result self.new.state }
     {
         let matches = self.waiting.collect(self.alloc);
         PartReply::Found {
@@ -185,7 +185,7 @@ impl<L: Ledger> Part<L> {
 
     /// Copies the pending sequences.
     fn snap(&self) -> PartReply
-        ensures { SnapStep self.now.state result self.now.state }
+        ensures { IsSnapStep self.now.state result self.now.state }
     {
         match self.waiting.holders() {
             Ok(held) => PartReply::Cut(held),

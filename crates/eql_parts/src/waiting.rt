@@ -1,6 +1,6 @@
 //! The pending sequences of a part's keys, and the events that wait to be played after them.
 ghost use Rattle.std.specs.Prelude.{◌≡◌, ◌<◌, ◌++◌, [], All, IfErr, IfOk, IsTrue, None, OnErr, OnOk, Some, false, length, min};
-ghost use Rattle.eql_laws.specs.Alive.{HoldersInOrder};
+ghost use Rattle.eql_laws.specs.Alive.{HoldersAreInOrder};
 ghost use Rattle.eql_laws.specs.Shapes.{HasStageBefore};
 ghost use Rattle.eql_parts.specs.PartSteps.{alive_by};
 ghost use Rattle.eql_parts.specs.Inboxes.{IsNext, IsWaiting, PlaysFirst};
@@ -62,7 +62,7 @@ pub(crate) struct Played {
 impl<L: Ledger> Waiting<L> {
     /// These pending sequences, with no event that waits.
     pub fn new(alloc: Global, keys: Keys<L>) -> Waiting<L>
-        requires order { HoldersInOrder keys.holders }
+        requires order { HoldersAreInOrder keys.holders }
         requires stages { All (HasStageBefore keys.stages) keys.holders }
         ensures { result ≡ record {
           stages = keys.stages;
@@ -194,7 +194,7 @@ impl<L: Ledger> Waiting<L> {
     /// A copy of the pending sequences, by key and stage.
     pub fn holders(&self) -> Result<Holders, Memory>
         ensures holders { IfOk result (λ held. held ≡ self.now.held) }
-        ensures order { IfOk result (λ held. HoldersInOrder held) }
+        ensures order { IfOk result (λ held. HoldersAreInOrder held) }
     {
         self.keys.holders()
     }

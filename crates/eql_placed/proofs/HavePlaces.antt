@@ -14,7 +14,7 @@ use Rattle.eql_laws.specs.Books.{KeptPass}
 use Rattle.eql_laws.specs.Counting.{front}
 use Rattle.eql_laws.specs.Fitting.{Run}
 use Rattle.eql_laws.specs.Lanes.{lanes_from}
-use Rattle.eql_laws.specs.Places.{ReadTo, whole, Late}
+use Rattle.eql_laws.specs.Places.{ReadTo, whole, RestIsLate}
 use Rattle.eql_laws.specs.Shapes.{EventsStay}
 use Rattle.eql_cut.specs.Placing.{orders_in}
 use Rattle.eql_placed.specs.Placed.{place_of_line, place_in_texts, ShardHasLine}
@@ -86,7 +86,7 @@ events_have_places stay keep run reads t shards cut reading is =
     (below_pass has_place reads (Some run.slack) (placed_text reads reading run) texts (At t))
     (lanes_are reads reading run has_place whole t shards (placed_whole reads reading run)))
 
-pub named_were_read : EventsStay → KeptPass → Late → NamedWereRead
+pub named_were_read : EventsStay → KeptPass → RestIsLate → NamedWereRead
 named_were_read stay keep late run reads t shards cut reading places safe is shard line named =
     let fronts : List (List ℕ) = map front shards in
     named_lines (ShardHasLine fronts) shard line (orders_in cut)

@@ -10,10 +10,10 @@ use Rattle.eql_laws.specs.Belows.{IsReading}
 use Rattle.eql_lane.specs.Lanes.{Setting}
 use Rattle.eql_lane.specs.Views.{LaneView, setting_of}
 use Rattle.eql_parts.specs.PartSteps.{PartView, Rules}
-use Rattle.eql_rounds.specs.LaneRounds.{LaneAt}
-use Rattle.eql_conductor.specs.LaneRounds.{LanesAt, text_at}
+use Rattle.eql_rounds.specs.LaneRounds.{LaneIsAt}
+use Rattle.eql_conductor.specs.LaneRounds.{LanesAreAt, text_at}
 use Rattle.eql_conductor.specs.PartRounds.{IsAtRest, AreAtRest}
-use Rattle.eql_conductor.specs.Rounds.{OfTexts}
+use Rattle.eql_conductor.specs.Rounds.{BenchIsOfTexts}
 use Rattle.eql_replay.specs.declared.foreign.Foreign.{Foreign}
 use Rattle.eql_replay.specs.declared.noted.Noted.{Noted}
 use Rattle.eql_replay.specs.Listed.{known_of, rules_in, set_in}
@@ -26,11 +26,11 @@ use Rattle.eql_replay.proofs.Places.{there_or}
 pub record IsLaneAt {S L : Type 0} (read_of : L → Reads) (text told : Option (List ℕ)) (s : ℕ) (mark : Mark) (lane : LaneView S L) : Type 0 where
   pub shard : lane.shard ≡ s
   pub reading : IsReading (read_of lane.reader)
-  pub at : LaneAt told (setting_of read_of text lane) mark lane.state
+  pub at : LaneIsAt told (setting_of read_of text lane) mark lane.state
 
 module _ {S L : Type 0} (read_of : L → Reads) (text : ℕ → Option (List ℕ)) (pool : PoolView S L) (notes : List Noted) where
   pub lanes_at : (texts : Option (List (List ℕ))) (mark : Mark)
-      → ((s : ℕ) (lane : LaneView S L) → slice_get pool.lanes s ≡ Some lane → IsLaneAt read_of (text s) (text_at texts s) s mark lane) → LanesAt texts mark (known_of read_of text pool notes)
+      → ((s : ℕ) (lane : LaneView S L) → slice_get pool.lanes s ≡ Some lane → IsLaneAt read_of (text s) (text_at texts s) s mark lane) → LanesAreAt texts mark (known_of read_of text pool notes)
   lanes_at texts mark each = record {
     are = record {
       shard = λ s l.
@@ -41,15 +41,15 @@ module _ {S L : Type 0} (read_of : L → Reads) (text : ℕ → Option (List ℕ
           subst (λ (set : Setting). IsReading set.reads) (sym (ap (set_in read_of (text s)) one.1)) (each s one.0 one.1).reading;
     };
     each = λ s l x has.
-        subst (λ (set : Setting). LaneAt (text_at texts s) set mark x) (sym (ap (set_in read_of (text s)) has.there))
-        (subst (λ z. LaneAt (text_at texts s) (setting_of read_of (text s) has.lane) mark z) (sym has.state_is) (each s has.lane has.there).at);
+        subst (λ (set : Setting). LaneIsAt (text_at texts s) set mark x) (sym (ap (set_in read_of (text s)) has.there))
+        (subst (λ z. LaneIsAt (text_at texts s) (setting_of read_of (text s) has.lane) mark z) (sym has.state_is) (each s has.lane has.there).at);
   }
 
   -- of told texts, where all lanes read alike
   pub of_texts : (reads : Reads) (slack : Option ℤ) (texts : List (List ℕ)) (mark : Mark) → length texts ≡ length pool.lanes
       → ((s : ℕ) (lane : LaneView S L) → slice_get pool.lanes s ≡ Some lane → (read_of lane.reader ≡ reads) × (lane.slack ≡ slack))
       → ((s : ℕ) (lane : LaneView S L) → slice_get pool.lanes s ≡ Some lane → IsLaneAt read_of (text s) (slice_get texts s) s mark lane)
-      → OfTexts reads slack texts mark (known_of read_of text pool notes)
+      → BenchIsOfTexts reads slack texts mark (known_of read_of text pool notes)
   of_texts reads slack texts mark count alike each = record {
     read = record {
       count = count;

@@ -7,11 +7,11 @@ use Rattle.eql_values.specs.Accepted.{Reads}
 use Rattle.eql_outside.specs.Plans.{FaultPlan}
 use Rattle.eql_lane.specs.declared.ops.LaneOp.{LaneOp}
 use Rattle.eql_lane.specs.declared.ops.LaneReply.{LaneReply}
-use Rattle.eql_lane.specs.Lanes.{Setting, LaneState, LaneStep}
+use Rattle.eql_lane.specs.Lanes.{Setting, LaneState, IsLaneStep}
 use Rattle.eql_lane.specs.Views.{LaneView, IsTextOf, setting_of}
 use Rattle.eql_parts.specs.declared.ops.PartOp.{PartOp}
 use Rattle.eql_parts.specs.declared.ops.PartReply.{PartReply}
-use Rattle.eql_parts.specs.PartSteps.{PartState, PartStep, PartView, Rules}
+use Rattle.eql_parts.specs.PartSteps.{IsPartStep, PartState, PartView, Rules}
 use Rattle.eql_conductor.specs.Benches.{CallsLane, LeavesLane, LanePlays, CallsPart, LeavesPart, PartPlays}
 use Rattle.eql_conductor.specs.Notes.{lane_note, part_note}
 use Rattle.eql_conductor.proofs.Resting.{fed_self, same_or, turned_self}
@@ -77,8 +77,8 @@ module _ (p : ℕ) (op : PartOp) (reply : PartReply) (old new : List PartView) (
         before = played.before.state;
         was = record { part = played.before; there = played.was; state_is = refl };
         turned = turned_self (rules_in (slice_get old p)) played.before.state;
-        step = subst (λ (r : Rules). PartStep r played.before.state op reply y) (sym rules)
-            (subst (λ (z : PartState). PartStep played.before.rules played.before.state op reply z) (sym (has.state_is ∙ ap (λ (v : PartView). v.state) e)) played.step);
+        step = subst (λ (r : Rules). IsPartStep r played.before.state op reply y) (sym rules)
+            (subst (λ (z : PartState). IsPartStep played.before.rules played.before.state op reply z) (sym (has.state_is ∙ ap (λ (v : PartView). v.state) e)) played.step);
       }
 
 module _ {S L : Type 0} (left lent_as : S → Option (List ℕ)) (fault_plan : S → Option FaultPlan) (read_of : L → Reads) where
@@ -131,8 +131,8 @@ module _ {S L : Type 0} (left lent_as : S → Option (List ℕ)) (fault_plan : S
           before = played.before.state;
           was = record { lane = played.before; there = played.was; state_is = refl };
           fed = fed_self (set_in read_of (text s) (slice_get old s)) played.before.state;
-          step = subst (λ (t : Setting). LaneStep t played.before.state op reply y) (sym set)
-              (subst (λ (z : LaneState). LaneStep (setting_of read_of (text s) played.before) played.before.state op reply z) (sym (has.state_is ∙ ap (λ (v : LaneView S L). v.state) e)) step);
+          step = subst (λ (t : Setting). IsLaneStep t played.before.state op reply y) (sym set)
+              (subst (λ (z : LaneState). IsLaneStep (setting_of read_of (text s) played.before) played.before.state op reply z) (sym (has.state_is ∙ ap (λ (v : LaneView S L). v.state) e)) step);
         }
 
   -- ---- a play of the caller

@@ -13,13 +13,13 @@ use Rattle.eql_lane.specs.declared.ops.LaneOp.TheVariants as op
 use Rattle.eql_lane.specs.declared.ops.LaneReply.{LaneReply}
 use Rattle.eql_lane.specs.declared.ops.LaneReply.TheVariants as reply
 use Rattle.eql_lane.specs.declared.ops.LimitOf.TheVariants as limit
-use Rattle.eql_lane.specs.Lanes.{FeedStep, GoesOn, LaneState, LaneStep, LookStep, ReadsOn, Setting, SnapStep, TakeStep}
+use Rattle.eql_lane.specs.Lanes.{GoesOn, IsFeedStep, IsLaneStep, IsLookStep, IsSnapStep, IsTakeStep, LaneState, ReadsOn, Setting}
 use Rattle.eql_lane.specs.Views.{LaneView, IsTextOf, setting_of}
 use Rattle.eql_lane.proofs.FeedLines.{length_numbered, lines_both}
 use Rattle.eql_conductor.proofs.Resting.{same_or}
 use Rattle.eql_replay.specs.declared.foreign.Foreign.{Foreign}
 use Rattle.eql_replay.specs.declared.foreign.Foreign.TheVariants.{Feed, Turn}
-use Rattle.eql_replay.specs.Opened.{AreOfTexts, LinesOn, ReadsFurther}
+use Rattle.eql_replay.specs.Opened.{AreOfTexts, LanesReadFurther, ReadsFurther}
 use Rattle.eql_replay.specs.Pools.{ForeignsPlay, ForeignPlays, PlaysLaneAt, PoolView}
 use Rattle.eql_replay.proofs.Calls.{is_after, lane_else}
 use Rattle.eql_replay.proofs.Others.{foreign_texts}
@@ -115,7 +115,7 @@ module _ (set : Setting) (t : List ℕ) (told : set.text ≡ Some t) (one : Lane
             omega (arith, a, b, c, d);
       }
 
-  feed_further : (x : LaneState) (max : ℕ) (answer : LaneReply) (y : LaneState) → FeedStep set x max answer y → Further x → Further y
+  feed_further : (x : LaneState) (max : ℕ) (answer : LaneReply) (y : LaneState) → IsFeedStep set x max answer y → Further x → Further y
   feed_further x max (reply.Fed n) y step was = read_more x n y step.feeds.reads was
   feed_further x max (reply.Held k) y step was = stays x y step.2 was
   feed_further x max reply.Closed y step was = read_more x 0 y step.reads was
@@ -129,7 +129,7 @@ module _ (set : Setting) (t : List ℕ) (told : set.text ≡ Some t) (one : Lane
   feed_further x max (reply.Cut cut) y step was = absurd step
   feed_further x max (reply.Memory n) y step was = read_more x n y step.feeds.reads was
 
-  take_further : (x : LaneState) (mark : Mark) (answer : LaneReply) (y : LaneState) → TakeStep set x mark answer y → Further x → Further y
+  take_further : (x : LaneState) (mark : Mark) (answer : LaneReply) (y : LaneState) → IsTakeStep set x mark answer y → Further x → Further y
   take_further x mark (reply.Taken items) y step was =
       same_place x y (ap (λ (cut : LaneCut). cut.offset) step.cut) (ap (λ (cut : LaneCut). cut.counts.lines) step.cut) was
   take_further x mark (reply.Memory n) y step was = stays x y step.1 was
@@ -141,7 +141,7 @@ module _ (set : Setting) (t : List ℕ) (told : set.text ≡ Some t) (one : Lane
   take_further x mark (reply.Low m) y step was = absurd step
   take_further x mark (reply.Cut cut) y step was = absurd step
 
-  look_further : (x : LaneState) (answer : LaneReply) (y : LaneState) → LookStep set x answer y → Further x → Further y
+  look_further : (x : LaneState) (answer : LaneReply) (y : LaneState) → IsLookStep set x answer y → Further x → Further y
   look_further x (reply.Low mark) y step was = stays x y step.1 was
   look_further x (reply.Taken items) y step was = absurd step
   look_further x (reply.Memory n) y step was = absurd step
@@ -152,7 +152,7 @@ module _ (set : Setting) (t : List ℕ) (told : set.text ≡ Some t) (one : Lane
   look_further x (reply.Limit of) y step was = absurd step
   look_further x (reply.Cut cut) y step was = absurd step
 
-  snap_further : (x : LaneState) (answer : LaneReply) (y : LaneState) → SnapStep x answer y → Further x → Further y
+  snap_further : (x : LaneState) (answer : LaneReply) (y : LaneState) → IsSnapStep x answer y → Further x → Further y
   snap_further x (reply.Cut cut) y step was = stays x y step.1 was
   snap_further x (reply.Memory n) y step was = stays x y step.1 was
   snap_further x (reply.Low mark) y step was = absurd step
@@ -163,7 +163,7 @@ module _ (set : Setting) (t : List ℕ) (told : set.text ≡ Some t) (one : Lane
   snap_further x (reply.Failed n) y step was = absurd step
   snap_further x (reply.Limit of) y step was = absurd step
 
-  pub step_further : (x : LaneState) (o : LaneOp) (answer : LaneReply) (y : LaneState) → LaneStep set x o answer y → Further x → Further y
+  pub step_further : (x : LaneState) (o : LaneOp) (answer : LaneReply) (y : LaneState) → IsLaneStep set x o answer y → Further x → Further y
   step_further x (op.Feed max) answer y step was = feed_further x max answer y step was
   step_further x (op.Take mark) answer y step was = take_further x mark answer y step was
   step_further x op.Look answer y step was = look_further x answer y step was
@@ -172,7 +172,7 @@ module _ (set : Setting) (t : List ℕ) (told : set.text ≡ Some t) (one : Lane
 -- ---- lanes
 module _ {S L : Type 0} (left lent_as : S → Option (List ℕ)) (fault_plan : S → Option FaultPlan) (read_of : L → Reads) (text : ℕ → Option (List ℕ)) where
   -- each lane goes on from itself
-  pub lines_self : (lanes : List (LaneView S L)) → LinesOn text lanes lanes
+  pub lines_self : (lanes : List (LaneView S L)) → LanesReadFurther text lanes lanes
   lines_self lanes = record {
     each = λ s one lane e f t is.
         let same : one ≡ lane = let both : Some one ≡ Some lane = sym e ∙ f in cc in
@@ -187,7 +187,7 @@ module _ {S L : Type 0} (left lent_as : S → Option (List ℕ)) (fault_plan : S
         let of : IsTextOf left (Some t) played.before = subst (λ (told : Option (List ℕ)). IsTextOf left told played.before) is (are.each s played.before played.was) in
         step_further (setting_of read_of (Some t) played.before) t refl one played.before.state o answer played.after.state (played.plays (Some t) of).step was
 
-    pub lines_on : (first : List (LaneView S L)) → LinesOn text first old → LinesOn text first new
+    pub lines_on : (first : List (LaneView S L)) → LanesReadFurther text first old → LanesReadFurther text first new
     lines_on first was = record {
       each = λ k one lane e f t is. elim (same_or k s) [
         | inl same ↦
@@ -203,12 +203,12 @@ module _ {S L : Type 0} (left lent_as : S → Option (List ℕ)) (fault_plan : S
 
   -- others played
   foreign_lines : (first : List (LaneView S L)) (f : Foreign) (a b : PoolView S L) → AreOfTexts left text a.lanes → ForeignPlays left lent_as fault_plan read_of f a b
-      → LinesOn text first a.lanes → LinesOn text first b.lanes
+      → LanesReadFurther text first a.lanes → LanesReadFurther text first b.lanes
   foreign_lines first (Feed lane max) a b are played was = lines_on lane (op.Feed max) played.0 a.lanes b.lanes played.1 are first was
-  foreign_lines first (Turn part max) a b are played was = subst (LinesOn text first) (sym played.2) was
+  foreign_lines first (Turn part max) a b are played was = subst (LanesReadFurther text first) (sym played.2) was
 
   pub all_lines : (first : List (LaneView S L)) (fs : List Foreign) (a b : PoolView S L) → AreOfTexts left text a.lanes → ForeignsPlay left lent_as fault_plan read_of fs a b
-      → LinesOn text first a.lanes → LinesOn text first b.lanes
-  all_lines first [] a b are played was = subst (λ (p : PoolView S L). LinesOn text first p.lanes) (sym played) was
+      → LanesReadFurther text first a.lanes → LanesReadFurther text first b.lanes
+  all_lines first [] a b are played was = subst (λ (p : PoolView S L). LanesReadFurther text first p.lanes) (sym played) was
   all_lines first (f ∷ fs) a b are (mid, one, rest) was =
       all_lines first fs mid b (foreign_texts left lent_as fault_plan read_of text f a mid one are) rest (foreign_lines first f a mid are one was)

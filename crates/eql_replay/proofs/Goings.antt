@@ -10,14 +10,14 @@ use Rattle.eql_lane.specs.declared.ops.LaneOp.TheVariants as op
 use Rattle.eql_lane.specs.declared.ops.LaneReply.{LaneReply}
 use Rattle.eql_lane.specs.declared.ops.LaneReply.TheVariants as reply
 use Rattle.eql_lane.specs.declared.ops.LimitOf.TheVariants as limit
-use Rattle.eql_lane.specs.Lanes.{FeedStep, LaneState, LaneStep, LookStep, Setting, SnapStep, TakeStep}
+use Rattle.eql_lane.specs.Lanes.{IsFeedStep, IsLaneStep, IsLookStep, IsSnapStep, IsTakeStep, LaneState, Setting}
 use Rattle.eql_lane.specs.Plays.{DidNotFail}
-use Rattle.eql_lane.specs.Views.{LaneView, SameLane, setting_of}
+use Rattle.eql_lane.specs.Views.{IsSameLane, LaneView, setting_of}
 use Rattle.eql_conductor.proofs.Resting.{same_or}
 use Rattle.eql_replay.specs.declared.foreign.Foreign.{Foreign}
 use Rattle.eql_replay.specs.declared.foreign.Foreign.TheVariants.{Feed, Turn}
 use Rattle.eql_replay.specs.Noting.{did_fail}
-use Rattle.eql_replay.specs.Opened.{FeedsElsewhere, LaneOn, LanesOn}
+use Rattle.eql_replay.specs.Opened.{FeedsElsewhere, LaneGoesOn, LanesGoOn}
 use Rattle.eql_replay.specs.Pools.{ForeignsPlay, ForeignPlays, PlaysLaneAt, PoolView}
 use Rattle.eql_replay.proofs.Calls.{is_after, lane_count, lane_else}
 
@@ -25,7 +25,7 @@ use Rattle.eql_replay.proofs.Calls.{is_after, lane_count, lane_else}
 same_faults : (x y : LaneState) → y ≡ x → y.faults ≡ x.faults
 same_faults x y e = ap (λ (z : LaneState). z.faults) e
 
-feed_faults : (set : Setting) (x : LaneState) (max : ℕ) (answer : LaneReply) (y : LaneState) → did_fail answer ≡ false → FeedStep set x max answer y → y.faults ≡ x.faults
+feed_faults : (set : Setting) (x : LaneState) (max : ℕ) (answer : LaneReply) (y : LaneState) → did_fail answer ≡ false → IsFeedStep set x max answer y → y.faults ≡ x.faults
 feed_faults set x max (reply.Fed n) y none step = step.faults
 feed_faults set x max (reply.Held k) y none step = same_faults x y step.2
 feed_faults set x max reply.Closed y none step = step.faults
@@ -39,7 +39,7 @@ feed_faults set x max (reply.Taken items) y none step = absurd step
 feed_faults set x max (reply.Low mark) y none step = absurd step
 feed_faults set x max (reply.Cut cut) y none step = absurd step
 
-take_faults : (set : Setting) (x : LaneState) (mark : Mark) (answer : LaneReply) (y : LaneState) → TakeStep set x mark answer y → y.faults ≡ x.faults
+take_faults : (set : Setting) (x : LaneState) (mark : Mark) (answer : LaneReply) (y : LaneState) → IsTakeStep set x mark answer y → y.faults ≡ x.faults
 take_faults set x mark (reply.Taken items) y step = step.faults
 take_faults set x mark (reply.Memory n) y step = same_faults x y step.1
 take_faults set x mark (reply.Fed n) y step = absurd step
@@ -50,7 +50,7 @@ take_faults set x mark (reply.Limit of) y step = absurd step
 take_faults set x mark (reply.Low m) y step = absurd step
 take_faults set x mark (reply.Cut cut) y step = absurd step
 
-look_faults : (set : Setting) (x : LaneState) (answer : LaneReply) (y : LaneState) → LookStep set x answer y → y.faults ≡ x.faults
+look_faults : (set : Setting) (x : LaneState) (answer : LaneReply) (y : LaneState) → IsLookStep set x answer y → y.faults ≡ x.faults
 look_faults set x (reply.Low mark) y step = same_faults x y step.1
 look_faults set x (reply.Taken items) y step = absurd step
 look_faults set x (reply.Memory n) y step = absurd step
@@ -61,7 +61,7 @@ look_faults set x (reply.Failed n) y step = absurd step
 look_faults set x (reply.Limit of) y step = absurd step
 look_faults set x (reply.Cut cut) y step = absurd step
 
-snap_faults : (x : LaneState) (answer : LaneReply) (y : LaneState) → SnapStep x answer y → y.faults ≡ x.faults
+snap_faults : (x : LaneState) (answer : LaneReply) (y : LaneState) → IsSnapStep x answer y → y.faults ≡ x.faults
 snap_faults x (reply.Cut cut) y step = same_faults x y step.1
 snap_faults x (reply.Memory n) y step = same_faults x y step.1
 snap_faults x (reply.Low mark) y step = absurd step
@@ -72,7 +72,7 @@ snap_faults x reply.Closed y step = absurd step
 snap_faults x (reply.Failed n) y step = absurd step
 snap_faults x (reply.Limit of) y step = absurd step
 
-pub step_faults : (set : Setting) (x : LaneState) (o : LaneOp) (answer : LaneReply) (y : LaneState) → did_fail answer ≡ false → LaneStep set x o answer y → y.faults ≡ x.faults
+pub step_faults : (set : Setting) (x : LaneState) (o : LaneOp) (answer : LaneReply) (y : LaneState) → did_fail answer ≡ false → IsLaneStep set x o answer y → y.faults ≡ x.faults
 step_faults set x (op.Feed max) answer y none step = feed_faults set x max answer y none step
 step_faults set x (op.Take mark) answer y none step = take_faults set x mark answer y step
 step_faults set x op.Look answer y none step = look_faults set x answer y step
@@ -90,7 +90,7 @@ didnt (reply.Cut cut) h = refl
 didnt (reply.Memory n) h = refl
 
 module _ {S L : Type 0} (left lent_as : S → Option (List ℕ)) (fault_plan : S → Option FaultPlan) (read_of : L → Reads) where
-  same_lane : (a b c : LaneView S L) → SameLane left lent_as read_of a b → SameLane left lent_as read_of b c → SameLane left lent_as read_of a c
+  same_lane : (a b c : LaneView S L) → IsSameLane left lent_as read_of a b → IsSameLane left lent_as read_of b c → IsSameLane left lent_as read_of a c
   same_lane a b c h k = record {
     shard = k.shard ∙ h.shard;
     slack = k.slack ∙ h.slack;
@@ -100,16 +100,16 @@ module _ {S L : Type 0} (left lent_as : S → Option (List ℕ)) (fault_plan : S
     silent = λ none. k.silent (h.silent none);
   }
 
-  self_lane : (a : LaneView S L) → SameLane left lent_as read_of a a
+  self_lane : (a : LaneView S L) → IsSameLane left lent_as read_of a a
   self_lane a = record { shard = refl; slack = refl; reads = refl; places = refl; named = refl; silent = λ none. none }
 
   -- each lane goes on from itself
-  pub lanes_begin : (quiet : ℕ → Type 0) (lanes : List (LaneView S L)) → LanesOn left lent_as fault_plan read_of quiet lanes lanes
+  pub lanes_begin : (quiet : ℕ → Type 0) (lanes : List (LaneView S L)) → LanesGoOn left lent_as fault_plan read_of quiet lanes lanes
   lanes_begin quiet lanes = record {
     count = refl;
     each = λ s one lane e f.
         let same : lane ≡ one = let both : Some lane ≡ Some one = sym f ∙ e in cc in
-        subst (λ (l : LaneView S L). LaneOn left lent_as fault_plan read_of (quiet s) one l) (sym same)
+        subst (λ (l : LaneView S L). LaneGoesOn left lent_as fault_plan read_of (quiet s) one l) (sym same)
         (record { same = self_lane one; unfailing = λ u. (u, refl); steady = λ q. refl });
   }
 
@@ -120,7 +120,7 @@ module _ {S L : Type 0} (left lent_as : S → Option (List ℕ)) (fault_plan : S
         step_faults (setting_of read_of None played.before) played.before.state o answer played.after.state none (played.plays None tt).step
 
     lane_on : (quiet now : Type 0) (one : LaneView S L) → (now → quiet) → (now → did_fail answer ≡ false)
-        → LaneOn left lent_as fault_plan read_of quiet one played.before → LaneOn left lent_as fault_plan read_of now one played.after
+        → LaneGoesOn left lent_as fault_plan read_of quiet one played.before → LaneGoesOn left lent_as fault_plan read_of now one played.after
     lane_on quiet now one goes none on = record {
       same = same_lane one played.before played.after on.same played.same;
       unfailing = λ u.
@@ -130,26 +130,26 @@ module _ {S L : Type 0} (left lent_as : S → Option (List ℕ)) (fault_plan : S
       steady = λ q. stays_steady (none q) ∙ on.steady (goes q);
     }
 
-    other_on : (quiet now : Type 0) (one lane : LaneView S L) → (now → quiet) → LaneOn left lent_as fault_plan read_of quiet one lane → LaneOn left lent_as fault_plan read_of now one lane
+    other_on : (quiet now : Type 0) (one lane : LaneView S L) → (now → quiet) → LaneGoesOn left lent_as fault_plan read_of quiet one lane → LaneGoesOn left lent_as fault_plan read_of now one lane
     other_on quiet now one lane goes on = record { same = on.same; unfailing = on.unfailing; steady = λ q. on.steady (goes q) }
 
     pub lanes_on : (quiet now : ℕ → Type 0) (first : List (LaneView S L)) → ((k : ℕ) → now k → quiet k) → (now s → did_fail answer ≡ false)
-        → LanesOn left lent_as fault_plan read_of quiet first old → LanesOn left lent_as fault_plan read_of now first new
+        → LanesGoOn left lent_as fault_plan read_of quiet first old → LanesGoOn left lent_as fault_plan read_of now first new
     lanes_on quiet now first goes none on = record {
       count = lane_count left lent_as fault_plan read_of s o answer old new played ∙ on.count;
       each = λ k one lane e f. elim (same_or k s) [
         | inl is ↦
             let f_s : slice_get new s ≡ Some lane = subst (λ (j : ℕ). slice_get new j ≡ Some lane) is f in
             let e_s : slice_get first s ≡ Some one = subst (λ (j : ℕ). slice_get first j ≡ Some one) is e in
-            subst (λ (j : ℕ). LaneOn left lent_as fault_plan read_of (now j) one lane) (sym is)
-            (subst (λ (l : LaneView S L). LaneOn left lent_as fault_plan read_of (now s) one l) (sym (is_after left lent_as fault_plan read_of s o answer old new played lane f_s))
+            subst (λ (j : ℕ). LaneGoesOn left lent_as fault_plan read_of (now j) one lane) (sym is)
+            (subst (λ (l : LaneView S L). LaneGoesOn left lent_as fault_plan read_of (now s) one l) (sym (is_after left lent_as fault_plan read_of s o answer old new played lane f_s))
             (lane_on (quiet s) (now s) one (goes s) none (on.each s one played.before e_s played.was)))
         | inr apart ↦ other_on (quiet k) (now k) one lane (goes k) (on.each k one lane e (sym (lane_else left lent_as fault_plan read_of s o answer old new played k apart) ∙ f))
       ];
     }
 
   pub lanes_quieter : (quiet now : ℕ → Type 0) (first lanes : List (LaneView S L)) → ((k : ℕ) → now k → quiet k)
-      → LanesOn left lent_as fault_plan read_of quiet first lanes → LanesOn left lent_as fault_plan read_of now first lanes
+      → LanesGoOn left lent_as fault_plan read_of quiet first lanes → LanesGoOn left lent_as fault_plan read_of now first lanes
   lanes_quieter quiet now first lanes goes on = record {
     count = on.count;
     each = λ k one lane e f. let was = on.each k one lane e f in record { same = was.same; unfailing = was.unfailing; steady = λ q. was.steady (goes k q) };
@@ -157,16 +157,16 @@ module _ {S L : Type 0} (left lent_as : S → Option (List ℕ)) (fault_plan : S
 
   -- others played, and feed none of the quiet lanes
   foreign_on : (quiet : ℕ → Type 0) (first : List (LaneView S L)) (f : Foreign) (a b : PoolView S L) → ((s : ℕ) → quiet s → FeedsElsewhere s f)
-      → ForeignPlays left lent_as fault_plan read_of f a b → LanesOn left lent_as fault_plan read_of quiet first a.lanes → LanesOn left lent_as fault_plan read_of quiet first b.lanes
+      → ForeignPlays left lent_as fault_plan read_of f a b → LanesGoOn left lent_as fault_plan read_of quiet first a.lanes → LanesGoOn left lent_as fault_plan read_of quiet first b.lanes
   foreign_on quiet first (Feed lane max) a b elsewhere played on =
       lanes_on lane (op.Feed max) played.0 a.lanes b.lanes played.1 quiet quiet first (λ k q. q) (λ q. absurd (elsewhere lane q refl)) on
   foreign_on quiet first (Turn part max) a b elsewhere played on =
-      subst (λ (lanes : List (LaneView S L)). LanesOn left lent_as fault_plan read_of quiet first lanes) (sym played.2) on
+      subst (λ (lanes : List (LaneView S L)). LanesGoOn left lent_as fault_plan read_of quiet first lanes) (sym played.2) on
 
   pub all_on : (quiet : ℕ → Type 0) (first : List (LaneView S L)) (fs : List Foreign) (a b : PoolView S L) → ((s : ℕ) → quiet s → All (FeedsElsewhere s) fs)
-      → ForeignsPlay left lent_as fault_plan read_of fs a b → LanesOn left lent_as fault_plan read_of quiet first a.lanes → LanesOn left lent_as fault_plan read_of quiet first b.lanes
+      → ForeignsPlay left lent_as fault_plan read_of fs a b → LanesGoOn left lent_as fault_plan read_of quiet first a.lanes → LanesGoOn left lent_as fault_plan read_of quiet first b.lanes
   all_on quiet first [] a b elsewhere played on =
-      subst (λ (p : PoolView S L). LanesOn left lent_as fault_plan read_of quiet first p.lanes) (sym played) on
+      subst (λ (p : PoolView S L). LanesGoOn left lent_as fault_plan read_of quiet first p.lanes) (sym played) on
   all_on quiet first (f ∷ fs) a b elsewhere (mid, one, rest) on =
       all_on quiet first fs mid b (λ s q. All-tail (FeedsElsewhere s) f fs (elsewhere s q)) rest
       (foreign_on quiet first f a mid (λ s q. All-head (FeedsElsewhere s) f fs (elsewhere s q)) one on)

@@ -20,7 +20,7 @@ use Rattle.eql_replay.specs.declared.noted.Noted.{Noted}
 use Rattle.eql_replay.specs.declared.noted.Noted.TheVariants.{OfLane, OfPart}
 use Rattle.eql_replay.specs.Listed.{BenchView}
 use Rattle.eql_replay.specs.Noting.{asked_note, did_fail, fails_in, told_note}
-use Rattle.eql_replay.specs.Opened.{AreOfTexts, FeedsElsewhere, IsBench, IsQuiet, LanesOn, LinesOn, LanesReadOn, list_at, list_in}
+use Rattle.eql_replay.specs.Opened.{AreOfTexts, FeedsElsewhere, IsBench, IsQuiet, LanesGoOn, LanesReadFurther, LanesReadOn, list_at, list_in}
 use Rattle.eql_replay.specs.Pools.{ForeignsPlay, ForeignPlays, IsPlay, PlaysLaneAt, PlaysPartAt, PoolView}
 use Rattle.eql_replay.proofs.Calls.{lane_count, part_count, texts_stay}
 use Rattle.eql_replay.proofs.Goings.{didnt, all_on as all_go_on, lanes_begin, lanes_on, lanes_quieter}
@@ -78,12 +78,12 @@ module _ {S L : Type 0} (left lent_as : S → Option (List ℕ)) (fault_plan : S
         → All (λ (fs : List Foreign). All (IsPlay (length lanes) (length parts)) fs) lists → AreOfTexts left text lanes → Is (record { pool = pool; calls = 0; notes = notes })
     begins lanes parts lists pool notes e none same_lanes same_lists few_lanes few_parts fit are =
         subst (λ (p : PoolView S L). Is (record { pool = p; calls = 0; notes = notes })) (sym e) (record {
-          on = subst (λ (ls : List (LaneView S L)). LanesOn left lent_as fault_plan read_of (IsQuiet plays notes) ls lanes) same_lanes
+          on = subst (λ (ls : List (LaneView S L)). LanesGoOn left lent_as fault_plan read_of (IsQuiet plays notes) ls lanes) same_lanes
               (lanes_begin left lent_as fault_plan read_of (IsQuiet plays notes) lanes);
           planned = record { each = λ s one there u. ap (fails_in s) none };
           texts = are;
           read = subst (λ (ls : List (LaneView S L)). LanesReadOn read_of text ls lanes) same_lanes (read_self left lent_as fault_plan read_of text lanes);
-          lines = subst (λ (ls : List (LaneView S L)). LinesOn text ls lanes) same_lanes (lines_self left lent_as fault_plan read_of text lanes);
+          lines = subst (λ (ls : List (LaneView S L)). LanesReadFurther text ls lanes) same_lanes (lines_self left lent_as fault_plan read_of text lanes);
           few_lanes = few_lanes;
           few_parts = few_parts;
           fit = subst (All (λ (fs : List Foreign). All (IsPlay (length lanes) (length parts)) fs)) same_lists fit;
@@ -152,12 +152,12 @@ module _ {S L : Type 0} (left lent_as : S → Option (List ℕ)) (fault_plan : S
         let same_lanes : length new.lanes ≡ length old.lanes = ap length lanes in
         let one : Noted = OfPart p note in
         record {
-          on = subst (λ (ls : List (LaneView S L)). LanesOn left lent_as fault_plan read_of (IsQuiet plays (notes ++ one ∷ [])) first ls) (sym lanes)
+          on = subst (λ (ls : List (LaneView S L)). LanesGoOn left lent_as fault_plan read_of (IsQuiet plays (notes ++ one ∷ [])) first ls) (sym lanes)
               (lanes_quieter left lent_as fault_plan read_of (IsQuiet plays notes) (IsQuiet plays (notes ++ one ∷ [])) first old.lanes (λ k q. (q.0, none_before k notes one q.1)) is.on);
           planned = record { each = λ k first_one there u. none_fails k p notes note ∙ is.planned.each k first_one there u };
           texts = subst (AreOfTexts left text) (sym lanes) is.texts;
           read = subst (LanesReadOn read_of text first) (sym lanes) is.read;
-          lines = subst (LinesOn text first) (sym lanes) is.lines;
+          lines = subst (LanesReadFurther text first) (sym lanes) is.lines;
           few_lanes = subst (λ (n : ℕ). n < 2 ^ 32) (sym same_lanes) is.few_lanes;
           few_parts = subst (λ (n : ℕ). n < 2 ^ 32) (sym parts) is.few_parts;
           fit = all_fit (length old.lanes) (length old.parts) (length new.lanes) (length new.parts) same_lanes parts is.fit;

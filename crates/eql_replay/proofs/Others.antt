@@ -6,18 +6,18 @@ use Rattle.eql_outside.specs.Plans.{FaultPlan}
 use Rattle.eql_lane.specs.declared.ops.LaneOp.{LaneOp}
 use Rattle.eql_lane.specs.declared.ops.LaneOp.TheVariants as lane_op
 use Rattle.eql_lane.specs.declared.ops.LaneReply.{LaneReply}
-use Rattle.eql_lane.specs.Lanes.{Setting, LaneStep}
+use Rattle.eql_lane.specs.Lanes.{Setting, IsLaneStep}
 use Rattle.eql_lane.specs.Views.{LaneView}
 use Rattle.eql_parts.specs.declared.ops.PartOp.{PartOp}
 use Rattle.eql_parts.specs.declared.ops.PartOp.TheVariants as part_op
 use Rattle.eql_parts.specs.declared.ops.PartReply.{PartReply}
 use Rattle.eql_parts.specs.declared.ops.PartReply.TheVariants as part_reply
-use Rattle.eql_parts.specs.PartSteps.{CanDeliver, PartAllows, PartState, PartStep, PartView, Rules, TurnStep}
+use Rattle.eql_parts.specs.PartSteps.{CanDeliver, IsPartStep, IsTurnStep, PartAllows, PartState, PartView, Rules}
 use Rattle.eql_values.specs.declared.order.Mark.{Mark}
 use Rattle.eql_conductor.specs.declared.note.Note.{Note}
 use Rattle.eql_conductor.specs.Notes.{lane_note, part_note}
 use Rattle.eql_conductor.specs.declared.bench.NotPlayed.TheVariants as not_played
-use Rattle.eql_conductor.specs.Benches.{FailsBy, ComesByFeeds, Known, LanePlays, MayPlay, PartPlays, Rests, Same, ComesByTurns, TurnsTimes, WasNotPlayed}
+use Rattle.eql_conductor.specs.Benches.{FailsBy, ComesByFeeds, Known, LanePlays, MayPlay, PartPlays, Rests, StaysSame, ComesByTurns, TurnsTimes, WasNotPlayed}
 use Rattle.eql_conductor.proofs.Resting.{fed_on, fed_once, is_lane, is_part, lane_rests, lanes_on, part_rests, parts_on, rests_on, rests_self, same_on, turned_on, turned_once}
 use Rattle.eql_replay.specs.declared.foreign.Foreign.{Foreign}
 use Rattle.eql_replay.specs.declared.foreign.Foreign.TheVariants.{Feed, Turn}
@@ -119,7 +119,7 @@ module _ {S L : Type 0} (left lent_as : S → Option (List ℕ)) (fault_plan : S
 pub then_lane : (s : ℕ) (op : LaneOp) (reply : LaneReply) (a b c : Known) → s < a.lanes → WasNotPlayed not_played.Memory a b → LanePlays s op reply b c → LanePlays s op reply a c
 then_lane s op reply a b c inside alone plays =
     let rests = alone.rests in
-    let same : Same a b = rests.same in
+    let same : StaysSame a b = rests.same in
     record {
       same = same_on a b c same plays.same;
       called = λ y here.
@@ -130,7 +130,7 @@ then_lane s op reply a b c inside alone plays =
             before = d.before;
             was = e.1;
             fed = fed_on (a.set s) e.0 d.first d.before e.2 (subst (λ (t : Setting). ComesByFeeds t d.first d.before) (same.set s inside) d.fed);
-            step = subst (λ (t : Setting). LaneStep t d.before op reply y) (same.set s inside) d.step;
+            step = subst (λ (t : Setting). IsLaneStep t d.before op reply y) (same.set s inside) d.step;
           };
       some = plays.some;
       others = λ k l apart y here.
@@ -149,7 +149,7 @@ then_lane s op reply a b c inside alone plays =
 pub then_part : (p : ℕ) (op : PartOp) (reply : PartReply) (a b c : Known) → p < a.parts → WasNotPlayed not_played.Memory a b → PartPlays p op reply b c → PartPlays p op reply a c
 then_part p op reply a b c inside alone plays =
     let rests = alone.rests in
-    let same : Same a b = rests.same in
+    let same : StaysSame a b = rests.same in
     record {
       same = same_on a b c same plays.same;
       called = λ y here.
@@ -160,7 +160,7 @@ then_part p op reply a b c inside alone plays =
             before = d.before;
             was = e.1;
             turned = turned_on (a.rules p) e.0 d.first d.before e.2 (subst (λ (r : Rules). ComesByTurns r d.first d.before) (same.rules p inside) d.turned);
-            step = subst (λ (r : Rules). PartStep r d.before op reply y) (same.rules p inside) d.step;
+            step = subst (λ (r : Rules). IsPartStep r d.before op reply y) (same.rules p inside) d.step;
           };
       some = plays.some;
       others = λ k l apart y here.
@@ -176,7 +176,7 @@ then_part p op reply a b c inside alone plays =
     }
 
 -- ---- what was allowed stays so
-turn_last : (rules : Rules) (x : PartState) (max : ℕ) (reply : PartReply) (y : PartState) → TurnStep rules x max reply y → y.last ≡ x.last
+turn_last : (rules : Rules) (x : PartState) (max : ℕ) (reply : PartReply) (y : PartState) → IsTurnStep rules x max reply y → y.last ≡ x.last
 turn_last rules x max (part_reply.Turned n) y step = step.0.last
 turn_last rules x max part_reply.Idle y step = ap (λ (z : PartState). z.last) step.1
 turn_last rules x max (part_reply.Memory back n) y step = step.1.last

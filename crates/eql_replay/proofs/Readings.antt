@@ -8,7 +8,7 @@ use Rattle.eql_lane.specs.declared.ops.LaneOp.{LaneOp}
 use Rattle.eql_lane.specs.declared.ops.LaneOp.TheVariants as op
 use Rattle.eql_lane.specs.declared.ops.LaneReply.{LaneReply}
 use Rattle.eql_lane.specs.declared.ops.LaneReply.TheVariants as reply
-use Rattle.eql_lane.specs.Lanes.{LaneState, LaneStep, LookStep, Setting, SnapStep, TakeStep, greater, lesser, low}
+use Rattle.eql_lane.specs.Lanes.{IsLaneStep, IsLookStep, IsSnapStep, IsTakeStep, LaneState, Setting, greater, lesser, low}
 use Rattle.eql_lane.specs.Views.{LaneView, IsTextOf, setting_of}
 use Rattle.eql_lane.proofs.Keeping.{feed_keeps, take_keeps}
 use Rattle.eql_conductor.proofs.Resting.{same_or}
@@ -24,7 +24,7 @@ module _ (set : Setting) (t : List ℕ) where
   stays_at : (x y : LaneState) → y ≡ x → IsAtPlace set t x → IsAtPlace set t y
   stays_at x y e at = subst (IsAtPlace set t) (sym e) at
 
-  take_at : (x : LaneState) (mark : Mark) (answer : LaneReply) (y : LaneState) → TakeStep set x mark answer y → IsAtPlace set t x → IsAtPlace set t y
+  take_at : (x : LaneState) (mark : Mark) (answer : LaneReply) (y : LaneState) → IsTakeStep set x mark answer y → IsAtPlace set t x → IsAtPlace set t y
   take_at x mark (reply.Taken items) y step at = record {
     mark = greater at.mark (lesser mark (low set x));
     is = (take_keeps set t at.mark mark x items y step at.is).is;
@@ -38,7 +38,7 @@ module _ (set : Setting) (t : List ℕ) where
   take_at x mark (reply.Low m) y step at = absurd step
   take_at x mark (reply.Cut cut) y step at = absurd step
 
-  look_at : (x : LaneState) (answer : LaneReply) (y : LaneState) → LookStep set x answer y → IsAtPlace set t x → IsAtPlace set t y
+  look_at : (x : LaneState) (answer : LaneReply) (y : LaneState) → IsLookStep set x answer y → IsAtPlace set t x → IsAtPlace set t y
   look_at x (reply.Low mark) y step at = stays_at x y step.1 at
   look_at x (reply.Taken items) y step at = absurd step
   look_at x (reply.Memory n) y step at = absurd step
@@ -49,7 +49,7 @@ module _ (set : Setting) (t : List ℕ) where
   look_at x (reply.Limit of) y step at = absurd step
   look_at x (reply.Cut cut) y step at = absurd step
 
-  snap_at : (x : LaneState) (answer : LaneReply) (y : LaneState) → SnapStep x answer y → IsAtPlace set t x → IsAtPlace set t y
+  snap_at : (x : LaneState) (answer : LaneReply) (y : LaneState) → IsSnapStep x answer y → IsAtPlace set t x → IsAtPlace set t y
   snap_at x (reply.Cut cut) y step at = stays_at x y step.1 at
   snap_at x (reply.Memory n) y step at = stays_at x y step.1 at
   snap_at x (reply.Low mark) y step at = absurd step
@@ -60,7 +60,7 @@ module _ (set : Setting) (t : List ℕ) where
   snap_at x (reply.Failed n) y step at = absurd step
   snap_at x (reply.Limit of) y step at = absurd step
 
-  pub step_at : (x : LaneState) (o : LaneOp) (answer : LaneReply) (y : LaneState) → set.text ≡ Some t → LaneStep set x o answer y → IsAtPlace set t x → IsAtPlace set t y
+  pub step_at : (x : LaneState) (o : LaneOp) (answer : LaneReply) (y : LaneState) → set.text ≡ Some t → IsLaneStep set x o answer y → IsAtPlace set t x → IsAtPlace set t y
   step_at x (op.Feed max) answer y e step at = record { mark = at.mark; is = feed_keeps set t at.mark x max answer y e step at.is }
   step_at x (op.Take mark) answer y e step at = take_at x mark answer y step at
   step_at x op.Look answer y e step at = look_at x answer y step at

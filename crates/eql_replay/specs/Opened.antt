@@ -10,7 +10,7 @@ use Rattle.eql_lane.specs.declared.ops.LaneOp.{LaneOp}
 use Rattle.eql_lane.specs.declared.ops.LaneReply.{LaneReply}
 use Rattle.eql_lane.specs.Keeps.{LaneIs}
 use Rattle.eql_lane.specs.Lanes.{LaneState, Setting}
-use Rattle.eql_lane.specs.Views.{LaneView, IsTextOf, SameLane, setting_of}
+use Rattle.eql_lane.specs.Views.{LaneView, IsTextOf, IsSameLane, setting_of}
 use Rattle.eql_parts.specs.declared.ops.PartOp.{PartOp}
 use Rattle.eql_parts.specs.declared.ops.PartReply.{PartReply}
 use Rattle.eql_conductor.specs.declared.bench.NotPlayed.{NotPlayed}
@@ -61,31 +61,31 @@ pub record ReadsFurther (text : List ℕ) (old new : LaneState) : Type 0 where
   pub lines : new.cut.counts.lines ≡ old.cut.counts.lines + length (lines_of more)
 
 -- each lane read further lines of the text named for it, whatever is known of the lines before those
-pub record LinesOn {S L : Type 0} (text : ℕ → Option (List ℕ)) (first lanes : List (LaneView S L)) : Type 0 where
+pub record LanesReadFurther {S L : Type 0} (text : ℕ → Option (List ℕ)) (first lanes : List (LaneView S L)) : Type 0 where
   pub each : (s : ℕ) (one lane : LaneView S L) → slice_get first s ≡ Some one → slice_get lanes s ≡ Some lane → (t : List ℕ) → text s ≡ Some t
       → ReadsFurther t one.state lane.state
 
 module _ {S L : Type 0} (left lent_as : S → Option (List ℕ)) (fault_plan : S → Option FaultPlan) (read_of : L → Reads) where
   -- a lane goes on from the first: what no step changes is the same; where the source isn't planned to fail it stays so, and no fault came;
   -- and none came while it was quiet
-  pub record LaneOn (quiet : Type 0) (first lane : LaneView S L) : Type 0 where
-    pub same : SameLane left lent_as read_of first lane
+  pub record LaneGoesOn (quiet : Type 0) (first lane : LaneView S L) : Type 0 where
+    pub same : IsSameLane left lent_as read_of first lane
     pub unfailing : IsUnfailing (fault_plan first.source) → IsUnfailing (fault_plan lane.source) × (lane.state.faults ≡ first.state.faults)
     pub steady : quiet → lane.state.faults ≡ first.state.faults
 
   -- each lane does, and none is missing
-  pub record LanesOn (quiet : ℕ → Type 0) (first lanes : List (LaneView S L)) : Type 0 where
+  pub record LanesGoOn (quiet : ℕ → Type 0) (first lanes : List (LaneView S L)) : Type 0 where
     pub count : length lanes ≡ length first
-    pub each : (s : ℕ) (one lane : LaneView S L) → slice_get first s ≡ Some one → slice_get lanes s ≡ Some lane → LaneOn (quiet s) one lane
+    pub each : (s : ℕ) (one lane : LaneView S L) → slice_get first s ≡ Some one → slice_get lanes s ≡ Some lane → LaneGoesOn (quiet s) one lane
 
   -- others played their list, and then the operation was played on a lane, or on a part: it always is
-  pub record LaneCall (plays : List (List Foreign)) (s : ℕ) (op : LaneOp) (result : Result LaneReply NotPlayed) (old new : BenchView S L) : Type 0 where
+  pub record IsLaneCall (plays : List (List Foreign)) (s : ℕ) (op : LaneOp) (result : Result LaneReply NotPlayed) (old new : BenchView S L) : Type 0 where
     pub between : PoolView S L
     pub others : ForeignsPlay left lent_as fault_plan read_of (list_at plays old.calls) old.pool between
     pub calls : new.calls ≡ min (old.calls + 1) (length plays)
     pub is : IsOkAnd result (λ reply. PlaysLaneAt left lent_as fault_plan read_of s op reply between.lanes new.pool.lanes × (new.pool.parts ≡ between.parts))
 
-  pub record PartCall (plays : List (List Foreign)) (p : ℕ) (op : PartOp) (result : Result PartReply NotPlayed) (old new : BenchView S L) : Type 0 where
+  pub record IsPartCall (plays : List (List Foreign)) (p : ℕ) (op : PartOp) (result : Result PartReply NotPlayed) (old new : BenchView S L) : Type 0 where
     pub between : PoolView S L
     pub others : ForeignsPlay left lent_as fault_plan read_of (list_at plays old.calls) old.pool between
     pub calls : new.calls ≡ min (old.calls + 1) (length plays)
@@ -101,11 +101,11 @@ pub record FailsAsPlanned {S L : Type 0} (fault_plan : S → Option FaultPlan) (
 
 -- what is true of each bench, by its beginning
 pub record IsBench {S L : Type 0} (left lent_as : S → Option (List ℕ)) (fault_plan : S → Option FaultPlan) (read_of : L → Reads) (first : List (LaneView S L)) (text : ℕ → Option (List ℕ)) (plays : List (List Foreign)) (b : BenchView S L) : Type 0 where
-  pub on : LanesOn left lent_as fault_plan read_of (IsQuiet plays b.notes) first b.pool.lanes
+  pub on : LanesGoOn left lent_as fault_plan read_of (IsQuiet plays b.notes) first b.pool.lanes
   pub planned : FailsAsPlanned fault_plan first b.notes
   pub texts : AreOfTexts left text b.pool.lanes
   pub read : LanesReadOn read_of text first b.pool.lanes
-  pub lines : LinesOn text first b.pool.lanes
+  pub lines : LanesReadFurther text first b.pool.lanes
   pub few_lanes : length b.pool.lanes < 2 ^ 32
   pub few_parts : length b.pool.parts < 2 ^ 32
   pub fit : All (λ foreigns. All (IsPlay (length b.pool.lanes) (length b.pool.parts)) foreigns) plays

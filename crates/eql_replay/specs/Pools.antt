@@ -7,11 +7,11 @@ use Rattle.eql_lane.specs.declared.ops.LaneOp.{LaneOp}
 use Rattle.eql_lane.specs.declared.ops.LaneOp.TheVariants as lane_op
 use Rattle.eql_lane.specs.declared.ops.LaneReply.{LaneReply}
 use Rattle.eql_lane.specs.Plays.{Plays, DidNotFail}
-use Rattle.eql_lane.specs.Views.{LaneView, SameLane}
+use Rattle.eql_lane.specs.Views.{IsSameLane, LaneView}
 use Rattle.eql_parts.specs.declared.ops.PartOp.{PartOp}
 use Rattle.eql_parts.specs.declared.ops.PartOp.TheVariants as part_op
 use Rattle.eql_parts.specs.declared.ops.PartReply.{PartReply}
-use Rattle.eql_parts.specs.PartSteps.{PartView, PartStep}
+use Rattle.eql_parts.specs.PartSteps.{PartView, IsPartStep}
 use Rattle.eql_replay.specs.declared.foreign.Foreign.{Foreign}
 use Rattle.eql_replay.specs.declared.foreign.Foreign.TheVariants.{Feed, Turn}
 
@@ -31,7 +31,7 @@ pub record PlaysPartAt (p : ℕ) (op : PartOp) (reply : PartReply) (old new : Li
   pub after : PartView
   pub was : slice_get old p ≡ Some before
   pub is : new ≡ slice_set old p after
-  pub step : PartStep before.rules before.state op reply after.state
+  pub step : IsPartStep before.rules before.state op reply after.state
   pub rules : after.rules ≡ before.rules
 
 module _ {S L : Type 0} (left lent_as : S → Option (List ℕ)) (fault_plan : S → Option FaultPlan) (read_of : L → Reads) where
@@ -42,7 +42,7 @@ module _ {S L : Type 0} (left lent_as : S → Option (List ℕ)) (fault_plan : S
     pub was : slice_get old s ≡ Some before
     pub is : new ≡ slice_set old s after
     pub plays : Plays left read_of before op reply after
-    pub same : SameLane left lent_as read_of before after
+    pub same : IsSameLane left lent_as read_of before after
     pub unfailing : IsUnfailing (fault_plan before.source) → DidNotFail reply × IsUnfailing (fault_plan after.source)
 
   -- others played this

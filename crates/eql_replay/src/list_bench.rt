@@ -3,7 +3,7 @@ ghost use Rattle.std.specs.Prelude.{◌≡◌, ◌≤◌, ◌<◌, ◌^◌, ◌+
 ghost use Rattle.eql_lane.specs.Lanes.{LaneAllows};
 ghost use Rattle.eql_conductor.specs.Benches.{LanePlays, MayPlay, PartPlays, WasNotPlayed};
 ghost use Rattle.eql_replay.specs.Listed.{bench_known};
-ghost use Rattle.eql_replay.specs.Opened.{AreOfTexts, FailsAsPlanned, IsQuiet, LaneCall, LanesOn, LinesOn, PartCall, LanesReadOn, list_at};
+ghost use Rattle.eql_replay.specs.Opened.{AreOfTexts, FailsAsPlanned, IsQuiet, IsLaneCall, LanesGoOn, LanesReadFurther, IsPartCall, LanesReadOn, list_at};
 ghost use Rattle.eql_replay.specs.Pools.{ForeignsPlay, IsPlay};
 
 use crate::foreign::Foreigns;
@@ -79,11 +79,11 @@ impl<S: Source, L: LineReader, G: Ledger, T: Opening<S, L>> ListBench<S, L, G, T
     /// The lanes in their order. It takes no memory.
     pub fn into_lanes(self) -> Vec<Lane<S, L>>
         ensures lanes { result.items ≡ self.pool.lanes }
-        ensures on { LanesOn S.left S.lent_as S.fault_plan L.read_of
+        ensures on { LanesGoOn S.left S.lent_as S.fault_plan L.read_of
             (IsQuiet T.plays self.notes) T.lanes result.items }
         ensures texts { AreOfTexts S.left T.text result.items }
         ensures read { LanesReadOn L.read_of T.text T.lanes result.items }
-        ensures lines { LinesOn T.text T.lanes result.items }
+        ensures lines { LanesReadFurther T.text T.lanes result.items }
     {
         self.pool.into_lanes()
     }
@@ -129,7 +129,7 @@ impl<S: Source, L: LineReader, G: Ledger, T: Opening<S, L>> Bench for ListBench<
             (bench_known L.read_of T.text self.old) (bench_known L.read_of T.text self.new)) }
         ensures not_played { IfErr result (λ by. WasNotPlayed by
             (bench_known L.read_of T.text self.old) (bench_known L.read_of T.text self.new)) }
-        ensures call { LaneCall S.left S.lent_as S.fault_plan L.read_of T.plays s op result
+        ensures call { IsLaneCall S.left S.lent_as S.fault_plan L.read_of T.plays s op result
             self.old self.new }
     {
         self.others_play();
@@ -151,7 +151,7 @@ impl<S: Source, L: LineReader, G: Ledger, T: Opening<S, L>> Bench for ListBench<
             (bench_known L.read_of T.text self.old) (bench_known L.read_of T.text self.new)) }
         ensures not_played { IfErr result (λ by. WasNotPlayed by
             (bench_known L.read_of T.text self.old) (bench_known L.read_of T.text self.new)) }
-        ensures call { PartCall S.left S.lent_as S.fault_plan L.read_of T.plays p op result
+        ensures call { IsPartCall S.left S.lent_as S.fault_plan L.read_of T.plays p op result
             self.old self.new }
     {
         self.others_play();

@@ -29,7 +29,7 @@ pub(crate) enum Noted {
     },
 }
 
-// The low that was answered.
+// The low that was returned.
 fn low_of(reply: &LaneReply) -> Mark
     ensures { result ≡ low_in reply.now }
 {

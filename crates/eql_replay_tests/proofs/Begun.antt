@@ -17,7 +17,7 @@ use Rattle.eql_lane.specs.declared.make.LaneStart.TheVariants as start
 use Rattle.eql_lane.specs.Slacks.{nanos_of}
 use Rattle.eql_lane.specs.Starts.{BeginsAs}
 use Rattle.eql_lane.specs.Views.{IsTextOf, LaneView}
-use Rattle.eql_parts.specs.Inboxes.{HolderBelow}
+use Rattle.eql_parts.specs.Inboxes.{HolderIsBelow}
 use Rattle.eql_parts.specs.PartSteps.{PartState, PartView, Rules}
 use Rattle.eql_rounds.specs.Finding.{own_of}
 use Rattle.eql_book.specs.Books.{BookState}
@@ -85,7 +85,7 @@ none_hold stages mark = record {
     order = refl;
     before = All-nil (HasStageBefore stages);
     full = All-nil IsFull;
-    below = All-nil (HolderBelow mark);
+    below = All-nil (HolderIsBelow mark);
   };
 }
 

@@ -4,7 +4,7 @@ use Rattle.eql_values.specs.declared.cut.LaneCut.{LaneCut}
 use Rattle.eql_values.specs.declared.found.Holder.{Holder}
 use Rattle.eql_values.specs.declared.order.Mark.{Mark}
 use Rattle.eql_values.specs.declared.order.Mark.TheVariants.{Start, At}
-use Rattle.eql_laws.specs.Alive.{HoldersInOrder}
+use Rattle.eql_laws.specs.Alive.{HoldersAreInOrder}
 use Rattle.eql_laws.specs.Fitting.{Fits, Kept, Run, StandsInOrder}
 use Rattle.eql_laws.specs.Shapes.{HasStageBefore, IsFull}
 use Rattle.eql_outside.specs.Moments.{History}
@@ -12,7 +12,7 @@ use Rattle.eql_lane.specs.Lanes.{begun, fresh_cut as fresh_lane}
 use Rattle.eql_lane.specs.declared.make.LaneStart.{LaneStart}
 use Rattle.eql_lane.specs.declared.make.LaneStart.TheVariants as start
 use Rattle.eql_lane.specs.Views.{LaneView}
-use Rattle.eql_parts.specs.Inboxes.{HolderBelow}
+use Rattle.eql_parts.specs.Inboxes.{HolderIsBelow}
 use Rattle.eql_parts.specs.PartSteps.{PartView, Rules}
 use Rattle.eql_rounds.specs.Finding.{own_of}
 use Rattle.eql_book.specs.Books.{BookState}
@@ -51,10 +51,10 @@ StandsAt cuts s cut = slice_get cuts s ≡ Some cut
 -- ---- parts
 -- pending sequences with which a part may begin at a mark
 pub record MayHold (stages : ℕ) (mark : Mark) (own : List Holder) : Type 0 where
-  pub order : HoldersInOrder own
+  pub order : HoldersAreInOrder own
   pub before : All (HasStageBefore stages) own
   pub full : All IsFull own
-  pub below : All (HolderBelow mark) own
+  pub below : All (HolderIsBelow mark) own
 
 -- and so has each part of these
 pub record AllMayHold (stages : ℕ) (mark : Mark) (holders : List Holder) : Type 0 where
@@ -104,7 +104,7 @@ abbrev pub MayKeepOver : {D : Type 0} (history : D → Option History) → RunPl
 MayKeepOver history plan lanes None = plan.every ≡ None
 MayKeepOver history plan lanes (Some k) = KeepsOver history plan lanes k
 
--- cuts are kept exactly where it is said how often, on a disk that stands as the state says
+-- cuts are kept exactly when it is said how often, on a disk that stands as the state says
 abbrev pub MayKeepBy : {D : Type 0} (history : D → Option History) → (every : Option ℕ) → Option (Keep D) → Type 0
 MayKeepBy history every None = every ≡ None
 MayKeepBy history every (Some k) = (every ≢ None) × IfSome every (λ n. 1 ≤ n) × Stands (last_cut k.state) (history k.disk)

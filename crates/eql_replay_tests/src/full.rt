@@ -32,7 +32,7 @@ fn fill(alloc: Global) -> Result<Vec<Foreigns>, Fail> {
     Ok(vec![in alloc; Foreigns::of(feeds)]?)
 }
 
-/// Others have read 65,537 events of lane 0, of which all but the newest lie below its low. So it answers that 65,536
+/// Others have read 65,537 events of lane 0, of which all but the newest lie below its low. So it tells that 65,536
 /// are held, in each of the three rounds until lane 1 is read to its end. Then they are taken, and lane 0 is read on.
 #[test]
 fn a_full_lane_waits_until_its_events_are_taken(rt: HostRuntime) -> Result<(), Fail> {

@@ -145,7 +145,7 @@ fn check_rest<R: Abort>(
     Ok(())
 }
 
-/// Stops a run at a fault, and goes on. The answer is whether it came to its end before.
+/// Stops a run at a fault, and goes on. Returns whether it came to its end before.
 fn check_fault<R: Abort>(
     rt: &R,
     alloc: Global,
@@ -182,7 +182,7 @@ fn fault_at(number: u64, of_disk: bool) -> Faults {
     }
 }
 
-/// Stops a run at each call of the disk, or else at each write. The answer is how many of them it makes.
+/// Stops a run at each call of the disk, or else at each write. Returns how many of them it makes.
 fn calls_in<R: Abort>(
     rt: &R,
     alloc: Global,

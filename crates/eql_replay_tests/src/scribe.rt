@@ -1,4 +1,4 @@
-//! A bench that writes down what is played on it and what is answered, and a run over it.
+//! A bench that writes down what is played on it and what is returned, and a run over it.
 ghost use Rattle.std.specs.Prelude.{◌≡◌, ◌<◌, ℕ, None, length, true};
 ghost use Rattle.eql_parts.specs.PartSteps.{Rules};
 ghost use Rattle.eql_replay_tests.specs.Opens.{MayKeepOver, Starts};
@@ -42,7 +42,7 @@ fn write_mark(notes: &mut String, mark: Mark) -> Result<(), AllocError> {
     }
 }
 
-/// Writes what a lane answered to a feed.
+/// Writes what a feed of a lane returned.
 fn note_feed(
     notes: &mut String,
     s: u32,

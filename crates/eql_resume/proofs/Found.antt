@@ -9,7 +9,7 @@ use Rattle.eql_cut.specs.declared.cut.Cut.{Cut}
 use Rattle.eql_cut.specs.declared.cut.CutHead.{CutHead}
 use Rattle.eql_cut.specs.Domain.{kept_by}
 use Rattle.eql_cut.specs.Fitting.{FitsRun, run_of}
-use Rattle.eql_cut.specs.Lifting.{FirstFormatUnplaced}
+use Rattle.eql_cut.specs.Lifting.{FirstFormatHasNoPlaces}
 use Rattle.eql_cut.specs.Placing.{IsUnplaced, orders_in}
 use Rattle.eql_cut.specs.Whole.{IsText}
 use Rattle.eql_ckdisk.specs.declared.recovery.Recovered.{Recovered}
@@ -26,7 +26,7 @@ use Rattle.eql_runs.specs.CutRefusals.{FoundRefuses, damaged, head_damaged, head
 use Rattle.eql_runs.specs.Starts.{StandsFor, a_cut, bad_head, bad_text}
 use Rattle.eql_resume.specs.declared.finding.StartRefused.{StartRefused}
 use Rattle.eql_resume.specs.declared.finding.StartRefused.TheVariants as by
-use Rattle.eql_resume.specs.Finding.{CutCause, FoundCause, HasCause, IsRefusedBy, held, refused_by}
+use Rattle.eql_resume.specs.Finding.{HasCause, HasCutCause, HasFoundCause, IsRefusedBy, held, refused_by}
 
 -- ---- what is found
 stands_for : (last : LastCut) (format : ℕ) (answer : Option Cut) (f : Found) → IsFound last format answer f
@@ -54,7 +54,7 @@ held_there seen r o p kept each = by o (seen_now seen (IsAnswer r) o p kept each
     by (Some h) is = stands_for (last_cut r.state) r.format r.cut (found (seen_areas h.now)) is
 
 -- a cut of the first format has no places
-pub none_placed : FirstFormatUnplaced → (cut : Option Cut) (format generation : ℕ) → IsNoneOrCut cut format generation
+pub none_placed : FirstFormatHasNoPlaces → (cut : Option Cut) (format generation : ℕ) → IsNoneOrCut cut format generation
     → IfSome cut (λ c. format ≡ 1 → IsUnplaced (orders_in c))
 none_placed law None format generation sound = tt
 none_placed law (Some cut) format generation sound =
@@ -109,7 +109,7 @@ module _ (stages values : ℕ) (pipes : List Pipe) (head : CutHead) where
   misfit cut same bad fits = bad (subst (λ (h : CutHead). Fits (run_of stages values pipes h.slack) h.shards (kept_by cut)) (sym same) fits)
 
   by_cut : (format generation : ℕ) (cut : Cut) (f : Found) (r : StartRefused) → StandsFor (a_cut format generation cut) f
-      → CutCause stages values pipes head cut r → HasCause f stages values pipes head r
+      → HasCutCause stages values pipes head cut r → HasCause f stages values pipes head r
   by_cut format generation cut f by.Disk stands is = tt
   by_cut format generation cut f (by.Damaged area at) stands is = absurd is
   by_cut format generation cut f (by.Differs d) stands is =
@@ -118,7 +118,7 @@ module _ (stages values : ℕ) (pipes : List Pipe) (head : CutHead) where
       record { on = a_cut format generation cut; stands = stands; refuses = is_unfit format generation cut is.0 (misfit cut is.0 is.1) }
   by_cut format generation cut f by.Memory stands is = tt
 
-  by_found_cut : (format generation : ℕ) (cut : Option Cut) (r : StartRefused) (o : Option History) → FoundCause stages values pipes head cut r
+  by_found_cut : (format generation : ℕ) (cut : Option Cut) (r : StartRefused) (o : Option History) → HasFoundCause stages values pipes head cut r
       → IfSome o (λ h. StandsFor (held format generation cut) (found (seen_areas h.now)))
       → IfSome o (λ h. HasCause (found (seen_areas h.now)) stages values pipes head r)
   by_found_cut format generation None r o is stands = absurd is
@@ -126,7 +126,7 @@ module _ (stages values : ℕ) (pipes : List Pipe) (head : CutHead) where
   by_found_cut format generation (Some cut) r (Some h) is stands = by_cut format generation cut (found (seen_areas h.now)) r stands is
 
   pub cut_refused : (seen : (m : Moment) → IsImage m (seen_areas m)) (found_cut : Recovered) (r : StartRefused) (o p : Option History) → DiskTells KeepsAll o p
-      → IfSome p (λ k. EachFinds (IsAnswer found_cut) k.now) → FoundCause stages values pipes head found_cut.cut r
+      → IfSome p (λ k. EachFinds (IsAnswer found_cut) k.now) → HasFoundCause stages values pipes head found_cut.cut r
       → IfSome o (λ h. HasCause (found (seen_areas h.now)) stages values pipes head r)
   cut_refused seen found_cut r o p kept each is =
       by_found_cut found_cut.format (last_cut found_cut.state).generation found_cut.cut r o is (held_there seen found_cut o p kept each)

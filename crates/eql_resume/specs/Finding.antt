@@ -52,17 +52,17 @@ HasCause f stages values pipes head by.Unfit = IsRefusedBy stages values pipes h
 HasCause f stages values pipes head by.Memory = Unit {0}
 
 -- why a cut isn't one of a run of this head
-abbrev pub CutCause : (stages values : ℕ) → List Pipe → CutHead → Cut → StartRefused → Type 0
-CutCause stages values pipes head cut by.Disk = ⊥
-CutCause stages values pipes head cut (by.Damaged area at) = ⊥
-CutCause stages values pipes head cut (by.Differs d) = difference cut.head head ≡ Some d
-CutCause stages values pipes head cut by.Unfit = (cut.head ≡ head) × ¬ (FitsRun stages values pipes cut)
-CutCause stages values pipes head cut by.Memory = Unit {0}
+abbrev pub HasCutCause : (stages values : ℕ) → List Pipe → CutHead → Cut → StartRefused → Type 0
+HasCutCause stages values pipes head cut by.Disk = ⊥
+HasCutCause stages values pipes head cut (by.Damaged area at) = ⊥
+HasCutCause stages values pipes head cut (by.Differs d) = difference cut.head head ≡ Some d
+HasCutCause stages values pipes head cut by.Unfit = (cut.head ≡ head) × ¬ (FitsRun stages values pipes cut)
+HasCutCause stages values pipes head cut by.Memory = Unit {0}
 
 -- the same of a cut where there is one
-abbrev pub FoundCause : (stages values : ℕ) → List Pipe → CutHead → Option Cut → StartRefused → Type 0
-FoundCause stages values pipes head None refused = ⊥
-FoundCause stages values pipes head (Some cut) refused = CutCause stages values pipes head cut refused
+abbrev pub HasFoundCause : (stages values : ℕ) → List Pipe → CutHead → Option Cut → StartRefused → Type 0
+HasFoundCause stages values pipes head None refused = ⊥
+HasFoundCause stages values pipes head (Some cut) refused = HasCutCause stages values pipes head cut refused
 
 -- the refusal of a disk as that of a run
 abbrev pub refused_by : CkRefused → StartRefused

@@ -8,10 +8,10 @@ ghost use Rattle.eql_cut.specs.Fitting.{FitsRun};
 ghost use Rattle.eql_cut.specs.Placing.{IsUnplaced, orders_in};
 ghost use Rattle.eql_ckdisk.specs.Found.{found};
 ghost use Rattle.eql_ckdisk.specs.Going.{Goes};
-ghost use Rattle.eql_ckdisk.specs.Keeping.{KeepsAll, NoMore};
+ghost use Rattle.eql_ckdisk.specs.Keeping.{KeepsAll, LeavesNoMore};
 ghost use Rattle.eql_ckdisk.specs.Putting.{Stands, last_cut};
 ghost use Rattle.eql_runs.specs.Starts.{StandsFor};
-ghost use Rattle.eql_resume.specs.Finding.{CutCause, FoundCause, HasCause, Suits, on_of, refused_by};
+ghost use Rattle.eql_resume.specs.Finding.{HasCause, HasCutCause, HasFoundCause, Suits, on_of, refused_by};
 
 use eql_ckdisk::{CkRefused, CkState, recover};
 use eql_cut::{Cut, CutHead, Differs, agree, first_format_has_no_places, fits};
@@ -75,7 +75,7 @@ fn test_cut(
 ) -> Result<(), StartRefused>
     ensures suits { OnOk result ((cut.now.head ≡ head.now)
         × FitsRun stages values pipes.now cut.now) }
-    ensures cause { IfErr result (CutCause stages values pipes.now head.now cut.now) }
+    ensures cause { IfErr result (HasCutCause stages values pipes.now head.now cut.now) }
 {
     heads_agree();
     match agree(alloc, cut, head) {
@@ -102,7 +102,7 @@ fn test_found(
     ensures suits { OnOk result (IfSome cut.now (λ c. (c.head ≡ head.now)
         × FitsRun stages values pipes.now c)) }
     ensures cause { IfErr result
-        (λ refused. FoundCause stages values pipes.now head.now cut.now refused) }
+        (λ refused. HasFoundCause stages values pipes.now head.now cut.now refused) }
 {
     match cut {
         Some(cut) => test_cut(alloc, cut, head, stages, values, pipes),
@@ -135,10 +135,10 @@ pub fn find_start<D: Disk>(
         (λ h. HasCause (found (seen_areas h.now)) stages values pipes.now head.now refused)) }
 
     // At each moment of the call each image is one of those at its start.
-    ensures moments { DiskTells (Goes NoMore) (D.history disk.old) (D.history disk.new) }
+    ensures moments { DiskTells (Goes LeavesNoMore) (D.history disk.old) (D.history disk.new) }
     ensures kept { OnOk result (DiskTells KeepsAll (D.history disk.old) (D.history disk.new)) }
 
-    // The disk's count rises where its fault is answered, and nowhere else.
+    // The disk's count rises where its fault is returned, and nowhere else.
     ensures fault { result ≡ Err StartRefused.Disk
         → Rose (D.fault_count disk.old) (D.fault_count disk.new) }
     ensures steady { result ≢ Err StartRefused.Disk

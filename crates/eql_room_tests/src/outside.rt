@@ -127,10 +127,10 @@ fn reader_that_fails_is_not_at_its_end(rt: HostRuntime) -> Result<(), Fail> {
     Ok(())
 }
 
-/// Bytes that are written, and what the sink answers.
+/// Bytes that are written, and what the sink returns.
 type Written<'a> = (&'a [u8], Result<(), OutRefused>);
 
-// Writes to a sink in turn, and compares what it answers.
+// Writes to a sink in turn, and compares what it returns.
 fn run_writes<R: Abort, K: Sink>(rt: &R, alloc: Global, sink: &mut K, writes: &[Written<'_>]) {
     for (bytes, answer) in writes {
         assert!(rt; sink.write(alloc, *bytes) == *answer);
@@ -342,7 +342,7 @@ fn empty_disk(alloc: Global, fails: &[u64], stop: Option<u64>) -> Result<MemDisk
     Ok(MemDisk::new(alloc, a, b, fails, stop)?)
 }
 
-// Writes at the front of an area, syncs it and reads it, and compares what each call answers: whether it succeeds, and
+// Writes at the front of an area, syncs it and reads it, and compares what each call returns: whether it succeeds, and
 // the bytes that are read.
 fn run_disk<R: Abort, D: Disk>(
     rt: &R,

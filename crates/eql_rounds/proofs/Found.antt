@@ -9,7 +9,7 @@ use Rattle.eql_values.specs.declared.found.Match.{Match}
 use Rattle.eql_values.specs.Matching.{matches}
 use Rattle.eql_values.specs.Ordered.{numbers}
 use Rattle.eql_values.specs.Routing.{routed}
-use Rattle.eql_laws.specs.Apart.{joined, InMatchOrder, MatchesApart}
+use Rattle.eql_laws.specs.Apart.{joined, AreInMatchOrder, MatchesAreApart}
 use Rattle.eql_laws.specs.Merging.{in_match_order}
 use Rattle.eql_laws.specs.Parts.{PartsFind, found_by_parts}
 use Rattle.eql_laws.proofs.PartMatches.{after_routed, own_holders}
@@ -55,8 +55,8 @@ rounds_find rules all items asc =
     sym (map_same (found_of rules all items) (λ p. matches rules.stages rules.span all (routed part_number p items))
     (λ p. own_holders part_number p rules.stages rules.span all items) (numbers 16)) in
     record {
-      in_order = subst (All InMatchOrder) same find.in_order;
-      apart = subst MatchesApart same find.apart;
+      in_order = subst (All AreInMatchOrder) same find.in_order;
+      apart = subst MatchesAreApart same find.apart;
       merged = ap (λ (lists : List (List Match)). in_match_order (joined lists)) (sym same) ∙ sym find.merged;
       own_then = λ p. after_routed part_number p rules.stages rules.span all items;
     }

@@ -9,12 +9,12 @@ use Rattle.eql_values.specs.declared.order.OrderKey.{OrderKey}
 use Rattle.eql_values.specs.declared.reader.LineGot.{LineGot}
 use Rattle.eql_values.specs.declared.reader.LineGot.TheVariants as got
 use Rattle.eql_values.specs.Accepted.{Reads, accepted, event_at, readable, sorted_items}
-use Rattle.eql_values.specs.Ascending.{AllAfter, Ascend}
+use Rattle.eql_values.specs.Ascending.{AllAreAfter, Ascend}
 use Rattle.eql_values.specs.Lines.{Line, lines_of, numbered_lines}
 use Rattle.eql_values.specs.Marks.{is_below, low_of}
 use Rattle.eql_laws.specs.Belows.{HasRoutesInOrder, IsReading, from_to}
-use Rattle.eql_laws.specs.Lateness.{AtMost, accepted_by, best_from, larger, late_by}
-use Rattle.eql_laws.specs.Together.{AllBelow, NoneBelow}
+use Rattle.eql_laws.specs.Lateness.{IsAtMost, accepted_by, best_from, larger, late_by}
+use Rattle.eql_laws.specs.Together.{AllAreBelow, NoneIsBelow}
 use Rattle.eql_laws.proofs.BelowLemmas.{All-sorted, sorted_ascends}
 use Rattle.eql_laws.proofs.Elements.{All-filter_map}
 use Rattle.eql_laws.proofs.Kept.{low_rises}
@@ -23,9 +23,9 @@ use Rattle.eql_lane.specs.declared.ops.LaneReply.{LaneReply}
 use Rattle.eql_lane.specs.declared.ops.LaneReply.TheVariants as reply
 use Rattle.eql_lane.specs.declared.ops.LimitOf.TheVariants as limit
 use Rattle.eql_lane.specs.Keeps.{LaneIs, HandsOut}
-use Rattle.eql_lane.specs.Lanes.{Setting, LaneState, FeedStep, ReadsOn, Takes, WasClosed, greater, lesser, low}
+use Rattle.eql_lane.specs.Lanes.{Setting, LaneState, IsFeedStep, ReadsOn, Takes, WasClosed, greater, lesser, low}
 use Rattle.eql_lane.proofs.Keeping.{feed_keeps, take_keeps}
-use Rattle.eql_rounds.specs.LaneRounds.{IsOfShard, Holds, IsOfText, LaneAt, HandsOver, FeedKeepsLane, TakeMovesLane}
+use Rattle.eql_rounds.specs.LaneRounds.{IsOfShard, Holds, IsOfText, LaneIsAt, HandsOver, FeedKeepsLane, TakeMovesLane}
 
 -- ---- events that are read
 abbrev IsRead : ℕ → Item → Type 0
@@ -58,12 +58,12 @@ all_accepted P slack best (item ∷ items) h =
     (all_accepted P slack (Some (larger item.order.ts best)) items (All-tail P item items h))
 
 -- no accepted event is below a mark that is at most the low
-none_one : (mark : Mark) (late : Bool) (item : Item) (items : List Item) → (late ≡ false → is_below mark item ≡ false) → NoneBelow mark items
-    → NoneBelow mark (cond late items (item ∷ items))
+none_one : (mark : Mark) (late : Bool) (item : Item) (items : List Item) → (late ≡ false → is_below mark item ≡ false) → NoneIsBelow mark items
+    → NoneIsBelow mark (cond late items (item ∷ items))
 none_one mark true item items h none = none
 none_one mark false item items h none = All-cons (λ (x : Item). is_below mark x ≡ false) item items (h refl) none
 
-none_accepted : (mark : Mark) (slack best : Option ℤ) (items : List Item) → AtMost mark (low_of false slack best) → NoneBelow mark (accepted_by slack best items)
+none_accepted : (mark : Mark) (slack best : Option ℤ) (items : List Item) → IsAtMost mark (low_of false slack best) → NoneIsBelow mark (accepted_by slack best items)
 none_accepted mark slack best [] le = All-nil (λ (x : Item). is_below mark x ≡ false)
 none_accepted mark slack best (item ∷ items) le =
     none_one mark (late_by slack best item) item (accepted_by slack (Some (larger item.order.ts best)) items)
@@ -76,15 +76,15 @@ routes_of_ascending : (items : List Item) → Ascend items → All HasRoutesInOr
 routes_of_ascending [] h = All-nil HasRoutesInOrder
 routes_of_ascending (item ∷ items) h = All-cons HasRoutesInOrder item items h.0 (routes_of_ascending items h.2)
 
-after_one : (p : Bool) (event : OrderKey) (item : Item) (items : List Item) → AllAfter event (item ∷ []) → AllAfter event items → AllAfter event (cond p (item ∷ items) items)
+after_one : (p : Bool) (event : OrderKey) (item : Item) (items : List Item) → AllAreAfter event (item ∷ []) → AllAreAfter event items → AllAreAfter event (cond p (item ∷ items) items)
 after_one true event item items h k = (h.0, k)
 after_one false event item items h k = k
 
-after_filter : (p : Item → Bool) (event : OrderKey) (items : List Item) → AllAfter event items → AllAfter event (filter p items)
+after_filter : (p : Item → Bool) (event : OrderKey) (items : List Item) → AllAreAfter event items → AllAreAfter event (filter p items)
 after_filter p event [] h = tt
 after_filter p event (item ∷ items) h = after_one (p item) event item (filter p items) (h.0, tt) (after_filter p event items h.1)
 
-ascends_one : (b : Bool) (item : Item) (items : List Item) → HasRoutesInOrder item → AllAfter item.order items → Ascend items → Ascend (cond b (item ∷ items) items)
+ascends_one : (b : Bool) (item : Item) (items : List Item) → HasRoutesInOrder item → AllAreAfter item.order items → Ascend items → Ascend (cond b (item ∷ items) items)
 ascends_one true item items h k asc = (h, k, asc)
 ascends_one false item items h k asc = asc
 
@@ -106,8 +106,8 @@ module _ (set : Setting) (mark : Mark) (old : LaneState) (n : ℕ) (new : LaneSt
   abbrev taken : List Item
   taken = accepted_by set.slack old.cut.best fresh
 
-  low_is : AtMost mark (low_of false set.slack old.cut.best)
-  low_is = subst (λ (c : Bool). AtMost mark (low_of c set.slack old.cut.best)) was_open h.safe
+  low_is : IsAtMost mark (low_of false set.slack old.cut.best)
+  low_is = subst (λ (c : Bool). IsAtMost mark (low_of c set.slack old.cut.best)) was_open h.safe
 
   items_are : new.cut.items ≡ sorted_items (old.cut.items ++ taken)
   items_are = ap (λ (cut : LaneCut). cut.items) r.cut
@@ -123,9 +123,9 @@ module _ (set : Setting) (mark : Mark) (old : LaneState) (n : ℕ) (new : LaneSt
     of_shard = subst (All (IsOfShard set.shard)) (sym items_are) (All-sorted (IsOfShard set.shard) (old.cut.items ++ taken)
         (All-append (IsOfShard set.shard) old.cut.items taken h.of_shard
         (All-weaker (IsRead set.shard) (IsOfShard set.shard) (λ item is. is.0) taken read_are)));
-    none_below = subst (NoneBelow mark) (sym items_are) (All-sorted (λ (x : Item). is_below mark x ≡ false) (old.cut.items ++ taken)
+    none_below = subst (NoneIsBelow mark) (sym items_are) (All-sorted (λ (x : Item). is_below mark x ≡ false) (old.cut.items ++ taken)
         (All-append (λ (x : Item). is_below mark x ≡ false) old.cut.items taken h.none_below (none_accepted mark set.slack old.cut.best fresh low_is)));
-    safe = subst (λ (best : Option ℤ). AtMost mark (low_of new.cut.closed set.slack best)) (sym (ap (λ (cut : LaneCut). cut.best) r.cut))
+    safe = subst (λ (best : Option ℤ). IsAtMost mark (low_of new.cut.closed set.slack best)) (sym (ap (λ (cut : LaneCut). cut.best) r.cut))
         (at_most_trans mark (low_of false set.slack old.cut.best) (low_of new.cut.closed set.slack (best_from old.cut.best fresh)) low_is
         (low_rises new.cut.closed set.slack old.cut.best fresh));
   }
@@ -135,7 +135,7 @@ was_closed set mark old new true e reading step h = subst (Holds set mark) (sym 
 was_closed set mark old new false e reading step h = reads_hold set mark old 0 new reading e step.reads h
 
 feed_holds : (set : Setting) (mark : Mark) (old : LaneState) (max : ℕ) (answer : LaneReply) (new : LaneState) → IsReading set.reads
-    → FeedStep set old max answer new → Holds set mark old → Holds set mark new
+    → IsFeedStep set old max answer new → Holds set mark old → Holds set mark new
 feed_holds set mark old max (reply.Fed n) new reading step h = reads_hold set mark old n new reading step.feeds.was_open step.feeds.reads h
 feed_holds set mark old max (reply.Held k) new reading step h = subst (Holds set mark) (sym step.2) h
 feed_holds set mark old max reply.Closed new reading step h = was_closed set mark old new old.cut.closed refl reading step h
@@ -150,7 +150,7 @@ feed_holds set mark old max (reply.Low m) new reading step h = absurd step
 feed_holds set mark old max (reply.Cut cut) new reading step h = absurd step
 
 feed_told : (text : Option (List ℕ)) (set : Setting) (mark : Mark) (old : LaneState) (max : ℕ) (answer : LaneReply) (new : LaneState)
-    → FeedStep set old max answer new → IfSome text (IsOfText set mark old) → IfSome text (IsOfText set mark new)
+    → IsFeedStep set old max answer new → IfSome text (IsOfText set mark old) → IfSome text (IsOfText set mark new)
 feed_told None set mark old max answer new step h = tt
 feed_told (Some t) set mark old max answer new step h = record { text_is = h.text_is; is = feed_keeps set t mark old max answer new h.text_is step h.is }
 
@@ -161,10 +161,10 @@ feed_keeps_lane text set mark old max answer new reading step at = record {
 }
 
 -- ---- a take
-lesser_first : (a b : Mark) → AtMost a b → lesser a b ≡ a
+lesser_first : (a b : Mark) → IsAtMost a b → lesser a b ≡ a
 lesser_first a b h = ap (λ (c : Bool). cond c a b) h
 
-greater_second : (a b : Mark) → AtMost a b → greater a b ≡ b
+greater_second : (a b : Mark) → IsAtMost a b → greater a b ≡ b
 greater_second a b h = ap (λ (c : Bool). cond c b a) h
 
 was_false : (b : Bool) → not b ≡ true → b ≡ false
@@ -176,8 +176,8 @@ passes_not p items =
     All-weaker (λ (item : Item). not (p item) ≡ true) (λ (item : Item). p item ≡ false) (λ item e. was_false (p item) e) (filter (λ item. not (p item)) items)
     (filter_passes (λ item. not (p item)) items)
 
-module _ (text : Option (List ℕ)) (set : Setting) (from to : Mark) (old : LaneState) (items : List Item) (new : LaneState) (up : AtMost from to)
-    (safe : AtMost to (low set old)) (step : Takes old to items new) (at : LaneAt text set from old) where
+module _ (text : Option (List ℕ)) (set : Setting) (from to : Mark) (old : LaneState) (items : List Item) (new : LaneState) (up : IsAtMost from to)
+    (safe : IsAtMost to (low set old)) (step : Takes old to items new) (at : LaneIsAt text set from old) where
   abbrev rest : List Item
   rest = filter (λ item. not (is_below to item)) old.cut.items
 
@@ -188,20 +188,20 @@ module _ (text : Option (List ℕ)) (set : Setting) (from to : Mark) (old : Lane
   holds_then = record {
     ascends = subst Ascend (sym items_left) (ascends_filter (λ item. not (is_below to item)) old.cut.items at.holds.ascends);
     of_shard = subst (All (IsOfShard set.shard)) (sym items_left) (All-filter (λ item. not (is_below to item)) (IsOfShard set.shard) old.cut.items at.holds.of_shard);
-    none_below = subst (NoneBelow to) (sym items_left) (passes_not (is_below to) old.cut.items);
-    safe = subst (λ (cut : LaneCut). AtMost to (low_of cut.closed set.slack cut.best)) (sym step.cut) safe;
+    none_below = subst (NoneIsBelow to) (sym items_left) (passes_not (is_below to) old.cut.items);
+    safe = subst (λ (cut : LaneCut). IsAtMost to (low_of cut.closed set.slack cut.best)) (sym step.cut) safe;
   }
 
   hands_then : (told : IfSome text (λ t. items ≡ sorted_items (from_to from to (accepted set.reads set.slack set.shard t)))) → HandsOver text set from to items
   hands_then told = record {
     ascends = subst Ascend (sym step.items_are) (ascends_filter (is_below to) old.cut.items at.holds.ascends);
     of_shard = subst (All (IsOfShard set.shard)) (sym step.items_are) (All-filter (is_below to) (IsOfShard set.shard) old.cut.items at.holds.of_shard);
-    none_below = subst (NoneBelow from) (sym step.items_are) (All-filter (is_below to) (λ (x : Item). is_below from x ≡ false) old.cut.items at.holds.none_below);
-    below = subst (AllBelow to) (sym step.items_are) (filter_passes (is_below to) old.cut.items);
+    none_below = subst (NoneIsBelow from) (sym step.items_are) (All-filter (is_below to) (λ (x : Item). is_below from x ≡ false) old.cut.items at.holds.none_below);
+    below = subst (AllAreBelow to) (sym step.items_are) (filter_passes (is_below to) old.cut.items);
     told = told;
   }
 
-out_of_text : (set : Setting) (t : List ℕ) (from to : Mark) (old : LaneState) (items : List Item) (new : LaneState) → AtMost from to → AtMost to (low set old)
+out_of_text : (set : Setting) (t : List ℕ) (from to : Mark) (old : LaneState) (items : List Item) (new : LaneState) → IsAtMost from to → IsAtMost to (low set old)
     → Takes old (lesser to (low set old)) items new → IsOfText set from old t
     → (items ≡ sorted_items (from_to from to (accepted set.reads set.slack set.shard t))) × IsOfText set to new t
 out_of_text set t from to old items new up safe step is =

@@ -9,8 +9,8 @@ use Rattle.eql_values.specs.declared.order.Mark.{Mark}
 use Rattle.eql_values.specs.Ascending.{Ascend}
 use Rattle.eql_values.specs.Marks.{is_below}
 use Rattle.eql_values.specs.Matching.{after, matches}
-use Rattle.eql_laws.specs.Alive.{HoldersInOrder, IsSpan}
-use Rattle.eql_laws.specs.Together.{AllBelow}
+use Rattle.eql_laws.specs.Alive.{HoldersAreInOrder, IsSpan}
+use Rattle.eql_laws.specs.Together.{AllAreBelow}
 use Rattle.eql_laws.proofs.LeftOut.{after_in_order}
 use Rattle.eql_laws.proofs.MarkLemmas.{below_up}
 use Rattle.eql_laws.proofs.PieceLemmas.{ascending_pieces}
@@ -18,7 +18,7 @@ use Rattle.eql_laws.proofs.Splitting.{after_split, matches_split}
 use Rattle.eql_laws.proofs.Togethers.{ascend_together}
 use Rattle.eql_parts.specs.declared.ops.PartReply.TheVariants.{Done, Turned, Idle, Found, Cut, Memory}
 use Rattle.eql_parts.specs.PartSteps.{Rules, PartState, Plays, alive_by, done_by, last_time, mark_time, still_held}
-use Rattle.eql_rounds.specs.PartRounds.{PartIs, FromBy, TimeTo, ReachTo, TurnKeeps, TurnKeepsPart, DeliverMovesPart, CollectMovesPart, CollectsAll}
+use Rattle.eql_rounds.specs.PartRounds.{PartIs, ComeFrom, TimeIsAtMost, ReachesTo, TurnKeeps, TurnKeepsPart, DeliverMovesPart, CollectMovesPart, CollectsAll}
 use Rattle.eql_rounds.proofs.Reaching.{time_self, time_on, reach_up, from_pieces, from_join, from_mark, last_from, last_to, time_rises, last_reach, left_order, by_later, by_still, alike_later, alike_find, SettlesAt, settles_at}
 
 -- what holds of all of two lists holds of each
@@ -32,22 +32,22 @@ backs P (x ∷ xs) ys h = backs P xs ys (All-tail P x (xs ++ ys) h)
 
 -- ---- a part that settled: what isn't alive was dropped
 module _ (rules : Rules) (own : List Holder) (delivered : List Item) (mark : Mark) (new : PartState) (hs : List Holder) (done : Mark) (played : List Item) (reach : Option ℤ)
-    (split : delivered ≡ played ++ new.inbox) (found : new.found ≡ matches rules.stages rules.span own played) (order : HoldersInOrder hs)
+    (split : delivered ≡ played ++ new.inbox) (found : new.found ≡ matches rules.stages rules.span own played) (order : HoldersAreInOrder hs)
     (alike : alive_by rules.span reach hs ≡ alive_by rules.span reach (after rules.stages rules.span own played))
-    (ascends : Ascend new.inbox) (below : AllBelow mark new.inbox) (waits : FromBy reach new.inbox) (to : ReachTo reach mark)
-    (processed : TimeTo new.processed reach) (done_to : TimeTo (mark_time done) reach)
+    (ascends : Ascend new.inbox) (below : AllAreBelow mark new.inbox) (waits : ComeFrom reach new.inbox) (to : ReachesTo reach mark)
+    (processed : TimeIsAtMost new.processed reach) (done_to : TimeIsAtMost (mark_time done) reach)
     (held_is : new.held ≡ still_held rules.span new.processed new.done hs) (done_is : new.done ≡ done_by new.inbox done mark) (last : new.last ≡ mark) where
   pub settled : PartIs rules own delivered mark new
   settled =
       let at : SettlesAt reach new.inbox mark done = settles_at reach new.inbox mark done waits to done_to in
-      let by_done : TimeTo (mark_time new.done) at.time = subst (λ (m : Mark). TimeTo (mark_time m) at.time) (sym done_is) at.done_to in
-      let by_last : TimeTo new.processed at.time = time_on new.processed reach at.time processed at.later in
+      let by_done : TimeIsAtMost (mark_time new.done) at.time = subst (λ (m : Mark). TimeIsAtMost (mark_time m) at.time) (sym done_is) at.done_to in
+      let by_last : TimeIsAtMost new.processed at.time = time_on new.processed reach at.time processed at.later in
       let left : List Holder = alive_by rules.span new.processed hs in
       record {
         played = played;
         split = split;
         found = found;
-        order = subst HoldersInOrder (sym held_is) (left_order rules.span (mark_time new.done) left (left_order rules.span new.processed hs order));
+        order = subst HoldersAreInOrder (sym held_is) (left_order rules.span (mark_time new.done) left (left_order rules.span new.processed hs order));
         reach = at.time;
         alike = ap (alive_by rules.span at.time) held_is
             ∙ by_still rules.span new.processed at.time new.done hs by_last by_done
@@ -77,16 +77,16 @@ module _ (rules : Rules) (own : List Holder) (delivered : List Item) (mark : Mar
   asc : Ascend (more ++ new.inbox)
   asc = subst Ascend plays.inbox is.ascends
 
-  all_below : AllBelow mark (more ++ new.inbox)
-  all_below = subst (AllBelow mark) plays.inbox is.below
+  all_below : AllAreBelow mark (more ++ new.inbox)
+  all_below = subst (AllAreBelow mark) plays.inbox is.below
 
-  from : FromBy is.reach (more ++ new.inbox)
-  from = subst (FromBy is.reach) plays.inbox is.waits
+  from : ComeFrom is.reach (more ++ new.inbox)
+  from = subst (ComeFrom is.reach) plays.inbox is.waits
 
-  from_more : FromBy is.reach more
+  from_more : ComeFrom is.reach more
   from_more = (from_pieces is.reach more new.inbox from).0
 
-  rises : TimeTo is.reach (last_time is.reach more)
+  rises : TimeIsAtMost is.reach (last_time is.reach more)
   rises = time_rises is.reach more (ascending_pieces more new.inbox asc).0 from_more
 
   alike : (matches rules.stages rules.span old.held more ≡ matches rules.stages rules.span before more)
@@ -112,7 +112,7 @@ module _ (rules : Rules) (own : List Holder) (delivered : List Item) (mark : Mar
       (backs (λ (item : Item). is_below mark item ≡ true) more new.inbox all_below)
       (last_from is.reach more new.inbox asc from)
       (last_reach is.reach mark more (fronts (λ (item : Item). is_below mark item ≡ true) more new.inbox all_below) is.to)
-      (subst (λ (t : Option ℤ). TimeTo t (last_time is.reach more)) (sym plays.processed) (last_to old.processed is.reach more is.processed))
+      (subst (λ (t : Option ℤ). TimeIsAtMost t (last_time is.reach more)) (sym plays.processed) (last_to old.processed is.reach more is.processed))
       (time_on (mark_time old.done) is.reach (last_time is.reach more) is.done_to rises)
       plays.held
       (plays.done ∙ ap (done_by new.inbox old.done) is.last)
@@ -146,12 +146,12 @@ deliver_moves_part rules own delivered items from to old new le asc none all ste
     is.order
     is.alike
     (subst Ascend (sym inbox) (ascend_together from old.inbox items is.ascends asc is.below none))
-    (subst (AllBelow to) (sym inbox)
+    (subst (AllAreBelow to) (sym inbox)
     (All-append (λ (item : Item). is_below to item ≡ true) old.inbox items
     (All-weaker (λ (item : Item). is_below from item ≡ true) (λ (item : Item). is_below to item ≡ true) (λ item e. below_up from to item le e) old.inbox is.below) all))
-    (subst (FromBy is.reach) (sym inbox) (from_join is.reach old.inbox items is.waits (from_mark is.reach from items is.to none)))
+    (subst (ComeFrom is.reach) (sym inbox) (from_join is.reach old.inbox items is.waits (from_mark is.reach from items is.to none)))
     (reach_up is.reach from to le is.to)
-    (subst (λ (t : Option ℤ). TimeTo t is.reach) (sym step.processed) is.processed)
+    (subst (λ (t : Option ℤ). TimeIsAtMost t is.reach) (sym step.processed) is.processed)
     is.done_to
     step.held
     step.done

@@ -7,7 +7,7 @@ use Rattle.eql_values.specs.Ascending.{Ascend}
 use Rattle.eql_values.specs.Matching.{after, matches}
 use Rattle.eql_values.specs.Ordered.{numbers}
 use Rattle.eql_values.specs.Routing.{routed}
-use Rattle.eql_laws.specs.Apart.{joined, InMatchOrder, MatchesApart}
+use Rattle.eql_laws.specs.Apart.{joined, AreInMatchOrder, MatchesAreApart}
 use Rattle.eql_laws.specs.Merging.{in_match_order}
 use Rattle.eql_laws.specs.Parts.{holders_in}
 use Rattle.eql_parts.specs.PartSteps.{Rules}
@@ -24,8 +24,8 @@ found_of rules all items p = matches rules.stages rules.span (own_of all p) (rou
 -- what the sixteen parts find by ascending events: their lists may be merged, and merged they are the matches by all events; and after them
 -- each part has its own of what is pending then
 pub record RoundFinds (rules : Rules) (all : List Holder) (items : List Item) : Type 0 where
-  pub in_order : All InMatchOrder (map (found_of rules all items) (numbers 16))
-  pub apart : MatchesApart (map (found_of rules all items) (numbers 16))
+  pub in_order : All AreInMatchOrder (map (found_of rules all items) (numbers 16))
+  pub apart : MatchesAreApart (map (found_of rules all items) (numbers 16))
   pub merged : in_match_order (joined (map (found_of rules all items) (numbers 16))) ≡ matches rules.stages rules.span all items
   pub own_then : (p : ℕ) → after rules.stages rules.span (own_of all p) (routed part_number p items) ≡ own_of (after rules.stages rules.span all items) p
 

@@ -5,11 +5,11 @@ use Rattle.eql_values.specs.declared.order.Mark.{Mark}
 use Rattle.eql_values.specs.Accepted.{accepted, sorted_items}
 use Rattle.eql_values.specs.Ascending.{Ascend}
 use Rattle.eql_laws.specs.Belows.{IsReading, from_to}
-use Rattle.eql_laws.specs.Lateness.{AtMost}
-use Rattle.eql_laws.specs.Together.{AllBelow, NoneBelow}
+use Rattle.eql_laws.specs.Lateness.{IsAtMost}
+use Rattle.eql_laws.specs.Together.{AllAreBelow, NoneIsBelow}
 use Rattle.eql_lane.specs.declared.ops.LaneReply.{LaneReply}
 use Rattle.eql_lane.specs.Keeps.{LaneIs}
-use Rattle.eql_lane.specs.Lanes.{Setting, LaneState, FeedStep, Takes, low, lesser}
+use Rattle.eql_lane.specs.Lanes.{Setting, LaneState, IsFeedStep, Takes, low, lesser}
 
 -- the event is of this shard
 abbrev pub IsOfShard : ℕ → Item → Type 0
@@ -19,8 +19,8 @@ IsOfShard shard item = item.order.shard ≡ shard
 pub record Holds (set : Setting) (mark : Mark) (x : LaneState) : Type 0 where
   pub ascends : Ascend x.cut.items
   pub of_shard : All (IsOfShard set.shard) x.cut.items
-  pub none_below : NoneBelow mark x.cut.items
-  pub safe : AtMost mark (low set x)
+  pub none_below : NoneIsBelow mark x.cut.items
+  pub safe : IsAtMost mark (low set x)
 
 -- the lane has this text, and is what a cut keeps of it at a place and the mark
 pub record IsOfText (set : Setting) (mark : Mark) (x : LaneState) (text : List ℕ) : Type 0 where
@@ -28,7 +28,7 @@ pub record IsOfText (set : Setting) (mark : Mark) (x : LaneState) (text : List �
   pub is : LaneIs set text mark x
 
 -- both, where a text is given
-pub record LaneAt (text : Option (List ℕ)) (set : Setting) (mark : Mark) (x : LaneState) : Type 0 where
+pub record LaneIsAt (text : Option (List ℕ)) (set : Setting) (mark : Mark) (x : LaneState) : Type 0 where
   pub holds : Holds set mark x
   pub told : IfSome text (IsOfText set mark x)
 
@@ -36,21 +36,21 @@ pub record LaneAt (text : Option (List ℕ)) (set : Setting) (mark : Mark) (x : 
 pub record HandsOver (text : Option (List ℕ)) (set : Setting) (from to : Mark) (items : List Item) : Type 0 where
   pub ascends : Ascend items
   pub of_shard : All (IsOfShard set.shard) items
-  pub none_below : NoneBelow from items
-  pub below : AllBelow to items
+  pub none_below : NoneIsBelow from items
+  pub below : AllAreBelow to items
   pub told : IfSome text (λ t. items ≡ sorted_items (from_to from to (accepted set.reads set.slack set.shard t)))
 
 -- each feed keeps what is known of a lane at a mark
 abbrev pub FeedKeepsLane : Type 0
 FeedKeepsLane = (text : Option (List ℕ)) (set : Setting) (mark : Mark) (old : LaneState) (max : ℕ) (reply : LaneReply) (new : LaneState)
-    → IsReading set.reads → FeedStep set old max reply new → LaneAt text set mark old → LaneAt text set mark new
+    → IsReading set.reads → IsFeedStep set old max reply new → LaneIsAt text set mark old → LaneIsAt text set mark new
 
 -- a take up to a greater mark that is at most the low hands out what lies between, and what is known then is of that mark
 pub record TakesTo (text : Option (List ℕ)) (set : Setting) (from to : Mark) (items : List Item) (new : LaneState) : Type 0 where
   pub hands : HandsOver text set from to items
-  pub at : LaneAt text set to new
+  pub at : LaneIsAt text set to new
 
 abbrev pub TakeMovesLane : Type 0
 TakeMovesLane = (text : Option (List ℕ)) (set : Setting) (from to : Mark) (old : LaneState) (items : List Item) (new : LaneState)
-    → AtMost from to → AtMost to (low set old) → Takes old (lesser to (low set old)) items new → LaneAt text set from old
+    → IsAtMost from to → IsAtMost to (low set old) → Takes old (lesser to (low set old)) items new → LaneIsAt text set from old
     → TakesTo text set from to items new

@@ -7,29 +7,29 @@ use Rattle.eql_values.specs.declared.order.Mark.{Mark}
 use Rattle.eql_values.specs.declared.order.Mark.TheVariants.{Start, At, End}
 use Rattle.eql_values.specs.Ascending.{Ascend}
 use Rattle.eql_values.specs.Matching.{after, matches}
-use Rattle.eql_laws.specs.Alive.{HoldersInOrder, IsSpan, ItemsFrom}
-use Rattle.eql_laws.specs.Lateness.{AtMost}
-use Rattle.eql_laws.specs.Together.{AllBelow, NoneBelow}
+use Rattle.eql_laws.specs.Alive.{HoldersAreInOrder, IsSpan, ItemsComeFrom}
+use Rattle.eql_laws.specs.Lateness.{IsAtMost}
+use Rattle.eql_laws.specs.Together.{AllAreBelow, NoneIsBelow}
 use Rattle.eql_parts.specs.declared.ops.PartReply.{PartReply}
 use Rattle.eql_parts.specs.declared.ops.PartReply.TheVariants.{Done, Found}
-use Rattle.eql_parts.specs.PartSteps.{Rules, PartState, DeliverStep, TurnStep, CollectStep, alive_by, mark_time}
+use Rattle.eql_parts.specs.PartSteps.{Rules, PartState, IsDeliverStep, IsTurnStep, IsCollectStep, alive_by, mark_time}
 
 -- the events come at a time or later, where there is one
-abbrev pub FromBy : Option ℤ → List Item → Type 0
-FromBy None items = Unit {0}
-FromBy (Some t) items = ItemsFrom t items
+abbrev pub ComeFrom : Option ℤ → List Item → Type 0
+ComeFrom None items = Unit {0}
+ComeFrom (Some t) items = ItemsComeFrom t items
 
 -- the one time is at most the other, where there is one
-abbrev pub TimeTo : Option ℤ → Option ℤ → Type 0
-TimeTo None other = Unit {0}
-TimeTo (Some t) None = ⊥
-TimeTo (Some t) (Some u) = t ≤ℤ u
+abbrev pub TimeIsAtMost : Option ℤ → Option ℤ → Type 0
+TimeIsAtMost None other = Unit {0}
+TimeIsAtMost (Some t) None = ⊥
+TimeIsAtMost (Some t) (Some u) = t ≤ℤ u
 
 -- events that aren't below the mark come at the time or later
-abbrev pub ReachTo : Option ℤ → Mark → Type 0
-ReachTo reach Start = reach ≡ None
-ReachTo reach (At t) = TimeTo reach (Some t)
-ReachTo reach End = Unit {0}
+abbrev pub ReachesTo : Option ℤ → Mark → Type 0
+ReachesTo reach Start = reach ≡ None
+ReachesTo reach (At t) = TimeIsAtMost reach (Some t)
+ReachesTo reach End = Unit {0}
 
 -- of what was delivered a part played a beginning. It found the matches from its own pending sequences on, and has what is pending then but
 -- for some that are dead at a time, at which or later all that waits comes
@@ -37,15 +37,15 @@ pub record PartIs (rules : Rules) (own : List Holder) (delivered : List Item) (m
   pub played : List Item
   pub split : delivered ≡ played ++ x.inbox
   pub found : x.found ≡ matches rules.stages rules.span own played
-  pub order : HoldersInOrder x.held
+  pub order : HoldersAreInOrder x.held
   pub reach : Option ℤ
   pub alike : alive_by rules.span reach x.held ≡ alive_by rules.span reach (after rules.stages rules.span own played)
   pub ascends : Ascend x.inbox
-  pub below : AllBelow mark x.inbox
-  pub waits : FromBy reach x.inbox
-  pub to : ReachTo reach mark
-  pub processed : TimeTo x.processed reach
-  pub done_to : TimeTo (mark_time x.done) reach
+  pub below : AllAreBelow mark x.inbox
+  pub waits : ComeFrom reach x.inbox
+  pub to : ReachesTo reach mark
+  pub processed : TimeIsAtMost x.processed reach
+  pub done_to : TimeIsAtMost (mark_time x.done) reach
   pub done : x.inbox ≡ [] → x.done ≡ mark
   pub fresh : alive_by rules.span (mark_time x.done) x.held ≡ x.held
   pub last : x.last ≡ mark
@@ -57,13 +57,13 @@ pub record TurnKeeps (rules : Rules) (own : List Holder) (delivered : List Item)
 
 abbrev pub TurnKeepsPart : Type 0
 TurnKeepsPart = (rules : Rules) (own : List Holder) (delivered : List Item) (mark : Mark) (old : PartState) (max : ℕ) (reply : PartReply) (new : PartState)
-    → IsSpan rules.span → TurnStep rules old max reply new → PartIs rules own delivered mark old → TurnKeeps rules own delivered mark old new
+    → IsSpan rules.span → IsTurnStep rules old max reply new → PartIs rules own delivered mark old → TurnKeeps rules own delivered mark old new
 
 -- a delivery of events from the mark on and below a greater one puts them behind what was delivered
 abbrev pub DeliverMovesPart : Type 0
 DeliverMovesPart = (rules : Rules) (own : List Holder) (delivered items : List Item) (from to : Mark) (old new : PartState)
-    → AtMost from to → Ascend items → NoneBelow from items → AllBelow to items
-    → DeliverStep rules old items to Done new → PartIs rules own delivered from old → PartIs rules own (delivered ++ items) to new
+    → IsAtMost from to → Ascend items → NoneIsBelow from items → AllAreBelow to items
+    → IsDeliverStep rules old items to Done new → PartIs rules own delivered from old → PartIs rules own (delivered ++ items) to new
 
 -- a collection where nothing waits gives all matches of what was delivered; what is pending after it is the part's own then
 pub record CollectsAll (rules : Rules) (own : List Holder) (delivered : List Item) (mark : Mark) (found : List Match) (new : PartState) : Type 0 where
@@ -72,4 +72,4 @@ pub record CollectsAll (rules : Rules) (own : List Holder) (delivered : List Ite
 
 abbrev pub CollectMovesPart : Type 0
 CollectMovesPart = (rules : Rules) (own : List Holder) (delivered : List Item) (mark done : Mark) (old : PartState) (found : List Match) (new : PartState)
-    → old.inbox ≡ [] → CollectStep old (Found found done) new → PartIs rules own delivered mark old → CollectsAll rules own delivered mark found new
+    → old.inbox ≡ [] → IsCollectStep old (Found found done) new → PartIs rules own delivered mark old → CollectsAll rules own delivered mark found new

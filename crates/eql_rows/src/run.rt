@@ -339,7 +339,7 @@ pub(crate) fn run_as_said<R: Threads + Wait + Sync + Abort>(
     }
 }
 
-/// Runs a row on an empty disk, sees that it gave what the row says, and answers what is left on the disk.
+/// Runs a row on an empty disk, sees that it gave what the row says, and returns what is left on the disk.
 pub(crate) fn areas_after<R: Threads + Wait + Sync + Abort>(
     rt: &R,
     alloc: Global,

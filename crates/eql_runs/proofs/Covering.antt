@@ -21,8 +21,8 @@ use Rattle.eql_parser.specs.Refusing.{IsMemory, RefusesTokens}
 use Rattle.eql_check.specs.Kinds.{kind_at}
 use Rattle.eql_check.specs.Mappings.{mapping_of}
 use Rattle.eql_check.specs.Rules.{first_broken}
-use Rattle.eql_check.specs.Typing.{ExactlyChecked}
-use Rattle.eql_runs.specs.Files.{Files, first_missing, HasTokens, NoTokens, too_long, not_utf8, breaks, HasQueryTokens, HasQuery, HasMapping, HasChecked, HasTexts}
+use Rattle.eql_check.specs.Typing.{CheckIsExact}
+use Rattle.eql_runs.specs.Files.{Files, first_missing, HasTokens, HasNoTokens, too_long, not_utf8, breaks, HasQueryTokens, HasQuery, HasMapping, HasChecked, HasTexts}
 use Rattle.eql_runs.specs.Refusals.{Names, Refusal, Refuses, no_file, no_query, not_spelled, not_read, no_fields, bad_mapping, is_broken, no_shard}
 use Rattle.eql_runs.specs.Refusals as run
 
@@ -40,7 +40,7 @@ QueryOrRefused tokens =
 pub record CoverLaws : Type 0 where
   pub spelled : (text : List ℕ) → SpelledOrBroken text
   pub read : (tokens : List Token) → QueryOrRefused tokens
-  pub exact : ExactlyChecked
+  pub exact : CheckIsExact
 
 -- an option is none or some, and a result one of two
 abbrev pub NoneOrSome : {A : Type 0} → Option A → Type 0
@@ -59,7 +59,7 @@ ok_or_err (Err e) = inr (e, refl)
 
 -- a text has tokens, or none for a cause
 abbrev TokensOrNot : List ℕ → Type 0
-TokensOrNot text = ((ts : List Token) × HasTokens text ts) ⊎ ((r : LexRefused) × NoTokens text r)
+TokensOrNot text = ((ts : List Token) × HasTokens text ts) ⊎ ((r : LexRefused) × HasNoTokens text r)
 
 by_rules : (text : List ℕ) → length text ≤ 65536 → IsUtf8 text → SpelledOrBroken text → TokensOrNot text
 by_rules text short utf8 (inl h) = inl (h.0, record { short = short; utf8 = utf8; spells = h.1 })

@@ -24,10 +24,10 @@ use Rattle.eql_cut.specs.Domain.{kept_by}
 use Rattle.eql_cut.specs.Placing.{NamesLine, lifted_lane}
 use Rattle.eql_placed.specs.Placed.{ShardHasLine, place_in_texts, placed}
 use Rattle.eql_placed.specs.PlacedLaws.{NamedWereRead, NamesStay}
-use Rattle.eql_runs.specs.CutRefusals.{CutRefusal, CutRefuses, FoundRefuses, IsLostLine, NoneRefusedBefore, ShardRefuses, StandsBefore, by_found, by_shard, differs, has_no_line, head_damaged, head_differs, is_grown, is_short, is_unfit, no_line, short, text_damaged}
+use Rattle.eql_runs.specs.CutRefusals.{CutRefusal, CutRefuses, FoundRefuses, IsLostLine, NoneIsRefusedBefore, ShardRefuses, StandsBefore, by_found, by_shard, differs, has_no_line, head_damaged, head_differs, is_grown, is_short, is_unfit, no_line, short, text_damaged}
 use Rattle.eql_runs.specs.Refusals.{Refusal}
 use Rattle.eql_runs.specs.Refusals as refusal
-use Rattle.eql_runs.specs.RunLaws.{SameRefusal, other_place, same}
+use Rattle.eql_runs.specs.RunLaws.{IsSameRefusal, other_place, same}
 use Rattle.eql_runs.specs.Searches.{Search, nanos_in, reads_of, run_of}
 use Rattle.eql_runs.specs.Starts.{BeginsWith, IsCutOf, IsHeadOf, OnDisk, a_cut, bad_head, bad_text, meant_by, nothing_kept}
 use Rattle.eql_runs.proofs.Heads.{no_difference, one_head}
@@ -38,7 +38,7 @@ pub record CutLaws : Type 0 where
   pub names_stay : NamesStay
 
 abbrev Same : CutRefusal → CutRefusal → Type 0
-Same r s = SameRefusal (refusal.cut r) (refusal.cut s)
+Same r s = IsSameRefusal (refusal.cut r) (refusal.cut s)
 
 same_of : (r s : CutRefusal) → r ≡ s → Same r s
 same_of r s e = subst (λ (x : CutRefusal). Same r x) e same
@@ -84,7 +84,7 @@ one_of_shard format cut shard text _ _ (is_grown b also closed more all) (has_no
 one_of_shard format cut shard text _ _ (is_grown a is closed more all) (is_grown b also shut further whole) = refl
 
 one_shard : (format : ℕ) (cut : Cut) (texts : List (List ℕ)) (a b : ℕ) (t u : List ℕ) (r s : CutRefusal) → slice_get texts a ≡ Some t
-    → slice_get texts b ≡ Some u → NoneRefusedBefore format cut a texts → NoneRefusedBefore format cut b texts → ShardRefuses format cut a t r
+    → slice_get texts b ≡ Some u → NoneIsRefusedBefore format cut a texts → NoneIsRefusedBefore format cut b texts → ShardRefuses format cut a t r
     → ShardRefuses format cut b u s → a ≡ b
 one_shard format cut texts a b t u r s is also none nor refused denied = by (cases_order a b)
   where

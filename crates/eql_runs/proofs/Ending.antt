@@ -8,7 +8,7 @@ use Rattle.eql_laws.specs.Counting.{IsShardText}
 use Rattle.eql_cut.specs.declared.cut.Cut.{Cut}
 use Rattle.eql_cut.specs.declared.cut.CutHead.{CutHead}
 use Rattle.eql_cut.specs.Agreeing.{difference}
-use Rattle.eql_cut.specs.Lifting.{FirstFormatUnplaced}
+use Rattle.eql_cut.specs.Lifting.{FirstFormatHasNoPlaces}
 use Rattle.eql_cut.specs.Placing.{IsUnplaced, orders_in}
 use Rattle.eql_cut.specs.Whole.{IsText, TextsAreDecided}
 use Rattle.eql_ckdisk.specs.Found.{Found, found}
@@ -52,7 +52,7 @@ pub record EndLaws : Type 0 where
   pub own : OwnLaws
   pub same : SameLaws
   pub bounded : CommandsAreBounded
-  pub unplaced : FirstFormatUnplaced
+  pub unplaced : FirstFormatHasNoPlaces
   pub decided : TextsAreDecided
 
 -- ---- a search whose files are all there

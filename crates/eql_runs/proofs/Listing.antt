@@ -17,7 +17,7 @@ use Rattle.eql_runs.specs.Searches.{Search, rest_of, report_of}
 use Rattle.eql_runs.specs.Summaries.{made_query, IsMadeSearch, made_lines, Makes}
 use Rattle.eql_runs.specs.Runs.{names_of, Searches, Finds, Prints, Runs, Writes, IsRefused, by_cut, by_files, RefusesCut, CanRun}
 use Rattle.eql_runs.specs.CutRefusals.{CutRefusal, CutRefuses}
-use Rattle.eql_runs.specs.RunLaws.{SameRefusal}
+use Rattle.eql_runs.specs.RunLaws.{IsSameRefusal}
 use Rattle.eql_runs.specs.Starts.{OnDisk, listed_on, start_for}
 use Rattle.eql_runs.proofs.Reading.{QueryLaws, mapping_or, one_query, one_mapping, one_texts, none_missing}
 use Rattle.eql_runs.proofs.OwnCuts.{OwnLaws, reading_of}
@@ -148,7 +148,7 @@ same_find a b e = ap (find_or a) e
     find_or d (command.Made hands events) = d
 
 one_cut_of : (laws : DiskLaws) (find : Find) (files : Files) (on : OnDisk) (r s : CutRefusal) → RefusesCut find files on r
-    → RefusesCut find files on s → SameRefusal (refusal.cut r) (refusal.cut s)
+    → RefusesCut find files on s → IsSameRefusal (refusal.cut r) (refusal.cut s)
 one_cut_of laws find files on r s a b =
     let one : a.search ≡ b.search = one_search laws.queries find files a.search b.search a.texts b.texts a.searches b.searches in
     let t : a.texts ≡ b.texts = one_texts find.shards files a.texts b.texts a.searches.there b.searches.there in
@@ -164,7 +164,7 @@ files_or_cut laws words files on c find names r s is named found refused denied 
     search_or_refused laws.queries names find files denied.search denied.texts r (ap names_of (sym e) ∙ found) denied.searches refused
 
 pub one_cause_of : (laws : DiskLaws) (words : List (List ℕ)) (files : Files) (on : OnDisk) (r s : Refusal)
-    → IsRefused words files on r → IsRefused words files on s → SameRefusal r s
+    → IsRefused words files on r → IsRefused words files on s → IsSameRefusal r s
 one_cause_of laws words files on _ _ (by_files c is names found r refused) (by_files other named others had s denied) =
     let one : names ≡ others = same_Some names others (sym found ∙ ap names_of (one_command words c other is named) ∙ had) in
     one_refusal laws.queries others files r s (subst (λ (x : Names). Refuses x files r) one refused) denied

@@ -13,7 +13,7 @@ use Rattle.eql_lexer.specs.declared.token.Tok.TheVariants as tok
 use Rattle.eql_lexer.specs.declared.token.Token.{Token}
 use Rattle.eql_lexer.specs.Bytes.{is_word}
 use Rattle.eql_lexer.specs.Spelling.{Spells}
-use Rattle.eql_lexer.specs.Strings.{Content, closed, plain, IsPlain}
+use Rattle.eql_lexer.specs.Strings.{IsContent, closed, plain, IsPlain}
 use Rattle.eql_parser.specs.Kinds.{kinds}
 use Rattle.eql_parser.specs.Reading.{separated, dotted, chain_from, unary, neg, expr}
 use Rattle.eql_parser.specs.QueryReading.{items, pipes, query}
@@ -21,7 +21,7 @@ use Rattle.eql_parser.proofs.Parsed.{found_by, levels_by, opens_by}
 use Rattle.eql_check.specs.Kinds.{kind_at}
 use Rattle.eql_check.specs.Mappings.{mapping_of}
 use Rattle.eql_check.specs.Rules.{first_broken}
-use Rattle.eql_check.specs.Typing.{ExactlyChecked}
+use Rattle.eql_check.specs.Typing.{CheckIsExact}
 use Rattle.eql_runs.specs.Files.{HasTokens, ReadsAs}
 use Rattle.eql_runs.specs.SummaryExamples.{made_tree, made_kinds, made_search}
 use Rattle.eql_runs.specs.RunLaws.{MadeIsASearch}
@@ -60,7 +60,7 @@ letter_is_plain : (b : ℕ) → is_word b ≡ true → IsPlain b
 letter_is_plain b h =
     (λ e. false≢true (sym (ap is_word e) ∙ h), λ e. false≢true (sym (ap is_word e) ∙ h), λ e. false≢true (sym (ap is_word e) ∙ h))
 
-quoted : (word rest : List ℕ) → list_all is_word word ≡ true → Content (word ++ 34 ∷ rest) word rest
+quoted : (word rest : List ℕ) → list_all is_word word ≡ true → IsContent (word ++ 34 ∷ rest) word rest
 quoted [] rest h = closed refl
 quoted (b ∷ word) rest h =
     let both = both_true (is_word b) (list_all is_word word) h in
@@ -290,7 +290,7 @@ keeps_rules : first_broken (kind_at made_kinds) made_tree ≡ None
 unfolding lib.Utf8.encode
 keeps_rules = refl
 
-pub made_is_a_search : ExactlyChecked → MadeIsASearch
+pub made_is_a_search : CheckIsExact → MadeIsASearch
 made_is_a_search exact = (
   made_search,
   record {

@@ -10,7 +10,7 @@ use Rattle.eql_cut.proofs.Laws.{front_is_bytes}
 use Rattle.eql_ckdisk.specs.Found.{Found, text, damaged, holds, is_open, is_whole, length_in}
 use Rattle.eql_ckdisk.specs.Found as areas
 use Rattle.eql_ckdisk.specs.Refusing.{IsDamagedHead, number_of}
-use Rattle.eql_runs.specs.RunLaws.{SomethingOnDisk}
+use Rattle.eql_runs.specs.RunLaws.{DiskHoldsSomething}
 use Rattle.eql_runs.specs.Starts.{OnDisk, nothing_kept, a_cut, bad_head, bad_text, StandsFor}
 
 abbrev bytes_in : Found → List ℕ
@@ -107,7 +107,7 @@ in_area decided area bytes all =
     (by_text area generation within (decided within (front_is_bytes (length_in bytes) (drop 17 bytes) (behind_is_bytes 17 bytes all))))
     (bad_head (number_of area), (refl, refl))
 
-pub something_on_disk : TextsAreDecided → SomethingOnDisk
+pub something_on_disk : TextsAreDecided → DiskHoldsSomething
 something_on_disk decided image a b =
     let open_a = is_open image.a in
     let open_b = is_open image.b in

@@ -16,8 +16,8 @@ use Rattle.eql_parser.specs.Refusing.{RefusesTokens, IsMemory}
 use Rattle.eql_parser.proofs.Refusals.{memory_alone}
 use Rattle.eql_check.specs.declared.mapping.MapRefused.{MapRefused}
 use Rattle.eql_check.specs.Mappings.{mapping_of}
-use Rattle.eql_check.specs.Typing.{ExactlyChecked}
-use Rattle.eql_runs.specs.Files.{Files, first_missing, HasTokens, NoTokens, too_long, not_utf8, breaks, ReadsAs, IsNotRead, HasQueryTokens, HasQuery, HasMapping, HasTexts}
+use Rattle.eql_check.specs.Typing.{CheckIsExact}
+use Rattle.eql_runs.specs.Files.{Files, first_missing, HasTokens, HasNoTokens, too_long, not_utf8, breaks, ReadsAs, IsNotRead, HasQueryTokens, HasQuery, HasMapping, HasTexts}
 
 -- the laws of tokens, queries and checks on which the causes rest
 pub record QueryLaws : Type 0 where
@@ -27,7 +27,7 @@ pub record QueryLaws : Type 0 where
   pub one_query : (tokens : List Token) (p q : QueryTree) → IsQuery tokens p → IsQuery tokens q → p ≡ q
   pub one_refusal : (tokens : List Token) (r s : ParseRefused) → (IsMemory r → ⊥) → (IsMemory s → ⊥) → RefusesTokens tokens r
       → RefusesTokens tokens s → r ≡ s
-  pub exact : ExactlyChecked
+  pub exact : CheckIsExact
 
 -- a file has one text
 pub one_text : (name : List ℕ) (files : Files) (text other : List ℕ) → file_named name files ≡ Some text
@@ -39,13 +39,13 @@ pub missing_text : (name : List ℕ) (files : Files) (text : List ℕ) → file_
 missing_text name files text none there = none-some text (sym none ∙ there)
 
 -- a text has tokens, or none for one cause
-pub has_or_not : (laws : QueryLaws) (text : List ℕ) (r : LexRefused) (ts : List Token) → NoTokens text r
+pub has_or_not : (laws : QueryLaws) (text : List ℕ) (r : LexRefused) (ts : List Token) → HasNoTokens text r
     → HasTokens text ts → ⊥
 has_or_not laws text _ ts (too_long long) has = omega (arith, long, has.short)
 has_or_not laws text _ ts (not_utf8 short denied) has = denied has.utf8
 has_or_not laws text _ ts (breaks short utf8 rule at b) has = laws.none_spelled text rule at ts b has.spells
 
-pub one_cause : (laws : QueryLaws) (text : List ℕ) (r s : LexRefused) → NoTokens text r → NoTokens text s → r ≡ s
+pub one_cause : (laws : QueryLaws) (text : List ℕ) (r s : LexRefused) → HasNoTokens text r → HasNoTokens text s → r ≡ s
 one_cause laws text _ _ (too_long long) (too_long more) = refl
 one_cause laws text _ _ (too_long long) (not_utf8 short denied) = absurd (omega (arith, long, short))
 one_cause laws text _ _ (too_long long) (breaks short utf8 rule at b) = absurd (omega (arith, long, short))

@@ -11,9 +11,9 @@ use Rattle.eql_check.specs.Kinds.{kind_at}
 use Rattle.eql_check.specs.Rules.{first_broken}
 use Rattle.eql_words.specs.declared.commands.Command.{Command}
 use Rattle.eql_words.specs.Commands.{command_of}
-use Rattle.eql_runs.specs.Files.{Files, first_missing, HasTokens, NoTokens, ReadsAs, IsNotRead, HasQueryTokens, HasQuery, HasBoth, HasChecked}
+use Rattle.eql_runs.specs.Files.{Files, first_missing, HasTokens, HasNoTokens, ReadsAs, IsNotRead, HasQueryTokens, HasQuery, HasBoth, HasChecked}
 use Rattle.eql_runs.specs.Refusals.{Names, Refusal, Refuses, refusal_status, no_file, lex, parse, mapping, broken, no_query, not_spelled, not_read, no_fields, bad_mapping, is_broken, no_shard}
-use Rattle.eql_runs.specs.RunLaws.{SameRefusal, same, other_place}
+use Rattle.eql_runs.specs.RunLaws.{IsSameRefusal, same, other_place}
 use Rattle.eql_runs.proofs.Reading.{QueryLaws, one_text, missing_text, has_or_not, one_cause, read_or_not, agree, one_tokens, one_query, one_mapping, one_bad_mapping, mapping_or_not}
 
 module _ (laws : QueryLaws) (names : Names) (files : Files) where
@@ -131,15 +131,15 @@ module _ (laws : QueryLaws) (names : Names) (files : Files) where
       let e : depth s ≡ k + suc (depth r) = omega (arith, less) in
       stops refusal r (down k (depth s) (suc (depth r)) e (past_of other s))
 
-  same_of : (r s : Refusal) → r ≡ s → SameRefusal r s
-  same_of r s e = subst (λ (x : Refusal). SameRefusal r x) e same
+  same_of : (r s : Refusal) → r ≡ s → IsSameRefusal r s
+  same_of r s e = subst (λ (x : Refusal). IsSameRefusal r x) e same
 
   -- causes that stop a run at the same step are the same refusal
   same_there : (refusal other : Refusal) (r : Refuses names files refusal) (s : Refuses names files other)
-      → depth r ≡ depth s → SameRefusal refusal other
+      → depth r ≡ depth s → IsSameRefusal refusal other
   same_there _ _ (no_query none) (no_query gone) e = same
   same_there _ _ (not_spelled text is r none) (not_spelled other there s gone) e =
-      let one : NoTokens other r = subst (λ (x : List ℕ). NoTokens x r) (one_text names.query files text other is there) none in
+      let one : HasNoTokens other r = subst (λ (x : List ℕ). HasNoTokens x r) (one_text names.query files text other is there) none in
       same_of (lex r) (lex s) (ap lex (one_cause laws other r s one gone))
   same_there _ _ (not_read tokens has r denied) (not_read others had s refused) e =
       let one : tokens ≡ others = one_tokens laws names.query files tokens others has had in
@@ -156,10 +156,10 @@ module _ (laws : QueryLaws) (names : Names) (files : Files) where
   same_there _ _ r s e = absurd (omega (arith, e))
 
   pub one_refusal : (refusal other : Refusal) → Refuses names files refusal → Refuses names files other
-      → SameRefusal refusal other
+      → IsSameRefusal refusal other
   one_refusal refusal other r s = by_order (cases_order (depth r) (depth s))
     where
-      by_order : (depth r ≡ depth s) ⊎ ((depth r < depth s) ⊎ (depth s < depth r)) → SameRefusal refusal other
+      by_order : (depth r ≡ depth s) ⊎ ((depth r < depth s) ⊎ (depth s < depth r)) → IsSameRefusal refusal other
       by_order (inl e) = same_there refusal other r s e
       by_order (inr (inl less)) = absurd (not_before refusal other r s less)
       by_order (inr (inr more)) = absurd (not_before other refusal s r more)
@@ -185,7 +185,7 @@ module _ (laws : QueryLaws) (names : Names) (files : Files) where
       stops refusal r (down k 7 (suc (depth r)) up all)
 
 -- what is the same refusal has one status
-pub same_status : (r s : Refusal) → SameRefusal r s → refusal_status r ≡ refusal_status s
+pub same_status : (r s : Refusal) → IsSameRefusal r s → refusal_status r ≡ refusal_status s
 same_status _ _ same = refl
 same_status _ _ other_place = refl
 

@@ -79,8 +79,8 @@ pub data ShardRefuses (format : ℕ) (cut : Cut) (shard : ℕ) (text : List ℕ)
       → ShardRefuses format cut shard text (grown shard)
 
 -- none of the shards before this one is refused
-abbrev pub NoneRefusedBefore : (format : ℕ) → Cut → (shard : ℕ) → List (List ℕ) → Type 0
-NoneRefusedBefore format cut shard texts =
+abbrev pub NoneIsRefusedBefore : (format : ℕ) → Cut → (shard : ℕ) → List (List ℕ) → Type 0
+NoneIsRefusedBefore format cut shard texts =
     (s : ℕ) (text : List ℕ) (r : CutRefusal) → s < shard → slice_get texts s ≡ Some text
     → ¬ (ShardRefuses format cut s text r)
 
@@ -92,14 +92,14 @@ pub data CutRefuses (search : Search) (texts : List (List ℕ)) : OnDisk → Cut
   by_shard :
       (format generation : ℕ) (cut : Cut) → IsHeadOf search (length texts) cut.head
       → Fits (run_of search cut.head.slack) (length texts) (kept_by cut) → (shard : ℕ) (text : List ℕ)
-      → slice_get texts shard ≡ Some text → NoneRefusedBefore format cut shard texts → (r : CutRefusal)
+      → slice_get texts shard ≡ Some text → NoneIsRefusedBefore format cut shard texts → (r : CutRefusal)
       → ShardRefuses format cut shard text r → CutRefuses search texts (a_cut format generation cut) r
 
 -- a run tests all that it can of a cut: it says that it is of this search, it fits it, and no shard is refused by it
 pub record IsTestedCut (search : Search) (texts : List (List ℕ)) (format : ℕ) (cut : Cut) : Type 0 where
   pub head : IsHeadOf search (length texts) cut.head
   pub fits : Fits (run_of search cut.head.slack) (length texts) (kept_by cut)
-  pub shards : NoneRefusedBefore format cut (length texts) texts
+  pub shards : NoneIsRefusedBefore format cut (length texts) texts
 
 -- what is on the disk passed these tests
 abbrev pub IsTested : Search → List (List ℕ) → OnDisk → Type 0

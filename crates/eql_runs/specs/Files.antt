@@ -41,12 +41,12 @@ pub record HasTokens (text : List ℕ) (tokens : List Token) : Type 0 where
 
 -- why a text has no tokens: it is too long, or it isn't UTF-8, or it breaks a rule of tokens at a
 -- place
-pub data NoTokens (text : List ℕ) : LexRefused → Type 0 where
-  too_long : 65536 < length text → NoTokens text lexed.TooLong
-  not_utf8 : length text ≤ 65536 → ¬ (IsUtf8 text) → NoTokens text lexed.NotUtf8
+pub data HasNoTokens (text : List ℕ) : LexRefused → Type 0 where
+  too_long : 65536 < length text → HasNoTokens text lexed.TooLong
+  not_utf8 : length text ≤ 65536 → ¬ (IsUtf8 text) → HasNoTokens text lexed.NotUtf8
   breaks :
       length text ≤ 65536 → IsUtf8 text → (rule : Rule) (at : ℕ) → BreaksAt text rule at
-      → NoTokens text (refusal_of rule at)
+      → HasNoTokens text (refusal_of rule at)
 
 -- the tokens are this query, which has at most 64 levels, and in them at most 128 parentheses stand
 -- open

@@ -17,7 +17,7 @@ use Rattle.eql_check.specs.Mappings.{mapping_of}
 use Rattle.eql_check.specs.Messages.{map_message, check_message}
 use Rattle.eql_check.specs.Rules.{first_broken}
 use Rattle.eql_runs.specs.CutRefusals.{CutRefusal, cut_text}
-use Rattle.eql_runs.specs.Files.{Files, first_missing, HasQueryTokens, NoTokens, IsNotRead, HasQuery, HasBoth, HasChecked}
+use Rattle.eql_runs.specs.Files.{Files, first_missing, HasQueryTokens, HasNoTokens, IsNotRead, HasQuery, HasBoth, HasChecked}
 
 -- the files that a command names: its query, its mapping, and its shards in their order
 pub record Names : Type 0 where
@@ -40,7 +40,7 @@ pub data Refuses (names : Names) (files : Files) : Refusal → Type 0 where
   no_query : file_named names.query files ≡ None → Refuses names files (no_file names.query)
   not_spelled :
       (text : List ℕ) → file_named names.query files ≡ Some text → (r : LexRefused)
-      → NoTokens text r → Refuses names files (lex r)
+      → HasNoTokens text r → Refuses names files (lex r)
   not_read :
       (tokens : List Token) → HasQueryTokens names.query files tokens → (r : ParseRefused)
       → IsNotRead tokens r → Refuses names files (parse r)

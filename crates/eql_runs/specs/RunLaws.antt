@@ -27,12 +27,12 @@ use Rattle.eql_runs.specs.Summaries.{IsMadeSearch}
 use Rattle.eql_runs.specs.Runs.{IsFindAccepted, Searches, SearchesBeyond, ShardLimit, Writes, IsRefused, AreTrusted, AreWithin, CanRun}
 
 -- what an image stands for is one thing
-abbrev pub OneOnDisk : Type 0
-OneOnDisk = (f : Found) (on other : OnDisk) → StandsFor on f → StandsFor other f → on ≡ other
+abbrev pub DiskHoldsOne : Type 0
+DiskHoldsOne = (f : Found) (on other : OnDisk) → StandsFor on f → StandsFor other f → on ≡ other
 
 -- an image of a disk stands for something: each area of it is a list of bytes
-abbrev pub SomethingOnDisk : Type 0
-SomethingOnDisk = (image : Areas) → IsBytes image.a → IsBytes image.b → (on : OnDisk) × StandsFor on (found image)
+abbrev pub DiskHoldsSomething : Type 0
+DiskHoldsSomething = (image : Areas) → IsBytes image.a → IsBytes image.b → (on : OnDisk) × StandsFor on (found image)
 
 -- a run over texts for which what its disk holds passed all tests is refused for no cause
 abbrev pub TestedIsAccepted : Type 0
@@ -41,8 +41,8 @@ TestedIsAccepted =
     → IsTested search texts (start_for find on) → IsFindAccepted find files on
 
 -- a run searches for one thing, over one list of texts
-abbrev pub OneSearch : Type 0
-OneSearch =
+abbrev pub SearchIsOne : Type 0
+SearchIsOne =
     (find : Find) (files : Files) (search other : Search) (texts others : List (List ℕ)) → Searches find files search texts
     → Searches find files other others → (search ≡ other) × (texts ≡ others)
 
@@ -53,31 +53,31 @@ FitsAtAnySpan =
     → Fits (record { stages = stages; span = span; values = values; pipes = pipes; slack = slack }) shards kept
     → Fits (record { stages = stages; span = other; values = values; pipes = pipes; slack = slack }) shards kept
 
--- what cuts say of their runs differs in nothing exactly where it is one and the same
+-- what cuts say of their runs differs in nothing exactly when it is one and the same
 abbrev pub HeadsAgree : Type 0
 HeadsAgree = (cut now : CutHead) → (difference cut now ≡ None) ↔ (cut ≡ now)
 
 -- the words, the files and what the disk holds determine the bytes and the report
-abbrev pub OneListing : Type 0
-OneListing =
+abbrev pub ListingIsOne : Type 0
+ListingIsOne =
     (words : List (List ℕ)) (files : Files) (on : OnDisk) (bytes other report beside : List ℕ)
     → Writes words files on bytes report → Writes words files on other beside
     → (bytes ≡ other) × (report ≡ beside)
 
 -- the same refusal; or both say that the text in an area is no cut's, maybe at another place
-pub data SameRefusal : Refusal → Refusal → Type 0 where
-  same : {r : Refusal} → SameRefusal r r
-  other_place : {area at to : ℕ} → SameRefusal (refusal.cut (damaged area at)) (refusal.cut (damaged area to))
+pub data IsSameRefusal : Refusal → Refusal → Type 0 where
+  same : {r : Refusal} → IsSameRefusal r r
+  other_place : {area at to : ℕ} → IsSameRefusal (refusal.cut (damaged area at)) (refusal.cut (damaged area to))
 
 -- words, files and disk are refused for one cause
-abbrev pub OneRefusal : Type 0
-OneRefusal =
+abbrev pub RefusalIsOne : Type 0
+RefusalIsOne =
     (words : List (List ℕ)) (files : Files) (on : OnDisk) (r s : Refusal) → IsRefused words files on r
-    → IsRefused words files on s → SameRefusal r s
+    → IsRefused words files on s → IsSameRefusal r s
 
 -- and with one status
-abbrev pub OneStatus : Type 0
-OneStatus =
+abbrev pub StatusIsOne : Type 0
+StatusIsOne =
     (words : List (List ℕ)) (files : Files) (on : OnDisk) (r s : Refusal) → IsRefused words files on r
     → IsRefused words files on s → refusal_status r ≡ refusal_status s
 

@@ -1,5 +1,5 @@
 //! Laws of what a run writes and refuses, each the contract of a function that does nothing.
-ghost use Rattle.eql_runs.specs.RunLaws.{FitsAtAnySpan, OneListing, OneRefusal, OneSearch, OneStatus, TestedIsAccepted, WritesOrIsRefused, CheckedIsAccepted, HeadsAgree, ReadyIsNotRefused, MadeIsASearch, MadeIsWithin, MatchesAreFew, NoRunIsLeftOut, OneOnDisk, RunsFindFew, SomethingOnDisk};
+ghost use Rattle.eql_runs.specs.RunLaws.{FitsAtAnySpan, ListingIsOne, RefusalIsOne, SearchIsOne, StatusIsOne, TestedIsAccepted, WritesOrIsRefused, CheckedIsAccepted, HeadsAgree, ReadyIsNotRefused, MadeIsASearch, MadeIsWithin, MatchesAreFew, NoRunIsLeftOut, DiskHoldsOne, RunsFindFew, DiskHoldsSomething};
 
 use eql_check::check_is_exact;
 use eql_cut::{first_format_has_no_places, lifted_cuts_fit, texts_are_decided};
@@ -15,9 +15,9 @@ use eql_words::commands_are_bounded;
 /// cause, and never both. Files that are all there and checked aren't refused. A run that can be done isn't refused, and no shard
 /// of it is beyond a limit. Of a damaged area they don't determine the place that is told.
 pub fn runs_are_determined()
-    ensures listing { OneListing }
-    ensures refusal { OneRefusal }
-    ensures status { OneStatus }
+    ensures listing { ListingIsOne }
+    ensures refusal { RefusalIsOne }
+    ensures status { StatusIsOne }
     ensures apart { WritesOrIsRefused }
     ensures accepted { CheckedIsAccepted }
     ensures ready { ReadyIsNotRefused }
@@ -58,12 +58,12 @@ pub fn no_run_is_left_out()
 
 /// What both areas of a disk stand for is one thing.
 pub fn disks_hold_one_thing()
-    ensures { OneOnDisk }
+    ensures { DiskHoldsOne }
 {}
 
 /// Whatever bytes both areas of a disk are, they stand for something: no cut, a cut, or an area that is damaged.
 pub fn disks_hold_something()
-    ensures { SomethingOnDisk }
+    ensures { DiskHoldsSomething }
 {
     texts_are_decided();
 }
@@ -88,7 +88,7 @@ pub fn made_is_searched()
     check_is_exact();
 }
 
-/// What cuts say of their runs differs in nothing exactly where it is one and the same.
+/// What cuts say of their runs differs in nothing exactly when it is one and the same.
 pub fn heads_agree()
     ensures { HeadsAgree }
 {
@@ -100,7 +100,7 @@ pub fn heads_agree()
 /// texts of its shards.
 pub fn tested_cuts_are_accepted()
     ensures accepted { TestedIsAccepted }
-    ensures one { OneSearch }
+    ensures one { SearchIsOne }
 {
     one_list();
     none_spelled();

@@ -6,14 +6,14 @@ use Rattle.eql_values.specs.declared.order.Mark.{Mark}
 use Rattle.eql_laws.specs.Belows.{IsReading}
 use Rattle.eql_lane.specs.Lanes.{Setting}
 use Rattle.eql_parts.specs.PartSteps.{Rules}
-use Rattle.eql_rounds.specs.LaneRounds.{LaneAt}
+use Rattle.eql_rounds.specs.LaneRounds.{LaneIsAt}
 use Rattle.eql_conductor.specs.Benches.{Known}
-use Rattle.eql_conductor.specs.LaneRounds.{AreLanes, LanesAt, text_at}
+use Rattle.eql_conductor.specs.LaneRounds.{AreLanes, LanesAreAt, text_at}
 use Rattle.eql_conductor.specs.PartRounds.{AreAtRest}
-use Rattle.eql_conductor.specs.Rounds.{OfTexts}
-use Rattle.eql_hub_run.specs.Beside.{SameBench}
+use Rattle.eql_conductor.specs.Rounds.{BenchIsOfTexts}
+use Rattle.eql_hub_run.specs.Beside.{IsSameBench}
 
-module _ (a b : Known) (same : SameBench a b) where
+module _ (a b : Known) (same : IsSameBench a b) where
   -- a lane or part of the one is one of the other
   lane_of : (s : ℕ) → s < b.lanes → s < a.lanes
   lane_of s l = let e = same.lanes in omega (arith, l, e)
@@ -27,13 +27,13 @@ module _ (a b : Known) (same : SameBench a b) where
     reading = λ s l. subst (λ (set : Setting). IsReading set.reads) (sym (same.set s)) (are.reading s (lane_of s l));
   }
 
-  lanes_at : (texts : Option (List (List ℕ))) (mark : Mark) → LanesAt texts mark a → LanesAt texts mark b
+  lanes_at : (texts : Option (List (List ℕ))) (mark : Mark) → LanesAreAt texts mark a → LanesAreAt texts mark b
   lanes_at texts mark at = record {
     are = same_lanes at.are;
-    each = λ s l x has. subst (λ (set : Setting). LaneAt (text_at texts s) set mark x) (sym (same.set s)) (at.each s (lane_of s l) x (same.lane_from s x has));
+    each = λ s l x has. subst (λ (set : Setting). LaneIsAt (text_at texts s) set mark x) (sym (same.set s)) (at.each s (lane_of s l) x (same.lane_from s x has));
   }
 
-  pub same_texts : (reads : Reads) (slack : Option ℤ) (texts : List (List ℕ)) (mark : Mark) → OfTexts reads slack texts mark a → OfTexts reads slack texts mark b
+  pub same_texts : (reads : Reads) (slack : Option ℤ) (texts : List (List ℕ)) (mark : Mark) → BenchIsOfTexts reads slack texts mark a → BenchIsOfTexts reads slack texts mark b
   same_texts reads slack texts mark of = record {
     read = record {
       count = of.read.count ∙ sym same.lanes;

@@ -25,7 +25,7 @@ use Rattle.eql_replay.specs.Listed.{bench_known}
 use Rattle.eql_replay.proofs.Places.{there_or}
 use Rattle.eql_search.specs.declared.stop.Stop.{Stop}
 use Rattle.eql_search.specs.declared.stop.Stop.TheVariants as stop
-use Rattle.eql_search.specs.Answers.{AreUnfailing, BecameAt, HasCause, IsNoFault, IsRead, LimitAt, OutOfBytes, OutOfLines, RoseFaults, SteadyBut}
+use Rattle.eql_search.specs.Answers.{AreSteadyBut, AreUnfailing, BecameAt, HasCause, HasLimitAt, IsNoFault, IsRead, RanOutOfBytes, RanOutOfLines, RoseFaults}
 use Rattle.eql_search.specs.Running.{end_of}
 use Rattle.eql_search.specs.Searches.{AreBegunFrom}
 use Rattle.eql_search.proofs.Lanes.{as_many, out_of_bytes, out_of_lines}
@@ -110,15 +110,15 @@ module _ (A : Type 0) {S L D : Type 0} (left lent_as : S → Option (List ℕ)) 
       record { old = one.0; new = two.0; was = one.1; is = two.1; became = each one.0 two.0 one.1 two.1 }
 
   -- ---- why
-  limit_at : (of : LimitOf) → Ran (Err (stop.Limit of)) → LimitAt told of olds news
+  limit_at : (of : LimitOf) → Ran (Err (stop.Limit of)) → HasLimitAt told of olds news
   limit_at (limit.Lines s) run =
       let r : Result A Stop = Err (stop.Limit (limit.Lines s)) in
-      became_at r run s run.hand_cause.0 (OutOfLines (text_at told s)) (λ old new was is.
+      became_at r run s run.hand_cause.0 (RanOutOfLines (text_at told s)) (λ old new was is.
       out_of_lines left lent_as fault_plan read_of history count reads slack told plan olds news parts book then before now sink_before sink_now keep kept (end_of r) first last begun run sizes s old new was is
       (setting_of read_of (text_at told s) old) (run.hand_cause.1 old new was is))
   limit_at (limit.Bytes s) run =
       let r : Result A Stop = Err (stop.Limit (limit.Bytes s)) in
-      became_at r run s run.hand_cause.0 (OutOfBytes (text_at told s)) (λ old new was is.
+      became_at r run s run.hand_cause.0 (RanOutOfBytes (text_at told s)) (λ old new was is.
       out_of_bytes left lent_as fault_plan read_of history count reads slack told plan olds news parts book then before now sink_before sink_now keep kept (end_of r) first last begun run sizes s old new was is
       (run.hand_cause.1 new is))
   limit_at limit.Turns run = absurd (run.not_turns.1 refl)
@@ -148,7 +148,7 @@ module _ (A : Type 0) {S L D : Type 0} (left lent_as : S → Option (List ℕ)) 
   has_cause (Err (stop.Limit of)) run = limit_at of run
 
   -- ---- no other count rose
-  pub reads_steady : (r : Result A Stop) → Ran r → SteadyBut (λ shard. IsRead r) olds news
+  pub reads_steady : (r : Result A Stop) → Ran r → AreSteadyBut (λ shard. IsRead r) olds news
   reads_steady (Ok a) run s old new untold was is = (run.on.each s old new was is).steady (λ tells. tells)
   reads_steady (Err (stop.Read k)) run s old new untold was is = absurd (untold tt)
   reads_steady (Err stop.Write) run s old new untold was is = (run.on.each s old new was is).steady (λ tells. tells)

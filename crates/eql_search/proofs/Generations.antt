@@ -18,7 +18,7 @@ use Rattle.eql_conductor.specs.Handed.{total_to}
 use Rattle.eql_conductor.specs.RunBounds.{IsBoundedBy, RunIsBounded, bytes_in, events_in}
 use Rattle.eql_conductor.specs.RunNotes.{Place, PlaysRoundsFront, RunNotes, cut_due, cut_times, listed, next_place, round_count, start}
 use Rattle.eql_conductor.specs.Runs.{cut_time}
-use Rattle.eql_hub_run.specs.Beside.{SameBench, bench_of}
+use Rattle.eql_hub_run.specs.Beside.{IsSameBench, bench_of}
 use Rattle.eql_replay.specs.Listed.{bench_known}
 use Rattle.eql_replay.proofs.Places.{there_or}
 
@@ -77,7 +77,7 @@ state_in None = begun fresh_lane 0
 state_in (Some lane) = lane.state
 
 module _ {S L : Type 0} (read_of : L → Reads) (text : ℕ → Option (List ℕ)) (olds news : List (LaneView S L)) (parts : List PartView) (first last : Known)
-    (same : SameBench (bench_known read_of text (bench_of olds parts)) first) (as_many : last.lanes ≡ first.lanes)
+    (same : IsSameBench (bench_known read_of text (bench_of olds parts)) first) (as_many : last.lanes ≡ first.lanes)
     (left : (s : ℕ) (new : LaneView S L) → slice_get news s ≡ Some new → (x : LaneState) × last.lane s x × ComesByFeeds (first.set s) x new.state)
     (many : length news ≡ length olds) (few : length olds ≤ 256)
     (sizes : AreSized (bench_known read_of text (bench_of olds parts))) where

@@ -30,7 +30,7 @@ use Rattle.eql_conductor.specs.RunLaws.{BeginsTold, rules_of}
 use Rattle.eql_conductor.specs.Runs.{IsRunCut, KeepGoes, LastHolds, RunPuts, WroteLinesOf}
 use Rattle.eql_conductor.proofs.Cutting.{puts_none}
 use Rattle.eql_conductor.proofs.Recorded.{run_cut_is, run_cut_is_safe, wrote_to_cuts}
-use Rattle.eql_hub_run.specs.Beside.{IsTold, RanFrom, SameBench, bench_of}
+use Rattle.eql_hub_run.specs.Beside.{IsSameBench, IsTold, RanFrom, bench_of}
 use Rattle.eql_replay.specs.Listed.{bench_known}
 use Rattle.eql_search.specs.declared.stop.Stop.{Stop}
 use Rattle.eql_search.specs.declared.stop.Stop.TheVariants as stop
@@ -77,7 +77,7 @@ module _ (A : Type 0) {S L D : Type 0} (left lent_as : S → Option (List ℕ)) 
     (first last : Known) (begun : AreBegunFrom read_of reads slack 0 olds) (is_span : IsSpan span) (few : length olds ≤ 256)
     (texts_are : IfSome told (λ (texts : List (List ℕ)). AreTextsOf left texts olds))
     (begins : BeginsSo left read_of reads slack stages span (text_at told) olds holders parts plan book plan.mark)
-    (same : SameBench (bench_known read_of (text_at told) (bench_of olds parts)) first) where
+    (same : IsSameBench (bench_known read_of (text_at told) (bench_of olds parts)) first) where
   abbrev rules : PartRules
   rules = record { stages = stages; span = span }
 

@@ -13,11 +13,11 @@ use Rattle.eql_values.specs.declared.order.Mark.TheVariants.{End}
 use Rattle.eql_values.specs.Lines.{begin_with, lines_of}
 use Rattle.eql_values.specs.Marks.{low_of}
 use Rattle.eql_laws.specs.Counting.{IsShardText, counts_of, greatest_bytes, greatest_lines}
-use Rattle.eql_laws.specs.Lateness.{AtMost}
+use Rattle.eql_laws.specs.Lateness.{IsAtMost}
 use Rattle.eql_laws.specs.Places.{is_line_end}
 use Rattle.eql_laws.proofs.MarkLemmas.{at_most_trans}
 use Rattle.eql_lane.specs.Keeps.{LaneIs}
-use Rattle.eql_lane.specs.Lanes.{LaneState, OutOfLines as IsOutOfLines, Setting, low}
+use Rattle.eql_lane.specs.Lanes.{IsOutOfLines, LaneState, Setting, low}
 use Rattle.eql_lane.specs.Views.{IsTextOf, LaneView, setting_of}
 use Rattle.eql_lane.proofs.FeedLines.{lines_both}
 use Rattle.eql_parts.specs.PartSteps.{PartView}
@@ -28,21 +28,21 @@ use Rattle.eql_conductor.specs.declared.plan.Keep.{Keep}
 use Rattle.eql_conductor.specs.declared.plan.RunPlan.{RunPlan}
 use Rattle.eql_conductor.specs.Benches.{Known}
 use Rattle.eql_conductor.specs.Bounds.{AreSized, IsSized}
-use Rattle.eql_conductor.specs.Going.{Onward}
+use Rattle.eql_conductor.specs.Going.{GoesOnward}
 use Rattle.eql_conductor.specs.LaneRounds.{IsSafeAt, text_at}
-use Rattle.eql_conductor.specs.Rounds.{OfTexts}
+use Rattle.eql_conductor.specs.Rounds.{BenchIsOfTexts}
 use Rattle.eql_conductor.proofs.Onward.{fed_onward, onward_on}
 use Rattle.eql_hub_run.specs.Beside.{RanFrom, bench_of}
 use Rattle.eql_replay.specs.Listed.{HasLane, bench_known, set_in}
 use Rattle.eql_replay.specs.Opened.{IsAtPlace}
 use Rattle.eql_replay.proofs.Places.{there_or}
-use Rattle.eql_search.specs.Answers.{CountWhole, IsClosed, OutOfBytes, OutOfLines, StaysLane, WereRead}
+use Rattle.eql_search.specs.Answers.{CountWhole, IsClosed, RanOutOfBytes, RanOutOfLines, StaysLane, WereRead}
 use Rattle.eql_search.specs.Searches.{AreBegunFrom, AreTextsOf}
 use Rattle.eql_search.proofs.Places.{all_by, zip_by}
 use Rattle.eql_search.proofs.Texts.{all_told, begun_at, of_some, told_again, told_count}
 
 -- only a closed lane has the end as its low
-pub closed_low : (closed : Bool) (slack best : Option ℤ) → AtMost End (low_of closed slack best) → closed ≡ true
+pub closed_low : (closed : Bool) (slack best : Option ℤ) → IsAtMost End (low_of closed slack best) → closed ≡ true
 closed_low true slack best h = refl
 closed_low false (Some slack) (Some best) h = cc
 closed_low false (Some slack) None h = cc
@@ -125,20 +125,20 @@ module _ {S L D : Type 0} (left lent_as : S → Option (List ℕ)) (fault_plan :
     pub old_is : (x : LaneState) → HasLane olds s x → x ≡ old.state
     old_is x has = has.state_is ∙ ap (λ (lane : LaneView S L). lane.state) (same_Some has.lane old (sym has.there ∙ was))
 
-    pub onward : Onward (first.set s) old.state new.state
+    pub onward : GoesOnward (first.set s) old.state new.state
     onward =
         let left = run.lanes s new is in
         let on = run.goes.each s (known_first s within) left.0 left.1 in
         let set : Setting = first.set s in
-        let fed : Onward set left.0 new.state = fed_onward set left.0 new.state left.2 in
-        subst (λ (x : LaneState). Onward set x new.state) (old_is on.0 (run.begins.lane_from s on.0 on.1)) (onward_on set on.0 left.0 new.state on.2 fed)
+        let fed : GoesOnward set left.0 new.state = fed_onward set left.0 new.state left.2 in
+        subst (λ (x : LaneState). GoesOnward set x new.state) (old_is on.0 (run.begins.lane_from s on.0 on.1)) (onward_on set on.0 left.0 new.state on.2 fed)
 
     -- what is so of its low in each state that it might have at the conductor's end is so of it now
-    pub low_on : (mark : Mark) → IsSafeAt s mark last → AtMost mark (low (first.set s) new.state)
+    pub low_on : (mark : Mark) → IsSafeAt s mark last → IsAtMost mark (low (first.set s) new.state)
     low_on mark safe =
         let left = run.lanes s new is in
         let set : Setting = first.set s in
-        let at : AtMost mark (low set left.0) = subst (λ (u : Setting). AtMost mark (low u left.0)) (run.goes.same.set s (known_first s within)) (safe.low_is left.0 left.1) in
+        let at : IsAtMost mark (low set left.0) = subst (λ (u : Setting). IsAtMost mark (low u left.0)) (run.goes.same.set s (known_first s within)) (safe.low_is left.0 left.1) in
         at_most_trans mark (low set left.0) (low set new.state) at (fed_onward set left.0 new.state left.2).low_up
 
     -- and where it is closed in each of them it is closed now
@@ -146,9 +146,9 @@ module _ {S L D : Type 0} (left lent_as : S → Option (List ℕ)) (fault_plan :
     closed_on closed =
         let left = run.lanes s new is in
         let set : Setting = first.set s in
-        let up : AtMost (low set left.0) (low set new.state) = (fed_onward set left.0 new.state left.2).low_up in
+        let up : IsAtMost (low set left.0) (low set new.state) = (fed_onward set left.0 new.state left.2).low_up in
         closed_low new.state.cut.closed set.slack new.state.cut.best
-        (subst (λ (c : Bool). AtMost (low_of c set.slack left.0.cut.best) (low set new.state)) (closed left.0 left.1) up)
+        (subst (λ (c : Bool). IsAtMost (low_of c set.slack left.0.cut.best) (low set new.state)) (closed left.0 left.1) up)
 
     sized : IsSized new.state
     sized = onward.sized (sizes.each s within old.state has_then)
@@ -220,7 +220,7 @@ module _ {S L D : Type 0} (left lent_as : S → Option (List ℕ)) (fault_plan :
         }
 
     -- ---- limits
-    pub out_of_lines : (set : Setting) → IsOutOfLines set new.state → OutOfLines (text_at told s) old new
+    pub out_of_lines : (set : Setting) → IsOutOfLines set new.state → RanOutOfLines (text_at told s) old new
     out_of_lines set out = record {
       lines = out.lines;
       byte = out.byte;
@@ -231,7 +231,7 @@ module _ {S L D : Type 0} (left lent_as : S → Option (List ℕ)) (fault_plan :
         by None e = tt
         by (Some t) e = lines_over t e out.lines out.byte
 
-    pub out_of_bytes : new.state.taken ≡ greatest_bytes → OutOfBytes (text_at told s) old new
+    pub out_of_bytes : new.state.taken ≡ greatest_bytes → RanOutOfBytes (text_at told s) old new
     out_of_bytes most = record { bytes = most; beyond = by (text_at told s) refl }
       where
         by : (o : Option (List ℕ)) → text_at told s ≡ o → IfSome o (λ (t : List ℕ). greatest_bytes ≤ length t)
@@ -252,7 +252,7 @@ module _ {S L D : Type 0} (left lent_as : S → Option (List ℕ)) (fault_plan :
   pub all_closed : Closed → All IsClosed news
   all_closed closed = all_by IsClosed news closed
 
-  module _ (texts : List (List ℕ)) (e : told ≡ Some texts) (are : AreTextsOf left texts olds) (mark : Mark) (of_texts : OfTexts reads slack texts mark bench) where
+  module _ (texts : List (List ℕ)) (e : told ≡ Some texts) (are : AreTextsOf left texts olds) (mark : Mark) (of_texts : BenchIsOfTexts reads slack texts mark bench) where
     -- each lane had read its text up to a place
     was_at : (s : ℕ) (old : LaneView S L) (t : List ℕ) → slice_get olds s ≡ Some old → slice_get texts s ≡ Some t → IsAtPlace (setting_of read_of (Some t) old) t old.state
     was_at s old t was named =

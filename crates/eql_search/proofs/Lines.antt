@@ -43,11 +43,11 @@ use Rattle.eql_conductor.specs.Benches.{Known}
 use Rattle.eql_conductor.specs.LaneRounds.{IsSafe, text_at}
 use Rattle.eql_conductor.specs.PartRounds.{AreAtRest}
 use Rattle.eql_conductor.specs.Records.{Ran}
-use Rattle.eql_conductor.specs.Rounds.{OfTexts, found_by}
+use Rattle.eql_conductor.specs.Rounds.{BenchIsOfTexts, found_by}
 use Rattle.eql_conductor.specs.RunLaws.{BeginsTold, HavePlayed, StopsListed, found_below}
 use Rattle.eql_conductor.specs.Runs.{RunStops, lines_before_end, lines_by}
 use Rattle.eql_conductor.proofs.Broken.{wrote_none}
-use Rattle.eql_hub_run.specs.Beside.{RanFrom, SameBench, bench_of}
+use Rattle.eql_hub_run.specs.Beside.{IsSameBench, RanFrom, bench_of}
 use Rattle.eql_replay.specs.Listed.{bench_known}
 use Rattle.eql_replay.proofs.Places.{there_or}
 use Rattle.eql_search.specs.declared.stop.Stop.{Stop}
@@ -143,7 +143,7 @@ module _ (A : Type 0) {S L D : Type 0} (left lent_as : S → Option (List ℕ)) 
     (stages : ℕ) (span : Option ℤ) (told : Option (List (List ℕ))) (plan : RunPlan) (olds news : List (LaneView S L)) (holders : List Holder) (parts : List PartView) (book then : BookState) (before now : Option (List ℕ)) (sink_before sink_now : ℕ)
     (keep kept : Option (Keep D)) (first last : Known) (begun : AreBegunFrom read_of reads slack 0 olds) (is_span : IsSpan span)
     (begins : BeginsSo left read_of reads slack stages span (text_at told) olds holders parts plan book plan.mark)
-    (same : SameBench (bench_known read_of (text_at told) (bench_of olds parts)) first) where
+    (same : IsSameBench (bench_known read_of (text_at told) (bench_of olds parts)) first) where
   abbrev rules : PartRules
   rules = record { stages = stages; span = span }
 
@@ -193,10 +193,10 @@ module _ (A : Type 0) {S L D : Type 0} (left lent_as : S → Option (List ℕ)) 
     played : HavePlayed rules reads slack texts plan.mark holders book
     played = begins.played texts on
 
-    of_bench : OfTexts reads slack texts plan.mark bench
+    of_bench : BenchIsOfTexts reads slack texts plan.mark bench
     of_bench = begins.of_texts texts (named told texts e) are on
 
-    of_first : OfTexts reads slack texts plan.mark first
+    of_first : BenchIsOfTexts reads slack texts plan.mark first
     of_first = same_texts bench first same reads slack texts plan.mark of_bench
 
     rests_first : AreAtRest rules holders plan.mark first

@@ -16,7 +16,7 @@ use Rattle.eql_laws.specs.Fitting.{Kept, Run}
 use Rattle.eql_laws.specs.Shapes.{HasStageBefore, IsFull}
 use Rattle.eql_lane.specs.Lanes.{LaneState, Setting, begun, fresh_cut as fresh_lane}
 use Rattle.eql_lane.specs.Views.{LaneView}
-use Rattle.eql_parts.specs.Inboxes.{HolderBelow}
+use Rattle.eql_parts.specs.Inboxes.{HolderIsBelow}
 use Rattle.eql_parts.specs.PartSteps.{PartState, PartView, Rules as PartRules}
 use Rattle.eql_rounds.specs.Finding.{own_of}
 use Rattle.eql_book.specs.Books.{BookState}
@@ -25,7 +25,7 @@ use Rattle.eql_book.proofs.Wholes.{fresh_is_of_none}
 use Rattle.eql_conductor.specs.declared.plan.RunPlan.{RunPlan}
 use Rattle.eql_conductor.specs.Benches.{Known}
 use Rattle.eql_conductor.specs.Openings.{BeginsAt, CutBegins, FreshBegins, IsBegun, IsCutOfTexts, IsPlanned, OpensAt, OpensFresh, OpensFrom, SuitsBench, TellsTexts, begun_part}
-use Rattle.eql_conductor.specs.Rounds.{OfTexts}
+use Rattle.eql_conductor.specs.Rounds.{BenchIsOfTexts}
 use Rattle.eql_conductor.specs.RunLaws.{HavePlayed}
 use Rattle.eql_conductor.specs.Runs.{MayRun}
 use Rattle.eql_conductor.proofs.Listed.{cut_have_played, fresh_have_played}
@@ -50,7 +50,7 @@ state_in (Some lane) = lane.state
 pub part_may_begin : (by : Rules) (pipes : List Pipe) (mark : Mark) (lanes : List LaneCut) (holders : List Holder) (book : BookCut) → MayBegin by pipes mark lanes holders book → (p : ℕ) → MayBeginPart by.stages mark (own_of holders p)
 part_may_begin by pipes Start lanes holders book begins p =
     subst (λ (all : List Holder). MayBeginPart by.stages Start (own_of all p)) (sym begins.none)
-    (record { order = refl; before = All-nil (HasStageBefore by.stages); full = All-nil IsFull; below = All-nil (HolderBelow Start) })
+    (record { order = refl; before = All-nil (HasStageBefore by.stages); full = All-nil IsFull; below = All-nil (HolderIsBelow Start) })
 part_may_begin by pipes (At time) lanes holders book begins p =
     let may = (fit_may_begin (run_by by pipes begins.values begins.slack) (length lanes) (record { time = time; lanes = lanes; holders = holders; book = book }) begins.fits).parts p in
     record { order = may.order; before = may.before; full = may.full; below = may.below }
@@ -76,7 +76,7 @@ module _ {S L : Type 0} (left : S → Option (List ℕ)) (read_of : L → Reads)
   pub record BeginsSo (mark : Mark) : Type 0 where
     pub begins : BeginsAt rules holders mark known
     pub may_run : MayRun plan known book
-    pub of_texts : (texts : List (List ℕ)) → ((s : ℕ) → text s ≡ slice_get texts s) → AreTextsOf left texts lanes → On mark texts → OfTexts reads slack texts mark known
+    pub of_texts : (texts : List (List ℕ)) → ((s : ℕ) → text s ≡ slice_get texts s) → AreTextsOf left texts lanes → On mark texts → BenchIsOfTexts reads slack texts mark known
     pub played : (texts : List (List ℕ)) → On mark texts → HavePlayed rules reads slack texts mark holders book
 
   module _ (readers : (reader : L) → IsReading (read_of reader)) (begun_lanes : AreBegunFrom read_of reads slack 0 lanes) (are : AreOwnParts rules holders plan.mark parts) (is_span : IsSpan span) where
@@ -216,7 +216,7 @@ module _ {S L : Type 0} (left : S → Option (List ℕ)) (read_of : L → Reads)
           begins = cut_begins.begins;
           may_run = cut_begins.may_run plan book (planned (At time) at_time) refl;
           of_texts = λ texts e texts_are on.
-              subst (λ (o : Option ℤ). OfTexts reads o texts (At time) known) (sym from.slack_is)
+              subst (λ (o : Option ℤ). BenchIsOfTexts reads o texts (At time) known) (sym from.slack_is)
               (cut_runs_have_texts known lane_state part_state rules run reads texts kept opens_from (is_cut texts on)
               (fit_is_safe bounds (length (cuts_of lanes)) kept from.fits)
               (subst (λ (o : Option ℤ). TellsTexts reads o texts known) from.slack_is (tells texts e texts_are)));

@@ -1,4 +1,4 @@
--- What becomes of lanes and of a sink in a search, by its answer.
+-- What becomes of lanes and of a sink in a search, by its result.
 use Rattle.std.specs.Prelude.{◌≡◌, ◌<◌, ◌≤◌, ◌+◌, ℕ, ℤ, true, All, List, [], ◌∷◌, drop, length, slice_get, Option, Some, IfSome, Result, Err}
 use Rattle.eql_outside.specs.Outside.{Rose}
 use Rattle.eql_outside.specs.Plans.{FaultPlan}
@@ -8,21 +8,21 @@ use Rattle.eql_values.specs.Lines.{lines_of}
 use Rattle.eql_laws.specs.Counting.{counts_of, greatest_lines, greatest_bytes, IsShardText}
 use Rattle.eql_lane.specs.declared.ops.LimitOf.{LimitOf}
 use Rattle.eql_lane.specs.declared.ops.LimitOf.TheVariants as limit
-use Rattle.eql_lane.specs.Views.{LaneView, SameLane}
+use Rattle.eql_lane.specs.Views.{IsSameLane, LaneView}
 use Rattle.eql_conductor.specs.LaneRounds.{text_at}
 use Rattle.eql_search.specs.declared.stop.Stop.{Stop}
 use Rattle.eql_search.specs.declared.stop.Stop.TheVariants as stop
 
 module _ {S L : Type 0} where
   -- the faults of a lane's source are as many as before
-  abbrev pub SameFaults : LaneView S L → LaneView S L → Type 0
-  SameFaults old new = new.state.faults ≡ old.state.faults
+  abbrev pub LaneHasSameFaults : LaneView S L → LaneView S L → Type 0
+  LaneHasSameFaults old new = new.state.faults ≡ old.state.faults
 
   -- the faults of the lane of each shard are as many as before, but for one of which this may be told
-  abbrev pub SteadyBut : (IsTold : ℕ → Type 0) → (olds news : List (LaneView S L)) → Type 0
-  SteadyBut IsTold olds news =
+  abbrev pub AreSteadyBut : (IsTold : ℕ → Type 0) → (olds news : List (LaneView S L)) → Type 0
+  AreSteadyBut IsTold olds news =
       (shard : ℕ) (old new : LaneView S L) → ¬ IsTold shard → slice_get olds shard ≡ Some old
-      → slice_get news shard ≡ Some new → SameFaults old new
+      → slice_get news shard ≡ Some new → LaneHasSameFaults old new
 
   -- no take of the lanes' sources is planned to fail
   abbrev pub AreUnfailing : (S → Option FaultPlan) → List (LaneView S L) → Type 0
@@ -60,22 +60,22 @@ module _ {S L : Type 0} where
 
   -- a lane read as many lines as a shard may have, and took a byte of a further one; so of its text, where it is told, the lines behind those
   -- that were counted at the beginning are too many together with them
-  pub record OutOfLines (text : Option (List ℕ)) (old new : LaneView S L) : Type 0 where
+  pub record RanOutOfLines (text : Option (List ℕ)) (old new : LaneView S L) : Type 0 where
     pub lines : new.state.cut.counts.lines ≡ greatest_lines
     pub byte : new.state.cut.offset < new.state.taken
     pub beyond : IfSome text (λ t. greatest_lines < old.state.cut.counts.lines + length (lines_of (drop old.state.cut.offset t)))
 
   -- a lane took as many bytes as a shard may have; so its text, where it is told, has at least as many
-  pub record OutOfBytes (text : Option (List ℕ)) (old new : LaneView S L) : Type 0 where
+  pub record RanOutOfBytes (text : Option (List ℕ)) (old new : LaneView S L) : Type 0 where
     pub bytes : new.state.taken ≡ greatest_bytes
     pub beyond : IfSome text (λ t. greatest_bytes ≤ length t)
 
   -- a lane came to this limit of its shard, or the disk to the end of its generations
-  abbrev pub LimitAt : (texts : Option (List (List ℕ))) → LimitOf → (olds news : List (LaneView S L)) → Type 0
-  LimitAt texts (limit.Lines shard) olds news = BecameAt shard olds news (OutOfLines (text_at texts shard))
-  LimitAt texts (limit.Bytes shard) olds news = BecameAt shard olds news (OutOfBytes (text_at texts shard))
-  LimitAt texts limit.Turns olds news = ⊥
-  LimitAt texts limit.Generation olds news = Unit {0}
+  abbrev pub HasLimitAt : (texts : Option (List (List ℕ))) → LimitOf → (olds news : List (LaneView S L)) → Type 0
+  HasLimitAt texts (limit.Lines shard) olds news = BecameAt shard olds news (RanOutOfLines (text_at texts shard))
+  HasLimitAt texts (limit.Bytes shard) olds news = BecameAt shard olds news (RanOutOfBytes (text_at texts shard))
+  HasLimitAt texts limit.Turns olds news = ⊥
+  HasLimitAt texts limit.Generation olds news = Unit {0}
 
   -- why a search stopped: by the texts of its lanes, where they are told, by its lanes before and after, and by the faults of its sink and of its
   -- disk before and after
@@ -84,12 +84,12 @@ module _ {S L : Type 0} where
   HasCause texts stop.Write olds news before now disk_before disk_now = Rose before now
   HasCause texts stop.Disk olds news before now disk_before disk_now = Rose disk_before disk_now
   HasCause texts stop.Memory olds news before now disk_before disk_now = Unit {0}
-  HasCause texts (stop.Limit of) olds news before now disk_before disk_now = LimitAt texts of olds news
+  HasCause texts (stop.Limit of) olds news before now disk_before disk_now = HasLimitAt texts of olds news
 
 module _ {S L : Type 0} (left : S → Option (List ℕ)) where
-  -- what no answer changes of a lane, and that the count of its faults doesn't fall
+  -- what stays of a lane whatever is returned, and that the count of its faults doesn't fall
   pub record StaysLane (lent_as : S → Option (List ℕ)) (read_of : L → Reads) (old new : LaneView S L) : Type 0 where
-    pub same : SameLane left lent_as read_of old new
+    pub same : IsSameLane left lent_as read_of old new
     pub counts : old.state.faults ≤ new.state.faults
 
 -- a read fault of some lane is told

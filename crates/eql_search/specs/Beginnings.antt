@@ -59,7 +59,7 @@ BeginsOn rules pipes texts None = Unit {0}
 BeginsOn rules pipes texts (Some kept) =
     IsSomeAnd rules.slack (λ slack. IsCutOfTexts (run_by rules pipes 0 slack) rules.reads texts kept)
 
--- cuts are kept exactly where the plan says how often, with a head of so many lanes, on a disk that stands as the state says
+-- cuts are kept exactly when the plan says how often, with a head of so many lanes, on a disk that stands as the state says
 module _ {D : Type 0} (history : D → Option History) where
   abbrev pub MayKeepOn : RunPlan → (lanes : ℕ) → Option (Keep D) → Type 0
   MayKeepOn plan lanes None = plan.every ≡ None

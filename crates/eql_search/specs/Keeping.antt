@@ -7,7 +7,7 @@ use Rattle.eql_values.specs.Numbering.{numbered, piped}
 use Rattle.eql_outside.specs.Moments.{History}
 use Rattle.eql_outside.specs.Written.{WroteThrough}
 use Rattle.eql_laws.specs.Belows.{IsMarkTime, greatest_slack}
-use Rattle.eql_laws.specs.Lateness.{AtMost}
+use Rattle.eql_laws.specs.Lateness.{IsAtMost}
 use Rattle.eql_lane.specs.declared.ops.LimitOf.TheVariants as limit
 use Rattle.eql_cut.specs.declared.cut.Cut.{Cut}
 use Rattle.eql_cut.specs.declared.cut.CutHead.{CutHead}
@@ -47,7 +47,7 @@ WroteCounted rules pipes places listed texts before now cut =
 pub record IsLaterCut (head : CutHead) (from : Mark) (cut : Cut) : Type 0 where
   pub head_is : cut.head ≡ head
   pub is_cut : IsCut cut
-  pub later : AtMost from (At cut.mark)
+  pub later : IsAtMost from (At cut.mark)
 
 -- the cuts that a search put, one after another. `Are` says which texts they are cuts of. After a disk fault, want of memory or a read fault alone
 -- the disk is to be recovered: of several faults at once the read fault is told. At the last generation it began far up

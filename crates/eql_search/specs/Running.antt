@@ -7,10 +7,10 @@ use Rattle.eql_outside.specs.Plans.{FaultPlan}
 use Rattle.eql_values.specs.Accepted.{Reads}
 use Rattle.eql_values.specs.declared.found.Holder.{Holder}
 use Rattle.eql_values.specs.declared.order.Mark.{Mark}
-use Rattle.eql_laws.specs.Alive.{HoldersInOrder}
+use Rattle.eql_laws.specs.Alive.{HoldersAreInOrder}
 use Rattle.eql_laws.specs.Shapes.{HasStageBefore, IsFull}
 use Rattle.eql_lane.specs.Views.{LaneView}
-use Rattle.eql_parts.specs.Inboxes.{HolderBelow}
+use Rattle.eql_parts.specs.Inboxes.{HolderIsBelow}
 use Rattle.eql_parts.specs.PartSteps.{PartView, Rules}
 use Rattle.eql_rounds.specs.Finding.{own_of}
 use Rattle.eql_book.specs.Books.{BookState}
@@ -34,10 +34,10 @@ list_at lists p = list_of (slice_get lists p)
 
 -- pending sequences with which a part of so many stages may begin at a mark
 pub record MayBeginPart (stages : ℕ) (mark : Mark) (own : List Holder) : Type 0 where
-  pub order : HoldersInOrder own
+  pub order : HoldersAreInOrder own
   pub before : All (HasStageBefore stages) own
   pub full : All IsFull own
-  pub below : All (HolderBelow mark) own
+  pub below : All (HolderIsBelow mark) own
 
 -- a part with the pending sequences of its keys that are alive at a mark
 abbrev pub own_part : Rules → List Holder → Mark → (p : ℕ) → PartView
@@ -53,7 +53,7 @@ abbrev pub AreOwnParts : Rules → List Holder → Mark → List PartView → Ty
 AreOwnParts rules holders mark parts = AreOwnTo 16 rules holders mark parts
 
 -- ---- the end
--- how a run ended, by the answer of the search
+-- how a run ended, by the result of the search
 abbrev pub end_of : {A : Type 0} → Result A Stop → Ends
 end_of (Ok done) = end.Done
 end_of (Err (stop.Read shard)) = end.ReadFault shard

@@ -8,7 +8,7 @@ ghost use Rattle.eql_laws.specs.Counting.{IsShardText};
 ghost use Rattle.eql_conductor.specs.declared.plan.End.TheVariants.{DiskFault, WriteFault};
 ghost use Rattle.eql_conductor.specs.Runs.{IsKeptUnfailing, disk_faults};
 ghost use Rattle.eql_replay.specs.Opened.{AreOfTexts};
-ghost use Rattle.eql_search.specs.Answers.{AreUnfailing, HasCause, IsClosed, IsNoFault, IsRead, SteadyBut, StaysLane, WereRead};
+ghost use Rattle.eql_search.specs.Answers.{AreUnfailing, HasCause, IsClosed, IsNoFault, IsRead, AreSteadyBut, StaysLane, WereRead};
 ghost use Rattle.eql_search.specs.Beginnings.{BeginsOn, MayBegin, MayKeepOn, cuts_of, start_at};
 ghost use Rattle.eql_search.specs.Keeping.{AreSearchCuts, KeepsOn, WroteCounted};
 ghost use Rattle.eql_search.specs.Running.{TriesToSearch, end_of};
@@ -101,7 +101,7 @@ fn search_lanes<
 /// what a cut keeps that fits the search, at the cut's time. With a `keep`, cuts are put on its disk after each `every` rounds.
 ///
 /// Up to 65,536 hands, each in a thread of its own that passes the gate, feed lanes and turn parts beside this thread. What is
-/// said here of an answer holds whatever they do.
+/// said here of a result holds whatever they do.
 ///
 /// Matches are written while the shards are read. On `Ok` the sink got the whole listing, from the line after those that the
 /// book counts, and each lane is read to its end. Else it got a front of that:
@@ -195,7 +195,7 @@ pub fn search<
         (K.fault_count sink.old) (K.fault_count sink.new)
         (disk_faults D.history D.fault_count keep.old)
         (disk_faults D.history D.fault_count keep.new)) }
-    ensures reads_steady { SteadyBut (λ shard. IsRead result) lanes.old.items lanes.new.items }
+    ensures reads_steady { AreSteadyBut (λ shard. IsRead result) lanes.old.items lanes.new.items }
     ensures writes_steady { result ≢ Err Stop.Write → ¬ IsRead result
         → K.fault_count sink.new ≡ K.fault_count sink.old }
     ensures disk_steady { result ≢ Err Stop.Disk → ¬ IsRead result

@@ -23,7 +23,7 @@ pub enum Stop {
     Limit(LimitOf),
 }
 
-/// The answer of a search whose run ended so.
+/// The result of a search whose run ended so.
 pub(crate) fn answer(end: End) -> Result<(), Stop>
     ensures { end_of result ≡ end }
 {

@@ -3,7 +3,7 @@ use Rattle.std.proofs.Common.{◌≡◌, false, true≢false, cond, List, [], �
 use Rattle.std.specs.List.{AllByRecursion, IsDistinct}
 use denote.RawPtr.{Ptr}
 use Rattle.eql_span_list.specs.declared.node.Node.{Node}
-use Rattle.eql_span_list.specs.PlacedNode.{PlacedNode, placed, same_pointer, IsApart, HasNodeAt, AtNode, places, edit_at, with_node}
+use Rattle.eql_span_list.specs.PlacedNode.{PlacedNode, placed, same_pointer, IsApart, HasNodeAt, HoldsAtNode, places, edit_at, with_node}
 use Rattle.eql_span_list.proofs.Cuts.{cons_parts}
 use Rattle.eql_span_list.proofs.Pointers.{same_pointer-refl, same_pointer-symm}
 
@@ -116,7 +116,7 @@ module _ {T : Type 0} where
   with_node-cut xs n ys w = edit_at-cut xs n ys (λ _. w)
 
   -- a change of the node that was read there is an edit
-  pub edit_at-read : (p : Ptr) (f : Node T → Node T) (ns : List (PlacedNode T)) (v : Node T) → IsApart (places ns) → HasNodeAt ns p → AtNode ns p (λ _ n _. v ≡ n.node)
+  pub edit_at-read : (p : Ptr) (f : Node T → Node T) (ns : List (PlacedNode T)) (v : Node T) → IsApart (places ns) → HasNodeAt ns p → HoldsAtNode ns p (λ _ n _. v ≡ n.node)
       → with_node p (f v) ns ≡ edit_at p f ns
   edit_at-read p f ns v d at read =
       let xs = at.0 in let n = at.1 in let ys = at.2 in let d' = subst (λ ms. IsApart (places ms)) at.3 d in

@@ -4,7 +4,7 @@ use Rattle.std.specs.declared.option.Option.{Option}
 use Rattle.std.specs.declared.option.Option.TheVariants.{None, Some}
 use Rattle.eql_span_list.specs.declared.node.Node.{Node}
 use Rattle.eql_span_list.specs.declared.node.Ticket.{Ticket}
-use Rattle.eql_span_list.specs.PlacedNode.{PlacedNode, places, IsApart, HasNodeAt, AtNode}
+use Rattle.eql_span_list.specs.PlacedNode.{PlacedNode, places, IsApart, HasNodeAt, HoldsAtNode}
 use Rattle.eql_span_list.specs.Entries.{HasTicket, IsAbsent, KeepsOthers, HasDistinctTickets}
 use Rattle.eql_span_list.specs.Chain.{ticket_of, entries, IsChain}
 use Rattle.eql_span_list.proofs.Cuts.{cons_parts, nil_ne_cut, cut_other}
@@ -51,7 +51,7 @@ module _ {T : Type 0} where
 
   -- what is left once the node that a ticket names is out, which leaves ms
   pub taken_entry : (ns : List (PlacedNode T)) (f e : Option Ticket) (ms : List (PlacedNode T)) (v w : Node T) (us : List (Ticket × T)) (t : Ticket) (x : T) (vs : List (Ticket × T)) → IsChain ns f e
-      → IsApart (places ns) → AtNode ns t.pointer (λ xs n ys. (ms ≡ xs ++ ys) × (w ≡ n.node)) → v ≡ w → entries ns ≡ us ++ (t, x) ∷ vs → Taken ms v f e (us ++ vs) × (v.value ≡ x)
+      → IsApart (places ns) → HoldsAtNode ns t.pointer (λ xs n ys. (ms ≡ xs ++ ys) × (w ≡ n.node)) → v ≡ w → entries ns ≡ us ++ (t, x) ∷ vs → Taken ms v f e (us ++ vs) × (v.value ≡ x)
   taken_entry ns f e ms v w us t x vs chain apart out is cut =
       let at = entries_cut ns us t x vs cut in let left = out at.0 at.1 at.2 at.3 (pointers at.5.0) in
       (subst (λ l. Taken ms v f e l) (λ i. at.4 i ++ at.6 i) (taken ns f e ms v at.0 at.1 at.2 chain apart at.3 (left.0, is ∙ left.1)), ap (λ (n : Node T). n.value) (is ∙ left.1) ∙ at.5.1)

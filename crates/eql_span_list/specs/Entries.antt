@@ -12,16 +12,16 @@ module _ {T : Type 0} where
   HasTicket l t = (x : T) × Names l t x
 
   -- P holds of the value that t names, with the entries in front of it and those behind it
-  abbrev pub AtTicket : List (Ticket × T) → Ticket → (List (Ticket × T) → T → List (Ticket × T) → Type 0) → Type 0
-  AtTicket l t P = (xs : List (Ticket × T)) (x : T) (ys : List (Ticket × T)) → l ≡ xs ++ (t, x) ∷ ys → P xs x ys
+  abbrev pub HoldsAtTicket : List (Ticket × T) → Ticket → (List (Ticket × T) → T → List (Ticket × T) → Type 0) → Type 0
+  HoldsAtTicket l t P = (xs : List (Ticket × T)) (x : T) (ys : List (Ticket × T)) → l ≡ xs ++ (t, x) ∷ ys → P xs x ys
 
   -- no entry has the ticket
   abbrev pub IsAbsent : List (Ticket × T) → Ticket → Type 0
-  IsAbsent l t = AtTicket l t (λ _ _ _. ⊥)
+  IsAbsent l t = HoldsAtTicket l t (λ _ _ _. ⊥)
 
   -- each ticket stands once: no other entry has it
   abbrev pub HasDistinctTickets : List (Ticket × T) → Type 0
-  HasDistinctTickets l = (t : Ticket) → AtTicket l t (λ xs _ ys. IsAbsent (xs ++ ys) t)
+  HasDistinctTickets l = (t : Ticket) → HoldsAtTicket l t (λ xs _ ys. IsAbsent (xs ++ ys) t)
 
   -- every ticket of the old list but t names in the new one what it named
   abbrev pub KeepsOthers : List (Ticket × T) → List (Ticket × T) → Ticket → Type 0

@@ -36,8 +36,8 @@ module _ {T : Type 0} where
   HasNodeAt ns p = (xs : List (PlacedNode T)) × (n : PlacedNode T) × (ys : List (PlacedNode T)) × (ns ≡ xs ++ n ∷ ys) × (n.place ≡ p)
 
   -- P holds of the node at p, with the nodes in front of it and those behind it
-  abbrev pub AtNode : List (PlacedNode T) → Ptr → (List (PlacedNode T) → PlacedNode T → List (PlacedNode T) → Type 0) → Type 0
-  AtNode ns p P = (xs : List (PlacedNode T)) (n : PlacedNode T) (ys : List (PlacedNode T)) → ns ≡ xs ++ n ∷ ys → n.place ≡ p → P xs n ys
+  abbrev pub HoldsAtNode : List (PlacedNode T) → Ptr → (List (PlacedNode T) → PlacedNode T → List (PlacedNode T) → Type 0) → Type 0
+  HoldsAtNode ns p P = (xs : List (PlacedNode T)) (n : PlacedNode T) (ys : List (PlacedNode T)) → ns ≡ xs ++ n ∷ ys → n.place ≡ p → P xs n ys
 
   -- the nodes, with f of the one at p in its place
   unfoldable pub edit_at : Ptr → (Node T → Node T) → List (PlacedNode T) → List (PlacedNode T)

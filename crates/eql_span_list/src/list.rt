@@ -1,6 +1,6 @@
 //! The list itself, in safe code over its links.
 ghost use Rattle.std.specs.Prelude.{◌≡◌, [], ◌∷◌, ◌++◌, IfOk, MatchOption, MatchResult};
-ghost use Rattle.eql_span_list.specs.Entries.{HasTicket, AtTicket, IsAbsent, KeepsOthers, HasDistinctTickets, HasFirst, PopsFirst};
+ghost use Rattle.eql_span_list.specs.Entries.{HasTicket, HoldsAtTicket, IsAbsent, KeepsOthers, HasDistinctTickets, HasFirst, PopsFirst};
 
 use crate::links::Links;
 use crate::loose_box::LooseBox;
@@ -46,7 +46,7 @@ impl<T> SpanList<T> {
         }
     }
 
-    /// The first value, or `None` exactly where the list is empty.
+    /// The first value, or `None` exactly when the list is empty.
     pub fn front(&self) -> Option<&T>
         ensures first { MatchOption result (self.now ≡ []) (λ x. HasFirst self.now x.now) }
         ensures distinct { HasDistinctTickets self.now }
@@ -58,7 +58,7 @@ impl<T> SpanList<T> {
     /// Takes the value of a ticket of this list out. The others stay in order and keep their tickets.
     pub fn remove(&mut self, ticket: Ticket) -> T
         requires { HasTicket self.old ticket }
-        ensures taken { AtTicket self.old ticket
+        ensures taken { HoldsAtTicket self.old ticket
             (λ xs x ys. (self.new ≡ xs ++ ys) × (result ≡ x)) }
         ensures gone { IsAbsent self.new ticket }
         ensures others { KeepsOthers self.old self.new ticket }
@@ -74,7 +74,7 @@ impl<T> SpanList<T> {
         value
     }
 
-    /// Takes the first value out, or answers `None` exactly where the list is empty.
+    /// Takes the first value out, or returns `None` exactly when the list is empty.
     pub fn pop_front(&mut self) -> Option<T>
         ensures { MatchOption result ((self.old ≡ []) × (self.new ≡ []))
             (λ x. PopsFirst self.old self.new x) }
@@ -100,7 +100,7 @@ impl<T> SpanList<T> {
 }
 
 impl<T: Drop> SpanList<T> {
-    /// Puts a value in as the last, and answers its ticket, which no value of the list had.
+    /// Puts a value in as the last, and returns its ticket, which no value of the list had.
     ///
     /// The error is want of memory: it hands the value back, and the list is as it was.
     pub fn push_back(&mut self, value: T) -> Result<Ticket, T>

@@ -2,7 +2,7 @@
 ghost use Rattle.std.specs.Prelude.{◌≡◌, List as Seq, [], ◌∷◌, ◌++◌};
 ghost use Rattle.std.specs.Borrow.{sem};
 ghost use Rattle.std.specs.Coded.{prop_coded};
-ghost use Rattle.eql_span_list.specs.PlacedNode.{PlacedNode, placed, places, IsApart, IsApart-prop, HasNodeAt, AtNode};
+ghost use Rattle.eql_span_list.specs.PlacedNode.{PlacedNode, placed, places, IsApart, IsApart-prop, HasNodeAt, HoldsAtNode};
 ghost use Rattle.eql_span_list.specs.Ownership.{nodes_own, nodes_lent};
 
 use crate::loose_box::LooseBox;
@@ -63,7 +63,7 @@ impl<T> NodeStore<T> {
     /// Gives the block of a node out. The others stay in order.
     pub(crate) fn take(&mut self, alloc: Global, ticket: Ticket) -> LooseBox<Node<T>, Global>
         requires { HasNodeAt self.old.nodes ticket.pointer }
-        ensures { AtNode self.old.nodes ticket.pointer
+        ensures { HoldsAtNode self.old.nodes ticket.pointer
             (λ xs n ys. (self.new.nodes ≡ xs ++ ys) × (result.value ≡ n.node)) }
     {
         LooseBox {
@@ -75,7 +75,7 @@ impl<T> NodeStore<T> {
     /// The node that a ticket names.
     pub(crate) fn get(&self, ticket: Ticket) -> &Node<T>
         requires { HasNodeAt self.now.nodes ticket.pointer }
-        ensures { AtNode self.now.nodes ticket.pointer (λ _ n _. result.now ≡ n.node) }
+        ensures { HoldsAtNode self.now.nodes ticket.pointer (λ _ n _. result.now ≡ n.node) }
     {
         unsafe { &*(ticket.pointer as *const Node<T>) }
     }
@@ -84,7 +84,7 @@ impl<T> NodeStore<T> {
     pub(crate) fn get_mut(&mut self, ticket: Ticket) -> &mut Node<T>
         requires { HasNodeAt self.old.nodes ticket.pointer }
         ensures* writes_back { sem 𝓛 (lends_node T.row self.entry ticket.pointer result) }
-        ensures value { AtNode self.old.nodes ticket.pointer (λ _ n _. result.now ≡ n.node) }
+        ensures value { HoldsAtNode self.old.nodes ticket.pointer (λ _ n _. result.now ≡ n.node) }
     {
         unsafe { &mut *(ticket.pointer as *mut Node<T>) }
     }

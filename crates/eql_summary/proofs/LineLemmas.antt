@@ -7,7 +7,7 @@ use Rattle.std.specs.Prelude.{IfSome, not, ◌==◌}
 use Rattle.eql_values.specs.Lines.{begin_with, lines_of}
 use Rattle.eql_laws.proofs.Facts.{both_true}
 use Rattle.eql_laws.proofs.LineLemmas.{lines_are_one}
-use Rattle.eql_lane.specs.Buffers.{FeedAt, IsOneLine}
+use Rattle.eql_lane.specs.Buffers.{HasFeedAt, IsOneLine}
 use Rattle.eql_lane.proofs.Feeds.{found_if, found_none}
 use Rattle.eql_runs.specs.Summaries.{first_or_none, last_or_none}
 use Rattle.eql_summary.specs.declared.ends.Ends.{Ends}
@@ -25,7 +25,7 @@ line_fed (byte ∷ line) rest h =
     begun true whole n e = cc
     begun false whole n e = ap (begin_with byte) e
 
-pub next_fed : (end : ℕ) (text rest : List ℕ) → FeedAt end text → rest ≡ drop (suc end) text
+pub next_fed : (end : ℕ) (text rest : List ℕ) → HasFeedAt end text → rest ≡ drop (suc end) text
     → lines_of text ≡ take end text ∷ lines_of rest
 next_fed end text rest at is =
     ap lines_of at.parts ∙ line_fed (take end text) (drop (suc end) text) at.one
@@ -45,7 +45,7 @@ behind_place end text =
 pub next_found : (found : Option ℕ) (end : ℕ) (text : List ℕ) → IsFirstByte (is_byte 10) text found → found ≡ Some end
     → lines_of text ≡ take end text ∷ lines_of (take (length text - (end + 1)) (drop (end + 1) text))
 next_found found end text h is =
-    let at : FeedAt end text = subst (λ (o : Option ℕ). IfSome o (λ (e : ℕ). FeedAt e text)) is (found_if found text h) in
+    let at : HasFeedAt end text = subst (λ (o : Option ℕ). IfSome o (λ (e : ℕ). HasFeedAt e text)) is (found_if found text h) in
     next_fed end text _ at (behind_place end text)
 
 pub next_none : (found : Option ℕ) (text : List ℕ) (empty : Bool) → IsFirstByte (is_byte 10) text found → found ≡ None

@@ -24,7 +24,7 @@ chars_last bs xs c whole front e =
     let one : chars (encode_utf8 c) ≡ c ∷ [] = chars_past_char (encode_utf8 c) [] c back (sym (append-nil (encode_utf8 c))) ∙ ap (λ cs. c ∷ cs) chars-nil in
     ap chars e ∙ chars-append xs (encode_utf8 c) front ∙ ap (λ cs. chars xs ++ cs) one
 
--- a text has no bytes exactly where it has no characters
+-- a text has no bytes exactly when it has no characters
 pub is_empty_chars : (bs : List ℕ) → IsUtf8 bs → eqb (length bs) 0 ≡ is_empty (chars bs)
 is_empty_chars [] u = rw chars-nil refl
 is_empty_chars (b ∷ bs) u = filled (chars (b ∷ bs)) (encodes-chars (b ∷ bs) u)

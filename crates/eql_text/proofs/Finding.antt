@@ -22,7 +22,7 @@ place_unlike fold n c d s s' t unlike e =
 pub place_nowhere : (fold : Bool) (n : ℕ) (s t : List ℕ) → false ≡ starts fold s t → s ≡ [] → place_from fold n s t ≡ None
 place_nowhere fold n s t h e = rw e (ap (λ b. cond b (Some n) None) (sym (h ∙ ap (λ r. starts fold r t) e)))
 
--- a text stands somewhere exactly where it has a place
+-- a text stands somewhere exactly when it has a place
 pub contains_place : (fold : Bool) (n : ℕ) (s t : List ℕ) → contains fold s t ≡ is_some (place_from fold n s t)
 contains_place fold n [] t = one (starts fold [] t)
   where

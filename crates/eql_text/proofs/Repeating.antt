@@ -5,7 +5,7 @@ use Rattle.std.proofs.lemmas.List.{take-take, drop-take, drop-drop}
 use Rattle.std.proofs.lemmas.Bool.{cases_lt}
 use Rattle.std.proofs.lemmas.Bool.Decides.{nat_tests}
 use Rattle.eql_text.specs.declared.repeats.Run.{Run}
-use Rattle.eql_text.specs.Repeats.{Repeats, holds, period_at, IsRun, AreRuns, least_move, Known, move_by, other_move, Meets, Stops, kept, kept_of, IsNoted}
+use Rattle.eql_text.specs.Repeats.{Repeats, holds, period_at, IsRun, AreRuns, least_move, IsKnown, move_by, other_move, Meets, Stops, kept, kept_of, IsNoted}
 
 -- ---- lists that meet
 
@@ -136,7 +136,7 @@ other_low below m h = one (ltb (m / 4) below) refl
     one true e = let lt : m / 4 < below = grind (arith, nat_tests) in (omega arith, omega arith, omega arith)
     one false e = (omega arith, omega arith, omega arith)
 
-pub move_positive : (t : List ℕ) (rs : List Run) (below m : ℕ) → Known t rs below → 0 < move_by rs below m
+pub move_positive : (t : List ℕ) (rs : List Run) (below m : ℕ) → IsKnown t rs below → 0 < move_by rs below m
 move_positive t rs below m k = one (period_at rs m) refl
   where
     one : (o : Option ℕ) → period_at rs m ≡ o → 0 < unwrap_or o (other_move below m)
@@ -144,7 +144,7 @@ move_positive t rs below m k = one (period_at rs m) refl
     one (Some p) e = (is_period t below rs m p k.runs e).positive
 
 -- a move passes no place where the text meets itself
-no_less : (t : List ℕ) (rs : List Run) (below m i : ℕ) → Known t rs below → m ≤ length t → 0 < i → i < move_by rs below m → (4 * i ≤ m) × (Repeats t m i → ⊥)
+no_less : (t : List ℕ) (rs : List Run) (below m i : ℕ) → IsKnown t rs below → m ≤ length t → 0 < i → i < move_by rs below m → (4 * i ≤ m) × (Repeats t m i → ⊥)
 no_less t rs below m i k h p l =
     let other = other_low below m k.some in
     let low : move_by rs below m ≤ below = move_low t below rs (other_move below m) m k.runs other.1 in
@@ -158,12 +158,12 @@ front n k xs ys h e = sym (take-take k n xs h) ∙ ap (take k) e ∙ take-take k
 -- ---- the search of a text in another
 
 -- no place that a move passes begins with the text
-pub passed : (s t : List ℕ) (rs : List Run) (below m i : ℕ) → Known t rs below → Meets s t m → 0 < i → i < move_by rs below m → take (length t) (drop i s) ≡ t → ⊥
+pub passed : (s t : List ℕ) (rs : List Run) (below m i : ℕ) → IsKnown t rs below → Meets s t m → 0 < i → i < move_by rs below m → take (length t) (drop i s) ≡ t → ⊥
 passed s t rs below m i k e p l found =
     let no = no_less t rs below m i k e.1 p l in
     no.1 (met_twice s t m i (omega (arith, no.0)) e.0 (sym (take-take (m - i) (length t) (drop i s) (omega (arith, e.1))) ∙ ap (take (m - i)) found))
 
-pub stays : (s t : List ℕ) (rs : List Run) (below m : ℕ) → Known t rs below → Meets s t m → Meets (drop (move_by rs below m) s) t (kept rs m)
+pub stays : (s t : List ℕ) (rs : List Run) (below m : ℕ) → IsKnown t rs below → Meets s t m → Meets (drop (move_by rs below m) s) t (kept rs m)
 stays s t rs below m k e = one (period_at rs m) refl
   where
     one : (o : Option ℕ) → period_at rs m ≡ o → Meets (drop (unwrap_or o (other_move below m)) s) t (kept_of o m)
@@ -175,7 +175,7 @@ stays s t rs below m k e = one (period_at rs m) refl
 -- ---- the search of a text in itself
 
 -- what is known once the text is met with itself moved on by `at`
-pub tested : (t : List ℕ) (rs more : List Run) (at m : ℕ) → Known t rs at → AreRuns t (at + 1) more → ((k : ℕ) → least_move more k ≤ least_move rs k) → Meets (drop at t) t m → Stops (drop at t) t m → (3 * at ≤ m → is_some (period_at more (at + m)) ≡ true) → Known t more (at + 1)
+pub tested : (t : List ℕ) (rs more : List Run) (at m : ℕ) → IsKnown t rs at → AreRuns t (at + 1) more → ((k : ℕ) → least_move more k ≤ least_move rs k) → Meets (drop at t) t m → Stops (drop at t) t m → (3 * at ≤ m → is_some (period_at more (at + m)) ≡ true) → IsKnown t more (at + 1)
 tested t rs more at m k runs less meets stops held_all = record {
   some = omega arith;
   runs = runs;
@@ -196,7 +196,7 @@ tested t rs more at m k runs less meets stops held_all = record {
           absurd (omega arith)
     ]
 
-pub gone_on : (t : List ℕ) (rs : List Run) (at m : ℕ) → Known t rs (at + 1) → Meets (drop at t) t m → (3 * at ≤ m → is_some (period_at rs (at + m)) ≡ true) → Known t rs (at + move_by rs (at + 1) m)
+pub gone_on : (t : List ℕ) (rs : List Run) (at m : ℕ) → IsKnown t rs (at + 1) → Meets (drop at t) t m → (3 * at ≤ m → is_some (period_at rs (at + m)) ≡ true) → IsKnown t rs (at + move_by rs (at + 1) m)
 gone_on t rs at m k meets held_all =
     let positive : 0 < move_by rs (at + 1) m = move_positive t rs (at + 1) m k in
     record {
@@ -229,7 +229,7 @@ some_added (q ∷ rs) r m h = elim (holds q m) as (λ b. is_some (cond b (Some q
   | false ↦ some_added rs r m h
 ]
 
-pub known_nothing : (t : List ℕ) → Known t [] 1
+pub known_nothing : (t : List ℕ) → IsKnown t [] 1
 known_nothing t = record {
   some = omega arith;
   runs = tt;
@@ -239,9 +239,9 @@ known_nothing t = record {
 -- ---- a table of runs
 
 abbrev pub IsTold : List ℕ → List Run → ℕ → ℕ → Type 0
-IsTold t rs at m = Known t rs (at + 1) × (3 * at ≤ m → is_some (period_at rs (at + m)) ≡ true)
+IsTold t rs at m = IsKnown t rs (at + 1) × (3 * at ≤ m → is_some (period_at rs (at + m)) ≡ true)
 
-pub noted : (t : List ℕ) (old new : List Run) (at m : ℕ) → Known t old at → Meets (drop at t) t m → Stops (drop at t) t m → IsNoted old new at m → IsTold t new at m
+pub noted : (t : List ℕ) (old new : List Run) (at m : ℕ) → IsKnown t old at → Meets (drop at t) t m → Stops (drop at t) t m → IsNoted old new at m → IsTold t new at m
 noted t old new at m k meets stops (inl n) =
     subst (λ rs. IsTold t rs at m) (sym n.0)
     (tested t old old at m k (weaken t at (at + 1) old k.runs (omega arith)) (λ j. omega arith) meets stops n.1, n.1)
@@ -259,11 +259,11 @@ noted t old new at m k meets stops (inr n) =
     subst (λ rs. IsTold t rs at m) (sym n.0)
     (tested t old (old ++ (r ∷ [])) at m k (added t (at + 1) old r (weaken t at (at + 1) old k.runs (omega arith)) is) (λ j. move_added old r j refl) meets stops (λ _. here), λ _. here)
 
-pub told_on : (t : List ℕ) (rs : List Run) (at m : ℕ) → IsTold t rs at m → Meets (drop at t) t m → Known t rs (at + move_by rs (at + 1) m)
+pub told_on : (t : List ℕ) (rs : List Run) (at m : ℕ) → IsTold t rs at m → Meets (drop at t) t m → IsKnown t rs (at + move_by rs (at + 1) m)
 told_on t rs at m k meets = gone_on t rs at m k.0 meets k.1
 
 -- what is kept of what met
-pub kept_sum : (t : List ℕ) (rs : List Run) (below m : ℕ) → Known t rs below → 0 < kept rs m → kept rs m + move_by rs below m ≡ m
+pub kept_sum : (t : List ℕ) (rs : List Run) (below m : ℕ) → IsKnown t rs below → 0 < kept rs m → kept rs m + move_by rs below m ≡ m
 kept_sum t rs below m k = one (period_at rs m) refl
   where
     one : (o : Option ℕ) → period_at rs m ≡ o → 0 < kept_of o m → kept_of o m + unwrap_or o (other_move below m) ≡ m

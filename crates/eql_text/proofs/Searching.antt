@@ -7,7 +7,7 @@ use Rattle.eql_text.specs.Folding.{seen}
 use Rattle.eql_text.specs.Comparing.{starts}
 use Rattle.eql_text.specs.Placing.{place_from, last_place_from}
 use Rattle.eql_text.specs.declared.repeats.Run.{Run}
-use Rattle.eql_text.specs.Repeats.{seen_text, Known, Meets, Stops, IsNoted, move_by, kept}
+use Rattle.eql_text.specs.Repeats.{seen_text, IsKnown, Meets, Stops, IsNoted, move_by, kept}
 use Rattle.eql_text.proofs.Finding.{place_later}
 use Rattle.eql_text.proofs.Repeating.{passed, stays, noted, IsTold, told_on, move_positive}
 use Rattle.eql_text.proofs.Laying.{begins, seen_length, seen_left}
@@ -94,18 +94,18 @@ pub not_true : (b : Bool) → (b ≡ true → ⊥) → b ≡ false
 not_true true h = absurd (h refl)
 not_true false h = refl
 
-pub none_behind : (fold : Bool) (w t : List ℕ) (rs : List Run) (below m : ℕ) → Known (seen_text fold t) rs below → Meets (seen_text fold w) (seen_text fold t) m → NowhereElse fold w t (move_by rs below m)
+pub none_behind : (fold : Bool) (w t : List ℕ) (rs : List Run) (below m : ℕ) → IsKnown (seen_text fold t) rs below → Meets (seen_text fold w) (seen_text fold t) m → NowhereElse fold w t (move_by rs below m)
 none_behind fold w t rs below m k meets e p l =
     not_true (starts fold (drop e w) t) (λ found.
     passed (seen_text fold w) (seen_text fold t) rs below m e k meets p l
     (ap (take (length (seen_text fold t))) (drop-map (seen fold) e w) ∙ begins fold (drop e w) t found))
 
-pub none_before : (fold : Bool) (w t : List ℕ) (rs : List Run) (below m : ℕ) → Known (seen_text fold t) rs below → Meets (seen_text fold w) (seen_text fold t) m → (starts fold w t ≡ true → ⊥) → Nowhere fold w t (move_by rs below m)
+pub none_before : (fold : Bool) (w t : List ℕ) (rs : List Run) (below m : ℕ) → IsKnown (seen_text fold t) rs below → Meets (seen_text fold w) (seen_text fold t) m → (starts fold w t ≡ true → ⊥) → Nowhere fold w t (move_by rs below m)
 none_before fold w t rs below m k meets not_here zero l = not_true (starts fold w t) not_here
 none_before fold w t rs below m k meets not_here (suc e) l = none_behind fold w t rs below m k meets (suc e) (omega arith) l
 
 -- what meets at the next place
-pub met_next : (fold : Bool) (w w' t : List ℕ) (rs : List Run) (below m by n : ℕ) → Known (seen_text fold t) rs below → Meets (seen_text fold w) (seen_text fold t) m → by ≡ move_by rs below m → n ≡ kept rs m → w' ≡ drop by w → Meets (seen_text fold w') (seen_text fold t) n
+pub met_next : (fold : Bool) (w w' t : List ℕ) (rs : List Run) (below m by n : ℕ) → IsKnown (seen_text fold t) rs below → Meets (seen_text fold w) (seen_text fold t) m → by ≡ move_by rs below m → n ≡ kept rs m → w' ≡ drop by w → Meets (seen_text fold w') (seen_text fold t) n
 met_next fold w w' t rs below m by n k meets is keeps next =
     let whole : drop (move_by rs below m) (seen_text fold w) ≡ seen_text fold w' =
     ap (λ j. drop j (seen_text fold w)) (sym is) ∙ drop-map (seen fold) by w ∙ ap (seen_text fold) (sym next) in
@@ -121,20 +121,20 @@ met_within fold w t m meets =
 pub met_itself : (fold : Bool) (w t : List ℕ) (at m : ℕ) → Meets (seen_text fold w) (seen_text fold t) m → w ≡ drop at t → Meets (drop at (seen_text fold t)) (seen_text fold t) m
 met_itself fold w t at m meets here = subst (λ s. Meets s (seen_text fold t) m) (sym (seen_left fold at t w here)) meets
 
-pub told_itself : (fold : Bool) (w t : List ℕ) (old new : List Run) (at m : ℕ) → Known (seen_text fold t) old at → Meets (seen_text fold w) (seen_text fold t) m → Stops (seen_text fold w) (seen_text fold t) m → w ≡ drop at t → IsNoted old new at m → IsTold (seen_text fold t) new at m
+pub told_itself : (fold : Bool) (w t : List ℕ) (old new : List Run) (at m : ℕ) → IsKnown (seen_text fold t) old at → Meets (seen_text fold w) (seen_text fold t) m → Stops (seen_text fold w) (seen_text fold t) m → w ≡ drop at t → IsNoted old new at m → IsTold (seen_text fold t) new at m
 told_itself fold w t old new at m k meets stops here n =
     noted (seen_text fold t) old new at m k (met_itself fold w t at m meets here)
     (subst (λ s. Stops s (seen_text fold t) m) (sym (seen_left fold at t w here)) stops) n
 
 -- and what is known of it at the next place
-pub known_next : (fold : Bool) (w t : List ℕ) (old new : List Run) (at m below by : ℕ) → Known (seen_text fold t) old at → Meets (seen_text fold w) (seen_text fold t) m → Stops (seen_text fold w) (seen_text fold t) m → w ≡ drop at t → IsNoted old new at m → below ≡ at + 1 → by ≡ move_by new below m → Known (seen_text fold t) new below × (1 ≤ by) × Known (seen_text fold t) new (below + (by - 1))
+pub known_next : (fold : Bool) (w t : List ℕ) (old new : List Run) (at m below by : ℕ) → IsKnown (seen_text fold t) old at → Meets (seen_text fold w) (seen_text fold t) m → Stops (seen_text fold w) (seen_text fold t) m → w ≡ drop at t → IsNoted old new at m → below ≡ at + 1 → by ≡ move_by new below m → IsKnown (seen_text fold t) new below × (1 ≤ by) × IsKnown (seen_text fold t) new (below + (by - 1))
 known_next fold w t old new at m below by k meets stops here n next is =
     let told = told_itself fold w t old new at m k meets stops here n in
-    let now : Known (seen_text fold t) new below = subst (λ j. Known (seen_text fold t) new j) (sym next) told.0 in
+    let now : IsKnown (seen_text fold t) new below = subst (λ j. IsKnown (seen_text fold t) new j) (sym next) told.0 in
     let positive : 0 < move_by new below m = move_positive (seen_text fold t) new below m now in
     let same : move_by new below m ≡ move_by new (at + 1) m = ap (λ j. move_by new j m) next in
     let there : at + move_by new (at + 1) m ≡ below + (by - 1) = omega arith in (
       now,
       omega arith,
-      subst (λ j. Known (seen_text fold t) new j) there (told_on (seen_text fold t) new at m told (met_itself fold w t at m meets here)),
+      subst (λ j. IsKnown (seen_text fold t) new j) there (told_on (seen_text fold t) new at m told (met_itself fold w t at m meets here)),
     )

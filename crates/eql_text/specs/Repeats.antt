@@ -39,7 +39,7 @@ abbrev pub least_move : List Run → ℕ → ℕ
 least_move rs m = unwrap_or (period_at rs m) (m / 4 + 1)
 
 -- the runs tell of all places below a number at which t repeats itself
-pub record Known (t : List ℕ) (rs : List Run) (below : ℕ) : Type 0 where
+pub record IsKnown (t : List ℕ) (rs : List Run) (below : ℕ) : Type 0 where
   pub some : 0 < below
   pub runs : AreRuns t below rs
   pub none_less : (m i : ℕ) → m ≤ length t → 0 < i → i < below → i < least_move rs m → Repeats t m i → ⊥

@@ -17,7 +17,7 @@ pub struct Block {
 }
 
 /// The part of a text before the first separator, and what follows it.
-fn cut(text: &str, separator: char) -> Option<(&str, &str)>
+fn split_once_at(text: &str, separator: char) -> Option<(&str, &str)>
     requires { separator < 128 }
     ensures { MatchOption result
         (parts separator (chars text.now) ≡ chars text.now ∷ [])
@@ -53,7 +53,7 @@ fn plain(text: &str, most: u32) -> Option<u32>
 }
 
 /// Reads four numbers from 0 to 255 with dots between, without superfluous leading zeros. The first is the
-/// highest byte of the answer. `None` for any other text.
+/// highest byte of the result. `None` for any other text.
 pub fn parse_ip4(s: &Text) -> Option<u32>
     ensures { result ≡ parse_ip4 s.now }
 {
@@ -67,10 +67,10 @@ fn quarters(text: &str) -> Option<(&str, &str, &str, &str)>
         (λ q. parse_ip4 (chars text.now) ≡ address (plain 255 (chars q.0.now)
         ∷ plain 255 (chars q.1.now) ∷ plain 255 (chars q.2.now) ∷ plain 255 (chars q.3.now) ∷ [])) }
 {
-    let (a, rest) = cut(text, '.')?;
-    let (b, rest) = cut(rest, '.')?;
-    let (c, d) = cut(rest, '.')?;
-    match cut(d, '.') {
+    let (a, rest) = split_once_at(text, '.')?;
+    let (b, rest) = split_once_at(rest, '.')?;
+    let (c, d) = split_once_at(rest, '.')?;
+    match split_once_at(d, '.') {
         Some(_) => None,
         None => Some((a, b, c, d)),
     }
@@ -101,8 +101,8 @@ fn halves(text: &str) -> Option<(&str, &str)>
         (λ h. parse_block (chars text.now)
         ≡ block (parse_ip4 (chars h.0.now)) (plain 32 (chars h.1.now))) }
 {
-    let (base, bits) = cut(text, '/')?;
-    match cut(bits, '/') {
+    let (base, bits) = split_once_at(text, '/')?;
+    match split_once_at(bits, '/') {
         Some(_) => None,
         None => Some((base, bits)),
     }

@@ -1,7 +1,7 @@
 //! The string functions of the Event Query Language: wildcards, comparing with and without case folding,
 //! places and parts of texts, and numbers and IPv4 addresses read from texts. Places and lengths count
 //! characters from 0. Folding compares characters by their simple case foldings (The Unicode Standard,
-//! section 3.13). What each function answers is defined on lists of characters, in specs/.
+//! section 3.13). What each function returns is defined on lists of characters, in specs/.
 #![tactic(auto)]
 
 mod addresses;

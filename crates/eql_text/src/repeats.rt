@@ -6,7 +6,7 @@
 ghost use Rattle.std.specs.Prelude.{◌≡◌, ◌≤◌, ◌<◌, ◌+◌, ◌-◌, ◌*◌, ◌∷◌, ◌++◌, ◌^◌, ℕ, List, [], true, false, length, drop, IfSome, MatchOption};
 ghost use Rattle.std.specs.Option.{is_some};
 ghost use Rattle.std.specs.Str.{chars};
-ghost use Rattle.eql_text.specs.Repeats.{seen_text, period_at, listed, move_by, kept, Known, Meets, Stops, IsEnding, IsLaid, IsNoted};
+ghost use Rattle.eql_text.specs.Repeats.{seen_text, period_at, listed, move_by, kept, IsKnown, Meets, Stops, IsEnding, IsLaid, IsNoted};
 
 use crate::walk::{first_char, last_char, same, skip};
 
@@ -202,7 +202,7 @@ impl Runs {
     }
 
     /// Writes down that so many characters met, and no more, when the text was laid over itself at the place
-    /// `below`. Answers whether there was room.
+    /// `below`. Returns whether there was room.
     fn note(&mut self, met: usize) -> bool
         requires room { self.old.count ≤ 16 }
         requires fits { self.old.below + met < 2 ^ 63 }
@@ -249,7 +249,7 @@ impl Runs {
 
     /// The runs of a text, found by laying it over itself.
     pub fn of(t: &str, fold: bool) -> Runs
-        ensures known { Known (seen_text fold (chars t.now)) (listed result) result.below }
+        ensures known { IsKnown (seen_text fold (chars t.now)) (listed result) result.below }
         ensures room { result.count ≤ 16 }
     {
         let mut runs = Runs::new();

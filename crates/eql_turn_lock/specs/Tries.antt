@@ -20,8 +20,8 @@ words_of (moved loaded found ∷ tries) = loaded ∷ found ∷ words_of tries
 
 -- Words tell which of them were loaded: in one way at most are they those of lost tries, and then a
 -- loaded word of at least 2^63.
-abbrev pub OneReading : Type 0
-OneReading =
+abbrev pub ReadingIsOne : Type 0
+ReadingIsOne =
     (tries others : List LostTry) (word other : ℕ) → All IsLost tries → All IsLost others
     → 2 ^ 63 ≤ word → 2 ^ 63 ≤ other → words_of tries ++ word ∷ [] ≡ words_of others ++ other ∷ []
     → (tries ≡ others) × (word ≡ other)

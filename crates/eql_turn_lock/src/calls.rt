@@ -20,7 +20,7 @@ use std::thread;
 pub(crate) const WORN: u64 = 1 << 63;
 
 impl<T: Turned> TurnLock<T> {
-    /// Plays the operation and waits for the turn, yielding between tries. It never answers `Busy`.
+    /// Plays the operation and waits for the turn, yielding between tries. It never returns `Busy`.
     pub fn call<R: Wait>(
         &self,
         rt: &R,

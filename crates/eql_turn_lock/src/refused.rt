@@ -1,4 +1,4 @@
-//! What is answered where nothing was played.
+//! What is returned where nothing was played.
 
 /// The operation wasn't played, and comes back with the last word that was met.
 ///

@@ -1,4 +1,4 @@
-//! A call that is left out where the last one found nothing to do, and what it answers.
+//! A call that is left out where the last one found nothing to do, and what it returns.
 ghost use Rattle.eql_turn_lock.specs.Passes.{KnowsHistory};
 ghost use Rattle.eql_turn_lock.specs.Locks.{IsPassOf, view_of};
 ghost use Rattle.eql_turn_lock.specs.Calls.{MayPlay, PlaysUnlessIdle};

@@ -16,20 +16,20 @@ use Rattle.eql_turn_lock_tests.specs.declared.tray.TrayOp.{TrayOp}
 use Rattle.eql_turn_lock_tests.specs.declared.tray.TrayOp.TheVariants.{Deliver, Take}
 use Rattle.eql_turn_lock_tests.specs.declared.tray.TrayReply.{TrayReply}
 use Rattle.eql_turn_lock_tests.specs.declared.tray.TrayReply.TheVariants.{Delivered, Taken}
-use Rattle.eql_turn_lock_tests.specs.Trays.{TrayAllows, TrayStep, tray_open, letters_in, letters_out, delivered, taken, SawRoom}
+use Rattle.eql_turn_lock_tests.specs.Trays.{TrayAllows, IsTrayStep, tray_open, letters_in, letters_out, delivered, taken, SawRoom}
 
 pub starts_in : {X : Type 0} (log seen xs : List X) → StartsWith log seen → StartsWith seen xs → StartsWith log xs
 starts_in {X} log seen xs a b = (b.0 ++ a.0, a.1 ∙ (ap (λ (l : List X). l ++ a.0) b.1 ∙ append_assoc xs b.0 a.0))
 
 -- one step: what was there and came in is what went out and is there
-one_step : (x y : Tray) (op : TrayOp) (reply : TrayReply) → TrayStep x op reply y → x.letters.items ++ letters_in op ≡ letters_out reply ++ y.letters.items
+one_step : (x y : Tray) (op : TrayOp) (reply : TrayReply) → IsTrayStep x op reply y → x.letters.items ++ letters_in op ≡ letters_out reply ++ y.letters.items
 one_step x y (Deliver letter) Delivered step = sym step.0
 one_step x y Take (Taken letter) step = append-nil x.letters.items ∙ step.0
 one_step x y (Deliver letter) (Taken letter') step = absurd step
 one_step x y Take Delivered step = absurd step
 
 -- the same along a history
-pub none_lost : (log : List (Entry TrayOp TrayReply)) (x y : Tray) → IsLegal TrayStep x log y → x.letters.items ++ delivered log ≡ taken log ++ y.letters.items
+pub none_lost : (log : List (Entry TrayOp TrayReply)) (x y : Tray) → IsLegal IsTrayStep x log y → x.letters.items ++ delivered log ≡ taken log ++ y.letters.items
 none_lost [] x y legal = append-nil x.letters.items ∙ ap (λ (t : Tray). t.letters.items) legal
 none_lost (e ∷ es) x y legal = let z : Tray = legal.0 in let here = one_step x z e.op e.reply legal.1 in let later = none_lost es z y legal.2 in
     sym (append_assoc x.letters.items (letters_in e.op) (delivered es)) ∙ (ap (λ (l : List ℕ). l ++ delivered es) here ∙ (append_assoc (letters_out e.reply) z.letters.items (delivered es)
@@ -53,20 +53,20 @@ taken_append : (xs ys : List (Entry TrayOp TrayReply)) → taken (xs ++ ys) ≡ 
 taken_append [] ys = refl
 taken_append (e ∷ es) ys = ap (λ (l : List ℕ). letters_out e.reply ++ l) (taken_append es ys) ∙ sym (append_assoc (letters_out e.reply) (taken es) (taken ys))
 
-one_room : (x y : Tray) (op : TrayOp) (reply : TrayReply) → TrayStep x op reply y → deque_capacity y.letters ≡ deque_capacity x.letters
+one_room : (x y : Tray) (op : TrayOp) (reply : TrayReply) → IsTrayStep x op reply y → deque_capacity y.letters ≡ deque_capacity x.letters
 one_room x y (Deliver letter) Delivered step = step.1
 one_room x y Take (Taken letter) step = step.3
 one_room x y (Deliver letter) (Taken letter') step = absurd step
 one_room x y Take Delivered step = absurd step
 
 -- a tray keeps its room
-same_room : (log : List (Entry TrayOp TrayReply)) (x y : Tray) → IsLegal TrayStep x log y → deque_capacity y.letters ≡ deque_capacity x.letters
+same_room : (log : List (Entry TrayOp TrayReply)) (x y : Tray) → IsLegal IsTrayStep x log y → deque_capacity y.letters ≡ deque_capacity x.letters
 same_room [] x y legal = ap (λ (t : Tray). deque_capacity t.letters) (sym legal)
 same_room (e ∷ es) x y legal = same_room es legal.0 y legal.2 ∙ one_room x legal.0 e.op e.reply legal.1
 
 -- the room that the other pass saw is there after the join
-pub room_after : (first other after : View Tray TrayOp TrayReply) (letter : ℕ) → first.number ≡ 0 → SawRoom first other → after ≡ joined_view first other → KnowsHistory TrayStep tray_open after → StartsWith after.seen other.seen
-    → MayPlay TrayAllows TrayStep tray_open after (Deliver letter)
+pub room_after : (first other after : View Tray TrayOp TrayReply) (letter : ℕ) → first.number ≡ 0 → SawRoom first other → after ≡ joined_view first other → KnowsHistory IsTrayStep tray_open after → StartsWith after.seen other.seen
+    → MayPlay TrayAllows IsTrayStep tray_open after (Deliver letter)
 room_after first other after letter zero_is room is knows begins = inr (
   number,
   λ opening x opened legal.

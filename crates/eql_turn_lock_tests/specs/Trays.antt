@@ -29,20 +29,20 @@ abbrev pub tray_idle : TrayReply → Bool
 tray_idle Delivered = false
 tray_idle (Taken letter) = is_none letter
 
-abbrev pub SameRoom : Tray → Tray → Type 0
-SameRoom x y = deque_capacity y.letters ≡ deque_capacity x.letters
+abbrev pub HasSameRoom : Tray → Tray → Type 0
+HasSameRoom x y = deque_capacity y.letters ≡ deque_capacity x.letters
 
 -- A letter that is delivered is the last one. The first one is taken, and none only where there is
 -- none.
-abbrev pub TrayStep : Tray → TrayOp → TrayReply → Tray → Type 0
-TrayStep x (Deliver letter) Delivered y =
-    (y.letters.items ≡ x.letters.items ++ letter ∷ []) × SameRoom x y
-TrayStep x Take (Taken letter) y =
+abbrev pub IsTrayStep : Tray → TrayOp → TrayReply → Tray → Type 0
+IsTrayStep x (Deliver letter) Delivered y =
+    (y.letters.items ≡ x.letters.items ++ letter ∷ []) × HasSameRoom x y
+IsTrayStep x Take (Taken letter) y =
     (x.letters.items ≡ option_to_list letter ++ y.letters.items)
     × (letter ≡ None → deque_len x.letters ≡ 0) × (deque_len y.letters ≤ deque_len x.letters)
-    × SameRoom x y
-TrayStep x (Deliver letter) (Taken taken) y = ⊥
-TrayStep x Take Delivered y = ⊥
+    × HasSameRoom x y
+IsTrayStep x (Deliver letter) (Taken taken) y = ⊥
+IsTrayStep x Take Delivered y = ⊥
 
 pub tray_opens : (x : Tray) (op : TrayOp) → tray_open op ≡ true → TrayAllows x op
 tray_opens x (Deliver letter) open_is = absurd (true≢false (sym open_is))
@@ -50,7 +50,7 @@ tray_opens x Take open_is = tt
 
 pub tray_stays_allowed :
     (x y : Tray) (op later : TrayOp) (reply : TrayReply) → tray_open op ≡ true
-    → TrayStep x op reply y → TrayAllows x later → TrayAllows y later
+    → IsTrayStep x op reply y → TrayAllows x later → TrayAllows y later
 tray_stays_allowed x y (Deliver letter) later reply open_is step may =
     absurd (true≢false (sym open_is))
 tray_stays_allowed x y Take Take reply open_is step may = tt

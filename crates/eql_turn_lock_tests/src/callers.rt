@@ -3,7 +3,7 @@ ghost use Rattle.std.specs.Prelude.{◌≡◌, [], MatchResult};
 ghost use Rattle.eql_turn_lock.specs.Passes.{joined_view};
 ghost use Rattle.eql_turn_lock.specs.Locks.{IsPassOf, view_of};
 ghost use Rattle.eql_turn_lock.specs.Calls.{MayPlay, Plays, PlaysOnce, PlaysUnlessIdle, Refuses, RefusesWorn};
-ghost use Rattle.eql_turn_lock_tests.specs.Trays.{TrayAllows, TrayStep, tray_open, tray_idle, LosesNothing, SawRoom};
+ghost use Rattle.eql_turn_lock_tests.specs.Trays.{TrayAllows, IsTrayStep, tray_open, tray_idle, LosesNothing, SawRoom};
 
 use crate::tray::{Tray, TrayOp, TrayReply};
 use eql_turn_lock::{NotNow, Pass, Tried, TurnLock};
@@ -16,12 +16,12 @@ pub fn deliver(
     letter: u32,
 ) -> Result<TrayReply, NotNow<TrayOp>>
     requires own { IsPassOf lock.now pass.old }
-    requires may { MayPlay TrayAllows TrayStep tray_open (view_of pass.old)
+    requires may { MayPlay TrayAllows IsTrayStep tray_open (view_of pass.old)
         (TrayOp.Deliver letter) }
     ensures own { IsPassOf lock.now pass.new }
     ensures played { MatchResult
         result
-        (λ reply. PlaysOnce TrayStep tray_open
+        (λ reply. PlaysOnce IsTrayStep tray_open
         (view_of pass.old) (TrayOp.Deliver letter) reply (view_of pass.new))
         (λ refused. Refuses (view_of pass.old) (TrayOp.Deliver letter) refused (view_of pass.new)) }
 {
@@ -34,7 +34,7 @@ pub fn take(lock: &TurnLock<Tray>, pass: &mut Pass<Tray>) -> Result<TrayReply, N
     ensures own { IsPassOf lock.now pass.new }
     ensures played { MatchResult
         result
-        (λ reply. PlaysOnce TrayStep tray_open
+        (λ reply. PlaysOnce IsTrayStep tray_open
         (view_of pass.old) TrayOp.Take reply (view_of pass.new))
         (λ refused. Refuses (view_of pass.old) TrayOp.Take refused (view_of pass.new)) }
 {
@@ -45,7 +45,7 @@ pub fn take(lock: &TurnLock<Tray>, pass: &mut Pass<Tray>) -> Result<TrayReply, N
 pub fn take_unless_empty(lock: &TurnLock<Tray>, pass: &mut Pass<Tray>) -> Tried<TrayReply, TrayOp>
     requires own { IsPassOf lock.now pass.old }
     ensures own { IsPassOf lock.now pass.new }
-    ensures played { PlaysUnlessIdle TrayStep tray_open tray_idle
+    ensures played { PlaysUnlessIdle IsTrayStep tray_open tray_idle
         (view_of pass.old) TrayOp.Take result (view_of pass.new) }
 {
     lock.try_unless_idle(pass, TrayOp::Take)
@@ -59,12 +59,12 @@ pub fn deliver_waiting<R: Wait>(
     letter: u32,
 ) -> Result<TrayReply, NotNow<TrayOp>>
     requires own { IsPassOf lock.now pass.old }
-    requires may { MayPlay TrayAllows TrayStep tray_open (view_of pass.old)
+    requires may { MayPlay TrayAllows IsTrayStep tray_open (view_of pass.old)
         (TrayOp.Deliver letter) }
     ensures own { IsPassOf lock.now pass.new }
     ensures played { MatchResult
         result
-        (λ reply. Plays TrayStep tray_open
+        (λ reply. Plays IsTrayStep tray_open
         (view_of pass.old) (TrayOp.Deliver letter) reply (view_of pass.new))
         (λ refused. RefusesWorn
         (view_of pass.old) (TrayOp.Deliver letter) refused (view_of pass.new)) }
@@ -88,7 +88,7 @@ pub fn deliver_after(
     ensures own { IsPassOf lock.now first.new }
     ensures played { MatchResult
         result
-        (λ reply. PlaysOnce TrayStep tray_open
+        (λ reply. PlaysOnce IsTrayStep tray_open
         (joined_view (view_of first.old) (view_of other))
         (TrayOp.Deliver letter) reply (view_of first.new))
         (λ refused. Refuses

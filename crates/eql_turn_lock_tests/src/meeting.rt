@@ -39,7 +39,7 @@ pub fn sees(flag: &Flag) -> bool {
 
 impl Turned for Meeting {
     ghost use Rattle.std.specs.Prelude.{⊤, true, false};
-    ghost use Rattle.eql_turn_lock_tests.specs.Meetings.{MeetingStep};
+    ghost use Rattle.eql_turn_lock_tests.specs.Meetings.{IsMeetingStep};
 
     type Op = MeetingOp;
 
@@ -48,7 +48,7 @@ impl Turned for Meeting {
 
     ghost allows = { λ x op. ⊤ };
 
-    ghost step_of = { MeetingStep };
+    ghost step_of = { IsMeetingStep };
 
     ghost is_open = { λ op. true };
 

@@ -41,7 +41,7 @@ impl Tray {
 }
 
 impl Turned for Tray {
-    ghost use Rattle.eql_turn_lock_tests.specs.Trays.{TrayAllows, TrayStep, tray_open, tray_idle, tray_opens, tray_stays_allowed};
+    ghost use Rattle.eql_turn_lock_tests.specs.Trays.{TrayAllows, IsTrayStep, tray_open, tray_idle, tray_opens, tray_stays_allowed};
 
     type Op = TrayOp;
 
@@ -49,7 +49,7 @@ impl Turned for Tray {
 
     ghost allows = { TrayAllows };
 
-    ghost step_of = { TrayStep };
+    ghost step_of = { IsTrayStep };
 
     ghost is_open = { tray_open };
 

@@ -12,8 +12,8 @@ use Rattle.eql_values.specs.declared.order.OrderKey.{OrderKey}
 use Rattle.eql_values.specs.declared.item.Item.{Item}
 use Rattle.eql_values.specs.OrderKeys.{order_cmp, before_all, events_ascend}
 use Rattle.eql_values.specs.Adjacent.{begins_above, ascends_next, by_order}
-use Rattle.eql_values.specs.Ascending.{AllAfter, Ascend}
-use Rattle.eql_values.specs.Routes.{RoutesInOrder}
+use Rattle.eql_values.specs.Ascending.{AllAreAfter, Ascend}
+use Rattle.eql_values.specs.Routes.{RoutesAreInOrder}
 
 less : (o : Ordering) → is_lt o ≡ true → o ≡ Less
 less Less is = refl
@@ -69,12 +69,12 @@ events_are [] = refl
 events_are (event ∷ events) = λ i. before_are event events i && events_are events i
 
 -- items that ascend, by the relation and by the test
-after_below : (event : OrderKey) (items : List Item) → AllAfter event items → below_all order_cmp event (by_order items) ≡ true
+after_below : (event : OrderKey) (items : List Item) → AllAreAfter event items → below_all order_cmp event (by_order items) ≡ true
 after_below event [] after = refl
 after_below event (item ∷ items) after =
     and_from (is_lt (order_cmp event item.order)) (below_all order_cmp event (by_order items)) (ap is_lt after.0) (after_below event items after.1)
 
-below_after : (event : OrderKey) (items : List Item) → below_all order_cmp event (by_order items) ≡ true → AllAfter event items
+below_after : (event : OrderKey) (items : List Item) → below_all order_cmp event (by_order items) ≡ true → AllAreAfter event items
 below_after event [] below = tt
 below_after event (item ∷ items) below =
     let p = and_parts (is_lt (order_cmp event item.order)) (below_all order_cmp event (by_order items)) below in
@@ -85,12 +85,12 @@ items_sorted [] up = refl
 items_sorted (item ∷ items) up =
     and_from (below_all order_cmp item.order (by_order items)) (is_sorted order_cmp (by_order items)) (after_below item.order items up.1) (items_sorted items up.2)
 
-pub routes_in_order : (items : List Item) → Ascend items → All (λ (item : Item). RoutesInOrder item.routes) items
-routes_in_order [] up = All-nil (λ (item : Item). RoutesInOrder item.routes)
-routes_in_order (item ∷ items) up = All-cons (λ (item : Item). RoutesInOrder item.routes) item items up.0 (routes_in_order items up.2)
+pub routes_in_order : (items : List Item) → Ascend items → All (λ (item : Item). RoutesAreInOrder item.routes) items
+routes_in_order [] up = All-nil (λ (item : Item). RoutesAreInOrder item.routes)
+routes_in_order (item ∷ items) up = All-cons (λ (item : Item). RoutesAreInOrder item.routes) item items up.0 (routes_in_order items up.2)
 
-pub items_ascend : (items : List Item) → All (λ (item : Item). RoutesInOrder item.routes) items → is_sorted order_cmp (by_order items) ≡ true → Ascend items
+pub items_ascend : (items : List Item) → All (λ (item : Item). RoutesAreInOrder item.routes) items → is_sorted order_cmp (by_order items) ≡ true → Ascend items
 items_ascend [] routes sorted = tt
 items_ascend (item ∷ items) routes sorted =
     let p = and_parts (below_all order_cmp item.order (by_order items)) (is_sorted order_cmp (by_order items)) sorted in
-    (All-head (λ (item : Item). RoutesInOrder item.routes) item items routes, below_after item.order items p.0, items_ascend items (All-tail (λ (item : Item). RoutesInOrder item.routes) item items routes) p.1)
+    (All-head (λ (item : Item). RoutesAreInOrder item.routes) item items routes, below_after item.order items p.0, items_ascend items (All-tail (λ (item : Item). RoutesAreInOrder item.routes) item items routes) p.1)

@@ -6,8 +6,8 @@ use Rattle.eql_values.specs.declared.item.Route.{Route}
 use Rattle.eql_values.specs.Orders.{key_cmp}
 
 -- the routes ascend strictly by key
-abbrev pub RoutesInOrder : List Route → Type 0
-RoutesInOrder routes = IsTrue (is_sorted key_cmp (map (λ (r : Route). (r.key, r)) routes))
+abbrev pub RoutesAreInOrder : List Route → Type 0
+RoutesAreInOrder routes = IsTrue (is_sorted key_cmp (map (λ (r : Route). (r.key, r)) routes))
 
 -- the route has a stage, or ends its key
 abbrev pub says_something : Route → Bool
@@ -15,4 +15,4 @@ says_something route = not ((route.mask.low == 0) && (route.mask.high == 0)) || 
 
 -- the routes ascend strictly by key, and each says something
 abbrev pub RoutesStand : List Route → Type 0
-RoutesStand routes = RoutesInOrder routes × IsTrue (list_all says_something routes)
+RoutesStand routes = RoutesAreInOrder routes × IsTrue (list_all says_something routes)

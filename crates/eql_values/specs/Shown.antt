@@ -12,8 +12,8 @@ abbrev pub upper_digits : ℕ → List ℕ
 upper_digits n = if nat_lt n 256 then [] else hex_digit (n / 4096) ∷ hex_digit (n / 256 % 16) ∷ []
 
 -- a character by its number, in two hexadecimal digits or four
-abbrev pub by_number : ℕ → List ℕ
-by_number c = codes "\\u{" ++ upper_digits c ++ hex_digit (c / 16 % 16) ∷ hex_digit (c % 16) ∷ codes "}"
+abbrev pub escape_by_number : ℕ → List ℕ
+escape_by_number c = codes "\\u{" ++ upper_digits c ++ hex_digit (c / 16 % 16) ∷ hex_digit (c % 16) ∷ codes "}"
 
 -- a control character
 abbrev pub is_control : ℕ → Bool
@@ -37,7 +37,7 @@ shown_char c =
     if c == 10 then codes "\\n"
     else if c == 13 then codes "\\r"
     else if c == 9 then codes "\\t"
-    else if is_hidden c then by_number c
+    else if is_hidden c then escape_by_number c
     else c ∷ []
 
 -- a text as it is printed, character by character

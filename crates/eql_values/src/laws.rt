@@ -17,7 +17,7 @@ ghost use Rattle.eql_values.specs.Matching.{slot_cmp};
 ghost use Rattle.eql_values.specs.Names.{names_eq};
 ghost use Rattle.eql_values.specs.OrderKeys.{order_cmp, events_ascend};
 ghost use Rattle.eql_values.specs.Orders.{text_cmp, value_cmp, key_cmp};
-ghost use Rattle.eql_values.specs.Routes.{RoutesInOrder};
+ghost use Rattle.eql_values.specs.Routes.{RoutesAreInOrder};
 
 /// Two values of these orders compare as equal only where they are one and the same.
 pub fn orders_agree_with_equality()
@@ -48,7 +48,7 @@ pub fn orders_told_alike()
     ensures items { (items : List Event) → Ascend items
         → IsTrue (is_sorted order_cmp (by_order items)) }
     ensures routes { (items : List Event) → Ascend items
-        → All (λ item. RoutesInOrder item.routes) items }
-    ensures back { (items : List Event) → All (λ item. RoutesInOrder item.routes) items
+        → All (λ item. RoutesAreInOrder item.routes) items }
+    ensures back { (items : List Event) → All (λ item. RoutesAreInOrder item.routes) items
         → IsTrue (is_sorted order_cmp (by_order items)) → Ascend items }
 {}

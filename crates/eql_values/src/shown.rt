@@ -1,7 +1,7 @@
 //! How names and texts of the input are printed in messages.
 ghost use Rattle.std.specs.Prelude.{◌≡◌, ◌<◌, ◌++◌, ◌∷◌, [], encode_utf8_all, string_bytes, OnOk};
 ghost use Rattle.std.specs.Str.{chars};
-ghost use Rattle.eql_values.specs.Shown.{hex_digit, upper_digits, by_number};
+ghost use Rattle.eql_values.specs.Shown.{hex_digit, upper_digits, escape_by_number};
 ghost use Rattle.eql_values.specs.Shown.{is_hidden, shown_char, shown};
 
 use crate::memory::Memory;
@@ -52,7 +52,8 @@ fn push_upper(line: &mut String, number: u32) -> Result<(), AllocError>
 /// Puts the escape of a character's number at the end of a line.
 fn push_number(line: &mut String, number: u32) -> Result<(), AllocError>
     requires { number < 65536 }
-    ensures { OnOk result (string_bytes line.new ≡ string_bytes line.old ++ by_number number) }
+    ensures { OnOk result (string_bytes line.new
+        ≡ string_bytes line.old ++ escape_by_number number) }
 {
     line.push_str("\\u{")?;
     push_upper(line, number)?;

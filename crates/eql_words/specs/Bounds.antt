@@ -14,30 +14,30 @@ abbrev pub IsName : Word → Type 0
 IsName word = is_name word ≡ true
 
 -- the number lies between these two
-abbrev pub Within : ℕ → ℕ → ℕ → Type 0
-Within least most n = (least ≤ n) × (n ≤ most)
+abbrev pub LiesBetween : ℕ → ℕ → ℕ → Type 0
+LiesBetween least most n = (least ≤ n) × (n ≤ most)
 
-abbrev pub KeptBounds : Checkpoint → Type 0
-KeptBounds kept = IsName kept.name × Within 1 1000000 kept.every
+abbrev pub KeptIsBounded : Checkpoint → Type 0
+KeptIsBounded kept = IsName kept.name × LiesBetween 1 1000000 kept.every
 
 -- a search names its files and one to 256 shards, and each number lies in its range
-pub record FindBounds (find : Find) : Type 0 where
+pub record FindIsBounded (find : Find) : Type 0 where
   pub query : IsName find.query
   pub fields : IsName find.fields
   pub tie : IfSome find.tie (λ text. (word : Word) × IsName word × (text ≡ chars word))
   pub slack : IfSome find.slack (λ time. time ≤ 3153600000000)
-  pub batch : Within 1 4096 find.batch
+  pub batch : LiesBetween 1 4096 find.batch
   pub hands : find.hands ≤ 16
-  pub kept : IfSome find.checkpoint KeptBounds
+  pub kept : IfSome find.checkpoint KeptIsBounded
   pub slack_too : is_some find.checkpoint ≡ true → is_some find.slack ≡ true
-  pub count : Within 1 256 (length find.shards)
+  pub count : LiesBetween 1 256 (length find.shards)
   pub shards : list_all is_name find.shards ≡ true
 
-abbrev pub Bounds : Command → Type 0
-Bounds (command.Find find) = FindBounds find
-Bounds (command.Check query fields) = IsName query × IsName fields
-Bounds (command.Made hands events) = (hands ≤ 16) × (events ≤ 1000000)
+abbrev pub IsBounded : Command → Type 0
+IsBounded (command.Find find) = FindIsBounded find
+IsBounded (command.Check query fields) = IsName query × IsName fields
+IsBounded (command.Made hands events) = (hands ≤ 16) × (events ≤ 1000000)
 
 -- what words make lies within its bounds
 abbrev pub CommandsAreBounded : Type 0
-CommandsAreBounded = (words : List Word) (command : Command) → command_of words ≡ Some command → Bounds command
+CommandsAreBounded = (words : List Word) (command : Command) → command_of words ≡ Some command → IsBounded command

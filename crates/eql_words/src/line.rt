@@ -91,7 +91,7 @@ fn front_of<'a>(words: &'a [String]) -> Front<'a>
     }
 }
 
-/// The options and plain words that these words are. `None` comes exactly where they are none.
+/// The options and plain words that these words are. `None` comes exactly when they are none.
 #[tactic(auto, using(crate::proofs::Lines::line_more, crate::proofs::Lines::line_ends, crate::proofs::Lines::line_faulty, crate::proofs::Lines::behind_start))]
 pub(crate) fn read_line(alloc: Global, words: &[String]) -> Result<Option<Line<'_>>, Memory>
     ensures { IfOk result (λ line. line ≡ line_of (bytes_of words.now)) }

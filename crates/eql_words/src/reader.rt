@@ -91,7 +91,7 @@ fn command_from(alloc: Global, verb: &str, line: &Line<'_>) -> Result<Option<Com
     }
 }
 
-/// The command that these words make, the words behind the program's name. `None` comes exactly where they make none.
+/// The command that these words make, the words behind the program's name. `None` comes exactly when they make none.
 ///
 /// Errors: want of memory alone.
 pub fn read_command(alloc: Global, words: &Vec<String>) -> Result<Option<Command>, Memory>

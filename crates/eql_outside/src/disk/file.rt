@@ -31,7 +31,7 @@ impl<F: Read + Write + Seek + OpenFile> FileDisk<F> {
         FileDisk { a, b, faults: 0 }
     }
 
-    // Counts a fault, if the answer is one.
+    // Counts a fault, if the result is one.
     fn count<T>(&mut self, answer: Result<T, OutRefused>) -> Result<T, OutRefused>
         ensures same { result ≡ answer }
         ensures cause { answer ≡ Err OutRefused.Failed → Rose self.old.faults self.new.faults }

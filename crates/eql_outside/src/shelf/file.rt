@@ -67,10 +67,10 @@ where
     ghost use Rattle.std.specs.Prelude.{◌≢◌, ◌≤◌, List, Ok, Err, Some, None, IfOk, IfErr, IfSome, IsNone, IsOkAnd, IsSomeAnd};
     ghost use Rattle.std.specs.IoError.{error_kind};
     ghost use Rattle.eql_outside.specs.Outside.{Rose};
-    ghost use Rattle.eql_outside.specs.Faults.{name_lent, faults_in, RoseFor, SameFaults};
+    ghost use Rattle.eql_outside.specs.Faults.{name_lent, faults_in, RoseFor, FaultsAreSame};
 
-    // Answers as the open of a file did. A file that is open is lent. Where the error says that there is none, it is
-    // absent. Any other error is a fault of the name.
+    // Returns what the open of a file came to. A file that is open is lent. Where the error says that there is none, it
+    // is absent. Any other error is a fault of the name.
     fn answer(
         &mut self,
         opened: io::Result<R::File>,
@@ -90,7 +90,7 @@ where
             → RoseFor (name_lent lent) (faults_in self.old.names) (faults_in self.new.names) }
         ensures steady { result ≢ Err OutRefused.Failed → self.new.faults ≡ self.old.faults }
         ensures steady_named { result ≢ Err OutRefused.Failed
-            → SameFaults (faults_in self.old.names) (faults_in self.new.names) }
+            → FaultsAreSame (faults_in self.old.names) (faults_in self.new.names) }
         ensures rose { IfOk result (λ o. IsNone o → Rose self.old.absent self.new.absent) }
         ensures present { result ≢ Ok None → self.new.absent ≡ self.old.absent }
         ensures counts { (self.old.faults ≤ self.new.faults)

@@ -89,7 +89,7 @@ impl MemSource {
     }
 }
 
-// Puts as many of the bytes at the front of a buffer as fit there, and answers how many they are.
+// Puts as many of the bytes at the front of a buffer as fit there, and returns how many they are.
 fn put_front(into: &mut [u8], from: &[u8]) -> usize
     ensures count { result ≡ min (length into.old) (length from.now) }
     ensures bytes { take result into.new ≡ take result from.now }

@@ -5,7 +5,7 @@ ghost use Rattle.eql_query.specs.View.{trees_of};
 ghost use Rattle.std.specs.List.{list_all};
 ghost use Rattle.std.specs.Str.{bytes_eq, chars};
 ghost use Rattle.eql_parser.specs.Kinds.{kinds, open_};
-ghost use Rattle.eql_parser.specs.Marks.{NoCall, NoCallee, callee_kind};
+ghost use Rattle.eql_parser.specs.Marks.{BeginsNoCall, IsNoCallee, callee_kind};
 ghost use Rattle.eql_parser.specs.Pieces.{piece_kind};
 ghost use Rattle.eql_parser.specs.Answering.{Answers, IsNode, IsNodes, node_tree, nodes_trees, call_read};
 
@@ -20,7 +20,7 @@ use std::alloc::Global;
 
 /// What may be called: a name without the `~` at its end, and whether it has one.
 fn callee_of(piece: Piece<'_>) -> Option<(&str, bool)>
-    ensures { MatchOption result (NoCallee (piece_kind piece.entry))
+    ensures { MatchOption result (IsNoCallee (piece_kind piece.entry))
         (λ x. piece_kind piece.entry ≡ callee_kind x.1 (chars x.0.now)) }
 {
     match piece {
@@ -33,7 +33,7 @@ fn callee_of(piece: Piece<'_>) -> Option<(&str, bool)>
 /// The function whose call comes first, by its name and by whether it ignores case, and what
 /// follows the parenthesis.
 pub fn call_at(tokens: &[Token]) -> Option<(&str, bool, &[Token])>
-    ensures { MatchOption result (NoCall (kinds tokens.now))
+    ensures { MatchOption result (BeginsNoCall (kinds tokens.now))
         (λ x. kinds tokens.now ≡ callee_kind x.1 (chars x.0.now) ∷ open_ ∷ kinds x.2.now) }
 {
     let (first, rest) = split(tokens)?;

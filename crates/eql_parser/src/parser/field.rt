@@ -4,7 +4,7 @@ ghost use Rattle.std.specs.Option.{option_map};
 ghost use Rattle.std.specs.Str.{chars};
 ghost use Rattle.eql_parser.specs.Kinds.{kind, kinds, word_kind};
 ghost use Rattle.eql_parser.specs.Grammar.{first_part, part};
-ghost use Rattle.eql_parser.specs.Pieces.{piece_kind, spelled, NoPart, IsPart};
+ghost use Rattle.eql_parser.specs.Pieces.{piece_kind, spelled, BeginsNoPart, IsPart};
 ghost use Rattle.eql_parser.specs.Answering.{Answers};
 ghost use Rattle.eql_parser.specs.Reading.{dotted, named, field};
 
@@ -54,7 +54,7 @@ fn part_of(token: &Token) -> Option<&str>
 
 /// The part behind a dot, and what follows.
 fn part_at(tokens: &[Token]) -> Option<(&str, &[Token])>
-    ensures { MatchOption result (NoPart (kinds tokens.now))
+    ensures { MatchOption result (BeginsNoPart (kinds tokens.now))
         (λ x. IsPart (kinds tokens.now) (chars x.0.now) (kinds x.1.now)) }
 {
     match tokens {

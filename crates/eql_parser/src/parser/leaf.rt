@@ -3,7 +3,7 @@ ghost use Rattle.std.specs.Prelude.{◌≡◌, Ok, Err, IfOk, length};
 ghost use Rattle.eql_parser.specs.Kinds.{kinds};
 ghost use Rattle.eql_parser.specs.Limits.{depth};
 ghost use Rattle.eql_query.specs.View.{tree};
-ghost use Rattle.eql_parser.specs.Marks.{Lacks, NoCall};
+ghost use Rattle.eql_parser.specs.Marks.{BeginsNoCall, Lacks};
 ghost use Rattle.eql_parser.specs.declared.parser.mark.Mark.TheVariants as mark;
 ghost use Rattle.eql_parser.specs.Pieces.{piece_kind};
 ghost use Rattle.std.specs.Option.{option_map};
@@ -84,7 +84,7 @@ pub fn leaf_of(
     tokens: &[Token],
 ) -> Result<(Node, &[Token]), Stop>
     requires open { Lacks mark.Open (kinds tokens.now) }
-    requires call { NoCall (kinds tokens.now) }
+    requires call { BeginsNoCall (kinds tokens.now) }
     ensures answers { Answers node_tree result (prim (room parens) (inner parens) levels
         (kinds tokens.now)) }
     ensures node { IfOk result (λ x. IsNode levels x.0) }

@@ -4,7 +4,7 @@ ghost use Rattle.eql_parser.specs.Kinds.{kinds};
 ghost use Rattle.eql_query.specs.QueryTree.{body_tree};
 ghost use Rattle.eql_parser.specs.QueryGrammar as grammar;
 ghost use Rattle.eql_parser.specs.Answering.{Answers};
-ghost use Rattle.eql_parser.specs.QueryAnswering.{NoUnit, terms_view, until_view};
+ghost use Rattle.eql_parser.specs.QueryAnswering.{StopsAtNoUnit, terms_view, until_view};
 ghost use Rattle.eql_parser.specs.Reading.{expr};
 ghost use Rattle.eql_parser.specs.QueryReading.{most_open, most_levels, is_fine_unit, unit_at, span, items, until, behind_keys, behind_span};
 
@@ -41,7 +41,7 @@ fn is_fine(word: &Text) -> bool
 
 /// Why a word that stands where a unit has to is none, where so many tokens are left.
 fn no_unit(word: &Text, place: usize) -> Stop
-    ensures { NoUnit result word.now place }
+    ensures { StopsAtNoUnit result word.now place }
 {
     if is_fine(word) {
         match word.clone() {

@@ -1,6 +1,6 @@
 //! Why a part of a query isn't read.
 ghost use Rattle.std.specs.Str.{chars};
-ghost use Rattle.eql_parser.specs.Answering.{LeavesOut};
+ghost use Rattle.eql_parser.specs.Answering.{StopLeavesOut};
 
 use eql_values::Text;
 use std::alloc::{AllocError, AllocFailed, Global};
@@ -44,7 +44,7 @@ impl<T: Drop> From<AllocFailed<T>> for Stop {
 
 /// The refusal of a form that is called by this word, where so many tokens are left.
 pub fn left_out(alloc: Global, word: &str, place: usize) -> Stop
-    ensures { LeavesOut result (chars word.now) place }
+    ensures { StopLeavesOut result (chars word.now) place }
 {
     match String::from_str(alloc, word) {
         Ok(word) => Stop::LeftOut(Text::of(word), place),

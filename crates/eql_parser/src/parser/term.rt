@@ -6,7 +6,7 @@ ghost use Rattle.eql_query.specs.QueryTree.{term_tree};
 ghost use Rattle.eql_parser.specs.QueryGrammar.{category};
 ghost use Rattle.eql_parser.specs.Pieces.{piece_kind};
 ghost use Rattle.eql_parser.specs.Answering.{Answers};
-ghost use Rattle.eql_parser.specs.QueryAnswering.{bracketed_view, conditioned_view, plain_item, RunsComes, LacksRuns, NoMissing, IsMissing};
+ghost use Rattle.eql_parser.specs.QueryAnswering.{bracketed_view, conditioned_view, plain_item, RunsComes, LacksRuns, BeginsNoMissing, IsMissing};
 ghost use Rattle.eql_parser.specs.Reading.{expr};
 ghost use Rattle.eql_parser.specs.QueryReading.{most_open, most_levels, number_at, keys, runs, term, term_tree_of, bracketed, item};
 ghost use Rattle.eql_parser.specs.QueryReading as reading;
@@ -208,7 +208,7 @@ fn plain_item_of(alloc: Global, tokens: &[Token]) -> Result<(Term, &[Token]), St
 
 /// Whether a missing event, `![`, comes first.
 pub fn is_missing(tokens: &[Token]) -> bool
-    ensures { MatchBool result (IsMissing (kinds tokens.now)) (NoMissing (kinds tokens.now)) }
+    ensures { MatchBool result (IsMissing (kinds tokens.now)) (BeginsNoMissing (kinds tokens.now)) }
 {
     match after(Mark::Bang, tokens) {
         None => false,

@@ -9,8 +9,8 @@ pub emit_plain_call-returns-clause-items : goal.emit_plain_call-returns-clause-i
 emit_plain_call-returns-clause-items below c =
     let count : c.len-count.result ≡ length c.items.result.now.items = omega (arith, c.len-count.ensures) in
     call_is c.args.fields.now c.args.function c.args.fold c.in-Some.function (trees c.args.args.now) c.items.result.now.items c.len-count.result
-    (reverse c.args.ops.now.items) (reverse c.put.new.ops.items) (reverse c.emit_all.new.ops.items) (sym c.in-Some.is) c.items.ensures.trees count
-    c.in_ok-put.ensures.items c.in_ok-deep.ensures.items
+    (reverse c.args.ops.now.items) (reverse c.put_op.new.ops.items) (reverse c.emit_all.new.ops.items) (sym c.in-Some.is) c.items.ensures.trees count
+    c.in_ok-put_op.ensures.items c.in_ok-deep.ensures.items
 
 pub emit_each-returns-clause-depth : goal.emit_each-returns-clause-depth
 emit_each-returns-clause-depth below c =

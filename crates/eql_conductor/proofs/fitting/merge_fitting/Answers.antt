@@ -4,7 +4,7 @@ use Rattle.std.specs.Prelude.{All}
 use Rattle.eql_values.specs.declared.item.Item.{Item}
 use Rattle.eql_values.specs.Accepted.{sorted_items}
 use Rattle.eql_values.specs.Ascending.{Ascend}
-use Rattle.eql_laws.specs.Apart.{AllApart, joined}
+use Rattle.eql_laws.specs.Apart.{AllAreApart, joined}
 use Rattle.eql_conductor.specs.Fitting.{fitting}
 use Rattle.eql_conductor.proofs.FittingLaws.{fitting_apart, fitting_ascend, fitting_sorted}
 use Rattle.eql_conductor.proofs.fitting.merge_fitting.Goals as goal
@@ -13,7 +13,7 @@ pub merge-requires-clause-ascend : goal.merge-requires-clause-ascend
 merge-requires-clause-ascend c = subst (All Ascend) (sym c.in_ok-kept.ensures) (fitting_ascend c.args.lists c.requires.ascend)
 
 pub merge-requires-clause-apart : goal.merge-requires-clause-apart
-merge-requires-clause-apart c = subst AllApart (sym c.in_ok-kept.ensures) (fitting_apart c.args.lists c.requires.apart)
+merge-requires-clause-apart c = subst AllAreApart (sym c.in_ok-kept.ensures) (fitting_apart c.args.lists c.requires.apart)
 
 pub returns : goal.returns
 returns c =

@@ -2,7 +2,7 @@ use Rattle.std.specs.Prelude.{◌≡◌, ◌∷◌, [], ℕ, List, Option, lengt
 use Rattle.eql_conductor.specs.Benches.{PartsRest}
 use Rattle.eql_conductor.specs.Bounds.{GaveOutTo}
 use Rattle.eql_conductor.specs.Going.{LanesGo, Went}
-use Rattle.eql_conductor.specs.LaneRounds.{LanesAt, TookTo}
+use Rattle.eql_conductor.specs.LaneRounds.{LanesAreAt, TookTo}
 use Rattle.eql_conductor.specs.Handed.{LanesHand, sizes}
 use Rattle.eql_conductor.specs.declared.note.Note.TheVariants.{Took}
 use Rattle.eql_conductor.specs.RoundNotes.{NotesLanesTo}
@@ -10,7 +10,7 @@ use Rattle.eql_conductor.proofs.taking.take_all.Given as goal
 
 abbrev pub invariant-loop-s : goal.invariant-loop-s
 invariant-loop-s g l = record {
-  took : (texts : Option (List (List ℕ))) → LanesAt texts l.last (g.B.Bench.known l.fn.bench)
+  took : (texts : Option (List (List ℕ))) → LanesAreAt texts l.last (g.B.Bench.known l.fn.bench)
       → TookTo texts l.s l.last l.mark (g.B.Bench.known l.fn.bench) (g.B.Bench.known l.bench) l.lists.items;
   count : length l.lists.items ≡ l.s;
   goes : LanesGo (g.B.Bench.known l.fn.bench) (g.B.Bench.known l.bench);

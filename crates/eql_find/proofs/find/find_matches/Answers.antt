@@ -4,11 +4,11 @@ use Rattle.eql_outside.specs.Moments.{History, DiskTells}
 use Rattle.eql_outside.specs.Plans.{FaultPlan}
 use Rattle.eql_outside.specs.Unfailing.{IsUnfailing}
 use Rattle.eql_ckdisk.specs.Going.{Goes}
-use Rattle.eql_ckdisk.specs.Keeping.{NoMore}
+use Rattle.eql_ckdisk.specs.Keeping.{LeavesNoMore}
 use Rattle.eql_runs.specs.Files.{Files}
 use Rattle.eql_runs.specs.Runs.{KeepsCuts}
 use Rattle.eql_find.specs.Finding.{HasCause}
-use Rattle.eql_find.specs.Halts.{AbsenceAs, IsRefusal}
+use Rattle.eql_find.specs.Halts.{AbsencesFollow, IsRefusal}
 use Rattle.eql_inputs.proofs.HaltLemmas.{faults_later}
 use Rattle.eql_find.proofs.FileLemmas.{file_disk, file_faults, file_out}
 use Rattle.eql_find.proofs.GivingLemmas.{over_both}
@@ -62,7 +62,7 @@ returns-in-Ok-open_shards-clause-cause g c =
 
 pub returns-in-Ok-open_shards-clause-absences : goal.returns-in-Ok-open_shards-clause-absences
 returns-in-Ok-open_shards-clause-absences g c =
-    subst (λ (n : ℕ). AbsenceAs c.run_shards.result n (g.H.Shelf.absent_count c.run_shards.new.shelf))
+    subst (λ (n : ℕ). AbsencesFollow c.run_shards.result n (g.H.Shelf.absent_count c.run_shards.new.shelf))
     (c.in-Ok-open_shards.ensures.absences ∙ c.in-Ok.ensures.absences) c.run_shards.ensures.absences
 
 pub returns-in-Ok-open_shards-clause-unfailing : goal.returns-in-Ok-open_shards-clause-unfailing
@@ -81,5 +81,5 @@ returns-in-Ok-open_shards-clause-moments g c =
 
 pub returns-in-Ok-open_shards-clause-cut_kept : goal.returns-in-Ok-open_shards-clause-cut_kept
 returns-in-Ok-open_shards-clause-cut_kept g c =
-    subst (λ (h : Option History). IfErr c.run_shards.result (λ halt. IsRefusal halt → DiskTells (Goes NoMore) h (g.H.Shelf.disk_history c.run_shards.new.shelf)))
+    subst (λ (h : Option History). IfErr c.run_shards.result (λ halt. IsRefusal halt → DiskTells (Goes LeavesNoMore) h (g.H.Shelf.disk_history c.run_shards.new.shelf)))
     (c.open_shards.ensures.kept.history_is ∙ c.read_plan.ensures.kept.history_is) c.run_shards.ensures.cut_kept

@@ -2,11 +2,11 @@ use Rattle.std.proofs.Common.{ℕ, Option, ap, subst, sym, ◌∙◌}
 use Rattle.std.specs.Prelude.{IfErr, OnErr, OnOk}
 use Rattle.eql_outside.specs.Moments.{History, DiskTells}
 use Rattle.eql_ckdisk.specs.Going.{Goes}
-use Rattle.eql_ckdisk.specs.Keeping.{NoMore}
+use Rattle.eql_ckdisk.specs.Keeping.{LeavesNoMore}
 use Rattle.eql_runs.specs.Files.{Files}
 use Rattle.eql_runs.specs.Runs.{IfFound, IsFindAccepted, KeepsCuts}
 use Rattle.eql_find.specs.Finding.{FindsAll, FindsListing, FindsSome, HasCause}
-use Rattle.eql_find.specs.Halts.{AbsenceAs, DiskAs, IsRefusal, IsReport}
+use Rattle.eql_find.specs.Halts.{AbsencesFollow, DiskFollows, IsRefusal, IsReport}
 use Rattle.eql_find.specs.Starting.{IsFreshKeep}
 use Rattle.eql_find.proofs.DiskLemmas.{recovered_keeps}
 use Rattle.eql_find.proofs.GivingLemmas.{back_by, fresh_keep, keeps_if_asked, over_both}
@@ -74,7 +74,7 @@ returns-in-Err-clause-moments g c =
 pub returns-in-Err-clause-cut_kept : goal.returns-in-Err-clause-cut_kept
 returns-in-Err-clause-cut_kept g c =
     λ refusal.
-    subst (λ (d : Option History). DiskTells (Goes NoMore) (g.H.Shelf.disk_history c.args.shelf.now) d) (sym c.give_sources.ensures.kept.history_is)
+    subst (λ (d : Option History). DiskTells (Goes LeavesNoMore) (g.H.Shelf.disk_history c.args.shelf.now) d) (sym c.give_sources.ensures.kept.history_is)
     c.in-Err.ensures.moments
 
 -- it is begun
@@ -109,11 +109,11 @@ returns-in-Ok-clause-count g c =
 
 pub returns-in-Ok-clause-absences : goal.returns-in-Ok-clause-absences
 returns-in-Ok-clause-absences g c =
-    subst (λ (n : ℕ). AbsenceAs c.run_start.result n (g.H.Shelf.absent_count c.run_start.new.shelf)) c.in-Ok.ensures.kept.absences_are c.run_start.ensures.absences
+    subst (λ (n : ℕ). AbsencesFollow c.run_start.result n (g.H.Shelf.absent_count c.run_start.new.shelf)) c.in-Ok.ensures.kept.absences_are c.run_start.ensures.absences
 
 pub returns-in-Ok-clause-disk_count : goal.returns-in-Ok-clause-disk_count
 returns-in-Ok-clause-disk_count g c =
-    subst (λ (n : ℕ). DiskAs c.run_start.result n (g.H.Shelf.disk_fault_count c.run_start.new.shelf)) c.in-Ok.ensures.steady c.run_start.ensures.disk_count
+    subst (λ (n : ℕ). DiskFollows c.run_start.result n (g.H.Shelf.disk_fault_count c.run_start.new.shelf)) c.in-Ok.ensures.steady c.run_start.ensures.disk_count
 
 pub returns-in-Ok-clause-unfailing : goal.returns-in-Ok-clause-unfailing
 returns-in-Ok-clause-unfailing g c =
@@ -138,5 +138,5 @@ returns-in-Ok-clause-moments g c =
 
 pub returns-in-Ok-clause-cut_kept : goal.returns-in-Ok-clause-cut_kept
 returns-in-Ok-clause-cut_kept g c =
-    subst (λ (h : Option History). IfErr c.run_start.result (λ halt. IsRefusal halt → DiskTells (Goes NoMore) h (g.H.Shelf.disk_history c.run_start.new.shelf)))
+    subst (λ (h : Option History). IfErr c.run_start.result (λ halt. IsRefusal halt → DiskTells (Goes LeavesNoMore) h (g.H.Shelf.disk_history c.run_start.new.shelf)))
     c.in-Ok.ensures.still c.run_start.ensures.cut_kept

@@ -2,11 +2,11 @@ use denote.Param.Send.{sendable}
 use Rattle.std.proofs.Common.{Option, ℕ, ap, subst, sym, ◌∙◌, refl}
 use Rattle.std.specs.Prelude.{IfErr}
 use Rattle.eql_ckdisk.specs.Going.{Goes}
-use Rattle.eql_ckdisk.specs.Keeping.{NoMore}
+use Rattle.eql_ckdisk.specs.Keeping.{LeavesNoMore}
 use Rattle.eql_outside.specs.Moments.{History, DiskTells}
 use Rattle.eql_runs.specs.Runs.{KeepsCuts}
 use Rattle.eql_find.specs.Finding.{HasCause}
-use Rattle.eql_find.specs.Halts.{AbsenceAs, DiskAs, IsRefusal}
+use Rattle.eql_find.specs.Halts.{AbsencesFollow, DiskFollows, IsRefusal}
 use Rattle.eql_find.specs.Starting.{disk_after}
 use Rattle.eql_find.proofs.GivingLemmas.{disk_told, keeps_none, keeps_some, then_faults, there}
 use Rattle.eql_find.proofs.find.run_start.Goals as goal
@@ -23,12 +23,12 @@ returns-clause-faults g c =
 
 pub returns-clause-absences : goal.returns-clause-absences
 returns-clause-absences g c =
-    subst (λ (n : ℕ). AbsenceAs c.run_over-ran.result (g.H.Shelf.absent_count c.args.shelf.now) n) (sym c.give_keep.ensures.kept.absences_are)
+    subst (λ (n : ℕ). AbsencesFollow c.run_over-ran.result (g.H.Shelf.absent_count c.args.shelf.now) n) (sym c.give_keep.ensures.kept.absences_are)
     c.run_over-ran.ensures.absences
 
 pub returns-clause-disk_count : goal.returns-clause-disk_count
 returns-clause-disk_count g c =
-    subst (λ (n : ℕ). DiskAs c.run_over-ran.result n (g.H.Shelf.disk_fault_count c.give_keep.new.shelf)) c.run_over-ran.ensures.kept.faults_are
+    subst (λ (n : ℕ). DiskFollows c.run_over-ran.result n (g.H.Shelf.disk_fault_count c.give_keep.new.shelf)) c.run_over-ran.ensures.kept.faults_are
     (disk_told g.H.Dsk.Disk.history g.H.Dsk.Disk.fault_count _ c.args.start.keep c.run_over-ran.new.keep c.run_over-ran.result _ _ c.requires.kept (record {
       none = λ gone. ap g.H.Shelf.disk_fault_count (c.give_keep.ensures.none gone);
       raised = c.give_keep.ensures.raised;
@@ -56,7 +56,7 @@ returns-clause-moments g c =
 pub returns-clause-cut_kept : goal.returns-clause-cut_kept
 returns-clause-cut_kept g c =
     let same = c.give_keep.ensures.taken.0 ∙ ap (λ (d : Option History). disk_after g.H.Dsk.Disk.history d c.run_over-ran.new.keep) c.run_over-ran.ensures.kept.history_is in
-    subst (λ (d : Option History). IfErr c.run_over-ran.result (λ halt. IsRefusal halt → DiskTells (Goes NoMore) (g.H.Shelf.disk_history c.args.shelf.now) d))
+    subst (λ (d : Option History). IfErr c.run_over-ran.result (λ halt. IsRefusal halt → DiskTells (Goes LeavesNoMore) (g.H.Shelf.disk_history c.args.shelf.now) d))
     (sym same) c.run_over-ran.ensures.cut_kept
 
 pub run_over-ran-requires : goal.run_over-ran-requires

@@ -9,7 +9,7 @@ use Rattle.eql_query.specs.QueryTree.{query_tree}
 use Rattle.eql_stages.specs.Judging.{reads_by}
 use Rattle.eql_stages.specs.Planned.{line_of, planned}
 use Rattle.eql_lane.specs.Slacks.{nanos_of}
-use Rattle.eql_words.specs.Bounds.{FindBounds}
+use Rattle.eql_words.specs.Bounds.{FindIsBounded}
 use Rattle.eql_runs.specs.Searches.{plan_of, rest_of}
 use Rattle.eql_search.specs.Beginnings.{MayBegin, MayKeepOn, cuts_of}
 use Rattle.eql_search.specs.Searches.{AreBegun, AreTextsOf, reads_by as lanes_read, slack_by}
@@ -26,14 +26,14 @@ use Rattle.eql_find.proofs.running.run_lanes.Goals as goal
 
 pub place_rest-requires : goal.place_rest-requires
 place_rest-requires g c =
-    let bounds : FindBounds c.args.find.now = search rules in
+    let bounds : FindIsBounded c.args.find.now = search rules in
     let b : BeginsRun g.S.Source.left reads_by g.D.Disk.history g.told c.args.find.now c.args.planning.now c.args.lanes.now.items c.args.rest c.args.head c.args.keep.now = search rules in
     let laws : BeginLaws = record { spans = c.spans_change_no_fit.ensures; lifted_is = c.lifted_lanes_are_placed.ensures; lifted_stands = c.lifted_cuts_fit.ensures.stand; lifted_fit = c.lifted_cuts_fit.ensures.fit; may_begin = c.cuts_may_begin.ensures } in
     record { ascend = lines_ascend laws c.args.find.now c.args.planning.now bounds c.args.lanes.now.items c.args.rest b.many g.told b.begun b.own b.began }
 
 pub search_lanes-requires : goal.search_lanes-requires
 search_lanes-requires g c =
-    let bounds : FindBounds c.args.find.now = search rules in
+    let bounds : FindIsBounded c.args.find.now = search rules in
     let b : BeginsRun g.S.Source.left reads_by g.D.Disk.history g.told c.args.find.now c.args.planning.now c.args.lanes.now.items c.args.rest c.args.head c.args.keep.now = search rules in
     let laws : BeginLaws = record { spans = c.spans_change_no_fit.ensures; lifted_is = c.lifted_lanes_are_placed.ensures; lifted_stands = c.lifted_cuts_fit.ensures.stand; lifted_fit = c.lifted_cuts_fit.ensures.fit; may_begin = c.cuts_may_begin.ensures } in
     let lanes = c.args.lanes.now.items in
@@ -63,7 +63,7 @@ search_lanes-requires g c =
 
 pub write_report-requires : goal.write_report-requires
 write_report-requires g c =
-    let bounds : FindBounds c.args.find.now = search rules in
+    let bounds : FindIsBounded c.args.find.now = search rules in
     let b : BeginsRun g.S.Source.left reads_by g.D.Disk.history g.told c.args.find.now c.args.planning.now c.args.lanes.now.items c.args.rest c.args.head c.args.keep.now = search rules in
     let laws : BeginLaws = record { spans = c.spans_change_no_fit.ensures; lifted_is = c.lifted_lanes_are_placed.ensures; lifted_stands = c.lifted_cuts_fit.ensures.stand; lifted_fit = c.lifted_cuts_fit.ensures.fit; may_begin = c.cuts_may_begin.ensures } in
     let lanes = c.args.lanes.now.items in
@@ -81,31 +81,31 @@ write_report-requires g c =
 
 pub returns-in-Err-clause-prefix : goal.returns-in-Err-clause-prefix
 returns-in-Err-clause-prefix g c =
-    let bounds : FindBounds c.args.find.now = search rules in
+    let bounds : FindIsBounded c.args.find.now = search rules in
     let b : BeginsRun g.S.Source.left reads_by g.D.Disk.history g.told c.args.find.now c.args.planning.now c.args.lanes.now.items c.args.rest c.args.head c.args.keep.now = search rules in
     fronts_none g.told _ (rest_of (search_in c.args.find.now c.args.planning.now) c.args.rest.book.listed) _
 
 pub returns-in-Err-clause-keeps : goal.returns-in-Err-clause-keeps
 returns-in-Err-clause-keeps g c =
-    let bounds : FindBounds c.args.find.now = search rules in
+    let bounds : FindIsBounded c.args.find.now = search rules in
     let b : BeginsRun g.S.Source.left reads_by g.D.Disk.history g.told c.args.find.now c.args.planning.now c.args.lanes.now.items c.args.rest c.args.head c.args.keep.now = search rules in
     keeps_nothing g.D.Disk.history (Unit {0}) c.args.head c.args.rest.mark _ (no_cuts (search_in c.args.find.now c.args.planning.now) g.told c.args.rest.book.listed (g.K.Sink.written c.args.out.now) (g.K.Sink.written c.args.out.now) _) c.args.keep.now _ (λ e. absurd cc)
 
 pub returns-in-Err-clause-lanes : goal.returns-in-Err-clause-lanes
 returns-in-Err-clause-lanes g c =
-    let bounds : FindBounds c.args.find.now = search rules in
+    let bounds : FindIsBounded c.args.find.now = search rules in
     let b : BeginsRun g.S.Source.left reads_by g.D.Disk.history g.told c.args.find.now c.args.planning.now c.args.lanes.now.items c.args.rest c.args.head c.args.keep.now = search rules in
     stays_taken g.S.Source.left g.S.Source.lent_as c.args.lanes.now.items c.place_rest.new.lanes.items c.place_rest.ensures.lanes
 
 pub returns-in-Err-clause-faults : goal.returns-in-Err-clause-faults
 returns-in-Err-clause-faults g c =
-    let bounds : FindBounds c.args.find.now = search rules in
+    let bounds : FindIsBounded c.args.find.now = search rules in
     let b : BeginsRun g.S.Source.left reads_by g.D.Disk.history g.told c.args.find.now c.args.planning.now c.args.lanes.now.items c.args.rest c.args.head c.args.keep.now = search rules in
     steady_taken c.args.lanes.now.items c.place_rest.new.lanes.items c.place_rest.ensures.lanes
 
 pub returns-in-Ok-write_report-clause-done : goal.returns-in-Ok-write_report-clause-done
 returns-in-Ok-write_report-clause-done g c =
-    let bounds : FindBounds c.args.find.now = search rules in
+    let bounds : FindIsBounded c.args.find.now = search rules in
     let b : BeginsRun g.S.Source.left reads_by g.D.Disk.history g.told c.args.find.now c.args.planning.now c.args.lanes.now.items c.args.rest c.args.head c.args.keep.now = search rules in
     let laws : BeginLaws = record { spans = c.spans_change_no_fit.ensures; lifted_is = c.lifted_lanes_are_placed.ensures; lifted_stands = c.lifted_cuts_fit.ensures.stand; lifted_fit = c.lifted_cuts_fit.ensures.fit; may_begin = c.cuts_may_begin.ensures } in
     let lanes = c.args.lanes.now.items in
@@ -119,7 +119,7 @@ returns-in-Ok-write_report-clause-done g c =
 
 pub returns-in-Ok-write_report-clause-keeps : goal.returns-in-Ok-write_report-clause-keeps
 returns-in-Ok-write_report-clause-keeps g c =
-    let bounds : FindBounds c.args.find.now = search rules in
+    let bounds : FindIsBounded c.args.find.now = search rules in
     let b : BeginsRun g.S.Source.left reads_by g.D.Disk.history g.told c.args.find.now c.args.planning.now c.args.lanes.now.items c.args.rest c.args.head c.args.keep.now = search rules in
     let laws : BeginLaws = record { spans = c.spans_change_no_fit.ensures; lifted_is = c.lifted_lanes_are_placed.ensures; lifted_stands = c.lifted_cuts_fit.ensures.stand; lifted_fit = c.lifted_cuts_fit.ensures.fit; may_begin = c.cuts_may_begin.ensures } in
     let lanes = c.args.lanes.now.items in
@@ -134,7 +134,7 @@ returns-in-Ok-write_report-clause-keeps g c =
 
 pub returns-in-Ok-write_report-clause-lanes : goal.returns-in-Ok-write_report-clause-lanes
 returns-in-Ok-write_report-clause-lanes g c =
-    let bounds : FindBounds c.args.find.now = search rules in
+    let bounds : FindIsBounded c.args.find.now = search rules in
     let b : BeginsRun g.S.Source.left reads_by g.D.Disk.history g.told c.args.find.now c.args.planning.now c.args.lanes.now.items c.args.rest c.args.head c.args.keep.now = search rules in
     let laws : BeginLaws = record { spans = c.spans_change_no_fit.ensures; lifted_is = c.lifted_lanes_are_placed.ensures; lifted_stands = c.lifted_cuts_fit.ensures.stand; lifted_fit = c.lifted_cuts_fit.ensures.fit; may_begin = c.cuts_may_begin.ensures } in
     let lanes = c.args.lanes.now.items in
@@ -148,7 +148,7 @@ returns-in-Ok-write_report-clause-lanes g c =
 
 pub returns-in-Ok-write_report-clause-faults : goal.returns-in-Ok-write_report-clause-faults
 returns-in-Ok-write_report-clause-faults g c =
-    let bounds : FindBounds c.args.find.now = search rules in
+    let bounds : FindIsBounded c.args.find.now = search rules in
     let b : BeginsRun g.S.Source.left reads_by g.D.Disk.history g.told c.args.find.now c.args.planning.now c.args.lanes.now.items c.args.rest c.args.head c.args.keep.now = search rules in
     let laws : BeginLaws = record { spans = c.spans_change_no_fit.ensures; lifted_is = c.lifted_lanes_are_placed.ensures; lifted_stands = c.lifted_cuts_fit.ensures.stand; lifted_fit = c.lifted_cuts_fit.ensures.fit; may_begin = c.cuts_may_begin.ensures } in
     let lanes = c.args.lanes.now.items in
@@ -162,7 +162,7 @@ returns-in-Ok-write_report-clause-faults g c =
 
 pub returns-in-Err-write_report-clause-prefix : goal.returns-in-Err-write_report-clause-prefix
 returns-in-Err-write_report-clause-prefix g c =
-    let bounds : FindBounds c.args.find.now = search rules in
+    let bounds : FindIsBounded c.args.find.now = search rules in
     let b : BeginsRun g.S.Source.left reads_by g.D.Disk.history g.told c.args.find.now c.args.planning.now c.args.lanes.now.items c.args.rest c.args.head c.args.keep.now = search rules in
     let laws : BeginLaws = record { spans = c.spans_change_no_fit.ensures; lifted_is = c.lifted_lanes_are_placed.ensures; lifted_stands = c.lifted_cuts_fit.ensures.stand; lifted_fit = c.lifted_cuts_fit.ensures.fit; may_begin = c.cuts_may_begin.ensures } in
     let lanes = c.args.lanes.now.items in
@@ -176,7 +176,7 @@ returns-in-Err-write_report-clause-prefix g c =
 
 pub returns-in-Err-write_report-clause-listed : goal.returns-in-Err-write_report-clause-listed
 returns-in-Err-write_report-clause-listed g c =
-    let bounds : FindBounds c.args.find.now = search rules in
+    let bounds : FindIsBounded c.args.find.now = search rules in
     let b : BeginsRun g.S.Source.left reads_by g.D.Disk.history g.told c.args.find.now c.args.planning.now c.args.lanes.now.items c.args.rest c.args.head c.args.keep.now = search rules in
     let laws : BeginLaws = record { spans = c.spans_change_no_fit.ensures; lifted_is = c.lifted_lanes_are_placed.ensures; lifted_stands = c.lifted_cuts_fit.ensures.stand; lifted_fit = c.lifted_cuts_fit.ensures.fit; may_begin = c.cuts_may_begin.ensures } in
     let lanes = c.args.lanes.now.items in
@@ -190,7 +190,7 @@ returns-in-Err-write_report-clause-listed g c =
 
 pub returns-in-Err-write_report-clause-cause : goal.returns-in-Err-write_report-clause-cause
 returns-in-Err-write_report-clause-cause g c =
-    let bounds : FindBounds c.args.find.now = search rules in
+    let bounds : FindIsBounded c.args.find.now = search rules in
     let b : BeginsRun g.S.Source.left reads_by g.D.Disk.history g.told c.args.find.now c.args.planning.now c.args.lanes.now.items c.args.rest c.args.head c.args.keep.now = search rules in
     let laws : BeginLaws = record { spans = c.spans_change_no_fit.ensures; lifted_is = c.lifted_lanes_are_placed.ensures; lifted_stands = c.lifted_cuts_fit.ensures.stand; lifted_fit = c.lifted_cuts_fit.ensures.fit; may_begin = c.cuts_may_begin.ensures } in
     let lanes = c.args.lanes.now.items in
@@ -204,7 +204,7 @@ returns-in-Err-write_report-clause-cause g c =
 
 pub returns-in-Err-write_report-clause-keeps : goal.returns-in-Err-write_report-clause-keeps
 returns-in-Err-write_report-clause-keeps g c =
-    let bounds : FindBounds c.args.find.now = search rules in
+    let bounds : FindIsBounded c.args.find.now = search rules in
     let b : BeginsRun g.S.Source.left reads_by g.D.Disk.history g.told c.args.find.now c.args.planning.now c.args.lanes.now.items c.args.rest c.args.head c.args.keep.now = search rules in
     let laws : BeginLaws = record { spans = c.spans_change_no_fit.ensures; lifted_is = c.lifted_lanes_are_placed.ensures; lifted_stands = c.lifted_cuts_fit.ensures.stand; lifted_fit = c.lifted_cuts_fit.ensures.fit; may_begin = c.cuts_may_begin.ensures } in
     let lanes = c.args.lanes.now.items in
@@ -219,7 +219,7 @@ returns-in-Err-write_report-clause-keeps g c =
 
 pub returns-in-Err-write_report-clause-lanes : goal.returns-in-Err-write_report-clause-lanes
 returns-in-Err-write_report-clause-lanes g c =
-    let bounds : FindBounds c.args.find.now = search rules in
+    let bounds : FindIsBounded c.args.find.now = search rules in
     let b : BeginsRun g.S.Source.left reads_by g.D.Disk.history g.told c.args.find.now c.args.planning.now c.args.lanes.now.items c.args.rest c.args.head c.args.keep.now = search rules in
     let laws : BeginLaws = record { spans = c.spans_change_no_fit.ensures; lifted_is = c.lifted_lanes_are_placed.ensures; lifted_stands = c.lifted_cuts_fit.ensures.stand; lifted_fit = c.lifted_cuts_fit.ensures.fit; may_begin = c.cuts_may_begin.ensures } in
     let lanes = c.args.lanes.now.items in
@@ -233,7 +233,7 @@ returns-in-Err-write_report-clause-lanes g c =
 
 pub returns-in-Err-write_report-clause-faults : goal.returns-in-Err-write_report-clause-faults
 returns-in-Err-write_report-clause-faults g c =
-    let bounds : FindBounds c.args.find.now = search rules in
+    let bounds : FindIsBounded c.args.find.now = search rules in
     let b : BeginsRun g.S.Source.left reads_by g.D.Disk.history g.told c.args.find.now c.args.planning.now c.args.lanes.now.items c.args.rest c.args.head c.args.keep.now = search rules in
     let laws : BeginLaws = record { spans = c.spans_change_no_fit.ensures; lifted_is = c.lifted_lanes_are_placed.ensures; lifted_stands = c.lifted_cuts_fit.ensures.stand; lifted_fit = c.lifted_cuts_fit.ensures.fit; may_begin = c.cuts_may_begin.ensures } in
     let lanes = c.args.lanes.now.items in
@@ -247,7 +247,7 @@ returns-in-Err-write_report-clause-faults g c =
 
 pub returns-in-Err-search_lanes-clause-prefix : goal.returns-in-Err-search_lanes-clause-prefix
 returns-in-Err-search_lanes-clause-prefix g c =
-    let bounds : FindBounds c.args.find.now = search rules in
+    let bounds : FindIsBounded c.args.find.now = search rules in
     let b : BeginsRun g.S.Source.left reads_by g.D.Disk.history g.told c.args.find.now c.args.planning.now c.args.lanes.now.items c.args.rest c.args.head c.args.keep.now = search rules in
     let laws : BeginLaws = record { spans = c.spans_change_no_fit.ensures; lifted_is = c.lifted_lanes_are_placed.ensures; lifted_stands = c.lifted_cuts_fit.ensures.stand; lifted_fit = c.lifted_cuts_fit.ensures.fit; may_begin = c.cuts_may_begin.ensures } in
     let lanes = c.args.lanes.now.items in
@@ -261,7 +261,7 @@ returns-in-Err-search_lanes-clause-prefix g c =
 
 pub returns-in-Err-search_lanes-clause-listed : goal.returns-in-Err-search_lanes-clause-listed
 returns-in-Err-search_lanes-clause-listed g c =
-    let bounds : FindBounds c.args.find.now = search rules in
+    let bounds : FindIsBounded c.args.find.now = search rules in
     let b : BeginsRun g.S.Source.left reads_by g.D.Disk.history g.told c.args.find.now c.args.planning.now c.args.lanes.now.items c.args.rest c.args.head c.args.keep.now = search rules in
     let laws : BeginLaws = record { spans = c.spans_change_no_fit.ensures; lifted_is = c.lifted_lanes_are_placed.ensures; lifted_stands = c.lifted_cuts_fit.ensures.stand; lifted_fit = c.lifted_cuts_fit.ensures.fit; may_begin = c.cuts_may_begin.ensures } in
     let lanes = c.args.lanes.now.items in
@@ -275,7 +275,7 @@ returns-in-Err-search_lanes-clause-listed g c =
 
 pub returns-in-Err-search_lanes-clause-keeps : goal.returns-in-Err-search_lanes-clause-keeps
 returns-in-Err-search_lanes-clause-keeps g c =
-    let bounds : FindBounds c.args.find.now = search rules in
+    let bounds : FindIsBounded c.args.find.now = search rules in
     let b : BeginsRun g.S.Source.left reads_by g.D.Disk.history g.told c.args.find.now c.args.planning.now c.args.lanes.now.items c.args.rest c.args.head c.args.keep.now = search rules in
     let laws : BeginLaws = record { spans = c.spans_change_no_fit.ensures; lifted_is = c.lifted_lanes_are_placed.ensures; lifted_stands = c.lifted_cuts_fit.ensures.stand; lifted_fit = c.lifted_cuts_fit.ensures.fit; may_begin = c.cuts_may_begin.ensures } in
     let lanes = c.args.lanes.now.items in
@@ -290,7 +290,7 @@ returns-in-Err-search_lanes-clause-keeps g c =
 
 pub returns-in-Err-search_lanes-clause-cause : goal.returns-in-Err-search_lanes-clause-cause
 returns-in-Err-search_lanes-clause-cause g c =
-    let bounds : FindBounds c.args.find.now = search rules in
+    let bounds : FindIsBounded c.args.find.now = search rules in
     let b : BeginsRun g.S.Source.left reads_by g.D.Disk.history g.told c.args.find.now c.args.planning.now c.args.lanes.now.items c.args.rest c.args.head c.args.keep.now = search rules in
     let laws : BeginLaws = record { spans = c.spans_change_no_fit.ensures; lifted_is = c.lifted_lanes_are_placed.ensures; lifted_stands = c.lifted_cuts_fit.ensures.stand; lifted_fit = c.lifted_cuts_fit.ensures.fit; may_begin = c.cuts_may_begin.ensures } in
     let lanes = c.args.lanes.now.items in
@@ -307,7 +307,7 @@ returns-in-Err-search_lanes-clause-cause g c =
 
 pub returns-in-Err-search_lanes-clause-lanes : goal.returns-in-Err-search_lanes-clause-lanes
 returns-in-Err-search_lanes-clause-lanes g c =
-    let bounds : FindBounds c.args.find.now = search rules in
+    let bounds : FindIsBounded c.args.find.now = search rules in
     let b : BeginsRun g.S.Source.left reads_by g.D.Disk.history g.told c.args.find.now c.args.planning.now c.args.lanes.now.items c.args.rest c.args.head c.args.keep.now = search rules in
     let laws : BeginLaws = record { spans = c.spans_change_no_fit.ensures; lifted_is = c.lifted_lanes_are_placed.ensures; lifted_stands = c.lifted_cuts_fit.ensures.stand; lifted_fit = c.lifted_cuts_fit.ensures.fit; may_begin = c.cuts_may_begin.ensures } in
     let lanes = c.args.lanes.now.items in
@@ -321,7 +321,7 @@ returns-in-Err-search_lanes-clause-lanes g c =
 
 pub returns-in-Err-search_lanes-clause-faults : goal.returns-in-Err-search_lanes-clause-faults
 returns-in-Err-search_lanes-clause-faults g c =
-    let bounds : FindBounds c.args.find.now = search rules in
+    let bounds : FindIsBounded c.args.find.now = search rules in
     let b : BeginsRun g.S.Source.left reads_by g.D.Disk.history g.told c.args.find.now c.args.planning.now c.args.lanes.now.items c.args.rest c.args.head c.args.keep.now = search rules in
     let laws : BeginLaws = record { spans = c.spans_change_no_fit.ensures; lifted_is = c.lifted_lanes_are_placed.ensures; lifted_stands = c.lifted_cuts_fit.ensures.stand; lifted_fit = c.lifted_cuts_fit.ensures.fit; may_begin = c.cuts_may_begin.ensures } in
     let lanes = c.args.lanes.now.items in
@@ -336,7 +336,7 @@ returns-in-Err-search_lanes-clause-faults g c =
 
 pub returns-in-Err-search_lanes-clause-disk : goal.returns-in-Err-search_lanes-clause-disk
 returns-in-Err-search_lanes-clause-disk g c =
-    let bounds : FindBounds c.args.find.now = search rules in
+    let bounds : FindIsBounded c.args.find.now = search rules in
     let b : BeginsRun g.S.Source.left reads_by g.D.Disk.history g.told c.args.find.now c.args.planning.now c.args.lanes.now.items c.args.rest c.args.head c.args.keep.now = search rules in
     let laws : BeginLaws = record { spans = c.spans_change_no_fit.ensures; lifted_is = c.lifted_lanes_are_placed.ensures; lifted_stands = c.lifted_cuts_fit.ensures.stand; lifted_fit = c.lifted_cuts_fit.ensures.fit; may_begin = c.cuts_may_begin.ensures } in
     let lanes = c.args.lanes.now.items in
@@ -352,7 +352,7 @@ returns-in-Err-search_lanes-clause-disk g c =
 
 pub returns-in-Err-search_lanes-clause-out : goal.returns-in-Err-search_lanes-clause-out
 returns-in-Err-search_lanes-clause-out g c =
-    let bounds : FindBounds c.args.find.now = search rules in
+    let bounds : FindIsBounded c.args.find.now = search rules in
     let b : BeginsRun g.S.Source.left reads_by g.D.Disk.history g.told c.args.find.now c.args.planning.now c.args.lanes.now.items c.args.rest c.args.head c.args.keep.now = search rules in
     let laws : BeginLaws = record { spans = c.spans_change_no_fit.ensures; lifted_is = c.lifted_lanes_are_placed.ensures; lifted_stands = c.lifted_cuts_fit.ensures.stand; lifted_fit = c.lifted_cuts_fit.ensures.fit; may_begin = c.cuts_may_begin.ensures } in
     let lanes = c.args.lanes.now.items in
@@ -368,7 +368,7 @@ returns-in-Err-search_lanes-clause-out g c =
 
 pub returns-in-Err-search_lanes-clause-err : goal.returns-in-Err-search_lanes-clause-err
 returns-in-Err-search_lanes-clause-err g c =
-    let bounds : FindBounds c.args.find.now = search rules in
+    let bounds : FindIsBounded c.args.find.now = search rules in
     let b : BeginsRun g.S.Source.left reads_by g.D.Disk.history g.told c.args.find.now c.args.planning.now c.args.lanes.now.items c.args.rest c.args.head c.args.keep.now = search rules in
     let laws : BeginLaws = record { spans = c.spans_change_no_fit.ensures; lifted_is = c.lifted_lanes_are_placed.ensures; lifted_stands = c.lifted_cuts_fit.ensures.stand; lifted_fit = c.lifted_cuts_fit.ensures.fit; may_begin = c.cuts_may_begin.ensures } in
     let lanes = c.args.lanes.now.items in
@@ -382,7 +382,7 @@ returns-in-Err-search_lanes-clause-err g c =
 
 pub returns-in-Err-search_lanes-clause-unfailing : goal.returns-in-Err-search_lanes-clause-unfailing
 returns-in-Err-search_lanes-clause-unfailing g c =
-    let bounds : FindBounds c.args.find.now = search rules in
+    let bounds : FindIsBounded c.args.find.now = search rules in
     let b : BeginsRun g.S.Source.left reads_by g.D.Disk.history g.told c.args.find.now c.args.planning.now c.args.lanes.now.items c.args.rest c.args.head c.args.keep.now = search rules in
     let laws : BeginLaws = record { spans = c.spans_change_no_fit.ensures; lifted_is = c.lifted_lanes_are_placed.ensures; lifted_stands = c.lifted_cuts_fit.ensures.stand; lifted_fit = c.lifted_cuts_fit.ensures.fit; may_begin = c.cuts_may_begin.ensures } in
     let lanes = c.args.lanes.now.items in

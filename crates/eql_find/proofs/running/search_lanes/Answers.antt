@@ -6,7 +6,7 @@ use Rattle.eql_laws.specs.Books.{greatest_shards}
 use Rattle.eql_stages.specs.Judging.{reads_by}
 use Rattle.eql_stages.specs.Planned.{line_of, planned}
 use Rattle.eql_lane.specs.Slacks.{nanos_of}
-use Rattle.eql_words.specs.Bounds.{FindBounds}
+use Rattle.eql_words.specs.Bounds.{FindIsBounded}
 use Rattle.eql_conductor.specs.declared.plan.RunPlan.{RunPlan}
 use Rattle.eql_runs.specs.Searches.{rest_of}
 use Rattle.eql_search.specs.Beginnings.{MayKeepOn}
@@ -28,7 +28,7 @@ book_of-requires g c =
 
 pub search-requires : goal.search-requires
 search-requires g c =
-    let bounds : FindBounds c.args.find.now = search rules in
+    let bounds : FindIsBounded c.args.find.now = search rules in
     let many : length c.args.lanes.now.items ≡ length c.args.find.now.shards = search rules in
     let most = bounds.count.1 in
     let few : length c.args.lanes.now.items ≤ greatest_shards = omega (arith, most, many) in
@@ -103,7 +103,7 @@ search-requires g c =
 
 pub returns-in-Ok-clause-whole : goal.returns-in-Ok-clause-whole
 returns-in-Ok-clause-whole g c =
-    let bounds : FindBounds c.args.find.now = search rules in
+    let bounds : FindIsBounded c.args.find.now = search rules in
     let many : length c.args.lanes.now.items ≡ length c.args.find.now.shards = search rules in
     let most = bounds.count.1 in
     let few : length c.args.lanes.now.items ≤ greatest_shards = omega (arith, most, many) in
@@ -116,7 +116,7 @@ returns-in-Ok-clause-whole g c =
 
 pub returns-in-Ok-clause-front : goal.returns-in-Ok-clause-front
 returns-in-Ok-clause-front g c =
-    let bounds : FindBounds c.args.find.now = search rules in
+    let bounds : FindIsBounded c.args.find.now = search rules in
     let many : length c.args.lanes.now.items ≡ length c.args.find.now.shards = search rules in
     let most = bounds.count.1 in
     let few : length c.args.lanes.now.items ≤ greatest_shards = omega (arith, most, many) in
@@ -129,7 +129,7 @@ returns-in-Ok-clause-front g c =
 
 pub returns-in-Ok-clause-read : goal.returns-in-Ok-clause-read
 returns-in-Ok-clause-read g c =
-    let bounds : FindBounds c.args.find.now = search rules in
+    let bounds : FindIsBounded c.args.find.now = search rules in
     let many : length c.args.lanes.now.items ≡ length c.args.find.now.shards = search rules in
     let most = bounds.count.1 in
     let few : length c.args.lanes.now.items ≤ greatest_shards = omega (arith, most, many) in
@@ -142,7 +142,7 @@ returns-in-Ok-clause-read g c =
 
 pub returns-in-Ok-clause-keeps : goal.returns-in-Ok-clause-keeps
 returns-in-Ok-clause-keeps g c =
-    let bounds : FindBounds c.args.find.now = search rules in
+    let bounds : FindIsBounded c.args.find.now = search rules in
     let many : length c.args.lanes.now.items ≡ length c.args.find.now.shards = search rules in
     let most = bounds.count.1 in
     let few : length c.args.lanes.now.items ≤ greatest_shards = omega (arith, most, many) in

@@ -1,6 +1,6 @@
 use Rattle.std.proofs.Common.{◌≡◌, ◌≤◌, take, length, vec_len}
 use Rattle.std.specs.Prelude.{All, map, Some, vec_capacity}
-use Rattle.eql_outside.specs.Faults.{SameFaults}
+use Rattle.eql_outside.specs.Faults.{FaultsAreSame}
 use Rattle.eql_outside.specs.Unfailing.{IsUnfailing}
 use Rattle.eql_inputs.specs.Shards.{AreWholeFiles}
 use Rattle.eql_inputs.specs.Shelves.{KeepsShelf, LendsMore, NeverFails}
@@ -14,7 +14,7 @@ invariant-loop-name g l = record {
   fresh : All (λ source. g.H.Src.Source.fault_count source ≡ 0) l.sources.items;
   size : vec_len l.sources ≡ l.name-index;
   room : length l.shards ≤ vec_capacity l.sources;
-  faults : SameFaults (g.H.Shelf.faults_of l.fn.shelf) (g.H.Shelf.faults_of l.shelf);
+  faults : FaultsAreSame (g.H.Shelf.faults_of l.fn.shelf) (g.H.Shelf.faults_of l.shelf);
   count : g.H.Shelf.fault_count l.shelf ≡ g.H.Shelf.fault_count l.fn.shelf;
   absences : g.H.Shelf.absent_count l.shelf ≡ g.H.Shelf.absent_count l.fn.shelf;
   kept : KeepsShelf g.H.Shelf.files g.H.Shelf.source_plans g.H.Shelf.disk_history g.H.Shelf.is_out g.H.Shelf.disk_fault_count g.H.Shelf.disk_plan l.fn.shelf l.shelf;

@@ -14,7 +14,7 @@ use Rattle.eql_merge.proofs.fronts.merge_fronts.Goals.{then-not-in_order+in_ok-s
 pub loop-front-preserved : goal.loop-front-preserved
 loop-front-preserved g c =
     let rest = c.pop_front.new.self.items in
-    let new = c.take_first.new.fronts.items in
+    let new = c.take_of_front.new.fronts.items in
     record {
       all = as_before (joined c.args.lists.items) c.loop-front.merged.items c.in-Some.front c.loop-front.fronts.items rest new (c.in-Some.ensures {u = tt}).items c.loop-front.invariant.all
           (subst (λ (o : Option g.row.T.Denot). IsPermutation (c.in-Some.front ++ joined rest) (option_to_list o ++ joined new)) c.in_default-2.is (c.in_ok-value.ensures {u = tt}).all);
@@ -25,7 +25,7 @@ pub loop-front-preserved-in-Some-2 : goal.loop-front-preserved-in-Some-2
 loop-front-preserved-in-Some-2 g c =
     let whole = joined c.args.lists.items in
     let rest = c.pop_front.new.self.items in
-    let new = c.take_first.new.fronts.items in
+    let new = c.take_of_front.new.fronts.items in
     let added = c.in_ok-in_order.ensures {u = tt} in
     record {
       all = subst (λ (l : List g.row.T.Denot). IsPermutation whole (l ++ joined new)) (sym {A = List g.row.T.Denot} added.items)

@@ -1,5 +1,5 @@
 use Rattle.std.proofs.Common.{List, subst, sym}
-use Rattle.eql_merge.specs.Ranks.{NoTies}
+use Rattle.eql_merge.specs.Ranks.{HaveNoTies}
 use Rattle.eql_merge.proofs.Splits.{parts_stand}
 use Rattle.eql_merge.proofs.FirstLists.{first_put}
 use Rattle.eql_merge.proofs.groups.merge_first.Goals as goal
@@ -7,7 +7,7 @@ use Rattle.eql_merge.proofs.groups.merge_first.Goals as goal
 pub merge_at_once-requires-clause-apart : goal.merge_at_once-requires-clause-apart
 merge_at_once-requires-clause-apart g c =
     let R = g.T.Ranked.rank in
-    subst (NoTies R) (sym {A = List (List g.row.T.Denot)} (c.in_ok-rest.ensures {u = tt}).items)
+    subst (HaveNoTies R) (sym {A = List (List g.row.T.Denot)} (c.in_ok-rest.ensures {u = tt}).items)
     (parts_stand R c.args.first c.args.lists.items c.requires.ascend c.requires.apart).apart.earlier
 
 pub returns-clause-ascend : goal.returns-clause-ascend

@@ -7,7 +7,7 @@ use Rattle.eql_values.specs.declared.item.Route.{Route}
 use Rattle.eql_values.specs.declared.value.Value.{Value}
 use Rattle.eql_values.specs.Orders.{key_eq}
 use Rattle.eql_laws.specs.OneEvent.{slots_after_event}
-use Rattle.eql_auto.specs.Machine.{AllBefore}
+use Rattle.eql_auto.specs.Machine.{AllAreBefore}
 use Rattle.eql_part.specs.Rooms.{entries_of}
 use Rattle.eql_part.specs.KeyTables.{machine_of, sequences_in, slots_in}
 use Rattle.eql_part.specs.Links.{IsLinked}
@@ -30,7 +30,7 @@ turn_all-requires-clause-linked g c =
 
 pub turn_all-requires-clause-later : goal.turn_all-requires-clause-later
 turn_all-requires-clause-later g c = λ key k.
-    subst (λ (o : Option (List OrderKey)). IfSome o (AllBefore c.args.order)) (sym (slots_alike (entries_of c.args.machines.now) (entries_of c.prepare_all.new.machines) key k c.in-Ok.ensures.sequences)) (c.requires.later key k)
+    subst (λ (o : Option (List OrderKey)). IfSome o (AllAreBefore c.args.order)) (sym (slots_alike (entries_of c.args.machines.now) (entries_of c.prepare_all.new.machines) key k c.in-Ok.ensures.sequences)) (c.requires.later key k)
 
 pub returns-in-Ok-clause-slots : goal.returns-in-Ok-clause-slots
 returns-in-Ok-clause-slots g c = λ key k lt.

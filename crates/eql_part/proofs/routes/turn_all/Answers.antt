@@ -11,10 +11,10 @@ use Rattle.eql_values.specs.declared.order.OrderKey.{OrderKey}
 use Rattle.eql_values.specs.Masks.{has_stage}
 use Rattle.eql_values.specs.Matching.{act_by}
 use Rattle.eql_values.specs.Orders.{key_eq}
-use Rattle.eql_values.specs.Routes.{RoutesInOrder}
+use Rattle.eql_values.specs.Routes.{RoutesAreInOrder}
 use Rattle.eql_laws.specs.OneEvent.{slots_after_event}
 use Rattle.eql_laws.specs.Slots.{chain_coming}
-use Rattle.eql_auto.specs.Machine.{Machine, AllBefore}
+use Rattle.eql_auto.specs.Machine.{Machine, AllAreBefore}
 use Rattle.eql_span_list.specs.declared.node.Ticket.{Ticket}
 use Rattle.eql_part.specs.Rooms.{entries_of}
 use Rattle.eql_part.specs.KeyTables.{AreBusyBut, IsReadyIn, machine_of, probes_of_all, sequences_in, slots_in, slots_of}
@@ -75,7 +75,7 @@ turn_key-completed-requires-clause-later g c =
     let more = one_left c.deref-route-items.result.now routes i route c.deref-route-items.ensures.value c.loop-route-test.true c.route-item.is in
     let here = All-head (λ (r : Route). machine_of (entries_of c.loop-route.machines) r.key ≡ machine_of (entries_of c.args.machines.now) r.key) route rest
     (subst (All (λ (r : Route). machine_of (entries_of c.loop-route.machines) r.key ≡ machine_of (entries_of c.args.machines.now) r.key)) more c.loop-route.invariant.same) in
-    subst (λ (o : Option (Machine Ticket)). (k : ℕ) → IfSome (slots_of o k) (AllBefore c.args.order)) (sym here) (c.requires.later route.key)
+    subst (λ (o : Option (Machine Ticket)). (k : ℕ) → IfSome (slots_of o k) (AllAreBefore c.args.order)) (sym here) (c.requires.later route.key)
 
 pub turn_key-completed-requires-clause-tagged : goal.turn_key-completed-requires-clause-tagged
 turn_key-completed-requires-clause-tagged g c =
@@ -118,7 +118,7 @@ loop-route-preserved g c =
     let here = All-head (λ (r : Route). machine_of (entries_of c.loop-route.machines) r.key ≡ machine_of (entries_of c.args.machines.now) r.key) route rest
     (subst (All (λ (r : Route). machine_of (entries_of c.loop-route.machines) r.key ≡ machine_of (entries_of c.args.machines.now) r.key)) more c.loop-route.invariant.same) in
     let same = subst (All (λ (r : Route). machine_of (entries_of c.loop-route.machines) r.key ≡ machine_of (entries_of c.args.machines.now) r.key)) more c.loop-route.invariant.same in
-    let in_order : RoutesInOrder (route ∷ rest) = subst RoutesInOrder more c.loop-route.invariant.order in
+    let in_order : RoutesAreInOrder (route ∷ rest) = subst RoutesAreInOrder more c.loop-route.invariant.order in
     let count = c.loop-route.invariant.count in let room = c.loop-route.invariant.room in let left = c.loop-route.invariant.left in
     let longer = c.add_match.ensures.len in let grown = c.add_match.ensures.room in
     let fewer = (c.in-Some.ensures {u = tt}).cases.1 in

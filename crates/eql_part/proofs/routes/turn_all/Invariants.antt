@@ -5,7 +5,7 @@ use Rattle.std.specs.Vec.Iter.{into_iter_items, into_iter_len}
 use Rattle.eql_values.specs.declared.item.Route.{Route}
 use Rattle.eql_values.specs.declared.value.Value.{Value}
 use Rattle.eql_values.specs.Orders.{key_eq}
-use Rattle.eql_values.specs.Routes.{RoutesInOrder}
+use Rattle.eql_values.specs.Routes.{RoutesAreInOrder}
 use Rattle.eql_laws.specs.OneEvent.{slots_after_event}
 use Rattle.eql_part.specs.Rooms.{IsTable, entries_of}
 use Rattle.eql_part.specs.KeyTables.{AreBusyBut, AreOf, machine_of, probes_of_all, sequences_in, slots_in}
@@ -17,7 +17,7 @@ abbrev pub invariant-loop-route : goal.invariant-loop-route
 invariant-loop-route g l = record {
   of : AreOf l.shape.stages l.shape.span (entries_of l.machines);
   table : IsTable l.shape.stages l.shape.span l.machines;
-  order : RoutesInOrder (drop l.route-index l.routes.items);
+  order : RoutesAreInOrder (drop l.route-index l.routes.items);
   same : All (λ (route : Route). machine_of (entries_of l.machines) route.key ≡ machine_of (entries_of l.fn.machines) route.key) (drop l.route-index l.routes.items);
   slots : (key : List Value) (k : ℕ) → suc k < l.shape.stages
       → slots_after_event l.shape.span l.order (find (λ (route : Route). key_eq key route.key) (drop l.route-index l.routes.items)) (slots_in (entries_of l.machines) key) (suc k)

@@ -5,7 +5,7 @@ use Rattle.std.proofs.lemmas.List.Elements.{All-cons, All-nil}
 use Rattle.eql_values.specs.declared.order.OrderKey.{OrderKey}
 use Rattle.eql_values.specs.Matching.{act_by}
 use Rattle.eql_laws.specs.Slots.{slots_after}
-use Rattle.eql_auto.specs.Machine.{AllBefore}
+use Rattle.eql_auto.specs.Machine.{AllAreBefore}
 use Rattle.eql_span_list.specs.declared.node.Ticket.{Ticket}
 use Rattle.eql_part.specs.Rooms.{entries_of}
 use Rattle.eql_part.specs.KeyTables.{IsIdle, slots_in}
@@ -22,7 +22,7 @@ use Rattle.eql_part.proofs.single.play_one.Goals as goal
 pub play_there-requires-clause-later : goal.play_there-requires-clause-later
 play_there-requires-clause-later g c = λ key k.
     let es = entries_of c.args.machines.now in let one = entries_of c.room_for.new.machines in
-    subst (λ (o : Option (List OrderKey)). IfSome o (AllBefore c.args.order)) (sym (slots_alike es one key k c.room_for.ensures.sequences)) (c.requires.later key k)
+    subst (λ (o : Option (List OrderKey)). IfSome o (AllAreBefore c.args.order)) (sym (slots_alike es one key k c.room_for.ensures.sequences)) (c.requires.later key k)
 
 pub play_there-requires-clause-linked : goal.play_there-requires-clause-linked
 play_there-requires-clause-linked g c =

@@ -4,7 +4,7 @@ use Rattle.std.specs.Option.{option_map, option_to_list}
 use Rattle.std.proofs.lemmas.Result.{IfOk-weaker, on_err_weaker, on_ok_weaker}
 use Rattle.eql_values.specs.Matching.{act_by}
 use Rattle.eql_laws.specs.Slots.{chain_coming, slots_after}
-use Rattle.eql_auto.specs.Machine.{Machine, AllBefore, tags_of}
+use Rattle.eql_auto.specs.Machine.{Machine, AllAreBefore, tags_of}
 use Rattle.eql_span_list.specs.declared.node.Ticket.{Ticket}
 use Rattle.eql_part.specs.KeyTables.{IsOf, sequences_in, slots_of}
 use Rattle.eql_part.specs.Links.{IsLinked, Listed}
@@ -29,7 +29,7 @@ pub play_machine-requires-clause-later : goal.play_machine-requires-clause-later
 play_machine-requires-clause-later g c =
     let m = c.args.shape.stages in let span = c.args.shape.span in let t = c.args.machines.now in let key = c.args.route.now.key in let room = c.index_mut-room.result.now in
     let found = found_by m span t key c.args.place room c.requires.table c.requires.there c.index_mut-room.ensures.value in
-    later_slots c.args.order room.machine (subst (λ (o : Option (Machine Ticket)). (k : ℕ) → IfSome (slots_of o k) (AllBefore c.args.order)) found (c.requires.later key))
+    later_slots c.args.order room.machine (subst (λ (o : Option (Machine Ticket)). (k : ℕ) → IfSome (slots_of o k) (AllAreBefore c.args.order)) found (c.requires.later key))
 
 pub play_machine-requires-clause-joins : goal.play_machine-requires-clause-joins
 play_machine-requires-clause-joins g c =

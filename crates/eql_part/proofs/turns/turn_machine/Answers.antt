@@ -3,7 +3,7 @@ use Rattle.std.specs.Prelude.{All, IfSome}
 use Rattle.std.specs.Option.{option_to_list}
 use Rattle.eql_values.specs.Matching.{act_by}
 use Rattle.eql_laws.specs.Slots.{chain_coming, slots_after}
-use Rattle.eql_auto.specs.Machine.{Machine, AllBefore, tags_of}
+use Rattle.eql_auto.specs.Machine.{Machine, AllAreBefore, tags_of}
 use Rattle.eql_span_list.specs.declared.node.Ticket.{Ticket}
 use Rattle.eql_span_list.specs.Entries.{HasTicket}
 use Rattle.eql_part.specs.Rooms.{entries_of}
@@ -21,7 +21,7 @@ use Rattle.std.proofs.lemmas.List.Sorted.{IsPermutation-sym}
 pub turn-requires-clause-later : goal.turn-requires-clause-later
 turn-requires-clause-later g c =
     let found = found_by c.args.shape.stages c.args.shape.span c.args.machines.now c.args.route.now.key c.in-Some.place c.index_mut.result.now c.requires.table (sym c.place.ensures ∙ c.in-Some.is) c.index_mut.ensures.value in
-    later_slots c.args.order c.index_mut.result.now.machine (subst (λ (o : Option (Machine Ticket)). (k : ℕ) → IfSome (slots_of o k) (AllBefore c.args.order)) found c.requires.later)
+    later_slots c.args.order c.index_mut.result.now.machine (subst (λ (o : Option (Machine Ticket)). (k : ℕ) → IfSome (slots_of o k) (AllAreBefore c.args.order)) found c.requires.later)
 
 pub turn-requires-clause-listed : goal.turn-requires-clause-listed
 turn-requires-clause-listed g c =

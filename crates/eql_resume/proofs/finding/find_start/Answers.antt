@@ -1,6 +1,6 @@
 use Rattle.std.proofs.Common.{sym, subst}
 use Rattle.std.proofs.lemmas.Result.{err_from_is_err_and}
-use Rattle.eql_resume.specs.Finding.{FoundCause}
+use Rattle.eql_resume.specs.Finding.{HasFoundCause}
 use Rattle.eql_resume.proofs.Found.{cut_refused, held_there, none_formed, none_placed, refused_as, refused_there}
 use Rattle.eql_resume.proofs.finding.find_start.Goals as goal
 
@@ -23,4 +23,4 @@ returns-in_err-test_found-clause-cause g c =
     let p = err_from_is_err_and c.from_residual.result c.from_residual.ensures.1 in
     refused_as _ c.from_residual.result p.0 p.1
     (cut_refused c.args.stages c.args.values c.args.pipes.now c.args.head.now c.crashes_leave_images.ensures.images.seen c.in-Ok.found p.0 _ _
-    c.in-Ok.ensures.kept c.in-Ok.ensures.found (subst (λ x. FoundCause c.args.stages c.args.values c.args.pipes.now c.args.head.now c.in-Ok.found.cut x) (sym p.2) c.in_err-test_found.ensures.cause))
+    c.in-Ok.ensures.kept c.in-Ok.ensures.found (subst (λ x. HasFoundCause c.args.stages c.args.values c.args.pipes.now c.args.head.now c.in-Ok.found.cut x) (sym p.2) c.in_err-test_found.ensures.cause))

@@ -5,7 +5,7 @@ use Rattle.std.specs.Str.{chars}
 use Rattle.eql_text.specs.Comparing.{starts}
 use Rattle.eql_text.proofs.walk.strip.Given as goal
 
--- what is left of the text begins with what is left to be found exactly where the text begins with all of it
+-- what is left of the text begins with what is left to be found exactly when the text begins with all of it
 abbrev pub invariant-loop-d : goal.invariant-loop-d
 invariant-loop-d l =
     shadow (Utf8 l.rest) × shadow (Utf8 l.wanted)

@@ -3,7 +3,7 @@ use Rattle.std.proofs.lemmas.Slice.Zip.{AllZip-long}
 use Rattle.eql_turn_lock.specs.Calls.{Closes}
 use Rattle.eql_lock_row.specs.Rows.{AllAreJoined, AreFirst}
 use Rattle.eql_hub.specs.Hands.{HandView, HubView}
-use Rattle.eql_hub.specs.Turns.{LaneTurn, is_open_lane}
+use Rattle.eql_hub.specs.Turns.{IsLaneTurn, is_open_lane}
 use Rattle.eql_hub.proofs.hub.Hub.close.Goals as goal
 
 pub close-requires-clause-first : goal.close-requires-clause-first
@@ -14,7 +14,7 @@ close-requires-clause-all_joined g c = subst (λ (h : HandView _ _). AllAreJoine
 
 pub unwrap_all-requires-clause-room : goal.unwrap_all-requires-clause-room
 unwrap_all-requires-clause-room g c =
-    let values = AllZip-long (Closes (LaneTurn g.S.Source.left g.S.Source.lent_as g.S.Source.fault_plan g.L.LineReader.read_of) is_open_lane)
+    let values = AllZip-long (Closes (IsLaneTurn g.S.Source.left g.S.Source.lent_as g.S.Source.fault_plan g.L.LineReader.read_of) is_open_lane)
     c.hand.inside.lanes.views c.close.result.items c.close.ensures in
     let inside = ap (λ (h : HandView _ _). length h.lanes.views) c.hand.view_is in
     let views = c.lane_count.ensures.views in

@@ -2,7 +2,7 @@ use Rattle.std.proofs.Common.{◌≡◌}
 use Rattle.std.specs.List.{AllZip}
 use Rattle.std.proofs.lemmas.Result.{IfErr-weaker}
 use Rattle.eql_turn_lock.specs.Calls.{Closes}
-use Rattle.eql_hub.specs.Turns.{LaneTurn, is_open_lane}
+use Rattle.eql_hub.specs.Turns.{IsLaneTurn, is_open_lane}
 use Rattle.eql_hub.proofs.Views.{fresh_back, fresh_first, fresh_joined}
 use Rattle.eql_hub.proofs.hub.Hub.make.Goals as goal
 
@@ -15,8 +15,8 @@ with_parts-requires-clause-all_joined g c = fresh_joined c.args.lanes.items c.in
 pub returns-in-Ok-clause-back : goal.returns-in-Ok-clause-back
 returns-in-Ok-clause-back g c =
     IfErr-weaker c.with_parts.result
-    (λ (refused : _). AllZip (Closes (LaneTurn g.S.Source.left g.S.Source.lent_as g.S.Source.fault_plan g.L.LineReader.read_of) is_open_lane) c.in-Ok.held.passes.views refused.1.items)
+    (λ (refused : _). AllZip (Closes (IsLaneTurn g.S.Source.left g.S.Source.lent_as g.S.Source.fault_plan g.L.LineReader.read_of) is_open_lane) c.in-Ok.held.passes.views refused.1.items)
     (λ (refused : _). refused.1.items ≡ c.args.lanes.items)
-    (λ refused closes. fresh_back (LaneTurn g.S.Source.left g.S.Source.lent_as g.S.Source.fault_plan g.L.LineReader.read_of) is_open_lane
+    (λ refused closes. fresh_back (IsLaneTurn g.S.Source.left g.S.Source.lent_as g.S.Source.fault_plan g.L.LineReader.read_of) is_open_lane
     c.args.lanes.items refused.1.items c.in-Ok.held.passes.views c.in-Ok.ensures.first closes)
     c.with_parts.ensures.back

@@ -1,5 +1,5 @@
 use Rattle.std.proofs.Common.{None, sym, ap, ◌∙◌, subst, arith}
-use Rattle.eql_lane.specs.Buffers.{FeedAt}
+use Rattle.eql_lane.specs.Buffers.{HasFeedAt}
 use Rattle.eql_lane.specs.declared.step.Step.{Step}
 use Rattle.eql_lane.specs.Views.{LaneView, IsLane}
 use Rattle.eql_lane.specs.Feeding.{Steps}
@@ -9,7 +9,7 @@ use Rattle.eql_lane.proofs.lane.Lane.next_line.Goals as goal
 pub invariant_of-self : goal.invariant_of-self
 invariant_of-self g c =
     (line_done None (g.S.Source.left c.self.inside.source) c.self.inside.buffer c.self.inside.kept.cut c.self.inside.taken c.self.inside.kept.slack c.self.inside.shard (g.L.LineReader.read_of c.self.inside.reader) (c.self.invariant) c.self.inside.given (g.S.Source.fault_count c.self.inside.source)
-    (ap (λ (v : LaneView g.row.S.Denot g.row.L.Denot). v.state.cut.closed) c.self.view_is ∙ c.requires.was_open) c.args.end (subst (λ (v : LaneView g.row.S.Denot g.row.L.Denot). FeedAt c.args.end v.buffer.unread) (sym c.self.view_is) c.requires.feed)
+    (ap (λ (v : LaneView g.row.S.Denot g.row.L.Denot). v.state.cut.closed) c.self.view_is ∙ c.requires.was_open) c.args.end (subst (λ (v : LaneView g.row.S.Denot g.row.L.Denot). HasFeedAt c.args.end v.buffer.unread) (sym c.self.view_is) c.requires.feed)
     (omega (arith, c.self.invariant.lines, c.if-lines.false)) c.read_line-read.result c.read_line-read.new.buffer c.read_line-read.new.kept.cut
     (c.read_line-read.ensures.read (c.self.invariant).stands.front (c.self.invariant).stands.is_front) c.read_line-read.ensures.rest c.read_line-read.ensures.unchanged).lane
 
@@ -22,7 +22,7 @@ returns-clause-steps g c =
     (λ text told.
     let lane : IsLane text (g.S.Source.left c.self.inside.source) c.self.inside.buffer c.self.inside.kept.cut c.self.inside.taken = of_text text (g.S.Source.left c.self.inside.source) c.self.inside.buffer c.self.inside.kept.cut c.self.inside.taken c.self.invariant told in
     let done = line_done text (g.S.Source.left c.self.inside.source) c.self.inside.buffer c.self.inside.kept.cut c.self.inside.taken c.self.inside.kept.slack c.self.inside.shard (g.L.LineReader.read_of c.self.inside.reader) (lane) c.self.inside.given (g.S.Source.fault_count c.self.inside.source)
-    (ap (λ (v : LaneView g.row.S.Denot g.row.L.Denot). v.state.cut.closed) c.self.view_is ∙ c.requires.was_open) c.args.end (subst (λ (v : LaneView g.row.S.Denot g.row.L.Denot). FeedAt c.args.end v.buffer.unread) (sym c.self.view_is) c.requires.feed)
+    (ap (λ (v : LaneView g.row.S.Denot g.row.L.Denot). v.state.cut.closed) c.self.view_is ∙ c.requires.was_open) c.args.end (subst (λ (v : LaneView g.row.S.Denot g.row.L.Denot). HasFeedAt c.args.end v.buffer.unread) (sym c.self.view_is) c.requires.feed)
     (omega (arith, c.self.invariant.lines, c.if-lines.false)) c.read_line-read.result c.read_line-read.new.buffer c.read_line-read.new.kept.cut
     (c.read_line-read.ensures.read (lane).stands.front (lane).stands.is_front) c.read_line-read.ensures.rest c.read_line-read.ensures.unchanged in
     record { did = done.step; keeps = tells text (g.S.Source.left c.self.inside.source) c.read_line-read.new.buffer c.read_line-read.new.kept.cut c.self.inside.taken done.lane }))

@@ -2,7 +2,7 @@ use Rattle.std.proofs.Common.{IfErr, IfOk, subst}
 use Rattle.eql_conductor.specs.Benches.{LanePlays, WasNotPlayed}
 use Rattle.eql_lock_row.specs.Rows.{ChangesAt}
 use Rattle.eql_hub.specs.Hands.{HandView, HubView, IsHandOf}
-use Rattle.eql_hub.specs.Turns.{LaneTurn, is_open_lane}
+use Rattle.eql_hub.specs.Turns.{IsLaneTurn, is_open_lane}
 use Rattle.eql_lock_bench.specs.Locked.{Answers, known_by}
 use Rattle.eql_lock_bench.proofs.LaneRuns.{lane_says}
 use Rattle.eql_lock_bench.proofs.Keeps.{lane_keeps}
@@ -12,7 +12,7 @@ use Rattle.eql_lock_bench.proofs.bench.LockBenchBench.lane.Goals as goal
 pub told-requires : goal.told-requires
 told-requires g c =
     let changed = c.call_lane-answer.ensures.played in
-    never_busy (LaneTurn g.S.Source.left g.S.Source.lent_as g.S.Source.fault_plan g.L.LineReader.read_of) is_open_lane c.args.op c.call_lane-answer.result changed.before changed.after changed.changes.0
+    never_busy (IsLaneTurn g.S.Source.left g.S.Source.lent_as g.S.Source.fault_plan g.L.LineReader.read_of) is_open_lane c.args.op c.call_lane-answer.result changed.before changed.after changed.changes.0
 
 pub invariant_of-self : goal.invariant_of-self
 invariant_of-self g c =
@@ -43,5 +43,5 @@ returns-clause-not_played g c =
 pub returns-clause-call : goal.returns-clause-call
 returns-clause-call g c =
     let call = c.call_lane-answer in
-    subst (λ (hand : HandView _ _). ChangesAt c.args.s (Answers (LaneTurn g.S.Source.left g.S.Source.lent_as g.S.Source.fault_plan g.L.LineReader.read_of) is_open_lane c.args.op c.told.result) hand.lanes.views call.new.hand.lanes.views) c.self.view_is
-    (changes_answered (LaneTurn g.S.Source.left g.S.Source.lent_as g.S.Source.fault_plan g.L.LineReader.read_of) is_open_lane c.args.op call.result c.told.result c.args.s c.self.inside.hand.lanes.views call.new.hand.lanes.views c.told.ensures call.ensures.played)
+    subst (λ (hand : HandView _ _). ChangesAt c.args.s (Answers (IsLaneTurn g.S.Source.left g.S.Source.lent_as g.S.Source.fault_plan g.L.LineReader.read_of) is_open_lane c.args.op c.told.result) hand.lanes.views call.new.hand.lanes.views) c.self.view_is
+    (changes_answered (IsLaneTurn g.S.Source.left g.S.Source.lent_as g.S.Source.fault_plan g.L.LineReader.read_of) is_open_lane c.args.op call.result c.told.result c.args.s c.self.inside.hand.lanes.views call.new.hand.lanes.views c.told.ensures call.ensures.played)

@@ -2,7 +2,7 @@ use Rattle.std.proofs.Common.{IfErr, IfOk, subst}
 use Rattle.eql_conductor.specs.Benches.{PartPlays, WasNotPlayed}
 use Rattle.eql_lock_row.specs.Rows.{ChangesAt}
 use Rattle.eql_hub.specs.Hands.{HandView, HubView, IsHandOf}
-use Rattle.eql_hub.specs.Turns.{PartTurn, is_open_part}
+use Rattle.eql_hub.specs.Turns.{IsPartTurn, is_open_part}
 use Rattle.eql_lock_bench.specs.Locked.{Answers, known_by}
 use Rattle.eql_lock_bench.proofs.PartRuns.{part_says}
 use Rattle.eql_lock_bench.proofs.Keeps.{part_keeps}
@@ -12,7 +12,7 @@ use Rattle.eql_lock_bench.proofs.bench.LockBenchBench.part.Goals as goal
 pub told-requires : goal.told-requires
 told-requires g c =
     let changed = c.call_part-answer.ensures.played in
-    never_busy PartTurn is_open_part c.args.op c.call_part-answer.result changed.before changed.after changed.changes.0
+    never_busy IsPartTurn is_open_part c.args.op c.call_part-answer.result changed.before changed.after changed.changes.0
 
 pub invariant_of-self : goal.invariant_of-self
 invariant_of-self g c =
@@ -43,5 +43,5 @@ returns-clause-not_played g c =
 pub returns-clause-call : goal.returns-clause-call
 returns-clause-call g c =
     let call = c.call_part-answer in
-    subst (λ (hand : HandView _ _). ChangesAt c.args.p (Answers PartTurn is_open_part c.args.op c.told.result) hand.parts.views call.new.hand.parts.views) c.self.view_is
-    (changes_answered PartTurn is_open_part c.args.op call.result c.told.result c.args.p c.self.inside.hand.parts.views call.new.hand.parts.views c.told.ensures call.ensures.played)
+    subst (λ (hand : HandView _ _). ChangesAt c.args.p (Answers IsPartTurn is_open_part c.args.op c.told.result) hand.parts.views call.new.hand.parts.views) c.self.view_is
+    (changes_answered IsPartTurn is_open_part c.args.op call.result c.told.result c.args.p c.self.inside.hand.parts.views call.new.hand.parts.views c.told.ensures call.ensures.played)

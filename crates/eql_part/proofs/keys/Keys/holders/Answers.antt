@@ -3,7 +3,7 @@ use Rattle.std.specs.Ordering.{is_lt}
 use Rattle.std.proofs.lemmas.List.Sorted.{answers_always, ranks_by, IsPermutation-refl}
 use Rattle.eql_values.specs.Orders.{key_cmp}
 use Rattle.eql_values.specs.Totals.{key_cmp_total}
-use Rattle.eql_laws.specs.Alive.{HoldersInOrder}
+use Rattle.eql_laws.specs.Alive.{HoldersAreInOrder}
 use Rattle.eql_part.specs.KeyTables.{Pendings, holders_in}
 use Rattle.eql_part.specs.Rooms.{AreInKeyOrder, entries_of, lent}
 use Rattle.eql_part.proofs.Copied.{holders_are, if_some}
@@ -22,7 +22,7 @@ returns-in-Some-clause-holders g c =
 
 pub returns-in-Some-clause-order : goal.returns-in-Some-clause-order
 returns-in-Some-clause-order g c =
-    subst HoldersInOrder (ap (λ (p : Pendings). p.holders) c.self.view_is ∙ sym (returns-in-Some-clause-holders g c))
+    subst HoldersAreInOrder (ap (λ (p : Pendings). p.holders) c.self.view_is ∙ sym (returns-in-Some-clause-holders g c))
     (holders_in_order (entries_of c.self.inside.machines) (entries_sorted c.self.inside.machines.rooms.items))
 
 pub returns-clause-holders : goal.returns-clause-holders
@@ -36,5 +36,5 @@ returns-clause-holders g c =
 
 pub returns-clause-order : goal.returns-clause-order
 returns-clause-order g c =
-    subst HoldersInOrder (ap (λ (p : Pendings). p.holders) c.self.view_is ∙ sym (returns-clause-holders g c))
+    subst HoldersAreInOrder (ap (λ (p : Pendings). p.holders) c.self.view_is ∙ sym (returns-clause-holders g c))
     (holders_in_order (entries_of c.self.inside.machines) (entries_sorted c.self.inside.machines.rooms.items))

@@ -2,7 +2,7 @@ use Rattle.std.proofs.Common.{◌≡◌, ◌∷◌, [], List, length, sym, ap, �
 use Rattle.std.specs.Prelude.{All}
 use Rattle.eql_values.specs.declared.item.Item.{Item}
 use Rattle.eql_values.specs.Matching.{matches}
-use Rattle.eql_laws.specs.Alive.{HoldersInOrder}
+use Rattle.eql_laws.specs.Alive.{HoldersAreInOrder}
 use Rattle.eql_laws.specs.Shapes.{HasStageBefore}
 use Rattle.eql_part.specs.KeyTables.{Pendings}
 use Rattle.eql_parts.specs.Inboxes.{IsNext, WaitingView}
@@ -16,7 +16,7 @@ invariant_of-self-2 g c =
     let split : inbox ≡ item ∷ rest = first_and_rest inbox item (omega arith) c.in-Some.ensures.lookup ∙ ap (λ (l : List Item). item ∷ l) (sym c.pop_front.ensures.rest) in
     let is = (c.in_ok-more.ensures {u = tt}).holders in
     record {
-      in_order = subst (λ (p : Pendings). HoldersInOrder p.holders) (sym is) (c.after_in_order.ensures.after old.stages old.span old.holders (item ∷ []));
+      in_order = subst (λ (p : Pendings). HoldersAreInOrder p.holders) (sym is) (c.after_in_order.ensures.after old.stages old.span old.holders (item ∷ []));
       before = subst (λ (p : Pendings). All (HasStageBefore p.stages) p.holders) (sym is) (c.chains_are_full.ensures.stages old.stages old.span old.holders (item ∷ []));
       next = next_rest item rest old.holders c.take.new.self.holders (subst (IsNext old.holders) split c.self.invariant.next) c.take.ensures.later;
     }

@@ -28,7 +28,7 @@ use Rattle.std_alloc.proofs.RcSteps.{word, word-Good}
 use Rattle.std_heap.specs.contracts.Global as heap
 use Rattle.std_heap.proofs.Global.TheLaws as heap_laws
 use Rattle.std_heap.specs.contracts.GlobalAllocator.TheImpl.{ghosts}
-use Rattle.eql_span_list.specs.PlacedNode.{PlacedNode, HasNodeAt, AtNode}
+use Rattle.eql_span_list.specs.PlacedNode.{PlacedNode, HasNodeAt, HoldsAtNode}
 use Rattle.eql_span_list.specs.Ownership.{nodes_lent}
 use Rattle.eql_span_list.proofs.Apart.{same_node}
 use Rattle.eql_span_list.proofs.Memory.{N, lent_seen}
@@ -63,7 +63,7 @@ get_spec 𝓤 𝓛 𝓜 𝓡 wired T L =
     fsplit ! $ drop ! $ hide ! $ feq_i ! (List Val) (v ∷ []) (v ∷ []) refl $ fjoin ! $
     first ! $ blocks ! $ sets ! (is ! (of_opd ! (get_in ! (fld ! refl (stop !)) (sub ! 0 refl (whole !)))) (ap ptr_val (sym asked.4 ∙ ep))) refl (tt, tt) $
     sets_last ! (addr ! (through ! refl (stop !))) refl (tt, tt) $ exec ! 𝓣.C 𝓣.Λ Ev (after 1 fn.body) (at_ret Ev Post) $ sets ! (of_opd ! (get ! refl)) refl (tt, tt) $
-    let Told : Type 0 = AtNode d.nodes t (λ _ m _. n.node ≡ m.node) in
+    let Told : Type 0 = HoldsAtNode d.nodes t (λ _ m _. n.node ≡ m.node) in
     use0 𝓛 (raw (fact 𝓤 Told)) (fact_i 𝓤 Told (emp 𝓤) (λ us m ws e at. ap (λ (k : PlacedNode T.Denot). k.node) (same_node d.nodes asked.0 n asked.2 us m ws d.apart asked.3 e (asked.4 ∙ sym at)).1)) $
     nothing ! $ nothing ! $ fjoin ! $ nothing ! $ fjoin ! $
     returns ! (look_at ! 0 refl) $ free_all ! refl $ keep ! (3 ∷ 0 ∷ 2 ∷ 1 ∷ []) $ by ! (leaves 𝓛 En hs c z v (record { ref_ptr = (pb, po); now = n.node }) (tt, (tt, tt)) (tt, (tt, tt)))))))))

@@ -32,7 +32,7 @@ use Rattle.std_alloc.proofs.RcSteps.{word, word-Good}
 use Rattle.std_heap.specs.contracts.Global as heap
 use Rattle.std_heap.proofs.Global.TheLaws as heap_laws
 use Rattle.std_heap.specs.contracts.GlobalAllocator.TheImpl.{ghosts}
-use Rattle.eql_span_list.specs.PlacedNode.{PlacedNode, placed, IsApart, HasNodeAt, AtNode, places, with_node}
+use Rattle.eql_span_list.specs.PlacedNode.{PlacedNode, placed, IsApart, HasNodeAt, HoldsAtNode, places, with_node}
 use Rattle.eql_span_list.specs.Lends.{with_at}
 use Rattle.eql_span_list.specs.Ownership.{frees, node_owns, nodes_own}
 use Rattle.eql_span_list.proofs.Apart.{with_node-cut, same_node}
@@ -91,7 +91,7 @@ get_mut_spec 𝓤 𝓛 𝓜 𝓡 wired T L =
     (lends_Part 𝓛 Row (N R) (with_at d t) (named 0) κ q b o pb po γ rest way coded coded n.node) $ await ! tt $ pick ! (λ δ.
     let r : MutBor (N R).Denot = record { ref_ptr = (pb, po); ghost_name = δ; now = n.node } in let v : Val = vptr pb po in
     use1 𝓛 (‵ ((MutRef (named 0) κ (N R)).own_val r (v ∷ [])) ⊛ ‵ (flft κ q) ⊛ ‵ (follows Row (N R) γ δ (with_at d t))) (id⊢ 𝓤 _) $ split3 ! $
-    let Told : Type 0 = AtNode d.nodes t (λ _ m _. n.node ≡ m.node) in
+    let Told : Type 0 = HoldsAtNode d.nodes t (λ _ m _. n.node ≡ m.node) in
     use0 𝓛 (raw (fact 𝓤 Told)) (fact_i 𝓤 Told (emp 𝓤) (λ us m ws ec at. ap (λ (k : PlacedNode T.Denot). k.node) (same_node d.nodes xs n ys us m ws d.apart asked.3 ec (asked.4 ∙ sym at)).1)) $
     move ! (3 ∷ 0 ∷ []) $ join ! $ move ! (2 ∷ 3 ∷ []) $ join ! $ nothing ! $ nothing ! $ fjoin ! $ nothing ! $ fjoin ! $
     -- [nothing of the parameters; the tokens; what follows; the reference]

@@ -25,7 +25,7 @@ use Rattle.std_alloc.proofs.RcSteps.{word, word-Good}
 use Rattle.std_heap.specs.contracts.Global as heap
 use Rattle.std_heap.proofs.Global.TheLaws as heap_laws
 use Rattle.std_heap.specs.contracts.GlobalAllocator.TheImpl.{ghosts}
-use Rattle.eql_span_list.specs.PlacedNode.{PlacedNode, placed, IsApart, HasNodeAt, AtNode, places}
+use Rattle.eql_span_list.specs.PlacedNode.{PlacedNode, placed, IsApart, HasNodeAt, HoldsAtNode, places}
 use Rattle.eql_span_list.specs.Ownership.{node_owns, nodes_own}
 use Rattle.eql_span_list.proofs.Apart.{apart_without, same_node}
 use Rattle.eql_span_list.proofs.Memory.{N, own_cut, no_block}
@@ -66,6 +66,6 @@ take_spec 𝓤 𝓛 𝓜 𝓡 wired T L =
     feq_i ! (List Val) z.0.4.0 (vptr b o ∷ []) e0 $ fjoin3 ! $ nothing ! $ nothing ! $ fjoin ! $ nothing ! $ fjoin ! $ move ! (1 ∷ 0 ∷ []) $ fjoin ! $ move ! (1 ∷ 3 ∷ []) $ join ! $ move ! (2 ∷ 3 ∷ []) $ loose_in (N R) Z LZ ghosts ! pb po h a n.node $
     sets ! (is ! (of_opd ! (get_in ! (fld ! refl (stop !)) (sub ! 0 refl (whole !)))) (ap ptr_val (sym asked.4 ∙ ep))) refl (tt, tt) $
     sets ! (agg ! (and_then ! (get ! refl) (and_then ! (get ! refl) (no_more !)))) refl typed $
-    let Told : Type 0 = AtNode d.nodes t (λ us n ws. (new.nodes ≡ us ++ ws) × (out.value ≡ n.node)) in
+    let Told : Type 0 = HoldsAtNode d.nodes t (λ us n ws. (new.nodes ≡ us ++ ws) × (out.value ≡ n.node)) in
     use0 𝓛 (raw (fact 𝓤 Told)) (fact_i 𝓤 Told (emp 𝓤) (λ us m ws e at. let same = same_node d.nodes xs n ys us m ws d.apart asked.3 e (asked.4 ∙ sym at) in ((λ i. same.0 i ++ same.2 i), ap (λ (k : PlacedNode T.Denot). k.node) same.1))) $
     returns ! (look_at ! 0 refl) $ free_all ! refl $ keep ! (2 ∷ 3 ∷ 1 ∷ 0 ∷ []) $ by ! (leaves 𝓛 En hs c z w out (new, (tt, (tt, tt))) (tt, (tt, (tt, tt))))))))))))

@@ -3,7 +3,7 @@ use Rattle.std.specs.List.Sorted.{IsPermutation}
 use Rattle.eql_auto.specs.Machine.{tags_of}
 use Rattle.eql_auto.specs.Moves.{emptied}
 use Rattle.eql_auto.proofs.Sweeping.{swept}
-use Rattle.eql_auto.proofs.moves.empty_slots.Given as goal
+use Rattle.eql_auto.proofs.moves.drop_from_slots.Given as goal
 
 abbrev pub invariant-loop-place : goal.invariant-loop-place
 invariant-loop-place g l = record {

@@ -4,7 +4,7 @@ use Rattle.eql_auto.specs.Machine.{tags_of}
 use Rattle.eql_auto.specs.Moves.{emptied}
 use Rattle.eql_auto.proofs.Sweeping.{length-swept, swept_one, swept_all}
 use Rattle.eql_auto.proofs.Tags.{goes_over, as_many}
-use Rattle.eql_auto.proofs.moves.empty_slots.Goals as goal
+use Rattle.eql_auto.proofs.moves.drop_from_slots.Goals as goal
 
 pub empty-ceased-requires-clause-to : goal.empty-ceased-requires-clause-to
 empty-ceased-requires-clause-to g c =

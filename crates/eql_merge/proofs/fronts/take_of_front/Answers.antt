@@ -1,6 +1,6 @@
 use Rattle.std.proofs.Common.{◌∙◌, Some, sym}
 use Rattle.eql_merge.proofs.Gathered.{fewer_taken, one_taken}
-use Rattle.eql_merge.proofs.fronts.take_first.Goals as goal
+use Rattle.eql_merge.proofs.fronts.take_of_front.Goals as goal
 
 pub returns-in_ok-put-in-Some-clause-all : goal.returns-in_ok-put-in-Some-clause-all
 returns-in_ok-put-in-Some-clause-all g c =
