@@ -1,9 +1,9 @@
 //! Queries that no text is: counts below zero, and a `number` with a base.
-use crate::answer::{answer_to, mapping};
+use crate::answer::{Asked, Trial, query_answers};
 use eql_query::{
     Body, Expr, Exprs, FieldRefs, PipeText, PipeTexts, Query, Span, Term, Terms, Unit,
 };
-use eql_values::Text;
+use eql_values::{Memory, Text};
 use std::alloc::Global;
 use std::process::Abort;
 use std::test::Fail;
@@ -18,21 +18,30 @@ fn item(alloc: Global, cond: Expr, runs: i64) -> Term {
     }
 }
 
-/// Single events that meet a condition.
-fn event(alloc: Global, cond: Expr) -> Query {
+/// Single events that meet a condition, with these pipes.
+fn event(alloc: Global, cond: Expr, pipes: PipeTexts) -> Query {
     Query {
         body: Body::Event(item(alloc, cond, 1)),
-        pipes: PipeTexts::of(Vec::new(alloc)),
+        pipes,
     }
 }
 
-/// A sequence of one item, so many in a row, within a span.
-fn sequence(alloc: Global, runs: i64, span: Option<Span>) -> Result<Query, Fail> {
+/// Single events with this pipe.
+fn piped(alloc: Global, pipe: PipeText) -> Result<Query, Memory> {
+    let pipes = PipeTexts::of(vec![in alloc; pipe]?);
+    Ok(event(alloc, Expr::Bool(true), pipes))
+}
+
+/// A sequence of one item, so many in a row, within so many days.
+fn sequence(alloc: Global, runs: i64, days: i64) -> Result<Query, Memory> {
     let items = vec![in alloc; item(alloc, Expr::Bool(true), runs)]?;
     Ok(Query {
         body: Body::Sequence {
             by: FieldRefs::of(Vec::new(alloc)),
-            span,
+            span: Some(Span {
+                count: days,
+                unit: Unit::D,
+            }),
             items: Terms::of(items),
             until: None,
         },
@@ -40,72 +49,86 @@ fn sequence(alloc: Global, runs: i64, span: Option<Span>) -> Result<Query, Fail>
     })
 }
 
-/// Sees what is returned for single events with this pipe.
-fn answers_to_pipe(
-    rt: &impl Abort,
-    alloc: Global,
-    pipe: PipeText,
-    wanted: &str,
-) -> Result<(), Fail> {
-    let body = Body::Event(item(alloc, Expr::Bool(true), 1));
-    let pipes = PipeTexts::of(vec![in alloc; pipe]?);
-    let got = answer_to(alloc, &Query { body, pipes }, &mapping(alloc)?)?;
-    assert_eq!(rt; got.as_str(), wanted);
-    Ok(())
+/// The arguments of a `number` with the base 2.
+fn based_args(alloc: Global) -> Result<Exprs, Memory> {
+    let text = Text::of(String::from_str(alloc, "1")?);
+    let args = vec![in alloc; Expr::Str(text), Expr::Long(2)]?;
+    Ok(Exprs::of(args))
 }
 
-#[test]
-fn counts_below_zero_of_pipes(rt: HostRuntime) -> Result<(), Fail> {
-    let alloc = rt.alloc();
-    answers_to_pipe(&rt, alloc, PipeText::Head(-1), "Pipe")?;
-    answers_to_pipe(&rt, alloc, PipeText::Head(0), "0 keys")?;
-    answers_to_pipe(&rt, alloc, PipeText::Tail(-1), "Pipe")?;
-    answers_to_pipe(&rt, alloc, PipeText::Tail(0), "0 keys")
+/// Single events that are a number with the base 2.
+fn based(alloc: Global) -> Result<Query, Memory> {
+    let name = Text::of(String::from_str(alloc, "number")?);
+    let args = based_args(alloc)?;
+    let number = Expr::Call {
+        name,
+        fold: false,
+        args,
+    };
+    Ok(event(alloc, number, PipeTexts::of(Vec::new(alloc))))
 }
 
-/// How many runs and days a sequence has, and what is returned.
-static SEQUENCES: &[(i64, i64, &str)] = &[
-    (-1, 1, "Runs -1"),
-    (2, -1, "Span"),
-    (2, i64::MIN, "Span"),
-    (2, 1, "0 keys"),
+/// A query that no text is.
+enum Made {
+    /// Single events with a pipe.
+    Piped(PipeText),
+    /// A sequence of one item, with its runs and days.
+    Sequence(i64, i64),
+    /// A number with a base.
+    Based,
+}
+
+/// The query.
+fn query_of(alloc: Global, made: &Made) -> Result<Query, Memory> {
+    match made {
+        Made::Piped(pipe) => piped(alloc, *pipe),
+        Made::Sequence(runs, days) => sequence(alloc, *runs, *days),
+        Made::Based => based(alloc),
+    }
+}
+
+/// Names of queries, the queries, and what is returned for them.
+static QUERIES: &[(&str, Made, &str)] = &[
+    ("head -1", Made::Piped(PipeText::Head(-1)), "Pipe"),
+    ("head 0", Made::Piped(PipeText::Head(0)), "0 keys"),
+    ("tail -1", Made::Piped(PipeText::Tail(-1)), "Pipe"),
+    ("tail 0", Made::Piped(PipeText::Tail(0)), "0 keys"),
+    ("-1 runs in 1 days", Made::Sequence(-1, 1), "Runs -1"),
+    ("2 runs in -1 days", Made::Sequence(2, -1), "Span"),
+    (
+        "2 runs in the fewest days",
+        Made::Sequence(2, i64::MIN),
+        "Span",
+    ),
+    ("2 runs in 1 days", Made::Sequence(2, 1), "0 keys"),
+    ("number with a base", Made::Based, "Arity number"),
 ];
 
-/// What is returned for a sequence of one item, so many in a row, within so many days.
-fn answer_to_days(alloc: Global, runs: i64, days: i64) -> Result<String, Fail> {
-    let span = Span {
-        count: days,
-        unit: Unit::D,
-    };
-    let query = sequence(alloc, runs, Some(span))?;
-    answer_to(alloc, &query, &mapping(alloc)?)
+/// Sees that this is returned for a query.
+fn made_answers(
+    rt: &impl Abort,
+    alloc: Global,
+    trial: &Trial,
+    (name, made, wanted): (&str, &Made, &str),
+) -> Result<(), Memory> {
+    let query = query_of(alloc, made)?;
+    let seen = query_answers(rt, alloc, trial, name, &query, wanted);
+    drop(query);
+    seen
 }
 
-#[test]
-fn counts_below_zero_of_sequences(rt: HostRuntime) -> Result<(), Fail> {
-    for &(runs, days, wanted) in SEQUENCES {
-        let got = answer_to_days(rt.alloc(), runs, days)?;
-        assert_eq!(rt; got.as_str(), wanted, "{runs} runs in {days} days");
+/// Sees that for each query is returned what stands beside it.
+fn each_made_answers(rt: &impl Abort, alloc: Global, trial: &Trial) -> Result<(), Memory> {
+    for (name, made, wanted) in QUERIES {
+        made_answers(rt, alloc, trial, (name, made, wanted))?;
     }
     Ok(())
 }
 
-/// A number in the base 2.
-fn based_number(alloc: Global) -> Result<Expr, Fail> {
-    let name = Text::of(String::from_str(alloc, "number")?);
-    let text = Text::of(String::from_str(alloc, "1")?);
-    let args = Exprs::of(vec![in alloc; Expr::Str(text), Expr::Long(2)]?);
-    Ok(Expr::Call {
-        name,
-        fold: false,
-        args,
-    })
-}
-
 #[test]
-fn number_with_a_base(rt: HostRuntime) -> Result<(), Fail> {
-    let query = event(rt.alloc(), based_number(rt.alloc())?);
-    let got = answer_to(rt.alloc(), &query, &mapping(rt.alloc())?)?;
-    assert_eq!(rt; got.as_str(), "Arity number");
-    Ok(())
+fn counts_below_zero_and_a_number_with_a_base(rt: HostRuntime) -> Result<(), Fail> {
+    let trial = Trial::of(rt.alloc(), Asked::Check)?;
+    let seen = each_made_answers(&rt, rt.alloc(), &trial);
+    drop(trial);
+    Ok(seen?)
 }

@@ -8,6 +8,8 @@ mod answer;
 #[cfg(test)]
 mod by_hand;
 #[cfg(test)]
+mod condition;
+#[cfg(test)]
 mod expressions;
 #[cfg(test)]
 mod functions;
@@ -27,5 +29,3 @@ mod queries;
 mod sequences;
 #[cfg(test)]
 mod threads;
-#[cfg(test)]
-mod trial;

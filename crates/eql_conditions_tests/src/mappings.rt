@@ -1,37 +1,58 @@
 //! Mappings: what is read, and what is refused.
+use crate::answer::{behind, see};
 use eql_check::Mapping;
+use eql_values::{Kind, Memory, Text};
 use std::alloc::Global;
-use std::fmt::Write;
+use std::process::Abort;
 use std::test::Fail;
 
-/// How many names a mapping has, or what its refusal says behind `mapping: `.
-pub fn read(alloc: Global, bytes: &[u8]) -> Result<String, Fail> {
-    let line = match Mapping::read(alloc, bytes) {
-        Ok(mapping) => format!(in alloc; "{} names", mapping.names().items().len())?,
-        Err(refused) => refused.message(alloc)?,
-    };
-    match line.as_str().strip_prefix("mapping: ") {
-        Some(rest) => Ok(String::from_str(alloc, rest)?),
-        None => Ok(line),
+/// How many names a mapping has, or what its refusal says.
+fn read(alloc: Global, bytes: &[u8]) -> Result<String, Memory> {
+    match Mapping::read(alloc, bytes) {
+        Ok(mapping) => Ok(format!(in alloc; "{} names", mapping.names().items().len())?),
+        Err(refused) => refused.message(alloc),
     }
 }
 
-/// The names of a mapping, each with its kind and a blank.
-fn names_of(alloc: Global, bytes: &[u8]) -> Result<String, Fail> {
-    let mapping = Mapping::read(alloc, bytes)?;
-    let mut names = String::new(alloc);
-    for (name, kind) in mapping.names().items() {
-        write!(names, "{} {kind:?} ", name.text())?;
-    }
-    Ok(names)
-}
-
-#[test]
-fn mapping_is_read(rt: HostRuntime) -> Result<(), Fail> {
-    let text = br#"{"n":"long","a.b":"keyword","n":"ip","b":"boolean"}"#;
-    let names = names_of(rt.alloc(), text)?;
-    assert_eq!(rt; names.as_str(), "a.b Text b Bool n Ip ");
+/// Sees that this is read from a mapping's text, which has this name; of a refusal what it says behind `mapping: `.
+pub fn is_read(
+    rt: &impl Abort,
+    alloc: Global,
+    name: &str,
+    bytes: &[u8],
+    wanted: &str,
+) -> Result<(), Memory> {
+    let got = read(alloc, bytes)?;
+    see(rt, name, behind(got.as_str(), "mapping: "), wanted);
     Ok(())
+}
+
+/// A mapping of three names, one of which stands there twice: its last kind counts.
+static THREE: &[u8] = br#"{"n":"long","a.b":"keyword","n":"ip","b":"boolean"}"#;
+
+/// Whether a name with its kind is this one.
+fn is_named(named: &(Text, Kind), name: &str, kind: Kind) -> bool {
+    named.0.text() == name && named.1 == kind
+}
+
+/// Whether a mapping has these three names with their kinds, in order.
+fn has_three(mapping: &Mapping) -> bool {
+    match mapping.names().items().as_slice() {
+        [first, second, third] => {
+            is_named(first, "a.b", Kind::Text)
+                && is_named(second, "b", Kind::Bool)
+                && is_named(third, "n", Kind::Ip)
+        }
+        _ => false,
+    }
+}
+
+/// Whether they are read.
+fn three_are_read(alloc: Global) -> Result<bool, Fail> {
+    let mapping = Mapping::read(alloc, THREE)?;
+    let has_three = has_three(&mapping);
+    drop(mapping);
+    Ok(has_three)
 }
 
 /// Texts of mappings, and how they are read.
@@ -63,18 +84,19 @@ static MAPPINGS: &[(&str, &str)] = &[
     ("", "MapSyntax"),
 ];
 
-#[test]
-fn mappings_and_refusals(rt: HostRuntime) -> Result<(), Fail> {
+/// Bytes that are no text.
+static NO_TEXT: &[u8] = b"{\"\xff\":\"long\"}";
+
+/// Sees how each text is read.
+fn each_is_read(rt: &impl Abort, alloc: Global) -> Result<(), Memory> {
     for (text, wanted) in MAPPINGS {
-        let got = read(rt.alloc(), text.as_bytes())?;
-        assert_eq!(rt; got.as_str(), *wanted, "{text}");
+        is_read(rt, alloc, text, text.as_bytes(), wanted)?;
     }
-    Ok(())
+    is_read(rt, alloc, "no text", NO_TEXT, "MapSyntax")
 }
 
 #[test]
-fn bytes_that_are_no_text(rt: HostRuntime) -> Result<(), Fail> {
-    let got = read(rt.alloc(), b"{\"\xff\":\"long\"}")?;
-    assert_eq!(rt; got.as_str(), "MapSyntax");
-    Ok(())
+fn mappings_and_refusals(rt: HostRuntime) -> Result<(), Fail> {
+    assert!(rt; three_are_read(rt.alloc())?, "a.b, b and n");
+    Ok(each_is_read(&rt, rt.alloc())?)
 }
