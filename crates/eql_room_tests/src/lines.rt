@@ -1,7 +1,7 @@
 //! Lines of shards: what each is, as a short text.
 use eql_lines::{FirstLine, read_first};
+use eql_values::Memory;
 use std::alloc::Global;
-use std::test::Fail;
 
 /// Lines, each with what it is: `blank`, `other`, or an event's time in nanoseconds and its category.
 static LINES: &[(&[u8], &str)] = &[
@@ -70,40 +70,47 @@ static LINES: &[(&[u8], &str)] = &[
 ];
 
 /// What a line is.
-fn told(alloc: Global, line: &[u8]) -> Result<String, Fail> {
-    match read_first(alloc, line).map_err(|_| Fail::from("memory"))? {
-        FirstLine::Blank => Ok(String::from_str(alloc, "blank")?),
-        FirstLine::Event { ts, category } => { Ok(format!(in alloc; "{ts} {}", category.text())?) }
-        FirstLine::Other => Ok(String::from_str(alloc, "other")?),
-    }
+fn told(alloc: Global, line: &[u8]) -> Result<String, Memory> {
+    let told = match read_first(alloc, line)? {
+        FirstLine::Blank => String::from_str(alloc, "blank"),
+        FirstLine::Event { ts, category } => format!(in alloc; "{ts} {}", category.text()),
+        FirstLine::Other => String::from_str(alloc, "other"),
+    };
+    Ok(told?)
+}
+
+/// Whether a line is what it should be.
+fn is_told(alloc: Global, line: &[u8], expected: &str) -> Result<bool, Memory> {
+    Ok(told(alloc, line)?.as_str() == expected)
 }
 
 #[test]
-fn lines_are_told(rt: HostRuntime) -> Result<(), Fail> {
-    let alloc = rt.alloc();
+fn lines_are_told(rt: HostRuntime) {
     for (line, expected) in LINES {
-        let line = told(alloc, *line)?;
-        assert_eq!(rt; line.as_str(), *expected);
+        assert!(rt;
+            is_told(rt.alloc(), *line, *expected) == Ok(true),
+            "{expected} of {line:?}"
+        );
     }
-    Ok(())
 }
 
-/// What an event's line is with blanks behind it, up to so many bytes.
-fn told_padded(alloc: Global, bytes: usize) -> Result<String, Fail> {
+/// Whether an event's line, with blanks behind it up to so many bytes, is what it should be.
+fn is_padded(alloc: Global, bytes: usize, expected: &str) -> Result<bool, Memory> {
     let event = b"{\"@timestamp\":1,\"event\":{\"category\":\"process\"}}";
     let mut line = event.as_slice().to_vec(alloc)?;
     line.resize(bytes, b' ')?;
-    told(alloc, &line)
+    is_told(alloc, &line, expected)
 }
 
 /// As many bytes as are read as JSON, and one more, with what the line is.
 static LENGTHS: &[(usize, &str)] = &[(1_048_576, "1000000 process"), (1_048_577, "other")];
 
 #[test]
-fn the_longest_line(rt: HostRuntime) -> Result<(), Fail> {
+fn the_longest_line(rt: HostRuntime) {
     for &(bytes, expected) in LENGTHS {
-        let line = told_padded(rt.alloc(), bytes)?;
-        assert_eq!(rt; line.as_str(), expected);
+        assert!(rt;
+            is_padded(rt.alloc(), bytes, expected) == Ok(true),
+            "{bytes} bytes"
+        );
     }
-    Ok(())
 }

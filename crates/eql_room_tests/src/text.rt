@@ -4,12 +4,10 @@ use eql_text::{
     Block, LongRead, between, contains, ends, equal, in_block, index_of, ip4_from_str,
     long_from_str, parse_block, parse_ip4, parse_long, parse_number, starts, substring, wildcard,
 };
-use eql_values::Text;
-use std::alloc::{AllocError, Global};
-use std::process::Abort;
-use std::test::Fail;
+use eql_values::{Memory, Text};
+use std::alloc::Global;
 
-fn text(alloc: Global, characters: &str) -> Result<Text, AllocError> {
+fn text(alloc: Global, characters: &str) -> Result<Text, Memory> {
     Ok(Text::of(String::from_str(alloc, characters)?))
 }
 
@@ -28,18 +26,21 @@ static PLACES: &[(&str, &str, i64, Option<i64>)] = &[
     ("aaaaaaaaaaa", "aaaaaaaaaaaa", 0, None),
 ];
 
+/// Whether a text is found in another one where it should be.
+fn is_place(
+    alloc: Global,
+    (s, t, start, want): &(&str, &str, i64, Option<i64>),
+) -> Result<bool, Memory> {
+    let (s, t) = (text(alloc, *s)?, text(alloc, *t)?);
+    Ok(index_of(&s, &t, *start, false) == *want)
+}
+
 #[test]
-fn places(rt: HostRuntime) -> Result<(), Fail> {
-    for (s, t, start, want) in PLACES {
-        let got = index_of(
-            &text(rt.alloc(), *s)?,
-            &text(rt.alloc(), *t)?,
-            *start,
-            false,
-        );
-        assert_eq!(rt; got, *want, "{t} in {s} from {start}");
+fn places(rt: HostRuntime) {
+    for row in PLACES {
+        let is_right = is_place(rt.alloc(), row) == Ok(true);
+        assert!(rt; is_right, "{} in {} from {}", row.1, row.0, row.2);
     }
-    Ok(())
 }
 
 /// A text, from where and to where a part of it is taken, and the part.
@@ -51,15 +52,25 @@ static PARTS: &[(&str, i64, Option<i64>, &str)] = &[
     ("café", -2, Some(9), "fé"),
 ];
 
+/// Whether a part of a text is as it should be.
+fn is_part(
+    alloc: Global,
+    (s, from, to, want): &(&str, i64, Option<i64>, &str),
+) -> Result<bool, Memory> {
+    let part = substring(alloc, &text(alloc, *s)?, *from, *to)?;
+    Ok(part.text() == *want)
+}
+
 #[test]
-fn parts(rt: HostRuntime) -> Result<(), Fail> {
-    for (s, from, to, want) in PARTS {
-        let got = substring(rt.alloc(), &text(rt.alloc(), *s)?, *from, *to)
-            .ok()
-            .ok_or("memory")?;
-        assert_eq!(rt; got.text(), *want, "of {s} from {from}");
+fn parts(rt: HostRuntime) {
+    for row in PARTS {
+        assert!(rt;
+            is_part(rt.alloc(), row) == Ok(true),
+            "of {} from {}",
+            row.0,
+            row.1
+        );
     }
-    Ok(())
 }
 
 /// A text, what stands before a part and behind it, whether the longest part is taken, and the part.
@@ -73,20 +84,22 @@ static BETWEEN: &[(&str, &str, &str, bool, &str)] = &[
     ("<éaéaéaéaéa", "<", "éaéa", true, "éaéaéa"),
 ];
 
+/// Whether the part of a text between two others is as it should be.
+fn is_between(
+    alloc: Global,
+    (s, l, r, greedy, want): &(&str, &str, &str, bool, &str),
+) -> Result<bool, Memory> {
+    let (s, l, r) = (text(alloc, *s)?, text(alloc, *l)?, text(alloc, *r)?);
+    let part = between(alloc, &s, &l, &r, *greedy, false)?;
+    Ok(part.text() == *want)
+}
+
 #[test]
-fn parts_between(rt: HostRuntime) -> Result<(), Fail> {
-    for (s, l, r, greedy, want) in BETWEEN {
-        let (s, l, r) = (
-            text(rt.alloc(), *s)?,
-            text(rt.alloc(), *l)?,
-            text(rt.alloc(), *r)?,
-        );
-        let got = between(rt.alloc(), &s, &l, &r, *greedy, false)
-            .ok()
-            .ok_or("memory")?;
-        assert_eq!(rt; got.text(), *want);
+fn parts_between(rt: HostRuntime) {
+    for row in BETWEEN {
+        let is_right = is_between(rt.alloc(), row) == Ok(true);
+        assert!(rt; is_right, "between {} and {} in {}", row.1, row.2, row.0);
     }
-    Ok(())
 }
 
 /// A text, the long that it is read as, and the number.
@@ -112,15 +125,20 @@ static NUMBERS: &[(&str, LongRead, Option<i64>)] = &[
     ("0x8000000000000000", LongRead::NoLong, None),
 ];
 
+/// Whether a text is read as this long and this number.
+fn is_number(
+    alloc: Global,
+    (s, long, number): &(&str, LongRead, Option<i64>),
+) -> Result<bool, Memory> {
+    let text = text(alloc, *s)?;
+    Ok(long_from_str(*s) == *long && parse_long(&text) == *long && parse_number(&text) == *number)
+}
+
 #[test]
-fn numbers(rt: HostRuntime) -> Result<(), Fail> {
-    for (s, long, number) in NUMBERS {
-        assert_eq!(rt; long_from_str(*s), *long);
-        let s = text(rt.alloc(), *s)?;
-        assert_eq!(rt; parse_long(&s), *long);
-        assert_eq!(rt; parse_number(&s), *number);
+fn numbers(rt: HostRuntime) {
+    for row in NUMBERS {
+        assert!(rt; is_number(rt.alloc(), row) == Ok(true), "{}", row.0);
     }
-    Ok(())
 }
 
 /// An address, a block, the address as a number, and whether it lies in the block.
@@ -139,19 +157,31 @@ static ADDRESSES: &[(&str, &str, Option<u32>, Option<bool>)] = &[
     ("1.2.3.4.5", "1.2.3.4", None, None),
 ];
 
+/// Whether an address lies in a block, where the text is one.
+fn is_inside(ip: Option<u32>, block: &Text) -> Option<bool> {
+    parse_block(block).map(|block: Block| in_block(ip.unwrap_or(0), block))
+}
+
+/// Whether an address is read as its number, and lies in its block or doesn't.
+fn is_address(
+    alloc: Global,
+    (address, block, want, inside): &(&str, &str, Option<u32>, Option<bool>),
+) -> Result<bool, Memory> {
+    let ip = parse_ip4(&text(alloc, *address)?);
+    let is_in = is_inside(ip, &text(alloc, *block)?);
+    Ok(ip == *want && ip4_from_str(*address) == *want && is_in == *inside)
+}
+
 #[test]
-fn addresses(rt: HostRuntime) -> Result<(), Fail> {
-    for (address, block, want, inside) in ADDRESSES {
-        let ip = parse_ip4(&text(rt.alloc(), *address)?);
-        assert_eq!(rt; ip4_from_str(*address), *want);
-        let block = parse_block(&text(rt.alloc(), *block)?);
-        assert_eq!(rt; ip, *want);
-        assert_eq!(rt;
-            block.map(|block: Block| in_block(ip.unwrap_or(0), block)),
-            *inside
+fn addresses(rt: HostRuntime) {
+    for row in ADDRESSES {
+        assert!(rt;
+            is_address(rt.alloc(), row) == Ok(true),
+            "{} in {}",
+            row.0,
+            row.1
         );
     }
-    Ok(())
 }
 
 /// Two texts, and whether they are equal when folded. They are never equal otherwise.
@@ -167,16 +197,24 @@ static FOLDED: &[(&str, &str, bool)] = &[
     ("\u{1f88}", "\u{1f00}\u{3b9}", false),
 ];
 
+/// Whether two texts are equal when folded as they should be, and not equal otherwise.
+fn is_folding(alloc: Global, (a, b, want): &(&str, &str, bool)) -> Result<bool, Memory> {
+    let (a, b) = (text(alloc, *a)?, text(alloc, *b)?);
+    let is_right = equal(&a, &b, true) == *want && wildcard(&a, &b, true) == *want;
+    Ok(is_right && !equal(&a, &b, false))
+}
+
 /// By the simple case foldings of the Unicode Character Database's CaseFolding.txt (its lines C and S).
 #[test]
-fn folding(rt: HostRuntime) -> Result<(), Fail> {
-    for (a, b, want) in FOLDED {
-        let (a, b) = (text(rt.alloc(), *a)?, text(rt.alloc(), *b)?);
-        assert_eq!(rt; equal(&a, &b, true), *want);
-        assert_eq!(rt; wildcard(&a, &b, true), *want);
-        assert!(rt; !equal(&a, &b, false));
+fn folding(rt: HostRuntime) {
+    for row in FOLDED {
+        assert!(rt;
+            is_folding(rt.alloc(), row) == Ok(true),
+            "{} and {}",
+            row.0,
+            row.1
+        );
     }
-    Ok(())
 }
 
 /// A text, another one, whether case is folded, and whether the text starts with it, ends with it and contains it.
@@ -192,18 +230,30 @@ static MIDDLES: &[(&str, &str, bool, (bool, bool, bool))] = &[
     ("10 \u{212a}elvin", "KELVIN", true, (false, true, true)),
 ];
 
+/// Whether a text starts with another one, ends with it and contains it as it should.
+fn are_sides(
+    alloc: Global,
+    (s, t, fold, want): &(&str, &str, bool, (bool, bool, bool)),
+) -> Result<bool, Memory> {
+    let (s, t) = (text(alloc, *s)?, text(alloc, *t)?);
+    let sides = (
+        starts(&s, &t, *fold),
+        ends(&s, &t, *fold),
+        contains(&s, &t, *fold),
+    );
+    Ok(sides == *want)
+}
+
 #[test]
-fn ends_and_middles(rt: HostRuntime) -> Result<(), Fail> {
-    for (s, t, fold, want) in MIDDLES {
-        let (s, t) = (text(rt.alloc(), *s)?, text(rt.alloc(), *t)?);
-        let got = (
-            starts(&s, &t, *fold),
-            ends(&s, &t, *fold),
-            contains(&s, &t, *fold),
+fn ends_and_middles(rt: HostRuntime) {
+    for row in MIDDLES {
+        assert!(rt;
+            are_sides(rt.alloc(), row) == Ok(true),
+            "{} in {}",
+            row.1,
+            row.0
         );
-        assert_eq!(rt; got, *want);
     }
-    Ok(())
 }
 
 /// Whether a pattern fits a text, by trying each way in turn.
@@ -218,7 +268,7 @@ fn fits(pattern: &[u8], text: &[u8]) -> bool {
 }
 
 /// The word with this number, over these letters: the digits of the number in a base that has a digit more.
-fn word(alloc: Global, letters: &[u8], number: usize) -> Result<String, AllocError> {
+fn word(alloc: Global, letters: &[u8], number: usize) -> Result<String, Memory> {
     let mut word = String::new(alloc);
     let mut left = number;
     for _ in 0..3 {
@@ -230,21 +280,28 @@ fn word(alloc: Global, letters: &[u8], number: usize) -> Result<String, AllocErr
     Ok(word)
 }
 
-#[test]
-fn wildcards_as_the_plain_matcher(rt: HostRuntime) -> Result<(), Fail> {
-    for p in 0..125 {
-        let pattern = Text::of(word(rt.alloc(), b"ab*?", p)?);
-        for t in 0..125 {
-            let text = Text::of(word(rt.alloc(), b"ab", t)?);
-            let want = fits(pattern.text().as_bytes(), text.text().as_bytes());
-            assert_eq!(rt; wildcard(&pattern, &text, false), want, "at {p} and {t}");
+/// The number of the first text that the pattern with this number fits by only one of the two matchers.
+fn misfit(alloc: Global, pattern: usize) -> Result<Option<usize>, Memory> {
+    let pattern = Text::of(word(alloc, b"ab*?", pattern)?);
+    for t in 0..125 {
+        let text = Text::of(word(alloc, b"ab", t)?);
+        let want = fits(pattern.text().as_bytes(), text.text().as_bytes());
+        if wildcard(&pattern, &text, false) != want {
+            return Ok(Some(t));
         }
     }
-    Ok(())
+    Ok(None)
+}
+
+#[test]
+fn wildcards_as_the_plain_matcher(rt: HostRuntime) {
+    for p in 0..125 {
+        assert_eq!(rt; misfit(rt.alloc(), p), Ok(None), "at {p}");
+    }
 }
 
 /// A text of so many `a`, and what follows.
-fn repeated(alloc: Global, count: u32, end: &str) -> Result<Text, AllocError> {
+fn repeated(alloc: Global, count: u32, end: &str) -> Result<Text, Memory> {
     let mut text = String::new(alloc);
     for _ in 0..count {
         text.push('a')?;
@@ -254,43 +311,47 @@ fn repeated(alloc: Global, count: u32, end: &str) -> Result<Text, AllocError> {
 }
 
 /// A long text of one letter, a part that it nearly has, and that part as a pattern.
-fn long_texts(alloc: Global) -> Result<(Text, Text, Text), AllocError> {
+fn long_texts(alloc: Global) -> Result<(Text, Text, Text), Memory> {
     let long = repeated(alloc, 200_000, "")?;
     let part = repeated(alloc, 20_000, "b")?;
     let wide = Text::of(format!(in alloc; "*{}*", part.text())?);
     Ok((long, part, wide))
 }
 
-/// Sees whether a pattern fits a long text.
-fn see_fits(
-    rt: &impl Abort,
-    alloc: Global,
-    pattern: &str,
-    long: &Text,
-    fold: bool,
-    want: bool,
-) -> Result<(), Fail> {
-    assert_eq!(rt; wildcard(&text(alloc, pattern)?, long, fold), want);
-    Ok(())
+/// Whether a pattern fits a long text.
+fn fits_long(alloc: Global, pattern: &str, long: &Text, fold: bool) -> Result<bool, Memory> {
+    Ok(wildcard(&text(alloc, pattern)?, long, fold))
 }
 
-/// Searches a long text in each way, with case as it is or folded.
-fn search_long(
-    rt: &impl Abort,
+/// The first search of a long text that doesn't answer as it should, with case as it is or folded.
+fn wrong_search(
     alloc: Global,
     (long, part, wide): &(Text, Text, Text),
     fold: bool,
-) -> Result<(), Fail> {
-    assert!(rt; !contains(long, part, fold));
-    assert_eq!(rt; index_of(long, part, 100, fold), None);
-    assert!(rt; !wildcard(wide, long, fold));
-    see_fits(rt, alloc, "*a*a*a*a*b", long, fold, false)?;
-    see_fits(rt, alloc, "*a*a*a*a*", long, fold, true)
+) -> Result<Option<&'static str>, Memory> {
+    if contains(long, part, fold) {
+        Ok(Some("contains"))
+    } else if index_of(long, part, 100, fold) != None {
+        Ok(Some("index_of"))
+    } else if wildcard(wide, long, fold) {
+        Ok(Some("wildcard"))
+    } else if fits_long(alloc, "*a*a*a*a*b", long, fold)? {
+        Ok(Some("*a*a*a*a*b"))
+    } else if !fits_long(alloc, "*a*a*a*a*", long, fold)? {
+        Ok(Some("*a*a*a*a*"))
+    } else {
+        Ok(None)
+    }
+}
+
+/// The first wrong search with case as it is, and the first one with case folded.
+fn wrong_searches(alloc: Global) -> Result<(Option<&'static str>, Option<&'static str>), Memory> {
+    let texts = long_texts(alloc)?;
+    let wrong = wrong_search(alloc, &texts, false)?;
+    Ok((wrong, wrong_search(alloc, &texts, true)?))
 }
 
 #[test]
-fn no_search_takes_long(rt: HostRuntime) -> Result<(), Fail> {
-    let texts = long_texts(rt.alloc())?;
-    search_long(&rt, rt.alloc(), &texts, false)?;
-    search_long(&rt, rt.alloc(), &texts, true)
+fn no_search_takes_long(rt: HostRuntime) {
+    assert_eq!(rt; wrong_searches(rt.alloc()), Ok((None, None)));
 }

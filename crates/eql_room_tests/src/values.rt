@@ -1,8 +1,8 @@
 //! Shared values: how texts are shown, the test of a span, copies, and equality of mappings.
 use eql_values::{
     BookCut, Chain, Counts, Holder, Holders, Item, ItemLists, Items, Key, Kind, LaneCut, LaneCuts,
-    Mask, Match, NameKinds, Numbered, Numbereds, OrderKey, PipeState, PipeStates, Route, Routes,
-    Text, Value, is_in_time, push_shown,
+    Mask, Match, Memory, NameKinds, Numbered, Numbereds, OrderKey, PipeState, PipeStates, Route,
+    Routes, Text, Value, is_in_time, push_shown,
 };
 use std::alloc::Global;
 use std::test::Fail;
@@ -28,18 +28,21 @@ static SHOWN: &[(&str, &str)] = &[
     ),
 ];
 
+/// Whether a text is shown so, behind a word that a line holds already.
+fn is_shown(alloc: Global, text: &str, expected: &str) -> Result<bool, Memory> {
+    let mut line = String::from_str(alloc, "name ")?;
+    push_shown(&mut line, text)?;
+    Ok(line.as_str().strip_prefix("name ") == Some(expected))
+}
+
 #[test]
-fn texts_are_shown(rt: HostRuntime) -> Result<(), Fail> {
-    let alloc = rt.alloc();
+fn texts_are_shown(rt: HostRuntime) {
     for (text, expected) in SHOWN {
-        let mut line = String::from_str(alloc, "name ")?;
-        if push_shown(&mut line, *text).is_err() {
-            return Err(Fail::from("memory"));
-        }
-        let expected = format!(in alloc; "name {expected}")?;
-        assert_eq!(rt; line.as_str(), expected.as_str());
+        assert!(rt;
+            is_shown(rt.alloc(), *text, *expected) == Ok(true),
+            "{expected}"
+        );
     }
-    Ok(())
 }
 
 /// The event at this line and time, in nanoseconds since the epoch.
@@ -64,14 +67,18 @@ static SPANS: &[(Option<i128>, i128, i128, bool)] = &[
     (Some(i128::MIN), i128::MAX, i128::MIN, true),
 ];
 
+/// Whether a span holds both events as it should.
+fn is_span((span, first, now, expected): &(Option<i128>, i128, i128, bool)) -> bool {
+    let events = [event(1, *first), event(2, i128::MAX)];
+    is_in_time(*span, &events, *now) == *expected
+}
+
 #[test]
-fn spans_are_inclusive(rt: HostRuntime) -> Result<(), Fail> {
-    for (span, first, now, expected) in SPANS {
-        let events = [event(1, *first), event(2, i128::MAX)];
-        assert_eq!(rt; is_in_time(*span, &events, *now), *expected);
+fn spans_are_inclusive(rt: HostRuntime) {
+    for row in SPANS {
+        assert!(rt; is_span(row), "{:?} from {} to {}", row.0, row.1, row.2);
     }
     assert!(rt; is_in_time(Some(0), &[], 1));
-    Ok(())
 }
 
 /// A key of a text and a number.
@@ -80,12 +87,15 @@ fn key(alloc: Global, text: &str) -> Result<Key, Fail> {
     Ok(Key::of(vec![in alloc; text, Value::Long(-7)]?))
 }
 
+/// The names in the keys of pending sequences.
+static NAMES: &[&str] = &["elkbee", "root"];
+
 /// Pending sequences at a stage, one for each key.
 fn holders(alloc: Global) -> Result<Holders, Fail> {
     let mut holders = Vec::new(alloc);
-    for name in ["elkbee", "root"] {
+    for name in NAMES {
         let chain = Chain::of(vec![in alloc; event(1, 5)]?);
-        let key = key(alloc, name)?;
+        let key = key(alloc, *name)?;
         holders.push(Holder {
             key,
             stage: 1,
@@ -115,13 +125,19 @@ fn is_holder(alloc: Global, holder: &Holder, name: &str) -> Result<bool, Fail> {
     Ok(holder.key == key && holder.stage == 1 && holder.chain.items() == events.as_slice())
 }
 
+/// Whether a copy has as many pending sequences as it should, and the one at this place stands under this name.
+fn is_copied(alloc: Global, at: usize, name: &str) -> Result<bool, Fail> {
+    let copy = holders(alloc)?.clone()?;
+    match copy.items().get(at) {
+        Some(holder) => Ok(copy.items().len() == NAMES.len() && is_holder(alloc, holder, name)?),
+        None => Ok(false),
+    }
+}
+
 #[test]
 fn pending_sequences_are_copied(rt: HostRuntime) -> Result<(), Fail> {
-    let copy = holders(rt.alloc())?.clone()?;
-    let names = ["elkbee", "root"];
-    assert_eq!(rt; copy.items().len(), 2);
-    for (holder, name) in copy.items().iter().zip(names.iter()) {
-        assert!(rt; is_holder(rt.alloc(), holder, *name)?, "{name}");
+    for (at, name) in NAMES.iter().enumerate() {
+        assert!(rt; is_copied(rt.alloc(), at, *name)?, "{name}");
     }
     Ok(())
 }
@@ -171,13 +187,18 @@ fn is_lane(alloc: Global, lane: &LaneCut) -> Result<bool, Fail> {
     }
 }
 
+/// Whether a copy of what is kept of one shard is as it was made.
+fn is_lane_copied(alloc: Global) -> Result<bool, Fail> {
+    let copy = lanes(alloc)?.clone()?;
+    match copy.items().as_slice() {
+        [lane] => is_lane(alloc, lane),
+        _ => Ok(false),
+    }
+}
+
 #[test]
 fn shards_are_copied(rt: HostRuntime) -> Result<(), Fail> {
-    let copy = lanes(rt.alloc())?.clone()?;
-    assert_eq!(rt; copy.items().len(), 1);
-    for lane in copy.items() {
-        assert!(rt; is_lane(rt.alloc(), lane)?);
-    }
+    assert!(rt; is_lane_copied(rt.alloc())?);
     Ok(())
 }
 
@@ -187,10 +208,14 @@ fn lists(alloc: Global) -> Result<ItemLists, Fail> {
     Ok(ItemLists::of(vec![in alloc; items]?))
 }
 
+/// Whether a copy has as many lists as it should.
+fn is_list_copied(alloc: Global) -> Result<bool, Fail> {
+    Ok(lists(alloc)?.clone()?.items().len() == 1)
+}
+
 #[test]
 fn lists_are_copied(rt: HostRuntime) -> Result<(), Fail> {
-    let copy = lists(rt.alloc())?.clone()?;
-    assert_eq!(rt; copy.items().len(), 1);
+    assert!(rt; is_list_copied(rt.alloc())?);
     Ok(())
 }
 
@@ -227,16 +252,22 @@ fn tell_pipes(pipes: &PipeStates, told: &mut String) -> Result<(), Fail> {
     Ok(())
 }
 
+/// Whether what a cut keeps of the output is as it was made.
+fn is_book(alloc: Global, book: &BookCut) -> Result<bool, Fail> {
+    let mut told = String::new(alloc);
+    tell_pipes(&book.pipes, &mut told)?;
+    Ok((book.found, book.listed) == (9, 2) && told.as_str() == "head 3;tail 8 of 1")
+}
+
+/// Whether a copy of it is as it was made.
+fn is_book_copied(alloc: Global) -> Result<bool, Fail> {
+    let copy = book(alloc)?.clone()?;
+    is_book(alloc, &copy)
+}
+
 #[test]
 fn books_are_copied(rt: HostRuntime) -> Result<(), Fail> {
-    let copy = book(rt.alloc())?.clone()?;
-    let mut told = String::new(rt.alloc());
-    let counted = (copy.found, copy.listed);
-    let all = tell_pipes(&copy.pipes, &mut told);
-    drop(copy);
-    all?;
-    assert_eq!(rt; counted, (9, 2));
-    assert_eq!(rt; told.as_str(), "head 3;tail 8 of 1");
+    assert!(rt; is_book_copied(rt.alloc())?);
     Ok(())
 }
 
@@ -249,19 +280,28 @@ fn mapping(alloc: Global, names: &[(&str, Kind)]) -> Result<NameKinds, Fail> {
     Ok(NameKinds::of(pairs))
 }
 
+/// Mappings, and whether each is that of `a` to `long` and of `b` to `ip`.
+static MAPPINGS: &[(&[(&str, Kind)], bool)] = &[
+    (&[("a", Kind::Long), ("b", Kind::Ip)], true),
+    (&[("a", Kind::Long), ("b", Kind::Text)], false),
+    (&[("a", Kind::Long), ("c", Kind::Ip)], false),
+    (&[("a", Kind::Long)], false),
+];
+
+/// Whether a mapping equals that of the first row, or doesn't, and equals its own copy.
+fn is_compared(alloc: Global, names: &[(&str, Kind)], is_first: bool) -> Result<bool, Fail> {
+    let first = mapping(alloc, &[("a", Kind::Long), ("b", Kind::Ip)])?;
+    let one = mapping(alloc, names)?;
+    Ok((one == first) == is_first && one == one.clone()?)
+}
+
 #[test]
 fn mappings_are_compared(rt: HostRuntime) -> Result<(), Fail> {
-    let one = mapping(rt.alloc(), &[("a", Kind::Long), ("b", Kind::Ip)])?;
-    assert!(rt; one == one.clone()?);
-    let rows: [(&[(&str, Kind)], bool); 4] = [
-        (&[("a", Kind::Long), ("b", Kind::Ip)], true),
-        (&[("a", Kind::Long), ("b", Kind::Text)], false),
-        (&[("a", Kind::Long), ("c", Kind::Ip)], false),
-        (&[("a", Kind::Long)], false),
-    ];
-    for (names, is_same) in rows {
-        let other = mapping(rt.alloc(), names)?;
-        assert_eq!(rt; one == other, is_same);
+    for (number, (names, is_first)) in MAPPINGS.iter().enumerate() {
+        assert!(rt;
+            is_compared(rt.alloc(), *names, *is_first)?,
+            "the mapping {number}"
+        );
     }
     Ok(())
 }
