@@ -1,14 +1,13 @@
 //! The machine on the events of a worked example, and at its greatest number of stages.
-ghost use Rattle.std.specs.Prelude.{◌≡◌, ◌+◌, ◌<◌, [], IfOk, OnOk};
+ghost use Rattle.std.specs.Prelude.{◌≡◌, ◌+◌, ◌<◌, [], ◌∷◌, IfOk, IsTrue};
 ghost use Rattle.eql_matching_tests.specs.Played.{at_line, AllComeFrom};
 
+use crate::merge::is_event;
 use eql_auto::{Auto, Steps};
-use eql_values::{Chain, Mask, Memory, OrderKey};
+use eql_values::{Chain, Mask, Memory, OrderKey, StageChains};
 use std::alloc::Global;
 use std::marker::Brand;
-use std::process::Abort;
 use std::sync::ledger::{Blank, Ledger};
-use std::test::*;
 
 /// The event of a line, at as many nanoseconds.
 fn event_at(line: u32) -> OrderKey
@@ -58,6 +57,11 @@ impl Told {
             matched: Vec::new(alloc),
             ceased: Vec::new(alloc),
         }
+    }
+
+    /// Whether the machine matched the events of these lines, and sequences with these tags ceased.
+    fn has(&self, matched: &[u32], ceased: &[u32]) -> bool {
+        self.matched.as_slice() == matched && self.ceased.as_slice() == ceased
     }
 }
 
@@ -117,18 +121,31 @@ fn play<L: Ledger>(
     read_ceased(machine, &mut told.ceased)
 }
 
-/// Drops the sequences that are too old at a time, in nanoseconds.
-fn expire<L: Ledger>(
-    machine: &mut Auto<u32, L>,
-    reach: i128,
-    told: &mut Told,
-    steps: &mut Steps<L>,
-) -> Result<(), Memory>
-    requires { machine.old.gone ≡ [] }
-    ensures { IfOk result (λ _. machine.new.gone ≡ []) }
-{
-    machine.expire(reach, steps);
-    read_ceased(machine, &mut told.ceased)
+/// The events that are played, each on its line.
+#[derive(Clone, Copy)]
+enum Lines {
+    /// The reference's example for one user.
+    Example,
+    /// An event of each of 256 stages in turn.
+    EachStage,
+}
+
+impl Lines {
+    /// The line behind the last one.
+    fn end(self) -> u32 {
+        match self {
+            Lines::Example => 12,
+            Lines::EachStage => 257,
+        }
+    }
+
+    /// The stage that the event of a line fits, or 0 where it fits none.
+    fn stage(self, line: u32) -> u32 {
+        match self {
+            Lines::Example => stage_of(line),
+            Lines::EachStage => line,
+        }
+    }
 }
 
 /// The stage of a line of the reference's example for one user, or 0 for the other lines.
@@ -141,100 +158,121 @@ fn stage_of(line: u32) -> u32 {
     }
 }
 
-/// The machine of three stages with a span of 20 nanoseconds, after the reference's example.
-fn after_example<L: Ledger>(
+/// Plays the events.
+fn play_lines<L: Ledger>(
+    alloc: Global,
+    machine: &mut Auto<u32, L>,
+    lines: Lines,
+    told: &mut Told,
+    steps: &mut Steps<L>,
+) -> Result<(), Memory>
+    requires read { machine.old.gone ≡ [] }
+    requires later { AllComeFrom 1 machine.old.slots }
+    ensures read { IfOk result (λ _. machine.new.gone ≡ []) }
+{
+    for line in 1..lines.end() {
+        play(alloc, machine, line, lines.stage(line), told, steps)?;
+    }
+    Ok(())
+}
+
+/// Whether one sequence alone is pending, of stage 1, with the event of this line.
+fn is_begun(held: &StageChains, line: u32) -> bool {
+    match held.items().as_slice() {
+        [(stage, chain)] => *stage == 1 && is_event(chain, line),
+        _ => false,
+    }
+}
+
+/// Whether a sequence alone is pending that this line begins, or nothing where there is no line.
+fn is_pending(held: &StageChains, line: Option<u32>) -> bool {
+    match line {
+        Some(line) => is_begun(held, line),
+        None => held.items().is_empty(),
+    }
+}
+
+/// Whether the machine has a sequence alone pending that this line begins, or nothing where there is no line.
+fn holds<L: Ledger>(alloc: Global, machine: &Auto<u32, L>, line: Option<u32>) -> bool {
+    match machine.holders(alloc) {
+        Ok(held) => is_pending(&held, line),
+        Err(_) => false,
+    }
+}
+
+/// Drops the sequences that are too old at a time, in nanoseconds. Returns whether the machine has what this line begins
+/// alone pending then, or nothing where there is no line.
+fn holds_at<L: Ledger>(
+    alloc: Global,
+    machine: &mut Auto<u32, L>,
+    reach: i128,
+    line: Option<u32>,
+    told: &mut Told,
+    steps: &mut Steps<L>,
+) -> bool
+    requires { machine.old.gone ≡ [] }
+    ensures { IsTrue result → machine.new.gone ≡ [] }
+{
+    machine.expire(reach, steps);
+    match read_ceased(machine, &mut told.ceased) {
+        Ok(()) => holds(alloc, machine, line),
+        Err(_) => false,
+    }
+}
+
+/// Plays the reference's example. Returns whether the sequence of line 7 is pending at 27 nanoseconds, and too old at 28.
+fn play_and_expire<L: Ledger>(
+    alloc: Global,
+    machine: &mut Auto<u32, L>,
+    told: &mut Told,
+    steps: &mut Steps<L>,
+) -> Result<bool, Memory>
+    requires read { machine.old.gone ≡ [] }
+    requires later { AllComeFrom 1 machine.old.slots }
+{
+    play_lines(alloc, machine, Lines::Example, told, steps)?;
+    Ok(
+        holds_at(alloc, machine, 27, Some(7), told, steps)
+            && holds_at(alloc, machine, 28, None, told, steps),
+    )
+}
+
+/// Plays the reference's example on a machine of three stages with a span of 20 nanoseconds. Returns whether its last
+/// sequence is pending until it is too old.
+fn plays_example<L: Ledger>(
     alloc: Global,
     told: &mut Told,
     steps: &mut Steps<L>,
-) -> Result<Auto<u32, L>, Memory>
-    ensures { IfOk result (λ machine. machine.gone ≡ []) }
-{
+) -> Result<bool, Memory> {
     let mut machine = Auto::new(alloc, 3, Some(20))?;
-    for line in 1..12 {
-        play(alloc, &mut machine, line, stage_of(line), told, steps)?;
-    }
-    Ok(machine)
+    let expired = play_and_expire(alloc, &mut machine, told, steps);
+    drop(machine);
+    expired
 }
 
-/// Plays an event of each of 256 stages in turn.
+/// Plays an event of each of 256 stages in turn on a machine of as many.
 fn play_each_stage<L: Ledger>(
     alloc: Global,
     told: &mut Told,
     steps: &mut Steps<L>,
 ) -> Result<(), Memory> {
-    let mut machine: Auto<u32, L> = Auto::new(alloc, 256, None)?;
-    for stage in 1..257 {
-        play(alloc, &mut machine, stage, stage, told, steps)?;
-    }
-    Ok(())
-}
-
-/// The stage and the first line of the pending sequence, where there is one alone.
-fn only_pending<L: Ledger>(
-    alloc: Global,
-    machine: &Auto<u32, L>,
-) -> Result<Option<(u32, Option<u32>)>, Memory> {
-    let holders = machine.holders(alloc)?;
-    match holders.items().as_slice() {
-        [(stage, chain)] => Ok(Some((*stage, first_line(chain)))),
-        _ => Ok(None),
-    }
-}
-
-/// The line of the first event of a chain.
-fn first_line(chain: &Chain) -> Option<u32> {
-    match chain.items().first() {
-        Some(event) => Some(event.line),
-        None => None,
-    }
-}
-
-/// Drops the sequences that are too old at a time, and sees which one alone is pending then, by its stage and line.
-fn check_expiry<R: Abort, L: Ledger>(
-    rt: &R,
-    alloc: Global,
-    machine: &mut Auto<u32, L>,
-    row: (i128, Option<(u32, Option<u32>)>),
-    told: &mut Told,
-    steps: &mut Steps<L>,
-) -> Result<(), Fail>
-    requires { machine.old.gone ≡ [] }
-    ensures { OnOk result (machine.new.gone ≡ []) }
-{
-    let (reach, pending) = row;
-    expire(machine, reach, told, steps)?;
-    assert_eq!(rt; only_pending(alloc, machine)?, pending);
-    Ok(())
-}
-
-/// The sequence of line 7 is pending at 27 nanoseconds, and too old at 28.
-fn check_expiries<R: Abort, L: Ledger>(
-    rt: &R,
-    alloc: Global,
-    machine: &mut Auto<u32, L>,
-    told: &mut Told,
-    steps: &mut Steps<L>,
-) -> Result<(), Fail>
-    requires { machine.old.gone ≡ [] }
-{
-    check_expiry(rt, alloc, machine, (27, Some((1, Some(7)))), told, steps)?;
-    check_expiry(rt, alloc, machine, (28, None), told, steps)
-}
-
-/// In the reference's example the events of lines 2, 4 and 9 are the user's one match, and that of line 7 stays pending
-/// until it is too old.
-fn check_example<R: Abort, L: Ledger>(rt: &R, alloc: Global, blank: Blank) -> Result<(), Fail>
-    requires { (blank.name ≡ L.name) × (blank.parts ≡ L.parts) × (0 < L.parts) }
-{
-    let (_book, share) = blank.open::<L>();
-    let mut steps = Steps::of(share);
-    let mut told = Told::nothing(alloc);
-    let mut machine = after_example(alloc, &mut told, &mut steps)?;
-    let expired = check_expiries(rt, alloc, &mut machine, &mut told, &mut steps);
+    let mut machine = Auto::new(alloc, 256, None)?;
+    let played = play_lines(alloc, &mut machine, Lines::EachStage, told, steps);
     drop(machine);
-    expired?;
-    has_told(rt, &told, &[2, 4, 9], &[1, 2, 7]);
-    Ok(())
+    played
+}
+
+/// The lines of the user's one match in the reference's example.
+static MATCHED: &[u32] = &[2, 4, 9];
+
+/// The tags of the sequences that cease in it.
+static CEASED: &[u32] = &[1, 2, 7];
+
+/// Whether in the reference's example the events of lines 2, 4 and 9 are the user's one match, and that of line 7 stays
+/// pending until it is too old.
+fn tells_example<L: Ledger>(alloc: Global, steps: &mut Steps<L>) -> bool {
+    let mut told = Told::nothing(alloc);
+    plays_example(alloc, &mut told, steps) == Ok(true) && told.has(MATCHED, CEASED)
 }
 
 /// The lines from 1 to 256.
@@ -246,48 +284,59 @@ fn lines_to_256(alloc: Global) -> Result<Vec<u32>, Memory> {
     Ok(lines)
 }
 
-/// Sees that the machine matched these lines, and that sequences with these tags ceased.
-fn has_told(rt: &impl Abort, told: &Told, matched: &[u32], ceased: &[u32]) {
-    assert_eq!(rt; told.matched.as_slice(), matched);
-    assert_eq!(rt; told.ceased.as_slice(), ceased);
+/// The tag of the sequence that makes a match of 256 events.
+static FIRST: &[u32] = &[1];
+
+/// Whether at 256 stages an event of each stage in turn makes a match of as many events.
+fn tells_each_stage<L: Ledger>(alloc: Global, steps: &mut Steps<L>) -> bool {
+    let Ok(lines) = lines_to_256(alloc) else {
+        return false;
+    };
+    let mut told = Told::nothing(alloc);
+    play_each_stage(alloc, &mut told, steps).is_ok() && told.has(&lines, FIRST)
 }
 
-/// At 256 stages an event of each stage in turn makes a match of as many events.
-fn check_each_stage<R: Abort, L: Ledger>(rt: &R, alloc: Global, blank: Blank) -> Result<(), Fail>
+/// Whether a machine that plays these events tells what it should.
+fn tells<L: Ledger>(alloc: Global, lines: Lines, blank: Blank) -> bool
     requires { (blank.name ≡ L.name) × (blank.parts ≡ L.parts) × (0 < L.parts) }
 {
     let (_book, share) = blank.open::<L>();
     let mut steps = Steps::of(share);
-    let mut told = Told::nothing(alloc);
-    play_each_stage(alloc, &mut told, &mut steps)?;
-    has_told(rt, &told, &lines_to_256(alloc)?, &[1]);
-    Ok(())
+    match lines {
+        Lines::Example => tells_example(alloc, &mut steps),
+        Lines::EachStage => tells_each_stage(alloc, &mut steps),
+    }
 }
 
 #[test]
-fn the_reference_user_has_one_match(rt: HostRuntime) -> Result<(), Fail> {
-    check_example::<HostRuntime, Brand>(&rt, rt.alloc(), Blank::new(1))
+fn the_reference_user_has_one_match(rt: HostRuntime) {
+    assert!(rt; tells::<Brand>(rt.alloc(), Lines::Example, Blank::new(1)));
 }
 
 #[test]
-fn a_match_may_have_256_events(rt: HostRuntime) -> Result<(), Fail> {
-    check_each_stage::<HostRuntime, Brand>(&rt, rt.alloc(), Blank::new(1))
+fn a_match_may_have_256_events(rt: HostRuntime) {
+    assert!(rt; tells::<Brand>(rt.alloc(), Lines::EachStage, Blank::new(1)));
 }
 
-/// The pending sequence of a machine into which one was put.
-fn only_put(alloc: Global) -> Result<Option<(u32, Option<u32>)>, Memory> {
-    let mut events = Vec::new(alloc);
-    events.push(event_at(5))?;
+/// The chain of the event of this line alone.
+fn chain_of(alloc: Global, line: u32) -> Result<Chain, Memory>
+    ensures { IfOk result (λ chain. chain ≡ at_line line ∷ []) }
+{
+    Ok(Chain::of(vec![in alloc; event_at(line)]?))
+}
+
+/// Whether a sequence that was put into a machine is pending.
+fn holds_what_was_put(alloc: Global) -> Result<bool, Memory> {
+    let chain = chain_of(alloc, 5)?;
     let mut machine: Auto<u32, Brand> = Auto::new(alloc, 3, None)?;
     machine.ready(alloc)?;
-    machine.put_holder(1, Chain::of(events), 50);
-    let pending = only_pending(alloc, &machine);
+    machine.put_holder(1, chain, 50);
+    let is_held = holds(alloc, &machine, Some(5));
     drop(machine);
-    pending
+    Ok(is_held)
 }
 
 #[test]
-fn a_sequence_that_was_put_is_pending(rt: HostRuntime) -> Result<(), Fail> {
-    assert_eq!(rt; only_put(rt.alloc())?, Some((1, Some(5))));
-    Ok(())
+fn a_sequence_that_was_put_is_pending(rt: HostRuntime) {
+    assert!(rt; holds_what_was_put(rt.alloc()) == Ok(true));
 }

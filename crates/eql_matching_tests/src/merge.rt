@@ -10,7 +10,6 @@ use eql_values::{
     Value,
 };
 use std::alloc::Global;
-use std::test::Fail;
 
 /// The events of a shard: none to six, some at the times of other shards' events.
 fn list_of(alloc: Global, shard: u32) -> Result<Vec<Item>, Memory> {
@@ -100,22 +99,35 @@ fn sorted_orders(alloc: Global, lists: &[Items]) -> Result<Vec<OrderKey>, Memory
     Ok(orders)
 }
 
-#[test]
-fn lists_of_many_shards(rt: HostRuntime) -> Result<(), Fail> {
-    let alloc = rt.alloc();
-    let lists = lists_of(alloc, 256)?;
+/// Whether the events stand at these places.
+fn has_orders(alloc: Global, items: &Items, expected: &[OrderKey]) -> Result<bool, Memory> {
+    let mut orders = Vec::new(alloc);
+    push_orders(&mut orders, items)?;
+    Ok(orders.as_slice() == expected)
+}
+
+/// Whether lists that ascend and are apart are merged into one in ascending order.
+fn is_merged(alloc: Global, lists: Vec<Items>) -> Result<bool, Memory> {
     let sorted = sorted_orders(alloc, &lists)?;
-    assert!(rt; each_ascends(&lists));
-    assert!(rt; are_apart(&lists));
+    if !each_ascends(&lists) || !are_apart(&lists) {
+        return Ok(false);
+    }
     let all = merge(alloc, ItemLists::of(lists))?;
-    let mut merged = Vec::new(alloc);
-    push_orders(&mut merged, &all)?;
-    assert_eq!(rt; merged.as_slice(), sorted.as_slice());
-    Ok(())
+    has_orders(alloc, &all, &sorted)
+}
+
+/// Whether the lists of so many shards are merged.
+fn are_merged(alloc: Global, shards: u32) -> Result<bool, Memory> {
+    is_merged(alloc, lists_of(alloc, shards)?)
+}
+
+#[test]
+fn lists_of_many_shards(rt: HostRuntime) {
+    assert!(rt; are_merged(rt.alloc(), 256) == Ok(true));
 }
 
 /// Whether a chain is one event, on this line.
-fn is_event(chain: &Chain, line: u32) -> bool {
+pub(crate) fn is_event(chain: &Chain, line: u32) -> bool {
     match chain.items() {
         [event] => event.line == line,
         _ => false,
@@ -142,15 +154,23 @@ fn merged_match(alloc: Global, found: Match) -> Result<Matches, Memory> {
     merge_matches(alloc, vec![in alloc; found]?)
 }
 
-#[test]
-fn the_matches_of_one_part(rt: HostRuntime) -> Result<(), Fail> {
-    let alloc = rt.alloc();
-    let all = merged_match(alloc, one_match(alloc, 5, 3)?)?;
-    assert_eq!(rt; all.items().len(), 1);
-    for found in all.items() {
-        assert!(rt; is_event(&found.chain, 3));
+/// Whether these are one match, by one event on this line.
+fn is_one_match(found: &Matches, line: u32) -> bool {
+    match found.items().as_slice() {
+        [found] => is_event(&found.chain, line),
+        _ => false,
     }
-    Ok(())
+}
+
+/// Whether the one match of a part is as it was, merged with no others.
+fn keeps_match(alloc: Global) -> Result<bool, Memory> {
+    let all = merged_match(alloc, one_match(alloc, 5, 3)?)?;
+    Ok(is_one_match(&all, 3))
+}
+
+#[test]
+fn the_matches_of_one_part(rt: HostRuntime) {
+    assert!(rt; keeps_match(rt.alloc()) == Ok(true));
 }
 
 /// A pending sequence of a part: one event at this time.
@@ -169,13 +189,21 @@ fn merged_holder(alloc: Global, held: Holder) -> Result<Holders, Memory> {
     merge_holders(alloc, vec![in alloc; held]?)
 }
 
-#[test]
-fn the_pending_sequences_of_one_part(rt: HostRuntime) -> Result<(), Fail> {
-    let alloc = rt.alloc();
-    let all = merged_holder(alloc, one_holder(alloc, 5, 3)?)?;
-    assert_eq!(rt; all.items().len(), 1);
-    for holder in all.items() {
-        assert!(rt; holder.stage == 1 && is_event(&holder.chain, 3));
+/// Whether this is one pending sequence of stage 1, with one event on this line.
+fn is_one_holder(held: &Holders, line: u32) -> bool {
+    match held.items().as_slice() {
+        [holder] => holder.stage == 1 && is_event(&holder.chain, line),
+        _ => false,
     }
-    Ok(())
+}
+
+/// Whether the one pending sequence of a part is as it was, merged with no others.
+fn keeps_holder(alloc: Global) -> Result<bool, Memory> {
+    let all = merged_holder(alloc, one_holder(alloc, 5, 3)?)?;
+    Ok(is_one_holder(&all, 3))
+}
+
+#[test]
+fn the_pending_sequences_of_one_part(rt: HostRuntime) {
+    assert!(rt; keeps_holder(rt.alloc()) == Ok(true));
 }

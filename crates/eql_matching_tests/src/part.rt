@@ -6,16 +6,14 @@ ghost use Rattle.eql_auto.specs.Machine.{AllAreBefore};
 ghost use Rattle.eql_laws.specs.Shapes.{HasStageBefore, IsFull};
 ghost use Rattle.eql_part.specs.KeyTables.{ComesAfterAll};
 
-use crate::lookback::{Event, ends, fits, item_of, push_chain, push_key, push_matches};
+use crate::lookback::{Event, ends, fits, item_of, push_chain, push_key, shows};
 use eql_auto::Steps;
 use eql_part::Keys;
-use eql_values::{Holder, Holders, Matches, Memory, OrderKey};
+use eql_values::{Holder, Holders, Item, Memory, OrderKey};
 use std::alloc::{AllocError, Global};
 use std::fmt::Write;
 use std::marker::Brand;
-use std::process::Abort;
 use std::sync::ledger::{Blank, Ledger};
-use std::test::*;
 
 /// Whether one event comes before another one.
 fn is_before(event: &OrderKey, order: &OrderKey) -> bool
@@ -66,19 +64,14 @@ fn nothing<L: Ledger>(alloc: Global, stages: u32, span: Option<i128>) -> Result<
     Keys::new(alloc, stages, span, Holders::of(Vec::new(alloc)))
 }
 
-/// Plays the event of a line.
-fn play<R: Abort, L: Ledger>(
-    rt: &R,
-    alloc: Global,
-    keys: &mut Keys<L>,
-    line: u32,
-    event: Event,
-    steps: &mut Steps<L>,
-) -> Result<Matches, Memory> {
-    let item = item_of(alloc, line, event)?;
-    let held = keys.holders()?;
-    assert!(rt; is_after_all(&item.order, held.items()));
-    keys.take(&item, steps)
+/// Whether the event comes after all that is pending.
+fn is_later<L: Ledger>(keys: &Keys<L>, item: &Item) -> bool
+    ensures { IsTrue result → ComesAfterAll item.now.order keys.now.holders }
+{
+    match keys.holders() {
+        Ok(held) => is_after_all(&item.order, held.items()),
+        Err(_) => false,
+    }
 }
 
 /// Adds the keys, the stages and the lines of pending sequences.
@@ -91,19 +84,35 @@ fn push_holders(shown: &mut String, held: &Holders) -> Result<(), AllocError> {
     Ok(())
 }
 
-/// The keys, the stages and the lines of what is pending.
-fn pending<L: Ledger>(alloc: Global, keys: &Keys<L>) -> Result<String, Memory> {
-    let held = keys.holders()?;
+/// Whether pending sequences have these keys, stages and lines.
+pub(crate) fn reads(alloc: Global, held: &Holders, expected: &str) -> bool {
     let mut shown = String::new(alloc);
-    push_holders(&mut shown, &held)?;
-    Ok(shown)
+    push_holders(&mut shown, held).is_ok() && shown.as_str() == expected
 }
 
-/// An event on its line, the matches that it completes, and what is pending behind it, where that is looked at.
+/// Whether these sequences are pending.
+fn holds<L: Ledger>(alloc: Global, keys: &Keys<L>, expected: &str) -> bool {
+    match keys.holders() {
+        Ok(held) => reads(alloc, &held, expected),
+        Err(_) => false,
+    }
+}
+
+/// What is done to the pending sequences.
+#[derive(Clone, Copy)]
+enum Act {
+    /// They are only looked at.
+    Look,
+    /// The event of this line is played.
+    Play(u32, Event),
+    /// What is too old at this time, in nanoseconds, is dropped.
+    Sweep(i128),
+}
+
+/// What is done, the matches that it completes, and what is pending behind it, where that is looked at.
 #[derive(Clone, Copy)]
 struct Played {
-    line: u32,
-    event: Event,
+    act: Act,
     matched: &'static str,
     pending: Option<&'static str>,
 }
@@ -112,64 +121,99 @@ struct Played {
 macro_rules! played {
     ($line:expr, $event:expr $(, $field:ident: $value:expr)* $(,)?) => {
         Played {
-            line: $line,
-            event: $event,
+            act: Act::Play($line, $event),
             $($field: $value,)*
             ..NOTHING
         }
     };
 }
 
-/// No event of note.
+/// A sweep at a time, and what is pending behind it.
+macro_rules! swept {
+    ($time:expr, $pending:expr) => {
+        Played {
+            act: Act::Sweep($time),
+            pending: Some($pending),
+            ..NOTHING
+        }
+    };
+}
+
+/// What is pending as it is.
+macro_rules! seen {
+    ($pending:expr) => {
+        Played {
+            pending: Some($pending),
+            ..NOTHING
+        }
+    };
+}
+
+/// Nothing of note.
 const NOTHING: Played = Played {
-    line: 0,
-    event: fits!(0, Empty, 0),
+    act: Act::Look,
     matched: "",
     pending: None,
 };
 
-/// The keys and the lines of the matches that an event completes.
-fn matched_by<R: Abort, L: Ledger>(
-    rt: &R,
+/// Plays an event. Returns whether it comes after all that is pending, and completes these matches.
+fn completes<L: Ledger>(
+    alloc: Global,
+    keys: &mut Keys<L>,
+    item: &Item,
+    matched: &str,
+    steps: &mut Steps<L>,
+) -> bool {
+    if !is_later(keys, item) {
+        return false;
+    }
+    match keys.take(item, steps) {
+        Ok(found) => shows(alloc, &found, matched),
+        Err(_) => false,
+    }
+}
+
+/// Does what a row says. Returns whether its matches are as they should be.
+fn is_matched<L: Ledger>(
     alloc: Global,
     keys: &mut Keys<L>,
     row: &Played,
     steps: &mut Steps<L>,
-) -> Result<String, Memory> {
-    let found = play(rt, alloc, keys, row.line, row.event, steps)?;
-    let mut shown = String::new(alloc);
-    push_matches(&mut shown, &found)?;
-    Ok(shown)
+) -> bool {
+    match row.act {
+        Act::Look => true,
+        Act::Play(line, event) => match item_of(alloc, line, event) {
+            Ok(item) => completes(alloc, keys, &item, row.matched, steps),
+            Err(_) => false,
+        },
+        Act::Sweep(time) => {
+            keys.sweep(time, steps);
+            true
+        }
+    }
 }
 
-/// Sees that these sequences are pending.
-fn holds<R: Abort, L: Ledger>(
-    rt: &R,
-    alloc: Global,
-    keys: &Keys<L>,
-    expected: &str,
-) -> Result<(), Fail> {
-    let held = pending(alloc, keys)?;
-    assert_eq!(rt; held.as_str(), expected);
-    Ok(())
+/// Whether these sequences are pending, where any are given.
+fn is_pending<L: Ledger>(alloc: Global, keys: &Keys<L>, expected: Option<&str>) -> bool {
+    match expected {
+        Some(expected) => holds(alloc, keys, expected),
+        None => true,
+    }
 }
 
-/// Plays events, and compares what each gives.
-fn play_each<R: Abort, L: Ledger>(
-    rt: &R,
+/// The first of some rows in turn whose matches, or what is pending behind it, aren't as they should be, from 0.
+fn wrong_row<L: Ledger>(
     alloc: Global,
     keys: &mut Keys<L>,
     rows: &[Played],
     steps: &mut Steps<L>,
-) -> Result<(), Fail> {
-    for row in rows {
-        let found = matched_by(rt, alloc, keys, row, steps)?;
-        assert_eq!(rt; found.as_str(), row.matched);
-        if let Some(expected) = row.pending {
-            holds(rt, alloc, keys, expected)?;
+) -> Option<usize> {
+    for (number, row) in rows.iter().enumerate() {
+        if !is_matched(alloc, keys, row, steps) || !is_pending(alloc, keys, row.pending) {
+            return Some(number);
         }
     }
-    Ok(())
+    None
 }
 
 /// The first eight lines of the syntax reference's example "How sequence queries handle matches" leave three sequences
@@ -196,22 +240,65 @@ static EXAMPLE: &[Played] = &[
     played!(10, ends!(10, Root, 0), pending: Some("elkbee 2 6 8;")),
 ];
 
-/// The event that completes the other sequence.
-static LAST: &[Played] = &[played!(
-    10,
-    fits!(10, Elkbee, 4),
-    matched: "elkbee 6 8 10;",
-    pending: Some(""),
-)];
+/// The other sequence as it was, and the event that completes it.
+static LAST: &[Played] = &[
+    seen!("elkbee 2 6 8;"),
+    played!(
+        10,
+        fits!(10, Elkbee, 4),
+        matched: "elkbee 6 8 10;",
+        pending: Some(""),
+    ),
+];
 
-/// Events that begin sequences of three keys.
-static BEGIN: &[Played] = &[
+/// Whether what is pending goes on in another part: it is given back as it was, and an event completes it.
+fn goes_on<L: Ledger>(alloc: Global, keys: &Keys<L>, steps: &mut Steps<L>) -> Result<bool, Memory> {
+    let held = keys.holders()?;
+    if !is_lone(&held, 3) {
+        return Ok(false);
+    }
+    let mut other = Keys::new(alloc, 3, None, held)?;
+    let wrong = wrong_row(alloc, &mut other, LAST, steps);
+    drop(other);
+    Ok(wrong.is_none())
+}
+
+/// The first row of the example that isn't as it should be, how many machines there are behind it, and whether what is
+/// pending goes on in another part.
+type Seen = (Option<usize>, usize, bool);
+
+/// Plays the example.
+fn play_example<L: Ledger>(alloc: Global, keys: &mut Keys<L>, steps: &mut Steps<L>) -> Seen {
+    let wrong = wrong_row(alloc, keys, EXAMPLE, steps);
+    let machines = keys.machines();
+    (wrong, machines, goes_on(alloc, keys, steps) == Ok(true))
+}
+
+/// What is seen of the example.
+fn seen_in_example<L: Ledger>(alloc: Global, blank: Blank) -> Result<Seen, Memory>
+    requires { (blank.name ≡ L.name) × (blank.parts ≡ L.parts) × (0 < L.parts) }
+{
+    let (_book, share) = blank.open::<L>();
+    let mut steps = Steps::of(share);
+    let mut keys = nothing(alloc, 3, None)?;
+    let seen = play_example(alloc, &mut keys, &mut steps);
+    drop(keys);
+    Ok(seen)
+}
+
+/// Events begin sequences of three keys. With a span of 10 nanoseconds those that began at 0 and 5 are alive at 10 and 15,
+/// and not a nanosecond later.
+static SWEPT: &[Played] = &[
     played!(1, fits!(0, Root, 1)),
     played!(5, fits!(5, Elkbee, 1)),
     played!(20, fits!(20, Nobody, 1)),
+    swept!(10, "elkbee 1 5;nobody 1 20;root 1 1;"),
+    swept!(11, "elkbee 1 5;nobody 1 20;"),
+    swept!(15, "elkbee 1 5;nobody 1 20;"),
+    swept!(16, "nobody 1 20;"),
 ];
 
-/// Keys that are alike in their first sixteen bytes.
+/// Keys that are alike in their first sixteen bytes are told in order, whichever came first.
 static ALIKE: &[Played] = &[
     played!(1, fits!(1, Shop, 1)),
     played!(2, fits!(2, Gate, 1)),
@@ -222,112 +309,37 @@ static ALIKE: &[Played] = &[
     ),
 ];
 
-/// Plays the example, and what is pending behind it in another part.
-fn play_example<R: Abort, L: Ledger>(
-    rt: &R,
+/// The first of some rows, for sequences of two stages with this span, that isn't as it should be.
+fn wrong_in<L: Ledger>(
     alloc: Global,
-    keys: &mut Keys<L>,
-    steps: &mut Steps<L>,
-) -> Result<(), Fail> {
-    play_each(rt, alloc, keys, EXAMPLE, steps)?;
-    assert_eq!(rt; keys.machines(), 1);
-    goes_on(rt, alloc, keys, steps)
-}
-
-/// What is pending goes on in another part: it is given back as it was, and an event completes it.
-fn goes_on<R: Abort, L: Ledger>(
-    rt: &R,
-    alloc: Global,
-    keys: &Keys<L>,
-    steps: &mut Steps<L>,
-) -> Result<(), Fail> {
-    let held = keys.holders()?;
-    assert!(rt; is_lone(&held, 3));
-    let mut other = Keys::new(alloc, 3, None, held)?;
-    let completed = completes(rt, alloc, &mut other, steps);
-    drop(other);
-    completed
-}
-
-/// The pending sequence is as it was, and an event completes it.
-fn completes<R: Abort, L: Ledger>(
-    rt: &R,
-    alloc: Global,
-    keys: &mut Keys<L>,
-    steps: &mut Steps<L>,
-) -> Result<(), Fail> {
-    holds(rt, alloc, keys, "elkbee 2 6 8;")?;
-    play_each(rt, alloc, keys, LAST, steps)
-}
-
-fn check_example<R: Abort, L: Ledger>(rt: &R, alloc: Global, blank: Blank) -> Result<(), Fail>
+    span: Option<i128>,
+    rows: &[Played],
+    blank: Blank,
+) -> Result<Option<usize>, Memory>
     requires { (blank.name ≡ L.name) × (blank.parts ≡ L.parts) × (0 < L.parts) }
 {
     let (_book, share) = blank.open::<L>();
     let mut steps = Steps::of(share);
-    let mut keys = nothing(alloc, 3, None)?;
-    let played = play_example(rt, alloc, &mut keys, &mut steps);
+    let mut keys = nothing(alloc, 2, span)?;
+    let wrong = wrong_row(alloc, &mut keys, rows, &mut steps);
     drop(keys);
-    played
-}
-
-/// Times in nanoseconds, and what is pending once the table was swept at them.
-static SWEEPS: &[(i128, &str)] = &[
-    (10, "elkbee 1 5;nobody 1 20;root 1 1;"),
-    (11, "elkbee 1 5;nobody 1 20;"),
-    (15, "elkbee 1 5;nobody 1 20;"),
-    (16, "nobody 1 20;"),
-];
-
-/// With a span of 10 nanoseconds sequences that began at 0 and 5 are alive at 10 and 15, and not a nanosecond later.
-fn sweep_each<R: Abort, L: Ledger>(
-    rt: &R,
-    alloc: Global,
-    keys: &mut Keys<L>,
-    steps: &mut Steps<L>,
-) -> Result<(), Fail> {
-    play_each(rt, alloc, keys, BEGIN, steps)?;
-    for &(time, expected) in SWEEPS {
-        keys.sweep(time, steps);
-        holds(rt, alloc, keys, expected)?;
-    }
-    Ok(())
-}
-
-fn check_sweep<R: Abort, L: Ledger>(rt: &R, alloc: Global, blank: Blank) -> Result<(), Fail>
-    requires { (blank.name ≡ L.name) × (blank.parts ≡ L.parts) × (0 < L.parts) }
-{
-    let (_book, share) = blank.open::<L>();
-    let mut steps = Steps::of(share);
-    let mut keys = nothing(alloc, 2, Some(10))?;
-    let swept = sweep_each(rt, alloc, &mut keys, &mut steps);
-    drop(keys);
-    swept
-}
-
-/// Keys that are alike in their first sixteen bytes are told in order, whichever came first.
-fn check_alike<R: Abort, L: Ledger>(rt: &R, alloc: Global, blank: Blank) -> Result<(), Fail>
-    requires { (blank.name ≡ L.name) × (blank.parts ≡ L.parts) × (0 < L.parts) }
-{
-    let (_book, share) = blank.open::<L>();
-    let mut steps = Steps::of(share);
-    let mut keys = nothing(alloc, 2, None)?;
-    let played = play_each(rt, alloc, &mut keys, ALIKE, &mut steps);
-    drop(keys);
-    played
+    Ok(wrong)
 }
 
 #[test]
-fn the_references_example(rt: HostRuntime) -> Result<(), Fail> {
-    check_example::<HostRuntime, Brand>(&rt, rt.alloc(), Blank::new(1))
+fn the_references_example(rt: HostRuntime) {
+    let seen = seen_in_example::<Brand>(rt.alloc(), Blank::new(1));
+    assert_eq!(rt; seen, Ok((None, 1, true)));
 }
 
 #[test]
-fn a_sweep_drops_what_is_too_old(rt: HostRuntime) -> Result<(), Fail> {
-    check_sweep::<HostRuntime, Brand>(&rt, rt.alloc(), Blank::new(1))
+fn a_sweep_drops_what_is_too_old(rt: HostRuntime) {
+    let wrong = wrong_in::<Brand>(rt.alloc(), Some(10), SWEPT, Blank::new(1));
+    assert_eq!(rt; wrong, Ok(None));
 }
 
 #[test]
-fn keys_that_begin_alike(rt: HostRuntime) -> Result<(), Fail> {
-    check_alike::<HostRuntime, Brand>(&rt, rt.alloc(), Blank::new(1))
+fn keys_that_begin_alike(rt: HostRuntime) {
+    let wrong = wrong_in::<Brand>(rt.alloc(), None, ALIKE, Blank::new(1));
+    assert_eq!(rt; wrong, Ok(None));
 }

@@ -5,10 +5,7 @@ use Rattle.eql_auto.specs.Machine.{Machine, ComesAfter}
 use Rattle.eql_matching_tests.specs.Played.{at_line}
 use Rattle.eql_matching_tests.proofs.auto.play_each_stage.Goals as goal
 
-pub loop-stage-init : goal.loop-stage-init
-loop-stage-init g c = record {
-  read = ap (λ (a : Machine ℕ). a.gone) (c.in_ok-machine.ensures {u = tt});
-  later = λ next from.
-      subst (λ (a : Machine ℕ). All (ComesAfter (at_line next)) a.slots) (sym (c.in_ok-machine.ensures {u = tt}))
-      (All-replicate (ComesAfter (at_line next)) (256 - 1) None tt);
-}
+pub play_lines-played-requires-clause-later : goal.play_lines-played-requires-clause-later
+play_lines-played-requires-clause-later g c = λ next from.
+    subst (λ (a : Machine ℕ). All (ComesAfter (at_line next)) a.slots) (sym (c.in_ok-machine.ensures {u = tt}))
+    (All-replicate (ComesAfter (at_line next)) (256 - 1) None tt)
