@@ -1,24 +1,226 @@
-//! The machine on the events of a worked example, and at its greatest number of stages.
-ghost use Rattle.std.specs.Prelude.{◌≡◌, ◌+◌, ◌<◌, [], ◌∷◌, IfOk, IsTrue};
-ghost use Rattle.eql_matching_tests.specs.Played.{at_line, AllComeFrom};
+//! The machine of one key: what plays acts on it, a worked example, and its greatest number of stages.
+ghost use Rattle.std.specs.Prelude.{◌≡◌, ◌<◌, ◌≤◌, [], is_some, IsTrue, length};
+ghost use Rattle.std.specs.List.{All};
+ghost use Rattle.std.specs.declared.cmp.Ordering.TheVariants.{Less};
+ghost use Rattle.eql_values.specs.declared.order.OrderKey.{OrderKey};
+ghost use Rattle.eql_values.specs.Masks.{has_after};
+ghost use Rattle.eql_values.specs.OrderKeys.{order_cmp};
+ghost use Rattle.eql_auto.specs.Machine.{ComesAfter};
+ghost use Rattle.eql_matching_tests.specs.Played.{IsAfterLast};
 
-use crate::merge::is_event;
+use crate::lookback::{chain_of, has_lines, order_at};
 use eql_auto::{Auto, Steps};
-use eql_values::{Chain, Mask, Memory, OrderKey, StageChains};
+use eql_values::{Act, Chain, Mask, Memory, OrderKey, StageChains};
 use std::alloc::Global;
 use std::marker::Brand;
 use std::sync::ledger::{Blank, Ledger};
 
-/// The event of a line, at as many nanoseconds.
-fn event_at(line: u32) -> OrderKey
-    ensures { result ≡ at_line line }
+/// What is played on a machine of so many stages with this span in nanoseconds: acts, and behind them the times, in
+/// nanoseconds, at which what is too old is dropped.
+#[derive(Drop)]
+pub(crate) struct Run {
+    pub(crate) stages: u32,
+    pub(crate) span: Option<i128>,
+    pub(crate) acts: Vec<Act>,
+    pub(crate) reaches: &'static [i128],
+}
+
+/// What a machine told so far. A tag is the line of the event that begins its sequence.
+#[derive(Drop)]
+pub(crate) struct Told {
+    /// The chains of its matches.
+    pub(crate) matches: Vec<Chain>,
+    /// The tags that it was given.
+    pub(crate) given: Vec<u32>,
+    /// The tags of the sequences that ceased.
+    pub(crate) ceased: Vec<u32>,
+}
+
+impl Told {
+    /// Nothing yet.
+    pub(crate) fn nothing(alloc: Global) -> Told {
+        Told {
+            matches: Vec::new(alloc),
+            given: Vec::new(alloc),
+            ceased: Vec::new(alloc),
+        }
+    }
+}
+
+/// Whether an event comes after the last one, where there was one.
+fn is_after(last: Option<OrderKey>, event: OrderKey) -> bool
+    ensures { IsTrue result → IsAfterLast last event }
 {
-    OrderKey {
-        ts: i128::from(line),
-        tie: None,
-        shard: 0,
-        line,
-        at: 0,
+    match last {
+        None => true,
+        Some(last) => last < event,
+    }
+}
+
+/// The tag of the sequence that an act begins, where it fits stage 1.
+fn tag_of(act: &Act) -> Option<u32>
+    ensures { is_some result ≡ has_after 0 act.now.mask }
+{
+    if act.mask.has(1) {
+        Some(act.order.line)
+    } else {
+        None
+    }
+}
+
+/// Adds a tag, where there is one. Returns whether there is memory for that.
+fn adds_tag(tags: &mut Vec<u32>, tag: Option<u32>) -> bool {
+    match tag {
+        Some(tag) => tags.push(tag).is_ok(),
+        None => true,
+    }
+}
+
+/// Adds the chain of a match, where there is one. Returns whether there is memory for that.
+fn adds_match(matches: &mut Vec<Chain>, found: Option<Chain>) -> bool {
+    match found {
+        Some(chain) => matches.push(chain).is_ok(),
+        None => true,
+    }
+}
+
+/// Reads all tags of sequences that ceased, and adds them to these. Returns whether there is memory for that.
+fn reads_ceased<L: Ledger>(machine: &mut Auto<u32, L>, ceased: &mut Vec<u32>) -> bool
+    ensures read { IsTrue result → machine.new.gone ≡ [] }
+    ensures slots { machine.new.slots ≡ machine.old.slots }
+{
+    while let Some(tag) = machine.next_gone() {
+        if ceased.push(tag).is_err() {
+            return false;
+        }
+    }
+    true
+}
+
+/// Plays one act, and reads the tags of the sequences that ceased. Returns whether there is memory for that.
+fn plays_act<L: Ledger>(
+    alloc: Global,
+    machine: &mut Auto<u32, L>,
+    act: &Act,
+    told: &mut Told,
+    steps: &mut Steps<L>,
+) -> bool
+    requires read { machine.old.gone ≡ [] }
+    requires later { All (ComesAfter act.now.order) machine.old.slots }
+    ensures read { IsTrue result → machine.new.gone ≡ [] }
+    ensures later { (next : OrderKey) → order_cmp act.now.order next ≡ Less
+        → IsTrue result → All (ComesAfter next) machine.new.slots }
+{
+    let Ok(()) = machine.ready(alloc) else {
+        return false;
+    };
+    let tag = tag_of(act);
+    let found = machine.turn(act.order, act.mask, act.until, tag, steps);
+    adds_match(&mut told.matches, found)
+        && adds_tag(&mut told.given, tag)
+        && reads_ceased(machine, &mut told.ceased)
+}
+
+/// Plays acts. Returns whether each came after the one before it, and was played.
+fn plays_acts<L: Ledger>(
+    alloc: Global,
+    machine: &mut Auto<u32, L>,
+    acts: &[Act],
+    told: &mut Told,
+    steps: &mut Steps<L>,
+) -> bool
+    requires read { machine.old.gone ≡ [] }
+    requires empty { (next : OrderKey) → All (ComesAfter next) machine.old.slots }
+    ensures { IsTrue result → machine.new.gone ≡ [] }
+{
+    let mut last = None;
+    for act in acts {
+        if !is_after(last, act.order) || !plays_act(alloc, machine, act, told, steps) {
+            return false;
+        }
+        last = Some(act.order);
+    }
+    true
+}
+
+/// Drops what is too old at each of these times, in nanoseconds, and reads the tags of what ceased. Returns whether there is
+/// memory for that.
+fn drops_old<L: Ledger>(
+    machine: &mut Auto<u32, L>,
+    reaches: &[i128],
+    ceased: &mut Vec<u32>,
+    steps: &mut Steps<L>,
+) -> bool
+    requires { machine.old.gone ≡ [] }
+{
+    for reach in reaches {
+        machine.expire(*reach, steps);
+        if !reads_ceased(machine, ceased) {
+            return false;
+        }
+    }
+    true
+}
+
+/// What is pending behind a run, or `None` where it can't be played.
+fn pending_behind<L: Ledger>(
+    alloc: Global,
+    machine: &mut Auto<u32, L>,
+    run: &Run,
+    told: &mut Told,
+    steps: &mut Steps<L>,
+) -> Option<StageChains>
+    requires read { machine.old.gone ≡ [] }
+    requires empty { (next : OrderKey) → All (ComesAfter next) machine.old.slots }
+{
+    if plays_acts(alloc, machine, &run.acts, told, steps)
+        && drops_old(machine, run.reaches, &mut told.ceased, steps)
+    {
+        machine.holders(alloc).ok()
+    } else {
+        None
+    }
+}
+
+/// What is pending behind a run on a new machine, or `None` where it can't be played.
+fn run_new<L: Ledger>(
+    alloc: Global,
+    run: &Run,
+    told: &mut Told,
+    steps: &mut Steps<L>,
+) -> Result<Option<StageChains>, Memory>
+    requires from { 1 ≤ run.now.stages }
+    requires to { run.now.stages ≤ 256 }
+{
+    let mut machine = Auto::new(alloc, run.stages, run.span)?;
+    let pending = pending_behind(alloc, &mut machine, run, told, steps);
+    drop(machine);
+    Ok(pending)
+}
+
+/// What is pending behind a run, on a new machine over a new ledger.
+fn run_over<L: Ledger>(
+    alloc: Global,
+    run: &Run,
+    told: &mut Told,
+    blank: Blank,
+) -> Result<Option<StageChains>, Memory>
+    requires blank { (blank.name ≡ L.name) × (blank.parts ≡ L.parts) × (0 < L.parts) }
+    requires from { 1 ≤ run.now.stages }
+    requires to { run.now.stages ≤ 256 }
+{
+    let (_book, share) = blank.open::<L>();
+    run_new(alloc, run, told, &mut Steps::of(share))
+}
+
+/// What is pending behind a run on a new machine, or `None` where it can't be played.
+pub(crate) fn pending_of(alloc: Global, run: &Run, told: &mut Told) -> Option<StageChains> {
+    if run.stages < 1 || 256 < run.stages {
+        return None;
+    }
+    match run_over::<Brand>(alloc, run, told, Blank::new(1)) {
+        Ok(pending) => pending,
+        Err(_) => None,
     }
 }
 
@@ -27,316 +229,177 @@ fn bit(place: u32) -> u128 {
     1u128.checked_shl(place).unwrap_or(0)
 }
 
-/// The mask of one stage, or of none for 0.
-fn mask_of(stage: u32) -> Mask {
-    match stage.checked_sub(1) {
-        None => Mask { low: 0, high: 0 },
-        Some(place) => Mask {
-            low: bit(place),
-            high: match place.checked_sub(128) {
-                Some(place) => bit(place),
-                None => 0,
-            },
+/// An act of this line, at as many nanoseconds, which fits one stage, or none for 0.
+fn act_at(line: u32, stage: u32) -> Act {
+    Act {
+        order: order_at(i128::from(line), 0, line),
+        mask: Mask {
+            low: bit(stage.wrapping_sub(1)),
+            high: bit(stage.wrapping_sub(129)),
         },
+        until: false,
     }
 }
 
-/// What a machine told so far.
-#[derive(Drop)]
-struct Told {
-    /// The lines of the events of its matches.
-    matched: Vec<u32>,
-    /// The tags of the sequences that ceased.
-    ceased: Vec<u32>,
-}
-
-impl Told {
-    /// Nothing yet.
-    fn nothing(alloc: Global) -> Told {
-        Told {
-            matched: Vec::new(alloc),
-            ceased: Vec::new(alloc),
+/// An act for each of these stages, from line 1 on, or `None` where memory is short.
+fn acts_on(alloc: Global, stages: &[u32]) -> Option<Vec<Act>> {
+    let mut acts = Vec::new(alloc);
+    let mut line = 0u32;
+    for stage in stages {
+        line = line.saturating_add(1);
+        if acts.push(act_at(line, *stage)).is_err() {
+            return None;
         }
     }
-
-    /// Whether the machine matched the events of these lines, and sequences with these tags ceased.
-    fn has(&self, matched: &[u32], ceased: &[u32]) -> bool {
-        self.matched.as_slice() == matched && self.ceased.as_slice() == ceased
-    }
+    Some(acts)
 }
 
-/// Reads all tags of sequences that ceased, and adds them to these.
-pub(crate) fn read_ceased<L: Ledger>(
-    machine: &mut Auto<u32, L>,
-    ceased: &mut Vec<u32>,
-) -> Result<(), Memory>
-    ensures read { IfOk result (λ _. machine.new.gone ≡ []) }
-    ensures slots { machine.new.slots ≡ machine.old.slots }
-{
-    while let Some(tag) = machine.next_gone() {
-        ceased.push(tag)?;
-    }
-    Ok(())
+/// A machine, and what comes of playing on it: what ceased, and the lines of the one pending sequence, of stage 1, or none.
+struct Row {
+    stages: u32,
+    span: Option<i128>,
+    reaches: &'static [i128],
+    ceased: &'static [u32],
+    pending: &'static [u32],
 }
 
-/// Adds the lines of the events of a match.
-fn add_lines(found: &Chain, lines: &mut Vec<u32>) -> Result<(), Memory> {
-    for event in found.items() {
-        lines.push(event.line)?;
-    }
-    Ok(())
-}
-
-/// Adds the lines of the events of a match, where there is one.
-fn add_match(found: Option<Chain>, lines: &mut Vec<u32>) -> Result<(), Memory> {
-    match found {
-        None => Ok(()),
-        Some(chain) => {
-            let added = add_lines(&chain, lines);
-            drop(chain);
-            added
-        }
-    }
-}
-
-/// Plays the event of a line, which fits one stage, or none for 0. The tag of a new sequence is the line.
-fn play<L: Ledger>(
-    alloc: Global,
-    machine: &mut Auto<u32, L>,
-    line: u32,
-    stage: u32,
-    told: &mut Told,
-    steps: &mut Steps<L>,
-) -> Result<(), Memory>
-    requires read { machine.old.gone ≡ [] }
-    requires later { AllComeFrom line machine.old.slots }
-    ensures read { IfOk result (λ _. machine.new.gone ≡ []) }
-    ensures later { IfOk result (λ _. AllComeFrom (line + 1) machine.new.slots) }
-{
-    machine.ready(alloc)?;
-    let mask = mask_of(stage);
-    let tag = mask.has(1).then_some(line);
-    let found = machine.turn(event_at(line), mask, false, tag, steps);
-    add_match(found, &mut told.matched)?;
-    read_ceased(machine, &mut told.ceased)
-}
-
-/// The events that are played, each on its line.
-#[derive(Clone, Copy)]
-enum Lines {
-    /// The reference's example for one user.
-    Example,
-    /// An event of each of 256 stages in turn.
-    EachStage,
-}
-
-impl Lines {
-    /// The line behind the last one.
-    fn end(self) -> u32 {
-        match self {
-            Lines::Example => 12,
-            Lines::EachStage => 257,
-        }
-    }
-
-    /// The stage that the event of a line fits, or 0 where it fits none.
-    fn stage(self, line: u32) -> u32 {
-        match self {
-            Lines::Example => stage_of(line),
-            Lines::EachStage => line,
-        }
-    }
-}
-
-/// The stage of a line of the reference's example for one user, or 0 for the other lines.
-fn stage_of(line: u32) -> u32 {
-    match line {
-        1 | 2 | 7 => 1,
-        4 | 5 => 2,
-        9 | 11 => 3,
-        _ => 0,
-    }
-}
-
-/// Plays the events.
-fn play_lines<L: Ledger>(
-    alloc: Global,
-    machine: &mut Auto<u32, L>,
-    lines: Lines,
-    told: &mut Told,
-    steps: &mut Steps<L>,
-) -> Result<(), Memory>
-    requires read { machine.old.gone ≡ [] }
-    requires later { AllComeFrom 1 machine.old.slots }
-    ensures read { IfOk result (λ _. machine.new.gone ≡ []) }
-{
-    for line in 1..lines.end() {
-        play(alloc, machine, line, lines.stage(line), told, steps)?;
-    }
-    Ok(())
-}
-
-/// Whether one sequence alone is pending, of stage 1, with the event of this line.
-fn is_begun(held: &StageChains, line: u32) -> bool {
-    match held.items().as_slice() {
-        [(stage, chain)] => *stage == 1 && is_event(chain, line),
+/// Whether one sequence alone is pending, of stage 1 and with the events of these lines, or nothing where there are none.
+fn is_pending(pending: &StageChains, lines: &[u32]) -> bool {
+    match pending.items().as_slice() {
+        [] => lines.is_empty(),
+        [(stage, chain)] => *stage == 1 && has_lines(chain.items(), lines),
         _ => false,
     }
 }
 
-/// Whether a sequence alone is pending that this line begins, or nothing where there is no line.
-fn is_pending(held: &StageChains, line: Option<u32>) -> bool {
-    match line {
-        Some(line) => is_begun(held, line),
-        None => held.items().is_empty(),
+/// Whether a machine told of one match, by the events of these lines, and that sequences with these tags ceased.
+fn has_told(told: &Told, matched: &[u32], ceased: &[u32]) -> bool {
+    match told.matches.as_slice() {
+        [chain] => has_lines(chain.items(), matched) && told.ceased.as_slice() == ceased,
+        _ => false,
     }
 }
 
-/// Whether the machine has a sequence alone pending that this line begins, or nothing where there is no line.
-fn holds<L: Ledger>(alloc: Global, machine: &Auto<u32, L>, line: Option<u32>) -> bool {
-    match machine.holders(alloc) {
-        Ok(held) => is_pending(&held, line),
-        Err(_) => false,
+/// Whether a run has one match, by the events of these lines, and what comes of it is as a row says.
+fn is_run(alloc: Global, run: &Run, row: &Row, matched: &[u32]) -> bool {
+    let mut told = Told::nothing(alloc);
+    match pending_of(alloc, run, &mut told) {
+        Some(pending) => {
+            has_told(&told, matched, row.ceased) && is_pending(&pending, row.pending)
+        }
+        None => false,
     }
 }
 
-/// Drops the sequences that are too old at a time, in nanoseconds. Returns whether the machine has what this line begins
-/// alone pending then, or nothing where there is no line.
-fn holds_at<L: Ledger>(
-    alloc: Global,
-    machine: &mut Auto<u32, L>,
-    reach: i128,
-    line: Option<u32>,
-    told: &mut Told,
-    steps: &mut Steps<L>,
-) -> bool
-    requires { machine.old.gone ≡ [] }
-    ensures { IsTrue result → machine.new.gone ≡ [] }
-{
-    machine.expire(reach, steps);
-    match read_ceased(machine, &mut told.ceased) {
-        Ok(()) => holds(alloc, machine, line),
-        Err(_) => false,
+/// Whether events that fit these stages in turn have one match, by those of these lines, and what comes of it is as a row
+/// says.
+fn is_row(alloc: Global, row: &Row, fits: &[u32], matched: &[u32]) -> bool {
+    match acts_on(alloc, fits) {
+        Some(acts) => {
+            let run = Run {
+                stages: row.stages,
+                span: row.span,
+                acts,
+                reaches: row.reaches,
+            };
+            is_run(alloc, &run, row, matched)
+        }
+        None => false,
     }
 }
 
-/// Plays the reference's example. Returns whether the sequence of line 7 is pending at 27 nanoseconds, and too old at 28.
-fn play_and_expire<L: Ledger>(
-    alloc: Global,
-    machine: &mut Auto<u32, L>,
-    told: &mut Told,
-    steps: &mut Steps<L>,
-) -> Result<bool, Memory>
-    requires read { machine.old.gone ≡ [] }
-    requires later { AllComeFrom 1 machine.old.slots }
-{
-    play_lines(alloc, machine, Lines::Example, told, steps)?;
-    Ok(
-        holds_at(alloc, machine, 27, Some(7), told, steps)
-            && holds_at(alloc, machine, 28, None, told, steps),
-    )
-}
+/// The stages that the lines of the reference's example fit for one user, or 0 for none.
+static EXAMPLE: &[u32] = &[1, 1, 0, 2, 2, 0, 1, 0, 3, 0, 3];
 
-/// Plays the reference's example on a machine of three stages with a span of 20 nanoseconds. Returns whether its last
-/// sequence is pending until it is too old.
-fn plays_example<L: Ledger>(
-    alloc: Global,
-    told: &mut Told,
-    steps: &mut Steps<L>,
-) -> Result<bool, Memory> {
-    let mut machine = Auto::new(alloc, 3, Some(20))?;
-    let expired = play_and_expire(alloc, &mut machine, told, steps);
-    drop(machine);
-    expired
-}
-
-/// Plays an event of each of 256 stages in turn on a machine of as many.
-fn play_each_stage<L: Ledger>(
-    alloc: Global,
-    told: &mut Told,
-    steps: &mut Steps<L>,
-) -> Result<(), Memory> {
-    let mut machine = Auto::new(alloc, 256, None)?;
-    let played = play_lines(alloc, &mut machine, Lines::EachStage, told, steps);
-    drop(machine);
-    played
-}
-
-/// The lines of the user's one match in the reference's example.
+/// The lines of the user's one match in it.
 static MATCHED: &[u32] = &[2, 4, 9];
 
-/// The tags of the sequences that cease in it.
-static CEASED: &[u32] = &[1, 2, 7];
+/// With a span of 20 nanoseconds the sequence of line 7 is pending at 27.
+static ALIVE: &Row = &Row {
+    stages: 3,
+    span: Some(20),
+    reaches: &[27],
+    ceased: &[1, 2],
+    pending: &[7],
+};
+
+/// At 28 it is too old.
+static EXPIRED: &Row = &Row {
+    stages: 3,
+    span: Some(20),
+    reaches: &[27, 28],
+    ceased: &[1, 2, 7],
+    pending: &[],
+};
 
 /// Whether in the reference's example the events of lines 2, 4 and 9 are the user's one match, and that of line 7 stays
 /// pending until it is too old.
-fn tells_example<L: Ledger>(alloc: Global, steps: &mut Steps<L>) -> bool {
-    let mut told = Told::nothing(alloc);
-    plays_example(alloc, &mut told, steps) == Ok(true) && told.has(MATCHED, CEASED)
-}
-
-/// The lines from 1 to 256.
-fn lines_to_256(alloc: Global) -> Result<Vec<u32>, Memory> {
-    let mut lines = Vec::new(alloc);
-    for line in 1..257u32 {
-        lines.push(line)?;
-    }
-    Ok(lines)
-}
-
-/// The tag of the sequence that makes a match of 256 events.
-static FIRST: &[u32] = &[1];
-
-/// Whether at 256 stages an event of each stage in turn makes a match of as many events.
-fn tells_each_stage<L: Ledger>(alloc: Global, steps: &mut Steps<L>) -> bool {
-    let Ok(lines) = lines_to_256(alloc) else {
-        return false;
-    };
-    let mut told = Told::nothing(alloc);
-    play_each_stage(alloc, &mut told, steps).is_ok() && told.has(&lines, FIRST)
-}
-
-/// Whether a machine that plays these events tells what it should.
-fn tells<L: Ledger>(alloc: Global, lines: Lines, blank: Blank) -> bool
-    requires { (blank.name ≡ L.name) × (blank.parts ≡ L.parts) × (0 < L.parts) }
-{
-    let (_book, share) = blank.open::<L>();
-    let mut steps = Steps::of(share);
-    match lines {
-        Lines::Example => tells_example(alloc, &mut steps),
-        Lines::EachStage => tells_each_stage(alloc, &mut steps),
-    }
+fn is_example(alloc: Global) -> bool {
+    is_row(alloc, ALIVE, EXAMPLE, MATCHED) && is_row(alloc, EXPIRED, EXAMPLE, MATCHED)
 }
 
 #[test]
 fn the_reference_user_has_one_match(rt: HostRuntime) {
-    assert!(rt; tells::<Brand>(rt.alloc(), Lines::Example, Blank::new(1)));
+    assert!(rt; is_example(rt.alloc()));
+}
+
+/// The sequence of 256 stages that begins on line 1 makes a match.
+static EACH_STAGE: &Row = &Row {
+    stages: 256,
+    span: None,
+    reaches: &[],
+    ceased: &[1],
+    pending: &[],
+};
+
+/// Adds the numbers from 1 to 256. Returns whether there is memory for that.
+fn adds_256(numbers: &mut Vec<u32>) -> bool {
+    for number in 1..257u32 {
+        if numbers.push(number).is_err() {
+            return false;
+        }
+    }
+    true
+}
+
+/// Whether at 256 stages an event of each stage in turn makes a match of as many events.
+fn is_each_stage(alloc: Global) -> bool {
+    let mut numbers = Vec::new(alloc);
+    adds_256(&mut numbers) && is_row(alloc, EACH_STAGE, &numbers, &numbers)
 }
 
 #[test]
 fn a_match_may_have_256_events(rt: HostRuntime) {
-    assert!(rt; tells::<Brand>(rt.alloc(), Lines::EachStage, Blank::new(1)));
+    assert!(rt; is_each_stage(rt.alloc()));
 }
 
-/// The chain of the event of this line alone.
-fn chain_of(alloc: Global, line: u32) -> Result<Chain, Memory>
-    ensures { IfOk result (λ chain. chain ≡ at_line line ∷ []) }
+/// The line of the sequence that is put.
+static PUT: &[u32] = &[5];
+
+/// What is pending where a sequence was put into a machine.
+fn pending_where_put(alloc: Global, chain: Chain) -> Result<StageChains, Memory>
+    requires { length chain ≡ 1 }
 {
-    Ok(Chain::of(vec![in alloc; event_at(line)]?))
-}
-
-/// Whether a sequence that was put into a machine is pending.
-fn holds_what_was_put(alloc: Global) -> Result<bool, Memory> {
-    let chain = chain_of(alloc, 5)?;
     let mut machine: Auto<u32, Brand> = Auto::new(alloc, 3, None)?;
     machine.ready(alloc)?;
     machine.put_holder(1, chain, 50);
-    let is_held = holds(alloc, &machine, Some(5));
+    let pending = machine.holders(alloc);
     drop(machine);
-    Ok(is_held)
+    pending
+}
+
+/// Whether a sequence that was put into a machine is pending.
+fn holds_what_was_put(alloc: Global) -> bool {
+    match chain_of(alloc, 5, 5) {
+        Some(chain) => match pending_where_put(alloc, chain) {
+            Ok(pending) => is_pending(&pending, PUT),
+            Err(_) => false,
+        },
+        None => false,
+    }
 }
 
 #[test]
 fn a_sequence_that_was_put_is_pending(rt: HostRuntime) {
-    assert!(rt; holds_what_was_put(rt.alloc()) == Ok(true));
+    assert!(rt; holds_what_was_put(rt.alloc()));
 }

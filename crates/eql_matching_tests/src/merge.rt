@@ -3,36 +3,51 @@ ghost use Rattle.std.specs.Prelude.{◌≡◌, All, IsTrue};
 ghost use Rattle.eql_values.specs.Ascending.{Ascend};
 ghost use Rattle.eql_laws.specs.Apart.{has_place, AreApart, IsApartFrom, AllAreApart};
 
+use crate::lookback::{
+    Found, SEVEN, are_matches, are_pending, chain_of, found, key_of, one, order_at,
+};
 use eql_lookback::ascend;
 use eql_merge::{merge, merge_holders, merge_matches};
-use eql_values::{
-    Chain, Holder, Holders, Item, ItemLists, Items, Key, Match, Matches, Memory, OrderKey, Routes,
-    Value,
-};
+use eql_values::{Holder, Holders, Item, ItemLists, Items, Match, Matches, OrderKey, Routes};
 use std::alloc::Global;
+use std::slice;
 
-/// The events of a shard: none to six, some at the times of other shards' events.
-fn list_of(alloc: Global, shard: u32) -> Result<Vec<Item>, Memory> {
+/// The events of a shard: none to six, some at the times of other shards' events. It is `None` where memory is short.
+fn list_of(alloc: Global, shard: u32) -> Option<Items> {
     let mut items = Vec::new(alloc);
     for line in 0..shard % 7 {
-        let order = OrderKey {
-            ts: (line * 5 + shard % 13) as i128,
-            tie: None,
-            shard,
-            line: line + 1,
-            at: 0,
+        let item = Item {
+            order: order_at((line * 5 + shard % 13) as i128, shard, line + 1),
+            routes: Routes::of(Vec::new(alloc)),
         };
-        let routes = Routes::of(Vec::new(alloc));
-        items.push(Item { order, routes })?;
+        if items.push(item).is_err() {
+            return None;
+        }
     }
-    Ok(items)
+    Some(Items::of(items))
+}
+
+/// The events of so many shards, or `None` where memory is short.
+fn lists_of(alloc: Global, shards: u32) -> Option<Vec<Items>> {
+    let mut lists = Vec::new(alloc);
+    for shard in 0..shards {
+        if lists.push(list_of(alloc, shard)?).is_err() {
+            return None;
+        }
+    }
+    Some(lists)
 }
 
 /// Whether each list ascends.
 fn each_ascends(lists: &[Items]) -> bool
     ensures { IsTrue result → All Ascend lists.now }
 {
-    lists.iter().all(|items| ascend(items.items()))
+    for items in lists {
+        if !ascend(items.items()) {
+            return false;
+        }
+    }
+    true
 }
 
 /// Whether one of the events stands at this place.
@@ -72,138 +87,124 @@ fn are_apart(lists: &[Items]) -> bool
     }
 }
 
-/// The events of so many shards.
-fn lists_of(alloc: Global, shards: u32) -> Result<Vec<Items>, Memory> {
-    let mut lists = Vec::new(alloc);
-    for shard in 0..shards {
-        lists.push(Items::of(list_of(alloc, shard)?))?;
-    }
-    Ok(lists)
-}
-
-/// Adds the places of events.
-fn push_orders(orders: &mut Vec<OrderKey>, items: &Items) -> Result<(), Memory> {
+/// Adds the places of events. Returns whether there is memory for that.
+fn adds_orders(orders: &mut Vec<OrderKey>, items: &Items) -> bool {
     for item in items.items() {
-        orders.push(item.order)?;
+        if orders.push(item.order).is_err() {
+            return false;
+        }
     }
-    Ok(())
+    true
 }
 
-/// The places of the events of lists, in ascending order.
-fn sorted_orders(alloc: Global, lists: &[Items]) -> Result<Vec<OrderKey>, Memory> {
+/// The places of the events of lists, one list after another, or `None` where memory is short.
+fn orders_of(alloc: Global, lists: &[Items]) -> Option<Vec<OrderKey>> {
     let mut orders = Vec::new(alloc);
     for items in lists {
-        push_orders(&mut orders, items)?;
+        if !adds_orders(&mut orders, items) {
+            return None;
+        }
     }
-    orders.sort()?;
-    Ok(orders)
+    Some(orders)
 }
 
-/// Whether the events stand at these places.
-fn has_orders(alloc: Global, items: &Items, expected: &[OrderKey]) -> Result<bool, Memory> {
-    let mut orders = Vec::new(alloc);
-    push_orders(&mut orders, items)?;
-    Ok(orders.as_slice() == expected)
-}
-
-/// Whether lists that ascend and are apart are merged into one in ascending order.
-fn is_merged(alloc: Global, lists: Vec<Items>) -> Result<bool, Memory> {
-    let sorted = sorted_orders(alloc, &lists)?;
+/// The lists as one, or `None` where one doesn't ascend, two aren't apart, or memory is short.
+fn merged(alloc: Global, lists: Vec<Items>) -> Option<Items> {
     if !each_ascends(&lists) || !are_apart(&lists) {
-        return Ok(false);
+        return None;
     }
-    let all = merge(alloc, ItemLists::of(lists))?;
-    has_orders(alloc, &all, &sorted)
+    merge(alloc, ItemLists::of(lists)).ok()
 }
 
-/// Whether the lists of so many shards are merged.
-fn are_merged(alloc: Global, shards: u32) -> Result<bool, Memory> {
-    is_merged(alloc, lists_of(alloc, shards)?)
+/// Whether the lists are one list of the events at these places.
+fn has_orders(alloc: Global, lists: Vec<Items>, expected: &[OrderKey]) -> bool {
+    match merged(alloc, lists) {
+        Some(all) => match orders_of(alloc, slice::from_ref(&all)) {
+            Some(orders) => orders.as_slice() == expected,
+            None => false,
+        },
+        None => false,
+    }
+}
+
+/// Whether lists are merged into one in ascending order.
+fn are_sorted(alloc: Global, lists: Vec<Items>) -> bool {
+    match orders_of(alloc, &lists) {
+        Some(mut orders) => orders.sort().is_ok() && has_orders(alloc, lists, &orders),
+        None => false,
+    }
+}
+
+/// Whether the lists of 256 shards are merged.
+fn are_merged(alloc: Global) -> bool {
+    match lists_of(alloc, 256) {
+        Some(lists) => are_sorted(alloc, lists),
+        None => false,
+    }
 }
 
 #[test]
 fn lists_of_many_shards(rt: HostRuntime) {
-    assert!(rt; are_merged(rt.alloc(), 256) == Ok(true));
+    assert!(rt; are_merged(rt.alloc()));
 }
 
-/// Whether a chain is one event, on this line.
-pub(crate) fn is_event(chain: &Chain, line: u32) -> bool {
-    match chain.items() {
-        [event] => event.line == line,
-        _ => false,
+/// What a part has: a sequence of one event.
+static ONE: &[Found] = &[found!(SEVEN, &[3])];
+
+/// A match of it, or `None` where memory is short.
+fn one_match(alloc: Global) -> Option<Match> {
+    match (key_of(alloc, SEVEN), chain_of(alloc, 5, 3)) {
+        (Some(key), Some(chain)) => Some(Match { key, chain }),
+        _ => None,
     }
 }
 
-/// The matches of a part: one, by an event at this time.
-fn one_match(alloc: Global, ts: i128, line: u32) -> Result<Match, Memory> {
-    let order = OrderKey {
-        ts,
-        tie: None,
-        shard: 0,
-        line,
-        at: 0,
-    };
-    let key = Key::of(vec![in alloc; Value::Long(7)]?);
-    let chain = Chain::of(vec![in alloc; order]?);
-    Ok(Match { key, chain })
-}
-
-/// A match, merged with no others.
-fn merged_match(alloc: Global, found: Match) -> Result<Matches, Memory> {
-    let found = Matches::of(vec![in alloc; found]?);
-    merge_matches(alloc, vec![in alloc; found]?)
-}
-
-/// Whether these are one match, by one event on this line.
-fn is_one_match(found: &Matches, line: u32) -> bool {
-    match found.items().as_slice() {
-        [found] => is_event(&found.chain, line),
-        _ => false,
-    }
+/// The match, merged with no others, or `None` where memory is short.
+fn merged_match(alloc: Global) -> Option<Matches> {
+    let found = Matches::of(one(alloc, one_match(alloc)?)?);
+    merge_matches(alloc, one(alloc, found)?).ok()
 }
 
 /// Whether the one match of a part is as it was, merged with no others.
-fn keeps_match(alloc: Global) -> Result<bool, Memory> {
-    let all = merged_match(alloc, one_match(alloc, 5, 3)?)?;
-    Ok(is_one_match(&all, 3))
+fn keeps_match(alloc: Global) -> bool {
+    match merged_match(alloc) {
+        Some(found) => are_matches(alloc, found.items(), ONE),
+        None => false,
+    }
 }
 
 #[test]
 fn the_matches_of_one_part(rt: HostRuntime) {
-    assert!(rt; keeps_match(rt.alloc()) == Ok(true));
+    assert!(rt; keeps_match(rt.alloc()));
 }
 
-/// A pending sequence of a part: one event at this time.
-fn one_holder(alloc: Global, ts: i128, line: u32) -> Result<Holder, Memory> {
-    let begun = one_match(alloc, ts, line)?;
-    Ok(Holder {
-        key: begun.key,
-        stage: 1,
-        chain: begun.chain,
-    })
-}
-
-/// A pending sequence, merged with no others.
-fn merged_holder(alloc: Global, held: Holder) -> Result<Holders, Memory> {
-    let held = Holders::of(vec![in alloc; held]?);
-    merge_holders(alloc, vec![in alloc; held]?)
-}
-
-/// Whether this is one pending sequence of stage 1, with one event on this line.
-fn is_one_holder(held: &Holders, line: u32) -> bool {
-    match held.items().as_slice() {
-        [holder] => holder.stage == 1 && is_event(&holder.chain, line),
-        _ => false,
+/// A pending sequence of it, or `None` where memory is short.
+fn one_holder(alloc: Global) -> Option<Holder> {
+    match (key_of(alloc, SEVEN), chain_of(alloc, 5, 3)) {
+        (Some(key), Some(chain)) => Some(Holder {
+            key,
+            stage: 1,
+            chain,
+        }),
+        _ => None,
     }
 }
 
+/// The pending sequence, merged with no others, or `None` where memory is short.
+fn merged_holder(alloc: Global) -> Option<Holders> {
+    let held = Holders::of(one(alloc, one_holder(alloc)?)?);
+    merge_holders(alloc, one(alloc, held)?).ok()
+}
+
 /// Whether the one pending sequence of a part is as it was, merged with no others.
-fn keeps_holder(alloc: Global) -> Result<bool, Memory> {
-    let all = merged_holder(alloc, one_holder(alloc, 5, 3)?)?;
-    Ok(is_one_holder(&all, 3))
+fn keeps_holder(alloc: Global) -> bool {
+    match merged_holder(alloc) {
+        Some(held) => are_pending(alloc, held.items(), ONE),
+        None => false,
+    }
 }
 
 #[test]
 fn the_pending_sequences_of_one_part(rt: HostRuntime) {
-    assert!(rt; keeps_holder(rt.alloc()) == Ok(true));
+    assert!(rt; keeps_holder(rt.alloc()));
 }

@@ -3,7 +3,6 @@ ghost use Rattle.std.specs.Prelude.{◌≡◌, ◌≢◌, ◌<◌, [], ◌∷◌
 ghost use Rattle.eql_span_list.specs.Entries.{HasTicket, HoldsAtTicket, IsAbsent, PopsFirst};
 
 use eql_span_list::{SpanList, Ticket};
-use std::alloc::Global;
 use std::marker::Send;
 use std::thread;
 
@@ -45,89 +44,79 @@ fn list_crosses_threads<T: Send>(list: &SpanList<T>) {
     crosses_threads(list);
 }
 
-/// What is first in an empty list, what is removed of three values that are put in, which are 1, 2 and 3, what is taken
-/// out then, and what is first behind.
-type Removal = (Option<u64>, u64, Option<u64>, Option<u64>);
-
-/// Puts three values in, and removes the second.
-fn remove_second(list: &mut SpanList<u64>) -> Result<u64, u64> {
-    list.push_back(1)?;
-    let second = list.push_back(2)?;
-    list.push_back(3)?;
-    Ok(list.remove(second))
+/// Whether this value is first.
+fn is_first(list: &SpanList<u64>, value: u64) -> bool {
+    list.front().copied() == Some(value)
 }
 
-/// What is seen around the removal of the second of three values.
-fn seen_around_removal(alloc: Global) -> Result<Removal, u64> {
-    let mut list = SpanList::new(alloc);
-    let before = list.front().copied();
-    let removed = remove_second(&mut list)?;
-    let popped = list.pop_front();
-    let front = list.front().copied();
-    drop(list);
-    Ok((before, removed, popped, front))
+/// Whether this value is the first, which is taken out.
+fn pops(list: &mut SpanList<u64>, value: u64) -> bool {
+    list.pop_front() == Some(value)
+}
+
+/// Puts 1, 2 and 3 in, and takes the second out. Returns whether that is 2.
+fn removes_second(list: &mut SpanList<u64>) -> bool {
+    match (list.push_back(1), list.push_back(2), list.push_back(3)) {
+        (Ok(_), Ok(second), Ok(_)) => list.remove(second) == 2,
+        _ => false,
+    }
+}
+
+/// Whether the second of three values is removed from an empty list, and the others stay in order.
+fn keeps_others(list: &mut SpanList<u64>) -> bool {
+    list.front().is_none() && removes_second(list) && pops(list, 1) && is_first(list, 3)
 }
 
 #[test]
 fn a_removal_from_the_middle_leaves_the_others_in_order(rt: HostRuntime) {
-    assert_eq!(rt;
-        seen_around_removal(rt.alloc()),
-        Ok((None, 2, Some(1), Some(3)))
-    );
+    assert!(rt; keeps_others(&mut SpanList::new(rt.alloc())));
 }
 
-/// Puts 10 and 20 in, and moves the 10 to the end.
-fn put_and_move(list: &mut SpanList<u64>) -> Result<Ticket, u64> {
-    let first = list.push_back(10)?;
-    list.push_back(20)?;
-    move_to_back(list, first)
-}
-
-/// Puts 30 and 40 in, and takes both out by their tickets.
-fn put_and_remove(list: &mut SpanList<u64>) -> Result<(u64, u64), u64> {
-    let third = list.push_back(30)?;
-    let fourth = list.push_back(40)?;
-    Ok(remove_both(list, third, fourth))
+/// Puts 10 and 20 in, and moves the 10 to the end. Returns whether there is memory for that.
+fn puts_and_moves(list: &mut SpanList<u64>) -> bool {
+    match (list.push_back(10), list.push_back(20)) {
+        (Ok(first), Ok(_)) => move_to_back(list, first).is_ok(),
+        _ => false,
+    }
 }
 
 /// Whether the list is 20 and 10. They are taken out.
 fn pops_both(list: &mut SpanList<u64>) -> bool {
     pop_below(list, 20).is_none()
         && pop_below(list, 21) == Some(20)
-        && list.pop_front() == Some(10)
+        && pops(list, 10)
         && list.pop_front().is_none()
 }
 
-/// Whether what is moved to the end is taken out last, and what two removals of other values give.
-fn seen_by_a_caller(alloc: Global) -> Result<(bool, (u64, u64)), u64> {
-    let mut list = SpanList::new(alloc);
-    put_and_move(&mut list)?;
-    let is_in_order = pops_both(&mut list);
-    let removed = put_and_remove(&mut list);
-    drop(list);
-    Ok((is_in_order, removed?))
+/// Puts 30 and 40 in, and takes both out by their tickets. Returns whether they are.
+fn puts_and_removes(list: &mut SpanList<u64>) -> bool {
+    match (list.push_back(30), list.push_back(40)) {
+        (Ok(third), Ok(fourth)) => matches!(remove_both(list, third, fourth), (30, 40)),
+        _ => false,
+    }
+}
+
+/// Whether what is moved to the end is taken out last, and other values are removed by their tickets.
+fn serves_callers(list: &mut SpanList<u64>) -> bool {
+    puts_and_moves(list) && pops_both(list) && puts_and_removes(list)
 }
 
 #[test]
 fn callers_stand_on_the_clauses(rt: HostRuntime) {
-    assert_eq!(rt; seen_by_a_caller(rt.alloc()), Ok((true, (30, 40))));
+    assert!(rt; serves_callers(&mut SpanList::new(rt.alloc())));
 }
 
 /// Whether a push puts 7 in, or hands it back and leaves the list empty.
-fn is_put_or_back(alloc: Global) -> bool {
-    let mut list = SpanList::new(alloc);
-    let pushed = list.push_back(7);
-    let front = list.front().copied();
-    drop(list);
-    match pushed {
-        Ok(_) => front == Some(7),
-        Err(back) => back == 7 && front.is_none(),
+fn is_put_or_back(list: &mut SpanList<u64>) -> bool {
+    match list.push_back(7) {
+        Ok(_) => is_first(list, 7),
+        Err(back) => back == 7 && list.front().is_none(),
     }
 }
 
 #[test]
 fn a_refused_push_hands_the_value_back(rt: HostRuntime) {
-    assert!(rt; is_put_or_back(rt.alloc()));
+    assert!(rt; is_put_or_back(&mut SpanList::new(rt.alloc())));
 }
 
 #[test]
@@ -136,7 +125,7 @@ fn a_list_moves_to_another_thread(rt: HostRuntime) {
     let ticket = list.push_back(5).expect(&rt, "memory");
     list_crosses_threads(&list);
     crosses_threads(&ticket);
-    let child = thread::spawn(&rt, move || (list.pop_front(), ticket)).expect(&rt, "a thread");
-    let (value, _) = child.join(&rt);
-    assert_eq!(rt; value, Some(5));
+    let child = thread::spawn(&rt, move || (pops(&mut list, 5), ticket)).expect(&rt, "a thread");
+    let (is_five, _) = child.join(&rt);
+    assert!(rt; is_five);
 }

@@ -1,5 +1,5 @@
 use Rattle.std.proofs.Common.{◌≡◌, length}
-use Rattle.eql_matching_tests.proofs.auto.read_ceased.Given as goal
+use Rattle.eql_matching_tests.proofs.auto.reads_ceased.Given as goal
 
 abbrev pub invariant-loop-tag : goal.invariant-loop-tag
 invariant-loop-tag g l = l.machine.slots ≡ l.fn.machine.slots

@@ -1,7 +1,0 @@
-use Rattle.std.proofs.Common.{◌≡◌, ◌<◌, ℕ, get_or, true}
-use Rattle.eql_values.specs.declared.item.Item.{Item}
-use Rattle.eql_values.specs.Marks.{is_below}
-use Rattle.eql_matching_tests.proofs.parts.all_below.Given as goal
-
-abbrev pub invariant-loop-item : goal.invariant-loop-item
-invariant-loop-item l = (k : ℕ) (d : Item) → k < l.item-index → is_below l.mark (get_or l.items.items k d) ≡ true
