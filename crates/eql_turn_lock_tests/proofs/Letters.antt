@@ -3,20 +3,20 @@ use Rattle.std.proofs.Common.{◌≡◌, ◌≢◌, ℕ, Bool, true, false, true
 use Rattle.std.proofs.lemmas.Bool.Decides.{eqb_tells}
 use Rattle.std.proofs.lemmas.List.{append_assoc}
 use Rattle.std.proofs.lemmas.List.Elements.{All-head, All-tail}
-use Rattle.std.specs.Prelude.{◌<◌, Option, Some, None, if◌then◌else◌}
+use Rattle.std.specs.Prelude.{◌≤◌, Option, Some, None, if◌then◌else◌}
 use Rattle.std.specs.VecDeque.{deque_capacity}
 use mathlib.Core.Logic.{inr, ⊎_elim}
 use Rattle.eql_turn_lock.specs.declared.history.Entry.{Entry}
 use Rattle.eql_turn_lock.specs.declared.view.View.{View}
 use Rattle.eql_turn_lock.specs.History.{StartsWith, entry, calls_by, OthersOpen, IsLegal}
-use Rattle.eql_turn_lock.specs.Passes.{joined_view, KnowsHistory}
+use Rattle.eql_turn_lock.specs.Passes.{first_view, split_view, joined_view, KnowsHistory}
 use Rattle.eql_turn_lock.specs.Calls.{MayPlay}
 use Rattle.eql_turn_lock_tests.specs.declared.tray.Tray.{Tray}
 use Rattle.eql_turn_lock_tests.specs.declared.tray.TrayOp.{TrayOp}
 use Rattle.eql_turn_lock_tests.specs.declared.tray.TrayOp.TheVariants.{Deliver, Take}
 use Rattle.eql_turn_lock_tests.specs.declared.tray.TrayReply.{TrayReply}
 use Rattle.eql_turn_lock_tests.specs.declared.tray.TrayReply.TheVariants.{Delivered, Taken}
-use Rattle.eql_turn_lock_tests.specs.Trays.{TrayAllows, IsTrayStep, tray_open, letters_in, letters_out, delivered, taken, SawRoom}
+use Rattle.eql_turn_lock_tests.specs.Trays.{TrayAllows, IsTrayStep, tray_open, letters_in, letters_out, delivered, taken, SawRoom, IsFresh}
 
 pub starts_in : {X : Type 0} (log seen xs : List X) → StartsWith log seen → StartsWith seen xs → StartsWith log xs
 starts_in {X} log seen xs a b = (b.0 ++ a.0, a.1 ∙ (ap (λ (l : List X). l ++ a.0) b.1 ∙ append_assoc xs b.0 a.0))
@@ -90,7 +90,7 @@ tray_or tray None = tray
 tray_or tray (Some other) = other
 
 -- a tray that was made empty, after one delivery of the first pass, where the other one saw a letter go out
-pub saw_room : (tray : Tray) (v first other : View Tray TrayOp TrayReply) (before : List (Entry TrayOp TrayReply)) (by letter out : ℕ) (answer reply : TrayReply) → tray.letters.items ≡ [] → 0 < deque_capacity tray.letters → v.opening ≡ Some tray → v.mine ≡ []
+pub saw_room : (tray : Tray) (v first other : View Tray TrayOp TrayReply) (before : List (Entry TrayOp TrayReply)) (by letter out : ℕ) (answer reply : TrayReply) → tray.letters.items ≡ [] → 1 ≤ deque_capacity tray.letters → v.opening ≡ Some tray → v.mine ≡ []
     → first.opening ≡ v.opening → first.mine ≡ v.mine ++ entry v.number (Deliver letter) answer ∷ [] → reply ≡ Taken (Some out) → other.seen ≡ before ++ entry by Take reply ∷ [] → SawRoom first other
 saw_room tray v first other before by letter out answer reply empty room opened none_mine same mine is seen opening is_opening =
     let tray_is : tray ≡ opening = ap (tray_or tray) (sym (same ∙ opened) ∙ is_opening) in
@@ -99,3 +99,11 @@ saw_room tray v first other before by letter out answer reply empty room opened 
     let brought : length (delivered first.mine) ≡ 1 = ap (λ (l : List (Entry TrayOp TrayReply)). length (delivered l)) (mine ∙ ap (λ (l : List (Entry TrayOp TrayReply)). l ++ entry v.number (Deliver letter) answer ∷ []) none_mine) in
     let out_is : length (taken other.seen) ≡ length (taken before ++ out ∷ []) = ap (λ (l : List ℕ). length l) (ap taken (seen ∙ ap (λ (r : TrayReply). before ++ entry by Take r ∷ []) is) ∙ taken_append before (entry by Take (Taken (Some out)) ∷ [])) in
     let outs = length-append (taken before) (out ∷ []) in omega arith
+
+-- the first pass of a new lock
+pub fresh_first : (room : ℕ) (tray : Tray) (v : View Tray TrayOp TrayReply) → v ≡ first_view tray → tray.letters.items ≡ [] → room ≤ deque_capacity tray.letters → IsFresh room v
+fresh_first room tray v is empty wide = subst (λ (w : View Tray TrayOp TrayReply). IsFresh room w) (sym is) (refl, refl, refl, refl, (tray, refl, empty, wide))
+
+-- a split plays nothing
+pub still_fresh : (room : ℕ) (v w : View Tray TrayOp TrayReply) → IsFresh room v → w ≡ split_view v → IsFresh room w
+still_fresh room v w fresh is = subst (λ (x : View Tray TrayOp TrayReply). IsFresh room x) (sym is) fresh

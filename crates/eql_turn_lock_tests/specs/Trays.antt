@@ -62,6 +62,13 @@ tray_stays_allowed x y Take (Deliver letter) Delivered open_is step may = absurd
 abbrev pub IsSamePass : {T O R : Type 0} → View T O R → View T O R → Type 0
 IsSamePass v w = (w.number ≡ v.number) × (w.made ≡ v.made) × (w.ended ≡ v.ended)
 
+-- the first pass of an empty tray with this room, by which nothing was played yet
+abbrev pub IsFresh : ℕ → View Tray TrayOp TrayReply → Type 0
+IsFresh room v =
+    (v.number ≡ 0) × (v.seen ≡ []) × (v.mine ≡ []) × (v.ended ≡ [])
+    × ((tray : Tray) × (v.opening ≡ Some tray) × (tray.letters.items ≡ [])
+    × (room ≤ deque_capacity tray.letters))
+
 -- the letters that an operation delivers
 abbrev pub letters_in : TrayOp → List ℕ
 letters_in (Deliver letter) = letter ∷ []

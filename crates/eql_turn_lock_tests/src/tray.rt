@@ -16,7 +16,7 @@ pub enum TrayOp {
     Take,
 }
 
-#[derive(Debug, Drop, PartialEq, Eq)]
+#[derive(Drop)]
 pub enum TrayReply {
     Delivered,
     Taken { letter: Option<u32> },
