@@ -1,67 +1,102 @@
 //! The parts of queries, and refusals made by hand.
-use crate::texts::made;
 use eql_lexer::{LexRefused, lex};
 use eql_parser::{ParseRefused, parse};
-use eql_query::{Expr, Query};
+use eql_query::{Body, Expr, Query, Term};
 use eql_values::{Memory, Text};
 use std::alloc::Global;
-use std::process::Abort;
-use std::test::Fail;
 
 /// The query that a text is.
-fn query(alloc: Global, text: &str) -> Result<Query, Fail> {
+fn query(alloc: Global, text: &str) -> Option<Query> {
     let Ok(tokens) = lex(alloc, text.as_bytes()) else {
-        return Err(Fail::from("no tokens"));
+        return None;
     };
-    match parse(alloc, &tokens) {
-        Ok(query) => Ok(query),
-        Err(_) => Err(Fail::from("no query")),
-    }
+    parse(alloc, &tokens).ok()
 }
 
 /// A sequence with all its parts.
 static SEQUENCE: &str =
     "sequence by a, b.c with maxspan=1m [any where true] by d until [any where false] | head 2 | tail 1";
 
-/// Sees that a sequence has two keys, a span, one item, an item that ends it, and two pipes.
-fn see_sequence(rt: &impl Abort, query: Query) -> Result<(), Fail> {
+/// Whether a sequence has two keys, a span, one item, and an item that ends it.
+fn has_sequence(body: Body) -> bool {
+    match body.into_sequence() {
+        Some((by, span, items, until)) => {
+            by.items().len() == 2 && items.items().len() == 1 && span.is_some() && until.is_some()
+        }
+        None => false,
+    }
+}
+
+/// Whether a sequence has these parts and two pipes.
+fn is_sequence(query: Query) -> bool {
     let (body, pipes) = query.into_parts();
-    assert_eq!(rt; pipes.into_items().len(), 2);
-    let (by, span, items, until) = body.into_sequence().ok_or("no sequence")?;
-    assert!(rt; by.items().len() == 2 && items.items().len() == 1);
-    assert!(rt; span.is_some() && until.is_some());
-    Ok(())
+    has_sequence(body) & (pipes.into_items().len() == 2)
 }
 
-/// Sees that a query is for any event, without a condition, a key or a run.
-fn see_event(rt: &impl Abort, query: Query) -> Result<(), Fail> {
-    let (body, _) = query.into_parts();
-    let (category, cond, by, runs) = body.into_event().ok_or("no event")?.into_parts();
-    assert!(rt; category.is_none() && matches!(&cond, Expr::Bool(true)));
-    assert!(rt; by.items().is_empty() && runs == 1);
-    Ok(())
+/// Whether an event is any one, without a condition, a key or a run.
+fn is_any(term: Term) -> bool {
+    let (category, cond, by, runs) = term.into_parts();
+    category.is_none() && matches!(&cond, Expr::Bool(true)) && by.items().is_empty() && runs == 1
+}
+
+/// Whether a query is for such an event.
+fn is_event(query: Query) -> bool {
+    let (body, pipes) = query.into_parts();
+    drop(pipes);
+    match body.into_event() {
+        Some(term) => is_any(term),
+        None => false,
+    }
+}
+
+/// Whether a sequence has its parts.
+fn sequence_has_parts(alloc: Global) -> bool {
+    match query(alloc, SEQUENCE) {
+        Some(query) => is_sequence(query),
+        None => false,
+    }
+}
+
+/// Whether an event has its parts.
+fn event_has_parts(alloc: Global) -> bool {
+    match query(alloc, "any where true") {
+        Some(query) => is_event(query),
+        None => false,
+    }
 }
 
 #[test]
-fn queries_have_these_parts(rt: HostRuntime) -> Result<(), Fail> {
-    see_sequence(&rt, query(rt.alloc(), SEQUENCE)?)?;
-    see_event(&rt, query(rt.alloc(), "any where true")?)
+fn queries_have_these_parts(rt: HostRuntime) {
+    assert!(rt; sequence_has_parts(rt.alloc()) && event_has_parts(rt.alloc()));
 }
 
-/// Sees that a refusal has this line.
-fn see_line(rt: &impl Abort, line: Result<String, Memory>, expected: &str) -> Result<(), Fail> {
-    let line = made(line)?;
-    assert_eq!(rt; line.as_str(), expected);
-    Ok(())
+/// Whether a refusal has this line.
+fn is_line(line: Result<String, Memory>, expected: &str) -> bool {
+    match line {
+        Ok(line) => line.as_str() == expected,
+        Err(_) => false,
+    }
 }
 
-#[test]
-fn messages(rt: HostRuntime) -> Result<(), Fail> {
-    let alloc = rt.alloc();
+/// The line of a refusal of a word with bytes that are no letters.
+fn line_of_word(alloc: Global) -> Result<String, Memory> {
     let word = Text::of(String::from_str(alloc, "a\n\u{1b}b")?);
-    let refused = ParseRefused::LeftOut { word, at: 3 };
-    let line = "parse: LeftOut a\\n\\u{1b}b at 3";
-    see_line(&rt, refused.message(alloc), line)?;
-    see_line(&rt, ParseRefused::Memory.message(alloc), "parse: Memory")?;
-    see_line(&rt, LexRefused::Memory.message(alloc), "lex: Memory")
+    ParseRefused::LeftOut { word, at: 3 }.message(alloc)
+}
+
+/// The line of a refusal for want of memory.
+fn line_of_memory(alloc: Global) -> Result<String, Memory> {
+    ParseRefused::Memory.message(alloc)
+}
+
+/// Whether refusals have their lines.
+fn have_lines(alloc: Global) -> bool {
+    is_line(line_of_word(alloc), "parse: LeftOut a\\n\\u{1b}b at 3")
+        && is_line(line_of_memory(alloc), "parse: Memory")
+        && is_line(LexRefused::Memory.message(alloc), "lex: Memory")
+}
+
+#[test]
+fn messages(rt: HostRuntime) {
+    assert!(rt; have_lines(rt.alloc()));
 }

@@ -5,62 +5,88 @@ use eql_parser::{parse, print};
 use eql_query::{Query, copy_query};
 use eql_values::Memory;
 use std::alloc::{AllocError, Global};
+use std::fmt::Write;
 use std::process::Abort;
-use std::test::Fail;
 
-/// A line that was made.
-pub(crate) fn made(line: Result<String, Memory>) -> Result<String, Fail> {
-    match line {
-        Ok(line) => Ok(line),
-        Err(_) => Err(Fail::from("no memory")),
+/// Sees that no row is wrong.
+fn see_none(rt: &impl Abort, wrong: Result<Option<&'static str>, Memory>) {
+    assert!(rt; matches!(wrong, Ok(None)), "wrong: {wrong:?}");
+}
+
+/// What a token is, with its text where it has one.
+fn parts_of(tok: &Tok) -> (&'static str, &str) {
+    match tok {
+        Tok::Word(text) => ("word ", text.text()),
+        Tok::Back(text) => ("back ", text.text()),
+        Tok::Str(text) => ("str ", text.text()),
+        Tok::Num(_) => ("num ", ""),
+        Tok::Sign(_) => ("", ""),
     }
 }
 
-/// A token with its place.
-fn token_text(alloc: Global, token: &Token) -> Result<String, AllocError> {
-    let tok = match &token.tok {
-        Tok::Word(text) => format!(in alloc; "word {}", text.text())?,
-        Tok::Back(text) => format!(in alloc; "back {}", text.text())?,
-        Tok::Str(text) => format!(in alloc; "str {}", text.text())?,
-        Tok::Num(value) => format!(in alloc; "num {value}")?,
-        Tok::Sign(sign) => format!(in alloc; "{sign:?}")?,
-    };
-    format!(in alloc; "{tok} {}..{}; ", token.start, token.end)
+/// Adds the number or the sign that a token is.
+fn push_value(line: &mut String, tok: &Tok) -> Result<(), AllocError> {
+    match tok {
+        Tok::Num(value) => write!(line, "{value}"),
+        Tok::Sign(sign) => write!(line, "{sign:?}"),
+        _ => Ok(()),
+    }
 }
 
-/// The tokens of a text with their places, or its refusal.
-fn tokens_of(alloc: Global, text: &[u8]) -> Result<String, Fail> {
-    let tokens = match lex(alloc, text) {
-        Ok(tokens) => Tokens::of(tokens.into_items()),
-        Err(refused) => return made(refused.message(alloc)),
-    };
-    let mut line = String::new(alloc);
+/// Adds a token with its place.
+fn push_token(line: &mut String, token: &Token) -> Result<(), AllocError> {
+    let (kind, text) = parts_of(&token.tok);
+    line.push_str(kind)?;
+    line.push_str(text)?;
+    push_value(line, &token.tok)?;
+    write!(line, " {}..{}; ", token.start, token.end)
+}
+
+/// Adds tokens with their places.
+fn push_tokens(line: &mut String, tokens: &Tokens) -> Result<(), AllocError> {
     for token in tokens.items().iter() {
-        line.push_str(token_text(alloc, token)?.as_str())?;
+        push_token(line, token)?;
     }
+    Ok(())
+}
+
+/// These tokens with their places, from a list that is made of them anew.
+fn shown(alloc: Global, tokens: Tokens) -> Result<String, Memory> {
+    let tokens = Tokens::of(tokens.into_items());
+    let mut line = String::new(alloc);
+    push_tokens(&mut line, &tokens)?;
     Ok(line)
 }
 
+/// The tokens of a text with their places, or its refusal.
+fn tokens_of(alloc: Global, text: &[u8]) -> Result<String, Memory> {
+    match lex(alloc, text) {
+        Ok(tokens) => shown(alloc, tokens),
+        Err(refused) => refused.message(alloc),
+    }
+}
+
 /// The canonical text of a copy of a query.
-fn printed(alloc: Global, query: &Query) -> Result<String, Fail> {
-    let Ok(copy) = copy_query(alloc, query) else {
-        return Err(Fail::from("no memory"));
-    };
-    match print(alloc, &copy) {
-        Ok(text) => Ok(String::from_str(alloc, text.text())?),
-        Err(_) => Err(Fail::from("no memory")),
+fn printed(alloc: Global, query: &Query) -> Result<String, Memory> {
+    let copy = copy_query(alloc, query)?;
+    let text = print(alloc, &copy);
+    drop(copy);
+    Ok(String::from_str(alloc, text?.text())?)
+}
+
+/// The canonical text of the query that these tokens are, or its refusal.
+fn parsed(alloc: Global, tokens: &Tokens) -> Result<String, Memory> {
+    match parse(alloc, tokens) {
+        Ok(query) => printed(alloc, &query),
+        Err(refused) => refused.message(alloc),
     }
 }
 
 /// The canonical text of the query that a text is, or its refusal.
-fn canonical(alloc: Global, text: &str) -> Result<String, Fail> {
-    let tokens = match lex(alloc, text.as_bytes()) {
-        Ok(tokens) => tokens,
-        Err(refused) => return made(refused.message(alloc)),
-    };
-    match parse(alloc, &tokens) {
-        Ok(query) => printed(alloc, &query),
-        Err(refused) => made(refused.message(alloc)),
+fn canonical(alloc: Global, text: &str) -> Result<String, Memory> {
+    match lex(alloc, text.as_bytes()) {
+        Ok(tokens) => parsed(alloc, &tokens),
+        Err(refused) => refused.message(alloc),
     }
 }
 
@@ -107,172 +133,135 @@ static TOKENS: &[(&[u8], &str)] = &[
     (&[b'a', 255], "lex: NotUtf8"),
 ];
 
+/// What is expected of the first text that has other tokens.
+fn wrong_tokens(alloc: Global) -> Result<Option<&'static str>, Memory> {
+    for &(text, expected) in TOKENS {
+        if tokens_of(alloc, text)?.as_str() != expected {
+            return Ok(Some(expected));
+        }
+    }
+    Ok(None)
+}
+
 #[test]
-fn texts_have_these_tokens(rt: HostRuntime) -> Result<(), Fail> {
-    for (text, expected) in TOKENS {
-        let got = tokens_of(rt.alloc(), *text)?;
-        assert_eq!(rt; got.as_str(), *expected);
+fn texts_have_these_tokens(rt: HostRuntime) {
+    see_none(&rt, wrong_tokens(rt.alloc()));
+}
+
+/// Adds a text so many times.
+fn push_times(text: &mut String, count: usize, piece: &str) -> Result<(), AllocError> {
+    for _ in 0..count {
+        text.push_str(piece)?;
     }
     Ok(())
+}
+
+/// Whether these are the tokens of so many blanks, or their refusal.
+fn blanks_have(alloc: Global, count: usize, expected: &str) -> Result<bool, Memory> {
+    let mut text = String::new(alloc);
+    push_times(&mut text, count, " ")?;
+    Ok(tokens_of(alloc, text.as_str().as_bytes())?.as_str() == expected)
 }
 
 /// How many blanks a text has, and its tokens or its refusal.
 static BLANKS: &[(usize, &str)] = &[(65536, ""), (65537, "lex: TooLong")];
 
-/// The tokens of so many blanks, or their refusal.
-fn tokens_of_blanks(alloc: Global, count: usize) -> Result<String, Fail> {
-    let mut text = Vec::new(alloc);
-    for _ in 0..count {
-        text.push(b' ')?;
-    }
-    tokens_of(alloc, text.as_slice())
-}
-
-#[test]
-fn most_bytes(rt: HostRuntime) -> Result<(), Fail> {
+/// What is expected of the first text of blanks that has other tokens.
+fn wrong_blanks(alloc: Global) -> Result<Option<&'static str>, Memory> {
     for &(count, expected) in BLANKS {
-        let got = tokens_of_blanks(rt.alloc(), count)?;
-        assert_eq!(rt; got.as_str(), expected);
+        if !blanks_have(alloc, count, expected)? {
+            return Ok(Some(expected));
+        }
     }
-    Ok(())
+    Ok(None)
 }
-
-/// Queries, each with its canonical text or its refusal.
-static QUERIES: &[(&str, &str)] = &[
-    (
-        "sequence by host.id with maxspan=1m [process where true] by ?user with runs=3 [\"a b\" where 1 == 1] until [any where false] | head 5 | tail 2",
-        "sequence by `host.id` with maxspan=1m [\"process\" where true] by ?`user` with runs=3 [\"a b\" where (1 == 1)] until [any where false] | head 5 | tail 2",
-    ),
-    (
-        "sequence by a, b.c with maxspan=1m [any where true] by ?`c``d` with runs=3 until [\"x y\" where false] | head 2 | tail 1",
-        "sequence by `a`, `b.c` with maxspan=1m [any where true] by ?`c``d` with runs=3 until [\"x y\" where false] | head 2 | tail 1",
-    ),
-    (
-        "sequence by a, b.c with maxspan=1m [any where true] until [\"x y\" where false]",
-        "sequence by `a`, `b.c` with maxspan=1m [any where true] until [\"x y\" where false]",
-    ),
-    (
-        "process where process.name == \"a\" and not process.pid in (1,2)",
-        "\"process\" where ((`process.name` == \"a\") and (not (`process.pid` in (1, 2))))",
-    ),
-    ("any where a == b == c", "parse: Syntax at 17"),
-    (
-        "sequence [process where true] ![file where true]",
-        "parse: LeftOut ! at 30",
-    ),
-    (
-        "sample by user.name [process where true]",
-        "parse: LeftOut sample at 0",
-    ),
-    (
-        "process where process.name regex \"a\"",
-        "parse: LeftOut regex at 27",
-    ),
-    ("any where 1 | sort a", "parse: LeftOut sort at 14"),
-    (
-        "sequence with maxspan=5 nanos [a where true]",
-        "parse: LeftOut nanos at 24",
-    ),
-    ("any where number(\"1\", 2)", "parse: LeftOut number at 10"),
-    ("any where a regex~ \"b\"", "parse: LeftOut regex~ at 12"),
-    (
-        "sequence by a.until ![any where true]",
-        "parse: LeftOut ! at 20",
-    ),
-    (
-        "sequence [any where true] until ![any where true]",
-        "parse: Syntax at 32",
-    ),
-    ("any where sample", "parse: Syntax at 10"),
-    ("any where 5 micros", "parse: Syntax at 12"),
-    ("any where number(1, regex)", "parse: Syntax at 20"),
-    (
-        "any where number(1, 2) regex \"a\"",
-        "parse: LeftOut number at 10",
-    ),
-    (
-        "any where number(number(1, 2), 3",
-        "parse: LeftOut number at 17",
-    ),
-    ("any where number~(1, 2) 3", "parse: Syntax at 24"),
-    ("any where", "parse: Syntax at 9"),
-    ("", "parse: Syntax at 0"),
-    ("until where true", "parse: Syntax at 0"),
-    ("any where a in ()", "parse: Syntax at 16"),
-    ("any where not", "parse: Syntax at 13"),
-    ("any where 'a'", "lex: SingleQuote at 10"),
-    ("any where null", "any where null"),
-    ("any where true", "any where true"),
-    ("any where 7", "any where 7"),
-    ("any where \"a\"", "any where \"a\""),
-    ("any where a.`b c`.where", "any where `a.b c.where`"),
-    ("any where ?a", "any where ?`a`"),
-    ("any where not a and b", "any where ((not `a`) and `b`)"),
-    ("any where not (a and b)", "any where (not (`a` and `b`))"),
-    ("any where a and b or c", "any where ((`a` and `b`) or `c`)"),
-    ("any where a < -1 + 2", "any where (`a` < ((-1) + 2))"),
-    ("any where a <= b", "any where (`a` <= `b`)"),
-    ("any where a == b", "any where (`a` == `b`)"),
-    ("any where a != b", "any where (`a` != `b`)"),
-    ("any where a >= b", "any where (`a` >= `b`)"),
-    ("any where a > b", "any where (`a` > `b`)"),
-    ("any where a : \"x*\"", "any where (`a` : \"x*\")"),
-    (
-        "any where a like (\"x\", \"y\")",
-        "any where (`a` like (\"x\", \"y\"))",
-    ),
-    ("any where a like~ \"x\"", "any where (`a` like~ \"x\")"),
-    (
-        "any where a in (1, -2, \"x\", true)",
-        "any where (`a` in (1, -2, \"x\", true))",
-    ),
-    ("any where a in~ (\"x\")", "any where (`a` in~ (\"x\"))"),
-    ("any where a not in (1)", "any where (`a` not in (1))"),
-    ("any where a not in~ (1)", "any where (`a` not in~ (1))"),
-    ("any where -a", "any where (-`a`)"),
-    ("any where 1 + 2 * 3", "any where (1 + (2 * 3))"),
-    ("any where 1 - 2 - 3", "any where ((1 - 2) - 3)"),
-    ("any where 1 * 2 / 3", "any where ((1 * 2) / 3)"),
-    ("any where 1 % 2", "any where (1 % 2)"),
-    ("any where length()", "any where length()"),
-    (
-        "any where startsWith~(a, \"x\")",
-        "any where startsWith~(`a`, \"x\")",
-    ),
-    (
-        "any where p not in~ (-7, true) or not null like \"a\\n\\u{1b}\\\"\" or length(\"é\", 2) >= 5 % -3",
-        "any where ((`p` not in~ (-7, true)) or (not (null like \"a\\n\\u{1b}\\\"\")) or (length(\"é\", 2) >= (5 % (-3))))",
-    ),
-];
 
 #[test]
-fn queries_have_these_canonical_texts(rt: HostRuntime) -> Result<(), Fail> {
-    for (text, expected) in QUERIES {
-        let got = canonical(rt.alloc(), *text)?;
-        assert_eq!(rt; got.as_str(), *expected);
-    }
-    Ok(())
+fn most_bytes(rt: HostRuntime) {
+    see_none(&rt, wrong_blanks(rt.alloc()));
 }
 
-/// Some text, then another one so many times, a condition, and so many of a third.
-fn nested(
-    alloc: Global,
-    before: &str,
-    open: &str,
-    count: usize,
-    inside: &str,
-    close: &str,
-) -> Result<String, AllocError> {
-    let mut text = String::from_str(alloc, "any where ")?;
-    text.push_str(before)?;
-    for _ in 0..count {
-        text.push_str(open)?;
+/// Queries, each with its canonical text or its refusal: a row is a line.
+static QUERIES: &str = r#"
+sequence by host.id with maxspan=1m [process where true] by ?user with runs=3 ["a b" where 1 == 1] until [any where false] | head 5 | tail 2 => sequence by `host.id` with maxspan=1m ["process" where true] by ?`user` with runs=3 ["a b" where (1 == 1)] until [any where false] | head 5 | tail 2
+sequence by a, b.c with maxspan=1m [any where true] by ?`c``d` with runs=3 until ["x y" where false] | head 2 | tail 1 => sequence by `a`, `b.c` with maxspan=1m [any where true] by ?`c``d` with runs=3 until ["x y" where false] | head 2 | tail 1
+sequence by a, b.c with maxspan=1m [any where true] until ["x y" where false] => sequence by `a`, `b.c` with maxspan=1m [any where true] until ["x y" where false]
+process where process.name == "a" and not process.pid in (1,2) => "process" where ((`process.name` == "a") and (not (`process.pid` in (1, 2))))
+any where a == b == c => parse: Syntax at 17
+sequence [process where true] ![file where true] => parse: LeftOut ! at 30
+sample by user.name [process where true] => parse: LeftOut sample at 0
+process where process.name regex "a" => parse: LeftOut regex at 27
+any where 1 | sort a => parse: LeftOut sort at 14
+sequence with maxspan=5 nanos [a where true] => parse: LeftOut nanos at 24
+any where number("1", 2) => parse: LeftOut number at 10
+any where a regex~ "b" => parse: LeftOut regex~ at 12
+sequence by a.until ![any where true] => parse: LeftOut ! at 20
+sequence [any where true] until ![any where true] => parse: Syntax at 32
+any where sample => parse: Syntax at 10
+any where 5 micros => parse: Syntax at 12
+any where number(1, regex) => parse: Syntax at 20
+any where number(1, 2) regex "a" => parse: LeftOut number at 10
+any where number(number(1, 2), 3 => parse: LeftOut number at 17
+any where number~(1, 2) 3 => parse: Syntax at 24
+any where => parse: Syntax at 9
+ => parse: Syntax at 0
+until where true => parse: Syntax at 0
+any where a in () => parse: Syntax at 16
+any where not => parse: Syntax at 13
+any where 'a' => lex: SingleQuote at 10
+any where null => any where null
+any where true => any where true
+any where 7 => any where 7
+any where "a" => any where "a"
+any where a.`b c`.where => any where `a.b c.where`
+any where ?a => any where ?`a`
+any where not a and b => any where ((not `a`) and `b`)
+any where not (a and b) => any where (not (`a` and `b`))
+any where a and b or c => any where ((`a` and `b`) or `c`)
+any where a < -1 + 2 => any where (`a` < ((-1) + 2))
+any where a <= b => any where (`a` <= `b`)
+any where a == b => any where (`a` == `b`)
+any where a != b => any where (`a` != `b`)
+any where a >= b => any where (`a` >= `b`)
+any where a > b => any where (`a` > `b`)
+any where a : "x*" => any where (`a` : "x*")
+any where a like ("x", "y") => any where (`a` like ("x", "y"))
+any where a like~ "x" => any where (`a` like~ "x")
+any where a in (1, -2, "x", true) => any where (`a` in (1, -2, "x", true))
+any where a in~ ("x") => any where (`a` in~ ("x"))
+any where a not in (1) => any where (`a` not in (1))
+any where a not in~ (1) => any where (`a` not in~ (1))
+any where -a => any where (-`a`)
+any where 1 + 2 * 3 => any where (1 + (2 * 3))
+any where 1 - 2 - 3 => any where ((1 - 2) - 3)
+any where 1 * 2 / 3 => any where ((1 * 2) / 3)
+any where 1 % 2 => any where (1 % 2)
+any where length() => any where length()
+any where startsWith~(a, "x") => any where startsWith~(`a`, "x")
+any where p not in~ (-7, true) or not null like "a\n\u{1b}\"" or length("é", 2) >= 5 % -3 => any where ((`p` not in~ (-7, true)) or (not (null like "a\n\u{1b}\"")) or (length("é", 2) >= (5 % (-3))))
+"#;
+
+/// Whether what stands behind the last ` => ` of a row is the canonical text of what stands before it, or its refusal.
+fn is_canonical(alloc: Global, row: &str) -> Result<bool, Memory> {
+    match row.rsplit_once(" => ") {
+        Some((text, expected)) => Ok(canonical(alloc, text)?.as_str() == expected),
+        None => Ok(row.is_empty()),
     }
-    text.push_str(inside)?;
-    for _ in 0..count {
-        text.push_str(close)?;
+}
+
+/// The first row of a query that has another canonical text or refusal.
+fn wrong_query(alloc: Global) -> Result<Option<&'static str>, Memory> {
+    for row in QUERIES.lines() {
+        if !is_canonical(alloc, row)? {
+            return Ok(Some(row));
+        }
     }
-    Ok(text)
+    Ok(None)
+}
+
+#[test]
+fn queries_have_these_canonical_texts(rt: HostRuntime) {
+    see_none(&rt, wrong_query(rt.alloc()));
 }
 
 /// What stands before, what opens and how often, what stands inside, and what closes; and how the canonical text or the
@@ -286,18 +275,8 @@ type Nested = (
     &'static str,
 );
 
-/// Sees that the canonical text or the refusal of each of these begins so.
-fn each_begins(rt: &impl Abort, alloc: Global, rows: &[Nested]) -> Result<(), Fail> {
-    for (before, open, count, inside, close, expected) in rows {
-        let text = nested(alloc, before, open, *count, inside, close)?;
-        let got = canonical(alloc, text.as_str())?;
-        assert!(rt; got.as_str().starts_with(*expected));
-    }
-    Ok(())
-}
-
 /// Levels of conditions, up to the greatest depth and beyond it.
-static DEPTHS: &[Nested] = &[
+static LIMITS: &[Nested] = &[
     // The 65th level begins at what is negated, at one more `not` or `-`, or at an argument.
     ("", "not ", 63, "true", "", "any where (not "),
     ("", "not ", 64, "true", "", "parse: TooDeep at 266"),
@@ -320,15 +299,7 @@ static DEPTHS: &[Nested] = &[
     ("", "f(", 64, "g~", ")", "parse: TooDeep at 138"),
     ("", "f(", 64, "(g~)", ")", "parse: TooDeep at 139"),
     ("", "f(", 63, "g~", ")", "parse: Syntax at 138"),
-];
-
-#[test]
-fn limits_of_depth(rt: HostRuntime) -> Result<(), Fail> {
-    each_begins(&rt, rt.alloc(), DEPTHS)
-}
-
-/// Levels that operators begin above their operands, and what comes behind an operand.
-static OPERANDS: &[Nested] = &[
+    // Levels that operators begin above their operands, and what comes behind an operand.
     // An operator behind its operand begins the level above it.
     ("", "not ", 62, "a or b", "", "any where ((not "),
     ("", "not ", 63, "a or b", "", "parse: TooDeep at 264"),
@@ -368,7 +339,34 @@ static OPERANDS: &[Nested] = &[
     ("number(", "(", 128, "a, 2)", "", "parse: TooDeep at 144"),
 ];
 
+/// Adds what a row has before the condition inside, with that, and what closes.
+fn push_nested(text: &mut String, row: &Nested) -> Result<(), AllocError> {
+    let (before, open, count, inside, close, _) = row;
+    text.push_str("any where ")?;
+    text.push_str(before)?;
+    push_times(text, *count, open)?;
+    text.push_str(inside)?;
+    push_times(text, *count, close)
+}
+
+/// Whether the canonical text or the refusal of a row begins as it should.
+fn begins(alloc: Global, row: &Nested) -> Result<bool, Memory> {
+    let mut text = String::new(alloc);
+    push_nested(&mut text, row)?;
+    Ok(canonical(alloc, text.as_str())?.as_str().starts_with(row.5))
+}
+
+/// What is expected of the first row whose canonical text or refusal begins otherwise.
+fn wrong_limit(alloc: Global) -> Result<Option<&'static str>, Memory> {
+    for row in LIMITS {
+        if !begins(alloc, row)? {
+            return Ok(Some(row.5));
+        }
+    }
+    Ok(None)
+}
+
 #[test]
-fn limits_above_and_behind_operands(rt: HostRuntime) -> Result<(), Fail> {
-    each_begins(&rt, rt.alloc(), OPERANDS)
+fn limits_of_depth(rt: HostRuntime) {
+    see_none(&rt, wrong_limit(rt.alloc()));
 }
