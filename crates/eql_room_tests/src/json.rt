@@ -1,4 +1,5 @@
 //! The JSON of bytes: what is one, and what is none.
+use crate::table::{Asked, bytes_of, is_bool, see};
 use eql_json::read_json;
 use eql_values::Memory;
 use std::alloc::Global;
@@ -15,22 +16,28 @@ fn is_json(alloc: Global, bytes: &[u8]) -> Result<bool, Memory> {
     }
 }
 
+/// Whether the bytes of a row are one JSON text as they should be.
+pub fn is_told(alloc: Global, row: &str, wanted: &str) -> Result<bool, Memory> {
+    let bytes = bytes_of(alloc, row)?;
+    let is_json = is_json(alloc, &bytes);
+    drop(bytes);
+    Ok(is_bool(is_json?, wanted))
+}
+
 /// Bytes, and whether they are one JSON value.
-static TEXTS: &[(&[u8], bool)] = &[
-    (b"", false),
-    (b"{\"a\":[1,null,true,\"x\"]}", true),
-    (b" 7\r\n", true),
-    (b"{\"a\":1", false),
-    (b"1 2", false),
-    (b"{a:1}", false),
-    (b"\"\xff\"", false),
-    (b"\"\\u0041\"", true),
-    (b"01", false),
-];
+static TEXTS: &str = r#"
+ => false
+{"a":[1,null,true,"x"]} => true
+ 7␍␊ => true
+{"a":1 => false
+1 2 => false
+{a:1} => false
+"ÿ" => false
+"\u0041" => true
+01 => false
+"#;
 
 #[test]
 fn json_is_told(rt: HostRuntime) {
-    for (bytes, expected) in TEXTS {
-        assert_eq!(rt; is_json(rt.alloc(), *bytes), Ok(*expected));
-    }
+    see(&rt, rt.alloc(), &Asked::Json, TEXTS);
 }

@@ -8,6 +8,8 @@ mod lines;
 #[cfg(test)]
 mod outside;
 #[cfg(test)]
+mod table;
+#[cfg(test)]
 mod text;
 #[cfg(test)]
 mod values;

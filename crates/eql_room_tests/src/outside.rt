@@ -2,6 +2,7 @@
 //! and what real files do.
 ghost use Rattle.std.specs.Prelude.{◌≡◌, ◌≤◌, IfOk, false, refl};
 
+use crate::table::see_true;
 use eql_outside::{
     Area, Disk, Failed, FileShelf, FileSource, MemDisk, MemFile, MemShelf, MemSink, MemSource,
     OutRefused, ReadsAlike, Shelf, Sink, Source, StdSink, WritesAlike,
@@ -9,11 +10,9 @@ use eql_outside::{
 use eql_values::Memory;
 use std::alloc::Global;
 use std::io::{Error, ErrorKind, Read, Write};
-use std::test::Fail;
 use std::{fs, io, process};
 
 /// One call that is made of a source.
-#[derive(Clone, Copy)]
 struct Take {
     /// The room that it is given, at most four bytes.
     room: usize,
@@ -52,31 +51,32 @@ fn is_taken<S: Source>(source: &mut S, take: &Take) -> bool {
     }
 }
 
-/// The first of some takes of a source in turn that isn't as it should be, from 0.
-fn wrong_take<S: Source>(source: &mut S, takes: &[Take]) -> Option<usize> {
-    for (number, take) in takes.iter().enumerate() {
+/// Whether takes of a source in turn are as they should be.
+fn are_taken<S: Source>(source: &mut S, takes: &[Take]) -> bool {
+    for take in takes {
         if !is_taken(source, take) {
-            return Some(number);
+            return false;
         }
     }
-    None
+    true
 }
 
-/// A file of these bytes, whose takes of these numbers fail.
-fn file(
-    alloc: Global,
-    name: &str,
-    bytes: &[u8],
-    piece: usize,
-    fails: &[u64],
-) -> Result<MemFile, Memory>
+/// The number of a call that fails, alone in a list.
+fn one_call(alloc: Global, call: u64) -> Result<Vec<u64>, Memory> {
+    Ok(vec![in alloc; call]?)
+}
+
+/// A file of these bytes, of whose takes the one with this number fails.
+fn file(alloc: Global, bytes: &str, piece: usize, fails: u64) -> Result<MemFile, Memory>
     requires { 1 ≤ piece }
 {
+    let fails = one_call(alloc, fails)?;
+    let bytes = Vec::from_slice(alloc, bytes.as_bytes())?;
     Ok(MemFile {
-        name: String::from_str(alloc, name)?,
-        bytes: Vec::from_slice(alloc, bytes)?,
+        name: String::from_str(alloc, "log")?,
+        bytes,
         piece,
-        fails: Vec::from_slice(alloc, fails)?,
+        fails,
     })
 }
 
@@ -89,15 +89,17 @@ static PIECES: &[Take] = &[
     gives!(4, b""),
 ];
 
-/// The first of these takes that isn't as it should be, and the faults of the source.
-fn taken_in_pieces(alloc: Global) -> Result<(Option<usize>, u64), Memory> {
-    let mut source = MemSource::new(file(alloc, "log", b"abcde", 2, &[2])?);
-    Ok((wrong_take(&mut source, PIECES), source.faults()))
+/// Whether these takes are as they should be, and one was a fault.
+fn are_taken_in_pieces(alloc: Global) -> Result<bool, Memory> {
+    let mut source = MemSource::new(file(alloc, "abcde", 2, 2)?);
+    let is_right = are_taken(&mut source, PIECES) && source.faults() == 1;
+    drop(source);
+    Ok(is_right)
 }
 
 #[test]
 fn memory_source_gives_pieces(rt: HostRuntime) {
-    assert_eq!(rt; taken_in_pieces(rt.alloc()), Ok((None, 1)));
+    see_true(&rt, are_taken_in_pieces(rt.alloc()));
 }
 
 /// A reader whose second read fails, and whose third is cut short by a signal.
@@ -130,47 +132,51 @@ impl ReadsAlike for Faulty {
 /// Takes of such a reader.
 static AROUND_A_FAULT: &[Take] = &[gives!(4, b"x"), fails!(4), gives!(4, b"x"), gives!(4, b"")];
 
-/// The first of these takes that isn't as it should be, and the faults of the source.
-fn taken_around_a_fault() -> (Option<usize>, u64) {
+/// Whether these takes are as they should be, and one was a fault.
+fn are_taken_around_a_fault() -> bool {
     let mut source = FileSource::new(Faulty { reads: 0 });
-    (wrong_take(&mut source, AROUND_A_FAULT), source.faults())
+    let is_right = are_taken(&mut source, AROUND_A_FAULT) && source.faults() == 1;
+    drop(source);
+    is_right
 }
 
 #[test]
 fn reader_that_fails_is_not_at_its_end(rt: HostRuntime) {
-    assert_eq!(rt; taken_around_a_fault(), (None, 1));
+    assert!(rt; are_taken_around_a_fault());
 }
 
 /// Bytes that are written, what the sink returns, and the faults that it counts then.
-type Written<'a> = (&'a [u8], Result<(), OutRefused>, u64);
+type Written = (&'static [u8], Result<(), OutRefused>, u64);
 
-/// The first of some writes to a sink in turn that isn't as it should be, from 0.
-fn wrong_write<K: Sink>(alloc: Global, sink: &mut K, writes: &[Written<'_>]) -> Option<usize> {
-    for (number, (bytes, answer, faults)) in writes.iter().enumerate() {
+/// Whether writes to a sink in turn are as they should be.
+fn are_written<K: Sink>(alloc: Global, sink: &mut K, writes: &[Written]) -> bool {
+    for (bytes, answer, faults) in writes {
         if sink.write(alloc, *bytes) != *answer || sink.faults() != *faults {
-            return Some(number);
+            return false;
         }
     }
-    None
+    true
 }
 
 /// Writes of which the second one fails.
-static WRITES: &[Written<'static>] = &[
+static WRITES: &[Written] = &[
     (b"one ", Ok(()), 0),
     (b"lost", Err(OutRefused::Failed), 1),
     (b"two", Ok(()), 1),
 ];
 
-/// The first of these writes that isn't as it should be, and whether the sink keeps the others.
-fn written(alloc: Global) -> Result<(Option<usize>, bool), Memory> {
-    let mut sink = MemSink::new(alloc, Vec::from_slice(alloc, &[2])?);
-    let wrong = wrong_write(alloc, &mut sink, WRITES);
-    Ok((wrong, sink.bytes().as_slice() == b"one two".as_slice()))
+/// Whether these writes are as they should be, and the sink keeps the others.
+fn are_kept(alloc: Global) -> Result<bool, Memory> {
+    let mut sink = MemSink::new(alloc, one_call(alloc, 2)?);
+    let is_right = are_written(alloc, &mut sink, WRITES);
+    let is_kept = sink.bytes().as_slice() == "one two".as_bytes();
+    drop(sink);
+    Ok(is_right && is_kept)
 }
 
 #[test]
 fn memory_sink_keeps_bytes(rt: HostRuntime) {
-    assert_eq!(rt; written(rt.alloc()), Ok((None, true)));
+    see_true(&rt, are_kept(rt.alloc()));
 }
 
 /// A writer that takes two bytes at a time, and none of a piece that begins with a full stop.
@@ -181,7 +187,7 @@ struct Slow {
 
 impl Write for Slow {
     fn write(&mut self, bytes: &[u8]) -> io::Result<usize> {
-        if bytes.starts_with(b".") {
+        if bytes.first() == Some(&b'.') {
             return Ok(0);
         }
         let n = bytes.len().min(2);
@@ -199,59 +205,45 @@ impl WritesAlike for Slow {
 }
 
 /// Writes of which the second one is cut short.
-static SLOW_WRITES: &[Written<'static>] = &[
-    (b"abcde", Ok(()), 0),
-    (b"fg.h", Err(OutRefused::Failed), 1),
-];
+static SLOW_WRITES: &[Written] = &[(b"abcde", Ok(()), 0), (b"fg.h", Err(OutRefused::Failed), 1)];
 
-/// The first of these writes that isn't as it should be, and whether the others were taken.
-fn written_slowly(alloc: Global) -> (Option<usize>, bool) {
+/// Whether these writes are as they should be, and the others were taken.
+fn are_written_slowly(alloc: Global) -> bool {
     let mut sink = StdSink::new(Slow {
         taken: Vec::new(alloc),
     });
-    let wrong = wrong_write(alloc, &mut sink, SLOW_WRITES);
-    (
-        wrong,
-        sink.into_inner().taken.as_slice() == b"abcdefg".as_slice(),
-    )
+    let is_right = are_written(alloc, &mut sink, SLOW_WRITES);
+    let slow = sink.into_inner();
+    let is_kept = slow.taken.as_slice() == "abcdefg".as_bytes();
+    drop(slow);
+    is_right && is_kept
 }
 
 #[test]
 fn stream_sink_writes_on(rt: HostRuntime) {
-    assert_eq!(rt; written_slowly(rt.alloc()), (None, true));
+    assert!(rt; are_written_slowly(rt.alloc()));
 }
 
-/// What a shelf says of a name.
-#[derive(Clone, Copy, Debug, PartialEq, Eq)]
-enum Said {
-    /// There is a file or a disk, and its calls are as they should be.
-    Lent,
-    /// There is one, and a call of it is not.
-    Otherwise,
-    /// There is none.
-    Absent,
-    /// The call failed.
-    Failed,
-}
-
-/// What is said of something that was lent, by the first call of it that is wrong.
-fn lent(wrong: Option<usize>) -> Said {
-    match wrong {
-        None => Said::Lent,
-        Some(_) => Said::Otherwise,
-    }
+/// What a shelf says of a file or a disk that it lent, by whether the calls of it are as they should be.
+fn lent(is_right: bool) -> &'static str {
+    if is_right { "lent" } else { "otherwise" }
 }
 
 /// Asks a shelf for a file, makes takes of it, and gives it back.
-fn said_of_file<H: Shelf>(alloc: Global, shelf: &mut H, name: &String, takes: &[Take]) -> Said {
+fn said_of_file<H: Shelf>(
+    alloc: Global,
+    shelf: &mut H,
+    name: &String,
+    takes: &[Take],
+) -> &'static str {
     match shelf.source(alloc, name) {
         Ok(Some(mut source)) => {
-            let wrong = wrong_take(&mut source, takes);
+            let is_right = are_taken(&mut source, takes);
             shelf.give_source(source);
-            lent(wrong)
+            lent(is_right)
         }
-        Ok(None) => Said::Absent,
-        Err(_) => Said::Failed,
+        Ok(None) => "absent",
+        Err(_) => "failed",
     }
 }
 
@@ -259,17 +251,16 @@ fn said_of_file<H: Shelf>(alloc: Global, shelf: &mut H, name: &String, takes: &[
 struct Named {
     name: &'static str,
     takes: &'static [Take],
-    says: Said,
+    says: &'static str,
     faults: u64,
 }
 
 /// Whether a shelf says of a name what it should.
 fn is_said<H: Shelf>(alloc: Global, shelf: &mut H, named: &Named) -> Result<bool, Memory> {
     let name = String::from_str(alloc, named.name)?;
-    Ok(
-        said_of_file(alloc, shelf, &name, named.takes) == named.says
-            && shelf.faults() == named.faults,
-    )
+    let says = said_of_file(alloc, shelf, &name, named.takes);
+    drop(name);
+    Ok(says == named.says && shelf.faults() == named.faults)
 }
 
 /// The names that are asked of a shelf in turn. It has a file of one byte, whose first take fails, and its third
@@ -278,51 +269,56 @@ static LENT: &[Named] = &[
     Named {
         name: "none",
         takes: &[],
-        says: Said::Absent,
+        says: "absent",
         faults: 0,
     },
     Named {
         name: "log",
         takes: &[fails!(2), gives!(2, b"x"), gives!(2, b"")],
-        says: Said::Lent,
+        says: "lent",
         faults: 1,
     },
     Named {
         name: "log",
         takes: &[],
-        says: Said::Failed,
+        says: "failed",
         faults: 2,
     },
 ];
 
 /// A shelf of such a file.
-fn shelf_of_one(alloc: Global) -> Result<MemShelf, Fail> {
-    let files = vec![in alloc; file(alloc, "log", b"x", 1, &[1])?]?;
-    let disk = empty_disk(alloc, &[], None)?;
-    Ok(MemShelf::new(alloc, files, disk, Vec::from_slice(alloc, &[3])?)?)
+fn shelf_of_one(alloc: Global) -> Result<MemShelf, Memory> {
+    let fails = one_call(alloc, 3)?;
+    let files = vec![in alloc; file(alloc, "x", 1, 1)?]?;
+    MemShelf::new(
+        alloc,
+        files,
+        empty_disk(alloc, Vec::new(alloc), None)?,
+        fails,
+    )
 }
 
-/// The first of some names of which a shelf, asked in turn, doesn't say what it should, from 0.
-fn wrong_name<H: Shelf>(
-    alloc: Global,
-    shelf: &mut H,
-    names: &[Named],
-) -> Result<Option<usize>, Memory> {
-    for (number, named) in names.iter().enumerate() {
+/// Whether a shelf, asked in turn, says of each name what it should.
+fn are_said<H: Shelf>(alloc: Global, shelf: &mut H, names: &[Named]) -> Result<bool, Memory> {
+    for named in names {
         if !is_said(alloc, shelf, named)? {
-            return Ok(Some(number));
+            return Ok(false);
         }
     }
-    Ok(None)
+    Ok(true)
+}
+
+/// Whether such a shelf does.
+fn are_said_of_one(alloc: Global) -> Result<bool, Memory> {
+    let mut shelf = shelf_of_one(alloc)?;
+    let is_right = are_said(alloc, &mut shelf, LENT);
+    drop(shelf);
+    is_right
 }
 
 #[test]
-fn memory_shelf_lends_files(rt: HostRuntime) -> Result<(), Fail> {
-    let mut shelf = shelf_of_one(rt.alloc())?;
-    let wrong = wrong_name(rt.alloc(), &mut shelf, LENT);
-    drop(shelf);
-    assert_eq!(rt; wrong?, None);
-    Ok(())
+fn memory_shelf_lends_files(rt: HostRuntime) {
+    see_true(&rt, are_said_of_one(rt.alloc()));
 }
 
 /// Takes of a file of three bytes.
@@ -333,30 +329,33 @@ fn own_path(rt: &HostRuntime, name: &str) -> Result<String, Memory> {
     Ok(format!(in rt.alloc(); "/tmp/{}_{}", name, process::id(rt.process()))?)
 }
 
-/// What a shelf says of a file that is written, and then of the same one when it is removed.
-fn said_around<H: Shelf>(
-    rt: &HostRuntime,
-    shelf: &mut H,
-    path: &String,
-) -> Result<(Said, Said), Fail> {
-    fs::write(rt, path, "abc")?;
-    let there = said_of_file(rt.alloc(), shelf, path, WHOLE);
-    fs::remove_file(rt, path)?;
-    Ok((there, said_of_file(rt.alloc(), shelf, path, &[])))
+/// A shelf of files.
+fn file_shelf(rt: &HostRuntime) -> Result<FileShelf<HostRuntime>, Memory> {
+    Ok(FileShelf::new(rt.clone()?))
 }
 
-/// What a shelf of files says of such a file, and the faults that it counts then.
-fn said_by_files(rt: &HostRuntime) -> Result<((Said, Said), u64), Fail> {
+/// Whether a shelf lends a file that is written, and says that it is absent when it is removed.
+fn is_said_around<H: Shelf>(rt: &HostRuntime, shelf: &mut H, path: &String) -> bool {
+    let is_written = fs::write(rt, path, "abc").is_ok();
+    let there = said_of_file(rt.alloc(), shelf, path, WHOLE);
+    let is_removed = fs::remove_file(rt, path).is_ok();
+    let gone = said_of_file(rt.alloc(), shelf, path, &[]);
+    is_written && is_removed && there == "lent" && gone == "absent"
+}
+
+/// Whether a shelf of files says so of such a file, and counts no fault.
+fn is_said_by_files(rt: &HostRuntime) -> Result<bool, Memory> {
     let path = own_path(rt, "eql_outside")?;
-    let mut shelf = FileShelf::new(rt.clone()?);
-    let said = said_around(rt, &mut shelf, &path)?;
-    Ok((said, shelf.faults()))
+    let mut shelf = file_shelf(rt)?;
+    let is_right = is_said_around(rt, &mut shelf, &path) && shelf.faults() == 0;
+    drop(shelf);
+    drop(path);
+    Ok(is_right)
 }
 
 #[test]
-fn file_shelf_opens_files(rt: HostRuntime) -> Result<(), Fail> {
-    assert_eq!(rt; said_by_files(&rt)?, ((Said::Lent, Said::Absent), 0));
-    Ok(())
+fn file_shelf_opens_files(rt: HostRuntime) {
+    see_true(&rt, is_said_by_files(&rt));
 }
 
 /// Names that are no plain files. A folder opens, and fails at its first read. A path through a file is no file. A
@@ -365,288 +364,365 @@ static NAMES: &[Named] = &[
     Named {
         name: "/",
         takes: &[fails!(1)],
-        says: Said::Lent,
+        says: "lent",
         faults: 1,
     },
     Named {
         name: "/dev/null/log",
         takes: &[],
-        says: Said::Absent,
+        says: "absent",
         faults: 0,
     },
     Named {
         name: "/tmp/a\0b",
         takes: &[],
-        says: Said::Failed,
+        says: "failed",
         faults: 1,
     },
     Named {
         name: "/dev/null",
         takes: &[gives!(1, b"")],
-        says: Said::Lent,
+        says: "lent",
         faults: 0,
     },
 ];
 
 /// Whether a new shelf of files says of a name what it should.
-fn is_said_of_files(rt: &HostRuntime, named: &Named) -> Result<bool, Fail> {
-    let mut shelf = FileShelf::new(rt.clone()?);
-    Ok(is_said(rt.alloc(), &mut shelf, named)?)
+fn is_said_of_files(rt: &HostRuntime, named: &Named) -> Result<bool, Memory> {
+    let mut shelf = file_shelf(rt)?;
+    let is_right = is_said(rt.alloc(), &mut shelf, named);
+    drop(shelf);
+    is_right
+}
+
+/// Whether a new shelf of files says of each of these names what it should.
+fn are_said_of_files(rt: &HostRuntime) -> Result<bool, Memory> {
+    for named in NAMES {
+        if !is_said_of_files(rt, named)? {
+            return Ok(false);
+        }
+    }
+    Ok(true)
 }
 
 #[test]
-fn file_shelf_tells_faults_from_missing_files(rt: HostRuntime) -> Result<(), Fail> {
-    for named in NAMES {
-        assert!(rt; is_said_of_files(&rt, named)?, "{}", named.name);
-    }
-    Ok(())
+fn file_shelf_tells_faults_from_missing_files(rt: HostRuntime) {
+    see_true(&rt, are_said_of_files(&rt));
 }
 
 /// A disk with empty areas, whose calls of these numbers fail, and all from a number on.
-fn empty_disk(alloc: Global, fails: &[u64], stop: Option<u64>) -> Result<MemDisk, Fail> {
-    let fails = Vec::from_slice(alloc, fails)?;
-    let (a, b) = (Vec::new(alloc), Vec::new(alloc));
-    Ok(MemDisk::new(alloc, a, b, fails, stop)?)
+fn empty_disk(alloc: Global, fails: Vec<u64>, stop: Option<u64>) -> Result<MemDisk, Memory> {
+    MemDisk::new(alloc, Vec::new(alloc), Vec::new(alloc), fails, stop)
 }
 
-/// An area, bytes that are written at its front, whether the write and then a sync succeed, from where on and how much
-/// is read then, and what the read gives, or `None` where it fails.
-type Run = (
-    Area,
-    &'static [u8],
-    (bool, bool),
-    (u64, u64),
-    Option<&'static [u8]>,
-);
+/// Writes at the front of an area, a sync, and a read.
+struct Run {
+    /// The area.
+    area: Area,
+    /// The bytes that are written.
+    bytes: &'static [u8],
+    /// Whether the write succeeds, and whether the sync does.
+    done: (bool, bool),
+    /// From where on bytes are read, and how many at most.
+    place: (u64, u64),
+    /// What the read gives, or `None` where it fails.
+    gives: Option<&'static [u8]>,
+}
+
+/// A run over an area with these bytes.
+macro_rules! run {
+    ($area:ident, $bytes:expr, $done:expr, $place:expr, $gives:expr) => {
+        Run {
+            area: Area::$area,
+            bytes: $bytes,
+            done: $done,
+            place: $place,
+            gives: $gives,
+        }
+    };
+}
 
 /// Whether a read of a disk gives what it should, or fails where it should.
-fn is_read<D: Disk>(
-    alloc: Global,
-    disk: &mut D,
-    area: Area,
-    (at, len): (u64, u64),
-    gives: Option<&[u8]>,
-) -> bool {
-    match disk.read(alloc, area, at, len) {
-        Ok(read) => gives == Some(read.as_slice()),
-        Err(_) => gives.is_none(),
+fn is_read<D: Disk>(alloc: Global, disk: &mut D, run: &Run) -> bool {
+    match disk.read(alloc, run.area, run.place.0, run.place.1) {
+        Ok(read) => {
+            let is_right = run.gives == Some(read.as_slice());
+            drop(read);
+            is_right
+        }
+        Err(_) => run.gives.is_none(),
     }
 }
 
 /// Whether a run of a disk is as it should be.
-fn is_run<D: Disk>(alloc: Global, disk: &mut D, (area, bytes, done, place, gives): &Run) -> bool {
-    let is_written = disk.write(alloc, *area, 0, *bytes).is_ok();
-    let is_synced = disk.sync(alloc, *area).is_ok();
-    is_read(alloc, disk, *area, *place, *gives) && (is_written, is_synced) == *done
+fn is_run<D: Disk>(alloc: Global, disk: &mut D, run: &Run) -> bool {
+    let is_written = disk.write(alloc, run.area, 0, run.bytes).is_ok();
+    let is_synced = disk.sync(alloc, run.area).is_ok();
+    is_read(alloc, disk, run) && (is_written, is_synced) == run.done
 }
 
-/// The first of some runs of a disk in turn that isn't as it should be, from 0.
-fn wrong_run<D: Disk>(alloc: Global, disk: &mut D, runs: &[Run]) -> Option<usize> {
-    for (number, run) in runs.iter().enumerate() {
+/// Whether runs of a disk in turn are as they should be.
+fn are_run<D: Disk>(alloc: Global, disk: &mut D, runs: &[Run]) -> bool {
+    for run in runs {
         if !is_run(alloc, disk, run) {
-            return Some(number);
+            return false;
         }
     }
-    None
+    true
 }
 
-/// Whether a crash by a choice leaves these bytes of the two areas.
-fn is_left(
-    alloc: Global,
-    disk: &MemDisk,
-    choice: u64,
-    first: &[u8],
-    second: &[u8],
-) -> Result<bool, Memory> {
-    let (a, b) = disk.crashed(alloc, choice)?;
-    Ok(a.as_slice() == first && b.as_slice() == second)
+/// What a crash leaves of the first area of a disk, and of the second one.
+type Left = (&'static [u8], &'static [u8]);
+
+/// Whether a crash by a choice leaves what it should.
+fn is_left(alloc: Global, disk: &MemDisk, choice: u64, left: &Left) -> bool {
+    match disk.crashed(alloc, choice) {
+        Ok((first, second)) => {
+            let is_right = first.as_slice() == left.0 && second.as_slice() == left.1;
+            drop(second);
+            drop(first);
+            is_right
+        }
+        Err(Memory) => false,
+    }
+}
+
+/// Whether crashes by the choices from 0 on leave what they should, as many choices as there are rows.
+fn are_left(alloc: Global, disk: &MemDisk, rows: &[Left]) -> bool {
+    for (choice, left) in rows.iter().enumerate() {
+        if !is_left(alloc, disk, choice as u64, left) {
+            return false;
+        }
+    }
+    true
 }
 
 /// Runs of a disk whose second and sixth calls fail, and all from the eighth on.
 static PLANNED: &[Run] = &[
-    (Area::A, b"ab", (true, false), (0, 9), Some(b"ab")),
-    (Area::B, b"c", (true, true), (0, 9), None),
-    (Area::A, b"xy", (true, false), (0, 9), None),
+    run!(A, b"ab", (true, false), (0, 9), Some(b"ab")),
+    run!(B, b"c", (true, true), (0, 9), None),
+    run!(A, b"xy", (true, false), (0, 9), None),
 ];
 
-/// The first of these runs that isn't as it should be, the faults of the disk, and whether a crash by the choices 0
-/// and 1 leaves what it should.
-fn run_planned(alloc: Global) -> Result<(Option<usize>, u64, (bool, bool)), Fail> {
-    let mut disk = empty_disk(alloc, &[2, 6], Some(8))?;
-    let wrong = wrong_run(alloc, &mut disk, PLANNED);
-    let faults = disk.faults();
-    let (none, all) = (
-        is_left(alloc, &disk, 0, b"", b"c"),
-        is_left(alloc, &disk, 1, b"xy", b"c"),
-    );
+/// What crashes leave then.
+static LEFT_THEN: &[Left] = &[(b"", b"c"), (b"xy", b"c")];
+
+/// Such a disk.
+fn planned_disk(alloc: Global) -> Result<MemDisk, Memory> {
+    let mut fails = one_call(alloc, 2)?;
+    fails.push(6)?;
+    empty_disk(alloc, fails, Some(8))
+}
+
+/// Whether these runs are as they should be, four calls were faults, and crashes leave what they should.
+fn is_as_planned(alloc: Global, disk: &mut MemDisk) -> bool {
+    are_run(alloc, disk, PLANNED) && disk.faults() == 4 && are_left(alloc, disk, LEFT_THEN)
+}
+
+/// Whether that is so of such a disk.
+fn is_planned(alloc: Global) -> Result<bool, Memory> {
+    let mut disk = planned_disk(alloc)?;
+    let is_right = is_as_planned(alloc, &mut disk);
     drop(disk);
-    Ok((wrong, faults, (none?, all?)))
+    Ok(is_right)
 }
 
 #[test]
-fn memory_disk_fails_where_planned(rt: HostRuntime) -> Result<(), Fail> {
-    assert_eq!(rt; run_planned(rt.alloc())?, (None, 4, (true, true)));
-    Ok(())
+fn memory_disk_fails_where_planned(rt: HostRuntime) {
+    see_true(&rt, is_planned(rt.alloc()));
 }
 
 /// What a crash leaves of the byte 0, behind which 1, 2 and 3 were written, and over which 1 was written, by the
 /// choices from 0 on. The byte a5 stands for what a torn write spoiled.
-static IMAGES: &[&[u8]] = &[
-    &[0],
-    &[1, 1, 2, 3],
-    &[0],
-    &[1],
-    &[0, 1],
-    &[1, 1],
-    &[0, 1, 2],
-    &[1, 1, 2],
-    &[0, 1, 2, 3],
-    &[1, 1, 2, 3],
-    &[0, 1, 0xa5, 0xa5],
-    &[1, 1, 0xa5, 0xa5],
-    &[0, 1, 2, 0xa5],
-    &[1, 1, 2, 0xa5],
+static IMAGES: &[Left] = &[
+    (b"\0", b""),
+    (b"\x01\x01\x02\x03", b""),
+    (b"\0", b""),
+    (b"\x01", b""),
+    (b"\0\x01", b""),
+    (b"\x01\x01", b""),
+    (b"\0\x01\x02", b""),
+    (b"\x01\x01\x02", b""),
+    (b"\0\x01\x02\x03", b""),
+    (b"\x01\x01\x02\x03", b""),
+    (b"\0\x01\xa5\xa5", b""),
+    (b"\x01\x01\xa5\xa5", b""),
+    (b"\0\x01\x02\xa5", b""),
+    (b"\x01\x01\x02\xa5", b""),
 ];
 
-/// A disk to which that was written.
-fn torn_disk(alloc: Global) -> Result<MemDisk, Fail> {
-    let a = vec![in alloc; 0u8]?;
-    let mut disk = MemDisk::new(alloc, a, Vec::new(alloc), Vec::new(alloc), None)?;
-    disk.write(alloc, Area::A, 1, &[1, 2, 3])?;
-    disk.write(alloc, Area::A, 0, &[1])?;
-    Ok(disk)
-}
+/// What a crash leaves once the disk is synced.
+static SYNCED: Left = (b"\x01\x01\x02\x03", b"");
 
-/// The first choice by which a crash leaves something else of the disk than it should.
-fn wrong_image(alloc: Global, disk: &MemDisk) -> Result<Option<usize>, Memory> {
-    for (choice, image) in IMAGES.iter().enumerate() {
-        if !is_left(alloc, disk, choice as u64, *image, b"")? {
-            return Ok(Some(choice));
-        }
-    }
-    Ok(None)
-}
-
-/// The first choice by which a crash doesn't leave all of the disk once it is synced.
-fn wrong_synced(alloc: Global, disk: &MemDisk) -> Result<Option<u64>, Memory> {
+/// Whether a crash by each of the first 32 choices leaves that.
+fn are_synced(alloc: Global, disk: &MemDisk) -> bool {
     for choice in 0..32 {
-        if !is_left(alloc, disk, choice, &[1, 1, 2, 3], b"")? {
-            return Ok(Some(choice));
+        if !is_left(alloc, disk, choice, &SYNCED) {
+            return false;
         }
     }
-    Ok(None)
+    true
 }
 
-/// The first choice by which a crash leaves something else than it should, before the disk is synced, and then.
-fn wrong_crash(alloc: Global) -> Result<(Option<usize>, Option<u64>), Fail> {
-    let mut disk = torn_disk(alloc)?;
-    let torn = wrong_image(alloc, &disk)?;
-    disk.sync(alloc, Area::A)?;
-    let whole = wrong_synced(alloc, &disk)?;
-    Ok((torn, whole))
+/// A disk to which that was written, and whether the writes succeeded.
+fn torn_disk(alloc: Global) -> Result<(MemDisk, bool), Memory> {
+    let a = Vec::from_slice(alloc, "\0".as_bytes())?;
+    let mut disk = MemDisk::new(alloc, a, Vec::new(alloc), Vec::new(alloc), None)?;
+    let is_written = disk
+        .write(alloc, Area::A, 1, "\u{1}\u{2}\u{3}".as_bytes())
+        .is_ok()
+        && disk.write(alloc, Area::A, 0, "\u{1}".as_bytes()).is_ok();
+    Ok((disk, is_written))
+}
+
+/// Whether crashes of such a disk leave what they should before it is synced, and then.
+fn is_torn(alloc: Global, disk: &mut MemDisk) -> bool {
+    are_left(alloc, disk, IMAGES) && disk.sync(alloc, Area::A).is_ok() && are_synced(alloc, disk)
+}
+
+/// Whether such a disk is made, and crashes leave what they should.
+fn is_made_and_torn(alloc: Global) -> Result<bool, Memory> {
+    let (mut disk, is_written) = torn_disk(alloc)?;
+    let is_torn = is_torn(alloc, &mut disk);
+    drop(disk);
+    Ok(is_written && is_torn)
 }
 
 #[test]
-fn crash_tears_each_pending_write(rt: HostRuntime) -> Result<(), Fail> {
-    assert_eq!(rt; wrong_crash(rt.alloc())?, (None, None));
-    Ok(())
+fn crash_tears_each_pending_write(rt: HostRuntime) {
+    see_true(&rt, is_made_and_torn(rt.alloc()));
 }
 
 /// Asks a shelf for its disk, makes runs of it, and gives it back.
-fn said_of_disk<H: Shelf>(alloc: Global, shelf: &mut H, name: &String, runs: &[Run]) -> Said
+fn said_of_disk<H: Shelf>(alloc: Global, shelf: &mut H, name: &String, runs: &[Run]) -> &'static str
     ensures back { H.is_out shelf.old ≡ false → H.is_out shelf.new ≡ false }
 {
     match shelf.disk(alloc, name) {
         Ok(mut disk) => {
-            let wrong = wrong_run(alloc, &mut disk, runs);
+            let is_right = are_run(alloc, &mut disk, runs);
             shelf.give_disk(disk);
-            lent(wrong)
+            lent(is_right)
         }
-        Err(_) => Said::Failed,
+        Err(_) => "failed",
     }
 }
 
-/// A run of a disk whose third call fails.
-static CUT_SHORT: &[Run] = &[(Area::A, b"ab", (true, true), (0, 9), None)];
-
-/// A shelf of such a disk, whose second call fails.
-fn shelf_of_disk(alloc: Global) -> Result<MemShelf, Fail>
-    ensures is_in { IfOk result (λ s. ⟦<MemShelf as Shelf>⟧.is_out s ≡ false) }
+/// Whether a shelf says of a disk what it should, and counts so many faults of disks then.
+fn is_said_of_disk<H: Shelf>(
+    alloc: Global,
+    shelf: &mut H,
+    name: &String,
+    runs: &[Run],
+    says: &str,
+    faults: u64,
+) -> bool
+    ensures back { H.is_out shelf.old ≡ false → H.is_out shelf.new ≡ false }
 {
-    let disk = empty_disk(alloc, &[3], None)?;
-    let fails = Vec::from_slice(alloc, &[2])?;
-    Ok(MemShelf::new(alloc, Vec::new(alloc), disk, fails)?)
+    said_of_disk(alloc, shelf, name, runs) == says && shelf.disk_faults() == faults
 }
 
-/// What such a shelf says of its disk, asked twice, with the faults of disks that it counts each time. Then the faults
-/// of its files, and whether a crash leaves what was written.
-fn lent_once(alloc: Global) -> Result<([(Said, u64); 2], u64, bool), Fail> {
+/// A run of a disk whose third call fails.
+static CUT_SHORT: &[Run] = &[run!(A, b"ab", (true, true), (0, 9), None)];
+
+/// What a crash leaves of it.
+static LEFT_SHORT: &[Left] = &[(b"ab", b"")];
+
+/// A shelf of such a disk, whose second call fails.
+fn shelf_of_disk(alloc: Global) -> Result<MemShelf, Memory>
+    ensures is_in { IfOk result (λ s. ⟦<MemShelf as Shelf>⟧.is_out s ≡ false) }
+{
+    let disk = empty_disk(alloc, one_call(alloc, 3)?, None)?;
+    let fails = one_call(alloc, 2)?;
+    MemShelf::new(alloc, Vec::new(alloc), disk, fails)
+}
+
+/// Whether a shelf lends its disk once, and fails then. No file of it fails.
+fn is_lent_once<H: Shelf>(alloc: Global, shelf: &mut H, name: &String) -> bool
+    ensures back { H.is_out shelf.old ≡ false → H.is_out shelf.new ≡ false }
+{
+    is_said_of_disk(alloc, shelf, name, CUT_SHORT, "lent", 1)
+        && is_said_of_disk(alloc, shelf, name, &[], "failed", 2)
+        && shelf.faults() == 0
+}
+
+/// Whether such a shelf does, and a crash leaves what was written.
+fn is_disk_kept(alloc: Global) -> Result<bool, Memory> {
     let name = String::from_str(alloc, "c")?;
     let mut shelf = shelf_of_disk(alloc)?;
-    let first = (
-        said_of_disk(alloc, &mut shelf, &name, CUT_SHORT),
-        shelf.disk_faults(),
-    );
-    let again = (
-        said_of_disk(alloc, &mut shelf, &name, &[]),
-        shelf.disk_faults(),
-    );
-    let faults = shelf.faults();
-    let is_kept = is_left(alloc, &shelf.into_disk(), 0, b"ab", b"")?;
-    Ok(([first, again], faults, is_kept))
+    let is_lent = is_lent_once(alloc, &mut shelf, &name);
+    drop(name);
+    let disk = shelf.into_disk();
+    let is_left = are_left(alloc, &disk, LEFT_SHORT);
+    drop(disk);
+    Ok(is_lent && is_left)
 }
 
 #[test]
-fn memory_shelf_lends_its_disk(rt: HostRuntime) -> Result<(), Fail> {
-    let said = [(Said::Lent, 1), (Said::Failed, 2)];
-    assert_eq!(rt; lent_once(rt.alloc())?, (said, 0, true));
-    Ok(())
+fn memory_shelf_lends_its_disk(rt: HostRuntime) {
+    see_true(&rt, is_disk_kept(rt.alloc()));
 }
 
 /// Runs of a disk that fill its areas, and then read the first one behind its first byte.
 static FILLED: &[Run] = &[
-    (Area::A, b"abcd", (true, true), (0, 9), Some(b"abcd")),
-    (Area::B, b"", (true, true), (0, 9), Some(b"")),
-    (Area::A, b"", (true, true), (1, 2), Some(b"bc")),
+    run!(A, b"abcd", (true, true), (0, 9), Some(b"abcd")),
+    run!(B, b"", (true, true), (0, 9), Some(b"")),
+    run!(A, b"", (true, true), (1, 2), Some(b"bc")),
 ];
 
+/// Whether a file holds this text.
+fn is_held(rt: &HostRuntime, path: &String, text: &str) -> bool {
+    match fs::read_to_string(rt, path) {
+        Ok(held) => {
+            let is_right = held.as_str() == text;
+            drop(held);
+            is_right
+        }
+        Err(_) => false,
+    }
+}
+
 /// Whether the file of an area holds this text. The file is removed.
-fn is_area(rt: &HostRuntime, path: &String, area: u8, text: &str) -> Result<bool, Fail> {
+fn is_area(rt: &HostRuntime, path: &String, area: u8, text: &str) -> Result<bool, Memory> {
     let file = format!(in rt.alloc(); "{}.{}", path, area)?;
-    let held = fs::read_to_string(rt, &file)?;
-    fs::remove_file(rt, &file)?;
-    Ok(held.as_str() == text)
+    let is_right = is_held(rt, &file, text);
+    let is_removed = fs::remove_file(rt, &file).is_ok();
+    drop(file);
+    Ok(is_removed && is_right)
 }
 
-/// What a shelf of files says of a disk that is filled, and of one that can't be made, each with the faults of disks
-/// that it counts then.
-fn said_of_disks(rt: &HostRuntime, path: &String) -> Result<[(Said, u64); 2], Fail> {
-    let nowhere = String::from_str(rt.alloc(), "/dev/null/c")?;
-    let mut shelf = FileShelf::new(rt.clone()?);
-    let filled = (
-        said_of_disk(rt.alloc(), &mut shelf, path, FILLED),
-        shelf.disk_faults(),
-    );
-    let refused = (
-        said_of_disk(rt.alloc(), &mut shelf, &nowhere, &[]),
-        shelf.disk_faults(),
-    );
-    Ok([filled, refused])
+/// Whether a shelf says what it should of a disk that is filled, and of one that can't be made.
+fn are_disks_said<H: Shelf>(alloc: Global, shelf: &mut H, path: &String) -> Result<bool, Memory> {
+    let nowhere = String::from_str(alloc, "/dev/null/c")?;
+    let is_right = is_said_of_disk(alloc, shelf, path, FILLED, "lent", 0)
+        && is_said_of_disk(alloc, shelf, &nowhere, &[], "failed", 1);
+    drop(nowhere);
+    Ok(is_right)
 }
 
-/// What a shelf of files says of its disks, and whether each file of the first disk holds what was written.
-fn said_and_kept(rt: &HostRuntime) -> Result<([(Said, u64); 2], [bool; 2]), Fail> {
+/// Whether a shelf of files does.
+fn are_disks_said_by_files(rt: &HostRuntime, path: &String) -> Result<bool, Memory> {
+    let mut shelf = file_shelf(rt)?;
+    let is_right = are_disks_said(rt.alloc(), &mut shelf, path);
+    drop(shelf);
+    is_right
+}
+
+/// Whether each file of the areas of a disk holds what was written. The files are removed.
+fn are_areas(rt: &HostRuntime, path: &String) -> Result<bool, Memory> {
+    let is_first = is_area(rt, path, 0, "abcd")?;
+    Ok(is_area(rt, path, 1, "")? && is_first)
+}
+
+/// Whether a shelf of files says what it should of its disks, and each file of the first disk holds what was written.
+fn are_disks_kept(rt: &HostRuntime) -> Result<bool, Memory> {
     let path = own_path(rt, "eql_outside_disk")?;
-    let said = said_of_disks(rt, &path)?;
-    Ok((
-        said,
-        [is_area(rt, &path, 0, "abcd")?, is_area(rt, &path, 1, "")?],
-    ))
+    let is_said = are_disks_said_by_files(rt, &path);
+    let is_held = are_areas(rt, &path);
+    drop(path);
+    Ok(is_said? && is_held?)
 }
 
 #[test]
-fn file_disk_keeps_bytes_in_two_files(rt: HostRuntime) -> Result<(), Fail> {
-    let said = [(Said::Lent, 0), (Said::Failed, 1)];
-    assert_eq!(rt; said_and_kept(&rt)?, (said, [true, true]));
-    Ok(())
+fn file_disk_keeps_bytes_in_two_files(rt: HostRuntime) {
+    see_true(&rt, are_disks_kept(&rt));
 }

@@ -1,48 +1,45 @@
 //! Shared values: how texts are shown, the test of a span, copies, and equality of mappings.
+use crate::table::{Asked, field, is_bool, see, see_true};
 use eql_values::{
     BookCut, Chain, Counts, Holder, Holders, Item, ItemLists, Items, Key, Kind, LaneCut, LaneCuts,
     Mask, Match, Memory, NameKinds, Numbered, Numbereds, OrderKey, PipeState, PipeStates, Route,
     Routes, Text, Value, is_in_time, push_shown,
 };
 use std::alloc::Global;
-use std::test::Fail;
 
-/// Texts, each with how it is shown.
-static SHOWN: &[(&str, &str)] = &[
-    ("", ""),
-    ("process.name", "process.name"),
-    ("a \"b\" \\ `c`", "a \"b\" \\ `c`"),
-    (
-        "gr\u{fc}n \u{20ac} \u{1f600}",
-        "gr\u{fc}n \u{20ac} \u{1f600}",
-    ),
-    ("a\nb\rc\td", "a\\nb\\rc\\td"),
-    (
-        "\u{0}\u{1b}\u{7f}\u{80}\u{9f}\u{a0}",
-        "\\u{00}\\u{1b}\\u{7f}\\u{80}\\u{9f}\u{a0}",
-    ),
-    ("\u{2028}\u{2029}\u{202f}", "\\u{2028}\\u{2029}\u{202f}"),
-    (
-        "\u{200d}\u{200e}\u{200f}\u{202a}\u{202e}\u{2066}\u{2069}\u{206a}",
-        "\u{200d}\\u{200e}\\u{200f}\\u{202a}\\u{202e}\\u{2066}\\u{2069}\u{206a}",
-    ),
-];
+/// Texts, each with how it is shown, behind a word that a line holds already. `␊` stands for a line feed in a text.
+static SHOWN: &str = "
+ => name=
+process.name => name=process.name
+a \"b\" \\ `c` => name=a \"b\" \\ `c`
+gr\u{fc}n \u{20ac} \u{1f600} => name=gr\u{fc}n \u{20ac} \u{1f600}
+a␊b\rc\td => name=a\\nb\\rc\\td
+\u{0}\u{1b}\u{7f}\u{80}\u{9f}\u{a0} => name=\\u{00}\\u{1b}\\u{7f}\\u{80}\\u{9f}\u{a0}
+\u{2028}\u{2029}\u{202f} => name=\\u{2028}\\u{2029}\u{202f}
+\u{200d}\u{200e}\u{200f}\u{202a}\u{202e}\u{2066}\u{2069}\u{206a} => name=\u{200d}\\u{200e}\\u{200f}\\u{202a}\\u{202e}\\u{2066}\\u{2069}\u{206a}
+";
 
-/// Whether a text is shown so, behind a word that a line holds already.
-fn is_shown(alloc: Global, text: &str, expected: &str) -> Result<bool, Memory> {
-    let mut line = String::from_str(alloc, "name ")?;
-    push_shown(&mut line, text)?;
-    Ok(line.as_str().strip_prefix("name ") == Some(expected))
+/// Adds how a text is shown to a line.
+fn show(alloc: Global, line: &mut String, row: &str) -> Result<(), Memory> {
+    let text = row.replace(alloc, '␊', "\n")?;
+    let is_done = push_shown(line, text.as_str());
+    drop(text);
+    is_done
+}
+
+/// Whether a text is shown as it should be, behind a word.
+pub fn is_shown(alloc: Global, row: &str, wanted: &str) -> Result<bool, Memory> {
+    let mut line = String::from_str(alloc, "name=")?;
+    let is_done = show(alloc, &mut line, row);
+    let is_right = line.as_str() == wanted;
+    drop(line);
+    is_done?;
+    Ok(is_right)
 }
 
 #[test]
 fn texts_are_shown(rt: HostRuntime) {
-    for (text, expected) in SHOWN {
-        assert!(rt;
-            is_shown(rt.alloc(), *text, *expected) == Ok(true),
-            "{expected}"
-        );
-    }
+    see(&rt, rt.alloc(), &Asked::Shown, SHOWN);
 }
 
 /// The event at this line and time, in nanoseconds since the epoch.
@@ -56,57 +53,124 @@ fn event(line: u32, ts: i128) -> OrderKey {
     }
 }
 
-/// A span, the time of the first event and of the last one, and whether the span holds both.
-static SPANS: &[(Option<i128>, i128, i128, bool)] = &[
-    (Some(10), 100, 110, true),
-    (Some(10), 100, 111, false),
-    (Some(0), 100, 100, true),
-    (Some(0), 100, 99, true),
-    (None, 0, i128::MAX, true),
-    (Some(i128::MAX), i128::MIN, i128::MAX, false),
-    (Some(i128::MIN), i128::MAX, i128::MIN, true),
-];
+/// A span, the time of the first event, if there is one, and of the last one, and whether the span holds both.
+static SPANS: &str = "
+10|100|110 => true
+10|100|111 => false
+0|100|100 => true
+0|100|99 => true
+none|0|170141183460469231731687303715884105727 => true
+170141183460469231731687303715884105727|-170141183460469231731687303715884105728|170141183460469231731687303715884105727 => false
+-170141183460469231731687303715884105728|170141183460469231731687303715884105727|-170141183460469231731687303715884105728 => true
+0|none|1 => true
+";
 
-/// Whether a span holds both events as it should.
-fn is_span((span, first, now, expected): &(Option<i128>, i128, i128, bool)) -> bool {
-    let events = [event(1, *first), event(2, i128::MAX)];
-    is_in_time(*span, &events, *now) == *expected
+/// The time or span that a field writes.
+fn time_at(row: &str, at: usize) -> Option<i128> {
+    field(row, at).parse::<i128>().ok()
+}
+
+/// Whether a time is within a span from two events on, the first one at a time.
+fn is_in_span(span: Option<i128>, first: i128, now: i128) -> bool {
+    is_in_time(span, &[event(1, first), event(2, i128::MAX)], now)
+}
+
+/// Whether the span of a row holds both events as it should.
+pub fn is_span(row: &str, wanted: &str) -> bool {
+    let (span, now) = (time_at(row, 0), time_at(row, 2).unwrap_or(0));
+    match time_at(row, 1) {
+        Some(first) => is_bool(is_in_span(span, first, now), wanted),
+        None => is_bool(is_in_time(span, &[], now), wanted),
+    }
 }
 
 #[test]
 fn spans_are_inclusive(rt: HostRuntime) {
-    for row in SPANS {
-        assert!(rt; is_span(row), "{:?} from {} to {}", row.0, row.1, row.2);
-    }
-    assert!(rt; is_in_time(Some(0), &[], 1));
+    see(&rt, rt.alloc(), &Asked::Span, SPANS);
 }
 
 /// A key of a text and a number.
-fn key(alloc: Global, text: &str) -> Result<Key, Fail> {
-    let text = Value::Text(Text::of(String::from_str(alloc, text)?));
+fn key(alloc: Global, text: &str) -> Result<Key, Memory> {
+    let text = Value::Text(Text::copy_of(alloc, text)?);
     Ok(Key::of(vec![in alloc; text, Value::Long(-7)]?))
+}
+
+/// Whether a key is that of a text and a number.
+fn is_key(alloc: Global, got: &Key, text: &str) -> Result<bool, Memory> {
+    let key = key(alloc, text)?;
+    let is_same = *got == key;
+    drop(key);
+    Ok(is_same)
+}
+
+/// An event of a pending sequence or a match.
+fn chain(alloc: Global, line: u32, ts: i128) -> Result<Chain, Memory> {
+    Ok(Chain::of(vec![in alloc; event(line, ts)]?))
+}
+
+/// Whether a chain has one event, this one.
+fn is_chain(chain: &Chain, line: u32, ts: i128) -> bool {
+    match chain.items() {
+        [one] => *one == event(line, ts),
+        _ => false,
+    }
+}
+
+/// A pending sequence at a stage, under a name.
+fn holder(alloc: Global, name: &str) -> Result<Holder, Memory> {
+    let key = key(alloc, name)?;
+    Ok(Holder {
+        chain: chain(alloc, 1, 5)?,
+        key,
+        stage: 1,
+    })
+}
+
+/// Pending sequences at a stage, one for each key.
+fn holders(alloc: Global) -> Result<Holders, Memory> {
+    let mut holders = Vec::new(alloc);
+    for name in NAMES {
+        holders.push(holder(alloc, *name)?)?;
+    }
+    Ok(Holders::of(holders))
 }
 
 /// The names in the keys of pending sequences.
 static NAMES: &[&str] = &["elkbee", "root"];
 
-/// Pending sequences at a stage, one for each key.
-fn holders(alloc: Global) -> Result<Holders, Fail> {
-    let mut holders = Vec::new(alloc);
-    for name in NAMES {
-        let chain = Chain::of(vec![in alloc; event(1, 5)]?);
-        let key = key(alloc, *name)?;
-        holders.push(Holder {
-            key,
-            stage: 1,
-            chain,
-        })?;
+/// Whether a pending sequence is one of those at stage 1, under this name.
+fn is_holder(alloc: Global, holder: &Holder, name: &str) -> Result<bool, Memory> {
+    Ok(holder.stage == 1 && is_chain(&holder.chain, 1, 5) && is_key(alloc, &holder.key, name)?)
+}
+
+/// Whether there are as many pending sequences as there should be, under their names.
+fn are_holders(alloc: Global, holders: &Holders) -> Result<bool, Memory> {
+    match holders.items().as_slice() {
+        [first, second] => {
+            Ok(is_holder(alloc, first, "elkbee")? && is_holder(alloc, second, "root")?)
+        }
+        _ => Ok(false),
     }
-    Ok(Holders::of(holders))
+}
+
+/// Whether a copy of pending sequences is as it was made.
+fn are_holders_copied(alloc: Global) -> Result<bool, Memory> {
+    let made = holders(alloc)?;
+    let copy: Result<_, _> = made.clone();
+    drop(made);
+    let copy = copy?;
+    let is_right = are_holders(alloc, &copy);
+    drop(copy);
+    is_right
+}
+
+#[test]
+fn pending_sequences_are_copied(rt: HostRuntime) {
+    see_true(&rt, are_holders_copied(rt.alloc()));
 }
 
 /// An event with one route.
-fn item(alloc: Global) -> Result<Item, Fail> {
+fn item(alloc: Global) -> Result<Item, Memory> {
     let route = Route {
         key: key(alloc, "root")?,
         mask: Mask { low: 1, high: 2 },
@@ -118,42 +182,23 @@ fn item(alloc: Global) -> Result<Item, Fail> {
     })
 }
 
-/// Whether a pending sequence is one of those at stage 1, under this name.
-fn is_holder(alloc: Global, holder: &Holder, name: &str) -> Result<bool, Fail> {
-    let key = key(alloc, name)?;
-    let events = [event(1, 5)];
-    Ok(holder.key == key && holder.stage == 1 && holder.chain.items() == events.as_slice())
-}
-
-/// Whether a copy has as many pending sequences as it should, and the one at this place stands under this name.
-fn is_copied(alloc: Global, at: usize, name: &str) -> Result<bool, Fail> {
-    let copy = holders(alloc)?.clone()?;
-    match copy.items().get(at) {
-        Some(holder) => Ok(copy.items().len() == NAMES.len() && is_holder(alloc, holder, name)?),
-        None => Ok(false),
-    }
-}
-
-#[test]
-fn pending_sequences_are_copied(rt: HostRuntime) -> Result<(), Fail> {
-    for (at, name) in NAMES.iter().enumerate() {
-        assert!(rt; is_copied(rt.alloc(), at, *name)?, "{name}");
-    }
-    Ok(())
+/// Whether a route is as it was made.
+fn is_route(alloc: Global, route: &Route) -> Result<bool, Memory> {
+    let is_masked = route.mask == Mask { low: 1, high: 2 } && route.until;
+    Ok(is_masked && is_key(alloc, &route.key, "root")?)
 }
 
 /// Whether an event is that with one route.
-fn is_item(alloc: Global, item: &Item) -> Result<bool, Fail> {
-    let key = key(alloc, "root")?;
+fn is_item(alloc: Global, item: &Item) -> Result<bool, Memory> {
     match item.routes.items().as_slice() {
-        [route] => Ok(
-            item.order == event(9, -4)
-                && route.key == key
-                && route.mask == Mask { low: 1, high: 2 }
-                && route.until,
-        ),
+        [route] => Ok(item.order == event(9, -4) && is_route(alloc, route)?),
         _ => Ok(false),
     }
+}
+
+/// One event.
+fn items(alloc: Global) -> Result<Items, Memory> {
+    Ok(Items::of(vec![in alloc; item(alloc)?]?))
 }
 
 /// The counts of a shard.
@@ -166,142 +211,183 @@ const COUNTS: Counts = Counts {
 };
 
 /// What a cut keeps of one shard with one event.
-fn lanes(alloc: Global) -> Result<LaneCuts, Fail> {
-    let items = Items::of(vec![in alloc; item(alloc)?]?);
+fn lanes(alloc: Global) -> Result<LaneCuts, Memory> {
     let lane = LaneCut {
+        items: items(alloc)?,
         offset: 120,
         closed: true,
         best: Some(-4),
         counts: COUNTS,
-        items,
     };
     Ok(LaneCuts::of(vec![in alloc; lane]?))
 }
 
+/// Whether what is kept of a shard is as it was made, but for its events.
+fn is_read(lane: &LaneCut) -> bool {
+    lane.offset == 120 && lane.closed && lane.best == Some(-4) && lane.counts == COUNTS
+}
+
 /// Whether what is kept of a shard is as it was made.
-fn is_lane(alloc: Global, lane: &LaneCut) -> Result<bool, Fail> {
-    let is_read = (lane.offset, lane.closed, lane.best) == (120, true, Some(-4));
+fn is_lane(alloc: Global, lane: &LaneCut) -> Result<bool, Memory> {
     match lane.items.items().as_slice() {
-        [item] => Ok(is_read && lane.counts == COUNTS && is_item(alloc, item)?),
+        [item] => Ok(is_read(lane) && is_item(alloc, item)?),
         _ => Ok(false),
     }
 }
 
-/// Whether a copy of what is kept of one shard is as it was made.
-fn is_lane_copied(alloc: Global) -> Result<bool, Fail> {
-    let copy = lanes(alloc)?.clone()?;
-    match copy.items().as_slice() {
+/// Whether what is kept is that of one shard, as it was made.
+fn is_one_lane(alloc: Global, lanes: &LaneCuts) -> Result<bool, Memory> {
+    match lanes.items().as_slice() {
         [lane] => is_lane(alloc, lane),
         _ => Ok(false),
     }
 }
 
+/// Whether a copy of what is kept of one shard is as it was made.
+fn is_lane_copied(alloc: Global) -> Result<bool, Memory> {
+    let made = lanes(alloc)?;
+    let copy: Result<_, _> = made.clone();
+    drop(made);
+    let copy = copy?;
+    let is_right = is_one_lane(alloc, &copy);
+    drop(copy);
+    is_right
+}
+
 #[test]
-fn shards_are_copied(rt: HostRuntime) -> Result<(), Fail> {
-    assert!(rt; is_lane_copied(rt.alloc())?);
-    Ok(())
+fn shards_are_copied(rt: HostRuntime) {
+    see_true(&rt, is_lane_copied(rt.alloc()));
 }
 
 /// A list of events.
-fn lists(alloc: Global) -> Result<ItemLists, Fail> {
-    let items = Items::of(vec![in alloc; item(alloc)?]?);
-    Ok(ItemLists::of(vec![in alloc; items]?))
+fn lists(alloc: Global) -> Result<ItemLists, Memory> {
+    Ok(ItemLists::of(vec![in alloc; items(alloc)?]?))
 }
 
 /// Whether a copy has as many lists as it should.
-fn is_list_copied(alloc: Global) -> Result<bool, Fail> {
-    Ok(lists(alloc)?.clone()?.items().len() == 1)
+fn is_list_copied(alloc: Global) -> Result<bool, Memory> {
+    let made = lists(alloc)?;
+    let copy: Result<_, _> = made.clone();
+    drop(made);
+    let copy = copy?;
+    let is_right = copy.items().len() == 1;
+    drop(copy);
+    Ok(is_right)
 }
 
 #[test]
-fn lists_are_copied(rt: HostRuntime) -> Result<(), Fail> {
-    assert!(rt; is_list_copied(rt.alloc())?);
-    Ok(())
+fn lists_are_copied(rt: HostRuntime) {
+    see_true(&rt, is_list_copied(rt.alloc()));
 }
 
 /// A match of one event, that is kept under a number.
-fn numbered(alloc: Global) -> Result<Numbered, Fail> {
-    let chain = Chain::of(vec![in alloc; event(2, 6)]?);
+fn numbered(alloc: Global) -> Result<Numbered, Memory> {
     let key = key(alloc, "root")?;
+    let chain = chain(alloc, 2, 6)?;
     let found = Match { key, chain };
     Ok(Numbered { number: 8, found })
 }
 
-/// What a cut keeps of the output: two pipes, of which one holds back a match.
-fn book(alloc: Global) -> Result<BookCut, Fail> {
+/// Two pipes, of which one holds back a match.
+fn pipes(alloc: Global) -> Result<PipeStates, Memory> {
     let kept = Numbereds::of(vec![in alloc; numbered(alloc)?]?);
     let states = vec![in alloc; PipeState::Head { passed: 3 }, PipeState::Tail { kept }]?;
+    Ok(PipeStates::of(states))
+}
+
+/// What a cut keeps of the output.
+fn book(alloc: Global) -> Result<BookCut, Memory> {
     Ok(BookCut {
+        pipes: pipes(alloc)?,
         found: 9,
         listed: 2,
-        pipes: PipeStates::of(states),
     })
 }
 
-/// Tells pipes as a text.
-fn tell_pipes(pipes: &PipeStates, told: &mut String) -> Result<(), Fail> {
-    for state in pipes.items() {
-        match state {
-            PipeState::Head { passed } => write!(told, "head {passed};")?,
-            PipeState::Tail { kept } => for one in kept.items() {
-                let events = one.found.chain.items().len();
-                write!(told, "tail {} of {events}", one.number)?;
-            },
-        }
+/// Whether one match of one event is kept, under its number.
+fn is_kept(kept: &Numbereds) -> bool {
+    match kept.items().as_slice() {
+        [one] => one.number == 8 && one.found.chain.items().len() == 1,
+        _ => false,
     }
-    Ok(())
 }
 
-/// Whether what a cut keeps of the output is as it was made.
-fn is_book(alloc: Global, book: &BookCut) -> Result<bool, Fail> {
-    let mut told = String::new(alloc);
-    tell_pipes(&book.pipes, &mut told)?;
-    Ok((book.found, book.listed) == (9, 2) && told.as_str() == "head 3;tail 8 of 1")
+/// Whether pipes are as they were made.
+fn are_pipes(pipes: &PipeStates) -> bool {
+    match pipes.items().as_slice() {
+        [PipeState::Head { passed }, PipeState::Tail { kept }] => *passed == 3 && is_kept(kept),
+        _ => false,
+    }
 }
 
-/// Whether a copy of it is as it was made.
-fn is_book_copied(alloc: Global) -> Result<bool, Fail> {
-    let copy = book(alloc)?.clone()?;
-    is_book(alloc, &copy)
+/// Whether a copy of what a cut keeps of the output is as it was made.
+fn is_book_copied(alloc: Global) -> Result<bool, Memory> {
+    let made = book(alloc)?;
+    let copy: Result<_, _> = made.clone();
+    drop(made);
+    let copy = copy?;
+    let is_right = copy.found == 9 && copy.listed == 2 && are_pipes(&copy.pipes);
+    drop(copy);
+    Ok(is_right)
 }
 
 #[test]
-fn books_are_copied(rt: HostRuntime) -> Result<(), Fail> {
-    assert!(rt; is_book_copied(rt.alloc())?);
-    Ok(())
+fn books_are_copied(rt: HostRuntime) {
+    see_true(&rt, is_book_copied(rt.alloc()));
 }
 
-/// Names with kinds.
-fn mapping(alloc: Global, names: &[(&str, Kind)]) -> Result<NameKinds, Fail> {
+/// The kind that a word names.
+fn kind(word: &str) -> Kind {
+    match word {
+        "Long" => Kind::Long,
+        "Ip" => Kind::Ip,
+        _ => Kind::Text,
+    }
+}
+
+/// The name with a kind that a field writes.
+fn named_kind(alloc: Global, field: &str) -> Result<(Text, Kind), Memory> {
+    let (name, word) = field.split_once(' ').unwrap_or((field, ""));
+    Ok((Text::copy_of(alloc, name)?, kind(word)))
+}
+
+/// The mapping that a row writes.
+fn mapping(alloc: Global, row: &str) -> Result<NameKinds, Memory> {
     let mut pairs = Vec::new(alloc);
-    for (name, kind) in names {
-        pairs.push((Text::of(String::from_str(alloc, name)?), *kind))?;
+    for field in row.split('|') {
+        pairs.push(named_kind(alloc, field)?)?;
     }
     Ok(NameKinds::of(pairs))
 }
 
 /// Mappings, and whether each is that of `a` to `long` and of `b` to `ip`.
-static MAPPINGS: &[(&[(&str, Kind)], bool)] = &[
-    (&[("a", Kind::Long), ("b", Kind::Ip)], true),
-    (&[("a", Kind::Long), ("b", Kind::Text)], false),
-    (&[("a", Kind::Long), ("c", Kind::Ip)], false),
-    (&[("a", Kind::Long)], false),
-];
+static MAPPINGS: &str = "
+a Long|b Ip => true
+a Long|b Text => false
+a Long|c Ip => false
+a Long => false
+";
 
-/// Whether a mapping equals that of the first row, or doesn't, and equals its own copy.
-fn is_compared(alloc: Global, names: &[(&str, Kind)], is_first: bool) -> Result<bool, Fail> {
-    let first = mapping(alloc, &[("a", Kind::Long), ("b", Kind::Ip)])?;
-    let one = mapping(alloc, names)?;
-    Ok((one == first) == is_first && one == one.clone()?)
+/// Whether a mapping equals its own copy.
+fn is_own_copy(one: &NameKinds) -> Result<bool, Memory> {
+    let copy = one.clone()?;
+    let is_same = *one == copy;
+    drop(copy);
+    Ok(is_same)
+}
+
+/// Whether a mapping equals that of the first row, or doesn't, as it should, and equals its own copy.
+pub fn is_compared(alloc: Global, row: &str, wanted: &str) -> Result<bool, Memory> {
+    let first = mapping(alloc, "a Long|b Ip")?;
+    let one = mapping(alloc, row)?;
+    let is_same = one == first;
+    drop(first);
+    let is_own_copy = is_own_copy(&one);
+    drop(one);
+    Ok(is_bool(is_same, wanted) && is_own_copy?)
 }
 
 #[test]
-fn mappings_are_compared(rt: HostRuntime) -> Result<(), Fail> {
-    for (number, (names, is_first)) in MAPPINGS.iter().enumerate() {
-        assert!(rt;
-            is_compared(rt.alloc(), *names, *is_first)?,
-            "the mapping {number}"
-        );
-    }
-    Ok(())
+fn mappings_are_compared(rt: HostRuntime) {
+    see(&rt, rt.alloc(), &Asked::Mapping, MAPPINGS);
 }
