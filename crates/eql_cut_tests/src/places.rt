@@ -1,32 +1,46 @@
 //! The lines that a cut names.
-use crate::bytes::text_in;
+use crate::bytes::{PARTS, text_in};
 use eql_cut::{Cut, decode, named};
 use std::alloc::Global;
-use std::test::Fail;
 
-/// The cut of the text in a format.
-fn cut_in(alloc: Global, format: u8) -> Result<Cut, Fail> {
-    let bytes = text_in(alloc, format)?;
-    match decode(alloc, &bytes) {
-        Ok(read) => Ok(read.cut),
-        Err(_) => Err(Fail::from("refused")),
+/// A shard, and the lines of it that a cut names.
+type Named = (u32, &'static [u32]);
+
+/// Whether a cut names these lines of each shard.
+fn names(alloc: Global, cut: &Cut, shards: &[Named]) -> bool {
+    for &(shard, expected) in shards {
+        match named(alloc, cut, shard) {
+            Ok(lines) if lines.items().as_slice() == expected => {}
+            _ => return false,
+        }
+    }
+    true
+}
+
+/// Whether bytes are the text of a cut in a format, which names these lines of each shard.
+fn are_named_in(alloc: Global, bytes: &[u8], format: u8, shards: &[Named]) -> bool {
+    match decode(alloc, bytes) {
+        Ok(read) => read.format == format && names(alloc, &read.cut, shards),
+        Err(_) => false,
     }
 }
 
-/// Shards, and the lines of each that the cut names. The cut has two shards.
-const NAMED: [(u32, &[u32]); 3] = [(0, &[1, 2, 4, 5]), (1, &[1, 2]), (2, &[])];
+/// Whether the cut of these parts in a format names these lines of each shard.
+pub fn are_named(alloc: Global, parts: &str, format: u8, shards: &[Named]) -> bool {
+    match text_in(alloc, parts, format) {
+        Ok(bytes) => are_named_in(alloc, &bytes, format, shards),
+        Err(_) => false,
+    }
+}
+
+/// The lines that the cut names, which has two shards.
+static NAMED: &[Named] = &[(0, &[1, 2, 4, 5]), (1, &[1, 2]), (2, &[])];
 
 #[test]
-fn lines_are_named(rt: HostRuntime) -> Result<(), Fail> {
-    let alloc = rt.alloc();
-    for format in 1..=3u8 {
-        let cut = cut_in(alloc, format)?;
-        for (shard, expected) in NAMED {
-            match named(alloc, &cut, shard) {
-                Ok(lines) => assert_eq!(rt; lines.items().as_slice(), expected),
-                Err(_) => return Err(Fail::from("memory")),
-            }
-        }
-    }
-    Ok(())
+fn lines_are_named(rt: HostRuntime) {
+    assert!(rt;
+        are_named(rt.alloc(), PARTS, 1, NAMED)
+            && are_named(rt.alloc(), PARTS, 2, NAMED)
+            && are_named(rt.alloc(), PARTS, 3, NAMED)
+    );
 }

@@ -1,11 +1,10 @@
 //! The text of a cut, by bytes that were written by hand.
-use crate::bytes::{Spread, push_hex, spread_of, text_in};
+use crate::bytes::{PARTS, push_hex, spread_of, text_in, text_of};
 use eql_cut::{Cut, CutRefused, decode, encode};
 use eql_values::{
     FirstBad, Holder, Kind, LaneCut, OrderKey, PipeState, Reason, Route, Text, Value,
 };
 use std::alloc::{AllocError, Global};
-use std::test::Fail;
 
 /// A place in the order, which is 0 in the first format.
 fn place(format: u8, ts: i128, tie: Option<i64>, shard: u32, line: u32, at: u64) -> OrderKey {
@@ -32,7 +31,7 @@ fn is_mapping(cut: &Cut) -> bool {
 }
 
 /// Whether what the cut says of its run is that of the text.
-pub fn is_head(cut: &Cut) -> bool {
+fn is_head(cut: &Cut) -> bool {
     let head = &cut.head;
     let is_tie = match &head.tie {
         Some(tie) => tie.text() == "t",
@@ -88,7 +87,7 @@ fn are_events(lane: &LaneCut, format: u8, text: &Value) -> bool {
 }
 
 /// Whether the lanes are those of the text.
-pub fn are_lanes(cut: &Cut, format: u8, text: &Value) -> bool {
+fn are_lanes(cut: &Cut, format: u8, text: &Value) -> bool {
     let bad = FirstBad {
         line: 3,
         reason: Reason::BadTime,
@@ -121,7 +120,7 @@ fn is_holder(holder: &Holder, stage: u32, events: &[OrderKey]) -> bool {
 }
 
 /// Whether the pending sequences are those of the text.
-pub fn are_holders(cut: &Cut, f: u8) -> bool {
+fn are_holders(cut: &Cut, f: u8) -> bool {
     match cut.holders.items().as_slice() {
         [one, two] => {
             is_holder(one, 1, &[place(f, 900, None, 1, 2, 40)])
@@ -139,7 +138,7 @@ pub fn are_holders(cut: &Cut, f: u8) -> bool {
 }
 
 /// Whether what is kept of the output is that of the text.
-pub fn is_book(cut: &Cut, format: u8) -> bool {
+fn is_book(cut: &Cut, format: u8) -> bool {
     let book = &cut.book;
     let are_states = match book.pipes.items().as_slice() {
         [PipeState::Head { passed: 6 }, PipeState::Tail { kept }] => match kept.items().as_slice() {
@@ -158,120 +157,173 @@ pub fn is_book(cut: &Cut, format: u8) -> bool {
     book.found == 6 && book.listed == 0 && are_states
 }
 
-#[test]
-fn texts_of_each_format_are_read(rt: HostRuntime) -> Result<(), Fail> {
-    let alloc = rt.alloc();
-    let text = Value::Text(Text::of(String::from_str(alloc, "\u{e9}")?));
-    for format in 1..=3u8 {
-        let bytes = text_in(alloc, format)?;
-        match decode(alloc, &bytes) {
-            Ok(read) => {
-                assert_eq!(rt; read.format, format);
-                assert!(rt; is_head(&read.cut));
-                assert!(rt; are_lanes(&read.cut, format, &text));
-                assert!(rt; are_holders(&read.cut, format));
-                assert!(rt; is_book(&read.cut, format));
-            }
-            Err(_) => return Err(Fail::from("refused")),
-        }
-    }
-    Ok(())
+/// Whether the cut is that of the text.
+fn is_cut(cut: &Cut, format: u8, text: &Value) -> bool {
+    is_head(cut) && are_lanes(cut, format, text) && are_holders(cut, format) && is_book(cut, format)
 }
 
-/// Whether the text is written where the bytes are a cut's text in the format, or whether they are
-/// refused.
-fn is_told(alloc: Global, bytes: &[u8], format: u8, third: &[u8]) -> bool {
+/// Whether bytes are read as the cut in a format.
+fn is_cut_in(alloc: Global, bytes: &[u8], format: u8, text: &Value) -> bool {
     match decode(alloc, bytes) {
-        Ok(read) => match encode(alloc, &read.cut) {
-            Ok(text) => read.format == format && text.as_slice() == third,
-            Err(_) => false,
-        },
-        Err(CutRefused::Damaged { at }) => at <= bytes.len() as u64,
-        Err(CutRefused::Memory) => false,
+        Ok(read) => read.format == format && is_cut(&read.cut, format, text),
+        Err(_) => false,
     }
 }
 
+/// Whether the text of a format is read as its cut.
+fn is_read(alloc: Global, format: u8) -> Result<bool, AllocError> {
+    let bytes = text_in(alloc, PARTS, format)?;
+    let text = Value::Text(Text::of(String::from_str(alloc, "\u{e9}")?));
+    Ok(is_cut_in(alloc, &bytes, format, &text))
+}
+
+/// Whether the texts of all formats are read.
+fn are_read(alloc: Global) -> Result<bool, AllocError> {
+    Ok(is_read(alloc, 1)? && is_read(alloc, 2)? && is_read(alloc, 3)?)
+}
+
 #[test]
-fn texts_are_written_in_format_3(rt: HostRuntime) -> Result<(), Fail> {
-    let alloc = rt.alloc();
-    for format in 1..=3u8 {
-        let Spread { text, third, index } = spread_of(alloc, format)?;
-        assert_eq!(rt; index.len(), text.len());
-        match decode(alloc, &text) {
-            Ok(read) => match encode(alloc, &read.cut) {
-                Ok(written) => assert_eq!(rt; written.as_slice(), third.as_slice()),
-                Err(_) => return Err(Fail::from("memory")),
-            },
-            Err(_) => return Err(Fail::from("refused")),
-        }
+fn texts_of_each_format_are_read(rt: HostRuntime) {
+    assert!(rt; are_read(rt.alloc()) == Ok(true));
+}
+
+/// The text that is written in format 3 where a text has these places: what has no byte is 0.
+fn third_of(alloc: Global, spread: &[Option<u8>]) -> Result<Vec<u8>, AllocError> {
+    let mut third = Vec::new(alloc);
+    for place in spread {
+        third.push(place.unwrap_or(0))?;
     }
-    Ok(())
+    if let Some(format) = third.get_mut(4) {
+        *format = 3;
+    }
+    Ok(third)
+}
+
+/// Whether a text is read in its format, and written as this one in format 3. None where it's refused at one of its bytes.
+fn is_written_as(alloc: Global, text: &[u8], format: u8, third: &[u8]) -> Option<bool> {
+    match decode(alloc, text) {
+        Ok(read) => match encode(alloc, &read.cut) {
+            Ok(written) => Some(read.format == format && written.as_slice() == third),
+            Err(_) => Some(false),
+        },
+        Err(CutRefused::Damaged { at }) if at <= text.len() as u64 => None,
+        Err(_) => Some(false),
+    }
+}
+
+/// Whether the text that has these places is written in format 3 with the same bytes. None where it's refused.
+fn is_written(
+    alloc: Global,
+    spread: &[Option<u8>],
+    format: u8,
+) -> Result<Option<bool>, AllocError> {
+    let text = text_of(alloc, spread)?;
+    let third = third_of(alloc, spread)?;
+    Ok(is_written_as(alloc, &text, format, &third))
+}
+
+/// Whether the text of a format is written so.
+fn is_whole_written(alloc: Global, format: u8) -> Result<bool, AllocError> {
+    let spread = spread_of(alloc, PARTS, format)?;
+    Ok(is_written(alloc, &spread, format)? == Some(true))
+}
+
+/// Whether the texts of all formats are written so.
+fn are_written(alloc: Global) -> Result<bool, AllocError> {
+    Ok(is_whole_written(alloc, 1)? && is_whole_written(alloc, 2)? && is_whole_written(alloc, 3)?)
+}
+
+#[test]
+fn texts_are_written_in_format_3(rt: HostRuntime) {
+    assert!(rt; are_written(rt.alloc()) == Ok(true));
+}
+
+/// Puts a byte at a place.
+fn put(spread: &mut [Option<u8>], at: usize, byte: u8) {
+    if let Some(place) = spread.get_mut(at) {
+        *place = Some(byte);
+    }
+}
+
+/// Whether each byte at a place that has this one is refused, or written in format 3 at just that place.
+fn byte_counts(
+    alloc: Global,
+    spread: &mut [Option<u8>],
+    at: usize,
+    whole: u8,
+    format: u8,
+) -> Result<bool, AllocError> {
+    let mut counts = true;
+    for other in 0..=255u8 {
+        put(spread, at, other);
+        counts = counts && is_written(alloc, spread, format)? != Some(false);
+    }
+    put(spread, at, whole);
+    Ok(counts)
 }
 
 /// Whether each text that differs in one byte from that of the format is refused, or is written in
 /// format 3 with just that byte.
 fn every_byte_counts(alloc: Global, format: u8) -> Result<bool, AllocError> {
-    let Spread {
-        mut text,
-        mut third,
-        index,
-    } = spread_of(alloc, format)?;
-    let mut are_told = true;
-    for (i, j) in index.iter().enumerate() {
-        let j = *j;
-        if i < text.len() && j < third.len() {
-            let whole = text[i];
-            for other in 0..=255u8 {
-                if other == whole {
-                    continue;
-                }
-                text[i] = other;
-                // The byte of the format is that of format 3 in what is written.
-                third[j] = if i == 4 { 3 } else { other };
-                are_told = are_told && is_told(alloc, &text, format, &third);
-            }
-            text[i] = whole;
-            third[j] = if i == 4 { 3 } else { whole };
+    let mut spread = spread_of(alloc, PARTS, format)?;
+    let mut count = true;
+    for at in 0..spread.len() {
+        if let Some(Some(whole)) = spread.get(at).copied() {
+            count = count && byte_counts(alloc, &mut spread, at, whole, format)?;
         }
     }
-    Ok(are_told)
+    Ok(count)
 }
 
 #[test]
-fn every_byte_of_format_1_counts(rt: HostRuntime) -> Result<(), Fail> {
-    assert!(rt; every_byte_counts(rt.alloc(), 1)?);
-    Ok(())
+fn every_byte_of_format_1_counts(rt: HostRuntime) {
+    assert!(rt; every_byte_counts(rt.alloc(), 1) == Ok(true));
 }
 
 #[test]
-fn every_byte_of_format_2_counts(rt: HostRuntime) -> Result<(), Fail> {
-    assert!(rt; every_byte_counts(rt.alloc(), 2)?);
-    Ok(())
+fn every_byte_of_format_2_counts(rt: HostRuntime) {
+    assert!(rt; every_byte_counts(rt.alloc(), 2) == Ok(true));
 }
 
 #[test]
-fn every_byte_of_format_3_counts(rt: HostRuntime) -> Result<(), Fail> {
-    assert!(rt; every_byte_counts(rt.alloc(), 3)?);
-    Ok(())
+fn every_byte_of_format_3_counts(rt: HostRuntime) {
+    assert!(rt; every_byte_counts(rt.alloc(), 3) == Ok(true));
 }
 
-#[test]
-fn nothing_may_be_cut_off_or_follow(rt: HostRuntime) -> Result<(), Fail> {
-    let alloc = rt.alloc();
-    for format in 1..=3u8 {
-        let mut bytes = text_in(alloc, format)?;
-        for end in 0..bytes.len() {
-            assert!(rt;
-                matches!(
-                    decode(alloc, &bytes[..end]),
-                    Err(CutRefused::Damaged { .. })
-                )
-            );
-        }
-        bytes.push(0)?;
-        assert!(rt; matches!(decode(alloc, &bytes), Err(CutRefused::Damaged { .. })));
+/// The place at which bytes are damaged; none where they aren't.
+fn damage(alloc: Global, bytes: &[u8]) -> Option<u64> {
+    match decode(alloc, bytes) {
+        Err(CutRefused::Damaged { at }) => Some(at),
+        _ => None,
     }
-    Ok(())
+}
+
+/// Whether bytes are damaged where any of them are cut off at their end.
+fn are_fronts_damaged(alloc: Global, bytes: &[u8]) -> bool {
+    for end in 0..bytes.len() {
+        if damage(alloc, &bytes[..end]).is_none() {
+            return false;
+        }
+    }
+    true
+}
+
+/// Whether the text of a format is damaged with its end cut off, and with a byte behind it.
+fn is_whole(alloc: Global, format: u8) -> Result<bool, AllocError> {
+    let mut bytes = text_in(alloc, PARTS, format)?;
+    let is_front_damaged = are_fronts_damaged(alloc, &bytes);
+    bytes.push(0)?;
+    Ok(is_front_damaged && damage(alloc, &bytes).is_some())
+}
+
+/// Whether the texts of all formats are whole.
+fn are_whole(alloc: Global) -> Result<bool, AllocError> {
+    Ok(is_whole(alloc, 1)? && is_whole(alloc, 2)? && is_whole(alloc, 3)?)
+}
+
+#[test]
+fn nothing_may_be_cut_off_or_follow(rt: HostRuntime) {
+    assert!(rt; are_whole(rt.alloc()) == Ok(true));
 }
 
 /// Bytes that are refused, each with the number of bytes before what can't be read.
@@ -285,16 +337,16 @@ static REFUSED: &[(&str, u64)] = &[
     ("45514c43 03 0100000000000000 71 ffffffffffffffff", 22),
 ];
 
+/// The place at which bytes in hexadecimal are damaged.
+fn damage_of(alloc: Global, hex: &str) -> Result<Option<u64>, AllocError> {
+    let mut spread = Vec::new(alloc);
+    push_hex(&mut spread, hex.as_bytes(), true)?;
+    Ok(damage(alloc, &text_of(alloc, &spread)?))
+}
+
 #[test]
-fn refusals_tell_their_places(rt: HostRuntime) -> Result<(), Fail> {
-    let alloc = rt.alloc();
+fn refusals_tell_their_places(rt: HostRuntime) {
     for &(hex, expected) in REFUSED {
-        let mut bytes = Vec::new(alloc);
-        push_hex(&mut bytes, hex)?;
-        match decode(alloc, &bytes) {
-            Err(CutRefused::Damaged { at }) => assert_eq!(rt; at, expected),
-            _ => return Err(Fail::from("not refused")),
-        }
+        assert!(rt; damage_of(rt.alloc(), hex) == Ok(Some(expected)), "{hex}");
     }
-    Ok(())
 }
