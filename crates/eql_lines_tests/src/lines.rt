@@ -1,712 +1,510 @@
 //! Lines of shards: what each is, as a short text.
+//!
+//! A table is one text. Each line is a row: a line of a shard, ` => `, and what it is: `blank`, the reason, or an event's time,
+//! tiebreaker, categories and fields. A row that begins with `// ` is a comment. `«count piece»` stands for the piece so many
+//! times, with the number from 0 in place of each `#`.
 use eql_lines::{Fields, LineRead, LineScan, Wanted, read_line};
 use eql_values::{Kind, NameKinds, Text, Value};
-use std::alloc::Global;
-use std::process::Abort;
-use std::test::Fail;
+use std::alloc::{AllocError, Global};
 
-/// Keywords and numbers, each line with what it is: `blank`, the reason, or an event's time, tiebreaker, categories
-/// and fields.
-static NUMBERS: &[(&str, &str)] = &[
-    (
-        "{\"@timestamp\":7,\"k\":\"a\\u00e9\"}",
-        "7000000 none [] aé null null null",
-    ),
-    (
-        "{\"@timestamp\":7,\"k\":-7}",
-        "7000000 none [] -7 null null null",
-    ),
-    (
-        "{\"@timestamp\":7,\"k\":18446744073709551615}",
-        "7000000 none [] 18446744073709551615 null null null",
-    ),
-    ("{\"@timestamp\":7,\"k\":1.5}", "Fraction"),
-    ("{\"@timestamp\":7,\"k\":-0}", "Fraction"),
-    (
-        "{\"@timestamp\":7,\"k\":true}",
-        "7000000 none [] true null null null",
-    ),
-    (
-        "{\"@timestamp\":7,\"k\":false}",
-        "7000000 none [] false null null null",
-    ),
-    (
-        "{\"@timestamp\":7,\"l\":\"-12\"}",
-        "7000000 none [] null -12 null null",
-    ),
-    ("{\"@timestamp\":7,\"l\":\"9223372036854775808\"}", "Range"),
-    ("{\"@timestamp\":7,\"l\":\"+1\"}", "Kind"),
-    ("{\"@timestamp\":7,\"l\":\"x\"}", "Kind"),
-    (
-        "{\"@timestamp\":7,\"l\":5}",
-        "7000000 none [] null 5 null null",
-    ),
-    (
-        "{\"@timestamp\":7,\"l\":9223372036854775807}",
-        "7000000 none [] null 9223372036854775807 null null",
-    ),
-    ("{\"@timestamp\":7,\"l\":9223372036854775808}", "Range"),
-    (
-        "{\"@timestamp\":7,\"l\":-9223372036854775808}",
-        "7000000 none [] null -9223372036854775808 null null",
-    ),
-    ("{\"@timestamp\":7,\"l\":-9223372036854775809}", "Fraction"),
-    ("{\"@timestamp\":7,\"l\":18446744073709551616}", "Fraction"),
-    (
-        "{\"@timestamp\":7,\"l\":\"-9223372036854775808\"}",
-        "7000000 none [] null -9223372036854775808 null null",
-    ),
-    ("{\"@timestamp\":7,\"l\":\"-9223372036854775809\"}", "Range"),
-    ("{\"@timestamp\":7,\"l\":\"1.0\"}", "Kind"),
-    ("{\"@timestamp\":7,\"l\":-0}", "Fraction"),
-    ("{\"@timestamp\":7,\"l\":1e2}", "Fraction"),
-    ("{\"@timestamp\":7,\"l\":true}", "Kind"),
-];
-
-/// Truth values and addresses.
-static TRUTHS: &[(&str, &str)] = &[
-    (
-        "{\"@timestamp\":7,\"b\":\"true\"}",
-        "7000000 none [] null null true null",
-    ),
-    (
-        "{\"@timestamp\":7,\"b\":\"false\"}",
-        "7000000 none [] null null false null",
-    ),
-    ("{\"@timestamp\":7,\"b\":\"True\"}", "Kind"),
-    ("{\"@timestamp\":7,\"b\":1}", "Kind"),
-    ("{\"@timestamp\":7,\"b\":1.5}", "Kind"),
-    (
-        "{\"@timestamp\":7,\"b\":true}",
-        "7000000 none [] null null true null",
-    ),
-    ("{\"@timestamp\":7,\"b\":\"\"}", "Kind"),
-    (
-        "{\"@timestamp\":7,\"b\":false}",
-        "7000000 none [] null null false null",
-    ),
-    (
-        "{\"@timestamp\":7,\"i\":\"10.0.0.1\"}",
-        "7000000 none [] null null null 167772161",
-    ),
-    (
-        "{\"@timestamp\":7,\"i\":\"::1\"}",
-        "7000000 none [] null null null null",
-    ),
-    ("{\"@timestamp\":7,\"i\":\"x\"}", "Kind"),
-    (
-        "{\"@timestamp\":7,\"i\":\"255.255.255.255\"}",
-        "7000000 none [] null null null 4294967295",
-    ),
-    ("{\"@timestamp\":7,\"i\":\"256.0.0.1\"}", "Kind"),
-    ("{\"@timestamp\":7,\"i\":1}", "Kind"),
-    ("{\"@timestamp\":7,\"i\":1.5}", "Kind"),
-    ("{\"@timestamp\":7,\"i\":true}", "Kind"),
-];
-
-/// What names lead to, tiebreakers, and which reason comes first.
-static REACHED: &[(&str, &str)] = &[
-    (
-        "{\"@timestamp\":7,\"k\":null}",
-        "7000000 none [] null null null null",
-    ),
-    (
-        "{\"@timestamp\":7,\"k\":[]}",
-        "7000000 none [] null null null null",
-    ),
-    (
-        "{\"@timestamp\":7,\"k\":[\"a\"]}",
-        "7000000 none [] a null null null",
-    ),
-    (
-        "{\"@timestamp\":7,\"k\":[\"a\",\"b\"]}",
-        "7000000 none [] null null null null",
-    ),
-    (
-        "{\"@timestamp\":7,\"k\":[[],[\"a\"],null]}",
-        "7000000 none [] a null null null",
-    ),
-    (
-        "{\"@timestamp\":7,\"k\":{\"x\":1}}",
-        "7000000 none [] null null null null",
-    ),
-    (
-        "{\"@timestamp\":7,\"k\":1,\"k\":\"b\"}",
-        "7000000 none [] b null null null",
-    ),
-    (
-        "{\"@timestamp\":7,\"event.category\":\"p\",\"event\":{\"category\":[\"q\",1,[\"r\"]]}}",
-        "7000000 none [q r p] null null null null",
-    ),
-    (
-        "{\"@timestamp\":7,\"event\":{\"category\":\"process\"},\"l\":true,\"k\":1.5}",
-        "Fraction",
-    ),
-    (
-        "{\"@timestamp\":7,\"t\":[5]}",
-        "7000000 5 [] null null null null",
-    ),
-    ("{\"@timestamp\":7,\"t\":1.5,\"l\":true}", "Fraction"),
-    (
-        "{\"@timestamp\":7,\"t\":null}",
-        "7000000 none [] null null null null",
-    ),
-    (
-        "{\"@timestamp\":7,\"t\":[1,2]}",
-        "7000000 none [] null null null null",
-    ),
-    (
-        "{\"@timestamp\":7,\"t\":\"-3\"}",
-        "7000000 -3 [] null null null null",
-    ),
-    ("{\"@timestamp\":7,\"t\":true,\"k\":1.5}", "Kind"),
-    ("{\"@timestamp\":7,\"t\":\"x\"}", "Kind"),
-    ("{\"@timestamp\":7,\"t\":9223372036854775808}", "Range"),
-    ("{\"t\":true}", "NoTime"),
-    ("{\"@timestamp\":{},\"t\":true}", "NoTime"),
-    ("{\"@timestamp\":false,\"t\":1.5}", "BadTime"),
-    ("{\"@timestamp\":true,\"k\":", "NotJson"),
-    ("[1,1e999]", "NotJson"),
-    ("\"x\"", "NotObject"),
-];
-
-/// Timestamps, and lines that are no events.
-static STAMPS: &[(&str, &str)] = &[
-    ("null", "NotObject"),
-    ("{} {}", "NotJson"),
-    ("{}", "NoTime"),
-    // a name that is given twice: the last value stands, of the timestamp too
-    ("{\"@timestamp\":7,\"@timestamp\":true}", "BadTime"),
-    (
-        "{\"@timestamp\":true,\"@timestamp\":8,\"l\":1.5,\"l\":2}",
-        "8000000 none [] null 2 null null",
-    ),
-    (
-        "{\"@timestamp\":7,\"k\":[\"a\",\"b\"],\"k\":[]}",
-        "7000000 none [] null null null null",
-    ),
-    ("{\"k\":1.5}", "NoTime"),
-    ("{\"@timestamp\":null}", "NoTime"),
-    ("{\"@timestamp\":[1,2]}", "BadTime"),
-    ("{\"@timestamp\":1.0}", "BadTime"),
-    ("{\"@timestamp\":true,\"k\":1.5}", "BadTime"),
-    ("[1]", "NotObject"),
-    ("{", "NotJson"),
-    ("{\"@timestamp\":7,\"x\":1e999}", "NotJson"),
-    (" \t\r", "blank"),
-    (
-        "{\"@timestamp\":9223372036854775807}",
-        "9223372036854775807000000 none [] null null null null",
-    ),
-    (
-        "{\"@timestamp\":-9223372036854775808}",
-        "-9223372036854775808000000 none [] null null null null",
-    ),
-    ("{\"@timestamp\":9223372036854775808}", "BadTime"),
-    ("{\"@timestamp\":-9223372036854775809}", "BadTime"),
-    ("{\"@timestamp\":-0}", "BadTime"),
-    (
-        "{\"@timestamp\":[[\"1970-01-01\"]]}",
-        "0 none [] null null null null",
-    ),
-    ("{\"@timestamp\":[\"1970-01-01\",0]}", "BadTime"),
-];
-
-/// Texts, each with the time that it names, in nanoseconds since the epoch, or `BadTime`. By Python's `datetime`, and
-/// years outside 1 to 9999 by a count of days.
-static TIMES: &[(&str, &str)] = &[
-    ("2024-05-01T08:00:00.123Z", "1714550400123000000"),
-    ("2024-05-01T08:00:00Z", "1714550400000000000"),
-    ("2024-05-01t08:00:00z", "1714550400000000000"),
-    ("2024-05-01 08:00:00Z", "1714550400000000000"),
-    ("1969-12-31T23:59:59.999999Z", "-1000"),
-    // offsets
-    ("2024-05-01T08:00:00+02:00", "1714543200000000000"),
-    ("2024-05-01T08:00:00-11:30", "1714591800000000000"),
-    (
-        "2024-05-01T08:00:00+02:00[Europe/Berlin]",
-        "1714543200000000000",
-    ),
-    (
-        "2024-05-01T08:00:00-08:00[Europe/Berlin]",
-        "1714579200000000000",
-    ),
-    // a date and a time of day, with no offset
-    ("2024-05-01T08:00:00", "1714550400000000000"),
-    ("2024-05-01T08:00", "1714550400000000000"),
-    ("2024-05-01T08:00:00.5", "1714550400500000000"),
-    ("2024-05-01T08:00:00[Europe/Berlin]", "1714550400000000000"),
-    // a date alone
-    ("2024-05-01", "1714521600000000000"),
-    ("20240501", "1714521600000000000"),
-    ("2024-02-29", "1709164800000000000"),
-    // fractions of one to nine digits
-    ("2024-05-01T08:00:00.1Z", "1714550400100000000"),
-    ("2024-05-01T08:00:00.12Z", "1714550400120000000"),
-    ("2024-05-01T08:00:00.123Z", "1714550400123000000"),
-    ("2024-05-01T08:00:00.1234Z", "1714550400123400000"),
-    ("2024-05-01T08:00:00.12345Z", "1714550400123450000"),
-    ("2024-05-01T08:00:00.123456Z", "1714550400123456000"),
-    ("2024-05-01T08:00:00.1234567Z", "1714550400123456700"),
-    ("2024-05-01T08:00:00.12345678Z", "1714550400123456780"),
-    ("2024-05-01T08:00:00.123456789Z", "1714550400123456789"),
-    ("2024-05-01T08:00:00.000000001Z", "1714550400000000001"),
-    ("2024-05-01T08:00:00.1234567891Z", "BadTime"),
-    ("2024-05-01T08:00:00.Z", "BadTime"),
-    // a leap second is read as the second before it
-    ("2016-12-31T23:59:60Z", "1483228799000000000"),
-    ("2016-12-31T23:59:60.5Z", "1483228799500000000"),
-    ("2016-12-31T23:59:60", "1483228799000000000"),
-    ("2016-12-31T23:59:61Z", "BadTime"),
-    // both ends of instants, and the nanosecond or second beyond
-    ("-009999-01-02T01:59:59Z", "-377705023201000000000"),
-    ("-009999-01-02T01:59:58.999999999Z", "BadTime"),
-    ("9999-12-30T22:00:00.999999999Z", "253402207200999999999"),
-    ("9999-12-30T22:00:01Z", "BadTime"),
-    ("9999-12-31T23:59:59Z", "BadTime"),
-    ("9999-12-30T23:30:00-12:00", "BadTime"),
-    // both ends of civil times and dates, which go further
-    ("-009999-01-01T00:00:00", "-377705116800000000000"),
-    ("9999-12-31T23:59:59.999999999", "253402300799999999999"),
-    ("-009999-01-01", "-377705116800000000000"),
-    ("9999-12-31", "253402214400000000000"),
-    ("0001-01-01", "-62135596800000000000"),
-    ("0000-02-29", "-62162121600000000000"),
-    ("-000001-12-31T23:59:59", "-62167219201000000000"),
-    // no timestamps
-    ("", "BadTime"),
-    ("1714550400", "BadTime"),
-    ("2024-05", "BadTime"),
-    ("2024-13-01", "BadTime"),
-    ("2023-02-29", "BadTime"),
-    ("2024-05-01Z", "BadTime"),
-    ("2024-05-01+02:00", "BadTime"),
-    ("T08:00:00Z", "BadTime"),
-    ("08:00:00", "BadTime"),
-    ("2024-05-01T", "BadTime"),
-    ("2024-05-01T24:00:00Z", "BadTime"),
-    ("2024-05-01T08:60:00Z", "BadTime"),
-    ("2024-05-01T08:00:00Zx", "BadTime"),
-    (" 2024-05-01", "BadTime"),
-    ("2024-05-01T08:00:00+26:00", "BadTime"),
-    ("-000000-01-01", "BadTime"),
-    ("10000-01-01", "BadTime"),
-];
-
-fn name(alloc: Global, text: &str) -> Result<Text, Fail> {
-    Ok(Text::of(String::from_str(alloc, text)?))
-}
-
-/// A keyword, a long, a boolean, an address and a tiebreaker.
-fn all_kinds(alloc: Global) -> Result<Wanted, Fail> {
-    let mut fields = Vec::new(alloc);
-    fields.push((name(alloc, "k")?, Kind::Text))?;
-    fields.push((name(alloc, "l")?, Kind::Long))?;
-    fields.push((name(alloc, "b")?, Kind::Bool))?;
-    fields.push((name(alloc, "i")?, Kind::Ip))?;
-    Ok(Wanted {
-        fields: NameKinds::of(fields),
-        tie: Some(name(alloc, "t")?),
-    })
-}
-
-fn tell_value(told: &mut String, value: &Value) -> Result<(), Fail> {
-    match value {
-        Value::Null => told.push_str(" null")?,
-        Value::Bool(truth) => write!(told, " {truth}")?,
-        Value::Long(number) => write!(told, " {number}")?,
-        Value::Text(text) => write!(told, " {}", text.text())?,
-        Value::Ip(address) => write!(told, " {address}")?,
+/// Puts a piece with this number in place of each `#`.
+fn push_numbered(text: &mut String, piece: &str, number: u32) -> Result<(), AllocError> {
+    let mut parts = piece.split('#');
+    text.push_str(parts.next().unwrap_or(""))?;
+    for part in parts {
+        write!(text, "{number}{part}")?;
     }
     Ok(())
 }
 
-fn tell_event(alloc: Global, fields: &Fields) -> Result<String, Fail> {
-    let mut told = format!(in alloc; "{}", fields.ts)?;
-    match fields.tie {
-        Some(tie) => write!(told, " {tie} [")?,
-        None => told.push_str(" none [")?,
-    }
-    let mut between = "";
-    for category in fields.categories.items() {
-        told.push_str(between)?;
-        told.push_str(category.text())?;
-        between = " ";
-    }
-    told.push_str("]")?;
-    for value in fields.slots.items() {
-        tell_value(&mut told, value)?;
-    }
-    Ok(told)
-}
-
-fn tell(alloc: Global, read: &LineRead) -> Result<String, Fail> {
-    match read {
-        LineRead::Blank => Ok(String::from_str(alloc, "blank")?),
-        LineRead::Event(fields) => tell_event(alloc, fields),
-        LineRead::Bad(reason) => Ok(format!(in alloc; "{reason:?}")?),
-    }
-}
-
-/// What a reader that goes on reading tells of a line.
-fn tell_line(alloc: Global, scan: &mut LineScan, line: &[u8]) -> Result<String, Fail> {
-    let read = scan.read(alloc, line).map_err(|_| Fail::from("memory"))?;
-    let told = tell(alloc, &read);
-    drop(read);
-    told
-}
-
-/// What a line is to a reader of its own.
-fn tell_alone(alloc: Global, wanted: &Wanted, line: &[u8]) -> Result<String, Fail> {
-    let read = read_line(alloc, wanted, line).map_err(|_| Fail::from("memory"))?;
-    let told = tell(alloc, &read);
-    drop(read);
-    told
-}
-
-/// Sees that each line is what stands beside it, to a reader that goes on reading.
-fn each_is_told(
-    rt: &impl Abort,
-    alloc: Global,
-    scan: &mut LineScan,
-    rows: &[(&str, &str)],
-) -> Result<(), Fail> {
-    for (line, expected) in rows {
-        let told = tell_line(alloc, scan, line.as_bytes())?;
-        assert_eq!(rt; told.as_str(), *expected, "{line}");
+/// Puts a piece as often as its count says, `count piece`.
+fn push_repeated(text: &mut String, repeated: &str) -> Result<(), AllocError> {
+    let (count, piece) = repeated.split_once(' ').unwrap_or(("0", ""));
+    for number in 0..count.parse::<u32>().unwrap_or(0) {
+        push_numbered(text, piece, number)?;
     }
     Ok(())
 }
 
-/// Sees that each line is what stands beside it, to a reader of its own.
-fn each_is_told_alone(
-    rt: &impl Abort,
-    alloc: Global,
-    wanted: &Wanted,
-    rows: &[(&str, &str)],
-) -> Result<(), Fail> {
-    for (line, expected) in rows {
-        let told = tell_alone(alloc, wanted, line.as_bytes())?;
-        assert_eq!(rt; told.as_str(), *expected, "alone: {line}");
-    }
-    Ok(())
-}
-
-/// Sees that each line is what stands beside it where values of all kinds are wanted, to a reader of many lines and to
-/// one of its own.
-fn each_tells(rt: &impl Abort, alloc: Global, rows: &[(&str, &str)]) -> Result<(), Fail> {
-    let wanted = all_kinds(alloc)?;
-    each_is_told_alone(rt, alloc, &wanted, rows)?;
-    let mut scan = LineScan::new(alloc, &wanted).map_err(|_| Fail::from("memory"))?;
-    let told = each_is_told(rt, alloc, &mut scan, rows);
-    drop(scan);
-    told
-}
-
-#[test]
-fn keywords_and_numbers_are_read(rt: HostRuntime) -> Result<(), Fail> {
-    each_tells(&rt, rt.alloc(), NUMBERS)
-}
-
-#[test]
-fn truths_and_addresses_are_read(rt: HostRuntime) -> Result<(), Fail> {
-    each_tells(&rt, rt.alloc(), TRUTHS)
-}
-
-#[test]
-fn the_first_reason_is_told(rt: HostRuntime) -> Result<(), Fail> {
-    each_tells(&rt, rt.alloc(), REACHED)
-}
-
-#[test]
-fn stamps_are_read(rt: HostRuntime) -> Result<(), Fail> {
-    each_tells(&rt, rt.alloc(), STAMPS)
-}
-
-/// Lines in which one name lies within another, or is wanted twice, each with what it is.
-static NAMED: &[(&str, &str)] = &[
-    (
-        "{\"@timestamp\":7,\"a\":{\"b\":{\"c\":\"x\"}}}",
-        "7000000 none [] x null 7 x null",
-    ),
-    (
-        "{\"@timestamp\":7,\"a.b.c\":\"x\"}",
-        "7000000 none [] x null 7 x null",
-    ),
-    (
-        "{\"@timestamp\":7,\"a\":{\"b.c\":\"x\"}}",
-        "7000000 none [] x null 7 x null",
-    ),
-    (
-        "{\"@timestamp\":7,\"a.b\":{\"c\":\"x\"}}",
-        "7000000 none [] x null 7 x null",
-    ),
-    // two forms of one name are two values
-    (
-        "{\"@timestamp\":7,\"a.b.c\":\"x\",\"a\":{\"b\":{\"c\":\"y\"}}}",
-        "7000000 none [] null null 7 null null",
-    ),
-    (
-        "{\"@timestamp\":7,\"a.b\":\"x\",\"a\":{\"b\":{\"c\":\"y\"}}}",
-        "7000000 none [] y x 7 y null",
-    ),
-    (
-        "{\"@timestamp\":7,\"a.b.c\":\"x\",\"a\":{\"b\":null}}",
-        "7000000 none [] x null 7 x null",
-    ),
-    // a name that is given twice
-    (
-        "{\"@timestamp\":7,\"a\":{\"b\":{\"c\":1}},\"a\":{\"b\":{\"c\":2}}}",
-        "7000000 none [] 2 null 7 2 null",
-    ),
-    (
-        "{\"@timestamp\":7,\"a\":{\"b\":{\"c\":1}},\"a\":{}}",
-        "7000000 none [] null null 7 null null",
-    ),
-    (
-        "{\"@timestamp\":7,\"a\":[{\"b\":{\"c\":1,\"c\":2}}]}",
-        "7000000 none [] 2 null 7 2 null",
-    ),
-    // arrays spread, arrays in arrays too
-    (
-        "{\"@timestamp\":7,\"a\":[[],[null,{\"b\":[[[{\"c\":[true]}]]]}]]}",
-        "7000000 none [] true null 7 true null",
-    ),
-    (
-        "{\"@timestamp\":7,\"a\":[{\"b\":{\"c\":1}},{\"b\":{\"c\":2}}]}",
-        "7000000 none [] null null 7 null null",
-    ),
-    (
-        "{\"@timestamp\":7,\"a\":[{\"b\":\"x\"},{\"b\":{\"c\":\"y\"}}]}",
-        "7000000 none [] y x 7 y null",
-    ),
-    // names that only begin alike
-    (
-        "{\"@timestamp\":7,\"a.b.cc\":1,\"a.bb\":2,\"ab\":3,\"a.b.c.d\":4,\"\":5,\"a.\":6}",
-        "7000000 none [] null null 7 null null",
-    ),
-    // a name that ends in a dot is reached under the name before it, and the empty name is no name of a field
-    (
-        "{\"@timestamp\":7,\"z\":1,\"t\":true}",
-        "7000000 none [] null null 7 null 1",
-    ),
-    (
-        "{\"@timestamp\":7,\"z.\":1}",
-        "7000000 none [] null null 7 null 1",
-    ),
-    (
-        "{\"@timestamp\":7,\"event\":[{\"category\":\"p\"},{\"category\":[\"q\",7,\"q\"]}]}",
-        "7000000 none [p q q] null null 7 null null",
-    ),
-];
-
-fn wanted_names(alloc: Global, names: &[&str]) -> Result<Wanted, Fail> {
-    let mut fields = Vec::new(alloc);
-    for text in names {
-        fields.push((name(alloc, text)?, Kind::Text))?;
-    }
-    Ok(Wanted {
-        fields: NameKinds::of(fields),
-        tie: None,
-    })
-}
-
-/// A reader of keywords of these names.
-fn scan_of(alloc: Global, names: &[&str]) -> Result<LineScan, Fail> {
-    let wanted = wanted_names(alloc, names)?;
-    LineScan::new(alloc, &wanted).map_err(|_| Fail::from("memory"))
-}
-
-#[test]
-fn names_lead(rt: HostRuntime) -> Result<(), Fail> {
-    let alloc = rt.alloc();
-    let mut scan = scan_of(alloc, &["a.b.c", "a.b", "@timestamp", "a.b.c", "z."])?;
-    let told = each_is_told(&rt, alloc, &mut scan, NAMED);
-    drop(scan);
-    told
-}
-
-/// What a line is with this text as its timestamp and nothing else.
-fn tell_time(alloc: Global, scan: &mut LineScan, text: &str) -> Result<String, Fail> {
-    let line = format!(in alloc; "{{\"@timestamp\":\"{text}\"}}")?;
-    tell_line(alloc, scan, line.as_bytes())
-}
-
-/// Sees that each text names the time beside it.
-fn each_is_timed(
-    rt: &impl Abort,
-    alloc: Global,
-    scan: &mut LineScan,
-    rows: &[(&str, &str)],
-) -> Result<(), Fail> {
-    for (text, expected) in rows {
-        let told = tell_time(alloc, scan, *text)?;
-        let time = told.as_str().split(' ').next().unwrap_or("");
-        assert_eq!(rt; time, *expected, "{text}");
-    }
-    Ok(())
-}
-
-#[test]
-fn times_are_read(rt: HostRuntime) -> Result<(), Fail> {
-    let alloc = rt.alloc();
-    let mut scan = scan_of(alloc, &[])?;
-    let timed = each_is_timed(&rt, alloc, &mut scan, TIMES);
-    drop(scan);
-    timed
-}
-
-/// So many fields, each a whole number.
-fn many_fields(alloc: Global, count: usize) -> Result<Wanted, Fail> {
-    let mut fields = Vec::new(alloc);
-    for number in 0..count {
-        let name = Text::of(format!(in alloc; "f.{number}")?);
-        fields.push((name, Kind::Long))?;
-    }
-    Ok(Wanted {
-        fields: NameKinds::of(fields),
-        tie: None,
-    })
-}
-
-/// A text, and for each number below a count what stands before it, the number, and what stands after it.
-fn with_numbers(
-    alloc: Global,
-    begin: &str,
-    count: usize,
-    before: &str,
-    after: &str,
-) -> Result<String, Fail> {
-    let mut text = String::from_str(alloc, begin)?;
-    for number in 0..count {
-        write!(text, "{before}{number}{after}")?;
+/// A row with its pieces as often as they say.
+fn expanded(alloc: Global, row: &str) -> Result<String, AllocError> {
+    let mut text = String::new(alloc);
+    for part in row.split('»') {
+        let (plain, repeated) = part.split_once('«').unwrap_or((part, ""));
+        text.push_str(plain)?;
+        push_repeated(&mut text, repeated)?;
     }
     Ok(text)
 }
 
-/// A line with so many fields, each an array of a number.
-fn line_of_fields(alloc: Global, count: usize) -> Result<String, Fail> {
-    let mut line = String::from_str(alloc, "{\"@timestamp\":7")?;
-    for number in 0..count {
-        write!(line, ",\"f.{number}\":[{number}]")?;
+/// The kind of this name.
+fn kind_of(name: &str) -> Kind {
+    match name {
+        "long" => Kind::Long,
+        "boolean" => Kind::Bool,
+        "ip" => Kind::Ip,
+        _ => Kind::Text,
     }
-    line.push_str("}")?;
-    Ok(line)
 }
 
-/// What a line with so many fields is where they are wanted.
-fn tell_fields(alloc: Global, count: usize) -> Result<String, Fail> {
-    let line = line_of_fields(alloc, count)?;
-    let wanted = many_fields(alloc, count)?;
-    tell_alone(alloc, &wanted, line.as_bytes())
+/// A name.
+fn name(alloc: Global, name: &str) -> Result<Text, AllocError> {
+    Ok(Text::of(String::from_str(alloc, name)?))
+}
+
+/// Fields that are written `name=kind`, each with a space behind it.
+fn fields_of(alloc: Global, words: &str) -> Result<NameKinds, AllocError> {
+    let mut fields = Vec::new(alloc);
+    for word in words.split(' ') {
+        if let Some((field, kind)) = word.split_once('=') {
+            fields.push((name(alloc, field)?, kind_of(kind)))?;
+        }
+    }
+    Ok(NameKinds::of(fields))
+}
+
+/// The tiebreaker that is named behind `|`.
+fn tie_of(alloc: Global, words: &str) -> Result<Option<Text>, AllocError> {
+    match words.split_once('|') {
+        Some((_, tie)) => Ok(Some(name(alloc, tie)?)),
+        None => Ok(None),
+    }
+}
+
+/// What is wanted of lines: fields, and behind them a tiebreaker.
+fn wanted_of(alloc: Global, words: &str) -> Result<Wanted, AllocError> {
+    let words = expanded(alloc, words)?;
+    Ok(Wanted {
+        tie: tie_of(alloc, words.as_str())?,
+        fields: fields_of(alloc, words.as_str())?,
+    })
+}
+
+/// Puts a value.
+fn push_value(told: &mut String, value: &Value) -> Result<(), AllocError> {
+    match value {
+        Value::Null => told.push_str(" null"),
+        Value::Bool(truth) => write!(told, " {truth}"),
+        Value::Long(number) => write!(told, " {number}"),
+        Value::Text(text) => write!(told, " {}", text.text()),
+        Value::Ip(address) => write!(told, " {address}"),
+    }
+}
+
+/// Puts categories in brackets.
+fn push_categories(told: &mut String, categories: &[Text]) -> Result<(), AllocError> {
+    let mut before = " [";
+    for category in categories {
+        write!(told, "{before}{}", category.text())?;
+        before = " ";
+    }
+    told.push_str(if categories.is_empty() { " []" } else { "]" })
+}
+
+/// Puts an event.
+fn push_event(told: &mut String, fields: &Fields) -> Result<(), AllocError> {
+    let ts = fields.ts;
+    match fields.tie {
+        Some(tie) => write!(told, "{ts} {tie}")?,
+        None => write!(told, "{ts} none")?,
+    }
+    push_categories(told, fields.categories.items())?;
+    for value in fields.slots.items() {
+        push_value(told, value)?;
+    }
+    Ok(())
+}
+
+/// Puts what a line is.
+fn push_read(told: &mut String, read: &LineRead) -> Result<(), AllocError> {
+    match read {
+        LineRead::Blank => told.push_str("blank"),
+        LineRead::Event(fields) => push_event(told, fields),
+        LineRead::Bad(reason) => write!(told, "{reason:?}"),
+    }
+}
+
+/// Whether a line is this.
+fn is_read_as(alloc: Global, read: &LineRead, expected: &str) -> bool {
+    let mut told = String::new(alloc);
+    push_read(&mut told, read).is_ok() && told.as_str() == expected
+}
+
+/// Whether a line is this to a reader that goes on reading.
+fn is_told(alloc: Global, scan: &mut LineScan, line: &[u8], expected: &str) -> bool {
+    match scan.read(alloc, line) {
+        Ok(read) => is_read_as(alloc, &read, expected),
+        Err(_) => false,
+    }
+}
+
+/// Whether a line is this to a reader of its own.
+fn is_told_alone(alloc: Global, wanted: &Wanted, line: &[u8], expected: &str) -> bool {
+    match read_line(alloc, wanted, line) {
+        Ok(read) => is_read_as(alloc, &read, expected),
+        Err(_) => false,
+    }
+}
+
+/// Whether a line is this to both.
+fn is_told_to_both(
+    alloc: Global,
+    wanted: &Wanted,
+    scan: &mut LineScan,
+    line: &[u8],
+    expected: &str,
+) -> bool {
+    is_told_alone(alloc, wanted, line, expected) && is_told(alloc, scan, line, expected)
+}
+
+/// Whether a row is as it should be.
+fn is_right(alloc: Global, wanted: &Wanted, scan: &mut LineScan, row: &str) -> bool {
+    if row.is_empty() || row.starts_with("// ") {
+        return true;
+    }
+    let Ok(row) = expanded(alloc, row) else {
+        return false;
+    };
+    match row.as_str().rsplit_once(" => ") {
+        Some((line, expected)) => {
+            is_told_to_both(alloc, wanted, scan, line.as_bytes(), expected)
+        }
+        None => false,
+    }
+}
+
+/// The first row that isn't as it should be to both readers, or nothing.
+fn wrong_row_of<'a>(
+    alloc: Global,
+    wanted: &Wanted,
+    scan: &mut LineScan,
+    table: &'a str,
+) -> &'a str {
+    for row in table.lines() {
+        if !is_right(alloc, wanted, scan, row) {
+            return row;
+        }
+    }
+    ""
+}
+
+/// The first row of a table that isn't as it should be, or nothing: each is read by one reader that goes on reading, and by
+/// a reader of its own.
+fn wrong_row<'a>(alloc: Global, words: &str, table: &'a str) -> &'a str {
+    let Ok(wanted) = wanted_of(alloc, words) else {
+        return "no memory";
+    };
+    match LineScan::new(alloc, &wanted) {
+        Ok(mut scan) => wrong_row_of(alloc, &wanted, &mut scan, table),
+        Err(_) => "no memory",
+    }
+}
+
+/// A keyword, a long, a boolean, an address and a tiebreaker.
+static ALL_KINDS: &str = "k=keyword l=long b=boolean i=ip |t";
+
+/// Keywords and numbers.
+static NUMBERS: &str = r#"
+{"@timestamp":7,"k":"a\u00e9"} => 7000000 none [] aé null null null
+{"@timestamp":7,"k":-7} => 7000000 none [] -7 null null null
+{"@timestamp":7,"k":18446744073709551615} => 7000000 none [] 18446744073709551615 null null null
+{"@timestamp":7,"k":1.5} => Fraction
+{"@timestamp":7,"k":-0} => Fraction
+{"@timestamp":7,"k":true} => 7000000 none [] true null null null
+{"@timestamp":7,"k":false} => 7000000 none [] false null null null
+{"@timestamp":7,"l":"-12"} => 7000000 none [] null -12 null null
+{"@timestamp":7,"l":"9223372036854775808"} => Range
+{"@timestamp":7,"l":"+1"} => Kind
+{"@timestamp":7,"l":"x"} => Kind
+{"@timestamp":7,"l":5} => 7000000 none [] null 5 null null
+{"@timestamp":7,"l":9223372036854775807} => 7000000 none [] null 9223372036854775807 null null
+{"@timestamp":7,"l":9223372036854775808} => Range
+{"@timestamp":7,"l":-9223372036854775808} => 7000000 none [] null -9223372036854775808 null null
+{"@timestamp":7,"l":-9223372036854775809} => Fraction
+{"@timestamp":7,"l":18446744073709551616} => Fraction
+{"@timestamp":7,"l":"-9223372036854775808"} => 7000000 none [] null -9223372036854775808 null null
+{"@timestamp":7,"l":"-9223372036854775809"} => Range
+{"@timestamp":7,"l":"1.0"} => Kind
+{"@timestamp":7,"l":-0} => Fraction
+{"@timestamp":7,"l":1e2} => Fraction
+{"@timestamp":7,"l":true} => Kind"#;
+
+#[test]
+fn keywords_and_numbers_are_read(rt: HostRuntime) {
+    assert_eq!(rt; wrong_row(rt.alloc(), ALL_KINDS, NUMBERS), "");
+}
+
+/// Truth values and addresses.
+static TRUTHS: &str = r#"
+{"@timestamp":7,"b":"true"} => 7000000 none [] null null true null
+{"@timestamp":7,"b":"false"} => 7000000 none [] null null false null
+{"@timestamp":7,"b":"True"} => Kind
+{"@timestamp":7,"b":1} => Kind
+{"@timestamp":7,"b":1.5} => Kind
+{"@timestamp":7,"b":true} => 7000000 none [] null null true null
+{"@timestamp":7,"b":""} => Kind
+{"@timestamp":7,"b":false} => 7000000 none [] null null false null
+{"@timestamp":7,"i":"10.0.0.1"} => 7000000 none [] null null null 167772161
+{"@timestamp":7,"i":"::1"} => 7000000 none [] null null null null
+{"@timestamp":7,"i":"x"} => Kind
+{"@timestamp":7,"i":"255.255.255.255"} => 7000000 none [] null null null 4294967295
+{"@timestamp":7,"i":"256.0.0.1"} => Kind
+{"@timestamp":7,"i":1} => Kind
+{"@timestamp":7,"i":1.5} => Kind
+{"@timestamp":7,"i":true} => Kind"#;
+
+#[test]
+fn truths_and_addresses_are_read(rt: HostRuntime) {
+    assert_eq!(rt; wrong_row(rt.alloc(), ALL_KINDS, TRUTHS), "");
+}
+
+/// What names lead to, tiebreakers, and which reason comes first.
+static REACHED: &str = r#"
+{"@timestamp":7,"k":null} => 7000000 none [] null null null null
+{"@timestamp":7,"k":[]} => 7000000 none [] null null null null
+{"@timestamp":7,"k":["a"]} => 7000000 none [] a null null null
+{"@timestamp":7,"k":["a","b"]} => 7000000 none [] null null null null
+{"@timestamp":7,"k":[[],["a"],null]} => 7000000 none [] a null null null
+{"@timestamp":7,"k":{"x":1}} => 7000000 none [] null null null null
+{"@timestamp":7,"k":1,"k":"b"} => 7000000 none [] b null null null
+{"@timestamp":7,"event.category":"p","event":{"category":["q",1,["r"]]}} => 7000000 none [q r p] null null null null
+{"@timestamp":7,"event":{"category":"process"},"l":true,"k":1.5} => Fraction
+{"@timestamp":7,"t":[5]} => 7000000 5 [] null null null null
+{"@timestamp":7,"t":1.5,"l":true} => Fraction
+{"@timestamp":7,"t":null} => 7000000 none [] null null null null
+{"@timestamp":7,"t":[1,2]} => 7000000 none [] null null null null
+{"@timestamp":7,"t":"-3"} => 7000000 -3 [] null null null null
+{"@timestamp":7,"t":true,"k":1.5} => Kind
+{"@timestamp":7,"t":"x"} => Kind
+{"@timestamp":7,"t":9223372036854775808} => Range
+{"t":true} => NoTime
+{"@timestamp":{},"t":true} => NoTime
+{"@timestamp":false,"t":1.5} => BadTime
+{"@timestamp":true,"k": => NotJson
+[1,1e999] => NotJson
+"x" => NotObject"#;
+
+#[test]
+fn the_first_reason_is_told(rt: HostRuntime) {
+    assert_eq!(rt; wrong_row(rt.alloc(), ALL_KINDS, REACHED), "");
+}
+
+/// Timestamps, and lines that are no events.
+static STAMPS: &str = r#"
+null => NotObject
+{} {} => NotJson
+{} => NoTime
+// a name that is given twice: the last value stands, of the timestamp too
+{"@timestamp":7,"@timestamp":true} => BadTime
+{"@timestamp":true,"@timestamp":8,"l":1.5,"l":2} => 8000000 none [] null 2 null null
+{"@timestamp":7,"k":["a","b"],"k":[]} => 7000000 none [] null null null null
+{"k":1.5} => NoTime
+{"@timestamp":null} => NoTime
+{"@timestamp":[1,2]} => BadTime
+{"@timestamp":1.0} => BadTime
+{"@timestamp":true,"k":1.5} => BadTime
+[1] => NotObject
+{ => NotJson
+{"@timestamp":7,"x":1e999} => NotJson
+{"@timestamp":9223372036854775807} => 9223372036854775807000000 none [] null null null null
+{"@timestamp":-9223372036854775808} => -9223372036854775808000000 none [] null null null null
+{"@timestamp":9223372036854775808} => BadTime
+{"@timestamp":-9223372036854775809} => BadTime
+{"@timestamp":-0} => BadTime
+{"@timestamp":[["1970-01-01"]]} => 0 none [] null null null null
+{"@timestamp":["1970-01-01",0]} => BadTime"#;
+
+/// A line of a space, a tab and a carriage return.
+static BLANK: &str = " \t\r => blank";
+
+#[test]
+fn stamps_are_read(rt: HostRuntime) {
+    assert_eq!(rt; wrong_row(rt.alloc(), ALL_KINDS, STAMPS), "");
+    assert_eq!(rt; wrong_row(rt.alloc(), ALL_KINDS, BLANK), "");
+}
+
+/// Names of which one lies within another, or is wanted twice.
+static NAMES: &str = "a.b.c=keyword a.b=keyword @timestamp=keyword a.b.c=keyword z.=keyword";
+
+/// Lines in which one name lies within another, or is wanted twice.
+static NAMED: &str = r#"
+{"@timestamp":7,"a":{"b":{"c":"x"}}} => 7000000 none [] x null 7 x null
+{"@timestamp":7,"a.b.c":"x"} => 7000000 none [] x null 7 x null
+{"@timestamp":7,"a":{"b.c":"x"}} => 7000000 none [] x null 7 x null
+{"@timestamp":7,"a.b":{"c":"x"}} => 7000000 none [] x null 7 x null
+// two forms of one name are two values
+{"@timestamp":7,"a.b.c":"x","a":{"b":{"c":"y"}}} => 7000000 none [] null null 7 null null
+{"@timestamp":7,"a.b":"x","a":{"b":{"c":"y"}}} => 7000000 none [] y x 7 y null
+{"@timestamp":7,"a.b.c":"x","a":{"b":null}} => 7000000 none [] x null 7 x null
+// a name that is given twice
+{"@timestamp":7,"a":{"b":{"c":1}},"a":{"b":{"c":2}}} => 7000000 none [] 2 null 7 2 null
+{"@timestamp":7,"a":{"b":{"c":1}},"a":{}} => 7000000 none [] null null 7 null null
+{"@timestamp":7,"a":[{"b":{"c":1,"c":2}}]} => 7000000 none [] 2 null 7 2 null
+// arrays spread, arrays in arrays too
+{"@timestamp":7,"a":[[],[null,{"b":[[[{"c":[true]}]]]}]]} => 7000000 none [] true null 7 true null
+{"@timestamp":7,"a":[{"b":{"c":1}},{"b":{"c":2}}]} => 7000000 none [] null null 7 null null
+{"@timestamp":7,"a":[{"b":"x"},{"b":{"c":"y"}}]} => 7000000 none [] y x 7 y null
+// names that only begin alike
+{"@timestamp":7,"a.b.cc":1,"a.bb":2,"ab":3,"a.b.c.d":4,"":5,"a.":6} => 7000000 none [] null null 7 null null
+// a name that ends in a dot is reached under the name before it, and the empty name is no name of a field
+{"@timestamp":7,"z":1,"t":true} => 7000000 none [] null null 7 null 1
+{"@timestamp":7,"z.":1} => 7000000 none [] null null 7 null 1
+{"@timestamp":7,"event":[{"category":"p"},{"category":["q",7,"q"]}]} => 7000000 none [p q q] null null 7 null null"#;
+
+#[test]
+fn names_lead(rt: HostRuntime) {
+    assert_eq!(rt; wrong_row(rt.alloc(), NAMES, NAMED), "");
+}
+
+/// Timestamps in texts. By Python's `datetime`, and years outside 1 to 9999 by a count of days.
+static TIMES: &str = r#"
+{"@timestamp":"2024-05-01T08:00:00.123Z"} => 1714550400123000000 none []
+{"@timestamp":"2024-05-01T08:00:00Z"} => 1714550400000000000 none []
+{"@timestamp":"2024-05-01t08:00:00z"} => 1714550400000000000 none []
+{"@timestamp":"2024-05-01 08:00:00Z"} => 1714550400000000000 none []
+{"@timestamp":"1969-12-31T23:59:59.999999Z"} => -1000 none []
+// offsets
+{"@timestamp":"2024-05-01T08:00:00+02:00"} => 1714543200000000000 none []
+{"@timestamp":"2024-05-01T08:00:00-11:30"} => 1714591800000000000 none []
+{"@timestamp":"2024-05-01T08:00:00+02:00[Europe/Berlin]"} => 1714543200000000000 none []
+{"@timestamp":"2024-05-01T08:00:00-08:00[Europe/Berlin]"} => 1714579200000000000 none []
+// a date and a time of day, with no offset
+{"@timestamp":"2024-05-01T08:00:00"} => 1714550400000000000 none []
+{"@timestamp":"2024-05-01T08:00"} => 1714550400000000000 none []
+{"@timestamp":"2024-05-01T08:00:00.5"} => 1714550400500000000 none []
+{"@timestamp":"2024-05-01T08:00:00[Europe/Berlin]"} => 1714550400000000000 none []
+// a date alone
+{"@timestamp":"2024-05-01"} => 1714521600000000000 none []
+{"@timestamp":"20240501"} => 1714521600000000000 none []
+{"@timestamp":"2024-02-29"} => 1709164800000000000 none []
+// fractions of one to nine digits
+{"@timestamp":"2024-05-01T08:00:00.1Z"} => 1714550400100000000 none []
+{"@timestamp":"2024-05-01T08:00:00.12Z"} => 1714550400120000000 none []
+{"@timestamp":"2024-05-01T08:00:00.123Z"} => 1714550400123000000 none []
+{"@timestamp":"2024-05-01T08:00:00.1234Z"} => 1714550400123400000 none []
+{"@timestamp":"2024-05-01T08:00:00.12345Z"} => 1714550400123450000 none []
+{"@timestamp":"2024-05-01T08:00:00.123456Z"} => 1714550400123456000 none []
+{"@timestamp":"2024-05-01T08:00:00.1234567Z"} => 1714550400123456700 none []
+{"@timestamp":"2024-05-01T08:00:00.12345678Z"} => 1714550400123456780 none []
+{"@timestamp":"2024-05-01T08:00:00.123456789Z"} => 1714550400123456789 none []
+{"@timestamp":"2024-05-01T08:00:00.000000001Z"} => 1714550400000000001 none []
+{"@timestamp":"2024-05-01T08:00:00.1234567891Z"} => BadTime
+{"@timestamp":"2024-05-01T08:00:00.Z"} => BadTime
+// a leap second is read as the second before it
+{"@timestamp":"2016-12-31T23:59:60Z"} => 1483228799000000000 none []
+{"@timestamp":"2016-12-31T23:59:60.5Z"} => 1483228799500000000 none []
+{"@timestamp":"2016-12-31T23:59:60"} => 1483228799000000000 none []
+{"@timestamp":"2016-12-31T23:59:61Z"} => BadTime
+// both ends of instants, and the nanosecond or second beyond
+{"@timestamp":"-009999-01-02T01:59:59Z"} => -377705023201000000000 none []
+{"@timestamp":"-009999-01-02T01:59:58.999999999Z"} => BadTime
+{"@timestamp":"9999-12-30T22:00:00.999999999Z"} => 253402207200999999999 none []
+{"@timestamp":"9999-12-30T22:00:01Z"} => BadTime
+{"@timestamp":"9999-12-31T23:59:59Z"} => BadTime
+{"@timestamp":"9999-12-30T23:30:00-12:00"} => BadTime
+// both ends of civil times and dates, which go further
+{"@timestamp":"-009999-01-01T00:00:00"} => -377705116800000000000 none []
+{"@timestamp":"9999-12-31T23:59:59.999999999"} => 253402300799999999999 none []
+{"@timestamp":"-009999-01-01"} => -377705116800000000000 none []
+{"@timestamp":"9999-12-31"} => 253402214400000000000 none []
+{"@timestamp":"0001-01-01"} => -62135596800000000000 none []
+{"@timestamp":"0000-02-29"} => -62162121600000000000 none []
+{"@timestamp":"-000001-12-31T23:59:59"} => -62167219201000000000 none []
+// no timestamps
+{"@timestamp":""} => BadTime
+{"@timestamp":"1714550400"} => BadTime
+{"@timestamp":"2024-05"} => BadTime
+{"@timestamp":"2024-13-01"} => BadTime
+{"@timestamp":"2023-02-29"} => BadTime
+{"@timestamp":"2024-05-01Z"} => BadTime
+{"@timestamp":"2024-05-01+02:00"} => BadTime
+{"@timestamp":"T08:00:00Z"} => BadTime
+{"@timestamp":"08:00:00"} => BadTime
+{"@timestamp":"2024-05-01T"} => BadTime
+{"@timestamp":"2024-05-01T24:00:00Z"} => BadTime
+{"@timestamp":"2024-05-01T08:60:00Z"} => BadTime
+{"@timestamp":"2024-05-01T08:00:00Zx"} => BadTime
+{"@timestamp":" 2024-05-01"} => BadTime
+{"@timestamp":"2024-05-01T08:00:00+26:00"} => BadTime
+{"@timestamp":"-000000-01-01"} => BadTime
+{"@timestamp":"10000-01-01"} => BadTime"#;
+
+#[test]
+fn times_are_read(rt: HostRuntime) {
+    assert_eq!(rt; wrong_row(rt.alloc(), "", TIMES), "");
 }
 
 /// More fields than one walk goes along: it goes along 128 names, of which three are the reader's own.
+static MANY_FIELDS: &[(&str, &str)] = &[
+    (
+        "«125 f.#=long »",
+        r#"{"@timestamp":7«125 ,"f.#":[#]»} => 7000000 none []«125  #»"#,
+    ),
+    (
+        "«126 f.#=long »",
+        r#"{"@timestamp":7«126 ,"f.#":[#]»} => 7000000 none []«126  #»"#,
+    ),
+    (
+        "«300 f.#=long »",
+        r#"{"@timestamp":7«300 ,"f.#":[#]»} => 7000000 none []«300  #»"#,
+    ),
+];
+
 #[test]
-fn many_fields_are_read(rt: HostRuntime) -> Result<(), Fail> {
-    let alloc = rt.alloc();
-    for count in [125, 126, 300] {
-        let expected = with_numbers(alloc, "7000000 none []", count, " ", "")?;
-        let told = tell_fields(alloc, count)?;
-        assert_eq!(rt; told.as_str(), expected.as_str());
+fn many_fields_are_read(rt: HostRuntime) {
+    for (words, row) in MANY_FIELDS {
+        assert_eq!(rt; wrong_row(rt.alloc(), *words, *row), "");
     }
-    Ok(())
 }
 
-/// A line with 301 texts under `event.category`, and one with a single text.
-fn long_and_short(alloc: Global) -> Result<(String, &'static str), Fail> {
-    let begin = "{\"@timestamp\":7,\"event.category\":[\"c\"";
-    let mut long = with_numbers(alloc, begin, 300, ",\"c", "\"")?;
-    long.push_str("]}")?;
-    Ok((
-        long,
-        "{\"@timestamp\":7,\"event.category\":\"d\",\"k\":\"x\"}",
-    ))
-}
+/// A line with 301 texts under `event.category`, and one with a single text, twice. After a line with more texts than a reader
+/// keeps memory for, others are read as ever.
+static TEXTS: &str = r#"
+{"@timestamp":7,"event.category":["c"«300 ,"c#"»]} => 7000000 none [c«300  c#»] null
+{"@timestamp":7,"event.category":"d","k":"x"} => 7000000 none [d] x
+{"@timestamp":7,"event.category":["c"«300 ,"c#"»]} => 7000000 none [c«300  c#»] null
+{"@timestamp":7,"event.category":"d","k":"x"} => 7000000 none [d] x"#;
 
-/// What a reader that goes on reading tells of both, in turn and twice, with bars between.
-fn tell_both(alloc: Global) -> Result<String, Fail> {
-    let (long, short) = long_and_short(alloc)?;
-    let mut scan = scan_of(alloc, &["k"])?;
-    let mut told = String::new(alloc);
-    for line in [long.as_str(), short, long.as_str(), short] {
-        let one = tell_line(alloc, &mut scan, line.as_bytes())?;
-        told.push_str(one.as_str())?;
-        told.push('|')?;
-    }
-    Ok(told)
-}
-
-/// After a line with more texts than a reader keeps memory for, others are read as ever.
 #[test]
-fn many_texts_are_read(rt: HostRuntime) -> Result<(), Fail> {
-    let alloc = rt.alloc();
-    let long = with_numbers(alloc, "7000000 none [c", 300, " c", "")?;
-    let expected = format!(in alloc;
-        "{long}] null|7000000 none [d] x|{long}] null|7000000 none [d] x|"
-    )?;
-    let told = tell_both(alloc)?;
-    assert_eq!(rt; told.as_str(), expected.as_str());
-    Ok(())
-}
-
-/// A timestamp, and an array in an array, so deep, under this name.
-fn nested(alloc: Global, name: &str, depth: usize) -> Result<String, Fail> {
-    let mut line = format!(in alloc; "{{\"@timestamp\":7,\"{name}\":")?;
-    for _ in 0..depth {
-        line.push('[')?;
-    }
-    for _ in 0..depth {
-        line.push(']')?;
-    }
-    line.push('}')?;
-    Ok(line)
+fn many_texts_are_read(rt: HostRuntime) {
+    assert_eq!(rt; wrong_row(rt.alloc(), "k=keyword", TEXTS), "");
 }
 
 /// Arrays and objects nest 127 deep at most, under a name that is wanted and under one that isn't.
+static NESTED: &str = r#"
+{"@timestamp":7,"k":«126 [»«126 ]»} => 7000000 none [] null
+{"@timestamp":7,"x":«126 [»«126 ]»} => 7000000 none [] null
+{"@timestamp":7,"k":«127 [»«127 ]»} => NotJson
+{"@timestamp":7,"x":«127 [»«127 ]»} => NotJson"#;
+
 #[test]
-fn nesting_is_bounded(rt: HostRuntime) -> Result<(), Fail> {
-    let alloc = rt.alloc();
-    let mut scan = scan_of(alloc, &["k"])?;
-    for (name, depth, expected) in [
-        ("k", 126, "7000000 none [] null"),
-        ("x", 126, "7000000 none [] null"),
-        ("k", 127, "NotJson"),
-        ("x", 127, "NotJson"),
-    ] {
-        let line = nested(alloc, name, depth)?;
-        let told = tell_line(alloc, &mut scan, line.as_bytes())?;
-        assert_eq!(rt; told.as_str(), expected, "{name}");
-    }
-    Ok(())
+fn nesting_is_bounded(rt: HostRuntime) {
+    assert_eq!(rt; wrong_row(rt.alloc(), "k=keyword", NESTED), "");
 }
 
-/// Bytes with as many blanks behind them as make this length.
-fn padded(alloc: Global, begin: &[u8], length: usize) -> Result<Vec<u8>, Fail> {
-    let mut line = Vec::new(alloc);
-    line.extend_from_slice(begin)?;
-    for _ in begin.len()..length {
-        line.push(b' ')?;
+/// Lines of 1,048,576 bytes, and of one more. A line that is too long is that before all else but blank.
+static LENGTHS: &str = r#"
+{"@timestamp":7}«1048560  » => 7000000 none []
+{"@timestamp":7}«1048561  » => Long
+x«1048576  » => Long
+«1048577  » => blank"#;
+
+/// Bytes that are no UTF-8.
+static NO_TEXT: &[u8] = b"{\"@timestamp\":7,\"x\":\"\xff\"}";
+
+/// Whether bytes that are no UTF-8 are no JSON to both readers.
+fn is_no_text_refused(alloc: Global) -> bool {
+    let Ok(wanted) = wanted_of(alloc, "") else {
+        return false;
+    };
+    match LineScan::new(alloc, &wanted) {
+        Ok(mut scan) => is_told_to_both(alloc, &wanted, &mut scan, NO_TEXT, "NotJson"),
+        Err(_) => false,
     }
-    Ok(line)
 }
 
-/// A line that is too long is that before all else but blank; bytes that are no UTF-8 are no JSON.
 #[test]
-fn length_goes_first(rt: HostRuntime) -> Result<(), Fail> {
-    let alloc = rt.alloc();
-    let mut scan = scan_of(alloc, &[])?;
-    let table: [(&[u8], usize, &str); 5] = [
-        (b"{\"@timestamp\":7}", 1_048_576, "7000000 none []"),
-        (b"{\"@timestamp\":7}", 1_048_577, "Long"),
-        (b"x", 1_048_577, "Long"),
-        (b"", 1_048_577, "blank"),
-        (b"{\"@timestamp\":7,\"x\":\"\xff\"}", 0, "NotJson"),
-    ];
-    for (begin, length, expected) in table {
-        let line = padded(alloc, begin, length)?;
-        let told = tell_line(alloc, &mut scan, &line)?;
-        assert_eq!(rt; told.as_str(), expected);
-    }
-    Ok(())
+fn length_goes_first(rt: HostRuntime) {
+    assert_eq!(rt; wrong_row(rt.alloc(), "", LENGTHS), "");
+    assert!(rt; is_no_text_refused(rt.alloc()));
 }
