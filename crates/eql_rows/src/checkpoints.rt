@@ -1,16 +1,10 @@
 //! Runs with a checkpoint: how later runs go on from what is kept, which cuts are refused, and faults of the disk.
-use crate::cuts::{damaged_disk, disk_in, last_disk, unfit_disk};
-use crate::kept::{kept_in, of_example};
-use crate::row::{Object, Row, Told, Words, ended, found};
-use crate::run::{Areas, Ran, areas_after, check, check_on, compare, disk_of, run_on, told_of};
+use crate::kept::AFTER_TEN;
+use crate::row::{Held, Object, Row, Share, Told, Words, ended, found};
+use crate::run::check;
 use crate::sequences::{ELEVEN, REFERENCE, REFERENCE_LISTS};
 use crate::text::Piece::{Bytes, Spaced, Starts};
-use crate::text::{Pieces, add_lines};
-use std::alloc::Global;
-use std::process::Abort;
-use std::sync::Wait;
-use std::test::Fail;
-use std::thread::Threads;
+use crate::text::Pieces;
 
 /// The options of the first of two runs.
 const FIRST: &str = "--slack 0ms --batch 1 --hands 0 --checkpoint c --every 5";
@@ -30,6 +24,7 @@ pub(crate) const FIRST_RUN: Row = found!(
     ELEVEN,
     REFERENCE_LISTS,
     words: Words::Find(FIRST),
+    kept: Some(AFTER_TEN),
 );
 
 /// A run that goes on from the second cut.
@@ -39,6 +34,7 @@ const SECOND_RUN: Row = found!(
     ELEVEN,
     &[r#"2 ["elkbee"] 0:6 0:8 0:10"#],
     words: Words::Find(SECOND),
+    held: Held::FirstRun,
 );
 
 /// A run that goes on from the second cut, with other fields.
@@ -59,7 +55,7 @@ macro_rules! not_resumed {
             $shows,
             listed: &[],
             status: 7,
-            told: Told::Line($line)
+            told: Told::Lines(&[$line])
             $(, $field: $value)*
         )
     };
@@ -132,84 +128,39 @@ static REFUSED: &[Row] = &[
         "no file t",
         query: PIPED,
         words: Words::Line("find --query q --fields f --slack 0ms --checkpoint c --every 5 t"),
+        held: Held::FirstRun,
     ),
 ];
 
-/// Sees that the second cut of the example is kept, and what later runs make of it.
-fn see_later_runs<R: Threads + Wait + Sync + Abort>(
-    rt: &R,
-    alloc: Global,
-    areas: &Areas,
-) -> Result<(), Fail> {
-    let [_, second] = of_example();
-    assert_eq!(rt; kept_in(alloc, areas)?, Some(second));
-    check_on(rt, alloc, RESUMED, areas)?;
-    check_on(rt, alloc, REFUSED, areas)
-}
-
 #[test]
-fn later_runs_go_on(rt: HostRuntime) -> Result<(), Fail> {
-    let areas = areas_after(&rt, rt.alloc(), &FIRST_RUN)?;
-    see_later_runs(&rt, rt.alloc(), &areas)
-}
-
-/// Whether a text is the lines of the reference's example from this one on.
-fn is_end(alloc: Global, got: &[u8], first: usize) -> Result<bool, Fail> {
-    let mut end = Vec::new(alloc);
-    add_lines(
-        &mut end,
-        &REFERENCE_LISTS[first.min(REFERENCE_LISTS.len())..],
-    )?;
-    Ok(got == end.as_slice())
-}
-
-/// Whether a text is the last lines of the reference's example, none or all among them.
-fn is_some_end(alloc: Global, got: &[u8]) -> Result<bool, Fail> {
-    for first in 0..=REFERENCE_LISTS.len() {
-        if is_end(alloc, got, first)? {
-            return Ok(true);
-        }
-    }
-    Ok(false)
-}
-
-/// Sees that a run was done, listed the last lines of the reference's example, and told its report.
-fn see_end<R: Abort>(rt: &R, alloc: Global, ran: &Ran) -> Result<(), Fail> {
-    assert_eq!(rt; ran.status, 0);
-    assert!(rt; is_some_end(alloc, ran.out.bytes().as_slice())?);
-    let told = told_of(alloc, &FIRST_RUN)?;
-    compare(rt, alloc, ran.err.bytes(), told, true, "the report")
+fn later_runs_go_on(rt: HostRuntime) {
+    check(&rt, rt.alloc(), RESUMED);
+    check(&rt, rt.alloc(), REFUSED);
 }
 
 /// A first run with hands.
 const FIRST_WITH_HANDS: Row = Row {
     words: Words::Find("--slack 0ms --batch 1 --hands 2 --checkpoint c --every 1"),
+    kept: None,
     ..FIRST_RUN
 };
 
-/// A run with hands that goes on from it.
-const LATER_WITH_HANDS: Row = second_run!(
+/// A run with hands that goes on from it, and lists the last lines.
+static LATER_WITH_HANDS: &[Row] = &[second_run!(
     "hands again",
+    listed: REFERENCE_LISTS,
+    share: Share::End,
     words: Words::Find("--slack 0ms --batch 2 --hands 3 --checkpoint c --every 1"),
-);
-
-/// Sees that a run with hands goes on from a first one.
-fn see_later<R: Threads + Wait + Sync + Abort>(rt: &R, alloc: Global) -> Result<(), Fail> {
-    let areas = areas_after(rt, alloc, &FIRST_WITH_HANDS)?;
-    let disk = disk_of(alloc, &areas, &[], None)?;
-    let (ran, disk) = run_on(rt, alloc, &LATER_WITH_HANDS, disk, &[])?;
-    drop(disk);
-    see_end(rt, alloc, &ran)
-}
+    held: Held::FirstWithHands,
+)];
 
 /// Which rounds end with a cut depends on what hands read meanwhile. Whatever cut is the last one, a later run lists the lines
 /// behind those that it counts.
 #[test]
-fn later_runs_go_on_from_runs_with_hands(rt: HostRuntime) -> Result<(), Fail> {
-    for _ in 0..3u32 {
-        see_later(&rt, rt.alloc())?;
-    }
-    Ok(())
+fn later_runs_go_on_from_runs_with_hands(rt: HostRuntime) {
+    check(&rt, rt.alloc(), LATER_WITH_HANDS);
+    check(&rt, rt.alloc(), LATER_WITH_HANDS);
+    check(&rt, rt.alloc(), LATER_WITH_HANDS);
 }
 
 /// The example behind a shard of one line.
@@ -227,21 +178,39 @@ static GROWN: &[Row] = &[Row {
     shard: &[Starts("1000 root vi"), Bytes(b" ")],
     listed: &[],
     status: 7,
-    told: Told::Line("checkpoint: Grown shard 0"),
+    told: Told::Lines(&["checkpoint: Grown shard 0"]),
+    held: Held::TwoShards,
     ..TWO_SHARDS
 }];
 
 #[test]
-fn shard_that_was_read_must_not_grow(rt: HostRuntime) -> Result<(), Fail> {
-    let areas = areas_after(&rt, rt.alloc(), &TWO_SHARDS)?;
-    check_on(&rt, rt.alloc(), GROWN, &areas)
+fn shard_that_was_read_must_not_grow(rt: HostRuntime) {
+    check(&rt, rt.alloc(), GROWN);
+}
+
+/// The first runs that leave what a disk holds.
+static EXAMPLE: Row = FIRST_RUN;
+
+static WITH_HANDS: Row = FIRST_WITH_HANDS;
+
+static OF_TWO_SHARDS: Row = TWO_SHARDS;
+
+/// The first run that leaves what a disk holds, where one does.
+pub(crate) fn first_run(held: Held) -> Option<&'static Row> {
+    match held {
+        Held::FirstRun | Held::DamagedBefore => Some(&EXAMPLE),
+        Held::FirstWithHands => Some(&WITH_HANDS),
+        Held::TwoShards => Some(&OF_TWO_SHARDS),
+        _ => None,
+    }
 }
 
 /// A first run that ends with a fault of the disk.
 const DISK_FAULT: Row = Row {
     listed: &[],
     status: 6,
-    told: Told::Line("checkpoint disk fault"),
+    told: Told::Lines(&["checkpoint disk fault"]),
+    kept: None,
     ..FIRST_RUN
 };
 
@@ -275,36 +244,34 @@ static FAULTS: &[Row] = &[
 
 /// Runs on disks that are damaged or hold a cut that can't be gone on from.
 static DAMAGED: &[Row] = &[
-    not_resumed!("a damaged area", "checkpoint: Damaged area 0 at 0"),
+    not_resumed!("a damaged area", "checkpoint: Damaged area 0 at 0", held: Held::Damaged),
     Row {
         shows: "a damaged area, by a first run",
         listed: &[],
         status: 7,
-        told: Told::Line("checkpoint: Damaged area 0 at 0"),
+        told: Told::Lines(&["checkpoint: Damaged area 0 at 0"]),
+        held: Held::Damaged,
+        kept: None,
         ..FIRST_RUN
     },
 ];
 
 /// A run on a disk whose older area is damaged.
-static DAMAGED_BEFORE: &[Row] = &[second_run!("a damaged area that is older")];
+static DAMAGED_BEFORE: &[Row] = &[
+    second_run!("a damaged area that is older", held: Held::DamagedBefore),
+];
 
 /// A run on a disk whose cut can't be gone on from.
-static UNFIT: &[Row] = &[not_resumed!("a cut that fits no run", "checkpoint: Unfit")];
-
-/// A damaged area, and in the other one the second cut of the first run, with generation 2.
-fn damaged_before<R: Threads + Wait + Sync + Abort>(rt: &R, alloc: Global) -> Result<Areas, Fail> {
-    let mut areas = areas_after(rt, alloc, &FIRST_RUN)?;
-    areas.first = damaged_disk(alloc)?.first;
-    Ok(areas)
-}
+static UNFIT: &[Row] = &[
+    not_resumed!("a cut that fits no run", "checkpoint: Unfit", held: Held::Unfit),
+];
 
 #[test]
-fn disks_fail_and_are_damaged(rt: HostRuntime) -> Result<(), Fail> {
-    let alloc = rt.alloc();
-    check(&rt, alloc, FAULTS)?;
-    check_on(&rt, alloc, DAMAGED, &damaged_disk(alloc)?)?;
-    check_on(&rt, alloc, DAMAGED_BEFORE, &damaged_before(&rt, alloc)?)?;
-    check_on(&rt, alloc, UNFIT, &unfit_disk(alloc)?)
+fn disks_fail_and_are_damaged(rt: HostRuntime) {
+    check(&rt, rt.alloc(), FAULTS);
+    check(&rt, rt.alloc(), DAMAGED);
+    check(&rt, rt.alloc(), DAMAGED_BEFORE);
+    check(&rt, rt.alloc(), UNFIT);
 }
 
 /// A run that puts a cut on a disk that has the last generation.
@@ -312,7 +279,8 @@ static LAST_GENERATION: &[Row] = &[second_run!(
     "the last generation",
     words: Words::Find("--slack 0ms --batch 1 --hands 0 --checkpoint c --every 1"),
     status: 9,
-    told: Told::Line("limit: generation"),
+    told: Told::Lines(&["limit: generation"]),
+    held: Held::LastGeneration,
 )];
 
 /// The example with a space in place of each line feed.
@@ -322,26 +290,29 @@ const SPACED: Pieces = &[Spaced(
 
 /// Runs on the disk that the first run left in format 1, of which no cut has places.
 static OF_FIRST_FORMAT: &[Row] = &[
-    second_run!("a cut without places"),
+    second_run!("a cut without places", held: Held::FirstFormat),
     second_run!(
         "a cut without places, and the places",
         listed: &[r#"2 ["elkbee"] 0:6@506 0:8@712 0:10@913"#],
+        held: Held::FirstFormat,
         words: Words::Find("--slack 0ms --batch 7 --hands 3 --places --checkpoint c --every 5"),
     ),
     not_resumed!(
         "a cut whose lines aren't there",
         "checkpoint: NoLine shard 0 line 6",
         shard: SPACED,
+        held: Held::FirstFormat,
     ),
 ];
 
 /// A run on the disk that the first run left in format 2.
-static OF_SECOND_FORMAT: &[Row] = &[second_run!("a cut with masks of 128 stages")];
+static OF_SECOND_FORMAT: &[Row] = &[
+    second_run!("a cut with masks of 128 stages", held: Held::SecondFormat),
+];
 
 #[test]
-fn cuts_of_older_formats_are_read(rt: HostRuntime) -> Result<(), Fail> {
-    let alloc = rt.alloc();
-    check_on(&rt, alloc, OF_FIRST_FORMAT, &disk_in(alloc, 1)?)?;
-    check_on(&rt, alloc, OF_SECOND_FORMAT, &disk_in(alloc, 2)?)?;
-    check_on(&rt, alloc, LAST_GENERATION, &last_disk(alloc)?)
+fn cuts_of_older_formats_are_read(rt: HostRuntime) {
+    check(&rt, rt.alloc(), OF_FIRST_FORMAT);
+    check(&rt, rt.alloc(), OF_SECOND_FORMAT);
+    check(&rt, rt.alloc(), LAST_GENERATION);
 }

@@ -2,26 +2,27 @@
 //!
 //! What both runs write is the listing together, each line under its number, and no cut is lost once it was put.
 use crate::checkpoints::{ALONE, BESIDE, FIRST_RUN};
-use crate::kept::{Kept, cut_at, kept_in, of_example};
-use crate::row::{Row, Words, found};
-use crate::run::{Areas, Ran, compare_run, disk_of, listed_of, run_on};
+use crate::kept::{AFTER_FIVE, AFTER_TEN, Kept, cut_at, generation_on, is_kept};
+use crate::row::{Row, Told, Words, found};
+use crate::run::{Areas, Ran, is_as_said, listed_of, run, see};
 use crate::sequences::REFERENCE;
 use crate::text::Piece::Starts;
+use eql_cli::NoGate;
 use eql_outside::MemDisk;
+use eql_values::Memory;
 use std::alloc::Global;
-use std::process::Abort;
 use std::sync::Wait;
-use std::test::Fail;
 use std::thread::Threads;
 
 /// A first run, the cuts that it puts, and a second run that goes on from what a crash leaves of each.
-#[derive(Clone, Copy)]
-struct Crash<'a> {
+struct Crash {
     first: Row,
-    cuts: &'a [Kept],
+    /// The first run where its disk stops.
+    stopped: Row,
+    cuts: &'static [Kept],
     second: Row,
-    /// The options of the second run where it goes on from the first thing that a crash may leave.
-    beside: &'static str,
+    /// The second run where it goes on from the first thing that a crash may leave.
+    beside: Row,
     /// How many of the things that a crash may leave are tried.
     images: u64,
 }
@@ -42,161 +43,166 @@ fn put_before(call: u64) -> u64 {
     call.saturating_sub(5) / 6
 }
 
-/// Sees that one of these cuts is kept, the last one that was put or the next.
-fn see_kept<R: Abort>(rt: &R, crash: &Crash<'_>, kept: Option<Kept>, put: u64) {
-    let generation = match kept {
-        Some(kept) => kept.generation,
-        None => 0,
-    };
-    assert!(rt;
-        generation == put || generation == put.saturating_add(1),
-        "{generation} of {put}"
-    );
-    let mut wanted = None;
-    for cut in crash.cuts {
-        if cut.generation == generation {
-            wanted = Some(*cut);
+/// How many lines were listed before the cut that a disk keeps, where that is the last one that was put, or the next.
+fn listed_before(areas: &Areas, cuts: &[Kept], put: u64) -> Option<u64> {
+    let generation = generation_on(areas);
+    if generation != put && generation != put.saturating_add(1) {
+        return None;
+    }
+    for cut in cuts {
+        if cut.generation == generation && is_kept(areas, cut) {
+            return Some(cut.listed);
         }
     }
-    assert_eq!(rt; kept, wanted);
+    if generation == 0 { Some(0) } else { None }
 }
 
-/// Goes on from what a crash left of a run's disk. What is listed then follows lines that the first run listed.
-fn go_on<R: Threads + Wait + Sync + Abort>(
+/// Whether a run that goes on gave what its row says, with these lines, and wrote with the first one, which wrote so many bytes,
+/// each line of the listing.
+fn is_rest(
+    alloc: Global,
+    row: &Row,
+    lines: &[&str],
+    ran: &Ran,
+    written: usize,
+    came: &mut String,
+) -> Result<bool, Memory> {
+    let both = ran.out.bytes().len().saturating_add(written);
+    Ok(
+        listed_of(alloc, row, row.listed)?.len() <= both
+            && is_as_said(alloc, row, lines, ran, came)?,
+    )
+}
+
+/// Whether a run goes on from one of the things that a crash may leave of a disk, once so many cuts were put and so many bytes
+/// were written.
+fn goes_on<R: Threads + Wait + Sync>(
     rt: &R,
     alloc: Global,
-    crash: &Crash<'_>,
-    second: &Row,
-    ran: &Ran,
+    crash: &Crash,
     areas: &Areas,
+    row: &Row,
     put: u64,
-) -> Result<(), Fail> {
-    let kept = kept_in(alloc, areas)?;
-    see_kept(rt, crash, kept, put);
-    let count = match kept {
-        Some(kept) => kept.listed,
-        None => 0,
+    written: usize,
+    came: &mut String,
+) -> Result<bool, Memory> {
+    let Some(count) = listed_before(areas, crash.cuts, put) else {
+        return Ok(false);
     };
-    let rest = Row {
-        listed: behind(second.listed, count),
-        ..*second
-    };
-    let disk = disk_of(alloc, areas, &[], None)?;
-    let (again, _) = run_on(rt, alloc, &rest, disk, &[])?;
-    see_whole(rt, alloc, crash, ran, &rest, &again)
-}
-
-/// Sees that a run that goes on gave what its row says, and that both wrote each line of the listing.
-fn see_whole<R: Abort>(
-    rt: &R,
-    alloc: Global,
-    crash: &Crash<'_>,
-    ran: &Ran,
-    rest: &Row,
-    again: &Ran,
-) -> Result<(), Fail> {
-    compare_run(rt, alloc, rest, again, &[])?;
-    let whole = listed_of(alloc, &crash.second)?.len();
-    let both = ran
-        .out
-        .bytes()
-        .len()
-        .saturating_add(again.out.bytes().len());
-    assert!(rt; whole <= both, "{both} of {whole}");
-    Ok(())
-}
-
-/// Goes on from one of the things that a crash may leave of a run's disk.
-fn go_on_from<R: Threads + Wait + Sync + Abort>(
-    rt: &R,
-    alloc: Global,
-    crash: &Crash<'_>,
-    ran: &Ran,
-    disk: &MemDisk,
-    choice: u64,
-    put: u64,
-) -> Result<(), Fail> {
-    let second = if choice == 0 {
-        Row {
-            words: Words::Find(crash.beside),
-            ..crash.second
-        }
-    } else {
-        crash.second
-    };
-    let areas = Areas::left_by(alloc, disk, choice)?;
-    go_on(rt, alloc, crash, &second, ran, &areas, put)
-}
-
-/// Stops the first run at a call of its disk, and goes on from what a crash may leave.
-fn stop_at<R: Threads + Wait + Sync + Abort>(
-    rt: &R,
-    alloc: Global,
-    crash: &Crash<'_>,
-    call: u64,
-) -> Result<u8, Fail> {
-    let disk = disk_of(alloc, &Areas::empty(alloc), &[], Some(call))?;
-    let (ran, disk) = run_on(rt, alloc, &crash.first, disk, &[])?;
-    let status = ran.status;
-    let seen = see_stopped(rt, alloc, crash, &ran, &disk, put_before(call));
+    let (ran, disk) = run(rt, alloc, row, &[], areas, None, &NoGate)?;
     drop(disk);
-    drop(ran);
-    match seen {
-        Ok(()) => Ok(status),
-        Err(fail) => Err(fail),
-    }
+    is_rest(alloc, row, behind(row.listed, count), &ran, written, came)
 }
 
-/// Sees that a first run was done or ended by its disk, and goes on from what a crash may leave.
-fn see_stopped<R: Threads + Wait + Sync + Abort>(
+/// Whether runs go on from each thing that a crash may leave of a disk, once so many cuts were put and so many bytes were written.
+fn go_on<R: Threads + Wait + Sync>(
     rt: &R,
     alloc: Global,
-    crash: &Crash<'_>,
+    crash: &Crash,
+    disk: &MemDisk,
+    put: u64,
+    written: usize,
+    came: &mut String,
+) -> Result<bool, Memory> {
+    for choice in 0..crash.images {
+        let row = if choice == 0 {
+            &crash.beside
+        } else {
+            &crash.second
+        };
+        let areas = Areas::left_by(alloc, disk, choice)?;
+        if !goes_on(rt, alloc, crash, &areas, row, put, written, came)? {
+            return Ok(false);
+        }
+    }
+    Ok(true)
+}
+
+/// Whether a first run was done, or ended by its disk.
+fn is_stopped(alloc: Global, crash: &Crash, ran: &Ran, came: &mut String) -> Result<bool, Memory> {
+    let row = if ran.status == 0 {
+        &crash.first
+    } else {
+        &crash.stopped
+    };
+    is_as_said(alloc, row, row.listed, ran, came)
+}
+
+/// Whether a first run gave what it should, and runs go on from whatever a crash may leave of its disk, once so many cuts were
+/// put. Returns its status then.
+fn is_gone_on<R: Threads + Wait + Sync>(
+    rt: &R,
+    alloc: Global,
+    crash: &Crash,
     ran: &Ran,
     disk: &MemDisk,
     put: u64,
-) -> Result<(), Fail> {
-    let row = if ran.status == 0 {
-        crash.first
-    } else {
-        crash.first.ends(6, "checkpoint disk fault")
-    };
-    compare_run(rt, alloc, &row, ran, &[])?;
-    for choice in 0..crash.images {
-        go_on_from(rt, alloc, crash, ran, disk, choice, put)?;
+    came: &mut String,
+) -> Result<Option<u8>, Memory> {
+    if !is_stopped(alloc, crash, ran, came)? {
+        return Ok(None);
     }
-    Ok(())
+    let goes_on = go_on(rt, alloc, crash, disk, put, ran.out.bytes().len(), came)?;
+    Ok(goes_on.then_some(ran.status))
 }
 
-/// Stops the first run at each call of its disk, until it isn't stopped any more.
-fn stop_at_each<R: Threads + Wait + Sync + Abort>(
+/// Stops the first run at a call of its disk, and goes on from whatever a crash may leave. Returns its status, where all is as it
+/// should be.
+fn stop_at<R: Threads + Wait + Sync>(
     rt: &R,
     alloc: Global,
-    crash: &Crash<'_>,
-) -> Result<(), Fail> {
+    crash: &Crash,
+    call: u64,
+    came: &mut String,
+) -> Result<Option<u8>, Memory> {
+    let start = Areas::empty(alloc);
+    let (ran, disk) = run(rt, alloc, &crash.first, &[], &start, Some(call), &NoGate)?;
+    drop(start);
+    is_gone_on(rt, alloc, crash, &ran, &disk, put_before(call), came)
+}
+
+/// Stops the first run at each call of its disk, until it isn't stopped any more, and returns whether all cuts were put by then.
+fn stop_at_each<R: Threads + Wait + Sync>(
+    rt: &R,
+    alloc: Global,
+    crash: &Crash,
+    came: &mut String,
+) -> Result<bool, Memory> {
     for call in 1..1000u64 {
-        if stop_at(rt, alloc, crash, call)? == 0 {
-            assert_eq!(rt; put_before(call), crash.cuts.len() as u64);
-            return Ok(());
+        match stop_at(rt, alloc, crash, call, came)? {
+            Some(0) => return Ok(put_before(call) == crash.cuts.len() as u64),
+            Some(_) => {}
+            None => return Ok(false),
         }
     }
-    Err(Fail::from("no run was done"))
+    Ok(false)
 }
+
+/// The first run of the example.
+static EXAMPLE: Crash = Crash {
+    first: FIRST_RUN,
+    stopped: Row {
+        status: 6,
+        told: Told::Lines(&["checkpoint disk fault"]),
+        ..FIRST_RUN
+    },
+    cuts: &[AFTER_FIVE, AFTER_TEN],
+    second: Row {
+        words: Words::Find(ALONE),
+        ..FIRST_RUN
+    },
+    beside: Row {
+        words: Words::Find(BESIDE),
+        ..FIRST_RUN
+    },
+    images: 16,
+};
 
 #[test]
-fn crash_loses_no_cut(rt: HostRuntime) -> Result<(), Fail> {
-    let cuts = of_example();
-    let crash = Crash {
-        first: FIRST_RUN,
-        cuts: &cuts,
-        second: Row {
-            words: Words::Find(ALONE),
-            ..FIRST_RUN
-        },
-        beside: BESIDE,
-        images: 16,
-    };
-    stop_at_each(&rt, rt.alloc(), &crash)
+fn crash_loses_no_cut(rt: HostRuntime) {
+    let mut came = String::new(rt.alloc());
+    let seen = stop_at_each(&rt, rt.alloc(), &EXAMPLE, &mut came);
+    see(&rt, seen, came.as_str());
 }
 
 /// Events of three shards by turns, each a second after the one before. Each line of a shard is a round.
@@ -218,29 +224,35 @@ const THREE_SHARDS: Row = found!(
     words: Words::Find("--slack 0ms --batch 1 --hands 0 --checkpoint c --every 1"),
 );
 
-/// The cuts that are kept over three shards, one each round.
-fn of_three_shards() -> [Kept; 5] {
-    [
-        cut_at(1, 1, 99, 0),
-        cut_at(2, 4, 196, 0),
-        cut_at(3, 7, 292, 0),
-        cut_at(4, 10, 392, 3),
-        cut_at(5, 13, 489, 3),
-    ]
-}
+/// The run over three shards. It keeps a cut each round.
+static IN_EACH_ROUND: Crash = Crash {
+    first: THREE_SHARDS,
+    stopped: Row {
+        status: 6,
+        told: Told::Lines(&["checkpoint disk fault"]),
+        ..THREE_SHARDS
+    },
+    cuts: &[
+        cut_at!(1, 1, 99, 0),
+        cut_at!(2, 4, 196, 0),
+        cut_at!(3, 7, 292, 0),
+        cut_at!(4, 10, 392, 3),
+        cut_at!(5, 13, 489, 3),
+    ],
+    second: Row {
+        words: Words::Find("--slack 0ms --batch 3 --hands 0 --checkpoint c --every 2"),
+        ..THREE_SHARDS
+    },
+    beside: Row {
+        words: Words::Find("--slack 0ms --batch 3 --hands 1 --checkpoint c --every 2"),
+        ..THREE_SHARDS
+    },
+    images: 4,
+};
 
 #[test]
-fn run_that_is_cut_off_in_any_round_is_gone_on_with(rt: HostRuntime) -> Result<(), Fail> {
-    let cuts = of_three_shards();
-    let crash = Crash {
-        first: THREE_SHARDS,
-        cuts: &cuts,
-        second: Row {
-            words: Words::Find("--slack 0ms --batch 3 --hands 0 --checkpoint c --every 2"),
-            ..THREE_SHARDS
-        },
-        beside: "--slack 0ms --batch 3 --hands 1 --checkpoint c --every 2",
-        images: 4,
-    };
-    stop_at_each(&rt, rt.alloc(), &crash)
+fn run_that_is_cut_off_in_any_round_is_gone_on_with(rt: HostRuntime) {
+    let mut came = String::new(rt.alloc());
+    let seen = stop_at_each(&rt, rt.alloc(), &IN_EACH_ROUND, &mut came);
+    see(&rt, seen, came.as_str());
 }

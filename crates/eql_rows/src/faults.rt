@@ -1,12 +1,12 @@
 //! Objects that fail: each call of a run in turn, and which of several causes is told. No fault is passed over.
-use crate::row::{Failing, Object, Row, Told, Words, ended, found, printed, refused, usage};
-use crate::run::{check, check_each, compare, compare_run, listed_of, run};
+use crate::row::{Failing, Object, Row, Share, Told, Words, ended, found, printed, refused, usage};
+use crate::run::{Areas, Ran, check, is_as_said, run, see};
 use crate::sequences::{ELEVEN, REFERENCE, REFERENCE_LISTS};
 use crate::text::Piece::{Bytes, Each, Events, Times};
+use eql_cli::NoGate;
+use eql_values::Memory;
 use std::alloc::Global;
-use std::process::Abort;
 use std::sync::Wait;
-use std::test::Fail;
 use std::thread::Threads;
 
 /// The first take of the query file.
@@ -291,12 +291,12 @@ static UNTOLD: &[Row] = &[
 ];
 
 #[test]
-fn faults_are_told(rt: HostRuntime) -> Result<(), Fail> {
-    check_each(
-        &rt,
-        rt.alloc(),
-        &[READS, SHELF_CALLS, UNREACHED, WRITES, UNTOLD],
-    )
+fn faults_are_told(rt: HostRuntime) {
+    check(&rt, rt.alloc(), READS);
+    check(&rt, rt.alloc(), SHELF_CALLS);
+    check(&rt, rt.alloc(), UNREACHED);
+    check(&rt, rt.alloc(), WRITES);
+    check(&rt, rt.alloc(), UNTOLD);
 }
 
 /// A shard of four lines that come in one take, read line by line with these options. The next take fails.
@@ -308,7 +308,8 @@ macro_rules! line_by_line {
             &[(Object::Shard(0), 2)],
             shard: &[Events("10 a, 20 a, 30 a, 40 a")],
             words: Words::Find($options),
-            piece: 1000
+            piece: 1000,
+            share: Share::Whole
             $(, $field: $value)*
         )
     };
@@ -341,21 +342,8 @@ static BEFORE_A_FAULT: &[Row] = &[
 ];
 
 #[test]
-fn matches_are_written_while_shards_are_read(rt: HostRuntime) -> Result<(), Fail> {
-    let alloc = rt.alloc();
-    for row in BEFORE_A_FAULT {
-        let ran = run(&rt, alloc, row, row.fails)?;
-        compare_run(&rt, alloc, row, &ran, row.fails)?;
-        compare(
-            &rt,
-            alloc,
-            ran.out.bytes(),
-            listed_of(alloc, row)?,
-            true,
-            row.shows,
-        )?;
-    }
-    Ok(())
+fn matches_are_written_while_shards_are_read(rt: HostRuntime) {
+    check(&rt, rt.alloc(), BEFORE_A_FAULT);
 }
 
 /// The search in which each call fails in turn, with these options.
@@ -373,61 +361,129 @@ macro_rules! whole {
     };
 }
 
-/// That search without hands, and beside two.
-const ALONE: Row = whole!("--batch 2 --hands 0");
-
-const BESIDE: Row = whole!("--batch 2 --hands 2");
-
-/// Lets one call of an object fail after another, until a run of the first row is done. Each run before has to end as the
-/// second row says, and there have to be at least so many.
-fn each_fails<R: Threads + Wait + Sync + Abort>(
-    rt: &R,
-    alloc: Global,
+/// An object of which each call fails in turn, how many calls it has at least, and how each of these runs ends.
+struct InTurn {
     object: Object,
-    row: &Row,
-    faulty: &Row,
     least: u64,
-) -> Result<(), Fail> {
-    for call in 1..1000u64 {
-        let fails = [(object, call)];
-        let ran = run(rt, alloc, faulty, &fails)?;
-        if ran.status == 0 {
-            assert!(rt; least < call, "{object:?} was called {call} times");
-            return compare_run(rt, alloc, row, &ran, &[]);
-        }
-        compare_run(rt, alloc, faulty, &ran, &fails)?;
-    }
-    Err(Fail::from("no run was done"))
+    faulty: Row,
 }
 
-/// Lets each call of each object fail in turn. The 139 bytes of the query come in two takes, the 226 of the mapping in three,
-/// and the 1,115 of the shard in twelve. One more sees the end.
-fn each_object_fails<R: Threads + Wait + Sync + Abort>(
+/// The objects of a search of which each call fails in turn. The 139 bytes of the query come in two takes, the 226 of the mapping
+/// in three, and the 1,115 of the shard in twelve. One more sees the end.
+macro_rules! each_in_turn {
+    ($options:expr) => {
+        &[
+            InTurn {
+                object: Object::Query,
+                least: 3,
+                faulty: whole!($options, status: 4, told: Told::Lines(&["read fault: q"])),
+            },
+            InTurn {
+                object: Object::Fields,
+                least: 4,
+                faulty: whole!($options, status: 4, told: Told::Lines(&["read fault: f"])),
+            },
+            InTurn {
+                object: Object::Shard(0),
+                least: 13,
+                faulty: whole!($options, status: 4, told: Told::Lines(&["read fault: s0"])),
+            },
+            InTurn {
+                object: Object::Out,
+                least: 1,
+                faulty: whole!($options, status: 5, told: Told::Lines(&["write fault"])),
+            },
+            InTurn {
+                object: Object::Err,
+                least: 1,
+                faulty: whole!($options, status: 5),
+            },
+        ]
+    };
+}
+
+/// Without hands, and beside two.
+static ALONE: &[InTurn] = each_in_turn!("--batch 2 --hands 0");
+
+static BESIDE: &[InTurn] = each_in_turn!("--batch 2 --hands 2");
+
+/// What a run of either gives where no call fails.
+static DONE: Row = whole!("--batch 2");
+
+/// Whether a run is done, where it ended as it should: with what the last row says, or as one does in which a call fails.
+fn is_done(
+    alloc: Global,
+    case: &InTurn,
+    ran: &Ran,
+    came: &mut String,
+) -> Result<Option<bool>, Memory> {
+    let is_done = ran.status == 0;
+    let row = if is_done { &DONE } else { &case.faulty };
+    let is_as_said = is_as_said(alloc, row, row.listed, ran, came)?;
+    Ok(is_as_said.then_some(is_done))
+}
+
+/// Lets a call of an object fail, and returns whether the run is done, where it ended as it should.
+fn fail_at<R: Threads + Wait + Sync>(
     rt: &R,
     alloc: Global,
-    row: &Row,
-) -> Result<(), Fail> {
-    let query = row.ends(4, "read fault: q");
-    each_fails(rt, alloc, Object::Query, row, &query, 3)?;
-    let fields = row.ends(4, "read fault: f");
-    each_fails(rt, alloc, Object::Fields, row, &fields, 4)?;
-    let shard = row.ends(4, "read fault: s0");
-    each_fails(rt, alloc, Object::Shard(0), row, &shard, 13)?;
-    let out = row.ends(5, "write fault");
-    each_fails(rt, alloc, Object::Out, row, &out, 1)?;
-    let err = Row { status: 5, ..*row };
-    each_fails(rt, alloc, Object::Err, row, &err, 1)
+    case: &InTurn,
+    call: u64,
+    came: &mut String,
+) -> Result<Option<bool>, Memory> {
+    let fails = [(case.object, call)];
+    let start = Areas::empty(alloc);
+    let (ran, disk) = run(rt, alloc, &case.faulty, &fails, &start, None, &NoGate)?;
+    drop(disk);
+    is_done(alloc, case, &ran, came)
+}
+
+/// Lets one call of an object fail after another, until a run is done. Returns whether each run ended as it should, and there
+/// are as many calls as there have to be at least.
+fn each_fails<R: Threads + Wait + Sync>(
+    rt: &R,
+    alloc: Global,
+    case: &InTurn,
+    came: &mut String,
+) -> Result<bool, Memory> {
+    for call in 1..1000u64 {
+        match fail_at(rt, alloc, case, call, came)? {
+            Some(true) => return Ok(case.least < call),
+            Some(false) => {}
+            None => return Ok(false),
+        }
+    }
+    Ok(false)
+}
+
+/// Lets each call of each of these objects fail in turn.
+fn all_fail<R: Threads + Wait + Sync>(
+    rt: &R,
+    alloc: Global,
+    cases: &[InTurn],
+    came: &mut String,
+) -> Result<bool, Memory> {
+    for case in cases {
+        if !each_fails(rt, alloc, case, came)? {
+            return Ok(false);
+        }
+    }
+    Ok(true)
 }
 
 #[test]
-fn each_call_fails_in_turn(rt: HostRuntime) -> Result<(), Fail> {
-    each_object_fails(&rt, rt.alloc(), &ALONE)
+fn each_call_fails_in_turn(rt: HostRuntime) {
+    let mut came = String::new(rt.alloc());
+    let seen = all_fail(&rt, rt.alloc(), ALONE, &mut came);
+    see(&rt, seen, came.as_str());
 }
 
 /// Where a hand meets the fault of a take the conductor reads on, so more may be listed than without hands.
 #[test]
-fn each_call_fails_in_turn_beside_hands(rt: HostRuntime) -> Result<(), Fail> {
-    each_object_fails(&rt, rt.alloc(), &BESIDE)
+fn each_call_fails_in_turn_beside_hands(rt: HostRuntime) {
+    let mut came = String::new(rt.alloc());
+    let seen = all_fail(&rt, rt.alloc(), BESIDE, &mut came);
+    see(&rt, seen, came.as_str());
 }
 
 /// Searches line by line in which the take at the end of the shard fails and, before it, another call.
@@ -435,31 +491,31 @@ static TWO_FAULTS: &[Row] = &[
     whole!(
         "--slack 0ms --batch 1 --hands 0",
         status: 5,
-        told: Told::Line("write fault"),
+        told: Told::Lines(&["write fault"]),
         fails: &[(Object::Shard(0), 13), OUT],
     ),
     whole!(
         "--slack 0ms --batch 1 --hands 2",
         status: 4,
-        told: Told::Line("read fault: s0"),
+        told: Told::Lines(&["read fault: s0"]),
         fails: &[(Object::Shard(0), 13), OUT],
     ),
     whole!(
         "--slack 0ms --batch 1 --hands 0 --checkpoint c --every 5",
         status: 6,
-        told: Told::Line("checkpoint disk fault"),
+        told: Told::Lines(&["checkpoint disk fault"]),
         fails: &[(Object::Shard(0), 13), (Object::Disk, 5)],
     ),
     whole!(
         "--slack 0ms --batch 1 --hands 2 --checkpoint c --every 5",
         status: 4,
-        told: Told::Line("read fault: s0"),
+        told: Told::Lines(&["read fault: s0"]),
         fails: &[(Object::Shard(0), 13), (Object::Disk, 5)],
     ),
 ];
 
 /// Without hands a run stops at the first fault. Hands read on, and of several faults a read fault is told.
 #[test]
-fn read_fault_is_told_before_others(rt: HostRuntime) -> Result<(), Fail> {
-    check(&rt, rt.alloc(), TWO_FAULTS)
+fn read_fault_is_told_before_others(rt: HostRuntime) {
+    check(&rt, rt.alloc(), TWO_FAULTS);
 }

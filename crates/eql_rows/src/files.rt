@@ -1,60 +1,71 @@
 //! Searches in files of the system.
-use crate::run::{Ran, words_in};
+use crate::row::{Row, Words, ended};
+use crate::run::{is_as_said, see, words_of};
 use eql_cli::{NoGate, eql_main};
 use eql_outside::{FileShelf, MemSink, Shelf};
+use eql_values::Memory;
 use std::alloc::Global;
-use std::process::Abort;
 use std::sync::Wait;
-use std::test::Fail;
 use std::thread::Threads;
 
-/// Words, with the status and the line of each run. A folder opens, and fails at its first read. A path through a file is no
-/// file.
-static RUNS: &[(&str, u8, &str)] = &[
-    ("find --query / --fields f s", 4, "read fault: /\n"),
-    (
-        "find --query /dev/null/q --fields f s",
+/// A folder opens, and fails at its first read. A path through a file is no file.
+static RUNS: &[Row] = &[
+    ended!("a folder", 4, "read fault: /", words: Words::Line("find --query / --fields f s")),
+    ended!(
+        "a path through a file",
         1,
-        "no file /dev/null/q\n",
+        "no file /dev/null/q",
+        words: Words::Line("find --query /dev/null/q --fields f s"),
     ),
-    (
-        "find --query /dev/null --fields f s",
+    ended!(
+        "an empty file",
         3,
-        "parse: Syntax at 0\n",
+        "parse: Syntax at 0",
+        words: Words::Line("find --query /dev/null --fields f s"),
     ),
-    (
-        "check --query /dev/no-such-file --fields f",
+    ended!(
+        "no file",
         1,
-        "no file /dev/no-such-file\n",
+        "no file /dev/no-such-file",
+        words: Words::Line("check --query /dev/no-such-file --fields f"),
     ),
 ];
 
-/// Sees that a run ended with this status, listed nothing and told this.
-fn see_told<R: Abort>(rt: &R, ran: &Ran, status: u8, told: &[u8]) {
-    assert_eq!(rt; ran.status, status);
-    assert!(rt; ran.out.bytes().is_empty());
-    assert_eq!(rt; ran.err.bytes().as_slice(), told);
-}
-
-/// Runs words over a shelf.
-fn run_words<R: Threads + Wait + Sync, H: Shelf>(
+/// Runs the words of a row over a shelf, and returns whether it gave what the row says.
+fn goes<R: Threads + Wait + Sync, H: Shelf>(
     rt: &R,
     alloc: Global,
-    line: &str,
+    row: &Row,
     shelf: &mut H,
-) -> Result<Ran, Fail> {
-    let words = words_in(alloc, line)?;
+    came: &mut String,
+) -> Result<bool, Memory> {
+    let words = words_of(alloc, row)?;
     let out = MemSink::new(alloc, Vec::new(alloc));
     let err = MemSink::new(alloc, Vec::new(alloc));
-    Ok(eql_main(rt, alloc, &words, shelf, out, err, &NoGate))
+    let ran = eql_main(rt, alloc, &words, shelf, out, err, &NoGate);
+    is_as_said(alloc, row, row.listed, &ran, came)
+}
+
+/// Runs the words of each row over a shelf.
+fn all_go<R: Threads + Wait + Sync, H: Shelf>(
+    rt: &R,
+    alloc: Global,
+    shelf: &mut H,
+    came: &mut String,
+) -> Result<bool, Memory> {
+    for row in RUNS {
+        if !goes(rt, alloc, row, shelf, came)? {
+            return Ok(false);
+        }
+    }
+    Ok(true)
 }
 
 #[test]
-fn files_of_the_system_are_opened(rt: HostRuntime) -> Result<(), Fail> {
-    for &(line, status, told) in RUNS {
-        let mut shelf = FileShelf::new(rt.clone()?);
-        let ran = run_words(&rt, rt.alloc(), line, &mut shelf)?;
-        see_told(&rt, &ran, status, told.as_bytes());
-    }
-    Ok(())
+fn files_of_the_system_are_opened(rt: HostRuntime) {
+    let mut came = String::new(rt.alloc());
+    let mut shelf = FileShelf::new(rt.clone().expect(&rt, "memory"));
+    let seen = all_go(&rt, rt.alloc(), &mut shelf, &mut came);
+    drop(shelf);
+    see(&rt, seen, came.as_str());
 }

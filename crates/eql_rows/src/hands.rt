@@ -1,14 +1,10 @@
 //! Hands of a run beside each other.
 use crate::row::{Row, Words, found};
-use crate::run::{Areas, compare_run, disk_of, run_through};
+use crate::run::check_through;
 use crate::sequences::{ELEVEN, REFERENCE, REFERENCE_LISTS};
 use eql_cli::{Gate, Moment};
-use std::alloc::Global;
-use std::process::Abort;
-use std::sync::Wait;
 use std::sync::atomic::{AtomicBool, AtomicU32, Ordering};
-use std::test::Fail;
-use std::thread::{Threads, yield_now};
+use std::thread::yield_now;
 
 /// How often a hand looks for another one before it gives up.
 const LOOKS: u32 = 100_000_000;
@@ -63,36 +59,22 @@ impl Gate for FirstHeld {
 }
 
 /// A search with four hands.
-const FOUR_HANDS: Row = found!(
+static FOUR_HANDS: &[Row] = &[found!(
     "hands beside each other",
     REFERENCE,
     ELEVEN,
     REFERENCE_LISTS,
     words: Words::Find("--hands 4"),
-);
-
-/// Sees that the search lists what it has to, whatever its hands meet at a gate.
-fn search_through<R: Threads + Wait + Sync + Abort>(
-    rt: &R,
-    alloc: Global,
-    gate: &FirstHeld,
-) -> Result<(), Fail> {
-    let disk = disk_of(alloc, &Areas::empty(alloc), &[], None)?;
-    let (ran, disk) = run_through(rt, alloc, &FOUR_HANDS, disk, &[], gate)?;
-    drop(disk);
-    compare_run(rt, alloc, &FOUR_HANDS, &ran, &[])
-}
+)];
 
 /// While a hand is held between two of its steps another one plays, so both are on threads of their own.
 #[test]
-fn hands_play_beside_each_other(rt: HostRuntime) -> Result<(), Fail> {
+fn hands_play_beside_each_other(rt: HostRuntime) {
     let gate = FirstHeld {
         held: AtomicBool::new(false),
         first: AtomicU32::new(0),
         met: AtomicBool::new(false),
     };
-    let searched = search_through(&rt, rt.alloc(), &gate);
-    assert!(rt; gate.held.load(Ordering::SeqCst));
-    assert!(rt; gate.met.load(Ordering::SeqCst));
-    searched
+    check_through(&rt, rt.alloc(), FOUR_HANDS, &gate);
+    assert!(rt; gate.held.load(Ordering::SeqCst) && gate.met.load(Ordering::SeqCst));
 }

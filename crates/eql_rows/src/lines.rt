@@ -1,10 +1,9 @@
 //! Lines of shards: blank, rejected and late ones, forms of times, and the pipes behind a search.
 use crate::row::{Row, Told, Words, found, rejected};
-use crate::run::{check, check_each};
+use crate::run::check;
 use crate::sequences::{ELEVEN, REFERENCE, REFERENCE_LISTS};
 use crate::text::Piece::{Bytes, Events, Lines, Times};
 use crate::text::Pieces;
-use std::test::Fail;
 
 /// How lines are split, and which are left out.
 static SPLITS: &[Row] = &[
@@ -305,16 +304,18 @@ static PIPES: &[Row] = &[
 ];
 
 #[test]
-fn lines_are_read(rt: HostRuntime) -> Result<(), Fail> {
-    check_each(&rt, rt.alloc(), &[SPLITS, REASONS, TIMES])
+fn lines_are_read(rt: HostRuntime) {
+    check(&rt, rt.alloc(), SPLITS);
+    check(&rt, rt.alloc(), REASONS);
+    check(&rt, rt.alloc(), TIMES);
 }
 
 #[test]
-fn long_lines_are_read(rt: HostRuntime) -> Result<(), Fail> {
-    check(&rt, rt.alloc(), LONG_LINES)
+fn long_lines_are_read(rt: HostRuntime) {
+    check(&rt, rt.alloc(), LONG_LINES);
 }
 
 #[test]
-fn pipes_let_matches_through(rt: HostRuntime) -> Result<(), Fail> {
-    check(&rt, rt.alloc(), PIPES)
+fn pipes_let_matches_through(rt: HostRuntime) {
+    check(&rt, rt.alloc(), PIPES);
 }

@@ -3,10 +3,11 @@
 //! A row is made by a macro that says only what differs from a search for any event in an empty shard. Behind what all
 //! rows of its sort say, it takes further fields, as `found!(shows, query, shard, listed, piece: 1000)`. So a table can be
 //! a `static`, which a check reads as one value. An array of rows that functions make costs half a second for each call.
+use crate::kept::Kept;
 use crate::text::{Piece, Pieces};
 
 /// What a run calls, where a call may fail.
-#[derive(Clone, Copy, Debug, PartialEq, Eq)]
+#[derive(Clone, Copy, PartialEq, Eq)]
 pub(crate) enum Object {
     /// The query file, by its takes.
     Query,
@@ -43,12 +44,44 @@ pub(crate) enum Told {
     Accepted,
     /// The three lines of words that make no command.
     Usage,
-    /// The report of a search in one line, which was rejected for this reason.
-    Rejected(&'static str),
-    /// This line.
-    Line(&'static str),
     /// These lines.
     Lines(&'static [&'static str]),
+}
+
+/// What the disk of a checkpoint holds where a run begins.
+#[derive(Clone, Copy)]
+pub(crate) enum Held {
+    /// Nothing.
+    Nothing,
+    /// What the first run of the example left.
+    FirstRun,
+    /// The same, but for its first area, which is damaged.
+    DamagedBefore,
+    /// What a first run with hands left.
+    FirstWithHands,
+    /// What the first run over two shards left.
+    TwoShards,
+    /// The cuts of the first run in format 1.
+    FirstFormat,
+    /// The cuts of the first run in format 2.
+    SecondFormat,
+    /// A cut of the last generation that there is.
+    LastGeneration,
+    /// A cut that fits no run.
+    Unfit,
+    /// A damaged area.
+    Damaged,
+}
+
+/// How much of what a row lists its output gets.
+#[derive(Clone, Copy)]
+pub(crate) enum Share {
+    /// All on status 0, and where the error output failed. Else a front.
+    Front,
+    /// All.
+    Whole,
+    /// The last lines, none or all among them.
+    End,
 }
 
 /// A worked run. The query file is named `q`, the fields file `f`, and the shards `s0`, `s1` and so on.
@@ -64,14 +97,21 @@ pub(crate) struct Row {
     pub(crate) shard: Pieces,
     /// The shards behind the first.
     pub(crate) more: &'static [Pieces],
+    /// How many further shards stand behind these, each as the first.
+    pub(crate) copies: usize,
     /// How many bytes a take gives at most.
     pub(crate) piece: usize,
+    /// What the disk holds before.
+    pub(crate) held: Held,
     pub(crate) fails: &'static [Failing],
     pub(crate) status: u8,
-    /// The lines that the output gets. On a status above 0 it may get a front of them.
+    /// The lines of which the output gets a share.
     pub(crate) listed: &'static [&'static str],
-    /// What it gets behind these lines.
+    /// What stands behind these lines.
     pub(crate) rest: Pieces,
+    pub(crate) share: Share,
+    /// The cut that its disk holds then, where the row says it.
+    pub(crate) kept: Option<Kept>,
     pub(crate) told: Told,
 }
 
@@ -84,11 +124,15 @@ pub(crate) const PLAIN: Row = Row {
     fields: &[Piece::AllFields],
     shard: &[],
     more: &[],
+    copies: 0,
     piece: 7,
+    held: Held::Nothing,
     fails: &[],
     status: 0,
     listed: &[],
     rest: &[],
+    share: Share::Front,
+    kept: None,
     told: Told::Accepted,
 };
 
@@ -128,7 +172,7 @@ macro_rules! ended {
         $crate::row::Row {
             shows: $shows,
             status: $status,
-            told: $crate::row::Told::Line($line),
+            told: $crate::row::Told::Lines(&[$line]),
             $($field: $value,)*
             ..$crate::row::PLAIN
         }
@@ -169,7 +213,10 @@ macro_rules! rejected {
             "any where process.pid == null",
             $shard,
             &[],
-            told: $crate::row::Told::Rejected($reason)
+            told: $crate::row::Told::Lines(&[concat!(
+                "shard 0: lines 1 accepted 0 late 0 rejected 1 first 1 ",
+                $reason
+            )])
             $(, $field: $value)*
         )
     };
@@ -190,14 +237,3 @@ macro_rules! usage {
 }
 
 pub(crate) use usage;
-
-impl Row {
-    /// The row with this status and this line in place of its report.
-    pub(crate) fn ends(self, status: u8, line: &'static str) -> Row {
-        Row {
-            status,
-            told: Told::Line(line),
-            ..self
-        }
-    }
-}

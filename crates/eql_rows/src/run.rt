@@ -1,12 +1,15 @@
 //! One run of the program over files in memory, and what it has to give.
-use crate::row::{Failing, Object, Row, Told, Words};
-use crate::text::{add_lines, add_pieces, line_count, text_of};
+use crate::checkpoints::first_run;
+use crate::cuts::write_areas;
+use crate::kept::is_kept;
+use crate::row::{Failing, Object, Row, Share, Told, Words};
+use crate::text::{Pieces, add_lines, add_pieces, line_count};
 use eql_cli::{Ended, Gate, NoGate, eql_main};
-use eql_outside::{MemDisk, MemFile, MemShelf, MemSink};
-use std::alloc::Global;
+use eql_outside::{MemDisk, MemFile, MemShelf, MemSink, Sink};
+use eql_values::Memory;
+use std::alloc::{AllocError, Global};
 use std::process::Abort;
 use std::sync::Wait;
-use std::test::Fail;
 use std::thread::Threads;
 
 /// What is told of words that make no command.
@@ -36,14 +39,14 @@ impl Areas {
     }
 
     /// What a crash may leave of a disk.
-    pub(crate) fn left_by(alloc: Global, disk: &MemDisk, choice: u64) -> Result<Areas, Fail> {
+    pub(crate) fn left_by(alloc: Global, disk: &MemDisk, choice: u64) -> Result<Areas, Memory> {
         let (first, second) = disk.crashed(alloc, choice)?;
         Ok(Areas { first, second })
     }
 }
 
 /// The numbers of the calls of an object that fail.
-fn failing(alloc: Global, fails: &[Failing], object: Object) -> Result<Vec<u64>, Fail> {
+fn failing(alloc: Global, fails: &[Failing], object: Object) -> Result<Vec<u64>, Memory> {
     let mut numbers = Vec::new(alloc);
     for (of, number) in fails {
         if *of == object {
@@ -53,334 +56,328 @@ fn failing(alloc: Global, fails: &[Failing], object: Object) -> Result<Vec<u64>,
     Ok(numbers)
 }
 
-/// Adds a file of these bytes, of which a take gives at most so many.
-pub(crate) fn push_file(
-    alloc: Global,
-    files: &mut Vec<MemFile>,
-    name: &str,
-    bytes: Vec<u8>,
-    piece: usize,
-    fails: Vec<u64>,
-) -> Result<(), Fail> {
-    let name = String::from_str(alloc, name)?;
-    files.push(MemFile {
-        name,
-        bytes,
-        piece: piece.max(1),
-        fails,
-    })?;
-    Ok(())
-}
-
-/// The texts of the shards of a row.
-fn shards_of(alloc: Global, row: &Row) -> Result<Vec<Vec<u8>>, Fail> {
-    let mut texts = Vec::new(alloc);
-    texts.push(text_of(alloc, row.shard)?)?;
-    for shard in row.more {
-        texts.push(text_of(alloc, *shard)?)?;
+/// The pieces of a file of a row.
+fn pieces_of(row: &Row, object: Object) -> Pieces {
+    match object {
+        Object::Query => row.behind,
+        Object::Fields => row.fields,
+        Object::Shard(number) if 0 < number && number <= row.more.len() => row.more[number - 1],
+        _ => row.shard,
     }
-    Ok(texts)
 }
 
-/// The text of a row's query file.
-fn query_of(alloc: Global, row: &Row) -> Result<Vec<u8>, Fail> {
-    let mut bytes = Vec::from_slice(alloc, row.query.as_bytes())?;
-    add_pieces(alloc, &mut bytes, row.behind)?;
-    Ok(bytes)
-}
-
-/// Adds the files of a row with these shards.
-fn push_files(
-    alloc: Global,
-    files: &mut Vec<MemFile>,
-    row: &Row,
-    shards: Vec<Vec<u8>>,
-    fails: &[Failing],
-) -> Result<(), Fail> {
-    let query = query_of(alloc, row)?;
-    let query_fails = failing(alloc, fails, Object::Query)?;
-    push_file(alloc, files, "q", query, row.piece, query_fails)?;
-    let fields = text_of(alloc, row.fields)?;
-    let fields_fail = failing(alloc, fails, Object::Fields)?;
-    push_file(alloc, files, "f", fields, row.piece, fields_fail)?;
-    let mut number = 0usize;
-    for shard in shards {
-        let shard_fails = failing(alloc, fails, Object::Shard(number))?;
-        let name = format!(in alloc; "s{number}")?;
-        push_file(alloc, files, name.as_str(), shard, row.piece, shard_fails)?;
-        number = number.saturating_add(1);
+/// The text of a file of a row.
+fn text_of(alloc: Global, row: &Row, object: Object) -> Result<Vec<u8>, Memory> {
+    let mut text = Vec::new(alloc);
+    if object == Object::Query {
+        text.extend_from_slice(row.query.as_bytes())?;
     }
-    Ok(())
+    add_pieces(alloc, &mut text, pieces_of(row, object))?;
+    Ok(text)
 }
 
-/// The files of a row with these shards.
-fn files_of(
-    alloc: Global,
-    row: &Row,
-    shards: Vec<Vec<u8>>,
-    fails: &[Failing],
-) -> Result<Vec<MemFile>, Fail> {
+/// The name of a file.
+fn name_of(alloc: Global, object: Object) -> Result<String, Memory> {
+    let name = match object {
+        Object::Query => String::from_str(alloc, "q"),
+        Object::Shard(number) => format!(in alloc; "s{number}"),
+        _ => String::from_str(alloc, "f"),
+    };
+    Ok(name?)
+}
+
+/// A file of a row, with these calls failing.
+fn file_of(alloc: Global, row: &Row, fails: &[Failing], object: Object) -> Result<MemFile, Memory> {
+    Ok(MemFile {
+        name: name_of(alloc, object)?,
+        bytes: text_of(alloc, row, object)?,
+        piece: row.piece.max(1),
+        fails: failing(alloc, fails, object)?,
+    })
+}
+
+/// How many shards a row has.
+fn shard_count(row: &Row) -> usize {
+    row.more.len().saturating_add(row.copies).saturating_add(1)
+}
+
+/// The files of a row, with these calls failing.
+fn files_of(alloc: Global, row: &Row, fails: &[Failing]) -> Result<Vec<MemFile>, Memory> {
     let mut files = Vec::new(alloc);
-    push_files(alloc, &mut files, row, shards, fails)?;
+    files.push(file_of(alloc, row, fails, Object::Query)?)?;
+    files.push(file_of(alloc, row, fails, Object::Fields)?)?;
+    for number in 0..shard_count(row) {
+        files.push(file_of(alloc, row, fails, Object::Shard(number))?)?;
+    }
     Ok(files)
 }
 
-/// Adds the words of a line.
-fn add_words(alloc: Global, words: &mut Vec<String>, line: &str) -> Result<(), Fail> {
-    for word in line.split(' ') {
-        words.push(String::from_str(alloc, word)?)?;
+/// Adds the words of a line, which have a space between each two. An empty line has none.
+fn add_words(alloc: Global, words: &mut Vec<String>, line: &str) -> Result<(), Memory> {
+    if !line.is_empty() {
+        for word in line.split(' ') {
+            words.push(String::from_str(alloc, word)?)?;
+        }
     }
     Ok(())
 }
 
-/// The words of a line, which have a space between each two. An empty line has none.
-pub(crate) fn words_in(alloc: Global, line: &str) -> Result<Vec<String>, Fail> {
-    let mut words = Vec::new(alloc);
-    if !line.is_empty() {
-        add_words(alloc, &mut words, line)?;
-    }
-    Ok(words)
-}
-
-/// The words of a search in so many shards, with these options.
-pub(crate) fn find_words(alloc: Global, options: &str, shards: usize) -> Result<Vec<String>, Fail> {
-    let mut words = Vec::new(alloc);
-    add_words(alloc, &mut words, "find --query q --fields f")?;
-    if !options.is_empty() {
-        add_words(alloc, &mut words, options)?;
-    }
+/// Adds the names of so many shards.
+fn add_shards(alloc: Global, words: &mut Vec<String>, shards: usize) -> Result<(), Memory> {
     for number in 0..shards {
-        words.push(format!(in alloc; "s{number}")?)?;
+        words.push(name_of(alloc, Object::Shard(number))?)?;
+    }
+    Ok(())
+}
+
+/// The words of a row.
+pub(crate) fn words_of(alloc: Global, row: &Row) -> Result<Vec<String>, Memory> {
+    let mut words = Vec::new(alloc);
+    match row.words {
+        Words::Find(options) => {
+            add_words(alloc, &mut words, "find --query q --fields f")?;
+            add_words(alloc, &mut words, options)?;
+            add_shards(alloc, &mut words, shard_count(row))?;
+        }
+        Words::Line(line) => add_words(alloc, &mut words, line)?,
     }
     Ok(words)
 }
 
-/// The words of a row with so many shards.
-fn words_of(alloc: Global, row: &Row, shards: usize) -> Result<Vec<String>, Fail> {
-    match row.words {
-        Words::Find(options) => find_words(alloc, options, shards),
-        Words::Line(line) => words_in(alloc, line),
-    }
-}
-
-/// Runs words over files and a disk, with these calls of the outputs and the shelf failing, and hands the disk back. The
-/// hands pass a gate.
-fn run_beside<R: Threads + Wait + Sync, W: Gate + Sync>(
-    rt: &R,
-    alloc: Global,
-    words: &Vec<String>,
-    files: Vec<MemFile>,
-    disk: MemDisk,
-    fails: &[Failing],
-    gate: &W,
-) -> Result<(Ran, MemDisk), Fail> {
-    let out = MemSink::new(alloc, failing(alloc, fails, Object::Out)?);
-    let err = MemSink::new(alloc, failing(alloc, fails, Object::Err)?);
-    let mut shelf = MemShelf::new(alloc, files, disk, failing(alloc, fails, Object::Shelf)?)?;
-    let ran = eql_main(rt, alloc, words, &mut shelf, out, err, gate);
-    Ok((ran, shelf.into_disk()))
-}
-
-/// A disk with these areas, with these of its calls failing, and all from a number on.
-pub(crate) fn disk_of(
+/// A disk with these areas, with these calls failing, and all of its calls from a number on.
+fn disk_of(
     alloc: Global,
     areas: &Areas,
     fails: &[Failing],
     stop: Option<u64>,
-) -> Result<MemDisk, Fail> {
+) -> Result<MemDisk, Memory> {
     let (first, second) = (areas.first.clone()?, areas.second.clone()?);
     let fails = failing(alloc, fails, Object::Disk)?;
-    Ok(MemDisk::new(alloc, first, second, fails, stop)?)
+    MemDisk::new(alloc, first, second, fails, stop)
 }
 
-/// Runs words over files, with these calls of the outputs and the shelf failing.
-pub(crate) fn run_over<R: Threads + Wait + Sync>(
-    rt: &R,
-    alloc: Global,
-    words: &Vec<String>,
+/// An output with these calls failing.
+fn sink_of(alloc: Global, fails: &[Failing], object: Object) -> Result<MemSink, Memory> {
+    Ok(MemSink::new(alloc, failing(alloc, fails, object)?))
+}
+
+/// What a run gets beside its words.
+#[derive(Drop)]
+struct Given {
     files: Vec<MemFile>,
-    fails: &[Failing],
-) -> Result<Ran, Fail> {
-    let disk = disk_of(alloc, &Areas::empty(alloc), fails, None)?;
-    let (ran, _) = run_beside(rt, alloc, words, files, disk, fails, &NoGate)?;
-    Ok(ran)
+    fails: Vec<u64>,
+    out: MemSink,
+    err: MemSink,
 }
 
-/// Runs a row on a disk with these calls failing, and hands the disk back.
-pub(crate) fn run_on<R: Threads + Wait + Sync>(
+/// What a run of a row gets beside its words, with these calls failing.
+fn given_of(alloc: Global, row: &Row, fails: &[Failing]) -> Result<Given, Memory> {
+    Ok(Given {
+        files: files_of(alloc, row, fails)?,
+        fails: failing(alloc, fails, Object::Shelf)?,
+        out: sink_of(alloc, fails, Object::Out)?,
+        err: sink_of(alloc, fails, Object::Err)?,
+    })
+}
+
+/// Runs a row on a disk with these areas, with these calls failing, and all of the disk from a number on. The disk is handed
+/// back. The hands pass a gate.
+pub(crate) fn run<R: Threads + Wait + Sync, W: Gate + Sync>(
     rt: &R,
     alloc: Global,
     row: &Row,
-    disk: MemDisk,
     fails: &[Failing],
-) -> Result<(Ran, MemDisk), Fail> {
-    run_through(rt, alloc, row, disk, fails, &NoGate)
-}
-
-/// Runs a row on a disk with these calls failing, and hands the disk back. The hands pass a gate.
-pub(crate) fn run_through<R: Threads + Wait + Sync, W: Gate + Sync>(
-    rt: &R,
-    alloc: Global,
-    row: &Row,
-    disk: MemDisk,
-    fails: &[Failing],
+    areas: &Areas,
+    stop: Option<u64>,
     gate: &W,
-) -> Result<(Ran, MemDisk), Fail> {
-    let shards = shards_of(alloc, row)?;
-    let words = words_of(alloc, row, shards.len())?;
-    let files = files_of(alloc, row, shards, fails)?;
-    run_beside(rt, alloc, &words, files, disk, fails, gate)
+) -> Result<(Ran, MemDisk), Memory> {
+    let disk = disk_of(alloc, areas, fails, stop)?;
+    let words = words_of(alloc, row)?;
+    let given = given_of(alloc, row, fails)?;
+    let mut shelf = MemShelf::new(alloc, given.files, disk, given.fails)?;
+    let ran = eql_main(rt, alloc, &words, &mut shelf, given.out, given.err, gate);
+    Ok((ran, shelf.into_disk()))
 }
 
-/// Runs a row with these calls failing.
-pub(crate) fn run<R: Threads + Wait + Sync>(
-    rt: &R,
+/// Adds the report over a shard all of whose lines were accepted.
+fn add_report(
     alloc: Global,
-    row: &Row,
-    fails: &[Failing],
-) -> Result<Ran, Fail> {
-    let disk = disk_of(alloc, &Areas::empty(alloc), fails, None)?;
-    let (ran, _) = run_on(rt, alloc, row, disk, fails)?;
-    Ok(ran)
+    told: &mut Vec<u8>,
+    number: usize,
+    lines: usize,
+) -> Result<(), AllocError> {
+    let line = format!(in alloc;
+        "shard {number}: lines {lines} accepted {lines} late 0 rejected 0\n"
+    )?;
+    told.extend_from_slice(line.as_bytes())
 }
 
-/// The report over shards all of whose lines were accepted.
-fn accepted(alloc: Global, row: &Row) -> Result<Vec<u8>, Fail> {
-    let mut report = Vec::new(alloc);
-    let mut number = 0usize;
-    for shard in shards_of(alloc, row)? {
-        let lines = line_count(shard.as_slice());
-        let line = format!(in alloc;
-            "shard {number}: lines {lines} accepted {lines} late 0 rejected 0\n"
-        )?;
-        report.extend_from_slice(line.as_bytes())?;
-        number = number.saturating_add(1);
+/// Adds the report over shards all of whose lines were accepted.
+fn add_accepted(alloc: Global, told: &mut Vec<u8>, row: &Row) -> Result<(), Memory> {
+    for number in 0..shard_count(row) {
+        let lines = line_count(&text_of(alloc, row, Object::Shard(number))?);
+        add_report(alloc, told, number, lines)?;
     }
-    Ok(report)
+    Ok(())
 }
 
 /// What the error output of a row has to get.
-pub(crate) fn told_of(alloc: Global, row: &Row) -> Result<Vec<u8>, Fail> {
+fn told_of(alloc: Global, row: &Row) -> Result<Vec<u8>, Memory> {
     let mut told = Vec::new(alloc);
     match row.told {
-        Told::Accepted => return accepted(alloc, row),
+        Told::Accepted => add_accepted(alloc, &mut told, row)?,
         Told::Usage => add_lines(&mut told, USAGE)?,
-        Told::Rejected(reason) => {
-            let line = format!(in alloc;
-                "shard 0: lines 1 accepted 0 late 0 rejected 1 first 1 {reason}"
-            )?;
-            add_lines(&mut told, &[line.as_str()])?
-        }
-        Told::Line(line) => add_lines(&mut told, &[line])?,
         Told::Lines(lines) => add_lines(&mut told, lines)?,
     }
     Ok(told)
 }
 
-/// What the output of a row has to get.
-pub(crate) fn listed_of(alloc: Global, row: &Row) -> Result<Vec<u8>, Fail> {
+/// What the output of a row has to get, with these lines.
+pub(crate) fn listed_of(alloc: Global, row: &Row, lines: &[&str]) -> Result<Vec<u8>, Memory> {
     let mut listed = Vec::new(alloc);
-    add_lines(&mut listed, row.listed)?;
+    add_lines(&mut listed, lines)?;
     add_pieces(alloc, &mut listed, row.rest)?;
     Ok(listed)
 }
 
-/// Sees that an output got this text, whole or a front of it.
-pub(crate) fn compare<R: Abort>(
-    rt: &R,
-    alloc: Global,
-    got: &Vec<u8>,
-    wanted: Vec<u8>,
-    whole: bool,
-    shows: &str,
-) -> Result<(), Fail> {
-    let got = String::from_utf8_lossy(alloc, got.as_slice())?;
-    let wanted = String::from_utf8_lossy(alloc, wanted.as_slice())?;
-    if whole {
-        assert_eq!(rt; got.as_str(), wanted.as_str(), "{shows}");
+/// Whether an output got this share of a text.
+fn is_share(got: &[u8], wanted: &[u8], share: Share) -> bool {
+    match share {
+        Share::Whole => got == wanted,
+        Share::Front => wanted.starts_with(got),
+        Share::End => match wanted.strip_suffix(got) {
+            Some(front) => front.is_empty() || front.ends_with(b"\n"),
+            None => false,
+        },
+    }
+}
+
+/// Whether a run gave what the row says, with these lines as its listing: its status, and on both outputs the whole texts, but
+/// for an error output that failed, and the listing of a run that stopped for another cause.
+fn gave(alloc: Global, row: &Row, lines: &[&str], ran: &Ran) -> Result<bool, Memory> {
+    let err_failed = 0 < ran.err.faults();
+    let share = match row.share {
+        Share::Front if row.status == 0 || err_failed => Share::Whole,
+        share => share,
+    };
+    let told_share = if err_failed {
+        Share::Front
     } else {
-        assert!(rt; wanted.as_str().starts_with(got.as_str()), "{shows}: {got}");
-    }
-    Ok(())
+        Share::Whole
+    };
+    Ok(
+        ran.status == row.status
+            && is_share(ran.out.bytes(), &listed_of(alloc, row, lines)?, share)
+            && is_share(ran.err.bytes(), &told_of(alloc, row)?, told_share),
+    )
 }
 
-/// Sees that a run with these calls failing gave what the row says: its status, and on both outputs the whole texts, but for
-/// an output that failed, and the listing of a run that stopped for another cause.
-pub(crate) fn compare_run<R: Abort>(
-    rt: &R,
+/// Adds bytes as a text.
+fn add_bytes(alloc: Global, came: &mut String, bytes: &[u8]) -> Result<(), AllocError> {
+    came.push_str(String::from_utf8_lossy(alloc, bytes)?.as_str())
+}
+
+/// Adds what came of a row: its words, both outputs and the status.
+fn add_came(alloc: Global, row: &Row, ran: &Ran, came: &mut String) -> Result<(), AllocError> {
+    came.push_str(row.shows)?;
+    came.push_str(":\n")?;
+    add_bytes(alloc, came, ran.out.bytes())?;
+    add_bytes(alloc, came, ran.err.bytes())?;
+    came.push_str(format!(in alloc; "status {}", ran.status)?.as_str())
+}
+
+/// Whether a run gave what the row says, with these lines as its listing. What came is added where it didn't.
+pub(crate) fn is_as_said(
     alloc: Global,
     row: &Row,
+    lines: &[&str],
     ran: &Ran,
-    fails: &[Failing],
-) -> Result<(), Fail> {
-    assert_eq!(rt; ran.status, row.status, "status: {}", row.shows);
-    let err_fails = !failing(alloc, fails, Object::Err)?.is_empty();
-    let listed = listed_of(alloc, row)?;
-    let out_whole = row.status == 0 || err_fails;
-    compare(rt, alloc, ran.out.bytes(), listed, out_whole, row.shows)?;
-    let told = told_of(alloc, row)?;
-    compare(rt, alloc, ran.err.bytes(), told, !err_fails, row.shows)
+    came: &mut String,
+) -> Result<bool, Memory> {
+    let is_as_said = gave(alloc, row, lines, ran)?;
+    if !is_as_said {
+        add_came(alloc, row, ran, came)?;
+    }
+    Ok(is_as_said)
 }
 
-/// Runs a row on a disk with these calls failing, sees that it gave what the row says, and hands the disk back.
-pub(crate) fn run_as_said<R: Threads + Wait + Sync + Abort>(
-    rt: &R,
-    alloc: Global,
-    row: &Row,
-    disk: MemDisk,
-    fails: &[Failing],
-) -> Result<MemDisk, Fail> {
-    let (ran, disk) = run_on(rt, alloc, row, disk, fails)?;
-    let compared = compare_run(rt, alloc, row, &ran, fails);
-    drop(ran);
-    match compared {
-        Ok(()) => Ok(disk),
-        Err(fail) => Err(fail),
+/// Whether areas keep the cut that a row says, where it says one.
+fn keeps(areas: &Areas, row: &Row) -> bool {
+    match &row.kept {
+        Some(cut) => is_kept(areas, cut),
+        None => true,
     }
 }
 
-/// Runs a row on an empty disk, sees that it gave what the row says, and returns what is left on the disk.
-pub(crate) fn areas_after<R: Threads + Wait + Sync + Abort>(
+/// Runs a row on a disk with these areas, which are then what it left, and returns whether it gave what the row says. The hands
+/// pass a gate.
+fn goes<R: Threads + Wait + Sync, W: Gate + Sync>(
     rt: &R,
     alloc: Global,
     row: &Row,
-) -> Result<Areas, Fail> {
-    let disk = disk_of(alloc, &Areas::empty(alloc), &[], None)?;
-    let disk = run_as_said(rt, alloc, row, disk, &[])?;
-    Areas::left_by(alloc, &disk, 0)
+    areas: &mut Areas,
+    gate: &W,
+    came: &mut String,
+) -> Result<bool, Memory> {
+    let (ran, disk) = run(rt, alloc, row, row.fails, areas, None, gate)?;
+    *areas = Areas::left_by(alloc, &disk, 0)?;
+    drop(disk);
+    Ok(is_as_said(alloc, row, row.listed, &ran, came)? && keeps(areas, row))
 }
 
-/// Runs the rows of a table, each on a disk with these areas, and compares what each gives.
-pub(crate) fn check_on<R: Threads + Wait + Sync + Abort>(
+/// Runs a row on what its disk holds, and returns whether it gave what the row says, and so did the run before.
+fn goes_on<R: Threads + Wait + Sync, W: Gate + Sync>(
+    rt: &R,
+    alloc: Global,
+    row: &Row,
+    gate: &W,
+    came: &mut String,
+) -> Result<bool, Memory> {
+    let mut areas = Areas::empty(alloc);
+    if let Some(first) = first_run(row.held) {
+        if !goes(rt, alloc, first, &mut areas, gate, came)? {
+            return Ok(false);
+        }
+    }
+    write_areas(row.held, &mut areas)?;
+    goes(rt, alloc, row, &mut areas, gate, came)
+}
+
+/// Runs the rows of a table, and returns whether each gave what it says. Else what came of the first that didn't is added. The
+/// hands pass a gate.
+fn are_as_said<R: Threads + Wait + Sync, W: Gate + Sync>(
     rt: &R,
     alloc: Global,
     rows: &[Row],
-    areas: &Areas,
-) -> Result<(), Fail> {
+    gate: &W,
+    came: &mut String,
+) -> Result<bool, Memory> {
     for row in rows {
-        let disk = disk_of(alloc, areas, row.fails, None)?;
-        drop(run_as_said(rt, alloc, row, disk, row.fails)?);
+        if !goes_on(rt, alloc, row, gate, came)? {
+            return Ok(false);
+        }
     }
-    Ok(())
+    Ok(true)
 }
 
-/// Runs the rows of a table, each on an empty disk, and compares what each gives.
-pub(crate) fn check<R: Threads + Wait + Sync + Abort>(
+/// Sees that all was as it should be, and else tells what came.
+pub(crate) fn see<R: Abort>(rt: &R, seen: Result<bool, Memory>, came: &str) {
+    assert_eq!(rt; seen, Ok(true), "{came}");
+}
+
+/// Runs the rows of a table, and sees that each gives what it says. The hands pass a gate.
+pub(crate) fn check_through<R: Threads + Wait + Sync + Abort, W: Gate + Sync>(
     rt: &R,
     alloc: Global,
     rows: &[Row],
-) -> Result<(), Fail> {
-    check_on(rt, alloc, rows, &Areas::empty(alloc))
+    gate: &W,
+) {
+    let mut came = String::new(alloc);
+    let seen = are_as_said(rt, alloc, rows, gate, &mut came);
+    see(rt, seen, came.as_str());
 }
 
-/// Runs the rows of several tables, each on an empty disk, and compares what each gives.
-pub(crate) fn check_each<R: Threads + Wait + Sync + Abort>(
-    rt: &R,
-    alloc: Global,
-    tables: &[&[Row]],
-) -> Result<(), Fail> {
-    for rows in tables {
-        check(rt, alloc, *rows)?;
-    }
-    Ok(())
+/// Runs the rows of a table, and sees that each gives what it says.
+pub(crate) fn check<R: Threads + Wait + Sync + Abort>(rt: &R, alloc: Global, rows: &[Row]) {
+    check_through(rt, alloc, rows, &NoGate);
 }

@@ -1,15 +1,9 @@
 //! Searches in several shards: their order, tiebreakers, places, and how many shards and stages there may be.
 use crate::row::{Row, Told, Words, found, refused};
-use crate::run::{Ran, check_each, compare, find_words, push_file, run_over};
+use crate::run::check;
 use crate::sequences::{ELEVEN, PAIR, REFERENCE};
-use crate::text::Piece::{Bytes, Each, Events, Lines, Starts};
-use crate::text::{Pieces, text_of};
-use eql_outside::MemFile;
-use std::alloc::Global;
-use std::process::Abort;
-use std::sync::Wait;
-use std::test::Fail;
-use std::thread::Threads;
+use crate::text::Piece::{Bytes, Each, Events, Lines, OneOfEach, Starts};
+use crate::text::Pieces;
 
 /// Two events of one time, of which the second is numbered first.
 const SECOND: Pieces = &[Lines(&[r#"{"@timestamp":1000,"event.sequence":2}"#])];
@@ -163,77 +157,40 @@ static WIDTHS: &[Row] = &[
 ];
 
 #[test]
-fn shards_are_merged(rt: HostRuntime) -> Result<(), Fail> {
-    check_each(&rt, rt.alloc(), &[ORDERS, PLACES, WIDTHS])
+fn shards_are_merged(rt: HostRuntime) {
+    check(&rt, rt.alloc(), ORDERS);
+    check(&rt, rt.alloc(), PLACES);
+    check(&rt, rt.alloc(), WIDTHS);
 }
 
-/// A query for any event, a mapping without fields, and a shard of one event.
-static ANY: Pieces = &[Bytes(b"any where true")];
-
-static NO_FIELDS: Pieces = &[Bytes(b"{}")];
-
-static ONE_EVENT: Pieces = &[Events("1 a")];
-
-/// Adds a query, a mapping, and so many shards of one event at one time.
-fn push_shards(alloc: Global, files: &mut Vec<MemFile>, shards: usize) -> Result<(), Fail> {
-    push_file(alloc, files, "q", text_of(alloc, ANY)?, 7, Vec::new(alloc))?;
-    push_file(
-        alloc,
-        files,
-        "f",
-        text_of(alloc, NO_FIELDS)?,
-        7,
-        Vec::new(alloc),
-    )?;
-    for shard in 0..shards {
-        let text = text_of(alloc, ONE_EVENT)?;
-        let name = format!(in alloc; "s{shard}")?;
-        push_file(alloc, files, name.as_str(), text, 7, Vec::new(alloc))?;
-    }
-    Ok(())
+/// A search for any event in so many shards, each of one event at one time.
+macro_rules! in_shards {
+    ($shows:expr, $shards:expr) => {
+        found!(
+            $shows,
+            "any where true",
+            &[Events("1 a")],
+            &[],
+            fields: &[Bytes(b"{}")],
+            copies: $shards - 1,
+            rest: &[OneOfEach($shards)],
+        )
+    };
 }
 
-/// Searches for any event in so many shards, each of one event at one time.
-fn run_shards<R: Threads + Wait + Sync>(rt: &R, alloc: Global, shards: usize) -> Result<Ran, Fail> {
-    let words = find_words(alloc, "", shards)?;
-    let mut files = Vec::new(alloc);
-    push_shards(alloc, &mut files, shards)?;
-    run_over(rt, alloc, &words, files, &[])
-}
-
-/// What is listed of so many shards.
-fn listed_of_shards(alloc: Global, shards: usize) -> Result<Vec<u8>, Fail> {
-    let mut listed = Vec::new(alloc);
-    for shard in 0..shards {
-        let line = format!(in alloc; "{} [] {shard}:1\n", shard + 1)?;
-        listed.extend_from_slice(line.as_bytes())?;
-    }
-    Ok(listed)
-}
-
-/// Sees that a search in so many shards lists the event of each.
-fn check_shards<R: Threads + Wait + Sync + Abort>(
-    rt: &R,
-    alloc: Global,
-    shards: usize,
-) -> Result<(), Fail> {
-    let listed = listed_of_shards(alloc, shards)?;
-    let ran = run_shards(rt, alloc, shards)?;
-    assert_eq!(rt; ran.status, 0, "status of {shards} shards");
-    compare(
-        rt,
-        alloc,
-        ran.out.bytes(),
-        listed,
-        true,
-        "each shard is listed",
-    )
-}
+/// Up to as many shards as there may be, and one more.
+static MANY: &[Row] = &[
+    in_shards!("65 shards", 65),
+    in_shards!("256 shards", 256),
+    Row {
+        status: 2,
+        rest: &[],
+        told: Told::Usage,
+        ..in_shards!("257 shards", 257)
+    },
+];
 
 #[test]
-fn up_to_256_shards_are_searched(rt: HostRuntime) -> Result<(), Fail> {
-    check_shards(&rt, rt.alloc(), 65)?;
-    check_shards(&rt, rt.alloc(), 256)?;
-    assert_eq!(rt; run_shards(&rt, rt.alloc(), 257)?.status, 2);
-    Ok(())
+fn up_to_256_shards_are_searched(rt: HostRuntime) {
+    check(&rt, rt.alloc(), MANY);
 }

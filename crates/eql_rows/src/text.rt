@@ -1,10 +1,23 @@
 //! The texts of files, written as short as the tables need them.
-use std::alloc::Global;
-use std::test::Fail;
+use std::alloc::{AllocError, Global};
 
 /// The mapping of a row that says nothing of it: ten fields of three kinds.
 const ALL_FIELDS: &[u8] =
     br#"{"destination.ip":"ip","destination.port":"long","event.type":"keyword","file.pid":"long","host.id":"keyword","process.args_count":"long","process.name":"keyword","process.pid":"long","user.id":"keyword","user.name":"keyword"}"#;
+
+/// The line of an event, but for its time and its category.
+const EVENT: &str = "{\"@timestamp\":#,\"event\":{\"category\":\"#\"}}\n";
+
+/// A process event, but for its time, the user's name and the process's.
+macro_rules! start {
+    ($end:literal) => {
+        concat!(
+            "{\"@timestamp\":#,\"event\":{\"category\":\"process\"},",
+            "\"user\":{\"name\":\"#\"},\"process\":{\"name\":\"#\"}}",
+            $end
+        )
+    };
+}
 
 /// What stands in a text, piece by piece.
 #[derive(Clone, Copy)]
@@ -25,75 +38,55 @@ pub(crate) enum Piece {
     Times(&'static str, usize),
     /// This text, once for each number from 1 on, so many times, with the number in place of each `#`.
     Each(&'static str, usize),
+    /// What a search for any event lists of so many shards that have one event each, all at one time.
+    OneOfEach(usize),
 }
 
 /// A text.
 pub(crate) type Pieces = &'static [Piece];
 
-/// Adds a line for each event of a list: its time and its category.
-fn add_events(alloc: Global, bytes: &mut Vec<u8>, events: &str) -> Result<(), Fail> {
-    for event in events.split(", ") {
-        if let Some((time, category)) = event.split_once(' ') {
-            let line = format!(in alloc;
-                "{{\"@timestamp\":{time},\"event\":{{\"category\":\"{category}\"}}}}\n"
-            )?;
-            bytes.extend_from_slice(line.as_bytes())?;
-        }
+/// Adds two texts.
+fn add_both(bytes: &mut Vec<u8>, first: &str, second: &str) -> Result<(), AllocError> {
+    bytes.extend_from_slice(first.as_bytes())?;
+    bytes.extend_from_slice(second.as_bytes())
+}
+
+/// The word of this number, from 0, or the last one.
+fn word_at(words: &str, number: usize) -> &str {
+    match words.split(' ').nth(number) {
+        Some(word) => word,
+        None => words.split(' ').last().unwrap_or(""),
     }
-    Ok(())
 }
 
-/// The text of a process event.
-fn start_text(alloc: Global, time: &str, user: &str, process: &str) -> Result<String, Fail> {
-    Ok(format!(in alloc;
-        "{{\"@timestamp\":{time},\"event\":{{\"category\":\"process\"}},\"user\":{{\"name\":\"{user}\"}},\"process\":{{\"name\":\"{process}\"}}}}"
-    )?)
-}
-
-/// Adds a text for each process event of a list, its time, the user's name and the process's, and this behind each.
-fn add_starts(alloc: Global, bytes: &mut Vec<u8>, starts: &str, end: u8) -> Result<(), Fail> {
-    for start in starts.split(", ") {
-        if let Some((time, names)) = start.split_once(' ') {
-            if let Some((user, process)) = names.split_once(' ') {
-                let text = start_text(alloc, time, user, process)?;
-                bytes.extend_from_slice(text.as_bytes())?;
-                bytes.push(end)?;
-            }
-        }
-    }
-    Ok(())
-}
-
-/// Adds a text with this number in place of each `#`.
-fn add_numbered(alloc: Global, bytes: &mut Vec<u8>, text: &str, number: usize) -> Result<(), Fail> {
-    let number = format!(in alloc; "{number}")?;
+/// Adds a text with these words in place of its `#`, a word for each in turn, and the last word for all that are left.
+fn add_filled(bytes: &mut Vec<u8>, text: &str, words: &str) -> Result<(), AllocError> {
     let mut parts = text.split('#');
-    if let Some(first) = parts.next() {
-        bytes.extend_from_slice(first.as_bytes())?;
+    add_both(bytes, parts.next().unwrap_or(""), "")?;
+    for (number, part) in parts.enumerate() {
+        add_both(bytes, word_at(words, number), part)?;
     }
-    for part in parts {
-        bytes.extend_from_slice(number.as_bytes())?;
-        bytes.extend_from_slice(part.as_bytes())?;
+    Ok(())
+}
+
+/// Adds a text for each item of a list, with the words of the item in place of its `#`.
+fn add_list(bytes: &mut Vec<u8>, text: &str, list: &str) -> Result<(), AllocError> {
+    for words in list.split(", ") {
+        add_filled(bytes, text, words)?;
     }
     Ok(())
 }
 
 /// Adds lines, each with a line feed.
-pub(crate) fn add_lines(bytes: &mut Vec<u8>, lines: &[&str]) -> Result<(), Fail> {
+pub(crate) fn add_lines(bytes: &mut Vec<u8>, lines: &[&str]) -> Result<(), AllocError> {
     for line in lines {
-        bytes.extend_from_slice(line.as_bytes())?;
-        bytes.push(b'\n')?;
+        add_both(bytes, *line, "\n")?;
     }
     Ok(())
 }
 
 /// Adds a text so many times.
-fn add_times(alloc: Global, bytes: &mut Vec<u8>, text: &str, times: usize) -> Result<(), Fail> {
-    if let [byte] = text.as_bytes() {
-        let many = Vec::from_elem(alloc, *byte, times)?;
-        bytes.extend_from_slice(many.as_slice())?;
-        return Ok(());
-    }
+fn add_times(bytes: &mut Vec<u8>, text: &str, times: usize) -> Result<(), AllocError> {
     for _ in 0..times {
         bytes.extend_from_slice(text.as_bytes())?;
     }
@@ -101,52 +94,64 @@ fn add_times(alloc: Global, bytes: &mut Vec<u8>, text: &str, times: usize) -> Re
 }
 
 /// Adds a text for each number from 1 to this one.
-fn add_each(alloc: Global, bytes: &mut Vec<u8>, text: &str, times: usize) -> Result<(), Fail> {
+fn add_each(
+    alloc: Global,
+    bytes: &mut Vec<u8>,
+    text: &str,
+    times: usize,
+) -> Result<(), AllocError> {
     for before in 0..times {
-        add_numbered(alloc, bytes, text, before + 1)?;
+        let number = format!(in alloc; "{}", before + 1)?;
+        add_filled(bytes, text, number.as_str())?;
+    }
+    Ok(())
+}
+
+/// Adds what a search lists of so many shards, of which each has one event.
+fn add_one_of_each(alloc: Global, bytes: &mut Vec<u8>, shards: usize) -> Result<(), AllocError> {
+    for shard in 0..shards {
+        let line = format!(in alloc; "{} [] {shard}:1\n", shard + 1)?;
+        bytes.extend_from_slice(line.as_bytes())?;
     }
     Ok(())
 }
 
 /// Adds a piece.
-fn add_piece(alloc: Global, bytes: &mut Vec<u8>, piece: Piece) -> Result<(), Fail> {
+fn add_piece(alloc: Global, bytes: &mut Vec<u8>, piece: Piece) -> Result<(), AllocError> {
     match piece {
-        Piece::Events(events) => add_events(alloc, bytes, events),
-        Piece::Starts(starts) => add_starts(alloc, bytes, starts, b'\n'),
-        Piece::Spaced(starts) => add_starts(alloc, bytes, starts, b' '),
+        Piece::Events(events) => add_list(bytes, EVENT, events),
+        Piece::Starts(starts) => add_list(bytes, start!("\n"), starts),
+        Piece::Spaced(starts) => add_list(bytes, start!(" "), starts),
         Piece::Lines(lines) => add_lines(bytes, lines),
-        Piece::Bytes(more) => Ok(bytes.extend_from_slice(more)?),
-        Piece::AllFields => Ok(bytes.extend_from_slice(ALL_FIELDS)?),
-        Piece::Times(text, times) => add_times(alloc, bytes, text, times),
+        Piece::Bytes(more) => bytes.extend_from_slice(more),
+        Piece::AllFields => bytes.extend_from_slice(ALL_FIELDS),
+        Piece::Times(text, times) => add_times(bytes, text, times),
         Piece::Each(text, times) => add_each(alloc, bytes, text, times),
+        Piece::OneOfEach(shards) => add_one_of_each(alloc, bytes, shards),
     }
 }
 
 /// Adds the pieces of a text.
-pub(crate) fn add_pieces(alloc: Global, bytes: &mut Vec<u8>, pieces: &[Piece]) -> Result<(), Fail> {
+pub(crate) fn add_pieces(
+    alloc: Global,
+    bytes: &mut Vec<u8>,
+    pieces: &[Piece],
+) -> Result<(), AllocError> {
     for piece in pieces {
         add_piece(alloc, bytes, *piece)?;
     }
     Ok(())
 }
 
-/// The text of these pieces.
-pub(crate) fn text_of(alloc: Global, pieces: &[Piece]) -> Result<Vec<u8>, Fail> {
-    let mut bytes = Vec::new(alloc);
-    add_pieces(alloc, &mut bytes, pieces)?;
-    Ok(bytes)
-}
-
 /// How many lines a text has. The last one needs no line feed.
 pub(crate) fn line_count(text: &[u8]) -> usize {
-    let mut feeds = 0usize;
+    let mut lines = 0usize;
+    let mut before = b'\n';
     for byte in text {
-        if *byte == b'\n' {
-            feeds = feeds.saturating_add(1);
+        if before == b'\n' {
+            lines = lines.saturating_add(1);
         }
+        before = *byte;
     }
-    match text.last() {
-        Some(b'\n') | None => feeds,
-        Some(_) => feeds.saturating_add(1),
-    }
+    lines
 }

@@ -1,9 +1,8 @@
 //! Words of the command line, names of files, and which of several causes is told.
 use crate::row::{Row, Words, ended, found, printed, refused, usage};
-use crate::run::check_each;
+use crate::run::check;
 use crate::sequences::{ELEVEN, REFERENCE, REFERENCE_LISTS};
 use crate::text::Piece::{Bytes, Events};
-use std::test::Fail;
 
 /// Words that make no command.
 static NO_COMMANDS: &[Row] = &[
@@ -262,11 +261,16 @@ static CAUSES: &[Row] = &[
 ];
 
 #[test]
-fn words_make_a_command_or_none(rt: HostRuntime) -> Result<(), Fail> {
-    check_each(&rt, rt.alloc(), &[NO_COMMANDS, FORMS, MADE, CHECKPOINTS])
+fn words_make_a_command_or_none(rt: HostRuntime) {
+    check(&rt, rt.alloc(), NO_COMMANDS);
+    check(&rt, rt.alloc(), FORMS);
+    check(&rt, rt.alloc(), MADE);
+    check(&rt, rt.alloc(), CHECKPOINTS);
 }
 
 #[test]
-fn files_are_missing(rt: HostRuntime) -> Result<(), Fail> {
-    check_each(&rt, rt.alloc(), &[NAMES, PRINTED_NAMES, CAUSES])
+fn files_are_missing(rt: HostRuntime) {
+    check(&rt, rt.alloc(), NAMES);
+    check(&rt, rt.alloc(), PRINTED_NAMES);
+    check(&rt, rt.alloc(), CAUSES);
 }
