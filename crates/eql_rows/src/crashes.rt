@@ -2,7 +2,7 @@
 //!
 //! What both runs write is the listing together, each line under its number, and no cut is lost once it was put.
 use crate::checkpoints::{ALONE, BESIDE, FIRST_RUN};
-use crate::kept::{AFTER_FIVE, AFTER_TEN, Kept, cut_at, generation_on, is_kept};
+use crate::kept::{AFTER_FIVE, AFTER_TEN, Kept, cut_at, kept_in};
 use crate::row::{Row, Told, Words, found};
 use crate::run::{Areas, Ran, is_as_said, listed_of, run, see};
 use crate::sequences::REFERENCE;
@@ -43,18 +43,17 @@ fn put_before(call: u64) -> u64 {
     call.saturating_sub(5) / 6
 }
 
-/// How many lines were listed before the cut that a disk keeps, where that is the last one that was put, or the next.
-fn listed_before(areas: &Areas, cuts: &[Kept], put: u64) -> Option<u64> {
-    let generation = generation_on(areas);
-    if generation != put && generation != put.saturating_add(1) {
+/// How many lines were listed before the cut that a disk keeps, where that is one of these: the last one that was put, or the next.
+fn listed_before(alloc: Global, areas: &Areas, cuts: &[Kept], put: u64) -> Option<u64> {
+    let kept = kept_in(alloc, areas)?;
+    if kept.generation != put && kept.generation != put.saturating_add(1) {
         return None;
     }
-    for cut in cuts {
-        if cut.generation == generation && is_kept(areas, cut) {
-            return Some(cut.listed);
-        }
+    if kept.generation == 0 || cuts.contains(&kept) {
+        Some(kept.listed)
+    } else {
+        None
     }
-    if generation == 0 { Some(0) } else { None }
 }
 
 /// Whether a run that goes on gave what its row says, with these lines, and wrote with the first one, which wrote so many bytes,
@@ -86,7 +85,7 @@ fn goes_on<R: Threads + Wait + Sync>(
     written: usize,
     came: &mut String,
 ) -> Result<bool, Memory> {
-    let Some(count) = listed_before(areas, crash.cuts, put) else {
+    let Some(count) = listed_before(alloc, areas, crash.cuts, put) else {
         return Ok(false);
     };
     let (ran, disk) = run(rt, alloc, row, &[], areas, None, &NoGate)?;

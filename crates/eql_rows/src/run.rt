@@ -1,7 +1,7 @@
 //! One run of the program over files in memory, and what it has to give.
 use crate::checkpoints::first_run;
 use crate::cuts::write_areas;
-use crate::kept::is_kept;
+use crate::kept::kept_in;
 use crate::row::{Failing, Object, Row, Share, Told, Words};
 use crate::text::{Pieces, add_lines, add_pieces, line_count};
 use eql_cli::{Ended, Gate, NoGate, eql_main};
@@ -145,7 +145,7 @@ pub(crate) fn words_of(alloc: Global, row: &Row) -> Result<Vec<String>, Memory> 
 }
 
 /// A disk with these areas, with these calls failing, and all of its calls from a number on.
-fn disk_of(
+pub(crate) fn disk_of(
     alloc: Global,
     areas: &Areas,
     fails: &[Failing],
@@ -302,9 +302,9 @@ pub(crate) fn is_as_said(
 }
 
 /// Whether areas keep the cut that a row says, where it says one.
-fn keeps(areas: &Areas, row: &Row) -> bool {
+fn keeps(alloc: Global, areas: &Areas, row: &Row) -> bool {
     match &row.kept {
-        Some(cut) => is_kept(areas, cut),
+        Some(cut) => kept_in(alloc, areas) == Some(*cut),
         None => true,
     }
 }
@@ -322,7 +322,7 @@ fn goes<R: Threads + Wait + Sync, W: Gate + Sync>(
     let (ran, disk) = run(rt, alloc, row, row.fails, areas, None, gate)?;
     *areas = Areas::left_by(alloc, &disk, 0)?;
     drop(disk);
-    Ok(is_as_said(alloc, row, row.listed, &ran, came)? && keeps(areas, row))
+    Ok(is_as_said(alloc, row, row.listed, &ran, came)? && keeps(alloc, areas, row))
 }
 
 /// Runs a row on what its disk holds, and returns whether it gave what the row says, and so did the run before.
