@@ -1,25 +1,26 @@
 //! The files that words name: a query and a mapping as long as they may be, and shards of which one isn't there.
 use eql_inputs::{Halt, open_shards, read_checked, tell_halt};
 use eql_outside::{MemDisk, MemFile, MemShelf, MemSink, MemSource, Shelf, Source};
+use eql_values::Memory;
 use eql_words::{Name, Names};
 use std::alloc::{AllocError, Global};
-use std::process::Abort;
-use std::test::Fail;
 
 /// A query of 47 bytes, and a mapping of 2 that it can be checked against.
-const QUERY: &str = "sequence [process where true] [file where true]";
+static QUERY: &str = "sequence [process where true] [file where true]";
 
-const FIELDS: &str = "{}";
+static FIELDS: &str = "{}";
 
-/// A text with blanks behind it, up to so many bytes.
-fn padded(alloc: Global, text: &str, len: usize) -> Result<Vec<u8>, AllocError> {
+/// A file of a text with blanks behind it, up to so many bytes. Its takes give 50,000 bytes at most, and those of these
+/// numbers fail.
+fn file(
+    alloc: Global,
+    name: &str,
+    text: &str,
+    len: usize,
+    fails: &[u64],
+) -> Result<MemFile, AllocError> {
     let mut bytes = Vec::from_slice(alloc, text.as_bytes())?;
     bytes.resize(len, b' ')?;
-    Ok(bytes)
-}
-
-/// A file, whose takes give 50,000 bytes at most, and of which those of these numbers fail.
-fn file(alloc: Global, name: &str, bytes: Vec<u8>, fails: &[u64]) -> Result<MemFile, AllocError> {
     Ok(MemFile {
         name: String::from_str(alloc, name)?,
         bytes,
@@ -29,28 +30,27 @@ fn file(alloc: Global, name: &str, bytes: Vec<u8>, fails: &[u64]) -> Result<MemF
 }
 
 /// A shelf of these files, of which the calls of these numbers fail.
-fn shelf_of(alloc: Global, files: Vec<MemFile>, fails: &[u64]) -> Result<MemShelf, Fail> {
+fn shelf_of(alloc: Global, files: Vec<MemFile>, fails: &[u64]) -> Result<MemShelf, Memory> {
     let area = Vec::new(alloc);
     let other = Vec::new(alloc);
     let disk = MemDisk::new(alloc, area, other, Vec::new(alloc), None)?;
-    Ok(MemShelf::new(alloc, files, disk, Vec::from_slice(alloc, fails)?)?)
+    MemShelf::new(alloc, files, disk, Vec::from_slice(alloc, fails)?)
 }
 
-/// The names of files.
-fn names_of(alloc: Global, names: &[&str]) -> Result<Names, AllocError> {
+/// The names of files, with a space between each two.
+fn names_of(alloc: Global, names: &str) -> Result<Names, AllocError> {
     let mut items = Vec::new(alloc);
-    for name in names {
-        items.push(Name::of(String::from_str(alloc, *name)?))?;
+    for name in names.split(' ') {
+        items.push(Name::of(String::from_str(alloc, name)?))?;
     }
     Ok(Names::of(items))
 }
 
-/// Tells why the reading stopped, as it should.
-fn run_halt(rt: &impl Abort, alloc: Global, halt: &Halt, status: u8, line: &str) {
+/// Whether the reading stopped with this status and this line.
+fn is_halt(alloc: Global, halt: &Halt, status: u8, line: &str) -> bool {
     let mut err = MemSink::new(alloc, Vec::new(alloc));
     tell_halt(alloc, halt, &mut err);
-    assert_eq!(rt; err.bytes().as_slice(), line.as_bytes());
-    assert_eq!(rt; halt.status(), status);
+    err.bytes().as_slice() == line.as_bytes() && halt.status() == status
 }
 
 /// A query and a mapping of a length, the numbers of the takes of the mapping that fail, and what comes of their reading.
@@ -116,102 +116,115 @@ static ROWS: &[Row] = &[
 ];
 
 /// The shelf of a row.
-fn shelf_of_row(alloc: Global, row: &Row) -> Result<MemShelf, Fail> {
-    let query = file(alloc, "q", padded(alloc, QUERY, row.query)?, &[])?;
-    let fields = file(alloc, "f", padded(alloc, FIELDS, row.fields)?, row.fails)?;
+fn shelf_of_row(alloc: Global, row: &Row) -> Result<MemShelf, Memory> {
+    let query = file(alloc, "q", QUERY, row.query, &[])?;
+    let fields = file(alloc, "f", FIELDS, row.fields, row.fails)?;
     shelf_of(alloc, vec![in alloc; query, fields]?, &[])
 }
 
-/// Reads the query and the mapping of a row.
-fn run_row(
-    rt: &impl Abort,
-    alloc: Global,
-    query: &Name,
-    fields: &Name,
-    row: &Row,
-) -> Result<(), Fail> {
-    let mut shelf = shelf_of_row(alloc, row)?;
-    match read_checked(alloc, query, fields, &mut shelf) {
-        Ok(_) => assert_eq!(rt; row.status, 0),
-        Err(halt) => run_halt(rt, alloc, &halt, row.status, row.line),
+/// Whether the query and the mapping of a row are read from its shelf, or its line tells why not.
+fn is_read(alloc: Global, names: &[Name], shelf: &mut MemShelf, row: &Row) -> bool {
+    let [query, fields] = names else {
+        return false;
+    };
+    match read_checked(alloc, query, fields, shelf) {
+        Ok(_) => row.status == 0,
+        Err(halt) => is_halt(alloc, &halt, row.status, row.line),
     }
-    Ok(())
+}
+
+/// Whether a row is as it should be.
+fn is_right(alloc: Global, row: &Row) -> Result<bool, Memory> {
+    let names = names_of(alloc, "q f")?;
+    let mut shelf = shelf_of_row(alloc, row)?;
+    Ok(is_read(alloc, names.items(), &mut shelf, row))
+}
+
+/// The first row that isn't as it should be, from 0.
+fn wrong_row(alloc: Global) -> Option<usize> {
+    for (number, row) in ROWS.iter().enumerate() {
+        if !matches!(is_right(alloc, row), Ok(true)) {
+            return Some(number);
+        }
+    }
+    None
 }
 
 #[test]
-fn a_query_and_a_mapping_are_read_up_to_their_length(rt: HostRuntime) -> Result<(), Fail> {
-    let query = Name::of(String::from_str(rt.alloc(), "q")?);
-    let fields = Name::of(String::from_str(rt.alloc(), "f")?);
-    for row in ROWS {
-        run_row(&rt, rt.alloc(), &query, &fields, row)?;
-    }
-    Ok(())
+fn a_query_and_a_mapping_are_read_up_to_their_length(rt: HostRuntime) {
+    assert_eq!(rt; wrong_row(rt.alloc()), None);
 }
 
 /// A shelf of two shards, of which the calls of these numbers fail.
-fn two_shards(alloc: Global, fails: &[u64]) -> Result<MemShelf, Fail> {
-    let files = vec![in alloc;
-        file(alloc, "a", Vec::from_slice(alloc, b"1\n")?, &[])?,
-        file(alloc, "b", Vec::from_slice(alloc, b"22\n")?, &[])?,
-    ]?;
-    shelf_of(alloc, files, fails)
+fn two_shards(alloc: Global, fails: &[u64]) -> Result<MemShelf, Memory> {
+    let first = file(alloc, "a", "1\n", 2, &[])?;
+    let second = file(alloc, "b", "22\n", 3, &[])?;
+    shelf_of(alloc, vec![in alloc; first, second]?, fails)
 }
 
-/// Takes what a source has left, up to eight bytes, and gives it back.
-fn take_all(source: MemSource, shelf: &mut MemShelf, read: &mut Vec<u8>) -> Result<(), Fail> {
-    let mut source = source;
+/// Takes what a source has left, up to eight bytes, and gives it back. Returns whether the bytes were taken.
+fn take_all(mut source: MemSource, shelf: &mut MemShelf, read: &mut Vec<u8>) -> bool {
     let mut piece = [0u8; 8];
     let taken = source.take(&mut piece);
     shelf.give_source(source);
     match taken {
-        Ok(n) => Ok(read.extend_from_slice(&piece[..n])?),
-        Err(_) => Err(Fail::from("a fault")),
+        Ok(n) => read.extend_from_slice(&piece[..n]).is_ok(),
+        Err(_) => false,
     }
 }
 
-/// What shards hold, one behind the other.
-fn shards_read(alloc: Global, shards: &Names, shelf: &mut MemShelf) -> Result<Vec<u8>, Fail> {
+/// Whether shards hold these bytes, one behind the other.
+fn hold(alloc: Global, shards: &Names, shelf: &mut MemShelf, expected: &str) -> bool {
     let mut read = Vec::new(alloc);
     match open_shards(alloc, shards, shelf) {
         Ok(sources) => {
+            let mut are_taken = true;
             for source in sources {
-                take_all(source, shelf, &mut read)?;
+                are_taken = take_all(source, shelf, &mut read) && are_taken;
             }
-            Ok(read)
+            are_taken && read.as_slice() == expected.as_bytes()
         }
-        Err(_) => Err(Fail::from("no sources")),
+        Err(_) => false,
     }
 }
 
-#[test]
-fn shards_are_opened_in_their_order(rt: HostRuntime) -> Result<(), Fail> {
-    let shards = names_of(rt.alloc(), &["b", "a", "b"])?;
-    let mut shelf = two_shards(rt.alloc(), &[])?;
-    let read = shards_read(rt.alloc(), &shards, &mut shelf)?;
-    assert_eq!(rt; read.as_slice(), "22\n1\n22\n".as_bytes());
-    Ok(())
+/// Whether two shards are opened in the order in which they are named.
+fn are_in_order(alloc: Global) -> Result<bool, Memory> {
+    let shards = names_of(alloc, "b a b")?;
+    let mut shelf = two_shards(alloc, &[])?;
+    Ok(hold(alloc, &shards, &mut shelf, "22\n1\n22\n"))
 }
 
-/// Opens shards of which one doesn't open.
-fn run_missing(
-    rt: &impl Abort,
-    alloc: Global,
-    shards: &Names,
-    fails: &[u64],
-    expected: (u8, &str),
-) -> Result<(), Fail> {
+#[test]
+fn shards_are_opened_in_their_order(rt: HostRuntime) {
+    assert!(rt; matches!(are_in_order(rt.alloc()), Ok(true)));
+}
+
+/// Whether shards aren't opened, with this status and this line.
+fn is_missing(alloc: Global, shards: &Names, shelf: &mut MemShelf, status: u8, line: &str) -> bool {
+    match open_shards(alloc, shards, shelf) {
+        Ok(_) => false,
+        Err(halt) => is_halt(alloc, &halt, status, line),
+    }
+}
+
+/// Of shards of which the third and the last aren't there: the calls of the shelf that fail, and what is told.
+static MISSING: &[(&[u64], u8, &str)] = &[
+    (&[], 1, "no file x\n"),
+    (&[2], 4, "read fault: b\n"),
+    (&[4], 1, "no file x\n"),
+];
+
+/// Whether the first shard that doesn't open is told.
+fn is_told(alloc: Global, (fails, status, line): &(&[u64], u8, &str)) -> Result<bool, Memory> {
+    let shards = names_of(alloc, "a b x a y")?;
     let mut shelf = two_shards(alloc, fails)?;
-    match open_shards(alloc, shards, &mut shelf) {
-        Ok(_) => assert!(rt; false, "all were opened"),
-        Err(halt) => run_halt(rt, alloc, &halt, expected.0, expected.1),
-    }
-    Ok(())
+    Ok(is_missing(alloc, &shards, &mut shelf, *status, line))
 }
 
 #[test]
-fn the_first_shard_that_does_not_open_is_told(rt: HostRuntime) -> Result<(), Fail> {
-    let shards = names_of(rt.alloc(), &["a", "b", "x", "a", "y"])?;
-    run_missing(&rt, rt.alloc(), &shards, &[], (1, "no file x\n"))?;
-    run_missing(&rt, rt.alloc(), &shards, &[2], (4, "read fault: b\n"))?;
-    run_missing(&rt, rt.alloc(), &shards, &[4], (1, "no file x\n"))
+fn the_first_shard_that_does_not_open_is_told(rt: HostRuntime) {
+    for row in MISSING {
+        assert!(rt; matches!(is_told(rt.alloc(), row), Ok(true)));
+    }
 }
