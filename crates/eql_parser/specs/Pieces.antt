@@ -1,10 +1,13 @@
 -- What a token says, as the parser sees it.
-use Rattle.std.specs.Prelude.{◌≡◌, ℕ, Bool, nat_lt, List, [], ◌∷◌, Some, None}
+use Rattle.std.specs.Prelude.{◌≡◌, ℕ, Bool, false, true, nat_lt, List, [], ◌∷◌, Some, None}
 use Rattle.std.specs.Borrow.{Bor}
 use Rattle.std.specs.List.{list_all}
 use Rattle.std.specs.Str.{chars}
 use Rattle.eql_parser.specs.declared.parser.piece.Piece.{Piece}
 use Rattle.eql_parser.specs.declared.parser.piece.Piece.TheVariants as p
+use Rattle.eql_parser.specs.declared.parser.word.Keyword.{Keyword}
+use Rattle.eql_parser.specs.declared.parser.word.Keyword.TheVariants as key
+use Rattle.eql_query.specs.declared.expr.PatOp.TheVariants.{Like, LikeFold}
 use Rattle.eql_parser.specs.Grammar.{part}
 use Rattle.eql_parser.specs.Kinds.{Kind, and_, any_, by_, false_, in_, join_, matches, maxspan_, not_, null_, or_, regex_, sample_, sequence_, true_, until_, where_, with_, name, folding, back, text, number, open_, close_, open_item_, close_item_, comma_, dot_, bar_, question_, bang_, assign_, compares, adds, multiplies}
 
@@ -46,10 +49,34 @@ piece_kind (p.Compares op) = compares op
 piece_kind (p.Adds op) = adds op
 piece_kind (p.Multiplies op) = multiplies op
 
+-- what a keyword says
+abbrev pub keyword_kind : Keyword → Kind
+keyword_kind key.And = and_
+keyword_kind key.Any = any_
+keyword_kind key.By = by_
+keyword_kind key.False = false_
+keyword_kind key.In = in_ false
+keyword_kind key.InFold = in_ true
+keyword_kind key.Join = join_
+keyword_kind key.Like = matches Like
+keyword_kind key.LikeFold = matches LikeFold
+keyword_kind key.Maxspan = maxspan_
+keyword_kind key.Not = not_
+keyword_kind key.Null = null_
+keyword_kind key.Or = or_
+keyword_kind key.Regex = regex_ false
+keyword_kind key.RegexFold = regex_ true
+keyword_kind key.Sample = sample_
+keyword_kind key.Sequence = sequence_
+keyword_kind key.True = true_
+keyword_kind key.Until = until_
+keyword_kind key.Where = where_
+keyword_kind key.With = with_
+
 -- the words of a table, with what they say
-abbrev pub entries : List (Bor (List ℕ) × Piece) → List (List ℕ × Kind)
+abbrev pub entries : List (Bor (List ℕ) × Keyword) → List (List ℕ × Kind)
 entries [] = []
-entries (e ∷ es) = (e.0.now, piece_kind e.1) ∷ entries es
+entries (e ∷ es) = (e.0.now, keyword_kind e.1) ∷ entries es
 
 -- each word of a table is ASCII
 abbrev pub is_plain_table : List (List ℕ × Kind) → Bool

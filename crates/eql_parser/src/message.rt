@@ -26,9 +26,8 @@ impl ParseRefused {
 fn left_out_line(alloc: Global, word: &Text, at: u32) -> Result<String, Memory>
     ensures { IfOk result (λ line. string_bytes line ≡ left_out word.now at) }
 {
-    let place = format!(in alloc; " at {at}")?;
     let mut line = String::from_str(alloc, "parse: LeftOut ")?;
     push_shown(&mut line, word.text())?;
-    line.push_str(place.as_str())?;
+    write!(line, " at {at}")?;
     Ok(line)
 }

@@ -5,7 +5,7 @@ ghost use Rattle.eql_parser.specs.Answering.{joint_mark};
 use crate::parser::mark::Mark;
 
 /// Where several expressions stand.
-#[derive(Clone, Copy, PartialEq, Eq)]
+#[derive(Clone, Copy)]
 pub enum Joint {
     /// Between `or`s.
     Or,

@@ -13,9 +13,8 @@ pub fn added(tokens: &[Token]) -> Option<(MathOp, &[Token])>
     ensures { MatchOption result (LacksOperator adds_of (kinds tokens.now))
         (λ x. kinds tokens.now ≡ adds x.0 ∷ kinds x.1.now) }
 {
-    let (first, rest) = split(tokens)?;
-    match first {
-        Piece::Adds(op) => Some((op, rest)),
+    match split(tokens) {
+        Some((Piece::Adds(op), rest)) => Some((op, rest)),
         _ => None,
     }
 }
@@ -25,9 +24,8 @@ pub fn multiplied(tokens: &[Token]) -> Option<(MathOp, &[Token])>
     ensures { MatchOption result (LacksOperator multiplies_of (kinds tokens.now))
         (λ x. kinds tokens.now ≡ multiplies x.0 ∷ kinds x.1.now) }
 {
-    let (first, rest) = split(tokens)?;
-    match first {
-        Piece::Multiplies(op) => Some((op, rest)),
+    match split(tokens) {
+        Some((Piece::Multiplies(op), rest)) => Some((op, rest)),
         _ => None,
     }
 }
@@ -37,9 +35,8 @@ pub fn comparison(tokens: &[Token]) -> Option<(CmpOp, &[Token])>
     ensures { MatchOption result (LacksOperator compares_of (kinds tokens.now))
         (λ x. kinds tokens.now ≡ compares x.0 ∷ kinds x.1.now) }
 {
-    let (first, rest) = split(tokens)?;
-    match first {
-        Piece::Compares(op) => Some((op, rest)),
+    match split(tokens) {
+        Some((Piece::Compares(op), rest)) => Some((op, rest)),
         _ => None,
     }
 }

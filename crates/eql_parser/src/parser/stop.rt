@@ -6,7 +6,7 @@ use eql_values::Text;
 use std::alloc::{AllocError, AllocFailed, Global};
 
 /// Why a part of a query isn't read. A place is counted by the tokens from there on.
-#[derive(Debug, Drop)]
+#[derive(Drop)]
 pub enum Stop {
     /// Memory ran out.
     Memory,

@@ -127,15 +127,8 @@ fn after_runs(tokens: &[Token]) -> Option<&[Token]>
     ensures { MatchOption result (LacksRuns (kinds tokens.now))
         (λ rest. RunsComes (kinds tokens.now) (kinds rest.now)) }
 {
-    let (first, rest) = split(tokens)?;
-    match first {
-        Piece::Name(word) => {
-            if is_word(word, b"runs") {
-                Some(rest)
-            } else {
-                None
-            }
-        }
+    match split(tokens) {
+        Some((Piece::Name(word), rest)) if is_word(word, b"runs") => Some(rest),
         _ => None,
     }
 }

@@ -27,8 +27,7 @@ pub(crate) fn put_expr(page: &mut Page, expr: &Expr) -> Result<(), Memory>
         Expr::And(operands) => put_operands(page, " and ", operands),
         Expr::Or(operands) => put_operands(page, " or ", operands),
         Expr::Cmp(op, a, b) => {
-            page.put("(")?;
-            put_expr(page, a)?;
+            put_left(page, a)?;
             put_behind(page, cmp_text(*op), b)
         }
         Expr::Pattern(op, a, patterns) => put_pattern(page, a, pat_text(*op), patterns.items()),
@@ -40,12 +39,20 @@ pub(crate) fn put_expr(page: &mut Page, expr: &Expr) -> Result<(), Memory>
         } => put_member(page, left, member_text(*fold, *negated), list.items()),
         Expr::Neg(a) => put_behind(page, "(-", a),
         Expr::Math(op, a, b) => {
-            page.put("(")?;
-            put_expr(page, a)?;
+            put_left(page, a)?;
             put_behind(page, math_text(*op), b)
         }
         Expr::Call { name, fold, args } => put_call(page, name, *fold, args),
     }
+}
+
+/// Writes an opening parenthesis, and the operand behind it.
+#[cycle(put)]
+fn put_left(page: &mut Page, a: &Expr) -> Result<(), Memory>
+    ensures { OnOk result (Adds page.old page.new (λ rest. 40 ∷ shown (tree a.now) rest)) }
+{
+    page.put("(")?;
+    put_expr(page, a)
 }
 
 /// Writes an operator, the operand behind it, and a closing parenthesis.
@@ -67,8 +74,7 @@ fn put_pattern(page: &mut Page, a: &Expr, between: &str, patterns: &[Text]) -> R
     ensures { OnOk result (Adds page.old page.new (λ rest. 40 ∷ shown (tree a.now)
         (between.now ++ patterns_shown patterns.now (41 ∷ rest)))) }
 {
-    page.put("(")?;
-    put_expr(page, a)?;
+    put_left(page, a)?;
     page.put(between)?;
     put_patterns(page, patterns)?;
     page.put(")")
@@ -82,8 +88,7 @@ fn put_member(page: &mut Page, left: &Expr, between: &str, list: &[Value]) -> Re
     ensures { OnOk result (Adds page.old page.new (λ rest. 40 ∷ shown (tree left.now)
         (between.now ++ literals_shown list.now (41 ∷ 41 ∷ rest)))) }
 {
-    page.put("(")?;
-    put_expr(page, left)?;
+    put_left(page, left)?;
     page.put(between)?;
     put_literals(page, list)?;
     page.put("))")

@@ -17,6 +17,12 @@ put_all-loop-item-preserved t c = (
       c.item-item.result c.loop-item.separator.now c.args.page.now c.loop-item.page _ _ (search rules) c.item-item.is c.loop-item.invariant.2 c.in_ok-put.ensures c.in_ok-put_expr.ensures,
 )
 
+pub put_left-returns : goal.put_left-returns
+put_left-returns t c =
+    on_ok_weaker c.put_expr.result
+    (λ (h : Adds c.put.new.self c.put_expr.new.page (shown (tree c.args.a.now))). λ rest. h rest ∙ c.in_ok-put.ensures (shown (tree c.args.a.now) rest))
+    c.put_expr.ensures
+
 pub put_behind-returns : goal.put_behind-returns
 put_behind-returns t c =
     on_ok_weaker c.put-2.result
@@ -25,21 +31,19 @@ put_behind-returns t c =
 
 pub put_pattern-returns : goal.put_pattern-returns
 put_pattern-returns t c =
-    on_ok_weaker c.put-3.result
-    (λ (h : Adds c.put_patterns.new.page c.put-3.new.self (λ rest. 41 ∷ rest)). λ rest.
+    on_ok_weaker c.put-2.result
+    (λ (h : Adds c.put_patterns.new.page c.put-2.new.self (λ rest. 41 ∷ rest)). λ rest.
     let listed = patterns_shown c.args.patterns.now (41 ∷ rest) in
-    h rest ∙ c.in_ok-put_patterns.ensures (41 ∷ rest) ∙ c.in_ok-put-2.ensures listed ∙ c.in_ok-put_expr.ensures (c.args.between.now ++ listed)
-    ∙ c.in_ok-put.ensures (shown (tree c.args.a.now) (c.args.between.now ++ listed)))
-    c.put-3.ensures
+    h rest ∙ c.in_ok-put_patterns.ensures (41 ∷ rest) ∙ c.in_ok-put.ensures listed ∙ c.in_ok-put_left.ensures (c.args.between.now ++ listed))
+    c.put-2.ensures
 
 pub put_member-returns : goal.put_member-returns
 put_member-returns t c =
-    on_ok_weaker c.put-3.result
-    (λ (h : Adds c.put_literals.new.page c.put-3.new.self (λ rest. 41 ∷ 41 ∷ rest)). λ rest.
+    on_ok_weaker c.put-2.result
+    (λ (h : Adds c.put_literals.new.page c.put-2.new.self (λ rest. 41 ∷ 41 ∷ rest)). λ rest.
     let listed = literals_shown c.args.list.now (41 ∷ 41 ∷ rest) in
-    h rest ∙ c.in_ok-put_literals.ensures (41 ∷ 41 ∷ rest) ∙ c.in_ok-put-2.ensures listed ∙ c.in_ok-put_expr.ensures (c.args.between.now ++ listed)
-    ∙ c.in_ok-put.ensures (shown (tree c.args.left.now) (c.args.between.now ++ listed)))
-    c.put-3.ensures
+    h rest ∙ c.in_ok-put_literals.ensures (41 ∷ 41 ∷ rest) ∙ c.in_ok-put.ensures listed ∙ c.in_ok-put_left.ensures (c.args.between.now ++ listed))
+    c.put-2.ensures
 
 pub put_operands-returns : goal.put_operands-returns
 put_operands-returns t c =
