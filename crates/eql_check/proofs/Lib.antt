@@ -18,3 +18,4 @@ mod Characters
 mod Fitting
 mod Settling
 mod Bounds
+pub mod Variants

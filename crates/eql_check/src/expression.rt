@@ -154,8 +154,7 @@ pub(crate) fn kind_of(
             let k = kind_of(alloc, item, mapping, b)?;
             comparison(item, *op, j, k, a, b)
         }
-        Expr::And(operands) => connective(alloc, item, mapping, operands),
-        Expr::Or(operands) => connective(alloc, item, mapping, operands),
+        Expr::And(operands) | Expr::Or(operands) => connective(alloc, item, mapping, operands),
         Expr::Call { name, fold, args } => called(alloc, item, mapping, name, *fold, args),
     }
 }

@@ -152,13 +152,10 @@ pub fn holds_field(expr: &Expr) -> bool
     match expr {
         Expr::Field(_) => true,
         Expr::Null | Expr::Bool(_) | Expr::Long(_) | Expr::Str(_) => false,
-        Expr::Not(a) | Expr::Neg(a) => holds_field(a),
-        Expr::And(es) | Expr::Or(es) => hold_field(es),
-        Expr::Cmp(_, a, b) => holds_field(a) || holds_field(b),
-        Expr::Math(_, a, b) => holds_field(a) || holds_field(b),
-        Expr::Pattern(_, a, _) => holds_field(a),
-        Expr::Member { left, .. } => holds_field(left),
-        Expr::Call { args, .. } => hold_field(args),
+        Expr::Not(a) | Expr::Neg(a) | Expr::Pattern(_, a, _) | Expr::Member { left: a, .. } =>
+            holds_field(a),
+        Expr::Cmp(_, a, b) | Expr::Math(_, a, b) => holds_field(a) || holds_field(b),
+        Expr::And(es) | Expr::Or(es) | Expr::Call { args: es, .. } => hold_field(es),
     }
 }
 

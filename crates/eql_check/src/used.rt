@@ -96,19 +96,13 @@ fn add_names<'q>(expr: &'q Expr, names: &mut Vec<&'q Text>) -> Result<(), Memory
             names.push(&field.name)?;
             Ok(())
         }
-        Expr::Not(a) | Expr::Neg(a) => add_names(a, names),
-        Expr::And(operands) | Expr::Or(operands) => add_names_among(operands, names),
-        Expr::Cmp(_, a, b) => {
+        Expr::Not(a) | Expr::Neg(a) | Expr::Pattern(_, a, _) | Expr::Member { left: a, .. } =>
+            add_names(a, names),
+        Expr::Cmp(_, a, b) | Expr::Math(_, a, b) => {
             add_names(a, names)?;
             add_names(b, names)
         }
-        Expr::Math(_, a, b) => {
-            add_names(a, names)?;
-            add_names(b, names)
-        }
-        Expr::Pattern(_, a, _) => add_names(a, names),
-        Expr::Member { left, .. } => add_names(left, names),
-        Expr::Call { args, .. } => add_names_among(args, names),
+        Expr::And(es) | Expr::Or(es) | Expr::Call { args: es, .. } => add_names_among(es, names),
     }
 }
 
