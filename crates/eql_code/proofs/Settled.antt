@@ -1,7 +1,10 @@
 -- Expressions without a field, and texts in quotes that write addresses and blocks.
 use Rattle.std.proofs.Common.{◌≡◌, ℕ, List, [], ◌∷◌, ◌++◌, Bool, true, false, Some, refl, sym, ap, ap₂, ◌∙◌}
 use Rattle.std.specs.Prelude.{◌||◌, if◌then◌else◌}
+use Rattle.std.specs.Result.{IfOk, OnOk}
+use Rattle.std.specs.declared.result.Result.{Result}
 use Rattle.std.proofs.lemmas.Bool.{or_parts}
+use Rattle.std.proofs.lemmas.Result.{IfOk-weaker, on_ok_weaker}
 use Rattle.eql_values.specs.declared.value.Value.{Value}
 use Rattle.eql_values.specs.declared.value.Kind.{Kind}
 use Rattle.eql_query.specs.Tree.{Tree, Trees, none, more}
@@ -74,6 +77,16 @@ without_field fields (t.call name fold args) e = (if_false _ _ _ e, if_false _ _
 -- where a field stands in it
 pub with_field : (a : Tree) (ops : List Op) (d : ℕ) → holds_field a ≡ true → (settled a ops ≡ ops) × (settled_depth a d ≡ d)
 with_field a ops d e = (if_true _ _ _ e, if_true _ _ _ e)
+
+-- the code and the depth that were appended there
+pub code_held : {E : Type 0} (fields : List (List ℕ × Kind)) (a : Tree) (ops : List Op) (r : Result ℕ E) (now was : List Op) → holds_field a ≡ true →
+    settled a ops ≡ code fields a → OnOk r (now ≡ ops ++ was) → OnOk r (now ≡ code fields a ++ was)
+code_held fields a ops r now was held is appended =
+    on_ok_weaker r (λ e. e ∙ ap (λ ops. ops ++ was) (sym (with_field a ops 0 held).0 ∙ is)) appended
+
+pub depth_held : {E : Type 0} (a : Tree) (d : ℕ) (r : Result ℕ E) → holds_field a ≡ true → settled_depth a d ≡ depth a →
+    IfOk r (λ n. n ≡ d) → IfOk r (λ n. n ≡ depth a)
+depth_held a d r held is deep = IfOk-weaker r (λ n. n ≡ d) (λ n. n ≡ depth a) (λ n e. e ∙ sym (with_field a [] d held).1 ∙ is) deep
 
 -- a comparison in which a field stands, by the side that writes an address
 pub compared_code : (fields : List (List ℕ × Kind)) (a : Tree) (s : Beside) (was now : List Op) → is_compare a ≡ true → holds_field a ≡ true → s ≡ side_of a →

@@ -342,15 +342,9 @@ fn emit_two(
     ensures some { IfOk result (λ d. 1 ≤ d) }
     ensures len { IfOk result (λ d. vec_len ops.old + d ≤ vec_len ops.new) }
 {
+    put_op(ops, op)?;
     match expr {
-        Expr::Math(_, a, b) => {
-            put_op(ops, op)?;
-            let right = emit(alloc, ops, b, fields)?;
-            let left = emit(alloc, ops, a, fields)?;
-            Ok(left.max(right + 1))
-        }
-        Expr::Cmp(_, a, b) => {
-            put_op(ops, op)?;
+        Expr::Cmp(_, a, b) | Expr::Math(_, a, b) => {
             let right = emit(alloc, ops, b, fields)?;
             let left = emit(alloc, ops, a, fields)?;
             Ok(left.max(right + 1))
