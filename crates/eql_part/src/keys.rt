@@ -29,11 +29,21 @@ use std::sync::ledger::Ledger;
 /// The pending sequences of all keys.
 ///
 /// Contracts see it as the number of its stages, its span in nanoseconds, and its pending sequences by key and stage.
-#[derive(Drop)]
 pub struct Keys<L: Ledger> {
     shape: Shape,
     machines: KeyTable<L>,
     list: SpanList<Start>,
+}
+
+// A drop of its own: where these are dropped, also in a crate above, there is one call, and not one for each part.
+impl<L: Ledger> Drop for Keys<L> {
+    fn drop(self) {
+        let Keys {
+            shape: _,
+            machines: _,
+            list: _,
+        } = self;
+    }
 }
 
 impl<L: Ledger> Model for Keys<L> {
@@ -75,10 +85,10 @@ impl<L: Ledger> Keys<L> {
             stages: m,
             span,
         };
-        let mut machines = KeyTable::new(alloc);
-        let mut list = SpanList::new(alloc);
         let mut holders = holders.into_items();
         sort_by_start(&mut holders)?;
+        let mut machines = KeyTable::new(alloc);
+        let mut list = SpanList::new(alloc);
         put_all(&mut machines, &mut list, shape, holders)?;
         Ok(Keys {
             shape,

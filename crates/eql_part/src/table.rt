@@ -28,7 +28,6 @@ pub(crate) struct Room<L: Ledger> {
 }
 
 /// The rooms, and where each key has its own.
-#[derive(Drop)]
 pub(crate) struct KeyTable<L: Ledger> {
     /// The place of a key's room, under the key's hash.
     pub by_hash: HashIndex,
@@ -40,6 +39,19 @@ pub(crate) struct KeyTable<L: Ledger> {
     pub leads: Vec<u128>,
     /// Places of rooms without a key.
     pub free: Vec<usize>,
+}
+
+// A drop of its own: where a table is dropped there is one call, and not one for each part.
+impl<L: Ledger> Drop for KeyTable<L> {
+    fn drop(self) {
+        let KeyTable {
+            by_hash: _,
+            others: _,
+            rooms: _,
+            leads: _,
+            free: _,
+        } = self;
+    }
 }
 
 impl<L: Ledger> KeyTable<L> {
@@ -115,10 +127,10 @@ impl<L: Ledger> KeyTable<L> {
         ensures within { IfOk result (λ place. place < length self.new.rooms.items) }
         ensures spare { IfOk result (λ place. key_at self.new.rooms.items place ≡ None) }
     {
-        let machine = KeyMachine::new(shape.alloc, shape.stages, shape.span)?;
         let place = self.rooms.len();
         self.free.reserve(place + 1)?;
         self.leads.reserve(1)?;
+        let machine = KeyMachine::new(shape.alloc, shape.stages, shape.span)?;
         self.rooms.push(Room { key: None, machine })?;
         self.leads.push_reserved(0);
         self.free.push_reserved(place);

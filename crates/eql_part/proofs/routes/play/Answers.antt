@@ -90,3 +90,6 @@ returns-then-len-eq1-clause-unchanged g c = c.play_one.ensures.unchanged
 
 pub returns-in-Err-clause-unchanged : goal.returns-in-Err-clause-unchanged
 returns-in-Err-clause-unchanged g c = λ q k. c.drop_all_empty.ensures.sequences q k ∙ c.in-Err.ensures.sequences q k
+
+pub drop_all_empty-requires-clause-table : goal.drop_all_empty-requires-clause-table
+drop_all_empty-requires-clause-table g c = c.prepare_all.ensures.table
