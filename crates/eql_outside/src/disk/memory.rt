@@ -14,11 +14,21 @@ use eql_values::Memory;
 use std::alloc::Global;
 
 /// A disk in memory.
-#[derive(Drop)]
 pub struct MemDisk {
     areas: MemMoment,
     past: Vec<MemMoment>,
     planned: PlannedFaults,
+}
+
+// A drop of its own: where a disk is dropped there is one call, and not one for each part.
+impl Drop for MemDisk {
+    fn drop(self) {
+        let MemDisk {
+            areas: _,
+            past: _,
+            planned: _,
+        } = self;
+    }
 }
 
 impl MemDisk {

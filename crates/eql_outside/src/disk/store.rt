@@ -18,18 +18,34 @@ pub(crate) struct MemWrite {
 }
 
 /// An area: what was kept last, the writes since, the last of them first, and what a read gives.
-#[derive(Drop)]
 pub(crate) struct MemStore {
     kept: Vec<u8>,
     writes: Vec<MemWrite>,
     seen: Vec<u8>,
 }
 
+// A drop of its own: where an area is dropped there is one call, and not one for each list.
+impl Drop for MemStore {
+    fn drop(self) {
+        let MemStore {
+            kept: _,
+            writes: _,
+            seen: _,
+        } = self;
+    }
+}
+
 /// Both areas at one moment.
-#[derive(Drop)]
 pub(crate) struct MemMoment {
     a: MemStore,
     b: MemStore,
+}
+
+// A drop of its own, as of an area.
+impl Drop for MemMoment {
+    fn drop(self) {
+        let MemMoment { a: _, b: _ } = self;
+    }
 }
 
 impl MemWrite {

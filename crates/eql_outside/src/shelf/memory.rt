@@ -30,7 +30,6 @@ pub struct MemFile {
 }
 
 /// A shelf over files in memory, with one disk. Its sources are over copies, and it hands out a copy of the disk.
-#[derive(Drop)]
 pub struct MemShelf {
     files: Vec<MemFile>,
     planned: PlannedFaults,
@@ -40,6 +39,22 @@ pub struct MemShelf {
     disk: MemDisk,
     out: bool,
     disk_faults: u64,
+}
+
+// A drop of its own: where a shelf is dropped there is one call, and not one for each part.
+impl Drop for MemShelf {
+    fn drop(self) {
+        let MemShelf {
+            files: _,
+            planned: _,
+            names: _,
+            absent: _,
+            lent: _,
+            disk: _,
+            out: _,
+            disk_faults: _,
+        } = self;
+    }
 }
 
 impl MemShelf {
@@ -92,7 +107,17 @@ impl MemShelf {
         ensures plan { ⟦<MemDisk as Disk>⟧.fault_plan result
             ≡ ⟦<MemShelf as Shelf>⟧.disk_plan self }
     {
-        self.disk
+        let MemShelf {
+            files: _,
+            planned: _,
+            names: _,
+            absent: _,
+            lent: _,
+            disk,
+            out: _,
+            disk_faults: _,
+        } = self;
+        disk
     }
 }
 

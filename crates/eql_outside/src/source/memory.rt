@@ -11,7 +11,6 @@ use eql_values::Memory;
 use std::alloc::Global;
 
 /// A source over bytes in memory.
-#[derive(Drop)]
 pub struct MemSource {
     bytes: Vec<u8>,
     at: usize,
@@ -20,6 +19,19 @@ pub struct MemSource {
     lent: Option<Lent>,
     ghost some_piece: { 1 ≤ piece },
     ghost within: { at ≤ vec_len bytes },
+}
+
+// A drop of its own: where a source is dropped there is one call, and not one for each part.
+impl Drop for MemSource {
+    fn drop(self) {
+        let MemSource {
+            bytes: _,
+            at: _,
+            piece: _,
+            planned: _,
+            lent: _,
+        } = self;
+    }
 }
 
 impl MemSource {
@@ -77,7 +89,14 @@ impl MemSource {
     pub(crate) fn into_lent(self) -> Option<Lent>
         ensures { option_map name_lent result ≡ ⟦<MemSource as Source>⟧.lent_as self }
     {
-        self.lent
+        let MemSource {
+            bytes: _,
+            at: _,
+            piece: _,
+            planned: _,
+            lent,
+        } = self;
+        lent
     }
 
     // The bytes that one take gives at most.
