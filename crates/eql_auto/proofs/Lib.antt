@@ -4,3 +4,5 @@ pub mod Moving
 pub mod Tags
 pub mod Sweeping
 pub mod Turning
+mod Counting
+mod Halves

@@ -25,12 +25,23 @@ use std::sync::ledger::Ledger;
 ///
 /// Contracts see it as its span in nanoseconds, its slots by stage, the tags that weren't read yet, and whether it has
 /// room for one more chain.
-#[derive(Drop)]
 pub struct Auto<T, L: Ledger> {
     span: Option<i128>,
     table: SlotTable<T, L>,
     gone: Vec<T>,
     spare: Option<Vec<OrderKey>>,
+}
+
+// A drop of its own: where a machine is dropped, also in a crate above, there is one call, and not one for each part.
+impl<T: Drop, L: Ledger> Drop for Auto<T, L> {
+    fn drop(self) {
+        let Auto {
+            span: _,
+            table: _,
+            gone: _,
+            spare: _,
+        } = self;
+    }
 }
 
 impl<T, L: Ledger> Model for Auto<T, L> {

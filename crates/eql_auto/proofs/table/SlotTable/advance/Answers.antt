@@ -102,3 +102,16 @@ returns-then-not-is_early-clause-completed g c =
     let from = c.requires.from in
     dropped_out c.args.span c.args.event c.self.inside.slots.items c.take_slot.new.slots.items c.args.self.now (c.args.stage - 1) c.args.stage c.in-Some.held
     c.self.view_is c.take_slot.ensures.left taken (omega arith) (sym c.is_early.ensures ∙ c.if-not-is_early.true)
+
+pub take_slot-requires : goal.take_slot-requires
+take_slot-requires g c =
+    let len = shown_length c.self.inside.slots.items c.args.self.now c.self.view_is in
+    let ok = c.self.inside.slots.ok.0 in let from = c.requires.from in let to = c.requires.to in
+    omega arith
+
+pub push_reserved-requires : goal.push_reserved-requires
+push_reserved-requires g c =
+    let kept = kept_at c.self.inside.slots.items (c.args.stage - 1) c.in-Some.held c.self.invariant (sym c.in-Some.is ∙ c.take_slot.ensures.taken) in
+    let len = shown_length c.self.inside.slots.items c.args.self.now c.self.view_is in
+    let from = c.requires.from in let to = c.requires.to in
+    omega (arith, kept.full, kept.room)
