@@ -14,12 +14,23 @@ use std::marker::Model;
 
 /// A reader of lines by a plan. It has all that it needs of the plan, and keeps its rooms from line to line: the stack
 /// of the conditions, the list of routes, and what the reading of lines needs.
-#[derive(Drop)]
 pub struct PlanReader {
     scan: LineScan,
     judges: Judges,
     stack: Stack,
     routes: Vec<Route>,
+}
+
+// A drop of its own: where a reader is dropped, also in a crate above, there is one call, and not one for each part of it.
+impl Drop for PlanReader {
+    fn drop(self) {
+        let PlanReader {
+            scan: _,
+            judges: _,
+            stack: _,
+            routes: _,
+        } = self;
+    }
 }
 
 impl Model for PlanReader {
