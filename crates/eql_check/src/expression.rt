@@ -169,7 +169,8 @@ fn operator(
     asked: Kind,
     gives: Kind,
 ) -> Result<Option<Kind>, CheckRefused>
-    ensures { Answers result (broken.operator item (kind_at mapping.now) (tree a.now) asked gives) }
+    ensures { Answers result
+        (broken.operator item (kind_at mapping.now) (tree a.now) asked gives) }
 {
     let k = kind_of(alloc, item, mapping, a)?;
     given(item, may_be(asked, k), gives)

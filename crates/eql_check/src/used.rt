@@ -42,7 +42,8 @@ impl Used {
     /// Uses a field, where the mapping has it.
     #[tactic(auto, using(crate::proofs::Entering::entered))]
     fn add(&mut self, mapping: &Mapping, name: &Text) -> Result<(), Memory>
-        ensures { OnOk result (self.new ≡ use_if (kind_at mapping.now name.now) self.old name.now) }
+        ensures { OnOk result (self.new
+            ≡ use_if (kind_at mapping.now name.now) self.old name.now) }
     {
         match mapping.kind(name) {
             None => Ok(()),

@@ -38,7 +38,8 @@ fn write_query<'a, K: Sink>(alloc: Global, query: &Query, out: &mut K) -> Result
     ensures stops { IfErr result StopsWriting }
     ensures out { OutFollows result (K.fault_count out.old) (K.fault_count out.new) }
     ensures counts { K.fault_count out.old ≤ K.fault_count out.new }
-    ensures unfailing { IsUnfailing (K.fault_plan out.old) → IfErr result (λ halt. ¬ IsFault halt) }
+    ensures unfailing { IsUnfailing (K.fault_plan out.old)
+        → IfErr result (λ halt. ¬ IsFault halt) }
 {
     let Ok(line) = query_line(alloc, query) else {
         return Err(RunHalt::Files(Halt::Memory));
@@ -68,7 +69,8 @@ pub(crate) fn check_query<'a, H: Shelf, K: Sink>(
     ensures cause { IfErr result (HasPrintCause query.now fields.now (H.files shelf.old)) }
     ensures faults { FaultsFollow result (H.faults_of shelf.old) (H.faults_of shelf.new) }
     ensures count { CountFollows result (H.fault_count shelf.old) (H.fault_count shelf.new) }
-    ensures absences { AbsencesFollow result (H.absent_count shelf.old) (H.absent_count shelf.new) }
+    ensures absences { AbsencesFollow result
+        (H.absent_count shelf.old) (H.absent_count shelf.new) }
     ensures out { OutFollows result (K.fault_count out.old) (K.fault_count out.new) }
     ensures counts { (H.fault_count shelf.old ≤ H.fault_count shelf.new)
         × (H.absent_count shelf.old ≤ H.absent_count shelf.new)

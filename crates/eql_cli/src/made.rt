@@ -32,7 +32,8 @@ pub(crate) fn run_made<'a, R: Threads + Wait + Sync, K: Sink, W: Gate + Sync>(
     ensures stops { IfErr result StopsWriting }
     ensures out { OutFollows result (K.fault_count out.old) (K.fault_count out.new) }
     ensures counts { K.fault_count out.old ≤ K.fault_count out.new }
-    ensures unfailing { IsUnfailing (K.fault_plan out.old) → IfErr result (λ halt. ¬ IsFault halt) }
+    ensures unfailing { IsUnfailing (K.fault_plan out.old)
+        → IfErr result (λ halt. ¬ IsFault halt) }
 {
     match write_summary(rt, alloc, hands, events, out, gate) {
         Ok(()) => Ok(()),

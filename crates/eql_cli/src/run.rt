@@ -54,7 +54,8 @@ fn run_command<'a, R: Threads + Wait + Sync, H: Shelf, K: Sink, E: Sink, G: Gate
         (E.written err.old) (E.written err.new)) }
     ensures faults { FaultsFollow result (H.faults_of shelf.old) (H.faults_of shelf.new) }
     ensures count { CountFollows result (H.fault_count shelf.old) (H.fault_count shelf.new) }
-    ensures absences { AbsencesFollow result (H.absent_count shelf.old) (H.absent_count shelf.new) }
+    ensures absences { AbsencesFollow result
+        (H.absent_count shelf.old) (H.absent_count shelf.new) }
     ensures disk { DiskFollows result
         (H.disk_fault_count shelf.old) (H.disk_fault_count shelf.new) }
     ensures out { OutFollows result (K.fault_count out.old) (K.fault_count out.new) }

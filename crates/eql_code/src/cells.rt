@@ -63,7 +63,8 @@ impl Frame<'_> {
 
     /// The value of a cell, made its own. `Memory` where memory ran out, which comes only for a text.
     pub fn owned(&self, cell: Cell) -> Result<Value, Memory>
-        ensures value { IfOk result (λ v. v ≡ cell_value self.now.ops.now self.now.slots.now cell) }
+        ensures value { IfOk result
+            (λ v. v ≡ cell_value self.now.ops.now self.now.slots.now cell) }
         ensures free { is_text (cell_value self.now.ops.now self.now.slots.now cell) ≡ false
             → IsOk result }
     {

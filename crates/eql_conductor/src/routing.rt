@@ -91,7 +91,8 @@ fn add_to_one(
     p: u32,
 ) -> Result<(), Memory>
     requires place { p < length lists.old.items }
-    requires parts { parts.now.items ≡ map (λ (r : RouteValue). part_number r.key) item.now.routes }
+    requires parts { parts.now.items
+        ≡ map (λ (r : RouteValue). part_number r.key) item.now.routes }
     ensures { OnOk result (Grows p (routed part_number p (item.now ∷ []))
         lists.old.items lists.new.items) }
 {

@@ -79,7 +79,8 @@ fn run_over<'a, R: Threads + Wait + Sync, H: Shelf, K: Sink, E: Sink, W: Gate + 
         (E.written err.old) (E.written err.new)) }
     ensures faults { FaultsFollow result (H.faults_of shelf.old) (H.faults_of shelf.new) }
     ensures count { CountFollows result (H.fault_count shelf.old) (H.fault_count shelf.new) }
-    ensures absences { AbsencesFollow result (H.absent_count shelf.old) (H.absent_count shelf.new) }
+    ensures absences { AbsencesFollow result
+        (H.absent_count shelf.old) (H.absent_count shelf.new) }
     ensures disk_count { DiskFollows result (disk_faults H.Dsk.history H.Dsk.fault_count keep.old)
         (disk_faults H.Dsk.history H.Dsk.fault_count keep.new) }
     ensures out { OutFollows result (K.fault_count out.old) (K.fault_count out.new) }
@@ -96,7 +97,8 @@ fn run_over<'a, R: Threads + Wait + Sync, H: Shelf, K: Sink, E: Sink, W: Gate + 
     ensures lent { IfSome (H.lent_count shelf.old)
         (λ n. H.lent_count shelf.new ≡ Some (n - length find.now.shards)) }
     ensures moments { find.now.checkpoint ≢ None
-        → DiskTells (KeepsCuts find.now (H.files shelf.old) (K.written out.old) (K.written out.new))
+        → DiskTells (KeepsCuts find.now (H.files shelf.old)
+        (K.written out.old) (K.written out.new))
         (H.disk_history shelf.old)
         (disk_after H.Dsk.history (H.disk_history shelf.old) keep.new) }
     ensures cut_kept { IfErr result (λ halt. IsRefusal halt
@@ -160,7 +162,8 @@ fn run_start<'a, R: Threads + Wait + Sync, H: Shelf, K: Sink, E: Sink, W: Gate +
         (H.disk_history shelf.new) (E.written err.old) (E.written err.new)) }
     ensures faults { FaultsFollow result (H.faults_of shelf.old) (H.faults_of shelf.new) }
     ensures count { CountFollows result (H.fault_count shelf.old) (H.fault_count shelf.new) }
-    ensures absences { AbsencesFollow result (H.absent_count shelf.old) (H.absent_count shelf.new) }
+    ensures absences { AbsencesFollow result
+        (H.absent_count shelf.old) (H.absent_count shelf.new) }
     ensures disk_count { DiskFollows result (H.disk_fault_count shelf.old)
         (H.disk_fault_count shelf.new) }
     ensures out { OutFollows result (K.fault_count out.old) (K.fault_count out.new) }
@@ -184,7 +187,8 @@ fn run_start<'a, R: Threads + Wait + Sync, H: Shelf, K: Sink, E: Sink, W: Gate +
         × (H.disk_fault_count shelf.new ≡ H.disk_fault_count shelf.old)
         × (H.disk_plan shelf.new ≡ H.disk_plan shelf.old) }
     ensures moments { find.now.checkpoint ≢ None
-        → DiskTells (KeepsCuts find.now (H.files shelf.old) (K.written out.old) (K.written out.new))
+        → DiskTells (KeepsCuts find.now (H.files shelf.old)
+        (K.written out.old) (K.written out.new))
         (H.disk_history shelf.old) (H.disk_history shelf.new) }
     ensures cut_kept { IfErr result (λ halt. IsRefusal halt
         → DiskTells (Goes LeavesNoMore) (H.disk_history shelf.old) (H.disk_history shelf.new)) }
@@ -236,7 +240,8 @@ fn run_shards<'a, R: Threads + Wait + Sync, H: Shelf, K: Sink, E: Sink, W: Gate 
         (H.disk_history shelf.new) (E.written err.old) (E.written err.new)) }
     ensures faults { FaultsFollow result (H.faults_of shelf.old) (H.faults_of shelf.new) }
     ensures count { CountFollows result (H.fault_count shelf.old) (H.fault_count shelf.new) }
-    ensures absences { AbsencesFollow result (H.absent_count shelf.old) (H.absent_count shelf.new) }
+    ensures absences { AbsencesFollow result
+        (H.absent_count shelf.old) (H.absent_count shelf.new) }
     ensures disk_count { DiskFollows result (H.disk_fault_count shelf.old)
         (H.disk_fault_count shelf.new) }
     ensures out { OutFollows result (K.fault_count out.old) (K.fault_count out.new) }
@@ -261,7 +266,8 @@ fn run_shards<'a, R: Threads + Wait + Sync, H: Shelf, K: Sink, E: Sink, W: Gate 
         × (H.disk_fault_count shelf.new ≡ H.disk_fault_count shelf.old)
         × (H.disk_plan shelf.new ≡ H.disk_plan shelf.old) }
     ensures moments { find.now.checkpoint ≢ None
-        → DiskTells (KeepsCuts find.now (H.files shelf.old) (K.written out.old) (K.written out.new))
+        → DiskTells (KeepsCuts find.now (H.files shelf.old)
+        (K.written out.old) (K.written out.new))
         (H.disk_history shelf.old) (H.disk_history shelf.new) }
     ensures cut_kept { IfErr result (λ halt. IsRefusal halt
         → DiskTells (Goes LeavesNoMore) (H.disk_history shelf.old) (H.disk_history shelf.new)) }
@@ -316,7 +322,8 @@ pub fn find_matches<'a, R: Threads + Wait + Sync, H: Shelf, K: Sink, E: Sink, W:
         (H.disk_history shelf.new) (E.written err.old) (E.written err.new)) }
     ensures faults { FaultsFollow result (H.faults_of shelf.old) (H.faults_of shelf.new) }
     ensures count { CountFollows result (H.fault_count shelf.old) (H.fault_count shelf.new) }
-    ensures absences { AbsencesFollow result (H.absent_count shelf.old) (H.absent_count shelf.new) }
+    ensures absences { AbsencesFollow result
+        (H.absent_count shelf.old) (H.absent_count shelf.new) }
     ensures disk_count { DiskFollows result (H.disk_fault_count shelf.old)
         (H.disk_fault_count shelf.new) }
     ensures out { OutFollows result (K.fault_count out.old) (K.fault_count out.new) }
@@ -346,7 +353,8 @@ pub fn find_matches<'a, R: Threads + Wait + Sync, H: Shelf, K: Sink, E: Sink, W:
         × (H.disk_fault_count shelf.new ≡ H.disk_fault_count shelf.old)
         × (H.disk_plan shelf.new ≡ H.disk_plan shelf.old) }
     ensures moments { find.now.checkpoint ≢ None
-        → DiskTells (KeepsCuts find.now (H.files shelf.old) (K.written out.old) (K.written out.new))
+        → DiskTells (KeepsCuts find.now (H.files shelf.old)
+        (K.written out.old) (K.written out.new))
         (H.disk_history shelf.old) (H.disk_history shelf.new) }
     ensures cut_kept { IfErr result (λ halt. IsRefusal halt
         → DiskTells (Goes LeavesNoMore) (H.disk_history shelf.old) (H.disk_history shelf.new)) }

@@ -287,8 +287,10 @@ impl<S: Source, L: LineReader, G: Ledger> Hub<S, L, G> {
         requires own { IsHandOf self.now hand.old × IsHandOf self.now other }
         requires first { IsFirst hand.old }
         ensures own { IsHandOf self.now hand.new }
-        ensures lanes { hand.new.lanes.views ≡ joined_views hand.old.lanes.views other.lanes.views }
-        ensures parts { hand.new.parts.views ≡ joined_views hand.old.parts.views other.parts.views }
+        ensures lanes { hand.new.lanes.views
+            ≡ joined_views hand.old.lanes.views other.lanes.views }
+        ensures parts { hand.new.parts.views
+            ≡ joined_views hand.old.parts.views other.parts.views }
         ensures knows { Knows S.left S.lent_as S.fault_plan L.read_of hand.new }
 
         // What each of the two had seen begins what the first one has seen now.

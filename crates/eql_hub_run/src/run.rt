@@ -119,7 +119,8 @@ pub fn run_hub<
     requires few { length lanes.items ≤ 256 }
     requires hands { hands ≤ 65536 }
     requires texts { AreOfTexts S.left T.text lanes.items }
-    requires may { MayRun plan.now (bench_known L.read_of T.text (bench_of lanes.items parts.items))
+    requires may { MayRun plan.now
+        (bench_known L.read_of T.text (bench_of lanes.items parts.items))
         book.old }
     requires keeps { MayKeepIf D.history D.fault_count plan.now
         (bench_known L.read_of T.text (bench_of lanes.items parts.items)) keep.old }

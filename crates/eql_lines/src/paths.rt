@@ -56,7 +56,8 @@ impl Paths {
 
     /// What the value of the whole line may add to.
     pub(crate) fn whole(&self) -> Active
-        ensures { (i : ℕ) → rest_at self.now.paths.items result i ≡ path_at self.now.paths.items i }
+        ensures { (i : ℕ)
+            → rest_at self.now.paths.items result i ≡ path_at self.now.paths.items i }
     {
         let mut places = Places::none();
         for place in 0..self.paths.len() {

@@ -44,7 +44,10 @@ impl<T: Turned> Model for PassRow<T> {
 
     ghost Value = { RowView T T.Op T.Reply };
 
-    ghost view = { λ r. record { locks = ids_in r.passes.items; views = views_in r.passes.items } };
+    ghost view = { λ r. record {
+      locks = ids_in r.passes.items;
+      views = views_in r.passes.items;
+    } };
 }
 
 /// Room for a row of passes. Contracts see for how many.

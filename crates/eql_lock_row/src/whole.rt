@@ -52,7 +52,8 @@ pub(crate) fn unlock_all<T: Turned>(
     requires first { AreFirst (views_in passes.items) }
     requires all_joined { AllAreJoined (views_in passes.items) }
     requires room { vec_len values.old + length locks.items ≤ vec_capacity values.old }
-    ensures { (closed : List T) × AllZip (Closes T.step_of T.is_open) (views_in passes.items) closed
+    ensures { (closed : List T)
+        × AllZip (Closes T.step_of T.is_open) (views_in passes.items) closed
         × (values.new.items ≡ values.old.items ++ reverse closed) }
 {
     let mut locks = locks;

@@ -12,7 +12,8 @@ use std::alloc::Global;
 
 /// Appends the decimal digits of a number.
 fn append_number(text: &mut String, number: i64) -> Result<(), Memory>
-    ensures { OnOk result (string_bytes text.new ≡ string_bytes text.old ++ signed_decimal number) }
+    ensures { OnOk result (string_bytes text.new
+        ≡ string_bytes text.old ++ signed_decimal number) }
 {
     write!(text, "{number}")?;
     Ok(())

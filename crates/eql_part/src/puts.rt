@@ -146,7 +146,8 @@ pub(crate) fn put_all<L: Ledger>(
     ensures of { AreOf shape.stages shape.span (entries_of machines.new) }
     ensures table { IsTable shape.stages shape.span machines.new }
     ensures busy { OnOk result (AreBusy (entries_of machines.new)) }
-    ensures there { OnOk result (All (λ (h : Held). slots_in (entries_of machines.new) h.key h.stage
+    ensures there { OnOk result (All (λ (h : Held).
+        slots_in (entries_of machines.new) h.key h.stage
         ≡ Some h.chain) holders.items) }
     ensures no_other { OnOk result ((q : List Value) (k : ℕ) (c : List OrderKey)
         → slots_in (entries_of machines.new) q k ≡ Some c

@@ -60,7 +60,8 @@ fn expire_machine<L: Ledger>(
     requires table { IsTable shape.stages shape.span machines.old }
     ensures of { AreOf shape.stages shape.span (entries_of machines.new) }
     ensures table { IsTable shape.stages shape.span machines.new }
-    ensures others { KeepsOtherKeys result.key (entries_of machines.old) (entries_of machines.new) }
+    ensures others { KeepsOtherKeys result.key
+        (entries_of machines.old) (entries_of machines.new) }
     ensures alive { (key : List Value) (k : ℕ)
         → alive_at shape.span reach (slots_in (entries_of machines.new) key k)
         ≡ alive_at shape.span reach (slots_in (entries_of machines.old) key k) }

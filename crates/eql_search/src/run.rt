@@ -71,7 +71,8 @@ fn search_lanes<
     requires keeps { MayKeepOn D.history plan.now (length lanes.items) keep.old }
     requires hands { hands ≤ 65536 }
     ensures ran { TriesToSearch S.left S.lent_as S.fault_plan L.read_of D.history D.fault_count
-        T.text plan.now lanes.items result.1.items (record { stages = stages; span = span }) holders
+        T.text plan.now lanes.items result.1.items
+        (record { stages = stages; span = span }) holders
         book.old book.new (K.written sink.old) (K.written sink.new)
         (K.fault_count sink.old) (K.fault_count sink.new) keep.old keep.new (end_of result.0) }
     ensures silent { K.written sink.old ≡ None → K.written sink.new ≡ None }

@@ -46,7 +46,8 @@ impl Judges {
         requires room { self.now.depth ≤ stack.old }
         requires empty { routes.old.items ≡ [] }
         ensures said { OnOk result (routes.new.items
-            ≡ routes_by (given_by event.now.categories event.now.slots self.now.items.items) None) }
+            ≡ routes_by
+            (given_by event.now.categories event.now.slots self.now.items.items) None) }
         ensures stack { stack.new ≡ stack.old }
     {
         let mut place = 0;

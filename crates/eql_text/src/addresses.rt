@@ -65,7 +65,8 @@ fn quarters(text: &str) -> Option<(&str, &str, &str, &str)>
     ensures { MatchOption result
         (parse_ip4 (chars text.now) ≡ None)
         (λ q. parse_ip4 (chars text.now) ≡ address (plain 255 (chars q.0.now)
-        ∷ plain 255 (chars q.1.now) ∷ plain 255 (chars q.2.now) ∷ plain 255 (chars q.3.now) ∷ [])) }
+        ∷ plain 255 (chars q.1.now) ∷ plain 255 (chars q.2.now)
+        ∷ plain 255 (chars q.3.now) ∷ [])) }
 {
     let (a, rest) = split_once_at(text, '.')?;
     let (b, rest) = split_once_at(rest, '.')?;

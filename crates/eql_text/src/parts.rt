@@ -93,7 +93,8 @@ fn between_in(
     greedy: bool,
     fold: bool,
 ) -> Result<Text, Memory>
-    ensures { IfOk result (λ t. t ≡ between (chars s.now) (chars l.now) (chars r.now) greedy fold) }
+    ensures { IfOk result
+        (λ t. t ≡ between (chars s.now) (chars l.now) (chars r.now) greedy fold) }
 {
     let Some(left) = find(s, l, 0, fold) else {
         return Ok(empty(alloc));

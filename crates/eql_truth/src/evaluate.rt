@@ -18,7 +18,8 @@ use std::alloc::Global;
 /// What a condition of a checked query means where the used fields have these values, by their slots; a field whose
 /// slot isn't there is null. `Memory` where memory ran out.
 pub fn eval(alloc: Global, expr: &Expr, checked: &Checked, slots: &Slots) -> Result<Value, Memory>
-    ensures { IfOk result (λ v. v ≡ means (value_at checked.now.fields slots.now) (tree expr.now)) }
+    ensures { IfOk result
+        (λ v. v ≡ means (value_at checked.now.fields slots.now) (tree expr.now)) }
 {
     evaluate_in(alloc, expr, checked.fields(), slots)
 }
@@ -169,7 +170,8 @@ fn evaluate_all(
     fields: &NameKinds,
     slots: &Slots,
 ) -> Result<Vec<Value>, Memory>
-    ensures { IfOk result (λ vs. vs.items ≡ values (value_at fields.now slots.now) (trees es.now)) }
+    ensures { IfOk result
+        (λ vs. vs.items ≡ values (value_at fields.now slots.now) (trees es.now)) }
 {
     let mut all = Vec::new(alloc);
     for item in es.items() {

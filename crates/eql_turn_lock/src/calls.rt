@@ -94,7 +94,8 @@ impl<T: Turned> TurnLock<T> {
         ensures own { (seat.new.table_id ≡ seat.old.table_id) × (seat.new.id ≡ seat.old.id) }
         ensures idle { (seat.new.me.1 ≡ []) × (seat.new.me.0.turn ≡ None)
             × (is_live seat.new.me.0 ≡ true) }
-        ensures played { PlaysLooking [] T.step_of T.is_open seat.old.me.0 op result seat.new.me.0 }
+        ensures played { PlaysLooking [] T.step_of T.is_open seat.old.me.0 op
+            result seat.new.me.0 }
         ensures counted { word + 2 ≡ 2 * length seat.new.me.0.seen }
     {
         let reply = self.play_and_end(seat, word, op);
@@ -118,7 +119,8 @@ impl<T: Turned> TurnLock<T> {
         ensures own { (seat.new.table_id ≡ seat.old.table_id) × (seat.new.id ≡ seat.old.id) }
         ensures idle { (seat.new.me.1 ≡ []) × (seat.new.me.0.turn ≡ None)
             × (is_live seat.new.me.0 ≡ true) }
-        ensures played { PlaysLooking [] T.step_of T.is_open seat.old.me.0 op result seat.new.me.0 }
+        ensures played { PlaysLooking [] T.step_of T.is_open seat.old.me.0 op
+            result seat.new.me.0 }
         ensures counted { word + 2 ≡ 2 * length seat.new.me.0.seen }
     {
         let asked = Snapshot::of(&op);

@@ -23,7 +23,8 @@ pub fn deliver(
         result
         (λ reply. PlaysOnce IsTrayStep tray_open
         (view_of pass.old) (TrayOp.Deliver letter) reply (view_of pass.new))
-        (λ refused. Refuses (view_of pass.old) (TrayOp.Deliver letter) refused (view_of pass.new)) }
+        (λ refused. Refuses (view_of pass.old) (TrayOp.Deliver letter) refused
+        (view_of pass.new)) }
 {
     lock.try_call(pass, TrayOp::Deliver { letter })
 }

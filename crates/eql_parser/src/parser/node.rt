@@ -39,7 +39,8 @@ impl Nodes {
 
     /// These expressions and another one behind them.
     pub fn with(mut self, node: Node) -> Result<Nodes, AllocFailed<Expr>>
-        ensures items { IfOk result (λ n. nodes_trees n ≡ nodes_trees self ++ tree node.expr ∷ []) }
+        ensures items { IfOk result
+            (λ n. nodes_trees n ≡ nodes_trees self ++ tree node.expr ∷ []) }
         ensures depth { IfOk result (λ n. n.depth ≡ max self.depth node.depth) }
     {
         self.items.push(node.expr)?;

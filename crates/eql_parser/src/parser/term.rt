@@ -201,7 +201,8 @@ fn plain_item_of(alloc: Global, tokens: &[Token]) -> Result<(Term, &[Token]), St
 
 /// Whether a missing event, `![`, comes first.
 pub fn is_missing(tokens: &[Token]) -> bool
-    ensures { MatchBool result (IsMissing (kinds tokens.now)) (BeginsNoMissing (kinds tokens.now)) }
+    ensures { MatchBool result
+        (IsMissing (kinds tokens.now)) (BeginsNoMissing (kinds tokens.now)) }
 {
     match after(Mark::Bang, tokens) {
         None => false,

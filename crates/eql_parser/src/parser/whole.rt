@@ -59,7 +59,8 @@ fn named_pipe<'a>(
 
 /// The pipes up to the end.
 fn pipes_of(alloc: Global, tokens: &[Token]) -> Result<(Vec<PipeText>, &[Token]), Stop>
-    ensures { Answers (λ v. v.items) result (pipes (length (kinds tokens.now)) (kinds tokens.now)) }
+    ensures { Answers (λ v. v.items) result
+        (pipes (length (kinds tokens.now)) (kinds tokens.now)) }
 {
     let mut items = Vec::new(alloc);
     let mut rest = tokens;

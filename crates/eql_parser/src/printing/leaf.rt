@@ -89,7 +89,8 @@ fn put_doubled(page: &mut Page, name: &str) -> Result<(), Memory>
 
 /// Writes a field: its whole name in backticks.
 pub(crate) fn put_field(page: &mut Page, field: &FieldRef) -> Result<(), Memory>
-    ensures { OnOk result (Adds page.old page.new (field_shown field.now.name field.now.optional)) }
+    ensures { OnOk result (Adds page.old page.new
+        (field_shown field.now.name field.now.optional)) }
 {
     page.put(if field.optional { "?`" } else { "`" })?;
     put_doubled(page, field.name.text())?;

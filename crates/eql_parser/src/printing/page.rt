@@ -67,7 +67,8 @@ impl Page {
 
     /// Writes a number in decimal digits.
     pub(crate) fn put_number(&mut self, number: &i64) -> Result<(), Memory>
-        ensures { OnOk result (Adds self.old self.new (λ rest. signed_decimal number.now ++ rest)) }
+        ensures { OnOk result (Adds self.old self.new
+            (λ rest. signed_decimal number.now ++ rest)) }
     {
         write!(self.text, "{number}")?;
         Ok(())
