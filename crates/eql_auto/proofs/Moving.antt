@@ -10,7 +10,7 @@ use Rattle.eql_values.specs.declared.item.Mask.{Mask}
 use Rattle.eql_values.specs.Masks.{has_after}
 use Rattle.eql_values.specs.Ordered.{found_or}
 use Rattle.eql_auto.specs.Machine.{Sequence, slot_at, went_on, stages_in}
-use Rattle.eql_auto.specs.Moves.{chain_in, come, moved_to}
+use Rattle.eql_auto.specs.Moves.{chain_in, coming_to, moved_to}
 
 -- the tests, as they come out
 yes_lt : (k j : ℕ) → k < j → nat_lt k j ≡ true
@@ -154,7 +154,7 @@ module _ {T : Type 0} (span : Option ℤ) (event : OrderKey) (mask : Mask) (old 
     ]
 
     -- what is moved on
-    pub moved_is : chain_in (went_on span event (get_or before (k - 1) None)) ≡ chain_in (come span event mask old (suc k))
+    pub moved_is : chain_in (went_on span event (get_or before (k - 1) None)) ≡ chain_in (coming_to span event mask old (suc k))
     moved_is = ap (λ (o : Option (Sequence T)). chain_in (went_on span event o)) held ∙ sym (ap (λ b. chain_in (cond b (went_on span event (slot_at old k)) None)) has)
 
   -- at first the slots stand
@@ -180,12 +180,12 @@ module _ {T : Type 0} (span : Option ℤ) (event : OrderKey) (mask : Mask) (old 
 
   -- the chain that was completed, once those from n on have moved
   abbrev pub completed_from : ℕ → Option (List OrderKey)
-  completed_from n = chain_in (cond (nat_lt n (suc (length old))) (come span event mask old (suc (length old))) None)
+  completed_from n = chain_in (cond (nat_lt n (suc (length old))) (coming_to span event mask old (suc (length old))) None)
 
   pub none_yet : (n : ℕ) → n ≡ suc (length old) → completed_from n ≡ None
   none_yet n e = let a = no_lt n (suc (length old)) (omega arith) in simp a
 
-  done_from : (n : ℕ) → n < suc (length old) → completed_from n ≡ chain_in (come span event mask old (suc (length old)))
+  done_from : (n : ℕ) → n < suc (length old) → completed_from n ≡ chain_in (coming_to span event mask old (suc (length old)))
   done_from n l = let a = yes_lt n (suc (length old)) l in simp a
 
   not_come : (b : Bool) (here : Option (Sequence T)) → b ≡ false → chain_in (cond b here None) ≡ None
@@ -194,17 +194,17 @@ module _ {T : Type 0} (span : Option ℤ) (event : OrderKey) (mask : Mask) (old 
 
   -- one move goes on with it
   pub completes : (k n : ℕ) (out was now : Option (List OrderKey)) → k < n → n ≤ suc (length old) → ((i : ℕ) → k < i → i < n → has_after i mask ≡ false)
-      → out ≡ cond (k == length old) (chain_in (come span event mask old (suc k))) None → was ≡ completed_from n → now ≡ found_or out was → now ≡ completed_from k
+      → out ≡ cond (k == length old) (chain_in (coming_to span event mask old (suc k))) None → was ≡ completed_from n → now ≡ found_or out was → now ≡ completed_from k
   completes k n out was now l most none o w is = elim (cases_order k (length old)) [
     | inl e ↦
         let last : (k == length old) ≡ true = grind (arith, nat_tests) in
         let at : was ≡ None = w ∙ none_yet n (omega arith) in
-        is ∙ ap (found_or out) at ∙ or_none out ∙ o ∙ ap (λ b. cond b (chain_in (come span event mask old (suc k))) None) last
-        ∙ ap (λ (j : ℕ). chain_in (come span event mask old (suc j))) e ∙ sym (done_from k (omega arith))
+        is ∙ ap (found_or out) at ∙ or_none out ∙ o ∙ ap (λ b. cond b (chain_in (coming_to span event mask old (suc k))) None) last
+        ∙ ap (λ (j : ℕ). chain_in (coming_to span event mask old (suc j))) e ∙ sym (done_from k (omega arith))
     | inr apart ↦
         let inner : k < length old = elim apart [ inl l' ↦ l' | inr l' ↦ absurd (omega arith) ] in
         let early : (k == length old) ≡ false = grind (arith, nat_tests) in
-        is ∙ ap (λ (x : Option (List OrderKey)). found_or x was) (o ∙ ap (λ b. cond b (chain_in (come span event mask old (suc k))) None) early) ∙ w
+        is ∙ ap (λ (x : Option (List OrderKey)). found_or x was) (o ∙ ap (λ b. cond b (chain_in (coming_to span event mask old (suc k))) None) early) ∙ w
         ∙ elim (cases_lt n (suc (length old))) [
           | inl less ↦ done_from n less
           | inr whole ↦ none_yet n (omega arith) ∙ sym (not_come (has_after (length old) mask) (went_on span event (slot_at old (length old))) (none (length old) inner (omega arith)))
@@ -216,12 +216,12 @@ module _ {T : Type 0} (span : Option ℤ) (event : OrderKey) (mask : Mask) (old 
     or_none (Some c) = refl
 
   pub completed_at_end : (n : ℕ) → 1 ≤ n → n ≤ suc (length old) → ((i : ℕ) → 1 ≤ i → i < n → has_after i mask ≡ false)
-      → completed_from n ≡ chain_in (come span event mask old (suc (length old)))
+      → completed_from n ≡ chain_in (coming_to span event mask old (suc (length old)))
   completed_at_end n from most none = elim (cases_lt n (suc (length old))) [
     | inl less ↦ done_from n less
     | inr whole ↦ none_yet n (omega arith) ∙ sym (last old (omega arith))
   ] where
-    last : (slots : List (Option (Sequence T))) → length slots < n → chain_in (come span event mask slots (suc (length slots))) ≡ None
+    last : (slots : List (Option (Sequence T))) → length slots < n → chain_in (coming_to span event mask slots (suc (length slots))) ≡ None
     last [] l = ap chain_in (both_none (has_after 0 mask))
     last (s ∷ slots) l = not_come (has_after (suc (length slots)) mask) (went_on span event (slot_at (s ∷ slots) (suc (length slots)))) (none (suc (length slots)) (omega arith) l)
 

@@ -20,7 +20,7 @@ use Rattle.eql_values.specs.Ordered.{found_or}
 use Rattle.eql_laws.specs.Slots.{Slots, chain_moved_on, chain_coming, slots_after}
 use Rattle.eql_laws.specs.Steps.{StepMovesSlots, StepMakesChain}
 use Rattle.eql_auto.specs.Machine.{AllAreBefore, ComesAfter, Sequence, act_of, alive_in, arrived_at, chains_of, slot_at, slot_after, tags_of, went_on}
-use Rattle.eql_auto.specs.Moves.{begun, chain_in, come, moved_to}
+use Rattle.eql_auto.specs.Moves.{with_new_sequence, chain_in, coming_to, moved_to}
 use Rattle.eql_auto.proofs.Written.{get_or_any}
 
 module _ {T : Type 0} where
@@ -53,12 +53,12 @@ module _ {T : Type 0} where
   came_at_end span event false u o = refl
 
   -- beginning touches no later slot
-  begun_later : (event : OrderKey) (tag : Option T) (slots : List (Option (Sequence T))) (j : ℕ) → slot_at (begun event tag slots) (suc (suc j)) ≡ slot_at slots (suc (suc j))
+  begun_later : (event : OrderKey) (tag : Option T) (slots : List (Option (Sequence T))) (j : ℕ) → slot_at (with_new_sequence event tag slots) (suc (suc j)) ≡ slot_at slots (suc (suc j))
   begun_later event None slots j = refl
   begun_later event (Some t) [] j = refl
   begun_later event (Some t) (s ∷ slots) j = refl
 
-  pub begun_length : (event : OrderKey) (tag : Option T) (slots : List (Option (Sequence T))) → length (begun event tag slots) ≡ length slots
+  pub begun_length : (event : OrderKey) (tag : Option T) (slots : List (Option (Sequence T))) → length (with_new_sequence event tag slots) ≡ length slots
   begun_length event None slots = refl
   begun_length event (Some t) [] = refl
   begun_length event (Some t) (s ∷ slots) = refl
@@ -67,7 +67,7 @@ module _ {T : Type 0} where
     slot_was : (k : ℕ) → slot_at emptied k ≡ cond until None (slot_at old k)
     slot_was k = ap (λ (l : List (Option (Sequence T))). slot_at l k) e ∙ slot_emptied until old k
 
-    came_to : (j : ℕ) → come span event mask emptied (suc (suc j)) ≡ cond (has_after (suc j) mask && not until) (went_on span event (slot_at old (suc j))) None
+    came_to : (j : ℕ) → coming_to span event mask emptied (suc (suc j)) ≡ cond (has_after (suc j) mask && not until) (went_on span event (slot_at old (suc j))) None
     came_to j =
         ap (λ (o : Option (Sequence T)). cond (has_after (suc j) mask) (went_on span event o) None) (slot_was (suc j))
         ∙ came_at_end span event (has_after (suc j) mask) until (slot_at old (suc j))
@@ -76,7 +76,7 @@ module _ {T : Type 0} where
     stayed k = ap (λ (o : Option (Sequence T)). cond (has_after k mask) None o) (slot_was k) ∙ kept_at_end (has_after k mask) until (slot_at old k)
 
     pub turned : (tag : Option T) (advanced after : List (Option (Sequence T))) → is_some tag ≡ has_after 0 mask → length advanced ≡ length old
-        → ((k : ℕ) → 1 ≤ k → k ≤ length old → slot_at advanced k ≡ moved_to span event mask emptied k) → after ≡ begun event tag advanced
+        → ((k : ℕ) → 1 ≤ k → k ≤ length old → slot_at advanced k ≡ moved_to span event mask emptied k) → after ≡ with_new_sequence event tag advanced
         → (k : ℕ) → 1 ≤ k → k < suc (length old) → slot_at after k ≡ slot_after span tag (act_of event mask until) old k
     turned tag advanced after tagged len is w zero low high = absurd (omega arith)
     turned (Some t) advanced after tagged len is w (suc zero) low high =
@@ -91,14 +91,14 @@ module _ {T : Type 0} where
         ∙ ap (λ (o : Option (Sequence T)). found_or (cond (has_after (suc j) mask && not until) (went_on span event (slot_at old (suc j))) None) o) (stayed (suc (suc j)))
 
     first_chain : (tag : Option T) (completed : Option (List OrderKey)) → is_some tag ≡ has_after 0 mask
-        → completed ≡ chain_in (come span event mask emptied (suc zero))
+        → completed ≡ chain_in (coming_to span event mask emptied (suc zero))
         → option_or (option_map (λ _. event ∷ []) tag) completed ≡ chain_in (arrived_at span tag (act_of event mask until) old (suc zero))
     first_chain (Some t) completed tagged is = ap (λ b. chain_in (cond b (Some (event ∷ [], t)) None)) tagged
     first_chain None completed tagged is = is
 
     -- the chain that is returned
     pub answered : (n : ℕ) (tag : Option T) (new completed answer : Option (List OrderKey)) → is_some tag ≡ has_after 0 mask
-        → new ≡ cond (0 == n) (option_map (λ _. event ∷ []) tag) None → completed ≡ chain_in (come span event mask emptied (suc n)) → answer ≡ option_or new completed
+        → new ≡ cond (0 == n) (option_map (λ _. event ∷ []) tag) None → completed ≡ chain_in (coming_to span event mask emptied (suc n)) → answer ≡ option_or new completed
         → answer ≡ chain_in (arrived_at span tag (act_of event mask until) old (suc n))
     answered zero tag new completed answer tagged b is a = a ∙ ap (λ (o : Option (List OrderKey)). option_or o completed) b ∙ first_chain tag completed tagged is
     answered (suc n) tag new completed answer tagged b is a =

@@ -20,8 +20,8 @@ use Rattle.eql_values.specs.Ordered.{found_or}
 use Rattle.eql_auto.specs.declared.table.Pending.{Pending}
 use Rattle.eql_auto.specs.declared.table.Which.{Which}
 use Rattle.eql_auto.specs.Machine.{Sequence, AllAreBefore, ComesAfter, tags_of, went_on, chains_of, chains_to}
-use Rattle.eql_auto.specs.Moves.{chain_in, emptied}
-use Rattle.eql_auto.specs.Kept.{IsKept, seen, shown, AreKept}
+use Rattle.eql_auto.specs.Moves.{chain_in, emptied_slot}
+use Rattle.eql_auto.specs.Kept.{IsKept, sequence_view, sequence_views, AreKept}
 
 -- an event that comes after all others of a chain goes on with it in order
 before_push : (first event : OrderKey) (chain : List OrderKey) → before_all first chain ≡ true → order_cmp first event ≡ Less → before_all first (chain ++ event ∷ []) ≡ true
@@ -102,37 +102,37 @@ module _ {T : Type 0} where
       (front_swap (tag_list x) (tag_list v) (tags_of slots)))))
 
   -- what a slot shows
-  pub shown_at : (slots : List (Option (Pending T))) (now : List (Option (Sequence T))) (i : ℕ) → shown slots ≡ now
-      → get_or now i None ≡ option_map seen (get_or slots i None)
-  shown_at slots now i v = ap (λ (l : List (Option (Sequence T))). get_or l i None) (sym v) ∙ get_or-map (option_map seen) slots i None
+  pub shown_at : (slots : List (Option (Pending T))) (now : List (Option (Sequence T))) (i : ℕ) → sequence_views slots ≡ now
+      → get_or now i None ≡ option_map sequence_view (get_or slots i None)
+  shown_at slots now i v = ap (λ (l : List (Option (Sequence T))). get_or l i None) (sym v) ∙ get_or-map (option_map sequence_view) slots i None
 
   -- what a written table shows
-  pub shown_set : (slots : List (Option (Pending T))) (now : List (Option (Sequence T))) (i : ℕ) (v : Option (Pending T)) → shown slots ≡ now
-      → shown (set slots i v) ≡ set now i (option_map seen v)
-  shown_set slots now i v e = map-set (option_map seen) slots i v ∙ ap (λ (l : List (Option (Sequence T))). set l i (option_map seen v)) e
+  pub shown_set : (slots : List (Option (Pending T))) (now : List (Option (Sequence T))) (i : ℕ) (v : Option (Pending T)) → sequence_views slots ≡ now
+      → sequence_views (set slots i v) ≡ set now i (option_map sequence_view v)
+  shown_set slots now i v e = map-set (option_map sequence_view) slots i v ∙ ap (λ (l : List (Option (Sequence T))). set l i (option_map sequence_view v)) e
 
-  pub shown_length : (slots : List (Option (Pending T))) (now : List (Option (Sequence T))) → shown slots ≡ now → length slots ≡ length now
-  shown_length slots now e = sym (length-map slots (option_map seen)) ∙ ap length e
+  pub shown_length : (slots : List (Option (Pending T))) (now : List (Option (Sequence T))) → sequence_views slots ≡ now → length slots ≡ length now
+  shown_length slots now e = sym (length-map slots (option_map sequence_view)) ∙ ap length e
 
-  tag_shown : (p : Option (Pending T)) → option_map (λ p. p.tag) p ≡ option_map (λ s. s.1) (option_map seen p)
+  tag_shown : (p : Option (Pending T)) → option_map (λ p. p.tag) p ≡ option_map (λ s. s.1) (option_map sequence_view p)
   tag_shown None = refl
   tag_shown (Some p) = refl
 
   -- the tags of a written table, where the tag that came out is this one
   pub tags_written : (slots new : List (Option (Pending T))) (now : List (Option (Sequence T))) (i : ℕ) (v older : Option (Pending T)) (out : Option T)
-      → shown slots ≡ now → i < length slots → new ≡ set slots i v → older ≡ get_or slots i None → out ≡ option_map (λ p. p.tag) older
-      → IsPermutation (option_to_list out ++ tags_of (shown new)) (tag_list (option_map seen v) ++ tags_of now)
+      → sequence_views slots ≡ now → i < length slots → new ≡ set slots i v → older ≡ get_or slots i None → out ≡ option_map (λ p. p.tag) older
+      → IsPermutation (option_to_list out ++ tags_of (sequence_views new)) (tag_list (option_map sequence_view v) ++ tags_of now)
   tags_written slots new now i v older out e l w taken o =
       let out_is : option_to_list out ≡ tag_list (get_or now i None) =
       ap option_to_list (o ∙ ap (λ (q : Option (Pending T)). option_map (λ p. p.tag) q) taken ∙ tag_shown (get_or slots i None)) ∙ ap tag_list (sym (shown_at slots now i e)) in
-      let new_is : shown new ≡ set now i (option_map seen v) = ap shown w ∙ shown_set slots now i v e in
+      let new_is : sequence_views new ≡ set now i (option_map sequence_view v) = ap sequence_views w ∙ shown_set slots now i v e in
       let within : i < length now = subst (λ (n : ℕ). i < n) (shown_length slots now e) l in
-      subst (λ (l : List T). IsPermutation (l ++ tags_of (shown new)) (tag_list (option_map seen v) ++ tags_of now)) (sym out_is)
-      (subst (λ (l : List (Option (Sequence T))). IsPermutation (tag_list (get_or now i None) ++ tags_of l) (tag_list (option_map seen v) ++ tags_of now)) (sym new_is)
-      (tags_set now i (option_map seen v) within))
+      subst (λ (l : List T). IsPermutation (l ++ tags_of (sequence_views new)) (tag_list (option_map sequence_view v) ++ tags_of now)) (sym out_is)
+      (subst (λ (l : List (Option (Sequence T))). IsPermutation (tag_list (get_or now i None) ++ tags_of l) (tag_list (option_map sequence_view v) ++ tags_of now)) (sym new_is)
+      (tags_set now i (option_map sequence_view v) within))
 
   -- a table of empty slots
-  pub shown_empty : (n : ℕ) → ◌≡◌ {A = List (Option (Sequence T))} (shown {T = T} (replicate n None)) (replicate n None)
+  pub shown_empty : (n : ℕ) → ◌≡◌ {A = List (Option (Sequence T))} (sequence_views {T = T} (replicate n None)) (replicate n None)
   shown_empty zero = refl
   shown_empty (suc n) = ap (λ (l : List (Option (Sequence T))). None ∷ l) (shown_empty n)
 
@@ -176,13 +176,13 @@ module _ {T : Type 0} where
 
   -- what a slot had is gone, and no other changed
   pub taken_tags : (slots new : List (Option (Pending T))) (now : List (Option (Sequence T))) (i : ℕ) (held : Pending T)
-      → shown slots ≡ now → i < length slots → new ≡ set slots i None → Some held ≡ get_or slots i None
-      → IsPermutation (held.tag ∷ tags_of (shown new)) (tags_of now)
+      → sequence_views slots ≡ now → i < length slots → new ≡ set slots i None → Some held ≡ get_or slots i None
+      → IsPermutation (held.tag ∷ tags_of (sequence_views new)) (tags_of now)
   taken_tags slots new now i held e l w taken = tags_written slots new now i None (Some held) (Some held.tag) e l w taken refl
 
   -- taking out what a slot has leaves the table as long
-  pub taken_length : (slots new : List (Option (Pending T))) (now : List (Option (Sequence T))) (i : ℕ) → shown slots ≡ now → new ≡ set slots i None → length (shown new) ≡ length now
-  taken_length slots new now i e w = ap length (ap shown w ∙ shown_set slots now i None e) ∙ length-set now i None
+  pub taken_length : (slots new : List (Option (Pending T))) (now : List (Option (Sequence T))) (i : ℕ) → sequence_views slots ≡ now → new ≡ set slots i None → length (sequence_views new) ≡ length now
+  taken_length slots new now i e w = ap length (ap sequence_views w ∙ shown_set slots now i None e) ∙ length-set now i None
 
   -- where nothing moves on, no chain comes out
   none_out : (b : Bool) (o : Option (Sequence T)) → o ≡ None → ◌≡◌ {A = Option (List OrderKey)} None (cond b (chain_in o) None)
@@ -191,31 +191,31 @@ module _ {T : Type 0} where
 
   -- an empty slot has nothing to move on
   module _ (span : Option ℤ) (event : OrderKey) (slots new : List (Option (Pending T))) (now : List (Option (Sequence T))) (a k : ℕ)
-      (e : shown slots ≡ now) (taken : ◌≡◌ {A = Option (Pending T)} None (get_or slots a None)) where
+      (e : sequence_views slots ≡ now) (taken : ◌≡◌ {A = Option (Pending T)} None (get_or slots a None)) where
     none_on : went_on span event (get_or now a None) ≡ None
-    none_on = ap (went_on span event) (shown_at slots now a e ∙ ap (option_map seen) (sym taken))
+    none_on = ap (went_on span event) (shown_at slots now a e ∙ ap (option_map sequence_view) (sym taken))
 
     pub nothing : new ≡ set slots a None → k ≡ a + 1
-        → shown new ≡ set (set now a None) k (found_or (went_on span event (get_or now a None)) (get_or now k None))
+        → sequence_views new ≡ set (set now a None) k (found_or (went_on span event (get_or now a None)) (get_or now k None))
     nothing w next =
         let apart : k ≢ a = λ q. absurd (omega arith) in
-        ap shown w ∙ shown_set slots now a None e ∙ sym (set-get_or (set now a None) k None)
+        ap sequence_views w ∙ shown_set slots now a None e ∙ sym (set-get_or (set now a None) k None)
         ∙ ap (λ (o : Option (Sequence T)). set (set now a None) k o) (get_or-set_other now a k None None apart ∙ ap (λ (o : Option (Sequence T)). found_or o (get_or now k None)) (sym none_on))
 
     pub nothing_out : ◌≡◌ {A = Option (List OrderKey)} None (cond (k == length now) (chain_in (went_on span event (get_or now a None))) None)
     nothing_out = none_out (k == length now) (went_on span event (get_or now a None)) none_on
 
   module _ (span : Option ℤ) (event : OrderKey) (slots new : List (Option (Pending T))) (now : List (Option (Sequence T))) (a k : ℕ) (held : Pending T)
-      (e : shown slots ≡ now) (w : new ≡ set slots a None) (taken : Some held ≡ get_or slots a None) (next : k ≡ a + 1) where
-    left_is : shown new ≡ set now a None
-    left_is = ap shown w ∙ shown_set slots now a None e
+      (e : sequence_views slots ≡ now) (w : new ≡ set slots a None) (taken : Some held ≡ get_or slots a None) (next : k ≡ a + 1) where
+    left_is : sequence_views new ≡ set now a None
+    left_is = ap sequence_views w ∙ shown_set slots now a None e
 
-    was : get_or now a None ≡ Some (seen held)
-    was = shown_at slots now a e ∙ ap (option_map seen) (sym taken)
+    was : get_or now a None ≡ Some (sequence_view held)
+    was = shown_at slots now a e ∙ ap (option_map sequence_view) (sym taken)
 
     -- a sequence that is too late leaves its slot
     pub dropped : in_time span held.events.items event.ts ≡ false
-        → shown new ≡ set (set now a None) k (found_or (went_on span event (get_or now a None)) (get_or now k None))
+        → sequence_views new ≡ set (set now a None) k (found_or (went_on span event (get_or now a None)) (get_or now k None))
     dropped late =
         let apart : k ≢ a = λ q. absurd (omega arith) in
         let gone : went_on span event (get_or now a None) ≡ None = ap (went_on span event) was ∙ ap (λ b. cond b (Some (held.events.items ++ event ∷ [], held.tag)) None) late in
@@ -233,16 +233,16 @@ module _ {T : Type 0} where
       goes_on = ap (went_on span event) was ∙ ap (λ b. cond b (Some (held.events.items ++ event ∷ [], held.tag)) None) early
           ∙ ap (λ (c : List OrderKey). Some (c, held.tag)) (sym pushed)
 
-      pub carried : (after : List (Option (Sequence T))) → after ≡ set (shown new) k (Some (events, held.tag))
+      pub carried : (after : List (Option (Sequence T))) → after ≡ set (sequence_views new) k (Some (events, held.tag))
           → after ≡ set (set now a None) k (found_or (went_on span event (get_or now a None)) (get_or now k None))
       carried after settled =
           settled ∙ ap (λ (l : List (Option (Sequence T))). set l k (Some (events, held.tag))) left_is
           ∙ ap (λ (o : Option (Sequence T)). set (set now a None) k (found_or o (get_or now k None))) (sym goes_on)
 
-      pub carried_out : (out : Option (List OrderKey)) → out ≡ cond (k == length (shown new)) (Some events) None
+      pub carried_out : (out : Option (List OrderKey)) → out ≡ cond (k == length (sequence_views new)) (Some events) None
           → out ≡ cond (k == length now) (chain_in (went_on span event (get_or now a None))) None
       carried_out out settled =
-          let len : length (shown new) ≡ length now = ap length left_is ∙ length-set now a None in
+          let len : length (sequence_views new) ≡ length now = ap length left_is ∙ length-set now a None in
           settled ∙ ap (λ n. cond (k == n) (Some events) None) len ∙ ap (λ (o : Option (Sequence T)). cond (k == length now) (chain_in o) None) (sym goes_on)
 
     -- the events with the new one ascend
@@ -261,42 +261,42 @@ module _ {T : Type 0} where
   ascends_at slots i (Some p) all is = (kept_at slots i p all is).ascends
 
   -- a written sequence with this chain
-  pub wrote : (slots new : List (Option (Pending T))) (now : List (Option (Sequence T))) (i : ℕ) (p : Pending T) (chain : List OrderKey) → shown slots ≡ now
-      → new ≡ set slots i (Some p) → p.events.items ≡ chain → shown new ≡ set now i (Some (chain, p.tag))
-  wrote slots new now i p chain e w is = ap shown w ∙ shown_set slots now i (Some p) e ∙ ap (λ (c : List OrderKey). set now i (Some (c, p.tag))) is
+  pub wrote : (slots new : List (Option (Pending T))) (now : List (Option (Sequence T))) (i : ℕ) (p : Pending T) (chain : List OrderKey) → sequence_views slots ≡ now
+      → new ≡ set slots i (Some p) → p.events.items ≡ chain → sequence_views new ≡ set now i (Some (chain, p.tag))
+  wrote slots new now i p chain e w is = ap sequence_views w ∙ shown_set slots now i (Some p) e ∙ ap (λ (c : List OrderKey). set now i (Some (c, p.tag))) is
 
-  no_tag : (o : Option (Pending T)) → ◌≡◌ {A = Option (Sequence T)} (option_map seen o) None → ◌≡◌ {A = Option T} None (option_map (λ p. p.tag) o)
+  no_tag : (o : Option (Pending T)) → ◌≡◌ {A = Option (Sequence T)} (option_map sequence_view o) None → ◌≡◌ {A = Option T} None (option_map (λ p. p.tag) o)
   no_tag None h = refl
   no_tag (Some p) h = cc
 
-  pub wrote_tags : (slots new : List (Option (Pending T))) (now : List (Option (Sequence T))) (i : ℕ) (p : Pending T) → shown slots ≡ now → i < length slots
-      → new ≡ set slots i (Some p) → get_or now i None ≡ None → IsPermutation (tags_of (shown new)) (p.tag ∷ tags_of now)
+  pub wrote_tags : (slots new : List (Option (Pending T))) (now : List (Option (Sequence T))) (i : ℕ) (p : Pending T) → sequence_views slots ≡ now → i < length slots
+      → new ≡ set slots i (Some p) → get_or now i None ≡ None → IsPermutation (tags_of (sequence_views new)) (p.tag ∷ tags_of now)
   wrote_tags slots new now i p e l w free =
       tags_written slots new now i (Some p) (get_or slots i None) None e l w refl (no_tag (get_or slots i None) (sym (shown_at slots now i e) ∙ free))
 
   -- a slot that an emptying leaves
-  pub left_alone : (slots : List (Option (Pending T))) (now : List (Option (Sequence T))) (i : ℕ) (which : Which) (slot : Option (Pending T)) → shown slots ≡ now
-      → slot ≡ get_or slots i None → emptied which (option_map seen slot) ≡ option_map seen slot → now ≡ set now i (emptied which (get_or now i None))
+  pub left_alone : (slots : List (Option (Pending T))) (now : List (Option (Sequence T))) (i : ℕ) (which : Which) (slot : Option (Pending T)) → sequence_views slots ≡ now
+      → slot ≡ get_or slots i None → emptied_slot which (option_map sequence_view slot) ≡ option_map sequence_view slot → now ≡ set now i (emptied_slot which (get_or now i None))
   left_alone slots now i which slot e is h =
-      let held : get_or now i None ≡ option_map seen slot = shown_at slots now i e ∙ ap (option_map seen) (sym is) in
-      sym (set-get_or now i None) ∙ ap (λ (o : Option (Sequence T)). set now i o) (held ∙ sym h ∙ ap (emptied which) (sym held))
+      let held : get_or now i None ≡ option_map sequence_view slot = shown_at slots now i e ∙ ap (option_map sequence_view) (sym is) in
+      sym (set-get_or now i None) ∙ ap (λ (o : Option (Sequence T)). set now i o) (held ∙ sym h ∙ ap (emptied_slot which) (sym held))
 
   pub emptied_out : (slots new : List (Option (Pending T))) (now : List (Option (Sequence T))) (i : ℕ) (which : Which) (slot : Option (Pending T)) (spared : Bool)
-      → shown slots ≡ now → new ≡ set slots i None → slot ≡ get_or slots i None
-      → MatchBool spared (emptied which (option_map seen slot) ≡ option_map seen slot) (emptied which (option_map seen slot) ≡ None) → spared ≡ false
-      → shown new ≡ set now i (emptied which (get_or now i None))
+      → sequence_views slots ≡ now → new ≡ set slots i None → slot ≡ get_or slots i None
+      → MatchBool spared (emptied_slot which (option_map sequence_view slot) ≡ option_map sequence_view slot) (emptied_slot which (option_map sequence_view slot) ≡ None) → spared ≡ false
+      → sequence_views new ≡ set now i (emptied_slot which (get_or now i None))
   emptied_out slots new now i which slot spared e w is h denied =
-      let none : emptied which (option_map seen slot) ≡ None = empties spared _ _ h denied in
-      ap shown w ∙ shown_set slots now i None e
-      ∙ ap (λ (o : Option (Sequence T)). set now i o) (sym (ap (emptied which) (shown_at slots now i e ∙ ap (option_map seen) (sym is)) ∙ none))
+      let none : emptied_slot which (option_map sequence_view slot) ≡ None = empties spared _ _ h denied in
+      ap sequence_views w ∙ shown_set slots now i None e
+      ∙ ap (λ (o : Option (Sequence T)). set now i o) (sym (ap (emptied_slot which) (shown_at slots now i e ∙ ap (option_map sequence_view) (sym is)) ∙ none))
 
   -- the chains up to one more stage
-  pub chains_more : (slots : List (Option (Pending T))) (now : List (Option (Sequence T))) (n k : ℕ) (slot : Option (Pending T)) → shown slots ≡ now → k ≡ n + 1 → slot ≡ get_or slots n None
+  pub chains_more : (slots : List (Option (Pending T))) (now : List (Option (Sequence T))) (n k : ℕ) (slot : Option (Pending T)) → sequence_views slots ≡ now → k ≡ n + 1 → slot ≡ get_or slots n None
       → chains_to now n ++ option_to_list (option_map (λ p. (k, p.events.items)) slot) ≡ chains_to now k
   chains_more slots now n k slot e at is =
       let at' : k ≡ suc n = omega arith in
       let chain : chains_of now (suc n) ≡ option_map (λ p. p.events.items) slot =
-      ap (option_map (λ s. s.0)) (shown_at slots now n e ∙ ap (option_map seen) (sym is)) ∙ once slot in
+      ap (option_map (λ s. s.0)) (shown_at slots now n e ∙ ap (option_map sequence_view) (sym is)) ∙ once slot in
       sym (ap (chains_to now) at' ∙ filter_map-append entry (stages_to n) (suc n ∷ [])
       ∙ ap (λ (o : Option (List OrderKey)). chains_to now n ++ cons_option (option_map (at_stage (suc n)) o) []) chain
       ∙ ap (λ (l : List (ℕ × List OrderKey)). chains_to now n ++ l) (one (suc n) slot)
@@ -304,7 +304,7 @@ module _ {T : Type 0} where
         entry : ℕ → Option (ℕ × List OrderKey)
         entry j = option_map (at_stage j) (chains_of now j)
 
-        once : (o : Option (Pending T)) → option_map (λ s. s.0) (option_map seen o) ≡ option_map (λ p. p.events.items) o
+        once : (o : Option (Pending T)) → option_map (λ s. s.0) (option_map sequence_view o) ≡ option_map (λ p. p.events.items) o
         once None = refl
         once (Some p) = refl
 

@@ -29,12 +29,12 @@ pub record IsFit (count : ℕ) (spare : Option (Vec OrderKey Global)) (capacity 
 
 module _ {T : Type 0} where
   -- a sequence as contracts see it: its events and its tag
-  abbrev pub seen : Pending T → List OrderKey × T
-  seen p = (p.events.items, p.tag)
+  abbrev pub sequence_view : Pending T → List OrderKey × T
+  sequence_view p = (p.events.items, p.tag)
 
   -- the sequences of the slots
-  abbrev pub shown : List (Option (Pending T)) → List (Option (List OrderKey × T))
-  shown slots = map (option_map seen) slots
+  abbrev pub sequence_views : List (Option (Pending T)) → List (Option (List OrderKey × T))
+  sequence_views slots = map (option_map sequence_view) slots
 
   -- each sequence is kept so
   abbrev pub AreKept : List (Option (Pending T)) → Type 0

@@ -15,20 +15,20 @@ module _ {T : Type 0} where
   chain_in slot = option_map (λ s. s.0) slot
 
   -- what an emptying leaves of a slot: nothing, or what isn't stale
-  abbrev pub emptied : Which → Option (Sequence T) → Option (Sequence T)
-  emptied which.All slot = None
-  emptied (which.Stale span reach) slot = alive_in (Some span) reach slot
+  abbrev pub emptied_slot : Which → Option (Sequence T) → Option (Sequence T)
+  emptied_slot which.All slot = None
+  emptied_slot (which.Stale span reach) slot = alive_in (Some span) reach slot
 
   -- what comes to a stage as an event moves sequences on: the sequence of the stage before, moved on, where the mask has the stage
-  abbrev pub come : Option ℤ → OrderKey → Mask → List (Option (Sequence T)) → ℕ → Option (Sequence T)
-  come span event mask slots zero = None
-  come span event mask slots (suc k) = if has_after k mask then went_on span event (slot_at slots k) else None
+  abbrev pub coming_to : Option ℤ → OrderKey → Mask → List (Option (Sequence T)) → ℕ → Option (Sequence T)
+  coming_to span event mask slots zero = None
+  coming_to span event mask slots (suc k) = if has_after k mask then went_on span event (slot_at slots k) else None
 
   -- the slot of a stage then: what came; else what was there, unless it was moved on
   abbrev pub moved_to : Option ℤ → OrderKey → Mask → List (Option (Sequence T)) → ℕ → Option (Sequence T)
-  moved_to span event mask slots k = found_or (come span event mask slots k) (if has_after k mask then None else slot_at slots k)
+  moved_to span event mask slots k = found_or (coming_to span event mask slots k) (if has_after k mask then None else slot_at slots k)
 
   -- the slots with a new sequence of one event in the first, where there is a tag for it
-  abbrev pub begun : OrderKey → Option T → List (Option (Sequence T)) → List (Option (Sequence T))
-  begun event None slots = slots
-  begun event (Some tag) slots = slice_set slots 0 (Some (event ∷ [], tag))
+  abbrev pub with_new_sequence : OrderKey → Option T → List (Option (Sequence T)) → List (Option (Sequence T))
+  with_new_sequence event None slots = slots
+  with_new_sequence event (Some tag) slots = slice_set slots 0 (Some (event ∷ [], tag))

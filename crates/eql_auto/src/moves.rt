@@ -3,7 +3,7 @@
 ghost use Rattle.std.specs.Prelude.{◌≡◌, ℕ, suc, ◌+◌, ◌<◌, ◌≤◌, ◌^◌, ◌++◌, ◌∷◌, ◌==◌, [], length, map, vec_len, vec_capacity, is_some, if◌then◌else◌, None, IsSome, IfSome, slice_index_or, IsPermutation};
 ghost use Rattle.std.specs.Option.{option_map, option_to_list};
 ghost use Rattle.eql_auto.specs.Machine.{ComesAfter, stages_in, slot_at, tags_of, alive_in};
-ghost use Rattle.eql_auto.specs.Moves.{chain_in, emptied, come, moved_to, begun};
+ghost use Rattle.eql_auto.specs.Moves.{chain_in, emptied_slot, coming_to, moved_to, with_new_sequence};
 ghost use Rattle.eql_auto.specs.Kept.{IsRoom};
 
 use crate::movers::last_mover;
@@ -33,7 +33,7 @@ pub(crate) fn drop_from_slots<T: Copy, L: Ledger>(
 )
     requires few { length table.old < 256 }
     requires room { length (tags_of table.old) + vec_len gone.old ≤ vec_capacity gone.old }
-    ensures slots { table.new ≡ map (emptied which) table.old }
+    ensures slots { table.new ≡ map (emptied_slot which) table.old }
     ensures tags { IsPermutation (gone.new.items ++ tags_of table.new)
         (gone.old.items ++ tags_of table.old) }
     ensures room { vec_capacity gone.old ≤ vec_capacity gone.new }
@@ -84,7 +84,7 @@ pub(crate) fn advance_all<T: Copy, L: Ledger>(
     ensures len { length table.new ≡ length table.old }
     ensures slots { (k : ℕ) → 1 ≤ k → k ≤ length table.old → slot_at table.new k
         ≡ moved_to span event mask.now table.old k }
-    ensures answer { result ≡ chain_in (come span event mask.now table.old
+    ensures answer { result ≡ chain_in (coming_to span event mask.now table.old
         (suc (length table.old))) }
     ensures tags { IsPermutation (gone.new.items ++ tags_of table.new)
         (gone.old.items ++ tags_of table.old) }
@@ -117,7 +117,7 @@ pub(crate) fn begin_new<T: Copy, L: Ledger>(
     requires ready { IsSome spare.old }
     requires spare { IfSome spare.old (IsRoom (length table.old)) }
     requires room { length (tags_of table.old) + vec_len gone.old < vec_capacity gone.old }
-    ensures slots { table.new ≡ begun event tag table.old }
+    ensures slots { table.new ≡ with_new_sequence event tag table.old }
     ensures answer { result ≡ (if 0 == length table.old then option_map
         (λ _. event ∷ []) tag else None) }
     ensures tags { IsPermutation (gone.new.items ++ tags_of table.new)

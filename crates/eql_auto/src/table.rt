@@ -6,8 +6,8 @@ ghost use Rattle.eql_values.specs.Ordered.{found_or};
 ghost use Rattle.eql_values.specs.OrderKeys.{EventsAscend};
 ghost use Rattle.eql_auto.specs.Holding.{holder_of};
 ghost use Rattle.eql_auto.specs.Machine.{AllAreBefore, ComesAfter, tags_of, went_on, stage_chains};
-ghost use Rattle.eql_auto.specs.Moves.{chain_in, emptied};
-ghost use Rattle.eql_auto.specs.Kept.{seen};
+ghost use Rattle.eql_auto.specs.Moves.{chain_in, emptied_slot};
+ghost use Rattle.eql_auto.specs.Kept.{sequence_view};
 ghost use Rattle.eql_auto.specs.Starts.{first_event, first_of};
 
 use crate::steps::Steps;
@@ -33,11 +33,11 @@ pub(crate) struct SlotTable<T, L: Ledger> {
 impl<T, L: Ledger> Model for SlotTable<T, L> {
     ghost use Rattle.std.specs.Prelude.{List, Option};
     ghost use Rattle.eql_values.specs.declared.order.OrderKey.{OrderKey};
-    ghost use Rattle.eql_auto.specs.Kept.{shown, AreKept};
+    ghost use Rattle.eql_auto.specs.Kept.{sequence_views, AreKept};
 
     ghost Value = { List (Option (List OrderKey × T)) };
 
-    ghost view = { λ t. shown t.slots.items };
+    ghost view = { λ t. sequence_views t.slots.items };
 
     ghost invariant = { λ t. AreKept t.slots.items };
 }
@@ -59,8 +59,10 @@ pub(crate) enum Which {
 impl Which {
     /// Whether the emptying leaves what a slot has.
     fn spares<T>(self, slot: &Option<Pending<T>>) -> bool
-        ensures { MatchBool result (emptied self (option_map seen slot.now)
-            ≡ option_map seen slot.now) (emptied self (option_map seen slot.now) ≡ None) }
+        ensures { MatchBool result
+            (emptied_slot self (option_map sequence_view slot.now)
+            ≡ option_map sequence_view slot.now)
+            (emptied_slot self (option_map sequence_view slot.now) ≡ None) }
     {
         match (self, slot) {
             (Which::Stale { span, reach }, Some(held)) => {
@@ -283,7 +285,7 @@ impl<T: Copy, L: Ledger> SlotTable<T, L> {
         requires from { 1 ≤ stage }
         requires to { stage ≤ length self.old }
         ensures slots { self.new ≡ slice_set self.old (stage - 1)
-            (emptied which (slice_index_or self.old (stage - 1) None)) }
+            (emptied_slot which (slice_index_or self.old (stage - 1) None)) }
         ensures ceased { IsPermutation (option_to_list result ++ tags_of self.new)
             (tags_of self.old) }
         ensures probe { steps.new ≡ steps.old + 1 }

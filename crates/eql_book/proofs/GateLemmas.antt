@@ -10,7 +10,7 @@ use Rattle.eql_values.specs.declared.cut.Pipe.{Pipe}
 use Rattle.eql_values.specs.declared.cut.Pipe.TheVariants as pipe
 use Rattle.eql_values.specs.declared.cut.PipeState.{PipeState}
 use Rattle.eql_values.specs.declared.cut.PipeState.TheVariants as state
-use Rattle.eql_values.specs.Numbering.{piped, through}
+use Rattle.eql_values.specs.Numbering.{pipe_output, through}
 use Rattle.eql_laws.specs.Resuming.{let_through, state_from, states_from, emitted_from, piped_from}
 use Rattle.eql_book.specs.declared.gate.Gate.{Gate}
 use Rattle.eql_book.specs.declared.tail.Tail.{Tail}
@@ -115,9 +115,9 @@ all_taken n pipes left none fits =
 
 -- what the first tail keeps goes to the pipes after it
 pub tail_gives : (gates : List Gate) (i : ℕ) (tail : Tail) → drop i gates ≡ gate.Tail tail ∷ drop (i + 1) gates
-    → piped_from (pipes_of (drop i gates)) (seen_of (drop i gates)) [] ≡ piped (pipes_of (drop (i + 1) gates)) tail.kept.items
+    → piped_from (pipes_of (drop i gates)) (seen_of (drop i gates)) [] ≡ pipe_output (pipes_of (drop (i + 1) gates)) tail.kept.items
 tail_gives gates i tail here =
     let fits = tail.within in
     ap (λ (l : List Gate). piped_from (pipes_of l) (seen_of l) []) here
-    ∙ ap (piped (pipes_of (drop (i + 1) gates)))
+    ∙ ap (pipe_output (pipes_of (drop (i + 1) gates)))
     (ap (through (pipe.Tail tail.count)) (append-nil tail.kept.items) ∙ keeps_all tail.count tail.kept.items fits)

@@ -12,7 +12,7 @@ use Rattle.eql_values.specs.declared.cut.PipeState.{PipeState}
 use Rattle.eql_values.specs.declared.cut.PipeState.TheVariants as state
 use Rattle.eql_values.specs.Numbering.{numbered_from, through}
 use Rattle.eql_laws.specs.Resuming.{let_through, state_from, states_from, emitted_from, numbered_after}
-use Rattle.eql_book.specs.Books.{counted, kept_after, let_out}
+use Rattle.eql_book.specs.Books.{countable_matches, kept_after, let_out}
 
 numbers_on : (number : ℕ) (a b : List Match) → numbered_from number (a ++ b) ≡ numbered_from number a ++ numbered_from (number + length a) b
 numbers_on number [] b = ap (λ (n : ℕ). numbered_from n b) (from_none number)
@@ -98,28 +98,28 @@ module _ (pipes : List Pipe) (kept : BookCut) (a b : List Match) where
   abbrev mid : BookCut
   mid = kept_after pipes kept a
 
-  counted_on : counted kept (a ++ b) ≡ counted kept a ++ counted mid b
+  counted_on : countable_matches kept (a ++ b) ≡ countable_matches kept a ++ countable_matches mid b
   counted_on =
       let taken = length_take (2 ^ 64 - 1 - kept.found) a in
-      let left : 2 ^ 64 - 1 - kept.found - length a ≡ 2 ^ 64 - 1 - (kept.found + length (counted kept a)) = omega (arith, taken) in
-      take_both (2 ^ 64 - 1 - kept.found) a b ∙ ap (λ (n : ℕ). counted kept a ++ take n b) left
+      let left : 2 ^ 64 - 1 - kept.found - length a ≡ 2 ^ 64 - 1 - (kept.found + length (countable_matches kept a)) = omega (arith, taken) in
+      take_both (2 ^ 64 - 1 - kept.found) a b ∙ ap (λ (n : ℕ). countable_matches kept a ++ take n b) left
 
-  next_number : kept.found + 1 + length (counted kept a) ≡ kept.found + length (counted kept a) + 1
+  next_number : kept.found + 1 + length (countable_matches kept a) ≡ kept.found + length (countable_matches kept a) + 1
   next_number = omega arith
 
-  numbers_are : numbered_after kept (counted kept (a ++ b)) ≡ numbered_after kept (counted kept a) ++ numbered_after mid (counted mid b)
+  numbers_are : numbered_after kept (countable_matches kept (a ++ b)) ≡ numbered_after kept (countable_matches kept a) ++ numbered_after mid (countable_matches mid b)
   numbers_are =
-      ap (numbered_after kept) counted_on ∙ numbers_on (kept.found + 1) (counted kept a) (counted mid b)
-      ∙ ap (λ (n : ℕ). numbered_after kept (counted kept a) ++ numbered_from n (counted mid b)) next_number
+      ap (numbered_after kept) counted_on ∙ numbers_on (kept.found + 1) (countable_matches kept a) (countable_matches mid b)
+      ∙ ap (λ (n : ℕ). numbered_after kept (countable_matches kept a) ++ numbered_from n (countable_matches mid b)) next_number
 
   pub out_on : let_out pipes kept (a ++ b) ≡ let_out pipes kept a ++ let_out pipes mid b
   out_on =
       ap (emitted_from pipes kept.pipes) numbers_are
-      ∙ emitted_on pipes kept.pipes (numbered_after kept (counted kept a)) (numbered_after mid (counted mid b))
+      ∙ emitted_on pipes kept.pipes (numbered_after kept (countable_matches kept a)) (numbered_after mid (countable_matches mid b))
 
-  found_is : kept.found + length (counted kept (a ++ b)) ≡ kept.found + length (counted kept a) + length (counted mid b)
+  found_is : kept.found + length (countable_matches kept (a ++ b)) ≡ kept.found + length (countable_matches kept a) + length (countable_matches mid b)
   found_is =
-      let both = ap length counted_on ∙ length-append (counted kept a) (counted mid b) in
+      let both = ap length counted_on ∙ length-append (countable_matches kept a) (countable_matches mid b) in
       omega (arith, both)
 
   listed_is : kept.listed + length (let_out pipes kept (a ++ b)) ≡ kept.listed + length (let_out pipes kept a) + length (let_out pipes mid b)
@@ -127,10 +127,10 @@ module _ (pipes : List Pipe) (kept : BookCut) (a b : List Match) where
       let both = ap length out_on ∙ length-append (let_out pipes kept a) (let_out pipes mid b) in
       omega (arith, both)
 
-  states_are : states_from pipes kept.pipes (numbered_after kept (counted kept (a ++ b))) ≡ states_from pipes mid.pipes (numbered_after mid (counted mid b))
+  states_are : states_from pipes kept.pipes (numbered_after kept (countable_matches kept (a ++ b))) ≡ states_from pipes mid.pipes (numbered_after mid (countable_matches mid b))
   states_are =
       ap (states_from pipes kept.pipes) numbers_are
-      ∙ states_on pipes kept.pipes (numbered_after kept (counted kept a)) (numbered_after mid (counted mid b))
+      ∙ states_on pipes kept.pipes (numbered_after kept (countable_matches kept a)) (numbered_after mid (countable_matches mid b))
 
   pub kept_on : kept_after pipes kept (a ++ b) ≡ kept_after pipes mid b
   kept_on = λ i. record { found = found_is i; listed = listed_is i; pipes = states_are i }

@@ -9,11 +9,11 @@ use Rattle.eql_values.specs.declared.cut.BookCut.{BookCut}
 use Rattle.eql_values.specs.declared.cut.Pipe.{Pipe}
 use Rattle.eql_values.specs.declared.cut.Pipe.TheVariants as pipe
 use Rattle.eql_values.specs.declared.cut.PipeState.TheVariants as state
-use Rattle.eql_values.specs.Numbering.{numbered, through, piped, emitted, is_head}
+use Rattle.eql_values.specs.Numbering.{numbered_matches, through, pipe_output, early_output, is_head}
 use Rattle.eql_laws.specs.Books.{book_of, state_of, states_after}
 use Rattle.eql_laws.specs.Resuming.{emitted_from, numbered_after, book_from, rest_from}
 use Rattle.eql_laws.proofs.Resumed.{book_goes_on, emitted_goes_on, piped_goes_on}
-use Rattle.eql_book.specs.Books.{counted, kept_after, let_out}
+use Rattle.eql_book.specs.Books.{countable_matches, kept_after, let_out}
 use Rattle.eql_book.specs.Laws.{AllAddsGoOn, FreshIsOfNone, fresh_state, BookIsKept, EndIsWhole, ListingIsWhole}
 use Rattle.eql_book.proofs.Going.{kept_on, out_on}
 
@@ -32,14 +32,14 @@ through_none (pipe.Head zero) = refl
 through_none (pipe.Head (suc count)) = refl
 through_none (pipe.Tail count) = drop_none (0 - count)
 
-piped_none : (pipes : List Pipe) → piped pipes [] ≡ []
+piped_none : (pipes : List Pipe) → pipe_output pipes [] ≡ []
 piped_none [] = refl
-piped_none (p ∷ pipes) = ap (piped pipes) (through_none p) ∙ piped_none pipes
+piped_none (p ∷ pipes) = ap (pipe_output pipes) (through_none p) ∙ piped_none pipes
 
-emitted_none : (pipes : List Pipe) → emitted pipes [] ≡ []
+emitted_none : (pipes : List Pipe) → early_output pipes [] ≡ []
 emitted_none pipes = either (list_all is_head pipes)
   where
-    either : (b : Bool) → (if b then piped pipes [] else []) ≡ []
+    either : (b : Bool) → (if b then pipe_output pipes [] else []) ≡ []
     either true = piped_none pipes
     either false = refl
 
@@ -55,7 +55,7 @@ states_fresh before (p ∷ pipes) =
 pub fresh_is_of_none : FreshIsOfNone
 fresh_is_of_none pipes = λ i. record { found = 0; listed = ap length (sym (emitted_none pipes)) i; pipes = states_fresh [] pipes i }
 
-all_counted : (pipes : List Pipe) (found more : List Match) → length (found ++ more) < 2 ^ 64 → counted (book_of pipes found) more ≡ more
+all_counted : (pipes : List Pipe) (found more : List Match) → length (found ++ more) < 2 ^ 64 → countable_matches (book_of pipes found) more ≡ more
 all_counted pipes found more few =
     let both = length-append found more in
     take_all (2 ^ 64 - 1 - length found) more (omega (arith, both, few))
@@ -64,12 +64,12 @@ pub book_is_kept : BookIsKept
 book_is_kept pipes found more few = record {
   cut_is = ap (book_from pipes (book_of pipes found)) (all_counted pipes found more few) ∙ sym (book_goes_on pipes found more);
   lines_are = emitted_goes_on pipes found more
-      ∙ ap (λ (l : List Match). emitted pipes (numbered found) ++ emitted_from pipes (book_of pipes found).pipes (numbered_after (book_of pipes found) l)) (sym (all_counted pipes found more few));
+      ∙ ap (λ (l : List Match). early_output pipes (numbered_matches found) ++ emitted_from pipes (book_of pipes found).pipes (numbered_after (book_of pipes found) l)) (sym (all_counted pipes found more few));
 }
 
 pub end_is_whole : EndIsWhole
 end_is_whole pipes places whole found =
-    ap (λ (l : List Match). piped pipes (numbered l)) (sym (append-nil found)) ∙ piped_goes_on pipes found []
+    ap (λ (l : List Match). pipe_output pipes (numbered_matches l)) (sym (append-nil found)) ∙ piped_goes_on pipes found []
 
 pub listing_is_whole : ListingIsWhole
 listing_is_whole pipes places whole found few =

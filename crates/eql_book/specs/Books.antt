@@ -30,16 +30,16 @@ pub record FitsPipes (pipes : List Pipe) (kept : BookCut) : Type 0 where
   pub states : AllZip FitsPipe pipes kept.pipes
 
 -- of more matches, those that still have a number of 64 bits
-abbrev pub counted : BookCut → List Match → List Match
-counted kept more = take (2 ^ 64 - 1 - kept.found) more
+abbrev pub countable_matches : BookCut → List Match → List Match
+countable_matches kept more = take (2 ^ 64 - 1 - kept.found) more
 
 -- what is kept once these matches were found too
 abbrev pub kept_after : List Pipe → BookCut → List Match → BookCut
-kept_after pipes kept more = book_from pipes kept (counted kept more)
+kept_after pipes kept more = book_from pipes kept (countable_matches kept more)
 
 -- what the pipes let through of these matches before the end
 abbrev pub let_out : List Pipe → BookCut → List Match → List Numbered
-let_out pipes kept more = emitted_from pipes kept.pipes (numbered_after kept (counted kept more))
+let_out pipes kept more = emitted_from pipes kept.pipes (numbered_after kept (countable_matches kept more))
 
 -- the book once these matches were found too
 abbrev pub book_after : BookState → List Match → BookState

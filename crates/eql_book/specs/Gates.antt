@@ -5,7 +5,7 @@ use Rattle.eql_values.specs.declared.cut.Pipe.TheVariants as pipe
 use Rattle.eql_values.specs.declared.cut.PipeState.{PipeState}
 use Rattle.eql_values.specs.declared.cut.PipeState.TheVariants as state
 use Rattle.eql_values.specs.declared.found.Numbered.{Numbered}
-use Rattle.eql_values.specs.Numbering.{piped, through}
+use Rattle.eql_values.specs.Numbering.{pipe_output, through}
 use Rattle.eql_laws.specs.Resuming.{states_from}
 use Rattle.eql_book.specs.declared.gate.Gate.{Gate}
 use Rattle.eql_book.specs.declared.gate.Gate.TheVariants as gate
@@ -34,7 +34,7 @@ pub record Saw (gates : List Gate) (more : List Numbered) (now : List Gate) : Ty
 -- what lies between two places of a list is what the pipes keep of any list of this length
 abbrev pub KeepsBetween : List Pipe → ℕ → ℕ × ℕ → Type 0
 KeepsBetween pipes len range =
-    (list : List Numbered) → length list ≡ len → piped pipes list ≡ take (range.1 - range.0) (drop range.0 list)
+    (list : List Numbered) → length list ≡ len → pipe_output pipes list ≡ take (range.1 - range.0) (drop range.0 list)
 
 -- of what lies between two places of a list, the pipe keeps what lies between two others
 abbrev pub Narrows : Pipe → ℕ × ℕ → ℕ × ℕ → Type 0

@@ -6,7 +6,7 @@ use Rattle.eql_values.specs.declared.cut.Pipe.{Pipe}
 use Rattle.eql_values.specs.declared.cut.Pipe.TheVariants as pipe
 use Rattle.eql_values.specs.declared.cut.PipeState.{PipeState}
 use Rattle.eql_values.specs.declared.cut.PipeState.TheVariants as state
-use Rattle.eql_values.specs.Numbering.{numbered, piped, emitted}
+use Rattle.eql_values.specs.Numbering.{numbered_matches, pipe_output, early_output}
 use Rattle.eql_laws.specs.Books.{book_of}
 use Rattle.eql_book.specs.Books.{BookState, kept_after, let_out, book_after, held_back}
 
@@ -33,7 +33,7 @@ FreshIsOfNone = (pipes : List Pipe) → fresh_cut pipes ≡ book_of pipes []
 -- from what a cut keeps of the matches found, more matches: what is kept then is what a cut keeps of all, and the lines go on from those that were written to those of all
 pub record KeepsBook (pipes : List Pipe) (found more : List Match) : Type 0 where
   pub cut_is : kept_after pipes (book_of pipes found) more ≡ book_of pipes (found ++ more)
-  pub lines_are : emitted pipes (numbered (found ++ more)) ≡ emitted pipes (numbered found) ++ let_out pipes (book_of pipes found) more
+  pub lines_are : early_output pipes (numbered_matches (found ++ more)) ≡ early_output pipes (numbered_matches found) ++ let_out pipes (book_of pipes found) more
 
 abbrev pub BookIsKept : Type 0
 BookIsKept = (pipes : List Pipe) (found more : List Match) → length (found ++ more) < 2 ^ 64 → KeepsBook pipes found more
@@ -41,9 +41,9 @@ BookIsKept = (pipes : List Pipe) (found more : List Match) → length (found ++ 
 -- and at the end they are the whole listing
 abbrev pub EndIsWhole : Type 0
 EndIsWhole = (pipes : List Pipe) (places whole : Bool) (found : List Match)
-    → piped pipes (numbered found) ≡ emitted pipes (numbered found) ++ held_back (record { pipes = pipes; places = places; kept = book_of pipes found; whole = whole })
+    → pipe_output pipes (numbered_matches found) ≡ early_output pipes (numbered_matches found) ++ held_back (record { pipes = pipes; places = places; kept = book_of pipes found; whole = whole })
 
 -- so from the first match on: what adding all of them wrote, and then the end, is the listing of all
 abbrev pub ListingIsWhole : Type 0
 ListingIsWhole = (pipes : List Pipe) (places whole : Bool) (found : List Match) → length found < 2 ^ 64
-    → let_out pipes (fresh_cut pipes) found ++ held_back (book_after (record { pipes = pipes; places = places; kept = fresh_cut pipes; whole = whole }) found) ≡ piped pipes (numbered found)
+    → let_out pipes (fresh_cut pipes) found ++ held_back (book_after (record { pipes = pipes; places = places; kept = fresh_cut pipes; whole = whole }) found) ≡ pipe_output pipes (numbered_matches found)

@@ -3,7 +3,7 @@ ghost use Rattle.std.specs.Prelude.{◌≡◌, ◌≢◌, ◌≤◌, ◌++◌, �
 ghost use Rattle.eql_outside.specs.Outside.{Rose};
 ghost use Rattle.eql_outside.specs.Unfailing.{IsUnfailing};
 ghost use Rattle.eql_outside.specs.Written.{WroteAll, WroteFront, WroteBut};
-ghost use Rattle.eql_values.specs.Numbering.{piped};
+ghost use Rattle.eql_values.specs.Numbering.{pipe_output};
 ghost use Rattle.eql_laws.specs.Resuming.{piped_from};
 ghost use Rattle.eql_book.specs.Gates.{KeepsBetween, Narrows, pipe_of, pipes_of, seen_of};
 ghost use Rattle.eql_book.specs.Listing.{listing};
@@ -93,10 +93,10 @@ fn write_tail<K: Sink>(
     ensures places { page.new.places ≡ page.old.places }
     ensures empty { OnOk result (string_bytes page.new.waiting ≡ []) }
     ensures printed { OnOk result (WroteAll
-        (listing page.old.places (piped (pipes_of after.now) tail.now.kept.items))
+        (listing page.old.places (pipe_output (pipes_of after.now) tail.now.kept.items))
         (K.written sink.old) (K.written sink.new)) }
     ensures part { OnErr result (WroteFront
-        (listing page.old.places (piped (pipes_of after.now) tail.now.kept.items))
+        (listing page.old.places (pipe_output (pipes_of after.now) tail.now.kept.items))
         (K.written sink.old) (K.written sink.new)) }
     ensures silent { K.written sink.old ≡ None → K.written sink.new ≡ None }
     ensures cause { result ≡ Err OutRefused.Failed
@@ -118,7 +118,7 @@ fn first_tail(gates: &Vec<Gate>) -> Option<(&Tail, &[Gate])>
     ensures { MatchOption result
         (piped_from (pipes_of gates.now.items) (seen_of gates.now.items) [] ≡ [])
         (λ r. piped_from (pipes_of gates.now.items) (seen_of gates.now.items) []
-        ≡ piped (pipes_of r.1.now) r.0.now.kept.items) }
+        ≡ pipe_output (pipes_of r.1.now) r.0.now.kept.items) }
 {
     for (index, gate) in gates.iter().enumerate() {
         if let Gate::Tail(tail) = gate {

@@ -8,7 +8,7 @@ use Rattle.eql_query.specs.QueryTree.{TermTree}
 use Rattle.eql_check.specs.declared.refused.CheckRefused.TheVariants.{KeyKind}
 use Rattle.eql_values.specs.Fitting.{same_kind, may_be}
 use Rattle.eql_check.specs.Kinds.{alike}
-use Rattle.eql_check.specs.Rules.{unless, fit, settled, key_kinds, kinds_broken}
+use Rattle.eql_check.specs.Rules.{unless, fit, settled_kinds, key_kinds, kinds_broken}
 use Rattle.eql_check.specs.Typing.{may_equal, within, AreAlike}
 use Rattle.eql_check.proofs.Breaking.{or_none, none_of, unless_none, unless_true, both_true}
 use Rattle.eql_check.proofs.Typing.{both_ok}
@@ -56,34 +56,34 @@ equal_settled c j None e f = none_equal c
 equal_settled c j (Some k) e f = subst (λ x. may_equal c (Some x) ≡ true) (same_is j k f) e
 
 -- kinds in common with what is settled are so with what was before
-before_within : (cs js ks : List (Option Kind)) → within cs (settled js ks) ≡ true → within cs js ≡ true
+before_within : (cs js ks : List (Option Kind)) → within cs (settled_kinds js ks) ≡ true → within cs js ≡ true
 before_within cs [] ks e = refl
 before_within cs (j ∷ js) [] e = e
-before_within [] (None ∷ js) (k ∷ ks) e = let x = both_ok (is_none k) (within [] (settled js ks)) e in both_true true (within [] js) refl (before_within [] js ks x.1)
+before_within [] (None ∷ js) (k ∷ ks) e = let x = both_ok (is_none k) (within [] (settled_kinds js ks)) e in both_true true (within [] js) refl (before_within [] js ks x.1)
 before_within [] (Some j ∷ js) (k ∷ ks) e = cc
 before_within (c ∷ cs) (None ∷ js) (k ∷ ks) e =
-    let x = both_ok (may_equal c k) (within cs (settled js ks)) e in
+    let x = both_ok (may_equal c k) (within cs (settled_kinds js ks)) e in
     both_true (may_equal c None) (within cs js) (none_equal c) (before_within cs js ks x.1)
 before_within (c ∷ cs) (Some j ∷ js) (k ∷ ks) e =
-    let x = both_ok (may_equal c (Some j)) (within cs (settled js ks)) e in
+    let x = both_ok (may_equal c (Some j)) (within cs (settled_kinds js ks)) e in
     both_true (may_equal c (Some j)) (within cs js) x.0 (before_within cs js ks x.1)
 
 -- and with those that fitted
-fitting_within : (cs js ks : List (Option Kind)) → fit js ks ≡ true → within cs (settled js ks) ≡ true → within cs ks ≡ true
+fitting_within : (cs js ks : List (Option Kind)) → fit js ks ≡ true → within cs (settled_kinds js ks) ≡ true → within cs ks ≡ true
 fitting_within cs js [] f e = refl
-fitting_within [] [] (k ∷ ks) f e = let x = both_ok (is_none k) (within [] (settled [] ks)) e in both_true (is_none k) (within [] ks) x.0 (fitting_within [] [] ks refl x.1)
+fitting_within [] [] (k ∷ ks) f e = let x = both_ok (is_none k) (within [] (settled_kinds [] ks)) e in both_true (is_none k) (within [] ks) x.0 (fitting_within [] [] ks refl x.1)
 fitting_within (c ∷ cs) [] (k ∷ ks) f e =
-    let x = both_ok (may_equal c k) (within cs (settled [] ks)) e in
+    let x = both_ok (may_equal c k) (within cs (settled_kinds [] ks)) e in
     both_true (may_equal c k) (within cs ks) x.0 (fitting_within cs [] ks refl x.1)
 fitting_within [] (None ∷ js) (k ∷ ks) f e =
-    let x = both_ok (is_none k) (within [] (settled js ks)) e in let y = both_ok true (fit js ks) f in
+    let x = both_ok (is_none k) (within [] (settled_kinds js ks)) e in let y = both_ok true (fit js ks) f in
     both_true (is_none k) (within [] ks) x.0 (fitting_within [] js ks y.1 x.1)
 fitting_within [] (Some j ∷ js) (k ∷ ks) f e = cc
 fitting_within (c ∷ cs) (None ∷ js) (k ∷ ks) f e =
-    let x = both_ok (may_equal c k) (within cs (settled js ks)) e in let y = both_ok true (fit js ks) f in
+    let x = both_ok (may_equal c k) (within cs (settled_kinds js ks)) e in let y = both_ok true (fit js ks) f in
     both_true (may_equal c k) (within cs ks) x.0 (fitting_within cs js ks y.1 x.1)
 fitting_within (c ∷ cs) (Some j ∷ js) (k ∷ ks) f e =
-    let x = both_ok (may_equal c (Some j)) (within cs (settled js ks)) e in let y = both_ok (may_be j k) (fit js ks) f in
+    let x = both_ok (may_equal c (Some j)) (within cs (settled_kinds js ks)) e in let y = both_ok (may_be j k) (fit js ks) f in
     both_true (may_equal c k) (within cs ks) (equal_settled c j k x.0 y.0) (fitting_within cs js ks y.1 x.1)
 
 -- two kinds in common with the same one
@@ -103,22 +103,22 @@ fit_by (c ∷ cs) (j ∷ js) (k ∷ ks) e f =
     let x = both_ok (may_equal c j) (within cs js) e in let y = both_ok (may_equal c k) (within cs ks) f in
     both_true (alike j k) (fit js ks) (alike_by c j k x.0 y.0) (fit_by cs js ks x.1 y.1)
 
-settled_within : (cs js ks : List (Option Kind)) → within cs js ≡ true → within cs ks ≡ true → within cs (settled js ks) ≡ true
+settled_within : (cs js ks : List (Option Kind)) → within cs js ≡ true → within cs ks ≡ true → within cs (settled_kinds js ks) ≡ true
 settled_within cs js [] e f = e
 settled_within [] [] (k ∷ ks) e f =
-    let y = both_ok (is_none k) (within [] ks) f in both_true (is_none k) (within [] (settled [] ks)) y.0 (settled_within [] [] ks refl y.1)
+    let y = both_ok (is_none k) (within [] ks) f in both_true (is_none k) (within [] (settled_kinds [] ks)) y.0 (settled_within [] [] ks refl y.1)
 settled_within (c ∷ cs) [] (k ∷ ks) e f =
-    let y = both_ok (may_equal c k) (within cs ks) f in both_true (may_equal c k) (within cs (settled [] ks)) y.0 (settled_within cs [] ks refl y.1)
+    let y = both_ok (may_equal c k) (within cs ks) f in both_true (may_equal c k) (within cs (settled_kinds [] ks)) y.0 (settled_within cs [] ks refl y.1)
 settled_within [] (None ∷ js) (k ∷ ks) e f =
     let x = both_ok true (within [] js) e in let y = both_ok (is_none k) (within [] ks) f in
-    both_true (is_none k) (within [] (settled js ks)) y.0 (settled_within [] js ks x.1 y.1)
+    both_true (is_none k) (within [] (settled_kinds js ks)) y.0 (settled_within [] js ks x.1 y.1)
 settled_within [] (Some j ∷ js) (k ∷ ks) e f = cc
 settled_within (c ∷ cs) (None ∷ js) (k ∷ ks) e f =
     let x = both_ok (may_equal c None) (within cs js) e in let y = both_ok (may_equal c k) (within cs ks) f in
-    both_true (may_equal c k) (within cs (settled js ks)) y.0 (settled_within cs js ks x.1 y.1)
+    both_true (may_equal c k) (within cs (settled_kinds js ks)) y.0 (settled_within cs js ks x.1 y.1)
 settled_within (c ∷ cs) (Some j ∷ js) (k ∷ ks) e f =
     let x = both_ok (may_equal c (Some j)) (within cs js) e in let y = both_ok (may_equal c k) (within cs ks) f in
-    both_true (may_equal c (Some j)) (within cs (settled js ks)) x.0 (settled_within cs js ks x.1 y.1)
+    both_true (may_equal c (Some j)) (within cs (settled_kinds js ks)) x.0 (settled_within cs js ks x.1 y.1)
 
 module _ (mapping : List ℕ → Option Kind) where
   abbrev kinds : TermTree → List (Option Kind)
@@ -131,9 +131,9 @@ module _ (mapping : List ℕ → Option Kind) where
   in_common : (before : List (Option Kind)) (item : ℕ) (terms : List TermTree) → kinds_broken mapping before item terms ≡ None → InCommon before terms
   in_common before item [] e = (before, within_itself before, refl)
   in_common before item (term ∷ terms) e =
-      let x = or_none (unless (fit before (kinds term)) (KeyKind item)) (kinds_broken mapping (settled before (kinds term)) (item + 1) terms) e in
+      let x = or_none (unless (fit before (kinds term)) (KeyKind item)) (kinds_broken mapping (settled_kinds before (kinds term)) (item + 1) terms) e in
       let f = unless_none (fit before (kinds term)) (KeyKind item) x.0 in
-      let y = in_common (settled before (kinds term)) (item + 1) terms x.1 in (
+      let y = in_common (settled_kinds before (kinds term)) (item + 1) terms x.1 in (
         y.0,
         before_within y.0 before (kinds term) y.1,
         both_true (within y.0 (kinds term)) (list_all (λ term. within y.0 (key_kinds mapping term.by)) terms) (fitting_within y.0 before (kinds term) f y.1) y.2,
@@ -148,9 +148,9 @@ module _ (mapping : List ℕ → Option Kind) where
   unbroken common before item [] e f = refl
   unbroken common before item (term ∷ terms) e f =
       let x = both_ok (within common (kinds term)) (list_all (λ term. within common (key_kinds mapping term.by)) terms) f in
-      none_of (unless (fit before (kinds term)) (KeyKind item)) (kinds_broken mapping (settled before (kinds term)) (item + 1) terms)
+      none_of (unless (fit before (kinds term)) (KeyKind item)) (kinds_broken mapping (settled_kinds before (kinds term)) (item + 1) terms)
       (unless_true (fit before (kinds term)) (KeyKind item) (fit_by common before (kinds term) e x.0))
-      (unbroken common (settled before (kinds term)) (item + 1) terms (settled_within common before (kinds term) e x.0) x.1)
+      (unbroken common (settled_kinds before (kinds term)) (item + 1) terms (settled_within common before (kinds term) e x.0) x.1)
 
   -- where keys are alike, none differs
   pub alike_to : (terms : List TermTree) → AreAlike mapping terms → kinds_broken mapping [] 1 terms ≡ None

@@ -14,7 +14,7 @@ use Rattle.eql_values.specs.Fitting.{may_be}
 use Rattle.eql_check.specs.FirstBroken.{Found, kind_of}
 use Rattle.eql_check.specs.Conditions.{all_items, own_count, shared_keys, key_count}
 use Rattle.eql_check.specs.Used.{used_fields}
-use Rattle.eql_check.specs.Rules.{Broken, unless, or_next, unless_bool, are_runs, is_known, keys_broken, item_broken, items_broken, kinds_broken, counts_broken, stage_count, stages_broken, counted, limit_broken, is_span, span_broken, span_of, is_pipe, pipes_broken, whole_broken, first_broken}
+use Rattle.eql_check.specs.Rules.{Broken, unless, or_next, unless_bool, are_runs, is_known, keys_broken, item_broken, items_broken, kinds_broken, counts_broken, stage_count, stages_broken, capped_count, limit_broken, is_span, span_broken, span_of, is_pipe, pipes_broken, whole_broken, first_broken}
 use Rattle.eql_check.specs.Typing.{IsItem, AreItems, no_items, more_items, has_stages, may_span, IsChecked, CheckIsExact}
 use Rattle.eql_check.proofs.Breaking.{or_none, none_of, unless_none, unless_true, both_true}
 use Rattle.eql_check.proofs.Typing.{both_ok, finds, holds}
@@ -153,8 +153,8 @@ module _ (mapping : List ℕ → Option Kind) where
           as_many_keys = counts_from (own_count items) 1 items c.0;
           alike_keys = alike_from mapping items d.0;
           stages = stages_from query.body f.0;
-          few_keys = unless_none (nat_le (key_count query.body) 8) (broken.ManyKeys (counted (key_count query.body))) g.0;
-          few_fields = unless_none (nat_le (length (used_fields mapping query)) 64) (broken.ManyFields (counted (length (used_fields mapping query)))) h.0;
+          few_keys = unless_none (nat_le (key_count query.body) 8) (broken.ManyKeys (capped_count (key_count query.body))) g.0;
+          few_fields = unless_none (nat_le (length (used_fields mapping query)) 64) (broken.ManyFields (capped_count (length (used_fields mapping query)))) h.0;
           span = span_from (span_of query.body) i.0;
           few_pipes = p.0;
           pipes = p.1;
@@ -167,8 +167,8 @@ module _ (mapping : List ℕ → Option Kind) where
         (none_of counts_b (or_next kinds_b (or_next (stages_broken query.body) (or_next keys_b (or_next fields_b (or_next span_b pipes_b))))) (counts_to (own_count items) 1 items c.as_many_keys)
         (none_of kinds_b (or_next (stages_broken query.body) (or_next keys_b (or_next fields_b (or_next span_b pipes_b)))) (alike_to mapping items c.alike_keys)
         (none_of (stages_broken query.body) (or_next keys_b (or_next fields_b (or_next span_b pipes_b))) (stages_to query.body c.stages)
-        (none_of keys_b (or_next fields_b (or_next span_b pipes_b)) (unless_true (nat_le (key_count query.body) 8) (broken.ManyKeys (counted (key_count query.body))) c.few_keys)
-        (none_of fields_b (or_next span_b pipes_b) (unless_true (nat_le (length (used_fields mapping query)) 64) (broken.ManyFields (counted (length (used_fields mapping query)))) c.few_fields)
+        (none_of keys_b (or_next fields_b (or_next span_b pipes_b)) (unless_true (nat_le (key_count query.body) 8) (broken.ManyKeys (capped_count (key_count query.body))) c.few_keys)
+        (none_of fields_b (or_next span_b pipes_b) (unless_true (nat_le (length (used_fields mapping query)) 64) (broken.ManyFields (capped_count (length (used_fields mapping query)))) c.few_fields)
         (none_of span_b pipes_b (span_to (span_of query.body) c.span)
         (unless_true (nat_le (length query.pipes) 8 && list_all is_pipe query.pipes) broken.Pipe
         (both_true (nat_le (length query.pipes) 8) (list_all is_pipe query.pipes) c.few_pipes c.pipes)))))))))

@@ -19,8 +19,8 @@ use Rattle.eql_values.specs.Fitting.{is_of, may_be}
 use Rattle.eql_check.specs.Calls.{given_by}
 use Rattle.eql_check.specs.ThreeValued.{truth}
 use Rattle.eql_check.specs.Comparisons.{says, order_of, compared_with_null, compares, matches_one, is_among}
-use Rattle.eql_check.specs.Arithmetic.{floor_div, floor_rest, fits_long, long_or_null, unless_zero, result_of, computed, negated}
-use Rattle.eql_check.specs.Functions.{with_one, with_two, with_two_or_three, with_three_or_four, number_or_null, text_or_null, length_of, tested, stands_in, place_of, part_of, between_of, text_of, texts_of, number_of, address_of, lies_in, lies_in_one, cidr_match, called}
+use Rattle.eql_check.specs.Arithmetic.{floor_div, floor_rest, fits_long, long_or_null, unless_zero, result_of, math_value, negative_value}
+use Rattle.eql_check.specs.Functions.{with_one, with_two, with_two_or_three, with_three_or_four, number_or_null, text_or_null, length_of, test_value, stands_in, place_of, part_of, between_of, text_of, texts_of, number_of, address_of, lies_in, lies_in_one, cidr_match, call_value}
 use Rattle.eql_check.specs.Truth.{means, values, is_literal_null, call_of}
 use Rattle.eql_check.specs.Typing.{HasKind, of_null, of_bool, of_long, of_str, of_field, of_no_field, of_not, of_and, of_or, of_cmp, of_pattern, of_member, of_neg, of_math, of_call}
 use Rattle.eql_check.specs.Kept.{KeepsKinds}
@@ -66,7 +66,7 @@ long_if false z = refl
 long_is : (z : ℤ) → is_of (Some kind.Long) (long_or_null z) ≡ true
 long_is z = long_if (fits_long z) z
 
-negated_is : (x : Value) → is_of (Some kind.Long) (negated x) ≡ true
+negated_is : (x : Value) → is_of (Some kind.Long) (negative_value x) ≡ true
 negated_is (value.Long n) = long_is (neg_ℤ n)
 negated_is value.Null = refl
 negated_is (value.Bool b) = refl
@@ -85,7 +85,7 @@ result_is math.Mul a b = long_is (a *ℤ b)
 result_is math.Div a b = unless_zero_is b (long_or_null (floor_div a b)) (long_is (floor_div a b))
 result_is math.Mod a b = unless_zero_is b (long_or_null (floor_rest a b)) (long_is (floor_rest a b))
 
-computed_is : (op : MathOp) (x y : Value) → is_of (Some kind.Long) (computed op x y) ≡ true
+computed_is : (op : MathOp) (x y : Value) → is_of (Some kind.Long) (math_value op x y) ≡ true
 computed_is op (value.Long a) (value.Long b) = result_is op a b
 computed_is op (value.Long a) value.Null = refl
 computed_is op (value.Long a) (value.Bool b) = refl
@@ -142,7 +142,7 @@ length_is (value.Bool b) = refl
 length_is (value.Long n) = refl
 length_is (value.Ip n) = refl
 
-tested_is : (test : List ℕ → List ℕ → Bool) (x y : Value) → is_of (Some kind.Bool) (tested test x y) ≡ true
+tested_is : (test : List ℕ → List ℕ → Bool) (x y : Value) → is_of (Some kind.Bool) (test_value test x y) ≡ true
 tested_is test (value.Text s) (value.Text t) = refl
 tested_is test _ _ = refl
 
@@ -176,17 +176,17 @@ cidr_is : (vs : List Value) → is_of (Some kind.Bool) (cidr_match vs) ≡ true
 cidr_is [] = refl
 cidr_is (a ∷ blocks) = lies_is (address_of a) blocks
 
-called_is : (f : Function) (fold : Bool) (vs : List Value) → is_of (Some (given_by f)) (called f fold vs) ≡ true
-called_is Add fold vs = two_is kind.Long (computed math.Add) (computed_is math.Add) vs
-called_is Subtract fold vs = two_is kind.Long (computed math.Sub) (computed_is math.Sub) vs
-called_is Multiply fold vs = two_is kind.Long (computed math.Mul) (computed_is math.Mul) vs
-called_is Divide fold vs = two_is kind.Long (computed math.Div) (computed_is math.Div) vs
-called_is Modulo fold vs = two_is kind.Long (computed math.Mod) (computed_is math.Mod) vs
+called_is : (f : Function) (fold : Bool) (vs : List Value) → is_of (Some (given_by f)) (call_value f fold vs) ≡ true
+called_is Add fold vs = two_is kind.Long (math_value math.Add) (computed_is math.Add) vs
+called_is Subtract fold vs = two_is kind.Long (math_value math.Sub) (computed_is math.Sub) vs
+called_is Multiply fold vs = two_is kind.Long (math_value math.Mul) (computed_is math.Mul) vs
+called_is Divide fold vs = two_is kind.Long (math_value math.Div) (computed_is math.Div) vs
+called_is Modulo fold vs = two_is kind.Long (math_value math.Mod) (computed_is math.Mod) vs
 called_is Length fold vs = one_is kind.Long length_of length_is vs
 called_is IndexOf fold vs = three_is kind.Long (place_of fold) (place_is fold) vs
-called_is StartsWith fold vs = two_is kind.Bool (tested (starts fold)) (tested_is (starts fold)) vs
-called_is EndsWith fold vs = two_is kind.Bool (tested (ends fold)) (tested_is (ends fold)) vs
-called_is StringContains fold vs = two_is kind.Bool (tested (stands_in fold)) (tested_is (stands_in fold)) vs
+called_is StartsWith fold vs = two_is kind.Bool (test_value (starts fold)) (tested_is (starts fold)) vs
+called_is EndsWith fold vs = two_is kind.Bool (test_value (ends fold)) (tested_is (ends fold)) vs
+called_is StringContains fold vs = two_is kind.Bool (test_value (stands_in fold)) (tested_is (stands_in fold)) vs
 called_is Concat fold vs = text_is (texts_of vs)
 called_is Substring fold vs = three_is kind.Text part_of part_is vs
 called_is Between fold vs = four_is kind.Text (between_of fold) (between_is fold) vs

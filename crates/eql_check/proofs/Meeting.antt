@@ -16,7 +16,7 @@ use Rattle.eql_check.specs.declared.function.Function.TheVariants.{CidrMatch}
 use Rattle.eql_values.specs.Fitting.{kind_of_value, is_of, may_be}
 use Rattle.eql_check.specs.Kinds.{alike, is_ordered, are_addresses, needs_order, can_compare, can_equal, can_be_among, is_text}
 use Rattle.eql_check.specs.Names.{function_of}
-use Rattle.eql_check.specs.Calls.{are_asked, asked, is_block, are_blocks, is_cidr, takes_count, takes_kinds, bad_block, bad_block_of}
+use Rattle.eql_check.specs.Calls.{are_asked, kinds_asked, is_block, are_blocks, is_cidr, takes_count, takes_kinds, bad_block, bad_block_of}
 use Rattle.eql_check.specs.FirstBroken.{all_bool}
 use Rattle.eql_check.specs.Comparisons.{is_null, order_of}
 use Rattle.eql_check.specs.Truth.{means, values}
@@ -202,7 +202,7 @@ module _ (mapping : List ℕ → Option Kind) (field : List ℕ → Value) (fits
   values_met : (f : Function) {es : Trees} {ks : List (Option Kind)} → HaveKinds mapping es ks → takes_kinds f es ks ≡ true → bad_block_of f es ≡ None →
       takes_values f (values field es) ≡ true
   values_met CidrMatch hs m b = cidr_met hs m b
-  values_met f hs m b = by_place (asked f) hs m
+  values_met f hs m b = by_place (kinds_asked f) hs m
 
   mutual
     met : {a : Tree} {k : Option Kind} → HasKind mapping a k → all_met field a ≡ true

@@ -5,7 +5,7 @@ use Rattle.eql_values.specs.declared.value.Kind.{Kind}
 use Rattle.eql_query.specs.Tree.{Trees, none, more}
 use Rattle.eql_query.specs.declared.expr.FieldRef.{FieldRef}
 use Rattle.eql_check.specs.Calls.{are_blocks}
-use Rattle.eql_check.specs.Rules.{fit, settled, key_kinds}
+use Rattle.eql_check.specs.Rules.{fit, settled_kinds, key_kinds}
 
 abbrev Places : Type 0
 Places = List (Option Kind)
@@ -26,8 +26,8 @@ next_kinds mapping keys i key k l e f =
 
 -- the places from the i-th on, settled by further keys
 abbrev pub settled_from : ℕ → Places → Places → Places
-settled_from zero js ks = settled js ks
-settled_from (suc i) [] ks = settled [] ks
+settled_from zero js ks = settled_kinds js ks
+settled_from (suc i) [] ks = settled_kinds [] ks
 settled_from (suc i) (j ∷ js) ks = j ∷ settled_from i js ks
 
 pub one_on : (js : Places) (i : ℕ) (ks : Places) → settled_from (i + 1) js ks ≡ settled_from (suc i) js ks

@@ -10,8 +10,8 @@ use Rattle.eql_check.specs.declared.refused.CheckRefused.{CheckRefused}
 use Rattle.eql_check.specs.Names.{function_of}
 use Rattle.eql_values.specs.Fitting.{may_be}
 use Rattle.eql_check.specs.Kinds.{can_compare, can_be_among, holds_field}
-use Rattle.eql_check.specs.Calls.{takes_count, takes_kinds, given_by, bad_block_of, shown}
-use Rattle.eql_check.specs.FirstBroken.{Found, AllFound, bind, bind_all, and_more, given, unless_fields, connective, comparison, in_form, call_kind, field_kind, all_bool, kind_of, kinds_of}
+use Rattle.eql_check.specs.Calls.{takes_count, takes_kinds, given_by, bad_block_of, shown_function}
+use Rattle.eql_check.specs.FirstBroken.{Found, AllFound, bind, bind_all, and_more, kind_if, unless_fields, connective, comparison, in_form, call_kind, field_kind, all_bool, kind_of, kinds_of}
 use Rattle.eql_check.specs.Typing.{HasKind, HaveKinds, of_null, of_bool, of_long, of_str, of_field, of_no_field, of_not, of_and, of_or, of_cmp, of_pattern, of_member, of_neg, of_math, of_call, of_none, of_more, KindsAreExact}
 use Rattle.eql_check.proofs.Breaking.{both_true}
 
@@ -45,11 +45,11 @@ if_ok true x y k e = (refl, e)
 if_ok false x y k e = cc
 
 module _ (item : ℕ) where
-  given_true : (b : Bool) (k : Kind) → b ≡ true → given item b k ≡ Ok (Some k)
+  given_true : (b : Bool) (k : Kind) → b ≡ true → kind_if item b k ≡ Ok (Some k)
   given_true true k e = refl
   given_true false k e = cc
 
-  given_ok : (b : Bool) (j : Kind) (k : Option Kind) → given item b j ≡ Ok k → (b ≡ true) × (Some j ≡ k)
+  given_ok : (b : Bool) (j : Kind) (k : Option Kind) → kind_if item b j ≡ Ok k → (b ≡ true) × (Some j ≡ k)
   given_ok true j k e = (refl, cc)
   given_ok false j k e = cc
 
@@ -91,27 +91,27 @@ module _ (item : ℕ) (mapping : List ℕ → Option Kind) where
     finds (of_field {name} {optional} {k} e) = ap (λ m. field_kind m optional name) e
     finds (of_no_field {name} e) = ap (λ m. field_kind m true name) e
     finds (of_not {a} {k} h m) =
-        ap (λ r. bind r (λ k. given item (may_be kind.Bool k) kind.Bool)) (finds h) ∙ given_true item (may_be kind.Bool k) kind.Bool m
+        ap (λ r. bind r (λ k. kind_if item (may_be kind.Bool k) kind.Bool)) (finds h) ∙ given_true item (may_be kind.Bool k) kind.Bool m
     finds (of_and {es} {ks} h m) = ap (λ r. connective item r) (find_all h) ∙ given_true item (all_bool ks) kind.Bool m
     finds (of_or {es} {ks} h m) = ap (λ r. connective item r) (find_all h) ∙ given_true item (all_bool ks) kind.Bool m
     finds (of_cmp {op} {a} {b} {j} {k} h i m f) =
         ap (λ r. bind r (λ j. bind (kind_of item mapping b) (λ k. comparison item op j k a b))) (finds h)
         ∙ ap (λ r. bind r (λ k. comparison item op j k a b)) (finds i)
-        ∙ unless_false item (holds_field a && holds_field b) (Some kind.Bool) (given item (can_compare op j k a b) kind.Bool) f
+        ∙ unless_false item (holds_field a && holds_field b) (Some kind.Bool) (kind_if item (can_compare op j k a b) kind.Bool) f
         (given_true item (can_compare op j k a b) kind.Bool m)
     finds (of_pattern {op} {a} {patterns} {k} h m) =
-        ap (λ r. bind r (λ k. given item (may_be kind.Text k) kind.Bool)) (finds h) ∙ given_true item (may_be kind.Text k) kind.Bool m
+        ap (λ r. bind r (λ k. kind_if item (may_be kind.Text k) kind.Bool)) (finds h) ∙ given_true item (may_be kind.Text k) kind.Bool m
     finds (of_member {fold} {negated} {a} {list} {k} h m) =
-        ap (λ r. bind r (λ k. given item (can_be_among fold k list) kind.Bool)) (finds h) ∙ given_true item (can_be_among fold k list) kind.Bool m
+        ap (λ r. bind r (λ k. kind_if item (can_be_among fold k list) kind.Bool)) (finds h) ∙ given_true item (can_be_among fold k list) kind.Bool m
     finds (of_neg {a} {k} h m) =
-        ap (λ r. bind r (λ k. given item (may_be kind.Long k) kind.Long)) (finds h) ∙ given_true item (may_be kind.Long k) kind.Long m
+        ap (λ r. bind r (λ k. kind_if item (may_be kind.Long k) kind.Long)) (finds h) ∙ given_true item (may_be kind.Long k) kind.Long m
     finds (of_math {op} {a} {b} {j} {k} h i m n) =
-        ap (λ r. bind r (λ j. bind (kind_of item mapping b) (λ k. given item (may_be kind.Long j && may_be kind.Long k) kind.Long))) (finds h)
-        ∙ ap (λ r. bind r (λ k. given item (may_be kind.Long j && may_be kind.Long k) kind.Long)) (finds i)
+        ap (λ r. bind r (λ j. bind (kind_of item mapping b) (λ k. kind_if item (may_be kind.Long j && may_be kind.Long k) kind.Long))) (finds h)
+        ∙ ap (λ r. bind r (λ k. kind_if item (may_be kind.Long j && may_be kind.Long k) kind.Long)) (finds i)
         ∙ given_true item (may_be kind.Long j && may_be kind.Long k) kind.Long (both_true (may_be kind.Long j) (may_be kind.Long k) m n)
     finds (of_call {name} {fold} {args} {ks} {f} e h c b m) =
-        ap (λ r. bind_all r (λ ks. call_kind item (function_of name fold) (shown name fold) args ks)) (find_all h)
-        ∙ call_true item (function_of name fold) f (shown name fold) args ks e c b m
+        ap (λ r. bind_all r (λ ks. call_kind item (function_of name fold) (shown_function name fold) args ks)) (find_all h)
+        ∙ call_true item (function_of name fold) f (shown_function name fold) args ks e c b m
 
     pub find_all : {es : Trees} {ks : List (Option Kind)} → HaveKinds mapping es ks → kinds_of item mapping es ≡ Ok ks
     find_all of_none = refl
@@ -128,7 +128,7 @@ module _ (item : ℕ) (mapping : List ℕ → Option Kind) where
   of_a_field None false name k e f = cc
 
   of_a_call : (o : Option Function) (name : List ℕ) (fold : Bool) (args : Trees) (ks : List (Option Kind)) (k : Option Kind) →
-      function_of name fold ≡ o → HaveKinds mapping args ks → call_kind item o (shown name fold) args ks ≡ Ok k →
+      function_of name fold ≡ o → HaveKinds mapping args ks → call_kind item o (shown_function name fold) args ks ≡ Ok k →
       HasKind mapping (t.call name fold args) k
   of_a_call None name fold args ks k e h g = cc
   of_a_call (Some f) name fold args ks k e h g =
@@ -145,43 +145,43 @@ module _ (item : ℕ) (mapping : List ℕ → Option Kind) where
     holds (t.str s) k e = be (cc) of_str
     holds (t.field name optional) k e = of_a_field (mapping name) optional name k refl e
     holds (t.not a) k e =
-        let x = bind_ok (kind_of item mapping a) (λ k. given item (may_be kind.Bool k) kind.Bool) k e in
+        let x = bind_ok (kind_of item mapping a) (λ k. kind_if item (may_be kind.Bool k) kind.Bool) k e in
         let y = given_ok item (may_be kind.Bool x.0) kind.Bool k x.2 in
         be y.1 (of_not (holds a x.0 x.1) y.0)
     holds (t.and es) k e =
-        let x = bind_all_ok (kinds_of item mapping es) (λ ks. given item (all_bool ks) kind.Bool) k e in
+        let x = bind_all_ok (kinds_of item mapping es) (λ ks. kind_if item (all_bool ks) kind.Bool) k e in
         let y = given_ok item (all_bool x.0) kind.Bool k x.2 in
         be y.1 (of_and (all_hold es x.0 x.1) y.0)
     holds (t.or es) k e =
-        let x = bind_all_ok (kinds_of item mapping es) (λ ks. given item (all_bool ks) kind.Bool) k e in
+        let x = bind_all_ok (kinds_of item mapping es) (λ ks. kind_if item (all_bool ks) kind.Bool) k e in
         let y = given_ok item (all_bool x.0) kind.Bool k x.2 in
         be y.1 (of_or (all_hold es x.0 x.1) y.0)
     holds (t.cmp op a b) k e =
         let x = bind_ok (kind_of item mapping a) (λ j. bind (kind_of item mapping b) (λ k. comparison item op j k a b)) k e in
         let y = bind_ok (kind_of item mapping b) (λ k. comparison item op x.0 k a b) k x.2 in
-        let z = unless_ok item (holds_field a && holds_field b) (given item (can_compare op x.0 y.0 a b) kind.Bool) k y.2 in
+        let z = unless_ok item (holds_field a && holds_field b) (kind_if item (can_compare op x.0 y.0 a b) kind.Bool) k y.2 in
         let w = given_ok item (can_compare op x.0 y.0 a b) kind.Bool k z.1 in
         be w.1 (of_cmp (holds a x.0 x.1) (holds b y.0 y.1) w.0 z.0)
     holds (t.pattern op a patterns) k e =
-        let x = bind_ok (kind_of item mapping a) (λ k. given item (may_be kind.Text k) kind.Bool) k e in
+        let x = bind_ok (kind_of item mapping a) (λ k. kind_if item (may_be kind.Text k) kind.Bool) k e in
         let y = given_ok item (may_be kind.Text x.0) kind.Bool k x.2 in
         be y.1 (of_pattern (holds a x.0 x.1) y.0)
     holds (t.member fold negated a list) k e =
-        let x = bind_ok (kind_of item mapping a) (λ k. given item (can_be_among fold k list) kind.Bool) k e in
+        let x = bind_ok (kind_of item mapping a) (λ k. kind_if item (can_be_among fold k list) kind.Bool) k e in
         let y = given_ok item (can_be_among fold x.0 list) kind.Bool k x.2 in
         be y.1 (of_member (holds a x.0 x.1) y.0)
     holds (t.neg a) k e =
-        let x = bind_ok (kind_of item mapping a) (λ k. given item (may_be kind.Long k) kind.Long) k e in
+        let x = bind_ok (kind_of item mapping a) (λ k. kind_if item (may_be kind.Long k) kind.Long) k e in
         let y = given_ok item (may_be kind.Long x.0) kind.Long k x.2 in
         be y.1 (of_neg (holds a x.0 x.1) y.0)
     holds (t.math op a b) k e =
-        let x = bind_ok (kind_of item mapping a) (λ j. bind (kind_of item mapping b) (λ k. given item (may_be kind.Long j && may_be kind.Long k) kind.Long)) k e in
-        let y = bind_ok (kind_of item mapping b) (λ k. given item (may_be kind.Long x.0 && may_be kind.Long k) kind.Long) k x.2 in
+        let x = bind_ok (kind_of item mapping a) (λ j. bind (kind_of item mapping b) (λ k. kind_if item (may_be kind.Long j && may_be kind.Long k) kind.Long)) k e in
+        let y = bind_ok (kind_of item mapping b) (λ k. kind_if item (may_be kind.Long x.0 && may_be kind.Long k) kind.Long) k x.2 in
         let z = given_ok item (may_be kind.Long x.0 && may_be kind.Long y.0) kind.Long k y.2 in
         let w = both_ok (may_be kind.Long x.0) (may_be kind.Long y.0) z.0 in
         be z.1 (of_math (holds a x.0 x.1) (holds b y.0 y.1) w.0 w.1)
     holds (t.call name fold args) k e =
-        let x = bind_all_ok (kinds_of item mapping args) (λ ks. call_kind item (function_of name fold) (shown name fold) args ks) k e in
+        let x = bind_all_ok (kinds_of item mapping args) (λ ks. call_kind item (function_of name fold) (shown_function name fold) args ks) k e in
         of_a_call (function_of name fold) name fold args x.0 k refl (all_hold args x.0 x.1) x.2
 
     pub all_hold : (es : Trees) (ks : List (Option Kind)) → kinds_of item mapping es ≡ Ok ks → HaveKinds mapping es ks

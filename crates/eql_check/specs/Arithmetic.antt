@@ -36,14 +36,14 @@ result_of Div a b = unless_zero b (long_or_null (floor_div a b))
 result_of Mod a b = unless_zero b (long_or_null (floor_rest a b))
 
 -- an operator on two values; null where one isn't a whole number
-abbrev pub computed : MathOp → Value → Value → Value
-computed op (value.Long a) (value.Long b) = result_of op a b
-computed op _ _ = value.Null
+abbrev pub math_value : MathOp → Value → Value → Value
+math_value op (value.Long a) (value.Long b) = result_of op a b
+math_value op _ _ = value.Null
 
 -- the number with the other sign
-abbrev pub negated : Value → Value
-negated (value.Long a) = long_or_null (neg_ℤ a)
-negated _ = value.Null
+abbrev pub negative_value : Value → Value
+negative_value (value.Long a) = long_or_null (neg_ℤ a)
+negative_value _ = value.Null
 
 -- q is the floor of a / b, the greatest whole number that isn't above the exact quotient: for b above zero q * b is at
 -- most a, and one b more is above it; for b below zero the two sides change places

@@ -40,19 +40,19 @@ abbrev pub takes_count : Function → ℕ → Bool
 takes_count f count = nat_le (fewest f) count && at_most count (most f)
 
 -- the kinds that a function asks for, by place; further places take every kind. `cidrMatch` has its own rule, `is_cidr`
-abbrev pub asked : Function → List Kind
-asked Length = kind.Text ∷ []
-asked IndexOf = kind.Text ∷ kind.Text ∷ kind.Long ∷ []
-asked StartsWith = kind.Text ∷ kind.Text ∷ []
-asked EndsWith = kind.Text ∷ kind.Text ∷ []
-asked StringContains = kind.Text ∷ kind.Text ∷ []
-asked Concat = []
-asked Substring = kind.Text ∷ kind.Long ∷ kind.Long ∷ []
-asked Between = kind.Text ∷ kind.Text ∷ kind.Text ∷ kind.Bool ∷ []
-asked String = []
-asked Number = kind.Text ∷ []
-asked CidrMatch = []
-asked _ = kind.Long ∷ kind.Long ∷ []
+abbrev pub kinds_asked : Function → List Kind
+kinds_asked Length = kind.Text ∷ []
+kinds_asked IndexOf = kind.Text ∷ kind.Text ∷ kind.Long ∷ []
+kinds_asked StartsWith = kind.Text ∷ kind.Text ∷ []
+kinds_asked EndsWith = kind.Text ∷ kind.Text ∷ []
+kinds_asked StringContains = kind.Text ∷ kind.Text ∷ []
+kinds_asked Concat = []
+kinds_asked Substring = kind.Text ∷ kind.Long ∷ kind.Long ∷ []
+kinds_asked Between = kind.Text ∷ kind.Text ∷ kind.Text ∷ kind.Bool ∷ []
+kinds_asked String = []
+kinds_asked Number = kind.Text ∷ []
+kinds_asked CidrMatch = []
+kinds_asked _ = kind.Long ∷ kind.Long ∷ []
 
 -- the kind of a function's result
 abbrev pub given_by : Function → Kind
@@ -88,7 +88,7 @@ is_cidr _ _ = true
 -- whether a function takes arguments of these kinds
 abbrev pub takes_kinds : Function → Trees → List (Option Kind) → Bool
 takes_kinds CidrMatch args ks = is_cidr args ks
-takes_kinds f args ks = are_asked (asked f) ks
+takes_kinds f args ks = are_asked (kinds_asked f) ks
 
 -- the first text in quotes that isn't a block of addresses
 abbrev pub bad_block : Trees → Option (List ℕ)
@@ -102,5 +102,5 @@ bad_block_of CidrMatch (more a es) = bad_block es
 bad_block_of _ _ = None
 
 -- how a refusal names a function: with `~` after the name where the call has it
-abbrev pub shown : List ℕ → (fold : Bool) → List ℕ
-shown name fold = if fold then name ++ chars (codes "~") else name
+abbrev pub shown_function : List ℕ → (fold : Bool) → List ℕ
+shown_function name fold = if fold then name ++ chars (codes "~") else name

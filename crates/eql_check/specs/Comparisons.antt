@@ -42,8 +42,8 @@ says Ne o = not (is_eq o)
 says Ge o = not (is_lt o)
 says Gt o = not (is_le o)
 
-abbrev pub compared : CmpOp → Value → Value → Value
-compared op a b = truth (option_map (says op) (order_of a b))
+abbrev pub comparison_value : CmpOp → Value → Value → Value
+comparison_value op a b = truth (option_map (says op) (order_of a b))
 
 -- a comparison with the literal `null` on a side: a value equals it exactly when it is null
 abbrev pub compared_with_null : CmpOp → Value → Value → Value
@@ -53,7 +53,7 @@ compared_with_null _ a b = value.Null
 
 -- a comparison, where the flag says that a side is the literal `null`
 abbrev pub compares : Bool → CmpOp → Value → Value → Value
-compares literal op a b = if literal then compared_with_null op a b else compared op a b
+compares literal op a b = if literal then compared_with_null op a b else comparison_value op a b
 
 -- whether a pattern operator folds
 abbrev pub pattern_folds : PatOp → Bool

@@ -14,7 +14,7 @@ use Rattle.eql_check.specs.declared.refused.CheckRefused.TheVariants as broken
 use Rattle.eql_check.specs.Names.{function_of}
 use Rattle.eql_values.specs.Fitting.{may_be}
 use Rattle.eql_check.specs.Kinds.{can_compare, can_be_among, holds_field}
-use Rattle.eql_check.specs.Calls.{takes_count, takes_kinds, given_by, bad_block_of, shown}
+use Rattle.eql_check.specs.Calls.{takes_count, takes_kinds, given_by, bad_block_of, shown_function}
 
 -- a kind, which is none for what is always null, or a broken rule
 abbrev pub Found : Type 0
@@ -49,8 +49,8 @@ field_kind None false name = Err (broken.UnknownField name)
 
 module _ (item : ℕ) where
   -- this kind where the operands have kinds that fit
-  abbrev pub given : Bool → Kind → Found
-  given b k = if b then Ok (Some k) else Err (broken.KindMismatch item)
+  abbrev pub kind_if : Bool → Kind → Found
+  kind_if b k = if b then Ok (Some k) else Err (broken.KindMismatch item)
 
   -- no comparison has a field on both sides
   abbrev pub unless_fields : Bool → Found → Found
@@ -59,20 +59,20 @@ module _ (item : ℕ) where
 
   -- the kind of `and` and `or`
   abbrev pub connective : AllFound → Found
-  connective all = bind_all all (λ ks. given (all_bool ks) kind.Bool)
+  connective all = bind_all all (λ ks. kind_if (all_bool ks) kind.Bool)
 
   -- the kind of a comparison of two sides of kinds j and k
   abbrev pub comparison : CmpOp → Option Kind → Option Kind → Tree → Tree → Found
-  comparison op j k a b = unless_fields (holds_field a && holds_field b) (given (can_compare op j k a b) kind.Bool)
+  comparison op j k a b = unless_fields (holds_field a && holds_field b) (kind_if (can_compare op j k a b) kind.Bool)
 
   -- the kind of an operator on two whole numbers
   abbrev pub calculation : Option Kind → Option Kind → Found
-  calculation j k = given (may_be kind.Long j && may_be kind.Long k) kind.Long
+  calculation j k = kind_if (may_be kind.Long j && may_be kind.Long k) kind.Long
 
   -- a call's kind where its blocks are in form
   abbrev pub in_form : Option (List ℕ) → Bool → Kind → Found
   in_form (Some s) b k = Err (broken.Cidr s)
-  in_form None b k = given b k
+  in_form None b k = kind_if b k
 
   -- what a call gives, by the kinds of its arguments
   abbrev pub call_kind : Option Function → (shown : List ℕ) → Trees → List (Option Kind) → Found
@@ -88,18 +88,18 @@ module _ (item : ℕ) (mapping : List ℕ → Option Kind) where
     kind_of (t.long n) = Ok (Some kind.Long)
     kind_of (t.str s) = Ok (Some kind.Text)
     kind_of (t.field name optional) = field_kind (mapping name) optional name
-    kind_of (t.not a) = bind (kind_of a) (λ k. given item (may_be kind.Bool k) kind.Bool)
+    kind_of (t.not a) = bind (kind_of a) (λ k. kind_if item (may_be kind.Bool k) kind.Bool)
     kind_of (t.and es) = connective item (kinds_of es)
     kind_of (t.or es) = connective item (kinds_of es)
     kind_of (t.cmp op a b) =
         bind (kind_of a) (λ j. bind (kind_of b) (λ k. comparison item op j k a b))
-    kind_of (t.pattern op a patterns) = bind (kind_of a) (λ k. given item (may_be kind.Text k) kind.Bool)
-    kind_of (t.member fold negated a list) = bind (kind_of a) (λ k. given item (can_be_among fold k list) kind.Bool)
-    kind_of (t.neg a) = bind (kind_of a) (λ k. given item (may_be kind.Long k) kind.Long)
+    kind_of (t.pattern op a patterns) = bind (kind_of a) (λ k. kind_if item (may_be kind.Text k) kind.Bool)
+    kind_of (t.member fold negated a list) = bind (kind_of a) (λ k. kind_if item (can_be_among fold k list) kind.Bool)
+    kind_of (t.neg a) = bind (kind_of a) (λ k. kind_if item (may_be kind.Long k) kind.Long)
     kind_of (t.math op a b) =
         bind (kind_of a) (λ j. bind (kind_of b) (λ k. calculation item j k))
     kind_of (t.call name fold args) =
-        bind_all (kinds_of args) (λ ks. call_kind item (function_of name fold) (shown name fold) args ks)
+        bind_all (kinds_of args) (λ ks. call_kind item (function_of name fold) (shown_function name fold) args ks)
 
     pub kinds_of : Trees → AllFound
     kinds_of none = Ok []
@@ -107,10 +107,10 @@ module _ (item : ℕ) (mapping : List ℕ → Option Kind) where
 
   -- the kinds of the forms with operands, by name
   abbrev pub operator : Tree → (asked gives : Kind) → Found
-  operator a asked gives = bind (kind_of a) (λ k. given item (may_be asked k) gives)
+  operator a asked gives = bind (kind_of a) (λ k. kind_if item (may_be asked k) gives)
 
   abbrev pub member : (fold : Bool) → Tree → List Value → Found
-  member fold a list = bind (kind_of a) (λ k. given item (can_be_among fold k list) kind.Bool)
+  member fold a list = bind (kind_of a) (λ k. kind_if item (can_be_among fold k list) kind.Bool)
 
   abbrev pub call : List ℕ → Bool → Trees → Found
-  call name fold args = bind_all (kinds_of args) (λ ks. call_kind item (function_of name fold) (shown name fold) args ks)
+  call name fold args = bind_all (kinds_of args) (λ ks. call_kind item (function_of name fold) (shown_function name fold) args ks)

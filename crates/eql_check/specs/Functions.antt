@@ -17,7 +17,7 @@ use Rattle.eql_query.specs.declared.expr.MathOp.TheVariants as math
 use Rattle.eql_check.specs.declared.function.Function.{Function}
 use Rattle.eql_check.specs.declared.function.Function.TheVariants.{Add, Subtract, Multiply, Divide, Modulo, Length, IndexOf, StartsWith, EndsWith, StringContains, Concat, Substring, Between, String, Number, CidrMatch}
 use Rattle.eql_check.specs.ThreeValued.{truth}
-use Rattle.eql_check.specs.Arithmetic.{computed}
+use Rattle.eql_check.specs.Arithmetic.{math_value}
 
 -- a function of one argument, of two, and of three or four where the last may be left out
 abbrev pub with_one : (Value → Value) → List Value → Value
@@ -53,9 +53,9 @@ length_of (value.Text s) = value.Long (pos (length s))
 length_of _ = value.Null
 
 -- a test of two texts
-abbrev pub tested : (List ℕ → List ℕ → Bool) → Value → Value → Value
-tested test (value.Text s) (value.Text t) = value.Bool (test s t)
-tested test _ _ = value.Null
+abbrev pub test_value : (List ℕ → List ℕ → Bool) → Value → Value → Value
+test_value test (value.Text s) (value.Text t) = value.Bool (test s t)
+test_value test _ _ = value.Null
 
 -- whether a text stands in another; the empty text stands in none
 abbrev pub stands_in : (fold : Bool) → List ℕ → List ℕ → Bool
@@ -81,8 +81,8 @@ between_of fold (value.Text s) (value.Text l) (value.Text r) (Some (value.Bool g
 between_of fold _ _ _ _ = value.Null
 
 -- an address as four numbers with dots between
-abbrev pub dotted : ℕ → List ℕ
-dotted ip = decimal (ip / 16777216) ++ codes "." ++ decimal (ip / 65536 % 256) ++ codes "." ++ decimal (ip / 256 % 256) ++ codes "." ++ decimal (ip % 256)
+abbrev pub dotted_text : ℕ → List ℕ
+dotted_text ip = decimal (ip / 16777216) ++ codes "." ++ decimal (ip / 65536 % 256) ++ codes "." ++ decimal (ip / 256 % 256) ++ codes "." ++ decimal (ip % 256)
 
 -- the text of a value; none of null
 abbrev pub text_of : Value → Option (List ℕ)
@@ -90,17 +90,17 @@ text_of value.Null = None
 text_of (value.Bool b) = Some (chars (if b then codes "true" else codes "false"))
 text_of (value.Long n) = Some (chars (signed_decimal n))
 text_of (value.Text s) = Some s
-text_of (value.Ip ip) = Some (chars (dotted ip))
+text_of (value.Ip ip) = Some (chars (dotted_text ip))
 
 -- two texts joined; none where one is none
-abbrev pub joined : Option (List ℕ) → Option (List ℕ) → Option (List ℕ)
-joined (Some s) (Some t) = Some (s ++ t)
-joined _ _ = None
+abbrev pub joined_texts : Option (List ℕ) → Option (List ℕ) → Option (List ℕ)
+joined_texts (Some s) (Some t) = Some (s ++ t)
+joined_texts _ _ = None
 
 -- the texts of values, joined
 abbrev pub texts_of : List Value → Option (List ℕ)
 texts_of [] = Some []
-texts_of (v ∷ vs) = joined (text_of v) (texts_of vs)
+texts_of (v ∷ vs) = joined_texts (text_of v) (texts_of vs)
 
 -- the number that a text writes
 abbrev pub number_of : Value → Value
@@ -136,23 +136,23 @@ cidr_match [] = value.Null
 cidr_match (a ∷ blocks) = lies_in_one (address_of a) blocks
 
 -- the table of the functions; `fold` says whether texts are compared with folding
-abbrev pub called : Function → (fold : Bool) → List Value → Value
-called Add fold vs = with_two (computed math.Add) vs
-called Subtract fold vs = with_two (computed math.Sub) vs
-called Multiply fold vs = with_two (computed math.Mul) vs
-called Divide fold vs = with_two (computed math.Div) vs
-called Modulo fold vs = with_two (computed math.Mod) vs
-called Length fold vs = with_one length_of vs
-called IndexOf fold vs = with_two_or_three (place_of fold) vs
-called StartsWith fold vs = with_two (tested (starts fold)) vs
-called EndsWith fold vs = with_two (tested (ends fold)) vs
-called StringContains fold vs = with_two (tested (stands_in fold)) vs
-called Concat fold vs = text_or_null (texts_of vs)
-called Substring fold vs = with_two_or_three part_of vs
-called Between fold vs = with_three_or_four (between_of fold) vs
-called String fold vs = with_one (λ v. text_or_null (text_of v)) vs
-called Number fold vs = with_one number_of vs
-called CidrMatch fold vs = cidr_match vs
+abbrev pub call_value : Function → (fold : Bool) → List Value → Value
+call_value Add fold vs = with_two (math_value math.Add) vs
+call_value Subtract fold vs = with_two (math_value math.Sub) vs
+call_value Multiply fold vs = with_two (math_value math.Mul) vs
+call_value Divide fold vs = with_two (math_value math.Div) vs
+call_value Modulo fold vs = with_two (math_value math.Mod) vs
+call_value Length fold vs = with_one length_of vs
+call_value IndexOf fold vs = with_two_or_three (place_of fold) vs
+call_value StartsWith fold vs = with_two (test_value (starts fold)) vs
+call_value EndsWith fold vs = with_two (test_value (ends fold)) vs
+call_value StringContains fold vs = with_two (test_value (stands_in fold)) vs
+call_value Concat fold vs = text_or_null (texts_of vs)
+call_value Substring fold vs = with_two_or_three part_of vs
+call_value Between fold vs = with_three_or_four (between_of fold) vs
+call_value String fold vs = with_one (λ v. text_or_null (text_of v)) vs
+call_value Number fold vs = with_one number_of vs
+call_value CidrMatch fold vs = cidr_match vs
 
 -- whether a function makes a text, for which it takes memory
 abbrev pub makes_text : Function → Bool

@@ -18,7 +18,7 @@ use Rattle.eql_check.specs.declared.function.Function.TheVariants.{CidrMatch}
 use Rattle.eql_check.specs.Names.{function_of}
 use Rattle.eql_values.specs.Fitting.{kind_of_value, is_of}
 use Rattle.eql_check.specs.Kinds.{needs_order, can_equal, is_text}
-use Rattle.eql_check.specs.Calls.{takes_count, asked}
+use Rattle.eql_check.specs.Calls.{takes_count, kinds_asked}
 use Rattle.eql_check.specs.Comparisons.{is_null, order_of}
 use Rattle.eql_check.specs.Functions.{block_of}
 use Rattle.eql_check.specs.Truth.{means, values, value_at}
@@ -63,7 +63,7 @@ are_for_cidr (v ∷ blocks) = (is_ip v || is_text v) && list_all writes_block bl
 
 abbrev pub takes_values : Function → List Value → Bool
 takes_values CidrMatch vs = are_for_cidr vs
-takes_values f vs = are_of (asked f) vs
+takes_values f vs = are_of (kinds_asked f) vs
 
 -- the arguments of a function, of the right number
 abbrev pub takes_arguments : Function → List Value → Bool

@@ -6,8 +6,8 @@ use Rattle.eql_check.specs.declared.function.Function.{Function}
 use Rattle.eql_check.specs.declared.function.Function.TheVariants.{Add, Subtract, Multiply, Divide, Modulo, Length, IndexOf, StartsWith, EndsWith, StringContains, Concat, Substring, Between, String, Number, CidrMatch}
 
 -- the function with this name
-abbrev pub named : List ℕ → Option Function
-named name =
+abbrev pub function_named : List ℕ → Option Function
+function_named name =
     if text_eq name (chars (codes "add")) then Some Add else
     if text_eq name (chars (codes "subtract")) then Some Subtract else
     if text_eq name (chars (codes "multiply")) then Some Multiply else
@@ -40,4 +40,4 @@ only_folding (Some f) = if has_folding f then Some f else None
 
 -- the function that a call names, with `~` or without
 abbrev pub function_of : List ℕ → Bool → Option Function
-function_of name fold = if fold then only_folding (named name) else named name
+function_of name fold = if fold then only_folding (function_named name) else function_named name

@@ -70,17 +70,17 @@ fit (j ∷ js) (k ∷ ks) = alike j k && fit js ks
 fit _ _ = true
 
 -- at each place the kind that is settled, or else that of this item
-abbrev pub settled : List (Option Kind) → List (Option Kind) → List (Option Kind)
-settled js [] = js
-settled [] (k ∷ ks) = k ∷ settled [] ks
-settled (None ∷ js) (k ∷ ks) = k ∷ settled js ks
-settled (Some j ∷ js) (k ∷ ks) = Some j ∷ settled js ks
+abbrev pub settled_kinds : List (Option Kind) → List (Option Kind) → List (Option Kind)
+settled_kinds js [] = js
+settled_kinds [] (k ∷ ks) = k ∷ settled_kinds [] ks
+settled_kinds (None ∷ js) (k ∷ ks) = k ∷ settled_kinds js ks
+settled_kinds (Some j ∷ js) (k ∷ ks) = Some j ∷ settled_kinds js ks
 
 -- the first item with a key that has another kind than the first at its place in the items before that isn't always null
 abbrev pub kinds_broken : (List ℕ → Option Kind) → List (Option Kind) → ℕ → List TermTree → Broken
 kinds_broken mapping before item [] = None
 kinds_broken mapping before item (term ∷ terms) =
-    or_next (unless (fit before (key_kinds mapping term.by)) (broken.KeyKind item)) (kinds_broken mapping (settled before (key_kinds mapping term.by)) (item + 1) terms)
+    or_next (unless (fit before (key_kinds mapping term.by)) (broken.KeyKind item)) (kinds_broken mapping (settled_kinds before (key_kinds mapping term.by)) (item + 1) terms)
 
 -- the first item whose own keys aren't so many
 abbrev pub counts_broken : ℕ → ℕ → List TermTree → Broken
@@ -101,11 +101,11 @@ stages_broken (event term) = None
 stages_broken (sequence by span items until) = sequence_broken (stage_count items)
 
 -- a count as a refusal tells it, which stands still at the greatest long
-abbrev pub counted : ℕ → ℤ
-counted count = if nat_le count 9223372036854775807 then pos count else pos 9223372036854775807
+abbrev pub capped_count : ℕ → ℤ
+capped_count count = if nat_le count 9223372036854775807 then pos count else pos 9223372036854775807
 
 abbrev pub limit_broken : ℕ → ℕ → (ℤ → CheckRefused) → Broken
-limit_broken limit count rule = unless (nat_le count limit) (rule (counted count))
+limit_broken limit count rule = unless (nat_le count limit) (rule (capped_count count))
 
 -- 36,500 days in each unit
 abbrev pub longest : SpanUnit → ℤ

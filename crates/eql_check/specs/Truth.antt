@@ -10,8 +10,8 @@ use Rattle.eql_check.specs.declared.function.Function.{Function}
 use Rattle.eql_check.specs.Names.{function_of}
 use Rattle.eql_check.specs.ThreeValued.{truth, truth_in, is_true, negation, all_from, any_from}
 use Rattle.eql_check.specs.Comparisons.{compares, matches_one, is_among}
-use Rattle.eql_check.specs.Arithmetic.{computed, negated}
-use Rattle.eql_check.specs.Functions.{called}
+use Rattle.eql_check.specs.Arithmetic.{math_value, negative_value}
+use Rattle.eql_check.specs.Functions.{call_value}
 
 -- the slot of a field among the used fields: its place, from 0
 abbrev pub slot_of : List (List ℕ × Kind) → List ℕ → Option ℕ
@@ -31,7 +31,7 @@ is_literal_null _ = false
 
 -- a call of the function that a name names; null where it names none
 abbrev pub call_of : Option Function → Bool → List Value → Value
-call_of (Some f) fold vs = called f fold vs
+call_of (Some f) fold vs = call_value f fold vs
 call_of None fold vs = value.Null
 
 module _ (field : List ℕ → Value) where
@@ -48,8 +48,8 @@ module _ (field : List ℕ → Value) where
     means (t.cmp op a b) = compares (is_literal_null a || is_literal_null b) op (means a) (means b)
     means (t.pattern op a patterns) = matches_one op (means a) patterns
     means (t.member fold negated a list) = is_among fold negated (means a) list
-    means (t.neg a) = negated (means a)
-    means (t.math op a b) = computed op (means a) (means b)
+    means (t.neg a) = negative_value (means a)
+    means (t.math op a b) = math_value op (means a) (means b)
     means (t.call name fold args) = call_of (function_of name fold) fold (values args)
 
     -- the meanings of a list of expressions

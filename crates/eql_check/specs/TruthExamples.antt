@@ -16,115 +16,115 @@ use Rattle.eql_query.specs.declared.expr.CmpOp.TheVariants.{Lt, Eq, Ne}
 use Rattle.eql_query.specs.declared.expr.MathOp.TheVariants as math
 use Rattle.eql_query.specs.declared.expr.PatOp.TheVariants.{Like, LikeFold}
 use Rattle.eql_check.specs.declared.function.Function.TheVariants.{Length, IndexOf, StartsWith, EndsWith, StringContains, Concat, Substring, Between, String, Number, CidrMatch}
-use Rattle.eql_check.specs.Functions.{called}
+use Rattle.eql_check.specs.Functions.{call_value}
 use Rattle.eql_check.specs.Truth.{means, holds}
 
 -- functions
 abbrev text : List ℕ → Value
 text = value.Text
 
-cafe : called Length false (text (99 ∷ 97 ∷ 102 ∷ 233 ∷ []) ∷ []) ≡ value.Long (pos 4)
+cafe : call_value Length false (text (99 ∷ 97 ∷ 102 ∷ 233 ∷ []) ∷ []) ≡ value.Long (pos 4)
 cafe = refl
 
-second_c : called IndexOf false (text (codes "abcabc") ∷ text (codes "c") ∷ value.Long (pos 3) ∷ []) ≡ value.Long (pos 5)
+second_c : call_value IndexOf false (text (codes "abcabc") ∷ text (codes "c") ∷ value.Long (pos 3) ∷ []) ≡ value.Long (pos 5)
 unfolding same place_after
 second_c = refl
 
-no_place : called IndexOf false (text (codes "abc") ∷ text (codes "x") ∷ []) ≡ value.Null
+no_place : call_value IndexOf false (text (codes "abc") ∷ text (codes "x") ∷ []) ≡ value.Null
 unfolding same place_after
 no_place = refl
 
-empty_at_the_end : called IndexOf false (text (codes "abc") ∷ text [] ∷ value.Long (pos 3) ∷ []) ≡ value.Long (pos 3)
+empty_at_the_end : call_value IndexOf false (text (codes "abc") ∷ text [] ∷ value.Long (pos 3) ∷ []) ≡ value.Long (pos 3)
 unfolding same place_after
 empty_at_the_end = refl
 
-negative_start : called IndexOf false (text (codes "abc") ∷ text (codes "a") ∷ value.Long (negsuc 0) ∷ []) ≡ value.Long (pos 0)
+negative_start : call_value IndexOf false (text (codes "abc") ∷ text (codes "a") ∷ value.Long (negsuc 0) ∷ []) ≡ value.Long (pos 0)
 unfolding same place_after
 negative_start = refl
 
-from_six : called Substring false (text (codes "start regsvr32.exe") ∷ value.Long (pos 6) ∷ []) ≡ text (codes "regsvr32.exe")
+from_six : call_value Substring false (text (codes "start regsvr32.exe") ∷ value.Long (pos 6) ∷ []) ≡ text (codes "regsvr32.exe")
 unfolding substring
 from_six = refl
 
-last_four : called Substring false (text (codes "start regsvr32.exe") ∷ value.Long (negsuc 3) ∷ []) ≡ text (codes ".exe")
+last_four : call_value Substring false (text (codes "start regsvr32.exe") ∷ value.Long (negsuc 3) ∷ []) ≡ text (codes ".exe")
 unfolding substring
 last_four = refl
 
-all_but_the_last : called Substring false (text (codes "start regsvr32.exe") ∷ value.Long (negsuc 3) ∷ value.Long (negsuc 0) ∷ []) ≡ text (codes ".ex")
+all_but_the_last : call_value Substring false (text (codes "start regsvr32.exe") ∷ value.Long (negsuc 3) ∷ value.Long (negsuc 0) ∷ []) ≡ text (codes ".ex")
 unfolding substring
 all_but_the_last = refl
 
-beyond : called Substring false (text (codes "abc") ∷ value.Long (pos 5) ∷ []) ≡ text []
+beyond : call_value Substring false (text (codes "abc") ∷ value.Long (pos 5) ∷ []) ≡ text []
 unfolding substring
 beyond = refl
 
-event : called Between false (text (codes "system event log") ∷ text (codes "system ") ∷ text (codes " log") ∷ []) ≡ text (codes "event")
+event : call_value Between false (text (codes "system event log") ∷ text (codes "system ") ∷ text (codes " log") ∷ []) ≡ text (codes "event")
 unfolding same between
 event = refl
 
-first_dash : called Between false (text (codes "a-b-c-d") ∷ text (codes "a") ∷ text (codes "-") ∷ []) ≡ text []
+first_dash : call_value Between false (text (codes "a-b-c-d") ∷ text (codes "a") ∷ text (codes "-") ∷ []) ≡ text []
 unfolding same between
 first_dash = refl
 
-last_dash : called Between false (text (codes "a-b-c-d") ∷ text (codes "a") ∷ text (codes "-") ∷ value.Bool true ∷ []) ≡ text (codes "-b-c")
+last_dash : call_value Between false (text (codes "a-b-c-d") ∷ text (codes "a") ∷ text (codes "-") ∷ value.Bool true ∷ []) ≡ text (codes "-b-c")
 unfolding same between
 last_dash = refl
 
-beginning : called StartsWith false (text (codes "cmd.exe") ∷ text (codes "cmd") ∷ []) ≡ value.Bool true
+beginning : call_value StartsWith false (text (codes "cmd.exe") ∷ text (codes "cmd") ∷ []) ≡ value.Bool true
 unfolding same
 beginning = refl
 
-inside : called StringContains false (text (codes "cmd.exe") ∷ text (codes "d.e") ∷ []) ≡ value.Bool true
+inside : call_value StringContains false (text (codes "cmd.exe") ∷ text (codes "d.e") ∷ []) ≡ value.Bool true
 unfolding same
 inside = refl
 
 -- the empty text stands in none, nor in itself
-empty_inside : called StringContains false (text (codes "a") ∷ text [] ∷ []) ≡ value.Bool false
+empty_inside : call_value StringContains false (text (codes "a") ∷ text [] ∷ []) ≡ value.Bool false
 empty_inside = refl
 
-empty_in_empty : called StringContains true (text [] ∷ text [] ∷ []) ≡ value.Bool false
+empty_in_empty : call_value StringContains true (text [] ∷ text [] ∷ []) ≡ value.Bool false
 empty_in_empty = refl
 
-not_folded : called EndsWith false (text (codes "CMD.EXE") ∷ text (codes ".exe") ∷ []) ≡ value.Bool false
+not_folded : call_value EndsWith false (text (codes "CMD.EXE") ∷ text (codes ".exe") ∷ []) ≡ value.Bool false
 unfolding same
 not_folded = refl
 
-three_joined : called Concat false (text (codes "a") ∷ value.Long (pos 1) ∷ value.Bool true ∷ []) ≡ text (codes "a1true")
+three_joined : call_value Concat false (text (codes "a") ∷ value.Long (pos 1) ∷ value.Bool true ∷ []) ≡ text (codes "a1true")
 unfolding chars digits
 three_joined = refl
 
-joined_with_null : called Concat false (text (codes "a") ∷ value.Null ∷ []) ≡ value.Null
+joined_with_null : call_value Concat false (text (codes "a") ∷ value.Null ∷ []) ≡ value.Null
 joined_with_null = refl
 
-address_as_text : called String false (value.Ip (10 * 2 ^ 24 + 255) ∷ []) ≡ text (codes "10.0.0.255")
+address_as_text : call_value String false (value.Ip (10 * 2 ^ 24 + 255) ∷ []) ≡ text (codes "10.0.0.255")
 unfolding chars digits
 address_as_text = refl
 
-minus_twelve : called Number false (text (codes "-12") ∷ []) ≡ value.Long (negsuc 11)
+minus_twelve : call_value Number false (text (codes "-12") ∷ []) ≡ value.Long (negsuc 11)
 unfolding same read_number
 minus_twelve = refl
 
-no_number : called Number false (text (codes "1x") ∷ []) ≡ value.Null
+no_number : call_value Number false (text (codes "1x") ∷ []) ≡ value.Null
 unfolding same read_number
 no_number = refl
 
-hexadecimal : called Number false (text (codes "0x1F") ∷ []) ≡ value.Long (pos 31)
+hexadecimal : call_value Number false (text (codes "0x1F") ∷ []) ≡ value.Long (pos 31)
 unfolding same read_number
 hexadecimal = refl
 
-hexadecimal_without_digits : called Number false (text (codes "0x") ∷ []) ≡ value.Null
+hexadecimal_without_digits : call_value Number false (text (codes "0x") ∷ []) ≡ value.Null
 unfolding same read_number
 hexadecimal_without_digits = refl
 
-lies_inside : called CidrMatch false (text (codes "10.9.8.7") ∷ text (codes "10.0.0.0/8") ∷ []) ≡ value.Bool true
+lies_inside : call_value CidrMatch false (text (codes "10.9.8.7") ∷ text (codes "10.0.0.0/8") ∷ []) ≡ value.Bool true
 unfolding plain parse_ip4 parse_block in_block
 lies_inside = refl
 
-lies_in_the_second : called CidrMatch false (text (codes "11.0.0.1") ∷ text (codes "10.0.0.0/8") ∷ text (codes "0.0.0.0/0") ∷ []) ≡ value.Bool true
+lies_in_the_second : call_value CidrMatch false (text (codes "11.0.0.1") ∷ text (codes "10.0.0.0/8") ∷ text (codes "0.0.0.0/0") ∷ []) ≡ value.Bool true
 unfolding plain parse_ip4 parse_block in_block
 lies_in_the_second = refl
 
-no_address : called CidrMatch false (text (codes "11.0.0") ∷ text (codes "0.0.0.0/0") ∷ []) ≡ value.Null
+no_address : call_value CidrMatch false (text (codes "11.0.0") ∷ text (codes "0.0.0.0/0") ∷ []) ≡ value.Null
 unfolding plain parse_ip4 parse_block in_block
 no_address = refl
 

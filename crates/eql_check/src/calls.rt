@@ -41,7 +41,7 @@ pub(crate) fn given_by(function: Function) -> Kind
 
 /// The kinds that a function asks for, by place; further places take every kind.
 fn asked(function: Function) -> &'static [Kind]
-    ensures { result.now ≡ calls.asked function }
+    ensures { result.now ≡ calls.kinds_asked function }
 {
     match function {
         Function::Length | Function::Number => &[Kind::Text],
@@ -140,7 +140,7 @@ pub(crate) fn bad_block_of(function: Function, args: &[Expr]) -> Option<&Text>
 
 /// How a refusal names a function: with `~` after the name where the call has it.
 pub(crate) fn shown(name: &Text, fold: bool) -> Result<Text, AllocError>
-    ensures { IfOk result (λ text. text ≡ calls.shown name.now fold) }
+    ensures { IfOk result (λ text. text ≡ calls.shown_function name.now fold) }
 {
     if fold { with_tilde(name) } else { name.clone() }
 }

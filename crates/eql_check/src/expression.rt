@@ -34,7 +34,7 @@ impl Model for Kinds {
 
 /// This kind, where the operands have kinds that fit.
 fn given(item: u32, fits: bool, kind: Kind) -> Result<Option<Kind>, CheckRefused>
-    ensures { result ≡ broken.given item fits kind }
+    ensures { result ≡ broken.kind_if item fits kind }
 {
     if fits {
         Ok(Some(kind))
@@ -71,7 +71,7 @@ fn call_kind(
     kinds: &[Option<Kind>],
 ) -> Result<Option<Kind>, CheckRefused>
     ensures { Answers result
-        (broken.call_kind item (function_of name.now fold) (calls.shown name.now fold)
+        (broken.call_kind item (function_of name.now fold) (calls.shown_function name.now fold)
         (trees_of (map tree args.now)) kinds.now) }
 {
     let Some(function) = Function::of(name, fold) else {

@@ -1,6 +1,6 @@
 //! The functions of the language.
 ghost use Rattle.std.specs.Prelude.{◌≡◌};
-ghost use Rattle.eql_check.specs.Names.{function_of, has_folding, named};
+ghost use Rattle.eql_check.specs.Names.{function_of, has_folding, function_named};
 
 use eql_values::Text;
 
@@ -72,7 +72,7 @@ impl Function {
 
 /// The function with this name.
 fn by_name(name: &Text) -> Option<Function>
-    ensures { result ≡ named name.now }
+    ensures { result ≡ function_named name.now }
 {
     match name.text() {
         "add" => Some(Function::Add),

@@ -68,7 +68,7 @@ fn check_body(body: &Body) -> Result<(), CheckRefused>
 
 /// A count as a refusal tells it.
 fn counted(count: usize) -> i64
-    ensures { result ≡ rules_of.counted count }
+    ensures { result ≡ rules_of.capped_count count }
 {
     i64::try_from(count).unwrap_or(i64::MAX)
 }

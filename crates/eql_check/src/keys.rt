@@ -3,7 +3,7 @@ ghost use Rattle.std.specs.Prelude.{◌≡◌, ◌++◌, ◌≤◌, [], length, 
 ghost use Rattle.eql_check.specs.Kinds.{kind_at};
 ghost use Rattle.eql_check.specs.Conditions.{own_count as own_count_of};
 ghost use Rattle.eql_check.specs.Rules as rules_of;
-ghost use Rattle.eql_check.specs.Rules.{counts_broken, kinds_broken, key_kinds, settled};
+ghost use Rattle.eql_check.specs.Rules.{counts_broken, kinds_broken, key_kinds, settled_kinds};
 ghost use Rattle.eql_check.specs.Answers.{Judges};
 ghost use Rattle.eql_check.specs.Entries.{terms_in};
 
@@ -55,8 +55,8 @@ fn fit(mapping: &Mapping, before: &[Option<Kind>], keys: &[FieldRef]) -> bool
 
 /// Settles the kinds of keys at the places where none is settled yet.
 fn settle(mapping: &Mapping, keys: &[FieldRef], kinds: &mut Vec<Option<Kind>>) -> Result<(), Memory>
-    ensures { OnOk result
-        (kinds.new.items ≡ settled kinds.old.items (key_kinds (kind_at mapping.now) keys.now)) }
+    ensures { OnOk result (kinds.new.items
+        ≡ settled_kinds kinds.old.items (key_kinds (kind_at mapping.now) keys.now)) }
 {
     for (place, key) in keys.iter().enumerate() {
         let kind = mapping.kind(&key.name);

@@ -1,7 +1,7 @@
 //! What refusals say.
 ghost use Rattle.std.specs.Prelude.{◌≡◌, ◌++◌, IfOk, string_bytes};
 ghost use Rattle.std.specs.Fmt.{decimal, signed_decimal};
-ghost use Rattle.eql_check.specs.Messages.{printed, map_message, check_message};
+ghost use Rattle.eql_check.specs.Messages.{printed_bytes, map_message, check_message};
 
 use crate::mapping::MapRefused;
 use crate::refused::CheckRefused;
@@ -10,7 +10,7 @@ use std::alloc::Global;
 
 /// A line that ends with a name or a text of the input.
 fn named(alloc: Global, start: &str, name: &Text) -> Result<String, Memory>
-    ensures { IfOk result (λ line. string_bytes line ≡ start.now ++ printed name.now) }
+    ensures { IfOk result (λ line. string_bytes line ≡ start.now ++ printed_bytes name.now) }
 {
     let mut line = String::from_str(alloc, start)?;
     push_shown(&mut line, name.text())?;

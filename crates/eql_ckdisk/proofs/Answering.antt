@@ -8,7 +8,7 @@ use Rattle.eql_ckdisk.specs.declared.refused.CkRefused.{CkRefused}
 use Rattle.eql_ckdisk.specs.declared.refused.CkRefused.TheVariants as ck
 use Rattle.eql_ckdisk.specs.declared.find.LastText.{LastText}
 use Rattle.eql_ckdisk.specs.declared.recovery.Recovered.{Recovered}
-use Rattle.eql_ckdisk.specs.Found.{Found, nothing, text, damaged, found, Finds, EachFinds, LastCut, IsAt, next}
+use Rattle.eql_ckdisk.specs.Found.{Found, nothing, text, damaged, found_on, Finds, EachFinds, LastCut, IsAt, next}
 use Rattle.eql_ckdisk.specs.Going.{Keeps}
 use Rattle.eql_ckdisk.specs.Keeping.{all_kept, KeepsAll}
 use Rattle.eql_ckdisk.specs.Heads.{IsTextFound}
@@ -60,29 +60,29 @@ is_at last format (Some cut) f is = subst (IsAt last) (sym is.1) (refl, refl)
 
 -- where both areas are kept, each image is what reads give
 pub each_image : (P : Found → Type 0) (o p : Option History) → DiskTells KeepsAll o p
-    → IfSome p (λ k. P (found (seen_areas k.now))) → IfSome p (λ k. EachFinds P k.now)
+    → IfSome p (λ k. P (found_on (seen_areas k.now))) → IfSome p (λ k. EachFinds P k.now)
 each_image P None None told there = tt
 each_image P None (Some k) told there = absurd told
 each_image P (Some h) None told there = tt
 each_image P (Some h) (Some k) told there = λ image i.
-    subst (λ (x : Areas). P (found x)) (sym (seen_alone k.now image (told.now ∙ ap all_kept (sym told.now)) i)) there
+    subst (λ (x : Areas). P (found_on x)) (sym (seen_alone k.now image (told.now ∙ ap all_kept (sym told.now)) i)) there
 
 one_stands : (last : LastCut) (format : ℕ) (answer : Option Cut) (o p : Option History) → DiskTells KeepsAll o p
-    → IfSome p (λ k. IsFound last format answer (found (seen_areas k.now))) → Stands last p
+    → IfSome p (λ k. IsFound last format answer (found_on (seen_areas k.now))) → Stands last p
 one_stands last format answer None None told there = tt
 one_stands last format answer None (Some k) told there = absurd told
 one_stands last format answer (Some h) None told there = tt
 one_stands last format answer (Some h) (Some k) told there =
-    (found (seen_areas k.now), is_at last format answer (found (seen_areas k.now)) there, λ image i. ap found (seen_alone k.now image (told.now ∙ ap all_kept (sym told.now)) i))
+    (found_on (seen_areas k.now), is_at last format answer (found_on (seen_areas k.now)) there, λ image i. ap found_on (seen_alone k.now image (told.now ∙ ap all_kept (sym told.now)) i))
 
 if_some : {X : Type 0} (P Q : X → Type 0) (o : Option X) → ((x : X) → P x → Q x) → IfSome o P → IfSome o Q
 if_some P Q None f p = tt
 if_some P Q (Some x) f p = f x p
 
 -- of a text that was found after both areas were kept
-module _ (last : LastText) (r : Recovered) (o p : Option History) (kept : DiskTells KeepsAll o p) (there : IfSome p (λ k. IsTextFound last (found (seen_areas k.now)))) (reads : (f : Found) → IsTextFound last f → IsAnswer r f) where
-  answers_seen : IfSome p (λ k. IsAnswer r (found (seen_areas k.now)))
-  answers_seen = if_some (λ (k : History). IsTextFound last (found (seen_areas k.now))) (λ (k : History). IsAnswer r (found (seen_areas k.now))) p (λ k is. reads (found (seen_areas k.now)) is) there
+module _ (last : LastText) (r : Recovered) (o p : Option History) (kept : DiskTells KeepsAll o p) (there : IfSome p (λ k. IsTextFound last (found_on (seen_areas k.now)))) (reads : (f : Found) → IsTextFound last f → IsAnswer r f) where
+  answers_seen : IfSome p (λ k. IsAnswer r (found_on (seen_areas k.now)))
+  answers_seen = if_some (λ (k : History). IsTextFound last (found_on (seen_areas k.now))) (λ (k : History). IsAnswer r (found_on (seen_areas k.now))) p (λ k is. reads (found_on (seen_areas k.now)) is) there
 
   pub answers_each : IfSome p (λ k. EachFinds (IsAnswer r) k.now)
   answers_each = each_image (IsAnswer r) o p kept answers_seen
@@ -92,21 +92,21 @@ module _ (last : LastText) (r : Recovered) (o p : Option History) (kept : DiskTe
 
 -- a head that is damaged
 pub head_each : (e : CkRefused) (o p : Option History) → DiskTells KeepsAll o p
-    → IfDamaged e (λ number at. IfSome p (λ k. IsDamagedHead number at (found (seen_areas k.now))))
+    → IfDamaged e (λ number at. IfSome p (λ k. IsDamagedHead number at (found_on (seen_areas k.now))))
     → IfDamaged e (λ number at. IfSome p (λ k. EachFinds (IsDamaged number at) k.now))
 head_each ck.DiskFault o p kept is = tt
 head_each (ck.Damaged number at) o p kept is =
-    each_image (IsDamaged number at) o p kept (if_some (λ (k : History). IsDamagedHead number at (found (seen_areas k.now))) (λ (k : History). IsDamaged number at (found (seen_areas k.now))) p (λ k d. head_damage number at (found (seen_areas k.now)) d) is)
+    each_image (IsDamaged number at) o p kept (if_some (λ (k : History). IsDamagedHead number at (found_on (seen_areas k.now))) (λ (k : History). IsDamaged number at (found_on (seen_areas k.now))) p (λ k d. head_damage number at (found_on (seen_areas k.now)) d) is)
 head_each ck.Generation o p kept is = tt
 head_each ck.Memory o p kept is = tt
 
 -- a text that is no cut's
 pub text_each : (last : LastText) (e : CkRefused) (o p : Option History) → DiskTells KeepsAll o p
-    → IfSome p (λ k. IsTextFound last (found (seen_areas k.now)))
+    → IfSome p (λ k. IsTextFound last (found_on (seen_areas k.now)))
     → IfDamaged e (λ number at. (f : Found) → IsTextFound last f → IsDamaged number at f) → IfDamaged e (λ number at. IfSome p (λ k. EachFinds (IsDamaged number at) k.now))
 text_each last ck.DiskFault o p kept there is = tt
 text_each last (ck.Damaged number at) o p kept there is =
-    each_image (IsDamaged number at) o p kept (if_some (λ (k : History). IsTextFound last (found (seen_areas k.now))) (λ (k : History). IsDamaged number at (found (seen_areas k.now))) p (λ k d. is (found (seen_areas k.now)) d) there)
+    each_image (IsDamaged number at) o p kept (if_some (λ (k : History). IsTextFound last (found_on (seen_areas k.now))) (λ (k : History). IsDamaged number at (found_on (seen_areas k.now))) p (λ k d. is (found_on (seen_areas k.now)) d) there)
 text_each last ck.Generation o p kept there is = tt
 text_each last ck.Memory o p kept there is = tt
 
@@ -122,12 +122,12 @@ refused_so r y e p q is same here said =
 
 pub head_refused : (r : Result Recovered CkRefused) (y e : CkRefused) (o p q : Option History) → r ≡ Err y → y ≡ e
     → q ≡ p → DiskTells KeepsAll o p
-    → IfDamaged e (λ number at. IfSome p (λ k. IsDamagedHead number at (found (seen_areas k.now)))) → IfErr r (λ z. Said z q)
+    → IfDamaged e (λ number at. IfSome p (λ k. IsDamagedHead number at (found_on (seen_areas k.now)))) → IfErr r (λ z. Said z q)
 head_refused r y e o p q is same here kept damage = refused_so r y e p q is same here (head_each e o p kept damage)
 
 pub text_refused : (last : LastText) (r : Result Recovered CkRefused) (y e : CkRefused) (o p q : Option History)
     → r ≡ Err y → y ≡ e → q ≡ p → DiskTells KeepsAll o p
-    → IfSome p (λ k. IsTextFound last (found (seen_areas k.now))) → IfDamaged e (λ number at. (f : Found) → IsTextFound last f → IsDamaged number at f)
+    → IfSome p (λ k. IsTextFound last (found_on (seen_areas k.now))) → IfDamaged e (λ number at. (f : Found) → IsTextFound last f → IsDamaged number at f)
     → IfErr r (λ z. Said z q)
 text_refused last r y e o p q is same here kept there damage = refused_so r y e p q is same here (text_each last e o p kept there damage)
 
@@ -150,7 +150,7 @@ module _ (last : LastCut) (cut : Cut) (bytes : List ℕ) (t : IsText 3 cut bytes
   cut_put h k put f at finds =
       goes_as (Keeps f (text_at (next last) bytes)) (KeepsOrPuts f (next last) cut)
       (λ a b r. record {
-        one = λ image i. ⊎_elim (λ (e : found image ≡ f). inl e) (λ (e : found image ≡ text_at (next last) bytes). inr (bytes, e, t)) (r.one image i);
+        one = λ image i. ⊎_elim (λ (e : found_on image ≡ f). inl e) (λ (e : found_on image ≡ text_at (next last) bytes). inr (bytes, e, t)) (r.one image i);
         no_older = r.no_older;
       }) h k (put f at finds)
 

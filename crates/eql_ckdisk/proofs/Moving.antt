@@ -5,7 +5,7 @@ use Rattle.eql_outside.specs.declared.disk.Area.TheVariants.{A, B}
 use Rattle.eql_outside.specs.Areas.{Areas, Write, Store, MayLeave, Moment, IsImage, store, with_store, kept_areas}
 use Rattle.eql_outside.specs.DiskLaws.{ImagesAreThere}
 use Rattle.eql_outside.specs.Moments.{History, DiskTells, later, LandsOn, after_write}
-use Rattle.eql_ckdisk.specs.Found.{Found, found, generation_of}
+use Rattle.eql_ckdisk.specs.Found.{Found, found_on, generation_of}
 use Rattle.eql_ckdisk.specs.Going.{Steps, Goes, Keeps}
 use Rattle.eql_ckdisk.specs.Writing.{LandsAsOne}
 use Rattle.eql_ckdisk.proofs.Landing.{landed}
@@ -28,20 +28,20 @@ pub goes_further : (R : Moment → Moment → Type 0) (h j k : History) → Goes
 goes_further R h j k so then_ = more_steps R then_.0 h j k so then_.1
 
 pub keeps : ImagesAreThere → (f g : Found) (before m : Moment) → generation_of f ≤ generation_of g
-    → found (kept_areas before) ≡ f → ((image : Areas) → IsImage m image → (found image ≡ f) ⊎ (found image ≡ g))
+    → found_on (kept_areas before) ≡ f → ((image : Areas) → IsImage m image → (found_on image ≡ f) ⊎ (found_on image ≡ g))
     → Keeps f g before m
 keeps there f g before m le is one = record {
   one = one;
   no_older = λ n at_least image i.
       let low : n ≤ generation_of f = subst (λ x. n ≤ generation_of x) is (at_least (kept_areas before) (there.kept before)) in
-      let here : n ≤ generation_of (found image) = ⊎_elim (λ (e : found image ≡ f). subst (λ x. n ≤ generation_of x) (sym e) low) (λ (e : found image ≡ g). let high : n ≤ generation_of g = omega arith in subst (λ x. n ≤ generation_of x) (sym e) high) (one image i) in
+      let here : n ≤ generation_of (found_on image) = ⊎_elim (λ (e : found_on image ≡ f). subst (λ x. n ≤ generation_of x) (sym e) low) (λ (e : found_on image ≡ g). let high : n ≤ generation_of g = omega arith in subst (λ x. n ≤ generation_of x) (sym e) high) (one image i) in
       here;
 }
 
 -- the images while a write isn't kept
 pub while_written : (area : Area) (w : Write) (f g : Found) (m : Moment) (seen : List ℕ) → LandsAsOne area w f g m
     → LandsOn w (store area m) seen → (image : Areas) → IsImage (after_write area w seen m) image
-    → (found image ≡ f) ⊎ (found image ≡ g)
+    → (found_on image ≡ f) ⊎ (found_on image ≡ g)
 while_written A w f g m seen lands on image i =
     let from = landed w m.a seen on image.a i.a in
     lands (record { a = from.0; b = image.b }) (record { a = from.1; b = i.b }) image.a from.2

@@ -2,10 +2,10 @@
 use Rattle.std.proofs.Common.{◌≡◌, min, inl, inr, ⊎_elim, ℕ, ◌+◌, ◌≤◌, ◌<◌, ◌^◌, true, false, List, [], ◌∷◌, ◌++◌, length, take, drop, refl, sym, ◌∙◌, ap, subst, arith}
 use Rattle.eql_outside.specs.declared.disk.Area.{Area}
 use Rattle.eql_outside.specs.declared.disk.Area.TheVariants.{A, B}
-use Rattle.eql_outside.specs.Areas.{Areas, Write, MayLeave, Moment, IsImage, store, with_store, settled, written, other_area, bytes_of}
+use Rattle.eql_outside.specs.Areas.{Areas, Write, MayLeave, Moment, IsImage, store, with_store, settled_store, area_with, other_area, bytes_of}
 use Rattle.eql_outside.specs.DiskLaws.{ImagesAreThere}
 use Rattle.eql_outside.specs.Moments.{History}
-use Rattle.eql_ckdisk.specs.Found.{Found, text, found, is_open, generation_in, holds, generation_of, Finds, LastCut, IsAt, next_area, block}
+use Rattle.eql_ckdisk.specs.Found.{Found, text, found_on, is_open, generation_in, holds, generation_of, Finds, LastCut, IsAt, next_area, block}
 use Rattle.eql_ckdisk.specs.Going.{Goes, Keeps}
 use Rattle.eql_ckdisk.specs.Writing.{with_bytes, LandsAsOne, WritesAndSyncs, WroteThrough}
 use Rattle.eql_ckdisk.proofs.Moving.{goes_further}
@@ -22,10 +22,10 @@ record Ready (area : Area) (f : Found) (bytes : List ℕ) (m : Moment) : Type 0 
   mine : (image : Areas) → IsImage m image → bytes_of area image ≡ bytes
 
 ready : (area : Area) (f : Found) (bytes : List ℕ) (before m : Moment) → OtherFinds area f before
-    → m ≡ with_store area (settled bytes) before → Ready area f bytes m
+    → m ≡ with_store area (settled_store bytes) before → Ready area f bytes m
 ready area f bytes before m of is = subst (Ready area f bytes) (sym is) (here area of)
   where
-    here : (x : Area) → OtherFinds x f before → Ready x f bytes (with_store x (settled bytes) before)
+    here : (x : Area) → OtherFinds x f before → Ready x f bytes (with_store x (settled_store bytes) before)
     here A of = record { others = of; mine = λ image i. ⊎_elim (λ (e : image.a ≡ bytes). e) (λ (e : image.a ≡ bytes). e) i.a }
     here B of = record { others = of; mine = λ image i. ⊎_elim (λ (e : image.b ≡ bytes). e) (λ (e : image.b ≡ bytes). e) i.b }
 
@@ -40,13 +40,13 @@ others_at_start there last f m at finds c left = here (next_area last) (λ image
     here B stands c left = stands (record { a = c; b = m.b.kept }) (record { a = left; b = (there.kept m).b })
 
 closed_with : (area : Area) (f : Found) (m : Moment) (image : Areas) (c : List ℕ) → OtherFinds area f m
-    → IsImage m image → is_open c ≡ false → found (with_bytes area c image) ≡ f
+    → IsImage m image → is_open c ≡ false → found_on (with_bytes area c image) ≡ f
 closed_with A f m image c of i shut = closed A (record { a = c; b = image.b }) shut ∙ of image.b i.b
 closed_with B f m image c of i shut = closed B (record { a = image.a; b = c }) shut ∙ of image.a i.a
 
 open_with : (area : Area) (f : Found) (m : Moment) (image : Areas) (c : List ℕ) → OtherFinds area f m
     → IsImage m image → is_open c ≡ true → generation_of f < generation_in c
-    → found (with_bytes area c image) ≡ holds area c
+    → found_on (with_bytes area c image) ≡ holds area c
 open_with A f m image c of i is lt =
     newer A (record { a = c; b = image.b }) is (λ o. subst (λ n. n < generation_in c) (sym (alone_generation B image.b f (of image.b i.b) o)) lt)
 open_with B f m image c of i is lt =
@@ -78,13 +78,13 @@ module _ (area : Area) (f : Found) (g : ℕ) (bytes : List ℕ) (older : generat
 
   shuts : (m : Moment) → OtherFinds area f m → Finds f m → LandsAsOne area shut f (text area g bytes) m
   shuts m of finds image i c lands = inl (⊎_elim
-      (λ (e : c ≡ bytes_of area image). ap found (same_with area image c e) ∙ finds image i)
+      (λ (e : c ≡ bytes_of area image). ap found_on (same_with area image c e) ∙ finds image i)
       (λ (e : c ≡ 0 ∷ drop 1 (bytes_of area image)). closed_with area f m image c of i (ap is_open e))
       (lands.whole refl (omega arith)))
 
   -- while the gate is closed the other area counts
   shut_finds : (m : Moment) (rest : List ℕ) → Ready area f (0 ∷ rest) m → Finds f m
-  shut_finds m rest r image i = ap found (sym (with_same area image)) ∙ closed_with area f m image (bytes_of area image) r.others i (ap is_open (r.mine image i))
+  shut_finds m rest r image i = ap found_on (sym (with_same area image)) ∙ closed_with area f m image (bytes_of area image) r.others i (ap is_open (r.mine image i))
 
   fills : (m : Moment) (rest : List ℕ) → Ready area f (0 ∷ rest) m → LandsAsOne area fill f (text area g bytes) m
   fills m rest r image i c lands =
@@ -95,7 +95,7 @@ module _ (area : Area) (f : Found) (g : ℕ) (bytes : List ℕ) (older : generat
       inl (closed_with area f m image c r.others i (shut_front c (before ∙ ap (take 1) (r.mine image i))))
 
   open_finds : (m : Moment) (rest : List ℕ) (image : Areas) → OtherFinds area f m → IsImage m image
-      → found (with_bytes area (1 ∷ (block g bytes ++ rest)) image) ≡ text area g bytes
+      → found_on (with_bytes area (1 ∷ (block g bytes ++ rest)) image) ≡ text area g bytes
   open_finds m rest image of i =
       open_with area f m image (1 ∷ (block g bytes ++ rest)) of i refl (subst (λ n. generation_of f < n) (sym (block_generation g bytes rest from to short)) older)
       ∙ block_holds g bytes rest from to short area
@@ -106,13 +106,13 @@ module _ (area : Area) (f : Found) (g : ℕ) (bytes : List ℕ) (older : generat
       (λ (e : c ≡ bytes_of area image). inl (closed_with area f m image c r.others i (ap is_open (e ∙ r.mine image i))))
       (λ (e : c ≡ 1 ∷ drop 1 (bytes_of area image)).
       let is : c ≡ 1 ∷ (block g bytes ++ rest) = e ∙ ap (λ (x : List ℕ). 1 ∷ drop 1 x) (r.mine image i) in
-      inr (ap (λ (x : List ℕ). found (with_bytes area x image)) is ∙ open_finds m rest image r.others i))
+      inr (ap (λ (x : List ℕ). found_on (with_bytes area x image)) is ∙ open_finds m rest image r.others i))
       (lands.whole refl (omega arith))
 
   new_finds : (m : Moment) (rest : List ℕ) → Ready area f (1 ∷ (block g bytes ++ rest)) m
       → Finds (text area g bytes) m
   new_finds m rest r image i =
-      ap found (sym (same_with area image (1 ∷ (block g bytes ++ rest)) (sym (r.mine image i)))) ∙ open_finds m rest image r.others i
+      ap found_on (sym (same_with area image (1 ∷ (block g bytes ++ rest)) (sym (r.mine image i)))) ∙ open_finds m rest image r.others i
 
   module _ (a b c d : History) (others : OtherFinds area f a.now) (finds : Finds f a.now) where
     le : generation_of f ≤ g
@@ -141,16 +141,16 @@ module _ (area : Area) (f : Found) (g : ℕ) (bytes : List ℕ) (older : generat
     seen_shut one = ap (λ (m : Moment). (store area m).seen) one.now ∙ here area
       where
         here : (x : Area)
-            → (store x (with_store x (settled (0 ∷ drop 1 (store area a.now).seen)) a.now)).seen ≡ 0 ∷ drop 1 (store area a.now).seen
+            → (store x (with_store x (settled_store (0 ∷ drop 1 (store area a.now).seen)) a.now)).seen ≡ 0 ∷ drop 1 (store area a.now).seen
         here A = refl
         here B = refl
 
     seen_filled : WroteThrough area shut a b → WroteThrough area fill b c
         → (store area c.now).seen ≡ 0 ∷ (block g bytes ++ behind)
-    seen_filled one two = ap (λ (m : Moment). (store area m).seen) two.now ∙ here area ∙ ap (written fill) (seen_shut one)
+    seen_filled one two = ap (λ (m : Moment). (store area m).seen) two.now ∙ here area ∙ ap (area_with fill) (seen_shut one)
       where
         here : (x : Area)
-            → (store x (with_store x (settled (written fill (store area b.now).seen)) b.now)).seen ≡ written fill (store area b.now).seen
+            → (store x (with_store x (settled_store (area_with fill (store area b.now).seen)) b.now)).seen ≡ area_with fill (store area b.now).seen
         here A = refl
         here B = refl
 
@@ -158,7 +158,7 @@ module _ (area : Area) (f : Found) (g : ℕ) (bytes : List ℕ) (older : generat
         → Ready area f (0 ∷ (block g bytes ++ behind)) c.now
     is_filled one two =
         ready area f (0 ∷ (block g bytes ++ behind)) b.now c.now (is_shut one).others
-        (subst (λ (x : List ℕ). c.now ≡ with_store area (settled (written fill x)) b.now) (seen_shut one) two.now)
+        (subst (λ (x : List ℕ). c.now ≡ with_store area (settled_store (area_with fill x)) b.now) (seen_shut one) two.now)
 
     pub third : WroteThrough area shut a b → WroteThrough area fill b c → WritesAndSyncs area open_ c d
         → Goes (Keeps f (text area g bytes)) a d
@@ -172,4 +172,4 @@ module _ (area : Area) (f : Found) (g : ℕ) (bytes : List ℕ) (older : generat
     done one two three =
         new_finds d.now behind
         (ready area f (1 ∷ (block g bytes ++ behind)) c.now d.now (is_filled one two).others
-        (subst (λ (x : List ℕ). d.now ≡ with_store area (settled (written open_ x)) c.now) (seen_filled one two) three.now))
+        (subst (λ (x : List ℕ). d.now ≡ with_store area (settled_store (area_with open_ x)) c.now) (seen_filled one two) three.now))

@@ -10,7 +10,7 @@ use Rattle.eql_outside.specs.DiskLaws.{ImagesAreThere}
 use Rattle.eql_outside.specs.Moments.{History, DiskTells}
 use Rattle.eql_cut.specs.declared.cut.Cut.{Cut}
 use Rattle.eql_cut.specs.Whole.{IsText}
-use Rattle.eql_ckdisk.specs.Found.{Found, nothing, text, damaged, found, generation_of, LastCut, next}
+use Rattle.eql_ckdisk.specs.Found.{Found, nothing, text, damaged, found_on, generation_of, LastCut, next}
 use Rattle.eql_ckdisk.specs.Going.{Steps, Goes, IsAtLeast, IsNoOlder}
 use Rattle.eql_ckdisk.specs.Keeping.{LeavesNoMore}
 use Rattle.eql_ckdisk.specs.Putting.{StandsAt, Stands, text_at}
@@ -59,8 +59,8 @@ put_goes : ImagesAreThere → (last : LastCut) (cut : Cut) (h k : History) → S
 put_goes there last cut h k (f, at, finds) put =
     goes_as (KeepsOrPuts f (next last) cut) (KeepsOneOf h.now last (cut ∷ [])) (λ a b r. record {
       one = λ image i. ⊎_elim
-          (λ (e : found image ≡ f). inl (kept_areas h.now, there.kept h.now, e ∙ sym (finds (kept_areas h.now) (there.kept h.now))))
-          (λ (e : FindsPut (next last) cut (found image)). inr (inl e))
+          (λ (e : found_on image ≡ f). inl (kept_areas h.now, there.kept h.now, e ∙ sym (finds (kept_areas h.now) (there.kept h.now))))
+          (λ (e : FindsPut (next last) cut (found_on image)). inr (inl e))
           (r.one image i);
       no_older = r.no_older;
     }) h k (put f at finds)
@@ -94,7 +94,7 @@ joined_one : (last : LastCut) (cuts more : List Cut) (h j : History) → PutsAll
     → IsFoundAt h.now x ⊎ FindsOneOf last (cuts ++ more) x
 joined_one last cuts more h j goes x (inl (image, i, is)) =
     subst (λ (y : Found). IsFoundAt h.now y ⊎ FindsOneOf last (cuts ++ more) y) (sym is)
-    (⊎_elim (λ (e : IsFoundAt h.now (found image)). inl e) (λ (e : FindsOneOf last cuts (found image)). inr (still_one last cuts more (found image) e)) (at_end last cuts goes.0 h j goes.1 image i))
+    (⊎_elim (λ (e : IsFoundAt h.now (found_on image)). inl e) (λ (e : FindsOneOf last cuts (found_on image)). inr (still_one last cuts more (found_on image) e)) (at_end last cuts goes.0 h j goes.1 image i))
 joined_one last cuts more h j goes x (inr one) = inr (later_one last cuts more x one)
 
 joined_goes : (last : LastCut) (cuts more : List Cut) (h j k : History) → PutsAll last cuts h j
@@ -102,11 +102,11 @@ joined_goes : (last : LastCut) (cuts more : List Cut) (h j k : History) → Puts
 joined_goes last cuts more h j k first second =
     goes_further (KeepsOneOf h.now last (cuts ++ more)) h j k
     (goes_as (KeepsOneOf h.now last cuts) (KeepsOneOf h.now last (cuts ++ more)) (λ a b r. record {
-      one = λ image i. ⊎_elim (λ (e : IsFoundAt h.now (found image)). inl e) (λ (e : FindsOneOf last cuts (found image)). inr (still_one last cuts more (found image) e)) (r.one image i);
+      one = λ image i. ⊎_elim (λ (e : IsFoundAt h.now (found_on image)). inl e) (λ (e : FindsOneOf last cuts (found_on image)). inr (still_one last cuts more (found_on image) e)) (r.one image i);
       no_older = r.no_older;
     }) h j first)
     (goes_as (KeepsOneOf j.now (last_after last cuts) more) (KeepsOneOf h.now last (cuts ++ more)) (λ a b r. record {
-      one = λ image i. joined_one last cuts more h j first (found image) (r.one image i);
+      one = λ image i. joined_one last cuts more h j first (found_on image) (r.one image i);
       no_older = r.no_older;
     }) j k second)
 

@@ -2,7 +2,7 @@
 use Rattle.std.proofs.Common.{◌≡◌, inl, inr, ⊎_elim, ℕ, List, Option, Some, None, refl, sym, ◌∙◌, ap, subst}
 use Rattle.eql_outside.specs.declared.disk.Area.{Area}
 use Rattle.eql_outside.specs.declared.disk.Area.TheVariants.{A, B}
-use Rattle.eql_outside.specs.Areas.{Areas, MayLeave, Moment, IsImage, store, with_store, settled, seen_areas}
+use Rattle.eql_outside.specs.Areas.{Areas, MayLeave, Moment, IsImage, store, with_store, settled_store, seen_areas}
 use Rattle.eql_outside.specs.Moments.{History, DiskTells, reading, Syncs, RefusesSync}
 use Rattle.eql_ckdisk.specs.Going.{Goes}
 use Rattle.eql_ckdisk.specs.Keeping.{LeavesNoMore, all_kept, KeepsAll}
@@ -10,7 +10,7 @@ use Rattle.eql_ckdisk.proofs.Moving.{stays, goes_on, goes_further, fewer}
 
 synced : (area : Area) (h k : History) → Syncs area h k → Goes LeavesNoMore h k
 synced area h k is =
-    goes_on LeavesNoMore h h k (with_store area (settled (store area h.now).seen) h.now) (stays LeavesNoMore h h refl) is (λ image i. fewer area h.now (settled (store area h.now).seen) (λ c left. inl (⊎_elim (λ (e : c ≡ (store area h.now).seen). e) (λ (e : c ≡ (store area h.now).seen). e) left)) image i)
+    goes_on LeavesNoMore h h k (with_store area (settled_store (store area h.now).seen) h.now) (stays LeavesNoMore h h refl) is (λ image i. fewer area h.now (settled_store (store area h.now).seen) (λ c left. inl (⊎_elim (λ (e : c ≡ (store area h.now).seen). e) (λ (e : c ≡ (store area h.now).seen). e) left)) image i)
 
 refused : (area : Area) (h k : History) → RefusesSync area h k → Goes LeavesNoMore h k
 refused area h k (inl is) = stays LeavesNoMore h k is
@@ -25,10 +25,10 @@ both : (h j k : History) → Syncs A h j → Syncs B j k → KeepsAll h k
 both h j k a b = record {
   going = goes_further LeavesNoMore h j k (synced A h j a) (synced B j k b);
   now =
-      let kept : k.now ≡ record { a = j.now.a; b = settled j.now.b.seen } = ap (λ (x : History). x.now) b in
-      let here : j.now.a ≡ settled h.now.a.seen = ap (λ (x : History). x.now.a) a in
+      let kept : k.now ≡ record { a = j.now.a; b = settled_store j.now.b.seen } = ap (λ (x : History). x.now) b in
+      let here : j.now.a ≡ settled_store h.now.a.seen = ap (λ (x : History). x.now.a) a in
       let there : j.now.b ≡ h.now.b = ap (λ (x : History). x.now.b) a in
-      kept ∙ (λ i. record { a = here i; b = settled (there i).seen });
+      kept ∙ (λ i. record { a = here i; b = settled_store (there i).seen });
 }
 
 pub told_first : (o p : Option History) → DiskTells (RefusesSync A) o p → DiskTells (Goes LeavesNoMore) o p

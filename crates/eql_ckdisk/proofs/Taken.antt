@@ -4,7 +4,7 @@ use Rattle.std.proofs.lemmas.Bool.{lt-leb, le-leb, leb-true, and_parts, cond_bot
 use Rattle.eql_outside.specs.declared.disk.Area.{Area}
 use Rattle.eql_outside.specs.declared.disk.Area.TheVariants.{A, B}
 use Rattle.eql_outside.specs.Areas.{Areas, other_area, bytes_of}
-use Rattle.eql_ckdisk.specs.Found.{Found, nothing, text, damaged, is_open, generation_in, is_whole, holds, length_in, pick, found, generation_of, LastCut, IsAt, next_area}
+use Rattle.eql_ckdisk.specs.Found.{Found, nothing, text, damaged, is_open, generation_in, is_whole, holds, length_in, pick, found_on, generation_of, LastCut, IsAt, next_area}
 
 -- what an area stands for where the other doesn't count
 abbrev pub alone : Area → List ℕ → Found
@@ -42,7 +42,7 @@ pick_given true false na fa fb ga gb = ga
 pick_given false true na fa fb ga gb = gb
 pick_given false false na fa fb ga gb = tt
 
-pub found_given : (image : Areas) (area : Area) (g : ℕ) (bytes : List ℕ) → found image ≡ text area g bytes → 1 ≤ g
+pub found_given : (image : Areas) (area : Area) (g : ℕ) (bytes : List ℕ) → found_on image ≡ text area g bytes → 1 ≤ g
 found_given image area g bytes is =
     subst Given is (pick_given (is_open image.a) (is_open image.b) (leb (generation_in image.b) (generation_in image.a)) (holds A image.a) (holds B image.b) (holds_given A image.a) (holds_given B image.b))
 
@@ -57,7 +57,7 @@ closed_b false false na fa fb is = refl
 
 -- where an area is closed the other counts
 pub closed : (area : Area) (image : Areas) → is_open (bytes_of area image) ≡ false
-    → found image ≡ alone (other_area area) (bytes_of (other_area area) image)
+    → found_on image ≡ alone (other_area area) (bytes_of (other_area area) image)
 closed A image is = closed_a (is_open image.a) (is_open image.b) (leb (generation_in image.b) (generation_in image.a)) (holds A image.a) (holds B image.b) is
 closed B image is = closed_b (is_open image.a) (is_open image.b) (leb (generation_in image.b) (generation_in image.a)) (holds A image.a) (holds B image.b) is
 
@@ -78,7 +78,7 @@ only_b false true na fa fb f pf pa is = is
 only_b false false na fa fb f pf pa is = is
 
 -- a text that was found is what its area stands for
-pub where_found : (area : Area) (image : Areas) (g : ℕ) (bytes : List ℕ) → found image ≡ text area g bytes
+pub where_found : (area : Area) (image : Areas) (g : ℕ) (bytes : List ℕ) → found_on image ≡ text area g bytes
     → alone area (bytes_of area image) ≡ text area g bytes
 where_found A image g bytes is = only_a (is_open image.a) (is_open image.b) (leb (generation_in image.b) (generation_in image.a)) (holds A image.a) (holds B image.b) (text A g bytes) refl (holds_place B image.b) is
 where_found B image g bytes is = only_b (is_open image.a) (is_open image.b) (leb (generation_in image.b) (generation_in image.a)) (holds A image.a) (holds B image.b) (text B g bytes) refl (holds_place A image.a) is
@@ -92,7 +92,7 @@ none_b false true na fa fb pa pb is = is
 none_b false false na fa fb pa pb is = refl
 
 -- what the area stands for that isn't written next
-pub other_stands : (last : LastCut) (f : Found) (image : Areas) → IsAt last f → found image ≡ f
+pub other_stands : (last : LastCut) (f : Found) (image : Areas) → IsAt last f → found_on image ≡ f
     → alone (other_area (next_area last)) (bytes_of (other_area (next_area last)) image) ≡ f
 other_stands last nothing image zero_ is =
     subst (λ (x : Area). alone (other_area x) (bytes_of (other_area x) image) ≡ nothing) (sym (cond-true (last.generation == 0) A (other_area last.area) (eq-eqb last.generation 0 zero_)))
@@ -124,7 +124,7 @@ newer_b oa false na fa fb is newer = absurd (cc)
 -- an open area with a greater generation than the other counts
 pub newer : (area : Area) (image : Areas) → is_open (bytes_of area image) ≡ true
     → (is_open (bytes_of (other_area area) image) ≡ true → generation_in (bytes_of (other_area area) image) < generation_in (bytes_of area image))
-    → found image ≡ holds area (bytes_of area image)
+    → found_on image ≡ holds area (bytes_of area image)
 newer A image is greater = newer_a (is_open image.a) (is_open image.b) (leb (generation_in image.b) (generation_in image.a)) (holds A image.a) (holds B image.b) is (λ o. let lt = greater o in le-leb (generation_in image.b) (generation_in image.a) (omega arith))
 newer B image is greater = newer_b (is_open image.a) (is_open image.b) (leb (generation_in image.b) (generation_in image.a)) (holds A image.a) (holds B image.b) is (λ o. let lt = greater o in lt-leb (generation_in image.b) (generation_in image.a) (omega arith))
 

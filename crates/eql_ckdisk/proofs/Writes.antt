@@ -2,10 +2,10 @@
 use Rattle.std.proofs.Common.{◌≡◌, inl, inr, ℕ, ◌≤◌, List, length, Option, Some, None, IfSome, refl, sym, ◌∙◌, ap, subst}
 use Rattle.eql_outside.specs.declared.disk.Area.{Area}
 use Rattle.eql_outside.specs.declared.disk.Area.TheVariants.{A, B}
-use Rattle.eql_outside.specs.Areas.{Write, Store, MayLeave, Moment, IsImage, store, with_store, settled, written, kept_areas}
+use Rattle.eql_outside.specs.Areas.{Write, Store, MayLeave, Moment, IsImage, store, with_store, settled_store, area_with, kept_areas}
 use Rattle.eql_outside.specs.DiskLaws.{WholeLands, ImagesAreThere}
 use Rattle.eql_outside.specs.Moments.{History, DiskTells, later, LandsOn, after_write, reading, Wrote, RefusesWrite, Syncs, RefusesSync}
-use Rattle.eql_ckdisk.specs.Found.{found}
+use Rattle.eql_ckdisk.specs.Found.{found_on}
 use Rattle.eql_ckdisk.specs.Going.{Keeps}
 use Rattle.eql_ckdisk.specs.Writing.{WritesAndSyncs, WroteThrough}
 use Rattle.eql_ckdisk.proofs.Moving.{stays, goes_on, goes_to, keeps, while_written, fewer, kept_while}
@@ -25,7 +25,7 @@ module _ (there : ImagesAreThere) (whole : WholeLands) (area : Area) (w : Write)
   ends h j k seen s on is then_ less f g le finds lands =
       let mid = after_write area w seen h.now in
       let now : j.now ≡ mid = ap (λ (x : History). x.now) is in
-      let kept : found (kept_areas j.now) ≡ f = ap (λ (x : Moment). found (kept_areas x)) now ∙ ap found (kept_while area w seen h.now) ∙ finds (kept_areas h.now) (there.kept h.now) in
+      let kept : found_on (kept_areas j.now) ≡ f = ap (λ (x : Moment). found_on (kept_areas x)) now ∙ ap found_on (kept_while area w seen h.now) ∙ finds (kept_areas h.now) (there.kept h.now) in
       goes_on (Keeps f g) h j k (with_store area s j.now) (begins h j seen on is f g le finds lands) then_
       (keeps there f g j.now (with_store area s j.now) le kept (λ image i. while_written area w f g h.now seen lands on image (subst (λ x. IsImage x image) now (fewer area j.now s less image i))))
 
@@ -35,15 +35,15 @@ module _ (there : ImagesAreThere) (whole : WholeLands) (area : Area) (w : Write)
 
   module _ (h j k : History) (within : w.at ≤ length (store area h.now).seen) (wrote : Wrote area w h j) where
     all : List ℕ
-    all = written w (store area h.now).seen
+    all = area_with w (store area h.now).seen
 
-    on : LandsOn w (store area h.now) (written w (store area h.now).seen)
+    on : LandsOn w (store area h.now) (area_with w (store area h.now).seen)
     on = ((store area h.now).seen, inl refl, whole.there w (store area h.now).seen within)
 
     unkept : RefusesSync area j k → WritesAndSyncs area w h k
-    unkept (inl is) f g le finds lands = goes_to (Keeps f g) h j k (begins h j (written w (store area h.now).seen) on wrote f g le finds lands) is
+    unkept (inl is) f g le finds lands = goes_to (Keeps f g) h j k (begins h j (area_with w (store area h.now).seen) on wrote f g le finds lands) is
     unkept (inr (seen, left, is)) f g le finds lands =
-        ends h j k (written w (store area h.now).seen) (reading seen (store area j.now)) on wrote is less f g le finds lands
+        ends h j k (area_with w (store area h.now).seen) (reading seen (store area j.now)) on wrote is less f g le finds lands
       where
         less : (c : List ℕ) → MayLeave (reading seen (store area j.now)) c → MayLeave (store area j.now) c
         less c (inl same) = subst (MayLeave (store area j.now)) (sym same) left
@@ -51,16 +51,16 @@ module _ (there : ImagesAreThere) (whole : WholeLands) (area : Area) (w : Write)
 
     done : Syncs area j k → WroteThrough area w h k
     done synced = record {
-      going = ends h j k (written w (store area h.now).seen) (settled (store area j.now).seen) on wrote synced less;
-      now = ap (λ (x : History). x.now) synced ∙ ap (λ (x : Moment). with_store area (settled (store area x).seen) x) (ap (λ (x : History). x.now) wrote) ∙ both area;
+      going = ends h j k (area_with w (store area h.now).seen) (settled_store (store area j.now).seen) on wrote synced less;
+      now = ap (λ (x : History). x.now) synced ∙ ap (λ (x : Moment). with_store area (settled_store (store area x).seen) x) (ap (λ (x : History). x.now) wrote) ∙ both area;
     }
       where
-        less : (c : List ℕ) → MayLeave (settled (store area j.now).seen) c → MayLeave (store area j.now) c
+        less : (c : List ℕ) → MayLeave (settled_store (store area j.now).seen) c → MayLeave (store area j.now) c
         less c (inl same) = inl same
         less c (inr same) = inl same
 
         both : (x : Area)
-            → with_store x (settled (store x (after_write x w (written w (store x h.now).seen) h.now)).seen) (after_write x w (written w (store x h.now).seen) h.now) ≡ with_store x (settled (written w (store x h.now).seen)) h.now
+            → with_store x (settled_store (store x (after_write x w (area_with w (store x h.now).seen) h.now)).seen) (after_write x w (area_with w (store x h.now).seen) h.now) ≡ with_store x (settled_store (area_with w (store x h.now).seen)) h.now
         both A = refl
         both B = refl
 

@@ -44,8 +44,8 @@ pick open_a open_b newer_a in_a in_b =
     if open_a && (not open_b || newer_a) then in_a else if open_b then in_b else nothing
 
 -- what an image stands for
-abbrev pub found : Areas → Found
-found image =
+abbrev pub found_on : Areas → Found
+found_on image =
     pick (is_open image.a) (is_open image.b) (nat_le (generation_in image.b) (generation_in image.a))
     (holds A image.a) (holds B image.b)
 
@@ -56,7 +56,7 @@ generation_of (damaged area generation) = generation
 
 -- each image at a moment stands for something of which this holds
 abbrev pub EachFinds : (Found → Type 0) → Moment → Type 0
-EachFinds P m = (image : Areas) → IsImage m image → P (found image)
+EachFinds P m = (image : Areas) → IsImage m image → P (found_on image)
 
 -- each image at a moment stands for this
 abbrev pub Finds : Found → Moment → Type 0

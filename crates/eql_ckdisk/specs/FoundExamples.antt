@@ -2,7 +2,7 @@
 use Rattle.std.specs.Prelude.{◌≡◌, ◌^◌, ◌+◌, ℕ, List, [], ◌∷◌, refl}
 use Rattle.eql_outside.specs.declared.disk.Area.TheVariants.{A, B}
 use Rattle.eql_outside.specs.Areas.{Areas}
-use Rattle.eql_ckdisk.specs.Found.{nothing, text, damaged, found, next}
+use Rattle.eql_ckdisk.specs.Found.{nothing, text, damaged, found_on, next}
 
 abbrev both : List ℕ → List ℕ → Areas
 both a b = record { a = a; b = b }
@@ -20,38 +20,38 @@ abbrev high : ℕ → List ℕ
 high top = 1 ∷ 1 ∷ 0 ∷ 0 ∷ 0 ∷ 0 ∷ 0 ∷ 0 ∷ top ∷ 0 ∷ 0 ∷ 0 ∷ 0 ∷ 0 ∷ 0 ∷ 0 ∷ 0 ∷ []
 
 -- two empty areas
-pub empty_areas : found (both [] []) ≡ nothing
+pub empty_areas : found_on (both [] []) ≡ nothing
 empty_areas = refl
 
 -- a closed gate, be it 0 or 2
-pub closed_gates : found (both (third 0 2) (third 2 2)) ≡ nothing
+pub closed_gates : found_on (both (third 0 2) (third 2 2)) ≡ nothing
 closed_gates = refl
 
-pub open_first : found (both (third 1 2) []) ≡ text A 3 (7 ∷ 8 ∷ [])
+pub open_first : found_on (both (third 1 2) []) ≡ text A 3 (7 ∷ 8 ∷ [])
 open_first = refl
 
 -- what stands behind the text means nothing
-pub shorter_text : found (both [] (third 1 1)) ≡ text B 3 (7 ∷ [])
+pub shorter_text : found_on (both [] (third 1 1)) ≡ text B 3 (7 ∷ [])
 shorter_text = refl
 
 -- fewer bytes than the length says
-pub text_not_there : found (both (third 1 3) []) ≡ damaged A 3
+pub text_not_there : found_on (both (third 1 3) []) ≡ damaged A 3
 text_not_there = refl
 
 -- the greater generation, also where the other area is damaged
-pub greater_counts : found (both (third 1 3) later) ≡ text B 258 []
+pub greater_counts : found_on (both (third 1 3) later) ≡ text B 258 []
 greater_counts = refl
 
 -- the first of equal ones
-pub first_of_equal : found (both (third 1 1) (third 1 2)) ≡ text A 3 (7 ∷ [])
+pub first_of_equal : found_on (both (third 1 1) (third 1 2)) ≡ text A 3 (7 ∷ [])
 first_of_equal = refl
 
 -- a gate alone has generation 0
-pub gate_alone : found (both [] (1 ∷ [])) ≡ damaged B 0
+pub gate_alone : found_on (both [] (1 ∷ [])) ≡ damaged B 0
 gate_alone = refl
 
 -- no generation above 2^63 is given
-pub too_great : found (both (high 128) later) ≡ damaged A (2 ^ 63 + 1)
+pub too_great : found_on (both (high 128) later) ≡ damaged A (2 ^ 63 + 1)
 too_great = refl
 
 -- the first cut goes to the first area, and each further one to the other

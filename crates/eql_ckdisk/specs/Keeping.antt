@@ -1,6 +1,6 @@
 -- What keeping both areas does to a disk.
 use Rattle.std.specs.Prelude.{◌≡◌}
-use Rattle.eql_outside.specs.Areas.{Areas, Moment, IsImage, settled}
+use Rattle.eql_outside.specs.Areas.{Areas, Moment, IsImage, settled_store}
 use Rattle.eql_outside.specs.Moments.{History}
 use Rattle.eql_ckdisk.specs.Going.{Goes}
 
@@ -10,7 +10,7 @@ LeavesNoMore before m = (image : Areas) → IsImage m image → IsImage before i
 
 -- what reads give, all of it kept
 abbrev pub all_kept : Moment → Moment
-all_kept m = record { a = settled m.a.seen; b = settled m.b.seen }
+all_kept m = record { a = settled_store m.a.seen; b = settled_store m.b.seen }
 
 -- a crash never left more than before, and now it leaves what reads gave
 pub record KeepsAll (h k : History) : Type 0 where

@@ -3,7 +3,7 @@ use Rattle.std.specs.Prelude.{◌≡◌, ◌⊎◌, List, [], ◌∷◌}
 use Rattle.eql_cut.specs.declared.cut.Cut.{Cut}
 use Rattle.eql_outside.specs.Areas.{Areas, Moment, IsImage}
 use Rattle.eql_outside.specs.Moments.{History}
-use Rattle.eql_ckdisk.specs.Found.{Found, found, EachFinds, LastCut, next}
+use Rattle.eql_ckdisk.specs.Found.{Found, found_on, EachFinds, LastCut, next}
 use Rattle.eql_ckdisk.specs.Going.{Goes, IsNoOlder}
 use Rattle.eql_ckdisk.specs.Cuts.{FindsPut}
 
@@ -14,7 +14,7 @@ last_after last (cut ∷ cuts) = last_after (next last) cuts
 
 -- an image of the moment stands for this
 abbrev pub IsFoundAt : Moment → Found → Type 0
-IsFoundAt m x = (image : Areas) × IsImage m image × (x ≡ found image)
+IsFoundAt m x = (image : Areas) × IsImage m image × (x ≡ found_on image)
 
 -- what was found is one of the cuts that are put, each in its area with its generation
 abbrev pub FindsOneOf : LastCut → List Cut → Found → Type 0

@@ -2,9 +2,9 @@
 use Rattle.std.specs.Prelude.{◌≡◌, ◌≤◌, ◌⊎◌, List, ℕ}
 use Rattle.eql_outside.specs.declared.disk.Area.{Area}
 use Rattle.eql_outside.specs.declared.disk.Area.TheVariants.{A, B}
-use Rattle.eql_outside.specs.Areas.{Areas, Write, Lands, Moment, IsImage, store, with_store, settled, written, bytes_of}
+use Rattle.eql_outside.specs.Areas.{Areas, Write, Lands, Moment, IsImage, store, with_store, settled_store, area_with, bytes_of}
 use Rattle.eql_outside.specs.Moments.{History}
-use Rattle.eql_ckdisk.specs.Found.{Found, found, generation_of, Finds}
+use Rattle.eql_ckdisk.specs.Found.{Found, found_on, generation_of, Finds}
 use Rattle.eql_ckdisk.specs.Going.{Goes, Keeps}
 
 -- an image with other bytes in an area
@@ -16,7 +16,7 @@ with_bytes B bytes image = record { a = image.a; b = bytes }
 abbrev pub LandsAsOne : Area → Write → Found → Found → Moment → Type 0
 LandsAsOne area w f g m =
     (image : Areas) → IsImage m image → (c : List ℕ) → Lands w (bytes_of area image) c
-    → (found (with_bytes area c image) ≡ f) ⊎ (found (with_bytes area c image) ≡ g)
+    → (found_on (with_bytes area c image) ≡ f) ⊎ (found_on (with_bytes area c image) ≡ g)
 
 -- a write and a sync: at each moment since, what lands counts
 abbrev pub WritesAndSyncs : Area → Write → History → History → Type 0
@@ -27,4 +27,4 @@ WritesAndSyncs area w h k =
 -- and then it is kept
 pub record WroteThrough (area : Area) (w : Write) (h k : History) : Type 0 where
   pub going : WritesAndSyncs area w h k
-  pub now : k.now ≡ with_store area (settled (written w (store area h.now).seen)) h.now
+  pub now : k.now ≡ with_store area (settled_store (area_with w (store area h.now).seen)) h.now

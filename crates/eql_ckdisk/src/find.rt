@@ -4,7 +4,7 @@ ghost use Rattle.eql_outside.specs.Areas.{seen_areas, store};
 ghost use Rattle.eql_outside.specs.Moments.{DiskTells};
 ghost use Rattle.eql_outside.specs.Outside.{Rose};
 ghost use Rattle.eql_outside.specs.Unfailing.{IsUnfailing};
-ghost use Rattle.eql_ckdisk.specs.Found.{found, holds};
+ghost use Rattle.eql_ckdisk.specs.Found.{found_on, holds};
 ghost use Rattle.eql_ckdisk.specs.Going.{Goes};
 ghost use Rattle.eql_ckdisk.specs.Keeping.{LeavesNoMore, KeepsAll};
 ghost use Rattle.eql_ckdisk.specs.Refusing.{number_of, IfDamaged, IsDamagedHead};
@@ -105,10 +105,10 @@ impl LastText {
     /// Finds the text that counts.
     pub(crate) fn find<D: Disk>(alloc: Global, disk: &mut D) -> Result<LastText, CkRefused>
         ensures found { IfOk result (λ last. IfSome (D.history disk.old)
-            (λ h. IsTextFound last (found (seen_areas h.now)))) }
+            (λ h. IsTextFound last (found_on (seen_areas h.now)))) }
         ensures sound { IfOk result (λ last. IsNoneOrText last.text last.state.generation) }
         ensures damaged { IfErr result (λ e. IfDamaged e (λ number at. IfSome (D.history disk.old)
-            (λ h. IsDamagedHead number at (found (seen_areas h.now))))) }
+            (λ h. IsDamagedHead number at (found_on (seen_areas h.now))))) }
         ensures limit { result ≢ Err CkRefused.Generation }
         ensures same { D.history disk.new ≡ D.history disk.old }
         ensures cause { result ≡ Err CkRefused.DiskFault

@@ -3,7 +3,7 @@ use Rattle.std.proofs.Common.{ℕ, List, [], ◌++◌, Option, Some, None, refl}
 use Rattle.std.specs.Prelude.{encode_utf8_all, codes}
 use Rattle.eql_values.specs.declared.value.Kind.{Kind as FieldKind}
 use Rattle.eql_query.specs.QueryTree.{QueryTree}
-use Rattle.eql_parser.specs.Printed.{printed}
+use Rattle.eql_parser.specs.Printed.{query_shown}
 use Rattle.eql_runs.specs.Files.{Files}
 use Rattle.eql_inputs.specs.Steps.{GotChecked}
 use Rattle.eql_inputs.specs.declared.halt.Halt.TheVariants as halt
@@ -19,7 +19,7 @@ stop_cause query fields files tree kinds got (run.Files (halt.Read name)) stops 
 stop_cause query fields files tree kinds got (run.Files halt.Memory) stops = tt
 stop_cause query fields None tree kinds got run.Write stops = tt
 stop_cause query fields (Some fs) tree kinds got run.Write stops = (
-  encode_utf8_all (printed tree) ++ codes "\n",
+  encode_utf8_all (query_shown tree) ++ codes "\n",
   [],
   record { tree = tree; kinds = kinds; checked = got; bytes_are = refl; report_is = refl },
 )

@@ -3,7 +3,7 @@ ghost use Rattle.std.specs.Prelude.{◌≡◌, ◌≤◌, ◌++◌, IfErr, IfOk,
 ghost use Rattle.eql_outside.specs.Unfailing.{IsUnfailing, AreUnfailing};
 ghost use Rattle.eql_outside.specs.Written.{WroteAll, WroteFront};
 ghost use Rattle.eql_query.specs.QueryTree.{query_tree};
-ghost use Rattle.eql_parser.specs.Printed.{printed};
+ghost use Rattle.eql_parser.specs.Printed.{query_shown};
 ghost use Rattle.eql_find.specs.Halts.{AbsencesFollow, CountFollows, FaultsFollow, IsFault, IsRefusal, OutFollows};
 ghost use Rattle.eql_cli.specs.Printing.{HasPrintCause, PrintsAll, PrintsSome, StopsWriting};
 
@@ -19,7 +19,7 @@ use std::alloc::Global;
 /// The line of a query: its canonical text and a line end.
 fn query_line(alloc: Global, query: &Query) -> Result<String, Memory>
     ensures { IfOk result (λ line. string_bytes line
-        ≡ encode_utf8_all (printed (query_tree query.now)) ++ codes "\n") }
+        ≡ encode_utf8_all (query_shown (query_tree query.now)) ++ codes "\n") }
 {
     let text = print(alloc, query)?;
     let mut line = String::from_str(alloc, text.text())?;
@@ -30,10 +30,10 @@ fn query_line(alloc: Global, query: &Query) -> Result<String, Memory>
 /// Writes the line of a query.
 fn write_query<'a, K: Sink>(alloc: Global, query: &Query, out: &mut K) -> Result<(), RunHalt<'a>>
     ensures all { OnOk result (WroteAll
-        (encode_utf8_all (printed (query_tree query.now)) ++ codes "\n")
+        (encode_utf8_all (query_shown (query_tree query.now)) ++ codes "\n")
         (K.written out.old) (K.written out.new)) }
     ensures front { OnErr result (WroteFront
-        (encode_utf8_all (printed (query_tree query.now)) ++ codes "\n")
+        (encode_utf8_all (query_shown (query_tree query.now)) ++ codes "\n")
         (K.written out.old) (K.written out.new)) }
     ensures stops { IfErr result StopsWriting }
     ensures out { OutFollows result (K.fault_count out.old) (K.fault_count out.new) }

@@ -4,10 +4,10 @@ use Rattle.std.proofs.lemmas.List.{reverse-append, take-append-drop, length-drop
 use Rattle.eql_values.specs.declared.value.Value.{Value}
 use Rattle.eql_code.specs.declared.cells.Cell.{Cell}
 use Rattle.eql_check.specs.declared.function.Function.{Function}
-use Rattle.eql_check.specs.Functions.{called}
+use Rattle.eql_check.specs.Functions.{call_value}
 use Rattle.eql_code.specs.declared.emit.Op.{Op}
 use Rattle.eql_code.specs.declared.emit.Op.TheVariants as op
-use Rattle.eql_code.specs.Machine.{take_off, on_many, done}
+use Rattle.eql_code.specs.Machine.{take_off, on_many, stack_after}
 use Rattle.eql_code.specs.Stack.{cell_value, stack_of}
 
 -- one more value on the top
@@ -73,9 +73,9 @@ can_call n g st end e =
 
 -- the same of the cells that stand for a stack
 pub can_call_top : (slots : List Value) (ops : List Op) (cells : List Cell) (o : Op) (f : Function) (fold : Bool) (n : ℕ) (end : List Value) → o ≡ op.Call f fold n →
-    done slots o (stack_of ops slots cells) ≡ Some end → (n ≤ length cells) × (length end + n ≡ length cells + 1)
+    stack_after slots o (stack_of ops slots cells) ≡ Some end → (n ≤ length cells) × (length end + n ≡ length cells + 1)
 can_call_top slots ops cells o f fold n end is e =
     let count : length (stack_of ops slots cells) ≡ length cells = length-reverse (map (cell_value ops slots) cells) ∙ length-map cells (cell_value ops slots) in
     let can : (n ≤ length (stack_of ops slots cells)) × (length end + n ≡ length (stack_of ops slots cells) + 1) =
-    can_call n (called f fold) (stack_of ops slots cells) end (ap (λ x. done slots x (stack_of ops slots cells)) (sym is) ∙ e) in
+    can_call n (call_value f fold) (stack_of ops slots cells) end (ap (λ x. stack_after slots x (stack_of ops slots cells)) (sym is) ∙ e) in
     (omega (arith, can.0), omega (arith, can.1))

@@ -25,12 +25,12 @@ use Rattle.eql_check.specs.Truth.{means, values, is_literal_null}
 use Rattle.eql_operators.specs.Prepared.{addresses_in, in_one, is_in_blocks, equality, equals_address, is_among_read}
 use Rattle.eql_code.specs.declared.emit.Op.{Op}
 use Rattle.eql_code.specs.declared.emit.Op.TheVariants as op
-use Rattle.eql_code.specs.Code.{quoted, is_unequal, address_if, address_op, block_before, block_if, block_of, blocks_in, is_cidr}
+use Rattle.eql_code.specs.Code.{quoted_text, is_unequal, address_if, address_op, block_before, block_if, block_of, blocks_in, is_cidr}
 
 some_same : {A : Type 0} (x y : A) → Some x ≡ Some y → x ≡ y
 some_same x y e = cc
 
-pub quoted_is : (a : Tree) (s' : List ℕ) → quoted a ≡ Some s' → a ≡ t.str s'
+pub quoted_is : (a : Tree) (s' : List ℕ) → quoted_text a ≡ Some s' → a ≡ t.str s'
 quoted_is t.null s' e = cc
 quoted_is (t.bool b) s' e = cc
 quoted_is (t.long n) s' e = cc
@@ -140,7 +140,7 @@ how_is Le negated e = cc
 how_is Ge negated e = cc
 how_is Gt negated e = cc
 
-written_if : (how : CmpOp) (a : Tree) (o : Op) (n : Option Bool) (q : Option (List ℕ)) → is_unequal how ≡ n → quoted a ≡ q →
+written_if : (how : CmpOp) (a : Tree) (o : Op) (n : Option Bool) (q : Option (List ℕ)) → is_unequal how ≡ n → quoted_text a ≡ q →
     address_if n q ≡ Some o → IsWritten how a o
 written_if how a o None q is is' e = cc
 written_if how a o (Some negated) None is is' e = cc
@@ -157,7 +157,7 @@ written_if how a o (Some negated) (Some s) is is' e =
     }
 
 pub written : (how : CmpOp) (a : Tree) (o : Op) → address_op how a ≡ Some o → IsWritten how a o
-written how a o e = written_if how a o (is_unequal how) (quoted a) refl refl e
+written how a o e = written_if how a o (is_unequal how) (quoted_text a) refl refl e
 
 -- blocks that were read before others
 abbrev pub blocks_before : List Block → Option (List Block) → Option (List Block)
@@ -177,7 +177,7 @@ blocks_are (Some b) None bs e = cc
 blocks_are (Some b) (Some rest) bs e = (b, rest, refl, refl, cc)
 
 module _ (env : List ℕ → Value) where
-  block_means : (a : Tree) (b : Block) (q : Option (List ℕ)) → quoted a ≡ q → block_if q ≡ Some b → f.block_of (means env a) ≡ Some b
+  block_means : (a : Tree) (b : Block) (q : Option (List ℕ)) → quoted_text a ≡ q → block_if q ≡ Some b → f.block_of (means env a) ≡ Some b
   block_means a b None is e = cc
   block_means a b (Some s) is e = ap (λ a. f.block_of (means env a)) (quoted_is a s is) ∙ e
 
@@ -185,7 +185,7 @@ module _ (env : List ℕ → Value) where
   lies_same ip none bs e = ap (λ bs. Some (list_any (in_block ip) bs)) (some_same [] bs e)
   lies_same ip (more a es) bs e =
       let x = blocks_are (block_of a) (blocks_in es) bs e in
-      ap₂ (λ o p. f.one_of (option_map (in_block ip) o) p) (block_means a x.0 (quoted a) refl x.2) (lies_same ip es x.1 x.3)
+      ap₂ (λ o p. f.one_of (option_map (in_block ip) o) p) (block_means a x.0 (quoted_text a) refl x.2) (lies_same ip es x.1 x.3)
       ∙ ap (λ bs. Some (list_any (in_block ip) bs)) (sym x.4)
 
   lies_in_same : (o : Option ℕ) (blocks : Trees) (bs : List Block) → blocks_in blocks ≡ Some bs → in_one o bs ≡ f.lies_in_one o (values env blocks)

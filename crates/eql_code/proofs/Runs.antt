@@ -17,14 +17,14 @@ use Rattle.eql_check.specs.Truth.{means, values, value_at, value_in, slot_of, is
 use Rattle.eql_check.specs.ThreeValued.{truth, truth_in, conjunction, disjunction, all_from, any_from}
 use Rattle.eql_check.specs.Comparisons.{compares, matches_one}
 use Rattle.eql_operators.specs.Prepared.{addresses_in, equals_address, is_among_read, is_in_blocks}
-use Rattle.eql_check.specs.Arithmetic.{computed, negated}
-use Rattle.eql_check.specs.Functions.{called}
+use Rattle.eql_check.specs.Arithmetic.{math_value, negative_value}
+use Rattle.eql_check.specs.Functions.{call_value}
 use Rattle.eql_check.specs.Kinds.{holds_field, hold_field}
 use Rattle.eql_code.specs.declared.emit.Op.{Op}
 use Rattle.eql_code.specs.declared.emit.Op.TheVariants as op
-use Rattle.eql_code.specs.Machine.{done, within, runs, skips, not_value, on_many}
+use Rattle.eql_code.specs.Machine.{stack_after, within, runs, skips, not_value, on_many}
 use Rattle.eql_code.specs.Stack.{gives, top_of, makes_text, is_free}
-use Rattle.eql_code.specs.Code.{code, code_each, code_all, code_first, constant, settled, settled_depth, address_op, compare_code, compare_depth, blocks_in, is_cidr, cidr_if, cidr_op, plain_call, call_code, field_code, count_of, depth, depth_each, depth_all, depth_first, plain_depth, call_depth}
+use Rattle.eql_code.specs.Code.{code, code_each, code_all, code_first, constant, settled_code, settled_depth, address_op, compare_code, compare_depth, blocks_in, is_cidr, cidr_if, cidr_op, plain_call, call_code, field_code, count_of, depth, depth_each, depth_all, depth_first, plain_depth, call_depth}
 use Rattle.eql_code.proofs.Operands.{one_on, taken_back}
 use Rattle.eql_code.proofs.Settled.{same_without}
 use Rattle.eql_code.proofs.Prepared.{not_null, cidr_is, same_equality, swapped, IsWritten, written, same_cidr, same_among}
@@ -72,7 +72,7 @@ then_if true x y e = refl
 then_if false x y e = cc
 
 -- one operation that does not get too deep, and what it passes over
-one_of : (slots : List Value) (limit : ℕ) (o : Op) (os : List Op) (st st' : List Value) (n : ℕ) → done slots o st ≡ Some st' →
+one_of : (slots : List Value) (limit : ℕ) (o : Op) (os : List Op) (st st' : List Value) (n : ℕ) → stack_after slots o st ≡ Some st' →
     length st' ≤ limit → skips o st' ≡ n → runs slots limit 0 (o ∷ os) st ≡ runs slots limit n os st'
 one_of slots limit o os st st' n e h next =
     ap (λ x. within limit x (λ st. runs slots limit (skips o st) os st)) e ∙ then_if _ _ _ (below (length st') limit h)
@@ -82,7 +82,7 @@ one_of slots limit o os st st' n e h next =
 abbrev IsPlain : Op → Type 0
 IsPlain o = (st : List Value) → skips o st ≡ 0
 
-one : (slots : List Value) (limit : ℕ) (o : Op) (os : List Op) (st st' : List Value) → IsPlain o → done slots o st ≡ Some st' →
+one : (slots : List Value) (limit : ℕ) (o : Op) (os : List Op) (st st' : List Value) → IsPlain o → stack_after slots o st ≡ Some st' →
     length st' ≤ limit → runs slots limit 0 (o ∷ os) st ≡ runs slots limit 0 os st'
 one slots limit o os st st' plain e h = one_of slots limit o os st st' 0 e h (plain st')
 
@@ -154,17 +154,17 @@ module _ (slots : List Value) (limit : ℕ) where
   Leaves c d x = (rest : List Op) (st : List Value) → length st + d ≤ limit →
       runs slots limit 0 (c ++ rest) st ≡ runs slots limit 0 rest (x ∷ st)
 
-  push : (o : Op) (x : Value) → IsPlain o → ((st : List Value) → done slots o st ≡ Some (x ∷ st)) → Leaves (o ∷ []) 1 x
+  push : (o : Op) (x : Value) → IsPlain o → ((st : List Value) → stack_after slots o st ≡ Some (x ∷ st)) → Leaves (o ∷ []) 1 x
   push o x plain is rest st h = one slots limit o rest st (x ∷ st) plain (is st) (omega arith)
 
   after_one : (c : List Op) (d : ℕ) (x : Value) (o : Op) (f : Value → Value) → Leaves c d x → 0 < d → IsPlain o →
-      ((a : Value) (st : List Value) → done slots o (a ∷ st) ≡ Some (f a ∷ st)) → Leaves (c ++ o ∷ []) d (f x)
+      ((a : Value) (st : List Value) → stack_after slots o (a ∷ st) ≡ Some (f a ∷ st)) → Leaves (c ++ o ∷ []) d (f x)
   after_one c d x o f run some plain is rest st h =
       ap (λ os. runs slots limit 0 os st) (append_assoc c (o ∷ []) rest) ∙ run (o ∷ rest) st h
       ∙ one slots limit o rest (x ∷ st) (f x ∷ st) plain (is x st) (omega arith)
 
   after_two : (c c' : List Op) (d d' : ℕ) (x y : Value) (o : Op) (f : Value → Value → Value) → Leaves c d x → Leaves c' d' y → IsPlain o →
-      ((a b : Value) (st : List Value) → done slots o (b ∷ a ∷ st) ≡ Some (f a b ∷ st)) →
+      ((a b : Value) (st : List Value) → stack_after slots o (b ∷ a ∷ st) ≡ Some (f a b ∷ st)) →
       Leaves (c ++ (c' ++ o ∷ [])) (max d (suc d')) (f x y)
   after_two c c' d d' x y o f run run' plain is rest st h =
       ap (λ os. runs slots limit 0 os st) (append_assoc c (c' ++ o ∷ []) rest ∙ ap (λ os. c ++ os) (append_assoc c' (o ∷ []) rest))
@@ -176,14 +176,14 @@ module _ (slots : List Value) (limit : ℕ) where
   of_field (Some i) = push (op.Slot i) (get_or slots i value.Null) (λ st. refl) (λ st. refl)
 
   -- a value that is put on the stack, and operations that turn the value on the top
-  begun : (o : Op) (x y : Value) (c : List Op) (d : ℕ) → IsPlain o → ((st : List Value) → done slots o st ≡ Some (x ∷ st)) →
+  begun : (o : Op) (x y : Value) (c : List Op) (d : ℕ) → IsPlain o → ((st : List Value) → stack_after slots o st ≡ Some (x ∷ st)) →
       ((rest : List Op) (st : List Value) → length st + suc d ≤ limit →
       runs slots limit 0 (c ++ rest) (x ∷ st) ≡ runs slots limit 0 rest (y ∷ st)) → Leaves (o ∷ c) (suc d) y
   begun o x y c d plain is run rest st h = one slots limit o (c ++ rest) st (x ∷ st) plain (is st) (omega arith) ∙ run rest st h
 
   -- an operator of a list joins its operand to the truth value below it
   abbrev Joins : (ℕ → Op) → (Option Bool → Option Bool → Option Bool) → Type 0
-  Joins o f = (k : ℕ) (p : Option Bool) (v : Value) (st : List Value) → done slots (o k) (v ∷ truth p ∷ st) ≡ Some (truth (f p (truth_in v)) ∷ st)
+  Joins o f = (k : ℕ) (p : Option Bool) (v : Value) (st : List Value) → stack_after slots (o k) (v ∷ truth p ∷ st) ≡ Some (truth (f p (truth_in v)) ∷ st)
 
   joins-and : Joins op.And conjunction
   joins-and k p v st = ap (λ q. Some (truth (conjunction q (truth_in v)) ∷ st)) (truth_back p)
@@ -193,7 +193,7 @@ module _ (slots : List Value) (limit : ℕ) where
 
   -- an operator, and the operations that follow it in its list, which run or are passed over
   cut : (o : ℕ → Op) (f : Option Bool → Option Bool → Option Bool) (following rest : List Op) (st : List Value) (p : Option Bool) (vs was : List Value) →
-      done slots (o (length following)) was ≡ Some (truth p ∷ st) → length st + 1 ≤ limit → Passes o f (length following) p st →
+      stack_after slots (o (length following)) was ≡ Some (truth p ∷ st) → length st + 1 ≤ limit → Passes o f (length following) p st →
       runs slots limit 0 (following ++ rest) (truth p ∷ st) ≡ runs slots limit 0 rest (truth (folded f p vs) ∷ st) →
       runs slots limit 0 (o (length following) ∷ (following ++ rest)) was ≡ runs slots limit 0 rest (truth (folded f p vs) ∷ st)
   cut o f following rest st p vs was is h (inl e) others =
@@ -213,7 +213,7 @@ module _ (slots : List Value) (limit : ℕ) where
   after_all None fold n c d vs count puts = push (op.Push value.Null) value.Null (λ st. refl) (λ st. refl)
   after_all (Some f) fold n c d vs count puts =
       λ rest st h. ap (λ os. runs slots limit 0 os st) (append_assoc c (op.Call f fold n ∷ []) rest) ∙ puts (op.Call f fold n ∷ rest) st (omega arith)
-      ∙ one slots limit (op.Call f fold n) rest (reverse vs ++ st) (called f fold vs ∷ st) (λ st. refl) (ap (on_many (called f fold)) (taken_back vs st n count)) (omega arith)
+      ∙ one slots limit (op.Call f fold n) rest (reverse vs ++ st) (call_value f fold vs ∷ st) (λ st. refl) (ap (on_many (call_value f fold)) (taken_back vs st n count)) (omega arith)
 
   -- what is left may be written otherwise
   becomes : (c : List Op) (d : ℕ) (x y : Value) → Leaves c d x → x ≡ y → Leaves c d y
@@ -231,7 +231,7 @@ module _ (slots : List Value) (limit : ℕ) where
         becomes (op.Push (constant a) ∷ []) 1 (constant a) (meaning a) (push (op.Push (constant a)) (constant a) (λ st. refl) (λ st. refl))
         (same_without (value_at [] []) (value_at fields slots) a e)
 
-    settle : (a : Tree) (c : List Op) (d : ℕ) → (holds_field a ≡ true → Leaves c d (meaning a)) → Leaves (settled a c) (settled_depth a d) (meaning a)
+    settle : (a : Tree) (c : List Op) (d : ℕ) → (holds_field a ≡ true → Leaves c d (meaning a)) → Leaves (settled_code a c) (settled_depth a d) (meaning a)
     settle a c d run = settle_if (holds_field a) a c d refl run
 
     -- an address in quotes on a side
@@ -325,10 +325,10 @@ module _ (slots : List Value) (limit : ℕ) where
           (same_among fold turned (meaning a) list))
       leaves (t.neg a) =
           settle (t.neg a) (code fields a ++ op.Negate ∷ []) (depth a)
-          (λ e. after_one (code fields a) (depth a) _ op.Negate negated (leaves a) (depth_some a) (λ st. refl) (λ x st. refl))
+          (λ e. after_one (code fields a) (depth a) _ op.Negate negative_value (leaves a) (depth_some a) (λ st. refl) (λ x st. refl))
       leaves (t.math how a b) =
           settle (t.math how a b) (code fields a ++ (code fields b ++ op.Math how ∷ [])) (max (depth a) (suc (depth b)))
-          (λ e. after_two (code fields a) (code fields b) (depth a) (depth b) _ _ (op.Math how) (computed how) (leaves a) (leaves b) (λ st. refl) (λ x y st. refl))
+          (λ e. after_two (code fields a) (code fields b) (depth a) (depth b) _ _ (op.Math how) (math_value how) (leaves a) (leaves b) (λ st. refl) (λ x y st. refl))
       leaves (t.call name fold args) =
           settle (t.call name fold args)
           (call_code (cidr_op (function_of name fold) args) (code_first fields args) (plain_call (function_of name fold) fold (count_of args) (code_all fields args)))
@@ -407,22 +407,22 @@ lands slots limit (suc n) (o ∷ os) st end e =
 -- where the run comes to an end, the next operation finds its operands and the room, and the run goes on where it says
 can_go : (slots : List Value) (limit : ℕ) (ops : List Op) (at : ℕ) (st end : List Value) → at < length ops →
     runs slots limit 0 (drop at ops) st ≡ Some end →
-    (st' : List Value) × (done slots (get_or ops at op.Not) st ≡ Some st') × (length st' ≤ limit)
+    (st' : List Value) × (stack_after slots (get_or ops at op.Not) st ≡ Some st') × (length st' ≤ limit)
     × (runs slots limit (skips (get_or ops at op.Not) st') (drop (suc at) ops) st' ≡ Some end)
 can_go slots limit ops at st end h e =
-    some_within limit (done slots (get_or ops at op.Not) st) (λ st. runs slots limit (skips (get_or ops at op.Not) st) (drop (suc at) ops) st) end
+    some_within limit (stack_after slots (get_or ops at op.Not) st) (λ st. runs slots limit (skips (get_or ops at op.Not) st) (drop (suc at) ops) st) end
     (sym (ap (λ os. runs slots limit 0 os st) (drop-cons ops at op.Not h)) ∙ e)
 
 pub can_step : (slots : List Value) (limit : ℕ) (ops : List Op) (at : ℕ) (st end : List Value) (room : ℕ) → at < length ops → limit ≤ room →
     runs slots limit 0 (drop at ops) st ≡ Some end →
-    (st' : List Value) × (done slots (get_or ops at op.Not) st ≡ Some st') × (length st' ≤ room)
+    (st' : List Value) × (stack_after slots (get_or ops at op.Not) st ≡ Some st') × (length st' ≤ room)
 can_step slots limit ops at st end room h r e =
     let can = can_go slots limit ops at st end h e in
     (can.0, can.1, omega (arith, can.2))
 
 -- the place at which the run goes on
 pub goes_on : (slots : List Value) (limit : ℕ) (ops : List Op) (at : ℕ) (st st' end : List Value) (n : ℕ) → at < length ops →
-    runs slots limit 0 (drop at ops) st ≡ Some end → done slots (get_or ops at op.Not) st ≡ Some st' → n ≡ skips (get_or ops at op.Not) st' →
+    runs slots limit 0 (drop at ops) st ≡ Some end → stack_after slots (get_or ops at op.Not) st ≡ Some st' → n ≡ skips (get_or ops at op.Not) st' →
     (at + (1 + n) ≤ length ops) × (runs slots limit 0 (drop (at + (1 + n)) ops) st' ≡ Some end)
 goes_on slots limit ops at st st' end n h e did is =
     let can = can_go slots limit ops at st end h e in

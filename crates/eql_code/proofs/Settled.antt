@@ -13,12 +13,12 @@ use Rattle.eql_check.specs.Kinds.{holds_field, hold_field}
 use Rattle.eql_check.specs.Names.{function_of}
 use Rattle.eql_check.specs.ThreeValued.{truth, truth_in, negation, all_from, any_from}
 use Rattle.eql_check.specs.Comparisons.{compares, matches_one, is_among}
-use Rattle.eql_check.specs.Arithmetic.{computed, negated}
+use Rattle.eql_check.specs.Arithmetic.{math_value, negative_value}
 use Rattle.eql_check.specs.Truth.{means, values, is_literal_null, call_of}
 use Rattle.eql_code.specs.declared.emit.Op.{Op}
 use Rattle.eql_code.specs.declared.emit.Op.TheVariants as op
 use Rattle.eql_code.specs.declared.emit.Beside.{Beside}
-use Rattle.eql_code.specs.Code.{code, depth, constant, settled, settled_depth, is_compare, side_of, side_code, side_depth, compare_code_with, compare_depth_with}
+use Rattle.eql_code.specs.Code.{code, depth, constant, settled_code, settled_depth, is_compare, side_of, side_code, side_depth, compare_code_with, compare_depth_with}
 
 module _ (f g : List ℕ → Value) where
   mutual
@@ -37,10 +37,10 @@ module _ (f g : List ℕ → Value) where
         ap₂ (compares (is_literal_null a || is_literal_null b) how) (same_without a x.0) (same_without b x.1)
     same_without (t.pattern how a patterns) e = ap (λ v. matches_one how v patterns) (same_without a e)
     same_without (t.member fold turned a list) e = ap (λ v. is_among fold turned v list) (same_without a e)
-    same_without (t.neg a) e = ap negated (same_without a e)
+    same_without (t.neg a) e = ap negative_value (same_without a e)
     same_without (t.math how a b) e =
         let x = or_parts (holds_field a) (holds_field b) e in
-        ap₂ (computed how) (same_without a x.0) (same_without b x.1)
+        ap₂ (math_value how) (same_without a x.0) (same_without b x.1)
     same_without (t.call name fold args) e = ap (call_of (function_of name fold) fold) (all_same args e)
 
     all_same : (es : Trees) → hold_field es ≡ false → values f es ≡ values g es
@@ -75,12 +75,12 @@ without_field fields (t.math how a b) e = (if_false _ _ _ e, if_false _ _ _ e)
 without_field fields (t.call name fold args) e = (if_false _ _ _ e, if_false _ _ _ e)
 
 -- where a field stands in it
-pub with_field : (a : Tree) (ops : List Op) (d : ℕ) → holds_field a ≡ true → (settled a ops ≡ ops) × (settled_depth a d ≡ d)
+pub with_field : (a : Tree) (ops : List Op) (d : ℕ) → holds_field a ≡ true → (settled_code a ops ≡ ops) × (settled_depth a d ≡ d)
 with_field a ops d e = (if_true _ _ _ e, if_true _ _ _ e)
 
 -- the code and the depth that were appended there
 pub code_held : {E : Type 0} (fields : List (List ℕ × Kind)) (a : Tree) (ops : List Op) (r : Result ℕ E) (now was : List Op) → holds_field a ≡ true →
-    settled a ops ≡ code fields a → OnOk r (now ≡ ops ++ was) → OnOk r (now ≡ code fields a ++ was)
+    settled_code a ops ≡ code fields a → OnOk r (now ≡ ops ++ was) → OnOk r (now ≡ code fields a ++ was)
 code_held fields a ops r now was held is appended =
     on_ok_weaker r (λ e. e ∙ ap (λ ops. ops ++ was) (sym (with_field a ops 0 held).0 ∙ is)) appended
 

@@ -30,16 +30,16 @@ abbrev pub constant : Tree → Value
 constant a = means (value_at [] []) a
 
 -- an expression without a field is its value alone
-abbrev pub settled : Tree → List Op → List Op
-settled a ops = if holds_field a then ops else op.Push (constant a) ∷ []
+abbrev pub settled_code : Tree → List Op → List Op
+settled_code a ops = if holds_field a then ops else op.Push (constant a) ∷ []
 
 abbrev pub settled_depth : Tree → ℕ → ℕ
 settled_depth a d = if holds_field a then d else 1
 
 -- a text in quotes
-abbrev pub quoted : Tree → Option (List ℕ)
-quoted (t.str s) = Some s
-quoted _ = None
+abbrev pub quoted_text : Tree → Option (List ℕ)
+quoted_text (t.str s) = Some s
+quoted_text _ = None
 
 -- whether an operator is `!=`, for `!=` and `==`
 abbrev pub is_unequal : CmpOp → Option Bool
@@ -53,7 +53,7 @@ address_if _ _ = None
 
 -- `==` and `!=` beside a text in quotes that writes an address
 abbrev pub address_op : CmpOp → Tree → Option Op
-address_op how a = address_if (is_unequal how) (quoted a)
+address_op how a = address_if (is_unequal how) (quoted_text a)
 
 -- a comparison of two sides, of which the right one or else the left one may be such a text
 abbrev pub side_code : Beside → List Op → List Op → List Op
@@ -82,7 +82,7 @@ block_if (Some s) = parse_block s
 block_if None = None
 
 abbrev pub block_of : Tree → Option Block
-block_of a = block_if (quoted a)
+block_of a = block_if (quoted_text a)
 
 abbrev pub blocks_in : Trees → Option (List Block)
 blocks_in none = Some []
@@ -122,19 +122,19 @@ module _ (fields : List (List ℕ × Kind)) where
     code (t.long n) = op.Push (value.Long n) ∷ []
     code (t.str s) = op.Push (value.Text s) ∷ []
     code (t.field name optional) = field_code (slot_of fields name)
-    code (t.not a) = settled (t.not a) (code a ++ op.Not ∷ [])
-    code (t.and es) = settled (t.and es) (op.Push (value.Bool true) ∷ code_each op.And es)
-    code (t.or es) = settled (t.or es) (op.Push (value.Bool false) ∷ code_each op.Or es)
+    code (t.not a) = settled_code (t.not a) (code a ++ op.Not ∷ [])
+    code (t.and es) = settled_code (t.and es) (op.Push (value.Bool true) ∷ code_each op.And es)
+    code (t.or es) = settled_code (t.or es) (op.Push (value.Bool false) ∷ code_each op.Or es)
     code (t.cmp how a b) =
-        settled (t.cmp how a b)
+        settled_code (t.cmp how a b)
         (compare_code (address_op how b) (address_op how a) (op.Compare (is_literal_null a || is_literal_null b) how) (code a) (code b))
-    code (t.pattern how a patterns) = settled (t.pattern how a patterns) (code a ++ op.Pattern how patterns ∷ [])
+    code (t.pattern how a patterns) = settled_code (t.pattern how a patterns) (code a ++ op.Pattern how patterns ∷ [])
     code (t.member fold negated a list) =
-        settled (t.member fold negated a list) (code a ++ op.Member fold negated list (addresses_in list) ∷ [])
-    code (t.neg a) = settled (t.neg a) (code a ++ op.Negate ∷ [])
-    code (t.math how a b) = settled (t.math how a b) (code a ++ (code b ++ op.Math how ∷ []))
+        settled_code (t.member fold negated a list) (code a ++ op.Member fold negated list (addresses_in list) ∷ [])
+    code (t.neg a) = settled_code (t.neg a) (code a ++ op.Negate ∷ [])
+    code (t.math how a b) = settled_code (t.math how a b) (code a ++ (code b ++ op.Math how ∷ []))
     code (t.call name fold args) =
-        settled (t.call name fold args)
+        settled_code (t.call name fold args)
         (call_code (cidr_op (function_of name fold) args) (code_first args) (plain_call (function_of name fold) fold (count_of args) (code_all args)))
 
     -- each operand, with the operator after it, which has the number of operations that follow in the list

@@ -4,8 +4,8 @@ use Rattle.eql_values.specs.declared.value.Value.{Value}
 use Rattle.eql_values.specs.declared.value.Value.TheVariants as value
 use Rattle.eql_check.specs.ThreeValued.{truth, truth_in, negation, conjunction, disjunction}
 use Rattle.eql_check.specs.Comparisons.{compares, matches_one}
-use Rattle.eql_check.specs.Arithmetic.{computed, negated}
-use Rattle.eql_check.specs.Functions.{called}
+use Rattle.eql_check.specs.Arithmetic.{math_value, negative_value}
+use Rattle.eql_check.specs.Functions.{call_value}
 use Rattle.eql_operators.specs.Prepared.{equals_address, is_among_read, is_in_blocks}
 use Rattle.eql_code.specs.declared.emit.Op.{Op}
 use Rattle.eql_code.specs.declared.emit.Op.TheVariants as op
@@ -58,31 +58,31 @@ of_one (op.Address negated text ip) a = equals_address negated a text ip
 of_one (op.Pattern how patterns) a = matches_one how a patterns
 of_one (op.Member fold negated list addresses) a = is_among_read fold negated a list addresses
 of_one (op.Cidr blocks) a = is_in_blocks a blocks
-of_one op.Negate a = negated a
+of_one op.Negate a = negative_value a
 of_one _ a = value.Null
 
 abbrev pub of_two : Op → Value → Value → Value
 of_two (op.And rest) a b = and_value a b
 of_two (op.Or rest) a b = or_value a b
 of_two (op.Compare literal how) a b = compares literal how a b
-of_two (op.Math how) a b = computed how a b
+of_two (op.Math how) a b = math_value how a b
 of_two _ a b = value.Null
 
 -- what one operation does; none where an operand is missing
-abbrev pub done : List Value → Op → List Value → Option (List Value)
-done slots (op.Push v) st = Some (v ∷ st)
-done slots (op.Slot i) st = Some (get_or slots i value.Null ∷ st)
-done slots op.Not st = on_one (of_one op.Not) st
-done slots (op.Address negated text ip) st = on_one (of_one (op.Address negated text ip)) st
-done slots (op.Pattern how patterns) st = on_one (of_one (op.Pattern how patterns)) st
-done slots (op.Member fold negated list addresses) st = on_one (of_one (op.Member fold negated list addresses)) st
-done slots (op.Cidr blocks) st = on_one (of_one (op.Cidr blocks)) st
-done slots op.Negate st = on_one (of_one op.Negate) st
-done slots (op.And rest) st = on_two (of_two (op.And rest)) st
-done slots (op.Or rest) st = on_two (of_two (op.Or rest)) st
-done slots (op.Compare literal how) st = on_two (of_two (op.Compare literal how)) st
-done slots (op.Math how) st = on_two (of_two (op.Math how)) st
-done slots (op.Call f fold n) st = on_many (called f fold) (take_off n [] st)
+abbrev pub stack_after : List Value → Op → List Value → Option (List Value)
+stack_after slots (op.Push v) st = Some (v ∷ st)
+stack_after slots (op.Slot i) st = Some (get_or slots i value.Null ∷ st)
+stack_after slots op.Not st = on_one (of_one op.Not) st
+stack_after slots (op.Address negated text ip) st = on_one (of_one (op.Address negated text ip)) st
+stack_after slots (op.Pattern how patterns) st = on_one (of_one (op.Pattern how patterns)) st
+stack_after slots (op.Member fold negated list addresses) st = on_one (of_one (op.Member fold negated list addresses)) st
+stack_after slots (op.Cidr blocks) st = on_one (of_one (op.Cidr blocks)) st
+stack_after slots op.Negate st = on_one (of_one op.Negate) st
+stack_after slots (op.And rest) st = on_two (of_two (op.And rest)) st
+stack_after slots (op.Or rest) st = on_two (of_two (op.Or rest)) st
+stack_after slots (op.Compare literal how) st = on_two (of_two (op.Compare literal how)) st
+stack_after slots (op.Math how) st = on_two (of_two (op.Math how)) st
+stack_after slots (op.Call f fold n) st = on_many (call_value f fold) (take_off n [] st)
 
 -- goes on with a stack that is no deeper than the limit
 abbrev pub within : ℕ → Option (List Value) → (List Value → Option (List Value)) → Option (List Value)
@@ -101,5 +101,5 @@ skips _ _ = 0
 abbrev pub runs : List Value → ℕ → ℕ → List Op → List Value → Option (List Value)
 runs slots limit zero [] st = Some st
 runs slots limit (suc n) [] st = None
-runs slots limit zero (o ∷ os) st = within limit (done slots o st) (λ st'. runs slots limit (skips o st') os st')
+runs slots limit zero (o ∷ os) st = within limit (stack_after slots o st) (λ st'. runs slots limit (skips o st') os st')
 runs slots limit (suc n) (o ∷ os) st = runs slots limit n os st

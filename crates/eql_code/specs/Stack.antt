@@ -9,15 +9,15 @@ use Rattle.eql_code.specs.declared.cells.Cell.{Cell}
 use Rattle.eql_code.specs.declared.cells.Cell.TheVariants as cell
 use Rattle.eql_code.specs.Machine.{runs}
 
-abbrev pub pushed : Op → Value
-pushed (op.Push v) = v
-pushed _ = value.Null
+abbrev pub pushed_value : Op → Value
+pushed_value (op.Push v) = v
+pushed_value _ = value.Null
 
 -- the value of a cell: its own, that of a slot, or that of a constant in the code
 abbrev pub cell_value : List Op → List Value → Cell → Value
 cell_value ops slots (cell.Made v) = v
 cell_value ops slots (cell.Slot i) = get_or slots i value.Null
-cell_value ops slots (cell.Here k) = pushed (get_or ops k op.Not)
+cell_value ops slots (cell.Here k) = pushed_value (get_or ops k op.Not)
 
 -- the topmost first
 abbrev pub stack_of : List Op → List Value → List Cell → List Value

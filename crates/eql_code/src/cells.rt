@@ -1,7 +1,7 @@
 //! The cells of a stack: no text is copied to lie on it.
 ghost use Rattle.std.specs.Prelude.{◌≡◌, map, IfOk, IsOk, false};
 ghost use Rattle.eql_values.specs.declared.value.Value.TheVariants.{Null as NullValue};
-ghost use Rattle.eql_code.specs.Stack.{cell_value, is_text, pushed};
+ghost use Rattle.eql_code.specs.Stack.{cell_value, is_text, pushed_value};
 
 use crate::emit::Op;
 use eql_operators::Arguments;
@@ -53,7 +53,7 @@ impl Frame<'_> {
 
     /// The constant of an operation.
     fn constant<'b>(&'b self, op: &'b Op) -> &'b Value
-        ensures { result.now ≡ pushed op.now }
+        ensures { result.now ≡ pushed_value op.now }
     {
         match op {
             Op::Push(value) => value,

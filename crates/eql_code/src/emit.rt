@@ -437,7 +437,7 @@ fn is_unequal(how: CmpOp) -> Option<bool>
 
 /// A text in quotes.
 fn quoted(expr: &Expr) -> Option<&Text>
-    ensures { option_map (λ text. text.now) result ≡ c.quoted (tree expr.now) }
+    ensures { option_map (λ text. text.now) result ≡ c.quoted_text (tree expr.now) }
 {
     match expr {
         Expr::Str(text) => Some(text),

@@ -8,7 +8,7 @@ ghost use Rattle.eql_check.specs.ThreeValued as three;
 ghost use Rattle.eql_code.specs.declared.emit.Op.TheVariants.{Not as NotOp};
 ghost use Rattle.eql_code.specs.Code.{code, depth};
 ghost use Rattle.eql_code.specs.Texts.{makes_text_in};
-ghost use Rattle.eql_code.specs.Machine.{done, runs, skips, arity, of_one, of_two, on_many, take_off};
+ghost use Rattle.eql_code.specs.Machine.{stack_after, runs, skips, arity, of_one, of_two, on_many, take_off};
 ghost use Rattle.eql_code.specs.Stack.{cell_value, stack_of, makes_text, is_free, is_text, gives};
 
 use crate::cells::{Cell, Frame, Operands};
@@ -190,7 +190,7 @@ fn call_top(
     requires enough { count ≤ vec_len cells.old }
     requires room { vec_len cells.old + 1 ≤ vec_capacity cells.old + count }
     ensures did { OnOk result
-        (on_many (f.called function fold)
+        (on_many (f.call_value function fold)
         (take_off count [] (stack_of frame.now.ops.now frame.now.slots.now cells.old.items))
         ≡ Some (stack_of frame.now.ops.now frame.now.slots.now cells.new.items)) }
     ensures capacity { vec_capacity cells.new ≡ vec_capacity cells.old }
@@ -211,11 +211,11 @@ fn call_top(
 fn step(alloc: Global, frame: &Frame<'_>, at: usize, cells: &mut Vec<Cell>) -> Result<usize, Memory>
     requires at_in { at < length frame.now.ops.now }
     requires can { (st : List FieldValue)
-        × (done frame.now.slots.now (get_or frame.now.ops.now at NotOp)
+        × (stack_after frame.now.slots.now (get_or frame.now.ops.now at NotOp)
         (stack_of frame.now.ops.now frame.now.slots.now cells.old.items) ≡ Some st)
         × (length st ≤ vec_capacity cells.old) }
     ensures did { OnOk result
-        (done frame.now.slots.now (get_or frame.now.ops.now at NotOp)
+        (stack_after frame.now.slots.now (get_or frame.now.ops.now at NotOp)
         (stack_of frame.now.ops.now frame.now.slots.now cells.old.items)
         ≡ Some (stack_of frame.now.ops.now frame.now.slots.now cells.new.items)) }
     ensures passed { IfOk result

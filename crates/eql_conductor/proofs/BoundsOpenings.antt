@@ -3,7 +3,7 @@ use Rattle.std.proofs.Common.{ℕ, ℤ, List, arith}
 use Rattle.std.proofs.lemmas.List.{length-map}
 use Rattle.eql_values.specs.declared.cut.LaneCut.{LaneCut}
 use Rattle.eql_laws.specs.Lanes.{LaneFits}
-use Rattle.eql_lane.specs.Lanes.{Setting, LaneState, begun, fresh_cut}
+use Rattle.eql_lane.specs.Lanes.{Setting, LaneState, beginning_lane, fresh_cut}
 use Rattle.eql_lane.specs.Noting.{placed_cut, placed_item}
 use Rattle.eql_lane.specs.Starts.{MayBegin, MayLift}
 use Rattle.eql_conductor.specs.Benches.{Known, ComesByFeeds}
@@ -12,10 +12,10 @@ use Rattle.eql_conductor.specs.Going.{LanesGo}
 use Rattle.eql_conductor.proofs.Onward.{fed_onward}
 use Rattle.eql_conductor.proofs.Resting.{was_lane}
 
-pub fresh_is_sized : (faults : ℕ) → IsSized (begun fresh_cut faults)
+pub fresh_is_sized : (faults : ℕ) → IsSized (beginning_lane fresh_cut faults)
 fresh_is_sized faults = record { few = omega arith; read = omega arith; lines = omega arith; bytes = omega arith }
 
-pub cut_is_sized : (cut : LaneCut) (faults : ℕ) → MayBegin cut → IsSized (begun cut faults)
+pub cut_is_sized : (cut : LaneCut) (faults : ℕ) → MayBegin cut → IsSized (beginning_lane cut faults)
 cut_is_sized cut faults may = record {
   few = let a = may.few in let b = may.counts in omega (arith, a, b);
   read = omega arith;
@@ -23,7 +23,7 @@ cut_is_sized cut faults may = record {
   bytes = may.bytes;
 }
 
-pub lift_is_sized : (text : List ℕ) (cut : LaneCut) (wanted : List ℕ) (faults : ℕ) → MayLift cut wanted → IsSized (begun (placed_cut text cut) faults)
+pub lift_is_sized : (text : List ℕ) (cut : LaneCut) (wanted : List ℕ) (faults : ℕ) → MayLift cut wanted → IsSized (beginning_lane (placed_cut text cut) faults)
 lift_is_sized text cut wanted faults may = record {
   few = let a = may.begin.few in let b = may.begin.counts in let c = length-map cut.items (placed_item text) in omega (arith, a, b, c);
   read = omega arith;
@@ -31,7 +31,7 @@ lift_is_sized text cut wanted faults may = record {
   bytes = may.begin.bytes;
 }
 
-pub fit_is_sized : (slack t : ℤ) (shard : ℕ) (cut : LaneCut) (faults : ℕ) → LaneFits slack t shard cut → IsSized (begun cut faults)
+pub fit_is_sized : (slack t : ℤ) (shard : ℕ) (cut : LaneCut) (faults : ℕ) → LaneFits slack t shard cut → IsSized (beginning_lane cut faults)
 fit_is_sized slack t shard cut faults fits = record {
   few = let a = fits.no_more_items in let b = fits.counts_stand.fewer in omega (arith, a, b);
   read = omega arith;

@@ -13,7 +13,7 @@ use Rattle.eql_laws.proofs.BelowLemmas.{fewer_readable}
 use Rattle.eql_laws.proofs.Counted.{lines_by_bytes}
 use Rattle.eql_laws.proofs.CutLemmas.{filter_fewer, sorted_fewer}
 use Rattle.eql_lane.specs.Lanes.{Setting, LaneState, ReadsOn, Takes}
-use Rattle.eql_conductor.specs.Bounds.{Gains, IsSized, held_count, reached}
+use Rattle.eql_conductor.specs.Bounds.{Gains, IsSized, held_count, work_done}
 
 -- ---- steps put together
 pub gains_self : (x : LaneState) → Gains 0 x x
@@ -103,7 +103,7 @@ parted p [] = omega arith
 parted p (item ∷ items) = parted_one (p item) item (filter p items) (filter (λ i. not (p i)) items) (length items) (parted p items)
 
 module _ (x : LaneState) (mark : Mark) (items : List Item) (y : LaneState) (step : Takes x mark items y) where
-  take_reached : reached y ≡ reached x
+  take_reached : work_done y ≡ work_done x
   take_reached =
       let a : y.cut.offset ≡ x.cut.offset = ap (λ (cut : LaneCut). cut.offset) step.cut in
       let b = step.taken in

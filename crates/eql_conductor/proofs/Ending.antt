@@ -38,7 +38,7 @@ use Rattle.eql_conductor.specs.LaneRounds.{IsSafe, LanesAreAt}
 use Rattle.eql_conductor.specs.PartRounds.{AreAtRest, pending_after}
 use Rattle.eql_conductor.specs.Rounds.{BenchIsOfTexts, CountsAreInRange, GoesTo, RoundRests, RoundStops, StopsOut, found_by}
 use Rattle.eql_conductor.specs.RoundNotes.{NotesRoundFront, NotesRound}
-use Rattle.eql_conductor.specs.RunNotes.{NotesCut, Place, PlaysRound, PlaysRoundsFront, PlaysRounds, RunNotes, NotesSaveFront, NotesSave, cut_after, listed, moved, place, round_count, start}
+use Rattle.eql_conductor.specs.RunNotes.{NotesCut, Place, PlaysRound, PlaysRoundsFront, PlaysRounds, RunNotes, NotesSaveFront, NotesSave, cut_after, list_of, place_behind, place, round_count, start}
 use Rattle.eql_conductor.specs.RunBounds.{RunIsBounded}
 use Rattle.eql_conductor.specs.Records.{ListsTold, Ran}
 use Rattle.eql_conductor.specs.Running.{CountsRound, CutGoes, CutStops, IsAtMark, IsTaken, KeepPuts, KeepStands, KeepStops, KeepsOne, PassesRound, RanAll, RanTo, StepStops, end_by, end_of, time_of}
@@ -470,11 +470,11 @@ module _ {D : Type 0} (history : D → Option History) (count : D → ℕ) where
     abbrev times : List ℤ
     times = map cut_time h.cuts
 
-    more_rounds : (time : Option ℤ) (answer : Option Mark) (all : List ℤ) → times ++ listed time ≡ all → PlaysRound plan.batch plan.every at time b c answer
-        → PlayedTo plan (moved at answer) a c (n + 1) all
+    more_rounds : (time : Option ℤ) (answer : Option Mark) (all : List ℤ) → times ++ list_of time ≡ all → PlaysRound plan.batch plan.every at time b c answer
+        → PlayedTo plan (place_behind at answer) a c (n + 1) all
     more_rounds time answer all e noted =
         let k = rounds_more plan.batch plan.every (start plan) at times a b same h.noted c time answer begins noted in
-        subst (PlayedTo plan (moved at answer) a c (n + 1)) e (k.0, k.1 ∙ ap (λ (m : ℕ). m + 1) h.rounds)
+        subst (PlayedTo plan (place_behind at answer) a c (n + 1)) e (k.0, k.1 ∙ ap (λ (m : ℕ). m + 1) h.rounds)
 
     pub ran_rests : PassesRound history count plan at b c mid then between_them now kept_mid kept → RanTo history count plan at (n + 1) a c book then before now keep kept
     ran_rests passed = let k = more_rounds None None times (append-nil times) passed.noted in record {
@@ -496,7 +496,7 @@ module _ {D : Type 0} (history : D → Option History) (count : D → ℕ) where
 
     ran_one : (mark : Mark) (goes : GoesTo at.mark mark b c mid then between_them now) (cut : Option Cut) → IfSome cut (λ c. (mark ≡ At c.mark) × IsRunCut plan.head at.mark b mid c)
         → KeepsOne history count cut kept_mid kept → PlaysRound plan.batch plan.every at (time_of cut) b c (Some mark)
-        → RanTo history count plan (moved at (Some mark)) (n + 1) a c book then before now keep kept
+        → RanTo history count plan (place_behind at (Some mark)) (n + 1) a c book then before now keep kept
     ran_one mark goes None is keeps noted = let k = more_rounds None (Some mark) times (append-nil times) noted in record {
       goes = goes_join plan.mark at.mark mark a b c book mid then before between_them now same h.goes goes;
       cuts = h.cuts;

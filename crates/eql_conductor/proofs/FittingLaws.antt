@@ -19,11 +19,11 @@ use Rattle.eql_values.specs.Matching.{Openings, Slot, slot_cmp, act_by, acts_of,
 use Rattle.eql_values.specs.OrderKeys.{order_cmp}
 use Rattle.eql_values.specs.Ordered.{in_order, found_or}
 use Rattle.eql_values.specs.Orders.{key_eq}
-use Rattle.eql_values.specs.Routing.{with_routes, routed}
+use Rattle.eql_values.specs.Routing.{with_routes, routed_items}
 use Rattle.eql_values.specs.Totals.{order_cmp_total}
 use Rattle.eql_values.proofs.InOrder.{find-in_order, in_order-sorted, is_in_order}
 use Rattle.eql_values.proofs.Same.{order_same}
-use Rattle.eql_laws.specs.Apart.{IsApartFrom, AllAreApart, has_place, joined}
+use Rattle.eql_laws.specs.Apart.{IsApartFrom, AllAreApart, has_place, joined_lists}
 use Rattle.eql_laws.proofs.Facts.{both_hold, left_holds, right_holds, less_is, less_not_equal, is_equal}
 use Rattle.eql_laws.proofs.Lists.{map_filter}
 use Rattle.eql_laws.proofs.Sorting.{Entry, pair, back, find_more}
@@ -160,10 +160,10 @@ not_found k items none = is_none (find_entry order_cmp k (map pair items)) (sym 
 
 -- what is in one list is in none of those that it is apart from
 nowhere_else : (k : OrderKey) (items : List Item) (lists : List (List Item)) → IsApartFrom items lists → has_place k items ≡ true
-    → find_entry order_cmp k (map pair (joined lists)) ≡ None
+    → find_entry order_cmp k (map pair (joined_lists lists)) ≡ None
 nowhere_else k items [] h there = refl
 nowhere_else k items (others ∷ lists) h there =
-    find_more k others (joined lists)
+    find_more k others (joined_lists lists)
     ∙ (λ i. found_or (not_found k others (h.0 k there) i) (nowhere_else k items lists h.1 there i))
 
 find_fitting : (k : OrderKey) (items : List Item) → Ascend items
@@ -173,20 +173,20 @@ find_fitting k items up =
     ∙ find_where any_route order_cmp order_cmp_total k (map pair items) (entries_sorted items up)
 
 find_joined : (k : OrderKey) (lists : List (List Item)) → All Ascend lists → AllAreApart lists
-    → find_entry order_cmp k (map pair (joined (map fitting lists))) ≡ passed any_route (find_entry order_cmp k (map pair (joined lists)))
+    → find_entry order_cmp k (map pair (joined_lists (map fitting lists))) ≡ passed any_route (find_entry order_cmp k (map pair (joined_lists lists)))
 find_joined k [] up apart = refl
 find_joined k (items ∷ lists) up apart =
-    find_more k (fitting items) (joined (map fitting lists))
+    find_more k (fitting items) (joined_lists (map fitting lists))
     ∙ (λ i. found_or (find_fitting k items (All-head Ascend items lists up) i) (find_joined k lists (All-tail Ascend items lists up) apart.1 i))
-    ∙ passed_either any_route (find_entry order_cmp k (map pair items)) (find_entry order_cmp k (map pair (joined lists)))
+    ∙ passed_either any_route (find_entry order_cmp k (map pair items)) (find_entry order_cmp k (map pair (joined_lists lists)))
     (λ there. nowhere_else k items lists apart.0 (has_found k items ∙ there))
-    ∙ sym (ap (passed any_route) (find_more k items (joined lists)))
+    ∙ sym (ap (passed any_route) (find_more k items (joined_lists lists)))
 
-pub fitting_sorted : (lists : List (List Item)) → All Ascend lists → AllAreApart lists → fitting (sorted_items (joined lists)) ≡ sorted_items (joined (map fitting lists))
+pub fitting_sorted : (lists : List (List Item)) → All Ascend lists → AllAreApart lists → fitting (sorted_items (joined_lists lists)) ≡ sorted_items (joined_lists (map fitting lists))
 fitting_sorted lists up apart =
-    let all : List Entry = map pair (joined lists) in
+    let all : List Entry = map pair (joined_lists lists) in
     sym (map_filter back (λ e. any_route e.1) has_routes (λ e. refl) (in_order order_cmp all))
-    ∙ ap (map back) (is_in_order order_cmp order_cmp_total order_same (filter (λ (e : Entry). any_route e.1) (in_order order_cmp all)) (map pair (joined (map fitting lists)))
+    ∙ ap (map back) (is_in_order order_cmp order_cmp_total order_same (filter (λ (e : Entry). any_route e.1) (in_order order_cmp all)) (map pair (joined_lists (map fitting lists)))
     (sorted_where any_route order_cmp (in_order order_cmp all) (in_order-sorted order_cmp order_cmp_total all))
     (λ q. find_where any_route order_cmp order_cmp_total q (in_order order_cmp all) (in_order-sorted order_cmp order_cmp_total all)
     ∙ ap (passed any_route) (find-in_order order_cmp order_cmp_total q all)
@@ -254,11 +254,11 @@ after_fitting m span holders items =
     (in_order slot_cmp (flat_map (entries_of m (λ key stage. held_fitting span (opening_of holders) items key stage i))
     (map (λ (h : Holder). h.key) holders ++ keys_fitting items i)))
 
-pub routed_fitting : (part : List Value → ℕ) (p : ℕ) (items : List Item) → routed part p (fitting items) ≡ routed part p items
+pub routed_fitting : (part : List Value → ℕ) (p : ℕ) (items : List Item) → routed_items part p (fitting items) ≡ routed_items part p items
 routed_fitting part p [] = refl
 routed_fitting part p (item ∷ items) = one item.routes (routed_fitting part p items)
   where
-    one : (routes : List Route) → routed part p (fitting items) ≡ routed part p items
-        → routed part p (fitting (back (item.order, routes) ∷ items)) ≡ routed part p (back (item.order, routes) ∷ items)
+    one : (routes : List Route) → routed_items part p (fitting items) ≡ routed_items part p items
+        → routed_items part p (fitting (back (item.order, routes) ∷ items)) ≡ routed_items part p (back (item.order, routes) ∷ items)
     one [] rest = rest
     one (r ∷ routes) rest = ap (cons_option (with_routes item (filter (λ (r : Route). part r.key == p) (r ∷ routes)))) rest

@@ -9,7 +9,7 @@ use Rattle.eql_values.specs.declared.order.Mark.{Mark}
 use Rattle.eql_values.specs.Accepted.{sorted_items}
 use Rattle.eql_values.specs.Ascending.{Ascend}
 use Rattle.eql_values.specs.Marks.{is_below}
-use Rattle.eql_laws.specs.Apart.{joined}
+use Rattle.eql_laws.specs.Apart.{joined_lists}
 use Rattle.eql_laws.specs.Belows.{HasRoutesInOrder}
 use Rattle.eql_laws.specs.Lateness.{IsAtMost}
 use Rattle.eql_laws.proofs.BelowLemmas.{sorted_ascends}
@@ -32,14 +32,14 @@ routes_ascend : (items : List Item) → Ascend items → All HasRoutesInOrder it
 routes_ascend [] h = All-nil HasRoutesInOrder
 routes_ascend (item ∷ items) h = All-cons HasRoutesInOrder item items h.0 (routes_ascend items h.2)
 
-joined_ascend : (lists : List (List Item)) → All Ascend lists → Ascend (sorted_items (joined lists))
-joined_ascend lists h = sorted_ascends (joined lists) (All-flat_map Ascend HasRoutesInOrder (λ (items : List Item). items) routes_ascend lists h)
+joined_ascend : (lists : List (List Item)) → All Ascend lists → Ascend (sorted_items (joined_lists lists))
+joined_ascend lists h = sorted_ascends (joined_lists lists) (All-flat_map Ascend HasRoutesInOrder (λ (items : List Item). items) routes_ascend lists h)
 
 pub takes_fitting : (last mark : Mark) (a b : Known) (lists : List (List Item)) (items : List Item) → IsAtMost last mark → LanesAreAt None last a
     → ((texts : Option (List (List ℕ))) → LanesAreAt texts last a → AllHandOver texts last mark a lists) → LanesHand (sizes lists) a b
-    → items ≡ fitting (sorted_items (joined lists)) → TakesFitting last mark a b items
+    → items ≡ fitting (sorted_items (joined_lists lists)) → TakesFitting last mark a b items
 takes_fitting last mark a b lists items later at hands handed e =
-    let all : List Item = sorted_items (joined lists) in
+    let all : List Item = sorted_items (joined_lists lists) in
     let over = hands None at in
     record {
       all = all;

@@ -11,7 +11,7 @@ use Rattle.eql_values.specs.Chains.{in_time}
 use Rattle.eql_values.specs.Matching.{Slot, slot_cmp}
 use Rattle.eql_values.specs.Ordered.{numbers}
 use Rattle.eql_laws.specs.Alive.{HoldersAreInOrder, alive_holders}
-use Rattle.eql_laws.specs.Apart.{joined}
+use Rattle.eql_laws.specs.Apart.{joined_lists}
 use Rattle.eql_laws.specs.Merging.{in_slot_order}
 use Rattle.eql_laws.specs.Parts.{PartsHold, holders_in}
 use Rattle.eql_laws.specs.Shapes.{IsFull}
@@ -28,7 +28,7 @@ use Rattle.eql_rounds.proofs.Found.{sixteen}
 use Rattle.eql_conductor.specs.PartRounds.{pending_after}
 use Rattle.eql_conductor.specs.Snaps.{held_of}
 
-joined_each : (f : ℕ → List Holder) (ns : List ℕ) → joined (map f ns) ≡ flat_map f ns
+joined_each : (f : ℕ → List Holder) (ns : List ℕ) → joined_lists (map f ns) ≡ flat_map f ns
 joined_each f [] = refl
 joined_each f (n ∷ ns) = ap (λ (l : List Holder). f n ++ l) (joined_each f ns)
 
@@ -64,10 +64,10 @@ module _ (rules : Rules) (all : List Holder) (time : ℤ) where
   pub held_apart : (lists : List (List Holder)) → lists ≡ map (held_of rules all time) (numbers 16) → HoldersAreApart lists
   held_apart lists e = subst HoldersAreApart (sym e) (each_apart slot_cmp slot_same slot_of part_of_slot (held_of rules all time) of_part 16)
 
-  pub held_together : (lists : List (List Holder)) (held : List Holder) → lists ≡ map (held_of rules all time) (numbers 16) → held ≡ in_slot_order (joined lists)
+  pub held_together : (lists : List (List Holder)) (held : List Holder) → lists ≡ map (held_of rules all time) (numbers 16) → held ≡ in_slot_order (joined_lists lists)
       → held ≡ alive_holders rules.span time (pending_after rules all [])
   held_together lists held e is =
-      is ∙ ap (λ (l : List (List Holder)). in_slot_order (joined l)) e
+      is ∙ ap (λ (l : List (List Holder)). in_slot_order (joined_lists l)) e
       ∙ ap in_slot_order (joined_each (held_of rules all time) (numbers 16))
       ∙ hold.all
 

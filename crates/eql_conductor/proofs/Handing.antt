@@ -8,7 +8,7 @@ use Rattle.eql_values.specs.declared.cut.LaneCut.{LaneCut}
 use Rattle.eql_values.specs.Accepted.{readable, sorted_items}
 use Rattle.eql_values.specs.Lines.{lines_of, numbered_lines}
 use Rattle.eql_values.specs.Marks.{is_below}
-use Rattle.eql_laws.specs.Apart.{joined}
+use Rattle.eql_laws.specs.Apart.{joined_lists}
 use Rattle.eql_laws.specs.Lateness.{accepted_by, late_by, larger}
 use Rattle.eql_laws.proofs.BelowLemmas.{fewer_readable}
 use Rattle.eql_laws.proofs.Counted.{lines_by_bytes}
@@ -235,19 +235,19 @@ total_shift : (n : ℕ) (f : ℕ → ℕ) → total_to (suc n) f ≡ f 0 + total
 total_shift zero f = omega arith
 total_shift (suc n) f = let e = total_shift n f in omega (arith, e)
 
-total_joined : (lists : List (List Item)) → total_to (length lists) (sizes lists) ≡ length (joined lists)
+total_joined : (lists : List (List Item)) → total_to (length lists) (sizes lists) ≡ length (joined_lists lists)
 total_joined [] = refl
 total_joined (items ∷ lists) =
     let e = total_shift (length lists) (sizes (items ∷ lists)) in
     let f = total_joined lists in
-    let g = length-append items (joined lists) in
+    let g = length-append items (joined_lists lists) in
     omega (arith, e, f, g)
 
-pub handed_all : (lists : List (List Item)) (items : List Item) (a b : Known) → length lists ≡ a.lanes → items ≡ sorted_items (joined lists) → LanesHand (sizes lists) a b → AllHandOut (length items) a b
+pub handed_all : (lists : List (List Item)) (items : List Item) (a b : Known) → length lists ≡ a.lanes → items ≡ sorted_items (joined_lists lists) → LanesHand (sizes lists) a b → AllHandOut (length items) a b
 handed_all lists items a b count e h = record {
   counts = sizes lists;
   total =
-      let few = sorted_fewer (joined lists) in
+      let few = sorted_fewer (joined_lists lists) in
       let same = ap (λ (l : List Item). length l) e in
       let total = total_joined lists in
       subst (λ (n : ℕ). length items ≤ total_to n (sizes lists)) count (omega (arith, few, same, total));

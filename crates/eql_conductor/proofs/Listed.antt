@@ -14,7 +14,7 @@ use Rattle.eql_values.specs.declared.order.Mark.TheVariants.{Start, At, End}
 use Rattle.eql_values.specs.Accepted.{Reads, accepted_from, below, sorted_items}
 use Rattle.eql_values.specs.Marks.{is_below}
 use Rattle.eql_values.specs.Matching.{after, matches}
-use Rattle.eql_values.specs.Numbering.{emitted, numbered, piped}
+use Rattle.eql_values.specs.Numbering.{early_output, numbered_matches, pipe_output}
 use Rattle.eql_laws.specs.Alive.{IsSpan, alive_holders}
 use Rattle.eql_laws.specs.Belows.{between}
 use Rattle.eql_laws.specs.Books.{book_of}
@@ -49,12 +49,12 @@ module _ (book_is_kept : BookIsKept) (end_is_whole : EndIsWhole) (pipes : List P
   abbrev counted_then : BookCut
   counted_then = kept_after pipes (book_of pipes found) more
 
-  rest_is : let_out pipes (book_of pipes found) more ++ rest_from pipes counted_then [] ≡ drop (book_of pipes found).listed (piped pipes (numbered (found ++ more)))
+  rest_is : let_out pipes (book_of pipes found) more ++ rest_from pipes counted_then [] ≡ drop (book_of pipes found).listed (pipe_output pipes (numbered_matches (found ++ more)))
   rest_is =
       let is = book_is_kept pipes found more few in
       let out : List Numbered = let_out pipes (book_of pipes found) more in
-      let before : List Numbered = emitted pipes (numbered found) in
-      let all : piped pipes (numbered (found ++ more)) ≡ before ++ (out ++ rest_from pipes counted_then []) =
+      let before : List Numbered = early_output pipes (numbered_matches found) in
+      let all : pipe_output pipes (numbered_matches (found ++ more)) ≡ before ++ (out ++ rest_from pipes counted_then []) =
       end_is_whole pipes true true (found ++ more)
       ∙ (λ i. is.lines_are i ++ rest_from pipes (sym is.cut_is i) [])
       ∙ append_assoc before out (rest_from pipes counted_then []) in
@@ -62,34 +62,34 @@ module _ (book_is_kept : BookIsKept) (end_is_whole : EndIsWhole) (pipes : List P
 
   -- and those that it counts then, where further matches are found behind these
   listed_is : (rest : List Match)
-      → let_out pipes (book_of pipes found) more ≡ drop (book_of pipes found).listed (take counted_then.listed (piped pipes (numbered ((found ++ more) ++ rest))))
+      → let_out pipes (book_of pipes found) more ≡ drop (book_of pipes found).listed (take counted_then.listed (pipe_output pipes (numbered_matches ((found ++ more) ++ rest))))
   listed_is rest =
       let is = book_is_kept pipes found more few in
       let out : List Numbered = let_out pipes (book_of pipes found) more in
-      let before : List Numbered = emitted pipes (numbered found) in
+      let before : List Numbered = early_output pipes (numbered_matches found) in
       let behind : List Numbered = rest_from pipes (book_of pipes (found ++ more)) rest in
       let count : counted_then.listed ≡ length (before ++ out) = ap (λ (k : BookCut). k.listed) is.cut_is ∙ ap length is.lines_are in
-      let all : piped pipes (numbered ((found ++ more) ++ rest)) ≡ (before ++ out) ++ behind =
+      let all : pipe_output pipes (numbered_matches ((found ++ more) ++ rest)) ≡ (before ++ out) ++ behind =
       piped_goes_on pipes (found ++ more) rest ∙ ap (λ (l : List Numbered). l ++ behind) is.lines_are in
-      let taken : take counted_then.listed (piped pipes (numbered ((found ++ more) ++ rest))) ≡ before ++ out =
+      let taken : take counted_then.listed (pipe_output pipes (numbered_matches ((found ++ more) ++ rest))) ≡ before ++ out =
       (λ i. take (count i) (all i)) ∙ take_at (before ++ out) behind (length (before ++ out)) refl in
       sym (ap (drop (length before)) taken ∙ drop_at before out (length before) refl)
 
 -- the same of any book that counts the first matches
 whole_is : BookIsKept → EndIsWhole → (book : BookState) (found more : List Match) → length (found ++ more) < 2 ^ 64 → book.kept ≡ book_of book.pipes found
-    → whole_lines book more ≡ listing book.places (drop book.kept.listed (piped book.pipes (numbered (found ++ more))))
+    → whole_lines book more ≡ listing book.places (drop book.kept.listed (pipe_output book.pipes (numbered_matches (found ++ more))))
 whole_is book_is_kept end_is_whole book found more few e =
     sym (flat_map-append (match_line book.places) (let_out book.pipes book.kept more) (held_back (book_after book more)))
     ∙ ap (λ (k : BookCut). listing book.places (let_out book.pipes k more ++ rest_from book.pipes (kept_after book.pipes k more) [])) e
     ∙ ap (listing book.places) (rest_is book_is_kept end_is_whole book.pipes found more few)
-    ∙ ap (λ (k : BookCut). listing book.places (drop k.listed (piped book.pipes (numbered (found ++ more))))) (sym e)
+    ∙ ap (λ (k : BookCut). listing book.places (drop k.listed (pipe_output book.pipes (numbered_matches (found ++ more))))) (sym e)
 
 counted_is : BookIsKept → EndIsWhole → (book : BookState) (found more rest : List Match) → length (found ++ more) < 2 ^ 64 → book.kept ≡ book_of book.pipes found
-    → lines_before_end book more ≡ listing book.places (drop book.kept.listed (take (kept_after book.pipes book.kept more).listed (piped book.pipes (numbered ((found ++ more) ++ rest)))))
+    → lines_before_end book more ≡ listing book.places (drop book.kept.listed (take (kept_after book.pipes book.kept more).listed (pipe_output book.pipes (numbered_matches ((found ++ more) ++ rest)))))
 counted_is book_is_kept end_is_whole book found more rest few e =
     ap (λ (k : BookCut). listing book.places (let_out book.pipes k more)) e
     ∙ ap (listing book.places) (listed_is book_is_kept end_is_whole book.pipes found more few rest)
-    ∙ ap (λ (k : BookCut). listing book.places (drop k.listed (take (kept_after book.pipes k more).listed (piped book.pipes (numbered ((found ++ more) ++ rest)))))) (sym e)
+    ∙ ap (λ (k : BookCut). listing book.places (drop k.listed (take (kept_after book.pipes k more).listed (pipe_output book.pipes (numbered_matches ((found ++ more) ++ rest)))))) (sym e)
 
 -- ---- from a mark on
 module _ (rules : Rules) (reads : Reads) (slack : Option ℤ) (texts : List (List ℕ)) where
@@ -146,7 +146,7 @@ module _ (rules : Rules) (reads : Reads) (slack : Option ℤ) (texts : List (Lis
     pub lines_are : HaveNumbers rules reads slack texts → whole_lines book (found_by rules all (later_events from End)) ≡ lines_after rules reads slack texts book
     lines_are few =
         whole_is book_is_kept end_is_whole book (found_below rules reads slack texts from) (found_by rules all (later_events from End)) (few_on few End (at_most_end from)) played.counted
-        ∙ ap (λ (found : List Match). listing book.places (drop book.kept.listed (piped book.pipes (numbered found)))) (sym (found_on End (at_most_end from)))
+        ∙ ap (λ (found : List Match). listing book.places (drop book.kept.listed (pipe_output book.pipes (numbered_matches found)))) (sym (found_on End (at_most_end from)))
 
     -- what a book keeps once these were given to it
     pub kept_on : HaveNumbers rules reads slack texts → (to : Mark) → IsAtMost from to
@@ -166,7 +166,7 @@ module _ (rules : Rules) (reads : Reads) (slack : Option ℤ) (texts : List (Lis
         let whole : (first ++ more) ++ rest ≡ found_below rules reads slack texts End =
         ap (λ (found : List Match). found ++ rest) (sym (found_on to le)) ∙ sym (found_grows to End (at_most_end to)) in
         counted_is book_is_kept end_is_whole book first more rest (few_on few to le) played.counted
-        ∙ ap (λ (found : List Match). listing book.places (drop book.kept.listed (take (kept_after book.pipes book.kept more).listed (piped book.pipes (numbered found))))) whole
+        ∙ ap (λ (found : List Match). listing book.places (drop book.kept.listed (take (kept_after book.pipes book.kept more).listed (pipe_output book.pipes (numbered_matches found))))) whole
         ∙ ap (λ (k : BookCut). listing book.places (drop book.kept.listed (take k.listed (listed_by rules reads slack texts book.pipes)))) (sym e)
 
     pub pending_on : (t : ℤ) → IsAtMost from (At t) → alive_holders span t (pending_after rules all (later_events from (At t))) ≡ alive_holders span t (pending (At t))

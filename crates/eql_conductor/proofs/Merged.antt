@@ -7,13 +7,13 @@ use Rattle.eql_values.specs.declared.found.Match.{Match}
 use Rattle.eql_values.specs.declared.found.Holder.{Holder}
 use Rattle.eql_values.specs.declared.order.Mark.{Mark}
 use Rattle.eql_values.specs.declared.order.OrderKey.{OrderKey}
-use Rattle.eql_values.specs.Accepted.{Reads, accepted, sorted_items}
+use Rattle.eql_values.specs.Accepted.{Reads, accepted_items, sorted_items}
 use Rattle.eql_values.specs.Ascending.{Ascend}
 use Rattle.eql_values.specs.Marks.{is_below}
 use Rattle.eql_values.specs.OrderKeys.{order_cmp}
 use Rattle.eql_values.specs.Ordered.{numbers}
 use Rattle.eql_values.proofs.Same.{order_same}
-use Rattle.eql_laws.specs.Apart.{AllAreApart, AreInMatchOrder, IsApartFrom, MatchesAreApart, joined, place_of}
+use Rattle.eql_laws.specs.Apart.{AllAreApart, AreInMatchOrder, IsApartFrom, MatchesAreApart, joined_lists, place_of}
 use Rattle.eql_laws.specs.Belows.{between, from_to}
 use Rattle.eql_laws.specs.Lateness.{IsAtMost}
 use Rattle.eql_laws.specs.Merging.{in_match_order}
@@ -34,9 +34,9 @@ use Rattle.eql_conductor.specs.Rounds.{ReadTexts, found_by}
 module _ (texts : Option (List (List ℕ))) (last mark : Mark) (b : Known) where
   -- what holds of the events of each list holds of all
   all_joined : (P : Item → Type 0) (s : ℕ) (lists : List (List Item)) → ((k : ℕ) (items : List Item) → HandsOver (text_at texts k) (b.set k) last mark items → All P items)
-      → HandsFrom texts last mark b s lists → All P (joined lists)
+      → HandsFrom texts last mark b s lists → All P (joined_lists lists)
   all_joined P s [] each h = All-nil P
-  all_joined P s (items ∷ lists) each h = All-append P items (joined lists) (each s items h.0) (all_joined P (s + 1) lists each h.1)
+  all_joined P s (items ∷ lists) each h = All-append P items (joined_lists lists) (each s items h.0) (all_joined P (s + 1) lists each h.1)
 
   pub hands_ascend : (s : ℕ) (lists : List (List Item)) → HandsFrom texts last mark b s lists → All Ascend lists
   hands_ascend s [] h = All-nil Ascend
@@ -70,13 +70,13 @@ module _ (texts : Option (List (List ℕ))) (last mark : Mark) (b : Known) where
   all_apart lists are h = hands_apart 0 b.lanes lists (let e = h.count in omega (arith, e)) (omega arith) are h.each
 
   -- put in order they may be delivered
-  pub can_deliver : (lists : List (List Item)) (items : List Item) → IsAtMost last mark → items ≡ sorted_items (joined lists) → Ascend items → AllHandOver texts last mark b lists → CanDeliver last items mark
+  pub can_deliver : (lists : List (List Item)) (items : List Item) → IsAtMost last mark → items ≡ sorted_items (joined_lists lists) → Ascend items → AllHandOver texts last mark b lists → CanDeliver last items mark
   can_deliver lists items later e asc h = record {
     rises = later;
     ascends = asc;
-    not_below = subst (NoneIsBelow last) (sym e) (All-sorted (λ (x : Item). is_below last x ≡ false) (joined lists)
+    not_below = subst (NoneIsBelow last) (sym e) (All-sorted (λ (x : Item). is_below last x ≡ false) (joined_lists lists)
         (all_joined (λ (x : Item). is_below last x ≡ false) 0 lists (λ k items hands. hands.none_below) h.each));
-    below = subst (AllAreBelow mark) (sym e) (All-sorted (λ (x : Item). is_below mark x ≡ true) (joined lists)
+    below = subst (AllAreBelow mark) (sym e) (All-sorted (λ (x : Item). is_below mark x ≡ true) (joined_lists lists)
         (all_joined (λ (x : Item). is_below mark x ≡ true) 0 lists (λ k items hands. hands.below) h.each));
   }
 
@@ -87,11 +87,11 @@ get-seam (x ∷ xs) y ys = get-seam xs y ys
 
 module _ (reads : Reads) (slack : Option ℤ) (last mark : Mark) (b : Known) (are : AreLanes b) where
   one_handed : (s : ℕ) (text : List ℕ) (texts : Option (List ℕ)) (items : List Item) → s < b.lanes → (b.set s).reads ≡ reads → (b.set s).slack ≡ slack → texts ≡ Some text
-      → HandsOver texts (b.set s) last mark items → items ≡ sorted_items (from_to last mark (accepted reads slack s text))
+      → HandsOver texts (b.set s) last mark items → items ≡ sorted_items (from_to last mark (accepted_items reads slack s text))
   one_handed s text texts items l r k e h =
-      let told : IfSome texts (λ t. items ≡ sorted_items (from_to last mark (accepted (b.set s).reads (b.set s).slack (b.set s).shard t))) = h.told in
-      subst (λ (o : Option (List ℕ)). IfSome o (λ t. items ≡ sorted_items (from_to last mark (accepted (b.set s).reads (b.set s).slack (b.set s).shard t)))) e told
-      ∙ (λ i. sorted_items (from_to last mark (accepted (r i) (k i) (are.shard s l i) text)))
+      let told : IfSome texts (λ t. items ≡ sorted_items (from_to last mark (accepted_items (b.set s).reads (b.set s).slack (b.set s).shard t))) = h.told in
+      subst (λ (o : Option (List ℕ)). IfSome o (λ t. items ≡ sorted_items (from_to last mark (accepted_items (b.set s).reads (b.set s).slack (b.set s).shard t)))) e told
+      ∙ (λ i. sorted_items (from_to last mark (accepted_items (r i) (k i) (are.shard s l i) text)))
 
   handed : (front texts : List (List ℕ)) (s : ℕ) (lists : List (List Item)) → ReadTexts reads slack (front ++ texts) b → length front ≡ s → length lists ≡ length texts
       → HandsFrom (Some (front ++ texts)) last mark b s lists → lists ≡ handed_out reads slack s texts last mark
@@ -110,9 +110,9 @@ module _ (reads : Reads) (slack : Option ℤ) (last mark : Mark) (b : Known) (ar
       λ i. one i ∷ rest i
 
   pub between_is : (texts : List (List ℕ)) (lists : List (List Item)) (items : List Item) → ReadTexts reads slack texts b → AllHandOver (Some texts) last mark b lists
-      → items ≡ sorted_items (joined lists) → items ≡ between reads slack texts last mark
+      → items ≡ sorted_items (joined_lists lists) → items ≡ between reads slack texts last mark
   between_is texts lists items read h e =
-      e ∙ ap (λ (l : List (List Item)). sorted_items (joined l)) (handed [] texts 0 lists read refl (let a = h.count in let c = read.count in omega (arith, a, c)) h.each)
+      e ∙ ap (λ (l : List (List Item)). sorted_items (joined_lists l)) (handed [] texts 0 lists read refl (let a = h.count in let c = read.count in omega (arith, a, c)) h.each)
       ∙ between_by_shard reads slack texts last mark
 
 -- ---- what the parts found
@@ -123,6 +123,6 @@ pub lists_apart : (rules : Rules) (all : List Holder) (items : List Item) (lists
 lists_apart rules all items lists asc e = subst MatchesAreApart (sym e) (rounds_find rules all items asc).apart
 
 pub found_is : (rules : Rules) (all : List Holder) (items : List Item) (lists : List (List Match)) (found : List Match) → Ascend items
-    → lists ≡ map (found_of rules all items) (numbers 16) → found ≡ in_match_order (joined lists) → found ≡ found_by rules all items
+    → lists ≡ map (found_of rules all items) (numbers 16) → found ≡ in_match_order (joined_lists lists) → found ≡ found_by rules all items
 found_is rules all items lists found asc e is =
-    is ∙ ap (λ (l : List (List Match)). in_match_order (joined l)) e ∙ (rounds_find rules all items asc).merged
+    is ∙ ap (λ (l : List (List Match)). in_match_order (joined_lists l)) e ∙ (rounds_find rules all items asc).merged

@@ -12,7 +12,7 @@ use Rattle.eql_conductor.specs.declared.note.Note.{Note}
 use Rattle.eql_conductor.specs.declared.note.Note.TheVariants as note
 use Rattle.eql_conductor.specs.Benches.{Known, StaysSame, LanesRest, PartNotesStay, Rests}
 use Rattle.eql_conductor.specs.Handed.{AllHandOut}
-use Rattle.eql_conductor.specs.RoundNotes.{low_at, counted, took, lane_round, LanesGrow, GrewFront, NotesLanes, NotesLanesFront, NotesLooks, NotesLooksFront, GrewBy, NotesParts, PlaysParts, NotesAdvance, NotesAdvanceFront, NotesRound, NotesRoundFront, delivered_to}
+use Rattle.eql_conductor.specs.RoundNotes.{low_at, counted_mark, took, lane_round, LanesGrow, GrewFront, NotesLanes, NotesLanesFront, NotesLooks, NotesLooksFront, GrewBy, NotesParts, PlaysParts, NotesAdvance, NotesAdvanceFront, NotesRound, NotesRoundFront, delivered_to}
 use Rattle.eql_conductor.proofs.Resting.{same_on, is_lane, is_part}
 use Rattle.eql_conductor.proofs.LaneNotes.{below_or, front_all, parts_stay_on}
 use Rattle.eql_conductor.proofs.PartNotes.{grew_none}
@@ -44,7 +44,7 @@ front_behind old first more mid new e h = (
 )
 
 -- ---- whether it counts
-pub counted_is : (last mark : Mark) (lows : List Mark) (le : Bool) → mark ≡ least_of lows → is_le (mark_cmp mark last) ≡ le → counted last lows ≡ cond le None (Some mark)
+pub counted_is : (last mark : Mark) (lows : List Mark) (le : Bool) → mark ≡ least_of lows → is_le (mark_cmp mark last) ≡ le → counted_mark last lows ≡ cond le None (Some mark)
 counted_is last mark lows le e h =
     ap (λ (b : Bool). cond b None (Some (least_of lows))) (subst (λ (m : Mark). is_le (mark_cmp m last) ≡ le) e h)
     ∙ ap (λ (m : Mark). cond le None (Some m)) (sym e)
@@ -105,7 +105,7 @@ feeding_broken last batch a b rests h = let lows : List Mark = replicate a.lanes
   count = length-replicate a.lanes End;
   lanes = record {
     each = λ s l.
-        front_longer (a.lane_notes s) (note.Fed batch ∷ []) (note.Looked (low_at lows s) ∷ took (counted last lows)) (b.lane_notes s) (h.lanes.each s l);
+        front_longer (a.lane_notes s) (note.Fed batch ∷ []) (note.Looked (low_at lows s) ∷ took (counted_mark last lows)) (b.lane_notes s) (h.lanes.each s l);
   };
   parts = none_played 3 a b (rests_handed a b rests) h.parts;
 }
@@ -120,8 +120,8 @@ module _ (last : Mark) (batch : ℕ) (a b c : Known) (rests : Rests a b) (then :
     count = h.count ∙ rests.same.lanes;
     lanes = record {
       each = λ s l.
-          front_behind (a.lane_notes s) (note.Fed batch ∷ []) (note.Looked (low_at h.lows s) ∷ took (counted last h.lows)) (b.lane_notes s) (c.lane_notes s) (fed.lanes.each s l)
-          (front_longer (b.lane_notes s) (note.Looked (low_at h.lows s) ∷ []) (took (counted last h.lows)) (c.lane_notes s) (h.noted.lanes.each s (is_lane a b s rests.same l)));
+          front_behind (a.lane_notes s) (note.Fed batch ∷ []) (note.Looked (low_at h.lows s) ∷ took (counted_mark last h.lows)) (b.lane_notes s) (c.lane_notes s) (fed.lanes.each s l)
+          (front_longer (b.lane_notes s) (note.Looked (low_at h.lows s) ∷ []) (took (counted_mark last h.lows)) (c.lane_notes s) (h.noted.lanes.each s (is_lane a b s rests.same l)));
     };
     parts = none_played 3 a c both_handed (parts_stay_on a b c rests.same fed.parts h.noted.parts);
   }
@@ -146,7 +146,7 @@ module _ (last : Mark) (batch : ℕ) (a b c : Known) (rests : Rests a b) (then :
     }
 
     module _ (d : Known) (le : is_le (mark_cmp mark last) ≡ false) where
-      counts_by : counted last looked.lows ≡ Some mark
+      counts_by : counted_mark last looked.lows ≡ Some mark
       counts_by = counted_is last mark looked.lows false looked.least le
 
       same_looked : StaysSame a c

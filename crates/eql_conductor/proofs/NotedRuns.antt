@@ -8,9 +8,9 @@ use Rattle.eql_values.specs.declared.order.Mark.TheVariants.{End}
 use Rattle.eql_conductor.specs.declared.note.Note.{Note}
 use Rattle.eql_conductor.specs.declared.note.Note.TheVariants as note
 use Rattle.eql_conductor.specs.Benches.{Known, StaysSame}
-use Rattle.eql_laws.specs.Apart.{joined}
-use Rattle.eql_conductor.specs.RoundNotes.{low_at, counted, took, lane_round, LanesGrow, GrewFront, GrewInRounds, LanesGrowInRounds, PartsGrowInRounds, PlaysParts, NotesRound, NotesRoundFront, delivered_to, others_in}
-use Rattle.eql_conductor.specs.RunNotes.{BeginBeforeEnd, Place, moved, next_place, place_after, cut_after, cut_due, listed, cut_times, snapped, round_notes, rounds_notes, PlaysRound, RoundBrokeOff, PlaysRounds, PlaysRoundsFront, NotesCut, NotesSaveFront}
+use Rattle.eql_laws.specs.Apart.{joined_lists}
+use Rattle.eql_conductor.specs.RoundNotes.{low_at, counted_mark, took, lane_round, LanesGrow, GrewFront, GrewInRounds, LanesGrowInRounds, PartsGrowInRounds, PlaysParts, NotesRound, NotesRoundFront, delivered_to, others_in}
+use Rattle.eql_conductor.specs.RunNotes.{BeginBeforeEnd, Place, place_behind, next_place, place_after, cut_after, cut_due, list_of, cut_times, snap_notes, round_notes, rounds_notes, PlaysRound, RoundBrokeOff, PlaysRounds, PlaysRoundsFront, NotesCut, NotesSaveFront}
 use Rattle.eql_conductor.proofs.Resting.{is_lane, is_part}
 use Rattle.eql_conductor.proofs.Handing.{handed_on, handed_self, handed_to}
 use Rattle.eql_conductor.proofs.LaneNotes.{front_none}
@@ -25,8 +25,8 @@ place_on at (lows ∷ xs) ys = place_on (next_place at lows) xs ys
 pub times_on : (every : Option ℕ) (at : Place) (xs ys : List (List Mark)) → cut_times every at (xs ++ ys) ≡ cut_times every at xs ++ cut_times every (place_after at xs) ys
 times_on every at [] ys = refl
 times_on every at (lows ∷ xs) ys =
-    ap (λ (l : List ℤ). listed (cut_due every at lows) ++ l) (times_on every (next_place at lows) xs ys)
-    ∙ sym (append_assoc (listed (cut_due every at lows)) (cut_times every (next_place at lows) xs) (cut_times every (place_after (next_place at lows) xs) ys))
+    ap (λ (l : List ℤ). list_of (cut_due every at lows) ++ l) (times_on every (next_place at lows) xs ys)
+    ∙ sym (append_assoc (list_of (cut_due every at lows)) (cut_times every (next_place at lows) xs) (cut_times every (place_after (next_place at lows) xs) ys))
 
 pub begin_on : (at : Place) (xs ys : List (List Mark)) → BeginBeforeEnd at xs → BeginBeforeEnd (place_after at xs) ys → BeginBeforeEnd at (xs ++ ys)
 begin_on at [] ys h k = k
@@ -46,25 +46,25 @@ module _ (batch : ℕ) (every : Option ℕ) where
       notes_on at rounds (lows ∷ []) s ∙ ap (λ (l : List Note). rounds_notes batch every at rounds s ++ l) (append-nil (round_notes batch every (place_after at rounds) lows s))
 
 pub times_more : (every : Option ℕ) (at : Place) (rounds : List (List Mark)) (lows : List Mark)
-    → cut_times every at (rounds ++ lows ∷ []) ≡ cut_times every at rounds ++ listed (cut_due every (place_after at rounds) lows)
+    → cut_times every at (rounds ++ lows ∷ []) ≡ cut_times every at rounds ++ list_of (cut_due every (place_after at rounds) lows)
 times_more every at rounds lows =
-    times_on every at rounds (lows ∷ []) ∙ ap (λ (l : List ℤ). cut_times every at rounds ++ l) (append-nil (listed (cut_due every (place_after at rounds) lows)))
+    times_on every at rounds (lows ∷ []) ∙ ap (λ (l : List ℤ). cut_times every at rounds ++ l) (append-nil (list_of (cut_due every (place_after at rounds) lows)))
 
 -- at most four notes a round
 taken_few : (mark : Option Mark) → length (took mark) ≤ 1
 taken_few None = omega arith
 taken_few (Some mark) = omega arith
 
-snapped_few : (time : Option ℤ) → length (snapped time) ≤ 1
+snapped_few : (time : Option ℤ) → length (snap_notes time) ≤ 1
 snapped_few None = omega arith
 snapped_few (Some t) = omega arith
 
 pub round_few : (batch : ℕ) (every : Option ℕ) (at : Place) (lows : List Mark) (s : ℕ) → length (round_notes batch every at lows s) ≤ 4
 round_few batch every at lows s =
-    let one : List Note = lane_round batch (low_at lows s) (counted at.mark lows) in
-    let cut : List Note = snapped (cut_due every at lows) in
+    let one : List Note = lane_round batch (low_at lows s) (counted_mark at.mark lows) in
+    let cut : List Note = snap_notes (cut_due every at lows) in
     let b = length-append one cut in
-    let c = taken_few (counted at.mark lows) in
+    let c = taken_few (counted_mark at.mark lows) in
     let d = snapped_few (cut_due every at lows) in
     omega (arith, b, c, d)
 
@@ -80,8 +80,8 @@ pub in_rounds_more : (count : List Note → ℕ) (n m : ℕ) (x y z more : List 
 in_rounds_more count n m x y z more e h grew few = record {
   lists = h.lists ++ more ∷ [];
   as_many = let l = length-append h.lists (more ∷ []) in let k = h.as_many in omega (arith, l, k, e);
-  grew = grew ∙ ap (λ (l : List Note). l ++ more) h.grew ∙ append_assoc x (joined h.lists) more
-      ∙ ap (λ (l : List Note). x ++ l) (sym (flat_map-append (λ (l : List Note). l) h.lists (more ∷ []) ∙ ap (λ (l : List Note). joined h.lists ++ l) (append-nil more)));
+  grew = grew ∙ ap (λ (l : List Note). l ++ more) h.grew ∙ append_assoc x (joined_lists h.lists) more
+      ∙ ap (λ (l : List Note). x ++ l) (sym (flat_map-append (λ (l : List Note). l) h.lists (more ∷ []) ∙ ap (λ (l : List Note). joined_lists h.lists ++ l) (append-nil more)));
   four = All-append (IsFew count) h.lists (more ∷ []) h.four (All-cons (IsFew count) more [] few (All-nil (IsFew count)));
 }
 
@@ -95,7 +95,7 @@ module _ (batch : ℕ) (every : Option ℕ) where
   each_count at [] s = refl
   each_count at (lows ∷ rounds) s = ap suc (each_count (next_place at lows) rounds s)
 
-  each_joined : (at : Place) (rounds : List (List Mark)) (s : ℕ) → rounds_notes batch every at rounds s ≡ joined (each_round at rounds s)
+  each_joined : (at : Place) (rounds : List (List Mark)) (s : ℕ) → rounds_notes batch every at rounds s ≡ joined_lists (each_round at rounds s)
   each_joined at [] s = refl
   each_joined at (lows ∷ rounds) s = ap (λ (l : List Note). round_notes batch every at lows s ++ l) (each_joined (next_place at lows) rounds s)
 
@@ -156,19 +156,19 @@ module _ (batch : ℕ) (every : Option ℕ) (at : Place) (a b : Known) where
     count = h.count;
     times_are = inl refl;
     lanes = record {
-      each = λ s l. front_longer (a.lane_notes s) (lane_round batch (low_at h.lows s) (counted at.mark h.lows)) (snapped (cut_due every at h.lows)) (b.lane_notes s) (h.lanes.each s l);
+      each = λ s l. front_longer (a.lane_notes s) (lane_round batch (low_at h.lows s) (counted_mark at.mark h.lows)) (snap_notes (cut_due every at h.lows)) (b.lane_notes s) (h.lanes.each s l);
     };
     parts = played_to 3 4 a b (omega arith) h.parts;
   }
 
   module _ (answer : Option Mark) (h : NotesRound at.mark batch a b answer) (c : Known) (same : StaysSame a b) where
-    due_is : cut_after every (moved at answer).counts answer ≡ cut_due every at h.lows
-    due_is = ap (λ (m : Option Mark). cut_after every (moved at m).counts m) h.counts
+    due_is : cut_after every (place_behind at answer).counts answer ≡ cut_due every at h.lows
+    due_is = ap (λ (m : Option Mark). cut_after every (place_behind at m).counts m) h.counts
 
     abbrev round_of : ℕ → List Note
-    round_of s = lane_round batch (low_at h.lows s) (counted at.mark h.lows)
+    round_of s = lane_round batch (low_at h.lows s) (counted_mark at.mark h.lows)
 
-    module _ (time : Option ℤ) (e : time ≡ cut_after every (moved at answer).counts answer) where
+    module _ (time : Option ℤ) (e : time ≡ cut_after every (place_behind at answer).counts answer) where
       -- and then a cut, where one is due
       pub round_played : NotesCut time b c → PlaysRound batch every at time a c answer
       round_played cut = record {
@@ -178,20 +178,20 @@ module _ (batch : ℕ) (every : Option ℕ) (at : Place) (a b : Known) where
         time_is = e ∙ due_is;
         lanes = record {
           each = λ s l.
-              cut.lanes.each s (is_lane a b s same l) ∙ ap (λ (x : List Note). x ++ snapped time) (h.lanes.each s l) ∙ append_assoc (a.lane_notes s) (round_of s) (snapped time)
-              ∙ ap (λ (t : Option ℤ). a.lane_notes s ++ (round_of s ++ snapped t)) (e ∙ due_is);
+              cut.lanes.each s (is_lane a b s same l) ∙ ap (λ (x : List Note). x ++ snap_notes time) (h.lanes.each s l) ∙ append_assoc (a.lane_notes s) (round_of s) (snap_notes time)
+              ∙ ap (λ (t : Option ℤ). a.lane_notes s ++ (round_of s ++ snap_notes t)) (e ∙ due_is);
         };
         parts = played_on 3 1 a b c same h.parts cut.parts;
       }
 
     -- the cut broke off
-    module _ (time : ℤ) (e : cut_after every (moved at answer).counts answer ≡ Some time) (times : List ℤ) (put : (times ≡ []) ⊎ (times ≡ time ∷ [])) where
+    module _ (time : ℤ) (e : cut_after every (place_behind at answer).counts answer ≡ Some time) (times : List ℤ) (put : (times ≡ []) ⊎ (times ≡ time ∷ [])) where
       is_time : cut_due every at h.lows ≡ Some time
       is_time = sym due_is ∙ e
 
-      at_most_one : (times ≡ []) ⊎ (times ≡ time ∷ []) → (times ≡ []) ⊎ (times ≡ listed (cut_due every at h.lows))
+      at_most_one : (times ≡ []) ⊎ (times ≡ time ∷ []) → (times ≡ []) ⊎ (times ≡ list_of (cut_due every at h.lows))
       at_most_one (inl none) = inl none
-      at_most_one (inr one) = inr (one ∙ ap (λ (t : Option ℤ). listed t) (sym is_time))
+      at_most_one (inr one) = inr (one ∙ ap (λ (t : Option ℤ). list_of t) (sym is_time))
 
       pub keep_broke : NotesSaveFront b c → RoundBrokeOff batch every at times a c
       keep_broke broken = record {
@@ -200,7 +200,7 @@ module _ (batch : ℕ) (every : Option ℕ) (at : Place) (a b : Known) where
         times_are = at_most_one put;
         lanes = record {
           each = λ s l.
-              subst (λ (t : Option ℤ). GrewFront (a.lane_notes s) (round_of s ++ snapped t) (c.lane_notes s)) (sym is_time)
+              subst (λ (t : Option ℤ). GrewFront (a.lane_notes s) (round_of s ++ snap_notes t) (c.lane_notes s)) (sym is_time)
               (front_behind (a.lane_notes s) (round_of s) (note.Snapped ∷ []) (b.lane_notes s) (c.lane_notes s) (h.lanes.each s l) (broken.lanes.each s (is_lane a b s same l)));
         };
         parts = played_on 3 1 a b c same h.parts broken.parts;
@@ -245,14 +245,14 @@ module _ (batch : ℕ) (every : Option ℕ) (from at : Place) (times : List ℤ)
     one : PlaysRound batch every so_far time b c answer
     one = subst (λ (q : Place). PlaysRound batch every q time b c answer) h.to_is noted
 
-    pub rounds_more : (k : PlaysRounds batch every from (moved at answer) (times ++ listed time) a c) × (length k.rounds ≡ length h.rounds + 1)
+    pub rounds_more : (k : PlaysRounds batch every from (place_behind at answer) (times ++ list_of time) a c) × (length k.rounds ≡ length h.rounds + 1)
     rounds_more = let e = length-append h.rounds (one.lows ∷ []) in (
       record {
         rounds = h.rounds ++ one.lows ∷ [];
         lows = All-append (IsOf a.lanes) h.rounds (one.lows ∷ []) h.lows (All-cons (IsOf a.lanes) one.lows [] (one.count ∙ same.lanes) (All-nil (IsOf a.lanes)));
         before_end = begin_on from h.rounds (one.lows ∷ []) h.before_end (subst (λ (q : Place). q.mark ≢ End) h.to_is begins, tt);
-        to_is = ap (λ (q : Place). moved q answer) h.to_is ∙ ap (λ (m : Option Mark). moved so_far m) one.counts ∙ sym (place_on from h.rounds (one.lows ∷ []));
-        times_are = (λ i. h.times_are i ++ listed (one.time_is i)) ∙ sym (times_more every from h.rounds one.lows);
+        to_is = ap (λ (q : Place). place_behind q answer) h.to_is ∙ ap (λ (m : Option Mark). place_behind so_far m) one.counts ∙ sym (place_on from h.rounds (one.lows ∷ []));
+        times_are = (λ i. h.times_are i ++ list_of (one.time_is i)) ∙ sym (times_more every from h.rounds one.lows);
         lanes = record {
           each = λ s l.
               one.lanes.each s (is_lane a b s same l) ∙ ap (λ (x : List Note). x ++ round_notes batch every so_far one.lows s) (h.lanes.each s l)
@@ -274,7 +274,7 @@ module _ (batch : ℕ) (every : Option ℕ) (from at : Place) (times : List ℤ)
     last_so (inl apart) = inl (subst (λ (q : Place). q.mark ≢ End) h.to_is apart)
     last_so (inr grew) = inr grew
 
-    put_times : (last : List Mark) → (more ≡ []) ⊎ (more ≡ listed (cut_due every so_far last))
+    put_times : (last : List Mark) → (more ≡ []) ⊎ (more ≡ list_of (cut_due every so_far last))
         → (times ++ more ≡ cut_times every from h.rounds) ⊎ (times ++ more ≡ cut_times every from (h.rounds ++ last ∷ []))
     put_times last (inl none) = inl (ap (λ (l : List ℤ). times ++ l) none ∙ append-nil times ∙ h.times_are)
     put_times last (inr due) = inr ((λ i. h.times_are i ++ due i) ∙ sym (times_more every from h.rounds last))

@@ -14,7 +14,7 @@ use Rattle.eql_values.specs.declared.cut.PipeState.TheVariants as state
 use Rattle.eql_values.specs.Numbering.{numbered_from, through}
 use Rattle.eql_laws.specs.Books.{NumbersAscend}
 use Rattle.eql_laws.specs.Resuming.{book_from, emitted_from, let_through, numbered_after, state_from, states_from}
-use Rattle.eql_book.specs.Books.{BookState, FitsPipe, FitsPipes, book_after, counted, let_out}
+use Rattle.eql_book.specs.Books.{BookState, FitsPipe, FitsPipes, book_after, countable_matches, let_out}
 use Rattle.eql_conductor.specs.Saving.{BookKeepsNumbers, KeepsNumbers}
 
 -- ---- numbers that ascend
@@ -104,7 +104,7 @@ states_keep found now (p ∷ pipes) (s ∷ seen) more le m h =
 
 pub numbers_kept : (book : BookState) (more : List Match) → BookKeepsNumbers book.kept → BookKeepsNumbers (book_after book more).kept
 numbers_kept book more h =
-    let fresh : List Match = counted book.kept more in
+    let fresh : List Match = countable_matches book.kept more in
     let found : ℕ = book.kept.found in
     states_keep found (found + length fresh) book.pipes book.kept.pipes (numbered_after book.kept fresh) (omega arith)
     (record {
@@ -151,7 +151,7 @@ none_out [] (s ∷ seen) h = absurd h
 none_out (p ∷ pipes) [] h = absurd h
 
 module _ (book : BookState) (fits : FitsPipes book.pipes book.kept) where
-  none_more : counted book.kept [] ≡ []
+  none_more : countable_matches book.kept [] ≡ []
   none_more = none_counted (2 ^ 64 - 1 - book.kept.found)
 
   -- nothing comes out

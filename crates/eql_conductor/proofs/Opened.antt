@@ -20,7 +20,7 @@ use Rattle.eql_laws.specs.Shapes.{HasStageBefore, IsFull}
 use Rattle.eql_laws.proofs.EventLemmas.{after_none}
 use Rattle.eql_laws.proofs.Facts.{holds_true}
 use Rattle.eql_laws.proofs.PartMatches.{holders_where, slot_of_part}
-use Rattle.eql_lane.specs.Lanes.{LaneState, Setting, begun, fresh_cut as fresh_lane}
+use Rattle.eql_lane.specs.Lanes.{LaneState, Setting, beginning_lane, fresh_cut as fresh_lane}
 use Rattle.eql_lane.proofs.Keeping.{fresh_is}
 use Rattle.eql_parts.specs.PartSteps.{PartState, Rules, alive_by, mark_time}
 use Rattle.eql_parts.specs.Spreading.{part_number}
@@ -122,7 +122,7 @@ may_run_at plan mark b book rules all before planned begins numbers = record {
 }
 
 -- ---- fresh lanes
-fresh_holds : (set : Setting) (faults : ℕ) → Holds set Start (begun fresh_lane faults)
+fresh_holds : (set : Setting) (faults : ℕ) → Holds set Start (beginning_lane fresh_lane faults)
 fresh_holds set faults = record {
   ascends = tt;
   of_shard = All-nil (IsOfShard set.shard);
@@ -130,11 +130,11 @@ fresh_holds set faults = record {
   safe = at_most_start (low_of false set.slack None);
 }
 
-fresh_told : (text : Option (List ℕ)) (set : Setting) (faults : ℕ) → IfSome text (λ t. set.text ≡ Some t) → IfSome text (IsOfText set Start (begun fresh_lane faults))
+fresh_told : (text : Option (List ℕ)) (set : Setting) (faults : ℕ) → IfSome text (λ t. set.text ≡ Some t) → IfSome text (IsOfText set Start (beginning_lane fresh_lane faults))
 fresh_told None set faults h = tt
 fresh_told (Some t) set faults h = record { text_is = h; is = fresh_is set t faults }
 
-fresh_at : (text : Option (List ℕ)) (set : Setting) (x : LaneState) → x ≡ begun fresh_lane x.faults → IfSome text (λ t. set.text ≡ Some t) → LaneIsAt text set Start x
+fresh_at : (text : Option (List ℕ)) (set : Setting) (x : LaneState) → x ≡ beginning_lane fresh_lane x.faults → IfSome text (λ t. set.text ≡ Some t) → LaneIsAt text set Start x
 fresh_at text set x e h = subst (LaneIsAt text set Start) (sym e) (record { holds = fresh_holds set x.faults; told = fresh_told text set x.faults h })
 
 some_of : (text told : Option (List ℕ)) → told ≡ text → IfSome text (λ t. told ≡ Some t)

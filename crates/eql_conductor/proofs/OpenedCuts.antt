@@ -27,7 +27,7 @@ use Rattle.eql_laws.proofs.CutLemmas.{held_back_fits}
 use Rattle.eql_laws.proofs.Facts.{both_true, true_both}
 use Rattle.eql_laws.proofs.MarkLemmas.{at_most_end, at_most_times}
 use Rattle.eql_lane.specs.Keeps.{LaneIs}
-use Rattle.eql_lane.specs.Lanes.{LaneState, Setting, begun}
+use Rattle.eql_lane.specs.Lanes.{LaneState, Setting, beginning_lane}
 use Rattle.eql_lane.proofs.Keeping.{cuts_begin}
 use Rattle.eql_parts.specs.PartSteps.{PartState, Rules}
 use Rattle.eql_rounds.specs.LaneRounds.{Holds, IsOfShard, IsOfText, LaneIsAt}
@@ -65,7 +65,7 @@ fits_at slack t shard (lane ∷ lanes) (suc s) cut fits e =
     let next : shard + 1 + s ≡ shard + suc s = omega arith in
     subst (λ (n : ℕ). LaneFits slack t n cut) next (fits_at slack t (shard + 1) lanes s cut fits.1 e)
 
-fit_holds : (set : Setting) (slack t : ℤ) (cut : LaneCut) (faults : ℕ) → set.slack ≡ Some slack → LaneFits slack t set.shard cut → Holds set (At t) (begun cut faults)
+fit_holds : (set : Setting) (slack t : ℤ) (cut : LaneCut) (faults : ℕ) → set.slack ≡ Some slack → LaneFits slack t set.shard cut → Holds set (At t) (beginning_lane cut faults)
 fit_holds set slack t cut faults e fits = record {
   ascends = fits.ascending;
   of_shard = All-weaker (IsKeptBy set.shard cut.counts.lines (At t)) (IsOfShard set.shard) (λ item is. is.shard_is) cut.items fits.items;
@@ -199,14 +199,14 @@ module _ (set : Setting) (mark : Mark) (place : ReadTo) (cut : LaneCut) (faults 
   low_there : IsAtMost mark (low_in set.slack (lane_at set.reads set.slack set.shard mark place))
   low_there = subst (λ (c : LaneCut). IsAtMost mark (low_in set.slack c)) e safe
 
-  text_lane : IsPlace place → LaneIs set (whole place) mark (begun cut faults)
-  text_lane is = subst (λ (c : LaneCut). LaneIs set (whole place) mark (begun c faults)) (sym e) (cuts_begin set mark place faults is low_there)
+  text_lane : IsPlace place → LaneIs set (whole place) mark (beginning_lane cut faults)
+  text_lane is = subst (λ (c : LaneCut). LaneIs set (whole place) mark (beginning_lane c faults)) (sym e) (cuts_begin set mark place faults is low_there)
 
-  text_holds : IsReading set.reads → Holds set mark (begun cut faults)
+  text_holds : IsReading set.reads → Holds set mark (beginning_lane cut faults)
   text_holds reading =
       let held = held_back_fits set.reads set.slack set.shard place.first mark reading in
       let items : List Item = held_back set.reads set.slack set.shard place.first mark in
-      subst (λ (c : LaneCut). Holds set mark (begun c faults)) (sym e) (record {
+      subst (λ (c : LaneCut). Holds set mark (beginning_lane c faults)) (sym e) (record {
         ascends = held.ascending;
         of_shard = All-weaker (IsHeldBack set.shard place.first mark) (IsOfShard set.shard) (λ item is. is.accepted.shard_is) items held.all;
         none_below = All-weaker (IsHeldBack set.shard place.first mark) (λ (item : Item). is_below mark item ≡ false) (λ item is. is.not_below) items held.all;
@@ -236,7 +236,7 @@ module _ (b : Known) (lane : ℕ → LaneState) (part : ℕ → PartState) (rule
       let text : text_at (Some texts) s ≡ Some (whole at.place) = ap (λ (ts : List (List ℕ)). slice_get ts s) (sym is.texts_are) ∙ at.text_is in
       subst (LaneIsAt (text_at (Some texts) s) set mark) (sym (opens.lanes s l)) (record {
         holds = text_holds set mark at.place (lane s).cut (lane s).faults cut_is low (opens.opens.are_lanes.reading s l);
-        told = subst (λ (o : Option (List ℕ)). IfSome o (IsOfText set mark (begun (lane s).cut (lane s).faults))) (sym text) (record {
+        told = subst (λ (o : Option (List ℕ)). IfSome o (IsOfText set mark (beginning_lane (lane s).cut (lane s).faults))) (sym text) (record {
           text_is = tells.have s l ∙ text;
           is = text_lane set mark at.place (lane s).cut (lane s).faults cut_is low at.is_place;
         });

@@ -7,7 +7,7 @@ use Rattle.eql_values.specs.declared.item.Item.{Item}
 use Rattle.eql_values.specs.declared.item.Route.{Route}
 use Rattle.eql_values.specs.declared.found.Holder.{Holder}
 use Rattle.eql_values.specs.declared.order.Mark.{Mark}
-use Rattle.eql_values.specs.Routing.{routed, with_routes}
+use Rattle.eql_values.specs.Routing.{routed_items, with_routes}
 use Rattle.eql_parts.specs.Spreading.{part_number}
 use Rattle.eql_parts.specs.declared.ops.PartOp.{PartOp}
 use Rattle.eql_parts.specs.declared.ops.PartOp.TheVariants.{Deliver, Turn, Collect, Snap}
@@ -56,7 +56,7 @@ grew_to t o u v x y few less h = record {
 pub routed_on : (p : ℕ) (xs ys : List Item) → delivered_to (xs ++ ys) p ≡ delivered_to xs p + delivered_to ys p
 routed_on p xs ys =
     ap (λ (l : List Item). length l) (filter_map-append (λ (item : Item). with_routes item (filter (λ (r : Route). part_number r.key == p) item.routes)) xs ys)
-    ∙ length-append (routed part_number p xs) (routed part_number p ys)
+    ∙ length-append (routed_items part_number p xs) (routed_items part_number p ys)
 
 -- ---- one call
 pub part_self : (p turns others : ℕ) (a : Known) → NotesPart p turns others a a

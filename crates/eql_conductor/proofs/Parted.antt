@@ -11,7 +11,7 @@ use Rattle.eql_values.specs.declared.order.Mark.TheVariants.{Start, At, End}
 use Rattle.eql_values.specs.Marks.{is_below}
 use Rattle.eql_values.specs.Matching.{after}
 use Rattle.eql_values.specs.Ordered.{numbers}
-use Rattle.eql_values.specs.Routing.{routed, with_routes}
+use Rattle.eql_values.specs.Routing.{routed_items, with_routes}
 use Rattle.eql_laws.specs.Alive.{IsSpan}
 use Rattle.eql_laws.proofs.Elements.{All-filter_map}
 use Rattle.eql_laws.proofs.PieceLemmas.{routed_pieces}
@@ -58,12 +58,12 @@ module _ (rules : Rules) (all : List Holder) (items : List Item) (mark : Mark) (
 
   pub delivered_stays : Stays rules (IsDelivered rules all items mark)
   delivered_stays p x y h d =
-      let t = turned_keeps rules (own_of all p) (routed part_number p items) mark span x y h d.is in
+      let t = turned_keeps rules (own_of all p) (routed_items part_number p items) mark span x y h d.is in
       record { is = t.is; few = let a = t.fewer in let b = d.few in omega (arith, a, b) }
 
   pub played_stays : Stays rules (IsPlayed rules all items mark)
   played_stays p x y h d =
-      let t = turned_keeps rules (own_of all p) (routed part_number p items) mark span x y h d.is in
+      let t = turned_keeps rules (own_of all p) (routed_items part_number p items) mark span x y h d.is in
       record { is = t.is; empty = empty_stays x.inbox y.inbox t.fewer d.empty }
 
 -- ---- one more part was played on
@@ -125,13 +125,13 @@ module _ (mark : Mark) (b : Bool) where
   lies_with item [] h = tt
   lies_with item (route ∷ routes) h = by_order mark item (route ∷ routes) ∙ h
 
-  pub routed_lie : (p : ℕ) (items : List Item) → All Lies items → All Lies (routed part_number p items)
+  pub routed_lie : (p : ℕ) (items : List Item) → All Lies items → All Lies (routed_items part_number p items)
   routed_lie p items h =
       All-filter_map Lies Lies (λ (item : Item). with_routes item (filter (λ (r : Route). part_number r.key == p) item.routes))
       (λ item is. lies_with item (filter (λ (r : Route). part_number r.key == p) item.routes) is) items h
 
 -- the events of a part may be delivered where all may
-pub can_route : (p : ℕ) (last mark : Mark) (items : List Item) → CanDeliver last items mark → CanDeliver last (routed part_number p items) mark
+pub can_route : (p : ℕ) (last mark : Mark) (items : List Item) → CanDeliver last items mark → CanDeliver last (routed_items part_number p items) mark
 can_route p last mark items can = record {
   rises = can.rises;
   ascends = (routed_pieces part_number p).ascends items can.ascends;
@@ -140,7 +140,7 @@ can_route p last mark items can = record {
 }
 
 pub may_deliver : (rules : Rules) (all : List Holder) (items own : List Item) (last mark : Mark) (p : ℕ) (a : Known) → p < a.parts → CanDeliver last items mark
-    → own ≡ routed part_number p items → AreDelivered rules all items last mark p a → MayPlay a p (Deliver own mark)
+    → own ≡ routed_items part_number p items → AreDelivered rules all items last mark p a → MayPlay a p (Deliver own mark)
 may_deliver rules all items own last mark p a place can e h x here =
     let is = h.left p place (omega arith) x here in
     subst (λ (m : Mark). CanDeliver m own mark) (sym is.last) (subst (λ (l : List Item). CanDeliver last l mark) (sym e) (can_route p last mark items can))
@@ -148,7 +148,7 @@ may_deliver rules all items own last mark p a place can e h x here =
 empty_at_rest : (rules : Rules) (own : List Holder) (mark : Mark) (x : PartState) → PartIs rules own [] mark x → x.inbox ≡ []
 empty_at_rest rules own mark x is = let e = ap (λ (l : List Item). length l) is.split ∙ length-append is.played x.inbox in none_left x.inbox (length x.inbox) (omega arith) (omega (arith, e))
 
-delivers : (rules : Rules) (all : List Holder) (items own : List Item) (last mark : Mark) (p : ℕ) → CanDeliver last items mark → own ≡ routed part_number p items
+delivers : (rules : Rules) (all : List Holder) (items own : List Item) (last mark : Mark) (p : ℕ) → CanDeliver last items mark → own ≡ routed_items part_number p items
     → (x y : PartState) → IsPartStep rules x (Deliver own mark) reply.Done y → IsAtRest rules all last p x → IsDelivered rules all items mark p y
 delivers rules all items own last mark p can e x y step is =
     let can_own : CanDeliver last own mark = subst (λ (l : List Item). CanDeliver last l mark) (sym e) (can_route p last mark items can) in
@@ -163,7 +163,7 @@ delivers rules all items own last mark p can e x y step is =
     }
 
 pub deliver_more : (rules : Rules) (all : List Holder) (items own : List Item) (last mark : Mark) (p : ℕ) (a b : Known) → p < a.parts → CanDeliver last items mark
-    → own ≡ routed part_number p items → PartPlays p (Deliver own mark) reply.Done a b → AreDelivered rules all items last mark p a → AreDelivered rules all items last mark (p + 1) b
+    → own ≡ routed_items part_number p items → PartPlays p (Deliver own mark) reply.Done a b → AreDelivered rules all items last mark p a → AreDelivered rules all items last mark (p + 1) b
 deliver_more rules all items own last mark p a b place can e plays h =
     phase_more rules p (Deliver own mark) reply.Done a b (IsDelivered rules all items mark) (IsAtRest rules all last) plays place
     (delivered_stays rules all items mark h.are.span) (rest_stays rules all items last h.are.span)
@@ -184,7 +184,7 @@ next_phase rules n Later After Before b e h = record {
 module _ (rules : Rules) (all : List Holder) (items : List Item) (mark : Mark) (p : ℕ) (span : IsSpan rules.span) where
   turns : (max : ℕ) (answer : PartReply) (x y : PartState) → IsTurnStep rules x max answer y → IsDelivered rules all items mark p x → IsDelivered rules all items mark p y
   turns max answer x y step d =
-      let t = turn_keeps_part rules (own_of all p) (routed part_number p items) mark x max answer y span step d.is in
+      let t = turn_keeps_part rules (own_of all p) (routed_items part_number p items) mark x max answer y span step d.is in
       record { is = t.is; few = let a = t.fewer in let b = d.few in omega (arith, a, b) }
 
   idles : (x y : PartState) → (x.inbox ≡ []) × (y ≡ x) → IsDelivered rules all items mark p x → IsPlayed rules all items mark p y
@@ -253,12 +253,12 @@ waiting rules all items mark p a place h = record { few = λ x here. (h.left p p
 
 -- ---- a collection
 collects : (rules : Rules) (all : List Holder) (items : List Item) (mark done : Mark) (p : ℕ) (found : List Match) (x y : PartState)
-    → IsPartStep rules x Collect (reply.Found found done) y → IsPlayed rules all items mark p x → CollectsAll rules (own_of all p) (routed part_number p items) mark found y
+    → IsPartStep rules x Collect (reply.Found found done) y → IsPlayed rules all items mark p x → CollectsAll rules (own_of all p) (routed_items part_number p items) mark found y
 collects rules all items mark done p found x y step d =
-    collect_moves_part rules (own_of all p) (routed part_number p items) mark done x found y d.empty step d.is
+    collect_moves_part rules (own_of all p) (routed_items part_number p items) mark done x found y d.empty step d.is
 
 rests_then : (rules : Rules) (all : List Holder) (items : List Item) (mark : Mark) (p : ℕ) (y : PartState)
-    → PartIs rules (after rules.stages rules.span (own_of all p) (routed part_number p items)) [] mark y → IsAtRest rules (pending_after rules all items) mark p y
+    → PartIs rules (after rules.stages rules.span (own_of all p) (routed_items part_number p items)) [] mark y → IsAtRest rules (pending_after rules all items) mark p y
 rests_then rules all items mark p y is = subst (λ (own : List Holder). PartIs rules own [] mark y) (after_routed part_number p rules.stages rules.span all items) is
 
 pub collect_more : (rules : Rules) (all : List Holder) (items : List Item) (mark done : Mark) (p : ℕ) (found : List Match) (a b : Known) → p < a.parts

@@ -12,7 +12,7 @@ use Rattle.std.proofs.lemmas.List.Sums.{AllPass-from_list_all}
 use Rattle.eql_values.specs.declared.item.Item.{Item}
 use Rattle.eql_values.specs.declared.item.Route.{Route}
 use Rattle.eql_values.specs.Ordered.{numbers}
-use Rattle.eql_values.specs.Routing.{routed, with_routes}
+use Rattle.eql_values.specs.Routing.{routed_items, with_routes}
 use Rattle.eql_laws.proofs.PieceLemmas.{routed_pieces}
 use Rattle.eql_parts.specs.Spreading.{part_number}
 use Rattle.eql_conductor.specs.PartLists.{AreSpread, Comes, Grows, events_at, events_of}
@@ -36,13 +36,13 @@ other_fails n p q apart h = grind (arith, nat_tests)
 
 module _ (item : Item) (q : ℕ) (own : All (λ (r : Route). of_part q r ≡ true) item.routes) where
   -- the event is in the part's list as it is
-  stays_whole : (first : Route) (others : List Route) → item.routes ≡ first ∷ others → routed part_number q (item ∷ []) ≡ item ∷ []
+  stays_whole : (first : Route) (others : List Route) → item.routes ≡ first ∷ others → routed_items part_number q (item ∷ []) ≡ item ∷ []
   stays_whole first others is =
       ap (λ (rs : List Route). cons_option (with_routes item rs) []) (all_pass (of_part q) item.routes own ∙ is)
       ∙ ap (λ (rs : List Route). let whole : Item = record { order = item.order; routes = rs } in whole ∷ []) (sym is)
 
   -- and in no other
-  stays_out : (p : ℕ) → p ≢ q → routed part_number p (item ∷ []) ≡ []
+  stays_out : (p : ℕ) → p ≢ q → routed_items part_number p (item ∷ []) ≡ []
   stays_out p apart =
       ap (λ (rs : List Route). cons_option (with_routes item rs) [])
       (none_pass (of_part p) item.routes (All-weaker (λ (r : Route). of_part q r ≡ true) (λ (r : Route). of_part p r ≡ false) (λ r h. other_fails (part_number r.key) p q apart h) item.routes own))
@@ -59,7 +59,7 @@ comes_whole item q first others old new number all is grows =
     let own = all_own item q first others number all is in
     record {
       each = λ p lt. elim (cases_eq p q) [
-        | inl same ↦ subst (λ (k : ℕ). events_at new k ≡ events_at old k ++ routed part_number k (item ∷ [])) (sym same)
+        | inl same ↦ subst (λ (k : ℕ). events_at new k ≡ events_at old k ++ routed_items part_number k (item ∷ [])) (sym same)
             (grows.here ∙ ap (λ (l : List Item). events_at old q ++ l) (sym (stays_whole item q own first others is)))
         | inr apart ↦ grows.others p apart ∙ sym (append-nil (events_at old p)) ∙ ap (λ (l : List Item). events_at old p ++ l) (sym (stays_out item q own p apart))
       ];
@@ -69,7 +69,7 @@ comes_whole item q first others old new number all is grows =
 -- ---- one event after another
 pub spread_more : (items : List Item) (item : Item) (old new : List (Vec Item Global)) → AreSpread items old → Comes item old new → AreSpread (items ++ item ∷ []) new
 spread_more items item old new are comes = record {
-  each = λ p lt. comes.each p lt ∙ ap (λ (l : List Item). l ++ routed part_number p (item ∷ [])) (are.each p lt) ∙ sym ((routed_pieces part_number p).pieces items (item ∷ []));
+  each = λ p lt. comes.each p lt ∙ ap (λ (l : List Item). l ++ routed_items part_number p (item ∷ [])) (are.each p lt) ∙ sym ((routed_pieces part_number p).pieces items (item ∷ []));
   count = comes.count ∙ are.count;
 }
 
@@ -97,24 +97,24 @@ one_of_all (list ∷ lists) zero = refl
 one_of_all (list ∷ lists) (suc p) = one_of_all lists p
 
 pub spread_all : (items : List Item) (lists : List (Vec Item Global)) → AreSpread items lists
-    → map events_of lists ≡ map (λ (p : ℕ). routed part_number p items) (numbers 16)
+    → map events_of lists ≡ map (λ (p : ℕ). routed_items part_number p items) (numbers 16)
 spread_all items lists are =
     let events = map events_of lists in
-    let all = map (λ (p : ℕ). routed part_number p items) (numbers 16) in
+    let all = map (λ (p : ℕ). routed_items part_number p items) (numbers 16) in
     let sixteen : length events ≡ 16 = length-map lists events_of ∙ are.count in
-    let many : length all ≡ 16 = length-map (numbers 16) (λ (p : ℕ). routed part_number p items) ∙ length_numbers 16 in
+    let many : length all ≡ 16 = length-map (numbers 16) (λ (p : ℕ). routed_items part_number p items) ∙ length_numbers 16 in
     ext_get_or [] events all (sixteen ∙ sym many)
     (λ p lt. let below : p < 16 = omega (arith, lt, sixteen) in
-    one_of_all lists p ∙ are.each p below ∙ sym (listed_at (λ (p : ℕ). routed part_number p items) 16 p below))
+    one_of_all lists p ∙ are.each p below ∙ sym (listed_at (λ (p : ℕ). routed_items part_number p items) 16 p below))
 
 -- ---- the lists, taken out in order
-pub sixteen_lists : (items : List Item) (lists : List (List Item)) → lists ≡ map (λ (p : ℕ). routed part_number p items) (numbers 16) → length lists ≡ 16
-sixteen_lists items lists is = ap (λ (l : List (List Item)). length l) is ∙ length-map (numbers 16) (λ (p : ℕ). routed part_number p items) ∙ length_numbers 16
+pub sixteen_lists : (items : List Item) (lists : List (List Item)) → lists ≡ map (λ (p : ℕ). routed_items part_number p items) (numbers 16) → length lists ≡ 16
+sixteen_lists items lists is = ap (λ (l : List (List Item)). length l) is ∙ length-map (numbers 16) (λ (p : ℕ). routed_items part_number p items) ∙ length_numbers 16
 
-pub next_list : (items : List Item) (p : ℕ) (left rest : List (List Item)) (own : List Item) → p < 16 → left ≡ drop p (map (λ (p : ℕ). routed part_number p items) (numbers 16)) → left ≡ own ∷ rest
-    → (own ≡ routed part_number p items) × (rest ≡ drop (p + 1) (map (λ (p : ℕ). routed part_number p items) (numbers 16)))
+pub next_list : (items : List Item) (p : ℕ) (left rest : List (List Item)) (own : List Item) → p < 16 → left ≡ drop p (map (λ (p : ℕ). routed_items part_number p items) (numbers 16)) → left ≡ own ∷ rest
+    → (own ≡ routed_items part_number p items) × (rest ≡ drop (p + 1) (map (λ (p : ℕ). routed_items part_number p items) (numbers 16)))
 next_list items p left rest own lt was taken =
-    let f : ℕ → List Item = λ p. routed part_number p items in
+    let f : ℕ → List Item = λ p. routed_items part_number p items in
     let all = map f (numbers 16) in
     let many : length all ≡ 16 = sixteen_lists items all refl in
     let step : own ∷ rest ≡ get_or all p [] ∷ drop (p + 1) all = sym taken ∙ was ∙ drop_more all p [] (omega (arith, lt, many)) in

@@ -12,13 +12,13 @@ abbrev pub held_count : LaneState → ℕ
 held_count x = length x.cut.items
 
 -- how many bytes were taken, and twice how many of them were read as lines
-abbrev pub reached : LaneState → ℕ
-reached x = x.taken + 2 * min x.cut.offset x.taken
+abbrev pub work_done : LaneState → ℕ
+work_done x = x.taken + 2 * min x.cut.offset x.taken
 
 -- the lane went on by at least so many steps: a byte that is taken is one, a byte that is read is two, and an event that is handed out is one, but
 -- an event that comes to be held takes one back
 abbrev pub Gains : ℕ → (old new : LaneState) → Type 0
-Gains n old new = reached old + held_count new + n ≤ reached new + held_count old
+Gains n old new = work_done old + held_count new + n ≤ work_done new + held_count old
 
 -- the lane holds no more events than lines were read, no more bytes were read than taken, and it has no more lines and bytes than a shard may have
 pub record IsSized (x : LaneState) : Type 0 where

@@ -10,7 +10,7 @@ use Rattle.eql_laws.specs.Alive.{HoldersAreInOrder}
 use Rattle.eql_laws.specs.Fitting.{Fits, Kept, Run, StandsInOrder, cut_of}
 use Rattle.eql_laws.specs.Places.{ArePlaces, ReadTo, lows_from, whole}
 use Rattle.eql_laws.specs.Shapes.{HasStageBefore, IsFull}
-use Rattle.eql_lane.specs.Lanes.{LaneState, begun, fresh_cut as fresh_lane}
+use Rattle.eql_lane.specs.Lanes.{LaneState, beginning_lane, fresh_cut as fresh_lane}
 use Rattle.eql_lane.specs.Starts.{MayBegin}
 use Rattle.eql_parts.specs.Inboxes.{HolderIsBelow}
 use Rattle.eql_parts.specs.PartSteps.{PartState, Rules, alive_by, mark_time}
@@ -29,7 +29,7 @@ use Rattle.eql_conductor.specs.Saving.{BookKeepsNumbers}
 -- ---- the states that lanes and parts begin with
 -- a lane that begins with what a cut keeps of it, over a source with any number of faults
 abbrev pub IsBegun : LaneCut → LaneState → Type 0
-IsBegun cut x = x ≡ begun cut x.faults
+IsBegun cut x = x ≡ beginning_lane cut x.faults
 
 -- a part that begins with these pending sequences at a mark: it has those that are alive then
 abbrev pub begun_part : Rules → List Holder → Mark → PartState

@@ -3,7 +3,7 @@ use Rattle.std.specs.Prelude.{◌≡◌, ◌≢◌, ◌<◌, ◌++◌, ◌∷◌
 use Rattle.std.specs.declared.alloc.Global.{Global}
 use Rattle.std.specs.declared.vec.Vec.{Vec}
 use Rattle.eql_values.specs.declared.item.Item.{Item}
-use Rattle.eql_values.specs.Routing.{routed}
+use Rattle.eql_values.specs.Routing.{routed_items}
 use Rattle.eql_parts.specs.Spreading.{part_number}
 
 -- the events of a list
@@ -26,10 +26,10 @@ pub record Grows (place : ℕ) (events : List Item) (old new : List (Vec Item Gl
 
 -- an event came: the list of each part grew by the event with the part's routes alone, where it has some
 pub record Comes (item : Item) (old new : List (Vec Item Global)) : Type 0 where
-  pub each : (p : ℕ) → p < 16 → events_at new p ≡ events_at old p ++ routed part_number p (item ∷ [])
+  pub each : (p : ℕ) → p < 16 → events_at new p ≡ events_at old p ++ routed_items part_number p (item ∷ [])
   pub count : length new ≡ length old
 
 -- there are sixteen lists, each with the events of its part
 pub record AreSpread (items : List Item) (lists : List (Vec Item Global)) : Type 0 where
-  pub each : (p : ℕ) → p < 16 → events_at lists p ≡ routed part_number p items
+  pub each : (p : ℕ) → p < 16 → events_at lists p ≡ routed_items part_number p items
   pub count : length lists ≡ 16

@@ -4,7 +4,7 @@ use Rattle.eql_values.specs.declared.item.Item.{Item}
 use Rattle.eql_values.specs.declared.found.Holder.{Holder}
 use Rattle.eql_values.specs.declared.order.Mark.{Mark}
 use Rattle.eql_values.specs.Matching.{after}
-use Rattle.eql_values.specs.Routing.{routed}
+use Rattle.eql_values.specs.Routing.{routed_items}
 use Rattle.eql_laws.specs.Alive.{IsSpan}
 use Rattle.eql_laws.specs.Shapes.{IsFull}
 use Rattle.eql_parts.specs.PartSteps.{Rules, PartState}
@@ -32,12 +32,12 @@ module _ (rules : Rules) (all : List Holder) where
 
   -- further events were delivered to it, of which some may wait
   pub record IsDelivered (items : List Item) (mark : Mark) (p : ℕ) (x : PartState) : Type 0 where
-    pub is : PartIs rules (own_of all p) (routed part_number p items) mark x
+    pub is : PartIs rules (own_of all p) (routed_items part_number p items) mark x
     pub few : length x.inbox ≤ length items
 
   -- it played them
   pub record IsPlayed (items : List Item) (mark : Mark) (p : ℕ) (x : PartState) : Type 0 where
-    pub is : PartIs rules (own_of all p) (routed part_number p items) mark x
+    pub is : PartIs rules (own_of all p) (routed_items part_number p items) mark x
     pub empty : x.inbox ≡ []
 
   -- what is pending once these events were played

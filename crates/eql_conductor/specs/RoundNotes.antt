@@ -5,8 +5,8 @@ use Rattle.eql_values.specs.declared.item.Item.{Item}
 use Rattle.eql_values.specs.declared.order.Mark.{Mark}
 use Rattle.eql_values.specs.declared.order.Mark.TheVariants.{End}
 use Rattle.eql_values.specs.Marks.{mark_cmp}
-use Rattle.eql_values.specs.Routing.{routed}
-use Rattle.eql_laws.specs.Apart.{joined}
+use Rattle.eql_values.specs.Routing.{routed_items}
+use Rattle.eql_laws.specs.Apart.{joined_lists}
 use Rattle.eql_laws.specs.Lanes.{least_of}
 use Rattle.eql_parts.specs.Spreading.{part_number}
 use Rattle.eql_conductor.specs.declared.note.Note.{Note}
@@ -21,8 +21,8 @@ abbrev pub low_at : List Mark → ℕ → Mark
 low_at lows s = get_or lows s End
 
 -- a round counts where the least of its lows is greater than the last mark, and this is its mark
-abbrev pub counted : Mark → List Mark → Option Mark
-counted last lows = if is_le (mark_cmp (least_of lows) last) then None else Some (least_of lows)
+abbrev pub counted_mark : Mark → List Mark → Option Mark
+counted_mark last lows = if is_le (mark_cmp (least_of lows) last) then None else Some (least_of lows)
 
 -- in a round that counts a lane is taken from
 abbrev pub took : Option Mark → List Note
@@ -145,7 +145,7 @@ NotesTurn w p old new None = NotesPart p 0 1 old new
 
 -- how many events of these are delivered to a part
 abbrev pub delivered_to : List Item → ℕ → ℕ
-delivered_to items p = length (routed part_number p items)
+delivered_to items p = length (routed_items part_number p items)
 
 -- events that the lanes handed out were played: the notes of each part grew by at most one for each event that was delivered to it, and at
 -- most so many others
@@ -159,7 +159,7 @@ pub record PlaysParts (others : ℕ) (old new : Known) : Type 0 where
 pub record GrewInRounds (count : List Note → ℕ) (rounds : ℕ) (old new : List Note) : Type 0 where
   pub lists : List (List Note)
   pub as_many : length lists ≡ rounds
-  pub grew : new ≡ old ++ joined lists
+  pub grew : new ≡ old ++ joined_lists lists
   pub four : All (λ (list : List Note). count list ≤ 4) lists
 
 -- the notes of each lane
@@ -184,13 +184,13 @@ pub record NotesAdvanceFront (mark : Mark) (old new : Known) : Type 0 where
 pub record NotesRound (last : Mark) (batch : ℕ) (old new : Known) (answer : Option Mark) : Type 0 where
   pub lows : List Mark
   pub count : length lows ≡ old.lanes
-  pub counts : answer ≡ counted last lows
-  pub lanes : LanesGrow (λ s. lane_round batch (low_at lows s) (counted last lows)) old new
+  pub counts : answer ≡ counted_mark last lows
+  pub lanes : LanesGrow (λ s. lane_round batch (low_at lows s) (counted_mark last lows)) old new
   pub parts : PlaysParts 3 old new
 
 -- a round that broke off
 pub record NotesRoundFront (last : Mark) (batch : ℕ) (old new : Known) : Type 0 where
   pub lows : List Mark
   pub count : length lows ≡ old.lanes
-  pub lanes : LanesGrowFront (λ s. lane_round batch (low_at lows s) (counted last lows)) old new
+  pub lanes : LanesGrowFront (λ s. lane_round batch (low_at lows s) (counted_mark last lows)) old new
   pub parts : PlaysParts 3 old new

@@ -8,7 +8,7 @@ use Rattle.eql_values.specs.declared.order.Mark.{Mark}
 use Rattle.eql_values.specs.declared.order.Mark.TheVariants.{Start, At, End}
 use Rattle.eql_values.specs.Accepted.{Reads, below}
 use Rattle.eql_values.specs.Matching.{after, matches}
-use Rattle.eql_values.specs.Numbering.{numbered, piped}
+use Rattle.eql_values.specs.Numbering.{numbered_matches, pipe_output}
 use Rattle.eql_laws.specs.Alive.{IsSpan}
 use Rattle.eql_laws.specs.Belows.{between, greatest_slack}
 use Rattle.eql_laws.specs.Books.{book_of, greatest_shards}
@@ -44,7 +44,7 @@ module _ (rules : Rules) (reads : Reads) (slack : Option ℤ) (texts : List (Lis
 
   -- the whole listing through pipes
   abbrev pub listed_by : List Pipe → List Numbered
-  listed_by pipes = piped pipes (numbered (found_below End))
+  listed_by pipes = pipe_output pipes (numbered_matches (found_below End))
 
   -- its lines after those that the book counts
   abbrev pub lines_after : BookState → List ℕ

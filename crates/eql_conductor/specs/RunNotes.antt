@@ -8,7 +8,7 @@ use Rattle.eql_conductor.specs.declared.plan.End.{End as Ends}
 use Rattle.eql_conductor.specs.declared.plan.End.TheVariants as end
 use Rattle.eql_conductor.specs.declared.plan.RunPlan.{RunPlan}
 use Rattle.eql_conductor.specs.Benches.{Known}
-use Rattle.eql_conductor.specs.RoundNotes.{low_at, counted, lane_round, LanesGrow, GrewFront, LanesGrowFront, PlaysParts, PartsGrowInRounds}
+use Rattle.eql_conductor.specs.RoundNotes.{low_at, counted_mark, lane_round, LanesGrow, GrewFront, LanesGrowFront, PlaysParts, PartsGrowInRounds}
 
 -- ---- how far a run is
 -- the last mark, and how many rounds counted
@@ -24,13 +24,13 @@ abbrev pub start : RunPlan → Place
 start plan = place plan.mark 0
 
 -- after a round: it counted with this mark, or it didn't
-abbrev pub moved : Place → Option Mark → Place
-moved at None = at
-moved at (Some mark) = record { mark = mark; counts = suc at.counts }
+abbrev pub place_behind : Place → Option Mark → Place
+place_behind at None = at
+place_behind at (Some mark) = record { mark = mark; counts = suc at.counts }
 
 -- after a round with these lows
 abbrev pub next_place : Place → List Mark → Place
-next_place at lows = moved at (counted at.mark lows)
+next_place at lows = place_behind at (counted_mark at.mark lows)
 
 -- after rounds with these lows
 abbrev pub place_after : Place → List (List Mark) → Place
@@ -50,28 +50,28 @@ cut_after every n mark = None
 
 -- after a round with these lows
 abbrev pub cut_due : Option ℕ → Place → List Mark → Option ℤ
-cut_due every at lows = cut_after every (next_place at lows).counts (counted at.mark lows)
+cut_due every at lows = cut_after every (next_place at lows).counts (counted_mark at.mark lows)
 
 -- the one, where there is one
-abbrev pub listed : {X : Type 0} → Option X → List X
-listed None = []
-listed (Some x) = x ∷ []
+abbrev pub list_of : {X : Type 0} → Option X → List X
+list_of None = []
+list_of (Some x) = x ∷ []
 
 -- the times of the cuts that are due in rounds
 abbrev pub cut_times : Option ℕ → Place → List (List Mark) → List ℤ
 cut_times every at [] = []
-cut_times every at (lows ∷ rounds) = listed (cut_due every at lows) ++ cut_times every (next_place at lows) rounds
+cut_times every at (lows ∷ rounds) = list_of (cut_due every at lows) ++ cut_times every (next_place at lows) rounds
 
 -- ---- the notes of a lane
 -- a lane is snapped where a cut is due
-abbrev pub snapped : Option ℤ → List Note
-snapped None = []
-snapped (Some t) = note.Snapped ∷ []
+abbrev pub snap_notes : Option ℤ → List Note
+snap_notes None = []
+snap_notes (Some t) = note.Snapped ∷ []
 
 module _ (batch : ℕ) (every : Option ℕ) where
   -- in a round
   abbrev pub round_notes : Place → List Mark → ℕ → List Note
-  round_notes at lows s = lane_round batch (low_at lows s) (counted at.mark lows) ++ snapped (cut_due every at lows)
+  round_notes at lows s = lane_round batch (low_at lows s) (counted_mark at.mark lows) ++ snap_notes (cut_due every at lows)
 
   -- in rounds with these lows
   abbrev pub rounds_notes : Place → List (List Mark) → ℕ → List Note
@@ -82,7 +82,7 @@ module _ (batch : ℕ) (every : Option ℕ) where
   pub record PlaysRound (at : Place) (time : Option ℤ) (old new : Known) (answer : Option Mark) : Type 0 where
     pub lows : List Mark
     pub count : length lows ≡ old.lanes
-    pub counts : answer ≡ counted at.mark lows
+    pub counts : answer ≡ counted_mark at.mark lows
     pub time_is : time ≡ cut_due every at lows
     pub lanes : LanesGrow (round_notes at lows) old new
     pub parts : PlaysParts 4 old new
@@ -91,7 +91,7 @@ module _ (batch : ℕ) (every : Option ℕ) where
   pub record RoundBrokeOff (at : Place) (times : List ℤ) (old new : Known) : Type 0 where
     pub lows : List Mark
     pub count : length lows ≡ old.lanes
-    pub times_are : (times ≡ []) ⊎ (times ≡ listed (cut_due every at lows))
+    pub times_are : (times ≡ []) ⊎ (times ≡ list_of (cut_due every at lows))
     pub lanes : LanesGrowFront (round_notes at lows) old new
     pub parts : PlaysParts 4 old new
 
@@ -132,7 +132,7 @@ pub record NotesSaveFront (old new : Known) : Type 0 where
 
 -- a cut of this time was kept, or none was
 pub record NotesCut (time : Option ℤ) (old new : Known) : Type 0 where
-  pub lanes : LanesGrow (λ s. snapped time) old new
+  pub lanes : LanesGrow (λ s. snap_notes time) old new
   pub parts : PlaysParts 1 old new
 
 -- ---- a run

@@ -3,7 +3,7 @@
 ghost use Rattle.std.specs.Prelude.{◌≡◌, ◌++◌, ◌∷◌, [], map, All, IfOk, OnOk};
 ghost use Rattle.eql_values.specs.Accepted.{sorted_items};
 ghost use Rattle.eql_values.specs.Ascending.{Ascend};
-ghost use Rattle.eql_laws.specs.Apart.{AllAreApart, joined};
+ghost use Rattle.eql_laws.specs.Apart.{AllAreApart, joined_lists};
 ghost use Rattle.eql_conductor.specs.Fitting.{fitting, has_routes};
 
 use eql_merge::merge;
@@ -41,7 +41,7 @@ fn keep_all_fitting(alloc: Global, lists: ItemLists) -> Result<ItemLists, Memory
 pub(crate) fn merge_fitting(alloc: Global, lists: ItemLists) -> Result<Items, Memory>
     requires ascend { All Ascend lists }
     requires apart { AllAreApart lists }
-    ensures { IfOk result (λ items. items ≡ fitting (sorted_items (joined lists))) }
+    ensures { IfOk result (λ items. items ≡ fitting (sorted_items (joined_lists lists))) }
 {
     let kept = keep_all_fitting(alloc, lists)?;
     merge(alloc, kept)

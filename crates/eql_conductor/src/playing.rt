@@ -3,7 +3,7 @@
 ghost use Rattle.std.specs.Prelude.{◌≡◌, ◌<◌, ◌≤◌, ◌+◌, ◌∷◌, ◌++◌, [], ℕ, List, length, map, IfErr, IfOk, OnErr, OnOk};
 ghost use Rattle.eql_values.specs.declared.found.Holder.{Holder};
 ghost use Rattle.eql_values.specs.Ordered.{numbers};
-ghost use Rattle.eql_values.specs.Routing.{routed};
+ghost use Rattle.eql_values.specs.Routing.{routed_items};
 ghost use Rattle.eql_parts.specs.PartSteps.{CanDeliver, Rules};
 ghost use Rattle.eql_parts.specs.Spreading.{part_number};
 ghost use Rattle.eql_rounds.specs.Finding.{found_of};
@@ -30,7 +30,7 @@ fn deliver_one<B: Bench>(
     mark: Mark,
 ) -> Result<(), Stop>
     requires place { p < (B.known bench.old).parts }
-    requires own { own ≡ routed part_number p items.now }
+    requires own { own ≡ routed_items part_number p items.now }
     requires can { CanDeliver last items.now mark }
     requires some { AreSomehowDelivered items.now last mark p (B.known bench.old) }
     ensures parts { (rules : Rules) (all : List Holder)

@@ -3,7 +3,7 @@ ghost use Rattle.std.specs.Prelude.{◌≡◌, ◌≢◌, ◌==◌, ◌<◌, ◌
 ghost use Rattle.std.specs.List.{list_all};
 ghost use Rattle.eql_values.specs.declared.item.Route.{Route as RouteValue};
 ghost use Rattle.eql_values.specs.Ordered.{numbers};
-ghost use Rattle.eql_values.specs.Routing.{routed, with_routes};
+ghost use Rattle.eql_values.specs.Routing.{routed_items, with_routes};
 ghost use Rattle.eql_conductor.specs.PartLists.{AreSpread, Comes, Grows, events_of};
 ghost use Rattle.eql_parts.specs.Spreading.{part_number};
 
@@ -93,7 +93,7 @@ fn add_to_one(
     requires place { p < length lists.old.items }
     requires parts { parts.now.items
         ≡ map (λ (r : RouteValue). part_number r.key) item.now.routes }
-    ensures { OnOk result (Grows p (routed part_number p (item.now ∷ []))
+    ensures { OnOk result (Grows p (routed_items part_number p (item.now ∷ []))
         lists.old.items lists.new.items) }
 {
     match own_item(alloc, item, parts, p)? {
@@ -159,7 +159,7 @@ fn all_items(alloc: Global, lists: Vec<Vec<Item>>) -> Result<Vec<Items>, Memory>
 /// The events of each of the sixteen parts.
 pub(crate) fn spread(alloc: Global, items: &Items) -> Result<Vec<Items>, Memory>
     ensures { IfOk result (λ own. own.items
-        ≡ map (λ (p : ℕ). routed part_number p items.now) (numbers 16)) }
+        ≡ map (λ (p : ℕ). routed_items part_number p items.now) (numbers 16)) }
 {
     let mut lists = empty_lists(alloc)?;
     for item in items.items() {

@@ -7,7 +7,7 @@ use Rattle.eql_values.specs.declared.found.Numbered.{Numbered}
 use Rattle.eql_cut.specs.declared.reader.Version.{Version}
 use Rattle.eql_cut.specs.Formats.{number, both, only, option, list, byte, never, case}
 use Rattle.eql_cut.specs.Values.{signed_16, order, text, field, lane}
-use Rattle.eql_cut.specs.CutValues.{kind_of, rank_of, field_kind, names_ascend, mapping, chain, match_, is_full, holder, holders_ascend, holders, numbered, numbers_ascend, kept, state_of, seen_by, pipe_state, book, head, has_lanes, cut, version_of, number_of, version_byte, exactly, header_of, header, cut_file}
+use Rattle.eql_cut.specs.CutValues.{kind_of, rank_of, field_kind, names_ascend, mapping, chain, match_, is_full, holder, holders_ascend, holders, numbered_match, numbers_ascend, kept_matches, state_of, seen_by, pipe_state, book, head, has_lanes, cut, version_of, number_of, version_byte, exactly, header_of, header, cut_file}
 use Rattle.eql_cut.proofs.Laws.{Lawful, eight, four, by_lawful, both_lawful, as_lawful, only_lawful, option_lawful, list_lawful, byte_lawful, never_lawful, case_lawful}
 use Rattle.eql_cut.proofs.ValueLaws.{signed_16_lawful, order_lawful, text_lawful, field_lawful, lane_lawful}
 
@@ -46,16 +46,16 @@ module _ (v : Version) where
   holders_lawful : Lawful (holders v)
   holders_lawful = only_lawful holders_ascend (list (holder v)) (list_lawful (holder v) holder_lawful)
 
-  numbered_lawful : Lawful (numbered v)
+  numbered_lawful : Lawful (numbered_match v)
   numbered_lawful = as_lawful _ _ (both (number w64) (match_ v)) (both_lawful _ _ eight match_lawful) (λ x fits. refl)
 
-  kept_lawful : Lawful (kept v)
-  kept_lawful = only_lawful numbers_ascend (list (numbered v)) (list_lawful (numbered v) numbered_lawful)
+  kept_lawful : Lawful (kept_matches v)
+  kept_lawful = only_lawful numbers_ascend (list (numbered_match v)) (list_lawful (numbered_match v) numbered_lawful)
 
   pipe_state_lawful : Lawful (pipe_state v)
   pipe_state_lawful =
-      as_lawful state_of seen_by (case 0 (number w32) (case 1 (kept v) never))
-      (case_lawful 0 (number w32) _ four (case_lawful 1 (kept v) never kept_lawful never_lawful (λ bytes. refl) refl) (λ bytes. refl) refl) (λ x fits. seen_back x)
+      as_lawful state_of seen_by (case 0 (number w32) (case 1 (kept_matches v) never))
+      (case_lawful 0 (number w32) _ four (case_lawful 1 (kept_matches v) never kept_lawful never_lawful (λ bytes. refl) refl) (λ bytes. refl) refl) (λ x fits. seen_back x)
 
   book_lawful : Lawful (book v)
   book_lawful = as_lawful _ _ (both (number w64) (both (number w64) (list (pipe_state v)))) (both_lawful _ _ eight (both_lawful _ _ eight (list_lawful (pipe_state v) pipe_state_lawful))) (λ x fits. refl)

@@ -27,7 +27,7 @@ use Rattle.eql_cut.specs.Domain.{IsCut}
 use Rattle.eql_cut.specs.Values.{items_ascend}
 use Rattle.eql_cut.specs.CutValues.{holders_ascend}
 use Rattle.eql_cut.specs.Fitting.{is_mark_time, best_fits, counts_fit, event_fits, found_fits, item_fits, lane_fits, lanes_fit, holder_fits, kept_fits, state_fits, states_fit, first_before, falls_to, firsts_fall, cut_fits}
-use Rattle.eql_cut.specs.Placing.{IsUnplaced, lane_orders, state_orders, orders_in, lifted_order, lifted_chain, lifted_item, lifted_lane, lifted_holder, lifted_kept, lifted_state, lifted}
+use Rattle.eql_cut.specs.Placing.{IsUnplaced, lane_orders, state_orders, orders_in, lifted_order, lifted_chain, lifted_item, lifted_lane, lifted_holder, lifted_kept, lifted_state, lifted_cut}
 use Rattle.eql_cut.proofs.Keyed.{sorted_alike}
 use Rattle.eql_cut.proofs.PlaceLaws.{order_alike, events_alike, unplaced_both, each_unplaced}
 
@@ -119,7 +119,7 @@ module _ (place : ℕ → ℕ → ℕ) where
     states_alike shards found (p ∷ pipes) [] = refl
     states_alike shards found (p ∷ pipes) (s ∷ states) = λ i. state_alike shards found p s i && states_alike shards found pipes states i
 
-    pub fits_alike : (pipes : List Pipe) (c : Cut) → IsUnplaced (orders_in c) → cut_fits m values pipes (lifted place c) ≡ cut_fits m values pipes c
+    pub fits_alike : (pipes : List Pipe) (c : Cut) → IsUnplaced (orders_in c) → cut_fits m values pipes (lifted_cut place c) ≡ cut_fits m values pipes c
     fits_alike pipes c none =
         let parts = unplaced_both (flat_map lane_orders c.lanes) (flat_map (λ (h : Holder). h.chain) c.holders ++ flat_map state_orders c.book.pipes) none in
         let others = unplaced_both (flat_map (λ (h : Holder). h.chain) c.holders) (flat_map state_orders c.book.pipes) parts.right in
@@ -186,7 +186,7 @@ module _ (place : ℕ → ℕ → ℕ) where
       let sorted : holders_ascend holders ≡ true = sorted_alike slot_cmp (λ (h : Holder). (h.key, h.stage)) (λ (h : Holder). h) (λ (h : Holder). h.chain) holders ∙ up in
       sym (sorted_alike slot_cmp (λ (h : Holder). (h.key, h.stage)) (λ (h : Holder). h) (λ (h : Holder). h.chain) (map (lifted_holder place) holders)) ∙ slots_alike holders ∙ sorted
 
-  pub stands_alike : (c : Cut) → IsUnplaced (orders_in c) → IsCut c → IsCut (lifted place c)
+  pub stands_alike : (c : Cut) → IsUnplaced (orders_in c) → IsCut c → IsCut (lifted_cut place c)
   stands_alike c none is =
       let parts = unplaced_both (flat_map lane_orders c.lanes) (flat_map (λ (h : Holder). h.chain) c.holders ++ flat_map state_orders c.book.pipes) none in
       let others = unplaced_both (flat_map (λ (h : Holder). h.chain) c.holders) (flat_map state_orders c.book.pipes) parts.right in

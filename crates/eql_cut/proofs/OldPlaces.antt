@@ -13,7 +13,7 @@ use Rattle.eql_cut.specs.declared.cut.Cut.{Cut}
 use Rattle.eql_cut.specs.declared.reader.Version.{Version}
 use Rattle.eql_cut.specs.declared.reader.Version.TheVariants as version
 use Rattle.eql_cut.specs.Values.{order_without, item, lane}
-use Rattle.eql_cut.specs.CutValues.{cut, number_of, holder, numbered, pipe_state}
+use Rattle.eql_cut.specs.CutValues.{cut, number_of, holder, numbered_match, pipe_state}
 use Rattle.eql_cut.specs.Placing.{IsUnplaced, lane_orders, state_orders, orders_in}
 use Rattle.eql_cut.specs.Whole.{IsText}
 
@@ -41,13 +41,13 @@ lane_old l fits =
 holder_old : (h : Holder) → (holder version.One).Fits h → IsUnplaced h.chain
 holder_old h fits = chain_old h.chain fits.0.0.1.1.0.1
 
-kept_old : (n : Numbered) → (numbered version.One).Fits n → IsUnplaced n.found.chain
+kept_old : (n : Numbered) → (numbered_match version.One).Fits n → IsUnplaced n.found.chain
 kept_old n fits = chain_old n.found.chain fits.0.1.0.1.0.1
 
 state_old : (s : PipeState) → (pipe_state version.One).Fits s → IsUnplaced (state_orders s)
 state_old (state.Head passed) fits = All-nil _
 state_old (state.Tail kept) fits =
-    all_unplaced (λ (n : Numbered). n.found.chain) kept (All-weaker (numbered version.One).Fits (λ (n : Numbered). IsUnplaced n.found.chain) kept_old kept fits.0.0.1)
+    all_unplaced (λ (n : Numbered). n.found.chain) kept (All-weaker (numbered_match version.One).Fits (λ (n : Numbered). IsUnplaced n.found.chain) kept_old kept fits.0.0.1)
 
 cut_old : (c : Cut) → (cut version.One).Fits c → IsUnplaced (orders_in c)
 cut_old c fits =

@@ -11,7 +11,7 @@ use Rattle.eql_values.specs.declared.cut.PipeState.{PipeState}
 use Rattle.eql_values.specs.declared.cut.PipeState.TheVariants as state
 use Rattle.eql_cut.specs.declared.cut.Cut.{Cut}
 use Rattle.eql_cut.specs.Lifting.{IsPlacedBy}
-use Rattle.eql_cut.specs.Placing.{lane_orders, state_orders, lifted_order, lifted_chain, lifted_item, lifted_lane, lifted_holder, lifted_kept, lifted_state, lifted}
+use Rattle.eql_cut.specs.Placing.{lane_orders, state_orders, lifted_order, lifted_chain, lifted_item, lifted_lane, lifted_holder, lifted_kept, lifted_state, lifted_cut}
 
 -- what is said of each event of several lists
 module _ (P : OrderKey → Type 0) where
@@ -75,7 +75,7 @@ module _ (place : ℕ → ℕ → ℕ) where
       ap (λ (k : List Numbered). state.Tail k)
       (restored (lifted_kept place) (lifted_kept none) (λ (n : Numbered). All At n.found.chain) kept_back kept (each_of At (λ (n : Numbered). n.found.chain) kept all))
 
-  pub cut_back : (c : Cut) → IsPlacedBy place c → lifted place (lifted none c) ≡ c
+  pub cut_back : (c : Cut) → IsPlacedBy place c → lifted_cut place (lifted_cut none c) ≡ c
   cut_back c all =
       let lanes = left_of At (flat_map lane_orders c.lanes) (flat_map (λ (h : Holder). h.chain) c.holders ++ flat_map state_orders c.book.pipes) all in
       let others = right_of At (flat_map lane_orders c.lanes) (flat_map (λ (h : Holder). h.chain) c.holders ++ flat_map state_orders c.book.pipes) all in

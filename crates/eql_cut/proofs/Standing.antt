@@ -21,7 +21,7 @@ use Rattle.eql_laws.specs.Books.{NumbersAscend, StateStands}
 use Rattle.eql_cut.specs.declared.cut.Cut.{Cut}
 use Rattle.eql_cut.specs.declared.reader.Version.{Version}
 use Rattle.eql_cut.specs.Values.{items_ascend, item, lane}
-use Rattle.eql_cut.specs.CutValues.{cut, is_full, holder, holders_ascend, numbered, numbers_ascend, pipe_state, IsOrderedState, IsOrderedCut}
+use Rattle.eql_cut.specs.CutValues.{cut, is_full, holder, holders_ascend, numbered_match, numbers_ascend, pipe_state, IsOrderedState, IsOrderedCut}
 use Rattle.eql_cut.specs.Domain.{IsCut}
 use Rattle.eql_cut.proofs.Keyed.{sorted_alike}
 
@@ -74,13 +74,13 @@ module _ (v : Version) where
   holder_stands : (h : Holder) → (holder v).Fits h → (length h.chain ≡ h.stage) × EventsAscend h.chain
   holder_stands h fits = (eqb-true (length h.chain) h.stage fits.1, fits.0.0.1.1.1)
 
-  numbered_stands : (n : Numbered) → (numbered v).Fits n → EventsAscend n.found.chain
+  numbered_stands : (n : Numbered) → (numbered_match v).Fits n → EventsAscend n.found.chain
   numbered_stands n fits = fits.0.1.0.1.1
 
   state_stands : (s : PipeState) → (pipe_state v).Fits s → StateStands s
   state_stands (state.Head passed) fits = (tt, All-nil _)
   state_stands (state.Tail kept) fits =
-      (numbers_ascend-from kept fits.0.1, All-weaker (numbered v).Fits (λ (n : Numbered). EventsAscend n.found.chain) numbered_stands kept fits.0.0.1)
+      (numbers_ascend-from kept fits.0.1, All-weaker (numbered_match v).Fits (λ (n : Numbered). EventsAscend n.found.chain) numbered_stands kept fits.0.0.1)
 
   pub cut_stands : ItemsBack → (c : Cut) → (cut v).Fits c → IsCut c
   cut_stands back c fits =

@@ -67,14 +67,14 @@ holders_ascend holders = is_sorted slot_cmp (by_slot holders)
 abbrev pub holders : Version → Format (List Holder)
 holders v = only holders_ascend (list (holder v))
 
-abbrev pub numbered : Version → Format Numbered
-numbered v = seen_as (λ (x : ℕ × Match). record { number = x.0; found = x.1 }) (λ n. (n.number, n.found)) (both (number w64) (match_ v))
+abbrev pub numbered_match : Version → Format Numbered
+numbered_match v = seen_as (λ (x : ℕ × Match). record { number = x.0; found = x.1 }) (λ n. (n.number, n.found)) (both (number w64) (match_ v))
 
 abbrev pub numbers_ascend : List Numbered → Bool
 numbers_ascend kept = is_sorted nat_cmp (by_number kept)
 
-abbrev pub kept : Version → Format (List Numbered)
-kept v = only numbers_ascend (list (numbered v))
+abbrev pub kept_matches : Version → Format (List Numbered)
+kept_matches v = only numbers_ascend (list (numbered_match v))
 
 abbrev pub state_of : ℕ ⊎ (List Numbered ⊎ ⊥) → PipeState
 state_of (inl passed) = state.Head passed
@@ -86,7 +86,7 @@ seen_by (state.Head passed) = inl passed
 seen_by (state.Tail kept) = inr (inl kept)
 
 abbrev pub pipe_state : Version → Format PipeState
-pipe_state v = seen_as state_of seen_by (case 0 (number w32) (case 1 (kept v) never))
+pipe_state v = seen_as state_of seen_by (case 0 (number w32) (case 1 (kept_matches v) never))
 
 abbrev pub book : Version → Format BookCut
 book v = seen_as (λ (x : ℕ × (ℕ × List PipeState)). record { found = x.0; listed = x.1.0; pipes = x.1.1 }) (λ b. (b.found, (b.listed, b.pipes))) (both (number w64) (both (number w64) (list (pipe_state v))))

@@ -84,5 +84,5 @@ module _ (place : (shard line : ℕ) → ℕ) where
   abbrev pub lifted_book : BookCut → BookCut
   lifted_book book = record { found = book.found; listed = book.listed; pipes = map lifted_state book.pipes }
 
-  abbrev pub lifted : Cut → Cut
-  lifted cut = record { head = cut.head; mark = cut.mark; lanes = map lifted_lane cut.lanes; holders = map lifted_holder cut.holders; book = lifted_book cut.book }
+  abbrev pub lifted_cut : Cut → Cut
+  lifted_cut cut = record { head = cut.head; mark = cut.mark; lanes = map lifted_lane cut.lanes; holders = map lifted_holder cut.holders; book = lifted_book cut.book }

@@ -153,9 +153,9 @@ impl Coded for Holders {
 }
 
 impl Coded for Numbered {
-    ghost use Rattle.eql_cut.specs.CutValues.{numbered};
+    ghost use Rattle.eql_cut.specs.CutValues.{numbered_match};
 
-    ghost format = { numbered };
+    ghost format = { numbered_match };
 
     ghost ordered = { λ x. Unit {0} };
 
@@ -192,9 +192,9 @@ fn do_numbers_ascend(kept: &[Numbered]) -> bool
 }
 
 impl Coded for Numbereds {
-    ghost use Rattle.eql_cut.specs.CutValues.{kept};
+    ghost use Rattle.eql_cut.specs.CutValues.{kept_matches};
 
-    ghost format = { kept };
+    ghost format = { kept_matches };
 
     ghost ordered = { λ k. IsTrue (numbers_ascend k) };
 

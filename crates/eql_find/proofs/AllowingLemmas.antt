@@ -18,7 +18,7 @@ use Rattle.eql_cut.specs.declared.cut.Cut.{Cut}
 use Rattle.eql_cut.specs.Domain.{IsCut, kept_by}
 use Rattle.eql_cut.specs.Fitting.{FitsRun}
 use Rattle.eql_cut.specs.Lifting.{LiftedFits, LiftedStands}
-use Rattle.eql_cut.specs.Placing.{IsUnplaced, LinesAscend, lifted, orders_in, place_of}
+use Rattle.eql_cut.specs.Placing.{IsUnplaced, LinesAscend, lifted_cut, orders_in, place_of}
 use Rattle.eql_conductor.specs.Openings.{FitMayBegin}
 use Rattle.eql_resume.specs.Beginnings.{Rest, placed_if, rest_by}
 use Rattle.eql_resume.specs.Finding.{Suits}
@@ -52,7 +52,7 @@ none_ascend (l ∷ ls) all = both (is_sorted nat_cmp l.places) (list_all (is_sor
 
 -- a cut with the places of its lanes has the lanes that began with it
 abbrev pub placed_by : List (List (ℕ × ℕ)) → (unplaced : Bool) → Cut → Cut
-placed_by lists true cut = lifted (place_of lists) cut
+placed_by lists true cut = lifted_cut (place_of lists) cut
 placed_by lists false cut = cut
 
 -- ---- with a cut

@@ -11,7 +11,7 @@ use Rattle.eql_values.specs.declared.cut.Counts.{Counts}
 use Rattle.eql_outside.specs.Outside.{Rose}
 use Rattle.eql_outside.specs.Written.{WroteAll, WroteFront}
 use Rattle.eql_laws.specs.Counting.{greatest_lines}
-use Rattle.eql_stages.specs.Planned.{line_of, planned}
+use Rattle.eql_stages.specs.Planned.{line_of, planned_query}
 use Rattle.eql_words.specs.declared.commands.Find.{Find}
 use Rattle.eql_words.specs.Bounds.{FindIsBounded}
 use Rattle.eql_lane.specs.Slacks.{nanos_of}
@@ -56,12 +56,12 @@ module _ (search : Search) where
   counts_from shard (t ∷ ts) [] h = absurd h
   counts_from shard (t ∷ ts) (l ∷ ls) h = ap₂ (λ (c : Counts) (cs : List Counts). c ∷ cs) h.0 (counts_from (shard + 1) ts ls h.1)
 
-counts_are : {S L : Type 0} (find : Find) (p : Planning) (ts : List (List ℕ)) (lanes : List (LaneView S L)) → planned p.plan ≡ plan_of (search_in find p)
-    → WereRead (line_of (planned p.plan)) (nanos_of find.slack) ts lanes → counts_in lanes ≡ shard_counts_from (search_in find p) 0 ts
+counts_are : {S L : Type 0} (find : Find) (p : Planning) (ts : List (List ℕ)) (lanes : List (LaneView S L)) → planned_query p.plan ≡ plan_of (search_in find p)
+    → WereRead (line_of (planned_query p.plan)) (nanos_of find.slack) ts lanes → counts_in lanes ≡ shard_counts_from (search_in find p) 0 ts
 counts_are find p ts lanes plan were =
     counts_from (search_in find p) 0 ts lanes
     (subst (λ (reads : Reads). CountWhole reads (slack_of (search_in find p)) 0 ts lanes) (ap line_of plan)
-    (subst (λ (slack : Option ℤ). CountWhole (line_of (planned p.plan)) slack 0 ts lanes) (slack_same find.slack) were.counts))
+    (subst (λ (slack : Option ℤ). CountWhole (line_of (planned_query p.plan)) slack 0 ts lanes) (slack_same find.slack) were.counts))
 
 -- ---- what a run says of told texts with which it may begin
 module _ {S L : Type 0} (find : Find) (p : Planning) (told : Option (List (List ℕ))) (lanes mids news : List (LaneView S L)) (rest placed : Rest)
@@ -96,10 +96,10 @@ module _ {S L : Type 0} (find : Find) (p : Planning) (told : Option (List (List 
       (λ ts h. front_of_all (rest_of (search_in find p) rest.book.listed ts) before now
       (subst (λ (n : ℕ). WroteAll (rest_of (search_in find p) n ts) before now) listed_is h))
 
-  module _ (plan : planned p.plan ≡ plan_of (search_in find p))
-      (were : IfSome told (λ ts. StartsSo find p ts mids placed → WereRead (line_of (planned p.plan)) (nanos_of find.slack) ts news)) where
+  module _ (plan : planned_query p.plan ≡ plan_of (search_in find p))
+      (were : IfSome told (λ ts. StartsSo find p ts mids placed → WereRead (line_of (planned_query p.plan)) (nanos_of find.slack) ts news)) where
     pub counted : IfSome told (λ ts. StartsOver told find p lanes rest ts → counts_in news ≡ shard_counts_from (search_in find p) 0 ts)
-    counted = of_started (λ ts. WereRead (line_of (planned p.plan)) (nanos_of find.slack) ts news)
+    counted = of_started (λ ts. WereRead (line_of (planned_query p.plan)) (nanos_of find.slack) ts news)
         (λ ts. counts_in news ≡ shard_counts_from (search_in find p) 0 ts) (λ ts. counts_are find p ts news plan) were
 
     -- a run that is done wrote its listing and its report

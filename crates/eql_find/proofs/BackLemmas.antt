@@ -9,7 +9,7 @@ use Rattle.std.proofs.lemmas.List.{append_assoc}
 use Rattle.eql_outside.specs.Outside.{Rose}
 use Rattle.eql_outside.specs.Faults.{FaultsAreSame, RoseFor, RoseUnder}
 use Rattle.eql_lane.specs.Views.{LaneView}
-use Rattle.eql_find.specs.Lanes.{Returned, SomeSourceFailed, CameBack, returned, lane_returned}
+use Rattle.eql_find.specs.Lanes.{Returned, SomeSourceFailed, CameBack, return_of, lane_returned}
 
 -- what a shelf's counts say once one source comes back
 pub record CameOne (back : Returned) (before now : ℕ) (names names' : List ℕ → ℕ) : Type 0 where
@@ -121,12 +121,12 @@ one_back all left less (Some n) mid now is few first then =
 
 -- a lane's source that comes back
 pub lane_back : {S L : Type 0} (lent_as : S → Option (List ℕ)) (faults : S → ℕ) (source : S) (lane : LaneView S L)
-    → source ≡ lane.source → faults source ≡ lane.state.faults → returned lent_as faults source ≡ lane_returned lent_as lane
+    → source ≡ lane.source → faults source ≡ lane.state.faults → return_of lent_as faults source ≡ lane_returned lent_as lane
 lane_back lent_as faults source lane is count =
     ap₂ (λ (n : Option (List ℕ)) (f : ℕ). record { name = n; faults = f }) (ap lent_as is) count
 
 pub lane_came : {S L : Type 0} (lent_as : S → Option (List ℕ)) (faults : S → ℕ) (source : S) (lane : LaneView S L) (before now : ℕ)
     (names names' : List ℕ → ℕ) → source ≡ lane.source → faults source ≡ lane.state.faults
-    → CameOne (returned lent_as faults source) before now names names' → CameOne (lane_returned lent_as lane) before now names names'
+    → CameOne (return_of lent_as faults source) before now names names' → CameOne (lane_returned lent_as lane) before now names names'
 lane_came lent_as faults source lane before now names names' is count one =
     subst (λ (b : Returned). CameOne b before now names names') (lane_back lent_as faults source lane is count) one

@@ -11,7 +11,7 @@ use Rattle.eql_outside.specs.Plans.{FaultPlan}
 use Rattle.eql_laws.specs.Places.{ReadTo, whole}
 use Rattle.eql_lane.specs.declared.make.LaneStart.{LaneStart}
 use Rattle.eql_lane.specs.declared.make.LaneStart.TheVariants as start
-use Rattle.eql_lane.specs.Lanes.{LaneState, begun, fresh_cut}
+use Rattle.eql_lane.specs.Lanes.{LaneState, beginning_lane, fresh_cut}
 use Rattle.eql_lane.specs.Slacks.{nanos_of}
 use Rattle.eql_lane.specs.Starts.{BeginsAs, MayStart}
 use Rattle.eql_lane.specs.Views.{LaneView}
@@ -36,11 +36,11 @@ same_lists {A = A} (x ∷ xs) (y ∷ ys) n each =
 
 module _ {S L : Type 0} (left lent_as : S → Option (List ℕ)) (faults : S → ℕ) where
   -- the state with which a lane begins
-  from_begun : (cut : LaneCut) (n : ℕ) (lane : LaneView S L) → lane.state ≡ begun cut n → lane.state ≡ begun lane.state.cut lane.state.faults
-  from_begun cut n lane e = e ∙ (λ i. begun (ap LaneState.cut (sym e) i) (ap LaneState.faults (sym e) i))
+  from_begun : (cut : LaneCut) (n : ℕ) (lane : LaneView S L) → lane.state ≡ beginning_lane cut n → lane.state ≡ beginning_lane lane.state.cut lane.state.faults
+  from_begun cut n lane e = e ∙ (λ i. beginning_lane (ap LaneState.cut (sym e) i) (ap LaneState.faults (sym e) i))
 
   made_state : (source : S) (reader : L) (shard : ℕ) (slack : Option ℕ) (b : LaneStart) (lane : LaneView S L)
-      → BeginsAs left lent_as faults source reader shard slack b lane → lane.state ≡ begun lane.state.cut lane.state.faults
+      → BeginsAs left lent_as faults source reader shard slack b lane → lane.state ≡ beginning_lane lane.state.cut lane.state.faults
   made_state source reader shard slack start.Fresh lane made = from_begun fresh_cut (faults source) lane made.state
   made_state source reader shard slack (start.From cut) lane made = from_begun cut (faults source) lane made.state
   made_state source reader shard slack (start.Lift cut wanted) lane made = from_begun _ (faults source) lane made.begins.state

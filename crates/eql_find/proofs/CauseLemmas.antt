@@ -16,7 +16,7 @@ use Rattle.eql_laws.specs.Places.{ReadTo}
 use Rattle.eql_values.specs.Lines.{lines_of}
 use Rattle.eql_cut.specs.declared.cut.Cut.{Cut}
 use Rattle.eql_resume.specs.Beginnings.{Rest}
-use Rattle.eql_resume.specs.Finding.{held}
+use Rattle.eql_resume.specs.Finding.{disk_holding}
 use Rattle.eql_resume.specs.Lifted.{WereLifted}
 use Rattle.eql_runs.specs.Files.{Files, HasTexts, first_missing}
 use Rattle.eql_runs.specs.Runs.{IfFound, IsFindAccepted, Searches, GenerationsEnd, GoesBeyond, IsBeyond, IsNamed, Reaches, ShardLimit, lane_on, many_bytes, many_lines, shard_file, shard_of}
@@ -115,7 +115,7 @@ lifted_at cut shard (r ∷ shards) (k ∷ lanes) (places ∷ lists) h (suc s) ke
 
 beyond_on : {S L : Type 0} (told : Option (List (List ℕ))) (lanes : List (LaneView S L)) (u : Bool) (format generation : ℕ) (o : Option Cut)
     → BeganWith told u o lanes → (limit : ShardLimit) (lane : LaneView S L) → slice_get lanes (shard_of limit) ≡ Some lane → (text : List ℕ)
-    → GoesBeyond limit (Some lane.state.cut) text → GoesBeyond limit (lane_on (held format generation o) (shard_of limit)) text
+    → GoesBeyond limit (Some lane.state.cut) text → GoesBeyond limit (lane_on (disk_holding format generation o) (shard_of limit)) text
 beyond_on told lanes u format generation None began limit lane was text h =
     fresh_limit limit lane.state.cut text (all_at IsFresh lanes (shard_of limit) lane began was).0 h
 beyond_on told lanes false format generation (Some cut) began limit lane was text h =
@@ -132,7 +132,7 @@ module _ {S L : Type 0} (find : Find) (p : Planning) (told : Option (List (List 
     (disk now : Option History) (files : Option Files) (is : IsPlanOf find files p) (lefts : List (Option (List ℕ)))
     (whole : AreWholeFiles find.shards files lefts)
     (format generation : ℕ) (o : Option Cut) (began : BeganWith told (format == 1) o lanes)
-    (start : (on : OnDisk) → (find.checkpoint ≢ None → DiskHolds disk on) → start_for find on ≡ held format generation o)
+    (start : (on : OnDisk) → (find.checkpoint ≢ None → DiskHolds disk on) → start_for find on ≡ disk_holding format generation o)
     (runs : Runs find p told lanes rest disk files) where
   -- of each told run
   of_each : (P : Files → OnDisk → Type 0) → ((fs : Files) (on : OnDisk) → (find.checkpoint ≢ None → DiskHolds disk on)

@@ -10,7 +10,7 @@ use Rattle.eql_words.specs.declared.commands.Find.{Find}
 use Rattle.eql_cut.specs.declared.cut.Cut.{Cut}
 use Rattle.eql_cut.specs.declared.cut.CutHead.{CutHead}
 use Rattle.eql_values.specs.declared.order.Mark.{Mark}
-use Rattle.eql_ckdisk.specs.Found.{Found, IsAt, LastCut, found, next, nothing}
+use Rattle.eql_ckdisk.specs.Found.{Found, IsAt, LastCut, found_on, next, nothing}
 use Rattle.eql_ckdisk.specs.Going.{Steps}
 use Rattle.eql_ckdisk.specs.Keeping.{KeepsAll}
 use Rattle.eql_ckdisk.specs.Putting.{Stands, StandsAt, last_cut}
@@ -20,7 +20,7 @@ use Rattle.eql_conductor.specs.Saving.{PutsCuts}
 use Rattle.eql_runs.specs.RunLaws.{DiskHoldsOne}
 use Rattle.eql_runs.specs.Runs.{GenerationsEnd}
 use Rattle.eql_runs.specs.Starts.{DiskHolds, OnDisk, StandsFor, generation_on}
-use Rattle.eql_resume.specs.Finding.{held}
+use Rattle.eql_resume.specs.Finding.{disk_holding}
 use Rattle.eql_find.specs.declared.halt.RunHalt.{RunHalt}
 use Rattle.eql_find.specs.declared.halt.RunHalt.TheVariants as run
 use Rattle.eql_find.specs.Running.{KeepsIfAsked}
@@ -37,21 +37,21 @@ keeps_asked history None k h = absurd h
 keeps_asked history (Some c) k h = λ gone. none-some c (sym gone)
 
 -- what reads give is what stands there
-stands_seen : ImagesAreThere → (last : LastCut) (m : Moment) → StandsAt last m → IsAt last (found (seen_areas m))
+stands_seen : ImagesAreThere → (last : LastCut) (m : Moment) → StandsAt last m → IsAt last (found_on (seen_areas m))
 stands_seen images last m s = subst (λ (f : Found). IsAt last f) (sym (s.2 (seen_areas m) (images.seen m))) s.1
 
 -- so what stands there has the generation of the last cut, which is 0 where nothing does
 at_nothing : (last : LastCut) (f : Found) → IsAt last f → f ≡ nothing → last.generation ≡ 0
 at_nothing last f at is = subst (λ (x : Found). IsAt last x) is at
 
-generation_at : (last : LastCut) (f : Found) (format generation : ℕ) (o : Option Cut) → StandsFor (held format generation o) f → IsAt last f
-    → generation_on (held format generation o) ≡ last.generation
+generation_at : (last : LastCut) (f : Found) (format generation : ℕ) (o : Option Cut) → StandsFor (disk_holding format generation o) f → IsAt last f
+    → generation_on (disk_holding format generation o) ≡ last.generation
 generation_at last f format generation None stands at = sym (at_nothing last f at stands)
 generation_at last f format generation (Some cut) stands at = (subst (λ (x : Found). IsAt last x) stands.2 at).1
 
 -- what was put is a cut
 put_stands : (last : LastCut) (cuts : List Cut) (x : Found) → FindsOneOf last cuts x
-    → (generation : ℕ) × (cut : Cut) × StandsFor (held 3 generation (Some cut)) x
+    → (generation : ℕ) × (cut : Cut) × StandsFor (disk_holding 3 generation (Some cut)) x
 put_stands last [] x h = absurd h
 put_stands last (cut ∷ cuts) x (inl h) =
     ((next last).generation, cut, ((next last).area, h.0, h.1, text_alone 3 cut h.0 h.2))
@@ -62,45 +62,45 @@ abbrev StartOr : LastCut → List Cut → Moment → Found → Type 0
 StartOr last cuts start x = IsFoundAt start x ⊎ FindsOneOf last cuts x
 
 put_found : ImagesAreThere → (last : LastCut) (cuts : List Cut) (h k : History) → PutsAll last cuts h k
-    → StartOr last cuts h.now (found (seen_areas k.now))
+    → StartOr last cuts h.now (found_on (seen_areas k.now))
 put_found images last cuts h k puts = by puts.0 puts.1
   where
-    by : (n : ℕ) → Steps (KeepsOneOf h.now last cuts) n h k → StartOr last cuts h.now (found (seen_areas k.now))
+    by : (n : ℕ) → Steps (KeepsOneOf h.now last cuts) n h k → StartOr last cuts h.now (found_on (seen_areas k.now))
     by zero steps = inl (seen_areas k.now, subst (λ (j : History). IsImage j.now (seen_areas k.now)) steps (images.seen k.now), refl)
     by (suc n) steps =
         let now : k.now ≡ steps.2 = ap History.now steps.3 in
-        subst (λ (m : Moment). StartOr last cuts h.now (found (seen_areas m))) (sym now) (steps.4.one (seen_areas steps.2) (images.seen steps.2))
+        subst (λ (m : Moment). StartOr last cuts h.now (found_on (seen_areas m))) (sym now) (steps.4.one (seen_areas steps.2) (images.seen steps.2))
 
 -- ---- a run that was found to begin so
 module _ (images : ImagesAreThere) (one : DiskHoldsOne) (find : Find) (begun : Begun) (asked : find.checkpoint ≢ None) where
   -- the disk at its start, and once all that it holds was kept
-  start_seen : (h j : History) → KeepsAll h j → found (seen_areas h.now) ≡ found (seen_areas j.now)
-  start_seen h j kept = ap (λ (m : Moment). found (seen_areas m)) (sym kept.now)
+  start_seen : (h j : History) → KeepsAll h j → found_on (seen_areas h.now) ≡ found_on (seen_areas j.now)
+  start_seen h j kept = ap (λ (m : Moment). found_on (seen_areas m)) (sym kept.now)
 
   ended_by : (last then : LastCut) (cuts : List Cut) (h j k : History) → IsFound find (Some h) begun → KeepsAll h j → StandsAt last j.now
       → PutsAll last cuts j k → StandsAt then k.now → (on : OnDisk) × DiskHolds (Some k) on × (generation_on on ≡ then.generation)
   ended_by last then cuts h j k is kept stands puts now = by (put_found images last cuts j k puts)
     where
-      at : IsAt then (found (seen_areas k.now))
+      at : IsAt then (found_on (seen_areas k.now))
       at = stands_seen images then k.now now
 
-      by : StartOr last cuts j.now (found (seen_areas k.now)) → (on : OnDisk) × DiskHolds (Some k) on × (generation_on on ≡ then.generation)
+      by : StartOr last cuts j.now (found_on (seen_areas k.now)) → (on : OnDisk) × DiskHolds (Some k) on × (generation_on on ≡ then.generation)
       by (inl first) =
-          let first_is : found first.0 ≡ stands.0 = stands.2 first.0 first.1 in
-          let seen_is : found (seen_areas j.now) ≡ stands.0 = stands.2 (seen_areas j.now) (images.seen j.now) in
-          let same : found (seen_areas h.now) ≡ found (seen_areas k.now) = start_seen h j kept ∙ seen_is ∙ sym first_is ∙ sym first.2 in
+          let first_is : found_on first.0 ≡ stands.0 = stands.2 first.0 first.1 in
+          let seen_is : found_on (seen_areas j.now) ≡ stands.0 = stands.2 (seen_areas j.now) (images.seen j.now) in
+          let same : found_on (seen_areas h.now) ≡ found_on (seen_areas k.now) = start_seen h j kept ∙ seen_is ∙ sym first_is ∙ sym first.2 in
           let holds = subst (λ (x : Found). StandsFor (on_begun begun) x) same (is asked) in
-          (on_begun begun, holds, generation_at then (found (seen_areas k.now)) begun.format begun.generation begun.cut holds at)
+          (on_begun begun, holds, generation_at then (found_on (seen_areas k.now)) begun.format begun.generation begun.cut holds at)
       by (inr then_put) =
-          let put = put_stands last cuts (found (seen_areas k.now)) then_put in
-          (held 3 put.0 (Some put.1), put.2, generation_at then (found (seen_areas k.now)) 3 put.0 (Some put.1) put.2 at)
+          let put = put_stands last cuts (found_on (seen_areas k.now)) then_put in
+          (disk_holding 3 put.0 (Some put.1), put.2, generation_at then (found_on (seen_areas k.now)) 3 put.0 (Some put.1) put.2 at)
 
   -- it goes on from the generation of what the disk held at its start
   pub began_by : (last : LastCut) (h j : History) (on : OnDisk) → IsFound find (Some h) begun → KeepsAll h j → StandsAt last j.now
       → DiskHolds (Some h) on → last.generation ≡ generation_on on
   began_by last h j on is kept stands holds =
       let at = subst (λ (x : Found). IsAt last x) (sym (start_seen h j kept)) (stands_seen images last j.now stands) in
-      let own = generation_at last (found (seen_areas h.now)) begun.format begun.generation begun.cut (is asked) at in
+      let own = generation_at last (found_on (seen_areas h.now)) begun.format begun.generation begun.cut (is asked) at in
       sym own ∙ ap generation_on (begun_is one find (Some h) begun on is asked holds)
 
 -- the generations came to their end

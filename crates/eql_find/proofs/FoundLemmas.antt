@@ -10,7 +10,7 @@ use Rattle.eql_words.specs.declared.commands.Find.{Find}
 use Rattle.eql_lane.specs.Views.{LaneView}
 use Rattle.eql_cut.specs.declared.cut.Cut.{Cut}
 use Rattle.eql_resume.specs.Beginnings.{Rest, rest_by}
-use Rattle.eql_resume.specs.Finding.{held}
+use Rattle.eql_resume.specs.Finding.{disk_holding}
 use Rattle.eql_runs.specs.CutRefusals.{IsTested}
 use Rattle.eql_runs.specs.Files.{Files}
 use Rattle.eql_runs.specs.RunLaws.{TestedIsAccepted}
@@ -34,17 +34,17 @@ begins_of find p texts (bad_text area) tested trusted = absurd tested
 
 -- with what a run begins, by its words and its disk
 pub start_is : (find : Find) (format generation : ℕ) (o : Option Cut) (on : OnDisk) → IfSome o (λ cut. find.checkpoint ≢ None)
-    → (find.checkpoint ≢ None → held format generation o ≡ on) → start_for find on ≡ held format generation o
+    → (find.checkpoint ≢ None → disk_holding format generation o ≡ on) → start_for find on ≡ disk_holding format generation o
 start_is find format generation (Some cut) on asked same = begins_asked find.checkpoint on asked ∙ sym (same asked)
 start_is find format generation None on asked same = by find.checkpoint same
   where
-    by : (c : Option Checkpoint) → (c ≢ None → held format generation None ≡ on) → start_asked c on ≡ held format generation None
+    by : (c : Option Checkpoint) → (c ≢ None → disk_holding format generation None ≡ on) → start_asked c on ≡ disk_holding format generation None
     by None same = refl
     by (Some c) same = sym (same (λ gone. none-some c (sym gone)))
 
 -- how many lines of the listing were written before
 listed_is : (p : Planning) (u : Bool) (format generation : ℕ) (o : Option Cut) (rest : Rest) → rest ≡ rest_by (pipes_of p) u o
-    → rest.book.listed ≡ listed_on (held format generation o)
+    → rest.book.listed ≡ listed_on (disk_holding format generation o)
 listed_is p u format generation None rest is = ap (λ (r : Rest). r.book.listed) is
 listed_is p u format generation (Some cut) rest is = ap (λ (r : Rest). r.book.listed) is
 

@@ -16,7 +16,7 @@ use Rattle.eql_lane.specs.declared.make.LaneStart.TheVariants as start
 use Rattle.eql_lane.specs.Passing.{IsCause}
 use Rattle.eql_lane.specs.Starts.{cut_of, wanted_of}
 use Rattle.eql_cut.specs.declared.cut.Cut.{Cut}
-use Rattle.eql_ckdisk.specs.Found.{found}
+use Rattle.eql_ckdisk.specs.Found.{found_on}
 use Rattle.eql_runs.specs.CutRefusals.{CutRefusal, IsTested, NoneIsRefusedBefore, ShardRefuses}
 use Rattle.eql_runs.specs.Files.{Files, HasTexts}
 use Rattle.eql_runs.specs.RunLaws.{DiskHoldsOne, FitsAtAnySpan}
@@ -37,7 +37,7 @@ use Rattle.eql_find.proofs.TextLemmas.{begins_asked, searches_in, some_at, sourc
 pub begun_is : DiskHoldsOne → (find : Find) (disk : Option History) (begun : Begun) (on : OnDisk) → IsFound find disk begun → find.checkpoint ≢ None
     → DiskHolds disk on → on_begun begun ≡ on
 begun_is law find None begun on is asked holds = absurd holds
-begun_is law find (Some h) begun on is asked holds = law (found (seen_areas h.now)) (on_begun begun) on (is asked) holds
+begun_is law find (Some h) begun on is asked holds = law (found_on (seen_areas h.now)) (on_begun begun) on (is asked) holds
 
 -- a lane that begins afresh is refused for no cause but a failure or want of memory
 pub fresh_or_refused : (shard : ℕ) (text : Option (List ℕ)) (before now : ℕ) (why : LaneRefused) (r : CutRefusal)

@@ -12,7 +12,7 @@ use Rattle.eql_outside.specs.Faults.{FaultsAreSame, RoseUnder, RosesAgree}
 use Rattle.eql_outside.specs.Plans.{FaultPlan}
 use Rattle.eql_outside.specs.Unfailing.{IsUnfailing}
 use Rattle.eql_values.specs.declared.cut.LaneCut.{LaneCut}
-use Rattle.eql_lane.specs.Lanes.{LaneState, begun}
+use Rattle.eql_lane.specs.Lanes.{LaneState, beginning_lane}
 use Rattle.eql_lane.specs.Noting.{IsWholeLine}
 use Rattle.eql_lane.specs.Passing.{Finds}
 use Rattle.eql_lane.specs.Starts.{BeginsAs, IsNotMade, cut_of, wanted_of}
@@ -21,7 +21,7 @@ use Rattle.eql_lane.specs.declared.make.LaneRefused.{LaneRefused}
 use Rattle.eql_lane.specs.declared.make.LaneRefused.TheVariants as refused
 use Rattle.eql_lane.specs.declared.make.LaneStart.{LaneStart}
 use Rattle.eql_lane.specs.declared.make.LaneStart.TheVariants as start
-use Rattle.eql_find.specs.Lanes.{IsOver, AreOver, Serves, StopsMakingAt, StopsMaking, CameBack, HaveLanes, StopsAmong, NoSourceFailed, returned, lane_returned}
+use Rattle.eql_find.specs.Lanes.{IsOver, AreOver, Serves, StopsMakingAt, StopsMaking, CameBack, HaveLanes, StopsAmong, NoSourceFailed, return_of, lane_returned}
 use Rattle.eql_find.proofs.BackLemmas.{CameOne}
 
 abbrev is_failed : LaneRefused → Bool
@@ -90,7 +90,7 @@ serves_lift (Some t) cut wanted places f ended =
     }
 
 module _ {S L : Type 0} (left lent_as : S → Option (List ℕ)) (faults : S → ℕ) where
-  fits_in : (o : Option (List ℕ)) (lane : LaneView S L) (cut : LaneCut) (n : ℕ) → lane.state ≡ begun cut n → IsTextOf left o lane
+  fits_in : (o : Option (List ℕ)) (lane : LaneView S L) (cut : LaneCut) (n : ℕ) → lane.state ≡ beginning_lane cut n → IsTextOf left o lane
       → IfSome o (λ t. cut.offset ≤ length t)
   fits_in None lane cut n e text = tt
   fits_in (Some t) lane cut n e text = subst (λ (k : ℕ). k ≤ length t) (ap LaneState.taken e) text.within
@@ -203,7 +203,7 @@ module _ {S L : Type 0} (left lent_as : S → Option (List ℕ)) (faults : S →
       (x back : S) (b : LaneStart) (before now : ℕ) (names names' : List ℕ → ℕ) → rest ≡ x ∷ less → left_over ≡ b ∷ fewer → shard ≡ length lanes
       → HaveLanes left lent_as faults plan read_of reads slack all rest starts left_over lanes → faults x ≡ 0
       → IsNotMade left lent_as faults (cut_of b) (wanted_of b) x why back → (IsUnfailing (plan x) → why ≢ refused.Failed)
-      → CameOne (returned lent_as faults back) before now names names'
+      → CameOne (return_of lent_as faults back) before now names names'
       → StopsAmong left lent_as faults plan read_of reads slack why shard all less starts lanes before now names names'
   halted why all rest less starts left_over fewer lanes shard x back b before now names names' is begins at f none r calm one =
       let parts = f.all_are ∙ ap (λ ys. f.done ++ ys) is in
@@ -257,7 +257,7 @@ all_last P (y ∷ ys) x all = all_last P ys x (All-tail P y (ys ++ x ∷ []) all
 
 -- sources and lanes that didn't fail
 pub none_failed : {S : Type 0} (lent_as : S → Option (List ℕ)) (faults : S → ℕ) (sources : List S)
-    → All (λ source. faults source ≡ 0) sources → NoSourceFailed (map (returned lent_as faults) sources)
+    → All (λ source. faults source ≡ 0) sources → NoSourceFailed (map (return_of lent_as faults) sources)
 none_failed lent_as faults [] all = tt
 none_failed lent_as faults (s ∷ ss) all = (
   All-head (λ source. faults source ≡ 0) s ss all,
@@ -344,7 +344,7 @@ module _ {S L : Type 0} (left lent_as : S → Option (List ℕ)) (faults : S →
       (lanes : List (LaneView S L)) (before mid then now : ℕ) (first between after last : List ℕ → ℕ) → all ≡ sources
       → All (λ source. faults source ≡ 0) sources
       → StopsAmong left lent_as faults plan read_of reads slack why shard all (reverse left_over) starts lanes before mid first between
-      → CameBack (map (returned lent_as faults) left_over) mid then between after
+      → CameBack (map (return_of lent_as faults) left_over) mid then between after
       → CameBack (map (lane_returned lent_as) lanes) then now after last
       → StopsMaking left lent_as faults plan why shard sources starts before now first last
   making_stopped agree why shard sources all left_over starts lanes before mid then now first between after last is fresh halt back others =

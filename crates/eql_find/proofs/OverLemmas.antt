@@ -9,7 +9,7 @@ use Rattle.eql_outside.specs.Plans.{FaultPlan}
 use Rattle.eql_check.specs.Kinds.{kind_at}
 use Rattle.eql_check.specs.Typing.{IsChecked}
 use Rattle.eql_query.specs.QueryTree.{query_tree}
-use Rattle.eql_stages.specs.Planned.{line_of, planned}
+use Rattle.eql_stages.specs.Planned.{line_of, planned_query}
 use Rattle.eql_words.specs.Bounds.{FindIsBounded}
 use Rattle.eql_words.specs.declared.commands.Find.{Find}
 use Rattle.eql_lane.specs.declared.make.LaneRefused.{LaneRefused}
@@ -29,7 +29,7 @@ use Rattle.eql_runs.specs.Runs.{IfFound, RefusesCut}
 use Rattle.eql_runs.specs.Starts.{DiskHolds, OnDisk, start_for}
 use Rattle.eql_inputs.specs.Shards.{AreWholeFiles}
 use Rattle.eql_resume.specs.Beginnings.{LanesBegin, Rest}
-use Rattle.eql_resume.specs.Finding.{Suits, held}
+use Rattle.eql_resume.specs.Finding.{Suits, disk_holding}
 use Rattle.eql_find.specs.declared.halt.RunHalt.{RunHalt}
 use Rattle.eql_find.specs.declared.plan.Planning.{Planning}
 use Rattle.eql_find.specs.Finding.{HasCause, IsPlanOf, texts_told}
@@ -145,19 +145,19 @@ module _ {S L D : Type 0} (left lent_as : S → Option (List ℕ)) (faults : S �
     made_cause _ shard _ before now names names' then err err' stopped unmade = tt
 
   -- ---- all lanes were made
-  module _ (lanes : List (LaneView S L)) (over : AreOver left lent_as faults plan read_of (line_of (planned p.plan)) find.slack 0 sources starts lanes) where
+  module _ (lanes : List (LaneView S L)) (over : AreOver left lent_as faults plan read_of (line_of (planned_query p.plan)) find.slack 0 sources starts lanes) where
     pub lane_count : length lanes ≡ length find.shards
-    lane_count = over_long left lent_as faults plan read_of (line_of (planned p.plan)) find.slack 0 sources starts lanes over ∙ source_count
+    lane_count = over_long left lent_as faults plan read_of (line_of (planned_query p.plan)) find.slack 0 sources starts lanes over ∙ source_count
 
     pub began : BeganWith told (begins.begun.format == 1) begins.begun.cut lanes
     began =
-        began_with left lent_as faults plan read_of (line_of (planned p.plan)) find.slack told (begins.begun.format == 1) begins.begun.cut (length find.shards)
+        began_with left lent_as faults plan read_of (line_of (planned_query p.plan)) find.slack told (begins.begun.format == 1) begins.begun.cut (length find.shards)
         sources starts lanes over begins.lanes (cut_count find p (length lanes) begins.begun.cut lane_count begins.own.suits) lefts_told
 
     texts_by : (o : Option (List (List ℕ))) → IfSome o (λ ts. map left sources ≡ map (λ (t : List ℕ). Some t) ts)
         → IfSome o (λ ts. AreTextsOf left ts lanes)
     texts_by None e = tt
-    texts_by (Some ts) e = texts_over left lent_as faults plan read_of (line_of (planned p.plan)) find.slack 0 sources starts lanes ts over e
+    texts_by (Some ts) e = texts_over left lent_as faults plan read_of (line_of (planned_query p.plan)) find.slack 0 sources starts lanes ts over e
 
     pub run_begins : (history : D → Option History) → KeepsIfAsked history find.checkpoint keep
         → BeginsRun left read_of history told find p lanes rest head keep
@@ -168,7 +168,7 @@ module _ {S L D : Type 0} (left lent_as : S → Option (List ℕ)) (faults : S �
       checked = checked_told;
       texts_of = texts_by told lefts_told;
       many = lane_count;
-      are_begun = are_begun left lent_as faults plan read_of (line_of (planned p.plan)) find.slack 0 sources starts lanes over;
+      are_begun = are_begun left lent_as faults plan read_of (line_of (planned_query p.plan)) find.slack 0 sources starts lanes over;
       began = began;
       rest_is = begins.rest_is;
       head_is = begins.head_is;
@@ -178,7 +178,7 @@ module _ {S L D : Type 0} (left lent_as : S → Option (List ℕ)) (faults : S �
 
     -- what it begins with is what its disk holds
     pub start_on : DiskHoldsOne → (on : OnDisk) → (find.checkpoint ≢ None → DiskHolds disk on)
-        → start_for find on ≡ held begins.begun.format begins.begun.generation begins.begun.cut
+        → start_for find on ≡ disk_holding begins.begun.format begins.begun.generation begins.begun.cut
     start_on one on holds =
         start_is find begins.begun.format begins.begun.generation begins.begun.cut on begins.own.asked
         (λ asked. begun_is one find disk begins.begun on begins.is_found asked (holds asked))
@@ -196,4 +196,4 @@ module _ {S L D : Type 0} (left lent_as : S → Option (List ℕ)) (faults : S �
             (λ asked. begun_is one find disk begins.begun on begins.is_found asked (holds asked))
             (made_tested left lent_as faults plan spans one find p bounds fs plan_of disk begins.begun.format begins.begun.generation all.texts all.there
             sources all.lefts_are starts begins.begun.cut on begins.is_found begins.own begins.lanes
-            (over_serve left lent_as faults plan read_of (line_of (planned p.plan)) find.slack 0 sources starts lanes over) holds)
+            (over_serve left lent_as faults plan read_of (line_of (planned_query p.plan)) find.slack 0 sources starts lanes over) holds)

@@ -25,7 +25,7 @@ use Rattle.eql_runs.specs.Runs.{IsPut, KeepsCuts, Searches, Trusts, WroteCounted
 use Rattle.eql_runs.specs.Searches.{Search, matches_of}
 use Rattle.eql_runs.specs.Starts.{DiskHolds, IsCutOf, IsHeadOf, IsTrusted, OnDisk, generation_on, listed_on, mark_on}
 use Rattle.eql_resume.specs.Beginnings.{Rest, rest_by}
-use Rattle.eql_resume.specs.Finding.{held}
+use Rattle.eql_resume.specs.Finding.{disk_holding}
 use Rattle.eql_search.specs.Keeping.{IsLaterCut}
 use Rattle.eql_find.specs.declared.halt.RunHalt.{RunHalt}
 use Rattle.eql_find.specs.declared.plan.Planning.{Planning}
@@ -48,7 +48,7 @@ kept_no_more (Some h) (Some k) kept = kept.going
 
 -- from which mark a run goes on, by what its disk holds
 mark_is : (p : Planning) (u : Bool) (format generation : ℕ) (o : Option Cut) (rest : Rest) → rest ≡ rest_by (pipes_of p) u o
-    → rest.mark ≡ mark_on (held format generation o)
+    → rest.mark ≡ mark_on (disk_holding format generation o)
 mark_is p u format generation None rest is = ap Rest.mark is
 mark_is p u format generation (Some cut) rest is = ap Rest.mark is
 

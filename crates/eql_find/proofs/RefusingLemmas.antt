@@ -22,7 +22,7 @@ use Rattle.eql_cut.specs.declared.cut.Cut.{Cut}
 use Rattle.eql_cut.specs.declared.cut.CutHead.{CutHead}
 use Rattle.eql_cut.specs.Domain.{kept_by}
 use Rattle.eql_cut.specs.Fitting.{run_of as bare_run}
-use Rattle.eql_ckdisk.specs.Found.{found}
+use Rattle.eql_ckdisk.specs.Found.{found_on}
 use Rattle.eql_runs.specs.CutRefusals.{CutRefusal, CutRefuses, FoundRefuses, IsTestedCut, NoneIsRefusedBefore, ShardRefuses, by_found, by_shard, grown, has_no_line, head_damaged, head_differs, is_grown, is_short, is_unfit, no_line, short, text_damaged}
 use Rattle.eql_runs.specs.Files.{Files}
 use Rattle.eql_runs.specs.RunLaws.{DiskHoldsOne, FitsAtAnySpan}
@@ -59,13 +59,13 @@ module _ (spans : FitsAtAnySpan) (find : Find) (p : Planning) where
       is_unfit format generation cut is (λ fits. unfit (unspanned head.slack head.shards (kept_by cut) fits))
 
 -- what a disk is told to hold
-holds_one : DiskHoldsOne → (h : History) (on other : OnDisk) → StandsFor on (found (seen_areas h.now)) → DiskHolds (Some h) other → on ≡ other
-holds_one law h on other stands holds = law (found (seen_areas h.now)) on other stands holds
+holds_one : DiskHoldsOne → (h : History) (on other : OnDisk) → StandsFor on (found_on (seen_areas h.now)) → DiskHolds (Some h) other → on ≡ other
+holds_one law h on other stands holds = law (found_on (seen_areas h.now)) on other stands holds
 
 -- ---- a cut that is refused as it was found
 pub refused_found : FitsAtAnySpan → DiskHoldsOne → (find : Find) (p : Planning) (files : Files) (texts : List (List ℕ)) (disk : Option History) (r : CutRefusal)
     → FindIsBounded find → find.checkpoint ≢ None → Searches find files (search_in find p) texts → length texts ≡ length find.shards
-    → IfSome disk (λ h. IsRefusedBy (stages_of p) (values_of p) (pipes_of p) (head_in find p) (found (seen_areas h.now)) r)
+    → IfSome disk (λ h. IsRefusedBy (stages_of p) (values_of p) (pipes_of p) (head_in find p) (found_on (seen_areas h.now)) r)
     → (on : OnDisk) → DiskHolds disk on → RefusesCut find files on r
 refused_found spans law find p files texts None r bounds asked searches many by on holds = absurd holds
 refused_found spans law find p files texts (Some h) r bounds asked searches many by on holds =

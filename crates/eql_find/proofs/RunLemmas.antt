@@ -25,7 +25,7 @@ use Rattle.eql_cut.specs.Placing.{IsUnplaced, LinesAscend, orders_in, place_of}
 use Rattle.eql_conductor.specs.declared.plan.Keep.{Keep}
 use Rattle.eql_conductor.specs.Openings.{FitMayBegin}
 use Rattle.eql_resume.specs.Beginnings.{Rest, placed_if, rest_by}
-use Rattle.eql_resume.specs.Finding.{Suits, held}
+use Rattle.eql_resume.specs.Finding.{Suits, disk_holding}
 use Rattle.eql_runs.specs.Starts.{BeginsWith}
 use Rattle.eql_search.specs.Beginnings.{MayBegin, MayKeepOn, cuts_of, run_by}
 use Rattle.eql_search.specs.Searches.{AreBegun, AreBegunFrom, AreTextsOf, Rules, reads_by, slack_by}
@@ -79,7 +79,7 @@ module _ {S L : Type 0} (laws : BeginLaws) (find : Find) (p : Planning) (bounds 
   starts_at : (ts : List (List ℕ)) (format generation : ℕ) (o : Option Cut) → IfSome o (λ cut. find.checkpoint ≢ None)
       → IfSome o (Suits (stages_of p) (values_of p) (pipes_of p) (head_in find p))
       → IfSome o (λ cut. format ≡ 1 → IsUnplaced (orders_in cut)) → BeganWith (Some ts) (format == 1) o lanes → rest ≡ rest_by (pipes_of p) (format == 1) o
-      → BeginsWith (search_in find p) ts (held format generation o) → StartsSo find p ts lanes (placed_rest rest lanes)
+      → BeginsWith (search_in find p) ts (disk_holding format generation o) → StartsSo find p ts lanes (placed_rest rest lanes)
   starts_at ts format generation None asked suits bare_of began is begins = starts_fresh find p ts lanes (format == 1) rest is
   starts_at ts format generation (Some cut) asked suits bare_of began is begins =
       subst (λ (u : Bool). StartsSo find p ts lanes (placed_if u (place_of (places_in lanes)) rest)) (sym (ap Rest.unplaced is))

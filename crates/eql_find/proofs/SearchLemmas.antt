@@ -15,7 +15,7 @@ use Rattle.eql_laws.specs.Books.{greatest_shards}
 use Rattle.eql_laws.specs.Counting.{IsShardText}
 use Rattle.eql_check.specs.Kinds.{kind_at}
 use Rattle.eql_check.specs.Typing.{IsChecked}
-use Rattle.eql_stages.specs.Planned.{line_of, planned}
+use Rattle.eql_stages.specs.Planned.{line_of, planned_query}
 use Rattle.eql_stages.specs.Stages.{stages_in, span_in}
 use Rattle.eql_words.specs.declared.commands.Find.{Find}
 use Rattle.eql_lane.specs.Slacks.{nanos_of}
@@ -46,8 +46,8 @@ slack_same None = refl
 slack_same (Some ms) = refl
 
 pub rules_are : {S L : Type 0} (read_of : L → Reads) (find : Find) (p : Planning) (lanes : List (LaneView S L)) (stages : ℕ) (span : Option ℤ)
-    → planned p.plan ≡ plan_of (search_in find p) → reads_by read_of lanes ≡ line_of (planned p.plan) → slack_by read_of lanes ≡ nanos_of find.slack
-    → stages ≡ length (stages_in (planned p.plan).query.body) → span ≡ span_in (planned p.plan).query.body
+    → planned_query p.plan ≡ plan_of (search_in find p) → reads_by read_of lanes ≡ line_of (planned_query p.plan) → slack_by read_of lanes ≡ nanos_of find.slack
+    → stages ≡ length (stages_in (planned_query p.plan).query.body) → span ≡ span_in (planned_query p.plan).query.body
     → rules_of read_of stages span lanes ≡ rules_in (search_in find p)
 rules_are read_of find p lanes stages span plan reads slack count is =
     let reads_is : reads_by read_of lanes ≡ reads_of (search_in find p) = reads ∙ ap line_of plan in

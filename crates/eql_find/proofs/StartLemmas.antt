@@ -10,14 +10,14 @@ use Rattle.eql_cut.specs.declared.cut.Cut.{Cut}
 use Rattle.eql_cut.specs.declared.cut.CutHead.{CutHead}
 use Rattle.eql_cut.specs.CutValues.{names_ascend}
 use Rattle.eql_cut.specs.Placing.{IsUnplaced, orders_in}
-use Rattle.eql_ckdisk.specs.Found.{found}
+use Rattle.eql_ckdisk.specs.Found.{found_on}
 use Rattle.eql_ckdisk.specs.Going.{Goes}
 use Rattle.eql_ckdisk.specs.Keeping.{LeavesNoMore}
 use Rattle.eql_ckdisk.specs.Putting.{last_cut}
 use Rattle.eql_conductor.specs.declared.plan.Keep.{Keep}
 use Rattle.eql_runs.specs.Starts.{StandsFor}
 use Rattle.eql_resume.specs.Beginnings.{LanesBegin, Rest, rest_by}
-use Rattle.eql_resume.specs.Finding.{Suits, held}
+use Rattle.eql_resume.specs.Finding.{Suits, disk_holding}
 use Rattle.eql_find.specs.declared.plan.Planning.{Planning}
 use Rattle.eql_find.specs.Searching.{head_in}
 use Rattle.eql_find.specs.Starting.{BeginsOnDisk, pipes_of, stages_of, values_of}
@@ -41,7 +41,7 @@ module _ (find : Find) (p : Planning) where
   pub begins_on : {D : Type 0} (disk : Option History) (head : CutHead) (keep : Keep D) (stages values : ℕ) (pipes : List Pipe) (format : ℕ)
       (cut : Option Cut) (unplaced : Bool) (starts : List LaneStart) (rest : Rest) → find.checkpoint ≢ None → head ≡ head_in find p
       → IsTrue (names_ascend p.mapping) → stages ≡ stages_of p → values ≡ values_of p → pipes ≡ pipes_of p → unplaced ≡ (format == 1)
-      → IfSome disk (λ h. StandsFor (held format (last_cut keep.state).generation cut) (found (seen_areas h.now)))
+      → IfSome disk (λ h. StandsFor (disk_holding format (last_cut keep.state).generation cut) (found_on (seen_areas h.now)))
       → IfSome cut (Suits stages values pipes head) → IfSome cut (λ x. format ≡ 1 → IsUnplaced (orders_in x))
       → LanesBegin cut unplaced head.shards starts → rest ≡ rest_by pipes unplaced cut → BeginsOnDisk find p disk head (Some keep) starts rest
   begins_on disk head keep stages values pipes format cut unplaced starts rest asked is names s v ps u stands suits placed lanes rest_is = record {

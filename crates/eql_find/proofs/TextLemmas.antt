@@ -11,7 +11,7 @@ use Rattle.eql_outside.specs.Outside.{file_named}
 use Rattle.eql_outside.specs.Plans.{FaultPlan}
 use Rattle.eql_check.specs.Kinds.{kind_at}
 use Rattle.eql_query.specs.QueryTree.{query_tree}
-use Rattle.eql_stages.specs.Planned.{PlanOf, Planned, planned}
+use Rattle.eql_stages.specs.Planned.{PlanOf, Planned, planned_query}
 use Rattle.eql_check.specs.Checks.{CheckedQuery}
 use Rattle.eql_check.specs.Used.{used_fields}
 use Rattle.eql_inputs.specs.Steps.{GotChecked}
@@ -37,7 +37,7 @@ parts_of x y xs ys e = (cc, cc)
 
 -- ---- the search
 -- it is planned as the plan says
-pub plan_is : (find : Find) (files : Option Files) (p : Planning) → IsPlanOf find files p → planned p.plan ≡ plan_of (search_in find p)
+pub plan_is : (find : Find) (files : Option Files) (p : Planning) → IsPlanOf find files p → planned_query p.plan ≡ plan_of (search_in find p)
 plan_is find files p is =
     ap₂ (λ (f : List (List ℕ × FieldKind)) (t : Option (List ℕ)). let d : Planned = record { query = query_tree p.plan.checked.query; fields = f; tie = t } in d) is.fields is.tie
 

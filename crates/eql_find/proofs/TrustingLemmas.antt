@@ -11,7 +11,7 @@ use Rattle.eql_cut.specs.declared.cut.Cut.{Cut}
 use Rattle.eql_cut.specs.Domain.{kept_by}
 use Rattle.eql_cut.specs.Placing.{IsUnplaced, orders_in, place_of}
 use Rattle.eql_conductor.specs.Openings.{IsCutOfTexts}
-use Rattle.eql_placed.specs.Placed.{placed}
+use Rattle.eql_placed.specs.Placed.{cut_at_places}
 use Rattle.eql_resume.specs.Beginnings.{Rest, placed_if, rest_by}
 use Rattle.eql_resume.specs.Finding.{Suits}
 use Rattle.eql_runs.specs.Searches.{pipes_of as search_pipes, reads_of}
@@ -28,11 +28,11 @@ module _ {S L : Type 0} (laws : BeginLaws) (find : Find) (p : Planning) (bounds 
     (suits : Suits (stages_of p) (values_of p) (pipes_of p) cut.head cut) (unplaced : format ≡ 1 → IsUnplaced (orders_in cut))
     (slack_is : cut.head.slack ≡ slack_told find.slack) (many : length lanes ≡ length cut.lanes) where
   -- the cut with the places that the lanes found is the one that is meant
-  meant : (u : Bool) → BeganWith (Some ts) u (Some cut) lanes → placed_by (places_in lanes) u cut ≡ (if u then placed ts cut else cut)
+  meant : (u : Bool) → BeganWith (Some ts) u (Some cut) lanes → placed_by (places_in lanes) u cut ≡ (if u then cut_at_places ts cut else cut)
   meant false began = refl
   meant true began =
       (lifted_as laws find p bounds (Some ts) lanes format cut asked suits unplaced slack_is many began).placed_is
-      ∙ ap (λ (xs : List (List ℕ)). placed xs cut) began.texts_are
+      ∙ ap (λ (xs : List (List ℕ)). cut_at_places xs cut) began.texts_are
 
   -- it is one of the texts
   cut_is : (c : Cut) → IsCutOf (search_in find p) cut.head.slack ts c → cuts_of lanes ≡ c.lanes
@@ -46,7 +46,7 @@ module _ {S L : Type 0} (laws : BeginLaws) (find : Find) (p : Planning) (bounds 
       subst (λ (o : Option ℤ). IsSomeAnd o (λ slack. IsCutOfTexts (run_by (rules_in (search_in find p)) (search_pipes (search_in find p)) 0 slack) (reads_of (search_in find p)) ts kept))
       (sym (ap (option_map (λ (n : ℕ). pos (n * 1000000))) (asked_slack find bounds asked) ∙ ap (λ (n : ℕ). Some (pos (n * 1000000))) (sym slack_is))) own
 
-  pub starts_from : (u : Bool) → BeganWith (Some ts) u (Some cut) lanes → IsCutOf (search_in find p) cut.head.slack ts (if u then placed ts cut else cut)
+  pub starts_from : (u : Bool) → BeganWith (Some ts) u (Some cut) lanes → IsCutOf (search_in find p) cut.head.slack ts (if u then cut_at_places ts cut else cut)
       → (rest : Rest) → rest ≡ rest_by (pipes_of p) u (Some cut)
       → (let r = placed_if u (place_of (places_in lanes)) rest in StartsOn (search_in find p) ts r.mark (cuts_of lanes) r.holders r.book)
   starts_from u began is rest rest_is =

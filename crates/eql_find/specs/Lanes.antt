@@ -64,8 +64,8 @@ pub record CameBack (backs : List Returned) (before now : ℕ) (names names' : L
 
 module _ {S : Type 0} (lent_as : S → Option (List ℕ)) (faults : S → ℕ) where
   -- sources as they come back
-  abbrev pub returned : S → Returned
-  returned source = record { name = lent_as source; faults = faults source }
+  abbrev pub return_of : S → Returned
+  return_of source = record { name = lent_as source; faults = faults source }
 
 module _ {S L : Type 0} (lent_as : S → Option (List ℕ)) where
   -- the source of a lane as it comes back

@@ -6,7 +6,7 @@ use Rattle.eql_outside.specs.Moments.{History}
 use Rattle.eql_check.specs.Kinds.{kind_at}
 use Rattle.eql_check.specs.Typing.{IsChecked}
 use Rattle.eql_query.specs.QueryTree.{query_tree}
-use Rattle.eql_stages.specs.Planned.{line_of, planned}
+use Rattle.eql_stages.specs.Planned.{line_of, planned_query}
 use Rattle.eql_words.specs.declared.commands.Checkpoint.{Checkpoint}
 use Rattle.eql_words.specs.declared.commands.Find.{Find}
 use Rattle.eql_lane.specs.Slacks.{nanos_of}
@@ -53,11 +53,11 @@ pub record BeginsRun {S L D : Type 0} (left : S → Option (List ℕ)) (read_of 
     (keep : Option (Keep D)) : Type 0 where
   pub begun : Begun
   pub own : IsOwn find p begun
-  pub plan_is : planned p.plan ≡ plan_of (search_in find p)
+  pub plan_is : planned_query p.plan ≡ plan_of (search_in find p)
   pub checked : IfSome texts (λ ts. IsChecked (kind_at p.mapping) (query_tree p.plan.checked.query))
   pub texts_of : IfSome texts (λ ts. AreTextsOf left ts lanes)
   pub many : length lanes ≡ length find.shards
-  pub are_begun : AreBegunFrom read_of (line_of (planned p.plan)) (nanos_of find.slack) 0 lanes
+  pub are_begun : AreBegunFrom read_of (line_of (planned_query p.plan)) (nanos_of find.slack) 0 lanes
   pub began : BeganWith texts (begun.format == 1) begun.cut lanes
   pub rest_is : rest ≡ rest_by (pipes_of p) (begun.format == 1) begun.cut
   pub head_is : head ≡ head_in find p

@@ -8,7 +8,7 @@ use Rattle.eql_values.specs.declared.order.Mark.{Mark}
 use Rattle.eql_outside.specs.Moments.{History}
 use Rattle.eql_outside.specs.Written.{WroteFront}
 use Rattle.eql_laws.specs.Places.{ReadTo, whole}
-use Rattle.eql_parser.specs.Printed.{printed}
+use Rattle.eql_parser.specs.Printed.{query_shown}
 use Rattle.eql_query.specs.QueryTree.{query_tree}
 use Rattle.eql_stages.specs.Stages.{span_in}
 use Rattle.eql_words.specs.declared.commands.Find.{Find}
@@ -57,7 +57,7 @@ slack_told (Some ms) = ms
 -- what the cuts of a run say of it
 abbrev pub head_in : Find → Planning → CutHead
 head_in find p = record {
-  query = printed (query_tree p.plan.checked.query);
+  query = query_shown (query_tree p.plan.checked.query);
   mapping = p.mapping;
   tie = find.tie;
   slack = slack_told find.slack;

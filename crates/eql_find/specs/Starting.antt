@@ -7,7 +7,7 @@ use Rattle.eql_outside.specs.Moments.{History, DiskTells}
 use Rattle.eql_outside.specs.Outside.{Rose}
 use Rattle.eql_outside.specs.Plans.{FaultPlan}
 use Rattle.eql_check.specs.Conditions.{key_count}
-use Rattle.eql_stages.specs.Planned.{planned}
+use Rattle.eql_stages.specs.Planned.{planned_query}
 use Rattle.eql_stages.specs.Stages.{pipe_of, stages_in}
 use Rattle.eql_words.specs.declared.commands.Find.{Find}
 use Rattle.eql_lane.specs.declared.make.LaneStart.{LaneStart}
@@ -15,7 +15,7 @@ use Rattle.eql_cut.specs.declared.cut.Cut.{Cut}
 use Rattle.eql_cut.specs.declared.cut.CutHead.{CutHead}
 use Rattle.eql_cut.specs.CutValues.{names_ascend}
 use Rattle.eql_cut.specs.Placing.{IsUnplaced, orders_in}
-use Rattle.eql_ckdisk.specs.Found.{found}
+use Rattle.eql_ckdisk.specs.Found.{found_on}
 use Rattle.eql_ckdisk.specs.Keeping.{KeepsAll}
 use Rattle.eql_ckdisk.specs.Putting.{Stands, last_cut}
 use Rattle.eql_conductor.specs.declared.plan.Keep.{Keep}
@@ -25,7 +25,7 @@ use Rattle.eql_inputs.specs.declared.halt.Halt.TheVariants as halt
 use Rattle.eql_resume.specs.declared.finding.StartRefused.{StartRefused}
 use Rattle.eql_resume.specs.declared.finding.StartRefused.TheVariants as by
 use Rattle.eql_resume.specs.Beginnings.{LanesBegin, Rest, rest_by}
-use Rattle.eql_resume.specs.Finding.{IsRefusedBy, Suits, held}
+use Rattle.eql_resume.specs.Finding.{IsRefusedBy, Suits, disk_holding}
 use Rattle.eql_find.specs.declared.halt.CutStop.TheVariants as cut
 use Rattle.eql_find.specs.declared.halt.RunHalt.{RunHalt}
 use Rattle.eql_find.specs.declared.halt.RunHalt.TheVariants as run
@@ -35,13 +35,13 @@ use Rattle.eql_find.specs.Searching.{head_in}
 
 -- ---- what is tested of a cut
 abbrev pub stages_of : Planning → ℕ
-stages_of p = length (stages_in (planned p.plan).query.body)
+stages_of p = length (stages_in (planned_query p.plan).query.body)
 
 abbrev pub values_of : Planning → ℕ
-values_of p = key_count (planned p.plan).query.body
+values_of p = key_count (planned_query p.plan).query.body
 
 abbrev pub pipes_of : Planning → List Pipe
-pipes_of p = map pipe_of (planned p.plan).query.pipes
+pipes_of p = map pipe_of (planned_query p.plan).query.pipes
 
 -- what a run was found to begin with: a cut, where there is one, with its format and its generation
 pub record Begun : Type 0 where
@@ -50,7 +50,7 @@ pub record Begun : Type 0 where
   pub cut : Option Cut
 
 abbrev pub on_begun : Begun → OnDisk
-on_begun begun = held begun.format begun.generation begun.cut
+on_begun begun = disk_holding begun.format begun.generation begun.cut
 
 -- a cut with which a run begins is one of this run, which has a checkpoint, and fits it
 pub record IsOwn (find : Find) (p : Planning) (begun : Begun) : Type 0 where
@@ -60,7 +60,7 @@ pub record IsOwn (find : Find) (p : Planning) (begun : Begun) : Type 0 where
 
 -- with a checkpoint it is what the disk holds
 abbrev pub IsFound : Find → Option History → Begun → Type 0
-IsFound find disk begun = find.checkpoint ≢ None → IfSome disk (λ h. StandsFor (on_begun begun) (found (seen_areas h.now)))
+IsFound find disk begun = find.checkpoint ≢ None → IfSome disk (λ h. StandsFor (on_begun begun) (found_on (seen_areas h.now)))
 
 -- the generation of the last cut of a run that keeps cuts
 abbrev pub generation_kept : {D : Type 0} → Option (Keep D) → Option ℕ
@@ -140,7 +140,7 @@ HasStartCause find p disk (run.Files (halt.Read name)) = ⊥
 HasStartCause find p disk (run.Files halt.Memory) = Unit {0}
 HasStartCause find p disk (run.Cut why) =
     (find.checkpoint ≢ None)
-    × IfSome disk (λ h. IsRefusedBy (stages_of p) (values_of p) (pipes_of p) (head_in find p) (found (seen_areas h.now)) (cut_refusal_of why))
+    × IfSome disk (λ h. IsRefusedBy (stages_of p) (values_of p) (pipes_of p) (head_in find p) (found_on (seen_areas h.now)) (cut_refusal_of why))
 HasStartCause find p disk run.Disk = find.checkpoint ≢ None
 HasStartCause find p disk run.Write = ⊥
 HasStartCause find p disk (run.Limit l) = ⊥

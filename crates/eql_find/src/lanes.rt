@@ -5,9 +5,9 @@ ghost use Rattle.eql_outside.specs.Faults.{FaultsAreSame};
 ghost use Rattle.eql_lane.specs.Slacks.{greatest_slack_ms};
 ghost use Rattle.eql_lane.specs.Starts.{MayStart, IsNotMade, cut_of, wanted_of};
 ghost use Rattle.eql_stages.specs.Judging.{reads_by};
-ghost use Rattle.eql_stages.specs.Planned.{line_of, planned};
+ghost use Rattle.eql_stages.specs.Planned.{line_of, planned_query};
 ghost use Rattle.eql_inputs.specs.Shelves.{KeepsShelf};
-ghost use Rattle.eql_find.specs.Lanes.{AreOver, CameBack, StopsAmong, IsOver, StopsMaking, lane_returned, returned};
+ghost use Rattle.eql_find.specs.Lanes.{AreOver, CameBack, StopsAmong, IsOver, StopsMaking, lane_returned, return_of};
 
 use eql_lane::{Lane, LaneRefused, LaneStart};
 use eql_outside::{Shelf, Source, faults_are_counted_by_name};
@@ -35,7 +35,7 @@ fn lane_over<S: Source>(
     requires slack { IfSome slack (λ ms. ms ≤ greatest_slack_ms) }
     requires start { MayStart start }
     ensures made { IfOk result (IsOver S.left S.lent_as S.fault_count S.fault_plan reads_by
-        (line_of (planned plan.now)) slack shard source start) }
+        (line_of (planned_query plan.now)) slack shard source start) }
     ensures refused { IfErr result (λ refused. IsNotMade S.left S.lent_as S.fault_count
         (cut_of start) (wanted_of start) source refused.0 refused.1) }
     ensures unfailing { IsUnfailing (S.fault_plan source)
@@ -68,7 +68,7 @@ pub(crate) fn give_lanes<H: Shelf>(mut lanes: Vec<Lane<H::Src, PlanReader>>, she
 
 /// Gives sources back.
 pub(crate) fn give_sources<H: Shelf>(mut sources: Vec<H::Src>, shelf: &mut H)
-    ensures back { CameBack (map (returned H.Src.lent_as H.Src.fault_count) sources.items)
+    ensures back { CameBack (map (return_of H.Src.lent_as H.Src.fault_count) sources.items)
         (H.fault_count shelf.old) (H.fault_count shelf.new)
         (H.faults_of shelf.old) (H.faults_of shelf.new) }
     ensures counts { (H.fault_count shelf.old ≤ H.fault_count shelf.new)
@@ -105,10 +105,10 @@ fn fill_lanes<H: Shelf>(
     requires fresh { All (λ source. H.Src.fault_count source ≡ 0) sources.old.items }
     ensures made { OnOk result ((sources.new.items ≡ [])
         × AreOver H.Src.left H.Src.lent_as H.Src.fault_count H.Src.fault_plan reads_by
-        (line_of (planned plan.now)) slack 0
+        (line_of (planned_query plan.now)) slack 0
         (reverse sources.old.items) starts.items lanes.new.items) }
     ensures stopped { IfErr result (λ stop. StopsAmong H.Src.left H.Src.lent_as H.Src.fault_count
-        H.Src.fault_plan reads_by (line_of (planned plan.now)) slack stop.why stop.shard
+        H.Src.fault_plan reads_by (line_of (planned_query plan.now)) slack stop.why stop.shard
         (reverse sources.old.items) (reverse sources.new.items) starts.items lanes.new.items
         (H.fault_count shelf.old) (H.fault_count shelf.new)
         (H.faults_of shelf.old) (H.faults_of shelf.new)) }
@@ -158,7 +158,7 @@ pub(crate) fn make_lanes<H: Shelf>(
     requires slack { IfSome slack (λ ms. ms ≤ greatest_slack_ms) }
     requires fresh { All (λ source. H.Src.fault_count source ≡ 0) sources.items }
     ensures made { IfOk result (λ lanes. AreOver H.Src.left H.Src.lent_as H.Src.fault_count
-        H.Src.fault_plan reads_by (line_of (planned plan.now)) slack 0
+        H.Src.fault_plan reads_by (line_of (planned_query plan.now)) slack 0
         sources.items starts.items lanes.items) }
     ensures stopped { IfErr result (λ stop. StopsMaking H.Src.left H.Src.lent_as
         H.Src.fault_count H.Src.fault_plan stop.why stop.shard sources.items starts.items

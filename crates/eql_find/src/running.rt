@@ -15,7 +15,7 @@ ghost use Rattle.eql_search.specs.Answers.{AreUnfailing as AreLanesUnfailing, Ha
 ghost use Rattle.eql_search.specs.Beginnings.{MayBegin, MayKeepOn, cuts_of};
 ghost use Rattle.eql_search.specs.Keeping.{KeepsOn};
 ghost use Rattle.eql_search.specs.Searches.{AreBegun, AreTextsOf, reads_by, slack_by};
-ghost use Rattle.eql_stages.specs.Planned.{line_of, planned};
+ghost use Rattle.eql_stages.specs.Planned.{line_of, planned_query};
 ghost use Rattle.eql_lane.specs.Slacks.{nanos_of};
 ghost use Rattle.eql_words.specs.Bounds.{FindIsBounded};
 ghost use Rattle.eql_find.specs.Halts.{DiskFollows, ErrFollows, IsFault, IsReport, OutFollows, TellsNothing};
@@ -124,10 +124,10 @@ fn search_lanes<
     requires texts { IfSome told (λ texts. AreTextsOf S.left texts lanes.old.items) }
     requires begun { AreBegun ⟦<PlanReader as LineReader>⟧.read_of lanes.old.items }
     requires reads { reads_by ⟦<PlanReader as LineReader>⟧.read_of lanes.old.items
-        ≡ line_of (planned planning.now.plan) }
+        ≡ line_of (planned_query planning.now.plan) }
     requires slack { slack_by ⟦<PlanReader as LineReader>⟧.read_of lanes.old.items
         ≡ nanos_of find.now.slack }
-    requires plan { planned planning.now.plan ≡ plan_of (search_in find.now planning.now) }
+    requires plan { planned_query planning.now.plan ≡ plan_of (search_in find.now planning.now) }
     requires checked { IfSome told (λ _. IsChecked (kind_at planning.now.mapping)
         (query_tree planning.now.plan.checked.query)) }
     requires pipes { FitsPipes (pipes_of planning.now) rest.book }
@@ -148,7 +148,7 @@ fn search_lanes<
     ensures read { OnOk result (IfSome told (λ texts.
         StartsOn (search_in find.now planning.now) texts rest.mark (cuts_of lanes.old.items)
         rest.holders rest.book
-        → WereRead (line_of (planned planning.now.plan)) (nanos_of find.now.slack)
+        → WereRead (line_of (planned_query planning.now.plan)) (nanos_of find.now.slack)
         texts lanes.new.items)) }
     ensures keeps { KeepsOn D.history head rest.mark
         (λ cuts. IfSome told (λ texts.

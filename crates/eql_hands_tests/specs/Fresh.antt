@@ -1,7 +1,7 @@
 -- Lanes of which nothing was read.
 use Rattle.std.specs.Prelude.{◌≡◌, ℕ, List, [], ◌∷◌, None}
 use Rattle.eql_values.specs.Accepted.{Reads}
-use Rattle.eql_lane.specs.Lanes.{begun, fresh_cut}
+use Rattle.eql_lane.specs.Lanes.{beginning_lane, fresh_cut}
 use Rattle.eql_lane.specs.Views.{LaneView}
 
 module _ {S L : Type 0} (read_of : L → Reads) where
@@ -11,7 +11,7 @@ module _ {S L : Type 0} (read_of : L → Reads) where
     pub slack_is : lane.slack ≡ None
     pub reads_are : read_of lane.reader ≡ reads
     pub cut_is : lane.state.cut ≡ fresh_cut
-    pub state_is : lane.state ≡ begun lane.state.cut lane.state.faults
+    pub state_is : lane.state ≡ beginning_lane lane.state.cut lane.state.faults
 
   -- two such lanes by one reading, of the shards 0 and 1
   pub record AreTwo (lanes : List (LaneView S L)) : Type 0 where

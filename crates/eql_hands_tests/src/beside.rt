@@ -1,7 +1,7 @@
 //! A search whose hands have to play steps: two shards of which each is read only once the other one is asked too.
 ghost use Rattle.std.specs.Prelude.{◌≡◌, All, IfOk, None, length, true};
 ghost use Rattle.eql_book.specs.Laws.{fresh_cut};
-ghost use Rattle.eql_stages.specs.Planned.{line_of, planned};
+ghost use Rattle.eql_stages.specs.Planned.{line_of, planned_query};
 ghost use Rattle.eql_hands_tests.specs.Fresh.{AreTwo};
 
 use crate::meeting::{Flag, MeetingSource};

@@ -1,6 +1,6 @@
 //! Lanes of which nothing was read, and parts on which nothing is pending.
 ghost use Rattle.std.specs.Prelude.{◌≡◌, ◌≤◌, IfOk, None, length};
-ghost use Rattle.eql_stages.specs.Planned.{line_of, planned};
+ghost use Rattle.eql_stages.specs.Planned.{line_of, planned_query};
 ghost use Rattle.eql_hands_tests.specs.Fresh.{IsFreshLane};
 
 use eql_auto::Steps;
@@ -35,7 +35,7 @@ pub(crate) fn fresh_lane<S: Source + Drop>(
     shard: u32,
 ) -> Result<Lane<S, PlanReader>, Fail>
     ensures { IfOk result (IsFreshLane ⟦<PlanReader as LineReader>⟧.read_of
-        (line_of (planned plan.now)) shard) }
+        (line_of (planned_query plan.now)) shard) }
 {
     let reader = PlanReader::new(alloc, plan)?;
     match Lane::make(alloc, source, reader, shard, None, LaneStart::Fresh) {

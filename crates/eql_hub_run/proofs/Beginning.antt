@@ -7,7 +7,7 @@ use Rattle.eql_values.specs.Accepted.{Reads}
 use Rattle.eql_outside.specs.Moments.{History}
 use Rattle.eql_outside.specs.Plans.{FaultPlan}
 use Rattle.eql_laws.specs.Belows.{IsReading}
-use Rattle.eql_lane.specs.Lanes.{LaneState, Setting, begun, fresh_cut}
+use Rattle.eql_lane.specs.Lanes.{LaneState, Setting, beginning_lane, fresh_cut}
 use Rattle.eql_lane.specs.Views.{LaneView}
 use Rattle.eql_parts.specs.PartSteps.{PartView}
 use Rattle.eql_book.specs.Books.{BookState}
@@ -74,7 +74,7 @@ same_rules None = refl
 same_rules (Some part) = refl
 
 abbrev pub state_in : {S L : Type 0} → Option (LaneView S L) → LaneState
-state_in None = begun fresh_cut 0
+state_in None = beginning_lane fresh_cut 0
 state_in (Some lane) = lane.state
 
 module _ {S L : Type 0} (left lent_as : S → Option (List ℕ)) (fault_plan : S → Option FaultPlan) (read_of : L → Reads) (text : ℕ → Option (List ℕ))

@@ -4,9 +4,9 @@ use Rattle.std.specs.Prelude.{All, filter, not, slice_get}
 use Rattle.std.specs.List.{sum_by}
 use Rattle.std.proofs.lemmas.List.Elements.{All-head, All-tail}
 use Rattle.std.proofs.lemmas.List.Sums.{sum_by-cons}
-use Rattle.eql_laws.specs.Apart.{joined}
+use Rattle.eql_laws.specs.Apart.{joined_lists}
 use Rattle.eql_laws.specs.Counting.{greatest_bytes, greatest_lines}
-use Rattle.eql_lane.specs.Lanes.{LaneState, begun, fresh_cut}
+use Rattle.eql_lane.specs.Lanes.{LaneState, beginning_lane, fresh_cut}
 use Rattle.eql_turn_lock.specs.declared.view.Ended.{Ended}
 use Rattle.eql_turn_lock.specs.declared.view.View.{View}
 use Rattle.eql_turn_lock.specs.Calls.{Closes}
@@ -50,20 +50,20 @@ both_kinds [] = refl
 both_kinds (n ∷ notes) = let a = both_kinds notes in let b = parted_one (is_turn n) n (filter is_turn notes) (filter (λ (m : Note). not (is_turn m)) notes) in omega (arith, a, b)
 
 -- four in each round
-lengths_to : (lists : List (List Note)) → All (λ (list : List Note). length list ≤ 4) lists → length (joined lists) ≤ 4 * length lists
+lengths_to : (lists : List (List Note)) → All (λ (list : List Note). length list ≤ 4) lists → length (joined_lists lists) ≤ 4 * length lists
 lengths_to [] four = omega arith
 lengths_to (list ∷ lists) four =
     let a = lengths_to lists (All-tail (λ (l : List Note). length l ≤ 4) list lists four) in
     let b = All-head (λ (l : List Note). length l ≤ 4) list lists four in
-    let c = length-append list (joined lists) in
+    let c = length-append list (joined_lists lists) in
     omega (arith, a, b, c)
 
-others_to : (lists : List (List Note)) → All (λ (list : List Note). others_in list ≤ 4) lists → others_in (joined lists) ≤ 4 * length lists
+others_to : (lists : List (List Note)) → All (λ (list : List Note). others_in list ≤ 4) lists → others_in (joined_lists lists) ≤ 4 * length lists
 others_to [] four = omega arith
 others_to (list ∷ lists) four =
     let a = others_to lists (All-tail (λ (l : List Note). others_in l ≤ 4) list lists four) in
     let b = All-head (λ (l : List Note). others_in l ≤ 4) list lists four in
-    let c = filter_both (λ (m : Note). not (is_turn m)) list (joined lists) in
+    let c = filter_both (λ (m : Note). not (is_turn m)) list (joined_lists lists) in
     omega (arith, a, b, c)
 
 pub lane_grew : (rounds : ℕ) (new : List Note) → GrewInRounds (λ (list : List Note). length list) rounds [] new → length new ≤ 4 * rounds
@@ -100,7 +100,7 @@ module _ (old new : Known) (began : ℕ → LaneState) (begins : BeganWith began
     (some : (s : ℕ) → s < old.lanes → (x : LaneState) × new.lane s x) (rounds : ℕ) (bounded : RunIsBounded rounds old new) where
   abbrev now_by : (s : ℕ) → (s < old.lanes) ⊎ (old.lanes ≤ s) → LaneState
   now_by s (inl l) = (some s l).0
-  now_by s (inr l) = begun fresh_cut 0
+  now_by s (inr l) = beginning_lane fresh_cut 0
 
   abbrev now : ℕ → LaneState
   now s = now_by s (below_or s old.lanes)

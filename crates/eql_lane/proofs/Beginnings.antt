@@ -9,7 +9,7 @@ use Rattle.eql_values.specs.declared.item.Item.{Item}
 use Rattle.eql_values.specs.declared.cut.LaneCut.{LaneCut}
 use Rattle.eql_values.specs.declared.reader.LineGot.{LineGot}
 use Rattle.eql_values.specs.declared.reader.LineGot.TheVariants as got
-use Rattle.eql_values.specs.Accepted.{Reads, readable, accepted, placed_at, event_at}
+use Rattle.eql_values.specs.Accepted.{Reads, readable, accepted_items, placed_at, event_at}
 use Rattle.eql_values.specs.Lines.{Line, lines_of, numbered_lines, lines_in}
 use Rattle.eql_values.specs.Marks.{is_below}
 use Rattle.eql_laws.specs.Belows.{IsReading}
@@ -18,7 +18,7 @@ use Rattle.eql_laws.specs.Lanes.{lane_at}
 use Rattle.eql_laws.specs.Places.{ReadTo, whole, is_line_end}
 use Rattle.eql_laws.proofs.BelowLemmas.{All-sorted, All-accepted}
 use Rattle.eql_laws.proofs.Elements.{All-filter_map}
-use Rattle.eql_lane.specs.Lanes.{Setting, begun}
+use Rattle.eql_lane.specs.Lanes.{Setting, beginning_lane}
 use Rattle.eql_lane.specs.Views.{LaneView, IsTextOf}
 use Rattle.eql_lane.specs.Noting.{place_among, line_place, placed_item, placed_cut, unplaced_cut, whole_lines, Locates}
 use Rattle.eql_lane.specs.Passing.{PassesOver, IsEnd, Finds}
@@ -31,10 +31,10 @@ use Rattle.eql_lane.proofs.NoteLemmas.{place_stays}
 -- ---- a lane behind an offset
 module _ {S L : Type 0} (left lent_as : S → Option (List ℕ)) (fault_count : S → ℕ) (source back : S) (reader : L) (shard : ℕ) (slack : Option ℤ) (cut : LaneCut) (places : List (ℕ × ℕ))
     (passed : PassesOver left lent_as cut.offset source back) (ended : cut.closed ≡ true → IsEnd left back) (steady : fault_count back ≡ fault_count source) where
-  pub begins_of : (lane : LaneView S L) → lane ≡ record { source = back; reader = reader; shard = shard; slack = slack; buffer = record { long = None; unread = [] }; places = places; state = begun cut (fault_count back) }
+  pub begins_of : (lane : LaneView S L) → lane ≡ record { source = back; reader = reader; shard = shard; slack = slack; buffer = record { long = None; unread = [] }; places = places; state = beginning_lane cut (fault_count back) }
       → Begins left lent_as fault_count source reader shard slack cut places lane
   begins_of lane e = record {
-    state = ap (λ (v : LaneView S L). v.state) e ∙ ap (begun cut) steady;
+    state = ap (λ (v : LaneView S L). v.state) e ∙ ap (beginning_lane cut) steady;
     reader_is = ap (λ (v : LaneView S L). v.reader) e;
     shard_is = ap (λ (v : LaneView S L). v.shard) e;
     slack_is = ap (λ (v : LaneView S L). v.slack) e;
@@ -48,7 +48,7 @@ module _ {S L : Type 0} (left lent_as : S → Option (List ℕ)) (fault_count : 
 module _ {S L : Type 0} (left lent_as : S → Option (List ℕ)) (fault_count : S → ℕ) (source back : S) (reader : L) (shard : ℕ) (slack : Option ℤ) (cut : LaneCut) (wanted : List ℕ) (places : List (ℕ × ℕ))
     (passed : PassesOver left lent_as cut.offset source back) (ended : cut.closed ≡ true → IsEnd left back) (steady : fault_count back ≡ fault_count source) (finds : Finds (left source) cut.offset wanted places) where
   pub lifts_of : (set_anew : LaneCut) → set_anew ≡ placed_cut finds.first cut → (lane : LaneView S L)
-      → lane ≡ record { source = back; reader = reader; shard = shard; slack = slack; buffer = record { long = None; unread = [] }; places = places; state = begun set_anew (fault_count back) }
+      → lane ≡ record { source = back; reader = reader; shard = shard; slack = slack; buffer = record { long = None; unread = [] }; places = places; state = beginning_lane set_anew (fault_count back) }
       → Lifts left lent_as fault_count source reader shard slack cut wanted lane
   lifts_of set_anew same lane e =
       let kept : places ≡ lane.places = sym (ap (λ (v : LaneView S L). v.places) e) in
@@ -56,7 +56,7 @@ module _ {S L : Type 0} (left lent_as : S → Option (List ℕ)) (fault_count : 
         finds = record { first = finds.first; rest = finds.rest; count = finds.count; told = finds.told; located = subst (Locates finds.first finds.rest wanted) kept finds.located };
         begins = subst (λ (l : List (ℕ × ℕ)). Begins left lent_as fault_count source reader shard slack (placed_cut finds.first cut) l lane) kept
             (begins_of left lent_as fault_count source back reader shard slack (placed_cut finds.first cut) places passed ended steady lane
-            (e ∙ ap (λ (k : LaneCut). let v : LaneView S L = record { source = back; reader = reader; shard = shard; slack = slack; buffer = record { long = None; unread = [] }; places = places; state = begun k (fault_count back) } in v) same));
+            (e ∙ ap (λ (k : LaneCut). let v : LaneView S L = record { source = back; reader = reader; shard = shard; slack = slack; buffer = record { long = None; unread = [] }; places = places; state = beginning_lane k (fault_count back) } in v) same));
       }
 
 -- ---- events at the places of their lines
@@ -90,8 +90,8 @@ event_placed reads shard text reading line there (got.Item item) e = ap (line_pl
 
 held_placed : (reads : Reads) (slack : Option ℤ) (shard : ℕ) (text : List ℕ) (mark : Mark) → IsReading reads → All (IsPlaced text) (held_back reads slack shard text mark)
 held_placed reads slack shard text mark reading =
-    All-sorted (IsPlaced text) (filter (λ item. not (is_below mark item)) (accepted reads slack shard text))
-    (All-filter (λ item. not (is_below mark item)) (IsPlaced text) (accepted reads slack shard text)
+    All-sorted (IsPlaced text) (filter (λ item. not (is_below mark item)) (accepted_items reads slack shard text))
+    (All-filter (λ item. not (is_below mark item)) (IsPlaced text) (accepted_items reads slack shard text)
     (All-accepted (IsPlaced text) slack [] (readable reads shard (lines_in text))
     (All-filter_map (AtPlace (lines_in text)) (IsPlaced text) (λ (line : Line). event_at line.at (reads shard line.number line.bytes))
     (λ line there. event_placed reads shard text reading line there (reads shard line.number line.bytes) refl) (lines_in text) (all_placed 1 0 (lines_of text)))))
@@ -117,7 +117,7 @@ lifted_cut set mark place cut reading e =
 
 pub lifted_is : CutsBegin → LiftedIs
 lifted_is begins set mark place faults cut reading is safe e =
-    subst (λ (k : LaneCut). LaneIs set (whole place) mark (begun k faults)) (sym (lifted_cut set mark place cut reading e)) (begins set mark place faults is safe)
+    subst (λ (k : LaneCut). LaneIs set (whole place) mark (beginning_lane k faults)) (sym (lifted_cut set mark place cut reading e)) (begins set mark place faults is safe)
 
 -- ---- whole lines
 same_place : (first rest : List ℕ) → IsTrue (is_line_end first rest) → (number : ℕ) → 1 ≤ number → number ≤ length (lines_of first) → line_place (first ++ rest) number ≡ line_place first number

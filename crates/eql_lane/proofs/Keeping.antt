@@ -6,7 +6,7 @@ use Rattle.eql_values.specs.declared.order.Mark.{Mark}
 use Rattle.eql_values.specs.declared.order.Mark.TheVariants.{Start, At, End}
 use Rattle.eql_values.specs.declared.item.Item.{Item}
 use Rattle.eql_values.specs.declared.cut.LaneCut.{LaneCut}
-use Rattle.eql_values.specs.Accepted.{readable, accepted, sorted_items}
+use Rattle.eql_values.specs.Accepted.{readable, accepted_items, sorted_items}
 use Rattle.eql_values.specs.Lines.{lines_in}
 use Rattle.eql_values.specs.Marks.{mark_cmp, is_below, low_of}
 use Rattle.std.specs.Ordering.{is_le, int_cmp}
@@ -62,8 +62,8 @@ module _ (set : Setting) (mark : Mark) (place : ReadTo) (is_place : IsPlace plac
       (subst (λ (c : Bool). IsAtMost mark (low_of c set.slack (best_of (readable set.reads set.shard (lines_in place.first))))) is_open safe)
   held_more [] rest parts true was =
       ap (λ (l : List ℕ). held_back set.reads set.slack set.shard l mark) (append-nil place.first)
-      ∙ ap sorted_items (sym (append-nil (filter (λ item. not (is_below mark item)) (accepted set.reads set.slack set.shard place.first))))
-      ∙ sym (sorted_with_more (filter (λ item. not (is_below mark item)) (accepted set.reads set.slack set.shard place.first)) [])
+      ∙ ap sorted_items (sym (append-nil (filter (λ item. not (is_below mark item)) (accepted_items set.reads set.slack set.shard place.first))))
+      ∙ sym (sorted_with_more (filter (λ item. not (is_below mark item)) (accepted_items set.reads set.slack set.shard place.first)) [])
   held_more (x ∷ more) rest parts true was = let e = sym parts ∙ is_place.at_end was in cc
 
   safe_more : (more : List ℕ) (closed now : Bool) → place.closed ≡ closed → (closed ≡ true → now ≡ true) → IsTrue (is_line_end place.first more)
@@ -192,13 +192,13 @@ module _ (set : Setting) (text : List ℕ) (from : Mark) (old : LaneState) (item
   place = is.place
 
   abbrev kept : List Item
-  kept = filter (λ item. not (is_below from item)) (accepted set.reads set.slack set.shard place.first)
+  kept = filter (λ item. not (is_below from item)) (accepted_items set.reads set.slack set.shard place.first)
 
   held_is : old.cut.items ≡ held_back set.reads set.slack set.shard place.first from
   held_is = ap (λ (cut : LaneCut). cut.items) is.cut
 
   -- what is handed out is so by the text that was read
-  handed_is : items ≡ sorted_items (from_to from bound (accepted set.reads set.slack set.shard place.first))
+  handed_is : items ≡ sorted_items (from_to from bound (accepted_items set.reads set.slack set.shard place.first))
   handed_is = step.items_are ∙ ap (filter (is_below bound)) held_is ∙ (sorted_below bound kept).0
 
   given_is : IsAtMost new.given (greater from bound)
@@ -215,7 +215,7 @@ module _ (set : Setting) (text : List ℕ) (from : Mark) (old : LaneState) (item
       let mark : greater from bound ≡ bound = ap (λ (c : Bool). cond c bound from) le in
       record {
         items_are = handed_is ∙ ap sorted_items (sym (late_between set.reads set.slack set.shard from bound place is.is_place safe))
-            ∙ ap (λ (l : List ℕ). sorted_items (from_to from bound (accepted set.reads set.slack set.shard l))) is.text_is;
+            ∙ ap (λ (l : List ℕ). sorted_items (from_to from bound (accepted_items set.reads set.slack set.shard l))) is.text_is;
         is = record {
           place = place;
           text_is = is.text_is;
@@ -231,12 +231,12 @@ module _ (set : Setting) (text : List ℕ) (from : Mark) (old : LaneState) (item
       let le : IsAtMost bound from = at_most_other from bound more in
       let mark : greater from bound ≡ from = ap (λ (c : Bool). cond c bound from) more in
       record {
-        items_are = handed_is ∙ ap sorted_items (none_between from bound (accepted set.reads set.slack set.shard place.first) le ∙ sym (none_between from bound (accepted set.reads set.slack set.shard text) le));
+        items_are = handed_is ∙ ap sorted_items (none_between from bound (accepted_items set.reads set.slack set.shard place.first) le ∙ sym (none_between from bound (accepted_items set.reads set.slack set.shard text) le));
         is = record {
           place = place;
           text_is = is.text_is;
           is_place = is.is_place;
-          cut = cut_is (held_back set.reads set.slack set.shard place.first from) ((sorted_below bound kept).1 ∙ ap sorted_items (all_from from bound (accepted set.reads set.slack set.shard place.first) le))
+          cut = cut_is (held_back set.reads set.slack set.shard place.first from) ((sorted_below bound kept).1 ∙ ap sorted_items (all_from from bound (accepted_items set.reads set.slack set.shard place.first) le))
               ∙ ap (λ (m : Mark). lane_at set.reads set.slack set.shard m place) (sym mark);
           given = given_is;
           safe = subst (λ (m : Mark). IsAtMost m (low_at set.reads set.slack set.shard place)) (sym mark) is.safe;

@@ -18,7 +18,7 @@ use Rattle.eql_lane.specs.declared.buffer.FillRefused.{FillRefused}
 use Rattle.eql_lane.specs.declared.buffer.FillRefused.TheVariants as fill_refused
 use Rattle.eql_lane.specs.declared.step.Step.{Step}
 use Rattle.eql_lane.specs.declared.step.Step.TheVariants as step
-use Rattle.eql_lane.specs.Buffers.{Pending, Stands, HasFeedAt, IsFront, IsOneLine, seen, byte_count, FillsBuffer, IsNextOf}
+use Rattle.eql_lane.specs.Buffers.{Pending, Stands, HasFeedAt, IsFront, IsOneLine, dropped_part, byte_count, FillsBuffer, IsNextOf}
 use Rattle.eql_lane.specs.Judging.{got_on, late_got, counts_got, held_got}
 use Rattle.eql_lane.specs.Lanes.{Setting, LaneState, IsState, GoesOn, ReadsOn, IsOutOfLines, read_on}
 use Rattle.eql_lane.specs.Views.{AreAtHand, IsTextAt, IsLane}
@@ -33,7 +33,7 @@ pub front_one : (long : Option LongLine) (front : List ℕ) → IsFront long fro
 front_one None front e = subst IsOneLine (sym e) refl
 front_one (Some line) front is = is.one
 
-pub front_count : (long : Option LongLine) (front : List ℕ) → IsFront long front → length front ≡ (seen long).bytes
+pub front_count : (long : Option LongLine) (front : List ℕ) → IsFront long front → length front ≡ (dropped_part long).bytes
 front_count None front e = ap length e
 front_count (Some line) front is = is.bytes
 
@@ -173,14 +173,14 @@ module _ (text left : Option (List ℕ)) (buffer : Pending) (cut : LaneCut) (tak
     line_alone : IsOneLine line
     line_alone = one_on is.stands.front (take end buffer.unread) (front_one buffer.long is.stands.front is.stands.is_front) feed.one
 
-    width_is : length more ≡ (seen buffer.long).bytes + end + 1
+    width_is : length more ≡ (dropped_part buffer.long).bytes + end + 1
     width_is =
         let a = length-append line (10 ∷ []) in
         let b = length-append is.stands.front (take end buffer.unread) in
         let c = front_count buffer.long is.stands.front is.stands.is_front in
         let d = length-take-le end buffer.unread (omega (arith, feed.within)) in omega (arith, a, b, c, d)
 
-    pub line_read : (next : Pending) (cut' : LaneCut) → cut' ≡ got_on slack cut (reads shard (cut.counts.lines + 1) line) ((seen buffer.long).bytes + end + 1)
+    pub line_read : (next : Pending) (cut' : LaneCut) → cut' ≡ got_on slack cut (reads shard (cut.counts.lines + 1) line) ((dropped_part buffer.long).bytes + end + 1)
         → next ≡ record { long = None; unread = drop (end + 1) buffer.unread }
         → Leaves text left next cut' taken set (record { cut = cut; taken = taken; given = given; faults = faults }) step.Line (record { cut = cut'; taken = taken; given = given; faults = faults })
     line_read next cut' e f =
@@ -191,14 +191,14 @@ module _ (text left : Option (List ℕ)) (buffer : Pending) (cut : LaneCut) (tak
         let lane : IsLane text left next cut' taken =
         advance more rest line_parts next stands (let a = ap length unread_is in let b = length-drop (suc end) buffer.unread in let c = is.short in omega (arith, a, b, c)) cut'
         (ap (λ (c : LaneCut). c.offset) e ∙ ap (λ (n : ℕ). cut.offset + n) (sym width_is))
-        (let a = ap (λ (c : LaneCut). c.counts.lines) e in let b = more_lines slack cut (reads shard (cut.counts.lines + 1) line) ((seen buffer.long).bytes + end + 1) in omega (arith, a, b, fewer))
-        (order_after cut' (reads shard (cut.counts.lines + 1) line) ((seen buffer.long).bytes + end + 1) e) never in
+        (let a = ap (λ (c : LaneCut). c.counts.lines) e in let b = more_lines slack cut (reads shard (cut.counts.lines + 1) line) ((dropped_part buffer.long).bytes + end + 1) in omega (arith, a, b, fewer))
+        (order_after cut' (reads shard (cut.counts.lines + 1) line) ((dropped_part buffer.long).bytes + end + 1) e) never in
         record {
           lane = lane;
           step = (
             record {
               reads = advanced given faults more rest line_parts 1 (ap length (lines_are_one line line_alone).with_feed) cut'
-                  (e ∙ (λ i. got_on slack cut (reads shard (swapped cut.counts.lines i) line) ((seen buffer.long).bytes + end + 1)) ∙ sym (line_is set cut line more ((seen buffer.long).bytes + end + 1) (lines_are_one line line_alone).with_feed width_is)
+                  (e ∙ (λ i. got_on slack cut (reads shard (swapped cut.counts.lines i) line) ((dropped_part buffer.long).bytes + end + 1)) ∙ sym (line_is set cut line more ((dropped_part buffer.long).bytes + end + 1) (lines_are_one line line_alone).with_feed width_is)
                   ∙ (λ i. let k : LaneCut = record (read_on set cut more) { closed = (is_open ∙ sym closed) i } in k))
                   (inl (lines_are_one line line_alone).next_starts) never next lane;
               closed_is = closed;
@@ -209,7 +209,7 @@ module _ (text left : Option (List ℕ)) (buffer : Pending) (cut : LaneCut) (tak
         }
 
     pub line_done : {A B : Type 0} (r : Result A B) (next : Pending) (cut' : LaneCut)
-        → OnOk r (cut' ≡ got_on slack cut (reads shard (cut.counts.lines + 1) line) ((seen buffer.long).bytes + end + 1))
+        → OnOk r (cut' ≡ got_on slack cut (reads shard (cut.counts.lines + 1) line) ((dropped_part buffer.long).bytes + end + 1))
         → OnOk r (next ≡ record { long = None; unread = drop (end + 1) buffer.unread })
         → OnErr r ((cut' ≡ cut) × (next ≡ buffer))
         → Leaves text left next cut' taken set (record { cut = cut; taken = taken; given = given; faults = faults }) (line_step r) (record { cut = cut'; taken = taken; given = given; faults = faults })

@@ -13,9 +13,9 @@ pub record Pending : Type 0 where
   pub unread : List ℕ
 
 -- what was dropped of the line at hand
-abbrev pub seen : Option LongLine → LongLine
-seen None = record { bytes = 0; blank = true }
-seen (Some line) = line
+abbrev pub dropped_part : Option LongLine → LongLine
+dropped_part None = record { bytes = 0; blank = true }
+dropped_part (Some line) = line
 
 -- a line that goes on with these bytes
 abbrev pub seen_more : LongLine → List ℕ → LongLine
@@ -23,7 +23,7 @@ seen_more line more = record { bytes = line.bytes + length more; blank = line.bl
 
 -- how many bytes aren't read yet
 abbrev pub byte_count : Pending → ℕ
-byte_count p = (seen p.long).bytes + length p.unread
+byte_count p = (dropped_part p.long).bytes + length p.unread
 
 -- bytes of a line that were dropped: there are too many of them, without a line feed
 pub record IsLong (line : LongLine) (front : List ℕ) : Type 0 where

@@ -37,8 +37,8 @@ abbrev pub fresh_cut : LaneCut
 fresh_cut = record { offset = 0; closed = false; best = None; counts = record { lines = 0; accepted = 0; late = 0; rejected = 0; first = None }; items = [] }
 
 -- a lane that begins with what a cut keeps of it: what was read of its source was taken, and nothing was handed out
-abbrev pub begun : LaneCut → (faults : ℕ) → LaneState
-begun cut faults = record { cut = cut; taken = cut.offset; given = Start; faults = faults }
+abbrev pub beginning_lane : LaneCut → (faults : ℕ) → LaneState
+beginning_lane cut faults = record { cut = cut; taken = cut.offset; given = Start; faults = faults }
 
 -- the lane's low
 abbrev pub low : Setting → LaneState → Mark

@@ -7,7 +7,7 @@ use Rattle.eql_values.specs.Ascending.{Ascend}
 use Rattle.eql_values.specs.Reading.{IsTime}
 use Rattle.eql_laws.specs.Counting.{greatest_lines, greatest_bytes}
 use Rattle.eql_lane.specs.Judging.{CountsHold}
-use Rattle.eql_lane.specs.Lanes.{fresh_cut, begun}
+use Rattle.eql_lane.specs.Lanes.{fresh_cut, beginning_lane}
 use Rattle.eql_lane.specs.Slacks.{nanos_of}
 use Rattle.eql_lane.specs.Noting.{IsUnplaced, placed_cut}
 use Rattle.eql_lane.specs.Passing.{Finds, IsCause, GivesBack}
@@ -54,7 +54,7 @@ wanted_of (start.Lift cut wanted) = wanted
 
 -- a lane begins so over what the source has left, by a slack in nanoseconds, and keeps these places; where the cut says closed, the source ends at the offset
 pub record Begins {S L : Type 0} (left lent_as : S → Option (List ℕ)) (fault_count : S → ℕ) (source : S) (reader : L) (shard : ℕ) (slack : Option ℤ) (cut : LaneCut) (places : List (ℕ × ℕ)) (lane : LaneView S L) : Type 0 where
-  pub state : lane.state ≡ begun cut (fault_count source)
+  pub state : lane.state ≡ beginning_lane cut (fault_count source)
   pub reader_is : lane.reader ≡ reader
   pub shard_is : lane.shard ≡ shard
   pub slack_is : lane.slack ≡ slack

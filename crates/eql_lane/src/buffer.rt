@@ -4,7 +4,7 @@ ghost use Rattle.std.specs.Prelude.{◌≡◌, ◌≢◌, ◌≤◌, ◌<◌, �
 ghost use Rattle.eql_values.specs.Reading.{is_blank};
 ghost use Rattle.eql_outside.specs.Outside.{Rose};
 ghost use Rattle.eql_outside.specs.Unfailing.{IsUnfailing};
-ghost use Rattle.eql_lane.specs.Buffers.{byte_count, seen, seen_more, HasFeedAt, IsFront, Stands, FillsBuffer, IsOneLine};
+ghost use Rattle.eql_lane.specs.Buffers.{byte_count, dropped_part, seen_more, HasFeedAt, IsFront, Stands, FillsBuffer, IsOneLine};
 
 use eql_outside::{Source, unfailing_stays};
 use eql_values::{LineGot, LineReader, Memory, Reason};
@@ -72,7 +72,7 @@ fn are_blank(bytes: &[u8]) -> bool
 
 // What was dropped of a line.
 fn seen_of(long: Option<LongLine>) -> LongLine
-    ensures { result ≡ seen long }
+    ensures { result ≡ dropped_part long }
 {
     match long {
         None => LongLine {
@@ -187,7 +187,7 @@ impl LineBuffer {
     pub(crate) fn width(&self, end: usize) -> u64
         requires short { byte_count self.now < 2 ^ 63 }
         requires within { end ≤ length self.now.unread }
-        ensures { result ≡ (seen self.now.long).bytes + end }
+        ensures { result ≡ (dropped_part self.now.long).bytes + end }
     {
         seen_of(self.long).bytes + end as u64
     }

@@ -3,10 +3,10 @@ ghost use Rattle.std.specs.Prelude.{◌≡◌, ◌≢◌, ◌≤◌, ◌<◌, �
 ghost use Rattle.eql_outside.specs.Outside.{Rose};
 ghost use Rattle.eql_outside.specs.Unfailing.{IsUnfailing};
 ghost use Rattle.eql_laws.specs.Counting.{greatest_lines, greatest_bytes};
-ghost use Rattle.eql_lane.specs.Lanes.{Setting, LaneState, IsState, lesser, greater, ready, IsTakeStep, IsSnapStep, LaneAllows, begun};
+ghost use Rattle.eql_lane.specs.Lanes.{Setting, LaneState, IsState, lesser, greater, ready, IsTakeStep, IsSnapStep, LaneAllows, beginning_lane};
 ghost use Rattle.eql_lane.specs.Views.{LaneView, IsTextOf, setting_of, IsSameLane};
 ghost use Rattle.eql_lane.specs.Slacks.{IsSlack, nanos_of, greatest_slack_ms};
-ghost use Rattle.eql_lane.specs.Buffers.{seen, byte_count, HasFeedAt, IsFront, HasFront, IsOneLine};
+ghost use Rattle.eql_lane.specs.Buffers.{dropped_part, byte_count, HasFeedAt, IsFront, HasFront, IsOneLine};
 ghost use Rattle.eql_lane.specs.Judging.{got_on};
 ghost use Rattle.eql_lane.specs.Plays.{Plays, DidNotFail};
 ghost use Rattle.eql_lane.specs.Starts.{MayStart, MayBegin, MayLift, Begins, Lifts, BeginsAs, IsNotMade, cut_of, wanted_of};
@@ -109,13 +109,13 @@ fn read_line<L: LineReader>(
     requires feed { feed ≤ 1 }
     requires within { end + feed ≤ length buffer.old.unread }
     requires lines { kept.old.cut.counts.lines < greatest_lines }
-    requires bytes { kept.old.cut.offset + ((seen buffer.old.long).bytes + end + feed)
+    requires bytes { kept.old.cut.offset + ((dropped_part buffer.old.long).bytes + end + feed)
         ≤ greatest_bytes }
     ensures read { (front : List ℕ) → IsFront buffer.old.long front → OnOk result (kept.new.cut
         ≡ got_on kept.old.slack kept.old.cut
         (L.read_of reader.old shard (kept.old.cut.counts.lines + 1)
         (front ++ take end buffer.old.unread))
-        ((seen buffer.old.long).bytes + end + feed)) }
+        ((dropped_part buffer.old.long).bytes + end + feed)) }
     ensures slack { kept.new.slack ≡ kept.old.slack }
     ensures rest { OnOk result (buffer.new
         ≡ record { long = None; unread = drop (end + feed) buffer.old.unread }) }
@@ -562,7 +562,7 @@ impl<S: Source, L: LineReader + Drop> Lane<S, L> {
           slack = kept.slack;
           buffer = record { long = None; unread = [] };
           places = places;
-          state = begun kept.cut (S.fault_count source);
+          state = beginning_lane kept.cut (S.fault_count source);
         } }
     {
         kept.ordered();

@@ -9,7 +9,7 @@ use Rattle.std.proofs.lemmas.List.Elements.{All-filter, All-cons, All-nil, All-h
 use Rattle.eql_values.specs.declared.order.OrderKey.{OrderKey}
 use Rattle.eql_values.specs.declared.item.Item.{Item}
 use Rattle.eql_values.specs.declared.order.Mark.{Mark}
-use Rattle.eql_values.specs.Accepted.{Reads, accepted, sorted_items}
+use Rattle.eql_values.specs.Accepted.{Reads, accepted_items, sorted_items}
 use Rattle.eql_values.specs.Ascending.{Ascend}
 use Rattle.eql_values.specs.Marks.{is_below}
 use Rattle.eql_values.specs.OrderKeys.{order_cmp}
@@ -70,17 +70,17 @@ module _ {X K : Type 0} (R : K → K → Ordering) (same : IsAntisymmetric R) (k
 -- what shards hand out
 module _ (reads : Reads) (slack : Option ℤ) (from to : Mark) (reading : IsReading reads) where
   abbrev out : ℕ → List ℕ → List Item
-  out shard text = sorted_items (from_to from to (accepted reads slack shard text))
+  out shard text = sorted_items (from_to from to (accepted_items reads slack shard text))
 
-  accepted_are : (shard : ℕ) (text : List ℕ) → All (IsAcceptedOf shard text) (from_to from to (accepted reads slack shard text))
+  accepted_are : (shard : ℕ) (text : List ℕ) → All (IsAcceptedOf shard text) (from_to from to (accepted_items reads slack shard text))
   accepted_are shard text =
-      All-filter (is_below to) (IsAcceptedOf shard text) (filter (λ item. not (is_below from item)) (accepted reads slack shard text))
-      (All-filter (λ item. not (is_below from item)) (IsAcceptedOf shard text) (accepted reads slack shard text) (accepted_of_text reads slack shard text reading).all)
+      All-filter (is_below to) (IsAcceptedOf shard text) (filter (λ item. not (is_below from item)) (accepted_items reads slack shard text))
+      (All-filter (λ item. not (is_below from item)) (IsAcceptedOf shard text) (accepted_items reads slack shard text) (accepted_of_text reads slack shard text reading).all)
 
   out_ascends : (shard : ℕ) (text : List ℕ) → Ascend (out shard text)
   out_ascends shard text =
-      sorted_ascends (from_to from to (accepted reads slack shard text))
-      (All-weaker (IsAcceptedOf shard text) HasRoutesInOrder (λ x h. h.routes_stand.0) (from_to from to (accepted reads slack shard text)) (accepted_are shard text))
+      sorted_ascends (from_to from to (accepted_items reads slack shard text))
+      (All-weaker (IsAcceptedOf shard text) HasRoutesInOrder (λ x h. h.routes_stand.0) (from_to from to (accepted_items reads slack shard text)) (accepted_are shard text))
 
   abbrev shard_of : OrderKey → ℕ
   shard_of k = k.shard
@@ -90,8 +90,8 @@ module _ (reads : Reads) (slack : Option ℤ) (from to : Mark) (reading : IsRead
 
   out_of_shard : (shard : ℕ) (text : List ℕ) → All (OfShard shard) (out shard text)
   out_of_shard shard text =
-      All-sorted (OfShard shard) (from_to from to (accepted reads slack shard text))
-      (All-weaker (IsAcceptedOf shard text) (OfShard shard) (λ x h. h.shard_is) (from_to from to (accepted reads slack shard text)) (accepted_are shard text))
+      All-sorted (OfShard shard) (from_to from to (accepted_items reads slack shard text))
+      (All-weaker (IsAcceptedOf shard text) (OfShard shard) (λ x h. h.shard_is) (from_to from to (accepted_items reads slack shard text)) (accepted_are shard text))
 
   out_apart : (first next : ℕ) (xs : List Item) (texts : List (List ℕ)) → first < next → All (OfShard first) xs
       → SharesNoKey order_cmp place_of xs (handed_out reads slack next texts from to)

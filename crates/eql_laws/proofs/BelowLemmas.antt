@@ -16,7 +16,7 @@ use Rattle.eql_values.specs.declared.order.Mark.TheVariants.{Start, At, End}
 use Rattle.eql_values.specs.declared.item.Item.{Item}
 use Rattle.eql_values.specs.declared.reader.LineGot.{LineGot}
 use Rattle.eql_values.specs.declared.reader.LineGot.TheVariants as got
-use Rattle.eql_values.specs.Accepted.{Reads, event_at, readable, is_late, accepted, accepted_after, accepted_from, sorted_items}
+use Rattle.eql_values.specs.Accepted.{Reads, event_at, readable, is_late, accepted_items, accepted_after, accepted_from, sorted_items}
 use Rattle.eql_values.specs.Ascending.{AllAreAfter, Ascend}
 use Rattle.eql_values.specs.Lines.{Line, begin_with, lines_of, numbered_lines, lines_in}
 use Rattle.eql_values.specs.Marks.{is_below}
@@ -259,10 +259,10 @@ record IsFrom (shard shards : ℕ) (item : Item) : Type 0 where
 all_from : (reads : Reads) (slack : Option ℤ) (shard : ℕ) (texts : List (List ℕ)) → IsReading reads → All (IsFrom shard (length texts)) (accepted_from reads slack shard texts)
 all_from reads slack shard [] reading = All-nil (IsFrom shard 0)
 all_from reads slack shard (text ∷ texts) reading =
-    All-append (IsFrom shard (suc (length texts))) (accepted reads slack shard text) (accepted_from reads slack (shard + 1) texts)
+    All-append (IsFrom shard (suc (length texts))) (accepted_items reads slack shard text) (accepted_from reads slack (shard + 1) texts)
     (All-weaker (IsAcceptedOf shard text) (IsFrom shard (suc (length texts)))
     (λ item h. record { shard_is = (let a = h.shard_is in omega (arith, a)); line_from = h.line_from; in_range = h.in_range; routes_stand = h.routes_stand })
-    (accepted reads slack shard text) (accepted_of_text reads slack shard text reading).all)
+    (accepted_items reads slack shard text) (accepted_of_text reads slack shard text reading).all)
     (All-weaker (IsFrom (shard + 1) (length texts)) (IsFrom shard (suc (length texts)))
     (λ item h. record { shard_is = (let a = h.shard_is in omega (arith, a)); line_from = h.line_from; in_range = h.in_range; routes_stand = h.routes_stand })
     (accepted_from reads slack (shard + 1) texts) (all_from reads slack (shard + 1) texts reading))

@@ -14,7 +14,7 @@ use Rattle.eql_values.specs.declared.item.Item.{Item}
 use Rattle.eql_values.specs.declared.found.Holder.{Holder}
 use Rattle.eql_values.specs.declared.reader.LineGot.{LineGot}
 use Rattle.eql_values.specs.declared.reader.LineGot.TheVariants as got
-use Rattle.eql_values.specs.Accepted.{Reads, event_at, readable, accepted, accepted_from, sorted_items, below}
+use Rattle.eql_values.specs.Accepted.{Reads, event_at, readable, accepted_items, accepted_from, sorted_items, below}
 use Rattle.eql_values.specs.Ascending.{Ascend}
 use Rattle.eql_values.specs.Lines.{Line, lines_in}
 use Rattle.eql_values.specs.Marks.{is_below}
@@ -68,13 +68,13 @@ pub held_back_fits : HeldBackFits
 held_back_fits reads slack shard text mark reading =
     let all = (accepted_of_text reads slack shard text reading).all in
     record {
-      all = All-sorted (IsHeldBack shard text mark) (filter (λ item. not (is_below mark item)) (accepted reads slack shard text))
+      all = All-sorted (IsHeldBack shard text mark) (filter (λ item. not (is_below mark item)) (accepted_items reads slack shard text))
           (All-passed (IsAcceptedOf shard text) (IsHeldBack shard text mark) (λ item. not (is_below mark item))
-          (λ item h e. record { accepted = h; not_below = not_true (is_below mark item) e }) (accepted reads slack shard text) all);
-      ascending = sorted_ascends (filter (λ item. not (is_below mark item)) (accepted reads slack shard text))
-          (All-passed (IsAcceptedOf shard text) HasRoutesInOrder (λ item. not (is_below mark item)) (λ item h e. h.routes_stand.0) (accepted reads slack shard text) all);
-      fewer = (let a = sorted_fewer (filter (λ item. not (is_below mark item)) (accepted reads slack shard text)) in
-          let b = filter_fewer (λ item. not (is_below mark item)) (accepted reads slack shard text) in omega (arith, a, b));
+          (λ item h e. record { accepted = h; not_below = not_true (is_below mark item) e }) (accepted_items reads slack shard text) all);
+      ascending = sorted_ascends (filter (λ item. not (is_below mark item)) (accepted_items reads slack shard text))
+          (All-passed (IsAcceptedOf shard text) HasRoutesInOrder (λ item. not (is_below mark item)) (λ item h e. h.routes_stand.0) (accepted_items reads slack shard text) all);
+      fewer = (let a = sorted_fewer (filter (λ item. not (is_below mark item)) (accepted_items reads slack shard text)) in
+          let b = filter_fewer (λ item. not (is_below mark item)) (accepted_items reads slack shard text) in omega (arith, a, b));
     }
 
 below_by_place : (mark : Mark) (item : Item) → is_below mark item ≡ true → is_below mark (record { order = item.order; routes = [] }) ≡ true
@@ -164,7 +164,7 @@ module _ (reads : Reads) (slack : Option ℤ) (P : List Route → Type 0)
   event_passes shard line at bytes got.Blank e = tt
   event_passes shard line at bytes (got.Bad reason) e = tt
 
-  accepted_pass : (shard : ℕ) (text : List ℕ) → All Passing (accepted reads slack shard text)
+  accepted_pass : (shard : ℕ) (text : List ℕ) → All Passing (accepted_items reads slack shard text)
   accepted_pass shard text =
       All-accepted Passing slack [] (readable reads shard (lines_in text))
       (All-filter_map (λ (line : Line). Unit {0}) Passing (λ (line : Line). event_at line.at (reads shard line.number line.bytes))
@@ -172,12 +172,12 @@ module _ (reads : Reads) (slack : Option ℤ) (P : List Route → Type 0)
 
   all_pass : (shard : ℕ) (texts : List (List ℕ)) → All Passing (accepted_from reads slack shard texts)
   all_pass shard [] = All-nil Passing
-  all_pass shard (text ∷ texts) = All-append Passing (accepted reads slack shard text) (accepted_from reads slack (shard + 1) texts) (accepted_pass shard text) (all_pass (shard + 1) texts)
+  all_pass shard (text ∷ texts) = All-append Passing (accepted_items reads slack shard text) (accepted_from reads slack (shard + 1) texts) (accepted_pass shard text) (all_pass (shard + 1) texts)
 
   pub held_back_pass : (shard : ℕ) (text : List ℕ) (mark : Mark) → All (λ (item : Item). P item.routes) (held_back reads slack shard text mark)
   held_back_pass shard text mark =
-      All-sorted Passing (filter (λ item. not (is_below mark item)) (accepted reads slack shard text))
-      (All-filter (λ item. not (is_below mark item)) Passing (accepted reads slack shard text) (accepted_pass shard text))
+      All-sorted Passing (filter (λ item. not (is_below mark item)) (accepted_items reads slack shard text))
+      (All-filter (λ item. not (is_below mark item)) Passing (accepted_items reads slack shard text) (accepted_pass shard text))
 
   pub below_pass : (texts : List (List ℕ)) (mark : Mark) → All (λ (item : Item). P item.routes) (below reads slack texts mark)
   below_pass texts mark =

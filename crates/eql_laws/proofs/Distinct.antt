@@ -13,7 +13,7 @@ use Rattle.eql_values.specs.declared.order.OrderKey.{OrderKey}
 use Rattle.eql_values.specs.declared.item.Item.{Item}
 use Rattle.eql_values.specs.declared.reader.LineGot.{LineGot}
 use Rattle.eql_values.specs.declared.reader.LineGot.TheVariants as got
-use Rattle.eql_values.specs.Accepted.{Reads, event_at, readable, is_late, accepted, accepted_after, accepted_from, sorted_items}
+use Rattle.eql_values.specs.Accepted.{Reads, event_at, readable, is_late, accepted_items, accepted_after, accepted_from, sorted_items}
 use Rattle.eql_values.specs.Lines.{lines_of, numbered_lines, lines_in}
 use Rattle.eql_values.specs.Marks.{is_below}
 use Rattle.eql_values.specs.OrderKeys.{order_cmp}
@@ -140,7 +140,7 @@ module _ (reads : Reads) (shard : ℕ) (reading : IsReading reads) where
       (line_is number at bytes (reads shard number bytes) refl) (from_lines (number + 1) (at + length bytes + 1) lines) (lines_differ (number + 1) (at + length bytes + 1) lines)
 
 -- the accepted events of one text stand at different places
-pub accepted_differ : (reads : Reads) (slack : Option ℤ) (shard : ℕ) (text : List ℕ) → IsReading reads → PlacesDiffer (accepted reads slack shard text)
+pub accepted_differ : (reads : Reads) (slack : Option ℤ) (shard : ℕ) (text : List ℕ) → IsReading reads → PlacesDiffer (accepted_items reads slack shard text)
 accepted_differ reads slack shard text reading = differ_accepted slack [] (readable reads shard (lines_in text)) (lines_differ reads shard reading 1 0 (lines_of text))
 
 -- an event of this shard or a later one
@@ -150,8 +150,8 @@ FromShard shard item = shard ≤ item.order.shard
 from_shards : (reads : Reads) (slack : Option ℤ) (shard : ℕ) (texts : List (List ℕ)) → IsReading reads → All (FromShard shard) (accepted_from reads slack shard texts)
 from_shards reads slack shard [] reading = All-nil (FromShard shard)
 from_shards reads slack shard (text ∷ texts) reading =
-    All-append (FromShard shard) (accepted reads slack shard text) (accepted_from reads slack (shard + 1) texts)
-    (All-weaker (IsAcceptedOf shard text) (FromShard shard) (λ item h. let e = h.shard_is in omega (arith, e)) (accepted reads slack shard text) (accepted_of_text reads slack shard text reading).all)
+    All-append (FromShard shard) (accepted_items reads slack shard text) (accepted_from reads slack (shard + 1) texts)
+    (All-weaker (IsAcceptedOf shard text) (FromShard shard) (λ item h. let e = h.shard_is in omega (arith, e)) (accepted_items reads slack shard text) (accepted_of_text reads slack shard text reading).all)
     (All-weaker (FromShard (shard + 1)) (FromShard shard) (λ item h. omega (arith, h)) (accepted_from reads slack (shard + 1) texts) (from_shards reads slack (shard + 1) texts reading))
 
 apart_by_shard : (shard : ℕ) (item other : Item) → item.order.shard ≡ shard → FromShard (shard + 1) other → item.order ≢ other.order
@@ -161,12 +161,12 @@ apart_by_shard shard item other is from same =
 shards_differ : (reads : Reads) (slack : Option ℤ) (shard : ℕ) (texts : List (List ℕ)) → IsReading reads → PlacesDiffer (accepted_from reads slack shard texts)
 shards_differ reads slack shard [] reading = tt
 shards_differ reads slack shard (text ∷ texts) reading =
-    differ_append (accepted reads slack shard text) (accepted_from reads slack (shard + 1) texts)
+    differ_append (accepted_items reads slack shard text) (accepted_from reads slack (shard + 1) texts)
     (accepted_differ reads slack shard text reading) (shards_differ reads slack (shard + 1) texts reading)
     (All-weaker (IsAcceptedOf shard text) (λ (x : Item). All (λ (y : Item). x.order ≢ y.order) (accepted_from reads slack (shard + 1) texts))
     (λ x h. All-weaker (FromShard (shard + 1)) (λ (y : Item). x.order ≢ y.order) (λ y from. apart_by_shard shard x y h.shard_is from)
     (accepted_from reads slack (shard + 1) texts) (from_shards reads slack (shard + 1) texts reading))
-    (accepted reads slack shard text) (accepted_of_text reads slack shard text reading).all)
+    (accepted_items reads slack shard text) (accepted_of_text reads slack shard text reading).all)
 
 pub below_keeps_all : BelowKeepsAll
 below_keeps_all reads slack texts mark reading = (

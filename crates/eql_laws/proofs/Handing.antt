@@ -5,7 +5,7 @@ use Rattle.std.specs.List.{flat_map}
 use Rattle.std.proofs.lemmas.List.Elements.{filter-append}
 use Rattle.eql_values.specs.declared.item.Item.{Item}
 use Rattle.eql_values.specs.declared.order.Mark.{Mark}
-use Rattle.eql_values.specs.Accepted.{Reads, readable, accepted, accepted_from, sorted_items}
+use Rattle.eql_values.specs.Accepted.{Reads, readable, accepted_items, accepted_from, sorted_items}
 use Rattle.eql_values.specs.Lines.{lines_in}
 use Rattle.eql_values.specs.Marks.{is_below}
 use Rattle.eql_laws.specs.Belows.{from_to}
@@ -44,9 +44,9 @@ by_shard : (reads : Reads) (slack : Option ℤ) (shard : ℕ) (texts : List (Lis
     ≡ sorted_items (from_to from to (accepted_from reads slack shard texts))
 by_shard reads slack shard [] from to = refl
 by_shard reads slack shard (text ∷ texts) from to =
-    sorted_behind (from_to from to (accepted reads slack shard text)) (flat_map (λ (items : List Item). items) (handed_out reads slack (shard + 1) texts from to))
+    sorted_behind (from_to from to (accepted_items reads slack shard text)) (flat_map (λ (items : List Item). items) (handed_out reads slack (shard + 1) texts from to))
     (from_to from to (accepted_from reads slack (shard + 1) texts)) (by_shard reads slack (shard + 1) texts from to)
-    ∙ ap sorted_items (sym (from_to_append from to (accepted reads slack shard text) (accepted_from reads slack (shard + 1) texts)))
+    ∙ ap sorted_items (sym (from_to_append from to (accepted_items reads slack shard text) (accepted_from reads slack (shard + 1) texts)))
 
 pub between_by_shard : ShardsMakeBetween
 between_by_shard reads slack texts from to = by_shard reads slack 0 texts from to
@@ -64,17 +64,17 @@ above_both from to le xs =
 
 pub take_splits : TakeSplits
 take_splits reads slack shard text from to le =
-    let kept : List Item = filter (above from) (accepted reads slack shard text) in
+    let kept : List Item = filter (above from) (accepted_items reads slack shard text) in
     record {
       handed = (sorted_below to kept).0;
-      held = (sorted_below to kept).1 ∙ ap sorted_items (above_both from to le (accepted reads slack shard text));
+      held = (sorted_below to kept).1 ∙ ap sorted_items (above_both from to le (accepted_items reads slack shard text));
     }
 
 pub late_between : RestIsLateBetween
 late_between reads slack shard from to r place low =
-    filters_swap (is_below to) (above from) (accepted reads slack shard (whole r))
+    filters_swap (is_below to) (above from) (accepted_items reads slack shard (whole r))
     ∙ ap (filter (above from)) (late_of_shard reads slack shard to r place low)
-    ∙ sym (filters_swap (is_below to) (above from) (accepted reads slack shard r.first))
+    ∙ sym (filters_swap (is_below to) (above from) (accepted_items reads slack shard r.first))
 
 all_one : (mark : Mark) (x : Item) (xs : List Item) (b : Bool) → is_below mark x ≡ b → (filter (is_below mark) xs ≡ [] → filter (above mark) xs ≡ xs)
     → cond b (x ∷ filter (is_below mark) xs) (filter (is_below mark) xs) ≡ [] → cond (not b) (x ∷ filter (above mark) xs) (filter (above mark) xs) ≡ x ∷ xs
@@ -91,6 +91,6 @@ held_back_grows reads slack shard a b mark line_end low =
     let best : Option ℤ = best_of (readable reads shard (lines_in a)) in
     let more : List Item = accepted_by slack best (readable reads shard (lines_after a b)) in
     ap (λ (l : List Item). sorted_items (filter (above mark) l)) (accepted_goes_on reads slack shard a b line_end)
-    ∙ ap sorted_items (filter-append (above mark) (accepted reads slack shard a) more
-    ∙ ap (λ (l : List Item). filter (above mark) (accepted reads slack shard a) ++ l) (all_above mark more (none_below slack best mark (readable reads shard (lines_after a b)) low)))
-    ∙ sym (sorted_more (filter (above mark) (accepted reads slack shard a)) more)
+    ∙ ap sorted_items (filter-append (above mark) (accepted_items reads slack shard a) more
+    ∙ ap (λ (l : List Item). filter (above mark) (accepted_items reads slack shard a) ++ l) (all_above mark more (none_below slack best mark (readable reads shard (lines_after a b)) low)))
+    ∙ sym (sorted_more (filter (above mark) (accepted_items reads slack shard a)) more)

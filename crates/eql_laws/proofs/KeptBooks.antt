@@ -16,13 +16,13 @@ use Rattle.eql_values.specs.declared.found.Numbered.{Numbered}
 use Rattle.eql_values.specs.declared.cut.Pipe.{Pipe}
 use Rattle.eql_values.specs.declared.cut.Pipe.TheVariants as pipe
 use Rattle.eql_values.specs.declared.cut.PipeState.{PipeState}
-use Rattle.eql_values.specs.Accepted.{Reads, readable, accepted, accepted_from, below}
-use Rattle.eql_values.specs.Chains.{chain, followed, latest}
+use Rattle.eql_values.specs.Accepted.{Reads, readable, accepted_items, accepted_from, below}
+use Rattle.eql_values.specs.Chains.{chain, chain_with, latest}
 use Rattle.eql_values.specs.Lines.{lines_of, lines_in}
 use Rattle.eql_values.specs.Marks.{is_below}
 use Rattle.eql_values.specs.Masks.{has_stage}
 use Rattle.eql_values.specs.Matching.{Openings, opening_of, act_by, acts_of, match_by, matches_after, matches}
-use Rattle.eql_values.specs.Numbering.{numbered_from, numbered, through, piped, is_head, emitted}
+use Rattle.eql_values.specs.Numbering.{numbered_from, numbered_matches, through, pipe_output, is_head, early_output}
 use Rattle.eql_laws.specs.Books.{book_of, state_of, states_after, InputsGoOn, kept_of, KeptPass, NumbersAscend, IsKeptMatch, StateFits, BookOfFits, StateStands, BookOfStands, completing, RoutesBoundFound, CompletesOnce, EventsBoundFound, BelowsAreFew, greatest_shards, greatest_found, FoundIsFew}
 use Rattle.eql_laws.specs.Counting.{IsShardText, greatest_lines}
 use Rattle.eql_laws.specs.Cuts.{IsFound, is_of, is_of_shards}
@@ -65,27 +65,27 @@ fewer_through : (p : Pipe) (list : List Numbered) → length (through p list) �
 fewer_through (pipe.Head count) list = let a = length-take count list in omega (arith, a)
 fewer_through (pipe.Tail count) list = let a = length-drop (length list - count) list in omega (arith, a)
 
-fewer_piped : (pipes : List Pipe) (list : List Numbered) → length (piped pipes list) ≤ length list
+fewer_piped : (pipes : List Pipe) (list : List Numbered) → length (pipe_output pipes list) ≤ length list
 fewer_piped [] list = omega arith
 fewer_piped (p ∷ pipes) list = let a = fewer_through p list in let b = fewer_piped pipes (through p list) in omega (arith, a, b)
 
-fewer_emitted : (pipes : List Pipe) (list : List Numbered) → length (emitted pipes list) ≤ length list
+fewer_emitted : (pipes : List Pipe) (list : List Numbered) → length (early_output pipes list) ≤ length list
 fewer_emitted pipes list = one (list_all is_head pipes) (fewer_piped pipes list)
   where
-    one : (b : Bool) → length (piped pipes list) ≤ length list → length (cond b (piped pipes list) []) ≤ length list
+    one : (b : Bool) → length (pipe_output pipes list) ≤ length list → length (cond b (pipe_output pipes list) []) ≤ length list
     one true h = h
     one false h = omega arith
 
 -- what pipes keep holds of what they let through
 module _ (Q : List Numbered → Type 0) (none : Q []) (on : (p : Pipe) (list : List Numbered) → Q list → Q (through p list)) where
-  piped_holds : (pipes : List Pipe) (list : List Numbered) → Q list → Q (piped pipes list)
+  piped_holds : (pipes : List Pipe) (list : List Numbered) → Q list → Q (pipe_output pipes list)
   piped_holds [] list h = h
   piped_holds (p ∷ pipes) list h = piped_holds pipes (through p list) (on p list h)
 
-  emitted_holds : (pipes : List Pipe) (list : List Numbered) → Q list → Q (emitted pipes list)
+  emitted_holds : (pipes : List Pipe) (list : List Numbered) → Q list → Q (early_output pipes list)
   emitted_holds pipes list h = one (list_all is_head pipes) (piped_holds pipes list h)
     where
-      one : (b : Bool) → Q (piped pipes list) → Q (cond b (piped pipes list) [])
+      one : (b : Bool) → Q (pipe_output pipes list) → Q (cond b (pipe_output pipes list) [])
       one true k = k
       one false k = none
 
@@ -102,8 +102,8 @@ module _ (P : Numbered → Type 0) where
   kept_of_all : (before pipes : List Pipe) (list : List Numbered) → All P list → All (λ (s : PipeState). All P (kept_of s)) (states_after before pipes list)
   kept_of_all before [] list h = All-nil (λ (s : PipeState). All P (kept_of s))
   kept_of_all before (p ∷ pipes) list h =
-      All-cons (λ (s : PipeState). All P (kept_of s)) (state_of p (emitted before list)) (states_after (before ++ p ∷ []) pipes list)
-      (kept_of_one p (emitted before list) (emitted_holds (All P) (All-nil P) all_through before list h)) (kept_of_all (before ++ p ∷ []) pipes list h)
+      All-cons (λ (s : PipeState). All P (kept_of s)) (state_of p (early_output before list)) (states_after (before ++ p ∷ []) pipes list)
+      (kept_of_one p (early_output before list) (emitted_holds (All P) (All-nil P) all_through before list h)) (kept_of_all (before ++ p ∷ []) pipes list h)
 
 all_numbered : (P : Match → Type 0) (n : ℕ) (found : List Match) → All P found → All (λ (x : Numbered). P x.found) (numbered_from n found)
 all_numbered P n [] h = All-nil (λ (x : Numbered). P x.found)
@@ -113,7 +113,7 @@ all_numbered P n (m ∷ found) h =
 -- what holds of all matches found holds of those that pipes keep
 pub kept_of_found : (P : Match → Type 0) (pipes : List Pipe) (found : List Match) → All P found
     → All (λ (s : PipeState). All (λ (x : Numbered). P x.found) (kept_of s)) (book_of pipes found).pipes
-kept_of_found P pipes found h = kept_of_all (λ (x : Numbered). P x.found) [] pipes (numbered found) (all_numbered P 1 found h)
+kept_of_found P pipes found h = kept_of_all (λ (x : Numbered). P x.found) [] pipes (numbered_matches found) (all_numbered P 1 found h)
 
 pub kept_pass : KeptPass
 kept_pass test pipes found h = kept_of_found (λ (m : Match). test m ≡ true) pipes found h
@@ -143,7 +143,7 @@ module _ (m shards : ℕ) (mark : Mark) (total : ℕ) where
   states_fit : (before pipes : List Pipe) (list : List Numbered) → All (IsKeptMatch m shards total) list → AllZip (StateFits m shards total) pipes (states_after before pipes list)
   states_fit before [] list h = tt
   states_fit before (p ∷ pipes) list h = (
-    state_fits p (emitted before list) (emitted_holds (All (IsKeptMatch m shards total)) (All-nil (IsKeptMatch m shards total)) (all_through (IsKeptMatch m shards total)) before list h),
+    state_fits p (early_output before list) (emitted_holds (All (IsKeptMatch m shards total)) (All-nil (IsKeptMatch m shards total)) (all_through (IsKeptMatch m shards total)) before list h),
     states_fit (before ++ p ∷ []) pipes list h,
   )
 
@@ -151,8 +151,8 @@ pub book_of_fits : BookOfFits
 book_of_fits m span reads slack texts mark pipes reading =
     let found : List Match = matches m span [] (below reads slack texts mark) in
     record {
-      listed_to = (let a = fewer_emitted pipes (numbered found) in let b = length-numbered 1 found in omega (arith, a, b));
-      states = states_fit m (length texts) mark (length found) [] pipes (numbered found)
+      listed_to = (let a = fewer_emitted pipes (numbered_matches found) in let b = length-numbered 1 found in omega (arith, a, b));
+      states = states_fit m (length texts) mark (length found) [] pipes (numbered_matches found)
           (kept_numbered m (length texts) mark (length found) 1 found (omega arith) (omega arith) (found_fits m span reads slack texts mark reading));
     }
 
@@ -170,8 +170,8 @@ state_stands (pipe.Tail count) input h = stand_through (pipe.Tail count) input h
 states_stand : (before pipes : List Pipe) (list : List Numbered) → Stand list → All StateStands (states_after before pipes list)
 states_stand before [] list h = All-nil StateStands
 states_stand before (p ∷ pipes) list h =
-    All-cons StateStands (state_of p (emitted before list)) (states_after (before ++ p ∷ []) pipes list)
-    (state_stands p (emitted before list) (emitted_holds Stand (tt, All-nil (λ (n : Numbered). EventsAscend n.found.chain)) stand_through before list h))
+    All-cons StateStands (state_of p (early_output before list)) (states_after (before ++ p ∷ []) pipes list)
+    (state_stands p (early_output before list) (emitted_holds Stand (tt, All-nil (λ (n : Numbered). EventsAscend n.found.chain)) stand_through before list h))
     (states_stand (before ++ p ∷ []) pipes list h)
 
 pub book_of_stands : BookOfStands
@@ -179,7 +179,7 @@ book_of_stands m span reads slack texts mark pipes reading =
     let found : List Match = matches m span [] (below reads slack texts mark) in
     let are = found_fits m span reads slack texts mark reading in
     record {
-      in_order = states_stand [] pipes (numbered found) (
+      in_order = states_stand [] pipes (numbered_matches found) (
         numbers_ascend 1 found,
         all_numbered (λ (x : Match). EventsAscend x.chain) 1 found
             (All-weaker (IsFound m (length texts) mark) (λ (x : Match). EventsAscend x.chain) (λ x h. h.ascends) found are),
@@ -194,7 +194,7 @@ heads_on before p = list_all-append is_head before (p ∷ []) ∙ ap (λ (b : Bo
     and_true true = refl
     and_true false = refl
 
-piped_on : (before : List Pipe) (p : Pipe) (list : List Numbered) → piped (before ++ p ∷ []) list ≡ through p (piped before list)
+piped_on : (before : List Pipe) (p : Pipe) (list : List Numbered) → pipe_output (before ++ p ∷ []) list ≡ through p (pipe_output before list)
 piped_on [] p list = refl
 piped_on (q ∷ before) p list = piped_on before p (through q list)
 
@@ -213,16 +213,16 @@ after_tail false list = refl
 pub inputs_go_on : InputsGoOn
 inputs_go_on before list = record {
   after_head = λ count.
-      (λ i. cond (heads_on before (pipe.Head count) i) (piped_on before (pipe.Head count) list i) []) ∙ after_head count (list_all is_head before) (piped before list);
+      (λ i. cond (heads_on before (pipe.Head count) i) (piped_on before (pipe.Head count) list i) []) ∙ after_head count (list_all is_head before) (pipe_output before list);
   after_tail = λ count.
-      ap (λ (b : Bool). cond b (piped (before ++ pipe.Tail count ∷ []) list) []) (heads_on before (pipe.Tail count)) ∙ after_tail (list_all is_head before) (piped (before ++ pipe.Tail count ∷ []) list);
+      ap (λ (b : Bool). cond b (pipe_output (before ++ pipe.Tail count ∷ []) list) []) (heads_on before (pipe.Tail count)) ∙ after_tail (list_all is_head before) (pipe_output (before ++ pipe.Tail count ∷ []) list);
 }
 
 -- an item that doesn't fit a stage makes no chain of it
 no_chain : (span : Option ℤ) (opening : ℕ → Option (List OrderKey)) (m : ℕ) (item : Act) (past : List Act) → has_stage item.mask m ≡ false → chain span opening m (item ∷ past) ≡ None
 no_chain span opening zero item past e = refl
 no_chain span opening (suc zero) item past e = ap (λ (b : Bool). cond b (Some (item.order ∷ [])) None) e
-no_chain span opening (suc (suc k)) item past e = ap (λ (b : Bool). cond b (followed span (suc k) item (latest (chain span opening (suc k)) past)) None) e
+no_chain span opening (suc (suc k)) item past e = ap (λ (b : Bool). cond b (chain_with span (suc k) item (latest (chain span opening (suc k)) past)) None) e
 
 module _ (m : ℕ) (span : Option ℤ) (openings : Openings) where
   one_route : (r : Route) (b : Bool) (o : Option (List OrderKey)) (found : List Match) (routes : List Route) → (b ≡ false → o ≡ None) → length found ≤ length routes
@@ -268,7 +268,7 @@ lines_count text = length (lines_of text)
 fewer_from : (reads : Reads) (slack : Option ℤ) (shard : ℕ) (texts : List (List ℕ)) → length (accepted_from reads slack shard texts) ≤ sum_by lines_count texts
 fewer_from reads slack shard [] = omega arith
 fewer_from reads slack shard (text ∷ texts) =
-    let a = length-append (accepted reads slack shard text) (accepted_from reads slack (shard + 1) texts) in
+    let a = length-append (accepted_items reads slack shard text) (accepted_from reads slack (shard + 1) texts) in
     let b = fewer_accepted slack [] (readable reads shard (lines_in text)) in
     let c = fewer_readable reads shard 1 0 (lines_of text) in
     let d = fewer_from reads slack (shard + 1) texts in

@@ -27,7 +27,7 @@ use Rattle.eql_values.specs.OrderKeys.{order_cmp}
 use Rattle.eql_values.specs.Ordered.{numbers}
 use Rattle.eql_values.proofs.InOrder.{is_in_order, in_order-sorted}
 use Rattle.eql_values.specs.Matching.{Openings, act_by, acts_of, match_by, matches_after, matches, opening_of}
-use Rattle.eql_values.specs.Routing.{routed}
+use Rattle.eql_values.specs.Routing.{routed_items}
 use Rattle.eql_values.specs.Ascending.{AllAreAfter, Ascend}
 use Rattle.eql_laws.specs.Merging.{last_of, Ending, ending_cmp, by_ending, match_of, by_slot, holder_of}
 use Rattle.eql_laws.specs.Shapes.{MatchesAreInOrder}
@@ -184,18 +184,18 @@ pub keys_merge : KeysMerge
 keys_merge m span part n holders items parts up =
     sym (map_back match_of by_ending (λ m. refl) (matches m span holders items))
     ∙ ap (map match_of) (is_in_order ending_cmp ending_cmp_total ending_same (map by_ending (matches m span holders items))
-    (map by_ending (flat_map (λ p. matches m span holders (routed part p items)) (numbers n)))
+    (map by_ending (flat_map (λ p. matches m span holders (routed_items part p items)) (numbers n)))
     (endings_ascend m span holders items up)
-    (λ q. sym (find_kinds ending_cmp ending_same by_ending (λ k. part k.1) (matches m span holders items) (λ p. matches m span holders (routed part p items))
+    (λ q. sym (find_kinds ending_cmp ending_same by_ending (λ k. part k.1) (matches m span holders items) (λ p. matches m span holders (routed_items part p items))
     (λ p. routed_matches part p m span holders items) q n
     ∙ ap (λ (b : Bool). cond b (find ending_cmp q (map by_ending (matches m span holders items))) None) (within (part q.1) n (parts q.1)))))
 
 pub keys_gather : KeysGather
 keys_gather m span part n holders items parts =
     ap (map holder_of) (is_in_order slot_cmp slot_cmp_total slot_same (in_order slot_cmp (all_entries m span holders items))
-    (map by_slot (flat_map (λ p. after m span (holders_in part p holders) (routed part p items)) (numbers n)))
+    (map by_slot (flat_map (λ p. after m span (holders_in part p holders) (routed_items part p items)) (numbers n)))
     (in_order-sorted slot_cmp slot_cmp_total (all_entries m span holders items))
     (λ q. ap (find slot_cmp q) (sym (map_back by_slot holder_of (λ e. refl) (in_order slot_cmp (all_entries m span holders items))))
-    ∙ sym (find_kinds slot_cmp slot_same by_slot (λ k. part k.0) (after m span holders items) (λ p. after m span (holders_in part p holders) (routed part p items))
+    ∙ sym (find_kinds slot_cmp slot_same by_slot (λ k. part k.0) (after m span holders items) (λ p. after m span (holders_in part p holders) (routed_items part p items))
     (λ p. after_routed part p m span holders items) q n
     ∙ ap (λ (b : Bool). cond b (find slot_cmp q (map by_slot (after m span holders items))) None) (within (part q.0) n (parts q.0)))))

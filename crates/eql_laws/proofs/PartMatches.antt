@@ -14,7 +14,7 @@ use Rattle.eql_values.specs.Chains.{chain}
 use Rattle.eql_values.specs.Orders.{key_eq, key_cmp}
 use Rattle.eql_values.proofs.Same.{key_same}
 use Rattle.eql_values.specs.Matching.{Openings, act_by, acts_of, match_by, matches_after}
-use Rattle.eql_values.specs.Routing.{with_routes, routed}
+use Rattle.eql_values.specs.Routing.{with_routes, routed_items}
 use Rattle.std.specs.Prelude.{◌-◌, ◌&&◌, nat_le, nat_lt}
 use Rattle.std.proofs.Common.{map, zero, suc}
 use Rattle.std.specs.FinMap.Entries.{find as find_entry, where_key, find-where_key, is_sorted-where_key, same_entries}
@@ -60,10 +60,10 @@ module _ (part : List Value → ℕ) (p : ℕ) where
   acts_with key item (r ∷ rs) rest = refl
 
   -- what items say to a key of the part they say by the part's routes
-  pub acts_routed : (key : List Value) (past : List Item) → (part key == p) ≡ true → acts_of key (routed part p past) ≡ acts_of key past
+  pub acts_routed : (key : List Value) (past : List Item) → (part key == p) ≡ true → acts_of key (routed_items part p past) ≡ acts_of key past
   acts_routed key [] here = refl
   acts_routed key (item ∷ past) here =
-      acts_with key item (filter of_part item.routes) (routed part p past)
+      acts_with key item (filter of_part item.routes) (routed_items part p past)
       ∙ (λ i. cons_option (option_map (act_by item.order) (found_in_part key item.routes here i)) (acts_routed key past here i))
 
   -- the openings of a part are those of all, at the part's keys
@@ -80,22 +80,22 @@ module _ (part : List Value → ℕ) (p : ℕ) where
     keep_none false past order r (Some c) e rest = ap (λ (b : Bool). cond b (record { key = r.key; chain = c } ∷ filter match_of_part rest) (filter match_of_part rest)) e
 
     match_routed : (past : List Item) (order : OrderKey) (r : Route) → of_part r ≡ true
-        → match_by m span openings past order r ≡ match_by m span own (routed part p past) order r
+        → match_by m span openings past order r ≡ match_by m span own (routed_items part p past) order r
     match_routed past order r here =
         ap (λ (acts : List Act). option_map (λ c. record { key = r.key; chain = c }) (chain span (openings r.key) m (act_by order r ∷ acts))) (sym (acts_routed r.key past here))
         ∙ (λ i. option_map (λ c. record { key = r.key; chain = c })
-        (chain span (λ stage. agree r.key stage here i) m (act_by order r ∷ acts_of r.key (routed part p past))))
+        (chain span (λ stage. agree r.key stage here i) m (act_by order r ∷ acts_of r.key (routed_items part p past))))
 
     kept_match : (past : List Item) (order : OrderKey) (r : Route) (b : Bool) → of_part r ≡ b → (rest : List Match) (routes : List Route)
-        → filter match_of_part rest ≡ filter_map (match_by m span own (routed part p past) order) routes
+        → filter match_of_part rest ≡ filter_map (match_by m span own (routed_items part p past) order) routes
         → cond b (cons_option (match_by m span openings past order r) (filter match_of_part rest)) (filter match_of_part rest)
-        ≡ filter_map (match_by m span own (routed part p past) order) (cond b (r ∷ routes) routes)
+        ≡ filter_map (match_by m span own (routed_items part p past) order) (cond b (r ∷ routes) routes)
     kept_match past order r true e rest routes same = λ i. cons_option (match_routed past order r e i) (same i)
     kept_match past order r false e rest routes same = same
 
     kept_matches : (past : List Item) (order : OrderKey) (routes : List Route)
         → filter match_of_part (filter_map (match_by m span openings past order) routes)
-        ≡ filter_map (match_by m span own (routed part p past) order) (filter of_part routes)
+        ≡ filter_map (match_by m span own (routed_items part p past) order) (filter of_part routes)
     kept_matches past order [] = refl
     kept_matches past order (r ∷ routes) =
         keep_none (of_part r) past order r (chain span (openings r.key) m (act_by order r ∷ acts_of r.key past)) refl (filter_map (match_by m span openings past order) routes)
@@ -109,12 +109,12 @@ module _ (part : List Value → ℕ) (p : ℕ) where
 
     -- the matches of a part's keys are those by the items routed to it
     pub matches_routed : (past items : List Item)
-        → filter match_of_part (matches_after m span openings past items) ≡ matches_after m span own (routed part p past) (routed part p items)
+        → filter match_of_part (matches_after m span openings past items) ≡ matches_after m span own (routed_items part p past) (routed_items part p items)
     matches_routed past [] = refl
     matches_routed past (item ∷ items) =
         filter-append match_of_part (filter_map (match_by m span openings past item.order) item.routes) (matches_after m span openings (item ∷ past) items)
         ∙ (λ i. kept_matches past item.order item.routes i ++ matches_routed (item ∷ past) items i)
-        ∙ sym (matches_with (routed part p past) item (filter of_part item.routes) (routed part p items))
+        ∙ sym (matches_with (routed_items part p past) item (filter of_part item.routes) (routed_items part p items))
 
 agree_self : (part : List Value → ℕ) (p : ℕ) (openings : Openings) → Agree part p openings openings
 agree_self part p openings key stage here = refl
@@ -147,10 +147,10 @@ module _ (part : List Value → ℕ) (p : ℕ) where
   onto_with [] item items past = refl
   onto_with (r ∷ rs) item items past = refl
 
-  routed_onto : (items past : List Item) → onto (routed part p items) (routed part p past) ≡ routed part p (onto items past)
+  routed_onto : (items past : List Item) → onto (routed_items part p items) (routed_items part p past) ≡ routed_items part p (onto items past)
   routed_onto [] past = refl
   routed_onto (item ∷ items) past =
-      onto_with (filter (of_part part p) item.routes) item (routed part p items) (routed part p past) ∙ routed_onto items (item ∷ past)
+      onto_with (filter (of_part part p) item.routes) item (routed_items part p items) (routed_items part p past) ∙ routed_onto items (item ∷ past)
 
   none_one : (key : List Value) (r : Route) (found : List Route) (a b : Bool) → key_eq key r.key ≡ a → of_part part p r ≡ b → (part key == p) ≡ false
       → find (λ (r : Route). key_eq key r.key) found ≡ None
@@ -167,15 +167,15 @@ module _ (part : List Value → ℕ) (p : ℕ) where
   none_in_part key (r ∷ routes) away =
       none_one key r (filter (of_part part p) routes) (key_eq key r.key) (of_part part p r) refl refl away (none_in_part key routes away)
 
-  no_acts_away : (key : List Value) (past : List Item) → (part key == p) ≡ false → acts_of key (routed part p past) ≡ []
+  no_acts_away : (key : List Value) (past : List Item) → (part key == p) ≡ false → acts_of key (routed_items part p past) ≡ []
   no_acts_away key [] away = refl
   no_acts_away key (item ∷ past) away =
-      acts_with part p key item (filter (of_part part p) item.routes) (routed part p past)
+      acts_with part p key item (filter (of_part part p) item.routes) (routed_items part p past)
       ∙ (λ i. cons_option (option_map (act_by item.order) (none_in_part key item.routes away i)) (no_acts_away key past away i))
 
   module _ (span : Option ℤ) (holders : List Holder) (items : List Item) where
     held_one : (key : List Value) (stage : ℕ) (b : Bool) → (part key == p) ≡ b
-        → held_after span (opening_of (holders_in part p holders)) (routed part p items) key (suc stage)
+        → held_after span (opening_of (holders_in part p holders)) (routed_items part p items) key (suc stage)
         ≡ cond b (held_after span (opening_of holders) items key (suc stage)) None
     held_one key stage true here =
         ap (λ (past : List Item). holder span (opening_of (holders_in part p holders) key) (suc stage) (acts_of key past)) (routed_onto items [])
@@ -193,7 +193,7 @@ module _ (part : List Value → ℕ) (p : ℕ) where
   guarded false c o = sym (both_none c)
 
   held_slot : (span : Option ℤ) (holders : List Holder) (items : List Item) (n : ℕ) (q : Slot)
-      → up_to n (held_after span (opening_of (holders_in part p holders)) (routed part p items)) q
+      → up_to n (held_after span (opening_of (holders_in part p holders)) (routed_items part p items)) q
       ≡ cond (part q.0 == p) (up_to n (held_after span (opening_of holders) items) q) None
   held_slot span holders items n (key, zero) = sym (both_none (part key == p))
   held_slot span holders items n (key, suc stage) =
@@ -202,15 +202,15 @@ module _ (part : List Value → ℕ) (p : ℕ) where
 
   -- what is pending of a part's keys is what is pending after the part's items from the part's pending sequences
   pub after_routed : (m : ℕ) (span : Option ℤ) (holders : List Holder) (items : List Item)
-      → after m span (holders_in part p holders) (routed part p items) ≡ holders_in part p (after m span holders items)
+      → after m span (holders_in part p holders) (routed_items part p items) ≡ holders_in part p (after m span holders items)
   after_routed m span holders items =
       ap (map holder_of) (same_entries slot_cmp slot_cmp_total slot_same
-      (in_order slot_cmp (all_entries m span (holders_in part p holders) (routed part p items)))
+      (in_order slot_cmp (all_entries m span (holders_in part p holders) (routed_items part p items)))
       (where_key slot_cmp slot_of_part (in_order slot_cmp (all_entries m span holders items)))
-      (in_order-sorted slot_cmp slot_cmp_total (all_entries m span (holders_in part p holders) (routed part p items)))
+      (in_order-sorted slot_cmp slot_cmp_total (all_entries m span (holders_in part p holders) (routed_items part p items)))
       (is_sorted-where_key slot_cmp slot_of_part (in_order slot_cmp (all_entries m span holders items))
       (in_order-sorted slot_cmp slot_cmp_total (all_entries m span holders items)))
-      (λ q. find-held m span (holders_in part p holders) (routed part p items) q
+      (λ q. find-held m span (holders_in part p holders) (routed_items part p items) q
       ∙ held_slot span holders items (m - 1) q
       ∙ sym (find_where q (in_order slot_cmp (all_entries m span holders items))
       ∙ ap (λ (o : Option (List OrderKey)). cond (part q.0 == p) o None) (find-held m span holders items q))))
@@ -218,19 +218,19 @@ module _ (part : List Value → ℕ) (p : ℕ) where
 
   -- the matches of a part's keys are those by the items routed to it
   pub routed_matches : (m : ℕ) (span : Option ℤ) (holders : List Holder) (items : List Item)
-      → matches m span holders (routed part p items) ≡ matches_in part p (matches m span holders items)
+      → matches m span holders (routed_items part p items) ≡ matches_in part p (matches m span holders items)
   routed_matches m span holders items =
       sym (matches_routed part p m span (opening_of holders) (opening_of holders) (agree_self part p (opening_of holders)) [] items)
 
   -- and a part needs its own holders alone
   pub own_holders : (m : ℕ) (span : Option ℤ) (holders : List Holder) (items : List Item)
-      → matches m span (holders_in part p holders) (routed part p items) ≡ matches m span holders (routed part p items)
+      → matches m span (holders_in part p holders) (routed_items part p items) ≡ matches m span holders (routed_items part p items)
   own_holders m span holders items =
       sym (matches_routed part p m span (opening_of holders) (opening_of (holders_in part p holders)) (own_agree holders) [] items)
       ∙ sym (routed_matches m span holders items)
 
   pub part_apart : (m : ℕ) (span : Option ℤ) (holders : List Holder) (a b : List Item)
-      → matches m span (after m span (holders_in part p holders) (routed part p a)) (routed part p b)
-      ≡ matches m span (after m span holders a) (routed part p b)
+      → matches m span (after m span (holders_in part p holders) (routed_items part p a)) (routed_items part p b)
+      ≡ matches m span (after m span holders a) (routed_items part p b)
   part_apart m span holders a b =
-      ap (λ (h : List Holder). matches m span h (routed part p b)) (after_routed m span holders a) ∙ own_holders m span (after m span holders a) b
+      ap (λ (h : List Holder). matches m span h (routed_items part p b)) (after_routed m span holders a) ∙ own_holders m span (after m span holders a) b

@@ -15,9 +15,9 @@ use Rattle.eql_values.specs.Ascending.{Ascend}
 use Rattle.eql_values.specs.Chains.{in_time}
 use Rattle.eql_values.specs.Matching.{matches, after}
 use Rattle.eql_values.specs.Ordered.{numbers}
-use Rattle.eql_values.specs.Routing.{routed}
+use Rattle.eql_values.specs.Routing.{routed_items}
 use Rattle.eql_laws.specs.Alive.{HoldersAreInOrder, alive_holders}
-use Rattle.eql_laws.specs.Apart.{joined, AreInMatchOrder, ending_of}
+use Rattle.eql_laws.specs.Apart.{joined_lists, AreInMatchOrder, ending_of}
 use Rattle.eql_laws.specs.Merging.{Ending, ending_cmp, in_match_order, in_slot_order}
 use Rattle.eql_laws.specs.Parts.{holders_in, matches_in, found_by_parts, alive_in, PartsFindAll, PartsGather}
 use Rattle.eql_laws.specs.Shapes.{HasStageBefore}
@@ -39,7 +39,7 @@ each_below f g (suc n) h =
     ∙ (λ i. each_below f g n h i ++ (h n i ++ []))
     ∙ sym (flat_map-append g (numbers n) (n ∷ []))
 
-joined_each : {A : Type 0} (f : ℕ → List A) (ns : List ℕ) → joined (map f ns) ≡ flat_map f ns
+joined_each : {A : Type 0} (f : ℕ → List A) (ns : List ℕ) → joined_lists (map f ns) ≡ flat_map f ns
 joined_each f [] = refl
 joined_each f (n ∷ ns) = ap (λ (l : List _). f n ++ l) (joined_each f ns)
 
@@ -95,12 +95,12 @@ module _ {X : Type 0} (kind : X → ℕ) where
 module _ (m : ℕ) (span : Option ℤ) (part : List Value → ℕ) (n : ℕ) (holders : List Holder) (items : List Item)
     (parts : (key : List Value) → part key < n) (up : Ascend items) where
   abbrev found_in : ℕ → List Match
-  found_in p = matches m span holders (routed part p items)
+  found_in p = matches m span holders (routed_items part p items)
 
   abbrev whole : List Match
   whole = matches m span holders items
 
-  joined_is : joined (found_by_parts m span part n holders items) ≡ flat_map found_in (numbers n)
+  joined_is : joined_lists (found_by_parts m span part n holders items) ≡ flat_map found_in (numbers n)
   joined_is = joined_each found_in (numbers n)
 
   abbrev part_of_ending : Ending → ℕ
@@ -116,7 +116,7 @@ module _ (m : ℕ) (span : Option ℤ) (part : List Value → ℕ) (n : ℕ) (ho
       (λ f u e. is_equal_kind (part f.key) p e) whole (λ k d lt. tt))
 
   found_in_order : (p : ℕ) → AreInMatchOrder (found_in p)
-  found_in_order p = matches_in_order m span holders (routed part p items) ((routed_pieces part p).ascends items up)
+  found_in_order p = matches_in_order m span holders (routed_items part p items) ((routed_pieces part p).ascends items up)
 
   all_in_order : (ns : List ℕ) → All AreInMatchOrder (map found_in ns)
   all_in_order [] = All-nil AreInMatchOrder
@@ -143,14 +143,14 @@ module _ (m : ℕ) (span : Option ℤ) (t : ℤ) (part : List Value → ℕ) (n 
   living = alive_holders span t all
 
   part_stands : (p : ℕ) → HoldersAreInOrder (holders_in part p all)
-  part_stands p = subst HoldersAreInOrder (after_routed part p m span holders items) (after_in_order m span (holders_in part p holders) (routed part p items))
+  part_stands p = subst HoldersAreInOrder (after_routed part p m span holders items) (after_in_order m span (holders_in part p holders) (routed_items part p items))
 
   living_stays : after m span living [] ≡ living
   living_stays =
       after_none m span living (alive_in_order span t all (after_in_order m span holders items))
       (All-filter (λ (h : Holder). in_time span h.chain t) (HasStageBefore m) all (after_has_stages m span holders items))
 
-  part_living : (p : ℕ) → alive_in span t part p all ≡ after m span (holders_in part p living) (routed part p [])
+  part_living : (p : ℕ) → alive_in span t part p all ≡ after m span (holders_in part p living) (routed_items part p [])
   part_living p =
       filters_swap (λ (h : Holder). in_time span h.chain t) (λ (h : Holder). part h.key == p) all
       ∙ sym (after_routed part p m span living [] ∙ ap (holders_in part p) living_stays)
@@ -158,7 +158,7 @@ module _ (m : ℕ) (span : Option ℤ) (t : ℤ) (part : List Value → ℕ) (n 
 pub parts_gather : PartsGather
 parts_gather m span t part n holders items parts = record {
   all = ap in_slot_order (each_below (λ p. alive_in span t part p (after m span holders items))
-      (λ p. after m span (holders_in part p (alive_holders span t (after m span holders items))) (routed part p [])) n (part_living m span t part n holders items))
+      (λ p. after m span (holders_in part p (alive_holders span t (after m span holders items))) (routed_items part p [])) n (part_living m span t part n holders items))
       ∙ sym (keys_gather m span part n (alive_holders span t (after m span holders items)) [] parts)
       ∙ living_stays m span t part n holders items;
   part_in_order = λ p. alive_in_order span t (holders_in part p (after m span holders items)) (part_stands m span t part n holders items p);

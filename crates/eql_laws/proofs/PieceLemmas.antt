@@ -21,7 +21,7 @@ use Rattle.eql_values.specs.Marks.{is_below}
 use Rattle.eql_values.specs.OrderKeys.{order_cmp}
 use Rattle.eql_values.specs.Orders.{key_cmp}
 use Rattle.eql_values.specs.Routes.{RoutesAreInOrder}
-use Rattle.eql_values.specs.Routing.{with_routes, routed}
+use Rattle.eql_values.specs.Routing.{with_routes, routed_items}
 use Rattle.eql_laws.specs.Alive.{ItemsComeFrom}
 use Rattle.eql_laws.specs.Belows.{HasRoutesInOrder, from_to, between}
 use Rattle.eql_laws.specs.Pieces.{PiecesAscend, BetweenAscends, RoutedKeepsPieces, TimesKeep, TimesComeAfter, TimesComeBetween}
@@ -53,18 +53,18 @@ module _ (part : List Value → ℕ) (p : ℕ) where
   fewer_one item [] items n h = omega (arith, h)
   fewer_one item (route ∷ routes) items n h = omega (arith, h)
 
-  fewer_routed : (items : List Item) → length (routed part p items) ≤ length items
+  fewer_routed : (items : List Item) → length (routed_items part p items) ≤ length items
   fewer_routed [] = omega arith
-  fewer_routed (item ∷ items) = fewer_one item (filter of_part item.routes) (routed part p items) (length items) (fewer_routed items)
+  fewer_routed (item ∷ items) = fewer_one item (filter of_part item.routes) (routed_items part p items) (length items) (fewer_routed items)
 
   after_one : (event : OrderKey) (item : Item) (routes : List Route) (items : List Item) → order_cmp event item.order ≡ Less → AllAreAfter event items
       → AllAreAfter event (cons_option (with_routes item routes) items)
   after_one event item [] items lt h = h
   after_one event item (route ∷ routes) items lt h = (lt, h)
 
-  after_routed_items : (event : OrderKey) (items : List Item) → AllAreAfter event items → AllAreAfter event (routed part p items)
+  after_routed_items : (event : OrderKey) (items : List Item) → AllAreAfter event items → AllAreAfter event (routed_items part p items)
   after_routed_items event [] h = tt
-  after_routed_items event (item ∷ items) h = after_one event item (filter of_part item.routes) (routed part p items) h.0 (after_routed_items event items h.1)
+  after_routed_items event (item ∷ items) h = after_one event item (filter of_part item.routes) (routed_items part p items) h.0 (after_routed_items event items h.1)
 
   routes_of_part : (routes : List Route) → RoutesAreInOrder routes → RoutesAreInOrder (filter of_part routes)
   routes_of_part routes h =
@@ -76,18 +76,18 @@ module _ (part : List Value → ℕ) (p : ℕ) where
   ascends_one item [] items h k up = up
   ascends_one item (route ∷ routes) items h k up = (h, k, up)
 
-  routed_ascends : (items : List Item) → Ascend items → Ascend (routed part p items)
+  routed_ascends : (items : List Item) → Ascend items → Ascend (routed_items part p items)
   routed_ascends [] up = tt
   routed_ascends (item ∷ items) up =
-      ascends_one item (filter of_part item.routes) (routed part p items) (routes_of_part item.routes up.0) (after_routed_items item.order items up.1) (routed_ascends items up.2)
+      ascends_one item (filter of_part item.routes) (routed_items part p items) (routes_of_part item.routes up.0) (after_routed_items item.order items up.1) (routed_ascends items up.2)
 
   from_one : (t : ℤ) (item : Item) (routes : List Route) (items : List Item) → t ≤ℤ item.order.ts → ItemsComeFrom t items → ItemsComeFrom t (cons_option (with_routes item routes) items)
   from_one t item [] items le h = h
   from_one t item (route ∷ routes) items le h = (le, h)
 
-  routed_from : (t : ℤ) (items : List Item) → ItemsComeFrom t items → ItemsComeFrom t (routed part p items)
+  routed_from : (t : ℤ) (items : List Item) → ItemsComeFrom t items → ItemsComeFrom t (routed_items part p items)
   routed_from t [] h = tt
-  routed_from t (item ∷ items) h = from_one t item (filter of_part item.routes) (routed part p items) h.0 (routed_from t items h.1)
+  routed_from t (item ∷ items) h = from_one t item (filter of_part item.routes) (routed_items part p items) h.0 (routed_from t items h.1)
 
 pub routed_pieces : RoutedKeepsPieces
 routed_pieces part p = record {

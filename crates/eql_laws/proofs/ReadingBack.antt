@@ -4,7 +4,7 @@ use Rattle.std.specs.Prelude.{not, ◌&&◌}
 use Rattle.std.specs.List.{list_any}
 use Rattle.eql_values.specs.declared.order.OrderKey.{OrderKey}
 use Rattle.eql_values.specs.declared.item.Act.{Act}
-use Rattle.eql_values.specs.Chains.{Placed, fits_after, ends, in_time, here_or, at_start, latest, followed, chain}
+use Rattle.eql_values.specs.Chains.{Placed, fits_after, ends, in_time, here_or, at_start, latest, chain_with, chain}
 use Rattle.eql_laws.specs.InWords.{NoneStandsBetween, Follows}
 
 -- what the search for the greatest place found
@@ -74,7 +74,7 @@ module _ (span : Option ℤ) (opening : ℕ → Option (List OrderKey)) (k : ℕ
       }
 
   by_latest : (fit : Bool) → fits_after (suc k) item ≡ fit → (l : Option Placed) → latest (chain span opening (suc k)) past ≡ l
-      → cond fit (followed span (suc k) item l) None ≡ Some c → Follows span opening k item past c
+      → cond fit (chain_with span (suc k) item l) None ≡ Some c → Follows span opening k item past c
   by_latest false e l f is = cc
   by_latest true e None f is = cc
   by_latest true e (Some b) f is = by_found b e (found_latest (chain span opening (suc k)) past b f) (was_followed span (suc k) item b) refl is
@@ -97,7 +97,7 @@ latest_is f (x ∷ between) place before e none =
 pub follows_chain : (span : Option ℤ) (opening : ℕ → Option (List OrderKey)) (k : ℕ) (item : Act) (past : List Act) (c : List OrderKey)
     → Follows span opening k item past c → chain span opening (suc (suc k)) (item ∷ past) ≡ Some c
 follows_chain span opening k item past c h =
-    (λ i. cond (h.fits i) (followed span (suc k) item (latest (chain span opening (suc k)) (h.parts i))) None)
-    ∙ ap (followed span (suc k) item) (latest_is (chain span opening (suc k)) h.between h.place h.before h.there h.greatest)
+    (λ i. cond (h.fits i) (chain_with span (suc k) item (latest (chain span opening (suc k)) (h.parts i))) None)
+    ∙ ap (chain_with span (suc k) item) (latest_is (chain span opening (suc k)) h.between h.place h.before h.there h.greatest)
     ∙ (λ i. cond (not (h.none_fits i) && not (h.none_ends i) && h.within i) (Some (h.before ++ item.order ∷ [])) None)
     ∙ ap Some (sym h.is)

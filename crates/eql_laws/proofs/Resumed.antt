@@ -10,7 +10,7 @@ use Rattle.eql_values.specs.declared.cut.Pipe.{Pipe}
 use Rattle.eql_values.specs.declared.cut.Pipe.TheVariants as pipe
 use Rattle.eql_values.specs.declared.cut.PipeState.{PipeState}
 use Rattle.eql_values.specs.declared.cut.PipeState.TheVariants as state
-use Rattle.eql_values.specs.Numbering.{numbered_from, numbered, piped, emitted}
+use Rattle.eql_values.specs.Numbering.{numbered_from, numbered_matches, pipe_output, early_output}
 use Rattle.eql_laws.specs.Books.{book_of, state_of, states_after}
 use Rattle.eql_laws.specs.Resuming.{let_through, states_from, emitted_from, piped_from, numbered_after, book_from, rest_from, NumberedGoesOn, BookGoesOn, EmittedGoesOn, PipedGoesOn, ListingResumes}
 use Rattle.eql_laws.proofs.KeptBooks.{inputs_go_on}
@@ -73,13 +73,13 @@ abbrev seen_of : List Pipe → List Numbered → List PipeState
 seen_of [] input = []
 seen_of (p ∷ pipes) input = state_of p input ∷ seen_of pipes (lets p input)
 
-states_are : (before pipes : List Pipe) (list : List Numbered) → states_after before pipes list ≡ seen_of pipes (emitted before list)
+states_are : (before pipes : List Pipe) (list : List Numbered) → states_after before pipes list ≡ seen_of pipes (early_output before list)
 states_are before [] list = refl
 states_are before (pipe.Head count ∷ pipes) list =
-    ap (λ (l : List PipeState). state_of (pipe.Head count) (emitted before list) ∷ l)
+    ap (λ (l : List PipeState). state_of (pipe.Head count) (early_output before list) ∷ l)
     (states_are (before ++ pipe.Head count ∷ []) pipes list ∙ ap (seen_of pipes) ((inputs_go_on before list).after_head count))
 states_are before (pipe.Tail count ∷ pipes) list =
-    ap (λ (l : List PipeState). state_of (pipe.Tail count) (emitted before list) ∷ l)
+    ap (λ (l : List PipeState). state_of (pipe.Tail count) (early_output before list) ∷ l)
     (states_are (before ++ pipe.Tail count ∷ []) pipes list ∙ ap (seen_of pipes) ((inputs_go_on before list).after_tail count))
 
 passed_on : (count : ℕ) (a b : List Numbered) → min count (length (a ++ b)) ≡ min count (min count (length a) + length b)
@@ -107,17 +107,17 @@ none_emitted [] seen = refl
 none_emitted (p ∷ pipes) [] = refl
 none_emitted (p ∷ pipes) (s ∷ seen) = ap (emitted_from pipes seen) (lets_none p s) ∙ none_emitted pipes seen
 
-emitted_on : (pipes : List Pipe) (input more : List Numbered) → emitted pipes (input ++ more) ≡ emitted pipes input ++ emitted_from pipes (seen_of pipes input) more
+emitted_on : (pipes : List Pipe) (input more : List Numbered) → early_output pipes (input ++ more) ≡ early_output pipes input ++ emitted_from pipes (seen_of pipes input) more
 emitted_on [] input more = refl
 emitted_on (pipe.Head count ∷ pipes) input more =
-    ap (emitted pipes) (take_on count input more) ∙ emitted_on pipes (take count input) (take (count - min count (length input)) more)
+    ap (early_output pipes) (take_on count input more) ∙ emitted_on pipes (take count input) (take (count - min count (length input)) more)
 emitted_on (pipe.Tail count ∷ pipes) input more = sym (none_emitted pipes (seen_of pipes []))
 
-piped_on : (pipes : List Pipe) (input more : List Numbered) → piped pipes (input ++ more) ≡ emitted pipes input ++ piped_from pipes (seen_of pipes input) more
+piped_on : (pipes : List Pipe) (input more : List Numbered) → pipe_output pipes (input ++ more) ≡ early_output pipes input ++ piped_from pipes (seen_of pipes input) more
 piped_on [] input more = refl
 piped_on (pipe.Head count ∷ pipes) input more =
-    ap (piped pipes) (take_on count input more) ∙ piped_on pipes (take count input) (take (count - min count (length input)) more)
-piped_on (pipe.Tail count ∷ pipes) input more = ap (piped pipes) (last_on count input more)
+    ap (pipe_output pipes) (take_on count input more) ∙ piped_on pipes (take count input) (take (count - min count (length input)) more)
+piped_on (pipe.Tail count ∷ pipes) input more = ap (pipe_output pipes) (last_on count input more)
 
 module _ (pipes : List Pipe) (found more : List Match) where
   abbrev book : BookCut
@@ -126,28 +126,28 @@ module _ (pipes : List Pipe) (found more : List Match) where
   next_number : 1 + length found ≡ length found + 1
   next_number = omega arith
 
-  numbers_on : numbered (found ++ more) ≡ numbered found ++ numbered_after book more
-  numbers_on = numbered_goes_on 1 found more ∙ ap (λ (n : ℕ). numbered found ++ numbered_from n more) next_number
+  numbers_on : numbered_matches (found ++ more) ≡ numbered_matches found ++ numbered_after book more
+  numbers_on = numbered_goes_on 1 found more ∙ ap (λ (n : ℕ). numbered_matches found ++ numbered_from n more) next_number
 
-  seen_is : seen_of pipes (numbered found) ≡ book.pipes
-  seen_is = sym (states_are [] pipes (numbered found))
+  seen_is : seen_of pipes (numbered_matches found) ≡ book.pipes
+  seen_is = sym (states_are [] pipes (numbered_matches found))
 
-  emitted_is : emitted pipes (numbered (found ++ more)) ≡ emitted pipes (numbered found) ++ emitted_from pipes book.pipes (numbered_after book more)
+  emitted_is : early_output pipes (numbered_matches (found ++ more)) ≡ early_output pipes (numbered_matches found) ++ emitted_from pipes book.pipes (numbered_after book more)
   emitted_is =
-      ap (emitted pipes) numbers_on ∙ emitted_on pipes (numbered found) (numbered_after book more)
-      ∙ ap (λ (seen : List PipeState). emitted pipes (numbered found) ++ emitted_from pipes seen (numbered_after book more)) seen_is
+      ap (early_output pipes) numbers_on ∙ emitted_on pipes (numbered_matches found) (numbered_after book more)
+      ∙ ap (λ (seen : List PipeState). early_output pipes (numbered_matches found) ++ emitted_from pipes seen (numbered_after book more)) seen_is
 
-  piped_is : piped pipes (numbered (found ++ more)) ≡ emitted pipes (numbered found) ++ rest_from pipes book more
+  piped_is : pipe_output pipes (numbered_matches (found ++ more)) ≡ early_output pipes (numbered_matches found) ++ rest_from pipes book more
   piped_is =
-      ap (piped pipes) numbers_on ∙ piped_on pipes (numbered found) (numbered_after book more)
-      ∙ ap (λ (seen : List PipeState). emitted pipes (numbered found) ++ piped_from pipes seen (numbered_after book more)) seen_is
+      ap (pipe_output pipes) numbers_on ∙ piped_on pipes (numbered_matches found) (numbered_after book more)
+      ∙ ap (λ (seen : List PipeState). early_output pipes (numbered_matches found) ++ piped_from pipes seen (numbered_after book more)) seen_is
 
   book_is : book_of pipes (found ++ more) ≡ book_from pipes book more
   book_is = λ i. record {
     found = length-append found more i;
-    listed = (ap length emitted_is ∙ length-append (emitted pipes (numbered found)) (emitted_from pipes book.pipes (numbered_after book more))) i;
-    pipes = (states_are [] pipes (numbered (found ++ more)) ∙ ap (seen_of pipes) numbers_on
-        ∙ seen_on pipes (numbered found) (numbered_after book more)
+    listed = (ap length emitted_is ∙ length-append (early_output pipes (numbered_matches found)) (emitted_from pipes book.pipes (numbered_after book more))) i;
+    pipes = (states_are [] pipes (numbered_matches (found ++ more)) ∙ ap (seen_of pipes) numbers_on
+        ∙ seen_on pipes (numbered_matches found) (numbered_after book more)
         ∙ ap (λ (seen : List PipeState). states_from pipes seen (numbered_after book more)) seen_is) i;
   }
 
@@ -162,5 +162,5 @@ piped_goes_on pipes found more = piped_is pipes found more
 
 pub listing_resumes : ListingResumes
 listing_resumes pipes found more =
-    ap (drop (length (emitted pipes (numbered found)))) (piped_is pipes found more)
-    ∙ drop-append_seam (emitted pipes (numbered found)) (rest_from pipes (book_of pipes found) more)
+    ap (drop (length (early_output pipes (numbered_matches found)))) (piped_is pipes found more)
+    ∙ drop-append_seam (early_output pipes (numbered_matches found)) (rest_from pipes (book_of pipes found) more)

@@ -5,7 +5,7 @@ use Rattle.std.proofs.lemmas.List.{append-nil}
 use Rattle.std.proofs.lemmas.List.Elements.{filter-append, filter_map-append}
 use Rattle.eql_values.specs.declared.item.Item.{Item}
 use Rattle.eql_values.specs.declared.order.Mark.{Mark}
-use Rattle.eql_values.specs.Accepted.{Reads, readable, accepted, accepted_after, accepted_from, sorted_items}
+use Rattle.eql_values.specs.Accepted.{Reads, readable, accepted_items, accepted_after, accepted_from, sorted_items}
 use Rattle.eql_values.specs.Lines.{lines_in}
 use Rattle.eql_values.specs.Marks.{is_below, low_of, is_safe}
 use Rattle.eql_laws.specs.Lateness.{best_of, accepted_by, IsAtMost}
@@ -29,9 +29,9 @@ accepted_goes_on reads slack shard a b h =
 -- by whether the shard was closed
 late_by_place : (reads : Reads) (slack : Option ℤ) (shard : ℕ) (mark : Mark) (first rest : List ℕ) (closed : Bool) → IsTrue (is_line_end first rest)
     → (closed ≡ true → rest ≡ []) → IsAtMost mark (low_of closed slack (best_of (readable reads shard (lines_in first))))
-    → filter (is_below mark) (accepted reads slack shard (first ++ rest)) ≡ filter (is_below mark) (accepted reads slack shard first)
+    → filter (is_below mark) (accepted_items reads slack shard (first ++ rest)) ≡ filter (is_below mark) (accepted_items reads slack shard first)
 late_by_place reads slack shard mark first rest true line_end at_end low =
-    ap (λ (text : List ℕ). filter (is_below mark) (accepted reads slack shard text)) (ap (λ (l : List ℕ). first ++ l) (at_end refl) ∙ append-nil first)
+    ap (λ (text : List ℕ). filter (is_below mark) (accepted_items reads slack shard text)) (ap (λ (l : List ℕ). first ++ l) (at_end refl) ∙ append-nil first)
 late_by_place reads slack shard mark first rest false line_end at_end low =
     ap (λ (items : List Item). filter (is_below mark) (accepted_after slack [] items)) (readable_goes_on reads shard first rest line_end)
     ∙ none_comes_below slack mark (readable reads shard (lines_in first)) (readable reads shard (lines_after first rest)) low
@@ -47,9 +47,9 @@ late_from : (reads : Reads) (slack : Option ℤ) (mark : Mark) (shard : ℕ) (sh
 late_from reads slack mark shard [] places safe = refl
 late_from reads slack mark shard (r ∷ shards) places safe =
     let both = both_true _ _ safe in
-    filter-append (is_below mark) (accepted reads slack shard (whole r)) (accepted_from reads slack (shard + 1) (map whole shards))
+    filter-append (is_below mark) (accepted_items reads slack shard (whole r)) (accepted_from reads slack (shard + 1) (map whole shards))
     ∙ (λ i. late_of_shard reads slack shard mark r places.0 both.0 i ++ late_from reads slack mark (shard + 1) shards places.1 both.1 i)
-    ∙ sym (filter-append (is_below mark) (accepted reads slack shard r.first) (accepted_from reads slack (shard + 1) (map (λ (r : ReadTo). r.first) shards)))
+    ∙ sym (filter-append (is_below mark) (accepted_items reads slack shard r.first) (accepted_from reads slack (shard + 1) (map (λ (r : ReadTo). r.first) shards)))
 
 pub late : RestIsLate
 late reads slack mark shards places safe = ap sorted_items (late_from reads slack mark 0 shards places safe)

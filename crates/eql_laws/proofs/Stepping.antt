@@ -4,7 +4,7 @@ use Rattle.std.specs.Prelude.{not, ◌&&◌, ◌||◌}
 use Rattle.std.specs.List.{list_any}
 use Rattle.eql_values.specs.declared.order.OrderKey.{OrderKey}
 use Rattle.eql_values.specs.declared.item.Act.{Act}
-use Rattle.eql_values.specs.Chains.{Placed, fits_after, ends, in_time, here_or, at_start, latest, followed, chain, held_of, holder}
+use Rattle.eql_values.specs.Chains.{Placed, fits_after, ends, in_time, here_or, at_start, latest, chain_with, chain, held_of, holder}
 use Rattle.eql_laws.specs.Slots.{Slots, chain_moved_on, chain_coming, slots_after}
 use Rattle.eql_values.specs.Ordered.{found_or}
 use Rattle.eql_values.proofs.InOrder.{both_none}
@@ -21,7 +21,7 @@ moved_cases span item c false false false = refl
 
 -- a chain goes on by an item as a pending sequence does
 followed_is : (span : Option ℤ) (k : ℕ) (item : Act) (found : Option Placed) (fits : Bool)
-    → cond fits (followed span k item found) None ≡ cond (fits && not item.until) (chain_moved_on span (held_of k found) item) None
+    → cond fits (chain_with span k item found) None ≡ cond (fits && not item.until) (chain_moved_on span (held_of k found) item) None
 followed_is span k item None true = sym (both_none (not item.until))
 followed_is span k item (Some before) true = moved_cases span item before.0 (list_any (fits_after k) before.1) (list_any ends before.1) item.until
 followed_is span k item found false = refl

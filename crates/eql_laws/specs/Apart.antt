@@ -11,8 +11,8 @@ use Rattle.eql_values.specs.OrderKeys.{order_cmp}
 use Rattle.eql_laws.specs.Merging.{Ending, ending_cmp, by_ending}
 
 -- the lists, one after another
-abbrev pub joined : {X : Type 0} → List (List X) → List X
-joined {X} = flat_map (λ (xs : List X). xs)
+abbrev pub joined_lists : {X : Type 0} → List (List X) → List X
+joined_lists {X} = flat_map (λ (xs : List X). xs)
 
 module _ {X K : Type 0} (R : K → K → Ordering) (key : X → K) where
   -- one of the values has this key

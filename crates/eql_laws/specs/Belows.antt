@@ -5,7 +5,7 @@ use Rattle.eql_values.specs.declared.item.Item.{Item}
 use Rattle.eql_values.specs.declared.order.Mark.{Mark}
 use Rattle.eql_values.specs.declared.order.Mark.TheVariants.{At}
 use Rattle.eql_values.specs.declared.reader.LineGot.TheVariants as got
-use Rattle.eql_values.specs.Accepted.{Reads, readable, accepted, accepted_from, sorted_items, below}
+use Rattle.eql_values.specs.Accepted.{Reads, readable, accepted_items, accepted_from, sorted_items, below}
 use Rattle.eql_values.specs.Ascending.{Ascend}
 use Rattle.eql_values.specs.Lines.{lines_of, lines_in}
 use Rattle.eql_values.specs.Marks.{is_below, low_of}
@@ -67,8 +67,8 @@ pub record IsAcceptedOf (shard : ℕ) (text : List ℕ) (item : Item) : Type 0 w
 
 -- the accepted events of a text are such, and no more than its readable lines, which are no more than its lines
 pub record AcceptedAre (reads : Reads) (slack : Option ℤ) (shard : ℕ) (text : List ℕ) : Type 0 where
-  pub all : All (IsAcceptedOf shard text) (accepted reads slack shard text)
-  pub fewer : length (accepted reads slack shard text) ≤ length (readable reads shard (lines_in text))
+  pub all : All (IsAcceptedOf shard text) (accepted_items reads slack shard text)
+  pub fewer : length (accepted_items reads slack shard text) ≤ length (readable reads shard (lines_in text))
   pub readable_fewer : length (readable reads shard (lines_in text)) ≤ length (lines_of text)
   pub best_in_range : IfSome (best_of (readable reads shard (lines_in text))) IsTime
 

@@ -17,7 +17,7 @@ use Rattle.eql_values.specs.Accepted.{Reads, below}
 use Rattle.eql_values.specs.Lines.{lines_of}
 use Rattle.eql_values.specs.Masks.{has_stage}
 use Rattle.eql_values.specs.Matching.{matches}
-use Rattle.eql_values.specs.Numbering.{numbered, through, emitted}
+use Rattle.eql_values.specs.Numbering.{numbered_matches, through, early_output}
 use Rattle.eql_values.specs.OrderKeys.{EventsAscend}
 use Rattle.eql_laws.specs.Belows.{IsReading}
 use Rattle.eql_laws.specs.Counting.{IsShardText}
@@ -32,16 +32,16 @@ state_of (pipe.Tail count) input = state.Tail (through (pipe.Tail count) input)
 -- what pipes have seen that come after others: the input of each is what those before it let through, if all are heads, else nothing
 abbrev pub states_after : (before : List Pipe) → List Pipe → List Numbered → List PipeState
 states_after before [] list = []
-states_after before (p ∷ pipes) list = state_of p (emitted before list) ∷ states_after (before ++ p ∷ []) pipes list
+states_after before (p ∷ pipes) list = state_of p (early_output before list) ∷ states_after (before ++ p ∷ []) pipes list
 
 -- what a cut keeps of the output: how many matches were found, how many of them may be written before the end, and what each pipe has seen
 abbrev pub book_of : List Pipe → List Match → BookCut
-book_of pipes found = record { found = length found; listed = length (emitted pipes (numbered found)); pipes = states_after [] pipes (numbered found) }
+book_of pipes found = record { found = length found; listed = length (early_output pipes (numbered_matches found)); pipes = states_after [] pipes (numbered_matches found) }
 
 -- the input of a pipe after a head is what that head let through, and after a tail it is nothing
 pub record InputGoesOn (before : List Pipe) (list : List Numbered) : Type 0 where
-  pub after_head : (count : ℕ) → emitted (before ++ pipe.Head count ∷ []) list ≡ take count (emitted before list)
-  pub after_tail : (count : ℕ) → emitted (before ++ pipe.Tail count ∷ []) list ≡ []
+  pub after_head : (count : ℕ) → early_output (before ++ pipe.Head count ∷ []) list ≡ take count (early_output before list)
+  pub after_tail : (count : ℕ) → early_output (before ++ pipe.Tail count ∷ []) list ≡ []
 
 abbrev pub InputsGoOn : Type 0
 InputsGoOn = (before : List Pipe) (list : List Numbered) → InputGoesOn before list

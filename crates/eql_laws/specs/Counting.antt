@@ -6,7 +6,7 @@ use Rattle.eql_values.specs.declared.cut.FirstBad.{FirstBad}
 use Rattle.eql_values.specs.declared.cut.Counts.{Counts}
 use Rattle.eql_values.specs.declared.reader.LineGot.{LineGot}
 use Rattle.eql_values.specs.declared.reader.LineGot.TheVariants as got
-use Rattle.eql_values.specs.Accepted.{Reads, readable, is_late, accepted}
+use Rattle.eql_values.specs.Accepted.{Reads, readable, is_late, accepted_items}
 use Rattle.eql_values.specs.Lines.{Line, lines_of, lines_in}
 use Rattle.eql_laws.specs.Lateness.{larger, late_by, best_of, best_from, accepted_by}
 use Rattle.eql_laws.specs.Places.{ReadTo, whole, is_line_end, lines_after}
@@ -52,7 +52,7 @@ first_in (bad ∷ others) = Some bad
 abbrev pub counts_of : Reads → Option ℤ → ℕ → List ℕ → Counts
 counts_of reads slack shard text = record {
   lines = length (lines_of text);
-  accepted = length (accepted reads slack shard text);
+  accepted = length (accepted_items reads slack shard text);
   late = length (late_events reads slack shard text);
   rejected = length (rejections reads shard (lines_in text));
   first = first_in (rejections reads shard (lines_in text));

@@ -7,7 +7,7 @@ use Rattle.eql_values.specs.declared.found.Match.{Match}
 use Rattle.eql_values.specs.declared.found.Holder.{Holder}
 use Rattle.eql_values.specs.declared.order.Mark.{Mark}
 use Rattle.eql_values.specs.declared.reader.LineGot.TheVariants as got
-use Rattle.eql_values.specs.Accepted.{Reads, accepted, accepted_from, sorted_items, below}
+use Rattle.eql_values.specs.Accepted.{Reads, accepted_items, accepted_from, sorted_items, below}
 use Rattle.eql_values.specs.Ascending.{Ascend}
 use Rattle.eql_values.specs.Marks.{is_below}
 use Rattle.eql_values.specs.Matching.{matches, after}
@@ -33,7 +33,7 @@ BelowKeepsAll = (reads : Reads) (slack : Option ℤ) (texts : List (List ℕ)) (
 
 -- what a shard holds back at a mark: its accepted events that aren't below it, in order
 abbrev pub held_back : Reads → Option ℤ → ℕ → List ℕ → Mark → List Item
-held_back reads slack shard text mark = sorted_items (filter (λ item. not (is_below mark item)) (accepted reads slack shard text))
+held_back reads slack shard text mark = sorted_items (filter (λ item. not (is_below mark item)) (accepted_items reads slack shard text))
 
 -- an event that is held back
 pub record IsHeldBack (shard : ℕ) (text : List ℕ) (mark : Mark) (item : Item) : Type 0 where
@@ -43,7 +43,7 @@ pub record IsHeldBack (shard : ℕ) (text : List ℕ) (mark : Mark) (item : Item
 pub record HeldBackAre (reads : Reads) (slack : Option ℤ) (shard : ℕ) (text : List ℕ) (mark : Mark) : Type 0 where
   pub all : All (IsHeldBack shard text mark) (held_back reads slack shard text mark)
   pub ascending : Ascend (held_back reads slack shard text mark)
-  pub fewer : length (held_back reads slack shard text mark) ≤ length (accepted reads slack shard text)
+  pub fewer : length (held_back reads slack shard text mark) ≤ length (accepted_items reads slack shard text)
 
 abbrev pub HeldBackFits : Type 0
 HeldBackFits = (reads : Reads) (slack : Option ℤ) (shard : ℕ) (text : List ℕ) (mark : Mark) → IsReading reads

@@ -10,7 +10,7 @@ use Rattle.eql_values.specs.declared.found.Match.{Match}
 use Rattle.eql_values.specs.declared.found.Holder.{Holder}
 use Rattle.eql_values.specs.Matching.{matches, after}
 use Rattle.eql_values.specs.Ordered.{numbers}
-use Rattle.eql_values.specs.Routing.{routed}
+use Rattle.eql_values.specs.Routing.{routed_items}
 use Rattle.eql_laws.specs.Alive.{alive_holders}
 use Rattle.eql_laws.specs.Lateness.{accepted_by}
 use Rattle.eql_laws.specs.Merging.{in_match_order, in_slot_order}
@@ -46,14 +46,14 @@ holds n line = record { key = key_of n; stage = 1; chain = at line ∷ [] }
 both_parts : matches 2 None [] six ≡ pair_of 1 2 3 ∷ pair_of 0 1 4 ∷ []
 both_parts = refl
 
-first_part : matches 2 None [] (routed part_of 0 six) ≡ pair_of 0 1 4 ∷ []
+first_part : matches 2 None [] (routed_items part_of 0 six) ≡ pair_of 0 1 4 ∷ []
 first_part = refl
 
-parts_merged : in_match_order (flat_map (λ p. matches 2 None [] (routed part_of p six)) (numbers 2)) ≡ pair_of 1 2 3 ∷ pair_of 0 1 4 ∷ []
+parts_merged : in_match_order (flat_map (λ p. matches 2 None [] (routed_items part_of p six)) (numbers 2)) ≡ pair_of 1 2 3 ∷ pair_of 0 1 4 ∷ []
 parts_merged = refl
 
 -- what is pending comes by key
-parts_gathered : in_slot_order (after 2 None [] (routed part_of 1 six)) ≡ holds 1 5 ∷ []
+parts_gathered : in_slot_order (after 2 None [] (routed_items part_of 1 six)) ≡ holds 1 5 ∷ []
 parts_gathered = refl
 
 gathered_by_key : in_slot_order (holds 1 5 ∷ holds 0 6 ∷ []) ≡ holds 0 6 ∷ holds 1 5 ∷ []

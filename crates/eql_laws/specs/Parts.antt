@@ -8,16 +8,16 @@ use Rattle.eql_values.specs.declared.found.Holder.{Holder}
 use Rattle.eql_values.specs.Ascending.{Ascend}
 use Rattle.eql_values.specs.Matching.{opening_of, matches, after}
 use Rattle.eql_values.specs.Ordered.{numbers}
-use Rattle.eql_values.specs.Routing.{routed}
+use Rattle.eql_values.specs.Routing.{routed_items}
 use Rattle.eql_laws.specs.Alive.{HoldersAreInOrder, alive_holders}
-use Rattle.eql_laws.specs.Apart.{joined, AreInMatchOrder, MatchesAreApart}
+use Rattle.eql_laws.specs.Apart.{joined_lists, AreInMatchOrder, MatchesAreApart}
 use Rattle.eql_laws.specs.Merging.{in_match_order, in_slot_order}
 
 -- keys in n parts: the matches are those by the items routed to each part, merged
 abbrev pub KeysMerge : Type 0
 KeysMerge = (m : ℕ) (span : Option ℤ) (part : List Value → ℕ) (n : ℕ) (holders : List Holder) (items : List Item)
     → ((key : List Value) → part key < n) → Ascend items
-    → matches m span holders items ≡ in_match_order (flat_map (λ p. matches m span holders (routed part p items)) (numbers n))
+    → matches m span holders items ≡ in_match_order (flat_map (λ p. matches m span holders (routed_items part p items)) (numbers n))
 
 -- the matches of a part's keys
 abbrev pub matches_in : (List Value → ℕ) → ℕ → List Match → List Match
@@ -31,7 +31,7 @@ holders_in part p = filter (λ (h : Holder). part h.key == p)
 abbrev pub KeysGather : Type 0
 KeysGather = (m : ℕ) (span : Option ℤ) (part : List Value → ℕ) (n : ℕ) (holders : List Holder) (items : List Item)
     → ((key : List Value) → part key < n)
-    → after m span holders items ≡ in_slot_order (flat_map (λ p. after m span (holders_in part p holders) (routed part p items)) (numbers n))
+    → after m span holders items ≡ in_slot_order (flat_map (λ p. after m span (holders_in part p holders) (routed_items part p items)) (numbers n))
 
 -- a part's pending sequences are those that a look-up finds at the part's keys
 abbrev pub PartLooksUp : Type 0
@@ -41,32 +41,32 @@ PartLooksUp = (part : List Value → ℕ) (p : ℕ) (holders : List Holder) (key
 -- the matches by a part's items are the matches of the part's keys
 abbrev pub RoutingKeepsMatches : Type 0
 RoutingKeepsMatches = (part : List Value → ℕ) (p m : ℕ) (span : Option ℤ) (holders : List Holder) (items : List Item)
-    → matches m span holders (routed part p items) ≡ matches_in part p (matches m span holders items)
+    → matches m span holders (routed_items part p items) ≡ matches_in part p (matches m span holders items)
 
 -- for a part's items the part's pending sequences are enough
 abbrev pub OwnHoldersSuffice : Type 0
 OwnHoldersSuffice = (part : List Value → ℕ) (p m : ℕ) (span : Option ℤ) (holders : List Holder) (items : List Item)
-    → matches m span (holders_in part p holders) (routed part p items) ≡ matches m span holders (routed part p items)
+    → matches m span (holders_in part p holders) (routed_items part p items) ≡ matches m span holders (routed_items part p items)
 
 -- what is pending of a part's keys is what is pending after the part's items from the part's pending sequences
 abbrev pub RoutingKeepsAfter : Type 0
 RoutingKeepsAfter = (part : List Value → ℕ) (p m : ℕ) (span : Option ℤ) (holders : List Holder) (items : List Item)
-    → after m span (holders_in part p holders) (routed part p items) ≡ holders_in part p (after m span holders items)
+    → after m span (holders_in part p holders) (routed_items part p items) ≡ holders_in part p (after m span holders items)
 
 -- a part's later matches depend on its own opening sequences and its own earlier items alone
 abbrev pub PartStandsAlone : Type 0
 PartStandsAlone = (part : List Value → ℕ) (p m : ℕ) (span : Option ℤ) (holders : List Holder) (a b : List Item)
-    → matches m span (after m span (holders_in part p holders) (routed part p a)) (routed part p b)
-    ≡ matches m span (after m span holders a) (routed part p b)
+    → matches m span (after m span (holders_in part p holders) (routed_items part p a)) (routed_items part p b)
+    ≡ matches m span (after m span holders a) (routed_items part p b)
 
 -- the matches by the items routed to each part, part by part
 abbrev pub found_by_parts : (m : ℕ) (span : Option ℤ) (part : List Value → ℕ) (n : ℕ) → List Holder → List Item → List (List Match)
-found_by_parts m span part n holders items = map (λ p. matches m span holders (routed part p items)) (numbers n)
+found_by_parts m span part n holders items = map (λ p. matches m span holders (routed_items part p items)) (numbers n)
 
 -- the matches of all parts are those of the whole, each once
 pub record PartsFind (m : ℕ) (span : Option ℤ) (part : List Value → ℕ) (n : ℕ) (holders : List Holder) (items : List Item) : Type 0 where
-  pub all : IsPermutation (joined (found_by_parts m span part n holders items)) (matches m span holders items)
-  pub merged : matches m span holders items ≡ in_match_order (joined (found_by_parts m span part n holders items))
+  pub all : IsPermutation (joined_lists (found_by_parts m span part n holders items)) (matches m span holders items)
+  pub merged : matches m span holders items ≡ in_match_order (joined_lists (found_by_parts m span part n holders items))
   pub in_order : All AreInMatchOrder (found_by_parts m span part n holders items)
   pub apart : MatchesAreApart (found_by_parts m span part n holders items)
 

@@ -7,7 +7,7 @@ use Rattle.eql_values.specs.declared.value.Value.{Value}
 use Rattle.eql_values.specs.declared.item.Item.{Item}
 use Rattle.eql_values.specs.Accepted.{Reads}
 use Rattle.eql_values.specs.Ascending.{AllAreAfter, Ascend}
-use Rattle.eql_values.specs.Routing.{routed}
+use Rattle.eql_values.specs.Routing.{routed_items}
 use Rattle.eql_laws.specs.Alive.{ItemsComeFrom}
 use Rattle.eql_laws.specs.Belows.{IsReading, between}
 
@@ -21,10 +21,10 @@ BetweenAscends = (reads : Reads) (slack : Option ℤ) (texts : List (List ℕ)) 
 
 -- the items of a part: those of two lists one after the other, no more than all, and ascending where all ascend
 pub record RoutedKeeps (part : List Value → ℕ) (p : ℕ) : Type 0 where
-  pub pieces : (a b : List Item) → routed part p (a ++ b) ≡ routed part p a ++ routed part p b
-  pub fewer : (items : List Item) → length (routed part p items) ≤ length items
-  pub ascends : (items : List Item) → Ascend items → Ascend (routed part p items)
-  pub times : (t : ℤ) (items : List Item) → ItemsComeFrom t items → ItemsComeFrom t (routed part p items)
+  pub pieces : (a b : List Item) → routed_items part p (a ++ b) ≡ routed_items part p a ++ routed_items part p b
+  pub fewer : (items : List Item) → length (routed_items part p items) ≤ length items
+  pub ascends : (items : List Item) → Ascend items → Ascend (routed_items part p items)
+  pub times : (t : ℤ) (items : List Item) → ItemsComeFrom t items → ItemsComeFrom t (routed_items part p items)
 
 abbrev pub RoutedKeepsPieces : Type 0
 RoutedKeepsPieces = (part : List Value → ℕ) (p : ℕ) → RoutedKeeps part p

@@ -2,7 +2,7 @@
 use Rattle.std.specs.Prelude.{◌≡◌, ◌≢◌, not, codes, refl, ℕ, ◌+◌, ℤ, Bool, true, List, [], ◌∷◌, ◌++◌, ◌==◌, Option, map, filter, length, IsTrue}
 use Rattle.std.specs.List.{list_all}
 use Rattle.eql_values.specs.declared.order.Mark.{Mark}
-use Rattle.eql_values.specs.Accepted.{Reads, readable, accepted, below}
+use Rattle.eql_values.specs.Accepted.{Reads, readable, accepted_items, below}
 use Rattle.eql_values.specs.Lines.{Line, lines_of, numbered_lines, lines_in}
 use Rattle.eql_values.specs.Marks.{is_below, low_of, is_safe}
 use Rattle.eql_laws.specs.Lateness.{best_of, accepted_by, IsAtMost}
@@ -77,8 +77,8 @@ ReadableGoesOn = (reads : Reads) (shard : ℕ) (a b : List ℕ) → IsTrue (is_l
 -- the accepted events of two texts: those of the first, and those of the second with the greatest time of the first kept
 abbrev pub AcceptedGoesOn : Type 0
 AcceptedGoesOn = (reads : Reads) (slack : Option ℤ) (shard : ℕ) (a b : List ℕ) → IsTrue (is_line_end a b)
-    → accepted reads slack shard (a ++ b)
-    ≡ accepted reads slack shard a ++ accepted_by slack (best_of (readable reads shard (lines_in a))) (readable reads shard (lines_after a b))
+    → accepted_items reads slack shard (a ++ b)
+    ≡ accepted_items reads slack shard a ++ accepted_by slack (best_of (readable reads shard (lines_in a))) (readable reads shard (lines_after a b))
 
 -- a shard that was read up to a place: the bytes before it, those after it, and whether it was closed there
 pub record ReadTo : Type 0 where
@@ -112,7 +112,7 @@ ArePlaces (r ∷ shards) = IsPlace r × ArePlaces shards
 -- every accepted event of a shard below a mark that is at most its low stands before the place
 abbrev pub RestOfShardIsLate : Type 0
 RestOfShardIsLate = (reads : Reads) (slack : Option ℤ) (shard : ℕ) (mark : Mark) (r : ReadTo) → IsPlace r → IsAtMost mark (low_at reads slack shard r)
-    → filter (is_below mark) (accepted reads slack shard (whole r)) ≡ filter (is_below mark) (accepted reads slack shard r.first)
+    → filter (is_below mark) (accepted_items reads slack shard (whole r)) ≡ filter (is_below mark) (accepted_items reads slack shard r.first)
 
 -- every accepted event below a safe mark stands before the places at which the mark is safe
 abbrev pub RestIsLate : Type 0

@@ -7,7 +7,7 @@ use Rattle.eql_values.specs.declared.cut.Pipe.{Pipe}
 use Rattle.eql_values.specs.declared.cut.Pipe.TheVariants as pipe
 use Rattle.eql_values.specs.declared.cut.PipeState.{PipeState}
 use Rattle.eql_values.specs.declared.cut.PipeState.TheVariants as state
-use Rattle.eql_values.specs.Numbering.{numbered_from, numbered, through, piped, emitted}
+use Rattle.eql_values.specs.Numbering.{numbered_from, numbered_matches, through, pipe_output, early_output}
 use Rattle.eql_laws.specs.Books.{book_of, kept_of}
 
 -- what a pipe that has seen some input lets through of more before the end: a head up to its count, a tail nothing
@@ -40,7 +40,7 @@ abbrev pub piped_from : List Pipe → List PipeState → List Numbered → List 
 piped_from [] seen more = more
 piped_from (p ∷ pipes) [] more = []
 piped_from (pipe.Head count ∷ pipes) (s ∷ seen) more = piped_from pipes seen (let_through (pipe.Head count) s more)
-piped_from (pipe.Tail count ∷ pipes) (s ∷ seen) more = piped pipes (through (pipe.Tail count) (kept_of s ++ more))
+piped_from (pipe.Tail count ∷ pipes) (s ∷ seen) more = pipe_output pipes (through (pipe.Tail count) (kept_of s ++ more))
 
 -- matches that are found after those of a book, with their numbers
 abbrev pub numbered_after : BookCut → List Match → List Numbered
@@ -69,17 +69,17 @@ BookGoesOn = (pipes : List Pipe) (found more : List Match) → book_of pipes (fo
 -- what may be written before the end begins with what might be before, and goes on by the book alone
 abbrev pub EmittedGoesOn : Type 0
 EmittedGoesOn = (pipes : List Pipe) (found more : List Match) → let book = book_of pipes found in
-    emitted pipes (numbered (found ++ more)) ≡ emitted pipes (numbered found) ++ emitted_from pipes book.pipes (numbered_after book more)
+    early_output pipes (numbered_matches (found ++ more)) ≡ early_output pipes (numbered_matches found) ++ emitted_from pipes book.pipes (numbered_after book more)
 
 -- and so does what is written at the end
 abbrev pub PipedGoesOn : Type 0
 PipedGoesOn = (pipes : List Pipe) (found more : List Match)
-    → piped pipes (numbered (found ++ more)) ≡ emitted pipes (numbered found) ++ rest_from pipes (book_of pipes found) more
+    → pipe_output pipes (numbered_matches (found ++ more)) ≡ early_output pipes (numbered_matches found) ++ rest_from pipes (book_of pipes found) more
 
 -- so the listing after the lines that a book counts is a function of that book and of the matches after it
 abbrev pub ListingResumes : Type 0
 ListingResumes = (pipes : List Pipe) (found more : List Match) → let book = book_of pipes found in
-    drop book.listed (piped pipes (numbered (found ++ more))) ≡ rest_from pipes book more
+    drop book.listed (pipe_output pipes (numbered_matches (found ++ more))) ≡ rest_from pipes book more
 
 abbrev one : Match
 one = record { key = []; chain = [] }

@@ -3,7 +3,7 @@ use Rattle.std.specs.Prelude.{◌≡◌, ◌+◌, ℕ, ℤ, false, not, List, []
 use Rattle.std.specs.List.{flat_map}
 use Rattle.eql_values.specs.declared.item.Item.{Item}
 use Rattle.eql_values.specs.declared.order.Mark.{Mark}
-use Rattle.eql_values.specs.Accepted.{Reads, readable, accepted, sorted_items}
+use Rattle.eql_values.specs.Accepted.{Reads, readable, accepted_items, sorted_items}
 use Rattle.eql_values.specs.Lines.{lines_in}
 use Rattle.eql_values.specs.Marks.{is_below, low_of}
 use Rattle.eql_values.specs.Ascending.{Ascend}
@@ -17,7 +17,7 @@ use Rattle.eql_laws.specs.Places.{ReadTo, IsPlace, whole, low_at, is_line_end, l
 abbrev pub handed_out : Reads → Option ℤ → ℕ → List (List ℕ) → (from to : Mark) → List (List Item)
 handed_out reads slack shard [] from to = []
 handed_out reads slack shard (text ∷ texts) from to =
-    sorted_items (from_to from to (accepted reads slack shard text)) ∷ handed_out reads slack (shard + 1) texts from to
+    sorted_items (from_to from to (accepted_items reads slack shard text)) ∷ handed_out reads slack (shard + 1) texts from to
 
 -- what all shards hand out, put in order, is what lies between the marks
 abbrev pub ShardsMakeBetween : Type 0
@@ -26,7 +26,7 @@ ShardsMakeBetween = (reads : Reads) (slack : Option ℤ) (texts : List (List ℕ
 
 -- of what a shard holds back at one mark it hands out what is below a greater one, and holds back the rest
 pub record Takes (reads : Reads) (slack : Option ℤ) (shard : ℕ) (text : List ℕ) (from to : Mark) : Type 0 where
-  pub handed : filter (is_below to) (held_back reads slack shard text from) ≡ sorted_items (from_to from to (accepted reads slack shard text))
+  pub handed : filter (is_below to) (held_back reads slack shard text from) ≡ sorted_items (from_to from to (accepted_items reads slack shard text))
   pub held : filter (λ item. not (is_below to item)) (held_back reads slack shard text from) ≡ held_back reads slack shard text to
 
 abbrev pub TakeSplits : Type 0
@@ -35,7 +35,7 @@ TakeSplits = (reads : Reads) (slack : Option ℤ) (shard : ℕ) (text : List ℕ
 -- what a shard hands out up to a mark that is at most its low is the same by the text before its place as by the whole text
 abbrev pub RestIsLateBetween : Type 0
 RestIsLateBetween = (reads : Reads) (slack : Option ℤ) (shard : ℕ) (from to : Mark) (r : ReadTo) → IsPlace r → IsAtMost to (low_at reads slack shard r)
-    → from_to from to (accepted reads slack shard (whole r)) ≡ from_to from to (accepted reads slack shard r.first)
+    → from_to from to (accepted_items reads slack shard (whole r)) ≡ from_to from to (accepted_items reads slack shard r.first)
 
 -- with more text a shard holds back what it held back, and what more was accepted, at a mark that is at most its low before
 abbrev pub HeldBackGrows : Type 0

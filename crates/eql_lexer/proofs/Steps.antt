@@ -7,7 +7,7 @@ use Rattle.eql_lexer.specs.declared.refusal.Fault.TheVariants as fault
 use Rattle.eql_lexer.specs.declared.refusal.Rule.TheVariants as rule
 use Rattle.eql_lexer.specs.Bytes.{begins}
 use Rattle.eql_lexer.specs.Escapes.{escape}
-use Rattle.eql_lexer.specs.Strings.{IsPlain, IsContent, closed, plain, escaped, IsBadEscape, bad_here, bad_after_plain, bad_after_escape, is_closed, put, quoted_name, name_behind, is_name}
+use Rattle.eql_lexer.specs.Strings.{IsPlain, IsContent, closed, plain, escaped, IsBadEscape, bad_here, bad_after_plain, bad_after_escape, is_closed, with_byte, quoted_name, name_behind, is_name}
 use Rattle.eql_lexer.specs.Refusing.{HasContentFault}
 use Rattle.eql_lexer.proofs.Closing.{closed_plain, closed_escape, unequal, rest_after}
 use Rattle.eql_lexer.proofs.Utf8.{split_utf8, escape_utf8, escape_scalar}
@@ -62,7 +62,7 @@ abbrev pub put_all : List ℕ → Option (List ℕ × List ℕ) → Option (List
 put_all out None = None
 put_all out (Some x) = Some (out ++ x.0, x.1)
 
-put_all-put : (out : List ℕ) (b : ℕ) (o : Option (List ℕ × List ℕ)) → put_all (out ++ b ∷ []) o ≡ put_all out (put b o)
+put_all-put : (out : List ℕ) (b : ℕ) (o : Option (List ℕ × List ℕ)) → put_all (out ++ b ∷ []) o ≡ put_all out (with_byte b o)
 put_all-put out b None = refl
 put_all-put out b (Some x) = ap (λ l. Some (l, x.1)) (append_assoc out (b ∷ []) x.0)
 
@@ -80,7 +80,7 @@ gathers_none bytes u = record { name = put_all-none (quoted_name bytes); utf8 = 
 
 pub gathers_plain : (bytes out rest more : List ℕ) (b : ℕ) → Gathers bytes out rest → rest ≡ b ∷ more → b ≢ 96 → b ≢ 10 → Gathers bytes (out ++ b ∷ []) more
 gathers_plain bytes out rest more b h e p q =
-    let step : quoted_name (b ∷ more) ≡ put b (quoted_name more) = rw (unequal b 96 p, unequal b 10 q) refl in
+    let step : quoted_name (b ∷ more) ≡ with_byte b (quoted_name more) = rw (unequal b 96 p, unequal b 10 q) refl in
     record {
       name = put_all-put out b (quoted_name more) ∙ ap (put_all out) (sym step) ∙ ap (λ l. put_all out (quoted_name l)) (sym e) ∙ h.name;
       utf8 = one_more_utf8 out more b (subst (λ l. IsUtf8 (out ++ l)) e h.utf8);

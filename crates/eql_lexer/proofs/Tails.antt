@@ -12,7 +12,7 @@ use Rattle.eql_lexer.specs.Bytes.{begins, is_digit, is_hex, is_white}
 use Rattle.eql_lexer.specs.Blanks.{gap, line_comment, block_comment, within_block, block_end}
 use Rattle.eql_lexer.specs.Signs.{spelling}
 use Rattle.eql_lexer.specs.Escapes.{escape, unicode}
-use Rattle.eql_lexer.specs.Strings.{before_triple, IsContent, closed, plain, escaped, IsBadEscape, bad_here, bad_after_plain, bad_after_escape, put, quoted_name, name_behind}
+use Rattle.eql_lexer.specs.Strings.{before_triple, IsContent, closed, plain, escaped, IsBadEscape, bad_here, bad_after_plain, bad_after_escape, with_byte, quoted_name, name_behind}
 use Rattle.eql_lexer.specs.Spelling.{word_more, IsLexeme}
 use Rattle.eql_lexer.proofs.Unique.{rest_of}
 use Rattle.eql_lexer.proofs.Closing.{escape_cases, unicode_given}
@@ -91,17 +91,17 @@ bad_within _ _ (bad_here p none) = omega arith
 bad_within _ _ (bad_after_plain p h) = omega (arith, bad_within _ _ h)
 bad_within _ _ (bad_after_escape {c = c} {bs = bs} {more = more} p e h) = omega (arith, bad_within _ _ h, tail_within bs more (escape_tail bs c more e))
 
-put_from : (b : ℕ) (o : Option (List ℕ × List ℕ)) (s rest : List ℕ) → put b o ≡ Some (s, rest) → (t : List ℕ) × (o ≡ Some (t, rest))
+put_from : (b : ℕ) (o : Option (List ℕ × List ℕ)) (s rest : List ℕ) → with_byte b o ≡ Some (s, rest) → (t : List ℕ) × (o ≡ Some (t, rest))
 put_from b None s rest h = cc
 put_from b (Some x) s rest h = (x.0, ap (λ r. Some (x.0, r)) (ap rest_of h))
 
-name_step : (t u : Bool) (b : ℕ) (bs : List ℕ) (o i : Option (List ℕ × List ℕ)) (s rest : List ℕ) → cond t o (cond u None (put b i)) ≡ Some (s, rest)
+name_step : (t u : Bool) (b : ℕ) (bs : List ℕ) (o i : Option (List ℕ × List ℕ)) (s rest : List ℕ) → cond t o (cond u None (with_byte b i)) ≡ Some (s, rest)
     → ((s : List ℕ) → o ≡ Some (s, rest) → Tail bs rest) → ((s : List ℕ) → i ≡ Some (s, rest) → Tail bs rest) → Tail (b ∷ bs) rest
 name_step true u b bs o i s rest h f g = tail_more b bs rest (f s h)
 name_step false true b bs o i s rest h f g = cc
 name_step false false b bs o i s rest h f g = let k = put_from b i s rest h in tail_more b bs rest (g k.0 k.1)
 
-behind_step : (t : Bool) (b : ℕ) (bs : List ℕ) (i : Option (List ℕ × List ℕ)) (s rest : List ℕ) → cond t (put 96 i) (Some ([], b ∷ bs)) ≡ Some (s, rest)
+behind_step : (t : Bool) (b : ℕ) (bs : List ℕ) (i : Option (List ℕ × List ℕ)) (s rest : List ℕ) → cond t (with_byte 96 i) (Some ([], b ∷ bs)) ≡ Some (s, rest)
     → ((s : List ℕ) → i ≡ Some (s, rest) → Tail bs rest) → Tail (b ∷ bs) rest
 behind_step true b bs i s rest h g = let k = put_from 96 i s rest h in tail_more b bs rest (g k.0 k.1)
 behind_step false b bs i s rest h g = ([], ap rest_of h)

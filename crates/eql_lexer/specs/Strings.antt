@@ -41,21 +41,21 @@ abbrev mutual
   is_closed_behind (b ∷ bs) = if b == 10 then false else is_closed bs
 
 -- a byte before what was read
-abbrev pub put : ℕ → Option (List ℕ × List ℕ) → Option (List ℕ × List ℕ)
-put b None = None
-put b (Some x) = Some (b ∷ x.0, x.1)
+abbrev pub with_byte : ℕ → Option (List ℕ × List ℕ) → Option (List ℕ × List ℕ)
+with_byte b None = None
+with_byte b (Some x) = Some (b ∷ x.0, x.1)
 
 abbrev mutual
   -- Behind an opening backtick: the name up to the closing one on its line, in which a doubled backtick is one, and
   -- what follows.
   pub quoted_name : List ℕ → Option (List ℕ × List ℕ)
   quoted_name [] = None
-  quoted_name (b ∷ bs) = if b == 96 then name_behind bs else (if b == 10 then None else put b (quoted_name bs))
+  quoted_name (b ∷ bs) = if b == 96 then name_behind bs else (if b == 10 then None else with_byte b (quoted_name bs))
 
   -- the same, behind a backtick within the name
   pub name_behind : List ℕ → Option (List ℕ × List ℕ)
   name_behind [] = Some ([], [])
-  name_behind (b ∷ bs) = if b == 96 then put 96 (quoted_name bs) else Some ([], b ∷ bs)
+  name_behind (b ∷ bs) = if b == 96 then with_byte 96 (quoted_name bs) else Some ([], b ∷ bs)
 
 -- a name is there, and isn't empty
 abbrev pub is_name : Option (List ℕ × List ℕ) → Bool

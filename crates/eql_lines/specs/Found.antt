@@ -1,7 +1,7 @@
 -- What is kept of a list of scalars: its texts in order, and whether it has none, the one, or several.
 use Rattle.std.specs.Prelude.{ℕ, ℤ, pos, List, [], ◌∷◌, ◌++◌, Bool, true, false, Option, Some, None, slice_get}
 use Rattle.eql_lines.specs.Reach.{Scalar, text, whole, fractional, truth}
-use Rattle.eql_lines.specs.Kept.{kept}
+use Rattle.eql_lines.specs.Kept.{kept_texts}
 use Rattle.eql_lines.specs.declared.number.Num.{Num}
 use Rattle.eql_lines.specs.declared.number.Num.TheVariants.{Unsigned, Negative, Fractional}
 use Rattle.eql_lines.specs.declared.slots.Seen.{Seen}
@@ -78,7 +78,7 @@ found_by (Truth b) t = one (truth b)
 found_by Several t = record { shape = several; texts = [] }
 
 abbrev pub found_of : Slot → Found
-found_of s = record { shape = shape_by s.seen; texts = kept s.kept }
+found_of s = record { shape = shape_by s.seen; texts = kept_texts s.kept }
 
 abbrev pub found_in : Option Slot → Found
 found_in None = nothing

@@ -16,11 +16,11 @@ pub(crate) struct Kept {
 }
 
 impl Kept {
-    ghost use Rattle.eql_lines.specs.Kept.{kept};
+    ghost use Rattle.eql_lines.specs.Kept.{kept_texts};
 
     /// No texts.
     pub(crate) fn new(alloc: Global) -> Kept
-        ensures { kept result ≡ [] }
+        ensures { kept_texts result ≡ [] }
     {
         Kept {
             texts: Vec::new(alloc),
@@ -31,14 +31,14 @@ impl Kept {
 
     /// The texts.
     pub(crate) fn texts(&self) -> &[String]
-        ensures { map string_bytes result.now ≡ kept self.now }
+        ensures { map string_bytes result.now ≡ kept_texts self.now }
     {
         &self.texts[..self.used]
     }
 
     /// Takes all out. The memory of at most 64 texts is kept.
     pub(crate) fn clear(&mut self)
-        ensures empty { kept self.new ≡ [] }
+        ensures empty { kept_texts self.new ≡ [] }
         ensures few { length self.new.texts.items ≤ 64 }
     {
         self.used = 0;
@@ -47,7 +47,7 @@ impl Kept {
 
     /// Appends a text.
     pub(crate) fn push(&mut self, text: &str) -> Result<(), AllocError>
-        ensures { OnOk result (kept self.new ≡ kept self.old ++ text.now ∷ []) }
+        ensures { OnOk result (kept_texts self.new ≡ kept_texts self.old ++ text.now ∷ []) }
     {
         let used = self.used;
         if used < self.texts.len() {

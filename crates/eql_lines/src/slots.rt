@@ -1,6 +1,6 @@
 //! What a line holds under each wanted path.
 ghost use Rattle.std.specs.Prelude.{◌≡◌, ◌≤◌, length, map, string_bytes, option_map, OnOk};
-ghost use Rattle.eql_lines.specs.Kept.{kept};
+ghost use Rattle.eql_lines.specs.Kept.{kept_texts};
 ghost use Rattle.eql_lines.specs.Reach.{Scalar};
 ghost use Rattle.eql_lines.specs.Found.{one, nothing, found_of, found_by, found_more, single_scalar, only_found, is_missing};
 
@@ -61,7 +61,7 @@ impl Slot {
 
     /// The texts that were found, in order.
     pub(crate) fn texts(&self) -> &[String]
-        ensures { map string_bytes result.now ≡ kept self.now.kept }
+        ensures { map string_bytes result.now ≡ kept_texts self.now.kept }
     {
         self.kept.texts()
     }

@@ -24,7 +24,7 @@ use Rattle.eql_values.specs.Totals.{order_cmp_total, slot_cmp_total}
 use Rattle.eql_values.proofs.InOrder.{is_in_order}
 use Rattle.eql_values.proofs.Same.{order_same}
 use Rattle.eql_laws.specs.Alive.{HoldersAreInOrder}
-use Rattle.eql_laws.specs.Apart.{place_of, ending_of, SharesNoKey, RepeatNoKey, AllAreApart, MatchesAreApart, AreInMatchOrder, joined}
+use Rattle.eql_laws.specs.Apart.{place_of, ending_of, SharesNoKey, RepeatNoKey, AllAreApart, MatchesAreApart, AreInMatchOrder, joined_lists}
 use Rattle.eql_laws.specs.Belows.{HasRoutesInOrder, SortedAscends}
 use Rattle.eql_laws.specs.Merging.{ending_cmp, by_ending, by_slot, holder_of, match_of, in_match_order, in_slot_order, last_of}
 use Rattle.eql_laws.specs.Totals.{ending_cmp_total}
@@ -106,17 +106,17 @@ items_back : (items : List Item) → map (λ (e : OrderKey × List Route). let i
 items_back [] = refl
 items_back (item ∷ items) = ap (λ (rest : List Item). item ∷ rest) (items_back items)
 
-pub items_merged : (lists : List (List Item)) (all : List Item) → Ascends item_rank all → HaveSameFirsts item_rank (joined lists) all → all ≡ sorted_items (joined lists)
+pub items_merged : (lists : List (List Item)) (all : List Item) → Ascends item_rank all → HaveSameFirsts item_rank (joined_lists lists) all → all ≡ sorted_items (joined_lists lists)
 items_merged lists all up firsts =
     sym (items_back all)
-    ∙ ap (map (λ (e : OrderKey × List Route). record { order = e.0; routes = e.1 })) (merged_in_order order_cmp order_cmp_total order_same place_of routes_in (joined lists) all up firsts)
+    ∙ ap (map (λ (e : OrderKey × List Route). record { order = e.0; routes = e.1 })) (merged_in_order order_cmp order_cmp_total order_same place_of routes_in (joined_lists lists) all up firsts)
 
 routes_stand : (items : List Item) → Ascend items → All HasRoutesInOrder items
 routes_stand [] h = All-nil HasRoutesInOrder
 routes_stand (item ∷ items) h = All-cons HasRoutesInOrder item items h.0 (routes_stand items h.2)
 
-pub all_ascends : SortedAscends → (lists : List (List Item)) → All Ascend lists → Ascend (sorted_items (joined lists))
-all_ascends ascends lists h = ascends (joined lists) (All-flat_map Ascend HasRoutesInOrder (λ (items : List Item). items) routes_stand lists h)
+pub all_ascends : SortedAscends → (lists : List (List Item)) → All Ascend lists → Ascend (sorted_items (joined_lists lists))
+all_ascends ascends lists h = ascends (joined_lists lists) (All-flat_map Ascend HasRoutesInOrder (λ (items : List Item). items) routes_stand lists h)
 
 -- ---- matches
 abbrev chain_in : Match → List OrderKey
@@ -129,10 +129,10 @@ matches_ascend lists h =
 pub matches_apart : (lists : List (List Match)) → MatchesAreApart lists → HaveNoTies match_rank lists
 matches_apart lists h = apart_by ending_cmp ending_cmp_total ending_same ending_of chain_in lists h
 
-pub matches_merged : (lists : List (List Match)) (all : List Match) → Ascends match_rank all → HaveSameFirsts match_rank (joined lists) all → all ≡ in_match_order (joined lists)
+pub matches_merged : (lists : List (List Match)) (all : List Match) → Ascends match_rank all → HaveSameFirsts match_rank (joined_lists lists) all → all ≡ in_match_order (joined_lists lists)
 matches_merged lists all up firsts =
     sym (map_back match_of by_ending (λ m. refl) all)
-    ∙ ap (map match_of) (merged_in_order ending_cmp ending_cmp_total ending_same ending_of chain_in (joined lists) all up firsts)
+    ∙ ap (map match_of) (merged_in_order ending_cmp ending_cmp_total ending_same ending_of chain_in (joined_lists lists) all up firsts)
 
 pub matches_stand : (all : List Match) → Ascends match_rank all → AreInMatchOrder all
 matches_stand all up = holds_true _ (ascends_sorted ending_cmp ending_cmp_total ending_same ending_of chain_in all up)
@@ -148,10 +148,10 @@ holders_ascend lists h =
 pub holders_apart : (lists : List (List Holder)) → HoldersAreApart lists → HaveNoTies holder_rank lists
 holders_apart lists h = apart_by slot_cmp slot_cmp_total slot_same slot_of events_of lists h
 
-pub holders_merged : (lists : List (List Holder)) (all : List Holder) → Ascends holder_rank all → HaveSameFirsts holder_rank (joined lists) all → all ≡ in_slot_order (joined lists)
+pub holders_merged : (lists : List (List Holder)) (all : List Holder) → Ascends holder_rank all → HaveSameFirsts holder_rank (joined_lists lists) all → all ≡ in_slot_order (joined_lists lists)
 holders_merged lists all up firsts =
     sym (map_back holder_of by_slot (λ h. refl) all)
-    ∙ ap (map holder_of) (merged_in_order slot_cmp slot_cmp_total slot_same slot_of events_of (joined lists) all up firsts)
+    ∙ ap (map holder_of) (merged_in_order slot_cmp slot_cmp_total slot_same slot_of events_of (joined_lists lists) all up firsts)
 
 pub holders_stand : (all : List Holder) → Ascends holder_rank all → HoldersAreInOrder all
 holders_stand all up = holds_true _ (ascends_sorted slot_cmp slot_cmp_total slot_same slot_of events_of all up)

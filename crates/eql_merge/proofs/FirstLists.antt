@@ -9,7 +9,7 @@ use Rattle.std.specs.declared.cmp.Ordering.TheVariants.{Equal}
 use Rattle.std.proofs.lemmas.List.{append-nil, take-append-drop}
 use Rattle.std.proofs.lemmas.List.Elements.{All-push}
 use Rattle.eql_values.specs.Ordered.{found_or}
-use Rattle.eql_laws.specs.Apart.{joined}
+use Rattle.eql_laws.specs.Apart.{joined_lists}
 use Rattle.eql_laws.proofs.Facts.{any_false, is_equal}
 use Rattle.eql_merge.specs.Ranks.{Ascends, HaveNoTie, HaveNoTies, IsOfOneRank, HaveSameFirsts}
 use Rattle.eql_merge.proofs.Splits.{joined-append, has, has-append, NoTieWith, find-both, parts_stand, merged_apart}
@@ -19,8 +19,8 @@ found_none None = refl
 found_none (Some x) = refl
 
 -- two lists alone
-pub two_joined : {X : Type 0} (lists : List (List X)) (a b : List X) (l r : List (List X)) → lists ≡ a ∷ l → l ≡ b ∷ r → length lists ≤ 2 → joined lists ≡ a ++ b
-two_joined {X} lists a b l [] e f few = ap joined (e ∙ ap (λ (k : List (List X)). a ∷ k) f) ∙ ap (λ (k : List X). a ++ k) (append-nil b)
+pub two_joined : {X : Type 0} (lists : List (List X)) (a b : List X) (l r : List (List X)) → lists ≡ a ∷ l → l ≡ b ∷ r → length lists ≤ 2 → joined_lists lists ≡ a ++ b
+two_joined {X} lists a b l [] e f few = ap joined_lists (e ∙ ap (λ (k : List (List X)). a ∷ k) f) ∙ ap (λ (k : List X). a ++ k) (append-nil b)
 two_joined lists a b l (x ∷ r) e f few =
     let whole : length lists ≡ suc (length l) = ap length e in
     let rest : length l ≡ suc (suc (length r)) = ap length f in
@@ -82,29 +82,29 @@ module _ {X : Type 0} (R : X → X → Ordering) where
     others_end q m [] h one = (one, tt)
     others_end q m (x ∷ b) h one = (h.0, others_end q m b h.1 one)
 
-    ties_end : (b : List (List X)) (m : List X) → HaveNoTies R b → HaveNoTie R m (joined b) → HaveNoTies R (b ++ m ∷ [])
+    ties_end : (b : List (List X)) (m : List X) → HaveNoTies R b → HaveNoTie R m (joined_lists b) → HaveNoTies R (b ++ m ∷ [])
     ties_end [] m h g = (tt, tt)
     ties_end (x ∷ b) m h g =
-        let parts = no_tie_parts m x (joined b) g in
+        let parts = no_tie_parts m x (joined_lists b) g in
         (others_end x m b h.0 (no_tie_back m x parts.0), ties_end b m h.1 parts.1)
 
     pub record FirstMerged (lists rest : List (List X)) : Type 0 where
       pub ascend : All (Ascends R) rest
       pub apart : HaveNoTies R rest
-      pub firsts : HaveSameFirsts R (joined lists) (joined rest)
+      pub firsts : HaveSameFirsts R (joined_lists lists) (joined_lists rest)
 
-    firsts_end : (a b : List (List X)) (m : List X) → HaveNoTie R (joined a) (joined b) → HaveSameFirsts R (joined a) m → HaveSameFirsts R (joined (a ++ b)) (joined (b ++ m ∷ []))
+    firsts_end : (a b : List (List X)) (m : List X) → HaveNoTie R (joined_lists a) (joined_lists b) → HaveSameFirsts R (joined_lists a) m → HaveSameFirsts R (joined_lists (a ++ b)) (joined_lists (b ++ m ∷ []))
     firsts_end a b m apart same test one =
         ap (find test) (joined-append a b)
-        ∙ find-both R test (joined a) (joined b)
-        ∙ ap (found_or (find test (joined a))) (sym (found_none (find test (joined b))))
-        ∙ swapped test one (joined a) (joined b) apart None
-        ∙ ap (found_or (find test (joined b))) (found_none (find test (joined a)) ∙ same test one)
-        ∙ sym (find-both R test (joined b) m)
-        ∙ ap (λ (l : List X). find test (joined b ++ l)) (sym (append-nil m))
+        ∙ find-both R test (joined_lists a) (joined_lists b)
+        ∙ ap (found_or (find test (joined_lists a))) (sym (found_none (find test (joined_lists b))))
+        ∙ swapped test one (joined_lists a) (joined_lists b) apart None
+        ∙ ap (found_or (find test (joined_lists b))) (found_none (find test (joined_lists a)) ∙ same test one)
+        ∙ sym (find-both R test (joined_lists b) m)
+        ∙ ap (λ (l : List X). find test (joined_lists b ++ l)) (sym (append-nil m))
         ∙ ap (find test) (sym (joined-append b (m ∷ [])))
 
-    first_merged : (n : ℕ) (lists : List (List X)) (m : List X) → All (Ascends R) lists → HaveNoTies R lists → Ascends R m → HaveSameFirsts R (joined (take n lists)) m
+    first_merged : (n : ℕ) (lists : List (List X)) (m : List X) → All (Ascends R) lists → HaveNoTies R lists → Ascends R m → HaveSameFirsts R (joined_lists (take n lists)) m
         → FirstMerged lists (drop n lists ++ m ∷ [])
     first_merged n lists m ups apart up same =
         let stand = parts_stand R n lists ups apart in
@@ -112,12 +112,12 @@ module _ {X : Type 0} (R : X → X → Ordering) where
         let b = drop n lists in
         record {
           ascend = All-push (Ascends R) b m stand.later_ascend up;
-          apart = ties_end b m stand.apart.later (merged_apart R total (joined a) (joined b) m (joined b) stand.apart.both same (λ test one. refl));
-          firsts = λ test one. ap (λ (l : List (List X)). find test (joined l)) (sym (take-append-drop n lists)) ∙ firsts_end a b m stand.apart.both same test one;
+          apart = ties_end b m stand.apart.later (merged_apart R total (joined_lists a) (joined_lists b) m (joined_lists b) stand.apart.both same (λ test one. refl));
+          firsts = λ test one. ap (λ (l : List (List X)). find test (joined_lists l)) (sym (take-append-drop n lists)) ∙ firsts_end a b m stand.apart.both same test one;
         }
 
-    pub first_put : (n : ℕ) (lists first rest new : List (List X)) (m run : List X) → All (Ascends R) lists → HaveNoTies R lists → Ascends R m → HaveSameFirsts R (joined first) m
+    pub first_put : (n : ℕ) (lists first rest new : List (List X)) (m run : List X) → All (Ascends R) lists → HaveNoTies R lists → Ascends R m → HaveSameFirsts R (joined_lists first) m
         → first ≡ take n lists → rest ≡ drop n lists → run ≡ m → new ≡ rest ++ run ∷ [] → FirstMerged lists new
     first_put n lists first rest new m run ups apart up same first_is rest_is run_is new_is =
         let is : new ≡ drop n lists ++ m ∷ [] = new_is ∙ ap (λ (k : List X). rest ++ k ∷ []) run_is ∙ ap (λ (l : List (List X)). l ++ m ∷ []) rest_is in
-        subst (FirstMerged lists) (sym is) (first_merged n lists m ups apart up (subst (λ (l : List (List X)). HaveSameFirsts R (joined l) m) first_is same))
+        subst (FirstMerged lists) (sym is) (first_merged n lists m ups apart up (subst (λ (l : List (List X)). HaveSameFirsts R (joined_lists l) m) first_is same))

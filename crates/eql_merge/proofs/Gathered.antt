@@ -13,7 +13,7 @@ use Rattle.std.proofs.lemmas.List.{append_assoc, append-nil, take-append-drop}
 use Rattle.std.proofs.lemmas.List.Elements.{All-nil, All-cons, All-head, All-tail}
 use Rattle.std.proofs.lemmas.List.Sorted.{All-permutation, IsPermutation-refl, IsPermutation-sym, IsPermutation-trans, IsPermutation-append_left, IsPermutation-append_right, IsPermutation-append_comm, length_permutation}
 use Rattle.std.proofs.lemmas.Map.Keys.{apart_from_distinct, sorted_from_all_adjacent}
-use Rattle.eql_laws.specs.Apart.{has_key, joined}
+use Rattle.eql_laws.specs.Apart.{has_key, joined_lists}
 use Rattle.eql_laws.proofs.Facts.{any_false}
 use Rattle.eql_merge.specs.Ranks.{StandsFirst, Ascends, HaveNoTie, HaveNoTies, IsOfOneRank, HaveSameFirsts}
 use Rattle.eql_merge.proofs.Pairs.{is_less, no_tie_tail}
@@ -30,59 +30,59 @@ module _ {X : Type 0} where
       subst (λ (l : List X). IsPermutation l (b ++ (a ++ c))) (append_assoc a b c)
       (subst (IsPermutation ((a ++ b) ++ c)) (append_assoc b a c) (IsPermutation-append_left c (a ++ b) (b ++ a) (IsPermutation-append_comm a b)))
 
-  pub put_among : (run : List X) (fronts : List (List X)) (i : ℕ) → IsPermutation (run ++ joined fronts) (joined (insert fronts i run))
+  pub put_among : (run : List X) (fronts : List (List X)) (i : ℕ) → IsPermutation (run ++ joined_lists fronts) (joined_lists (insert fronts i run))
   put_among run fronts i =
-      let a = joined (take i fronts) in
-      let b = joined (drop i fronts) in
-      let apart : joined fronts ≡ a ++ b = sym (ap joined (take-append-drop i fronts)) ∙ joined-append (take i fronts) (drop i fronts) in
-      let among : joined (insert fronts i run) ≡ a ++ (run ++ b) = joined-append (take i fronts) (run ∷ drop i fronts) in
-      subst (λ (l : List X). IsPermutation (run ++ l) (joined (insert fronts i run))) (sym apart)
+      let a = joined_lists (take i fronts) in
+      let b = joined_lists (drop i fronts) in
+      let apart : joined_lists fronts ≡ a ++ b = sym (ap joined_lists (take-append-drop i fronts)) ∙ joined-append (take i fronts) (drop i fronts) in
+      let among : joined_lists (insert fronts i run) ≡ a ++ (run ++ b) = joined-append (take i fronts) (run ∷ drop i fronts) in
+      subst (λ (l : List X). IsPermutation (run ++ l) (joined_lists (insert fronts i run))) (sym apart)
       (subst (IsPermutation (run ++ (a ++ b))) (sym among) (swap_front run a b))
 
   -- a list went from those that wait to the fronts
-  pub moved_over : (whole : List X) (lists rest fronts new : List (List X)) (run : List X) → lists ≡ run ∷ rest → IsPermutation whole (joined lists ++ joined fronts)
-      → IsPermutation (run ++ joined fronts) (joined new) → IsPermutation whole (joined rest ++ joined new)
+  pub moved_over : (whole : List X) (lists rest fronts new : List (List X)) (run : List X) → lists ≡ run ∷ rest → IsPermutation whole (joined_lists lists ++ joined_lists fronts)
+      → IsPermutation (run ++ joined_lists fronts) (joined_lists new) → IsPermutation whole (joined_lists rest ++ joined_lists new)
   moved_over whole lists rest fronts new run e h put =
-      let here : IsPermutation whole (run ++ (joined rest ++ joined fronts))
-      = subst (IsPermutation whole) (ap (λ (l : List (List X)). joined l ++ joined fronts) e ∙ append_assoc run (joined rest) (joined fronts)) h in
+      let here : IsPermutation whole (run ++ (joined_lists rest ++ joined_lists fronts))
+      = subst (IsPermutation whole) (ap (λ (l : List (List X)). joined_lists l ++ joined_lists fronts) e ∙ append_assoc run (joined_lists rest) (joined_lists fronts)) h in
       IsPermutation-trans _ _ _ here
-      (IsPermutation-trans _ _ _ (swap_front run (joined rest) (joined fronts)) (IsPermutation-append_right (joined rest) (run ++ joined fronts) (joined new) put))
+      (IsPermutation-trans _ _ _ (swap_front run (joined_lists rest) (joined_lists fronts)) (IsPermutation-append_right (joined_lists rest) (run ++ joined_lists fronts) (joined_lists new) put))
 
   -- the first value of a list was taken, and the list went to its place among the others
-  pub one_taken : (o : Option X) (front run : List X) (old new : List (List X)) → front ≡ option_to_list o ++ run → IsPermutation (run ++ joined old) (joined new)
-      → IsPermutation (front ++ joined old) (option_to_list o ++ joined new)
+  pub one_taken : (o : Option X) (front run : List X) (old new : List (List X)) → front ≡ option_to_list o ++ run → IsPermutation (run ++ joined_lists old) (joined_lists new)
+      → IsPermutation (front ++ joined_lists old) (option_to_list o ++ joined_lists new)
   one_taken o front run old new e put =
-      subst (λ (l : List X). IsPermutation (l ++ joined old) (option_to_list o ++ joined new)) (sym e)
-      (subst (λ (l : List X). IsPermutation l (option_to_list o ++ joined new)) (sym (append_assoc (option_to_list o) run (joined old)))
-      (IsPermutation-append_right (option_to_list o) (run ++ joined old) (joined new) put))
+      subst (λ (l : List X). IsPermutation (l ++ joined_lists old) (option_to_list o ++ joined_lists new)) (sym e)
+      (subst (λ (l : List X). IsPermutation l (option_to_list o ++ joined_lists new)) (sym (append_assoc (option_to_list o) run (joined_lists old)))
+      (IsPermutation-append_right (option_to_list o) (run ++ joined_lists old) (joined_lists new) put))
 
-  pub none_taken : (front run : List X) (old : List (List X)) → front ≡ [] ++ run → front ≡ [] → IsPermutation (front ++ joined old) (joined old)
-  none_taken front run old e none = subst (λ (l : List X). IsPermutation (l ++ joined old) (joined old)) (sym none) (IsPermutation-refl (joined old))
+  pub none_taken : (front run : List X) (old : List (List X)) → front ≡ [] ++ run → front ≡ [] → IsPermutation (front ++ joined_lists old) (joined_lists old)
+  none_taken front run old e none = subst (λ (l : List X). IsPermutation (l ++ joined_lists old) (joined_lists old)) (sym none) (IsPermutation-refl (joined_lists old))
 
-  pub fewer_taken : (x : X) (front run : List X) (old new : List (List X)) → front ≡ x ∷ run → IsPermutation (run ++ joined old) (joined new) → length new ≤ length old + 1
-      → length (joined new) + length new ≤ length front + length (joined old) + length old
+  pub fewer_taken : (x : X) (front run : List X) (old new : List (List X)) → front ≡ x ∷ run → IsPermutation (run ++ joined_lists old) (joined_lists new) → length new ≤ length old + 1
+      → length (joined_lists new) + length new ≤ length front + length (joined_lists old) + length old
   fewer_taken x front run old new e put few =
-      let long = length_permutation (run ++ joined old) (joined new) put in
-      let parts = length-append run (joined old) in
+      let long = length_permutation (run ++ joined_lists old) (joined_lists new) put in
+      let parts = length-append run (joined_lists old) in
       let one : length front ≡ suc (length run) = ap length e in
       omega (arith, long, parts, one, few)
 
-  pub as_before : (whole merged front : List X) (fronts rest new : List (List X)) → fronts ≡ front ∷ rest → IsPermutation whole (merged ++ joined fronts)
-      → IsPermutation (front ++ joined rest) (joined new) → IsPermutation whole (merged ++ joined new)
+  pub as_before : (whole merged front : List X) (fronts rest new : List (List X)) → fronts ≡ front ∷ rest → IsPermutation whole (merged ++ joined_lists fronts)
+      → IsPermutation (front ++ joined_lists rest) (joined_lists new) → IsPermutation whole (merged ++ joined_lists new)
   as_before whole merged front fronts rest new e h taken =
-      IsPermutation-trans _ _ _ (subst (λ (l : List (List X)). IsPermutation whole (merged ++ joined l)) e h)
-      (IsPermutation-append_right merged (front ++ joined rest) (joined new) taken)
+      IsPermutation-trans _ _ _ (subst (λ (l : List (List X)). IsPermutation whole (merged ++ joined_lists l)) e h)
+      (IsPermutation-append_right merged (front ++ joined_lists rest) (joined_lists new) taken)
 
-  pub one_more : (whole merged front : List X) (x : X) (fronts rest new : List (List X)) → fronts ≡ front ∷ rest → IsPermutation whole (merged ++ joined fronts)
-      → IsPermutation (front ++ joined rest) (x ∷ joined new) → IsPermutation whole ((merged ++ x ∷ []) ++ joined new)
+  pub one_more : (whole merged front : List X) (x : X) (fronts rest new : List (List X)) → fronts ≡ front ∷ rest → IsPermutation whole (merged ++ joined_lists fronts)
+      → IsPermutation (front ++ joined_lists rest) (x ∷ joined_lists new) → IsPermutation whole ((merged ++ x ∷ []) ++ joined_lists new)
   one_more whole merged front x fronts rest new e h taken =
-      subst (IsPermutation whole) (sym (append_assoc merged (x ∷ []) (joined new)))
-      (IsPermutation-trans _ _ _ (subst (λ (l : List (List X)). IsPermutation whole (merged ++ joined l)) e h)
-      (IsPermutation-append_right merged (front ++ joined rest) (x ∷ joined new) taken))
+      subst (IsPermutation whole) (sym (append_assoc merged (x ∷ []) (joined_lists new)))
+      (IsPermutation-trans _ _ _ (subst (λ (l : List (List X)). IsPermutation whole (merged ++ joined_lists l)) e h)
+      (IsPermutation-append_right merged (front ++ joined_lists rest) (x ∷ joined_lists new) taken))
 
-  pub nothing_left : (whole merged : List X) (fronts : List (List X)) → fronts ≡ [] → IsPermutation whole (merged ++ joined fronts) → IsPermutation whole merged
+  pub nothing_left : (whole merged : List X) (fronts : List (List X)) → fronts ≡ [] → IsPermutation whole (merged ++ joined_lists fronts) → IsPermutation whole merged
   nothing_left whole merged fronts none h =
-      subst (IsPermutation whole) (append-nil merged) (subst (λ (l : List (List X)). IsPermutation whole (merged ++ joined l)) none h)
+      subst (IsPermutation whole) (append-nil merged) (subst (λ (l : List (List X)). IsPermutation whole (merged ++ joined_lists l)) none h)
 
   -- ---- what a test finds in a list of which one value at most passes
   all_fail : (test : X → Bool) (xs : List X) → find test xs ≡ None → All (λ (y : X). test y ≡ false) xs
@@ -136,11 +136,11 @@ module _ {X : Type 0} (R : X → X → Ordering) (total : IsTotalOrder R) where
       let here : has_key R (λ (y : X). y) x (x ∷ xs) ≡ true = ap (λ (c : Bool). c || has_key R (λ (y : X). y) x xs) ((eq_by_cmp_equiv total).refl x) in
       (apart_all x xs ys up.0 (none_there x ys (apart x here)), distinct_with xs ys up.1 (no_tie_tail R x xs ys apart) h)
 
-  pub distinct_joined : (lists : List (List X)) → All (Ascends R) lists → HaveNoTies R lists → IsDistinct (eq_by_cmp R) (joined lists)
+  pub distinct_joined : (lists : List (List X)) → All (Ascends R) lists → HaveNoTies R lists → IsDistinct (eq_by_cmp R) (joined_lists lists)
   unfolding IsDistinct
   distinct_joined [] up apart = tt
   distinct_joined (xs ∷ lists) up apart =
-      distinct_with xs (joined lists) (All-head (Ascends R) xs lists up) (apart_joined R xs lists apart.0) (distinct_joined lists (All-tail (Ascends R) xs lists up) apart.1)
+      distinct_with xs (joined_lists lists) (All-head (Ascends R) xs lists up) (apart_joined R xs lists apart.0) (distinct_joined lists (All-tail (Ascends R) xs lists up) apart.1)
 
   -- ---- so a test of one rank finds the same in every order
   one_passes : (test : X → Bool) → IsOfOneRank R test → (xs : List X) (x : X) → IsDistinct (eq_by_cmp R) xs → find test xs ≡ Some x → All (λ (y : X). test y ≡ true → y ≡ x) xs

@@ -10,14 +10,14 @@ use Rattle.std.proofs.lemmas.List.{append_assoc, take-append-drop}
 use Rattle.std.proofs.lemmas.List.Folds.{list_any-append}
 use Rattle.std.proofs.lemmas.List.Elements.{All-nil, All-cons, All-head, All-tail}
 use Rattle.eql_values.specs.Ordered.{found_or}
-use Rattle.eql_laws.specs.Apart.{joined, has_key}
+use Rattle.eql_laws.specs.Apart.{joined_lists, has_key}
 use Rattle.eql_laws.proofs.Facts.{is_equal}
 use Rattle.eql_merge.specs.Ranks.{Ascends, HaveNoTie, HaveNoTies, IsOfOneRank, HaveSameFirsts}
 use Rattle.eql_laws.specs.Apart.{SharesNoKey}
 
-pub joined-append : {X : Type 0} (a b : List (List X)) → joined (a ++ b) ≡ joined a ++ joined b
+pub joined-append : {X : Type 0} (a b : List (List X)) → joined_lists (a ++ b) ≡ joined_lists a ++ joined_lists b
 joined-append [] b = refl
-joined-append {X} (xs ∷ a) b = ap (λ (rest : List X). xs ++ rest) (joined-append a b) ∙ sym (append_assoc xs (joined a) (joined b))
+joined-append {X} (xs ∷ a) b = ap (λ (rest : List X). xs ++ rest) (joined-append a b) ∙ sym (append_assoc xs (joined_lists a) (joined_lists b))
 
 module _ {X : Type 0} (R : X → X → Ordering) where
   abbrev pub has : X → List X → Bool
@@ -34,25 +34,25 @@ module _ {X : Type 0} (R : X → X → Ordering) where
   neither false b e f = f
 
   -- a list apart from each of several is apart from them joined
-  pub apart_joined : (a : List X) (b : List (List X)) → NoTieWith a b → HaveNoTie R a (joined b)
+  pub apart_joined : (a : List X) (b : List (List X)) → NoTieWith a b → HaveNoTie R a (joined_lists b)
   apart_joined a [] h k e = refl
-  apart_joined a (xs ∷ b) h k e = has-append k xs (joined b) ∙ neither (has k xs) (has k (joined b)) (h.0 k e) (apart_joined a b h.1 k e)
+  apart_joined a (xs ∷ b) h k e = has-append k xs (joined_lists b) ∙ neither (has k xs) (has k (joined_lists b)) (h.0 k e) (apart_joined a b h.1 k e)
 
   pub apart_parts : (a : List X) (b c : List (List X)) → NoTieWith a (b ++ c) → NoTieWith a b × NoTieWith a c
   apart_parts a [] c h = (tt, h)
   apart_parts a (xs ∷ b) c h = let rest = apart_parts a b c h.1 in ((h.0, rest.0), rest.1)
 
-  either_list : (xs : List X) (a b : List (List X)) → HaveNoTie R xs (joined b) → HaveNoTie R (joined a) (joined b) → HaveNoTie R (joined (xs ∷ a)) (joined b)
+  either_list : (xs : List X) (a b : List (List X)) → HaveNoTie R xs (joined_lists b) → HaveNoTie R (joined_lists a) (joined_lists b) → HaveNoTie R (joined_lists (xs ∷ a)) (joined_lists b)
   either_list xs a b h g k e = go (has k xs) refl
     where
-      go : (c : Bool) → has k xs ≡ c → has k (joined b) ≡ false
+      go : (c : Bool) → has k xs ≡ c → has k (joined_lists b) ≡ false
       go true is = h k is
-      go false is = g k (ap (λ (d : Bool). d || has k (joined a)) (sym is) ∙ sym (has-append k xs (joined a)) ∙ e)
+      go false is = g k (ap (λ (d : Bool). d || has k (joined_lists a)) (sym is) ∙ sym (has-append k xs (joined_lists a)) ∙ e)
 
   pub record AreApart (a b : List (List X)) : Type 0 where
     pub earlier : HaveNoTies R a
     pub later : HaveNoTies R b
-    pub both : HaveNoTie R (joined a) (joined b)
+    pub both : HaveNoTie R (joined_lists a) (joined_lists b)
 
   pub split_apart : (a b : List (List X)) → HaveNoTies R (a ++ b) → AreApart a b
   split_apart [] b h = record { earlier = tt; later = h; both = λ k e. cc }

@@ -6,7 +6,7 @@ ghost use Rattle.std.specs.Prelude.{◌≡◌, ◌+◌, ◌≤◌, ◌++◌, ◌
 ghost use Rattle.std.specs.List.{IsDistinct};
 ghost use Rattle.std.specs.Option.{option_to_list};
 ghost use Rattle.std.specs.Ordering.{eq_by_cmp};
-ghost use Rattle.eql_laws.specs.Apart.{joined};
+ghost use Rattle.eql_laws.specs.Apart.{joined_lists};
 ghost use Rattle.eql_merge.specs.Ranks.{Ascends, HaveNoTies, HaveSameFirsts};
 
 use crate::pair::is_later_first;
@@ -45,7 +45,7 @@ fn goes_behind<T: Ranked>(run: &Run<T>, lead: u128, front: &Front<T>) -> bool {
 /// Puts a list to its place among the others. An empty one is left out.
 fn put<T: Ranked>(fronts: &mut VecDeque<Front<T>>, run: Run<T>) -> Result<(), Memory>
     ensures all { OnOk result
-        (IsPermutation (run ++ joined fronts.old.items) (joined fronts.new.items)) }
+        (IsPermutation (run ++ joined_lists fronts.old.items) (joined_lists fronts.new.items)) }
     ensures few { OnOk result (length fronts.new.items ≤ length fronts.old.items + 1) }
 {
     let lead = match run.first() {
@@ -62,7 +62,8 @@ fn in_front_order<T: Ranked>(
     alloc: Global,
     mut lists: VecDeque<Run<T>>,
 ) -> Result<VecDeque<Front<T>>, Memory>
-    ensures { IfOk result (λ fronts. IsPermutation (joined lists.items) (joined fronts.items)) }
+    ensures { IfOk result
+        (λ fronts. IsPermutation (joined_lists lists.items) (joined_lists fronts.items)) }
 {
     let mut fronts = VecDeque::with_capacity(alloc, lists.len())?;
     while let Some(run) = lists.pop_front() {
@@ -76,10 +77,10 @@ fn take_of_front<T: Ranked>(
     fronts: &mut VecDeque<Front<T>>,
     front: Front<T>,
 ) -> Result<Option<T>, Memory>
-    ensures all { IfOk result (λ taken. IsPermutation (front ++ joined fronts.old.items)
-        (option_to_list taken ++ joined fronts.new.items)) }
-    ensures fewer { OnOk result (length (joined fronts.new.items) + length fronts.new.items
-        ≤ length front + length (joined fronts.old.items) + length fronts.old.items) }
+    ensures all { IfOk result (λ taken. IsPermutation (front ++ joined_lists fronts.old.items)
+        (option_to_list taken ++ joined_lists fronts.new.items)) }
+    ensures fewer { OnOk result (length (joined_lists fronts.new.items) + length fronts.new.items
+        ≤ length front + length (joined_lists fronts.old.items) + length fronts.old.items) }
 {
     let mut run = front.run;
     match run.take_first() {
@@ -144,7 +145,7 @@ pub fn merge_fronts<T: Ranked>(alloc: Global, lists: VecDeque<Run<T>>) -> Result
     requires ascend { All (Ascends T.rank) lists.items }
     requires apart { HaveNoTies T.rank lists.items }
     ensures ascends { IfOk result (λ all. Ascends T.rank all.items) }
-    ensures all { IfOk result (λ all. HaveSameFirsts T.rank (joined lists.items) all.items) }
+    ensures all { IfOk result (λ all. HaveSameFirsts T.rank (joined_lists lists.items) all.items) }
 {
     let mut merged = Vec::with_capacity(alloc, room_for(&lists))?;
     let mut fronts = in_front_order(alloc, lists)?;

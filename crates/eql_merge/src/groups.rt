@@ -1,6 +1,6 @@
 //! The merge of many lists that ascend: up to sixteen of them at once.
 ghost use Rattle.std.specs.Prelude.{◌≡◌, ◌≤◌, ◌<◌, All, IfOk, IfSome, length};
-ghost use Rattle.eql_laws.specs.Apart.{joined};
+ghost use Rattle.eql_laws.specs.Apart.{joined_lists};
 ghost use Rattle.eql_merge.specs.Ranks.{Ascends, HaveNoTies, HaveSameFirsts};
 
 use crate::fronts::merge_fronts;
@@ -22,7 +22,7 @@ fn merge_at_once<T: Ranked>(alloc: Global, mut lists: VecDeque<Run<T>>) -> Resul
     requires ascend { All (Ascends T.rank) lists.items }
     requires apart { HaveNoTies T.rank lists.items }
     ensures ascends { IfOk result (λ all. Ascends T.rank all.items) }
-    ensures all { IfOk result (λ all. HaveSameFirsts T.rank (joined lists.items) all.items) }
+    ensures all { IfOk result (λ all. HaveSameFirsts T.rank (joined_lists lists.items) all.items) }
 {
     if 2 < lists.len() {
         return merge_fronts(alloc, lists);
@@ -62,7 +62,7 @@ fn merge_first<T: Ranked>(
     ensures ascend { IfOk result (λ rest. All (Ascends T.rank) rest.items) }
     ensures apart { IfOk result (λ rest. HaveNoTies T.rank rest.items) }
     ensures all { IfOk result (λ rest.
-        HaveSameFirsts T.rank (joined lists.items) (joined rest.items)) }
+        HaveSameFirsts T.rank (joined_lists lists.items) (joined_lists rest.items)) }
 {
     let mut rest = lists.split_off(first)?;
     let merged = merge_at_once(alloc, lists)?;
@@ -76,7 +76,7 @@ pub fn merge_all<T: Ranked>(alloc: Global, mut lists: VecDeque<Run<T>>) -> Resul
     requires ascend { All (Ascends T.rank) lists.items }
     requires apart { HaveNoTies T.rank lists.items }
     ensures ascends { IfOk result (λ all. Ascends T.rank all.items) }
-    ensures all { IfOk result (λ all. HaveSameFirsts T.rank (joined lists.items) all.items) }
+    ensures all { IfOk result (λ all. HaveSameFirsts T.rank (joined_lists lists.items) all.items) }
 {
     while let Some(first) = first_group(lists.len()) {
         lists = merge_first(alloc, lists, first)?;

@@ -3,7 +3,7 @@ ghost use Rattle.std.specs.Prelude.{◌≡◌, All, IfOk};
 ghost use Rattle.eql_values.specs.Accepted.{sorted_items};
 ghost use Rattle.eql_values.specs.Ascending.{Ascend};
 ghost use Rattle.eql_laws.specs.Alive.{HoldersAreInOrder};
-ghost use Rattle.eql_laws.specs.Apart.{AllAreApart, joined, AreInMatchOrder, MatchesAreApart};
+ghost use Rattle.eql_laws.specs.Apart.{AllAreApart, joined_lists, AreInMatchOrder, MatchesAreApart};
 ghost use Rattle.eql_laws.specs.Merging.{in_match_order, in_slot_order};
 ghost use Rattle.eql_merge.specs.Ranks.{HoldersAreApart};
 
@@ -53,7 +53,7 @@ fn holder_runs(alloc: Global, lists: Vec<Holders>) -> Result<VecDeque<Run<Holder
 pub fn merge(alloc: Global, lists: ItemLists) -> Result<Items, Memory>
     requires ascend { All Ascend lists }
     requires apart { AllAreApart lists }
-    ensures sorted { IfOk result (λ all. all ≡ sorted_items (joined lists)) }
+    ensures sorted { IfOk result (λ all. all ≡ sorted_items (joined_lists lists)) }
     ensures ascends { IfOk result Ascend }
 {
     let runs = item_runs(alloc, lists)?;
@@ -67,7 +67,7 @@ pub fn merge(alloc: Global, lists: ItemLists) -> Result<Items, Memory>
 pub fn merge_matches(alloc: Global, lists: Vec<Matches>) -> Result<Matches, Memory>
     requires in_order { All AreInMatchOrder lists.items }
     requires apart { MatchesAreApart lists.items }
-    ensures sorted { IfOk result (λ all. all ≡ in_match_order (joined lists.items)) }
+    ensures sorted { IfOk result (λ all. all ≡ in_match_order (joined_lists lists.items)) }
     ensures in_order { IfOk result AreInMatchOrder }
 {
     let runs = match_runs(alloc, lists)?;
@@ -80,7 +80,7 @@ pub fn merge_matches(alloc: Global, lists: Vec<Matches>) -> Result<Matches, Memo
 pub fn merge_holders(alloc: Global, lists: Vec<Holders>) -> Result<Holders, Memory>
     requires in_order { All HoldersAreInOrder lists.items }
     requires apart { HoldersAreApart lists.items }
-    ensures sorted { IfOk result (λ all. all ≡ in_slot_order (joined lists.items)) }
+    ensures sorted { IfOk result (λ all. all ≡ in_slot_order (joined_lists lists.items)) }
     ensures in_order { IfOk result HoldersAreInOrder }
 {
     let runs = holder_runs(alloc, lists)?;

@@ -87,7 +87,7 @@ fn calculate(op: MathOp, x: i64, y: i64) -> Value
 /// An operator on two values (EQL syntax reference, "Math operators"): `/` is the floor of the quotient, and `%` what
 /// that leaves. Null where one is no whole number, the divisor is 0, or the result has more than 64 signed bits.
 pub fn compute(op: MathOp, x: &Value, y: &Value) -> Value
-    ensures { result ≡ a.computed op x.now y.now }
+    ensures { result ≡ a.math_value op x.now y.now }
 {
     match (x, y) {
         (Value::Long(x), Value::Long(y)) => calculate(op, *x, *y),
@@ -97,7 +97,7 @@ pub fn compute(op: MathOp, x: &Value, y: &Value) -> Value
 
 /// The number with the other sign; null of what is no whole number, and where it has more than 64 signed bits.
 pub fn negate(x: &Value) -> Value
-    ensures { result ≡ a.negated x.now }
+    ensures { result ≡ a.negative_value x.now }
 {
     match x {
         Value::Long(x) => held(-i128::from(*x)),

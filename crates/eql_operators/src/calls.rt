@@ -41,7 +41,7 @@ fn take_all<A: Arguments>(args: &A) -> Taken<'_>
 /// A function of one argument.
 fn call_one(alloc: Global, function: Function, fold: bool, a: &Value) -> Result<Value, Memory>
     requires { f.takes_any function ≡ false }
-    ensures value { IfOk result (λ v. v ≡ f.called function fold (a.now ∷ [])) }
+    ensures value { IfOk result (λ v. v ≡ f.call_value function fold (a.now ∷ [])) }
     ensures free { f.makes_text function ≡ false → IsOk result }
 {
     match function {
@@ -62,7 +62,7 @@ fn call_two(
     b: &Value,
 ) -> Result<Value, Memory>
     requires { f.takes_any function ≡ false }
-    ensures value { IfOk result (λ v. v ≡ f.called function fold (a.now ∷ b.now ∷ [])) }
+    ensures value { IfOk result (λ v. v ≡ f.call_value function fold (a.now ∷ b.now ∷ [])) }
     ensures free { f.makes_text function ≡ false → IsOk result }
 {
     match function {
@@ -91,7 +91,8 @@ fn call_three(
     c: &Value,
 ) -> Result<Value, Memory>
     requires { f.takes_any function ≡ false }
-    ensures value { IfOk result (λ v. v ≡ f.called function fold (a.now ∷ b.now ∷ c.now ∷ [])) }
+    ensures value { IfOk result
+        (λ v. v ≡ f.call_value function fold (a.now ∷ b.now ∷ c.now ∷ [])) }
     ensures free { f.makes_text function ≡ false → IsOk result }
 {
     match function {
@@ -115,7 +116,7 @@ fn call_four(
 ) -> Result<Value, Memory>
     requires { f.takes_any function ≡ false }
     ensures value { IfOk result
-        (λ v. v ≡ f.called function fold (a.now ∷ b.now ∷ c.now ∷ d.now ∷ [])) }
+        (λ v. v ≡ f.call_value function fold (a.now ∷ b.now ∷ c.now ∷ d.now ∷ [])) }
     ensures free { f.makes_text function ≡ false → IsOk result }
 {
     match function {
@@ -133,7 +134,7 @@ fn call_fixed<A: Arguments>(
     args: &A,
 ) -> Result<Value, Memory>
     requires { f.takes_any function ≡ false }
-    ensures value { IfOk result (λ v. v ≡ f.called function fold (A.values args.now)) }
+    ensures value { IfOk result (λ v. v ≡ f.call_value function fold (A.values args.now)) }
     ensures free { f.makes_text function ≡ false → IsOk result }
 {
     match take_all(args) {
@@ -197,7 +198,7 @@ pub fn call<A: Arguments>(
     fold: bool,
     args: &A,
 ) -> Result<Value, Memory>
-    ensures value { IfOk result (λ v. v ≡ f.called function fold (A.values args.now)) }
+    ensures value { IfOk result (λ v. v ≡ f.call_value function fold (A.values args.now)) }
     ensures free { f.makes_text function ≡ false → IsOk result }
 {
     match function {

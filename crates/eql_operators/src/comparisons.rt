@@ -71,7 +71,7 @@ fn are_equal(a: &Text, b: &Text) -> bool
 
 /// `==` and `!=` of two texts, and each other comparison of two values.
 fn compare_values(op: CmpOp, a: &Value, b: &Value) -> Value
-    ensures { result ≡ c.compared op a.now b.now }
+    ensures { result ≡ c.comparison_value op a.now b.now }
 {
     match (op, a, b) {
         (CmpOp::Eq, Value::Text(a), Value::Text(b)) => Value::Bool(are_equal(a, b)),

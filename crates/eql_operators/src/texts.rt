@@ -21,7 +21,7 @@ fn append_number(text: &mut String, number: i64) -> Result<(), Memory>
 
 /// Appends an address as four numbers with dots between.
 fn append_address(text: &mut String, ip: u32) -> Result<(), Memory>
-    ensures { OnOk result (string_bytes text.new ≡ string_bytes text.old ++ f.dotted ip) }
+    ensures { OnOk result (string_bytes text.new ≡ string_bytes text.old ++ f.dotted_text ip) }
 {
     let (a, b) = (ip / 16_777_216, ip / 65_536 % 256);
     let (c, d) = (ip / 256 % 256, ip % 256);
@@ -39,7 +39,7 @@ fn word(b: bool) -> &'static str
 /// Appends the text of a value, and tells whether it has one: null has none. `Memory` where memory ran out.
 pub fn append(text: &mut String, value: &Value) -> Result<bool, Memory>
     ensures { IfOk result
-        (λ has. f.joined (Some (chars (string_bytes text.old))) (f.text_of value.now)
+        (λ has. f.joined_texts (Some (chars (string_bytes text.old))) (f.text_of value.now)
         ≡ (if has then Some (chars (string_bytes text.new)) else None)) }
 {
     match value {
@@ -155,7 +155,7 @@ pub fn between_of(
 
 /// Whether `t` stands at the beginning of `s`.
 pub fn starts_with(fold: bool, s: &Value, t: &Value) -> Value
-    ensures { result ≡ f.tested (starts fold) s.now t.now }
+    ensures { result ≡ f.test_value (starts fold) s.now t.now }
 {
     match (s, t) {
         (Value::Text(s), Value::Text(t)) => Value::Bool(text::starts(s, t, fold)),
@@ -165,7 +165,7 @@ pub fn starts_with(fold: bool, s: &Value, t: &Value) -> Value
 
 /// Whether `t` stands at the end of `s`.
 pub fn ends_with(fold: bool, s: &Value, t: &Value) -> Value
-    ensures { result ≡ f.tested (ends fold) s.now t.now }
+    ensures { result ≡ f.test_value (ends fold) s.now t.now }
 {
     match (s, t) {
         (Value::Text(s), Value::Text(t)) => Value::Bool(text::ends(s, t, fold)),
@@ -185,7 +185,7 @@ fn stands_in(s: &Text, t: &Text, fold: bool) -> bool
 
 /// Whether `t` stands somewhere in `s`; where `t` is empty it doesn't.
 pub fn contains(fold: bool, s: &Value, t: &Value) -> Value
-    ensures { result ≡ f.tested (f.stands_in fold) s.now t.now }
+    ensures { result ≡ f.test_value (f.stands_in fold) s.now t.now }
 {
     match (s, t) {
         (Value::Text(s), Value::Text(t)) => Value::Bool(stands_in(s, t, fold)),

@@ -1,7 +1,7 @@
 -- What a write that lands, or is torn, leaves.
 use Rattle.std.proofs.Common.{◌≡◌, inl, inr, ℕ, ◌+◌, ◌-◌, ◌≤◌, min, List, [], ◌∷◌, ◌++◌, length, take, drop, refl, sym, ◌∙◌, ap, subst, arith, append_assoc, length-append, length-drop}
 use Rattle.std.proofs.lemmas.List.{take_at, drop_at, drop-drop, length-take-le}
-use Rattle.eql_outside.specs.Areas.{Write, IsTorn, Lands, IsLeftAfter, written}
+use Rattle.eql_outside.specs.Areas.{Write, IsTorn, Lands, IsLeftAfter, area_with}
 use Rattle.eql_outside.specs.DiskLaws.{WholeLands, ImagesAreThere, SeenIsLeft}
 
 pub same_lands : (w : Write) (d : List ℕ) → Lands w d d
@@ -13,7 +13,7 @@ same_lands w d = record {
 front_length : (at : ℕ) (d : List ℕ) → at ≤ length d → length (take at d) ≡ at
 front_length at d within = length-take-le at d within
 
-pub length-written : (w : Write) (d : List ℕ) → w.at ≤ length d → length (written w d) ≡ w.at + length w.bytes + (length d - (w.at + length w.bytes))
+pub length-written : (w : Write) (d : List ℕ) → w.at ≤ length d → length (area_with w d) ≡ w.at + length w.bytes + (length d - (w.at + length w.bytes))
 length-written w d within =
     omega (arith, front_length w.at d within, length-append (take w.at d) (w.bytes ++ drop (w.at + length w.bytes) d), length-append w.bytes (drop (w.at + length w.bytes) d), length-drop (w.at + length w.bytes) d)
 
@@ -28,10 +28,10 @@ behind_is at made d within =
     ∙ drop_at (take at d ++ made) (drop (at + length made) d) (at + length made) (omega (arith, front_length at d within, length-append (take at d) made))
 
 -- fewer bytes in the place of a write's are the write torn
-pub torn_by : (w : Write) (made d : List ℕ) → length made ≤ length w.bytes → w.at ≤ length d → IsTorn w d (written (record { at = w.at; bytes = made }) d)
+pub torn_by : (w : Write) (made d : List ℕ) → length made ≤ length w.bytes → w.at ≤ length d → IsTorn w d (area_with (record { at = w.at; bytes = made }) d)
 torn_by w made d few within =
     let m : Write = record { at = w.at; bytes = made } in
-    let new : List ℕ = written m d in
+    let new : List ℕ = area_with m d in
     let least : min w.at (length d) ≡ w.at = omega arith in
     let more : (w.at + length made) + (length w.bytes - length made) ≡ w.at + length w.bytes = omega arith in
     let long = length-written m d within in
@@ -46,16 +46,16 @@ torn_by w made d few within =
     }
 
 -- it lands so, if a write of one byte has that byte
-pub lands_by : (w : Write) (made d : List ℕ) → length made ≤ length w.bytes → (length w.bytes ≡ 1 → made ≡ w.bytes) → w.at ≤ length d → Lands w d (written (record { at = w.at; bytes = made }) d)
+pub lands_by : (w : Write) (made d : List ℕ) → length made ≤ length w.bytes → (length w.bytes ≡ 1 → made ≡ w.bytes) → w.at ≤ length d → Lands w d (area_with (record { at = w.at; bytes = made }) d)
 lands_by w made d few one within = record {
   torn = torn_by w made d few within;
-  whole = λ e there. inr (ap (λ b. written (record { at = w.at; bytes = b }) d) (one e));
+  whole = λ e there. inr (ap (λ b. area_with (record { at = w.at; bytes = b }) d) (one e));
 }
 
-pub lands_as : (w : Write) (made d new : List ℕ) → length made ≤ length w.bytes → (length w.bytes ≡ 1 → made ≡ w.bytes) → w.at ≤ length d → new ≡ written (record { at = w.at; bytes = made }) d → Lands w d new
+pub lands_as : (w : Write) (made d new : List ℕ) → length made ≤ length w.bytes → (length w.bytes ≡ 1 → made ≡ w.bytes) → w.at ≤ length d → new ≡ area_with (record { at = w.at; bytes = made }) d → Lands w d new
 lands_as w made d new few one within is = subst (Lands w d) (sym is) (lands_by w made d few one within)
 
-pub whole_lands : (w : Write) (d : List ℕ) → w.at ≤ length d → Lands w d (written w d)
+pub whole_lands : (w : Write) (d : List ℕ) → w.at ≤ length d → Lands w d (area_with w d)
 whole_lands w d within = lands_by w w.bytes d (omega arith) (λ one. refl) within
 
 -- what was kept may be left

@@ -15,8 +15,8 @@ pub record Write : Type 0 where
   pub bytes : List ℕ
 
 -- the area with the bytes at their place
-abbrev pub written : Write → List ℕ → List ℕ
-written w old = take w.at old ++ (w.bytes ++ drop (w.at + length w.bytes) old)
+abbrev pub area_with : Write → List ℕ → List ℕ
+area_with w old = take w.at old ++ (w.bytes ++ drop (w.at + length w.bytes) old)
 
 -- a write that a crash tears: any bytes in its range and past the old end, and all others as they were
 pub record IsTorn (w : Write) (old new : List ℕ) : Type 0 where
@@ -28,7 +28,7 @@ pub record IsTorn (w : Write) (old new : List ℕ) : Type 0 where
 -- what a crash may leave of a write: one of one byte, at a place that isn't behind a gap, is there whole or not at all
 pub record Lands (w : Write) (old new : List ℕ) : Type 0 where
   pub torn : IsTorn w old new
-  pub whole : length w.bytes ≡ 1 → w.at ≤ length old → (new ≡ old) ⊎ (new ≡ written w old)
+  pub whole : length w.bytes ≡ 1 → w.at ≤ length old → (new ≡ old) ⊎ (new ≡ area_with w old)
 
 -- an area: the bytes that the last good sync kept, the writes since, of which the last stands first, and what a read gives
 pub record Store : Type 0 where
@@ -46,12 +46,12 @@ abbrev pub MayLeave : Store → List ℕ → Type 0
 MayLeave s c = (c ≡ s.seen) ⊎ IsLeftAfter s.kept s.writes c
 
 -- nothing was written since these bytes were kept
-abbrev pub settled : List ℕ → Store
-settled bytes = record { kept = bytes; writes = []; seen = bytes }
+abbrev pub settled_store : List ℕ → Store
+settled_store bytes = record { kept = bytes; writes = []; seen = bytes }
 
 -- a further write, after which a read gives these bytes
-abbrev pub begun : Write → List ℕ → Store → Store
-begun w seen s = record { kept = s.kept; writes = w ∷ s.writes; seen = seen }
+abbrev pub store_with : Write → List ℕ → Store → Store
+store_with w seen s = record { kept = s.kept; writes = w ∷ s.writes; seen = seen }
 
 -- both areas at one moment
 pub record Moment : Type 0 where
@@ -93,5 +93,5 @@ one_two = record { kept = 1 ∷ 2 ∷ []; writes = record { at = 1; bytes = 7 �
 pub may_be_there : MayLeave one_two (1 ∷ 7 ∷ 8 ∷ [])
 may_be_there = inl refl
 
-pub read_after_write : written (record { at = 1; bytes = 7 ∷ 8 ∷ [] }) (1 ∷ 2 ∷ []) ≡ 1 ∷ 7 ∷ 8 ∷ []
+pub read_after_write : area_with (record { at = 1; bytes = 7 ∷ 8 ∷ [] }) (1 ∷ 2 ∷ []) ≡ 1 ∷ 7 ∷ 8 ∷ []
 read_after_write = refl

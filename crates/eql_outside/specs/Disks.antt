@@ -1,6 +1,6 @@
 -- What a disk in memory tells.
 use Rattle.std.specs.Prelude.{ℕ, List, [], map}
-use Rattle.eql_outside.specs.Areas.{Write, Store, Moment, settled}
+use Rattle.eql_outside.specs.Areas.{Write, Store, Moment, settled_store}
 use Rattle.eql_outside.specs.Moments.{History}
 use Rattle.eql_outside.specs.declared.disk.store.MemWrite.{MemWrite}
 use Rattle.eql_outside.specs.declared.disk.store.MemStore.{MemStore}
@@ -17,4 +17,4 @@ moment_of m = record { a = store_of m.a; b = store_of m.b }
 
 -- a disk that holds these bytes, all of which are kept
 abbrev pub fresh : List ℕ → List ℕ → History
-fresh a b = record { now = record { a = settled a; b = settled b }; past = [] }
+fresh a b = record { now = record { a = settled_store a; b = settled_store b }; past = [] }

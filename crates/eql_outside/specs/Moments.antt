@@ -1,7 +1,7 @@
 -- The moments of a disk: its clock, and what each call adds to it.
 use Rattle.std.specs.Prelude.{◌≡◌, ◌⊎◌, ℕ, List, ◌∷◌, Option, Some, None}
 use Rattle.eql_outside.specs.declared.disk.Area.{Area}
-use Rattle.eql_outside.specs.Areas.{Write, Lands, Store, MayLeave, Moment, settled, begun, store, with_store, written}
+use Rattle.eql_outside.specs.Areas.{Write, Lands, Store, MayLeave, Moment, settled_store, store_with, store, with_store, area_with}
 
 -- the disk now, and at each moment before, of which the last stands first
 pub record History : Type 0 where
@@ -13,11 +13,11 @@ later m h = record { now = m; past = h.now ∷ h.past }
 
 -- the area after a further write, and what a read gives then
 abbrev pub after_write : Area → Write → List ℕ → Moment → Moment
-after_write area w seen m = with_store area (begun w seen (store area m)) m
+after_write area w seen m = with_store area (store_with w seen (store area m)) m
 
 -- a write was done
 abbrev pub Wrote : Area → Write → History → History → Type 0
-Wrote area w h k = k ≡ later (after_write area w (written w (store area h.now).seen) h.now) h
+Wrote area w h k = k ≡ later (after_write area w (area_with w (store area h.now).seen) h.now) h
 
 -- what a write that was begun may leave for reads
 abbrev pub LandsOn : Write → Store → List ℕ → Type 0
@@ -29,7 +29,7 @@ RefusesWrite area w h k = (k ≡ h) ⊎ ((seen : List ℕ) × LandsOn w (store a
 
 -- a sync was done: a crash leaves of the area what a read gives
 abbrev pub Syncs : Area → History → History → Type 0
-Syncs area h k = k ≡ later (with_store area (settled (store area h.now).seen) h.now) h
+Syncs area h k = k ≡ later (with_store area (settled_store (store area h.now).seen) h.now) h
 
 -- what a read gives, and nothing else, is now this
 abbrev pub reading : List ℕ → Store → Store

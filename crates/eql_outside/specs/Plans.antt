@@ -12,16 +12,16 @@ abbrev pub unstarted_until : Option ℕ → List ℕ → FaultPlan
 unstarted_until stop fails = record { calls = 0; fails = fails; stop = stop }
 
 -- no call was made yet, and none but these fails
-abbrev pub unstarted : List ℕ → FaultPlan
-unstarted fails = unstarted_until None fails
+abbrev pub fresh_plan : List ℕ → FaultPlan
+fresh_plan fails = unstarted_until None fails
 
 -- the number of the next call, which stands still at the greatest number of 64 bits
 abbrev pub next_call : FaultPlan → ℕ
 next_call plan = min (plan.calls + 1) (2 ^ 64 - 1)
 
 -- one more call was made
-abbrev pub called : FaultPlan → FaultPlan
-called plan = record { calls = next_call plan; fails = plan.fails; stop = plan.stop }
+abbrev pub plan_after_call : FaultPlan → FaultPlan
+plan_after_call plan = record { calls = next_call plan; fails = plan.fails; stop = plan.stop }
 
 -- the next call is one that fails
 abbrev pub FailsNext : FaultPlan → Type 0

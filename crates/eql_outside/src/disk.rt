@@ -3,7 +3,7 @@ ghost use Rattle.std.specs.Prelude.{◌≡◌, ◌≢◌, ◌≤◌, ◌↔◌, 
 ghost use Rattle.eql_outside.specs.Outside.{Rose};
 ghost use Rattle.eql_outside.specs.Areas.{Write, Store, Moment, store};
 ghost use Rattle.eql_outside.specs.Moments.{History, DiskTells, Wrote, RefusesWrite, Syncs, RefusesSync};
-ghost use Rattle.eql_outside.specs.Plans.{FaultPlan, called, FailsNext};
+ghost use Rattle.eql_outside.specs.Plans.{FaultPlan, plan_after_call, FailsNext};
 
 use crate::refused::OutRefused;
 use std::alloc::Global;
@@ -51,7 +51,7 @@ pub trait Disk {
         ensures planned { IfSome (fault_plan self.old)
             (λ plan. (result ≡ Err OutRefused.Failed) ↔ FailsNext plan) }
         ensures numbered { IfSome (fault_plan self.old)
-            (λ plan. fault_plan self.new ≡ Some (called plan)) };
+            (λ plan. fault_plan self.new ≡ Some (plan_after_call plan)) };
 
     /// Writes bytes over what stands in an area from `at` on, and past its end. After a refusal nothing was written,
     /// or reads give what a crash could have left of the write.
@@ -72,7 +72,7 @@ pub trait Disk {
         ensures planned { IfSome (fault_plan self.old)
             (λ plan. (result ≡ Err OutRefused.Failed) ↔ FailsNext plan) }
         ensures numbered { IfSome (fault_plan self.old)
-            (λ plan. fault_plan self.new ≡ Some (called plan)) };
+            (λ plan. fault_plan self.new ≡ Some (plan_after_call plan)) };
 
     /// Keeps what was written to an area: after `Ok` a crash leaves of it what reads give. After a refusal nothing
     /// changed, or reads give something else that a crash could have left.
@@ -90,7 +90,7 @@ pub trait Disk {
         ensures planned { IfSome (fault_plan self.old)
             (λ plan. (result ≡ Err OutRefused.Failed) ↔ FailsNext plan) }
         ensures numbered { IfSome (fault_plan self.old)
-            (λ plan. fault_plan self.new ≡ Some (called plan)) };
+            (λ plan. fault_plan self.new ≡ Some (plan_after_call plan)) };
 
     /// How many calls failed. The number stands still at the greatest of its type.
     fn faults(&self) -> u64

@@ -1,7 +1,7 @@
 //! Planned failures, as all forms in memory have them.
 ghost use Rattle.std.specs.Prelude.{◌≡◌, ◌↔◌, ◌≤◌, IfOk, IsOk, IsErr, IsTrue};
 ghost use Rattle.eql_outside.specs.Outside.{Rose};
-ghost use Rattle.eql_outside.specs.Plans.{FailsNext, unstarted, unstarted_until, called};
+ghost use Rattle.eql_outside.specs.Plans.{FailsNext, fresh_plan, unstarted_until, plan_after_call};
 
 use crate::refused::Failed;
 use eql_values::Memory;
@@ -21,7 +21,7 @@ impl PlannedFaults {
     ghost use Rattle.eql_outside.specs.Planned.{plan_of};
 
     pub(crate) fn new(fails: Vec<u64>) -> PlannedFaults
-        ensures plan { plan_of result ≡ unstarted fails.items }
+        ensures plan { plan_of result ≡ fresh_plan fails.items }
         ensures faults { result.faults ≡ 0 }
     {
         PlannedFaults::until(fails, None)
@@ -56,7 +56,7 @@ impl PlannedFaults {
     /// Numbers one more call, and returns whether it is planned to fail.
     pub(crate) fn next(&mut self) -> bool
         ensures planned { IsTrue result ↔ FailsNext (plan_of self.old) }
-        ensures numbered { plan_of self.new ≡ called (plan_of self.old) }
+        ensures numbered { plan_of self.new ≡ plan_after_call (plan_of self.old) }
         ensures faults { self.new.faults ≡ self.old.faults }
     {
         self.calls = self.calls.saturating_add(1);
@@ -71,7 +71,7 @@ impl PlannedFaults {
     /// Numbers one more call. It fails where its number is one of those planned, and then the count rises.
     pub(crate) fn call(&mut self) -> Result<(), Failed>
         ensures planned { IsErr result ↔ FailsNext (plan_of self.old) }
-        ensures numbered { plan_of self.new ≡ called (plan_of self.old) }
+        ensures numbered { plan_of self.new ≡ plan_after_call (plan_of self.old) }
         ensures cause { IsErr result → Rose self.old.faults self.new.faults }
         ensures steady { IsOk result → self.new.faults ≡ self.old.faults }
         ensures counts { self.old.faults ≤ self.new.faults }

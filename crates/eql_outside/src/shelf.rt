@@ -3,7 +3,7 @@ ghost use Rattle.std.specs.Prelude.{◌≡◌, ◌≢◌, ◌≤◌, ◌<◌, �
 ghost use Rattle.eql_outside.specs.Outside.{Rose, file_named};
 ghost use Rattle.eql_outside.specs.Faults.{FaultsAreSame, RoseFor, RoseUnder};
 ghost use Rattle.eql_outside.specs.Moments.{History};
-ghost use Rattle.eql_outside.specs.Plans.{FaultPlan, unstarted, called, FailsNext};
+ghost use Rattle.eql_outside.specs.Plans.{FaultPlan, fresh_plan, plan_after_call, FailsNext};
 
 use crate::disk::Disk;
 use crate::refused::OutRefused;
@@ -98,10 +98,10 @@ pub trait Shelf {
         ensures planned { IfSome (fault_plan self.old) (λ plan.
             (result ≡ Err OutRefused.Failed → FailsNext plan) × (FailsNext plan → IsErr result)) }
         ensures numbered { IfSome (fault_plan self.old)
-            (λ plan. fault_plan self.new ≡ Some (called plan)) }
+            (λ plan. fault_plan self.new ≡ Some (plan_after_call plan)) }
         ensures plans { IfOk result (λ o. IfSome (source_plans self.old) (λ ps. IfSome o
             (λ s. IsSomeAnd (file_named (string_bytes name.now) ps)
-            (λ fails. Self.Src.fault_plan s ≡ Some (unstarted fails))))) }
+            (λ fails. Self.Src.fault_plan s ≡ Some (fresh_plan fails))))) }
         ensures plans_kept { source_plans self.new ≡ source_plans self.old };
 
     /// Takes a source back. Where the source failed, the count of faults rises, and that of the name under which it
@@ -154,7 +154,7 @@ pub trait Shelf {
         ensures planned { IfSome (fault_plan self.old)
             (λ plan. (result ≡ Err OutRefused.Failed) ↔ FailsNext plan) }
         ensures numbered { IfSome (fault_plan self.old)
-            (λ plan. fault_plan self.new ≡ Some (called plan)) };
+            (λ plan. fault_plan self.new ≡ Some (plan_after_call plan)) };
 
     /// Takes the disk back: the shelf's disk is then this one, with its moments and its plan. Where it failed, the
     /// count of the disk's faults rises, and otherwise it stays.

@@ -2,7 +2,7 @@
 ghost use Rattle.std.specs.Prelude.{◌≡◌, ◌≢◌, ◌≤◌, ◌↔◌, ℕ, List, Option, Some, None, Err, OnOk, OnErr, IfSome};
 ghost use Rattle.eql_outside.specs.Outside.{Rose};
 ghost use Rattle.eql_outside.specs.Written.{WroteAll, WroteFront};
-ghost use Rattle.eql_outside.specs.Plans.{FaultPlan, called, FailsNext};
+ghost use Rattle.eql_outside.specs.Plans.{FaultPlan, plan_after_call, FailsNext};
 
 use crate::refused::OutRefused;
 use std::alloc::Global;
@@ -42,7 +42,7 @@ pub trait Sink {
         ensures planned { IfSome (fault_plan self.old)
             (λ plan. (result ≡ Err OutRefused.Failed) ↔ FailsNext plan) }
         ensures numbered { IfSome (fault_plan self.old)
-            (λ plan. fault_plan self.new ≡ Some (called plan)) };
+            (λ plan. fault_plan self.new ≡ Some (plan_after_call plan)) };
 
     /// How many writes failed. The number stands still at the greatest of its type.
     fn faults(&self) -> u64

@@ -2,7 +2,7 @@
 ghost use Rattle.std.specs.Prelude.{◌≡◌, ◌≤◌, ◌<◌, ◌↔◌, ℕ, List, [], Option, Some, None, Ok, IfOk, IfSome, IsOk, IsErr, length};
 ghost use Rattle.eql_outside.specs.Outside.{Rose};
 ghost use Rattle.eql_outside.specs.Sources.{Takes};
-ghost use Rattle.eql_outside.specs.Plans.{FaultPlan, called, FailsNext};
+ghost use Rattle.eql_outside.specs.Plans.{FaultPlan, plan_after_call, FailsNext};
 
 use crate::refused::Failed;
 use std::fs::File;
@@ -48,7 +48,7 @@ pub trait Source {
         // A source with a plan fails where that says so, and nowhere else.
         ensures planned { IfSome (fault_plan self.old) (λ plan. IsErr result ↔ FailsNext plan) }
         ensures numbered { IfSome (fault_plan self.old)
-            (λ plan. fault_plan self.new ≡ Some (called plan)) };
+            (λ plan. fault_plan self.new ≡ Some (plan_after_call plan)) };
 
     /// How many takes failed. The number stands still at the greatest of its type.
     fn faults(&self) -> u64

@@ -11,7 +11,7 @@ use Rattle.eql_query.specs.View.{trees_of}
 use Rattle.eql_parser.specs.Kinds.{Kind, false_, true_, text, number, open_, close_, dot_, question_, adds}
 use Rattle.eql_parser.specs.Grammar.{first_part, part, is_left_out_call}
 use Rattle.eql_parser.specs.Limits.{depth}
-use Rattle.eql_parser.specs.Reading.{Fail, Syntax, LeftOut, TooDeep, TooOpen, Res, then_do, res_map, closing, is_comma, more_of, separated, listed, dotted_part, behind_dot, dotted, named_by, named, field, text_at, negative_at, literal, at_level, above, chain_on, chain_from, chain, joined, call_of}
+use Rattle.eql_parser.specs.Reading.{Fail, Syntax, LeftOut, TooDeep, TooOpen, Res, then_do, res_map, closing, is_comma, more_of, separated, comma_list, dotted_part, behind_dot, dotted, named_by, named_field, field, text_at, negative_at, literal, at_level, above, chain_on, chain_from, chain, joined_operands, call_of}
 use Rattle.eql_parser.proofs.Told.{Told, upto_within, told_more, told_separated, told_dot, told_dotted, told_named, told_field, told_text, told_negative, told_literal, told_chain_from, told_joined, room_for}
 
 -- the place of a refusal that rests on the tokens through it alone, or 0
@@ -265,8 +265,8 @@ module _ (Same : Type 0) (x y : List Kind) where
       agree_map (λ n. record { name = n; optional = optional }) (dotted (length (m ++ x)) w (m ++ x)) (dotted (length (m ++ y)) w (m ++ y))
       (agree_dotted (length (m ++ x)) (length (m ++ y)) w m (omega arith) (omega arith))
 
-  pub agree_named : (optional : Bool) (m : List Kind) → Agree Same x y (named optional (m ++ x)) (named optional (m ++ y))
-  agree_named optional [] = in_tail (named optional x) (named optional y) (short 0 x (named optional x) (told_named 0 optional x))
+  pub agree_named : (optional : Bool) (m : List Kind) → Agree Same x y (named_field optional (m ++ x)) (named_field optional (m ++ y))
+  agree_named optional [] = in_tail (named_field optional x) (named_field optional y) (short 0 x (named_field optional x) (told_named 0 optional x))
   agree_named optional (k ∷ m) = agree_named_by optional (first_part k) m
 
   pub agree_field : (m : List Kind) → Agree Same x y (field (m ++ x)) (field (m ++ y))
@@ -326,7 +326,7 @@ module _ (Same : Type 0) (x y : List Kind) {A : Type 0} (d : ℕ) (is : Kind →
   agree_listed_by m = agree_separated (length (m ++ x)) (length (m ++ y)) m (omega arith) (omega arith)
 
 pub agree_listed : (Same : Type 0) (x y : List Kind) {A : Type 0} (d : ℕ) (read read' : List Kind → Res A) → ((us : List Kind) → Told d us (read us))
-    → ((m : List Kind) → Agree Same x y (read (m ++ x)) (read' (m ++ y))) → (m : List Kind) → Agree Same x y (listed read (m ++ x)) (listed read' (m ++ y))
+    → ((m : List Kind) → Agree Same x y (read (m ++ x)) (read' (m ++ y))) → (m : List Kind) → Agree Same x y (comma_list read (m ++ x)) (comma_list read' (m ++ y))
 agree_listed Same x y d read read' told agrees m = agree_listed_by Same x y d is_comma refl refl read read' told agrees m
 
 -- operands from the left, and one operand or several joined in one node
@@ -365,8 +365,8 @@ module _ (Same : Type 0) (x y : List Kind) (d : ℕ) (read read' : ℕ → List 
       (λ a p b. agree_chain_from operator o c l (length (p ++ x)) (length (p ++ y)) a p (omega arith) (omega arith)) (λ a us. short_chain operator o c l (length us) a us)
 
   pub agree_joined : (is : Kind → Bool) (node : Trees → Tree) (o : is open_ ≡ false) (c : is close_ ≡ false) (l : ℕ) (e : Tree) (m : List Kind)
-      → Agree Same x y (joined is node read l e (m ++ x)) (joined is node read' l e (m ++ y))
-  agree_joined is node o c l e [] = in_tail Same x y (joined is node read l e x) (joined is node read' l e y) (short d x (joined is node read l e x) (told_joined d is node read l e x o c told))
+      → Agree Same x y (joined_operands is node read l e (m ++ x)) (joined_operands is node read' l e (m ++ y))
+  agree_joined is node o c l e [] = in_tail Same x y (joined_operands is node read l e x) (joined_operands is node read' l e y) (short d x (joined_operands is node read l e x) (told_joined d is node read l e x o c told))
   agree_joined is node o c l e (k ∷ m) =
       agree_if Same x y (is k) (above l e (suc (length (m ++ x))) (res_map (λ es. node (more e (trees_of es))) (separated is (read (l - 1)) (length (m ++ x)) (m ++ x))))
       (above l e (suc (length (m ++ y))) (res_map (λ es. node (more e (trees_of es))) (separated is (read' (l - 1)) (length (m ++ y)) (m ++ y)))) (Ok (e, k ∷ (m ++ x))) (Ok (e, k ∷ (m ++ y)))

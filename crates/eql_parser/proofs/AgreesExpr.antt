@@ -5,7 +5,7 @@ use Rattle.eql_query.specs.Tree.{Tree}
 use Rattle.eql_query.specs.Tree as t
 use Rattle.eql_query.specs.View.{trees_of}
 use Rattle.eql_parser.specs.Kinds.{Kind, false_, in_, matches, not_, null_, regex_, true_, name, folding, back, text, number, open_, close_, question_, compares, adds}
-use Rattle.eql_parser.specs.Reading.{Syntax, LeftOut, Res, then_do, res_map, closing, is_or, is_and, adds_of, multiplies_of, listed, dotted, named, field_tree, text_at, literal, at_level, call_of, joined, expr}
+use Rattle.eql_parser.specs.Reading.{Syntax, LeftOut, Res, then_do, res_map, closing, is_or, is_and, adds_of, multiplies_of, comma_list, dotted, named_field, field_tree, text_at, literal, at_level, call_of, joined_operands, expr}
 use Rattle.eql_parser.specs.Reading as r
 use Rattle.eql_parser.proofs.Told.{Told, upto_here, told_listed, told_dotted, told_text, told_literal, told_joined, room_for, inside}
 use Rattle.eql_parser.proofs.ToldExpr.{told_patterns, told_members, told_prim, told_unary, told_prod, told_sum, told_behind_not, told_behind_sum, told_neg, told_conj, expr_told}
@@ -27,20 +27,20 @@ short_enter : {A : Type 0} (room : Bool) (inner : ℕ → List Kind → Res Tree
 short_enter true inner us s h = h
 short_enter false inner us s h = omega arith
 
-short_name_field : (w : List ℕ) (us : List Kind) → Short (length us) (res_map field_tree (named false (name w ∷ us)))
+short_name_field : (w : List ℕ) (us : List Kind) → Short (length us) (res_map field_tree (named_field false (name w ∷ us)))
 short_name_field w us =
-    short_map (length us) field_tree (named false (name w ∷ us))
+    short_map (length us) field_tree (named_field false (name w ∷ us))
     (short_map (length us) (λ n. record { name = n; optional = false }) (dotted (length us) w us) (short 0 us (dotted (length us) w us) (told_dotted 0 (length us) w us)))
 
 module _ (d : ℕ) (inner : ℕ → List Kind → Res Tree) (told : (l : ℕ) (us : List Kind) → Told (inside d) us (inner l us)) where
   pub short_inner : (l : ℕ) (us : List Kind) → Short (length us) (inner l us)
   short_inner l us = short (inside d) us (inner l us) (told l us)
 
-  pub short_listed : (l : ℕ) (us : List Kind) → Short (length us) (listed (inner l) us)
-  short_listed l us = short (inside d) us (listed (inner l) us) (told_listed (inside d) (inner l) us (told l))
+  pub short_listed : (l : ℕ) (us : List Kind) → Short (length us) (comma_list (inner l) us)
+  short_listed l us = short (inside d) us (comma_list (inner l) us) (told_listed (inside d) (inner l) us (told l))
 
-  short_closed : (l : ℕ) (us : List Kind) → Short (length us) (then_do (listed (inner l) us) closing)
-  short_closed l us = short_then (length us) (listed (inner l) us) closing (short_listed l us) short_closing
+  short_closed : (l : ℕ) (us : List Kind) → Short (length us) (then_do (comma_list (inner l) us) closing)
+  short_closed l us = short_then (length us) (comma_list (inner l) us) closing (short_listed l us) short_closing
 
   pub short_arguments : (l : ℕ) (us : List Kind) → Short (length us) (r.arguments (room_for d) inner l us)
   short_arguments l [] = short_closed l []
@@ -72,9 +72,9 @@ module _ (d : ℕ) (inner : ℕ → List Kind → Res Tree) (told : (l : ℕ) (u
 
 module _ (Same : Type 0) (x y : List Kind) (d d' : ℕ) (inner inner' : ℕ → List Kind → Res Tree) (le : AsMany Same d d') (told : (l : ℕ) (us : List Kind) → Told (inside d) us (inner l us))
     (agrees : 0 < d → (l : ℕ) (m : List Kind) → Agree Same x y (inner l (m ++ x)) (inner' l (m ++ y))) where
-  agree_list : 0 < d → (l : ℕ) (m : List Kind) → Agree Same x y (then_do (listed (inner l) (m ++ x)) closing) (then_do (listed (inner' l) (m ++ y)) closing)
+  agree_list : 0 < d → (l : ℕ) (m : List Kind) → Agree Same x y (then_do (comma_list (inner l) (m ++ x)) closing) (then_do (comma_list (inner' l) (m ++ y)) closing)
   agree_list p l m =
-      agree_closed Same x y (length (m ++ x)) (listed (inner l) (m ++ x)) (listed (inner' l) (m ++ y)) (short_listed d inner told l (m ++ x))
+      agree_closed Same x y (length (m ++ x)) (comma_list (inner l) (m ++ x)) (comma_list (inner' l) (m ++ y)) (short_listed d inner told l (m ++ x))
       (agree_listed Same x y (inside d) (inner l) (inner' l) (told l) (agrees p l) m)
 
   agree_arguments : 0 < d → (l : ℕ) (m : List Kind) → Agree Same x y (r.arguments (room_for d) inner l (m ++ x)) (r.arguments (room_for d') inner' l (m ++ y))
@@ -86,25 +86,25 @@ module _ (Same : Type 0) (x y : List Kind) (d d' : ℕ) (inner inner' : ℕ → 
   agree_patterns [] = in_tail Same x y (r.patterns (room_for d) inner x) (r.patterns (room_for d') inner' y) (short d x (r.patterns (room_for d) inner x) (told_patterns d inner told x))
   agree_patterns (text s ∷ m) = stays Same x y (s ∷ []) m
   agree_patterns (open_ ∷ m) =
-      agree_enter Same x y d d' (suc (length (m ++ x))) (suc (length (m ++ y))) (then_do (listed text_at (m ++ x)) closing) (then_do (listed text_at (m ++ y)) closing) le
-      (λ p. agree_closed Same x y (length (m ++ x)) (listed text_at (m ++ x)) (listed text_at (m ++ y)) (short 0 (m ++ x) (listed text_at (m ++ x)) (told_listed 0 text_at (m ++ x) (told_text 0)))
+      agree_enter Same x y d d' (suc (length (m ++ x))) (suc (length (m ++ y))) (then_do (comma_list text_at (m ++ x)) closing) (then_do (comma_list text_at (m ++ y)) closing) le
+      (λ p. agree_closed Same x y (length (m ++ x)) (comma_list text_at (m ++ x)) (comma_list text_at (m ++ y)) (short 0 (m ++ x) (comma_list text_at (m ++ x)) (told_listed 0 text_at (m ++ x) (told_text 0)))
       (agree_listed Same x y 0 text_at text_at (told_text 0) (agree_text Same x y) m))
   agree_patterns (_ ∷ m) = λ i. tt
 
   agree_members : (m : List Kind) → Agree Same x y (r.members (room_for d) inner (m ++ x)) (r.members (room_for d') inner' (m ++ y))
   agree_members [] = in_tail Same x y (r.members (room_for d) inner x) (r.members (room_for d') inner' y) (short d x (r.members (room_for d) inner x) (told_members d inner told x))
   agree_members (open_ ∷ m) =
-      agree_enter Same x y d d' (suc (length (m ++ x))) (suc (length (m ++ y))) (then_do (listed literal (m ++ x)) closing) (then_do (listed literal (m ++ y)) closing) le
-      (λ p. agree_closed Same x y (length (m ++ x)) (listed literal (m ++ x)) (listed literal (m ++ y)) (short 0 (m ++ x) (listed literal (m ++ x)) (told_listed 0 literal (m ++ x) (told_literal 0)))
+      agree_enter Same x y d d' (suc (length (m ++ x))) (suc (length (m ++ y))) (then_do (comma_list literal (m ++ x)) closing) (then_do (comma_list literal (m ++ y)) closing) le
+      (λ p. agree_closed Same x y (length (m ++ x)) (comma_list literal (m ++ x)) (comma_list literal (m ++ y)) (short 0 (m ++ x) (comma_list literal (m ++ x)) (told_listed 0 literal (m ++ x) (told_literal 0)))
       (agree_listed Same x y 0 literal literal (told_literal 0) (agree_literal Same x y) m))
   agree_members (_ ∷ m) = λ i. tt
 
   agree_leaf : (l : ℕ) (e : Tree) (m : List Kind) → Agree Same x y (at_level l (suc (length (m ++ x))) (Ok (e, m ++ x))) (at_level l (suc (length (m ++ y))) (Ok (e, m ++ y)))
   agree_leaf l e m = agree_at_level Same x y l (suc (length (m ++ x))) (suc (length (m ++ y))) (omega (arith, length-append m y)) (Ok (e, m ++ x)) (Ok (e, m ++ y)) (stays Same x y e m)
 
-  agree_field_prim : (l : ℕ) (o : Bool) (place place' : ℕ) → length y < place' → (m : List Kind) → Agree Same x y (at_level l place (res_map field_tree (named o (m ++ x)))) (at_level l place' (res_map field_tree (named o (m ++ y))))
+  agree_field_prim : (l : ℕ) (o : Bool) (place place' : ℕ) → length y < place' → (m : List Kind) → Agree Same x y (at_level l place (res_map field_tree (named_field o (m ++ x)))) (at_level l place' (res_map field_tree (named_field o (m ++ y))))
   agree_field_prim l o place place' behind m =
-      agree_at_level Same x y l place place' behind (res_map field_tree (named o (m ++ x))) (res_map field_tree (named o (m ++ y))) (agree_map Same x y field_tree (named o (m ++ x)) (named o (m ++ y)) (agree_named Same x y o m))
+      agree_at_level Same x y l place place' behind (res_map field_tree (named_field o (m ++ x))) (res_map field_tree (named_field o (m ++ y))) (agree_map Same x y field_tree (named_field o (m ++ x)) (named_field o (m ++ y)) (agree_named Same x y o m))
 
   agree_last_name : (l : ℕ) (w : List ℕ) → Agree Same x y (r.prim (room_for d) inner l (name w ∷ x)) (r.prim (room_for d') inner' l (name w ∷ y))
   agree_last_name zero w =
@@ -216,17 +216,17 @@ module _ (Same : Type 0) (x y : List Kind) (d d' : ℕ) (inner inner' : ℕ → 
 
   agree_conj : (l : ℕ) (m : List Kind) → Agree Same x y (r.conj (room_for d) inner l (m ++ x)) (r.conj (room_for d') inner' l (m ++ y))
   agree_conj l m =
-      agree_then Same x y (length (m ++ x)) (r.neg (room_for d) inner l (m ++ x)) (r.neg (room_for d') inner' l (m ++ y)) (joined is_and t.and (r.neg (room_for d) inner) l) (joined is_and t.and (r.neg (room_for d') inner') l)
+      agree_then Same x y (length (m ++ x)) (r.neg (room_for d) inner l (m ++ x)) (r.neg (room_for d') inner' l (m ++ y)) (joined_operands is_and t.and (r.neg (room_for d) inner) l) (joined_operands is_and t.and (r.neg (room_for d') inner') l)
       (short d (m ++ x) (r.neg (room_for d) inner l (m ++ x)) (told_neg d inner told l (m ++ x))) (agree_neg l m)
       (λ e p b. agree_joined Same x y d (r.neg (room_for d) inner) (r.neg (room_for d') inner') (told_neg d inner told) agree_neg is_and t.and refl refl l e p)
-      (λ e us. short d us (joined is_and t.and (r.neg (room_for d) inner) l e us) (told_joined d is_and t.and (r.neg (room_for d) inner) l e us refl refl (told_neg d inner told)))
+      (λ e us. short d us (joined_operands is_and t.and (r.neg (room_for d) inner) l e us) (told_joined d is_and t.and (r.neg (room_for d) inner) l e us refl refl (told_neg d inner told)))
 
   agree_level : (l : ℕ) (m : List Kind) → Agree Same x y (r.level (room_for d) inner l (m ++ x)) (r.level (room_for d') inner' l (m ++ y))
   agree_level l m =
-      agree_then Same x y (length (m ++ x)) (r.conj (room_for d) inner l (m ++ x)) (r.conj (room_for d') inner' l (m ++ y)) (joined is_or t.or (r.conj (room_for d) inner) l) (joined is_or t.or (r.conj (room_for d') inner') l)
+      agree_then Same x y (length (m ++ x)) (r.conj (room_for d) inner l (m ++ x)) (r.conj (room_for d') inner' l (m ++ y)) (joined_operands is_or t.or (r.conj (room_for d) inner) l) (joined_operands is_or t.or (r.conj (room_for d') inner') l)
       (short d (m ++ x) (r.conj (room_for d) inner l (m ++ x)) (told_conj d inner told l (m ++ x))) (agree_conj l m)
       (λ e p b. agree_joined Same x y d (r.conj (room_for d) inner) (r.conj (room_for d') inner') (told_conj d inner told) agree_conj is_or t.or refl refl l e p)
-      (λ e us. short d us (joined is_or t.or (r.conj (room_for d) inner) l e us) (told_joined d is_or t.or (r.conj (room_for d) inner) l e us refl refl (told_conj d inner told)))
+      (λ e us. short d us (joined_operands is_or t.or (r.conj (room_for d) inner) l e us) (told_joined d is_or t.or (r.conj (room_for d) inner) l e us refl refl (told_conj d inner told)))
 
 -- with as many parentheses allowed in the second run, or more
 pub expr_agrees : (Same : Type 0) (x y : List Kind) (d d' l : ℕ) (m : List Kind) → AsMany Same d d' → Agree Same x y (expr d l (m ++ x)) (expr d' l (m ++ y))

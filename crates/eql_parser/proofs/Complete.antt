@@ -11,7 +11,7 @@ use Rattle.eql_parser.specs.Kinds.{Kind, any_, bang_, bar_, by_, comma_, dot_, u
 use Rattle.eql_parser.specs.QueryGrammar.{category, IsTerm, a_term, IsKey, a_key, IsBy, no_keys, by_keys, IsRuns, one_run, some_runs, IsSpan, no_span, a_span, IsBracketed, bracketed, IsItem, an_item, IsItems, last_item, next_item, IsUntil, no_until, an_until, IsBody, one_event, a_sequence, IsPipes, no_pipes, next_pipe, Reads, a_query}
 use Rattle.eql_parser.specs.Limits.{depth_but, deepest_item, deepest_item_but, until_depth, until_depth_but, body_levels, body_levels_but, levels, levels_but}
 use Rattle.eql_parser.specs.Reading.{Res, then_do, res_map, is_comma, field, expr}
-use Rattle.eql_parser.specs.QueryReading.{expected, is_runs, is_assign, number_at, Conditioned, keys, runs, term_tree_of, behind_term, items_more, unit_named, unit_at, span, pipe_named, pipe, pipes, behind_body, query_by}
+use Rattle.eql_parser.specs.QueryReading.{behind_expected, is_runs, is_assign, number_at, Conditioned, keys, runs, term_tree_of, behind_term, items_more, unit_named, unit_at, span, pipe_named, pipe, pipes, behind_body, query_by}
 use Rattle.eql_parser.specs.QueryReading as q
 use Rattle.eql_parser.proofs.Eventually.{Eventually, at_once, if_true, Ends, listed_all}
 use Rattle.eql_parser.proofs.Reaches.{Reaches, reaches_now, reaches_same, reaches_then, reaches_map}
@@ -66,7 +66,7 @@ runs_end (_ ∷ ts) s = refl
 
 runs_all : (ts : List Kind) (n : ℤ) (rest : List Kind) → IsRuns ts n rest → after rest < 3 → runs ts ≡ Ok (n, rest)
 runs_all _ _ rest one_run s = runs_end rest s
-runs_all _ n rest (some_runs {w = w} b) s = if_true (bytes_eq w (codes "runs")) (expected is_assign number_at (assign_ ∷ number n ∷ rest)) _ b
+runs_all _ n rest (some_runs {w = w} b) s = if_true (bytes_eq w (codes "runs")) (behind_expected is_assign number_at (assign_ ∷ number n ∷ rest)) _ b
 
 span_end : (rest : List Kind) → after rest < 3 → span rest ≡ Ok (None, rest)
 span_end [] s = refl
@@ -129,7 +129,7 @@ behind_brackets : Conditioned × List FieldRef → List Kind → Res TermTree
 behind_brackets x us = res_map (term_tree_of x.0 x.1) (runs us)
 
 item_bracketed : (condition : List Kind → Res Tree) (ts : List Kind) (c : Option (List ℕ)) (e : Tree) (fs : List FieldRef) (rest : List Kind) → IsBracketed ts c e fs rest
-    → q.item condition ts ≡ then_do (q.bracketed condition ts) behind_brackets
+    → q.item condition ts ≡ then_do (q.bracketed_term condition ts) behind_brackets
 unfolding behind_brackets
 item_bracketed condition _ c e fs rest (bracketed h k) = refl
 
@@ -209,7 +209,7 @@ module _ (hole most : ℕ) where
       (reaches_map most (λ d. expr d l ts) (λ x. (c, x)) e rest (expr_all hole most l ts e rest h late.1.1 i s))
 
   bracketed_all : (l : ℕ) (ts : List Kind) (c : Option (List ℕ)) (e : Tree) (fs : List FieldRef) (rest : List Kind) → IsBracketed ts c e fs rest → Late hole most ts → depth_but hole e ≤ l → after rest < 4
-      → Reaches most (λ d. q.bracketed (expr d l) ts) (((c, e), fs), rest)
+      → Reaches most (λ d. q.bracketed_term (expr d l) ts) (((c, e), fs), rest)
   bracketed_all l _ c e fs rest (bracketed {ts = ts} {us = us} h k) late i s =
       reaches_then most (λ d. q.term (expr d l) ts) (λ d. behind_term) (c, e) (close_item_ ∷ us) (((c, e), fs), rest) (term_all l ts c e (close_item_ ∷ us) h late.1 i (omega arith))
       (inl (at_once _ _ (λ d. ap (res_map (λ gs. ((c, e), gs))) (keys_all us fs rest k s))))
@@ -218,9 +218,9 @@ module _ (hole most : ℕ) where
       → Reaches most (λ d. q.item (expr d l) ts) (i, rest)
   unfolding behind_brackets
   item_all l ts _ rest (an_item {us = us} {c = c} {e = e} {fs = fs} {n = n} h k) late i s =
-      reaches_same most (λ d. then_do (q.bracketed (expr d l) ts) behind_brackets) (λ d. q.item (expr d l) ts) (record { category = c; cond = e; by = fs; runs = n }, rest)
+      reaches_same most (λ d. then_do (q.bracketed_term (expr d l) ts) behind_brackets) (λ d. q.item (expr d l) ts) (record { category = c; cond = e; by = fs; runs = n }, rest)
       (λ d. item_bracketed (expr d l) ts c e fs us h)
-      (reaches_then most (λ d. q.bracketed (expr d l) ts) (λ d. behind_brackets) ((c, e), fs) us (record { category = c; cond = e; by = fs; runs = n }, rest)
+      (reaches_then most (λ d. q.bracketed_term (expr d l) ts) (λ d. behind_brackets) ((c, e), fs) us (record { category = c; cond = e; by = fs; runs = n }, rest)
       (bracketed_all l ts c e fs us h late i (runs_front us n rest k (omega (arith, s)))) (inl (at_once _ _ (λ d. ap (res_map (term_tree_of (c, e) fs)) (runs_all us n rest k s)))))
 
   items_all : (l n : ℕ) (ts : List Kind) (is : List TermTree) (rest : List Kind) → IsItems ts is rest → Late hole most ts → deepest_item_but hole is ≤ l → after rest < 2 → length ts ≤ n
@@ -242,7 +242,7 @@ module _ (hole most : ℕ) where
       → Reaches most (λ d. q.until (expr d l) ts) (u, rest)
   until_all l _ _ rest no_until late i s = inl (at_once _ _ (λ d. until_end (expr d l) rest s))
   until_all l _ _ rest (an_until {ts = ts} {c = c} {e = e} {fs = fs} h) late i s =
-      reaches_map most (λ d. q.bracketed (expr d l) ts) (λ x. Some (term_tree_of x.0 x.1 (pos 1))) ((c, e), fs) rest (bracketed_all l ts c e fs rest h late.1 i (omega (arith, s)))
+      reaches_map most (λ d. q.bracketed_term (expr d l) ts) (λ x. Some (term_tree_of x.0 x.1 (pos 1))) ((c, e), fs) rest (bracketed_all l ts c e fs rest h late.1 i (omega (arith, s)))
 
   body_all : (l : ℕ) (ts : List Kind) (b : BodyTree) (rest : List Kind) → IsBody ts b rest → Late hole most ts → body_levels_but hole b ≤ l → after rest < 1
       → Reaches most (λ d. q.body (expr d l) ts) (b, rest)

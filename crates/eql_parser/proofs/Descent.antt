@@ -17,7 +17,7 @@ use Rattle.eql_query.specs.View.{trees_of}
 use Rattle.eql_parser.specs.Limits.{depth, deepest}
 use Rattle.eql_parser.specs.Marks.{Lacks, LacksOperator, mark_kind, callee_kind}
 use Rattle.eql_parser.specs.Answering.{Stops, IsNode, IsNodes, node_tree, nodes_trees, onto, room, inner, operand, joint_test, joint_mark, call_read}
-use Rattle.eql_parser.specs.Reading.{Syntax, TooDeep, TooOpen, Res, then_do, res_map, above, joined, separated, chain, chain_on, chain_from, closing, listed, arguments, prim, unary, sum, behind_sum, pred, neg, level, expr}
+use Rattle.eql_parser.specs.Reading.{Syntax, TooDeep, TooOpen, Res, then_do, res_map, above, joined_operands, separated, chain, chain_on, chain_from, closing, comma_list, arguments, prim, unary, sum, behind_sum, pred, neg, level, expr}
 use Rattle.eql_parser.proofs.Defaults.{length_kinds}
 use Rattle.eql_parser.proofs.Lacking.{lacks_or, lacks_and, lacks_comma, unclosed}
 use Rattle.eql_parser.proofs.Levels.{above_is, above_deep}
@@ -80,23 +80,23 @@ unary_done d l ts us rest e f z h r q = unary_turn d l ts us z h ∙ ap (res_map
 -- several operands in one node
 module _ (is : Kind → Bool) (node : Trees → Tree) (read : ℕ → List Kind → Res Tree) where
   abbrev group : ℕ → List Kind → Res Tree
-  group l ts = then_do (read l ts) (joined is node read l)
+  group l ts = then_do (read l ts) (joined_operands is node read l)
 
-  alone : (l : ℕ) (e : Tree) (us : List Kind) → Ends is us → joined is node read l e us ≡ Ok (e, us)
+  alone : (l : ℕ) (e : Tree) (us : List Kind) → Ends is us → joined_operands is node read l e us ≡ Ok (e, us)
   alone l e [] h = refl
   alone l e (k ∷ us) h = rw h refl
 
-  pub group_one : (l : ℕ) (ts : List Kind) (e : Tree) (rest : List Kind) → read l ts ≡ Ok (e, rest) → Ends is rest → then_do (read l ts) (joined is node read l) ≡ Ok (e, rest)
-  group_one l ts e rest r h = ap (λ q. then_do q (joined is node read l)) r ∙ alone l e rest h
+  pub group_one : (l : ℕ) (ts : List Kind) (e : Tree) (rest : List Kind) → read l ts ≡ Ok (e, rest) → Ends is rest → then_do (read l ts) (joined_operands is node read l) ≡ Ok (e, rest)
+  group_one l ts e rest r h = ap (λ q. then_do q (joined_operands is node read l)) r ∙ alone l e rest h
 
   on : (l : ℕ) (ts : List Kind) (e : Tree) (rest : List Kind) (k : Kind) (us : List Kind) → read l ts ≡ Ok (e, rest) → rest ≡ k ∷ us → is k ≡ true
-      → then_do (read l ts) (joined is node read l) ≡ above l e (suc (length us)) (res_map (λ es. node (more e (trees_of es))) (separated is (read (l - 1)) (length us) us))
+      → then_do (read l ts) (joined_operands is node read l) ≡ above l e (suc (length us)) (res_map (λ es. node (more e (trees_of es))) (separated is (read (l - 1)) (length us) us))
   on l ts e rest k us r h q =
-      ap (λ x. then_do x (joined is node read l)) r ∙ ap (joined is node read l e) h
+      ap (λ x. then_do x (joined_operands is node read l)) r ∙ ap (joined_operands is node read l e) h
       ∙ ap (λ b. if b then above l e (suc (length us)) (res_map (λ es. node (more e (trees_of es))) (separated is (read (l - 1)) (length us) us)) else Ok (e, k ∷ us)) q
 
   pub group_deep : (l n : ℕ) (ts : List Kind) (e : Tree) (rest : List Token) (k : Kind) (us : List Kind) → read l ts ≡ Ok (e, kinds rest) → kinds rest ≡ k ∷ us → is k ≡ true → n ≡ depth e → l ≤ n
-      → then_do (read l ts) (joined is node read l) ≡ Err (TooDeep (length rest))
+      → then_do (read l ts) (joined_operands is node read l) ≡ Err (TooDeep (length rest))
   group_deep l n ts e rest k us r h q f g = on l ts e (kinds rest) k us r h q ∙ above_deep l n e (suc (length us)) _ f g ∙ ap (λ p. Err (TooDeep p)) (place_is rest k us h)
 
   put_first : (e : Tree) (xs : List Tree) (r : Res (List Tree)) → xs ≡ e ∷ [] → res_map (λ es. node (more e (trees_of es))) r ≡ res_map (λ es. node (trees_of es)) (onto xs r)
@@ -104,7 +104,7 @@ module _ (is : Kind → Bool) (node : Trees → Tree) (read : ℕ → List Kind 
   put_first e xs (Err f) h = refl
 
   pub group_turn : (l n : ℕ) (ts : List Kind) (e : Tree) (xs : List Tree) (rest : List Kind) (k : Kind) (us : List Kind) → read l ts ≡ Ok (e, rest) → rest ≡ k ∷ us → is k ≡ true → n ≡ depth e → n < l → xs ≡ e ∷ []
-      → then_do (read l ts) (joined is node read l) ≡ res_map (λ es. node (trees_of es)) (onto xs (separated is (read (l - 1)) (length us) us))
+      → then_do (read l ts) (joined_operands is node read l) ≡ res_map (λ es. node (trees_of es)) (onto xs (separated is (read (l - 1)) (length us) us))
   group_turn l n ts e xs rest k us r h q f g x =
       on l ts e rest k us r h q ∙ above_is l n e (suc (length us)) _ f g ∙ put_first e xs (separated is (read (l - 1)) (length us) us) x
 
@@ -239,7 +239,7 @@ call_turn (suc d) (suc l) fold w ts us y z e =
     ∙ ap (λ k. then_do (arguments true (expr (suc d - 1)) k us) (call_read fold w (length ts))) (sym (less l))
 
 -- arguments
-some_arguments : (d l : ℕ) (ts : List Kind) → Lacks m.Close ts → arguments true (expr d) l ts ≡ then_do (listed (expr d l) ts) closing
+some_arguments : (d l : ℕ) (ts : List Kind) → Lacks m.Close ts → arguments true (expr d) l ts ≡ then_do (comma_list (expr d l) ts) closing
 some_arguments d l [] h = refl
 some_arguments d l (close_ ∷ ts) h = absurd (h refl)
 some_arguments d l (_ ∷ ts) h = refl
@@ -247,7 +247,7 @@ some_arguments d l (_ ∷ ts) h = refl
 pub arguments_turn : (d l : ℕ) (xs : List Tree) (ts : List Kind) → xs ≡ [] → Lacks m.Close ts
     → arguments true (expr d) l ts ≡ then_do (onto xs (separated (joint_test joint.Comma) (operand joint.Comma d l) (length ts) ts)) closing
 arguments_turn d l xs ts e h =
-    some_arguments d l ts h ∙ ap (λ q. then_do q closing) (sym (onto_nothing (listed (expr d l) ts)) ∙ ap (λ ys. onto ys (listed (expr d l) ts)) (sym e))
+    some_arguments d l ts h ∙ ap (λ q. then_do q closing) (sym (onto_nothing (comma_list (expr d l) ts)) ∙ ap (λ ys. onto ys (comma_list (expr d l) ts)) (sym e))
 
 -- nodes with their levels
 pub math_node : (l : ℕ) (a b c : Node) (o : MathOp) → IsNode l a → IsNode (l - 1) b → a.depth < l → node_tree c ≡ t.math o (node_tree a) (node_tree b) → c.depth ≡ suc (max a.depth b.depth) → IsNode l c

@@ -6,7 +6,7 @@ use Rattle.eql_query.specs.Tree as t
 use Rattle.eql_query.specs.View.{trees_of}
 use Rattle.eql_parser.specs.Kinds.{Kind, number, close_}
 use Rattle.eql_parser.specs.Limits.{depth, depth_but, deepest_but}
-use Rattle.eql_parser.specs.Reading.{Fail, Syntax, TooDeep, Res, then_do, res_map, closing, more_of, separated, at_level, above, chain_on, chain_from, chain, joined}
+use Rattle.eql_parser.specs.Reading.{Fail, Syntax, TooDeep, Res, then_do, res_map, closing, more_of, separated, at_level, above, chain_on, chain_from, chain, joined_operands}
 use Rattle.eql_parser.proofs.Levels.{but_less, nothing}
 use Rattle.eql_parser.proofs.Rows.{Row, last_of, next_of, WithinBut}
 use Rattle.eql_parser.proofs.Starts.{Free, Starts, TellsOf, Onto, place_of, starts_behind, free_behind, starts_whole}
@@ -218,13 +218,13 @@ module _ (h : ℕ) where
         (separated is_between (read (l - 1)) (length us) us) (λ vs es rest i ts j. several_within l ts e k vs es rest b d j i)
         (can_separated is_between (WithinBut h One (l - 1)) (read (l - 1)) (can (l - 1)) (t.long (pos h), number (pos h) ∷ [], λ rest. (one rest, omega (arith, nothing h))) (length us) us)))
 
-    can_joined : (l : ℕ) (e : Tree) (us : List Kind) → CanEnd (Onto (WithinBut h One l) (WithinBut h Whole l) e) us (joined is_between node read l e us)
+    can_joined : (l : ℕ) (e : Tree) (us : List Kind) → CanEnd (Onto (WithinBut h One l) (WithinBut h Whole l) e) us (joined_operands is_between node read l e us)
     can_joined l e [] = can_here (Onto (WithinBut h One l) (WithinBut h Whole l) e) (Onto (WithinBut h One l) (WithinBut h Whole l) e) e [] (λ rest ts i. (alone ts e rest i.0, i.1))
     can_joined l e (k ∷ us) =
         can_if (Onto (WithinBut h One l) (WithinBut h Whole l) e) (Onto (WithinBut h One l) (WithinBut h Whole l) e) (k ∷ us) (is_between k)
         (above l e (suc (length us)) (res_map (λ es. node (more e (trees_of es))) (separated is_between (read (l - 1)) (length us) us))) (Ok (e, k ∷ us)) (can_joined_at l e k us)
         (λ b. can_here (Onto (WithinBut h One l) (WithinBut h Whole l) e) (Onto (WithinBut h One l) (WithinBut h Whole l) e) e (k ∷ us) (λ rest ts i. (alone ts e rest i.0, i.1)))
 
-    pub can_level : (l : ℕ) (ts : List Kind) → CanEnd (WithinBut h Whole l) ts (then_do (read l ts) (joined is_between node read l))
+    pub can_level : (l : ℕ) (ts : List Kind) → CanEnd (WithinBut h Whole l) ts (then_do (read l ts) (joined_operands is_between node read l))
     can_level l ts =
-        can_then (WithinBut h One l) (WithinBut h Whole l) ts (read l ts) (joined is_between node read l) (λ e. (e, [], λ rest us i. (alone us e rest i.0, i.1))) (can l ts) (can_joined l)
+        can_then (WithinBut h One l) (WithinBut h Whole l) ts (read l ts) (joined_operands is_between node read l) (λ e. (e, [], λ rest us i. (alone us e rest i.0, i.1))) (can l ts) (can_joined l)

@@ -9,7 +9,7 @@ use Rattle.eql_query.specs.View.{trees_of}
 use Rattle.eql_parser.specs.Kinds.{Kind, false_, in_, matches, not_, null_, regex_, true_, name, folding, back, text, number, open_, close_, comma_, question_, compares, adds}
 use Rattle.eql_parser.specs.Grammar.{last_one, ends, required, IsPatterns, IsMembers, members, is_true, is_left_out_call, by_or, by_and, IsExpr, conj, any_of, IsConj, neg, all_of, of_or, of_and, IsNeg, negated, pred, IsPred, sum, compared, matched, is_in, is_not_in, IsSum, prod, added, IsProd, unary, multiplied, IsUnary, minus, prim, IsPrim, is_null, is_yes, is_no, is_long, is_str, is_field, is_call, is_folding_call, inside, IsArguments, no_arguments}
 use Rattle.eql_parser.specs.Limits.{depth, deepest_but}
-use Rattle.eql_parser.specs.Reading.{Syntax, LeftOut, TooDeep, TooOpen, Res, then_do, res_map, closing, is_or, is_and, is_comma, adds_of, multiplies_of, listed, named, field_tree, at_level, above, call_of, expr}
+use Rattle.eql_parser.specs.Reading.{Syntax, LeftOut, TooDeep, TooOpen, Res, then_do, res_map, closing, is_or, is_and, is_comma, adds_of, multiplies_of, comma_list, named_field, field_tree, at_level, above, call_of, expr}
 use Rattle.eql_parser.specs.Reading as r
 use Rattle.eql_parser.proofs.Rows.{Row, last_of, next_of, or_only, and_only, WithinBut}
 use Rattle.eql_parser.proofs.ExprSound.{marked, key_field, adds_only, multiplies_only}
@@ -91,9 +91,9 @@ module _ (h : ℕ) where
     can_enter Q m ts s begun g =
         can_if Q Q (m ++ open_ ∷ ts) room s (Err (TooOpen (suc (length ts)))) (λ b. g) (λ b. ended_at Q m (open_ ∷ ts) (TooOpen (suc (length ts))) refl begun)
 
-    can_some : (l : ℕ) (ts : List Kind) → CanEndOf (AreArguments l) (AreMore l) ts (then_do (listed (inner l) ts) closing)
+    can_some : (l : ℕ) (ts : List Kind) → CanEndOf (AreArguments l) (AreMore l) ts (then_do (comma_list (inner l) ts) closing)
     can_some l ts =
-        can_closing_of (Row is_comma (WithinBut h IsExpr l)) (AreArguments l) (AreMore l) ts (listed (inner l) ts)
+        can_closing_of (Row is_comma (WithinBut h IsExpr l)) (AreArguments l) (AreMore l) ts (comma_list (inner l) ts)
         (λ us es rest i. (row_arguments us es rest (row_plain h is_comma IsExpr l us es (close_ ∷ rest) i), row_deepest h is_comma IsExpr l us es (close_ ∷ rest) i)) (more_arguments l)
         (can_separated is_comma (WithinBut h IsExpr l) (inner l) (can l) (hole_within l) (length ts) ts)
 
@@ -106,13 +106,13 @@ module _ (h : ℕ) where
     can_leaf l k e ts g d =
         can_at_level (WithinBut h IsPrim l) k ts l (Ok (e, ts)) (hole_prim l) (λ q. can_one (WithinBut h IsPrim l) k e ts (λ rest. (g rest, omega (arith, d, q, but_less h e))))
 
-    can_named : (l : ℕ) → 1 ≤ l → (o : Bool) (ts : List Kind) → CanEnd (λ us e rest. WithinBut h IsPrim l (marked o us) e rest) ts (res_map field_tree (named o ts))
+    can_named : (l : ℕ) → 1 ≤ l → (o : Bool) (ts : List Kind) → CanEnd (λ us e rest. WithinBut h IsPrim l (marked o us) e rest) ts (res_map field_tree (named_field o ts))
     can_named l q o ts =
-        can_map (IsNamed o) (λ us e rest. WithinBut h IsPrim l (marked o us) e rest) ts field_tree (named o ts) (λ us f rest i. (is_field (key_field (marked o us) f rest i), q))
-        (from_tells (IsNamed o) (IsNamed o) ts (named o ts) (tells_named o ts))
+        can_map (IsNamed o) (λ us e rest. WithinBut h IsPrim l (marked o us) e rest) ts field_tree (named_field o ts) (λ us f rest i. (is_field (key_field (marked o us) f rest i), q))
+        (from_tells (IsNamed o) (IsNamed o) ts (named_field o ts) (tells_named o ts))
 
-    can_name : (l : ℕ) (k : Kind) (ts : List Kind) → CanEnd (WithinBut h IsPrim l) (k ∷ ts) (at_level l (suc (length ts)) (res_map field_tree (named false (k ∷ ts))))
-    can_name l k ts = can_at_level (WithinBut h IsPrim l) k ts l (res_map field_tree (named false (k ∷ ts))) (hole_prim l) (λ q. can_named l q false (k ∷ ts))
+    can_name : (l : ℕ) (k : Kind) (ts : List Kind) → CanEnd (WithinBut h IsPrim l) (k ∷ ts) (at_level l (suc (length ts)) (res_map field_tree (named_field false (k ∷ ts))))
+    can_name l k ts = can_at_level (WithinBut h IsPrim l) k ts l (res_map field_tree (named_field false (k ∷ ts))) (hole_prim l) (λ q. can_named l q false (k ∷ ts))
 
     can_prim : (l : ℕ) (ts : List Kind) → CanEnd (WithinBut h IsPrim l) ts (r.prim room inner l ts)
     can_prim l (null_ ∷ ts) = can_leaf l null_ t.null ts (λ rest. is_null) refl
@@ -127,8 +127,8 @@ module _ (h : ℕ) where
     can_prim l (name w ∷ ts) = can_name l (name w) ts
     can_prim l (back w ∷ ts) = can_name l (back w) ts
     can_prim l (question_ ∷ ts) =
-        can_at_level (WithinBut h IsPrim l) question_ ts l (res_map field_tree (named true ts)) (hole_prim l)
-        (λ q. can_token (λ us e rest. WithinBut h IsPrim l (question_ ∷ us) e rest) (WithinBut h IsPrim l) question_ ts (res_map field_tree (named true ts)) (λ us e rest i. i) (can_named l q true ts))
+        can_at_level (WithinBut h IsPrim l) question_ ts l (res_map field_tree (named_field true ts)) (hole_prim l)
+        (λ q. can_token (λ us e rest. WithinBut h IsPrim l (question_ ∷ us) e rest) (WithinBut h IsPrim l) question_ ts (res_map field_tree (named_field true ts)) (λ us e rest i. i) (can_named l q true ts))
     can_prim l (folding w ∷ open_ ∷ ts) =
         can_at_level (WithinBut h IsPrim l) (folding w) (open_ ∷ ts) l (r.enter room inner ts (res_map (λ es. t.call w true (trees_of es)) (r.arguments room inner (l - 1) ts))) (hole_prim l)
         (λ q. can_enter (WithinBut h IsPrim l) (folding w ∷ []) ts (res_map (λ es. t.call w true (trees_of es)) (r.arguments room inner (l - 1) ts))

@@ -12,7 +12,7 @@ use Rattle.eql_parser.specs.Limits.{depth_but, deepest_item_but, until_depth_but
 use Rattle.eql_parser.specs.QueryGrammar.{category, a_term, IsBy, no_keys, IsRuns, one_run, IsSpan, no_span, bracketed, IsItem, an_item, IsItems, last_item, next_item, IsUntil, no_until, an_until, IsBody, one_event, a_sequence, no_pipes, a_query}
 use Rattle.eql_parser.specs.Refusing.{IsNewTo, BeginsWithin}
 use Rattle.eql_parser.specs.Reading.{Fail, Syntax, LeftOut, Res, then_do, res_map, expr}
-use Rattle.eql_parser.specs.QueryReading.{expected, is_where, is_open_item, is_close_item, Conditioned, keys, runs, term_tree_of, behind_term, items_more, span, pipes, behind_body, query_by, query}
+use Rattle.eql_parser.specs.QueryReading.{behind_expected, is_where, is_open_item, is_close_item, Conditioned, keys, runs, term_tree_of, behind_term, items_more, span, pipes, behind_body, query_by, query}
 use Rattle.eql_parser.specs.QueryReading as q
 use Rattle.eql_parser.proofs.Rows.{WithinBut}
 use Rattle.eql_parser.proofs.Sound.{where_only, open_item_only, close_item_only}
@@ -28,13 +28,13 @@ null_tokens = open_item_ ∷ any_ ∷ where_ ∷ null_ ∷ close_item_ ∷ []
 
 -- a word that has to stand here
 can_expected : {A : Type 0} (is : Kind → Bool) (go : List Kind → Res A) (Q : List Kind → A → List Kind → Type 0) → Starts Q []
-    → ((k : Kind) (us : List Kind) → is k ≡ true → CanEnd Q (k ∷ us) (go us)) → (ts : List Kind) → CanEnd Q ts (expected is go ts)
+    → ((k : Kind) (us : List Kind) → is k ≡ true → CanEnd Q (k ∷ us) (go us)) → (ts : List Kind) → CanEnd Q ts (behind_expected is go ts)
 can_expected is go Q begun h [] = ended_at Q [] [] (Syntax 0) refl begun
 can_expected is go Q begun h (k ∷ ts) = can_if Q Q (k ∷ ts) (is k) (go ts) (Err (Syntax (suc (length ts)))) (λ b. h k ts b) (λ b. ended_at Q [] (k ∷ ts) (Syntax (suc (length ts))) refl begun)
 
 -- one kind alone is meant: what follows is read behind it
 can_expects : {A : Type 0} (is : Kind → Bool) (w : Kind) (go : List Kind → Res A) (Q : List Kind → A → List Kind → Type 0) → ((k : Kind) → is k ≡ true → k ≡ w)
-    → Starts (λ us x rest. Q (w ∷ us) x rest) [] → ((us : List Kind) → CanEnd (λ vs x rest. Q (w ∷ vs) x rest) us (go us)) → (ts : List Kind) → CanEnd Q ts (expected is go ts)
+    → Starts (λ us x rest. Q (w ∷ us) x rest) [] → ((us : List Kind) → CanEnd (λ vs x rest. Q (w ∷ vs) x rest) us (go us)) → (ts : List Kind) → CanEnd Q ts (behind_expected is go ts)
 can_expects is w go Q only begun h =
     can_expected is go Q (begun.0, w ∷ begun.1, begun.2)
     (λ k us b. subst (λ j. CanEnd Q (j ∷ us) (go us)) (sym (only k b)) (can_token (λ vs x rest. Q (w ∷ vs) x rest) Q w us (go us) (λ vs x rest i. i) (h us)))
@@ -74,7 +74,7 @@ module _ (h most : ℕ) (some : 1 ≤ most) (condition : List Kind → Res Tree)
   can_term_of : (k : Kind) (c : Option (Option (List ℕ))) (us : List Kind) → category k ≡ c → CanEnd Term (k ∷ us) (q.term_of condition c us)
   can_term_of k None us e = ended_at Term [] (k ∷ us) (Syntax (suc (length us))) refl a_term_within
   can_term_of k (Some c) us e =
-      can_token (λ vs x rest. Term (k ∷ vs) x rest) Term k us (expected is_where (λ vs. res_map (λ x. (c, x)) (condition vs)) us) (λ vs x rest i. i)
+      can_token (λ vs x rest. Term (k ∷ vs) x rest) Term k us (behind_expected is_where (λ vs. res_map (λ x. (c, x)) (condition vs)) us) (λ vs x rest i. i)
       (can_expects is_where where_ (λ vs. res_map (λ x. (c, x)) (condition vs)) (λ vs x rest. Term (k ∷ vs) x rest) where_only
       (let n = hole_within h most in ((c, n.0), n.1, λ rest. let i = n.2 rest in (a_term e i.0, i.1)))
       (λ vs. can_map (WithinBut h IsExpr most) (λ ws x rest. Term (k ∷ where_ ∷ ws) x rest) vs (λ x. (c, x)) (condition vs) (λ ws x rest i. (a_term e i.0, i.1)) (can vs)) us)
@@ -90,16 +90,16 @@ module _ (h most : ℕ) (some : 1 ≤ most) (condition : List Kind → Res Tree)
       (λ vs. can_map IsBy (λ ws x rest. Onto Term (λ ts y rest. Keyed (open_item_ ∷ ts) y rest) c (close_item_ ∷ ws) x rest) vs (λ fs. (c, fs)) (keys vs) (λ ws fs rest i ts h. (bracketed h.0 i, h.1))
       (from_tells IsBy IsBy vs (keys vs) (tells_keys vs)))
 
-  can_bracketed : (us : List Kind) → CanEnd Keyed us (q.bracketed condition us)
+  can_bracketed : (us : List Kind) → CanEnd Keyed us (q.bracketed_term condition us)
   can_bracketed =
       can_expects is_open_item open_item_ (λ vs. then_do (q.term condition vs) behind_term) Keyed open_item_only
       (((None, t.null), []), any_ ∷ where_ ∷ null_ ∷ close_item_ ∷ [], λ rest. (null_bracketed rest, some))
       (λ vs. can_then Term (λ ws x rest. Keyed (open_item_ ∷ ws) x rest) vs (q.term condition vs) behind_term (λ c. ((c, []), close_item_ ∷ [], λ rest ws h. (bracketed h.0 no_keys, h.1))) (can_term vs)
       can_behind_term)
 
-  can_item_here : (us : List Kind) → CanEnd Item us (then_do (q.bracketed condition us) (λ x vs. res_map (term_tree_of x.0 x.1) (runs vs)))
+  can_item_here : (us : List Kind) → CanEnd Item us (then_do (q.bracketed_term condition us) (λ x vs. res_map (term_tree_of x.0 x.1) (runs vs)))
   can_item_here us =
-      can_then Keyed Item us (q.bracketed condition us) (λ x vs. res_map (term_tree_of x.0 x.1) (runs vs)) (λ x. (term_tree_of x.0 x.1 (pos 1), [], λ rest ws h. (an_item h.0 one_run, h.1))) (can_bracketed us)
+      can_then Keyed Item us (q.bracketed_term condition us) (λ x vs. res_map (term_tree_of x.0 x.1) (runs vs)) (λ x. (term_tree_of x.0 x.1 (pos 1), [], λ rest ws h. (an_item h.0 one_run, h.1))) (can_bracketed us)
       (λ x vs. can_map IsRuns (Onto Keyed Item x) vs (term_tree_of x.0 x.1) (runs vs) (λ ws n rest i ts h. (an_item h.0 i, h.1)) (from_tells IsRuns IsRuns vs (runs vs) (tells_runs vs)))
 
   can_item : (us : List Kind) → CanEnd Item us (q.item condition us)
@@ -122,8 +122,8 @@ module _ (h most : ℕ) (some : 1 ≤ most) (condition : List Kind → Res Tree)
 
   can_until : (us : List Kind) → CanEnd Until us (q.until condition us)
   can_until (until_ ∷ us) =
-      can_token (λ vs x rest. Until (until_ ∷ vs) x rest) Until until_ us (res_map (λ x. Some (term_tree_of x.0 x.1 (pos 1))) (q.bracketed condition us)) (λ vs x rest i. i)
-      (can_map Keyed (λ vs x rest. Until (until_ ∷ vs) x rest) us (λ x. Some (term_tree_of x.0 x.1 (pos 1))) (q.bracketed condition us) (λ vs x rest i. (an_until i.0, i.1)) (can_bracketed us))
+      can_token (λ vs x rest. Until (until_ ∷ vs) x rest) Until until_ us (res_map (λ x. Some (term_tree_of x.0 x.1 (pos 1))) (q.bracketed_term condition us)) (λ vs x rest i. i)
+      (can_map Keyed (λ vs x rest. Until (until_ ∷ vs) x rest) us (λ x. Some (term_tree_of x.0 x.1 (pos 1))) (q.bracketed_term condition us) (λ vs x rest i. (an_until i.0, i.1)) (can_bracketed us))
   can_until us = can_here Until Until None us (λ rest. (no_until, omega arith))
 
   -- a sequence behind its keys, its span or its items

@@ -5,7 +5,7 @@ use Rattle.eql_query.specs.Tree.{Tree, Trees}
 use Rattle.eql_parser.specs.Kinds.{Kind, comma_}
 use Rattle.eql_parser.specs.Grammar.{IsListed, last_one, next_one}
 use Rattle.eql_parser.specs.Limits.{depth}
-use Rattle.eql_parser.specs.Reading.{Res, then_do, res_map, is_comma, more_of, separated, listed, at_level, above, chain_on, chain_from, joined}
+use Rattle.eql_parser.specs.Reading.{Res, then_do, res_map, is_comma, more_of, separated, comma_list, at_level, above, chain_on, chain_from, joined_operands}
 use Rattle.eql_parser.proofs.Rows.{Row, last_of, next_of}
 
 -- the value from some number on
@@ -80,7 +80,7 @@ module _ {A : Type 0} (Is : List Kind → A → List Kind → Type 0) (Good : Li
   listed_row ts _ rest (last_one {x = x} h) g = last_of (comes ts x rest h g)
   listed_row ts _ rest (next_one {us = us} {x = x} {xs = xs} h k) g = next_of {k = comma_} refl (comes ts x (comma_ ∷ us) h (good us)) (listed_row us xs rest k g)
 
-  pub listed_all : (ts : List Kind) (xs : List A) (rest : List Kind) → IsListed Is ts xs rest → Good rest → Ends is_comma rest → listed read ts ≡ Ok (xs, rest)
+  pub listed_all : (ts : List Kind) (xs : List A) (rest : List Kind) → IsListed Is ts xs rest → Good rest → Ends is_comma rest → comma_list read ts ≡ Ok (xs, rest)
   listed_all ts xs rest h g e = always _ _ (row_all is_comma (λ d. read) (length ts) ts xs rest (listed_row ts xs rest h g) e (le_refl (length ts)))
 
 -- no operator comes first
@@ -96,6 +96,6 @@ chain_ends operator read l (suc n) a [] s = refl
 chain_ends operator read l (suc n) a (k ∷ us) s = ap (λ o. chain_on read l (chain_from operator read l n) a o k us) s
 
 pub joined_one : (is_between : Kind → Bool) (node : Trees → Tree) (read : ℕ → List Kind → Res Tree) (l : ℕ) (e : Tree) (rest : List Kind) → Ends is_between rest
-    → joined is_between node read l e rest ≡ Ok (e, rest)
+    → joined_operands is_between node read l e rest ≡ Ok (e, rest)
 joined_one is_between node read l e [] h = refl
 joined_one is_between node read l e (k ∷ us) h = if_false (is_between k) _ (Ok (e, k ∷ us)) h

@@ -10,7 +10,7 @@ use Rattle.eql_parser.specs.Kinds.{Kind, and_, false_, in_, matches, not_, null_
 use Rattle.eql_parser.specs.Grammar.{first_part, IsDotted, ends, goes_on, IsField, required, optional, IsText, a_text, IsPatterns, one_text, some_texts, IsLiteral, is_number, is_negative, is_text, is_true, is_false, IsMembers, members, is_left_out_call, Joint, by_or, by_and, by_comma, between, IsExpr, conj, any_of, IsConj, neg, all_of, IsOperands, last, next, IsOperand, of_or, of_and, of_comma, IsNeg, negated, pred, IsPred, sum, compared, matched, is_in, is_not_in, IsSum, prod, added, IsProd, unary, multiplied, IsUnary, minus, prim, IsPrim, is_null, is_yes, is_no, is_long, is_str, is_field, is_call, is_folding_call, inside, IsArguments, no_arguments, some_arguments}
 use Rattle.eql_parser.specs.QueryGrammar.{IsKey, a_key}
 use Rattle.eql_parser.specs.Limits.{depth, deepest, depth_but, deepest_but}
-use Rattle.eql_parser.specs.Reading.{Syntax, TooDeep, Res, then_do, res_map, closing, is_or, is_and, is_comma, adds_of, multiplies_of, separated, listed, dotted_part, behind_dot, dotted, named_by, named, field, field_tree, text_at, literal, at_level, above, chain_from, joined, call_of, arguments, expr}
+use Rattle.eql_parser.specs.Reading.{Syntax, TooDeep, Res, then_do, res_map, closing, is_or, is_and, is_comma, adds_of, multiplies_of, separated, comma_list, dotted_part, behind_dot, dotted, named_by, named_field, field, field_tree, text_at, literal, at_level, above, chain_from, joined_operands, call_of, arguments, expr}
 use Rattle.eql_parser.specs.Reading as r
 use Rattle.eql_parser.proofs.Rows.{Row, last_of, next_of}
 use Rattle.eql_parser.proofs.Eventually.{Eventually, at_once, if_false, at_level_ok, Ends, listed_all, Stops, chain_ends, joined_one}
@@ -99,11 +99,11 @@ dotted_all zero w _ n rest (goes_on e h) g i = absurd (omega (arith, i))
 dotted_all (suc m) w _ n rest (goes_on {p = p} {k = k} {ts = ts} e h) g i =
     ap (λ o. dotted_part (dotted m) w o ts) e ∙ dotted_all m (w ++ 46 ∷ p) ts n rest h g (omega (arith, i))
 
-named_all : (o : Bool) (k : Kind) (w n : List ℕ) (ts rest : List Kind) → first_part k ≡ Some w → IsDotted w ts n rest → NoDot rest → named o (k ∷ ts) ≡ Ok (record { name = n; optional = o }, rest)
+named_all : (o : Bool) (k : Kind) (w n : List ℕ) (ts rest : List Kind) → first_part k ≡ Some w → IsDotted w ts n rest → NoDot rest → named_field o (k ∷ ts) ≡ Ok (record { name = n; optional = o }, rest)
 named_all o k w n ts rest e h g = ap (λ p. named_by o p ts) e ∙ ap (res_map (λ m. record { name = m; optional = o })) (dotted_all (length ts) w ts n rest h g (le_refl (length ts)))
 
 -- a part that comes first is no mark
-first_named : (k : Kind) (w : List ℕ) (ts : List Kind) → first_part k ≡ Some w → field (k ∷ ts) ≡ named false (k ∷ ts)
+first_named : (k : Kind) (w : List ℕ) (ts : List Kind) → first_part k ≡ Some w → field (k ∷ ts) ≡ named_field false (k ∷ ts)
 first_named (name v) w ts e = refl
 first_named (back v) w ts e = refl
 first_named question_ w ts e = absurd cc
@@ -119,7 +119,7 @@ no_call w _ _ rest ends g = g
 no_call w _ n rest (goes_on e h) g = tt
 
 abbrev field_at : ℕ → Bool → List Kind → ℕ → Res Tree
-field_at l o ts place = at_level l place (res_map field_tree (named o ts))
+field_at l o ts place = at_level l place (res_map field_tree (named_field o ts))
 
 prim_first : (inner : ℕ → List Kind → Res Tree) (l : ℕ) (k : Kind) (w : List ℕ) (ts : List Kind) → first_part k ≡ Some w → NoOpen ts → r.prim true inner l (k ∷ ts) ≡ field_at l false (k ∷ ts) (suc (length ts))
 prim_first inner l (name v) w [] e g = refl
@@ -132,10 +132,10 @@ prim_first inner l _ w ts e g = absurd cc
 field_prim : (inner : ℕ → List Kind → Res Tree) (l : ℕ) (ts : List Kind) (n : List ℕ) (o : Bool) (rest : List Kind) → IsField ts n o rest → strength rest < 6 → 1 ≤ l
     → r.prim true inner l ts ≡ Ok (t.field n o, rest)
 field_prim inner l _ n _ rest (required {k = k} {w = w} {ts = ts} e h) s i =
-    prim_first inner l k w ts e (no_call w ts n rest h (no_open rest s)) ∙ at_level_ok l (suc (length ts)) (res_map field_tree (named false (k ∷ ts))) i
+    prim_first inner l k w ts e (no_call w ts n rest h (no_open rest s)) ∙ at_level_ok l (suc (length ts)) (res_map field_tree (named_field false (k ∷ ts))) i
     ∙ ap (res_map field_tree) (named_all false k w n ts rest e h (no_dot rest s))
 field_prim inner l _ n _ rest (optional {k = k} {w = w} {ts = ts} e h) s i =
-    at_level_ok l (suc (suc (length ts))) (res_map field_tree (named true (k ∷ ts))) i ∙ ap (res_map field_tree) (named_all true k w n ts rest e h (no_dot rest s))
+    at_level_ok l (suc (suc (length ts))) (res_map field_tree (named_field true (k ∷ ts))) i ∙ ap (res_map field_tree) (named_all true k w n ts rest e h (no_dot rest s))
 
 -- lists of texts and of literals
 text_all : (ts : List Kind) (s : List ℕ) (rest : List Kind) → IsText ts s rest → Unit {0} → (text_at ts ≡ Ok (s, rest)) × (length rest < length ts)
@@ -208,14 +208,14 @@ unary_reaches most l ts x (inl h) = inl (unary_opens l ts (Ok x) tt h)
 unary_reaches most l ts x (inr (j, i, h)) = inr (j, i, unary_opens l ts (Err (TooDeep (suc j))) tt h)
 
 -- what the list returns, other than Syntax, up to the parenthesis that closes
-arguments_open : (l : ℕ) (ts : List Kind) (x : Res (List Tree)) → NoSyntax x → Eventually (λ d. listed (expr d l) ts) x → Eventually (λ d. arguments true (expr d) l ts) (then_do x closing)
+arguments_open : (l : ℕ) (ts : List Kind) (x : Res (List Tree)) → NoSyntax x → Eventually (λ d. comma_list (expr d l) ts) x → Eventually (λ d. arguments true (expr d) l ts) (then_do x closing)
 unfolding separated
 arguments_open l (close_ ∷ us) x is_other h =
-    never_syntax (λ d. listed (expr d l) (close_ ∷ us)) (suc (length us)) x is_other (λ d. ap (λ s. then_do s (r.more_of is_comma (separated is_comma (expr d l) (length us)))) (expr_close d l us)) h
+    never_syntax (λ d. comma_list (expr d l) (close_ ∷ us)) (suc (length us)) x is_other (λ d. ap (λ s. then_do s (r.more_of is_comma (separated is_comma (expr d l) (length us)))) (expr_close d l us)) h
 arguments_open l [] x is_other h = (h.0, λ d i. ap (λ s. then_do s closing) (h.1 d i))
 arguments_open l (k ∷ us) x is_other h = (h.0, λ d i. ap (λ s. then_do s closing) (h.1 d i))
 
-arguments_reach : (most l : ℕ) (ts : List Kind) (es : List Tree) (rest : List Kind) → Reaches most (λ d. listed (expr d l) ts) (es, close_ ∷ rest) → Reaches most (λ d. arguments true (expr d) l ts) (es, rest)
+arguments_reach : (most l : ℕ) (ts : List Kind) (es : List Tree) (rest : List Kind) → Reaches most (λ d. comma_list (expr d l) ts) (es, close_ ∷ rest) → Reaches most (λ d. arguments true (expr d) l ts) (es, rest)
 arguments_reach most l ts es rest (inl h) = inl (arguments_open l ts (Ok (es, close_ ∷ rest)) tt h)
 arguments_reach most l ts es rest (inr (j, i, h)) = inr (j, i, arguments_open l ts (Err (TooDeep (suc j))) tt h)
 
@@ -322,18 +322,18 @@ module _ (hole most : ℕ) where
 
   joined_step : (j : Joint) (l : ℕ) (node : Trees → Tree) (ts us : List Kind) (e : Tree) (es : Trees) (rest : List Kind) → (most ≤ suc (length us) → depth e < l)
       → Reaches most (λ d. joint_reader j l d ts) (e, between j ∷ us) → Operands j (l - 1) us es rest → Ends (is_joint j) rest
-      → Reaches most (λ d. then_do (joint_reader j l d ts) (joined (is_joint j) node (λ m. joint_reader j m d) l)) (node (more e es), rest)
+      → Reaches most (λ d. then_do (joint_reader j l d ts) (joined_operands (is_joint j) node (λ m. joint_reader j m d) l)) (node (more e es), rest)
   joined_step j l node ts us e es rest less h row s =
-      reaches_then most (λ d. joint_reader j l d ts) (λ d. joined (is_joint j) node (λ m. joint_reader j m d) l) e (between j ∷ us) (node (more e es), rest) h
-      (subst (λ ys. Reaches most (λ d. joined (is_joint j) node (λ m. joint_reader j m d) l e (between j ∷ us)) (node (more e ys), rest)) row.1
+      reaches_then most (λ d. joint_reader j l d ts) (λ d. joined_operands (is_joint j) node (λ m. joint_reader j m d) l) e (between j ∷ us) (node (more e es), rest) h
+      (subst (λ ys. Reaches most (λ d. joined_operands (is_joint j) node (λ m. joint_reader j m d) l e (between j ∷ us)) (node (more e ys), rest)) row.1
       (reaches_joined most (is_joint j) node (λ d m. joint_reader j m d) l e (between j) us row.0 rest (between_is j) less
       (row_reaches most (is_joint j) (λ d. joint_reader j (l - 1) d) (length us) us row.0 rest row.2 s (le_refl (length us)))))
 
   alone_step : (j : Joint) (l : ℕ) (node : Trees → Tree) (ts : List Kind) (e : Tree) (rest : List Kind) → Reaches most (λ d. joint_reader j l d ts) (e, rest) → Ends (is_joint j) rest
-      → Reaches most (λ d. then_do (joint_reader j l d ts) (joined (is_joint j) node (λ m. joint_reader j m d) l)) (e, rest)
+      → Reaches most (λ d. then_do (joint_reader j l d ts) (joined_operands (is_joint j) node (λ m. joint_reader j m d) l)) (e, rest)
   alone_step j l node ts e rest h s =
-      reaches_then most (λ d. joint_reader j l d ts) (λ d. joined (is_joint j) node (λ m. joint_reader j m d) l) e rest (e, rest) h
-      (reaches_at_once most (λ d. joined (is_joint j) node (λ m. joint_reader j m d) l e rest) (e, rest) (λ d. joined_one (is_joint j) node (λ m. joint_reader j m d) l e rest s))
+      reaches_then most (λ d. joint_reader j l d ts) (λ d. joined_operands (is_joint j) node (λ m. joint_reader j m d) l) e rest (e, rest) h
+      (reaches_at_once most (λ d. joined_operands (is_joint j) node (λ m. joint_reader j m d) l e rest) (e, rest) (λ d. joined_one (is_joint j) node (λ m. joint_reader j m d) l e rest s))
 
   -- no operator of a sum or of a product follows
   sum_stops : (l : ℕ) (a : Tree) (rest : List Kind) → strength rest < 4 → (n : ℕ) → length rest ≤ n → Reaches most (λ d. chain_from adds_of (r.prod true (expr d)) l n a rest) (a, rest)

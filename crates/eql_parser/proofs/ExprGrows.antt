@@ -7,7 +7,7 @@ use Rattle.eql_query.specs.Tree as t
 use Rattle.eql_query.specs.View.{trees_of}
 use Rattle.eql_parser.specs.Kinds.{Kind, false_, in_, matches, not_, null_, regex_, true_, name, folding, back, text, number, open_, close_, question_, compares, adds}
 use Rattle.eql_parser.specs.Limits.{depth}
-use Rattle.eql_parser.specs.Reading.{Fail, Syntax, LeftOut, TooDeep, TooOpen, Res, then_do, res_map, closing, is_or, is_and, is_comma, adds_of, multiplies_of, more_of, separated, listed, named, field_tree, text_at, literal, at_level, above, chain_on, chain_from, chain, joined, call_of, enter, arguments, expr}
+use Rattle.eql_parser.specs.Reading.{Fail, Syntax, LeftOut, TooDeep, TooOpen, Res, then_do, res_map, closing, is_or, is_and, is_comma, adds_of, multiplies_of, more_of, separated, comma_list, named_field, field_tree, text_at, literal, at_level, above, chain_on, chain_from, chain, joined_operands, call_of, enter, arguments, expr}
 use Rattle.eql_parser.specs.Reading as r
 
 -- the answers are the same, or the first is that a parenthesis too many opens or a level too many begins
@@ -98,7 +98,7 @@ module _ (read read' : ℕ → List Kind → Res Tree) (h : (l m : ℕ) (us : Li
       same_then (read l us) (read' m us) (λ a vs. chain_from operator read l (length vs) a vs) (λ a vs. chain_from operator read' m (length vs) a vs) (h l m us i)
       (λ a vs. chain_from_grows operator l m (length vs) a vs i)
 
-  joined_grows : (is_between : Kind → Bool) (node : Trees → Tree) (l m : ℕ) (e : Tree) (us : List Kind) → l ≤ m → Same (joined is_between node read l e us) (joined is_between node read' m e us)
+  joined_grows : (is_between : Kind → Bool) (node : Trees → Tree) (l m : ℕ) (e : Tree) (us : List Kind) → l ≤ m → Same (joined_operands is_between node read l e us) (joined_operands is_between node read' m e us)
   joined_grows is_between node l m e [] i = refl
   joined_grows is_between node l m e (k ∷ us) i =
       let make : List Tree → Tree = λ es. node (more e (trees_of es)) in
@@ -113,20 +113,20 @@ module _ (room room' : Bool) (inner inner' : ℕ → List Kind → Res Tree) (h 
   enter_grows : {A : Type 0} (us : List Kind) (r s : Res A) → (room ≡ true → Same r s) → Same (enter room inner us r) (enter room' inner' us s)
   enter_grows us r s k = same_enter room room' (suc (length us)) r s (λ b. ((h b).0, k b))
 
-  some_grow : room ≡ true → (l m : ℕ) (us : List Kind) → l ≤ m → Same (then_do (listed (inner l) us) closing) (then_do (listed (inner' m) us) closing)
+  some_grow : room ≡ true → (l m : ℕ) (us : List Kind) → l ≤ m → Same (then_do (comma_list (inner l) us) closing) (then_do (comma_list (inner' m) us) closing)
   some_grow b l m us i =
-      same_then (listed (inner l) us) (listed (inner' m) us) closing closing (separated_grows is_comma (inner l) (inner' m) (λ vs. (h b).1 l m vs i) (length us) us) (λ es vs. same (closing es vs))
+      same_then (comma_list (inner l) us) (comma_list (inner' m) us) closing closing (separated_grows is_comma (inner l) (inner' m) (λ vs. (h b).1 l m vs i) (length us) us) (λ es vs. same (closing es vs))
 
   pub arguments_grow : room ≡ true → (l m : ℕ) (us : List Kind) → l ≤ m → Same (arguments room inner l us) (arguments room' inner' m us)
   arguments_grow b l m (close_ ∷ us) i = refl
   arguments_grow b l m us i = some_grow b l m us i
 
   patterns_grow : (us : List Kind) → Same (r.patterns room inner us) (r.patterns room' inner' us)
-  patterns_grow (open_ ∷ us) = enter_grows us (then_do (listed text_at us) closing) (then_do (listed text_at us) closing) (λ b. same (then_do (listed text_at us) closing))
+  patterns_grow (open_ ∷ us) = enter_grows us (then_do (comma_list text_at us) closing) (then_do (comma_list text_at us) closing) (λ b. same (then_do (comma_list text_at us) closing))
   patterns_grow us = same (r.patterns room inner us)
 
   members_grow : (us : List Kind) → Same (r.members room inner us) (r.members room' inner' us)
-  members_grow (open_ ∷ us) = enter_grows us (then_do (listed literal us) closing) (then_do (listed literal us) closing) (λ b. same (then_do (listed literal us) closing))
+  members_grow (open_ ∷ us) = enter_grows us (then_do (comma_list literal us) closing) (then_do (comma_list literal us) closing) (λ b. same (then_do (comma_list literal us) closing))
   members_grow us = same (r.members room inner us)
 
   call_grows : (l m : ℕ) (w : List ℕ) (us : List Kind) → l ≤ m → Same (r.prim room inner l (name w ∷ open_ ∷ us)) (r.prim room' inner' m (name w ∷ open_ ∷ us))
@@ -156,9 +156,9 @@ module _ (room room' : Bool) (inner inner' : ℕ → List Kind → Res Tree) (h 
   prim_grows l m (number n ∷ us) i = leaf_grows l m (suc (length us)) (Ok (t.long n, us)) i
   prim_grows l m (text s ∷ us) i = leaf_grows l m (suc (length us)) (Ok (t.str s, us)) i
   prim_grows l m (name w ∷ open_ ∷ us) i = call_grows l m w us i
-  prim_grows l m (name w ∷ us) i = leaf_grows l m (suc (length us)) (res_map field_tree (named false (name w ∷ us))) i
-  prim_grows l m (back w ∷ us) i = leaf_grows l m (suc (length us)) (res_map field_tree (named false (back w ∷ us))) i
-  prim_grows l m (question_ ∷ us) i = leaf_grows l m (suc (length us)) (res_map field_tree (named true us)) i
+  prim_grows l m (name w ∷ us) i = leaf_grows l m (suc (length us)) (res_map field_tree (named_field false (name w ∷ us))) i
+  prim_grows l m (back w ∷ us) i = leaf_grows l m (suc (length us)) (res_map field_tree (named_field false (back w ∷ us))) i
+  prim_grows l m (question_ ∷ us) i = leaf_grows l m (suc (length us)) (res_map field_tree (named_field true us)) i
   prim_grows l m (folding w ∷ open_ ∷ us) i = folding_grows l m w us i
   prim_grows l m (folding w ∷ us) i = leaf_grows l m (suc (length us)) (Err (Syntax (length us))) i
   prim_grows l m (open_ ∷ us) i =
@@ -218,12 +218,12 @@ module _ (room room' : Bool) (inner inner' : ℕ → List Kind → Res Tree) (h 
 
   conj_grows : (l m : ℕ) (us : List Kind) → l ≤ m → Same (r.conj room inner l us) (r.conj room' inner' m us)
   conj_grows l m us i =
-      same_then (r.neg room inner l us) (r.neg room' inner' m us) (joined is_and t.and (r.neg room inner) l) (joined is_and t.and (r.neg room' inner') m) (neg_grows l m us i)
+      same_then (r.neg room inner l us) (r.neg room' inner' m us) (joined_operands is_and t.and (r.neg room inner) l) (joined_operands is_and t.and (r.neg room' inner') m) (neg_grows l m us i)
       (λ e vs. joined_grows (r.neg room inner) (r.neg room' inner') neg_grows is_and t.and l m e vs i)
 
   level_grows : (l m : ℕ) (us : List Kind) → l ≤ m → Same (r.level room inner l us) (r.level room' inner' m us)
   level_grows l m us i =
-      same_then (r.conj room inner l us) (r.conj room' inner' m us) (joined is_or t.or (r.conj room inner) l) (joined is_or t.or (r.conj room' inner') m) (conj_grows l m us i)
+      same_then (r.conj room inner l us) (r.conj room' inner' m us) (joined_operands is_or t.or (r.conj room inner) l) (joined_operands is_or t.or (r.conj room' inner') m) (conj_grows l m us i)
       (λ e vs. joined_grows (r.conj room inner) (r.conj room' inner') conj_grows is_or t.or l m e vs i)
 
 pub expr_grows : (d e l m : ℕ) (us : List Kind) → d ≤ e → l ≤ m → Same (expr d l us) (expr e m us)

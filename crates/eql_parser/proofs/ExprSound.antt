@@ -12,7 +12,7 @@ use Rattle.eql_parser.specs.Kinds.{Kind, false_, in_, matches, not_, null_, rege
 use Rattle.eql_parser.specs.Grammar.{IsListed, first_part, part, IsDotted, ends, goes_on, IsField, required, optional, IsText, a_text, IsPatterns, one_text, some_texts, IsLiteral, is_number, is_negative, is_text, is_true, is_false, IsMembers, members, is_left_out_call, Joint, by_or, by_and, by_comma, between, IsExpr, conj, any_of, IsConj, neg, all_of, IsOperands, IsOperand, of_or, of_and, of_comma, IsNeg, negated, pred, IsPred, sum, compared, matched, is_in, is_not_in, IsSum, prod, added, IsProd, unary, multiplied, IsUnary, minus, prim, IsPrim, is_null, is_yes, is_no, is_long, is_str, is_field, is_call, is_folding_call, inside, IsArguments, no_arguments, some_arguments}
 use Rattle.eql_parser.specs.QueryGrammar.{IsKey, a_key}
 use Rattle.eql_parser.specs.Limits.{depth, deepest}
-use Rattle.eql_parser.specs.Reading.{Fail, Syntax, Res, then_do, res_map, closing, is_or, is_and, is_comma, adds_of, multiplies_of, more_of, separated, listed, dotted_part, behind_dot, dotted, named_by, named, field, field_tree, text_at, negative_at, literal, at_level, above, chain_on, chain_from, chain, joined, call_of, enter, arguments, expr}
+use Rattle.eql_parser.specs.Reading.{Fail, Syntax, Res, then_do, res_map, closing, is_or, is_and, is_comma, adds_of, multiplies_of, more_of, separated, comma_list, dotted_part, behind_dot, dotted, named_by, named_field, field, field_tree, text_at, negative_at, literal, at_level, above, chain_on, chain_from, chain, joined_operands, call_of, enter, arguments, expr}
 use Rattle.eql_parser.specs.Reading as r
 use Rattle.eql_parser.proofs.Rows.{Row, last_of, next_of, or_only, and_only, comma_only, row_listed, Within, row_operands}
 
@@ -67,8 +67,8 @@ separated_good is_between Is read good (suc n) ts =
     (λ x us h. more_good is_between Is (separated is_between read n) ts x us (separated_good is_between Is read good n) h)
 
 pub listed_good : {A : Type 0} (Is : List Kind → A → List Kind → Type 0) (read : List Kind → Res A)
-    → ((ts : List Kind) → Gives (Is ts) (read ts)) → (ts : List Kind) → Gives (IsListed Is ts) (listed read ts)
-listed_good Is read good ts = gives_also (Row is_comma Is ts) (IsListed Is ts) (listed read ts) (separated_good is_comma Is read good (length ts) ts) (row_listed Is ts)
+    → ((ts : List Kind) → Gives (Is ts) (read ts)) → (ts : List Kind) → Gives (IsListed Is ts) (comma_list read ts)
+listed_good Is read good ts = gives_also (Row is_comma Is ts) (IsListed Is ts) (comma_list read ts) (separated_good is_comma Is read good (length ts) ts) (row_listed Is ts)
 
 part_good : (again : List ℕ → List Kind → Res (List ℕ)) (w : List ℕ) (k : Kind) (ts : List Kind) (o : Option (List ℕ)) → part k ≡ o
     → ((v : List ℕ) (us : List Kind) → Gives (IsDotted v us) (again v us)) → Gives (IsDotted w (dot_ ∷ k ∷ ts)) (dotted_part again w o ts)
@@ -102,7 +102,7 @@ named_by_good o k ts (Some w) e =
     gives_map (IsDotted w ts) (IsKey (marked o (k ∷ ts))) (dotted (length ts) w ts) (λ n. record { name = n; optional = o }) (dotted_good (length ts) w ts)
     (λ n us h. key_of o k w n ts us e h)
 
-named_good : (o : Bool) (ts : List Kind) → Gives (IsKey (marked o ts)) (named o ts)
+named_good : (o : Bool) (ts : List Kind) → Gives (IsKey (marked o ts)) (named_field o ts)
 named_good o [] = tt
 named_good o (k ∷ ts) = named_by_good o k ts (first_part k) refl
 
@@ -171,7 +171,7 @@ module _ (j : Joint) (is_between : Kind → Bool) (node : Trees → Tree) (read 
     (operand : (ts : List Kind) (e : Tree) (us : List Kind) → One ts e us → IsOperand j ts e us)
     (alone : (ts : List Kind) (e : Tree) (us : List Kind) → One ts e us → Whole ts e us)
     (several : (ts us : List Kind) (e : Tree) (es : Trees) (rest : List Kind) → One ts e (between j ∷ us) → IsOperands j us es rest → Whole ts (node (more e es)) rest) where
-  joined_good : (l : ℕ) (ts : List Kind) (e : Tree) (us : List Kind) → Within One l ts e us → Gives (Within Whole l ts) (joined is_between node read l e us)
+  joined_good : (l : ℕ) (ts : List Kind) (e : Tree) (us : List Kind) → Within One l ts e us → Gives (Within Whole l ts) (joined_operands is_between node read l e us)
   joined_good l ts e [] h = (alone ts e [] h.0, h.1)
   joined_good l ts e (k ∷ us) h =
       gives_if (Within Whole l ts) (is_between k) (above l e (suc (length us)) (res_map (λ es. node (more e (trees_of es))) (separated is_between (read (l - 1)) (length us) us))) (Ok (e, k ∷ us))
@@ -187,11 +187,11 @@ module _ (room : Bool) (inner : ℕ → List Kind → Res Tree) (good : (l : ℕ
   gives_enter : {A : Type 0} (P : A → List Kind → Type 0) (ts : List Kind) (r : Res A) → Gives P r → Gives P (enter room inner ts r)
   gives_enter P ts r h = gives_if P room r _ (λ e. h) (λ e. tt)
 
-  some_arguments_good : (l : ℕ) (ts : List Kind) → Gives (λ es us. IsArguments ts (trees_of es) us × (deepest (trees_of es) ≤ l)) (then_do (listed (inner l) ts) closing)
+  some_arguments_good : (l : ℕ) (ts : List Kind) → Gives (λ es us. IsArguments ts (trees_of es) us × (deepest (trees_of es) ≤ l)) (then_do (comma_list (inner l) ts) closing)
   some_arguments_good l ts =
       gives_then (λ es us. IsOperands by_comma ts (trees_of es) us × (deepest (trees_of es) ≤ l)) (λ es us. IsArguments ts (trees_of es) us × (deepest (trees_of es) ≤ l))
-      (listed (inner l) ts) closing
-      (gives_also (Row is_comma (Within IsExpr l) ts) (λ es us. IsOperands by_comma ts (trees_of es) us × (deepest (trees_of es) ≤ l)) (listed (inner l) ts)
+      (comma_list (inner l) ts) closing
+      (gives_also (Row is_comma (Within IsExpr l) ts) (λ es us. IsOperands by_comma ts (trees_of es) us × (deepest (trees_of es) ≤ l)) (comma_list (inner l) ts)
       (separated_good is_comma (Within IsExpr l) (inner l) (good l) (length ts) ts)
       (row_operands by_comma is_comma (Within IsExpr l) l comma_only (λ xs x ys i. (of_comma i.0, i.1)) ts))
       (λ es us h. closed (λ es us. IsOperands by_comma ts (trees_of es) us × (deepest (trees_of es) ≤ l)) (λ es us. IsArguments ts (trees_of es) us × (deepest (trees_of es) ≤ l)) es us h
@@ -204,22 +204,22 @@ module _ (room : Bool) (inner : ℕ → List Kind → Res Tree) (good : (l : ℕ
   patterns_good : (ts : List Kind) → Gives (IsPatterns ts) (r.patterns room inner ts)
   patterns_good (text s ∷ ts) = one_text
   patterns_good (open_ ∷ ts) =
-      gives_enter (IsPatterns (open_ ∷ ts)) ts (then_do (listed text_at ts) closing)
-      (gives_then (IsListed IsText ts) (IsPatterns (open_ ∷ ts)) (listed text_at ts) closing (listed_good IsText text_at text_good ts)
+      gives_enter (IsPatterns (open_ ∷ ts)) ts (then_do (comma_list text_at ts) closing)
+      (gives_then (IsListed IsText ts) (IsPatterns (open_ ∷ ts)) (comma_list text_at ts) closing (listed_good IsText text_at text_good ts)
       (λ ss us h. closed (IsListed IsText ts) (IsPatterns (open_ ∷ ts)) ss us h (λ vs i. some_texts i)))
   patterns_good _ = tt
 
   members_good : (ts : List Kind) → Gives (IsMembers ts) (r.members room inner ts)
   members_good (open_ ∷ ts) =
-      gives_enter (IsMembers (open_ ∷ ts)) ts (then_do (listed literal ts) closing)
-      (gives_then (IsListed IsLiteral ts) (IsMembers (open_ ∷ ts)) (listed literal ts) closing (listed_good IsLiteral literal literal_good ts)
+      gives_enter (IsMembers (open_ ∷ ts)) ts (then_do (comma_list literal ts) closing)
+      (gives_then (IsListed IsLiteral ts) (IsMembers (open_ ∷ ts)) (comma_list literal ts) closing (listed_good IsLiteral literal literal_good ts)
       (λ vs us h. closed (IsListed IsLiteral ts) (IsMembers (open_ ∷ ts)) vs us h (λ vs i. members i)))
   members_good _ = tt
 
-  named_prim : (l : ℕ) (o : Bool) (ts : List Kind) → Gives (Within IsPrim l (marked o ts)) (at_level l (length (marked o ts)) (res_map field_tree (named o ts)))
+  named_prim : (l : ℕ) (o : Bool) (ts : List Kind) → Gives (Within IsPrim l (marked o ts)) (at_level l (length (marked o ts)) (res_map field_tree (named_field o ts)))
   named_prim l o ts =
-      gives_at_level (Within IsPrim l (marked o ts)) l (length (marked o ts)) (res_map field_tree (named o ts))
-      (λ d. gives_map (IsKey (marked o ts)) (Within IsPrim l (marked o ts)) (named o ts) field_tree (named_good o ts) (λ f us h. (is_field (key_field (marked o ts) f us h), omega (arith, d))))
+      gives_at_level (Within IsPrim l (marked o ts)) l (length (marked o ts)) (res_map field_tree (named_field o ts))
+      (λ d. gives_map (IsKey (marked o ts)) (Within IsPrim l (marked o ts)) (named_field o ts) field_tree (named_good o ts) (λ f us h. (is_field (key_field (marked o ts) f us h), omega (arith, d))))
 
   leaf_good : (l : ℕ) (ts : List Kind) (e : Tree) (place : ℕ) (us : List Kind) → IsPrim ts e us → depth e ≡ 1 → Gives (Within IsPrim l ts) (at_level l place (Ok (e, us)))
   leaf_good l ts e place us h d = gives_at_level (Within IsPrim l ts) l place (Ok (e, us)) (λ i. (h, omega (arith, d, i)))
@@ -326,12 +326,12 @@ module _ (room : Bool) (inner : ℕ → List Kind → Res Tree) (good : (l : ℕ
 
   conj_good : (l : ℕ) (ts : List Kind) → Gives (Within IsConj l ts) (r.conj room inner l ts)
   conj_good l ts =
-      gives_then (Within IsNeg l ts) (Within IsConj l ts) (r.neg room inner l ts) (joined is_and t.and (r.neg room inner) l) (neg_good l ts)
+      gives_then (Within IsNeg l ts) (Within IsConj l ts) (r.neg room inner l ts) (joined_operands is_and t.and (r.neg room inner) l) (neg_good l ts)
       (joined_good by_and is_and t.and (r.neg room inner) IsNeg IsConj and_only (λ es. refl) neg_good (λ us e vs h. of_and h) (λ us e vs h. neg h) (λ us vs e es rest h i. all_of h i) l ts)
 
   level_good : (l : ℕ) (ts : List Kind) → Gives (Within IsExpr l ts) (r.level room inner l ts)
   level_good l ts =
-      gives_then (Within IsConj l ts) (Within IsExpr l ts) (r.conj room inner l ts) (joined is_or t.or (r.conj room inner) l) (conj_good l ts)
+      gives_then (Within IsConj l ts) (Within IsExpr l ts) (r.conj room inner l ts) (joined_operands is_or t.or (r.conj room inner) l) (conj_good l ts)
       (joined_good by_or is_or t.or (r.conj room inner) IsConj IsExpr or_only (λ es. refl) conj_good (λ us e vs h. of_or h) (λ us e vs h. conj h) (λ us vs e es rest h i. any_of h i) l ts)
 
 -- a condition that is returned is in the grammar, and has at most l levels

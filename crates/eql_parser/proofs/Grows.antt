@@ -7,11 +7,11 @@ use Rattle.eql_query.specs.QueryTree.{TermTree, event, sequence}
 use Rattle.eql_parser.specs.Kinds.{Kind, bang_, join_, sample_, sequence_, until_, open_item_}
 use Rattle.eql_parser.specs.QueryGrammar.{category}
 use Rattle.eql_parser.specs.Reading.{Syntax, Res, then_do, res_map, expr}
-use Rattle.eql_parser.specs.QueryReading.{expected, is_where, is_open_item, Conditioned, keys, runs, term_tree_of, behind_term, items_more, span, behind_body, query_by}
+use Rattle.eql_parser.specs.QueryReading.{behind_expected, is_where, is_open_item, Conditioned, keys, runs, term_tree_of, behind_term, items_more, span, behind_body, query_by}
 use Rattle.eql_parser.specs.QueryReading as q
 use Rattle.eql_parser.proofs.ExprGrows.{Same, same, same_then, same_map, same_if, expr_grows}
 
-expected_grows : {A : Type 0} (is : Kind → Bool) (go go' : List Kind → Res A) → ((us : List Kind) → Same (go us) (go' us)) → (us : List Kind) → Same (expected is go us) (expected is go' us)
+expected_grows : {A : Type 0} (is : Kind → Bool) (go go' : List Kind → Res A) → ((us : List Kind) → Same (go us) (go' us)) → (us : List Kind) → Same (behind_expected is go us) (behind_expected is go' us)
 expected_grows is go go' h [] = refl
 expected_grows is go go' h (k ∷ us) = same_if (is k) (go us) (go' us) (Err (Syntax (suc (length us)))) (Err (Syntax (suc (length us)))) (h us) refl
 
@@ -31,15 +31,15 @@ module _ (condition condition' : List Kind → Res Tree) (h : (us : List Kind) �
   term_grows [] = refl
   term_grows (k ∷ us) = term_of_grows (category k) us
 
-  bracketed_grows : (us : List Kind) → Same (q.bracketed condition us) (q.bracketed condition' us)
+  bracketed_grows : (us : List Kind) → Same (q.bracketed_term condition us) (q.bracketed_term condition' us)
   bracketed_grows us =
       expected_grows is_open_item (λ vs. then_do (q.term condition vs) behind_term) (λ vs. then_do (q.term condition' vs) behind_term)
       (λ vs. same_then (q.term condition vs) (q.term condition' vs) behind_term behind_term (term_grows vs) (λ c ws. same (behind_term c ws))) us
 
-  item_of_grows : (us : List Kind) → Same (then_do (q.bracketed condition us) (λ x vs. res_map (term_tree_of x.0 x.1) (runs vs))) (then_do (q.bracketed condition' us) (λ x vs. res_map (term_tree_of x.0 x.1) (runs vs)))
+  item_of_grows : (us : List Kind) → Same (then_do (q.bracketed_term condition us) (λ x vs. res_map (term_tree_of x.0 x.1) (runs vs))) (then_do (q.bracketed_term condition' us) (λ x vs. res_map (term_tree_of x.0 x.1) (runs vs)))
   item_of_grows us =
       let go : Conditioned × List FieldRef → List Kind → Res TermTree = λ x vs. res_map (term_tree_of x.0 x.1) (runs vs) in
-      same_then (q.bracketed condition us) (q.bracketed condition' us) go go (bracketed_grows us) (λ x vs. same (go x vs))
+      same_then (q.bracketed_term condition us) (q.bracketed_term condition' us) go go (bracketed_grows us) (λ x vs. same (go x vs))
 
   item_grows : (us : List Kind) → Same (q.item condition us) (q.item condition' us)
   item_grows (bang_ ∷ open_item_ ∷ us) = refl
@@ -53,7 +53,7 @@ module _ (condition condition' : List Kind → Res Tree) (h : (us : List Kind) �
       (λ i vs. items_more_grow (q.items condition n) (q.items condition' n) i vs (items_grow n))
 
   until_grows : (us : List Kind) → Same (q.until condition us) (q.until condition' us)
-  until_grows (until_ ∷ us) = same_map (q.bracketed condition us) (q.bracketed condition' us) (λ x. Some (term_tree_of x.0 x.1 (pos 1))) (bracketed_grows us)
+  until_grows (until_ ∷ us) = same_map (q.bracketed_term condition us) (q.bracketed_term condition' us) (λ x. Some (term_tree_of x.0 x.1 (pos 1))) (bracketed_grows us)
   until_grows us = same (q.until condition us)
 
   behind_span_grows : (fs : List FieldRef) (s : Option Span) (us : List Kind) → Same (q.behind_span condition fs s us) (q.behind_span condition' fs s us)

@@ -4,7 +4,7 @@ use Rattle.eql_lexer.specs.declared.token.Token.{Token}
 use Rattle.eql_parser.specs.declared.parser.mark.Mark.TheVariants as m
 use Rattle.eql_parser.specs.Kinds.{Kind, kinds, and_, or_, comma_, close_, open_, question_}
 use Rattle.eql_parser.specs.Marks.{Lacks}
-use Rattle.eql_parser.specs.Reading.{Syntax, TooOpen, then_do, listed, literal, text_at, closing, is_or, is_and, is_comma, members, patterns, field, named}
+use Rattle.eql_parser.specs.Reading.{Syntax, TooOpen, then_do, comma_list, literal, text_at, closing, is_or, is_and, is_comma, members, patterns, field, named_field}
 use Rattle.eql_values.specs.declared.value.Value.{Value}
 use Rattle.eql_parser.specs.Answering.{room, inner}
 use Rattle.eql_parser.proofs.Defaults.{length_kinds}
@@ -33,7 +33,7 @@ not_closed a (_ ∷ ts) h = refl
 pub unclosed : {A : Type 0} (a : A) (ts : List Token) → Lacks m.Close (kinds ts) → closing a (kinds ts) ≡ Err (Syntax (length ts))
 unclosed a ts h = not_closed a (kinds ts) h ∙ ap (λ n. Err (Syntax n)) (length_kinds ts)
 
-pub no_question : (ts : List Kind) → Lacks m.Question ts → field ts ≡ named false ts
+pub no_question : (ts : List Kind) → Lacks m.Question ts → field ts ≡ named_field false ts
 no_question [] h = refl
 no_question (question_ ∷ ts) h = absurd (h refl)
 no_question (_ ∷ ts) h = refl
@@ -50,7 +50,7 @@ pub members_shut : (d : ℕ) (ts : List Token) (us : List Kind) → d ≡ 0 → 
 members_shut zero ts us z e = ap (members false (inner 0)) e ∙ ap (λ n. Err (TooOpen n)) (sym (ap length e) ∙ length_kinds ts)
 members_shut (suc d) ts us z e = absurd (omega arith)
 
-pub members_unclosed : (d : ℕ) (ts us : List Kind) (vs : List Value) (rest : List Token) → d ≢ 0 → ts ≡ open_ ∷ us → listed literal us ≡ Ok (vs, kinds rest) → Lacks m.Close (kinds rest)
+pub members_unclosed : (d : ℕ) (ts us : List Kind) (vs : List Value) (rest : List Token) → d ≢ 0 → ts ≡ open_ ∷ us → comma_list literal us ≡ Ok (vs, kinds rest) → Lacks m.Close (kinds rest)
     → members (room d) (inner d) ts ≡ Err (Syntax (length rest))
 members_unclosed zero ts us vs rest z e r h = absurd (z refl)
 members_unclosed (suc d) ts us vs rest z e r h = ap (members true (inner (suc d))) e ∙ ap (λ q. then_do q closing) r ∙ unclosed vs rest h
@@ -59,7 +59,7 @@ pub patterns_shut : (d : ℕ) (ts : List Token) (us : List Kind) → d ≡ 0 →
 patterns_shut zero ts us z e = ap (patterns false (inner 0)) e ∙ ap (λ n. Err (TooOpen n)) (sym (ap length e) ∙ length_kinds ts)
 patterns_shut (suc d) ts us z e = absurd (omega arith)
 
-pub patterns_unclosed : (d : ℕ) (ts us : List Kind) (ss : List (List ℕ)) (rest : List Token) → d ≢ 0 → ts ≡ open_ ∷ us → listed text_at us ≡ Ok (ss, kinds rest) → Lacks m.Close (kinds rest)
+pub patterns_unclosed : (d : ℕ) (ts us : List Kind) (ss : List (List ℕ)) (rest : List Token) → d ≢ 0 → ts ≡ open_ ∷ us → comma_list text_at us ≡ Ok (ss, kinds rest) → Lacks m.Close (kinds rest)
     → patterns (room d) (inner d) ts ≡ Err (Syntax (length rest))
 patterns_unclosed zero ts us ss rest z e r h = absurd (z refl)
 patterns_unclosed (suc d) ts us ss rest z e r h = ap (patterns true (inner (suc d))) e ∙ ap (λ q. then_do q closing) r ∙ unclosed ss rest h

@@ -14,7 +14,7 @@ use Rattle.eql_lexer.specs.declared.token.Tok.TheVariants as tok
 use Rattle.eql_lexer.specs.declared.token.Token.{Token}
 use Rattle.eql_lexer.specs.Bytes.{is_letter, is_word}
 use Rattle.eql_lexer.specs.Blanks.{gap}
-use Rattle.eql_lexer.specs.Strings.{IsContent, closed, plain, escaped, triple, before_triple, quoted_name, name_behind, put, is_name}
+use Rattle.eql_lexer.specs.Strings.{IsContent, closed, plain, escaped, triple, before_triple, quoted_name, name_behind, with_byte, is_name}
 use Rattle.eql_lexer.specs.Spelling.{IsLexeme, AreTokensTo, Spells, IsRawString, IsLineString, word_more}
 use Rattle.eql_lexer.proofs.Utf8.{split_utf8, escape_utf8, escape_scalar, behind_utf8, raw_utf8, raw_cut}
 use Rattle.eql_lexer.proofs.Tails.{Tail, tail_here, tail_more, tail_on, gap_tail, lexeme_tail}
@@ -99,8 +99,8 @@ word_good w h =
     (λ other. by_tilde (bytes_eq (drop (length w - 1) w) (codes "~")) w refl h (ap (λ o. kind_or o (plain_kind w)) other))
 
 -- strings
-moved : (out bs : List ℕ) (b : ℕ) → IsUtf8 (out ++ b ∷ bs) → IsUtf8 ((out ++ b ∷ []) ++ bs)
-moved out bs b u = subst IsUtf8 (sym (append_assoc out (b ∷ []) bs)) u
+byte_moves_over : (out bs : List ℕ) (b : ℕ) → IsUtf8 (out ++ b ∷ bs) → IsUtf8 ((out ++ b ∷ []) ++ bs)
+byte_moves_over out bs b u = subst IsUtf8 (sym (append_assoc out (b ∷ []) bs)) u
 
 back : (out bs more : List ℕ) → IsUtf8 ((out ++ bs) ++ more) → IsUtf8 (out ++ (bs ++ more))
 back out bs more u = subst IsUtf8 (append_assoc out bs more) u
@@ -110,7 +110,7 @@ alone out u = subst IsUtf8 (sym (append-nil out)) u
 
 content_utf8 : (bs s rest out : List ℕ) → IsContent bs s rest → IsUtf8 (out ++ bs) → IsUtf8 (out ++ s)
 content_utf8 _ _ _ out (closed {b} {rest} e) u = alone out (split_utf8 out rest b (omega (arith, e)) u).0
-content_utf8 _ _ _ out (plain {b} {bs} {s} {rest} p k) u = back out (b ∷ []) s (content_utf8 bs s rest (out ++ b ∷ []) k (moved out bs b u))
+content_utf8 _ _ _ out (plain {b} {bs} {s} {rest} p k) u = back out (b ∷ []) s (content_utf8 bs s rest (out ++ b ∷ []) k (byte_moves_over out bs b u))
 content_utf8 _ _ _ out (escaped {b} {c} {bs} {more} {s} {t} {rest} e h x k) u =
     let parts = split_utf8 out bs b (omega (arith, e)) u in
     let front = IsUtf8-append out (encode c) parts.0 (IsUtf8-encode c (escape_scalar bs c more h)) in
@@ -132,14 +132,14 @@ name_in other (Some x) = x.0
 none_some : (n rest : List ℕ) → ◌≡◌ {A = Option (List ℕ × List ℕ)} None (Some (n, rest)) → ⊥
 none_some n rest e = cc
 
-put_some : (b : ℕ) (o : Option (List ℕ × List ℕ)) (n rest : List ℕ) → put b o ≡ Some (n, rest) → (m : List ℕ) × (r : List ℕ) × (o ≡ Some (m, r)) × (b ∷ m ≡ n)
+put_some : (b : ℕ) (o : Option (List ℕ × List ℕ)) (n rest : List ℕ) → with_byte b o ≡ Some (n, rest) → (m : List ℕ) × (r : List ℕ) × (o ≡ Some (m, r)) × (b ∷ m ≡ n)
 put_some b None n rest e = absurd (none_some n rest e)
 put_some b (Some x) n rest e = (x.0, x.1, refl, ap (name_in []) e)
 
 empty_is : (n rest r : List ℕ) → ◌≡◌ {A = Option (List ℕ × List ℕ)} (Some ([], r)) (Some (n, rest)) → [] ≡ n
 empty_is n rest r e = ap (name_in []) e
 
-name_by : (t l : Bool) (b : ℕ) (bs n rest out : List ℕ) → (b == 10) ≡ l → cond t (name_behind bs) (cond l None (put b (quoted_name bs))) ≡ Some (n, rest)
+name_by : (t l : Bool) (b : ℕ) (bs n rest out : List ℕ) → (b == 10) ≡ l → cond t (name_behind bs) (cond l None (with_byte b (quoted_name bs))) ≡ Some (n, rest)
     → (t ≡ true → name_behind bs ≡ Some (n, rest) → Named out n) → ((m r : List ℕ) → quoted_name bs ≡ Some (m, r) → Named (out ++ b ∷ []) m) → Named out n
 name_by true l b bs n rest out f e behind more = behind refl e
 name_by false true b bs n rest out f e behind more = absurd (none_some n rest e)
@@ -148,7 +148,7 @@ name_by false false b bs n rest out f e behind more =
     let k = more p.0 p.1 p.2 in
     subst (Named out) p.3 (back out (b ∷ []) p.0 k.0, (unequal b 10 f, k.1))
 
-behind_by : (t : Bool) (c : ℕ) (cs n rest out : List ℕ) → (c == 96) ≡ t → cond t (put 96 (quoted_name cs)) (Some ([], c ∷ cs)) ≡ Some (n, rest) → IsUtf8 out
+behind_by : (t : Bool) (c : ℕ) (cs n rest out : List ℕ) → (c == 96) ≡ t → cond t (with_byte 96 (quoted_name cs)) (Some ([], c ∷ cs)) ≡ Some (n, rest) → IsUtf8 out
     → (t ≡ true → (m r : List ℕ) → quoted_name cs ≡ Some (m, r) → Named (out ++ 96 ∷ []) m) → Named out n
 behind_by true c cs n rest out f e u more =
     let p = put_some 96 (quoted_name cs) n rest e in
@@ -161,13 +161,13 @@ mutual
   name_u [] n rest out e u = absurd (none_some n rest e)
   name_u (b ∷ bs) n rest out e u =
       name_by (b == 96) (b == 10) b bs n rest out refl e (λ t k. behind_u bs n rest out k (subst (λ c. IsUtf8 (out ++ c ∷ bs)) (equal b 96 t) u))
-      (λ m r k. name_u bs m r (out ++ b ∷ []) k (moved out bs b u))
+      (λ m r k. name_u bs m r (out ++ b ∷ []) k (byte_moves_over out bs b u))
 
   behind_u : (bs n rest out : List ℕ) → name_behind bs ≡ Some (n, rest) → IsUtf8 (out ++ 96 ∷ bs) → Named out n
   behind_u [] n rest out e u = subst (Named out) (empty_is n rest [] e) (alone out (split_utf8 out [] 96 (omega arith) u).0, tt)
   behind_u (c ∷ cs) n rest out e u =
       let parts = split_utf8 out (c ∷ cs) 96 (omega arith) u in
-      behind_by (c == 96) c cs n rest out refl e parts.0 (λ t m r k. name_u cs m r (out ++ 96 ∷ []) k (moved out cs 96 (subst (λ d. IsUtf8 (out ++ d ∷ cs)) (equal c 96 t) (IsUtf8-append out (c ∷ cs) parts.0 parts.1))))
+      behind_by (c == 96) c cs n rest out refl e parts.0 (λ t m r k. name_u cs m r (out ++ 96 ∷ []) k (byte_moves_over out cs 96 (subst (λ d. IsUtf8 (out ++ d ∷ cs)) (equal c 96 t) (IsUtf8-append out (c ∷ cs) parts.0 parts.1))))
 
 no_ten_behind : (xs ys : List ℕ) → NoTen (xs ++ ys) → NoTen ys
 no_ten_behind [] ys h = h

@@ -11,7 +11,7 @@ use Rattle.eql_parser.specs.Kinds.{Kind, bang_, bar_, by_, join_, sample_, seque
 use Rattle.eql_parser.specs.QueryGrammar.{category, is_fine_unit, pipe_of, unit_of}
 use Rattle.eql_parser.specs.Reading.{Fail, Syntax, LeftOut, Res, then_do, res_map, field, expr}
 use Rattle.eql_parser.specs.QueryReading as q
-use Rattle.eql_parser.specs.QueryReading.{Conditioned, expected, is_where, is_maxspan, is_runs, is_assign, is_open_item, is_close_item, number_at, term_tree_of, items_more, unit_named, unit_at, pipe_named, behind_term, behind_body}
+use Rattle.eql_parser.specs.QueryReading.{Conditioned, behind_expected, is_where, is_maxspan, is_runs, is_assign, is_open_item, is_close_item, number_at, term_tree_of, items_more, unit_named, unit_at, pipe_named, behind_term, behind_body}
 use Rattle.eql_parser.proofs.Told.{Told, told_then, told_map, told_field}
 use Rattle.eql_parser.proofs.ToldExpr.{expr_told}
 use Rattle.eql_parser.proofs.ToldQuery.{told_expected, told_number, told_keys, told_runs, told_behind_term, told_items_more, told_number_unit, told_span, told_pipes, told_behind_body, told_term, told_bracketed, told_item, told_items, told_until, told_behind_items, told_behind_span, told_behind_keys, told_event, told_query}
@@ -19,15 +19,15 @@ use Rattle.eql_parser.proofs.Agrees.{firm, Short, short, shorter, short_map, sho
 use Rattle.eql_parser.proofs.AgreesExpr.{expr_agrees}
 
 module _ (Same : Type 0) (x y : List Kind) where
-  agree_expected : {A : Type 0} (is : Kind → Bool) (go go' : List Kind → Res A) (m : List Kind) → Short (length x) (expected is go x)
-      → ((p : List Kind) → Agree Same x y (go (p ++ x)) (go' (p ++ y))) → Agree Same x y (expected is go (m ++ x)) (expected is go' (m ++ y))
-  agree_expected is go go' [] w h = in_tail Same x y (expected is go x) (expected is go' y) w
+  agree_expected : {A : Type 0} (is : Kind → Bool) (go go' : List Kind → Res A) (m : List Kind) → Short (length x) (behind_expected is go x)
+      → ((p : List Kind) → Agree Same x y (go (p ++ x)) (go' (p ++ y))) → Agree Same x y (behind_expected is go (m ++ x)) (behind_expected is go' (m ++ y))
+  agree_expected is go go' [] w h = in_tail Same x y (behind_expected is go x) (behind_expected is go' y) w
   agree_expected is go go' (k ∷ m) w h = agree_if Same x y (is k) (go (m ++ x)) (go' (m ++ y)) (Err (Syntax (suc (length (m ++ x))))) (Err (Syntax (suc (length (m ++ y))))) (h m) (λ i. tt)
 
   -- what stands behind a word that has to stand here
   agree_behind : {A : Type 0} (is : Kind → Bool) (go go' : List Kind → Res A) (m : List Kind) → is open_ ≡ false → is close_ ≡ false → ((us : List Kind) → Told 0 us (go us))
-      → ((p : List Kind) → Agree Same x y (go (p ++ x)) (go' (p ++ y))) → Agree Same x y (expected is go (m ++ x)) (expected is go' (m ++ y))
-  agree_behind is go go' m o c t h = agree_expected is go go' m (short 0 x (expected is go x) (told_expected 0 is go x o c t)) h
+      → ((p : List Kind) → Agree Same x y (go (p ++ x)) (go' (p ++ y))) → Agree Same x y (behind_expected is go (m ++ x)) (behind_expected is go' (m ++ y))
+  agree_behind is go go' m o c t h = agree_expected is go go' m (short 0 x (behind_expected is go x) (told_expected 0 is go x o c t)) h
 
   agree_number : (m : List Kind) → Agree Same x y (number_at (m ++ x)) (number_at (m ++ y))
   agree_number [] = in_tail Same x y (number_at x) (number_at y) (short 0 x (number_at x) (told_number 0 x))
@@ -42,7 +42,7 @@ module _ (Same : Type 0) (x y : List Kind) where
   agree_runs : (m : List Kind) → Agree Same x y (q.runs (m ++ x)) (q.runs (m ++ y))
   agree_runs [] = in_tail Same x y (q.runs x) (q.runs y) (short 0 x (q.runs x) (told_runs 0 x))
   agree_runs (with_ ∷ m) =
-      agree_behind is_runs (expected is_assign number_at) (expected is_assign number_at) m refl refl (λ us. told_expected 0 is_assign number_at us refl refl (told_number 0))
+      agree_behind is_runs (behind_expected is_assign number_at) (behind_expected is_assign number_at) m refl refl (λ us. told_expected 0 is_assign number_at us refl refl (told_number 0))
       (λ p. agree_behind is_assign number_at number_at p refl refl (told_number 0) agree_number)
   agree_runs (k ∷ m) = stays Same x y (pos 1) (k ∷ m)
 
@@ -85,7 +85,7 @@ module _ (Same : Type 0) (x y : List Kind) where
   agree_span : (m : List Kind) → Agree Same x y (q.span (m ++ x)) (q.span (m ++ y))
   agree_span [] = in_tail Same x y (q.span x) (q.span y) (short 0 x (q.span x) (told_span 0 x))
   agree_span (with_ ∷ m) =
-      agree_behind is_maxspan (expected is_assign (λ us. then_do (number_at us) unit_at)) (expected is_assign (λ us. then_do (number_at us) unit_at)) m refl refl
+      agree_behind is_maxspan (behind_expected is_assign (λ us. then_do (number_at us) unit_at)) (behind_expected is_assign (λ us. then_do (number_at us) unit_at)) m refl refl
       (λ us. told_expected 0 is_assign (λ vs. then_do (number_at vs) unit_at) us refl refl (told_number_unit 0))
       (λ p. agree_behind is_assign (λ us. then_do (number_at us) unit_at) (λ us. then_do (number_at us) unit_at) p refl refl (told_number_unit 0) agree_number_unit)
   agree_span (k ∷ m) = stays Same x y {A = Option Span} None (k ∷ m)
@@ -213,7 +213,7 @@ module _ (Same : Type 0) (x y : List Kind) (d : ℕ) (condition condition' : Lis
   agree_term_of None m = λ i. tt
   agree_term_of (Some c) m =
       agree_expected Same x y is_where (λ us. res_map (λ e. (c, e)) (condition us)) (λ us. res_map (λ e. (c, e)) (condition' us)) m
-      (short d x (expected is_where (λ us. res_map (λ e. (c, e)) (condition us)) x) (told_expected d is_where (λ us. res_map (λ e. (c, e)) (condition us)) x refl refl (λ us. told_map d us (λ e. (c, e)) (condition us) (told us))))
+      (short d x (behind_expected is_where (λ us. res_map (λ e. (c, e)) (condition us)) x) (told_expected d is_where (λ us. res_map (λ e. (c, e)) (condition us)) x refl refl (λ us. told_map d us (λ e. (c, e)) (condition us) (told us))))
       (λ p. agree_map Same x y (λ e. (c, e)) (condition (p ++ x)) (condition' (p ++ y)) (agrees p))
 
   agree_term : (m : List Kind) → Agree Same x y (q.term condition (m ++ x)) (q.term condition' (m ++ y))
@@ -228,19 +228,19 @@ module _ (Same : Type 0) (x y : List Kind) (d : ℕ) (condition condition' : Lis
       agree_then Same x y (length (m ++ x)) (q.term condition (m ++ x)) (q.term condition' (m ++ y)) behind_term behind_term (short d (m ++ x) (q.term condition (m ++ x)) (told_term d condition told (m ++ x))) (agree_term m)
       (λ c p b. agree_behind_term Same x y c p) (λ c us. short 0 us (behind_term c us) (told_behind_term 0 c us))
 
-  agree_bracketed : (m : List Kind) → Agree Same x y (q.bracketed condition (m ++ x)) (q.bracketed condition' (m ++ y))
+  agree_bracketed : (m : List Kind) → Agree Same x y (q.bracketed_term condition (m ++ x)) (q.bracketed_term condition' (m ++ y))
   agree_bracketed m =
       agree_expected Same x y is_open_item (λ us. then_do (q.term condition us) behind_term) (λ us. then_do (q.term condition' us) behind_term) m
-      (short d x (q.bracketed condition x) (told_bracketed d condition told x)) agree_in_brackets
+      (short d x (q.bracketed_term condition x) (told_bracketed d condition told x)) agree_in_brackets
 
   short_runs : (c : Conditioned × List FieldRef) (us : List Kind) → Short (length us) (res_map (term_tree_of c.0 c.1) (q.runs us))
   short_runs c us = short_map (length us) (term_tree_of c.0 c.1) (q.runs us) (short 0 us (q.runs us) (told_runs 0 us))
 
   agree_item_here : (m : List Kind)
-      → Agree Same x y (then_do (q.bracketed condition (m ++ x)) (λ c us. res_map (term_tree_of c.0 c.1) (q.runs us))) (then_do (q.bracketed condition' (m ++ y)) (λ c us. res_map (term_tree_of c.0 c.1) (q.runs us)))
+      → Agree Same x y (then_do (q.bracketed_term condition (m ++ x)) (λ c us. res_map (term_tree_of c.0 c.1) (q.runs us))) (then_do (q.bracketed_term condition' (m ++ y)) (λ c us. res_map (term_tree_of c.0 c.1) (q.runs us)))
   agree_item_here m =
-      agree_then Same x y (length (m ++ x)) (q.bracketed condition (m ++ x)) (q.bracketed condition' (m ++ y)) (λ c us. res_map (term_tree_of c.0 c.1) (q.runs us)) (λ c us. res_map (term_tree_of c.0 c.1) (q.runs us))
-      (short d (m ++ x) (q.bracketed condition (m ++ x)) (told_bracketed d condition told (m ++ x))) (agree_bracketed m)
+      agree_then Same x y (length (m ++ x)) (q.bracketed_term condition (m ++ x)) (q.bracketed_term condition' (m ++ y)) (λ c us. res_map (term_tree_of c.0 c.1) (q.runs us)) (λ c us. res_map (term_tree_of c.0 c.1) (q.runs us))
+      (short d (m ++ x) (q.bracketed_term condition (m ++ x)) (told_bracketed d condition told (m ++ x))) (agree_bracketed m)
       (λ c p b. agree_map Same x y (term_tree_of c.0 c.1) (q.runs (p ++ x)) (q.runs (p ++ y)) (agree_runs Same x y p)) short_runs
 
   bang_refused : (any_condition : List Kind → Res Tree) (us : List Kind) → Rejects (q.item any_condition (bang_ ∷ us))
@@ -253,9 +253,9 @@ module _ (Same : Type 0) (x y : List Kind) (d : ℕ) (condition condition' : Lis
   agree_item (bang_ ∷ m) = both_refuse Same x y (q.item condition (bang_ ∷ (m ++ x))) (q.item condition' (bang_ ∷ (m ++ y))) (bang_refused condition (m ++ x)) (rejects_refuses (q.item condition' (bang_ ∷ (m ++ y))) (bang_refused condition' (m ++ y)))
   agree_item (k ∷ m) = agree_item_here (k ∷ m)
 
-  left_item_here : (k : Kind) (us : List Kind) → Left (length us) (then_do (q.bracketed condition (k ∷ us)) (λ c vs. res_map (term_tree_of c.0 c.1) (q.runs vs)))
+  left_item_here : (k : Kind) (us : List Kind) → Left (length us) (then_do (q.bracketed_term condition (k ∷ us)) (λ c vs. res_map (term_tree_of c.0 c.1) (q.runs vs)))
   left_item_here k us =
-      left_then (length us) (q.bracketed condition (k ∷ us)) (λ c vs. res_map (term_tree_of c.0 c.1) (q.runs vs))
+      left_then (length us) (q.bracketed_term condition (k ∷ us)) (λ c vs. res_map (term_tree_of c.0 c.1) (q.runs vs))
       (left_if (length us) (is_open_item k) (then_do (q.term condition us) behind_term) (Syntax (suc (length us))) (left_short (length us) (then_do (q.term condition us) behind_term) (short_in_brackets us))) short_runs
 
   -- an item is one token at least
@@ -289,7 +289,7 @@ module _ (Same : Type 0) (x y : List Kind) (d : ℕ) (condition condition' : Lis
   agree_until : (m : List Kind) → Agree Same x y (q.until condition (m ++ x)) (q.until condition' (m ++ y))
   agree_until [] = in_tail Same x y (q.until condition x) (q.until condition' y) (short d x (q.until condition x) (told_until d condition told x))
   agree_until (until_ ∷ m) =
-      agree_map Same x y (λ c. Some (term_tree_of c.0 c.1 (pos 1))) (q.bracketed condition (m ++ x)) (q.bracketed condition' (m ++ y)) (agree_bracketed m)
+      agree_map Same x y (λ c. Some (term_tree_of c.0 c.1 (pos 1))) (q.bracketed_term condition (m ++ x)) (q.bracketed_term condition' (m ++ y)) (agree_bracketed m)
   agree_until (k ∷ m) = stays Same x y {A = Option TermTree} None (k ∷ m)
 
   loose_behind_items : (fs : List FieldRef) (s : Option Span) (is : List TermTree) (m : List Kind) → Loose Same x y (q.behind_items condition fs s is (m ++ x)) (q.behind_items condition' fs s is (m ++ y))

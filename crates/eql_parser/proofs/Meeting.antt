@@ -14,7 +14,7 @@ use Rattle.eql_parser.specs.Kinds.{Kind, any_, assign_, bang_, bar_, close_item_
 use Rattle.eql_parser.specs.Grammar.{first_part, part, is_left_out_call, IsArguments}
 use Rattle.eql_parser.specs.QueryGrammar.{is_fine_unit, pipe_of}
 use Rattle.eql_parser.specs.Limits.{depth}
-use Rattle.eql_parser.specs.Reading.{Fail, LeftOut, TooDeep, TooOpen, Res, then_do, res_map, closing, is_comma, more_of, separated, listed, dotted_part, behind_dot, dotted, named_by, named, field, text_at, negative_at, literal, at_level, above, chain_on, chain_from, chain, joined, call_of}
+use Rattle.eql_parser.specs.Reading.{Fail, LeftOut, TooDeep, TooOpen, Res, then_do, res_map, closing, is_comma, more_of, separated, comma_list, dotted_part, behind_dot, dotted, named_by, named_field, field, text_at, negative_at, literal, at_level, above, chain_on, chain_from, chain, joined_operands, call_of}
 use Rattle.eql_parser.proofs.Told.{Told, told_more, told_separated, told_chain_from, room_for}
 use Rattle.eql_parser.proofs.Agrees.{Short, short, short_closing, longer}
 
@@ -75,7 +75,7 @@ at_dotted n n' w _ _ _ (for_unit h) = inl ([], refl, refl)
 at_dotted n n' w _ _ _ (for_pipe h) = inl ([], refl, refl)
 at_dotted n n' w _ _ _ (for_number call c b h args) = inl ([], refl, refl)
 
-at_named : (o : Bool) (x y : List Kind) (e : Fail) → Instead x y e → Met x y e (named o x) (named o y)
+at_named : (o : Bool) (x y : List Kind) (e : Fail) → Instead x y e → Met x y e (named_field o x) (named_field o y)
 at_named o _ _ _ for_regex = tt
 at_named o _ _ _ for_folding_regex = tt
 at_named o _ _ _ for_missing = tt
@@ -141,7 +141,7 @@ at_more is z again again' a _ _ _ (for_unit h) = both_end _ _ _ _ _ _ _ (a ∷ [
 at_more is z again again' a _ _ _ (for_pipe h) = both_end _ _ _ _ _ _ _ (a ∷ []) z.6 z.6
 at_more is z again again' a _ _ _ (for_number {w = w} call c b h args) = both_end _ _ _ _ _ _ _ (a ∷ []) (z.7 w) (z.8 w)
 
-at_joined : (is : Kind → Bool) → Between is → (node : Trees → Tree) (read read' : ℕ → List Kind → Res Tree) (l : ℕ) (a : Tree) (x y : List Kind) (e : Fail) → Instead x y e → Met x y e (joined is node read l a x) (joined is node read' l a y)
+at_joined : (is : Kind → Bool) → Between is → (node : Trees → Tree) (read read' : ℕ → List Kind → Res Tree) (l : ℕ) (a : Tree) (x y : List Kind) (e : Fail) → Instead x y e → Met x y e (joined_operands is node read l a x) (joined_operands is node read' l a y)
 at_joined is z node read read' l a _ _ _ for_regex = both_end _ _ _ _ _ _ _ a z.0 z.1
 at_joined is z node read read' l a _ _ _ for_folding_regex = both_end _ _ _ _ _ _ _ a z.0 z.2
 at_joined is z node read read' l a _ _ _ for_missing = both_end _ _ _ _ _ _ _ a z.3 z.4
@@ -245,7 +245,7 @@ module _ (x y : List Kind) (e : Fail) (st : Instead x y e) where
       met_map (λ n. record { name = n; optional = optional }) (dotted (length (m ++ x)) w (m ++ x)) (dotted (length (m ++ y)) w (m ++ y))
       (met_dotted (length (m ++ x)) (length (m ++ y)) w m (omega arith) (omega arith))
 
-  pub met_named : (optional : Bool) (m : List Kind) → Met x y e (named optional (m ++ x)) (named optional (m ++ y))
+  pub met_named : (optional : Bool) (m : List Kind) → Met x y e (named_field optional (m ++ x)) (named_field optional (m ++ y))
   met_named optional [] = at_named optional x y e st
   met_named optional (k ∷ m) = met_named_by optional (first_part k) m
 
@@ -304,7 +304,7 @@ module _ (x y : List Kind) (e : Fail) (st : Instead x y e) {A : Type 0} (d : ℕ
   met_listed_by m = met_separated (length (m ++ x)) (length (m ++ y)) m (omega arith) (omega arith)
 
 pub met_listed : (x y : List Kind) (e : Fail) → Instead x y e → {A : Type 0} (d : ℕ) (read read' : List Kind → Res A) → ((us : List Kind) → Told d us (read us))
-    → ((m : List Kind) → Met x y e (read (m ++ x)) (read' (m ++ y))) → (m : List Kind) → Met x y e (listed read (m ++ x)) (listed read' (m ++ y))
+    → ((m : List Kind) → Met x y e (read (m ++ x)) (read' (m ++ y))) → (m : List Kind) → Met x y e (comma_list read (m ++ x)) (comma_list read' (m ++ y))
 met_listed x y e st d read read' told agrees m =
     met_listed_by x y e st d is_comma refl refl (refl, refl, refl, refl, refl, refl, refl, λ w. refl, λ w. refl) read read' told agrees m
 
@@ -342,7 +342,7 @@ module _ (x y : List Kind) (e : Fail) (st : Instead x y e) (d : ℕ) (read read'
       (λ a p b. met_chain_from operator o c z l (length (p ++ x)) (length (p ++ y)) a p (omega arith) (omega arith)) (λ a us. short_chain operator o c l (length us) a us)
 
   pub met_joined : (is : Kind → Bool) (node : Trees → Tree) (o : is open_ ≡ false) (c : is close_ ≡ false) (z : Between is) (l : ℕ) (a : Tree) (m : List Kind)
-      → Met x y e (joined is node read l a (m ++ x)) (joined is node read' l a (m ++ y))
+      → Met x y e (joined_operands is node read l a (m ++ x)) (joined_operands is node read' l a (m ++ y))
   met_joined is node o c z l a [] = at_joined is z node read read' l a x y e st
   met_joined is node o c z l a (k ∷ m) =
       met_if x y e st (is k) (above l a (suc (length (m ++ x))) (res_map (λ es. node (more a (trees_of es))) (separated is (read (l - 1)) (length (m ++ x)) (m ++ x))))

@@ -7,7 +7,7 @@ use Rattle.eql_query.specs.View.{trees_of}
 use Rattle.eql_parser.specs.Kinds.{Kind, name, folding, open_, close_}
 use Rattle.eql_parser.specs.Grammar.{is_left_out_call, IsArguments}
 use Rattle.eql_parser.specs.Limits.{deepest}
-use Rattle.eql_parser.specs.Reading.{Fail, LeftOut, Res, then_do, res_map, closing, listed, call_of, arguments, expr}
+use Rattle.eql_parser.specs.Reading.{Fail, LeftOut, Res, then_do, res_map, closing, comma_list, call_of, arguments, expr}
 use Rattle.eql_parser.specs.Reading as r
 use Rattle.eql_parser.proofs.Told.{told_listed}
 use Rattle.eql_parser.proofs.ToldExpr.{expr_told}
@@ -48,16 +48,16 @@ closed_left (Err e) p h = absurd cc
 
 -- arguments are a list behind which a parenthesis closes, or none
 left_of : (room : Bool) (inner : ℕ → List Kind → Res Tree) (l : ℕ) (us : List Kind) (p : List Tree × List Kind) → arguments room inner l us ≡ Ok p
-    → (p.0 ≡ []) ⊎ (listed (inner l) us ≡ Ok (p.0, close_ ∷ p.1))
-left_of room inner l [] p h = inr (closed_left (listed (inner l) []) p h)
+    → (p.0 ≡ []) ⊎ (comma_list (inner l) us ≡ Ok (p.0, close_ ∷ p.1))
+left_of room inner l [] p h = inr (closed_left (comma_list (inner l) []) p h)
 left_of room inner l (close_ ∷ us) p h = let same : ([], us) ≡ p = cc in inl (ap (λ q. q.0) (sym same))
-left_of room inner l (k ∷ us) p h = inr (closed_left (listed (inner l) (k ∷ us)) p h)
+left_of room inner l (k ∷ us) p h = inr (closed_left (comma_list (inner l) (k ∷ us)) p h)
 
 two_some : (es : List Tree) (a b : Tree) → trees_of es ≡ more a (more b none) → es ≡ [] → ⊥
 two_some es a b h e = let both : none ≡ more a (more b none) = ap trees_of (sym e) ∙ h in cc
 
 two_listed : (d l : ℕ) (call c : List Kind) (a b : Tree) → AreTwo call a b → (p : List Tree × List Kind) → arguments true (expr d) l (call ++ c) ≡ Ok p
-    → listed (expr d l) (call ++ c) ≡ Ok (p.0, close_ ∷ c)
+    → comma_list (expr d l) (call ++ c) ≡ Ok (p.0, close_ ∷ c)
 two_listed d l call c a b args p h =
     let two = read_two d l call c a b args p h in
     ⊎_elim (λ e. absurd (two_some p.0 a b two.0 e)) (λ g. g ∙ ap (λ us. Ok (p.0, close_ ∷ us)) two.1) (left_of true (expr d) l (call ++ c) p h)
@@ -69,10 +69,10 @@ one_before k (j ∷ i ∷ m) c h = absurd (omega (arith, ap length h, length-app
 
 -- the list is read alike whatever follows it
 listed_again : (d d' l : ℕ) → d ≤ d' → (call c u : List Kind) (a b : Tree) → AreTwo call a b → (p : List Tree × List Kind) → arguments true (expr d) l (call ++ c) ≡ Ok p
-    → listed (expr d' l) (call ++ u) ≡ Ok (p.0, close_ ∷ u)
+    → comma_list (expr d' l) (call ++ u) ≡ Ok (p.0, close_ ∷ u)
 listed_again d d' l le call c u a b args p h =
-    let agrees : Agree ⊥ c u (Ok (p.0, close_ ∷ c)) (listed (expr d' l) (call ++ u)) =
-    subst (λ s. Agree ⊥ c u s (listed (expr d' l) (call ++ u))) (two_listed d l call c a b args p h)
+    let agrees : Agree ⊥ c u (Ok (p.0, close_ ∷ c)) (comma_list (expr d' l) (call ++ u)) =
+    subst (λ s. Agree ⊥ c u s (comma_list (expr d' l) (call ++ u))) (two_listed d l call c a b args p h)
     (agree_listed ⊥ c u d (expr d l) (expr d' l) (expr_told d l) (λ m. expr_agrees ⊥ c u d d' l m (le, λ e. absurd e)) call) in
     let at = agrees (omega arith) in
     at.2 ∙ ap (λ m. Ok (p.0, m ++ u)) (one_before close_ at.0 c at.1)
@@ -82,7 +82,7 @@ read_again : (d d' l : ℕ) → d ≤ d' → (call c u : List Kind) (a b : Tree)
     → arguments true (expr d') l (call ++ u) ≡ Ok (p.0, u)
 read_again d d' l le [] c u a b args p h =
     let fits : Short (length c) (Ok (p.0, close_ ∷ c)) =
-    subst (Short (length c)) (two_listed d l [] c a b args p h) (short d c (listed (expr d l) c) (told_listed d (expr d l) c (expr_told d l))) in
+    subst (Short (length c)) (two_listed d l [] c a b args p h) (short d c (comma_list (expr d l) c) (told_listed d (expr d l) c (expr_told d l))) in
     absurd (omega (arith, fits))
 read_again d d' l le (close_ ∷ call) c u a b args p h =
     let same : ([], call ++ c) ≡ p = cc in

@@ -6,7 +6,7 @@ use Rattle.eql_query.specs.Tree.{Tree}
 use Rattle.eql_query.specs.Tree as t
 use Rattle.eql_query.specs.View.{trees_of}
 use Rattle.eql_parser.specs.Kinds.{Kind, false_, in_, matches, not_, null_, regex_, true_, name, folding, back, text, number, open_, close_, question_, compares, adds}
-use Rattle.eql_parser.specs.Reading.{Fail, Syntax, LeftOut, Res, then_do, res_map, closing, is_or, is_and, adds_of, multiplies_of, listed, named, field_tree, text_at, literal, at_level, call_of, joined, expr}
+use Rattle.eql_parser.specs.Reading.{Fail, Syntax, LeftOut, Res, then_do, res_map, closing, is_or, is_and, adds_of, multiplies_of, comma_list, named_field, field_tree, text_at, literal, at_level, call_of, joined_operands, expr}
 use Rattle.eql_parser.specs.Reading as r
 use Rattle.eql_parser.proofs.Told.{Told, upto_here, told_listed, told_text, told_literal, told_joined, room_for, inside}
 use Rattle.eql_parser.proofs.ToldExpr.{told_unary, told_prod, told_sum, told_behind_sum, told_neg, told_conj, expr_told}
@@ -78,7 +78,7 @@ at_behind_sum room room' inner inner' l a _ _ _ (for_unit h) = inl ([], refl, re
 at_behind_sum room room' inner inner' l a _ _ _ (for_pipe h) = inl ([], refl, refl)
 at_behind_sum room room' inner inner' l a _ _ _ (for_number call c b h args) = inl ([], refl, refl)
 
-arguments_some : (room : Bool) (inner : ℕ → List Kind → Res Tree) (l : ℕ) (x y : List Kind) (e : Fail) → Instead x y e → (r.arguments room inner l x ≡ then_do (listed (inner l) x) closing) × (r.arguments room inner l y ≡ then_do (listed (inner l) y) closing)
+arguments_some : (room : Bool) (inner : ℕ → List Kind → Res Tree) (l : ℕ) (x y : List Kind) (e : Fail) → Instead x y e → (r.arguments room inner l x ≡ then_do (comma_list (inner l) x) closing) × (r.arguments room inner l y ≡ then_do (comma_list (inner l) y) closing)
 arguments_some room inner l _ _ _ for_regex = (refl, refl)
 arguments_some room inner l _ _ _ for_folding_regex = (refl, refl)
 arguments_some room inner l _ _ _ for_missing = (refl, refl)
@@ -86,7 +86,7 @@ arguments_some room inner l _ _ _ (for_unit h) = (refl, refl)
 arguments_some room inner l _ _ _ (for_pipe h) = (refl, refl)
 arguments_some room inner l _ _ _ (for_number call c b h args) = (refl, refl)
 
-name_alone : (room : Bool) (inner : ℕ → List Kind → Res Tree) (l : ℕ) (w : List ℕ) (x y : List Kind) (e : Fail) → Instead x y e → (r.prim room inner l (name w ∷ x) ≡ at_level l (suc (length x)) (res_map field_tree (named false (name w ∷ x)))) × (r.prim room inner l (name w ∷ y) ≡ at_level l (suc (length y)) (res_map field_tree (named false (name w ∷ y))))
+name_alone : (room : Bool) (inner : ℕ → List Kind → Res Tree) (l : ℕ) (w : List ℕ) (x y : List Kind) (e : Fail) → Instead x y e → (r.prim room inner l (name w ∷ x) ≡ at_level l (suc (length x)) (res_map field_tree (named_field false (name w ∷ x)))) × (r.prim room inner l (name w ∷ y) ≡ at_level l (suc (length y)) (res_map field_tree (named_field false (name w ∷ y))))
 name_alone room inner l w _ _ _ for_regex = (refl, refl)
 name_alone room inner l w _ _ _ for_folding_regex = (refl, refl)
 name_alone room inner l w _ _ _ for_missing = (refl, refl)
@@ -115,14 +115,14 @@ both_are x y e r r' s s' h k i = subst (λ v. Met x y e v s) (sym h) (subst (λ 
 module _ (x y : List Kind) (e : Fail) (st : Instead x y e) (d d' : ℕ) (inner inner' : ℕ → List Kind → Res Tree) (le : d ≤ d') (told : (l : ℕ) (us : List Kind) → Told (inside d) us (inner l us))
     (agrees : 0 < d → (l : ℕ) (m : List Kind) → Met x y e (inner l (m ++ x)) (inner' l (m ++ y)))
     (first : (l : ℕ) → Met x y e (r.prim (room_for d) inner l x) (r.prim (room_for d') inner' l y)) where
-  met_list : 0 < d → (l : ℕ) (m : List Kind) → Met x y e (then_do (listed (inner l) (m ++ x)) closing) (then_do (listed (inner' l) (m ++ y)) closing)
+  met_list : 0 < d → (l : ℕ) (m : List Kind) → Met x y e (then_do (comma_list (inner l) (m ++ x)) closing) (then_do (comma_list (inner' l) (m ++ y)) closing)
   met_list p l m =
-      met_closed x y e st (length (m ++ x)) (listed (inner l) (m ++ x)) (listed (inner' l) (m ++ y)) (short_listed d inner told l (m ++ x))
+      met_closed x y e st (length (m ++ x)) (comma_list (inner l) (m ++ x)) (comma_list (inner' l) (m ++ y)) (short_listed d inner told l (m ++ x))
       (met_listed x y e st (inside d) (inner l) (inner' l) (told l) (agrees p l) m)
 
   met_arguments : 0 < d → (l : ℕ) (m : List Kind) → Met x y e (r.arguments (room_for d) inner l (m ++ x)) (r.arguments (room_for d') inner' l (m ++ y))
   met_arguments p l [] =
-      both_are x y e (r.arguments (room_for d) inner l x) (then_do (listed (inner l) x) closing) (r.arguments (room_for d') inner' l y) (then_do (listed (inner' l) y) closing)
+      both_are x y e (r.arguments (room_for d) inner l x) (then_do (comma_list (inner l) x) closing) (r.arguments (room_for d') inner' l y) (then_do (comma_list (inner' l) y) closing)
       (arguments_some (room_for d) inner l x y e st).0 (arguments_some (room_for d') inner' l x y e st).1 (met_list p l [])
   met_arguments p l (close_ ∷ m) = stays x y e st [] m
   met_arguments p l (k ∷ m) = met_list p l (k ∷ m)
@@ -131,25 +131,25 @@ module _ (x y : List Kind) (e : Fail) (st : Instead x y e) (d d' : ℕ) (inner i
   met_patterns [] = at_patterns (room_for d) (room_for d') inner inner' x y e st
   met_patterns (text s ∷ m) = stays x y e st (s ∷ []) m
   met_patterns (open_ ∷ m) =
-      met_enter x y e st d d' (suc (length (m ++ x))) (suc (length (m ++ y))) (then_do (listed text_at (m ++ x)) closing) (then_do (listed text_at (m ++ y)) closing) le
-      (λ p. met_closed x y e st (length (m ++ x)) (listed text_at (m ++ x)) (listed text_at (m ++ y)) (short 0 (m ++ x) (listed text_at (m ++ x)) (told_listed 0 text_at (m ++ x) (told_text 0)))
+      met_enter x y e st d d' (suc (length (m ++ x))) (suc (length (m ++ y))) (then_do (comma_list text_at (m ++ x)) closing) (then_do (comma_list text_at (m ++ y)) closing) le
+      (λ p. met_closed x y e st (length (m ++ x)) (comma_list text_at (m ++ x)) (comma_list text_at (m ++ y)) (short 0 (m ++ x) (comma_list text_at (m ++ x)) (told_listed 0 text_at (m ++ x) (told_text 0)))
       (met_listed x y e st 0 text_at text_at (told_text 0) (met_text x y e st) m))
   met_patterns (_ ∷ m) = tt
 
   met_members : (m : List Kind) → Met x y e (r.members (room_for d) inner (m ++ x)) (r.members (room_for d') inner' (m ++ y))
   met_members [] = at_members (room_for d) (room_for d') inner inner' x y e st
   met_members (open_ ∷ m) =
-      met_enter x y e st d d' (suc (length (m ++ x))) (suc (length (m ++ y))) (then_do (listed literal (m ++ x)) closing) (then_do (listed literal (m ++ y)) closing) le
-      (λ p. met_closed x y e st (length (m ++ x)) (listed literal (m ++ x)) (listed literal (m ++ y)) (short 0 (m ++ x) (listed literal (m ++ x)) (told_listed 0 literal (m ++ x) (told_literal 0)))
+      met_enter x y e st d d' (suc (length (m ++ x))) (suc (length (m ++ y))) (then_do (comma_list literal (m ++ x)) closing) (then_do (comma_list literal (m ++ y)) closing) le
+      (λ p. met_closed x y e st (length (m ++ x)) (comma_list literal (m ++ x)) (comma_list literal (m ++ y)) (short 0 (m ++ x) (comma_list literal (m ++ x)) (told_listed 0 literal (m ++ x) (told_literal 0)))
       (met_listed x y e st 0 literal literal (told_literal 0) (met_literal x y e st) m))
   met_members (_ ∷ m) = tt
 
   met_leaf : (l : ℕ) (a : Tree) (m : List Kind) → Met x y e (at_level l (suc (length (m ++ x))) (Ok (a, m ++ x))) (at_level l (suc (length (m ++ y))) (Ok (a, m ++ y)))
   met_leaf l a m = met_at_level x y e st l (suc (length (m ++ x))) (suc (length (m ++ y))) (Ok (a, m ++ x)) (Ok (a, m ++ y)) (stays x y e st a m)
 
-  met_field_prim : (l : ℕ) (o : Bool) (place place' : ℕ) (m : List Kind) → Met x y e (at_level l place (res_map field_tree (named o (m ++ x)))) (at_level l place' (res_map field_tree (named o (m ++ y))))
+  met_field_prim : (l : ℕ) (o : Bool) (place place' : ℕ) (m : List Kind) → Met x y e (at_level l place (res_map field_tree (named_field o (m ++ x)))) (at_level l place' (res_map field_tree (named_field o (m ++ y))))
   met_field_prim l o place place' m =
-      met_at_level x y e st l place place' (res_map field_tree (named o (m ++ x))) (res_map field_tree (named o (m ++ y))) (met_map x y e st field_tree (named o (m ++ x)) (named o (m ++ y)) (met_named x y e st o m))
+      met_at_level x y e st l place place' (res_map field_tree (named_field o (m ++ x))) (res_map field_tree (named_field o (m ++ y))) (met_map x y e st field_tree (named_field o (m ++ x)) (named_field o (m ++ y)) (met_named x y e st o m))
 
   met_call : (l : ℕ) (w : List ℕ) (m : List Kind) → Met x y e (r.prim (room_for d) inner l (name w ∷ open_ ∷ (m ++ x))) (r.prim (room_for d') inner' l (name w ∷ open_ ∷ (m ++ y)))
   met_call l w m =
@@ -184,8 +184,8 @@ module _ (x y : List Kind) (e : Fail) (st : Instead x y e) (d d' : ℕ) (inner i
   met_prim l (number n ∷ m) = met_leaf l (t.long n) m
   met_prim l (text s ∷ m) = met_leaf l (t.str s) m
   met_prim l (name w ∷ []) =
-      both_are x y e (r.prim (room_for d) inner l (name w ∷ x)) (at_level l (suc (length x)) (res_map field_tree (named false (name w ∷ x)))) (r.prim (room_for d') inner' l (name w ∷ y))
-      (at_level l (suc (length y)) (res_map field_tree (named false (name w ∷ y)))) (name_alone (room_for d) inner l w x y e st).0 (name_alone (room_for d') inner' l w x y e st).1
+      both_are x y e (r.prim (room_for d) inner l (name w ∷ x)) (at_level l (suc (length x)) (res_map field_tree (named_field false (name w ∷ x)))) (r.prim (room_for d') inner' l (name w ∷ y))
+      (at_level l (suc (length y)) (res_map field_tree (named_field false (name w ∷ y)))) (name_alone (room_for d) inner l w x y e st).0 (name_alone (room_for d') inner' l w x y e st).1
       (met_field_prim l false (suc (length x)) (suc (length y)) (name w ∷ []))
   met_prim l (name w ∷ open_ ∷ m) = met_call l w m
   met_prim l (name w ∷ k ∷ m) = met_field_prim l false (suc (suc (length (m ++ x)))) (suc (suc (length (m ++ y)))) (name w ∷ k ∷ m)
@@ -262,17 +262,17 @@ module _ (x y : List Kind) (e : Fail) (st : Instead x y e) (d d' : ℕ) (inner i
 
   met_conj : (l : ℕ) (m : List Kind) → Met x y e (r.conj (room_for d) inner l (m ++ x)) (r.conj (room_for d') inner' l (m ++ y))
   met_conj l m =
-      met_then x y e st (length (m ++ x)) (r.neg (room_for d) inner l (m ++ x)) (r.neg (room_for d') inner' l (m ++ y)) (joined is_and t.and (r.neg (room_for d) inner) l) (joined is_and t.and (r.neg (room_for d') inner') l)
+      met_then x y e st (length (m ++ x)) (r.neg (room_for d) inner l (m ++ x)) (r.neg (room_for d') inner' l (m ++ y)) (joined_operands is_and t.and (r.neg (room_for d) inner) l) (joined_operands is_and t.and (r.neg (room_for d') inner') l)
       (short d (m ++ x) (r.neg (room_for d) inner l (m ++ x)) (told_neg d inner told l (m ++ x))) (met_neg l m)
       (λ a p b. met_joined x y e st d (r.neg (room_for d) inner) (r.neg (room_for d') inner') (told_neg d inner told) met_neg is_and t.and refl refl (refl, refl, refl, refl, refl, refl, refl, λ w. refl, λ w. refl) l a p)
-      (λ a us. short d us (joined is_and t.and (r.neg (room_for d) inner) l a us) (told_joined d is_and t.and (r.neg (room_for d) inner) l a us refl refl (told_neg d inner told)))
+      (λ a us. short d us (joined_operands is_and t.and (r.neg (room_for d) inner) l a us) (told_joined d is_and t.and (r.neg (room_for d) inner) l a us refl refl (told_neg d inner told)))
 
   met_level : (l : ℕ) (m : List Kind) → Met x y e (r.level (room_for d) inner l (m ++ x)) (r.level (room_for d') inner' l (m ++ y))
   met_level l m =
-      met_then x y e st (length (m ++ x)) (r.conj (room_for d) inner l (m ++ x)) (r.conj (room_for d') inner' l (m ++ y)) (joined is_or t.or (r.conj (room_for d) inner) l) (joined is_or t.or (r.conj (room_for d') inner') l)
+      met_then x y e st (length (m ++ x)) (r.conj (room_for d) inner l (m ++ x)) (r.conj (room_for d') inner' l (m ++ y)) (joined_operands is_or t.or (r.conj (room_for d) inner) l) (joined_operands is_or t.or (r.conj (room_for d') inner') l)
       (short d (m ++ x) (r.conj (room_for d) inner l (m ++ x)) (told_conj d inner told l (m ++ x))) (met_conj l m)
       (λ a p b. met_joined x y e st d (r.conj (room_for d) inner) (r.conj (room_for d') inner') (told_conj d inner told) met_conj is_or t.or refl refl (refl, refl, refl, refl, refl, refl, refl, λ w. refl, λ w. refl) l a p)
-      (λ a us. short d us (joined is_or t.or (r.conj (room_for d) inner) l a us) (told_joined d is_or t.or (r.conj (room_for d) inner) l a us refl refl (told_conj d inner told)))
+      (λ a us. short d us (joined_operands is_or t.or (r.conj (room_for d) inner) l a us) (told_joined d is_or t.or (r.conj (room_for d) inner) l a us refl refl (told_conj d inner told)))
 
 -- with as many parentheses allowed in the second run, or more
 pub expr_met : (x y : List Kind) (e : Fail) → Instead x y e → (d d' l : ℕ) (m : List Kind) → d ≤ d' → Met x y e (expr d l (m ++ x)) (expr d' l (m ++ y))

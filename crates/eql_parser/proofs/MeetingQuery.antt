@@ -15,7 +15,7 @@ use Rattle.eql_parser.specs.QueryGrammar.{category, is_fine_unit, pipe_of, unit_
 use Rattle.eql_query.specs.declared.expr.PatOp.TheVariants.{Colon}
 use Rattle.eql_parser.specs.Reading.{Fail, Syntax, LeftOut, TooDeep, Res, then_do, res_map, field, expr, chain_from, unary, neg}
 use Rattle.eql_parser.specs.QueryReading as q
-use Rattle.eql_parser.specs.QueryReading.{Conditioned, expected, is_where, is_maxspan, is_runs, is_assign, is_open_item, is_close_item, number_at, term_tree_of, items_more, unit_named, unit_at, pipe_named, behind_term, behind_body}
+use Rattle.eql_parser.specs.QueryReading.{Conditioned, behind_expected, is_where, is_maxspan, is_runs, is_assign, is_open_item, is_close_item, number_at, term_tree_of, items_more, unit_named, unit_at, pipe_named, behind_term, behind_body}
 use Rattle.eql_parser.proofs.Told.{told_field}
 use Rattle.eql_parser.proofs.ToldExpr.{expr_told}
 use Rattle.eql_parser.proofs.Agrees.{short_map, longer}
@@ -107,7 +107,7 @@ if_not x y e true r s f h = absurd cc
 abbrev Unasked : (Kind → Bool) → Type 0
 Unasked is = (is (matches Colon) ≡ false) × (is open_item_ ≡ false) × (is assign_ ≡ false) × (is bar_ ≡ false) × ((w : List ℕ) → is (folding w) ≡ false)
 
-at_expected : {A : Type 0} (is : Kind → Bool) → Unasked is → (go go' : List Kind → Res A) (x y : List Kind) (e : Fail) → Instead x y e → Met x y e (expected is go x) (expected is go' y)
+at_expected : {A : Type 0} (is : Kind → Bool) → Unasked is → (go go' : List Kind → Res A) (x y : List Kind) (e : Fail) → Instead x y e → Met x y e (behind_expected is go x) (behind_expected is go' y)
 at_expected is z go go' _ _ _ for_regex = if_not _ _ _ _ (go _) _ _ z.0
 at_expected is z go go' _ _ _ for_folding_regex = if_not _ _ _ _ (go _) _ _ z.0
 at_expected is z go go' _ _ _ for_missing = if_not _ _ _ _ (go _) _ _ z.1
@@ -148,7 +148,7 @@ at_runs _ _ _ (for_pipe h) = inl ([], refl, refl)
 at_runs _ _ _ (for_number call c b h args) = inl ([], refl, refl)
 
 -- behind `with runs` a number of runs is read where a length could be
-at_assigned : (x y : List Kind) (e : Fail) → Instead x y e → Meets x y e (expected is_assign number_at x) (expected is_assign number_at y)
+at_assigned : (x y : List Kind) (e : Fail) → Instead x y e → Meets x y e (behind_expected is_assign number_at x) (behind_expected is_assign number_at y)
 at_assigned _ _ _ for_regex = tt
 at_assigned _ _ _ for_folding_regex = tt
 at_assigned _ _ _ for_missing = tt
@@ -159,7 +159,7 @@ at_assigned _ _ _ (for_number call c b h args) = tt
 abbrev length_at : List Kind → Res (Option Span)
 length_at us = then_do (number_at us) unit_at
 
-at_length : (x y : List Kind) (e : Fail) → Instead x y e → Met x y e (expected is_assign length_at x) (expected is_assign length_at y)
+at_length : (x y : List Kind) (e : Fail) → Instead x y e → Met x y e (behind_expected is_assign length_at x) (behind_expected is_assign length_at y)
 at_length _ _ _ for_regex = tt
 at_length _ _ _ for_folding_regex = tt
 at_length _ _ _ for_missing = tt
@@ -237,8 +237,8 @@ stuck_body x y e b [] t h = absurd h
 stuck_body x y e b (_ ∷ us) t h = absurd h
 
 module _ (x y : List Kind) (e : Fail) (st : Instead x y e) where
-  met_expected : {A : Type 0} (is : Kind → Bool) (go go' : List Kind → Res A) (m : List Kind) → Met x y e (expected is go x) (expected is go' y)
-      → ((p : List Kind) → Met x y e (go (p ++ x)) (go' (p ++ y))) → Met x y e (expected is go (m ++ x)) (expected is go' (m ++ y))
+  met_expected : {A : Type 0} (is : Kind → Bool) (go go' : List Kind → Res A) (m : List Kind) → Met x y e (behind_expected is go x) (behind_expected is go' y)
+      → ((p : List Kind) → Met x y e (go (p ++ x)) (go' (p ++ y))) → Met x y e (behind_expected is go (m ++ x)) (behind_expected is go' (m ++ y))
   met_expected is go go' [] w h = w
   met_expected is go go' (k ∷ m) w h = met_if x y e st (is k) (go (m ++ x)) (go' (m ++ y)) (Err (Syntax (suc (length (m ++ x))))) (Err (Syntax (suc (length (m ++ y))))) (h m) tt
 
@@ -246,8 +246,8 @@ module _ (x y : List Kind) (e : Fail) (st : Instead x y e) where
   meets_if true r r' f f' h = h
   meets_if false r r' f f' h = tt
 
-  meets_expected : {A : Type 0} (is : Kind → Bool) (go go' : List Kind → Res A) (m : List Kind) → Meets x y e (expected is go x) (expected is go' y)
-      → ((p : List Kind) → Meets x y e (go (p ++ x)) (go' (p ++ y))) → Meets x y e (expected is go (m ++ x)) (expected is go' (m ++ y))
+  meets_expected : {A : Type 0} (is : Kind → Bool) (go go' : List Kind → Res A) (m : List Kind) → Meets x y e (behind_expected is go x) (behind_expected is go' y)
+      → ((p : List Kind) → Meets x y e (go (p ++ x)) (go' (p ++ y))) → Meets x y e (behind_expected is go (m ++ x)) (behind_expected is go' (m ++ y))
   meets_expected is go go' [] w h = w
   meets_expected is go go' (k ∷ m) w h = meets_if (is k) (go (m ++ x)) (go' (m ++ y)) (Syntax (suc (length (m ++ x)))) (Syntax (suc (length (m ++ y)))) (h m)
 
@@ -264,8 +264,8 @@ module _ (x y : List Kind) (e : Fail) (st : Instead x y e) where
   meets_runs : (m : List Kind) → Meets x y e (q.runs (m ++ x)) (q.runs (m ++ y))
   meets_runs [] = at_runs x y e st
   meets_runs (with_ ∷ m) =
-      meets_expected is_runs (expected is_assign number_at) (expected is_assign number_at) m
-      (meets x y e (expected is_runs (expected is_assign number_at) x) (expected is_runs (expected is_assign number_at) y) (at_expected is_runs (refl, refl, refl, refl, λ w. refl) (expected is_assign number_at) (expected is_assign number_at) x y e st))
+      meets_expected is_runs (behind_expected is_assign number_at) (behind_expected is_assign number_at) m
+      (meets x y e (behind_expected is_runs (behind_expected is_assign number_at) x) (behind_expected is_runs (behind_expected is_assign number_at) y) (at_expected is_runs (refl, refl, refl, refl, λ w. refl) (behind_expected is_assign number_at) (behind_expected is_assign number_at) x y e st))
       (λ p. meets_expected is_assign number_at number_at p (at_assigned x y e st) (λ r. meets x y e (number_at (r ++ x)) (number_at (r ++ y)) (met_number r)))
   meets_runs (k ∷ m) = inl (k ∷ m, refl, refl)
 
@@ -290,8 +290,8 @@ module _ (x y : List Kind) (e : Fail) (st : Instead x y e) where
   met_span : (m : List Kind) → Met x y e (q.span (m ++ x)) (q.span (m ++ y))
   met_span [] = at_span x y e st
   met_span (with_ ∷ m) =
-      met_expected is_maxspan (expected is_assign length_at) (expected is_assign length_at) m
-      (at_expected is_maxspan (refl, refl, refl, refl, λ w. refl) (expected is_assign length_at) (expected is_assign length_at) x y e st)
+      met_expected is_maxspan (behind_expected is_assign length_at) (behind_expected is_assign length_at) m
+      (at_expected is_maxspan (refl, refl, refl, refl, λ w. refl) (behind_expected is_assign length_at) (behind_expected is_assign length_at) x y e st)
       (λ p. met_expected is_assign length_at length_at p (at_length x y e st) met_length)
   met_span (k ∷ m) = stays x y e st {A = Option Span} None (k ∷ m)
 
@@ -329,17 +329,17 @@ null_read (suc d) zero us = inl (TooDeep (suc (suc (length us))), refl)
 null_read (suc d) (suc l) us = inr (t.null, refl)
 
 null_stuck : (d l : ℕ) (x y : List Kind) (e : Fail) (us : List Kind) (s : Res (Conditioned × List FieldRef))
-    → Meets x y e (q.bracketed (expr d l) (open_item_ ∷ any_ ∷ where_ ∷ null_ ∷ close_item_ ∷ with_ ∷ us)) s
+    → Meets x y e (q.bracketed_term (expr d l) (open_item_ ∷ any_ ∷ where_ ∷ null_ ∷ close_item_ ∷ with_ ∷ us)) s
 null_stuck d l x y e us s =
     let make : Tree → Conditioned = λ c. (None, c) in
     ⊎_elim
     (λ f. subst (λ r. Meets x y e (then_do (res_map make r) behind_term) s) (sym f.1) tt)
     (λ c. subst (λ r. Meets x y e (then_do (res_map make r) behind_term) s) (sym c.1) (inr (inr tt))) (null_read d l (with_ ∷ us))
 
-at_bracketed : (d d' l : ℕ) (x y : List Kind) (e : Fail) → Instead x y e → Meets x y e (q.bracketed (expr d l) x) (q.bracketed (expr d' l) y)
+at_bracketed : (d d' l : ℕ) (x y : List Kind) (e : Fail) → Instead x y e → Meets x y e (q.bracketed_term (expr d l) x) (q.bracketed_term (expr d' l) y)
 at_bracketed d d' l _ _ _ for_regex = tt
 at_bracketed d d' l _ _ _ for_folding_regex = tt
-at_bracketed d d' l _ _ _ (for_missing {c = c} {b = b}) = null_stuck d l (open_item_ ∷ any_ ∷ where_ ∷ null_ ∷ close_item_ ∷ with_ ∷ c) (bang_ ∷ open_item_ ∷ b) (LeftOut (codes "!") (suc (suc (length b)))) c (q.bracketed (expr d' l) (bang_ ∷ open_item_ ∷ b))
+at_bracketed d d' l _ _ _ (for_missing {c = c} {b = b}) = null_stuck d l (open_item_ ∷ any_ ∷ where_ ∷ null_ ∷ close_item_ ∷ with_ ∷ c) (bang_ ∷ open_item_ ∷ b) (LeftOut (codes "!") (suc (suc (length b)))) c (q.bracketed_term (expr d' l) (bang_ ∷ open_item_ ∷ b))
 at_bracketed d d' l _ _ _ (for_unit h) = tt
 at_bracketed d d' l _ _ _ (for_pipe h) = tt
 at_bracketed d d' l _ _ _ (for_number call c b h args) = tt
@@ -397,19 +397,19 @@ module _ (x y : List Kind) (e : Fail) (st : Instead x y e) (d d' l : ℕ) (le : 
   met_term [] = at_term d d' l x y e st
   met_term (k ∷ m) = met_term_of (category k) m
 
-  met_bracketed : (k : Kind) (m : List Kind) → Met x y e (q.bracketed (expr d l) (k ∷ (m ++ x))) (q.bracketed (expr d' l) (k ∷ (m ++ y)))
+  met_bracketed : (k : Kind) (m : List Kind) → Met x y e (q.bracketed_term (expr d l) (k ∷ (m ++ x))) (q.bracketed_term (expr d' l) (k ∷ (m ++ y)))
   met_bracketed k m =
       met_if x y e st (is_open_item k) (then_do (q.term (expr d l) (m ++ x)) behind_term) (then_do (q.term (expr d' l) (m ++ y)) behind_term) (Err (Syntax (suc (length (m ++ x))))) (Err (Syntax (suc (length (m ++ y)))))
       (then_met x y e (q.term (expr d l) (m ++ x)) (q.term (expr d' l) (m ++ y)) behind_term behind_term (met_term m) (λ c p. met_behind_term x y e st c p)) tt
 
-  meets_bracketed : (m : List Kind) → Meets x y e (q.bracketed (expr d l) (m ++ x)) (q.bracketed (expr d' l) (m ++ y))
+  meets_bracketed : (m : List Kind) → Meets x y e (q.bracketed_term (expr d l) (m ++ x)) (q.bracketed_term (expr d' l) (m ++ y))
   meets_bracketed [] = at_bracketed d d' l x y e st
-  meets_bracketed (k ∷ m) = meets x y e (q.bracketed (expr d l) (k ∷ (m ++ x))) (q.bracketed (expr d' l) (k ∷ (m ++ y))) (met_bracketed k m)
+  meets_bracketed (k ∷ m) = meets x y e (q.bracketed_term (expr d l) (k ∷ (m ++ x))) (q.bracketed_term (expr d' l) (k ∷ (m ++ y))) (met_bracketed k m)
 
   meets_item_here : (k : Kind) (m : List Kind)
-      → Meets x y e (then_do (q.bracketed (expr d l) (k ∷ (m ++ x))) (λ c us. res_map (term_tree_of c.0 c.1) (q.runs us))) (then_do (q.bracketed (expr d' l) (k ∷ (m ++ y))) (λ c us. res_map (term_tree_of c.0 c.1) (q.runs us)))
+      → Meets x y e (then_do (q.bracketed_term (expr d l) (k ∷ (m ++ x))) (λ c us. res_map (term_tree_of c.0 c.1) (q.runs us))) (then_do (q.bracketed_term (expr d' l) (k ∷ (m ++ y))) (λ c us. res_map (term_tree_of c.0 c.1) (q.runs us)))
   meets_item_here k m =
-      met_meets x y e (q.bracketed (expr d l) (k ∷ (m ++ x))) (q.bracketed (expr d' l) (k ∷ (m ++ y))) (λ c us. res_map (term_tree_of c.0 c.1) (q.runs us)) (λ c us. res_map (term_tree_of c.0 c.1) (q.runs us)) (met_bracketed k m)
+      met_meets x y e (q.bracketed_term (expr d l) (k ∷ (m ++ x))) (q.bracketed_term (expr d' l) (k ∷ (m ++ y))) (λ c us. res_map (term_tree_of c.0 c.1) (q.runs us)) (λ c us. res_map (term_tree_of c.0 c.1) (q.runs us)) (met_bracketed k m)
       (λ c p. meets_map x y e (term_tree_of c.0 c.1) (q.runs (p ++ x)) (q.runs (p ++ y)) (meets_runs x y e st p))
 
   bang_none : (us : List Kind) (s : Res TermTree) → Meets x y e (q.item (expr d l) (bang_ ∷ us)) s
@@ -445,7 +445,7 @@ module _ (x y : List Kind) (e : Fail) (st : Instead x y e) (d d' l : ℕ) (le : 
 
   meets_until : (m : List Kind) → Meets x y e (q.until (expr d l) (m ++ x)) (q.until (expr d' l) (m ++ y))
   meets_until [] = at_until d d' l x y e st
-  meets_until (until_ ∷ m) = meets_map x y e (λ c. Some (term_tree_of c.0 c.1 (pos 1))) (q.bracketed (expr d l) (m ++ x)) (q.bracketed (expr d' l) (m ++ y)) (meets_bracketed m)
+  meets_until (until_ ∷ m) = meets_map x y e (λ c. Some (term_tree_of c.0 c.1 (pos 1))) (q.bracketed_term (expr d l) (m ++ x)) (q.bracketed_term (expr d' l) (m ++ y)) (meets_bracketed m)
   meets_until (k ∷ m) = inl (k ∷ m, refl, refl)
 
   meets_behind_items : (fs : List FieldRef) (s : Option Span) (is : List TermTree) (m : List Kind) → Meets x y e (q.behind_items (expr d l) fs s is (m ++ x)) (q.behind_items (expr d' l) fs s is (m ++ y))

@@ -9,15 +9,15 @@ use Rattle.eql_parser.specs.Kinds.{Kind, kinds, dot_}
 use Rattle.eql_parser.specs.Grammar.{first_part}
 use Rattle.eql_parser.specs.Marks.{Lacks}
 use Rattle.eql_parser.specs.Pieces.{BeginsNoPart, IsPart}
-use Rattle.eql_parser.specs.Reading.{Syntax, Res, dotted, behind_dot, dotted_part, named, named_by}
+use Rattle.eql_parser.specs.Reading.{Syntax, Res, dotted, behind_dot, dotted_part, named_field, named_by}
 use Rattle.eql_parser.proofs.Defaults.{length_kinds, refused_here}
 
 no_first : (o : Bool) (p : Option (List ℕ)) (us : List Kind) → None ≡ p → named_by o p us ≡ Err (Syntax (suc (length us)))
 no_first o None us h = refl
 no_first o (Some w) us h = cc
 
-pub no_first_part : (o : Bool) (ts : List Token) (k : Kind) (us : List Kind) → kinds ts ≡ k ∷ us → None ≡ first_part k → named o (kinds ts) ≡ Err (Syntax (length ts))
-no_first_part o ts k us e h = refused_here ts k us e (named o) (no_first o (first_part k) us h)
+pub no_first_part : (o : Bool) (ts : List Token) (k : Kind) (us : List Kind) → kinds ts ≡ k ∷ us → None ≡ first_part k → named_field o (kinds ts) ≡ Err (Syntax (length ts))
+no_first_part o ts k us e h = refused_here ts k us e (named_field o) (no_first o (first_part k) us h)
 
 one_turn : (n m : ℕ) (w : List ℕ) (ts us : List Kind) → n ≡ suc m → ts ≡ dot_ ∷ us → dotted n w ts ≡ behind_dot (dotted m) w us
 unfolding dotted

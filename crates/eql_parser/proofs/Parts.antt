@@ -20,7 +20,7 @@ use Rattle.eql_parser.specs.Marks.{BeginsNoCall, Lacks}
 use Rattle.eql_parser.specs.Pieces.{piece_kind}
 use Rattle.eql_parser.specs.Limits.{depth}
 use Rattle.eql_parser.specs.Answering.{Answers, Stops, StopLeavesOut, constant_tree, room, inner, call_read}
-use Rattle.eql_parser.specs.Reading.{Syntax, LeftOut, Res, res_map, at_level, behind_not, behind_sum, field_tree, field, named, prim}
+use Rattle.eql_parser.specs.Reading.{Syntax, LeftOut, Res, res_map, at_level, behind_not, behind_sum, field_tree, field, named_field, prim}
 use Rattle.eql_parser.proofs.Defaults.{length_kinds, refused_here}
 
 pub as_read : {A X : Type 0} (view : X → A) (x : Result (X × Bor (List Token)) Stop) (r s : Res A) → r ≡ s → Answers view x r → Answers view x s
@@ -40,7 +40,7 @@ stops_by (stop.TooOpen m) w v n r h f q = absurd h
 
 -- a name that isn't called
 pub name_alone : (d l : ℕ) (w : List ℕ) (us : List Kind) → Lacks m.Open us
-    → prim (room d) (inner d) l (name w ∷ us) ≡ at_level l (suc (length us)) (res_map field_tree (named false (name w ∷ us)))
+    → prim (room d) (inner d) l (name w ∷ us) ≡ at_level l (suc (length us)) (res_map field_tree (named_field false (name w ∷ us)))
 name_alone d l w [] h = refl
 name_alone d l w (open_ ∷ us) h = absurd (h refl)
 name_alone d l w (_ ∷ us) h = refl

@@ -21,7 +21,7 @@ use Rattle.eql_parser.specs.Pieces.{piece_kind}
 use Rattle.eql_parser.specs.Answering.{Stops, onto}
 use Rattle.eql_parser.specs.QueryAnswering.{BeginsNoMissing, LacksRuns, StopsAtNoUnit, event_view}
 use Rattle.eql_parser.specs.Reading.{Syntax, LeftOut, Res, then_do, res_map}
-use Rattle.eql_parser.specs.QueryReading.{expected, is_where, is_maxspan, is_runs, is_assign, is_open_item, is_close_item, number_at, keys, runs, term_of, term, term_tree_of, bracketed, item, items, items_more, is_fine_unit, unit_named, unit_at, span, pipe, pipes, until, body}
+use Rattle.eql_parser.specs.QueryReading.{behind_expected, is_where, is_maxspan, is_runs, is_assign, is_open_item, is_close_item, number_at, keys, runs, term_of, term, term_tree_of, bracketed_term, item, items, items_more, is_fine_unit, unit_named, unit_at, span, pipe, pipes, until, body}
 use Rattle.eql_parser.proofs.Defaults.{length_kinds, refused_here}
 use Rattle.eql_parser.proofs.Separated.{Ends, stops_as, stops_then, stops_map, onto_nothing}
 
@@ -54,12 +54,12 @@ pub lacks_runs : (ts : List Kind) → LacksRuns ts → Ends is_runs ts
 lacks_runs [] h = tt
 lacks_runs (k ∷ ts) h = h
 
-pub expected_not : {A : Type 0} (is : Kind → Bool) (go : List Kind → Res A) (ts : List Token) → Ends is (kinds ts) → expected is go (kinds ts) ≡ Err (Syntax (length ts))
+pub expected_not : {A : Type 0} (is : Kind → Bool) (go : List Kind → Res A) (ts : List Token) → Ends is (kinds ts) → behind_expected is go (kinds ts) ≡ Err (Syntax (length ts))
 expected_not is go [] h = refl
 expected_not is go (t ∷ ts) h = rw h (ap (λ n. Err (Syntax (suc n))) (length_kinds ts))
 
-pub expected_is : {A : Type 0} (is : Kind → Bool) (go : List Kind → Res A) (ts : List Kind) (k : Kind) (us : List Kind) → ts ≡ k ∷ us → is k ≡ true → expected is go ts ≡ go us
-expected_is is go ts k us e h = ap (expected is go) e ∙ ap (λ b. if b then go us else Err (Syntax (suc (length us)))) h
+pub expected_is : {A : Type 0} (is : Kind → Bool) (go : List Kind → Res A) (ts : List Kind) (k : Kind) (us : List Kind) → ts ≡ k ∷ us → is k ≡ true → behind_expected is go ts ≡ go us
+expected_is is go ts k us e h = ap (behind_expected is go) e ∙ ap (λ b. if b then go us else Err (Syntax (suc (length us)))) h
 
 no_count_first : (x : Piece) (us : List Kind) → ((n : ℤ) → x ≡ p.Number n → ⊥) → number_at (piece_kind x ∷ us) ≡ Err (Syntax (suc (length us)))
 no_count_first (p.Number n) us h = absurd (h n refl)
@@ -183,7 +183,7 @@ module _ (condition : List Kind → Res Tree) where
   pub missing_item : (ts : List Token) (us : List Kind) → kinds ts ≡ bang_ ∷ open_item_ ∷ us → item condition (kinds ts) ≡ Err (LeftOut (codes "!") (length ts))
   missing_item ts us e = ap (item condition) e ∙ ap (λ n. Err (LeftOut (codes "!") n)) (sym (ap length e) ∙ length_kinds ts)
 
-  pub plain_item : (ts : List Kind) → BeginsNoMissing ts → item condition ts ≡ then_do (bracketed condition ts) (λ x us. res_map (term_tree_of x.0 x.1) (runs us))
+  pub plain_item : (ts : List Kind) → BeginsNoMissing ts → item condition ts ≡ then_do (bracketed_term condition ts) (λ x us. res_map (term_tree_of x.0 x.1) (runs us))
   plain_item [] h = refl
   plain_item (bang_ ∷ []) h = refl
   plain_item (bang_ ∷ open_item_ ∷ ts) h = absurd h

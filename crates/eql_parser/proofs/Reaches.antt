@@ -6,7 +6,7 @@ use Rattle.eql_query.specs.Tree as t
 use Rattle.eql_query.specs.View.{trees_of}
 use Rattle.eql_parser.specs.Kinds.{Kind}
 use Rattle.eql_parser.specs.Limits.{depth}
-use Rattle.eql_parser.specs.Reading.{Fail, TooDeep, Res, then_do, res_map, more_of, separated, above, chain_on, chain_from, joined}
+use Rattle.eql_parser.specs.Reading.{Fail, TooDeep, Res, then_do, res_map, more_of, separated, above, chain_on, chain_from, joined_operands}
 use Rattle.eql_parser.proofs.Rows.{Row, last_of, next_of}
 use Rattle.eql_parser.proofs.Agrees.{which}
 use Rattle.eql_parser.proofs.Levels.{above_deep}
@@ -90,10 +90,10 @@ module _ (most : ℕ) where
 
   pub reaches_joined : (is_between : Kind → Bool) (node : Trees → Tree) (read : ℕ → ℕ → List Kind → Res Tree) (l : ℕ) (e : Tree) (k : Kind) (us : List Kind) (es : List Tree) (rest : List Kind)
       → is_between k ≡ true → (most ≤ suc (length us) → depth e < l) → Reaches most (λ d. separated is_between (read d (l - 1)) (length us) us) (es, rest)
-      → Reaches most (λ d. joined is_between node (read d) l e (k ∷ us)) (node (more e (trees_of es)), rest)
+      → Reaches most (λ d. joined_operands is_between node (read d) l e (k ∷ us)) (node (more e (trees_of es)), rest)
   reaches_joined is_between node read l e k us es rest b less r =
       let make : List Tree → Tree = λ xs. node (more e (trees_of xs)) in
-      reaches_same (λ d. above l e (suc (length us)) (res_map make (separated is_between (read d (l - 1)) (length us) us))) (λ d. joined is_between node (read d) l e (k ∷ us)) (node (more e (trees_of es)), rest)
+      reaches_same (λ d. above l e (suc (length us)) (res_map make (separated is_between (read d (l - 1)) (length us) us))) (λ d. joined_operands is_between node (read d) l e (k ∷ us)) (node (more e (trees_of es)), rest)
       (λ d. if_true (is_between k) (above l e (suc (length us)) (res_map make (separated is_between (read d (l - 1)) (length us) us))) (Ok (e, k ∷ us)) b)
       (reaches_above l e (length us) (λ d. res_map make (separated is_between (read d (l - 1)) (length us) us)) (node (more e (trees_of es)), rest) less
       (reaches_map (λ d. separated is_between (read d (l - 1)) (length us) us) make es rest r))

@@ -10,20 +10,20 @@ use Rattle.eql_parser.specs.Kinds.{Kind, bang_, bar_, by_, join_, maxspan_, samp
 use Rattle.eql_parser.specs.Grammar.{IsExpr}
 use Rattle.eql_parser.specs.QueryGrammar.{category, pipe_of, unit_of, IsTerm, a_term, IsKey, IsBy, no_keys, by_keys, IsRuns, one_run, some_runs, IsSpan, no_span, a_span, IsBracketed, bracketed, IsItem, an_item, IsItems, last_item, next_item, IsUntil, no_until, an_until, IsBody, one_event, a_sequence, IsPipes, no_pipes, next_pipe, Reads, a_query}
 use Rattle.eql_parser.specs.Limits.{depth, deepest_item, until_depth, body_levels, levels}
-use Rattle.eql_parser.specs.Reading.{Res, then_do, res_map, listed, field, expr}
-use Rattle.eql_parser.specs.QueryReading.{expected, is_where, is_maxspan, is_runs, is_assign, is_open_item, is_close_item, number_at, Conditioned, keys, runs, term_tree_of, behind_term, items_more, unit_named, unit_at, span, pipe_named, pipe, pipes, behind_body, query_by, query}
+use Rattle.eql_parser.specs.Reading.{Res, then_do, res_map, comma_list, field, expr}
+use Rattle.eql_parser.specs.QueryReading.{behind_expected, is_where, is_maxspan, is_runs, is_assign, is_open_item, is_close_item, number_at, Conditioned, keys, runs, term_tree_of, behind_term, items_more, unit_named, unit_at, span, pipe_named, pipe, pipes, behind_body, query_by, query}
 use Rattle.eql_parser.specs.QueryReading as q
 use Rattle.eql_parser.proofs.Rows.{false_not_true, Within}
 use Rattle.eql_parser.proofs.ExprSound.{Gives, gives_then, gives_map, gives_also, gives_if, listed_good, field_good, expr_good}
 
 expected_good : {A : Type 0} (is : Kind → Bool) (go : List Kind → Res A) (P : List Kind → A → List Kind → Type 0)
-    → ((k : Kind) (us : List Kind) → is k ≡ true → Gives (P (k ∷ us)) (go us)) → (ts : List Kind) → Gives (P ts) (expected is go ts)
+    → ((k : Kind) (us : List Kind) → is k ≡ true → Gives (P (k ∷ us)) (go us)) → (ts : List Kind) → Gives (P ts) (behind_expected is go ts)
 expected_good is go P h [] = tt
 expected_good is go P h (k ∷ ts) = gives_if (P (k ∷ ts)) (is k) (go ts) _ (λ b. h k ts b) (λ b. tt)
 
 -- one kind alone is meant
 expects : {A : Type 0} (is : Kind → Bool) (w : Kind) (go : List Kind → Res A) (P : List Kind → A → List Kind → Type 0)
-    → ((k : Kind) → is k ≡ true → k ≡ w) → ((us : List Kind) → Gives (P (w ∷ us)) (go us)) → (ts : List Kind) → Gives (P ts) (expected is go ts)
+    → ((k : Kind) → is k ≡ true → k ≡ w) → ((us : List Kind) → Gives (P (w ∷ us)) (go us)) → (ts : List Kind) → Gives (P ts) (behind_expected is go ts)
 expects is w go P only h ts = expected_good is go P (λ k us b. subst (λ j. Gives (P (j ∷ us)) (go us)) (sym (only k b)) (h us)) ts
 
 pub where_only : (k : Kind) → is_where k ≡ true → k ≡ where_
@@ -55,10 +55,10 @@ number_good (number n ∷ ts) = refl
 number_good _ = tt
 
 keys_good : (ts : List Kind) → Gives (IsBy ts) (keys ts)
-keys_good (by_ ∷ ts) = gives_also (λ fs us. _) (IsBy (by_ ∷ ts)) (listed field ts) (listed_good IsKey field field_good ts) (λ fs us h. by_keys h)
+keys_good (by_ ∷ ts) = gives_also (λ fs us. _) (IsBy (by_ ∷ ts)) (comma_list field ts) (listed_good IsKey field field_good ts) (λ fs us h. by_keys h)
 keys_good _ = no_keys
 
-runs_at : (k : Kind) (us : List Kind) → is_runs k ≡ true → Gives (IsRuns (with_ ∷ k ∷ us)) (expected is_assign number_at us)
+runs_at : (k : Kind) (us : List Kind) → is_runs k ≡ true → Gives (IsRuns (with_ ∷ k ∷ us)) (behind_expected is_assign number_at us)
 runs_at (name w) us b =
     expects is_assign assign_ number_at (λ vs. IsRuns (with_ ∷ name w ∷ vs)) assign_only
     (λ vs. gives_also (IsNumber vs) (IsRuns (with_ ∷ name w ∷ assign_ ∷ vs)) (number_at vs) (number_good vs)
@@ -66,7 +66,7 @@ runs_at (name w) us b =
 runs_at _ us b = false_not_true b
 
 runs_good : (ts : List Kind) → Gives (IsRuns ts) (runs ts)
-runs_good (with_ ∷ ts) = expected_good is_runs (expected is_assign number_at) (λ us. IsRuns (with_ ∷ us)) runs_at ts
+runs_good (with_ ∷ ts) = expected_good is_runs (behind_expected is_assign number_at) (λ us. IsRuns (with_ ∷ us)) runs_at ts
 runs_good _ = one_run
 
 unit_named_good : (n : ℤ) (w : List ℕ) (u : Option TimeUnit) (ts : List Kind) → unit_of w ≡ u → Gives (IsSpan (with_ ∷ maxspan_ ∷ assign_ ∷ number n ∷ name w ∷ ts)) (unit_named n w u ts)
@@ -84,7 +84,7 @@ length_good ts =
 
 span_good : (ts : List Kind) → Gives (IsSpan ts) (span ts)
 span_good (with_ ∷ ts) =
-    expects is_maxspan maxspan_ (expected is_assign (λ us. then_do (number_at us) unit_at)) (λ us. IsSpan (with_ ∷ us)) maxspan_only
+    expects is_maxspan maxspan_ (behind_expected is_assign (λ us. then_do (number_at us) unit_at)) (λ us. IsSpan (with_ ∷ us)) maxspan_only
     (expects is_assign assign_ (λ us. then_do (number_at us) unit_at) (λ us. IsSpan (with_ ∷ maxspan_ ∷ us)) assign_only length_good) ts
 span_good _ = no_span
 
@@ -146,14 +146,14 @@ module _ (l : ℕ) (condition : List Kind → Res Tree) (good : (ts : List Kind)
       (λ vs. gives_map (IsBy vs) (λ x ws. IsConditioned ts c (close_item_ ∷ vs) → IsKeyed (open_item_ ∷ ts) x ws) (keys vs) (λ fs. (c, fs)) (keys_good vs) (λ fs ws i j. (bracketed j.0 i, j.1))) us)
       (λ x ws i. i h)
 
-  bracketed_good : (ts : List Kind) → Gives (IsKeyed ts) (q.bracketed condition ts)
+  bracketed_good : (ts : List Kind) → Gives (IsKeyed ts) (q.bracketed_term condition ts)
   bracketed_good ts =
       expects is_open_item open_item_ (λ us. then_do (q.term condition us) behind_term) IsKeyed open_item_only
       (λ us. gives_then (IsConditioned us) (IsKeyed (open_item_ ∷ us)) (q.term condition us) behind_term (term_good us) (behind_term_good us)) ts
 
-  item_of_good : (ts : List Kind) → Gives (IsOneItem ts) (then_do (q.bracketed condition ts) (λ x us. res_map (term_tree_of x.0 x.1) (runs us)))
+  item_of_good : (ts : List Kind) → Gives (IsOneItem ts) (then_do (q.bracketed_term condition ts) (λ x us. res_map (term_tree_of x.0 x.1) (runs us)))
   item_of_good ts =
-      gives_then (IsKeyed ts) (IsOneItem ts) (q.bracketed condition ts) (λ x us. res_map (term_tree_of x.0 x.1) (runs us)) (bracketed_good ts)
+      gives_then (IsKeyed ts) (IsOneItem ts) (q.bracketed_term condition ts) (λ x us. res_map (term_tree_of x.0 x.1) (runs us)) (bracketed_good ts)
       (λ x us h. gives_map (IsRuns us) (IsOneItem ts) (runs us) (term_tree_of x.0 x.1) (runs_good us) (λ n vs i. (an_item h.0 i, h.1)))
 
   item_good : (ts : List Kind) → Gives (IsOneItem ts) (q.item condition ts)
@@ -179,7 +179,7 @@ module _ (l : ℕ) (condition : List Kind → Res Tree) (good : (ts : List Kind)
 
   until_good : (ts : List Kind) → Gives (IsEnd ts) (q.until condition ts)
   until_good (until_ ∷ ts) =
-      gives_map (IsKeyed ts) (IsEnd (until_ ∷ ts)) (q.bracketed condition ts) (λ x. Some (term_tree_of x.0 x.1 (pos 1))) (bracketed_good ts) (λ x us h. (an_until h.0, h.1))
+      gives_map (IsKeyed ts) (IsEnd (until_ ∷ ts)) (q.bracketed_term condition ts) (λ x. Some (term_tree_of x.0 x.1 (pos 1))) (bracketed_good ts) (λ x us h. (an_until h.0, h.1))
   until_good _ = (no_until, omega arith)
 
   abbrev IsOneBody : List Kind → BodyTree → List Kind → Type 0

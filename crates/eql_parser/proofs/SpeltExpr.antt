@@ -17,7 +17,7 @@ use Rattle.eql_query.specs.declared.expr.MathOp.TheVariants as math
 use Rattle.eql_query.specs.Tree.{Tree, Trees, none, more}
 use Rattle.eql_query.specs.Tree as t
 use Rattle.eql_parser.specs.Grammar.{Joint, by_or, by_and, by_comma}
-use Rattle.eql_parser.specs.Printed.{quoted, doubled, bool_text, cmp_text, pat_text, math_text, member_text, field_shown, texts_shown, patterns_shown, literal_shown, literals_shown, shown, all_shown}
+use Rattle.eql_parser.specs.Printed.{string_shown, name_shown, bool_text, cmp_text, pat_text, math_text, member_text, field_shown, texts_shown, patterns_shown, literal_shown, literals_shown, tree_shown, all_shown}
 use Rattle.eql_parser.proofs.Canonical.{open_tok, close_tok, comma_tok, cmp_sign, pat_tok, math_sign, joint_tok, field_toks, texts_toks, patterns_toks, literal_toks, literals_toks, member_toks, toks, all_toks, called, IsCount, IsName, IsWord, IsCalled, AreTexts, IsGoodLiteral, AreLiterals, Good, AllGood}
 use Rattle.eql_parser.proofs.Spelt as b
 use Rattle.eql_parser.proofs.Spelt.{AfterWord}
@@ -72,10 +72,10 @@ word_s w rest {us} h e k = record { lexes = b.word_s w rest us h e k.lexes }
 pub number_s : (n : ℕ) {rest : List ℕ} {us : List Tok} → n < 2 ^ 63 → AfterNumber rest → Spelt rest us → Spelt (decimal n ++ rest) (tok.Num (pos n) ∷ us)
 number_s n {rest} {us} h e k = record { lexes = m.number_s n rest us h e k.lexes }
 
-pub quoted_s : (s : List ℕ) {rest : List ℕ} {us : List Tok} → scalars s ≡ true → AfterQuote rest → Spelt rest us → Spelt (quoted s rest) (tok.Str s ∷ us)
+pub quoted_s : (s : List ℕ) {rest : List ℕ} {us : List Tok} → scalars s ≡ true → AfterQuote rest → Spelt rest us → Spelt (string_shown s rest) (tok.Str s ∷ us)
 quoted_s s {rest} {us} h e k = record { lexes = q.quoted_s s rest us h e k.lexes }
 
-back_s : (n : List ℕ) {rest : List ℕ} {us : List Tok} → IsName n → AfterQuote rest → Spelt rest us → Spelt (96 ∷ doubled n (96 ∷ rest)) (tok.Back n ∷ us)
+back_s : (n : List ℕ) {rest : List ℕ} {us : List Tok} → IsName n → AfterQuote rest → Spelt rest us → Spelt (96 ∷ name_shown n (96 ∷ rest)) (tok.Back n ∷ us)
 back_s n {rest} {us} h e k = record { lexes = q.back_s n rest us h e k.lexes }
 
 -- what may follow any part
@@ -188,7 +188,7 @@ joint_ends by_or rest = ends_space []
 joint_ends by_and rest = ends_space []
 joint_ends by_comma rest = ends_comma []
 
-call_s : (f : Bool) (w rest : List ℕ) (es : Trees) (us : List Tok) → IsCalled f w → Spelt (all_shown (codes ", ") es (41 ∷ rest)) us → Spelt (shown (t.call w f es) rest) (tok.Word (called f w) ∷ open_tok ∷ us)
+call_s : (f : Bool) (w rest : List ℕ) (es : Trees) (us : List Tok) → IsCalled f w → Spelt (all_shown (codes ", ") es (41 ∷ rest)) us → Spelt (tree_shown (t.call w f es) rest) (tok.Word (called f w) ∷ open_tok ∷ us)
 call_s false w rest es us h k =
     subst (λ cs. Spelt cs (tok.Word w ∷ open_tok ∷ us)) (sym (append_assoc w (codes "(") (all_shown (codes ", ") es (41 ∷ rest))))
     (word_s w (40 ∷ all_shown (codes ", ") es (41 ∷ rest)) h.0 (after_open []) (open_s k))
@@ -198,19 +198,19 @@ call_s true w rest es us h k =
     (word_s (w ++ codes "~") (40 ∷ all_shown (codes ", ") es (41 ∷ rest)) h.0 (after_open []) (open_s k))
 
 mutual
-  pub shown_s : (e : Tree) (rest : List ℕ) (us : List Tok) → Good e → Ends rest → Spelt rest us → Spelt (shown e rest) (toks e us)
+  pub shown_s : (e : Tree) (rest : List ℕ) (us : List Tok) → Good e → Ends rest → Spelt rest us → Spelt (tree_shown e rest) (toks e us)
   shown_s t.null rest us h e k = word_s (codes "null") rest (refl, (refl, (refl, inl refl))) e.0 k
   shown_s (t.bool b) rest us h e k = bool_s b rest us e k
   shown_s (t.long n) rest us h e k = count_s n rest us h e.1 k
   shown_s (t.str s) rest us h e k = quoted_s s h e.2 k
   shown_s (t.field n o) rest us h e k = field_s n o rest us h e k
   shown_s (t.not a) rest us h e k =
-      open_s (word_s (codes "not") (32 ∷ shown a (41 ∷ rest)) (refl, (refl, inl refl)) (ends_space []).0
+      open_s (word_s (codes "not") (32 ∷ tree_shown a (41 ∷ rest)) (refl, (refl, inl refl)) (ends_space []).0
       (space_s (shown_s a (41 ∷ rest) (close_tok ∷ us) h (ends_close rest) (close_s k))))
   shown_s (t.and es) rest us h e k = open_s (all_s by_and es (41 ∷ rest) (close_tok ∷ us) h.1 (ends_close rest) (close_s k))
   shown_s (t.or es) rest us h e k = open_s (all_s by_or es (41 ∷ rest) (close_tok ∷ us) h.1 (ends_close rest) (close_s k))
   shown_s (t.cmp o a b) rest us h e k =
-      open_s (shown_s a (cmp_text o ++ shown b (41 ∷ rest)) (tok.Sign (cmp_sign o) ∷ toks b (close_tok ∷ us)) h.0 (cmp_ends o (shown b (41 ∷ rest)))
+      open_s (shown_s a (cmp_text o ++ tree_shown b (41 ∷ rest)) (tok.Sign (cmp_sign o) ∷ toks b (close_tok ∷ us)) h.0 (cmp_ends o (tree_shown b (41 ∷ rest)))
       (cmp_s o (shown_s b (41 ∷ rest) (close_tok ∷ us) h.1 (ends_close rest) (close_s k))))
   shown_s (t.pattern o a []) rest us h e k = absurd h.1
   shown_s (t.pattern o a (s ∷ [])) rest us h e k =
@@ -224,7 +224,7 @@ mutual
       (member_s f n (literals_shown vs (41 ∷ 41 ∷ rest)) (literals_toks vs (close_tok ∷ close_tok ∷ us)) (literals_s vs (41 ∷ 41 ∷ rest) (close_tok ∷ close_tok ∷ us) h.2 (ends_close []) (close_s (close_s k)))))
   shown_s (t.neg a) rest us h e k = open_s (minus_s (shown_s a (41 ∷ rest) (close_tok ∷ us) h (ends_close rest) (close_s k)))
   shown_s (t.math o a b) rest us h e k =
-      open_s (shown_s a (math_text o ++ shown b (41 ∷ rest)) (tok.Sign (math_sign o) ∷ toks b (close_tok ∷ us)) h.0 (math_ends o (shown b (41 ∷ rest)))
+      open_s (shown_s a (math_text o ++ tree_shown b (41 ∷ rest)) (tok.Sign (math_sign o) ∷ toks b (close_tok ∷ us)) h.0 (math_ends o (tree_shown b (41 ∷ rest)))
       (math_s o (shown_s b (41 ∷ rest) (close_tok ∷ us) h.1 (ends_close rest) (close_s k))))
   shown_s (t.call w f es) rest us h e k = call_s f w rest es (all_toks by_comma es (close_tok ∷ us)) h.0 (all_s by_comma es (41 ∷ rest) (close_tok ∷ us) h.2 (ends_close rest) (close_s k))
 

@@ -14,7 +14,7 @@ use Rattle.eql_query.specs.declared.query.Unit.TheVariants as unit
 use Rattle.eql_query.specs.declared.query.PipeText.{PipeText}
 use Rattle.eql_query.specs.declared.query.PipeText.TheVariants as pipe
 use Rattle.eql_query.specs.QueryTree.{TermTree, BodyTree, event, sequence, QueryTree}
-use Rattle.eql_parser.specs.Printed.{shown, fields_shown, by_shown, category_shown, term_shown, bracketed_shown, runs_shown, items_shown, unit_text, span_shown, until_shown, body_shown, pipes_shown, printed}
+use Rattle.eql_parser.specs.Printed.{tree_shown, fields_shown, by_shown, category_shown, term_shown, bracketed_shown, runs_shown, items_shown, unit_text, span_shown, until_shown, body_shown, pipes_shown, query_shown}
 use Rattle.eql_parser.proofs.Canonical.{comma_tok, toks, IsCount, IsWord}
 use Rattle.eql_parser.proofs.CanonicalQuery.{fields_toks, by_toks, category_toks, term_toks, bracketed_toks, runs_toks, items_toks, span_toks, until_toks, body_toks, pipes_toks, query_toks, GoodKeys, GoodCategory, GoodTerm, GoodTerms, GoodSpan, GoodUntil, GoodBody, GoodPipes}
 use Rattle.eql_parser.proofs.Spelt as b
@@ -38,8 +38,8 @@ category_s (Some c) rest us h e k = quoted_s c h e.2 k
 
 term_s : (i : TermTree) (rest : List ℕ) (us : List Tok) → GoodTerm i → Ends rest → Spelt rest us → Spelt (term_shown i rest) (term_toks i us)
 term_s i rest us h e k =
-    category_s i.category (codes " where " ++ shown i.cond rest) (tok.Word (codes "where") ∷ toks i.cond us) h.0 (ends_space [])
-    (spaced_s (codes "where") (shown i.cond rest) (toks i.cond us) (refl, (refl, (refl, (refl, inl refl)))) (shown_s i.cond rest us h.1 e k))
+    category_s i.category (codes " where " ++ tree_shown i.cond rest) (tok.Word (codes "where") ∷ toks i.cond us) h.0 (ends_space [])
+    (spaced_s (codes "where") (tree_shown i.cond rest) (toks i.cond us) (refl, (refl, (refl, (refl, inl refl)))) (shown_s i.cond rest us h.1 e k))
 
 ends_item : Ends (93 ∷ [])
 ends_item = ((omega arith, refl, refl), (omega arith, refl, refl), (omega arith, refl, refl))
@@ -157,5 +157,5 @@ pipes_s (pipe.Tail n ∷ ps) h =
     space_s (bar_s (spaced_s (codes "tail") (signed_decimal n ++ pipes_shown ps []) (tok.Num n ∷ pipes_toks ps) (refl, (refl, (refl, inl refl)))
     (count_s n (pipes_shown ps []) (pipes_toks ps) h.0 (pipes_end ps).1 (pipes_s ps h.1))))
 
-pub query_s : (q : QueryTree) → GoodBody q.body → GoodPipes q.pipes → b.Lexes (encodes (printed q)) (query_toks q)
+pub query_s : (q : QueryTree) → GoodBody q.body → GoodPipes q.pipes → b.Lexes (encodes (query_shown q)) (query_toks q)
 query_s q h k = (body_s q.body (pipes_shown q.pipes []) (pipes_toks q.pipes) h (pipes_end q.pipes) (pipes_s q.pipes k)).lexes

@@ -10,9 +10,9 @@ use Rattle.eql_lexer.specs.declared.token.Tok.{Tok}
 use Rattle.eql_lexer.specs.declared.token.Tok.TheVariants as tok
 use Rattle.eql_lexer.specs.Bytes.{is_hex, hex_number}
 use Rattle.eql_lexer.specs.Escapes.{escape, unicode}
-use Rattle.eql_lexer.specs.Strings.{IsPlain, IsContent, closed, plain, escaped, triple, quoted_name, name_behind, put, is_name}
+use Rattle.eql_lexer.specs.Strings.{IsPlain, IsContent, closed, plain, escaped, triple, quoted_name, name_behind, with_byte, is_name}
 use Rattle.eql_parser.specs.Printed as p
-use Rattle.eql_parser.specs.Printed.{hex_digit, is_control, all_escaped, quoted, doubled}
+use Rattle.eql_parser.specs.Printed.{hex_digit, is_control, all_escaped, string_shown, name_shown}
 use Rattle.eql_parser.proofs.Canonical.{OneLine, IsThere, IsName}
 use Rattle.eql_parser.proofs.Spelt.{Spelt}
 
@@ -86,7 +86,7 @@ choose : (b : Bool) (xs ys t rest : List ℕ) → (b ≡ true → IsContent (enc
 choose true xs ys t rest h k = h refl
 choose false xs ys t rest h k = k refl
 
-escaped_s : (c : ℕ) (cs s rest : List ℕ) → scalar c ≡ true → IsContent (encodes cs) s rest → IsContent (encodes (p.escaped c cs)) (encode c ++ s) rest
+escaped_s : (c : ℕ) (cs s rest : List ℕ) → scalar c ≡ true → IsContent (encodes cs) s rest → IsContent (encodes (p.char_shown c cs)) (encode c ++ s) rest
 unfolding encode
 escaped_s c cs s rest u k =
     choose (c == 10) _ _ _ rest (λ e. short_s c 10 110 (encodes cs) s rest (equal c 10 e) refl k) (λ n.
@@ -156,7 +156,7 @@ no_triple (c ∷ cs) rest u e =
     let first = encode_filled c in
     first_other _ (first.1 ++ encodes cs) _ first.0 (subst (λ bs. IsContent (encodes (all_escaped (c ∷ cs) (34 ∷ rest))) (bs ++ encodes cs) (encodes rest)) first.2 (content_s (c ∷ cs) rest u))
 
-pub quoted_s : (s rest : List ℕ) (us : List Tok) → scalars s ≡ true → AfterQuote rest → Spelt rest us → Spelt (quoted s rest) (tok.Str s ∷ us)
+pub quoted_s : (s rest : List ℕ) (us : List Tok) → scalars s ≡ true → AfterQuote rest → Spelt rest us → Spelt (string_shown s rest) (tok.Str s ∷ us)
 unfolding encode
 quoted_s s rest us u e k = (encodes rest, (refl, inr (no_triple s rest u e, (encodes s, content_s s rest u, sym (chars-encodes s u)))), k)
 
@@ -199,12 +199,12 @@ pick_name false xs ys t rest h k = k refl
 not_line : (c : ℕ) → (c ≡ 10 → ⊥) → (c == 10) ≡ false
 not_line c h = grind (arith, nat_tests)
 
-doubled_s : (n rest : List ℕ) → OneLine n → AfterQuote rest → quoted_name (encodes (doubled n (96 ∷ rest))) ≡ Some (encodes n, encodes rest)
+doubled_s : (n rest : List ℕ) → OneLine n → AfterQuote rest → quoted_name (encodes (name_shown n (96 ∷ rest))) ≡ Some (encodes n, encodes rest)
 unfolding encode
 doubled_s [] rest h e = closing (encodes rest) (quote_ends rest e)
 doubled_s (c ∷ cs) rest h e =
     let more = doubled_s cs rest h.1 e in
-    pick_name (c == 96) _ _ _ _ (λ same. ap (put 96) more ∙ ap (λ d. Some (encode d ++ encodes cs, encodes rest)) (sym (equal c 96 same)))
+    pick_name (c == 96) _ _ _ _ (λ same. ap (with_byte 96) more ∙ ap (λ d. Some (encode d ++ encodes cs, encodes rest)) (sym (equal c 96 same)))
     (λ other. named_bytes (encode c) _ _ _ (encode_named c other (not_line c h.0)) more)
 
 is_there : (n rest : List ℕ) → IsThere n → is_name (Some (encodes n, rest)) ≡ true
@@ -213,7 +213,7 @@ is_there (c ∷ cs) rest h =
     let first = encode_filled c in
     subst (λ bs. is_name (Some (bs ++ encodes cs, rest)) ≡ true) (sym first.2) refl
 
-pub back_s : (n rest : List ℕ) (us : List Tok) → IsName n → AfterQuote rest → Spelt rest us → Spelt (96 ∷ doubled n (96 ∷ rest)) (tok.Back n ∷ us)
+pub back_s : (n rest : List ℕ) (us : List Tok) → IsName n → AfterQuote rest → Spelt rest us → Spelt (96 ∷ name_shown n (96 ∷ rest)) (tok.Back n ∷ us)
 unfolding encode
 back_s n rest us h e k =
     let found = doubled_s n rest h.1 e in

@@ -7,7 +7,7 @@ use Rattle.eql_query.specs.View.{trees_of}
 use Rattle.eql_parser.specs.Kinds.{Kind, open_, close_}
 use Rattle.eql_parser.specs.Limits.{depth}
 use Rattle.eql_parser.specs.Refusing.{IsLeftOut}
-use Rattle.eql_parser.specs.Reading.{Fail, Syntax, LeftOut, TooDeep, TooOpen, Res, then_do, res_map, closing, more_of, separated, at_level, above, chain_on, chain_from, chain, joined}
+use Rattle.eql_parser.specs.Reading.{Fail, Syntax, LeftOut, TooDeep, TooOpen, Res, then_do, res_map, closing, more_of, separated, at_level, above, chain_on, chain_from, chain, joined_operands}
 use Rattle.eql_parser.proofs.Rows.{Row, last_of, next_of}
 
 -- these tokens spell a form, whatever follows
@@ -242,11 +242,11 @@ module _ (is_between : Kind → Bool) (node : Trees → Tree) (read : ℕ → Li
       (tells_map (Row is_between One) (λ vs c rest. (ts : List Kind) → One ts e (k ∷ vs) → Whole ts c rest) us (λ es. node (more e (trees_of es))) (separated is_between (read (l - 1)) (length us) us)
       (λ vs es rest i ts j. several ts e k vs es rest b j i) (tells_separated is_between One (read (l - 1)) (tells (l - 1)) one (length us) us)))
 
-  tells_joined : (l : ℕ) (e : Tree) (us : List Kind) → Tells (Onto One Whole e) us (joined is_between node read l e us)
+  tells_joined : (l : ℕ) (e : Tree) (us : List Kind) → Tells (Onto One Whole e) us (joined_operands is_between node read l e us)
   tells_joined l e [] = tells_here (Onto One Whole e) (Onto One Whole e) e [] (λ rest ts i. alone ts e rest i)
   tells_joined l e (k ∷ us) =
       tells_if (Onto One Whole e) (Onto One Whole e) (k ∷ us) (is_between k) (above l e (suc (length us)) (res_map (λ es. node (more e (trees_of es))) (separated is_between (read (l - 1)) (length us) us)))
       (Ok (e, k ∷ us)) (tells_joined_at l e k us) (λ b. tells_here (Onto One Whole e) (Onto One Whole e) e (k ∷ us) (λ rest ts i. alone ts e rest i))
 
-  pub tells_level : (l : ℕ) (ts : List Kind) → Tells Whole ts (then_do (read l ts) (joined is_between node read l))
-  tells_level l ts = tells_then One Whole ts (read l ts) (joined is_between node read l) (λ e. (e, [], λ rest us i. alone us e rest i)) (tells l ts) (tells_joined l)
+  pub tells_level : (l : ℕ) (ts : List Kind) → Tells Whole ts (then_do (read l ts) (joined_operands is_between node read l))
+  tells_level l ts = tells_then One Whole ts (read l ts) (joined_operands is_between node read l) (λ e. (e, [], λ rest us i. alone us e rest i)) (tells l ts) (tells_joined l)

@@ -12,7 +12,7 @@ use Rattle.eql_parser.specs.Kinds.{Kind, false_, in_, matches, not_, null_, rege
 use Rattle.eql_parser.specs.Grammar.{IsListed, last_one, first_part, part, IsDotted, ends, goes_on, required, optional, IsText, a_text, IsPatterns, one_text, some_texts, IsLiteral, is_number, is_negative, is_text, is_true, is_false, IsMembers, members, is_left_out_call, Joint, by_or, by_and, by_comma, between, IsExpr, conj, any_of, IsConj, neg, all_of, IsOperands, last, next, IsOperand, of_or, of_and, of_comma, IsNeg, negated, pred, IsPred, sum, compared, matched, is_in, is_not_in, IsSum, prod, added, IsProd, unary, multiplied, IsUnary, minus, prim, IsPrim, is_null, is_yes, is_no, is_long, is_str, is_field, is_call, is_folding_call, inside, IsArguments, no_arguments, some_arguments}
 use Rattle.eql_parser.specs.QueryGrammar.{IsKey}
 use Rattle.eql_parser.specs.Refusing.{IsLeftOut, regex, folding_regex, number_with_base}
-use Rattle.eql_parser.specs.Reading.{Fail, Syntax, LeftOut, Res, then_do, res_map, closing, is_or, is_and, is_comma, adds_of, multiplies_of, listed, dotted_part, behind_dot, dotted, named_by, named, field, field_tree, text_at, negative_at, literal, at_level, above, call_of, expr}
+use Rattle.eql_parser.specs.Reading.{Fail, Syntax, LeftOut, Res, then_do, res_map, closing, is_or, is_and, is_comma, adds_of, multiplies_of, comma_list, dotted_part, behind_dot, dotted, named_by, named_field, field, field_tree, text_at, negative_at, literal, at_level, above, call_of, expr}
 use Rattle.eql_parser.specs.Reading as r
 use Rattle.eql_parser.proofs.Rows.{Row, last_of, next_of, or_only, and_only, comma_only, row_listed}
 use Rattle.eql_parser.proofs.ExprSound.{marked, key_of, key_field, adds_only, multiplies_only}
@@ -64,12 +64,12 @@ tells_named_by o k ts (Some w) e =
     (tells_map (IsDotted w) (λ us f rest. IsNamed o (k ∷ us) f rest) ts (λ n. record { name = n; optional = o }) (dotted (length ts) w ts) (λ us n rest i. key_of o k w n us rest e i)
     (tells_dotted (length ts) w ts))
 
-pub tells_named : (o : Bool) (ts : List Kind) → Tells (IsNamed o) ts (named o ts)
+pub tells_named : (o : Bool) (ts : List Kind) → Tells (IsNamed o) ts (named_field o ts)
 tells_named o [] = stop_syntax (IsNamed o) [] [] (a_name o)
 tells_named o (k ∷ ts) = tells_named_by o k ts (first_part k) refl
 
 pub tells_field : (ts : List Kind) → Tells IsKey ts (field ts)
-tells_field (question_ ∷ ts) = tells_token (IsNamed true) IsKey question_ ts (named true ts) (λ us f rest i. i) (tells_named true ts)
+tells_field (question_ ∷ ts) = tells_token (IsNamed true) IsKey question_ ts (named_field true ts) (λ us f rest i. i) (tells_named true ts)
 tells_field [] = tells_named false []
 tells_field (k ∷ ts) = tells_named false (k ∷ ts)
 
@@ -77,9 +77,9 @@ pub a_field : Starts IsKey []
 a_field = a_name false
 
 pub tells_listed : {A : Type 0} (Is : List Kind → A → List Kind → Type 0) (read : List Kind → Res A) → ((us : List Kind) → Tells Is us (read us)) → Starts Is [] → (ts : List Kind)
-    → Tells (IsListed Is) ts (listed read ts)
+    → Tells (IsListed Is) ts (comma_list read ts)
 tells_listed Is read tells one ts =
-    tells_also (Row is_comma Is) (IsListed Is) ts (listed read ts) (λ us xs rest i. row_listed Is us xs rest i) (tells_separated is_comma Is read tells one (length ts) ts)
+    tells_also (Row is_comma Is) (IsListed Is) ts (comma_list read ts) (λ us xs rest i. row_listed Is us xs rest i) (tells_separated is_comma Is read tells one (length ts) ts)
 
 pub some_text : Starts IsText []
 some_text = (codes "x", text (codes "x") ∷ [], λ rest. a_text)
@@ -202,15 +202,15 @@ module _ (room : Bool) (inner : ℕ → List Kind → Res Tree) (tells : (l : �
   tells_arguments : (l : ℕ) (ts : List Kind) → TellsOf AreArguments AreMore ts (r.arguments room inner l ts)
   tells_arguments l (close_ ∷ ts) = (close_ ∷ [], refl, λ rest. no_arguments)
   tells_arguments l ts =
-      tells_closing_of (Row is_comma IsExpr) AreArguments AreMore ts (listed (inner l) ts) (λ us es rest i. row_arguments us es rest i) complete_arguments
+      tells_closing_of (Row is_comma IsExpr) AreArguments AreMore ts (comma_list (inner l) ts) (λ us es rest i. row_arguments us es rest i) complete_arguments
       (tells_separated is_comma IsExpr (inner l) (tells l) an_expr (length ts) ts)
 
   pub tells_patterns : (ts : List Kind) → Tells IsPatterns ts (r.patterns room inner ts)
   tells_patterns (text s ∷ ts) = tells_one IsPatterns (text s) (s ∷ []) ts (λ rest. one_text)
   tells_patterns (open_ ∷ ts) =
-      tells_enter IsPatterns [] ts (then_do (listed text_at ts) closing) (codes "x" ∷ [], text (codes "x") ∷ close_ ∷ [], λ rest. some_texts (last_one a_text))
-      (tells_token (λ us ss rest. IsPatterns (open_ ∷ us) ss rest) IsPatterns open_ ts (then_do (listed text_at ts) closing) (λ us ss rest i. i)
-      (tells_closing (IsListed IsText) (λ us ss rest. IsPatterns (open_ ∷ us) ss rest) ts (listed text_at ts) (λ us ss rest i. some_texts i) (tells_listed IsText text_at tells_text some_text ts)))
+      tells_enter IsPatterns [] ts (then_do (comma_list text_at ts) closing) (codes "x" ∷ [], text (codes "x") ∷ close_ ∷ [], λ rest. some_texts (last_one a_text))
+      (tells_token (λ us ss rest. IsPatterns (open_ ∷ us) ss rest) IsPatterns open_ ts (then_do (comma_list text_at ts) closing) (λ us ss rest i. i)
+      (tells_closing (IsListed IsText) (λ us ss rest. IsPatterns (open_ ∷ us) ss rest) ts (comma_list text_at ts) (λ us ss rest i. some_texts i) (tells_listed IsText text_at tells_text some_text ts)))
   tells_patterns ts = stop_syntax IsPatterns [] ts (codes "x" ∷ [], text (codes "x") ∷ [], λ rest. one_text)
 
   one_member : Starts IsMembers (open_ ∷ [])
@@ -218,9 +218,9 @@ module _ (room : Bool) (inner : ℕ → List Kind → Res Tree) (tells : (l : �
 
   pub tells_members : (ts : List Kind) → Tells IsMembers ts (r.members room inner ts)
   tells_members (open_ ∷ ts) =
-      tells_enter IsMembers [] ts (then_do (listed literal ts) closing) one_member
-      (tells_token (λ us vs rest. IsMembers (open_ ∷ us) vs rest) IsMembers open_ ts (then_do (listed literal ts) closing) (λ us vs rest i. i)
-      (tells_closing (IsListed IsLiteral) (λ us vs rest. IsMembers (open_ ∷ us) vs rest) ts (listed literal ts) (λ us vs rest i. members i) (tells_listed IsLiteral literal tells_literal some_literal ts)))
+      tells_enter IsMembers [] ts (then_do (comma_list literal ts) closing) one_member
+      (tells_token (λ us vs rest. IsMembers (open_ ∷ us) vs rest) IsMembers open_ ts (then_do (comma_list literal ts) closing) (λ us vs rest i. i)
+      (tells_closing (IsListed IsLiteral) (λ us vs rest. IsMembers (open_ ∷ us) vs rest) ts (comma_list literal ts) (λ us vs rest i. members i) (tells_listed IsLiteral literal tells_literal some_literal ts)))
   tells_members ts = stop_syntax IsMembers [] ts (one_member.0, open_ ∷ one_member.1, one_member.2)
 
   -- a leaf of one token
@@ -230,16 +230,16 @@ module _ (room : Bool) (inner : ℕ → List Kind → Res Tree) (tells : (l : �
   name_prim : (w : List ℕ) → Free IsPrim (name w ∷ []) (t.field w false)
   name_prim w rest = is_field (required refl ends)
 
-  tells_name : (l : ℕ) (k : Kind) (w : List ℕ) (ts : List Kind) → first_part k ≡ Some w → Tells IsPrim (k ∷ ts) (at_level l (suc (length ts)) (res_map field_tree (named false (k ∷ ts))))
+  tells_name : (l : ℕ) (k : Kind) (w : List ℕ) (ts : List Kind) → first_part k ≡ Some w → Tells IsPrim (k ∷ ts) (at_level l (suc (length ts)) (res_map field_tree (named_field false (k ∷ ts))))
   tells_name l k w ts e =
-      tells_at_level IsPrim k ts l (res_map field_tree (named false (k ∷ ts))) (t.field w false, [], λ rest. is_field (required e ends))
-      (tells_map (IsNamed false) IsPrim (k ∷ ts) field_tree (named false (k ∷ ts)) (λ us f rest i. is_field (key_field us f rest i)) (tells_named false (k ∷ ts)))
+      tells_at_level IsPrim k ts l (res_map field_tree (named_field false (k ∷ ts))) (t.field w false, [], λ rest. is_field (required e ends))
+      (tells_map (IsNamed false) IsPrim (k ∷ ts) field_tree (named_field false (k ∷ ts)) (λ us f rest i. is_field (key_field us f rest i)) (tells_named false (k ∷ ts)))
 
-  tells_optional : (l : ℕ) (ts : List Kind) → Tells IsPrim (question_ ∷ ts) (at_level l (suc (length ts)) (res_map field_tree (named true ts)))
+  tells_optional : (l : ℕ) (ts : List Kind) → Tells IsPrim (question_ ∷ ts) (at_level l (suc (length ts)) (res_map field_tree (named_field true ts)))
   tells_optional l ts =
-      tells_at_level IsPrim question_ ts l (res_map field_tree (named true ts)) (t.field (codes "x") true, name (codes "x") ∷ [], λ rest. is_field (optional refl ends))
-      (tells_token (λ us e rest. IsPrim (question_ ∷ us) e rest) IsPrim question_ ts (res_map field_tree (named true ts)) (λ us e rest i. i)
-      (tells_map (IsNamed true) (λ us e rest. IsPrim (question_ ∷ us) e rest) ts field_tree (named true ts) (λ us f rest i. is_field (key_field (question_ ∷ us) f rest i)) (tells_named true ts)))
+      tells_at_level IsPrim question_ ts l (res_map field_tree (named_field true ts)) (t.field (codes "x") true, name (codes "x") ∷ [], λ rest. is_field (optional refl ends))
+      (tells_token (λ us e rest. IsPrim (question_ ∷ us) e rest) IsPrim question_ ts (res_map field_tree (named_field true ts)) (λ us e rest i. i)
+      (tells_map (IsNamed true) (λ us e rest. IsPrim (question_ ∷ us) e rest) ts field_tree (named_field true ts) (λ us f rest i. is_field (key_field (question_ ∷ us) f rest i)) (tells_named true ts)))
 
   tells_prim : (l : ℕ) (ts : List Kind) → Tells IsPrim ts (r.prim room inner l ts)
   tells_prim l (null_ ∷ ts) = tells_leaf l null_ t.null ts (λ rest. is_null)

@@ -14,8 +14,8 @@ use Rattle.eql_parser.specs.Kinds.{Kind, any_, bang_, bar_, by_, join_, maxspan_
 use Rattle.eql_parser.specs.Grammar.{IsListed, IsExpr, conj, neg, pred, sum, prod, unary, prim, is_null}
 use Rattle.eql_parser.specs.QueryGrammar.{category, is_fine_unit, pipe_of, unit_of, IsTerm, a_term, IsKey, IsBy, no_keys, by_keys, IsRuns, one_run, some_runs, IsSpan, no_span, a_span, IsBracketed, bracketed, IsItem, an_item, IsItems, last_item, next_item, IsUntil, no_until, an_until, IsBody, one_event, a_sequence, IsPipes, no_pipes, next_pipe, Reads, a_query}
 use Rattle.eql_parser.specs.Refusing.{Begins, samples, joins, missing_event, fine_unit, other_pipe}
-use Rattle.eql_parser.specs.Reading.{Fail, Syntax, LeftOut, Res, then_do, res_map, listed, field, expr}
-use Rattle.eql_parser.specs.QueryReading.{expected, is_where, is_maxspan, is_runs, is_assign, is_open_item, is_close_item, number_at, Conditioned, keys, runs, term_tree_of, behind_term, items_more, unit_named, unit_at, span, pipe_named, pipes, behind_body, query_by, query}
+use Rattle.eql_parser.specs.Reading.{Fail, Syntax, LeftOut, Res, then_do, res_map, comma_list, field, expr}
+use Rattle.eql_parser.specs.QueryReading.{behind_expected, is_where, is_maxspan, is_runs, is_assign, is_open_item, is_close_item, number_at, Conditioned, keys, runs, term_tree_of, behind_term, items_more, unit_named, unit_at, span, pipe_named, pipes, behind_body, query_by, query}
 use Rattle.eql_parser.specs.QueryReading as q
 use Rattle.eql_parser.proofs.Rows.{false_not_true}
 use Rattle.eql_parser.proofs.Sound.{where_only, maxspan_only, assign_only, open_item_only, close_item_only}
@@ -24,13 +24,13 @@ use Rattle.eql_parser.proofs.StartsExpr.{tells_field, a_field, tells_listed, an_
 
 -- a word that has to stand here
 tells_expected : {A : Type 0} (is : Kind → Bool) (go : List Kind → Res A) (Q : List Kind → A → List Kind → Type 0) → Starts Q []
-    → ((k : Kind) (us : List Kind) → is k ≡ true → Tells Q (k ∷ us) (go us)) → (ts : List Kind) → Tells Q ts (expected is go ts)
+    → ((k : Kind) (us : List Kind) → is k ≡ true → Tells Q (k ∷ us) (go us)) → (ts : List Kind) → Tells Q ts (behind_expected is go ts)
 tells_expected is go Q begun h [] = stop_syntax Q [] [] begun
 tells_expected is go Q begun h (k ∷ ts) = tells_if Q Q (k ∷ ts) (is k) (go ts) (Err (Syntax (suc (length ts)))) (λ b. h k ts b) (λ b. stop_syntax Q [] (k ∷ ts) begun)
 
 -- one kind alone is meant: what follows is read behind it
 tells_expects : {A : Type 0} (is : Kind → Bool) (w : Kind) (go : List Kind → Res A) (Q : List Kind → A → List Kind → Type 0) → ((k : Kind) → is k ≡ true → k ≡ w)
-    → Starts (λ us x rest. Q (w ∷ us) x rest) [] → ((us : List Kind) → Tells (λ vs x rest. Q (w ∷ vs) x rest) us (go us)) → (ts : List Kind) → Tells Q ts (expected is go ts)
+    → Starts (λ us x rest. Q (w ∷ us) x rest) [] → ((us : List Kind) → Tells (λ vs x rest. Q (w ∷ vs) x rest) us (go us)) → (ts : List Kind) → Tells Q ts (behind_expected is go ts)
 tells_expects is w go Q only begun h =
     tells_expected is go Q (begun.0, w ∷ begun.1, begun.2)
     (λ k us b. subst (λ j. Tells Q (j ∷ us) (go us)) (sym (only k b)) (tells_token (λ vs x rest. Q (w ∷ vs) x rest) Q w us (go us) (λ vs x rest i. i) (h us)))
@@ -41,20 +41,20 @@ tells_number Q h (number n ∷ ts) = tells_one Q (number n) n ts (h n)
 tells_number Q h ts = stop_syntax Q [] ts (pos 1, number (pos 1) ∷ [], h (pos 1))
 
 pub tells_keys : (ts : List Kind) → Tells IsBy ts (keys ts)
-tells_keys (by_ ∷ ts) = tells_token (IsListed IsKey) IsBy by_ ts (listed field ts) (λ us fs rest i. by_keys i) (tells_listed IsKey field tells_field a_field ts)
+tells_keys (by_ ∷ ts) = tells_token (IsListed IsKey) IsBy by_ ts (comma_list field ts) (λ us fs rest i. by_keys i) (tells_listed IsKey field tells_field a_field ts)
 tells_keys ts = tells_here IsBy IsBy [] ts (λ rest. no_keys)
 
-tells_runs_at : (k : Kind) (us : List Kind) → is_runs k ≡ true → Tells (λ vs n rest. IsRuns (with_ ∷ vs) n rest) (k ∷ us) (expected is_assign number_at us)
+tells_runs_at : (k : Kind) (us : List Kind) → is_runs k ≡ true → Tells (λ vs n rest. IsRuns (with_ ∷ vs) n rest) (k ∷ us) (behind_expected is_assign number_at us)
 tells_runs_at (name w) us b =
-    tells_token (λ vs n rest. IsRuns (with_ ∷ name w ∷ vs) n rest) (λ vs n rest. IsRuns (with_ ∷ vs) n rest) (name w) us (expected is_assign number_at us) (λ vs n rest i. i)
+    tells_token (λ vs n rest. IsRuns (with_ ∷ name w ∷ vs) n rest) (λ vs n rest. IsRuns (with_ ∷ vs) n rest) (name w) us (behind_expected is_assign number_at us) (λ vs n rest i. i)
     (tells_expects is_assign assign_ number_at (λ vs n rest. IsRuns (with_ ∷ name w ∷ vs) n rest) assign_only (pos 1, number (pos 1) ∷ [], λ rest. some_runs b)
     (tells_number (λ vs n rest. IsRuns (with_ ∷ name w ∷ assign_ ∷ vs) n rest) (λ n rest. some_runs b)) us)
 tells_runs_at _ us b = false_not_true b
 
 pub tells_runs : (ts : List Kind) → Tells IsRuns ts (runs ts)
 tells_runs (with_ ∷ ts) =
-    tells_token (λ us n rest. IsRuns (with_ ∷ us) n rest) IsRuns with_ ts (expected is_runs (expected is_assign number_at) ts) (λ us n rest i. i)
-    (tells_expected is_runs (expected is_assign number_at) (λ us n rest. IsRuns (with_ ∷ us) n rest) (pos 1, name (codes "runs") ∷ assign_ ∷ number (pos 1) ∷ [], λ rest. some_runs refl) tells_runs_at ts)
+    tells_token (λ us n rest. IsRuns (with_ ∷ us) n rest) IsRuns with_ ts (behind_expected is_runs (behind_expected is_assign number_at) ts) (λ us n rest i. i)
+    (tells_expected is_runs (behind_expected is_assign number_at) (λ us n rest. IsRuns (with_ ∷ us) n rest) (pos 1, name (codes "runs") ∷ assign_ ∷ number (pos 1) ∷ [], λ rest. some_runs refl) tells_runs_at ts)
 tells_runs ts = tells_here IsRuns IsRuns (pos 1) ts (λ rest. one_run)
 
 -- a length of time behind its words, from the `=` on
@@ -87,8 +87,8 @@ tells_length us = stop_syntax IsLength (assign_ ∷ []) us a_length
 
 pub tells_span : (ts : List Kind) → Tells IsSpan ts (span ts)
 tells_span (with_ ∷ ts) =
-    tells_token (λ us s rest. IsSpan (with_ ∷ us) s rest) IsSpan with_ ts (expected is_maxspan (expected is_assign (λ us. then_do (number_at us) unit_at)) ts) (λ us s rest i. i)
-    (tells_expects is_maxspan maxspan_ (expected is_assign (λ us. then_do (number_at us) unit_at)) (λ us s rest. IsSpan (with_ ∷ us) s rest) maxspan_only (a_length.0, assign_ ∷ a_length.1, a_length.2)
+    tells_token (λ us s rest. IsSpan (with_ ∷ us) s rest) IsSpan with_ ts (behind_expected is_maxspan (behind_expected is_assign (λ us. then_do (number_at us) unit_at)) ts) (λ us s rest i. i)
+    (tells_expects is_maxspan maxspan_ (behind_expected is_assign (λ us. then_do (number_at us) unit_at)) (λ us s rest. IsSpan (with_ ∷ us) s rest) maxspan_only (a_length.0, assign_ ∷ a_length.1, a_length.2)
     (tells_expected is_assign (λ us. then_do (number_at us) unit_at) IsLength (a_length.0, assign_ ∷ a_length.1, a_length.2)
     (λ k us b. subst (λ j. Tells IsLength (j ∷ us) (then_do (number_at us) unit_at)) (sym (assign_only k b)) (tells_length us))) ts)
 tells_span ts = tells_here IsSpan IsSpan None ts (λ rest. no_span)
@@ -185,7 +185,7 @@ module _ (condition : List Kind → Res Tree) (tells : (ts : List Kind) → Tell
   tells_term_of : (k : Kind) (c : Option (Option (List ℕ))) (us : List Kind) → category k ≡ c → Tells IsConditioned (k ∷ us) (q.term_of condition c us)
   tells_term_of k None us e = stop_syntax IsConditioned [] (k ∷ us) a_conditioned
   tells_term_of k (Some c) us e =
-      tells_token (λ vs x rest. IsConditioned (k ∷ vs) x rest) IsConditioned k us (expected is_where (λ vs. res_map (λ x. (c, x)) (condition vs)) us) (λ vs x rest i. i)
+      tells_token (λ vs x rest. IsConditioned (k ∷ vs) x rest) IsConditioned k us (behind_expected is_where (λ vs. res_map (λ x. (c, x)) (condition vs)) us) (λ vs x rest i. i)
       (tells_expects is_where where_ (λ vs. res_map (λ x. (c, x)) (condition vs)) (λ vs x rest. IsConditioned (k ∷ vs) x rest) where_only
       ((c, an_expr.0), an_expr.1, λ rest. a_term e (an_expr.2 rest))
       (λ vs. tells_map IsExpr (λ ws x rest. IsConditioned (k ∷ where_ ∷ ws) x rest) vs (λ x. (c, x)) (condition vs) (λ ws x rest i. a_term e i) (tells vs)) us)
@@ -194,15 +194,15 @@ module _ (condition : List Kind → Res Tree) (tells : (ts : List Kind) → Tell
   tells_term [] = stop_syntax IsConditioned [] [] a_conditioned
   tells_term (k ∷ us) = tells_term_of k (category k) us refl
 
-  tells_bracketed : (us : List Kind) → Tells IsKeyed us (q.bracketed condition us)
+  tells_bracketed : (us : List Kind) → Tells IsKeyed us (q.bracketed_term condition us)
   tells_bracketed =
       tells_expects is_open_item open_item_ (λ vs. then_do (q.term condition vs) behind_term) IsKeyed open_item_only (((None, t.null), []), any_ ∷ where_ ∷ null_ ∷ close_item_ ∷ [], null_bracketed)
       (λ vs. tells_then IsConditioned (λ ws x rest. IsKeyed (open_item_ ∷ ws) x rest) vs (q.term condition vs) behind_term (λ c. ((c, []), close_item_ ∷ [], λ rest ws h. bracketed h no_keys)) (tells_term vs)
       tells_behind_term)
 
-  tells_item_here : (us : List Kind) → Tells IsItem us (then_do (q.bracketed condition us) (λ x vs. res_map (term_tree_of x.0 x.1) (runs vs)))
+  tells_item_here : (us : List Kind) → Tells IsItem us (then_do (q.bracketed_term condition us) (λ x vs. res_map (term_tree_of x.0 x.1) (runs vs)))
   tells_item_here us =
-      tells_then IsKeyed IsItem us (q.bracketed condition us) (λ x vs. res_map (term_tree_of x.0 x.1) (runs vs)) (λ x. (term_tree_of x.0 x.1 (pos 1), [], λ rest ws h. an_item h one_run)) (tells_bracketed us)
+      tells_then IsKeyed IsItem us (q.bracketed_term condition us) (λ x vs. res_map (term_tree_of x.0 x.1) (runs vs)) (λ x. (term_tree_of x.0 x.1 (pos 1), [], λ rest ws h. an_item h one_run)) (tells_bracketed us)
       (λ x vs. tells_map IsRuns (Onto IsKeyed IsItem x) vs (term_tree_of x.0 x.1) (runs vs) (λ ws n rest i ts h. an_item h i) (tells_runs vs))
 
   tells_item : (us : List Kind) → Tells IsItem us (q.item condition us)
@@ -218,8 +218,8 @@ module _ (condition : List Kind → Res Tree) (tells : (ts : List Kind) → Tell
 
   tells_until : (us : List Kind) → Tells IsUntil us (q.until condition us)
   tells_until (until_ ∷ us) =
-      tells_token (λ vs x rest. IsUntil (until_ ∷ vs) x rest) IsUntil until_ us (res_map (λ x. Some (term_tree_of x.0 x.1 (pos 1))) (q.bracketed condition us)) (λ vs x rest i. i)
-      (tells_map IsKeyed (λ vs x rest. IsUntil (until_ ∷ vs) x rest) us (λ x. Some (term_tree_of x.0 x.1 (pos 1))) (q.bracketed condition us) (λ vs x rest i. an_until i) (tells_bracketed us))
+      tells_token (λ vs x rest. IsUntil (until_ ∷ vs) x rest) IsUntil until_ us (res_map (λ x. Some (term_tree_of x.0 x.1 (pos 1))) (q.bracketed_term condition us)) (λ vs x rest i. i)
+      (tells_map IsKeyed (λ vs x rest. IsUntil (until_ ∷ vs) x rest) us (λ x. Some (term_tree_of x.0 x.1 (pos 1))) (q.bracketed_term condition us) (λ vs x rest i. an_until i) (tells_bracketed us))
   tells_until us = tells_here IsUntil IsUntil None us (λ rest. no_until)
 
   -- a sequence behind its keys, its span or its items

@@ -10,7 +10,7 @@ use Rattle.eql_query.specs.View.{trees_of}
 use Rattle.eql_parser.specs.Kinds.{Kind, false_, true_, name, text, number, open_, close_, dot_, question_, adds}
 use Rattle.eql_parser.specs.Grammar.{first_part, part, is_left_out_call}
 use Rattle.eql_parser.specs.Limits.{depth, open_behind}
-use Rattle.eql_parser.specs.Reading.{Fail, Syntax, LeftOut, TooDeep, TooOpen, Res, then_do, res_map, closing, is_comma, more_of, separated, listed, dotted_part, behind_dot, dotted, named_by, named, field, text_at, negative_at, literal, at_level, above, chain_on, chain_from, chain, joined, call_of}
+use Rattle.eql_parser.specs.Reading.{Fail, Syntax, LeftOut, TooDeep, TooOpen, Res, then_do, res_map, closing, is_comma, more_of, separated, comma_list, dotted_part, behind_dot, dotted, named_by, named_field, field, text_at, negative_at, literal, at_level, above, chain_on, chain_from, chain, joined_operands, call_of}
 use Rattle.eql_parser.proofs.Opens.{Plain, plain_true, plain_some, Under, Calm, calm_none, calm_both, calm_plain, calm_inside, open_behind_both, under_none, under_calm, under_behind, under_inside}
 
 -- behind a front of the tokens, in which d parentheses stay open, another one opens
@@ -154,7 +154,7 @@ told_separated d is read (suc n) us o c h =
     told_then d us (read us) (more_of is (separated is read n)) (h us)
     (λ x vs. told_more d is (separated is read n) x vs o c (λ ws. told_separated d is read n ws o c h))
 
-pub told_listed : {A : Type 0} (d : ℕ) (read : List Kind → Res A) (us : List Kind) → ((vs : List Kind) → Told d vs (read vs)) → Told d us (listed read us)
+pub told_listed : {A : Type 0} (d : ℕ) (read : List Kind → Res A) (us : List Kind) → ((vs : List Kind) → Told d vs (read vs)) → Told d us (comma_list read us)
 told_listed d read us h = told_separated d is_comma read (length us) us refl refl h
 
 pub told_part : (d : ℕ) (again : List ℕ → List Kind → Res (List ℕ)) (w : List ℕ) (k : Kind) (us : List Kind) (p : Option (List ℕ)) → part k ≡ p
@@ -178,12 +178,12 @@ told_named_by d optional k us (Some w) e =
     told_plain d k us (res_map (λ n. record { name = n; optional = optional }) (dotted (length us) w us)) (plain_some first_part refl refl k w e)
     (told_map d us (λ n. record { name = n; optional = optional }) (dotted (length us) w us) (told_dotted d (length us) w us))
 
-pub told_named : (d : ℕ) (optional : Bool) (us : List Kind) → Told d us (named optional us)
+pub told_named : (d : ℕ) (optional : Bool) (us : List Kind) → Told d us (named_field optional us)
 told_named d optional [] = upto_here d _
 told_named d optional (k ∷ us) = told_named_by d optional k us (first_part k) refl
 
 pub told_field : (d : ℕ) (us : List Kind) → Told d us (field us)
-told_field d (question_ ∷ us) = told_plain d question_ us (named true us) tt (told_named d true us)
+told_field d (question_ ∷ us) = told_plain d question_ us (named_field true us) tt (told_named d true us)
 told_field d us = told_named d false us
 
 pub told_text : (d : ℕ) (us : List Kind) → Told d us (text_at us)
@@ -227,7 +227,7 @@ module _ (d : ℕ) (operator : Kind → Option MathOp) (read : ℕ → List Kind
 
 -- one operand, or several joined in one node
 pub told_joined : (d : ℕ) (is : Kind → Bool) (node : Trees → Tree) (read : ℕ → List Kind → Res Tree) (l : ℕ) (e : Tree) (us : List Kind) → is open_ ≡ false → is close_ ≡ false
-    → ((k : ℕ) (vs : List Kind) → Told d vs (read k vs)) → Told d us (joined is node read l e us)
+    → ((k : ℕ) (vs : List Kind) → Told d vs (read k vs)) → Told d us (joined_operands is node read l e us)
 told_joined d is node read l e [] o c h = told_here d e []
 told_joined d is node read l e (k ∷ us) o c h =
     told_if d (k ∷ us) (is k) (above l e (suc (length us)) (res_map (λ es. node (more e (trees_of es))) (separated is (read (l - 1)) (length us) us))) (Ok (e, k ∷ us))

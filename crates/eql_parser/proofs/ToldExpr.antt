@@ -5,7 +5,7 @@ use Rattle.eql_query.specs.Tree.{Tree, Trees}
 use Rattle.eql_query.specs.Tree as t
 use Rattle.eql_query.specs.View.{trees_of}
 use Rattle.eql_parser.specs.Kinds.{Kind, false_, in_, matches, not_, null_, regex_, true_, name, folding, back, text, number, open_, close_, question_, compares, adds}
-use Rattle.eql_parser.specs.Reading.{Syntax, Res, then_do, res_map, closing, is_or, is_and, adds_of, multiplies_of, listed, named, field_tree, text_at, literal, at_level, above, joined, call_of, expr}
+use Rattle.eql_parser.specs.Reading.{Syntax, Res, then_do, res_map, closing, is_or, is_and, adds_of, multiplies_of, comma_list, named_field, field_tree, text_at, literal, at_level, above, joined_operands, call_of, expr}
 use Rattle.eql_parser.specs.Reading as r
 use Rattle.eql_parser.proofs.Opens.{Plain}
 use Rattle.eql_parser.proofs.Told.{Told, Upto, upto_here, upto_behind, told_then, told_map, told_here, told_plain, told_one, told_closing, told_pair, told_enter, told_enter_behind, told_at_level, told_above, told_listed, told_named, told_text, told_literal, told_chain, told_joined, told_call, room_for, inside}
@@ -13,25 +13,25 @@ use Rattle.eql_parser.proofs.Told.{Told, Upto, upto_here, upto_behind, told_then
 module _ (d : ℕ) (inner : ℕ → List Kind → Res Tree) (told : (l : ℕ) (us : List Kind) → Told (inside d) us (inner l us)) where
   pub told_arguments : (l : ℕ) (ts : List Kind) → 0 < d → Told d (open_ ∷ ts) (r.arguments (room_for d) inner l ts)
   told_arguments l (close_ ∷ ts) p = told_pair {A = List Tree} d [] ts p
-  told_arguments l ts p = told_closing d ts (listed (inner l) ts) p (told_listed (inside d) (inner l) ts (told l))
+  told_arguments l ts p = told_closing d ts (comma_list (inner l) ts) p (told_listed (inside d) (inner l) ts (told l))
 
   pub told_patterns : (ts : List Kind) → Told d ts (r.patterns (room_for d) inner ts)
   told_patterns (text s ∷ ts) = told_one d (text s) (s ∷ []) ts tt
-  told_patterns (open_ ∷ ts) = told_enter d ts (then_do (listed text_at ts) closing) (λ p. told_closing d ts (listed text_at ts) p (told_listed (inside d) text_at ts (told_text (inside d))))
+  told_patterns (open_ ∷ ts) = told_enter d ts (then_do (comma_list text_at ts) closing) (λ p. told_closing d ts (comma_list text_at ts) p (told_listed (inside d) text_at ts (told_text (inside d))))
   told_patterns [] = upto_here d _
   told_patterns (_ ∷ ts) = upto_here d _
 
   pub told_members : (ts : List Kind) → Told d ts (r.members (room_for d) inner ts)
-  told_members (open_ ∷ ts) = told_enter d ts (then_do (listed literal ts) closing) (λ p. told_closing d ts (listed literal ts) p (told_listed (inside d) literal ts (told_literal (inside d))))
+  told_members (open_ ∷ ts) = told_enter d ts (then_do (comma_list literal ts) closing) (λ p. told_closing d ts (comma_list literal ts) p (told_listed (inside d) literal ts (told_literal (inside d))))
   told_members [] = upto_here d _
   told_members (_ ∷ ts) = upto_here d _
 
   told_leaf : (l : ℕ) (k : Kind) (e : Tree) (ts : List Kind) → Told d (k ∷ ts) (Ok (e, ts)) → Told d (k ∷ ts) (at_level l (suc (length ts)) (Ok (e, ts)))
   told_leaf l k e ts h = told_at_level d (k ∷ ts) l (suc (length ts)) (Ok (e, ts)) (omega arith) (upto_here d _) h
 
-  told_field_prim : (l : ℕ) (o : Bool) (ts : List Kind) (place : ℕ) (us : List Kind) → 0 < place → Upto d us place → Told d us (named o ts)
-      → Told d us (at_level l place (res_map field_tree (named o ts)))
-  told_field_prim l o ts place us p q h = told_at_level d us l place (res_map field_tree (named o ts)) p q (told_map d us field_tree (named o ts) h)
+  told_field_prim : (l : ℕ) (o : Bool) (ts : List Kind) (place : ℕ) (us : List Kind) → 0 < place → Upto d us place → Told d us (named_field o ts)
+      → Told d us (at_level l place (res_map field_tree (named_field o ts)))
+  told_field_prim l o ts place us p q h = told_at_level d us l place (res_map field_tree (named_field o ts)) p q (told_map d us field_tree (named_field o ts) h)
 
   told_name_call : (l : ℕ) (w : List ℕ) (ts : List Kind) → Told d (name w ∷ open_ ∷ ts) (r.prim (room_for d) inner l (name w ∷ open_ ∷ ts))
   told_name_call l w ts =
@@ -58,7 +58,7 @@ module _ (d : ℕ) (inner : ℕ → List Kind → Res Tree) (told : (l : ℕ) (u
   told_prim l (name w ∷ ts) = told_field_prim l false (name w ∷ ts) (suc (length ts)) (name w ∷ ts) (omega arith) (upto_here d _) (told_named d false (name w ∷ ts))
   told_prim l (back w ∷ ts) = told_field_prim l false (back w ∷ ts) (suc (length ts)) (back w ∷ ts) (omega arith) (upto_here d _) (told_named d false (back w ∷ ts))
   told_prim l (question_ ∷ ts) =
-      told_field_prim l true ts (suc (length ts)) (question_ ∷ ts) (omega arith) (upto_here d _) (told_plain d question_ ts (named true ts) tt (told_named d true ts))
+      told_field_prim l true ts (suc (length ts)) (question_ ∷ ts) (omega arith) (upto_here d _) (told_plain d question_ ts (named_field true ts) tt (told_named d true ts))
   told_prim l (folding w ∷ open_ ∷ ts) = told_folding_call l w ts
   told_prim l (folding w ∷ ts) = told_at_level {A = Tree} d (folding w ∷ ts) l (suc (length ts)) (Err (Syntax (length ts))) (omega arith) (upto_here d _) (upto_behind d (folding w) ts tt)
   told_prim l (open_ ∷ ts) = told_enter d ts (then_do (inner l ts) closing) (λ p. told_closing d ts (inner l ts) p (told l ts))
@@ -111,12 +111,12 @@ module _ (d : ℕ) (inner : ℕ → List Kind → Res Tree) (told : (l : ℕ) (u
 
   pub told_conj : (l : ℕ) (ts : List Kind) → Told d ts (r.conj (room_for d) inner l ts)
   told_conj l ts =
-      told_then d ts (r.neg (room_for d) inner l ts) (joined is_and t.and (r.neg (room_for d) inner) l) (told_neg l ts)
+      told_then d ts (r.neg (room_for d) inner l ts) (joined_operands is_and t.and (r.neg (room_for d) inner) l) (told_neg l ts)
       (λ e us. told_joined d is_and t.and (r.neg (room_for d) inner) l e us refl refl told_neg)
 
   pub told_level : (l : ℕ) (ts : List Kind) → Told d ts (r.level (room_for d) inner l ts)
   told_level l ts =
-      told_then d ts (r.conj (room_for d) inner l ts) (joined is_or t.or (r.conj (room_for d) inner) l) (told_conj l ts)
+      told_then d ts (r.conj (room_for d) inner l ts) (joined_operands is_or t.or (r.conj (room_for d) inner) l) (told_conj l ts)
       (λ e us. told_joined d is_or t.or (r.conj (room_for d) inner) l e us refl refl told_conj)
 
 pub expr_told : (d l : ℕ) (ts : List Kind) → Told d ts (expr d l ts)

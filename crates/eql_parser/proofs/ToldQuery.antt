@@ -9,14 +9,14 @@ use Rattle.eql_query.specs.Tree.{Tree}
 use Rattle.eql_query.specs.QueryTree.{TermTree, BodyTree, event, sequence}
 use Rattle.eql_parser.specs.Kinds.{Kind, bang_, bar_, by_, join_, sample_, sequence_, until_, with_, name, number, open_, close_, open_item_}
 use Rattle.eql_parser.specs.QueryGrammar.{category, is_fine_unit, pipe_of, unit_of}
-use Rattle.eql_parser.specs.Reading.{Syntax, LeftOut, Res, then_do, res_map, listed, field}
+use Rattle.eql_parser.specs.Reading.{Syntax, LeftOut, Res, then_do, res_map, comma_list, field}
 use Rattle.eql_parser.specs.QueryReading as q
-use Rattle.eql_parser.specs.QueryReading.{Conditioned, expected, is_where, is_maxspan, is_runs, is_assign, is_open_item, is_close_item, number_at, term_tree_of, items_more, unit_named, unit_at, pipe_named, behind_term, behind_body}
+use Rattle.eql_parser.specs.QueryReading.{Conditioned, behind_expected, is_where, is_maxspan, is_runs, is_assign, is_open_item, is_close_item, number_at, term_tree_of, items_more, unit_named, unit_at, pipe_named, behind_term, behind_body}
 use Rattle.eql_parser.proofs.Opens.{plain_true, plain_some}
 use Rattle.eql_parser.proofs.Told.{Told, upto_here, upto_behind, told_then, told_map, told_here, told_plain, told_one, told_if, told_listed, told_field}
 
 pub told_expected : {A : Type 0} (d : ℕ) (is : Kind → Bool) (go : List Kind → Res A) (us : List Kind) → is open_ ≡ false → is close_ ≡ false
-    → ((vs : List Kind) → Told d vs (go vs)) → Told d us (expected is go us)
+    → ((vs : List Kind) → Told d vs (go vs)) → Told d us (behind_expected is go us)
 told_expected d is go [] o c h = upto_here d _
 told_expected d is go (k ∷ us) o c h =
     told_if d (k ∷ us) (is k) (go us) (Err (Syntax (suc (length us)))) (λ e. told_plain d k us (go us) (plain_true is o c k e) (h us)) (λ e. upto_here d _)
@@ -27,14 +27,14 @@ told_number d [] = upto_here d _
 told_number d (_ ∷ us) = upto_here d _
 
 pub told_keys : (d : ℕ) (us : List Kind) → Told d us (q.keys us)
-told_keys d (by_ ∷ us) = told_plain d by_ us (listed field us) tt (told_listed d field us (told_field d))
+told_keys d (by_ ∷ us) = told_plain d by_ us (comma_list field us) tt (told_listed d field us (told_field d))
 told_keys d [] = told_here {A = List FieldRef} d [] []
 told_keys d (k ∷ us) = told_here {A = List FieldRef} d [] (k ∷ us)
 
 pub told_runs : (d : ℕ) (us : List Kind) → Told d us (q.runs us)
 told_runs d (with_ ∷ us) =
-    told_plain d with_ us (expected is_runs (expected is_assign number_at) us) tt
-    (told_expected d is_runs (expected is_assign number_at) us refl refl (λ vs. told_expected d is_assign number_at vs refl refl (told_number d)))
+    told_plain d with_ us (behind_expected is_runs (behind_expected is_assign number_at) us) tt
+    (told_expected d is_runs (behind_expected is_assign number_at) us refl refl (λ vs. told_expected d is_assign number_at vs refl refl (told_number d)))
 told_runs d [] = told_here d (pos 1) []
 told_runs d (k ∷ us) = told_here d (pos 1) (k ∷ us)
 
@@ -70,8 +70,8 @@ told_number_unit d (_ ∷ us) = upto_here d _
 
 pub told_span : (d : ℕ) (us : List Kind) → Told d us (q.span us)
 told_span d (with_ ∷ us) =
-    told_plain d with_ us (expected is_maxspan (expected is_assign (λ vs. then_do (number_at vs) unit_at)) us) tt
-    (told_expected d is_maxspan (expected is_assign (λ vs. then_do (number_at vs) unit_at)) us refl refl
+    told_plain d with_ us (behind_expected is_maxspan (behind_expected is_assign (λ vs. then_do (number_at vs) unit_at)) us) tt
+    (told_expected d is_maxspan (behind_expected is_assign (λ vs. then_do (number_at vs) unit_at)) us refl refl
     (λ vs. told_expected d is_assign (λ ws. then_do (number_at ws) unit_at) vs refl refl (told_number_unit d)))
 told_span d [] = told_here {A = Option Span} d None []
 told_span d (k ∷ us) = told_here {A = Option Span} d None (k ∷ us)
@@ -102,21 +102,21 @@ module _ (d : ℕ) (condition : List Kind → Res Tree) (told : (us : List Kind)
   pub told_term_of : (k : Kind) (c : Option (Option (List ℕ))) (us : List Kind) → category k ≡ c → Told d (k ∷ us) (q.term_of condition c us)
   told_term_of k None us e = upto_here d _
   told_term_of k (Some c) us e =
-      told_plain d k us (expected is_where (λ vs. res_map (λ x. (c, x)) (condition vs)) us) (plain_some category refl refl k c e)
+      told_plain d k us (behind_expected is_where (λ vs. res_map (λ x. (c, x)) (condition vs)) us) (plain_some category refl refl k c e)
       (told_expected d is_where (λ vs. res_map (λ x. (c, x)) (condition vs)) us refl refl (λ vs. told_map d vs (λ x. (c, x)) (condition vs) (told vs)))
 
   pub told_term : (us : List Kind) → Told d us (q.term condition us)
   told_term [] = upto_here d _
   told_term (k ∷ us) = told_term_of k (category k) us refl
 
-  pub told_bracketed : (us : List Kind) → Told d us (q.bracketed condition us)
+  pub told_bracketed : (us : List Kind) → Told d us (q.bracketed_term condition us)
   told_bracketed us =
       told_expected d is_open_item (λ vs. then_do (q.term condition vs) behind_term) us refl refl
       (λ vs. told_then d vs (q.term condition vs) behind_term (told_term vs) (told_behind_term d))
 
-  told_item_here : (us : List Kind) → Told d us (then_do (q.bracketed condition us) (λ x vs. res_map (term_tree_of x.0 x.1) (q.runs vs)))
+  told_item_here : (us : List Kind) → Told d us (then_do (q.bracketed_term condition us) (λ x vs. res_map (term_tree_of x.0 x.1) (q.runs vs)))
   told_item_here us =
-      told_then d us (q.bracketed condition us) (λ x vs. res_map (term_tree_of x.0 x.1) (q.runs vs)) (told_bracketed us)
+      told_then d us (q.bracketed_term condition us) (λ x vs. res_map (term_tree_of x.0 x.1) (q.runs vs)) (told_bracketed us)
       (λ x vs. told_map d vs (term_tree_of x.0 x.1) (q.runs vs) (told_runs d vs))
 
   pub told_item : (us : List Kind) → Told d us (q.item condition us)
@@ -131,8 +131,8 @@ module _ (d : ℕ) (condition : List Kind → Res Tree) (told : (us : List Kind)
 
   pub told_until : (us : List Kind) → Told d us (q.until condition us)
   told_until (until_ ∷ us) =
-      told_plain d until_ us (res_map (λ x. Some (term_tree_of x.0 x.1 (pos 1))) (q.bracketed condition us)) tt
-      (told_map d us (λ x. Some (term_tree_of x.0 x.1 (pos 1))) (q.bracketed condition us) (told_bracketed us))
+      told_plain d until_ us (res_map (λ x. Some (term_tree_of x.0 x.1 (pos 1))) (q.bracketed_term condition us)) tt
+      (told_map d us (λ x. Some (term_tree_of x.0 x.1 (pos 1))) (q.bracketed_term condition us) (told_bracketed us))
   told_until [] = told_here {A = Option TermTree} d None []
   told_until (k ∷ us) = told_here {A = Option TermTree} d None (k ∷ us)
 

@@ -83,8 +83,8 @@ abbrev pub is_plain_table : List (List ℕ × Kind) → Bool
 is_plain_table table = list_all (λ e. list_all (λ b. nat_lt b 128) e.0) table
 
 -- the characters of a borrowed text
-abbrev pub spelled : Bor (List ℕ) → List ℕ
-spelled s = chars s.now
+abbrev pub borrowed_chars : Bor (List ℕ) → List ℕ
+borrowed_chars s = chars s.now
 
 -- a part of a field's name comes first, and leaves the rest
 abbrev pub IsPart : List Kind → List ℕ → List Kind → Type 0

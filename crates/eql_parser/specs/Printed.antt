@@ -29,8 +29,8 @@ abbrev pub is_control : ℕ → Bool
 is_control c = nat_lt c 32 || (c == 127)
 
 -- a character of a string in quotes
-abbrev pub escaped : ℕ → List ℕ → List ℕ
-escaped c rest =
+abbrev pub char_shown : ℕ → List ℕ → List ℕ
+char_shown c rest =
     if c == 10 then codes "\\n" ++ rest
     else if c == 13 then codes "\\r" ++ rest
     else if c == 9 then codes "\\t" ++ rest
@@ -41,20 +41,20 @@ escaped c rest =
 
 abbrev pub all_escaped : List ℕ → List ℕ → List ℕ
 all_escaped [] rest = rest
-all_escaped (c ∷ cs) rest = escaped c (all_escaped cs rest)
+all_escaped (c ∷ cs) rest = char_shown c (all_escaped cs rest)
 
 -- a string
-abbrev pub quoted : List ℕ → List ℕ → List ℕ
-quoted s rest = 34 ∷ all_escaped s (34 ∷ rest)
+abbrev pub string_shown : List ℕ → List ℕ → List ℕ
+string_shown s rest = 34 ∷ all_escaped s (34 ∷ rest)
 
 -- a backtick in a name is doubled
-abbrev pub doubled : List ℕ → List ℕ → List ℕ
-doubled [] rest = rest
-doubled (c ∷ cs) rest = if c == 96 then 96 ∷ 96 ∷ doubled cs rest else c ∷ doubled cs rest
+abbrev pub name_shown : List ℕ → List ℕ → List ℕ
+name_shown [] rest = rest
+name_shown (c ∷ cs) rest = if c == 96 then 96 ∷ 96 ∷ name_shown cs rest else c ∷ name_shown cs rest
 
 -- a field: `?` where it is optional, and its whole name in backticks
 abbrev pub field_shown : List ℕ → Bool → List ℕ → List ℕ
-field_shown name optional rest = (if optional then codes "?" else []) ++ 96 ∷ doubled name (96 ∷ rest)
+field_shown name optional rest = (if optional then codes "?" else []) ++ 96 ∷ name_shown name (96 ∷ rest)
 
 abbrev pub bool_text : Bool → List ℕ
 bool_text true = codes "true"
@@ -89,18 +89,18 @@ member_text true true = codes " not in~ ("
 -- texts behind one another, with a comma and a blank between
 abbrev pub texts_shown : List (List ℕ) → List ℕ → List ℕ
 texts_shown [] rest = rest
-texts_shown (s ∷ []) rest = quoted s rest
-texts_shown (s ∷ u ∷ ss) rest = quoted s (codes ", " ++ texts_shown (u ∷ ss) rest)
+texts_shown (s ∷ []) rest = string_shown s rest
+texts_shown (s ∷ u ∷ ss) rest = string_shown s (codes ", " ++ texts_shown (u ∷ ss) rest)
 
 -- one text alone, or several in parentheses
 abbrev pub patterns_shown : List (List ℕ) → List ℕ → List ℕ
-patterns_shown (s ∷ []) rest = quoted s rest
+patterns_shown (s ∷ []) rest = string_shown s rest
 patterns_shown ss rest = 40 ∷ texts_shown ss (41 ∷ rest)
 
 abbrev pub literal_shown : Value → List ℕ → List ℕ
 literal_shown (value.Bool b) rest = bool_text b ++ rest
 literal_shown (value.Long n) rest = signed_decimal n ++ rest
-literal_shown (value.Text s) rest = quoted s rest
+literal_shown (value.Text s) rest = string_shown s rest
 literal_shown _ rest = codes "null" ++ rest
 
 abbrev pub literals_shown : List Value → List ℕ → List ℕ
@@ -110,27 +110,27 @@ literals_shown (v ∷ w ∷ vs) rest = literal_shown v (codes ", " ++ literals_s
 
 -- a leaf is written as it is, a call as one, and each other node in one pair of parentheses
 abbrev mutual
-  pub shown : Tree → List ℕ → List ℕ
-  shown t.null rest = codes "null" ++ rest
-  shown (t.bool b) rest = bool_text b ++ rest
-  shown (t.long n) rest = signed_decimal n ++ rest
-  shown (t.str s) rest = quoted s rest
-  shown (t.field name optional) rest = field_shown name optional rest
-  shown (t.not a) rest = codes "(not " ++ shown a (41 ∷ rest)
-  shown (t.and es) rest = 40 ∷ all_shown (codes " and ") es (41 ∷ rest)
-  shown (t.or es) rest = 40 ∷ all_shown (codes " or ") es (41 ∷ rest)
-  shown (t.cmp op a b) rest = 40 ∷ shown a (cmp_text op ++ shown b (41 ∷ rest))
-  shown (t.pattern op a ss) rest = 40 ∷ shown a (pat_text op ++ patterns_shown ss (41 ∷ rest))
-  shown (t.member fold negated a vs) rest = 40 ∷ shown a (member_text fold negated ++ literals_shown vs (41 ∷ 41 ∷ rest))
-  shown (t.neg a) rest = codes "(-" ++ shown a (41 ∷ rest)
-  shown (t.math op a b) rest = 40 ∷ shown a (math_text op ++ shown b (41 ∷ rest))
-  shown (t.call name fold es) rest = name ++ (if fold then codes "~(" else codes "(") ++ all_shown (codes ", ") es (41 ∷ rest)
+  pub tree_shown : Tree → List ℕ → List ℕ
+  tree_shown t.null rest = codes "null" ++ rest
+  tree_shown (t.bool b) rest = bool_text b ++ rest
+  tree_shown (t.long n) rest = signed_decimal n ++ rest
+  tree_shown (t.str s) rest = string_shown s rest
+  tree_shown (t.field name optional) rest = field_shown name optional rest
+  tree_shown (t.not a) rest = codes "(not " ++ tree_shown a (41 ∷ rest)
+  tree_shown (t.and es) rest = 40 ∷ all_shown (codes " and ") es (41 ∷ rest)
+  tree_shown (t.or es) rest = 40 ∷ all_shown (codes " or ") es (41 ∷ rest)
+  tree_shown (t.cmp op a b) rest = 40 ∷ tree_shown a (cmp_text op ++ tree_shown b (41 ∷ rest))
+  tree_shown (t.pattern op a ss) rest = 40 ∷ tree_shown a (pat_text op ++ patterns_shown ss (41 ∷ rest))
+  tree_shown (t.member fold negated a vs) rest = 40 ∷ tree_shown a (member_text fold negated ++ literals_shown vs (41 ∷ 41 ∷ rest))
+  tree_shown (t.neg a) rest = codes "(-" ++ tree_shown a (41 ∷ rest)
+  tree_shown (t.math op a b) rest = 40 ∷ tree_shown a (math_text op ++ tree_shown b (41 ∷ rest))
+  tree_shown (t.call name fold es) rest = name ++ (if fold then codes "~(" else codes "(") ++ all_shown (codes ", ") es (41 ∷ rest)
 
   -- expressions behind one another, with something between
   pub all_shown : (between : List ℕ) → Trees → List ℕ → List ℕ
   all_shown between none rest = rest
-  all_shown between (more a none) rest = shown a rest
-  all_shown between (more a (more b es)) rest = shown a (between ++ all_shown between (more b es) rest)
+  all_shown between (more a none) rest = tree_shown a rest
+  all_shown between (more a (more b es)) rest = tree_shown a (between ++ all_shown between (more b es) rest)
 
 abbrev pub fields_shown : List FieldRef → List ℕ → List ℕ
 fields_shown [] rest = rest
@@ -144,11 +144,11 @@ by_shown (f ∷ fs) rest = codes " by " ++ fields_shown (f ∷ fs) rest
 
 abbrev pub category_shown : Option (List ℕ) → List ℕ → List ℕ
 category_shown None rest = codes "any" ++ rest
-category_shown (Some c) rest = quoted c rest
+category_shown (Some c) rest = string_shown c rest
 
 -- a category and a condition
 abbrev pub term_shown : TermTree → List ℕ → List ℕ
-term_shown i rest = category_shown i.category (codes " where " ++ shown i.cond rest)
+term_shown i rest = category_shown i.category (codes " where " ++ tree_shown i.cond rest)
 
 -- a term in brackets and its keys
 abbrev pub bracketed_shown : TermTree → List ℕ → List ℕ
@@ -193,5 +193,5 @@ pipes_shown [] rest = rest
 pipes_shown (p ∷ ps) rest = pipe_shown p (pipes_shown ps rest)
 
 -- the canonical text
-abbrev pub printed : QueryTree → List ℕ
-printed query = body_shown query.body (pipes_shown query.pipes [])
+abbrev pub query_shown : QueryTree → List ℕ
+query_shown query = body_shown query.body (pipes_shown query.pipes [])

@@ -9,10 +9,10 @@ use Rattle.eql_query.specs.declared.query.PipeText.TheVariants as pipe
 use Rattle.eql_query.specs.Tree.{none, more}
 use Rattle.eql_query.specs.Tree as t
 use Rattle.eql_query.specs.QueryTree.{event, sequence}
-use Rattle.eql_parser.specs.Printed.{printed, shown, quoted}
+use Rattle.eql_parser.specs.Printed.{query_shown, tree_shown, string_shown}
 use Rattle.std.specs.Fmt.{digits}
 
-sequence_with_keys : printed (record {
+sequence_with_keys : query_shown (record {
   body = sequence (record { name = codes "a"; optional = false } ∷ record { name = codes "b.c"; optional = false } ∷ []) (Some (record { count = pos 1; unit = unit.M }))
       (record { category = None; cond = t.bool true; by = []; runs = pos 1 } ∷ [])
       (Some (record { category = Some (codes "x y"); cond = t.bool false; by = []; runs = pos 1 }));
@@ -21,7 +21,7 @@ sequence_with_keys : printed (record {
 unfolding digits
 sequence_with_keys = refl
 
-event_query : printed (record {
+event_query : query_shown (record {
   body = event (record {
     category = Some (codes "process");
     cond = t.and (more (t.cmp cmp.Eq (t.field (codes "process.name") false) (t.str (codes "a")))
@@ -34,26 +34,26 @@ event_query : printed (record {
 unfolding digits
 event_query = refl
 
-runs_and_pipes : printed (record {
+runs_and_pipes : query_shown (record {
   body = sequence [] None (record { category = None; cond = t.bool true; by = record { name = codes "a`b"; optional = true } ∷ []; runs = pos 3 } ∷ []) None;
   pipes = pipe.Head (pos 2) ∷ pipe.Tail (pos 1) ∷ [];
 }) ≡ codes "sequence [any where true] by ?`a``b` with runs=3 | head 2 | tail 1"
 unfolding digits
 runs_and_pipes = refl
 
-patterns : shown (t.or (more (t.pattern pat.Colon (t.str (codes "a")) (codes "b*" ∷ [])) (more (t.pattern pat.LikeFold t.null (codes "c" ∷ codes "d" ∷ [])) none))) []
+patterns : tree_shown (t.or (more (t.pattern pat.Colon (t.str (codes "a")) (codes "b*" ∷ [])) (more (t.pattern pat.LikeFold t.null (codes "c" ∷ codes "d" ∷ [])) none))) []
     ≡ codes "((\"a\" : \"b*\") or (null like~ (\"c\", \"d\")))"
 patterns = refl
 
-calls : shown (t.math math.Sub (t.neg (t.long (pos 5))) (t.call (codes "indexOf") true (more (t.str (codes "a")) (more (t.str (codes "b")) none)))) []
+calls : tree_shown (t.math math.Sub (t.neg (t.long (pos 5))) (t.call (codes "indexOf") true (more (t.str (codes "a")) (more (t.str (codes "b")) none)))) []
     ≡ codes "((-5) - indexOf~(\"a\", \"b\"))"
 unfolding digits
 calls = refl
 
-members : shown (t.member true true t.null (value.Text (codes "x") ∷ value.Long (neg_ℤ (pos 7)) ∷ value.Bool true ∷ [])) [] ≡ codes "(null not in~ (\"x\", -7, true))"
+members : tree_shown (t.member true true t.null (value.Text (codes "x") ∷ value.Long (neg_ℤ (pos 7)) ∷ value.Bool true ∷ [])) [] ≡ codes "(null not in~ (\"x\", -7, true))"
 unfolding digits
 members = refl
 
 -- a quote, a backslash, a line feed, a tab, a carriage return, and two other control characters
-escapes : quoted (34 ∷ 92 ∷ 10 ∷ 9 ∷ 13 ∷ 27 ∷ 127 ∷ []) [] ≡ codes "\"\\\"\\\\\\n\\t\\r\\u{1b}\\u{7f}\""
+escapes : string_shown (34 ∷ 92 ∷ 10 ∷ 9 ∷ 13 ∷ 27 ∷ 127 ∷ []) [] ≡ codes "\"\\\"\\\\\\n\\t\\r\\u{1b}\\u{7f}\""
 escapes = refl

@@ -12,7 +12,7 @@ use Rattle.eql_parser.specs.declared.parser.term.Bracketed.{Bracketed}
 use Rattle.eql_query.specs.View.{tree}
 use Rattle.eql_parser.specs.Kinds.{Kind, bang_, open_item_}
 use Rattle.eql_query.specs.QueryTree.{TermTree, BodyTree, event, term_tree}
-use Rattle.eql_parser.specs.QueryReading.{Conditioned, is_fine_unit, is_runs, term_tree_of, runs, bracketed}
+use Rattle.eql_parser.specs.QueryReading.{Conditioned, is_fine_unit, is_runs, term_tree_of, runs, bracketed_term}
 use Rattle.eql_query.specs.Tree.{Tree}
 use Rattle.eql_parser.specs.Reading.{Res, then_do, res_map}
 
@@ -56,4 +56,4 @@ StopsAtNoUnit _ word left = ⊥
 
 -- an item that is no missing event
 abbrev pub plain_item : (List Kind → Res Tree) → List Kind → Res TermTree
-plain_item condition ts = then_do (bracketed condition ts) (λ x us. res_map (term_tree_of x.0 x.1) (runs us))
+plain_item condition ts = then_do (bracketed_term condition ts) (λ x us. res_map (term_tree_of x.0 x.1) (runs us))

@@ -10,7 +10,7 @@ use Rattle.eql_query.specs.QueryTree.{TermTree, BodyTree, event, sequence, Query
 use Rattle.eql_parser.specs.Kinds.{Kind, bang_, bar_, by_, join_, maxspan_, sample_, sequence_, until_, where_, with_, name, number, open_item_, close_item_, assign_}
 use Rattle.eql_parser.specs.QueryGrammar.{category, pipe_of, unit_of}
 pub use Rattle.eql_parser.specs.QueryGrammar.{is_fine_unit}
-use Rattle.eql_parser.specs.Reading.{Syntax, LeftOut, Res, then_do, res_map, listed, field, expr}
+use Rattle.eql_parser.specs.Reading.{Syntax, LeftOut, Res, then_do, res_map, comma_list, field, expr}
 
 -- the most levels of a condition, and the most parentheses that may stand open
 abbrev pub most_levels : ℕ
@@ -20,9 +20,9 @@ abbrev pub most_open : ℕ
 most_open = 128
 
 -- what follows a word or sign that has to stand here
-abbrev pub expected : {A : Type 0} → (Kind → Bool) → (List Kind → Res A) → List Kind → Res A
-expected is go [] = Err (Syntax 0)
-expected is go (k ∷ ts) = if is k then go ts else Err (Syntax (suc (length ts)))
+abbrev pub behind_expected : {A : Type 0} → (Kind → Bool) → (List Kind → Res A) → List Kind → Res A
+behind_expected is go [] = Err (Syntax 0)
+behind_expected is go (k ∷ ts) = if is k then go ts else Err (Syntax (suc (length ts)))
 
 abbrev pub is_where : Kind → Bool
 is_where where_ = true
@@ -57,18 +57,18 @@ abbrev pub Conditioned : Type 0
 Conditioned = Option (List ℕ) × Tree
 
 abbrev pub keys : List Kind → Res (List FieldRef)
-keys (by_ ∷ ts) = listed field ts
+keys (by_ ∷ ts) = comma_list field ts
 keys ts = Ok ([], ts)
 
 abbrev pub runs : List Kind → Res ℤ
-runs (with_ ∷ ts) = expected is_runs (expected is_assign number_at) ts
+runs (with_ ∷ ts) = behind_expected is_runs (behind_expected is_assign number_at) ts
 runs ts = Ok (pos 1, ts)
 
 abbrev pub term_tree_of : Conditioned → List FieldRef → ℤ → TermTree
 term_tree_of c fs n = record { category = c.0; cond = c.1; by = fs; runs = n }
 
 abbrev pub behind_term : Conditioned → List Kind → Res (Conditioned × List FieldRef)
-behind_term c ts = expected is_close_item (λ us. res_map (λ fs. (c, fs)) (keys us)) ts
+behind_term c ts = behind_expected is_close_item (λ us. res_map (λ fs. (c, fs)) (keys us)) ts
 
 abbrev pub items_more : (List Kind → Res (List TermTree)) → TermTree → List Kind → Res (List TermTree)
 items_more again i (open_item_ ∷ ts) = res_map (λ is. i ∷ is) (again (open_item_ ∷ ts))
@@ -84,7 +84,7 @@ unit_at n (name w ∷ ts) = unit_named n w (unit_of w) ts
 unit_at n ts = Err (Syntax (length ts))
 
 abbrev pub span : List Kind → Res (Option Span)
-span (with_ ∷ ts) = expected is_maxspan (expected is_assign (λ us. then_do (number_at us) unit_at)) ts
+span (with_ ∷ ts) = behind_expected is_maxspan (behind_expected is_assign (λ us. then_do (number_at us) unit_at)) ts
 span ts = Ok (None, ts)
 
 abbrev pub pipe_named : List ℕ → Option (ℤ → PipeText) → List Kind → Res PipeText
@@ -110,25 +110,25 @@ behind_body b ts = res_map (λ ps. record { body = b; pipes = ps }) (pipes (leng
 module _ (condition : List Kind → Res Tree) where
   abbrev pub term_of : Option (Option (List ℕ)) → List Kind → Res Conditioned
   term_of None ts = Err (Syntax (suc (length ts)))
-  term_of (Some c) ts = expected is_where (λ us. res_map (λ e. (c, e)) (condition us)) ts
+  term_of (Some c) ts = behind_expected is_where (λ us. res_map (λ e. (c, e)) (condition us)) ts
 
   abbrev pub term : List Kind → Res Conditioned
   term [] = Err (Syntax 0)
   term (k ∷ ts) = term_of (category k) ts
 
-  abbrev pub bracketed : List Kind → Res (Conditioned × List FieldRef)
-  bracketed ts = expected is_open_item (λ us. then_do (term us) behind_term) ts
+  abbrev pub bracketed_term : List Kind → Res (Conditioned × List FieldRef)
+  bracketed_term ts = behind_expected is_open_item (λ us. then_do (term us) behind_term) ts
 
   abbrev pub item : List Kind → Res TermTree
   item (bang_ ∷ open_item_ ∷ ts) = Err (LeftOut (codes "!") (suc (suc (length ts))))
-  item ts = then_do (bracketed ts) (λ x us. res_map (term_tree_of x.0 x.1) (runs us))
+  item ts = then_do (bracketed_term ts) (λ x us. res_map (term_tree_of x.0 x.1) (runs us))
 
   unfoldable pub items : ℕ → List Kind → Res (List TermTree)
   items zero ts = Err (Syntax (length ts))
   items (suc n) ts = then_do (item ts) (items_more (items n))
 
   abbrev pub until : List Kind → Res (Option TermTree)
-  until (until_ ∷ ts) = res_map (λ x. Some (term_tree_of x.0 x.1 (pos 1))) (bracketed ts)
+  until (until_ ∷ ts) = res_map (λ x. Some (term_tree_of x.0 x.1 (pos 1))) (bracketed_term ts)
   until ts = Ok (None, ts)
 
   abbrev pub behind_items : List FieldRef → Option Span → List TermTree → List Kind → Res BodyTree

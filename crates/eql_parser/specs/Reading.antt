@@ -67,8 +67,8 @@ unfoldable pub separated : {A : Type 0} → (Kind → Bool) → (List Kind → R
 separated is_between read zero ts = Err (Syntax (length ts))
 separated is_between read (suc n) ts = then_do (read ts) (more_of is_between (separated is_between read n))
 
-abbrev pub listed : {A : Type 0} → (List Kind → Res A) → List Kind → Res (List A)
-listed read ts = separated is_comma read (length ts) ts
+abbrev pub comma_list : {A : Type 0} → (List Kind → Res A) → List Kind → Res (List A)
+comma_list read ts = separated is_comma read (length ts) ts
 
 -- the parts behind a dot
 abbrev pub dotted_part : (List ℕ → List Kind → Res (List ℕ)) → List ℕ → Option (List ℕ) → List Kind → Res (List ℕ)
@@ -88,13 +88,13 @@ abbrev pub named_by : Bool → Option (List ℕ) → List Kind → Res FieldRef
 named_by optional None ts = Err (Syntax (suc (length ts)))
 named_by optional (Some w) ts = res_map (λ n. record { name = n; optional = optional }) (dotted (length ts) w ts)
 
-abbrev pub named : Bool → List Kind → Res FieldRef
-named optional [] = Err (Syntax 0)
-named optional (k ∷ ts) = named_by optional (first_part k) ts
+abbrev pub named_field : Bool → List Kind → Res FieldRef
+named_field optional [] = Err (Syntax 0)
+named_field optional (k ∷ ts) = named_by optional (first_part k) ts
 
 abbrev pub field : List Kind → Res FieldRef
-field (question_ ∷ ts) = named true ts
-field ts = named false ts
+field (question_ ∷ ts) = named_field true ts
+field ts = named_field false ts
 
 abbrev pub field_tree : FieldRef → Tree
 field_tree f = t.field f.name f.optional
@@ -138,9 +138,9 @@ abbrev pub chain : (Kind → Option MathOp) → (ℕ → List Kind → Res Tree)
 chain operator read l ts = then_do (read l ts) (λ a us. chain_from operator read l (length us) a us)
 
 -- one operand, or several joined in one node
-abbrev pub joined : (Kind → Bool) → (Trees → Tree) → (ℕ → List Kind → Res Tree) → ℕ → Tree → List Kind → Res Tree
-joined is_between node read l e [] = Ok (e, [])
-joined is_between node read l e (k ∷ ts) =
+abbrev pub joined_operands : (Kind → Bool) → (Trees → Tree) → (ℕ → List Kind → Res Tree) → ℕ → Tree → List Kind → Res Tree
+joined_operands is_between node read l e [] = Ok (e, [])
+joined_operands is_between node read l e (k ∷ ts) =
     if is_between k then above l e (suc (length ts)) (res_map (λ es. node (more e (trees_of es))) (separated is_between (read (l - 1)) (length ts) ts)) else Ok (e, k ∷ ts)
 
 abbrev pub call_of : List ℕ → (place : ℕ) → List Tree → List Kind → Res Tree
@@ -154,15 +154,15 @@ module _ (room : Bool) (inner : ℕ → List Kind → Res Tree) where
 
   abbrev pub arguments : ℕ → List Kind → Res (List Tree)
   arguments l (close_ ∷ ts) = Ok ([], ts)
-  arguments l ts = then_do (listed (inner l) ts) closing
+  arguments l ts = then_do (comma_list (inner l) ts) closing
 
   abbrev pub patterns : List Kind → Res (List (List ℕ))
   patterns (text s ∷ ts) = Ok (s ∷ [], ts)
-  patterns (open_ ∷ ts) = enter ts (then_do (listed text_at ts) closing)
+  patterns (open_ ∷ ts) = enter ts (then_do (comma_list text_at ts) closing)
   patterns ts = Err (Syntax (length ts))
 
   abbrev pub members : List Kind → Res (List Value)
-  members (open_ ∷ ts) = enter ts (then_do (listed literal ts) closing)
+  members (open_ ∷ ts) = enter ts (then_do (comma_list literal ts) closing)
   members ts = Err (Syntax (length ts))
 
   abbrev pub prim : ℕ → List Kind → Res Tree
@@ -172,9 +172,9 @@ module _ (room : Bool) (inner : ℕ → List Kind → Res Tree) where
   prim l (number n ∷ ts) = at_level l (suc (length ts)) (Ok (t.long n, ts))
   prim l (text s ∷ ts) = at_level l (suc (length ts)) (Ok (t.str s, ts))
   prim l (name w ∷ open_ ∷ ts) = at_level l (suc (suc (length ts))) (enter ts (then_do (arguments (l - 1) ts) (call_of w (suc (suc (length ts))))))
-  prim l (name w ∷ ts) = at_level l (suc (length ts)) (res_map field_tree (named false (name w ∷ ts)))
-  prim l (back w ∷ ts) = at_level l (suc (length ts)) (res_map field_tree (named false (back w ∷ ts)))
-  prim l (question_ ∷ ts) = at_level l (suc (length ts)) (res_map field_tree (named true ts))
+  prim l (name w ∷ ts) = at_level l (suc (length ts)) (res_map field_tree (named_field false (name w ∷ ts)))
+  prim l (back w ∷ ts) = at_level l (suc (length ts)) (res_map field_tree (named_field false (back w ∷ ts)))
+  prim l (question_ ∷ ts) = at_level l (suc (length ts)) (res_map field_tree (named_field true ts))
   prim l (folding w ∷ open_ ∷ ts) = at_level l (suc (suc (length ts))) (enter ts (res_map (λ es. t.call w true (trees_of es)) (arguments (l - 1) ts)))
   prim l (folding w ∷ ts) = at_level l (suc (length ts)) (Err (Syntax (length ts)))
   prim l (open_ ∷ ts) = enter ts (then_do (inner l ts) closing)
@@ -215,10 +215,10 @@ module _ (room : Bool) (inner : ℕ → List Kind → Res Tree) where
   neg (suc l) ts = pred (suc l) ts
 
   abbrev pub conj : ℕ → List Kind → Res Tree
-  conj l ts = then_do (neg l ts) (joined is_and t.and neg l)
+  conj l ts = then_do (neg l ts) (joined_operands is_and t.and neg l)
 
   abbrev pub level : ℕ → List Kind → Res Tree
-  level l ts = then_do (conj l ts) (joined is_or t.or conj l)
+  level l ts = then_do (conj l ts) (joined_operands is_or t.or conj l)
 
 -- a condition of at most l levels, with at most d more parentheses open
 unfoldable pub expr : (d l : ℕ) → List Kind → Res Tree

@@ -17,8 +17,8 @@ use Rattle.eql_parser.specs.QueryReading.{items, pipes, query, query_by}
 abbrev when : List Kind → List Kind
 when ts = any_ ∷ where_ ∷ ts
 
-abbrev found : Tree → QueryTree
-found e = record { body = event (record { category = None; cond = e; by = []; runs = pos 1 }); pipes = [] }
+abbrev query_of : Tree → QueryTree
+query_of e = record { body = event (record { category = None; cond = e; by = []; runs = pos 1 }); pipes = [] }
 
 abbrev a : Kind
 a = name (codes "a")
@@ -46,34 +46,34 @@ unfolding lib.Utf8.encode
 folding_name = refl
 
 -- a - b - c
-from_the_left : query (when (a ∷ adds Sub ∷ b ∷ adds Sub ∷ c ∷ [])) ≡ Ok (found (t.math Sub (t.math Sub (field (codes "a")) (field (codes "b"))) (field (codes "c"))), [])
+from_the_left : query (when (a ∷ adds Sub ∷ b ∷ adds Sub ∷ c ∷ [])) ≡ Ok (query_of (t.math Sub (t.math Sub (field (codes "a")) (field (codes "b"))) (field (codes "c"))), [])
 unfolding lib.Utf8.encode separated dotted chain_from unary neg expr pipes
 from_the_left = refl
 
 -- a + b * c
-product_first : query (when (a ∷ adds Add ∷ b ∷ multiplies Mul ∷ c ∷ [])) ≡ Ok (found (t.math Add (field (codes "a")) (t.math Mul (field (codes "b")) (field (codes "c")))), [])
+product_first : query (when (a ∷ adds Add ∷ b ∷ multiplies Mul ∷ c ∷ [])) ≡ Ok (query_of (t.math Add (field (codes "a")) (t.math Mul (field (codes "b")) (field (codes "c")))), [])
 unfolding lib.Utf8.encode separated dotted chain_from unary neg expr pipes
 product_first = refl
 
 -- not a and b
-not_first : query (when (not_ ∷ a ∷ and_ ∷ b ∷ [])) ≡ Ok (found (t.and (more (t.not (field (codes "a"))) (more (field (codes "b")) none))), [])
+not_first : query (when (not_ ∷ a ∷ and_ ∷ b ∷ [])) ≡ Ok (query_of (t.and (more (t.not (field (codes "a"))) (more (field (codes "b")) none))), [])
 unfolding lib.Utf8.encode separated dotted chain_from unary neg expr pipes
 not_first = refl
 
 -- a or b or (c or a)
 own_node : query (when (a ∷ or_ ∷ b ∷ or_ ∷ open_ ∷ c ∷ or_ ∷ a ∷ close_ ∷ []))
-    ≡ Ok (found (t.or (more (field (codes "a")) (more (field (codes "b")) (more (t.or (more (field (codes "c")) (more (field (codes "a")) none))) none)))), [])
+    ≡ Ok (query_of (t.or (more (field (codes "a")) (more (field (codes "b")) (more (t.or (more (field (codes "c")) (more (field (codes "a")) none))) none)))), [])
 unfolding lib.Utf8.encode separated dotted chain_from unary neg expr pipes
 own_node = refl
 
 -- a.by.`c d` like "x"
-dotted_name : query (when (a ∷ dot_ ∷ by_ ∷ dot_ ∷ back (codes "c d") ∷ matches Like ∷ text (codes "x") ∷ [])) ≡ Ok (found (t.pattern Like (field (codes "a.by.c d")) (codes "x" ∷ [])), [])
+dotted_name : query (when (a ∷ dot_ ∷ by_ ∷ dot_ ∷ back (codes "c d") ∷ matches Like ∷ text (codes "x") ∷ [])) ≡ Ok (query_of (t.pattern Like (field (codes "a.by.c d")) (codes "x" ∷ [])), [])
 unfolding lib.Utf8.encode separated dotted chain_from unary neg expr pipes
 dotted_name = refl
 
 -- a not in ("x", -1)
 not_in : query (when (a ∷ not_ ∷ in_ false ∷ open_ ∷ text (codes "x") ∷ comma_ ∷ adds Sub ∷ number (pos 1) ∷ close_ ∷ []))
-    ≡ Ok (found (t.member false true (field (codes "a")) (value.Text (codes "x") ∷ value.Long (negsuc 0) ∷ [])), [])
+    ≡ Ok (query_of (t.member false true (field (codes "a")) (value.Text (codes "x") ∷ value.Long (negsuc 0) ∷ [])), [])
 unfolding lib.Utf8.encode separated dotted chain_from unary neg expr pipes
 not_in = refl
 

@@ -5,7 +5,7 @@ ghost use Rattle.eql_lexer.specs.declared.token.Token.{Token};
 ghost use Rattle.eql_lexer.specs.Spelling.{Spells};
 ghost use Rattle.eql_parser.specs.declared.refusal.ParseRefused.{ParseRefused};
 ghost use Rattle.eql_parser.specs.Limits.{levels, OpensAtMost};
-ghost use Rattle.eql_parser.specs.Printed.{printed};
+ghost use Rattle.eql_parser.specs.Printed.{query_shown};
 ghost use Rattle.eql_parser.specs.QueryGrammar.{IsQuery};
 ghost use Rattle.eql_query.specs.QueryTree.{QueryTree};
 ghost use Rattle.eql_parser.specs.Refusing.{IsMemory, RefusesTokens};
@@ -38,6 +38,6 @@ pub fn one_refusal()
 pub fn prints_back()
     ensures { (text : List ℕ) (tokens : List Token) (query : QueryTree)
         → Spells text tokens → IsUtf8 text → IsQuery tokens query
-        → (us : List Token) × Spells (encode_utf8_all (printed query)) us × IsQuery us query
+        → (us : List Token) × Spells (encode_utf8_all (query_shown query)) us × IsQuery us query
         × OpensAtMost (levels query) us }
 {}

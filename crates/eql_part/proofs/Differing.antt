@@ -11,21 +11,21 @@ use Rattle.std.proofs.lemmas.List.Edits.{Swapped, swapped_from_swap}
 use Rattle.eql_part.specs.Links.{Differ}
 
 -- the place that another had before an exchange
-moved : ℕ → ℕ → ℕ → ℕ
-moved a b i = cond (eqb i a) b (cond (eqb i b) a i)
+exchanged_place : ℕ → ℕ → ℕ → ℕ
+exchanged_place a b i = cond (eqb i a) b (cond (eqb i b) a i)
 
-moved_back : (a b i : ℕ) → moved a b (moved a b i) ≡ i
-unfolding moved
-moved_back a b i = grind (arith, nat_tests)
+exchanged_back : (a b i : ℕ) → exchanged_place a b (exchanged_place a b i) ≡ i
+unfolding exchanged_place
+exchanged_back a b i = grind (arith, nat_tests)
 
-moved_below : (a b i n : ℕ) → a < n → b < n → i < n → moved a b i < n
-unfolding moved
-moved_below a b i n l m k = grind (arith, nat_tests)
+exchanged_below : (a b i n : ℕ) → a < n → b < n → i < n → exchanged_place a b i < n
+unfolding exchanged_place
+exchanged_below a b i n l m k = grind (arith, nat_tests)
 
 module _ {X : Type 0} where
-  read_moved : (f g : ℕ → X) (a b i : ℕ) → Swapped f g a b → g i ≡ f (moved a b i)
-  unfolding moved
-  read_moved f g a b i sw = one (eqb i a) (eqb i b) refl refl
+  read_exchanged : (f g : ℕ → X) (a b i : ℕ) → Swapped f g a b → g i ≡ f (exchanged_place a b i)
+  unfolding exchanged_place
+  read_exchanged f g a b i sw = one (eqb i a) (eqb i b) refl refl
     where
       one : (x y : Bool) → eqb i a ≡ x → eqb i b ≡ y → g i ≡ f (cond x b (cond y a i))
       one true y e h = ap g (eqb-true i a e) ∙ sw.0
@@ -36,11 +36,11 @@ module _ {X : Type 0} where
   differ_swap l a b la lb h = λ i j d li lj e.
       let len = length_permutation l (swap l a b) (IsPermutation-swap l (swap l a b) a b la lb refl) in
       let sw = swapped_from_swap l (swap l a b) a b d la lb refl in
-      let read_i = read_moved (λ k. get_or l k d) (λ k. get_or (swap l a b) k d) a b i sw in
-      let read_j = read_moved (λ k. get_or l k d) (λ k. get_or (swap l a b) k d) a b j sw in
+      let read_i = read_exchanged (λ k. get_or l k d) (λ k. get_or (swap l a b) k d) a b i sw in
+      let read_j = read_exchanged (λ k. get_or l k d) (λ k. get_or (swap l a b) k d) a b j sw in
       let bi : i < length l = omega arith in let bj : j < length l = omega arith in
-      let same = h (moved a b i) (moved a b j) d (moved_below a b i (length l) la lb bi) (moved_below a b j (length l) la lb bj) (sym read_i ∙ e ∙ read_j) in
-      sym (moved_back a b i) ∙ ap (moved a b) same ∙ moved_back a b j
+      let same = h (exchanged_place a b i) (exchanged_place a b j) d (exchanged_below a b i (length l) la lb bi) (exchanged_below a b j (length l) la lb bj) (sym read_i ∙ e ∙ read_j) in
+      sym (exchanged_back a b i) ∙ ap (exchanged_place a b) same ∙ exchanged_back a b j
 
   pub differ_permutation : (xs ys : List X) → IsPermutation xs ys → Differ xs → Differ ys
   differ_permutation xs ys p h = IsPermutation-keeps xs Differ h differ_swap ys p

@@ -6,8 +6,8 @@ use Rattle.std.proofs.lemmas.List.{length-append, length-set}
 use Rattle.std.proofs.Math.Nat.{div-div-eq-div-mul, div-lt_iff_lt-mul, mod-lt, mul-div-mul_right, mul-lt-mul_of_pos_right, mul_assoc, mul_comm}
 use Rattle.eql_part.specs.declared.index.Slot.{Slot}
 use Rattle.eql_part.specs.declared.index.Slot.TheVariants.{Free, Taken}
-use Rattle.eql_part.specs.Hashes.{mixed}
-use Rattle.eql_part.specs.Indexed.{Forgets, Notes, bucket_number, cleared, first_or, kept_at, place_at, place_in, place_there, place_under}
+use Rattle.eql_part.specs.Hashes.{mixed_hash}
+use Rattle.eql_part.specs.Indexed.{Forgets, Notes, bucket_number, slot_without, first_or, kept_at, place_at, place_in, place_there, place_under}
 use Rattle.eql_part.proofs.Housed.{get_apart, get_here, one_or_two}
 
 -- what a slot keeps, where its own hash may go to that bucket
@@ -26,7 +26,7 @@ pub place_kept : (number count hash : ℕ) (slots : List Slot) → bucket_number
 place_kept number count hash [] is = refl
 place_kept number count hash (slot ∷ slots) is = λ i. first_or (kept_place number count slot hash is i) (place_kept number count hash slots is i)
 
-cleared_place : (hash q : ℕ) (slot : Slot) → place_at (cleared hash slot) q ≡ cond (nat_eq hash q) None (place_at slot q)
+cleared_place : (hash q : ℕ) (slot : Slot) → place_at (slot_without hash slot) q ≡ cond (nat_eq hash q) None (place_at slot q)
 cleared_place hash q Free = by (nat_eq hash q)
   where
     by : (b : Bool) → ◌≡◌ {A = Option ℕ} None (cond b None None)
@@ -48,7 +48,7 @@ none_or true o p = refl
 none_or false o p = refl
 
 -- a bucket without the slots of one hash
-pub place_cleared : (hash q : ℕ) (slots : List Slot) → place_in (map (cleared hash) slots) q ≡ cond (nat_eq hash q) None (place_in slots q)
+pub place_cleared : (hash q : ℕ) (slots : List Slot) → place_in (map (slot_without hash) slots) q ≡ cond (nat_eq hash q) None (place_in slots q)
 place_cleared hash q [] = by (nat_eq hash q)
   where
     by : (b : Bool) → ◌≡◌ {A = Option ℕ} None (cond b None None)
@@ -101,11 +101,11 @@ half_by m n d =
 
 -- the bucket of a hash is there
 pub number_within : (hash count : ℕ) → 0 < count → bucket_number hash count < count
-number_within hash count some = within_by (mixed hash 0) count (2 ^ 64) (mod-lt (((hash + 0) % 2 ^ 64) * 11400714819323198485) {m = 2 ^ 64} (omega arith)) some
+number_within hash count some = within_by (mixed_hash hash 0) count (2 ^ 64) (mod-lt (((hash + 0) % 2 ^ 64) * 11400714819323198485) {m = 2 ^ 64} (omega arith)) some
 
 -- among twice as many buckets it is one of two that stand where the one stood
 pub number_half : (hash count : ℕ) → bucket_number hash (count * 2) / 2 ≡ bucket_number hash count
-number_half hash count = half_by (mixed hash 0) count (2 ^ 64)
+number_half hash count = half_by (mixed_hash hash 0) count (2 ^ 64)
 
 pub get_left : {A : Type 0} (xs ys : List A) (k : ℕ) → k < length xs → slice_get (xs ++ ys) k ≡ slice_get xs k
 get_left [] ys k lt = absurd (omega (arith, lt))
@@ -214,7 +214,7 @@ module _ (buckets : List (List Slot)) (hash : ℕ) (bucket now : List Slot) (at 
       (get_apart buckets (bucket_number hash (length buckets)) (bucket_number q (length buckets)) now apart)
 
   -- the slots of a hash were emptied in its bucket
-  pub cleared_in : (place : ℕ) → place_under buckets hash ≡ Some place → now ≡ map (cleared hash) bucket → Forgets place (place_under buckets) (place_under (slice_set buckets (bucket_number hash (length buckets)) now))
+  pub cleared_in : (place : ℕ) → place_under buckets hash ≡ Some place → now ≡ map (slot_without hash) bucket → Forgets place (place_under buckets) (place_under (slice_set buckets (bucket_number hash (length buckets)) now))
   cleared_in place there is q = by (one_or_two (bucket_number q (length buckets)) (bucket_number hash (length buckets)))
     where
       own : (b : Bool) → nat_eq hash q ≡ b → place_under (slice_set buckets (bucket_number hash (length buckets)) now) q ≡ cond b None (place_under buckets q)

@@ -3,11 +3,11 @@ use Rattle.std.specs.Prelude.{◌≡◌, ◌⊎◌, ℕ, ◌*◌, ◌/◌, ◌^�
 use Rattle.eql_part.specs.declared.index.Slot.{Slot}
 use Rattle.eql_part.specs.declared.index.Slot.TheVariants.{Free, Taken}
 use Rattle.eql_part.specs.declared.index.HashIndex.{HashIndex}
-use Rattle.eql_part.specs.Hashes.{mixed}
+use Rattle.eql_part.specs.Hashes.{mixed_hash}
 
 -- the number of the bucket that a hash belongs to among so many: one product more, its upper bits scaled to the number of buckets
 abbrev pub bucket_number : (hash count : ℕ) → ℕ
-bucket_number hash count = mixed hash 0 * count / 2 ^ 64
+bucket_number hash count = mixed_hash hash 0 * count / 2 ^ 64
 
 -- the place that stands in a slot under a hash
 abbrev pub place_at : Slot → ℕ → Option ℕ
@@ -42,8 +42,8 @@ has Free hash = false
 has (Taken place own) hash = nat_eq own hash
 
 -- the slot, but an empty one where it has the hash
-abbrev pub cleared : ℕ → Slot → Slot
-cleared hash slot = cond (has slot hash) Free slot
+abbrev pub slot_without : ℕ → Slot → Slot
+slot_without hash slot = cond (has slot hash) Free slot
 
 -- the slot, but an empty one where its hash doesn't belong to that bucket among so many
 abbrev pub kept_at : (number count : ℕ) → Slot → Slot

@@ -18,22 +18,22 @@ use Rattle.eql_part.specs.Hashes.{key_hash}
 use Rattle.eql_part.specs.KeyTables.{IsOf, machine_of}
 
 -- a key with its machine, of which both are lent behind a number
-abbrev pub lent : ℕ × Bor (List Value) × Bor (Machine Ticket) → List Value × Machine Ticket
-lent e = (e.1.now, e.2.now)
+abbrev pub lent_entry : ℕ × Bor (List Value) × Bor (Machine Ticket) → List Value × Machine Ticket
+lent_entry e = (e.1.now, e.2.now)
 
 abbrev pub Lent : Type 0
 Lent = ℕ × Bor (List Value) × Bor (Machine Ticket)
 
 -- no key comes before the one in front of it
 abbrev pub NoneIsBefore : Lent → Lent → Type 0
-NoneIsBefore x y = is_lt (key_cmp (lent y).0 (lent x).0) ≡ false
+NoneIsBefore x y = is_lt (key_cmp (lent_entry y).0 (lent_entry x).0) ≡ false
 
 abbrev pub AreInKeyOrder : List Lent → Type 0
 AreInKeyOrder rows = AllAdjacentBelow NoneIsBefore rows (length rows)
 
 -- the rows are these entries once they are put in the order of keys
 abbrev pub AreUnsorted : List (List Value × Machine Ticket) → List Lent → Type 0
-AreUnsorted entries rows = (sorted : List Lent) → IsPermutation rows sorted → AreInKeyOrder sorted → map lent sorted ≡ entries
+AreUnsorted entries rows = (sorted : List Lent) → IsPermutation rows sorted → AreInKeyOrder sorted → map lent_entry sorted ≡ entries
 
 -- whether that is this key
 abbrev pub is_key : Option (List Value) → List Value → Bool

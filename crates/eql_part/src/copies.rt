@@ -2,7 +2,7 @@
 ghost use Rattle.std.specs.Prelude.{◌≡◌, ◌-◌, ◌<◌, ◌≤◌, false, IfOk, IfSome, length, map, slice_index_or, vec_capacity};
 ghost use Rattle.eql_part.specs.declared.copies.TheConstants.{AHEAD};
 ghost use Rattle.eql_part.specs.KeyTables.{holders_in};
-ghost use Rattle.eql_part.specs.Rooms.{AreInKeyOrder, Lent, NoneIsBefore, lent};
+ghost use Rattle.eql_part.specs.Rooms.{AreInKeyOrder, Lent, NoneIsBefore, lent_entry};
 
 use crate::machine::KeyMachine;
 use eql_values::{Holder, Key, Memory};
@@ -40,7 +40,7 @@ pub(crate) fn copy_all<L: Ledger>(
     alloc: Global,
     rows: &Vec<(u128, &Key, &KeyMachine<L>)>,
 ) -> Result<Vec<Holder>, Memory>
-    ensures { IfOk result (λ found. found.items ≡ holders_in (map lent rows.now.items)) }
+    ensures { IfOk result (λ found. found.items ≡ holders_in (map lent_entry rows.now.items)) }
 {
     // A key has one pending sequence or more, and mostly one.
     let mut found = Vec::with_capacity(alloc, rows.len())?;
@@ -69,7 +69,7 @@ pub(crate) fn copy_in_order<L: Ledger>(
     rows: &Vec<(u128, &Key, &KeyMachine<L>)>,
 ) -> Result<Option<Vec<Holder>>, Memory>
     ensures copies { IfOk result (λ copied. IfSome copied (λ found.
-        found.items ≡ holders_in (map lent rows.now.items))) }
+        found.items ≡ holders_in (map lent_entry rows.now.items))) }
     ensures order { IfOk result (λ copied. IfSome copied (λ found.
         AreInKeyOrder rows.now.items)) }
 {

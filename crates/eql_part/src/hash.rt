@@ -2,7 +2,7 @@
 ghost use Rattle.std.specs.Prelude.{◌≡◌};
 ghost use Rattle.std.specs.List.{fold};
 ghost use Rattle.std.specs.Str.{chars};
-ghost use Rattle.eql_part.specs.Hashes.{key_hash, mixed, value_hash};
+ghost use Rattle.eql_part.specs.Hashes.{key_hash, mixed_hash, value_hash};
 
 use eql_values::{Key, Text, Value};
 
@@ -11,14 +11,14 @@ const FACTOR: u64 = 11_400_714_819_323_198_485;
 
 /// A hash that goes on by one number.
 pub(crate) fn mix(hash: u64, number: u64) -> u64
-    ensures { result ≡ mixed hash number }
+    ensures { result ≡ mixed_hash hash number }
 {
     hash.wrapping_add(number).wrapping_mul(FACTOR)
 }
 
 /// A hash that goes on by characters.
 fn mix_characters(hash: u64, text: &str) -> u64
-    ensures { result ≡ fold mixed hash (chars text.now) }
+    ensures { result ≡ fold mixed_hash hash (chars text.now) }
 {
     text.chars().fold(
         hash,
@@ -28,7 +28,7 @@ fn mix_characters(hash: u64, text: &str) -> u64
 
 /// A hash that goes on by the characters of a text.
 fn mix_text(hash: u64, text: &Text) -> u64
-    ensures { result ≡ fold mixed hash text.now }
+    ensures { result ≡ fold mixed_hash hash text.now }
 {
     mix_characters(hash, text.text())
 }

@@ -9,7 +9,7 @@
 //! go to two that lie side by side, each to its own place, so this is one walk from front to back. Without memory for
 //! it all stays as it was.
 ghost use Rattle.std.specs.Prelude.{◌≡◌, ℕ, IfOk, IfSome, IsTrue, None, Some, false, map, slice_get};
-ghost use Rattle.eql_part.specs.Indexed.{Forgets, Notes, bucket_number, cleared, has, kept_at, place_at, place_in, place_under, under_of};
+ghost use Rattle.eql_part.specs.Indexed.{Forgets, Notes, bucket_number, slot_without, has, kept_at, place_at, place_in, place_under, under_of};
 
 use crate::hash::mix;
 use eql_values::Memory;
@@ -123,7 +123,7 @@ fn put_in(bucket: &mut [Slot], hash: u64, place: u32) -> bool
 
 /// Empties the slots of a bucket that have a hash.
 fn clear_in(bucket: &mut [Slot], hash: u64)
-    ensures { bucket.new ≡ map (cleared hash) bucket.old }
+    ensures { bucket.new ≡ map (slot_without hash) bucket.old }
 {
     for slot in bucket.iter_mut() {
         if slot.has(hash) {

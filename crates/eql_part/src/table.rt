@@ -8,7 +8,7 @@ ghost use Rattle.eql_values.specs.Orders.{key_cmp};
 ghost use Rattle.eql_part.specs.Hashes.{key_hash};
 ghost use Rattle.eql_part.specs.Indexed.{under_of};
 ghost use Rattle.eql_part.specs.KeyTables.{AreOf, IsEmptyAt};
-ghost use Rattle.eql_part.specs.Rooms.{AddsEmpty, AreUnsorted, Changes, HasKeyNow, IsNamed, IsTable, IsUnnamed, entries_of, is_key, key_at, lent, place_of, rows_of};
+ghost use Rattle.eql_part.specs.Rooms.{AddsEmpty, AreUnsorted, Changes, HasKeyNow, IsNamed, IsTable, IsUnnamed, entries_of, is_key, key_at, lent_entry, place_of, rows_of};
 
 use crate::hash::hash_of;
 use crate::index::HashIndex;
@@ -257,7 +257,7 @@ impl<L: Ledger> KeyTable<L> {
 
     /// The keys that have a machine, each with its number and its machine, in the order of rooms. They are lent.
     fn rows(&self, alloc: Global) -> Result<Vec<(u128, &Key, &KeyMachine<L>)>, Memory>
-        ensures { IfOk result (λ rows. map lent rows.items ≡ rows_of self.now.rooms.items) }
+        ensures { IfOk result (λ rows. map lent_entry rows.items ≡ rows_of self.now.rooms.items) }
     {
         let keys = self.rooms.len().saturating_sub(self.free.len());
         let mut rows = Vec::with_capacity(alloc, keys)?;

@@ -18,21 +18,21 @@ abbrev item_at : OrderKey → Item
 item_at event = record { order = event; routes = [] }
 
 -- a sequence that began at 0
-abbrev begun : Holder
-begun = record { key = []; stage = 1; chain = first ∷ [] }
+abbrev first_holder : Holder
+first_holder = record { key = []; stage = 1; chain = first ∷ [] }
 
 -- with a span of 10 it is alive at 10, and not at 11
-alive_at_ten : still_held (Some (pos 10)) None (At (pos 10)) (begun ∷ []) ≡ begun ∷ []
+alive_at_ten : still_held (Some (pos 10)) None (At (pos 10)) (first_holder ∷ []) ≡ first_holder ∷ []
 alive_at_ten = refl
 
-dead_at_eleven : still_held (Some (pos 10)) None (At (pos 11)) (begun ∷ []) ≡ []
+dead_at_eleven : still_held (Some (pos 10)) None (At (pos 11)) (first_holder ∷ []) ≡ []
 dead_at_eleven = refl
 
 -- an event played at 11 drops it too, whatever mark is done, and without a span nothing does
-dead_by_event : still_held (Some (pos 10)) (Some (pos 11)) Start (begun ∷ []) ≡ []
+dead_by_event : still_held (Some (pos 10)) (Some (pos 11)) Start (first_holder ∷ []) ≡ []
 dead_by_event = refl
 
-alive_without_span : still_held None (Some (pos 11)) (At (pos 11)) (begun ∷ []) ≡ begun ∷ []
+alive_without_span : still_held None (Some (pos 11)) (At (pos 11)) (first_holder ∷ []) ≡ first_holder ∷ []
 alive_without_span = refl
 
 -- the last event that was played gives the time, and no event leaves it

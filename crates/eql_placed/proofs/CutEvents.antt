@@ -13,7 +13,7 @@ use Rattle.eql_values.specs.declared.found.Match.{Match}
 use Rattle.eql_values.specs.declared.found.Numbered.{Numbered}
 use Rattle.eql_values.specs.declared.cut.LaneCut.{LaneCut}
 use Rattle.eql_values.specs.declared.cut.PipeState.{PipeState}
-use Rattle.eql_values.specs.Accepted.{Reads, accepted, accepted_from, below}
+use Rattle.eql_values.specs.Accepted.{Reads, accepted_items, accepted_from, below}
 use Rattle.eql_values.specs.Marks.{is_below}
 use Rattle.eql_values.specs.Matching.{matches, after}
 use Rattle.eql_laws.specs.Books.{KeptPass, kept_of, book_of}
@@ -69,16 +69,16 @@ module _ (test : List ℕ → OrderKey → Bool) where
 
   module _ (reads : Reads) (slack : Option ℤ) where
     -- of the accepted events of texts
-    pub all_pass : ((shard : ℕ) (text : List ℕ) → All (PassesAt test shard text) (accepted reads slack shard text)) → (shard : ℕ) (texts : List (List ℕ))
+    pub all_pass : ((shard : ℕ) (text : List ℕ) → All (PassesAt test shard text) (accepted_items reads slack shard text)) → (shard : ℕ) (texts : List (List ℕ))
         → All (λ (item : Item). PassesFrom test shard texts item.order) (accepted_from reads slack shard texts)
     all_pass each shard [] = All-nil _
     all_pass each shard (text ∷ texts) =
-        All-append (λ (item : Item). PassesFrom test shard (text ∷ texts) item.order) (accepted reads slack shard text) (accepted_from reads slack (shard + 1) texts)
-        (All-weaker (PassesAt test shard text) (λ (item : Item). PassesFrom test shard (text ∷ texts) item.order) (first_passes shard text texts) (accepted reads slack shard text) (each shard text))
+        All-append (λ (item : Item). PassesFrom test shard (text ∷ texts) item.order) (accepted_items reads slack shard text) (accepted_from reads slack (shard + 1) texts)
+        (All-weaker (PassesAt test shard text) (λ (item : Item). PassesFrom test shard (text ∷ texts) item.order) (first_passes shard text texts) (accepted_items reads slack shard text) (each shard text))
         (All-weaker (λ (item : Item). PassesFrom test (shard + 1) texts item.order) (λ (item : Item). PassesFrom test shard (text ∷ texts) item.order) (later_passes shard text texts)
         (accepted_from reads slack (shard + 1) texts) (all_pass each (shard + 1) texts))
 
-    pub below_pass : ((shard : ℕ) (text : List ℕ) → All (PassesAt test shard text) (accepted reads slack shard text)) → (texts : List (List ℕ)) (mark : Mark)
+    pub below_pass : ((shard : ℕ) (text : List ℕ) → All (PassesAt test shard text) (accepted_items reads slack shard text)) → (texts : List (List ℕ)) (mark : Mark)
         → All (λ (item : Item). IsTrue (along test texts item.order.shard item.order)) (below reads slack texts mark)
     below_pass each texts mark =
         All-sorted (λ (item : Item). IsTrue (along test texts item.order.shard item.order)) (filter (is_below mark) (accepted_from reads slack 0 texts))
@@ -87,16 +87,16 @@ module _ (test : List ℕ → OrderKey → Bool) where
         (all_pass each 0 texts)))
 
     -- of those that lanes hold back, by a text of each shard
-    module _ (text_of : ReadTo → List ℕ) (each : (shard : ℕ) (r : ReadTo) → All (PassesAt test shard (text_of r)) (accepted reads slack shard r.first)) (mark : Mark) where
+    module _ (text_of : ReadTo → List ℕ) (each : (shard : ℕ) (r : ReadTo) → All (PassesAt test shard (text_of r)) (accepted_items reads slack shard r.first)) (mark : Mark) where
       abbrev LanePasses : ℕ → List ReadTo → LaneCut → Type 0
       LanePasses shard shards lane = All (λ (item : Item). PassesFrom test shard (map text_of shards) item.order) lane.items
 
       lane_passes : (shard : ℕ) (r : ReadTo) (shards : List ReadTo) → LanePasses shard (r ∷ shards) (lane_at reads slack shard mark r)
       lane_passes shard r shards =
-          All-sorted (λ (item : Item). PassesFrom test shard (map text_of (r ∷ shards)) item.order) (filter (λ item. not (is_below mark item)) (accepted reads slack shard r.first))
-          (All-filter (λ item. not (is_below mark item)) (λ (item : Item). PassesFrom test shard (map text_of (r ∷ shards)) item.order) (accepted reads slack shard r.first)
+          All-sorted (λ (item : Item). PassesFrom test shard (map text_of (r ∷ shards)) item.order) (filter (λ item. not (is_below mark item)) (accepted_items reads slack shard r.first))
+          (All-filter (λ item. not (is_below mark item)) (λ (item : Item). PassesFrom test shard (map text_of (r ∷ shards)) item.order) (accepted_items reads slack shard r.first)
           (All-weaker (PassesAt test shard (text_of r)) (λ (item : Item). PassesFrom test shard (map text_of (r ∷ shards)) item.order) (first_passes shard (text_of r) (map text_of shards))
-          (accepted reads slack shard r.first) (each shard r)))
+          (accepted_items reads slack shard r.first) (each shard r)))
 
       pub lanes_pass : (shard : ℕ) (shards : List ReadTo) → All (LanePasses shard shards) (lanes_from reads slack shard mark shards)
       lanes_pass shard [] = All-nil _

@@ -7,7 +7,7 @@ use Rattle.eql_values.specs.declared.order.OrderKey.{OrderKey}
 use Rattle.eql_values.specs.declared.order.Mark.TheVariants.{At}
 use Rattle.eql_values.specs.declared.item.Item.{Item}
 use Rattle.eql_values.specs.declared.cut.LaneCut.{LaneCut}
-use Rattle.eql_values.specs.Accepted.{Reads, accepted}
+use Rattle.eql_values.specs.Accepted.{Reads, accepted_items}
 use Rattle.eql_values.specs.Lines.{lines_of, lines_in}
 use Rattle.eql_laws.specs.Belows.{IsReading}
 use Rattle.eql_laws.specs.Books.{KeptPass}
@@ -43,19 +43,19 @@ line_along (text ∷ texts) zero o is =
 line_along (text ∷ texts) (suc shard) o is = line_along texts shard o is
 
 module _ (reads : Reads) (reading : IsReading reads) (run : Run) where
-  placed_whole : (shard : ℕ) (r : ReadTo) → All (PassesAt has_place shard (whole r)) (accepted reads (Some run.slack) shard r.first)
+  placed_whole : (shard : ℕ) (r : ReadTo) → All (PassesAt has_place shard (whole r)) (accepted_items reads (Some run.slack) shard r.first)
   placed_whole shard r =
       All-weaker (IsEventOf shard r.first) (PassesAt has_place shard (whole r))
       (λ item h. (h.shard_is, eq-eqb (place_of_line (lines_in (whole r)) item.order.line) item.order.at (in_whole r.first r.rest item.order.line item.order.at h.stands)))
-      (accepted reads (Some run.slack) shard r.first) (accepted_stand reads shard r.first reading (Some run.slack))
+      (accepted_items reads (Some run.slack) shard r.first) (accepted_stand reads shard r.first reading (Some run.slack))
 
-  placed_text : (shard : ℕ) (text : List ℕ) → All (PassesAt has_place shard text) (accepted reads (Some run.slack) shard text)
+  placed_text : (shard : ℕ) (text : List ℕ) → All (PassesAt has_place shard text) (accepted_items reads (Some run.slack) shard text)
   placed_text shard text =
       All-weaker (IsEventOf shard text) (PassesAt has_place shard text)
       (λ item h. (h.shard_is, eq-eqb (place_of_line (lines_in text) item.order.line) item.order.at h.stands.place_is))
-      (accepted reads (Some run.slack) shard text) (accepted_stand reads shard text reading (Some run.slack))
+      (accepted_items reads (Some run.slack) shard text) (accepted_stand reads shard text reading (Some run.slack))
 
-  lined_text : (shard : ℕ) (text : List ℕ) → All (PassesAt has_line shard text) (accepted reads (Some run.slack) shard text)
+  lined_text : (shard : ℕ) (text : List ℕ) → All (PassesAt has_line shard text) (accepted_items reads (Some run.slack) shard text)
   lined_text shard text =
       All-weaker (IsEventOf shard text) (PassesAt has_line shard text)
       (λ item h. (
@@ -63,11 +63,11 @@ module _ (reads : Reads) (reading : IsReading reads) (run : Run) where
         and_from (leb 1 item.order.line) (leb item.order.line (length (lines_of text))) (le-leb 1 item.order.line h.stands.number_from)
             (le-leb item.order.line (length (lines_of text)) (let to = h.stands.number_to in omega (arith, to))),
       ))
-      (accepted reads (Some run.slack) shard text) (accepted_stand reads shard text reading (Some run.slack))
+      (accepted_items reads (Some run.slack) shard text) (accepted_stand reads shard text reading (Some run.slack))
 
   -- the test of each lane's events, by whichever text of each shard
   module _ (test : List ℕ → OrderKey → Bool) (text_of : ReadTo → List ℕ) (t : ℤ) (shards : List ReadTo)
-      (each : (shard : ℕ) (r : ReadTo) → All (PassesAt test shard (text_of r)) (accepted reads (Some run.slack) shard r.first)) where
+      (each : (shard : ℕ) (r : ReadTo) → All (PassesAt test shard (text_of r)) (accepted_items reads (Some run.slack) shard r.first)) where
     abbrev Passes : Item → Type 0
     Passes item = IsTrue (along test (map text_of shards) item.order.shard item.order)
 

@@ -6,7 +6,7 @@ use Rattle.std.proofs.lemmas.List.Elements.{All-nil, All-cons, All-weaker}
 use Rattle.eql_values.specs.declared.item.Item.{Item}
 use Rattle.eql_values.specs.declared.reader.LineGot.{LineGot}
 use Rattle.eql_values.specs.declared.reader.LineGot.TheVariants as got
-use Rattle.eql_values.specs.Accepted.{Reads, event_at, readable, accepted}
+use Rattle.eql_values.specs.Accepted.{Reads, event_at, readable, accepted_items}
 use Rattle.eql_values.specs.Lines.{Line, begin_with, lines_of, numbered_lines, lines_in}
 use Rattle.eql_values.specs.Reading.{IsReadAt}
 use Rattle.eql_laws.specs.Belows.{IsReading}
@@ -66,7 +66,7 @@ module _ (reads : Reads) (shard : ℕ) (text : List ℕ) (reading : IsReading re
   event_stands line got.Blank e h = tt
   event_stands line (got.Bad reason) e h = tt
 
-  pub accepted_stand : (slack : Option ℤ) → All (IsEventOf shard text) (accepted reads slack shard text)
+  pub accepted_stand : (slack : Option ℤ) → All (IsEventOf shard text) (accepted_items reads slack shard text)
   accepted_stand slack =
       All-accepted (IsEventOf shard text) slack [] (readable reads shard (lines_in text))
       (All-filter_map (LineStands (lines_in text) 1 (length (lines_of text))) (IsEventOf shard text) (λ (line : Line). event_at line.at (reads shard line.number line.bytes))

@@ -13,7 +13,7 @@ use Rattle.eql_values.specs.declared.cut.PipeState.{PipeState}
 use Rattle.eql_values.specs.declared.cut.PipeState.TheVariants as state
 use Rattle.eql_cut.specs.declared.cut.Cut.{Cut}
 use Rattle.eql_cut.specs.Lifting.{LiftedIsPlaced}
-use Rattle.eql_cut.specs.Placing.{lane_orders, state_orders, orders_in, lines_at, NamesLine, lifted_order, lifted_chain, lifted_item, lifted_lane, lifted_holder, lifted_kept, lifted_state, lifted}
+use Rattle.eql_cut.specs.Placing.{lane_orders, state_orders, orders_in, lines_at, NamesLine, lifted_order, lifted_chain, lifted_item, lifted_lane, lifted_holder, lifted_kept, lifted_state, lifted_cut}
 use Rattle.eql_placed.specs.Placed.{place_in_texts}
 use Rattle.eql_placed.specs.PlacedLaws.{UnplacedIsBack}
 
@@ -66,7 +66,7 @@ module _ (p q : ℕ → ℕ → ℕ) where
   same_state (state.Tail kept) all =
       ap (λ (k : List Numbered). state.Tail k) (same_each (λ (n : Numbered). n.found.chain) (lifted_kept p) (lifted_kept q) same_kept kept all)
 
-  pub same_lifted : (cut : Cut) → All Agree (orders_in cut) → lifted p cut ≡ lifted q cut
+  pub same_lifted : (cut : Cut) → All Agree (orders_in cut) → lifted_cut p cut ≡ lifted_cut q cut
   same_lifted cut all =
       let lanes : List OrderKey = flat_map lane_orders cut.lanes in
       let holders : List OrderKey = flat_map (λ (h : Holder). h.chain) cut.holders in
@@ -112,7 +112,7 @@ module _ (p q : ℕ → ℕ → ℕ) where
   twice_state (state.Head passed) = refl
   twice_state (state.Tail kept) = ap (λ (k : List Numbered). state.Tail k) (map_twice (lifted_kept p) (lifted_kept q) twice_kept kept)
 
-  twice_lifted : (cut : Cut) → lifted p (lifted q cut) ≡ lifted p cut
+  twice_lifted : (cut : Cut) → lifted_cut p (lifted_cut q cut) ≡ lifted_cut p cut
   twice_lifted cut = λ i. record {
     head = cut.head;
     mark = cut.mark;
@@ -145,7 +145,7 @@ module _ (place : ℕ → ℕ → ℕ) where
   chain_of_state (state.Head passed) = refl
   chain_of_state (state.Tail kept) = chain_of_each (λ (n : Numbered). n.found.chain) (lifted_kept place) (λ n. refl) kept
 
-  orders_lifted : (cut : Cut) → orders_in (lifted place cut) ≡ lifted_chain place (orders_in cut)
+  orders_lifted : (cut : Cut) → orders_in (lifted_cut place cut) ≡ lifted_chain place (orders_in cut)
   orders_lifted cut =
       let lanes : List OrderKey = flat_map lane_orders cut.lanes in
       let holders : List OrderKey = flat_map (λ (h : Holder). h.chain) cut.holders in
@@ -164,10 +164,10 @@ module _ (place : ℕ → ℕ → ℕ) where
         | false ↦ lines_stay shard orders
       ]
 
-  same_lines : (cut : Cut) (shard : ℕ) → lines_at shard (orders_in (lifted place cut)) ≡ lines_at shard (orders_in cut)
+  same_lines : (cut : Cut) (shard : ℕ) → lines_at shard (orders_in (lifted_cut place cut)) ≡ lines_at shard (orders_in cut)
   same_lines cut shard = ap (lines_at shard) (orders_lifted cut) ∙ lines_stay shard (orders_in cut)
 
-  pub names_same : (cut : Cut) (shard line : ℕ) → NamesLine (lifted place cut) shard line ↔ NamesLine cut shard line
+  pub names_same : (cut : Cut) (shard line : ℕ) → NamesLine (lifted_cut place cut) shard line ↔ NamesLine cut shard line
   names_same cut shard line = (
     λ is. subst (λ (l : List ℕ). Contains l line) (same_lines cut shard) is,
     λ is. subst (λ (l : List ℕ). Contains l line) (sym (same_lines cut shard)) is,

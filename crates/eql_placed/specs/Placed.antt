@@ -6,7 +6,7 @@ use Rattle.eql_laws.specs.Fitting.{Run, cut_of}
 use Rattle.eql_laws.specs.Places.{ReadTo}
 use Rattle.eql_cut.specs.declared.cut.Cut.{Cut}
 use Rattle.eql_cut.specs.Domain.{kept_by}
-use Rattle.eql_cut.specs.Placing.{NamesLine, lifted}
+use Rattle.eql_cut.specs.Placing.{NamesLine, lifted_cut}
 
 -- the place of the line with this number among these, or 0 where none has it
 abbrev pub place_of_line : List Line → (number : ℕ) → ℕ
@@ -20,12 +20,12 @@ place_in_texts (text ∷ texts) zero line = place_of_line (lines_in text) line
 place_in_texts (text ∷ texts) (suc shard) line = place_in_texts texts shard line
 
 -- the cut with each event at the place of its line in these texts
-abbrev pub placed : List (List ℕ) → Cut → Cut
-placed texts = lifted (place_in_texts texts)
+abbrev pub cut_at_places : List (List ℕ) → Cut → Cut
+cut_at_places texts = lifted_cut (place_in_texts texts)
 
 -- the cut with no places: what the first format keeps of it
-abbrev pub unplaced : Cut → Cut
-unplaced = lifted (λ shard line. 0)
+abbrev pub cut_without_places : Cut → Cut
+cut_without_places = lifted_cut (λ shard line. 0)
 
 -- what the cut keeps is what a cut at this time keeps of shards that were read up to places
 abbrev pub IsCutOf : Run → Reads → ℤ → List ReadTo → Cut → Type 0

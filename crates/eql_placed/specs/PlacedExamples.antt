@@ -9,8 +9,8 @@ use Rattle.eql_laws.specs.Fitting.{Run, Kept, cut_of}
 use Rattle.eql_laws.specs.Places.{ReadTo, whole}
 use Rattle.eql_cut.specs.declared.cut.Cut.{Cut}
 use Rattle.eql_cut.specs.declared.cut.CutHead.{CutHead}
-use Rattle.eql_cut.specs.Placing.{orders_in, place_of, lifted}
-use Rattle.eql_placed.specs.Placed.{place_in_texts, placed, unplaced}
+use Rattle.eql_cut.specs.Placing.{orders_in, place_of, lifted_cut}
+use Rattle.eql_placed.specs.Placed.{place_in_texts, cut_at_places, cut_without_places}
 
 abbrev by_bytes : Reads
 by_bytes shard line [] = got.Blank
@@ -52,15 +52,15 @@ stands : (head : CutHead) → map stand (orders_in (at_25 head)) ≡ (0 ∷ 5 �
 stands head = refl
 
 -- the same as the first format keeps it
-stands_unplaced : (head : CutHead) → map stand (orders_in (unplaced (at_25 head))) ≡ (0 ∷ 5 ∷ 0 ∷ []) ∷ (1 ∷ 2 ∷ 0 ∷ []) ∷ (0 ∷ 4 ∷ 0 ∷ []) ∷ (1 ∷ 1 ∷ 0 ∷ []) ∷ (0 ∷ 3 ∷ 0 ∷ []) ∷ []
+stands_unplaced : (head : CutHead) → map stand (orders_in (cut_without_places (at_25 head))) ≡ (0 ∷ 5 ∷ 0 ∷ []) ∷ (1 ∷ 2 ∷ 0 ∷ []) ∷ (0 ∷ 4 ∷ 0 ∷ []) ∷ (1 ∷ 1 ∷ 0 ∷ []) ∷ (0 ∷ 3 ∷ 0 ∷ []) ∷ []
 stands_unplaced head = refl
 
-is_back : (head : CutHead) → placed two_texts (unplaced (at_25 head)) ≡ at_25 head
+is_back : (head : CutHead) → cut_at_places two_texts (cut_without_places (at_25 head)) ≡ at_25 head
 is_back head = refl
 
 -- lines and places that were noted of the two shards, the blank line's too
 abbrev two_lists : List (List (ℕ × ℕ))
 two_lists = ((2, 3) ∷ (3, 4) ∷ (4, 7) ∷ (5, 10) ∷ []) ∷ ((1, 0) ∷ (2, 3) ∷ []) ∷ []
 
-by_lists : (head : CutHead) → lifted (place_of two_lists) (unplaced (at_25 head)) ≡ at_25 head
+by_lists : (head : CutHead) → lifted_cut (place_of two_lists) (cut_without_places (at_25 head)) ≡ at_25 head
 by_lists head = refl

@@ -11,7 +11,7 @@ use Rattle.eql_laws.specs.Alive.{IsSpan}
 use Rattle.eql_laws.specs.Belows.{IsReading}
 use Rattle.eql_laws.specs.Shapes.{HasStageBefore, IsFull}
 use Rattle.eql_outside.specs.Moments.{History}
-use Rattle.eql_lane.specs.Lanes.{LaneState, Setting, begun, fresh_cut as fresh_lane}
+use Rattle.eql_lane.specs.Lanes.{LaneState, Setting, beginning_lane, fresh_cut as fresh_lane}
 use Rattle.eql_lane.specs.declared.make.LaneStart.{LaneStart}
 use Rattle.eql_lane.specs.declared.make.LaneStart.TheVariants as start
 use Rattle.eql_lane.specs.Slacks.{nanos_of}
@@ -41,19 +41,19 @@ pub begins_with : {S L : Type 0} (left lent_as : S → Option (List ℕ)) (count
 begins_with left lent_as count source reader shard slack start.Fresh lane made = record {
   shard = made.shard_is;
   slack_is = made.slack_is;
-  state = made.state ∙ ap (λ (x : LaneState). begun x.cut x.faults) (sym made.state);
+  state = made.state ∙ ap (λ (x : LaneState). beginning_lane x.cut x.faults) (sym made.state);
   cut = ap (λ (x : LaneState). x.cut) made.state;
 }
 begins_with left lent_as count source reader shard slack (start.From cut) lane made = record {
   shard = made.shard_is;
   slack_is = made.slack_is;
-  state = made.state ∙ ap (λ (x : LaneState). begun x.cut x.faults) (sym made.state);
+  state = made.state ∙ ap (λ (x : LaneState). beginning_lane x.cut x.faults) (sym made.state);
   cut = ap (λ (x : LaneState). x.cut) made.state;
 }
 begins_with left lent_as count source reader shard slack (start.Lift cut wanted) lane made = record {
   shard = made.begins.shard_is;
   slack_is = made.begins.slack_is;
-  state = made.begins.state ∙ ap (λ (x : LaneState). begun x.cut x.faults) (sym made.begins.state);
+  state = made.begins.state ∙ ap (λ (x : LaneState). beginning_lane x.cut x.faults) (sym made.begins.state);
   cut = tt;
 }
 
@@ -105,7 +105,7 @@ may_hold plan rules lanes holders book law (inr from) =
 -- ---- the bench
 -- the state of a lane, where there is one
 abbrev state_in : {S L : Type 0} → Option (LaneView S L) → LaneState
-state_in None = begun fresh_lane 0
+state_in None = beginning_lane fresh_lane 0
 state_in (Some lane) = lane.state
 
 module _ {S L : Type 0} (read_of : L → Reads) (text : ℕ → Option (List ℕ)) (reading : (reader : L) → IsReading (read_of reader))

@@ -8,7 +8,7 @@ use Rattle.eql_laws.specs.Alive.{HoldersAreInOrder}
 use Rattle.eql_laws.specs.Fitting.{Fits, Kept, Run, StandsInOrder}
 use Rattle.eql_laws.specs.Shapes.{HasStageBefore, IsFull}
 use Rattle.eql_outside.specs.Moments.{History}
-use Rattle.eql_lane.specs.Lanes.{begun, fresh_cut as fresh_lane}
+use Rattle.eql_lane.specs.Lanes.{beginning_lane, fresh_cut as fresh_lane}
 use Rattle.eql_lane.specs.declared.make.LaneStart.{LaneStart}
 use Rattle.eql_lane.specs.declared.make.LaneStart.TheVariants as start
 use Rattle.eql_lane.specs.Views.{LaneView}
@@ -28,7 +28,7 @@ use Rattle.eql_conductor.specs.Openings.{begun_part}
 pub record BeginsWith {S L : Type 0} (slack : Option ℤ) (Is : LaneCut → Type 0) (s : ℕ) (lane : LaneView S L) : Type 0 where
   pub shard : lane.shard ≡ s
   pub slack_is : lane.slack ≡ slack
-  pub state : lane.state ≡ begun lane.state.cut lane.state.faults
+  pub state : lane.state ≡ beginning_lane lane.state.cut lane.state.faults
   pub cut : Is lane.state.cut
 
 -- the cut with which a lane starts, where its lines have places

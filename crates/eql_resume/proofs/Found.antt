@@ -16,7 +16,7 @@ use Rattle.eql_ckdisk.specs.declared.recovery.Recovered.{Recovered}
 use Rattle.eql_ckdisk.specs.declared.refused.CkRefused.{CkRefused}
 use Rattle.eql_ckdisk.specs.declared.refused.CkRefused.TheVariants as ck
 use Rattle.eql_ckdisk.specs.Cuts.{IsFound}
-use Rattle.eql_ckdisk.specs.Found.{EachFinds, Found, LastCut, found, text}
+use Rattle.eql_ckdisk.specs.Found.{EachFinds, Found, LastCut, found_on, text}
 use Rattle.eql_ckdisk.specs.Found as areas
 use Rattle.eql_ckdisk.specs.Keeping.{KeepsAll, all_kept}
 use Rattle.eql_ckdisk.specs.Putting.{last_cut}
@@ -26,17 +26,17 @@ use Rattle.eql_runs.specs.CutRefusals.{FoundRefuses, damaged, head_damaged, head
 use Rattle.eql_runs.specs.Starts.{StandsFor, a_cut, bad_head, bad_text}
 use Rattle.eql_resume.specs.declared.finding.StartRefused.{StartRefused}
 use Rattle.eql_resume.specs.declared.finding.StartRefused.TheVariants as by
-use Rattle.eql_resume.specs.Finding.{HasCause, HasCutCause, HasFoundCause, IsRefusedBy, held, refused_by}
+use Rattle.eql_resume.specs.Finding.{HasCause, HasCutCause, HasFoundCause, IsRefusedBy, disk_holding, refused_by}
 
 -- ---- what is found
 stands_for : (last : LastCut) (format : ℕ) (answer : Option Cut) (f : Found) → IsFound last format answer f
-    → StandsFor (held format last.generation answer) f
+    → StandsFor (disk_holding format last.generation answer) f
 stands_for last format None f is = is.0
 stands_for last format (Some cut) f is = (last.area, is.0, is.1, is.2)
 
 -- what reads gave, once it is kept
 pub seen_now : (seen : (m : Moment) → IsImage m (seen_areas m)) (P : Found → Type 0) (o p : Option History) → DiskTells KeepsAll o p
-    → IfSome p (λ k. EachFinds P k.now) → IfSome o (λ h. P (found (seen_areas h.now)))
+    → IfSome p (λ k. EachFinds P k.now) → IfSome o (λ h. P (found_on (seen_areas h.now)))
 seen_now seen P None None kept each = tt
 seen_now seen P None (Some k) kept each = absurd kept
 seen_now seen P (Some h) None kept each = absurd kept
@@ -45,13 +45,13 @@ seen_now seen P (Some h) (Some k) kept each =
 
 pub held_there : (seen : (m : Moment) → IsImage m (seen_areas m)) (r : Recovered) (o p : Option History) → DiskTells KeepsAll o p
     → IfSome p (λ k. EachFinds (IsAnswer r) k.now)
-    → IfSome o (λ h. StandsFor (held r.format (last_cut r.state).generation r.cut) (found (seen_areas h.now)))
+    → IfSome o (λ h. StandsFor (disk_holding r.format (last_cut r.state).generation r.cut) (found_on (seen_areas h.now)))
 held_there seen r o p kept each = by o (seen_now seen (IsAnswer r) o p kept each)
   where
-    by : (o : Option History) → IfSome o (λ h. IsAnswer r (found (seen_areas h.now)))
-        → IfSome o (λ h. StandsFor (held r.format (last_cut r.state).generation r.cut) (found (seen_areas h.now)))
+    by : (o : Option History) → IfSome o (λ h. IsAnswer r (found_on (seen_areas h.now)))
+        → IfSome o (λ h. StandsFor (disk_holding r.format (last_cut r.state).generation r.cut) (found_on (seen_areas h.now)))
     by None is = tt
-    by (Some h) is = stands_for (last_cut r.state) r.format r.cut (found (seen_areas h.now)) is
+    by (Some h) is = stands_for (last_cut r.state) r.format r.cut (found_on (seen_areas h.now)) is
 
 -- a cut of the first format has no places
 pub none_placed : FirstFormatHasNoPlaces → (cut : Option Cut) (format generation : ℕ) → IsNoneOrCut cut format generation
@@ -80,18 +80,18 @@ module _ (stages values : ℕ) (pipes : List Pipe) (head : CutHead) where
     refuses = subst (λ (n : ℕ). FoundRefuses head (run_of stages values pipes head.slack) (bad_head number) (damaged number n)) (sym is.1) (head_damaged number);
   }
 
-  by_refusal : (e : CkRefused) (o : Option History) → IfDamaged e (λ number at. IfSome o (λ h. IsDamaged number at (found (seen_areas h.now))))
-      → IfSome o (λ h. HasCause (found (seen_areas h.now)) stages values pipes head (refused_by e))
+  by_refusal : (e : CkRefused) (o : Option History) → IfDamaged e (λ number at. IfSome o (λ h. IsDamaged number at (found_on (seen_areas h.now))))
+      → IfSome o (λ h. HasCause (found_on (seen_areas h.now)) stages values pipes head (refused_by e))
   by_refusal e None is = tt
   by_refusal ck.DiskFault (Some h) is = tt
-  by_refusal (ck.Damaged number at) (Some h) is = by_damage (found (seen_areas h.now)) number at is
+  by_refusal (ck.Damaged number at) (Some h) is = by_damage (found_on (seen_areas h.now)) number at is
   by_refusal ck.Generation (Some h) is = tt
   by_refusal ck.Memory (Some h) is = tt
 
   -- a damage of each image now is that of what reads gave
   damage_seen : (seen : (m : Moment) → IsImage m (seen_areas m)) (e : CkRefused) (o p : Option History) → IfDamaged e (λ number at. DiskTells KeepsAll o p)
       → IfDamaged e (λ number at. IfSome p (λ k. EachFinds (IsDamaged number at) k.now))
-      → IfDamaged e (λ number at. IfSome o (λ h. IsDamaged number at (found (seen_areas h.now))))
+      → IfDamaged e (λ number at. IfSome o (λ h. IsDamaged number at (found_on (seen_areas h.now))))
   damage_seen seen ck.DiskFault o p kept each = tt
   damage_seen seen (ck.Damaged number at) o p kept each = seen_now seen (IsDamaged number at) o p kept each
   damage_seen seen ck.Generation o p kept each = tt
@@ -99,9 +99,9 @@ module _ (stages values : ℕ) (pipes : List Pipe) (head : CutHead) where
 
   pub refused_there : (seen : (m : Moment) → IsImage m (seen_areas m)) (e : CkRefused) (r : StartRefused) (o p : Option History) → r ≡ refused_by e
       → IfDamaged e (λ number at. DiskTells KeepsAll o p) → IfDamaged e (λ number at. IfSome p (λ k. EachFinds (IsDamaged number at) k.now))
-      → IfSome o (λ h. HasCause (found (seen_areas h.now)) stages values pipes head r)
+      → IfSome o (λ h. HasCause (found_on (seen_areas h.now)) stages values pipes head r)
   refused_there seen e r o p is kept each =
-      subst (λ (x : StartRefused). IfSome o (λ h. HasCause (found (seen_areas h.now)) stages values pipes head x)) (sym is)
+      subst (λ (x : StartRefused). IfSome o (λ h. HasCause (found_on (seen_areas h.now)) stages values pipes head x)) (sym is)
       (by_refusal e o (damage_seen seen e o p kept each))
 
   -- a cut is refused
@@ -119,15 +119,15 @@ module _ (stages values : ℕ) (pipes : List Pipe) (head : CutHead) where
   by_cut format generation cut f by.Memory stands is = tt
 
   by_found_cut : (format generation : ℕ) (cut : Option Cut) (r : StartRefused) (o : Option History) → HasFoundCause stages values pipes head cut r
-      → IfSome o (λ h. StandsFor (held format generation cut) (found (seen_areas h.now)))
-      → IfSome o (λ h. HasCause (found (seen_areas h.now)) stages values pipes head r)
+      → IfSome o (λ h. StandsFor (disk_holding format generation cut) (found_on (seen_areas h.now)))
+      → IfSome o (λ h. HasCause (found_on (seen_areas h.now)) stages values pipes head r)
   by_found_cut format generation None r o is stands = absurd is
   by_found_cut format generation (Some cut) r None is stands = tt
-  by_found_cut format generation (Some cut) r (Some h) is stands = by_cut format generation cut (found (seen_areas h.now)) r stands is
+  by_found_cut format generation (Some cut) r (Some h) is stands = by_cut format generation cut (found_on (seen_areas h.now)) r stands is
 
   pub cut_refused : (seen : (m : Moment) → IsImage m (seen_areas m)) (found_cut : Recovered) (r : StartRefused) (o p : Option History) → DiskTells KeepsAll o p
       → IfSome p (λ k. EachFinds (IsAnswer found_cut) k.now) → HasFoundCause stages values pipes head found_cut.cut r
-      → IfSome o (λ h. HasCause (found (seen_areas h.now)) stages values pipes head r)
+      → IfSome o (λ h. HasCause (found_on (seen_areas h.now)) stages values pipes head r)
   cut_refused seen found_cut r o p kept each is =
       by_found_cut found_cut.format (last_cut found_cut.state).generation found_cut.cut r o is (held_there seen found_cut o p kept each)
 

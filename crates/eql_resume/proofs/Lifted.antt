@@ -19,7 +19,7 @@ use Rattle.eql_laws.specs.Places.{ReadTo, is_line_end}
 use Rattle.eql_lane.specs.Noting.{IsWholeLine, line_place, place_among, placed_item, placed_lines, whole_lines}
 use Rattle.eql_cut.specs.declared.cut.Cut.{Cut}
 use Rattle.eql_cut.specs.Fitting.{run_of}
-use Rattle.eql_cut.specs.Placing.{NamesLine, lifted, lifted_item, lifted_lane, place_in, place_of}
+use Rattle.eql_cut.specs.Placing.{NamesLine, lifted_cut, lifted_item, lifted_lane, place_in, place_of}
 use Rattle.eql_placed.specs.Placed.{EachWasNoted, HasLine, WereNoted, place_of_line, with_places}
 use Rattle.eql_placed.specs.PlacedLaws.{EventsAreNamed, NotedIsPlaced, WantedWereNoted}
 use Rattle.eql_resume.specs.Beginnings.{AreWanted}
@@ -182,7 +182,7 @@ module _ (laws : LiftLaws) (stages values : ℕ) (pipes : List Pipe) (cut : Cut)
   lifted_length place (l ∷ lanes) = ap suc (lifted_length place lanes)
 
   lanes_placed : (shards : List ReadTo) (lanes : List LaneCut) (lists : List (List (ℕ × ℕ))) → length lanes ≡ length cut.lanes
-      → WereLifted cut 0 shards lanes lists → lanes ≡ (lifted (place_of lists) cut).lanes
+      → WereLifted cut 0 shards lanes lists → lanes ≡ (lifted_cut (place_of lists) cut).lanes
   lanes_placed shards lanes lists count h =
       same_lists lanes (map (lifted_lane (place_of lists)) cut.lanes) (count ∙ sym (lifted_length (place_of lists) cut.lanes)) one
     where

@@ -23,12 +23,12 @@ pub record Suits (stages values : ℕ) (pipes : List Pipe) (head : CutHead) (cut
   pub fits : FitsRun stages values pipes cut
 
 -- what was found on the disk, in words of runs: nothing, or a cut with its format and generation
-abbrev pub held : (format generation : ℕ) → Option Cut → OnDisk
-held format generation None = nothing_kept
-held format generation (Some cut) = a_cut format generation cut
+abbrev pub disk_holding : (format generation : ℕ) → Option Cut → OnDisk
+disk_holding format generation None = nothing_kept
+disk_holding format generation (Some cut) = a_cut format generation cut
 
 abbrev pub on_of : FoundCut → OnDisk
-on_of start = held start.format (last_cut start.state).generation start.cut
+on_of start = disk_holding start.format (last_cut start.state).generation start.cut
 
 -- the refusal, in words of runs, where it is one by the cut
 abbrev pub refusal_of : StartRefused → Option CutRefusal

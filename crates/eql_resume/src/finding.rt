@@ -6,7 +6,7 @@ ghost use Rattle.eql_outside.specs.Outside.{Rose};
 ghost use Rattle.eql_outside.specs.Unfailing.{IsUnfailing};
 ghost use Rattle.eql_cut.specs.Fitting.{FitsRun};
 ghost use Rattle.eql_cut.specs.Placing.{IsUnplaced, orders_in};
-ghost use Rattle.eql_ckdisk.specs.Found.{found};
+ghost use Rattle.eql_ckdisk.specs.Found.{found_on};
 ghost use Rattle.eql_ckdisk.specs.Going.{Goes};
 ghost use Rattle.eql_ckdisk.specs.Keeping.{KeepsAll, LeavesNoMore};
 ghost use Rattle.eql_ckdisk.specs.Putting.{Stands, last_cut};
@@ -122,7 +122,7 @@ pub fn find_start<D: Disk>(
 ) -> Result<FoundCut, StartRefused>
     // What the disk held is what it was found to hold, whatever image a crash would have left from now on.
     ensures holds { IfOk result (λ start. IfSome (D.history disk.old)
-        (λ h. StandsFor (on_of start) (found (seen_areas h.now)))) }
+        (λ h. StandsFor (on_of start) (found_on (seen_areas h.now)))) }
     ensures suits { IfOk result (λ start.
         IfSome start.cut (Suits stages values pipes.now head.now)) }
     ensures unplaced { IfOk result (λ start. IfSome start.cut (λ cut. start.format ≡ 1
@@ -132,7 +132,7 @@ pub fn find_start<D: Disk>(
 
     // Why it is refused.
     ensures cause { IfErr result (λ refused. IfSome (D.history disk.old)
-        (λ h. HasCause (found (seen_areas h.now)) stages values pipes.now head.now refused)) }
+        (λ h. HasCause (found_on (seen_areas h.now)) stages values pipes.now head.now refused)) }
 
     // At each moment of the call each image is one of those at its start.
     ensures moments { DiskTells (Goes LeavesNoMore) (D.history disk.old) (D.history disk.new) }

@@ -8,7 +8,7 @@ use Rattle.eql_values.specs.declared.order.Mark.{Mark}
 use Rattle.eql_values.specs.declared.order.OrderKey.{OrderKey}
 use Rattle.eql_values.specs.declared.reader.LineGot.{LineGot}
 use Rattle.eql_values.specs.declared.reader.LineGot.TheVariants as got
-use Rattle.eql_values.specs.Accepted.{Reads, accepted, event_at, readable, sorted_items}
+use Rattle.eql_values.specs.Accepted.{Reads, accepted_items, event_at, readable, sorted_items}
 use Rattle.eql_values.specs.Ascending.{AllAreAfter, Ascend}
 use Rattle.eql_values.specs.Lines.{Line, lines_of, numbered_lines}
 use Rattle.eql_values.specs.Marks.{is_below, low_of}
@@ -192,7 +192,7 @@ module _ (text : Option (List ℕ)) (set : Setting) (from to : Mark) (old : Lane
     safe = subst (λ (cut : LaneCut). IsAtMost to (low_of cut.closed set.slack cut.best)) (sym step.cut) safe;
   }
 
-  hands_then : (told : IfSome text (λ t. items ≡ sorted_items (from_to from to (accepted set.reads set.slack set.shard t)))) → HandsOver text set from to items
+  hands_then : (told : IfSome text (λ t. items ≡ sorted_items (from_to from to (accepted_items set.reads set.slack set.shard t)))) → HandsOver text set from to items
   hands_then told = record {
     ascends = subst Ascend (sym step.items_are) (ascends_filter (is_below to) old.cut.items at.holds.ascends);
     of_shard = subst (All (IsOfShard set.shard)) (sym step.items_are) (All-filter (is_below to) (IsOfShard set.shard) old.cut.items at.holds.of_shard);
@@ -203,7 +203,7 @@ module _ (text : Option (List ℕ)) (set : Setting) (from to : Mark) (old : Lane
 
 out_of_text : (set : Setting) (t : List ℕ) (from to : Mark) (old : LaneState) (items : List Item) (new : LaneState) → IsAtMost from to → IsAtMost to (low set old)
     → Takes old (lesser to (low set old)) items new → IsOfText set from old t
-    → (items ≡ sorted_items (from_to from to (accepted set.reads set.slack set.shard t))) × IsOfText set to new t
+    → (items ≡ sorted_items (from_to from to (accepted_items set.reads set.slack set.shard t))) × IsOfText set to new t
 out_of_text set t from to old items new up safe step is =
     let e : lesser to (low set old) ≡ to = lesser_first to (low set old) safe in
     let out : HandsOut set t from to items new = subst (λ (m : Mark). HandsOut set t from m items new) e (take_keeps set t from to old items new step is.is) in

@@ -2,7 +2,7 @@
 use Rattle.std.specs.Prelude.{◌≡◌, ℕ, List, Option, Some, IfSome, All}
 use Rattle.eql_values.specs.declared.item.Item.{Item}
 use Rattle.eql_values.specs.declared.order.Mark.{Mark}
-use Rattle.eql_values.specs.Accepted.{accepted, sorted_items}
+use Rattle.eql_values.specs.Accepted.{accepted_items, sorted_items}
 use Rattle.eql_values.specs.Ascending.{Ascend}
 use Rattle.eql_laws.specs.Belows.{IsReading, from_to}
 use Rattle.eql_laws.specs.Lateness.{IsAtMost}
@@ -38,7 +38,7 @@ pub record HandsOver (text : Option (List ℕ)) (set : Setting) (from to : Mark)
   pub of_shard : All (IsOfShard set.shard) items
   pub none_below : NoneIsBelow from items
   pub below : AllAreBelow to items
-  pub told : IfSome text (λ t. items ≡ sorted_items (from_to from to (accepted set.reads set.slack set.shard t)))
+  pub told : IfSome text (λ t. items ≡ sorted_items (from_to from to (accepted_items set.reads set.slack set.shard t)))
 
 -- each feed keeps what is known of a lane at a mark
 abbrev pub FeedKeepsLane : Type 0

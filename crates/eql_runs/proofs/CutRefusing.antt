@@ -22,7 +22,7 @@ use Rattle.eql_cut.specs.declared.cut.CutHead.{CutHead}
 use Rattle.eql_cut.specs.Agreeing.{difference}
 use Rattle.eql_cut.specs.Domain.{kept_by}
 use Rattle.eql_cut.specs.Placing.{NamesLine, lifted_lane}
-use Rattle.eql_placed.specs.Placed.{ShardHasLine, place_in_texts, placed}
+use Rattle.eql_placed.specs.Placed.{ShardHasLine, place_in_texts, cut_at_places}
 use Rattle.eql_placed.specs.PlacedLaws.{NamedWereRead, NamesStay}
 use Rattle.eql_runs.specs.CutRefusals.{CutRefusal, CutRefuses, FoundRefuses, IsLostLine, NoneIsRefusedBefore, ShardRefuses, StandsBefore, by_found, by_shard, differs, has_no_line, head_damaged, head_differs, is_grown, is_short, is_unfit, no_line, short, text_damaged}
 use Rattle.eql_runs.specs.Refusals.{Refusal}
@@ -187,7 +187,7 @@ record MeantLane (other : Cut) (shard : ℕ) (lane : LaneCut) : Type 0 where
   edges : SameEdges lane meant
 
 meant_if : (b : Bool) (texts : List (List ℕ)) (cut : Cut) (shard : ℕ) (lane : LaneCut) → slice_get cut.lanes shard ≡ Some lane
-    → MeantLane (if b then placed texts cut else cut) shard lane
+    → MeantLane (if b then cut_at_places texts cut else cut) shard lane
 meant_if false texts cut shard lane is = record { meant = lane; there = is; edges = record { offset = refl; closed = refl; lines = refl } }
 meant_if true texts cut shard lane is = record {
   meant = lifted_lane (place_in_texts texts) lane;
@@ -196,7 +196,7 @@ meant_if true texts cut shard lane is = record {
 }
 
 names_if : (laws : CutLaws) (b : Bool) (texts : List (List ℕ)) (cut : Cut) (shard line : ℕ) → NamesLine cut shard line
-    → NamesLine (if b then placed texts cut else cut) shard line
+    → NamesLine (if b then cut_at_places texts cut else cut) shard line
 names_if laws false texts cut shard line h = h
 names_if laws true texts cut shard line h = (laws.names_stay (place_in_texts texts) cut shard line).1 h
 

@@ -11,8 +11,8 @@ use Rattle.eql_cut.specs.Agreeing.{difference}
 use Rattle.eql_cut.specs.Lifting.{FirstFormatHasNoPlaces}
 use Rattle.eql_cut.specs.Placing.{IsUnplaced, orders_in}
 use Rattle.eql_cut.specs.Whole.{IsText, TextsAreDecided}
-use Rattle.eql_ckdisk.specs.Found.{Found, found}
-use Rattle.eql_parser.specs.Printed.{printed}
+use Rattle.eql_ckdisk.specs.Found.{Found, found_on}
+use Rattle.eql_parser.specs.Printed.{query_shown}
 use Rattle.eql_words.specs.declared.commands.Checkpoint.{Checkpoint}
 use Rattle.eql_words.specs.declared.commands.Command.{Command}
 use Rattle.eql_words.specs.declared.commands.Command.TheVariants as command
@@ -93,7 +93,7 @@ refuses_from find files on the r h = inl (r, record { search = the.search; texts
 -- a search that keeps its state has a head
 abbrev head_of : (search : Search) (shards slack : ℕ) → CutHead
 head_of search shards slack =
-    record { query = printed search.query; mapping = search.mapping; tie = search.tie; slack = slack; shards = shards }
+    record { query = query_shown search.query; mapping = search.mapping; tie = search.tie; slack = slack; shards = shards }
 
 is_head : (search : Search) (shards slack : ℕ) → search.slack ≡ Some slack → IsHeadOf search shards (head_of search shards slack)
 is_head search shards slack e = record { query = refl; mapping_is = refl; tie = refl; slack = e; shards_are = refl }
@@ -171,7 +171,7 @@ module _ (laws : EndLaws) (find : Find) (files : Files) (the : TheSearch find fi
 check_runs : (files : Files) (on : OnDisk) (query fields : List ℕ) → HasAll (check_names query fields) files
     → RunsSome (command.Check query fields) files on
 check_runs files on query fields all = (
-  encode_utf8_all (printed all.tree) ++ codes "\n",
+  encode_utf8_all (query_shown all.tree) ++ codes "\n",
   [],
   record { tree = all.tree; kinds = all.kinds; checked = all.checked; bytes_are = refl; report_is = refl },
 )
@@ -227,4 +227,4 @@ by_words laws words files f on stands (inr h) = inr (by_command laws words files
 pub no_run_is_left_out : EndLaws → NoRunIsLeftOut
 no_run_is_left_out laws words files image a b =
     let held = something_on_disk laws.decided image a b in
-    (held.0, held.1, by_words laws words files (found image) held.0 held.1 (none_or_some (command_of words)))
+    (held.0, held.1, by_words laws words files (found_on image) held.0 held.1 (none_or_some (command_of words)))

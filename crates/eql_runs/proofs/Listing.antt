@@ -5,7 +5,7 @@ use Rattle.std.proofs.lemmas.Option.{none-some, same_Some}
 use Rattle.eql_lexer.specs.declared.token.Token.{Token}
 use Rattle.eql_parser.specs.QueryGrammar.{IsQuery}
 use Rattle.eql_query.specs.QueryTree.{QueryTree}
-use Rattle.eql_parser.specs.Printed.{printed}
+use Rattle.eql_parser.specs.Printed.{query_shown}
 use Rattle.eql_words.specs.declared.commands.Command.{Command}
 use Rattle.eql_words.specs.declared.commands.Command.TheVariants as command
 use Rattle.eql_words.specs.declared.commands.Find.{Find}
@@ -52,7 +52,7 @@ one_print : (laws : QueryLaws) (query fields : List ℕ) (files : Files) (bytes 
 one_print laws query fields files bytes other report beside a b =
     let t : a.tree ≡ b.tree =
     one_query laws query files a.tree b.tree a.checked.both.query_there b.checked.both.query_there in (
-      a.bytes_are ∙ ap (λ (x : QueryTree). encode_utf8_all (printed x) ++ codes "\n") t ∙ sym b.bytes_are,
+      a.bytes_are ∙ ap (λ (x : QueryTree). encode_utf8_all (query_shown x) ++ codes "\n") t ∙ sym b.bytes_are,
       a.report_is ∙ sym b.report_is,
     )
 

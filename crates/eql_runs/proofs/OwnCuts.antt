@@ -16,7 +16,7 @@ use Rattle.eql_cut.specs.Domain.{kept_by}
 use Rattle.eql_cut.specs.Fitting.{FitsRun, run_of as bare_run}
 use Rattle.eql_cut.specs.Lifting.{LiftedFits}
 use Rattle.eql_cut.specs.Placing.{IsUnplaced, orders_in}
-use Rattle.eql_placed.specs.Placed.{place_in_texts, placed}
+use Rattle.eql_placed.specs.Placed.{place_in_texts, cut_at_places}
 use Rattle.eql_runs.specs.Searches.{Search, nanos_in, plan_of, reads_of, run_of}
 use Rattle.eql_runs.specs.Starts.{IsCutOf, meant_by}
 use Rattle.eql_runs.proofs.Counting.{keeps}
@@ -73,14 +73,14 @@ meant_fits laws search slack texts cut checked few within is =
 -- and so does the cut that stands for it
 own_if : (laws : OwnLaws) (search : Search) (slack : ℕ) (texts : List (List ℕ)) (cut : Cut) (b : Bool) → (b ≡ true → IsUnplaced (orders_in cut))
     → cut.head.slack ≡ slack → cut.head.shards ≡ length texts
-    → Fits (run_of search slack) (length texts) (kept_by (if b then placed texts cut else cut)) → Fits (run_of search slack) (length texts) (kept_by cut)
+    → Fits (run_of search slack) (length texts) (kept_by (if b then cut_at_places texts cut else cut)) → Fits (run_of search slack) (length texts) (kept_by cut)
 own_if laws search slack texts cut false none s n fits = fits
 own_if laws search slack texts cut true none s n fits =
     let run = run_of search slack in
-    let bare = any_span run.stages run.values run.pipes run.slack run.span None (length texts) (kept_by (placed texts cut)) fits in
-    let there : FitsRun run.stages run.values run.pipes (placed texts cut) =
-    subst (λ (k : ℕ). Fits (bare_run run.stages run.values run.pipes cut.head.slack) k (kept_by (placed texts cut))) (sym n)
-    (subst (λ (k : ℕ). Fits (bare_run run.stages run.values run.pipes k) (length texts) (kept_by (placed texts cut))) (sym s) bare) in
+    let bare = any_span run.stages run.values run.pipes run.slack run.span None (length texts) (kept_by (cut_at_places texts cut)) fits in
+    let there : FitsRun run.stages run.values run.pipes (cut_at_places texts cut) =
+    subst (λ (k : ℕ). Fits (bare_run run.stages run.values run.pipes cut.head.slack) k (kept_by (cut_at_places texts cut))) (sym n)
+    (subst (λ (k : ℕ). Fits (bare_run run.stages run.values run.pipes k) (length texts) (kept_by (cut_at_places texts cut))) (sym s) bare) in
     let here = (laws.lifted_fit (place_in_texts texts) run.stages run.values run.pipes cut (none refl)).0 there in
     any_span run.stages run.values run.pipes run.slack None run.span (length texts) (kept_by cut)
     (subst (λ (k : ℕ). Fits (bare_run run.stages run.values run.pipes k) (length texts) (kept_by cut)) s

@@ -2,7 +2,7 @@
 use Rattle.std.specs.Prelude.{◌≡◌, ◌++◌, ℕ, List, Some, None, Err, codes, encode_utf8_all}
 use Rattle.std.specs.Str.{chars}
 use Rattle.eql_values.specs.declared.value.Kind.{Kind}
-use Rattle.eql_values.specs.Shown.{shown}
+use Rattle.eql_values.specs.Shown.{shown_text}
 use Rattle.eql_outside.specs.Outside.{file_named}
 use Rattle.eql_lexer.specs.declared.token.Token.{Token}
 use Rattle.eql_lexer.specs.declared.refusal.LexRefused.{LexRefused}
@@ -68,7 +68,7 @@ refusal_status _ = 3
 
 -- a name as it is printed
 abbrev pub printed_name : List ℕ → List ℕ
-printed_name name = encode_utf8_all (shown (chars name))
+printed_name name = encode_utf8_all (shown_text (chars name))
 
 -- the line that is told of a refusal
 abbrev pub refusal_text : Refusal → List ℕ

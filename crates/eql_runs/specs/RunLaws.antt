@@ -18,7 +18,7 @@ use Rattle.eql_runs.specs.Refusals.{Names, Refusal, Refuses, refusal_status}
 use Rattle.eql_runs.specs.Refusals as refusal
 use Rattle.eql_runs.specs.CutRefusals.{damaged, IsTested}
 use Rattle.eql_runs.specs.Starts.{OnDisk, StandsFor, start_for}
-use Rattle.eql_ckdisk.specs.Found.{Found, found}
+use Rattle.eql_ckdisk.specs.Found.{Found, found_on}
 use Rattle.eql_cut.specs.declared.cut.CutHead.{CutHead}
 use Rattle.eql_cut.specs.Agreeing.{difference}
 use Rattle.eql_cut.specs.Formats.{IsBytes}
@@ -32,7 +32,7 @@ DiskHoldsOne = (f : Found) (on other : OnDisk) → StandsFor on f → StandsFor 
 
 -- an image of a disk stands for something: each area of it is a list of bytes
 abbrev pub DiskHoldsSomething : Type 0
-DiskHoldsSomething = (image : Areas) → IsBytes image.a → IsBytes image.b → (on : OnDisk) × StandsFor on (found image)
+DiskHoldsSomething = (image : Areas) → IsBytes image.a → IsBytes image.b → (on : OnDisk) × StandsFor on (found_on image)
 
 -- a run over texts for which what its disk holds passed all tests is refused for no cause
 abbrev pub TestedIsAccepted : Type 0
@@ -93,7 +93,7 @@ WritesOrIsRefused =
 abbrev pub NoRunIsLeftOut : Type 0
 NoRunIsLeftOut =
     (words : List (List ℕ)) (files : Files) (image : Areas) → IsBytes image.a → IsBytes image.b
-    → (on : OnDisk) × StandsFor on (found image)
+    → (on : OnDisk) × StandsFor on (found_on image)
     × ((command_of words ≡ None) ⊎ ((r : Refusal) × IsRefused words files on r)
     ⊎ (AreTrusted words files on → AreWithin words files
     → (bytes report : List ℕ) × Writes words files on bytes report))

@@ -9,7 +9,7 @@ use Rattle.eql_outside.specs.Written.{WroteFront, WroteThrough}
 use Rattle.eql_outside.specs.Written as written
 use Rattle.eql_laws.specs.Counting.{greatest_lines, greatest_bytes}
 use Rattle.eql_query.specs.QueryTree.{QueryTree}
-use Rattle.eql_parser.specs.Printed.{printed}
+use Rattle.eql_parser.specs.Printed.{query_shown}
 use Rattle.eql_words.specs.declared.commands.Command.{Command}
 use Rattle.eql_words.specs.declared.commands.Command.TheVariants as command
 use Rattle.eql_words.specs.declared.commands.Find.{Find}
@@ -49,8 +49,8 @@ files_known None told = told
 files_known (Some command) told = files_for command told
 
 -- the files over which these words run
-abbrev pub known : List (List ℕ) → Option Files → Option Files
-known words told = files_known (command_of words) told
+abbrev pub files_over : List (List ℕ) → Option Files → Option Files
+files_over words told = files_known (command_of words) told
 
 -- the files of a command are there, its query is checked, and so it is this search over these texts
 pub record Searches (find : Find) (files : Files) (search : Search) (texts : List (List ℕ)) : Type 0 where
@@ -75,7 +75,7 @@ pub record Prints (query fields : List ℕ) (files : Files) (bytes report : List
   pub tree : QueryTree
   pub kinds : List (List ℕ × Kind)
   pub checked : HasChecked query fields files tree kinds
-  pub bytes_are : bytes ≡ encode_utf8_all (printed tree) ++ codes "\n"
+  pub bytes_are : bytes ≡ encode_utf8_all (query_shown tree) ++ codes "\n"
   pub report_is : report ≡ []
 
 -- a run of a command writes these bytes on its output, and this report
@@ -120,7 +120,7 @@ AskDisk words = (command : Command) × (command_of words ≡ Some command) × As
 -- what holds of the files over which the words run, and of what their checkpoint's disk holds, where these are told
 abbrev pub IfTold : List (List ℕ) → Option Files → Option History → (Files → OnDisk → Type 0) → Type 0
 IfTold words files disk fact =
-    IfSome (known words files) (λ fs. (on : OnDisk) → (AskDisk words → DiskHolds disk on) → fact fs on)
+    IfSome (files_over words files) (λ fs. (on : OnDisk) → (AskDisk words → DiskHolds disk on) → fact fs on)
 
 -- the same of a search
 abbrev pub IfFound : Find → Option Files → Option History → (Files → OnDisk → Type 0) → Type 0
@@ -326,7 +326,7 @@ pub record CanRun (words : List (List ℕ)) (files : Files) (on : OnDisk) : Type
 
 abbrev pub IsReady : List (List ℕ) → Option Files → Option History → Type 0
 IsReady words files disk =
-    IsSomeAnd (known words files) (λ fs. (on : OnDisk) × (AskDisk words → DiskHolds disk on) × CanRun words fs on)
+    IsSomeAnd (files_over words files) (λ fs. (on : OnDisk) × (AskDisk words → DiskHolds disk on) × CanRun words fs on)
 
 -- where words, files and disk are refused, the status is that of the cause, or memory ran out
 abbrev pub IsRefusedAs : List (List ℕ) → Option Files → Option History → ℕ → Type 0

@@ -8,7 +8,7 @@ use Rattle.eql_values.specs.declared.cut.Counts.{Counts}
 use Rattle.eql_values.specs.declared.cut.Pipe.{Pipe}
 use Rattle.eql_values.specs.Accepted.{Reads, all_events}
 use Rattle.eql_values.specs.Matching.{matches}
-use Rattle.eql_values.specs.Numbering.{numbered, piped}
+use Rattle.eql_values.specs.Numbering.{numbered_matches, pipe_output}
 use Rattle.eql_laws.specs.Counting.{counts_of}
 use Rattle.eql_laws.specs.Fitting.{Run}
 use Rattle.eql_query.specs.QueryTree.{QueryTree}
@@ -69,7 +69,7 @@ module _ (search : Search) where
 
   -- the matches that the pipes let through, with their numbers
   abbrev pub listed_of : List (List ℕ) → List Numbered
-  listed_of texts = piped pipes_of (numbered (matches_of texts))
+  listed_of texts = pipe_output pipes_of (numbered_matches (matches_of texts))
 
   -- the listing
   abbrev pub listing_of : List (List ℕ) → List ℕ

@@ -13,11 +13,11 @@ use Rattle.eql_cut.specs.declared.cut.Cut.{Cut}
 use Rattle.eql_cut.specs.declared.cut.CutHead.{CutHead}
 use Rattle.eql_cut.specs.Domain.{kept_by}
 use Rattle.eql_cut.specs.Whole.{IsNoText, IsTextOf}
-use Rattle.eql_placed.specs.Placed.{placed}
-use Rattle.eql_ckdisk.specs.Found.{Found, found, text}
+use Rattle.eql_placed.specs.Placed.{cut_at_places}
+use Rattle.eql_ckdisk.specs.Found.{Found, found_on, text}
 use Rattle.eql_ckdisk.specs.Found as areas
 use Rattle.eql_ckdisk.specs.Refusing.{IsDamagedHead, number_of}
-use Rattle.eql_parser.specs.Printed.{printed}
+use Rattle.eql_parser.specs.Printed.{query_shown}
 use Rattle.eql_words.specs.declared.commands.Checkpoint.{Checkpoint}
 use Rattle.eql_words.specs.declared.commands.Find.{Find}
 use Rattle.eql_runs.specs.Searches.{Search, nanos_in, reads_of, run_of}
@@ -43,7 +43,7 @@ StandsFor (bad_text number) f =
 
 -- a disk that tells holds it, by what reads give
 abbrev pub DiskHolds : Option History → OnDisk → Type 0
-DiskHolds disk on = IsSomeAnd disk (λ h. StandsFor on (found (seen_areas h.now)))
+DiskHolds disk on = IsSomeAnd disk (λ h. StandsFor on (found_on (seen_areas h.now)))
 
 abbrev pub generation_on : OnDisk → ℕ
 generation_on nothing_kept = 0
@@ -76,7 +76,7 @@ start_for find on = start_asked find.checkpoint on
 -- ---- cuts of a search
 -- what a cut says of its run, where the run is this search over so many shards
 pub record IsHeadOf (search : Search) (shards : ℕ) (head : CutHead) : Type 0 where
-  pub query : head.query ≡ printed search.query
+  pub query : head.query ≡ query_shown search.query
   pub mapping_is : head.mapping ≡ search.mapping
   pub tie : head.tie ≡ search.tie
   pub slack : search.slack ≡ Some head.slack
@@ -84,7 +84,7 @@ pub record IsHeadOf (search : Search) (shards : ℕ) (head : CutHead) : Type 0 w
 
 -- the cut for which the text of a cut stands: the first format keeps no places of lines, so those of the texts are meant
 abbrev pub meant_by : (format : ℕ) → List (List ℕ) → Cut → Cut
-meant_by format texts cut = if format == 1 then placed texts cut else cut
+meant_by format texts cut = if format == 1 then cut_at_places texts cut else cut
 
 -- the cut is one of the search, at a slack in milliseconds, over these texts, which were read up to places, at a safe time
 pub record IsCutOf (search : Search) (slack : ℕ) (texts : List (List ℕ)) (cut : Cut) : Type 0 where

@@ -5,7 +5,7 @@ use Rattle.std.proofs.lemmas.List.{length-map}
 use Rattle.eql_values.specs.Accepted.{Reads}
 use Rattle.eql_values.specs.declared.order.Mark.{Mark}
 use Rattle.eql_laws.specs.Counting.{greatest_bytes, greatest_lines}
-use Rattle.eql_lane.specs.Lanes.{LaneState, begun, fresh_cut as fresh_lane}
+use Rattle.eql_lane.specs.Lanes.{LaneState, beginning_lane, fresh_cut as fresh_lane}
 use Rattle.eql_lane.specs.Views.{LaneView}
 use Rattle.eql_parts.specs.PartSteps.{PartView}
 use Rattle.eql_cut.specs.declared.cut.Cut.{Cut}
@@ -16,21 +16,21 @@ use Rattle.eql_conductor.specs.Benches.{ComesByFeeds, Known}
 use Rattle.eql_conductor.specs.Bounds.{AreSized, IsSized, held_count}
 use Rattle.eql_conductor.specs.Handed.{total_to}
 use Rattle.eql_conductor.specs.RunBounds.{IsBoundedBy, RunIsBounded, bytes_in, events_in}
-use Rattle.eql_conductor.specs.RunNotes.{Place, PlaysRoundsFront, RunNotes, cut_due, cut_times, listed, next_place, round_count, start}
+use Rattle.eql_conductor.specs.RunNotes.{Place, PlaysRoundsFront, RunNotes, cut_due, cut_times, list_of, next_place, round_count, start}
 use Rattle.eql_conductor.specs.Runs.{cut_time}
 use Rattle.eql_hub_run.specs.Beside.{IsSameBench, bench_of}
 use Rattle.eql_replay.specs.Listed.{bench_known}
 use Rattle.eql_replay.proofs.Places.{there_or}
 
 -- ---- no more cuts than rounds
-one_at_most : {X : Type 0} (o : Option X) → length (listed o) ≤ 1
+one_at_most : {X : Type 0} (o : Option X) → length (list_of o) ≤ 1
 one_at_most None = omega arith
 one_at_most (Some x) = omega arith
 
 fewer_times : (every : Option ℕ) (at : Place) (rounds : List (List Mark)) → length (cut_times every at rounds) ≤ length rounds
 fewer_times every at [] = omega arith
 fewer_times every at (lows ∷ rounds) =
-    let a = length-append (listed (cut_due every at lows)) (cut_times every (next_place at lows) rounds) in
+    let a = length-append (list_of (cut_due every at lows)) (cut_times every (next_place at lows) rounds) in
     let b = one_at_most (cut_due every at lows) in
     let c = fewer_times every (next_place at lows) rounds in
     omega (arith, a, b, c)
@@ -73,7 +73,7 @@ total_lines (suc n) f each =
     omega (arith, a, b)
 
 abbrev state_in : {S L : Type 0} → Option (LaneView S L) → LaneState
-state_in None = begun fresh_lane 0
+state_in None = beginning_lane fresh_lane 0
 state_in (Some lane) = lane.state
 
 module _ {S L : Type 0} (read_of : L → Reads) (text : ℕ → Option (List ℕ)) (olds news : List (LaneView S L)) (parts : List PartView) (first last : Known)
@@ -86,7 +86,7 @@ module _ {S L : Type 0} (read_of : L → Reads) (text : ℕ → Option (List ℕ
   began s = state_in (slice_get olds s)
 
   abbrev left_in : (s : ℕ) (o : Option (LaneView S L)) → slice_get news s ≡ o → LaneState
-  left_in s None e = begun fresh_lane 0
+  left_in s None e = beginning_lane fresh_lane 0
   left_in s (Some lane) e = (left s lane e).0
 
   abbrev now : ℕ → LaneState

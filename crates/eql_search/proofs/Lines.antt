@@ -17,7 +17,7 @@ use Rattle.eql_values.specs.declared.order.Mark.{Mark}
 use Rattle.eql_values.specs.declared.order.Mark.TheVariants.{Start, At, End}
 use Rattle.eql_values.specs.Accepted.{Reads, below}
 use Rattle.eql_values.specs.Matching.{after, matches}
-use Rattle.eql_values.specs.Numbering.{emitted, numbered, piped}
+use Rattle.eql_values.specs.Numbering.{early_output, numbered_matches, pipe_output}
 use Rattle.eql_laws.specs.Alive.{IsSpan}
 use Rattle.eql_laws.specs.Belows.{between}
 use Rattle.eql_laws.specs.Books.{book_of}
@@ -31,7 +31,7 @@ use Rattle.eql_laws.proofs.Resumed.{emitted_goes_on}
 use Rattle.eql_laws.proofs.Splitting.{matches_split}
 use Rattle.eql_lane.specs.Views.{LaneView}
 use Rattle.eql_parts.specs.PartSteps.{PartView, Rules as PartRules, alive_by, mark_time}
-use Rattle.eql_book.specs.Books.{BookState, counted, held_back, let_out}
+use Rattle.eql_book.specs.Books.{BookState, countable_matches, held_back, let_out}
 use Rattle.eql_book.specs.Listing.{listing, match_line}
 use Rattle.eql_book.proofs.Wholes.{end_is_whole}
 use Rattle.eql_cut.specs.declared.cut.Cut.{Cut}
@@ -65,7 +65,7 @@ use Rattle.eql_search.proofs.Told.{done_then}
 module _ (pipes : List Pipe) (found more : List Match) where
   -- of the further matches those that have a number
   abbrev few : List Match
-  few = counted (book_of pipes found) more
+  few = countable_matches (book_of pipes found) more
 
   abbrev others : List Match
   others = drop (2 ^ 64 - 1 - (book_of pipes found).found) more
@@ -83,14 +83,14 @@ module _ (pipes : List Pipe) (found more : List Match) where
   all_are = append_assoc found few others ∙ ap (λ (l : List Match). found ++ l) (take-append-drop (2 ^ 64 - 1 - (book_of pipes found).found) more)
 
   -- what pipes let out of further matches before the end begins what they let through of all behind that of the first ones, whatever their number
-  begins_rest : (rest : List Numbered) × (drop (book_of pipes found).listed (piped pipes (numbered (found ++ more))) ≡ out ++ rest)
+  begins_rest : (rest : List Numbered) × (drop (book_of pipes found).listed (pipe_output pipes (numbered_matches (found ++ more))) ≡ out ++ rest)
   begins_rest =
-      let before : List Numbered = emitted pipes (numbered found) in
-      let first : emitted pipes (numbered (found ++ few)) ≡ before ++ out = emitted_goes_on pipes found few in
-      let goes : emitted pipes (numbered (found ++ more)) ≡ (before ++ out) ++ later =
-      subst (λ (l : List Match). emitted pipes (numbered l) ≡ (before ++ out) ++ later) all_are
+      let before : List Numbered = early_output pipes (numbered_matches found) in
+      let first : early_output pipes (numbered_matches (found ++ few)) ≡ before ++ out = emitted_goes_on pipes found few in
+      let goes : early_output pipes (numbered_matches (found ++ more)) ≡ (before ++ out) ++ later =
+      subst (λ (l : List Match). early_output pipes (numbered_matches l) ≡ (before ++ out) ++ later) all_are
       (emitted_goes_on pipes (found ++ few) others ∙ ap (λ (l : List Numbered). l ++ later) first) in
-      let all : piped pipes (numbered (found ++ more)) ≡ before ++ (out ++ (later ++ held)) =
+      let all : pipe_output pipes (numbered_matches (found ++ more)) ≡ before ++ (out ++ (later ++ held)) =
       end_is_whole pipes true true (found ++ more)
       ∙ ap (λ (l : List Numbered). l ++ held) goes
       ∙ append_assoc (before ++ out) later held
@@ -98,7 +98,7 @@ module _ (pipes : List Pipe) (found more : List Match) where
       (later ++ held, ap (drop (length before)) all ∙ drop_at before (out ++ (later ++ held)) (length before) refl)
 
 before_end : (book : BookState) (found more : List Match) (before now : Option (List ℕ)) → book.kept ≡ book_of book.pipes found
-    → WroteFront (lines_before_end book more) before now → WroteFront (listing book.places (drop book.kept.listed (piped book.pipes (numbered (found ++ more))))) before now
+    → WroteFront (lines_before_end book more) before now → WroteFront (listing book.places (drop book.kept.listed (pipe_output book.pipes (numbered_matches (found ++ more))))) before now
 before_end book found more before now e wrote =
     let out : List Numbered = let_out book.pipes (book_of book.pipes found) more in
     let all = begins_rest book.pipes found more in
@@ -107,7 +107,7 @@ before_end book found more before now e wrote =
     let longer : WroteFront (listing book.places (out ++ all.0)) before now =
     subst (λ (l : List ℕ). WroteFront l before now) (sym (flat_map-append (match_line book.places) out all.0))
     (writes_on.longer (listing book.places out) (listing book.places all.0) before now so) in
-    subst (λ (k : BookCut). WroteFront (listing book.places (drop k.listed (piped book.pipes (numbered (found ++ more))))) before now) (sym e)
+    subst (λ (k : BookCut). WroteFront (listing book.places (drop k.listed (pipe_output book.pipes (numbered_matches (found ++ more))))) before now) (sym e)
     (subst (λ (l : List Numbered). WroteFront (listing book.places l) before now) (sym all.1) longer)
 
 -- ---- from a mark on
@@ -224,7 +224,7 @@ module _ (A : Type 0) {S L D : Type 0} (left lent_as : S → Option (List ℕ)) 
 
     early : WroteFront (lines_before_end book (found_by rules holders (between reads slack texts plan.mark End))) before now → WroteFront (rest_of by book.pipes book.places book.kept.listed texts) before now
     early wrote =
-        subst (λ (found : List Match). WroteFront (listing book.places (drop book.kept.listed (piped book.pipes (numbered found)))) before now)
+        subst (λ (found : List Match). WroteFront (listing book.places (drop book.kept.listed (pipe_output book.pipes (numbered_matches found)))) before now)
         (sym (found_on rules reads slack texts is_span plan.mark holders book played))
         (before_end book (found_below rules reads slack texts plan.mark) (found_by rules holders (between reads slack texts plan.mark End)) before now played.counted wrote)
 

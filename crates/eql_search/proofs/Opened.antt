@@ -14,7 +14,7 @@ use Rattle.eql_laws.specs.Alive.{IsSpan}
 use Rattle.eql_laws.specs.Belows.{IsReading}
 use Rattle.eql_laws.specs.Fitting.{Kept, Run}
 use Rattle.eql_laws.specs.Shapes.{HasStageBefore, IsFull}
-use Rattle.eql_lane.specs.Lanes.{LaneState, Setting, begun, fresh_cut as fresh_lane}
+use Rattle.eql_lane.specs.Lanes.{LaneState, Setting, beginning_lane, fresh_cut as fresh_lane}
 use Rattle.eql_lane.specs.Views.{LaneView}
 use Rattle.eql_parts.specs.Inboxes.{HolderIsBelow}
 use Rattle.eql_parts.specs.PartSteps.{PartState, PartView, Rules as PartRules}
@@ -43,7 +43,7 @@ use Rattle.eql_search.proofs.Texts.{begun_at, told_count}
 
 -- the state of a lane in a list, and that of a fresh lane past its end
 abbrev state_in : {S L : Type 0} → Option (LaneView S L) → LaneState
-state_in None = begun fresh_lane 0
+state_in None = beginning_lane fresh_lane 0
 state_in (Some lane) = lane.state
 
 -- ---- parts may begin
@@ -157,7 +157,7 @@ module _ {S L : Type 0} (left : S → Option (List ℕ)) (read_of : L → Reads)
         opens_fresh : OpensFresh known lane_state part_state rules
         opens_fresh = record {
           opens = opens_at;
-          lanes = λ s l. began s l ∙ ap (λ (cut : LaneCut). begun cut (lane_state s).faults) (fresh_cut_is s l);
+          lanes = λ s l. began s l ∙ ap (λ (cut : LaneCut). beginning_lane cut (lane_state s).faults) (fresh_cut_is s l);
           parts = λ p l. λ i. begun_part rules (own_of (none i) p) (at_start i);
         }
 

@@ -3,7 +3,7 @@ use Rattle.std.specs.Prelude.{◌≡◌, ◌≢◌, ◌≤◌, ◌^◌, ◌≤�
 use Rattle.eql_values.specs.declared.cut.Pipe.{Pipe}
 use Rattle.eql_values.specs.declared.order.Mark.{Mark}
 use Rattle.eql_values.specs.declared.order.Mark.TheVariants.{At}
-use Rattle.eql_values.specs.Numbering.{numbered, piped}
+use Rattle.eql_values.specs.Numbering.{numbered_matches, pipe_output}
 use Rattle.eql_outside.specs.Moments.{History}
 use Rattle.eql_outside.specs.Written.{WroteThrough}
 use Rattle.eql_laws.specs.Belows.{IsMarkTime, greatest_slack}
@@ -41,7 +41,7 @@ AreSearchCuts rules pipes texts cuts =
 -- the lines that a cut of these texts counts, behind the first ones, were written, and perhaps more behind them
 abbrev pub WroteCounted : Rules → List Pipe → (places : Bool) → (listed : ℕ) → (texts : List (List ℕ)) → (before now : Option (List ℕ)) → Cut → Type 0
 WroteCounted rules pipes places listed texts before now cut =
-    WroteThrough (listing places (drop listed (take cut.book.listed (piped pipes (numbered (found_in rules texts)))))) before now
+    WroteThrough (listing places (drop listed (take cut.book.listed (pipe_output pipes (numbered_matches (found_in rules texts)))))) before now
 
 -- a cut with this head, at a time from the mark on
 pub record IsLaterCut (head : CutHead) (from : Mark) (cut : Cut) : Type 0 where

@@ -5,8 +5,8 @@ use Rattle.eql_values.specs.declared.cut.Pipe.{Pipe}
 use Rattle.eql_values.specs.declared.reader.LineGot.TheVariants as got
 use Rattle.eql_values.specs.Accepted.{Reads, all_events}
 use Rattle.eql_values.specs.Matching.{matches}
-use Rattle.eql_values.specs.Numbering.{numbered, piped}
-use Rattle.eql_lane.specs.Lanes.{begun}
+use Rattle.eql_values.specs.Numbering.{numbered_matches, pipe_output}
+use Rattle.eql_lane.specs.Lanes.{beginning_lane}
 use Rattle.eql_lane.specs.Views.{LaneView, IsTextOf}
 use Rattle.eql_book.specs.Listing.{listing}
 
@@ -23,7 +23,7 @@ found_in rules texts = matches rules.stages rules.span [] (all_events rules.read
 
 -- the listing of texts, through these pipes, from the line after the first ones on
 abbrev pub rest_of : Rules → List Pipe → (places : Bool) → (listed : ℕ) → List (List ℕ) → List ℕ
-rest_of rules pipes places listed texts = listing places (drop listed (piped pipes (numbered (found_in rules texts))))
+rest_of rules pipes places listed texts = listing places (drop listed (pipe_output pipes (numbered_matches (found_in rules texts))))
 
 -- each match has a number of 64 bits
 abbrev pub HasNumbers : Rules → List (List ℕ) → Type 0
@@ -44,7 +44,7 @@ module _ {S L : Type 0} (read_of : L → Reads) where
     pub shard_is : lane.shard ≡ shard
     pub slack_is : lane.slack ≡ slack
     pub reads_are : read_of lane.reader ≡ reads
-    pub state_is : lane.state ≡ begun lane.state.cut lane.state.faults
+    pub state_is : lane.state ≡ beginning_lane lane.state.cut lane.state.faults
 
   -- lanes by these rules, of which the first is of this shard and the others are of the shards after it
   abbrev pub AreBegunFrom : Reads → Option ℤ → (shard : ℕ) → List (LaneView S L) → Type 0

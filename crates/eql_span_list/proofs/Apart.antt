@@ -3,7 +3,7 @@ use Rattle.std.proofs.Common.{◌≡◌, false, true≢false, cond, List, [], �
 use Rattle.std.specs.List.{AllByRecursion, IsDistinct}
 use denote.RawPtr.{Ptr}
 use Rattle.eql_span_list.specs.declared.node.Node.{Node}
-use Rattle.eql_span_list.specs.PlacedNode.{PlacedNode, placed, same_pointer, IsApart, HasNodeAt, HoldsAtNode, places, edit_at, with_node}
+use Rattle.eql_span_list.specs.PlacedNode.{PlacedNode, placed_node, same_pointer, IsApart, HasNodeAt, HoldsAtNode, places, edit_at, with_node}
 use Rattle.eql_span_list.proofs.Cuts.{cons_parts}
 use Rattle.eql_span_list.proofs.Pointers.{same_pointer-refl, same_pointer-symm}
 
@@ -92,27 +92,27 @@ module _ {T : Type 0} where
   edit_at-elsewhere : (p : Ptr) (f : Node T → Node T) (ns : List (PlacedNode T)) → IsFresh p ns → edit_at p f ns ≡ ns
   unfolding edit_at
   edit_at-elsewhere p f [] h = refl
-  edit_at-elsewhere p f (m ∷ ns) h = λ i. placed m.place (cond ((same_pointer-symm m.place p ∙ h.0) i) (f m.node) m.node) ∷ edit_at-elsewhere p f ns h.1 i
+  edit_at-elsewhere p f (m ∷ ns) h = λ i. placed_node m.place (cond ((same_pointer-symm m.place p ∙ h.0) i) (f m.node) m.node) ∷ edit_at-elsewhere p f ns h.1 i
 
   edit_at-append : (p : Ptr) (f : Node T → Node T) (xs ys : List (PlacedNode T)) → edit_at p f (xs ++ ys) ≡ edit_at p f xs ++ edit_at p f ys
   unfolding edit_at
   edit_at-append p f [] ys = refl
-  edit_at-append p f (x ∷ xs) ys = λ i. placed x.place (cond (same_pointer x.place p) (f x.node) x.node) ∷ edit_at-append p f xs ys i
+  edit_at-append p f (x ∷ xs) ys = λ i. placed_node x.place (cond (same_pointer x.place p) (f x.node) x.node) ∷ edit_at-append p f xs ys i
 
-  edit_at-cons : (n : PlacedNode T) (f : Node T → Node T) (ns : List (PlacedNode T)) → edit_at n.place f (n ∷ ns) ≡ placed n.place (f n.node) ∷ edit_at n.place f ns
+  edit_at-cons : (n : PlacedNode T) (f : Node T → Node T) (ns : List (PlacedNode T)) → edit_at n.place f (n ∷ ns) ≡ placed_node n.place (f n.node) ∷ edit_at n.place f ns
   unfolding edit_at
-  edit_at-cons n f ns = λ i. placed n.place (cond (same_pointer-refl n.place i) (f n.node) n.node) ∷ edit_at n.place f ns
+  edit_at-cons n f ns = λ i. placed_node n.place (cond (same_pointer-refl n.place i) (f n.node) n.node) ∷ edit_at n.place f ns
 
   -- an edit changes the one node that lies there
   pub edit_at-cut : (xs : List (PlacedNode T)) (n : PlacedNode T) (ys : List (PlacedNode T)) (f : Node T → Node T) → IsApart (places (xs ++ n ∷ ys))
-      → edit_at n.place f (xs ++ n ∷ ys) ≡ xs ++ placed n.place (f n.node) ∷ ys
+      → edit_at n.place f (xs ++ n ∷ ys) ≡ xs ++ placed_node n.place (f n.node) ∷ ys
   edit_at-cut xs n ys f d =
       let others = apart_fresh xs n ys d in
       edit_at-append n.place f xs (n ∷ ys) ∙ ap (λ l. edit_at n.place f xs ++ l) (edit_at-cons n f ys)
-      ∙ (λ i. edit_at-elsewhere n.place f xs (fresh_left n.place xs ys others) i ++ placed n.place (f n.node) ∷ edit_at-elsewhere n.place f ys (fresh_right n.place xs ys others) i)
+      ∙ (λ i. edit_at-elsewhere n.place f xs (fresh_left n.place xs ys others) i ++ placed_node n.place (f n.node) ∷ edit_at-elsewhere n.place f ys (fresh_right n.place xs ys others) i)
 
   pub with_node-cut : (xs : List (PlacedNode T)) (n : PlacedNode T) (ys : List (PlacedNode T)) (w : Node T) → IsApart (places (xs ++ n ∷ ys))
-      → with_node n.place w (xs ++ n ∷ ys) ≡ xs ++ placed n.place w ∷ ys
+      → with_node n.place w (xs ++ n ∷ ys) ≡ xs ++ placed_node n.place w ∷ ys
   with_node-cut xs n ys w = edit_at-cut xs n ys (λ _. w)
 
   -- a change of the node that was read there is an edit

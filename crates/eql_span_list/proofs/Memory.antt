@@ -28,7 +28,7 @@ use denote.Struct.Struct.{Struct, to_tys}
 use denote.Struct.Owning.{shape}
 use mir.Raw.{raw as bare}
 use Rattle.std.proofs.Common.{append-nil}
-use Rattle.eql_span_list.specs.PlacedNode.{PlacedNode, placed, same_pointer}
+use Rattle.eql_span_list.specs.PlacedNode.{PlacedNode, placed_node, same_pointer}
 use Rattle.eql_span_list.specs.Ownership.{frees, node_owns, nodes_own, nodes_lent}
 use Rattle.eql_span_list.proofs.Pointers.{same_pointer-eq}
 use Rattle.eql_span_list.proofs.Apart.{IsFresh}
@@ -97,17 +97,17 @@ module _ (T : RattleType) where
     crowded null_ptr x y = fst∗ 𝓤 (never 𝓤) (never 𝓤)
 
     -- what cannot be owned at one pointer shows two
-    differ : (p q : Ptr) (x y : N.Denot) → ent 𝓤 (sep 𝓤 (sem 𝓛 (node_owns T (placed p x))) (sem 𝓛 (node_owns T (placed q y)))) (fact 𝓤 (same_pointer p q ≡ false))
-    differ p q x y = (elim (same_pointer p q) as (λ z. same_pointer p q ≡ z → ent 𝓤 (sep 𝓤 (sem 𝓛 (node_owns T (placed p x))) (sem 𝓛 (node_owns T (placed q y)))) (fact 𝓤 (same_pointer p q ≡ false))) [
-      | true ↦ λ e. via 𝓤 (never 𝓤) (subst (λ r. ent 𝓤 (sep 𝓤 (sem 𝓛 (node_owns T (placed p x))) (sem 𝓛 (node_owns T (placed r y)))) (never 𝓤)) (same_pointer-eq p q e)
-          (qed 𝓛 (‵ (node_owns T (placed p x)) ∷ ‵ (node_owns T (placed p y)) ∷ []) {P = never 𝓤} (fsplit ! $ move ! (2 ∷ []) $ fsplit ! $ keep ! (2 ∷ 0 ∷ []) $ by ! (crowded p x y)))) (never_e 𝓤 _)
+    differ : (p q : Ptr) (x y : N.Denot) → ent 𝓤 (sep 𝓤 (sem 𝓛 (node_owns T (placed_node p x))) (sem 𝓛 (node_owns T (placed_node q y)))) (fact 𝓤 (same_pointer p q ≡ false))
+    differ p q x y = (elim (same_pointer p q) as (λ z. same_pointer p q ≡ z → ent 𝓤 (sep 𝓤 (sem 𝓛 (node_owns T (placed_node p x))) (sem 𝓛 (node_owns T (placed_node q y)))) (fact 𝓤 (same_pointer p q ≡ false))) [
+      | true ↦ λ e. via 𝓤 (never 𝓤) (subst (λ r. ent 𝓤 (sep 𝓤 (sem 𝓛 (node_owns T (placed_node p x))) (sem 𝓛 (node_owns T (placed_node r y)))) (never 𝓤)) (same_pointer-eq p q e)
+          (qed 𝓛 (‵ (node_owns T (placed_node p x)) ∷ ‵ (node_owns T (placed_node p y)) ∷ []) {P = never 𝓤} (fsplit ! $ move ! (2 ∷ []) $ fsplit ! $ keep ! (2 ∷ 0 ∷ []) $ by ! (crowded p x y)))) (never_e 𝓤 _)
       | false ↦ λ e. fact_i 𝓤 (same_pointer p q ≡ false) _ e
     ]) refl
 
     -- a node that is owned beside others lies apart from them
-    pub fresh : (p : Ptr) (x : N.Denot) (ns : List (PlacedNode T.Denot)) → ent 𝓤 (sep 𝓤 (sem 𝓛 (node_owns T (placed p x))) (sem 𝓛 (nodes_own T ns))) (fact 𝓤 (IsFresh {T = T.Denot} p ns))
+    pub fresh : (p : Ptr) (x : N.Denot) (ns : List (PlacedNode T.Denot)) → ent 𝓤 (sep 𝓤 (sem 𝓛 (node_owns T (placed_node p x))) (sem 𝓛 (nodes_own T ns))) (fact 𝓤 (IsFresh {T = T.Denot} p ns))
     fresh p x [] = fact_i 𝓤 (IsFresh {T = T.Denot} p []) _ tt
-    fresh p x (n ∷ ns) = qed 𝓛 (‵ (node_owns T (placed p x)) ∷ ‵ (nodes_own T (n ∷ ns)) ∷ []) {P = fact 𝓤 (IsFresh p (n ∷ ns))} (move ! (1 ∷ []) $ fsplit ! $ move ! (2 ∷ 0 ∷ []) $
+    fresh p x (n ∷ ns) = qed 𝓛 (‵ (node_owns T (placed_node p x)) ∷ ‵ (nodes_own T (n ∷ ns)) ∷ []) {P = fact 𝓤 (IsFresh p (n ∷ ns))} (move ! (1 ∷ []) $ fsplit ! $ move ! (2 ∷ 0 ∷ []) $
         knows ! (same_pointer p n.place ≡ false) (differ p n.place x n.node) (λ here. move ! (0 ∷ 2 ∷ []) $ knows ! (IsFresh p ns) (fresh p x ns) (λ rest.
         by ! (fact_i 𝓤 (IsFresh p (n ∷ ns)) _ (here, rest)))))
 
@@ -131,7 +131,7 @@ module _ (T : RattleType) where
     own_push ns n = subst (λ ms. ent 𝓤 (sep 𝓤 (sem 𝓛 (node_owns T n)) (sem 𝓛 (Own ms))) (sem 𝓛 (Own (ns ++ n ∷ [])))) (append-nil ns) (own_glue ns n [])
 
     -- no node lies at null
-    pub no_block : (x : N.Denot) → ent 𝓤 (sem 𝓛 (node_owns T (placed null_ptr x))) (never 𝓤)
+    pub no_block : (x : N.Denot) → ent 𝓤 (sem 𝓛 (node_owns T (placed_node null_ptr x))) (never 𝓤)
     no_block x = fst∗ 𝓤 (never 𝓤) (sem 𝓛 (frees (bare (lone N.mir)) null_ptr))
 
     -- what is lent of the nodes is lent of each

@@ -5,7 +5,7 @@ use Rattle.std.specs.declared.option.Option.{Option}
 use Rattle.std.specs.declared.option.Option.TheVariants.{None, Some}
 use Rattle.eql_span_list.specs.declared.node.Node.{Node}
 use Rattle.eql_span_list.specs.declared.node.Ticket.{Ticket}
-use Rattle.eql_span_list.specs.PlacedNode.{PlacedNode, placed, places, IsApart, edit_at}
+use Rattle.eql_span_list.specs.PlacedNode.{PlacedNode, placed_node, places, IsApart, edit_at}
 use Rattle.eql_span_list.specs.Chain.{ticket_of, entries, IsRun, IsChain, NamesNode, next_set, previous_set, end_set}
 use Rattle.eql_span_list.proofs.Cuts.{cut_last}
 use Rattle.eql_span_list.proofs.Apart.{edit_at-cut, apart_without}
@@ -33,7 +33,7 @@ module _ {T : Type 0} where
 
   -- the node with a as what follows it
   abbrev with_next : PlacedNode T → Option Ticket → PlacedNode T
-  with_next k a = placed k.place (record k.node { next = a })
+  with_next k a = placed_node k.place (record k.node { next = a })
 
   -- the last of a run ends it, and may go before something else
   run_onto : (b : Option Ticket) (us : List (PlacedNode T)) (k : PlacedNode T) (f m a a' : Option Ticket) → IsRun b (us ++ k ∷ []) f m a
@@ -98,7 +98,7 @@ module _ {T : Type 0} where
     named = subst (NamesNode (xs ++ [])) (sym r.0) tt;
   }
   back_joined xs (k ∷ ws) p e b b' r d = record {
-    back = placed k.place (record k.node { previous = b' }) ∷ ws;
+    back = placed_node k.place (record k.node { previous = b' }) ∷ ws;
     made = ap (λ z. previous_set z b' (xs ++ k ∷ ws)) r.0 ∙ edit_at-cut xs k ws (λ n. record n { previous = b' }) d;
     run = (r.0, refl, subst (λ z. IsRun (Some (ticket_of k)) ws k.node.next z None) (sym (ap (λ z. end_set z b' e) r.0)) r.2);
     same_entries = refl;
@@ -143,18 +143,18 @@ module _ {T : Type 0} where
   abbrev pub last_node : Option Ticket → T → Node T
   last_node e x = record { previous = e; next = None; value = x }
 
-  added_at : (ns : List (PlacedNode T)) (t : Ticket) (x : T) (f e : Option Ticket) → IsChain ns f e → IsApart (places (ns ++ placed t.pointer (last_node e x) ∷ []))
-      → Added ns (ns ++ placed t.pointer (last_node e x) ∷ []) t x f e
+  added_at : (ns : List (PlacedNode T)) (t : Ticket) (x : T) (f e : Option Ticket) → IsChain ns f e → IsApart (places (ns ++ placed_node t.pointer (last_node e x) ∷ []))
+      → Added ns (ns ++ placed_node t.pointer (last_node e x) ∷ []) t x f e
   added_at ns t x f e r d =
-      let n : PlacedNode T = placed t.pointer (last_node e x) in let F = front_joined ns (n ∷ []) f e None (Some t) r d in let f' = end_set e (Some t) f in
+      let n : PlacedNode T = placed_node t.pointer (last_node e x) in let F = front_joined ns (n ∷ []) f e None (Some t) r d in let f' = end_set e (Some t) f in
       record {
         last_named = F.named;
         chain = subst (λ l. IsChain l f' (Some t)) (sym F.made) (run_glue None F.front (n ∷ []) f' e (Some t) (Some t) None F.run (refl, refl, (refl, refl)));
         seen = ap entries F.made ∙ entries-append F.front (n ∷ []) ∙ ap (λ l. l ++ (t, x) ∷ []) F.same_entries;
       }
 
-  pub added : (ns ms : List (PlacedNode T)) (t : Ticket) (x : T) (f e : Option Ticket) (v : Node T) → IsChain ns f e → IsApart (places ms) → ms ≡ ns ++ placed t.pointer v ∷ [] → v ≡ last_node e x
+  pub added : (ns ms : List (PlacedNode T)) (t : Ticket) (x : T) (f e : Option Ticket) (v : Node T) → IsChain ns f e → IsApart (places ms) → ms ≡ ns ++ placed_node t.pointer v ∷ [] → v ≡ last_node e x
       → Added ns ms t x f e
   added ns ms t x f e v r d put is =
-      let made : ms ≡ ns ++ placed t.pointer (last_node e x) ∷ [] = put ∙ ap (λ (w : Node T). ns ++ placed t.pointer w ∷ []) is in
+      let made : ms ≡ ns ++ placed_node t.pointer (last_node e x) ∷ [] = put ∙ ap (λ (w : Node T). ns ++ placed_node t.pointer w ∷ []) is in
       subst (λ ks. Added ns ks t x f e) (sym made) (added_at ns t x f e r (subst (λ ks. IsApart (places ks)) made d))

@@ -24,8 +24,8 @@ pub record PlacedNode (T : Type 0) : Type 0 where
   pub node : Node T
 
 module _ {T : Type 0} where
-  abbrev pub placed : Ptr → Node T → PlacedNode T
-  placed p n = record { place = p; node = n }
+  abbrev pub placed_node : Ptr → Node T → PlacedNode T
+  placed_node p n = record { place = p; node = n }
 
   -- where the nodes lie, in order
   abbrev pub places : List (PlacedNode T) → List Ptr
@@ -41,7 +41,7 @@ module _ {T : Type 0} where
 
   -- the nodes, with f of the one at p in its place
   unfoldable pub edit_at : Ptr → (Node T → Node T) → List (PlacedNode T) → List (PlacedNode T)
-  edit_at p f = map (λ n. placed n.place (cond (same_pointer n.place p) (f n.node) n.node))
+  edit_at p f = map (λ n. placed_node n.place (cond (same_pointer n.place p) (f n.node) n.node))
 
   -- an edit moves no node
   pub places-edit_at : (p : Ptr) (f : Node T → Node T) (ns : List (PlacedNode T)) → places (edit_at p f ns) ≡ places ns

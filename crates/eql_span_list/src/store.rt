@@ -2,7 +2,7 @@
 ghost use Rattle.std.specs.Prelude.{◌≡◌, List as Seq, [], ◌∷◌, ◌++◌};
 ghost use Rattle.std.specs.Borrow.{sem};
 ghost use Rattle.std.specs.Coded.{prop_coded};
-ghost use Rattle.eql_span_list.specs.PlacedNode.{PlacedNode, placed, places, IsApart, IsApart-prop, HasNodeAt, HoldsAtNode};
+ghost use Rattle.eql_span_list.specs.PlacedNode.{PlacedNode, placed_node, places, IsApart, IsApart-prop, HasNodeAt, HoldsAtNode};
 ghost use Rattle.eql_span_list.specs.Ownership.{nodes_own, nodes_lent};
 
 use crate::loose_box::LooseBox;
@@ -52,7 +52,7 @@ impl<T> NodeStore<T> {
 
     /// Takes a block in as the last node, and names it.
     pub(crate) fn put(&mut self, block: LooseBox<Node<T>, Global>) -> Ticket
-        ensures { self.new.nodes ≡ self.old.nodes ++ placed result.pointer block.value ∷ [] }
+        ensures { self.new.nodes ≡ self.old.nodes ++ placed_node result.pointer block.value ∷ [] }
     {
         let LooseBox { pointer, alloc: _ } = block;
         Ticket {

@@ -11,7 +11,7 @@ use Rattle.eql_values.specs.declared.item.Mask.{Mask}
 use Rattle.eql_values.specs.declared.item.Route.{Route}
 use Rattle.eql_values.specs.Orders.{value_cmp, key_cmp}
 use Rattle.eql_stages.specs.Keys.{value_of, values_of}
-use Rattle.eql_stages.specs.Gathering.{joined, said, IsAt, ComesAt}
+use Rattle.eql_stages.specs.Gathering.{joined_route, said_routes, IsAt, ComesAt}
 use Rattle.eql_stages.specs.declared.keys.KeyField.{KeyField}
 
 pub from_here : {A : Type 0} (xs : List A) (i : ℕ) (x : A) → i < length xs → x ≡ get_or xs i x → drop i xs ≡ x ∷ drop (i + 1) xs
@@ -59,39 +59,39 @@ module _ (slots : List Value) (fields : List KeyField) (key : List Value) where
 module _ (key : List Value) (routes : List Route) where
   -- the first routes have lesser keys
   abbrev pub PassesTo : ℕ → Type 0
-  PassesTo i = (mask : Mask) (until : Bool) → said key mask until routes ≡ take i routes ++ said key mask until (drop i routes)
+  PassesTo i = (mask : Mask) (until : Bool) → said_routes key mask until routes ≡ take i routes ++ said_routes key mask until (drop i routes)
 
   pub found_here : (i : ℕ) (r : Route) → i < length routes → r ≡ get_or routes i r → key_cmp key r.key ≡ Equal → PassesTo i
       → IsAt key routes i
   found_here i r h is eq passes mask until d =
       passes mask until
-      ∙ (λ k. take i routes ++ said key mask until (from_here routes i r h is k))
+      ∙ (λ k. take i routes ++ said_routes key mask until (from_here routes i r h is k))
       ∙ (λ k. take i routes ++ by_order (eq k) (record { key = key; mask = mask; until = until } ∷ r ∷ drop (i + 1) routes)
-      (joined mask until r ∷ drop (i + 1) routes) (r ∷ said key mask until (drop (i + 1) routes)))
-      ∙ (let next : i + 1 ≡ suc i = omega arith in (λ k. take i routes ++ joined mask until (get_or_read routes i r h is d k) ∷ drop (next k) routes))
-      ∙ sym (set_split routes i (joined mask until (get_or routes i d)) h)
+      (joined_route mask until r ∷ drop (i + 1) routes) (r ∷ said_routes key mask until (drop (i + 1) routes)))
+      ∙ (let next : i + 1 ≡ suc i = omega arith in (λ k. take i routes ++ joined_route mask until (get_or_read routes i r h is d k) ∷ drop (next k) routes))
+      ∙ sym (set_split routes i (joined_route mask until (get_or routes i d)) h)
 
   pub comes_here : (i : ℕ) (r : Route) → i < length routes → r ≡ get_or routes i r → key_cmp key r.key ≡ Less → PassesTo i
       → ComesAt key routes i
   comes_here i r h is less passes mask until =
       passes mask until
-      ∙ (λ k. take i routes ++ said key mask until (from_here routes i r h is k))
+      ∙ (λ k. take i routes ++ said_routes key mask until (from_here routes i r h is k))
       ∙ (λ k. take i routes ++ by_order (less k) (record { key = key; mask = mask; until = until } ∷ r ∷ drop (i + 1) routes)
-      (joined mask until r ∷ drop (i + 1) routes) (r ∷ said key mask until (drop (i + 1) routes)))
+      (joined_route mask until r ∷ drop (i + 1) routes) (r ∷ said_routes key mask until (drop (i + 1) routes)))
       ∙ (λ k. take i routes ++ record { key = key; mask = mask; until = until } ∷ sym (from_here routes i r h is) k)
 
   pub comes_last : (i : ℕ) → length routes ≤ i → PassesTo i → ComesAt key routes i
   comes_last i over passes mask until =
       passes mask until
-      ∙ ap (λ (l : List Route). take i routes ++ said key mask until l) (drop_all i routes over)
+      ∙ ap (λ (l : List Route). take i routes ++ said_routes key mask until l) (drop_all i routes over)
       ∙ ap (λ (l : List Route). take i routes ++ record { key = key; mask = mask; until = until } ∷ l) (sym (drop_all i routes over))
 
   pub passes_on : (i : ℕ) (r : Route) → i < length routes → r ≡ get_or routes i r → key_cmp key r.key ≡ Greater → PassesTo i
       → PassesTo (i + 1)
   passes_on i r h is greater passes mask until =
       passes mask until
-      ∙ (λ k. take i routes ++ said key mask until (from_here routes i r h is k))
+      ∙ (λ k. take i routes ++ said_routes key mask until (from_here routes i r h is k))
       ∙ (λ k. take i routes ++ by_order (greater k) (record { key = key; mask = mask; until = until } ∷ r ∷ drop (i + 1) routes)
-      (joined mask until r ∷ drop (i + 1) routes) (r ∷ said key mask until (drop (i + 1) routes)))
-      ∙ sym (append_assoc (take i routes) (r ∷ []) (said key mask until (drop (i + 1) routes)))
-      ∙ ap (λ (l : List Route). l ++ said key mask until (drop (i + 1) routes)) (sym (take_more routes i r h ∙ (λ k. take i routes ++ sym is k ∷ [])))
+      (joined_route mask until r ∷ drop (i + 1) routes) (r ∷ said_routes key mask until (drop (i + 1) routes)))
+      ∙ sym (append_assoc (take i routes) (r ∷ []) (said_routes key mask until (drop (i + 1) routes)))
+      ∙ ap (λ (l : List Route). l ++ said_routes key mask until (drop (i + 1) routes)) (sym (take_more routes i r h ∙ (λ k. take i routes ++ sym is k ∷ [])))

@@ -42,7 +42,7 @@ use Rattle.eql_stages.specs.Stages.{Stage, key_of, key_at, fits_item, stage_of, 
 use Rattle.eql_stages.specs.Planned.{Planned, wanted_of, got_of, routes_in, run_of}
 use Rattle.eql_stages.specs.Laws.{ReadersFit}
 use Rattle.eql_stages.proofs.Bits.{bits-lt}
-use Rattle.eql_stages.specs.Standing.{Entries, entries_of, routes-entries, in_order_sorted, found_in_order, shown, each_route, got_at, routes_stand}
+use Rattle.eql_stages.specs.Standing.{Entries, entries_of, routes-entries, in_order_sorted, found_in_order, shown_routes, each_route, got_at, routes_stand}
 
 -- ---- the stages of a mask
 
@@ -115,13 +115,13 @@ one_key x y (Some key) h k = equal_is x key h ∙ sym (equal_is y key k)
 
 module _ (a : List Given) (u : Given) (m : ℕ) (g : Given) (only : (q : List Value) → has_stage (mask_of q a) m ≡ true → is_this q g ≡ true) where
   -- where one key is at the stage, no other is
-  none_else : (x : List Value) (es : Entries) → below_all key_cmp x es ≡ true → is_this x g ≡ true → completing m (shown a u es) ≡ []
+  none_else : (x : List Value) (es : Entries) → below_all key_cmp x es ≡ true → is_this x g ≡ true → completing m (shown_routes a u es) ≡ []
   none_else x [] below this = refl
   none_else x (e ∷ es) below this =
       by (has_stage (mask_of e.0 a) m) refl (none_else x es (and_parts (is_lt (key_cmp x e.0)) (below_all key_cmp x es) below).1 this)
     where
-      by : (b : Bool) → has_stage (mask_of e.0 a) m ≡ b → completing m (shown a u es) ≡ []
-          → (if b then route_by a u e.0 ∷ completing m (shown a u es) else completing m (shown a u es)) ≡ []
+      by : (b : Bool) → has_stage (mask_of e.0 a) m ≡ b → completing m (shown_routes a u es) ≡ []
+          → (if b then route_by a u e.0 ∷ completing m (shown_routes a u es) else completing m (shown_routes a u es)) ≡ []
       by false s rest = rest
       by true s rest =
           let same : x ≡ e.0 = one_key x e.0 g this (only e.0 s) in
@@ -129,12 +129,12 @@ module _ (a : List Given) (u : Given) (m : ℕ) (g : Given) (only : (q : List Va
           let tied : is_lt (key_cmp x e.0) ≡ false = ap (λ (k : List Value). is_lt (key_cmp x k)) (sym same) ∙ ap is_lt (tied_itself key_cmp_total x) in
           cc
 
-  one_at_most : (es : Entries) → is_sorted key_cmp es ≡ true → length (completing m (shown a u es)) ≤ 1
+  one_at_most : (es : Entries) → is_sorted key_cmp es ≡ true → length (completing m (shown_routes a u es)) ≤ 1
   one_at_most [] sorted = omega arith
   one_at_most (e ∷ es) sorted = by (has_stage (mask_of e.0 a) m) refl (one_at_most es (and_parts (below_all key_cmp e.0 es) (is_sorted key_cmp es) sorted).1)
     where
-      by : (b : Bool) → has_stage (mask_of e.0 a) m ≡ b → length (completing m (shown a u es)) ≤ 1
-          → length (if b then route_by a u e.0 ∷ completing m (shown a u es) else completing m (shown a u es)) ≤ 1
+      by : (b : Bool) → has_stage (mask_of e.0 a) m ≡ b → length (completing m (shown_routes a u es)) ≤ 1
+          → length (if b then route_by a u e.0 ∷ completing m (shown_routes a u es) else completing m (shown_routes a u es)) ≤ 1
       by false s rest = rest
       by true s rest =
           let none = ap length (none_else e.0 es (and_parts (below_all key_cmp e.0 es) (is_sorted key_cmp es) sorted).0 (only e.0 s)) in
@@ -269,7 +269,7 @@ fits_run planned slack keeps f item is =
     let u : Given = option_and_then (key_at planned.fields f.categories f.slots) (until_in body) in
     let es : Entries = in_order key_cmp (entries_of (a ++ u ∷ [])) in
     let count : length a ≡ length (stages_in body) = as_many (key_at planned.fields f.categories f.slots) (stages_in body) in
-    let are : shown a u es ≡ item.routes = sym (routes-entries a u) ∙ sym is in
+    let are : shown_routes a u es ≡ item.routes = sym (routes-entries a u) ∙ sym is in
     let have = stages_have body keeps.checked.as_many_keys keeps.checked.stages in
     let long : AreLong (key_count body) (a ++ u ∷ []) =
     long_append (key_count body) a (u ∷ []) (stages_long planned.fields f.categories f.slots (key_count body) (stages_in body) have.0)

@@ -21,7 +21,7 @@ use Rattle.eql_code.specs.Stack.{gives}
 use Rattle.eql_stages.specs.Given.{Given, routes_by}
 use Rattle.eql_stages.specs.Stages.{Stage, has_category, key_of, key_at, count_of, stage_of, item_stages, stages_in, until_in}
 use Rattle.eql_stages.specs.Keys.{key_by, values_of, is_given}
-use Rattle.eql_stages.specs.Judging.{judged, given_by, stages_of, said_to, is_within, Reader, reads_by}
+use Rattle.eql_stages.specs.Judging.{judged_key, given_by, stages_of, said_to, is_within, Reader, reads_by}
 use Rattle.eql_stages.specs.Planned.{Planned, wanted_of, got_of, line_of}
 use Rattle.eql_lines.specs.Reading.{line_read}
 use Rattle.eql_stages.specs.Compiling.{key_field, Judges, JudgeAll, JudgesEnd}
@@ -71,7 +71,7 @@ pub one_judge_more : (fields : List (List ℕ × Kind)) (stages : List Stage) (s
     → JudgeAll fields (stages ++ replicate n stage) (judges ++ judge ∷ [])
 one_judge_more fields stages stage n judges judge all one runs = record {
   same = λ categories slots.
-      flat_map-append (λ (j : Judge). replicate j.runs (judged categories slots j)) judges (judge ∷ [])
+      flat_map-append (λ (j : Judge). replicate j.runs (judged_key categories slots j)) judges (judge ∷ [])
       ∙ (λ i. all.same categories slots i ++ append-nil (replicate (runs i) (one.same categories slots i)) i)
       ∙ ap (λ (l : List Given). map (key_at fields categories slots) stages ++ l) (sym (map-replicate (key_at fields categories slots) n stage))
       ∙ sym (map-append (key_at fields categories slots) stages (replicate n stage));
@@ -98,9 +98,9 @@ length-given categories slots [] = refl
 length-given categories slots (judge ∷ judges) =
     let rest = length-given categories slots judges in
     let whole : stages_of (judge ∷ judges) ≡ judge.runs + stages_of judges = sum_by-cons (λ (j : Judge). j.runs) judge judges in
-    let both : length (given_by categories slots (judge ∷ judges)) ≡ length (replicate judge.runs (judged categories slots judge)) + length (given_by categories slots judges) =
-    length-append (replicate judge.runs (judged categories slots judge)) (given_by categories slots judges) in
-    let some = length-replicate judge.runs (judged categories slots judge) in
+    let both : length (given_by categories slots (judge ∷ judges)) ≡ length (replicate judge.runs (judged_key categories slots judge)) + length (given_by categories slots judges) =
+    length-append (replicate judge.runs (judged_key categories slots judge)) (given_by categories slots judges) in
+    let some = length-replicate judge.runs (judged_key categories slots judge) in
     omega arith
 
 -- what an item's stages are given is said to its key
@@ -113,14 +113,14 @@ said_more given (Some key) p n mask len low high = said-item given key p n mask 
 pub said_judge : (categories : List (List ℕ)) (slots : List Value) (judges : List Judge) (judge : Judge) (p r : ℕ) (mask : Mask)
     → stages_of judges ≡ p → judge.runs ≡ r → 1 ≤ r
     → mask.low ≡ 2 ^ min (p + r) 128 - 2 ^ min p 128 → mask.high ≡ 2 ^ (p + r - 128) - 2 ^ (p - 128)
-    → said_to (judged categories slots judge) mask false (routes_by (given_by categories slots judges) None)
+    → said_to (judged_key categories slots judge) mask false (routes_by (given_by categories slots judges) None)
     ≡ routes_by (given_by categories slots (judges ++ judge ∷ [])) None
 said_judge categories slots judges judge p zero mask len runs some low high = absurd (omega arith)
 said_judge categories slots judges judge p (suc n) mask len runs some low high =
-    said_more (given_by categories slots judges) (judged categories slots judge) p n mask (length-given categories slots judges ∙ len) low high
+    said_more (given_by categories slots judges) (judged_key categories slots judge) p n mask (length-given categories slots judges ∙ len) low high
     ∙ ap (λ (l : List Given). routes_by l None)
-    (sym (flat_map-append (λ (j : Judge). replicate j.runs (judged categories slots j)) judges (judge ∷ [])
-    ∙ (λ i. given_by categories slots judges ++ append-nil (replicate (runs i) (judged categories slots judge)) i)))
+    (sym (flat_map-append (λ (j : Judge). replicate j.runs (judged_key categories slots j)) judges (judge ∷ [])
+    ∙ (λ i. given_by categories slots judges ++ append-nil (replicate (runs i) (judged_key categories slots judge)) i)))
 
 -- what lines give to a reader of a query's items is what they give to the query
 pub reader_is : (reader : Reader) (planned : Planned) → reader.wanted ≡ wanted_of planned

@@ -17,7 +17,7 @@ use Rattle.eql_values.specs.Totals.{key_cmp_total}
 use Rattle.eql_values.proofs.Same.{key_same}
 use Rattle.eql_values.proofs.InOrder.{find-in_order, in_order-sorted, is_in_order}
 use Rattle.eql_stages.specs.Given.{Given, bits_of, mask_of, route_by, routes_by}
-use Rattle.eql_stages.specs.Gathering.{union, joined, said}
+use Rattle.eql_stages.specs.Gathering.{union, joined_route, said_routes}
 use Rattle.eql_stages.specs.Standing.{Entries, entries_of, entries-append, found-append, routes-entries, in_order_sorted, itself}
 use Rattle.eql_stages.proofs.Bits.{mask-more, mask-other}
 
@@ -57,7 +57,7 @@ none_below k (e ∷ es) h =
 
 module _ (key : List Value) (a b : List Given) (u v : Given) (mask : Mask) (until : Bool)
     (others : (q : List Value) → key_eq key q ≡ false → route_by b v q ≡ route_by a u q)
-    (here : route_by b v key ≡ joined mask until (route_by a u key))
+    (here : route_by b v key ≡ joined_route mask until (route_by a u key))
   where
     abbrev fresh : Route
     fresh = record { key = key; mask = mask; until = until }
@@ -74,13 +74,13 @@ module _ (key : List Value) (a b : List Given) (u v : Given) (mask : Mask) (unti
     one_said : (e : List Value × ℕ) (es : Entries) → is_sorted key_cmp (e ∷ es) ≡ true
         → (find key_cmp key (e ∷ es) ≡ None → route_by b v key ≡ fresh)
         → ((find key_cmp key es ≡ None → route_by b v key ≡ fresh)
-        → said key mask until (map (λ (e : List Value × ℕ). route_by a u e.0) es)
+        → said_routes key mask until (map (λ (e : List Value × ℕ). route_by a u e.0) es)
         ≡ map (λ (e : List Value × ℕ). route_by b v e.0) (put key_cmp key 0 es))
         → (o : Ordering) → key_cmp key e.0 ≡ o
         → by_order o
         (fresh ∷ route_by a u e.0 ∷ map (λ (e : List Value × ℕ). route_by a u e.0) es)
-        (joined mask until (route_by a u e.0) ∷ map (λ (e : List Value × ℕ). route_by a u e.0) es)
-        (route_by a u e.0 ∷ said key mask until (map (λ (e : List Value × ℕ). route_by a u e.0) es))
+        (joined_route mask until (route_by a u e.0) ∷ map (λ (e : List Value × ℕ). route_by a u e.0) es)
+        (route_by a u e.0 ∷ said_routes key mask until (map (λ (e : List Value × ℕ). route_by a u e.0) es))
         ≡ map (λ (e : List Value × ℕ). route_by b v e.0) (by_order o ((key, 0) ∷ e ∷ es) ((e.0, 0) ∷ es) (e ∷ put key_cmp key 0 es))
     one_said e es sorted new rest Less is =
         let parts = and_parts (below_all key_cmp e.0 es) (is_sorted key_cmp es) sorted in
@@ -91,8 +91,8 @@ module _ (key : List Value) (a b : List Given) (u v : Given) (mask : Mask) (unti
         let parts = and_parts (below_all key_cmp e.0 es) (is_sorted key_cmp es) sorted in
         let same : key ≡ e.0 = key_same key e.0 is in
         let below : below_all key_cmp key es ≡ true = ap (λ (k : List Value). below_all key_cmp k es) same ∙ parts.0 in
-        let first : joined mask until (route_by a u e.0) ≡ route_by b v e.0 =
-        ap (λ (k : List Value). joined mask until (route_by a u k)) (sym same) ∙ sym here ∙ ap (route_by b v) same in
+        let first : joined_route mask until (route_by a u e.0) ≡ route_by b v e.0 =
+        ap (λ (k : List Value). joined_route mask until (route_by a u k)) (sym same) ∙ sym here ∙ ap (route_by b v) same in
         λ i. first i ∷ sym (above_same es below) i
     one_said e es sorted new rest Greater is =
         let tail : (find key_cmp key es ≡ None → route_by b v key ≡ fresh) = λ none.
@@ -101,7 +101,7 @@ module _ (key : List Value) (a b : List Given) (u v : Given) (mask : Mask) (unti
 
     -- what is said to one key more
     pub said-put : (es : Entries) → is_sorted key_cmp es ≡ true → (find key_cmp key es ≡ None → route_by b v key ≡ fresh)
-        → said key mask until (map (λ (e : List Value × ℕ). route_by a u e.0) es)
+        → said_routes key mask until (map (λ (e : List Value × ℕ). route_by a u e.0) es)
         ≡ map (λ (e : List Value × ℕ). route_by b v e.0) (put key_cmp key 0 es)
     said-put [] sorted new = λ i. sym (new refl) i ∷ []
     said-put (e ∷ es) sorted new =
@@ -169,19 +169,19 @@ runs_found q key (suc n) = ap (λ (o : Option ℕ). cond (key_eq q key) (Some 0)
 -- the stages of an item are said to their key
 pub said-item : (a : List Given) (key : List Value) (p n : ℕ) (mask : Mask) → length a ≡ p
     → mask.low ≡ 2 ^ min (p + suc n) 128 - 2 ^ min p 128 → mask.high ≡ 2 ^ (p + suc n - 128) - 2 ^ (p - 128)
-    → said key mask false (routes_by a None) ≡ routes_by (a ++ replicate (suc n) (Some key)) None
+    → said_routes key mask false (routes_by a None) ≡ routes_by (a ++ replicate (suc n) (Some key)) None
 said-item a key p n mask len low high =
     let b : List Given = a ++ replicate (suc n) (Some key) in
     let more : mask_of key b ≡ union (mask_of key a) mask = mask-more key a (Some key) p (suc n) mask len (itself key) low high in
     let others : ((q : List Value) → key_eq key q ≡ false → route_by b None q ≡ route_by a None q) = λ q h.
     (λ i. record { key = q; mask = mask-other q a (Some key) (suc n) (turned q key ∙ h) i; until = false }) in
-    let here : route_by b None key ≡ joined mask false (route_by a None key) = λ i. record { key = key; mask = more i; until = false } in
+    let here : route_by b None key ≡ joined_route mask false (route_by a None key) = λ i. record { key = key; mask = more i; until = false } in
     let new : (find key_cmp key (in_order key_cmp (entries_of (a ++ None ∷ []))) ≡ None → route_by b None key ≡ record { key = key; mask = mask; until = false }) = λ none.
     let absent : find key_cmp key (entries_of a) ≡ None =
     sym (ap (find key_cmp key) (trailing a)) ∙ sym (find-in_order key_cmp key_cmp_total key (entries_of (a ++ None ∷ []))) ∙ none in
     let is : mask_of key b ≡ mask = more ∙ ap (λ (m : Mask). union m mask) (no_stage key a absent) in
     (λ i. record { key = key; mask = is i; until = false }) in
-    ap (said key mask false) (routes-entries a None)
+    ap (said_routes key mask false) (routes-entries a None)
     ∙ said-put key a b None None mask false others here (in_order key_cmp (entries_of (a ++ None ∷ []))) (in_order_sorted (entries_of (a ++ None ∷ []))) new
     ∙ ap (map (λ (e : List Value × ℕ). route_by b None e.0)) (grown (a ++ None ∷ []) (b ++ None ∷ []) key (λ q.
     ap (find key_cmp q) (trailing b) ∙ found-append q a (replicate (suc n) (Some key))
@@ -190,18 +190,18 @@ said-item a key p n mask len low high =
 
 -- the end of a key is said to it
 pub said-until : (a : List Given) (key : List Value)
-    → said key (record { low = 0; high = 0 }) true (routes_by a None) ≡ routes_by a (Some key)
+    → said_routes key (record { low = 0; high = 0 }) true (routes_by a None) ≡ routes_by a (Some key)
 said-until a key =
     let none : Mask = record { low = 0; high = 0 } in
     let others : ((q : List Value) → key_eq key q ≡ false → route_by a (Some key) q ≡ route_by a None q) = λ q h.
     (λ i. record { key = q; mask = mask_of q a; until = (turned q key ∙ h) i }) in
-    let here : route_by a (Some key) key ≡ joined none true (route_by a None key) = λ i.
+    let here : route_by a (Some key) key ≡ joined_route none true (route_by a None key) = λ i.
     record { key = key; mask = record { low = sym (or_zero_r (bits_of key (take 128 a))) i; high = sym (or_zero_r (bits_of key (drop 128 a))) i }; until = itself key i } in
     let new : (find key_cmp key (in_order key_cmp (entries_of (a ++ None ∷ []))) ≡ None → route_by a (Some key) key ≡ record { key = key; mask = none; until = true }) = λ absent.
     let gone : find key_cmp key (entries_of a) ≡ None =
     sym (ap (find key_cmp key) (trailing a)) ∙ sym (find-in_order key_cmp key_cmp_total key (entries_of (a ++ None ∷ []))) ∙ absent in
     (λ i. record { key = key; mask = no_stage key a gone i; until = itself key i }) in
-    ap (said key none true) (routes-entries a None)
+    ap (said_routes key none true) (routes-entries a None)
     ∙ said-put key a a None (Some key) none true others here (in_order key_cmp (entries_of (a ++ None ∷ []))) (in_order_sorted (entries_of (a ++ None ∷ []))) new
     ∙ ap (map (λ (e : List Value × ℕ). route_by a (Some key) e.0)) (grown (a ++ None ∷ []) (a ++ Some key ∷ []) key (λ q.
     found-append q a (Some key ∷ []) ∙ ap (λ (es : Entries). found_or (find key_cmp q es) (cond (key_eq q key) (Some 0) None)) (sym (trailing a))))

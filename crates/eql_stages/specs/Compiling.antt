@@ -5,7 +5,7 @@ use Rattle.eql_values.specs.declared.value.Kind.{Kind}
 use Rattle.eql_query.specs.declared.expr.FieldRef.{FieldRef}
 use Rattle.eql_check.specs.Truth.{slot_of}
 use Rattle.eql_stages.specs.Stages.{Stage, key_at}
-use Rattle.eql_stages.specs.Judging.{judged, given_by, until_by, stages_of}
+use Rattle.eql_stages.specs.Judging.{judged_key, given_by, until_by, stages_of}
 use Rattle.eql_stages.specs.declared.keys.KeyField.{KeyField}
 use Rattle.eql_stages.specs.declared.judge.Judge.{Judge}
 
@@ -14,7 +14,7 @@ key_field fields key = record { slot = slot_of fields key.name; optional = key.o
 
 -- the item judges as the stage does
 pub record Judges (fields : List (List ℕ × Kind)) (stage : Stage) (judge : Judge) : Type 0 where
-  pub same : (categories : List (List ℕ)) (slots : List Value) → judged categories slots judge ≡ key_at fields categories slots stage
+  pub same : (categories : List (List ℕ)) (slots : List Value) → judged_key categories slots judge ≡ key_at fields categories slots stage
 
 -- the items judge as the stages do
 pub record JudgeAll (fields : List (List ℕ × Kind)) (stages : List Stage) (judges : List Judge) : Type 0 where

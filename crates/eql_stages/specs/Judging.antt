@@ -15,7 +15,7 @@ use Rattle.eql_stages.specs.Given.{Given, routes_by}
 use Rattle.eql_stages.specs.Stages.{has_category}
 use Rattle.eql_stages.specs.Planned.{got_of}
 use Rattle.eql_stages.specs.Keys.{key_by}
-use Rattle.eql_stages.specs.Gathering.{said}
+use Rattle.eql_stages.specs.Gathering.{said_routes}
 use Rattle.eql_stages.specs.declared.judge.Judge.{Judge}
 
 module _ (categories : List (List ℕ)) (slots : List Value) where
@@ -24,20 +24,20 @@ module _ (categories : List (List ℕ)) (slots : List Value) where
   fits judge = has_category categories judge.category && is_true (gives judge.code slots)
 
   -- the key that the event gives to each stage of the item
-  abbrev pub judged : Judge → Given
-  judged judge = if fits judge then key_by slots judge.keys else None
+  abbrev pub judged_key : Judge → Given
+  judged_key judge = if fits judge then key_by slots judge.keys else None
 
   -- what the stages of items are given, runs written out
   abbrev pub given_by : List Judge → List Given
-  given_by judges = flat_map (λ (judge : Judge). replicate judge.runs (judged judge)) judges
+  given_by judges = flat_map (λ (judge : Judge). replicate judge.runs (judged_key judge)) judges
 
   abbrev pub until_by : Option Judge → Given
-  until_by until = option_and_then judged until
+  until_by until = option_and_then judged_key until
 
 -- routes to which an item's stages are added, where it is given a key
 abbrev pub said_to : Given → Mask → Bool → List Route → List Route
 said_to None mask until routes = routes
-said_to (Some key) mask until routes = said key mask until routes
+said_to (Some key) mask until routes = said_routes key mask until routes
 
 -- how many stages the items are
 abbrev pub stages_of : List Judge → ℕ

@@ -27,8 +27,8 @@ pub record PlanOf : Type 0 where
   pub checked : CheckedQuery
   pub tie : Option (List ℕ)
 
-abbrev pub planned : PlanOf → Planned
-planned plan = record { query = query_tree plan.checked.query; fields = plan.checked.fields; tie = plan.tie }
+abbrev pub planned_query : PlanOf → Planned
+planned_query plan = record { query = query_tree plan.checked.query; fields = plan.checked.fields; tie = plan.tie }
 
 -- what is read of each line
 abbrev pub wanted_of : Planned → Wanted

@@ -51,15 +51,15 @@ unfolding lib.Utf8.encode
 no_part_of_a_category = refl
 
 -- sequence [process where true] [file where true] until [network where true]
-abbrev ended : BodyTree
-ended = sequence [] None (item (codes "process") [] 1 ∷ item (codes "file") [] 1 ∷ []) (Some (item (codes "network") [] 1))
+abbrev until_body : BodyTree
+until_body = sequence [] None (item (codes "process") [] 1 ∷ item (codes "file") [] 1 ∷ []) (Some (item (codes "network") [] 1))
 
 -- an event that ends its key, and one that fits a stage besides
-ends : says ended [] (codes "network" ∷ []) [] ≡ route [] 0 0 true ∷ []
+ends : says until_body [] (codes "network" ∷ []) [] ≡ route [] 0 0 true ∷ []
 unfolding lib.Utf8.encode
 ends = refl
 
-fits_and_ends : says ended [] (codes "file" ∷ codes "network" ∷ []) [] ≡ route [] 2 0 true ∷ []
+fits_and_ends : says until_body [] (codes "file" ∷ codes "network" ∷ []) [] ≡ route [] 2 0 true ∷ []
 unfolding lib.Utf8.encode
 fits_and_ends = refl
 
@@ -91,16 +91,16 @@ null_key : says by_item pids (codes "file" ∷ []) (value.Long (pos 7) ∷ value
 unfolding lib.Utf8.encode
 null_key = refl
 
-abbrev marked : BodyTree
-marked = sequence (record { name = codes "user.id"; optional = true } ∷ []) None (item (codes "process") [] 1 ∷ item (codes "file") [] 1 ∷ []) None
+abbrev marked_body : BodyTree
+marked_body = sequence (record { name = codes "user.id"; optional = true } ∷ []) None (item (codes "process") [] 1 ∷ item (codes "file") [] 1 ∷ []) None
 
-null_allowed : says marked [] (codes "process" ∷ []) [] ≡ route (value.Null ∷ []) 1 0 false ∷ []
+null_allowed : says marked_body [] (codes "process" ∷ []) [] ≡ route (value.Null ∷ []) 1 0 false ∷ []
 unfolding lib.Utf8.encode
 null_allowed = refl
 
 -- sequence [any where process.name : "a*"] [any where process.name : "*b"]
-abbrev named : List ℕ → TermTree
-named pattern = record {
+abbrev named_term : List ℕ → TermTree
+named_term pattern = record {
   category = None;
   cond = t.pattern Colon (t.field (codes "process.name") false) (pattern ∷ []);
   by = [];
@@ -108,7 +108,7 @@ named pattern = record {
 }
 
 abbrev two_patterns : BodyTree
-two_patterns = sequence [] None (named (codes "a*") ∷ named (codes "*b") ∷ []) None
+two_patterns = sequence [] None (named_term (codes "a*") ∷ named_term (codes "*b") ∷ []) None
 
 -- one event fits two stages
 both_stages : says two_patterns ((codes "process.name", kind.Text) ∷ []) [] (value.Text (codes "AB") ∷ []) ≡ route [] 3 0 false ∷ []

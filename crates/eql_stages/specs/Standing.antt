@@ -72,16 +72,16 @@ pub itself : (key : List Value) → key_eq key key ≡ true
 itself key = ap is_eq (tied_itself key_cmp_total key)
 
 -- routes by entries
-abbrev pub shown : List Given → Given → Entries → List Route
-shown a u es = map (λ (e : List Value × ℕ). route_by a u e.0) es
+abbrev pub shown_routes : List Given → Given → Entries → List Route
+shown_routes a u es = map (λ (e : List Value × ℕ). route_by a u e.0) es
 
 keyed_below : (a : List Given) (u : Given) (x : List Value) (es : Entries)
-    → below_all key_cmp x (map (λ (r : Route). (r.key, r)) (shown a u es)) ≡ below_all key_cmp x es
+    → below_all key_cmp x (map (λ (r : Route). (r.key, r)) (shown_routes a u es)) ≡ below_all key_cmp x es
 keyed_below a u x [] = refl
 keyed_below a u x (e ∷ es) = ap (λ (b : Bool). is_lt (key_cmp x e.0) && b) (keyed_below a u x es)
 
 keyed : (a : List Given) (u : Given) (es : Entries)
-    → is_sorted key_cmp (map (λ (r : Route). (r.key, r)) (shown a u es)) ≡ is_sorted key_cmp es
+    → is_sorted key_cmp (map (λ (r : Route). (r.key, r)) (shown_routes a u es)) ≡ is_sorted key_cmp es
 keyed a u [] = refl
 keyed a u (e ∷ es) = λ i. keyed_below a u e.0 es i && keyed a u es i
 
@@ -91,19 +91,19 @@ still true o n h = refl
 still false o n h = h
 
 pub each_route : (a : List Given) (u : Given) (P : Route → Type 0) (es : Entries)
-    → ((q : List Value) → is_some (find key_cmp q es) ≡ true → P (route_by a u q)) → All P (shown a u es)
+    → ((q : List Value) → is_some (find key_cmp q es) ≡ true → P (route_by a u q)) → All P (shown_routes a u es)
 each_route a u P [] each = All-nil P
 each_route a u P (e ∷ es) each =
-    All-cons P (route_by a u e.0) (shown a u es)
+    All-cons P (route_by a u e.0) (shown_routes a u es)
     (each e.0 (ap (λ (b : Bool). is_some (cond b (Some e.1) (find key_cmp e.0 es))) (itself e.0)))
     (each_route a u P es (λ q h. each q (still (key_eq q e.0) (find key_cmp q es) e.1 h)))
 
 each_says : (a : List Given) (u : Given) (es : Entries)
     → ((q : List Value) → is_some (find key_cmp q es) ≡ true → says_something (route_by a u q) ≡ true)
-    → list_all says_something (shown a u es) ≡ true
+    → list_all says_something (shown_routes a u es) ≡ true
 each_says a u [] each = refl
 each_says a u (e ∷ es) each =
-    and_from (says_something (route_by a u e.0)) (list_all says_something (shown a u es))
+    and_from (says_something (route_by a u e.0)) (list_all says_something (shown_routes a u es))
     (each e.0 (ap (λ (b : Bool). is_some (cond b (Some e.1) (find key_cmp e.0 es))) (itself e.0)))
     (each_says a u es (λ q h. each q (still (key_eq q e.0) (find key_cmp q es) e.1 h)))
 
@@ -163,8 +163,8 @@ says a u q there = by (is_this q u) (bits_of q (take 128 a) == 0) (bits_of q (dr
 pub routes_stand : (a : List Given) (u : Given) → RoutesStand (routes_by a u)
 routes_stand a u =
     let es : Entries = in_order key_cmp (entries_of (a ++ u ∷ [])) in
-    let ordered : is_sorted key_cmp (map (λ (r : Route). (r.key, r)) (shown a u es)) ≡ true = keyed a u es ∙ in_order_sorted (entries_of (a ++ u ∷ [])) in
-    let each : list_all says_something (shown a u es) ≡ true =
+    let ordered : is_sorted key_cmp (map (λ (r : Route). (r.key, r)) (shown_routes a u es)) ≡ true = keyed a u es ∙ in_order_sorted (entries_of (a ++ u ∷ [])) in
+    let each : list_all says_something (shown_routes a u es) ≡ true =
     each_says a u es (λ q h. says a u q (ap is_some (sym (found_in_order q (entries_of (a ++ u ∷ [])))) ∙ h)) in
     subst RoutesStand (sym (routes-entries a u)) (ordered, each)
 

@@ -1,7 +1,7 @@
 //! An item of a query, as it judges events.
 ghost use Rattle.std.specs.Prelude.{◌≡◌, ◌≤◌, IfOk, OnOk};
 ghost use Rattle.eql_stages.specs.Judging as judging;
-ghost use Rattle.eql_stages.specs.Judging.{judged, said_to};
+ghost use Rattle.eql_stages.specs.Judging.{judged_key, said_to};
 ghost use Rattle.eql_stages.specs.Stages as stages;
 
 use crate::keys::{KeyFields, is_whole};
@@ -78,7 +78,7 @@ impl Judge {
     ) -> Result<(), Memory>
         requires room { self.now.code.1 ≤ stack.old }
         ensures said { OnOk result (routes.new.items
-            ≡ said_to (judged event.now.categories event.now.slots self.now) mask until
+            ≡ said_to (judged_key event.now.categories event.now.slots self.now) mask until
             routes.old.items) }
         ensures stack { stack.new ≡ stack.old }
     {

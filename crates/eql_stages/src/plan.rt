@@ -5,7 +5,7 @@ ghost use Rattle.eql_check.specs.Conditions.{key_count};
 ghost use Rattle.eql_check.specs.Rules.{is_pipe};
 ghost use Rattle.eql_stages.specs.Compiling.{JudgeAll, JudgesEnd};
 ghost use Rattle.eql_stages.specs.Judging.{stages_of};
-ghost use Rattle.eql_stages.specs.Planned.{planned, wanted_of};
+ghost use Rattle.eql_stages.specs.Planned.{planned_query, wanted_of};
 ghost use Rattle.eql_stages.specs.Stages as stages;
 ghost use Rattle.eql_laws.specs.Alive.{IsSpan};
 ghost use Rattle.eql_stages.specs.Stages.{stages_in, until_in, span_in, pipe_of};
@@ -129,7 +129,7 @@ impl Plan {
 
     /// What is read of each line.
     pub(crate) fn wanted(&self) -> Result<Wanted, Memory>
-        ensures { IfOk result (λ wanted. wanted ≡ wanted_of (planned self.now)) }
+        ensures { IfOk result (λ wanted. wanted ≡ wanted_of (planned_query self.now)) }
     {
         Ok(Wanted {
             fields: self.checked.fields().clone()?,
@@ -140,16 +140,16 @@ impl Plan {
     /// The items, as they judge events.
     pub(crate) fn judges(&self) -> &Judges
         ensures judge { JudgeAll self.now.checked.fields
-            (stages_in (planned self.now).query.body) result.now.items.items }
+            (stages_in (planned_query self.now).query.body) result.now.items.items }
         ensures end { JudgesEnd self.now.checked.fields
-            (until_in (planned self.now).query.body) result.now.until }
+            (until_in (planned_query self.now).query.body) result.now.until }
     {
         &self.judges
     }
 
     /// How many stages the query has, runs counted: 1 for single events, else 2 to 256.
     pub fn stages(&self) -> u32
-        ensures same { result ≡ length (stages_in (planned self.now).query.body) }
+        ensures same { result ≡ length (stages_in (planned_query self.now).query.body) }
         ensures from { 1 ≤ result }
         ensures to { result ≤ 256 }
     {
@@ -158,7 +158,7 @@ impl Plan {
 
     // The span that the query sets.
     fn span_set(&self) -> Option<i128>
-        ensures { result ≡ span_in (planned self.now).query.body }
+        ensures { result ≡ span_in (planned_query self.now).query.body }
     {
         match &self.checked.query().body {
             Body::Event(_) => None,
@@ -169,7 +169,7 @@ impl Plan {
     /// The greatest time from the first event of a sequence to the last, in nanoseconds, if the query sets one. It is no
     /// negative time.
     pub fn span(&self) -> Option<i128>
-        ensures same { result ≡ span_in (planned self.now).query.body }
+        ensures same { result ≡ span_in (planned_query self.now).query.body }
         ensures time { IsSpan result }
     {
         self.checked().rules_are_kept();
@@ -178,7 +178,7 @@ impl Plan {
 
     /// How many key fields each item has, from 0 to 8.
     pub fn keys(&self) -> u32
-        ensures same { result ≡ key_count (planned self.now).query.body }
+        ensures same { result ≡ key_count (planned_query self.now).query.body }
         ensures few { result ≤ 8 }
     {
         self.checked.keys()
@@ -186,7 +186,7 @@ impl Plan {
 
     /// The pipes, from left to right.
     pub fn pipes(&self) -> &Pipes
-        ensures { result.now ≡ map pipe_of (planned self.now).query.pipes }
+        ensures { result.now ≡ map pipe_of (planned_query self.now).query.pipes }
     {
         &self.pipes
     }

@@ -1,7 +1,7 @@
 //! The reader of lines that a plan makes.
 ghost use Rattle.std.specs.Prelude.{◌≡◌, ◌≤◌, IfOk};
 ghost use Rattle.eql_stages.specs.Judging.{reads_by, routes_for};
-ghost use Rattle.eql_stages.specs.Planned.{planned, line_of};
+ghost use Rattle.eql_stages.specs.Planned.{planned_query, line_of};
 ghost use Rattle.eql_stages.specs.Standing as stands;
 
 use crate::judges::Judges;
@@ -60,7 +60,7 @@ fn taken(alloc: Global, routes: &mut Vec<Route>) -> Result<Vec<Route>, Memory>
 impl PlanReader {
     /// A reader by a plan: lines give it what they give to the plan's query. `Memory` where memory ran out.
     pub fn new(alloc: Global, plan: &Plan) -> Result<PlanReader, Memory>
-        ensures { IfOk result (λ reader. reads_by reader ≡ line_of (planned plan.now)) }
+        ensures { IfOk result (λ reader. reads_by reader ≡ line_of (planned_query plan.now)) }
     {
         let wanted = plan.wanted()?;
         let judges = plan.judges().clone()?;

@@ -1,6 +1,6 @@
 //! The routes of an event, gathered key by key.
 ghost use Rattle.std.specs.Prelude.{◌≡◌, ◌<◌, ◌≤◌, IfOk, IfErr, OnOk, length};
-ghost use Rattle.eql_stages.specs.Gathering.{said, IsAt, ComesAt};
+ghost use Rattle.eql_stages.specs.Gathering.{said_routes, IsAt, ComesAt};
 ghost use Rattle.eql_stages.specs.Keys.{values_of};
 
 use crate::keys::{KeyField, compare, copied};
@@ -36,8 +36,8 @@ pub(crate) fn add(
     mask: Mask,
     until: bool,
 ) -> Result<(), Memory>
-    ensures { OnOk result
-        (routes.new.items ≡ said (values_of slots.now fields.now) mask until routes.old.items) }
+    ensures { OnOk result (routes.new.items
+        ≡ said_routes (values_of slots.now fields.now) mask until routes.old.items) }
 {
     match place_of(routes, fields, slots) {
         Ok(place) => {

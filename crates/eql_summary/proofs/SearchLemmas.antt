@@ -7,7 +7,7 @@ use Rattle.eql_outside.specs.Moments.{History}
 use Rattle.eql_book.specs.Listing.{listing}
 use Rattle.eql_check.specs.Mappings.{mapping_of}
 use Rattle.eql_outside.specs.declared.refused.OutRefused.TheVariants as refused_by
-use Rattle.eql_outside.specs.Plans.{FaultPlan, unstarted}
+use Rattle.eql_outside.specs.Plans.{FaultPlan, fresh_plan}
 use Rattle.eql_outside.specs.Unfailing.{IsUnfailing}
 use Rattle.eql_made.specs.Made.{made_texts}
 use Rattle.eql_words.specs.declared.commands.Find.{Find}
@@ -29,7 +29,7 @@ use Rattle.eql_summary.specs.Inputs.{made_files, made_find}
 use Rattle.eql_summary.specs.Written.{IsMadeListing, IsWant}
 
 -- an object for which no failure is planned
-pub no_fails : (plan : Option FaultPlan) (fails : List ℕ) → plan ≡ Some (unstarted fails) → fails ≡ [] → IsUnfailing plan
+pub no_fails : (plan : Option FaultPlan) (fails : List ℕ) → plan ≡ Some (fresh_plan fails) → fails ≡ [] → IsUnfailing plan
 no_fails plan fails is none = subst IsUnfailing (sym is) (record { none = none; no_stop = refl })
 
 -- nothing of a listing is left out where no line was written before

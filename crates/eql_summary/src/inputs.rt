@@ -1,6 +1,6 @@
 //! What a run searches, as files in memory: a query, a mapping, and four texts of events.
 ghost use Rattle.std.specs.Prelude.{◌≡◌, ◌≤◌, IfOk, List, Some, [], map, string_bytes};
-ghost use Rattle.eql_outside.specs.Plans.{unstarted};
+ghost use Rattle.eql_outside.specs.Plans.{fresh_plan};
 ghost use Rattle.eql_outside.specs.Unfailing.{AreUnfailing};
 ghost use Rattle.eql_made.specs.Made.{made_texts};
 ghost use Rattle.eql_summary.specs.Inputs.{made_files, made_find};
@@ -50,7 +50,7 @@ pub(crate) fn made_shelf(alloc: Global, events: u32) -> Result<MemShelf, Memory>
     ensures files { IfOk result
         (λ s. ⟦<MemShelf as Shelf>⟧.files s ≡ Some (made_files events)) }
     ensures plan { IfOk result
-        (λ s. ⟦<MemShelf as Shelf>⟧.fault_plan s ≡ Some (unstarted [])) }
+        (λ s. ⟦<MemShelf as Shelf>⟧.fault_plan s ≡ Some (fresh_plan [])) }
     ensures plans { IfOk result
         (λ s. AreUnfailing (⟦<MemShelf as Shelf>⟧.source_plans s)) }
 {

@@ -2,19 +2,19 @@
 use Rattle.std.proofs.Common.{◌≡◌, ℕ, ◌+◌, ◌*◌, ◌^◌, ◌<◌, ◌≤◌, Bool, true, false, List, [], ◌∷◌, cond, eqb, leb, map, Option, Some, None, refl, sym, ap, ◌∙◌, arith}
 use Rattle.std.specs.Option.{option_map}
 use Rattle.std.proofs.lemmas.Bool.Decides.{nat_tests}
-use Rattle.eql_text.specs.Numbers.{numeral, held}
+use Rattle.eql_text.specs.Numbers.{numeral, capped_number}
 use Rattle.eql_text.specs.Addresses.{has_spare_zero, at_most, plain, parts, into_first, address, parse_ip4, block, block_of, parse_block}
 
-same_small : (n most : ℕ) → most < 2 ^ 32 → (b : Bool) → leb n most ≡ b → cond b (Some n) None ≡ at_most most (Some (held n))
+same_small : (n most : ℕ) → most < 2 ^ 32 → (b : Bool) → leb n most ≡ b → cond b (Some n) None ≡ at_most most (Some (capped_number n))
 same_small n most small true e =
-    let kept : held n ≡ n = grind (arith, nat_tests) in
+    let kept : capped_number n ≡ n = grind (arith, nat_tests) in
     sym (ap (λ k. at_most most (Some k)) kept ∙ ap (λ b. cond b (Some n) None) e)
 same_small n most small false e =
-    let above : leb (held n) most ≡ false = grind (arith, nat_tests) in
-    sym (ap (λ b. cond b (Some (held n)) None) above)
+    let above : leb (capped_number n) most ≡ false = grind (arith, nat_tests) in
+    sym (ap (λ b. cond b (Some (capped_number n)) None) above)
 
 -- holding a number at the greatest of 64 bits changes nothing of what is at most this much
-at_most_held : (most : ℕ) (o : Option ℕ) → most < 2 ^ 32 → at_most most o ≡ at_most most (option_map held o)
+at_most_held : (most : ℕ) (o : Option ℕ) → most < 2 ^ 32 → at_most most o ≡ at_most most (option_map capped_number o)
 at_most_held most None small = refl
 at_most_held most (Some n) small = same_small n most small (leb n most) refl
 
@@ -22,7 +22,7 @@ pub plain_spare : (most : ℕ) (s : List ℕ) → has_spare_zero s ≡ true → 
 unfolding plain
 plain_spare most s h = ap (λ b. cond b None (at_most most (numeral 10 s))) h
 
-pub plain_read : (most : ℕ) (s : List ℕ) (o : Option ℕ) → most < 2 ^ 32 → has_spare_zero s ≡ false → o ≡ option_map held (numeral 10 s) → plain most s ≡ at_most most o
+pub plain_read : (most : ℕ) (s : List ℕ) (o : Option ℕ) → most < 2 ^ 32 → has_spare_zero s ≡ false → o ≡ option_map capped_number (numeral 10 s) → plain most s ≡ at_most most o
 unfolding plain
 plain_read most s o small h e =
     ap (λ b. cond b None (at_most most (numeral 10 s))) h ∙ at_most_held most (numeral 10 s) small ∙ ap (at_most most) (sym e)

@@ -4,7 +4,7 @@ use Rattle.std.specs.Str.{chars}
 use Rattle.std.proofs.lemmas.List.{length-drop, length-take, take-take, length-map}
 use Rattle.std.specs.List.{drop-map}
 use Rattle.std.proofs.Math.Seq.{take-length}
-use Rattle.eql_text.specs.Folding.{same, seen}
+use Rattle.eql_text.specs.Folding.{same, seen_char}
 use Rattle.eql_text.specs.Comparing.{starts, is_empty}
 use Rattle.eql_text.specs.Repeats.{seen_text, Meets, Stops, IsEnding, IsLaid}
 use Rattle.eql_text.proofs.Characters.{ending_of}
@@ -36,10 +36,10 @@ none_left : {X : Type 0} (n : ℕ) (xs : List X) → drop n xs ≡ [] → length
 none_left n xs e = omega (arith, ap length e, length-drop n xs)
 
 pub seen_left : (fold : Bool) (n : ℕ) (s r : List ℕ) → r ≡ drop n s → drop n (seen_text fold s) ≡ seen_text fold r
-seen_left fold n s r e = drop-map (seen fold) n s ∙ ap (seen_text fold) (sym e)
+seen_left fold n s r e = drop-map (seen_char fold) n s ∙ ap (seen_text fold) (sym e)
 
 pub seen_length : (fold : Bool) (s : List ℕ) → length (seen_text fold s) ≡ length s
-seen_length fold s = length-map s (seen fold)
+seen_length fold s = length-map s (seen_char fold)
 
 -- ---- steps of the comparison
 
@@ -56,8 +56,8 @@ laid_more t w a l a' l' m c d i first other ending = record {
 pub meets_more : (fold : Bool) (t w a l a' l' : List ℕ) (m c d : ℕ) → IsLaid t w a l m → Meets (seen_text fold (chars w)) (seen_text fold (chars t)) m → chars l ≡ d ∷ chars l' → chars a ≡ c ∷ chars a' → same fold c d ≡ true → Meets (seen_text fold (chars w)) (seen_text fold (chars t)) (m + 1)
 unfolding same
 meets_more fold t w a l a' l' m c d i meets first other like =
-    let alike : seen fold c ≡ seen fold d = eqb-true (seen fold c) (seen fold d) like in
-    let more = take_next m (seen fold c) (seen fold d) (seen_text fold (chars w)) (seen_text fold (chars t)) (seen_text fold (chars a')) (seen_text fold (chars l'))
+    let alike : seen_char fold c ≡ seen_char fold d = eqb-true (seen_char fold c) (seen_char fold d) like in
+    let more = take_next m (seen_char fold c) (seen_char fold d) (seen_text fold (chars w)) (seen_text fold (chars t)) (seen_text fold (chars a')) (seen_text fold (chars l'))
     meets.0 (seen_left fold m (chars w) (chars a) i.ahead ∙ ap (seen_text fold) other) (seen_left fold m (chars t) (chars l) i.left ∙ ap (seen_text fold) first) alike in (
       rw (add-one m) more,
       (let some : 1 ≤ length (chars l) = omega (arith, ap length first) in
@@ -67,9 +67,9 @@ meets_more fold t w a l a' l' m c d i meets first other like =
 pub stops_unlike : (fold : Bool) (t w a l a' l' : List ℕ) (m c d : ℕ) → IsLaid t w a l m → chars l ≡ d ∷ chars l' → chars a ≡ c ∷ chars a' → same fold c d ≡ false → Stops (seen_text fold (chars w)) (seen_text fold (chars t)) m
 unfolding same
 stops_unlike fold t w a l a' l' m c d i first other unlike e _ =
-    let alike = take_heads m (seen fold c) (seen fold d) (seen_text fold (chars w)) (seen_text fold (chars t)) (seen_text fold (chars a')) (seen_text fold (chars l'))
+    let alike = take_heads m (seen_char fold c) (seen_char fold d) (seen_text fold (chars w)) (seen_text fold (chars t)) (seen_text fold (chars a')) (seen_text fold (chars l'))
     (rw (← add-one m) e) (seen_left fold m (chars w) (chars a) i.ahead ∙ ap (seen_text fold) other) (seen_left fold m (chars t) (chars l) i.left ∙ ap (seen_text fold) first) in
-    let yes : eqb (seen fold c) (seen fold d) ≡ true = eq-eqb (seen fold c) (seen fold d) alike in
+    let yes : eqb (seen_char fold c) (seen_char fold d) ≡ true = eq-eqb (seen_char fold c) (seen_char fold d) alike in
     cc
 
 pub stops_window : (fold : Bool) (t w a l : List ℕ) (m : ℕ) → IsLaid t w a l m → chars a ≡ [] → Stops (seen_text fold (chars w)) (seen_text fold (chars t)) m
@@ -88,13 +88,13 @@ pub begins : (fold : Bool) (s t : List ℕ) → starts fold s t ≡ true → tak
 unfolding same
 begins fold s [] h = refl
 begins fold [] (d ∷ t) h = cc
-begins fold (c ∷ s) (d ∷ t) h = both (eqb (seen fold c) (seen fold d)) refl (λ k. begins fold s t k)
+begins fold (c ∷ s) (d ∷ t) h = both (eqb (seen_char fold c) (seen_char fold d)) refl (λ k. begins fold s t k)
   where
-    both : (b : Bool) → eqb (seen fold c) (seen fold d) ≡ b → (starts fold s t ≡ true → take (length (seen_text fold t)) (seen_text fold s) ≡ seen_text fold t) → seen fold c ∷ take (length (seen_text fold t)) (seen_text fold s) ≡ seen fold d ∷ seen_text fold t
+    both : (b : Bool) → eqb (seen_char fold c) (seen_char fold d) ≡ b → (starts fold s t ≡ true → take (length (seen_text fold t)) (seen_text fold s) ≡ seen_text fold t) → seen_char fold c ∷ take (length (seen_text fold t)) (seen_text fold s) ≡ seen_char fold d ∷ seen_text fold t
     both true e more =
-        let head : seen fold c ≡ seen fold d = eqb-true (seen fold c) (seen fold d) e in
+        let head : seen_char fold c ≡ seen_char fold d = eqb-true (seen_char fold c) (seen_char fold d) e in
         let tail : starts fold s t ≡ true = ap (λ b. b && starts fold s t) (sym e) ∙ h in
-        ap (λ k. k ∷ take (length (seen_text fold t)) (seen_text fold s)) head ∙ ap (λ k. seen fold d ∷ k) (more tail)
+        ap (λ k. k ∷ take (length (seen_text fold t)) (seen_text fold s)) head ∙ ap (λ k. seen_char fold d ∷ k) (more tail)
     both false e more = let no : false ≡ true = ap (λ b. b && starts fold s t) (sym e) ∙ h in cc
 
 pub begun : (fold : Bool) (s t : List ℕ) → take (length (seen_text fold t)) (seen_text fold s) ≡ seen_text fold t → starts fold s t ≡ true
@@ -102,9 +102,9 @@ unfolding same
 begun fold s [] h = refl
 begun fold [] (d ∷ t) h = cc
 begun fold (c ∷ s) (d ∷ t) h =
-    let head : seen fold c ≡ seen fold d = cc in
+    let head : seen_char fold c ≡ seen_char fold d = cc in
     let tail : take (length (seen_text fold t)) (seen_text fold s) ≡ seen_text fold t = cc in
-    let yes : eqb (seen fold c) (seen fold d) ≡ true = eq-eqb (seen fold c) (seen fold d) head in
+    let yes : eqb (seen_char fold c) (seen_char fold d) ≡ true = eq-eqb (seen_char fold c) (seen_char fold d) head in
     ap (λ b. b && starts fold s t) yes ∙ begun fold s t tail
 
 nothing : (s : List ℕ) → is_empty s ≡ true → s ≡ []

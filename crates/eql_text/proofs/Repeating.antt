@@ -5,7 +5,7 @@ use Rattle.std.proofs.lemmas.List.{take-take, drop-take, drop-drop}
 use Rattle.std.proofs.lemmas.Bool.{cases_lt}
 use Rattle.std.proofs.lemmas.Bool.Decides.{nat_tests}
 use Rattle.eql_text.specs.declared.repeats.Run.{Run}
-use Rattle.eql_text.specs.Repeats.{Repeats, holds, period_at, IsRun, AreRuns, least_move, IsKnown, move_by, other_move, Meets, Stops, kept, kept_of, IsNoted}
+use Rattle.eql_text.specs.Repeats.{Repeats, holds, period_at, IsRun, AreRuns, least_move, IsKnown, move_by, other_move, Meets, Stops, kept_count, kept_of, IsNoted}
 
 -- ---- lists that meet
 
@@ -14,18 +14,18 @@ fewer t m k i h r =
     let less : k - i ≤ m - i = omega arith in
     sym (take-take (k - i) (m - i) (drop i t) less) ∙ ap (take (k - i)) r ∙ take-take (k - i) (m - i) t less
 
-pub moved : (s t : List ℕ) (m i : ℕ) → i ≤ m → take m s ≡ take m t → take (m - i) (drop i s) ≡ take (m - i) (drop i t)
-moved s t m i h e =
+pub meets_shifted : (s t : List ℕ) (m i : ℕ) → i ≤ m → take m s ≡ take m t → take (m - i) (drop i s) ≡ take (m - i) (drop i t)
+meets_shifted s t m i h e =
     let whole : i + (m - i) ≡ m = omega arith in
     sym (drop-take i (m - i) s) ∙ ap (λ k. drop i (take k s)) whole ∙ ap (drop i) e
     ∙ ap (λ k. drop i (take k t)) (sym whole) ∙ drop-take i (m - i) t
 
 -- what meets t at a place and again i behind it repeats itself
 pub met_twice : (s t : List ℕ) (m i : ℕ) → i ≤ m → take m s ≡ take m t → take (m - i) (drop i s) ≡ take (m - i) t → Repeats t m i
-met_twice s t m i h e f = sym (moved s t m i h e) ∙ f
+met_twice s t m i h e f = sym (meets_shifted s t m i h e) ∙ f
 
 pub meets_again : (s t : List ℕ) (m i : ℕ) → i ≤ m → take m s ≡ take m t → Repeats t m i → take (m - i) (drop i s) ≡ take (m - i) t
-meets_again s t m i h e r = moved s t m i h e ∙ r
+meets_again s t m i h e r = meets_shifted s t m i h e ∙ r
 
 -- ---- runs
 
@@ -163,7 +163,7 @@ passed s t rs below m i k e p l found =
     let no = no_less t rs below m i k e.1 p l in
     no.1 (met_twice s t m i (omega (arith, no.0)) e.0 (sym (take-take (m - i) (length t) (drop i s) (omega (arith, e.1))) ∙ ap (take (m - i)) found))
 
-pub stays : (s t : List ℕ) (rs : List Run) (below m : ℕ) → IsKnown t rs below → Meets s t m → Meets (drop (move_by rs below m) s) t (kept rs m)
+pub stays : (s t : List ℕ) (rs : List Run) (below m : ℕ) → IsKnown t rs below → Meets s t m → Meets (drop (move_by rs below m) s) t (kept_count rs m)
 stays s t rs below m k e = one (period_at rs m) refl
   where
     one : (o : Option ℕ) → period_at rs m ≡ o → Meets (drop (unwrap_or o (other_move below m)) s) t (kept_of o m)
@@ -263,7 +263,7 @@ pub told_on : (t : List ℕ) (rs : List Run) (at m : ℕ) → IsTold t rs at m �
 told_on t rs at m k meets = gone_on t rs at m k.0 meets k.1
 
 -- what is kept of what met
-pub kept_sum : (t : List ℕ) (rs : List Run) (below m : ℕ) → IsKnown t rs below → 0 < kept rs m → kept rs m + move_by rs below m ≡ m
+pub kept_sum : (t : List ℕ) (rs : List Run) (below m : ℕ) → IsKnown t rs below → 0 < kept_count rs m → kept_count rs m + move_by rs below m ≡ m
 kept_sum t rs below m k = one (period_at rs m) refl
   where
     one : (o : Option ℕ) → period_at rs m ≡ o → 0 < kept_of o m → kept_of o m + unwrap_or o (other_move below m) ≡ m

@@ -3,11 +3,11 @@ use Rattle.std.proofs.Common.{◌≡◌, ℕ, ◌+◌, ◌-◌, ◌<◌, ◌≤�
 use Rattle.std.specs.Option.{option_or}
 use Rattle.std.specs.List.{drop-map}
 use Rattle.std.proofs.lemmas.List.{length-take}
-use Rattle.eql_text.specs.Folding.{seen}
+use Rattle.eql_text.specs.Folding.{seen_char}
 use Rattle.eql_text.specs.Comparing.{starts}
 use Rattle.eql_text.specs.Placing.{place_from, last_place_from}
 use Rattle.eql_text.specs.declared.repeats.Run.{Run}
-use Rattle.eql_text.specs.Repeats.{seen_text, IsKnown, Meets, Stops, IsNoted, move_by, kept}
+use Rattle.eql_text.specs.Repeats.{seen_text, IsKnown, Meets, Stops, IsNoted, move_by, kept_count}
 use Rattle.eql_text.proofs.Finding.{place_later}
 use Rattle.eql_text.proofs.Repeating.{passed, stays, noted, IsTold, told_on, move_positive}
 use Rattle.eql_text.proofs.Laying.{begins, seen_length, seen_left}
@@ -98,19 +98,19 @@ pub none_behind : (fold : Bool) (w t : List ℕ) (rs : List Run) (below m : ℕ)
 none_behind fold w t rs below m k meets e p l =
     not_true (starts fold (drop e w) t) (λ found.
     passed (seen_text fold w) (seen_text fold t) rs below m e k meets p l
-    (ap (take (length (seen_text fold t))) (drop-map (seen fold) e w) ∙ begins fold (drop e w) t found))
+    (ap (take (length (seen_text fold t))) (drop-map (seen_char fold) e w) ∙ begins fold (drop e w) t found))
 
 pub none_before : (fold : Bool) (w t : List ℕ) (rs : List Run) (below m : ℕ) → IsKnown (seen_text fold t) rs below → Meets (seen_text fold w) (seen_text fold t) m → (starts fold w t ≡ true → ⊥) → Nowhere fold w t (move_by rs below m)
 none_before fold w t rs below m k meets not_here zero l = not_true (starts fold w t) not_here
 none_before fold w t rs below m k meets not_here (suc e) l = none_behind fold w t rs below m k meets (suc e) (omega arith) l
 
 -- what meets at the next place
-pub met_next : (fold : Bool) (w w' t : List ℕ) (rs : List Run) (below m by n : ℕ) → IsKnown (seen_text fold t) rs below → Meets (seen_text fold w) (seen_text fold t) m → by ≡ move_by rs below m → n ≡ kept rs m → w' ≡ drop by w → Meets (seen_text fold w') (seen_text fold t) n
+pub met_next : (fold : Bool) (w w' t : List ℕ) (rs : List Run) (below m by n : ℕ) → IsKnown (seen_text fold t) rs below → Meets (seen_text fold w) (seen_text fold t) m → by ≡ move_by rs below m → n ≡ kept_count rs m → w' ≡ drop by w → Meets (seen_text fold w') (seen_text fold t) n
 met_next fold w w' t rs below m by n k meets is keeps next =
     let whole : drop (move_by rs below m) (seen_text fold w) ≡ seen_text fold w' =
-    ap (λ j. drop j (seen_text fold w)) (sym is) ∙ drop-map (seen fold) by w ∙ ap (seen_text fold) (sym next) in
+    ap (λ j. drop j (seen_text fold w)) (sym is) ∙ drop-map (seen_char fold) by w ∙ ap (seen_text fold) (sym next) in
     subst (λ j. Meets (seen_text fold w') (seen_text fold t) j) (sym keeps)
-    (subst (λ s. Meets s (seen_text fold t) (kept rs m)) whole (stays (seen_text fold w) (seen_text fold t) rs below m k meets))
+    (subst (λ s. Meets s (seen_text fold t) (kept_count rs m)) whole (stays (seen_text fold w) (seen_text fold t) rs below m k meets))
 
 -- what met is within both
 pub met_within : (fold : Bool) (w t : List ℕ) (m : ℕ) → Meets (seen_text fold w) (seen_text fold t) m → m ≤ length w

@@ -41,5 +41,5 @@ abbrev pub parse_number : List ℕ → Option ℤ
 parse_number s = long_in (read_number s)
 
 -- a number held at the greatest of 64 unsigned bits
-abbrev pub held : ℕ → ℕ
-held n = min n (2 ^ 64 - 1)
+abbrev pub capped_number : ℕ → ℕ
+capped_number n = min n (2 ^ 64 - 1)

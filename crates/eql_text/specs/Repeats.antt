@@ -2,13 +2,13 @@
 use Rattle.std.specs.Prelude.{◌≡◌, ℕ, Bool, true, List, [], ◌∷◌, ◌++◌, ◌⊎◌, ◌+◌, ◌-◌, ◌*◌, ◌/◌, ◌<◌, ◌≤◌, Option, Some, None, length, map, take, drop, nat_le, nat_lt, unwrap_or, ◌&&◌, if◌then◌else◌}
 use Rattle.std.specs.Option.{is_some}
 use Rattle.std.specs.Str.{chars}
-use Rattle.eql_text.specs.Folding.{seen}
+use Rattle.eql_text.specs.Folding.{seen_char}
 use Rattle.eql_text.specs.declared.repeats.Run.{Run}
 use Rattle.eql_text.specs.declared.repeats.Runs.{Runs}
 
 -- the characters of a text as comparisons see them
 abbrev pub seen_text : Bool → List ℕ → List ℕ
-seen_text fold s = map (seen fold) s
+seen_text fold s = map (seen_char fold) s
 
 -- t stands i places behind the beginning of its first m characters again, as far as these go
 abbrev pub Repeats : List ℕ → ℕ → ℕ → Type 0
@@ -57,12 +57,12 @@ kept_of None m = 0
 kept_of (Some p) m = m - p
 
 -- how many characters meet there without another look
-abbrev pub kept : List Run → ℕ → ℕ
-kept rs m = kept_of (period_at rs m) m
+abbrev pub kept_count : List Run → ℕ → ℕ
+kept_count rs m = kept_of (period_at rs m) m
 
 -- the runs in a table of them
-abbrev pub listed : Runs → List Run
-listed r = take r.count r.runs
+abbrev pub listed_runs : Runs → List Run
+listed_runs r = take r.count r.runs
 
 -- the first m characters of t stand at the beginning of s
 abbrev pub Meets : List ℕ → List ℕ → ℕ → Type 0

@@ -2,7 +2,7 @@
 ghost use Rattle.std.specs.Prelude.{◌≡◌, ◌≤◌, ◌-◌, ◌^◌, min};
 ghost use Rattle.std.specs.Option.{option_map};
 ghost use Rattle.std.specs.Str.{chars};
-ghost use Rattle.eql_text.specs.Numbers.{numeral, positive, negative, parse_long, parse_number, read_number, held};
+ghost use Rattle.eql_text.specs.Numbers.{numeral, positive, negative, parse_long, parse_number, read_number, capped_number};
 
 use crate::walk::{first_char, strip};
 use eql_values::Text;
@@ -36,7 +36,7 @@ impl LongRead {
 pub fn numeral(text: &str, base: u32) -> Option<u64>
     requires least { 2 ≤ base }
     requires most { base ≤ 36 }
-    ensures { result ≡ option_map held (numeral base (chars text.now)) }
+    ensures { result ≡ option_map capped_number (numeral base (chars text.now)) }
 {
     let (first, mut rest) = first_char(text)?;
     let mut value = u64::from(first.to_digit(base)?);

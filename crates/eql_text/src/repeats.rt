@@ -6,7 +6,7 @@
 ghost use Rattle.std.specs.Prelude.{◌≡◌, ◌≤◌, ◌<◌, ◌+◌, ◌-◌, ◌*◌, ◌∷◌, ◌++◌, ◌^◌, ℕ, List, [], true, false, length, drop, IfSome, MatchOption};
 ghost use Rattle.std.specs.Option.{is_some};
 ghost use Rattle.std.specs.Str.{chars};
-ghost use Rattle.eql_text.specs.Repeats.{seen_text, period_at, listed, move_by, kept, IsKnown, Meets, Stops, IsEnding, IsLaid, IsNoted};
+ghost use Rattle.eql_text.specs.Repeats.{seen_text, period_at, listed_runs, move_by, kept_count, IsKnown, Meets, Stops, IsEnding, IsLaid, IsNoted};
 
 use crate::walk::{first_char, last_char, same, skip};
 
@@ -166,7 +166,7 @@ pub fn move_on<'s, 't>(t: &'t str, laid: Laid<'s, 't>, step: Step) -> Option<Lai
 impl Runs {
     /// A table with nothing in it.
     fn new() -> Runs
-        ensures listed { listed result ≡ [] }
+        ensures listed { listed_runs result ≡ [] }
         ensures below { result.below ≡ 1 }
         ensures room { result.count ≤ 16 }
     {
@@ -185,7 +185,7 @@ impl Runs {
     /// The runs in it.
     fn list(&self) -> &[Run]
         requires { self.now.count ≤ 16 }
-        ensures { result.now ≡ listed self.now }
+        ensures { result.now ≡ listed_runs self.now }
     {
         &self.runs[..self.count]
     }
@@ -193,7 +193,7 @@ impl Runs {
     /// Puts one more run at the end.
     fn push(&mut self, run: Run)
         requires { self.old.count < 16 }
-        ensures listed { listed self.new ≡ listed self.old ++ run ∷ [] }
+        ensures listed { listed_runs self.new ≡ listed_runs self.old ++ run ∷ [] }
         ensures below { self.new.below ≡ self.old.below }
         ensures room { self.new.count ≤ 16 }
     {
@@ -207,9 +207,9 @@ impl Runs {
         requires room { self.old.count ≤ 16 }
         requires fits { self.old.below + met < 2 ^ 63 }
         ensures noted { result ≡ true
-            → IsNoted (listed self.old) (listed self.new) self.old.below met }
+            → IsNoted (listed_runs self.old) (listed_runs self.new) self.old.below met }
         ensures below { result ≡ true → self.new.below ≡ self.old.below + 1 }
-        ensures same { result ≡ false → listed self.new ≡ listed self.old }
+        ensures same { result ≡ false → listed_runs self.new ≡ listed_runs self.old }
         ensures same_below { result ≡ false → self.new.below ≡ self.old.below }
         ensures room { self.new.count ≤ 16 }
     {
@@ -232,8 +232,8 @@ impl Runs {
     /// How far a text with these runs is moved on where its first `met` characters met and the next one didn't.
     pub fn step(&self, met: usize) -> Step
         requires { self.now.count ≤ 16 }
-        ensures by { result.by ≡ move_by (listed self.now) self.now.below met }
-        ensures kept { result.kept ≡ kept (listed self.now) met }
+        ensures by { result.by ≡ move_by (listed_runs self.now) self.now.below met }
+        ensures kept { result.kept ≡ kept_count (listed_runs self.now) met }
     {
         match period_at(self.list(), met) {
             Some(period) => Step {
@@ -249,7 +249,7 @@ impl Runs {
 
     /// The runs of a text, found by laying it over itself.
     pub fn of(t: &str, fold: bool) -> Runs
-        ensures known { IsKnown (seen_text fold (chars t.now)) (listed result) result.below }
+        ensures known { IsKnown (seen_text fold (chars t.now)) (listed_runs result) result.below }
         ensures room { result.count ≤ 16 }
     {
         let mut runs = Runs::new();

@@ -20,7 +20,7 @@ use Rattle.eql_turn_lock.specs.declared.slot.Slot.{Slot}
 use Rattle.eql_turn_lock.specs.declared.view.View.{View}
 use Rattle.eql_turn_lock.specs.History.{StartsWith, entry, calls_by, OthersOpen, EndsIdle, IsLegal}
 use Rattle.eql_turn_lock.specs.Passes.{first_view, spent_view, is_live, HasEnded, IsEndedIn, AreDistinct, longer, split_view, new_view, ended_of, joined_view, KnowsHistory}
-use Rattle.eql_turn_lock.specs.Rule.{Phase, free, taken, live_count, looked_at, in_turn, played, SeatFits, Stands, EndedFits, FirstFits, IsIdleFront, HasOneHistory, FindsIdle, loads, loads_idle, takes_turn, ends_turn, learns, tells_idle}
+use Rattle.eql_turn_lock.specs.Rule.{Phase, free, taken, live_count, looked_at, in_turn, view_after, SeatFits, Stands, EndedFits, FirstFits, IsIdleFront, HasOneHistory, FindsIdle, loads, loads_idle, takes_turn, ends_turn, learns, tells_idle}
 use Rattle.eql_turn_lock.specs.Calls.{Closes}
 use Rattle.eql_turn_lock.proofs.Histories.{all_both, all_left, all_snoc, starts_longer, starts_in, starts_self, starts_shorter, calls_mine, calls_other, legal_snoc, legal_split}
 use Rattle.eql_turn_lock.proofs.Counts.{all_counted}
@@ -55,14 +55,14 @@ module _ {T O R : Type 0} (step_of : T → O → R → T → Type 0) (is_open : 
   front_stays word log log' longer_log f = (f.0, starts_in log' log f.0 longer_log f.1, f.2, f.3)
 
   -- the seat id has the view w now, and the others keep theirs
-  moved : (s : State (Slot T O R) (View T O R)) (r : HasOneHistory step_of is_open is_idle first s) (id : ℕ) (v w : View T O R) (log' : List (Entry O R)) (value' : T) (word' : ℕ) (phase' : Phase) (homes' : List (maybe.Option (Slot T O R)))
+  change_keeps : (s : State (Slot T O R) (View T O R)) (r : HasOneHistory step_of is_open is_idle first s) (id : ℕ) (v w : View T O R) (log' : List (Entry O R)) (value' : T) (word' : ℕ) (phase' : Phase) (homes' : List (maybe.Option (Slot T O R)))
       → get_elem? s.views id ≡ some v → is_live v ≡ true → w.opening ≡ v.opening → w.made ≡ v.made → w.ended ≡ v.ended → r.word ≤ word' → StartsWith log' r.log → ((j : ℕ) → j ≢ id → calls_by j log' ≡ calls_by j r.log)
       → All (λ (e : Entry O R). e.by < length s.views) log' → IsLegal step_of first log' value' → Stands value' log' word' homes' phase' → OthersOpen is_open log' → SeatFits first log' word' phase' id w
       → ((j : ℕ) (u : View T O R) → j ≢ id → SeatFits first r.log r.word r.phase j u → SeatFits first log' word' phase' j u)
       → ((k : ℕ) → phase' ≡ taken k → (u : View T O R) × (get_elem? (set s.views id w) k ≡ some u) × (is_live u ≡ true) × ((l : List (Entry O R)) × (u.turn ≡ Some l)))
       → (id ≡ 0 → All (IsEndedIn w.seen) w.ended)
       → HasOneHistory step_of is_open is_idle first record { words = word' ∷ r.idle ∷ []; homes = homes'; views = set s.views id w }
-  moved s r id v w log' value' word' phase' homes' here live_v opening_is made_is ended_is grows longer_log quiet below legal stands opened mine others takes_it seen_ok =
+  change_keeps s r id v w log' value' word' phase' homes' here live_v opening_is made_is ended_is grows longer_log quiet below legal stands opened mine others takes_it seen_ok =
       let live_w : is_live w ≡ true = ap is_some opening_is ∙ live_v in
       let same_length : length (set s.views id w) ≡ length s.views = length-set s.views id w in record {
         log = log';
@@ -163,7 +163,7 @@ module _ {T O R : Type 0} (step_of : T → O → R → T → Type 0) (is_open : 
       → HasOneHistory step_of is_open is_idle first (stepped s 0 (get_or s.words 0 0) id me.1 (looked_at (get_or s.words 0 0) me.0) keeps)
   reads s r id me at live = subst (λ (z : ℕ). HasOneHistory step_of is_open is_idle first (stepped s 0 z id me.1 (looked_at z me.0) keeps)) (sym (word_is s r))
       (subst (λ (ws : List ℕ). HasOneHistory step_of is_open is_idle first record { words = ws; homes = s.homes; views = set s.views id (looked_at r.word me.0) }) (words_set s r r.word)
-      (moved s r id me.0 (looked_at r.word me.0) r.log r.value r.word r.phase s.homes at live refl refl refl (le_refl r.word) (starts_self r.log) (λ j _. refl) r.by_below r.legal r.stands r.others_open
+      (change_keeps s r id me.0 (looked_at r.word me.0) r.log r.value r.word r.phase s.homes at live refl refl refl (le_refl r.word) (starts_self r.log) (λ j _. refl) r.by_below r.legal r.stands r.others_open
       (looked_fits r.log r.word r.phase id me.0 (r.each_seat id me.0 at live)) (λ j v _ f. f) (keeps_taker s r id me.0 (looked_at r.word me.0) at refl refl)
       (λ zero_is. (r.first_seat me.0 (subst (λ (k : ℕ). get_elem? s.views k ≡ some me.0) zero_is at) live).ended_seen)))
 
@@ -198,7 +198,7 @@ module _ {T O R : Type 0} (step_of : T → O → R → T → Type 0) (is_open : 
         takes 0 h,
         ap (λ (hs : List (maybe.Option (Slot T O R))). get_elem? hs 0) st.1.1,
         subst (λ (ws : List ℕ). HasOneHistory step_of is_open is_idle first record { words = ws; homes = set s.homes 0 none; views = set s.views id w }) (words_set s r new)
-            (moved s r id me.0 w r.log r.value new (taken id) (set s.homes 0 none) at live refl refl refl (omega arith) (starts_self r.log) (λ j _. refl) r.by_below r.legal
+            (change_keeps s r id me.0 w r.log r.value new (taken id) (set s.homes 0 none) at live refl refl refl (omega arith) (starts_self r.log) (λ j _. refl) r.by_below r.legal
             (omega arith, ap (λ (hs : List (maybe.Option (Slot T O R))). set hs 0 none) st.1.1) r.others_open
             record {
               number = f.number;
@@ -262,7 +262,7 @@ module _ {T O R : Type 0} (step_of : T → O → R → T → Type 0) (is_open : 
       → me.0.turn ≡ Some log → me.1 ≡ (0, slot) ∷ [] → slot.last ≡ Some last → slot.value ≡ Some y → me.0.opening ≡ Some start → IsLegal step_of start log x → step_of x last.op.value last.reply.value y
       → (me.0.number ≢ 0 → is_open last.op.value ≡ true) → new ≡ 2 * length log + 2 → Allows (HasOneHistory step_of is_open is_idle first) slots id me 0 (λ _. new) (λ _. ends_turn (step slots 0 new 0 none) me new)
   ends_turn_now slots id me log slot last start x y new live turn carries tells valued starts legal steps opened long s r wide at small =
-      let f = r.each_seat id me.0 at live in let mine = f.holds log turn in let e : Entry O R = entry me.0.number last.op.value last.reply.value in let w : View T O R = played log e me.0 in let is = mine.0 in
+      let f = r.each_seat id me.0 at live in let mine = f.holds log turn in let e : Entry O R = entry me.0.number last.op.value last.reply.value in let w : View T O R = view_after log e me.0 in let is = mine.0 in
       let st : Stands r.value r.log r.word s.homes (taken id) = subst (Stands r.value r.log r.word s.homes) mine.1 r.stands in let word : r.word ≡ 2 * length r.log + 1 = st.0 in let same : length log ≡ length r.log = ap (λ (l : List (Entry O R)). length l) is in
       let start_is : start ≡ first = inject (sym starts ∙ f.opened) in
       let legal' : IsLegal step_of first r.log x = subst (λ (z : T × List (Entry O R)). IsLegal step_of z.0 z.1 x) (λ i. (start_is i, is i)) legal in
@@ -273,7 +273,7 @@ module _ {T O R : Type 0} (step_of : T → O → R → T → Type 0) (is_open : 
         gives,
         tt,
         subst (λ (ws : List ℕ). HasOneHistory step_of is_open is_idle first record { words = ws; homes = homes'; views = set s.views id w }) (words_set s r new)
-            (moved s r id me.0 w (r.log ++ e ∷ []) y new free homes' at live refl refl refl (omega arith) (e ∷ [], refl) (λ j other. calls_other j r.log e (λ by. other (sym by ∙ f.number)))
+            (change_keeps s r id me.0 w (r.log ++ e ∷ []) y new free homes' at live refl refl refl (omega arith) (e ∷ [], refl) (λ j other. calls_other j r.log e (λ by. other (sym by ∙ f.number)))
             (all_snoc (λ (z : Entry O R). z.by < length s.views) r.log e r.by_below inside)
             (legal_snoc step_of r.log e first x y legal' steps)
             (omega arith, (slot, back, valued))
@@ -309,7 +309,7 @@ module _ {T O R : Type 0} (step_of : T → O → R → T → Type 0) (is_open : 
             let a : log ≡ log2 = inject (sym turn ∙ turn2) in
             let b : slot ≡ slot2 = ap (first_slot slot) (sym carries ∙ carries2) in
             let c : last ≡ last2 = inject (sym tells ∙ (ap (λ (q : Slot T O R). q.last) b ∙ tells2)) in
-            λ i. (played (a i) (entry me.0.number (c i).op.value (c i).reply.value) me.0, rest (carries i))),
+            λ i. (view_after (a i) (entry me.0.number (c i).op.value (c i).reply.value) me.0, rest (carries i))),
       )
 
   pub starts_now : (items : List (Slot T O R)) (h : Slot T O R) (none_told : ℕ) → items ≡ h ∷ [] → h.value ≡ Some first → 2 ^ 63 ≤ none_told → HasOneHistory step_of is_open is_idle first (opening (0 ∷ none_told ∷ []) items (first_view first))

@@ -11,16 +11,16 @@ use Rattle.eql_turn_lock.specs.declared.slot.Slot.{Slot}
 use Rattle.eql_turn_lock.specs.declared.view.View.{View}
 use Rattle.eql_turn_lock.specs.History.{StartsWith, entry, calls_by, OthersOpen, IsLegal}
 use Rattle.eql_turn_lock.specs.Passes.{IsEndedIn, first_view, split_view, new_view, ended_of, joined_view, KnowsHistory}
-use Rattle.eql_turn_lock.specs.Rule.{looked_at, played, HoldsTurn, IsSameBut, FindsIdle}
-use Rattle.eql_turn_lock.specs.Tries.{LostTry, held, moved, IsLost, words_of}
+use Rattle.eql_turn_lock.specs.Rule.{looked_at, view_after, HoldsTurn, IsSameBut, FindsIdle}
+use Rattle.eql_turn_lock.specs.Tries.{LostTry, turn_held, word_moved, IsLost, words_of}
 use Rattle.eql_turn_lock.specs.Calls.{MayPlay, Plays, PlaysOnce, PlaysLooking, IsUnplayed, MeetsIdle}
 use Rattle.eql_turn_lock.proofs.Histories.{all_right, all_snoc, calls_mine, calls_other, starts_longer, legal_snoc, legal_split, rest_is_of_others, still_allowed}
 use Rattle.eql_turn_lock.proofs.Views.{calls_none, prefix_of}
 
 words_more : (tries : List LostTry) (last : LostTry) → words_of (tries ++ last ∷ []) ≡ words_of tries ++ words_of (last ∷ [])
 words_more [] last = refl
-words_more (held loaded ∷ tries) last = ap (λ (l : List ℕ). loaded ∷ l) (words_more tries last)
-words_more (moved loaded found ∷ tries) last = ap (λ (l : List ℕ). loaded ∷ found ∷ l) (words_more tries last)
+words_more (turn_held loaded ∷ tries) last = ap (λ (l : List ℕ). loaded ∷ l) (words_more tries last)
+words_more (word_moved loaded found ∷ tries) last = ap (λ (l : List ℕ). loaded ∷ found ∷ l) (words_more tries last)
 
 module _ {T O R : Type 0} where
   -- tries took no turn, and nothing else was done
@@ -40,13 +40,13 @@ module _ {T O R : Type 0} where
 
   -- the turn was held once more
   pub tried_held : (v a b : View T O R) (n : ℕ) → OnlyTried v a → n < 2 ^ 63 → n % 2 ≡ 1 → b ≡ looked_at n a → OnlyTried v b
-  tried_held v a b n only low odd is = subst (OnlyTried v) (sym is) (tried_more v a (held n) only (low, odd))
+  tried_held v a b n only low odd is = subst (OnlyTried v) (sym is) (tried_more v a (turn_held n) only (low, odd))
 
   -- the word moved once more
   pub tried_moved : (v a b : View T O R) (n found : ℕ) → OnlyTried v a → n < 2 ^ 63 → n % 2 ≡ 0 → found ≢ n → b ≡ looked_at found (looked_at n a) → OnlyTried v b
   tried_moved v a b n found only low even other is = subst (OnlyTried v)
       (sym (is ∙ ap (λ (l : List ℕ). record a { looked = l }) (append_assoc a.looked (n ∷ []) (found ∷ []))))
-      (tried_more v a (moved n found) only (low, even, other))
+      (tried_more v a (word_moved n found) only (low, even, other))
 
 module _ {O R : Type 0} where
   -- the word goes up by two with the entry
@@ -92,7 +92,7 @@ module _ {T O R : Type 0} (allows : T → O → Type 0) (step_of : T → O → R
       (λ (f : (v.number ≡ 0) × ((opening x : T) → v.opening ≡ Some opening → IsLegal step_of opening v.seen x → allows x op)). absurd (not f.0)) may
 
   pub has_played : (n : ℕ) (m : Me (Slot T O R) (View T O R)) (op : O) (reply : R) (y : T) (w : View T O R) (t : HoldsTurn step_of is_open n m) → MayPlay allows step_of is_open m.0 op → step_of t.value op reply y
-      → w ≡ played t.log (entry m.0.number op reply) m.0 → PlaysLooking [] step_of is_open m.0 op reply w
+      → w ≡ view_after t.log (entry m.0.number op reply) m.0 → PlaysLooking [] step_of is_open m.0 op reply w
   has_played n m op reply y w t may steps is = let e : Entry O R = entry m.0.number op reply in subst (λ (z : View T O R). PlaysLooking [] step_of is_open m.0 op reply z) (sym is) record {
     between = t.begins.0;
     between_others = rest_is_of_others m.0.number t.log m.0.seen t.begins.0 m.0.mine t.begins.1 t.all_mine t.seen_mine;

@@ -3,11 +3,11 @@ use Rattle.std.specs.Prelude.{◌≡◌, ℕ, [], ◌∷◌, refl}
 use Rattle.eql_turn_lock.specs.declared.history.Entry.{Entry}
 use Rattle.eql_turn_lock.specs.History.{entry, calls_by}
 use Rattle.eql_turn_lock.specs.Passes.{longer}
-use Rattle.eql_turn_lock.specs.Tries.{held, moved, words_of}
+use Rattle.eql_turn_lock.specs.Tries.{turn_held, word_moved, words_of}
 
 -- the turn was held at 1, and was then taken and ended by another pass between the load of 2 and
 -- the exchange
-three_words : words_of (held 1 ∷ moved 2 4 ∷ []) ≡ 1 ∷ 2 ∷ 4 ∷ []
+three_words : words_of (turn_held 1 ∷ word_moved 2 4 ∷ []) ≡ 1 ∷ 2 ∷ 4 ∷ []
 three_words = refl
 
 -- a call of this pass, with this operation and this reply

@@ -41,8 +41,8 @@ module _ {T O R : Type 0} where
   in_turn log v = record v { turn = Some log }
 
   -- the view after the entry joined the history
-  abbrev pub played : List (Entry O R) → Entry O R → View T O R → View T O R
-  played log e v = record v { seen = log ++ e ∷ []; mine = v.mine ++ e ∷ []; turn = None }
+  abbrev pub view_after : List (Entry O R) → Entry O R → View T O R → View T O R
+  view_after log e v = record v { seen = log ++ e ∷ []; mine = v.mine ++ e ∷ []; turn = None }
 
   -- The view of a seat: its number is its place, what it has seen begins the history, and its own
   -- entries are all there.
@@ -180,7 +180,7 @@ module _ {T O R : Type 0} where
   ends_turn step before stored after =
       (log : List (Entry O R)) (slot : Slot T O R) (last : LastCall O R) → before.0.turn ≡ Some log
       → before.1 ≡ (0, slot) ∷ [] → slot.last ≡ Some last
-      → after ≡ (played log (entry before.0.number last.op.value last.reply.value) before.0, [])
+      → after ≡ (view_after log (entry before.0.number last.op.value last.reply.value) before.0, [])
 
   -- nothing changes
   abbrev pub learns :

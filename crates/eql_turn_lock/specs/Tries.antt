@@ -4,19 +4,19 @@ use Rattle.std.specs.Prelude.{◌≡◌, ◌≢◌, ℕ, ◌≤◌, ◌<◌, ◌
 -- A try that took no turn: the turn was held at the word that it loaded, or the word moved, and the
 -- exchange found another one.
 pub data LostTry : Type 0 where
-  held : (loaded : ℕ) → LostTry
-  moved : (loaded found : ℕ) → LostTry
+  turn_held : (loaded : ℕ) → LostTry
+  word_moved : (loaded found : ℕ) → LostTry
 
 -- The loaded word is below 2^63. It is odd where the turn was held, and else even.
 abbrev pub IsLost : LostTry → Type 0
-IsLost (held loaded) = (loaded < 2 ^ 63) × (loaded % 2 ≡ 1)
-IsLost (moved loaded found) = (loaded < 2 ^ 63) × (loaded % 2 ≡ 0) × (found ≢ loaded)
+IsLost (turn_held loaded) = (loaded < 2 ^ 63) × (loaded % 2 ≡ 1)
+IsLost (word_moved loaded found) = (loaded < 2 ^ 63) × (loaded % 2 ≡ 0) × (found ≢ loaded)
 
 -- the words that the tries met, in order
 abbrev pub words_of : List LostTry → List ℕ
 words_of [] = []
-words_of (held loaded ∷ tries) = loaded ∷ words_of tries
-words_of (moved loaded found ∷ tries) = loaded ∷ found ∷ words_of tries
+words_of (turn_held loaded ∷ tries) = loaded ∷ words_of tries
+words_of (word_moved loaded found ∷ tries) = loaded ∷ found ∷ words_of tries
 
 -- Words tell which of them were loaded: in one way at most are they those of lost tries, and then a
 -- loaded word of at least 2^63.

@@ -80,14 +80,14 @@ letters_out Delivered = []
 letters_out (Taken letter) = option_to_list letter
 
 -- the letters that the entries delivered, in order
-abbrev pub delivered : List (Entry TrayOp TrayReply) → List ℕ
-delivered [] = []
-delivered (e ∷ es) = letters_in e.op ++ delivered es
+abbrev pub letters_delivered : List (Entry TrayOp TrayReply) → List ℕ
+letters_delivered [] = []
+letters_delivered (e ∷ es) = letters_in e.op ++ letters_delivered es
 
 -- the letters that the entries took out, in order
-abbrev pub taken : List (Entry TrayOp TrayReply) → List ℕ
-taken [] = []
-taken (e ∷ es) = letters_out e.reply ++ taken es
+abbrev pub letters_taken : List (Entry TrayOp TrayReply) → List ℕ
+letters_taken [] = []
+letters_taken (e ∷ es) = letters_out e.reply ++ letters_taken es
 
 -- Every letter that the first pass delivered was taken out in the one history or is still in the
 -- tray, in order. So none is lost because someone held the turn.
@@ -95,12 +95,12 @@ abbrev pub LosesNothing : View Tray TrayOp TrayReply → Tray → Type 0
 LosesNothing v tray =
     (log : List (Entry TrayOp TrayReply)) × (opening : Tray) × (v.opening ≡ Some opening)
     × StartsWith log v.seen
-    × (opening.letters.items ++ delivered v.mine ≡ taken log ++ tray.letters.items)
+    × (opening.letters.items ++ letters_delivered v.mine ≡ letters_taken log ++ tray.letters.items)
 
 -- The tray has room for a letter more than the first pass delivered, once those are out that the
 -- other pass saw go out.
 abbrev pub SawRoom : View Tray TrayOp TrayReply → View Tray TrayOp TrayReply → Type 0
 SawRoom first other =
     (opening : Tray) → first.opening ≡ Some opening
-    → length opening.letters.items + length (delivered first.mine) < deque_capacity opening.letters
-    + length (taken other.seen)
+    → length opening.letters.items + length (letters_delivered first.mine) < deque_capacity opening.letters
+    + length (letters_taken other.seen)

@@ -48,13 +48,13 @@ accepted_after slack earlier (item ∷ items) =
     else item ∷ accepted_after slack (item ∷ earlier) items
 
 -- the accepted events of a text, in line order
-abbrev pub accepted : Reads → Option ℤ → ℕ → List ℕ → List Item
-accepted reads slack shard text = accepted_after slack [] (readable reads shard (lines_in text))
+abbrev pub accepted_items : Reads → Option ℤ → ℕ → List ℕ → List Item
+accepted_items reads slack shard text = accepted_after slack [] (readable reads shard (lines_in text))
 
 -- the accepted events of texts, of which the first is this shard
 abbrev pub accepted_from : Reads → Option ℤ → ℕ → List (List ℕ) → List Item
 accepted_from reads slack shard [] = []
-accepted_from reads slack shard (text ∷ texts) = accepted reads slack shard text ++ accepted_from reads slack (shard + 1) texts
+accepted_from reads slack shard (text ∷ texts) = accepted_items reads slack shard text ++ accepted_from reads slack (shard + 1) texts
 
 -- events in the order of their places
 abbrev pub sorted_items : List Item → List Item
@@ -81,14 +81,14 @@ by_bytes shard line (ts ∷ []) = event_of (pos ts) None shard line
 by_bytes shard line (ts ∷ tie ∷ []) = event_of (pos ts) (Some (pos tie)) shard line
 by_bytes shard line (a ∷ b ∷ c ∷ rest) = got.Blank
 
-abbrev placed : ℤ → Option ℤ → ℕ → ℕ → ℕ → Item
-placed ts tie shard line at =
+abbrev item_at : ℤ → Option ℤ → ℕ → ℕ → ℕ → Item
+item_at ts tie shard line at =
     record { order = record { ts = ts; tie = tie; shard = shard; line = line; at = at }; routes = record { key = []; mask = record { low = 1; high = 0 }; until = false } ∷ [] }
 
 -- with a slack of 5 nanoseconds the second event, 7 before the first, is late, and the third, 4 before it, isn't
-late_lines : all_events by_bytes (Some (pos 5)) ((20 ∷ 10 ∷ 13 ∷ 10 ∷ 16 ∷ 10 ∷ []) ∷ []) ≡ placed (pos 16) None 0 3 4 ∷ placed (pos 20) None 0 1 0 ∷ []
+late_lines : all_events by_bytes (Some (pos 5)) ((20 ∷ 10 ∷ 13 ∷ 10 ∷ 16 ∷ 10 ∷ []) ∷ []) ≡ item_at (pos 16) None 0 3 4 ∷ item_at (pos 20) None 0 1 0 ∷ []
 late_lines = refl
 
 -- of equal times an event without a tiebreaker comes last
-tiebreaker : all_events by_bytes None ((20 ∷ []) ∷ (20 ∷ 1 ∷ []) ∷ []) ≡ placed (pos 20) (Some (pos 1)) 1 1 0 ∷ placed (pos 20) None 0 1 0 ∷ []
+tiebreaker : all_events by_bytes None ((20 ∷ []) ∷ (20 ∷ 1 ∷ []) ∷ []) ≡ item_at (pos 20) (Some (pos 1)) 1 1 0 ∷ item_at (pos 20) None 0 1 0 ∷ []
 tiebreaker = refl

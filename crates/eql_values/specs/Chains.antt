@@ -43,9 +43,9 @@ latest chain_at [] = at_start (chain_at [])
 latest chain_at (item ∷ past) = here_or (chain_at (item ∷ past)) item (latest chain_at past)
 
 -- the chain before, followed by the item: where no item between fits the item's stage, none after the chain's place ends, and it is in time
-abbrev pub followed : Option ℤ → ℕ → Act → Option Placed → Option (List OrderKey)
-followed span k item None = None
-followed span k item (Some before) =
+abbrev pub chain_with : Option ℤ → ℕ → Act → Option Placed → Option (List OrderKey)
+chain_with span k item None = None
+chain_with span k item (Some before) =
     if not (list_any (fits_after k) before.1) && not (list_any ends (item ∷ before.1)) && in_time span before.0 item.order.ts
     then Some (before.0 ++ item.order ∷ [])
     else None
@@ -61,7 +61,7 @@ module _ (span : Option ℤ) (opening : ℕ → Option (List OrderKey)) where
   chain zero past = None
   chain (suc k) [] = opening (suc k)
   chain (suc zero) (item ∷ past) = if fits_after 0 item then Some (item.order ∷ []) else None
-  chain (suc (suc k)) (item ∷ past) = if fits_after (suc k) item then followed span (suc k) item (latest (chain (suc k)) past) else None
+  chain (suc (suc k)) (item ∷ past) = if fits_after (suc k) item then chain_with span (suc k) item (latest (chain (suc k)) past) else None
 
   -- the pending sequence of a stage after a past
   abbrev pub holder : ℕ → List Act → Option (List OrderKey)

@@ -41,25 +41,25 @@ shown_char c =
     else c ∷ []
 
 -- a text as it is printed, character by character
-abbrev pub shown : List ℕ → List ℕ
-shown = flat_map shown_char
+abbrev pub shown_text : List ℕ → List ℕ
+shown_text = flat_map shown_char
 
 -- letters stay, also those beyond ASCII, and so do quotes and backslashes
-as_it_is : shown (codes "a \"b\\" ++ 233 ∷ 8364 ∷ 128512 ∷ []) ≡ codes "a \"b\\" ++ 233 ∷ 8364 ∷ 128512 ∷ []
+as_it_is : shown_text (codes "a \"b\\" ++ 233 ∷ 8364 ∷ 128512 ∷ []) ≡ codes "a \"b\\" ++ 233 ∷ 8364 ∷ 128512 ∷ []
 unfolding lib.Utf8.encode
 as_it_is = refl
 
 -- a line feed, a return, a tab, and the controls 0, 7f and 9f
-controls : shown (10 ∷ 13 ∷ 9 ∷ 0 ∷ 127 ∷ 159 ∷ []) ≡ codes "\\n\\r\\t\\u{00}\\u{7f}\\u{9f}"
+controls : shown_text (10 ∷ 13 ∷ 9 ∷ 0 ∷ 127 ∷ 159 ∷ []) ≡ codes "\\n\\r\\t\\u{00}\\u{7f}\\u{9f}"
 unfolding lib.Utf8.encode
 controls = refl
 
 -- the characters on both sides of each range stay
-edges : shown (32 ∷ 126 ∷ 160 ∷ 8205 ∷ 8208 ∷ 8231 ∷ 8239 ∷ 8293 ∷ 8298 ∷ []) ≡ 32 ∷ 126 ∷ 160 ∷ 8205 ∷ 8208 ∷ 8231 ∷ 8239 ∷ 8293 ∷ 8298 ∷ []
+edges : shown_text (32 ∷ 126 ∷ 160 ∷ 8205 ∷ 8208 ∷ 8231 ∷ 8239 ∷ 8293 ∷ 8298 ∷ []) ≡ 32 ∷ 126 ∷ 160 ∷ 8205 ∷ 8208 ∷ 8231 ∷ 8239 ∷ 8293 ∷ 8298 ∷ []
 edges = refl
 
 -- separators and marks of direction
-marks : shown (8206 ∷ 8207 ∷ 8232 ∷ 8233 ∷ 8234 ∷ 8238 ∷ 8294 ∷ 8297 ∷ [])
+marks : shown_text (8206 ∷ 8207 ∷ 8232 ∷ 8233 ∷ 8234 ∷ 8238 ∷ 8294 ∷ 8297 ∷ [])
     ≡ codes "\\u{200e}\\u{200f}\\u{2028}\\u{2029}\\u{202a}\\u{202e}\\u{2066}\\u{2069}"
 unfolding lib.Utf8.encode
 marks = refl

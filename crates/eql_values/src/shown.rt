@@ -2,7 +2,7 @@
 ghost use Rattle.std.specs.Prelude.{◌≡◌, ◌<◌, ◌++◌, ◌∷◌, [], encode_utf8_all, string_bytes, OnOk};
 ghost use Rattle.std.specs.Str.{chars};
 ghost use Rattle.eql_values.specs.Shown.{hex_digit, upper_digits, escape_by_number};
-ghost use Rattle.eql_values.specs.Shown.{is_hidden, shown_char, shown};
+ghost use Rattle.eql_values.specs.Shown.{is_hidden, shown_char, shown_text};
 
 use crate::memory::Memory;
 use std::alloc::AllocError;
@@ -81,7 +81,7 @@ fn push_char(line: &mut String, c: char) -> Result<(), AllocError>
 /// These are written by the escapes `\n`, `\r`, `\t` and `\u{..}`, with the number in hexadecimal
 /// digits. Where memory runs out, a front of it may have been put.
 pub fn push_shown(line: &mut String, text: &str) -> Result<(), Memory>
-    ensures { let printed = encode_utf8_all (shown (chars text.now)) in
+    ensures { let printed = encode_utf8_all (shown_text (chars text.now)) in
         OnOk result (string_bytes line.new ≡ string_bytes line.old ++ printed) }
 {
     for c in text.chars() {

@@ -1,6 +1,6 @@
 //! What a disk in memory keeps of its areas: what the last good sync kept, the writes since, and what reads give.
 ghost use Rattle.std.specs.Prelude.{◌≡◌, ◌≤◌, IfOk, length, map};
-ghost use Rattle.eql_outside.specs.Areas.{Write, IsLeftAfter, Lands, MayLeave, store, with_store, settled, begun, written};
+ghost use Rattle.eql_outside.specs.Areas.{Write, IsLeftAfter, Lands, MayLeave, store, with_store, settled_store, store_with, area_with};
 ghost use Rattle.eql_outside.specs.Disks.{write_of, store_of, moment_of};
 
 use crate::disk::Area;
@@ -66,7 +66,7 @@ impl MemWrite {
 impl MemStore {
     /// An area of these bytes, all of which are kept.
     pub(crate) fn settled(alloc: Global, bytes: Vec<u8>) -> Result<MemStore, Memory>
-        ensures { IfOk result (λ area. store_of area ≡ settled bytes.items) }
+        ensures { IfOk result (λ area. store_of area ≡ settled_store bytes.items) }
     {
         Ok(MemStore {
             kept: Vec::from_slice(alloc, &bytes)?,
@@ -94,7 +94,7 @@ impl MemStore {
 
     /// The area after a sync.
     pub(crate) fn synced(&self, alloc: Global) -> Result<MemStore, Memory>
-        ensures { IfOk result (λ area. store_of area ≡ settled (store_of self.now).seen) }
+        ensures { IfOk result (λ area. store_of area ≡ settled_store (store_of self.now).seen) }
     {
         MemStore::settled(alloc, Vec::from_slice(alloc, &self.seen)?)
     }
@@ -103,7 +103,8 @@ impl MemStore {
     pub(crate) fn written(&self, alloc: Global, at: u64, bytes: &[u8]) -> Result<MemStore, Memory>
         requires { at ≤ length (store_of self.now).seen }
         ensures { let w : Write = record { at = at; bytes = bytes.now } in IfOk result (λ area.
-            store_of area ≡ begun w (written w (store_of self.now).seen) (store_of self.now)) }
+            store_of area
+            ≡ store_with w (area_with w (store_of self.now).seen) (store_of self.now)) }
     {
         let mut next = self.copy(alloc)?;
         next.seen = overwritten(alloc, &self.seen, at as usize, bytes)?;
@@ -139,7 +140,7 @@ impl MemMoment {
     /// Both areas with these bytes, all of which are kept.
     pub(crate) fn settled(alloc: Global, a: Vec<u8>, b: Vec<u8>) -> Result<MemMoment, Memory>
         ensures { IfOk result
-            (λ m. moment_of m ≡ record { a = settled a.items; b = settled b.items }) }
+            (λ m. moment_of m ≡ record { a = settled_store a.items; b = settled_store b.items }) }
     {
         Ok(MemMoment {
             a: MemStore::settled(alloc, a)?,
@@ -205,7 +206,7 @@ impl MemMoment {
 fn overwritten(alloc: Global, old: &[u8], at: usize, bytes: &[u8]) -> Result<Vec<u8>, Memory>
     requires { at ≤ length old.now }
     ensures { IfOk result
-        (λ new. new.items ≡ written (record { at = at; bytes = bytes.now }) old.now) }
+        (λ new. new.items ≡ area_with (record { at = at; bytes = bytes.now }) old.now) }
 {
     let mut next = Vec::from_slice(alloc, &old[..at])?;
     next.extend_from_slice(bytes)?;

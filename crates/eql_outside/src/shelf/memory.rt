@@ -1,7 +1,7 @@
 //! The shelf over files in memory, with a disk in memory. It can be told which of its calls fail, and which calls of
 //! its sources and its disk.
 ghost use Rattle.std.specs.Prelude.{◌≡◌, ◌≤◌, Some, false, IfOk};
-ghost use Rattle.eql_outside.specs.Plans.{unstarted};
+ghost use Rattle.eql_outside.specs.Plans.{fresh_plan};
 
 use crate::disk::Disk;
 use crate::disk::memory::MemDisk;
@@ -77,7 +77,7 @@ impl MemShelf {
         ensures absent { IfOk result (λ s. ⟦<MemShelf as Shelf>⟧.absent_count s ≡ 0) }
         ensures lent { IfOk result (λ s. ⟦<MemShelf as Shelf>⟧.lent_count s ≡ Some 0) }
         ensures plan { IfOk result
-            (λ s. ⟦<MemShelf as Shelf>⟧.fault_plan s ≡ Some (unstarted fails.items)) }
+            (λ s. ⟦<MemShelf as Shelf>⟧.fault_plan s ≡ Some (fresh_plan fails.items)) }
         ensures plans { IfOk result
             (λ s. ⟦<MemShelf as Shelf>⟧.source_plans s ≡ Some (planned_fails files.items)) }
         ensures disk { IfOk result (λ s. ⟦<MemShelf as Shelf>⟧.disk_history s

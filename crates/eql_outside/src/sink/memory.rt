@@ -1,6 +1,6 @@
 //! The sink that keeps the bytes in memory. It can be told which of its writes fail.
 ghost use Rattle.std.specs.Prelude.{◌≡◌, Some, []};
-ghost use Rattle.eql_outside.specs.Plans.{unstarted};
+ghost use Rattle.eql_outside.specs.Plans.{fresh_plan};
 
 use crate::plan::PlannedFaults;
 use crate::refused::OutRefused;
@@ -19,7 +19,7 @@ impl MemSink {
     pub fn new(alloc: Global, fails: Vec<u64>) -> MemSink
         ensures written { ⟦<MemSink as Sink>⟧.written result ≡ Some [] }
         ensures faults { ⟦<MemSink as Sink>⟧.fault_count result ≡ 0 }
-        ensures plan { ⟦<MemSink as Sink>⟧.fault_plan result ≡ Some (unstarted fails.items) }
+        ensures plan { ⟦<MemSink as Sink>⟧.fault_plan result ≡ Some (fresh_plan fails.items) }
     {
         MemSink {
             bytes: Vec::new(alloc),

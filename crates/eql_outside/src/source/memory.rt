@@ -1,6 +1,6 @@
 //! The source over bytes in memory. It can be told which of its takes fail.
 ghost use Rattle.std.specs.Prelude.{◌≡◌, ◌≤◌, Some, None, min, take, drop, vec_len, length, IfOk};
-ghost use Rattle.eql_outside.specs.Plans.{unstarted};
+ghost use Rattle.eql_outside.specs.Plans.{fresh_plan};
 
 use crate::faults::Lent;
 use crate::plan::PlannedFaults;
@@ -45,7 +45,7 @@ impl MemSource {
         ensures faults { ⟦<MemSource as Source>⟧.fault_count result ≡ 0 }
         ensures apart { ⟦<MemSource as Source>⟧.lent_as result ≡ None }
         ensures plan { ⟦<MemSource as Source>⟧.fault_plan result
-            ≡ Some (unstarted file.fails.items) }
+            ≡ Some (fresh_plan file.fails.items) }
         ensures piece { piece_of result ≡ file.piece }
     {
         let MemFile {
@@ -71,7 +71,7 @@ impl MemSource {
         ensures named { IfOk result
             (λ s. ⟦<MemSource as Source>⟧.lent_as s ≡ Some (name_lent lent)) }
         ensures plan { IfOk result
-            (λ s. ⟦<MemSource as Source>⟧.fault_plan s ≡ Some (unstarted file.now.fails.items)) }
+            (λ s. ⟦<MemSource as Source>⟧.fault_plan s ≡ Some (fresh_plan file.now.fails.items)) }
         ensures piece { IfOk result (λ s. piece_of s ≡ file.now.piece) }
     {
         let bytes = Vec::from_slice(alloc, file.bytes.as_slice())?;

@@ -4,9 +4,9 @@ ghost use Rattle.std.specs.Option.{option_map};
 ghost use Rattle.std.specs.Str.{chars};
 ghost use Rattle.eql_parser.specs.Kinds.{kind, kinds, word_kind};
 ghost use Rattle.eql_parser.specs.Grammar.{first_part, part};
-ghost use Rattle.eql_parser.specs.Pieces.{piece_kind, spelled, BeginsNoPart, IsPart};
+ghost use Rattle.eql_parser.specs.Pieces.{piece_kind, borrowed_chars, BeginsNoPart, IsPart};
 ghost use Rattle.eql_parser.specs.Answering.{Answers};
-ghost use Rattle.eql_parser.specs.Reading.{dotted, named, field};
+ghost use Rattle.eql_parser.specs.Reading.{dotted, named_field, field};
 
 use crate::parser::listed::Listed;
 use crate::parser::mark::{Mark, after};
@@ -19,7 +19,7 @@ use std::alloc::Global;
 
 /// The first part of a field's name.
 fn first_part_of(piece: Piece<'_>) -> Option<&str>
-    ensures { option_map spelled result ≡ first_part (piece_kind piece.entry) }
+    ensures { option_map borrowed_chars result ≡ first_part (piece_kind piece.entry) }
 {
     match piece {
         Piece::Name(name) => Some(name.text()),
@@ -30,7 +30,7 @@ fn first_part_of(piece: Piece<'_>) -> Option<&str>
 
 /// A word as it is spelled, unless it ends in `~`.
 fn unmarked(word: &Text) -> Option<&str>
-    ensures { option_map spelled result ≡ part (word_kind word.now) }
+    ensures { option_map borrowed_chars result ≡ part (word_kind word.now) }
 {
     let spelling = word.text();
     match spelling.strip_suffix('~') {
@@ -41,7 +41,7 @@ fn unmarked(word: &Text) -> Option<&str>
 
 /// A part of a field's name behind a dot, where keywords are parts too.
 fn part_of(token: &Token) -> Option<&str>
-    ensures { option_map spelled result ≡ part (kind token.now.tok) }
+    ensures { option_map borrowed_chars result ≡ part (kind token.now.tok) }
 {
     match &token.tok {
         Tok::Word(word) => unmarked(word),
@@ -90,7 +90,7 @@ fn dotted_of<'a>(
 
 /// A field without the `?` that may stand before it.
 fn named_of(alloc: Global, optional: bool, tokens: &[Token]) -> Result<(FieldRef, &[Token]), Stop>
-    ensures { Answers (λ f. f) result (named optional (kinds tokens.now)) }
+    ensures { Answers (λ f. f) result (named_field optional (kinds tokens.now)) }
 {
     let Some((first, rest)) = split(tokens) else {
         return Err(Stop::Syntax(0));

@@ -1,7 +1,7 @@
 //! Lists with commas between their items.
 ghost use Rattle.eql_parser.specs.Kinds.{kinds};
 ghost use Rattle.eql_parser.specs.Answering.{Answers};
-ghost use Rattle.eql_parser.specs.Reading.{listed};
+ghost use Rattle.eql_parser.specs.Reading.{comma_list};
 
 use crate::parser::mark::{Mark, after};
 use crate::parser::stop::Stop;
@@ -24,7 +24,7 @@ pub trait Listed: Drop {
 
 /// One or more with commas between them, and what follows.
 pub fn listed_of<T: Listed>(alloc: Global, tokens: &[Token]) -> Result<(Vec<T>, &[Token]), Stop>
-    ensures { Answers (λ v. v.items) result (listed T.reads (kinds tokens.now)) }
+    ensures { Answers (λ v. v.items) result (comma_list T.reads (kinds tokens.now)) }
 {
     let mut items = Vec::new(alloc);
     let mut rest = tokens;

@@ -8,7 +8,7 @@ ghost use Rattle.eql_parser.specs.Pieces.{piece_kind};
 ghost use Rattle.eql_parser.specs.Answering.{Answers};
 ghost use Rattle.eql_parser.specs.QueryAnswering.{bracketed_view, conditioned_view, plain_item, RunsComes, LacksRuns, BeginsNoMissing, IsMissing};
 ghost use Rattle.eql_parser.specs.Reading.{expr};
-ghost use Rattle.eql_parser.specs.QueryReading.{most_open, most_levels, number_at, keys, runs, term, term_tree_of, bracketed, item};
+ghost use Rattle.eql_parser.specs.QueryReading.{most_open, most_levels, number_at, keys, runs, term, term_tree_of, bracketed_term, item};
 ghost use Rattle.eql_parser.specs.QueryReading as reading;
 
 use crate::parser::expression::expr_of;
@@ -151,7 +151,7 @@ fn runs_of(tokens: &[Token]) -> Result<(i64, &[Token]), Stop>
 
 /// A term in brackets, with the keys behind it.
 pub fn bracketed_of(alloc: Global, tokens: &[Token]) -> Result<(Bracketed, &[Token]), Stop>
-    ensures { Answers bracketed_view result (bracketed (expr most_open most_levels)
+    ensures { Answers bracketed_view result (bracketed_term (expr most_open most_levels)
         (kinds tokens.now)) }
 {
     let Some(inside) = after(Mark::OpenItem, tokens) else {

@@ -1,7 +1,7 @@
 //! How expressions are written: each node that isn't a leaf or a call in one pair of parentheses.
 ghost use Rattle.std.specs.Prelude.{◌++◌, ◌∷◌, IsTrue, OnOk};
 ghost use Rattle.eql_parser.specs.Adding.{Adds, all_ascii};
-ghost use Rattle.eql_parser.specs.Printed.{shown, all_shown, patterns_shown, literals_shown};
+ghost use Rattle.eql_parser.specs.Printed.{tree_shown, all_shown, patterns_shown, literals_shown};
 ghost use Rattle.eql_query.specs.Tree as t;
 ghost use Rattle.eql_query.specs.View.{tree, trees};
 
@@ -15,7 +15,7 @@ use eql_values::{Memory, Text, Value};
 /// Writes an expression.
 #[cycle(put)]
 pub(crate) fn put_expr(page: &mut Page, expr: &Expr) -> Result<(), Memory>
-    ensures { OnOk result (Adds page.old page.new (shown (tree expr.now))) }
+    ensures { OnOk result (Adds page.old page.new (tree_shown (tree expr.now))) }
 {
     match expr {
         Expr::Null => page.put("null"),
@@ -49,7 +49,7 @@ pub(crate) fn put_expr(page: &mut Page, expr: &Expr) -> Result<(), Memory>
 /// Writes an opening parenthesis, and the operand behind it.
 #[cycle(put)]
 fn put_left(page: &mut Page, a: &Expr) -> Result<(), Memory>
-    ensures { OnOk result (Adds page.old page.new (λ rest. 40 ∷ shown (tree a.now) rest)) }
+    ensures { OnOk result (Adds page.old page.new (λ rest. 40 ∷ tree_shown (tree a.now) rest)) }
 {
     page.put("(")?;
     put_expr(page, a)
@@ -59,7 +59,7 @@ fn put_left(page: &mut Page, a: &Expr) -> Result<(), Memory>
 #[cycle(put)]
 fn put_behind(page: &mut Page, before: &str, a: &Expr) -> Result<(), Memory>
     requires { IsTrue (all_ascii before.now) }
-    ensures { OnOk result (Adds page.old page.new (λ rest. before.now ++ shown (tree a.now)
+    ensures { OnOk result (Adds page.old page.new (λ rest. before.now ++ tree_shown (tree a.now)
         (41 ∷ rest))) }
 {
     page.put(before)?;
@@ -71,7 +71,7 @@ fn put_behind(page: &mut Page, before: &str, a: &Expr) -> Result<(), Memory>
 #[cycle(put)]
 fn put_pattern(page: &mut Page, a: &Expr, between: &str, patterns: &[Text]) -> Result<(), Memory>
     requires { IsTrue (all_ascii between.now) }
-    ensures { OnOk result (Adds page.old page.new (λ rest. 40 ∷ shown (tree a.now)
+    ensures { OnOk result (Adds page.old page.new (λ rest. 40 ∷ tree_shown (tree a.now)
         (between.now ++ patterns_shown patterns.now (41 ∷ rest)))) }
 {
     put_left(page, a)?;
@@ -85,7 +85,7 @@ fn put_pattern(page: &mut Page, a: &Expr, between: &str, patterns: &[Text]) -> R
 #[cycle(put)]
 fn put_member(page: &mut Page, left: &Expr, between: &str, list: &[Value]) -> Result<(), Memory>
     requires { IsTrue (all_ascii between.now) }
-    ensures { OnOk result (Adds page.old page.new (λ rest. 40 ∷ shown (tree left.now)
+    ensures { OnOk result (Adds page.old page.new (λ rest. 40 ∷ tree_shown (tree left.now)
         (between.now ++ literals_shown list.now (41 ∷ 41 ∷ rest)))) }
 {
     put_left(page, left)?;
@@ -97,7 +97,7 @@ fn put_member(page: &mut Page, left: &Expr, between: &str, list: &[Value]) -> Re
 /// Writes a call.
 #[cycle(put)]
 fn put_call(page: &mut Page, name: &Text, fold: bool, arguments: &Exprs) -> Result<(), Memory>
-    ensures { OnOk result (Adds page.old page.new (shown
+    ensures { OnOk result (Adds page.old page.new (tree_shown
         (t.call name.now fold (trees arguments.now)))) }
 {
     page.put_name(name.text())?;

@@ -2,7 +2,7 @@
 ghost use Rattle.std.specs.Prelude.{◌≡◌, ◌<◌, ◌++◌, ◌∷◌, ◌/◌, ◌%◌, codes, OnOk};
 ghost use Rattle.std.specs.Str.{chars};
 ghost use Rattle.eql_parser.specs.Adding.{Adds};
-ghost use Rattle.eql_parser.specs.Printed.{hex_digit, is_control, escaped, all_escaped, quoted, doubled, field_shown, literal_shown};
+ghost use Rattle.eql_parser.specs.Printed.{hex_digit, is_control, char_shown, all_escaped, string_shown, name_shown, field_shown, literal_shown};
 
 use super::page::Page;
 use super::symbol::bool_text;
@@ -41,7 +41,7 @@ fn put_code(page: &mut Page, code: u8) -> Result<(), Memory>
 
 /// Writes a character of a string.
 fn put_escaped(page: &mut Page, c: char) -> Result<(), Memory>
-    ensures { OnOk result (Adds page.old page.new (escaped c)) }
+    ensures { OnOk result (Adds page.old page.new (char_shown c)) }
 {
     match c {
         '\n' => page.put("\\n"),
@@ -66,7 +66,7 @@ fn put_all_escaped(page: &mut Page, text: &str) -> Result<(), Memory>
 
 /// Writes a string in quotes.
 pub(crate) fn put_quoted(page: &mut Page, text: &Text) -> Result<(), Memory>
-    ensures { OnOk result (Adds page.old page.new (quoted text.now)) }
+    ensures { OnOk result (Adds page.old page.new (string_shown text.now)) }
 {
     page.put("\"")?;
     put_all_escaped(page, text.text())?;
@@ -75,7 +75,7 @@ pub(crate) fn put_quoted(page: &mut Page, text: &Text) -> Result<(), Memory>
 
 /// Writes a name, with each backtick doubled.
 fn put_doubled(page: &mut Page, name: &str) -> Result<(), Memory>
-    ensures { OnOk result (Adds page.old page.new (doubled (chars name.now))) }
+    ensures { OnOk result (Adds page.old page.new (name_shown (chars name.now))) }
 {
     for c in name.chars() {
         if c == '`' {

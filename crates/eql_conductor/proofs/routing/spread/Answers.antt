@@ -4,7 +4,7 @@ use Rattle.std.proofs.lemmas.List.{take_more}
 use Rattle.std.proofs.lemmas.Result.{IfOk-weaker}
 use Rattle.eql_values.specs.declared.item.Item.{Item}
 use Rattle.eql_values.specs.Ordered.{numbers}
-use Rattle.eql_values.specs.Routing.{routed}
+use Rattle.eql_values.specs.Routing.{routed_items}
 use Rattle.eql_conductor.specs.PartLists.{AreSpread}
 use Rattle.eql_parts.specs.Spreading.{part_number}
 use Rattle.eql_conductor.proofs.Spread.{spread_all, spread_more}
@@ -27,7 +27,7 @@ returns c =
     let items = c.args.items.now in
     let i = c.loop-item.item-index in
     let past : length items ≤ i = subst (λ (l : List Item). length l ≤ i) (c.deref-item-items.ensures.value ∙ c.items.ensures) c.loop-item-test.false in
-    let all = map (λ (p : ℕ). routed part_number p items) (numbers 16) in
+    let all = map (λ (p : ℕ). routed_items part_number p items) (numbers 16) in
     IfOk-weaker c.all_items.result _ (λ own. own.items ≡ all)
     (λ own is. is ∙ spread_all items c.loop-item.lists.items (subst (λ (l : List Item). AreSpread l c.loop-item.lists.items) (take_all i items past) c.loop-item.invariant))
     c.all_items.ensures

@@ -2,14 +2,14 @@ use Rattle.std.proofs.Common.{◌≡◌, ◌≤◌, ◌+◌, length}
 use Rattle.std.specs.Prelude.{All, vec_capacity, reverse}
 use Rattle.eql_lane.specs.Starts.{MayStart}
 use Rattle.eql_stages.specs.Judging.{reads_by}
-use Rattle.eql_stages.specs.Planned.{line_of, planned}
+use Rattle.eql_stages.specs.Planned.{line_of, planned_query}
 use Rattle.eql_find.specs.Lanes.{HaveLanes}
 use Rattle.eql_find.proofs.lanes.fill_lanes.Given as goal
 
 abbrev pub invariant-loop-start : goal.invariant-loop-start
 invariant-loop-start g l = record {
   filling : HaveLanes g.H.Src.Source.left g.H.Src.Source.lent_as g.H.Src.Source.fault_count g.H.Src.Source.fault_plan reads_by
-      (line_of (planned l.fn.plan)) l.fn.slack (reverse l.fn.sources.items) (reverse l.sources.items) l.fn.starts.items l.start-iterator.rest.items
+      (line_of (planned_query l.fn.plan)) l.fn.slack (reverse l.fn.sources.items) (reverse l.sources.items) l.fn.starts.items l.start-iterator.rest.items
       l.lanes.items;
   shard : l.shard ≡ length l.lanes.items;
   many : length l.start-iterator.rest.items ≡ length l.sources.items;

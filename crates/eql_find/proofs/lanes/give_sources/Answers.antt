@@ -1,6 +1,6 @@
 use native.Mathlib.Omega.{arith}
 use Rattle.std.proofs.Common.{◌≡◌, ◌+◌, ◌∙◌, [], ◌∷◌, ap, length, length-append}
-use Rattle.eql_find.specs.Lanes.{returned}
+use Rattle.eql_find.specs.Lanes.{return_of}
 use Rattle.eql_find.proofs.BackLemmas.{one_gone, one_back}
 use Rattle.eql_find.proofs.ShelfLemmas.{keeps_later}
 use Rattle.eql_find.proofs.lanes.give_sources.Goals as goal
@@ -11,7 +11,7 @@ back-preserved g c =
     let less = c.take_last-source.new.self.items in
     let items : length c.back.sources.items ≡ length less + 1 = ap length c.take_last-source.ensures.items ∙ length-append less (source ∷ []) in
     record {
-      gone = one_gone (returned g.H.Src.Source.lent_as g.H.Src.Source.fault_count)
+      gone = one_gone (return_of g.H.Src.Source.lent_as g.H.Src.Source.fault_count)
           _ _ less source _ _ _ _ _ _ c.take_last-source.ensures.items c.back.invariant.gone (record {
             raised = c.give_source.ensures.raised;
             raised_named = c.give_source.ensures.raised_named;

@@ -1,13 +1,13 @@
 use Rattle.std.proofs.Common.{◌≡◌, ◌≤◌, ◌-◌, Some, length, vec_len}
 use Rattle.std.specs.Prelude.{IfSome}
 use Rattle.eql_inputs.specs.Shelves.{KeepsShelf}
-use Rattle.eql_find.specs.Lanes.{returned}
+use Rattle.eql_find.specs.Lanes.{return_of}
 use Rattle.eql_find.proofs.BackLemmas.{Gone}
 use Rattle.eql_find.proofs.lanes.give_sources.Given as goal
 
 abbrev pub invariant-back : goal.invariant-back
 invariant-back g l = record {
-  gone : Gone (returned g.H.Src.Source.lent_as g.H.Src.Source.fault_count) l.fn.sources.items l.sources.items
+  gone : Gone (return_of g.H.Src.Source.lent_as g.H.Src.Source.fault_count) l.fn.sources.items l.sources.items
       (g.H.Shelf.fault_count l.fn.shelf) (g.H.Shelf.fault_count l.shelf) (g.H.Shelf.faults_of l.fn.shelf) (g.H.Shelf.faults_of l.shelf);
   counts : g.H.Shelf.fault_count l.fn.shelf ≤ g.H.Shelf.fault_count l.shelf;
   absences : g.H.Shelf.absent_count l.shelf ≡ g.H.Shelf.absent_count l.fn.shelf;

@@ -7,7 +7,7 @@ use Rattle.eql_check.specs.Kinds.{kind_at}
 use Rattle.eql_check.specs.Typing.{IsChecked}
 use Rattle.eql_query.specs.QueryTree.{query_tree}
 use Rattle.eql_stages.specs.Judging.{reads_by}
-use Rattle.eql_stages.specs.Planned.{line_of, planned}
+use Rattle.eql_stages.specs.Planned.{line_of, planned_query}
 use Rattle.eql_lane.specs.Slacks.{nanos_of}
 use Rattle.eql_words.specs.Bounds.{FindIsBounded}
 use Rattle.eql_runs.specs.Searches.{plan_of, rest_of}
@@ -45,14 +45,14 @@ search_lanes-requires g c =
     let many : length mids ≡ length c.args.find.now.shards = ap length taken ∙ length-map lanes bare ∙ b.many in
     let least = bounds.count.0 in
     let some : 1 ≤ length mids = omega (arith, least, many) in
-    let plan : planned c.args.planning.now.plan ≡ plan_of (search_in c.args.find.now c.args.planning.now) = b.plan_is in
+    let plan : planned_query c.args.planning.now.plan ≡ plan_of (search_in c.args.find.now c.args.planning.now) = b.plan_is in
     let checked : IfSome g.told (λ ts. IsChecked (kind_at c.args.planning.now.mapping) (query_tree c.args.planning.now.plan.checked.query)) = b.checked in
     let texts : IfSome g.told (λ ts. AreTextsOf g.S.Source.left ts mids) = texts_taken g.S.Source.left g.told lanes mids taken b.texts_of in
-    let begun : AreBegun reads_by mids = taken_begun reads_by (line_of (planned c.args.planning.now.plan)) (nanos_of c.args.find.now.slack) lanes mids taken some b.are_begun in
-    let reads : lanes_read reads_by mids ≡ line_of (planned c.args.planning.now.plan) =
-    taken_reads reads_by (line_of (planned c.args.planning.now.plan)) (nanos_of c.args.find.now.slack) lanes mids taken some b.are_begun in
+    let begun : AreBegun reads_by mids = taken_begun reads_by (line_of (planned_query c.args.planning.now.plan)) (nanos_of c.args.find.now.slack) lanes mids taken some b.are_begun in
+    let reads : lanes_read reads_by mids ≡ line_of (planned_query c.args.planning.now.plan) =
+    taken_reads reads_by (line_of (planned_query c.args.planning.now.plan)) (nanos_of c.args.find.now.slack) lanes mids taken some b.are_begun in
     let slack : slack_by reads_by mids ≡ nanos_of c.args.find.now.slack =
-    taken_slack reads_by (line_of (planned c.args.planning.now.plan)) (nanos_of c.args.find.now.slack) lanes mids taken some b.are_begun in
+    taken_slack reads_by (line_of (planned_query c.args.planning.now.plan)) (nanos_of c.args.find.now.slack) lanes mids taken some b.are_begun in
     let begins : MayBegin (rules_in (search_in c.args.find.now c.args.planning.now)) (pipes_of c.args.planning.now) placed.mark (cuts_of mids) placed.holders placed.book =
     may_begin laws c.args.find.now c.args.planning.now bounds lanes rest b.many mids placed taken placed_is g.told b.begun b.own b.began b.rest_is in
     let fits : FitsPipes (pipes_of c.args.planning.now) placed.book =

@@ -4,7 +4,7 @@ use Rattle.std.proofs.Common.{◌≡◌, ◌≤◌, true, rules, sym, ap, ◌∙
 use Rattle.eql_book.specs.Books.{BookState, FitsPipes}
 use Rattle.eql_laws.specs.Books.{greatest_shards}
 use Rattle.eql_stages.specs.Judging.{reads_by}
-use Rattle.eql_stages.specs.Planned.{line_of, planned}
+use Rattle.eql_stages.specs.Planned.{line_of, planned_query}
 use Rattle.eql_lane.specs.Slacks.{nanos_of}
 use Rattle.eql_words.specs.Bounds.{FindIsBounded}
 use Rattle.eql_conductor.specs.declared.plan.RunPlan.{RunPlan}
@@ -138,7 +138,7 @@ returns-in-Ok-clause-read g c =
     were_read g.S.Source.left c.matches_are_counted.ensures.few c.args.find.now c.args.planning.now g.told c.args.lanes.now.items
     (rules_of reads_by c.stages.result c.span.result c.args.lanes.now.items) c.args.rest c.into_parts-mark.result.0 c.into_parts-mark.result.1 c.in-Ok.book
     (search rules) (search rules) few by c.into_parts-mark.ensures.0 c.into_parts-mark.ensures.1 book
-    c.search.result c.search.new.lanes.items (line_of (planned c.args.planning.now.plan)) (nanos_of c.args.find.now.slack) (search rules) (search rules) c.search.ensures.read
+    c.search.result c.search.new.lanes.items (line_of (planned_query c.args.planning.now.plan)) (nanos_of c.args.find.now.slack) (search rules) (search rules) c.search.ensures.read
 
 pub returns-in-Ok-clause-keeps : goal.returns-in-Ok-clause-keeps
 returns-in-Ok-clause-keeps g c =

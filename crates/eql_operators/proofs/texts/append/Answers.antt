@@ -3,7 +3,7 @@ use Rattle.std.specs.Fmt.{signed_decimal}
 use Rattle.std.specs.Str.{chars}
 use Rattle.std.proofs.lemmas.Str.{IsUtf8-string_bytes}
 use Rattle.std.proofs.lemmas.Int.{to_z-of_z}
-use Rattle.eql_check.specs.Functions.{text_of, dotted}
+use Rattle.eql_check.specs.Functions.{text_of, dotted_text}
 use Rattle.eql_operators.proofs.Appending.{appended}
 use Rattle.eql_operators.proofs.texts.append.Goals as goal
 
@@ -25,5 +25,5 @@ returns-in_ok-push_str-in-Text c =
 
 pub returns-in_ok-append_address-in-Ip : goal.returns-in_ok-append_address-in-Ip
 returns-in_ok-append_address-in-Ip c =
-    appended (string_bytes c.args.text.now) (string_bytes c.append_address.new.text) (dotted c.in-Ip.ip) c.args.value.now (IsUtf8-string_bytes c.args.text.now)
+    appended (string_bytes c.args.text.now) (string_bytes c.append_address.new.text) (dotted_text c.in-Ip.ip) c.args.value.now (IsUtf8-string_bytes c.args.text.now)
     c.in_ok-append_address-in-Ip.ensures (ap text_of c.in-Ip.is)

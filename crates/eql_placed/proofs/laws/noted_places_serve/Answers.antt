@@ -1,5 +1,5 @@
 use Rattle.std.proofs.Common.{◌∙◌}
-use Rattle.eql_placed.specs.Placed.{unplaced}
+use Rattle.eql_placed.specs.Placed.{cut_without_places}
 use Rattle.eql_placed.proofs.Noted.{wanted_were_noted, noted_is_placed}
 use Rattle.eql_placed.proofs.laws.noted_places_serve.Goals as goal
 
@@ -11,4 +11,4 @@ returns-clause-placed c = noted_is_placed
 
 pub returns-clause-back : goal.returns-clause-back
 returns-clause-back c = λ run reads t shards cut lists reading is each.
-    noted_is_placed shards (unplaced cut) lists each ∙ c.cuts_have_places.ensures.back run reads t shards cut reading is
+    noted_is_placed shards (cut_without_places cut) lists each ∙ c.cuts_have_places.ensures.back run reads t shards cut reading is

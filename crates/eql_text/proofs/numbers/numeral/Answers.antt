@@ -1,7 +1,7 @@
 use Rattle.std.proofs.Common.{sym, ap, ◌∙◌, arith, rules}
 use Rattle.std.specs.Str.{chars}
 use Rattle.std.specs.Option.{option_map}
-use Rattle.eql_text.specs.Numbers.{numeral, held}
+use Rattle.eql_text.specs.Numbers.{numeral, capped_number}
 use Rattle.eql_text.proofs.Reading.{read_on, read_first, read_more, read_more_none, read_end, saturated}
 use Rattle.eql_text.proofs.numbers.numeral.Goals as goal
 
@@ -10,7 +10,7 @@ loop-c-init c = (
   search rules,
   ap (λ n. read_on c.args.base n (chars c.in_ok-first.rest.now)) (c.from-value.ensures ∙ c.in_ok-to_digit.ensures.value.1)
       ∙ sym (read_first c.args.base c.in_ok-first.first (chars c.in_ok-first.rest.now) c.in_ok-to_digit.ensures.value.0)
-      ∙ ap (λ s. option_map held (numeral c.args.base s)) (sym c.in_ok-first.ensures.characters),
+      ∙ ap (λ s. option_map capped_number (numeral c.args.base s)) (sym c.in_ok-first.ensures.characters),
   c.from-value.type_inv,
 )
 

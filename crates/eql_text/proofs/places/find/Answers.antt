@@ -2,7 +2,7 @@ use Rattle.std.proofs.Common.{◌≡◌, ◌+◌, ◌-◌, ◌≤◌, ◌<◌, l
 use Rattle.std.specs.Str.{chars}
 use Rattle.std.proofs.lemmas.List.{drop-drop}
 use Rattle.eql_text.specs.Placing.{place_from}
-use Rattle.eql_text.specs.Repeats.{listed, move_by}
+use Rattle.eql_text.specs.Repeats.{listed_runs, move_by}
 use Rattle.eql_text.proofs.Finding.{place_here}
 use Rattle.eql_text.proofs.Laying.{met_whole, met_part}
 use Rattle.eql_text.proofs.Repeating.{move_positive}
@@ -25,7 +25,7 @@ pub returns-in_err-next-clause-place : goal.returns-in_err-next-clause-place
 returns-in_err-next-clause-place c =
     let window = chars c.places.laid.window.now in
     let t = chars c.args.t.now in
-    let rs = listed c.of-runs.result in
+    let rs = listed_runs c.of-runs.result in
     let below = c.of-runs.result.below in
     let m = c.meet-met.result.met in
     let no_place = none_before c.args.fold window t rs below m c.of-runs.ensures.known c.meet-met.ensures.meets
@@ -51,7 +51,7 @@ places-preserved c =
     let next = chars c.in_ok-next.next.window.now in
     let near = chars c.pass_unlike-near.result.laid.window.now in
     let t = chars c.args.t.now in
-    let rs = listed c.of-runs.result in
+    let rs = listed_runs c.of-runs.result in
     let below = c.of-runs.result.below in
     let m = c.meet-met.result.met in
     let by = c.step-step.result.by in
@@ -94,5 +94,5 @@ pass_unlike-near-requires-clause-meets c =
     let next = chars c.in_ok-next.next.window.now in
     let t = chars c.args.t.now in
     let rest : next ≡ drop c.step-step.result.by window = c.in_ok-next.ensures.window ∙ ap (drop c.step-step.result.by) (ap chars c.meet-met.ensures.window) in
-    met_next c.args.fold window next t (listed c.of-runs.result) c.of-runs.result.below c.meet-met.result.met c.step-step.result.by c.in_ok-next.next.met
+    met_next c.args.fold window next t (listed_runs c.of-runs.result) c.of-runs.result.below c.meet-met.result.met c.step-step.result.by c.in_ok-next.next.met
     c.of-runs.ensures.known c.meet-met.ensures.meets c.step-step.ensures.by (c.in_ok-next.ensures.met ∙ c.step-step.ensures.kept) rest

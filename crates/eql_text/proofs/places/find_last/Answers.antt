@@ -3,7 +3,7 @@ use Rattle.std.specs.Option.{option_or}
 use Rattle.std.specs.Str.{chars}
 use Rattle.eql_text.specs.Comparing.{starts}
 use Rattle.eql_text.specs.Placing.{last_place_from}
-use Rattle.eql_text.specs.Repeats.{listed, move_by}
+use Rattle.eql_text.specs.Repeats.{listed_runs, move_by}
 use Rattle.eql_text.proofs.Laying.{met_whole, met_part}
 use Rattle.eql_text.proofs.Repeating.{move_positive}
 use Rattle.eql_text.proofs.Searching.{met_next, none_behind, not_true, last_on, last_end}
@@ -14,7 +14,7 @@ pub returns-in_default : goal.returns-in_default
 returns-in_default c =
     let window = chars c.places.laid.window.now in
     let t = chars c.args.t.now in
-    let rs = listed c.of-runs.result in
+    let rs = listed_runs c.of-runs.result in
     let below = c.of-runs.result.below in
     let m = c.meet-met.result.met in
     let found : c.if-ended.found ≡ cond (starts c.args.fold window t) (Some c.places.place) c.places.found = elim c.if-ended.branch [
@@ -44,7 +44,7 @@ places-preserved c =
     let window = chars c.places.laid.window.now in
     let next = chars c.in-Some.next.window.now in
     let t = chars c.args.t.now in
-    let rs = listed c.of-runs.result in
+    let rs = listed_runs c.of-runs.result in
     let below = c.of-runs.result.below in
     let m = c.meet-met.result.met in
     let by = c.step-step.result.by in

@@ -8,7 +8,7 @@ use Rattle.eql_values.specs.Masks.{has_after}
 use Rattle.eql_laws.specs.Slots.{chain_coming}
 use Rattle.eql_auto.specs.Kept.{IsRoom}
 use Rattle.eql_auto.specs.Machine.{Machine, Sequence, ComesAfter, act_of, chains_of, slot_at, slot_after, stages, stages_in, tags_of}
-use Rattle.eql_auto.specs.Moves.{chain_in, come}
+use Rattle.eql_auto.specs.Moves.{chain_in, coming_to}
 use Rattle.eql_auto.proofs.Turning.{few_tags, still_later, same_many, spare_left, tag_count, total, ceased_in_all, emptied_length, begun_length, turned, answered, chain_arrived, chain_after, slots_go_on, answer_goes_on, later_after, all_by_stage}
 use Rattle.eql_auto.proofs.auto.Auto.turn.Goals as goal
 
@@ -91,7 +91,7 @@ returns-clause-answer g c =
     (answered c.self.inside.span c.args.order c.args.mask c.args.until c.self.inside.table c.empty_at_end.new.table c.empty_at_end.ensures.slots
     (length c.self.inside.table) c.args.tag c.begin_new-begun.result c.advance_all-completed.result c.or.result c.requires.tagged
     (c.begin_new-begun.ensures.answer ∙ ap (λ (n : ℕ). cond (0 == n) (option_map (λ _. c.args.order ∷ []) c.args.tag) None) advanced_len)
-    (c.advance_all-completed.ensures.answer ∙ ap (λ (n : ℕ). chain_in (come c.self.inside.span c.args.order c.args.mask c.empty_at_end.new.table (suc n))) emptied_len) c.or.ensures
+    (c.advance_all-completed.ensures.answer ∙ ap (λ (n : ℕ). chain_in (coming_to c.self.inside.span c.args.order c.args.mask c.empty_at_end.new.table (suc n))) emptied_len) c.or.ensures
     ∙ chain_arrived c.self.inside.span c.args.tag act c.self.inside.table (suc (length c.self.inside.table)) c.requires.tagged)
 
 pub returns-clause-after : goal.returns-clause-after

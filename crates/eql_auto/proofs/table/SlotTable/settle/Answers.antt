@@ -1,12 +1,12 @@
 use Rattle.std.proofs.Common.{Some, ap, ◌∙◌, sym, arith}
 use Rattle.std.proofs.lemmas.List.{set_past}
-use Rattle.eql_auto.specs.Kept.{shown}
+use Rattle.eql_auto.specs.Kept.{sequence_views}
 use Rattle.eql_auto.proofs.Written.{shown_set, shown_length, tags_written, kept_set, comes_out, stays_in}
 use Rattle.eql_auto.proofs.table.SlotTable.settle.Goals as goal
 
 pub returns-clause-slots : goal.returns-clause-slots
 returns-clause-slots g c =
-    ap shown c.replace_slot-older.ensures.left ∙ shown_set c.self.inside.slots.items c.args.self.now c.args.place (Some c.args.pending) c.self.view_is
+    ap sequence_views c.replace_slot-older.ensures.left ∙ shown_set c.self.inside.slots.items c.args.self.now c.args.place (Some c.args.pending) c.self.view_is
 
 pub returns-clause-ceased : goal.returns-clause-ceased
 returns-clause-ceased g c =

@@ -1,6 +1,6 @@
 use Rattle.std.proofs.Common.{◌≡◌, [], None, refl, sym, ap, ◌∙◌, subst}
 use Rattle.eql_lane.specs.Judging.{KeptView}
-use Rattle.eql_lane.specs.Lanes.{begun}
+use Rattle.eql_lane.specs.Lanes.{beginning_lane}
 use Rattle.eql_lane.specs.Noting.{placed_cut, LinesAscend}
 use Rattle.eql_lane.specs.Starts.{MayBegin}
 use Rattle.eql_lane.specs.Views.{LaneView}
@@ -26,4 +26,4 @@ returns-in-Ok-clause-made g c =
     let same : c.placed.result ≡ placed_cut finds.first c.args.cut = c.placed.ensures ∙ noted_cut finds.first c.args.wanted c.in-Ok.places c.args.cut finds.located.places_are c.requires.cut.named in
     lifts_of g.S.Source.left g.S.Source.lent_as g.S.Source.fault_count c.args.source c.seek.new.source c.args.reader c.args.shard c.args.slack c.args.cut c.args.wanted c.in-Ok.places
     (sought.passed refl) (sought.ended refl) (sought.steady (λ e. cc)) finds c.placed.result same c.begin.result
-    (c.begin.ensures.lane ∙ ap (λ (k : KeptView). let v : LaneView g.row.S.Denot g.row.L.Denot = record { source = c.seek.new.source; reader = c.args.reader; shard = c.args.shard; slack = k.slack; buffer = record { long = None; unread = [] }; places = c.in-Ok.places; state = begun k.cut (g.S.Source.fault_count c.seek.new.source) } in v) c.of-kept.ensures)
+    (c.begin.ensures.lane ∙ ap (λ (k : KeptView). let v : LaneView g.row.S.Denot g.row.L.Denot = record { source = c.seek.new.source; reader = c.args.reader; shard = c.args.shard; slack = k.slack; buffer = record { long = None; unread = [] }; places = c.in-Ok.places; state = beginning_lane k.cut (g.S.Source.fault_count c.seek.new.source) } in v) c.of-kept.ensures)

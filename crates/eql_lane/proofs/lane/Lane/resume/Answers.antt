@@ -1,6 +1,6 @@
 use Rattle.std.proofs.Common.{◌≡◌, ℕ, List, [], None, refl, ap, ◌∙◌, subst}
 use Rattle.eql_lane.specs.Judging.{KeptView}
-use Rattle.eql_lane.specs.Lanes.{begun}
+use Rattle.eql_lane.specs.Lanes.{beginning_lane}
 use Rattle.eql_lane.specs.Noting.{placed_lines}
 use Rattle.eql_lane.specs.Starts.{Begins}
 use Rattle.eql_lane.specs.Views.{LaneView}
@@ -14,4 +14,4 @@ returns-in-Ok-clause-made g c =
     subst (λ (places : List (ℕ × ℕ)). Begins g.S.Source.left g.S.Source.lent_as g.S.Source.fault_count c.args.source c.args.reader c.args.shard c.args.slack c.args.cut places c.begin.result) none
     (begins_of g.S.Source.left g.S.Source.lent_as g.S.Source.fault_count c.args.source c.seek.new.source c.args.reader c.args.shard c.args.slack c.args.cut c.in-Ok.places
     (sought.passed refl) (sought.ended refl) (sought.steady (λ e. cc)) c.begin.result
-    (c.begin.ensures.lane ∙ ap (λ (k : KeptView). let v : LaneView g.row.S.Denot g.row.L.Denot = record { source = c.seek.new.source; reader = c.args.reader; shard = c.args.shard; slack = k.slack; buffer = record { long = None; unread = [] }; places = c.in-Ok.places; state = begun k.cut (g.S.Source.fault_count c.seek.new.source) } in v) c.of-kept.ensures))
+    (c.begin.ensures.lane ∙ ap (λ (k : KeptView). let v : LaneView g.row.S.Denot g.row.L.Denot = record { source = c.seek.new.source; reader = c.args.reader; shard = c.args.shard; slack = k.slack; buffer = record { long = None; unread = [] }; places = c.in-Ok.places; state = beginning_lane k.cut (g.S.Source.fault_count c.seek.new.source) } in v) c.of-kept.ensures))

@@ -6,7 +6,7 @@ use Rattle.eql_query.specs.Tree as tree
 use Rattle.eql_query.specs.View.{trees_of}
 use Rattle.eql_parser.specs.Marks.{Lacks, mark_kind}
 use Rattle.eql_parser.specs.Answering.{node_tree, nodes_trees, onto, room, inner, operand, joint_test, joint_mark, call_read}
-use Rattle.eql_parser.specs.Reading.{then_do, res_map, separated, joined, closing, is_or, is_and, adds_of, multiplies_of, unary, prod, neg, conj}
+use Rattle.eql_parser.specs.Reading.{then_do, res_map, separated, joined_operands, closing, is_or, is_and, adds_of, multiplies_of, unary, prod, neg, conj}
 use Rattle.eql_parser.proofs.Defaults.{length_kinds}
 use Rattle.eql_parser.proofs.Lacking.{lacks_or, unclosed}
 use Rattle.eql_parser.proofs.Separated.{stops_as, stops_then, stops_map, goes_on, ends_there, stops_there, runs_out}
@@ -72,7 +72,7 @@ expr_of-returns-clause-answers t c =
 
 pub expr_of-returns-in_err-first-clause-answers : goal.expr_of-returns-in_err-first-clause-answers
 expr_of-returns-in_err-first-clause-answers t c =
-    let p = err_from_is_err_and c.from_residual.result c.from_residual.ensures.1 in rw (p.1, p.2) (stops_as _ _ _ (sym (expr_level c.args.parens c.args.levels (kinds c.args.tokens.now))) (stops_then _ _ (joined is_or tree.or (conj (room c.args.parens) (inner c.args.parens)) c.args.levels) c.in_err-first.ensures.answers))
+    let p = err_from_is_err_and c.from_residual.result c.from_residual.ensures.1 in rw (p.1, p.2) (stops_as _ _ _ (sym (expr_level c.args.parens c.args.levels (kinds c.args.tokens.now))) (stops_then _ _ (joined_operands is_or tree.or (conj (room c.args.parens) (inner c.args.parens)) c.args.levels) c.in_err-first.ensures.answers))
 
 pub expr_of-returns-in_default-clause-answers : goal.expr_of-returns-in_default-clause-answers
 expr_of-returns-in_default-clause-answers t c =

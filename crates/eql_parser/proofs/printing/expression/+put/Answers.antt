@@ -2,7 +2,7 @@ use Rattle.std.proofs.Common.{◌≡◌, ◌++◌, ◌∷◌, codes, if◌then�
 use Rattle.std.proofs.lemmas.Result.{on_ok_weaker}
 use Rattle.std.specs.Str.{chars}
 use Rattle.eql_parser.specs.Adding.{Adds}
-use Rattle.eql_parser.specs.Printed.{shown, all_shown, patterns_shown, literals_shown}
+use Rattle.eql_parser.specs.Printed.{tree_shown, all_shown, patterns_shown, literals_shown}
 use Rattle.eql_query.specs.View.{tree, trees, trees_of}
 use Rattle.std.proofs.lemmas.Str.{IsUtf8-from_ascii}
 use Rattle.eql_parser.proofs.Lists.{joined}
@@ -13,20 +13,20 @@ pub put_all-loop-item-preserved : goal.put_all-loop-item-preserved
 put_all-loop-item-preserved t c = (
   IsUtf8-from_ascii c.args.between.now (each_ascii c.args.between.now (search rules)),
   search rules,
-  joined (λ e. shown (tree e)) (λ es. all_shown c.args.between.now (trees_of (map tree es))) c.args.between.now (λ x rest. refl) (λ x y ys rest. refl) _ c.loop-item.item-index
+  joined (λ e. tree_shown (tree e)) (λ es. all_shown c.args.between.now (trees_of (map tree es))) c.args.between.now (λ x rest. refl) (λ x y ys rest. refl) _ c.loop-item.item-index
       c.item-item.result c.loop-item.separator.now c.args.page.now c.loop-item.page _ _ (search rules) c.item-item.is c.loop-item.invariant.2 c.in_ok-put.ensures c.in_ok-put_expr.ensures,
 )
 
 pub put_left-returns : goal.put_left-returns
 put_left-returns t c =
     on_ok_weaker c.put_expr.result
-    (λ (h : Adds c.put.new.self c.put_expr.new.page (shown (tree c.args.a.now))). λ rest. h rest ∙ c.in_ok-put.ensures (shown (tree c.args.a.now) rest))
+    (λ (h : Adds c.put.new.self c.put_expr.new.page (tree_shown (tree c.args.a.now))). λ rest. h rest ∙ c.in_ok-put.ensures (tree_shown (tree c.args.a.now) rest))
     c.put_expr.ensures
 
 pub put_behind-returns : goal.put_behind-returns
 put_behind-returns t c =
     on_ok_weaker c.put-2.result
-    (λ (h : Adds c.put_expr.new.page c.put-2.new.self (λ rest. 41 ∷ rest)). λ rest. h rest ∙ c.in_ok-put_expr.ensures (41 ∷ rest) ∙ c.in_ok-put.ensures (shown (tree c.args.a.now) (41 ∷ rest)))
+    (λ (h : Adds c.put_expr.new.page c.put-2.new.self (λ rest. 41 ∷ rest)). λ rest. h rest ∙ c.in_ok-put_expr.ensures (41 ∷ rest) ∙ c.in_ok-put.ensures (tree_shown (tree c.args.a.now) (41 ∷ rest)))
     c.put-2.ensures
 
 pub put_pattern-returns : goal.put_pattern-returns

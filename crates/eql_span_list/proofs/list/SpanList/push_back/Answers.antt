@@ -1,7 +1,7 @@
 use Rattle.std.proofs.Common.{List, [], ◌∷◌, ◌++◌, refl, ap, ◌∙◌, subst, append-nil}
 use Rattle.std.specs.declared.option.Option.TheVariants.{Some}
 use Rattle.eql_span_list.specs.declared.node.Ticket.{Ticket}
-use Rattle.eql_span_list.specs.PlacedNode.{placed, places, IsApart}
+use Rattle.eql_span_list.specs.PlacedNode.{placed_node, places, IsApart}
 use Rattle.eql_span_list.specs.Entries.{IsAbsent}
 use Rattle.eql_span_list.specs.Chain.{entries, next_set, end_set}
 use Rattle.eql_span_list.proofs.Relinked.{added, chained_as}
@@ -30,4 +30,4 @@ pub returns-in-Ok-clause-fresh : goal.returns-in-Ok-clause-fresh
 returns-in-Ok-clause-fresh g c =
     let l = c.self.inside.links in let put = c.put-ticket in
     subst (λ seen. IsAbsent seen put.result) (append-nil (entries l.store.nodes) ∙ c.self.view_is)
-    (absent_others l.store.nodes (placed put.result.pointer c.from_box.result.value) [] (subst (λ ns. IsApart (places ns)) put.ensures put.new.self.apart))
+    (absent_others l.store.nodes (placed_node put.result.pointer c.from_box.result.value) [] (subst (λ ns. IsApart (places ns)) put.ensures put.new.self.apart))

@@ -32,7 +32,7 @@ use Rattle.std_alloc.proofs.RcSteps.{word, word-Good}
 use Rattle.std_heap.specs.contracts.Global as heap
 use Rattle.std_heap.proofs.Global.TheLaws as heap_laws
 use Rattle.std_heap.specs.contracts.GlobalAllocator.TheImpl.{ghosts}
-use Rattle.eql_span_list.specs.PlacedNode.{PlacedNode, placed, IsApart, HasNodeAt, HoldsAtNode, places, with_node}
+use Rattle.eql_span_list.specs.PlacedNode.{PlacedNode, placed_node, IsApart, HasNodeAt, HoldsAtNode, places, with_node}
 use Rattle.eql_span_list.specs.Lends.{with_at}
 use Rattle.eql_span_list.specs.Ownership.{frees, node_owns, nodes_own}
 use Rattle.eql_span_list.proofs.Apart.{with_node-cut, same_node}
@@ -56,7 +56,7 @@ module _ (R : RattleType) {M : Type 1} {𝓤 : Ura M} (𝓛 : Logic 𝓤) (d : (
       → (w : (N R).Denot) → ent 𝓤 (sep 𝓤 (sem 𝓛 ((mem (N R)).own_at w pb po)) (sem 𝓛 Rest)) (sem 𝓛 ((mem (store.the_row R)).own_at (with_at d t w) b o))
   unfolding part_of
   back t pb po cut at e w =
-      let m : PlacedNode R.Denot = placed n.place w in
+      let m : PlacedNode R.Denot = placed_node n.place w in
       let written : with_node t w d.nodes ≡ xs ++ m ∷ ys = (λ i. with_node (sym at i) w (cut i)) ∙ with_node-cut xs n ys w (subst (λ ns. IsApart (places ns)) cut d.apart) in
       qed 𝓛 (‵ (part_at (N R) full_share w pb po) ∷ ‵ Rest ∷ []) ∵ rewrite ! 0 (λ (p : Ptr). ‵ (lies_at (N R) full_share p w)) (sym e) refl $
       move ! (1 ∷ []) $ fsplit ! $ move ! (2 ∷ 0 ∷ []) $ fjoin ! $ move ! (1 ∷ []) $ fsplit3 ! $ move ! (3 ∷ 0 ∷ []) $

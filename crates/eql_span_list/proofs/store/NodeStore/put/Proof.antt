@@ -25,7 +25,7 @@ use Rattle.std_alloc.proofs.RcSteps.{word, word-Good}
 use Rattle.std_heap.specs.contracts.Global as heap
 use Rattle.std_heap.proofs.Global.TheLaws as heap_laws
 use Rattle.std_heap.specs.contracts.GlobalAllocator.TheImpl.{ghosts}
-use Rattle.eql_span_list.specs.PlacedNode.{PlacedNode, placed}
+use Rattle.eql_span_list.specs.PlacedNode.{PlacedNode, placed_node}
 use Rattle.eql_span_list.specs.Ownership.{nodes_own}
 use Rattle.eql_span_list.proofs.Apart.{IsFresh, apart_push}
 use Rattle.eql_span_list.proofs.Memory.{N, knows, fresh, own_push}
@@ -47,7 +47,7 @@ put_spec 𝓤 𝓛 𝓜 𝓡 wired T L =
     let b : ℕ = z.0.3.0.ref_ptr.0 in let o : ℕ = z.0.3.0.ref_ptr.1 in let d : Row.Denot = z.0.3.0.now in let block : Lr.Denot = z.0.3.1.0 in
     qed 𝓛 (((‵ (flft κ qs.0) ⊛ ‵ others) ⊛ ‵ (owns (types_at En.signature.params κs) z.0.3 z.0.4)) ∷ raw ((c κs z.0.3).requires z.1) ∷ []) ∵
     split ! $ move ! (1 ∷ []) $ fsplit ! $ fsplit3 ! $ feq_l ! (λ e0. move ! (2 ∷ []) $ fsplit ! $ loose_out (N R) Z LZ ghosts ! block z.0.4.1.0 (λ pb po h at e1 fits.
-    let p : Ptr = block_ptr pb po in let n : PlacedNode T.Denot = placed p block.value in let w : Val = both (vptr pb po) h in
+    let p : Ptr = block_ptr pb po in let n : PlacedNode T.Denot = placed_node p block.value in let w : Val = both (vptr pb po) h in
     move ! (5 ∷ []) $ split ! $ keep ! (5 ∷ 6 ∷ 0 ∷ 1 ∷ 2 ∷ []) $
     suffices ! (Run (vptr b o ∷ w ∷ [])) (subst (λ (us : List Val × List Val). ent 𝓤 (Run (vptr b o ∷ w ∷ [])) (Run (us.0 ++ (us.1 ++ [])))) (λ i. (sym e0 i, sym e1 i)) (id⊢ 𝓤 (Run (vptr b o ∷ w ∷ [])))) $
     enter ! 𝓣.C 𝓣.Λ fn (vptr b o ∷ w ∷ []) Post $ alloc_all ! (λ l. pass_all ! refl ((tt, tt), (loose_good (N R) Z LZ ghosts pb po h fits, tt)) $

@@ -25,7 +25,7 @@ use Rattle.std_alloc.proofs.RcSteps.{word, word-Good}
 use Rattle.std_heap.specs.contracts.Global as heap
 use Rattle.std_heap.proofs.Global.TheLaws as heap_laws
 use Rattle.std_heap.specs.contracts.GlobalAllocator.TheImpl.{ghosts}
-use Rattle.eql_span_list.specs.PlacedNode.{PlacedNode, placed, IsApart, HasNodeAt, HoldsAtNode, places}
+use Rattle.eql_span_list.specs.PlacedNode.{PlacedNode, placed_node, IsApart, HasNodeAt, HoldsAtNode, places}
 use Rattle.eql_span_list.specs.Ownership.{node_owns, nodes_own}
 use Rattle.eql_span_list.proofs.Apart.{apart_without, same_node}
 use Rattle.eql_span_list.proofs.Memory.{N, own_cut, no_block}
@@ -56,7 +56,7 @@ take_spec 𝓤 𝓛 𝓜 𝓡 wired T L =
     enter ! 𝓣.C 𝓣.Λ fn us Post $ alloc_all ! (λ l. pass_all ! refl ((tt, tt), (fits, (word-Good [] t, tt))) $
     opens ! tt Row {h = d} b o (λ vs. move ! (1 ∷ []) $ fsplit ! $ move ! (1 ∷ []) $ rewrite ! 0 (λ (ns : List (PlacedNode T.Denot)). ‵ (nodes_own R ns)) asked.3 refl $
     use1 𝓛 (‵ (node_owns R n) ⊛ ‵ (nodes_own R (xs ++ ys))) (own_cut R 𝓛 xs n ys) $ split ! $
-    in_a_block ! n.place (λ p. node_owns R (placed p n.node)) (no_block R 𝓛 n.node) (λ pb po ep.
+    in_a_block ! n.place (λ p. node_owns R (placed_node p n.node)) (no_block R 𝓛 n.node) (λ pb po ep.
     -- [the block; the others; the marker; the cell; the open borrow, in three entries; the other token; the handle]
     let p : Ptr = block_ptr pb po in let w : Val = both (vptr pb po) h in let typed = loose_good (N R) Z LZ ghosts pb po h fits in
     let new : Row.Denot = record { marker = d.marker; nodes = xs ++ ys; apart = apart_without xs n ys (subst (λ ns. IsApart (places ns)) asked.3 d.apart) } in

@@ -3,7 +3,7 @@ use Rattle.std.specs.Prelude.{Result, Ok, Err, OnOk}
 use Rattle.eql_values.specs.declared.item.Route.{Route}
 use Rattle.eql_values.specs.declared.memory.Memory.{Memory}
 use Rattle.eql_stages.specs.Given.{routes_by}
-use Rattle.eql_stages.specs.Judging.{judged, given_by, until_by, said_to}
+use Rattle.eql_stages.specs.Judging.{judged_key, given_by, until_by, said_to}
 use Rattle.eql_stages.specs.declared.judge.Judge.{Judge}
 use Rattle.eql_stages.proofs.Made.{said_end}
 use Rattle.eql_stages.proofs.judges.Judges.say.Goals as goal
@@ -17,7 +17,7 @@ returns-in-Some-clause-said c =
     let categories = c.args.event.now.categories in
     let slots = c.args.event.now.slots in
     let given = given_by categories slots c.args.self.now.items.items in
-    let until = judged categories slots c.in-Some.until in
+    let until = judged_key categories slots c.in-Some.until in
     then c.say.result
     (λ e. e
     ∙ ap (λ (l : List Route). said_to until (record { low = 0; high = 0 }) true l) c.in_ok-say_stages.ensures.said

@@ -2,7 +2,7 @@ use Rattle.std.proofs.Common.{◌≡◌, ◌≤◌, ◌<◌, ◌+◌, ℕ, List,
 use Rattle.std.proofs.lemmas.Bool.{leb-true}
 use Rattle.eql_values.specs.declared.item.Route.{Route}
 use Rattle.eql_stages.specs.Given.{routes_by}
-use Rattle.eql_stages.specs.Judging.{judged, given_by, said_to, has_stage}
+use Rattle.eql_stages.specs.Judging.{judged_key, given_by, said_to, has_stage}
 use Rattle.eql_stages.specs.declared.judge.Judge.{Judge}
 use Rattle.eql_stages.proofs.Made.{said_judge, items_on, stages_on, one_of_all}
 use Rattle.eql_stages.proofs.judges.Judges.say_stages.Goals as goal
@@ -21,7 +21,7 @@ loop-judge-preserved c =
     record {
       said =
           c.in_ok-say.ensures.said
-          ∙ ap (λ (l : List Route). said_to (judged categories slots judge) mask false l) c.loop-judge.invariant.said
+          ∙ ap (λ (l : List Route). said_to (judged_key categories slots judge) mask false l) c.loop-judge.invariant.said
           ∙ said_judge categories slots (take i judges) judge c.loop-judge.place judge.runs mask (sym c.loop-judge.invariant.place) refl some
           c.stages_between-mask.ensures.low c.stages_between-mask.ensures.high
           ∙ ap (λ (l : List Judge). routes_by (given_by categories slots l) None) (sym (items_on judges i judge under is));

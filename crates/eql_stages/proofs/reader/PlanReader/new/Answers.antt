@@ -1,13 +1,13 @@
 use Rattle.std.proofs.Common.{sym, subst, ◌∙◌}
 use Rattle.eql_stages.specs.Compiling.{JudgeAll, JudgesEnd}
-use Rattle.eql_stages.specs.Planned.{planned}
+use Rattle.eql_stages.specs.Planned.{planned_query}
 use Rattle.eql_stages.specs.Stages.{stages_in, until_in}
 use Rattle.eql_stages.proofs.Made.{reader_is}
 use Rattle.eql_stages.proofs.reader.PlanReader.new.Goals as goal
 
 pub returns : goal.returns
 returns c =
-    let plan = planned c.args.plan.now in
+    let plan = planned_query c.args.plan.now in
     reader_is (record { wanted = c.in_ok-new.field-0; judges = c.in_ok-judges.judges.items.items; until = c.in_ok-judges.judges.until }) plan
     ((c.in_ok-new.ensures {u = tt}) ∙ (c.in_ok-wanted.ensures {u = tt}))
     (subst (JudgeAll plan.fields (stages_in plan.query.body)) (sym c.in_ok-judges.ensures.cases.0) c.judges.ensures.judge)

@@ -1,7 +1,7 @@
 use Rattle.std.proofs.Common.{◌≡◌, ◌+◌, ◌-◌, length, drop, ap, ◌∙◌, arith}
 use Rattle.std.specs.Str.{chars}
 use Rattle.std.proofs.lemmas.List.{length-drop, drop-drop}
-use Rattle.eql_text.specs.Repeats.{listed}
+use Rattle.eql_text.specs.Repeats.{listed_runs}
 use Rattle.eql_text.proofs.Characters.{fewer_chars}
 use Rattle.eql_text.proofs.Searching.{met_next, met_within, known_next}
 use Rattle.eql_text.proofs.repeats.Runs.of.Goals as goal
@@ -67,6 +67,6 @@ places-preserved c =
       window = rest ∙ ap (drop by) c.places.invariant.window ∙ drop-drop by at t ∙ ap (λ k. drop k t) there;
       within = omega (arith, there, ap length c.places.invariant.window, length-drop at t, c.places.invariant.within, c.in-Some-move_on.ensures.enough, ap length (ap chars c.meet-met.ensures.window));
       laid = c.in-Some-move_on.ensures.laid;
-      meets = met_next c.args.fold window (chars c.in-Some-move_on.next.window.now) t (listed c.note.new.self) c.note.new.self.below c.meet-met.result.met by c.in-Some-move_on.next.met
+      meets = met_next c.args.fold window (chars c.in-Some-move_on.next.window.now) t (listed_runs c.note.new.self) c.note.new.self.below c.meet-met.result.met by c.in-Some-move_on.next.met
           next.0 c.meet-met.ensures.meets c.step-step.ensures.by (c.in-Some-move_on.ensures.met ∙ c.step-step.ensures.kept) rest;
     }

@@ -4,7 +4,7 @@ use Rattle.eql_turn_lock.specs.declared.slot.LastCall.{LastCall}
 use Rattle.eql_turn_lock.specs.declared.view.View.{View}
 use Rattle.eql_turn_lock.specs.History.{entry}
 use Rattle.eql_turn_lock.specs.Passes.{is_live}
-use Rattle.eql_turn_lock.specs.Rule.{played}
+use Rattle.eql_turn_lock.specs.Rule.{view_after}
 use Rattle.std.specs.Prelude.{is_some}
 use Rattle.eql_turn_lock.proofs.Keeps.{inject, ends_turn_now}
 use Rattle.eql_turn_lock.proofs.Turns.{carries_one, exchanged_one, same_held, may_play_now, open_or_first, has_played, turn_counted}
@@ -74,7 +74,7 @@ returns-clause-played g c = let t = c.requires.turn in let op = c.args.op in
     let steps : g.T.Turned.step_of c.unwrap-value.result op c.play-reply.result c.play-reply.new.self = search rules in
     has_played g.T.Turned.allows g.T.Turned.step_of g.T.Turned.is_open c.args.word c.args.seat.now.me op c.play-reply.result c.play-reply.new.self c.store.new.seat.me.0 t c.requires.may
     (subst (λ x. g.T.Turned.step_of x op c.play-reply.result c.play-reply.new.self) is steps)
-    (ap (λ m. m.0) done ∙ (λ i. played t.log (entry (same i).number (asked i) (answered i)) (same i)))
+    (ap (λ m. m.0) done ∙ (λ i. view_after t.log (entry (same i).number (asked i) (answered i)) (same i)))
 
 pub returns-clause-counted : goal.returns-clause-counted
 returns-clause-counted g c = let t = c.requires.turn in let op = c.args.op in
