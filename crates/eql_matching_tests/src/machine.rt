@@ -7,7 +7,7 @@ use std::alloc::Global;
 
 /// Sequences of so many stages, of which there are so many sets, with this span in nanoseconds, and whether an event ends
 /// the key.
-struct Shape {
+struct Sequences {
     stages: u32,
     sets: u128,
     span: Option<i128>,
@@ -15,9 +15,9 @@ struct Shape {
 }
 
 /// Sequences of some stages.
-macro_rules! shape {
+macro_rules! sequences {
     ($stages:expr, $sets:expr, $span:expr, $until:expr) => {
-        Shape {
+        Sequences {
             stages: $stages,
             sets: $sets,
             span: $span,
@@ -28,27 +28,27 @@ macro_rules! shape {
 
 /// Sequences of one to four stages, with and without an event that ends the key, and with and without a span that some
 /// chains exceed.
-static SHAPES: &[Shape] = &[
-    shape!(1, 2, None, false),
-    shape!(1, 2, Some(1), false),
-    shape!(1, 2, None, true),
-    shape!(1, 2, Some(1), true),
-    shape!(2, 4, None, false),
-    shape!(2, 4, Some(2), false),
-    shape!(2, 4, None, true),
-    shape!(2, 4, Some(2), true),
-    shape!(3, 8, None, false),
-    shape!(3, 8, Some(3), false),
-    shape!(3, 8, None, true),
-    shape!(3, 8, Some(3), true),
-    shape!(4, 16, None, false),
-    shape!(4, 16, Some(4), false),
-    shape!(4, 16, None, true),
-    shape!(4, 16, Some(4), true),
+static SEQUENCES: &[Sequences] = &[
+    sequences!(1, 2, None, false),
+    sequences!(1, 2, Some(1), false),
+    sequences!(1, 2, None, true),
+    sequences!(1, 2, Some(1), true),
+    sequences!(2, 4, None, false),
+    sequences!(2, 4, Some(2), false),
+    sequences!(2, 4, None, true),
+    sequences!(2, 4, Some(2), true),
+    sequences!(3, 8, None, false),
+    sequences!(3, 8, Some(3), false),
+    sequences!(3, 8, None, true),
+    sequences!(3, 8, Some(3), true),
+    sequences!(4, 16, None, false),
+    sequences!(4, 16, Some(4), false),
+    sequences!(4, 16, None, true),
+    sequences!(4, 16, Some(4), true),
 ];
 
 /// The event of a line: those of all stages begin and carry on what those of the sets `a` and `b` move and end.
-fn event_of(shape: &Shape, a: u128, b: u128, line: u32) -> Event {
+fn event_of(sequences: &Sequences, a: u128, b: u128, line: u32) -> Event {
     Event {
         line,
         ts: i128::from(line),
@@ -56,17 +56,17 @@ fn event_of(shape: &Shape, a: u128, b: u128, line: u32) -> Event {
         stages: match line {
             2 | 5 => a,
             3 => b,
-            _ => shape.sets.saturating_sub(1),
+            _ => sequences.sets.saturating_sub(1),
         },
-        until: shape.until && line == 3,
+        until: sequences.until && line == 3,
     }
 }
 
 /// Six events, or `None` where memory is short.
-fn events_of(alloc: Global, shape: &Shape, a: u128, b: u128) -> Option<Items> {
+fn events_of(alloc: Global, sequences: &Sequences, a: u128, b: u128) -> Option<Items> {
     let mut items = Vec::new(alloc);
     for line in 1..7 {
-        if !adds_event(alloc, &mut items, &event_of(shape, a, b, line)) {
+        if !adds_event(alloc, &mut items, &event_of(sequences, a, b, line)) {
             return None;
         }
     }
@@ -143,11 +143,11 @@ fn is_found(alloc: Global, run: &Run, matches: &[Match]) -> bool {
 }
 
 /// What the machine plays where these are the events, or `None` where memory is short.
-fn run_of(alloc: Global, shape: &Shape, items: &Items) -> Option<Run> {
+fn run_of(alloc: Global, sequences: &Sequences, items: &Items) -> Option<Run> {
     match acts_of(alloc, items) {
         Some(acts) => Some(Run {
-            stages: shape.stages,
-            span: shape.span,
+            stages: sequences.stages,
+            span: sequences.span,
             acts,
             reaches: &[],
         }),
@@ -156,10 +156,10 @@ fn run_of(alloc: Global, shape: &Shape, items: &Items) -> Option<Run> {
 }
 
 /// Whether the machine finds what the look-back finds by the events.
-fn finds_alike(alloc: Global, shape: &Shape, items: &Items) -> bool {
+fn finds_alike(alloc: Global, sequences: &Sequences, items: &Items) -> bool {
     match (
-        look_back(alloc, shape.stages, shape.span, items),
-        run_of(alloc, shape, items),
+        look_back(alloc, sequences.stages, sequences.span, items),
+        run_of(alloc, sequences, items),
     ) {
         (Some(matches), Some(run)) => is_found(alloc, &run, matches.items()),
         _ => false,
@@ -167,17 +167,17 @@ fn finds_alike(alloc: Global, shape: &Shape, items: &Items) -> bool {
 }
 
 /// Whether both find the same by the events of two sets of stages.
-fn is_alike(alloc: Global, shape: &Shape, a: u128, b: u128) -> bool {
-    match events_of(alloc, shape, a, b) {
-        Some(items) => finds_alike(alloc, shape, &items),
+fn is_alike(alloc: Global, sequences: &Sequences, a: u128, b: u128) -> bool {
+    match events_of(alloc, sequences, a, b) {
+        Some(items) => finds_alike(alloc, sequences, &items),
         None => false,
     }
 }
 
 /// The first set `b` with which they don't find the same.
-fn unlike_with(alloc: Global, shape: &Shape, a: u128) -> Option<u128> {
-    for b in 0..shape.sets {
-        if !is_alike(alloc, shape, a, b) {
+fn unlike_with(alloc: Global, sequences: &Sequences, a: u128) -> Option<u128> {
+    for b in 0..sequences.sets {
+        if !is_alike(alloc, sequences, a, b) {
             return Some(b);
         }
     }
@@ -185,9 +185,9 @@ fn unlike_with(alloc: Global, shape: &Shape, a: u128) -> Option<u128> {
 }
 
 /// The first two sets with which they don't find the same.
-fn unlike_sets(alloc: Global, shape: &Shape) -> Option<(u128, u128)> {
-    for a in 0..shape.sets {
-        if let Some(b) = unlike_with(alloc, shape, a) {
+fn unlike_sets(alloc: Global, sequences: &Sequences) -> Option<(u128, u128)> {
+    for a in 0..sequences.sets {
+        if let Some(b) = unlike_with(alloc, sequences, a) {
             return Some((a, b));
         }
     }
@@ -196,9 +196,9 @@ fn unlike_sets(alloc: Global, shape: &Shape) -> Option<(u128, u128)> {
 
 /// The number of stages, and the first two sets of them, where they don't find the same.
 fn unlike(alloc: Global) -> Option<(u32, u128, u128)> {
-    for shape in SHAPES {
-        if let Some((a, b)) = unlike_sets(alloc, shape) {
-            return Some((shape.stages, a, b));
+    for sequences in SEQUENCES {
+        if let Some((a, b)) = unlike_sets(alloc, sequences) {
+            return Some((sequences.stages, a, b));
         }
     }
     None
