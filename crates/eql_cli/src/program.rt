@@ -53,8 +53,9 @@ pub fn eql_main<R: Threads + Wait + Sync, H: Shelf, K: Sink, E: Sink, G: Gate + 
     mut err: E,
     gate: &G,
 ) -> Ended<K, E>
-    // The headline: on status 0 the output got exactly the listing, from the line after those that the cut counts with which the
-    // run began, and the error output the report. And nothing refuses the run.
+    // The headline: on status 0 the output got exactly the listing, from the line after those that
+    // the cut counts with which the run began, and the error output the report. And nothing
+    // refuses the run.
     ensures done { result.status ≡ 0
         → WroteAll (bytes_of words.now.items) (H.files shelf.old) (H.disk_history shelf.old)
         (K.written out) (K.written result.out) (E.written err) (E.written result.err) }
@@ -76,7 +77,8 @@ pub fn eql_main<R: Threads + Wait + Sync, H: Shelf, K: Sink, E: Sink, G: Gate + 
     ensures refused { (result.status ≡ 1) ⊎ (result.status ≡ 2) ⊎ (result.status ≡ 3)
         ⊎ (result.status ≡ 7) → result.out ≡ out }
 
-    // Nor does the disk come to hold anything that it didn't: each image at each moment is one of those at the start.
+    // Nor does the disk come to hold anything that it didn't: each image at each moment is one of
+    // those at the start.
     ensures cut_kept { (result.status ≡ 1) ⊎ (result.status ≡ 2) ⊎ (result.status ≡ 3)
         ⊎ (result.status ≡ 7)
         → moments.DiskTells (Goes LeavesNoMore)
@@ -107,7 +109,8 @@ pub fn eql_main<R: Threads + Wait + Sync, H: Shelf, K: Sink, E: Sink, G: Gate + 
         → ReachesLimit (bytes_of words.now.items) (H.files shelf.old)
         (H.disk_history shelf.old) (H.disk_history shelf.new) }
 
-    // No fault is passed over, and no absent file: where several faults come at once the read fault is told.
+    // No fault is passed over, and no absent file: where several faults come at once the read
+    // fault is told.
     ensures reads_told { H.fault_count shelf.old < H.fault_count shelf.new → result.status ≡ 4 }
     ensures absences_told { H.absent_count shelf.old < H.absent_count shelf.new
         → result.status ≡ 1 }
@@ -117,8 +120,8 @@ pub fn eql_main<R: Threads + Wait + Sync, H: Shelf, K: Sink, E: Sink, G: Gate + 
         → (result.status ≡ 6) ⊎ (result.status ≡ 4) }
     ensures errors_told { E.fault_count err < E.fault_count result.err → result.status ≢ 0 }
 
-    // A run with good words, files and checkpoint in which nothing fails is done, unless memory ran out; and nothing fails over
-    // objects of which no call is planned to fail.
+    // A run with good words, files and checkpoint in which nothing fails is done, unless memory
+    // ran out; and nothing fails over objects of which no call is planned to fail.
     ensures complete { IsReady (bytes_of words.now.items) (H.files shelf.old)
         (H.disk_history shelf.old)
         → ¬ (Rose (H.fault_count shelf.old) (H.fault_count shelf.new))
@@ -134,8 +137,8 @@ pub fn eql_main<R: Threads + Wait + Sync, H: Shelf, K: Sink, E: Sink, G: Gate + 
         → IsUnfailing (K.fault_plan out) → IsUnfailing (E.fault_plan err)
         → (result.status ≡ 0) ⊎ (result.status ≡ 8) }
 
-    // Where the words, the files or the checkpoint are refused and no read fails, nor the disk, the status is that of the first
-    // cause, unless memory ran out.
+    // Where the words, the files or the checkpoint are refused and no read fails, nor the disk,
+    // the status is that of the first cause, unless memory ran out.
     ensures exact { ¬ (Rose (H.fault_count shelf.old) (H.fault_count shelf.new))
         → (AskDisk (bytes_of words.now.items)
         → ¬ (Rose (H.disk_fault_count shelf.old) (H.disk_fault_count shelf.new)))
@@ -147,8 +150,9 @@ pub fn eql_main<R: Threads + Wait + Sync, H: Shelf, K: Sink, E: Sink, G: Gate + 
     ensures lent { IfSome (H.lent_count shelf.old) (λ n. H.lent_count shelf.new ≡ Some n) }
     ensures back { H.is_out shelf.old ≡ false → H.is_out shelf.new ≡ false }
 
-    // With a checkpoint each image of the disk at each moment stands for what was there, or for a cut of the run, and the lines
-    // that a cut counts were written. Without one the disk is as it was.
+    // With a checkpoint each image of the disk at each moment stands for what was there, or for a
+    // cut of the run, and the lines that a cut counts were written. Without one the disk is as it
+    // was.
     ensures moments { KeepDisk (bytes_of words.now.items) (H.files shelf.old)
         (K.written out) (K.written result.out)
         (H.disk_history shelf.old) (H.disk_history shelf.new) }

@@ -86,7 +86,8 @@ pub fn compile(alloc: Global, expr: &Expr, checked: &Checked) -> Result<Code, Me
     ensures means { IfOk result
         (λ c. (slots : List FieldValue)
         → gives c slots ≡ means (value_at checked.now.fields slots) (tree expr.now)) }
-    // From every stack below, the code leaves that stack with the meaning on top, and no stack is deeper than the depth.
+    // From every stack below, the code leaves that stack with the meaning on top, and no stack is
+    // deeper than the depth.
     ensures leaves { IfOk result
         (λ c. (slots st : List FieldValue)
         → runs slots (length st + c.1) 0 c.0 st

@@ -156,8 +156,8 @@ impl Conductor {
         requires may { MayRun plan.now (B.known bench.old) book.old }
         requires keeps { MayKeepIf D.history D.fault_count plan.now (B.known bench.old) keep.old }
 
-        // What was written, of told texts in the words of the listing, and which cuts were put: their times rise, and the
-        // lines that they count were written.
+        // What was written, of told texts in the words of the listing, and which cuts were put:
+        // their times rise, and the lines that they count were written.
         ensures ran { Ran D.history D.fault_count plan.now (B.known bench.old) (B.known bench.new)
             book.old book.new (K.written sink.old) (K.written sink.new) keep.old keep.new result }
 
@@ -167,7 +167,8 @@ impl Conductor {
             (disk_faults D.history D.fault_count keep.old)
             (disk_faults D.history D.fault_count keep.new) }
 
-        // What stays of the lanes and parts whatever is returned, and that no count or low of a lane falls.
+        // What stays of the lanes and parts whatever is returned, and that no count or low of a
+        // lane falls.
         ensures goes { LanesGo (B.known bench.old) (B.known bench.new) }
         ensures silent { K.written sink.old ≡ None → K.written sink.new ≡ None }
 

@@ -344,9 +344,9 @@ pub fn find_matches<'a, R: Threads + Wait + Sync, H: Shelf, K: Sink, E: Sink, W:
     ensures lent { IfSome (H.lent_count shelf.old) (λ n. H.lent_count shelf.new ≡ Some n) }
     ensures back { H.is_out shelf.old ≡ false → H.is_out shelf.new ≡ false }
 
-    // Without a checkpoint the disk stays as it is; with one each image at each moment stands for what was there, or
-    // for a cut of the run, and the lines that a cut counts were written. Where the files or the cut are refused, each
-    // image at each moment is one of those at the start.
+    // Without a checkpoint the disk stays as it is; with one each image at each moment stands for
+    // what was there, or for a cut of the run, and the lines that a cut counts were written. Where
+    // the files or the cut are refused, each image at each moment is one of those at the start.
     ensures disk_kept { find.now.checkpoint ≡ None
         → (H.disk_history shelf.new ≡ H.disk_history shelf.old)
         × (H.is_out shelf.new ≡ H.is_out shelf.old)

@@ -230,7 +230,8 @@ pub(crate) fn run_lanes<
     requires begins { BeginsRun S.left ⟦<PlanReader as LineReader>⟧.read_of D.history told
         find.now planning.now lanes.old.items rest head keep.old }
 
-    // What is said of texts holds where they are told, and what the run begins with is nothing, or a cut of them.
+    // What is said of texts holds where they are told, and what the run begins with is nothing, or
+    // a cut of them.
     ensures done { OnOk result (IfSome told (λ texts.
         StartsOver told find.now planning.now lanes.old.items rest texts
         → WroteAll (rest_of (search_in find.now planning.now) rest.book.listed texts)

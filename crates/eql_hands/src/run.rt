@@ -125,7 +125,8 @@ pub fn run_hand<S: Source, L: LineReader, G: Ledger, W: Gate>(
     ensures fault { IfSome result.1 (λ fault. MeetsFault S.left S.lent_as S.fault_plan L.read_of
         batch 100000 (2 ^ 40) fault hand result.0) }
 
-    // Where it met no fault, each pass has looked at its lock so often, or all passes together have played so much.
+    // Where it met no fault, each pass has looked at its lock so often, or all passes together
+    // have played so much.
     ensures rest { IfNone result.1 (DidEnough 100000 10000000 hand result.0) }
     ensures bound { HaveMineWithin (2 ^ 40) hand result.0 }
 {

@@ -77,8 +77,8 @@ pub trait Shelf {
             (λ _. lent_count self.new ≡ Some (n + 1)))) }
         ensures lends_none { IsErr result → lent_count self.new ≡ lent_count self.old }
 
-        // The count of faults rises where the call fails, that of absences where no file has the name, and
-        // neither rises elsewhere. Of the counts by name that of this name alone rises.
+        // The count of faults rises where the call fails, that of absences where no file has the
+        // name, and neither rises elsewhere. Of the counts by name that of this name alone rises.
         ensures cause { result ≡ Err OutRefused.Failed
             → Rose (fault_count self.old) (fault_count self.new) }
         ensures cause_named { result ≡ Err OutRefused.Failed
@@ -93,8 +93,8 @@ pub trait Shelf {
         ensures counts { (fault_count self.old ≤ fault_count self.new)
             × (absent_count self.old ≤ absent_count self.new) }
 
-        // A shelf with a plan fails where that says so, but for want of memory, and nowhere else, and so do its
-        // sources.
+        // A shelf with a plan fails where that says so, but for want of memory, and nowhere else,
+        // and so do its sources.
         ensures planned { IfSome (fault_plan self.old) (λ plan.
             (result ≡ Err OutRefused.Failed → FailsNext plan) × (FailsNext plan → IsErr result)) }
         ensures numbered { IfSome (fault_plan self.old)

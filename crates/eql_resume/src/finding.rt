@@ -120,7 +120,8 @@ pub fn find_start<D: Disk>(
     values: u32,
     pipes: &Pipes,
 ) -> Result<FoundCut, StartRefused>
-    // What the disk held is what it was found to hold, whatever image a crash would have left from now on.
+    // What the disk held is what it was found to hold, whatever image a crash would have left from
+    // now on.
     ensures holds { IfOk result (λ start. IfSome (D.history disk.old)
         (λ h. StandsFor (on_of start) (found_on (seen_areas h.now)))) }
     ensures suits { IfOk result (λ start.

@@ -134,7 +134,8 @@ pub fn search<
 ) -> Result<(), Stop>
     ghost told: { Option (List (List ℕ)) }
 
-    // With what it begins. The texts of the lanes are told or not: what is ensured holds for all texts of which they are.
+    // With what it begins. The texts of the lanes are told or not: what is ensured holds for all
+    // texts of which they are.
     requires some { 1 ≤ length lanes.old.items }
     requires few { length lanes.old.items ≤ 256 }
     requires lanes { AreBegun L.read_of lanes.old.items }
@@ -150,8 +151,8 @@ pub fn search<
     requires keeps { MayKeepOn D.history plan.now (length lanes.old.items) keep.old }
     requires hands { hands ≤ 65536 }
 
-    // What was written, over told texts of which the cut is one where there is one, and of which each match has a number.
-    // After a stop that is asked of texts only that shards may have.
+    // What was written, over told texts of which the cut is one where there is one, and of which
+    // each match has a number. After a stop that is asked of texts only that shards may have.
     ensures whole { OnOk result (IfSome told (λ texts.
         BeginsOn (rules_of L.read_of stages span lanes.old.items) book.old.pipes texts
         (start_at plan.now.mark (cuts_of lanes.old.items) holders book.old.kept)
@@ -168,7 +169,8 @@ pub fn search<
         book.old.pipes book.old.places book.old.kept.listed texts)
         (K.written sink.old) (K.written sink.new))) }
 
-    // Which cuts were put on the disk: over such texts they are cuts of them, and the lines that they count were written.
+    // Which cuts were put on the disk: over such texts they are cuts of them, and the lines that
+    // they count were written.
     ensures keeps { KeepsOn D.history plan.now.head plan.now.mark
         (λ cuts. IfSome told (λ texts.
         BeginsOn (rules_of L.read_of stages span lanes.old.items) book.old.pipes texts
