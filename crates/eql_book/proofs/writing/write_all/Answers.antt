@@ -1,4 +1,4 @@
-use Rattle.std.proofs.Common.{refl}
+use Rattle.std.proofs.Common.{refl, rules}
 use Rattle.std.specs.Prelude.{string_bytes}
 use Rattle.eql_book.specs.Books.{let_out}
 use Rattle.eql_book.specs.Gates.{pipes_of}
@@ -14,3 +14,6 @@ returns-in_err-send-clause-part g c =
     (sent_part (string_bytes c.args.page.now.waiting) text text
     (string_bytes c.write_matches.new.page.waiting) (g.K.Sink.written c.args.sink.now) (g.K.Sink.written c.write_matches.new.sink) (g.K.Sink.written c.send.new.sink)
     c.requires refl (c.in_ok-write_matches.ensures {u = tt}).printed (c.in_err-send.ensures {u = tt}).part)
+
+pub returns-clause-empty : goal.returns-clause-empty
+returns-clause-empty g c = search rules

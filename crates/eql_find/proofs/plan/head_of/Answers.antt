@@ -1,3 +1,4 @@
+use Rattle.std.proofs.Common.{rules}
 use Rattle.eql_find.proofs.NamesLemmas.{names_up}
 use Rattle.eql_find.proofs.plan.head_of.Goals as goal
 
@@ -12,3 +13,6 @@ returns-in_err-tie-clause-names c = names_up c.args.planning.now.mapping c.names
 
 pub returns-clause-names : goal.returns-clause-names
 returns-clause-names c = names_up c.args.planning.now.mapping c.names-names.ensures.order
+
+pub returns-clause-head : goal.returns-clause-head
+returns-clause-head c = search rules
