@@ -8,7 +8,7 @@ use Rattle.eql_check.specs.Kinds.{kind_at}
 use Rattle.eql_check.specs.Conditions.{all_items, key_count}
 use Rattle.eql_check.specs.Used.{uses, used_fields, query_fields, AreOnce}
 use Rattle.eql_check.specs.Rules.{has_runs}
-use Rattle.eql_check.specs.Typing.{AreItems, no_items, more_items, IsChecked}
+use Rattle.eql_check.specs.Typing.{AreItems, more_items, IsChecked}
 use Rattle.eql_check.specs.WasChecked.{WasChecked}
 use Rattle.eql_check.specs.RulesKept.{KeepsRules}
 use Rattle.eql_check.proofs.Breaking.{both_true}

@@ -8,7 +8,7 @@ use Rattle.eql_values.specs.declared.value.Kind.TheVariants as kind
 use Rattle.eql_values.specs.declared.value.Value.{Value}
 use Rattle.eql_values.specs.declared.value.Value.TheVariants as value
 use Rattle.eql_text.specs.Addresses.{parse_ip4, parse_block}
-use Rattle.eql_query.specs.Tree.{Tree, Trees, none, more}
+use Rattle.eql_query.specs.Tree.{Tree, Trees, more}
 use Rattle.eql_query.specs.Tree as t
 use Rattle.eql_query.specs.declared.expr.CmpOp.{CmpOp}
 use Rattle.eql_check.specs.declared.function.Function.{Function}

@@ -17,7 +17,7 @@ use Rattle.eql_runs.specs.Files.{Files}
 use Rattle.eql_runs.specs.Refusals.{Names, Refusal, Refuses, refusal_status, refusal_text}
 use Rattle.eql_runs.specs.Refusals as refusal
 use Rattle.eql_runs.specs.RunLaws.{StatusIsOne, WritesOrIsRefused, ReadyIsNotRefused}
-use Rattle.eql_runs.specs.Runs.{AreTrusted, AskDisk, AsksDisk, CanRun, files_for, files_known, Finds, GenerationsEnd, IfFound, IfTold, IsAccepted, IsFindAccepted, IsReady, IsRefused, IsReportOf, files_over, ReachesLimit, limit_text, names_of, IsRefusedAs, RefusesCut, ReportsOn, Runs, Searches, SearchesBeyond, Tells, TellsFront, Trusts, Writes, WroteAll, WroteListing, WroteSome, by_cut, by_disk, by_files, by_shard}
+use Rattle.eql_runs.specs.Runs.{AreTrusted, AskDisk, AsksDisk, CanRun, files_for, files_known, IfFound, IfTold, IsAccepted, IsFindAccepted, IsReady, IsRefused, IsReportOf, files_over, ReachesLimit, limit_text, names_of, IsRefusedAs, RefusesCut, ReportsOn, Runs, SearchesBeyond, Tells, TellsFront, Writes, WroteAll, WroteListing, WroteSome, by_cut, by_disk, by_files, by_shard}
 use Rattle.eql_runs.specs.Runs as runs
 use Rattle.eql_runs.specs.Starts.{DiskHolds, OnDisk}
 use Rattle.eql_inputs.specs.declared.halt.Refused.{Refused}

@@ -1,6 +1,7 @@
 -- How a run goes on from round to round, and how it ends.
 use Rattle.std.proofs.Common.{◌≡◌, ◌≢◌, inl, ◌≤◌, ◌<◌, ◌+◌, ◌*◌, ◌^◌, ℕ, suc, ℤ, length, map, Bool, true, false, List, [], ◌∷◌, ◌++◌, Option, None, Some, refl, sym, ap, ◌∙◌, subst, arith, All}
 use Rattle.std.specs.Prelude.{IfErr, IfSome, OnErr, OnOk, Result, Ok, Err}
+use Rattle.std.specs.Option.{option_to_list}
 use Rattle.std.proofs.lemmas.List.{append-nil, map-append}
 use Rattle.std.proofs.lemmas.List.Elements.{All-append, All-cons, All-nil, All-weaker}
 use Rattle.eql_values.specs.declared.item.Item.{Item}
@@ -38,7 +39,7 @@ use Rattle.eql_conductor.specs.LaneRounds.{IsSafe, LanesAreAt}
 use Rattle.eql_conductor.specs.PartRounds.{AreAtRest, pending_after}
 use Rattle.eql_conductor.specs.Rounds.{BenchIsOfTexts, CountsAreInRange, GoesTo, RoundRests, RoundStops, StopsOut, found_by}
 use Rattle.eql_conductor.specs.RoundNotes.{NotesRoundFront, NotesRound}
-use Rattle.eql_conductor.specs.RunNotes.{NotesCut, Place, PlaysRound, PlaysRoundsFront, PlaysRounds, RunNotes, NotesSaveFront, NotesSave, cut_after, list_of, place_behind, place, round_count, start}
+use Rattle.eql_conductor.specs.RunNotes.{NotesCut, Place, PlaysRound, PlaysRoundsFront, PlaysRounds, RunNotes, NotesSaveFront, NotesSave, cut_after, place_behind, place, round_count, start}
 use Rattle.eql_conductor.specs.RunBounds.{RunIsBounded}
 use Rattle.eql_conductor.specs.Records.{ListsTold, Ran}
 use Rattle.eql_conductor.specs.Running.{CountsRound, CutGoes, CutStops, IsAtMark, IsTaken, KeepPuts, KeepStands, KeepStops, KeepsOne, PassesRound, RanAll, RanTo, StepStops, end_by, end_of, time_of}
@@ -470,7 +471,7 @@ module _ {D : Type 0} (history : D → Option History) (count : D → ℕ) where
     abbrev times : List ℤ
     times = map cut_time h.cuts
 
-    more_rounds : (time : Option ℤ) (answer : Option Mark) (all : List ℤ) → times ++ list_of time ≡ all → PlaysRound plan.batch plan.every at time b c answer
+    more_rounds : (time : Option ℤ) (answer : Option Mark) (all : List ℤ) → times ++ option_to_list time ≡ all → PlaysRound plan.batch plan.every at time b c answer
         → PlayedTo plan (place_behind at answer) a c (n + 1) all
     more_rounds time answer all e noted =
         let k = rounds_more plan.batch plan.every (start plan) at times a b same h.noted c time answer begins noted in

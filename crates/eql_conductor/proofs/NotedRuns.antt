@@ -1,5 +1,6 @@
 -- The notes of a run, round by round.
 use Rattle.std.proofs.Common.{◌≡◌, ◌≢◌, ◌⊎◌, inl, inr, ◌+◌, ◌*◌, ◌++◌, ◌≤◌, ℕ, ℤ, zero, suc, List, [], ◌∷◌, Option, None, Some, length, replicate, take, refl, sym, ap, ◌∙◌, arith, subst, length-append, All}
+use Rattle.std.specs.Option.{option_to_list}
 use Rattle.std.proofs.lemmas.List.{append-nil, append_assoc, length-replicate}
 use Rattle.std.proofs.lemmas.List.Concat.{flat_map-append}
 use Rattle.std.proofs.lemmas.List.Elements.{All-append, All-cons, All-nil}
@@ -10,7 +11,7 @@ use Rattle.eql_conductor.specs.declared.note.Note.TheVariants as note
 use Rattle.eql_conductor.specs.Benches.{Known, StaysSame}
 use Rattle.eql_laws.specs.Apart.{joined_lists}
 use Rattle.eql_conductor.specs.RoundNotes.{low_at, counted_mark, took, lane_round, LanesGrow, GrewFront, GrewInRounds, LanesGrowInRounds, PartsGrowInRounds, PlaysParts, NotesRound, NotesRoundFront, delivered_to, others_in}
-use Rattle.eql_conductor.specs.RunNotes.{BeginBeforeEnd, Place, place_behind, next_place, place_after, cut_after, cut_due, list_of, cut_times, snap_notes, round_notes, rounds_notes, PlaysRound, RoundBrokeOff, PlaysRounds, PlaysRoundsFront, NotesCut, NotesSaveFront}
+use Rattle.eql_conductor.specs.RunNotes.{BeginBeforeEnd, Place, place_behind, next_place, place_after, cut_after, cut_due, cut_times, snap_notes, round_notes, rounds_notes, PlaysRound, RoundBrokeOff, PlaysRounds, PlaysRoundsFront, NotesCut, NotesSaveFront}
 use Rattle.eql_conductor.proofs.Resting.{is_lane, is_part}
 use Rattle.eql_conductor.proofs.Handing.{handed_on, handed_self, handed_to}
 use Rattle.eql_conductor.proofs.LaneNotes.{front_none}
@@ -25,8 +26,8 @@ place_on at (lows ∷ xs) ys = place_on (next_place at lows) xs ys
 pub times_on : (every : Option ℕ) (at : Place) (xs ys : List (List Mark)) → cut_times every at (xs ++ ys) ≡ cut_times every at xs ++ cut_times every (place_after at xs) ys
 times_on every at [] ys = refl
 times_on every at (lows ∷ xs) ys =
-    ap (λ (l : List ℤ). list_of (cut_due every at lows) ++ l) (times_on every (next_place at lows) xs ys)
-    ∙ sym (append_assoc (list_of (cut_due every at lows)) (cut_times every (next_place at lows) xs) (cut_times every (place_after (next_place at lows) xs) ys))
+    ap (λ (l : List ℤ). option_to_list (cut_due every at lows) ++ l) (times_on every (next_place at lows) xs ys)
+    ∙ sym (append_assoc (option_to_list (cut_due every at lows)) (cut_times every (next_place at lows) xs) (cut_times every (place_after (next_place at lows) xs) ys))
 
 pub begin_on : (at : Place) (xs ys : List (List Mark)) → BeginBeforeEnd at xs → BeginBeforeEnd (place_after at xs) ys → BeginBeforeEnd at (xs ++ ys)
 begin_on at [] ys h k = k
@@ -46,9 +47,9 @@ module _ (batch : ℕ) (every : Option ℕ) where
       notes_on at rounds (lows ∷ []) s ∙ ap (λ (l : List Note). rounds_notes batch every at rounds s ++ l) (append-nil (round_notes batch every (place_after at rounds) lows s))
 
 pub times_more : (every : Option ℕ) (at : Place) (rounds : List (List Mark)) (lows : List Mark)
-    → cut_times every at (rounds ++ lows ∷ []) ≡ cut_times every at rounds ++ list_of (cut_due every (place_after at rounds) lows)
+    → cut_times every at (rounds ++ lows ∷ []) ≡ cut_times every at rounds ++ option_to_list (cut_due every (place_after at rounds) lows)
 times_more every at rounds lows =
-    times_on every at rounds (lows ∷ []) ∙ ap (λ (l : List ℤ). cut_times every at rounds ++ l) (append-nil (list_of (cut_due every (place_after at rounds) lows)))
+    times_on every at rounds (lows ∷ []) ∙ ap (λ (l : List ℤ). cut_times every at rounds ++ l) (append-nil (option_to_list (cut_due every (place_after at rounds) lows)))
 
 -- at most four notes a round
 taken_few : (mark : Option Mark) → length (took mark) ≤ 1
@@ -189,9 +190,9 @@ module _ (batch : ℕ) (every : Option ℕ) (at : Place) (a b : Known) where
       is_time : cut_due every at h.lows ≡ Some time
       is_time = sym due_is ∙ e
 
-      at_most_one : (times ≡ []) ⊎ (times ≡ time ∷ []) → (times ≡ []) ⊎ (times ≡ list_of (cut_due every at h.lows))
+      at_most_one : (times ≡ []) ⊎ (times ≡ time ∷ []) → (times ≡ []) ⊎ (times ≡ option_to_list (cut_due every at h.lows))
       at_most_one (inl none) = inl none
-      at_most_one (inr one) = inr (one ∙ ap (λ (t : Option ℤ). list_of t) (sym is_time))
+      at_most_one (inr one) = inr (one ∙ ap (λ (t : Option ℤ). option_to_list t) (sym is_time))
 
       pub keep_broke : NotesSaveFront b c → RoundBrokeOff batch every at times a c
       keep_broke broken = record {
@@ -245,14 +246,14 @@ module _ (batch : ℕ) (every : Option ℕ) (from at : Place) (times : List ℤ)
     one : PlaysRound batch every so_far time b c answer
     one = subst (λ (q : Place). PlaysRound batch every q time b c answer) h.to_is noted
 
-    pub rounds_more : (k : PlaysRounds batch every from (place_behind at answer) (times ++ list_of time) a c) × (length k.rounds ≡ length h.rounds + 1)
+    pub rounds_more : (k : PlaysRounds batch every from (place_behind at answer) (times ++ option_to_list time) a c) × (length k.rounds ≡ length h.rounds + 1)
     rounds_more = let e = length-append h.rounds (one.lows ∷ []) in (
       record {
         rounds = h.rounds ++ one.lows ∷ [];
         lows = All-append (IsOf a.lanes) h.rounds (one.lows ∷ []) h.lows (All-cons (IsOf a.lanes) one.lows [] (one.count ∙ same.lanes) (All-nil (IsOf a.lanes)));
         before_end = begin_on from h.rounds (one.lows ∷ []) h.before_end (subst (λ (q : Place). q.mark ≢ End) h.to_is begins, tt);
         to_is = ap (λ (q : Place). place_behind q answer) h.to_is ∙ ap (λ (m : Option Mark). place_behind so_far m) one.counts ∙ sym (place_on from h.rounds (one.lows ∷ []));
-        times_are = (λ i. h.times_are i ++ list_of (one.time_is i)) ∙ sym (times_more every from h.rounds one.lows);
+        times_are = (λ i. h.times_are i ++ option_to_list (one.time_is i)) ∙ sym (times_more every from h.rounds one.lows);
         lanes = record {
           each = λ s l.
               one.lanes.each s (is_lane a b s same l) ∙ ap (λ (x : List Note). x ++ round_notes batch every so_far one.lows s) (h.lanes.each s l)
@@ -274,7 +275,7 @@ module _ (batch : ℕ) (every : Option ℕ) (from at : Place) (times : List ℤ)
     last_so (inl apart) = inl (subst (λ (q : Place). q.mark ≢ End) h.to_is apart)
     last_so (inr grew) = inr grew
 
-    put_times : (last : List Mark) → (more ≡ []) ⊎ (more ≡ list_of (cut_due every so_far last))
+    put_times : (last : List Mark) → (more ≡ []) ⊎ (more ≡ option_to_list (cut_due every so_far last))
         → (times ++ more ≡ cut_times every from h.rounds) ⊎ (times ++ more ≡ cut_times every from (h.rounds ++ last ∷ []))
     put_times last (inl none) = inl (ap (λ (l : List ℤ). times ++ l) none ∙ append-nil times ∙ h.times_are)
     put_times last (inr due) = inr ((λ i. h.times_are i ++ due i) ∙ sym (times_more every from h.rounds last))

@@ -1,5 +1,6 @@
 -- What the conductor plays in a run, as notes: round by round, from the lows that it looked at.
 use Rattle.std.specs.Prelude.{◌≡◌, ◌≢◌, ◌⊎◌, ◌<◌, ◌*◌, ◌%◌, ◌==◌, ◌++◌, ℕ, ℤ, suc, pos, if◌then◌else◌, List, [], ◌∷◌, Option, None, Some, All, length, refl}
+use Rattle.std.specs.Option.{option_to_list}
 use Rattle.eql_values.specs.declared.order.Mark.{Mark}
 use Rattle.eql_values.specs.declared.order.Mark.TheVariants.{Start, At, End}
 use Rattle.eql_conductor.specs.declared.note.Note.{Note}
@@ -52,15 +53,10 @@ cut_after every n mark = None
 abbrev pub cut_due : Option ℕ → Place → List Mark → Option ℤ
 cut_due every at lows = cut_after every (next_place at lows).counts (counted_mark at.mark lows)
 
--- the one, where there is one
-abbrev pub list_of : {X : Type 0} → Option X → List X
-list_of None = []
-list_of (Some x) = x ∷ []
-
 -- the times of the cuts that are due in rounds
 abbrev pub cut_times : Option ℕ → Place → List (List Mark) → List ℤ
 cut_times every at [] = []
-cut_times every at (lows ∷ rounds) = list_of (cut_due every at lows) ++ cut_times every (next_place at lows) rounds
+cut_times every at (lows ∷ rounds) = option_to_list (cut_due every at lows) ++ cut_times every (next_place at lows) rounds
 
 -- ---- the notes of a lane
 -- a lane is snapped where a cut is due
@@ -91,7 +87,7 @@ module _ (batch : ℕ) (every : Option ℕ) where
   pub record RoundBrokeOff (at : Place) (times : List ℤ) (old new : Known) : Type 0 where
     pub lows : List Mark
     pub count : length lows ≡ old.lanes
-    pub times_are : (times ≡ []) ⊎ (times ≡ list_of (cut_due every at lows))
+    pub times_are : (times ≡ []) ⊎ (times ≡ option_to_list (cut_due every at lows))
     pub lanes : LanesGrowFront (round_notes at lows) old new
     pub parts : PlaysParts 4 old new
 

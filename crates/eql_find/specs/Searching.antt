@@ -111,7 +111,7 @@ pub record WroteReportOf (find : Find) (search : Search) (texts : Option (List (
 -- ---- the disk
 -- the cuts that a run put, one after another, none of a time before the one before it. `Are` says which texts they are cuts of. The generations
 -- came to their end only where they began far up
-pub record PutsThese (head : CutHead) (from : Mark) (Are : List Cut → Type 0) (state then : CkState) (before now : Option History)
+pub record RunPutsCuts (head : CutHead) (from : Mark) (Are : List Cut → Type 0) (state then : CkState) (before now : Option History)
     (ended : Type 0) : Type 0 where
   pub cuts : List Cut
   pub are_later : All (IsLaterCut head from) cuts
@@ -126,7 +126,7 @@ module _ {D : Type 0} (history : D → Option History) where
   KeepsAs head from Are None (Some l) answer = ⊥
   KeepsAs head from Are (Some k) None answer = ⊥
   KeepsAs head from Are (Some k) (Some l) answer =
-      PutsThese head from Are k.state l.state (history k.disk) (history l.disk) (answer ≡ Err run.Generation)
+      RunPutsCuts head from Are k.state l.state (history k.disk) (history l.disk) (answer ≡ Err run.Generation)
 
 -- where a run may begin so over told texts, these are cuts of the search over them, and what they count behind the first lines was written
 abbrev pub AreCutsOf : Search → (texts : Option (List (List ℕ))) → (listed : ℕ) → (out out' : Option (List ℕ))

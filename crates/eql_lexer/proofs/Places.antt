@@ -1,5 +1,5 @@
 -- Where tokens stand, and one more token.
-use Rattle.std.proofs.Common.{◌≡◌, ◌≢◌, ℕ, zero, suc, ◌+◌, ◌<◌, ◌≤◌, List, [], ◌∷◌, ◌++◌, length, drop, take, get_or, true, false, Bool, cond, Some, None, inl, inr, refl, sym, ap, subst, ◌∙◌, arith, length-take, Result, Ok, Err, IfOk, IfErr, Bor, below_more, nat_lt}
+use Rattle.std.proofs.Common.{◌≡◌, ℕ, zero, suc, ◌+◌, ◌<◌, ◌≤◌, List, [], ◌∷◌, ◌++◌, length, drop, take, get_or, true, false, Bool, cond, inl, inr, refl, sym, ap, subst, ◌∙◌, arith, length-take, Result, Ok, Err, IfOk, IfErr, Bor, below_more, nat_lt}
 use Rattle.std.proofs.lemmas.Bool.Decides.{nat_tests}
 use Rattle.std.proofs.lemmas.List.{get_or-take, get_or-drop, get_or_past}
 use Rattle.std.proofs.lemmas.List.Sums.{prefix_len_passes}
@@ -15,7 +15,7 @@ use Rattle.eql_lexer.specs.declared.refusal.Rule.{Rule}
 use Rattle.eql_lexer.specs.declared.refusal.Rule.TheVariants as rule
 use Rattle.eql_lexer.specs.Bytes.{begins, is_letter, is_word}
 use Rattle.eql_lexer.specs.Blanks.{gap}
-use Rattle.eql_lexer.specs.Strings.{triple, is_closed, quoted_name, is_name}
+use Rattle.eql_lexer.specs.Strings.{triple}
 use Rattle.eql_lexer.specs.Spelling.{word_more, IsRawString, IsLineString, IsQuotedName, IsLexeme, AreTokensTo}
 use Rattle.eql_lexer.specs.Refusing.{BreaksRule, Refuses, BreaksWithin, BreaksAt, RefusesText, HasRawFault, HasContentFault, HasNameFault, refusal_of}
 use Rattle.eql_lexer.proofs.Closing.{rest_after}

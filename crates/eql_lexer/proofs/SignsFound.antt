@@ -1,5 +1,5 @@
 -- The sign that a text begins with is spelled there.
-use Rattle.std.proofs.Common.{◌≡◌, ℕ, List, [], ◌∷◌, ◌++◌, length, drop, Bool, true, false, cond, Option, None, Some, refl, sym, ap, subst, ◌∙◌, ◌==◌}
+use Rattle.std.proofs.Common.{◌≡◌, ℕ, List, ◌∷◌, ◌++◌, length, drop, Bool, true, false, cond, Option, None, Some, refl, sym, ap, subst, ◌∙◌, ◌==◌}
 use Rattle.eql_lexer.specs.declared.token.Sign.{Sign}
 use Rattle.eql_lexer.specs.declared.token.Sign.TheVariants.{Open, Close, OpenBracket, CloseBracket, Comma, Dot, Bar, Question, Bang, Assign, Equal, NotEqual, Less, AtMost, Greater, AtLeast, Colon, Plus, Minus, Star, Slash, Percent}
 use Rattle.eql_lexer.specs.declared.token.Tok.TheVariants as tok

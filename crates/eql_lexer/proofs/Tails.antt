@@ -1,9 +1,7 @@
 -- What is left of a text is a tail of it.
-use Rattle.std.proofs.Common.{◌≡◌, ℕ, ◌+◌, ◌<◌, ◌≤◌, List, [], ◌∷◌, ◌++◌, length, drop, take, Bool, true, false, cond, Option, None, Some, inl, inr, ◌⊎◌, refl, sym, ap, subst, ◌∙◌, arith, append_assoc, length-append, ◌==◌, ◌&&◌, Result, Ok, Err, IfOk, IfErr, Bor}
+use Rattle.std.proofs.Common.{◌≡◌, ℕ, ◌+◌, ◌≤◌, List, [], ◌∷◌, ◌++◌, length, drop, take, Bool, true, false, cond, Option, None, Some, inl, inr, ◌⊎◌, refl, sym, ap, ◌∙◌, arith, append_assoc, length-append, ◌==◌, ◌&&◌}
 use Rattle.std.proofs.lemmas.List.{take-append-drop}
 use Rattle.std.specs.List.{prefix_len}
-use Rattle.std.specs.Str.{IsUtf8}
-use Rattle.std.proofs.lemmas.Str.{IsUtf8-append}
 use Rattle.eql_lexer.specs.declared.token.Sign.{Sign}
 use Rattle.eql_lexer.specs.declared.token.Sign.TheVariants.{Open}
 use Rattle.eql_lexer.specs.declared.token.Tok.{Tok}

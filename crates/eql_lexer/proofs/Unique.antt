@@ -7,11 +7,11 @@ use Rattle.eql_lexer.specs.declared.token.Sign.TheVariants.{Open, Close, OpenBra
 use Rattle.eql_lexer.specs.declared.token.Tok.{Tok}
 use Rattle.eql_lexer.specs.declared.token.Tok.TheVariants as tok
 use Rattle.eql_lexer.specs.declared.token.Token.{Token}
-use Rattle.eql_lexer.specs.Bytes.{is_digit, is_letter, begins}
+use Rattle.eql_lexer.specs.Bytes.{is_digit, is_letter}
 use Rattle.eql_lexer.specs.Blanks.{gap}
 use Rattle.eql_lexer.specs.Signs.{spelling, grows, sign_at}
-use Rattle.eql_lexer.specs.Strings.{IsContent, closed, plain, escaped, triple, quoted_name}
-use Rattle.eql_lexer.specs.Spelling.{IsRawString, IsLineString, IsLexeme, AreTokensTo, Spells}
+use Rattle.eql_lexer.specs.Strings.{IsContent, closed, plain, escaped, quoted_name}
+use Rattle.eql_lexer.specs.Spelling.{IsLexeme, AreTokensTo, Spells}
 
 -- the parts of what a reading gave
 abbrev pub char_of : Option (ℕ × List ℕ) → ℕ

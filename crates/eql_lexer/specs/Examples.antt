@@ -1,5 +1,5 @@
 -- Worked examples, computed.
-use Rattle.std.specs.Prelude.{◌≡◌, [], ◌∷◌, false, true, Some, None, refl, codes}
+use Rattle.std.specs.Prelude.{◌≡◌, false, true, Some, None, refl, codes}
 use Rattle.eql_lexer.specs.declared.token.Sign.TheVariants.{AtLeast, Greater}
 use Rattle.eql_lexer.specs.Blanks.{gap}
 use Rattle.eql_lexer.specs.Signs.{sign_at}

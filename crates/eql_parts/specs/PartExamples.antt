@@ -1,7 +1,7 @@
 -- The definitions of a part's steps, computed on worked rows. Times are in nanoseconds.
-use Rattle.std.specs.Prelude.{◌≡◌, refl, List, [], ◌∷◌, None, Some, pos, codes}
+use Rattle.std.specs.Prelude.{◌≡◌, refl, [], ◌∷◌, None, Some, pos, codes}
 use Rattle.eql_values.specs.declared.order.OrderKey.{OrderKey}
-use Rattle.eql_values.specs.declared.order.Mark.TheVariants.{Start, At, End}
+use Rattle.eql_values.specs.declared.order.Mark.TheVariants.{Start, At}
 use Rattle.eql_values.specs.declared.item.Item.{Item}
 use Rattle.eql_values.specs.declared.found.Holder.{Holder}
 use Rattle.eql_values.specs.declared.value.Value.TheVariants.{Null, Long, Text}

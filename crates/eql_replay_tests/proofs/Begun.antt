@@ -1,6 +1,6 @@
 -- A run may begin where its lanes and parts do.
-use Rattle.std.proofs.Common.{◌≡◌, ◌≤◌, ◌<◌, ◌⊎◌, inl, inr, ℕ, ℤ, true, ◌++◌, List, [], ◌∷◌, Option, None, Some, All, length, refl, sym, ap, ◌∙◌, subst}
-use Rattle.std.specs.Prelude.{◌≢◌, IfSome, slice_get}
+use Rattle.std.proofs.Common.{◌≡◌, ◌≤◌, ◌<◌, inl, inr, ℕ, ℤ, true, ◌++◌, List, [], ◌∷◌, Option, None, Some, length, refl, sym, ap, ◌∙◌, subst}
+use Rattle.std.specs.Prelude.{slice_get}
 use Rattle.std.proofs.lemmas.List.Elements.{All-nil}
 use Rattle.eql_values.specs.declared.cut.LaneCut.{LaneCut}
 use Rattle.eql_values.specs.declared.found.Holder.{Holder}
@@ -21,18 +21,14 @@ use Rattle.eql_parts.specs.Inboxes.{HolderIsBelow}
 use Rattle.eql_parts.specs.PartSteps.{PartState, PartView, Rules}
 use Rattle.eql_rounds.specs.Finding.{own_of}
 use Rattle.eql_book.specs.Books.{BookState}
-use Rattle.eql_ckdisk.specs.declared.state.CkState.{CkState}
 use Rattle.eql_conductor.specs.declared.plan.Keep.{Keep}
 use Rattle.eql_conductor.specs.declared.plan.RunPlan.{RunPlan}
-use Rattle.eql_conductor.specs.LaneRounds.{AreLanes}
-use Rattle.eql_conductor.specs.PartRounds.{AreParts}
-use Rattle.eql_conductor.specs.Openings.{CutRunsBegin, FitMayBegin, FreshRunsBegin, IsBegun, IsPlanned, OpensAt, OpensWith, begun_part}
+use Rattle.eql_conductor.specs.Openings.{CutRunsBegin, FitMayBegin, FreshRunsBegin, IsBegun, IsPlanned, OpensAt, begun_part}
 use Rattle.eql_conductor.specs.Runs.{MayKeepIf, MayRun}
 use Rattle.eql_replay.specs.Listed.{BenchView, bench_known, known_of, rules_in, set_in}
 use Rattle.eql_replay.specs.Opened.{AreOfTexts}
-use Rattle.eql_replay.specs.Pools.{PoolView}
 use Rattle.eql_replay.proofs.Places.{there_or}
-use Rattle.eql_replay_tests.specs.Opens.{AllMayHold, BeginAll, BeginsWith, IsFreshAt, KeepsOver, MayKeepOver, PartsBegin, StandsAt, Starts, StartsAs, StartsFresh, StartsFrom}
+use Rattle.eql_replay_tests.specs.Opens.{AllMayHold, BeginAll, BeginsWith, IsFreshAt, MayKeepOver, PartsBegin, StandsAt, Starts, StartsAs}
 use Rattle.eql_replay_tests.proofs.Pushed.{each_more, each_none}
 
 -- ---- lanes

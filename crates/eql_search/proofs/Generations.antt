@@ -1,6 +1,7 @@
 -- The generations of a disk come to their end only where they began far up: a run has no more cuts than rounds, and those are bounded by its lanes.
 use Rattle.std.proofs.Common.{◌≡◌, inl, inr, ◌≤◌, ◌<◌, ◌*◌, ◌^◌, ℕ, zero, suc, ℤ, List, [], ◌∷◌, ◌++◌, map, Option, None, Some, length, length-append, refl, sym, ap, ◌∙◌, arith}
 use Rattle.std.specs.Prelude.{slice_get}
+use Rattle.std.specs.Option.{option_to_list}
 use Rattle.std.proofs.lemmas.List.{length-map}
 use Rattle.eql_values.specs.Accepted.{Reads}
 use Rattle.eql_values.specs.declared.order.Mark.{Mark}
@@ -16,21 +17,21 @@ use Rattle.eql_conductor.specs.Benches.{ComesByFeeds, Known}
 use Rattle.eql_conductor.specs.Bounds.{AreSized, IsSized, held_count}
 use Rattle.eql_conductor.specs.Handed.{total_to}
 use Rattle.eql_conductor.specs.RunBounds.{IsBoundedBy, RunIsBounded, bytes_in, events_in}
-use Rattle.eql_conductor.specs.RunNotes.{Place, PlaysRoundsFront, RunNotes, cut_due, cut_times, list_of, next_place, round_count, start}
+use Rattle.eql_conductor.specs.RunNotes.{Place, PlaysRoundsFront, RunNotes, cut_due, cut_times, next_place, round_count, start}
 use Rattle.eql_conductor.specs.Runs.{cut_time}
 use Rattle.eql_hub_run.specs.Beside.{IsSameBench, bench_of}
 use Rattle.eql_replay.specs.Listed.{bench_known}
 use Rattle.eql_replay.proofs.Places.{there_or}
 
 -- ---- no more cuts than rounds
-one_at_most : {X : Type 0} (o : Option X) → length (list_of o) ≤ 1
+one_at_most : {X : Type 0} (o : Option X) → length (option_to_list o) ≤ 1
 one_at_most None = omega arith
 one_at_most (Some x) = omega arith
 
 fewer_times : (every : Option ℕ) (at : Place) (rounds : List (List Mark)) → length (cut_times every at rounds) ≤ length rounds
 fewer_times every at [] = omega arith
 fewer_times every at (lows ∷ rounds) =
-    let a = length-append (list_of (cut_due every at lows)) (cut_times every (next_place at lows) rounds) in
+    let a = length-append (option_to_list (cut_due every at lows)) (cut_times every (next_place at lows) rounds) in
     let b = one_at_most (cut_due every at lows) in
     let c = fewer_times every (next_place at lows) rounds in
     omega (arith, a, b, c)

@@ -1,4 +1,4 @@
-use Rattle.std.proofs.Common.{◌++◌, ◌∷◌, [], List, ℕ, ap, ◌∙◌, string_bytes}
+use Rattle.std.proofs.Common.{◌++◌, ◌∷◌, [], List, ℕ, ap, ◌∙◌}
 use Rattle.eql_cli.proofs.TextLemmas.{bytes_of_chars}
 use Rattle.eql_cli.proofs.check.query_line.Goals as goal
 

@@ -1,4 +1,4 @@
-use Rattle.std.proofs.Common.{◌≡◌, ◌<◌, ◌^◌, ◌*◌, drop}
+use Rattle.std.proofs.Common.{◌≡◌, ◌<◌, ◌^◌, drop}
 use Rattle.eql_lexer.specs.Bytes.{hex_number}
 use Rattle.eql_lexer.proofs.number.hex_number_of.Given as goal
 

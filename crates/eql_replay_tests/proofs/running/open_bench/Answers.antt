@@ -1,4 +1,4 @@
-use Rattle.std.proofs.Common.{◌≡◌, ◌≤◌, length, ap, arith}
+use Rattle.std.proofs.Common.{◌≤◌, length, ap, arith}
 use Rattle.std.proofs.lemmas.Grind.{common_steps}
 use Rattle.eql_replay.specs.Listed.{BenchView}
 use Rattle.eql_replay_tests.proofs.Begun.{bench_may_run, may_hold, none_told}

@@ -1,4 +1,4 @@
-use Rattle.std.proofs.Common.{ℕ, ◌<◌, ◌^◌, List, ◌++◌, length, sym, ◌∙◌, ap, subst, arith, append_assoc, string_bytes}
+use Rattle.std.proofs.Common.{ℕ, ◌<◌, ◌^◌, List, ◌++◌, length, sym, ◌∙◌, ap, subst, arith, append_assoc}
 use Rattle.std.specs.Int.{w64}
 use Rattle.eql_cut.specs.Formats.{number_text}
 use Rattle.eql_cut.proofs.TextBytes.{text_written, text_fits}
