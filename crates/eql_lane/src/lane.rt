@@ -18,7 +18,7 @@ use crate::make::{LaneRefused, LaneStart};
 use crate::ops::{LaneOp, LaneReply, LimitOf};
 use crate::pass::seek;
 use crate::step::Step;
-use eql_outside::Source;
+use eql_outside::{Source, Supply};
 use eql_values::{Counts, LaneCut, LineReader, Lines, Mark, Memory, Places};
 use std::alloc::Global;
 use std::marker::Model;
@@ -433,6 +433,13 @@ impl<S: Source, L: LineReader> Lane<S, L> {
         ensures { result ≡ self.now.state.cut.counts }
     {
         self.kept.counts()
+    }
+
+    /// What may be expected of the next takes of its source.
+    pub fn supply(&self) -> Supply
+        ensures { result ≡ S.supply_of self.now.source }
+    {
+        self.source.supply()
     }
 
     /// The places of the wanted lines, moved out: none after another start than

@@ -12,6 +12,7 @@ mod sends;
 mod shelf;
 mod sink;
 mod source;
+mod supply;
 
 pub use disk::file::FileDisk;
 pub use disk::memory::MemDisk;
@@ -27,3 +28,4 @@ pub use sink::{Sink, WritesAlike};
 pub use source::file::FileSource;
 pub use source::memory::MemSource;
 pub use source::{ReadsAlike, Source};
+pub use supply::Supply;

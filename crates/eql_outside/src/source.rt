@@ -3,8 +3,10 @@ ghost use Rattle.std.specs.Prelude.{◌≡◌, ◌≤◌, ◌<◌, ◌↔◌, �
 ghost use Rattle.eql_outside.specs.Outside.{Rose};
 ghost use Rattle.eql_outside.specs.Sources.{Takes};
 ghost use Rattle.eql_outside.specs.Plans.{FaultPlan, plan_after_call, FailsNext};
+ghost use Rattle.eql_outside.specs.declared.supply.Supply.{Supply as Expected};
 
 use crate::refused::Failed;
+use crate::supply::Supply;
 use std::fs::File;
 use std::io::Read;
 
@@ -25,6 +27,9 @@ pub trait Source {
     /// Which takes fail, where the source tells.
     ghost fault_plan: { Self → Option FaultPlan } = { λ _. None };
 
+    /// What may be expected of its takes.
+    ghost supply_of: { Self → Expected } = { λ _. Expected.Untold };
+
     /// Takes the next bytes, puts them at the front of the buffer, and returns how many they are. None for a
     /// buffer that isn't empty is exactly the end. A failed call takes nothing. Behind the bytes that were put
     /// there, and after a failure, what stands in the buffer is open.
@@ -36,9 +41,10 @@ pub trait Source {
             → IfSome (left self.old) (λ bytes. bytes ≡ []) }
         ensures kept { IsErr result → left self.new ≡ left self.old }
 
-        // A source that doesn't tell goes on so, and its name stays.
+        // A source that doesn't tell goes on so, its name stays, and so does what may be expected.
         ensures silent { left self.old ≡ None → left self.new ≡ None }
         ensures named { lent_as self.new ≡ lent_as self.old }
+        ensures supplied { supply_of self.new ≡ supply_of self.old }
 
         // The count rises where the call fails, and nowhere else.
         ensures cause { IsErr result → Rose (fault_count self.old) (fault_count self.new) }
@@ -53,6 +59,10 @@ pub trait Source {
     /// How many takes failed. The number stands still at the greatest of its type.
     fn faults(&self) -> u64
         ensures { result ≡ fault_count self.now };
+
+    /// What may be expected of the next takes.
+    fn supply(&self) -> Supply
+        ensures { result ≡ supply_of self.now };
 }
 
 /// A reader of a type whose values all tell the bytes that they have left, or of which none does.

@@ -5,7 +5,7 @@ ghost use Rattle.std.specs.Prelude.{◌≡◌, ◌≤◌, IfOk, false, refl};
 use crate::table::see_true;
 use eql_outside::{
     Area, Disk, Failed, FileShelf, FileSource, MemDisk, MemFile, MemShelf, MemSink, MemSource,
-    OutRefused, ReadsAlike, Shelf, Sink, Source, StdSink, WritesAlike,
+    OutRefused, ReadsAlike, Shelf, Sink, Source, StdSink, Supply, WritesAlike,
 };
 use eql_values::Memory;
 use std::alloc::Global;
@@ -408,6 +408,46 @@ fn are_said_of_files(rt: &HostRuntime) -> Result<bool, Memory> {
 #[test]
 fn file_shelf_tells_faults_from_missing_files(rt: HostRuntime) {
     see_true(&rt, are_said_of_files(&rt));
+}
+
+/// What may be expected of the source that a shelf lends for a name, where it lends one.
+fn expected_of<H: Shelf>(alloc: Global, shelf: &mut H, name: &String) -> Option<Supply> {
+    match shelf.source(alloc, name) {
+        Ok(Some(source)) => {
+            let supply = source.supply();
+            shelf.give_source(source);
+            Some(supply)
+        }
+        Ok(None) => None,
+        Err(_) => None,
+    }
+}
+
+/// Whether a new shelf of files expects this of a name.
+fn is_expected(rt: &HostRuntime, name: &str, supply: Supply) -> Result<bool, Memory> {
+    let name = String::from_str(rt.alloc(), name)?;
+    let mut shelf = file_shelf(rt)?;
+    let is_right = expected_of(rt.alloc(), &mut shelf, &name) == Some(supply);
+    drop(shelf);
+    drop(name);
+    Ok(is_right)
+}
+
+/// Whether a file of three bytes is expected to have them.
+fn is_expected_of_a_file(rt: &HostRuntime) -> Result<bool, Memory> {
+    let path = own_path(rt, "eql_outside_supply")?;
+    let is_written = fs::write(rt, &path, "abc").is_ok();
+    let is_right = is_expected(rt, path.as_str(), Supply::File { bytes: 3 });
+    let is_removed = fs::remove_file(rt, &path).is_ok();
+    drop(path);
+    Ok(is_written && is_removed && is_right?)
+}
+
+#[test]
+fn file_shelf_tells_what_may_be_expected(rt: HostRuntime) {
+    see_true(&rt, is_expected_of_a_file(&rt));
+    see_true(&rt, is_expected(&rt, "/", Supply::Pausing));
+    see_true(&rt, is_expected(&rt, "/dev/null", Supply::Pausing));
 }
 
 /// A disk with empty areas, whose calls of these numbers fail, and all from a number on.

@@ -10,8 +10,9 @@ use crate::refused::{Failed, OutRefused};
 use crate::shelf::Shelf;
 use crate::source::file::FileSource;
 use crate::source::{ReadsAlike, Source};
+use crate::supply::Supply;
 use std::alloc::Global;
-use std::fs::{Files, OpenOptions};
+use std::fs::{Files, OpenFile, OpenOptions};
 use std::io::ErrorKind;
 use std::{fs, io};
 
@@ -69,8 +70,8 @@ where
     ghost use Rattle.eql_outside.specs.Outside.{Rose};
     ghost use Rattle.eql_outside.specs.Faults.{name_lent, faults_in, RoseFor, FaultsAreSame};
 
-    // Returns what the open of a file came to. A file that is open is lent. Where the error says that there is none, it
-    // is absent. Any other error is a fault of the name.
+    // Returns what the open of a file came to. A file that is open is lent, and tells what may be expected of it. Where
+    // the error says that there is none, it is absent. Any other error is a fault of the name.
     fn answer(
         &mut self,
         opened: io::Result<R::File>,
@@ -85,6 +86,8 @@ where
             (λ s. ⟦<FileSource<R::File> as Source>⟧.fault_count s ≡ 0)) }
         ensures named { IfOk result (λ o. IfSome o
             (λ s. ⟦<FileSource<R::File> as Source>⟧.lent_as s ≡ Some (name_lent lent))) }
+        ensures supplied { IfOk result (λ o. IfSome o
+            (λ s. ⟦<FileSource<R::File> as Source>⟧.supply_of s ≢ Supply.Untold)) }
         ensures cause { result ≡ Err OutRefused.Failed → Rose self.old.faults self.new.faults }
         ensures cause_named { result ≡ Err OutRefused.Failed
             → RoseFor (name_lent lent) (faults_in self.old.names) (faults_in self.new.names) }
@@ -99,7 +102,10 @@ where
             × (self.new.disk_faults ≡ self.old.disk_faults) }
     {
         match opened {
-            Ok(file) => Ok(Some(FileSource::lend(file, lent))),
+            Ok(file) => {
+                let supply = Supply::of_opened(file.metadata());
+                Ok(Some(FileSource::lend(file, lent, supply)))
+            }
             Err(error) => if says_absent(error.kind()) {
                 self.absent = self.absent.saturating_add(1);
                 Ok(None)

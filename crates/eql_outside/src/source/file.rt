@@ -6,6 +6,7 @@ ghost use Rattle.std.specs.Io.KnownBytes.{ReadConsumes};
 use crate::faults::Lent;
 use crate::refused::Failed;
 use crate::source::{ReadsAlike, Source};
+use crate::supply::Supply;
 use std::io::{ErrorKind, Read};
 
 /// A source over an open file, or over any other reader.
@@ -14,6 +15,7 @@ pub struct FileSource<F> {
     file: F,
     faults: u64,
     lent: Option<Lent>,
+    supply: Supply,
 }
 
 impl<F: ReadsAlike> FileSource<F> {
@@ -25,24 +27,28 @@ impl<F: ReadsAlike> FileSource<F> {
         ensures left { ⟦<FileSource<F> as Source>⟧.left result ≡ F.remaining file }
         ensures faults { ⟦<FileSource<F> as Source>⟧.fault_count result ≡ 0 }
         ensures apart { ⟦<FileSource<F> as Source>⟧.lent_as result ≡ None }
+        ensures untold { ⟦<FileSource<F> as Source>⟧.supply_of result ≡ Supply.Untold }
     {
         FileSource {
             file,
             faults: 0,
             lent: None,
+            supply: Supply::Untold,
         }
     }
 
-    /// A source that takes from there, and that a shelf lends under a name.
-    pub(crate) fn lend(file: F, lent: Lent) -> FileSource<F>
+    /// A source that takes from there, of which this may be expected, and that a shelf lends under a name.
+    pub(crate) fn lend(file: F, lent: Lent, supply: Supply) -> FileSource<F>
         ensures left { ⟦<FileSource<F> as Source>⟧.left result ≡ F.remaining file }
         ensures faults { ⟦<FileSource<F> as Source>⟧.fault_count result ≡ 0 }
         ensures named { ⟦<FileSource<F> as Source>⟧.lent_as result ≡ Some (name_lent lent) }
+        ensures supply { ⟦<FileSource<F> as Source>⟧.supply_of result ≡ supply }
     {
         FileSource {
             file,
             faults: 0,
             lent: Some(lent),
+            supply,
         }
     }
 }
@@ -69,6 +75,8 @@ impl<F: ReadsAlike> Source for FileSource<F> {
 
     ghost lent_as = { λ s. option_map name_lent s.lent };
 
+    ghost supply_of = { λ s. s.supply };
+
     fn take(&mut self, into: &mut [u8]) -> Result<usize, Failed> {
         let taken = read_some(&mut self.file, into);
         if taken.is_err() {
@@ -79,6 +87,10 @@ impl<F: ReadsAlike> Source for FileSource<F> {
 
     fn faults(&self) -> u64 {
         self.faults
+    }
+
+    fn supply(&self) -> Supply {
+        self.supply
     }
 }
 

@@ -7,6 +7,7 @@ use crate::plan::PlannedFaults;
 use crate::refused::Failed;
 use crate::shelf::memory::MemFile;
 use crate::source::Source;
+use crate::supply::Supply;
 use eql_values::Memory;
 use std::alloc::Global;
 
@@ -44,6 +45,7 @@ impl MemSource {
         ensures left { ⟦<MemSource as Source>⟧.left result ≡ Some file.bytes.items }
         ensures faults { ⟦<MemSource as Source>⟧.fault_count result ≡ 0 }
         ensures apart { ⟦<MemSource as Source>⟧.lent_as result ≡ None }
+        ensures untold { ⟦<MemSource as Source>⟧.supply_of result ≡ Supply.Untold }
         ensures plan { ⟦<MemSource as Source>⟧.fault_plan result
             ≡ Some (fresh_plan file.fails.items) }
         ensures piece { piece_of result ≡ file.piece }
@@ -140,5 +142,9 @@ impl Source for MemSource {
 
     fn faults(&self) -> u64 {
         self.planned.faults()
+    }
+
+    fn supply(&self) -> Supply {
+        Supply::Untold
     }
 }
