@@ -14,13 +14,15 @@ use crate::view::View;
 use atomic_table::Seat;
 use std::snapshot::Snapshot;
 use std::sync::Wait;
-use std::thread;
 
 /// A word from which on no turn is given.
 pub(crate) const WORN: u64 = 1 << 63;
 
 impl<T: Turned> TurnLock<T> {
-    /// Plays the operation and waits for the turn, yielding between tries. It never returns `Busy`.
+    /// Plays the operation and waits for the turn. It never returns `Busy`.
+    ///
+    /// While another pass holds the turn it looks at the lock for some microseconds, and then sleeps
+    /// until the turn ends.
     pub fn call<R: Wait>(
         &self,
         rt: &R,
@@ -40,6 +42,7 @@ impl<T: Turned> TurnLock<T> {
         for _ in rt.forever() {
             let word = table.load::<Load>(&mut pass.seat, 0);
             if word >= WORN {
+                self.wake_next();
                 return Err(NotNow::Worn { word, op });
             }
             if word % 2 == 0 {
@@ -47,8 +50,9 @@ impl<T: Turned> TurnLock<T> {
                 if found == word {
                     return Ok(self.play_in_turn(&mut pass.seat, word, op));
                 }
+            } else {
+                self.wait_for_turn(rt, word);
             }
-            thread::yield_now();
         }
         unreachable!()
     }
@@ -105,7 +109,8 @@ impl<T: Turned> TurnLock<T> {
         reply
     }
 
-    /// Plays the operation in the turn that the seat holds, and ends the turn.
+    /// Plays the operation in the turn that the seat holds, ends the turn, and wakes a call that
+    /// sleeps.
     fn play_and_end(
         &self,
         seat: &mut Seat<Slot<T, T::Op, T::Reply>, View<T, T::Op, T::Reply>>,
@@ -142,6 +147,7 @@ impl<T: Turned> TurnLock<T> {
         let Slot { value, last: _ } = self.table.shared.exchange(seat, 0, full);
         let None = value else { unreachable!() };
         self.table.shared.store::<EndTurn>(seat, 0, word + 2);
+        self.wake_next();
         reply
     }
 }

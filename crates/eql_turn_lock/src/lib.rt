@@ -16,6 +16,7 @@ mod slot;
 mod tried;
 mod turned;
 mod view;
+mod waits;
 
 pub use history::Entry;
 pub use laws::loads_are_told;

@@ -11,6 +11,7 @@ use crate::view::View;
 use atomic_table::{Refused, Seat, Table};
 use std::alloc::Global;
 use std::snapshot::Snapshot;
+use std::sync::atomic::AtomicU64;
 
 /// A value with one history. At most one pass holds the turn, and it alone reaches the value.
 ///
@@ -25,6 +26,8 @@ pub struct TurnLock<T: Turned> {
         OneHistory,
         Global,
     >,
+    /// How many calls sleep, or are about to.
+    pub(crate) waiting: AtomicU64,
     ghost sized: { (table.shared.table_id.words ≡ 2) × (table.shared.table_id.slots ≡ 1) },
 }
 
@@ -62,7 +65,13 @@ impl<T: Turned> TurnLock<T> {
             last: None,
         });
         match Table::new(alloc, &[0, u64::MAX], slots, &opening) {
-            Ok((table, seat)) => Ok((TurnLock { table }, Pass { seat })),
+            Ok((table, seat)) => {
+                let lock = TurnLock {
+                    table,
+                    waiting: AtomicU64::new(0),
+                };
+                Ok((lock, Pass { seat }))
+            }
             Err(Refused { slots }) => Err((Memory, value_of(slots))),
         }
     }
@@ -109,7 +118,7 @@ impl<T: Turned> TurnLock<T> {
         requires all_joined { length (view_of pass).ended ≡ (view_of pass).made }
         ensures { Closes T.step_of T.is_open (view_of pass) result }
     {
-        let TurnLock { table } = self;
+        let table = self.table;
         let Pass { seat } = pass;
         let mut closed = table.close_with(seat);
         let Slot { value, last: _ } = closed.take(0);

@@ -1,20 +1,24 @@
-//! A meeting of two callers: one of them stays in its turn until the other one was turned away.
-use eql_turn_lock::Turned;
+//! A meeting of two callers: one of them stays in its turn until the other one was turned away, or sleeps.
+use eql_turn_lock::{TurnLock, Turned};
 use std::alloc::Global;
+use std::hint::spin_loop;
 use std::sync::Arc;
 use std::sync::atomic::{AtomicBool, Ordering};
 
-/// How often a caller looks at a flag before it gives up.
+/// How often a caller looks at a flag, or for a sleeper, before it gives up.
 const LOOKS: u32 = 100_000_000;
+
+/// How often the processor rests until a call that waited long is asleep.
+const RESTS: u32 = 100_000;
 
 /// A flag that two threads share.
 pub type Flag = Arc<AtomicBool, Global>;
 
-/// Two flags: the turn is held, and another caller was turned away.
+/// Two flags: the turn is held, and another caller was met, in that it was turned away or sleeps.
 #[derive(Drop)]
 pub struct Meeting {
     pub held: Flag,
-    pub turned_away: Flag,
+    pub met: Flag,
     /// How many operations were played.
     pub played: u32,
 }
@@ -33,8 +37,27 @@ pub fn sees(flag: &Flag) -> bool {
         if flag.load(Ordering::SeqCst) {
             return true;
         }
+        spin_loop();
     }
     false
+}
+
+/// Whether a call on the lock was about to sleep before the looks ran out. Some time passes behind it, so that the call is asleep.
+pub fn sees_sleeper(lock: &TurnLock<Meeting>) -> bool {
+    for _ in 0..LOOKS {
+        if lock.waiting() > 0 {
+            rest();
+            return true;
+        }
+        spin_loop();
+    }
+    false
+}
+
+fn rest() {
+    for _ in 0..RESTS {
+        spin_loop();
+    }
 }
 
 impl Turned for Meeting {
@@ -59,7 +82,7 @@ impl Turned for Meeting {
         match op {
             MeetingOp::Stay => {
                 self.held.store(true, Ordering::SeqCst);
-                sees(&self.turned_away)
+                sees(&self.met)
             }
             MeetingOp::Leave => true,
         }

@@ -1,4 +1,4 @@
-//! A free lock answers and closes, and a held one turns callers away.
+//! A free lock answers and closes, and a held one turns callers away or wakes them at its end.
 ghost use Rattle.std.specs.Prelude.{◌≡◌, ◌≤◌, [], length, IfOk};
 ghost use Rattle.eql_turn_lock.specs.Locks.{IsPassOf, view_of};
 ghost use Rattle.eql_turn_lock.specs.Calls.{MayPlay};
@@ -10,7 +10,7 @@ ghost use Rattle.eql_turn_lock_tests.specs.Trays.{
   tray_open,
 };
 
-use crate::meeting::{Flag, sees};
+use crate::meeting::{Flag, sees, sees_sleeper};
 use crate::{
     Meeting, MeetingOp, Tray, TrayOp, TrayReply, close_tray, deliver, deliver_after,
     deliver_waiting, take, take_unless_empty,
@@ -257,7 +257,7 @@ fn comes_late(
     lock: &TurnLock<Meeting>,
     mut pass: Pass<Meeting>,
     held: &Flag,
-    turned_away: &Flag,
+    met: &Flag,
 ) -> (bool, Pass<Meeting>)
     requires { IsPassOf lock.now pass }
     ensures { IsPassOf lock.now result.1 }
@@ -266,7 +266,7 @@ fn comes_late(
         return (false, pass);
     }
     let answer = lock.try_call(&mut pass, MeetingOp::Leave);
-    turned_away.store(true, Ordering::SeqCst);
+    met.store(true, Ordering::SeqCst);
     let is_busy = matches!(
         &answer,
         Err(NotNow::Busy {
@@ -277,7 +277,7 @@ fn comes_late(
     (is_busy, pass)
 }
 
-/// Stays in its turn, and says whether the other caller was turned away meanwhile.
+/// Stays in its turn, and says whether the other caller was met meanwhile.
 fn comes_first(lock: &TurnLock<Meeting>, mut pass: Pass<Meeting>) -> (bool, Pass<Meeting>)
     requires { IsPassOf lock.now pass }
     ensures own { IsPassOf lock.now result.1 }
@@ -296,7 +296,7 @@ fn meets<R: Threads>(
     first: Pass<Meeting>,
     other: Pass<Meeting>,
     held: &Flag,
-    turned_away: &Flag,
+    met: &Flag,
 ) -> ((bool, Pass<Meeting>), (bool, Pass<Meeting>))
     requires own { IsPassOf lock.now first × IsPassOf lock.now other }
     ensures own { IsPassOf lock.now result.0.1 × IsPassOf lock.now result.1.1 }
@@ -312,38 +312,31 @@ fn meets<R: Threads>(
         || -> (bool, Pass<Meeting>)
             requires { IsPassOf lock.now other }
             ensures { IsPassOf lock.entry.now result.1 }
-        { comes_late(lock, other, held, turned_away) },
+        { comes_late(lock, other, held, met) },
     )
 }
 
 /// A meeting at which nobody called yet, and second owners of its flags.
 fn meeting(alloc: Global) -> Result<(Meeting, Flag, Flag), Memory> {
     let (held, other_held) = flag(alloc)?;
-    let (turned_away, other_turned_away) = flag(alloc)?;
+    let (met, other_met) = flag(alloc)?;
     let meeting = Meeting {
         held,
-        turned_away,
+        met,
         played: 0,
     };
-    Ok((meeting, other_held, other_turned_away))
+    Ok((meeting, other_held, other_met))
 }
 
 /// Whether, of two callers of a new lock at once, the second one was seen to be turned away and was told so, and one
 /// operation was played.
 fn turns_away<R: Threads>(rt: &R, alloc: Global) -> Result<bool, Memory> {
-    let (meeting, held, turned_away) = meeting(alloc)?;
+    let (meeting, held, met) = meeting(alloc)?;
     let Ok((lock, mut first)) = TurnLock::make(alloc, meeting) else {
         return Err(Memory);
     };
     let other = lock.split(&mut first);
-    let ((is_seen, mut first), (is_busy, other)) = meets(
-        rt,
-        &lock,
-        first,
-        other,
-        &held,
-        &turned_away,
-    );
+    let ((is_seen, mut first), (is_busy, other)) = meets(rt, &lock, first, other, &held, &met);
     lock.join(&mut first, other);
     Ok((lock.close(first).played == 1) & is_seen & is_busy)
 }
@@ -351,4 +344,95 @@ fn turns_away<R: Threads>(rt: &R, alloc: Global) -> Result<bool, Memory> {
 #[test]
 fn a_held_lock_turns_callers_away(rt: HostRuntime) {
     see(&rt, turns_away(&rt, rt.alloc()));
+}
+
+/// Waits for the turn while the other caller stays in it, and says whether it was played.
+fn comes_and_waits<R: Wait>(
+    rt: &R,
+    lock: &TurnLock<Meeting>,
+    mut pass: Pass<Meeting>,
+    held: &Flag,
+) -> (bool, Pass<Meeting>)
+    requires { IsPassOf lock.now pass }
+    ensures { IsPassOf lock.now result.1 }
+{
+    let is_held = sees(held);
+    let answer = lock.call(rt, &mut pass, MeetingOp::Leave);
+    let is_played = matches!(&answer, Ok(true));
+    (is_held & is_played, pass)
+}
+
+/// Tells the caller that stays in its turn once another one sleeps, and says whether one does.
+fn watches(lock: &TurnLock<Meeting>, met: &Flag) -> bool {
+    let is_asleep = sees_sleeper(lock);
+    met.store(true, Ordering::SeqCst);
+    is_asleep
+}
+
+/// A caller that waits, and a watcher beside it: whether the watcher saw it sleep, whether it was played, and its pass.
+fn waits_watched<R: Threads + Wait>(
+    rt: &R,
+    lock: &TurnLock<Meeting>,
+    other: Pass<Meeting>,
+    held: &Flag,
+    met: &Flag,
+) -> (bool, (bool, Pass<Meeting>))
+    requires { IsPassOf lock.now other }
+    ensures { IsPassOf lock.entry.now result.1.1 }
+{
+    thread::join(
+        rt,
+        || watches(lock, met),
+        || -> (bool, Pass<Meeting>)
+            requires { IsPassOf lock.now other }
+            ensures { IsPassOf lock.entry.now result.1 }
+        { comes_and_waits(rt, lock, other, held) },
+    )
+}
+
+/// Two callers at once, of whom the second one sleeps until the first one ends its turn: whether the first one was told so,
+/// its pass, and what `waits_watched` says.
+fn meets_asleep<R: Threads + Wait>(
+    rt: &R,
+    lock: &TurnLock<Meeting>,
+    first: Pass<Meeting>,
+    other: Pass<Meeting>,
+    held: &Flag,
+    met: &Flag,
+) -> ((bool, Pass<Meeting>), (bool, (bool, Pass<Meeting>)))
+    requires own { IsPassOf lock.now first × IsPassOf lock.now other }
+    ensures own { IsPassOf lock.now result.0.1 × IsPassOf lock.now result.1.1.1 }
+    ensures same { IsSamePass (view_of first) (view_of result.0.1) }
+{
+    thread::join(
+        rt,
+        || -> (bool, Pass<Meeting>)
+            requires { IsPassOf lock.now first }
+            ensures { IsPassOf lock.entry.now result.1
+                × IsSamePass (view_of first) (view_of result.1) }
+        { comes_first(lock, first) },
+        || -> (bool, (bool, Pass<Meeting>))
+            requires { IsPassOf lock.now other }
+            ensures { IsPassOf lock.entry.now result.1.1 }
+        { waits_watched(rt, lock, other, held, met) },
+    )
+}
+
+/// Whether, of two callers of a new lock at once, the second one was seen to sleep and was played, as was the first one.
+fn wakes<R: Threads + Wait>(rt: &R, alloc: Global) -> Result<bool, Memory> {
+    let (meeting, held, met) = meeting(alloc)?;
+    let Ok((lock, mut first)) = TurnLock::make(alloc, meeting) else {
+        return Err(Memory);
+    };
+    let other = lock.split(&mut first);
+    let ((is_told, mut first), (is_asleep, (is_played, other))) = meets_asleep(
+        rt, &lock, first, other, &held, &met,
+    );
+    lock.join(&mut first, other);
+    Ok((lock.close(first).played == 2) & is_told & is_asleep & is_played)
+}
+
+#[test]
+fn a_sleeper_is_woken(rt: HostRuntime) {
+    see(&rt, wakes(&rt, rt.alloc()));
 }

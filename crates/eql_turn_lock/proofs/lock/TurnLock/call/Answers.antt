@@ -3,7 +3,6 @@ use Rattle.eql_turn_lock.specs.Passes.{is_live, KnowsHistory}
 use Rattle.eql_turn_lock.specs.Rule.{looked_at}
 use Rattle.eql_turn_lock.proofs.Turns.{knows_looked, tried_held, tried_moved, played_after}
 use Rattle.eql_turn_lock.proofs.Keeps.{loads_now, takes_turn_now}
-use Rattle.eql_turn_lock.proofs.lock.TurnLock.call.Goals.{then-word-eq0+else-found-word, else-word-eq0}
 use Rattle.eql_turn_lock.proofs.lock.TurnLock.call.Goals as goal
 
 pub load-word-requires : goal.load-word-requires
@@ -12,24 +11,24 @@ load-word-requires g c = (search rules, search rules, loads_now g.T.Turned.step_
 pub compare_exchange-found-requires : goal.compare_exchange-found-requires
 compare_exchange-found-requires g c = (search rules, search rules, takes_turn_now g.T.Turned.step_of g.T.Turned.is_open g.T.Turned.is_idle _ _ _ _ _ _ (ap (λ m. is_live m.0) c.load-word.ensures.2.0 ∙ c.loop.invariant.2) (search rules) refl)
 
+pub loop-preserved-else-found-word : goal.loop-preserved-else-found-word
+loop-preserved-else-found-word g c = let look = c.load-word.ensures.2 in let other : c.compare_exchange-found.result ≢ c.load-word.result = search rules in let lost = c.compare_exchange-found.ensures.2.1 other in (
+  tried_moved _ _ _ c.load-word.result c.compare_exchange-found.result c.loop.invariant.0 (search rules) c.if-word-eq0.true other
+      (ap (λ m. m.0) lost.0 ∙ ap (λ m. looked_at c.compare_exchange-found.result m.0) look.0),
+  search rules,
+  search rules,
+  search rules,
+  search rules,
+)
+
 pub loop-preserved : goal.loop-preserved
-loop-preserved g c = let look = c.load-word.ensures.2 in elim c.if-word-eq0.branch [
-  | then-word-eq0+else-found-word w ↦ let other : w.compare_exchange-found.result ≢ c.load-word.result = search rules in let lost = w.compare_exchange-found.ensures.2.1 other in (
-    tried_moved _ _ _ c.load-word.result w.compare_exchange-found.result c.loop.invariant.0 (search rules) w.if-word-eq0.true other
-        (ap (λ p. p.seat.me.0) w.pass-is ∙ (ap (λ m. m.0) lost.0 ∙ ap (λ m. looked_at w.compare_exchange-found.result m.0) look.0)),
-    search rules,
-    search rules,
-    search rules,
-    search rules,
-  )
-  | else-word-eq0 w ↦ (
-    tried_held _ _ _ c.load-word.result c.loop.invariant.0 (search rules) (search rules) (ap (λ p. p.seat.me.0) w.pass-is ∙ ap (λ m. m.0) look.0),
-    search rules,
-    search rules,
-    search rules,
-    search rules,
-  )
-]
+loop-preserved g c = let look = c.load-word.ensures.2 in (
+  tried_held _ _ _ c.load-word.result c.loop.invariant.0 (search rules) (search rules) (ap (λ m. m.0) look.0),
+  search rules,
+  search rules,
+  search rules,
+  search rules,
+)
 
 pub returns-then-word-ge-WORN-clause-knows : goal.returns-then-word-ge-WORN-clause-knows
 returns-then-word-ge-WORN-clause-knows g c = let look = c.load-word.ensures.2 in
