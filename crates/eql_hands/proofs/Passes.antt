@@ -1,12 +1,12 @@
 -- How one pass grows in one try.
-use Rattle.std.proofs.Common.{◌≡◌, ◌≤◌, ◌+◌, inl, inr, ℕ, Bool, List, [], ◌∷◌, ◌++◌, length, sym, ap, ◌∙◌, arith, append_assoc, length-append}
+use Rattle.std.proofs.Common.{◌≡◌, ◌+◌, inl, inr, ℕ, Bool, List, [], ◌∷◌, ◌++◌, length, sym, ap, ◌∙◌, arith, append_assoc, length-append}
 use Rattle.std.proofs.lemmas.List.{append-nil}
 use Rattle.eql_turn_lock.specs.declared.view.View.{View}
 use Rattle.eql_turn_lock.specs.declared.refused.NotNow.TheVariants.{Busy, Worn}
 use Rattle.eql_turn_lock.specs.Calls.{IsUnplayed, MeetsIdle, PlaysOnce, Refuses}
 use Rattle.eql_turn_lock.specs.History.{StartsWith, entry}
 use Rattle.eql_hub.specs.Later.{IsLater}
-use Rattle.eql_hands.specs.Growth.{HasLooked, HasMineWithin}
+use Rattle.eql_hands.specs.Growth.{HasMineWithin}
 
 module _ {X : Type 0} where
   starts_same : (xs ys : List X) → ys ≡ xs → StartsWith ys xs
@@ -38,12 +38,6 @@ module _ {T O R : Type 0} where
     looked = starts_on u.looked v.looked w.looked a.looked b.looked;
   }
 
-  pub mine_grows : (v w : View T O R) → IsLater v w → length v.mine ≤ length w.mine
-  mine_grows v w l = let a = ap length l.mine.1 in let b = length-append v.mine l.mine.0 in omega (arith, a, b)
-
-  pub looked_grows : (v w : View T O R) → IsLater v w → length v.looked ≤ length w.looked
-  looked_grows v w l = let a = ap length l.looked.1 in let b = length-append v.looked l.looked.0 in omega (arith, a, b)
-
   -- what one step does to a pass
   pub record IsStep (v w : View T O R) : Type 0 where
     pub later : IsLater v w
@@ -69,13 +63,6 @@ module _ {T O R : Type 0} where
           one = let a = ap length p.mine in let b = length-append v.mine (entry v.number op reply ∷ []) in omega (arith, a, b);
         }
 
-    pub played_looked : HasLooked 1 v w
-    played_looked = let a = ap length h.1.looked_is in let b = length-append v.looked (h.0 ∷ []) in omega (arith, a, b)
-
-    -- the pass has one entry more of its own
-    pub played_one : length v.mine + 1 ≤ length w.mine
-    played_one = let a = ap length h.1.mine in let b = length-append v.mine (entry v.number op reply ∷ []) in omega (arith, a, b)
-
   unplayed : (v w : View T O R) → w.seen ≡ v.seen → w.mine ≡ v.mine → w.number ≡ v.number → w.opening ≡ v.opening → w.made ≡ v.made → w.ended ≡ v.ended
       → StartsWith w.looked v.looked → IsStep v w
   unplayed v w seen mine number opening made ended looked = record {
@@ -96,14 +83,6 @@ module _ {T O R : Type 0} where
   step_busy v w op back word (same, is, inr moved) =
       unplayed v w is.0 is.1 is.2 is.3 is.4 is.5 (moved.0 ∷ word ∷ [], moved.4 ∙ append_assoc v.looked (moved.0 ∷ []) (word ∷ []))
 
-  pub busy_looked : (v w : View T O R) (op back : O) (word : ℕ) → Refuses v op (Busy word back) w → HasLooked 1 v w
-  busy_looked v w op back word (same, is, inl held) = let a = ap length held.2 in let b = length-append v.looked (word ∷ []) in omega (arith, a, b)
-  busy_looked v w op back word (same, is, inr moved) =
-      let a = ap length moved.4 in
-      let b = length-append (v.looked ++ moved.0 ∷ []) (word ∷ []) in
-      let c = length-append v.looked (moved.0 ∷ []) in
-      omega (arith, a, b, c)
-
   pub step_worn : (v w : View T O R) (op back : O) (word : ℕ) → Refuses v op (Worn word back) w → IsStep v w
   step_worn v w op back word (same, is, great, looked) = unplayed v w is.0 is.1 is.2 is.3 is.4 is.5 (word ∷ [], looked)
 
@@ -111,6 +90,3 @@ module _ {T O R : Type 0} where
   module _ (step_of : T → O → R → T → Type 0) (is_idle : R → Bool) (v w : View T O R) (met : MeetsIdle step_of is_idle v w) where
     pub step_idle : IsUnplayed v w → IsStep v w
     step_idle is = unplayed v w is.0 is.1 is.2 is.3 is.4 is.5 (met.word ∷ [], met.looked_is)
-
-    pub idle_looked : HasLooked 1 v w
-    idle_looked = let a = ap length met.looked_is in let b = length-append v.looked (met.word ∷ []) in omega (arith, a, b)

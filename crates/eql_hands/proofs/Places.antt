@@ -1,9 +1,8 @@
 -- Lists whose places are related one by one.
-use Rattle.std.proofs.Common.{◌≡◌, ◌≢◌, ◌≤◌, ◌+◌, inl, inr, ℕ, zero, suc, List, [], ◌∷◌, Some, length, refl, sym, ap, ◌∙◌, subst, arith}
-use Rattle.std.specs.Prelude.{slice_get, sum_by}
+use Rattle.std.proofs.Common.{◌≡◌, ◌≢◌, inl, inr, ℕ, zero, suc, List, [], ◌∷◌, Some, length, refl, sym, ap, ◌∙◌, subst, arith}
+use Rattle.std.specs.Prelude.{slice_get}
 use Rattle.std.proofs.lemmas.Bool.{cases_eq}
 use Rattle.std.proofs.lemmas.Option.{same_Some, slice_get_within}
-use Rattle.std.proofs.lemmas.List.Sums.{sum_by-cons}
 use Rattle.eql_hub.specs.Steps.{EachIsRelated}
 
 module _ {X : Type 0} where
@@ -48,41 +47,3 @@ module _ {X : Type 0} where
         let mid = there a b k u f.count at in
         join u mid.0 w (f.each k u mid.0 at mid.1) (s.each k mid.0 w mid.1 is);
   }
-
-  each_tail : (Related : X → X → Type 0) (x y : X) (xs ys : List X) → EachIsRelated Related (x ∷ xs) (y ∷ ys) → EachIsRelated Related xs ys
-  each_tail Related x y xs ys e = record {
-    count = let c = e.count in omega (arith, c);
-    each = λ k v w at is. e.each (suc k) v w at is;
-  }
-
-  module _ (f : X → ℕ) where
-    -- where no place has less the sum isn't less
-    pub sum_grows : (old new : List X) → EachIsRelated (λ v w. f v ≤ f w) old new → sum_by f old ≤ sum_by f new
-    sum_grows [] [] e = omega arith
-    sum_grows [] (y ∷ ys) e = absurd (let c = e.count in omega (arith, c))
-    sum_grows (x ∷ xs) [] e = absurd (let c = e.count in omega (arith, c))
-    sum_grows (x ∷ xs) (y ∷ ys) e =
-        let a = sum_by-cons f x xs in
-        let b = sum_by-cons f y ys in
-        let first = e.each 0 x y refl refl in
-        let rest = sum_grows xs ys (each_tail (λ v w. f v ≤ f w) x y xs ys e) in
-        omega (arith, a, b, first, rest)
-
-    -- and where one has more it is greater
-    pub sum_grows_at : (place : ℕ) (old new : List X) (before after : X) → slice_get old place ≡ Some before → slice_get new place ≡ Some after
-        → f before + 1 ≤ f after → EachIsRelated (λ v w. f v ≤ f w) old new → sum_by f old + 1 ≤ sum_by f new
-    sum_grows_at place [] new before after was is more e = absurd (let w = slice_get_within [] place before was in omega (arith, w))
-    sum_grows_at place (x ∷ xs) [] before after was is more e = absurd (let c = e.count in omega (arith, c))
-    sum_grows_at zero (x ∷ xs) (y ∷ ys) before after was is more e =
-        let a = sum_by-cons f x xs in
-        let b = sum_by-cons f y ys in
-        let v = ap f (same_Some x before was) in
-        let w = ap f (same_Some y after is) in
-        let rest = sum_grows xs ys (each_tail (λ v w. f v ≤ f w) x y xs ys e) in
-        omega (arith, a, b, v, w, more, rest)
-    sum_grows_at (suc place) (x ∷ xs) (y ∷ ys) before after was is more e =
-        let a = sum_by-cons f x xs in
-        let b = sum_by-cons f y ys in
-        let first = e.each 0 x y refl refl in
-        let rest = sum_grows_at place xs ys before after was is more (each_tail (λ v w. f v ≤ f w) x y xs ys e) in
-        omega (arith, a, b, first, rest)

@@ -1,5 +1,5 @@
 -- How the passes of a hand grow in one step.
-use Rattle.std.proofs.Common.{◌≤◌, ◌+◌, inl, inr, ℕ, List, Option, arith}
+use Rattle.std.proofs.Common.{inl, inr, ℕ, Bool, List, Option}
 use Rattle.eql_values.specs.Accepted.{Reads}
 use Rattle.eql_outside.specs.Plans.{FaultPlan}
 use Rattle.eql_lane.specs.declared.ops.LaneOp.TheVariants as lane_op
@@ -10,11 +10,12 @@ use Rattle.eql_hub.specs.declared.step.Did.{Did}
 use Rattle.eql_hub.specs.declared.step.Did.TheVariants as did
 use Rattle.eql_hub.specs.declared.step.HandFault.TheVariants as fault
 use Rattle.eql_hub.specs.Hands.{HandView, LaneKnown, PartKnown}
-use Rattle.eql_hub.specs.Steps.{EachIsRelated, StepEndsAtLane, LaneEnds, LaneIsIdle, LaneIsQuiet, StepEndsAtPart, PartEnds, PartIsIdle, PartIsQuiet, Steps}
+use Rattle.eql_hub.specs.Steps.{StepEndsAtLane, LaneEnds, LaneIsIdle, LaneIsQuiet, StepEndsAtPart, PartEnds, PartIsIdle, PartIsQuiet, Steps}
 use Rattle.eql_hub.specs.Turns.{IsLaneTurn, IsPartTurn, is_idle_lane, is_idle_part, is_open_lane, is_open_part}
-use Rattle.eql_hands.specs.Growth.{EachPass, HasLooked, HaveLooked, mine_in, mine_of}
-use Rattle.eql_hands.proofs.Passes.{IsStep, busy_looked, idle_looked, mine_grows, played_looked, played_one, step_busy, step_idle, step_played, step_same, step_worn}
-use Rattle.eql_hands.proofs.Places.{each_as, each_at, sum_grows, sum_grows_at}
+use Rattle.eql_hub.proofs.Sweeping.{passed_quiet}
+use Rattle.eql_hands.specs.Growth.{EachPass}
+use Rattle.eql_hands.proofs.Passes.{IsStep, step_busy, step_idle, step_played, step_same, step_worn}
+use Rattle.eql_hands.proofs.Places.{each_as, each_at}
 
 -- what one step does to each pass
 abbrev pub AreSteps : {S L : Type 0} → HandView S L → HandView S L → Type 0
@@ -25,11 +26,6 @@ part_idle_step : (batch : ℕ) (v w : PartKnown) → PartIsIdle batch v w → Is
 part_idle_step batch v w (inl h) = step_played IsPartTurn is_open_part v w (part_op.Turn batch) part_reply.Idle h
 part_idle_step batch v w (inr (inl (word, h))) = step_busy v w (part_op.Turn batch) (part_op.Turn batch) word h
 part_idle_step batch v w (inr (inr (is, met))) = step_idle IsPartTurn is_idle_part v w met is
-
-part_idle_looked : (batch : ℕ) (v w : PartKnown) → PartIsIdle batch v w → HasLooked 1 v w
-part_idle_looked batch v w (inl h) = played_looked IsPartTurn is_open_part v w (part_op.Turn batch) part_reply.Idle h
-part_idle_looked batch v w (inr (inl (word, h))) = busy_looked v w (part_op.Turn batch) (part_op.Turn batch) word h
-part_idle_looked batch v w (inr (inr (is, met))) = idle_looked IsPartTurn is_idle_part v w met
 
 part_quiet_step : (batch : ℕ) (v w : PartKnown) → PartIsQuiet batch v w → IsStep v w
 part_quiet_step batch v w (inl e) = step_same v w e
@@ -52,12 +48,6 @@ module _ {S L : Type 0} (left lent_as : S → Option (List ℕ)) (fault_plan : S
   lane_idle_step v w (inr (inr (inl (word, h)))) = step_busy v w (lane_op.Feed batch) (lane_op.Feed batch) word h
   lane_idle_step v w (inr (inr (inr (is, met)))) = step_idle (IsLaneTurn left lent_as fault_plan read_of) is_idle_lane v w met is
 
-  lane_idle_looked : (v w : LaneKnown S L) → LaneIsIdle left lent_as fault_plan read_of batch v w → HasLooked 1 v w
-  lane_idle_looked v w (inl (ready, h)) = played_looked (IsLaneTurn left lent_as fault_plan read_of) is_open_lane v w (lane_op.Feed batch) (lane_reply.Held ready) h
-  lane_idle_looked v w (inr (inl h)) = played_looked (IsLaneTurn left lent_as fault_plan read_of) is_open_lane v w (lane_op.Feed batch) lane_reply.Closed h
-  lane_idle_looked v w (inr (inr (inl (word, h)))) = busy_looked v w (lane_op.Feed batch) (lane_op.Feed batch) word h
-  lane_idle_looked v w (inr (inr (inr (is, met)))) = idle_looked (IsLaneTurn left lent_as fault_plan read_of) is_idle_lane v w met
-
   lane_quiet_step : (v w : LaneKnown S L) → LaneIsQuiet left lent_as fault_plan read_of batch v w → IsStep v w
   lane_quiet_step v w (inl e) = step_same v w e
   lane_quiet_step v w (inr h) = lane_idle_step v w h
@@ -76,8 +66,8 @@ module _ {S L : Type 0} (left lent_as : S → Option (List ℕ)) (fault_plan : S
   lane_ends_step did.Nothing place v w h = absurd h
 
   -- ---- the whole step
-  module _ (answer : Did) (old new : HandView S L) where
-    lane_ended_steps : StepEndsAtLane left lent_as fault_plan read_of batch answer old new → AreSteps old new
+  module _ (alone : List Bool) (answer : Did) (old new : HandView S L) where
+    lane_ended_steps : StepEndsAtLane left lent_as fault_plan read_of batch alone answer old new → AreSteps old new
     lane_ended_steps e = record {
       lanes = each_at IsStep e.lane old.lanes.views new.lanes.views e.before e.after e.count e.was e.is (lane_ends_step answer e.lane e.before e.after e.ends)
           (λ k v w apart at is. lane_quiet_step v w (e.others k v w apart at is));
@@ -91,51 +81,15 @@ module _ {S L : Type 0} (left lent_as : S → Option (List ℕ)) (fault_plan : S
           (λ k v w apart at is. part_quiet_step batch v w (e.others k v w apart at is));
     }
 
-  pub steps_are : (answer : Did) (old new : HandView S L) → Steps left lent_as fault_plan read_of batch answer old new → AreSteps old new
-  steps_are did.Nothing old new h = record {
-    lanes = each_as (LaneIsIdle left lent_as fault_plan read_of batch) IsStep old.lanes.views new.lanes.views lane_idle_step h.lanes;
+  pub steps_are : (alone : List Bool) (answer : Did) (old new : HandView S L) → Steps left lent_as fault_plan read_of batch alone answer old new → AreSteps old new
+  steps_are alone did.Nothing old new h = record {
+    lanes = record {
+      count = h.lane_count;
+      each = λ k v w at is. lane_quiet_step v w (passed_quiet left lent_as fault_plan read_of batch alone 0 k v w (h.lanes k v w at is));
+    };
     parts = each_as (PartIsIdle batch) IsStep old.parts.views new.parts.views (part_idle_step batch) h.parts;
   }
-  steps_are (did.Fed lane) old new h = lane_ended_steps (did.Fed lane) old new h
-  steps_are (did.Turned part) old new h = part_ended_steps (did.Turned part) old new h
-  steps_are (did.Fault f) old new (inl h) = lane_ended_steps (did.Fault f) old new h
-  steps_are (did.Fault f) old new (inr h) = part_ended_steps (did.Fault f) old new h
-
-  -- a step that found nothing to do met a word of each lock
-  pub nothing_looks : (old new : HandView S L) → Steps left lent_as fault_plan read_of batch did.Nothing old new → HaveLooked 1 old new
-  nothing_looks old new h = record {
-    lanes = each_as (LaneIsIdle left lent_as fault_plan read_of batch) (HasLooked 1) old.lanes.views new.lanes.views lane_idle_looked h.lanes;
-    parts = each_as (PartIsIdle batch) (HasLooked 1) old.parts.views new.parts.views (part_idle_looked batch) h.parts;
-  }
-
-  -- no step takes entries away
-  module _ (old new : HandView S L) (a : AreSteps old new) where
-    lanes_keep : EachIsRelated (λ v w. mine_in v ≤ mine_in w) old.lanes.views new.lanes.views
-    lanes_keep = each_as IsStep (λ v w. mine_in v ≤ mine_in w) old.lanes.views new.lanes.views (λ v w s. mine_grows v w s.later) a.lanes
-
-    parts_keep : EachIsRelated (λ v w. mine_in v ≤ mine_in w) old.parts.views new.parts.views
-    parts_keep = each_as IsStep (λ v w. mine_in v ≤ mine_in w) old.parts.views new.parts.views (λ v w s. mine_grows v w s.later) a.parts
-
-    pub steps_keep : mine_of old ≤ mine_of new
-    steps_keep =
-        let l = sum_grows mine_in old.lanes.views new.lanes.views lanes_keep in
-        let p = sum_grows mine_in old.parts.views new.parts.views parts_keep in
-        omega (arith, l, p)
-
-  -- a feed adds an entry
-  pub fed_adds : (lane : ℕ) (old new : HandView S L) → Steps left lent_as fault_plan read_of batch (did.Fed lane) old new → mine_of old + 1 ≤ mine_of new
-  fed_adds lane old new h =
-      let a = steps_are (did.Fed lane) old new h in
-      let more = played_one (IsLaneTurn left lent_as fault_plan read_of) is_open_lane h.before h.after (lane_op.Feed batch) (lane_reply.Fed h.ends.1.0) h.ends.1.1 in
-      let l = sum_grows_at mine_in h.lane old.lanes.views new.lanes.views h.before h.after h.was h.is more (lanes_keep old new a) in
-      let p = sum_grows mine_in old.parts.views new.parts.views (parts_keep old new a) in
-      omega (arith, l, p)
-
-  -- and so does a turn
-  pub turned_adds : (part : ℕ) (old new : HandView S L) → Steps left lent_as fault_plan read_of batch (did.Turned part) old new → mine_of old + 1 ≤ mine_of new
-  turned_adds part old new h =
-      let a = steps_are (did.Turned part) old new h in
-      let more = played_one IsPartTurn is_open_part h.before h.after (part_op.Turn batch) (part_reply.Turned h.ends.1.0) h.ends.1.1 in
-      let l = sum_grows mine_in old.lanes.views new.lanes.views (lanes_keep old new a) in
-      let p = sum_grows_at mine_in h.part old.parts.views new.parts.views h.before h.after h.was h.is more (parts_keep old new a) in
-      omega (arith, l, p)
+  steps_are alone (did.Fed lane) old new h = lane_ended_steps alone (did.Fed lane) old new h
+  steps_are alone (did.Turned part) old new h = part_ended_steps alone (did.Turned part) old new h
+  steps_are alone (did.Fault f) old new (inl h) = lane_ended_steps alone (did.Fault f) old new h
+  steps_are alone (did.Fault f) old new (inr h) = part_ended_steps alone (did.Fault f) old new h

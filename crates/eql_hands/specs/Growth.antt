@@ -1,5 +1,5 @@
 -- How the passes of a hand grow over its steps.
-use Rattle.std.specs.Prelude.{◌⊎◌, ◌≤◌, ◌+◌, ℕ, length, sum_by}
+use Rattle.std.specs.Prelude.{◌≤◌, ◌+◌, ℕ, length}
 use Rattle.eql_turn_lock.specs.declared.view.View.{View}
 use Rattle.eql_hub.specs.Hands.{HandView, LaneKnown, PartKnown}
 use Rattle.eql_hub.specs.Later.{IsLater}
@@ -9,14 +9,6 @@ module _ {T O R : Type 0} where
   -- it has at most so many entries more of its own
   abbrev pub HasMineWithin : ℕ → View T O R → View T O R → Type 0
   HasMineWithin most v w = length w.mine ≤ length v.mine + most
-
-  -- it met at least so many words more
-  abbrev pub HasLooked : ℕ → View T O R → View T O R → Type 0
-  HasLooked least v w = length v.looked + least ≤ length w.looked
-
-  -- how many entries a pass has of its own
-  abbrev pub mine_in : View T O R → ℕ
-  mine_in v = length v.mine
 
 module _ {S L : Type 0} where
   -- each pass of a lane is related so to what it was before, and each pass of a part so
@@ -31,15 +23,3 @@ module _ {S L : Type 0} where
   -- each pass has at most so many entries more of its own
   abbrev pub HaveMineWithin : ℕ → HandView S L → HandView S L → Type 0
   HaveMineWithin most old new = EachPass (HasMineWithin most) (HasMineWithin most) old new
-
-  -- each pass met at least so many words more
-  abbrev pub HaveLooked : ℕ → HandView S L → HandView S L → Type 0
-  HaveLooked least old new = EachPass (HasLooked least) (HasLooked least) old new
-
-  -- how many entries all passes together have of their own
-  abbrev pub mine_of : HandView S L → ℕ
-  mine_of hand = sum_by mine_in hand.lanes.views + sum_by mine_in hand.parts.views
-
-  -- each pass met at least so many words more, or all together have at least so many entries more of their own
-  abbrev pub DidEnough : (looks entries : ℕ) → HandView S L → HandView S L → Type 0
-  DidEnough looks entries old new = HaveLooked looks old new ⊎ (mine_of old + entries ≤ mine_of new)

@@ -1,4 +1,4 @@
-//! What one further thread does: it plays steps of its hand until there has been nothing to do for long.
+//! What one further thread does: it plays steps of its hand until the run has ended, and sleeps where there is nothing to do.
 //!
 //! [`run_hand`] is that thread's work, and a [`Gate`] is where a test may hold it.
 #![tactic(auto)]

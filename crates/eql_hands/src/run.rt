@@ -2,41 +2,31 @@
 ghost use Rattle.std.specs.Prelude.{◌≡◌, ◌≤◌, ◌^◌, IfNone, IfSome};
 ghost use Rattle.eql_hub.specs.Hands.{IsHandOf, Knows};
 ghost use Rattle.eql_hub.specs.Steps.{Steps};
-ghost use Rattle.eql_hands.specs.Growth.{AreLater, DidEnough, HaveMineWithin};
-ghost use Rattle.eql_hands.specs.Runs.{MeetsFault, Ran};
+ghost use Rattle.eql_hands.specs.Growth.{AreLater, HaveMineWithin};
+ghost use Rattle.eql_hands.specs.Runs.{EndsIdle, MeetsFault, Ran};
 
 use crate::gate::{Gate, Moment};
-use eql_hub::{Did, Hand, HandFault, Hub};
+use eql_hub::{Bell, Did, Hand, HandFault, Hub};
 use eql_outside::Source;
 use eql_values::LineReader;
 use std::hint::spin_loop;
+use std::sync::Wait;
 use std::sync::ledger::Ledger;
-use std::thread::yield_now;
-
-// After so many steps in a row that found nothing to do a hand stops.
-const MOST_IDLE: u32 = 100_000;
 
 // So many steps a hand does at most.
 const MOST_STEPS: u64 = 1_099_511_627_776;
 
-// So often the processor is told to rest between two steps at most.
-const MOST_SPINS: u32 = 16;
+// After so many steps in a row that found nothing to do a hand sleeps, and before that it only rests for a moment.
+const MOST_IDLE: u32 = 24;
 
-// After more than `MOST_SPINS` steps in a row that found nothing to do, the thread lets others run at every eighth of them.
-const STEPS_A_YIELD: u32 = 8;
-
-// Pauses after so many steps in a row that found nothing to do. After the first few the processor is told to rest, longer each
-// time. After more than 16 it is told so once, and at every eighth step other threads are let run instead. So a hand that is idle
-// leaves its processor to those at work, and comes to its end soon where no work comes. It waits for nobody.
-fn pause(idle: u32) {
-    if idle <= MOST_SPINS {
+// Rests after so many steps in a row that found nothing to do: the longer, the more they are, until the hand sleeps.
+fn pause<R: Wait>(rt: &R, bell: &Bell, idle: u32, rings: u64) {
+    if idle < MOST_IDLE {
         for _ in 0..idle {
             spin_loop();
         }
-    } else if idle % STEPS_A_YIELD == 0 {
-        yield_now();
     } else {
-        spin_loop();
+        bell.wait(rt, rings);
     }
 }
 
@@ -54,7 +44,7 @@ fn step_through<S: Source, L: LineReader, G: Ledger, W: Gate>(
     ensures own { IsHandOf hub.now hand.new }
     ensures knows { Knows S.left S.lent_as S.fault_plan L.read_of hand.old
         → Knows S.left S.lent_as S.fault_plan L.read_of hand.new }
-    ensures steps { Steps S.left S.lent_as S.fault_plan L.read_of batch result
+    ensures steps { Steps S.left S.lent_as S.fault_plan L.read_of batch hub.now.alone result
         hand.old hand.new }
 {
     gate.step(number, Moment::Enter);
@@ -63,9 +53,12 @@ fn step_through<S: Source, L: LineReader, G: Ledger, W: Gate>(
     did
 }
 
-// Does steps until the hand is to stop, and returns the fault that it met, if it met one.
-fn play_steps<S: Source, L: LineReader, G: Ledger, W: Gate>(
+// Does steps until the hand is to stop, and returns the fault that it met, if it met one. The rings are read before each step, so
+// that none is lost between a step that found nothing and the sleep behind it.
+fn play_steps<R: Wait, S: Source, L: LineReader, G: Ledger, W: Gate>(
+    rt: &R,
     hub: &Hub<S, L, G>,
+    bell: &Bell,
     hand: &mut Hand<S, L, G>,
     number: u32,
     batch: u32,
@@ -75,21 +68,22 @@ fn play_steps<S: Source, L: LineReader, G: Ledger, W: Gate>(
     requires batch_from { 1 ≤ batch }
     requires batch_to { batch ≤ 4096 }
     ensures own { IsHandOf hub.now hand.new }
-    ensures ran { Ran S.left S.lent_as S.fault_plan L.read_of batch 100000 (2 ^ 40) result
+    ensures ran { Ran S.left S.lent_as S.fault_plan L.read_of batch hub.now.alone (2 ^ 40) result
         hand.old hand.new }
     ensures knows { Knows S.left S.lent_as S.fault_plan L.read_of hand.old
         → Knows S.left S.lent_as S.fault_plan L.read_of hand.new }
 {
-    let mut idle = 0;
+    let mut idle: u32 = 0;
     for _step in 0..MOST_STEPS {
+        let rings = bell.rings();
         match step_through(hub, hand, number, batch, gate) {
             Did::Fault(fault) => return Some(fault),
             Did::Nothing => {
-                idle += 1;
-                if idle == MOST_IDLE {
+                if !bell.is_on() {
                     return None;
                 }
-                pause(idle);
+                idle = MOST_IDLE.min(idle.saturating_add(1));
+                pause(rt, bell, idle, rings);
             }
             Did::Fed { lane: _ } => idle = 0,
             Did::Turned { part: _ } => idle = 0,
@@ -98,12 +92,15 @@ fn play_steps<S: Source, L: LineReader, G: Ledger, W: Gate>(
     None
 }
 
-/// Plays steps of a hand, each of at most `batch` lines or events, from 1 to 4,096. It stops after a fault, which it returns,
-/// after 100,000 steps in a row that found nothing to do, and after 1,099,511,627,776 steps.
+/// Plays steps of a hand, each of at most `batch` lines or events, from 1 to 4,096. It stops after a fault, which it returns, after a
+/// step that found nothing to do while no run is on, and after 1,099,511,627,776 steps.
 ///
-/// It passes the gate with the hand's number before and after each step. The gate alone may make it wait.
-pub fn run_hand<S: Source, L: LineReader, G: Ledger, W: Gate>(
+/// While a run is on, a hand that finds nothing to do sleeps until the bell is rung. It passes the gate with the hand's number before
+/// and after each step; the gate may make it wait too.
+pub fn run_hand<R: Wait, S: Source, L: LineReader, G: Ledger, W: Gate>(
+    rt: &R,
     hub: &Hub<S, L, G>,
+    bell: &Bell,
     hand: Hand<S, L, G>,
     number: u32,
     batch: u32,
@@ -115,7 +112,7 @@ pub fn run_hand<S: Source, L: LineReader, G: Ledger, W: Gate>(
     ensures own { IsHandOf hub.now result.0 }
 
     // It did these steps and no others, and the fault is that of the last one.
-    ensures ran { Ran S.left S.lent_as S.fault_plan L.read_of batch 100000 (2 ^ 40) result.1
+    ensures ran { Ran S.left S.lent_as S.fault_plan L.read_of batch hub.now.alone (2 ^ 40) result.1
         hand result.0 }
     ensures knows { Knows S.left S.lent_as S.fault_plan L.read_of hand
         → Knows S.left S.lent_as S.fault_plan L.read_of result.0 }
@@ -123,14 +120,14 @@ pub fn run_hand<S: Source, L: LineReader, G: Ledger, W: Gate>(
     // Each pass is the same, and what it knew begins what it knows now.
     ensures same { AreLater hand result.0 }
     ensures fault { IfSome result.1 (λ fault. MeetsFault S.left S.lent_as S.fault_plan L.read_of
-        batch 100000 (2 ^ 40) fault hand result.0) }
+        batch hub.now.alone (2 ^ 40) fault hand result.0) }
 
-    // Where it met no fault, each pass has looked at its lock so often, or all passes together
-    // have played so much.
-    ensures rest { IfNone result.1 (DidEnough 100000 10000000 hand result.0) }
+    // Where it met no fault, its last step found nothing to do, or it did all its steps.
+    ensures rest { IfNone result.1 (EndsIdle S.left S.lent_as S.fault_plan L.read_of
+        batch hub.now.alone (2 ^ 40) hand result.0) }
     ensures bound { HaveMineWithin (2 ^ 40) hand result.0 }
 {
     let mut hand = hand;
-    let fault = play_steps(hub, &mut hand, number, batch, gate);
+    let fault = play_steps(rt, hub, bell, &mut hand, number, batch, gate);
     (hand, fault)
 }

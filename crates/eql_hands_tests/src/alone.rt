@@ -4,13 +4,14 @@ ghost use Rattle.std.specs.Prelude.{◌≡◌, ◌≤◌};
 use crate::opening::{fresh_lane, fresh_parts, source_over};
 use crate::plans::plan_of;
 use eql_hands::{NoGate, run_hand};
-use eql_hub::{HandFault, Hub};
+use eql_hub::{Bell, HandFault, Hub};
 use eql_lane::Lane;
 use eql_outside::MemSource;
 use eql_stages::PlanReader;
 use eql_values::Counts;
 use std::alloc::Global;
 use std::marker::Brand;
+use std::sync::Wait;
 use std::sync::ledger::{Blank, Ledger};
 use std::test::Fail;
 
@@ -40,7 +41,8 @@ struct Played {
 }
 
 /// Makes a hub of one lane and of parts of three stages, and has a hand play there that was split off the first one.
-fn play_alone<G: Ledger>(
+fn play_alone<R: Wait, G: Ledger>(
+    rt: &R,
     alloc: Global,
     lane: Lane<MemSource, PlanReader>,
     blank: Blank,
@@ -56,7 +58,7 @@ fn play_alone<G: Ledger>(
     let Ok(other) = hub.split_hand(alloc, &mut first) else {
         return Err(Fail::new("no hand"));
     };
-    let (other, met) = run_hand(&hub, other, 1, 4, &NoGate);
+    let (other, met) = run_hand(rt, &hub, &Bell::new(), other, 1, 4, &NoGate);
     hub.join_hand(&mut first, other);
     let (lanes, _) = hub.close(first);
     let Some(lane) = lanes.first() else {
@@ -68,13 +70,13 @@ fn play_alone<G: Ledger>(
     })
 }
 
-/// Nobody else plays, so all that was read was read by this hand.
+/// Nobody else plays, so all that was read was read by this hand. No run is on, so it ends once there is nothing to do.
 #[test]
 fn a_hand_reads_a_lane_to_its_end(rt: HostRuntime) -> Result<(), Fail> {
     let alloc = rt.alloc();
     let plan = plan_of(alloc, QUERY)?;
     let lane = fresh_lane(alloc, &plan, source_over(alloc, ELEVEN)?, 0)?;
-    let played = play_alone::<Brand>(alloc, lane, Blank::new(16))?;
+    let played = play_alone::<HostRuntime, Brand>(&rt, alloc, lane, Blank::new(16))?;
     assert!(rt; played.met.is_none());
     assert_eq!(rt; played.counts.lines, 11);
     assert_eq!(rt; played.counts.accepted, 11);

@@ -1,5 +1,5 @@
 //! Two sources of which each waits for the other one to be asked, so that one thread alone can't get on.
-use eql_outside::{Failed, MemSource, Source};
+use eql_outside::{Failed, MemSource, Source, Supply};
 use std::alloc::Global;
 use std::sync::Arc;
 use std::sync::atomic::{AtomicBool, Ordering};
@@ -58,6 +58,8 @@ impl Source for MeetingSource {
 
     ghost fault_plan = { λ s. ⟦<MemSource as Source>⟧.fault_plan s.source };
 
+    ghost supply_of = { λ s. ⟦<MemSource as Source>⟧.supply_of s.source };
+
     fn take(&mut self, into: &mut [u8]) -> Result<usize, Failed> {
         self.meet();
         self.asked = true;
@@ -66,5 +68,9 @@ impl Source for MeetingSource {
 
     fn faults(&self) -> u64 {
         self.source.faults()
+    }
+
+    fn supply(&self) -> Supply {
+        self.source.supply()
     }
 }

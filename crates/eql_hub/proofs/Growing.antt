@@ -19,7 +19,7 @@ use Rattle.eql_hub.specs.declared.step.HandFault.TheVariants as fault
 use Rattle.eql_hub.specs.Hands.{HandView, LaneKnown, PartKnown}
 use Rattle.eql_hub.specs.Steps.{EachIsRelated, StepEndsAtLane, LaneEnds, LaneIsIdle, LaneIsQuiet, AddsAtMostOne, AddsAtMostOneEach, StepEndsAtPart, PartEnds, PartIsIdle, PartIsQuiet, Steps}
 use Rattle.eql_hub.specs.Turns.{IsLaneTurn, IsPartTurn, is_open_lane, is_open_part}
-use Rattle.eql_hub.proofs.Sweeping.{same_or}
+use Rattle.eql_hub.proofs.Sweeping.{passed_quiet, same_or}
 
 module _ {T O R : Type 0} where
   more_same : (v w : View T O R) → w ≡ v → AddsAtMostOne v w
@@ -93,8 +93,8 @@ module _ {S L : Type 0} (left lent_as : S → Option (List ℕ)) (fault_plan : S
   lane_ends_more (did.Turned part) place v w h = absurd h
   lane_ends_more did.Nothing place v w h = absurd h
 
-  lane_ended_more : (answer : Did) (old new : HandView S L) → StepEndsAtLane left lent_as fault_plan read_of batch answer old new → AddsAtMostOneEach old new
-  lane_ended_more answer old new e = record {
+  lane_ended_more : (alone : List Bool) (answer : Did) (old new : HandView S L) → StepEndsAtLane left lent_as fault_plan read_of batch alone answer old new → AddsAtMostOneEach old new
+  lane_ended_more alone answer old new e = record {
     lanes = more_places e.lane old.lanes.views new.lanes.views e.before e.after e.count e.was e.is (lane_ends_more answer e.lane e.before e.after e.ends)
         (λ k v w apart at is. lane_quiet_more v w (e.others k v w apart at is));
     parts = record { count = e.parts.count; each = λ k v w at is. part_quiet_more batch v w (e.parts.each k v w at is) };
@@ -107,12 +107,12 @@ module _ {S L : Type 0} (left lent_as : S → Option (List ℕ)) (fault_plan : S
         (λ k v w apart at is. part_quiet_more batch v w (e.others k v w apart at is));
   }
 
-  pub steps_more : (answer : Did) (old new : HandView S L) → Steps left lent_as fault_plan read_of batch answer old new → AddsAtMostOneEach old new
-  steps_more did.Nothing old new h = record {
-    lanes = record { count = h.lanes.count; each = λ k v w at is. lane_idle_more v w (h.lanes.each k v w at is) };
+  pub steps_more : (alone : List Bool) (answer : Did) (old new : HandView S L) → Steps left lent_as fault_plan read_of batch alone answer old new → AddsAtMostOneEach old new
+  steps_more alone did.Nothing old new h = record {
+    lanes = record { count = h.lane_count; each = λ k v w at is. lane_quiet_more v w (passed_quiet left lent_as fault_plan read_of batch alone 0 k v w (h.lanes k v w at is)) };
     parts = record { count = h.parts.count; each = λ k v w at is. part_idle_more batch v w (h.parts.each k v w at is) };
   }
-  steps_more (did.Fed lane) old new h = lane_ended_more (did.Fed lane) old new h
-  steps_more (did.Turned part) old new h = part_ended_more (did.Turned part) old new h
-  steps_more (did.Fault f) old new (inl h) = lane_ended_more (did.Fault f) old new h
-  steps_more (did.Fault f) old new (inr h) = part_ended_more (did.Fault f) old new h
+  steps_more alone (did.Fed lane) old new h = lane_ended_more alone (did.Fed lane) old new h
+  steps_more alone (did.Turned part) old new h = part_ended_more (did.Turned part) old new h
+  steps_more alone (did.Fault f) old new (inl h) = lane_ended_more alone (did.Fault f) old new h
+  steps_more alone (did.Fault f) old new (inr h) = part_ended_more (did.Fault f) old new h

@@ -9,6 +9,7 @@ use Rattle.eql_turn_lock.proofs.Sends.{pass_send, lock_sync}
 use Rattle.eql_lock_row.specs.contracts.row.LockRow as LockRow
 use Rattle.eql_lock_row.specs.contracts.row.PassRow as PassRow
 use Rattle.eql_hub.specs.contracts.wrapped.TurnedPart as TurnedPart
+use Rattle.eql_hub.specs.contracts.bell.Bell as Bell
 use Rattle.eql_hub.specs.contracts.hub.Hub as Hub
 use Rattle.eql_hub.specs.contracts.hub.Hand as Hand
 use Rattle.eql_outside.specs.declared.source.Source as source
@@ -159,3 +160,6 @@ hand_send S L G s r l a b c = search (sendable, crosses, passes_send, turned_lan
 pub hub_sync : (S L G : RattleType) (s : source.Ghosts S.Denot) (r : reader.Ghosts L.Denot) (l : ledger.Ghosts G.Denot) → IsSend S → IsSend L → IsSync S → IsSync L
     → IsSend (TurnedPart.the_row G l) → IsSync (TurnedPart.the_row G l) → IsSync (Hub.the_row S L G s r l)
 hub_sync S L G s r l a b y z c d = search (sendable, crosses, locks_sync, turned_lane_send, turned_lane_sync, lane_sync) depth 20
+
+pub bell_sync : IsSync Bell.the_row
+bell_sync = search (sendable, crosses) depth 20

@@ -1,8 +1,10 @@
 -- A hub and its hands as their callers see them.
-use Rattle.std.specs.Prelude.{◌≡◌, ℕ, List, Option}
+use Rattle.std.specs.Prelude.{◌≡◌, ℕ, Bool, true, false, List, Option}
 use Rattle.std.specs.List.{AllZip}
 use Rattle.atomic_table.specs.Seated.{TableId}
 use Rattle.eql_values.specs.Accepted.{Reads}
+use Rattle.eql_outside.specs.declared.supply.Supply.{Supply}
+use Rattle.eql_outside.specs.declared.supply.Supply.TheVariants as supply
 use Rattle.eql_outside.specs.Plans.{FaultPlan}
 use Rattle.eql_lane.specs.declared.ops.LaneOp.{LaneOp}
 use Rattle.eql_lane.specs.declared.ops.LaneReply.{LaneReply}
@@ -22,10 +24,21 @@ LaneKnown S L = View (LaneView S L) LaneOp LaneReply
 abbrev pub PartKnown : Type 0
 PartKnown = View PartView PartOp PartReply
 
--- which locks the lanes and the parts have
+-- a take may wait for as long as nobody writes
+abbrev pub may_pause : Supply → Bool
+may_pause supply.Untold = false
+may_pause (supply.File bytes) = false
+may_pause supply.Pausing = true
+
+-- whether the conductor alone feeds the lane, so that no hand waits in it for a writer
+abbrev pub is_fed_alone : {S L : Type 0} → (S → Supply) → LaneView S L → Bool
+is_fed_alone supply_of lane = may_pause (supply_of lane.source)
+
+-- which locks the lanes and the parts have, and which of the lanes the conductor alone feeds
 pub record HubView : Type 0 where
   pub lanes : List TableId
   pub parts : List TableId
+  pub alone : List Bool
 
 -- a pass of each lane and of each part
 pub record HandView (S L : Type 0) : Type 0 where

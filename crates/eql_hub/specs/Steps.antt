@@ -1,5 +1,5 @@
 -- What a hand does in one step.
-use Rattle.std.specs.Prelude.{◌≡◌, ◌≢◌, ◌⊎◌, ◌≤◌, ◌+◌, ℕ, List, Option, Some, length, slice_get}
+use Rattle.std.specs.Prelude.{◌≡◌, ◌≢◌, ◌⊎◌, ◌≤◌, ◌+◌, ℕ, Bool, true, false, List, Option, Some, length, slice_get}
 use Rattle.eql_values.specs.Accepted.{Reads}
 use Rattle.eql_values.specs.declared.item.Item.{Item}
 use Rattle.eql_outside.specs.Plans.{FaultPlan}
@@ -103,15 +103,21 @@ module _ {S L : Type 0} (left lent_as : S → Option (List ℕ)) (fault_plan : S
   LaneEnds (did.Turned part) place v w = ⊥
   LaneEnds did.Nothing place v w = ⊥
 
+  -- nothing was to be done at the lane in a place, or the conductor alone feeds it and it wasn't tried
+  abbrev pub LaneIsPassed : (alone : List Bool) → (place : ℕ) → LaneKnown S L → LaneKnown S L → Type 0
+  LaneIsPassed alone place v w = LaneIsIdle v w ⊎ ((slice_get alone place ≡ Some true) × (w ≡ v))
+
   -- ---- the whole step
-  -- nothing was to be done at any lane or part
-  pub record FindsNothing (old new : HandView S L) : Type 0 where
-    pub lanes : EachIsRelated LaneIsIdle old.lanes.views new.lanes.views
+  -- nothing was to be done at any part, nor at any lane but those that the conductor alone feeds
+  pub record FindsNothing (alone : List Bool) (old new : HandView S L) : Type 0 where
+    pub lane_count : length new.lanes.views ≡ length old.lanes.views
+    pub lanes : (k : ℕ) (v w : LaneKnown S L) → slice_get old.lanes.views k ≡ Some v → slice_get new.lanes.views k ≡ Some w → LaneIsPassed alone k v w
     pub parts : EachIsRelated (PartIsIdle batch) old.parts.views new.parts.views
 
-  -- the step ended at a lane, and nothing was to be done where it was before
-  pub record StepEndsAtLane (answer : Did) (old new : HandView S L) : Type 0 where
+  -- the step ended at a lane that hands feed too, and nothing was to be done where it was before
+  pub record StepEndsAtLane (alone : List Bool) (answer : Did) (old new : HandView S L) : Type 0 where
     pub lane : ℕ
+    pub shared : slice_get alone lane ≡ Some false
     pub before : LaneKnown S L
     pub after : LaneKnown S L
     pub was : slice_get old.lanes.views lane ≡ Some before
@@ -134,8 +140,8 @@ module _ {S L : Type 0} (left lent_as : S → Option (List ℕ)) (fault_plan : S
     pub lanes : EachIsRelated LaneIsQuiet old.lanes.views new.lanes.views
 
   -- what a step that returns this has done: each lane and part was tried once at most
-  abbrev pub Steps : Did → HandView S L → HandView S L → Type 0
-  Steps did.Nothing old new = FindsNothing old new
-  Steps (did.Fed lane) old new = StepEndsAtLane (did.Fed lane) old new
-  Steps (did.Turned part) old new = StepEndsAtPart (did.Turned part) old new
-  Steps (did.Fault f) old new = StepEndsAtLane (did.Fault f) old new ⊎ StepEndsAtPart (did.Fault f) old new
+  abbrev pub Steps : (alone : List Bool) → Did → HandView S L → HandView S L → Type 0
+  Steps alone did.Nothing old new = FindsNothing alone old new
+  Steps alone (did.Fed lane) old new = StepEndsAtLane alone (did.Fed lane) old new
+  Steps alone (did.Turned part) old new = StepEndsAtPart (did.Turned part) old new
+  Steps alone (did.Fault f) old new = StepEndsAtLane alone (did.Fault f) old new ⊎ StepEndsAtPart (did.Fault f) old new

@@ -1,5 +1,5 @@
 -- How a hand goes over its places: the lanes, and behind them the parts.
-use Rattle.std.specs.Prelude.{◌≡◌, ◌⊎◌, ◌<◌, ◌≤◌, ◌+◌, ℕ, List, Option, None, Some, length, slice_get}
+use Rattle.std.specs.Prelude.{◌≡◌, ◌⊎◌, ◌<◌, ◌≤◌, ◌+◌, ℕ, Bool, false, List, Option, None, Some, length, slice_get}
 use Rattle.eql_values.specs.Accepted.{Reads}
 use Rattle.eql_outside.specs.Plans.{FaultPlan}
 use Rattle.eql_lane.specs.declared.ops.LaneOp.{LaneOp}
@@ -19,7 +19,7 @@ use Rattle.eql_hub.specs.declared.step.Did.{Did}
 use Rattle.eql_hub.specs.declared.step.Did.TheVariants as did
 use Rattle.eql_hub.specs.declared.step.HandFault.TheVariants as fault
 use Rattle.eql_hub.specs.Hands.{HandView, Knows, LaneKnown, PartKnown}
-use Rattle.eql_hub.specs.Steps.{LaneEnds, LaneIsIdle, PartEnds, PartIsIdle}
+use Rattle.eql_hub.specs.Steps.{LaneEnds, LaneIsPassed, PartEnds, PartIsIdle}
 use Rattle.eql_hub.specs.Turns.{IsLaneTurn, IsPartTurn, is_open_lane, is_open_part}
 
 -- what the answer of a feed ends the step with, if with anything
@@ -64,14 +64,15 @@ did_in None = did.Nothing
 did_in (Some (place, answer)) = answer
 
 module _ {S L : Type 0} (left lent_as : S → Option (List ℕ)) (fault_plan : S → Option FaultPlan) (read_of : L → Reads) (batch : ℕ) where
-  -- n lanes: nothing was to be done in the places from the one up to the other, and elsewhere nothing was tried
-  pub record PassesPlaces (n from to : ℕ) (old new : HandView S L) : Type 0 where
+  -- n lanes, of which the conductor alone feeds some: nothing was to be done by a hand in the places from the one up to the other, and elsewhere nothing
+  -- was tried
+  pub record PassesPlaces (alone : List Bool) (n from to : ℕ) (old new : HandView S L) : Type 0 where
     pub lane_locks : new.lanes.locks ≡ old.lanes.locks
     pub part_locks : new.parts.locks ≡ old.parts.locks
     pub lane_count : length new.lanes.views ≡ length old.lanes.views
     pub part_count : length new.parts.views ≡ length old.parts.views
     pub lanes_in : (k : ℕ) (v w : LaneKnown S L) → k < n → from ≤ k → k < to → slice_get old.lanes.views k ≡ Some v → slice_get new.lanes.views k ≡ Some w
-        → LaneIsIdle left lent_as fault_plan read_of batch v w
+        → LaneIsPassed left lent_as fault_plan read_of batch alone k v w
     pub lanes_out : (k : ℕ) → (k < from) ⊎ (to ≤ k) → slice_get new.lanes.views k ≡ slice_get old.lanes.views k
     pub parts_in : (k : ℕ) (v w : PartKnown) → from ≤ n + k → n + k < to → slice_get old.parts.views k ≡ Some v → slice_get new.parts.views k ≡ Some w
         → PartIsIdle batch v w
@@ -91,24 +92,24 @@ module _ {S L : Type 0} (left lent_as : S → Option (List ℕ)) (fault_plan : S
     pub changes : ChangesAt part (λ (v w : PartKnown). PartEnds batch answer part v w × KnowsHistory IsPartTurn is_open_part w) old.parts.views new.parts.views
     pub lanes : new.lanes ≡ old.lanes
 
-  -- the step ended in a place
-  pub record EndsAt (n place : ℕ) (answer : Did) (old new : HandView S L) : Type 0 where
-    pub ends : ((place < n) × EndsAtLane place answer old new) ⊎ ((part : ℕ) × (place ≡ n + part) × EndsAtPart part answer old new)
+  -- the step ended in a place: at a lane that hands feed too, or at a part
+  pub record EndsAt (alone : List Bool) (n place : ℕ) (answer : Did) (old new : HandView S L) : Type 0 where
+    pub ends : ((place < n) × (slice_get alone place ≡ Some false) × EndsAtLane place answer old new) ⊎ ((part : ℕ) × (place ≡ n + part) × EndsAtPart part answer old new)
 
   -- nothing was to be done in the places before, and then it ended
-  pub record StopsAt (n from to place : ℕ) (answer : Did) (old new : HandView S L) : Type 0 where
+  pub record StopsAt (alone : List Bool) (n from to place : ℕ) (answer : Did) (old new : HandView S L) : Type 0 where
     pub from_place : from ≤ place
     pub to_place : place < to
     pub mid : HandView S L
-    pub passed : PassesPlaces n from place old mid
-    pub ends : EndsAt n place answer mid new
+    pub passed : PassesPlaces alone n from place old mid
+    pub ends : EndsAt alone n place answer mid new
 
   -- where a sweep ended, if it did
-  abbrev pub SweepEnds : (n from to : ℕ) → Option (ℕ × Did) → HandView S L → HandView S L → Type 0
-  SweepEnds n from to None old new = PassesPlaces n from to old new
-  SweepEnds n from to (Some (place, answer)) old new = StopsAt n from to place answer old new
+  abbrev pub SweepEnds : (alone : List Bool) → (n from to : ℕ) → Option (ℕ × Did) → HandView S L → HandView S L → Type 0
+  SweepEnds alone n from to None old new = PassesPlaces alone n from to old new
+  SweepEnds alone n from to (Some (place, answer)) old new = StopsAt alone n from to place answer old new
 
   -- what one try did
-  abbrev pub TriesPlace : (n place : ℕ) → Option Did → HandView S L → HandView S L → Type 0
-  TriesPlace n place None old new = PassesPlaces n place (place + 1) old new
-  TriesPlace n place (Some answer) old new = EndsAt n place answer old new
+  abbrev pub TriesPlace : (alone : List Bool) → (n place : ℕ) → Option Did → HandView S L → HandView S L → Type 0
+  TriesPlace alone n place None old new = PassesPlaces alone n place (place + 1) old new
+  TriesPlace alone n place (Some answer) old new = EndsAt alone n place answer old new

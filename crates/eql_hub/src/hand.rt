@@ -30,8 +30,8 @@ impl<S: Source, L: LineReader, G: Ledger> Hub<S, L, G> {
         ensures place { IfSome result (λ found. found.0 < count) }
         ensures knows { Knows S.left S.lent_as S.fault_plan L.read_of hand.old
             → Knows S.left S.lent_as S.fault_plan L.read_of hand.new }
-        ensures steps { Steps S.left S.lent_as S.fault_plan L.read_of batch (did_in result)
-            hand.old hand.new }
+        ensures steps { Steps S.left S.lent_as S.fault_plan L.read_of batch self.now.alone
+            (did_in result) hand.old hand.new }
     {
         if let Some(found) = self.sweep(hand, batch, start, count) {
             return Some(found);
@@ -40,7 +40,7 @@ impl<S: Source, L: LineReader, G: Ledger> Hub<S, L, G> {
     }
 
     /// Feeds a lane or has a part play events where something is to be done: at most `batch` lines or events, from 1 to 4,096. It
-    /// tries each lane and each part once at most, and waits for nobody.
+    /// tries each part once at most, and each lane but those that the conductor alone feeds. It waits for nobody.
     pub fn hand_step(&self, hand: &mut Hand<S, L, G>, batch: u32) -> Did
         requires own { IsHandOf self.now hand.old }
         requires batch_from { 1 ≤ batch }
@@ -48,7 +48,7 @@ impl<S: Source, L: LineReader, G: Ledger> Hub<S, L, G> {
         ensures own { IsHandOf self.now hand.new }
         ensures knows { Knows S.left S.lent_as S.fault_plan L.read_of hand.old
             → Knows S.left S.lent_as S.fault_plan L.read_of hand.new }
-        ensures steps { Steps S.left S.lent_as S.fault_plan L.read_of batch result
+        ensures steps { Steps S.left S.lent_as S.fault_plan L.read_of batch self.now.alone result
             hand.old hand.new }
         ensures mine { AddsAtMostOneEach hand.old hand.new }
     {

@@ -1,28 +1,30 @@
 //! A hub and its hands: how they are made, split, joined and closed.
-ghost use Rattle.std.specs.Prelude.{◌≡◌, ◌<◌, ◌≤◌, ◌^◌, [], IfErr, IfOk, OnErr, length, map, vec_capacity};
+ghost use Rattle.std.specs.Prelude.{◌≡◌, ◌<◌, ◌≤◌, ◌^◌, [], IfErr, IfOk, OnErr, Some, length, map, slice_get, vec_capacity};
 ghost use Rattle.std.specs.List.{AllZip};
 ghost use Rattle.eql_turn_lock.specs.Calls.{Closes};
 ghost use Rattle.eql_turn_lock.specs.Passes.{first_view, new_view, split_view};
 ghost use Rattle.eql_lock_row.specs.Rows.{AllAreJoined, AllKnow, AreFirst, joined_views};
 ghost use Rattle.eql_hub.specs.Turns.{IsLaneTurn, IsPartTurn, is_open_lane, is_open_part};
-ghost use Rattle.eql_hub.specs.Hands.{AllBegin, AreAllJoined, IsFirst, IsHandOf, Knows};
+ghost use Rattle.eql_hub.specs.Hands.{AllBegin, AreAllJoined, IsFirst, IsHandOf, Knows, is_fed_alone, may_pause};
 
 use crate::wrapped::{TurnedLane, TurnedPart, unwrap_all, wrap_all};
 use eql_lane::Lane;
 use eql_lock_row::{LockRow, PassRow};
-use eql_outside::Source;
+use eql_outside::{Source, Supply};
 use eql_values::{LineReader, Memory};
 use std::alloc::Global;
 use std::marker::Model;
 use std::sync::ledger::Ledger;
 
-/// Lanes and parts, each under a lock of its own. Contracts see which locks they are.
+/// Lanes and parts, each under a lock of its own. Contracts see which locks they are, and which lanes the conductor alone feeds: those
+/// whose reads may wait for a writer.
 ///
 /// It keeps the room in which the lanes are handed back.
 #[derive(Drop)]
 pub struct Hub<S: Source, L: LineReader, G: Ledger> {
     pub(crate) lanes: LockRow<TurnedLane<S, L>>,
     pub(crate) parts: LockRow<TurnedPart<G>>,
+    pub(crate) alone: Vec<bool>,
     room: Vec<Lane<S, L>>,
 }
 
@@ -32,10 +34,11 @@ impl<S: Source, L: LineReader, G: Ledger> Model for Hub<S, L, G> {
 
     ghost Value = { HubView };
 
-    ghost view = { λ h. record { lanes = h.lanes; parts = h.parts } };
+    ghost view = { λ h. record { lanes = h.lanes; parts = h.parts; alone = h.alone.items } };
 
     ghost invariant = { λ h. (h.room.items ≡ []) × (length h.lanes ≤ vec_capacity h.room)
-        × (length h.lanes < 2 ^ 32) × (length h.parts < 2 ^ 32) };
+        × (length h.lanes < 2 ^ 32) × (length h.parts < 2 ^ 32)
+        × (length h.alone.items ≡ length h.lanes) };
 }
 
 /// A pass of each lane and of each part, and the place from which the hand goes on. Contracts see what the passes know.
@@ -97,6 +100,31 @@ fn lock_lanes<S: Source, L: LineReader>(
     }
 }
 
+// Whether a read of the source may wait for a writer.
+fn may_pause(supply: Supply) -> bool
+    ensures { result ≡ may_pause supply }
+{
+    match supply {
+        Supply::Untold => false,
+        Supply::File { bytes: _ } => false,
+        Supply::Pausing => true,
+    }
+}
+
+// Which lanes the conductor alone feeds.
+fn fed_alone<S: Source, L: LineReader>(
+    alloc: Global,
+    lanes: &Vec<Lane<S, L>>,
+) -> Result<Vec<bool>, Memory>
+    ensures { IfOk result (λ alone. alone.items ≡ map (is_fed_alone S.supply_of) lanes.now.items) }
+{
+    let alone = lanes
+        .iter()
+        .map(|lane| may_pause(lane.supply()))
+        .collect(alloc)?;
+    Ok(alone)
+}
+
 impl<S: Source, L: LineReader> LockedLanes<S, L> {
     // The lanes, of which none was played on.
     fn unlock(self) -> Vec<Lane<S, L>>
@@ -119,11 +147,13 @@ impl<S: Source, L: LineReader> LockedLanes<S, L> {
         lanes
     }
 
-    // The hub and its first hand, with these parts. Where memory is short the lanes come back.
+    // The hub and its first hand, with these parts, of which lanes the conductor alone feeds these. Where memory is short the
+    // lanes come back.
     fn with_parts<G: Ledger>(
         self,
         alloc: Global,
         parts: Vec<TurnedPart<G>>,
+        alone: Vec<bool>,
     ) -> Result<(Hub<S, L, G>, Hand<S, L, G>), (Memory, Vec<Lane<S, L>>)>
         requires own { self.passes.locks ≡ self.locks }
         requires first { AreFirst self.passes.views }
@@ -134,7 +164,9 @@ impl<S: Source, L: LineReader> LockedLanes<S, L> {
         requires room { length self.locks ≤ vec_capacity self.room }
         requires few_lanes { length self.locks < 2 ^ 32 }
         requires few_parts { length parts.items < 2 ^ 32 }
+        requires alone { length alone.items ≡ length self.locks }
         ensures own { IfOk result (λ made. IsHandOf made.0 made.1) }
+        ensures alone { IfOk result (λ made. made.0.alone ≡ alone.items) }
         ensures lanes { IfOk result (λ made. made.1.lanes.views ≡ self.passes.views) }
         ensures parts { IfOk result (λ made. made.1.parts.views ≡ map first_view parts.items) }
         ensures knows { IfOk result
@@ -148,6 +180,7 @@ impl<S: Source, L: LineReader> LockedLanes<S, L> {
                 Hub {
                     lanes: self.locks,
                     parts,
+                    alone,
                     room: self.room,
                 },
                 Hand {
@@ -189,14 +222,21 @@ impl<S: Source, L: LineReader, G: Ledger> Hub<S, L, G> {
         requires few_lanes { length lanes.items < 2 ^ 32 }
         requires few_parts { length parts.items < 2 ^ 32 }
         ensures own { IfOk result (λ made. IsHandOf made.0 made.1) }
+
+        // The conductor alone feeds the lanes whose reads may wait for a writer, and no others.
+        ensures alone { IfOk result
+            (λ made. made.0.alone ≡ map (is_fed_alone S.supply_of) lanes.items) }
         ensures lanes { IfOk result (λ made. made.1.lanes.views ≡ map first_view lanes.items) }
         ensures parts { IfOk result (λ made. made.1.parts.views ≡ map first_view parts.items) }
         ensures knows { IfOk result
             (λ made. Knows S.left S.lent_as S.fault_plan L.read_of made.1) }
         ensures back { IfErr result (λ refused. refused.1.items ≡ lanes.items) }
     {
+        let Ok(alone) = fed_alone(alloc, &lanes) else {
+            return Err((Memory, lanes));
+        };
         match lock_lanes(alloc, lanes) {
-            Ok(held) => held.with_parts(alloc, parts),
+            Ok(held) => held.with_parts(alloc, parts, alone),
             Err(lanes) => Err((Memory, lanes)),
         }
     }
@@ -221,6 +261,17 @@ impl<S: Source, L: LineReader, G: Ledger> Hub<S, L, G> {
         ensures parts { length self.now.parts < 2 ^ 32 }
     {
         let _ = &self.room;
+    }
+
+    /// Whether the conductor alone feeds a lane, from 0.
+    pub(crate) fn is_fed_alone(&self, lane: usize) -> bool
+        requires { lane < length self.now.lanes }
+        ensures { slice_get self.now.alone lane ≡ Some result }
+    {
+        match self.alone.get(lane) {
+            Some(alone) => *alone,
+            None => unreachable!(),
+        }
     }
 
     /// Where a step begins after one that did something in this place: after a lane at the lane before it, and after the first lane

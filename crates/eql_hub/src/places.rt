@@ -56,19 +56,22 @@ impl<S: Source, L: LineReader, G: Ledger> Hub<S, L, G> {
         after_turn(part, tried)
     }
 
-    // Does what is to be done in a place, if anything is.
+    // Does what is to be done in a place, if anything is. A lane that the conductor alone feeds isn't tried.
     fn try_place(&self, hand: &mut Hand<S, L, G>, batch: u32, place: usize) -> Option<Did>
         requires own { IsHandOf self.now hand.old }
         requires batch_from { 1 ≤ batch }
         requires batch_to { batch ≤ 4096 }
         requires place { place < length self.now.lanes + length self.now.parts }
         ensures own { IsHandOf self.now hand.new }
-        ensures tried { TriesPlace S.left S.lent_as S.fault_plan L.read_of batch
+        ensures tried { TriesPlace S.left S.lent_as S.fault_plan L.read_of batch self.now.alone
             (length self.now.lanes) place result hand.old hand.new }
     {
         self.are_few();
         let lanes = self.lane_count() as usize;
         if place < lanes {
+            if self.is_fed_alone(place) {
+                return None;
+            }
             self.feed_lane(hand, batch, place as u32)
         } else {
             self.turn_part(hand, batch, (place - lanes) as u32)
@@ -89,7 +92,7 @@ impl<S: Source, L: LineReader, G: Ledger> Hub<S, L, G> {
         requires order { from ≤ to }
         requires places { to ≤ length self.now.lanes + length self.now.parts }
         ensures own { IsHandOf self.now hand.new }
-        ensures swept { SweepEnds S.left S.lent_as S.fault_plan L.read_of batch
+        ensures swept { SweepEnds S.left S.lent_as S.fault_plan L.read_of batch self.now.alone
             (length self.now.lanes) from to result hand.old hand.new }
     {
         for place in from..to {

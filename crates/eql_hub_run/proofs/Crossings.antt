@@ -174,11 +174,12 @@ module _ (S L G : RattleType) (s : source.Ghosts S.Denot) (r : reader.Ghosts L.D
   hub_shared a b y z = hub_sync S L G s r l a b y z (turned_part_send G l) (turned_part_sync G l)
 
 -- ---- what the closures hold, and what they hand back
-pub three_sync : (ν : Sym) (A B C : RattleType) → IsSync A → IsSync B → IsSync C → IsSync (TupleAt ν (A ∷ B ∷ C ∷ []))
-three_sync ν A B C a b c = search sendable depth 20
+pub five_sync : (ν : Sym) (A B C D E : RattleType) → IsSync A → IsSync B → IsSync C → IsSync D → IsSync E → IsSync (TupleAt ν (A ∷ B ∷ C ∷ D ∷ E ∷ []))
+five_sync ν A B C D E a b c d e = search sendable depth 20
 
-pub five_send : (ν : Sym) (A B C D E : RattleType) → IsSend A → IsSend B → IsSend C → IsSend D → IsSend E → IsSend (TupleAt ν (A ∷ B ∷ C ∷ D ∷ E ∷ []))
-five_send ν A B C D E a b c d e = search sendable depth 20
+pub six_send : (ν : Sym) (A B C D E F : RattleType) → IsSend A → IsSend B → IsSend C → IsSend D → IsSend E → IsSend F
+    → IsSend (TupleAt ν (A ∷ B ∷ C ∷ D ∷ E ∷ F ∷ []))
+six_send ν A B C D E F a b c d e f = search sendable depth 24
 
 pub number_sync : IsSync u32
 number_sync = search sendable depth 20

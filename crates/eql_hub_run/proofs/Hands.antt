@@ -22,6 +22,7 @@ use Rattle.eql_hub.specs.declared.step.HandFault.{HandFault}
 use Rattle.eql_hub.specs.declared.step.HandFault.TheVariants as fault
 use Rattle.eql_hub.specs.Hands.{HandView, HubView, IsHandOf, LaneKnown, PartKnown}
 use Rattle.eql_hub.specs.Steps.{EachIsRelated, LaneAnswers, StepEndsAtLane, LaneEnds, LaneIsIdle, LaneIsQuiet, StepEndsAtPart, PartEnds, Steps}
+use Rattle.eql_hub.proofs.Sweeping.{passed_quiet}
 use Rattle.eql_hands.specs.Growth.{AreLater, HasMineWithin, HaveMineWithin}
 use Rattle.eql_hands.specs.Runs.{MeetsFault, PlaysSteps, Ran, fault_of}
 use Rattle.eql_lock_bench.specs.Locked.{did_fail, entry_failed}
@@ -47,7 +48,7 @@ old_there old new k x count there =
 abbrev SameFails : {T : Type 0} → View T LaneOp LaneReply → View T LaneOp LaneReply → Type 0
 SameFails v w = count_by entry_failed w.mine ≡ count_by entry_failed v.mine
 
-module _ {S L : Type 0} (left lent_as : S → Option (List ℕ)) (fault_plan : S → Option FaultPlan) (read_of : L → Reads) (batch : ℕ) where
+module _ {S L : Type 0} (left lent_as : S → Option (List ℕ)) (fault_plan : S → Option FaultPlan) (read_of : L → Reads) (batch : ℕ) (alone : List Bool) where
   answered : (reply : LaneReply) (v w : LaneKnown S L) → did_fail reply ≡ false → LaneAnswers left lent_as fault_plan read_of batch reply v w → SameFails v w
   answered reply v w none plays =
       let a = ap (count_by entry_failed) plays.1.mine in
@@ -82,7 +83,7 @@ module _ {S L : Type 0} (left lent_as : S → Option (List ℕ)) (fault_plan : S
   ends (did.Turned part) place v w fine h = absurd h
   ends did.Nothing place v w fine h = absurd h
 
-  lane_ended : (answer : Did) (old new : HandView S L) → IsFine answer → StepEndsAtLane left lent_as fault_plan read_of batch answer old new
+  lane_ended : (answer : Did) (old new : HandView S L) → IsFine answer → StepEndsAtLane left lent_as fault_plan read_of batch alone answer old new
       → EachIsRelated SameFails old.lanes.views new.lanes.views
   lane_ended answer old new fine e = record {
     count = e.count;
@@ -101,16 +102,16 @@ module _ {S L : Type 0} (left lent_as : S → Option (List ℕ)) (fault_plan : S
       → EachIsRelated SameFails old.lanes.views new.lanes.views
   part_ended answer old new e = record { count = e.lanes.count; each = λ k v w was is. still v w (e.lanes.each k v w was is) }
 
-  step_quiet : (answer : Did) (old new : HandView S L) → IsFine answer → Steps left lent_as fault_plan read_of batch answer old new
+  step_quiet : (answer : Did) (old new : HandView S L) → IsFine answer → Steps left lent_as fault_plan read_of batch alone answer old new
       → EachIsRelated SameFails old.lanes.views new.lanes.views
-  step_quiet did.Nothing old new fine h = record { count = h.lanes.count; each = λ k v w was is. idle v w (h.lanes.each k v w was is) }
+  step_quiet did.Nothing old new fine h = record { count = h.lane_count; each = λ k v w was is. still v w (passed_quiet left lent_as fault_plan read_of batch alone 0 k v w (h.lanes k v w was is)) }
   step_quiet (did.Fed lane) old new fine h = lane_ended (did.Fed lane) old new fine h
   step_quiet (did.Turned part) old new fine h = part_ended (did.Turned part) old new h
   step_quiet (did.Fault f) old new fine (inl h) = lane_ended (did.Fault f) old new fine h
   step_quiet (did.Fault f) old new fine (inr h) = part_ended (did.Fault f) old new h
 
   -- ---- a run
-  module _ (most_idle most_steps : ℕ) where
+  module _ (most_steps : ℕ) where
     both_left : (a b : Bool) → a && b ≡ true → a ≡ true
     both_left true b e = refl
     both_left false b e = absurd (false≢true e)
@@ -138,14 +139,14 @@ module _ {S L : Type 0} (left lent_as : S → Option (List ℕ)) (fault_plan : S
     }
 
     played_quiet : (dids : List Did) (old new : HandView S L) → IsNoRead (fault_of dids)
-        → PlaysSteps left lent_as fault_plan read_of batch most_idle most_steps dids old new → EachIsRelated SameFails old.lanes.views new.lanes.views
+        → PlaysSteps left lent_as fault_plan read_of batch alone most_steps dids old new → EachIsRelated SameFails old.lanes.views new.lanes.views
     played_quiet [] old new fine e = each_same old new e
     played_quiet (answer ∷ before) old new fine (goes, mid, run, last) =
         let calm = none_fine (fault_of before) (both_left (is_none (fault_of before)) _ goes) in
         each_on old.lanes.views mid.lanes.views new.lanes.views (played_quiet before old mid calm run) (step_quiet answer mid new (head_fine answer before fine) last)
 
     -- ---- the fault
-    lane_met : (f : HandFault) (old new : HandView S L) → StepEndsAtLane left lent_as fault_plan read_of batch (did.Fault f) old new → HandMeets new f
+    lane_met : (f : HandFault) (old new : HandView S L) → StepEndsAtLane left lent_as fault_plan read_of batch alone (did.Fault f) old new → HandMeets new f
     lane_met f old new e = by f e.lane e.before e.after e.is e.ends
       where
         by : (f : HandFault) (place : ℕ) (v w : LaneKnown S L) → slice_get new.lanes.views place ≡ Some w → LaneEnds left lent_as fault_plan read_of batch (did.Fault f) place v w → HandMeets new f
@@ -179,11 +180,11 @@ module _ {S L : Type 0} (left lent_as : S → Option (List ℕ)) (fault_plan : S
           inr (place, record { one = w; there = is; so = has_last (λ (n : ℕ). 2 ^ 63 ≤ n) v.looked word w.looked r.3 r.2 }),
         )
 
-    step_met : (f : HandFault) (old new : HandView S L) → Steps left lent_as fault_plan read_of batch (did.Fault f) old new → HandMeets new f
+    step_met : (f : HandFault) (old new : HandView S L) → Steps left lent_as fault_plan read_of batch alone (did.Fault f) old new → HandMeets new f
     step_met f old new (inl h) = lane_met f old new h
     step_met f old new (inr h) = part_met f old new h
 
-    some_met : (met : Option HandFault) (old new : HandView S L) → IfSome met (λ f. MeetsFault left lent_as fault_plan read_of batch most_idle most_steps f old new) → IfSome met (HandMeets new)
+    some_met : (met : Option HandFault) (old new : HandView S L) → IfSome met (λ f. MeetsFault left lent_as fault_plan read_of batch alone most_steps f old new) → IfSome met (HandMeets new)
     some_met None old new h = tt
     some_met (Some f) old new h = step_met f h.mid new h.last
 
@@ -194,8 +195,8 @@ module _ {S L : Type 0} (left lent_as : S → Option (List ℕ)) (fault_plan : S
         let b = ap length (at_all (λ v. v.mine ≡ []) old k was.0 was.1 none) in
         omega (arith, a, b))
 
-    pub hand_did : (met : Option HandFault) (old new : HandView S L) → HasNone old → Ran left lent_as fault_plan read_of batch most_idle most_steps met old new
-        → HaveMineWithin (2 ^ 40) old new → IfSome met (λ f. MeetsFault left lent_as fault_plan read_of batch most_idle most_steps f old new) → HandDid met new
+    pub hand_did : (met : Option HandFault) (old new : HandView S L) → HasNone old → Ran left lent_as fault_plan read_of batch alone most_steps met old new
+        → HaveMineWithin (2 ^ 40) old new → IfSome met (λ f. MeetsFault left lent_as fault_plan read_of batch alone most_steps f old new) → HandDid met new
     hand_did met old new none ran within meets = record {
       few_lanes = few old.lanes.views new.lanes.views within.lanes none.lanes;
       few_parts = few old.parts.views new.parts.views within.parts none.parts;
@@ -209,8 +210,8 @@ module _ {S L : Type 0} (left lent_as : S → Option (List ℕ)) (fault_plan : S
 
     -- of a worker's hand
     pub hand_played : (hub : HubView) (met : Option HandFault) (old new : HandView S L) → IsWhole hub old → HasNone old → IsHandOf hub new
-        → Ran left lent_as fault_plan read_of batch most_idle most_steps met old new → AreLater old new
-        → IfSome met (λ f. MeetsFault left lent_as fault_plan read_of batch most_idle most_steps f old new) → HaveMineWithin (2 ^ 40) old new → IsWhole hub new × HandDid met new
+        → Ran left lent_as fault_plan read_of batch alone most_steps met old new → AreLater old new
+        → IfSome met (λ f. MeetsFault left lent_as fault_plan read_of batch alone most_steps f old new) → HaveMineWithin (2 ^ 40) old new → IsWhole hub new × HandDid met new
     hand_played hub met old new whole none own ran later meets within = (
       record { own = own; lane_count = later.lanes.count ∙ whole.lane_count; part_count = later.parts.count ∙ whole.part_count },
       hand_did met old new none ran within meets,

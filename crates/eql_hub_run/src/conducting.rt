@@ -12,7 +12,7 @@ use crate::workers::{Worker, play_crew};
 use eql_book::Book;
 use eql_conductor::{Bench, Conductor, End, Keep, RunPlan};
 use eql_hands::Gate;
-use eql_hub::{Hand, Hub};
+use eql_hub::{Bell, Hand, Hub};
 use eql_lock_bench::{LockBench, LockOpening};
 use eql_outside::{Disk, Sink, Source};
 use eql_values::LineReader;
@@ -21,19 +21,50 @@ use std::sync::Wait;
 use std::sync::ledger::Ledger;
 use std::thread::{Threads, join_mut};
 
-// How many lines or events a step of a hand plays at most: a quarter of what the conductor does. The conductor waits for a lane
-// that a hand feeds, so it waits no longer than for a quarter of its own feed.
+// How many lines or events a step of a hand plays at most: a quarter of what the conductor does, and no more than a few. A hand
+// keeps its lane so long, and so the conductor waits no longer for it.
 fn hand_batch(batch: u32) -> u32
     ensures from { 1 ≤ result }
-    ensures to { batch ≤ 4096 → result ≤ 4096 }
+    ensures to { result ≤ 4096 }
 {
-    (batch / 4).max(1)
+    (batch / 4).clamp(1, 32)
+}
+
+// Plays rounds, and has the bell tell the hands when the run begins and that it has ended.
+fn run_with_bell<B: Bench, K: Sink, D: Disk>(
+    alloc: Global,
+    bell: &Bell,
+    plan: &RunPlan,
+    bench: &mut B,
+    book: &mut Book,
+    sink: &mut K,
+    keep: &mut Option<Keep<D>>,
+) -> End
+    requires may { MayRun plan.now (B.known bench.old) book.old }
+    requires keeps { MayKeepIf D.history D.fault_count plan.now (B.known bench.old) keep.old }
+    ensures ran { Ran D.history D.fault_count plan.now (B.known bench.old) (B.known bench.new)
+        book.old book.new (K.written sink.old) (K.written sink.new) keep.old keep.new result }
+    ensures cause { EndsBy result (B.known bench.old) (B.known bench.new)
+        (K.fault_count sink.old) (K.fault_count sink.new)
+        (disk_faults D.history D.fault_count keep.old)
+        (disk_faults D.history D.fault_count keep.new) }
+    ensures goes { LanesGo (B.known bench.old) (B.known bench.new) }
+    ensures silent { K.written sink.old ≡ None → K.written sink.new ≡ None }
+    ensures unfailing { IsUnfailing (K.fault_plan sink.old)
+        → (result ≢ SinkFault) × IsUnfailing (K.fault_plan sink.new) }
+    ensures unfailing_disk { IsKeptUnfailing D.fault_plan keep.old
+        → (result ≢ DiskFault) × IsKeptUnfailing D.fault_plan keep.new }
+{
+    bell.begin();
+    let end = Conductor::run(alloc, plan, bench, book, sink, keep);
+    bell.end();
+    end
 }
 
 // Plays rounds over the bench in this thread, and steps of the workers' hands in others. The workers go into their thread and
 // come back with what their hands did.
 fn play_beside<
-    R: Threads + Sync,
+    R: Threads + Wait + Sync,
     S: Source + Send + Sync,
     L: LineReader + Send + Sync,
     G: Ledger + Send + Sync,
@@ -45,6 +76,7 @@ fn play_beside<
     rt: &R,
     alloc: Global,
     hub: &Hub<S, L, G>,
+    bell: &Bell,
     bench: B,
     workers: Vec<Worker<S, L, G>>,
     plan: &RunPlan,
@@ -71,8 +103,12 @@ fn play_beside<
     ensures played { All (HasPlayed hub.now) result.2.items }
     ensures count { length result.2.items ≡ length workers.items }
 {
-    let batch = hand_batch(plan.batch);
     let mut bench = bench;
+    if workers.is_empty() {
+        let ended = Conductor::run(alloc, plan, &mut bench, book, sink, keep);
+        return (ended, bench, workers);
+    }
+    let batch = hand_batch(plan.batch);
     let mut crew = Some(workers);
     let (workers, ended) = join_mut(
         rt,
@@ -81,8 +117,8 @@ fn play_beside<
                 × (1 ≤ batch) × (batch ≤ 4096) }
             ensures { IfSome crew.entry (λ workers. All (HasPlayed hub.entry.now) result.items
                 × (length result.items ≡ length workers.items)) }
-        { play_crew(rt, crew.take(), hub, batch, gate) },
-        &mut || Conductor::run(alloc, plan, &mut bench, book, sink, keep),
+        { play_crew(rt, crew.take(), hub, bell, batch, gate) },
+        &mut || run_with_bell(alloc, bell, plan, &mut bench, book, sink, keep),
     );
     (ended, bench, workers)
 }
@@ -125,9 +161,10 @@ pub(crate) fn conduct<
     ensures played { All (HasPlayed hub.now) result.2.items }
     ensures count { length result.2.items ≡ length workers.items }
 {
-    let bench: LockBench<R, S, L, G, T> = LockBench::new(rt, hub, hand);
+    let bell = Bell::new();
+    let bench: LockBench<R, S, L, G, T> = LockBench::new(rt, hub, &bell, hand);
     let (ended, bench, workers) = play_beside(
-        rt, alloc, hub, bench, workers, plan, book, sink, keep, gate,
+        rt, alloc, hub, &bell, bench, workers, plan, book, sink, keep, gate,
     );
     (ended, bench.into_hand(), workers)
 }

@@ -3,6 +3,7 @@
 
 mod conducting;
 mod gathering;
+mod helping;
 mod opening;
 mod run;
 mod splitting;

@@ -12,6 +12,7 @@ ghost use Rattle.eql_hub_run.specs.Gathers.{IsUnplayedHand};
 
 use crate::conducting::conduct;
 use crate::gathering::{join_all, told};
+use crate::helping::helping;
 use crate::opening::HubOpening;
 use crate::splitting::split_off;
 use eql_book::Book;
@@ -85,10 +86,11 @@ fn run_over<
     (answer, lanes)
 }
 
-/// Plays rounds over lanes and parts until each shard was read to its end or something is refused, with so many hands
-/// beside the conductor, at most 65,536, each on a thread of its own. A hand feeds lanes and turns parts where something is
-/// to be done. Where memory is short there are fewer hands, and where no thread can be made they play once the conductor has
-/// ended.
+/// Plays rounds over lanes and parts until each shard was read to its end or something is refused, with at most so many hands
+/// beside the conductor, themselves at most 65,536, each on a thread of its own. A hand feeds lanes and turns parts where something
+/// is to be done, and sleeps where nothing is. There are no more hands than can help: none where the files are short, and no more
+/// than there are further processors and files. Where memory is short there are fewer, and where no thread can be made they play
+/// apart from the conductor.
 ///
 /// `None` is returned where there is no memory for the hub: nothing was played then. The lanes come back in their order. Of
 /// how the conductor ended and of the faults that the hands met the one of the least status is told, and of several of that
@@ -136,6 +138,7 @@ pub fn run_hub<
     ensures unfailing_disk { IsKeptUnfailing D.fault_plan keep.old
         → (result.0 ≢ Some DiskFault) × IsKeptUnfailing D.fault_plan keep.new }
 {
+    let hands = helping(rt, lanes.as_slice(), hands);
     match Hub::make(alloc, lanes, parts) {
         Err((_, lanes)) => (None, lanes),
         Ok((hub, hand)) => {

@@ -3,10 +3,11 @@ ghost use Rattle.std.specs.Prelude.{◌≡◌, ◌≤◌, All, IfSome, IsSomeAnd
 ghost use Rattle.eql_hub_run.specs.Workers.{HasPlayed, MayStart};
 
 use eql_hands::{Gate, run_hand};
-use eql_hub::{Hand, HandFault, Hub};
+use eql_hub::{Bell, Hand, HandFault, Hub};
 use eql_outside::Source;
 use eql_values::LineReader;
 use std::marker::Model;
+use std::sync::Wait;
 use std::sync::ledger::Ledger;
 use std::thread;
 use std::thread::Threads;
@@ -28,9 +29,11 @@ impl<S: Source, L: LineReader, G: Ledger> Model for Worker<S, L, G> {
 }
 
 /// Plays steps of the worker's hand until it is to stop.
-pub(crate) fn play<S: Source, L: LineReader, G: Ledger, W: Gate>(
+pub(crate) fn play<R: Wait, S: Source, L: LineReader, G: Ledger, W: Gate>(
+    rt: &R,
     worker: &mut Worker<S, L, G>,
     hub: &Hub<S, L, G>,
+    bell: &Bell,
     batch: u32,
     gate: &W,
 )
@@ -42,7 +45,7 @@ pub(crate) fn play<S: Source, L: LineReader, G: Ledger, W: Gate>(
     match worker.hand.take() {
         None => unreachable!(),
         Some(hand) => {
-            let (hand, met) = run_hand(hub, hand, worker.number, batch, gate);
+            let (hand, met) = run_hand(rt, hub, bell, hand, worker.number, batch, gate);
             worker.hand = Some(hand);
             worker.met = met;
         }
@@ -51,12 +54,12 @@ pub(crate) fn play<S: Source, L: LineReader, G: Ledger, W: Gate>(
 
 /// Plays steps of all hands, each on a thread of its own where one can be made, until each is to stop.
 pub(crate) fn play_all<
-    R: Threads + Sync,
+    R: Threads + Wait + Sync,
     S: Source + Send + Sync,
     L: LineReader + Send + Sync,
     G: Ledger + Send + Sync,
     W: Gate + Sync,
->(rt: &R, workers: &mut [Worker<S, L, G>], hub: &Hub<S, L, G>, batch: u32, gate: &W)
+>(rt: &R, workers: &mut [Worker<S, L, G>], hub: &Hub<S, L, G>, bell: &Bell, batch: u32, gate: &W)
     requires start { All (MayStart hub.now) workers.old }
     requires batch_from { 1 ≤ batch }
     requires batch_to { batch ≤ 4096 }
@@ -71,13 +74,13 @@ pub(crate) fn play_all<
         &|_, worker: &mut Worker<S, L, G>|
             requires { MayStart hub.now worker.now × (1 ≤ batch) × (batch ≤ 4096) }
             ensures { HasPlayed hub.entry.now worker.exit.now }
-        { play(worker, hub, batch, gate) },
+        { play(rt, worker, hub, bell, batch, gate) },
     );
 }
 
 /// Plays all hands of a crew that is handed over, and hands it back.
 pub(crate) fn play_crew<
-    R: Threads + Sync,
+    R: Threads + Wait + Sync,
     S: Source + Send + Sync,
     L: LineReader + Send + Sync,
     G: Ledger + Send + Sync,
@@ -86,6 +89,7 @@ pub(crate) fn play_crew<
     rt: &R,
     crew: Option<Vec<Worker<S, L, G>>>,
     hub: &Hub<S, L, G>,
+    bell: &Bell,
     batch: u32,
     gate: &W,
 ) -> Vec<Worker<S, L, G>>
@@ -98,7 +102,7 @@ pub(crate) fn play_crew<
     match crew {
         None => unreachable!(),
         Some(mut workers) => {
-            play_all(rt, workers.as_mut_slice(), hub, batch, gate);
+            play_all(rt, workers.as_mut_slice(), hub, bell, batch, gate);
             workers
         }
     }

@@ -10,7 +10,7 @@ ghost use Rattle.eql_lock_bench.specs.Locked.{Answers, IsNeverBusy, known_by, to
 
 use crate::opening::LockOpening;
 use eql_conductor::{Bench, NotPlayed};
-use eql_hub::{Hand, Hub};
+use eql_hub::{Bell, Hand, Hub};
 use eql_lane::{LaneOp, LaneReply};
 use eql_outside::Source;
 use eql_parts::{PartOp, PartReply};
@@ -20,13 +20,18 @@ use std::marker::{Model, PhantomData};
 use std::sync::Wait;
 use std::sync::ledger::Ledger;
 
+// The bell is rung where so many events and more are delivered to a part. Fewer are played sooner than a hand that sleeps is awake.
+const MANY_EVENTS: usize = 256;
+
 /// A hub and its first hand, by which the caller plays. Other hands may play on the hub at any time. A call may wait.
 ///
-/// Contracts see it as what the hand knows.
+/// Contracts see it as what the hand knows. It rings the bell where hands that sleep may find work: as a round begins, as what lanes
+/// hold was taken, and where many events are delivered.
 #[derive(Drop)]
 pub struct LockBench<'a, R, S: Source, L: LineReader, G: Ledger, T: LockOpening<S, L>> {
     rt: &'a R,
     hub: &'a Hub<S, L, G>,
+    bell: &'a Bell,
     hand: Hand<S, L, G>,
     of: PhantomData<T>,
 }
@@ -53,10 +58,11 @@ impl<'a, R, S: Source, L: LineReader, G: Ledger, T: LockOpening<S, L>> LockBench
     G,
     T,
 > {
-    /// A bench over this hub, played on by its first hand.
+    /// A bench over this hub, played on by its first hand, with the bell of its other hands.
     pub fn new(
         rt: &'a R,
         hub: &'a Hub<S, L, G>,
+        bell: &'a Bell,
         hand: Hand<S, L, G>,
     ) -> LockBench<'a, R, S, L, G, T>
         requires opening { (hub.now ≡ T.hub) × (hand ≡ T.hand) }
@@ -71,6 +77,7 @@ impl<'a, R, S: Source, L: LineReader, G: Ledger, T: LockOpening<S, L>> LockBench
         LockBench {
             rt,
             hub,
+            bell,
             hand,
             of: PhantomData,
         }
@@ -83,6 +90,25 @@ impl<'a, R, S: Source, L: LineReader, G: Ledger, T: LockOpening<S, L>> LockBench
             result }
     {
         self.hand
+    }
+}
+
+// Whether hands may find work as this is played on a lane, of so many: a round begins with a feed of the first one, and behind the
+// take of the last one the lanes hold less.
+fn has_work_behind(op: &LaneOp, lane: u32, lanes: u32) -> bool {
+    match op {
+        LaneOp::Feed { max: _ } => lane == 0,
+        LaneOp::Take { mark: _ } => lane.wrapping_add(1) == lanes,
+        LaneOp::Look => false,
+        LaneOp::Snap => false,
+    }
+}
+
+// Whether many events are delivered.
+fn delivers_many(op: &PartOp) -> bool {
+    match op {
+        PartOp::Deliver { items, mark: _ } => items.items().len() >= MANY_EVENTS,
+        _ => false,
     }
 }
 
@@ -124,6 +150,9 @@ impl<'a, R: Wait, S: Source, L: LineReader, G: Ledger, T: LockOpening<S, L>> Ben
             self.old.lanes.views self.new.lanes.views }
         ensures parts { self.new.parts ≡ self.old.parts }
     {
+        if has_work_behind(&op, s, self.lanes()) {
+            self.bell.ring();
+        }
         let answer = self.hub.call_lane(self.rt, &mut self.hand, s, op);
         told(answer)
     }
@@ -143,7 +172,11 @@ impl<'a, R: Wait, S: Source, L: LineReader, G: Ledger, T: LockOpening<S, L>> Ben
             self.old.parts.views self.new.parts.views }
         ensures lanes { self.new.lanes ≡ self.old.lanes }
     {
+        let many = delivers_many(&op);
         let answer = self.hub.call_part(self.rt, &mut self.hand, p, op);
+        if many {
+            self.bell.ring();
+        }
         told(answer)
     }
 }

@@ -20,7 +20,7 @@ pub trait LockOpening<S, L> {
 impl<S, L> LockOpening<S, L> for Brand {
     ghost use Rattle.std.specs.Prelude.{[], None};
 
-    ghost hub = { record { lanes = []; parts = [] } };
+    ghost hub = { record { lanes = []; parts = []; alone = [] } };
 
     ghost hand = { record {
       lanes = record { locks = []; views = [] };

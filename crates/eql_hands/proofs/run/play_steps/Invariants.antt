@@ -9,5 +9,5 @@ invariant-loop-step g l =
       own : IsHandOf l.hub l.hand;
       knows : Knows g.S.Source.left g.S.Source.lent_as g.S.Source.fault_plan g.L.LineReader.read_of l.initial.hand
           → Knows g.S.Source.left g.S.Source.lent_as g.S.Source.fault_plan g.L.LineReader.read_of l.hand;
-      going : Going g.S.Source.left g.S.Source.lent_as g.S.Source.fault_plan g.L.LineReader.read_of l.batch 100000 (2 ^ 40) l._step l.idle l.initial.hand l.hand;
+      going : Going g.S.Source.left g.S.Source.lent_as g.S.Source.fault_plan g.L.LineReader.read_of l.batch l.hub.alone (2 ^ 40) l._step l.initial.hand l.hand;
     }

@@ -1,4 +1,4 @@
-use Rattle.std.proofs.Common.{sym}
+use Rattle.std.proofs.Common.{sym, arith}
 use Rattle.eql_hub_run.specs.Gathers.{IsUnplayedHand}
 use Rattle.eql_hub_run.proofs.Openings.{openings_of}
 use Rattle.eql_hub_run.proofs.Splits.{hand_first, hand_unplayed}
@@ -48,7 +48,7 @@ run_over-end-requires g c κs within =
                                         hand_first 0 c.args.lanes.items c.args.parts.items c.in-Ok.hand unplayed,
                                         (
                                           made.knows,
-                                          (rw (lanes, parts) unplayed, (rw lanes c.requires.few, (c.requires.hands, (rw lanes c.requires.texts, (rw (lanes, parts) c.requires.may, rw (lanes, parts) c.requires.keeps))))),
+                                          (rw (lanes, parts) unplayed, (rw lanes c.requires.few, (omega (arith, c.helping-hands.ensures, c.requires.hands), (rw lanes c.requires.texts, (rw (lanes, parts) c.requires.may, rw (lanes, parts) c.requires.keeps))))),
                                         ),
                                       ),
                                     ),
