@@ -3,7 +3,7 @@
 # 1, 7, 256 and 4,096 lines. All runs over one log have to end with one status and to write one listing and one report. A log with a
 # slack is searched with a checkpoint too, from which another run with other hands goes on: its listing has to be an end of the whole
 # one. `eql made` runs with all numbers of hands over as many events as the made logs have. A run that takes five minutes has
-# hung.
+# hung. There are no more hands than can help: each third log is large enough for some, and `eql made` has all that are asked for.
 #
 # usage: bench/hands_stress.sh [PROGRAM [LOGS [SEED]]]      PROGRAM is the built program, crates/eql/out/eql where none is given; LOGS
 #                                                           is how many logs, 15 where none is given, of 20 runs each; SEED is a
@@ -39,7 +39,7 @@ keep_whole() { for it in out err status; do cp "$it" "whole.$it"; done; }
 for ((log = 0; log < logs; log++)); do
     cd "$room/$log"
     mapfile -t options <options
-    mapfile -t shards < <(ls | grep -E '^[0-9]+\.json$' | sort -n)
+    mapfile -t shards < <(printf '%s\n' [0-9]*.json | sort -n)
     find=(find --query query --fields fields "${options[@]}")
     for hands in 0 1 2 4 16; do
         for batch in 1 7 256 4096; do
@@ -60,8 +60,9 @@ for ((log = 0; log < logs; log++)); do
         words=("${find[@]}" --batch $((1 + RANDOM % 300)) --hands $((RANDOM % 5)) --checkpoint "${disk%.0}" --every 7 "${shards[@]}")
         run "${words[@]}"
         kept=$((kept + 1))
-        tail -c "$(wc -c <out)" whole.out | cmp -s - out && cmp -s whole.err err && [ "$(cat status)" = 0 ] ||
+        if ! tail -c "$(wc -c <out)" whole.out | cmp -s - out || ! cmp -s whole.err err || [ "$(cat status)" != 0 ]; then
             stop "going on from ${disk%.0}" "${words[@]}"
+        fi
     done
 done
 

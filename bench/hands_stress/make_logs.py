@@ -5,7 +5,8 @@ usage: make_logs.py FOLDER LOGS SEED
 
 FOLDER/N, from 0 on, gets the shards 0.json and on (one of them may be empty), `query`, `fields`, and `options`, which has the words
 of a search but for batch and hands, a line each. A log that can have a checkpoint has `keeps`. The first three logs are those of
-`eql made`, as files.
+`eql made`, as files. Each third log behind them has 2 to 5 shards of some 8 MB, since over small files a search starts no hands.
+Their lines are long, so that they are few, and a run over them with a batch of one line doesn't take long.
 """
 import json
 import os
@@ -49,8 +50,8 @@ def broken(pick):
     ])
 
 
-def event(pick, time, users):
-    """A line with an event, in one of several forms."""
+def event(pick, time, users, width):
+    """A line with an event, in one of several forms. Its padding has up to so many bytes."""
     line = {"@timestamp": time}
     if pick.random() < 0.95:
         kinds = ["process", "file", "network"]
@@ -60,12 +61,12 @@ def event(pick, time, users):
     if pick.random() < 0.9:
         line["user"] = {"name": f"u{pick.randrange(users)}"}
     line["process"] = {"name": pick.choice(NAMES), "pid": pick.choice([pick.randrange(12), str(pick.randrange(12))])}
-    if pick.random() < 0.02:
-        line["padding"] = "y" * pick.randrange(200000)
+    if width or pick.random() < 0.02:
+        line["padding"] = "y" * pick.randrange(width or 200000)
     return json.dumps(line, ensure_ascii=pick.random() < 0.5).encode()
 
 
-def write_shard(pick, name, lines, users, spread, ends):
+def write_shard(pick, name, lines, width, users, spread, ends):
     time = pick.randrange(-1000, 1000)
     with open(name, "wb") as log:
         for number in range(lines):
@@ -75,18 +76,18 @@ def write_shard(pick, name, lines, users, spread, ends):
             if pick.random() < 0.08:
                 log.write(broken(pick))
             else:
-                log.write(event(pick, time - (pick.randrange(spread) if pick.random() < 0.2 else 0), users))
+                log.write(event(pick, time - (pick.randrange(spread) if pick.random() < 0.2 else 0), users, width))
             if number < lines - 1 or ends:
                 log.write(b"\r\n" if pick.random() < 0.1 else b"\n")
         if lines and pick.random() < 0.1:
-            log.write(b"\n" + b"x" * 1048577 + b"\n" + event(pick, time, users))
+            log.write(b"\n" + b"x" * 1048577 + b"\n" + event(pick, time, users, width))
 
 
-def hostile(folder, pick):
+def hostile(folder, pick, is_large):
     users, spread = pick.choice([1, 3, 40, 5000]), pick.choice([1, 20, 2000])
-    for shard in range(pick.choice([1, 2, 3, 5, 8])):
-        lines = pick.choice([0, 1, 7, 150, 150, 900, 900, 2500])
-        write_shard(pick, f"{folder}/{shard}.json", lines, users, spread, pick.random() < 0.7)
+    for shard in range(pick.choice([2, 3, 5] if is_large else [1, 2, 3, 5, 8])):
+        lines = 900 if is_large else pick.choice([0, 1, 7, 150, 150, 900, 900, 2500])
+        write_shard(pick, f"{folder}/{shard}.json", lines, 20000 if is_large else 0, users, spread, pick.random() < 0.7)
     options = []
     slack = pick.choice([None, "0ms", "20ms", "2s", "1d"])
     if slack:
@@ -104,7 +105,7 @@ def write_log(folder, number, seed):
     if number < 3:
         query, options = made(folder, (0, 201, 3001)[number])
     else:
-        query, options = hostile(folder, random.Random(f"{seed}/{number}"))
+        query, options = hostile(folder, random.Random(f"{seed}/{number}"), number % 3 == 0)
     for name, text in (("query", query), ("fields", json.dumps(FIELDS)), ("options", "\n".join(options))):
         with open(f"{folder}/{name}", "w") as file:
             file.write(text)
