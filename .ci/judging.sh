@@ -1,8 +1,17 @@
+# shellcheck shell=bash
 # What the tests of the built program and of the script eql share: each run is judged by its status, its output and its error
-# output, byte for byte. Sourced in a folder of its own, which is removed at the end.
+# output, byte for byte. Sourced in a folder of its own, which is removed at the end. Where EQL_TICKS names a file, it gets a byte for
+# each run, by which the script test shows how far the tests are.
 set -u
 export LC_ALL=C
-passed=0 failed=0
+passed=0 failed=0 left_out=0
+
+# Where the command that some runs need isn't there, these are left out, and counted.
+wants() { # COMMAND [HOW-MANY-RUNS]
+    ! command -v "$1" >/dev/null || return 0
+    left_out=$((left_out + ${2:-1}))
+    return 1
+}
 
 # A text that is wanted: as it stands, or, behind @, that of a file.
 wanted() { case $1 in @*) cat "${1#@}" ;; *) printf '%s' "$1" ;; esac; }
@@ -15,6 +24,7 @@ want() { # OUT ERR
 
 # Counts the run that left the files got.out and got.err, and shows it where it differs.
 judge() { # NAME STATUS WANTED-STATUS
+    [ -z "${EQL_TICKS-}" ] || printf . >>"$EQL_TICKS"
     if [ "$2" = "$3" ] && cmp -s got.out want.out && cmp -s got.err want.err; then
         passed=$((passed + 1))
         return
@@ -29,6 +39,7 @@ judge() { # NAME STATUS WANTED-STATUS
 
 # Tells the counts; the status is 0 where nothing failed.
 end() {
+    [ "$left_out" = 0 ] || echo "$left_out left out: they want python3, which isn't on the PATH"
     echo "$passed passed, $failed failed"
     [ "$failed" = 0 ]
 }

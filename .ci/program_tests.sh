@@ -4,12 +4,15 @@
 #
 #     .ci/program_tests.sh PROGRAM
 #
-# Prints each run that differs. The last line is 'N passed, M failed', and the status is 0 where M is 0.
-program=$(readlink -f "${1:?the built program}") && [ -x "$program" ] || { echo "no program ${1:-}" >&2; exit 2; }
+# Prints each run that differs. Runs over checkpoints in older formats want python3, and are left out where it isn't there.
+# The last line is 'N passed, M failed', and the status is 0 where M is 0.
+program=$(readlink -f "${1:?the built program}")
+[ -x "$program" ] || { echo "no program $1" >&2; exit 2; }
 top=$(cd "$(dirname "$(readlink -f "$0")")/.." && pwd) || exit 2
 room=$(mktemp -d) || exit 2
 trap 'rm -rf "$room"' EXIT
 cp -r "$top/examples/." "$room" && cd "$room" || exit 2
+# shellcheck source=.ci/judging.sh
 . "$top/.ci/judging.sh"
 
 # Runs the program with these words, its input the file that `input` names where that is set.
@@ -66,6 +69,7 @@ through() { # NAME INPUT WORD..
     local name=$1 from=$2
     want "$listing" "$report"
     shift 2
+    # shellcheck disable=SC2002
     cat "$from" | "$program" "$@" >got.out 2>got.err
     judge "$name through a pipe" $? 0
 }
@@ -231,6 +235,7 @@ for hands in 1 2 4; do
 done
 places=$'2 ["elkbee"] 0:6@506 0:8@712 0:10@913\n'
 for format in 1 2 3; do
+    wants python3 2 || continue
     "$top/.ci/make_disk.py" "$format" "old-$format" "$top/.ci/old_cuts.json"
     resume "format $format" "old-$format" --batch 7
     expect "checkpoint: format $format, places" 0 "$places" "$eleven" "${kept[@]}" --places --checkpoint "old-$format" --every 9 eleven.json
@@ -253,10 +258,12 @@ not_resumed 'Differs tiebreaker' c "${words[@]}" --tiebreaker event.sequence ele
 not_resumed 'Differs slack' c --query kept.eql --fields kept.json --slack 1ms eleven.json
 not_resumed 'Differs shards' c "${words[@]}" eleven.json empty
 sed 's/"listed": 1/"listed": 2/' "$top/.ci/old_cuts.json" >unfit.json
-"$top/.ci/make_disk.py" 3 unfit unfit.json
-not_resumed Unfit unfit "${words[@]}" eleven.json
+if wants python3; then
+    "$top/.ci/make_disk.py" 3 unfit unfit.json
+    not_resumed Unfit unfit "${words[@]}" eleven.json
+fi
 not_resumed 'Short shard 0 offset 1015 had 506' c "${words[@]}" five.json
-not_resumed 'NoLine shard 0 line 6' old-1 "${words[@]}" spaced.json
+if wants python3; then not_resumed 'NoLine shard 0 line 6' old-1 "${words[@]}" spaced.json; fi
 events 1000 root vi >one.json
 expect 'checkpoint: two shards' 0 $'1 ["root"] 1:2 1:4 1:9\n2 ["elkbee"] 1:6 1:8 1:10\n' \
     $'shard 0: lines 1 accepted 1 late 0 rejected 0\nshard 1: lines 11 accepted 11 late 0 rejected 0\n' \
@@ -278,10 +285,12 @@ no_disk 'a folder in place of the second file' blocked-too
 no_disk 'a path through a file' eleven.json/c
 ln -s /dev/full full.0
 no_disk 'a device without room' full
-cp old-2.1 last.1
-printf '\0\0\0\0\0\0\0\200' | dd of=last.1 bs=1 seek=1 conv=notrunc status=none
-expect 'checkpoint: the last generation' 9 "$rest" $'limit: generation\n' \
-    "${kept[@]}" --batch 1 --hands 0 --checkpoint last --every 1 eleven.json
+if wants python3; then
+    cp old-2.1 last.1
+    printf '\0\0\0\0\0\0\0\200' | dd of=last.1 bs=1 seek=1 conv=notrunc status=none
+    expect 'checkpoint: the last generation' 9 "$rest" $'limit: generation\n' \
+        "${kept[@]}" --batch 1 --hands 0 --checkpoint last --every 1 eleven.json
+fi
 
 # Status 4: a folder opens and fails at its first read.
 mkdir folder
