@@ -4,8 +4,8 @@
 #
 #     .ci/examples.sh PROGRAM
 #
-# Prints each run that differs. The scripts examples/events and examples/spread want python3: runs of them are left out where it isn't
-# there. The last line is 'N passed, M failed', and the status is 0 where M is 0.
+# Prints each run that differs. Some scripts of examples/ want python3, and some commands gzip: runs of them are left out where these
+# aren't there. The last line is 'N passed, M failed', and the status is 0 where M is 0.
 program=$(readlink -f "${1:?the built program}")
 [ -x "$program" ] || { echo "no program $1" >&2; exit 2; }
 top=$(cd "$(dirname "$(readlink -f "$0")")/.." && pwd) || exit 2
@@ -48,8 +48,12 @@ done
 
 # Runs the command of a page, with both streams as one, in the page's folder.
 try() { # PAGE-AND-LINE FOLDER COMMAND
-    # What follows one of the scripts in its block reads what that wrote.
-    case $rest$3 in +* | *examples/events* | *examples/spread*) wants python3 || { rest=+ && return; } ;; esac
+    # What follows such a command in its block reads what that wrote.
+    [ -z "$rest" ] || { wants "$rest" || return; }
+    case $3 in *examples/events* | *examples/spread* | *examples/timeline* | *examples/rule-test* | *examples/watch*)
+        wants python3 || { rest=python3 && return; } ;;
+    *gzip* | *zcat*) wants gzip || { rest=gzip && return; } ;;
+    esac
     : >want.err
     : >got.err
     (cd "$2" && bash -c "$3") >got.out 2>&1 </dev/null

@@ -39,7 +39,7 @@ judge() { # NAME STATUS WANTED-STATUS
 
 # Tells the counts; the status is 0 where nothing failed.
 end() {
-    [ "$left_out" = 0 ] || echo "$left_out left out: they want python3, which isn't on the PATH"
+    [ "$left_out" = 0 ] || echo "$left_out left out: they want python3 or gzip, which isn't on the PATH"
     echo "$passed passed, $failed failed"
     [ "$failed" = 0 ]
 }
