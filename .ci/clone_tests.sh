@@ -37,7 +37,7 @@ within() { # SECONDS NAME STATUS OUT ERR WORD..
     judge "$name" "$status" "$wanted"
 }
 example=(./eql find --query examples/break-in.eql --fields examples/fields.json --slack 1m examples/gate-1.json examples/desk-7.json)
-expected=(@clone/examples/expected/break-in.out @clone/examples/expected/break-in.err)
+expected=(@clone/cases/break-in/stdout @clone/cases/break-in/stderr)
 within 20 'the example' 0 "${expected[@]}" "${example[@]}"
 within 20 'the example once more' 0 "${expected[@]}" "${example[@]}"
 

@@ -1,6 +1,6 @@
 #!/usr/bin/env bash
-# Runs a built program over examples/rules, and each command that a page shows with what it writes. All of it is compared byte for
-# byte.
+# Runs a built program for the events of what the rules of examples/rules find, and each command that a page shows with what it
+# writes. All of it is compared byte for byte.
 #
 #     .ci/examples.sh PROGRAM
 #
@@ -15,26 +15,18 @@ cd "$room" || exit 2
 # shellcheck source=.ci/judging.sh
 . "$top/.ci/judging.sh"
 
-# A folder that has what a page's commands name: the program and the examples.
+# A folder that has what a page's commands name: the program, the examples and the cases.
 place() { # NAME
-    mkdir "$1" && cp -r "$top/examples" "$1" && ln -s "$program" "$1/eql"
+    mkdir "$1" && cp -r "$top/examples" "$top/cases" "$1" && ln -s "$program" "$1/eql"
 }
 
-# Each rule, in one batch and in many; and its events, beside the lines of the log by their numbers.
+# The events of what each rule finds, beside the lines of the log by their numbers.
 place rules
 rules=rules/examples/rules
 shards=("$rules"/{vpn-1,desk-12,files-3}.json)
 for rule in "$rules"/*.eql; do
-    name=$(basename "$rule" .eql)
-    find=("$program" find --query "$rule" --fields "$rules/fields.json" --slack 2m)
-    for more in '' '--batch 1 --hands 4'; do
-        want "@$rules/expected/$name.out" "@$rules/expected/$name.err"
-        # shellcheck disable=SC2086
-        "${find[@]}" $more "${shards[@]}" >got.out 2>got.err </dev/null
-        judge "$name $more" $? 0
-    done
     wants python3 || continue
-    "${find[@]}" --places "${shards[@]}" >listing 2>got.err </dev/null
+    "$program" find --query "$rule" --fields "$rules/fields.json" --slack 2m --places "${shards[@]}" >listing 2>got.err </dev/null
     while IFS= read -r line; do
         printf '%s\n' "$line"
         grep -oE ' [0-9]+:[0-9]+@[0-9]+' <<<"$line" | while IFS=' :@' read -r shard number _; do
@@ -43,10 +35,10 @@ for rule in "$rules"/*.eql; do
     done <listing >want.out
     : >want.err
     "$top/examples/events" listing "${shards[@]}" >got.out 2>got.err
-    judge "$name, its events" $? 0
+    judge "$(basename "$rule" .eql), its events" $? 0
 done
 
-# Runs the command of a page, with both streams as one, in the page's folder.
+# Runs the command of a page, with both streams as one, in the page's folder, which is on the PATH.
 try() { # PAGE-AND-LINE FOLDER COMMAND
     # What follows such a command in its block reads what that wrote.
     [ -z "$rest" ] || { wants "$rest" || return; }
@@ -56,7 +48,7 @@ try() { # PAGE-AND-LINE FOLDER COMMAND
     esac
     : >want.err
     : >got.err
-    (cd "$2" && bash -c "$3") >got.out 2>&1 </dev/null
+    (cd "$2" && PATH=$PWD:$PATH bash -c "$3") >got.out 2>&1 </dev/null
     judge "$1: $3" 0 0
 }
 
@@ -79,7 +71,7 @@ console_blocks() { # PAGE
         esac
     done <"$top/$page"
 }
-for page in README.md docs/OPERATIONS.md docs/RECIPES.md examples/rules/README.md examples/tested-rules/README.md; do
+for page in README.md docs/OPERATIONS.md docs/RECIPES.md examples/rules/README.md examples/tested-rules/README.md cases/README.md; do
     [ ! -f "$top/$page" ] || console_blocks "$page"
 done
 

@@ -36,7 +36,8 @@ Architecture: amd64
 "
 dpkg-deb -c "$package" | awk '{ print $2 }' | sort -u >got.out
 same 'its owner' $'root/root\n'
-(cd root && find . -type f ! -path './usr/share/doc/hulzaref/examples/*' ! -path '*/lintian/*' | sort) >got.out
+(cd root && find . -type f ! -path './usr/share/doc/hulzaref/examples/*' ! -path './usr/share/doc/hulzaref/cases/*' ! -path '*/lintian/*' |
+    sort) >got.out
 same 'its files' './usr/bin/eql
 ./usr/share/bash-completion/completions/eql
 ./usr/share/doc/hulzaref/changelog.Debian.gz
@@ -46,7 +47,7 @@ same 'its files' './usr/bin/eql
 '
 cmp root/usr/bin/eql <(xz -dc "$top/release/eql-x86_64-linux.xz") >got.out 2>&1
 same 'its program is the shipped one' ''
-diff -r root/usr/share/doc/hulzaref/examples "$top/examples" >got.out 2>&1
+for folder in examples cases; do diff -r "root/usr/share/doc/hulzaref/$folder" "$top/$folder"; done >got.out 2>&1
 same 'its examples' ''
 dpkg-deb -e "$package" control
 (cd root && md5sum --quiet -c ../control/md5sums) >got.out 2>&1
@@ -59,12 +60,17 @@ same 'it wants the C library alone' ''
 same 'of which version' "GLIBC_$(dpkg-deb -f "$package" Depends | sed -nE 's/^libc6 \(>= ([0-9.]+)\)$/\1/p')"$'\n'
 
 # The example, as the page of the manual has it: in the folder of the examples, by a program on the PATH.
-want "@$top/examples/expected/break-in.out" "@$top/examples/expected/break-in.err"
+want "@$top/cases/break-in/stdout" "@$top/cases/break-in/stderr"
 (
     cd root/usr/share/doc/hulzaref/examples &&
         PATH=$room/root/usr/bin eql find --query break-in.eql --fields fields.json --slack 1m gate-1.json desk-7.json
 ) >got.out 2>got.err
 judge 'the example' $? 0
+root/usr/share/doc/hulzaref/cases/run root/usr/bin/eql >got.out 2>got.err
+status=$?
+find "$top/cases" -name words | sed -n '$=' | sed 's/$/ passed, 0 failed/' >want.out
+: >want.err
+judge 'its cases' "$status" 0
 
 # The options of the usage, of the page of the manual and of the completions.
 root/usr/bin/eql 2>usage

@@ -1,6 +1,7 @@
 #!/usr/bin/env bash
-# Runs a built program over real files and streams. Of each run the status, the output and the error output must be, byte for
-# byte, what stands here, in refused_queries.tsv or in examples/expected.
+# Runs a built program over real files and streams, where cases/ has no form for it: over pipes and made files, beside faults, in
+# several runs, with other hands and batches. Of each run the status, the output and the error output must be, byte for byte, what
+# stands here, in refused_queries.tsv or in cases/.
 #
 #     .ci/program_tests.sh PROGRAM
 #
@@ -31,37 +32,39 @@ any=(find --query any.eql --fields fields.json)
 listing=$'1 [] 0:1\n2 [] 0:2\n3 [] 0:3\n'
 report=$'shard 0: lines 3 accepted 3 late 0 rejected 0\n'
 
-# The example and the ten queries, in batches of several sizes and with several hands, and their canonical texts.
+# Each search of cases/ that goes well once more, in batches of several sizes and with several hands: these change no byte.
+cases=$top/cases
+again() { # NAME OPTION..
+    local name=$1 words
+    shift
+    mapfile -t words <"$cases/$name/words"
+    cat "$cases/$name/stdout" >want.out 2>/dev/null
+    cat "$cases/$name/stderr" >want.err 2>/dev/null
+    (cd "$cases/$name" && exec "$program" "${words[0]}" "$@" "${words[@]:1}") >got.out 2>got.err </dev/null
+    judge "case $name $*" $? 0
+}
+for folder in "$cases"/*/; do
+    name=$(basename "$folder")
+    read -r command <"$folder/words"
+    if [ "$command" != find ] || [ -f "$folder/status" ] || grep -qE '^--(batch|hands)' "$folder/words"; then continue; fi
+    for more in '--hands 0' '--batch 1 --hands 0' '--batch 1 --hands 2' '--batch 1 --hands 4' '--batch 4096 --hands 3'; do
+        # shellcheck disable=SC2086
+        again "$name" $more
+    done
+done
+for hands in 0 1 2 4 16; do
+    for batch in 1 7 256; do again break-in-places --batch "$batch" --hands "$hands"; done
+done
+for hands in 0 4; do again line-late --batch 3 --hands "$hands"; done
+
+# The canonical texts of the example and of the ten queries find what these do.
 shards=(gate-1.json desk-7.json)
+break_in=(find --query break-in.eql --fields fields.json)
 for query in break-in.eql queries/*.eql; do
     name=$(basename "$query" .eql)
-    files=("@expected/$name.out" "@expected/$name.err")
-    for more in '' '--hands 0' '--batch 1 --hands 0' '--batch 1 --hands 2' '--batch 4096 --hands 3'; do
-        # shellcheck disable=SC2086
-        expect "$name $more" 0 "${files[@]}" find --query "$query" --fields fields.json --slack 1m $more "${shards[@]}"
-    done
     "$program" check --query "$query" --fields fields.json >canonical.eql 2>got.err
-    expect "$name, its canonical text" 0 "${files[@]}" \
+    expect "$name, its canonical text" 0 "@$cases/$name/stdout" "@$cases/$name/stderr" \
         find --slack=60s --fields=fields.json --query=canonical.eql -- "${shards[@]}"
-done
-break_in=(find --query break-in.eql --fields fields.json)
-expect 'no slack' 0 @expected/break-in-no-slack.out @expected/break-in-no-slack.err "${break_in[@]}" "${shards[@]}"
-expect 'places' 0 @expected/break-in-places.out @expected/break-in.err "${break_in[@]}" --slack 1m --places "${shards[@]}"
-expect 'tiebreaker' 0 @expected/02-office-child-tiebreaker.out @expected/02-office-child.err \
-    find --query queries/02-office-child.eql --fields fields.json --slack 1m --tiebreaker event.sequence "${shards[@]}"
-expect 'check' 0 @expected/break-in-check.out '' check --query break-in.eql --fields fields.json
-
-# Hands change no byte of what is written, whatever the batch.
-for hands in 0 1 2 4 16; do
-    for batch in 1 7 256; do
-        expect "$hands hands, batch $batch" 0 @expected/break-in-places.out @expected/break-in.err \
-            "${break_in[@]}" --slack 1m --places --batch "$batch" --hands "$hands" "${shards[@]}"
-    done
-done
-printf '{"@timestamp":%d}\n' 10000 3000 6000 >late.json
-for hands in 0 4; do
-    expect "a late line, $hands hands" 0 $'1 [] 0:3\n2 [] 0:1\n' $'shard 0: lines 3 accepted 2 late 1 rejected 0\n' \
-        "${any[@]}" --slack 5s --batch 3 --hands "$hands" late.json
 done
 
 # Streams: the query, the mapping or a shard comes through a pipe or from the input.
@@ -76,63 +79,34 @@ through() { # NAME INPUT WORD..
 through 'a query' any.eql find --query /dev/stdin --fields fields.json three.json
 through 'a mapping' fields.json find --query any.eql --fields /dev/stdin three.json
 through 'a shard' three.json "${any[@]}" /dev/stdin
-input=desk-7.json expect 'a shard from the input' 0 @expected/break-in.out @expected/break-in.err \
+input=desk-7.json expect 'a shard from the input' 0 "@$cases/break-in/stdout" "@$cases/break-in/stderr" \
     "${break_in[@]}" --slack 1m gate-1.json /dev/stdin
 
-# Shards: none of a line, one twice, and as many as may be.
+# As many shards as may be, none of them with a line.
 : >empty
-expect 'an empty shard' 0 '' $'shard 0: lines 0 accepted 0 late 0 rejected 0\n' "${any[@]}" empty
-expect 'one shard twice' 0 $'1 [] 0:1\n2 [] 1:1\n3 [] 0:2\n4 [] 1:2\n5 [] 0:3\n6 [] 1:3\n' \
-    "$report"$'shard 1: lines 3 accepted 3 late 0 rejected 0\n' "${any[@]}" three.json three.json
 for it in $(seq 0 255); do echo "shard $it: lines 0 accepted 0 late 0 rejected 0"; done >reports
 mapfile -t most < <(yes empty | head -n 256)
 expect '256 shards' 0 '' @reports "${any[@]}" "${most[@]}"
-cp three.json -- -three.json
-expect 'a shard behind --' 0 "$listing" "$report" "${any[@]}" -- -three.json
 
-# Lines at the limit of their length, and each reason for which a line is rejected. The last line has no line feed.
+# Lines at the limit of their length.
 line_of() { printf '{"@timestamp":1,"x":"%s"}\n' "$(head -c "$1" /dev/zero | tr '\0' x)"; }
 { line_of 1048553; line_of 1048554; } >long.json
 expect 'lines of 1 MiB and of a byte more' 0 $'1 [] 0:1\n' $'shard 0: lines 2 accepted 1 late 0 rejected 1 first 2 Long\n' \
     "${any[@]}" long.json
-printf 'any where process.pid == 4 and process.code_signature.trusted' >used.eql
-reject() { # REASON LINE
-    printf ' \t\r\n%s' "$2" >bad.json
-    expect "a line is rejected: $1" 0 '' "shard 0: lines 2 accepted 0 late 0 rejected 1 first 2 $1"$'\n' \
-        find --query used.eql --fields fields.json bad.json
-}
-reject NotJson '{"@timestamp":1,"event":{"cat'
-reject NotJson $'{"@timestamp":1,"a":"\xff"}'
-reject NotObject '[1,2]'
-reject NoTime '{"event":{"category":"process"}}'
-reject BadTime '{"@timestamp":"yesterday"}'
-reject BadTime '{"@timestamp":[1,2]}'
-reject Kind '{"@timestamp":1,"process":{"pid":"four"}}'
-reject Kind '{"@timestamp":1,"process.code_signature.trusted":1}'
-reject Fraction '{"@timestamp":1,"process.pid":4.5}'
-reject Range '{"@timestamp":1,"process.pid":9223372036854775808}'
 
 # A search over events that the program makes itself: four lines on what it found, and no report.
-expect 'made 0' 0 $'events 0\nmatches 0\nfirst none\nlast none\n' '' made 0
-expect 'made 201' 0 $'events 201\nmatches 1\nfirst 1 ["u0"] 0:1 0:26 0:51\nlast 1 ["u0"] 0:1 0:26 0:51\n' '' made 201
 for hands in 0 1 2 4 16; do
     expect "made 300000, $hands hands" 0 \
         $'events 300000\nmatches 100000\nfirst 1 ["u0"] 0:1 0:26 0:51\nlast 100000 ["u99"] 3:74950 3:74975 3:75000\n' '' \
         made --hands "$hands" 300000
 done
 
-# Status 1: a file isn't there. The files count in the order query, mapping, shards.
-expect 'no query' 1 '' $'no file nowhere\n' find --query nowhere --fields nothing none
-expect 'no mapping' 1 '' $'no file nothing\n' find --query any.eql --fields nothing none
-expect 'no shard' 1 '' $'no file none\n' "${any[@]}" three.json none other
-expect 'a path through a file' 1 '' $'no file three.json/x\n' "${any[@]}" three.json/x
+# Status 1: a file isn't there.
 expect 'a name that would steer a terminal' 1 '' $'no file a\\u{1b}[2J\\nb\n' "${any[@]}" $'a\e[2J\nb'
 
 # Status 2: the words are no command.
-usage=$'usage: eql find --query FILE --fields FILE [--tiebreaker FIELD] [--slack TIME] [--batch N] [--hands N] [--checkpoint NAME --every N] [--places] SHARD..\nusage: eql check --query FILE --fields FILE\nusage: eql made [--hands N] N\n'
-no_command() { expect "no command: $*" 2 '' "$usage" "$@"; }
+no_command() { expect "no command: $*" 2 '' "@$cases/usage/stderr" "$@"; }
 no_command
-no_command --help
 no_command seek --query any.eql --fields fields.json three.json
 no_command "${any[@]}"
 no_command find --query any.eql three.json
@@ -165,8 +139,6 @@ done <"$top/.ci/refused_queries.tsv"
 expect 'a query of 65,536 bytes' 0 "$listing" "$report" find --query longest.eql --fields fields.json three.json
 { cat longest.eql; printf ' '; } >too-long.eql
 refuse 'lex: TooLong' too-long.eql fields.json
-printf 'any where true // \xff' >bytes.eql
-refuse 'lex: NotUtf8' bytes.eql fields.json
 { printf 'any where '; for it in $(seq 65); do printf 'not '; done; printf 'true'; } >deep.eql
 refuse 'parse: TooDeep at 266' deep.eql fields.json
 names() { printf '{'; for it in $(seq "$1"); do printf '"f%d":"long",' "$it"; done; printf '"g":"long"}'; }
@@ -176,14 +148,6 @@ names 1024 >too-many.json
 refuse 'mapping: MapMany' any.eql too-many.json
 { printf '{}'; head -c 4194303 /dev/zero | tr '\0' ' '; } >too-long.json
 refuse 'mapping: MapLong' any.eql too-long.json
-mapping() { # TOLD TEXT
-    printf '%s' "$2" >bad.json
-    refuse "$1" any.eql bad.json
-}
-mapping 'mapping: MapSyntax' '["a"]'
-mapping 'mapping: MapSyntax' '{"a":"long",}'
-mapping 'mapping: MapKind b' '{"a":"long","b":"date"}'
-mapping 'mapping: MapKind user' '{"user":{"name":"keyword"}}'
 { printf 'any where f1 > 0'; for it in $(seq 2 65); do printf ' or f%d > 0' "$it"; done; } >fields-65.eql
 refuse 'check: ManyFields 65' fields-65.eql most.json
 
@@ -298,8 +262,6 @@ for hands in 0 1 4; do
     expect "a folder as a shard, $hands hands" 4 '' $'read fault: folder\n' "${any[@]}" --hands "$hands" three.json folder
     expect "two folders as shards, $hands hands" 4 '' $'read fault: folder\n' "${any[@]}" --hands "$hands" folder folder
 done
-expect 'a folder as the query' 4 '' $'read fault: folder\n' find --query folder --fields fields.json three.json
-expect 'a folder as the mapping' 4 '' $'read fault: folder\n' check --query any.eql --fields folder
 
 # Status 5: the output or the error output has no room. The other one is compared.
 full() { # out|err NAME STATUS WANTED WORD..
@@ -314,7 +276,7 @@ full() { # out|err NAME STATUS WANTED WORD..
 full out 'no room for the listing' 5 $'write fault\n' "${break_in[@]}" "${shards[@]}"
 full out 'no room for the listing, 4 hands' 5 $'write fault\n' "${break_in[@]}" --slack 1m --batch 1 --hands 4 "${shards[@]}"
 full out 'no room for the canonical text' 5 $'write fault\n' check --query any.eql --fields fields.json
-full err 'no room for the report' 5 @expected/break-in.out "${break_in[@]}" --slack 1m "${shards[@]}"
+full err 'no room for the report' 5 "@$cases/break-in/stdout" "${break_in[@]}" --slack 1m "${shards[@]}"
 full err 'no room for the line about a missing file' 1 '' "${any[@]}" none
 want '' $'write fault\n'
 : >got.out

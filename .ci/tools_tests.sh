@@ -105,7 +105,7 @@ expect 'rule-test' 0 $'6 passed, 0 failed\n' '' ./rule-test --program "$program"
 usage='usage: rule-test [--program PROGRAM] FOLDER'
 expect 'rule-test, no words' 2 '' "$usage"$'\nrule-test: error: a folder with rules and their cases is wanted; --help tells its form\n' ./rule-test
 expect 'rule-test, no folder' 1 '' $'rule-test: no folder \'nowhere\': No such file or directory\n' ./rule-test nowhere
-expect 'rule-test, no rule' 1 '' $'rule-test: no rule in expected: it has no file NAME.eql\n' ./rule-test expected
+expect 'rule-test, no rule' 1 '' $'rule-test: no rule in timeline.d: it has no file NAME.eql\n' ./rule-test timeline.d
 expect 'rule-test, a rule without tests' 1 '' $'rule-test: the rule collected-and-sent has no tests: no file rules/collected-and-sent.cases\n' ./rule-test rules
 expect 'rule-test, no program' 1 '' $'rule-test: the program can\'t be run: \'./nowhere\': No such file or directory\n' \
     ./rule-test --program ./nowhere tested-rules
@@ -202,7 +202,7 @@ seen() { # NAME WANTED WORD..
     judge "$name" $? 0
 }
 calm=$'faults and refusals of the policy: 0\ndialogs and windows: 0\nasked for beside the page: 0\n'
-./timeline --query break-in.eql expected/break-in-places.out gate-1.json desk-7.json >page.html
+./timeline --query break-in.eql "$top/cases/break-in-places/stdout" gate-1.json desk-7.json >page.html
 seen 'the page of the example' "title: break-in.eql
 summary: 2 matches, 12 events in 2 lanes of 2 shards
 rows: 1 ben, 2 svc-backup
