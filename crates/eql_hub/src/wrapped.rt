@@ -95,13 +95,6 @@ impl<G: Ledger> TurnedPart<G> {
     {
         TurnedPart { part, steps }
     }
-
-    /// The part itself, and the count.
-    pub fn into_part(self) -> (Part<G>, Steps<G>)
-        ensures { result.0 ≡ self }
-    {
-        (self.part, self.steps)
-    }
 }
 
 impl<G: Ledger> Turned for TurnedPart<G> {

@@ -7,10 +7,9 @@ use Rattle.eql_values.specs.declared.cut.Reason.TheVariants.{BadTime, Long, NotO
 use Rattle.eql_values.specs.declared.value.Value.{Value}
 use Rattle.eql_values.specs.Reading.{IsTime, is_blank}
 use Rattle.eql_json.specs.Json.{json_of}
-use Rattle.eql_lines.specs.First.{fits_long}
 use Rattle.eql_lines.specs.Objects.{is_object}
 use Rattle.eql_lines.specs.Reach.{Scalar, text, whole, fractional, truth, reach}
-use Rattle.eql_lines.specs.Times.{or_bad, text_time, scalar_time, time_of}
+use Rattle.eql_lines.specs.Times.{fits_long, or_bad, text_time, scalar_time, time_of}
 use Rattle.eql_lines.specs.Values.{values_of, texts_in}
 use Rattle.eql_lines.proofs.TextTimes.{text_in_time}
 use Rattle.eql_lines.specs.Reading.{IsEventInTime, event_from, object_read, json_read, line_read, tie_of, time_path, category_path}

@@ -1,4 +1,3 @@
-pub mod InTime
 mod Bits
 mod Leads
 mod Under

@@ -1,5 +1,3 @@
-pub mod First
-pub mod Examples
 pub mod Objects
 pub mod Reach
 pub mod Found

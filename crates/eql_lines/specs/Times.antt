@@ -1,5 +1,5 @@
 -- Timestamps, in nanoseconds since the epoch. `jiff` reads the texts; its grammar is that of Temporal (RFC 9557).
-use Rattle.std.specs.Prelude.{ℕ, ℤ, pos, ◌*ℤ◌, List, [], ◌∷◌, Option, Some, None, Result, Ok, Err, if◌then◌else◌}
+use Rattle.std.specs.Prelude.{ℕ, ◌^◌, ℤ, pos, negsuc, ◌*ℤ◌, Bool, nat_lt, List, [], ◌∷◌, Option, Some, None, Result, Ok, Err, if◌then◌else◌}
 use Rattle.jiff_core.specs.declared.error.Error.{Error}
 use Rattle.jiff_core.specs.declared.error.Error.TheVariants.{Missing}
 use Rattle.jiff_core.specs.declared.error.Part.TheVariants as part
@@ -8,8 +8,12 @@ use Rattle.eql_values.specs.declared.cut.Reason.{Reason}
 use Rattle.eql_values.specs.declared.cut.Reason.TheVariants.{NoTime, BadTime}
 use Rattle.eql_lines.specs.declared.times.Lack.{Lack}
 use Rattle.eql_lines.specs.declared.times.Lack.TheVariants.{Offset, Time, Other}
-use Rattle.eql_lines.specs.First.{fits_long}
 use Rattle.eql_lines.specs.Reach.{Scalar, text, whole, fractional, truth}
+
+-- the number fits 64 signed bits
+abbrev pub fits_long : ℤ → Bool
+fits_long (pos n) = nat_lt n (2 ^ 63)
+fits_long (negsuc n) = nat_lt n (2 ^ 63)
 
 -- the time of a clock in UTC that shows this date and time of day
 abbrev pub of_clock : Result (DateParts × TimeParts) Error → Option ℤ

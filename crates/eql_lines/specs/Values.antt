@@ -15,7 +15,7 @@ use Rattle.eql_text.specs.Numbers.{parse_long}
 use Rattle.eql_text.specs.Addresses.{parse_ip4}
 use Rattle.eql_text.specs.declared.numbers.LongRead.{LongRead}
 use Rattle.eql_text.specs.declared.numbers.LongRead.TheVariants as read
-use Rattle.eql_lines.specs.First.{fits_long}
+use Rattle.eql_lines.specs.Times.{fits_long}
 use Rattle.eql_lines.specs.Reach.{Scalar, text, whole, fractional, truth, reach}
 
 -- the scalar, if it is the only one

@@ -4,7 +4,6 @@
 mod again;
 mod blank;
 mod event;
-mod first;
 mod kept;
 mod laws;
 mod line;
@@ -23,7 +22,6 @@ mod values;
 mod walk;
 mod wanted;
 
-pub use first::{FirstLine, read_first};
 pub use laws::events_are_in_time;
 pub use scan::{LineScan, read_line};
 pub use wanted::{Fields, LineRead, Wanted};

@@ -9,7 +9,6 @@ ghost use Rattle.eql_lines.specs.WantedPaths.{tie_path, wanted_paths};
 
 use crate::blank::is_blank;
 use crate::event::event_in;
-use crate::first::LONGEST_LINE;
 use crate::line::Line;
 use crate::read::LineWalk;
 use crate::refused::Refused;
@@ -18,6 +17,9 @@ use crate::wanted::{LineRead, Wanted};
 use eql_values::{Memory, Reason, Text};
 use std::alloc::Global;
 use std::marker::Model;
+
+/// The most bytes of a line that is read as JSON.
+const LONGEST_LINE: usize = 1_048_576;
 
 /// A reader of lines, seen as what it wants of them. What it needs for the reading is kept from
 /// line to line.

@@ -15,7 +15,7 @@ use jiff::tz::Offset;
 use jiff::{Error, Timestamp};
 
 /// Nanoseconds in a millisecond.
-pub(crate) const NANOS_IN_MILLI: i128 = 1_000_000;
+const NANOS_IN_MILLI: i128 = 1_000_000;
 
 /// What a text lacks that isn't an instant.
 #[derive(Clone, Copy, Drop)]

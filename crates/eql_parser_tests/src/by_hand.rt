@@ -18,34 +18,41 @@ static SEQUENCE: &str =
     "sequence by a, b.c with maxspan=1m [any where true] by d until [any where false] | head 2 | tail 1";
 
 /// Whether a sequence has two keys, a span, one item, and an item that ends it.
-fn has_sequence(body: Body) -> bool {
-    match body.into_sequence() {
-        Some((by, span, items, until)) => {
+fn has_sequence(body: &Body) -> bool {
+    match body {
+        Body::Sequence {
+            by,
+            span,
+            items,
+            until,
+        } => {
             by.items().len() == 2 && items.items().len() == 1 && span.is_some() && until.is_some()
         }
-        None => false,
+        Body::Event(_) => false,
     }
 }
 
 /// Whether a sequence has these parts and two pipes.
 fn is_sequence(query: Query) -> bool {
     let (body, pipes) = query.into_parts();
-    has_sequence(body) & (pipes.into_items().len() == 2)
+    has_sequence(&body) & (pipes.into_items().len() == 2)
 }
 
 /// Whether an event is any one, without a condition, a key or a run.
-fn is_any(term: Term) -> bool {
-    let (category, cond, by, runs) = term.into_parts();
-    category.is_none() && matches!(&cond, Expr::Bool(true)) && by.items().is_empty() && runs == 1
+fn is_any(term: &Term) -> bool {
+    term.category.is_none()
+        && matches!(&term.cond, Expr::Bool(true))
+        && term.by.items().is_empty()
+        && term.runs == 1
 }
 
 /// Whether a query is for such an event.
 fn is_event(query: Query) -> bool {
     let (body, pipes) = query.into_parts();
     drop(pipes);
-    match body.into_event() {
-        Some(term) => is_any(term),
-        None => false,
+    match &body {
+        Body::Event(term) => is_any(term),
+        Body::Sequence { .. } => false,
     }
 }
 

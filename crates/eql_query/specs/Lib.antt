@@ -1,4 +1,3 @@
 pub mod Tree
 pub mod View
 pub mod QueryTree
-pub mod Bodies

@@ -1,6 +1,5 @@
 //! Queries and their parts.
 ghost use Rattle.std.specs.Prelude.{◌≡◌};
-ghost use Rattle.eql_query.specs.Bodies.{event_of, sequence_of};
 
 use crate::expr::{Expr, FieldRefs};
 use eql_values::Text;
@@ -162,39 +161,6 @@ pub enum Body {
         /// The item that ends pending sequences.
         until: Option<Term>,
     },
-}
-
-impl Body {
-    /// The term of a query for single events; none where it looks for sequences.
-    pub fn into_event(self) -> Option<Term>
-        ensures { result ≡ event_of self }
-    {
-        match self {
-            Body::Event(term) => Some(term),
-            Body::Sequence {
-                by: _,
-                span: _,
-                items: _,
-                until: _,
-            } => None,
-        }
-    }
-
-    /// The shared keys, the span, the items and the until item of a query for sequences; none
-    /// where it looks for single events.
-    pub fn into_sequence(self) -> Option<(FieldRefs, Option<Span>, Terms, Option<Term>)>
-        ensures { result ≡ sequence_of self }
-    {
-        match self {
-            Body::Event(_) => None,
-            Body::Sequence {
-                by,
-                span,
-                items,
-                until,
-            } => Some((by, span, items, until)),
-        }
-    }
 }
 
 /// A query.

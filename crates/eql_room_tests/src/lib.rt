@@ -4,8 +4,6 @@
 #[cfg(test)]
 mod json;
 #[cfg(test)]
-mod lines;
-#[cfg(test)]
 mod outside;
 #[cfg(test)]
 mod table;

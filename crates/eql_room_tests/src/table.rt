@@ -1,6 +1,6 @@
 //! Tables of texts, a row a line: what is asked stands in front of ` => `, and the answer behind it. `|` parts each where
 //! it has more than one field.
-use crate::{json, lines, text, values};
+use crate::{json, text, values};
 use eql_values::{Memory, Text};
 use std::alloc::Global;
 use std::process::Abort;
@@ -9,10 +9,6 @@ use std::process::Abort;
 pub enum Asked {
     /// Whether bytes are one JSON text.
     Json,
-    /// What a line of a shard is.
-    Line,
-    /// What a line is with blanks behind it.
-    Padded,
     /// How a text is shown.
     Shown,
     /// Whether a span holds two events.
@@ -45,8 +41,6 @@ pub enum OfTexts {
 fn is_answer(alloc: Global, asked: &Asked, row: &str, wanted: &str) -> Result<bool, Memory> {
     match asked {
         Asked::Json => json::is_told(alloc, row, wanted),
-        Asked::Line => lines::is_told(alloc, row, wanted),
-        Asked::Padded => lines::is_told_padded(alloc, row, wanted),
         Asked::Shown => values::is_shown(alloc, row, wanted),
         Asked::Span => Ok(values::is_span(row, wanted)),
         Asked::Mapping => values::is_compared(alloc, row, wanted),
