@@ -4,8 +4,12 @@
 #
 # First the seconds, those of the processor, and how many times as fast as without hands, of `eql find` with a slack over eight shards
 # of 40 MB. It runs with 0, 1, 2, 3 and 4 hands on all cores that the machine has, and with 0 and 1 hand on two of them. Of each the
-# fastest of three runs counts, which take turns. Three hands on four cores are to be 3 times as fast as none, and one hand on two
-# cores 1.6 times. Where they aren't and `perf` is there, it prints which functions take the time with three hands.
+# fastest of nine runs counts, which take turns. A run counts where the cores were the machine's own meanwhile: on a virtual machine
+# the host may take them, as `steal` of /proc/stat tells, and a run in which it took more than a hundredth of the cores' time is
+# tried again, up to 40 times. Three hands on four cores are to be 3 times as fast as none, and one hand on two cores 1.6 times.
+# Beside these it prints what the cores are worth: how many searches without hands, as many at once as there are cores, are done in
+# the time of one alone. They share nothing, so no number of hands can be that much faster. Where hands are too slow and `perf` is
+# there, it prints which functions take the time with three hands.
 #
 # Then, without load, 256 shards of one line with 0, 1, 3 and 16 hands: the median of three runs each is to be at most 0.1 seconds.
 #
@@ -61,10 +65,40 @@ run() { # LOG NAME COMMAND..
         cmp "$1.$it" "$it"
     done
 }
-for _ in 1 2 3; do
-    for hands in 0 1 2 3 4; do run eight "all-$hands" "${find[@]}" --hands "$hands" "${shards[@]}"; done
-    for hands in 0 1; do run eight "two-$hands" taskset -c 0,1 "${find[@]}" --hands "$hands" "${shards[@]}"; done
+
+# The time that the host took from all cores so far, and all time of all cores, in the system's ticks.
+stolen() { awk '$1 == "cpu" { print $9 + 0, $2 + $3 + $4 + $5 + $6 + $7 + $8 + $9 }' /proc/stat; }
+# Runs a search while the cores are the machine's own, or the last one of 40 as it comes.
+run_free() { # LOG NAME COMMAND..
+    local before after try
+    for ((try = 1; try <= 40; try++)); do
+        rm -f times.free
+        before=$(stolen)
+        run "$1" free "${@:3}"
+        after=$(stolen)
+        awk '{ exit !(($3 - $1) * 100 <= $4 - $2) }' <<<"$before $after" && break
+        again=$((again + 1))
+    done
+    [ "$try" -le 40 ] || taken=$((taken + 1))
+    cat times.free >>"times.$2"
+}
+# As many searches without hands at once as there are cores, each on its own.
+run_at_once() {
+    local core
+    for ((core = 0; core < $(nproc); core++)); do
+        taskset -c "$core" "${find[@]}" --hands 0 "${shards[@]}" >"out.$core" 2>"err.$core" &
+    done
+    wait
+    cat out.0
+    cat err.0 >&2
+}
+again=0 taken=0
+for _ in {1..9}; do
+    run_free eight at-once run_at_once
+    for hands in 0 1 2 3 4; do run_free eight "all-$hands" "${find[@]}" --hands "$hands" "${shards[@]}"; done
+    for hands in 0 1; do run_free eight "two-$hands" taskset -c 0,1 "${find[@]}" --hands "$hands" "${shards[@]}"; done
 done
+echo "runs from which the host took the cores, and which were tried again: $again; that count all the same: $taken of 72"
 
 hands_word() { if [ "$1" = 1 ]; then echo '1 hand'; else echo "$1 hands"; fi; }
 least() { sort -n "times.$1" | head -n 1; }
@@ -80,6 +114,9 @@ tell_median() { # NAME NAME-OF-NONE WORDS
         <<<"$(median "$1")"
 }
 for hands in 0 1 2 3 4; do tell "all-$hands" all-0 "$hands"; done
+awk -v cores="$(nproc)" -v none="$(least all-0 | cut -d' ' -f1)" \
+    '{ printf "%d searches at once, one a core, without hands: %.2f s, so the cores are worth %.2f\n", cores, $1, cores * none / $1 }' \
+    <<<"$(least at-once)"
 echo 'on two cores:'
 for hands in 0 1; do tell "two-$hands" two-0 "$hands"; done
 

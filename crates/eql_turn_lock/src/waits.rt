@@ -7,7 +7,7 @@ use std::sync::Wait;
 use std::sync::atomic::Ordering::SeqCst;
 
 /// How often a call looks at the word before it sleeps.
-const LOOKS: u32 = 1_000;
+const LOOKS: u32 = 4_000;
 
 // Callers sleep on the word. A caller raises `waiting` before it looks at the word once more and
 // sleeps, and the system looks again in one step with the sleep. The holder of the turn stores the
