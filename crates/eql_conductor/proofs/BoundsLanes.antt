@@ -14,7 +14,7 @@ use Rattle.eql_lane.specs.declared.ops.LaneReply.{LaneReply}
 use Rattle.eql_lane.specs.declared.ops.LaneReply.TheVariants as reply
 use Rattle.eql_lane.specs.declared.ops.LimitOf.TheVariants as limit
 use Rattle.eql_lane.specs.Lanes.{Setting, LaneState, Feeds, IsFeedStep, FeedsLines, Takes, lesser, low, ready}
-use Rattle.eql_rounds.specs.LaneRounds.{Holds}
+use Rattle.eql_conductor.specs.LaneCalls.{Holds}
 use Rattle.eql_conductor.specs.Benches.{FeedsTimes, ComesByFeeds}
 use Rattle.eql_conductor.specs.Bounds.{Gains, GaveOut, HadLow, IsHolding, WasFed}
 use Rattle.eql_conductor.proofs.BoundsSteps.{gains_on, gains_self, reads_step, take_gains, takes_step}

@@ -4,7 +4,7 @@ use Rattle.eql_values.specs.declared.order.Mark.{Mark}
 use Rattle.eql_values.specs.declared.order.Mark.TheVariants.{Start, At, End}
 use Rattle.eql_laws.specs.Lateness.{IsAtMost}
 use Rattle.eql_lane.specs.Lanes.{Setting, LaneState}
-use Rattle.eql_rounds.specs.LaneRounds.{Holds}
+use Rattle.eql_conductor.specs.LaneCalls.{Holds}
 use Rattle.eql_conductor.specs.Benches.{Known, StaysSame}
 use Rattle.eql_conductor.specs.Bounds.{FeedsAll, AllGaveOut, AreSized, Gains, GaveOut, HadLow, HaveStates, IsSomeLow, RoundSpends, RoundsSpend, Spends, held_count, lane_steps, mark_after, sum_from}
 use Rattle.eql_conductor.specs.Going.{LanesGo}

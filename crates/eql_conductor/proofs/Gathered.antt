@@ -24,7 +24,7 @@ use Rattle.eql_laws.proofs.Splitting.{after_split}
 use Rattle.eql_merge.specs.Ranks.{HoldersAreApart, slot_of}
 use Rattle.eql_parts.specs.PartSteps.{Rules}
 use Rattle.eql_parts.specs.Spreading.{part_number}
-use Rattle.eql_rounds.proofs.Found.{sixteen}
+use Rattle.eql_conductor.proofs.Found.{sixteen}
 use Rattle.eql_conductor.specs.PartRounds.{pending_after}
 use Rattle.eql_conductor.specs.Snaps.{held_of}
 

@@ -16,9 +16,9 @@ use Rattle.eql_outside.proofs.WrittenLemmas.{writes_on}
 use Rattle.eql_book.specs.Books.{BookState, FitsPipes, book_after}
 use Rattle.eql_book.specs.Listing.{listing}
 use Rattle.eql_parts.specs.PartSteps.{PartState, Rules, alive_by}
-use Rattle.eql_rounds.specs.Finding.{own_of}
-use Rattle.eql_rounds.specs.PartRounds.{PartIs}
-use Rattle.eql_rounds.proofs.Found.{rounds_find}
+use Rattle.eql_conductor.specs.Finding.{own_of}
+use Rattle.eql_conductor.specs.PartCalls.{PartIs}
+use Rattle.eql_conductor.proofs.Found.{rounds_find}
 use Rattle.eql_conductor.specs.Benches.{Known, StaysSame}
 use Rattle.eql_conductor.specs.LaneRounds.{LanesAreAt}
 use Rattle.eql_conductor.specs.PartRounds.{IsAtRest, AreAtRest, AreSomehowFull, AreSomehowAtRest, pending_after}

@@ -1,3 +1,7 @@
+pub mod Reaching
+pub mod Parting
+pub mod Laning
+pub mod Found
 pub mod Resting
 pub mod BoundsSteps
 pub mod Onward

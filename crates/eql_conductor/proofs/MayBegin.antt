@@ -21,7 +21,7 @@ use Rattle.eql_laws.proofs.Facts.{both_true, true_both}
 use Rattle.eql_lane.specs.Starts.{MayBegin}
 use Rattle.eql_parts.specs.Inboxes.{HolderIsBelow, below_mark}
 use Rattle.eql_parts.specs.Spreading.{part_number}
-use Rattle.eql_rounds.specs.Finding.{own_of}
+use Rattle.eql_conductor.specs.Finding.{own_of}
 use Rattle.eql_book.specs.Books.{FitsPipe}
 use Rattle.eql_conductor.specs.Openings.{FitMayBegin, PartMayBegin}
 use Rattle.eql_conductor.proofs.Opened.{own_in_order}

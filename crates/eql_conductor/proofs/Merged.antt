@@ -23,9 +23,9 @@ use Rattle.eql_laws.proofs.Aparts.{kinds_apart}
 use Rattle.eql_laws.proofs.BelowLemmas.{All-sorted}
 use Rattle.eql_laws.proofs.Handing.{between_by_shard}
 use Rattle.eql_parts.specs.PartSteps.{CanDeliver, Rules}
-use Rattle.eql_rounds.specs.Finding.{found_of}
-use Rattle.eql_rounds.specs.LaneRounds.{HandsOver, IsOfShard}
-use Rattle.eql_rounds.proofs.Found.{rounds_find}
+use Rattle.eql_conductor.specs.Finding.{found_of}
+use Rattle.eql_conductor.specs.LaneCalls.{HandsOver, IsOfShard}
+use Rattle.eql_conductor.proofs.Found.{rounds_find}
 use Rattle.eql_conductor.specs.Benches.{Known}
 use Rattle.eql_conductor.specs.LaneRounds.{AreLanes, HandsFrom, AllHandOver, text_at}
 use Rattle.eql_conductor.specs.Rounds.{ReadTexts, found_by}

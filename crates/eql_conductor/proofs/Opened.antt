@@ -24,10 +24,10 @@ use Rattle.eql_lane.specs.Lanes.{LaneState, Setting, beginning_lane, fresh_cut a
 use Rattle.eql_lane.proofs.Keeping.{fresh_is}
 use Rattle.eql_parts.specs.PartSteps.{PartState, Rules, alive_by, mark_time}
 use Rattle.eql_parts.specs.Spreading.{part_number}
-use Rattle.eql_rounds.specs.Finding.{own_of}
-use Rattle.eql_rounds.specs.LaneRounds.{Holds, IsOfShard, IsOfText, LaneIsAt}
-use Rattle.eql_rounds.specs.PartRounds.{ComeFrom, ReachesTo}
-use Rattle.eql_rounds.proofs.Reaching.{by_later, left_order, time_self}
+use Rattle.eql_conductor.specs.Finding.{own_of}
+use Rattle.eql_conductor.specs.LaneCalls.{Holds, IsOfShard, IsOfText, LaneIsAt}
+use Rattle.eql_conductor.specs.PartCalls.{ComeFrom, ReachesTo}
+use Rattle.eql_conductor.proofs.Reaching.{by_later, left_order, time_self}
 use Rattle.eql_book.specs.Books.{BookState}
 use Rattle.eql_book.specs.Laws.{fresh_state}
 use Rattle.eql_conductor.specs.declared.plan.RunPlan.{RunPlan}

@@ -30,7 +30,7 @@ use Rattle.eql_lane.specs.Keeps.{LaneIs}
 use Rattle.eql_lane.specs.Lanes.{LaneState, Setting, beginning_lane}
 use Rattle.eql_lane.proofs.Keeping.{cuts_begin}
 use Rattle.eql_parts.specs.PartSteps.{PartState, Rules}
-use Rattle.eql_rounds.specs.LaneRounds.{Holds, IsOfShard, IsOfText, LaneIsAt}
+use Rattle.eql_conductor.specs.LaneCalls.{Holds, IsOfShard, IsOfText, LaneIsAt}
 use Rattle.eql_conductor.specs.Benches.{Known}
 use Rattle.eql_conductor.specs.Bounds.{IsSized}
 use Rattle.eql_conductor.specs.LaneRounds.{text_at}

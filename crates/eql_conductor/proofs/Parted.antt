@@ -22,9 +22,9 @@ use Rattle.eql_parts.specs.declared.ops.PartReply.{PartReply}
 use Rattle.eql_parts.specs.declared.ops.PartReply.TheVariants as reply
 use Rattle.eql_parts.specs.PartSteps.{CanDeliver, Rules, PartState, IsPartStep, IsTurnStep}
 use Rattle.eql_parts.specs.Spreading.{part_number}
-use Rattle.eql_rounds.specs.Finding.{found_of, own_of}
-use Rattle.eql_rounds.specs.PartRounds.{PartIs, TurnKeeps, CollectsAll}
-use Rattle.eql_rounds.proofs.Parting.{turn_keeps_part, deliver_moves_part, collect_moves_part}
+use Rattle.eql_conductor.specs.Finding.{found_of, own_of}
+use Rattle.eql_conductor.specs.PartCalls.{PartIs, TurnKeeps, CollectsAll}
+use Rattle.eql_conductor.proofs.Parting.{turn_keeps_part, deliver_moves_part, collect_moves_part}
 use Rattle.eql_conductor.specs.Benches.{Known, StaysSame, TurnsTimes, ComesByTurns, PartPlays, MayPlay}
 use Rattle.eql_conductor.specs.PartRounds.{AreParts, AreInPhase, IsAtRest, IsDelivered, IsPlayed, pending_after, AreAtRest, AreDelivered, ArePlayed, AreCollected, WaitAtMost, FewerWait}
 use Rattle.eql_conductor.proofs.Resting.{same_or, was_part}

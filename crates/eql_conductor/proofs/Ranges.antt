@@ -13,7 +13,7 @@ use Rattle.eql_laws.specs.Lateness.{best_of}
 use Rattle.eql_laws.proofs.BelowLemmas.{accepted_of_text, open_low}
 use Rattle.eql_lane.specs.Keeps.{LaneIs}
 use Rattle.eql_lane.specs.Lanes.{LaneState, Setting, low}
-use Rattle.eql_rounds.specs.LaneRounds.{IsOfText, LaneIsAt}
+use Rattle.eql_conductor.specs.LaneCalls.{IsOfText, LaneIsAt}
 use Rattle.eql_conductor.specs.Benches.{Known, Rests}
 use Rattle.eql_conductor.specs.Bounds.{IsSomeLow, LaneHadLow}
 use Rattle.eql_conductor.specs.LaneRounds.{text_at}

@@ -21,7 +21,7 @@ use Rattle.eql_book.specs.Books.{BookState}
 use Rattle.eql_cut.specs.declared.cut.Cut.{Cut}
 use Rattle.eql_cut.specs.declared.cut.CutHead.{CutHead}
 use Rattle.eql_parts.specs.PartSteps.{Rules}
-use Rattle.eql_rounds.specs.LaneRounds.{IsOfText}
+use Rattle.eql_conductor.specs.LaneCalls.{IsOfText}
 use Rattle.eql_conductor.specs.Benches.{Known, PartsRest, StaysSame}
 use Rattle.eql_conductor.specs.LaneRounds.{AreLanes, LanesAreAt, text_at}
 use Rattle.eql_conductor.specs.PartRounds.{AreAtRest, AreSomehowFull, pending_after}

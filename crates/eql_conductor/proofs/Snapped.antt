@@ -19,8 +19,8 @@ use Rattle.eql_parts.specs.declared.ops.PartReply.{PartReply}
 use Rattle.eql_parts.specs.declared.ops.PartReply.TheVariants as part_reply
 use Rattle.eql_parts.specs.PartSteps.{Rules, PartState, IsSnapStep as PartSnaps, alive_by, mark_time}
 use Rattle.eql_parts.specs.Spreading.{part_number}
-use Rattle.eql_rounds.specs.Finding.{own_of}
-use Rattle.eql_rounds.specs.PartRounds.{TimeIsAtMost}
+use Rattle.eql_conductor.specs.Finding.{own_of}
+use Rattle.eql_conductor.specs.PartCalls.{TimeIsAtMost}
 use Rattle.eql_conductor.specs.Benches.{Known, StaysSame, ComesByFeeds, ComesByTurns, LanePlays, PartPlays, Rests}
 use Rattle.eql_conductor.specs.LaneRounds.{LanesAreAt, text_at}
 use Rattle.eql_conductor.specs.PartRounds.{AreAtRest, IsAtRest}

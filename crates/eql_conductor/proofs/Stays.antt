@@ -5,7 +5,7 @@ use Rattle.eql_values.specs.declared.order.Mark.{Mark}
 use Rattle.eql_values.specs.Accepted.{Reads}
 use Rattle.eql_lane.specs.Lanes.{Setting}
 use Rattle.eql_parts.specs.PartSteps.{Rules}
-use Rattle.eql_rounds.specs.LaneRounds.{LaneIsAt}
+use Rattle.eql_conductor.specs.LaneCalls.{LaneIsAt}
 use Rattle.eql_conductor.specs.Benches.{Known, StaysSame, ComesByTurns, LanesRest, PartsRest}
 use Rattle.eql_conductor.specs.LaneRounds.{LanesAreAt, text_at}
 use Rattle.eql_conductor.specs.PartRounds.{AreAtRest, AreSomehowAtRest}

@@ -8,8 +8,8 @@ use Rattle.eql_laws.proofs.MarkLemmas.{at_most_trans}
 use Rattle.eql_lane.specs.declared.ops.LaneOp.TheVariants as op
 use Rattle.eql_lane.specs.declared.ops.LaneReply.TheVariants as reply
 use Rattle.eql_lane.specs.Lanes.{Setting, LaneState, low}
-use Rattle.eql_rounds.specs.LaneRounds.{LaneIsAt, HandsOver, TakesTo}
-use Rattle.eql_rounds.proofs.Laning.{feed_keeps_lane, take_moves_lane}
+use Rattle.eql_conductor.specs.LaneCalls.{LaneIsAt, HandsOver, TakesTo}
+use Rattle.eql_conductor.proofs.Laning.{feed_keeps_lane, take_moves_lane}
 use Rattle.eql_conductor.specs.Benches.{Known, StaysSame, FeedsTimes, ComesByFeeds, LanePlays}
 use Rattle.eql_conductor.specs.LaneRounds.{AreLanes, LanesAreAt, AreTakenTo, IsSafe, HandsFrom, TookTo, text_at}
 use Rattle.eql_conductor.proofs.Resting.{same_or, was_lane}

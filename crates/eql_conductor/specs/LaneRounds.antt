@@ -5,7 +5,7 @@ use Rattle.eql_values.specs.declared.order.Mark.{Mark}
 use Rattle.eql_laws.specs.Belows.{IsReading}
 use Rattle.eql_laws.specs.Lateness.{IsAtMost}
 use Rattle.eql_lane.specs.Lanes.{LaneState, low}
-use Rattle.eql_rounds.specs.LaneRounds.{LaneIsAt, HandsOver}
+use Rattle.eql_conductor.specs.LaneCalls.{LaneIsAt, HandsOver}
 use Rattle.eql_conductor.specs.Benches.{Known}
 
 -- the text of a lane, where texts are given

@@ -2,7 +2,10 @@ pub mod Notes
 pub mod Benches
 pub mod Bounds
 pub mod Going
+pub mod LaneCalls
 pub mod LaneRounds
+pub mod PartCalls
+pub mod Finding
 pub mod PartRounds
 pub mod Rounds
 pub mod Handed

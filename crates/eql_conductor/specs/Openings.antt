@@ -14,7 +14,7 @@ use Rattle.eql_lane.specs.Lanes.{LaneState, beginning_lane, fresh_cut as fresh_l
 use Rattle.eql_lane.specs.Starts.{MayBegin}
 use Rattle.eql_parts.specs.Inboxes.{HolderIsBelow}
 use Rattle.eql_parts.specs.PartSteps.{PartState, Rules, alive_by, mark_time}
-use Rattle.eql_rounds.specs.Finding.{own_of}
+use Rattle.eql_conductor.specs.Finding.{own_of}
 use Rattle.eql_book.specs.Books.{BookState, FitsPipes}
 use Rattle.eql_book.specs.Laws.{fresh_cut as fresh_book}
 use Rattle.eql_conductor.specs.declared.plan.RunPlan.{RunPlan}

@@ -9,8 +9,8 @@ use Rattle.eql_laws.specs.Alive.{IsSpan}
 use Rattle.eql_laws.specs.Shapes.{IsFull}
 use Rattle.eql_parts.specs.PartSteps.{Rules, PartState}
 use Rattle.eql_parts.specs.Spreading.{part_number}
-use Rattle.eql_rounds.specs.Finding.{own_of}
-use Rattle.eql_rounds.specs.PartRounds.{PartIs}
+use Rattle.eql_conductor.specs.Finding.{own_of}
+use Rattle.eql_conductor.specs.PartCalls.{PartIs}
 use Rattle.eql_conductor.specs.Benches.{Known}
 
 -- there are sixteen parts, which have these rules, of which the span is no negative time

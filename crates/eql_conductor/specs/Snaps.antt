@@ -14,7 +14,7 @@ use Rattle.eql_lane.specs.Lanes.{Setting, LaneState}
 use Rattle.eql_cut.specs.declared.cut.Cut.{Cut}
 use Rattle.eql_parts.specs.PartSteps.{Rules}
 use Rattle.eql_parts.specs.Spreading.{part_number}
-use Rattle.eql_rounds.specs.LaneRounds.{LaneIsAt}
+use Rattle.eql_conductor.specs.LaneCalls.{LaneIsAt}
 use Rattle.eql_conductor.specs.Benches.{Known}
 use Rattle.eql_conductor.specs.LaneRounds.{text_at}
 use Rattle.eql_conductor.specs.PartRounds.{pending_after}

@@ -1,5 +1,8 @@
-//! Laws of the opening of runs, of what they list, and of their cuts. Each is the contract of a
-//! function that does nothing.
+//! Laws of the opening of runs, of lanes, parts and all that is found from call to call, of what runs list, and of their cuts. Each
+//! is the contract of a function that does nothing.
+ghost use Rattle.eql_conductor.specs.Finding.{RoundsFind};
+ghost use Rattle.eql_conductor.specs.LaneCalls.{FeedKeepsLane, TakeMovesLane};
+ghost use Rattle.eql_conductor.specs.PartCalls.{CollectMovesPart, DeliverMovesPart, TurnKeepsPart};
 ghost use Rattle.eql_conductor.specs.Openings.{CutRunsBegin, CutRunsHaveTexts, FitIsSafe, FitMayBegin, FreshRunsBegin, PlacesMakeSafe};
 ghost use Rattle.eql_conductor.specs.RunLaws.{CutHavePlayed, CutRunsAreTold, FreshHavePlayed, FreshListsAll, FreshRunsAreTold, RunCutsAreOfTexts, RunCutsAreSafe, RunCutsFit, RunsStopInLines, RunsWriteLines};
 
@@ -27,6 +30,25 @@ pub fn cuts_may_begin()
 pub fn cut_times_are_safe()
     ensures fitting { FitIsSafe }
     ensures places { PlacesMakeSafe }
+{}
+
+/// Feeds keep what is known of a lane at a mark, and a take moves it to a greater mark.
+pub fn lanes_go_on()
+    ensures feeds { FeedKeepsLane }
+    ensures takes { TakeMovesLane }
+{}
+
+/// Turns keep what is known of a part, deliveries and collections move it on.
+pub fn parts_go_on()
+    ensures turns { TurnKeepsPart }
+    ensures deliveries { DeliverMovesPart }
+    ensures collections { CollectMovesPart }
+{}
+
+/// What the parts find by the events of a round, merged, are the matches by these events, and each part has its own of what is
+/// pending then.
+pub fn rounds_find()
+    ensures { RoundsFind }
 {}
 
 /// Where a run begins, all events below its mark were played: none where it begins afresh, and

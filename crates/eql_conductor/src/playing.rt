@@ -6,7 +6,7 @@ ghost use Rattle.eql_values.specs.Ordered.{numbers};
 ghost use Rattle.eql_values.specs.Routing.{routed_items};
 ghost use Rattle.eql_parts.specs.PartSteps.{CanDeliver, Rules};
 ghost use Rattle.eql_parts.specs.Spreading.{part_number};
-ghost use Rattle.eql_rounds.specs.Finding.{found_of};
+ghost use Rattle.eql_conductor.specs.Finding.{found_of};
 ghost use Rattle.eql_conductor.specs.Benches.{LanesRest, StaysSame};
 ghost use Rattle.eql_conductor.specs.Going.{StopsBy, Went};
 ghost use Rattle.eql_conductor.specs.PartRounds.{AreCollected, AreDelivered, FewerWait, AreAtRest, AreSomehowCollected, AreSomehowDelivered, AreSomehowAtRest, AreSomehowPlayed, TurnGoes, ArePlayed, WaitAtMost, pending_after};

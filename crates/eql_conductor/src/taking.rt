@@ -1,7 +1,7 @@
 //! The lanes' half of a round, from the mark on: what lies below it is taken from each lane.
 ghost use Rattle.std.specs.Prelude.{◌≡◌, ◌<◌, ◌+◌, ◌∷◌, ◌++◌, [], ℕ, List, Option, None, length, IfErr, IfOk, OnErr, OnOk};
 ghost use Rattle.eql_laws.specs.Lateness.{IsAtMost};
-ghost use Rattle.eql_rounds.specs.LaneRounds.{HandsOver};
+ghost use Rattle.eql_conductor.specs.LaneCalls.{HandsOver};
 ghost use Rattle.eql_conductor.specs.Benches.{PartsRest};
 ghost use Rattle.eql_conductor.specs.Bounds.{AllGaveOut, OneGaveOut};
 ghost use Rattle.eql_conductor.specs.Going.{LanesGo, StopsBy, Went};

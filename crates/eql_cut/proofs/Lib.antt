@@ -15,3 +15,8 @@ pub mod PlaceLaws
 pub mod LiftKeeps
 pub mod OldPlaces
 pub mod Restored
+pub mod LinePlaces
+pub mod CutEvents
+pub mod Setting
+pub mod Noted
+pub mod HavePlaces

@@ -10,3 +10,6 @@ pub mod Whole
 pub mod Fitting
 pub mod Placing
 pub mod Lifting
+pub mod Placed
+pub mod PlacedLaws
+pub mod PlacedExamples

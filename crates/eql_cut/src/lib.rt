@@ -17,6 +17,7 @@ mod numbers;
 mod ordered;
 mod orders;
 mod placed;
+mod placed_laws;
 mod reader;
 mod routes;
 mod texts;
@@ -30,5 +31,9 @@ pub use keeping::{
     first_format_has_no_places, lifted_cuts_are_placed, lifted_cuts_fit, texts_are_decided,
 };
 pub use lifting::{lift, named};
+pub use placed_laws::{
+    cuts_have_places, events_are_named, named_lines_were_read, noted_places_serve,
+    places_alone_are_set,
+};
 pub use reader::CutRefused;
 pub use whole::{Decoded, decode, encode, encode_behind};

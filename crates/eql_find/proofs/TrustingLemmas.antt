@@ -11,7 +11,7 @@ use Rattle.eql_cut.specs.declared.cut.Cut.{Cut}
 use Rattle.eql_cut.specs.Domain.{kept_by}
 use Rattle.eql_cut.specs.Placing.{IsUnplaced, orders_in, place_of}
 use Rattle.eql_conductor.specs.Openings.{IsCutOfTexts}
-use Rattle.eql_placed.specs.Placed.{cut_at_places}
+use Rattle.eql_cut.specs.Placed.{cut_at_places}
 use Rattle.eql_resume.specs.Beginnings.{Rest, placed_if, rest_by}
 use Rattle.eql_resume.specs.Finding.{Suits}
 use Rattle.eql_runs.specs.Searches.{pipes_of as search_pipes, reads_of}

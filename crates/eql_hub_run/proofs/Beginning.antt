@@ -11,7 +11,7 @@ use Rattle.eql_lane.specs.Lanes.{LaneState, Setting, beginning_lane, fresh_cut}
 use Rattle.eql_lane.specs.Views.{LaneView}
 use Rattle.eql_parts.specs.PartSteps.{PartView}
 use Rattle.eql_book.specs.Books.{BookState}
-use Rattle.eql_rounds.specs.LaneRounds.{LaneIsAt}
+use Rattle.eql_conductor.specs.LaneCalls.{LaneIsAt}
 use Rattle.eql_turn_lock.specs.declared.history.Entry.{Entry}
 use Rattle.eql_turn_lock.specs.declared.view.View.{View}
 use Rattle.eql_turn_lock.specs.History.{IsLegal}

@@ -10,7 +10,7 @@ use Rattle.eql_laws.specs.Belows.{IsReading}
 use Rattle.eql_lane.specs.Lanes.{Setting}
 use Rattle.eql_lane.specs.Views.{LaneView, setting_of}
 use Rattle.eql_parts.specs.PartSteps.{PartView, Rules}
-use Rattle.eql_rounds.specs.LaneRounds.{LaneIsAt}
+use Rattle.eql_conductor.specs.LaneCalls.{LaneIsAt}
 use Rattle.eql_conductor.specs.LaneRounds.{LanesAreAt, text_at}
 use Rattle.eql_conductor.specs.PartRounds.{IsAtRest, AreAtRest}
 use Rattle.eql_conductor.specs.Rounds.{BenchIsOfTexts}

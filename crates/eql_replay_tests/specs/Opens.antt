@@ -14,7 +14,7 @@ use Rattle.eql_lane.specs.declared.make.LaneStart.TheVariants as start
 use Rattle.eql_lane.specs.Views.{LaneView}
 use Rattle.eql_parts.specs.Inboxes.{HolderIsBelow}
 use Rattle.eql_parts.specs.PartSteps.{PartView, Rules}
-use Rattle.eql_rounds.specs.Finding.{own_of}
+use Rattle.eql_conductor.specs.Finding.{own_of}
 use Rattle.eql_book.specs.Books.{BookState}
 use Rattle.eql_book.specs.Laws.{fresh_cut as fresh_book}
 use Rattle.eql_cut.specs.CutValues.{names_ascend}

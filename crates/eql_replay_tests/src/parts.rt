@@ -1,6 +1,6 @@
 //! Parts as a run may begin with them: each with its own of pending sequences.
 ghost use Rattle.std.specs.Prelude.{◌≡◌, ◌≤◌, ◌<◌, IfOk, length};
-ghost use Rattle.eql_rounds.specs.Finding.{own_of};
+ghost use Rattle.eql_conductor.specs.Finding.{own_of};
 ghost use Rattle.eql_parts.specs.PartSteps.{Rules};
 ghost use Rattle.eql_replay_tests.specs.Opens.{AllMayHold, PartsBegin};
 

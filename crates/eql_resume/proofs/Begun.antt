@@ -17,7 +17,7 @@ use Rattle.eql_cut.specs.declared.cut.Cut.{Cut}
 use Rattle.eql_cut.specs.Domain.{kept_by}
 use Rattle.eql_cut.specs.Fitting.{run_of}
 use Rattle.eql_cut.specs.Placing.{IsUnplaced, NamesLine, lane_orders, orders_in}
-use Rattle.eql_placed.specs.PlacedLaws.{EventsAreNamed}
+use Rattle.eql_cut.specs.PlacedLaws.{EventsAreNamed}
 use Rattle.eql_resume.specs.Beginnings.{AreWanted, LaneBegins, LanesBegin, WantedAre, fresh_starts, lifts_of, rest_orders}
 use Rattle.eql_resume.specs.Finding.{Suits}
 

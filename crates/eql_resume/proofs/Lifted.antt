@@ -20,8 +20,8 @@ use Rattle.eql_lane.specs.Noting.{IsWholeLine, line_place, place_among, placed_i
 use Rattle.eql_cut.specs.declared.cut.Cut.{Cut}
 use Rattle.eql_cut.specs.Fitting.{run_of}
 use Rattle.eql_cut.specs.Placing.{NamesLine, lifted_cut, lifted_item, lifted_lane, place_in, place_of}
-use Rattle.eql_placed.specs.Placed.{EachWasNoted, HasLine, WereNoted, place_of_line, with_places}
-use Rattle.eql_placed.specs.PlacedLaws.{EventsAreNamed, NotedIsPlaced, WantedWereNoted}
+use Rattle.eql_cut.specs.Placed.{EachWasNoted, HasLine, WereNoted, place_of_line, with_places}
+use Rattle.eql_cut.specs.PlacedLaws.{EventsAreNamed, NotedIsPlaced, WantedWereNoted}
 use Rattle.eql_resume.specs.Beginnings.{AreWanted}
 use Rattle.eql_resume.specs.Finding.{Suits}
 use Rattle.eql_resume.specs.Lifted.{LiftedIsCut, WasLifted, WereLifted}

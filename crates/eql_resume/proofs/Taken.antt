@@ -6,7 +6,7 @@ use Rattle.eql_lane.specs.declared.make.LaneStart.TheVariants as start
 use Rattle.eql_conductor.specs.Openings.{FitMayBegin}
 use Rattle.eql_cut.specs.declared.cut.Cut.{Cut}
 use Rattle.eql_cut.specs.Placing.{IsUnplaced, orders_in}
-use Rattle.eql_placed.specs.PlacedLaws.{EventsAreNamed}
+use Rattle.eql_cut.specs.PlacedLaws.{EventsAreNamed}
 use Rattle.eql_resume.specs.declared.beginning.Beginning.{Beginning}
 use Rattle.eql_resume.specs.Beginnings.{LanesBegin, WantedAre, fresh_starts, lifts_of}
 use Rattle.eql_resume.specs.Finding.{Suits}

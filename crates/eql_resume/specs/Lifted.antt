@@ -6,7 +6,7 @@ use Rattle.eql_laws.specs.Places.{ReadTo, whole}
 use Rattle.eql_lane.specs.Noting.{Locates, placed_cut}
 use Rattle.eql_cut.specs.declared.cut.Cut.{Cut}
 use Rattle.eql_cut.specs.Placing.{LinesAscend, lifted_cut, place_of}
-use Rattle.eql_placed.specs.Placed.{cut_at_places}
+use Rattle.eql_cut.specs.Placed.{cut_at_places}
 use Rattle.eql_resume.specs.Beginnings.{AreWanted}
 use Rattle.eql_resume.specs.Finding.{Suits}
 

@@ -7,9 +7,8 @@ ghost use Rattle.eql_resume.specs.Finding.{Suits};
 
 use crate::fresh::fresh_book;
 use eql_conductor::cuts_may_begin;
-use eql_cut::{Cut, CutHead, lift, named};
+use eql_cut::{Cut, CutHead, events_are_named, lift, named};
 use eql_lane::LaneStart;
-use eql_placed::events_are_named;
 use eql_values::{
     BookCut, Holders, LaneCuts, Lines, Mark, Memory, NameKinds, Pipes, PlaceLists, Text,
 };

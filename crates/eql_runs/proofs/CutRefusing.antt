@@ -22,8 +22,8 @@ use Rattle.eql_cut.specs.declared.cut.CutHead.{CutHead}
 use Rattle.eql_cut.specs.Agreeing.{difference}
 use Rattle.eql_cut.specs.Domain.{kept_by}
 use Rattle.eql_cut.specs.Placing.{NamesLine, lifted_lane}
-use Rattle.eql_placed.specs.Placed.{ShardHasLine, place_in_texts, cut_at_places}
-use Rattle.eql_placed.specs.PlacedLaws.{NamedWereRead, NamesStay}
+use Rattle.eql_cut.specs.Placed.{ShardHasLine, place_in_texts, cut_at_places}
+use Rattle.eql_cut.specs.PlacedLaws.{NamedWereRead, NamesStay}
 use Rattle.eql_runs.specs.CutRefusals.{CutRefusal, CutRefuses, FoundRefuses, IsLostLine, NoneIsRefusedBefore, ShardRefuses, StandsBefore, by_found, by_shard, differs, has_no_line, head_damaged, head_differs, is_grown, is_short, is_unfit, no_line, short, text_damaged}
 use Rattle.eql_runs.specs.Refusals.{Refusal}
 use Rattle.eql_runs.specs.Refusals as refusal

@@ -5,7 +5,7 @@ use Rattle.std.specs.Fmt.{decimal}
 use Rattle.std.proofs.lemmas.Fmt.{length-decimal-le}
 use Rattle.std.proofs.lemmas.List.Elements.{All-nil, All-cons}
 use Rattle.eql_laws.proofs.Counted.{lines_by_bytes}
-use Rattle.eql_made.specs.Made.{process_name, made_line, made_text}
+use Rattle.eql_runs.specs.Made.{process_name, made_line, made_text}
 use Rattle.eql_runs.specs.Files.{IsWithin}
 use Rattle.eql_runs.specs.RunLaws.{MadeIsWithin}
 

@@ -16,7 +16,7 @@ use Rattle.eql_cut.specs.Domain.{kept_by}
 use Rattle.eql_cut.specs.Fitting.{FitsRun, run_of as bare_run}
 use Rattle.eql_cut.specs.Lifting.{LiftedFits}
 use Rattle.eql_cut.specs.Placing.{IsUnplaced, orders_in}
-use Rattle.eql_placed.specs.Placed.{place_in_texts, cut_at_places}
+use Rattle.eql_cut.specs.Placed.{place_in_texts, cut_at_places}
 use Rattle.eql_runs.specs.Searches.{Search, nanos_in, plan_of, reads_of, run_of}
 use Rattle.eql_runs.specs.Starts.{IsCutOf, meant_by}
 use Rattle.eql_runs.proofs.Counting.{keeps}

@@ -1,6 +1,6 @@
 -- Laws of what a run writes and refuses: they say that the clauses of the top call pin its output.
 use Rattle.std.specs.Prelude.{◌≡◌, ◌↔◌, ◌≤◌, ◌<◌, ◌^◌, ◌⊎◌, ℕ, ℤ, List, length, Option, Some, None, All}
-use Rattle.eql_made.specs.Made.{made_texts}
+use Rattle.eql_runs.specs.Made.{made_texts}
 use Rattle.eql_outside.specs.Areas.{Areas}
 use Rattle.eql_laws.specs.Books.{greatest_shards}
 use Rattle.eql_laws.specs.Counting.{IsShardText}

@@ -13,7 +13,7 @@ use Rattle.eql_cut.specs.declared.cut.Cut.{Cut}
 use Rattle.eql_cut.specs.declared.cut.CutHead.{CutHead}
 use Rattle.eql_cut.specs.Domain.{kept_by}
 use Rattle.eql_cut.specs.Whole.{IsNoText, IsTextOf}
-use Rattle.eql_placed.specs.Placed.{cut_at_places}
+use Rattle.eql_cut.specs.Placed.{cut_at_places}
 use Rattle.eql_ckdisk.specs.Found.{Found, found_on, text}
 use Rattle.eql_ckdisk.specs.Found as areas
 use Rattle.eql_ckdisk.specs.Refusing.{IsDamagedHead, number_of}

@@ -6,7 +6,7 @@ use Rattle.eql_check.specs.Kinds.{kind_at}
 use Rattle.eql_check.specs.Mappings.{mapping_of}
 use Rattle.eql_check.specs.Typing.{IsChecked}
 use Rattle.eql_book.specs.Listing.{match_text}
-use Rattle.eql_made.specs.Made.{made_texts}
+use Rattle.eql_runs.specs.Made.{made_texts}
 use Rattle.eql_runs.specs.Files.{HasTokens, ReadsAs}
 use Rattle.eql_runs.specs.Searches.{Search, listed_of}
 

@@ -2,11 +2,13 @@
 ghost use Rattle.eql_runs.specs.RunLaws.{FitsAtAnySpan, ListingIsOne, RefusalIsOne, SearchIsOne, StatusIsOne, TestedIsAccepted, WritesOrIsRefused, CheckedIsAccepted, HeadsAgree, ReadyIsNotRefused, MadeIsASearch, MadeIsWithin, MatchesAreFew, NoRunIsLeftOut, DiskHoldsOne, RunsFindFew, DiskHoldsSomething};
 
 use eql_check::check_is_exact;
-use eql_cut::{first_format_has_no_places, lifted_cuts_fit, texts_are_decided};
+use eql_cut::{
+    first_format_has_no_places, lifted_cuts_fit, named_lines_were_read, places_alone_are_set,
+    texts_are_decided,
+};
 use eql_laws::{cuts_fit, found_is_few, fronts_fit, lines_go_on};
 use eql_lexer::{none_spelled, one_break, one_list, spelled_or_broken};
 use eql_parser::{one_query, one_refusal, query_or_refused};
-use eql_placed::{named_lines_were_read, places_alone_are_set};
 use eql_stages::readers_fit;
 use eql_values::orders_agree_with_equality;
 use eql_words::commands_are_bounded;

@@ -6,7 +6,7 @@ use Rattle.eql_values.specs.declared.order.Mark.{Mark}
 use Rattle.eql_laws.specs.Belows.{IsReading}
 use Rattle.eql_lane.specs.Lanes.{Setting}
 use Rattle.eql_parts.specs.PartSteps.{Rules}
-use Rattle.eql_rounds.specs.LaneRounds.{LaneIsAt}
+use Rattle.eql_conductor.specs.LaneCalls.{LaneIsAt}
 use Rattle.eql_conductor.specs.Benches.{Known}
 use Rattle.eql_conductor.specs.LaneRounds.{AreLanes, LanesAreAt, text_at}
 use Rattle.eql_conductor.specs.PartRounds.{AreAtRest}

@@ -21,7 +21,7 @@ use Rattle.eql_lane.specs.Lanes.{IsOutOfLines, LaneState, Setting, low}
 use Rattle.eql_lane.specs.Views.{IsTextOf, LaneView, setting_of}
 use Rattle.eql_lane.proofs.FeedLines.{lines_both}
 use Rattle.eql_parts.specs.PartSteps.{PartView}
-use Rattle.eql_rounds.specs.LaneRounds.{IsOfText}
+use Rattle.eql_conductor.specs.LaneCalls.{IsOfText}
 use Rattle.eql_book.specs.Books.{BookState}
 use Rattle.eql_conductor.specs.declared.plan.End.{End as Ends}
 use Rattle.eql_conductor.specs.declared.plan.Keep.{Keep}

@@ -18,7 +18,7 @@ use Rattle.eql_lane.specs.Lanes.{LaneState, Setting, beginning_lane, fresh_cut a
 use Rattle.eql_lane.specs.Views.{LaneView}
 use Rattle.eql_parts.specs.Inboxes.{HolderIsBelow}
 use Rattle.eql_parts.specs.PartSteps.{PartState, PartView, Rules as PartRules}
-use Rattle.eql_rounds.specs.Finding.{own_of}
+use Rattle.eql_conductor.specs.Finding.{own_of}
 use Rattle.eql_book.specs.Books.{BookState}
 use Rattle.eql_book.specs.Laws.{fresh_cut as fresh_book}
 use Rattle.eql_book.proofs.Wholes.{fresh_is_of_none}

@@ -1,6 +1,6 @@
 //! Sixteen parts, each with the pending sequences of its keys and a count of probes of its own.
 ghost use Rattle.std.specs.Prelude.{◌≡◌, ◌≢◌, ◌≤◌, ◌<◌, ◌++◌, ◌∷◌, [], ℕ, IfOk, OnOk, length};
-ghost use Rattle.eql_rounds.specs.Finding.{own_of};
+ghost use Rattle.eql_conductor.specs.Finding.{own_of};
 ghost use Rattle.eql_search.specs.Running.{AreOwnParts, MayBeginPart, list_at};
 
 use eql_auto::Steps;

@@ -3,7 +3,7 @@ use Rattle.std.proofs.Common.{◌≡◌, ℕ, List, [], ◌∷◌, ◌++◌, map
 use Rattle.std.proofs.lemmas.List.{map-append}
 use Rattle.eql_outside.specs.declared.shelf.memory.MemFile.{MemFile}
 use Rattle.eql_outside.specs.Memory.{contents}
-use Rattle.eql_made.specs.Made.{made_text, made_texts}
+use Rattle.eql_runs.specs.Made.{made_text, made_texts}
 use Rattle.eql_runs.specs.Summaries.{made_query, made_mapping}
 use Rattle.eql_summary.specs.Inputs.{made_files}
 

@@ -8,7 +8,7 @@ use Rattle.eql_values.specs.declared.found.Numbered.{Numbered}
 use Rattle.eql_values.specs.Lines.{lines_of}
 use Rattle.eql_outside.specs.Written.{WroteFront}
 use Rattle.eql_book.specs.Listing.{match_text, match_line, listing}
-use Rattle.eql_made.specs.Made.{made_texts}
+use Rattle.eql_runs.specs.Made.{made_texts}
 use Rattle.eql_runs.specs.Searches.{listed_of}
 use Rattle.eql_runs.specs.RunLaws.{MadeIsASearch}
 use Rattle.eql_runs.specs.Summaries.{made_lines, Makes, summary}

@@ -9,7 +9,7 @@ use Rattle.eql_check.specs.Mappings.{mapping_of}
 use Rattle.eql_outside.specs.declared.refused.OutRefused.TheVariants as refused_by
 use Rattle.eql_outside.specs.Plans.{FaultPlan, fresh_plan}
 use Rattle.eql_outside.specs.Unfailing.{IsUnfailing}
-use Rattle.eql_made.specs.Made.{made_texts}
+use Rattle.eql_runs.specs.Made.{made_texts}
 use Rattle.eql_words.specs.declared.commands.Find.{Find}
 use Rattle.eql_runs.specs.Files.{Files, first_missing, HasTokens, HasTexts, HasChecked, IsWithin}
 use Rattle.eql_runs.specs.RunLaws.{CheckedIsAccepted, MadeIsASearch, MadeIsWithin}

@@ -1,6 +1,6 @@
 -- What a run of `made` searches, as files and as a search over them.
 use Rattle.std.specs.Prelude.{ℕ, false, [], ◌∷◌, None, codes}
-use Rattle.eql_made.specs.Made.{made_text}
+use Rattle.eql_runs.specs.Made.{made_text}
 use Rattle.eql_words.specs.declared.commands.Find.{Find}
 use Rattle.eql_runs.specs.Files.{Files}
 use Rattle.eql_runs.specs.Summaries.{made_query, made_mapping}

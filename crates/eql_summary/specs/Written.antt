@@ -2,7 +2,7 @@
 use Rattle.std.specs.Prelude.{◌≡◌, ℕ, List, Option, Some}
 use Rattle.eql_outside.specs.Written.{WroteAll, WroteFront}
 use Rattle.eql_outside.specs.declared.refused.OutRefused.TheVariants as refused_by
-use Rattle.eql_made.specs.Made.{made_texts}
+use Rattle.eql_runs.specs.Made.{made_texts}
 use Rattle.eql_runs.specs.Searches.{listing_of, Search}
 use Rattle.eql_runs.specs.Summaries.{IsMadeSearch, Makes}
 use Rattle.eql_inputs.specs.declared.halt.Halt.TheVariants as halt

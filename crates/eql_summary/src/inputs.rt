@@ -2,10 +2,10 @@
 ghost use Rattle.std.specs.Prelude.{◌≡◌, ◌≤◌, IfOk, List, Some, [], map, string_bytes};
 ghost use Rattle.eql_outside.specs.Plans.{fresh_plan};
 ghost use Rattle.eql_outside.specs.Unfailing.{AreUnfailing};
-ghost use Rattle.eql_made.specs.Made.{made_texts};
+ghost use Rattle.eql_runs.specs.Made.{made_texts};
 ghost use Rattle.eql_summary.specs.Inputs.{made_files, made_find};
 
-use eql_made::made;
+use crate::texts::made;
 use eql_outside::{MemDisk, MemFile, MemShelf, Shelf};
 use eql_values::Memory;
 use eql_words::{Find, Name, Names};

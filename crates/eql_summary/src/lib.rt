@@ -4,6 +4,7 @@
 mod ends;
 mod inputs;
 mod search;
+mod texts;
 mod write;
 
 pub use write::write_summary;

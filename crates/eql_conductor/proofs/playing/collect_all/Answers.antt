@@ -2,7 +2,7 @@ use Rattle.std.proofs.Common.{arith}
 use Rattle.std.proofs.lemmas.Result.{err_from_is_err_and}
 use Rattle.eql_conductor.proofs.Resting.{lanes_on, same_on}
 use Rattle.eql_conductor.proofs.Onward.{rest_goes, stops_on, went_on}
-use Rattle.eql_rounds.specs.Finding.{found_of}
+use Rattle.eql_conductor.specs.Finding.{found_of}
 use Rattle.eql_conductor.proofs.Parted.{collected_all, found_more, sixteen_found}
 use Rattle.eql_conductor.proofs.PartNotes.{parts_any, parts_end, parts_more}
 use Rattle.eql_conductor.proofs.playing.collect_all.Goals as goal

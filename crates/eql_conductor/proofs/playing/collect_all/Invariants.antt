@@ -2,7 +2,7 @@ use Rattle.std.specs.Prelude.{◌≡◌, List, map}
 use Rattle.eql_values.specs.declared.found.Holder.{Holder}
 use Rattle.eql_values.specs.Ordered.{numbers}
 use Rattle.eql_parts.specs.PartSteps.{Rules}
-use Rattle.eql_rounds.specs.Finding.{found_of}
+use Rattle.eql_conductor.specs.Finding.{found_of}
 use Rattle.eql_conductor.specs.Benches.{LanesRest, StaysSame}
 use Rattle.eql_conductor.specs.Going.{Went}
 use Rattle.eql_conductor.specs.PartRounds.{AreCollected}

@@ -1,7 +1,7 @@
 use Rattle.std.proofs.Common.{List, length, arith, ap, sym, ◌∙◌}
 use Rattle.std.proofs.lemmas.List.{length_push}
 use Rattle.eql_values.specs.declared.found.Holder.{Holder}
-use Rattle.eql_rounds.specs.Finding.{own_of}
+use Rattle.eql_conductor.specs.Finding.{own_of}
 use Rattle.eql_conductor.specs.Openings.{begun_part}
 use Rattle.eql_parts.specs.PartSteps.{Rules}
 use Rattle.eql_replay_tests.proofs.Begun.{part_more}

@@ -1,7 +1,7 @@
 use Rattle.std.proofs.Common.{◌≡◌, ◌+◌, List, sym, ◌∙◌, arith, subst}
 use Rattle.eql_values.specs.declared.found.Holder.{Holder}
 use Rattle.eql_parts.specs.PartSteps.{PartView, Rules}
-use Rattle.eql_rounds.specs.Finding.{own_of}
+use Rattle.eql_conductor.specs.Finding.{own_of}
 use Rattle.eql_conductor.specs.Openings.{begun_part}
 use Rattle.eql_search.specs.Running.{AreOwnTo, own_part}
 use Rattle.eql_search.proofs.Owned.{own_more}

@@ -1,5 +1,5 @@
 use Rattle.std.specs.Prelude.{◌≡◌, ℕ, length}
-use Rattle.eql_rounds.specs.Finding.{own_of}
+use Rattle.eql_conductor.specs.Finding.{own_of}
 use Rattle.eql_search.specs.Running.{list_at}
 use Rattle.eql_search.proofs.parting.split.Given as goal
 

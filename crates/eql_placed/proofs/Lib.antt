@@ -1,5 +1,0 @@
-pub mod LinePlaces
-pub mod CutEvents
-pub mod Setting
-pub mod Noted
-pub mod HavePlaces

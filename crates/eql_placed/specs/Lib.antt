@@ -1,3 +1,0 @@
-pub mod Placed
-pub mod PlacedLaws
-pub mod PlacedExamples

@@ -1,4 +1,0 @@
-pub mod Reaching
-pub mod Parting
-pub mod Laning
-pub mod Found

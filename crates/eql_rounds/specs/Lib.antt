@@ -1,3 +1,0 @@
-pub mod LaneRounds
-pub mod PartRounds
-pub mod Finding
