@@ -69,6 +69,23 @@ refused_by_status run.Generation e = absurd (too_great _ e (omega arith) (λ sev
 refused_by_status (run.Report by.Failed) e = absurd (too_great _ e (omega arith) (λ seven. omega (arith, seven)))
 refused_by_status (run.Report by.Memory) e = absurd (too_great _ e (omega arith) (λ seven. omega (arith, seven)))
 
+-- no run stops with the status of words that are no command
+pub never_usage : (h : RunHalt) → run_status_of h ≡ 2 → ⊥
+never_usage (run.Files (halt.Refused (refused.NoFile name))) e = omega (arith, e)
+never_usage (run.Files (halt.Refused (refused.Lex r))) e = omega (arith, e)
+never_usage (run.Files (halt.Refused (refused.Parse r))) e = omega (arith, e)
+never_usage (run.Files (halt.Refused (refused.Mapping r))) e = omega (arith, e)
+never_usage (run.Files (halt.Refused (refused.Broken r))) e = omega (arith, e)
+never_usage (run.Files (halt.Read name)) e = omega (arith, e)
+never_usage (run.Files halt.Memory) e = omega (arith, e)
+never_usage (run.Cut why) e = omega (arith, e)
+never_usage run.Disk e = omega (arith, e)
+never_usage run.Write e = omega (arith, e)
+never_usage (run.Limit l) e = omega (arith, e)
+never_usage run.Generation e = omega (arith, e)
+never_usage (run.Report by.Failed) e = omega (arith, e)
+never_usage (run.Report by.Memory) e = omega (arith, e)
+
 same_status : (r : Refused) → status_of (halt.Refused r) ≡ refusal_status (refusal_of r)
 same_status (refused.NoFile name) = refl
 same_status (refused.Lex r) = refl
@@ -125,22 +142,23 @@ disk_by_status run.Generation before now rose e = absurd (omega (arith, e))
 disk_by_status (run.Report by.Failed) before now rose e = absurd (omega (arith, e))
 disk_by_status (run.Report by.Memory) before now rose e = absurd (omega (arith, e))
 
-pub write_by_status : (h : RunHalt) (out out' err err' : ℕ) → OutFollows {A = Unit {0}} (Err h) out out' → ErrFollows {A = Unit {0}} (Err h) err err'
-    → run_status_of h ≡ 5 → Rose out out' ⊎ Rose err err'
-write_by_status (run.Files (halt.Refused (refused.NoFile name))) out out' err err' o x e = absurd (omega (arith, e))
-write_by_status (run.Files (halt.Refused (refused.Lex r))) out out' err err' o x e = absurd (omega (arith, e))
-write_by_status (run.Files (halt.Refused (refused.Parse r))) out out' err err' o x e = absurd (omega (arith, e))
-write_by_status (run.Files (halt.Refused (refused.Mapping r))) out out' err err' o x e = absurd (omega (arith, e))
-write_by_status (run.Files (halt.Refused (refused.Broken r))) out out' err err' o x e = absurd (omega (arith, e))
-write_by_status (run.Files (halt.Read name)) out out' err err' o x e = absurd (omega (arith, e))
-write_by_status (run.Files halt.Memory) out out' err err' o x e = absurd (omega (arith, e))
-write_by_status (run.Cut why) out out' err err' o x e = absurd (omega (arith, e))
-write_by_status run.Disk out out' err err' o x e = absurd (omega (arith, e))
-write_by_status run.Write out out' err err' o x e = inl o
-write_by_status (run.Limit l) out out' err err' o x e = absurd (omega (arith, e))
-write_by_status run.Generation out out' err err' o x e = absurd (omega (arith, e))
-write_by_status (run.Report by.Failed) out out' err err' o x e = inr x
-write_by_status (run.Report by.Memory) out out' err err' o x e = absurd (omega (arith, e))
+-- after a report that was refused nothing more is told
+pub write_by_status : (h : RunHalt) (out out' err mid err' : ℕ) → OutFollows {A = Unit {0}} (Err h) out out'
+    → ErrFollows {A = Unit {0}} (Err h) err mid → (IsReport h → err' ≡ mid) → run_status_of h ≡ 5 → Rose out out' ⊎ Rose err err'
+write_by_status (run.Files (halt.Refused (refused.NoFile name))) out out' err mid err' o x silent e = absurd (omega (arith, e))
+write_by_status (run.Files (halt.Refused (refused.Lex r))) out out' err mid err' o x silent e = absurd (omega (arith, e))
+write_by_status (run.Files (halt.Refused (refused.Parse r))) out out' err mid err' o x silent e = absurd (omega (arith, e))
+write_by_status (run.Files (halt.Refused (refused.Mapping r))) out out' err mid err' o x silent e = absurd (omega (arith, e))
+write_by_status (run.Files (halt.Refused (refused.Broken r))) out out' err mid err' o x silent e = absurd (omega (arith, e))
+write_by_status (run.Files (halt.Read name)) out out' err mid err' o x silent e = absurd (omega (arith, e))
+write_by_status (run.Files halt.Memory) out out' err mid err' o x silent e = absurd (omega (arith, e))
+write_by_status (run.Cut why) out out' err mid err' o x silent e = absurd (omega (arith, e))
+write_by_status run.Disk out out' err mid err' o x silent e = absurd (omega (arith, e))
+write_by_status run.Write out out' err mid err' o x silent e = inl o
+write_by_status (run.Limit l) out out' err mid err' o x silent e = absurd (omega (arith, e))
+write_by_status run.Generation out out' err mid err' o x silent e = absurd (omega (arith, e))
+write_by_status (run.Report by.Failed) out out' err mid err' o x silent e = inr (subst (λ (n : ℕ). Rose err n) (sym (silent tt)) x)
+write_by_status (run.Report by.Memory) out out' err mid err' o x silent e = absurd (omega (arith, e))
 
 -- where the output didn't fail, status 5 is of the report alone
 pub report_by_status : (h : RunHalt) (out out' : ℕ) → OutFollows {A = Unit {0}} (Err h) out out' → run_status_of h ≡ 5 → ¬ Rose out out' → IsReport h

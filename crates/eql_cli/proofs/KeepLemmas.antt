@@ -12,13 +12,14 @@ use Rattle.eql_words.specs.Commands.{command_of}
 use Rattle.eql_ckdisk.specs.Going.{Goes}
 use Rattle.eql_ckdisk.specs.Keeping.{LeavesNoMore}
 use Rattle.eql_runs.specs.Files.{Files}
+use Rattle.eql_runs.specs.Outcomes.{KeepDisk}
 use Rattle.eql_runs.specs.Refusals.{Refusal}
 use Rattle.eql_runs.specs.Runs.{AskDisk, AsksDisk, IsRefused, KeepsCuts, IsRefusedAs, by_cut, by_files}
 use Rattle.eql_runs.specs.Starts.{OnDisk}
 use Rattle.eql_find.specs.declared.halt.RunHalt.{RunHalt}
 use Rattle.eql_find.specs.Halts.{IsRefusal}
 use Rattle.eql_find.proofs.HaltingEarly.{same_keeps, same_no_more}
-use Rattle.eql_cli.specs.Running.{KeepDisk, KeepsDisk}
+use Rattle.eql_cli.specs.Running.{KeepsDisk}
 
 -- a disk on which nothing is done keeps what it holds
 pub kept_disk : (asked : Command) (files : Option Files) (out out' : Option (List ℕ)) (disk now : Option History) → now ≡ disk

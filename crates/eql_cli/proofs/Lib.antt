@@ -3,3 +3,4 @@ pub mod PrintLemmas
 pub mod RunLemmas
 pub mod EndLemmas
 pub mod KeepLemmas
+pub mod Endings

@@ -15,7 +15,7 @@ use Rattle.eql_find.specs.declared.halt.RunHalt.{RunHalt}
 use Rattle.eql_find.specs.declared.halt.RunHalt.TheVariants as run
 use Rattle.eql_find.specs.Finding.{FindsAll, FindsListing, FindsSome, names_in}
 use Rattle.eql_find.specs.Finding as found
-use Rattle.eql_find.specs.Halts.{AbsencesFollow, CountFollows, DiskFollows, ErrFollows, FaultsFollow, IsRefusal, IsReport}
+use Rattle.eql_find.specs.Halts.{AbsencesFollow, CountFollows, DiskFollows, ErrFollows, FaultsFollow, IsRefusal, IsReport, TellsNothing}
 use Rattle.eql_summary.specs.Written.{MakesAll, MakesFront}
 use Rattle.eql_cli.specs.Printing.{PrintsAll, PrintsSome, StopsWriting}
 use Rattle.eql_cli.specs.Printing as printing
@@ -263,6 +263,23 @@ made_disks (Err run.Write) count stops = refl
 made_disks (Err (run.Limit l)) count stops = absurd stops
 made_disks (Err run.Generation) count stops = absurd stops
 made_disks (Err (run.Report r)) count stops = absurd stops
+
+-- the error output is left alone by `check` and `made`, and by `check` no fault of it is told
+module _ {T : Type 0} where
+  pub none_told : (r : Result (Unit {0}) RunHalt) (err : T) → IfErr r (λ h. TellsNothing h → err ≡ err)
+  none_told (Ok x) err = tt
+  none_told (Err h) err = λ nothing. refl
+
+pub check_errors : (query fields : List ℕ) (files : Option Files) (r : Result (Unit {0}) RunHalt) (count : ℕ)
+    → IfErr r (printing.HasPrintCause query fields files) → ErrFollows r count count
+check_errors query fields files (Ok x) count cause = refl
+check_errors query fields files (Err (run.Files h)) count cause = refl
+check_errors query fields files (Err (run.Cut why)) count cause = absurd cause
+check_errors query fields files (Err run.Disk) count cause = absurd cause
+check_errors query fields files (Err run.Write) count cause = refl
+check_errors query fields files (Err (run.Limit l)) count cause = absurd cause
+check_errors query fields files (Err run.Generation) count cause = absurd cause
+check_errors query fields files (Err (run.Report r)) count cause = absurd cause
 
 -- the disk isn't asked for by `check`, so none is told as failed
 pub check_disks : (query fields : List ℕ) (files : Option Files) (r : Result (Unit {0}) RunHalt) (before now : ℕ) → now ≡ before

@@ -1,3 +1,4 @@
 pub mod Telling
 pub mod Printing
 pub mod Running
+pub mod Outcomes

@@ -7,7 +7,6 @@ use Rattle.eql_outside.specs.Written.{WroteAll}
 use Rattle.eql_words.specs.declared.commands.Command.{Command}
 use Rattle.eql_words.specs.declared.commands.Command.TheVariants as command
 use Rattle.eql_words.specs.declared.commands.Find.{Find}
-use Rattle.eql_words.specs.Commands.{command_of}
 use Rattle.eql_runs.specs.Files.{Files}
 use Rattle.eql_runs.specs.Refusals.{Names}
 use Rattle.eql_runs.specs.Runs.{AsksDisk, files_for, GenerationsEnd, IfFound, IsFindAccepted, KeepsCuts, names_of, Prints, RefusesCut, Runs, Searches, shard_of, Trusts}
@@ -96,9 +95,3 @@ abbrev pub KeepsDisk : Command → Option Files → (out out' : Option (List ℕ
 KeepsDisk (command.Find f) files out out' disk now = f.checkpoint ≢ None → moments.DiskTells (KeepsCuts f files out out') disk now
 KeepsDisk (command.Check query fields) files out out' disk now = Unit {0}
 KeepsDisk (command.Made hands events) files out out' disk now = Unit {0}
-
--- so do words that are such a command
-abbrev pub KeepDisk : List (List ℕ) → Option Files → (out out' : Option (List ℕ)) → (disk now : Option History) → Type 0
-KeepDisk words files out out' disk now =
-    (find : Find) → command_of words ≡ Some (command.Find find) → find.checkpoint ≢ None
-    → moments.DiskTells (KeepsCuts find files out out') disk now

@@ -7,8 +7,8 @@ ghost use Rattle.eql_words.specs.Commands.{command_of};
 ghost use Rattle.eql_words.specs.Words.{bytes_of};
 ghost use Rattle.eql_ckdisk.specs.Going.{Goes};
 ghost use Rattle.eql_ckdisk.specs.Keeping.{LeavesNoMore};
+ghost use Rattle.eql_runs.specs.Outcomes.{KeepDisk};
 ghost use Rattle.eql_runs.specs.Runs.{AskDisk, IfTold, IsAccepted, WroteAll, WroteListing, WroteSome, TellsFront, ReachesLimit, IsReady, IsRefusedAs};
-ghost use Rattle.eql_cli.specs.Running.{KeepDisk};
 
 use crate::run::run_words;
 use eql_hands::Gate;

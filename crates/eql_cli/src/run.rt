@@ -1,16 +1,14 @@
 //! A run by its words: the command is read, run, and why it stopped is told.
-ghost use Rattle.std.specs.Prelude.{◌≡◌, ◌≢◌, ◌⊎◌, ◌≤◌, ◌<◌, ℕ, List, IfErr, IfSome, None, OnErr, OnOk, Some, false};
-ghost use Rattle.eql_outside.specs.Moments as moments;
-ghost use Rattle.eql_outside.specs.Outside.{Rose};
+ghost use Rattle.std.specs.Prelude.{◌≡◌, ℕ, List, IfErr, IfSome, Some, false};
 ghost use Rattle.eql_outside.specs.Unfailing.{AreUnfailing, IsUnfailing};
 ghost use Rattle.eql_words.specs.Bounds.{IsBounded};
-ghost use Rattle.eql_ckdisk.specs.Going.{Goes};
-ghost use Rattle.eql_ckdisk.specs.Keeping.{LeavesNoMore};
-ghost use Rattle.eql_find.specs.Halts.{AbsencesFollow, CountFollows, DiskFollows, ErrFollows, FaultsFollow, IsFault, IsRefusal, IsReport, OutFollows, TellsNothing};
 ghost use Rattle.eql_words.specs.Commands.{command_of};
 ghost use Rattle.eql_words.specs.Words.{bytes_of};
-ghost use Rattle.eql_runs.specs.Runs.{AskDisk, AsksDisk, IfTold, IsAccepted, WroteAll, WroteListing, WroteSome, TellsFront, ReachesLimit, IsReady, IsRefusedAs};
-ghost use Rattle.eql_cli.specs.Running.{HasCause, IfRun, IsAcceptedBy, KeepDisk, KeepsDisk, RunsAll, RunsListing, RunsSome};
+ghost use Rattle.eql_runs.specs.Outcomes.{DiskIsSame, RunEnds};
+ghost use Rattle.eql_runs.specs.Runs.{AsksDisk};
+ghost use Rattle.eql_find.specs.Halts.{IsFault};
+ghost use Rattle.eql_cli.specs.Outcomes.{CommandEnds};
+ghost use Rattle.eql_find.specs.Outcomes.{FaultsAreTold};
 
 use crate::check::check_query;
 use crate::made::run_made;
@@ -25,6 +23,8 @@ use std::sync::Wait;
 use std::thread::Threads;
 
 /// Runs a command.
+///
+/// `ends` says what was written, why the run stopped and what its disk came to hold; `told` that no fault is passed over.
 fn run_command<'a, R: Threads + Wait + Sync, H: Shelf, K: Sink, E: Sink, G: Gate + Sync>(
     rt: &R,
     alloc: Global,
@@ -35,36 +35,12 @@ fn run_command<'a, R: Threads + Wait + Sync, H: Shelf, K: Sink, E: Sink, G: Gate
     gate: &G,
 ) -> Result<(), RunHalt<'a>>
     requires { IsBounded command.now }
-    ensures done { OnOk result (RunsAll command.now (H.files shelf.old) (H.disk_history shelf.old)
-        (K.written out.old) (K.written out.new) (E.written err.old) (E.written err.new)) }
-    ensures accepted { OnOk result (IfRun command.now (H.files shelf.old)
-        (H.disk_history shelf.old) (IsAcceptedBy command.now)) }
-    ensures prefix { OnErr result (RunsSome command.now (H.files shelf.old)
-        (H.disk_history shelf.old) (K.written out.old) (K.written out.new)) }
-    ensures listed { IfErr result (λ halt. IsReport halt
-        → RunsListing command.now (H.files shelf.old) (H.disk_history shelf.old)
-        (K.written out.old) (K.written out.new)) }
-    ensures untouched { IfErr result (λ halt. IsRefusal halt → out.new ≡ out.old) }
-    ensures cut_kept { IfErr result (λ halt. IsRefusal halt
-        → moments.DiskTells (Goes LeavesNoMore)
-        (H.disk_history shelf.old) (H.disk_history shelf.new)) }
-    ensures quiet { IfErr result (λ halt. TellsNothing halt → err.new ≡ err.old) }
-    ensures cause { IfErr result (HasCause command.now (H.files shelf.old)
+    ensures ends { CommandEnds K.Sink E.Sink command.now (H.files shelf.old)
         (H.disk_history shelf.old) (H.disk_history shelf.new)
-        (E.written err.old) (E.written err.new)) }
-    ensures faults { FaultsFollow result (H.faults_of shelf.old) (H.faults_of shelf.new) }
-    ensures count { CountFollows result (H.fault_count shelf.old) (H.fault_count shelf.new) }
-    ensures absences { AbsencesFollow result
-        (H.absent_count shelf.old) (H.absent_count shelf.new) }
-    ensures disk { DiskFollows result
-        (H.disk_fault_count shelf.old) (H.disk_fault_count shelf.new) }
-    ensures out { OutFollows result (K.fault_count out.old) (K.fault_count out.new) }
-    ensures err { ErrFollows result (E.fault_count err.old) (E.fault_count err.new) }
-    ensures counts { (H.fault_count shelf.old ≤ H.fault_count shelf.new)
-        × (H.absent_count shelf.old ≤ H.absent_count shelf.new)
-        × (H.disk_fault_count shelf.old ≤ H.disk_fault_count shelf.new)
-        × (K.fault_count out.old ≤ K.fault_count out.new)
-        × (E.fault_count err.old ≤ E.fault_count err.new) }
+        out.old out.new err.old err.new result }
+    ensures told { FaultsAreTold K.Sink E.Sink H.Shelf shelf.old shelf.new
+        (H.disk_fault_count shelf.old) (H.disk_fault_count shelf.new)
+        out.old out.new err.old err.new result }
     ensures unfailing { IsUnfailing (H.fault_plan shelf.old)
         → AreUnfailing (H.source_plans shelf.old)
         → (AsksDisk command.now → IsUnfailing (H.disk_plan shelf.old))
@@ -72,15 +48,8 @@ fn run_command<'a, R: Threads + Wait + Sync, H: Shelf, K: Sink, E: Sink, G: Gate
         → IfErr result (λ halt. ¬ IsFault halt) }
     ensures kept { H.files shelf.new ≡ H.files shelf.old }
     ensures lent { IfSome (H.lent_count shelf.old) (λ n. H.lent_count shelf.new ≡ Some n) }
-    ensures moments { KeepsDisk command.now (H.files shelf.old)
-        (K.written out.old) (K.written out.new)
-        (H.disk_history shelf.old) (H.disk_history shelf.new) }
-    ensures disk_kept { ¬ (AsksDisk command.now)
-        → (H.disk_history shelf.new ≡ H.disk_history shelf.old)
-        × (H.is_out shelf.new ≡ H.is_out shelf.old)
-        × (H.disk_fault_count shelf.new ≡ H.disk_fault_count shelf.old)
-        × (H.disk_plan shelf.new ≡ H.disk_plan shelf.old) }
     ensures back { H.is_out shelf.old ≡ false → H.is_out shelf.new ≡ false }
+    ensures disk_kept { ¬ (AsksDisk command.now) → DiskIsSame H.Shelf shelf.old shelf.new }
 {
     match command {
         Command::Find(find) => find_matches(rt, alloc, find, shelf, out, err, gate),
@@ -89,7 +58,8 @@ fn run_command<'a, R: Threads + Wait + Sync, H: Shelf, K: Sink, E: Sink, G: Gate
     }
 }
 
-/// Runs a command, tells why it stopped, and returns its status.
+/// Runs a command, tells why it stopped, and returns its status. `ends` says of all words that are this command what the
+/// status says of them.
 fn end_command<R: Threads + Wait + Sync, H: Shelf, K: Sink, E: Sink, G: Gate + Sync>(
     rt: &R,
     alloc: Global,
@@ -100,82 +70,9 @@ fn end_command<R: Threads + Wait + Sync, H: Shelf, K: Sink, E: Sink, G: Gate + S
     gate: &G,
 ) -> u8
     requires { IsBounded command.now }
-    ensures done { result ≡ 0 → (words : List (List ℕ)) → command_of words ≡ Some command.now
-        → WroteAll words (H.files shelf.old) (H.disk_history shelf.old)
-        (K.written out.old) (K.written out.new) (E.written err.old) (E.written err.new) }
-    ensures accepted { result ≡ 0 → (words : List (List ℕ)) → command_of words ≡ Some command.now
-        → IfTold words (H.files shelf.old) (H.disk_history shelf.old)
-        (IsAccepted words) }
-    ensures prefix { result ≢ 0 → (words : List (List ℕ)) → command_of words ≡ Some command.now
-        → WroteSome words (H.files shelf.old) (H.disk_history shelf.old)
-        (K.written out.old) (K.written out.new) }
-    ensures listed { result ≡ 5 → ¬ (Rose (K.fault_count out.old) (K.fault_count out.new))
-        → (words : List (List ℕ)) → command_of words ≡ Some command.now
-        → WroteListing words (H.files shelf.old) (H.disk_history shelf.old)
-        (K.written out.old) (K.written out.new) }
-    ensures refused { (result ≡ 1) ⊎ (result ≡ 2) ⊎ (result ≡ 3) ⊎ (result ≡ 7)
-        → out.new ≡ out.old }
-    ensures cut_kept { (result ≡ 1) ⊎ (result ≡ 2) ⊎ (result ≡ 3) ⊎ (result ≡ 7)
-        → moments.DiskTells (Goes LeavesNoMore)
-        (H.disk_history shelf.old) (H.disk_history shelf.new) }
-    ensures told { result ≢ 0 → (words : List (List ℕ)) → command_of words ≡ Some command.now
-        → TellsFront words (H.files shelf.old)
-        (H.disk_history shelf.old) (H.disk_history shelf.new)
-        (H.faults_of shelf.old) (H.faults_of shelf.new) result
-        (E.written err.old) (E.written err.new) }
-    ensures absent { result ≡ 1 → Rose (H.absent_count shelf.old) (H.absent_count shelf.new) }
-    ensures words { result ≢ 2 }
-    ensures read { result ≡ 4 → Rose (H.fault_count shelf.old) (H.fault_count shelf.new) }
-    ensures write { result ≡ 5 → Rose (K.fault_count out.old) (K.fault_count out.new)
-        ⊎ Rose (E.fault_count err.old) (E.fault_count err.new) }
-    ensures disk { result ≡ 6
-        → Rose (H.disk_fault_count shelf.old) (H.disk_fault_count shelf.new) }
-    ensures cut { result ≡ 7 → AsksDisk command.now }
-    ensures limit { result ≡ 9 → (words : List (List ℕ)) → command_of words ≡ Some command.now
-        → ReachesLimit words (H.files shelf.old)
-        (H.disk_history shelf.old) (H.disk_history shelf.new) }
-    ensures reads_told { H.fault_count shelf.old < H.fault_count shelf.new → result ≡ 4 }
-    ensures absences_told { H.absent_count shelf.old < H.absent_count shelf.new → result ≡ 1 }
-    ensures writes_told { K.fault_count out.old < K.fault_count out.new
-        → (result ≡ 5) ⊎ (result ≡ 4) }
-    ensures disks_told { H.disk_fault_count shelf.old < H.disk_fault_count shelf.new
-        → (result ≡ 6) ⊎ (result ≡ 4) }
-    ensures errors_told { E.fault_count err.old < E.fault_count err.new → result ≢ 0 }
-    ensures complete { (words : List (List ℕ)) → command_of words ≡ Some command.now
-        → IsReady words (H.files shelf.old) (H.disk_history shelf.old)
-        → ¬ (Rose (H.fault_count shelf.old) (H.fault_count shelf.new))
-        → (AsksDisk command.now
-        → ¬ (Rose (H.disk_fault_count shelf.old) (H.disk_fault_count shelf.new)))
-        → ¬ (Rose (K.fault_count out.old) (K.fault_count out.new))
-        → ¬ (Rose (E.fault_count err.old) (E.fault_count err.new))
-        → (result ≡ 0) ⊎ (result ≡ 8) }
-    ensures grounded { (words : List (List ℕ)) → command_of words ≡ Some command.now
-        → IsReady words (H.files shelf.old) (H.disk_history shelf.old)
-        → IsUnfailing (H.fault_plan shelf.old) → AreUnfailing (H.source_plans shelf.old)
-        → (AsksDisk command.now → IsUnfailing (H.disk_plan shelf.old))
-        → IsUnfailing (K.fault_plan out.old) → IsUnfailing (E.fault_plan err.old)
-        → (result ≡ 0) ⊎ (result ≡ 8) }
-    ensures exact { (words : List (List ℕ)) → command_of words ≡ Some command.now
-        → ¬ (Rose (H.fault_count shelf.old) (H.fault_count shelf.new))
-        → (AsksDisk command.now
-        → ¬ (Rose (H.disk_fault_count shelf.old) (H.disk_fault_count shelf.new)))
-        → IsRefusedAs words (H.files shelf.old) (H.disk_history shelf.old) result }
-    ensures kept { H.files shelf.new ≡ H.files shelf.old }
-    ensures lent { IfSome (H.lent_count shelf.old) (λ n. H.lent_count shelf.new ≡ Some n) }
-    ensures moments { KeepsDisk command.now (H.files shelf.old)
-        (K.written out.old) (K.written out.new)
-        (H.disk_history shelf.old) (H.disk_history shelf.new) }
-    ensures disk_kept { ¬ (AsksDisk command.now)
-        → (H.disk_history shelf.new ≡ H.disk_history shelf.old)
-        × (H.is_out shelf.new ≡ H.is_out shelf.old)
-        × (H.disk_fault_count shelf.new ≡ H.disk_fault_count shelf.old)
-        × (H.disk_plan shelf.new ≡ H.disk_plan shelf.old) }
-    ensures back { H.is_out shelf.old ≡ false → H.is_out shelf.new ≡ false }
-    ensures counts { (H.fault_count shelf.old ≤ H.fault_count shelf.new)
-        × (H.absent_count shelf.old ≤ H.absent_count shelf.new)
-        × (H.disk_fault_count shelf.old ≤ H.disk_fault_count shelf.new)
-        × (K.fault_count out.old ≤ K.fault_count out.new)
-        × (E.fault_count err.old ≤ E.fault_count err.new) }
+    ensures ends { (words : List (List ℕ)) → command_of words ≡ Some command.now
+        → RunEnds H.Shelf K.Sink E.Sink words shelf.old shelf.new
+        out.old out.new err.old err.new result }
 {
     runs_are_determined();
     match run_command(rt, alloc, command, shelf, out, err, gate) {
@@ -184,7 +81,7 @@ fn end_command<R: Threads + Wait + Sync, H: Shelf, K: Sink, E: Sink, G: Gate + S
     }
 }
 
-/// Runs the program on the words after its name, and returns its status.
+/// Runs the program on the words after its name, and returns its status. The fields of `ends` are the clauses of `eql_main`.
 pub(crate) fn run_words<R: Threads + Wait + Sync, H: Shelf, K: Sink, E: Sink, G: Gate + Sync>(
     rt: &R,
     alloc: Global,
@@ -194,81 +91,8 @@ pub(crate) fn run_words<R: Threads + Wait + Sync, H: Shelf, K: Sink, E: Sink, G:
     err: &mut E,
     gate: &G,
 ) -> u8
-    ensures done { result ≡ 0
-        → WroteAll (bytes_of words.now.items) (H.files shelf.old) (H.disk_history shelf.old)
-        (K.written out.old) (K.written out.new) (E.written err.old) (E.written err.new) }
-    ensures accepted { result ≡ 0
-        → IfTold (bytes_of words.now.items) (H.files shelf.old) (H.disk_history shelf.old)
-        (IsAccepted (bytes_of words.now.items)) }
-    ensures prefix { result ≢ 0
-        → WroteSome (bytes_of words.now.items) (H.files shelf.old) (H.disk_history shelf.old)
-        (K.written out.old) (K.written out.new) }
-    ensures listed { result ≡ 5 → ¬ (Rose (K.fault_count out.old) (K.fault_count out.new))
-        → WroteListing (bytes_of words.now.items) (H.files shelf.old) (H.disk_history shelf.old)
-        (K.written out.old) (K.written out.new) }
-    ensures refused { (result ≡ 1) ⊎ (result ≡ 2) ⊎ (result ≡ 3) ⊎ (result ≡ 7)
-        → out.new ≡ out.old }
-    ensures cut_kept { (result ≡ 1) ⊎ (result ≡ 2) ⊎ (result ≡ 3) ⊎ (result ≡ 7)
-        → moments.DiskTells (Goes LeavesNoMore)
-        (H.disk_history shelf.old) (H.disk_history shelf.new) }
-    ensures told { result ≢ 0 → TellsFront (bytes_of words.now.items) (H.files shelf.old)
-        (H.disk_history shelf.old) (H.disk_history shelf.new)
-        (H.faults_of shelf.old) (H.faults_of shelf.new) result
-        (E.written err.old) (E.written err.new) }
-    ensures absent { result ≡ 1 → Rose (H.absent_count shelf.old) (H.absent_count shelf.new) }
-    ensures words { result ≡ 2 → command_of (bytes_of words.now.items) ≡ None }
-    ensures no_words { command_of (bytes_of words.now.items) ≡ None
-        → (result ≡ 2) ⊎ (result ≡ 8) }
-    ensures read { result ≡ 4 → Rose (H.fault_count shelf.old) (H.fault_count shelf.new) }
-    ensures write { result ≡ 5 → Rose (K.fault_count out.old) (K.fault_count out.new)
-        ⊎ Rose (E.fault_count err.old) (E.fault_count err.new) }
-    ensures disk { result ≡ 6
-        → Rose (H.disk_fault_count shelf.old) (H.disk_fault_count shelf.new) }
-    ensures cut { result ≡ 7 → AskDisk (bytes_of words.now.items) }
-    ensures limit { result ≡ 9 → ReachesLimit (bytes_of words.now.items) (H.files shelf.old)
-        (H.disk_history shelf.old) (H.disk_history shelf.new) }
-    ensures reads_told { H.fault_count shelf.old < H.fault_count shelf.new → result ≡ 4 }
-    ensures absences_told { H.absent_count shelf.old < H.absent_count shelf.new → result ≡ 1 }
-    ensures writes_told { K.fault_count out.old < K.fault_count out.new
-        → (result ≡ 5) ⊎ (result ≡ 4) }
-    ensures disks_told { H.disk_fault_count shelf.old < H.disk_fault_count shelf.new
-        → (result ≡ 6) ⊎ (result ≡ 4) }
-    ensures errors_told { E.fault_count err.old < E.fault_count err.new → result ≢ 0 }
-    ensures complete { IsReady (bytes_of words.now.items) (H.files shelf.old)
-        (H.disk_history shelf.old)
-        → ¬ (Rose (H.fault_count shelf.old) (H.fault_count shelf.new))
-        → (AskDisk (bytes_of words.now.items)
-        → ¬ (Rose (H.disk_fault_count shelf.old) (H.disk_fault_count shelf.new)))
-        → ¬ (Rose (K.fault_count out.old) (K.fault_count out.new))
-        → ¬ (Rose (E.fault_count err.old) (E.fault_count err.new))
-        → (result ≡ 0) ⊎ (result ≡ 8) }
-    ensures grounded { IsReady (bytes_of words.now.items) (H.files shelf.old)
-        (H.disk_history shelf.old)
-        → IsUnfailing (H.fault_plan shelf.old) → AreUnfailing (H.source_plans shelf.old)
-        → (AskDisk (bytes_of words.now.items) → IsUnfailing (H.disk_plan shelf.old))
-        → IsUnfailing (K.fault_plan out.old) → IsUnfailing (E.fault_plan err.old)
-        → (result ≡ 0) ⊎ (result ≡ 8) }
-    ensures exact { ¬ (Rose (H.fault_count shelf.old) (H.fault_count shelf.new))
-        → (AskDisk (bytes_of words.now.items)
-        → ¬ (Rose (H.disk_fault_count shelf.old) (H.disk_fault_count shelf.new)))
-        → IsRefusedAs (bytes_of words.now.items) (H.files shelf.old) (H.disk_history shelf.old)
-        result }
-    ensures kept { H.files shelf.new ≡ H.files shelf.old }
-    ensures lent { IfSome (H.lent_count shelf.old) (λ n. H.lent_count shelf.new ≡ Some n) }
-    ensures moments { KeepDisk (bytes_of words.now.items) (H.files shelf.old)
-        (K.written out.old) (K.written out.new)
-        (H.disk_history shelf.old) (H.disk_history shelf.new) }
-    ensures disk_kept { ¬ (AskDisk (bytes_of words.now.items))
-        → (H.disk_history shelf.new ≡ H.disk_history shelf.old)
-        × (H.is_out shelf.new ≡ H.is_out shelf.old)
-        × (H.disk_fault_count shelf.new ≡ H.disk_fault_count shelf.old)
-        × (H.disk_plan shelf.new ≡ H.disk_plan shelf.old) }
-    ensures back { H.is_out shelf.old ≡ false → H.is_out shelf.new ≡ false }
-    ensures counts { (H.fault_count shelf.old ≤ H.fault_count shelf.new)
-        × (H.absent_count shelf.old ≤ H.absent_count shelf.new)
-        × (H.disk_fault_count shelf.old ≤ H.disk_fault_count shelf.new)
-        × (K.fault_count out.old ≤ K.fault_count out.new)
-        × (E.fault_count err.old ≤ E.fault_count err.new) }
+    ensures ends { RunEnds H.Shelf K.Sink E.Sink (bytes_of words.now.items)
+        shelf.old shelf.new out.old out.new err.old err.new result }
 {
     runs_are_determined();
     commands_are_bounded();

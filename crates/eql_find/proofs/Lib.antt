@@ -33,4 +33,5 @@ pub mod EndingLemmas
 pub mod PuttingLemmas
 pub mod OverLemmas
 pub mod GivingLemmas
+pub mod OutcomeLemmas
 pub mod Sends

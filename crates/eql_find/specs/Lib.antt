@@ -6,3 +6,4 @@ pub mod Searching
 pub mod Starting
 pub mod Running
 pub mod Finding
+pub mod Outcomes

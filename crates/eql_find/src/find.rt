@@ -1,16 +1,14 @@
 //! The run.
-ghost use Rattle.std.specs.Prelude.{◌≡◌, ◌≢◌, ◌≤◌, ◌-◌, All, IfErr, IfSome, None, OnOk, OnErr, Some, false, length, map, ℕ, List, Option};
-ghost use Rattle.eql_ckdisk.specs.Going.{Goes};
-ghost use Rattle.eql_ckdisk.specs.Keeping.{LeavesNoMore};
+ghost use Rattle.std.specs.Prelude.{◌≡◌, ◌≢◌, ◌-◌, All, IfErr, IfSome, None, Some, false, length, map, ℕ, List, Option};
 ghost use Rattle.eql_conductor.specs.Runs.{IsKeptUnfailing, disk_faults};
 ghost use Rattle.eql_inputs.specs.Shards.{AreWholeFiles};
 ghost use Rattle.eql_inputs.specs.Shelves.{KeepsShelf};
-ghost use Rattle.eql_outside.specs.Moments.{DiskTells};
 ghost use Rattle.eql_outside.specs.Unfailing.{IsUnfailing, AreUnfailing};
 ghost use Rattle.eql_words.specs.Bounds.{FindIsBounded};
-ghost use Rattle.eql_runs.specs.Runs.{IfFound, IsFindAccepted, KeepsCuts};
-ghost use Rattle.eql_find.specs.Halts.{AbsencesFollow, CountFollows, DiskFollows, ErrFollows, FaultsFollow, IsFault, IsRefusal, IsReport, OutFollows, TellsNothing};
-ghost use Rattle.eql_find.specs.Finding.{FindsAll, FindsListing, FindsSome, HasCause, IsPlanOf, texts_told};
+ghost use Rattle.eql_runs.specs.Outcomes.{DiskIsSame};
+ghost use Rattle.eql_find.specs.Halts.{IsFault};
+ghost use Rattle.eql_find.specs.Finding.{IsPlanOf, texts_told};
+ghost use Rattle.eql_find.specs.Outcomes.{FaultsAreTold, FindEnds};
 ghost use Rattle.eql_find.specs.Running.{KeepsIfAsked};
 ghost use Rattle.eql_find.specs.Starting.{BeginsOnDisk, IsFreshKeep, disk_after};
 
@@ -63,32 +61,13 @@ fn run_over<'a, R: Threads + Wait + Sync, H: Shelf, K: Sink, E: Sink, W: Gate + 
     requires keeps { KeepsIfAsked H.Dsk.history find.now.checkpoint keep.old }
     requires kept { IsFreshKeep H.Dsk.history H.Dsk.fault_count
         (H.disk_history shelf.old) keep.old }
-    ensures done { OnOk result (FindsAll find.now (H.files shelf.old) (H.disk_history shelf.old)
-        (K.written out.old) (K.written out.new) (E.written err.old) (E.written err.new)) }
-    ensures accepted { OnOk result (IfFound find.now (H.files shelf.old)
-        (H.disk_history shelf.old) (IsFindAccepted find.now)) }
-    ensures prefix { OnErr result (FindsSome find.now (H.files shelf.old)
-        (H.disk_history shelf.old) (K.written out.old) (K.written out.new)) }
-    ensures listed { IfErr result (λ halt. IsReport halt
-        → FindsListing find.now (H.files shelf.old) (H.disk_history shelf.old)
-        (K.written out.old) (K.written out.new)) }
-    ensures untouched { IfErr result (λ halt. IsRefusal halt → out.new ≡ out.old) }
-    ensures quiet { IfErr result (λ halt. TellsNothing halt → err.new ≡ err.old) }
-    ensures cause { IfErr result (HasCause find.now (H.files shelf.old) (H.disk_history shelf.old)
+    ensures ends { FindEnds K.Sink E.Sink find.now (H.files shelf.old) (H.disk_history shelf.old)
         (disk_after H.Dsk.history (H.disk_history shelf.old) keep.new)
-        (E.written err.old) (E.written err.new)) }
-    ensures faults { FaultsFollow result (H.faults_of shelf.old) (H.faults_of shelf.new) }
-    ensures count { CountFollows result (H.fault_count shelf.old) (H.fault_count shelf.new) }
-    ensures absences { AbsencesFollow result
-        (H.absent_count shelf.old) (H.absent_count shelf.new) }
-    ensures disk_count { DiskFollows result (disk_faults H.Dsk.history H.Dsk.fault_count keep.old)
-        (disk_faults H.Dsk.history H.Dsk.fault_count keep.new) }
-    ensures out { OutFollows result (K.fault_count out.old) (K.fault_count out.new) }
-    ensures err { ErrFollows result (E.fault_count err.old) (E.fault_count err.new) }
-    ensures counts { (H.fault_count shelf.old ≤ H.fault_count shelf.new)
-        × (H.absent_count shelf.old ≤ H.absent_count shelf.new)
-        × (K.fault_count out.old ≤ K.fault_count out.new)
-        × (E.fault_count err.old ≤ E.fault_count err.new) }
+        out.old out.new err.old err.new result }
+    ensures told { FaultsAreTold K.Sink E.Sink H.Shelf shelf.old shelf.new
+        (disk_faults H.Dsk.history H.Dsk.fault_count keep.old)
+        (disk_faults H.Dsk.history H.Dsk.fault_count keep.new)
+        out.old out.new err.old err.new result }
     ensures unfailing { All (λ source. IsUnfailing (H.Src.fault_plan source)) sources.items
         → IsUnfailing (K.fault_plan out.old) → IsUnfailing (E.fault_plan err.old)
         → IsKeptUnfailing H.Dsk.fault_plan keep.old → IfErr result (λ halt. ¬ IsFault halt) }
@@ -96,14 +75,6 @@ fn run_over<'a, R: Threads + Wait + Sync, H: Shelf, K: Sink, E: Sink, W: Gate + 
         H.disk_plan shelf.old shelf.new }
     ensures lent { IfSome (H.lent_count shelf.old)
         (λ n. H.lent_count shelf.new ≡ Some (n - length find.now.shards)) }
-    ensures moments { find.now.checkpoint ≢ None
-        → DiskTells (KeepsCuts find.now (H.files shelf.old)
-        (K.written out.old) (K.written out.new))
-        (H.disk_history shelf.old)
-        (disk_after H.Dsk.history (H.disk_history shelf.old) keep.new) }
-    ensures cut_kept { IfErr result (λ halt. IsRefusal halt
-        → DiskTells (Goes LeavesNoMore) (H.disk_history shelf.old)
-        (disk_after H.Dsk.history (H.disk_history shelf.old) keep.new)) }
     ensures no_keep { keep.old ≡ None → keep.new ≡ None }
     ensures some_keep { keep.old ≢ None → keep.new ≢ None }
 {
@@ -147,32 +118,11 @@ fn run_start<'a, R: Threads + Wait + Sync, H: Shelf, K: Sink, E: Sink, W: Gate +
     requires keeps { KeepsIfAsked H.Dsk.history find.now.checkpoint start.keep }
     requires kept { IsFreshKeep H.Dsk.history H.Dsk.fault_count
         (H.disk_history shelf.old) start.keep }
-    ensures done { OnOk result (FindsAll find.now (H.files shelf.old) (H.disk_history shelf.old)
-        (K.written out.old) (K.written out.new) (E.written err.old) (E.written err.new)) }
-    ensures accepted { OnOk result (IfFound find.now (H.files shelf.old)
-        (H.disk_history shelf.old) (IsFindAccepted find.now)) }
-    ensures prefix { OnErr result (FindsSome find.now (H.files shelf.old)
-        (H.disk_history shelf.old) (K.written out.old) (K.written out.new)) }
-    ensures listed { IfErr result (λ halt. IsReport halt
-        → FindsListing find.now (H.files shelf.old) (H.disk_history shelf.old)
-        (K.written out.old) (K.written out.new)) }
-    ensures untouched { IfErr result (λ halt. IsRefusal halt → out.new ≡ out.old) }
-    ensures quiet { IfErr result (λ halt. TellsNothing halt → err.new ≡ err.old) }
-    ensures cause { IfErr result (HasCause find.now (H.files shelf.old) (H.disk_history shelf.old)
-        (H.disk_history shelf.new) (E.written err.old) (E.written err.new)) }
-    ensures faults { FaultsFollow result (H.faults_of shelf.old) (H.faults_of shelf.new) }
-    ensures count { CountFollows result (H.fault_count shelf.old) (H.fault_count shelf.new) }
-    ensures absences { AbsencesFollow result
-        (H.absent_count shelf.old) (H.absent_count shelf.new) }
-    ensures disk_count { DiskFollows result (H.disk_fault_count shelf.old)
-        (H.disk_fault_count shelf.new) }
-    ensures out { OutFollows result (K.fault_count out.old) (K.fault_count out.new) }
-    ensures err { ErrFollows result (E.fault_count err.old) (E.fault_count err.new) }
-    ensures counts { (H.fault_count shelf.old ≤ H.fault_count shelf.new)
-        × (H.absent_count shelf.old ≤ H.absent_count shelf.new)
-        × (H.disk_fault_count shelf.old ≤ H.disk_fault_count shelf.new)
-        × (K.fault_count out.old ≤ K.fault_count out.new)
-        × (E.fault_count err.old ≤ E.fault_count err.new) }
+    ensures ends { FindEnds K.Sink E.Sink find.now (H.files shelf.old) (H.disk_history shelf.old)
+        (H.disk_history shelf.new) out.old out.new err.old err.new result }
+    ensures told { FaultsAreTold K.Sink E.Sink H.Shelf shelf.old shelf.new
+        (H.disk_fault_count shelf.old) (H.disk_fault_count shelf.new)
+        out.old out.new err.old err.new result }
     ensures unfailing { All (λ source. IsUnfailing (H.Src.fault_plan source)) sources.items
         → IsKeptUnfailing H.Dsk.fault_plan start.keep
         → IsUnfailing (K.fault_plan out.old) → IsUnfailing (E.fault_plan err.old)
@@ -181,17 +131,7 @@ fn run_start<'a, R: Threads + Wait + Sync, H: Shelf, K: Sink, E: Sink, W: Gate +
     ensures lent { IfSome (H.lent_count shelf.old)
         (λ n. H.lent_count shelf.new ≡ Some (n - length find.now.shards)) }
     ensures back { find.now.checkpoint ≢ None → H.is_out shelf.new ≡ false }
-    ensures disk_kept { find.now.checkpoint ≡ None
-        → (H.disk_history shelf.new ≡ H.disk_history shelf.old)
-        × (H.is_out shelf.new ≡ H.is_out shelf.old)
-        × (H.disk_fault_count shelf.new ≡ H.disk_fault_count shelf.old)
-        × (H.disk_plan shelf.new ≡ H.disk_plan shelf.old) }
-    ensures moments { find.now.checkpoint ≢ None
-        → DiskTells (KeepsCuts find.now (H.files shelf.old)
-        (K.written out.old) (K.written out.new))
-        (H.disk_history shelf.old) (H.disk_history shelf.new) }
-    ensures cut_kept { IfErr result (λ halt. IsRefusal halt
-        → DiskTells (Goes LeavesNoMore) (H.disk_history shelf.old) (H.disk_history shelf.new)) }
+    ensures disk_kept { find.now.checkpoint ≡ None → DiskIsSame H.Shelf shelf.old shelf.new }
 {
     let Start {
         head,
@@ -225,32 +165,11 @@ fn run_shards<'a, R: Threads + Wait + Sync, H: Shelf, K: Sink, E: Sink, W: Gate 
         (map H.Src.left sources.items) }
     requires named { map H.Src.lent_as sources.items ≡ map (λ name. Some name) find.now.shards }
     requires fresh { All (λ source. H.Src.fault_count source ≡ 0) sources.items }
-    ensures done { OnOk result (FindsAll find.now (H.files shelf.old) (H.disk_history shelf.old)
-        (K.written out.old) (K.written out.new) (E.written err.old) (E.written err.new)) }
-    ensures accepted { OnOk result (IfFound find.now (H.files shelf.old)
-        (H.disk_history shelf.old) (IsFindAccepted find.now)) }
-    ensures prefix { OnErr result (FindsSome find.now (H.files shelf.old)
-        (H.disk_history shelf.old) (K.written out.old) (K.written out.new)) }
-    ensures listed { IfErr result (λ halt. IsReport halt
-        → FindsListing find.now (H.files shelf.old) (H.disk_history shelf.old)
-        (K.written out.old) (K.written out.new)) }
-    ensures untouched { IfErr result (λ halt. IsRefusal halt → out.new ≡ out.old) }
-    ensures quiet { IfErr result (λ halt. TellsNothing halt → err.new ≡ err.old) }
-    ensures cause { IfErr result (HasCause find.now (H.files shelf.old) (H.disk_history shelf.old)
-        (H.disk_history shelf.new) (E.written err.old) (E.written err.new)) }
-    ensures faults { FaultsFollow result (H.faults_of shelf.old) (H.faults_of shelf.new) }
-    ensures count { CountFollows result (H.fault_count shelf.old) (H.fault_count shelf.new) }
-    ensures absences { AbsencesFollow result
-        (H.absent_count shelf.old) (H.absent_count shelf.new) }
-    ensures disk_count { DiskFollows result (H.disk_fault_count shelf.old)
-        (H.disk_fault_count shelf.new) }
-    ensures out { OutFollows result (K.fault_count out.old) (K.fault_count out.new) }
-    ensures err { ErrFollows result (E.fault_count err.old) (E.fault_count err.new) }
-    ensures counts { (H.fault_count shelf.old ≤ H.fault_count shelf.new)
-        × (H.absent_count shelf.old ≤ H.absent_count shelf.new)
-        × (H.disk_fault_count shelf.old ≤ H.disk_fault_count shelf.new)
-        × (K.fault_count out.old ≤ K.fault_count out.new)
-        × (E.fault_count err.old ≤ E.fault_count err.new) }
+    ensures ends { FindEnds K.Sink E.Sink find.now (H.files shelf.old) (H.disk_history shelf.old)
+        (H.disk_history shelf.new) out.old out.new err.old err.new result }
+    ensures told { FaultsAreTold K.Sink E.Sink H.Shelf shelf.old shelf.new
+        (H.disk_fault_count shelf.old) (H.disk_fault_count shelf.new)
+        out.old out.new err.old err.new result }
     ensures unfailing { All (λ source. IsUnfailing (H.Src.fault_plan source)) sources.items
         → IsUnfailing (H.fault_plan shelf.old)
         → (find.now.checkpoint ≢ None → IsUnfailing (H.disk_plan shelf.old))
@@ -260,17 +179,7 @@ fn run_shards<'a, R: Threads + Wait + Sync, H: Shelf, K: Sink, E: Sink, W: Gate 
     ensures lent { IfSome (H.lent_count shelf.old)
         (λ n. H.lent_count shelf.new ≡ Some (n - length find.now.shards)) }
     ensures back { H.is_out shelf.old ≡ false → H.is_out shelf.new ≡ false }
-    ensures disk_kept { find.now.checkpoint ≡ None
-        → (H.disk_history shelf.new ≡ H.disk_history shelf.old)
-        × (H.is_out shelf.new ≡ H.is_out shelf.old)
-        × (H.disk_fault_count shelf.new ≡ H.disk_fault_count shelf.old)
-        × (H.disk_plan shelf.new ≡ H.disk_plan shelf.old) }
-    ensures moments { find.now.checkpoint ≢ None
-        → DiskTells (KeepsCuts find.now (H.files shelf.old)
-        (K.written out.old) (K.written out.new))
-        (H.disk_history shelf.old) (H.disk_history shelf.new) }
-    ensures cut_kept { IfErr result (λ halt. IsRefusal halt
-        → DiskTells (Goes LeavesNoMore) (H.disk_history shelf.old) (H.disk_history shelf.new)) }
+    ensures disk_kept { find.now.checkpoint ≡ None → DiskIsSame H.Shelf shelf.old shelf.new }
 {
     puts_go_on();
     disks_hold_one_thing();
@@ -304,35 +213,14 @@ pub fn find_matches<'a, R: Threads + Wait + Sync, H: Shelf, K: Sink, E: Sink, W:
 ) -> Result<(), RunHalt<'a>>
     requires { FindIsBounded find.now }
 
-    // What was written.
-    ensures done { OnOk result (FindsAll find.now (H.files shelf.old) (H.disk_history shelf.old)
-        (K.written out.old) (K.written out.new) (E.written err.old) (E.written err.new)) }
-    ensures accepted { OnOk result (IfFound find.now (H.files shelf.old)
-        (H.disk_history shelf.old) (IsFindAccepted find.now)) }
-    ensures prefix { OnErr result (FindsSome find.now (H.files shelf.old)
-        (H.disk_history shelf.old) (K.written out.old) (K.written out.new)) }
-    ensures listed { IfErr result (λ halt. IsReport halt
-        → FindsListing find.now (H.files shelf.old) (H.disk_history shelf.old)
-        (K.written out.old) (K.written out.new)) }
-    ensures untouched { IfErr result (λ halt. IsRefusal halt → out.new ≡ out.old) }
-    ensures quiet { IfErr result (λ halt. TellsNothing halt → err.new ≡ err.old) }
+    // What was written, why it stopped, and what the disk came to hold.
+    ensures ends { FindEnds K.Sink E.Sink find.now (H.files shelf.old) (H.disk_history shelf.old)
+        (H.disk_history shelf.new) out.old out.new err.old err.new result }
 
-    // Why it stopped, and that no fault is passed over.
-    ensures cause { IfErr result (HasCause find.now (H.files shelf.old) (H.disk_history shelf.old)
-        (H.disk_history shelf.new) (E.written err.old) (E.written err.new)) }
-    ensures faults { FaultsFollow result (H.faults_of shelf.old) (H.faults_of shelf.new) }
-    ensures count { CountFollows result (H.fault_count shelf.old) (H.fault_count shelf.new) }
-    ensures absences { AbsencesFollow result
-        (H.absent_count shelf.old) (H.absent_count shelf.new) }
-    ensures disk_count { DiskFollows result (H.disk_fault_count shelf.old)
-        (H.disk_fault_count shelf.new) }
-    ensures out { OutFollows result (K.fault_count out.old) (K.fault_count out.new) }
-    ensures err { ErrFollows result (E.fault_count err.old) (E.fault_count err.new) }
-    ensures counts { (H.fault_count shelf.old ≤ H.fault_count shelf.new)
-        × (H.absent_count shelf.old ≤ H.absent_count shelf.new)
-        × (H.disk_fault_count shelf.old ≤ H.disk_fault_count shelf.new)
-        × (K.fault_count out.old ≤ K.fault_count out.new)
-        × (E.fault_count err.old ≤ E.fault_count err.new) }
+    // No fault is passed over.
+    ensures told { FaultsAreTold K.Sink E.Sink H.Shelf shelf.old shelf.new
+        (H.disk_fault_count shelf.old) (H.disk_fault_count shelf.new)
+        out.old out.new err.old err.new result }
     ensures unfailing { IsUnfailing (H.fault_plan shelf.old)
         → AreUnfailing (H.source_plans shelf.old)
         → (find.now.checkpoint ≢ None → IsUnfailing (H.disk_plan shelf.old))
@@ -343,21 +231,7 @@ pub fn find_matches<'a, R: Threads + Wait + Sync, H: Shelf, K: Sink, E: Sink, W:
     ensures kept { H.files shelf.new ≡ H.files shelf.old }
     ensures lent { IfSome (H.lent_count shelf.old) (λ n. H.lent_count shelf.new ≡ Some n) }
     ensures back { H.is_out shelf.old ≡ false → H.is_out shelf.new ≡ false }
-
-    // Without a checkpoint the disk stays as it is; with one each image at each moment stands for
-    // what was there, or for a cut of the run, and the lines that a cut counts were written. Where
-    // the files or the cut are refused, each image at each moment is one of those at the start.
-    ensures disk_kept { find.now.checkpoint ≡ None
-        → (H.disk_history shelf.new ≡ H.disk_history shelf.old)
-        × (H.is_out shelf.new ≡ H.is_out shelf.old)
-        × (H.disk_fault_count shelf.new ≡ H.disk_fault_count shelf.old)
-        × (H.disk_plan shelf.new ≡ H.disk_plan shelf.old) }
-    ensures moments { find.now.checkpoint ≢ None
-        → DiskTells (KeepsCuts find.now (H.files shelf.old)
-        (K.written out.old) (K.written out.new))
-        (H.disk_history shelf.old) (H.disk_history shelf.new) }
-    ensures cut_kept { IfErr result (λ halt. IsRefusal halt
-        → DiskTells (Goes LeavesNoMore) (H.disk_history shelf.old) (H.disk_history shelf.new)) }
+    ensures disk_kept { find.now.checkpoint ≡ None → DiskIsSame H.Shelf shelf.old shelf.new }
 {
     let planning = match read_plan(alloc, find, shelf) {
         Ok(planning) => planning,

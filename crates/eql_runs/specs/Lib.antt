@@ -3,8 +3,10 @@ pub mod Searches
 pub mod Starts
 pub mod CutRefusals
 pub mod Refusals
+pub mod Made
 pub mod Summaries
 pub mod Runs
+pub mod Outcomes
 pub mod RunLaws
 pub mod RunExamples
 pub mod SummaryExamples

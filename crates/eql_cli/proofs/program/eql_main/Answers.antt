@@ -1,28 +1,38 @@
 use Rattle.eql_cli.proofs.program.eql_main.Goals as goal
 
-pub returns-clause-done : goal.returns-clause-done
-returns-clause-done g c = c.run_words-status.ensures.done
-
-pub returns-clause-accepted : goal.returns-clause-accepted
-returns-clause-accepted g c = c.run_words-status.ensures.accepted
-
-pub returns-clause-no_words : goal.returns-clause-no_words
-returns-clause-no_words g c = c.run_words-status.ensures.no_words
-
-pub returns-clause-reads_told : goal.returns-clause-reads_told
-returns-clause-reads_told g c = c.run_words-status.ensures.reads_told
-
-pub returns-clause-absences_told : goal.returns-clause-absences_told
-returns-clause-absences_told g c = c.run_words-status.ensures.absences_told
-
-pub returns-clause-writes_told : goal.returns-clause-writes_told
-returns-clause-writes_told g c = c.run_words-status.ensures.writes_told
-
-pub returns-clause-disks_told : goal.returns-clause-disks_told
-returns-clause-disks_told g c = c.run_words-status.ensures.disks_told
-
-pub returns-clause-errors_told : goal.returns-clause-errors_told
-returns-clause-errors_told g c = c.run_words-status.ensures.errors_told
-
-pub returns-clause-exact : goal.returns-clause-exact
-returns-clause-exact g c = c.run_words-status.ensures.exact
+pub returns : goal.returns
+returns g c =
+    let e = c.run_words-status.ensures.ends in
+    record {
+      done = e.done;
+      accepted = e.accepted;
+      prefix = e.prefix;
+      listed = e.listed;
+      refused = e.refused;
+      cut_kept = e.cut_kept;
+      told = e.told;
+      absent = e.absent;
+      words = e.words;
+      no_words = e.no_words;
+      read = e.read;
+      write = e.write;
+      disk = e.disk;
+      cut = e.cut;
+      limit = e.limit;
+      reads_told = e.reads_told;
+      absences_told = e.absences_told;
+      writes_told = e.writes_told;
+      disks_told = e.disks_told;
+      errors_told = e.errors_told;
+      complete = e.complete;
+      grounded = e.grounded;
+      exact = e.exact;
+      kept = e.kept;
+      lent = e.lent;
+      back = e.back;
+      moments = e.moments;
+      disk_kept = λ never.
+          let same = e.disk_kept never in
+          (same.history_is, same.out_is, same.faults_are, same.plan_is);
+      counts = (e.reads_rise, e.absences_rise, e.disks_rise, e.writes_rise, e.errors_rise);
+    }

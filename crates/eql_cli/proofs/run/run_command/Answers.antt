@@ -1,93 +1,121 @@
-use Rattle.std.proofs.Common.{refl}
+use Rattle.std.proofs.Common.{refl, arith}
 use Rattle.std.proofs.lemmas.Result.{IfErr-weaker, on_err_weaker, on_ok_weaker}
-use Rattle.eql_cli.proofs.RunLemmas.{found_all, found_accepted, found_listing, found_some, find_cause, printed_all, printed_accepted, printed_listing, printed_some, check_cause, check_disks, made_all, made_accepted, made_listing, made_some, made_cause, made_untouched, made_faults, made_count, made_absences, made_disks, made_errors}
+use Rattle.eql_cli.proofs.RunLemmas.{found_all, found_accepted, found_listing, found_some, find_cause, none_told, printed_all, printed_accepted, printed_listing, printed_some, check_cause, check_disks, check_errors, made_all, made_accepted, made_listing, made_some, made_cause, made_untouched, made_faults, made_count, made_absences, made_disks, made_errors}
 use Rattle.eql_cli.proofs.KeepLemmas.{asks_found, found_keeps, kept_disk, none_changed, not_asked}
 use Rattle.eql_cli.proofs.run.run_command.Goals as goal
 
-pub returns-in-Find-clause-done : goal.returns-in-Find-clause-done
-returns-in-Find-clause-done g c = on_ok_weaker c.find_matches.result (found_all c.args.command.now c.in-Find.find c.in-Find.is _ _ _ _ _ _) c.find_matches.ensures.done
+pub returns-in-Find-clause-ends : goal.returns-in-Find-clause-ends
+returns-in-Find-clause-ends g c =
+    let asked = c.args.command.now in
+    let find = c.in-Find.find in
+    let is = c.in-Find.is in
+    let found = c.find_matches.result in
+    let e = c.find_matches.ensures.ends in
+    record {
+      done = on_ok_weaker found (found_all asked find is _ _ _ _ _ _) e.done;
+      accepted = on_ok_weaker found (found_accepted asked find is _ _) e.accepted;
+      prefix = on_err_weaker found (found_some asked find is _ _ _ _) e.prefix;
+      listed = IfErr-weaker found _ _ (found_listing asked find is _ _ _ _) e.listed;
+      untouched = e.untouched;
+      quiet = e.quiet;
+      cause = IfErr-weaker found _ _ (find_cause asked find is _ _ _ _ _) e.cause;
+      moments = found_keeps asked find is _ _ _ _ _ e.moments;
+      cut_kept = e.cut_kept;
+    }
 
-pub returns-in-Find-clause-accepted : goal.returns-in-Find-clause-accepted
-returns-in-Find-clause-accepted g c = on_ok_weaker c.find_matches.result (found_accepted c.args.command.now c.in-Find.find c.in-Find.is _ _) c.find_matches.ensures.accepted
-
-pub returns-in-Find-clause-prefix : goal.returns-in-Find-clause-prefix
-returns-in-Find-clause-prefix g c = on_err_weaker c.find_matches.result (found_some c.args.command.now c.in-Find.find c.in-Find.is _ _ _ _) c.find_matches.ensures.prefix
-
-pub returns-in-Find-clause-listed : goal.returns-in-Find-clause-listed
-returns-in-Find-clause-listed g c = IfErr-weaker c.find_matches.result _ _ (found_listing c.args.command.now c.in-Find.find c.in-Find.is _ _ _ _) c.find_matches.ensures.listed
-
-pub returns-in-Find-clause-cause : goal.returns-in-Find-clause-cause
-returns-in-Find-clause-cause g c = IfErr-weaker c.find_matches.result _ _ (find_cause c.args.command.now c.in-Find.find c.in-Find.is _ _ _ _ _) c.find_matches.ensures.cause
+pub returns-in-Find-clause-told : goal.returns-in-Find-clause-told
+returns-in-Find-clause-told g c = c.find_matches.ensures.told
 
 pub returns-in-Find-clause-unfailing : goal.returns-in-Find-clause-unfailing
 returns-in-Find-clause-unfailing g c = λ shelf sources disk out err.
     c.find_matches.ensures.unfailing shelf sources (λ has. disk (asks_found c.args.command.now c.in-Find.find c.in-Find.is has)) out err
 
-pub returns-in-Find-clause-moments : goal.returns-in-Find-clause-moments
-returns-in-Find-clause-moments g c = found_keeps c.args.command.now c.in-Find.find c.in-Find.is _ _ _ _ _ c.find_matches.ensures.moments
-
 pub returns-in-Find-clause-disk_kept : goal.returns-in-Find-clause-disk_kept
-returns-in-Find-clause-disk_kept g c = λ never. c.find_matches.ensures.disk_kept (not_asked c.args.command.now c.in-Find.find c.in-Find.is never)
+returns-in-Find-clause-disk_kept g c = λ never.
+    c.find_matches.ensures.disk_kept (not_asked c.args.command.now c.in-Find.find c.in-Find.is never)
 
-pub returns-in-Check-clause-done : goal.returns-in-Check-clause-done
-returns-in-Check-clause-done g c = on_ok_weaker c.check_query.result (printed_all c.args.command.now c.in-Check.query c.in-Check.fields c.in-Check.is _ _ _ _ _) c.check_query.ensures.done
+pub returns-in-Check-clause-ends : goal.returns-in-Check-clause-ends
+returns-in-Check-clause-ends g c =
+    let asked = c.args.command.now in
+    let query = c.in-Check.query in
+    let fields = c.in-Check.fields in
+    let is = c.in-Check.is in
+    let printed = c.check_query.result in
+    let e = c.check_query.ensures in
+    record {
+      done = on_ok_weaker printed (printed_all asked query fields is _ _ _ _ _) e.done;
+      accepted = on_ok_weaker printed (printed_accepted asked query fields is _ _ _ _) e.done;
+      prefix = on_err_weaker printed (printed_some asked query fields is _ _ _ _) e.prefix;
+      listed = IfErr-weaker printed _ _ (printed_listing asked query fields _ _ _ _) e.cause;
+      untouched = e.untouched;
+      quiet = none_told printed _;
+      cause = IfErr-weaker printed _ _ (check_cause asked query fields is _ _ _ _) e.cause;
+      moments = kept_disk asked _ _ _ _ _ e.disk_kept.0;
+      cut_kept = none_changed printed _ _ e.disk_kept.0;
+    }
 
-pub returns-in-Check-clause-accepted : goal.returns-in-Check-clause-accepted
-returns-in-Check-clause-accepted g c = on_ok_weaker c.check_query.result (printed_accepted c.args.command.now c.in-Check.query c.in-Check.fields c.in-Check.is _ _ _ _) c.check_query.ensures.done
+pub returns-in-Check-clause-told : goal.returns-in-Check-clause-told
+returns-in-Check-clause-told g c =
+    let query = c.in-Check.query in
+    let fields = c.in-Check.fields in
+    let printed = c.check_query.result in
+    let e = c.check_query.ensures in
+    record {
+      reads_rise = e.counts.0;
+      absences_rise = e.counts.1;
+      disks_rise = omega (arith, e.disk_kept.2);
+      writes_rise = e.counts.2;
+      errors_rise = omega arith;
+      faults = e.faults;
+      count = e.count;
+      absences = e.absences;
+      disk = check_disks query fields _ printed _ _ e.disk_kept.2 e.cause;
+      out = e.out;
+      err = check_errors query fields _ printed _ e.cause;
+    }
 
-pub returns-in-Check-clause-prefix : goal.returns-in-Check-clause-prefix
-returns-in-Check-clause-prefix g c = on_err_weaker c.check_query.result (printed_some c.args.command.now c.in-Check.query c.in-Check.fields c.in-Check.is _ _ _ _) c.check_query.ensures.prefix
+pub returns-in-Check-clause-disk_kept : goal.returns-in-Check-clause-disk_kept
+returns-in-Check-clause-disk_kept g c = λ never.
+    let same = c.check_query.ensures.disk_kept in
+    record { history_is = same.0; out_is = same.1; faults_are = same.2; plan_is = same.3 }
 
-pub returns-in-Check-clause-listed : goal.returns-in-Check-clause-listed
-returns-in-Check-clause-listed g c = IfErr-weaker c.check_query.result _ _ (printed_listing c.args.command.now c.in-Check.query c.in-Check.fields _ _ _ _) c.check_query.ensures.cause
+pub returns-in-Made-clause-ends : goal.returns-in-Made-clause-ends
+returns-in-Made-clause-ends g c =
+    let asked = c.args.command.now in
+    let hands = c.in-Made.hands in
+    let events = c.in-Made.events in
+    let is = c.in-Made.is in
+    let made = c.run_made.result in
+    let e = c.run_made.ensures in
+    record {
+      done = on_ok_weaker made (made_all asked hands events is _ _ _ _ _) e.done;
+      accepted = on_ok_weaker made (made_accepted asked hands events is _ _ _ _) e.done;
+      prefix = on_err_weaker made (made_some asked hands events is _ _ _ _) e.prefix;
+      listed = IfErr-weaker made _ _ (made_listing asked _ _ _ _) e.stops;
+      untouched = made_untouched made _ _ e.stops;
+      quiet = none_told made _;
+      cause = made_cause asked hands events is _ _ _ _ _ _ made e.prefix e.stops;
+      moments = kept_disk asked _ _ _ _ _ refl;
+      cut_kept = none_changed made _ _ refl;
+    }
 
-pub returns-in-Check-clause-cause : goal.returns-in-Check-clause-cause
-returns-in-Check-clause-cause g c = IfErr-weaker c.check_query.result _ _ (check_cause c.args.command.now c.in-Check.query c.in-Check.fields c.in-Check.is _ _ _ _) c.check_query.ensures.cause
+pub returns-in-Made-clause-told : goal.returns-in-Made-clause-told
+returns-in-Made-clause-told g c =
+    let made = c.run_made.result in
+    let e = c.run_made.ensures in
+    record {
+      reads_rise = omega arith;
+      absences_rise = omega arith;
+      disks_rise = omega arith;
+      writes_rise = e.counts;
+      errors_rise = omega arith;
+      faults = made_faults made _ e.stops;
+      count = made_count made _ e.stops;
+      absences = made_absences made _ e.stops;
+      disk = made_disks made _ e.stops;
+      out = e.out;
+      err = made_errors made _ e.stops;
+    }
 
-pub returns-in-Check-clause-disk : goal.returns-in-Check-clause-disk
-returns-in-Check-clause-disk g c = check_disks c.in-Check.query c.in-Check.fields _ c.check_query.result _ _ c.check_query.ensures.disk_kept.2 c.check_query.ensures.cause
-
-pub returns-in-Check-clause-moments : goal.returns-in-Check-clause-moments
-returns-in-Check-clause-moments g c = kept_disk c.args.command.now _ _ _ _ _ c.check_query.ensures.disk_kept.0
-
-pub returns-in-Check-clause-cut_kept : goal.returns-in-Check-clause-cut_kept
-returns-in-Check-clause-cut_kept g c = none_changed c.check_query.result _ _ c.check_query.ensures.disk_kept.0
-
-pub returns-in-Made-clause-done : goal.returns-in-Made-clause-done
-returns-in-Made-clause-done g c = on_ok_weaker c.run_made.result (made_all c.args.command.now c.in-Made.hands c.in-Made.events c.in-Made.is _ _ _ _ _) c.run_made.ensures.done
-
-pub returns-in-Made-clause-accepted : goal.returns-in-Made-clause-accepted
-returns-in-Made-clause-accepted g c = on_ok_weaker c.run_made.result (made_accepted c.args.command.now c.in-Made.hands c.in-Made.events c.in-Made.is _ _ _ _) c.run_made.ensures.done
-
-pub returns-in-Made-clause-prefix : goal.returns-in-Made-clause-prefix
-returns-in-Made-clause-prefix g c = on_err_weaker c.run_made.result (made_some c.args.command.now c.in-Made.hands c.in-Made.events c.in-Made.is _ _ _ _) c.run_made.ensures.prefix
-
-pub returns-in-Made-clause-listed : goal.returns-in-Made-clause-listed
-returns-in-Made-clause-listed g c = IfErr-weaker c.run_made.result _ _ (made_listing c.args.command.now _ _ _ _) c.run_made.ensures.stops
-
-pub returns-in-Made-clause-untouched : goal.returns-in-Made-clause-untouched
-returns-in-Made-clause-untouched g c = made_untouched c.run_made.result _ _ c.run_made.ensures.stops
-
-pub returns-in-Made-clause-cause : goal.returns-in-Made-clause-cause
-returns-in-Made-clause-cause g c = made_cause c.args.command.now c.in-Made.hands c.in-Made.events c.in-Made.is _ _ _ _ _ _ c.run_made.result c.run_made.ensures.prefix c.run_made.ensures.stops
-
-pub returns-in-Made-clause-faults : goal.returns-in-Made-clause-faults
-returns-in-Made-clause-faults g c = made_faults c.run_made.result _ c.run_made.ensures.stops
-
-pub returns-in-Made-clause-count : goal.returns-in-Made-clause-count
-returns-in-Made-clause-count g c = made_count c.run_made.result _ c.run_made.ensures.stops
-
-pub returns-in-Made-clause-absences : goal.returns-in-Made-clause-absences
-returns-in-Made-clause-absences g c = made_absences c.run_made.result _ c.run_made.ensures.stops
-
-pub returns-in-Made-clause-disk : goal.returns-in-Made-clause-disk
-returns-in-Made-clause-disk g c = made_disks c.run_made.result _ c.run_made.ensures.stops
-
-pub returns-in-Made-clause-err : goal.returns-in-Made-clause-err
-returns-in-Made-clause-err g c = made_errors c.run_made.result _ c.run_made.ensures.stops
-
-pub returns-in-Made-clause-moments : goal.returns-in-Made-clause-moments
-returns-in-Made-clause-moments g c = kept_disk c.args.command.now _ _ _ _ _ refl
-
-pub returns-in-Made-clause-cut_kept : goal.returns-in-Made-clause-cut_kept
-returns-in-Made-clause-cut_kept g c = none_changed c.run_made.result _ _ refl
+pub returns-in-Made-clause-disk_kept : goal.returns-in-Made-clause-disk_kept
+returns-in-Made-clause-disk_kept g c = λ never. record { history_is = refl; out_is = refl; faults_are = refl; plan_is = refl }

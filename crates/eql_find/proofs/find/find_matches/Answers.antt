@@ -1,69 +1,104 @@
 use Rattle.std.proofs.Common.{ℕ, Option, refl, subst, sym, ◌∙◌}
-use Rattle.std.specs.Prelude.{IfErr}
-use Rattle.eql_outside.specs.Moments.{History, DiskTells}
+use Rattle.eql_outside.specs.Moments.{History}
 use Rattle.eql_outside.specs.Plans.{FaultPlan}
 use Rattle.eql_outside.specs.Unfailing.{IsUnfailing}
-use Rattle.eql_ckdisk.specs.Going.{Goes}
-use Rattle.eql_ckdisk.specs.Keeping.{LeavesNoMore}
+use Rattle.eql_query.specs.QueryTree.{query_tree}
 use Rattle.eql_runs.specs.Files.{Files}
-use Rattle.eql_runs.specs.Runs.{KeepsCuts}
-use Rattle.eql_find.specs.Finding.{HasCause}
-use Rattle.eql_find.specs.Halts.{AbsencesFollow, IsRefusal}
+use Rattle.eql_inputs.specs.Halts.{AbsencesFollow, CountFollows}
+use Rattle.eql_inputs.specs.Shards.{HasShardsCause}
+use Rattle.eql_find.specs.Outcomes.{FindEnds}
 use Rattle.eql_inputs.proofs.HaltLemmas.{faults_later}
 use Rattle.eql_find.proofs.FileLemmas.{file_disk, file_faults, file_out}
 use Rattle.eql_find.proofs.GivingLemmas.{over_both}
 use Rattle.eql_find.proofs.HaltingEarly.{none_is_some, same_keeps, same_no_more}
+use Rattle.eql_find.proofs.OutcomeLemmas.{disk_then, kept_disk, none_falls, rises_then, told_then}
 use Rattle.eql_find.proofs.find.find_matches.Goals as goal
 
 -- query or mapping weren't read
-pub returns-in-Err-clause-prefix : goal.returns-in-Err-clause-prefix
-returns-in-Err-clause-prefix g c = none_is_some _ _ _ _
+pub returns-in-Err-clause-ends : goal.returns-in-Err-clause-ends
+returns-in-Err-clause-ends g c = record {
+  done = tt;
+  accepted = tt;
+  prefix = none_is_some _ _ _ _;
+  listed = λ report. absurd report;
+  untouched = λ refusal. refl;
+  quiet = λ nothing. refl;
+  cause = c.in-Err.ensures.cause c.args.find.now.shards;
+  moments = λ asked. same_keeps _ _ _ _ _ _ c.in-Err.ensures.kept.history_is;
+  cut_kept = λ refusal. same_no_more _ _ c.in-Err.ensures.kept.history_is;
+}
 
-pub returns-in-Err-clause-cause : goal.returns-in-Err-clause-cause
-returns-in-Err-clause-cause g c = c.in-Err.ensures.cause c.args.find.now.shards
+pub returns-in-Err-clause-told : goal.returns-in-Err-clause-told
+returns-in-Err-clause-told g c = record {
+  faults = file_faults c.in-Err.halt _ _ c.in-Err.ensures.faults;
+  count = c.in-Err.ensures.count;
+  absences = c.in-Err.ensures.absences;
+  disk = file_disk c.in-Err.halt _ _ c.in-Err.ensures.kept.faults_are;
+  out = file_out c.in-Err.halt _ _ refl;
+  err = refl;
+  reads_rise = c.in-Err.ensures.counts.0;
+  absences_rise = c.in-Err.ensures.counts.1;
+  disks_rise = none_falls _ _ c.in-Err.ensures.kept.faults_are;
+  writes_rise = none_falls _ _ refl;
+  errors_rise = none_falls _ _ refl;
+}
 
-pub returns-in-Err-clause-faults : goal.returns-in-Err-clause-faults
-returns-in-Err-clause-faults g c = file_faults c.in-Err.halt _ _ c.in-Err.ensures.faults
-
-pub returns-in-Err-clause-disk_count : goal.returns-in-Err-clause-disk_count
-returns-in-Err-clause-disk_count g c = file_disk c.in-Err.halt _ _ c.read_plan.ensures.kept.faults_are
-
-pub returns-in-Err-clause-out : goal.returns-in-Err-clause-out
-returns-in-Err-clause-out g c = file_out c.in-Err.halt _ _ refl
-
-pub returns-in-Err-clause-moments : goal.returns-in-Err-clause-moments
-returns-in-Err-clause-moments g c = λ asked. same_keeps _ _ _ _ _ _ c.in-Err.ensures.kept.history_is
-
-pub returns-in-Err-clause-cut_kept : goal.returns-in-Err-clause-cut_kept
-returns-in-Err-clause-cut_kept g c = λ refusal. same_no_more _ _ c.in-Err.ensures.kept.history_is
+pub returns-in-Err-clause-disk_kept : goal.returns-in-Err-clause-disk_kept
+returns-in-Err-clause-disk_kept g c = λ none. kept_disk g.H.Shelf _ _ c.in-Err.ensures.kept
 
 -- the shards weren't opened
-pub returns-clause-faults : goal.returns-clause-faults
-returns-clause-faults g c = file_faults c.in-Err-open_shards.halt _ _ (faults_later c.in-Err-open_shards.halt _ _ _ c.in-Ok.ensures.faults c.in-Err-open_shards.ensures.faults)
+pub returns-clause-ends : goal.returns-clause-ends
+returns-clause-ends g c =
+    let same = c.open_shards.ensures.kept.history_is ∙ c.read_plan.ensures.kept.history_is in
+    record {
+      done = tt;
+      accepted = tt;
+      prefix = none_is_some _ _ _ _;
+      listed = λ report. absurd report;
+      untouched = λ refusal. refl;
+      quiet = λ nothing. refl;
+      cause =
+          subst (λ (fs : Option Files). HasShardsCause c.args.find.now.shards fs c.in-Err-open_shards.halt) c.read_plan.ensures.kept.files_are c.in-Err-open_shards.ensures.cause
+          c.args.find.now.query c.args.find.now.fields (query_tree c.in-Ok.planning.plan.checked.query) c.in-Ok.planning.mapping c.in-Ok.ensures.plan.got;
+      moments = λ asked. same_keeps _ _ _ _ _ _ same;
+      cut_kept = λ refusal. same_no_more _ _ same;
+    }
 
-pub returns-clause-disk_count : goal.returns-clause-disk_count
-returns-clause-disk_count g c = file_disk c.in-Err-open_shards.halt _ _ (c.open_shards.ensures.kept.faults_are ∙ c.read_plan.ensures.kept.faults_are)
+pub returns-clause-told : goal.returns-clause-told
+returns-clause-told g c =
+    let disks = c.open_shards.ensures.kept.faults_are ∙ c.read_plan.ensures.kept.faults_are in
+    record {
+      faults = file_faults c.in-Err-open_shards.halt _ _ (faults_later c.in-Err-open_shards.halt _ _ _ c.in-Ok.ensures.faults c.in-Err-open_shards.ensures.faults);
+      count =
+          subst (λ (n : ℕ). CountFollows c.in-Err-open_shards.halt n (g.H.Shelf.fault_count c.open_shards.new.shelf)) c.in-Ok.ensures.count c.in-Err-open_shards.ensures.count;
+      absences =
+          subst (λ (n : ℕ). AbsencesFollow c.in-Err-open_shards.halt n (g.H.Shelf.absent_count c.open_shards.new.shelf)) c.in-Ok.ensures.absences c.in-Err-open_shards.ensures.absences;
+      disk = file_disk c.in-Err-open_shards.halt _ _ disks;
+      out = file_out c.in-Err-open_shards.halt _ _ refl;
+      err = refl;
+      reads_rise = rises_then _ _ _ c.in-Ok.ensures.count c.open_shards.ensures.counts.0;
+      absences_rise = rises_then _ _ _ c.in-Ok.ensures.absences c.open_shards.ensures.counts.1;
+      disks_rise = none_falls _ _ disks;
+      writes_rise = none_falls _ _ refl;
+      errors_rise = none_falls _ _ refl;
+    }
 
-pub returns-clause-out : goal.returns-clause-out
-returns-clause-out g c = file_out c.in-Err-open_shards.halt _ _ refl
-
-pub returns-clause-moments : goal.returns-clause-moments
-returns-clause-moments g c = λ asked. same_keeps _ _ _ _ _ _ (c.open_shards.ensures.kept.history_is ∙ c.read_plan.ensures.kept.history_is)
-
-pub returns-clause-cut_kept : goal.returns-clause-cut_kept
-returns-clause-cut_kept g c = λ refusal. same_no_more _ _ (c.open_shards.ensures.kept.history_is ∙ c.read_plan.ensures.kept.history_is)
+pub returns-clause-disk_kept : goal.returns-clause-disk_kept
+returns-clause-disk_kept g c =
+    λ none. disk_then g.H.Shelf _ _ _ (kept_disk g.H.Shelf _ _ c.read_plan.ensures.kept) (kept_disk g.H.Shelf _ _ c.open_shards.ensures.kept)
 
 -- they were
-pub returns-in-Ok-open_shards-clause-cause : goal.returns-in-Ok-open_shards-clause-cause
-returns-in-Ok-open_shards-clause-cause g c =
-    over_both (λ (fs : Option Files) (h : Option History). IfErr c.run_shards.result (HasCause c.args.find.now fs h (g.H.Shelf.disk_history c.run_shards.new.shelf) (g.E.Sink.written c.args.err.now) (g.E.Sink.written c.run_shards.new.err)))
+pub returns-in-Ok-open_shards-clause-ends : goal.returns-in-Ok-open_shards-clause-ends
+returns-in-Ok-open_shards-clause-ends g c =
+    over_both (λ (fs : Option Files) (h : Option History). FindEnds g.K.Sink g.E.Sink c.args.find.now fs h (g.H.Shelf.disk_history c.run_shards.new.shelf) c.args.out.now c.run_shards.new.out c.args.err.now c.run_shards.new.err c.run_shards.result)
     (c.open_shards.ensures.kept.files_are ∙ c.read_plan.ensures.kept.files_are) (c.open_shards.ensures.kept.history_is ∙ c.read_plan.ensures.kept.history_is)
-    c.run_shards.ensures.cause
+    c.run_shards.ensures.ends
 
-pub returns-in-Ok-open_shards-clause-absences : goal.returns-in-Ok-open_shards-clause-absences
-returns-in-Ok-open_shards-clause-absences g c =
-    subst (λ (n : ℕ). AbsencesFollow c.run_shards.result n (g.H.Shelf.absent_count c.run_shards.new.shelf))
-    (c.in-Ok-open_shards.ensures.absences ∙ c.in-Ok.ensures.absences) c.run_shards.ensures.absences
+pub returns-in-Ok-open_shards-clause-told : goal.returns-in-Ok-open_shards-clause-told
+returns-in-Ok-open_shards-clause-told g c =
+    told_then g.H.Shelf g.K.Sink g.E.Sink _ _ _ _ _ _ _ c.run_shards.result (λ name. c.in-Ok-open_shards.ensures.faults name ∙ c.in-Ok.ensures.faults name)
+    (c.in-Ok-open_shards.ensures.count ∙ c.in-Ok.ensures.count) (c.in-Ok-open_shards.ensures.absences ∙ c.in-Ok.ensures.absences)
+    (c.open_shards.ensures.kept.faults_are ∙ c.read_plan.ensures.kept.faults_are) c.run_shards.ensures.told
 
 pub returns-in-Ok-open_shards-clause-unfailing : goal.returns-in-Ok-open_shards-clause-unfailing
 returns-in-Ok-open_shards-clause-unfailing g c =
@@ -72,14 +107,8 @@ returns-in-Ok-open_shards-clause-unfailing g c =
     c.run_shards.ensures.unfailing opened.0 opened.1.0
     (λ asked. subst (λ (p : Option FaultPlan). IsUnfailing p) (sym (c.open_shards.ensures.kept.plan_is ∙ c.read_plan.ensures.kept.plan_is)) (disk asked)) out err
 
-pub returns-in-Ok-open_shards-clause-moments : goal.returns-in-Ok-open_shards-clause-moments
-returns-in-Ok-open_shards-clause-moments g c =
-    λ asked.
-    over_both (λ (fs : Option Files) (h : Option History). DiskTells (KeepsCuts c.args.find.now fs (g.K.Sink.written c.args.out.now) (g.K.Sink.written c.run_shards.new.out)) h (g.H.Shelf.disk_history c.run_shards.new.shelf))
-    (c.open_shards.ensures.kept.files_are ∙ c.read_plan.ensures.kept.files_are) (c.open_shards.ensures.kept.history_is ∙ c.read_plan.ensures.kept.history_is)
-    (c.run_shards.ensures.moments asked)
-
-pub returns-in-Ok-open_shards-clause-cut_kept : goal.returns-in-Ok-open_shards-clause-cut_kept
-returns-in-Ok-open_shards-clause-cut_kept g c =
-    subst (λ (h : Option History). IfErr c.run_shards.result (λ halt. IsRefusal halt → DiskTells (Goes LeavesNoMore) h (g.H.Shelf.disk_history c.run_shards.new.shelf)))
-    (c.open_shards.ensures.kept.history_is ∙ c.read_plan.ensures.kept.history_is) c.run_shards.ensures.cut_kept
+pub returns-in-Ok-open_shards-clause-disk_kept : goal.returns-in-Ok-open_shards-clause-disk_kept
+returns-in-Ok-open_shards-clause-disk_kept g c =
+    λ none.
+    disk_then g.H.Shelf _ _ _ (disk_then g.H.Shelf _ _ _ (kept_disk g.H.Shelf _ _ c.read_plan.ensures.kept) (kept_disk g.H.Shelf _ _ c.open_shards.ensures.kept))
+    (c.run_shards.ensures.disk_kept none)

@@ -9,6 +9,7 @@ use Rattle.eql_find.proofs.FailLemmas.{named_over}
 use Rattle.eql_find.proofs.FoundLemmas.{found_all, found_listing, found_some}
 use Rattle.eql_find.proofs.GivingLemmas.{still_none, still_some}
 use Rattle.eql_find.proofs.HaltingEarly.{none_is_some}
+use Rattle.eql_find.proofs.OutcomeLemmas.{none_falls, rises_then}
 use Rattle.eql_find.proofs.OverLemmas.{began, lane_count, made_cause, over_runs, run_begins, sources_few, start_on, starts_many}
 use Rattle.eql_find.proofs.PuttingLemmas.{keeps_cuts, none_changed, none_put}
 use Rattle.eql_find.proofs.ShardLemmas.{count_as, count_then, faults_as, faults_then, lent_all, made_halt, may_make, unfailing_over, zip_long}
@@ -30,53 +31,48 @@ pub make_lanes-requires-clause-may : goal.make_lanes-requires-clause-may
 make_lanes-requires-clause-may g c = λ κs lives. c.requires.1.1.1.1.1.1.1.1.1.1.1.1.1.1.1.1.1.0.lanes.may
 
 -- a lane wasn't made
-pub returns-in-Err-clause-prefix : goal.returns-in-Err-clause-prefix
-returns-in-Err-clause-prefix g c = none_is_some _ _ _ _
-
 pub halt_at-requires : goal.halt_at-requires
 halt_at-requires g c =
     may_make g.H.Src.Source.left g.H.Src.Source.lent_as g.H.Src.Source.fault_count g.H.Src.Source.fault_plan _ _ _ c.requires.1.1.1.1.1.1.1.1.1.1.1.1.1.1.1.0 _ _ _ _ c.in-Err.stop.why c.in-Err.stop.shard c.in-Err.ensures.stopped
 
-pub returns-in-Err-clause-listed : goal.returns-in-Err-clause-listed
-returns-in-Err-clause-listed g c =
-    λ report. absurd ((made_halt g.H.Src.Source.left g.H.Src.Source.lent_as g.H.Src.Source.fault_count g.H.Src.Source.fault_plan _ _ _ c.requires.1.1.1.1.1.1.1.1.1.1.1.1.1.1.1.0 _ _ _ _ c.in-Err.stop.why c.in-Err.stop.shard c.halt_at.result c.in-Err.ensures.stopped c.halt_at.ensures).no_report report)
+pub returns-in-Err-clause-ends : goal.returns-in-Err-clause-ends
+returns-in-Err-clause-ends g c =
+    let made = made_halt g.H.Src.Source.left g.H.Src.Source.lent_as g.H.Src.Source.fault_count g.H.Src.Source.fault_plan _ _ _ c.requires.1.1.1.1.1.1.1.1.1.1.1.1.1.1.1.0 _ _ _ _ c.in-Err.stop.why c.in-Err.stop.shard c.halt_at.result c.in-Err.ensures.stopped c.halt_at.ensures in
+    record {
+      done = tt;
+      accepted = tt;
+      prefix = none_is_some _ _ _ _;
+      listed = λ report. absurd (made.no_report report);
+      untouched = λ refusal. refl;
+      quiet = λ nothing. refl;
+      cause =
+          made_cause g.H.Src.Source.left g.H.Src.Source.lent_as g.H.Src.Source.fault_count g.H.Src.Source.fault_plan reads_by _ _ _ _ _ c.requires.1.1.1.1.1.1.1.1.1.1.1.0 _ _ _ _ _
+          c.requires.1.1.1.1.1.1.1.1.1.1.1.1.0 c.requires.1.1.1.1.1.1.1.1.1.1.1.1.1.0 c.requires.1.1.1.1.1.1.1.1.1.1.1.1.1.1.0 c.requires.1.1.1.1.1.1.1.1.1.1.1.1.1.1.1.0 c.requires.1.1.1.1.1.1.1.1.1.1.1.1.1.1.1.1.1.0
+          c.spans_change_no_fit.ensures c.disks_hold_one_thing.ensures c.in-Err.stop.why c.in-Err.stop.shard c.halt_at.result _ _ _ _ _ _ _ c.in-Err.ensures.stopped c.halt_at.ensures;
+      moments = λ asked. none_put g.H.Dsk.Disk.history g.H.Dsk.Disk.fault_count c.puts_go_on.ensures c.args.find.now _ _ _ _ c.args.keep.now asked c.requires.1.1.1.1.1.1.1.1.1.1.1.1.1.1.1.1.1.1.0 c.requires.1.1.1.1.1.1.1.1.1.1.1.1.1.1.1.1.1.1.1;
+      cut_kept = λ refusal. none_changed g.H.Dsk.Disk.history g.H.Dsk.Disk.fault_count _ c.args.keep.now c.requires.1.1.1.1.1.1.1.1.1.1.1.1.1.1.1.1.1.1.1;
+    }
 
-pub returns-in-Err-clause-cause : goal.returns-in-Err-clause-cause
-returns-in-Err-clause-cause g c =
-    made_cause g.H.Src.Source.left g.H.Src.Source.lent_as g.H.Src.Source.fault_count g.H.Src.Source.fault_plan reads_by _ _ _ _ _ c.requires.1.1.1.1.1.1.1.1.1.1.1.0 _ _ _ _ _
-    c.requires.1.1.1.1.1.1.1.1.1.1.1.1.0 c.requires.1.1.1.1.1.1.1.1.1.1.1.1.1.0 c.requires.1.1.1.1.1.1.1.1.1.1.1.1.1.1.0 c.requires.1.1.1.1.1.1.1.1.1.1.1.1.1.1.1.0 c.requires.1.1.1.1.1.1.1.1.1.1.1.1.1.1.1.1.1.0
-    c.spans_change_no_fit.ensures c.disks_hold_one_thing.ensures c.in-Err.stop.why c.in-Err.stop.shard c.halt_at.result _ _ _ _ _ _ _ c.in-Err.ensures.stopped c.halt_at.ensures
-
-pub returns-in-Err-clause-faults : goal.returns-in-Err-clause-faults
-returns-in-Err-clause-faults g c =
-    (made_halt g.H.Src.Source.left g.H.Src.Source.lent_as g.H.Src.Source.fault_count g.H.Src.Source.fault_plan _ _ _ c.requires.1.1.1.1.1.1.1.1.1.1.1.1.1.1.1.0 _ _ _ _ c.in-Err.stop.why c.in-Err.stop.shard c.halt_at.result c.in-Err.ensures.stopped c.halt_at.ensures).faults
-
-pub returns-in-Err-clause-count : goal.returns-in-Err-clause-count
-returns-in-Err-clause-count g c =
-    (made_halt g.H.Src.Source.left g.H.Src.Source.lent_as g.H.Src.Source.fault_count g.H.Src.Source.fault_plan _ _ _ c.requires.1.1.1.1.1.1.1.1.1.1.1.1.1.1.1.0 _ _ _ _ c.in-Err.stop.why c.in-Err.stop.shard c.halt_at.result c.in-Err.ensures.stopped c.halt_at.ensures).count
-
-pub returns-in-Err-clause-disk_count : goal.returns-in-Err-clause-disk_count
-returns-in-Err-clause-disk_count g c =
-    (made_halt g.H.Src.Source.left g.H.Src.Source.lent_as g.H.Src.Source.fault_count g.H.Src.Source.fault_plan _ _ _ c.requires.1.1.1.1.1.1.1.1.1.1.1.1.1.1.1.0 _ _ _ _ c.in-Err.stop.why c.in-Err.stop.shard c.halt_at.result c.in-Err.ensures.stopped c.halt_at.ensures).disk _
-
-pub returns-in-Err-clause-out : goal.returns-in-Err-clause-out
-returns-in-Err-clause-out g c =
-    (made_halt g.H.Src.Source.left g.H.Src.Source.lent_as g.H.Src.Source.fault_count g.H.Src.Source.fault_plan _ _ _ c.requires.1.1.1.1.1.1.1.1.1.1.1.1.1.1.1.0 _ _ _ _ c.in-Err.stop.why c.in-Err.stop.shard c.halt_at.result c.in-Err.ensures.stopped c.halt_at.ensures).out _
-
-pub returns-in-Err-clause-err : goal.returns-in-Err-clause-err
-returns-in-Err-clause-err g c =
-    (made_halt g.H.Src.Source.left g.H.Src.Source.lent_as g.H.Src.Source.fault_count g.H.Src.Source.fault_plan _ _ _ c.requires.1.1.1.1.1.1.1.1.1.1.1.1.1.1.1.0 _ _ _ _ c.in-Err.stop.why c.in-Err.stop.shard c.halt_at.result c.in-Err.ensures.stopped c.halt_at.ensures).err _
+pub returns-in-Err-clause-told : goal.returns-in-Err-clause-told
+returns-in-Err-clause-told g c =
+    let made = made_halt g.H.Src.Source.left g.H.Src.Source.lent_as g.H.Src.Source.fault_count g.H.Src.Source.fault_plan _ _ _ c.requires.1.1.1.1.1.1.1.1.1.1.1.1.1.1.1.0 _ _ _ _ c.in-Err.stop.why c.in-Err.stop.shard c.halt_at.result c.in-Err.ensures.stopped c.halt_at.ensures in
+    record {
+      faults = made.faults;
+      count = made.count;
+      absences = made_absence c.args.find.now.shards c.in-Err.stop.shard c.in-Err.stop.why c.halt_at.result _ _ c.halt_at.ensures c.in-Err.ensures.counts.1;
+      disk = made.disk _;
+      out = made.out _;
+      err = made.err _;
+      reads_rise = c.in-Err.ensures.counts.0;
+      absences_rise = none_falls _ _ c.in-Err.ensures.counts.1;
+      disks_rise = none_falls _ _ refl;
+      writes_rise = none_falls _ _ refl;
+      errors_rise = none_falls _ _ refl;
+    }
 
 pub returns-in-Err-clause-unfailing : goal.returns-in-Err-clause-unfailing
 returns-in-Err-clause-unfailing g c =
     λ all out err disk. (made_halt g.H.Src.Source.left g.H.Src.Source.lent_as g.H.Src.Source.fault_count g.H.Src.Source.fault_plan _ _ _ c.requires.1.1.1.1.1.1.1.1.1.1.1.1.1.1.1.0 _ _ _ _ c.in-Err.stop.why c.in-Err.stop.shard c.halt_at.result c.in-Err.ensures.stopped c.halt_at.ensures).calm all
-
-pub returns-in-Err-clause-moments : goal.returns-in-Err-clause-moments
-returns-in-Err-clause-moments g c =
-    λ asked. none_put g.H.Dsk.Disk.history g.H.Dsk.Disk.fault_count c.puts_go_on.ensures c.args.find.now _ _ _ _ c.args.keep.now asked c.requires.1.1.1.1.1.1.1.1.1.1.1.1.1.1.1.1.1.1.0 c.requires.1.1.1.1.1.1.1.1.1.1.1.1.1.1.1.1.1.1.1
-
-pub returns-in-Err-clause-cut_kept : goal.returns-in-Err-clause-cut_kept
-returns-in-Err-clause-cut_kept g c = λ refusal. none_changed g.H.Dsk.Disk.history g.H.Dsk.Disk.fault_count _ c.args.keep.now c.requires.1.1.1.1.1.1.1.1.1.1.1.1.1.1.1.1.1.1.1
 
 -- all were made
 
@@ -90,61 +86,60 @@ run_lanes-ran-requires g c =
     c.requires.1.1.1.1.1.1.1.1.1.1.1.1.0 c.requires.1.1.1.1.1.1.1.1.1.1.1.1.1.0 c.requires.1.1.1.1.1.1.1.1.1.1.1.1.1.1.0 c.requires.1.1.1.1.1.1.1.1.1.1.1.1.1.1.1.0 c.requires.1.1.1.1.1.1.1.1.1.1.1.1.1.1.1.1.1.0 c.in-Ok.lanes.items c.in-Ok.ensures.made g.H.Dsk.Disk.history c.requires.1.1.1.1.1.1.1.1.1.1.1.1.1.1.1.1.1.1.0 in
     (lives.0, (lives.1.0, (lives.1.1.0, (lives.1.1.1.0, (lives.1.1.1.1.0, (lives.1.1.1.1.1, (search (sendable, c.requires.1.1.1.1.1.1.1.0), (search (sendable, c.requires.1.1.1.1.1.1.1.1.0), (search (sendable, c.requires.1.1.1.1.1.1.1.1.1.1.0), (search (sendable, c.requires.1.1.1.1.1.1.1.1.1.0), (c.requires.1.1.1.1.1.1.1.1.1.1.1.1.0, begins)))))))))))
 
-pub returns-clause-done : goal.returns-clause-done
-returns-clause-done g c =
-    on_ok_weaker c.run_lanes-ran.result (found_all c.args.find.now c.args.planning.now _ c.in-Ok.lanes.items c.args.rest _ _ _ _ _ _ (over_runs g.H.Src.Source.left g.H.Src.Source.lent_as g.H.Src.Source.fault_count g.H.Src.Source.fault_plan reads_by _ _ _ _ _ c.requires.1.1.1.1.1.1.1.1.1.1.1.0 _ _ _ _ _
+pub returns-clause-ends : goal.returns-clause-ends
+returns-clause-ends g c =
+    let runs = over_runs g.H.Src.Source.left g.H.Src.Source.lent_as g.H.Src.Source.fault_count g.H.Src.Source.fault_plan reads_by _ _ _ _ _ c.requires.1.1.1.1.1.1.1.1.1.1.1.0 _ _ _ _ _
     c.requires.1.1.1.1.1.1.1.1.1.1.1.1.0 c.requires.1.1.1.1.1.1.1.1.1.1.1.1.1.0 c.requires.1.1.1.1.1.1.1.1.1.1.1.1.1.1.0 c.requires.1.1.1.1.1.1.1.1.1.1.1.1.1.1.1.0 c.requires.1.1.1.1.1.1.1.1.1.1.1.1.1.1.1.1.1.0 c.in-Ok.lanes.items c.in-Ok.ensures.made
-    c.spans_change_no_fit.ensures c.disks_hold_one_thing.ensures c.tested_cuts_are_accepted.ensures.accepted)) c.run_lanes-ran.ensures.done
+    c.spans_change_no_fit.ensures c.disks_hold_one_thing.ensures c.tested_cuts_are_accepted.ensures.accepted in
+    let begun = began g.H.Src.Source.left g.H.Src.Source.lent_as g.H.Src.Source.fault_count g.H.Src.Source.fault_plan reads_by _ _ _ _ _ c.requires.1.1.1.1.1.1.1.1.1.1.1.0 _ _ _ _ _
+    c.requires.1.1.1.1.1.1.1.1.1.1.1.1.0 c.requires.1.1.1.1.1.1.1.1.1.1.1.1.1.0 c.requires.1.1.1.1.1.1.1.1.1.1.1.1.1.1.0 c.requires.1.1.1.1.1.1.1.1.1.1.1.1.1.1.1.0 c.requires.1.1.1.1.1.1.1.1.1.1.1.1.1.1.1.1.1.0 c.in-Ok.lanes.items c.in-Ok.ensures.made in
+    let starts = start_on g.H.Src.Source.left g.H.Src.Source.lent_as g.H.Src.Source.fault_count g.H.Src.Source.fault_plan reads_by _ _ _ _ _ c.requires.1.1.1.1.1.1.1.1.1.1.1.0 _ _ _ _ _
+    c.requires.1.1.1.1.1.1.1.1.1.1.1.1.0 c.requires.1.1.1.1.1.1.1.1.1.1.1.1.1.0 c.requires.1.1.1.1.1.1.1.1.1.1.1.1.1.1.0 c.requires.1.1.1.1.1.1.1.1.1.1.1.1.1.1.1.0 c.requires.1.1.1.1.1.1.1.1.1.1.1.1.1.1.1.1.1.0 c.in-Ok.lanes.items c.in-Ok.ensures.made c.disks_hold_one_thing.ensures in
+    record {
+      done = on_ok_weaker c.run_lanes-ran.result (found_all c.args.find.now c.args.planning.now _ c.in-Ok.lanes.items c.args.rest _ _ _ _ _ _ runs) c.run_lanes-ran.ensures.done;
+      accepted =
+          all_accepted c.args.find.now c.args.planning.now _ c.in-Ok.lanes.items c.run_lanes-ran.new.lanes.items c.args.rest _ (g.H.Shelf.disk_history c.args.shelf.now) _ c.requires.1.1.1.1.1.1.1.1.1.1.1.1.1.0 _ c.requires.1.1.1.1.1.1.1.1.1.1.1.1.1.1.0
+          c.requires.1.1.1.1.1.1.1.1.1.1.1.1.1.1.1.1.1.0.begun.format c.requires.1.1.1.1.1.1.1.1.1.1.1.1.1.1.1.1.1.0.begun.generation c.requires.1.1.1.1.1.1.1.1.1.1.1.1.1.1.1.1.1.0.begun.cut begun starts runs c.run_lanes-ran.result;
+      prefix = on_err_weaker c.run_lanes-ran.result (found_some c.args.find.now c.args.planning.now _ c.in-Ok.lanes.items c.args.rest _ _ _ _ runs) c.run_lanes-ran.ensures.prefix;
+      listed =
+          IfErr-weaker c.run_lanes-ran.result _ _
+          (λ halt told report. found_listing c.args.find.now c.args.planning.now _ c.in-Ok.lanes.items c.args.rest _ _ _ _ runs (told report)) c.run_lanes-ran.ensures.listed;
+      untouched = none_refused _ _ (λ r told. told) (λ why told. told) c.run_lanes-ran.result c.run_lanes-ran.ensures.cause;
+      quiet = c.run_lanes-ran.ensures.quiet;
+      cause =
+          all_causes c.args.find.now c.args.planning.now _ c.in-Ok.lanes.items c.run_lanes-ran.new.lanes.items c.args.rest _ _ _ c.requires.1.1.1.1.1.1.1.1.1.1.1.1.1.0 _ c.requires.1.1.1.1.1.1.1.1.1.1.1.1.1.1.0
+          c.requires.1.1.1.1.1.1.1.1.1.1.1.1.1.1.1.1.1.0.begun.format c.requires.1.1.1.1.1.1.1.1.1.1.1.1.1.1.1.1.1.0.begun.generation c.requires.1.1.1.1.1.1.1.1.1.1.1.1.1.1.1.1.1.0.begun.cut begun starts runs c.run_lanes-ran.result _ _ c.run_lanes-ran.ensures.cause c.run_lanes-ran.ensures.faults
+          (generations_end g.H.Dsk.Disk.history g.H.Dsk.Disk.fault_count c.crashes_leave_images.ensures.images c.disks_hold_one_thing.ensures c.args.find.now c.requires.1.1.1.1.1.1.1.1.1.1.1.1.1.1.1.1.1.0.begun
+          _ _ _ _ c.args.keep.now c.run_lanes-ran.new.keep c.run_lanes-ran.result c.requires.1.1.1.1.1.1.1.1.1.1.1.1.1.1.1.1.1.0.is_found c.requires.1.1.1.1.1.1.1.1.1.1.1.1.1.1.1.1.1.1.0 c.requires.1.1.1.1.1.1.1.1.1.1.1.1.1.1.1.1.1.1.1 c.run_lanes-ran.ensures.keeps);
+      moments = λ asked.
+          keeps_cuts c.puts_go_on.ensures c.crashes_leave_images.ensures.images c.disks_hold_one_thing.ensures c.tested_cuts_are_accepted.ensures.one c.args.find.now c.args.planning.now
+          c.requires.1.1.1.1.1.1.1.1.1.1.1.1.0 _ _ _ c.in-Ok.lanes.items c.args.rest c.requires.1.1.1.1.1.1.1.1.1.1.1.1.1.1.1.1.1.0.begun c.requires.1.1.1.1.1.1.1.1.1.1.1.1.1.1.1.1.1.0.is_found c.requires.1.1.1.1.1.1.1.1.1.1.1.1.1.1.1.1.1.0.rest_is runs
+          c.args.head c.requires.1.1.1.1.1.1.1.1.1.1.1.1.1.1.1.1.1.0.head_is (g.K.Sink.written c.args.out.now) (g.K.Sink.written c.run_lanes-ran.new.out) g.H.Dsk.Disk.history g.H.Dsk.Disk.fault_count c.run_lanes-ran.result c.args.keep.now c.run_lanes-ran.new.keep asked c.requires.1.1.1.1.1.1.1.1.1.1.1.1.1.1.1.1.1.1.0 c.requires.1.1.1.1.1.1.1.1.1.1.1.1.1.1.1.1.1.1.1 c.run_lanes-ran.ensures.keeps;
+      cut_kept = none_refused _ _ (λ r told. told) (λ why told. told) c.run_lanes-ran.result c.run_lanes-ran.ensures.cause;
+    }
 
-pub returns-clause-prefix : goal.returns-clause-prefix
-returns-clause-prefix g c =
-    on_err_weaker c.run_lanes-ran.result (found_some c.args.find.now c.args.planning.now _ c.in-Ok.lanes.items c.args.rest _ _ _ _ (over_runs g.H.Src.Source.left g.H.Src.Source.lent_as g.H.Src.Source.fault_count g.H.Src.Source.fault_plan reads_by _ _ _ _ _ c.requires.1.1.1.1.1.1.1.1.1.1.1.0 _ _ _ _ _
-    c.requires.1.1.1.1.1.1.1.1.1.1.1.1.0 c.requires.1.1.1.1.1.1.1.1.1.1.1.1.1.0 c.requires.1.1.1.1.1.1.1.1.1.1.1.1.1.1.0 c.requires.1.1.1.1.1.1.1.1.1.1.1.1.1.1.1.0 c.requires.1.1.1.1.1.1.1.1.1.1.1.1.1.1.1.1.1.0 c.in-Ok.lanes.items c.in-Ok.ensures.made
-    c.spans_change_no_fit.ensures c.disks_hold_one_thing.ensures c.tested_cuts_are_accepted.ensures.accepted)) c.run_lanes-ran.ensures.prefix
-
-pub returns-clause-listed : goal.returns-clause-listed
-returns-clause-listed g c =
-    IfErr-weaker c.run_lanes-ran.result _ _ (λ halt told report. found_listing c.args.find.now c.args.planning.now _ c.in-Ok.lanes.items c.args.rest _ _ _ _ (over_runs g.H.Src.Source.left g.H.Src.Source.lent_as g.H.Src.Source.fault_count g.H.Src.Source.fault_plan reads_by _ _ _ _ _ c.requires.1.1.1.1.1.1.1.1.1.1.1.0 _ _ _ _ _
-    c.requires.1.1.1.1.1.1.1.1.1.1.1.1.0 c.requires.1.1.1.1.1.1.1.1.1.1.1.1.1.0 c.requires.1.1.1.1.1.1.1.1.1.1.1.1.1.1.0 c.requires.1.1.1.1.1.1.1.1.1.1.1.1.1.1.1.0 c.requires.1.1.1.1.1.1.1.1.1.1.1.1.1.1.1.1.1.0 c.in-Ok.lanes.items c.in-Ok.ensures.made
-    c.spans_change_no_fit.ensures c.disks_hold_one_thing.ensures c.tested_cuts_are_accepted.ensures.accepted) (told report)) c.run_lanes-ran.ensures.listed
-
-pub returns-clause-accepted : goal.returns-clause-accepted
-returns-clause-accepted g c =
-    all_accepted c.args.find.now c.args.planning.now _ c.in-Ok.lanes.items c.run_lanes-ran.new.lanes.items c.args.rest _ (g.H.Shelf.disk_history c.args.shelf.now) _ c.requires.1.1.1.1.1.1.1.1.1.1.1.1.1.0 _ c.requires.1.1.1.1.1.1.1.1.1.1.1.1.1.1.0
-    c.requires.1.1.1.1.1.1.1.1.1.1.1.1.1.1.1.1.1.0.begun.format c.requires.1.1.1.1.1.1.1.1.1.1.1.1.1.1.1.1.1.0.begun.generation c.requires.1.1.1.1.1.1.1.1.1.1.1.1.1.1.1.1.1.0.begun.cut (began g.H.Src.Source.left g.H.Src.Source.lent_as g.H.Src.Source.fault_count g.H.Src.Source.fault_plan reads_by _ _ _ _ _ c.requires.1.1.1.1.1.1.1.1.1.1.1.0 _ _ _ _ _
-    c.requires.1.1.1.1.1.1.1.1.1.1.1.1.0 c.requires.1.1.1.1.1.1.1.1.1.1.1.1.1.0 c.requires.1.1.1.1.1.1.1.1.1.1.1.1.1.1.0 c.requires.1.1.1.1.1.1.1.1.1.1.1.1.1.1.1.0 c.requires.1.1.1.1.1.1.1.1.1.1.1.1.1.1.1.1.1.0 c.in-Ok.lanes.items c.in-Ok.ensures.made)
-    (start_on g.H.Src.Source.left g.H.Src.Source.lent_as g.H.Src.Source.fault_count g.H.Src.Source.fault_plan reads_by _ _ _ _ _ c.requires.1.1.1.1.1.1.1.1.1.1.1.0 _ _ _ _ _
-    c.requires.1.1.1.1.1.1.1.1.1.1.1.1.0 c.requires.1.1.1.1.1.1.1.1.1.1.1.1.1.0 c.requires.1.1.1.1.1.1.1.1.1.1.1.1.1.1.0 c.requires.1.1.1.1.1.1.1.1.1.1.1.1.1.1.1.0 c.requires.1.1.1.1.1.1.1.1.1.1.1.1.1.1.1.1.1.0 c.in-Ok.lanes.items c.in-Ok.ensures.made c.disks_hold_one_thing.ensures) (over_runs g.H.Src.Source.left g.H.Src.Source.lent_as g.H.Src.Source.fault_count g.H.Src.Source.fault_plan reads_by _ _ _ _ _ c.requires.1.1.1.1.1.1.1.1.1.1.1.0 _ _ _ _ _
-    c.requires.1.1.1.1.1.1.1.1.1.1.1.1.0 c.requires.1.1.1.1.1.1.1.1.1.1.1.1.1.0 c.requires.1.1.1.1.1.1.1.1.1.1.1.1.1.1.0 c.requires.1.1.1.1.1.1.1.1.1.1.1.1.1.1.1.0 c.requires.1.1.1.1.1.1.1.1.1.1.1.1.1.1.1.1.1.0 c.in-Ok.lanes.items c.in-Ok.ensures.made
-    c.spans_change_no_fit.ensures c.disks_hold_one_thing.ensures c.tested_cuts_are_accepted.ensures.accepted)
-    c.run_lanes-ran.result
-
-pub returns-clause-cause : goal.returns-clause-cause
-returns-clause-cause g c =
-    all_causes c.args.find.now c.args.planning.now _ c.in-Ok.lanes.items c.run_lanes-ran.new.lanes.items c.args.rest _ _ _ c.requires.1.1.1.1.1.1.1.1.1.1.1.1.1.0 _ c.requires.1.1.1.1.1.1.1.1.1.1.1.1.1.1.0
-    c.requires.1.1.1.1.1.1.1.1.1.1.1.1.1.1.1.1.1.0.begun.format c.requires.1.1.1.1.1.1.1.1.1.1.1.1.1.1.1.1.1.0.begun.generation c.requires.1.1.1.1.1.1.1.1.1.1.1.1.1.1.1.1.1.0.begun.cut (began g.H.Src.Source.left g.H.Src.Source.lent_as g.H.Src.Source.fault_count g.H.Src.Source.fault_plan reads_by _ _ _ _ _ c.requires.1.1.1.1.1.1.1.1.1.1.1.0 _ _ _ _ _
-    c.requires.1.1.1.1.1.1.1.1.1.1.1.1.0 c.requires.1.1.1.1.1.1.1.1.1.1.1.1.1.0 c.requires.1.1.1.1.1.1.1.1.1.1.1.1.1.1.0 c.requires.1.1.1.1.1.1.1.1.1.1.1.1.1.1.1.0 c.requires.1.1.1.1.1.1.1.1.1.1.1.1.1.1.1.1.1.0 c.in-Ok.lanes.items c.in-Ok.ensures.made)
-    (start_on g.H.Src.Source.left g.H.Src.Source.lent_as g.H.Src.Source.fault_count g.H.Src.Source.fault_plan reads_by _ _ _ _ _ c.requires.1.1.1.1.1.1.1.1.1.1.1.0 _ _ _ _ _
-    c.requires.1.1.1.1.1.1.1.1.1.1.1.1.0 c.requires.1.1.1.1.1.1.1.1.1.1.1.1.1.0 c.requires.1.1.1.1.1.1.1.1.1.1.1.1.1.1.0 c.requires.1.1.1.1.1.1.1.1.1.1.1.1.1.1.1.0 c.requires.1.1.1.1.1.1.1.1.1.1.1.1.1.1.1.1.1.0 c.in-Ok.lanes.items c.in-Ok.ensures.made c.disks_hold_one_thing.ensures) (over_runs g.H.Src.Source.left g.H.Src.Source.lent_as g.H.Src.Source.fault_count g.H.Src.Source.fault_plan reads_by _ _ _ _ _ c.requires.1.1.1.1.1.1.1.1.1.1.1.0 _ _ _ _ _
-    c.requires.1.1.1.1.1.1.1.1.1.1.1.1.0 c.requires.1.1.1.1.1.1.1.1.1.1.1.1.1.0 c.requires.1.1.1.1.1.1.1.1.1.1.1.1.1.1.0 c.requires.1.1.1.1.1.1.1.1.1.1.1.1.1.1.1.0 c.requires.1.1.1.1.1.1.1.1.1.1.1.1.1.1.1.1.1.0 c.in-Ok.lanes.items c.in-Ok.ensures.made
-    c.spans_change_no_fit.ensures c.disks_hold_one_thing.ensures c.tested_cuts_are_accepted.ensures.accepted)
-    c.run_lanes-ran.result _ _ c.run_lanes-ran.ensures.cause c.run_lanes-ran.ensures.faults
-    (generations_end g.H.Dsk.Disk.history g.H.Dsk.Disk.fault_count c.crashes_leave_images.ensures.images c.disks_hold_one_thing.ensures c.args.find.now c.requires.1.1.1.1.1.1.1.1.1.1.1.1.1.1.1.1.1.0.begun
-    _ _ _ _ c.args.keep.now c.run_lanes-ran.new.keep c.run_lanes-ran.result c.requires.1.1.1.1.1.1.1.1.1.1.1.1.1.1.1.1.1.0.is_found c.requires.1.1.1.1.1.1.1.1.1.1.1.1.1.1.1.1.1.1.0 c.requires.1.1.1.1.1.1.1.1.1.1.1.1.1.1.1.1.1.1.1 c.run_lanes-ran.ensures.keeps)
-
-pub returns-clause-faults : goal.returns-clause-faults
-returns-clause-faults g c =
-    faults_then _ _ _ c.in-Ok.ensures.steady_named c.run_lanes-ran.result
-    (faults_as g.H.Src.Source.left g.H.Src.Source.lent_as c.args.find.now c.in-Ok.lanes.items c.run_lanes-ran.new.lanes.items _ _ _ _
-    (named_over g.H.Src.Source.left g.H.Src.Source.lent_as g.H.Src.Source.fault_count g.H.Src.Source.fault_plan reads_by _ _ 0 c.args.sources.items c.args.starts.items c.in-Ok.lanes.items c.args.find.now.shards c.in-Ok.ensures.made c.requires.1.1.1.1.1.1.1.1.1.1.1.1.1.1.1.0 c.requires.1.1.1.1.1.1.1.1.1.1.1.1.1.1.1.1.0)
-    c.run_lanes-ran.ensures.lanes c.give_lanes.ensures.back c.run_lanes-ran.result c.run_lanes-ran.ensures.faults)
-
-pub returns-clause-count : goal.returns-clause-count
-returns-clause-count g c =
-    count_then _ _ _ c.in-Ok.ensures.steady c.run_lanes-ran.result
-    (count_as g.H.Src.Source.left g.H.Src.Source.lent_as c.args.find.now c.in-Ok.lanes.items c.run_lanes-ran.new.lanes.items _ _ _ _
-    (named_over g.H.Src.Source.left g.H.Src.Source.lent_as g.H.Src.Source.fault_count g.H.Src.Source.fault_plan reads_by _ _ 0 c.args.sources.items c.args.starts.items c.in-Ok.lanes.items c.args.find.now.shards c.in-Ok.ensures.made c.requires.1.1.1.1.1.1.1.1.1.1.1.1.1.1.1.0 c.requires.1.1.1.1.1.1.1.1.1.1.1.1.1.1.1.1.0)
-    c.run_lanes-ran.ensures.lanes c.give_lanes.ensures.back c.run_lanes-ran.result c.run_lanes-ran.ensures.faults)
+pub returns-clause-told : goal.returns-clause-told
+returns-clause-told g c =
+    let named = named_over g.H.Src.Source.left g.H.Src.Source.lent_as g.H.Src.Source.fault_count g.H.Src.Source.fault_plan reads_by _ _ 0 c.args.sources.items c.args.starts.items c.in-Ok.lanes.items c.args.find.now.shards c.in-Ok.ensures.made c.requires.1.1.1.1.1.1.1.1.1.1.1.1.1.1.1.0 c.requires.1.1.1.1.1.1.1.1.1.1.1.1.1.1.1.1.0 in
+    record {
+      faults =
+          faults_then _ _ _ c.in-Ok.ensures.steady_named c.run_lanes-ran.result
+          (faults_as g.H.Src.Source.left g.H.Src.Source.lent_as c.args.find.now c.in-Ok.lanes.items c.run_lanes-ran.new.lanes.items _ _ _ _ named
+          c.run_lanes-ran.ensures.lanes c.give_lanes.ensures.back c.run_lanes-ran.result c.run_lanes-ran.ensures.faults);
+      count =
+          count_then _ _ _ c.in-Ok.ensures.steady c.run_lanes-ran.result
+          (count_as g.H.Src.Source.left g.H.Src.Source.lent_as c.args.find.now c.in-Ok.lanes.items c.run_lanes-ran.new.lanes.items _ _ _ _ named
+          c.run_lanes-ran.ensures.lanes c.give_lanes.ensures.back c.run_lanes-ran.result c.run_lanes-ran.ensures.faults);
+      absences = absence_as _ (λ r told. told) c.run_lanes-ran.result _ _ c.run_lanes-ran.ensures.cause (c.give_lanes.ensures.counts.1 ∙ c.in-Ok.ensures.counts.1);
+      disk = c.run_lanes-ran.ensures.disk;
+      out = c.run_lanes-ran.ensures.out;
+      err = c.run_lanes-ran.ensures.err;
+      reads_rise = rises_then _ _ _ c.in-Ok.ensures.steady c.give_lanes.ensures.counts.0;
+      absences_rise = none_falls _ _ (c.give_lanes.ensures.counts.1 ∙ c.in-Ok.ensures.counts.1);
+      disks_rise = c.run_lanes-ran.ensures.counts.2;
+      writes_rise = c.run_lanes-ran.ensures.counts.0;
+      errors_rise = c.run_lanes-ran.ensures.counts.1;
+    }
 
 pub returns-clause-unfailing : goal.returns-clause-unfailing
 returns-clause-unfailing g c =
@@ -158,18 +153,6 @@ returns-clause-lent g c =
     c.requires.1.1.1.1.1.1.1.1.1.1.1.1.0 c.requires.1.1.1.1.1.1.1.1.1.1.1.1.1.0 c.requires.1.1.1.1.1.1.1.1.1.1.1.1.1.1.0 c.requires.1.1.1.1.1.1.1.1.1.1.1.1.1.1.1.0 c.requires.1.1.1.1.1.1.1.1.1.1.1.1.1.1.1.1.1.0 c.in-Ok.lanes.items c.in-Ok.ensures.made)
     c.in-Ok.ensures.lent c.give_lanes.ensures.lent
 
-pub returns-clause-moments : goal.returns-clause-moments
-returns-clause-moments g c =
-    λ asked. keeps_cuts c.puts_go_on.ensures c.crashes_leave_images.ensures.images c.disks_hold_one_thing.ensures c.tested_cuts_are_accepted.ensures.one c.args.find.now c.args.planning.now
-    c.requires.1.1.1.1.1.1.1.1.1.1.1.1.0 _ _ _ c.in-Ok.lanes.items c.args.rest c.requires.1.1.1.1.1.1.1.1.1.1.1.1.1.1.1.1.1.0.begun c.requires.1.1.1.1.1.1.1.1.1.1.1.1.1.1.1.1.1.0.is_found c.requires.1.1.1.1.1.1.1.1.1.1.1.1.1.1.1.1.1.0.rest_is
-    (over_runs g.H.Src.Source.left g.H.Src.Source.lent_as g.H.Src.Source.fault_count g.H.Src.Source.fault_plan reads_by _ _ _ _ _ c.requires.1.1.1.1.1.1.1.1.1.1.1.0 _ _ _ _ _
-    c.requires.1.1.1.1.1.1.1.1.1.1.1.1.0 c.requires.1.1.1.1.1.1.1.1.1.1.1.1.1.0 c.requires.1.1.1.1.1.1.1.1.1.1.1.1.1.1.0 c.requires.1.1.1.1.1.1.1.1.1.1.1.1.1.1.1.0 c.requires.1.1.1.1.1.1.1.1.1.1.1.1.1.1.1.1.1.0 c.in-Ok.lanes.items c.in-Ok.ensures.made
-    c.spans_change_no_fit.ensures c.disks_hold_one_thing.ensures c.tested_cuts_are_accepted.ensures.accepted)
-    c.args.head c.requires.1.1.1.1.1.1.1.1.1.1.1.1.1.1.1.1.1.0.head_is (g.K.Sink.written c.args.out.now) (g.K.Sink.written c.run_lanes-ran.new.out) g.H.Dsk.Disk.history g.H.Dsk.Disk.fault_count c.run_lanes-ran.result c.args.keep.now c.run_lanes-ran.new.keep asked c.requires.1.1.1.1.1.1.1.1.1.1.1.1.1.1.1.1.1.1.0 c.requires.1.1.1.1.1.1.1.1.1.1.1.1.1.1.1.1.1.1.1 c.run_lanes-ran.ensures.keeps
-
-pub returns-clause-cut_kept : goal.returns-clause-cut_kept
-returns-clause-cut_kept g c = none_refused _ _ (λ r told. told) (λ why told. told) c.run_lanes-ran.result c.run_lanes-ran.ensures.cause
-
 pub returns-clause-no_keep : goal.returns-clause-no_keep
 returns-clause-no_keep g c =
     still_none g.H.Dsk.Disk.history g.H.Dsk.Disk.fault_count _ _ _ c.run_lanes-ran.result c.args.keep.now c.run_lanes-ran.new.keep c.run_lanes-ran.ensures.keeps
@@ -177,11 +160,3 @@ returns-clause-no_keep g c =
 pub returns-clause-some_keep : goal.returns-clause-some_keep
 returns-clause-some_keep g c =
     still_some g.H.Dsk.Disk.history g.H.Dsk.Disk.fault_count _ _ _ c.run_lanes-ran.result c.args.keep.now c.run_lanes-ran.new.keep c.run_lanes-ran.ensures.keeps
-
-pub returns-in-Err-clause-absences : goal.returns-in-Err-clause-absences
-returns-in-Err-clause-absences g c =
-    made_absence c.args.find.now.shards c.in-Err.stop.shard c.in-Err.stop.why c.halt_at.result _ _ c.halt_at.ensures c.in-Err.ensures.counts.1
-
-pub returns-clause-absences : goal.returns-clause-absences
-returns-clause-absences g c =
-    absence_as _ (λ r told. told) c.run_lanes-ran.result _ _ c.run_lanes-ran.ensures.cause (c.give_lanes.ensures.counts.1 ∙ c.in-Ok.ensures.counts.1)
