@@ -7,3 +7,4 @@ pub mod Starting
 pub mod Running
 pub mod Finding
 pub mod Outcomes
+pub mod LaneOutcomes

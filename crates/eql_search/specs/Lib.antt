@@ -3,3 +3,4 @@ pub mod Beginnings
 pub mod Keeping
 pub mod Answers
 pub mod Running
+pub mod Outcomes

@@ -1,18 +1,16 @@
 //! The search.
-ghost use Rattle.std.specs.Prelude.{◌≡◌, ◌≢◌, ◌≤◌, ℕ, List, Option, None, Err, true, IfErr, IfSome, OnOk, OnErr, All, length};
-ghost use Rattle.std.specs.List.{AllZip};
+ghost use Rattle.std.specs.Prelude.{◌≡◌, ◌≢◌, ◌≤◌, ℕ, List, Option, None, true, IfErr, length};
 ghost use Rattle.eql_outside.specs.Unfailing.{IsUnfailing};
-ghost use Rattle.eql_outside.specs.Written.{WroteAll, WroteFront};
 ghost use Rattle.eql_laws.specs.Alive.{IsSpan};
-ghost use Rattle.eql_laws.specs.Counting.{IsShardText};
 ghost use Rattle.eql_conductor.specs.declared.plan.End.TheVariants.{DiskFault, WriteFault};
-ghost use Rattle.eql_conductor.specs.Runs.{IsKeptUnfailing, disk_faults};
+ghost use Rattle.eql_conductor.specs.Runs.{IsKeptUnfailing};
 ghost use Rattle.eql_replay.specs.Opened.{AreOfTexts};
-ghost use Rattle.eql_search.specs.Answers.{AreUnfailing, HasCause, IsClosed, IsNoFault, IsRead, AreSteadyBut, StaysLane, WereRead};
-ghost use Rattle.eql_search.specs.Beginnings.{BeginsOn, MayBegin, MayKeepOn, cuts_of, start_at};
-ghost use Rattle.eql_search.specs.Keeping.{AreSearchCuts, KeepsOn, WroteCounted};
+ghost use Rattle.eql_search.specs.Answers.{AreUnfailing, IsNoFault};
+ghost use Rattle.eql_search.specs.Beginnings.{MayBegin, MayKeepOn, cuts_of};
+ghost use Rattle.eql_search.specs.Keeping.{KeepsOn};
+ghost use Rattle.eql_search.specs.Outcomes.{AreCutsFrom, AreInBounds, LanesEnd, MaySearch, StopsForCause, WritesListing, beginning_of};
 ghost use Rattle.eql_search.specs.Running.{TriesToSearch, end_of};
-ghost use Rattle.eql_search.specs.Searches.{AreBegun, AreTextsOf, HasNumbers, reads_by, rest_of, rules_of, slack_by};
+ghost use Rattle.eql_search.specs.Searches.{AreBegun, rules_of};
 
 use crate::parting::{PARTS, make_parts};
 use crate::stop::{Stop, answer};
@@ -136,86 +134,34 @@ pub fn search<
 
     // With what it begins. The texts of the lanes are told or not: what is ensured holds for all
     // texts of which they are.
-    requires some { 1 ≤ length lanes.old.items }
-    requires few { length lanes.old.items ≤ 256 }
-    requires lanes { AreBegun L.read_of lanes.old.items }
-    requires texts { IfSome told (λ texts. AreTextsOf S.left texts lanes.old.items) }
-    requires batch_from { 1 ≤ plan.now.batch }
-    requires batch_to { plan.now.batch ≤ 4096 }
-    requires stages_from { 1 ≤ stages }
-    requires stages_to { stages ≤ 256 }
-    requires span { IsSpan span }
-    requires whole { book.old.whole ≡ true }
-    requires begins { MayBegin (rules_of L.read_of stages span lanes.old.items) book.old.pipes
-        plan.now.mark (cuts_of lanes.old.items) holders book.old.kept }
-    requires keeps { MayKeepOn D.history plan.now (length lanes.old.items) keep.old }
-    requires hands { hands ≤ 65536 }
+    requires bounds { AreInBounds plan.now stages span hands }
+    requires begins { MaySearch S.Source L.LineReader D.Disk told stages span plan.now
+        lanes.old.items holders book.old keep.old }
 
-    // What was written, over told texts of which the cut is one where there is one, and of which
-    // each match has a number. After a stop that is asked of texts only that shards may have.
-    ensures whole { OnOk result (IfSome told (λ texts.
-        BeginsOn (rules_of L.read_of stages span lanes.old.items) book.old.pipes texts
-        (start_at plan.now.mark (cuts_of lanes.old.items) holders book.old.kept)
-        → HasNumbers (rules_of L.read_of stages span lanes.old.items) texts
-        → WroteAll (rest_of (rules_of L.read_of stages span lanes.old.items)
-        book.old.pipes book.old.places book.old.kept.listed texts)
-        (K.written sink.old) (K.written sink.new))) }
-    ensures front { OnErr result (IfSome told (λ texts.
-        BeginsOn (rules_of L.read_of stages span lanes.old.items) book.old.pipes texts
-        (start_at plan.now.mark (cuts_of lanes.old.items) holders book.old.kept)
-        → (All IsShardText texts
-        → HasNumbers (rules_of L.read_of stages span lanes.old.items) texts)
-        → WroteFront (rest_of (rules_of L.read_of stages span lanes.old.items)
-        book.old.pipes book.old.places book.old.kept.listed texts)
-        (K.written sink.old) (K.written sink.new))) }
+    // What was written.
+    ensures wrote { WritesListing K.Sink told
+        (beginning_of L.LineReader stages span plan.now lanes.old.items holders book.old)
+        sink.old sink.new result }
 
-    // Which cuts were put on the disk: over such texts they are cuts of them, and the lines that
-    // they count were written.
-    ensures keeps { KeepsOn D.history plan.now.head plan.now.mark
-        (λ cuts. IfSome told (λ texts.
-        BeginsOn (rules_of L.read_of stages span lanes.old.items) book.old.pipes texts
-        (start_at plan.now.mark (cuts_of lanes.old.items) holders book.old.kept)
-        → HasNumbers (rules_of L.read_of stages span lanes.old.items) texts
-        → AreSearchCuts (rules_of L.read_of stages span lanes.old.items)
-        book.old.pipes texts cuts
-        × All (WroteCounted (rules_of L.read_of stages span lanes.old.items)
-        book.old.pipes book.old.places book.old.kept.listed texts
-        (K.written sink.old) (K.written sink.new)) cuts))
-        keep.old keep.new result }
+    // Which cuts were put on the disk, and that the lines that they count were written.
+    ensures keeps { KeepsOn D.history plan.now.head plan.now.mark (AreCutsFrom K.Sink told
+        (beginning_of L.LineReader stages span plan.now lanes.old.items holders book.old)
+        sink.old sink.new) keep.old keep.new result }
 
     // What became of the lanes, in their order.
-    ensures closed { OnOk result (All IsClosed lanes.new.items) }
-    ensures read { OnOk result (IfSome told (λ texts.
-        BeginsOn (rules_of L.read_of stages span lanes.old.items) book.old.pipes texts
-        (start_at plan.now.mark (cuts_of lanes.old.items) holders book.old.kept)
-        → WereRead (reads_by L.read_of lanes.old.items) (slack_by L.read_of lanes.old.items)
-        texts lanes.new.items)) }
-    ensures lanes { AllZip (StaysLane S.left S.lent_as L.read_of) lanes.old.items lanes.new.items }
-    ensures texts { IfSome told (λ texts. AreTextsOf S.left texts lanes.new.items) }
+    ensures lanes { LanesEnd S.Source L.LineReader told
+        (beginning_of L.LineReader stages span plan.now lanes.old.items holders book.old)
+        lanes.old.items lanes.new.items result }
 
-    // Why it stopped, and that no fault was passed over: of several at once a read fault is told.
-    ensures cause { IfErr result (λ stop. HasCause told stop lanes.old.items lanes.new.items
-        (K.fault_count sink.old) (K.fault_count sink.new)
-        (disk_faults D.history D.fault_count keep.old)
-        (disk_faults D.history D.fault_count keep.new)) }
-    ensures reads_steady { AreSteadyBut (λ shard. IsRead result) lanes.old.items lanes.new.items }
-    ensures writes_steady { result ≢ Err Stop.Write → ¬ IsRead result
-        → K.fault_count sink.new ≡ K.fault_count sink.old }
-    ensures disk_steady { result ≢ Err Stop.Disk → ¬ IsRead result
-        → disk_faults D.history D.fault_count keep.new
-        ≡ disk_faults D.history D.fault_count keep.old }
+    // Why it stopped, and that no fault was passed over.
+    ensures stops { StopsForCause K.Sink D.Disk told lanes.old.items lanes.new.items
+        sink.old sink.new keep.old keep.new result }
 
     // Where no call is planned to fail, none fails.
     ensures unfailing { IsUnfailing (K.fault_plan sink.old)
         → AreUnfailing S.fault_plan lanes.old.items → IsKeptUnfailing D.fault_plan keep.old
         → IfErr result IsNoFault × IsUnfailing (K.fault_plan sink.new)
         × AreUnfailing S.fault_plan lanes.new.items × IsKeptUnfailing D.fault_plan keep.new }
-
-    // The counts of sink and disk don't fall, and a sink that doesn't tell goes on so.
-    ensures counts { (K.fault_count sink.old ≤ K.fault_count sink.new)
-        × (disk_faults D.history D.fault_count keep.old
-        ≤ disk_faults D.history D.fault_count keep.new) }
-    ensures silent { K.written sink.old ≡ None → K.written sink.new ≡ None }
 {
     let taken = replace(lanes, Vec::new(alloc));
     let blank = Blank::new(PARTS as u64);

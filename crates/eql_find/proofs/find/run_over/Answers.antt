@@ -96,26 +96,26 @@ returns-clause-ends g c =
     let starts = start_on g.H.Src.Source.left g.H.Src.Source.lent_as g.H.Src.Source.fault_count g.H.Src.Source.fault_plan reads_by _ _ _ _ _ c.requires.1.1.1.1.1.1.1.1.1.1.1.0 _ _ _ _ _
     c.requires.1.1.1.1.1.1.1.1.1.1.1.1.0 c.requires.1.1.1.1.1.1.1.1.1.1.1.1.1.0 c.requires.1.1.1.1.1.1.1.1.1.1.1.1.1.1.0 c.requires.1.1.1.1.1.1.1.1.1.1.1.1.1.1.1.0 c.requires.1.1.1.1.1.1.1.1.1.1.1.1.1.1.1.1.1.0 c.in-Ok.lanes.items c.in-Ok.ensures.made c.disks_hold_one_thing.ensures in
     record {
-      done = on_ok_weaker c.run_lanes-ran.result (found_all c.args.find.now c.args.planning.now _ c.in-Ok.lanes.items c.args.rest _ _ _ _ _ _ runs) c.run_lanes-ran.ensures.done;
+      done = on_ok_weaker c.run_lanes-ran.result (found_all c.args.find.now c.args.planning.now _ c.in-Ok.lanes.items c.args.rest _ _ _ _ _ _ runs) c.run_lanes-ran.ensures.ends.done;
       accepted =
           all_accepted c.args.find.now c.args.planning.now _ c.in-Ok.lanes.items c.run_lanes-ran.new.lanes.items c.args.rest _ (g.H.Shelf.disk_history c.args.shelf.now) _ c.requires.1.1.1.1.1.1.1.1.1.1.1.1.1.0 _ c.requires.1.1.1.1.1.1.1.1.1.1.1.1.1.1.0
           c.requires.1.1.1.1.1.1.1.1.1.1.1.1.1.1.1.1.1.0.begun.format c.requires.1.1.1.1.1.1.1.1.1.1.1.1.1.1.1.1.1.0.begun.generation c.requires.1.1.1.1.1.1.1.1.1.1.1.1.1.1.1.1.1.0.begun.cut begun starts runs c.run_lanes-ran.result;
-      prefix = on_err_weaker c.run_lanes-ran.result (found_some c.args.find.now c.args.planning.now _ c.in-Ok.lanes.items c.args.rest _ _ _ _ runs) c.run_lanes-ran.ensures.prefix;
+      prefix = on_err_weaker c.run_lanes-ran.result (found_some c.args.find.now c.args.planning.now _ c.in-Ok.lanes.items c.args.rest _ _ _ _ runs) c.run_lanes-ran.ensures.ends.prefix;
       listed =
           IfErr-weaker c.run_lanes-ran.result _ _
-          (λ halt told report. found_listing c.args.find.now c.args.planning.now _ c.in-Ok.lanes.items c.args.rest _ _ _ _ runs (told report)) c.run_lanes-ran.ensures.listed;
-      untouched = none_refused _ _ (λ r told. told) (λ why told. told) c.run_lanes-ran.result c.run_lanes-ran.ensures.cause;
-      quiet = c.run_lanes-ran.ensures.quiet;
+          (λ halt told report. found_listing c.args.find.now c.args.planning.now _ c.in-Ok.lanes.items c.args.rest _ _ _ _ runs (told report)) c.run_lanes-ran.ensures.ends.listed;
+      untouched = none_refused _ _ (λ r told. told) (λ why told. told) c.run_lanes-ran.result c.run_lanes-ran.ensures.ends.cause;
+      quiet = c.run_lanes-ran.ensures.ends.quiet;
       cause =
           all_causes c.args.find.now c.args.planning.now _ c.in-Ok.lanes.items c.run_lanes-ran.new.lanes.items c.args.rest _ _ _ c.requires.1.1.1.1.1.1.1.1.1.1.1.1.1.0 _ c.requires.1.1.1.1.1.1.1.1.1.1.1.1.1.1.0
-          c.requires.1.1.1.1.1.1.1.1.1.1.1.1.1.1.1.1.1.0.begun.format c.requires.1.1.1.1.1.1.1.1.1.1.1.1.1.1.1.1.1.0.begun.generation c.requires.1.1.1.1.1.1.1.1.1.1.1.1.1.1.1.1.1.0.begun.cut begun starts runs c.run_lanes-ran.result _ _ c.run_lanes-ran.ensures.cause c.run_lanes-ran.ensures.faults
+          c.requires.1.1.1.1.1.1.1.1.1.1.1.1.1.1.1.1.1.0.begun.format c.requires.1.1.1.1.1.1.1.1.1.1.1.1.1.1.1.1.1.0.begun.generation c.requires.1.1.1.1.1.1.1.1.1.1.1.1.1.1.1.1.1.0.begun.cut begun starts runs c.run_lanes-ran.result _ _ c.run_lanes-ran.ensures.ends.cause c.run_lanes-ran.ensures.told.faults
           (generations_end g.H.Dsk.Disk.history g.H.Dsk.Disk.fault_count c.crashes_leave_images.ensures.images c.disks_hold_one_thing.ensures c.args.find.now c.requires.1.1.1.1.1.1.1.1.1.1.1.1.1.1.1.1.1.0.begun
-          _ _ _ _ c.args.keep.now c.run_lanes-ran.new.keep c.run_lanes-ran.result c.requires.1.1.1.1.1.1.1.1.1.1.1.1.1.1.1.1.1.0.is_found c.requires.1.1.1.1.1.1.1.1.1.1.1.1.1.1.1.1.1.1.0 c.requires.1.1.1.1.1.1.1.1.1.1.1.1.1.1.1.1.1.1.1 c.run_lanes-ran.ensures.keeps);
+          _ _ _ _ c.args.keep.now c.run_lanes-ran.new.keep c.run_lanes-ran.result c.requires.1.1.1.1.1.1.1.1.1.1.1.1.1.1.1.1.1.0.is_found c.requires.1.1.1.1.1.1.1.1.1.1.1.1.1.1.1.1.1.1.0 c.requires.1.1.1.1.1.1.1.1.1.1.1.1.1.1.1.1.1.1.1 c.run_lanes-ran.ensures.ends.keeps);
       moments = λ asked.
           keeps_cuts c.puts_go_on.ensures c.crashes_leave_images.ensures.images c.disks_hold_one_thing.ensures c.tested_cuts_are_accepted.ensures.one c.args.find.now c.args.planning.now
           c.requires.1.1.1.1.1.1.1.1.1.1.1.1.0 _ _ _ c.in-Ok.lanes.items c.args.rest c.requires.1.1.1.1.1.1.1.1.1.1.1.1.1.1.1.1.1.0.begun c.requires.1.1.1.1.1.1.1.1.1.1.1.1.1.1.1.1.1.0.is_found c.requires.1.1.1.1.1.1.1.1.1.1.1.1.1.1.1.1.1.0.rest_is runs
-          c.args.head c.requires.1.1.1.1.1.1.1.1.1.1.1.1.1.1.1.1.1.0.head_is (g.K.Sink.written c.args.out.now) (g.K.Sink.written c.run_lanes-ran.new.out) g.H.Dsk.Disk.history g.H.Dsk.Disk.fault_count c.run_lanes-ran.result c.args.keep.now c.run_lanes-ran.new.keep asked c.requires.1.1.1.1.1.1.1.1.1.1.1.1.1.1.1.1.1.1.0 c.requires.1.1.1.1.1.1.1.1.1.1.1.1.1.1.1.1.1.1.1 c.run_lanes-ran.ensures.keeps;
-      cut_kept = none_refused _ _ (λ r told. told) (λ why told. told) c.run_lanes-ran.result c.run_lanes-ran.ensures.cause;
+          c.args.head c.requires.1.1.1.1.1.1.1.1.1.1.1.1.1.1.1.1.1.0.head_is (g.K.Sink.written c.args.out.now) (g.K.Sink.written c.run_lanes-ran.new.out) g.H.Dsk.Disk.history g.H.Dsk.Disk.fault_count c.run_lanes-ran.result c.args.keep.now c.run_lanes-ran.new.keep asked c.requires.1.1.1.1.1.1.1.1.1.1.1.1.1.1.1.1.1.1.0 c.requires.1.1.1.1.1.1.1.1.1.1.1.1.1.1.1.1.1.1.1 c.run_lanes-ran.ensures.ends.keeps;
+      cut_kept = none_refused _ _ (λ r told. told) (λ why told. told) c.run_lanes-ran.result c.run_lanes-ran.ensures.ends.cause;
     }
 
 pub returns-clause-told : goal.returns-clause-told
@@ -125,20 +125,20 @@ returns-clause-told g c =
       faults =
           faults_then _ _ _ c.in-Ok.ensures.steady_named c.run_lanes-ran.result
           (faults_as g.H.Src.Source.left g.H.Src.Source.lent_as c.args.find.now c.in-Ok.lanes.items c.run_lanes-ran.new.lanes.items _ _ _ _ named
-          c.run_lanes-ran.ensures.lanes c.give_lanes.ensures.back c.run_lanes-ran.result c.run_lanes-ran.ensures.faults);
+          c.run_lanes-ran.ensures.lanes c.give_lanes.ensures.back c.run_lanes-ran.result c.run_lanes-ran.ensures.told.faults);
       count =
           count_then _ _ _ c.in-Ok.ensures.steady c.run_lanes-ran.result
           (count_as g.H.Src.Source.left g.H.Src.Source.lent_as c.args.find.now c.in-Ok.lanes.items c.run_lanes-ran.new.lanes.items _ _ _ _ named
-          c.run_lanes-ran.ensures.lanes c.give_lanes.ensures.back c.run_lanes-ran.result c.run_lanes-ran.ensures.faults);
-      absences = absence_as _ (λ r told. told) c.run_lanes-ran.result _ _ c.run_lanes-ran.ensures.cause (c.give_lanes.ensures.counts.1 ∙ c.in-Ok.ensures.counts.1);
-      disk = c.run_lanes-ran.ensures.disk;
-      out = c.run_lanes-ran.ensures.out;
-      err = c.run_lanes-ran.ensures.err;
+          c.run_lanes-ran.ensures.lanes c.give_lanes.ensures.back c.run_lanes-ran.result c.run_lanes-ran.ensures.told.faults);
+      absences = absence_as _ (λ r told. told) c.run_lanes-ran.result _ _ c.run_lanes-ran.ensures.ends.cause (c.give_lanes.ensures.counts.1 ∙ c.in-Ok.ensures.counts.1);
+      disk = c.run_lanes-ran.ensures.told.disk;
+      out = c.run_lanes-ran.ensures.told.out;
+      err = c.run_lanes-ran.ensures.told.err;
       reads_rise = rises_then _ _ _ c.in-Ok.ensures.steady c.give_lanes.ensures.counts.0;
       absences_rise = none_falls _ _ (c.give_lanes.ensures.counts.1 ∙ c.in-Ok.ensures.counts.1);
-      disks_rise = c.run_lanes-ran.ensures.counts.2;
-      writes_rise = c.run_lanes-ran.ensures.counts.0;
-      errors_rise = c.run_lanes-ran.ensures.counts.1;
+      disks_rise = c.run_lanes-ran.ensures.told.disks_rise;
+      writes_rise = c.run_lanes-ran.ensures.told.writes_rise;
+      errors_rise = c.run_lanes-ran.ensures.told.errors_rise;
     }
 
 pub returns-clause-unfailing : goal.returns-clause-unfailing
@@ -155,8 +155,8 @@ returns-clause-lent g c =
 
 pub returns-clause-no_keep : goal.returns-clause-no_keep
 returns-clause-no_keep g c =
-    still_none g.H.Dsk.Disk.history g.H.Dsk.Disk.fault_count _ _ _ c.run_lanes-ran.result c.args.keep.now c.run_lanes-ran.new.keep c.run_lanes-ran.ensures.keeps
+    still_none g.H.Dsk.Disk.history g.H.Dsk.Disk.fault_count _ _ _ c.run_lanes-ran.result c.args.keep.now c.run_lanes-ran.new.keep c.run_lanes-ran.ensures.ends.keeps
 
 pub returns-clause-some_keep : goal.returns-clause-some_keep
 returns-clause-some_keep g c =
-    still_some g.H.Dsk.Disk.history g.H.Dsk.Disk.fault_count _ _ _ c.run_lanes-ran.result c.args.keep.now c.run_lanes-ran.new.keep c.run_lanes-ran.ensures.keeps
+    still_some g.H.Dsk.Disk.history g.H.Dsk.Disk.fault_count _ _ _ c.run_lanes-ran.result c.args.keep.now c.run_lanes-ran.new.keep c.run_lanes-ran.ensures.ends.keeps
