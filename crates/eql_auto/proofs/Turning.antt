@@ -1,4 +1,4 @@
--- Emptying, moving on and beginning are one act on all slots.
+-- Emptying, moving on and beginning are one key_event on all slots.
 use Rattle.std.proofs.Common.{◌≡◌, ℕ, zero, suc, ◌<◌, ◌≤◌, ◌+◌, ℤ, Bool, true, false, cond, List, [], ◌∷◌, ◌++◌, Option, Some, None, refl, sym, ap, ◌∙◌, arith, subst, length, get_or, map, inl, inr, IfSome}
 use Rattle.std.specs.Prelude.{not, ◌||◌, ◌&&◌, ◌==◌, is_some}
 use Rattle.std.specs.Option.{option_map, option_or, option_to_list}
@@ -10,7 +10,7 @@ use Rattle.std.specs.List.{All}
 use Rattle.std.specs.List.Sorted.{IsPermutation}
 use Rattle.eql_values.specs.declared.order.OrderKey.{OrderKey}
 use Rattle.eql_values.specs.declared.item.Mask.{Mask}
-use Rattle.eql_values.specs.declared.item.Act.{Act}
+use Rattle.eql_values.specs.declared.item.KeyEvent.{KeyEvent}
 use Rattle.eql_values.specs.Masks.{has_after}
 use Rattle.eql_values.specs.Chains.{fits_after, in_time, chain, holder}
 use Rattle.eql_values.specs.OrderKeys.{order_cmp}
@@ -19,7 +19,7 @@ use Rattle.std.specs.declared.cmp.Ordering.TheVariants.{Less}
 use Rattle.eql_values.specs.Ordered.{found_or}
 use Rattle.eql_laws.specs.Slots.{Slots, chain_moved_on, chain_coming, slots_after}
 use Rattle.eql_laws.specs.Steps.{StepMovesSlots, StepMakesChain}
-use Rattle.eql_auto.specs.Machine.{AllAreBefore, ComesAfter, Sequence, act_of, alive_in, arrived_at, chains_of, slot_at, slot_after, tags_of, went_on}
+use Rattle.eql_auto.specs.Machine.{AllAreBefore, ComesAfter, Sequence, key_event_of, alive_in, arrived_at, chains_of, slot_at, slot_after, tags_of, went_on}
 use Rattle.eql_auto.specs.Moves.{with_new_sequence, chain_in, coming_to, moved_to}
 use Rattle.eql_auto.proofs.Written.{get_or_any}
 
@@ -77,7 +77,7 @@ module _ {T : Type 0} where
 
     pub turned : (tag : Option T) (advanced after : List (Option (Sequence T))) → is_some tag ≡ has_after 0 mask → length advanced ≡ length old
         → ((k : ℕ) → 1 ≤ k → k ≤ length old → slot_at advanced k ≡ moved_to span event mask emptied k) → after ≡ with_new_sequence event tag advanced
-        → (k : ℕ) → 1 ≤ k → k < suc (length old) → slot_at after k ≡ slot_after span tag (act_of event mask until) old k
+        → (k : ℕ) → 1 ≤ k → k < suc (length old) → slot_at after k ≡ slot_after span tag (key_event_of event mask until) old k
     turned tag advanced after tagged len is w zero low high = absurd (omega arith)
     turned (Some t) advanced after tagged len is w (suc zero) low high =
         ap (λ (l : List (Option (Sequence T))). slot_at l 1) w ∙ get_or-set_same advanced 0 (Some (event ∷ [], t)) None (omega arith)
@@ -92,14 +92,14 @@ module _ {T : Type 0} where
 
     first_chain : (tag : Option T) (completed : Option (List OrderKey)) → is_some tag ≡ has_after 0 mask
         → completed ≡ chain_in (coming_to span event mask emptied (suc zero))
-        → option_or (option_map (λ _. event ∷ []) tag) completed ≡ chain_in (arrived_at span tag (act_of event mask until) old (suc zero))
+        → option_or (option_map (λ _. event ∷ []) tag) completed ≡ chain_in (arrived_at span tag (key_event_of event mask until) old (suc zero))
     first_chain (Some t) completed tagged is = ap (λ b. chain_in (cond b (Some (event ∷ [], t)) None)) tagged
     first_chain None completed tagged is = is
 
     -- the chain that is returned
     pub answered : (n : ℕ) (tag : Option T) (new completed answer : Option (List OrderKey)) → is_some tag ≡ has_after 0 mask
         → new ≡ cond (0 == n) (option_map (λ _. event ∷ []) tag) None → completed ≡ chain_in (coming_to span event mask emptied (suc n)) → answer ≡ option_or new completed
-        → answer ≡ chain_in (arrived_at span tag (act_of event mask until) old (suc n))
+        → answer ≡ chain_in (arrived_at span tag (key_event_of event mask until) old (suc n))
     answered zero tag new completed answer tagged b is a = a ∙ ap (λ (o : Option (List OrderKey)). option_or o completed) b ∙ first_chain tag completed tagged is
     answered (suc n) tag new completed answer tagged b is a =
         let more : (0 == suc n) ≡ false = grind (arith, nat_tests) in
@@ -119,47 +119,47 @@ module _ {T : Type 0} where
   chain_or None b = refl
   chain_or (Some s) b = refl
 
-  chain_moved : (span : Option ℤ) (act : Act) (o : Option (Sequence T)) → chain_in (went_on span act.order o) ≡ chain_moved_on span (chain_in o) act
-  chain_moved span act None = refl
-  chain_moved span act (Some s) = chain_cond (in_time span s.0 act.order.ts) (Some (s.0 ++ act.order ∷ [], s.1))
+  chain_moved : (span : Option ℤ) (key_event : KeyEvent) (o : Option (Sequence T)) → chain_in (went_on span key_event.order o) ≡ chain_moved_on span (chain_in o) key_event
+  chain_moved span key_event None = refl
+  chain_moved span key_event (Some s) = chain_cond (in_time span s.0 key_event.order.ts) (Some (s.0 ++ key_event.order ∷ [], s.1))
 
-  chain_first : (act : Act) (tag : Option T) → is_some tag ≡ fits_after 0 act
-      → chain_in (cond (fits_after 0 act) (option_map (λ t. (act.order ∷ [], t)) tag) None) ≡ cond (fits_after 0 act) (Some (act.order ∷ [])) None
-  chain_first act (Some t) tagged = chain_cond (fits_after 0 act) (Some (act.order ∷ [], t))
-  chain_first act None tagged =
-      chain_cond (fits_after 0 act) None ∙ ap (λ b. cond b None None) (sym tagged) ∙ ap (λ b. cond b (Some (act.order ∷ [])) None) tagged
+  chain_first : (key_event : KeyEvent) (tag : Option T) → is_some tag ≡ fits_after 0 key_event
+      → chain_in (cond (fits_after 0 key_event) (option_map (λ t. (key_event.order ∷ [], t)) tag) None) ≡ cond (fits_after 0 key_event) (Some (key_event.order ∷ [])) None
+  chain_first key_event (Some t) tagged = chain_cond (fits_after 0 key_event) (Some (key_event.order ∷ [], t))
+  chain_first key_event None tagged =
+      chain_cond (fits_after 0 key_event) None ∙ ap (λ b. cond b None None) (sym tagged) ∙ ap (λ b. cond b (Some (key_event.order ∷ [])) None) tagged
 
-  pub chain_arrived : (span : Option ℤ) (tag : Option T) (act : Act) (old : List (Option (Sequence T))) (k : ℕ) → is_some tag ≡ fits_after 0 act
-      → chain_in (arrived_at span tag act old k) ≡ chain_coming span (chains_of old) act k
-  chain_arrived span tag act old zero tagged = refl
-  chain_arrived span tag act old (suc zero) tagged = chain_first act tag tagged
-  chain_arrived span tag act old (suc (suc k)) tagged =
-      chain_cond (fits_after (suc k) act && not act.until) (went_on span act.order (slot_at old (suc k)))
-      ∙ ap (λ (o : Option (List OrderKey)). cond (fits_after (suc k) act && not act.until) o None) (chain_moved span act (slot_at old (suc k)))
+  pub chain_arrived : (span : Option ℤ) (tag : Option T) (key_event : KeyEvent) (old : List (Option (Sequence T))) (k : ℕ) → is_some tag ≡ fits_after 0 key_event
+      → chain_in (arrived_at span tag key_event old k) ≡ chain_coming span (chains_of old) key_event k
+  chain_arrived span tag key_event old zero tagged = refl
+  chain_arrived span tag key_event old (suc zero) tagged = chain_first key_event tag tagged
+  chain_arrived span tag key_event old (suc (suc k)) tagged =
+      chain_cond (fits_after (suc k) key_event && not key_event.until) (went_on span key_event.order (slot_at old (suc k)))
+      ∙ ap (λ (o : Option (List OrderKey)). cond (fits_after (suc k) key_event && not key_event.until) o None) (chain_moved span key_event (slot_at old (suc k)))
 
-  pub chain_after : (span : Option ℤ) (tag : Option T) (act : Act) (old : List (Option (Sequence T))) (k : ℕ) → is_some tag ≡ fits_after 0 act
-      → chain_in (slot_after span tag act old k) ≡ slots_after span (chains_of old) act k
-  chain_after span tag act old k tagged =
-      chain_or (arrived_at span tag act old k) (cond (fits_after k act || act.until) None (slot_at old k))
-      ∙ (λ i. found_or (chain_arrived span tag act old k tagged i) (chain_kept (fits_after k act || act.until) (slot_at old k) i))
+  pub chain_after : (span : Option ℤ) (tag : Option T) (key_event : KeyEvent) (old : List (Option (Sequence T))) (k : ℕ) → is_some tag ≡ fits_after 0 key_event
+      → chain_in (slot_after span tag key_event old k) ≡ slots_after span (chains_of old) key_event k
+  chain_after span tag key_event old k tagged =
+      chain_or (arrived_at span tag key_event old k) (cond (fits_after k key_event || key_event.until) None (slot_at old k))
+      ∙ (λ i. found_or (chain_arrived span tag key_event old k tagged i) (chain_kept (fits_after k key_event || key_event.until) (slot_at old k) i))
 
 -- the laws look at a slot and the one before alone
-arrived_alike : (span : Option ℤ) (s t : Slots) (act : Act) (k : ℕ) → ((j : ℕ) → 1 ≤ j → j < k → s j ≡ t j) → chain_coming span s act k ≡ chain_coming span t act k
-arrived_alike span s t act zero same = refl
-arrived_alike span s t act (suc zero) same = refl
-arrived_alike span s t act (suc (suc k)) same = ap (λ (o : Option (List OrderKey)). cond (fits_after (suc k) act && not act.until) (chain_moved_on span o act) None) (same (suc k) (omega arith) (omega arith))
+arrived_alike : (span : Option ℤ) (s t : Slots) (key_event : KeyEvent) (k : ℕ) → ((j : ℕ) → 1 ≤ j → j < k → s j ≡ t j) → chain_coming span s key_event k ≡ chain_coming span t key_event k
+arrived_alike span s t key_event zero same = refl
+arrived_alike span s t key_event (suc zero) same = refl
+arrived_alike span s t key_event (suc (suc k)) same = ap (λ (o : Option (List OrderKey)). cond (fits_after (suc k) key_event && not key_event.until) (chain_moved_on span o key_event) None) (same (suc k) (omega arith) (omega arith))
 
-pub slots_go_on : StepMovesSlots → (span : Option ℤ) (opening s : Slots) (act : Act) (past : List Act) (k : ℕ) → 1 ≤ k → ((j : ℕ) → 1 ≤ j → j < suc k → s j ≡ holder span opening j past)
-    → slots_after span s act k ≡ holder span opening k (act ∷ past)
-slots_go_on law span opening s act past k low same =
-    (λ i. found_or (arrived_alike span s (λ j. holder span opening j past) act k (λ j from below. same j from (omega arith)) i)
-    (cond (fits_after k act || act.until) None (same k low (omega arith) i)))
-    ∙ sym (law span opening k act past)
+pub slots_go_on : StepMovesSlots → (span : Option ℤ) (opening s : Slots) (key_event : KeyEvent) (past : List KeyEvent) (k : ℕ) → 1 ≤ k → ((j : ℕ) → 1 ≤ j → j < suc k → s j ≡ holder span opening j past)
+    → slots_after span s key_event k ≡ holder span opening k (key_event ∷ past)
+slots_go_on law span opening s key_event past k low same =
+    (λ i. found_or (arrived_alike span s (λ j. holder span opening j past) key_event k (λ j from below. same j from (omega arith)) i)
+    (cond (fits_after k key_event || key_event.until) None (same k low (omega arith) i)))
+    ∙ sym (law span opening k key_event past)
 
-pub answer_goes_on : StepMakesChain → (span : Option ℤ) (opening s : Slots) (act : Act) (past : List Act) (m : ℕ) → ((j : ℕ) → 1 ≤ j → j < m → s j ≡ holder span opening j past)
-    → chain_coming span s act m ≡ chain span opening m (act ∷ past)
-answer_goes_on law span opening s act past m same =
-    arrived_alike span s (λ j. holder span opening j past) act m same ∙ sym (law span opening m act past)
+pub answer_goes_on : StepMakesChain → (span : Option ℤ) (opening s : Slots) (key_event : KeyEvent) (past : List KeyEvent) (m : ℕ) → ((j : ℕ) → 1 ≤ j → j < m → s j ≡ holder span opening j past)
+    → chain_coming span s key_event m ≡ chain span opening m (key_event ∷ past)
+answer_goes_on law span opening s key_event past m same =
+    arrived_alike span s (λ j. holder span opening j past) key_event m same ∙ sym (law span opening m key_event past)
 
 -- there are at most as many tags as slots
 pub few_tags : {T : Type 0} (slots : List (Option (Sequence T))) → length (tags_of slots) ≤ length slots
@@ -224,30 +224,30 @@ later_or : {T : Type 0} (event : OrderKey) (o p : Option (Sequence T)) → Comes
 later_or event None p h g = g
 later_or event (Some s) p h g = h
 
-module _ {T : Type 0} (span : Option ℤ) (next : OrderKey) (act : Act) (less : order_cmp act.order next ≡ Less) where
-  later_went : (o : Option (Sequence T)) → ComesAfter act.order o → ComesAfter next (went_on span act.order o)
+module _ {T : Type 0} (span : Option ℤ) (next : OrderKey) (key_event : KeyEvent) (less : order_cmp key_event.order next ≡ Less) where
+  later_went : (o : Option (Sequence T)) → ComesAfter key_event.order o → ComesAfter next (went_on span key_event.order o)
   later_went None h = tt
-  later_went (Some s) h = later_cond next (in_time span s.0 act.order.ts) (Some (s.0 ++ act.order ∷ [], s.1)) None (before_next act.order next s.0 less h) tt
+  later_went (Some s) h = later_cond next (in_time span s.0 key_event.order.ts) (Some (s.0 ++ key_event.order ∷ [], s.1)) None (before_next key_event.order next s.0 less h) tt
 
-  later_new : (tag : Option T) → ComesAfter next (option_map (λ t. (act.order ∷ [], t)) tag)
+  later_new : (tag : Option T) → ComesAfter next (option_map (λ t. (key_event.order ∷ [], t)) tag)
   later_new None = tt
-  later_new (Some t) = before_next act.order next [] less (λ k d l. absurd (omega arith))
+  later_new (Some t) = before_next key_event.order next [] less (λ k d l. absurd (omega arith))
 
-  module _ (old : List (Option (Sequence T))) (all : All (ComesAfter act.order) old) where
-    later_slot : (k : ℕ) → ComesAfter act.order (slot_at old k)
+  module _ (old : List (Option (Sequence T))) (all : All (ComesAfter key_event.order) old) where
+    later_slot : (k : ℕ) → ComesAfter key_event.order (slot_at old k)
     later_slot zero = tt
-    later_slot (suc i) = still_later act.order false old all i
+    later_slot (suc i) = still_later key_event.order false old all i
 
-    later_arrived : (tag : Option T) (k : ℕ) → ComesAfter next (arrived_at span tag act old k)
+    later_arrived : (tag : Option T) (k : ℕ) → ComesAfter next (arrived_at span tag key_event old k)
     later_arrived tag zero = tt
-    later_arrived tag (suc zero) = later_cond next (fits_after 0 act) (option_map (λ t. (act.order ∷ [], t)) tag) None (later_new tag) tt
+    later_arrived tag (suc zero) = later_cond next (fits_after 0 key_event) (option_map (λ t. (key_event.order ∷ [], t)) tag) None (later_new tag) tt
     later_arrived tag (suc (suc k)) =
-        later_cond next (fits_after (suc k) act && not act.until) (went_on span act.order (slot_at old (suc k))) None (later_went (slot_at old (suc k)) (later_slot (suc k))) tt
+        later_cond next (fits_after (suc k) key_event && not key_event.until) (went_on span key_event.order (slot_at old (suc k))) None (later_went (slot_at old (suc k)) (later_slot (suc k))) tt
 
-    pub later_after : (tag : Option T) (k : ℕ) → ComesAfter next (slot_after span tag act old k)
+    pub later_after : (tag : Option T) (k : ℕ) → ComesAfter next (slot_after span tag key_event old k)
     later_after tag k =
-        later_or next (arrived_at span tag act old k) (cond (fits_after k act || act.until) None (slot_at old k)) (later_arrived tag k)
-        (later_cond next (fits_after k act || act.until) None (slot_at old k) tt (later_still act.order next (slot_at old k) less (later_slot k)))
+        later_or next (arrived_at span tag key_event old k) (cond (fits_after k key_event || key_event.until) None (slot_at old k)) (later_arrived tag k)
+        (later_cond next (fits_after k key_event || key_event.until) None (slot_at old k) tt (later_still key_event.order next (slot_at old k) less (later_slot k)))
 
 -- each slot of a list, by its stage
 pub all_by_stage : {T : Type 0} (P : Option (Sequence T) → Type 0) (slots : List (Option (Sequence T))) → ((k : ℕ) → 1 ≤ k → k < suc (length slots) → P (slot_at slots k)) → All P slots

@@ -4,7 +4,7 @@ use Rattle.std.specs.List.{filter_map}
 use Rattle.std.specs.Option.{option_map}
 use Rattle.std.specs.declared.cmp.Ordering.TheVariants.{Less}
 use Rattle.eql_values.specs.declared.order.OrderKey.{OrderKey}
-use Rattle.eql_values.specs.declared.item.Act.{Act}
+use Rattle.eql_values.specs.declared.item.KeyEvent.{KeyEvent}
 use Rattle.eql_values.specs.declared.item.Mask.{Mask}
 use Rattle.eql_values.specs.Chains.{fits_after, in_time, chain, holder}
 use Rattle.eql_laws.specs.Slots.{Slots}
@@ -35,8 +35,8 @@ pub record Machine (T : Type 0) : Type 0 where
   pub is_ready : Bool
 
 -- what an event says to the key
-abbrev pub act_of : OrderKey → Mask → Bool → Act
-act_of order mask until = record { order = order; mask = mask; until = until }
+abbrev pub key_event_of : OrderKey → Mask → Bool → KeyEvent
+key_event_of order mask until = record { order = order; mask = mask; until = until }
 
 -- the machine has a slot for each stage but the last
 abbrev pub stages : {T : Type 0} → Machine T → ℕ
@@ -80,22 +80,22 @@ module _ {T : Type 0} where
   abbrev pub stage_chains : List (Option (Sequence T)) → List (ℕ × List OrderKey)
   stage_chains slots = chains_to slots (length slots)
 
-  -- what comes to a stage with an act: to stage 1 a new sequence with the tag given, to a later one the sequence of the stage before, moved on,
-  -- unless the act ends the key
-  abbrev pub arrived_at : Option ℤ → Option T → Act → List (Option (Sequence T)) → ℕ → Option (Sequence T)
-  arrived_at span tag act slots zero = None
-  arrived_at span tag act slots (suc zero) = if fits_after 0 act then option_map (λ t. (act.order ∷ [], t)) tag else None
-  arrived_at span tag act slots (suc (suc k)) = if fits_after (suc k) act && not act.until then went_on span act.order (slot_at slots (suc k)) else None
+  -- what comes to a stage with an key_event: to stage 1 a new sequence with the tag given, to a later one the sequence of the stage before, moved on,
+  -- unless the key_event ends the key
+  abbrev pub arrived_at : Option ℤ → Option T → KeyEvent → List (Option (Sequence T)) → ℕ → Option (Sequence T)
+  arrived_at span tag key_event slots zero = None
+  arrived_at span tag key_event slots (suc zero) = if fits_after 0 key_event then option_map (λ t. (key_event.order ∷ [], t)) tag else None
+  arrived_at span tag key_event slots (suc (suc k)) = if fits_after (suc k) key_event && not key_event.until then went_on span key_event.order (slot_at slots (suc k)) else None
 
-  -- the slot of a stage after the act: what came; else what was there, unless the act fits the next stage, to which it went, or ends the key
-  abbrev pub slot_after : Option ℤ → Option T → Act → List (Option (Sequence T)) → ℕ → Option (Sequence T)
-  slot_after span tag act slots k = found_or (arrived_at span tag act slots k) (if fits_after k act || act.until then None else slot_at slots k)
+  -- the slot of a stage after the key_event: what came; else what was there, unless the key_event fits the next stage, to which it went, or ends the key
+  abbrev pub slot_after : Option ℤ → Option T → KeyEvent → List (Option (Sequence T)) → ℕ → Option (Sequence T)
+  slot_after span tag key_event slots k = found_or (arrived_at span tag key_event slots k) (if fits_after k key_event || key_event.until then None else slot_at slots k)
 
   -- the machine has in its slots what the look-back finds pending after a past, from these opening chains
-  abbrev pub IsAfter : Slots → List Act → Machine T → Type 0
+  abbrev pub IsAfter : Slots → List KeyEvent → Machine T → Type 0
   IsAfter opening past machine = (k : ℕ) → 1 ≤ k → k < stages machine → chains_of machine.slots k ≡ holder machine.span opening k past
 
-  -- after any past that a machine stood after, the turn takes it on by one act, and returns the chain that the look-back finds of the last stage
-  abbrev pub IsAfterTurn : Slots → Machine T → Act → Machine T → Option (List OrderKey) → Type 0
-  IsAfterTurn opening before act now answer = (past : List Act) → IsAfter opening past before
-      → IsAfter opening (act ∷ past) now × (answer ≡ chain before.span opening (stages before) (act ∷ past))
+  -- after any past that a machine stood after, the turn takes it on by one key_event, and returns the chain that the look-back finds of the last stage
+  abbrev pub IsAfterTurn : Slots → Machine T → KeyEvent → Machine T → Option (List OrderKey) → Type 0
+  IsAfterTurn opening before key_event now answer = (past : List KeyEvent) → IsAfter opening past before
+      → IsAfter opening (key_event ∷ past) now × (answer ≡ chain before.span opening (stages before) (key_event ∷ past))

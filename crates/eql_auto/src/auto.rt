@@ -8,7 +8,7 @@ ghost use Rattle.eql_values.specs.Masks.{has_after};
 ghost use Rattle.eql_values.specs.OrderKeys.{order_cmp};
 ghost use Rattle.eql_laws.specs.Slots.{Slots, slots_after, chain_coming};
 ghost use Rattle.eql_auto.specs.Holding.{holder_of};
-ghost use Rattle.eql_auto.specs.Machine.{ComesAfter, IsAfterTurn, act_of, alive_in, chains_of, slot_at, slot_after, stage_chains, stages, stages_in, tags_of};
+ghost use Rattle.eql_auto.specs.Machine.{ComesAfter, IsAfterTurn, key_event_of, alive_in, chains_of, slot_at, slot_after, stage_chains, stages, stages_in, tags_of};
 ghost use Rattle.eql_auto.specs.Starts.{first_event};
 
 use crate::moves::{advance_all, begin_new, empty_at_end, empty_stale};
@@ -118,7 +118,7 @@ impl<T: Copy, L: Ledger> Auto<T, L> {
     /// Plays an event that fits the stages of the mask, and the until item where `until` is true. It returns the chain
     /// that has its event for the last stage then, or `None` where none has. It takes no memory.
     ///
-    /// An event that ends the key first empties all slots. Then it acts from the last stage to the first: a sequence
+    /// An event that ends the key first empties all slots. Then it key_events from the last stage to the first: a sequence
     /// moves on by the event where it is in time, and is dropped where it isn't; what comes to an occupied slot
     /// overwrites the older one; an event that fits stage 1 begins a sequence, with the tag given. Bits of the mask from
     /// the number of stages on mean nothing.
@@ -137,13 +137,14 @@ impl<T: Copy, L: Ledger> Auto<T, L> {
         ensures span { self.new.span ≡ self.old.span }
         ensures stages { length self.new.slots ≡ length self.old.slots }
         ensures sequences { (k : ℕ) → 1 ≤ k → k < stages self.old → slot_at self.new.slots k
-            ≡ slot_after self.old.span tag (act_of order mask until) self.old.slots k }
+            ≡ slot_after self.old.span tag (key_event_of order mask until) self.old.slots k }
         ensures slots { (k : ℕ) → 1 ≤ k → k < stages self.old → chains_of self.new.slots k
-            ≡ slots_after self.old.span (chains_of self.old.slots) (act_of order mask until) k }
+            ≡ slots_after self.old.span (chains_of self.old.slots)
+            (key_event_of order mask until) k }
         ensures answer { result ≡ chain_coming self.old.span (chains_of self.old.slots)
-            (act_of order mask until) (stages self.old) }
+            (key_event_of order mask until) (stages self.old) }
         ensures after { (opening : Slots) → IsAfterTurn opening self.old
-            (act_of order mask until) self.new result }
+            (key_event_of order mask until) self.new result }
         ensures gone { IsPermutation (self.new.gone ++ tags_of self.new.slots)
             (option_to_list tag ++ tags_of self.old.slots) }
         ensures later { (next : OrderKey) → order_cmp order next ≡ Less

@@ -20,7 +20,7 @@ use Rattle.eql_check.specs.Calls.{given_by}
 use Rattle.eql_check.specs.ThreeValued.{truth}
 use Rattle.eql_check.specs.Comparisons.{says, order_of, compared_with_null, compares, matches_one, is_among}
 use Rattle.eql_check.specs.Arithmetic.{floor_div, floor_rest, fits_long, long_or_null, unless_zero, result_of, math_value, negative_value}
-use Rattle.eql_check.specs.Functions.{with_one, with_two, with_two_or_three, with_three_or_four, number_or_null, text_or_null, length_of, test_value, stands_in, place_of, part_of, between_of, text_of, texts_of, number_of, address_of, lies_in, lies_in_one, cidr_match, call_value}
+use Rattle.eql_check.specs.Functions.{with_one, with_two, with_two_or_three, with_three_or_four, number_or_null, text_or_null, length_of, test_value, stands_in, index_or_null, part_of, between_of, text_of, texts_of, number_of, address_of, lies_in, lies_in_one, cidr_match, call_value}
 use Rattle.eql_check.specs.Truth.{means, values, is_literal_null, call_of}
 use Rattle.eql_check.specs.Typing.{HasKind, of_null, of_bool, of_long, of_str, of_field, of_no_field, of_not, of_and, of_or, of_cmp, of_pattern, of_member, of_neg, of_math, of_call}
 use Rattle.eql_check.specs.Kept.{KeepsKinds}
@@ -146,7 +146,7 @@ tested_is : (test : List ℕ → List ℕ → Bool) (x y : Value) → is_of (Som
 tested_is test (value.Text s) (value.Text t) = refl
 tested_is test _ _ = refl
 
-place_is : (fold : Bool) (x y : Value) (z : Option Value) → is_of (Some kind.Long) (place_of fold x y z) ≡ true
+place_is : (fold : Bool) (x y : Value) (z : Option Value) → is_of (Some kind.Long) (index_or_null fold x y z) ≡ true
 place_is fold (value.Text s) (value.Text t) None = number_is _
 place_is fold (value.Text s) (value.Text t) (Some (value.Long from)) = number_is _
 place_is fold _ _ _ = refl
@@ -183,7 +183,7 @@ called_is Multiply fold vs = two_is kind.Long (math_value math.Mul) (computed_is
 called_is Divide fold vs = two_is kind.Long (math_value math.Div) (computed_is math.Div) vs
 called_is Modulo fold vs = two_is kind.Long (math_value math.Mod) (computed_is math.Mod) vs
 called_is Length fold vs = one_is kind.Long length_of length_is vs
-called_is IndexOf fold vs = three_is kind.Long (place_of fold) (place_is fold) vs
+called_is IndexOf fold vs = three_is kind.Long (index_or_null fold) (place_is fold) vs
 called_is StartsWith fold vs = two_is kind.Bool (test_value (starts fold)) (tested_is (starts fold)) vs
 called_is EndsWith fold vs = two_is kind.Bool (test_value (ends fold)) (tested_is (ends fold)) vs
 called_is StringContains fold vs = two_is kind.Bool (test_value (stands_in fold)) (tested_is (stands_in fold)) vs

@@ -63,10 +63,10 @@ stands_in fold s [] = false
 stands_in fold s (c ∷ t) = contains fold s (c ∷ t)
 
 -- the least place at or after a start, 0 where none is given
-abbrev pub place_of : Bool → Value → Value → Option Value → Value
-place_of fold (value.Text s) (value.Text t) None = number_or_null (index_of fold s t (pos 0))
-place_of fold (value.Text s) (value.Text t) (Some (value.Long from)) = number_or_null (index_of fold s t from)
-place_of fold _ _ _ = value.Null
+abbrev pub index_or_null : Bool → Value → Value → Option Value → Value
+index_or_null fold (value.Text s) (value.Text t) None = number_or_null (index_of fold s t (pos 0))
+index_or_null fold (value.Text s) (value.Text t) (Some (value.Long from)) = number_or_null (index_of fold s t from)
+index_or_null fold _ _ _ = value.Null
 
 -- a part of a text, up to its end where no end is given
 abbrev pub part_of : Value → Value → Option Value → Value
@@ -143,7 +143,7 @@ call_value Multiply fold vs = with_two (math_value math.Mul) vs
 call_value Divide fold vs = with_two (math_value math.Div) vs
 call_value Modulo fold vs = with_two (math_value math.Mod) vs
 call_value Length fold vs = with_one length_of vs
-call_value IndexOf fold vs = with_two_or_three (place_of fold) vs
+call_value IndexOf fold vs = with_two_or_three (index_or_null fold) vs
 call_value StartsWith fold vs = with_two (test_value (starts fold)) vs
 call_value EndsWith fold vs = with_two (test_value (ends fold)) vs
 call_value StringContains fold vs = with_two (test_value (stands_in fold)) vs

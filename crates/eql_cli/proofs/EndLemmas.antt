@@ -20,27 +20,27 @@ use Rattle.eql_runs.specs.RunLaws.{StatusIsOne, WritesOrIsRefused, ReadyIsNotRef
 use Rattle.eql_runs.specs.Runs.{AreTrusted, AskDisk, AsksDisk, CanRun, files_for, files_known, IfFound, IfTold, IsAccepted, IsFindAccepted, IsReady, IsRefused, IsReportOf, files_over, ReachesLimit, limit_text, names_of, IsRefusedAs, RefusesCut, ReportsOn, Runs, SearchesBeyond, Tells, TellsFront, Writes, WroteAll, WroteListing, WroteSome, by_cut, by_disk, by_files, by_shard}
 use Rattle.eql_runs.specs.Runs as runs
 use Rattle.eql_runs.specs.Starts.{DiskHolds, OnDisk}
-use Rattle.eql_inputs.specs.declared.halt.Refused.{Refused}
-use Rattle.eql_inputs.specs.declared.halt.Refused.TheVariants as refused
-use Rattle.eql_inputs.specs.declared.halt.Halt.TheVariants as halt
-use Rattle.eql_inputs.specs.Halts.{status_of, text_of, refusal_of}
-use Rattle.eql_find.specs.declared.halt.RunHalt.{RunHalt}
-use Rattle.eql_find.specs.declared.halt.RunHalt.TheVariants as run
-use Rattle.eql_find.specs.Halts.{run_status_of, cut_refusal_of, limit_of, IsRefusal, IsReport, IsFault, TellsNothing, FaultsFollow, CountFollows, AbsencesFollow, DiskFollows, OutFollows, ErrFollows}
+use Rattle.eql_inputs.specs.declared.error.Refused.{Refused}
+use Rattle.eql_inputs.specs.declared.error.Refused.TheVariants as refused
+use Rattle.eql_inputs.specs.declared.error.InputError.TheVariants as error
+use Rattle.eql_inputs.specs.Errors.{status_of, text_of, refusal_of}
+use Rattle.eql_find.specs.declared.error.FindError.{FindError}
+use Rattle.eql_find.specs.declared.error.FindError.TheVariants as run
+use Rattle.eql_find.specs.Errors.{run_status_of, cut_refusal_of, limit_of, IsRefusal, IsReport, IsFault, TellsNothing, FaultsFollow, CountFollows, AbsencesFollow, DiskFollows, OutFollows, ErrFollows}
 use Rattle.eql_find.specs.Finding.{ReportsFront}
 use Rattle.eql_find.specs.Finding as found
-use Rattle.eql_cli.specs.Running.{AsksFind, HasCause, IfRun, IsAcceptedBy, IsTrustedBy, RunsAll, RunsListing, RunsSome}
+use Rattle.eql_cli.specs.Running.{AsksFind, HasCommandCause, IfRun, IsAcceptedBy, IsTrustedBy, RunsAll, RunsListing, RunsSome}
 use Rattle.eql_cli.specs.Telling.{TellsRun}
 
 -- a run that stopped has a status above 0
-pub never_done : (h : RunHalt) → run_status_of h ≡ 0 → ⊥
-never_done (run.Files (halt.Refused (refused.NoFile name))) e = omega (arith, e)
-never_done (run.Files (halt.Refused (refused.Lex r))) e = omega (arith, e)
-never_done (run.Files (halt.Refused (refused.Parse r))) e = omega (arith, e)
-never_done (run.Files (halt.Refused (refused.Mapping r))) e = omega (arith, e)
-never_done (run.Files (halt.Refused (refused.Broken r))) e = omega (arith, e)
-never_done (run.Files (halt.Read name)) e = omega (arith, e)
-never_done (run.Files halt.Memory) e = omega (arith, e)
+pub never_done : (h : FindError) → run_status_of h ≡ 0 → ⊥
+never_done (run.Files (error.Refused (refused.NoFile name))) e = omega (arith, e)
+never_done (run.Files (error.Refused (refused.Lex r))) e = omega (arith, e)
+never_done (run.Files (error.Refused (refused.Parse r))) e = omega (arith, e)
+never_done (run.Files (error.Refused (refused.Mapping r))) e = omega (arith, e)
+never_done (run.Files (error.Refused (refused.Broken r))) e = omega (arith, e)
+never_done (run.Files (error.Read name)) e = omega (arith, e)
+never_done (run.Files error.Memory) e = omega (arith, e)
 never_done (run.Cut why) e = omega (arith, e)
 never_done run.Disk e = omega (arith, e)
 never_done run.Write e = omega (arith, e)
@@ -56,12 +56,12 @@ too_great n (inr (inr (inl e))) four other = omega (arith, e, four)
 too_great n (inr (inr (inr e))) four other = other e
 
 -- the statuses of refusals are of refusals alone
-pub refused_by_status : (h : RunHalt)
+pub refused_by_status : (h : FindError)
     → (run_status_of h ≡ 1) ⊎ (run_status_of h ≡ 2) ⊎ (run_status_of h ≡ 3) ⊎ (run_status_of h ≡ 7) → IsRefusal h
-refused_by_status (run.Files (halt.Refused r)) e = tt
+refused_by_status (run.Files (error.Refused r)) e = tt
 refused_by_status (run.Cut why) e = tt
-refused_by_status (run.Files (halt.Read name)) e = absurd (too_great _ e (omega arith) (λ seven. omega (arith, seven)))
-refused_by_status (run.Files halt.Memory) e = absurd (too_great _ e (omega arith) (λ seven. omega (arith, seven)))
+refused_by_status (run.Files (error.Read name)) e = absurd (too_great _ e (omega arith) (λ seven. omega (arith, seven)))
+refused_by_status (run.Files error.Memory) e = absurd (too_great _ e (omega arith) (λ seven. omega (arith, seven)))
 refused_by_status run.Disk e = absurd (too_great _ e (omega arith) (λ seven. omega (arith, seven)))
 refused_by_status run.Write e = absurd (too_great _ e (omega arith) (λ seven. omega (arith, seven)))
 refused_by_status (run.Limit l) e = absurd (too_great _ e (omega arith) (λ seven. omega (arith, seven)))
@@ -70,14 +70,14 @@ refused_by_status (run.Report by.Failed) e = absurd (too_great _ e (omega arith)
 refused_by_status (run.Report by.Memory) e = absurd (too_great _ e (omega arith) (λ seven. omega (arith, seven)))
 
 -- no run stops with the status of words that are no command
-pub never_usage : (h : RunHalt) → run_status_of h ≡ 2 → ⊥
-never_usage (run.Files (halt.Refused (refused.NoFile name))) e = omega (arith, e)
-never_usage (run.Files (halt.Refused (refused.Lex r))) e = omega (arith, e)
-never_usage (run.Files (halt.Refused (refused.Parse r))) e = omega (arith, e)
-never_usage (run.Files (halt.Refused (refused.Mapping r))) e = omega (arith, e)
-never_usage (run.Files (halt.Refused (refused.Broken r))) e = omega (arith, e)
-never_usage (run.Files (halt.Read name)) e = omega (arith, e)
-never_usage (run.Files halt.Memory) e = omega (arith, e)
+pub never_usage : (h : FindError) → run_status_of h ≡ 2 → ⊥
+never_usage (run.Files (error.Refused (refused.NoFile name))) e = omega (arith, e)
+never_usage (run.Files (error.Refused (refused.Lex r))) e = omega (arith, e)
+never_usage (run.Files (error.Refused (refused.Parse r))) e = omega (arith, e)
+never_usage (run.Files (error.Refused (refused.Mapping r))) e = omega (arith, e)
+never_usage (run.Files (error.Refused (refused.Broken r))) e = omega (arith, e)
+never_usage (run.Files (error.Read name)) e = omega (arith, e)
+never_usage (run.Files error.Memory) e = omega (arith, e)
 never_usage (run.Cut why) e = omega (arith, e)
 never_usage run.Disk e = omega (arith, e)
 never_usage run.Write e = omega (arith, e)
@@ -86,7 +86,7 @@ never_usage run.Generation e = omega (arith, e)
 never_usage (run.Report by.Failed) e = omega (arith, e)
 never_usage (run.Report by.Memory) e = omega (arith, e)
 
-same_status : (r : Refused) → status_of (halt.Refused r) ≡ refusal_status (refusal_of r)
+same_status : (r : Refused) → status_of (error.Refused r) ≡ refusal_status (refusal_of r)
 same_status (refused.NoFile name) = refl
 same_status (refused.Lex r) = refl
 same_status (refused.Parse r) = refl
@@ -94,14 +94,14 @@ same_status (refused.Mapping r) = refl
 same_status (refused.Broken r) = refl
 
 -- each status with a cause that is counted
-pub absent_by_status : (h : RunHalt) (before now : ℕ) → AbsencesFollow {A = Unit {0}} (Err h) before now → run_status_of h ≡ 1 → Rose before now
-absent_by_status (run.Files (halt.Refused (refused.NoFile name))) before now rose e = rose
-absent_by_status (run.Files (halt.Refused (refused.Lex r))) before now rose e = absurd (omega (arith, e))
-absent_by_status (run.Files (halt.Refused (refused.Parse r))) before now rose e = absurd (omega (arith, e))
-absent_by_status (run.Files (halt.Refused (refused.Mapping r))) before now rose e = absurd (omega (arith, e))
-absent_by_status (run.Files (halt.Refused (refused.Broken r))) before now rose e = absurd (omega (arith, e))
-absent_by_status (run.Files (halt.Read name)) before now rose e = absurd (omega (arith, e))
-absent_by_status (run.Files halt.Memory) before now rose e = absurd (omega (arith, e))
+pub absent_by_status : (h : FindError) (before now : ℕ) → AbsencesFollow {A = Unit {0}} (Err h) before now → run_status_of h ≡ 1 → Rose before now
+absent_by_status (run.Files (error.Refused (refused.NoFile name))) before now rose e = rose
+absent_by_status (run.Files (error.Refused (refused.Lex r))) before now rose e = absurd (omega (arith, e))
+absent_by_status (run.Files (error.Refused (refused.Parse r))) before now rose e = absurd (omega (arith, e))
+absent_by_status (run.Files (error.Refused (refused.Mapping r))) before now rose e = absurd (omega (arith, e))
+absent_by_status (run.Files (error.Refused (refused.Broken r))) before now rose e = absurd (omega (arith, e))
+absent_by_status (run.Files (error.Read name)) before now rose e = absurd (omega (arith, e))
+absent_by_status (run.Files error.Memory) before now rose e = absurd (omega (arith, e))
 absent_by_status (run.Cut why) before now rose e = absurd (omega (arith, e))
 absent_by_status run.Disk before now rose e = absurd (omega (arith, e))
 absent_by_status run.Write before now rose e = absurd (omega (arith, e))
@@ -110,14 +110,14 @@ absent_by_status run.Generation before now rose e = absurd (omega (arith, e))
 absent_by_status (run.Report by.Failed) before now rose e = absurd (omega (arith, e))
 absent_by_status (run.Report by.Memory) before now rose e = absurd (omega (arith, e))
 
-pub read_by_status : (h : RunHalt) (before now : ℕ) → CountFollows {A = Unit {0}} (Err h) before now → run_status_of h ≡ 4 → Rose before now
-read_by_status (run.Files (halt.Refused (refused.NoFile name))) before now rose e = absurd (omega (arith, e))
-read_by_status (run.Files (halt.Refused (refused.Lex r))) before now rose e = absurd (omega (arith, e))
-read_by_status (run.Files (halt.Refused (refused.Parse r))) before now rose e = absurd (omega (arith, e))
-read_by_status (run.Files (halt.Refused (refused.Mapping r))) before now rose e = absurd (omega (arith, e))
-read_by_status (run.Files (halt.Refused (refused.Broken r))) before now rose e = absurd (omega (arith, e))
-read_by_status (run.Files (halt.Read name)) before now rose e = rose
-read_by_status (run.Files halt.Memory) before now rose e = absurd (omega (arith, e))
+pub read_by_status : (h : FindError) (before now : ℕ) → CountFollows {A = Unit {0}} (Err h) before now → run_status_of h ≡ 4 → Rose before now
+read_by_status (run.Files (error.Refused (refused.NoFile name))) before now rose e = absurd (omega (arith, e))
+read_by_status (run.Files (error.Refused (refused.Lex r))) before now rose e = absurd (omega (arith, e))
+read_by_status (run.Files (error.Refused (refused.Parse r))) before now rose e = absurd (omega (arith, e))
+read_by_status (run.Files (error.Refused (refused.Mapping r))) before now rose e = absurd (omega (arith, e))
+read_by_status (run.Files (error.Refused (refused.Broken r))) before now rose e = absurd (omega (arith, e))
+read_by_status (run.Files (error.Read name)) before now rose e = rose
+read_by_status (run.Files error.Memory) before now rose e = absurd (omega (arith, e))
 read_by_status (run.Cut why) before now rose e = absurd (omega (arith, e))
 read_by_status run.Disk before now rose e = absurd (omega (arith, e))
 read_by_status run.Write before now rose e = absurd (omega (arith, e))
@@ -126,14 +126,14 @@ read_by_status run.Generation before now rose e = absurd (omega (arith, e))
 read_by_status (run.Report by.Failed) before now rose e = absurd (omega (arith, e))
 read_by_status (run.Report by.Memory) before now rose e = absurd (omega (arith, e))
 
-pub disk_by_status : (h : RunHalt) (before now : ℕ) → DiskFollows {A = Unit {0}} (Err h) before now → run_status_of h ≡ 6 → Rose before now
-disk_by_status (run.Files (halt.Refused (refused.NoFile name))) before now rose e = absurd (omega (arith, e))
-disk_by_status (run.Files (halt.Refused (refused.Lex r))) before now rose e = absurd (omega (arith, e))
-disk_by_status (run.Files (halt.Refused (refused.Parse r))) before now rose e = absurd (omega (arith, e))
-disk_by_status (run.Files (halt.Refused (refused.Mapping r))) before now rose e = absurd (omega (arith, e))
-disk_by_status (run.Files (halt.Refused (refused.Broken r))) before now rose e = absurd (omega (arith, e))
-disk_by_status (run.Files (halt.Read name)) before now rose e = absurd (omega (arith, e))
-disk_by_status (run.Files halt.Memory) before now rose e = absurd (omega (arith, e))
+pub disk_by_status : (h : FindError) (before now : ℕ) → DiskFollows {A = Unit {0}} (Err h) before now → run_status_of h ≡ 6 → Rose before now
+disk_by_status (run.Files (error.Refused (refused.NoFile name))) before now rose e = absurd (omega (arith, e))
+disk_by_status (run.Files (error.Refused (refused.Lex r))) before now rose e = absurd (omega (arith, e))
+disk_by_status (run.Files (error.Refused (refused.Parse r))) before now rose e = absurd (omega (arith, e))
+disk_by_status (run.Files (error.Refused (refused.Mapping r))) before now rose e = absurd (omega (arith, e))
+disk_by_status (run.Files (error.Refused (refused.Broken r))) before now rose e = absurd (omega (arith, e))
+disk_by_status (run.Files (error.Read name)) before now rose e = absurd (omega (arith, e))
+disk_by_status (run.Files error.Memory) before now rose e = absurd (omega (arith, e))
 disk_by_status (run.Cut why) before now rose e = absurd (omega (arith, e))
 disk_by_status run.Disk before now rose e = rose
 disk_by_status run.Write before now rose e = absurd (omega (arith, e))
@@ -143,15 +143,15 @@ disk_by_status (run.Report by.Failed) before now rose e = absurd (omega (arith, 
 disk_by_status (run.Report by.Memory) before now rose e = absurd (omega (arith, e))
 
 -- after a report that was refused nothing more is told
-pub write_by_status : (h : RunHalt) (out out' err mid err' : ℕ) → OutFollows {A = Unit {0}} (Err h) out out'
+pub write_by_status : (h : FindError) (out out' err mid err' : ℕ) → OutFollows {A = Unit {0}} (Err h) out out'
     → ErrFollows {A = Unit {0}} (Err h) err mid → (IsReport h → err' ≡ mid) → run_status_of h ≡ 5 → Rose out out' ⊎ Rose err err'
-write_by_status (run.Files (halt.Refused (refused.NoFile name))) out out' err mid err' o x silent e = absurd (omega (arith, e))
-write_by_status (run.Files (halt.Refused (refused.Lex r))) out out' err mid err' o x silent e = absurd (omega (arith, e))
-write_by_status (run.Files (halt.Refused (refused.Parse r))) out out' err mid err' o x silent e = absurd (omega (arith, e))
-write_by_status (run.Files (halt.Refused (refused.Mapping r))) out out' err mid err' o x silent e = absurd (omega (arith, e))
-write_by_status (run.Files (halt.Refused (refused.Broken r))) out out' err mid err' o x silent e = absurd (omega (arith, e))
-write_by_status (run.Files (halt.Read name)) out out' err mid err' o x silent e = absurd (omega (arith, e))
-write_by_status (run.Files halt.Memory) out out' err mid err' o x silent e = absurd (omega (arith, e))
+write_by_status (run.Files (error.Refused (refused.NoFile name))) out out' err mid err' o x silent e = absurd (omega (arith, e))
+write_by_status (run.Files (error.Refused (refused.Lex r))) out out' err mid err' o x silent e = absurd (omega (arith, e))
+write_by_status (run.Files (error.Refused (refused.Parse r))) out out' err mid err' o x silent e = absurd (omega (arith, e))
+write_by_status (run.Files (error.Refused (refused.Mapping r))) out out' err mid err' o x silent e = absurd (omega (arith, e))
+write_by_status (run.Files (error.Refused (refused.Broken r))) out out' err mid err' o x silent e = absurd (omega (arith, e))
+write_by_status (run.Files (error.Read name)) out out' err mid err' o x silent e = absurd (omega (arith, e))
+write_by_status (run.Files error.Memory) out out' err mid err' o x silent e = absurd (omega (arith, e))
 write_by_status (run.Cut why) out out' err mid err' o x silent e = absurd (omega (arith, e))
 write_by_status run.Disk out out' err mid err' o x silent e = absurd (omega (arith, e))
 write_by_status run.Write out out' err mid err' o x silent e = inl o
@@ -161,14 +161,14 @@ write_by_status (run.Report by.Failed) out out' err mid err' o x silent e = inr 
 write_by_status (run.Report by.Memory) out out' err mid err' o x silent e = absurd (omega (arith, e))
 
 -- where the output didn't fail, status 5 is of the report alone
-pub report_by_status : (h : RunHalt) (out out' : ℕ) → OutFollows {A = Unit {0}} (Err h) out out' → run_status_of h ≡ 5 → ¬ Rose out out' → IsReport h
-report_by_status (run.Files (halt.Refused (refused.NoFile name))) out out' o e calm = absurd (omega (arith, e))
-report_by_status (run.Files (halt.Refused (refused.Lex r))) out out' o e calm = absurd (omega (arith, e))
-report_by_status (run.Files (halt.Refused (refused.Parse r))) out out' o e calm = absurd (omega (arith, e))
-report_by_status (run.Files (halt.Refused (refused.Mapping r))) out out' o e calm = absurd (omega (arith, e))
-report_by_status (run.Files (halt.Refused (refused.Broken r))) out out' o e calm = absurd (omega (arith, e))
-report_by_status (run.Files (halt.Read name)) out out' o e calm = absurd (omega (arith, e))
-report_by_status (run.Files halt.Memory) out out' o e calm = absurd (omega (arith, e))
+pub report_by_status : (h : FindError) (out out' : ℕ) → OutFollows {A = Unit {0}} (Err h) out out' → run_status_of h ≡ 5 → ¬ Rose out out' → IsReport h
+report_by_status (run.Files (error.Refused (refused.NoFile name))) out out' o e calm = absurd (omega (arith, e))
+report_by_status (run.Files (error.Refused (refused.Lex r))) out out' o e calm = absurd (omega (arith, e))
+report_by_status (run.Files (error.Refused (refused.Parse r))) out out' o e calm = absurd (omega (arith, e))
+report_by_status (run.Files (error.Refused (refused.Mapping r))) out out' o e calm = absurd (omega (arith, e))
+report_by_status (run.Files (error.Refused (refused.Broken r))) out out' o e calm = absurd (omega (arith, e))
+report_by_status (run.Files (error.Read name)) out out' o e calm = absurd (omega (arith, e))
+report_by_status (run.Files error.Memory) out out' o e calm = absurd (omega (arith, e))
 report_by_status (run.Cut why) out out' o e calm = absurd (omega (arith, e))
 report_by_status run.Disk out out' o e calm = absurd (omega (arith, e))
 report_by_status run.Write out out' o e calm = absurd (calm o)
@@ -178,10 +178,10 @@ report_by_status (run.Report by.Failed) out out' o e calm = tt
 report_by_status (run.Report by.Memory) out out' o e calm = tt
 
 -- a fault isn't passed over
-pub read_told : (h : RunHalt) (before now : ℕ) → CountFollows {A = Unit {0}} (Err h) before now → before < now → run_status_of h ≡ 4
-read_told (run.Files (halt.Refused r)) before now same lt = absurd (omega (arith, same, lt))
-read_told (run.Files (halt.Read name)) before now same lt = refl
-read_told (run.Files halt.Memory) before now same lt = absurd (omega (arith, same, lt))
+pub read_told : (h : FindError) (before now : ℕ) → CountFollows {A = Unit {0}} (Err h) before now → before < now → run_status_of h ≡ 4
+read_told (run.Files (error.Refused r)) before now same lt = absurd (omega (arith, same, lt))
+read_told (run.Files (error.Read name)) before now same lt = refl
+read_told (run.Files error.Memory) before now same lt = absurd (omega (arith, same, lt))
 read_told (run.Cut why) before now same lt = absurd (omega (arith, same, lt))
 read_told run.Disk before now same lt = absurd (omega (arith, same, lt))
 read_told run.Write before now same lt = absurd (omega (arith, same, lt))
@@ -190,14 +190,14 @@ read_told run.Generation before now same lt = absurd (omega (arith, same, lt))
 read_told (run.Report x) before now same lt = absurd (omega (arith, same, lt))
 
 -- nor is a file that isn't there
-pub absence_told : (h : RunHalt) (before now : ℕ) → AbsencesFollow {A = Unit {0}} (Err h) before now → before < now → run_status_of h ≡ 1
-absence_told (run.Files (halt.Refused (refused.NoFile name))) before now rose lt = refl
-absence_told (run.Files (halt.Refused (refused.Lex r))) before now same lt = absurd (omega (arith, same, lt))
-absence_told (run.Files (halt.Refused (refused.Parse r))) before now same lt = absurd (omega (arith, same, lt))
-absence_told (run.Files (halt.Refused (refused.Mapping r))) before now same lt = absurd (omega (arith, same, lt))
-absence_told (run.Files (halt.Refused (refused.Broken r))) before now same lt = absurd (omega (arith, same, lt))
-absence_told (run.Files (halt.Read name)) before now same lt = absurd (omega (arith, same, lt))
-absence_told (run.Files halt.Memory) before now same lt = absurd (omega (arith, same, lt))
+pub absence_told : (h : FindError) (before now : ℕ) → AbsencesFollow {A = Unit {0}} (Err h) before now → before < now → run_status_of h ≡ 1
+absence_told (run.Files (error.Refused (refused.NoFile name))) before now rose lt = refl
+absence_told (run.Files (error.Refused (refused.Lex r))) before now same lt = absurd (omega (arith, same, lt))
+absence_told (run.Files (error.Refused (refused.Parse r))) before now same lt = absurd (omega (arith, same, lt))
+absence_told (run.Files (error.Refused (refused.Mapping r))) before now same lt = absurd (omega (arith, same, lt))
+absence_told (run.Files (error.Refused (refused.Broken r))) before now same lt = absurd (omega (arith, same, lt))
+absence_told (run.Files (error.Read name)) before now same lt = absurd (omega (arith, same, lt))
+absence_told (run.Files error.Memory) before now same lt = absurd (omega (arith, same, lt))
 absence_told (run.Cut why) before now same lt = absurd (omega (arith, same, lt))
 absence_told run.Disk before now same lt = absurd (omega (arith, same, lt))
 absence_told run.Write before now same lt = absurd (omega (arith, same, lt))
@@ -205,10 +205,10 @@ absence_told (run.Limit l) before now same lt = absurd (omega (arith, same, lt))
 absence_told run.Generation before now same lt = absurd (omega (arith, same, lt))
 absence_told (run.Report x) before now same lt = absurd (omega (arith, same, lt))
 
-pub write_told : (h : RunHalt) (before now : ℕ) → OutFollows {A = Unit {0}} (Err h) before now → before < now → (run_status_of h ≡ 5) ⊎ (run_status_of h ≡ 4)
-write_told (run.Files (halt.Refused r)) before now same lt = absurd (omega (arith, same, lt))
-write_told (run.Files (halt.Read name)) before now same lt = inr refl
-write_told (run.Files halt.Memory) before now same lt = absurd (omega (arith, same, lt))
+pub write_told : (h : FindError) (before now : ℕ) → OutFollows {A = Unit {0}} (Err h) before now → before < now → (run_status_of h ≡ 5) ⊎ (run_status_of h ≡ 4)
+write_told (run.Files (error.Refused r)) before now same lt = absurd (omega (arith, same, lt))
+write_told (run.Files (error.Read name)) before now same lt = inr refl
+write_told (run.Files error.Memory) before now same lt = absurd (omega (arith, same, lt))
 write_told (run.Cut why) before now same lt = absurd (omega (arith, same, lt))
 write_told run.Disk before now same lt = absurd (omega (arith, same, lt))
 write_told run.Write before now same lt = inl refl
@@ -216,10 +216,10 @@ write_told (run.Limit l) before now same lt = absurd (omega (arith, same, lt))
 write_told run.Generation before now same lt = absurd (omega (arith, same, lt))
 write_told (run.Report x) before now same lt = absurd (omega (arith, same, lt))
 
-pub disk_told : (h : RunHalt) (before now : ℕ) → DiskFollows {A = Unit {0}} (Err h) before now → before < now → (run_status_of h ≡ 6) ⊎ (run_status_of h ≡ 4)
-disk_told (run.Files (halt.Refused r)) before now same lt = absurd (omega (arith, same, lt))
-disk_told (run.Files (halt.Read name)) before now same lt = inr refl
-disk_told (run.Files halt.Memory) before now same lt = absurd (omega (arith, same, lt))
+pub disk_told : (h : FindError) (before now : ℕ) → DiskFollows {A = Unit {0}} (Err h) before now → before < now → (run_status_of h ≡ 6) ⊎ (run_status_of h ≡ 4)
+disk_told (run.Files (error.Refused r)) before now same lt = absurd (omega (arith, same, lt))
+disk_told (run.Files (error.Read name)) before now same lt = inr refl
+disk_told (run.Files error.Memory) before now same lt = absurd (omega (arith, same, lt))
 disk_told (run.Cut why) before now same lt = absurd (omega (arith, same, lt))
 disk_told run.Disk before now same lt = inl refl
 disk_told run.Write before now same lt = absurd (omega (arith, same, lt))
@@ -233,15 +233,15 @@ asks_disk : (asked : Command) → AsksFind asked → AsksDisk asked
 asks_disk asked asks = subst (λ (c : Command). AsksDisk c) (sym asks.is_find) asks.has_disk
 
 -- a cut is refused of a command that keeps its state alone
-pub cut_by_status : (asked : Command) (files : Option Files) (disk now : Option History) (err err' : Option (List ℕ)) (h : RunHalt)
-    → HasCause asked files disk now err err' h → run_status_of h ≡ 7 → AsksDisk asked
-cut_by_status asked files disk now err err' (run.Files (halt.Refused (refused.NoFile name))) cause e = absurd (omega (arith, e))
-cut_by_status asked files disk now err err' (run.Files (halt.Refused (refused.Lex r))) cause e = absurd (omega (arith, e))
-cut_by_status asked files disk now err err' (run.Files (halt.Refused (refused.Parse r))) cause e = absurd (omega (arith, e))
-cut_by_status asked files disk now err err' (run.Files (halt.Refused (refused.Mapping r))) cause e = absurd (omega (arith, e))
-cut_by_status asked files disk now err err' (run.Files (halt.Refused (refused.Broken r))) cause e = absurd (omega (arith, e))
-cut_by_status asked files disk now err err' (run.Files (halt.Read name)) cause e = absurd (omega (arith, e))
-cut_by_status asked files disk now err err' (run.Files halt.Memory) cause e = absurd (omega (arith, e))
+pub cut_by_status : (asked : Command) (files : Option Files) (disk now : Option History) (err err' : Option (List ℕ)) (h : FindError)
+    → HasCommandCause asked files disk now err err' h → run_status_of h ≡ 7 → AsksDisk asked
+cut_by_status asked files disk now err err' (run.Files (error.Refused (refused.NoFile name))) cause e = absurd (omega (arith, e))
+cut_by_status asked files disk now err err' (run.Files (error.Refused (refused.Lex r))) cause e = absurd (omega (arith, e))
+cut_by_status asked files disk now err err' (run.Files (error.Refused (refused.Parse r))) cause e = absurd (omega (arith, e))
+cut_by_status asked files disk now err err' (run.Files (error.Refused (refused.Mapping r))) cause e = absurd (omega (arith, e))
+cut_by_status asked files disk now err err' (run.Files (error.Refused (refused.Broken r))) cause e = absurd (omega (arith, e))
+cut_by_status asked files disk now err err' (run.Files (error.Read name)) cause e = absurd (omega (arith, e))
+cut_by_status asked files disk now err err' (run.Files error.Memory) cause e = absurd (omega (arith, e))
 cut_by_status asked files disk now err err' (run.Cut why) cause e = asks_disk asked cause.0
 cut_by_status asked files disk now err err' run.Disk cause e = absurd (omega (arith, e))
 cut_by_status asked files disk now err err' run.Write cause e = absurd (omega (arith, e))
@@ -379,7 +379,7 @@ module _ (words : List (List ℕ)) (asked : Command) (is : command_of words ≡ 
   wrote_listing files disk out out' h = told_by_run (RunListing out out') (ListingWritten out out') (listing_written out out') files disk h
 
   -- where the output didn't fail, a run of status 5 wrote its listing
-  pub listed_by : (files : Option Files) (disk : Option History) (out out' : Option (List ℕ)) (outs outs' : ℕ) (h : RunHalt) (status : ℕ)
+  pub listed_by : (files : Option Files) (disk : Option History) (out out' : Option (List ℕ)) (outs outs' : ℕ) (h : FindError) (status : ℕ)
       → status ≡ run_status_of h → OutFollows {A = Unit {0}} (Err h) outs outs' → (IsReport h → RunsListing asked files disk out out') → status ≡ 5
       → ¬ Rose outs outs' → WroteListing words files disk out out'
   listed_by files disk out out' outs outs' h status same o wrote e calm =
@@ -429,8 +429,8 @@ module _ (words : List (List ℕ)) (asked : Command) (is : command_of words ≡ 
   refuses_cut find same fs on r refuses = by_cut find (is ∙ ap (λ (c : Command). Some c) same) r refuses
 
   module _ (apart : WritesOrIsRefused) (disk now : Option History) (before after : List ℕ → ℕ) (err err' : Option (List ℕ)) where
-    refused_so : (files : Option Files) (r : Refused) → HasCause asked files disk now err err' (run.Files (halt.Refused r))
-        → WroteFront (text_of (halt.Refused r)) err err' → TellsFront words files disk now before after (status_of (halt.Refused r)) err err'
+    refused_so : (files : Option Files) (r : Refused) → HasCommandCause asked files disk now err err' (run.Files (error.Refused r))
+        → WroteFront (text_of (error.Refused r)) err err' → TellsFront words files disk now before after (status_of (error.Refused r)) err err'
     refused_so files r cause told = (
       refusal_text (refusal_of r),
       subst (λ (n : ℕ). Tells words files disk now before after n (refusal_text (refusal_of r))) (sym (same_status r))
@@ -475,15 +475,15 @@ module _ (words : List (List ℕ)) (asked : Command) (is : command_of words ≡ 
       told,
     )
 
-    pub told_so : (files : Option Files) (h : RunHalt) → HasCause asked files disk now err err' h → FaultsFollow {A = Unit {0}} (Err h) before after
+    pub told_so : (files : Option Files) (h : FindError) → HasCommandCause asked files disk now err err' h → FaultsFollow {A = Unit {0}} (Err h) before after
         → TellsRun h err err' → TellsFront words files disk now before after (run_status_of h) err err'
-    told_so files (run.Files (halt.Refused r)) cause faults told = refused_so files r cause told
-    told_so files (run.Files (halt.Read name)) cause faults told = (
-      text_of (halt.Read name),
+    told_so files (run.Files (error.Refused r)) cause faults told = refused_so files r cause told
+    told_so files (run.Files (error.Read name)) cause faults told = (
+      text_of (error.Read name),
       runs.read_fault asked is cause.0 cause.1 name.now cause.2.0 faults.rose cause.2.1,
       told,
     )
-    told_so files (run.Files halt.Memory) cause faults told = (codes "out of memory\n", runs.memory, told)
+    told_so files (run.Files error.Memory) cause faults told = (codes "out of memory\n", runs.memory, told)
     told_so files (run.Cut why) cause faults told = cut_told files (cut_refusal_of why) cause.0 cause.1 told
     told_so files run.Disk cause faults told = (
       codes "checkpoint disk fault\n",
@@ -518,15 +518,15 @@ module _ (words : List (List ℕ)) (asked : Command) (is : command_of words ≡ 
       (λ fs on far. (limit, far.beyond)) find same files disk h
 
   -- a run that reached a limit
-  pub limit_by_status : (files : Option Files) (disk now : Option History) (err err' : Option (List ℕ)) (h : RunHalt)
-      → HasCause asked files disk now err err' h → run_status_of h ≡ 9 → ReachesLimit words files disk now
-  limit_by_status files disk now err err' (run.Files (halt.Refused (refused.NoFile name))) cause e = absurd (omega (arith, e))
-  limit_by_status files disk now err err' (run.Files (halt.Refused (refused.Lex r))) cause e = absurd (omega (arith, e))
-  limit_by_status files disk now err err' (run.Files (halt.Refused (refused.Parse r))) cause e = absurd (omega (arith, e))
-  limit_by_status files disk now err err' (run.Files (halt.Refused (refused.Mapping r))) cause e = absurd (omega (arith, e))
-  limit_by_status files disk now err err' (run.Files (halt.Refused (refused.Broken r))) cause e = absurd (omega (arith, e))
-  limit_by_status files disk now err err' (run.Files (halt.Read name)) cause e = absurd (omega (arith, e))
-  limit_by_status files disk now err err' (run.Files halt.Memory) cause e = absurd (omega (arith, e))
+  pub limit_by_status : (files : Option Files) (disk now : Option History) (err err' : Option (List ℕ)) (h : FindError)
+      → HasCommandCause asked files disk now err err' h → run_status_of h ≡ 9 → ReachesLimit words files disk now
+  limit_by_status files disk now err err' (run.Files (error.Refused (refused.NoFile name))) cause e = absurd (omega (arith, e))
+  limit_by_status files disk now err err' (run.Files (error.Refused (refused.Lex r))) cause e = absurd (omega (arith, e))
+  limit_by_status files disk now err err' (run.Files (error.Refused (refused.Parse r))) cause e = absurd (omega (arith, e))
+  limit_by_status files disk now err err' (run.Files (error.Refused (refused.Mapping r))) cause e = absurd (omega (arith, e))
+  limit_by_status files disk now err err' (run.Files (error.Refused (refused.Broken r))) cause e = absurd (omega (arith, e))
+  limit_by_status files disk now err err' (run.Files (error.Read name)) cause e = absurd (omega (arith, e))
+  limit_by_status files disk now err err' (run.Files error.Memory) cause e = absurd (omega (arith, e))
   limit_by_status files disk now err err' (run.Cut why) cause e = absurd (omega (arith, e))
   limit_by_status files disk now err err' run.Disk cause e = absurd (omega (arith, e))
   limit_by_status files disk now err err' run.Write cause e = absurd (omega (arith, e))
@@ -542,11 +542,11 @@ module _ (words : List (List ℕ)) (asked : Command) (is : command_of words ≡ 
   -- a run that is ready stops for a fault or for want of memory alone
   module _ (law : ReadyIsNotRefused) (fs : Files) (disk now : Option History) (err err' : Option (List ℕ)) (on : OnDisk)
       (holds : AskDisk words → DiskHolds disk on) (ready : CanRun words fs on) where
-    pub ready_stops : (h : RunHalt) → HasCause asked (Some fs) disk now err err' h → ¬ IsFault h → run_status_of h ≡ 8
-    ready_stops (run.Files (halt.Refused r)) cause calm =
+    pub ready_stops : (h : FindError) → HasCommandCause asked (Some fs) disk now err err' h → ¬ IsFault h → run_status_of h ≡ 8
+    ready_stops (run.Files (error.Refused r)) cause calm =
         absurd ((law words fs on ready).0 (refusal_of r) (refuses_own fs on cause.0 cause.1 (refusal_of r) cause.2.1))
-    ready_stops (run.Files (halt.Read name)) cause calm = absurd (calm tt)
-    ready_stops (run.Files halt.Memory) cause calm = refl
+    ready_stops (run.Files (error.Read name)) cause calm = absurd (calm tt)
+    ready_stops (run.Files error.Memory) cause calm = refl
     ready_stops (run.Cut why) cause calm =
         let a = cause.0 in
         let refuses = cause.1 on (search_holds disk on holds a.find a.is_find) in
@@ -568,12 +568,12 @@ module _ (words : List (List ℕ)) (asked : Command) (is : command_of words ≡ 
     never_accepted : {A : Type 0} → IsAccepted words fs on → A
     never_accepted a = absurd (a.accepts r refuses)
 
-    pub refused_as : (h : RunHalt) → HasCause asked (Some fs) disk now err err' h → ¬ (run_status_of h ≡ 4) → ¬ (run_status_of h ≡ 6)
+    pub refused_as : (h : FindError) → HasCommandCause asked (Some fs) disk now err err' h → ¬ (run_status_of h ≡ 4) → ¬ (run_status_of h ≡ 6)
         → (run_status_of h ≡ refusal_status r) ⊎ (run_status_of h ≡ 8)
-    refused_as (run.Files (halt.Refused own)) cause calm steady =
+    refused_as (run.Files (error.Refused own)) cause calm steady =
         inl (same_status own ∙ one words fs on (refusal_of own) r (refuses_own fs on cause.0 cause.1 (refusal_of own) cause.2.1) refuses)
-    refused_as (run.Files (halt.Read name)) cause calm steady = absurd (calm refl)
-    refused_as (run.Files halt.Memory) cause calm steady = inr refl
+    refused_as (run.Files (error.Read name)) cause calm steady = absurd (calm refl)
+    refused_as (run.Files error.Memory) cause calm steady = inr refl
     refused_as (run.Cut why) cause calm steady =
         let a = cause.0 in
         let own = cause.1 on (search_holds disk on holds a.find a.is_find) in
@@ -594,7 +594,7 @@ module _ (words : List (List ℕ)) (asked : Command) (is : command_of words ≡ 
   module _ {E : Type 0} (apart : WritesOrIsRefused) (written : E → Option (List ℕ)) (first mid last : E) (files : Option Files)
       (disk now : Option History) (before after : List ℕ → ℕ) where
     -- what is told of a run that stopped, with nothing told before it
-    pub told_by : (h : RunHalt) → HasCause asked files disk now (written first) (written mid) h → FaultsFollow {A = Unit {0}} (Err h) before after
+    pub told_by : (h : FindError) → HasCommandCause asked files disk now (written first) (written mid) h → FaultsFollow {A = Unit {0}} (Err h) before after
         → (TellsNothing h → mid ≡ first) → TellsRun h (written mid) (written last) → (IsReport h → last ≡ mid)
         → TellsFront words files disk now before after (run_status_of h) (written first) (written last)
     told_by (run.Files h) cause faults quiet told silent =
@@ -617,9 +617,9 @@ module _ (words : List (List ℕ)) (asked : Command) (is : command_of words ≡ 
         (subst (λ (x : E). TellsRun run.Generation (written x) (written last)) (quiet tt) told)
     told_by (run.Report o) cause faults quiet told silent =
         told_so apart disk now before after (written first) (written last) files (run.Report o)
-        (subst (λ (x : E). HasCause asked files disk now (written first) (written x) (run.Report o)) (sym (silent tt)) cause) faults tt
+        (subst (λ (x : E). HasCommandCause asked files disk now (written first) (written x) (run.Report o)) (sym (silent tt)) cause) faults tt
 
-    pub told_of : (h : RunHalt) (status : ℕ) → status ≡ run_status_of h → HasCause asked files disk now (written first) (written mid) h
+    pub told_of : (h : FindError) (status : ℕ) → status ≡ run_status_of h → HasCommandCause asked files disk now (written first) (written mid) h
         → FaultsFollow {A = Unit {0}} (Err h) before after
         → (TellsNothing h → mid ≡ first) → TellsRun h (written mid) (written last) → (IsReport h → last ≡ mid)
         → TellsFront words files disk now before after status (written first) (written last)
@@ -627,8 +627,8 @@ module _ (words : List (List ℕ)) (asked : Command) (is : command_of words ≡ 
         subst (λ (n : ℕ). TellsFront words files disk now before after n (written first) (written last)) (sym same)
         (told_by h cause faults quiet told silent)
 
-  pub limit_of_status : (files : Option Files) (disk now : Option History) (err err' : Option (List ℕ)) (h : RunHalt) (status : ℕ)
-      → status ≡ run_status_of h → HasCause asked files disk now err err' h → status ≡ 9 → ReachesLimit words files disk now
+  pub limit_of_status : (files : Option Files) (disk now : Option History) (err err' : Option (List ℕ)) (h : FindError) (status : ℕ)
+      → status ≡ run_status_of h → HasCommandCause asked files disk now err err' h → status ≡ 9 → ReachesLimit words files disk now
   limit_of_status files disk now err err' h status same cause e = limit_by_status files disk now err err' h cause (sym same ∙ e)
 
   -- what it takes that a run can be done
@@ -638,8 +638,8 @@ module _ (words : List (List ℕ)) (asked : Command) (is : command_of words ≡ 
   pub ready_over : (files : Option Files) (disk : Option History) → IsReady words files disk → IsSomeAnd (files_for asked files) (ReadyOver disk)
   ready_over files disk ready = subst (λ (o : Option Files). IsSomeAnd o (ReadyOver disk)) (known_is files) ready
 
-  pub stops_exact : StatusIsOne → WritesOrIsRefused → (files : Option Files) (disk now : Option History) (err err' : Option (List ℕ)) (h : RunHalt)
-      (status : ℕ) → status ≡ run_status_of h → HasCause asked files disk now err err' h → ¬ (run_status_of h ≡ 4) → ¬ (run_status_of h ≡ 6)
+  pub stops_exact : StatusIsOne → WritesOrIsRefused → (files : Option Files) (disk now : Option History) (err err' : Option (List ℕ)) (h : FindError)
+      (status : ℕ) → status ≡ run_status_of h → HasCommandCause asked files disk now err err' h → ¬ (run_status_of h ≡ 4) → ¬ (run_status_of h ≡ 6)
       → IsRefusedAs words files disk status
   stops_exact one apart None disk now err err' h status same cause calm steady = tt
   stops_exact one apart (Some fs) disk now err err' h status same cause calm steady = λ on r holds refuses.
@@ -656,15 +656,15 @@ module _ (words : List (List ℕ)) (asked : Command) (is : command_of words ≡ 
   done_exact apart (Some fs) disk status h = λ on r holds refuses.
       absurd ((accepted_by apart words asked is fs on (accepted_over asked fs disk h on (holds_on disk on holds))).accepts r refuses)
 
-pub never_ended : (h : RunHalt) (status : ℕ) → status ≡ run_status_of h → status ≡ 0 → ⊥
+pub never_ended : (h : FindError) (status : ℕ) → status ≡ run_status_of h → status ≡ 0 → ⊥
 never_ended h status same e = never_done h (sym same ∙ e)
 
 -- a run of `made` stops for a fault or for want of memory alone
-made_stops : (hands events : ℕ) (files : Option Files) (disk now : Option History) (err err' : Option (List ℕ)) (h : RunHalt)
-    → HasCause (command.Made hands events) files disk now err err' h → ¬ IsFault h → run_status_of h ≡ 8
-made_stops hands events files disk now err err' (run.Files (halt.Refused r)) cause calm = absurd (none-some cause.0 cause.1)
-made_stops hands events files disk now err err' (run.Files (halt.Read name)) cause calm = absurd (calm tt)
-made_stops hands events files disk now err err' (run.Files halt.Memory) cause calm = refl
+made_stops : (hands events : ℕ) (files : Option Files) (disk now : Option History) (err err' : Option (List ℕ)) (h : FindError)
+    → HasCommandCause (command.Made hands events) files disk now err err' h → ¬ IsFault h → run_status_of h ≡ 8
+made_stops hands events files disk now err err' (run.Files (error.Refused r)) cause calm = absurd (none-some cause.0 cause.1)
+made_stops hands events files disk now err err' (run.Files (error.Read name)) cause calm = absurd (calm tt)
+made_stops hands events files disk now err err' (run.Files error.Memory) cause calm = refl
 made_stops hands events files disk now err err' (run.Cut why) cause calm = absurd (asks_disk (command.Made hands events) cause.0)
 made_stops hands events files disk now err err' run.Disk cause calm = absurd (calm tt)
 made_stops hands events files disk now err err' run.Write cause calm = absurd (calm tt)
@@ -674,37 +674,37 @@ made_stops hands events files disk now err err' (run.Report by.Failed) cause cal
 made_stops hands events files disk now err err' (run.Report by.Memory) cause calm = refl
 
 -- a run that is ready and doesn't stop for a fault stops for want of memory
-ready_halts : (words : List (List ℕ)) (asked : Command) → command_of words ≡ Some asked → ReadyIsNotRefused → (files : Option Files)
-    (disk now : Option History) (err err' : Option (List ℕ)) (h : RunHalt) → HasCause asked files disk now err err' h → IsReady words files disk
+ready_errors : (words : List (List ℕ)) (asked : Command) → command_of words ≡ Some asked → ReadyIsNotRefused → (files : Option Files)
+    (disk now : Option History) (err err' : Option (List ℕ)) (h : FindError) → HasCommandCause asked files disk now err err' h → IsReady words files disk
     → ¬ IsFault h → run_status_of h ≡ 8
-ready_halts words (command.Made hands events) is law files disk now err err' h cause ready calm =
+ready_errors words (command.Made hands events) is law files disk now err err' h cause ready calm =
     made_stops hands events files disk now err err' h cause calm
-ready_halts words (command.Find f) is law None disk now err err' h cause ready calm = absurd (ready_over words (command.Find f) is None disk ready)
-ready_halts words (command.Find f) is law (Some fs) disk now err err' h cause ready calm =
+ready_errors words (command.Find f) is law None disk now err err' h cause ready calm = absurd (ready_over words (command.Find f) is None disk ready)
+ready_errors words (command.Find f) is law (Some fs) disk now err err' h cause ready calm =
     let there = ready_over words (command.Find f) is (Some fs) disk ready in
     ready_stops words (command.Find f) is law fs disk now err err' there.0 there.1 there.2 h cause calm
-ready_halts words (command.Check query fields) is law None disk now err err' h cause ready calm =
+ready_errors words (command.Check query fields) is law None disk now err err' h cause ready calm =
     absurd (ready_over words (command.Check query fields) is None disk ready)
-ready_halts words (command.Check query fields) is law (Some fs) disk now err err' h cause ready calm =
+ready_errors words (command.Check query fields) is law (Some fs) disk now err err' h cause ready calm =
     let there = ready_over words (command.Check query fields) is (Some fs) disk ready in
     ready_stops words (command.Check query fields) is law fs disk now err err' there.0 there.1 there.2 h cause calm
 
 pub stops_ready : (words : List (List ℕ)) (asked : Command) → command_of words ≡ Some asked → ReadyIsNotRefused → (files : Option Files)
-    (disk now : Option History) (err err' : Option (List ℕ)) (h : RunHalt) (status : ℕ) → status ≡ run_status_of h
-    → HasCause asked files disk now err err' h → IsReady words files disk → ¬ IsFault h → (status ≡ 0) ⊎ (status ≡ 8)
+    (disk now : Option History) (err err' : Option (List ℕ)) (h : FindError) (status : ℕ) → status ≡ run_status_of h
+    → HasCommandCause asked files disk now err err' h → IsReady words files disk → ¬ IsFault h → (status ≡ 0) ⊎ (status ≡ 8)
 stops_ready words asked is law files disk now err err' h status same cause ready calm =
-    inr (same ∙ ready_halts words asked is law files disk now err err' h cause ready calm)
+    inr (same ∙ ready_errors words asked is law files disk now err err' h cause ready calm)
 
 -- where no count rose, a run didn't stop for a fault. That of the disk counts where the command asks for one
 module _ (asked : Command) (files : Option Files) (disk now : Option History) (err-text err-text' : Option (List ℕ))
     (reads reads' disks disks' out out' err mid err' : ℕ) (read : ¬ Rose reads reads') (on_disk : AsksDisk asked → ¬ Rose disks disks')
     (write : ¬ Rose out out') (error : ¬ Rose err err') where
-  pub is_calm : (h : RunHalt) → HasCause asked files disk now err-text err-text' h → CountFollows {A = Unit {0}} (Err h) reads reads'
+  pub is_calm : (h : FindError) → HasCommandCause asked files disk now err-text err-text' h → CountFollows {A = Unit {0}} (Err h) reads reads'
       → DiskFollows {A = Unit {0}} (Err h) disks disks' → OutFollows {A = Unit {0}} (Err h) out out' → ErrFollows {A = Unit {0}} (Err h) err mid
       → (IsReport h → err' ≡ mid) → ¬ IsFault h
-  is_calm (run.Files (halt.Refused r)) cause c d o e silent fault = fault
-  is_calm (run.Files (halt.Read name)) cause c d o e silent fault = read c
-  is_calm (run.Files halt.Memory) cause c d o e silent fault = fault
+  is_calm (run.Files (error.Refused r)) cause c d o e silent fault = fault
+  is_calm (run.Files (error.Read name)) cause c d o e silent fault = read c
+  is_calm (run.Files error.Memory) cause c d o e silent fault = fault
   is_calm (run.Cut why) cause c d o e silent fault = fault
   is_calm run.Disk cause c d o e silent fault = on_disk (asks_disk asked cause.0) d
   is_calm run.Write cause c d o e silent fault = write o
@@ -714,18 +714,18 @@ module _ (asked : Command) (files : Option Files) (disk now : Option History) (e
   is_calm (run.Report by.Memory) cause c d o e silent fault = fault
 
 -- where no read failed, the status isn't that of a read fault; nor is it that of a fault of the disk where that didn't fail
-pub no_read : (h : RunHalt) (reads reads' : ℕ) → CountFollows {A = Unit {0}} (Err h) reads reads' → ¬ Rose reads reads' → ¬ (run_status_of h ≡ 4)
+pub no_read : (h : FindError) (reads reads' : ℕ) → CountFollows {A = Unit {0}} (Err h) reads reads' → ¬ Rose reads reads' → ¬ (run_status_of h ≡ 4)
 no_read h reads reads' c calm e = calm (read_by_status h reads reads' c e)
 
-disk_is_asked : (asked : Command) (files : Option Files) (disk now : Option History) (err err' : Option (List ℕ)) (h : RunHalt)
-    → HasCause asked files disk now err err' h → run_status_of h ≡ 6 → AsksDisk asked
-disk_is_asked asked files disk now err err' (run.Files (halt.Refused (refused.NoFile name))) cause e = absurd (omega (arith, e))
-disk_is_asked asked files disk now err err' (run.Files (halt.Refused (refused.Lex r))) cause e = absurd (omega (arith, e))
-disk_is_asked asked files disk now err err' (run.Files (halt.Refused (refused.Parse r))) cause e = absurd (omega (arith, e))
-disk_is_asked asked files disk now err err' (run.Files (halt.Refused (refused.Mapping r))) cause e = absurd (omega (arith, e))
-disk_is_asked asked files disk now err err' (run.Files (halt.Refused (refused.Broken r))) cause e = absurd (omega (arith, e))
-disk_is_asked asked files disk now err err' (run.Files (halt.Read name)) cause e = absurd (omega (arith, e))
-disk_is_asked asked files disk now err err' (run.Files halt.Memory) cause e = absurd (omega (arith, e))
+disk_is_asked : (asked : Command) (files : Option Files) (disk now : Option History) (err err' : Option (List ℕ)) (h : FindError)
+    → HasCommandCause asked files disk now err err' h → run_status_of h ≡ 6 → AsksDisk asked
+disk_is_asked asked files disk now err err' (run.Files (error.Refused (refused.NoFile name))) cause e = absurd (omega (arith, e))
+disk_is_asked asked files disk now err err' (run.Files (error.Refused (refused.Lex r))) cause e = absurd (omega (arith, e))
+disk_is_asked asked files disk now err err' (run.Files (error.Refused (refused.Parse r))) cause e = absurd (omega (arith, e))
+disk_is_asked asked files disk now err err' (run.Files (error.Refused (refused.Mapping r))) cause e = absurd (omega (arith, e))
+disk_is_asked asked files disk now err err' (run.Files (error.Refused (refused.Broken r))) cause e = absurd (omega (arith, e))
+disk_is_asked asked files disk now err err' (run.Files (error.Read name)) cause e = absurd (omega (arith, e))
+disk_is_asked asked files disk now err err' (run.Files error.Memory) cause e = absurd (omega (arith, e))
 disk_is_asked asked files disk now err err' (run.Cut why) cause e = absurd (omega (arith, e))
 disk_is_asked asked files disk now err err' run.Disk cause e = asks_disk asked cause.0
 disk_is_asked asked files disk now err err' run.Write cause e = absurd (omega (arith, e))
@@ -734,8 +734,8 @@ disk_is_asked asked files disk now err err' run.Generation cause e = absurd (ome
 disk_is_asked asked files disk now err err' (run.Report by.Failed) cause e = absurd (omega (arith, e))
 disk_is_asked asked files disk now err err' (run.Report by.Memory) cause e = absurd (omega (arith, e))
 
-pub no_disk : (asked : Command) (files : Option Files) (disk now : Option History) (err err' : Option (List ℕ)) (h : RunHalt) (disks disks' : ℕ)
-    → HasCause asked files disk now err err' h → DiskFollows {A = Unit {0}} (Err h) disks disks' → (AsksDisk asked → ¬ Rose disks disks')
+pub no_disk : (asked : Command) (files : Option Files) (disk now : Option History) (err err' : Option (List ℕ)) (h : FindError) (disks disks' : ℕ)
+    → HasCommandCause asked files disk now err err' h → DiskFollows {A = Unit {0}} (Err h) disks disks' → (AsksDisk asked → ¬ Rose disks disks')
     → ¬ (run_status_of h ≡ 6)
 no_disk asked files disk now err err' h disks disks' cause d calm e =
     calm (disk_is_asked asked files disk now err err' h cause e) (disk_by_status h disks disks' d e)

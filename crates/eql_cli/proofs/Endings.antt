@@ -15,9 +15,9 @@ use Rattle.eql_runs.specs.Outcomes.{DiskIsSame, IsRefusal, RunEnds}
 use Rattle.eql_runs.specs.RunLaws.{ReadyIsNotRefused, StatusIsOne, WritesOrIsRefused}
 use Rattle.eql_runs.specs.Runs.{AreTrusted, AskDisk, AsksDisk, CanRun, files_over, IsReady, IsRefusedAs, Tells, Writes, WroteSome}
 use Rattle.eql_runs.specs.Starts.{DiskHolds, OnDisk}
-use Rattle.eql_find.specs.declared.halt.RunHalt.{RunHalt}
-use Rattle.eql_find.specs.Halts.{IsFault, IsReport, run_status_of}
-use Rattle.eql_find.proofs.HaltingEarly.{same_no_more}
+use Rattle.eql_find.specs.declared.error.FindError.{FindError}
+use Rattle.eql_find.specs.Errors.{IsFault, IsReport, run_status_of}
+use Rattle.eql_find.proofs.EarlyErrors.{same_no_more}
 use Rattle.eql_find.specs.Outcomes.{FaultsAreTold}
 use Rattle.eql_cli.specs.Outcomes.{CommandEnds}
 use Rattle.eql_cli.specs.Telling.{TellsRun}
@@ -28,7 +28,7 @@ use Rattle.eql_cli.proofs.KeepLemmas.{ask_words, keep_words, kept_words, not_ref
 done_is_no_refusal : {A : Type 0} → IsRefusal 0 → A
 done_is_no_refusal refusal = absurd (omega (arith, refusal))
 
-refused_so : (h : RunHalt) (status : ℕ) → status ≡ run_status_of h → IsRefusal status → IsRefusal (run_status_of h)
+refused_so : (h : FindError) (status : ℕ) → status ≡ run_status_of h → IsRefusal status → IsRefusal (run_status_of h)
 refused_so h status same refusal = subst (λ (n : ℕ). IsRefusal n) same refusal
 
 -- ---- words of which no command is run
@@ -179,7 +179,7 @@ module _ {H Src Dsk K E : Type 0} (shelf : shelves.Ghosts H Src Dsk) (output : s
     }
 
     -- a run that stopped, and was told of
-    pub stopped_ends : (mid err' : E) (h : RunHalt) (status : ℕ) → ReadyIsNotRefused → StatusIsOne
+    pub stopped_ends : (mid err' : E) (h : FindError) (status : ℕ) → ReadyIsNotRefused → StatusIsOne
         → CommandEnds output errors {A = Unit {0}} asked (shelf.files old) (shelf.disk_history old) (shelf.disk_history new) out out' err mid
         (Err h)
         → FaultsAreTold output errors {A = Unit {0}} shelf old new (shelf.disk_fault_count old) (shelf.disk_fault_count new) out out' err mid

@@ -16,9 +16,9 @@ use Rattle.eql_runs.specs.Outcomes.{KeepDisk}
 use Rattle.eql_runs.specs.Refusals.{Refusal}
 use Rattle.eql_runs.specs.Runs.{AskDisk, AsksDisk, IsRefused, KeepsCuts, IsRefusedAs, by_cut, by_files}
 use Rattle.eql_runs.specs.Starts.{OnDisk}
-use Rattle.eql_find.specs.declared.halt.RunHalt.{RunHalt}
-use Rattle.eql_find.specs.Halts.{IsRefusal}
-use Rattle.eql_find.proofs.HaltingEarly.{same_keeps, same_no_more}
+use Rattle.eql_find.specs.declared.error.FindError.{FindError}
+use Rattle.eql_find.specs.Errors.{IsRefusal}
+use Rattle.eql_find.proofs.EarlyErrors.{same_keeps, same_no_more}
 use Rattle.eql_cli.specs.Running.{KeepsDisk}
 
 -- a disk on which nothing is done keeps what it holds
@@ -33,7 +33,7 @@ pub kept_words : (words : List (List ℕ)) (files : Option Files) (out out' : Op
 kept_words words files out out' disk = λ find is has. same_keeps find files out out' disk disk refl
 
 -- nor is what it stands for changed, where the run is refused or not
-pub none_changed : (r : Result (Unit {0}) RunHalt) (disk now : Option History) → now ≡ disk
+pub none_changed : (r : Result (Unit {0}) FindError) (disk now : Option History) → now ≡ disk
     → IfErr r (λ h. IsRefusal h → moments.DiskTells (Goes LeavesNoMore) disk now)
 none_changed (Ok done) disk now same = tt
 none_changed (Err h) disk now same = λ refusal. same_no_more disk now same

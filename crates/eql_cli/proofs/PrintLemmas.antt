@@ -6,17 +6,17 @@ use Rattle.eql_query.specs.QueryTree.{QueryTree}
 use Rattle.eql_parser.specs.Printed.{query_shown}
 use Rattle.eql_runs.specs.Files.{Files}
 use Rattle.eql_inputs.specs.Steps.{GotChecked}
-use Rattle.eql_inputs.specs.declared.halt.Halt.TheVariants as halt
-use Rattle.eql_find.specs.declared.halt.RunHalt.{RunHalt}
-use Rattle.eql_find.specs.declared.halt.RunHalt.TheVariants as run
+use Rattle.eql_inputs.specs.declared.error.InputError.TheVariants as error
+use Rattle.eql_find.specs.declared.error.FindError.{FindError}
+use Rattle.eql_find.specs.declared.error.FindError.TheVariants as run
 use Rattle.eql_cli.specs.Printing.{HasPrintCause, StopsWriting}
 
 -- the text of a checked query wasn't written whole
 pub stop_cause : (query fields : List ℕ) (files : Option Files) (tree : QueryTree) (kinds : List (List ℕ × FieldKind))
-    → GotChecked query fields files tree kinds → (h : RunHalt) → StopsWriting h → HasPrintCause query fields files h
-stop_cause query fields files tree kinds got (run.Files (halt.Refused r)) stops = absurd stops
-stop_cause query fields files tree kinds got (run.Files (halt.Read name)) stops = absurd stops
-stop_cause query fields files tree kinds got (run.Files halt.Memory) stops = tt
+    → GotChecked query fields files tree kinds → (h : FindError) → StopsWriting h → HasPrintCause query fields files h
+stop_cause query fields files tree kinds got (run.Files (error.Refused r)) stops = absurd stops
+stop_cause query fields files tree kinds got (run.Files (error.Read name)) stops = absurd stops
+stop_cause query fields files tree kinds got (run.Files error.Memory) stops = tt
 stop_cause query fields None tree kinds got run.Write stops = tt
 stop_cause query fields (Some fs) tree kinds got run.Write stops = (
   encode_utf8_all (query_shown tree) ++ codes "\n",

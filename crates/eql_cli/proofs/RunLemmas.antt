@@ -10,16 +10,16 @@ use Rattle.eql_runs.specs.Files.{Files}
 use Rattle.eql_runs.specs.Runs.{IfFound, IsFindAccepted}
 use Rattle.eql_runs.specs.Summaries.{Makes}
 use Rattle.eql_inputs.specs.Steps.{naming}
-use Rattle.eql_inputs.specs.declared.halt.Halt.TheVariants as halt
-use Rattle.eql_find.specs.declared.halt.RunHalt.{RunHalt}
-use Rattle.eql_find.specs.declared.halt.RunHalt.TheVariants as run
+use Rattle.eql_inputs.specs.declared.error.InputError.TheVariants as error
+use Rattle.eql_find.specs.declared.error.FindError.{FindError}
+use Rattle.eql_find.specs.declared.error.FindError.TheVariants as run
 use Rattle.eql_find.specs.Finding.{FindsAll, FindsListing, FindsSome, names_in}
 use Rattle.eql_find.specs.Finding as found
-use Rattle.eql_find.specs.Halts.{AbsencesFollow, CountFollows, DiskFollows, ErrFollows, FaultsFollow, IsRefusal, IsReport, TellsNothing}
+use Rattle.eql_find.specs.Errors.{AbsencesFollow, CountFollows, DiskFollows, ErrFollows, FaultsFollow, IsRefusal, IsReport, TellsNothing}
 use Rattle.eql_summary.specs.Written.{MakesAll, MakesFront}
 use Rattle.eql_cli.specs.Printing.{PrintsAll, PrintsSome, StopsWriting}
 use Rattle.eql_cli.specs.Printing as printing
-use Rattle.eql_cli.specs.Running.{HasCause, IfRun, IsAcceptedBy, RunsAll, RunsListing, RunsSome}
+use Rattle.eql_cli.specs.Running.{HasCommandCause, IfRun, IsAcceptedBy, RunsAll, RunsListing, RunsSome}
 
 pub found_all : (asked : Command) (find : Find) → asked ≡ command.Find find → (files : Option Files) (disk : Option History)
     (out out' err err' : Option (List ℕ)) → FindsAll find files disk out out' err err' → RunsAll asked files disk out out' err err'
@@ -34,16 +34,16 @@ pub found_some : (asked : Command) (find : Find) → asked ≡ command.Find find
 found_some asked find is files disk out out' h = subst (λ (c : Command). RunsSome c files disk out out') (sym is) h
 
 pub found_listing : (asked : Command) (find : Find) → asked ≡ command.Find find → (files : Option Files) (disk : Option History)
-    (out out' : Option (List ℕ)) (h : RunHalt) → (IsReport h → FindsListing find files disk out out') → IsReport h
+    (out out' : Option (List ℕ)) (h : FindError) → (IsReport h → FindsListing find files disk out out') → IsReport h
     → RunsListing asked files disk out out'
 found_listing asked find is files disk out out' h wrote report =
     subst (λ (c : Command). RunsListing c files disk out out') (sym is) (wrote report)
 
-cause_of_find : (find : Find) (files : Option Files) (disk now : Option History) (err err' : Option (List ℕ)) (h : RunHalt)
-    → found.HasCause find files disk now err err' h → HasCause (command.Find find) files disk now err err' h
-cause_of_find find files disk now err err' (run.Files (halt.Refused r)) cause = (names_in find, refl, cause)
-cause_of_find find files disk now err err' (run.Files (halt.Read name)) cause = (names_in find, refl, cause)
-cause_of_find find files disk now err err' (run.Files halt.Memory) cause = tt
+cause_of_find : (find : Find) (files : Option Files) (disk now : Option History) (err err' : Option (List ℕ)) (h : FindError)
+    → found.HasFindCause find files disk now err err' h → HasCommandCause (command.Find find) files disk now err err' h
+cause_of_find find files disk now err err' (run.Files (error.Refused r)) cause = (names_in find, refl, cause)
+cause_of_find find files disk now err err' (run.Files (error.Read name)) cause = (names_in find, refl, cause)
+cause_of_find find files disk now err err' (run.Files error.Memory) cause = tt
 cause_of_find find files disk now err err' (run.Cut why) cause = (record { find = find; is_find = refl; has_disk = cause.0 }, cause.1)
 cause_of_find find files disk now err err' run.Disk cause = (record { find = find; is_find = refl; has_disk = cause.0 }, cause.1)
 cause_of_find find files disk now err err' run.Write cause = cause
@@ -53,9 +53,9 @@ cause_of_find find files disk now err err' run.Generation cause =
 cause_of_find find files disk now err err' (run.Report r) cause = (find, refl, cause)
 
 pub find_cause : (asked : Command) (find : Find) → asked ≡ command.Find find → (files : Option Files) (disk now : Option History)
-    (err err' : Option (List ℕ)) (h : RunHalt) → found.HasCause find files disk now err err' h → HasCause asked files disk now err err' h
+    (err err' : Option (List ℕ)) (h : FindError) → found.HasFindCause find files disk now err err' h → HasCommandCause asked files disk now err err' h
 find_cause asked find is files disk now err err' h cause =
-    subst (λ (c : Command). HasCause c files disk now err err' h) (sym is) (cause_of_find find files disk now err err' h cause)
+    subst (λ (c : Command). HasCommandCause c files disk now err err' h) (sym is) (cause_of_find find files disk now err err' h cause)
 
 -- nothing was written to a sink that wasn't touched
 untouched : (err : Option (List ℕ)) → IfSome err (λ w. err ≡ Some (w ++ []))
@@ -95,7 +95,7 @@ printed_some asked query fields is files disk out out' h =
     subst (λ (c : Command). RunsSome c files disk out out') (sym is) (some_of_check query fields files disk out out' h)
 
 -- a run of `check` and of `made` has no report that may be refused
-check_reports : (query fields : List ℕ) (files : Option Files) (h : RunHalt) → printing.HasPrintCause query fields files h → ¬ IsReport h
+check_reports : (query fields : List ℕ) (files : Option Files) (h : FindError) → printing.HasPrintCause query fields files h → ¬ IsReport h
 check_reports query fields files (run.Files h) cause report = report
 check_reports query fields files (run.Cut why) cause report = report
 check_reports query fields files run.Disk cause report = report
@@ -105,7 +105,7 @@ check_reports query fields files run.Generation cause report = report
 check_reports query fields files (run.Report r) cause report = cause
 
 pub printed_listing : (asked : Command) (query fields : List ℕ) (files : Option Files) (disk : Option History) (out out' : Option (List ℕ))
-    (h : RunHalt) → printing.HasPrintCause query fields files h → IsReport h → RunsListing asked files disk out out'
+    (h : FindError) → printing.HasPrintCause query fields files h → IsReport h → RunsListing asked files disk out out'
 printed_listing asked query fields files disk out out' h cause report = absurd (check_reports query fields files h cause report)
 
 accepted_by_check : (query fields : List ℕ) (files : Option Files) (disk : Option History)
@@ -113,11 +113,11 @@ accepted_by_check : (query fields : List ℕ) (files : Option Files) (disk : Opt
 accepted_by_check query fields None disk cause = tt
 accepted_by_check query fields (Some fs) disk cause = λ on holds. cause
 
-cause_of_check : (query fields : List ℕ) (files : Option Files) (disk now : Option History) (err : Option (List ℕ)) (h : RunHalt)
-    → printing.HasPrintCause query fields files h → HasCause (command.Check query fields) files disk now err err h
-cause_of_check query fields files disk now err (run.Files (halt.Refused r)) cause = (naming query fields [], refl, cause)
-cause_of_check query fields files disk now err (run.Files (halt.Read name)) cause = (naming query fields [], refl, cause)
-cause_of_check query fields files disk now err (run.Files halt.Memory) cause = tt
+cause_of_check : (query fields : List ℕ) (files : Option Files) (disk now : Option History) (err : Option (List ℕ)) (h : FindError)
+    → printing.HasPrintCause query fields files h → HasCommandCause (command.Check query fields) files disk now err err h
+cause_of_check query fields files disk now err (run.Files (error.Refused r)) cause = (naming query fields [], refl, cause)
+cause_of_check query fields files disk now err (run.Files (error.Read name)) cause = (naming query fields [], refl, cause)
+cause_of_check query fields files disk now err (run.Files error.Memory) cause = tt
 cause_of_check query fields files disk now err (run.Cut why) cause = absurd cause
 cause_of_check query fields files disk now err run.Disk cause = absurd cause
 cause_of_check query fields files disk now err run.Write cause = accepted_by_check query fields files disk cause
@@ -126,10 +126,10 @@ cause_of_check query fields files disk now err run.Generation cause = absurd cau
 cause_of_check query fields files disk now err (run.Report r) cause = absurd cause
 
 pub check_cause : (asked : Command) (query fields : List ℕ) → asked ≡ command.Check query fields → (files : Option Files)
-    (disk now : Option History) (err : Option (List ℕ)) (h : RunHalt) → printing.HasPrintCause query fields files h
-    → HasCause asked files disk now err err h
+    (disk now : Option History) (err : Option (List ℕ)) (h : FindError) → printing.HasPrintCause query fields files h
+    → HasCommandCause asked files disk now err err h
 check_cause asked query fields is files disk now err h cause =
-    subst (λ (c : Command). HasCause c files disk now err err h) (sym is) (cause_of_check query fields files disk now err h cause)
+    subst (λ (c : Command). HasCommandCause c files disk now err err h) (sym is) (cause_of_check query fields files disk now err h cause)
 
 -- ---- a run of `made`
 all_of_made : (hands events : ℕ) (files : Option Files) (disk : Option History) (out out' err : Option (List ℕ)) → MakesAll events out out'
@@ -160,7 +160,7 @@ pub made_some : (asked : Command) (hands events : ℕ) → asked ≡ command.Mad
 made_some asked hands events is files disk out out' h =
     subst (λ (c : Command). RunsSome c files disk out out') (sym is) (some_of_made hands events files disk out out' h)
 
-made_reports : (h : RunHalt) → StopsWriting h → ¬ IsReport h
+made_reports : (h : FindError) → StopsWriting h → ¬ IsReport h
 made_reports (run.Files h) stops report = report
 made_reports (run.Cut why) stops report = report
 made_reports run.Disk stops report = report
@@ -169,15 +169,15 @@ made_reports (run.Limit l) stops report = report
 made_reports run.Generation stops report = report
 made_reports (run.Report r) stops report = stops
 
-pub made_listing : (asked : Command) (files : Option Files) (disk : Option History) (out out' : Option (List ℕ)) (h : RunHalt) → StopsWriting h
+pub made_listing : (asked : Command) (files : Option Files) (disk : Option History) (out out' : Option (List ℕ)) (h : FindError) → StopsWriting h
     → IsReport h → RunsListing asked files disk out out'
 made_listing asked files disk out out' h stops report = absurd (made_reports h stops report)
 
-cause_of_made : (hands events : ℕ) (files : Option Files) (disk now : Option History) (out out' err : Option (List ℕ)) (h : RunHalt)
-    → MakesFront events out out' → StopsWriting h → HasCause (command.Made hands events) files disk now err err h
-cause_of_made hands events files disk now out out' err (run.Files (halt.Refused r)) front stops = absurd stops
-cause_of_made hands events files disk now out out' err (run.Files (halt.Read name)) front stops = absurd stops
-cause_of_made hands events files disk now out out' err (run.Files halt.Memory) front stops = tt
+cause_of_made : (hands events : ℕ) (files : Option Files) (disk now : Option History) (out out' err : Option (List ℕ)) (h : FindError)
+    → MakesFront events out out' → StopsWriting h → HasCommandCause (command.Made hands events) files disk now err err h
+cause_of_made hands events files disk now out out' err (run.Files (error.Refused r)) front stops = absurd stops
+cause_of_made hands events files disk now out out' err (run.Files (error.Read name)) front stops = absurd stops
+cause_of_made hands events files disk now out out' err (run.Files error.Memory) front stops = tt
 cause_of_made hands events files disk now out out' err (run.Cut why) front stops = absurd stops
 cause_of_made hands events files disk now out out' err run.Disk front stops = absurd stops
 cause_of_made hands events files disk now out out' err run.Write front stops = λ on holds. (front.0, front.1, front.2)
@@ -186,19 +186,19 @@ cause_of_made hands events files disk now out out' err run.Generation front stop
 cause_of_made hands events files disk now out out' err (run.Report r) front stops = absurd stops
 
 pub made_cause : (asked : Command) (hands events : ℕ) → asked ≡ command.Made hands events → (files : Option Files) (disk now : Option History)
-    (out out' err : Option (List ℕ)) (r : Result (Unit {0}) RunHalt) → OnErr r (MakesFront events out out') → IfErr r StopsWriting
-    → IfErr r (HasCause asked files disk now err err)
+    (out out' err : Option (List ℕ)) (r : Result (Unit {0}) FindError) → OnErr r (MakesFront events out out') → IfErr r StopsWriting
+    → IfErr r (HasCommandCause asked files disk now err err)
 made_cause asked hands events is files disk now out out' err (Ok x) front stops = tt
 made_cause asked hands events is files disk now out out' err (Err h) front stops =
-    subst (λ (c : Command). HasCause c files disk now err err h) (sym is) (cause_of_made hands events files disk now out out' err h front stops)
+    subst (λ (c : Command). HasCommandCause c files disk now err err h) (sym is) (cause_of_made hands events files disk now out out' err h front stops)
 
 -- what such a run leaves alone
 module _ {T : Type 0} where
-  pub made_untouched : (r : Result (Unit {0}) RunHalt) (old new : T) → IfErr r StopsWriting → IfErr r (λ h. IsRefusal h → new ≡ old)
+  pub made_untouched : (r : Result (Unit {0}) FindError) (old new : T) → IfErr r StopsWriting → IfErr r (λ h. IsRefusal h → new ≡ old)
   made_untouched (Ok x) old new stops = tt
-  made_untouched (Err (run.Files (halt.Refused r))) old new stops = absurd stops
-  made_untouched (Err (run.Files (halt.Read name))) old new stops = absurd stops
-  made_untouched (Err (run.Files halt.Memory)) old new stops = λ none. absurd none
+  made_untouched (Err (run.Files (error.Refused r))) old new stops = absurd stops
+  made_untouched (Err (run.Files (error.Read name))) old new stops = absurd stops
+  made_untouched (Err (run.Files error.Memory)) old new stops = λ none. absurd none
   made_untouched (Err (run.Cut why)) old new stops = absurd stops
   made_untouched (Err run.Disk) old new stops = absurd stops
   made_untouched (Err run.Write) old new stops = λ none. absurd none
@@ -206,11 +206,11 @@ module _ {T : Type 0} where
   made_untouched (Err run.Generation) old new stops = absurd stops
   made_untouched (Err (run.Report r)) old new stops = absurd stops
 
-pub made_faults : (r : Result (Unit {0}) RunHalt) (faults : List ℕ → ℕ) → IfErr r StopsWriting → FaultsFollow r faults faults
+pub made_faults : (r : Result (Unit {0}) FindError) (faults : List ℕ → ℕ) → IfErr r StopsWriting → FaultsFollow r faults faults
 made_faults (Ok x) faults stops = λ name. refl
-made_faults (Err (run.Files (halt.Refused r))) faults stops = absurd stops
-made_faults (Err (run.Files (halt.Read name))) faults stops = absurd stops
-made_faults (Err (run.Files halt.Memory)) faults stops = λ name. refl
+made_faults (Err (run.Files (error.Refused r))) faults stops = absurd stops
+made_faults (Err (run.Files (error.Read name))) faults stops = absurd stops
+made_faults (Err (run.Files error.Memory)) faults stops = λ name. refl
 made_faults (Err (run.Cut why)) faults stops = absurd stops
 made_faults (Err run.Disk) faults stops = absurd stops
 made_faults (Err run.Write) faults stops = λ name. refl
@@ -218,11 +218,11 @@ made_faults (Err (run.Limit l)) faults stops = absurd stops
 made_faults (Err run.Generation) faults stops = absurd stops
 made_faults (Err (run.Report r)) faults stops = absurd stops
 
-pub made_count : (r : Result (Unit {0}) RunHalt) (count : ℕ) → IfErr r StopsWriting → CountFollows r count count
+pub made_count : (r : Result (Unit {0}) FindError) (count : ℕ) → IfErr r StopsWriting → CountFollows r count count
 made_count (Ok x) count stops = refl
-made_count (Err (run.Files (halt.Refused r))) count stops = absurd stops
-made_count (Err (run.Files (halt.Read name))) count stops = absurd stops
-made_count (Err (run.Files halt.Memory)) count stops = refl
+made_count (Err (run.Files (error.Refused r))) count stops = absurd stops
+made_count (Err (run.Files (error.Read name))) count stops = absurd stops
+made_count (Err (run.Files error.Memory)) count stops = refl
 made_count (Err (run.Cut why)) count stops = absurd stops
 made_count (Err run.Disk) count stops = absurd stops
 made_count (Err run.Write) count stops = refl
@@ -230,11 +230,11 @@ made_count (Err (run.Limit l)) count stops = absurd stops
 made_count (Err run.Generation) count stops = absurd stops
 made_count (Err (run.Report r)) count stops = absurd stops
 
-pub made_absences : (r : Result (Unit {0}) RunHalt) (count : ℕ) → IfErr r StopsWriting → AbsencesFollow r count count
+pub made_absences : (r : Result (Unit {0}) FindError) (count : ℕ) → IfErr r StopsWriting → AbsencesFollow r count count
 made_absences (Ok x) count stops = refl
-made_absences (Err (run.Files (halt.Refused r))) count stops = absurd stops
-made_absences (Err (run.Files (halt.Read name))) count stops = absurd stops
-made_absences (Err (run.Files halt.Memory)) count stops = refl
+made_absences (Err (run.Files (error.Refused r))) count stops = absurd stops
+made_absences (Err (run.Files (error.Read name))) count stops = absurd stops
+made_absences (Err (run.Files error.Memory)) count stops = refl
 made_absences (Err (run.Cut why)) count stops = absurd stops
 made_absences (Err run.Disk) count stops = absurd stops
 made_absences (Err run.Write) count stops = refl
@@ -242,7 +242,7 @@ made_absences (Err (run.Limit l)) count stops = absurd stops
 made_absences (Err run.Generation) count stops = absurd stops
 made_absences (Err (run.Report r)) count stops = absurd stops
 
-pub made_errors : (r : Result (Unit {0}) RunHalt) (count : ℕ) → IfErr r StopsWriting → ErrFollows r count count
+pub made_errors : (r : Result (Unit {0}) FindError) (count : ℕ) → IfErr r StopsWriting → ErrFollows r count count
 made_errors (Ok x) count stops = refl
 made_errors (Err (run.Files h)) count stops = refl
 made_errors (Err (run.Cut why)) count stops = absurd stops
@@ -252,11 +252,11 @@ made_errors (Err (run.Limit l)) count stops = absurd stops
 made_errors (Err run.Generation) count stops = absurd stops
 made_errors (Err (run.Report r)) count stops = absurd stops
 
-pub made_disks : (r : Result (Unit {0}) RunHalt) (count : ℕ) → IfErr r StopsWriting → DiskFollows r count count
+pub made_disks : (r : Result (Unit {0}) FindError) (count : ℕ) → IfErr r StopsWriting → DiskFollows r count count
 made_disks (Ok x) count stops = refl
-made_disks (Err (run.Files (halt.Refused r))) count stops = absurd stops
-made_disks (Err (run.Files (halt.Read name))) count stops = absurd stops
-made_disks (Err (run.Files halt.Memory)) count stops = refl
+made_disks (Err (run.Files (error.Refused r))) count stops = absurd stops
+made_disks (Err (run.Files (error.Read name))) count stops = absurd stops
+made_disks (Err (run.Files error.Memory)) count stops = refl
 made_disks (Err (run.Cut why)) count stops = absurd stops
 made_disks (Err run.Disk) count stops = absurd stops
 made_disks (Err run.Write) count stops = refl
@@ -266,11 +266,11 @@ made_disks (Err (run.Report r)) count stops = absurd stops
 
 -- the error output is left alone by `check` and `made`, and by `check` no fault of it is told
 module _ {T : Type 0} where
-  pub none_told : (r : Result (Unit {0}) RunHalt) (err : T) → IfErr r (λ h. TellsNothing h → err ≡ err)
+  pub none_told : (r : Result (Unit {0}) FindError) (err : T) → IfErr r (λ h. TellsNothing h → err ≡ err)
   none_told (Ok x) err = tt
   none_told (Err h) err = λ nothing. refl
 
-pub check_errors : (query fields : List ℕ) (files : Option Files) (r : Result (Unit {0}) RunHalt) (count : ℕ)
+pub check_errors : (query fields : List ℕ) (files : Option Files) (r : Result (Unit {0}) FindError) (count : ℕ)
     → IfErr r (printing.HasPrintCause query fields files) → ErrFollows r count count
 check_errors query fields files (Ok x) count cause = refl
 check_errors query fields files (Err (run.Files h)) count cause = refl
@@ -282,12 +282,12 @@ check_errors query fields files (Err run.Generation) count cause = absurd cause
 check_errors query fields files (Err (run.Report r)) count cause = absurd cause
 
 -- the disk isn't asked for by `check`, so none is told as failed
-pub check_disks : (query fields : List ℕ) (files : Option Files) (r : Result (Unit {0}) RunHalt) (before now : ℕ) → now ≡ before
+pub check_disks : (query fields : List ℕ) (files : Option Files) (r : Result (Unit {0}) FindError) (before now : ℕ) → now ≡ before
     → IfErr r (printing.HasPrintCause query fields files) → DiskFollows r before now
 check_disks query fields files (Ok x) before now same cause = same
-check_disks query fields files (Err (run.Files (halt.Refused r))) before now same cause = same
-check_disks query fields files (Err (run.Files (halt.Read name))) before now same cause = tt
-check_disks query fields files (Err (run.Files halt.Memory)) before now same cause = same
+check_disks query fields files (Err (run.Files (error.Refused r))) before now same cause = same
+check_disks query fields files (Err (run.Files (error.Read name))) before now same cause = tt
+check_disks query fields files (Err (run.Files error.Memory)) before now same cause = same
 check_disks query fields files (Err (run.Cut why)) before now same cause = absurd cause
 check_disks query fields files (Err run.Disk) before now same cause = absurd cause
 check_disks query fields files (Err run.Write) before now same cause = same

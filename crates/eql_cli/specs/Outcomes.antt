@@ -6,19 +6,19 @@ use Rattle.eql_words.specs.declared.commands.Command.{Command}
 use Rattle.eql_ckdisk.specs.Going.{Goes}
 use Rattle.eql_ckdisk.specs.Keeping.{LeavesNoMore}
 use Rattle.eql_runs.specs.Files.{Files}
-use Rattle.eql_find.specs.declared.halt.RunHalt.{RunHalt}
-use Rattle.eql_find.specs.Halts.{IsRefusal, IsReport, TellsNothing}
-use Rattle.eql_cli.specs.Running.{HasCause, IfRun, IsAcceptedBy, KeepsDisk, RunsAll, RunsListing, RunsSome}
+use Rattle.eql_find.specs.declared.error.FindError.{FindError}
+use Rattle.eql_find.specs.Errors.{IsRefusal, IsReport, TellsNothing}
+use Rattle.eql_cli.specs.Running.{HasCommandCause, IfRun, IsAcceptedBy, KeepsDisk, RunsAll, RunsListing, RunsSome}
 
 module _ {K E : Type 0} (output : sinks.Ghosts K) (errors : sinks.Ghosts E) where
   -- what was written, why the run stopped, and what its disk came to hold, by its files and by its disk before and now
-  pub record CommandEnds {A : Type 0} (asked : Command) (files : Option Files) (disk now : Option History) (out out' : K) (err err' : E) (answer : Result A RunHalt) : Type 0 where
+  pub record CommandEnds {A : Type 0} (asked : Command) (files : Option Files) (disk now : Option History) (out out' : K) (err err' : E) (answer : Result A FindError) : Type 0 where
     pub done : OnOk answer (RunsAll asked files disk (output.written out) (output.written out') (errors.written err) (errors.written err'))
     pub accepted : OnOk answer (IfRun asked files disk (IsAcceptedBy asked))
     pub prefix : OnErr answer (RunsSome asked files disk (output.written out) (output.written out'))
-    pub listed : IfErr answer (λ halt. IsReport halt → RunsListing asked files disk (output.written out) (output.written out'))
-    pub untouched : IfErr answer (λ halt. IsRefusal halt → out' ≡ out)
-    pub quiet : IfErr answer (λ halt. TellsNothing halt → err' ≡ err)
-    pub cause : IfErr answer (HasCause asked files disk now (errors.written err) (errors.written err'))
+    pub listed : IfErr answer (λ error. IsReport error → RunsListing asked files disk (output.written out) (output.written out'))
+    pub untouched : IfErr answer (λ error. IsRefusal error → out' ≡ out)
+    pub quiet : IfErr answer (λ error. TellsNothing error → err' ≡ err)
+    pub cause : IfErr answer (HasCommandCause asked files disk now (errors.written err) (errors.written err'))
     pub moments : KeepsDisk asked files (output.written out) (output.written out') disk now
-    pub cut_kept : IfErr answer (λ halt. IsRefusal halt → DiskTells (Goes LeavesNoMore) disk now)
+    pub cut_kept : IfErr answer (λ error. IsRefusal error → DiskTells (Goes LeavesNoMore) disk now)

@@ -4,11 +4,11 @@ use Rattle.eql_outside.specs.Outside.{AppendsSome}
 use Rattle.eql_outside.specs.Written.{WroteAll}
 use Rattle.eql_runs.specs.Files.{Files}
 use Rattle.eql_runs.specs.Runs.{Prints}
-use Rattle.eql_inputs.specs.Halts as inputs
-use Rattle.eql_inputs.specs.declared.halt.Halt.TheVariants as halt
+use Rattle.eql_inputs.specs.Errors as inputs
+use Rattle.eql_inputs.specs.declared.error.InputError.TheVariants as error
 use Rattle.eql_inputs.specs.Steps.{naming}
-use Rattle.eql_find.specs.declared.halt.RunHalt.{RunHalt}
-use Rattle.eql_find.specs.declared.halt.RunHalt.TheVariants as run
+use Rattle.eql_find.specs.declared.error.FindError.{FindError}
+use Rattle.eql_find.specs.declared.error.FindError.TheVariants as run
 
 -- where the shelf tells its files, the run was one that writes a canonical text, and where the output tells too it got just this
 abbrev pub PrintsAll : (query fields : List ℕ) → Option Files → (out out' : Option (List ℕ)) → Type 0
@@ -24,8 +24,8 @@ PrintsSome query fields files out out' =
     ⊎ ((bytes : List ℕ) × (report : List ℕ) × Prints query fields fs bytes report × AppendsSome w bytes out')))
 
 -- why a run stopped
-abbrev pub HasPrintCause : (query fields : List ℕ) → Option Files → RunHalt → Type 0
-HasPrintCause query fields files (run.Files h) = inputs.HasCause (naming query fields []) files h
+abbrev pub HasPrintCause : (query fields : List ℕ) → Option Files → FindError → Type 0
+HasPrintCause query fields files (run.Files h) = inputs.HasInputCause (naming query fields []) files h
 HasPrintCause query fields files (run.Cut why) = ⊥
 HasPrintCause query fields files run.Disk = ⊥
 HasPrintCause query fields files run.Write =
@@ -35,10 +35,10 @@ HasPrintCause query fields files run.Generation = ⊥
 HasPrintCause query fields files (run.Report r) = ⊥
 
 -- writing the text stopped: the output failed, or memory ran out
-abbrev pub StopsWriting : RunHalt → Type 0
-StopsWriting (run.Files (halt.Refused r)) = ⊥
-StopsWriting (run.Files (halt.Read name)) = ⊥
-StopsWriting (run.Files halt.Memory) = Unit {0}
+abbrev pub StopsWriting : FindError → Type 0
+StopsWriting (run.Files (error.Refused r)) = ⊥
+StopsWriting (run.Files (error.Read name)) = ⊥
+StopsWriting (run.Files error.Memory) = Unit {0}
 StopsWriting (run.Cut why) = ⊥
 StopsWriting run.Disk = ⊥
 StopsWriting run.Write = Unit {0}

@@ -13,13 +13,13 @@ use Rattle.eql_runs.specs.Runs.{AsksDisk, files_for, GenerationsEnd, IfFound, Is
 use Rattle.eql_runs.specs.Searches.{Search}
 use Rattle.eql_runs.specs.Starts.{DiskHolds, OnDisk}
 use Rattle.eql_runs.specs.Summaries.{Makes}
-use Rattle.eql_inputs.specs.Halts as inputs
-use Rattle.eql_inputs.specs.declared.halt.Halt.{Halt}
-use Rattle.eql_inputs.specs.declared.halt.Halt.TheVariants as halt
-use Rattle.eql_find.specs.declared.halt.RunHalt.{RunHalt}
-use Rattle.eql_find.specs.declared.halt.RunHalt.TheVariants as run
+use Rattle.eql_inputs.specs.Errors as inputs
+use Rattle.eql_inputs.specs.declared.error.InputError.{InputError}
+use Rattle.eql_inputs.specs.declared.error.InputError.TheVariants as error
+use Rattle.eql_find.specs.declared.error.FindError.{FindError}
+use Rattle.eql_find.specs.declared.error.FindError.TheVariants as run
 use Rattle.eql_find.specs.Finding.{GoesTooFar, ReportsFront}
-use Rattle.eql_find.specs.Halts.{cut_refusal_of, limit_of}
+use Rattle.eql_find.specs.Errors.{cut_refusal_of, limit_of}
 
 -- what holds of the files over which a command runs, and of what the disk holds on which it keeps its state, where these are told
 abbrev pub IfRun : Command → Option Files → Option History → (Files → OnDisk → Type 0) → Type 0
@@ -66,28 +66,28 @@ pub record AsksFind (asked : Command) : Type 0 where
   pub has_disk : find.checkpoint ≢ None
 
 -- why the reading of the files that a command names stopped, or that memory ran out
-abbrev pub HasFilesCause : Command → Option Files → Halt → Type 0
-HasFilesCause asked files (halt.Refused r) =
-    (names : Names) × (names_of asked ≡ Some names) × inputs.HasCause names files (halt.Refused r)
-HasFilesCause asked files (halt.Read name) =
-    (names : Names) × (names_of asked ≡ Some names) × inputs.HasCause names files (halt.Read name)
-HasFilesCause asked files halt.Memory = Unit {0}
+abbrev pub HasFilesCause : Command → Option Files → InputError → Type 0
+HasFilesCause asked files (error.Refused r) =
+    (names : Names) × (names_of asked ≡ Some names) × inputs.HasInputCause names files (error.Refused r)
+HasFilesCause asked files (error.Read name) =
+    (names : Names) × (names_of asked ≡ Some names) × inputs.HasInputCause names files (error.Read name)
+HasFilesCause asked files error.Memory = Unit {0}
 
 -- why a run stopped, by its files, and by its disk before and now
-abbrev pub HasCause : Command → Option Files → (disk now : Option History) → (err err' : Option (List ℕ)) → RunHalt → Type 0
-HasCause asked files disk now err err' (run.Files h) = HasFilesCause asked files h
-HasCause asked files disk now err err' (run.Cut r) =
+abbrev pub HasCommandCause : Command → Option Files → (disk now : Option History) → (err err' : Option (List ℕ)) → FindError → Type 0
+HasCommandCause asked files disk now err err' (run.Files h) = HasFilesCause asked files h
+HasCommandCause asked files disk now err err' (run.Cut r) =
     (asks : AsksFind asked) × IfFound asks.find files disk (λ fs on. RefusesCut asks.find fs on (cut_refusal_of r))
-HasCause asked files disk now err err' run.Disk =
+HasCommandCause asked files disk now err err' run.Disk =
     (asks : AsksFind asked)
     × IfSome files (λ fs. (search : Search) × (texts : List (List ℕ)) × Searches asks.find fs search texts)
-HasCause asked files disk now err err' run.Write = IfRun asked files disk (IsAcceptedBy asked)
-HasCause asked files disk now err err' (run.Limit l) =
+HasCommandCause asked files disk now err err' run.Write = IfRun asked files disk (IsAcceptedBy asked)
+HasCommandCause asked files disk now err err' (run.Limit l) =
     (find : Find) × (asked ≡ command.Find find) × (shard_of (limit_of l) < length find.shards)
     × IfFound find files disk (GoesTooFar find (limit_of l))
-HasCause asked files disk now err err' run.Generation =
+HasCommandCause asked files disk now err err' run.Generation =
     (asks : AsksFind asked) × IfFound asks.find files disk (IsFindAccepted asks.find) × GenerationsEnd disk now
-HasCause asked files disk now err err' (run.Report r) =
+HasCommandCause asked files disk now err err' (run.Report r) =
     (find : Find) × (asked ≡ command.Find find) × ReportsFront find files disk err err'
 
 -- a command that keeps its state on a disk keeps its cuts there, and writes what they count

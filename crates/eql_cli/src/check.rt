@@ -4,11 +4,11 @@ ghost use Rattle.eql_outside.specs.Unfailing.{IsUnfailing, AreUnfailing};
 ghost use Rattle.eql_outside.specs.Written.{WroteAll, WroteFront};
 ghost use Rattle.eql_query.specs.QueryTree.{query_tree};
 ghost use Rattle.eql_parser.specs.Printed.{query_shown};
-ghost use Rattle.eql_find.specs.Halts.{AbsencesFollow, CountFollows, FaultsFollow, IsFault, IsRefusal, OutFollows};
+ghost use Rattle.eql_find.specs.Errors.{AbsencesFollow, CountFollows, FaultsFollow, IsFault, IsRefusal, OutFollows};
 ghost use Rattle.eql_cli.specs.Printing.{HasPrintCause, PrintsAll, PrintsSome, StopsWriting};
 
-use eql_find::RunHalt;
-use eql_inputs::{Halt, read_checked};
+use eql_find::FindError;
+use eql_inputs::{InputError, read_checked};
 use eql_outside::{OutRefused, Shelf, Sink};
 use eql_parser::print;
 use eql_query::Query;
@@ -28,7 +28,7 @@ fn query_line(alloc: Global, query: &Query) -> Result<String, Memory>
 }
 
 /// Writes the line of a query.
-fn write_query<'a, K: Sink>(alloc: Global, query: &Query, out: &mut K) -> Result<(), RunHalt<'a>>
+fn write_query<'a, K: Sink>(alloc: Global, query: &Query, out: &mut K) -> Result<(), FindError<'a>>
     ensures all { OnOk result (WroteAll
         (encode_utf8_all (query_shown (query_tree query.now)) ++ codes "\n")
         (K.written out.old) (K.written out.new)) }
@@ -39,15 +39,15 @@ fn write_query<'a, K: Sink>(alloc: Global, query: &Query, out: &mut K) -> Result
     ensures out { OutFollows result (K.fault_count out.old) (K.fault_count out.new) }
     ensures counts { K.fault_count out.old ≤ K.fault_count out.new }
     ensures unfailing { IsUnfailing (K.fault_plan out.old)
-        → IfErr result (λ halt. ¬ IsFault halt) }
+        → IfErr result (λ error. ¬ IsFault error) }
 {
     let Ok(line) = query_line(alloc, query) else {
-        return Err(RunHalt::Files(Halt::Memory));
+        return Err(FindError::Files(InputError::Memory));
     };
     match out.write(alloc, line.as_bytes()) {
         Ok(()) => Ok(()),
-        Err(OutRefused::Failed) => Err(RunHalt::Write),
-        Err(OutRefused::Memory) => Err(RunHalt::Files(Halt::Memory)),
+        Err(OutRefused::Failed) => Err(FindError::Write),
+        Err(OutRefused::Memory) => Err(FindError::Files(InputError::Memory)),
     }
 }
 
@@ -60,12 +60,12 @@ pub(crate) fn check_query<'a, H: Shelf, K: Sink>(
     fields: &'a Name,
     shelf: &mut H,
     out: &mut K,
-) -> Result<(), RunHalt<'a>>
+) -> Result<(), FindError<'a>>
     ensures done { OnOk result (PrintsAll query.now fields.now (H.files shelf.old)
         (K.written out.old) (K.written out.new)) }
     ensures prefix { OnErr result (PrintsSome query.now fields.now (H.files shelf.old)
         (K.written out.old) (K.written out.new)) }
-    ensures untouched { IfErr result (λ halt. IsRefusal halt → out.new ≡ out.old) }
+    ensures untouched { IfErr result (λ error. IsRefusal error → out.new ≡ out.old) }
     ensures cause { IfErr result (HasPrintCause query.now fields.now (H.files shelf.old)) }
     ensures faults { FaultsFollow result (H.faults_of shelf.old) (H.faults_of shelf.new) }
     ensures count { CountFollows result (H.fault_count shelf.old) (H.fault_count shelf.new) }
@@ -77,7 +77,7 @@ pub(crate) fn check_query<'a, H: Shelf, K: Sink>(
         × (K.fault_count out.old ≤ K.fault_count out.new) }
     ensures unfailing { IsUnfailing (H.fault_plan shelf.old)
         → AreUnfailing (H.source_plans shelf.old) → IsUnfailing (K.fault_plan out.old)
-        → IfErr result (λ halt. ¬ IsFault halt) }
+        → IfErr result (λ error. ¬ IsFault error) }
     ensures kept { H.files shelf.new ≡ H.files shelf.old }
     ensures disk_kept { (H.disk_history shelf.new ≡ H.disk_history shelf.old)
         × (H.is_out shelf.new ≡ H.is_out shelf.old)
@@ -87,6 +87,6 @@ pub(crate) fn check_query<'a, H: Shelf, K: Sink>(
 {
     match read_checked(alloc, query, fields, shelf) {
         Ok(inputs) => write_query(alloc, inputs.checked.query(), out),
-        Err(halt) => Err(RunHalt::Files(halt)),
+        Err(error) => Err(FindError::Files(error)),
     }
 }

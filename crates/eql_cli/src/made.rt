@@ -1,13 +1,13 @@
 //! A run of `made`: the summary of a search over made events.
 ghost use Rattle.std.specs.Prelude.{◌≤◌, IfErr, OnOk, OnErr};
 ghost use Rattle.eql_outside.specs.Unfailing.{IsUnfailing};
-ghost use Rattle.eql_find.specs.Halts.{IsFault, OutFollows};
+ghost use Rattle.eql_find.specs.Errors.{IsFault, OutFollows};
 ghost use Rattle.eql_summary.specs.Written.{MakesAll, MakesFront};
 ghost use Rattle.eql_cli.specs.Printing.{StopsWriting};
 
-use eql_find::RunHalt;
+use eql_find::FindError;
 use eql_hands::Gate;
-use eql_inputs::Halt;
+use eql_inputs::InputError;
 use eql_outside::{OutRefused, Sink};
 use eql_summary::write_summary;
 use std::alloc::Global;
@@ -24,7 +24,7 @@ pub(crate) fn run_made<'a, R: Threads + Wait + Sync, K: Sink, W: Gate + Sync>(
     events: u32,
     out: &mut K,
     gate: &W,
-) -> Result<(), RunHalt<'a>>
+) -> Result<(), FindError<'a>>
     requires hands { hands ≤ 16 }
     requires events { events ≤ 1000000 }
     ensures done { OnOk result (MakesAll events (K.written out.old) (K.written out.new)) }
@@ -33,11 +33,11 @@ pub(crate) fn run_made<'a, R: Threads + Wait + Sync, K: Sink, W: Gate + Sync>(
     ensures out { OutFollows result (K.fault_count out.old) (K.fault_count out.new) }
     ensures counts { K.fault_count out.old ≤ K.fault_count out.new }
     ensures unfailing { IsUnfailing (K.fault_plan out.old)
-        → IfErr result (λ halt. ¬ IsFault halt) }
+        → IfErr result (λ error. ¬ IsFault error) }
 {
     match write_summary(rt, alloc, hands, events, out, gate) {
         Ok(()) => Ok(()),
-        Err(OutRefused::Failed) => Err(RunHalt::Write),
-        Err(OutRefused::Memory) => Err(RunHalt::Files(Halt::Memory)),
+        Err(OutRefused::Failed) => Err(FindError::Write),
+        Err(OutRefused::Memory) => Err(FindError::Files(InputError::Memory)),
     }
 }

@@ -6,14 +6,14 @@ ghost use Rattle.eql_words.specs.Commands.{command_of};
 ghost use Rattle.eql_words.specs.Words.{bytes_of};
 ghost use Rattle.eql_runs.specs.Outcomes.{DiskIsSame, RunEnds};
 ghost use Rattle.eql_runs.specs.Runs.{AsksDisk};
-ghost use Rattle.eql_find.specs.Halts.{IsFault};
+ghost use Rattle.eql_find.specs.Errors.{IsFault};
 ghost use Rattle.eql_cli.specs.Outcomes.{CommandEnds};
 ghost use Rattle.eql_find.specs.Outcomes.{FaultsAreTold};
 
 use crate::check::check_query;
 use crate::made::run_made;
 use crate::tell::{tell_end, tell_memory, tell_usage};
-use eql_find::{RunHalt, find_matches};
+use eql_find::{FindError, find_matches};
 use eql_hands::Gate;
 use eql_outside::{Shelf, Sink};
 use eql_runs::runs_are_determined;
@@ -33,7 +33,7 @@ fn run_command<'a, R: Threads + Wait + Sync, H: Shelf, K: Sink, E: Sink, G: Gate
     out: &mut K,
     err: &mut E,
     gate: &G,
-) -> Result<(), RunHalt<'a>>
+) -> Result<(), FindError<'a>>
     requires { IsBounded command.now }
     ensures ends { CommandEnds K.Sink E.Sink command.now (H.files shelf.old)
         (H.disk_history shelf.old) (H.disk_history shelf.new)
@@ -45,7 +45,7 @@ fn run_command<'a, R: Threads + Wait + Sync, H: Shelf, K: Sink, E: Sink, G: Gate
         → AreUnfailing (H.source_plans shelf.old)
         → (AsksDisk command.now → IsUnfailing (H.disk_plan shelf.old))
         → IsUnfailing (K.fault_plan out.old) → IsUnfailing (E.fault_plan err.old)
-        → IfErr result (λ halt. ¬ IsFault halt) }
+        → IfErr result (λ error. ¬ IsFault error) }
     ensures kept { H.files shelf.new ≡ H.files shelf.old }
     ensures lent { IfSome (H.lent_count shelf.old) (λ n. H.lent_count shelf.new ≡ Some n) }
     ensures back { H.is_out shelf.old ≡ false → H.is_out shelf.new ≡ false }
@@ -77,7 +77,7 @@ fn end_command<R: Threads + Wait + Sync, H: Shelf, K: Sink, E: Sink, G: Gate + S
     runs_are_determined();
     match run_command(rt, alloc, command, shelf, out, err, gate) {
         Ok(()) => 0,
-        Err(halt) => tell_end(alloc, &halt, err),
+        Err(error) => tell_end(alloc, &error, err),
     }
 }
 

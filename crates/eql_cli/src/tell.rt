@@ -5,12 +5,12 @@ ghost use Rattle.eql_outside.specs.Written.{WroteFront};
 ghost use Rattle.eql_words.specs.Usage.{usage_text};
 ghost use Rattle.eql_runs.specs.CutRefusals.{cut_text, differing};
 ghost use Rattle.eql_runs.specs.Runs.{limit_text};
-ghost use Rattle.eql_find.specs.Halts.{IsReport, cut_refusal_of, limit_of, run_status_of};
+ghost use Rattle.eql_find.specs.Errors.{IsReport, cut_refusal_of, limit_of, run_status_of};
 ghost use Rattle.eql_cli.specs.Telling.{TellsRun};
 
 use eql_cut::Differs;
-use eql_find::{CutStop, RunHalt, ShardLimit};
-use eql_inputs::{tell_halt, tell_text};
+use eql_find::{CutStop, FindError, ShardLimit};
+use eql_inputs::{tell_error, tell_text};
 use eql_outside::Sink;
 use eql_values::Memory;
 use eql_words::usage;
@@ -103,29 +103,29 @@ fn tell_cut<E: Sink>(alloc: Global, why: &CutStop, err: &mut E)
 }
 
 /// Tells why a run stopped. Where its report was refused nothing more is told.
-fn tell_run<'a, E: Sink>(alloc: Global, halt: &RunHalt<'a>, err: &mut E)
-    ensures told { TellsRun halt.now (E.written err.old) (E.written err.new) }
-    ensures quiet { IsReport halt.now → err.new ≡ err.old }
+fn tell_run<'a, E: Sink>(alloc: Global, error: &FindError<'a>, err: &mut E)
+    ensures told { TellsRun error.now (E.written err.old) (E.written err.new) }
+    ensures quiet { IsReport error.now → err.new ≡ err.old }
     ensures counts { E.fault_count err.old ≤ E.fault_count err.new }
 {
-    match halt {
-        RunHalt::Files(halt) => tell_halt(alloc, halt, err),
-        RunHalt::Cut(why) => tell_cut(alloc, why, err),
-        RunHalt::Disk => tell_text(alloc, b"checkpoint disk fault\n", err),
-        RunHalt::Write => tell_text(alloc, b"write fault\n", err),
-        RunHalt::Limit(limit) => tell_limit(alloc, *limit, err),
-        RunHalt::Generation => tell_text(alloc, b"limit: generation\n", err),
-        RunHalt::Report(_) => {}
+    match error {
+        FindError::Files(error) => tell_error(alloc, error, err),
+        FindError::Cut(why) => tell_cut(alloc, why, err),
+        FindError::Disk => tell_text(alloc, b"checkpoint disk fault\n", err),
+        FindError::Write => tell_text(alloc, b"write fault\n", err),
+        FindError::Limit(limit) => tell_limit(alloc, *limit, err),
+        FindError::Generation => tell_text(alloc, b"limit: generation\n", err),
+        FindError::Report(_) => {}
     }
 }
 
 /// Tells why a run stopped, and returns its status.
-pub(crate) fn tell_end<'a, E: Sink>(alloc: Global, halt: &RunHalt<'a>, err: &mut E) -> u8
-    ensures status { result ≡ run_status_of halt.now }
-    ensures told { TellsRun halt.now (E.written err.old) (E.written err.new) }
-    ensures quiet { IsReport halt.now → err.new ≡ err.old }
+pub(crate) fn tell_end<'a, E: Sink>(alloc: Global, error: &FindError<'a>, err: &mut E) -> u8
+    ensures status { result ≡ run_status_of error.now }
+    ensures told { TellsRun error.now (E.written err.old) (E.written err.new) }
+    ensures quiet { IsReport error.now → err.new ≡ err.old }
     ensures counts { E.fault_count err.old ≤ E.fault_count err.new }
 {
-    tell_run(alloc, halt, err);
-    halt.status()
+    tell_run(alloc, error, err);
+    error.status()
 }

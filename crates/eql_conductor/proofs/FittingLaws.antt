@@ -15,7 +15,7 @@ use Rattle.eql_values.specs.declared.item.Item.{Item}
 use Rattle.eql_values.specs.declared.found.Holder.{Holder}
 use Rattle.eql_values.specs.Ascending.{AllAreAfter, Ascend}
 use Rattle.eql_values.specs.Chains.{chain, holder}
-use Rattle.eql_values.specs.Matching.{Openings, Slot, slot_cmp, act_by, acts_of, onto, opening_of, entries_of, held_after, match_by, matches, matches_after, after}
+use Rattle.eql_values.specs.Matching.{Openings, Slot, slot_cmp, key_event_by, key_events_of, onto, opening_of, entries_of, held_after, match_by, matches, matches_after, after}
 use Rattle.eql_values.specs.OrderKeys.{order_cmp}
 use Rattle.eql_values.specs.Ordered.{in_order, found_or}
 use Rattle.eql_values.specs.Orders.{key_eq}
@@ -193,19 +193,19 @@ fitting_sorted lists up apart =
     ∙ sym (find_joined q lists up apart)))
 
 -- ---- what is found
-acts_fitting : (key : List Value) (items : List Item) → acts_of key (fitting items) ≡ acts_of key items
-acts_fitting key [] = refl
-acts_fitting key (item ∷ items) = one item.routes (acts_fitting key items)
+key_events_fitting : (key : List Value) (items : List Item) → key_events_of key (fitting items) ≡ key_events_of key items
+key_events_fitting key [] = refl
+key_events_fitting key (item ∷ items) = one item.routes (key_events_fitting key items)
   where
-    one : (routes : List Route) → acts_of key (fitting items) ≡ acts_of key items
-        → acts_of key (fitting (back (item.order, routes) ∷ items)) ≡ acts_of key (back (item.order, routes) ∷ items)
+    one : (routes : List Route) → key_events_of key (fitting items) ≡ key_events_of key items
+        → key_events_of key (fitting (back (item.order, routes) ∷ items)) ≡ key_events_of key (back (item.order, routes) ∷ items)
     one [] rest = rest
-    one (r ∷ routes) rest = ap (cons_option (option_map (act_by item.order) (find (λ (route : Route). key_eq key route.key) (r ∷ routes)))) rest
+    one (r ∷ routes) rest = ap (cons_option (option_map (key_event_by item.order) (find (λ (route : Route). key_eq key route.key) (r ∷ routes)))) rest
 
 module _ (m : ℕ) (span : Option ℤ) (openings : Openings) where
   match_fitting : (past : List Item) (order : OrderKey) (route : Route) → match_by m span openings (fitting past) order route ≡ match_by m span openings past order route
   match_fitting past order route =
-      λ i. option_map (λ c. record { key = route.key; chain = c }) (chain span (openings route.key) m (act_by order route ∷ acts_fitting route.key past i))
+      λ i. option_map (λ c. record { key = route.key; chain = c }) (chain span (openings route.key) m (key_event_by order route ∷ key_events_fitting route.key past i))
 
   found_after : (past items : List Item) → matches_after m span openings (fitting past) (fitting items) ≡ matches_after m span openings past items
   found_after past [] = refl
@@ -246,7 +246,7 @@ keys_fitting (item ∷ items) = one item.routes (keys_fitting items)
 held_fitting : (span : Option ℤ) (openings : Openings) (items : List Item) (key : List Value) (stage : ℕ)
     → held_after span openings (fitting items) key stage ≡ held_after span openings items key stage
 held_fitting span openings items key stage =
-    ap (holder span (openings key) stage) (ap (acts_of key) (onto_fitting items []) ∙ acts_fitting key (onto items []))
+    ap (holder span (openings key) stage) (ap (key_events_of key) (onto_fitting items []) ∙ key_events_fitting key (onto items []))
 
 pub after_fitting : (m : ℕ) (span : Option ℤ) (holders : List Holder) (items : List Item) → after m span holders (fitting items) ≡ after m span holders items
 after_fitting m span holders items =

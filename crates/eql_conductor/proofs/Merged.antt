@@ -13,7 +13,7 @@ use Rattle.eql_values.specs.Marks.{is_below}
 use Rattle.eql_values.specs.OrderKeys.{order_cmp}
 use Rattle.eql_values.specs.Ordered.{numbers}
 use Rattle.eql_values.proofs.Same.{order_same}
-use Rattle.eql_laws.specs.Apart.{AllAreApart, AreInMatchOrder, IsApartFrom, MatchesAreApart, joined_lists, place_of}
+use Rattle.eql_laws.specs.Apart.{AllAreApart, AreInMatchOrder, IsApartFrom, MatchesAreApart, joined_lists, item_order}
 use Rattle.eql_laws.specs.Belows.{between, from_to}
 use Rattle.eql_laws.specs.Lateness.{IsAtMost}
 use Rattle.eql_laws.specs.Merging.{in_match_order}
@@ -52,7 +52,7 @@ module _ (texts : Option (List (List ℕ))) (last mark : Mark) (b : Known) where
       → HandsFrom texts last mark b s lists → IsApartFrom xs lists
   apart_others first s n xs [] lt e le are of_xs h = tt
   apart_others first s n xs (items ∷ lists) lt e le are of_xs h = (
-    kinds_apart order_cmp order_same place_of shard_of first s xs items (λ same. omega (arith, same, lt)) of_xs (is_of s items (are.shard s (omega (arith, e, le))) h.0),
+    kinds_apart order_cmp order_same item_order shard_of first s xs items (λ same. omega (arith, same, lt)) of_xs (is_of s items (are.shard s (omega (arith, e, le))) h.0),
     apart_others first (s + 1) n xs lists (omega (arith, lt)) (omega (arith, e)) le are of_xs h.1,
   )
 

@@ -10,7 +10,7 @@ use Rattle.eql_laws.specs.Counting.{front}
 use Rattle.eql_laws.specs.Places.{ReadTo, whole}
 use Rattle.eql_laws.proofs.Lists.{map_back}
 use Rattle.eql_cut.specs.declared.cut.Cut.{Cut}
-use Rattle.eql_cut.specs.Placing.{NamesLine, place_in, place_of, orders_in}
+use Rattle.eql_cut.specs.Placing.{NamesLine, place_in, listed_place, orders_in}
 use Rattle.eql_cut.specs.Placed.{place_of_line, place_in_texts, HasLine, IsLineAt, EachWasNoted}
 use Rattle.eql_cut.specs.PlacedLaws.{WantedWereNoted, NotedIsPlaced}
 use Rattle.eql_cut.proofs.LinePlaces.{line_stands, in_whole}
@@ -33,7 +33,7 @@ place_noted first rest (entry ∷ places) line are has =
 
 -- of the shards from this one on
 shard_noted : (cut : Cut) (shard : ℕ) (shards : List ReadTo) (lists : List (List (ℕ × ℕ))) → EachWasNoted cut shard (map front shards) lists
-    → (k line : ℕ) → NamesLine cut (shard + k) line → place_of lists k line ≡ place_in_texts (map whole shards) k line
+    → (k line : ℕ) → NamesLine cut (shard + k) line → listed_place lists k line ≡ place_in_texts (map whole shards) k line
 shard_noted cut shard [] [] each k line named = refl
 shard_noted cut shard [] (places ∷ lists) each k line named = absurd each
 shard_noted cut shard (r ∷ shards) [] each k line named = absurd each
@@ -50,8 +50,8 @@ shard_noted cut shard (r ∷ shards) (places ∷ lists) each (suc k) line named 
 
 pub noted_is_placed : NotedIsPlaced
 noted_is_placed shards cut lists each =
-    same_lifted (place_of lists) (place_in_texts (map whole shards)) cut
-    (All-weaker (λ (o : OrderKey). NamesLine cut o.shard o.line) (λ (o : OrderKey). place_of lists o.shard o.line ≡ place_in_texts (map whole shards) o.shard o.line)
+    same_lifted (listed_place lists) (place_in_texts (map whole shards)) cut
+    (All-weaker (λ (o : OrderKey). NamesLine cut o.shard o.line) (λ (o : OrderKey). listed_place lists o.shard o.line ≡ place_in_texts (map whole shards) o.shard o.line)
     (λ o named. shard_noted cut 0 shards lists each o.shard o.line (subst (λ (s : ℕ). NamesLine cut s o.line) (same o.shard) named)) (orders_in cut) (each_named (orders_in cut)))
   where
     same : (s : ℕ) → s ≡ 0 + s

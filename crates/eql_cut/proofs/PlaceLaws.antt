@@ -19,7 +19,7 @@ use Rattle.std.proofs.lemmas.Cmp.{nat_cmp_total}
 use Rattle.eql_values.specs.declared.order.OrderKey.{OrderKey}
 use Rattle.eql_values.specs.declared.item.Item.{Item}
 use Rattle.eql_values.specs.OrderKeys.{tie_cmp, order_cmp, before_all, events_ascend, EventsAscend}
-use Rattle.eql_cut.specs.Placing.{lines_at, IsUnplaced, LinesAscend, place_in, place_of, lifted_order, lifted_chain}
+use Rattle.eql_cut.specs.Placing.{lines_at, IsUnplaced, LinesAscend, place_in, listed_place, lifted_order, lifted_chain}
 
 -- lines of several lists
 
@@ -174,20 +174,20 @@ list_at [] shard d up lt = absurd (omega arith)
 list_at (places ∷ lists) zero d up lt = (and_parts (is_sorted nat_cmp places) (list_all (is_sorted nat_cmp) lists) up).0
 list_at (places ∷ lists) (suc shard) d up lt = list_at lists shard d (and_parts (is_sorted nat_cmp places) (list_all (is_sorted nat_cmp) lists) up).1 (omega arith)
 
-pub place_at : (lists : List (List (ℕ × ℕ))) (shard line : ℕ) (d : List (ℕ × ℕ)) → shard < length lists → place_in (get_or lists shard d) line ≡ place_of lists shard line
+pub place_at : (lists : List (List (ℕ × ℕ))) (shard line : ℕ) (d : List (ℕ × ℕ)) → shard < length lists → place_in (get_or lists shard d) line ≡ listed_place lists shard line
 place_at [] shard line d lt = absurd (omega arith)
 place_at (places ∷ lists) zero line d lt = refl
 place_at (places ∷ lists) (suc shard) line d lt = place_at lists shard line d (omega arith)
 
-pub no_list : (lists : List (List (ℕ × ℕ))) (shard line : ℕ) → length lists ≤ shard → place_of lists shard line ≡ 0
+pub no_list : (lists : List (List (ℕ × ℕ))) (shard line : ℕ) → length lists ≤ shard → listed_place lists shard line ≡ 0
 no_list [] shard line le = refl
 no_list (places ∷ lists) zero line le = absurd (omega arith)
 no_list (places ∷ lists) (suc shard) line le = no_list lists shard line (omega arith)
 
 pub place_some : (lists xs : List (List (ℕ × ℕ))) (places : List (ℕ × ℕ)) (shard line r : ℕ) → xs ≡ lists → shard < length xs → places ≡ get_or xs shard places → r ≡ place_in places line
-    → r ≡ place_of lists shard line
+    → r ≡ listed_place lists shard line
 place_some lists xs places shard line r same lt is got =
-    got ∙ ap (λ (l : List (ℕ × ℕ)). place_in l line) is ∙ place_at xs shard line places lt ∙ ap (λ (l : List (List (ℕ × ℕ))). place_of l shard line) same
+    got ∙ ap (λ (l : List (ℕ × ℕ)). place_in l line) is ∙ place_at xs shard line places lt ∙ ap (λ (l : List (List (ℕ × ℕ))). listed_place l shard line) same
 
 pub list_some : (lists xs : List (List (ℕ × ℕ))) (places : List (ℕ × ℕ)) (shard : ℕ) → xs ≡ lists → LinesAscend lists → shard < length xs → places ≡ get_or xs shard places → is_sorted nat_cmp places ≡ true
 list_some lists xs places shard same up lt is =

@@ -9,7 +9,7 @@ use Rattle.eql_laws.specs.Fitting.{Run, Kept, cut_of}
 use Rattle.eql_laws.specs.Places.{ReadTo, whole}
 use Rattle.eql_cut.specs.declared.cut.Cut.{Cut}
 use Rattle.eql_cut.specs.declared.cut.CutHead.{CutHead}
-use Rattle.eql_cut.specs.Placing.{orders_in, place_of, lifted_cut}
+use Rattle.eql_cut.specs.Placing.{orders_in, listed_place, lifted_cut}
 use Rattle.eql_cut.specs.Placed.{place_in_texts, cut_at_places, cut_without_places}
 
 abbrev by_bytes : Reads
@@ -62,5 +62,5 @@ is_back head = refl
 abbrev two_lists : List (List (ℕ × ℕ))
 two_lists = ((2, 3) ∷ (3, 4) ∷ (4, 7) ∷ (5, 10) ∷ []) ∷ ((1, 0) ∷ (2, 3) ∷ []) ∷ []
 
-by_lists : (head : CutHead) → lifted_cut (place_of two_lists) (cut_without_places (at_25 head)) ≡ at_25 head
+by_lists : (head : CutHead) → lifted_cut (listed_place two_lists) (cut_without_places (at_25 head)) ≡ at_25 head
 by_lists head = refl

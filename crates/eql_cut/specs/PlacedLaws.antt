@@ -10,7 +10,7 @@ use Rattle.eql_laws.specs.Fitting.{Run}
 use Rattle.eql_laws.specs.Places.{ReadTo, whole, ArePlaces, lows_from}
 use Rattle.eql_cut.specs.declared.cut.Cut.{Cut}
 use Rattle.eql_cut.specs.Lifting.{IsPlacedBy}
-use Rattle.eql_cut.specs.Placing.{NamesLine, orders_in, IsUnplaced, place_of, lifted_cut}
+use Rattle.eql_cut.specs.Placing.{NamesLine, orders_in, IsUnplaced, listed_place, lifted_cut}
 use Rattle.eql_cut.specs.Placed.{place_in_texts, cut_at_places, cut_without_places, IsCutOf, HasLine, ShardHasLine, with_places, WereNoted, EachWasNoted}
 
 -- each event of a cut of texts, be it of a lane, of a pending sequence or of a match that a pipe keeps, has the place of its line
@@ -31,12 +31,12 @@ WantedWereNoted = (cut : Cut) (shard : ℕ) (text wanted : List ℕ) → All (Ha
 -- what was noted while shards were read up to places sets the places of the whole texts, for any cut
 abbrev pub NotedIsPlaced : Type 0
 NotedIsPlaced = (shards : List ReadTo) (cut : Cut) (lists : List (List (ℕ × ℕ))) → EachWasNoted cut 0 (map front shards) lists
-    → lifted_cut (place_of lists) cut ≡ cut_at_places (map whole shards) cut
+    → lifted_cut (listed_place lists) cut ≡ cut_at_places (map whole shards) cut
 
 -- so by what was noted a cut of texts that has lost its places is had again
 abbrev pub NotedIsBack : Type 0
 NotedIsBack = (run : Run) (reads : Reads) (t : ℤ) (shards : List ReadTo) (cut : Cut) (lists : List (List (ℕ × ℕ))) → IsReading reads
-    → IsCutOf run reads t shards cut → EachWasNoted (cut_without_places cut) 0 (map front shards) lists → lifted_cut (place_of lists) (cut_without_places cut) ≡ cut
+    → IsCutOf run reads t shards cut → EachWasNoted (cut_without_places cut) 0 (map front shards) lists → lifted_cut (listed_place lists) (cut_without_places cut) ≡ cut
 
 -- each line that a cut of texts at a safe time names stands before the places up to which the shards were read
 abbrev pub NamedWereRead : Type 0

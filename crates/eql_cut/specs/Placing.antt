@@ -45,10 +45,10 @@ place_in [] line = 0
 place_in (p ∷ places) line = if p.0 == line then p.1 else place_in places line
 
 -- the place of a line of a shard, by a list for each shard
-abbrev pub place_of : List (List (ℕ × ℕ)) → (shard line : ℕ) → ℕ
-place_of [] shard line = 0
-place_of (places ∷ lists) zero line = place_in places line
-place_of (places ∷ lists) (suc shard) line = place_of lists shard line
+abbrev pub listed_place : List (List (ℕ × ℕ)) → (shard line : ℕ) → ℕ
+listed_place [] shard line = 0
+listed_place (places ∷ lists) zero line = place_in places line
+listed_place (places ∷ lists) (suc shard) line = listed_place lists shard line
 
 -- in each list the lines ascend strictly
 abbrev pub LinesAscend : List (List (ℕ × ℕ)) → Type 0

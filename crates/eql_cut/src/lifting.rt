@@ -2,7 +2,7 @@
 ghost use Rattle.std.specs.Prelude.{◌≡◌, ◌↔◌, ℕ, IfOk, Contains};
 ghost use Rattle.std.specs.List.Sorted.{IsStrictlyIncreasing};
 ghost use Rattle.eql_cut.specs.Placing.{NamesLine, IsUnplaced, LinesAscend};
-ghost use Rattle.eql_cut.specs.Placing.{orders_in, place_of, lifted_cut};
+ghost use Rattle.eql_cut.specs.Placing.{orders_in, listed_place, lifted_cut};
 
 use crate::cut::Cut;
 use crate::placed::{Placed, lift_each, push_each};
@@ -246,7 +246,7 @@ pub fn named(alloc: Global, cut: &Cut, shard: u32) -> Result<Lines, Memory>
 pub fn lift(alloc: Global, cut: Cut, places: PlaceLists) -> Result<Cut, Memory>
     requires unplaced { IsUnplaced (orders_in cut) }
     requires ascend { LinesAscend places }
-    ensures { IfOk result (λ all. all ≡ lifted_cut (place_of places) cut) }
+    ensures { IfOk result (λ all. all ≡ lifted_cut (listed_place places) cut) }
 {
     let all = cut.lift(alloc, &places)?;
     Ok(all)

@@ -4,7 +4,7 @@ ghost use Rattle.std.specs.List.{flat_map};
 ghost use Rattle.std.specs.FinMap.Entries.{is_sorted};
 ghost use Rattle.std.specs.Ordering.{nat_cmp};
 ghost use Rattle.eql_values.specs.declared.order.OrderKey.{OrderKey as Order};
-ghost use Rattle.eql_cut.specs.Placing.{IsUnplaced, LinesAscend, lines_at, place_in, place_of};
+ghost use Rattle.eql_cut.specs.Placing.{IsUnplaced, LinesAscend, lines_at, place_in, listed_place};
 
 use eql_values::{OrderKey, PlaceLists};
 use std::alloc::{AllocError, Global};
@@ -21,9 +21,9 @@ fn place_in(places: &[(u32, u64)], line: u32) -> u64
 }
 
 /// The place of a line of a shard, or 0 where no list has it.
-fn place_of(lists: &PlaceLists, shard: u32, line: u32) -> u64
+fn listed_place(lists: &PlaceLists, shard: u32, line: u32) -> u64
     requires { LinesAscend lists.now }
-    ensures { result ≡ place_of lists.now shard line }
+    ensures { result ≡ listed_place lists.now shard line }
 {
     match lists.items().get(shard as usize) {
         Some(places) => place_in(places.items(), line),
@@ -47,7 +47,7 @@ pub trait Placed: Sized {
     fn lift(self, alloc: Global, places: &PlaceLists) -> Result<Self, AllocError>
         requires ascend { LinesAscend places.now }
         requires unplaced { IsUnplaced (orders self) }
-        ensures { IfOk result (λ x. x ≡ lifted (place_of places.now) self) };
+        ensures { IfOk result (λ x. x ≡ lifted (listed_place places.now) self) };
 }
 
 impl Placed for OrderKey {
@@ -66,7 +66,7 @@ impl Placed for OrderKey {
     }
 
     fn lift(self, _alloc: Global, places: &PlaceLists) -> Result<OrderKey, AllocError> {
-        let at = place_of(places, self.shard, self.line);
+        let at = listed_place(places, self.shard, self.line);
         Ok(OrderKey {
             ts: self.ts,
             tie: self.tie,
@@ -100,7 +100,7 @@ pub(crate) fn lift_each<T: Placed + Drop>(
 ) -> Result<Vec<T>, AllocError>
     requires ascend { LinesAscend places.now }
     requires unplaced { IsUnplaced (flat_map T.orders items.items) }
-    ensures { IfOk result (λ v. v.items ≡ map (T.lifted (place_of places.now)) items.items) }
+    ensures { IfOk result (λ v. v.items ≡ map (T.lifted (listed_place places.now)) items.items) }
 {
     let mut lifted = Vec::new(alloc);
     for item in items {

@@ -18,7 +18,7 @@ use Rattle.eql_cut.specs.declared.cut.Cut.{Cut}
 use Rattle.eql_cut.specs.Domain.{IsCut, kept_by}
 use Rattle.eql_cut.specs.Fitting.{FitsRun}
 use Rattle.eql_cut.specs.Lifting.{LiftedFits, LiftedStands}
-use Rattle.eql_cut.specs.Placing.{IsUnplaced, LinesAscend, lifted_cut, orders_in, place_of}
+use Rattle.eql_cut.specs.Placing.{IsUnplaced, LinesAscend, lifted_cut, orders_in, listed_place}
 use Rattle.eql_conductor.specs.Openings.{FitMayBegin}
 use Rattle.eql_resume.specs.Beginnings.{Rest, placed_if, rest_by}
 use Rattle.eql_resume.specs.Finding.{Suits}
@@ -26,7 +26,7 @@ use Rattle.eql_resume.specs.Lifted.{LiftsAs, LiftedIsCut}
 use Rattle.eql_runs.specs.RunLaws.{FitsAtAnySpan}
 use Rattle.eql_runs.specs.Searches.{run_of}
 use Rattle.eql_search.specs.Beginnings.{BeginsFrom, MayBegin, cuts_of}
-use Rattle.eql_find.specs.declared.plan.Planning.{Planning}
+use Rattle.eql_find.specs.declared.plan.PlannedQuery.{PlannedQuery}
 use Rattle.eql_find.specs.Searching.{BeganLifted, BeganWith, IsFresh, bare, places_in, rules_in, search_in, slack_told}
 use Rattle.eql_find.specs.Starting.{pipes_of, stages_of, values_of}
 use Rattle.eql_find.proofs.TextLemmas.{asked_slack}
@@ -52,11 +52,11 @@ none_ascend (l ∷ ls) all = both (is_sorted nat_cmp l.places) (list_all (is_sor
 
 -- a cut with the places of its lanes has the lanes that began with it
 abbrev pub placed_by : List (List (ℕ × ℕ)) → (unplaced : Bool) → Cut → Cut
-placed_by lists true cut = lifted_cut (place_of lists) cut
+placed_by lists true cut = lifted_cut (listed_place lists) cut
 placed_by lists false cut = cut
 
 -- ---- with a cut
-module _ {S L : Type 0} (laws : BeginLaws) (find : Find) (p : Planning) (bounds : FindIsBounded find) (texts : Option (List (List ℕ)))
+module _ {S L : Type 0} (laws : BeginLaws) (find : Find) (p : PlannedQuery) (bounds : FindIsBounded find) (texts : Option (List (List ℕ)))
     (lanes : List (LaneView S L)) (format : ℕ) (cut : Cut) (asked : find.checkpoint ≢ None)
     (suits : Suits (stages_of p) (values_of p) (pipes_of p) cut.head cut) (unplaced : format ≡ 1 → IsUnplaced (orders_in cut))
     (slack_is : cut.head.slack ≡ slack_told find.slack) (many : length lanes ≡ length cut.lanes) where
@@ -74,7 +74,7 @@ module _ {S L : Type 0} (laws : BeginLaws) (find : Find) (p : Planning) (bounds 
   lanes_are false began = began.cuts_are
   lanes_are true began = (lifted_as began).lanes_are
 
-  pub rest_placed : (u : Bool) → placed_if u (place_of (places_in lanes)) (rest_by (pipes_of p) u (Some cut))
+  pub rest_placed : (u : Bool) → placed_if u (listed_place (places_in lanes)) (rest_by (pipes_of p) u (Some cut))
       ≡ (let c = placed_by (places_in lanes) u cut in let r : Rest = record { mark = At cut.mark; holders = c.holders; book = c.book; unplaced = false } in r)
   rest_placed false = refl
   rest_placed true = refl
@@ -82,11 +82,11 @@ module _ {S L : Type 0} (laws : BeginLaws) (find : Find) (p : Planning) (bounds 
   -- the placed cut fits and stands in order
   fits_by : (u : Bool) → (u ≡ true → IsUnplaced (orders_in cut)) → FitsRun (stages_of p) (values_of p) (pipes_of p) (placed_by (places_in lanes) u cut)
   fits_by false none = suits.fits
-  fits_by true none = (laws.lifted_fit (place_of (places_in lanes)) (stages_of p) (values_of p) (pipes_of p) cut (none refl)).1 suits.fits
+  fits_by true none = (laws.lifted_fit (listed_place (places_in lanes)) (stages_of p) (values_of p) (pipes_of p) cut (none refl)).1 suits.fits
 
   stands_by : (u : Bool) → (u ≡ true → IsUnplaced (orders_in cut)) → IsCut (placed_by (places_in lanes) u cut)
   stands_by false none = suits.is_cut
-  stands_by true none = laws.lifted_stands (place_of (places_in lanes)) cut (none refl) suits.is_cut
+  stands_by true none = laws.lifted_stands (listed_place (places_in lanes)) cut (none refl) suits.is_cut
 
   pub same_head : (u : Bool) → (placed_by (places_in lanes) u cut).head ≡ cut.head
   same_head false = refl
@@ -119,12 +119,12 @@ module _ {S L : Type 0} (laws : BeginLaws) (find : Find) (p : Planning) (bounds 
 
   pub may_from : (u : Bool) → (u ≡ true → IsUnplaced (orders_in cut)) → cut.head.shards ≡ length lanes → BeganWith texts u (Some cut) lanes
       → (rest : Rest) → rest ≡ rest_by (pipes_of p) u (Some cut)
-      → (let r = placed_if u (place_of (places_in lanes)) rest in
+      → (let r = placed_if u (listed_place (places_in lanes)) rest in
       MayBegin (rules_in (search_in find p)) (pipes_of p) r.mark (cuts_of lanes) r.holders r.book)
   may_from u none shards began rest is =
       let c = placed_by (places_in lanes) u cut in
       subst (λ (r : Rest). MayBegin (rules_in (search_in find p)) (pipes_of p) r.mark (cuts_of lanes) r.holders r.book)
-      (sym (ap (placed_if u (place_of (places_in lanes))) is ∙ rest_placed u))
+      (sym (ap (placed_if u (listed_place (places_in lanes))) is ∙ rest_placed u))
       (subst (λ (t : ℤ). BeginsFrom (rules_in (search_in find p)) (pipes_of p) (length (cuts_of lanes)) (record { time = t; lanes = cuts_of lanes; holders = c.holders; book = c.book }))
       (same_mark u)
       (kept_may c (ap (λ h. h.slack) (same_head u) ∙ slack_is) (ap (λ h. h.shards) (same_head u) ∙ shards) (lanes_are u began) (fits_by u none) (stands_by u none)))
@@ -135,12 +135,12 @@ fresh_cuts [] all = All-nil (λ (lane : LaneCut). lane ≡ fresh_cut)
 fresh_cuts (l ∷ ls) all =
     All-cons (λ (lane : LaneCut). lane ≡ fresh_cut) l.state.cut (cuts_of ls) (All-head IsFresh l ls all).0 (fresh_cuts ls (All-tail IsFresh l ls all))
 
-pub may_fresh : {S L : Type 0} (find : Find) (p : Planning) (lanes : List (LaneView S L)) (u : Bool) → All IsFresh lanes → (rest : Rest)
+pub may_fresh : {S L : Type 0} (find : Find) (p : PlannedQuery) (lanes : List (LaneView S L)) (u : Bool) → All IsFresh lanes → (rest : Rest)
     → rest ≡ rest_by (pipes_of p) u None
-    → (let r = placed_if rest.unplaced (place_of (places_in lanes)) rest in
+    → (let r = placed_if rest.unplaced (listed_place (places_in lanes)) rest in
     MayBegin (rules_in (search_in find p)) (pipes_of p) r.mark (cuts_of lanes) r.holders r.book)
 may_fresh find p lanes u all rest is =
-    subst (λ (x : Rest). let r = placed_if x.unplaced (place_of (places_in lanes)) x in
+    subst (λ (x : Rest). let r = placed_if x.unplaced (listed_place (places_in lanes)) x in
     MayBegin (rules_in (search_in find p)) (pipes_of p) r.mark (cuts_of lanes) r.holders r.book) (sym is)
     (record { lanes_are = fresh_cuts lanes all; none = refl; book_is = refl })
 

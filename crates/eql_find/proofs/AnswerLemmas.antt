@@ -1,4 +1,4 @@
--- What a run over lanes returns: its listing and its report, and why it halts.
+-- What a run over lanes returns: its listing and its report, and why it errors.
 use native.Mathlib.Omega.{arith}
 use Rattle.std.proofs.Common.{◌≡◌, ◌≢◌, ◌<◌, ◌+◌, ◌^◌, ℕ, zero, suc, ℤ, List, [], ◌∷◌, ◌++◌, Option, Some, None, Ok, Err, refl, sym, ap, ap₂, ◌∙◌, subst, length, map}
 use Rattle.std.specs.Prelude.{IfSome, Result, All, slice_get, drop}
@@ -25,16 +25,16 @@ use Rattle.eql_runs.specs.Searches.{Search, matches_of, plan_of, reads_of, repor
 use Rattle.eql_runs.specs.Starts.{IsCutOf}
 use Rattle.eql_search.specs.declared.stop.Stop.{Stop}
 use Rattle.eql_search.specs.declared.stop.Stop.TheVariants as stop
-use Rattle.eql_search.specs.Answers.{AreSteadyBut, BecameAt, CountWhole, HasCause, IsNoFault, IsRead, RanOutOfBytes, RanOutOfLines, WereRead}
+use Rattle.eql_search.specs.Answers.{AreSteadyBut, BecameAt, CountWhole, HasSearchCause, IsNoFault, IsRead, RanOutOfBytes, RanOutOfLines, WereRead}
 use Rattle.eql_search.specs.Searches.{AreTextsOf}
-use Rattle.eql_find.specs.declared.halt.RunHalt.{RunHalt}
-use Rattle.eql_find.specs.declared.halt.RunHalt.TheVariants as run
-use Rattle.eql_find.specs.declared.plan.Planning.{Planning}
-use Rattle.eql_find.specs.Halts.{DiskFollows, ErrFollows, IsFault, IsReport, OutFollows}
+use Rattle.eql_find.specs.declared.error.FindError.{FindError}
+use Rattle.eql_find.specs.declared.error.FindError.TheVariants as run
+use Rattle.eql_find.specs.declared.plan.PlannedQuery.{PlannedQuery}
+use Rattle.eql_find.specs.Errors.{DiskFollows, ErrFollows, IsFault, IsReport, OutFollows}
 use Rattle.eql_find.specs.Reports.{counts_in}
 use Rattle.eql_find.specs.Running.{AreSearched, IsBeyondOn, StartsOver}
 use Rattle.eql_find.specs.Searching.{AreCutsOf, LaneFaultsFollow, WroteReportOf, LanesStop, bare, search_in}
-use Rattle.eql_find.specs.Stops.{IsHaltOf, read, write, disk, memory, lines, bytes, generation}
+use Rattle.eql_find.specs.Stops.{IsErrorOf, read, write, disk, memory, lines, bytes, generation}
 use Rattle.eql_find.proofs.KeepLemmas.{are_cuts_of}
 use Rattle.eql_find.proofs.RunLemmas.{StartsSo}
 use Rattle.eql_find.proofs.SearchLemmas.{slack_same, told_each, told_two}
@@ -56,7 +56,7 @@ module _ (search : Search) where
   counts_from shard (t ∷ ts) [] h = absurd h
   counts_from shard (t ∷ ts) (l ∷ ls) h = ap₂ (λ (c : Counts) (cs : List Counts). c ∷ cs) h.0 (counts_from (shard + 1) ts ls h.1)
 
-counts_are : {S L : Type 0} (find : Find) (p : Planning) (ts : List (List ℕ)) (lanes : List (LaneView S L)) → planned_query p.plan ≡ plan_of (search_in find p)
+counts_are : {S L : Type 0} (find : Find) (p : PlannedQuery) (ts : List (List ℕ)) (lanes : List (LaneView S L)) → planned_query p.plan ≡ plan_of (search_in find p)
     → WereRead (line_of (planned_query p.plan)) (nanos_of find.slack) ts lanes → counts_in lanes ≡ shard_counts_from (search_in find p) 0 ts
 counts_are find p ts lanes plan were =
     counts_from (search_in find p) 0 ts lanes
@@ -64,7 +64,7 @@ counts_are find p ts lanes plan were =
     (subst (λ (slack : Option ℤ). CountWhole (line_of (planned_query p.plan)) slack 0 ts lanes) (slack_same find.slack) were.counts))
 
 -- ---- what a run says of told texts with which it may begin
-module _ {S L : Type 0} (find : Find) (p : Planning) (told : Option (List (List ℕ))) (lanes mids news : List (LaneView S L)) (rest placed : Rest)
+module _ {S L : Type 0} (find : Find) (p : PlannedQuery) (told : Option (List (List ℕ))) (lanes mids news : List (LaneView S L)) (rest placed : Rest)
     (starts : (ts : List (List ℕ)) → told ≡ Some ts → StartsOver told find p lanes rest ts → StartsSo find p ts mids placed)
     (listed_is : placed.book.listed ≡ rest.book.listed) where
   -- what the search says of them
@@ -144,7 +144,7 @@ no_cuts search None listed out out' StartsOver = tt
 no_cuts search (Some ts) listed out out' StartsOver =
     λ started less slack is. (All-nil (IsCutOf search slack ts), All-nil (WroteCounted search ts listed out out'))
 
--- ---- halts
+-- ---- errors
 -- the text of a lane, by its shard
 text_there : {S L : Type 0} (left : S → Option (List ℕ)) (texts : List (List ℕ)) (lanes : List (LaneView S L)) (shard : ℕ) (lane : LaneView S L)
     → AreTextsOf left texts lanes → slice_get lanes shard ≡ Some lane → (text : List ℕ) × (slice_get texts shard ≡ Some text)
@@ -198,11 +198,11 @@ module _ {S L : Type 0} (left : S → Option (List ℕ)) (find : Find) (told : O
             beyond = subst (λ (o : Option (List ℕ)). IfSome o (λ t. GoesBeyond (many_bytes shard) (Some own.own.state.cut) t)) text.1 out.became.beyond;
           }
 
-  -- why the run halts, by why its search stopped
-  pub stopped_by : (search : Search) (StartsOver : List (List ℕ) → Type 0) (before now disk_before disk_now : ℕ) (err err' : Option (List ℕ)) (why : Stop) (h : RunHalt)
-      → HasCause told why mids news before now disk_before disk_now
+  -- why the run errors, by why its search stopped
+  pub stopped_by : (search : Search) (StartsOver : List (List ℕ) → Type 0) (before now disk_before disk_now : ℕ) (err err' : Option (List ℕ)) (why : Stop) (h : FindError)
+      → HasSearchCause told why mids news before now disk_before disk_now
       → (Rose disk_before disk_now → find.checkpoint ≢ None) → (why ≡ stop.Limit reached.Generation → find.checkpoint ≢ None)
-      → IsHaltOf find.shards why h → LanesStop find search told StartsOver (IsBeyondOn lanes) err err' h
+      → IsErrorOf find.shards why h → LanesStop find search told StartsOver (IsBeyondOn lanes) err err' h
   stopped_by search StartsOver before now d e err err' _ _ cause rose ends (read shard name named) = tt
   stopped_by search StartsOver before now d e err err' _ _ cause rose ends write = tt
   stopped_by search StartsOver before now d e err err' _ _ cause rose ends disk = rose cause
@@ -217,8 +217,8 @@ module _ {S L : Type 0} (left : S → Option (List ℕ)) (find : Find) (told : O
       steady_over lanes mids news taken (λ shard. IsRead {A = T} (Err why))
       (subst (λ (a : Result T Stop). AreSteadyBut (λ shard. IsRead a) mids news) is steady)
 
-  pub faults_by : (T : Type 0) (before now disk_before disk_now : ℕ) (why : Stop) (h : RunHalt) → HasCause told why mids news before now disk_before disk_now
-      → AreSteadyBut (λ shard. IsRead {A = T} (Err why)) lanes news → IsHaltOf find.shards why h → LaneFaultsFollow {A = T} find (Err h) lanes news
+  pub faults_by : (T : Type 0) (before now disk_before disk_now : ℕ) (why : Stop) (h : FindError) → HasSearchCause told why mids news before now disk_before disk_now
+      → AreSteadyBut (λ shard. IsRead {A = T} (Err why)) lanes news → IsErrorOf find.shards why h → LaneFaultsFollow {A = T} find (Err h) lanes news
   faults_by T before now d f _ _ cause steady (read shard name named) = record {
     shard = shard;
     named = named;
@@ -240,8 +240,8 @@ module _ {S L : Type 0} (left : S → Option (List ℕ)) (find : Find) (told : O
 
 -- the counts of the disk, of the output and of the error output, by why the search stopped
 module _ {S L : Type 0} (A : Type 0) (shards : List (List ℕ)) (told : Option (List (List ℕ))) (olds news : List (LaneView S L)) (before now disk_before disk_now : ℕ) where
-  pub disk_as : (why : Stop) (h : RunHalt) → HasCause told why olds news before now disk_before disk_now
-      → (why ≢ stop.Disk → ¬ IsRead {A = A} (Err why) → disk_now ≡ disk_before) → IsHaltOf shards why h → DiskFollows {A = A} (Err h) disk_before disk_now
+  pub disk_as : (why : Stop) (h : FindError) → HasSearchCause told why olds news before now disk_before disk_now
+      → (why ≢ stop.Disk → ¬ IsRead {A = A} (Err why) → disk_now ≡ disk_before) → IsErrorOf shards why h → DiskFollows {A = A} (Err h) disk_before disk_now
   disk_as _ _ cause steady (read shard name named) = tt
   disk_as _ _ cause steady write = steady (λ e. absurd cc) (λ e. e)
   disk_as _ _ cause steady disk = cause
@@ -250,8 +250,8 @@ module _ {S L : Type 0} (A : Type 0) (shards : List (List ℕ)) (told : Option (
   disk_as _ _ cause steady (bytes shard) = steady (λ e. absurd cc) (λ e. e)
   disk_as _ _ cause steady generation = steady (λ e. absurd cc) (λ e. e)
 
-  pub out_as : (why : Stop) (h : RunHalt) → HasCause told why olds news before now disk_before disk_now
-      → (why ≢ stop.Write → ¬ IsRead {A = A} (Err why) → now ≡ before) → IsHaltOf shards why h → OutFollows {A = A} (Err h) before now
+  pub out_as : (why : Stop) (h : FindError) → HasSearchCause told why olds news before now disk_before disk_now
+      → (why ≢ stop.Write → ¬ IsRead {A = A} (Err why) → now ≡ before) → IsErrorOf shards why h → OutFollows {A = A} (Err h) before now
   out_as _ _ cause steady (read shard name named) = tt
   out_as _ _ cause steady write = cause
   out_as _ _ cause steady disk = steady (λ e. absurd cc) (λ e. e)
@@ -260,7 +260,7 @@ module _ {S L : Type 0} (A : Type 0) (shards : List (List ℕ)) (told : Option (
   out_as _ _ cause steady (bytes shard) = steady (λ e. absurd cc) (λ e. e)
   out_as _ _ cause steady generation = steady (λ e. absurd cc) (λ e. e)
 
-pub err_as : (A : Type 0) (shards : List (List ℕ)) (n : ℕ) (why : Stop) (h : RunHalt) → IsHaltOf shards why h → ErrFollows {A = A} (Err h) n n
+pub err_as : (A : Type 0) (shards : List (List ℕ)) (n : ℕ) (why : Stop) (h : FindError) → IsErrorOf shards why h → ErrFollows {A = A} (Err h) n n
 err_as A shards n _ _ (read shard name named) = refl
 err_as A shards n _ _ write = refl
 err_as A shards n _ _ disk = refl
@@ -276,7 +276,7 @@ no_other r why other is apart = λ e. apart (let same = sym is ∙ e in cc)
 pub unread : {T : Type 0} (r : Result T Stop) (why : Stop) → r ≡ Err why → ¬ IsRead {A = T} (Err why) → ¬ IsRead r
 unread {T = T} r why is none = λ read. none (subst (λ (a : Result T Stop). IsRead a) is read)
 
-pub calm_by : (shards : List (List ℕ)) (why : Stop) (h : RunHalt) → IsNoFault why → IsHaltOf shards why h → ¬ IsFault h
+pub calm_by : (shards : List (List ℕ)) (why : Stop) (h : FindError) → IsNoFault why → IsErrorOf shards why h → ¬ IsFault h
 calm_by shards _ _ calm (read shard name named) fault = absurd calm
 calm_by shards _ _ calm write fault = absurd calm
 calm_by shards _ _ calm disk fault = absurd calm
@@ -286,7 +286,7 @@ calm_by shards _ _ calm (bytes shard) fault = fault
 calm_by shards _ _ calm generation fault = fault
 
 -- a search that stopped refused no report
-pub no_report : (shards : List (List ℕ)) (why : Stop) (h : RunHalt) → IsHaltOf shards why h → ¬ IsReport h
+pub no_report : (shards : List (List ℕ)) (why : Stop) (h : FindError) → IsErrorOf shards why h → ¬ IsReport h
 no_report shards _ _ (read shard name named) report = report
 no_report shards _ _ write report = report
 no_report shards _ _ disk report = report
@@ -296,7 +296,7 @@ no_report shards _ _ (bytes shard) report = report
 no_report shards _ _ generation report = report
 
 -- the end of the generations is told where the search told it, and nowhere else
-pub ends_by : (shards : List (List ℕ)) (why : Stop) (h : RunHalt) → IsHaltOf shards why h → h ≡ run.Generation → why ≡ stop.Limit reached.Generation
+pub ends_by : (shards : List (List ℕ)) (why : Stop) (h : FindError) → IsErrorOf shards why h → h ≡ run.Generation → why ≡ stop.Limit reached.Generation
 ends_by shards _ _ (read shard name named) e = absurd cc
 ends_by shards _ _ write e = absurd cc
 ends_by shards _ _ disk e = absurd cc

@@ -23,13 +23,13 @@ use Rattle.eql_runs.specs.Runs.{IfFound, IsFindAccepted, Searches, GenerationsEn
 use Rattle.eql_runs.specs.Searches.{Search, report_lines}
 use Rattle.eql_runs.specs.Starts.{DiskHolds, OnDisk, start_for}
 use Rattle.eql_inputs.specs.Shards.{AreWholeFiles}
-use Rattle.eql_inputs.specs.declared.halt.Halt.TheVariants as halt
+use Rattle.eql_inputs.specs.declared.error.InputError.TheVariants as error
 use Rattle.eql_search.specs.Beginnings.{cuts_of}
-use Rattle.eql_find.specs.declared.halt.RunHalt.{RunHalt}
-use Rattle.eql_find.specs.declared.halt.RunHalt.TheVariants as run
-use Rattle.eql_find.specs.declared.plan.Planning.{Planning}
-use Rattle.eql_find.specs.Finding.{IsPlanOf, HasCause, names_in}
-use Rattle.eql_find.specs.Halts.{limit_of}
+use Rattle.eql_find.specs.declared.error.FindError.{FindError}
+use Rattle.eql_find.specs.declared.error.FindError.TheVariants as run
+use Rattle.eql_find.specs.declared.plan.PlannedQuery.{PlannedQuery}
+use Rattle.eql_find.specs.Finding.{IsPlanOf, HasFindCause, names_in}
+use Rattle.eql_find.specs.Errors.{limit_of}
 use Rattle.eql_find.specs.Running.{IsBeyondOn, StartsOver}
 use Rattle.eql_find.specs.Searching.{BeganWith, IsFresh, LaneFaultsFollow, LanesStop, places_in, search_in}
 use Rattle.eql_find.proofs.FoundLemmas.{Runs, TheRun, report_is}
@@ -58,7 +58,7 @@ front_there (n ∷ ns) rest fs (t ∷ ts) has =
     ap (λ o. cond (is_none o) (Some n) (first_missing fs ns)) has.0 ∙ front_there ns rest fs ts has.1
 
 -- a shard that failed is one that the run comes to
-pub read_cause : (find : Find) (files : Option Files) (p : Planning) (lefts : List (Option (List ℕ))) (shard : ℕ) (name : List ℕ)
+pub read_cause : (find : Find) (files : Option Files) (p : PlannedQuery) (lefts : List (Option (List ℕ))) (shard : ℕ) (name : List ℕ)
     → IsPlanOf find files p → AreWholeFiles find.shards files lefts → slice_get find.shards shard ≡ Some name
     → IsNamed (names_in find) name × IfSome files (λ fs. Reaches (names_in find) fs name)
 read_cause find None p lefts shard name is whole at =
@@ -128,7 +128,7 @@ beyond_on told lanes true format generation (Some cut) began limit lane was text
     (same_limit limit lane.state.cut one.1 text (ap (λ (c : LaneCut). c.counts.lines) one.3) (ap LaneCut.offset one.3) h)
 
 -- ---- all causes
-module _ {S L : Type 0} (find : Find) (p : Planning) (told : Option (List (List ℕ))) (lanes news : List (LaneView S L)) (rest : Rest)
+module _ {S L : Type 0} (find : Find) (p : PlannedQuery) (told : Option (List (List ℕ))) (lanes news : List (LaneView S L)) (rest : Rest)
     (disk now : Option History) (files : Option Files) (is : IsPlanOf find files p) (lefts : List (Option (List ℕ)))
     (whole : AreWholeFiles find.shards files lefts)
     (format generation : ℕ) (o : Option Cut) (began : BeganWith told (format == 1) o lanes)
@@ -163,13 +163,13 @@ module _ {S L : Type 0} (find : Find) (p : Planning) (told : Option (List (List 
       by None plan all = tt
       by (Some fs) plan all = (search_in find p, all.texts, searches_in find fs p all.texts plan all.there)
 
-  pub run_cause : (h : RunHalt) (err err' : Option (List ℕ))
+  pub run_cause : (h : FindError) (err err' : Option (List ℕ))
       → LanesStop find (search_in find p) told (StartsOver told find p lanes rest) (IsBeyondOn lanes) err err' h
       → LaneFaultsFollow {A = Unit {0}} find (Err h) lanes news → (h ≡ run.Generation → GenerationsEnd disk now)
-      → HasCause find files disk now err err' h
-  run_cause (run.Files (halt.Refused r)) err err' stops failed ends = absurd stops
-  run_cause (run.Files (halt.Read name)) err err' stops failed ends = read_cause find files p lefts failed.shard name.now is whole failed.named
-  run_cause (run.Files halt.Memory) err err' stops failed ends = tt
+      → HasFindCause find files disk now err err' h
+  run_cause (run.Files (error.Refused r)) err err' stops failed ends = absurd stops
+  run_cause (run.Files (error.Read name)) err err' stops failed ends = read_cause find files p lefts failed.shard name.now is whole failed.named
+  run_cause (run.Files error.Memory) err err' stops failed ends = tt
   run_cause (run.Cut why) err err' stops failed ends = absurd stops
   run_cause run.Disk err err' stops failed ends = (stops, searched_by)
   run_cause run.Write err err' stops failed ends = of_each _ (λ fs on holds run. run.accepted)
@@ -190,12 +190,12 @@ module _ {S L : Type 0} (find : Find) (p : Planning) (told : Option (List (List 
     wrote = stops.wrote;
   }
 
-  pub all_accepted : (r : Result (Unit {0}) RunHalt) → OnOk r (IfFound find files disk (IsFindAccepted find))
+  pub all_accepted : (r : Result (Unit {0}) FindError) → OnOk r (IfFound find files disk (IsFindAccepted find))
   all_accepted (Ok done) = of_each (λ fs on. IsFindAccepted find fs on) (λ fs on holds run. run.accepted)
   all_accepted (Err h) = tt
 
-  pub all_causes : (r : Result (Unit {0}) RunHalt) (err err' : Option (List ℕ))
+  pub all_causes : (r : Result (Unit {0}) FindError) (err err' : Option (List ℕ))
       → IfErr r (LanesStop find (search_in find p) told (StartsOver told find p lanes rest) (IsBeyondOn lanes) err err') → LaneFaultsFollow find r lanes news
-      → (r ≡ Err run.Generation → GenerationsEnd disk now) → IfErr r (HasCause find files disk now err err')
+      → (r ≡ Err run.Generation → GenerationsEnd disk now) → IfErr r (HasFindCause find files disk now err err')
   all_causes (Ok done) err err' stops failed ends = tt
   all_causes (Err h) err err' stops failed ends = run_cause h err err' stops failed (λ e. ends (ap Err e))

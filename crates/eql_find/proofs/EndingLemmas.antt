@@ -21,8 +21,8 @@ use Rattle.eql_runs.specs.RunLaws.{DiskHoldsOne}
 use Rattle.eql_runs.specs.Runs.{GenerationsEnd}
 use Rattle.eql_runs.specs.Starts.{DiskHolds, OnDisk, StandsFor, generation_on}
 use Rattle.eql_resume.specs.Finding.{disk_holding}
-use Rattle.eql_find.specs.declared.halt.RunHalt.{RunHalt}
-use Rattle.eql_find.specs.declared.halt.RunHalt.TheVariants as run
+use Rattle.eql_find.specs.declared.error.FindError.{FindError}
+use Rattle.eql_find.specs.declared.error.FindError.TheVariants as run
 use Rattle.eql_find.specs.Running.{KeepsIfAsked}
 use Rattle.eql_find.specs.Searching.{KeepsAs}
 use Rattle.eql_find.specs.Starting.{Begun, IsFound, IsFreshKeep, disk_after, on_begun}
@@ -123,7 +123,7 @@ module _ {D : Type 0} (history : D → Option History) (count : D → ℕ) (imag
   }
 
   pub generations_end : (head : CutHead) (from : Mark) (Are : List Cut → Type 0) (disk : Option History) (keep kept : Option (Keep D))
-      (r : Result (Unit {0}) RunHalt) → IsFound find disk begun → KeepsIfAsked history find.checkpoint keep
+      (r : Result (Unit {0}) FindError) → IsFound find disk begun → KeepsIfAsked history find.checkpoint keep
       → IsFreshKeep history count disk keep → KeepsAs history head from Are keep kept r → r ≡ Err run.Generation
       → GenerationsEnd disk (disk_after history disk kept)
   generations_end head from Are disk None None r is asked fresh keeps e = absurd (keeps e)

@@ -17,7 +17,7 @@ use Rattle.eql_runs.specs.RunLaws.{TestedIsAccepted}
 use Rattle.eql_runs.specs.Runs.{Finds, IsFindAccepted, Searches, Trusts}
 use Rattle.eql_runs.specs.Searches.{rest_of, report_lines, report_of, shard_counts_from}
 use Rattle.eql_runs.specs.Starts.{BeginsWith, DiskHolds, IsTrusted, OnDisk, a_cut, bad_head, bad_text, listed_on, nothing_kept, start_asked, start_for}
-use Rattle.eql_find.specs.declared.plan.Planning.{Planning}
+use Rattle.eql_find.specs.declared.plan.PlannedQuery.{PlannedQuery}
 use Rattle.eql_find.specs.Finding.{FindsAll, FindsListing, FindsSome, IsReportOf}
 use Rattle.eql_find.specs.Running.{StartsOver}
 use Rattle.eql_find.specs.Searching.{BeganWith, search_in}
@@ -25,7 +25,7 @@ use Rattle.eql_find.specs.Starting.{Begun, IsOwn, on_begun, pipes_of}
 use Rattle.eql_find.proofs.TextLemmas.{begins_asked}
 
 -- what passed the tests and is trusted is what a run may begin with
-begins_of : (find : Find) (p : Planning) (texts : List (List ℕ)) (on : OnDisk) → IsTested (search_in find p) texts on
+begins_of : (find : Find) (p : PlannedQuery) (texts : List (List ℕ)) (on : OnDisk) → IsTested (search_in find p) texts on
     → IsTrusted (search_in find p) texts on → BeginsWith (search_in find p) texts on
 begins_of find p texts nothing_kept tested trusted = tt
 begins_of find p texts (a_cut format generation cut) tested trusted = record { head = tested.head; fits = tested.fits; is_cut = trusted tested.head }
@@ -43,13 +43,13 @@ start_is find format generation None on asked same = by find.checkpoint same
     by (Some c) same = sym (same (λ gone. none-some c (sym gone)))
 
 -- how many lines of the listing were written before
-listed_is : (p : Planning) (u : Bool) (format generation : ℕ) (o : Option Cut) (rest : Rest) → rest ≡ rest_by (pipes_of p) u o
+listed_is : (p : PlannedQuery) (u : Bool) (format generation : ℕ) (o : Option Cut) (rest : Rest) → rest ≡ rest_by (pipes_of p) u o
     → rest.book.listed ≡ listed_on (disk_holding format generation o)
 listed_is p u format generation None rest is = ap (λ (r : Rest). r.book.listed) is
 listed_is p u format generation (Some cut) rest is = ap (λ (r : Rest). r.book.listed) is
 
 -- a run over these files and this disk
-pub record TheRun {S L : Type 0} (find : Find) (p : Planning) (told : Option (List (List ℕ))) (lanes : List (LaneView S L)) (rest : Rest)
+pub record TheRun {S L : Type 0} (find : Find) (p : PlannedQuery) (told : Option (List (List ℕ))) (lanes : List (LaneView S L)) (rest : Rest)
     (fs : Files) (on : OnDisk) : Type 0 where
   pub texts : List (List ℕ)
   pub told_is : told ≡ Some texts
@@ -59,7 +59,7 @@ pub record TheRun {S L : Type 0} (find : Find) (p : Planning) (told : Option (Li
   pub started : Trusts find fs on → StartsOver told find p lanes rest texts
   pub listed : rest.book.listed ≡ listed_on (start_for find on)
 
-module _ {S L : Type 0} (law : TestedIsAccepted) (find : Find) (p : Planning) (told : Option (List (List ℕ))) (lanes : List (LaneView S L)) (rest : Rest)
+module _ {S L : Type 0} (law : TestedIsAccepted) (find : Find) (p : PlannedQuery) (told : Option (List (List ℕ))) (lanes : List (LaneView S L)) (rest : Rest)
     (begun : Begun) (own : IsOwn find p begun) (began : BeganWith told (begun.format == 1) begun.cut lanes)
     (rest_is : rest ≡ rest_by (pipes_of p) (begun.format == 1) begun.cut) where
   pub the_run : (fs : Files) (on : OnDisk) (texts : List (List ℕ)) → told ≡ Some texts → Searches find fs (search_in find p) texts
@@ -85,13 +85,13 @@ module _ {S L : Type 0} (law : TestedIsAccepted) (find : Find) (p : Planning) (t
       }
 
 -- ---- what it writes
-abbrev Wrote : {S L : Type 0} → (find : Find) (p : Planning) (told : Option (List (List ℕ))) (lanes : List (LaneView S L)) (rest : Rest)
+abbrev Wrote : {S L : Type 0} → (find : Find) (p : PlannedQuery) (told : Option (List (List ℕ))) (lanes : List (LaneView S L)) (rest : Rest)
     → (List ℕ → List ℕ → Type 0) → Type 0
 Wrote find p told lanes rest Got =
     IfSome told (λ ts. StartsOver told find p lanes rest ts
     → Got (rest_of (search_in find p) rest.book.listed ts) (report_of (search_in find p) ts))
 
-module _ {S L : Type 0} (find : Find) (p : Planning) (told : Option (List (List ℕ))) (lanes : List (LaneView S L)) (rest : Rest)
+module _ {S L : Type 0} (find : Find) (p : PlannedQuery) (told : Option (List (List ℕ))) (lanes : List (LaneView S L)) (rest : Rest)
     (disk : Option History) where
   -- a search of these files, with the bytes that were got
   found_by : (Got : List ℕ → List ℕ → Type 0) (fs : Files) (on : OnDisk) → Wrote find p told lanes rest Got → TheRun find p told lanes rest fs on

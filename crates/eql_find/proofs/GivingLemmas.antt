@@ -12,10 +12,10 @@ use Rattle.eql_cut.specs.declared.cut.CutHead.{CutHead}
 use Rattle.eql_words.specs.declared.commands.Checkpoint.{Checkpoint}
 use Rattle.eql_conductor.specs.declared.plan.Keep.{Keep}
 use Rattle.eql_conductor.specs.Runs.{disk_faults}
-use Rattle.eql_inputs.specs.declared.halt.Halt.TheVariants as halt
-use Rattle.eql_find.specs.declared.halt.RunHalt.{RunHalt}
-use Rattle.eql_find.specs.declared.halt.RunHalt.TheVariants as run
-use Rattle.eql_find.specs.Halts.{DiskFollows, FaultsFollow}
+use Rattle.eql_inputs.specs.declared.error.InputError.TheVariants as error
+use Rattle.eql_find.specs.declared.error.FindError.{FindError}
+use Rattle.eql_find.specs.declared.error.FindError.TheVariants as run
+use Rattle.eql_find.specs.Errors.{DiskFollows, FaultsFollow}
 use Rattle.eql_find.specs.Running.{KeepsIfAsked}
 use Rattle.eql_find.specs.Searching.{KeepsAs}
 use Rattle.eql_find.specs.Starting.{IsFreshKeep, KeepsFor}
@@ -49,7 +49,7 @@ module _ {D : Type 0} (history : D → Option History) (count : D → ℕ) where
   keeps_some (Some c) (Some k) keeps asked = λ gone. none-some k (sym gone)
 
   -- in the run it begins to keep none, and stops to keep none
-  module _ (head : CutHead) (from : Mark) (Are : List Cut → Type 0) (r : Result (Unit {0}) RunHalt) where
+  module _ (head : CutHead) (from : Mark) (Are : List Cut → Type 0) (r : Result (Unit {0}) FindError) where
     pub still_none : (keep kept : Option (Keep D)) → KeepsAs history head from Are keep kept r → keep ≡ None → kept ≡ None
     still_none None None keeps none = refl
     still_none None (Some l) keeps none = absurd keeps
@@ -79,13 +79,13 @@ module _ {D : Type 0} (history : D → Option History) (count : D → ℕ) where
   back_rose None before now from gave none rose = let some = rose_from_none from 0 none rose in absurd (omega (arith, some))
   back_rose (Some k) before now from gave none rose = gave.raised (rose_from_none from (count k.disk) none rose)
 
-  pub disk_told : (start : Option History) (keep kept : Option (Keep D)) (r : Result (Unit {0}) RunHalt) (before now : ℕ)
+  pub disk_told : (start : Option History) (keep kept : Option (Keep D)) (r : Result (Unit {0}) FindError) (before now : ℕ)
       → IsFreshKeep history count start keep → GaveBack kept before now
       → DiskFollows r (disk_faults history count keep) (disk_faults history count kept) → DiskFollows r before now
   disk_told start keep kept (Ok done) before now fresh gave told = back_same kept before now gave (told ∙ fresh_count start keep fresh)
-  disk_told start keep kept (Err (run.Files (halt.Refused r))) before now fresh gave told = back_same kept before now gave (told ∙ fresh_count start keep fresh)
-  disk_told start keep kept (Err (run.Files (halt.Read name))) before now fresh gave told = tt
-  disk_told start keep kept (Err (run.Files halt.Memory)) before now fresh gave told = back_same kept before now gave (told ∙ fresh_count start keep fresh)
+  disk_told start keep kept (Err (run.Files (error.Refused r))) before now fresh gave told = back_same kept before now gave (told ∙ fresh_count start keep fresh)
+  disk_told start keep kept (Err (run.Files (error.Read name))) before now fresh gave told = tt
+  disk_told start keep kept (Err (run.Files error.Memory)) before now fresh gave told = back_same kept before now gave (told ∙ fresh_count start keep fresh)
   disk_told start keep kept (Err (run.Cut why)) before now fresh gave told = back_same kept before now gave (told ∙ fresh_count start keep fresh)
   disk_told start keep kept (Err run.Disk) before now fresh gave told =
       back_rose kept before now (disk_faults history count keep) gave (fresh_count start keep fresh) told
@@ -101,14 +101,14 @@ there None P some h = absurd (some refl)
 there (Some x) P some h = h
 
 -- a call after which no count is another
-pub then_faults : (before mid now : List ℕ → ℕ) (r : Result (Unit {0}) RunHalt) → FaultsAreSame mid now → FaultsFollow r before mid → FaultsFollow r before now
+pub then_faults : (before mid now : List ℕ → ℕ) (r : Result (Unit {0}) FindError) → FaultsAreSame mid now → FaultsFollow r before mid → FaultsFollow r before now
 then_faults before mid now (Ok done) same h = λ name. same name ∙ h name
-then_faults before mid now (Err (run.Files (halt.Refused r))) same h = λ name. same name ∙ h name
-then_faults before mid now (Err (run.Files (halt.Read name))) same h = record {
+then_faults before mid now (Err (run.Files (error.Refused r))) same h = λ name. same name ∙ h name
+then_faults before mid now (Err (run.Files (error.Read name))) same h = record {
   rose = subst (λ (n : ℕ). Rose (before name.now) n) (sym (same name.now)) h.rose;
   counts = λ any. subst (λ (n : ℕ). before any ≤ n) (sym (same any)) (h.counts any);
 }
-then_faults before mid now (Err (run.Files halt.Memory)) same h = λ name. same name ∙ h name
+then_faults before mid now (Err (run.Files error.Memory)) same h = λ name. same name ∙ h name
 then_faults before mid now (Err (run.Cut why)) same h = λ name. same name ∙ h name
 then_faults before mid now (Err run.Disk) same h = λ name. same name ∙ h name
 then_faults before mid now (Err run.Write) same h = λ name. same name ∙ h name

@@ -35,9 +35,9 @@ use Rattle.eql_search.specs.declared.stop.Stop.{Stop}
 use Rattle.eql_search.specs.declared.stop.Stop.TheVariants as stop
 use Rattle.eql_search.specs.Answers.{IsRead}
 use Rattle.eql_search.specs.Keeping.{IsLaterCut, IsSearchCut, KeepsOn}
-use Rattle.eql_find.specs.declared.halt.RunHalt.{RunHalt}
-use Rattle.eql_find.specs.declared.halt.RunHalt.TheVariants as run
-use Rattle.eql_find.specs.declared.plan.Planning.{Planning}
+use Rattle.eql_find.specs.declared.error.FindError.{FindError}
+use Rattle.eql_find.specs.declared.error.FindError.TheVariants as run
+use Rattle.eql_find.specs.declared.plan.PlannedQuery.{PlannedQuery}
 use Rattle.eql_find.specs.Running.{AreSearched, KeepsIfAsked}
 use Rattle.eql_find.specs.Searching.{KeepsAs, rules_in, search_in}
 
@@ -76,7 +76,7 @@ module _ {D : Type 0} (history : D → Option History) where
   }
 
   -- and so does a run
-  pub keeps_nothing : (A : Type 0) (head : CutHead) (from : Mark) (Are : List Cut → Type 0) → Are [] → (keep : Option (Keep D)) (h : RunHalt)
+  pub keeps_nothing : (A : Type 0) (head : CutHead) (from : Mark) (Are : List Cut → Type 0) → Are [] → (keep : Option (Keep D)) (h : FindError)
       → h ≢ run.Generation → KeepsAs history {A = A} head from Are keep keep (Err h)
   keeps_nothing A head from Are none None h other = λ e. other cc
   keeps_nothing A head from Are none (Some k) h other = record {
@@ -113,7 +113,7 @@ module _ {D : Type 0} (history : D → Option History) where
 
   -- ---- a search's cuts are those of its run
   pub keeps_as : {A B : Type 0} (head : CutHead) (from mark : Mark) (Are Be : List Cut → Type 0) → from ≡ mark → ((cuts : List Cut) → Are cuts → Be cuts)
-      → (keep kept : Option (Keep D)) (answer : Result A Stop) (r : Result B RunHalt)
+      → (keep kept : Option (Keep D)) (answer : Result A Stop) (r : Result B FindError)
       → (r ≡ Err run.Generation → answer ≡ Err (stop.Limit reached.Generation)) → KeepsOn history head from Are keep kept answer
       → KeepsAs history head mark Be keep kept r
   keeps_as head from mark Are Be same f None None answer r ends h = λ e. h (ends e)
@@ -171,7 +171,7 @@ is_cut_of search slack ts cut h =
       kept_is = h.is_cut.kept_is;
     }
 
-pub are_cuts_of : (find : Find) (p : Planning) → FindIsBounded find → (ts : List (List ℕ)) (listed : ℕ) (out out' : Option (List ℕ)) (cuts : List Cut)
+pub are_cuts_of : (find : Find) (p : PlannedQuery) → FindIsBounded find → (ts : List (List ℕ)) (listed : ℕ) (out out' : Option (List ℕ)) (cuts : List Cut)
     → AreSearched (search_in find p) ts listed out out' cuts → length (matches_of (search_in find p) ts) < 2 ^ 64
     → (slack : ℕ) → find.slack ≡ Some slack
     → All (λ (cut : Cut). IsCutOf (search_in find p) slack ts cut) cuts × All (WroteCounted (search_in find p) ts listed out out') cuts

@@ -14,8 +14,8 @@ use Rattle.eql_search.specs.declared.stop.Stop.{Stop}
 use Rattle.eql_search.specs.declared.stop.Stop.TheVariants as stop
 use Rattle.eql_search.specs.Answers.{IsRead}
 use Rattle.eql_search.specs.Outcomes.{StopsForCause}
-use Rattle.eql_find.specs.declared.halt.RunHalt.TheVariants as run
-use Rattle.eql_find.specs.Halts.{ErrFollows}
+use Rattle.eql_find.specs.declared.error.FindError.TheVariants as run
+use Rattle.eql_find.specs.Errors.{ErrFollows}
 
 no_fall : (n : ℕ) → n ≤ n
 no_fall n = omega arith

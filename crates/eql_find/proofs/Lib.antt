@@ -1,4 +1,4 @@
-pub mod HaltingEarly
+pub mod EarlyErrors
 pub mod NamesLemmas
 pub mod BackLemmas
 pub mod ShelfLemmas

@@ -24,7 +24,7 @@ use Rattle.eql_runs.specs.Runs.{RefusesCut}
 use Rattle.eql_runs.specs.Starts.{DiskHolds, OnDisk, a_cut, nothing_kept, start_asked, start_for}
 use Rattle.eql_resume.specs.Beginnings.{LanesBegin}
 use Rattle.eql_resume.specs.Finding.{Suits}
-use Rattle.eql_find.specs.declared.plan.Planning.{Planning}
+use Rattle.eql_find.specs.declared.plan.PlannedQuery.{PlannedQuery}
 use Rattle.eql_find.specs.Finding.{IsPlanOf}
 use Rattle.eql_find.specs.Lanes.{Serves, StopsMakingAt}
 use Rattle.eql_find.specs.Searching.{head_in, search_in}
@@ -49,7 +49,7 @@ fresh_or_refused shard text before now refused.Failed r cause is = none-some r i
 fresh_or_refused shard text before now refused.Memory r cause is = none-some r is
 
 module _ {S : Type 0} (left lent_as : S → Option (List ℕ)) (faults : S → ℕ) (plan : S → Option FaultPlan) (spans : FitsAtAnySpan) (one : DiskHoldsOne)
-    (find : Find) (p : Planning) (bounds : FindIsBounded find) (fs : Files) (is : IsPlanOf find (Some fs) p) (disk : Option History)
+    (find : Find) (p : PlannedQuery) (bounds : FindIsBounded find) (fs : Files) (is : IsPlanOf find (Some fs) p) (disk : Option History)
     (format generation : ℕ) (texts : List (List ℕ)) (there : HasTexts find.shards fs texts) (sources : List S)
     (lefts : map left sources ≡ map (λ (t : List ℕ). Some t) texts) (starts : List LaneStart) where
   many : length texts ≡ length find.shards

@@ -347,26 +347,26 @@ module _ {S L : Type 0} (left lent_as : S → Option (List ℕ)) (faults : S →
       → CameBack (map (return_of lent_as faults) left_over) mid then between after
       → CameBack (map (lane_returned lent_as) lanes) then now after last
       → StopsMaking left lent_as faults plan why shard sources starts before now first last
-  making_stopped agree why shard sources all left_over starts lanes before mid then now first between after last is fresh halt back others =
-      let parts = sym is ∙ halt.all_are in
+  making_stopped agree why shard sources all left_over starts lanes before mid then now first between after last is fresh error back others =
+      let parts = sym is ∙ error.all_are in
       let all_fresh = subst (λ xs. All (λ source. faults source ≡ 0) xs) parts fresh in
       let rest = reverse left_over in
-      let behind = all_behind (λ source. faults source ≡ 0) halt.done (halt.source ∷ rest) all_fresh in
+      let behind = all_behind (λ source. faults source ≡ 0) error.done (error.source ∷ rest) all_fresh in
       let over = subst (λ xs. All (λ source. faults source ≡ 0) xs) (reversed_twice left_over)
-      (all_reversed (λ source. faults source ≡ 0) rest (All-tail (λ source. faults source ≡ 0) halt.source rest behind)) in
+      (all_reversed (λ source. faults source ≡ 0) rest (All-tail (λ source. faults source ≡ 0) error.source rest behind)) in
       let one = back.none (none_failed lent_as faults left_over over) in
-      let two = others.none (none_failed_over left lent_as faults plan read_of reads slack 0 halt.done halt.began lanes halt.over
-      (all_front (λ source. faults source ≡ 0) halt.done (halt.source ∷ rest) all_fresh)) in
+      let two = others.none (none_failed_over left lent_as faults plan read_of reads slack 0 error.done error.began lanes error.over
+      (all_front (λ source. faults source ≡ 0) error.done (error.source ∷ rest) all_fresh)) in
       inr (stopped_then left lent_as faults plan agree why shard sources starts before mid now first between last
-      (subst (λ xs. StopsMakingAt left lent_as faults plan why shard xs starts before mid first between) is halt.at)
+      (subst (λ xs. StopsMakingAt left lent_as faults plan why shard xs starts before mid first between) is error.at)
       (two.0 ∙ one.0) (λ name. two.1 name ∙ one.1 name))
 
   pub making_long : (why : LaneRefused) (shard : ℕ) (sources all rest left_over : List S) (starts : List LaneStart) (lanes : List (LaneView S L))
       (before mid : ℕ) (first between : List ℕ → ℕ) → all ≡ sources → rest ≡ reverse left_over
       → StopsAmong left lent_as faults plan read_of reads slack why shard all rest starts lanes before mid first between
       → length sources ≡ length lanes + 1 + length left_over
-  making_long why shard sources all rest left_over starts lanes before mid first between is back halt =
-      let parts = ap length (sym is ∙ halt.all_are) ∙ length-append halt.done (halt.source ∷ rest) in
-      let long = over_long left lent_as faults plan read_of reads slack 0 halt.done halt.began lanes halt.over in
+  making_long why shard sources all rest left_over starts lanes before mid first between is back error =
+      let parts = ap length (sym is ∙ error.all_are) ∙ length-append error.done (error.source ∷ rest) in
+      let long = over_long left lent_as faults plan read_of reads slack 0 error.done error.began lanes error.over in
       let turned = ap length back ∙ length-reverse left_over in
       omega (arith, parts, long, turned)

@@ -7,8 +7,8 @@ use Rattle.eql_outside.specs.declared.shelf.Shelf as shelves
 use Rattle.eql_outside.specs.declared.sink.Sink as sinks
 use Rattle.eql_runs.specs.Outcomes.{DiskIsSame}
 use Rattle.eql_inputs.specs.Shelves.{KeepsShelf}
-use Rattle.eql_find.specs.declared.halt.RunHalt.{RunHalt}
-use Rattle.eql_find.specs.Halts.{AbsencesFollow, DiskFollows}
+use Rattle.eql_find.specs.declared.error.FindError.{FindError}
+use Rattle.eql_find.specs.Errors.{AbsencesFollow, DiskFollows}
 use Rattle.eql_find.specs.Outcomes.{FaultsAreTold}
 use Rattle.eql_find.proofs.ShardLemmas.{count_then, faults_then}
 
@@ -50,7 +50,7 @@ module _ {H Src Dsk : Type 0} (shelf : shelves.Ghosts H Src Dsk) where
 
   -- a call that changes no count, before a run
   module _ {K E : Type 0} (output : sinks.Ghosts K) (errors : sinks.Ghosts E) where
-    pub told_then : (old mid new : H) (out out' : K) (err err' : E) (r : Result (Unit {0}) RunHalt)
+    pub told_then : (old mid new : H) (out out' : K) (err err' : E) (r : Result (Unit {0}) FindError)
         → FaultsAreSame (shelf.faults_of old) (shelf.faults_of mid) → shelf.fault_count mid ≡ shelf.fault_count old
         → shelf.absent_count mid ≡ shelf.absent_count old → shelf.disk_fault_count mid ≡ shelf.disk_fault_count old
         → FaultsAreTold output errors shelf mid new (shelf.disk_fault_count mid) (shelf.disk_fault_count new) out out' err err' r

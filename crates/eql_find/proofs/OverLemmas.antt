@@ -30,15 +30,15 @@ use Rattle.eql_runs.specs.Starts.{DiskHolds, OnDisk, start_for}
 use Rattle.eql_inputs.specs.Shards.{AreWholeFiles}
 use Rattle.eql_resume.specs.Beginnings.{LanesBegin, Rest}
 use Rattle.eql_resume.specs.Finding.{Suits, disk_holding}
-use Rattle.eql_find.specs.declared.halt.RunHalt.{RunHalt}
-use Rattle.eql_find.specs.declared.plan.Planning.{Planning}
-use Rattle.eql_find.specs.Finding.{HasCause, IsPlanOf, texts_told}
+use Rattle.eql_find.specs.declared.error.FindError.{FindError}
+use Rattle.eql_find.specs.declared.plan.PlannedQuery.{PlannedQuery}
+use Rattle.eql_find.specs.Finding.{HasFindCause, IsPlanOf, texts_told}
 use Rattle.eql_find.specs.Lanes.{AreOver, StopsMakingAt, StopsMaking}
 use Rattle.eql_find.specs.Running.{BeginsRun, KeepsIfAsked}
 use Rattle.eql_find.specs.Searching.{BeganWith, head_in}
 use Rattle.eql_find.specs.Starting.{BeginsOnDisk, pipes_of, stages_of, values_of}
 use Rattle.eql_search.specs.Searches.{AreTextsOf}
-use Rattle.eql_find.specs.Stops.{IsHaltAt, failed, grown, no_line, short, unmade}
+use Rattle.eql_find.specs.Stops.{IsErrorAt, failed, grown, no_line, short, unmade}
 use Rattle.eql_find.proofs.BeginningLemmas.{are_begun, began_with}
 use Rattle.eql_find.proofs.CauseLemmas.{read_cause}
 use Rattle.eql_find.proofs.FoundLemmas.{Runs, start_is, the_run}
@@ -53,13 +53,13 @@ if_any None P h = tt
 if_any (Some x) P h = h
 
 -- as many lanes as a cut has
-cut_count : (find : Find) (p : Planning) (count : ℕ) (o : Option Cut) → count ≡ length find.shards
+cut_count : (find : Find) (p : PlannedQuery) (count : ℕ) (o : Option Cut) → count ≡ length find.shards
     → IfSome o (Suits (stages_of p) (values_of p) (pipes_of p) (head_in find p)) → IfSome o (λ c. count ≡ length c.lanes)
 cut_count find p count None many suits = tt
 cut_count find p count (Some cut) many suits = many ∙ sym (suits.is_cut.stands.lane_for_each ∙ ap CutHead.shards suits.head_is)
 
 module _ {S L D : Type 0} (left lent_as : S → Option (List ℕ)) (faults : S → ℕ) (plan : S → Option FaultPlan) (read_of : L → Reads)
-    (find : Find) (files : Option Files) (p : Planning) (disk : Option History) (told : Option (List (List ℕ))) (told_is : told ≡ texts_told files find.shards)
+    (find : Find) (files : Option Files) (p : PlannedQuery) (disk : Option History) (told : Option (List (List ℕ))) (told_is : told ≡ texts_told files find.shards)
     (sources : List S) (starts : List LaneStart) (rest : Rest) (head : CutHead) (keep : Option (Keep D)) (bounds : FindIsBounded find)
     (is : IsPlanOf find files p) (whole : AreWholeFiles find.shards files (map left sources))
     (named : map lent_as sources ≡ map (λ (n : List ℕ). Some n) find.shards) (begins : BeginsOnDisk find p disk head keep starts rest) where
@@ -131,9 +131,9 @@ module _ {S L D : Type 0} (left lent_as : S → Option (List ℕ)) (faults : S �
     cut_cause why shard before now names names' r (inr at) refusal =
         (asked_by why shard before now names names' r at refusal, refused_at why shard before now names names' r at refusal)
 
-    pub made_cause : (why : LaneRefused) (shard : ℕ) (h : RunHalt) (before now : ℕ) (names names' : List ℕ → ℕ) (then : Option History)
+    pub made_cause : (why : LaneRefused) (shard : ℕ) (h : FindError) (before now : ℕ) (names names' : List ℕ → ℕ) (then : Option History)
         (err err' : Option (List ℕ)) → StopsMaking left lent_as faults plan why shard sources starts before now names names'
-        → IsHaltAt find.shards shard why h → HasCause find files disk then err err' h
+        → IsErrorAt find.shards shard why h → HasFindCause find files disk then err err' h
     made_cause _ shard _ before now names names' then err err' stopped (short offset had) =
         cut_cause (refused.Short offset had) shard before now names names' (cut.short shard offset had) stopped refl
     made_cause _ shard _ before now names names' then err err' stopped (no_line line) =

@@ -27,15 +27,15 @@ use Rattle.eql_runs.specs.Starts.{DiskHolds, IsCutOf, IsHeadOf, IsTrusted, OnDis
 use Rattle.eql_resume.specs.Beginnings.{Rest, rest_by}
 use Rattle.eql_resume.specs.Finding.{disk_holding}
 use Rattle.eql_search.specs.Keeping.{IsLaterCut}
-use Rattle.eql_find.specs.declared.halt.RunHalt.{RunHalt}
-use Rattle.eql_find.specs.declared.plan.Planning.{Planning}
+use Rattle.eql_find.specs.declared.error.FindError.{FindError}
+use Rattle.eql_find.specs.declared.plan.PlannedQuery.{PlannedQuery}
 use Rattle.eql_find.specs.Running.{KeepsIfAsked, StartsOver}
 use Rattle.eql_find.specs.Searching.{AreCutsOf, KeepsAs, head_in, search_in, slack_told}
 use Rattle.eql_find.specs.Starting.{Begun, IsFound, IsFreshKeep, disk_after, pipes_of}
 use Rattle.eql_find.proofs.DiskLemmas.{recovered_keeps, recovered_puts}
 use Rattle.eql_find.proofs.EndingLemmas.{began_by}
 use Rattle.eql_find.proofs.FoundLemmas.{Runs, TheRun}
-use Rattle.eql_find.proofs.HaltingEarly.{same_no_more}
+use Rattle.eql_find.proofs.EarlyErrors.{same_no_more}
 use Rattle.eql_find.proofs.MadeLemmas.{begun_is}
 use Rattle.eql_find.proofs.TextLemmas.{asked_slack, begins_asked, head_is, texts_long}
 
@@ -47,13 +47,13 @@ kept_no_more (Some h) None kept = absurd kept
 kept_no_more (Some h) (Some k) kept = kept.going
 
 -- from which mark a run goes on, by what its disk holds
-mark_is : (p : Planning) (u : Bool) (format generation : ℕ) (o : Option Cut) (rest : Rest) → rest ≡ rest_by (pipes_of p) u o
+mark_is : (p : PlannedQuery) (u : Bool) (format generation : ℕ) (o : Option Cut) (rest : Rest) → rest ≡ rest_by (pipes_of p) u o
     → rest.mark ≡ mark_on (disk_holding format generation o)
 mark_is p u format generation None rest is = ap Rest.mark is
 mark_is p u format generation (Some cut) rest is = ap Rest.mark is
 
 -- what the cuts of a run are, of the search that is made
-module _ (find : Find) (p : Planning) (bounds : FindIsBounded find) (asked : find.checkpoint ≢ None) (head : CutHead) (own : head ≡ head_in find p)
+module _ (find : Find) (p : PlannedQuery) (bounds : FindIsBounded find) (asked : find.checkpoint ≢ None) (head : CutHead) (own : head ≡ head_in find p)
     (texts : List (List ℕ)) (many : length texts ≡ length find.shards) (from : Mark) (listed : ℕ) (out out' : Option (List ℕ)) where
   abbrev IsOwnCut : Cut → Type 0
   IsOwnCut cut = IsCutOf (search_in find p) (slack_told find.slack) texts cut
@@ -78,7 +78,7 @@ module _ (find : Find) (p : Planning) (bounds : FindIsBounded find) (asked : fin
       (one_put cut (All-head (IsLaterCut head from) cut cuts later) (All-head (λ (cut : Cut). IsOwnCut cut) cut cuts are) (All-head Wrote cut cuts wrote))
       (all_put cuts (All-tail (IsLaterCut head from) cut cuts later) (All-tail (λ (cut : Cut). IsOwnCut cut) cut cuts are) (All-tail Wrote cut cuts wrote))
 
-module _ {S L : Type 0} (go_on : PutsGoOn) (images : ImagesAreThere) (one : DiskHoldsOne) (search_one : SearchIsOne) (find : Find) (p : Planning)
+module _ {S L : Type 0} (go_on : PutsGoOn) (images : ImagesAreThere) (one : DiskHoldsOne) (search_one : SearchIsOne) (find : Find) (p : PlannedQuery)
     (bounds : FindIsBounded find) (disk : Option History) (files : Option Files) (told : Option (List (List ℕ))) (lanes : List (LaneView S L)) (rest : Rest)
     (begun : Begun) (found_so : IsFound find disk begun) (rest_is : rest ≡ rest_by (pipes_of p) (begun.format == 1) begun.cut)
     (runs : Runs find p told lanes rest disk files) (head : CutHead) (own : head ≡ head_in find p) (out out' : Option (List ℕ)) where
@@ -151,7 +151,7 @@ module _ {S L : Type 0} (go_on : PutsGoOn) (images : ImagesAreThere) (one : Disk
     are_of = are_of cuts h is asked later are;
   }
 
-  module _ {D : Type 0} (history : D → Option History) (count : D → ℕ) (r : Result (Unit {0}) RunHalt) where
+  module _ {D : Type 0} (history : D → Option History) (count : D → ℕ) (r : Result (Unit {0}) FindError) where
     pub keeps_cuts : (keep kept : Option (Keep D)) → find.checkpoint ≢ None → KeepsIfAsked history find.checkpoint keep
         → IsFreshKeep history count disk keep
         → KeepsAs history head rest.mark (AreOwn told) keep kept r

@@ -31,14 +31,14 @@ use Rattle.eql_runs.specs.Searches.{run_of}
 use Rattle.eql_runs.specs.Starts.{DiskHolds, IsHeadOf, OnDisk, StandsFor, a_cut, start_for}
 use Rattle.eql_resume.specs.Beginnings.{LaneBegins}
 use Rattle.eql_resume.specs.Finding.{IsRefusedBy, Suits}
-use Rattle.eql_find.specs.declared.plan.Planning.{Planning}
+use Rattle.eql_find.specs.declared.plan.PlannedQuery.{PlannedQuery}
 use Rattle.eql_find.specs.Lanes.{Serves}
 use Rattle.eql_find.specs.Searching.{head_in, search_in}
 use Rattle.eql_find.specs.Starting.{pipes_of, stages_of, values_of}
 use Rattle.eql_find.proofs.TextLemmas.{begins_asked, head_is}
 
 -- ---- the run of a search, and that by which a cut was tested, which has no span
-module _ (spans : FitsAtAnySpan) (find : Find) (p : Planning) where
+module _ (spans : FitsAtAnySpan) (find : Find) (p : PlannedQuery) where
   spanned : (slack shards : ℕ) (kept : Kept) → Fits (bare_run (stages_of p) (values_of p) (pipes_of p) slack) shards kept
       → Fits (run_of (search_in find p) slack) shards kept
   spanned slack shards kept fits =
@@ -63,7 +63,7 @@ holds_one : DiskHoldsOne → (h : History) (on other : OnDisk) → StandsFor on 
 holds_one law h on other stands holds = law (found_on (seen_areas h.now)) on other stands holds
 
 -- ---- a cut that is refused as it was found
-pub refused_found : FitsAtAnySpan → DiskHoldsOne → (find : Find) (p : Planning) (files : Files) (texts : List (List ℕ)) (disk : Option History) (r : CutRefusal)
+pub refused_found : FitsAtAnySpan → DiskHoldsOne → (find : Find) (p : PlannedQuery) (files : Files) (texts : List (List ℕ)) (disk : Option History) (r : CutRefusal)
     → FindIsBounded find → find.checkpoint ≢ None → Searches find files (search_in find p) texts → length texts ≡ length find.shards
     → IfSome disk (λ h. IsRefusedBy (stages_of p) (values_of p) (pipes_of p) (head_in find p) (found_on (seen_areas h.now)) r)
     → (on : OnDisk) → DiskHolds disk on → RefusesCut find files on r
@@ -192,7 +192,7 @@ shard_refuses format cut shard text u b before now refused.Failed is begins caus
 shard_refuses format cut shard text u b before now refused.Memory is begins cause = tt
 
 -- ---- a run that begins with a cut
-module _ (spans : FitsAtAnySpan) (find : Find) (p : Planning) (texts : List (List ℕ)) (bounds : FindIsBounded find) (asked : find.checkpoint ≢ None)
+module _ (spans : FitsAtAnySpan) (find : Find) (p : PlannedQuery) (texts : List (List ℕ)) (bounds : FindIsBounded find) (asked : find.checkpoint ≢ None)
     (many : length texts ≡ length find.shards) (cut : Cut) (suits : Suits (stages_of p) (values_of p) (pipes_of p) (head_in find p) cut) where
   own_head : IsHeadOf (search_in find p) (length texts) cut.head
   own_head = subst (λ (h : CutHead). IsHeadOf (search_in find p) (length texts) h) (sym suits.head_is) (head_is find p (length texts) bounds asked many)

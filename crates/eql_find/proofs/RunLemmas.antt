@@ -21,7 +21,7 @@ use Rattle.eql_lane.specs.Views.{LaneView}
 use Rattle.eql_cut.specs.declared.cut.Cut.{Cut}
 use Rattle.eql_cut.specs.declared.cut.CutHead.{CutHead}
 use Rattle.eql_cut.specs.CutValues.{names_ascend}
-use Rattle.eql_cut.specs.Placing.{IsUnplaced, LinesAscend, orders_in, place_of}
+use Rattle.eql_cut.specs.Placing.{IsUnplaced, LinesAscend, orders_in, listed_place}
 use Rattle.eql_conductor.specs.declared.plan.Keep.{Keep}
 use Rattle.eql_conductor.specs.Openings.{FitMayBegin}
 use Rattle.eql_resume.specs.Beginnings.{Rest, placed_if, rest_by}
@@ -29,7 +29,7 @@ use Rattle.eql_resume.specs.Finding.{Suits, disk_holding}
 use Rattle.eql_runs.specs.Starts.{BeginsWith}
 use Rattle.eql_search.specs.Beginnings.{MayBegin, MayKeepOn, cuts_of, run_by}
 use Rattle.eql_search.specs.Searches.{AreBegun, AreBegunFrom, AreTextsOf, Rules, reads_by, slack_by}
-use Rattle.eql_find.specs.declared.plan.Planning.{Planning}
+use Rattle.eql_find.specs.declared.plan.PlannedQuery.{PlannedQuery}
 use Rattle.eql_find.specs.Running.{KeepsIfAsked, StartsOver, every_of, plan_in}
 use Rattle.eql_find.specs.Searching.{BeganWith, StartsOn, bare, head_in, places_in, rules_in, search_in}
 use Rattle.eql_find.specs.Starting.{Begun, IsOwn, pipes_of, stages_of, values_of}
@@ -38,24 +38,24 @@ use Rattle.eql_find.proofs.BookLemmas.{fits_fresh}
 use Rattle.eql_find.proofs.TrustingLemmas.{starts_fresh, starts_from}
 
 -- a cut of the run, by its own head
-own_suits : (find : Find) (p : Planning) (cut : Cut) → Suits (stages_of p) (values_of p) (pipes_of p) (head_in find p) cut
+own_suits : (find : Find) (p : PlannedQuery) (cut : Cut) → Suits (stages_of p) (values_of p) (pipes_of p) (head_in find p) cut
     → Suits (stages_of p) (values_of p) (pipes_of p) cut.head cut
 own_suits find p cut suits = record { is_cut = suits.is_cut; head_is = refl; fits = suits.fits }
 
-own_count : {S L : Type 0} (find : Find) (p : Planning) (lanes : List (LaneView S L)) (cut : Cut)
+own_count : {S L : Type 0} (find : Find) (p : PlannedQuery) (lanes : List (LaneView S L)) (cut : Cut)
     → Suits (stages_of p) (values_of p) (pipes_of p) (head_in find p) cut → length lanes ≡ length find.shards → length lanes ≡ length cut.lanes
 own_count find p lanes cut suits many = many ∙ sym (suits.is_cut.stands.lane_for_each ∙ ap CutHead.shards suits.head_is)
 
 -- a search with what is pending, once it has its places
 abbrev pub placed_rest : {S L : Type 0} → Rest → List (LaneView S L) → Rest
-placed_rest rest lanes = placed_if rest.unplaced (place_of (places_in lanes)) rest
+placed_rest rest lanes = placed_if rest.unplaced (listed_place (places_in lanes)) rest
 
 -- a search begins so over texts
-abbrev pub StartsSo : {S L : Type 0} → Find → Planning → List (List ℕ) → List (LaneView S L) → Rest → Type 0
+abbrev pub StartsSo : {S L : Type 0} → Find → PlannedQuery → List (List ℕ) → List (LaneView S L) → Rest → Type 0
 StartsSo find p ts lanes r = StartsOn (search_in find p) ts r.mark (cuts_of lanes) r.holders r.book
 
 -- ---- with what the search begins
-module _ {S L : Type 0} (laws : BeginLaws) (find : Find) (p : Planning) (bounds : FindIsBounded find)
+module _ {S L : Type 0} (laws : BeginLaws) (find : Find) (p : PlannedQuery) (bounds : FindIsBounded find)
     (lanes : List (LaneView S L)) (rest : Rest) (many : length lanes ≡ length find.shards) where
   ascend_at : (told : Option (List (List ℕ))) (format : ℕ) (o : Option Cut) → IfSome o (λ cut. find.checkpoint ≢ None)
       → IfSome o (Suits (stages_of p) (values_of p) (pipes_of p) (head_in find p))
@@ -71,7 +71,7 @@ module _ {S L : Type 0} (laws : BeginLaws) (find : Find) (p : Planning) (bounds 
       → (let r = placed_rest rest lanes in MayBegin (rules_in (search_in find p)) (pipes_of p) r.mark (cuts_of lanes) r.holders r.book)
   may_at told format None asked suits bare_of began is = may_fresh find p lanes (format == 1) began rest is
   may_at told format (Some cut) asked suits bare_of began is =
-      subst (λ (u : Bool). let r = placed_if u (place_of (places_in lanes)) rest in
+      subst (λ (u : Bool). let r = placed_if u (listed_place (places_in lanes)) rest in
       MayBegin (rules_in (search_in find p)) (pipes_of p) r.mark (cuts_of lanes) r.holders r.book) (sym (ap Rest.unplaced is))
       (may_from laws find p bounds told lanes format cut asked (own_suits find p cut suits) bare_of (ap CutHead.slack suits.head_is)
       (own_count find p lanes cut suits many) (format == 1) (λ e. bare_of (eqb-true format 1 e)) (ap CutHead.shards suits.head_is ∙ sym many) began rest is)
@@ -82,7 +82,7 @@ module _ {S L : Type 0} (laws : BeginLaws) (find : Find) (p : Planning) (bounds 
       → BeginsWith (search_in find p) ts (disk_holding format generation o) → StartsSo find p ts lanes (placed_rest rest lanes)
   starts_at ts format generation None asked suits bare_of began is begins = starts_fresh find p ts lanes (format == 1) rest is
   starts_at ts format generation (Some cut) asked suits bare_of began is begins =
-      subst (λ (u : Bool). StartsSo find p ts lanes (placed_if u (place_of (places_in lanes)) rest)) (sym (ap Rest.unplaced is))
+      subst (λ (u : Bool). StartsSo find p ts lanes (placed_if u (listed_place (places_in lanes)) rest)) (sym (ap Rest.unplaced is))
       (starts_from laws find p bounds ts lanes format cut asked (own_suits find p cut suits) bare_of (ap CutHead.slack suits.head_is)
       (own_count find p lanes cut suits many) (format == 1) began begins.is_cut rest is)
 
@@ -122,10 +122,10 @@ listed_of false place rest = refl
 
 module _ {S L : Type 0} (lanes : List (LaneView S L)) (rest placed : Rest) (placed_is : placed ≡ placed_rest rest lanes) where
   pub same_mark : placed.mark ≡ rest.mark
-  same_mark = ap Rest.mark placed_is ∙ mark_of rest.unplaced (place_of (places_in lanes)) rest
+  same_mark = ap Rest.mark placed_is ∙ mark_of rest.unplaced (listed_place (places_in lanes)) rest
 
   pub same_listed : placed.book.listed ≡ rest.book.listed
-  same_listed = ap (λ (r : Rest). r.book.listed) placed_is ∙ listed_of rest.unplaced (place_of (places_in lanes)) rest
+  same_listed = ap (λ (r : Rest). r.book.listed) placed_is ∙ listed_of rest.unplaced (listed_place (places_in lanes)) rest
 
 -- ---- the book
 -- a book with which a search may begin fits its pipes
@@ -188,7 +188,7 @@ module _ {S L : Type 0} (read_of : L → Reads) (reads : Reads) (slack : Option 
 
 -- ---- the disk
 -- a run that keeps cuts if it is asked to may keep them in a search
-pub keeps_on : {D : Type 0} (history : D → Option History) (find : Find) (p : Planning) (bounds : FindIsBounded find) (mark : Mark) (head : CutHead)
+pub keeps_on : {D : Type 0} (history : D → Option History) (find : Find) (p : PlannedQuery) (bounds : FindIsBounded find) (mark : Mark) (head : CutHead)
     (keep : Option (Keep D)) (lanes : ℕ) → head ≡ head_in find p → IsTrue (names_ascend p.mapping) → lanes ≡ length find.shards
     → KeepsIfAsked history find.checkpoint keep → MayKeepOn history (plan_in find head mark) lanes keep
 keeps_on history find p bounds mark head keep lanes is names many keeps = by find.checkpoint bounds.kept keep keeps

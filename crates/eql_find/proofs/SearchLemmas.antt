@@ -30,11 +30,11 @@ use Rattle.eql_runs.specs.Searches as runs
 use Rattle.eql_runs.specs.Runs as written
 use Rattle.eql_search.specs.declared.stop.Stop.{Stop}
 use Rattle.eql_search.specs.declared.stop.Stop.TheVariants as stop
-use Rattle.eql_search.specs.Answers.{HasCause, WereRead}
+use Rattle.eql_search.specs.Answers.{HasSearchCause, WereRead}
 use Rattle.eql_search.specs.Beginnings.{BeginsOn, MayBegin, cuts_of, start_at}
 use Rattle.eql_search.specs.Keeping.{AreSearchCuts, IsSearchCut, WroteCounted}
 use Rattle.eql_search.specs.Searches.{AreTextsOf, HasNumbers, Rules, reads_by, rest_of, rules_of, slack_by}
-use Rattle.eql_find.specs.declared.plan.Planning.{Planning}
+use Rattle.eql_find.specs.declared.plan.PlannedQuery.{PlannedQuery}
 use Rattle.eql_find.specs.Running.{AreSearched}
 use Rattle.eql_find.specs.Searching.{StartsOn, rules_in, search_in}
 use Rattle.eql_find.specs.Starting.{pipes_of as own_pipes}
@@ -45,7 +45,7 @@ pub slack_same : (slack : Option ℕ) → nanos_of slack ≡ option_map nanos_in
 slack_same None = refl
 slack_same (Some ms) = refl
 
-pub rules_are : {S L : Type 0} (read_of : L → Reads) (find : Find) (p : Planning) (lanes : List (LaneView S L)) (stages : ℕ) (span : Option ℤ)
+pub rules_are : {S L : Type 0} (read_of : L → Reads) (find : Find) (p : PlannedQuery) (lanes : List (LaneView S L)) (stages : ℕ) (span : Option ℤ)
     → planned_query p.plan ≡ plan_of (search_in find p) → reads_by read_of lanes ≡ line_of (planned_query p.plan) → slack_by read_of lanes ≡ nanos_of find.slack
     → stages ≡ length (stages_in (planned_query p.plan).query.body) → span ≡ span_in (planned_query p.plan).query.body
     → rules_of read_of stages span lanes ≡ rules_in (search_in find p)
@@ -88,11 +88,11 @@ ok_both (Err e) f p q = tt
 
 -- ---- what a search does
 -- the book of a run before its search
-abbrev pub own_book : Find → Planning → Rest → BookState
+abbrev pub own_book : Find → PlannedQuery → Rest → BookState
 own_book find p rest = record { pipes = own_pipes p; places = find.places; kept = rest.book; whole = true }
 
 -- a search over lanes by these rules, from a mark, what is pending and a book, is that of the words from what the rest is
-module _ {S L : Type 0} (left : S → Option (List ℕ)) (few : MatchesAreFew) (find : Find) (p : Planning) (told : Option (List (List ℕ)))
+module _ {S L : Type 0} (left : S → Option (List ℕ)) (few : MatchesAreFew) (find : Find) (p : PlannedQuery) (told : Option (List (List ℕ)))
     (olds : List (LaneView S L)) (rules : Rules) (rest : Rest) (mark : Mark) (holders : List Holder) (book : BookState)
     (checked : IfSome told (λ ts. IsChecked (kind_at p.mapping) (search_in find p).query)) (texts_of : IfSome told (λ ts. AreTextsOf left ts olds))
     (count : length olds ≤ greatest_shards) (rules_is : rules ≡ rules_in (search_in find p)) (mark_is : mark ≡ rest.mark)
@@ -204,7 +204,7 @@ fronts_none (Some ts) Starts lines before = λ starts. front_none (lines ts) bef
 
 -- ---- why it stops
 may_by : {S L : Type 0} (texts : Option (List (List ℕ))) (shards : ℕ) (olds news : List (LaneView S L)) → length olds ≡ shards
-    → (before now disk_before disk_now : ℕ) (why : Stop) → HasCause texts why olds news before now disk_before disk_now → MayStop shards why
+    → (before now disk_before disk_now : ℕ) (why : Stop) → HasSearchCause texts why olds news before now disk_before disk_now → MayStop shards why
 may_by texts shards olds news count before now d e (stop.Read shard) cause = let within = slice_get_within olds shard cause.old cause.was in omega (arith, count, within)
 may_by texts shards olds news count before now d e stop.Write cause = tt
 may_by texts shards olds news count before now d e stop.Disk cause = tt
@@ -215,6 +215,6 @@ may_by texts shards olds news count before now d e (stop.Limit reached.Turns) ca
 may_by texts shards olds news count before now d e (stop.Limit reached.Generation) cause = tt
 
 pub may_stop : {T S L : Type 0} (texts : Option (List (List ℕ))) (shards : ℕ) (olds news : List (LaneView S L)) → length olds ≡ shards
-    → (before now disk_before disk_now : ℕ) (r : Result T Stop) → IfErr r (λ why. HasCause texts why olds news before now disk_before disk_now)
+    → (before now disk_before disk_now : ℕ) (r : Result T Stop) → IfErr r (λ why. HasSearchCause texts why olds news before now disk_before disk_now)
     → IfErr r (MayStop shards)
 may_stop texts shards olds news count before now d e r = IfErr-weaker r _ _ (may_by texts shards olds news count before now d e)

@@ -17,15 +17,15 @@ use Rattle.eql_lane.specs.declared.make.LaneRefused.{LaneRefused}
 use Rattle.eql_lane.specs.declared.make.LaneRefused.TheVariants as refused
 use Rattle.eql_lane.specs.declared.make.LaneStart.{LaneStart}
 use Rattle.eql_lane.specs.Views.{LaneView}
-use Rattle.eql_inputs.specs.declared.halt.Halt.TheVariants as halt
+use Rattle.eql_inputs.specs.declared.error.InputError.TheVariants as error
 use Rattle.eql_search.specs.Answers.{AreSteadyBut, AreUnfailing}
-use Rattle.eql_find.specs.declared.halt.CutStop.TheVariants as cut
-use Rattle.eql_find.specs.declared.halt.RunHalt.{RunHalt}
-use Rattle.eql_find.specs.declared.halt.RunHalt.TheVariants as run
-use Rattle.eql_find.specs.Halts.{FaultsFollow, CountFollows, DiskFollows, OutFollows, ErrFollows, IsFault, IsReport, TellsNothing}
+use Rattle.eql_find.specs.declared.error.CutStop.TheVariants as cut
+use Rattle.eql_find.specs.declared.error.FindError.{FindError}
+use Rattle.eql_find.specs.declared.error.FindError.TheVariants as run
+use Rattle.eql_find.specs.Errors.{FaultsFollow, CountFollows, DiskFollows, OutFollows, ErrFollows, IsFault, IsReport, TellsNothing}
 use Rattle.eql_find.specs.Lanes.{AreOver, CameBack, StaysSource, StopsMaking, lane_returned}
 use Rattle.eql_find.specs.Searching.{LaneFaultsFollow}
-use Rattle.eql_find.specs.Stops.{IsHaltAt, short, no_line, grown, failed, unmade}
+use Rattle.eql_find.specs.Stops.{IsErrorAt, short, no_line, grown, failed, unmade}
 use Rattle.eql_find.proofs.FailLemmas.{AreNamed, none_failed_lanes, some_failed_lane}
 use Rattle.eql_find.proofs.MakingLemmas.{by_failure, not_failed}
 use Rattle.eql_find.proofs.TextLemmas.{as_many, parts_of}
@@ -56,8 +56,8 @@ named_at lent_as (s ∷ ss) (n ∷ ns) zero source name is at has =
 named_at lent_as (s ∷ ss) (n ∷ ns) (suc shard) source name is at has =
     named_at lent_as ss ns shard source name (parts_of (lent_as s) (Some n) (map lent_as ss) (map (λ (m : List ℕ). Some m) ns) is).1 at has
 
--- ---- a run whose lanes weren't made: all that its halt says beside its cause
-pub record MadeHalt {S : Type 0} (plan : S → Option FaultPlan) (sources : List S) (before now : ℕ) (names names' : List ℕ → ℕ) (h : RunHalt)
+-- ---- a run whose lanes weren't made: all that its error says beside its cause
+pub record MadeError {S : Type 0} (plan : S → Option FaultPlan) (sources : List S) (before now : ℕ) (names names' : List ℕ → ℕ) (h : FindError)
     : Type 0 where
   pub faults : FaultsFollow {A = Unit {0}} (Err h) names names'
   pub count : CountFollows {A = Unit {0}} (Err h) before now
@@ -85,10 +85,10 @@ module _ {S : Type 0} (left lent_as : S → Option (List ℕ)) (faults : S → �
   steady_by why shard calm (inl h) = (h.1, h.2)
   steady_by why shard calm (inr at) = at.steady (not_failed why calm)
 
-  refused_halt : (why : LaneRefused) (shard : ℕ) (c : _) → by_failure why ≡ false
+  refused_error : (why : LaneRefused) (shard : ℕ) (c : _) → by_failure why ≡ false
       → StopsMaking left lent_as faults plan why shard sources starts before now names names'
-      → MadeHalt plan sources before now names names' (run.Cut c)
-  refused_halt why shard c calm stopped =
+      → MadeError plan sources before now names names' (run.Cut c)
+  refused_error why shard c calm stopped =
       let same = steady_by why shard calm stopped in
       record {
         faults = same.1;
@@ -104,11 +104,11 @@ module _ {S : Type 0} (left lent_as : S → Option (List ℕ)) (faults : S → �
   under_name : (o : Option (List ℕ)) (name : List ℕ) → o ≡ Some name → RoseUnder o names names' → RoseFor name names names'
   under_name o name same rose = subst (λ (x : Option (List ℕ)). RoseUnder x names names') same rose
 
-  failed_halt : (shard : ℕ) (name : Bor (List ℕ)) → slice_get shards shard ≡ Some name.now
+  failed_error : (shard : ℕ) (name : Bor (List ℕ)) → slice_get shards shard ≡ Some name.now
       → StopsMaking left lent_as faults plan refused.Failed shard sources starts before now names names'
-      → MadeHalt plan sources before now names names' (run.Files (halt.Read name))
-  failed_halt shard name there (inl h) = absurd (false≢true (sym (ap by_failure h.0)))
-  failed_halt shard name there (inr at) =
+      → MadeError plan sources before now names names' (run.Files (error.Read name))
+  failed_error shard name there (inl h) = absurd (false≢true (sym (ap by_failure h.0)))
+  failed_error shard name there (inr at) =
       let rose = at.rose refl in
       let by_name = under_name (lent_as at.source) name.now (named_at lent_as sources shards shard at.source name.now named at.is there) rose.1 in
       record {
@@ -126,14 +126,14 @@ module _ {S : Type 0} (left lent_as : S → Option (List ℕ)) (faults : S → �
       all_at all = subst (λ x. IsUnfailing (plan x)) (get_or_from_slice_get sources shard at.source at.source at.is)
           (all shard at.source (slice_get_within sources shard at.source at.is))
 
-  pub made_halt : (why : LaneRefused) (shard : ℕ) (h : RunHalt)
-      → StopsMaking left lent_as faults plan why shard sources starts before now names names' → IsHaltAt shards shard why h
-      → MadeHalt plan sources before now names names' h
-  made_halt _ shard _ stopped (short offset had) = refused_halt (refused.Short offset had) shard (cut.Short shard offset had) refl stopped
-  made_halt _ shard _ stopped (no_line line) = refused_halt (refused.NoLine line) shard (cut.NoLine shard line) refl stopped
-  made_halt _ shard _ stopped grown = refused_halt refused.Grown shard (cut.Grown shard) refl stopped
-  made_halt _ shard _ stopped (failed name there) = failed_halt shard name there stopped
-  made_halt _ shard _ stopped unmade =
+  pub made_error : (why : LaneRefused) (shard : ℕ) (h : FindError)
+      → StopsMaking left lent_as faults plan why shard sources starts before now names names' → IsErrorAt shards shard why h
+      → MadeError plan sources before now names names' h
+  made_error _ shard _ stopped (short offset had) = refused_error (refused.Short offset had) shard (cut.Short shard offset had) refl stopped
+  made_error _ shard _ stopped (no_line line) = refused_error (refused.NoLine line) shard (cut.NoLine shard line) refl stopped
+  made_error _ shard _ stopped grown = refused_error refused.Grown shard (cut.Grown shard) refl stopped
+  made_error _ shard _ stopped (failed name there) = failed_error shard name there stopped
+  made_error _ shard _ stopped unmade =
       let same = steady_by refused.Memory shard refl stopped in
       record {
         faults = same.1;
@@ -154,12 +154,12 @@ module _ {S L : Type 0} (left lent_as : S → Option (List ℕ)) (find : Find)
   none_back : AreSteadyBut (λ s. ⊥) olds news → (now ≡ before) × FaultsAreSame names names'
   none_back steady = back.none (none_failed_lanes left lent_as find.shards olds news (λ s. ⊥) (λ s h. h) named stays steady)
 
-  pub faults_as : (r : Result (Unit {0}) RunHalt) → LaneFaultsFollow find r olds news → FaultsFollow r names names'
+  pub faults_as : (r : Result (Unit {0}) FindError) → LaneFaultsFollow find r olds news → FaultsFollow r names names'
   faults_as (Ok done) fails = (none_back fails).1
-  faults_as (Err (run.Files (halt.Refused r))) fails = (none_back fails).1
-  faults_as (Err (run.Files (halt.Read name))) fails =
+  faults_as (Err (run.Files (error.Refused r))) fails = (none_back fails).1
+  faults_as (Err (run.Files (error.Read name))) fails =
       record { rose = (back.one name.now (some_failed_lane left lent_as fails.shard name.now find.shards olds news fails.named named stays fails.rose)).1; counts = back.counts.1 }
-  faults_as (Err (run.Files halt.Memory)) fails = (none_back fails).1
+  faults_as (Err (run.Files error.Memory)) fails = (none_back fails).1
   faults_as (Err (run.Cut why)) fails = (none_back fails).1
   faults_as (Err run.Disk) fails = (none_back fails).1
   faults_as (Err run.Write) fails = (none_back fails).1
@@ -167,12 +167,12 @@ module _ {S L : Type 0} (left lent_as : S → Option (List ℕ)) (find : Find)
   faults_as (Err (run.Limit l)) fails = (none_back fails).1
   faults_as (Err (run.Report r)) fails = (none_back fails).1
 
-  pub count_as : (r : Result (Unit {0}) RunHalt) → LaneFaultsFollow find r olds news → CountFollows r before now
+  pub count_as : (r : Result (Unit {0}) FindError) → LaneFaultsFollow find r olds news → CountFollows r before now
   count_as (Ok done) fails = (none_back fails).0
-  count_as (Err (run.Files (halt.Refused r))) fails = (none_back fails).0
-  count_as (Err (run.Files (halt.Read name))) fails =
+  count_as (Err (run.Files (error.Refused r))) fails = (none_back fails).0
+  count_as (Err (run.Files (error.Read name))) fails =
       (back.one name.now (some_failed_lane left lent_as fails.shard name.now find.shards olds news fails.named named stays fails.rose)).0
-  count_as (Err (run.Files halt.Memory)) fails = (none_back fails).0
+  count_as (Err (run.Files error.Memory)) fails = (none_back fails).0
   count_as (Err (run.Cut why)) fails = (none_back fails).0
   count_as (Err run.Disk) fails = (none_back fails).0
   count_as (Err run.Write) fails = (none_back fails).0
@@ -195,15 +195,15 @@ lent_all lanes all (Some n) mid now is first second =
     subst (λ (o : Option ℕ). IfSome o (λ n. now ≡ Some (n - lanes))) first second ∙ ap (λ (x : ℕ). Some x) (ap (λ (k : ℕ). n - k) is)
 
 -- a call that changes no count, before one that does
-pub faults_then : (before mid now : List ℕ → ℕ) → FaultsAreSame before mid → (r : Result (Unit {0}) RunHalt) → FaultsFollow r mid now
+pub faults_then : (before mid now : List ℕ → ℕ) → FaultsAreSame before mid → (r : Result (Unit {0}) FindError) → FaultsFollow r mid now
     → FaultsFollow r before now
 faults_then before mid now same (Ok done) h = λ name. h name ∙ same name
-faults_then before mid now same (Err (run.Files (halt.Refused r))) h = λ name. h name ∙ same name
-faults_then before mid now same (Err (run.Files (halt.Read name))) h = record {
+faults_then before mid now same (Err (run.Files (error.Refused r))) h = λ name. h name ∙ same name
+faults_then before mid now same (Err (run.Files (error.Read name))) h = record {
   rose = subst (λ (n : ℕ). Rose n (now name.now)) (same name.now) h.rose;
   counts = λ any. subst (λ (n : ℕ). n ≤ now any) (same any) (h.counts any);
 }
-faults_then before mid now same (Err (run.Files halt.Memory)) h = λ name. h name ∙ same name
+faults_then before mid now same (Err (run.Files error.Memory)) h = λ name. h name ∙ same name
 faults_then before mid now same (Err (run.Cut why)) h = λ name. h name ∙ same name
 faults_then before mid now same (Err run.Disk) h = λ name. h name ∙ same name
 faults_then before mid now same (Err run.Write) h = λ name. h name ∙ same name
@@ -211,5 +211,5 @@ faults_then before mid now same (Err run.Generation) h = λ name. h name ∙ sam
 faults_then before mid now same (Err (run.Limit l)) h = λ name. h name ∙ same name
 faults_then before mid now same (Err (run.Report r)) h = λ name. h name ∙ same name
 
-pub count_then : (before mid now : ℕ) → mid ≡ before → (r : Result (Unit {0}) RunHalt) → CountFollows r mid now → CountFollows r before now
+pub count_then : (before mid now : ℕ) → mid ≡ before → (r : Result (Unit {0}) FindError) → CountFollows r mid now → CountFollows r before now
 count_then before mid now same r h = subst (λ (n : ℕ). CountFollows r n now) same h

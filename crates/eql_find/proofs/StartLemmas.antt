@@ -18,12 +18,12 @@ use Rattle.eql_conductor.specs.declared.plan.Keep.{Keep}
 use Rattle.eql_runs.specs.Starts.{StandsFor}
 use Rattle.eql_resume.specs.Beginnings.{LanesBegin, Rest, rest_by}
 use Rattle.eql_resume.specs.Finding.{Suits, disk_holding}
-use Rattle.eql_find.specs.declared.plan.Planning.{Planning}
+use Rattle.eql_find.specs.declared.plan.PlannedQuery.{PlannedQuery}
 use Rattle.eql_find.specs.Searching.{head_in}
 use Rattle.eql_find.specs.Starting.{BeginsOnDisk, pipes_of, stages_of, values_of}
 
 -- ---- what it begins with
-module _ (find : Find) (p : Planning) where
+module _ (find : Find) (p : PlannedQuery) where
   suits_as : (stages values : ℕ) (pipes : List Pipe) (head : CutHead) (cut : Option Cut) → stages ≡ stages_of p → values ≡ values_of p
       → pipes ≡ pipes_of p → head ≡ head_in find p → IfSome cut (Suits stages values pipes head)
       → IfSome cut (Suits (stages_of p) (values_of p) (pipes_of p) (head_in find p))

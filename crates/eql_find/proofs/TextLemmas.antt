@@ -25,7 +25,7 @@ use Rattle.eql_runs.specs.Runs.{Searches}
 use Rattle.eql_runs.specs.Searches.{plan_of}
 use Rattle.eql_runs.specs.Starts.{IsHeadOf, OnDisk, start_asked}
 use Rattle.eql_search.specs.Searches.{AreTextsOf}
-use Rattle.eql_find.specs.declared.plan.Planning.{Planning}
+use Rattle.eql_find.specs.declared.plan.PlannedQuery.{PlannedQuery}
 use Rattle.eql_find.specs.Finding.{IsPlanOf, text_told, texts_in}
 use Rattle.eql_find.specs.Lanes.{AreOver}
 use Rattle.eql_find.specs.Searching.{head_in, search_in, slack_told}
@@ -37,7 +37,7 @@ parts_of x y xs ys e = (cc, cc)
 
 -- ---- the search
 -- it is planned as the plan says
-pub plan_is : (find : Find) (files : Option Files) (p : Planning) → IsPlanOf find files p → planned_query p.plan ≡ plan_of (search_in find p)
+pub plan_is : (find : Find) (files : Option Files) (p : PlannedQuery) → IsPlanOf find files p → planned_query p.plan ≡ plan_of (search_in find p)
 plan_is find files p is =
     ap₂ (λ (f : List (List ℕ × FieldKind)) (t : Option (List ℕ)). let d : Planned = record { query = query_tree p.plan.checked.query; fields = f; tie = t } in d) is.fields is.tie
 
@@ -52,7 +52,7 @@ planning_is find files checked mapping plan got fields is = record {
 }
 
 -- over texts that the files have
-pub searches_in : (find : Find) (fs : Files) (p : Planning) (texts : List (List ℕ)) → IsPlanOf find (Some fs) p → HasTexts find.shards fs texts
+pub searches_in : (find : Find) (fs : Files) (p : PlannedQuery) (texts : List (List ℕ)) → IsPlanOf find (Some fs) p → HasTexts find.shards fs texts
     → Searches find fs (search_in find p) texts
 searches_in find fs p texts is there = record { checked = is.got; tie = refl; slack = refl; places = refl; there = there }
 
@@ -75,7 +75,7 @@ texts_long (n ∷ ns) fs [] h = absurd h
 texts_long (n ∷ ns) fs (t ∷ ts) h = ap suc (texts_long ns fs ts h.1)
 
 -- what its cuts say is what cuts of the search say
-pub head_is : (find : Find) (p : Planning) (count : ℕ) → FindIsBounded find → find.checkpoint ≢ None → count ≡ length find.shards
+pub head_is : (find : Find) (p : PlannedQuery) (count : ℕ) → FindIsBounded find → find.checkpoint ≢ None → count ≡ length find.shards
     → IsHeadOf (search_in find p) count (head_in find p)
 head_is find p count bounds asked many =
     record { query = refl; mapping_is = refl; tie = refl; slack = asked_slack find bounds asked; shards_are = sym many }

@@ -9,7 +9,7 @@ use Rattle.eql_words.specs.Bounds.{FindIsBounded}
 use Rattle.eql_lane.specs.Views.{LaneView}
 use Rattle.eql_cut.specs.declared.cut.Cut.{Cut}
 use Rattle.eql_cut.specs.Domain.{kept_by}
-use Rattle.eql_cut.specs.Placing.{IsUnplaced, orders_in, place_of}
+use Rattle.eql_cut.specs.Placing.{IsUnplaced, orders_in, listed_place}
 use Rattle.eql_conductor.specs.Openings.{IsCutOfTexts}
 use Rattle.eql_cut.specs.Placed.{cut_at_places}
 use Rattle.eql_resume.specs.Beginnings.{Rest, placed_if, rest_by}
@@ -17,13 +17,13 @@ use Rattle.eql_resume.specs.Finding.{Suits}
 use Rattle.eql_runs.specs.Searches.{pipes_of as search_pipes, reads_of}
 use Rattle.eql_runs.specs.Starts.{IsCutOf}
 use Rattle.eql_search.specs.Beginnings.{BeginsOn, cuts_of, run_by}
-use Rattle.eql_find.specs.declared.plan.Planning.{Planning}
+use Rattle.eql_find.specs.declared.plan.PlannedQuery.{PlannedQuery}
 use Rattle.eql_find.specs.Searching.{BeganWith, StartsOn, places_in, rules_in, search_in, slack_told}
 use Rattle.eql_find.specs.Starting.{pipes_of, stages_of, values_of}
 use Rattle.eql_find.proofs.AllowingLemmas.{BeginLaws, lanes_are, lifted_as, placed_by, rest_placed, same_mark}
 use Rattle.eql_find.proofs.TextLemmas.{asked_slack}
 
-module _ {S L : Type 0} (laws : BeginLaws) (find : Find) (p : Planning) (bounds : FindIsBounded find) (ts : List (List ℕ))
+module _ {S L : Type 0} (laws : BeginLaws) (find : Find) (p : PlannedQuery) (bounds : FindIsBounded find) (ts : List (List ℕ))
     (lanes : List (LaneView S L)) (format : ℕ) (cut : Cut) (asked : find.checkpoint ≢ None)
     (suits : Suits (stages_of p) (values_of p) (pipes_of p) cut.head cut) (unplaced : format ≡ 1 → IsUnplaced (orders_in cut))
     (slack_is : cut.head.slack ≡ slack_told find.slack) (many : length lanes ≡ length cut.lanes) where
@@ -48,22 +48,22 @@ module _ {S L : Type 0} (laws : BeginLaws) (find : Find) (p : Planning) (bounds 
 
   pub starts_from : (u : Bool) → BeganWith (Some ts) u (Some cut) lanes → IsCutOf (search_in find p) cut.head.slack ts (if u then cut_at_places ts cut else cut)
       → (rest : Rest) → rest ≡ rest_by (pipes_of p) u (Some cut)
-      → (let r = placed_if u (place_of (places_in lanes)) rest in StartsOn (search_in find p) ts r.mark (cuts_of lanes) r.holders r.book)
+      → (let r = placed_if u (listed_place (places_in lanes)) rest in StartsOn (search_in find p) ts r.mark (cuts_of lanes) r.holders r.book)
   starts_from u began is rest rest_is =
       let c = placed_by (places_in lanes) u cut in
       let own : IsCutOf (search_in find p) cut.head.slack ts c = subst (λ (x : Cut). IsCutOf (search_in find p) cut.head.slack ts x) (sym (meant u began)) is in
       let same : cuts_of lanes ≡ c.lanes = lanes_are laws find p bounds (Some ts) lanes format cut asked suits unplaced slack_is many u began in
       subst (λ (r : Rest). StartsOn (search_in find p) ts r.mark (cuts_of lanes) r.holders r.book)
-      (sym (ap (placed_if u (place_of (places_in lanes))) rest_is
+      (sym (ap (placed_if u (listed_place (places_in lanes))) rest_is
       ∙ rest_placed laws find p bounds (Some ts) lanes format cut asked suits unplaced slack_is many u))
       (subst (λ (t : ℤ). BeginsOn (rules_in (search_in find p)) (search_pipes (search_in find p)) ts
       (Some (let k : Kept = record { time = t; lanes = cuts_of lanes; holders = c.holders; book = c.book } in k)))
       (same_mark laws find p bounds (Some ts) lanes format cut asked suits unplaced slack_is many u) (cut_is c own same))
 
 -- a run that begins afresh does so over all texts
-pub starts_fresh : {S L : Type 0} (find : Find) (p : Planning) (ts : List (List ℕ)) (lanes : List (LaneView S L)) (u : Bool) (rest : Rest)
+pub starts_fresh : {S L : Type 0} (find : Find) (p : PlannedQuery) (ts : List (List ℕ)) (lanes : List (LaneView S L)) (u : Bool) (rest : Rest)
     → rest ≡ rest_by (pipes_of p) u None
-    → (let r = placed_if rest.unplaced (place_of (places_in lanes)) rest in StartsOn (search_in find p) ts r.mark (cuts_of lanes) r.holders r.book)
+    → (let r = placed_if rest.unplaced (listed_place (places_in lanes)) rest in StartsOn (search_in find p) ts r.mark (cuts_of lanes) r.holders r.book)
 starts_fresh find p ts lanes u rest is =
-    subst (λ (x : Rest). let r = placed_if x.unplaced (place_of (places_in lanes)) x in
+    subst (λ (x : Rest). let r = placed_if x.unplaced (listed_place (places_in lanes)) x in
     StartsOn (search_in find p) ts r.mark (cuts_of lanes) r.holders r.book) (sym is) tt

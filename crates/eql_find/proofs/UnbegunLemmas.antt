@@ -1,4 +1,4 @@
--- A run that isn't begun, by what its disk held: all that its halt says.
+-- A run that isn't begun, by what its disk held: all that its error says.
 use Rattle.std.proofs.Common.{◌≡◌, ℕ, List, Option, Some, None, Err, refl, sym, subst, ◌∙◌}
 use Rattle.std.specs.Prelude.{IfSome}
 use Rattle.eql_outside.specs.Faults.{FaultsAreSame}
@@ -11,20 +11,20 @@ use Rattle.eql_runs.specs.RunLaws.{DiskHoldsOne, FitsAtAnySpan}
 use Rattle.eql_runs.specs.Runs.{IfFound, RefusesCut, Searches}
 use Rattle.eql_runs.specs.Searches.{Search}
 use Rattle.eql_inputs.specs.Shards.{AreWholeFiles}
-use Rattle.eql_inputs.specs.declared.halt.Halt.TheVariants as halt
-use Rattle.eql_find.specs.declared.halt.CutStop.{CutStop}
-use Rattle.eql_find.specs.declared.halt.RunHalt.{RunHalt}
-use Rattle.eql_find.specs.declared.halt.RunHalt.TheVariants as run
-use Rattle.eql_find.specs.declared.plan.Planning.{Planning}
-use Rattle.eql_find.specs.Finding.{HasCause, IsPlanOf}
-use Rattle.eql_find.specs.Halts.{AbsencesFollow, CountFollows, DiskFollows, ErrFollows, FaultsFollow, IsReport, OutFollows, TellsNothing, cut_refusal_of}
+use Rattle.eql_inputs.specs.declared.error.InputError.TheVariants as error
+use Rattle.eql_find.specs.declared.error.CutStop.{CutStop}
+use Rattle.eql_find.specs.declared.error.FindError.{FindError}
+use Rattle.eql_find.specs.declared.error.FindError.TheVariants as run
+use Rattle.eql_find.specs.declared.plan.PlannedQuery.{PlannedQuery}
+use Rattle.eql_find.specs.Finding.{HasFindCause, IsPlanOf}
+use Rattle.eql_find.specs.Errors.{AbsencesFollow, CountFollows, DiskFollows, ErrFollows, FaultsFollow, IsReport, OutFollows, TellsNothing, cut_refusal_of}
 use Rattle.eql_find.specs.Searching.{search_in}
 use Rattle.eql_find.specs.Starting.{DiskRose, HasStartCause}
 use Rattle.eql_find.proofs.RefusingLemmas.{refused_found}
 use Rattle.eql_find.proofs.TextLemmas.{searches_in, texts_long}
 
 -- beside its cause
-pub record Unbegun (h : RunHalt) : Type 0 where
+pub record Unbegun (h : FindError) : Type 0 where
   pub faults : (names names' : List ℕ → ℕ) → FaultsAreSame names names' → FaultsFollow {A = Unit {0}} (Err h) names names'
   pub count : (before now : ℕ) → now ≡ before → CountFollows {A = Unit {0}} (Err h) before now
   pub absence : (before now : ℕ) → now ≡ before → AbsencesFollow {A = Unit {0}} (Err h) before now
@@ -34,10 +34,10 @@ pub record Unbegun (h : RunHalt) : Type 0 where
   pub quiet : TellsNothing h
   pub no_report : ¬ IsReport h
 
-pub unbegun : (find : Find) (p : Planning) (disk : Option History) (h : RunHalt) → HasStartCause find p disk h → Unbegun h
-unbegun find p disk (run.Files (halt.Refused r)) cause = absurd cause
-unbegun find p disk (run.Files (halt.Read name)) cause = absurd cause
-unbegun find p disk (run.Files halt.Memory) cause = record {
+pub unbegun : (find : Find) (p : PlannedQuery) (disk : Option History) (h : FindError) → HasStartCause find p disk h → Unbegun h
+unbegun find p disk (run.Files (error.Refused r)) cause = absurd cause
+unbegun find p disk (run.Files (error.Read name)) cause = absurd cause
+unbegun find p disk (run.Files error.Memory) cause = record {
   faults = λ names names' same. same;
   count = λ before now same. same;
   absence = λ before now same. same;
@@ -73,7 +73,7 @@ unbegun find p disk run.Generation cause = absurd cause
 unbegun find p disk (run.Report r) cause = absurd cause
 
 -- its cause
-module _ (spans : FitsAtAnySpan) (one : DiskHoldsOne) (find : Find) (p : Planning) (bounds : FindIsBounded find) (lefts : List (Option (List ℕ)))
+module _ (spans : FitsAtAnySpan) (one : DiskHoldsOne) (find : Find) (p : PlannedQuery) (bounds : FindIsBounded find) (lefts : List (Option (List ℕ)))
     (disk : Option History) where
   refused_cut : (files : Option Files) (why : CutStop) → IsPlanOf find files p → AreWholeFiles find.shards files lefts
       → HasStartCause find p disk (run.Cut why) → IfFound find files disk (λ fs on. RefusesCut find fs on (cut_refusal_of why))
@@ -87,11 +87,11 @@ module _ (spans : FitsAtAnySpan) (one : DiskHoldsOne) (find : Find) (p : Plannin
   searched None is whole = tt
   searched (Some fs) is whole = (search_in find p, whole.texts, searches_in find fs p whole.texts is whole.there)
 
-  pub unbegun_cause : (files : Option Files) (now : Option History) (err err' : Option (List ℕ)) (h : RunHalt) → IsPlanOf find files p
-      → AreWholeFiles find.shards files lefts → HasStartCause find p disk h → HasCause find files disk now err err' h
-  unbegun_cause files now err err' (run.Files (halt.Refused r)) is whole cause = absurd cause
-  unbegun_cause files now err err' (run.Files (halt.Read name)) is whole cause = absurd cause
-  unbegun_cause files now err err' (run.Files halt.Memory) is whole cause = tt
+  pub unbegun_cause : (files : Option Files) (now : Option History) (err err' : Option (List ℕ)) (h : FindError) → IsPlanOf find files p
+      → AreWholeFiles find.shards files lefts → HasStartCause find p disk h → HasFindCause find files disk now err err' h
+  unbegun_cause files now err err' (run.Files (error.Refused r)) is whole cause = absurd cause
+  unbegun_cause files now err err' (run.Files (error.Read name)) is whole cause = absurd cause
+  unbegun_cause files now err err' (run.Files error.Memory) is whole cause = tt
   unbegun_cause files now err err' (run.Cut why) is whole cause = (cause.0, refused_cut files why is whole cause)
   unbegun_cause files now err err' run.Disk is whole cause = (cause, searched files is whole)
   unbegun_cause files now err err' run.Write is whole cause = absurd cause

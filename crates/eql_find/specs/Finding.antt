@@ -10,16 +10,16 @@ use Rattle.eql_runs.specs.Runs.{Finds, GenerationsEnd, IfFound, IsFindAccepted, 
 use Rattle.eql_runs.specs.Runs as runs
 use Rattle.eql_runs.specs.Searches.{Search, report_lines}
 use Rattle.eql_runs.specs.Starts.{OnDisk}
-use Rattle.eql_inputs.specs.Halts as inputs
+use Rattle.eql_inputs.specs.Errors as inputs
 use Rattle.eql_inputs.specs.Steps.{GotChecked}
 use Rattle.eql_query.specs.QueryTree.{query_tree}
 use Rattle.eql_check.specs.Kinds.{kind_at}
 use Rattle.eql_check.specs.Used.{used_fields}
 use Rattle.eql_outside.specs.Outside.{AppendsSome, file_named}
-use Rattle.eql_find.specs.declared.plan.Planning.{Planning}
-use Rattle.eql_find.specs.declared.halt.RunHalt.{RunHalt}
-use Rattle.eql_find.specs.declared.halt.RunHalt.TheVariants as run
-use Rattle.eql_find.specs.Halts.{cut_refusal_of, limit_of}
+use Rattle.eql_find.specs.declared.plan.PlannedQuery.{PlannedQuery}
+use Rattle.eql_find.specs.declared.error.FindError.{FindError}
+use Rattle.eql_find.specs.declared.error.FindError.TheVariants as run
+use Rattle.eql_find.specs.Errors.{cut_refusal_of, limit_of}
 
 -- the files that a search names
 abbrev pub names_in : Find → Names
@@ -66,21 +66,21 @@ pub record GoesTooFar (find : Find) (limit : runs.ShardLimit) (files : Files) (o
   pub beyond : SearchesBeyond find files on limit
 
 -- why a run stopped, by its files, and by its disk before and now
-abbrev pub HasCause : Find → Option Files → (disk now : Option History) → (err err' : Option (List ℕ)) → RunHalt → Type 0
-HasCause find files disk now err err' (run.Files h) = inputs.HasCause (names_in find) files h
-HasCause find files disk now err err' (run.Cut r) =
+abbrev pub HasFindCause : Find → Option Files → (disk now : Option History) → (err err' : Option (List ℕ)) → FindError → Type 0
+HasFindCause find files disk now err err' (run.Files h) = inputs.HasInputCause (names_in find) files h
+HasFindCause find files disk now err err' (run.Cut r) =
     (find.checkpoint ≢ None) × IfFound find files disk (λ fs on. RefusesCut find fs on (cut_refusal_of r))
-HasCause find files disk now err err' run.Disk =
+HasFindCause find files disk now err err' run.Disk =
     (find.checkpoint ≢ None) × IfSome files (λ fs. (search : Search) × (texts : List (List ℕ)) × Searches find fs search texts)
-HasCause find files disk now err err' run.Write = IfFound find files disk (IsFindAccepted find)
-HasCause find files disk now err err' (run.Limit l) =
+HasFindCause find files disk now err err' run.Write = IfFound find files disk (IsFindAccepted find)
+HasFindCause find files disk now err err' (run.Limit l) =
     (shard_of (limit_of l) < length find.shards) × IfFound find files disk (GoesTooFar find (limit_of l))
-HasCause find files disk now err err' run.Generation =
+HasFindCause find files disk now err err' run.Generation =
     (find.checkpoint ≢ None) × IfFound find files disk (IsFindAccepted find) × GenerationsEnd disk now
-HasCause find files disk now err err' (run.Report r) = ReportsFront find files disk err err'
+HasFindCause find files disk now err err' (run.Report r) = ReportsFront find files disk err err'
 
 -- what is searched for by these words: a query that is checked against the mapping that the files hold
-pub record IsPlanOf (find : Find) (files : Option Files) (p : Planning) : Type 0 where
+pub record IsPlanOf (find : Find) (files : Option Files) (p : PlannedQuery) : Type 0 where
   pub got : GotChecked find.query find.fields files (query_tree p.plan.checked.query) p.mapping
   pub fields : p.plan.checked.fields ≡ used_fields (kind_at p.mapping) (query_tree p.plan.checked.query)
   pub tie : p.plan.tie ≡ find.tie

@@ -1,4 +1,4 @@
-pub mod Halts
+pub mod Errors
 pub mod Lanes
 pub mod Reports
 pub mod Stops

@@ -8,29 +8,29 @@ use Rattle.eql_ckdisk.specs.Going.{Goes}
 use Rattle.eql_ckdisk.specs.Keeping.{LeavesNoMore}
 use Rattle.eql_runs.specs.Files.{Files}
 use Rattle.eql_runs.specs.Runs.{IfFound, IsFindAccepted, KeepsCuts}
-use Rattle.eql_find.specs.declared.halt.RunHalt.{RunHalt}
-use Rattle.eql_find.specs.Finding.{FindsAll, FindsListing, FindsSome, HasCause}
-use Rattle.eql_find.specs.Halts.{AbsencesFollow, CountFollows, DiskFollows, ErrFollows, FaultsFollow, IsRefusal, IsReport, OutFollows, TellsNothing}
+use Rattle.eql_find.specs.declared.error.FindError.{FindError}
+use Rattle.eql_find.specs.Finding.{FindsAll, FindsListing, FindsSome, HasFindCause}
+use Rattle.eql_find.specs.Errors.{AbsencesFollow, CountFollows, DiskFollows, ErrFollows, FaultsFollow, IsRefusal, IsReport, OutFollows, TellsNothing}
 
 module _ {K E : Type 0} (output : sinks.Ghosts K) (errors : sinks.Ghosts E) where
   -- what was written, why the run stopped, and what its disk came to hold, by its files and by its disk before and now
   pub record FindEnds {A : Type 0} (find : Find) (files : Option Files) (disk now : Option History) (out out' : K) (err err' : E)
-      (answer : Result A RunHalt) : Type 0 where
+      (answer : Result A FindError) : Type 0 where
     pub done : OnOk answer (FindsAll find files disk (output.written out) (output.written out') (errors.written err) (errors.written err'))
     pub accepted : OnOk answer (IfFound find files disk (IsFindAccepted find))
     pub prefix : OnErr answer (FindsSome find files disk (output.written out) (output.written out'))
-    pub listed : IfErr answer (λ halt. IsReport halt → FindsListing find files disk (output.written out) (output.written out'))
-    pub untouched : IfErr answer (λ halt. IsRefusal halt → out' ≡ out)
-    pub quiet : IfErr answer (λ halt. TellsNothing halt → err' ≡ err)
-    pub cause : IfErr answer (HasCause find files disk now (errors.written err) (errors.written err'))
+    pub listed : IfErr answer (λ error. IsReport error → FindsListing find files disk (output.written out) (output.written out'))
+    pub untouched : IfErr answer (λ error. IsRefusal error → out' ≡ out)
+    pub quiet : IfErr answer (λ error. TellsNothing error → err' ≡ err)
+    pub cause : IfErr answer (HasFindCause find files disk now (errors.written err) (errors.written err'))
     -- with a checkpoint each image at each moment stands for what was there, or for a cut of the run, whose lines were written
     pub moments : find.checkpoint ≢ None → DiskTells (KeepsCuts find files (output.written out) (output.written out')) disk now
     -- where the files or the cut are refused each image at each moment is one of those at the start
-    pub cut_kept : IfErr answer (λ halt. IsRefusal halt → DiskTells (Goes LeavesNoMore) disk now)
+    pub cut_kept : IfErr answer (λ error. IsRefusal error → DiskTells (Goes LeavesNoMore) disk now)
 
   -- the counts of faults follow what is told, and none falls. Those of the disk are counted so often before and now
   pub record FaultsAreTold {A H Src Dsk : Type 0} (shelf : shelves.Ghosts H Src Dsk) (old new : H) (disk_before disk_now : ℕ)
-      (listing listing' : K) (report report' : E) (answer : Result A RunHalt) : Type 0 where
+      (listing listing' : K) (report report' : E) (answer : Result A FindError) : Type 0 where
     pub faults : FaultsFollow answer (shelf.faults_of old) (shelf.faults_of new)
     pub count : CountFollows answer (shelf.fault_count old) (shelf.fault_count new)
     pub absences : AbsencesFollow answer (shelf.absent_count old) (shelf.absent_count new)

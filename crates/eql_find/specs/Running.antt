@@ -23,7 +23,7 @@ use Rattle.eql_runs.specs.Searches.{Search, matches_of, plan_of, pipes_of as sea
 use Rattle.eql_runs.specs.Starts.{BeginsWith}
 use Rattle.eql_search.specs.Keeping.{AreSearchCuts}
 use Rattle.eql_search.specs.Searches.{AreBegunFrom, AreTextsOf}
-use Rattle.eql_find.specs.declared.plan.Planning.{Planning}
+use Rattle.eql_find.specs.declared.plan.PlannedQuery.{PlannedQuery}
 use Rattle.eql_find.specs.Searching.{BeganWith, head_in, rules_in, search_in}
 use Rattle.eql_find.specs.Starting.{Begun, IsOwn, on_begun, pipes_of}
 
@@ -49,7 +49,7 @@ module _ {D : Type 0} (history : D → Option History) where
 
 -- lanes that began as the run was found to begin, of these texts where they are told, with what is pending
 pub record BeginsRun {S L D : Type 0} (left : S → Option (List ℕ)) (read_of : L → Reads) (history : D → Option History)
-    (texts : Option (List (List ℕ))) (find : Find) (p : Planning) (lanes : List (LaneView S L)) (rest : Rest) (head : CutHead)
+    (texts : Option (List (List ℕ))) (find : Find) (p : PlannedQuery) (lanes : List (LaneView S L)) (rest : Rest) (head : CutHead)
     (keep : Option (Keep D)) : Type 0 where
   pub begun : Begun
   pub own : IsOwn find p begun
@@ -65,11 +65,11 @@ pub record BeginsRun {S L D : Type 0} (left : S → Option (List ℕ)) (read_of 
   pub keeps : KeepsIfAsked history find.checkpoint keep
 
 -- over these texts the run begins with nothing, or with a cut of them
-pub record StartsOver {S L : Type 0} (told : Option (List (List ℕ))) (find : Find) (p : Planning) (lanes : List (LaneView S L)) (rest : Rest)
+pub record StartsOver {S L : Type 0} (known_texts : Option (List (List ℕ))) (find : Find) (p : PlannedQuery) (lanes : List (LaneView S L)) (rest : Rest)
     (texts : List (List ℕ)) : Type 0 where
   pub begun : Begun
   pub own : IsOwn find p begun
-  pub began : BeganWith told (begun.format == 1) begun.cut lanes
+  pub began : BeganWith known_texts (begun.format == 1) begun.cut lanes
   pub rest_is : rest ≡ rest_by (pipes_of p) (begun.format == 1) begun.cut
   pub begins : BeginsWith (search_in find p) texts (on_begun begun)
 

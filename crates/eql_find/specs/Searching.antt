@@ -24,19 +24,19 @@ use Rattle.eql_conductor.specs.Saving.{PutsCuts}
 use Rattle.eql_runs.specs.Runs.{ShardLimit, WroteCounted, shard_of}
 use Rattle.eql_runs.specs.Searches.{Search, matches_of, pipes_of, reads_of, report_lines, shard_counts_from, slack_of, stages_of}
 use Rattle.eql_runs.specs.Starts.{IsCutOf}
-use Rattle.eql_inputs.specs.declared.halt.Halt.TheVariants as halt
+use Rattle.eql_inputs.specs.declared.error.InputError.TheVariants as error
 use Rattle.eql_resume.specs.Lifted.{WereLifted}
 use Rattle.eql_search.specs.Answers.{AreSteadyBut, BecameAt, RoseFaults}
 use Rattle.eql_search.specs.Beginnings.{BeginsOn, cuts_of, start_at}
 use Rattle.eql_search.specs.Keeping.{IsLaterCut}
 use Rattle.eql_search.specs.Searches.{Rules}
-use Rattle.eql_find.specs.declared.halt.RunHalt.{RunHalt}
-use Rattle.eql_find.specs.declared.halt.RunHalt.TheVariants as run
-use Rattle.eql_find.specs.declared.plan.Planning.{Planning}
-use Rattle.eql_find.specs.Halts.{limit_of}
+use Rattle.eql_find.specs.declared.error.FindError.{FindError}
+use Rattle.eql_find.specs.declared.error.FindError.TheVariants as run
+use Rattle.eql_find.specs.declared.plan.PlannedQuery.{PlannedQuery}
+use Rattle.eql_find.specs.Errors.{limit_of}
 
 -- ---- what is searched for
-abbrev pub search_in : Find → Planning → Search
+abbrev pub search_in : Find → PlannedQuery → Search
 search_in find p = record {
   query = query_tree p.plan.checked.query;
   mapping = p.mapping;
@@ -55,7 +55,7 @@ slack_told None = 0
 slack_told (Some ms) = ms
 
 -- what the cuts of a run say of it
-abbrev pub head_in : Find → Planning → CutHead
+abbrev pub head_in : Find → PlannedQuery → CutHead
 head_in find p = record {
   query = query_shown (query_tree p.plan.checked.query);
   mapping = p.mapping;
@@ -121,7 +121,7 @@ pub record RunPutsCuts (head : CutHead) (from : Mark) (Are : List Cut → Type 0
   pub at_end : ended → ((last_cut then).generation ≡ 2 ^ 63) × (2 ^ 62 ≤ (last_cut state).generation) × Stands (last_cut then) now
 
 module _ {D : Type 0} (history : D → Option History) where
-  abbrev pub KeepsAs : {A : Type 0} → CutHead → Mark → (List Cut → Type 0) → (keep kept : Option (Keep D)) → Result A RunHalt → Type 0
+  abbrev pub KeepsAs : {A : Type 0} → CutHead → Mark → (List Cut → Type 0) → (keep kept : Option (Keep D)) → Result A FindError → Type 0
   KeepsAs head from Are None None answer = answer ≢ Err run.Generation
   KeepsAs head from Are None (Some l) answer = ⊥
   KeepsAs head from Are (Some k) None answer = ⊥
@@ -139,10 +139,10 @@ AreCutsOf search texts listed out out' Started cuts =
 -- ---- why it stops
 -- `Started` says that the run may begin so over texts, `Beyond` that a shard of them is beyond a limit
 abbrev pub LanesStop : Find → Search → (texts : Option (List (List ℕ))) → (Started : List (List ℕ) → Type 0)
-    → (Beyond : List (List ℕ) → ShardLimit → Type 0) → (err err' : Option (List ℕ)) → RunHalt → Type 0
-LanesStop find search texts Started Beyond err err' (run.Files (halt.Refused r)) = ⊥
-LanesStop find search texts Started Beyond err err' (run.Files (halt.Read name)) = Unit {0}
-LanesStop find search texts Started Beyond err err' (run.Files halt.Memory) = Unit {0}
+    → (Beyond : List (List ℕ) → ShardLimit → Type 0) → (err err' : Option (List ℕ)) → FindError → Type 0
+LanesStop find search texts Started Beyond err err' (run.Files (error.Refused r)) = ⊥
+LanesStop find search texts Started Beyond err err' (run.Files (error.Read name)) = Unit {0}
+LanesStop find search texts Started Beyond err err' (run.Files error.Memory) = Unit {0}
 LanesStop find search texts Started Beyond err err' (run.Cut why) = ⊥
 LanesStop find search texts Started Beyond err err' run.Disk = find.checkpoint ≢ None
 LanesStop find search texts Started Beyond err err' run.Write = Unit {0}
@@ -158,11 +158,11 @@ pub record LaneFailed {S L : Type 0} (find : Find) (name : List ℕ) (olds news 
   pub named : slice_get find.shards shard ≡ Some name
   pub rose : BecameAt shard olds news RoseFaults
 
-abbrev pub LaneFaultsFollow : {A S L : Type 0} → Find → Result A RunHalt → (olds news : List (LaneView S L)) → Type 0
+abbrev pub LaneFaultsFollow : {A S L : Type 0} → Find → Result A FindError → (olds news : List (LaneView S L)) → Type 0
 LaneFaultsFollow find (Ok done) olds news = AreSteadyBut (λ s. ⊥) olds news
-LaneFaultsFollow find (Err (run.Files (halt.Refused r))) olds news = AreSteadyBut (λ s. ⊥) olds news
-LaneFaultsFollow find (Err (run.Files (halt.Read name))) olds news = LaneFailed find name.now olds news
-LaneFaultsFollow find (Err (run.Files halt.Memory)) olds news = AreSteadyBut (λ s. ⊥) olds news
+LaneFaultsFollow find (Err (run.Files (error.Refused r))) olds news = AreSteadyBut (λ s. ⊥) olds news
+LaneFaultsFollow find (Err (run.Files (error.Read name))) olds news = LaneFailed find name.now olds news
+LaneFaultsFollow find (Err (run.Files error.Memory)) olds news = AreSteadyBut (λ s. ⊥) olds news
 LaneFaultsFollow find (Err (run.Cut why)) olds news = AreSteadyBut (λ s. ⊥) olds news
 LaneFaultsFollow find (Err run.Disk) olds news = AreSteadyBut (λ s. ⊥) olds news
 LaneFaultsFollow find (Err run.Write) olds news = AreSteadyBut (λ s. ⊥) olds news

@@ -21,26 +21,26 @@ use Rattle.eql_ckdisk.specs.Putting.{Stands, last_cut}
 use Rattle.eql_conductor.specs.declared.plan.Keep.{Keep}
 use Rattle.eql_runs.specs.Files.{Files}
 use Rattle.eql_runs.specs.Starts.{OnDisk, StandsFor}
-use Rattle.eql_inputs.specs.declared.halt.Halt.TheVariants as halt
+use Rattle.eql_inputs.specs.declared.error.InputError.TheVariants as error
 use Rattle.eql_resume.specs.declared.finding.StartRefused.{StartRefused}
 use Rattle.eql_resume.specs.declared.finding.StartRefused.TheVariants as by
 use Rattle.eql_resume.specs.Beginnings.{LanesBegin, Rest, rest_by}
 use Rattle.eql_resume.specs.Finding.{IsRefusedBy, Suits, disk_holding}
-use Rattle.eql_find.specs.declared.halt.CutStop.TheVariants as cut
-use Rattle.eql_find.specs.declared.halt.RunHalt.{RunHalt}
-use Rattle.eql_find.specs.declared.halt.RunHalt.TheVariants as run
-use Rattle.eql_find.specs.declared.plan.Planning.{Planning}
-use Rattle.eql_find.specs.Halts.{cut_refusal_of}
+use Rattle.eql_find.specs.declared.error.CutStop.TheVariants as cut
+use Rattle.eql_find.specs.declared.error.FindError.{FindError}
+use Rattle.eql_find.specs.declared.error.FindError.TheVariants as run
+use Rattle.eql_find.specs.declared.plan.PlannedQuery.{PlannedQuery}
+use Rattle.eql_find.specs.Errors.{cut_refusal_of}
 use Rattle.eql_find.specs.Searching.{head_in}
 
 -- ---- what is tested of a cut
-abbrev pub stages_of : Planning → ℕ
+abbrev pub stages_of : PlannedQuery → ℕ
 stages_of p = length (stages_in (planned_query p.plan).query.body)
 
-abbrev pub values_of : Planning → ℕ
+abbrev pub values_of : PlannedQuery → ℕ
 values_of p = key_count (planned_query p.plan).query.body
 
-abbrev pub pipes_of : Planning → List Pipe
+abbrev pub pipes_of : PlannedQuery → List Pipe
 pipes_of p = map pipe_of (planned_query p.plan).query.pipes
 
 -- what a run was found to begin with: a cut, where there is one, with its format and its generation
@@ -53,7 +53,7 @@ abbrev pub on_begun : Begun → OnDisk
 on_begun begun = disk_holding begun.format begun.generation begun.cut
 
 -- a cut with which a run begins is one of this run, which has a checkpoint, and fits it
-pub record IsOwn (find : Find) (p : Planning) (begun : Begun) : Type 0 where
+pub record IsOwn (find : Find) (p : PlannedQuery) (begun : Begun) : Type 0 where
   pub asked : IfSome begun.cut (λ cut. find.checkpoint ≢ None)
   pub suits : IfSome begun.cut (Suits (stages_of p) (values_of p) (pipes_of p) (head_in find p))
   pub unplaced : IfSome begun.cut (λ cut. begun.format ≡ 1 → IsUnplaced (orders_in cut))
@@ -68,7 +68,7 @@ generation_kept None = None
 generation_kept (Some k) = Some (last_cut k.state).generation
 
 -- a run begins so: its head, where it keeps its cuts, and how its lanes and all the rest begin
-pub record BeginsOnDisk {D : Type 0} (find : Find) (p : Planning) (disk : Option History) (head : CutHead) (keep : Option (Keep D))
+pub record BeginsOnDisk {D : Type 0} (find : Find) (p : PlannedQuery) (disk : Option History) (head : CutHead) (keep : Option (Keep D))
     (starts : List LaneStart) (rest : Rest) : Type 0 where
   pub begun : Begun
   pub is_found : IsFound find disk begun
@@ -114,10 +114,10 @@ pub record ChangesOnlyDisk {S : Type 0} (files : S → Option Files) (plans : S 
 
 -- ---- why it isn't begun
 -- the disk failed, or memory ran out
-abbrev pub IsDiskOrMemory : RunHalt → Type 0
-IsDiskOrMemory (run.Files (halt.Refused r)) = ⊥
-IsDiskOrMemory (run.Files (halt.Read name)) = ⊥
-IsDiskOrMemory (run.Files halt.Memory) = Unit {0}
+abbrev pub IsDiskOrMemory : FindError → Type 0
+IsDiskOrMemory (run.Files (error.Refused r)) = ⊥
+IsDiskOrMemory (run.Files (error.Read name)) = ⊥
+IsDiskOrMemory (run.Files error.Memory) = Unit {0}
 IsDiskOrMemory (run.Cut why) = ⊥
 IsDiskOrMemory run.Disk = Unit {0}
 IsDiskOrMemory run.Write = ⊥
@@ -125,19 +125,19 @@ IsDiskOrMemory (run.Limit l) = ⊥
 IsDiskOrMemory run.Generation = ⊥
 IsDiskOrMemory (run.Report r) = ⊥
 
--- the halt of a refusal
-abbrev pub IsHaltOfStart : StartRefused → RunHalt → Type 0
-IsHaltOfStart by.Disk h = h ≡ run.Disk
-IsHaltOfStart (by.Damaged area at) h = h ≡ run.Cut (cut.Damaged area at)
-IsHaltOfStart (by.Differs d) h = h ≡ run.Cut (cut.Differs d)
-IsHaltOfStart by.Unfit h = h ≡ run.Cut cut.Unfit
-IsHaltOfStart by.Memory h = h ≡ run.Files halt.Memory
+-- the error of a refusal
+abbrev pub IsErrorOfStart : StartRefused → FindError → Type 0
+IsErrorOfStart by.Disk h = h ≡ run.Disk
+IsErrorOfStart (by.Damaged area at) h = h ≡ run.Cut (cut.Damaged area at)
+IsErrorOfStart (by.Differs d) h = h ≡ run.Cut (cut.Differs d)
+IsErrorOfStart by.Unfit h = h ≡ run.Cut cut.Unfit
+IsErrorOfStart by.Memory h = h ≡ run.Files error.Memory
 
 -- why a run isn't begun: by what its disk held, where it tells
-abbrev pub HasStartCause : Find → Planning → Option History → RunHalt → Type 0
-HasStartCause find p disk (run.Files (halt.Refused r)) = ⊥
-HasStartCause find p disk (run.Files (halt.Read name)) = ⊥
-HasStartCause find p disk (run.Files halt.Memory) = Unit {0}
+abbrev pub HasStartCause : Find → PlannedQuery → Option History → FindError → Type 0
+HasStartCause find p disk (run.Files (error.Refused r)) = ⊥
+HasStartCause find p disk (run.Files (error.Read name)) = ⊥
+HasStartCause find p disk (run.Files error.Memory) = Unit {0}
 HasStartCause find p disk (run.Cut why) =
     (find.checkpoint ≢ None)
     × IfSome disk (λ h. IsRefusedBy (stages_of p) (values_of p) (pipes_of p) (head_in find p) (found_on (seen_areas h.now)) (cut_refusal_of why))
@@ -148,7 +148,7 @@ HasStartCause find p disk run.Generation = ⊥
 HasStartCause find p disk (run.Report r) = ⊥
 
 -- the disk's count of faults rose where it is told as failed, and else it is as before
-abbrev pub DiskRose : RunHalt → (before now : ℕ) → Type 0
+abbrev pub DiskRose : FindError → (before now : ℕ) → Type 0
 DiskRose (run.Files h) before now = now ≡ before
 DiskRose (run.Cut why) before now = now ≡ before
 DiskRose run.Disk before now = Rose before now

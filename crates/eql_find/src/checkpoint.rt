@@ -8,15 +8,15 @@ ghost use Rattle.eql_outside.specs.Moments.{DiskTells};
 ghost use Rattle.eql_outside.specs.Outside.{Rose};
 ghost use Rattle.eql_outside.specs.Unfailing.{IsUnfailing};
 ghost use Rattle.eql_words.specs.Bounds.{FindIsBounded};
-ghost use Rattle.eql_find.specs.Halts.{IsFault};
+ghost use Rattle.eql_find.specs.Errors.{IsFault};
 ghost use Rattle.eql_find.specs.Searching.{head_in};
-ghost use Rattle.eql_find.specs.Starting.{BeginsOnDisk, ChangesOnlyDisk, DiskRose, HasStartCause, IsDiskOrMemory, IsHaltOfStart, KeepsFor, disk_after, plan_after};
+ghost use Rattle.eql_find.specs.Starting.{BeginsOnDisk, ChangesOnlyDisk, DiskRose, HasStartCause, IsDiskOrMemory, IsErrorOfStart, KeepsFor, disk_after, plan_after};
 
-use crate::halt::{CutStop, RunHalt};
-use crate::plan::{Planning, head_of};
+use crate::error::{CutStop, FindError};
+use crate::plan::{PlannedQuery, head_of};
 use eql_conductor::Keep;
 use eql_cut::CutHead;
-use eql_inputs::Halt;
+use eql_inputs::InputError;
 use eql_lane::LaneStart;
 use eql_outside::{Disk, OutRefused, Shelf, unfailing_stays};
 use eql_resume::{Pending, StartRefused, begin, find_start};
@@ -35,16 +35,16 @@ pub(crate) struct Start<D> {
     pub rest: Pending,
 }
 
-/// Why a run isn't begun, as a halt.
-fn halt_of_start<'a>(refused: StartRefused) -> RunHalt<'a>
-    ensures { IsHaltOfStart refused result }
+/// Why a run isn't begun, as a error.
+fn error_of_start<'a>(refused: StartRefused) -> FindError<'a>
+    ensures { IsErrorOfStart refused result }
 {
     match refused {
-        StartRefused::Disk => RunHalt::Disk,
-        StartRefused::Damaged { area, at } => RunHalt::Cut(CutStop::Damaged { area, at }),
-        StartRefused::Differs(differs) => RunHalt::Cut(CutStop::Differs(differs)),
-        StartRefused::Unfit => RunHalt::Cut(CutStop::Unfit),
-        StartRefused::Memory => RunHalt::Files(Halt::Memory),
+        StartRefused::Disk => FindError::Disk,
+        StartRefused::Damaged { area, at } => FindError::Cut(CutStop::Damaged { area, at }),
+        StartRefused::Differs(differs) => FindError::Cut(CutStop::Differs(differs)),
+        StartRefused::Unfit => FindError::Cut(CutStop::Unfit),
+        StartRefused::Memory => FindError::Files(InputError::Memory),
     }
 }
 
@@ -53,11 +53,11 @@ fn open_disk<'a, H: Shelf>(
     alloc: Global,
     checkpoint: &'a Checkpoint,
     shelf: &mut H,
-) -> Result<H::Dsk, RunHalt<'a>>
+) -> Result<H::Dsk, FindError<'a>>
     ensures as_it_stands { IfOk result (λ d. (H.Dsk.history d ≡ H.disk_history shelf.old)
         × (H.Dsk.fault_plan d ≡ H.disk_plan shelf.old) × (H.Dsk.fault_count d ≡ 0)) }
     ensures cause { IfErr result IsDiskOrMemory }
-    ensures fault { IfErr result (λ halt. DiskRose halt
+    ensures fault { IfErr result (λ error. DiskRose error
         (H.disk_fault_count shelf.old) (H.disk_fault_count shelf.new)) }
     ensures steady { OnOk result (H.disk_fault_count shelf.new ≡ H.disk_fault_count shelf.old) }
     ensures counts { H.disk_fault_count shelf.old ≤ H.disk_fault_count shelf.new }
@@ -67,13 +67,13 @@ fn open_disk<'a, H: Shelf>(
     ensures history { (H.disk_history shelf.new ≡ H.disk_history shelf.old)
         × (H.disk_plan shelf.new ≡ H.disk_plan shelf.old) }
     ensures unfailing { IsUnfailing (H.fault_plan shelf.old)
-        → IfErr result (λ halt. ¬ IsFault halt) }
+        → IfErr result (λ error. ¬ IsFault error) }
 {
     unfailing_stays();
     match shelf.disk(alloc, checkpoint.name.name()) {
         Ok(disk) => Ok(disk),
-        Err(OutRefused::Failed) => Err(RunHalt::Disk),
-        Err(OutRefused::Memory) => Err(RunHalt::Files(Halt::Memory)),
+        Err(OutRefused::Failed) => Err(FindError::Disk),
+        Err(OutRefused::Memory) => Err(FindError::Files(InputError::Memory)),
     }
 }
 
@@ -102,19 +102,19 @@ fn start_on<'a, D: Disk>(
     alloc: Global,
     disk: D,
     head: CutHead,
-    planning: &Planning,
+    planned: &PlannedQuery,
     find: &Find,
-) -> Result<Start<D>, (RunHalt<'a>, D)>
+) -> Result<Start<D>, (FindError<'a>, D)>
     requires bounds { FindIsBounded find.now }
     requires asked { find.now.checkpoint ≢ None }
     requires fresh { D.fault_count disk ≡ 0 }
-    requires head { head ≡ head_in find.now planning.now }
-    requires names { IsTrue (names_ascend planning.now.mapping) }
-    ensures begins { IfOk result (λ start. BeginsOnDisk find.now planning.now (D.history disk)
+    requires head { head ≡ head_in find.now planned.now }
+    requires names { IsTrue (names_ascend planned.now.mapping) }
+    ensures begins { IfOk result (λ start. BeginsOnDisk find.now planned.now (D.history disk)
         start.head start.keep start.lanes.items start.rest) }
     ensures keeps { IfOk result (λ start.
         KeepsFor D.history D.fault_count (D.history disk) start.keep) }
-    ensures cause { IfErr result (λ r. HasStartCause find.now planning.now (D.history disk) r.0) }
+    ensures cause { IfErr result (λ r. HasStartCause find.now planned.now (D.history disk) r.0) }
     ensures moments { IfErr result (λ r.
         DiskTells (Goes LeavesNoMore) (D.history disk) (D.history r.1)) }
     ensures fault { IfErr result (λ r. DiskRose r.0 (D.fault_count disk) (D.fault_count r.1)) }
@@ -123,11 +123,11 @@ fn start_on<'a, D: Disk>(
         × IfOk result (λ start. IsKeptUnfailing D.fault_plan start.keep) }
 {
     let mut disk = disk;
-    let stages = planning.plan.stages();
-    let values = planning.plan.keys();
-    let pipes = planning.plan.pipes();
+    let stages = planned.plan.stages();
+    let values = planned.plan.keys();
+    let pipes = planned.plan.pipes();
     match find_start(alloc, &mut disk, &head, stages, values, pipes) {
-        Err(refused) => Err((halt_of_start(refused), disk)),
+        Err(refused) => Err((error_of_start(refused), disk)),
         Ok(found) => {
             let unplaced = found.format == 1;
             match begin(
@@ -139,7 +139,7 @@ fn start_on<'a, D: Disk>(
                 head.shards,
                 pipes,
             ) {
-                Err(_) => Err((RunHalt::Files(Halt::Memory), disk)),
+                Err(_) => Err((FindError::Files(InputError::Memory), disk)),
                 Ok(beginning) => Ok(Start {
                     head,
                     keep: Some(Keep {
@@ -158,23 +158,23 @@ fn start_on<'a, D: Disk>(
 fn start_afresh<'a, D: Disk>(
     alloc: Global,
     head: CutHead,
-    planning: &Planning,
+    planned: &PlannedQuery,
     find: &Find,
-) -> Result<Start<D>, RunHalt<'a>>
+) -> Result<Start<D>, FindError<'a>>
     requires bounds { FindIsBounded find.now }
     requires none { find.now.checkpoint ≡ None }
-    requires head { head ≡ head_in find.now planning.now }
-    requires names { IsTrue (names_ascend planning.now.mapping) }
-    ensures begins { IfOk result (λ start. BeginsOnDisk find.now planning.now None
+    requires head { head ≡ head_in find.now planned.now }
+    requires names { IsTrue (names_ascend planned.now.mapping) }
+    ensures begins { IfOk result (λ start. BeginsOnDisk find.now planned.now None
         start.head start.keep start.lanes.items start.rest) }
     ensures keeps { IfOk result (λ start. start.keep ≡ None) }
-    ensures cause { IfErr result (λ halt. halt ≡ RunHalt.Files Halt.Memory) }
+    ensures cause { IfErr result (λ error. error ≡ FindError.Files InputError.Memory) }
 {
-    let stages = planning.plan.stages();
-    let values = planning.plan.keys();
-    let pipes = planning.plan.pipes();
+    let stages = planned.plan.stages();
+    let values = planned.plan.keys();
+    let pipes = planned.plan.pipes();
     match begin(alloc, None, false, stages, values, head.shards, pipes) {
-        Err(_) => Err(RunHalt::Files(Halt::Memory)),
+        Err(_) => Err(FindError::Files(InputError::Memory)),
         Ok(beginning) => Ok(Start {
             head,
             keep: None,
@@ -188,23 +188,23 @@ fn start_afresh<'a, D: Disk>(
 /// refused the disk goes back.
 pub(crate) fn start_run<'a, H: Shelf>(
     alloc: Global,
-    planning: &Planning,
+    planned: &PlannedQuery,
     find: &'a Find,
     shelf: &mut H,
-) -> Result<Start<H::Dsk>, RunHalt<'a>>
+) -> Result<Start<H::Dsk>, FindError<'a>>
     requires bounds { FindIsBounded find.now }
-    ensures begins { IfOk result (λ start. BeginsOnDisk find.now planning.now
+    ensures begins { IfOk result (λ start. BeginsOnDisk find.now planned.now
         (H.disk_history shelf.old) start.head start.keep start.lanes.items start.rest) }
     ensures keeps { IfOk result (λ start. (find.now.checkpoint ≡ None → start.keep ≡ None)
         × (find.now.checkpoint ≢ None
         → KeepsFor H.Dsk.history H.Dsk.fault_count (H.disk_history shelf.old) start.keep)) }
-    ensures cause { IfErr result (HasStartCause find.now planning.now (H.disk_history shelf.old)) }
+    ensures cause { IfErr result (HasStartCause find.now planned.now (H.disk_history shelf.old)) }
     ensures kept { ChangesOnlyDisk H.files H.source_plans H.fault_count H.absent_count H.faults_of
         H.lent_count shelf.old shelf.new }
     ensures moments { DiskTells (Goes LeavesNoMore)
         (H.disk_history shelf.old) (H.disk_history shelf.new) }
     ensures still { OnOk result (H.disk_history shelf.new ≡ H.disk_history shelf.old) }
-    ensures fault { IfErr result (λ halt. DiskRose halt
+    ensures fault { IfErr result (λ error. DiskRose error
         (H.disk_fault_count shelf.old) (H.disk_fault_count shelf.new)) }
     ensures steady { OnOk result (H.disk_fault_count shelf.new ≡ H.disk_fault_count shelf.old) }
     ensures counts { H.disk_fault_count shelf.old ≤ H.disk_fault_count shelf.new }
@@ -212,25 +212,25 @@ pub(crate) fn start_run<'a, H: Shelf>(
     ensures untouched { find.now.checkpoint ≡ None → shelf.new ≡ shelf.old }
     ensures unfailing { IsUnfailing (H.fault_plan shelf.old)
         → (find.now.checkpoint ≢ None → IsUnfailing (H.disk_plan shelf.old))
-        → IfErr result (λ halt. ¬ IsFault halt)
+        → IfErr result (λ error. ¬ IsFault error)
         × IfOk result (λ start. IsKeptUnfailing H.Dsk.fault_plan start.keep) }
 {
-    let head = match head_of(alloc, find, planning) {
+    let head = match head_of(alloc, find, planned) {
         Ok(head) => head,
-        Err(_) => return Err(RunHalt::Files(Halt::Memory)),
+        Err(_) => return Err(FindError::Files(InputError::Memory)),
     };
     let Some(checkpoint) = &find.checkpoint else {
-        return start_afresh(alloc, head, planning, find);
+        return start_afresh(alloc, head, planned, find);
     };
     let disk = match open_disk(alloc, checkpoint, shelf) {
         Ok(disk) => disk,
-        Err(halt) => return Err(halt),
+        Err(error) => return Err(error),
     };
-    match start_on(alloc, disk, head, planning, find) {
+    match start_on(alloc, disk, head, planned, find) {
         Ok(start) => Ok(start),
-        Err((halt, disk)) => {
+        Err((error, disk)) => {
             shelf.give_disk(disk);
-            Err(halt)
+            Err(error)
         }
     }
 }

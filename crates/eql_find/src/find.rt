@@ -6,18 +6,18 @@ ghost use Rattle.eql_inputs.specs.Shelves.{KeepsShelf};
 ghost use Rattle.eql_outside.specs.Unfailing.{IsUnfailing, AreUnfailing};
 ghost use Rattle.eql_words.specs.Bounds.{FindIsBounded};
 ghost use Rattle.eql_runs.specs.Outcomes.{DiskIsSame};
-ghost use Rattle.eql_find.specs.Halts.{IsFault};
+ghost use Rattle.eql_find.specs.Errors.{IsFault};
 ghost use Rattle.eql_find.specs.Finding.{IsPlanOf, texts_told};
 ghost use Rattle.eql_find.specs.Outcomes.{FaultsAreTold, FindEnds};
 ghost use Rattle.eql_find.specs.Running.{KeepsIfAsked};
 ghost use Rattle.eql_find.specs.Starting.{BeginsOnDisk, IsFreshKeep, disk_after};
 
 use crate::checkpoint::{Start, give_keep, start_run};
-use crate::halt::RunHalt;
+use crate::error::FindError;
 use crate::lanes::{give_lanes, give_sources, make_lanes};
-use crate::plan::{Planning, read_plan};
+use crate::plan::{PlannedQuery, read_plan};
 use crate::running::run_lanes;
-use crate::stops::halt_at;
+use crate::stops::error_at;
 use eql_ckdisk::puts_go_on;
 use eql_conductor::Keep;
 use eql_cut::CutHead;
@@ -40,23 +40,23 @@ fn run_over<'a, R: Threads + Wait + Sync, H: Shelf, K: Sink, E: Sink, W: Gate + 
     starts: Vec<LaneStart>,
     rest: Pending,
     head: CutHead,
-    planning: &Planning,
+    planned: &PlannedQuery,
     find: &'a Find,
     shelf: &mut H,
     out: &mut K,
     err: &mut E,
     keep: &mut Option<Keep<H::Dsk>>,
     gate: &W,
-) -> Result<(), RunHalt<'a>>
-    ghost told: { Option (List (List ℕ)) }
-    requires told { told ≡ texts_told (H.files shelf.old) find.now.shards }
+) -> Result<(), FindError<'a>>
+    ghost known_texts: { Option (List (List ℕ)) }
+    requires told { known_texts ≡ texts_told (H.files shelf.old) find.now.shards }
     requires bounds { FindIsBounded find.now }
-    requires plan { IsPlanOf find.now (H.files shelf.old) planning.now }
+    requires plan { IsPlanOf find.now (H.files shelf.old) planned.now }
     requires whole { AreWholeFiles find.now.shards (H.files shelf.old)
         (map H.Src.left sources.items) }
     requires named { map H.Src.lent_as sources.items ≡ map (λ name. Some name) find.now.shards }
     requires fresh { All (λ source. H.Src.fault_count source ≡ 0) sources.items }
-    requires begins { BeginsOnDisk find.now planning.now (H.disk_history shelf.old)
+    requires begins { BeginsOnDisk find.now planned.now (H.disk_history shelf.old)
         head keep.old starts.items rest }
     requires keeps { KeepsIfAsked H.Dsk.history find.now.checkpoint keep.old }
     requires kept { IsFreshKeep H.Dsk.history H.Dsk.fault_count
@@ -70,7 +70,7 @@ fn run_over<'a, R: Threads + Wait + Sync, H: Shelf, K: Sink, E: Sink, W: Gate + 
         out.old out.new err.old err.new result }
     ensures unfailing { All (λ source. IsUnfailing (H.Src.fault_plan source)) sources.items
         → IsUnfailing (K.fault_plan out.old) → IsUnfailing (E.fault_plan err.old)
-        → IsKeptUnfailing H.Dsk.fault_plan keep.old → IfErr result (λ halt. ¬ IsFault halt) }
+        → IsKeptUnfailing H.Dsk.fault_plan keep.old → IfErr result (λ error. ¬ IsFault error) }
     ensures kept { KeepsShelf H.files H.source_plans H.disk_history H.is_out H.disk_fault_count
         H.disk_plan shelf.old shelf.new }
     ensures lent { IfSome (H.lent_count shelf.old)
@@ -83,12 +83,12 @@ fn run_over<'a, R: Threads + Wait + Sync, H: Shelf, K: Sink, E: Sink, W: Gate + 
     disks_hold_one_thing();
     spans_change_no_fit();
     tested_cuts_are_accepted();
-    let mut lanes = match make_lanes(alloc, sources, &planning.plan, find.slack, starts, shelf) {
+    let mut lanes = match make_lanes(alloc, sources, &planned.plan, find.slack, starts, shelf) {
         Ok(lanes) => lanes,
-        Err(stop) => return Err(halt_at(stop, &find.shards)),
+        Err(stop) => return Err(error_at(stop, &find.shards)),
     };
     let ran = run_lanes(
-        rt, alloc, &mut lanes, rest, head, planning, find, out, err, keep, gate,
+        rt, alloc, &mut lanes, rest, head, planned, find, out, err, keep, gate,
     );
     give_lanes(lanes, shelf);
     ran
@@ -100,20 +100,20 @@ fn run_start<'a, R: Threads + Wait + Sync, H: Shelf, K: Sink, E: Sink, W: Gate +
     alloc: Global,
     sources: Vec<H::Src>,
     start: Start<H::Dsk>,
-    planning: &Planning,
+    planned: &PlannedQuery,
     find: &'a Find,
     shelf: &mut H,
     out: &mut K,
     err: &mut E,
     gate: &W,
-) -> Result<(), RunHalt<'a>>
+) -> Result<(), FindError<'a>>
     requires bounds { FindIsBounded find.now }
-    requires plan { IsPlanOf find.now (H.files shelf.old) planning.now }
+    requires plan { IsPlanOf find.now (H.files shelf.old) planned.now }
     requires whole { AreWholeFiles find.now.shards (H.files shelf.old)
         (map H.Src.left sources.items) }
     requires named { map H.Src.lent_as sources.items ≡ map (λ name. Some name) find.now.shards }
     requires fresh { All (λ source. H.Src.fault_count source ≡ 0) sources.items }
-    requires begins { BeginsOnDisk find.now planning.now (H.disk_history shelf.old)
+    requires begins { BeginsOnDisk find.now planned.now (H.disk_history shelf.old)
         start.head start.keep start.lanes.items start.rest }
     requires keeps { KeepsIfAsked H.Dsk.history find.now.checkpoint start.keep }
     requires kept { IsFreshKeep H.Dsk.history H.Dsk.fault_count
@@ -126,7 +126,7 @@ fn run_start<'a, R: Threads + Wait + Sync, H: Shelf, K: Sink, E: Sink, W: Gate +
     ensures unfailing { All (λ source. IsUnfailing (H.Src.fault_plan source)) sources.items
         → IsKeptUnfailing H.Dsk.fault_plan start.keep
         → IsUnfailing (K.fault_plan out.old) → IsUnfailing (E.fault_plan err.old)
-        → IfErr result (λ halt. ¬ IsFault halt) }
+        → IfErr result (λ error. ¬ IsFault error) }
     ensures kept { H.files shelf.new ≡ H.files shelf.old }
     ensures lent { IfSome (H.lent_count shelf.old)
         (λ n. H.lent_count shelf.new ≡ Some (n - length find.now.shards)) }
@@ -140,7 +140,7 @@ fn run_start<'a, R: Threads + Wait + Sync, H: Shelf, K: Sink, E: Sink, W: Gate +
         rest,
     } = start;
     let ran = run_over(
-        rt, alloc, sources, lanes, rest, head, planning, find, shelf, out, err, &mut keep, gate,
+        rt, alloc, sources, lanes, rest, head, planned, find, shelf, out, err, &mut keep, gate,
     );
     give_keep(keep, shelf);
     ran
@@ -152,15 +152,15 @@ fn run_shards<'a, R: Threads + Wait + Sync, H: Shelf, K: Sink, E: Sink, W: Gate 
     rt: &R,
     alloc: Global,
     sources: Vec<H::Src>,
-    planning: &Planning,
+    planned: &PlannedQuery,
     find: &'a Find,
     shelf: &mut H,
     out: &mut K,
     err: &mut E,
     gate: &W,
-) -> Result<(), RunHalt<'a>>
+) -> Result<(), FindError<'a>>
     requires bounds { FindIsBounded find.now }
-    requires plan { IsPlanOf find.now (H.files shelf.old) planning.now }
+    requires plan { IsPlanOf find.now (H.files shelf.old) planned.now }
     requires whole { AreWholeFiles find.now.shards (H.files shelf.old)
         (map H.Src.left sources.items) }
     requires named { map H.Src.lent_as sources.items ≡ map (λ name. Some name) find.now.shards }
@@ -174,7 +174,7 @@ fn run_shards<'a, R: Threads + Wait + Sync, H: Shelf, K: Sink, E: Sink, W: Gate 
         → IsUnfailing (H.fault_plan shelf.old)
         → (find.now.checkpoint ≢ None → IsUnfailing (H.disk_plan shelf.old))
         → IsUnfailing (K.fault_plan out.old) → IsUnfailing (E.fault_plan err.old)
-        → IfErr result (λ halt. ¬ IsFault halt) }
+        → IfErr result (λ error. ¬ IsFault error) }
     ensures kept { H.files shelf.new ≡ H.files shelf.old }
     ensures lent { IfSome (H.lent_count shelf.old)
         (λ n. H.lent_count shelf.new ≡ Some (n - length find.now.shards)) }
@@ -184,13 +184,13 @@ fn run_shards<'a, R: Threads + Wait + Sync, H: Shelf, K: Sink, E: Sink, W: Gate 
     puts_go_on();
     disks_hold_one_thing();
     spans_change_no_fit();
-    match start_run(alloc, planning, find, shelf) {
+    match start_run(alloc, planned, find, shelf) {
         Ok(start) => run_start(
-            rt, alloc, sources, start, planning, find, shelf, out, err, gate,
+            rt, alloc, sources, start, planned, find, shelf, out, err, gate,
         ),
-        Err(halt) => {
+        Err(error) => {
             give_sources(sources, shelf);
-            Err(halt)
+            Err(error)
         }
     }
 }
@@ -210,7 +210,7 @@ pub fn find_matches<'a, R: Threads + Wait + Sync, H: Shelf, K: Sink, E: Sink, W:
     out: &mut K,
     err: &mut E,
     gate: &W,
-) -> Result<(), RunHalt<'a>>
+) -> Result<(), FindError<'a>>
     requires { FindIsBounded find.now }
 
     // What was written, why it stopped, and what the disk came to hold.
@@ -225,7 +225,7 @@ pub fn find_matches<'a, R: Threads + Wait + Sync, H: Shelf, K: Sink, E: Sink, W:
         → AreUnfailing (H.source_plans shelf.old)
         → (find.now.checkpoint ≢ None → IsUnfailing (H.disk_plan shelf.old))
         → IsUnfailing (K.fault_plan out.old) → IsUnfailing (E.fault_plan err.old)
-        → IfErr result (λ halt. ¬ IsFault halt) }
+        → IfErr result (λ error. ¬ IsFault error) }
 
     // What stays of the shelf, and that all that it lent came back.
     ensures kept { H.files shelf.new ≡ H.files shelf.old }
@@ -233,12 +233,12 @@ pub fn find_matches<'a, R: Threads + Wait + Sync, H: Shelf, K: Sink, E: Sink, W:
     ensures back { H.is_out shelf.old ≡ false → H.is_out shelf.new ≡ false }
     ensures disk_kept { find.now.checkpoint ≡ None → DiskIsSame H.Shelf shelf.old shelf.new }
 {
-    let planning = match read_plan(alloc, find, shelf) {
-        Ok(planning) => planning,
-        Err(halt) => return Err(RunHalt::Files(halt)),
+    let planned = match read_plan(alloc, find, shelf) {
+        Ok(planned) => planned,
+        Err(error) => return Err(FindError::Files(error)),
     };
     match open_shards(alloc, &find.shards, shelf) {
-        Ok(sources) => run_shards(rt, alloc, sources, &planning, find, shelf, out, err, gate),
-        Err(halt) => Err(RunHalt::Files(halt)),
+        Ok(sources) => run_shards(rt, alloc, sources, &planned, find, shelf, out, err, gate),
+        Err(error) => Err(FindError::Files(error)),
     }
 }

@@ -4,7 +4,7 @@ ghost use Rattle.eql_outside.specs.Unfailing.{IsUnfailing};
 ghost use Rattle.eql_outside.specs.Faults.{FaultsAreSame};
 ghost use Rattle.eql_lane.specs.Slacks.{greatest_slack_ms};
 ghost use Rattle.eql_lane.specs.Starts.{MayStart, IsNotMade, cut_of, wanted_of};
-ghost use Rattle.eql_stages.specs.Judging.{reads_by};
+ghost use Rattle.eql_stages.specs.Matching.{reads_by};
 ghost use Rattle.eql_stages.specs.Planned.{line_of, planned_query};
 ghost use Rattle.eql_inputs.specs.Shelves.{KeepsShelf};
 ghost use Rattle.eql_find.specs.Lanes.{AreOver, CameBack, StopsAmong, IsOver, StopsMaking, lane_returned, return_of};

@@ -4,13 +4,13 @@
 #![tactic(auto)]
 
 mod checkpoint;
+mod error;
 mod find;
-mod halt;
 mod lanes;
 mod plan;
 mod report;
 mod running;
 mod stops;
 
+pub use error::{CutStop, FindError, ShardLimit};
 pub use find::find_matches;
-pub use halt::{CutStop, RunHalt, ShardLimit};

@@ -1,7 +1,7 @@
 //! The plan of a search.
 ghost use Rattle.std.specs.Prelude.{◌≡◌, ◌≤◌, IfErr, IfOk, IsTrue, MatchResult};
 ghost use Rattle.eql_outside.specs.Faults.{FaultsAreSame};
-ghost use Rattle.eql_inputs.specs.Halts.{AbsencesFollow, CountFollows, FaultsFollow, IsNoFault};
+ghost use Rattle.eql_inputs.specs.Errors.{AbsencesFollow, CountFollows, FaultsFollow, IsNoFault};
 ghost use Rattle.eql_inputs.specs.Shelves.{KeepsShelf, LendsAsMany, NeverFails};
 ghost use Rattle.eql_inputs.specs.Steps.{HasCheckCause};
 ghost use Rattle.eql_cut.specs.CutValues.{names_ascend};
@@ -11,7 +11,7 @@ ghost use Rattle.eql_find.specs.Searching.{head_in};
 
 use eql_check::{Checked, Mapping};
 use eql_cut::CutHead;
-use eql_inputs::{Halt, read_checked};
+use eql_inputs::{InputError, read_checked};
 use eql_outside::Shelf;
 use eql_parser::print;
 use eql_stages::Plan;
@@ -21,7 +21,7 @@ use std::alloc::Global;
 
 /// What is searched for: a query that is planned, and the mapping that it was checked against.
 #[derive(Drop)]
-pub(crate) struct Planning {
+pub(crate) struct PlannedQuery {
     /// The plan of the query.
     pub plan: Plan,
     /// The mapping.
@@ -33,19 +33,19 @@ pub(crate) fn read_plan<'a, H: Shelf>(
     alloc: Global,
     find: &'a Find,
     shelf: &mut H,
-) -> Result<Planning, Halt<'a>>
+) -> Result<PlannedQuery, InputError<'a>>
     ensures plan { IfOk result (IsPlanOf find.now (H.files shelf.old)) }
     ensures cause { IfErr result (HasCheckCause find.now.query find.now.fields
         (H.files shelf.old)) }
     ensures faults { MatchResult result
         (λ _. FaultsAreSame (H.faults_of shelf.old) (H.faults_of shelf.new))
-        (λ halt. FaultsFollow halt (H.faults_of shelf.old) (H.faults_of shelf.new)) }
+        (λ error. FaultsFollow error (H.faults_of shelf.old) (H.faults_of shelf.new)) }
     ensures count { MatchResult result
         (λ _. H.fault_count shelf.new ≡ H.fault_count shelf.old)
-        (λ halt. CountFollows halt (H.fault_count shelf.old) (H.fault_count shelf.new)) }
+        (λ error. CountFollows error (H.fault_count shelf.old) (H.fault_count shelf.new)) }
     ensures absences { MatchResult result
         (λ _. H.absent_count shelf.new ≡ H.absent_count shelf.old)
-        (λ halt. AbsencesFollow halt (H.absent_count shelf.old) (H.absent_count shelf.new)) }
+        (λ error. AbsencesFollow error (H.absent_count shelf.old) (H.absent_count shelf.new)) }
     ensures counts { (H.fault_count shelf.old ≤ H.fault_count shelf.new)
         × (H.absent_count shelf.old ≤ H.absent_count shelf.new) }
     ensures kept { KeepsShelf H.files H.source_plans H.disk_history H.is_out H.disk_fault_count
@@ -57,11 +57,11 @@ pub(crate) fn read_plan<'a, H: Shelf>(
 {
     let inputs = read_checked(alloc, &find.query, &find.fields, shelf)?;
     match plan_of(alloc, inputs.checked, find) {
-        Ok(plan) => Ok(Planning {
+        Ok(plan) => Ok(PlannedQuery {
             plan,
             mapping: inputs.mapping,
         }),
-        Err(_) => Err(Halt::Memory),
+        Err(_) => Err(InputError::Memory),
     }
 }
 
@@ -82,13 +82,13 @@ fn copy_tie(tie: &Option<Text>) -> Result<Option<Text>, Memory>
 }
 
 /// What the cuts of a run say of it.
-pub(crate) fn head_of(alloc: Global, find: &Find, planning: &Planning) -> Result<CutHead, Memory>
+pub(crate) fn head_of(alloc: Global, find: &Find, planned: &PlannedQuery) -> Result<CutHead, Memory>
     requires { FindIsBounded find.now }
-    ensures head { IfOk result (λ head. head ≡ head_in find.now planning.now) }
-    ensures names { IsTrue (names_ascend planning.now.mapping) }
+    ensures head { IfOk result (λ head. head ≡ head_in find.now planned.now) }
+    ensures names { IsTrue (names_ascend planned.now.mapping) }
 {
-    let names = planning.mapping.names();
-    let query = print(alloc, planning.plan.checked().query())?;
+    let names = planned.mapping.names();
+    let query = print(alloc, planned.plan.checked().query())?;
     let mapping = names.clone()?;
     let tie = copy_tie(&find.tie)?;
     Ok(CutHead {

@@ -4,27 +4,27 @@ ghost use Rattle.std.specs.List.{AllZip};
 ghost use Rattle.eql_outside.specs.Unfailing.{IsUnfailing};
 ghost use Rattle.eql_book.specs.Books.{FitsPipes};
 ghost use Rattle.eql_conductor.specs.Runs.{IsKeptUnfailing};
-ghost use Rattle.eql_cut.specs.Placing.{LinesAscend, place_of};
+ghost use Rattle.eql_cut.specs.Placing.{LinesAscend, listed_place};
 ghost use Rattle.eql_resume.specs.Beginnings.{placed_if};
 ghost use Rattle.eql_search.specs.Answers.{AreUnfailing as AreLanesUnfailing, IsNoFault};
 ghost use Rattle.eql_search.specs.Outcomes.{StopsForCause};
 ghost use Rattle.eql_words.specs.Bounds.{FindIsBounded};
-ghost use Rattle.eql_find.specs.Halts.{IsFault};
+ghost use Rattle.eql_find.specs.Errors.{IsFault};
 ghost use Rattle.eql_find.specs.LaneOutcomes.{LaneFaultsAreTold, LanesRun, MaySearchLanes, SearchesLanes};
 ghost use Rattle.eql_find.specs.Lanes.{StaysSource};
 ghost use Rattle.eql_find.specs.Running.{BeginsRun, every_asked};
 ghost use Rattle.eql_find.specs.Searching.{bare, places_in};
 ghost use Rattle.eql_find.specs.Starting.{pipes_of};
 
-use crate::halt::RunHalt;
-use crate::plan::Planning;
+use crate::error::FindError;
+use crate::plan::PlannedQuery;
 use crate::report::write_report;
-use crate::stops::halt_of;
+use crate::stops::error_of;
 use eql_book::Book;
 use eql_conductor::{Keep, RunPlan, cuts_may_begin};
 use eql_cut::{CutHead, lifted_cuts_fit};
 use eql_hands::Gate;
-use eql_inputs::Halt;
+use eql_inputs::InputError;
 use eql_lane::Lane;
 use eql_outside::{Disk, Sink, Source};
 use eql_resume::{Pending, lifted_lanes_are_placed};
@@ -61,7 +61,7 @@ fn place_rest<S: Source, L: LineReader>(
 ) -> Result<Pending, Memory>
     requires ascend { LinesAscend (places_in lanes.old.items) }
     ensures rest { IfOk result (λ placed. placed
-        ≡ placed_if rest.unplaced (place_of (places_in lanes.old.items)) rest) }
+        ≡ placed_if rest.unplaced (listed_place (places_in lanes.old.items)) rest) }
     ensures taken { OnOk result (lanes.new.items ≡ map bare lanes.old.items) }
     ensures lanes { (lanes.new.items ≡ lanes.old.items)
         ⊎ (lanes.new.items ≡ map bare lanes.old.items) }
@@ -71,12 +71,17 @@ fn place_rest<S: Source, L: LineReader>(
 }
 
 /// The book of a run that goes on from what a cut keeps of it.
-fn book_of(alloc: Global, planning: &Planning, from: BookCut, places: bool) -> Result<Book, Memory>
-    requires { FitsPipes (pipes_of planning.now) from }
+fn book_of(
+    alloc: Global,
+    planned: &PlannedQuery,
+    from: BookCut,
+    places: bool,
+) -> Result<Book, Memory>
+    requires { FitsPipes (pipes_of planned.now) from }
     ensures { IfOk result (λ book. book
-        ≡ record { pipes = pipes_of planning.now; places = places; kept = from; whole = true }) }
+        ≡ record { pipes = pipes_of planned.now; places = places; kept = from; whole = true }) }
 {
-    let pipes = planning.plan.pipes().clone()?;
+    let pipes = planned.plan.pipes().clone()?;
     Book::new(alloc, pipes, from, places)
 }
 
@@ -103,20 +108,20 @@ fn search_lanes<
     lanes: &mut Vec<Lane<S, PlanReader>>,
     rest: Pending,
     head: CutHead,
-    planning: &Planning,
+    planned: &PlannedQuery,
     find: &Find,
     out: &mut K,
     keep: &mut Option<Keep<D>>,
     gate: &W,
 ) -> Result<(), Stop>
-    ghost told: { Option (List (List ℕ)) }
+    ghost known_texts: { Option (List (List ℕ)) }
     requires bounds { FindIsBounded find.now }
-    requires begins { MaySearchLanes S.Source ⟦<PlanReader as LineReader>⟧.read_of D.Disk told
-        find.now planning.now lanes.old.items rest head keep.old }
-    ensures ends { SearchesLanes K.Sink S.Source ⟦<PlanReader as LineReader>⟧.read_of D.Disk told
-        find.now planning.now lanes.old.items lanes.new.items rest head
+    requires begins { MaySearchLanes S.Source ⟦<PlanReader as LineReader>⟧.read_of D.Disk
+        known_texts find.now planned.now lanes.old.items rest head keep.old }
+    ensures ends { SearchesLanes K.Sink S.Source ⟦<PlanReader as LineReader>⟧.read_of D.Disk
+        known_texts find.now planned.now lanes.old.items lanes.new.items rest head
         out.old out.new keep.old keep.new result }
-    ensures stops { StopsForCause K.Sink D.Disk told lanes.old.items lanes.new.items
+    ensures stops { StopsForCause K.Sink D.Disk known_texts lanes.old.items lanes.new.items
         out.old out.new keep.old keep.new result }
     ensures unfailing { IsUnfailing (K.fault_plan out.old)
         → AreLanesUnfailing S.fault_plan lanes.old.items → IsKeptUnfailing D.fault_plan keep.old
@@ -130,13 +135,13 @@ fn search_lanes<
         head,
         mark,
     };
-    match book_of(alloc, planning, kept, find.places) {
+    match book_of(alloc, planned, kept, find.places) {
         Ok(mut book) => search(
             rt,
             alloc,
             lanes,
-            planning.plan.stages(),
-            planning.plan.span(),
+            planned.plan.stages(),
+            planned.plan.span(),
             holders,
             &plan,
             find.hands,
@@ -164,21 +169,21 @@ pub(crate) fn run_lanes<
     lanes: &mut Vec<Lane<S, PlanReader>>,
     rest: Pending,
     head: CutHead,
-    planning: &Planning,
+    planned: &PlannedQuery,
     find: &'a Find,
     out: &mut K,
     err: &mut E,
     keep: &mut Option<Keep<D>>,
     gate: &W,
-) -> Result<(), RunHalt<'a>>
-    ghost told: { Option (List (List ℕ)) }
+) -> Result<(), FindError<'a>>
+    ghost known_texts: { Option (List (List ℕ)) }
     requires bounds { FindIsBounded find.now }
-    requires begins { BeginsRun S.left ⟦<PlanReader as LineReader>⟧.read_of D.history told
-        find.now planning.now lanes.old.items rest head keep.old }
+    requires begins { BeginsRun S.left ⟦<PlanReader as LineReader>⟧.read_of D.history
+        known_texts find.now planned.now lanes.old.items rest head keep.old }
 
     // What was written, which cuts were put, and why the run stopped.
-    ensures ends { LanesRun K.Sink E.Sink D.Disk told find.now planning.now lanes.old.items rest
-        head out.old out.new err.old err.new keep.old keep.new result }
+    ensures ends { LanesRun K.Sink E.Sink D.Disk known_texts find.now planned.now
+        lanes.old.items rest head out.old out.new err.old err.new keep.old keep.new result }
     ensures lanes { AllZip (StaysSource S.left S.lent_as) lanes.old.items lanes.new.items }
 
     // No fault is passed over.
@@ -186,7 +191,7 @@ pub(crate) fn run_lanes<
         out.old out.new err.old err.new keep.old keep.new result }
     ensures unfailing { AreLanesUnfailing S.fault_plan lanes.old.items
         → IsUnfailing (K.fault_plan out.old) → IsUnfailing (E.fault_plan err.old)
-        → IsKeptUnfailing D.fault_plan keep.old → IfErr result (λ halt. ¬ IsFault halt) }
+        → IsKeptUnfailing D.fault_plan keep.old → IfErr result (λ error. ¬ IsFault error) }
 {
     cuts_may_begin();
     lifted_cuts_fit();
@@ -194,15 +199,13 @@ pub(crate) fn run_lanes<
     spans_change_no_fit();
     let rest = match place_rest(alloc, lanes, rest) {
         Ok(rest) => rest,
-        Err(_) => return Err(RunHalt::Files(Halt::Memory)),
+        Err(_) => return Err(FindError::Files(InputError::Memory)),
     };
-    match search_lanes(
-        rt, alloc, lanes, rest, head, planning, find, out, keep, gate,
-    ) {
+    match search_lanes(rt, alloc, lanes, rest, head, planned, find, out, keep, gate) {
         Ok(()) => match write_report(alloc, lanes, err) {
             Ok(()) => Ok(()),
-            Err(refused) => Err(RunHalt::Report(refused)),
+            Err(refused) => Err(FindError::Report(refused)),
         },
-        Err(stop) => Err(halt_of(stop, &find.shards)),
+        Err(stop) => Err(error_of(stop, &find.shards)),
     }
 }

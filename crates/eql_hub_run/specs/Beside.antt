@@ -89,7 +89,7 @@ module _ {S L D : Type 0} (left lent_as : S → Option (List ℕ)) (fault_plan :
     (text : ℕ → Option (List ℕ)) (plan : RunPlan) (olds news : List (LaneView S L)) where
   -- by what was known of the bench first and last: the conductor ran over the lanes and parts, and ended so; hands fed lanes and turned parts
   -- meanwhile; this is told, and these are the lanes then
-  pub record RanFrom (first last : Known) (parts : List PartView) (book then : BookState) (before now : Option (List ℕ)) (sink_before sink_now : ℕ) (keep kept : Option (Keep D)) (answer : Ends) : Type 0 where
+  pub record HubRan (first last : Known) (parts : List PartView) (book then : BookState) (before now : Option (List ℕ)) (sink_before sink_now : ℕ) (keep kept : Option (Keep D)) (answer : Ends) : Type 0 where
     pub begins : IsSameBench (bench_known read_of text (bench_of olds parts)) first
     pub ended : Ends
     pub told : IsTold ended answer
@@ -111,4 +111,4 @@ module _ {S L D : Type 0} (left lent_as : S → Option (List ℕ)) (fault_plan :
   pub record RanBeside (parts : List PartView) (book then : BookState) (before now : Option (List ℕ)) (sink_before sink_now : ℕ) (keep kept : Option (Keep D)) (answer : Ends) : Type 0 where
     pub first : HandView S L
     pub last : HandView S L
-    pub run : RanFrom (known_by left lent_as fault_plan read_of text first) (known_by left lent_as fault_plan read_of text last) parts book then before now sink_before sink_now keep kept answer
+    pub run : HubRan (known_by left lent_as fault_plan read_of text first) (known_by left lent_as fault_plan read_of text last) parts book then before now sink_before sink_now keep kept answer

@@ -1,6 +1,6 @@
 pub mod FrontLemmas
 pub mod TokenLemmas
-pub mod HaltLemmas
+pub mod ErrorLemmas
 pub mod ShardLemmas
 pub mod ToldLemmas
 pub mod ShelfLemmas

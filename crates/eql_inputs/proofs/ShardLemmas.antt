@@ -14,11 +14,11 @@ use Rattle.eql_runs.specs.Refusals as run
 use Rattle.eql_runs.specs.Runs.{Reaches}
 use Rattle.eql_runs.specs.Runs as way
 use Rattle.eql_runs.proofs.Reading.{none_missing}
-use Rattle.eql_inputs.specs.declared.halt.Halt.{Halt}
+use Rattle.eql_inputs.specs.declared.error.InputError.{InputError}
 use Rattle.eql_inputs.specs.Fronts.{IsMissing}
 use Rattle.eql_inputs.specs.Steps.{naming, GotChecked, StopsReading}
 use Rattle.eql_inputs.specs.Shards.{IsWholeFile, AreWholeFiles, HasShardsCause}
-use Rattle.eql_inputs.proofs.HaltLemmas.{unread_cause}
+use Rattle.eql_inputs.proofs.ErrorLemmas.{unread_cause}
 
 -- no shards, and one more
 pub whole_none : (files : Option Files) → AreWholeFiles [] files []
@@ -97,7 +97,7 @@ module _ (query fields : List ℕ) (names before : List (List ℕ)) (name : List
       way.shard_file tree mapping got before name after parts (none_missing before fs whole.texts whole.there)
 
 pub shard_stopped : (names before : List (List ℕ)) (name : List ℕ) (after : List (List ℕ)) (files later : Option Files)
-    (lefts : List (Option (List ℕ))) (h : Halt) → names ≡ before ++ name ∷ after → later ≡ files
+    (lefts : List (Option (List ℕ))) (h : InputError) → names ≡ before ++ name ∷ after → later ≡ files
     → AreWholeFiles before files lefts → StopsReading name (IsMissing name later) h → HasShardsCause names files h
 shard_stopped names before name after files later lefts h parts kept whole stop = λ query fields tree mapping got.
     unread_cause (naming query fields names) name files h (inr (inr (before, after, parts)))

@@ -11,7 +11,7 @@ use Rattle.eql_lexer.specs.declared.refusal.LexRefused.TheVariants as lexed
 use Rattle.eql_lexer.specs.Spelling.{Spells}
 use Rattle.eql_lexer.specs.Refusing.{BreaksAt, RefusesText, refusal_of}
 use Rattle.eql_runs.specs.Files.{HasTokens, HasNoTokens, too_long, not_utf8, breaks}
-use Rattle.eql_inputs.specs.Steps.{halt_of_lex, StopsSpelling}
+use Rattle.eql_inputs.specs.Steps.{error_of_lex, StopsSpelling}
 
 -- what `lex` returns for a text that is too long, and for one that isn't UTF-8
 abbrev pub IfLong : List ℕ → Result (List Token) LexRefused → Type 0
@@ -68,7 +68,7 @@ no_tokens_at text r at b long not =
     breaks short (is_text text (Err (refusal_of r at)) not short (not_bytes r at)) r at b
 
 -- a refusal that is returned
-pub stopped_spelling : (text : List ℕ) (r : LexRefused) → RefusesText text r → IfLong text (Err r) → IfNotUtf8 text (Err r) → StopsSpelling text (halt_of_lex r)
+pub stopped_spelling : (text : List ℕ) (r : LexRefused) → RefusesText text r → IfLong text (Err r) → IfNotUtf8 text (Err r) → StopsSpelling text (error_of_lex r)
 stopped_spelling text (lexed.BadByte at) cause long not = no_tokens_at text rule.BadByte at cause long not
 stopped_spelling text (lexed.OpenString at) cause long not = no_tokens_at text rule.OpenString at cause long not
 stopped_spelling text (lexed.BadEscape at) cause long not = no_tokens_at text rule.BadEscape at cause long not

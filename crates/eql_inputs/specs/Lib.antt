@@ -1,5 +1,5 @@
 pub mod Fronts
-pub mod Halts
+pub mod Errors
 pub mod Steps
 pub mod Shards
 pub mod Shelves

@@ -4,8 +4,8 @@ use Rattle.eql_values.specs.declared.value.Kind.{Kind}
 use Rattle.eql_outside.specs.Outside.{file_named}
 use Rattle.eql_query.specs.QueryTree.{QueryTree}
 use Rattle.eql_runs.specs.Files.{Files, first_missing, HasTexts}
-use Rattle.eql_inputs.specs.declared.halt.Halt.{Halt}
-use Rattle.eql_inputs.specs.Halts.{HasCause}
+use Rattle.eql_inputs.specs.declared.error.InputError.{InputError}
+use Rattle.eql_inputs.specs.Errors.{HasInputCause}
 use Rattle.eql_inputs.specs.Steps.{naming, GotChecked}
 
 -- this is left of a source over the file of this name: all of it
@@ -33,7 +33,7 @@ abbrev pub AreThere : List (List ℕ) → Option Files → Type 0
 AreThere names files = IfSome files (λ fs. first_missing fs names ≡ None)
 
 -- opening the shards stopped so, in a run whose query was checked
-abbrev pub HasShardsCause : List (List ℕ) → Option Files → Halt → Type 0
+abbrev pub HasShardsCause : List (List ℕ) → Option Files → InputError → Type 0
 HasShardsCause shards files h =
     (query fields : List ℕ) (tree : QueryTree) (mapping : List (List ℕ × Kind))
-    → GotChecked query fields files tree mapping → HasCause (naming query fields shards) files h
+    → GotChecked query fields files tree mapping → HasInputCause (naming query fields shards) files h

@@ -14,10 +14,10 @@ use Rattle.eql_check.specs.Mappings.{mapping_of}
 use Rattle.eql_check.specs.Rules.{first_broken}
 use Rattle.eql_runs.specs.Files.{Files, HasTokens, HasNoTokens, ReadsAs, IsNotRead, HasQuery, HasMapping, HasChecked}
 use Rattle.eql_runs.specs.Refusals.{Names}
-use Rattle.eql_inputs.specs.declared.halt.Refused.TheVariants as refused
-use Rattle.eql_inputs.specs.declared.halt.Halt.{Halt}
-use Rattle.eql_inputs.specs.declared.halt.Halt.TheVariants as halt
-use Rattle.eql_inputs.specs.Halts.{HasCause}
+use Rattle.eql_inputs.specs.declared.error.Refused.TheVariants as refused
+use Rattle.eql_inputs.specs.declared.error.InputError.{InputError}
+use Rattle.eql_inputs.specs.declared.error.InputError.TheVariants as error
+use Rattle.eql_inputs.specs.Errors.{HasInputCause}
 
 -- a command that names these files
 abbrev pub naming : (query fields : List ℕ) → (shards : List (List ℕ)) → Names
@@ -34,46 +34,46 @@ abbrev pub GotChecked : (query fields : List ℕ) → Option Files → QueryTree
 GotChecked query fields files tree mapping = IfSome files (λ fs. HasChecked query fields fs tree mapping)
 
 -- the reading of the query stopped so, whatever else the command names
-abbrev pub HasQueryCause : List ℕ → Option Files → Halt → Type 0
+abbrev pub HasQueryCause : List ℕ → Option Files → InputError → Type 0
 HasQueryCause query files h =
-    (fields : List ℕ) (shards : List (List ℕ)) → HasCause (naming query fields shards) files h
+    (fields : List ℕ) (shards : List (List ℕ)) → HasInputCause (naming query fields shards) files h
 
 -- the reading of the mapping stopped so, in a run whose query was read
-abbrev pub HasMappingCause : List ℕ → Option Files → Halt → Type 0
+abbrev pub HasMappingCause : List ℕ → Option Files → InputError → Type 0
 HasMappingCause fields files h =
     (query : List ℕ) (shards : List (List ℕ)) (tree : QueryTree) → GotQuery query files tree
-    → HasCause (naming query fields shards) files h
+    → HasInputCause (naming query fields shards) files h
 
 -- the reading of the query and the mapping stopped so, whatever shards the command names
-abbrev pub HasCheckCause : (query fields : List ℕ) → Option Files → Halt → Type 0
+abbrev pub HasCheckCause : (query fields : List ℕ) → Option Files → InputError → Type 0
 HasCheckCause query fields files h =
-    (shards : List (List ℕ)) → HasCause (naming query fields shards) files h
+    (shards : List (List ℕ)) → HasInputCause (naming query fields shards) files h
 
 -- the reading of the file of this name stopped so; `missing` holds where the file isn't there
-abbrev pub StopsReading : List ℕ → Type 0 → Halt → Type 0
-StopsReading name missing (halt.Refused (refused.NoFile n)) = (n.now ≡ name) × missing
-StopsReading name missing (halt.Refused (refused.Lex r)) = ⊥
-StopsReading name missing (halt.Refused (refused.Parse r)) = ⊥
-StopsReading name missing (halt.Refused (refused.Mapping r)) = ⊥
-StopsReading name missing (halt.Refused (refused.Broken r)) = ⊥
-StopsReading name missing (halt.Read n) = n.now ≡ name
-StopsReading name missing halt.Memory = Unit {0}
+abbrev pub StopsReading : List ℕ → Type 0 → InputError → Type 0
+StopsReading name missing (error.Refused (refused.NoFile n)) = (n.now ≡ name) × missing
+StopsReading name missing (error.Refused (refused.Lex r)) = ⊥
+StopsReading name missing (error.Refused (refused.Parse r)) = ⊥
+StopsReading name missing (error.Refused (refused.Mapping r)) = ⊥
+StopsReading name missing (error.Refused (refused.Broken r)) = ⊥
+StopsReading name missing (error.Read n) = n.now ≡ name
+StopsReading name missing error.Memory = Unit {0}
 
--- the halt of a text that has no tokens
-abbrev pub halt_of_lex : LexRefused → Halt
-halt_of_lex lexed.Memory = halt.Memory
-halt_of_lex r = halt.Refused (refused.Lex r)
+-- the error of a text that has no tokens
+abbrev pub error_of_lex : LexRefused → InputError
+error_of_lex lexed.Memory = error.Memory
+error_of_lex r = error.Refused (refused.Lex r)
 
 -- a text has no tokens, and a run stopped so
-abbrev pub StopsSpelling : List ℕ → Halt → Type 0
-StopsSpelling text (halt.Refused (refused.Lex r)) = HasNoTokens text r
-StopsSpelling text halt.Memory = Unit {0}
+abbrev pub StopsSpelling : List ℕ → InputError → Type 0
+StopsSpelling text (error.Refused (refused.Lex r)) = HasNoTokens text r
+StopsSpelling text error.Memory = Unit {0}
 StopsSpelling text _ = ⊥
 
 -- tokens are no query, and a run stopped so
-abbrev pub StopsParsing : List Token → Halt → Type 0
-StopsParsing tokens (halt.Refused (refused.Parse r)) = IsNotRead tokens r
-StopsParsing tokens halt.Memory = Unit {0}
+abbrev pub StopsParsing : List Token → InputError → Type 0
+StopsParsing tokens (error.Refused (refused.Parse r)) = IsNotRead tokens r
+StopsParsing tokens error.Memory = Unit {0}
 StopsParsing tokens _ = ⊥
 
 -- a text is this query
@@ -83,30 +83,30 @@ pub record IsQueryText (text : List ℕ) (tree : QueryTree) : Type 0 where
   pub read : ReadsAs tokens tree
 
 -- a text is no query, and a run stopped so
-abbrev pub StopsQuery : List ℕ → Halt → Type 0
-StopsQuery text (halt.Refused (refused.Lex r)) = HasNoTokens text r
-StopsQuery text (halt.Refused (refused.Parse r)) = (tokens : List Token) × HasTokens text tokens × IsNotRead tokens r
-StopsQuery text halt.Memory = Unit {0}
+abbrev pub StopsQuery : List ℕ → InputError → Type 0
+StopsQuery text (error.Refused (refused.Lex r)) = HasNoTokens text r
+StopsQuery text (error.Refused (refused.Parse r)) = (tokens : List Token) × HasTokens text tokens × IsNotRead tokens r
+StopsQuery text error.Memory = Unit {0}
 StopsQuery text _ = ⊥
 
--- the halt of a text that is no mapping
-abbrev pub halt_of_map : MapRefused → Halt
-halt_of_map map_refused.Memory = halt.Memory
-halt_of_map r = halt.Refused (refused.Mapping r)
+-- the error of a text that is no mapping
+abbrev pub error_of_map : MapRefused → InputError
+error_of_map map_refused.Memory = error.Memory
+error_of_map r = error.Refused (refused.Mapping r)
 
 -- a text is no mapping, and a run stopped so
-abbrev pub StopsMapping : List ℕ → Halt → Type 0
-StopsMapping text (halt.Refused (refused.Mapping r)) = mapping_of text ≡ Err r
-StopsMapping text halt.Memory = Unit {0}
+abbrev pub StopsMapping : List ℕ → InputError → Type 0
+StopsMapping text (error.Refused (refused.Mapping r)) = mapping_of text ≡ Err r
+StopsMapping text error.Memory = Unit {0}
 StopsMapping text _ = ⊥
 
--- the halt of a query that breaks a rule
-abbrev pub halt_of_check : CheckRefused → Halt
-halt_of_check check_refused.Memory = halt.Memory
-halt_of_check r = halt.Refused (refused.Broken r)
+-- the error of a query that breaks a rule
+abbrev pub error_of_check : CheckRefused → InputError
+error_of_check check_refused.Memory = error.Memory
+error_of_check r = error.Refused (refused.Broken r)
 
 -- a query breaks a rule, and a run stopped so
-abbrev pub StopsChecking : List (List ℕ × Kind) → QueryTree → Halt → Type 0
-StopsChecking mapping tree (halt.Refused (refused.Broken r)) = first_broken (kind_at mapping) tree ≡ Some r
-StopsChecking mapping tree halt.Memory = Unit {0}
+abbrev pub StopsChecking : List (List ℕ × Kind) → QueryTree → InputError → Type 0
+StopsChecking mapping tree (error.Refused (refused.Broken r)) = first_broken (kind_at mapping) tree ≡ Some r
+StopsChecking mapping tree error.Memory = Unit {0}
 StopsChecking mapping tree _ = ⊥

@@ -5,12 +5,12 @@ ghost use Rattle.eql_query.specs.QueryTree.{query_tree};
 ghost use Rattle.eql_check.specs.Kinds.{kind_at};
 ghost use Rattle.eql_check.specs.Typing.{IsChecked};
 ghost use Rattle.eql_check.specs.Used.{used_fields};
-ghost use Rattle.eql_inputs.specs.Halts.{FaultsFollow, CountFollows, AbsencesFollow, IsNoFault};
+ghost use Rattle.eql_inputs.specs.Errors.{FaultsFollow, CountFollows, AbsencesFollow, IsNoFault};
 ghost use Rattle.eql_inputs.specs.Shelves.{KeepsShelf, LendsAsMany, NeverFails};
 ghost use Rattle.eql_inputs.specs.Steps.{GotQuery, GotMapping, GotChecked, HasQueryCause, HasMappingCause, HasCheckCause, StopsChecking};
 
+use crate::error::InputError;
 use crate::file::read_file;
-use crate::halt::Halt;
 use crate::query::{checked_of, mapping_of, query_in};
 use eql_check::{Checked, Mapping};
 use eql_outside::Shelf;
@@ -38,19 +38,19 @@ fn read_query<'a, H: Shelf>(
     alloc: Global,
     query: &'a Name,
     shelf: &mut H,
-) -> Result<Query, Halt<'a>>
+) -> Result<Query, InputError<'a>>
     ensures query { IfOk result
         (λ tree. GotQuery query.now (H.files shelf.old) (query_tree tree)) }
     ensures cause { IfErr result (HasQueryCause query.now (H.files shelf.old)) }
     ensures faults { MatchResult result
         (λ _. FaultsAreSame (H.faults_of shelf.old) (H.faults_of shelf.new))
-        (λ halt. FaultsFollow halt (H.faults_of shelf.old) (H.faults_of shelf.new)) }
+        (λ error. FaultsFollow error (H.faults_of shelf.old) (H.faults_of shelf.new)) }
     ensures count { MatchResult result
         (λ _. H.fault_count shelf.new ≡ H.fault_count shelf.old)
-        (λ halt. CountFollows halt (H.fault_count shelf.old) (H.fault_count shelf.new)) }
+        (λ error. CountFollows error (H.fault_count shelf.old) (H.fault_count shelf.new)) }
     ensures absences { MatchResult result
         (λ _. H.absent_count shelf.new ≡ H.absent_count shelf.old)
-        (λ halt. AbsencesFollow halt (H.absent_count shelf.old) (H.absent_count shelf.new)) }
+        (λ error. AbsencesFollow error (H.absent_count shelf.old) (H.absent_count shelf.new)) }
     ensures counts { (H.fault_count shelf.old ≤ H.fault_count shelf.new)
         × (H.absent_count shelf.old ≤ H.absent_count shelf.new) }
     ensures kept { KeepsShelf H.files H.source_plans H.disk_history H.is_out H.disk_fault_count
@@ -69,19 +69,19 @@ fn read_mapping<'a, H: Shelf>(
     alloc: Global,
     fields: &'a Name,
     shelf: &mut H,
-) -> Result<Mapping, Halt<'a>>
+) -> Result<Mapping, InputError<'a>>
     ensures mapping { IfOk result
         (λ mapping. GotMapping fields.now (H.files shelf.old) mapping) }
     ensures cause { IfErr result (HasMappingCause fields.now (H.files shelf.old)) }
     ensures faults { MatchResult result
         (λ _. FaultsAreSame (H.faults_of shelf.old) (H.faults_of shelf.new))
-        (λ halt. FaultsFollow halt (H.faults_of shelf.old) (H.faults_of shelf.new)) }
+        (λ error. FaultsFollow error (H.faults_of shelf.old) (H.faults_of shelf.new)) }
     ensures count { MatchResult result
         (λ _. H.fault_count shelf.new ≡ H.fault_count shelf.old)
-        (λ halt. CountFollows halt (H.fault_count shelf.old) (H.fault_count shelf.new)) }
+        (λ error. CountFollows error (H.fault_count shelf.old) (H.fault_count shelf.new)) }
     ensures absences { MatchResult result
         (λ _. H.absent_count shelf.new ≡ H.absent_count shelf.old)
-        (λ halt. AbsencesFollow halt (H.absent_count shelf.old) (H.absent_count shelf.new)) }
+        (λ error. AbsencesFollow error (H.absent_count shelf.old) (H.absent_count shelf.new)) }
     ensures counts { (H.fault_count shelf.old ≤ H.fault_count shelf.new)
         × (H.absent_count shelf.old ≤ H.absent_count shelf.new) }
     ensures kept { KeepsShelf H.files H.source_plans H.disk_history H.is_out H.disk_fault_count
@@ -96,7 +96,11 @@ fn read_mapping<'a, H: Shelf>(
 }
 
 /// The query with its mapping, where it breaks no rule.
-fn checked_with<'a>(alloc: Global, query: &Query, mapping: Mapping) -> Result<Inputs, Halt<'a>>
+fn checked_with<'a>(
+    alloc: Global,
+    query: &Query,
+    mapping: Mapping,
+) -> Result<Inputs, InputError<'a>>
     ensures checked { IfOk result (λ inputs. IsChecked (kind_at mapping) (query_tree query.now)
         × (query_tree inputs.checked.query ≡ query_tree query.now)
         × (inputs.mapping ≡ mapping)) }
@@ -106,7 +110,7 @@ fn checked_with<'a>(alloc: Global, query: &Query, mapping: Mapping) -> Result<In
 {
     match checked_of(alloc, query, &mapping) {
         Ok(checked) => Ok(Inputs { checked, mapping }),
-        Err(halt) => Err(halt),
+        Err(error) => Err(error),
     }
 }
 
@@ -119,7 +123,7 @@ pub fn read_checked<'a, H: Shelf>(
     query: &'a Name,
     fields: &'a Name,
     shelf: &mut H,
-) -> Result<Inputs, Halt<'a>>
+) -> Result<Inputs, InputError<'a>>
     ensures checked { IfOk result (λ inputs. GotChecked query.now fields.now (H.files shelf.old)
         (query_tree inputs.checked.query) inputs.mapping) }
     ensures fields { IfOk result (λ inputs. inputs.checked.fields
@@ -127,13 +131,13 @@ pub fn read_checked<'a, H: Shelf>(
     ensures cause { IfErr result (HasCheckCause query.now fields.now (H.files shelf.old)) }
     ensures faults { MatchResult result
         (λ _. FaultsAreSame (H.faults_of shelf.old) (H.faults_of shelf.new))
-        (λ halt. FaultsFollow halt (H.faults_of shelf.old) (H.faults_of shelf.new)) }
+        (λ error. FaultsFollow error (H.faults_of shelf.old) (H.faults_of shelf.new)) }
     ensures count { MatchResult result
         (λ _. H.fault_count shelf.new ≡ H.fault_count shelf.old)
-        (λ halt. CountFollows halt (H.fault_count shelf.old) (H.fault_count shelf.new)) }
+        (λ error. CountFollows error (H.fault_count shelf.old) (H.fault_count shelf.new)) }
     ensures absences { MatchResult result
         (λ _. H.absent_count shelf.new ≡ H.absent_count shelf.old)
-        (λ halt. AbsencesFollow halt (H.absent_count shelf.old) (H.absent_count shelf.new)) }
+        (λ error. AbsencesFollow error (H.absent_count shelf.old) (H.absent_count shelf.new)) }
     ensures counts { (H.fault_count shelf.old ≤ H.fault_count shelf.new)
         × (H.absent_count shelf.old ≤ H.absent_count shelf.new) }
     ensures kept { KeepsShelf H.files H.source_plans H.disk_history H.is_out H.disk_fault_count

@@ -3,13 +3,13 @@ ghost use Rattle.std.specs.Prelude.{◌≡◌, ◌≤◌, ◌<◌, IfOk, IfErr, 
 ghost use Rattle.eql_outside.specs.Faults.{FaultsAreSame};
 ghost use Rattle.eql_outside.specs.Unfailing.{IsUnfailing};
 ghost use Rattle.eql_inputs.specs.Fronts.{IsFrontOf, IsMissing};
-ghost use Rattle.eql_inputs.specs.Halts.{FaultsFollow, CountFollows, AbsencesFollow, IsNoFault};
+ghost use Rattle.eql_inputs.specs.Errors.{FaultsFollow, CountFollows, AbsencesFollow, IsNoFault};
 ghost use Rattle.eql_inputs.specs.Shards.{IsWholeFile};
 ghost use Rattle.eql_inputs.specs.Shelves.{KeepsShelf, LendsAsMany, LendsMore, NeverFails};
 ghost use Rattle.eql_inputs.specs.Steps.{StopsReading};
 
+use crate::error::{InputError, Refused};
 use crate::front::read_front;
-use crate::halt::{Halt, Refused};
 use eql_outside::{OutRefused, Shelf, unfailing_stays};
 use eql_words::Name;
 use std::alloc::Global;
@@ -19,7 +19,7 @@ pub(crate) fn open_file<'a, H: Shelf>(
     alloc: Global,
     name: &'a Name,
     shelf: &mut H,
-) -> Result<H::Src, Halt<'a>>
+) -> Result<H::Src, InputError<'a>>
     ensures whole { IfOk result
         (λ source. IsWholeFile name.now (H.files shelf.old) (H.Src.left source)) }
     ensures fresh { IfOk result (λ source. H.Src.fault_count source ≡ 0) }
@@ -28,13 +28,13 @@ pub(crate) fn open_file<'a, H: Shelf>(
         (StopsReading name.now (IsMissing name.now (H.files shelf.old))) }
     ensures faults { MatchResult result
         (λ _. FaultsAreSame (H.faults_of shelf.old) (H.faults_of shelf.new))
-        (λ halt. FaultsFollow halt (H.faults_of shelf.old) (H.faults_of shelf.new)) }
+        (λ error. FaultsFollow error (H.faults_of shelf.old) (H.faults_of shelf.new)) }
     ensures count { MatchResult result
         (λ _. H.fault_count shelf.new ≡ H.fault_count shelf.old)
-        (λ halt. CountFollows halt (H.fault_count shelf.old) (H.fault_count shelf.new)) }
+        (λ error. CountFollows error (H.fault_count shelf.old) (H.fault_count shelf.new)) }
     ensures absences { MatchResult result
         (λ _. H.absent_count shelf.new ≡ H.absent_count shelf.old)
-        (λ halt. AbsencesFollow halt (H.absent_count shelf.old) (H.absent_count shelf.new)) }
+        (λ error. AbsencesFollow error (H.absent_count shelf.old) (H.absent_count shelf.new)) }
     ensures counts { (H.fault_count shelf.old ≤ H.fault_count shelf.new)
         × (H.absent_count shelf.old ≤ H.absent_count shelf.new) }
     ensures kept { KeepsShelf H.files H.source_plans H.disk_history H.is_out H.disk_fault_count
@@ -49,9 +49,9 @@ pub(crate) fn open_file<'a, H: Shelf>(
     unfailing_stays();
     match shelf.source(alloc, name.name()) {
         Ok(Some(source)) => Ok(source),
-        Ok(None) => Err(Halt::Refused(Refused::NoFile(name))),
-        Err(OutRefused::Failed) => Err(Halt::Read(name)),
-        Err(OutRefused::Memory) => Err(Halt::Memory),
+        Ok(None) => Err(InputError::Refused(Refused::NoFile(name))),
+        Err(OutRefused::Failed) => Err(InputError::Read(name)),
+        Err(OutRefused::Memory) => Err(InputError::Memory),
     }
 }
 
@@ -62,7 +62,7 @@ pub fn read_file<'a, H: Shelf>(
     name: &'a Name,
     shelf: &mut H,
     most: usize,
-) -> Result<Vec<u8>, Halt<'a>>
+) -> Result<Vec<u8>, InputError<'a>>
     requires { 0 < most }
     ensures front { IfOk result
         (λ text. IsFrontOf name.now (H.files shelf.old) most text.items) }
@@ -71,13 +71,13 @@ pub fn read_file<'a, H: Shelf>(
         (StopsReading name.now (IsMissing name.now (H.files shelf.old))) }
     ensures faults { MatchResult result
         (λ _. FaultsAreSame (H.faults_of shelf.old) (H.faults_of shelf.new))
-        (λ halt. FaultsFollow halt (H.faults_of shelf.old) (H.faults_of shelf.new)) }
+        (λ error. FaultsFollow error (H.faults_of shelf.old) (H.faults_of shelf.new)) }
     ensures count { MatchResult result
         (λ _. H.fault_count shelf.new ≡ H.fault_count shelf.old)
-        (λ halt. CountFollows halt (H.fault_count shelf.old) (H.fault_count shelf.new)) }
+        (λ error. CountFollows error (H.fault_count shelf.old) (H.fault_count shelf.new)) }
     ensures absences { MatchResult result
         (λ _. H.absent_count shelf.new ≡ H.absent_count shelf.old)
-        (λ halt. AbsencesFollow halt (H.absent_count shelf.old) (H.absent_count shelf.new)) }
+        (λ error. AbsencesFollow error (H.absent_count shelf.old) (H.absent_count shelf.new)) }
     ensures counts { (H.fault_count shelf.old ≤ H.fault_count shelf.new)
         × (H.absent_count shelf.old ≤ H.absent_count shelf.new) }
     ensures kept { KeepsShelf H.files H.source_plans H.disk_history H.is_out H.disk_fault_count
@@ -92,7 +92,7 @@ pub fn read_file<'a, H: Shelf>(
     shelf.give_source(source);
     match read {
         Ok(text) => Ok(text),
-        Err(OutRefused::Failed) => Err(Halt::Read(name)),
-        Err(OutRefused::Memory) => Err(Halt::Memory),
+        Err(OutRefused::Failed) => Err(InputError::Read(name)),
+        Err(OutRefused::Memory) => Err(InputError::Memory),
     }
 }

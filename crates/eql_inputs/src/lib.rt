@@ -3,16 +3,16 @@
 #![tactic(auto)]
 
 mod checked;
+mod error;
 mod file;
 mod front;
-mod halt;
 mod query;
 mod shards;
 mod tell;
 
 pub use checked::{Inputs, read_checked};
+pub use error::{InputError, Refused};
 pub use file::read_file;
 pub use front::read_front;
-pub use halt::{Halt, Refused};
 pub use shards::open_shards;
-pub use tell::{tell_halt, tell_text};
+pub use tell::{tell_error, tell_text};

@@ -2,12 +2,12 @@
 ghost use Rattle.std.specs.Prelude.{◌≡◌, ◌≤◌, ◌-◌, [], All, IfOk, IfErr, IfSome, IsOk, MatchResult, Some, length, map, vec_capacity};
 ghost use Rattle.eql_outside.specs.Faults.{FaultsAreSame};
 ghost use Rattle.eql_outside.specs.Unfailing.{IsUnfailing};
-ghost use Rattle.eql_inputs.specs.Halts.{FaultsFollow, CountFollows, AbsencesFollow, IsNoFault};
+ghost use Rattle.eql_inputs.specs.Errors.{FaultsFollow, CountFollows, AbsencesFollow, IsNoFault};
 ghost use Rattle.eql_inputs.specs.Shards.{AreWholeFiles, HasShardsCause};
 ghost use Rattle.eql_inputs.specs.Shelves.{KeepsShelf, LendsAsMany, LendsMore, NeverFails};
 
+use crate::error::InputError;
 use crate::file::open_file;
-use crate::halt::Halt;
 use eql_outside::Shelf;
 use eql_words::{Name, Names};
 use std::alloc::Global;
@@ -38,7 +38,7 @@ fn open_all<'a, H: Shelf>(
     shards: &'a [Name],
     shelf: &mut H,
     sources: &mut Vec<H::Src>,
-) -> Result<(), Halt<'a>>
+) -> Result<(), InputError<'a>>
     requires empty { sources.old.items ≡ [] }
     requires room { length shards.now ≤ vec_capacity sources.old }
     ensures whole { IsOk result → AreWholeFiles shards.now (H.files shelf.old)
@@ -49,13 +49,13 @@ fn open_all<'a, H: Shelf>(
     ensures cause { IfErr result (HasShardsCause shards.now (H.files shelf.old)) }
     ensures faults { MatchResult result
         (λ _. FaultsAreSame (H.faults_of shelf.old) (H.faults_of shelf.new))
-        (λ halt. FaultsFollow halt (H.faults_of shelf.old) (H.faults_of shelf.new)) }
+        (λ error. FaultsFollow error (H.faults_of shelf.old) (H.faults_of shelf.new)) }
     ensures count { MatchResult result
         (λ _. H.fault_count shelf.new ≡ H.fault_count shelf.old)
-        (λ halt. CountFollows halt (H.fault_count shelf.old) (H.fault_count shelf.new)) }
+        (λ error. CountFollows error (H.fault_count shelf.old) (H.fault_count shelf.new)) }
     ensures absences { MatchResult result
         (λ _. H.absent_count shelf.new ≡ H.absent_count shelf.old)
-        (λ halt. AbsencesFollow halt (H.absent_count shelf.old) (H.absent_count shelf.new)) }
+        (λ error. AbsencesFollow error (H.absent_count shelf.old) (H.absent_count shelf.new)) }
     ensures counts { (H.fault_count shelf.old ≤ H.fault_count shelf.new)
         × (H.absent_count shelf.old ≤ H.absent_count shelf.new) }
     ensures kept { KeepsShelf H.files H.source_plans H.disk_history H.is_out H.disk_fault_count
@@ -71,7 +71,7 @@ fn open_all<'a, H: Shelf>(
     for name in shards.iter() {
         match open_file(alloc, name, shelf) {
             Ok(source) => sources.push_reserved(source),
-            Err(halt) => return Err(halt),
+            Err(error) => return Err(error),
         }
     }
     Ok(())
@@ -83,7 +83,7 @@ pub fn open_shards<'a, H: Shelf>(
     alloc: Global,
     shards: &'a Names,
     shelf: &mut H,
-) -> Result<Vec<H::Src>, Halt<'a>>
+) -> Result<Vec<H::Src>, InputError<'a>>
     ensures whole { IfOk result (λ sources. AreWholeFiles shards.now (H.files shelf.old)
         (map H.Src.left sources.items)) }
     ensures named { IfOk result (λ sources. map H.Src.lent_as sources.items
@@ -93,13 +93,13 @@ pub fn open_shards<'a, H: Shelf>(
     ensures cause { IfErr result (HasShardsCause shards.now (H.files shelf.old)) }
     ensures faults { MatchResult result
         (λ _. FaultsAreSame (H.faults_of shelf.old) (H.faults_of shelf.new))
-        (λ halt. FaultsFollow halt (H.faults_of shelf.old) (H.faults_of shelf.new)) }
+        (λ error. FaultsFollow error (H.faults_of shelf.old) (H.faults_of shelf.new)) }
     ensures count { MatchResult result
         (λ _. H.fault_count shelf.new ≡ H.fault_count shelf.old)
-        (λ halt. CountFollows halt (H.fault_count shelf.old) (H.fault_count shelf.new)) }
+        (λ error. CountFollows error (H.fault_count shelf.old) (H.fault_count shelf.new)) }
     ensures absences { MatchResult result
         (λ _. H.absent_count shelf.new ≡ H.absent_count shelf.old)
-        (λ halt. AbsencesFollow halt (H.absent_count shelf.old) (H.absent_count shelf.new)) }
+        (λ error. AbsencesFollow error (H.absent_count shelf.old) (H.absent_count shelf.new)) }
     ensures counts { (H.fault_count shelf.old ≤ H.fault_count shelf.new)
         × (H.absent_count shelf.old ≤ H.absent_count shelf.new) }
     ensures kept { KeepsShelf H.files H.source_plans H.disk_history H.is_out H.disk_fault_count
@@ -115,13 +115,13 @@ pub fn open_shards<'a, H: Shelf>(
     let names = shards.items().as_slice();
     let mut sources = match Vec::with_capacity(alloc, names.len()) {
         Ok(sources) => sources,
-        Err(_) => return Err(Halt::Memory),
+        Err(_) => return Err(InputError::Memory),
     };
     match open_all(alloc, names, shelf, &mut sources) {
         Ok(()) => Ok(sources),
-        Err(halt) => {
+        Err(error) => {
             give_back(sources, shelf);
-            Err(halt)
+            Err(error)
         }
     }
 }

@@ -6,9 +6,9 @@ ghost use Rattle.eql_lexer.specs.Messages as lexing;
 ghost use Rattle.eql_parser.specs.Messages as parsing;
 ghost use Rattle.eql_outside.specs.Written.{WroteFront};
 ghost use Rattle.eql_runs.specs.Refusals.{printed_name, refusal_text};
-ghost use Rattle.eql_inputs.specs.Halts.{refusal_of, text_of};
+ghost use Rattle.eql_inputs.specs.Errors.{refusal_of, text_of};
 
-use crate::halt::{Halt, Refused};
+use crate::error::{InputError, Refused};
 use eql_check::{CheckRefused, MapRefused};
 use eql_lexer::LexRefused;
 use eql_outside::Sink;
@@ -118,13 +118,13 @@ fn tell_refused<'a, E: Sink>(alloc: Global, refused: &Refused<'a>, err: &mut E)
 }
 
 /// Tells why the reading of a command's files stopped: one line, with its line feed, or a front of it.
-pub fn tell_halt<'a, E: Sink>(alloc: Global, halt: &Halt<'a>, err: &mut E)
-    ensures told { WroteFront (text_of halt.now) (E.written err.old) (E.written err.new) }
+pub fn tell_error<'a, E: Sink>(alloc: Global, error: &InputError<'a>, err: &mut E)
+    ensures told { WroteFront (text_of error.now) (E.written err.old) (E.written err.new) }
     ensures counts { E.fault_count err.old ≤ E.fault_count err.new }
 {
-    match halt {
-        Halt::Refused(refused) => tell_refused(alloc, refused, err),
-        Halt::Read(name) => tell_name(alloc, "read fault: ", *name, err),
-        Halt::Memory => tell_text(alloc, b"out of memory\n", err),
+    match error {
+        InputError::Refused(refused) => tell_refused(alloc, refused, err),
+        InputError::Read(name) => tell_name(alloc, "read fault: ", *name, err),
+        InputError::Memory => tell_text(alloc, b"out of memory\n", err),
     }
 }

@@ -4,7 +4,7 @@ use Rattle.std.specs.Prelude.{not, ◌&&◌, ◌||◌}
 use Rattle.std.specs.Int.Signed.{le_z}
 use Rattle.std.proofs.lemmas.Int.{ints}
 use Rattle.eql_values.specs.declared.order.OrderKey.{OrderKey}
-use Rattle.eql_values.specs.declared.item.Act.{Act}
+use Rattle.eql_values.specs.declared.item.KeyEvent.{KeyEvent}
 use Rattle.eql_values.specs.Chains.{fits_after, in_time, chain, holder}
 use Rattle.eql_laws.specs.Slots.{Slots, chain_moved_on, chain_coming, slots_after}
 use Rattle.eql_laws.specs.Alive.{IsSpan, alive_at}
@@ -13,7 +13,7 @@ use Rattle.eql_laws.proofs.Stepping.{chain_step, holder_step, holder_start}
 use Rattle.eql_laws.proofs.Halves.{holder_zero}
 
 -- each item comes at this time or later
-abbrev pub AllFrom : ℤ → List Act → Type 0
+abbrev pub AllFrom : ℤ → List KeyEvent → Type 0
 AllFrom t [] = Unit {0}
 AllFrom t (item ∷ past) = (t ≤ℤ item.order.ts) × AllFrom t past
 
@@ -41,26 +41,26 @@ new_in_time None t own s le = refl
 new_in_time (Some span) t own s le = own_time t own.ts span s le
 
 module _ (span : Option ℤ) (is_span : IsSpan span) (t : ℤ) where
-  one_moves : (c : List OrderKey) (item : Act) (b : Bool) → in_time span c item.order.ts ≡ b → t ≤ℤ item.order.ts
+  one_moves : (c : List OrderKey) (item : KeyEvent) (b : Bool) → in_time span c item.order.ts ≡ b → t ≤ℤ item.order.ts
       → alive_at span t (cond b (Some (c ++ item.order ∷ [])) None) ≡ cond b (Some (c ++ item.order ∷ [])) None
   one_moves c item true h le = ap (λ (a : Bool). cond a (Some (c ++ item.order ∷ [])) None) (in_time_on span c t item.order is_span le h)
   one_moves c item false h le = refl
 
-  moved_alive : (o : Option (List OrderKey)) (item : Act) → t ≤ℤ item.order.ts → alive_at span t (chain_moved_on span o item) ≡ chain_moved_on span o item
+  moved_alive : (o : Option (List OrderKey)) (item : KeyEvent) → t ≤ℤ item.order.ts → alive_at span t (chain_moved_on span o item) ≡ chain_moved_on span o item
   moved_alive None item le = refl
   moved_alive (Some c) item le = one_moves c item (in_time span c item.order.ts) refl le
 
-  one_kept : (c : List OrderKey) (item : Act) (a b : Bool) → in_time span c t ≡ a → in_time span c item.order.ts ≡ b → t ≤ℤ item.order.ts
+  one_kept : (c : List OrderKey) (item : KeyEvent) (a b : Bool) → in_time span c t ≡ a → in_time span c item.order.ts ≡ b → t ≤ℤ item.order.ts
       → chain_moved_on span (cond a (Some c) None) item ≡ cond b (Some (c ++ item.order ∷ [])) None
   one_kept c item true b g h le = ap (λ (x : Bool). cond x (Some (c ++ item.order ∷ [])) None) h
   one_kept c item false false g h le = refl
   one_kept c item false true g h le = let k = in_time_before span c t item.order.ts le h in cc
 
-  moved_kept : (o : Option (List OrderKey)) (item : Act) → t ≤ℤ item.order.ts → chain_moved_on span (alive_at span t o) item ≡ chain_moved_on span o item
+  moved_kept : (o : Option (List OrderKey)) (item : KeyEvent) → t ≤ℤ item.order.ts → chain_moved_on span (alive_at span t o) item ≡ chain_moved_on span o item
   moved_kept None item le = refl
   moved_kept (Some c) item le = one_kept c item (in_time span c t) (in_time span c item.order.ts) refl refl le
 
-  arrived_kept : (slots : Slots) (item : Act) (k : ℕ) → t ≤ℤ item.order.ts → chain_coming span (λ j. alive_at span t (slots j)) item k ≡ chain_coming span slots item k
+  arrived_kept : (slots : Slots) (item : KeyEvent) (k : ℕ) → t ≤ℤ item.order.ts → chain_coming span (λ j. alive_at span t (slots j)) item k ≡ chain_coming span slots item k
   arrived_kept slots item zero le = refl
   arrived_kept slots item (suc zero) le = refl
   arrived_kept slots item (suc (suc k)) le =
@@ -70,7 +70,7 @@ module _ (span : Option ℤ) (is_span : IsSpan span) (t : ℤ) where
   cond_alive true o h = h
   cond_alive false o h = refl
 
-  arrived_alive : (slots : Slots) (item : Act) (k : ℕ) → t ≤ℤ item.order.ts → alive_at span t (chain_coming span slots item k) ≡ chain_coming span slots item k
+  arrived_alive : (slots : Slots) (item : KeyEvent) (k : ℕ) → t ≤ℤ item.order.ts → alive_at span t (chain_coming span slots item k) ≡ chain_coming span slots item k
   arrived_alive slots item zero le = refl
   arrived_alive slots item (suc zero) le =
       cond_alive (fits_after 0 item) (Some (item.order ∷ [])) (ap (λ (b : Bool). cond b (Some (item.order ∷ [])) None) (new_in_time span t item.order is_span le))
@@ -85,14 +85,14 @@ module _ (span : Option ℤ) (is_span : IsSpan span) (t : ℤ) where
   stays_alive false o = refl
 
   -- leaving out before an item what is dead, and after it, is the same
-  pub slots_after_alive : (slots : Slots) (item : Act) (k : ℕ) → t ≤ℤ item.order.ts
+  pub slots_after_alive : (slots : Slots) (item : KeyEvent) (k : ℕ) → t ≤ℤ item.order.ts
       → slots_after span (λ j. alive_at span t (slots j)) item k ≡ alive_at span t (slots_after span slots item k)
   slots_after_alive slots item k le =
       ap (λ (a : Option (List OrderKey)). found_or a (cond (fits_after k item || item.until) None (alive_at span t (slots k)))) (arrived_kept slots item k le)
       ∙ ap (found_or (chain_coming span slots item k)) (sym (stays_alive (fits_after k item || item.until) (slots k)))
       ∙ sym (either_alive (chain_coming span slots item k) (cond (fits_after k item || item.until) None (slots k)) (arrived_alive slots item k le))
 
-  pub holder_alive : (opening : Slots) (past : List Act) (k : ℕ) → AllFrom t past
+  pub holder_alive : (opening : Slots) (past : List KeyEvent) (k : ℕ) → AllFrom t past
       → holder span (λ j. alive_at span t (opening j)) k past ≡ alive_at span t (holder span opening k past)
   holder_alive opening [] zero from = holder_zero span (λ j. alive_at span t (opening j)) [] ∙ sym (ap (alive_at span t) (holder_zero span opening []))
   holder_alive opening [] (suc k) from = holder_start span (λ j. alive_at span t (opening j)) k ∙ sym (ap (alive_at span t) (holder_start span opening k))
@@ -103,7 +103,7 @@ module _ (span : Option ℤ) (is_span : IsSpan span) (t : ℤ) where
       ∙ sym (ap (alive_at span t) (holder_step span opening k item past))
 
   -- no match by later items needs a dead sequence
-  pub chain_alive : (opening : Slots) (item : Act) (past : List Act) (k : ℕ) → AllFrom t (item ∷ past)
+  pub chain_alive : (opening : Slots) (item : KeyEvent) (past : List KeyEvent) (k : ℕ) → AllFrom t (item ∷ past)
       → chain span (λ j. alive_at span t (opening j)) k (item ∷ past) ≡ chain span opening k (item ∷ past)
   chain_alive opening item past k from =
       chain_step span (λ j. alive_at span t (opening j)) k item past

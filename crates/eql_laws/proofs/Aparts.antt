@@ -15,7 +15,7 @@ use Rattle.eql_values.specs.Marks.{is_below}
 use Rattle.eql_values.specs.OrderKeys.{order_cmp}
 use Rattle.eql_values.proofs.Same.{order_same}
 use Rattle.eql_values.specs.Ordered.{numbers}
-use Rattle.eql_laws.specs.Apart.{has_key, place_of, RepeatNoKey, ShareNoKey, SharesNoKey}
+use Rattle.eql_laws.specs.Apart.{has_key, item_order, RepeatNoKey, ShareNoKey, SharesNoKey}
 use Rattle.eql_laws.specs.Belows.{IsReading, IsAcceptedOf, HasRoutesInOrder, from_to}
 use Rattle.eql_laws.specs.Taking.{handed_out, HandsOutApart, HandedOutMerges}
 use Rattle.eql_laws.proofs.BelowLemmas.{All-sorted, accepted_of_text, sorted_ascends}
@@ -86,7 +86,7 @@ module _ (reads : Reads) (slack : Option ℤ) (from to : Mark) (reading : IsRead
   shard_of k = k.shard
 
   abbrev OfShard : ℕ → Item → Type 0
-  OfShard = OfKind order_cmp order_same place_of shard_of
+  OfShard = OfKind order_cmp order_same item_order shard_of
 
   out_of_shard : (shard : ℕ) (text : List ℕ) → All (OfShard shard) (out shard text)
   out_of_shard shard text =
@@ -94,10 +94,10 @@ module _ (reads : Reads) (slack : Option ℤ) (from to : Mark) (reading : IsRead
       (All-weaker (IsAcceptedOf shard text) (OfShard shard) (λ x h. h.shard_is) (from_to from to (accepted_items reads slack shard text)) (accepted_are shard text))
 
   out_apart : (first next : ℕ) (xs : List Item) (texts : List (List ℕ)) → first < next → All (OfShard first) xs
-      → SharesNoKey order_cmp place_of xs (handed_out reads slack next texts from to)
+      → SharesNoKey order_cmp item_order xs (handed_out reads slack next texts from to)
   out_apart first next xs [] lt h = tt
   out_apart first next xs (text ∷ texts) lt h = (
-    kinds_apart order_cmp order_same place_of shard_of first next xs (out next text) (λ e. omega (arith, e, lt)) h (out_of_shard next text),
+    kinds_apart order_cmp order_same item_order shard_of first next xs (out next text) (λ e. omega (arith, e, lt)) h (out_of_shard next text),
     out_apart first (next + 1) xs texts (omega (arith, lt)) h,
   )
 

@@ -7,7 +7,7 @@ use Rattle.std.specs.Ordering.{eq_by_cmp}
 use Rattle.std.proofs.lemmas.List.Elements.{All-nil, All-cons, All-head, All-tail, All-append, All-map, All-weaker}
 use Rattle.eql_values.specs.declared.order.OrderKey.{OrderKey}
 use Rattle.eql_values.specs.declared.value.Value.{Value}
-use Rattle.eql_values.specs.declared.item.Act.{Act}
+use Rattle.eql_values.specs.declared.item.KeyEvent.{KeyEvent}
 use Rattle.eql_values.specs.declared.item.Route.{Route}
 use Rattle.eql_values.specs.declared.item.Item.{Item}
 use Rattle.eql_values.specs.declared.found.Match.{Match}
@@ -15,7 +15,7 @@ use Rattle.eql_values.specs.declared.found.Holder.{Holder}
 use Rattle.eql_values.specs.Chains.{fits_after, in_time, chain, holder}
 use Rattle.eql_values.specs.Orders.{key_eq}
 use Rattle.eql_values.specs.Ordered.{found_or, in_order}
-use Rattle.eql_values.specs.Matching.{Openings, Slot, slot_cmp, act_by, acts_of, onto, opening_of, held_after, stages_to, entries_of, keys_in, after, match_by, matches_after}
+use Rattle.eql_values.specs.Matching.{Openings, Slot, slot_cmp, key_event_by, key_events_of, onto, opening_of, held_after, stages_to, entries_of, keys_in, after, match_by, matches_after}
 use Rattle.eql_laws.specs.Slots.{Slots, chain_moved_on, chain_coming, slots_after}
 use Rattle.eql_laws.specs.Merging.{holder_of}
 use Rattle.eql_laws.proofs.Stepping.{chain_step, holder_step, holder_start}
@@ -70,18 +70,18 @@ module _
   abbrev pub AllHeld : Option OrderKey → Slots → Type 0
   AllHeld bound slots = (k : ℕ) → IfSome (slots (suc k)) (Held bound (suc k))
 
-  moved_made : (item : Act) (k : ℕ) (o : Option (List OrderKey)) → IfSome o (Held (Some item.order) (suc k)) → IfSome (chain_moved_on span o item) (Made item.order (suc (suc k)))
+  moved_made : (item : KeyEvent) (k : ℕ) (o : Option (List OrderKey)) → IfSome o (Held (Some item.order) (suc k)) → IfSome (chain_moved_on span o item) (Made item.order (suc (suc k)))
   moved_made item k None h = tt
   moved_made item k (Some c) h =
       if_then (Made item.order (suc (suc k))) (in_time span c item.order.ts) (Some (c ++ item.order ∷ [])) (extend item.order k c h)
 
-  arrived_made : (item : Act) (slots : Slots) → AllHeld (Some item.order) slots → (k : ℕ) → IfSome (chain_coming span slots item k) (Made item.order k)
+  arrived_made : (item : KeyEvent) (slots : Slots) → AllHeld (Some item.order) slots → (k : ℕ) → IfSome (chain_coming span slots item k) (Made item.order k)
   arrived_made item slots h zero = tt
   arrived_made item slots h (suc zero) = if_then (Made item.order 1) (fits_after 0 item) (Some (item.order ∷ [])) (single item.order)
   arrived_made item slots h (suc (suc k)) =
       if_then (Made item.order (suc (suc k))) (fits_after (suc k) item && not item.until) (chain_moved_on span (slots (suc k)) item) (moved_made item k (slots (suc k)) (h k))
 
-  stepped_held : (item : Act) (bound : Option OrderKey) (slots : Slots) → AllHeld (Some item.order) slots → Before item.order bound → AllHeld bound (slots_after span slots item)
+  stepped_held : (item : KeyEvent) (bound : Option OrderKey) (slots : Slots) → AllHeld (Some item.order) slots → Before item.order bound → AllHeld bound (slots_after span slots item)
   stepped_held item bound slots h before k =
       if_found (Held bound (suc k)) (chain_coming span slots item (suc k)) (cond (fits_after (suc k) item || item.until) None (slots (suc k)))
       (if_more (Made item.order (suc k)) (Held bound (suc k)) (chain_coming span slots item (suc k)) (λ c made. later item.order bound (suc k) c made before) (arrived_made item slots h (suc k)))
@@ -90,21 +90,21 @@ module _
 
   module _ (opening : Slots) where
     -- the past leads up to an event that may be to come, from opening sequences with the fact
-    abbrev pub LeadsTo : Option OrderKey → List Act → Type 0
+    abbrev pub LeadsTo : Option OrderKey → List KeyEvent → Type 0
     LeadsTo bound [] = AllHeld bound opening
     LeadsTo bound (item ∷ past) = Before item.order bound × LeadsTo (Some item.order) past
 
-    pub leads_on : (x : OrderKey) (bound : Option OrderKey) (past : List Act) → LeadsTo (Some x) past → Before x bound → LeadsTo bound past
+    pub leads_on : (x : OrderKey) (bound : Option OrderKey) (past : List KeyEvent) → LeadsTo (Some x) past → Before x bound → LeadsTo bound past
     leads_on x bound [] h before = λ k. if_more (Held (Some x) (suc k)) (Held bound (suc k)) (opening (suc k)) (λ c held. weaken x bound (suc k) c held before) (h k)
     leads_on x bound (item ∷ past) h before = (trans item.order x bound h.0 before, h.1)
 
-    pub all_held : (bound : Option OrderKey) (past : List Act) → LeadsTo bound past → AllHeld bound (λ k. holder span opening k past)
+    pub all_held : (bound : Option OrderKey) (past : List KeyEvent) → LeadsTo bound past → AllHeld bound (λ k. holder span opening k past)
     all_held bound [] h k = subst (λ (o : Option (List OrderKey)). IfSome o (Held bound (suc k))) (sym (holder_start span opening k)) (h k)
     all_held bound (item ∷ past) h k =
         subst (λ (o : Option (List OrderKey)). IfSome o (Held bound (suc k))) (sym (holder_step span opening (suc k) item past))
         (stepped_held item bound (λ j. holder span opening j past) (all_held (Some item.order) past h.1) h.0 k)
 
-    pub chain_made : (item : Act) (past : List Act) → LeadsTo (Some item.order) past → (k : ℕ) → IfSome (chain span opening k (item ∷ past)) (Made item.order k)
+    pub chain_made : (item : KeyEvent) (past : List KeyEvent) → LeadsTo (Some item.order) past → (k : ℕ) → IfSome (chain span opening k (item ∷ past)) (Made item.order k)
     chain_made item past h k =
         subst (λ (o : Option (List OrderKey)). IfSome o (Made item.order k)) (sym (chain_step span opening k item past))
         (arrived_made item (λ j. holder span opening j past) (all_held (Some item.order) past h) k)
@@ -115,14 +115,14 @@ module _
     ItemsLead bound [] = (key : List Value) → AllHeld bound (openings key)
     ItemsLead bound (item ∷ past) = Before item.order bound × ItemsLead (Some item.order) past
 
-    pub acts_lead : (key : List Value) (bound : Option OrderKey) (past : List Item) → ItemsLead bound past → LeadsTo (openings key) bound (acts_of key past)
-    acts_lead key bound [] h = h key
-    acts_lead key bound (item ∷ past) h =
-        one (find (λ (route : Route). key_eq key route.key) item.routes) (acts_lead key (Some item.order) past h.1)
+    pub key_events_lead : (key : List Value) (bound : Option OrderKey) (past : List Item) → ItemsLead bound past → LeadsTo (openings key) bound (key_events_of key past)
+    key_events_lead key bound [] h = h key
+    key_events_lead key bound (item ∷ past) h =
+        one (find (λ (route : Route). key_eq key route.key) item.routes) (key_events_lead key (Some item.order) past h.1)
       where
-        one : (o : Option Route) → LeadsTo (openings key) (Some item.order) (acts_of key past)
-            → LeadsTo (openings key) bound (cons_option (option_map (act_by item.order) o) (acts_of key past))
-        one None rest = leads_on (openings key) item.order bound (acts_of key past) rest h.0
+        one : (o : Option Route) → LeadsTo (openings key) (Some item.order) (key_events_of key past)
+            → LeadsTo (openings key) bound (cons_option (option_map (key_event_by item.order) o) (key_events_of key past))
+        one None rest = leads_on (openings key) item.order bound (key_events_of key past) rest h.0
         one (Some r) rest = (h.0, rest)
 
     pub lead_onto : (items more past : List Item) → ItemsLead (first_of (items ++ more)) past → Rises Before (items ++ more) → ItemsLead (first_of more) (onto items past)
@@ -132,7 +132,7 @@ module _
     pub after_held : (items more : List Item) → ((key : List Value) → AllHeld (first_of (items ++ more)) (openings key)) → Rises Before (items ++ more)
         → (key : List Value) → AllHeld (first_of more) (held_after span openings items key)
     after_held items more h rises key =
-        all_held (openings key) (first_of more) (acts_of key (onto items [])) (acts_lead key (first_of more) (onto items []) (lead_onto items more [] h rises))
+        all_held (openings key) (first_of more) (key_events_of key (onto items [])) (key_events_lead key (first_of more) (onto items []) (lead_onto items more [] h rises))
 
     module _ (m : ℕ) (Q : Match → Type 0) (gives : (key : List Value) (x : OrderKey) (bound : Option OrderKey) (c : List OrderKey) → Made x m c → Before x bound → Q (record { key = key; chain = c })) where
       match_if : (key : List Value) (x : OrderKey) (bound : Option OrderKey) (o : Option (List OrderKey)) → IfSome o (Made x m) → Before x bound
@@ -149,8 +149,8 @@ module _
           of_routes : (routes : List Route) → All Q (filter_map (match_by m span openings past item.order) routes)
           of_routes routes =
               All-filter_map (λ (r : Route). Unit {0}) Q (match_by m span openings past item.order)
-              (λ r u. match_if r.key item.order (first_of items) (chain span (openings r.key) m (act_by item.order r ∷ acts_of r.key past))
-              (chain_made (openings r.key) (act_by item.order r) (acts_of r.key past) (acts_lead r.key (Some item.order) past h) m) rises.0)
+              (λ r u. match_if r.key item.order (first_of items) (chain span (openings r.key) m (key_event_by item.order r ∷ key_events_of r.key past))
+              (chain_made (openings r.key) (key_event_by item.order r) (key_events_of r.key past) (key_events_lead r.key (Some item.order) past h) m) rises.0)
               routes (λ k d lt. tt)
 
 -- what a look-up of openings finds is the chain of one of the holders

@@ -13,7 +13,7 @@ use Rattle.eql_values.specs.declared.found.Holder.{Holder}
 use Rattle.eql_values.specs.Chains.{fits_after, chain, holder}
 use Rattle.eql_values.specs.Orders.{key_eq}
 use Rattle.eql_values.specs.Ordered.{found_or}
-use Rattle.eql_values.specs.Matching.{slot_cmp, act_by, match_by, opening_of, held_after, after}
+use Rattle.eql_values.specs.Matching.{slot_cmp, key_event_by, match_by, opening_of, held_after, after}
 use Rattle.eql_laws.specs.Merging.{by_slot, holder_of}
 use Rattle.eql_laws.specs.OneEvent.{AfterLooksUp, AfterHasNoOther, HoldersAreSame, slots_after_event, OneItemMovesSlots, OneItemMatches, AfterNoneIsSame}
 use Rattle.eql_laws.specs.Shapes.{HasStageBefore}
@@ -48,17 +48,17 @@ same_holders a b order_a order_b same =
 module _ (span : Option ℤ) (opening : Slots) where
   -- of one item alone
   one_held : (order : OrderKey) (o : Option Route) (k : ℕ)
-      → holder span opening (suc k) (cons_option (option_map (act_by order) o) []) ≡ slots_after_event span order o opening (suc k)
+      → holder span opening (suc k) (cons_option (option_map (key_event_by order) o) []) ≡ slots_after_event span order o opening (suc k)
   one_held order None k = holder_start span opening k
   one_held order (Some route) k =
-      holder_step span opening (suc k) (act_by order route) []
-      ∙ (λ i. found_or (arrived_alike span (λ j. holder span opening j []) opening (act_by order route) (suc k) (suc k) (omega arith) (λ j lt. holder_start span opening j) i)
-      (cond (fits_after (suc k) (act_by order route) || route.until) None (holder_start span opening k i)))
+      holder_step span opening (suc k) (key_event_by order route) []
+      ∙ (λ i. found_or (arrived_alike span (λ j. holder span opening j []) opening (key_event_by order route) (suc k) (suc k) (omega arith) (λ j lt. holder_start span opening j) i)
+      (cond (fits_after (suc k) (key_event_by order route) || route.until) None (holder_start span opening k i)))
 
-  one_chain : (order : OrderKey) (route : Route) (m : ℕ) → chain span opening m (act_by order route ∷ []) ≡ chain_coming span opening (act_by order route) m
+  one_chain : (order : OrderKey) (route : Route) (m : ℕ) → chain span opening m (key_event_by order route ∷ []) ≡ chain_coming span opening (key_event_by order route) m
   one_chain order route m =
-      chain_step span opening m (act_by order route) []
-      ∙ arrived_alike span (λ j. holder span opening j []) opening (act_by order route) m m (omega arith) (λ j lt. holder_start span opening j)
+      chain_step span opening m (key_event_by order route) []
+      ∙ arrived_alike span (λ j. holder span opening j []) opening (key_event_by order route) m m (omega arith) (λ j lt. holder_start span opening j)
 
 pub after_one : OneItemMovesSlots
 after_one m span holders item key k lt =

@@ -11,12 +11,12 @@ use Rattle.std.proofs.lemmas.Bool.Decides.{nat_tests}
 use Rattle.std.proofs.lemmas.List.Elements.{All-nil, All-cons, All-head}
 use Rattle.eql_values.specs.declared.order.OrderKey.{OrderKey}
 use Rattle.eql_values.specs.declared.value.Value.{Value}
-use Rattle.eql_values.specs.declared.item.Act.{Act}
+use Rattle.eql_values.specs.declared.item.KeyEvent.{KeyEvent}
 use Rattle.eql_values.specs.declared.item.Item.{Item}
 use Rattle.eql_values.specs.declared.found.Holder.{Holder}
 use Rattle.eql_values.specs.Ascending.{Ascend}
 use Rattle.eql_values.specs.Chains.{fits_after, in_time, holder}
-use Rattle.eql_values.specs.Matching.{Slot, slot_cmp, onto, acts_of, opening_of, held_after, after}
+use Rattle.eql_values.specs.Matching.{Slot, slot_cmp, onto, key_events_of, opening_of, held_after, after}
 use Rattle.eql_values.specs.OrderKeys.{order_cmp}
 use Rattle.eql_values.specs.Ordered.{found_or}
 use Rattle.eql_laws.specs.Merging.{by_slot}
@@ -26,7 +26,7 @@ use Rattle.eql_laws.proofs.Stepping.{holder_step, holder_start}
 use Rattle.eql_laws.proofs.Elements.{some_is}
 use Rattle.eql_laws.proofs.Facts.{left_holds, right_holds}
 use Rattle.eql_laws.proofs.Held.{find-after, slot_cmp_total}
-use Rattle.eql_laws.proofs.Carried.{first_of, LeadsTo, all_held, acts_lead, lead_onto}
+use Rattle.eql_laws.proofs.Carried.{first_of, LeadsTo, all_held, key_events_lead, lead_onto}
 use Rattle.eql_laws.proofs.Shaping.{ComesBefore, AscendsBefore, AscendsTo, AllBefore, alone, goes_to, made_before, still_before, before_before, ascending_rises, ready_openings, held_full}
 
 pub when_some : {X : Type 0} (b : Bool) (o : Option X) (x : X) → cond b o None ≡ Some x → (b ≡ true) × (o ≡ Some x)
@@ -49,7 +49,7 @@ fits_too false u e = cc
 some_same : {X : Type 0} (x y : X) → Some x ≡ Some y → y ≡ x
 some_same x y e = cc
 
-module _ (span : Option ℤ) (slots : Slots) (item : Act) where
+module _ (span : Option ℤ) (slots : Slots) (item : KeyEvent) where
   -- the sequence was there, and the item didn't move it on
   record Kept (k : ℕ) (c : List OrderKey) : Type 0 where
     stays : fits_after (suc k) item ≡ false
@@ -107,7 +107,7 @@ first_before (e ∷ d) k x h lt = All-head (λ (event : OrderKey). order_cmp eve
 abbrev Falls : Slots → Type 0
 Falls slots = (j k : ℕ) (c d : List OrderKey) → j < k → slots (suc j) ≡ Some c → slots (suc k) ≡ Some d → FirstIsBefore d c
 
-module _ (span : Option ℤ) (slots : Slots) (item : Act) (falls : Falls slots)
+module _ (span : Option ℤ) (slots : Slots) (item : KeyEvent) (falls : Falls slots)
     (full : (k : ℕ) → IfSome (slots (suc k)) (λ c. length c ≡ suc k)) (before : (k : ℕ) → IfSome (slots (suc k)) (AscendsBefore (Some item.order) (suc k))) where
   was_before : (k : ℕ) (d : List OrderKey) → slots (suc k) ≡ Some d → FirstIsBefore d (item.order ∷ [])
   was_before k d e =
@@ -148,7 +148,7 @@ module _ (span : Option ℤ) (slots : Slots) (item : Act) (falls : Falls slots)
   falls_stepped j k c d lt e f = falls_came j k c d lt (came span slots item j c e) (came span slots item k d f)
 
 module _ (m : ℕ) (span : Option ℤ) (holders : List Holder) (items : List Item) (up : Ascend items) (ready : All (IsReady items) holders) (full : All IsFull holders) (first_falls : FirstsFall holders) where
-  falls_held : (key : List Value) (bound : Option OrderKey) (past : List Act)
+  falls_held : (key : List Value) (bound : Option OrderKey) (past : List KeyEvent)
       → LeadsTo ComesBefore AscendsBefore AscendsTo alone goes_to made_before still_before before_before span (opening_of holders key) bound past
       → Falls (λ k. holder span (opening_of holders key) k past)
   falls_held key bound [] leads = λ j k c d lt e f.
@@ -161,8 +161,8 @@ module _ (m : ℕ) (span : Option ℤ) (holders : List Holder) (items : List Ite
 
   falls_after : (key : List Value) → Falls (held_after span (opening_of holders) items key)
   falls_after key =
-      falls_held key None (acts_of key (onto items []))
-      (acts_lead ComesBefore AscendsBefore AscendsTo alone goes_to made_before still_before before_before span (opening_of holders) key None (onto items [])
+      falls_held key None (key_events_of key (onto items []))
+      (key_events_lead ComesBefore AscendsBefore AscendsTo alone goes_to made_before still_before before_before span (opening_of holders) key None (onto items [])
       (lead_onto ComesBefore AscendsBefore AscendsTo alone goes_to made_before still_before before_before span (opening_of holders) items [] []
       (subst (λ (l : List Item). (key : List Value) (k : ℕ) → IfSome (opening_of holders key (suc k)) (AscendsBefore (first_of l) (suc k))) (sym (append-nil items))
       (ready_openings holders items ready))

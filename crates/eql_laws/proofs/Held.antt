@@ -21,14 +21,14 @@ use Rattle.eql_values.specs.declared.value.Value.{Value}
 use Rattle.eql_values.specs.declared.item.Route.{Route}
 use Rattle.eql_values.specs.declared.item.Item.{Item}
 use Rattle.eql_values.specs.declared.found.Holder.{Holder}
-use Rattle.eql_values.specs.declared.item.Act.{Act}
+use Rattle.eql_values.specs.declared.item.KeyEvent.{KeyEvent}
 use Rattle.eql_values.specs.Chains.{holder}
 use Rattle.eql_values.specs.Ordered.{in_order, found_or}
 use Rattle.eql_values.proofs.InOrder.{both_none, find-append, find-in_order}
 use Rattle.eql_values.specs.Orders.{key_eq, key_cmp}
 use Rattle.eql_values.specs.Totals.{key_cmp_total}
 use Rattle.eql_values.proofs.Same.{key_same}
-use Rattle.eql_values.specs.Matching.{Openings, Slot, slot_cmp, act_by, acts_of, onto, opening_of, held_after, stages_to, entries_of, keys_in, after}
+use Rattle.eql_values.specs.Matching.{Openings, Slot, slot_cmp, key_event_by, key_events_of, onto, opening_of, held_after, stages_to, entries_of, keys_in, after}
 
 abbrev pub Entry : Type 0
 Entry = Slot × List OrderKey
@@ -130,20 +130,20 @@ no_route (r ∷ routes) key e =
 abbrev route_keys : Item → List (List Value)
 route_keys item = map (λ (r : Route). r.key) item.routes
 
-no_acts : (items past : List Item) (key : List Value) → list_any (key_eq key) (flat_map route_keys items) ≡ false
-    → acts_of key past ≡ [] → acts_of key (onto items past) ≡ []
-no_acts [] past key e none = none
-no_acts (item ∷ items) past key e none =
+no_key_events : (items past : List Item) (key : List Value) → list_any (key_eq key) (flat_map route_keys items) ≡ false
+    → key_events_of key past ≡ [] → key_events_of key (onto items past) ≡ []
+no_key_events [] past key e none = none
+no_key_events (item ∷ items) past key e none =
     let apart = any_false _ _ (sym (list_any-append (key_eq key) (route_keys item) (flat_map route_keys items)) ∙ e) in
-    no_acts items (item ∷ past) key apart.1
-    (ap (λ (o : Option Route). cons_option (option_map (act_by item.order) o) (acts_of key past)) (no_route item.routes key apart.0) ∙ none)
+    no_key_events items (item ∷ past) key apart.1
+    (ap (λ (o : Option Route). cons_option (option_map (key_event_by item.order) o) (key_events_of key past)) (no_route item.routes key apart.0) ∙ none)
 
 -- a key that nothing has
 no_holder : (span : Option ℤ) (holders : List Holder) (items : List Item) (key : List Value) (k : ℕ)
     → list_any (key_eq key) (keys_in holders items) ≡ false → held_after span (opening_of holders) items key (suc k) ≡ None
 no_holder span holders items key k e =
     let apart = any_false _ _ (sym (list_any-append (key_eq key) (map (λ (h : Holder). h.key) holders) (flat_map route_keys items)) ∙ e) in
-    ap (λ (acts : List Act). holder span (opening_of holders key) (suc k) acts) (no_acts items [] key apart.1 refl)
+    ap (λ (key_events : List KeyEvent). holder span (opening_of holders key) (suc k) key_events) (no_key_events items [] key apart.1 refl)
     ∙ holder_start span (opening_of holders key) k
     ∙ no_opening holders key (suc k) apart.0
 

@@ -8,7 +8,7 @@ use Rattle.std.proofs.lemmas.List.Folds.{list_all-append}
 use Rattle.std.proofs.lemmas.List.Sums.{sum_by-cons, sum_by-le, sum_by-le-sum_by}
 use Rattle.eql_values.specs.declared.order.OrderKey.{OrderKey}
 use Rattle.eql_values.specs.declared.order.Mark.{Mark}
-use Rattle.eql_values.specs.declared.item.Act.{Act}
+use Rattle.eql_values.specs.declared.item.KeyEvent.{KeyEvent}
 use Rattle.eql_values.specs.declared.item.Route.{Route}
 use Rattle.eql_values.specs.declared.item.Item.{Item}
 use Rattle.eql_values.specs.declared.found.Match.{Match}
@@ -21,7 +21,7 @@ use Rattle.eql_values.specs.Chains.{chain, chain_with, latest}
 use Rattle.eql_values.specs.Lines.{lines_of, lines_in}
 use Rattle.eql_values.specs.Marks.{is_below}
 use Rattle.eql_values.specs.Masks.{has_stage}
-use Rattle.eql_values.specs.Matching.{Openings, opening_of, act_by, acts_of, match_by, matches_after, matches}
+use Rattle.eql_values.specs.Matching.{Openings, opening_of, key_event_by, key_events_of, match_by, matches_after, matches}
 use Rattle.eql_values.specs.Numbering.{numbered_from, numbered_matches, through, pipe_output, is_head, early_output}
 use Rattle.eql_laws.specs.Books.{book_of, state_of, states_after, InputsGoOn, kept_of, KeptPass, NumbersAscend, IsKeptMatch, StateFits, BookOfFits, StateStands, BookOfStands, completing, RoutesBoundFound, CompletesOnce, EventsBoundFound, BelowsAreFew, greatest_shards, greatest_found, FoundIsFew}
 use Rattle.eql_laws.specs.Counting.{IsShardText, greatest_lines}
@@ -219,7 +219,7 @@ inputs_go_on before list = record {
 }
 
 -- an item that doesn't fit a stage makes no chain of it
-no_chain : (span : Option ℤ) (opening : ℕ → Option (List OrderKey)) (m : ℕ) (item : Act) (past : List Act) → has_stage item.mask m ≡ false → chain span opening m (item ∷ past) ≡ None
+no_chain : (span : Option ℤ) (opening : ℕ → Option (List OrderKey)) (m : ℕ) (item : KeyEvent) (past : List KeyEvent) → has_stage item.mask m ≡ false → chain span opening m (item ∷ past) ≡ None
 no_chain span opening zero item past e = refl
 no_chain span opening (suc zero) item past e = ap (λ (b : Bool). cond b (Some (item.order ∷ [])) None) e
 no_chain span opening (suc (suc k)) item past e = ap (λ (b : Bool). cond b (chain_with span (suc k) item (latest (chain span opening (suc k)) past)) None) e
@@ -235,9 +235,9 @@ module _ (m : ℕ) (span : Option ℤ) (openings : Openings) where
   by_routes : (past : List Item) (order : OrderKey) (routes : List Route) → length (filter_map (match_by m span openings past order) routes) ≤ length (completing m routes)
   by_routes past order [] = omega arith
   by_routes past order (r ∷ routes) =
-      one_route r (has_stage r.mask m) (chain span (openings r.key) m (act_by order r ∷ acts_of r.key past))
+      one_route r (has_stage r.mask m) (chain span (openings r.key) m (key_event_by order r ∷ key_events_of r.key past))
       (filter_map (match_by m span openings past order) routes) (completing m routes)
-      (λ e. no_chain span (openings r.key) m (act_by order r) (acts_of r.key past) e) (by_routes past order routes)
+      (λ e. no_chain span (openings r.key) m (key_event_by order r) (key_events_of r.key past) e) (by_routes past order routes)
 
   by_items : (past items : List Item) → length (matches_after m span openings past items) ≤ length (flat_map (λ (item : Item). completing m item.routes) items)
   by_items past [] = omega arith

@@ -11,7 +11,7 @@ use Rattle.eql_values.specs.declared.item.Item.{Item}
 use Rattle.eql_values.specs.declared.found.Holder.{Holder}
 use Rattle.eql_values.specs.Chains.{in_time}
 use Rattle.eql_values.specs.Orders.{key_eq}
-use Rattle.eql_values.specs.Matching.{matches, after, Openings, Slot, slot_cmp, act_by, acts_of, onto, opening_of, held_after, matches_after}
+use Rattle.eql_values.specs.Matching.{matches, after, Openings, Slot, slot_cmp, key_event_by, key_events_of, onto, opening_of, held_after, matches_after}
 use Rattle.eql_laws.specs.Alive.{alive_at, alive_holders, ItemsComeFrom, IsSpan, HoldersAreInOrder, DeadMakeNoMatch, AliveAreSameAfter, DeadStayDead, AfterIsInOrder, AliveAreInOrder, DeadChangeNothing, AliveLooksUp, SlotsLeaveOutDead}
 use Rattle.eql_values.specs.Ordered.{in_order}
 use Rattle.eql_values.proofs.InOrder.{in_order-sorted}
@@ -82,12 +82,12 @@ module _ (span : Option ℤ) (t : ℤ) where
       ap (find_entry slot_cmp (key, stage)) (entries_filter holders) ∙ find_filter (key, stage) (map by_slot holders) (subst T (sym order) tt)
 
   -- what items say comes when the items come
-  acts_from : (key : List Value) (items : List Item) → ItemsComeFrom t items → AllFrom t (acts_of key items)
-  acts_from key [] from = tt
-  acts_from key (item ∷ items) from =
-      elim (find (λ (route : Route). key_eq key route.key) item.routes) as (λ o. AllFrom t (cons_option (option_map (act_by item.order) o) (acts_of key items))) [
-        | None ↦ acts_from key items from.1
-        | Some r ↦ (from.0, acts_from key items from.1)
+  key_events_from : (key : List Value) (items : List Item) → ItemsComeFrom t items → AllFrom t (key_events_of key items)
+  key_events_from key [] from = tt
+  key_events_from key (item ∷ items) from =
+      elim (find (λ (route : Route). key_eq key route.key) item.routes) as (λ o. AllFrom t (cons_option (option_map (key_event_by item.order) o) (key_events_of key items))) [
+        | None ↦ key_events_from key items from.1
+        | Some r ↦ (from.0, key_events_from key items from.1)
       ]
 
   onto_from : (items past : List Item) → ItemsComeFrom t items → ItemsComeFrom t past → ItemsComeFrom t (onto items past)
@@ -99,7 +99,7 @@ module _ (span : Option ℤ) (t : ℤ) where
   matches_alive m openings past [] s from before = refl
   matches_alive m openings past (item ∷ items) s from before = λ i.
       filter_map (λ (r : Route). option_map (λ c. record { key = r.key; chain = c })
-      (chain_alive span s t (openings r.key) (act_by item.order r) (acts_of r.key past) m (from.0, acts_from r.key past before) i)) item.routes
+      (chain_alive span s t (openings r.key) (key_event_by item.order r) (key_events_of r.key past) m (from.0, key_events_from r.key past before) i)) item.routes
       ++ matches_alive m openings (item ∷ past) items s from.1 (from.0, before) i
 
 pub dead_matches : DeadMakeNoMatch
@@ -121,7 +121,7 @@ dead_after m span t holders items s order from =
     (sorted_filter span t (in_order slot_cmp (all_entries m span holders items)) (in_order-sorted slot_cmp slot_cmp_total (all_entries m span holders items)))
     (λ q. find-held m span (alive_holders span t holders) items q
     ∙ (λ i. up_to (m - 1) (λ key stage. held_after span (λ key stage. opening_alive span t holders order key stage i) items key stage) q)
-    ∙ (λ i. up_to (m - 1) (λ key stage. holder_alive span s t (opening_of holders key) (acts_of key (onto items [])) stage (acts_from span t key (onto items []) (onto_from span t items [] from tt)) i) q)
+    ∙ (λ i. up_to (m - 1) (λ key stage. holder_alive span s t (opening_of holders key) (key_events_of key (onto items [])) stage (key_events_from span t key (onto items []) (onto_from span t items [] from tt)) i) q)
     ∙ up_to_alive span t (m - 1) (held_after span (opening_of holders) items) q
     ∙ sym (ap (alive_at span t) (find-held m span holders items q))
     ∙ sym (find_filter span t q (in_order slot_cmp (all_entries m span holders items)) (in_order-sorted slot_cmp slot_cmp_total (all_entries m span holders items)))))

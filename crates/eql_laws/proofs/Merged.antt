@@ -14,7 +14,7 @@ use Rattle.std.proofs.lemmas.Bool.Decides.{nat_tests}
 use Rattle.std.proofs.lemmas.List.{map-append}
 use Rattle.eql_values.specs.declared.order.OrderKey.{OrderKey}
 use Rattle.eql_values.specs.declared.value.Value.{Value}
-use Rattle.eql_values.specs.declared.item.Act.{Act}
+use Rattle.eql_values.specs.declared.item.KeyEvent.{KeyEvent}
 use Rattle.eql_values.specs.declared.item.Route.{Route}
 use Rattle.eql_values.specs.declared.item.Item.{Item}
 use Rattle.eql_values.specs.declared.found.Match.{Match}
@@ -26,7 +26,7 @@ use Rattle.eql_values.proofs.Same.{key_same, order_same}
 use Rattle.eql_values.specs.OrderKeys.{order_cmp}
 use Rattle.eql_values.specs.Ordered.{numbers}
 use Rattle.eql_values.proofs.InOrder.{is_in_order, in_order-sorted}
-use Rattle.eql_values.specs.Matching.{Openings, act_by, acts_of, match_by, matches_after, matches, opening_of}
+use Rattle.eql_values.specs.Matching.{Openings, key_event_by, key_events_of, match_by, matches_after, matches, opening_of}
 use Rattle.eql_values.specs.Routing.{routed_items}
 use Rattle.eql_values.specs.Ascending.{AllAreAfter, Ascend}
 use Rattle.eql_laws.specs.Merging.{last_of, Ending, ending_cmp, by_ending, match_of, by_slot, holder_of}
@@ -65,16 +65,16 @@ ends_if : (own : OrderKey) (b : Bool) (o : Option (List OrderKey)) → EndsWith 
 ends_if own true o h = h
 ends_if own false o h = tt
 
-ends_moved : (span : Option ℤ) (o : Option (List OrderKey)) (item : Act) → EndsWith item.order (chain_moved_on span o item)
+ends_moved : (span : Option ℤ) (o : Option (List OrderKey)) (item : KeyEvent) → EndsWith item.order (chain_moved_on span o item)
 ends_moved span None item = tt
 ends_moved span (Some c) item = ends_if item.order _ (Some (c ++ item.order ∷ [])) (last-append c item.order)
 
-ends_arrived : (span : Option ℤ) (slots : Slots) (item : Act) (k : ℕ) → EndsWith item.order (chain_coming span slots item k)
+ends_arrived : (span : Option ℤ) (slots : Slots) (item : KeyEvent) (k : ℕ) → EndsWith item.order (chain_coming span slots item k)
 ends_arrived span slots item zero = tt
 ends_arrived span slots item (suc zero) = ends_if item.order (fits_after 0 item) (Some (item.order ∷ [])) refl
 ends_arrived span slots item (suc (suc k)) = ends_if item.order _ (chain_moved_on span (slots (suc k)) item) (ends_moved span (slots (suc k)) item)
 
-ends_chain : (span : Option ℤ) (opening : Slots) (k : ℕ) (item : Act) (past : List Act) → EndsWith item.order (chain span opening k (item ∷ past))
+ends_chain : (span : Option ℤ) (opening : Slots) (k : ℕ) (item : KeyEvent) (past : List KeyEvent) → EndsWith item.order (chain span opening k (item ∷ past))
 ends_chain span opening k item past =
     subst (EndsWith item.order) (sym (chain_step span opening k item past)) (ends_arrived span (slots_of_past span opening past) item k)
 
@@ -86,7 +86,7 @@ cons_option-append (Some x) xs ys = refl
 module _ (m : ℕ) (span : Option ℤ) (openings : Openings) where
   -- the ends of the matches
   abbrev chain_by : List Item → OrderKey → Route → Option (List OrderKey)
-  chain_by past order route = chain span (openings route.key) m (act_by order route ∷ acts_of route.key past)
+  chain_by past order route = chain span (openings route.key) m (key_event_by order route ∷ key_events_of route.key past)
 
   abbrev end_by : List Item → OrderKey → Route → Option EndingEntry
   end_by past order route = option_map (λ c. ((order ∷ [], route.key), c)) (chain_by past order route)
@@ -106,7 +106,7 @@ module _ (m : ℕ) (span : Option ℤ) (openings : Openings) where
   item_ends past order [] = refl
   item_ends past order (r ∷ routes) =
       one_end order r.key (chain_by past order r) (filter_map (match_by m span openings past order) routes)
-      (ends_chain span (openings r.key) m (act_by order r) (acts_of r.key past))
+      (ends_chain span (openings r.key) m (key_event_by order r) (key_events_of r.key past))
       ∙ ap (cons_option (end_by past order r)) (item_ends past order routes)
 
   ends_are : (past items : List Item) → map by_ending (matches_after m span openings past items) ≡ ends_after past items

@@ -9,25 +9,25 @@ use Rattle.eql_values.specs.declared.value.Value.{Value}
 use Rattle.eql_values.specs.declared.item.Route.{Route}
 use Rattle.eql_values.specs.declared.item.Item.{Item}
 use Rattle.eql_values.specs.declared.found.Match.{Match}
-use Rattle.eql_values.specs.declared.item.Act.{Act}
+use Rattle.eql_values.specs.declared.item.KeyEvent.{KeyEvent}
 use Rattle.eql_values.specs.Chains.{chain, holder}
-use Rattle.eql_values.specs.Matching.{Openings, act_by, acts_of, onto, match_by, matches_after}
+use Rattle.eql_values.specs.Matching.{Openings, key_event_by, key_events_of, onto, match_by, matches_after}
 use Rattle.eql_laws.proofs.Halves.{chain_append, chain_alike}
 
 module _ (m : ℕ) (span : Option ℤ) where
   -- what is held after a past, the latest first
   abbrev pub held_from : Openings → List Item → Openings
-  held_from openings past key stage = holder span (openings key) stage (acts_of key past)
+  held_from openings past key stage = holder span (openings key) stage (key_events_of key past)
 
-  pub acts_append : (key : List Value) (new old : List Item) → acts_of key (new ++ old) ≡ acts_of key new ++ acts_of key old
-  acts_append key new old = filter_map-append _ new old
+  pub key_events_append : (key : List Value) (new old : List Item) → key_events_of key (new ++ old) ≡ key_events_of key new ++ key_events_of key old
+  key_events_append key new old = filter_map-append _ new old
 
   match_moved : (openings : Openings) (new old : List Item) (order : OrderKey) (route : Route)
       → match_by m span openings (new ++ old) order route ≡ match_by m span (held_from openings old) new order route
   match_moved openings new old order route =
       ap (λ (c : Option (List OrderKey)). option_map (λ c. record { key = route.key; chain = c }) c)
-      (ap (λ (acts : List Act). chain span (openings route.key) m (act_by order route ∷ acts)) (acts_append route.key new old)
-      ∙ chain_append span (openings route.key) m (act_by order route) (acts_of route.key new) (acts_of route.key old))
+      (ap (λ (key_events : List KeyEvent). chain span (openings route.key) m (key_event_by order route ∷ key_events)) (key_events_append route.key new old)
+      ∙ chain_append span (openings route.key) m (key_event_by order route) (key_events_of route.key new) (key_events_of route.key old))
 
   -- the matches go on from what is held
   pub matches_moved : (openings : Openings) (new old items : List Item)
@@ -50,7 +50,7 @@ module _ (m : ℕ) (span : Option ℤ) where
   matches_alike a b past [] same = refl
   matches_alike a b past (item ∷ items) same = λ i.
       filter_map (λ (r : Route). option_map (λ c. record { key = r.key; chain = c })
-      (chain_alike span (a r.key) (b r.key) m (act_by item.order r) (acts_of r.key past) (same r.key) i)) item.routes
+      (chain_alike span (a r.key) (b r.key) m (key_event_by item.order r) (key_events_of r.key past) (same r.key) i)) item.routes
       ++ matches_alike a b (item ∷ past) items same i
 
   pub split_openings : (openings : Openings) (a b : List Item)

@@ -6,14 +6,14 @@ use Rattle.std.specs.Option.{option_map}
 use Rattle.std.proofs.lemmas.List.Elements.{filter-append}
 use Rattle.eql_values.specs.declared.order.OrderKey.{OrderKey}
 use Rattle.eql_values.specs.declared.value.Value.{Value}
-use Rattle.eql_values.specs.declared.item.Act.{Act}
+use Rattle.eql_values.specs.declared.item.KeyEvent.{KeyEvent}
 use Rattle.eql_values.specs.declared.item.Route.{Route}
 use Rattle.eql_values.specs.declared.item.Item.{Item}
 use Rattle.eql_values.specs.declared.found.Match.{Match}
 use Rattle.eql_values.specs.Chains.{chain}
 use Rattle.eql_values.specs.Orders.{key_eq, key_cmp}
 use Rattle.eql_values.proofs.Same.{key_same}
-use Rattle.eql_values.specs.Matching.{Openings, act_by, acts_of, match_by, matches_after}
+use Rattle.eql_values.specs.Matching.{Openings, key_event_by, key_events_of, match_by, matches_after}
 use Rattle.eql_values.specs.Routing.{with_routes, routed_items}
 use Rattle.std.specs.Prelude.{◌-◌, ◌&&◌, nat_le, nat_lt}
 use Rattle.std.proofs.Common.{map, zero, suc}
@@ -53,18 +53,18 @@ module _ (part : List Value → ℕ) (p : ℕ) where
   found_in_part key (r ∷ routes) here =
       find_one key r (filter of_part routes) routes (key_eq key r.key) (of_part r) refl refl here (found_in_part key routes here)
 
-  acts_with : (key : List Value) (item : Item) (rs : List Route) (rest : List Item)
-      → acts_of key (cons_option (with_routes item rs) rest)
-      ≡ cons_option (option_map (act_by item.order) (find (λ (r : Route). key_eq key r.key) rs)) (acts_of key rest)
-  acts_with key item [] rest = refl
-  acts_with key item (r ∷ rs) rest = refl
+  key_events_with : (key : List Value) (item : Item) (rs : List Route) (rest : List Item)
+      → key_events_of key (cons_option (with_routes item rs) rest)
+      ≡ cons_option (option_map (key_event_by item.order) (find (λ (r : Route). key_eq key r.key) rs)) (key_events_of key rest)
+  key_events_with key item [] rest = refl
+  key_events_with key item (r ∷ rs) rest = refl
 
   -- what items say to a key of the part they say by the part's routes
-  pub acts_routed : (key : List Value) (past : List Item) → (part key == p) ≡ true → acts_of key (routed_items part p past) ≡ acts_of key past
-  acts_routed key [] here = refl
-  acts_routed key (item ∷ past) here =
-      acts_with key item (filter of_part item.routes) (routed_items part p past)
-      ∙ (λ i. cons_option (option_map (act_by item.order) (found_in_part key item.routes here i)) (acts_routed key past here i))
+  pub key_events_routed : (key : List Value) (past : List Item) → (part key == p) ≡ true → key_events_of key (routed_items part p past) ≡ key_events_of key past
+  key_events_routed key [] here = refl
+  key_events_routed key (item ∷ past) here =
+      key_events_with key item (filter of_part item.routes) (routed_items part p past)
+      ∙ (λ i. cons_option (option_map (key_event_by item.order) (found_in_part key item.routes here i)) (key_events_routed key past here i))
 
   -- the openings of a part are those of all, at the part's keys
   abbrev pub Agree : Openings → Openings → Type 0
@@ -82,9 +82,9 @@ module _ (part : List Value → ℕ) (p : ℕ) where
     match_routed : (past : List Item) (order : OrderKey) (r : Route) → of_part r ≡ true
         → match_by m span openings past order r ≡ match_by m span own (routed_items part p past) order r
     match_routed past order r here =
-        ap (λ (acts : List Act). option_map (λ c. record { key = r.key; chain = c }) (chain span (openings r.key) m (act_by order r ∷ acts))) (sym (acts_routed r.key past here))
+        ap (λ (key_events : List KeyEvent). option_map (λ c. record { key = r.key; chain = c }) (chain span (openings r.key) m (key_event_by order r ∷ key_events))) (sym (key_events_routed r.key past here))
         ∙ (λ i. option_map (λ c. record { key = r.key; chain = c })
-        (chain span (λ stage. agree r.key stage here i) m (act_by order r ∷ acts_of r.key (routed_items part p past))))
+        (chain span (λ stage. agree r.key stage here i) m (key_event_by order r ∷ key_events_of r.key (routed_items part p past))))
 
     kept_match : (past : List Item) (order : OrderKey) (r : Route) (b : Bool) → of_part r ≡ b → (rest : List Match) (routes : List Route)
         → filter match_of_part rest ≡ filter_map (match_by m span own (routed_items part p past) order) routes
@@ -98,7 +98,7 @@ module _ (part : List Value → ℕ) (p : ℕ) where
         ≡ filter_map (match_by m span own (routed_items part p past) order) (filter of_part routes)
     kept_matches past order [] = refl
     kept_matches past order (r ∷ routes) =
-        keep_none (of_part r) past order r (chain span (openings r.key) m (act_by order r ∷ acts_of r.key past)) refl (filter_map (match_by m span openings past order) routes)
+        keep_none (of_part r) past order r (chain span (openings r.key) m (key_event_by order r ∷ key_events_of r.key past)) refl (filter_map (match_by m span openings past order) routes)
         ∙ kept_match past order r (of_part r) refl (filter_map (match_by m span openings past order) routes) (filter of_part routes) (kept_matches past order routes)
 
     matches_with : (past : List Item) (item : Item) (rs : List Route) (items : List Item)
@@ -167,23 +167,23 @@ module _ (part : List Value → ℕ) (p : ℕ) where
   none_in_part key (r ∷ routes) away =
       none_one key r (filter (of_part part p) routes) (key_eq key r.key) (of_part part p r) refl refl away (none_in_part key routes away)
 
-  no_acts_away : (key : List Value) (past : List Item) → (part key == p) ≡ false → acts_of key (routed_items part p past) ≡ []
-  no_acts_away key [] away = refl
-  no_acts_away key (item ∷ past) away =
-      acts_with part p key item (filter (of_part part p) item.routes) (routed_items part p past)
-      ∙ (λ i. cons_option (option_map (act_by item.order) (none_in_part key item.routes away i)) (no_acts_away key past away i))
+  no_key_events_away : (key : List Value) (past : List Item) → (part key == p) ≡ false → key_events_of key (routed_items part p past) ≡ []
+  no_key_events_away key [] away = refl
+  no_key_events_away key (item ∷ past) away =
+      key_events_with part p key item (filter (of_part part p) item.routes) (routed_items part p past)
+      ∙ (λ i. cons_option (option_map (key_event_by item.order) (none_in_part key item.routes away i)) (no_key_events_away key past away i))
 
   module _ (span : Option ℤ) (holders : List Holder) (items : List Item) where
     held_one : (key : List Value) (stage : ℕ) (b : Bool) → (part key == p) ≡ b
         → held_after span (opening_of (holders_in part p holders)) (routed_items part p items) key (suc stage)
         ≡ cond b (held_after span (opening_of holders) items key (suc stage)) None
     held_one key stage true here =
-        ap (λ (past : List Item). holder span (opening_of (holders_in part p holders) key) (suc stage) (acts_of key past)) (routed_onto items [])
-        ∙ ap (holder span (opening_of (holders_in part p holders) key) (suc stage)) (acts_routed part p key (onto items []) here)
-        ∙ sym (λ i. holder span (λ k. own_agree holders key k here i) (suc stage) (acts_of key (onto items [])))
+        ap (λ (past : List Item). holder span (opening_of (holders_in part p holders) key) (suc stage) (key_events_of key past)) (routed_onto items [])
+        ∙ ap (holder span (opening_of (holders_in part p holders) key) (suc stage)) (key_events_routed part p key (onto items []) here)
+        ∙ sym (λ i. holder span (λ k. own_agree holders key k here i) (suc stage) (key_events_of key (onto items [])))
     held_one key stage false away =
-        ap (λ (past : List Item). holder span (opening_of (holders_in part p holders) key) (suc stage) (acts_of key past)) (routed_onto items [])
-        ∙ ap (holder span (opening_of (holders_in part p holders) key) (suc stage)) (no_acts_away key (onto items []) away)
+        ap (λ (past : List Item). holder span (opening_of (holders_in part p holders) key) (suc stage) (key_events_of key past)) (routed_onto items [])
+        ∙ ap (holder span (opening_of (holders_in part p holders) key) (suc stage)) (no_key_events_away key (onto items []) away)
         ∙ holder_start span (opening_of (holders_in part p holders) key) stage
         ∙ opening_in holders key (suc stage)
         ∙ ap (λ (b : Bool). cond b (opening_of holders key (suc stage)) None) away

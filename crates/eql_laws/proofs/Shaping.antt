@@ -14,11 +14,11 @@ use Rattle.eql_values.specs.declared.item.Item.{Item}
 use Rattle.eql_values.specs.declared.found.Match.{Match}
 use Rattle.eql_values.specs.declared.found.Holder.{Holder}
 use Rattle.eql_values.specs.Ascending.{AllAreAfter, Ascend}
-use Rattle.eql_values.specs.Matching.{Openings, opening_of, onto, keys_in, act_by, acts_of, match_by, matches_after, after, held_after}
+use Rattle.eql_values.specs.Matching.{Openings, opening_of, onto, keys_in, key_event_by, key_events_of, match_by, matches_after, after, held_after}
 use Rattle.std.specs.declared.cmp.Ordering.{Ordering}
 use Rattle.std.proofs.lemmas.List.{append-nil}
 use Rattle.std.proofs.lemmas.List.Sums.{AllPass-from_list_all}
-use Rattle.eql_values.specs.declared.item.Act.{Act}
+use Rattle.eql_values.specs.declared.item.KeyEvent.{KeyEvent}
 use Rattle.eql_values.specs.Chains.{chain, holder}
 use Rattle.eql_values.specs.OrderKeys.{order_cmp, before_all, EventsAscend}
 use Rattle.eql_values.specs.Totals.{order_cmp_total}
@@ -67,12 +67,12 @@ matches_are_full m span holders items h =
     m (HasEvents m) (λ key x bound c made u. made) [] items (full_openings holders h) (any_rises items)
 
 -- what is held has its number of events
-pub held_full : (span : Option ℤ) (holders : List Holder) → All IsFull holders → (past : List Act) (key : List Value) (k : ℕ)
+pub held_full : (span : Option ℤ) (holders : List Holder) → All IsFull holders → (past : List KeyEvent) (key : List Value) (k : ℕ)
     → IfSome (holder span (opening_of holders key) (suc k) past) (λ c. length c ≡ suc k)
 held_full span holders h past key k =
     all_held AnyBefore OfLength MadeOfLength (λ x. refl) one_longer (λ x b k c h u. h) (λ x b k c h u. h) (λ x y b u v. tt) span (opening_of holders key) None past (leads past None) k
   where
-    leads : (past : List Act) (bound : Option OrderKey)
+    leads : (past : List KeyEvent) (bound : Option OrderKey)
         → LeadsTo AnyBefore OfLength MadeOfLength (λ x. refl) one_longer (λ x b k c h u. h) (λ x b k c h u. h) (λ x y b u v. tt) span (opening_of holders key) bound past
     leads [] bound = λ k. full_openings holders h key k
     leads (item ∷ past) bound = (tt, leads past (Some item.order))
@@ -80,7 +80,7 @@ held_full span holders h past key k =
 pub after_is_full : AfterIsFull
 after_is_full m span holders items h =
     after_all m span holders items (λ (key : List Value). Unit {0}) IsFull (any_keys (keys_in holders items))
-    (λ key k any lt. held_full span holders h (acts_of key (onto items [])) key k)
+    (λ key k any lt. held_full span holders h (key_events_of key (onto items [])) key k)
 
 -- ascending events
 abbrev pub ComesBefore : OrderKey → Option OrderKey → Type 0
@@ -236,7 +236,7 @@ module _ (m : ℕ) (span : Option ℤ) (test : List Value → Bool) (openings : 
   matches_keys past (item ∷ items) h =
       All-append KeyPasses (filter_map (match_by m span openings past item.order) item.routes) (matches_after m span openings (item ∷ past) items)
       (All-filter_map (λ (r : Route). test r.key ≡ true) KeyPasses (match_by m span openings past item.order)
-      (λ r is. match_key r.key (chain span (openings r.key) m (act_by item.order r ∷ acts_of r.key past)) is) item.routes
+      (λ r is. match_key r.key (chain span (openings r.key) m (key_event_by item.order r ∷ key_events_of r.key past)) is) item.routes
       (AllPass-from_list_all (λ (r : Route). test r.key) item.routes (All-head (RoutesPass test) item items h)))
       (matches_keys (item ∷ past) items (All-tail (RoutesPass test) item items h))
 

@@ -8,14 +8,14 @@ use Rattle.eql_values.specs.declared.value.Value.{Value}
 use Rattle.eql_values.specs.declared.item.Item.{Item}
 use Rattle.eql_values.specs.declared.found.Match.{Match}
 use Rattle.eql_values.specs.declared.found.Holder.{Holder}
-use Rattle.eql_values.specs.declared.item.Act.{Act}
+use Rattle.eql_values.specs.declared.item.KeyEvent.{KeyEvent}
 use Rattle.eql_values.specs.Chains.{holder}
-use Rattle.eql_values.specs.Matching.{Openings, Slot, slot_cmp, acts_of, onto, opening_of, held_after, after, matches}
+use Rattle.eql_values.specs.Matching.{Openings, Slot, slot_cmp, key_events_of, onto, opening_of, held_after, after, matches}
 use Rattle.eql_laws.specs.Merging.{holder_of}
 use Rattle.eql_laws.specs.Splits.{MatchesSplit, AfterSplits}
 use Rattle.eql_values.proofs.InOrder.{in_order-sorted}
 use Rattle.eql_laws.proofs.Halves.{holder_append, holder_alike}
-use Rattle.eql_laws.proofs.Onward.{split_openings, matches_alike, acts_append}
+use Rattle.eql_laws.proofs.Onward.{split_openings, matches_alike, key_events_append}
 use Rattle.eql_laws.proofs.Held.{all_entries, slot_same, up_to, find-held, find-after, slot_cmp_total}
 
 stage_in : (m j : ℕ) → suc j < m → (nat_lt 0 (suc j) && nat_le (suc j) (m - 1)) ≡ true
@@ -45,10 +45,10 @@ onto_is (item ∷ items) new past = onto_is items (item ∷ new) past
 held_split : (m : ℕ) (span : Option ℤ) (holders : List Holder) (a b : List Item) (key : List Value) (j : ℕ) → suc j < m
     → held_after span (opening_of holders) (a ++ b) key (suc j) ≡ held_after span (opening_of (after m span holders a)) b key (suc j)
 held_split m span holders a b key j lt =
-    ap (λ (past : List Item). holder span (opening_of holders key) (suc j) (acts_of key past)) (onto_append a b [] ∙ onto_is b [] (onto a []))
-    ∙ ap (λ (acts : List Act). holder span (opening_of holders key) (suc j) acts) (acts_append m span key (onto b []) (onto a []))
-    ∙ holder_append span (opening_of holders key) (acts_of key (onto b [])) (acts_of key (onto a [])) (suc j)
-    ∙ holder_alike span (held_after span (opening_of holders) a key) (opening_of (after m span holders a) key) m (acts_of key (onto b [])) j lt (λ i l. sym (opening_after m span holders a key i l))
+    ap (λ (past : List Item). holder span (opening_of holders key) (suc j) (key_events_of key past)) (onto_append a b [] ∙ onto_is b [] (onto a []))
+    ∙ ap (λ (key_events : List KeyEvent). holder span (opening_of holders key) (suc j) key_events) (key_events_append m span key (onto b []) (onto a []))
+    ∙ holder_append span (opening_of holders key) (key_events_of key (onto b [])) (key_events_of key (onto a [])) (suc j)
+    ∙ holder_alike span (held_after span (opening_of holders) a key) (opening_of (after m span holders a) key) m (key_events_of key (onto b [])) j lt (λ i l. sym (opening_after m span holders a key i l))
 
 guarded : (b : Bool) (x y : Option (List OrderKey)) → (b ≡ true → x ≡ y) → cond b x None ≡ cond b y None
 guarded true x y same = same refl

@@ -7,7 +7,7 @@ use Rattle.eql_values.specs.declared.found.Holder.{Holder}
 use Rattle.eql_values.specs.Chains.{in_time}
 use Rattle.eql_values.specs.declared.order.OrderKey.{OrderKey}
 use Rattle.eql_values.specs.declared.value.Value.{Value}
-use Rattle.eql_values.specs.declared.item.Act.{Act}
+use Rattle.eql_values.specs.declared.item.KeyEvent.{KeyEvent}
 use Rattle.eql_laws.specs.Slots.{Slots, slots_after}
 use Rattle.eql_laws.specs.Merging.{by_slot}
 
@@ -53,7 +53,7 @@ AliveLooksUp = (span : Option ℤ) (t : ℤ) (holders : List Holder) → Holders
 
 -- leaving out the dead before an item that comes from that time on is leaving them out after it
 abbrev pub SlotsLeaveOutDead : Type 0
-SlotsLeaveOutDead = (span : Option ℤ) (t : ℤ) (slots : Slots) (item : Act) (k : ℕ) → IsSpan span → t ≤ℤ item.order.ts
+SlotsLeaveOutDead = (span : Option ℤ) (t : ℤ) (slots : Slots) (item : KeyEvent) (k : ℕ) → IsSpan span → t ≤ℤ item.order.ts
     → slots_after span (λ j. alive_at span t (slots j)) item k ≡ alive_at span t (slots_after span slots item k)
 
 -- who is dead stays dead

@@ -34,24 +34,24 @@ module _ {X K : Type 0} (R : K → K → Ordering) (key : X → K) where
   RepeatNoKey (xs ∷ lists) = SharesNoKey xs lists × RepeatNoKey lists
 
 -- the place of an item in the order of events
-abbrev pub place_of : Item → OrderKey
-place_of item = item.order
+abbrev pub item_order : Item → OrderKey
+item_order item = item.order
 
 -- one of the items stands at this place
 abbrev pub has_place : OrderKey → List Item → Bool
-has_place = has_key order_cmp place_of
+has_place = has_key order_cmp item_order
 
 -- no place is in both lists
 abbrev pub AreApart : List Item → List Item → Type 0
-AreApart = ShareNoKey order_cmp place_of
+AreApart = ShareNoKey order_cmp item_order
 
 -- no place is in this list and in one of those
 abbrev pub IsApartFrom : List Item → List (List Item) → Type 0
-IsApartFrom = SharesNoKey order_cmp place_of
+IsApartFrom = SharesNoKey order_cmp item_order
 
 -- no place is in two of the lists
 abbrev pub AllAreApart : List (List Item) → Type 0
-AllAreApart = RepeatNoKey order_cmp place_of
+AllAreApart = RepeatNoKey order_cmp item_order
 
 -- the last event and the key of a match
 abbrev pub ending_of : Match → Ending

@@ -4,7 +4,7 @@ use Rattle.std.specs.List.{flat_map}
 use Rattle.eql_values.specs.declared.order.OrderKey.{OrderKey}
 use Rattle.eql_values.specs.declared.value.Value.{Value}
 use Rattle.eql_values.specs.declared.value.Value.TheVariants as value
-use Rattle.eql_values.specs.declared.item.Act.{Act}
+use Rattle.eql_values.specs.declared.item.KeyEvent.{KeyEvent}
 use Rattle.eql_values.specs.declared.item.Item.{Item}
 use Rattle.eql_values.specs.declared.found.Match.{Match}
 use Rattle.eql_values.specs.declared.found.Holder.{Holder}
@@ -75,7 +75,7 @@ abbrev pending_one : Slots
 pending_one (suc zero) = Some (at 1 ∷ [])
 pending_one _ = None
 
-abbrev fits_both : Act
+abbrev fits_both : KeyEvent
 fits_both = record { order = at 2; mask = record { low = 3; high = 0 }; until = false }
 
 new_at_one : slots_after None pending_one fits_both 1 ≡ Some (at 2 ∷ [])

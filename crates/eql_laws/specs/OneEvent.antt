@@ -9,7 +9,7 @@ use Rattle.eql_values.specs.declared.item.Item.{Item}
 use Rattle.eql_values.specs.declared.found.Match.{Match}
 use Rattle.eql_values.specs.declared.found.Holder.{Holder}
 use Rattle.eql_values.specs.Orders.{key_eq}
-use Rattle.eql_values.specs.Matching.{act_by, opening_of, held_after, matches, after}
+use Rattle.eql_values.specs.Matching.{key_event_by, opening_of, held_after, matches, after}
 use Rattle.eql_laws.specs.Alive.{HoldersAreInOrder}
 use Rattle.eql_laws.specs.Shapes.{HasStageBefore}
 use Rattle.eql_laws.specs.Slots.{Slots, chain_coming, slots_after}
@@ -33,7 +33,7 @@ HoldersAreSame = (a b : List Holder) → HoldersAreInOrder a → HoldersAreInOrd
 -- what an item does to the slots of a key, by the route that it has of the key, if any
 abbrev pub slots_after_event : Option ℤ → OrderKey → Option Route → Slots → Slots
 slots_after_event span order None slots = slots
-slots_after_event span order (Some route) slots = slots_after span slots (act_by order route)
+slots_after_event span order (Some route) slots = slots_after span slots (key_event_by order route)
 
 -- after one item the slots of each key are those before it, moved where the item has a route of the key
 abbrev pub OneItemMovesSlots : Type 0
@@ -44,7 +44,7 @@ OneItemMovesSlots = (m : ℕ) (span : Option ℤ) (holders : List Holder) (item 
 -- the match that comes to the last stage of a key by a route, where one comes
 abbrev pub match_at : ℕ → Option ℤ → List Holder → OrderKey → Route → Option Match
 match_at m span holders order route =
-    option_map (λ c. record { key = route.key; chain = c }) (chain_coming span (opening_of holders route.key) (act_by order route) m)
+    option_map (λ c. record { key = route.key; chain = c }) (chain_coming span (opening_of holders route.key) (key_event_by order route) m)
 
 -- the matches by one item are what comes to the last stage of each key that it has a route of
 abbrev pub OneItemMatches : Type 0

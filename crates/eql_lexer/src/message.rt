@@ -14,7 +14,7 @@ impl LexRefused {
         ensures { IfOk result (λ line. string_bytes line ≡ message self.now) }
     {
         let name = name_of(*self);
-        match place_of(*self) {
+        match refused_at(*self) {
             None => Ok(format!(in alloc; "lex: {name}")?),
             Some(at) => Ok(format!(in alloc; "lex: {name} at {at}")?),
         }
@@ -40,7 +40,7 @@ fn name_of(refused: LexRefused) -> &'static str
 }
 
 /// The place of a refusal, where it has one.
-fn place_of(refused: LexRefused) -> Option<u32>
+fn refused_at(refused: LexRefused) -> Option<u32>
     ensures { result ≡ place refused }
 {
     match refused {

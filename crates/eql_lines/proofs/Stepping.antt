@@ -7,7 +7,7 @@ use Rattle.std.specs.declared.alloc.Global.{Global}
 use Rattle.eql_lines.specs.Reach.{behind, leads}
 use Rattle.eql_lines.specs.Places.{in_set}
 use Rattle.eql_lines.specs.Paths.{rest_at}
-use Rattle.eql_lines.specs.Steps.{active_at, rest_on, row_at, place_of, step_in, step_by, IsStep, IsTable, IsGrown, Leads, IsOpen}
+use Rattle.eql_lines.specs.Steps.{active_at, rest_on, row_at, row_number, step_in, step_by, IsStep, IsTable, IsGrown, Leads, IsOpen}
 use Rattle.eql_lines.specs.declared.paths.Active.{Active}
 use Rattle.eql_lines.specs.declared.places.Places.{Places}
 use Rattle.eql_lines.specs.declared.steps.Step.{Step}
@@ -155,7 +155,7 @@ module _ (paths : List (String Global)) (old new : Table) (a : Active) (s : Step
   ]
 
   pub added_grown : IsGrown old new
-  added_grown = record { more = more; same = kept; steps = λ stop name h. more_in (place_of stop name) stop name h }
+  added_grown = record { more = more; same = kept; steps = λ stop name h. more_in (row_number stop name) stop name h }
 
   pub added_step : is_some (step_in (row_at new.rows.items place) s.from s.name.items) ≡ true
   added_step = ap (λ l. is_some (step_in l s.from s.name.items)) here ∙ has_last (row_at old.rows.items place) s
@@ -237,8 +237,8 @@ module _ (paths : List (String Global)) (t : Table) (stop : ℕ) (name : List �
 
   pub step_goes : IsTable paths t → (to : ℕ) → step_by t stop name ≡ Some to → (i : ℕ) → rest_on paths t to i ≡ option_and_then (behind name) (rest_on paths t stop i)
   step_goes table to e i =
-      let h = held (row_at t.rows.items (place_of stop name)) stop name to e in
-      let is = table.steps (place_of stop name) h.place h.step h.there in
+      let h = held (row_at t.rows.items (row_number stop name)) stop name to e in
+      let is = table.steps (row_number stop name) h.place h.step h.there in
       ap (λ s. rest_on paths t s i) (sym h.ends) ∙ is.goes i ∙ ap₂ (λ n s. option_and_then (behind n) (rest_on paths t s i)) h.named h.begins
 
   pub some_goes : IsTable paths t → (o : Option ℕ) → o ≡ step_by t stop name → IfSome o (λ to. (i : ℕ) → rest_on paths t to i ≡ option_and_then (behind name) (rest_on paths t stop i))

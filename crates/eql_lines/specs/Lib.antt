@@ -6,9 +6,9 @@ pub mod Paths
 pub mod Steps
 pub mod Numbers
 pub mod Lines
-pub mod Walked
+pub mod LineShape
 pub mod Kept
-pub mod Routes
+pub mod PathTable
 pub mod Times
 pub mod Values
 pub mod Reading

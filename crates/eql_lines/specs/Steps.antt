@@ -25,8 +25,8 @@ abbrev pub row_at : List (Vec Step Global) → ℕ → List Step
 row_at rows j = steps_in (slice_get rows j)
 
 -- the row of the step from a stop by a name
-abbrev pub place_of : ℕ → List ℕ → ℕ
-place_of stop name = (stop * 16 + get_or name 0 0 + length name) % 256
+abbrev pub row_number : ℕ → List ℕ → ℕ
+row_number stop name = (stop * 16 + get_or name 0 0 + length name) % 256
 
 -- where the first step of a row leads that is from this stop by this name
 abbrev pub step_in : List Step → ℕ → List ℕ → Option ℕ
@@ -35,7 +35,7 @@ step_in (s ∷ row) stop name = if (s.from == stop) && bytes_eq s.name.items nam
 
 -- where the step from a stop by a name leads
 abbrev pub step_by : Table → ℕ → List ℕ → Option ℕ
-step_by t stop name = step_in (row_at t.rows.items (place_of stop name)) stop name
+step_by t stop name = step_in (row_at t.rows.items (row_number stop name)) stop name
 
 -- a step leads where its name does
 pub record IsStep (paths : List (String Global)) (t : Table) (s : Step) : Type 0 where

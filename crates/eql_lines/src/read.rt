@@ -7,9 +7,9 @@ ghost use Rattle.eql_lines.specs.Found.{nothing, found_all, found_at};
 ghost use Rattle.eql_json.specs.Json.{json_of};
 ghost use Rattle.eql_lines.specs.Objects.{is_object};
 ghost use Rattle.eql_lines.specs.Lines.{line_of, AreFilled};
-ghost use Rattle.eql_lines.specs.Walked.{IsJson, is_object_line};
+ghost use Rattle.eql_lines.specs.LineShape.{IsJson, is_object_line};
 ghost use Rattle.eql_lines.specs.Paths.{path_at};
-ghost use Rattle.eql_lines.specs.Routes.{names_of};
+ghost use Rattle.eql_lines.specs.PathTable.{names_of};
 
 use crate::again::read_again;
 use crate::line::Line;
@@ -29,7 +29,7 @@ const MOST_PATHS: usize = 128;
 
 /// What a walk over a line found.
 #[derive(Clone, Copy, Drop)]
-pub(crate) enum Walked {
+pub(crate) enum LineShape {
     /// The line is no JSON.
     NotJson,
     /// It is no object.
@@ -42,25 +42,25 @@ pub(crate) enum Walked {
 
 /// The wanted paths, with what the walk needs where they are few enough for it.
 #[derive(Drop)]
-pub(crate) enum Routes {
+pub(crate) enum PathTable {
     /// At most 128 paths, with at most 4096 stops.
     Few(Stops),
     /// More: such lines are read as values.
     Many(Vec<String>),
 }
 
-impl Routes {
+impl PathTable {
     /// These paths.
-    fn of(alloc: Global, paths: Vec<String>) -> Result<Routes, AllocError>
+    fn of(alloc: Global, paths: Vec<String>) -> Result<PathTable, AllocError>
         ensures { IfOk result (λ routes. names_of routes ≡ paths.items) }
     {
         if paths.len() > MOST_PATHS {
-            return Ok(Routes::Many(paths));
+            return Ok(PathTable::Many(paths));
         }
         let paths = Paths::of(paths);
         match Table::of(alloc, &paths) {
-            Ok(table) => Ok(Routes::Few(Stops::of(paths, table))),
-            Err(NoTable::Long) => Ok(Routes::Many(paths.paths)),
+            Ok(table) => Ok(PathTable::Few(Stops::of(paths, table))),
+            Err(NoTable::Long) => Ok(PathTable::Many(paths.paths)),
             Err(NoTable::Memory) => Err(AllocError),
         }
     }
@@ -70,8 +70,8 @@ impl Routes {
         ensures { result.now.items ≡ names_of self.now }
     {
         match self {
-            Routes::Few(stops) => &stops.paths.paths,
-            Routes::Many(paths) => paths,
+            PathTable::Few(stops) => &stops.paths.paths,
+            PathTable::Many(paths) => paths,
         }
     }
 }
@@ -79,7 +79,7 @@ impl Routes {
 /// The walk over lines. It keeps its memory from line to line.
 #[derive(Drop)]
 pub(crate) struct LineWalk {
-    routes: Routes,
+    routes: PathTable,
     slots: Vec<Slot>,
     scratch: Scratch,
     alloc: Global,
@@ -102,9 +102,9 @@ fn walk_text(
     slots: &mut Vec<Slot>,
     scratch: &mut Scratch,
     text: &str,
-) -> Result<Walked, AllocError>
+) -> Result<LineShape, AllocError>
     requires { length slots.old.items ≡ length stops.now.paths.paths.items }
-    ensures not_json { IfOk result (λ line. line ≡ Walked.NotJson → read_text text.now ≡ None) }
+    ensures not_json { IfOk result (λ line. line ≡ LineShape.NotJson → read_text text.now ≡ None) }
     ensures json { IfOk result (λ line. IsJson line → (d : Data) × (read_text text.now ≡ Some d)
         × (is_object_line line ≡ is_object d)
         × ((i : ℕ) → found_at slots.new.items i
@@ -115,14 +115,14 @@ fn walk_text(
     let mut reader = Reader::new(text, scratch)?;
     match walk_value(stops, slots, &mut reader, MAX_DEPTH, WHOLE) {
         Ok(is_object) => if reader.next().is_some() {
-            Ok(Walked::NotJson)
+            Ok(LineShape::NotJson)
         } else if is_object {
-            Ok(Walked::Object)
+            Ok(LineShape::Object)
         } else {
-            Ok(Walked::NotObject)
+            Ok(LineShape::NotObject)
         },
-        Err(Broke::Invalid) => Ok(Walked::NotJson),
-        Err(Broke::Twice) => Ok(Walked::Again),
+        Err(Broke::Invalid) => Ok(LineShape::NotJson),
+        Err(Broke::Twice) => Ok(LineShape::Again),
         Err(Broke::Memory) => Err(AllocError),
     }
 }
@@ -137,7 +137,7 @@ impl LineWalk {
             slots.push(Slot::new(alloc))?;
         }
         Ok(LineWalk {
-            routes: Routes::of(alloc, paths)?,
+            routes: PathTable::of(alloc, paths)?,
             slots,
             scratch: Scratch::new(alloc),
             alloc,
@@ -161,14 +161,14 @@ impl LineWalk {
         let Ok(text) = simdutf8::compat::from_utf8(bytes) else {
             return Ok(Line::NotJson);
         };
-        let Routes::Few(stops) = &self.routes else {
+        let PathTable::Few(stops) = &self.routes else {
             return read_again(self.alloc, self.routes.names(), &mut self.slots, bytes);
         };
         match walk_text(stops, &mut self.slots, &mut self.scratch, text)? {
-            Walked::NotJson => Ok(Line::NotJson),
-            Walked::NotObject => Ok(Line::NotObject),
-            Walked::Object => Ok(Line::Object),
-            Walked::Again => read_again(self.alloc, &stops.paths.paths, &mut self.slots, bytes),
+            LineShape::NotJson => Ok(Line::NotJson),
+            LineShape::NotObject => Ok(Line::NotObject),
+            LineShape::Object => Ok(Line::Object),
+            LineShape::Again => read_again(self.alloc, &stops.paths.paths, &mut self.slots, bytes),
         }
     }
 }

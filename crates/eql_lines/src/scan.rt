@@ -4,7 +4,7 @@ ghost use Rattle.eql_values.specs.Reading.{is_blank as is_blank_line};
 ghost use Rattle.eql_json.specs.Json.{json_of};
 ghost use Rattle.eql_lines.specs.Gathered.{event_in_slots, line_in_slots};
 ghost use Rattle.eql_lines.specs.Reading.{line_read, json_read, IsEventInTime};
-ghost use Rattle.eql_lines.specs.Routes.{names_of};
+ghost use Rattle.eql_lines.specs.PathTable.{names_of};
 ghost use Rattle.eql_lines.specs.WantedPaths.{tie_path, wanted_paths};
 
 use crate::blank::is_blank;

@@ -1,7 +1,7 @@
 //! The steps that a walk can take along the wanted paths, worked out before the first line.
 ghost use Rattle.std.specs.Prelude.{◌≡◌, ◌≢◌, ◌≤◌, ◌<◌, ◌++◌, ◌∷◌, [], ℕ, length, get_or, true, is_some, IfOk, OnOk, IfSome};
 ghost use Rattle.eql_lines.specs.Paths.{path_at};
-ghost use Rattle.eql_lines.specs.Steps.{active_at, rest_on, row_at, place_of, step_in, step_by, IsTable, IsGrown, IsOpen, Leads};
+ghost use Rattle.eql_lines.specs.Steps.{active_at, rest_on, row_at, row_number, step_in, step_by, IsTable, IsGrown, IsOpen, Leads};
 
 use crate::paths::{Active, Paths, leads};
 use crate::places::Places;
@@ -59,8 +59,8 @@ fn first_byte(name: &[u8]) -> usize
 
 /// The row of the step from a stop by a name.
 #[inline(always)]
-fn place_of(stop: u32, name: &[u8]) -> usize
-    ensures { (result ≡ place_of stop name.now) × (result < 256) }
+fn row_number(stop: u32, name: &[u8]) -> usize
+    ensures { (result ≡ row_number stop name.now) × (result < 256) }
 {
     (stop as usize * 16 + first_byte(name) + name.len()) % ROWS
 }
@@ -123,7 +123,7 @@ impl Table {
     pub(crate) fn step(&self, from: u32, name: &[u8]) -> Option<u32>
         ensures { result ≡ step_by self.now from name.now }
     {
-        let row = self.rows.get(place_of(from, name))?;
+        let row = self.rows.get(row_number(from, name))?;
         step_in(row, from, name)
     }
 
@@ -182,7 +182,7 @@ impl Table {
             name: Vec::from_slice(alloc, name)?,
             to,
         };
-        put(&mut self.rows, place_of(from, name), step)?;
+        put(&mut self.rows, row_number(from, name), step)?;
         Ok(())
     }
 

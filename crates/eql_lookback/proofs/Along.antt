@@ -6,7 +6,7 @@ use Rattle.std.specs.Cmp.{eq_by_cmp_equiv}
 use Rattle.std.proofs.lemmas.List.{take_more, append-nil}
 use Rattle.eql_values.specs.declared.order.OrderKey.{OrderKey}
 use Rattle.eql_values.specs.declared.value.Value.{Value}
-use Rattle.eql_values.specs.declared.item.Act.{Act}
+use Rattle.eql_values.specs.declared.item.KeyEvent.{KeyEvent}
 use Rattle.eql_values.specs.declared.found.Match.{Match}
 use Rattle.eql_values.specs.Orders.{key_cmp, key_eq}
 use Rattle.eql_values.specs.Totals.{key_cmp_total}
@@ -16,15 +16,15 @@ use Rattle.eql_values.specs.Ordered.{found_or}
 use Rattle.eql_laws.specs.Slots.{chain_moved_on}
 use Rattle.eql_laws.proofs.Facts.{is_equal}
 use Rattle.eql_laws.specs.Steps.{StepMovesSlots, StepMakesChain}
-use Rattle.eql_lookback.specs.declared.key_act.KeyAct.{KeyAct}
-use Rattle.eql_lookback.specs.KeyActs.{to_key, back_over}
+use Rattle.eql_lookback.specs.declared.routed_event.RoutedEvent.{RoutedEvent}
+use Rattle.eql_lookback.specs.RoutedEvents.{to_key, back_over}
 use Rattle.eql_lookback.specs.Places.{no_opening, chains_at, match_at, matches_at}
 
-pub back_over_more : (all : List KeyAct) (i : ℕ) (one : KeyAct) (past : List KeyAct) → i < length all → one ≡ get_or all i one
+pub back_over_more : (all : List RoutedEvent) (i : ℕ) (one : RoutedEvent) (past : List RoutedEvent) → i < length all → one ≡ get_or all i one
     → back_over (take (i + 1) all) past ≡ one ∷ back_over (take i all) past
-back_over_more all i one past lt is = ap (λ (xs : List KeyAct). back_over xs past) (take_more all i one lt) ∙ pushed (take i all) (get_or all i one) past ∙ ap (λ (x : KeyAct). x ∷ back_over (take i all) past) (sym is)
+back_over_more all i one past lt is = ap (λ (xs : List RoutedEvent). back_over xs past) (take_more all i one lt) ∙ pushed (take i all) (get_or all i one) past ∙ ap (λ (x : RoutedEvent). x ∷ back_over (take i all) past) (sym is)
   where
-    pushed : (xs : List KeyAct) (x : KeyAct) (past : List KeyAct) → back_over (xs ++ x ∷ []) past ≡ x ∷ back_over xs past
+    pushed : (xs : List RoutedEvent) (x : RoutedEvent) (past : List RoutedEvent) → back_over (xs ++ x ∷ []) past ≡ x ∷ back_over xs past
     pushed [] x past = refl
     pushed (y ∷ xs) x past = pushed xs x (y ∷ past)
 
@@ -34,32 +34,32 @@ cons_option-append (Some x) xs ys = refl
 
 module _ (span : Option ℤ) (stage : ℕ) where
   -- the chain of an item after a past
-  abbrev pub chain_of : List KeyAct → KeyAct → Option (List OrderKey)
-  chain_of past one = chain span no_opening stage (one.act ∷ to_key one.key past)
+  abbrev pub chain_of : List RoutedEvent → RoutedEvent → Option (List OrderKey)
+  chain_of past one = chain span no_opening stage (one.key_event ∷ to_key one.key past)
 
-  pub chains_at-append : (past xs ys : List KeyAct) → chains_at span stage past (xs ++ ys) ≡ chains_at span stage past xs ++ chains_at span stage (back_over xs past) ys
+  pub chains_at-append : (past xs ys : List RoutedEvent) → chains_at span stage past (xs ++ ys) ≡ chains_at span stage past xs ++ chains_at span stage (back_over xs past) ys
   chains_at-append past [] ys = refl
   chains_at-append past (x ∷ xs) ys = ap (λ (cs : List (Option (List OrderKey))). chain_of past x ∷ cs) (chains_at-append (x ∷ past) xs ys)
 
-  pub length-chains_at : (past all : List KeyAct) → length (chains_at span stage past all) ≡ length all
+  pub length-chains_at : (past all : List RoutedEvent) → length (chains_at span stage past all) ≡ length all
   length-chains_at past [] = refl
   length-chains_at past (x ∷ all) = ap suc (length-chains_at (x ∷ past) all)
 
-  pub chains_at_more : (all : List KeyAct) (i : ℕ) (one : KeyAct) → i < length all → one ≡ get_or all i one
+  pub chains_at_more : (all : List RoutedEvent) (i : ℕ) (one : RoutedEvent) → i < length all → one ≡ get_or all i one
       → chains_at span stage [] (take (i + 1) all) ≡ chains_at span stage [] (take i all) ++ chain_of (back_over (take i all) []) one ∷ []
   chains_at_more all i one lt is =
       ap (chains_at span stage []) (take_more all i one lt)
       ∙ chains_at-append [] (take i all) (get_or all i one ∷ [])
-      ∙ ap (λ (x : KeyAct). chains_at span stage [] (take i all) ++ chain_of (back_over (take i all) []) x ∷ []) (sym is)
+      ∙ ap (λ (x : RoutedEvent). chains_at span stage [] (take i all) ++ chain_of (back_over (take i all) []) x ∷ []) (sym is)
 
-  chain_there : (past all : List KeyAct) (i : ℕ) (one : KeyAct) (found : Option (List OrderKey)) → i < length all
+  chain_there : (past all : List RoutedEvent) (i : ℕ) (one : RoutedEvent) (found : Option (List OrderKey)) → i < length all
       → get_or (chains_at span stage past all) i found ≡ chain_of (back_over (take i all) past) (get_or all i one)
   chain_there past [] i one found lt = absurd (omega arith)
   chain_there past (x ∷ all) zero one found lt = refl
   chain_there past (x ∷ all) (suc i) one found lt = chain_there (x ∷ past) all i one found (omega arith)
 
   -- the chain at a place of the list
-  pub chain_at_place : (all : List KeyAct) (chains : List (Option (List OrderKey))) (i : ℕ) (one : KeyAct) (found : Option (List OrderKey))
+  pub chain_at_place : (all : List RoutedEvent) (chains : List (Option (List OrderKey))) (i : ℕ) (one : RoutedEvent) (found : Option (List OrderKey))
       → chains ≡ chains_at span stage [] all → i < length all → one ≡ get_or all i one → found ≡ get_or chains i found
       → found ≡ chain_of (back_over (take i all) []) one
   chain_at_place all chains i one found these lt is here =
@@ -68,51 +68,51 @@ module _ (span : Option ℤ) (stage : ℕ) where
       ∙ chain_there [] all i one found lt
       ∙ ap (chain_of (back_over (take i all) [])) (sym is)
 
-  step_is : StepMovesSlots → StepMakesChain → (one : Act) (past : List Act) → holder span no_opening stage (one ∷ past)
+  step_is : StepMovesSlots → StepMakesChain → (one : KeyEvent) (past : List KeyEvent) → holder span no_opening stage (one ∷ past)
       ≡ found_or (chain span no_opening stage (one ∷ past)) (cond (fits_after stage one || one.until) None (holder span no_opening stage past))
   step_is steps comes one past =
       steps span no_opening stage one past
       ∙ ap (λ (o : Option (List OrderKey)). found_or o (cond (fits_after stage one || one.until) None (holder span no_opening stage past))) (sym (comes span no_opening stage one past))
 
-  passed_one : StepMovesSlots → StepMakesChain → (past : List KeyAct) (one : KeyAct) (here now : Option (List OrderKey)) (key : List Value) (b : Bool) → key_eq one.key key ≡ b
+  passed_one : StepMovesSlots → StepMakesChain → (past : List RoutedEvent) (one : RoutedEvent) (here now : Option (List OrderKey)) (key : List Value) (b : Bool) → key_eq one.key key ≡ b
       → here ≡ chain_of past one → now ≡ holder span no_opening stage (to_key key past)
-      → cond b (found_or here (cond (fits_after stage one.act || one.act.until) None now)) now ≡ holder span no_opening stage (cond b (one.act ∷ to_key key past) (to_key key past))
+      → cond b (found_or here (cond (fits_after stage one.key_event || one.key_event.until) None now)) now ≡ holder span no_opening stage (cond b (one.key_event ∷ to_key key past) (to_key key past))
   passed_one steps comes past one here now key true same is was =
-      (λ i. found_or (is i) (cond (fits_after stage one.act || one.act.until) None (was i)))
-      ∙ ap (λ (k : List Value). found_or (chain span no_opening stage (one.act ∷ to_key k past)) (cond (fits_after stage one.act || one.act.until) None (holder span no_opening stage (to_key key past))))
+      (λ i. found_or (is i) (cond (fits_after stage one.key_event || one.key_event.until) None (was i)))
+      ∙ ap (λ (k : List Value). found_or (chain span no_opening stage (one.key_event ∷ to_key k past)) (cond (fits_after stage one.key_event || one.key_event.until) None (holder span no_opening stage (to_key key past))))
       (key_same one.key key (is_equal (key_cmp one.key key) same))
-      ∙ sym (step_is steps comes one.act (to_key key past))
+      ∙ sym (step_is steps comes one.key_event (to_key key past))
   passed_one steps comes past one here now key false same is was = was
 
   -- what is pending after one more item
-  pub passed : StepMovesSlots → StepMakesChain → (all : List KeyAct) (i : ℕ) (one : KeyAct) (here : Option (List OrderKey)) (key : List Value) (old new : Option (List OrderKey))
+  pub passed : StepMovesSlots → StepMakesChain → (all : List RoutedEvent) (i : ℕ) (one : RoutedEvent) (here : Option (List OrderKey)) (key : List Value) (old new : Option (List OrderKey))
       → i < length all → one ≡ get_or all i one → here ≡ chain_of (back_over (take i all) []) one
       → old ≡ holder span no_opening stage (to_key key (back_over (take i all) []))
-      → new ≡ cond (key_eq one.key key) (found_or here (cond (fits_after stage one.act || one.act.until) None old)) old
+      → new ≡ cond (key_eq one.key key) (found_or here (cond (fits_after stage one.key_event || one.key_event.until) None old)) old
       → new ≡ holder span no_opening stage (to_key key (back_over (take (i + 1) all) []))
   passed steps comes all i one here key old new lt is at was goes =
       goes
       ∙ passed_one steps comes (back_over (take i all) []) one here old key (key_eq one.key key) refl at was
-      ∙ ap (λ (b : Bool). holder span no_opening stage (cond b (one.act ∷ to_key key (back_over (take i all) [])) (to_key key (back_over (take i all) [])))) ((eq_by_cmp_equiv key_cmp_total).symm one.key key)
-      ∙ ap (λ (past : List KeyAct). holder span no_opening stage (to_key key past)) (sym (back_over_more all i one [] lt is))
+      ∙ ap (λ (b : Bool). holder span no_opening stage (cond b (one.key_event ∷ to_key key (back_over (take i all) [])) (to_key key (back_over (take i all) [])))) ((eq_by_cmp_equiv key_cmp_total).symm one.key key)
+      ∙ ap (λ (past : List RoutedEvent). holder span no_opening stage (to_key key past)) (sym (back_over_more all i one [] lt is))
 
 -- the chain that follows what is pending
-pub followed_at : StepMakesChain → (span : Option ℤ) (stage : ℕ) (past : List KeyAct) (one : KeyAct) (pending found : Option (List OrderKey)) → 1 ≤ stage
+pub followed_at : StepMakesChain → (span : Option ℤ) (stage : ℕ) (past : List RoutedEvent) (one : RoutedEvent) (pending found : Option (List OrderKey)) → 1 ≤ stage
     → pending ≡ holder span no_opening stage (to_key one.key past)
-    → found ≡ cond (fits_after stage one.act && not one.act.until) (chain_moved_on span pending one.act) None
+    → found ≡ cond (fits_after stage one.key_event && not one.key_event.until) (chain_moved_on span pending one.key_event) None
     → found ≡ chain_of span (suc stage) past one
 followed_at comes span zero past one pending found le was is = absurd (omega arith)
 followed_at comes span (suc k) past one pending found le was is =
     is
-    ∙ ap (λ (o : Option (List OrderKey)). cond (fits_after (suc k) one.act && not one.act.until) (chain_moved_on span o one.act) None) was
-    ∙ sym (comes span no_opening (suc (suc k)) one.act (to_key one.key past))
+    ∙ ap (λ (o : Option (List OrderKey)). cond (fits_after (suc k) one.key_event && not one.key_event.until) (chain_moved_on span o one.key_event) None) was
+    ∙ sym (comes span no_opening (suc (suc k)) one.key_event (to_key one.key past))
 
 -- the first stage asks nothing of time
-pub first_of_any : (span : Option ℤ) (past all : List KeyAct) → chains_at None 1 past all ≡ chains_at span 1 past all
+pub first_of_any : (span : Option ℤ) (past all : List RoutedEvent) → chains_at None 1 past all ≡ chains_at span 1 past all
 first_of_any span past [] = refl
 first_of_any span past (one ∷ all) = ap (λ (cs : List (Option (List OrderKey))). chain_of span 1 past one ∷ cs) (first_of_any span (one ∷ past) all)
 
-last_matched : (all : List KeyAct) (chains : List (Option (List OrderKey))) (i : ℕ) (one : KeyAct) (found : Option (List OrderKey)) → i < length all → i < length chains
+last_matched : (all : List RoutedEvent) (chains : List (Option (List OrderKey))) (i : ℕ) (one : RoutedEvent) (found : Option (List OrderKey)) → i < length all → i < length chains
     → matches_at (take (suc i) all) (take (suc i) chains) ≡ matches_at (take i all) (take i chains) ++ cons_option (match_at (get_or all i one) (get_or chains i found)) []
 last_matched [] chains i one found la lc = absurd (omega arith)
 last_matched (x ∷ all) [] i one found la lc = absurd (omega arith)
@@ -122,7 +122,7 @@ last_matched (x ∷ all) (y ∷ chains) (suc i) one found la lc =
     ∙ sym (cons_option-append (match_at x y) (matches_at (take i all) (take i chains)) (cons_option (match_at (get_or all i one) (get_or chains i found)) []))
 
 -- one more match
-pub matched_more : (all : List KeyAct) (chains : List (Option (List OrderKey))) (i : ℕ) (one : KeyAct) (found : Option (List OrderKey))
+pub matched_more : (all : List RoutedEvent) (chains : List (Option (List OrderKey))) (i : ℕ) (one : RoutedEvent) (found : Option (List OrderKey))
     → i < length all → i < length chains → one ≡ get_or all i one → found ≡ get_or chains i found
     → matches_at (take (i + 1) all) (take (i + 1) chains) ≡ matches_at (take i all) (take i chains) ++ cons_option (match_at one found) []
 matched_more all chains i one found la lc is here =

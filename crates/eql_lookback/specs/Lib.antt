@@ -1,2 +1,2 @@
-pub mod KeyActs
+pub mod RoutedEvents
 pub mod Places

@@ -3,8 +3,8 @@
 #![tactic(auto)]
 
 mod ascending;
-mod key_act;
 mod look_back;
+mod routed_event;
 mod sequence;
 mod stages;
 

@@ -4,7 +4,7 @@ ghost use Rattle.eql_values.specs.Ascending.{Ascend};
 ghost use Rattle.eql_values.specs.Matching.{matches};
 ghost use Rattle.eql_lookback.specs.Places.{ChainAscends, match_at, matches_at};
 
-use crate::key_act::{KeyAct, key_acts_in};
+use crate::routed_event::{RoutedEvent, routed_events_in};
 use crate::sequence::Sequence;
 use crate::stages::{first_stage, next_stage};
 use eql_laws::chains_ascend;
@@ -12,7 +12,7 @@ use eql_values::{Items, Match, Matches, Memory};
 use std::alloc::Global;
 
 /// The match of a chain with its key, where there is one.
-fn match_of(one: &KeyAct, chain: &Option<Sequence>) -> Result<Option<Match>, Memory>
+fn match_of(one: &RoutedEvent, chain: &Option<Sequence>) -> Result<Option<Match>, Memory>
     requires { ChainAscends chain.now }
     ensures { IfOk result (λ found. found ≡ match_at one.now chain.now) }
 {
@@ -27,7 +27,11 @@ fn match_of(one: &KeyAct, chain: &Option<Sequence>) -> Result<Option<Match>, Mem
 }
 
 /// The chains that are there, with their keys.
-fn matches_of(alloc: Global, all: &[KeyAct], chains: &[Option<Sequence>]) -> Result<Matches, Memory>
+fn matches_of(
+    alloc: Global,
+    all: &[RoutedEvent],
+    chains: &[Option<Sequence>],
+) -> Result<Matches, Memory>
     requires each { length chains.now ≡ length all.now }
     requires ascend { All ChainAscends chains.now }
     ensures { IfOk result (λ found. found ≡ matches_at all.now chains.now) }
@@ -57,7 +61,7 @@ pub fn find(
     ensures { IfOk result (λ found. found ≡ matches stages span [] items.now) }
 {
     chains_ascend();
-    let all = key_acts_in(alloc, items.items())?;
+    let all = routed_events_in(alloc, items.items())?;
     let mut chains = first_stage(alloc, &all)?;
     for stage in 1..stages {
         chains = next_stage(alloc, span, stage, &all, &chains)?;

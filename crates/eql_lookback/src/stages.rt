@@ -8,7 +8,7 @@ ghost use Rattle.eql_values.specs.Ordered.{found_or};
 ghost use Rattle.eql_laws.specs.Slots.{chain_moved_on};
 ghost use Rattle.eql_lookback.specs.Places.{chains_at};
 
-use crate::key_act::{KeyAct, fits_next};
+use crate::routed_event::{RoutedEvent, fits_next};
 use crate::sequence::Sequence;
 use eql_laws::{chain_step, slot_step};
 use eql_values::{Key, Memory, is_in_time};
@@ -16,19 +16,20 @@ use std::alloc::Global;
 use std::collections::BTreeMap;
 
 /// The event alone, where it fits stage 1.
-fn chain_of_one(alloc: Global, one: &KeyAct) -> Result<Option<Sequence>, Memory>
-    ensures { IfOk result (λ found.
-        found ≡ (if fits_after 0 one.now.act then Some (one.now.act.order ∷ []) else None)) }
+fn chain_of_one(alloc: Global, one: &RoutedEvent) -> Result<Option<Sequence>, Memory>
+    ensures { IfOk result (λ found. found
+        ≡ (if fits_after 0 one.now.key_event
+        then Some (one.now.key_event.order ∷ []) else None)) }
 {
-    if fits_next(&one.act, 0) {
-        Ok(Some(Sequence::of(alloc, one.act.order)?))
+    if fits_next(&one.key_event, 0) {
+        Ok(Some(Sequence::of(alloc, one.key_event.order)?))
     } else {
         Ok(None)
     }
 }
 
 /// The chains of stage 1 at all places.
-pub fn first_stage(alloc: Global, all: &[KeyAct]) -> Result<Vec<Option<Sequence>>, Memory>
+pub fn first_stage(alloc: Global, all: &[RoutedEvent]) -> Result<Vec<Option<Sequence>>, Memory>
     ensures { IfOk result (λ chains. chains.items ≡ chains_at None 1 [] all.now) }
 {
     let mut chains = Vec::new(alloc);
@@ -45,22 +46,22 @@ fn next_chain(
     span: Option<i128>,
     stage: u32,
     pending: &BTreeMap<Key, Sequence>,
-    one: &KeyAct,
+    one: &RoutedEvent,
 ) -> Result<Option<Sequence>, Memory>
     requires { stage < 256 }
     ensures { IfOk result (λ found.
-        found ≡ (if fits_after stage one.now.act && not one.now.act.until
-        then chain_moved_on span (get key_cmp pending.now one.now.key) one.now.act
+        found ≡ (if fits_after stage one.now.key_event && not one.now.key_event.until
+        then chain_moved_on span (get key_cmp pending.now one.now.key) one.now.key_event
         else None)) }
 {
-    if !fits_next(&one.act, stage) || one.act.until {
+    if !fits_next(&one.key_event, stage) || one.key_event.until {
         return Ok(None);
     }
     match pending.get(&one.key) {
         None => Ok(None),
         Some(chain) => {
-            if is_in_time(span, chain.events(), one.act.order.ts) {
-                Ok(Some(chain.followed_by(one.act.order)?))
+            if is_in_time(span, chain.events(), one.key_event.order.ts) {
+                Ok(Some(chain.followed_by(one.key_event.order)?))
             } else {
                 Ok(None)
             }
@@ -73,14 +74,14 @@ fn next_chain(
 fn pass(
     stage: u32,
     pending: &mut BTreeMap<Key, Sequence>,
-    one: &KeyAct,
+    one: &RoutedEvent,
     here: &Option<Sequence>,
 ) -> Result<(), Memory>
     requires { stage < 256 }
     ensures { IfOk result (λ _. (key : List Value) → get key_cmp pending.new key
         ≡ (if key_eq one.now.key key
         then found_or here.now
-        (if fits_after stage one.now.act || one.now.act.until
+        (if fits_after stage one.now.key_event || one.now.key_event.until
         then None
         else get key_cmp pending.old key)
         else get key_cmp pending.old key)) }
@@ -92,7 +93,7 @@ fn pass(
             pending.insert(key, chain)?;
         }
         None => {
-            if fits_next(&one.act, stage) || one.act.until {
+            if fits_next(&one.key_event, stage) || one.key_event.until {
                 pending.remove(&one.key);
             }
         }
@@ -105,7 +106,7 @@ pub fn next_stage(
     alloc: Global,
     span: Option<i128>,
     stage: u32,
-    all: &[KeyAct],
+    all: &[RoutedEvent],
     chains: &[Option<Sequence>],
 ) -> Result<Vec<Option<Sequence>>, Memory>
     requires from { 1 ≤ stage }

@@ -1,4 +1,4 @@
-//! The machine of one key: what plays acts on it, a worked example, and its greatest number of stages.
+//! The machine of one key: what plays key_events on it, a worked example, and its greatest number of stages.
 ghost use Rattle.std.specs.Prelude.{◌≡◌, ◌<◌, ◌≤◌, [], is_some, IsTrue, length};
 ghost use Rattle.std.specs.List.{All};
 ghost use Rattle.std.specs.declared.cmp.Ordering.TheVariants.{Less};
@@ -10,18 +10,18 @@ ghost use Rattle.eql_matching_tests.specs.Played.{IsAfterLast};
 
 use crate::lookback::{chain_of, has_lines, order_at};
 use eql_auto::{Auto, Steps};
-use eql_values::{Act, Chain, Mask, Memory, OrderKey, StageChains};
+use eql_values::{Chain, KeyEvent, Mask, Memory, OrderKey, StageChains};
 use std::alloc::Global;
 use std::marker::Brand;
 use std::sync::ledger::{Blank, Ledger};
 
-/// What is played on a machine of so many stages with this span in nanoseconds: acts, and behind them the times, in
+/// What is played on a machine of so many stages with this span in nanoseconds: key_events, and behind them the times, in
 /// nanoseconds, at which what is too old is dropped.
 #[derive(Drop)]
 pub(crate) struct Run {
     pub(crate) stages: u32,
     pub(crate) span: Option<i128>,
-    pub(crate) acts: Vec<Act>,
+    pub(crate) key_events: Vec<KeyEvent>,
     pub(crate) reaches: &'static [i128],
 }
 
@@ -57,12 +57,12 @@ fn is_after(last: Option<OrderKey>, event: OrderKey) -> bool
     }
 }
 
-/// The tag of the sequence that an act begins, where it fits stage 1.
-fn tag_of(act: &Act) -> Option<u32>
-    ensures { is_some result ≡ has_after 0 act.now.mask }
+/// The tag of the sequence that an key_event begins, where it fits stage 1.
+fn tag_of(key_event: &KeyEvent) -> Option<u32>
+    ensures { is_some result ≡ has_after 0 key_event.now.mask }
 {
-    if act.mask.has(1) {
-        Some(act.order.line)
+    if key_event.mask.has(1) {
+        Some(key_event.order.line)
     } else {
         None
     }
@@ -97,35 +97,35 @@ fn reads_ceased<L: Ledger>(machine: &mut Auto<u32, L>, ceased: &mut Vec<u32>) ->
     true
 }
 
-/// Plays one act, and reads the tags of the sequences that ceased. Returns whether there is memory for that.
-fn plays_act<L: Ledger>(
+/// Plays one key_event, and reads the tags of the sequences that ceased. Returns whether there is memory for that.
+fn plays_event<L: Ledger>(
     alloc: Global,
     machine: &mut Auto<u32, L>,
-    act: &Act,
+    key_event: &KeyEvent,
     told: &mut Told,
     steps: &mut Steps<L>,
 ) -> bool
     requires read { machine.old.gone ≡ [] }
-    requires later { All (ComesAfter act.now.order) machine.old.slots }
+    requires later { All (ComesAfter key_event.now.order) machine.old.slots }
     ensures read { IsTrue result → machine.new.gone ≡ [] }
-    ensures later { (next : OrderKey) → order_cmp act.now.order next ≡ Less
+    ensures later { (next : OrderKey) → order_cmp key_event.now.order next ≡ Less
         → IsTrue result → All (ComesAfter next) machine.new.slots }
 {
     let Ok(()) = machine.ready(alloc) else {
         return false;
     };
-    let tag = tag_of(act);
-    let found = machine.turn(act.order, act.mask, act.until, tag, steps);
+    let tag = tag_of(key_event);
+    let found = machine.turn(key_event.order, key_event.mask, key_event.until, tag, steps);
     adds_match(&mut told.matches, found)
         && adds_tag(&mut told.given, tag)
         && reads_ceased(machine, &mut told.ceased)
 }
 
-/// Plays acts. Returns whether each came after the one before it, and was played.
-fn plays_acts<L: Ledger>(
+/// Plays key_events. Returns whether each came after the one before it, and was played.
+fn plays_events<L: Ledger>(
     alloc: Global,
     machine: &mut Auto<u32, L>,
-    acts: &[Act],
+    key_events: &[KeyEvent],
     told: &mut Told,
     steps: &mut Steps<L>,
 ) -> bool
@@ -134,11 +134,13 @@ fn plays_acts<L: Ledger>(
     ensures { IsTrue result → machine.new.gone ≡ [] }
 {
     let mut last = None;
-    for act in acts {
-        if !is_after(last, act.order) || !plays_act(alloc, machine, act, told, steps) {
+    for key_event in key_events {
+        if !is_after(last, key_event.order)
+            || !plays_event(alloc, machine, key_event, told, steps)
+        {
             return false;
         }
-        last = Some(act.order);
+        last = Some(key_event.order);
     }
     true
 }
@@ -173,7 +175,7 @@ fn pending_behind<L: Ledger>(
     requires read { machine.old.gone ≡ [] }
     requires empty { (next : OrderKey) → All (ComesAfter next) machine.old.slots }
 {
-    if plays_acts(alloc, machine, &run.acts, told, steps)
+    if plays_events(alloc, machine, &run.key_events, told, steps)
         && drops_old(machine, run.reaches, &mut told.ceased, steps)
     {
         machine.holders(alloc).ok()
@@ -229,9 +231,9 @@ fn bit(place: u32) -> u128 {
     1u128.checked_shl(place).unwrap_or(0)
 }
 
-/// An act of this line, at as many nanoseconds, which fits one stage, or none for 0.
-fn act_at(line: u32, stage: u32) -> Act {
-    Act {
+/// An key_event of this line, at as many nanoseconds, which fits one stage, or none for 0.
+fn key_event_at(line: u32, stage: u32) -> KeyEvent {
+    KeyEvent {
         order: order_at(i128::from(line), 0, line),
         mask: Mask {
             low: bit(stage.wrapping_sub(1)),
@@ -241,17 +243,17 @@ fn act_at(line: u32, stage: u32) -> Act {
     }
 }
 
-/// An act for each of these stages, from line 1 on, or `None` where memory is short.
-fn acts_on(alloc: Global, stages: &[u32]) -> Option<Vec<Act>> {
-    let mut acts = Vec::new(alloc);
+/// An key_event for each of these stages, from line 1 on, or `None` where memory is short.
+fn key_events_on(alloc: Global, stages: &[u32]) -> Option<Vec<KeyEvent>> {
+    let mut key_events = Vec::new(alloc);
     let mut line = 0u32;
     for stage in stages {
         line = line.saturating_add(1);
-        if acts.push(act_at(line, *stage)).is_err() {
+        if key_events.push(key_event_at(line, *stage)).is_err() {
             return None;
         }
     }
-    Some(acts)
+    Some(key_events)
 }
 
 /// A machine, and what comes of playing on it: what ceased, and the lines of the one pending sequence, of stage 1, or none.
@@ -294,12 +296,12 @@ fn is_run(alloc: Global, run: &Run, row: &Row, matched: &[u32]) -> bool {
 /// Whether events that fit these stages in turn have one match, by those of these lines, and what comes of it is as a row
 /// says.
 fn is_row(alloc: Global, row: &Row, fits: &[u32], matched: &[u32]) -> bool {
-    match acts_on(alloc, fits) {
-        Some(acts) => {
+    match key_events_on(alloc, fits) {
+        Some(key_events) => {
             let run = Run {
                 stages: row.stages,
                 span: row.span,
-                acts,
+                key_events,
                 reaches: row.reaches,
             };
             is_run(alloc, &run, row, matched)

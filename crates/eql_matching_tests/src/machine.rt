@@ -2,7 +2,7 @@
 //! compared. The look-back finds matches by the definition, and the machine by its slots.
 use crate::auto::{Run, Told, pending_of};
 use crate::lookback::{EMPTY, Event, adds_event, look_back};
-use eql_values::{Act, Chain, Items, Match, StageChains};
+use eql_values::{Chain, Items, KeyEvent, Match, StageChains};
 use std::alloc::Global;
 
 /// Sequences of so many stages, of which there are so many sets, with this span in nanoseconds, and whether an event ends
@@ -74,12 +74,12 @@ fn events_of(alloc: Global, sequences: &Sequences, a: u128, b: u128) -> Option<I
 }
 
 /// What the events say to the machine of the one key, or `None` where memory is short.
-fn acts_of(alloc: Global, items: &Items) -> Option<Vec<Act>> {
-    let mut acts = Vec::new(alloc);
+fn key_events_of(alloc: Global, items: &Items) -> Option<Vec<KeyEvent>> {
+    let mut key_events = Vec::new(alloc);
     for item in items.items() {
         if let Some(route) = item.routes.items().first()
-            && acts
-                .push(Act {
+            && key_events
+                .push(KeyEvent {
                     order: item.order,
                     mask: route.mask,
                     until: route.until,
@@ -89,7 +89,7 @@ fn acts_of(alloc: Global, items: &Items) -> Option<Vec<Act>> {
             return None;
         }
     }
-    Some(acts)
+    Some(key_events)
 }
 
 /// Whether there is a match, and it has this chain and no value in its key.
@@ -144,11 +144,11 @@ fn is_found(alloc: Global, run: &Run, matches: &[Match]) -> bool {
 
 /// What the machine plays where these are the events, or `None` where memory is short.
 fn run_of(alloc: Global, sequences: &Sequences, items: &Items) -> Option<Run> {
-    match acts_of(alloc, items) {
-        Some(acts) => Some(Run {
+    match key_events_of(alloc, items) {
+        Some(key_events) => Some(Run {
             stages: sequences.stages,
             span: sequences.span,
-            acts,
+            key_events,
             reaches: &[],
         }),
         None => None,

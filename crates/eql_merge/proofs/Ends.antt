@@ -24,7 +24,7 @@ use Rattle.eql_values.specs.Totals.{order_cmp_total, slot_cmp_total}
 use Rattle.eql_values.proofs.InOrder.{is_in_order}
 use Rattle.eql_values.proofs.Same.{order_same}
 use Rattle.eql_laws.specs.Alive.{HoldersAreInOrder}
-use Rattle.eql_laws.specs.Apart.{place_of, ending_of, SharesNoKey, RepeatNoKey, AllAreApart, MatchesAreApart, AreInMatchOrder, joined_lists}
+use Rattle.eql_laws.specs.Apart.{item_order, ending_of, SharesNoKey, RepeatNoKey, AllAreApart, MatchesAreApart, AreInMatchOrder, joined_lists}
 use Rattle.eql_laws.specs.Belows.{HasRoutesInOrder, SortedAscends}
 use Rattle.eql_laws.specs.Merging.{ending_cmp, by_ending, by_slot, holder_of, match_of, in_match_order, in_slot_order, last_of}
 use Rattle.eql_laws.specs.Totals.{ending_cmp_total}
@@ -100,7 +100,7 @@ abbrev routes_in : Item → List Route
 routes_in item = item.routes
 
 pub items_apart : (lists : List (List Item)) → AllAreApart lists → HaveNoTies item_rank lists
-items_apart lists h = apart_by order_cmp order_cmp_total order_same place_of routes_in lists h
+items_apart lists h = apart_by order_cmp order_cmp_total order_same item_order routes_in lists h
 
 items_back : (items : List Item) → map (λ (e : OrderKey × List Route). let item : Item = record { order = e.0; routes = e.1 } in item) (map (λ (item : Item). (item.order, item.routes)) items) ≡ items
 items_back [] = refl
@@ -109,7 +109,7 @@ items_back (item ∷ items) = ap (λ (rest : List Item). item ∷ rest) (items_b
 pub items_merged : (lists : List (List Item)) (all : List Item) → Ascends item_rank all → HaveSameFirsts item_rank (joined_lists lists) all → all ≡ sorted_items (joined_lists lists)
 items_merged lists all up firsts =
     sym (items_back all)
-    ∙ ap (map (λ (e : OrderKey × List Route). record { order = e.0; routes = e.1 })) (merged_in_order order_cmp order_cmp_total order_same place_of routes_in (joined_lists lists) all up firsts)
+    ∙ ap (map (λ (e : OrderKey × List Route). record { order = e.0; routes = e.1 })) (merged_in_order order_cmp order_cmp_total order_same item_order routes_in (joined_lists lists) all up firsts)
 
 routes_stand : (items : List Item) → Ascend items → All HasRoutesInOrder items
 routes_stand [] h = All-nil HasRoutesInOrder

@@ -12,7 +12,7 @@ use Rattle.eql_values.specs.declared.found.Holder.{Holder}
 use Rattle.eql_values.specs.Matching.{Slot, slot_cmp}
 use Rattle.eql_values.specs.OrderKeys.{order_cmp}
 use Rattle.eql_values.specs.Totals.{order_cmp_total, slot_cmp_total}
-use Rattle.eql_laws.specs.Apart.{place_of, ending_of, ShareNoKey, RepeatNoKey}
+use Rattle.eql_laws.specs.Apart.{item_order, ending_of, ShareNoKey, RepeatNoKey}
 use Rattle.eql_laws.specs.Merging.{ending_cmp}
 use Rattle.eql_laws.specs.Totals.{ending_cmp_total}
 
@@ -45,10 +45,10 @@ module _ {X : Type 0} (R : X → X → Ordering) where
 
 -- events by their places
 abbrev pub item_rank : Item → Item → Ordering
-item_rank = on place_of order_cmp
+item_rank = on item_order order_cmp
 
 pub item_rank_total : IsTotalOrder item_rank
-item_rank_total = on_total place_of order_cmp_total
+item_rank_total = on_total item_order order_cmp_total
 
 -- matches by last event, then by key
 abbrev pub match_rank : Match → Match → Ordering

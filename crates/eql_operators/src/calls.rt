@@ -8,8 +8,8 @@ use crate::addresses::{address, lies_in_one};
 use crate::arguments::Arguments;
 use crate::arithmetic::compute;
 use crate::texts::{
-    append, between_of, contains, ends_with, length_of, number_of, part_of, place_of, starts_with,
-    string_of,
+    append, between_of, contains, ends_with, index_or_null, length_of, number_of, part_of,
+    starts_with, string_of,
 };
 use crate::three_valued::value_of;
 use eql_check::Function;
@@ -71,7 +71,7 @@ fn call_two(
         Function::Multiply => Ok(compute(MathOp::Mul, a, b)),
         Function::Divide => Ok(compute(MathOp::Div, a, b)),
         Function::Modulo => Ok(compute(MathOp::Mod, a, b)),
-        Function::IndexOf => Ok(place_of(fold, a, b, None)),
+        Function::IndexOf => Ok(index_or_null(fold, a, b, None)),
         Function::StartsWith => Ok(starts_with(fold, a, b)),
         Function::EndsWith => Ok(ends_with(fold, a, b)),
         Function::StringContains => Ok(contains(fold, a, b)),
@@ -96,7 +96,7 @@ fn call_three(
     ensures free { f.makes_text function ≡ false → IsOk result }
 {
     match function {
-        Function::IndexOf => Ok(place_of(fold, a, b, Some(c))),
+        Function::IndexOf => Ok(index_or_null(fold, a, b, Some(c))),
         Function::Substring => part_of(alloc, a, b, Some(c)),
         Function::Between => between_of(alloc, fold, a, b, c, None),
         Function::Concat | Function::CidrMatch => unreachable!(),

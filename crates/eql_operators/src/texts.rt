@@ -102,8 +102,8 @@ fn number_or_null(number: Option<i64>) -> Value
 }
 
 /// The least place of `t` in `s` at or after a start, 0 where none is given.
-pub fn place_of(fold: bool, s: &Value, t: &Value, from: Option<&Value>) -> Value
-    ensures { result ≡ f.place_of fold s.now t.now (option_copied from.entry) }
+pub fn index_or_null(fold: bool, s: &Value, t: &Value, from: Option<&Value>) -> Value
+    ensures { result ≡ f.index_or_null fold s.now t.now (option_copied from.entry) }
 {
     match (s, t, from) {
         (Value::Text(s), Value::Text(t), None) => number_or_null(text::index_of(s, t, 0, fold)),

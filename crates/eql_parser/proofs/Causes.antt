@@ -21,7 +21,7 @@ use Rattle.eql_parser.proofs.Meeting.{Instead, for_regex, for_folding_regex, for
 use Rattle.eql_parser.proofs.MeetingQuery.{stops_there}
 use Rattle.eql_query.specs.declared.expr.PatOp.TheVariants.{Colon}
 use Rattle.eql_parser.proofs.Opened.{told_of, opened, few_upto}
-use Rattle.eql_parser.proofs.Starts.{place_of, first_of, Follows}
+use Rattle.eql_parser.proofs.Starts.{fail_place, first_of, Follows}
 use Rattle.eql_parser.proofs.StartsQuery.{begun}
 use Rattle.eql_parser.proofs.EndingQuery.{ended}
 
@@ -186,7 +186,7 @@ plain : (tokens : List Token) (n : ℕ) → query (kinds tokens) ≡ Err (Syntax
 plain tokens n h there s word out = no_syntax (kinds tokens) word (length (kinds (s.here ∷ s.behind))) n (leaves_out_stops s word out) h
 
 -- no more tokens are left at the place than were given
-pub place_within : (tokens : List Token) (e : Fail) → query (kinds tokens) ≡ Err e → place_of e ≤ length tokens
+pub place_within : (tokens : List Token) (e : Fail) → query (kinds tokens) ≡ Err e → fail_place e ≤ length tokens
 place_within tokens e h =
     let b = begun (kinds tokens) e h in
     omega (arith, ap length b.cut, length-append b.front b.behind, b.count, kinds_length tokens)
@@ -194,7 +194,7 @@ place_within tokens e h =
 -- only at the end may Syntax come with no token left
 abbrev pub IsInside : Fail → Type 0
 IsInside (Syntax n) = Unit {0}
-IsInside e = 0 < place_of e
+IsInside e = 0 < fail_place e
 
 is_inside : (ts : List Kind) (e : Fail) → Because 128 ts e → IsInside e
 is_inside ts (Syntax n) h = tt
@@ -231,7 +231,7 @@ module _ (tokens before behind : List Token) (here : Token) (whole : tokens ≡ 
   there e h = ap query (sym kinds_through) ∙ h
 
   -- what could follow the tokens before the place
-  goes_on_there : (e : Fail) → place_of e ≡ suc (length behind) → query (kinds tokens) ≡ Err e
+  goes_on_there : (e : Fail) → fail_place e ≡ suc (length behind) → query (kinds tokens) ≡ Err e
       → (follows : List Kind) × Begins (kinds before ++ follows) × Follows [] e (kinds before) (kinds (here ∷ behind)) follows
   goes_on_there e p h =
       let b = begun (kinds tokens) e h in
@@ -241,13 +241,13 @@ module _ (tokens before behind : List Token) (here : Token) (whole : tokens ≡ 
         subst (λ f. Follows [] e (kinds before) f b.follows) same.1 (subst (λ m. Follows [] e m b.behind b.follows) same.0 b.why),
       )
 
-  within_before : (e : Fail) → place_of e ≡ suc (length behind) → query (kinds tokens) ≡ Err e → BeginsWithin 64 (kinds before)
+  within_before : (e : Fail) → fail_place e ≡ suc (length behind) → query (kinds tokens) ≡ Err e → BeginsWithin 64 (kinds before)
   within_before e p h =
       let b = ended (kinds tokens) e h in
       let same = same_cut b.front (kinds before) b.behind (kinds (here ∷ behind)) (sym b.cut ∙ kinds_cut) (b.count ∙ p ∙ ap suc (sym (kinds_length behind))) in
       subst (BeginsWithin 64) same.0 b.begins
 
-  few_before : (e : Fail) → place_of e ≡ suc (length behind) → query (kinds tokens) ≡ Err e → FewAreOpen 128 (kinds before)
+  few_before : (e : Fail) → fail_place e ≡ suc (length behind) → query (kinds tokens) ≡ Err e → FewAreOpen 128 (kinds before)
   few_before e p h =
       let u = few_upto (kinds tokens) e h in
       let same = same_cut u.0 (kinds before) u.1 (kinds (here ∷ behind)) (sym u.2 ∙ kinds_cut) (u.3 ∙ p ∙ ap suc (sym (kinds_length behind))) in

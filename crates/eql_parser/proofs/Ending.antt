@@ -9,14 +9,14 @@ use Rattle.eql_parser.specs.Limits.{depth, depth_but, deepest_but}
 use Rattle.eql_parser.specs.Reading.{Fail, Syntax, TooDeep, Res, then_do, res_map, closing, more_of, separated, at_level, above, chain_on, chain_from, chain, joined_operands}
 use Rattle.eql_parser.proofs.Levels.{but_less, nothing}
 use Rattle.eql_parser.proofs.Rows.{Row, last_of, next_of, WithinBut}
-use Rattle.eql_parser.proofs.Starts.{Free, Starts, TellsOf, Onto, place_of, starts_behind, free_behind, starts_whole}
+use Rattle.eql_parser.proofs.Starts.{Free, Starts, TellsOf, Onto, fail_place, starts_behind, free_behind, starts_whole}
 
 -- a reader stops behind tokens that can be ended
 pub record Ended {A : Type 0} (Is : List Kind → A → List Kind → Type 0) (ts : List Kind) (e : Fail) : Type 0 where
   pub front : List Kind
   pub behind : List Kind
   pub cut : ts ≡ front ++ behind
-  pub count : length behind ≡ place_of e
+  pub count : length behind ≡ fail_place e
   pub starts : Starts Is front
 
 -- What an answer says: the front of the tokens is of one kind, or can be ended as one of another kind.
@@ -38,7 +38,7 @@ from_tells Is Begun ts (Ok p) h = h
 from_tells Is Begun ts (Err e) h = record { front = h.front; behind = h.behind; cut = h.cut; count = h.count; starts = fewer Begun h.front h.follows h.starts }
 
 -- a reader stops behind some tokens
-pub ended_at : {A : Type 0} (Q : List Kind → A → List Kind → Type 0) (m us : List Kind) (e : Fail) → length us ≡ place_of e → Starts Q m → Ended Q (m ++ us) e
+pub ended_at : {A : Type 0} (Q : List Kind → A → List Kind → Type 0) (m us : List Kind) (e : Fail) → length us ≡ fail_place e → Starts Q m → Ended Q (m ++ us) e
 ended_at Q m us e h s = record { front = m; behind = us; cut = refl; count = h; starts = s }
 
 -- a form behind some tokens, in another form

@@ -16,7 +16,7 @@ use Rattle.eql_parser.specs.QueryReading.{behind_expected, is_where, is_open_ite
 use Rattle.eql_parser.specs.QueryReading as q
 use Rattle.eql_parser.proofs.Rows.{WithinBut}
 use Rattle.eql_parser.proofs.Sound.{where_only, open_item_only, close_item_only}
-use Rattle.eql_parser.proofs.Starts.{Starts, Onto, place_of}
+use Rattle.eql_parser.proofs.Starts.{Starts, Onto, fail_place}
 use Rattle.eql_parser.proofs.StartsQuery.{IsConditioned, IsKeyed, IsWhole, ArePipes, null_term, null_bracketed, null_tree, null_item, tells_keys, tells_runs, tells_span, tells_pipes}
 use Rattle.eql_parser.proofs.Ending.{CanEnd, from_tells, ended_at, can_map, can_also, can_token, can_then, can_here, can_if}
 use Rattle.eql_parser.proofs.EndingExpr.{hole_within, expr_can}
@@ -186,7 +186,7 @@ pub record EndedQuery (ts : List Kind) (e : Fail) : Type 0 where
   pub front : List Kind
   pub behind : List Kind
   pub cut : ts ≡ front ++ behind
-  pub count : length behind ≡ place_of e
+  pub count : length behind ≡ fail_place e
   pub begins : BeginsWithin 64 front
 
 abbrev End : {A : Type 0} → List Kind → Res A → Type 0

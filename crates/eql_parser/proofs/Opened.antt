@@ -7,7 +7,7 @@ use Rattle.eql_parser.specs.Reading.{Fail, Syntax, LeftOut, TooDeep, TooOpen, ex
 use Rattle.eql_parser.specs.QueryReading.{query}
 use Rattle.eql_parser.proofs.Sound.{query_sound}
 use Rattle.eql_parser.proofs.Opens.{OpenTo, Under, open_behind_both, open_to_front}
-use Rattle.eql_parser.proofs.Starts.{place_of}
+use Rattle.eql_parser.proofs.Starts.{fail_place}
 use Rattle.eql_parser.proofs.Told.{Told, Because, Upto}
 use Rattle.eql_parser.proofs.ToldExpr.{expr_told}
 use Rattle.eql_parser.proofs.ToldQuery.{told_query}
@@ -30,7 +30,7 @@ opens_at_most ts q rest e before behind cut =
     let whole : ts ≡ h.0 = h.1 ∙ ap (λ l. h.0 ++ l) (query_sound ts q rest e).1 ∙ append-nil h.0 in
     open_to_front 128 0 before behind (subst (OpenTo 128 0) (sym whole ∙ cut) ((h.2 0).1 128 (omega arith)))
 
-upto_of : (ts : List Kind) (e : Fail) → Because 128 ts e → Upto 128 ts (place_of e)
+upto_of : (ts : List Kind) (e : Fail) → Because 128 ts e → Upto 128 ts (fail_place e)
 upto_of ts (Syntax n) h = h
 upto_of ts (LeftOut w n) h = h.1
 upto_of ts (TooDeep n) h = h.1
@@ -40,7 +40,7 @@ under_few : (ks : List Kind) → Under 128 ks → FewAreOpen 128 ks
 under_few ks u before behind cut = open_to_front 128 0 before behind (subst (OpenTo 128 0) cut (u 0 128 (omega arith)))
 
 -- up to where the descent stops, nowhere more than 128 parentheses stand open
-pub few_upto : (ts : List Kind) (e : Fail) → query ts ≡ Err e → (front : List Kind) × (behind : List Kind) × (ts ≡ front ++ behind) × (length behind ≡ place_of e) × FewAreOpen 128 front
+pub few_upto : (ts : List Kind) (e : Fail) → query ts ≡ Err e → (front : List Kind) × (behind : List Kind) × (ts ≡ front ++ behind) × (length behind ≡ fail_place e) × FewAreOpen 128 front
 few_upto ts e h =
     let u = upto_of ts e (subst (λ r. Told 128 ts r) h (told_of ts)) in
     (u.0, u.1, u.2, u.3, under_few u.0 u.4)

@@ -19,11 +19,11 @@ abbrev pub Starts : {A : Type 0} → (List Kind → A → List Kind → Type 0) 
 Starts {A = A} Is front = (x : A) × (others : List Kind) × ((rest : List Kind) → Is (front ++ (others ++ rest)) x rest)
 
 -- the place of a refusal
-abbrev pub place_of : Fail → ℕ
-place_of (Syntax n) = n
-place_of (LeftOut w n) = n
-place_of (TooDeep n) = n
-place_of (TooOpen n) = n
+abbrev pub fail_place : Fail → ℕ
+fail_place (Syntax n) = n
+fail_place (LeftOut w n) = n
+fail_place (TooDeep n) = n
+fail_place (TooOpen n) = n
 
 abbrev pub first_of : List Kind → List Kind
 first_of [] = []
@@ -42,7 +42,7 @@ pub record Stop {A : Type 0} (Is : List Kind → A → List Kind → Type 0) (ts
   pub behind : List Kind
   pub follows : List Kind
   pub cut : ts ≡ front ++ behind
-  pub count : length behind ≡ place_of e
+  pub count : length behind ≡ fail_place e
   pub starts : Starts Is (front ++ follows)
   pub why : (before : List Kind) → Follows before e front behind follows
 

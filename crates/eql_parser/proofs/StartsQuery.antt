@@ -19,7 +19,7 @@ use Rattle.eql_parser.specs.QueryReading.{behind_expected, is_where, is_maxspan,
 use Rattle.eql_parser.specs.QueryReading as q
 use Rattle.eql_parser.proofs.Rows.{false_not_true}
 use Rattle.eql_parser.proofs.Sound.{where_only, maxspan_only, assign_only, open_item_only, close_item_only}
-use Rattle.eql_parser.proofs.Starts.{Free, Starts, Follows, Stop, Tells, Onto, place_of, stop_syntax, stop_left_out, tells_map, tells_behind, tells_also, tells_token, tells_then, tells_here, tells_one, tells_if}
+use Rattle.eql_parser.proofs.Starts.{Free, Starts, Follows, Stop, Tells, Onto, fail_place, stop_syntax, stop_left_out, tells_map, tells_behind, tells_also, tells_token, tells_then, tells_here, tells_one, tells_if}
 use Rattle.eql_parser.proofs.StartsExpr.{tells_field, a_field, tells_listed, an_expr, expr_tells}
 
 -- a word that has to stand here
@@ -272,7 +272,7 @@ pub record Begun (ts : List Kind) (e : Fail) : Type 0 where
   pub behind : List Kind
   pub follows : List Kind
   pub cut : ts ≡ front ++ behind
-  pub count : length behind ≡ place_of e
+  pub count : length behind ≡ fail_place e
   pub begins : Begins (front ++ follows)
   pub why : Follows [] e front behind follows
 

@@ -12,7 +12,7 @@ use Rattle.std.proofs.lemmas.List.Sorted.{IsPermutation-sym}
 use Rattle.eql_values.specs.declared.order.OrderKey.{OrderKey}
 use Rattle.eql_values.specs.declared.item.Route.{Route}
 use Rattle.eql_values.specs.declared.value.Value.{Value}
-use Rattle.eql_values.specs.Matching.{act_by}
+use Rattle.eql_values.specs.Matching.{key_event_by}
 use Rattle.eql_auto.specs.Machine.{Machine, tags_of}
 use Rattle.eql_span_list.specs.declared.node.Ticket.{Ticket}
 use Rattle.eql_span_list.specs.Entries.{HasDistinctTickets, HasTicket}
@@ -97,7 +97,7 @@ module _ (m : ℕ) (span : Option ℤ) (es : List (Row Ticket)) (order : OrderKe
               let past = past_slots w.slots k s is in
               let len = played.stages in let are = is_of.stages_are in
               still_filled route.key machine.slots is_of.filled order played.begun s
-              (after_comes order played.begun machine.slots s machine.span (act_by order route) k refl (sym (played.sequences k past.0 (omega arith)) ∙ is));
+              (after_comes order played.begun machine.slots s machine.span (key_event_by order route) k refl (sym (played.sequences k past.0 (omega arith)) ∙ is));
         }
 
     -- the list names the pending sequences
@@ -110,7 +110,7 @@ module _ (m : ℕ) (span : Option ℤ) (es : List (Row Ticket)) (order : OrderKe
         let past = past_slots w.slots k s is in
         let len = played.stages in let are = is_of.stages_are in
         same_start route.key machine.slots is_of.filled order route played.begun s refl
-        (after_comes order played.begun machine.slots s machine.span (act_by order route) k refl (sym (played.sequences k past.0 (omega arith)) ∙ is)))
+        (after_comes order played.begun machine.slots s machine.span (key_event_by order route) k refl (sym (played.sequences k past.0 (omega arith)) ∙ is)))
         (subst (λ (l : List Ticket). LeaveList (l ++ tags_of machine.slots) (tags_of w.slots) (list ++ news) after) (sym (begun_tickets order route played.begun)) played.left)
         is_of.differ played.distinct (joined played.begun played.distinct)
 

@@ -6,11 +6,11 @@ use Rattle.std.specs.Option.{option_map}
 use Rattle.std.proofs.lemmas.List.Elements.{All-head, All-tail}
 use Rattle.eql_values.specs.declared.order.OrderKey.{OrderKey}
 use Rattle.eql_values.specs.declared.value.Value.{Value}
-use Rattle.eql_values.specs.declared.item.Act.{Act}
+use Rattle.eql_values.specs.declared.item.KeyEvent.{KeyEvent}
 use Rattle.eql_values.specs.declared.item.Route.{Route}
 use Rattle.eql_values.specs.declared.found.Match.{Match}
 use Rattle.eql_values.specs.Chains.{fits_after}
-use Rattle.eql_values.specs.Matching.{act_by}
+use Rattle.eql_values.specs.Matching.{key_event_by}
 use Rattle.eql_values.specs.Ordered.{found_or}
 use Rattle.eql_values.specs.Orders.{key_cmp, key_eq}
 use Rattle.eql_values.proofs.InOrder.{both_none}
@@ -29,15 +29,15 @@ no_slots k = None
 
 module _ (span : Option ℤ) where
   -- nothing comes to a key without sequences by an event that begins none
-  none_comes : (act : Act) → fits_after 0 act ≡ false → (k : ℕ) → chain_coming span no_slots act k ≡ None
-  none_comes act none zero = refl
-  none_comes act none (suc zero) = ap (λ (b : Bool). cond b (Some (act.order ∷ [])) None) none
-  none_comes act none (suc (suc k)) = both_none (fits_after (suc k) act && not act.until)
+  none_comes : (key_event : KeyEvent) → fits_after 0 key_event ≡ false → (k : ℕ) → chain_coming span no_slots key_event k ≡ None
+  none_comes key_event none zero = refl
+  none_comes key_event none (suc zero) = ap (λ (b : Bool). cond b (Some (key_event.order ∷ [])) None) none
+  none_comes key_event none (suc (suc k)) = both_none (fits_after (suc k) key_event && not key_event.until)
 
-  none_after : (act : Act) → fits_after 0 act ≡ false → (k : ℕ) → slots_after span no_slots act k ≡ None
-  none_after act none k =
-      ap (λ (o : Option (List OrderKey)). found_or o (cond (fits_after k act || act.until) None None)) (none_comes act none k)
-      ∙ both_none (fits_after k act || act.until)
+  none_after : (key_event : KeyEvent) → fits_after 0 key_event ≡ false → (k : ℕ) → slots_after span no_slots key_event k ≡ None
+  none_after key_event none k =
+      ap (λ (o : Option (List OrderKey)). found_or o (cond (fits_after k key_event || key_event.until) None None)) (none_comes key_event none k)
+      ∙ both_none (fits_after k key_event || key_event.until)
 
 module _ {X : Type 0} (span : Option ℤ) where
   module _ (es : List (Row X)) (order : OrderKey) where
@@ -48,8 +48,8 @@ module _ {X : Type 0} (span : Option ℤ) where
         let here = All-head (IsIdle es) route routes idle in
         let to_match = λ (o : Option (List OrderKey)). option_map (λ (c : List OrderKey). record { key = route.key; chain = c }) o in
         let none : match_there m span (slots_in es) order route ≡ None =
-        ap (λ (o : Option (Machine X)). to_match (chain_coming span (slots_of o) (act_by order route) m)) here.1
-        ∙ ap to_match (none_comes span (act_by order route) here.0 m) in
+        ap (λ (o : Option (Machine X)). to_match (chain_coming span (slots_of o) (key_event_by order route) m)) here.1
+        ∙ ap to_match (none_comes span (key_event_by order route) here.0 m) in
         ap (λ (o : Option Match). cons_option o (filter_map (match_there m span (slots_in es) order) routes)) none
         ∙ no_match m routes (All-tail (IsIdle es) route routes idle)
 
@@ -65,7 +65,7 @@ module _ {X : Type 0} (span : Option ℤ) where
         one true e rest =
             let here = All-head (IsIdle es) route routes idle in
             let none : machine_of es key ≡ None = ap (machine_of es) (key_same key route.key (is_equal (key_cmp key route.key) e)) ∙ here.1 in
-            subst (λ (o : Option (Machine X)). slots_of o k ≡ slots_after span (slots_of o) (act_by order route) k) (sym none) (sym (none_after span (act_by order route) here.0 k))
+            subst (λ (o : Option (Machine X)). slots_of o k ≡ slots_after span (slots_of o) (key_event_by order route) k) (sym none) (sym (none_after span (key_event_by order route) here.0 k))
         one false e rest = rest
 
 module _ {A B : Type 0} (f : A → Option B) where

@@ -11,10 +11,10 @@ use Rattle.std.specs.Ordering.{is_lt}
 use Rattle.eql_values.specs.declared.order.OrderKey.{OrderKey}
 use Rattle.eql_values.specs.declared.value.Value.{Value}
 use Rattle.eql_values.specs.declared.item.Route.{Route}
-use Rattle.eql_values.specs.declared.item.Act.{Act}
+use Rattle.eql_values.specs.declared.item.KeyEvent.{KeyEvent}
 use Rattle.eql_values.specs.Chains.{fits_after}
 use Rattle.eql_values.specs.Masks.{has_stage}
-use Rattle.eql_values.specs.Matching.{act_by}
+use Rattle.eql_values.specs.Matching.{key_event_by}
 use Rattle.eql_values.specs.Orders.{key_cmp, key_eq}
 use Rattle.eql_values.specs.Routes.{RoutesAreInOrder}
 use Rattle.eql_laws.specs.OneEvent.{slots_after_event}
@@ -77,7 +77,7 @@ later_same key (route ∷ routes) start cur new h others same =
 
 -- what is left to do to a key, one route on
 pub one_on : (m : ℕ) (span : Option ℤ) (order : OrderKey) (route : Route) (routes : List Route) (cur new : List (Row Ticket)) → RoutesAreInOrder (route ∷ routes) → KeepsOtherKeys route.key cur new
-    → ((k : ℕ) → 1 ≤ k → k < m → slots_in new route.key k ≡ slots_after span (slots_in cur route.key) (act_by order route) k)
+    → ((k : ℕ) → 1 ≤ k → k < m → slots_in new route.key k ≡ slots_after span (slots_in cur route.key) (key_event_by order route) k)
     → (key : List Value) (k : ℕ) → suc k < m
     → slots_after_event span order (find (λ (r : Route). key_eq key r.key) routes) (slots_in new key) (suc k) ≡ slots_after_event span order (find (λ (r : Route). key_eq key r.key) (route ∷ routes)) (slots_in cur key) (suc k)
 one_on m span order route routes cur new in_order others moved key k lt = by (key_eq key route.key) refl
@@ -91,28 +91,28 @@ one_on m span order route routes cur new in_order others moved key k lt = by (ke
         ap (λ (o : Option Route). slots_after_event span order o (slots_in new key) (suc k)) (none_found route.key key routes same (later_keys route routes in_order))
         ∙ ap (λ (q : List Value). slots_in new q (suc k)) same
         ∙ moved (suc k) (omega arith) lt
-        ∙ ap (λ (q : List Value). slots_after span (slots_in cur q) (act_by order route) (suc k)) (sym same)
+        ∙ ap (λ (q : List Value). slots_after span (slots_in cur q) (key_event_by order route) (suc k)) (sym same)
     by false e = ap (λ (o : Option (Machine Ticket)). slots_after_event span order rest (slots_of o) (suc k)) (others key (turn_round key route.key e))
 
 -- a chain comes to the last stage only where the mask has it
-pub keyed_if_completed : (m : ℕ) (span : Option ℤ) (slots : Slots) (act : Act) (q : List Value) (key : Option (List Value)) (completed : Option (List OrderKey))
-    → key ≡ cond (has_stage act.mask m) (Some q) None → completed ≡ chain_coming span slots act m → IfSome completed (λ _. IsSome key)
-keyed_if_completed zero span slots act q key completed has is = subst (λ (o : Option (List OrderKey)). IfSome o (λ _. IsSome key)) (sym is) tt
-keyed_if_completed (suc zero) span slots act q key completed has is =
-    subst (λ (o : Option (List OrderKey)). IfSome o (λ _. IsSome key)) (sym is) (by (fits_after 0 act) has)
+pub keyed_if_completed : (m : ℕ) (span : Option ℤ) (slots : Slots) (key_event : KeyEvent) (q : List Value) (key : Option (List Value)) (completed : Option (List OrderKey))
+    → key ≡ cond (has_stage key_event.mask m) (Some q) None → completed ≡ chain_coming span slots key_event m → IfSome completed (λ _. IsSome key)
+keyed_if_completed zero span slots key_event q key completed has is = subst (λ (o : Option (List OrderKey)). IfSome o (λ _. IsSome key)) (sym is) tt
+keyed_if_completed (suc zero) span slots key_event q key completed has is =
+    subst (λ (o : Option (List OrderKey)). IfSome o (λ _. IsSome key)) (sym is) (by (fits_after 0 key_event) has)
   where
-    by : (b : Bool) → key ≡ cond b (Some q) None → IfSome (cond b (Some (act.order ∷ [])) None) (λ _. IsSome key)
+    by : (b : Bool) → key ≡ cond b (Some q) None → IfSome (cond b (Some (key_event.order ∷ [])) None) (λ _. IsSome key)
     by true e = subst IsSome (sym e) refl
     by false e = tt
-keyed_if_completed (suc (suc k)) span slots act q key completed has is =
-    subst (λ (o : Option (List OrderKey)). IfSome o (λ _. IsSome key)) (sym is) (by (fits_after (suc k) act) (not act.until) has)
+keyed_if_completed (suc (suc k)) span slots key_event q key completed has is =
+    subst (λ (o : Option (List OrderKey)). IfSome o (λ _. IsSome key)) (sym is) (by (fits_after (suc k) key_event) (not key_event.until) has)
   where
     some_key : (o : Option (List OrderKey)) → IsSome key → IfSome o (λ _. IsSome key)
     some_key None h = tt
     some_key (Some c) h = h
 
-    by : (b c : Bool) → key ≡ cond b (Some q) None → IfSome (cond (b && c) (chain_moved_on span (slots (suc k)) act) None) (λ _. IsSome key)
-    by true true e = some_key (chain_moved_on span (slots (suc k)) act) (subst IsSome (sym e) refl)
+    by : (b c : Bool) → key ≡ cond b (Some q) None → IfSome (cond (b && c) (chain_moved_on span (slots (suc k)) key_event) None) (λ _. IsSome key)
+    by true true e = some_key (chain_moved_on span (slots (suc k)) key_event) (subst IsSome (sym e) refl)
     by true false e = tt
     by false c e = tt
 

@@ -8,7 +8,7 @@ use Rattle.std.proofs.lemmas.List.{get_or_past, length-append}
 use Rattle.std.proofs.lemmas.List.Elements.{All-nil, All-cons}
 use Rattle.eql_values.specs.declared.order.OrderKey.{OrderKey}
 use Rattle.eql_values.specs.declared.value.Value.{Value}
-use Rattle.eql_values.specs.declared.item.Act.{Act}
+use Rattle.eql_values.specs.declared.item.KeyEvent.{KeyEvent}
 use Rattle.eql_values.specs.declared.item.Route.{Route}
 use Rattle.eql_values.specs.Chains.{fits_after, in_time}
 use Rattle.eql_values.specs.Ordered.{found_or}
@@ -50,15 +50,15 @@ module _ (order : OrderKey) (tag : Option Ticket) (slots : List (Option (Sequenc
       timely true f = inl (j, r, e, inr cc)
       timely false f = kept f
 
-  pub after_comes : (span : Option ℤ) (act : Act) (k : ℕ) → act.order ≡ order → slot_after span tag act slots k ≡ Some s → ComesFrom order tag slots s
-  after_comes span act zero e is = kept_one (fits_after 0 act || act.until) 0 is
-  after_comes span act (suc zero) e is =
-      begun_one (fits_after 0 act) tag (cond (fits_after 1 act || act.until) None (slot_at slots 1)) refl (kept_one (fits_after 1 act || act.until) 1)
-      (subst (λ (x : OrderKey). found_or (cond (fits_after 0 act) (option_map (λ (t : Ticket). (x ∷ [], t)) tag) None) (cond (fits_after 1 act || act.until) None (slot_at slots 1)) ≡ Some s) e is)
-  after_comes span act (suc (suc k)) e is =
-      went_one (fits_after (suc k) act && not act.until) span (suc k) (slot_at slots (suc k)) (cond (fits_after (suc (suc k)) act || act.until) None (slot_at slots (suc (suc k)))) refl
-      (kept_one (fits_after (suc (suc k)) act || act.until) (suc (suc k)))
-      (subst (λ (x : OrderKey). found_or (cond (fits_after (suc k) act && not act.until) (went_on span x (slot_at slots (suc k))) None) (cond (fits_after (suc (suc k)) act || act.until) None (slot_at slots (suc (suc k)))) ≡ Some s) e is)
+  pub after_comes : (span : Option ℤ) (key_event : KeyEvent) (k : ℕ) → key_event.order ≡ order → slot_after span tag key_event slots k ≡ Some s → ComesFrom order tag slots s
+  after_comes span key_event zero e is = kept_one (fits_after 0 key_event || key_event.until) 0 is
+  after_comes span key_event (suc zero) e is =
+      begun_one (fits_after 0 key_event) tag (cond (fits_after 1 key_event || key_event.until) None (slot_at slots 1)) refl (kept_one (fits_after 1 key_event || key_event.until) 1)
+      (subst (λ (x : OrderKey). found_or (cond (fits_after 0 key_event) (option_map (λ (t : Ticket). (x ∷ [], t)) tag) None) (cond (fits_after 1 key_event || key_event.until) None (slot_at slots 1)) ≡ Some s) e is)
+  after_comes span key_event (suc (suc k)) e is =
+      went_one (fits_after (suc k) key_event && not key_event.until) span (suc k) (slot_at slots (suc k)) (cond (fits_after (suc (suc k)) key_event || key_event.until) None (slot_at slots (suc (suc k)))) refl
+      (kept_one (fits_after (suc (suc k)) key_event || key_event.until) (suc (suc k)))
+      (subst (λ (x : OrderKey). found_or (cond (fits_after (suc k) key_event && not key_event.until) (went_on span x (slot_at slots (suc k))) None) (cond (fits_after (suc (suc k)) key_event || key_event.until) None (slot_at slots (suc (suc k)))) ≡ Some s) e is)
 
 -- one more event at the end doesn't change the first
 same_first : (c : List OrderKey) (order : OrderKey) → 1 ≤ length c → first_time (c ++ order ∷ []) ≡ first_time c

@@ -14,7 +14,7 @@ use Rattle.eql_values.specs.declared.value.Value.{Value}
 use Rattle.eql_values.specs.declared.item.Route.{Route}
 use Rattle.eql_values.specs.declared.item.Item.{Item}
 use Rattle.eql_values.specs.Orders.{key_cmp, key_eq}
-use Rattle.eql_values.specs.Matching.{act_by, opening_of, matches, after}
+use Rattle.eql_values.specs.Matching.{key_event_by, opening_of, matches, after}
 use Rattle.eql_laws.specs.Alive.{AfterIsInOrder, AliveAreInOrder, AliveLooksUp, alive_at, alive_holders}
 use Rattle.eql_laws.specs.OneEvent.{slots_after_event, AfterHasNoOther, HoldersAreSame, OneItemMatches, OneItemMovesSlots}
 use Rattle.eql_laws.specs.Slots.{chain_coming}
@@ -47,7 +47,7 @@ module _ {X : Type 0} where
     matches_are matches_one item =
         sym (matches_one m span (holders_in old) item
         ∙ (λ i. filter_map (λ (route : Route). option_map (λ c. record { key = route.key; chain = c })
-        (chain_coming span (λ j. looks_up old order_old route.key j i) (act_by item.order route) m)) item.routes))
+        (chain_coming span (λ j. looks_up old order_old route.key j i) (key_event_by item.order route) m)) item.routes))
 
     -- machines whose slots moved by the event, each by the route of its key, have what is pending after the event
     module _ (same_holders : HoldersAreSame) (after_in_order : AfterIsInOrder) (after_one : OneItemMovesSlots) (after_has_no_other : AfterHasNoOther)

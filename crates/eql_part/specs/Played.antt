@@ -3,7 +3,7 @@ use Rattle.std.specs.Prelude.{◌≡◌, ◌≤◌, ◌<◌, ◌++◌, ℕ, List
 use Rattle.std.specs.Option.{option_to_list}
 use Rattle.eql_values.specs.declared.order.OrderKey.{OrderKey}
 use Rattle.eql_values.specs.declared.item.Route.{Route}
-use Rattle.eql_values.specs.Matching.{act_by}
+use Rattle.eql_values.specs.Matching.{key_event_by}
 use Rattle.eql_auto.specs.Machine.{Machine, slot_after, slot_at, tags_of}
 use Rattle.eql_span_list.specs.declared.node.Ticket.{Ticket}
 use Rattle.eql_span_list.specs.Entries.{HasDistinctTickets, HasTicket}
@@ -20,6 +20,6 @@ pub record IsPlayed (m : ℕ) (order : OrderKey) (route : Route) (old new : Mach
   pub span : new.span ≡ old.span
   pub stages : length new.slots ≡ length old.slots
   pub read : new.gone ≡ []
-  pub sequences : (k : ℕ) → 1 ≤ k → k < m → slot_at new.slots k ≡ slot_after old.span begun (act_by order route) old.slots k
+  pub sequences : (k : ℕ) → 1 ≤ k → k < m → slot_at new.slots k ≡ slot_after old.span begun (key_event_by order route) old.slots k
   pub distinct : HasDistinctTickets (list ++ begun_by order route begun)
   pub left : LeaveList (option_to_list begun ++ tags_of old.slots) (tags_of new.slots) (list ++ begun_by order route begun) after

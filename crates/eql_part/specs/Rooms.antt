@@ -80,8 +80,8 @@ module _ {L : Type 0} where
   abbrev pub place_by : (under : ℕ → Option ℕ) (other : List Value → Option ℕ) → List (Room L) → List Value → Option ℕ
   place_by under other rooms key = cond (is_there rooms (under (key_hash key)) key) (under (key_hash key)) (other key)
 
-  abbrev pub place_of : KeyTable L → List Value → Option ℕ
-  place_of t = place_by (under_of t.by_hash) (get key_cmp t.others) t.rooms.items
+  abbrev pub room_of_key : KeyTable L → List Value → Option ℕ
+  room_of_key t = place_by (under_of t.by_hash) (get key_cmp t.others) t.rooms.items
 
   -- a room's key with its machine
   abbrev pub row_of : Room L → Option (List Value × Machine Ticket)

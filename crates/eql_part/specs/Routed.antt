@@ -7,7 +7,7 @@ use Rattle.eql_values.specs.declared.item.Route.{Route}
 use Rattle.eql_values.specs.declared.found.Match.{Match}
 use Rattle.eql_values.specs.declared.value.Value.{Value}
 use Rattle.eql_values.specs.Masks.{has_after, has_stage}
-use Rattle.eql_values.specs.Matching.{act_by}
+use Rattle.eql_values.specs.Matching.{key_event_by}
 use Rattle.eql_laws.specs.Slots.{Slots, chain_coming}
 use Rattle.eql_span_list.specs.declared.node.Ticket.{Ticket}
 use Rattle.eql_part.specs.declared.prepared.Prepared.{Prepared}
@@ -37,4 +37,4 @@ tickets_in = filter_map (λ ready. ready.begun)
 
 -- the match that comes to the last stage of a route's key
 abbrev pub match_there : ℕ → Option ℤ → (List Value → Slots) → OrderKey → Route → Option Match
-match_there m span slots order route = option_map (λ c. record { key = route.key; chain = c }) (chain_coming span (slots route.key) (act_by order route) m)
+match_there m span slots order route = option_map (λ c. record { key = route.key; chain = c }) (chain_coming span (slots route.key) (key_event_by order route) m)

@@ -2,7 +2,7 @@
 ghost use Rattle.std.specs.Prelude.{◌≡◌, ℕ, ◌+◌, ◌-◌, ◌<◌, ◌≤◌, ◌++◌, ◌∷◌, [], All, IfOk, OnErr, IsTrue, None, Some, is_some, length, map, replicate, slice_set, IsPermutation, MatchOption, true, false};
 ghost use Rattle.std.specs.Option.{option_to_list};
 ghost use Rattle.eql_values.specs.Masks.{has_after};
-ghost use Rattle.eql_values.specs.Matching.{act_by};
+ghost use Rattle.eql_values.specs.Matching.{key_event_by};
 ghost use Rattle.eql_laws.specs.Slots.{chain_coming, slots_after};
 ghost use Rattle.eql_auto.specs.Machine.{ComesAfter, alive_in, chains_of, slot_after, slot_at, stages, tags_of};
 ghost use Rattle.eql_auto.specs.Starts.{first_event};
@@ -90,11 +90,12 @@ impl<L: Ledger> KeyMachine<L> {
         ensures stages { length self.new.slots ≡ length self.old.slots }
         ensures read { self.new.gone ≡ [] }
         ensures sequences { (k : ℕ) → 1 ≤ k → k < stages self.old → slot_at self.new.slots k
-            ≡ slot_after self.old.span tag (act_by order route.now) self.old.slots k }
+            ≡ slot_after self.old.span tag (key_event_by order route.now) self.old.slots k }
         ensures slots { (k : ℕ) → 1 ≤ k → k < stages self.old → chains_of self.new.slots k
-            ≡ slots_after self.old.span (chains_of self.old.slots) (act_by order route.now) k }
+            ≡ slots_after self.old.span (chains_of self.old.slots)
+            (key_event_by order route.now) k }
         ensures answer { result ≡ chain_coming self.old.span (chains_of self.old.slots)
-            (act_by order route.now) (stages self.old) }
+            (key_event_by order route.now) (stages self.old) }
         ensures list { LeaveList (option_to_list tag ++ tags_of self.old.slots)
             (tags_of self.new.slots) list.old list.new }
         ensures probes { steps.new ≤ steps.old + probes_of (stages self.old) route.now }

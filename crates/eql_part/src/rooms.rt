@@ -2,7 +2,7 @@
 ghost use Rattle.std.specs.Prelude.{◌≡◌, ◌≤◌, None, Some, IfOk, IsTrue, OnErr, OnOk, false};
 ghost use Rattle.eql_part.specs.Hashes.{key_hash};
 ghost use Rattle.eql_part.specs.KeyTables.{AreOf, IsBusyAt, IsEmptyAt, IsReadyIn, KeepsOtherKeys, KeepsReady, KeepsSequences};
-ghost use Rattle.eql_part.specs.Rooms.{IsTable, entries_of, place_of};
+ghost use Rattle.eql_part.specs.Rooms.{IsTable, entries_of, room_of_key};
 
 use crate::hash::hash_of;
 use crate::table::KeyTable;
@@ -34,10 +34,10 @@ pub(crate) fn add_machine<L: Ledger>(
     requires of { AreOf shape.stages shape.span (entries_of machines.old) }
     requires table { IsTable shape.stages shape.span machines.old }
     requires hash { hash ≡ key_hash key.now }
-    requires absent { place_of machines.old key.now ≡ None }
+    requires absent { room_of_key machines.old key.now ≡ None }
     ensures of { AreOf shape.stages shape.span (entries_of machines.new) }
     ensures table { IsTable shape.stages shape.span machines.new }
-    ensures there { IfOk result (λ place. place_of machines.new key.now ≡ Some place) }
+    ensures there { IfOk result (λ place. room_of_key machines.new key.now ≡ Some place) }
     ensures others { KeepsOtherKeys key.now (entries_of machines.old) (entries_of machines.new) }
     ensures sequences { KeepsSequences (entries_of machines.old) (entries_of machines.new) }
     ensures ready { KeepsReady (entries_of machines.old) (entries_of machines.new) }
@@ -58,7 +58,7 @@ fn find_or_add<L: Ledger>(
     requires table { IsTable shape.stages shape.span machines.old }
     ensures of { AreOf shape.stages shape.span (entries_of machines.new) }
     ensures table { IsTable shape.stages shape.span machines.new }
-    ensures there { IfOk result (λ place. place_of machines.new key.now ≡ Some place) }
+    ensures there { IfOk result (λ place. room_of_key machines.new key.now ≡ Some place) }
     ensures others { KeepsOtherKeys key.now (entries_of machines.old) (entries_of machines.new) }
     ensures sequences { KeepsSequences (entries_of machines.old) (entries_of machines.new) }
     ensures ready { KeepsReady (entries_of machines.old) (entries_of machines.new) }
@@ -79,7 +79,7 @@ fn ready_machine<L: Ledger>(
 ) -> Result<(), Memory>
     requires of { AreOf shape.stages shape.span (entries_of machines.old) }
     requires table { IsTable shape.stages shape.span machines.old }
-    requires there { place_of machines.old key.now ≡ Some place }
+    requires there { room_of_key machines.old key.now ≡ Some place }
     ensures of { AreOf shape.stages shape.span (entries_of machines.new) }
     ensures table { IsTable shape.stages shape.span machines.new }
     ensures there { OnOk result (IsReadyIn (entries_of machines.new) key.now) }
@@ -122,7 +122,7 @@ pub(crate) fn settle<L: Ledger>(
 )
     requires of { AreOf shape.stages shape.span (entries_of machines.old) }
     requires table { IsTable shape.stages shape.span machines.old }
-    requires there { place_of machines.old key.now ≡ Some place }
+    requires there { room_of_key machines.old key.now ≡ Some place }
     requires empty { IsTrue is_empty → IsEmptyAt (entries_of machines.old) key.now }
     requires busy { is_empty ≡ false → IsBusyAt (entries_of machines.old) key.now }
     ensures of { AreOf shape.stages shape.span (entries_of machines.new) }
@@ -139,7 +139,7 @@ pub(crate) fn settle<L: Ledger>(
 /// Whether the machine of a key whose room is at a place has no sequence.
 fn is_empty_at<L: Ledger>(machines: &KeyTable<L>, shape: Shape, key: &Key, place: usize) -> bool
     requires table { IsTable shape.stages shape.span machines.now }
-    requires there { place_of machines.now key.now ≡ Some place }
+    requires there { room_of_key machines.now key.now ≡ Some place }
     ensures empty { IsTrue result → IsEmptyAt (entries_of machines.now) key.now }
     ensures busy { result ≡ false → IsBusyAt (entries_of machines.now) key.now }
 {
@@ -156,7 +156,7 @@ pub(crate) fn drop_empty_at<L: Ledger>(
 )
     requires of { AreOf shape.stages shape.span (entries_of machines.old) }
     requires table { IsTable shape.stages shape.span machines.old }
-    requires there { place_of machines.old key.now ≡ Some place }
+    requires there { room_of_key machines.old key.now ≡ Some place }
     ensures of { AreOf shape.stages shape.span (entries_of machines.new) }
     ensures table { IsTable shape.stages shape.span machines.new }
     ensures sequences { KeepsSequences (entries_of machines.old) (entries_of machines.new) }

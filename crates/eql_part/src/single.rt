@@ -4,7 +4,7 @@ ghost use Rattle.std.specs.Option.{option_map, option_to_list};
 ghost use Rattle.eql_values.specs.declared.value.Value.{Value};
 ghost use Rattle.eql_values.specs.declared.item.Route.{Route};
 ghost use Rattle.eql_values.specs.Masks.{has_stage};
-ghost use Rattle.eql_values.specs.Matching.{act_by};
+ghost use Rattle.eql_values.specs.Matching.{key_event_by};
 ghost use Rattle.eql_values.specs.Orders.{key_eq};
 ghost use Rattle.eql_laws.specs.OneEvent.{slots_after_event};
 ghost use Rattle.eql_laws.specs.Slots.{chain_coming, slots_after};
@@ -14,7 +14,7 @@ ghost use Rattle.eql_part.specs.KeyTables.{AreBusy, AreOf, IsBusyAt, IsEmptyAt, 
 ghost use Rattle.eql_part.specs.Links.{IsLinked};
 ghost use Rattle.eql_part.specs.Played.{IsPlayed, Joins};
 ghost use Rattle.eql_part.specs.Routed.{match_there};
-ghost use Rattle.eql_part.specs.Rooms.{IsTable, entries_of, place_of};
+ghost use Rattle.eql_part.specs.Rooms.{IsTable, entries_of, room_of_key};
 
 use crate::hash::hash_of;
 use crate::listing::{Start, tickets_differ};
@@ -74,10 +74,10 @@ fn play_machine<L: Ledger>(
         machine.old machine.new list.old list.new) }
     ensures slots { OnOk result ((k : ℕ) → 1 ≤ k → k < shape.stages
         → chains_of machine.new.slots k
-        ≡ slots_after shape.span (chains_of machine.old.slots) (act_by order route.now) k) }
+        ≡ slots_after shape.span (chains_of machine.old.slots) (key_event_by order route.now) k) }
     ensures found { IfOk result (λ played. played.found.items ≡ option_to_list (option_map
         (λ c. record { key = route.now.key; chain = c }) (chain_coming shape.span
-        (chains_of machine.old.slots) (act_by order route.now) shape.stages))) }
+        (chains_of machine.old.slots) (key_event_by order route.now) shape.stages))) }
     ensures empty { IfOk result (λ played. IsTrue played.is_empty
         → tags_of machine.new.slots ≡ []) }
     ensures busy { IfOk result (λ played. played.is_empty ≡ false
@@ -119,7 +119,7 @@ fn room_for<L: Ledger>(
         (IsIdle (entries_of machines.old) route.now
         × (entries_of machines.new ≡ entries_of machines.old))) }
     ensures there { IfOk result (λ place. IfSome place
-        (λ place. place_of machines.new route.now.key ≡ Some place)) }
+        (λ place. room_of_key machines.new route.now.key ≡ Some place)) }
     ensures unchanged { OnErr result (entries_of machines.new ≡ entries_of machines.old) }
 {
     match machines.find(hash, &route.key) {
@@ -148,18 +148,18 @@ fn play_there<L: Ledger>(
     requires to { shape.stages ≤ 256 }
     requires of { AreOf shape.stages shape.span (entries_of machines.old) }
     requires table { IsTable shape.stages shape.span machines.old }
-    requires there { place_of machines.old route.now.key ≡ Some place }
+    requires there { room_of_key machines.old route.now.key ≡ Some place }
     requires later { (key : List Value) → IsLaterAt order (entries_of machines.old) key }
     requires linked { IsLinked [] (sequences_in (entries_of machines.old)) list.old }
     ensures of { AreOf shape.stages shape.span (entries_of machines.new) }
     ensures table { IsTable shape.stages shape.span machines.new }
-    ensures there { place_of machines.new route.now.key ≡ Some place }
+    ensures there { room_of_key machines.new route.now.key ≡ Some place }
     ensures others { KeepsOtherKeys route.now.key (entries_of machines.old)
         (entries_of machines.new) }
     ensures slots { OnOk result ((k : ℕ) → 1 ≤ k → k < shape.stages
         → slots_in (entries_of machines.new) route.now.key k
         ≡ slots_after shape.span (slots_in (entries_of machines.old) route.now.key)
-        (act_by order route.now) k) }
+        (key_event_by order route.now) k) }
     ensures found { IfOk result (λ played. played.found.items
         ≡ option_to_list (match_there shape.stages shape.span
         (slots_in (entries_of machines.old)) order route.now)) }

@@ -8,7 +8,7 @@ ghost use Rattle.eql_values.specs.Orders.{key_cmp};
 ghost use Rattle.eql_part.specs.Hashes.{key_hash};
 ghost use Rattle.eql_part.specs.Indexed.{under_of};
 ghost use Rattle.eql_part.specs.KeyTables.{AreOf, IsEmptyAt};
-ghost use Rattle.eql_part.specs.Rooms.{AddsEmpty, AreUnsorted, Changes, HasKeyNow, IsNamed, IsTable, IsUnnamed, entries_of, is_key, key_at, lent_entry, place_of, rows_of};
+ghost use Rattle.eql_part.specs.Rooms.{AddsEmpty, AreUnsorted, Changes, HasKeyNow, IsNamed, IsTable, IsUnnamed, entries_of, is_key, key_at, lent_entry, room_of_key, rows_of};
 
 use crate::hash::hash_of;
 use crate::index::HashIndex;
@@ -85,7 +85,7 @@ impl<L: Ledger> KeyTable<L> {
     /// The place of a key's room, where it has one. The hash is the key's.
     pub fn find(&self, hash: u64, key: &Key) -> Option<usize>
         requires { hash ≡ key_hash key.now }
-        ensures { result ≡ place_of self.now key.now }
+        ensures { result ≡ room_of_key self.now key.now }
     {
         if let Some(place) = self.by_hash.find(hash) {
             if self.has_key(place, key) {
@@ -97,7 +97,7 @@ impl<L: Ledger> KeyTable<L> {
 
     /// The place of a key's room, where it has one.
     pub fn place(&self, key: &Key) -> Option<usize>
-        ensures { result ≡ place_of self.now key.now }
+        ensures { result ≡ room_of_key self.now key.now }
     {
         self.find(hash_of(key), key)
     }
@@ -122,7 +122,7 @@ impl<L: Ledger> KeyTable<L> {
         requires to { shape.stages ≤ 256 }
         requires table { IsTable shape.stages shape.span self.old }
         ensures table { IsTable shape.stages shape.span self.new }
-        ensures places { (q : List Value) → place_of self.new q ≡ place_of self.old q }
+        ensures places { (q : List Value) → room_of_key self.new q ≡ room_of_key self.old q }
         ensures entries { entries_of self.new ≡ entries_of self.old }
         ensures within { IfOk result (λ place. place < length self.new.rooms.items) }
         ensures spare { IfOk result (λ place. key_at self.new.rooms.items place ≡ None) }
@@ -143,7 +143,7 @@ impl<L: Ledger> KeyTable<L> {
         requires to { shape.stages ≤ 256 }
         requires table { IsTable shape.stages shape.span self.old }
         ensures table { IsTable shape.stages shape.span self.new }
-        ensures places { (q : List Value) → place_of self.new q ≡ place_of self.old q }
+        ensures places { (q : List Value) → room_of_key self.new q ≡ room_of_key self.old q }
         ensures entries { entries_of self.new ≡ entries_of self.old }
         ensures within { IfOk result (λ place. place < length self.new.rooms.items) }
         ensures spare { IfOk result (λ place. key_at self.new.rooms.items place ≡ None) }
@@ -191,9 +191,9 @@ impl<L: Ledger> KeyTable<L> {
         requires to { shape.stages ≤ 256 }
         requires hash { hash ≡ key_hash key.now }
         requires table { IsTable shape.stages shape.span self.old }
-        requires absent { place_of self.old key.now ≡ None }
+        requires absent { room_of_key self.old key.now ≡ None }
         ensures table { IsTable shape.stages shape.span self.new }
-        ensures there { IfOk result (λ place. place_of self.new key.now ≡ Some place) }
+        ensures there { IfOk result (λ place. room_of_key self.new key.now ≡ Some place) }
         ensures added { OnOk result (AddsEmpty shape.stages shape.span key.now
             (entries_of self.old) (entries_of self.new)) }
         ensures unchanged { OnErr result (entries_of self.new ≡ entries_of self.old) }
@@ -233,7 +233,7 @@ impl<L: Ledger> KeyTable<L> {
     pub fn remove(&mut self, shape: Shape, hash: u64, key: &Key, place: usize)
         requires table { IsTable shape.stages shape.span self.old }
         requires of { AreOf shape.stages shape.span (entries_of self.old) }
-        requires there { place_of self.old key.now ≡ Some place }
+        requires there { room_of_key self.old key.now ≡ Some place }
         requires empty { IsEmptyAt (entries_of self.old) key.now }
         ensures table { IsTable shape.stages shape.span self.new }
         ensures removed { Changes key.now None (entries_of self.old) (entries_of self.new) }

@@ -2,7 +2,7 @@
 ghost use Rattle.std.specs.Prelude.{◌≡◌, ℕ, ◌+◌, ◌<◌, ◌≤◌, ◌++◌, List, is_some};
 ghost use Rattle.eql_values.specs.Masks.{has_after};
 ghost use Rattle.eql_values.specs.Orders.{key_cmp};
-ghost use Rattle.eql_values.specs.Matching.{act_by};
+ghost use Rattle.eql_values.specs.Matching.{key_event_by};
 ghost use Rattle.eql_laws.specs.Slots.{chain_coming, slots_after};
 ghost use Rattle.eql_part.specs.KeyTables.{AreOf, IsBusyAt, IsLaterAt, IsReadyIn, KeepsOtherKeys, probes_of, sequences_in, slots_in};
 ghost use Rattle.eql_part.specs.Links.{IsLinked, Listed, begun_by};
@@ -42,9 +42,10 @@ fn turn_machine<L: Ledger>(
     ensures slots { (k : ℕ) → 1 ≤ k → k < shape.stages
         → slots_in (entries_of machines.new) route.now.key k
         ≡ slots_after shape.span (slots_in (entries_of machines.old) route.now.key)
-        (act_by order route.now) k }
+        (key_event_by order route.now) k }
     ensures answer { result ≡ chain_coming shape.span
-        (slots_in (entries_of machines.old) route.now.key) (act_by order route.now) shape.stages }
+        (slots_in (entries_of machines.old) route.now.key)
+        (key_event_by order route.now) shape.stages }
     ensures linked { (begun : List Listed) → IsLinked (begun_by order route.now tag ++ begun)
         (sequences_in (entries_of machines.old)) list.old
         → IsLinked begun (sequences_in (entries_of machines.new)) list.new }
@@ -85,9 +86,10 @@ pub(crate) fn turn_key<L: Ledger>(
     ensures slots { (k : ℕ) → 1 ≤ k → k < shape.stages
         → slots_in (entries_of machines.new) route.now.key k
         ≡ slots_after shape.span (slots_in (entries_of machines.old) route.now.key)
-        (act_by order route.now) k }
+        (key_event_by order route.now) k }
     ensures answer { result ≡ chain_coming shape.span
-        (slots_in (entries_of machines.old) route.now.key) (act_by order route.now) shape.stages }
+        (slots_in (entries_of machines.old) route.now.key)
+        (key_event_by order route.now) shape.stages }
     ensures linked { (begun : List Listed) → IsLinked (begun_by order route.now tag ++ begun)
         (sequences_in (entries_of machines.old)) list.old
         → IsLinked begun (sequences_in (entries_of machines.new)) list.new }

@@ -26,7 +26,7 @@ use Rattle.eql_runs.specs.CutRefusals.{FoundRefuses, damaged, head_damaged, head
 use Rattle.eql_runs.specs.Starts.{StandsFor, a_cut, bad_head, bad_text}
 use Rattle.eql_resume.specs.declared.finding.StartRefused.{StartRefused}
 use Rattle.eql_resume.specs.declared.finding.StartRefused.TheVariants as by
-use Rattle.eql_resume.specs.Finding.{HasCause, HasCutCause, HasFoundCause, IsRefusedBy, disk_holding, refused_by}
+use Rattle.eql_resume.specs.Finding.{HasResumeCause, HasCutCause, HasFoundCause, IsRefusedBy, disk_holding, refused_by}
 
 -- ---- what is found
 stands_for : (last : LastCut) (format : ℕ) (answer : Option Cut) (f : Found) → IsFound last format answer f
@@ -81,7 +81,7 @@ module _ (stages values : ℕ) (pipes : List Pipe) (head : CutHead) where
   }
 
   by_refusal : (e : CkRefused) (o : Option History) → IfDamaged e (λ number at. IfSome o (λ h. IsDamaged number at (found_on (seen_areas h.now))))
-      → IfSome o (λ h. HasCause (found_on (seen_areas h.now)) stages values pipes head (refused_by e))
+      → IfSome o (λ h. HasResumeCause (found_on (seen_areas h.now)) stages values pipes head (refused_by e))
   by_refusal e None is = tt
   by_refusal ck.DiskFault (Some h) is = tt
   by_refusal (ck.Damaged number at) (Some h) is = by_damage (found_on (seen_areas h.now)) number at is
@@ -99,9 +99,9 @@ module _ (stages values : ℕ) (pipes : List Pipe) (head : CutHead) where
 
   pub refused_there : (seen : (m : Moment) → IsImage m (seen_areas m)) (e : CkRefused) (r : StartRefused) (o p : Option History) → r ≡ refused_by e
       → IfDamaged e (λ number at. DiskTells KeepsAll o p) → IfDamaged e (λ number at. IfSome p (λ k. EachFinds (IsDamaged number at) k.now))
-      → IfSome o (λ h. HasCause (found_on (seen_areas h.now)) stages values pipes head r)
+      → IfSome o (λ h. HasResumeCause (found_on (seen_areas h.now)) stages values pipes head r)
   refused_there seen e r o p is kept each =
-      subst (λ (x : StartRefused). IfSome o (λ h. HasCause (found_on (seen_areas h.now)) stages values pipes head x)) (sym is)
+      subst (λ (x : StartRefused). IfSome o (λ h. HasResumeCause (found_on (seen_areas h.now)) stages values pipes head x)) (sym is)
       (by_refusal e o (damage_seen seen e o p kept each))
 
   -- a cut is refused
@@ -109,7 +109,7 @@ module _ (stages values : ℕ) (pipes : List Pipe) (head : CutHead) where
   misfit cut same bad fits = bad (subst (λ (h : CutHead). Fits (run_of stages values pipes h.slack) h.shards (kept_by cut)) (sym same) fits)
 
   by_cut : (format generation : ℕ) (cut : Cut) (f : Found) (r : StartRefused) → StandsFor (a_cut format generation cut) f
-      → HasCutCause stages values pipes head cut r → HasCause f stages values pipes head r
+      → HasCutCause stages values pipes head cut r → HasResumeCause f stages values pipes head r
   by_cut format generation cut f by.Disk stands is = tt
   by_cut format generation cut f (by.Damaged area at) stands is = absurd is
   by_cut format generation cut f (by.Differs d) stands is =
@@ -120,14 +120,14 @@ module _ (stages values : ℕ) (pipes : List Pipe) (head : CutHead) where
 
   by_found_cut : (format generation : ℕ) (cut : Option Cut) (r : StartRefused) (o : Option History) → HasFoundCause stages values pipes head cut r
       → IfSome o (λ h. StandsFor (disk_holding format generation cut) (found_on (seen_areas h.now)))
-      → IfSome o (λ h. HasCause (found_on (seen_areas h.now)) stages values pipes head r)
+      → IfSome o (λ h. HasResumeCause (found_on (seen_areas h.now)) stages values pipes head r)
   by_found_cut format generation None r o is stands = absurd is
   by_found_cut format generation (Some cut) r None is stands = tt
   by_found_cut format generation (Some cut) r (Some h) is stands = by_cut format generation cut (found_on (seen_areas h.now)) r stands is
 
   pub cut_refused : (seen : (m : Moment) → IsImage m (seen_areas m)) (found_cut : Recovered) (r : StartRefused) (o p : Option History) → DiskTells KeepsAll o p
       → IfSome p (λ k. EachFinds (IsAnswer found_cut) k.now) → HasFoundCause stages values pipes head found_cut.cut r
-      → IfSome o (λ h. HasCause (found_on (seen_areas h.now)) stages values pipes head r)
+      → IfSome o (λ h. HasResumeCause (found_on (seen_areas h.now)) stages values pipes head r)
   cut_refused seen found_cut r o p kept each is =
       by_found_cut found_cut.format (last_cut found_cut.state).generation found_cut.cut r o is (held_there seen found_cut o p kept each)
 

@@ -19,7 +19,7 @@ use Rattle.eql_laws.specs.Places.{ReadTo, is_line_end}
 use Rattle.eql_lane.specs.Noting.{IsWholeLine, line_place, place_among, placed_item, placed_lines, whole_lines}
 use Rattle.eql_cut.specs.declared.cut.Cut.{Cut}
 use Rattle.eql_cut.specs.Fitting.{run_of}
-use Rattle.eql_cut.specs.Placing.{NamesLine, lifted_cut, lifted_item, lifted_lane, place_in, place_of}
+use Rattle.eql_cut.specs.Placing.{NamesLine, lifted_cut, lifted_item, lifted_lane, place_in, listed_place}
 use Rattle.eql_cut.specs.Placed.{EachWasNoted, HasLine, WereNoted, place_of_line, with_places}
 use Rattle.eql_cut.specs.PlacedLaws.{EventsAreNamed, NotedIsPlaced, WantedWereNoted}
 use Rattle.eql_resume.specs.Beginnings.{AreWanted}
@@ -89,7 +89,7 @@ map_same f g (x ∷ xs) h =
     let e = All-head (λ y. f y ≡ g y) x xs h in let es = map_same f g xs (All-tail (λ y. f y ≡ g y) x xs h) in λ i. e i ∷ es i
 
 place_at : (lists : List (List (ℕ × ℕ))) (shard line : ℕ) (places : List (ℕ × ℕ)) → slice_get lists shard ≡ Some places
-    → place_of lists shard line ≡ place_in places line
+    → listed_place lists shard line ≡ place_in places line
 place_at [] shard line places is = absurd (none-some places is)
 place_at (l ∷ lists) zero line places is = ap (λ (x : List (ℕ × ℕ)). place_in x line) (same_Some l places is)
 place_at (l ∷ lists) (suc shard) line places is = place_at lists shard line places is
@@ -110,24 +110,24 @@ module _ (laws : LiftLaws) (stages values : ℕ) (pipes : List Pipe) (cut : Cut)
 
   placed_here : (lists : List (List (ℕ × ℕ))) (shard : ℕ) (r : ReadTo) (wanted : List ℕ) (places : List (ℕ × ℕ)) (item : Item)
       → slice_get lists shard ≡ Some places → places ≡ placed_lines r.first wanted → item.order.shard ≡ shard → Contains wanted item.order.line
-      → placed_item r.first item ≡ lifted_item (place_of lists) item
+      → placed_item r.first item ≡ lifted_item (listed_place lists) item
   placed_here lists shard r wanted places item is are same has =
       let line = item.order.line in
-      let e : line_place r.first line ≡ place_of lists item.order.shard line =
+      let e : line_place r.first line ≡ listed_place lists item.order.shard line =
       sym (found_place r.first wanted line has) ∙ ap (λ (x : List (ℕ × ℕ)). place_in x line) (sym are) ∙ sym (place_at lists shard line places is)
-      ∙ ap (λ (n : ℕ). place_of lists n line) (sym same) in
+      ∙ ap (λ (n : ℕ). listed_place lists n line) (sym same) in
       λ i. record {
         order = record { ts = item.order.ts; tie = item.order.tie; shard = item.order.shard; line = item.order.line; at = e i };
         routes = item.routes;
       }
 
   lane_placed : (lists : List (List (ℕ × ℕ))) (shard : ℕ) (r : ReadTo) (kept : LaneCut) (places : List (ℕ × ℕ)) → slice_get lists shard ≡ Some places
-      → (h : WasLifted cut shard r kept places) → kept ≡ lifted_lane (place_of lists) h.lane
+      → (h : WasLifted cut shard r kept places) → kept ≡ lifted_lane (listed_place lists) h.lane
   lane_placed lists shard r kept places is h =
-      let items : map (placed_item r.first) h.lane.items ≡ map (lifted_item (place_of lists)) h.lane.items =
-      map_same (placed_item r.first) (lifted_item (place_of lists)) h.lane.items
+      let items : map (placed_item r.first) h.lane.items ≡ map (lifted_item (listed_place lists)) h.lane.items =
+      map_same (placed_item r.first) (lifted_item (listed_place lists)) h.lane.items
       (All-weaker (λ (item : Item). (item.order.shard ≡ shard) × Contains h.wanted item.order.line)
-      (λ (item : Item). placed_item r.first item ≡ lifted_item (place_of lists) item)
+      (λ (item : Item). placed_item r.first item ≡ lifted_item (listed_place lists) item)
       (λ item own. placed_here lists shard r h.wanted places item is h.located.places_are own.0 own.1) h.lane.items
       (own_event shard h.lane h.wanted h.there h.are)) in
       h.kept_is
@@ -182,18 +182,18 @@ module _ (laws : LiftLaws) (stages values : ℕ) (pipes : List Pipe) (cut : Cut)
   lifted_length place (l ∷ lanes) = ap suc (lifted_length place lanes)
 
   lanes_placed : (shards : List ReadTo) (lanes : List LaneCut) (lists : List (List (ℕ × ℕ))) → length lanes ≡ length cut.lanes
-      → WereLifted cut 0 shards lanes lists → lanes ≡ (lifted_cut (place_of lists) cut).lanes
+      → WereLifted cut 0 shards lanes lists → lanes ≡ (lifted_cut (listed_place lists) cut).lanes
   lanes_placed shards lanes lists count h =
-      same_lists lanes (map (lifted_lane (place_of lists)) cut.lanes) (count ∙ sym (lifted_length (place_of lists) cut.lanes)) one
+      same_lists lanes (map (lifted_lane (listed_place lists)) cut.lanes) (count ∙ sym (lifted_length (listed_place lists) cut.lanes)) one
     where
-      one : (s : ℕ) (x y : LaneCut) → slice_get lanes s ≡ Some x → slice_get (map (lifted_lane (place_of lists)) cut.lanes) s ≡ Some y → x ≡ y
+      one : (s : ℕ) (x y : LaneCut) → slice_get lanes s ≡ Some x → slice_get (map (lifted_lane (listed_place lists)) cut.lanes) s ≡ Some y → x ≡ y
       one s x y is also =
           let o = one_at 0 shards lanes lists h s x is in
-          let l = lifted_at (place_of lists) cut.lanes s y also in
+          let l = lifted_at (listed_place lists) cut.lanes s y also in
           let z : 0 + s ≡ s = omega arith in
           let was = subst (λ (n : ℕ). WasLifted cut n o.r x o.places) z o.was in
           lane_placed lists s o.r x o.places o.is was
-          ∙ ap (lifted_lane (place_of lists)) (same_Some was.lane l.0 (sym was.there ∙ l.1)) ∙ sym l.2
+          ∙ ap (lifted_lane (listed_place lists)) (same_Some was.lane l.0 (sym was.there ∙ l.1)) ∙ sym l.2
 
   -- each list is of wanted lines with their places
   few_whole : (first rest : List ℕ) → whole_lines first rest ≤ length (lines_of first)

@@ -44,12 +44,12 @@ pub record IsRefusedBy (stages values : ℕ) (pipes : List Pipe) (head : CutHead
   pub stands : StandsFor on f
   pub refuses : FoundRefuses head (run_of stages values pipes head.slack) on r
 
-abbrev pub HasCause : Found → (stages values : ℕ) → List Pipe → CutHead → StartRefused → Type 0
-HasCause f stages values pipes head by.Disk = Unit {0}
-HasCause f stages values pipes head (by.Damaged area at) = IsRefusedBy stages values pipes head f (damaged area at)
-HasCause f stages values pipes head (by.Differs d) = IsRefusedBy stages values pipes head f (differs d)
-HasCause f stages values pipes head by.Unfit = IsRefusedBy stages values pipes head f unfit
-HasCause f stages values pipes head by.Memory = Unit {0}
+abbrev pub HasResumeCause : Found → (stages values : ℕ) → List Pipe → CutHead → StartRefused → Type 0
+HasResumeCause f stages values pipes head by.Disk = Unit {0}
+HasResumeCause f stages values pipes head (by.Damaged area at) = IsRefusedBy stages values pipes head f (damaged area at)
+HasResumeCause f stages values pipes head (by.Differs d) = IsRefusedBy stages values pipes head f (differs d)
+HasResumeCause f stages values pipes head by.Unfit = IsRefusedBy stages values pipes head f unfit
+HasResumeCause f stages values pipes head by.Memory = Unit {0}
 
 -- why a cut isn't one of a run of this head
 abbrev pub HasCutCause : (stages values : ℕ) → List Pipe → CutHead → Cut → StartRefused → Type 0

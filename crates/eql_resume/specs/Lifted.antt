@@ -5,7 +5,7 @@ use Rattle.eql_values.specs.declared.cut.Pipe.{Pipe}
 use Rattle.eql_laws.specs.Places.{ReadTo, whole}
 use Rattle.eql_lane.specs.Noting.{Locates, placed_cut}
 use Rattle.eql_cut.specs.declared.cut.Cut.{Cut}
-use Rattle.eql_cut.specs.Placing.{LinesAscend, lifted_cut, place_of}
+use Rattle.eql_cut.specs.Placing.{LinesAscend, lifted_cut, listed_place}
 use Rattle.eql_cut.specs.Placed.{cut_at_places}
 use Rattle.eql_resume.specs.Beginnings.{AreWanted}
 use Rattle.eql_resume.specs.Finding.{Suits}
@@ -30,8 +30,8 @@ WereLifted cut shard _ _ _ = ⊥
 -- what the lanes keep is what the cut does once it has their places; and these are the places of the whole texts
 pub record LiftsAs (cut : Cut) (shards : List ReadTo) (lanes : List LaneCut) (lists : List (List (ℕ × ℕ))) : Type 0 where
   pub ascend : LinesAscend lists
-  pub lanes_are : lanes ≡ (lifted_cut (place_of lists) cut).lanes
-  pub placed_is : lifted_cut (place_of lists) cut ≡ cut_at_places (map whole shards) cut
+  pub lanes_are : lanes ≡ (lifted_cut (listed_place lists) cut).lanes
+  pub placed_is : lifted_cut (listed_place lists) cut ≡ cut_at_places (map whole shards) cut
 
 -- of a cut that suits a run
 abbrev pub LiftedIsCut : Type 0

@@ -1,6 +1,6 @@
 //! What lanes, parts and a book begin with, taken out of a cut.
 ghost use Rattle.std.specs.Prelude.{◌≡◌, ℕ, List, IfOk, IfSome, false, length, map, true};
-ghost use Rattle.eql_cut.specs.Placing.{IsUnplaced, LinesAscend, orders_in, place_of};
+ghost use Rattle.eql_cut.specs.Placing.{IsUnplaced, LinesAscend, orders_in, listed_place};
 ghost use Rattle.eql_lane.specs.declared.make.LaneStart.TheVariants.{From as FromCut};
 ghost use Rattle.eql_resume.specs.Beginnings.{LanesBegin, WantedAre, fresh_rest, fresh_starts, lifts_of, placed_if, rest_by, rest_of, rest_orders};
 ghost use Rattle.eql_resume.specs.Finding.{Suits};
@@ -195,7 +195,7 @@ impl Pending {
     /// The same, with the places of its lines where it has none yet: those of the list of each shard.
     pub fn place(self, alloc: Global, places: PlaceLists) -> Result<Pending, Memory>
         requires ascend { LinesAscend places }
-        ensures { IfOk result (λ rest. rest ≡ placed_if self.unplaced (place_of places) self) }
+        ensures { IfOk result (λ rest. rest ≡ placed_if self.unplaced (listed_place places) self) }
     {
         if !self.unplaced {
             return Ok(self);

@@ -11,7 +11,7 @@ ghost use Rattle.eql_ckdisk.specs.Going.{Goes};
 ghost use Rattle.eql_ckdisk.specs.Keeping.{KeepsAll, LeavesNoMore};
 ghost use Rattle.eql_ckdisk.specs.Putting.{Stands, last_cut};
 ghost use Rattle.eql_runs.specs.Starts.{StandsFor};
-ghost use Rattle.eql_resume.specs.Finding.{HasCause, HasCutCause, HasFoundCause, Suits, on_of, refused_by};
+ghost use Rattle.eql_resume.specs.Finding.{HasResumeCause, HasCutCause, HasFoundCause, Suits, on_of, refused_by};
 
 use eql_ckdisk::{CkRefused, CkState, recover};
 use eql_cut::{Cut, CutHead, Differs, agree, first_format_has_no_places, fits};
@@ -133,7 +133,8 @@ pub fn find_start<D: Disk>(
 
     // Why it is refused.
     ensures cause { IfErr result (λ refused. IfSome (D.history disk.old)
-        (λ h. HasCause (found_on (seen_areas h.now)) stages values pipes.now head.now refused)) }
+        (λ h. HasResumeCause (found_on (seen_areas h.now)) stages values pipes.now head.now
+        refused)) }
 
     // At each moment of the call each image is one of those at its start.
     ensures moments { DiskTells (Goes LeavesNoMore) (D.history disk.old) (D.history disk.new) }

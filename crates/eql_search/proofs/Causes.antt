@@ -25,7 +25,7 @@ use Rattle.eql_replay.specs.Listed.{bench_known}
 use Rattle.eql_replay.proofs.Places.{there_or}
 use Rattle.eql_search.specs.declared.stop.Stop.{Stop}
 use Rattle.eql_search.specs.declared.stop.Stop.TheVariants as stop
-use Rattle.eql_search.specs.Answers.{AreSteadyBut, AreUnfailing, BecameAt, HasCause, HasLimitAt, IsNoFault, IsRead, RanOutOfBytes, RanOutOfLines, RoseFaults}
+use Rattle.eql_search.specs.Answers.{AreSteadyBut, AreUnfailing, BecameAt, HasSearchCause, HasLimitAt, IsNoFault, IsRead, RanOutOfBytes, RanOutOfLines, RoseFaults}
 use Rattle.eql_search.specs.Running.{end_of}
 use Rattle.eql_search.specs.Searches.{AreBegunFrom}
 use Rattle.eql_search.proofs.Lanes.{as_many, out_of_bytes, out_of_lines}
@@ -139,7 +139,7 @@ module _ (A : Type 0) {S L D : Type 0} (left lent_as : S → Option (List ℕ)) 
   disk_fault : Ran (Err stop.Disk) → Rose disk_before disk_now
   disk_fault run = let by : CountsBy end.DiskFault = subst CountsBy (disk_then run.ended run.told) run.cause in by.3.0
 
-  pub has_cause : (r : Result A Stop) → Ran r → IfErr r (λ why. HasCause told why olds news sink_before sink_now disk_before disk_now)
+  pub has_cause : (r : Result A Stop) → Ran r → IfErr r (λ why. HasSearchCause told why olds news sink_before sink_now disk_before disk_now)
   has_cause (Ok done) run = tt
   has_cause (Err (stop.Read s)) run = rose_at s run
   has_cause (Err stop.Write) run = wrote_fault run

@@ -26,7 +26,7 @@ use Rattle.eql_hub_run.specs.Beside.{RanFrom}
 use Rattle.eql_lock_bench.specs.Locked.{known_by}
 use Rattle.eql_search.specs.declared.stop.Stop.{Stop}
 use Rattle.eql_search.specs.declared.stop.Stop.TheVariants as stop
-use Rattle.eql_search.specs.Answers.{AreUnfailing, HasCause, IsClosed, IsNoFault, IsRead, AreSteadyBut, StaysLane, WereRead}
+use Rattle.eql_search.specs.Answers.{AreUnfailing, HasSearchCause, IsClosed, IsNoFault, IsRead, AreSteadyBut, StaysLane, WereRead}
 use Rattle.eql_search.specs.Beginnings.{BeginsOn, MayBegin, MayKeepOn, cuts_of, start_at}
 use Rattle.eql_search.specs.Keeping.{AreSearchCuts, IsSearchCut, KeepsOn, WroteCounted}
 use Rattle.eql_search.specs.Running.{DidNotBegin, TriesToSearch, end_of}
@@ -87,7 +87,7 @@ module _ (A : Type 0) {S L D : Type 0} (left lent_as : S → Option (List ℕ)) 
     pub read : OnOk r (IfSome told (λ texts. On texts → WereRead reads slack texts news))
     pub lanes : AllZip (StaysLane left lent_as read_of) olds news
     pub texts : IfSome told (λ texts. AreTextsOf left texts news)
-    pub cause : IfErr r (λ why. HasCause told why olds news sink_before sink_now (disk_faults history count keep) (disk_faults history count kept))
+    pub cause : IfErr r (λ why. HasSearchCause told why olds news sink_before sink_now (disk_faults history count keep) (disk_faults history count kept))
     pub steady : AreSteadyBut (λ shard. IsRead r) olds news
     pub writes_steady : r ≢ Err stop.Write → ¬ IsRead r → sink_now ≡ sink_before
     pub disk_steady : r ≢ Err stop.Disk → ¬ IsRead r → disk_faults history count kept ≡ disk_faults history count keep

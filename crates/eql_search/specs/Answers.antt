@@ -79,12 +79,12 @@ module _ {S L : Type 0} where
 
   -- why a search stopped: by the texts of its lanes, where they are told, by its lanes before and after, and by the faults of its sink and of its
   -- disk before and after
-  abbrev pub HasCause : (texts : Option (List (List ℕ))) → Stop → (olds news : List (LaneView S L)) → (before now disk_before disk_now : ℕ) → Type 0
-  HasCause texts (stop.Read shard) olds news before now disk_before disk_now = BecameAt shard olds news RoseFaults
-  HasCause texts stop.Write olds news before now disk_before disk_now = Rose before now
-  HasCause texts stop.Disk olds news before now disk_before disk_now = Rose disk_before disk_now
-  HasCause texts stop.Memory olds news before now disk_before disk_now = Unit {0}
-  HasCause texts (stop.Limit of) olds news before now disk_before disk_now = HasLimitAt texts of olds news
+  abbrev pub HasSearchCause : (texts : Option (List (List ℕ))) → Stop → (olds news : List (LaneView S L)) → (before now disk_before disk_now : ℕ) → Type 0
+  HasSearchCause texts (stop.Read shard) olds news before now disk_before disk_now = BecameAt shard olds news RoseFaults
+  HasSearchCause texts stop.Write olds news before now disk_before disk_now = Rose before now
+  HasSearchCause texts stop.Disk olds news before now disk_before disk_now = Rose disk_before disk_now
+  HasSearchCause texts stop.Memory olds news before now disk_before disk_now = Unit {0}
+  HasSearchCause texts (stop.Limit of) olds news before now disk_before disk_now = HasLimitAt texts of olds news
 
 module _ {S L : Type 0} (left : S → Option (List ℕ)) where
   -- what stays of a lane whatever is returned, and that the count of its faults doesn't fall

@@ -18,7 +18,7 @@ use Rattle.eql_conductor.specs.declared.plan.RunPlan.{RunPlan}
 use Rattle.eql_conductor.specs.Runs.{disk_faults}
 use Rattle.eql_search.specs.declared.stop.Stop.{Stop}
 use Rattle.eql_search.specs.declared.stop.Stop.TheVariants as stop
-use Rattle.eql_search.specs.Answers.{AreSteadyBut, HasCause, IsClosed, IsRead, StaysLane, WereRead}
+use Rattle.eql_search.specs.Answers.{AreSteadyBut, HasSearchCause, IsClosed, IsRead, StaysLane, WereRead}
 use Rattle.eql_search.specs.Beginnings.{BeginsOn, MayBegin, MayKeepOn, cuts_of, start_at}
 use Rattle.eql_search.specs.Keeping.{AreSearchCuts, WroteCounted}
 use Rattle.eql_search.specs.Searches.{AreBegun, AreTextsOf, HasNumbers, Rules, rest_of, rules_of}
@@ -35,12 +35,12 @@ pub record AreInBounds (plan : RunPlan) (stages : ℕ) (span : Option ℤ) (hand
 
 -- lanes, pending sequences, book and disk with which a search may begin. The texts of the lanes are told or not
 pub record MaySearch {S L D : Type 0} (source : sources.Ghosts S) (reader : readers.Ghosts L) (disk : disks.Ghosts D)
-    (told : Option (List (List ℕ))) (stages : ℕ) (span : Option ℤ) (plan : RunPlan) (lanes : List (LaneView S L))
+    (known_texts : Option (List (List ℕ))) (stages : ℕ) (span : Option ℤ) (plan : RunPlan) (lanes : List (LaneView S L))
     (holders : List Holder) (book : BookState) (keep : Option (Keep D)) : Type 0 where
   pub some : 1 ≤ length lanes
   pub few : length lanes ≤ 256
   pub begun : AreBegun reader.read_of lanes
-  pub texts_are : IfSome told (λ texts. AreTextsOf source.left texts lanes)
+  pub texts_are : IfSome known_texts (λ texts. AreTextsOf source.left texts lanes)
   pub whole : book.whole ≡ true
   pub begins : MayBegin (rules_of reader.read_of stages span lanes) book.pipes plan.mark (cuts_of lanes) holders book.kept
   pub keeps : MayKeepOn disk.history plan (length lanes) keep
@@ -70,24 +70,24 @@ listing_from from = rest_of from.rules from.book.pipes from.book.places from.boo
 module _ {K : Type 0} (output : sinks.Ghosts K) where
   -- what was written, over told texts of which the cut is one where there is one, and of which each match has a number. After a stop that is
   -- asked of texts only that shards may have
-  pub record WritesListing {A : Type 0} (told : Option (List (List ℕ))) (from : Beginning) (sink sink' : K) (answer : Result A Stop) : Type 0 where
-    pub whole : OnOk answer (IfSome told (λ texts. BeginsOver from texts → HasNumbers from.rules texts
+  pub record WritesListing {A : Type 0} (known_texts : Option (List (List ℕ))) (from : Beginning) (sink sink' : K) (answer : Result A Stop) : Type 0 where
+    pub whole : OnOk answer (IfSome known_texts (λ texts. BeginsOver from texts → HasNumbers from.rules texts
         → WroteAll (listing_from from texts) (output.written sink) (output.written sink')))
-    pub front : OnErr answer (IfSome told (λ texts. BeginsOver from texts → (All IsShardText texts → HasNumbers from.rules texts)
+    pub front : OnErr answer (IfSome known_texts (λ texts. BeginsOver from texts → (All IsShardText texts → HasNumbers from.rules texts)
         → WroteFront (listing_from from texts) (output.written sink) (output.written sink')))
     -- a sink that doesn't tell goes on so
     pub silent : output.written sink ≡ None → output.written sink' ≡ None
 
   -- over such texts these are cuts of them, and the lines that they count were written
-  abbrev pub AreCutsFrom : (told : Option (List (List ℕ))) → Beginning → (sink sink' : K) → List Cut → Type 0
-  AreCutsFrom told from sink sink' cuts = IfSome told (λ texts. BeginsOver from texts → HasNumbers from.rules texts
+  abbrev pub AreCutsFrom : (known_texts : Option (List (List ℕ))) → Beginning → (sink sink' : K) → List Cut → Type 0
+  AreCutsFrom known_texts from sink sink' cuts = IfSome known_texts (λ texts. BeginsOver from texts → HasNumbers from.rules texts
       → AreSearchCuts from.rules from.book.pipes texts cuts
       × All (WroteCounted from.rules from.book.pipes from.book.places from.book.kept.listed texts (output.written sink) (output.written sink')) cuts)
 
   -- why it stopped, and that no fault was passed over: of several at once a read fault is told. No count falls
-  pub record StopsForCause {A S L D : Type 0} (disk : disks.Ghosts D) (told : Option (List (List ℕ))) (olds news : List (LaneView S L))
+  pub record StopsForCause {A S L D : Type 0} (disk : disks.Ghosts D) (known_texts : Option (List (List ℕ))) (olds news : List (LaneView S L))
       (sink sink' : K) (keep keep' : Option (Keep D)) (answer : Result A Stop) : Type 0 where
-    pub cause : IfErr answer (λ why. HasCause told why olds news (output.fault_count sink) (output.fault_count sink')
+    pub cause : IfErr answer (λ why. HasSearchCause known_texts why olds news (output.fault_count sink) (output.fault_count sink')
         (disk_faults disk.history disk.fault_count keep) (disk_faults disk.history disk.fault_count keep'))
     pub reads_steady : AreSteadyBut (λ shard. IsRead answer) olds news
     pub writes_steady : answer ≢ Err stop.Write → ¬ IsRead answer → output.fault_count sink' ≡ output.fault_count sink
@@ -97,9 +97,9 @@ module _ {K : Type 0} (output : sinks.Ghosts K) where
     pub disks_rise : disk_faults disk.history disk.fault_count keep ≤ disk_faults disk.history disk.fault_count keep'
 
 -- what became of the lanes, in their order
-pub record LanesEnd {A S L : Type 0} (source : sources.Ghosts S) (reader : readers.Ghosts L) (told : Option (List (List ℕ))) (from : Beginning)
+pub record LanesEnd {A S L : Type 0} (source : sources.Ghosts S) (reader : readers.Ghosts L) (known_texts : Option (List (List ℕ))) (from : Beginning)
     (olds news : List (LaneView S L)) (answer : Result A Stop) : Type 0 where
   pub closed : OnOk answer (All IsClosed news)
-  pub read : OnOk answer (IfSome told (λ texts. BeginsOver from texts → WereRead from.rules.reads from.rules.slack texts news))
+  pub read : OnOk answer (IfSome known_texts (λ texts. BeginsOver from texts → WereRead from.rules.reads from.rules.slack texts news))
   pub stay : AllZip (StaysLane source.left source.lent_as reader.read_of) olds news
-  pub texts_are : IfSome told (λ texts. AreTextsOf source.left texts news)
+  pub texts_are : IfSome known_texts (λ texts. AreTextsOf source.left texts news)

@@ -130,31 +130,31 @@ pub fn search<
     keep: &mut Option<Keep<D>>,
     gate: &W,
 ) -> Result<(), Stop>
-    ghost told: { Option (List (List ℕ)) }
+    ghost known_texts: { Option (List (List ℕ)) }
 
     // With what it begins. The texts of the lanes are told or not: what is ensured holds for all
     // texts of which they are.
     requires bounds { AreInBounds plan.now stages span hands }
-    requires begins { MaySearch S.Source L.LineReader D.Disk told stages span plan.now
+    requires begins { MaySearch S.Source L.LineReader D.Disk known_texts stages span plan.now
         lanes.old.items holders book.old keep.old }
 
     // What was written.
-    ensures wrote { WritesListing K.Sink told
+    ensures wrote { WritesListing K.Sink known_texts
         (beginning_of L.LineReader stages span plan.now lanes.old.items holders book.old)
         sink.old sink.new result }
 
     // Which cuts were put on the disk, and that the lines that they count were written.
-    ensures keeps { KeepsOn D.history plan.now.head plan.now.mark (AreCutsFrom K.Sink told
+    ensures keeps { KeepsOn D.history plan.now.head plan.now.mark (AreCutsFrom K.Sink known_texts
         (beginning_of L.LineReader stages span plan.now lanes.old.items holders book.old)
         sink.old sink.new) keep.old keep.new result }
 
     // What became of the lanes, in their order.
-    ensures lanes { LanesEnd S.Source L.LineReader told
+    ensures lanes { LanesEnd S.Source L.LineReader known_texts
         (beginning_of L.LineReader stages span plan.now lanes.old.items holders book.old)
         lanes.old.items lanes.new.items result }
 
     // Why it stopped, and that no fault was passed over.
-    ensures stops { StopsForCause K.Sink D.Disk told lanes.old.items lanes.new.items
+    ensures stops { StopsForCause K.Sink D.Disk known_texts lanes.old.items lanes.new.items
         sink.old sink.new keep.old keep.new result }
 
     // Where no call is planned to fail, none fails.

@@ -3,7 +3,7 @@ pub mod Stages
 pub mod Planned
 pub mod Keys
 pub mod Gathering
-pub mod Judging
+pub mod Matching
 pub mod Compiling
 pub mod Plans
 pub mod Laws

@@ -4,14 +4,14 @@ use Rattle.eql_values.specs.declared.value.Kind.{Kind}
 use Rattle.eql_values.specs.declared.cut.Pipe.{Pipe}
 use Rattle.eql_query.specs.QueryTree.{QueryTree}
 use Rattle.eql_stages.specs.Stages.{stages_in, until_in, pipe_of}
-use Rattle.eql_stages.specs.Compiling.{JudgeAll, JudgesEnd}
-use Rattle.eql_stages.specs.declared.judge.Judge.{Judge}
+use Rattle.eql_stages.specs.Compiling.{MatchStages, MatchesUntil}
+use Rattle.eql_stages.specs.declared.matcher.ItemMatcher.{ItemMatcher}
 
 -- its items judge as the stages of the query do, and it has their number and the query's pipes
-pub record IsPlan (query : QueryTree) (fields : List (List ℕ × Kind)) (judges : List Judge) (until : Option Judge) (stages : ℕ)
+pub record IsPlan (query : QueryTree) (fields : List (List ℕ × Kind)) (matchers : List ItemMatcher) (until : Option ItemMatcher) (stages : ℕ)
     (pipes : List Pipe) : Type 0 where
-  pub judge : JudgeAll fields (stages_in query.body) judges
-  pub end : JudgesEnd fields (until_in query.body) until
+  pub matcher : MatchStages fields (stages_in query.body) matchers
+  pub end : MatchesUntil fields (until_in query.body) until
   pub count : stages ≡ length (stages_in query.body)
   pub from : 1 ≤ stages
   pub to : stages ≤ 256

@@ -24,7 +24,7 @@ use Rattle.eql_lines.proofs.EventTimes.{read_in_time}
 use Rattle.eql_json.specs.Json.{json_of}
 use Rattle.eql_stages.specs.Given.{Given, is_this, bits_of, route_by, routes_by}
 use Rattle.eql_stages.specs.Planned.{got_of}
-use Rattle.eql_stages.specs.Judging.{Reader, given_by, until_by, routes_for, reads_by}
+use Rattle.eql_stages.specs.Matching.{Reader, given_by, until_by, routes_for, reads_by}
 use Rattle.std.specs.List.{filter_map}
 use Rattle.std.specs.Cmp.{tied_itself}
 use Rattle.std.proofs.lemmas.List.{map-append}
@@ -180,13 +180,13 @@ got_at said stand shard line (read.Event f) time item is =
 pub reads_at : (reader : Reader) (shard line : ℕ) (bytes : List ℕ) (event : Item) → reads_by reader shard line bytes ≡ got.Item event
     → IsReadAt shard line event
 reads_at reader shard line bytes event is =
-    got_at (routes_for reader.judges reader.until) (λ f. routes_stand (given_by f.categories f.slots reader.judges) (until_by f.categories f.slots reader.until)) shard line (line_read reader.wanted bytes) (read_in_time reader.wanted bytes) event is
+    got_at (routes_for reader.matchers reader.until) (λ f. routes_stand (given_by f.categories f.slots reader.matchers) (until_by f.categories f.slots reader.until)) shard line (line_read reader.wanted bytes) (read_in_time reader.wanted bytes) event is
 
 pub reads_long : (reader : Reader) (shard line : ℕ) (bytes : List ℕ) → 1048576 < length bytes → reads_by reader shard line bytes ≡ too_long bytes
 reads_long reader shard line bytes more =
     by (is_blank bytes) (nat_lt 1048576 (length bytes)) (lt-ltb 1048576 (length bytes) more)
   where
-    by : (b l : Bool) → l ≡ true → got_of (routes_for reader.judges reader.until) shard line
+    by : (b l : Bool) → l ≡ true → got_of (routes_for reader.matchers reader.until) shard line
         (cond b read.Blank (cond l (read.Bad Long) (json_read reader.wanted (json_of bytes))))
         ≡ cond b got.Blank (got.Bad Long)
     by true l h = refl

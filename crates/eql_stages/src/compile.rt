@@ -6,14 +6,14 @@ ghost use Rattle.eql_query.specs.QueryTree as body;
 ghost use Rattle.eql_query.specs.QueryTree.{query_tree, term_tree};
 ghost use Rattle.eql_check.specs.Conditions.{as_list};
 ghost use Rattle.eql_check.specs.Rules.{are_runs, has_runs};
-ghost use Rattle.eql_stages.specs.Compiling.{JudgeAll, JudgesEnd, key_field};
+ghost use Rattle.eql_stages.specs.Compiling.{MatchStages, MatchesUntil, key_field};
 ghost use Rattle.eql_stages.specs.Compiling as compiling;
-ghost use Rattle.eql_stages.specs.Judging.{has_stage, is_within, stages_of};
+ghost use Rattle.eql_stages.specs.Matching.{has_stage, is_within, stages_of};
 ghost use Rattle.eql_stages.specs.Stages.{count_of, stage_of, item_stages, stages_in, until_in};
 
-use crate::judge::Judge;
-use crate::judges::Judges;
 use crate::keys::{KeyField, KeyFields};
+use crate::matcher::ItemMatcher;
+use crate::matchers::ItemMatchers;
 use eql_check::Checked;
 use eql_code::compile;
 use eql_operators::slot_of;
@@ -52,24 +52,24 @@ fn add_keys(keys: &mut Vec<KeyField>, fields: &NameKinds, refs: &[FieldRef]) -> 
 }
 
 /// An item with these keys and runs.
-fn judge_of(
+fn matcher_of(
     alloc: Global,
     checked: &Checked,
     term: &Term,
     shared: &[FieldRef],
     own: &[FieldRef],
     runs: u32,
-) -> Result<Judge, Memory>
-    ensures judges { IfOk result (compiling.Judges checked.now.fields
+) -> Result<ItemMatcher, Memory>
+    ensures matchers { IfOk result (compiling.MatchesStage checked.now.fields
         (record { term = term_tree term.now; keys = shared.now ++ own.now })) }
-    ensures runs { IfOk result (λ judge. judge.runs ≡ runs) }
+    ensures runs { IfOk result (λ matcher. matcher.runs ≡ runs) }
 {
     let mut keys = Vec::new(alloc);
     add_keys(&mut keys, checked.fields(), shared)?;
     add_keys(&mut keys, checked.fields(), own)?;
     let category = term.category.clone()?;
     let code = compile(alloc, &term.cond, checked)?;
-    Ok(Judge {
+    Ok(ItemMatcher {
         category,
         code,
         keys: KeyFields::of(keys),
@@ -78,23 +78,23 @@ fn judge_of(
 }
 
 /// The items of a sequence.
-fn judges_of(
+fn matchers_of(
     alloc: Global,
     checked: &Checked,
     shared: &[FieldRef],
     items: &[Term],
-) -> Result<Vec<Judge>, Memory>
+) -> Result<Vec<ItemMatcher>, Memory>
     requires runs { list_all has_runs (map term_tree items.now) ≡ true }
-    ensures judge { IfOk result (λ judges. JudgeAll checked.now.fields
-        (flat_map (item_stages shared.now) (map term_tree items.now)) judges.items) }
-    ensures each { IfOk result (λ judges. list_all has_stage judges.items ≡ true) }
+    ensures matcher { IfOk result (λ matchers. MatchStages checked.now.fields
+        (flat_map (item_stages shared.now) (map term_tree items.now)) matchers.items) }
+    ensures each { IfOk result (λ matchers. list_all has_stage matchers.items ≡ true) }
 {
-    let mut judges = Vec::with_capacity(alloc, items.len())?;
+    let mut matchers = Vec::with_capacity(alloc, items.len())?;
     for term in items {
         let runs = runs_of(term);
-        judges.push(judge_of(alloc, checked, term, shared, term.by.items(), runs)?)?;
+        matchers.push(matcher_of(alloc, checked, term, shared, term.by.items(), runs)?)?;
     }
-    Ok(judges)
+    Ok(matchers)
 }
 
 /// The item that ends sequences.
@@ -103,42 +103,42 @@ fn until_of(
     checked: &Checked,
     shared: &[FieldRef],
     until: &Option<Term>,
-) -> Result<Option<Judge>, Memory>
-    ensures { IfOk result (JudgesEnd checked.now.fields
+) -> Result<Option<ItemMatcher>, Memory>
+    ensures { IfOk result (MatchesUntil checked.now.fields
         (option_map (stage_of shared.now) (option_map term_tree until.now))) }
 {
     match until {
         Some(term) => {
-            let judge = judge_of(alloc, checked, term, shared, term.by.items(), 1)?;
-            Ok(Some(judge))
+            let matcher = matcher_of(alloc, checked, term, shared, term.by.items(), 1)?;
+            Ok(Some(matcher))
         }
         None => Ok(None),
     }
 }
 
 /// The greatest depth of stack that a condition of these items needs.
-fn depth_of(items: &[Judge], until: &Option<Judge>) -> u32
+fn depth_of(items: &[ItemMatcher], until: &Option<ItemMatcher>) -> u32
     ensures { list_all (is_within result) (items.now ++ as_list until.now) ≡ true }
 {
     let mut depth = match until {
         Some(until) => until.code.depth(),
         None => 0,
     };
-    for judge in items {
-        depth = depth.max(judge.code.depth());
+    for matcher in items {
+        depth = depth.max(matcher.code.depth());
     }
     depth
 }
 
 /// The items with the depth that they need.
-fn with_depth(items: Vec<Judge>, until: Option<Judge>) -> Judges
+fn with_depth(items: Vec<ItemMatcher>, until: Option<ItemMatcher>) -> ItemMatchers
     requires each { list_all has_stage items.items ≡ true }
     requires few { stages_of items.items ≤ 256 }
     ensures items { result.items.items ≡ items.items }
     ensures until { result.until ≡ until }
 {
     let depth = depth_of(&items, &until);
-    Judges {
+    ItemMatchers {
         items,
         until,
         depth,
@@ -146,13 +146,13 @@ fn with_depth(items: Vec<Judge>, until: Option<Judge>) -> Judges
 }
 
 /// The one item of single events.
-fn single(alloc: Global, checked: &Checked, term: &Term) -> Result<Judges, Memory>
-    ensures stages { IfOk result (λ judges. JudgeAll checked.now.fields
-        (stages_in (body.event (term_tree term.now))) judges.items.items) }
-    ensures until { IfOk result (λ judges. judges.until ≡ None) }
+fn single(alloc: Global, checked: &Checked, term: &Term) -> Result<ItemMatchers, Memory>
+    ensures stages { IfOk result (λ matchers. MatchStages checked.now.fields
+        (stages_in (body.event (term_tree term.now))) matchers.items.items) }
+    ensures until { IfOk result (λ matchers. matchers.until ≡ None) }
 {
     let mut items = Vec::with_capacity(alloc, 1)?;
-    items.push(judge_of(alloc, checked, term, &[], &[], 1)?)?;
+    items.push(matcher_of(alloc, checked, term, &[], &[], 1)?)?;
     Ok(with_depth(items, None))
 }
 
@@ -163,25 +163,25 @@ fn sequence(
     shared: &[FieldRef],
     items: &[Term],
     until: &Option<Term>,
-) -> Result<Judges, Memory>
+) -> Result<ItemMatchers, Memory>
     requires runs { list_all has_runs (map term_tree items.now) ≡ true }
     requires few { length (flat_map (item_stages shared.now) (map term_tree items.now)) ≤ 256 }
-    ensures stages { IfOk result (λ judges. JudgeAll checked.now.fields
-        (flat_map (item_stages shared.now) (map term_tree items.now)) judges.items.items) }
-    ensures until { IfOk result (λ judges. JudgesEnd checked.now.fields
-        (option_map (stage_of shared.now) (option_map term_tree until.now)) judges.until) }
+    ensures stages { IfOk result (λ matchers. MatchStages checked.now.fields
+        (flat_map (item_stages shared.now) (map term_tree items.now)) matchers.items.items) }
+    ensures until { IfOk result (λ matchers. MatchesUntil checked.now.fields
+        (option_map (stage_of shared.now) (option_map term_tree until.now)) matchers.until) }
 {
-    let items = judges_of(alloc, checked, shared, items)?;
+    let items = matchers_of(alloc, checked, shared, items)?;
     let until = until_of(alloc, checked, shared, until)?;
     Ok(with_depth(items, until))
 }
 
 /// The items of the query.
-pub(crate) fn judges_in(alloc: Global, checked: &Checked) -> Result<Judges, Memory>
-    ensures stages { IfOk result (λ judges. JudgeAll checked.now.fields
-        (stages_in (query_tree checked.now.query).body) judges.items.items) }
-    ensures until { IfOk result (λ judges. JudgesEnd checked.now.fields
-        (until_in (query_tree checked.now.query).body) judges.until) }
+pub(crate) fn matchers_in(alloc: Global, checked: &Checked) -> Result<ItemMatchers, Memory>
+    ensures stages { IfOk result (λ matchers. MatchStages checked.now.fields
+        (stages_in (query_tree checked.now.query).body) matchers.items.items) }
+    ensures until { IfOk result (λ matchers. MatchesUntil checked.now.fields
+        (until_in (query_tree checked.now.query).body) matchers.until) }
 {
     checked.rules_are_kept();
     match &checked.query().body {

@@ -3,11 +3,11 @@
 #![tactic(auto)]
 
 mod compile;
-mod judge;
-mod judges;
 mod keys;
 mod laws;
 mod masks;
+mod matcher;
+mod matchers;
 mod plan;
 mod reader;
 mod routes;

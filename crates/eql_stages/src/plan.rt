@@ -3,15 +3,15 @@ ghost use Rattle.std.specs.Prelude.{◌≡◌, ◌≤◌, ◌*ℤ◌, IfOk, map,
 ghost use Rattle.std.specs.List.{list_all};
 ghost use Rattle.eql_check.specs.Conditions.{key_count};
 ghost use Rattle.eql_check.specs.Rules.{is_pipe};
-ghost use Rattle.eql_stages.specs.Compiling.{JudgeAll, JudgesEnd};
-ghost use Rattle.eql_stages.specs.Judging.{stages_of};
+ghost use Rattle.eql_stages.specs.Compiling.{MatchStages, MatchesUntil};
+ghost use Rattle.eql_stages.specs.Matching.{stages_of};
 ghost use Rattle.eql_stages.specs.Planned.{planned_query, wanted_of};
 ghost use Rattle.eql_stages.specs.Stages as stages;
 ghost use Rattle.eql_laws.specs.Alive.{IsSpan};
 ghost use Rattle.eql_stages.specs.Stages.{stages_in, until_in, span_in, pipe_of};
 
-use crate::compile::judges_in;
-use crate::judges::Judges;
+use crate::compile::matchers_in;
+use crate::matchers::ItemMatchers;
 use eql_check::Checked;
 use eql_lines::Wanted;
 use eql_query::{Body, PipeText, Span, Unit};
@@ -25,7 +25,7 @@ use std::marker::Model;
 pub struct Plan {
     checked: Checked,
     tie: Option<Text>,
-    judges: Judges,
+    matchers: ItemMatchers,
     stages: u32,
     pipes: Pipes,
 }
@@ -44,7 +44,7 @@ impl Model for Plan {
     ghost view = { λ p. record { checked = p.checked; tie = p.tie } };
 
     ghost invariant = { λ p. IsPlan (query_tree p.checked.query) p.checked.fields
-        p.judges.items.items p.judges.until p.stages p.pipes };
+        p.matchers.items.items p.matchers.until p.stages p.pipes };
 }
 
 /// A unit in nanoseconds.
@@ -91,12 +91,12 @@ fn pipes_in(alloc: Global, texts: &[PipeText]) -> Result<Pipes, Memory>
 }
 
 /// How many stages the items are.
-fn stage_count(judges: &Judges) -> u32
-    ensures { result ≡ stages_of judges.now.items.items }
+fn stage_count(matchers: &ItemMatchers) -> u32
+    ensures { result ≡ stages_of matchers.now.items.items }
 {
     let mut count = 0;
-    for judge in &judges.items {
-        count += judge.runs;
+    for matcher in &matchers.items {
+        count += matcher.runs;
     }
     count
 }
@@ -108,13 +108,13 @@ impl Plan {
         ensures { IfOk result (λ plan. plan ≡ record { checked = checked; tie = tie }) }
     {
         checked.rules_are_kept();
-        let judges = judges_in(alloc, &checked)?;
+        let matchers = matchers_in(alloc, &checked)?;
         let pipes = pipes_in(alloc, checked.query().pipes.items())?;
-        let stages = stage_count(&judges);
+        let stages = stage_count(&matchers);
         Ok(Plan {
             checked,
             tie,
-            judges,
+            matchers,
             stages,
             pipes,
         })
@@ -138,13 +138,13 @@ impl Plan {
     }
 
     /// The items, as they judge events.
-    pub(crate) fn judges(&self) -> &Judges
-        ensures judge { JudgeAll self.now.checked.fields
+    pub(crate) fn matchers(&self) -> &ItemMatchers
+        ensures matcher { MatchStages self.now.checked.fields
             (stages_in (planned_query self.now).query.body) result.now.items.items }
-        ensures end { JudgesEnd self.now.checked.fields
+        ensures end { MatchesUntil self.now.checked.fields
             (until_in (planned_query self.now).query.body) result.now.until }
     {
-        &self.judges
+        &self.matchers
     }
 
     /// How many stages the query has, runs counted: 1 for single events, else 2 to 256.

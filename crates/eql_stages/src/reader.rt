@@ -1,10 +1,10 @@
 //! The reader of lines that a plan makes.
 ghost use Rattle.std.specs.Prelude.{◌≡◌, ◌≤◌, IfOk};
-ghost use Rattle.eql_stages.specs.Judging.{reads_by, routes_for};
+ghost use Rattle.eql_stages.specs.Matching.{reads_by, routes_for};
 ghost use Rattle.eql_stages.specs.Planned.{planned_query, line_of};
 ghost use Rattle.eql_stages.specs.Standing as stands;
 
-use crate::judges::Judges;
+use crate::matchers::ItemMatchers;
 use crate::plan::Plan;
 use eql_code::Stack;
 use eql_lines::{Fields, LineRead, LineScan};
@@ -16,7 +16,7 @@ use std::marker::Model;
 /// of the conditions, the list of routes, and what the reading of lines needs.
 pub struct PlanReader {
     scan: LineScan,
-    judges: Judges,
+    matchers: ItemMatchers,
     stack: Stack,
     routes: Vec<Route>,
 }
@@ -26,7 +26,7 @@ impl Drop for PlanReader {
     fn drop(self) {
         let PlanReader {
             scan: _,
-            judges: _,
+            matchers: _,
             stack: _,
             routes: _,
         } = self;
@@ -35,17 +35,17 @@ impl Drop for PlanReader {
 
 impl Model for PlanReader {
     ghost use Rattle.std.specs.Prelude.{◌≤◌};
-    ghost use Rattle.eql_stages.specs.Judging.{Reader};
+    ghost use Rattle.eql_stages.specs.Matching.{Reader};
 
     ghost Value = { Reader };
 
     ghost view = { λ r. record {
       wanted = r.scan;
-      judges = r.judges.items.items;
-      until = r.judges.until;
+      matchers = r.matchers.items.items;
+      until = r.matchers.until;
     } };
 
-    ghost invariant = { λ r. r.judges.depth ≤ r.stack };
+    ghost invariant = { λ r. r.matchers.depth ≤ r.stack };
 }
 
 /// Moves routes out of a list that keeps its room.
@@ -63,11 +63,11 @@ impl PlanReader {
         ensures { IfOk result (λ reader. reads_by reader ≡ line_of (planned_query plan.now)) }
     {
         let wanted = plan.wanted()?;
-        let judges = plan.judges().clone()?;
-        let stack = Stack::with(alloc, judges.depth)?;
+        let matchers = plan.matchers().clone()?;
+        let stack = Stack::with(alloc, matchers.depth)?;
         Ok(PlanReader {
             scan: LineScan::new(alloc, &wanted)?,
-            judges,
+            matchers,
             stack,
             routes: Vec::new(alloc),
         })
@@ -76,11 +76,11 @@ impl PlanReader {
     /// What an event says.
     fn routes(&mut self, alloc: Global, event: &Fields) -> Result<Routes, Memory>
         ensures routes { IfOk result
-            (λ routes. routes ≡ routes_for self.old.judges self.old.until event.now) }
+            (λ routes. routes ≡ routes_for self.old.matchers self.old.until event.now) }
         ensures stays { self.new ≡ self.old }
     {
         self.routes.clear();
-        self.judges
+        self.matchers
             .say(alloc, event, &mut self.stack, &mut self.routes)?;
         let own = taken(alloc, &mut self.routes)?;
         Ok(Routes::of(own))

@@ -10,7 +10,7 @@ use std::alloc::Global;
 use std::cmp::Ordering;
 
 /// The place of a key's route; where there is none yet, as an error, the place at which it comes.
-fn place_of(routes: &[Route], fields: &[KeyField], slots: &[Value]) -> Result<usize, usize>
+fn find_route(routes: &[Route], fields: &[KeyField], slots: &[Value]) -> Result<usize, usize>
     ensures within { IfOk result (λ i. i < length routes.now) }
     ensures at { IfOk result (IsAt (values_of slots.now fields.now) routes.now) }
     ensures up_to { IfErr result (λ i. i ≤ length routes.now) }
@@ -39,7 +39,7 @@ pub(crate) fn add(
     ensures { OnOk result (routes.new.items
         ≡ said_routes (values_of slots.now fields.now) mask until routes.old.items) }
 {
-    match place_of(routes, fields, slots) {
+    match find_route(routes, fields, slots) {
         Ok(place) => {
             let route = &mut routes[place];
             route.mask = union(&route.mask, &mask);

@@ -19,12 +19,12 @@ use Rattle.eql_runs.specs.Searches.{Search, listed_of, listing_of, rest_of}
 use Rattle.eql_runs.specs.Summaries.{made_query, made_mapping, IsMadeSearch}
 use Rattle.eql_runs.proofs.Limits.{not_beyond}
 use Rattle.eql_runs.proofs.Reading.{one_text, one_texts}
-use Rattle.eql_inputs.specs.declared.halt.Halt.TheVariants as halt
-use Rattle.eql_inputs.specs.Halts.{refusal_of}
-use Rattle.eql_find.specs.declared.halt.RunHalt.{RunHalt}
-use Rattle.eql_find.specs.declared.halt.RunHalt.TheVariants as run
-use Rattle.eql_find.specs.Finding.{FindsAll, HasCause, names_in}
-use Rattle.eql_find.specs.Halts.{IsFault, limit_of}
+use Rattle.eql_inputs.specs.declared.error.InputError.TheVariants as error
+use Rattle.eql_inputs.specs.Errors.{refusal_of}
+use Rattle.eql_find.specs.declared.error.FindError.{FindError}
+use Rattle.eql_find.specs.declared.error.FindError.TheVariants as run
+use Rattle.eql_find.specs.Finding.{FindsAll, HasFindCause, names_in}
+use Rattle.eql_find.specs.Errors.{IsFault, limit_of}
 use Rattle.eql_summary.specs.Inputs.{made_files, made_find}
 use Rattle.eql_summary.specs.Written.{IsMadeListing, IsWant}
 
@@ -72,13 +72,13 @@ module _ (hands events : ℕ) where
         not_beyond law b.search b.texts (subst (λ (ts : List (List ℕ)). All IsWithin ts) (sym same) (within events few)) nothing_kept limit tt b.beyond
 
     -- a search that stops without a fault stops for want of memory. It has no checkpoint
-    made_stops : (disk now : Option History) (err err' : Option (List ℕ)) (h : RunHalt)
-        → HasCause (made_find hands) (Some (made_files events)) disk now err err' h → ¬ IsFault h → IsWant h
-    made_stops disk now err err' (run.Files (halt.Refused r)) cause calm =
+    made_stops : (disk now : Option History) (err err' : Option (List ℕ)) (h : FindError)
+        → HasFindCause (made_find hands) (Some (made_files events)) disk now err err' h → ¬ IsFault h → IsWant h
+    made_stops disk now err err' (run.Files (error.Refused r)) cause calm =
         absurd (accepted (names_in (made_find hands)) (made_files events) made.0.query made.0.mapping (refusal_of r)
         (is_checked made.0 made.1) none_missing cause.1)
-    made_stops disk now err err' (run.Files (halt.Read name)) cause calm = absurd (calm tt)
-    made_stops disk now err err' (run.Files halt.Memory) cause calm = tt
+    made_stops disk now err err' (run.Files (error.Read name)) cause calm = absurd (calm tt)
+    made_stops disk now err err' (run.Files error.Memory) cause calm = tt
     made_stops disk now err err' (run.Cut why) cause calm = absurd (cause.0 refl)
     made_stops disk now err err' run.Disk cause calm = absurd (calm tt)
     made_stops disk now err err' run.Write cause calm = absurd (calm tt)
@@ -88,12 +88,12 @@ module _ (hands events : ℕ) where
     made_stops disk now err err' (run.Report refused_by.Failed) cause calm = absurd (calm tt)
     made_stops disk now err err' (run.Report refused_by.Memory) cause calm = tt
 
-    pub stops_for_want : (find : Find) (files : Option Files) (disk now : Option History) (err err' : Option (List ℕ)) (h : RunHalt)
-        → find ≡ made_find hands → files ≡ Some (made_files events) → HasCause find files disk now err err' h → ¬ IsFault h → IsWant h
+    pub stops_for_want : (find : Find) (files : Option Files) (disk now : Option History) (err err' : Option (List ℕ)) (h : FindError)
+        → find ≡ made_find hands → files ≡ Some (made_files events) → HasFindCause find files disk now err err' h → ¬ IsFault h → IsWant h
     stops_for_want find files disk now err err' h find_is files_are cause calm =
         made_stops disk now err err' h
-        (subst (λ (f : Find). HasCause f (Some (made_files events)) disk now err err' h) find_is
-        (subst (λ (fs : Option Files). HasCause find fs disk now err err' h) files_are cause)) calm
+        (subst (λ (f : Find). HasFindCause f (Some (made_files events)) disk now err err' h) find_is
+        (subst (λ (fs : Option Files). HasFindCause find fs disk now err err' h) files_are cause)) calm
 
   -- what is searched is the search of the texts
   is_made : (search : Search) (texts : List (List ℕ)) → Searches (made_find hands) (made_files events) search texts

@@ -5,9 +5,9 @@ use Rattle.eql_outside.specs.declared.refused.OutRefused.TheVariants as refused_
 use Rattle.eql_runs.specs.Made.{made_texts}
 use Rattle.eql_runs.specs.Searches.{listing_of, Search}
 use Rattle.eql_runs.specs.Summaries.{IsMadeSearch, Makes}
-use Rattle.eql_inputs.specs.declared.halt.Halt.TheVariants as halt
-use Rattle.eql_find.specs.declared.halt.RunHalt.{RunHalt}
-use Rattle.eql_find.specs.declared.halt.RunHalt.TheVariants as run
+use Rattle.eql_inputs.specs.declared.error.InputError.TheVariants as error
+use Rattle.eql_find.specs.declared.error.FindError.{FindError}
+use Rattle.eql_find.specs.declared.error.FindError.TheVariants as run
 
 -- a sink got the listing of the search over so many made events
 abbrev pub IsMadeListing : (events : ℕ) → Option (List ℕ) → Type 0
@@ -15,10 +15,10 @@ IsMadeListing events written =
     (search : Search) × IsMadeSearch search × (written ≡ Some (listing_of search (made_texts events)))
 
 -- a run stopped for want of memory
-abbrev pub IsWant : RunHalt → Type 0
-IsWant (run.Files (halt.Refused r)) = ⊥
-IsWant (run.Files (halt.Read name)) = ⊥
-IsWant (run.Files halt.Memory) = Unit {0}
+abbrev pub IsWant : FindError → Type 0
+IsWant (run.Files (error.Refused r)) = ⊥
+IsWant (run.Files (error.Read name)) = ⊥
+IsWant (run.Files error.Memory) = Unit {0}
 IsWant (run.Cut why) = ⊥
 IsWant run.Disk = ⊥
 IsWant run.Write = ⊥

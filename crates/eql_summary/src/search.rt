@@ -3,9 +3,9 @@ ghost use Rattle.std.specs.Prelude.{◌≤◌, IfOk};
 ghost use Rattle.eql_summary.specs.Written.{IsMadeListing, IsWant};
 
 use crate::inputs::{made_find, made_shelf};
-use eql_find::{RunHalt, find_matches};
+use eql_find::{FindError, find_matches};
 use eql_hands::Gate;
-use eql_inputs::Halt;
+use eql_inputs::InputError;
 use eql_laws::lines_go_on;
 use eql_outside::{MemSink, OutRefused, Sink};
 use eql_runs::{made_is_searched, runs_are_determined};
@@ -15,11 +15,11 @@ use std::sync::Wait;
 use std::thread::Threads;
 
 /// Why the search stopped: memory ran out, since nothing else can stop it.
-fn want_of(halt: RunHalt) -> Memory
-    requires { IsWant halt }
+fn want_of(error: FindError) -> Memory
+    requires { IsWant error }
 {
-    match halt {
-        RunHalt::Files(Halt::Memory) | RunHalt::Report(OutRefused::Memory) => Memory,
+    match error {
+        FindError::Files(InputError::Memory) | FindError::Report(OutRefused::Memory) => Memory,
         _ => unreachable!(),
     }
 }
@@ -53,6 +53,6 @@ pub(crate) fn list_made<R: Threads + Wait + Sync, W: Gate + Sync>(
         gate,
     ) {
         Ok(()) => Ok(listing),
-        Err(halt) => Err(want_of(halt)),
+        Err(error) => Err(want_of(error)),
     }
 }

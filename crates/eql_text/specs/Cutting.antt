@@ -26,12 +26,12 @@ abbrev pub behind : Bool → List ℕ → List ℕ → Option (List ℕ)
 behind fold s l = option_map (λ n. drop (n + length l) s) (place_from fold 0 s l)
 
 -- the first place of t in s, or the last
-abbrev pub place_of : Bool → Bool → List ℕ → List ℕ → Option ℕ
-place_of greedy fold s t = if greedy then last_place_from fold 0 s t else place_from fold 0 s t
+abbrev pub place_sought : Bool → Bool → List ℕ → List ℕ → Option ℕ
+place_sought greedy fold s t = if greedy then last_place_from fold 0 s t else place_from fold 0 s t
 
 -- what stands before the first r in s, or before the last
 abbrev pub before : Bool → Bool → List ℕ → List ℕ → Option (List ℕ)
-before greedy fold s r = option_map (λ n. take n s) (place_of greedy fold s r)
+before greedy fold s r = option_map (λ n. take n s) (place_sought greedy fold s r)
 
 -- what stands between the first l and the first, or the last, r behind it; nothing where either isn't there
 unfoldable pub between : List ℕ → List ℕ → List ℕ → Bool → Bool → List ℕ

@@ -1,7 +1,7 @@
 //! Parts of texts.
 ghost use Rattle.std.specs.Prelude.{◌≡◌, ◌≤◌, ◌-◌, ◌<◌, ◌^◌, length, drop, take, IfOk, []};
 ghost use Rattle.std.specs.Str.{chars};
-ghost use Rattle.eql_text.specs.Cutting.{place_in, end_in, part, substring, place_of, between};
+ghost use Rattle.eql_text.specs.Cutting.{place_in, end_in, part, substring, place_sought, between};
 
 use crate::places::{find, find_last};
 use eql_values::{Memory, Text};
@@ -59,8 +59,8 @@ pub fn substring(alloc: Global, s: &Text, from: i64, to: Option<i64>) -> Result<
 }
 
 /// The first place of `t` in `s`, or the last.
-fn place_of(s: &str, t: &str, greedy: bool, fold: bool) -> Option<u64>
-    ensures { result ≡ place_of greedy fold (chars s.now) (chars t.now) }
+fn place_sought(s: &str, t: &str, greedy: bool, fold: bool) -> Option<u64>
+    ensures { result ≡ place_sought greedy fold (chars s.now) (chars t.now) }
 {
     if greedy {
         find_last(s, t, fold)
@@ -99,7 +99,7 @@ fn between_in(
     let Some(left) = find(s, l, 0, fold) else {
         return Ok(empty(alloc));
     };
-    match place_of(left.after, r, greedy, fold) {
+    match place_sought(left.after, r, greedy, fold) {
         Some(count) => part(alloc, left.after, 0, count as usize),
         None => Ok(empty(alloc)),
     }

@@ -12,17 +12,17 @@ use Rattle.eql_values.specs.declared.item.Item.{Item}
 use Rattle.eql_values.specs.declared.found.Match.{Match}
 use Rattle.eql_values.specs.declared.found.Holder.{Holder}
 use Rattle.eql_values.specs.Orders.{key_cmp, key_eq}
-use Rattle.eql_values.specs.declared.item.Act.{Act}
+use Rattle.eql_values.specs.declared.item.KeyEvent.{KeyEvent}
 use Rattle.eql_values.specs.Chains.{chain, holder}
 use Rattle.eql_values.specs.Ordered.{in_order}
 
 -- what an item says by one of its routes
-abbrev pub act_by : OrderKey → Route → Act
-act_by order route = record { order = order; mask = route.mask; until = route.until }
+abbrev pub key_event_by : OrderKey → Route → KeyEvent
+key_event_by order route = record { order = order; mask = route.mask; until = route.until }
 
 -- the items that have a route of the key, and what they say by it
-abbrev pub acts_of : List Value → List Item → List Act
-acts_of key items = filter_map (λ (item : Item). option_map (act_by item.order) (find (λ (route : Route). key_eq key route.key) item.routes)) items
+abbrev pub key_events_of : List Value → List Item → List KeyEvent
+key_events_of key items = filter_map (λ (item : Item). option_map (key_event_by item.order) (find (λ (route : Route). key_eq key route.key) item.routes)) items
 
 -- the items put before a past, the latest first
 abbrev pub onto : List Item → List Item → List Item
@@ -58,7 +58,7 @@ keys_in holders items =
 
 -- the pending sequence of a key and a stage after the items
 abbrev pub held_after : Option ℤ → Openings → List Item → Openings
-held_after span openings items key stage = holder span (openings key) stage (acts_of key (onto items []))
+held_after span openings items key stage = holder span (openings key) stage (key_events_of key (onto items []))
 
 -- what there is of a key, by stage
 abbrev pub entries_of : ℕ → Openings → List Value → List (Slot × List OrderKey)
@@ -75,7 +75,7 @@ module _ (m : ℕ) (span : Option ℤ) where
   abbrev pub match_by : Openings → List Item → OrderKey → Route → Option Match
   match_by openings past order route =
       option_map (λ c. record { key = route.key; chain = c })
-      (chain span (openings route.key) m (act_by order route ∷ acts_of route.key past))
+      (chain span (openings route.key) m (key_event_by order route ∷ key_events_of route.key past))
 
   -- the matches that end with each of the items, in order, and for one item by key
   abbrev pub matches_after : Openings → List Item → List Item → List Match

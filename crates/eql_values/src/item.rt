@@ -58,7 +58,7 @@ impl Clone for Route {
 
 /// What an event says by one of its routes, with the event's place in the order.
 #[derive(Clone, Copy)]
-pub struct Act {
+pub struct KeyEvent {
     /// The event's place in the order.
     pub order: OrderKey,
     /// The stages that the event fits.

@@ -22,7 +22,7 @@ pub use cut::{
     BookCut, Counts, FirstBad, LaneCut, LaneCuts, Pipe, PipeState, PipeStates, Pipes, Reason,
 };
 pub use found::{Chain, Holder, Holders, Match, Matches, Numbered, Numbereds, StageChains};
-pub use item::{Act, Item, ItemLists, Items, Mask, Route, Routes};
+pub use item::{Item, ItemLists, Items, KeyEvent, Mask, Route, Routes};
 pub use laws::{order_from_next, orders_agree_with_equality, orders_told_alike};
 pub use memory::Memory;
 pub use order::{Mark, OrderKey};

@@ -70,20 +70,20 @@ abbrev pub line_of : List Word → Option Parts
 line_of words = line_from None words
 
 -- an option's place in the list of options
-abbrev pub place_of : OptionName → ℕ
-place_of option.Query = 0
-place_of option.Fields = 1
-place_of option.Tiebreaker = 2
-place_of option.Slack = 3
-place_of option.Batch = 4
-place_of option.Hands = 5
-place_of option.Checkpoint = 6
-place_of option.Every = 7
-place_of option.Places = 8
+abbrev pub option_index : OptionName → ℕ
+option_index option.Query = 0
+option_index option.Fields = 1
+option_index option.Tiebreaker = 2
+option_index option.Slack = 3
+option_index option.Batch = 4
+option_index option.Hands = 5
+option_index option.Checkpoint = 6
+option_index option.Every = 7
+option_index option.Places = 8
 
 -- whether two options are the same
 abbrev pub same_option : OptionName → OptionName → Bool
-same_option a b = place_of a == place_of b
+same_option a b = option_index a == option_index b
 
 -- whether a setting is of this option
 abbrev pub sets : OptionName → Setting → Bool

@@ -1,5 +1,5 @@
 //! The files that words name: a query and a mapping as long as they may be, and shards of which one isn't there.
-use eql_inputs::{Halt, open_shards, read_checked, tell_halt};
+use eql_inputs::{InputError, open_shards, read_checked, tell_error};
 use eql_outside::{MemDisk, MemFile, MemShelf, MemSink, MemSource, Shelf, Source};
 use eql_values::Memory;
 use eql_words::{Name, Names};
@@ -47,10 +47,10 @@ fn names_of(alloc: Global, names: &str) -> Result<Names, AllocError> {
 }
 
 /// Whether the reading stopped with this status and this line.
-fn is_halt(alloc: Global, halt: &Halt, status: u8, line: &str) -> bool {
+fn is_error(alloc: Global, error: &InputError, status: u8, line: &str) -> bool {
     let mut err = MemSink::new(alloc, Vec::new(alloc));
-    tell_halt(alloc, halt, &mut err);
-    err.bytes().as_slice() == line.as_bytes() && halt.status() == status
+    tell_error(alloc, error, &mut err);
+    err.bytes().as_slice() == line.as_bytes() && error.status() == status
 }
 
 /// A query and a mapping of a length, the numbers of the takes of the mapping that fail, and what comes of their reading.
@@ -129,7 +129,7 @@ fn is_read(alloc: Global, names: &[Name], shelf: &mut MemShelf, row: &Row) -> bo
     };
     match read_checked(alloc, query, fields, shelf) {
         Ok(_) => row.status == 0,
-        Err(halt) => is_halt(alloc, &halt, row.status, row.line),
+        Err(error) => is_error(alloc, &error, row.status, row.line),
     }
 }
 
@@ -204,7 +204,7 @@ fn shards_are_opened_in_their_order(rt: HostRuntime) {
 fn is_missing(alloc: Global, shards: &Names, shelf: &mut MemShelf, status: u8, line: &str) -> bool {
     match open_shards(alloc, shards, shelf) {
         Ok(_) => false,
-        Err(halt) => is_halt(alloc, &halt, status, line),
+        Err(error) => is_error(alloc, &error, status, line),
     }
 }
 

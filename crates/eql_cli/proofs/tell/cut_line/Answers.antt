@@ -1,7 +1,7 @@
 use Rattle.std.proofs.Common.{ℕ, List, sym, ap, ◌∙◌}
 use Rattle.eql_runs.specs.CutRefusals.{cut_text}
-use Rattle.eql_find.specs.declared.halt.CutStop.{CutStop}
-use Rattle.eql_find.specs.Halts.{cut_refusal_of}
+use Rattle.eql_find.specs.declared.error.CutStop.{CutStop}
+use Rattle.eql_find.specs.Errors.{cut_refusal_of}
 use Rattle.eql_cli.proofs.TextLemmas.{damaged_line, no_line_line, short_line}
 use Rattle.eql_cli.proofs.tell.cut_line.Goals as goal
 

@@ -2,14 +2,14 @@ use Rattle.std.proofs.Common.{◌++◌, ◌∷◌, [], All, map, length, sym, ap
 use Rattle.std.specs.Vec.Iter.{into_iter_items}
 use Rattle.std.proofs.lemmas.List.{append-nil, append_assoc, nil_from_length}
 use Rattle.std.proofs.lemmas.List.Elements.{All-head, All-tail}
-use Rattle.eql_cut.specs.Placing.{IsUnplaced, place_of}
+use Rattle.eql_cut.specs.Placing.{IsUnplaced, listed_place}
 use Rattle.eql_cut.proofs.PlaceLaws.{each_unplaced}
 use Rattle.eql_cut.proofs.placed.lift_each.Goals as goal
 
 pub loop-item-init : goal.loop-item-init
 loop-item-init g c =
     let gives = c.into_iter-item-iterator.ensures.into_iter_gives in
-    let lift = g.T.Placed.lifted (place_of c.args.places.now) in
+    let lift = g.T.Placed.lifted (listed_place c.args.places.now) in
     let items = ap length gives.0 in
     record {
       parts = ap (map lift) (sym gives.0) ∙ ap (λ l. l ++ map lift (into_iter_items c.into_iter-item-iterator.result)) (sym c.new-lifted.ensures.items);
@@ -26,7 +26,7 @@ pub loop-item-preserved : goal.loop-item-preserved
 loop-item-preserved g c =
     let popped = c.in-Some.ensures.steps in
     let rest = into_iter_items c.next.new.self in
-    let lift = g.T.Placed.lifted (place_of c.args.places.now) in
+    let lift = g.T.Placed.lifted (listed_place c.args.places.now) in
     let done = c.loop-item.lifted.items in
     let many = c.loop-item.invariant.many in
     let items = ap length popped.0 in
@@ -42,7 +42,7 @@ pub returns : goal.returns
 returns g c =
     let none = c.in-None.ensures.steps.0 in
     let many = c.loop-item.invariant.many in
-    let lift = g.T.Placed.lifted (place_of c.args.places.now) in
+    let lift = g.T.Placed.lifted (listed_place c.args.places.now) in
     sym (c.loop-item.invariant.parts
     ∙ ap (λ l. c.loop-item.lifted.items ++ map lift l) (nil_from_length (into_iter_items c.loop-item.item-iterator) (sym many ∙ none))
     ∙ append-nil c.loop-item.lifted.items)

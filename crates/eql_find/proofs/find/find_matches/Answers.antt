@@ -4,13 +4,13 @@ use Rattle.eql_outside.specs.Plans.{FaultPlan}
 use Rattle.eql_outside.specs.Unfailing.{IsUnfailing}
 use Rattle.eql_query.specs.QueryTree.{query_tree}
 use Rattle.eql_runs.specs.Files.{Files}
-use Rattle.eql_inputs.specs.Halts.{AbsencesFollow, CountFollows}
+use Rattle.eql_inputs.specs.Errors.{AbsencesFollow, CountFollows}
 use Rattle.eql_inputs.specs.Shards.{HasShardsCause}
 use Rattle.eql_find.specs.Outcomes.{FindEnds}
-use Rattle.eql_inputs.proofs.HaltLemmas.{faults_later}
+use Rattle.eql_inputs.proofs.ErrorLemmas.{faults_later}
 use Rattle.eql_find.proofs.FileLemmas.{file_disk, file_faults, file_out}
 use Rattle.eql_find.proofs.GivingLemmas.{over_both}
-use Rattle.eql_find.proofs.HaltingEarly.{none_is_some, same_keeps, same_no_more}
+use Rattle.eql_find.proofs.EarlyErrors.{none_is_some, same_keeps, same_no_more}
 use Rattle.eql_find.proofs.OutcomeLemmas.{disk_then, kept_disk, none_falls, rises_then, told_then}
 use Rattle.eql_find.proofs.find.find_matches.Goals as goal
 
@@ -30,11 +30,11 @@ returns-in-Err-clause-ends g c = record {
 
 pub returns-in-Err-clause-told : goal.returns-in-Err-clause-told
 returns-in-Err-clause-told g c = record {
-  faults = file_faults c.in-Err.halt _ _ c.in-Err.ensures.faults;
+  faults = file_faults c.in-Err.error _ _ c.in-Err.ensures.faults;
   count = c.in-Err.ensures.count;
   absences = c.in-Err.ensures.absences;
-  disk = file_disk c.in-Err.halt _ _ c.in-Err.ensures.kept.faults_are;
-  out = file_out c.in-Err.halt _ _ refl;
+  disk = file_disk c.in-Err.error _ _ c.in-Err.ensures.kept.faults_are;
+  out = file_out c.in-Err.error _ _ refl;
   err = refl;
   reads_rise = c.in-Err.ensures.counts.0;
   absences_rise = c.in-Err.ensures.counts.1;
@@ -58,8 +58,8 @@ returns-clause-ends g c =
       untouched = λ refusal. refl;
       quiet = λ nothing. refl;
       cause =
-          subst (λ (fs : Option Files). HasShardsCause c.args.find.now.shards fs c.in-Err-open_shards.halt) c.read_plan.ensures.kept.files_are c.in-Err-open_shards.ensures.cause
-          c.args.find.now.query c.args.find.now.fields (query_tree c.in-Ok.planning.plan.checked.query) c.in-Ok.planning.mapping c.in-Ok.ensures.plan.got;
+          subst (λ (fs : Option Files). HasShardsCause c.args.find.now.shards fs c.in-Err-open_shards.error) c.read_plan.ensures.kept.files_are c.in-Err-open_shards.ensures.cause
+          c.args.find.now.query c.args.find.now.fields (query_tree c.in-Ok.planned.plan.checked.query) c.in-Ok.planned.mapping c.in-Ok.ensures.plan.got;
       moments = λ asked. same_keeps _ _ _ _ _ _ same;
       cut_kept = λ refusal. same_no_more _ _ same;
     }
@@ -68,13 +68,13 @@ pub returns-clause-told : goal.returns-clause-told
 returns-clause-told g c =
     let disks = c.open_shards.ensures.kept.faults_are ∙ c.read_plan.ensures.kept.faults_are in
     record {
-      faults = file_faults c.in-Err-open_shards.halt _ _ (faults_later c.in-Err-open_shards.halt _ _ _ c.in-Ok.ensures.faults c.in-Err-open_shards.ensures.faults);
+      faults = file_faults c.in-Err-open_shards.error _ _ (faults_later c.in-Err-open_shards.error _ _ _ c.in-Ok.ensures.faults c.in-Err-open_shards.ensures.faults);
       count =
-          subst (λ (n : ℕ). CountFollows c.in-Err-open_shards.halt n (g.H.Shelf.fault_count c.open_shards.new.shelf)) c.in-Ok.ensures.count c.in-Err-open_shards.ensures.count;
+          subst (λ (n : ℕ). CountFollows c.in-Err-open_shards.error n (g.H.Shelf.fault_count c.open_shards.new.shelf)) c.in-Ok.ensures.count c.in-Err-open_shards.ensures.count;
       absences =
-          subst (λ (n : ℕ). AbsencesFollow c.in-Err-open_shards.halt n (g.H.Shelf.absent_count c.open_shards.new.shelf)) c.in-Ok.ensures.absences c.in-Err-open_shards.ensures.absences;
-      disk = file_disk c.in-Err-open_shards.halt _ _ disks;
-      out = file_out c.in-Err-open_shards.halt _ _ refl;
+          subst (λ (n : ℕ). AbsencesFollow c.in-Err-open_shards.error n (g.H.Shelf.absent_count c.open_shards.new.shelf)) c.in-Ok.ensures.absences c.in-Err-open_shards.ensures.absences;
+      disk = file_disk c.in-Err-open_shards.error _ _ disks;
+      out = file_out c.in-Err-open_shards.error _ _ refl;
       err = refl;
       reads_rise = rises_then _ _ _ c.in-Ok.ensures.count c.open_shards.ensures.counts.0;
       absences_rise = rises_then _ _ _ c.in-Ok.ensures.absences c.open_shards.ensures.counts.1;

@@ -1,18 +1,18 @@
 use denote.Param.Send.{sendable}
 use Rattle.std.proofs.Common.{refl, ◌∙◌}
 use Rattle.std.proofs.lemmas.Result.{IfErr-weaker, on_err_weaker, on_ok_weaker}
-use Rattle.eql_stages.specs.Judging.{reads_by}
+use Rattle.eql_stages.specs.Matching.{reads_by}
 use Rattle.eql_find.proofs.AbsenceLemmas.{absence_as, made_absence, none_refused}
 use Rattle.eql_find.proofs.CauseLemmas.{all_accepted, all_causes}
 use Rattle.eql_find.proofs.EndingLemmas.{generations_end}
 use Rattle.eql_find.proofs.FailLemmas.{named_over}
 use Rattle.eql_find.proofs.FoundLemmas.{found_all, found_listing, found_some}
 use Rattle.eql_find.proofs.GivingLemmas.{still_none, still_some}
-use Rattle.eql_find.proofs.HaltingEarly.{none_is_some}
+use Rattle.eql_find.proofs.EarlyErrors.{none_is_some}
 use Rattle.eql_find.proofs.OutcomeLemmas.{none_falls, rises_then}
 use Rattle.eql_find.proofs.OverLemmas.{began, lane_count, made_cause, over_runs, run_begins, sources_few, start_on, starts_many}
 use Rattle.eql_find.proofs.PuttingLemmas.{keeps_cuts, none_changed, none_put}
-use Rattle.eql_find.proofs.ShardLemmas.{count_as, count_then, faults_as, faults_then, lent_all, made_halt, may_make, unfailing_over, zip_long}
+use Rattle.eql_find.proofs.ShardLemmas.{count_as, count_then, faults_as, faults_then, lent_all, made_error, may_make, unfailing_over, zip_long}
 use Rattle.eql_find.proofs.find.run_over.Goals as goal
 
 pub make_lanes-requires-clause-few : goal.make_lanes-requires-clause-few
@@ -31,13 +31,13 @@ pub make_lanes-requires-clause-may : goal.make_lanes-requires-clause-may
 make_lanes-requires-clause-may g c = λ κs lives. c.requires.1.1.1.1.1.1.1.1.1.1.1.1.1.1.1.1.1.0.lanes.may
 
 -- a lane wasn't made
-pub halt_at-requires : goal.halt_at-requires
-halt_at-requires g c =
+pub error_at-requires : goal.error_at-requires
+error_at-requires g c =
     may_make g.H.Src.Source.left g.H.Src.Source.lent_as g.H.Src.Source.fault_count g.H.Src.Source.fault_plan _ _ _ c.requires.1.1.1.1.1.1.1.1.1.1.1.1.1.1.1.0 _ _ _ _ c.in-Err.stop.why c.in-Err.stop.shard c.in-Err.ensures.stopped
 
 pub returns-in-Err-clause-ends : goal.returns-in-Err-clause-ends
 returns-in-Err-clause-ends g c =
-    let made = made_halt g.H.Src.Source.left g.H.Src.Source.lent_as g.H.Src.Source.fault_count g.H.Src.Source.fault_plan _ _ _ c.requires.1.1.1.1.1.1.1.1.1.1.1.1.1.1.1.0 _ _ _ _ c.in-Err.stop.why c.in-Err.stop.shard c.halt_at.result c.in-Err.ensures.stopped c.halt_at.ensures in
+    let made = made_error g.H.Src.Source.left g.H.Src.Source.lent_as g.H.Src.Source.fault_count g.H.Src.Source.fault_plan _ _ _ c.requires.1.1.1.1.1.1.1.1.1.1.1.1.1.1.1.0 _ _ _ _ c.in-Err.stop.why c.in-Err.stop.shard c.error_at.result c.in-Err.ensures.stopped c.error_at.ensures in
     record {
       done = tt;
       accepted = tt;
@@ -48,18 +48,18 @@ returns-in-Err-clause-ends g c =
       cause =
           made_cause g.H.Src.Source.left g.H.Src.Source.lent_as g.H.Src.Source.fault_count g.H.Src.Source.fault_plan reads_by _ _ _ _ _ c.requires.1.1.1.1.1.1.1.1.1.1.1.0 _ _ _ _ _
           c.requires.1.1.1.1.1.1.1.1.1.1.1.1.0 c.requires.1.1.1.1.1.1.1.1.1.1.1.1.1.0 c.requires.1.1.1.1.1.1.1.1.1.1.1.1.1.1.0 c.requires.1.1.1.1.1.1.1.1.1.1.1.1.1.1.1.0 c.requires.1.1.1.1.1.1.1.1.1.1.1.1.1.1.1.1.1.0
-          c.spans_change_no_fit.ensures c.disks_hold_one_thing.ensures c.in-Err.stop.why c.in-Err.stop.shard c.halt_at.result _ _ _ _ _ _ _ c.in-Err.ensures.stopped c.halt_at.ensures;
+          c.spans_change_no_fit.ensures c.disks_hold_one_thing.ensures c.in-Err.stop.why c.in-Err.stop.shard c.error_at.result _ _ _ _ _ _ _ c.in-Err.ensures.stopped c.error_at.ensures;
       moments = λ asked. none_put g.H.Dsk.Disk.history g.H.Dsk.Disk.fault_count c.puts_go_on.ensures c.args.find.now _ _ _ _ c.args.keep.now asked c.requires.1.1.1.1.1.1.1.1.1.1.1.1.1.1.1.1.1.1.0 c.requires.1.1.1.1.1.1.1.1.1.1.1.1.1.1.1.1.1.1.1;
       cut_kept = λ refusal. none_changed g.H.Dsk.Disk.history g.H.Dsk.Disk.fault_count _ c.args.keep.now c.requires.1.1.1.1.1.1.1.1.1.1.1.1.1.1.1.1.1.1.1;
     }
 
 pub returns-in-Err-clause-told : goal.returns-in-Err-clause-told
 returns-in-Err-clause-told g c =
-    let made = made_halt g.H.Src.Source.left g.H.Src.Source.lent_as g.H.Src.Source.fault_count g.H.Src.Source.fault_plan _ _ _ c.requires.1.1.1.1.1.1.1.1.1.1.1.1.1.1.1.0 _ _ _ _ c.in-Err.stop.why c.in-Err.stop.shard c.halt_at.result c.in-Err.ensures.stopped c.halt_at.ensures in
+    let made = made_error g.H.Src.Source.left g.H.Src.Source.lent_as g.H.Src.Source.fault_count g.H.Src.Source.fault_plan _ _ _ c.requires.1.1.1.1.1.1.1.1.1.1.1.1.1.1.1.0 _ _ _ _ c.in-Err.stop.why c.in-Err.stop.shard c.error_at.result c.in-Err.ensures.stopped c.error_at.ensures in
     record {
       faults = made.faults;
       count = made.count;
-      absences = made_absence c.args.find.now.shards c.in-Err.stop.shard c.in-Err.stop.why c.halt_at.result _ _ c.halt_at.ensures c.in-Err.ensures.counts.1;
+      absences = made_absence c.args.find.now.shards c.in-Err.stop.shard c.in-Err.stop.why c.error_at.result _ _ c.error_at.ensures c.in-Err.ensures.counts.1;
       disk = made.disk _;
       out = made.out _;
       err = made.err _;
@@ -72,7 +72,7 @@ returns-in-Err-clause-told g c =
 
 pub returns-in-Err-clause-unfailing : goal.returns-in-Err-clause-unfailing
 returns-in-Err-clause-unfailing g c =
-    λ all out err disk. (made_halt g.H.Src.Source.left g.H.Src.Source.lent_as g.H.Src.Source.fault_count g.H.Src.Source.fault_plan _ _ _ c.requires.1.1.1.1.1.1.1.1.1.1.1.1.1.1.1.0 _ _ _ _ c.in-Err.stop.why c.in-Err.stop.shard c.halt_at.result c.in-Err.ensures.stopped c.halt_at.ensures).calm all
+    λ all out err disk. (made_error g.H.Src.Source.left g.H.Src.Source.lent_as g.H.Src.Source.fault_count g.H.Src.Source.fault_plan _ _ _ c.requires.1.1.1.1.1.1.1.1.1.1.1.1.1.1.1.0 _ _ _ _ c.in-Err.stop.why c.in-Err.stop.shard c.error_at.result c.in-Err.ensures.stopped c.error_at.ensures).calm all
 
 -- all were made
 
@@ -96,23 +96,23 @@ returns-clause-ends g c =
     let starts = start_on g.H.Src.Source.left g.H.Src.Source.lent_as g.H.Src.Source.fault_count g.H.Src.Source.fault_plan reads_by _ _ _ _ _ c.requires.1.1.1.1.1.1.1.1.1.1.1.0 _ _ _ _ _
     c.requires.1.1.1.1.1.1.1.1.1.1.1.1.0 c.requires.1.1.1.1.1.1.1.1.1.1.1.1.1.0 c.requires.1.1.1.1.1.1.1.1.1.1.1.1.1.1.0 c.requires.1.1.1.1.1.1.1.1.1.1.1.1.1.1.1.0 c.requires.1.1.1.1.1.1.1.1.1.1.1.1.1.1.1.1.1.0 c.in-Ok.lanes.items c.in-Ok.ensures.made c.disks_hold_one_thing.ensures in
     record {
-      done = on_ok_weaker c.run_lanes-ran.result (found_all c.args.find.now c.args.planning.now _ c.in-Ok.lanes.items c.args.rest _ _ _ _ _ _ runs) c.run_lanes-ran.ensures.ends.done;
+      done = on_ok_weaker c.run_lanes-ran.result (found_all c.args.find.now c.args.planned.now _ c.in-Ok.lanes.items c.args.rest _ _ _ _ _ _ runs) c.run_lanes-ran.ensures.ends.done;
       accepted =
-          all_accepted c.args.find.now c.args.planning.now _ c.in-Ok.lanes.items c.run_lanes-ran.new.lanes.items c.args.rest _ (g.H.Shelf.disk_history c.args.shelf.now) _ c.requires.1.1.1.1.1.1.1.1.1.1.1.1.1.0 _ c.requires.1.1.1.1.1.1.1.1.1.1.1.1.1.1.0
+          all_accepted c.args.find.now c.args.planned.now _ c.in-Ok.lanes.items c.run_lanes-ran.new.lanes.items c.args.rest _ (g.H.Shelf.disk_history c.args.shelf.now) _ c.requires.1.1.1.1.1.1.1.1.1.1.1.1.1.0 _ c.requires.1.1.1.1.1.1.1.1.1.1.1.1.1.1.0
           c.requires.1.1.1.1.1.1.1.1.1.1.1.1.1.1.1.1.1.0.begun.format c.requires.1.1.1.1.1.1.1.1.1.1.1.1.1.1.1.1.1.0.begun.generation c.requires.1.1.1.1.1.1.1.1.1.1.1.1.1.1.1.1.1.0.begun.cut begun starts runs c.run_lanes-ran.result;
-      prefix = on_err_weaker c.run_lanes-ran.result (found_some c.args.find.now c.args.planning.now _ c.in-Ok.lanes.items c.args.rest _ _ _ _ runs) c.run_lanes-ran.ensures.ends.prefix;
+      prefix = on_err_weaker c.run_lanes-ran.result (found_some c.args.find.now c.args.planned.now _ c.in-Ok.lanes.items c.args.rest _ _ _ _ runs) c.run_lanes-ran.ensures.ends.prefix;
       listed =
           IfErr-weaker c.run_lanes-ran.result _ _
-          (λ halt told report. found_listing c.args.find.now c.args.planning.now _ c.in-Ok.lanes.items c.args.rest _ _ _ _ runs (told report)) c.run_lanes-ran.ensures.ends.listed;
+          (λ error told report. found_listing c.args.find.now c.args.planned.now _ c.in-Ok.lanes.items c.args.rest _ _ _ _ runs (told report)) c.run_lanes-ran.ensures.ends.listed;
       untouched = none_refused _ _ (λ r told. told) (λ why told. told) c.run_lanes-ran.result c.run_lanes-ran.ensures.ends.cause;
       quiet = c.run_lanes-ran.ensures.ends.quiet;
       cause =
-          all_causes c.args.find.now c.args.planning.now _ c.in-Ok.lanes.items c.run_lanes-ran.new.lanes.items c.args.rest _ _ _ c.requires.1.1.1.1.1.1.1.1.1.1.1.1.1.0 _ c.requires.1.1.1.1.1.1.1.1.1.1.1.1.1.1.0
+          all_causes c.args.find.now c.args.planned.now _ c.in-Ok.lanes.items c.run_lanes-ran.new.lanes.items c.args.rest _ _ _ c.requires.1.1.1.1.1.1.1.1.1.1.1.1.1.0 _ c.requires.1.1.1.1.1.1.1.1.1.1.1.1.1.1.0
           c.requires.1.1.1.1.1.1.1.1.1.1.1.1.1.1.1.1.1.0.begun.format c.requires.1.1.1.1.1.1.1.1.1.1.1.1.1.1.1.1.1.0.begun.generation c.requires.1.1.1.1.1.1.1.1.1.1.1.1.1.1.1.1.1.0.begun.cut begun starts runs c.run_lanes-ran.result _ _ c.run_lanes-ran.ensures.ends.cause c.run_lanes-ran.ensures.told.faults
           (generations_end g.H.Dsk.Disk.history g.H.Dsk.Disk.fault_count c.crashes_leave_images.ensures.images c.disks_hold_one_thing.ensures c.args.find.now c.requires.1.1.1.1.1.1.1.1.1.1.1.1.1.1.1.1.1.0.begun
           _ _ _ _ c.args.keep.now c.run_lanes-ran.new.keep c.run_lanes-ran.result c.requires.1.1.1.1.1.1.1.1.1.1.1.1.1.1.1.1.1.0.is_found c.requires.1.1.1.1.1.1.1.1.1.1.1.1.1.1.1.1.1.1.0 c.requires.1.1.1.1.1.1.1.1.1.1.1.1.1.1.1.1.1.1.1 c.run_lanes-ran.ensures.ends.keeps);
       moments = λ asked.
-          keeps_cuts c.puts_go_on.ensures c.crashes_leave_images.ensures.images c.disks_hold_one_thing.ensures c.tested_cuts_are_accepted.ensures.one c.args.find.now c.args.planning.now
+          keeps_cuts c.puts_go_on.ensures c.crashes_leave_images.ensures.images c.disks_hold_one_thing.ensures c.tested_cuts_are_accepted.ensures.one c.args.find.now c.args.planned.now
           c.requires.1.1.1.1.1.1.1.1.1.1.1.1.0 _ _ _ c.in-Ok.lanes.items c.args.rest c.requires.1.1.1.1.1.1.1.1.1.1.1.1.1.1.1.1.1.0.begun c.requires.1.1.1.1.1.1.1.1.1.1.1.1.1.1.1.1.1.0.is_found c.requires.1.1.1.1.1.1.1.1.1.1.1.1.1.1.1.1.1.0.rest_is runs
           c.args.head c.requires.1.1.1.1.1.1.1.1.1.1.1.1.1.1.1.1.1.0.head_is (g.K.Sink.written c.args.out.now) (g.K.Sink.written c.run_lanes-ran.new.out) g.H.Dsk.Disk.history g.H.Dsk.Disk.fault_count c.run_lanes-ran.result c.args.keep.now c.run_lanes-ran.new.keep asked c.requires.1.1.1.1.1.1.1.1.1.1.1.1.1.1.1.1.1.1.0 c.requires.1.1.1.1.1.1.1.1.1.1.1.1.1.1.1.1.1.1.1 c.run_lanes-ran.ensures.ends.keeps;
       cut_kept = none_refused _ _ (λ r told. told) (λ why told. told) c.run_lanes-ran.result c.run_lanes-ran.ensures.ends.cause;

@@ -8,7 +8,7 @@ use Rattle.eql_find.specs.Outcomes.{FindEnds}
 use Rattle.eql_find.specs.Starting.{IsFreshKeep}
 use Rattle.eql_find.proofs.DiskLemmas.{recovered_keeps}
 use Rattle.eql_find.proofs.GivingLemmas.{back_by, fresh_keep, keeps_if_asked, over_both}
-use Rattle.eql_find.proofs.HaltingEarly.{none_is_some}
+use Rattle.eql_find.proofs.EarlyErrors.{none_is_some}
 use Rattle.eql_find.proofs.MakingLemmas.{none_failed}
 use Rattle.eql_find.proofs.OutcomeLemmas.{disk_then, kept_disk, none_falls, rises_then, same_disk, then_stays, told_then}
 use Rattle.eql_find.proofs.UnbegunLemmas.{unbegun, unbegun_cause}
@@ -27,7 +27,7 @@ run_start-requires-clause-kept g c =
 -- it isn't begun
 pub returns-in-Err-clause-ends : goal.returns-in-Err-clause-ends
 returns-in-Err-clause-ends g c =
-    let by = unbegun c.args.find.now c.args.planning.now _ c.in-Err.halt c.in-Err.ensures.cause in
+    let by = unbegun c.args.find.now c.args.planned.now _ c.in-Err.error c.in-Err.ensures.cause in
     record {
       done = tt;
       accepted = tt;
@@ -36,7 +36,7 @@ returns-in-Err-clause-ends g c =
       untouched = λ refusal. refl;
       quiet = λ nothing. refl;
       cause =
-          unbegun_cause c.spans_change_no_fit.ensures c.disks_hold_one_thing.ensures c.args.find.now c.args.planning.now c.requires.bounds _ _ _ _ _ _ c.in-Err.halt
+          unbegun_cause c.spans_change_no_fit.ensures c.disks_hold_one_thing.ensures c.args.find.now c.args.planned.now c.requires.bounds _ _ _ _ _ _ c.in-Err.error
           c.requires.plan c.requires.whole c.in-Err.ensures.cause;
       moments = λ asked.
           subst (λ (d : Option History). DiskTells (KeepsCuts c.args.find.now (g.H.Shelf.files c.args.shelf.now) (g.K.Sink.written c.args.out.now) (g.K.Sink.written c.args.out.now)) (g.H.Shelf.disk_history c.args.shelf.now) d)
@@ -48,7 +48,7 @@ returns-in-Err-clause-ends g c =
 
 pub returns-in-Err-clause-told : goal.returns-in-Err-clause-told
 returns-in-Err-clause-told g c =
-    let by = unbegun c.args.find.now c.args.planning.now _ c.in-Err.halt c.in-Err.ensures.cause in
+    let by = unbegun c.args.find.now c.args.planned.now _ c.in-Err.error c.in-Err.ensures.cause in
     let back = c.give_sources.ensures.back.none (none_failed g.H.Src.Source.lent_as g.H.Src.Source.fault_count c.args.sources.items c.requires.fresh) in
     let kept = c.in-Err.ensures.kept in
     record {

@@ -1,7 +1,7 @@
 use denote.Param.Send.{sendable}
 use Rattle.std.proofs.Common.{Option, ℕ, ap, subst, sym, ◌∙◌, refl}
 use Rattle.eql_outside.specs.Moments.{History}
-use Rattle.eql_find.specs.Halts.{AbsencesFollow, CountFollows, DiskFollows}
+use Rattle.eql_find.specs.Errors.{AbsencesFollow, CountFollows, DiskFollows}
 use Rattle.eql_find.specs.Outcomes.{FindEnds}
 use Rattle.eql_find.specs.Starting.{disk_after}
 use Rattle.eql_find.proofs.GivingLemmas.{disk_told, keeps_none, keeps_some, then_faults, there}

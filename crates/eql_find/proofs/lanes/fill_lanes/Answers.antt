@@ -3,7 +3,7 @@ use Rattle.std.proofs.Common.{◌≡◌, ◌+◌, ◌∙◌, [], ◌∷◌, ap, 
 use Rattle.std.specs.Prelude.{All}
 use Rattle.std.proofs.lemmas.List.Elements.{All-tail}
 use Rattle.eql_lane.specs.Starts.{MayStart}
-use Rattle.eql_stages.specs.Judging.{reads_by}
+use Rattle.eql_stages.specs.Matching.{reads_by}
 use Rattle.eql_find.specs.Lanes.{return_of}
 use Rattle.eql_find.proofs.BackLemmas.{CameOne}
 use Rattle.eql_find.proofs.MakingLemmas.{last_first, filled_more, halted, all_before, all_last}

@@ -1,7 +1,7 @@
 use Rattle.std.proofs.Common.{◌≡◌, ◌≤◌, ◌+◌, length}
 use Rattle.std.specs.Prelude.{All, vec_capacity, reverse}
 use Rattle.eql_lane.specs.Starts.{MayStart}
-use Rattle.eql_stages.specs.Judging.{reads_by}
+use Rattle.eql_stages.specs.Matching.{reads_by}
 use Rattle.eql_stages.specs.Planned.{line_of, planned_query}
 use Rattle.eql_find.specs.Lanes.{HaveLanes}
 use Rattle.eql_find.proofs.lanes.fill_lanes.Given as goal

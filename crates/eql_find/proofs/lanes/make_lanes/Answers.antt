@@ -1,5 +1,5 @@
 use Rattle.std.proofs.Common.{inl, refl}
-use Rattle.eql_stages.specs.Judging.{reads_by}
+use Rattle.eql_stages.specs.Matching.{reads_by}
 use Rattle.eql_find.proofs.MakingLemmas.{none_failed, making_stopped, making_long, lent_back, back_again}
 use Rattle.eql_find.proofs.lanes.make_lanes.Goals as goal
 

@@ -1,5 +1,5 @@
 use Rattle.std.proofs.lemmas.Result.{err_from_is_err_and, IfOk-weaker, IfErr-weaker}
-use Rattle.eql_inputs.proofs.HaltLemmas.{spelling_stops, parsing_stops}
+use Rattle.eql_inputs.proofs.ErrorLemmas.{spelling_stops, parsing_stops}
 use Rattle.eql_inputs.proofs.query.query_in.Goals as goal
 
 pub returns-in_err-tokens-clause-cause : goal.returns-in_err-tokens-clause-cause
@@ -15,5 +15,5 @@ returns-clause-query c =
 
 pub returns-clause-cause : goal.returns-clause-cause
 returns-clause-cause c =
-    IfErr-weaker c.query_of.result _ _ (λ halt stop. parsing_stops _ _ halt c.in_ok-tokens.ensures.tokens stop)
+    IfErr-weaker c.query_of.result _ _ (λ error stop. parsing_stops _ _ error c.in_ok-tokens.ensures.tokens stop)
     c.query_of.ensures.cause

@@ -5,4 +5,4 @@ pub returns-in-Ok-clause-tokens : goal.returns-in-Ok-clause-tokens
 returns-in-Ok-clause-tokens c = has_tokens _ _ c.in-Ok.ensures.found c.in-Ok.ensures.too_long c.in-Ok.ensures.not_utf8
 
 pub returns-in-Err-clause-cause : goal.returns-in-Err-clause-cause
-returns-in-Err-clause-cause c = rw c.halt_of_lex.ensures (stopped_spelling _ _ c.in-Err.ensures.refused c.in-Err.ensures.too_long c.in-Err.ensures.not_utf8)
+returns-in-Err-clause-cause c = rw c.error_of_lex.ensures (stopped_spelling _ _ c.in-Err.ensures.refused c.in-Err.ensures.too_long c.in-Err.ensures.not_utf8)

@@ -1,6 +1,6 @@
 use Rattle.std.proofs.Common.{◌≡◌, ◌+◌, ◌∙◌, [], ◌∷◌, ap, arith, length, length-append, refl, subst}
 use Rattle.std.specs.Prelude.{All}
-use Rattle.eql_inputs.proofs.HaltLemmas.{same_later}
+use Rattle.eql_inputs.proofs.ErrorLemmas.{same_later}
 use Rattle.eql_inputs.proofs.ShardLemmas.{all_before, all_last}
 use Rattle.eql_inputs.proofs.ShelfLemmas.{keeps_still, keeps_later, none_back, one_back}
 use Rattle.eql_inputs.proofs.shards.give_back.Goals as goal

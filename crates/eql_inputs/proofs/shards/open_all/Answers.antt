@@ -3,7 +3,7 @@ use Rattle.std.specs.Prelude.{All}
 use Rattle.std.proofs.lemmas.List.{map-append}
 use Rattle.std.proofs.lemmas.List.Elements.{All-nil, All-cons, All-append}
 use Rattle.eql_outside.specs.Unfailing.{IsUnfailing}
-use Rattle.eql_inputs.proofs.HaltLemmas.{same_later}
+use Rattle.eql_inputs.proofs.ErrorLemmas.{same_later}
 use Rattle.eql_inputs.proofs.ShardLemmas.{whole_none, whole_step, named_step, parts_at, taken_at, shard_stopped}
 use Rattle.eql_inputs.proofs.ShelfLemmas.{keeps_still, keeps_later, lends_none, lends_on}
 use Rattle.eql_inputs.proofs.shards.open_all.Goals as goal
@@ -65,6 +65,6 @@ loop-name-preserved g c =
 
 pub returns-in-Err-clause-cause : goal.returns-in-Err-clause-cause
 returns-in-Err-clause-cause g c =
-    shard_stopped c.args.shards.now _ c.name-item.result _ _ _ _ c.in-Err.halt
+    shard_stopped c.args.shards.now _ c.name-item.result _ _ _ _ c.in-Err.error
     (parts_at c.args.shards.now c.loop-name.name-index c.name-item.result (omega arith) c.name-item.is)
     c.loop-name.invariant.kept.files_are c.loop-name.invariant.whole c.in-Err.ensures.cause

@@ -1,7 +1,7 @@
 use Rattle.std.proofs.Common.{arith, ◌∙◌, ◌++◌, ◌∷◌, [], take, suc, length, ◌<◌, ap, sym}
 use Rattle.std.specs.BTreeMap.{get}
 use Rattle.eql_values.specs.Orders.{key_cmp}
-use Rattle.eql_lookback.specs.KeyActs.{back_over}
+use Rattle.eql_lookback.specs.RoutedEvents.{back_over}
 use Rattle.eql_lookback.proofs.Along.{chains_at_more, length-chains_at, chain_at_place, followed_at, passed}
 use Rattle.eql_lookback.proofs.stages.next_stage.Goals as goal
 

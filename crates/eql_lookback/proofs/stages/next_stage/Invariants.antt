@@ -3,7 +3,7 @@ use Rattle.std.specs.BTreeMap.{get}
 use Rattle.eql_values.specs.declared.value.Value.{Value}
 use Rattle.eql_values.specs.Chains.{holder}
 use Rattle.eql_values.specs.Orders.{key_cmp}
-use Rattle.eql_lookback.specs.KeyActs.{to_key, back_over}
+use Rattle.eql_lookback.specs.RoutedEvents.{to_key, back_over}
 use Rattle.eql_lookback.specs.Places.{no_opening, chains_at}
 use Rattle.eql_lookback.proofs.stages.next_stage.Given as goal
 

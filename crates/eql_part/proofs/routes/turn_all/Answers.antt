@@ -9,7 +9,7 @@ use Rattle.eql_values.specs.declared.found.Match.{Match}
 use Rattle.eql_values.specs.declared.item.Route.{Route}
 use Rattle.eql_values.specs.declared.order.OrderKey.{OrderKey}
 use Rattle.eql_values.specs.Masks.{has_stage}
-use Rattle.eql_values.specs.Matching.{act_by}
+use Rattle.eql_values.specs.Matching.{key_event_by}
 use Rattle.eql_values.specs.Orders.{key_eq}
 use Rattle.eql_values.specs.Routes.{RoutesAreInOrder}
 use Rattle.eql_laws.specs.OneEvent.{slots_after_event}
@@ -100,7 +100,7 @@ add_match-requires-clause-keyed g c =
     let more = one_left c.deref-route-items.result.now routes i route c.deref-route-items.ensures.value c.loop-route-test.true c.route-item.is in
     let popped = (c.in-Some.ensures {u = tt}).items in let its = into_iter_items c.next.new.self in let ready = c.in-Some.ready in let m = c.args.shape.stages in
     let prepared = next_prepared m c.args.order (drop i routes) rest route (into_iter_items c.loop-route.prepared) its ready more popped c.loop-route.invariant.prepared in
-    keyed_if_completed m c.args.shape.span (slots_in (entries_of c.loop-route.machines) route.key) (act_by c.args.order route) route.key ready.key c.turn_key-completed.result prepared.0.keyed c.turn_key-completed.ensures.answer
+    keyed_if_completed m c.args.shape.span (slots_in (entries_of c.loop-route.machines) route.key) (key_event_by c.args.order route) route.key ready.key c.turn_key-completed.result prepared.0.keyed c.turn_key-completed.ensures.answer
 
 pub add_match-requires-clause-room : goal.add_match-requires-clause-room
 add_match-requires-clause-room g c =
@@ -125,8 +125,8 @@ loop-route-preserved g c =
     let before = c.loop-route.invariant.probes in let probes = c.turn_key-completed.ensures.probes in
     let spent = ap (probes_of_all m) more in
     let new = (entries_of c.turn_key-completed.new.machines) in let cur = (entries_of c.loop-route.machines) in let start = (entries_of c.args.machines.now) in
-    let answer : c.turn_key-completed.result ≡ chain_coming c.args.shape.span (slots_in start route.key) (act_by c.args.order route) m =
-    c.turn_key-completed.ensures.answer ∙ ap (λ (o : Option (Machine Ticket)). chain_coming c.args.shape.span (slots_of o) (act_by c.args.order route) m) here in
+    let answer : c.turn_key-completed.result ≡ chain_coming c.args.shape.span (slots_in start route.key) (key_event_by c.args.order route) m =
+    c.turn_key-completed.ensures.answer ∙ ap (λ (o : Option (Machine Ticket)). chain_coming c.args.shape.span (slots_of o) (key_event_by c.args.order route) m) here in
     let match_of = λ (o : Option (List OrderKey)). option_map (λ (x : List OrderKey). record { key = route.key; chain = x }) o in
     record {
       of = c.turn_key-completed.ensures.of;

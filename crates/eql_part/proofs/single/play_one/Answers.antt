@@ -3,7 +3,7 @@ use Rattle.std.specs.Prelude.{IfSome}
 use Rattle.std.specs.Option.{option_to_list}
 use Rattle.std.proofs.lemmas.List.Elements.{All-cons, All-nil}
 use Rattle.eql_values.specs.declared.order.OrderKey.{OrderKey}
-use Rattle.eql_values.specs.Matching.{act_by}
+use Rattle.eql_values.specs.Matching.{key_event_by}
 use Rattle.eql_laws.specs.Slots.{slots_after}
 use Rattle.eql_auto.specs.Machine.{AllAreBefore}
 use Rattle.eql_span_list.specs.declared.node.Ticket.{Ticket}
@@ -43,8 +43,8 @@ returns-in-Ok-clause-busy g c =
 pub returns-in-Ok-clause-slots : goal.returns-in-Ok-clause-slots
 returns-in-Ok-clause-slots g c = λ key k lt.
     let route = c.args.route.now in let es = entries_of c.args.machines.now in let one = entries_of c.room_for.new.machines in let two = entries_of c.play_there.new.machines in
-    let m = c.args.shape.stages in let span = c.args.shape.span in let act = act_by c.args.order route in
-    let moved = λ (j : ℕ) (low : 1 ≤ j) (high : j < m). c.in-Ok.ensures.slots j low high ∙ (λ i. slots_after span (λ n. slots_alike es one route.key n c.room_for.ensures.sequences i) act j) in
+    let m = c.args.shape.stages in let span = c.args.shape.span in let key_event = key_event_by c.args.order route in
+    let moved = λ (j : ℕ) (low : 1 ≤ j) (high : j < m). c.in-Ok.ensures.slots j low high ∙ (λ i. slots_after span (λ n. slots_alike es one route.key n c.room_for.ensures.sequences i) key_event j) in
     slots_alike two (entries_of c.settle.new.machines) key (suc k) c.settle.ensures.sequences
     ∙ one_on m span c.args.order route [] es two refl (λ q ne. c.play_there.ensures.others q ne ∙ c.room_for.ensures.others q ne) moved key k lt
 

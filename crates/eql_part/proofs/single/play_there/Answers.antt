@@ -2,7 +2,7 @@ use Rattle.std.proofs.Common.{◌≡◌, ◌≤◌, [], ℕ, Bool, List, Option,
 use Rattle.std.specs.Prelude.{IfSome}
 use Rattle.std.specs.Option.{option_map, option_to_list}
 use Rattle.std.proofs.lemmas.Result.{IfOk-weaker, on_err_weaker, on_ok_weaker}
-use Rattle.eql_values.specs.Matching.{act_by}
+use Rattle.eql_values.specs.Matching.{key_event_by}
 use Rattle.eql_laws.specs.Slots.{chain_coming, slots_after}
 use Rattle.eql_auto.specs.Machine.{Machine, AllAreBefore, tags_of}
 use Rattle.eql_span_list.specs.declared.node.Ticket.{Ticket}
@@ -41,7 +41,7 @@ pub returns : goal.returns
 returns g c =
     let m = c.args.shape.stages in let span = c.args.shape.span in let t = c.args.machines.now in let key = c.args.route.now.key in let room = c.index_mut-room.result.now in
     let w = c.play_machine.new.machine in let machine = room.machine in let r = c.play_machine.result in let es = entries_of t in let now = with_machine m span t c.args.place room w in let new = entries_of now in
-    let act = act_by c.args.order c.args.route.now in
+    let key_event = key_event_by c.args.order c.args.route.now in
     let written = written_at m span t key c.args.place room w c.requires.table c.requires.there c.index_mut-room.ensures.value in
     let found = written.found in let is_of = found_of m span es key machine c.requires.of found in
     let list = c.args.list.now in let after = c.play_machine.new.list in
@@ -57,11 +57,11 @@ returns g c =
       there = written.placed;
       others = written.others;
       slots = on_ok_weaker r
-          (λ slots k low high. ap (λ (o : Option (Machine Ticket)). slots_of o k) written.own ∙ slots k low high ∙ sym (ap (λ (o : Option (Machine Ticket)). slots_after span (slots_of o) act k) found))
+          (λ slots k low high. ap (λ (o : Option (Machine Ticket)). slots_of o k) written.own ∙ slots k low high ∙ sym (ap (λ (o : Option (Machine Ticket)). slots_after span (slots_of o) key_event k) found))
           c.play_machine.ensures.slots;
       found = IfOk-weaker r _ _
           (λ played is. is
-          ∙ sym (ap (λ (o : Option (Machine Ticket)). option_to_list (option_map (λ chain. record { key = key; chain = chain }) (chain_coming span (slots_of o) act m))) found))
+          ∙ sym (ap (λ (o : Option (Machine Ticket)). option_to_list (option_map (λ chain. record { key = key; chain = chain }) (chain_coming span (slots_of o) key_event m))) found))
           c.play_machine.ensures.found;
       empty = IfOk-weaker r _ _ (λ played is yes. subst (λ o. IfSome o (λ (x : Machine Ticket). tags_of x.slots ≡ [])) (sym written.own) (is yes)) c.play_machine.ensures.empty;
       busy = IfOk-weaker r _ _ (λ played is no. subst (λ o. IfSome o (λ (x : Machine Ticket). 1 ≤ length (tags_of x.slots))) (sym written.own) (is no)) c.play_machine.ensures.busy;

@@ -1,7 +1,7 @@
 use Rattle.std.proofs.Common.{◌<◌, ◌≤◌, ◌+◌, ◌++◌, ℕ, suc, List, Option, refl, sym, ap, ◌∙◌, subst, arith}
 use Rattle.std.specs.Prelude.{All, IfSome}
 use Rattle.std.specs.Option.{option_to_list}
-use Rattle.eql_values.specs.Matching.{act_by}
+use Rattle.eql_values.specs.Matching.{key_event_by}
 use Rattle.eql_laws.specs.Slots.{chain_coming, slots_after}
 use Rattle.eql_auto.specs.Machine.{Machine, AllAreBefore, tags_of}
 use Rattle.eql_span_list.specs.declared.node.Ticket.{Ticket}
@@ -54,7 +54,7 @@ returns-clause-of g c =
           let past = past_slots w.slots k s is in
           let len = c.turn.ensures.stages in
           still_filled c.args.route.now.key machine.slots of.filled c.args.order c.args.tag s
-          (after_comes c.args.order c.args.tag machine.slots s machine.span (act_by c.args.order c.args.route.now) k refl (sym (c.turn.ensures.sequences k past.0 (omega arith)) ∙ is));
+          (after_comes c.args.order c.args.tag machine.slots s machine.span (key_event_by c.args.order c.args.route.now) k refl (sym (c.turn.ensures.sequences k past.0 (omega arith)) ∙ is));
     } in
     written_of c.args.shape.stages c.args.shape.span c.args.machines.now c.args.route.now.key c.in-Some.place c.index_mut.result.now w (written_at c.args.shape.stages c.args.shape.span c.args.machines.now c.args.route.now.key c.in-Some.place c.index_mut.result.now w c.requires.table (sym c.place.ensures ∙ c.in-Some.is) c.index_mut.ensures.value) c.requires.of
     (now)
@@ -72,7 +72,7 @@ returns-clause-linked g c = λ begun linked.
     let past = past_slots w.slots k s is in
     let len = c.turn.ensures.stages in
     same_start c.args.route.now.key machine.slots of.filled c.args.order c.args.route.now c.args.tag s refl
-    (after_comes c.args.order c.args.tag machine.slots s machine.span (act_by c.args.order c.args.route.now) k refl (sym (c.turn.ensures.sequences k past.0 (omega arith)) ∙ is)))
+    (after_comes c.args.order c.args.tag machine.slots s machine.span (key_event_by c.args.order c.args.route.now) k refl (sym (c.turn.ensures.sequences k past.0 (omega arith)) ∙ is)))
     (subst (λ (l : List Ticket). LeaveList (l ++ tags_of machine.slots) (tags_of w.slots) c.args.list.now c.turn.new.list) (sym (begun_tickets c.args.order c.args.route.now c.args.tag)) c.turn.ensures.list)
     of.differ c.tickets_differ.ensures linked
 
@@ -124,13 +124,13 @@ returns-clause-slots g c = λ k low high.
     let found = written.found in let of = found_of m span (entries_of t) key machine c.requires.of found in
     ap (λ (o : Option (Machine Ticket)). slots_of o k) written.own
     ∙ c.turn.ensures.slots k low (subst (λ (n : ℕ). k < n) (sym of.stages_are) high)
-    ∙ (λ i. slots_after (of.span_is i) (slots_of (sym found i)) (act_by c.args.order c.args.route.now) k)
+    ∙ (λ i. slots_after (of.span_is i) (slots_of (sym found i)) (key_event_by c.args.order c.args.route.now) k)
 
 pub returns-clause-answer : goal.returns-clause-answer
 returns-clause-answer g c =
     let m = c.args.shape.stages in let span = c.args.shape.span in let t = c.args.machines.now in let key = c.args.route.now.key in let machine = c.index_mut.result.now.machine in
     let found = found_by m span t key c.in-Some.place c.index_mut.result.now c.requires.table (sym c.place.ensures ∙ c.in-Some.is) c.index_mut.ensures.value in let of = found_of m span (entries_of t) key machine c.requires.of found in
-    c.turn.ensures.answer ∙ (λ i. chain_coming (of.span_is i) (slots_of (sym found i)) (act_by c.args.order c.args.route.now) (of.stages_are i))
+    c.turn.ensures.answer ∙ (λ i. chain_coming (of.span_is i) (slots_of (sym found i)) (key_event_by c.args.order c.args.route.now) (of.stages_are i))
 
 pub returns-clause-probes : goal.returns-clause-probes
 returns-clause-probes g c =

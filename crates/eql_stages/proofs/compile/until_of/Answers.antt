@@ -1,5 +1,5 @@
 use Rattle.std.proofs.Common.{rules}
 use Rattle.eql_stages.proofs.compile.until_of.Goals as goal
 
-pub returns-in_ok-judge-in-Some : goal.returns-in_ok-judge-in-Some
-returns-in_ok-judge-in-Some c = search rules
+pub returns-in_ok-matcher-in-Some : goal.returns-in_ok-matcher-in-Some
+returns-in_ok-matcher-in-Some c = search rules

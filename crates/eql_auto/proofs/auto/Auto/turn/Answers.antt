@@ -7,7 +7,7 @@ use Rattle.eql_values.specs.Chains.{holder}
 use Rattle.eql_values.specs.Masks.{has_after}
 use Rattle.eql_laws.specs.Slots.{chain_coming}
 use Rattle.eql_auto.specs.Kept.{IsRoom}
-use Rattle.eql_auto.specs.Machine.{Machine, Sequence, ComesAfter, act_of, chains_of, slot_at, slot_after, stages, stages_in, tags_of}
+use Rattle.eql_auto.specs.Machine.{Machine, Sequence, ComesAfter, key_event_of, chains_of, slot_at, slot_after, stages, stages_in, tags_of}
 use Rattle.eql_auto.specs.Moves.{chain_in, coming_to}
 use Rattle.eql_auto.proofs.Turning.{few_tags, still_later, same_many, spare_left, tag_count, total, ceased_in_all, emptied_length, begun_length, turned, answered, chain_arrived, chain_after, slots_go_on, answer_goes_on, later_after, all_by_stage}
 use Rattle.eql_auto.proofs.auto.Auto.turn.Goals as goal
@@ -72,7 +72,7 @@ returns-clause-stages g c =
 pub returns-clause-sequences : goal.returns-clause-sequences
 returns-clause-sequences g c =
     let emptied_len = ap length c.empty_at_end.ensures.slots ∙ emptied_length c.args.until c.self.inside.table in
-    subst (λ (a : Machine g.row.T.Denot). (k : ℕ) → 1 ≤ k → k < stages a → slot_at c.begin_new-begun.new.table k ≡ slot_after a.span c.args.tag (act_of c.args.order c.args.mask c.args.until) a.slots k)
+    subst (λ (a : Machine g.row.T.Denot). (k : ℕ) → 1 ≤ k → k < stages a → slot_at c.begin_new-begun.new.table k ≡ slot_after a.span c.args.tag (key_event_of c.args.order c.args.mask c.args.until) a.slots k)
     c.self.view_is
     (turned c.self.inside.span c.args.order c.args.mask c.args.until c.self.inside.table c.empty_at_end.new.table c.empty_at_end.ensures.slots c.args.tag
     c.advance_all-completed.new.table c.begin_new-begun.new.table c.requires.tagged (c.advance_all-completed.ensures.len ∙ emptied_len)
@@ -80,28 +80,28 @@ returns-clause-sequences g c =
 
 pub returns-clause-slots : goal.returns-clause-slots
 returns-clause-slots g c = λ k low high.
-    ap chain_in (returns-clause-sequences g c k low high) ∙ chain_after c.args.self.now.span c.args.tag (act_of c.args.order c.args.mask c.args.until) c.args.self.now.slots k c.requires.tagged
+    ap chain_in (returns-clause-sequences g c k low high) ∙ chain_after c.args.self.now.span c.args.tag (key_event_of c.args.order c.args.mask c.args.until) c.args.self.now.slots k c.requires.tagged
 
 pub returns-clause-answer : goal.returns-clause-answer
 returns-clause-answer g c =
     let emptied_len = ap length c.empty_at_end.ensures.slots ∙ emptied_length c.args.until c.self.inside.table in
     let advanced_len = c.advance_all-completed.ensures.len ∙ emptied_len in
-    let act = act_of c.args.order c.args.mask c.args.until in
-    subst (λ (a : Machine g.row.T.Denot). c.or.result ≡ chain_coming a.span (chains_of a.slots) act (stages a)) c.self.view_is
+    let key_event = key_event_of c.args.order c.args.mask c.args.until in
+    subst (λ (a : Machine g.row.T.Denot). c.or.result ≡ chain_coming a.span (chains_of a.slots) key_event (stages a)) c.self.view_is
     (answered c.self.inside.span c.args.order c.args.mask c.args.until c.self.inside.table c.empty_at_end.new.table c.empty_at_end.ensures.slots
     (length c.self.inside.table) c.args.tag c.begin_new-begun.result c.advance_all-completed.result c.or.result c.requires.tagged
     (c.begin_new-begun.ensures.answer ∙ ap (λ (n : ℕ). cond (0 == n) (option_map (λ _. c.args.order ∷ []) c.args.tag) None) advanced_len)
     (c.advance_all-completed.ensures.answer ∙ ap (λ (n : ℕ). chain_in (coming_to c.self.inside.span c.args.order c.args.mask c.empty_at_end.new.table (suc n))) emptied_len) c.or.ensures
-    ∙ chain_arrived c.self.inside.span c.args.tag act c.self.inside.table (suc (length c.self.inside.table)) c.requires.tagged)
+    ∙ chain_arrived c.self.inside.span c.args.tag key_event c.self.inside.table (suc (length c.self.inside.table)) c.requires.tagged)
 
 pub returns-clause-after : goal.returns-clause-after
 returns-clause-after g c = λ opening past holds.
-    let act = act_of c.args.order c.args.mask c.args.until in
+    let key_event = key_event_of c.args.order c.args.mask c.args.until in
     let len = returns-clause-stages g c in (
       λ k low high. returns-clause-slots g c k low (omega arith)
-          ∙ slots_go_on c.slot_step.ensures c.args.self.now.span opening (chains_of c.args.self.now.slots) act past k low (λ j from below. holds j from (omega arith))
-          ∙ ap (λ (a : Machine g.row.T.Denot). holder a.span opening k (act ∷ past)) (sym c.self.view_is),
-      returns-clause-answer g c ∙ answer_goes_on c.chain_step.ensures c.args.self.now.span opening (chains_of c.args.self.now.slots) act past (stages c.args.self.now) holds,
+          ∙ slots_go_on c.slot_step.ensures c.args.self.now.span opening (chains_of c.args.self.now.slots) key_event past k low (λ j from below. holds j from (omega arith))
+          ∙ ap (λ (a : Machine g.row.T.Denot). holder a.span opening k (key_event ∷ past)) (sym c.self.view_is),
+      returns-clause-answer g c ∙ answer_goes_on c.chain_step.ensures c.args.self.now.span opening (chains_of c.args.self.now.slots) key_event past (stages c.args.self.now) holds,
     )
 
 pub returns-clause-gone : goal.returns-clause-gone
@@ -124,8 +124,8 @@ returns-clause-probes g c =
 
 pub returns-clause-later : goal.returns-clause-later
 returns-clause-later g c = λ next less.
-    let act = act_of c.args.order c.args.mask c.args.until in
+    let key_event = key_event_of c.args.order c.args.mask c.args.until in
     let len = returns-clause-stages g c in
     all_by_stage (ComesAfter next) c.begin_new-begun.new.table (λ k low high.
     subst (ComesAfter next) (sym (returns-clause-sequences g c k low (omega arith)))
-    (later_after c.args.self.now.span next act less c.args.self.now.slots c.requires.later c.args.tag k))
+    (later_after c.args.self.now.span next key_event less c.args.self.now.slots c.requires.later c.args.tag k))

@@ -1,7 +1,7 @@
 use Rattle.std.proofs.Common.{◌++◌, List, map, sym, ap, subst, ◌∙◌}
 use Rattle.eql_values.specs.OrderKeys.{EventsAscend}
 use Rattle.eql_values.specs.declared.order.OrderKey.{OrderKey}
-use Rattle.eql_cut.specs.Placing.{IsUnplaced, lifted_order, place_of}
+use Rattle.eql_cut.specs.Placing.{IsUnplaced, lifted_order, listed_place}
 use Rattle.eql_cut.proofs.PlaceLaws.{flat_single, still_ascend}
 use Rattle.eql_cut.proofs.lifting.ChainPlaced.lift.Goals as goal
 
@@ -13,7 +13,7 @@ lift_each-requires-clause-unplaced c =
 
 pub of-requires : goal.of-requires
 of-requires c =
-    let place = place_of c.args.places.now in
+    let place = listed_place c.args.places.now in
     let copied =
     (c.in_ok-extend_from_slice.ensures {u = tt}).items ∙ ap (λ (l : List OrderKey). l ++ c.items-2.result.now) (c.in_ok-events.ensures {u = tt}).items ∙ c.items-2.ensures in
     record {

@@ -3,7 +3,7 @@ use Rattle.std.proofs.lemmas.Result.{IfOk-weaker}
 use Rattle.eql_json.specs.Json.{json_of}
 use Rattle.eql_lines.specs.Reading.{json_read, IsEventInTime}
 use Rattle.eql_lines.specs.Gathered.{line_in_slots}
-use Rattle.eql_lines.specs.Routes.{names_of}
+use Rattle.eql_lines.specs.PathTable.{names_of}
 use Rattle.eql_lines.specs.WantedPaths.{wanted_paths}
 use Rattle.eql_lines.proofs.EventTimes.{json_in_time}
 use Rattle.eql_lines.proofs.Events.{line_is}

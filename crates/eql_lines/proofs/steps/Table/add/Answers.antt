@@ -13,7 +13,7 @@ returns c =
     let old = c.args.self.now in
     let new : Table = record { stops = c.stop.new.self.stops; rows = c.put.new.rows } in
     let s : Step = record { from = c.args.from; name = c.in_ok-from_slice.field-0; to = c.in_ok-to.to } in
-    let place = c.place_of.result in
+    let place = c.row_number.result in
     let made = c.in_ok-to.ensures in
     let rows = made.rows in
     let put = c.in_ok-put.ensures in
@@ -25,6 +25,6 @@ returns c =
     record {
       table = added_table paths old new c.under.result s place c.requires.table c.requires.from made.stop.0 made.stop.1 made.more made.same made.few here others same goes;
       grown = added_grown paths old new c.under.result s place c.requires.table c.requires.from made.stop.0 made.stop.1 made.more made.same made.few here others same goes;
-      step = ap₂ (λ p n. is_some (step_in (row_at new.rows.items p) c.args.from n)) (sym c.place_of.ensures.0) (sym named)
+      step = ap₂ (λ p n. is_some (step_in (row_at new.rows.items p) c.args.from n)) (sym c.row_number.ensures.0) (sym named)
           ∙ added_step paths old new c.under.result s place c.requires.table c.requires.from made.stop.0 made.stop.1 made.more made.same made.few here others same goes;
     }

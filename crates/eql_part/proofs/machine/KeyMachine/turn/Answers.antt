@@ -2,7 +2,7 @@ use Rattle.std.proofs.Common.{◌≡◌, ◌+◌, ◌<◌, ◌≤◌, ℕ, ◌++
 use Rattle.std.specs.Prelude.{All}
 use Rattle.std.specs.Option.{option_to_list}
 use Rattle.std.proofs.lemmas.List.{length-append}
-use Rattle.eql_values.specs.Matching.{act_by}
+use Rattle.eql_values.specs.Matching.{key_event_by}
 use Rattle.eql_laws.specs.Slots.{chain_coming, slots_after}
 use Rattle.eql_auto.specs.Machine.{Machine, chains_of, slot_after, slot_at, stages, stages_in, tags_of}
 use Rattle.eql_span_list.specs.declared.node.Ticket.{Ticket}
@@ -70,18 +70,18 @@ invariant_of-self g c =
 pub returns-clause-sequences : goal.returns-clause-sequences
 returns-clause-sequences g c = λ k low high.
     ap (λ (m : Machine Ticket). slot_at m.slots k) c.take_off-taken.ensures.machine
-    ∙ subst (λ (m : Machine Ticket). (j : ℕ) → 1 ≤ j → j < stages m → slot_at c.turn-completed.new.self.slots j ≡ slot_after m.span c.args.tag (act_by c.args.order c.args.route.now) m.slots j)
+    ∙ subst (λ (m : Machine Ticket). (j : ℕ) → 1 ≤ j → j < stages m → slot_at c.turn-completed.new.self.slots j ≡ slot_after m.span c.args.tag (key_event_by c.args.order c.args.route.now) m.slots j)
     c.self.view_is c.turn-completed.ensures.sequences k low high
 
 pub returns-clause-slots : goal.returns-clause-slots
 returns-clause-slots g c = λ k low high.
     ap (λ (m : Machine Ticket). chains_of m.slots k) c.take_off-taken.ensures.machine
-    ∙ subst (λ (m : Machine Ticket). (j : ℕ) → 1 ≤ j → j < stages m → chains_of c.turn-completed.new.self.slots j ≡ slots_after m.span (chains_of m.slots) (act_by c.args.order c.args.route.now) j)
+    ∙ subst (λ (m : Machine Ticket). (j : ℕ) → 1 ≤ j → j < stages m → chains_of c.turn-completed.new.self.slots j ≡ slots_after m.span (chains_of m.slots) (key_event_by c.args.order c.args.route.now) j)
     c.self.view_is c.turn-completed.ensures.slots k low high
 
 pub returns-clause-answer : goal.returns-clause-answer
 returns-clause-answer g c =
-    subst (λ (m : Machine Ticket). c.turn-completed.result ≡ chain_coming m.span (chains_of m.slots) (act_by c.args.order c.args.route.now) (stages m)) c.self.view_is c.turn-completed.ensures.answer
+    subst (λ (m : Machine Ticket). c.turn-completed.result ≡ chain_coming m.span (chains_of m.slots) (key_event_by c.args.order c.args.route.now) (stages m)) c.self.view_is c.turn-completed.ensures.answer
 
 pub returns-clause-list : goal.returns-clause-list
 returns-clause-list g c =

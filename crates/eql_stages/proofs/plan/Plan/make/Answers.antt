@@ -11,10 +11,10 @@ invariant_of-result c =
     let both = stages_between body c.rules_are_kept.ensures.checked.stages c.rules_are_kept.ensures.runs in
     let least = both.0 in
     let most = both.1 in
-    let count : c.stage_count-stages.result ≡ length (stages_in body) = c.stage_count-stages.ensures ∙ c.in_ok-judges.ensures.stages.count in
+    let count : c.stage_count-stages.result ≡ length (stages_in body) = c.stage_count-stages.ensures ∙ c.in_ok-matchers.ensures.stages.count in
     record {
-      judge = c.in_ok-judges.ensures.stages;
-      end = c.in_ok-judges.ensures.until;
+      matcher = c.in_ok-matchers.ensures.stages;
+      end = c.in_ok-matchers.ensures.until;
       count = count;
       from = omega arith;
       to = omega arith;
