@@ -12,7 +12,7 @@ use Rattle.eql_laws.specs.Together.{NoneIsBelow}
 use Rattle.eql_laws.proofs.MarkLemmas.{below_up}
 use Rattle.eql_lane.specs.declared.ops.LaneReply.{LaneReply}
 use Rattle.eql_lane.specs.declared.ops.LaneReply.TheVariants as reply
-use Rattle.eql_lane.specs.declared.ops.LimitOf.TheVariants as limit
+use Rattle.eql_lane.specs.declared.ops.ShardLimit.TheVariants as limit
 use Rattle.eql_lane.specs.Lanes.{Setting, LaneState, Feeds, IsFeedStep, FeedsLines, Takes, lesser, low, ready}
 use Rattle.eql_conductor.specs.LaneCalls.{Holds}
 use Rattle.eql_conductor.specs.Benches.{FeedsTimes, ComesByFeeds}
@@ -34,8 +34,6 @@ holding_feed set x max reply.Closed y h step = too_full set x h step.not_full
 holding_feed set x max (reply.Failed n) y h step = too_full set x h step.feeds.not_full
 holding_feed set x max (reply.Limit (limit.Lines shard)) y h step = too_full set x h step.1.feeds.not_full
 holding_feed set x max (reply.Limit (limit.Bytes shard)) y h step = too_full set x h step.1.feeds.not_full
-holding_feed set x max (reply.Limit limit.Turns) y h step = absurd step
-holding_feed set x max (reply.Limit limit.Generation) y h step = absurd step
 holding_feed set x max (reply.Memory n) y h step = too_full set x h step.feeds.not_full
 holding_feed set x max (reply.Taken items) y h step = absurd step
 holding_feed set x max (reply.Low mark) y h step = absurd step
@@ -61,8 +59,6 @@ closed_feed set x max reply.Closed y e step = step.closed
 closed_feed set x max (reply.Failed n) y e step = was_open set x max n y e step.feeds
 closed_feed set x max (reply.Limit (limit.Lines shard)) y e step = was_open set x max step.1.n y e step.1.feeds
 closed_feed set x max (reply.Limit (limit.Bytes shard)) y e step = was_open set x max step.1.n y e step.1.feeds
-closed_feed set x max (reply.Limit limit.Turns) y e step = absurd step
-closed_feed set x max (reply.Limit limit.Generation) y e step = absurd step
 closed_feed set x max (reply.Memory n) y e step = was_open set x max n y e step.feeds
 closed_feed set x max (reply.Taken items) y e step = absurd step
 closed_feed set x max (reply.Low mark) y e step = absurd step

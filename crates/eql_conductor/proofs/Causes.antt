@@ -1,7 +1,7 @@
 -- Why a run ends.
 use Rattle.std.proofs.Common.{◌≡◌, ◌≢◌, inl, inr, ◌≤◌, ℕ, sym, ap, ◌∙◌, subst}
 use Rattle.std.specs.Prelude.{IfErr, Result, Ok, Err}
-use Rattle.eql_lane.specs.declared.ops.LimitOf.TheVariants as limit
+use Rattle.eql_lane.specs.declared.ops.ShardLimit.TheVariants as limit
 use Rattle.eql_outside.specs.Outside.{Rose}
 use Rattle.eql_conductor.specs.declared.plan.End.{End as Ends}
 use Rattle.eql_conductor.specs.declared.plan.End.TheVariants as end

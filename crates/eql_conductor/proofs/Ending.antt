@@ -14,7 +14,7 @@ use Rattle.eql_values.specs.Marks.{low_of}
 use Rattle.eql_laws.specs.Belows.{between}
 use Rattle.eql_laws.specs.Lateness.{IsAtMost}
 use Rattle.eql_laws.proofs.MarkLemmas.{at_most_end, at_most_self, at_most_trans}
-use Rattle.eql_lane.specs.declared.ops.LimitOf.TheVariants as limit
+use Rattle.eql_lane.specs.declared.ops.ShardLimit.TheVariants as limit
 use Rattle.eql_lane.specs.Lanes.{LaneState, Setting, low}
 use Rattle.eql_outside.specs.Moments.{History}
 use Rattle.eql_outside.specs.Written.{WroteAll, WroteFront}

@@ -16,7 +16,7 @@ use Rattle.eql_laws.proofs.CutLemmas.{sorted_fewer}
 use Rattle.eql_lane.specs.declared.ops.LaneOp.TheVariants as op
 use Rattle.eql_lane.specs.declared.ops.LaneReply.{LaneReply}
 use Rattle.eql_lane.specs.declared.ops.LaneReply.TheVariants as reply
-use Rattle.eql_lane.specs.declared.ops.LimitOf.TheVariants as limit
+use Rattle.eql_lane.specs.declared.ops.ShardLimit.TheVariants as limit
 use Rattle.eql_lane.specs.Lanes.{Setting, LaneState, IsFeedStep, IsSnapStep, IsTakeStep, ReadsOn, Takes, lesser, low}
 use Rattle.eql_conductor.specs.declared.bench.NotPlayed.{NotPlayed}
 use Rattle.eql_conductor.specs.Benches.{Known, StaysSame, FeedsTimes, ComesByFeeds, LanesRest, LanePlays, WasNotPlayed}
@@ -68,8 +68,6 @@ feed_hands set x max reply.Closed y step = reads_hand set x 0 y step.reads
 feed_hands set x max (reply.Failed n) y step = reads_hand set x n y step.feeds.reads
 feed_hands set x max (reply.Limit (limit.Lines shard)) y step = reads_hand set x step.1.n y step.1.feeds.reads
 feed_hands set x max (reply.Limit (limit.Bytes shard)) y step = reads_hand set x step.1.n y step.1.feeds.reads
-feed_hands set x max (reply.Limit limit.Turns) y step = absurd step
-feed_hands set x max (reply.Limit limit.Generation) y step = absurd step
 feed_hands set x max (reply.Memory n) y step = reads_hand set x n y step.feeds.reads
 feed_hands set x max (reply.Taken items) y step = absurd step
 feed_hands set x max (reply.Low mark) y step = absurd step

@@ -21,7 +21,7 @@ use Rattle.eql_laws.proofs.Kept.{low_rises}
 use Rattle.eql_laws.proofs.MarkLemmas.{accepted_above, at_most_trans, low_up}
 use Rattle.eql_lane.specs.declared.ops.LaneReply.{LaneReply}
 use Rattle.eql_lane.specs.declared.ops.LaneReply.TheVariants as reply
-use Rattle.eql_lane.specs.declared.ops.LimitOf.TheVariants as limit
+use Rattle.eql_lane.specs.declared.ops.ShardLimit.TheVariants as limit
 use Rattle.eql_lane.specs.Keeps.{LaneIs, HandsOut}
 use Rattle.eql_lane.specs.Lanes.{Setting, LaneState, IsFeedStep, ReadsOn, Takes, WasClosed, greater, lesser, low}
 use Rattle.eql_lane.proofs.Keeping.{feed_keeps, take_keeps}
@@ -142,8 +142,6 @@ feed_holds set mark old max reply.Closed new reading step h = was_closed set mar
 feed_holds set mark old max (reply.Failed n) new reading step h = reads_hold set mark old n new reading step.feeds.was_open step.feeds.reads h
 feed_holds set mark old max (reply.Limit (limit.Lines shard)) new reading step h = reads_hold set mark old step.1.n new reading step.1.feeds.was_open step.1.feeds.reads h
 feed_holds set mark old max (reply.Limit (limit.Bytes shard)) new reading step h = reads_hold set mark old step.1.n new reading step.1.feeds.was_open step.1.feeds.reads h
-feed_holds set mark old max (reply.Limit limit.Turns) new reading step h = absurd step
-feed_holds set mark old max (reply.Limit limit.Generation) new reading step h = absurd step
 feed_holds set mark old max (reply.Memory n) new reading step h = reads_hold set mark old n new reading step.feeds.was_open step.feeds.reads h
 feed_holds set mark old max (reply.Taken items) new reading step h = absurd step
 feed_holds set mark old max (reply.Low m) new reading step h = absurd step

@@ -7,7 +7,7 @@ use Rattle.eql_laws.specs.Lateness.{IsAtMost}
 use Rattle.eql_laws.proofs.MarkLemmas.{at_most_self, at_most_trans}
 use Rattle.eql_lane.specs.declared.ops.LaneOp.TheVariants as op
 use Rattle.eql_lane.specs.declared.ops.LaneReply.TheVariants as reply
-use Rattle.eql_lane.specs.declared.ops.LimitOf.TheVariants as limit
+use Rattle.eql_lane.specs.declared.ops.ShardLimit.TheVariants as limit
 use Rattle.eql_lane.specs.Lanes.{Setting, LaneState, low, lesser}
 use Rattle.eql_conductor.specs.declared.stop.Stop.TheVariants as stop
 use Rattle.eql_conductor.specs.Benches.{Known, ComesByFeeds, LanePlays, Rests}

@@ -10,7 +10,7 @@ use Rattle.eql_laws.proofs.MarkLemmas.{at_most_end, at_most_self}
 use Rattle.eql_laws.proofs.Kept.{low_rises}
 use Rattle.eql_lane.specs.declared.ops.LaneReply.{LaneReply}
 use Rattle.eql_lane.specs.declared.ops.LaneReply.TheVariants as reply
-use Rattle.eql_lane.specs.declared.ops.LimitOf.TheVariants as limit
+use Rattle.eql_lane.specs.declared.ops.ShardLimit.TheVariants as limit
 use Rattle.eql_lane.specs.Lanes.{Setting, LaneState, IsFeedStep, ReadsOn, low}
 
 pub low_same : (set : Setting) (x y : LaneState) → y ≡ x → IsAtMost (low set x) (low set y)
@@ -33,8 +33,6 @@ feed_low set x max reply.Closed y step = closed_low set x y step.closed
 feed_low set x max (reply.Failed n) y step = reads_low set x n y step.feeds.was_open step.feeds.reads
 feed_low set x max (reply.Limit (limit.Lines shard)) y step = reads_low set x step.1.n y step.1.feeds.was_open step.1.feeds.reads
 feed_low set x max (reply.Limit (limit.Bytes shard)) y step = reads_low set x step.1.n y step.1.feeds.was_open step.1.feeds.reads
-feed_low set x max (reply.Limit limit.Turns) y step = absurd step
-feed_low set x max (reply.Limit limit.Generation) y step = absurd step
 feed_low set x max (reply.Memory n) y step = reads_low set x n y step.feeds.was_open step.feeds.reads
 feed_low set x max (reply.Taken items) y step = absurd step
 feed_low set x max (reply.Low mark) y step = absurd step

@@ -11,7 +11,7 @@ use Rattle.eql_lane.specs.declared.ops.LaneOp.{LaneOp}
 use Rattle.eql_lane.specs.declared.ops.LaneOp.TheVariants as op
 use Rattle.eql_lane.specs.declared.ops.LaneReply.{LaneReply}
 use Rattle.eql_lane.specs.declared.ops.LaneReply.TheVariants as reply
-use Rattle.eql_lane.specs.declared.ops.LimitOf.TheVariants as limit
+use Rattle.eql_lane.specs.declared.ops.ShardLimit.TheVariants as limit
 use Rattle.eql_lane.specs.Lanes.{Setting, LaneState, IsFeedStep, IsTakeStep, IsLookStep, IsSnapStep, IsLaneStep, ReadsOn, Takes, IsOutOfLines, low, lesser}
 use Rattle.eql_conductor.specs.declared.bench.NotPlayed.{NotPlayed}
 use Rattle.eql_conductor.specs.declared.bench.NotPlayed.TheVariants as not_played
@@ -49,8 +49,6 @@ feed_onward set x max reply.Closed y step = reads_onward set x 0 y (feed_low set
 feed_onward set x max (reply.Failed n) y step = reads_onward set x n y (feed_low set x max (reply.Failed n) y step) step.feeds.reads
 feed_onward set x max (reply.Limit (limit.Lines shard)) y step = reads_onward set x step.1.n y (feed_low set x max (reply.Limit (limit.Lines shard)) y step) step.1.feeds.reads
 feed_onward set x max (reply.Limit (limit.Bytes shard)) y step = reads_onward set x step.1.n y (feed_low set x max (reply.Limit (limit.Bytes shard)) y step) step.1.feeds.reads
-feed_onward set x max (reply.Limit limit.Turns) y step = absurd step
-feed_onward set x max (reply.Limit limit.Generation) y step = absurd step
 feed_onward set x max (reply.Memory n) y step = reads_onward set x n y (feed_low set x max (reply.Memory n) y step) step.feeds.reads
 feed_onward set x max (reply.Taken items) y step = absurd step
 feed_onward set x max (reply.Low mark) y step = absurd step

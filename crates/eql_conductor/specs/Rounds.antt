@@ -9,7 +9,7 @@ use Rattle.eql_values.specs.Accepted.{Reads}
 use Rattle.eql_values.specs.Matching.{matches}
 use Rattle.eql_laws.specs.Belows.{IsMarkTime, between, greatest_slack}
 use Rattle.eql_laws.specs.Lateness.{IsAtMost}
-use Rattle.eql_lane.specs.declared.ops.LimitOf.TheVariants as limit
+use Rattle.eql_lane.specs.declared.ops.ShardLimit.TheVariants as limit
 use Rattle.eql_outside.specs.Written.{WroteAll, WroteFront}
 use Rattle.eql_book.specs.Books.{BookState, book_after, let_out}
 use Rattle.eql_book.specs.Listing.{listing}

@@ -4,7 +4,7 @@ use Rattle.eql_values.specs.declared.found.Holder.{Holder}
 use Rattle.eql_values.specs.declared.order.Mark.{Mark}
 use Rattle.eql_values.specs.declared.order.Mark.TheVariants.{Start, At, End}
 use Rattle.eql_laws.specs.Lateness.{IsAtMost}
-use Rattle.eql_lane.specs.declared.ops.LimitOf.TheVariants as limit
+use Rattle.eql_lane.specs.declared.ops.ShardLimit.TheVariants as limit
 use Rattle.eql_outside.specs.Moments.{History}
 use Rattle.eql_parts.specs.PartSteps.{Rules}
 use Rattle.eql_book.specs.Books.{BookState}

@@ -14,7 +14,7 @@ use Rattle.eql_outside.specs.Outside.{Rose}
 use Rattle.eql_outside.specs.Plans.{FaultPlan}
 use Rattle.eql_outside.specs.Unfailing.{IsUnfailing}
 use Rattle.eql_outside.specs.Written.{WroteAll, WroteFront, WroteThrough}
-use Rattle.eql_lane.specs.declared.ops.LimitOf.TheVariants as limit
+use Rattle.eql_lane.specs.declared.ops.ShardLimit.TheVariants as limit
 use Rattle.eql_lane.specs.Lanes.{IsOutOfLines, LaneState}
 use Rattle.eql_parts.specs.PartSteps.{Rules}
 use Rattle.eql_book.specs.Books.{BookState, book_after, held_back, kept_after, let_out}

@@ -10,7 +10,7 @@ ghost use Rattle.eql_conductor.specs.declared.note.Note.TheVariants.{Fed, Looked
 
 use crate::bench::Bench;
 use crate::stop::{Stop, unplayed};
-use eql_lane::{LaneOp, LaneReply, LimitOf};
+use eql_lane::{LaneOp, LaneReply, ShardLimit};
 use eql_values::Mark;
 
 // Feeds one lane.
@@ -33,11 +33,11 @@ fn feed_one<B: Bench>(bench: &mut B, s: u32, batch: u32) -> Result<(), Stop>
         Ok(LaneReply::Held { ready: _ }) => Ok(()),
         Ok(LaneReply::Closed) => Ok(()),
         Ok(LaneReply::Failed { lines: _ }) => Err(Stop::Read { shard: s }),
-        Ok(LaneReply::Limit(LimitOf::Lines { shard: _ })) => {
-            Err(Stop::Limit(LimitOf::Lines { shard: s }))
+        Ok(LaneReply::Limit(ShardLimit::Lines { shard: _ })) => {
+            Err(Stop::Limit(ShardLimit::Lines { shard: s }))
         }
-        Ok(LaneReply::Limit(LimitOf::Bytes { shard: _ })) => {
-            Err(Stop::Limit(LimitOf::Bytes { shard: s }))
+        Ok(LaneReply::Limit(ShardLimit::Bytes { shard: _ })) => {
+            Err(Stop::Limit(ShardLimit::Bytes { shard: s }))
         }
         Ok(LaneReply::Memory { lines: _ }) => Err(Stop::Memory),
         Ok(_) => unreachable!(),

@@ -2,7 +2,7 @@
 
 use eql_ckdisk::CkState;
 use eql_cut::CutHead;
-use eql_lane::LimitOf;
+use eql_lane::ShardLimit;
 use eql_values::Mark;
 
 /// How a run goes.
@@ -44,5 +44,5 @@ pub enum End {
     /// Memory ran out.
     Memory,
     /// A number reached its limit.
-    Limit(LimitOf),
+    Limit(ShardLimit),
 }

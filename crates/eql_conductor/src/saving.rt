@@ -4,7 +4,7 @@ ghost use Rattle.eql_values.specs.declared.found.Holder.{Holder};
 ghost use Rattle.eql_values.specs.declared.order.Mark.TheVariants.{At as AtTime};
 ghost use Rattle.eql_outside.specs.Outside.{Rose};
 ghost use Rattle.eql_outside.specs.Unfailing.{IsUnfailing};
-ghost use Rattle.eql_lane.specs.declared.ops.LimitOf.TheVariants.{Generation};
+ghost use Rattle.eql_lane.specs.declared.ops.ShardLimit.TheVariants.{Generation};
 ghost use Rattle.eql_parts.specs.PartSteps.{Rules};
 ghost use Rattle.eql_cut.specs.Domain.{IsCut};
 ghost use Rattle.eql_ckdisk.specs.Cuts.{Holds};
@@ -27,7 +27,7 @@ use crate::stop::Stop;
 use eql_book::Book;
 use eql_ckdisk::{CkRefused, put, puts_go_on};
 use eql_cut::{Cut, CutHead};
-use eql_lane::LimitOf;
+use eql_lane::ShardLimit;
 use eql_outside::Disk;
 use eql_values::{Holders, LaneCuts, Memory};
 use std::alloc::Global;
@@ -138,7 +138,7 @@ fn put_cut<D: Disk>(alloc: Global, keep: &mut Keep<D>, cut: &Cut) -> Result<(), 
         Ok(()) => Ok(()),
         Err(CkRefused::DiskFault) => Err(Stop::Disk),
         Err(CkRefused::Memory) => Err(Stop::Memory),
-        Err(CkRefused::Generation) => Err(Stop::Limit(LimitOf::Generation)),
+        Err(CkRefused::Generation) => Err(Stop::Limit(ShardLimit::Generation)),
         Err(CkRefused::Damaged { area: _, at: _ }) => unreachable!(),
     }
 }

@@ -3,7 +3,7 @@ ghost use Rattle.std.specs.Prelude.{◌≡◌};
 ghost use Rattle.eql_conductor.specs.Going.{stop_by};
 
 use crate::bench::NotPlayed;
-use eql_lane::LimitOf;
+use eql_lane::ShardLimit;
 
 /// Why a round isn't played to its end.
 #[derive(Clone, Copy, PartialEq, Eq)]
@@ -17,7 +17,7 @@ pub(crate) enum Stop {
     /// Memory ran out.
     Memory,
     /// A number reached its limit.
-    Limit(LimitOf),
+    Limit(ShardLimit),
 }
 
 /// An operation that wasn't played stops the round.
@@ -25,7 +25,7 @@ pub(crate) fn unplayed(by: NotPlayed) -> Stop
     ensures { result ≡ stop_by by }
 {
     match by {
-        NotPlayed::Worn { word: _ } => Stop::Limit(LimitOf::Turns),
+        NotPlayed::Worn { word: _ } => Stop::Limit(ShardLimit::Turns),
         NotPlayed::Memory => Stop::Memory,
     }
 }

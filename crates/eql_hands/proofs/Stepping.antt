@@ -35,7 +35,8 @@ part_ends_step : (batch : ℕ) (answer : Did) (place : ℕ) (v w : PartKnown) �
 part_ends_step batch (did.Turned part) place v w (is, (items, h)) = step_played IsPartTurn is_open_part v w (part_op.Turn batch) (part_reply.Turned items) h
 part_ends_step batch (did.Fault fault.Memory) place v w (back, (items, h)) =
     step_played IsPartTurn is_open_part v w (part_op.Turn batch) (part_reply.Memory back items) h
-part_ends_step batch (did.Fault (fault.Limit of)) place v w (is, (word, h)) = step_worn v w (part_op.Turn batch) (part_op.Turn batch) word h
+part_ends_step batch (did.Fault fault.Worn) place v w (word, h) = step_worn v w (part_op.Turn batch) (part_op.Turn batch) word h
+part_ends_step batch (did.Fault (fault.Limit of)) place v w h = absurd h
 part_ends_step batch (did.Fault (fault.Read shard)) place v w h = absurd h
 part_ends_step batch (did.Fed lane) place v w h = absurd h
 part_ends_step batch did.Nothing place v w h = absurd h
@@ -59,9 +60,9 @@ module _ {S L : Type 0} (left lent_as : S → Option (List ℕ)) (fault_plan : S
       step_played (IsLaneTurn left lent_as fault_plan read_of) is_open_lane v w (lane_op.Feed batch) (lane_reply.Failed lines) h
   lane_ends_step (did.Fault fault.Memory) place v w (lines, h) =
       step_played (IsLaneTurn left lent_as fault_plan read_of) is_open_lane v w (lane_op.Feed batch) (lane_reply.Memory lines) h
-  lane_ends_step (did.Fault (fault.Limit of)) place v w (inl h) =
+  lane_ends_step (did.Fault (fault.Limit of)) place v w h =
       step_played (IsLaneTurn left lent_as fault_plan read_of) is_open_lane v w (lane_op.Feed batch) (lane_reply.Limit of) h
-  lane_ends_step (did.Fault (fault.Limit of)) place v w (inr (is, (word, h))) = step_worn v w (lane_op.Feed batch) (lane_op.Feed batch) word h
+  lane_ends_step (did.Fault fault.Worn) place v w (word, h) = step_worn v w (lane_op.Feed batch) (lane_op.Feed batch) word h
   lane_ends_step (did.Turned part) place v w h = absurd h
   lane_ends_step did.Nothing place v w h = absurd h
 

@@ -64,7 +64,8 @@ part_quiet_more batch v w (inr h) = part_idle_more batch v w h
 part_ends_more : (batch : ℕ) (answer : Did) (place : ℕ) (v w : PartKnown) → PartEnds batch answer place v w → AddsAtMostOne v w
 part_ends_more batch (did.Turned part) place v w (is, (items, h)) = more_played IsPartTurn is_open_part v w (part_op.Turn batch) (part_reply.Turned items) h
 part_ends_more batch (did.Fault fault.Memory) place v w (back, (items, h)) = more_played IsPartTurn is_open_part v w (part_op.Turn batch) (part_reply.Memory back items) h
-part_ends_more batch (did.Fault (fault.Limit of)) place v w (is, (word, h)) = more_refused v w (part_op.Turn batch) (Worn word (part_op.Turn batch)) h
+part_ends_more batch (did.Fault fault.Worn) place v w (word, h) = more_refused v w (part_op.Turn batch) (Worn word (part_op.Turn batch)) h
+part_ends_more batch (did.Fault (fault.Limit of)) place v w h = absurd h
 part_ends_more batch (did.Fault (fault.Read shard)) place v w h = absurd h
 part_ends_more batch (did.Fed lane) place v w h = absurd h
 part_ends_more batch did.Nothing place v w h = absurd h
@@ -87,9 +88,9 @@ module _ {S L : Type 0} (left lent_as : S → Option (List ℕ)) (fault_plan : S
       more_played (IsLaneTurn left lent_as fault_plan read_of) is_open_lane v w (lane_op.Feed batch) (lane_reply.Failed lines) h
   lane_ends_more (did.Fault fault.Memory) place v w (lines, h) =
       more_played (IsLaneTurn left lent_as fault_plan read_of) is_open_lane v w (lane_op.Feed batch) (lane_reply.Memory lines) h
-  lane_ends_more (did.Fault (fault.Limit of)) place v w (inl h) =
+  lane_ends_more (did.Fault (fault.Limit of)) place v w h =
       more_played (IsLaneTurn left lent_as fault_plan read_of) is_open_lane v w (lane_op.Feed batch) (lane_reply.Limit of) h
-  lane_ends_more (did.Fault (fault.Limit of)) place v w (inr (is, (word, h))) = more_refused v w (lane_op.Feed batch) (Worn word (lane_op.Feed batch)) h
+  lane_ends_more (did.Fault fault.Worn) place v w (word, h) = more_refused v w (lane_op.Feed batch) (Worn word (lane_op.Feed batch)) h
   lane_ends_more (did.Turned part) place v w h = absurd h
   lane_ends_more did.Nothing place v w h = absurd h
 

@@ -48,7 +48,7 @@ module _ {S L : Type 0} (left lent_as : S → Option (List ℕ)) (fault_plan : S
   lane_went lane (Idle op) v w h = inr (inr (inr (h.1, h.2)))
   lane_went lane (Played (lane_reply.Fed lines)) v w h = (refl, (lines, h))
   lane_went lane (Played (lane_reply.Failed lines)) v w h = (refl, (lines, h))
-  lane_went lane (Played (lane_reply.Limit of)) v w h = inl h
+  lane_went lane (Played (lane_reply.Limit of)) v w h = h
   lane_went lane (Played (lane_reply.Memory lines)) v w h = (lines, h)
   lane_went lane (Played (lane_reply.Held ready)) v w h = inl (ready, h)
   lane_went lane (Played lane_reply.Closed) v w h = inr (inl h)
@@ -59,7 +59,7 @@ module _ {S L : Type 0} (left lent_as : S → Option (List ℕ)) (fault_plan : S
   lane_went lane (Played (lane_reply.Cut cut)) v w h =
       absurd ((last_step (IsLaneTurn left lent_as fault_plan read_of) is_open_lane v w (lane_op.Feed batch) (lane_reply.Cut cut) h).2.plays None tt).step
   lane_went lane (Refused (Busy word op)) v w h = inr (inr (inl (word, subst (λ (o : LaneOp). Refuses v (lane_op.Feed batch) (Busy word o) w) h.0 h)))
-  lane_went lane (Refused (Worn word op)) v w h = inr (refl, (word, subst (λ (o : LaneOp). Refuses v (lane_op.Feed batch) (Worn word o) w) h.0 h))
+  lane_went lane (Refused (Worn word op)) v w h = (word, subst (λ (o : LaneOp). Refuses v (lane_op.Feed batch) (Worn word o) w) h.0 h)
 
   pub lane_try : (lane : ℕ) (tried : Tried LaneReply LaneOp) (answer : Option Did) (old new : List (LaneKnown S L)) → answer ≡ tried_lane lane tried
       → ChangesAt lane (λ (v w : LaneKnown S L). PlaysUnlessIdle (IsLaneTurn left lent_as fault_plan read_of) is_open_lane is_idle_lane v (lane_op.Feed batch) tried w
@@ -91,7 +91,7 @@ part_went batch part (Played (part_reply.Found found done)) v w h =
 part_went batch part (Played (part_reply.Cut holders)) v w h =
     absurd (last_step IsPartTurn is_open_part v w (part_op.Turn batch) (part_reply.Cut holders) h).2.step
 part_went batch part (Refused (Busy word op)) v w h = inr (inl (word, subst (λ (o : PartOp). Refuses v (part_op.Turn batch) (Busy word o) w) h.0 h))
-part_went batch part (Refused (Worn word op)) v w h = (refl, (word, subst (λ (o : PartOp). Refuses v (part_op.Turn batch) (Worn word o) w) h.0 h))
+part_went batch part (Refused (Worn word op)) v w h = (word, subst (λ (o : PartOp). Refuses v (part_op.Turn batch) (Worn word o) w) h.0 h)
 
 pub part_try : (batch part : ℕ) (tried : Tried PartReply PartOp) (answer : Option Did) (old new : List PartKnown) → answer ≡ tried_part part tried
     → ChangesAt part (λ (v w : PartKnown). PlaysUnlessIdle IsPartTurn is_open_part is_idle_part v (part_op.Turn batch) tried w × KnowsHistory IsPartTurn is_open_part w) old new

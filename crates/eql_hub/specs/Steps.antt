@@ -6,7 +6,6 @@ use Rattle.eql_outside.specs.Plans.{FaultPlan}
 use Rattle.eql_lane.specs.declared.ops.LaneOp.TheVariants as lane_op
 use Rattle.eql_lane.specs.declared.ops.LaneReply.{LaneReply}
 use Rattle.eql_lane.specs.declared.ops.LaneReply.TheVariants as lane_reply
-use Rattle.eql_lane.specs.declared.ops.LimitOf.TheVariants.{Turns}
 use Rattle.eql_parts.specs.declared.ops.PartOp.TheVariants as part_op
 use Rattle.eql_parts.specs.declared.ops.PartReply.{PartReply}
 use Rattle.eql_parts.specs.declared.ops.PartReply.TheVariants as part_reply
@@ -62,7 +61,8 @@ PartIsQuiet batch v w = (w ≡ v) ⊎ PartIsIdle batch v w
 abbrev pub PartEnds : (batch : ℕ) → Did → (place : ℕ) → PartKnown → PartKnown → Type 0
 PartEnds batch (did.Turned part) place v w = (part ≡ place) × ((items : ℕ) × PartAnswers batch (part_reply.Turned items) v w)
 PartEnds batch (did.Fault fault.Memory) place v w = (back : List Item) × ((items : ℕ) × PartAnswers batch (part_reply.Memory back items) v w)
-PartEnds batch (did.Fault (fault.Limit of)) place v w = (of ≡ Turns) × PartIsWorn batch v w
+PartEnds batch (did.Fault fault.Worn) place v w = PartIsWorn batch v w
+PartEnds batch (did.Fault (fault.Limit of)) place v w = ⊥
 PartEnds batch (did.Fault (fault.Read shard)) place v w = ⊥
 PartEnds batch (did.Fed lane) place v w = ⊥
 PartEnds batch did.Nothing place v w = ⊥
@@ -99,7 +99,8 @@ module _ {S L : Type 0} (left lent_as : S → Option (List ℕ)) (fault_plan : S
   LaneEnds (did.Fed lane) place v w = (lane ≡ place) × ((lines : ℕ) × LaneAnswers (lane_reply.Fed lines) v w)
   LaneEnds (did.Fault (fault.Read shard)) place v w = (shard ≡ place) × ((lines : ℕ) × LaneAnswers (lane_reply.Failed lines) v w)
   LaneEnds (did.Fault fault.Memory) place v w = (lines : ℕ) × LaneAnswers (lane_reply.Memory lines) v w
-  LaneEnds (did.Fault (fault.Limit of)) place v w = LaneAnswers (lane_reply.Limit of) v w ⊎ ((of ≡ Turns) × LaneIsWorn v w)
+  LaneEnds (did.Fault (fault.Limit of)) place v w = LaneAnswers (lane_reply.Limit of) v w
+  LaneEnds (did.Fault fault.Worn) place v w = LaneIsWorn v w
   LaneEnds (did.Turned part) place v w = ⊥
   LaneEnds did.Nothing place v w = ⊥
 

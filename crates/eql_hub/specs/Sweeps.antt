@@ -5,7 +5,6 @@ use Rattle.eql_outside.specs.Plans.{FaultPlan}
 use Rattle.eql_lane.specs.declared.ops.LaneOp.{LaneOp}
 use Rattle.eql_lane.specs.declared.ops.LaneReply.{LaneReply}
 use Rattle.eql_lane.specs.declared.ops.LaneReply.TheVariants as lane_reply
-use Rattle.eql_lane.specs.declared.ops.LimitOf.TheVariants.{Turns}
 use Rattle.eql_parts.specs.declared.ops.PartOp.{PartOp}
 use Rattle.eql_parts.specs.declared.ops.PartReply.{PartReply}
 use Rattle.eql_parts.specs.declared.ops.PartReply.TheVariants as part_reply
@@ -46,7 +45,7 @@ turned_with part (part_reply.Cut holders) = None
 -- what a refusal ends it with
 abbrev pub refused_with : {O : Type 0} → NotNow O → Option Did
 refused_with (Busy word op) = None
-refused_with (Worn word op) = Some (did.Fault (fault.Limit Turns))
+refused_with (Worn word op) = Some (did.Fault fault.Worn)
 
 abbrev pub tried_lane : (lane : ℕ) → Tried LaneReply LaneOp → Option Did
 tried_lane lane (Idle op) = None

@@ -2,7 +2,7 @@
 ghost use Rattle.std.specs.Prelude.{◌≡◌};
 ghost use Rattle.eql_hub.specs.Sweeps.{tried_lane, tried_part};
 
-use eql_lane::{LaneOp, LaneReply, LimitOf};
+use eql_lane::{LaneOp, LaneReply, ShardLimit};
 use eql_parts::{PartOp, PartReply};
 use eql_turn_lock::{NotNow, Tried};
 
@@ -16,8 +16,10 @@ pub enum HandFault {
     },
     /// Memory ran out.
     Memory,
-    /// A number reached its limit.
-    Limit(LimitOf),
+    /// A shard reached a limit.
+    Limit(ShardLimit),
+    /// A lock has had so many turns that it takes no more.
+    Worn,
 }
 
 /// What one step did.
@@ -53,9 +55,7 @@ pub(crate) fn after_feed(lane: u32, tried: Tried<LaneReply, LaneOp>) -> Option<D
             _ => None,
         },
         Tried::Refused(NotNow::Busy { word: _, op: _ }) => None,
-        Tried::Refused(NotNow::Worn { word: _, op: _ }) => {
-            Some(Did::Fault(HandFault::Limit(LimitOf::Turns)))
-        }
+        Tried::Refused(NotNow::Worn { word: _, op: _ }) => Some(Did::Fault(HandFault::Worn)),
     }
 }
 
@@ -71,8 +71,6 @@ pub(crate) fn after_turn(part: u32, tried: Tried<PartReply, PartOp>) -> Option<D
             _ => None,
         },
         Tried::Refused(NotNow::Busy { word: _, op: _ }) => None,
-        Tried::Refused(NotNow::Worn { word: _, op: _ }) => {
-            Some(Did::Fault(HandFault::Limit(LimitOf::Turns)))
-        }
+        Tried::Refused(NotNow::Worn { word: _, op: _ }) => Some(Did::Fault(HandFault::Worn)),
     }
 }

@@ -12,7 +12,7 @@ use Rattle.eql_laws.specs.Counting.{greatest_bytes}
 use Rattle.eql_lane.specs.declared.ops.LaneOp.{LaneOp}
 use Rattle.eql_lane.specs.declared.ops.LaneReply.{LaneReply}
 use Rattle.eql_lane.specs.declared.ops.LaneReply.TheVariants as lane_reply
-use Rattle.eql_lane.specs.declared.ops.LimitOf.TheVariants as limit
+use Rattle.eql_lane.specs.declared.ops.ShardLimit.TheVariants as limit
 use Rattle.eql_lane.specs.Lanes.{IsLaneStep, IsOutOfLines, LaneState, Setting}
 use Rattle.eql_lane.specs.Plays.{DidNotFail}
 use Rattle.eql_lane.specs.Views.{LaneView}

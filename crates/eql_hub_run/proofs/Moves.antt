@@ -11,7 +11,7 @@ use Rattle.eql_lane.specs.declared.ops.LaneOp.{LaneOp}
 use Rattle.eql_lane.specs.declared.ops.LaneOp.TheVariants as op
 use Rattle.eql_lane.specs.declared.ops.LaneReply.{LaneReply}
 use Rattle.eql_lane.specs.declared.ops.LaneReply.TheVariants as reply
-use Rattle.eql_lane.specs.declared.ops.LimitOf.TheVariants as limit
+use Rattle.eql_lane.specs.declared.ops.ShardLimit.TheVariants as limit
 use Rattle.eql_lane.specs.Lanes.{IsFeedStep, IsLaneStep, IsLookStep, IsOutOfLines, IsSnapStep, IsTakeStep, LaneState, ReadsOn, Setting, Takes}
 use Rattle.eql_lane.proofs.FeedLines.{length_numbered}
 use Rattle.eql_conductor.specs.Benches.{ComesByFeeds, FeedsTimes}

@@ -6,7 +6,7 @@ use Rattle.eql_outside.specs.Plans.{FaultPlan}
 use Rattle.eql_outside.specs.Unfailing.{IsUnfailing}
 use Rattle.eql_values.specs.Accepted.{Reads}
 use Rattle.eql_laws.specs.Counting.{greatest_bytes}
-use Rattle.eql_lane.specs.declared.ops.LimitOf.TheVariants as limit
+use Rattle.eql_lane.specs.declared.ops.ShardLimit.TheVariants as limit
 use Rattle.eql_lane.specs.Lanes.{IsOutOfLines, LaneState}
 use Rattle.eql_lane.specs.Views.{LaneView, setting_of}
 use Rattle.eql_parts.specs.PartSteps.{PartState, PartView}

@@ -27,7 +27,7 @@ use Rattle.eql_laws.proofs.BelowLemmas.{sorted_with_more, sorted_below}
 use Rattle.eql_laws.proofs.MarkLemmas.{at_most_end, at_most_self, at_most_times, at_most_trans, below_up}
 use Rattle.eql_laws.proofs.Lists.{filter_implied}
 use Rattle.eql_lane.specs.declared.ops.LaneReply.TheVariants as reply
-use Rattle.eql_lane.specs.declared.ops.LimitOf.TheVariants as limit
+use Rattle.eql_lane.specs.declared.ops.ShardLimit.TheVariants as limit
 use Rattle.eql_lane.specs.Lanes.{Setting, LaneState, GoesOn, ReadsOn, Takes, low, lesser, greater, read_on}
 use Rattle.eql_lane.specs.Keeps.{LaneIs, HandsOut, TakesHandOut, FeedsKeep, FreshIs, CutsBegin}
 
@@ -126,8 +126,6 @@ feed_keeps set text mark old max reply.Closed new e step is = reads_keep set tex
 feed_keeps set text mark old max (reply.Failed n) new e step is = reads_keep set text mark old n new e (was_open step.feeds.was_open) step.feeds.reads is
 feed_keeps set text mark old max (reply.Limit (limit.Lines shard)) new e step is = reads_keep set text mark old step.1.n new e (was_open step.1.feeds.was_open) step.1.feeds.reads is
 feed_keeps set text mark old max (reply.Limit (limit.Bytes shard)) new e step is = reads_keep set text mark old step.1.n new e (was_open step.1.feeds.was_open) step.1.feeds.reads is
-feed_keeps set text mark old max (reply.Limit limit.Turns) new e step is = elim step [ ]
-feed_keeps set text mark old max (reply.Limit limit.Generation) new e step is = elim step [ ]
 feed_keeps set text mark old max (reply.Memory n) new e step is = reads_keep set text mark old n new e (was_open step.feeds.was_open) step.feeds.reads is
 feed_keeps set text mark old max (reply.Taken items) new e step is = elim step [ ]
 feed_keeps set text mark old max (reply.Low m) new e step is = elim step [ ]

@@ -16,7 +16,7 @@ use Rattle.eql_lane.specs.declared.ops.LaneOp.{LaneOp}
 use Rattle.eql_lane.specs.declared.ops.LaneOp.TheVariants as op
 use Rattle.eql_lane.specs.declared.ops.LaneReply.{LaneReply}
 use Rattle.eql_lane.specs.declared.ops.LaneReply.TheVariants as reply
-use Rattle.eql_lane.specs.declared.ops.LimitOf.TheVariants as limit
+use Rattle.eql_lane.specs.declared.ops.ShardLimit.TheVariants as limit
 
 -- what no step of a lane changes: its text, where it is told, its shard, its slack in nanoseconds, and what its lines give
 pub record Setting : Type 0 where
@@ -159,8 +159,6 @@ IsFeedStep set old max reply.Closed new = WasClosed set old new
 IsFeedStep set old max (reply.Failed n) new = FailsAfter set old max n new
 IsFeedStep set old max (reply.Limit (limit.Lines shard)) new = (shard ≡ set.shard) × ComesToLimit set old max new × IsOutOfLines set new
 IsFeedStep set old max (reply.Limit (limit.Bytes shard)) new = (shard ≡ set.shard) × ComesToLimit set old max new × (new.taken ≡ greatest_bytes)
-IsFeedStep set old max (reply.Limit limit.Turns) new = ⊥
-IsFeedStep set old max (reply.Limit limit.Generation) new = ⊥
 IsFeedStep set old max (reply.Taken items) new = ⊥
 IsFeedStep set old max (reply.Low mark) new = ⊥
 IsFeedStep set old max (reply.Cut cut) new = ⊥

@@ -15,7 +15,7 @@ ghost use Rattle.eql_lane.specs.Feeding.{Steps, FeedsView, TookTo, line_step as 
 use crate::buffer::{FillRefused, LineBuffer, PIECE};
 use crate::kept::{Kept, placed};
 use crate::make::{LaneRefused, LaneStart};
-use crate::ops::{LaneOp, LaneReply, LimitOf};
+use crate::ops::{LaneOp, LaneReply, ShardLimit};
 use crate::pass::seek;
 use crate::step::Step;
 use eql_outside::{Source, Supply};
@@ -321,8 +321,8 @@ impl<S: Source, L: LineReader> Lane<S, L> {
                 }
                 Step::Failed => return LaneReply::Failed { lines },
                 Step::Memory => return LaneReply::Memory { lines },
-                Step::Lines => return LaneReply::Limit(LimitOf::Lines { shard: self.shard }),
-                Step::Bytes => return LaneReply::Limit(LimitOf::Bytes { shard: self.shard }),
+                Step::Lines => return LaneReply::Limit(ShardLimit::Lines { shard: self.shard }),
+                Step::Bytes => return LaneReply::Limit(ShardLimit::Bytes { shard: self.shard }),
             }
         }
         LaneReply::Fed { lines }

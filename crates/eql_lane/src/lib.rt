@@ -15,4 +15,4 @@ mod step;
 pub use lane::Lane;
 pub use laws::{cuts_begin, feeds_keep, places_have_lines, takes_hand_out};
 pub use make::{LaneRefused, LaneStart};
-pub use ops::{LaneOp, LaneReply, LimitOf};
+pub use ops::{LaneOp, LaneReply, ShardLimit};

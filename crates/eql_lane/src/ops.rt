@@ -21,23 +21,19 @@ pub enum LaneOp {
     Snap,
 }
 
-/// Of what there are as many as there may be.
+/// A limit that a shard, counted from 0, reached.
 #[derive(Clone, Copy, PartialEq, Eq)]
-pub enum LimitOf {
-    /// The lines of a shard.
+pub enum ShardLimit {
+    /// It has more than 4,294,967,294 lines, with those that were counted before it went on from a cut.
     Lines {
         /// The shard.
         shard: u32,
     },
-    /// The bytes of a shard.
+    /// It has 1,099,511,627,776 bytes or more.
     Bytes {
         /// The shard.
         shard: u32,
     },
-    /// The turns of a lock.
-    Turns,
-    /// The generation of a checkpoint.
-    Generation,
 }
 
 /// What a lane returns.
@@ -60,8 +56,8 @@ pub enum LaneReply {
         /// Their number.
         lines: u32,
     },
-    /// A number reached its limit.
-    Limit(LimitOf),
+    /// The shard reached a limit.
+    Limit(ShardLimit),
     /// The events that were handed out.
     Taken(Items),
     /// The low.

@@ -4,7 +4,7 @@ ghost use Rattle.std.specs.Prelude.{◌≡◌, ◌≤◌, [], IfOk};
 ghost use Rattle.eql_lane.specs.Starts.{MayBegin, MayStart};
 
 use crate::reader::FirstByte;
-use eql_lane::{Lane, LaneOp, LaneRefused, LaneReply, LaneStart, LimitOf};
+use eql_lane::{Lane, LaneOp, LaneRefused, LaneReply, LaneStart, ShardLimit};
 use eql_outside::{MemFile, MemSource, Source};
 use eql_values::{Counts, Item, Items, LaneCut, LineReader, Mark, Memory, OrderKey, Routes};
 use std::alloc::Global;
@@ -220,7 +220,7 @@ pub(crate) fn write_reply(out: &mut String, reply: &LaneReply) -> Result<(), Fai
         LaneReply::Held { ready } => write!(out, "held {ready}")?,
         LaneReply::Closed => write!(out, "closed")?,
         LaneReply::Failed { lines } => write!(out, "failed {lines}")?,
-        LaneReply::Limit(LimitOf::Lines { shard }) => write!(out, "too many lines {shard}")?,
+        LaneReply::Limit(ShardLimit::Lines { shard }) => write!(out, "too many lines {shard}")?,
         LaneReply::Limit(_) => write!(out, "limit")?,
         LaneReply::Taken(items) => {
             write!(out, "taken")?;

@@ -12,7 +12,7 @@ use Rattle.eql_lane.specs.declared.ops.LaneOp.{LaneOp}
 use Rattle.eql_lane.specs.declared.ops.LaneOp.TheVariants as op
 use Rattle.eql_lane.specs.declared.ops.LaneReply.{LaneReply}
 use Rattle.eql_lane.specs.declared.ops.LaneReply.TheVariants as reply
-use Rattle.eql_lane.specs.declared.ops.LimitOf.TheVariants as limit
+use Rattle.eql_lane.specs.declared.ops.ShardLimit.TheVariants as limit
 use Rattle.eql_lane.specs.Lanes.{GoesOn, IsFeedStep, IsLaneStep, IsLookStep, IsSnapStep, IsTakeStep, LaneState, ReadsOn, Setting}
 use Rattle.eql_lane.specs.Views.{LaneView, IsTextOf, setting_of}
 use Rattle.eql_lane.proofs.FeedLines.{length_numbered, lines_both}
@@ -122,8 +122,6 @@ module _ (set : Setting) (t : List ℕ) (told : set.text ≡ Some t) (one : Lane
   feed_further x max (reply.Failed n) y step was = read_more x n y step.feeds.reads was
   feed_further x max (reply.Limit (limit.Lines shard)) y step was = read_more x step.1.n y step.1.feeds.reads was
   feed_further x max (reply.Limit (limit.Bytes shard)) y step was = read_more x step.1.n y step.1.feeds.reads was
-  feed_further x max (reply.Limit limit.Turns) y step was = absurd step
-  feed_further x max (reply.Limit limit.Generation) y step was = absurd step
   feed_further x max (reply.Taken items) y step was = absurd step
   feed_further x max (reply.Low mark) y step was = absurd step
   feed_further x max (reply.Cut cut) y step was = absurd step

@@ -9,7 +9,7 @@ use Rattle.eql_lane.specs.declared.ops.LaneOp.{LaneOp}
 use Rattle.eql_lane.specs.declared.ops.LaneOp.TheVariants as op
 use Rattle.eql_lane.specs.declared.ops.LaneReply.{LaneReply}
 use Rattle.eql_lane.specs.declared.ops.LaneReply.TheVariants as reply
-use Rattle.eql_lane.specs.declared.ops.LimitOf.TheVariants as limit
+use Rattle.eql_lane.specs.declared.ops.ShardLimit.TheVariants as limit
 use Rattle.eql_lane.specs.Lanes.{IsFeedStep, IsLaneStep, IsLookStep, IsSnapStep, IsTakeStep, LaneState, Setting}
 use Rattle.eql_lane.specs.Plays.{DidNotFail}
 use Rattle.eql_lane.specs.Views.{IsSameLane, LaneView, setting_of}
@@ -32,8 +32,6 @@ feed_faults set x max reply.Closed y none step = step.faults
 feed_faults set x max (reply.Failed n) y none step = absurd cc
 feed_faults set x max (reply.Limit (limit.Lines shard)) y none step = step.1.faults
 feed_faults set x max (reply.Limit (limit.Bytes shard)) y none step = step.1.faults
-feed_faults set x max (reply.Limit limit.Turns) y none step = absurd step
-feed_faults set x max (reply.Limit limit.Generation) y none step = absurd step
 feed_faults set x max (reply.Memory n) y none step = step.faults
 feed_faults set x max (reply.Taken items) y none step = absurd step
 feed_faults set x max (reply.Low mark) y none step = absurd step

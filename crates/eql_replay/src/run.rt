@@ -2,7 +2,7 @@
 ghost use Rattle.std.specs.Prelude.{◌≡◌, ◌≢◌, ℕ, None, Some, slice_get};
 ghost use Rattle.eql_outside.specs.Unfailing.{IsUnfailing};
 ghost use Rattle.eql_lane.specs.Views.{LaneView};
-ghost use Rattle.eql_lane.specs.declared.ops.LimitOf.TheVariants.{Turns};
+ghost use Rattle.eql_lane.specs.declared.ops.ShardLimit.TheVariants.{Turns};
 ghost use Rattle.eql_conductor.specs.declared.plan.End.TheVariants.{DiskFault, Limit, ReadFault, WriteFault};
 ghost use Rattle.eql_conductor.specs.Going.{LanesGo};
 ghost use Rattle.eql_conductor.specs.Records.{Ran};

@@ -1,7 +1,7 @@
 -- Which end of the conductor stands behind the answer of a search.
 use Rattle.std.proofs.Common.{◌≡◌, ◌≢◌, ◌≤◌, Ok, Err, refl, ap, ◌∙◌, sym, arith, subst}
 use Rattle.std.specs.Prelude.{Result}
-use Rattle.eql_lane.specs.declared.ops.LimitOf.TheVariants as limit
+use Rattle.eql_lane.specs.declared.ops.ShardLimit.TheVariants as limit
 use Rattle.eql_conductor.specs.declared.plan.End.{End as Ends}
 use Rattle.eql_conductor.specs.declared.plan.End.TheVariants as end
 use Rattle.eql_hub_run.specs.Beside.{IsOwn, IsTold, rank}

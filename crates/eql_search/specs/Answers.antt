@@ -7,7 +7,7 @@ use Rattle.eql_values.specs.Accepted.{Reads}
 use Rattle.eql_values.specs.Lines.{lines_of}
 use Rattle.eql_laws.specs.Counting.{counts_of, greatest_lines, greatest_bytes, IsShardText}
 use Rattle.eql_lane.specs.declared.ops.LimitOf.{LimitOf}
-use Rattle.eql_lane.specs.declared.ops.LimitOf.TheVariants as limit
+use Rattle.eql_lane.specs.declared.ops.ShardLimit.TheVariants as limit
 use Rattle.eql_lane.specs.Views.{IsSameLane, LaneView}
 use Rattle.eql_conductor.specs.LaneRounds.{text_at}
 use Rattle.eql_search.specs.declared.stop.Stop.{Stop}

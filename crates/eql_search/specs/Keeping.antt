@@ -8,7 +8,7 @@ use Rattle.eql_outside.specs.Moments.{History}
 use Rattle.eql_outside.specs.Written.{WroteThrough}
 use Rattle.eql_laws.specs.Belows.{IsMarkTime, greatest_slack}
 use Rattle.eql_laws.specs.Lateness.{IsAtMost}
-use Rattle.eql_lane.specs.declared.ops.LimitOf.TheVariants as limit
+use Rattle.eql_lane.specs.declared.ops.ShardLimit.TheVariants as limit
 use Rattle.eql_cut.specs.declared.cut.Cut.{Cut}
 use Rattle.eql_cut.specs.declared.cut.CutHead.{CutHead}
 use Rattle.eql_cut.specs.Domain.{IsCut, kept_by}
