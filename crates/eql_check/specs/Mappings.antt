@@ -9,7 +9,7 @@ use Rattle.serde_json.specs.Data.{Data, string, object, Members, no_members, mem
 use Rattle.eql_values.specs.declared.value.Kind.{Kind}
 use Rattle.eql_values.specs.declared.value.Kind.TheVariants as kind
 use Rattle.eql_values.specs.Orders.{text_cmp}
-use Rattle.eql_json.specs.Json.{json_of}
+use Rattle.eql_text.specs.Json.{json_of}
 use Rattle.eql_check.specs.declared.mapping.MapRefused.{MapRefused}
 use Rattle.eql_check.specs.declared.mapping.MapRefused.TheVariants.{MapLong, MapSyntax, MapMany, MapKind}
 

@@ -7,6 +7,7 @@ mod checked;
 mod expression;
 mod function;
 mod items;
+mod json;
 mod judge;
 mod keys;
 mod kinds;
@@ -20,6 +21,7 @@ mod used;
 
 pub use checked::{Checked, conditions_are_bool, operators_meet_kinds};
 pub use function::Function;
+pub use json::read_json;
 pub use judge::{can_check, check};
 pub use kinds::{holds_field, is_null};
 pub use laws::{

@@ -6,7 +6,7 @@ ghost use Rattle.eql_check.specs.Mappings.{NamesAscend, fields_if_few, fields_of
 ghost use Rattle.eql_check.specs.MappingAnswers.{Reads};
 ghost use Rattle.eql_check.specs.Wants.{map_memory};
 
-use eql_json::read_json;
+use crate::json::read_json;
 use eql_values::{Kind, Memory, NameKinds, Text};
 use serde_json::{Map, Value};
 use std::alloc::{AllocError, AllocFailed, Global};

@@ -11,7 +11,7 @@ use Rattle.eql_outside.specs.Faults.{FaultsAreSame, RoseFor}
 use Rattle.eql_lexer.specs.declared.token.Token.{Token}
 use Rattle.eql_lexer.specs.declared.refusal.LexRefused.{LexRefused}
 use Rattle.eql_query.specs.QueryTree.{QueryTree}
-use Rattle.eql_json.specs.Json.{json_of}
+use Rattle.eql_text.specs.Json.{json_of}
 use Rattle.eql_check.specs.declared.mapping.MapRefused.{MapRefused}
 use Rattle.eql_check.specs.declared.mapping.MapRefused.TheVariants as map_refused
 use Rattle.eql_check.specs.declared.refused.CheckRefused.{CheckRefused}

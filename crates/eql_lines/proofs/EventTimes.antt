@@ -6,7 +6,7 @@ use Rattle.eql_values.specs.declared.cut.Reason.{Reason}
 use Rattle.eql_values.specs.declared.cut.Reason.TheVariants.{BadTime, Long, NotObject}
 use Rattle.eql_values.specs.declared.value.Value.{Value}
 use Rattle.eql_values.specs.Reading.{IsTime, is_blank}
-use Rattle.eql_json.specs.Json.{json_of}
+use Rattle.eql_text.specs.Json.{json_of}
 use Rattle.eql_lines.specs.Objects.{is_object}
 use Rattle.eql_lines.specs.Reach.{Scalar, text, whole, fractional, truth, reach}
 use Rattle.eql_lines.specs.Times.{fits_long, or_bad, text_time, scalar_time, time_of}

@@ -3,7 +3,7 @@ use Rattle.std.specs.Prelude.{◌≡◌, ℕ, pos, List, [], ◌∷◌, true, Op
 use Rattle.std.specs.Str.{is_utf8, chars}
 use Rattle.serde_json.proofs.OnLiterals.{serde_json_on_literals}
 use Rattle.eql_lines.specs.Reach.{Scalar, text, whole, fractional, truth, reach}
-use Rattle.eql_json.specs.Json.{json_of}
+use Rattle.eql_text.specs.Json.{json_of}
 
 abbrev scalars_reached : List ℕ → List ℕ → Option (List Scalar)
 scalars_reached path line = option_map (λ d. reach d path) (json_of line)

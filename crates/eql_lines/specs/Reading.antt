@@ -5,7 +5,7 @@ use Rattle.eql_values.specs.Reading.{is_blank, IsTime}
 use Rattle.eql_values.specs.declared.cut.Reason.{Reason}
 use Rattle.eql_values.specs.declared.cut.Reason.TheVariants.{Long, NotJson, NotObject}
 use Rattle.eql_values.specs.declared.value.Value.{Value}
-use Rattle.eql_json.specs.Json.{json_of}
+use Rattle.eql_text.specs.Json.{json_of}
 use Rattle.eql_lines.specs.Objects.{is_object}
 use Rattle.eql_lines.specs.Reach.{reach}
 use Rattle.eql_lines.specs.Times.{time_of}

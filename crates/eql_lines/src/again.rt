@@ -1,7 +1,7 @@
 //! The reading of a line as a `Value`, for the few lines that the walk gives up.
 ghost use Rattle.std.specs.Prelude.{◌≡◌, ℕ, length, option_map, if◌then◌else◌, IfOk, OnOk};
 ghost use Rattle.serde_json.specs.View.{view, items_view, members_view, number_view};
-ghost use Rattle.eql_json.specs.Json.{json_of};
+ghost use Rattle.eql_text.specs.Json.{json_of};
 ghost use Rattle.eql_lines.specs.Lines.{line_of, AreFilled};
 ghost use Rattle.eql_lines.specs.Paths.{path_at};
 ghost use Rattle.eql_lines.specs.Reach.{over, Scalar, reach, reach_items, reach_members, at_end, behind, of_number};

@@ -4,7 +4,7 @@ ghost use Rattle.serde_json.specs.Data.{Data};
 ghost use Rattle.serde_json.specs.Read.{read as read_text};
 ghost use Rattle.eql_lines.specs.Reach.{reach, over};
 ghost use Rattle.eql_lines.specs.Found.{nothing, found_all, found_at};
-ghost use Rattle.eql_json.specs.Json.{json_of};
+ghost use Rattle.eql_text.specs.Json.{json_of};
 ghost use Rattle.eql_lines.specs.Objects.{is_object};
 ghost use Rattle.eql_lines.specs.Lines.{line_of, AreFilled};
 ghost use Rattle.eql_lines.specs.LineShape.{IsJson, is_object_line};

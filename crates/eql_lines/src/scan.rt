@@ -1,7 +1,7 @@
 //! The reading of lines.
 ghost use Rattle.std.specs.Prelude.{◌≡◌, ◌≤◌, ◌+◌, false, IfOk, OnErr, length, map, string_bytes, encode_utf8_all};
 ghost use Rattle.eql_values.specs.Reading.{is_blank as is_blank_line};
-ghost use Rattle.eql_json.specs.Json.{json_of};
+ghost use Rattle.eql_text.specs.Json.{json_of};
 ghost use Rattle.eql_lines.specs.Gathered.{event_in_slots, line_in_slots};
 ghost use Rattle.eql_lines.specs.Reading.{line_read, json_read, IsEventInTime};
 ghost use Rattle.eql_lines.specs.PathTable.{names_of};

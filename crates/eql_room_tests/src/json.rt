@@ -1,6 +1,6 @@
 //! The JSON of bytes: what is one, and what is none.
 use crate::table::{Asked, bytes_of, is_bool, see};
-use eql_json::read_json;
+use eql_check::read_json;
 use eql_values::Memory;
 use std::alloc::Global;
 

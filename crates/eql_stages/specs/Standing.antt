@@ -21,7 +21,7 @@ use Rattle.eql_lines.specs.declared.wanted.LineRead.{LineRead}
 use Rattle.eql_lines.specs.declared.wanted.LineRead.TheVariants as read
 use Rattle.eql_lines.specs.Reading.{line_read, json_read, IsEventInTime}
 use Rattle.eql_lines.proofs.EventTimes.{read_in_time}
-use Rattle.eql_json.specs.Json.{json_of}
+use Rattle.eql_text.specs.Json.{json_of}
 use Rattle.eql_stages.specs.Given.{Given, is_this, bits_of, route_by, routes_by}
 use Rattle.eql_stages.specs.Planned.{got_of}
 use Rattle.eql_stages.specs.Matching.{Reader, given_by, until_by, routes_for, reads_by}

@@ -11,3 +11,4 @@ pub mod Reading
 pub mod Splitting
 pub mod Addressing
 pub mod Parting
+pub mod JsonLemmas

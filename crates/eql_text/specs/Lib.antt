@@ -7,4 +7,5 @@ pub mod Wildcards
 pub mod Fronts
 pub mod Numbers
 pub mod Addresses
+pub mod Json
 pub mod Examples

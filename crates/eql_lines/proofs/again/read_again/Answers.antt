@@ -1,9 +1,10 @@
 use Rattle.std.proofs.Common.{◌≡◌, Some, if◌then◌else◌, sym, ap, ◌∙◌, rules}
 use Rattle.serde_json.specs.View.{view}
-use Rattle.eql_json.specs.Json.{json_of}
+use Rattle.eql_text.specs.Json.{json_of}
+use Rattle.eql_text.proofs.JsonLemmas.{json_of-none, json_of-utf8}
 use Rattle.eql_lines.specs.Lines.{line_of}
 use Rattle.eql_lines.specs.declared.line.Line.TheVariants.{NotObject, Object}
-use Rattle.eql_lines.proofs.Whole.{json_of-none, json_of-utf8, is_object-as_object, none_is_some}
+use Rattle.eql_lines.proofs.Whole.{is_object-as_object, none_is_some}
 use Rattle.eql_lines.proofs.again.read_again.Goals as goal
 
 pub returns-in_ok-fill-in-Ok-clause-line : goal.returns-in_ok-fill-in-Ok-clause-line

@@ -1,10 +1,11 @@
 use Rattle.std.proofs.Common.{◌≡◌, if◌then◌else◌, sym, ap, ◌∙◌, subst}
 use Rattle.serde_json.specs.Read.{read}
-use Rattle.eql_json.specs.Json.{json_of}
+use Rattle.eql_text.specs.Json.{json_of}
+use Rattle.eql_text.proofs.JsonLemmas.{json_of-none, json_of-utf8}
 use Rattle.eql_lines.specs.Lines.{line_of}
 use Rattle.eql_lines.specs.LineShape.{IsJson, is_object_line}
 use Rattle.eql_lines.specs.declared.line.Line.TheVariants.{NotObject, Object}
-use Rattle.eql_lines.proofs.Whole.{json_of-none, json_of-utf8, none_is_some}
+use Rattle.eql_lines.proofs.Whole.{none_is_some}
 use Rattle.eql_lines.proofs.read.LineWalk.read.Goals as goal
 
 pub returns-in_default-clause-line : goal.returns-in_default-clause-line

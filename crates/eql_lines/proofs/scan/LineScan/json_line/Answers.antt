@@ -1,6 +1,6 @@
 use Rattle.std.proofs.Common.{◌≡◌, sym, subst, ap, ◌∙◌, length, map, string_bytes}
 use Rattle.std.proofs.lemmas.Result.{IfOk-weaker}
-use Rattle.eql_json.specs.Json.{json_of}
+use Rattle.eql_text.specs.Json.{json_of}
 use Rattle.eql_lines.specs.Reading.{json_read, IsEventInTime}
 use Rattle.eql_lines.specs.Gathered.{line_in_slots}
 use Rattle.eql_lines.specs.PathTable.{names_of}

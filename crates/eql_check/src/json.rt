@@ -1,9 +1,7 @@
-//! The JSON that bytes are. It stands apart, so that lines of events and mappings are read alike.
-#![tactic(auto)]
-
+//! The JSON that the bytes of a mapping are.
 ghost use Rattle.std.specs.Prelude.{◌≡◌, ◌<◌, IfOk, OnErr, length, option_map};
 ghost use Rattle.serde_json.specs.View.{view};
-ghost use Rattle.eql_json.specs.Json.{json_of};
+ghost use Rattle.eql_text.specs.Json.{json_of};
 
 use eql_values::Memory;
 use serde_json::Value;

@@ -1,6 +1,6 @@
 use Rattle.std.proofs.Common.{sym, ◌∙◌, rules}
-use Rattle.eql_json.proofs.JsonLemmas.{json_of-none, json_of-utf8}
-use Rattle.eql_json.proofs.read_json.Goals as goal
+use Rattle.eql_text.proofs.JsonLemmas.{json_of-none, json_of-utf8}
+use Rattle.eql_check.proofs.json.read_json.Goals as goal
 
 pub returns-in-Ok-clause-value : goal.returns-in-Ok-clause-value
 returns-in-Ok-clause-value c = sym (json_of-utf8 c.args.bytes.now c.in-Ok.ensures.ok.0 ∙ c.in-Ok.ensures.ok.1)

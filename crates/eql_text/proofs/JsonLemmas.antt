@@ -3,7 +3,7 @@ use Rattle.std.proofs.Common.{◌≡◌, ℕ, List, Bool, true, false, None, ref
 use Rattle.std.specs.Str.{is_utf8, IsUtf8}
 use Rattle.std.proofs.lemmas.Str.{IsUtf8-from_is_utf8, is_utf8-from_IsUtf8}
 use Rattle.serde_json.specs.Read.{read}
-use Rattle.eql_json.specs.Json.{json_of}
+use Rattle.eql_text.specs.Json.{json_of}
 
 none_by_test : (bytes : List ℕ) (test : Bool) → is_utf8 bytes ≡ test → (IsUtf8 bytes → read bytes ≡ None) → (if test then read bytes else None) ≡ None
 none_by_test bytes true is none = none (IsUtf8-from_is_utf8 bytes is)
