@@ -8,6 +8,7 @@ use Rattle.std.proofs.lemmas.Slice.Eq.{bytes_eq-Decides}
 use Rattle.std.proofs.lemmas.List.{append_assoc}
 use Rattle.eql_outside.specs.Outside.{Rose}
 use Rattle.eql_outside.specs.Faults.{FaultsAreSame, RoseFor, RoseUnder}
+use Rattle.eql_outside.specs.Keeping.{RisesWhere, RisesUnderWhere}
 use Rattle.eql_lane.specs.Views.{LaneView}
 use Rattle.eql_find.specs.Lanes.{Returned, SomeSourceFailed, CameBack, return_of, lane_returned}
 
@@ -18,6 +19,18 @@ pub record CameOne (back : Returned) (before now : ℕ) (names names' : List ℕ
   pub same : back.faults ≡ 0 → now ≡ before
   pub same_named : back.faults ≡ 0 → FaultsAreSame names names'
   pub counts : before ≤ now
+
+-- what a shelf says of a source that it takes back
+pub one_source : {H : Type 0} (count : H → ℕ) (names : H → List ℕ → ℕ) (back : Returned) (before now : H)
+    → RisesWhere count (0 < back.faults) before now → RisesUnderWhere names back.name (0 < back.faults) before now
+    → CameOne back (count before) (count now) (names before) (names now)
+one_source count names back before now all each = record {
+  raised = all.rose;
+  raised_named = each.rose;
+  same = λ none. all.same (λ some. omega (arith, none, some));
+  same_named = λ none. each.same (λ some. omega (arith, none, some));
+  counts = all.rises;
+}
 
 -- ---- counts that grow
 rose_first : (a b c : ℕ) → a ≤ b → Rose b c → Rose a c

@@ -1,7 +1,7 @@
 //! What a shelf is: where files stand under their names.
-ghost use Rattle.std.specs.Prelude.{◌≡◌, ◌≢◌, ◌≤◌, ◌<◌, ◌↔◌, ◌+◌, ◌-◌, ℕ, Bool, true, false, List, Option, Some, None, Ok, Err, IfOk, IfSome, IsErr, IsNone, IsSomeAnd, MatchOption, string_bytes};
-ghost use Rattle.eql_outside.specs.Outside.{Rose, file_named};
-ghost use Rattle.eql_outside.specs.Faults.{FaultsAreSame, RoseFor, RoseUnder};
+ghost use Rattle.std.specs.Prelude.{◌≡◌, ◌<◌, ◌↔◌, ◌+◌, ◌-◌, ℕ, Bool, true, false, List, Option, Some, None, Ok, Err, IfOk, IfSome, IsErr, IsSomeAnd, MatchOption, string_bytes};
+ghost use Rattle.eql_outside.specs.Outside.{file_named};
+ghost use Rattle.eql_outside.specs.Keeping.{RisesWhere, RisesUnderWhere, KeepsDisk, KeepsSources};
 ghost use Rattle.eql_outside.specs.Moments.{History};
 ghost use Rattle.eql_outside.specs.Plans.{FaultPlan, fresh_plan, plan_after_call, FailsNext};
 
@@ -66,10 +66,8 @@ pub trait Shelf {
         ensures named { IfOk result (λ o. IfSome o
             (λ s. Self.Src.lent_as s ≡ Some (string_bytes name.now))) }
         ensures kept { files self.new ≡ files self.old }
-        ensures disk_kept { (disk_history self.new ≡ disk_history self.old)
-            × (is_out self.new ≡ is_out self.old)
-            × (disk_fault_count self.new ≡ disk_fault_count self.old)
-            × (disk_plan self.new ≡ disk_plan self.old) }
+        ensures disk_kept { KeepsDisk disk_history is_out disk_fault_count disk_plan
+            self.old self.new }
 
         // One more is lent where a source is handed out, and none elsewhere.
         ensures lends { IfSome (lent_count self.old) (λ n. IfOk result
@@ -79,19 +77,11 @@ pub trait Shelf {
 
         // The count of faults rises where the call fails, that of absences where no file has the
         // name, and neither rises elsewhere. Of the counts by name that of this name alone rises.
-        ensures cause { result ≡ Err OutRefused.Failed
-            → Rose (fault_count self.old) (fault_count self.new) }
-        ensures cause_named { result ≡ Err OutRefused.Failed
-            → RoseFor (string_bytes name.now) (faults_of self.old) (faults_of self.new) }
-        ensures steady { result ≢ Err OutRefused.Failed
-            → fault_count self.new ≡ fault_count self.old }
-        ensures steady_named { result ≢ Err OutRefused.Failed
-            → FaultsAreSame (faults_of self.old) (faults_of self.new) }
-        ensures absent { IfOk result (λ o. IsNone o
-            → Rose (absent_count self.old) (absent_count self.new)) }
-        ensures present { result ≢ Ok None → absent_count self.new ≡ absent_count self.old }
-        ensures counts { (fault_count self.old ≤ fault_count self.new)
-            × (absent_count self.old ≤ absent_count self.new) }
+        ensures faults { RisesWhere fault_count (result ≡ Err OutRefused.Failed)
+            self.old self.new }
+        ensures faults_named { RisesUnderWhere faults_of (Some (string_bytes name.now))
+            (result ≡ Err OutRefused.Failed) self.old self.new }
+        ensures absences { RisesWhere absent_count (result ≡ Ok None) self.old self.new }
 
         // A shelf with a plan fails where that says so, but for want of memory, and nowhere else,
         // and so do its sources.
@@ -110,19 +100,12 @@ pub trait Shelf {
         ensures kept { files self.new ≡ files self.old }
         ensures returned { IfSome (lent_count self.old)
             (λ n. lent_count self.new ≡ Some (n - 1)) }
-        ensures disk_kept { (disk_history self.new ≡ disk_history self.old)
-            × (is_out self.new ≡ is_out self.old)
-            × (disk_fault_count self.new ≡ disk_fault_count self.old)
-            × (disk_plan self.new ≡ disk_plan self.old) }
-        ensures raised { 0 < Self.Src.fault_count src
-            → Rose (fault_count self.old) (fault_count self.new) }
-        ensures raised_named { 0 < Self.Src.fault_count src
-            → RoseUnder (Self.Src.lent_as src) (faults_of self.old) (faults_of self.new) }
-        ensures same { Self.Src.fault_count src ≡ 0 → fault_count self.new ≡ fault_count self.old }
-        ensures same_named { Self.Src.fault_count src ≡ 0
-            → FaultsAreSame (faults_of self.old) (faults_of self.new) }
-        ensures counts { (fault_count self.old ≤ fault_count self.new)
-            × (absent_count self.new ≡ absent_count self.old) }
+        ensures disk_kept { KeepsDisk disk_history is_out disk_fault_count disk_plan
+            self.old self.new }
+        ensures faults { RisesWhere fault_count (0 < Self.Src.fault_count src) self.old self.new }
+        ensures faults_named { RisesUnderWhere faults_of (Self.Src.lent_as src)
+            (0 < Self.Src.fault_count src) self.old self.new }
+        ensures absences { absent_count self.new ≡ absent_count self.old }
         ensures numbered { fault_plan self.new ≡ fault_plan self.old }
         ensures plans_kept { source_plans self.new ≡ source_plans self.old };
 
@@ -136,19 +119,12 @@ pub trait Shelf {
         ensures not_out { IsErr result → is_out self.new ≡ is_out self.old }
         ensures kept { (disk_history self.new ≡ disk_history self.old)
             × (disk_plan self.new ≡ disk_plan self.old) }
-        ensures files_kept { (files self.new ≡ files self.old)
-            × (fault_count self.new ≡ fault_count self.old)
-            × (absent_count self.new ≡ absent_count self.old)
-            × (source_plans self.new ≡ source_plans self.old)
-            × (lent_count self.new ≡ lent_count self.old)
-            × FaultsAreSame (faults_of self.old) (faults_of self.new) }
+        ensures files_kept { KeepsSources files source_plans fault_count absent_count faults_of
+            lent_count self.old self.new }
 
         // The count of the disk's faults rises where the call fails, and nowhere else.
-        ensures cause { result ≡ Err OutRefused.Failed
-            → Rose (disk_fault_count self.old) (disk_fault_count self.new) }
-        ensures steady { result ≢ Err OutRefused.Failed
-            → disk_fault_count self.new ≡ disk_fault_count self.old }
-        ensures counts { disk_fault_count self.old ≤ disk_fault_count self.new }
+        ensures faults { RisesWhere disk_fault_count (result ≡ Err OutRefused.Failed)
+            self.old self.new }
 
         // A shelf with a plan fails where that says so, and nowhere else.
         ensures planned { IfSome (fault_plan self.old)
@@ -162,17 +138,10 @@ pub trait Shelf {
         ensures taken { (disk_history self.new ≡ Self.Dsk.history disk)
             × (disk_plan self.new ≡ Self.Dsk.fault_plan disk) }
         ensures back { is_out self.new ≡ false }
-        ensures files_kept { (files self.new ≡ files self.old)
-            × (fault_count self.new ≡ fault_count self.old)
-            × (absent_count self.new ≡ absent_count self.old)
-            × (source_plans self.new ≡ source_plans self.old)
-            × (lent_count self.new ≡ lent_count self.old)
-            × FaultsAreSame (faults_of self.old) (faults_of self.new) }
-        ensures raised { 0 < Self.Dsk.fault_count disk
-            → Rose (disk_fault_count self.old) (disk_fault_count self.new) }
-        ensures same { Self.Dsk.fault_count disk ≡ 0
-            → disk_fault_count self.new ≡ disk_fault_count self.old }
-        ensures counts { disk_fault_count self.old ≤ disk_fault_count self.new }
+        ensures files_kept { KeepsSources files source_plans fault_count absent_count faults_of
+            lent_count self.old self.new }
+        ensures faults { RisesWhere disk_fault_count (0 < Self.Dsk.fault_count disk)
+            self.old self.new }
         ensures numbered { fault_plan self.new ≡ fault_plan self.old };
 
     /// How often `source` failed or a source came back that had failed. The number stands still at the greatest

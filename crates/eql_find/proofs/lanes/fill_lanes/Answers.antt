@@ -5,7 +5,7 @@ use Rattle.std.proofs.lemmas.List.Elements.{All-tail}
 use Rattle.eql_lane.specs.Starts.{MayStart}
 use Rattle.eql_stages.specs.Matching.{reads_by}
 use Rattle.eql_find.specs.Lanes.{return_of}
-use Rattle.eql_find.proofs.BackLemmas.{CameOne}
+use Rattle.eql_find.proofs.BackLemmas.{CameOne, one_source}
 use Rattle.eql_find.proofs.MakingLemmas.{last_first, filled_more, halted, all_before, all_last}
 use Rattle.eql_find.proofs.lanes.fill_lanes.Goals as goal
 
@@ -19,13 +19,8 @@ returns-in-Err-clause-stopped g c =
     (last_first less source _ c.take_last-source.ensures.items) c.in-Some.ensures.steps.0 c.loop-start.invariant.shard c.loop-start.invariant.filling
     (all_last (λ source. g.H.Src.Source.fault_count source ≡ 0) less source all)
     c.in-Err.ensures.refused c.in-Err.ensures.unfailing
-    (subst (λ shelf. CameOne (return_of g.H.Src.Source.lent_as g.H.Src.Source.fault_count c.in-Err.source) (g.H.Shelf.fault_count shelf) (g.H.Shelf.fault_count c.give_source.new.self) (g.H.Shelf.faults_of shelf) (g.H.Shelf.faults_of c.give_source.new.self)) c.loop-start.invariant.shelf (record {
-      raised = c.give_source.ensures.raised;
-      raised_named = c.give_source.ensures.raised_named;
-      same = c.give_source.ensures.same;
-      same_named = c.give_source.ensures.same_named;
-      counts = c.give_source.ensures.counts.0;
-    }))
+    (subst (λ shelf. CameOne (return_of g.H.Src.Source.lent_as g.H.Src.Source.fault_count c.in-Err.source) (g.H.Shelf.fault_count shelf) (g.H.Shelf.fault_count c.give_source.new.self) (g.H.Shelf.faults_of shelf) (g.H.Shelf.faults_of c.give_source.new.self)) c.loop-start.invariant.shelf (one_source g.H.Shelf.fault_count g.H.Shelf.faults_of (return_of g.H.Src.Source.lent_as g.H.Src.Source.fault_count c.in-Err.source) _ _
+    c.give_source.ensures.faults c.give_source.ensures.faults_named))
 
 pub loop-start-preserved : goal.loop-start-preserved
 loop-start-preserved g c =

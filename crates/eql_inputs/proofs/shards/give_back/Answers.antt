@@ -24,16 +24,16 @@ back-preserved g c =
     let zero = all_last (λ source. g.H.Src.Source.fault_count source ≡ 0) c.take_last-source.new.self.items c.take_last-source.result all in
     record {
       fresh = all_before (λ source. g.H.Src.Source.fault_count source ≡ 0) c.take_last-source.new.self.items c.take_last-source.result all;
-      faults = same_later _ _ _ c.back.invariant.faults (c.give_source.ensures.same_named zero);
-      count = c.give_source.ensures.same zero ∙ c.back.invariant.count;
-      absences = c.give_source.ensures.counts.1 ∙ c.back.invariant.absences;
+      faults = same_later _ _ _ c.back.invariant.faults (c.give_source.ensures.faults_named.same (λ some. omega (arith, zero, some)));
+      count = c.give_source.ensures.faults.same (λ some. omega (arith, zero, some)) ∙ c.back.invariant.count;
+      absences = c.give_source.ensures.absences ∙ c.back.invariant.absences;
       kept = keeps_later c.back.invariant.kept (record {
         files_are = c.give_source.ensures.kept;
         plans_are = c.give_source.ensures.plans_kept;
-        history_is = c.give_source.ensures.disk_kept.0;
-        out_is = c.give_source.ensures.disk_kept.1;
-        faults_are = c.give_source.ensures.disk_kept.2;
-        plan_is = c.give_source.ensures.disk_kept.3;
+        history_is = c.give_source.ensures.disk_kept.history_is;
+        out_is = c.give_source.ensures.disk_kept.out_is;
+        faults_are = c.give_source.ensures.disk_kept.faults_are;
+        plan_is = c.give_source.ensures.disk_kept.plan_is;
       });
       planned = c.give_source.ensures.numbered ∙ c.back.invariant.planned;
       few = omega (arith, c.back.invariant.few, items);

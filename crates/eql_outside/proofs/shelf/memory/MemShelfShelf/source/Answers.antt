@@ -1,4 +1,4 @@
-use Rattle.std.proofs.Common.{◌≡◌, ℕ, List, Option, Some, drop, ◌∙◌, ap, subst}
+use Rattle.std.proofs.Common.{◌≡◌, ℕ, List, Option, Some, drop, ◌∙◌, ap, refl, subst}
 use Rattle.std.specs.Option.{IsSomeAnd}
 use Rattle.std.specs.String.{string_bytes}
 use Rattle.eql_outside.specs.Faults.{RoseFor, faults_in}
@@ -16,6 +16,9 @@ returns-in_ok-source-in-Some-clause-found c =
     (c.in_ok-source-in-Some.ensures {u = tt}).left
 
 -- the fault is counted for the name that was lent
-pub returns-then-fails-clause-cause_named : goal.returns-then-fails-clause-cause_named
-returns-then-fails-clause-cause_named c = λ _.
-    subst (λ (name : List ℕ). RoseFor name (faults_in c.args.self.now.names) (faults_in c.add.new.self)) (c.in_ok-lent.ensures {u = tt}) c.add.ensures
+pub returns-then-fails-clause-faults_named : goal.returns-then-fails-clause-faults_named
+returns-then-fails-clause-faults_named c = record {
+  rose = λ _.
+      subst (λ (name : List ℕ). RoseFor name (faults_in c.args.self.now.names) (faults_in c.add.new.self)) (c.in_ok-lent.ensures {u = tt}) c.add.ensures;
+  same = λ no. absurd (no refl);
+}
