@@ -1,6 +1,7 @@
 mod FitLemmas
 mod GateLemmas
 mod Going
+mod JsonLemmas
 mod KeyLemmas
 mod Printing
 mod RangeLemmas

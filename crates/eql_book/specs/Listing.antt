@@ -2,10 +2,13 @@
 use Rattle.std.specs.Prelude.{◌≡◌, ℕ, pos, ◌/◌, ◌%◌, Bool, true, false, if◌then◌else◌, List, [], ◌∷◌, ◌++◌, map, None, encode_utf8_all, codes, refl}
 use Rattle.std.specs.List.{flat_map}
 use Rattle.std.specs.Fmt.{decimal, digits}
+use Rattle.std.specs.Str.{chars}
 use Rattle.serde_json.specs.Data.{Data, null, boolean, number, string, array}
 use Rattle.serde_json.specs.Find.{of_integer}
 use Rattle.serde_json.specs.View.{items_of}
 use Rattle.serde_json.specs.Written.{compact_text}
+use Rattle.serde_json.proofs.OnLiterals.{serde_json_on_literals}
+use Rattle.eql_values.specs.Shown.{hex_digit, is_hidden}
 use Rattle.eql_values.specs.declared.order.OrderKey.{OrderKey}
 use Rattle.eql_values.specs.declared.value.Value.{Value}
 use Rattle.eql_values.specs.declared.value.Value.TheVariants as value
@@ -26,8 +29,23 @@ json_value (value.Text characters) = string (encode_utf8_all characters)
 json_value (value.Ip ip) = string (ip_text ip)
 
 -- the values of a key as a compact JSON array
+abbrev pub key_json : List Value → List ℕ
+key_json key = compact_text (array (items_of (map json_value key)))
+
+-- a character of a string by its number, as JSON has it
+abbrev pub json_escape : ℕ → List ℕ
+json_escape c = codes "\\u" ++ hex_digit (c / 4096) ∷ hex_digit (c / 256 % 16) ∷ hex_digit (c / 16 % 16) ∷ hex_digit (c % 16) ∷ []
+
+-- a character of that array as it is listed: by its number where it steers a terminal or turns the line. Such a one stands in a string.
+abbrev pub json_char : ℕ → List ℕ
+json_char c = if is_hidden c then json_escape c else c ∷ []
+
+abbrev pub json_chars : List ℕ → List ℕ
+json_chars = flat_map json_char
+
+-- a key as it is listed: its array, without a character that steers a terminal
 abbrev pub key_text : List Value → List ℕ
-key_text key = compact_text (array (items_of (map json_value key)))
+key_text key = encode_utf8_all (json_chars (chars (key_json key)))
 
 -- an event of a match: a space, its shard, a colon and its line, and with the flag `@` and its
 -- place
@@ -61,7 +79,7 @@ without_key :
       found = record { key = []; chain = at_line 2 ∷ at_line 4 ∷ at_line 19 ∷ [] };
     })
     ≡ codes "1 [] 0:2 0:4 0:19\n"
-unfolding digits lib.Utf8.encode
+unfolding digits chars lib.Utf8.encode
 without_key = refl
 
 with_key :
@@ -70,8 +88,15 @@ with_key :
       found = record { key = value.Long (pos 7) ∷ value.Null ∷ []; chain = at_line 2 ∷ at_line 4 ∷ [] };
     })
     ≡ codes "12 [7,null] 0:2 0:4"
-unfolding digits lib.Utf8.encode
+unfolding digits chars lib.Utf8.encode
 with_key = refl
+
+-- a mark that turns the line, a control character beyond ASCII, a separator of lines; a quote and a letter beyond ASCII stay as JSON has them
+hidden :
+    key_text (value.Text (97 ∷ 8238 ∷ 98 ∷ []) ∷ value.Text (133 ∷ 127 ∷ []) ∷ value.Text (8232 ∷ []) ∷ value.Text (34 ∷ 233 ∷ []) ∷ [])
+    ≡ codes "[\"a\\u202eb\",\"\\u0085\\u007f\",\"\\u2028\",\"\\\"" ++ 195 ∷ 169 ∷ codes "\"]"
+unfolding serde_json_on_literals chars lib.Utf8.encode
+hidden = refl
 
 -- with places an event tells the bytes of the shard before its line
 with_places :

@@ -1,9 +1,10 @@
 //! The keys of matches as JSON.
-ghost use Rattle.std.specs.Prelude.{◌≡◌, ◌++◌, IfOk, OnOk, codes, encode_utf8_all, map, string_bytes};
+ghost use Rattle.std.specs.Prelude.{◌≡◌, ◌++◌, [], IfOk, OnOk, codes, encode_utf8_all, map, string_bytes};
 ghost use Rattle.std.specs.Fmt.{decimal};
 ghost use Rattle.serde_json.specs.View.{view};
-ghost use Rattle.eql_book.specs.Listing.{ip_text, json_value, key_text};
+ghost use Rattle.eql_book.specs.Listing.{ip_text, json_value, key_json, key_text};
 
+use crate::json::push_json;
 use eql_values::{Text, Value as FieldValue};
 use serde_json::Value;
 use std::alloc::{AllocError, Global};
@@ -76,7 +77,15 @@ fn json_values(alloc: Global, key: &[FieldValue]) -> Result<Vec<Value>, AllocErr
     Ok(list)
 }
 
-/// Prints the values of a key as a compact JSON array.
+/// Prints a key of no values.
+fn print_none(waiting: &mut String) -> Result<(), AllocError>
+    ensures { OnOk result (string_bytes waiting.new ≡ string_bytes waiting.old ++ key_text []) }
+{
+    waiting.push_str("[]")?;
+    Ok(())
+}
+
+/// Prints the values of a key as a compact JSON array, without a character that steers a terminal.
 pub(crate) fn print_key(
     alloc: Global,
     waiting: &mut String,
@@ -86,15 +95,15 @@ pub(crate) fn print_key(
         (string_bytes waiting.new ≡ string_bytes waiting.old ++ key_text key.now) }
 {
     if key.is_empty() {
-        return waiting.push_str("[]");
+        return print_none(waiting);
     }
     let text = key_string(alloc, key)?;
-    waiting.push_str(&text)
+    push_json(waiting, &text)
 }
 
 /// The values of a key as a compact JSON array.
 fn key_string(alloc: Global, key: &[FieldValue]) -> Result<String, AllocError>
-    ensures { IfOk result (λ text. string_bytes text ≡ key_text key.now) }
+    ensures { IfOk result (λ text. string_bytes text ≡ key_json key.now) }
 {
     Value::Array(json_values(alloc, key)?).to_string(alloc)
 }

@@ -4,6 +4,7 @@
 mod book;
 mod gate;
 mod head;
+mod json;
 mod key;
 mod laws;
 mod ledger;

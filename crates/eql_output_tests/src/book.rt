@@ -210,7 +210,8 @@ fn keyed_line(alloc: Global, text: &str, chain: Chain, places: bool) -> Result<T
 }
 
 /// Texts of a key, each with the JSON that Python's `json.dumps` prints of it with the separators
-/// `,` and `:` and `ensure_ascii=False`.
+/// `,` and `:` and `ensure_ascii=False`, in which the characters that steer a terminal or turn the
+/// line stand as it prints them with `ensure_ascii=True`.
 static KEYS: &[(&str, &str)] = &[
     ("", "[\"\"]"),
     (
@@ -219,7 +220,15 @@ static KEYS: &[(&str, &str)] = &[
     ),
     (
         "a\"b\\c/d\u{7f}\u{80}\u{2028}\u{e9}\u{ffff}\u{1f600}\u{10ffff}",
-        "[\"a\\\"b\\\\c/d\u{7f}\u{80}\u{2028}\u{e9}\u{ffff}\u{1f600}\u{10ffff}\"]",
+        "[\"a\\\"b\\\\c/d\\u007f\\u0080\\u2028\u{e9}\u{ffff}\u{1f600}\u{10ffff}\"]",
+    ),
+    (
+        "\u{85}\u{9f}\u{200e}\u{200f}\u{2029}\u{202a}\u{202b}\u{202c}\u{202d}\u{202e}\u{2066}\u{2067}\u{2068}\u{2069}",
+        "[\"\\u0085\\u009f\\u200e\\u200f\\u2029\\u202a\\u202b\\u202c\\u202d\\u202e\\u2066\\u2067\\u2068\\u2069\"]",
+    ),
+    (
+        "~\u{a0}\u{200d}\u{2010}\u{2027}\u{202f}\u{2065}\u{206a}",
+        "[\"~\u{a0}\u{200d}\u{2010}\u{2027}\u{202f}\u{2065}\u{206a}\"]",
     ),
 ];
 

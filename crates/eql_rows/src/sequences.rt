@@ -297,6 +297,15 @@ static KEYS: &[Row] = &[
         fields: &[Bytes(br#"{"b":"boolean","n":"long","a":"ip","t":"keyword"}"#)],
     ),
     found!(
+        "no character of a key steers a terminal or turns the line",
+        "sequence by user.name [process where true] [file where true]",
+        &[Lines(&[
+            "{\"@timestamp\":1,\"event.category\":\"process\",\"user.name\":\"exe\u{202e}gpj\u{85}\u{2028}\u{7f}\"}",
+            r#"{"@timestamp":2,"event.category":"file","user.name":"exe\u202Egpj\u0085\u2028\u007f"}"#,
+        ])],
+        &[r#"1 ["exe\u202egpj\u0085\u2028\u007f"] 0:1 0:2"#],
+    ),
+    found!(
         "a sequence as users write it",
         FULL,
         &[Lines(&[

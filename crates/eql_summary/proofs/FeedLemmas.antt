@@ -1,22 +1,22 @@
 -- The line of a match has no line feed before its end.
-use Rattle.std.proofs.Common.{◌≡◌, ◌≢◌, ℕ, zero, suc, ◌+◌, ◌/◌, ◌%◌, ◌==◌, pos, negsuc, Bool, true, false, cond, List, [], ◌∷◌, ◌++◌, map, refl, sym, ap, subst, ◌∙◌, arith, codes}
-use Rattle.std.specs.Prelude.{not, nat_lt, ◌||◌, flat_map, encode_utf8_all}
-use Rattle.std.specs.Char.{digit_char}
+use Rattle.std.proofs.Common.{◌≡◌, ◌≢◌, ℕ, zero, suc, ◌+◌, ◌≤◌, ◌/◌, ◌%◌, ◌==◌, Bool, true, false, cond, List, [], ◌∷◌, ◌++◌, refl, sym, ap, subst, ◌∙◌, arith, codes}
+use Rattle.std.specs.Prelude.{not, nat_lt, flat_map}
 use Rattle.std.specs.Fmt.{decimal, digits, digits_onto, digit_glyph}
+use Rattle.std.specs.Str.{chars}
 use Rattle.std.proofs.lemmas.Bool.{false≢true}
 use Rattle.std.proofs.lemmas.Bool.Decides.{nat_tests}
+use Rattle.std.proofs.lemmas.Str.{encodes-append}
 use Rattle.std.proofs.lemmas.List.Concat.{flat_map-cons}
 use Rattle.std.proofs.lemmas.List.Folds.{list_all-append}
-use Rattle.json.specs.Print.{escape_letter, escape_byte, escape, quoted}
-use Rattle.serde_json.specs.View.{items_of}
-use Rattle.serde_json.specs.Written.{compact_text, comma_if, items_text}
+use lib.Utf8.{encode, encodes, next}
+use lib.Dec.{ltb}
+use Rattle.eql_values.specs.Shown.{hex_digit, is_hidden}
+use Rattle.eql_values.specs.declared.value.Value.{Value}
 use Rattle.eql_values.specs.declared.found.Numbered.{Numbered}
 use Rattle.eql_values.specs.declared.order.OrderKey.{OrderKey}
-use Rattle.eql_values.specs.declared.value.Value.{Value}
-use Rattle.eql_values.specs.declared.value.Value.TheVariants as value
 use Rattle.eql_laws.proofs.Facts.{true_both}
 use Rattle.eql_lane.specs.Buffers.{IsOneLine}
-use Rattle.eql_book.specs.Listing.{ip_text, json_value, key_text, event_text, match_text}
+use Rattle.eql_book.specs.Listing.{json_escape, json_char, json_chars, key_json, key_text, event_text, match_text}
 
 both : (a b : List ℕ) → IsOneLine a → IsOneLine b → IsOneLine (a ++ b)
 both a b p q = list_all-append (λ (byte : ℕ). not (byte == 10)) a b ∙ true_both _ _ p q
@@ -51,59 +51,60 @@ number : (n : ℕ) → IsOneLine (decimal n)
 unfolding digits
 number n = onto 64 n [] refl
 
--- a text in quotes
-letter_by : (x : ℕ) (a b c d e f : Bool) → ((x == 34) || (x == 92)) ≡ a
-    → cond a x (cond b 98 (cond c 102 (cond d 110 (cond e 114 (cond f 116 0))))) ≢ 10
-letter_by x true b c d e f is same = false≢true (ap (λ (y : ℕ). (y == 34) || (y == 92)) (sym same) ∙ is)
-letter_by x false true c d e f is same = omega (arith, same)
-letter_by x false false true d e f is same = omega (arith, same)
-letter_by x false false false true e f is same = omega (arith, same)
-letter_by x false false false false true f is same = omega (arith, same)
-letter_by x false false false false false true is same = omega (arith, same)
-letter_by x false false false false false false is same = omega (arith, same)
+-- the bytes of a character
+high : (byte : ℕ) (rest : List ℕ) → 128 ≤ byte → IsOneLine rest → IsOneLine (byte ∷ rest)
+high byte rest h one = before byte rest (λ e. omega (arith, e, h)) one
 
-letter : (x : ℕ) → escape_letter x ≢ 10
-letter x = letter_by x ((x == 34) || (x == 92)) (x == 8) (x == 12) (x == 10) (x == 13) (x == 9) refl
+bytes : (c : ℕ) → c ≢ 10 → IsOneLine (encode c)
+unfolding encode
+bytes c h =
+    choose (ltb c 128) _ _ (before c [] h refl)
+    (choose (ltb c 2048) _ _ (high (192 + c / 64) (next c ∷ []) (omega arith) last)
+    (choose (ltb c 65536) _ _ (high (224 + c / 4096) (next (c / 64) ∷ next c ∷ []) (omega arith) last_two)
+    (high (240 + c / 262144) (next (c / 4096) ∷ next (c / 64) ∷ next c ∷ []) (omega arith) (high (next (c / 4096)) (next (c / 64) ∷ next c ∷ []) (omega arith) last_two))))
+  where
+    last : IsOneLine (next c ∷ [])
+    last = high (next c) [] (omega arith) refl
 
-plain : (x : ℕ) (c : Bool) → nat_lt x 32 ≡ c
-    → IsOneLine (cond c (92 ∷ 117 ∷ 48 ∷ 48 ∷ digit_char (x / 16) ∷ digit_char (x % 16) ∷ []) (x ∷ []))
-plain x true is =
-    before (digit_char (x / 16)) (digit_char (x % 16) ∷ []) (digit (nat_lt (x / 16) 10) 0 0 (x / 16))
-    (before (digit_char (x % 16)) [] (digit (nat_lt (x % 16) 10) 0 0 (x % 16)) refl)
-plain x false is = before x [] (λ e. false≢true (sym is ∙ ap (λ (y : ℕ). nat_lt y 32) e)) refl
+    last_two : IsOneLine (next (c / 64) ∷ next c ∷ [])
+    last_two = high (next (c / 64)) (next c ∷ []) (omega arith) last
 
-escaped : (x : ℕ) → IsOneLine (escape_byte x)
-unfolding escape_byte
-escaped x =
-    choose (nat_lt 0 (escape_letter x)) (92 ∷ escape_letter x ∷ [])
-    (cond (nat_lt x 32) (92 ∷ 117 ∷ 48 ∷ 48 ∷ digit_char (x / 16) ∷ digit_char (x % 16) ∷ []) (x ∷ []))
-    (before (escape_letter x) [] (letter x) refl) (plain x (nat_lt x 32) refl)
+-- characters of which none is a line feed
+abbrev NoFeed : List ℕ → Type 0
+NoFeed [] = Unit {0}
+NoFeed (c ∷ cs) = (c ≢ 10) × NoFeed cs
 
-in_quotes : (s : List ℕ) → IsOneLine (quoted s)
-in_quotes s = both (escape s) (34 ∷ []) (all_flat escape_byte s escaped) refl
+spelt : (cs : List ℕ) → NoFeed cs → IsOneLine (encodes cs)
+spelt [] h = refl
+spelt (c ∷ cs) h = both (encode c) (encodes cs) (bytes c h.0) (spelt cs h.1)
+
+above : (c : ℕ) → 11 ≤ c → c ≢ 10
+above c h e = omega (arith, e, h)
+
+-- a character of a key as it is listed
+hex : (d : ℕ) → hex_digit d ≢ 10
+hex d = digit (nat_lt d 10) 0 0 d
+
+escaped : (c : ℕ) → IsOneLine (encodes (json_escape c))
+unfolding encode
+escaped c = spelt (json_escape c) (above 92 (omega arith), (above 117 (omega arith), (hex (c / 4096), (hex (c / 256 % 16), (hex (c / 16 % 16), (hex (c % 16), tt))))))
+
+listed : (c : ℕ) → IsOneLine (encodes (json_char c))
+listed c = by (is_hidden c) refl
+  where
+    by : (b : Bool) → is_hidden c ≡ b → IsOneLine (encodes (cond b (json_escape c) (c ∷ [])))
+    by true is = escaped c
+    by false is = spelt (c ∷ []) ((λ e. false≢true (sym is ∙ ap is_hidden e)), tt)
+
+all_listed : (cs : List ℕ) → IsOneLine (encodes (json_chars cs))
+all_listed [] = refl
+all_listed (c ∷ cs) =
+    subst IsOneLine (sym (ap encodes (flat_map-cons json_char c cs) ∙ encodes-append (json_char c) (json_chars cs)))
+    (both (encodes (json_char c)) (encodes (json_chars cs)) (listed c) (all_listed cs))
 
 -- a key
-one_value : (v : Value) → IsOneLine (compact_text (json_value v))
-one_value value.Null = refl
-one_value (value.Bool true) = refl
-one_value (value.Bool false) = refl
-one_value (value.Long (pos n)) = number n
-one_value (value.Long (negsuc n)) = number (suc n)
-one_value (value.Text t) = in_quotes (encode_utf8_all t)
-one_value (value.Ip ip) = in_quotes (ip_text ip)
-
-comma : (later : Bool) → IsOneLine (comma_if later)
-comma true = refl
-comma false = refl
-
-values : (later : Bool) (key : List Value) → IsOneLine (items_text later (items_of (map json_value key)))
-values later [] = refl
-values later (v ∷ key) =
-    both (comma_if later) (compact_text (json_value v) ++ items_text true (items_of (map json_value key))) (comma later)
-    (both (compact_text (json_value v)) (items_text true (items_of (map json_value key))) (one_value v) (values true key))
-
 one_key : (key : List Value) → IsOneLine (key_text key)
-one_key key = values false key
+one_key key = all_listed (chars (key_json key))
 
 -- events, and a match
 place : (places : Bool) (at : ℕ) → IsOneLine (cond places (codes "@" ++ decimal at) [])
