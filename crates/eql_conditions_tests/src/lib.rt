@@ -4,28 +4,4 @@
 #![tactic(auto)]
 
 #[cfg(test)]
-mod answer;
-#[cfg(test)]
-mod by_hand;
-#[cfg(test)]
-mod condition;
-#[cfg(test)]
-mod expressions;
-#[cfg(test)]
-mod functions;
-#[cfg(test)]
-mod many;
-#[cfg(test)]
-mod mappings;
-#[cfg(test)]
-mod nulls;
-#[cfg(test)]
-mod order;
-#[cfg(test)]
-mod patterns;
-#[cfg(test)]
-mod queries;
-#[cfg(test)]
-mod sequences;
-#[cfg(test)]
-mod threads;
+mod tests;

@@ -3,12 +3,4 @@
 #![tactic(auto)]
 
 #[cfg(test)]
-mod bytes;
-#[cfg(test)]
-mod fitting;
-#[cfg(test)]
-mod lifting;
-#[cfg(test)]
-mod places;
-#[cfg(test)]
-mod texts;
+mod tests;

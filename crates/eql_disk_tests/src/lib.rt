@@ -2,12 +2,4 @@
 #![tactic(auto)]
 
 #[cfg(test)]
-mod areas;
-#[cfg(test)]
-mod bytes;
-#[cfg(test)]
-mod cuts;
-#[cfg(test)]
-mod formats;
-#[cfg(test)]
-mod stops;
+mod tests;

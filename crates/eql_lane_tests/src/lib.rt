@@ -2,10 +2,4 @@
 #![tactic(auto)]
 
 #[cfg(test)]
-mod feeds;
-#[cfg(test)]
-mod lanes;
-#[cfg(test)]
-mod lifts;
-#[cfg(test)]
-mod reader;
+mod tests;

@@ -3,8 +3,4 @@
 #![tactic(auto)]
 
 #[cfg(test)]
-mod plans;
-#[cfg(test)]
-mod stages;
-#[cfg(test)]
-mod trial;
+mod tests;

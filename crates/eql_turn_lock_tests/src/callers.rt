@@ -9,32 +9,28 @@ use crate::tray::{Tray, TrayOp, TrayReply};
 use eql_turn_lock::{NotNow, Pass, Tried, TurnLock};
 use std::sync::Wait;
 
+/// What comes of a call of a tray: its reply, or why it wasn't played.
+pub type Answer = Result<TrayReply, NotNow<TrayOp>>;
+
 /// Tries once to deliver a letter.
-pub fn deliver(
-    lock: &TurnLock<Tray>,
-    pass: &mut Pass<Tray>,
-    letter: u32,
-) -> Result<TrayReply, NotNow<TrayOp>>
+pub fn deliver(lock: &TurnLock<Tray>, pass: &mut Pass<Tray>, letter: u32) -> Answer
     requires own { IsPassOf lock.now pass.old }
     requires may { MayPlay TrayAllows IsTrayStep tray_open (view_of pass.old)
         (TrayOp.Deliver letter) }
     ensures own { IsPassOf lock.now pass.new }
-    ensures played { MatchResult
-        result
-        (λ reply. PlaysOnce IsTrayStep tray_open
-        (view_of pass.old) (TrayOp.Deliver letter) reply (view_of pass.new))
-        (λ refused. Refuses (view_of pass.old) (TrayOp.Deliver letter) refused
-        (view_of pass.new)) }
+    ensures played { MatchResult result
+        (λ reply. PlaysOnce IsTrayStep tray_open (view_of pass.old) (TrayOp.Deliver letter) reply
+        (view_of pass.new))
+        (λ refused. Refuses (view_of pass.old) (TrayOp.Deliver letter) refused (view_of pass.new)) }
 {
     lock.try_call(pass, TrayOp::Deliver { letter })
 }
 
 /// Tries once to take a letter.
-pub fn take(lock: &TurnLock<Tray>, pass: &mut Pass<Tray>) -> Result<TrayReply, NotNow<TrayOp>>
+pub fn take(lock: &TurnLock<Tray>, pass: &mut Pass<Tray>) -> Answer
     requires own { IsPassOf lock.now pass.old }
     ensures own { IsPassOf lock.now pass.new }
-    ensures played { MatchResult
-        result
+    ensures played { MatchResult result
         (λ reply. PlaysOnce IsTrayStep tray_open
         (view_of pass.old) TrayOp.Take reply (view_of pass.new))
         (λ refused. Refuses (view_of pass.old) TrayOp.Take refused (view_of pass.new)) }
@@ -58,13 +54,12 @@ pub fn deliver_waiting<R: Wait>(
     lock: &TurnLock<Tray>,
     pass: &mut Pass<Tray>,
     letter: u32,
-) -> Result<TrayReply, NotNow<TrayOp>>
+) -> Answer
     requires own { IsPassOf lock.now pass.old }
     requires may { MayPlay TrayAllows IsTrayStep tray_open (view_of pass.old)
         (TrayOp.Deliver letter) }
     ensures own { IsPassOf lock.now pass.new }
-    ensures played { MatchResult
-        result
+    ensures played { MatchResult result
         (λ reply. Plays IsTrayStep tray_open
         (view_of pass.old) (TrayOp.Deliver letter) reply (view_of pass.new))
         (λ refused. RefusesWorn
@@ -82,13 +77,12 @@ pub fn deliver_after(
     first: &mut Pass<Tray>,
     other: Pass<Tray>,
     letter: u32,
-) -> Result<TrayReply, NotNow<TrayOp>>
+) -> Answer
     requires own { IsPassOf lock.now first.old × IsPassOf lock.now other }
     requires first { (view_of first.old).number ≡ 0 }
     requires room { SawRoom (view_of first.old) (view_of other) }
     ensures own { IsPassOf lock.now first.new }
-    ensures played { MatchResult
-        result
+    ensures played { MatchResult result
         (λ reply. PlaysOnce IsTrayStep tray_open
         (joined_view (view_of first.old) (view_of other))
         (TrayOp.Deliver letter) reply (view_of first.new))

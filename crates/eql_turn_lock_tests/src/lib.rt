@@ -8,7 +8,9 @@ mod tests;
 mod threads;
 mod tray;
 
-pub use callers::{close_tray, deliver, deliver_after, deliver_waiting, take, take_unless_empty};
+pub use callers::{
+    Answer, close_tray, deliver, deliver_after, deliver_waiting, take, take_unless_empty,
+};
 pub use meeting::{Meeting, MeetingOp};
 pub use threads::both;
 pub use tray::{Tray, TrayOp, TrayReply};

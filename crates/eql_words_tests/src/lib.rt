@@ -2,8 +2,4 @@
 #![tactic(auto)]
 
 #[cfg(test)]
-mod inputs;
-#[cfg(test)]
-mod rows;
-#[cfg(test)]
-mod tables;
+mod tests;

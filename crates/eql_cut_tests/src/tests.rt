@@ -1,0 +1,7 @@
+//! The tests, by what of a cut they look at.
+
+mod bytes;
+mod fitting;
+mod lifting;
+mod places;
+mod texts;

@@ -1,5 +1,0 @@
-use Rattle.std.proofs.Common.{length}
-use Rattle.eql_matching_tests.proofs.merge.+is_apart_from.Given as goal
-
-abbrev pub decreases-is_apart_from : goal.decreases-is_apart_from
-decreases-is_apart_from l = length l.lists.now

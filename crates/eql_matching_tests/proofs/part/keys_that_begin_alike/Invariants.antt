@@ -1,4 +1,0 @@
-use Rattle.eql_matching_tests.proofs.part.keys_that_begin_alike.Given as goal
-
-abbrev pub ghosts-wrong_over : goal.ghosts-wrong_over
-ghosts-wrong_over g a = record { name = a.blank.name; parts = a.blank.parts }

@@ -1,4 +1,0 @@
-use Rattle.eql_matching_tests.proofs.parts.wrong_in.Given as goal
-
-abbrev pub ghosts-wrong_over : goal.ghosts-wrong_over
-ghosts-wrong_over a = record { name = a.blank.name; parts = a.blank.parts }

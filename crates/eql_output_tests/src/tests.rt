@@ -1,0 +1,3 @@
+//! The tests of what is written.
+
+mod book;

@@ -1,0 +1,5 @@
+//! The tests of plans, and what runs their rows.
+
+mod plans;
+mod stages;
+mod trial;

@@ -1,0 +1,306 @@
+//! Runs with a checkpoint: how later runs go on from what is kept, which cuts are refused, and faults of the disk.
+use crate::tests::kept::AFTER_TEN;
+use crate::tests::row::{Held, Object, Row, Share, Told, Words, ended, found, row_like};
+use crate::tests::run::check;
+use crate::tests::sequences::{ELEVEN, REFERENCE, REFERENCE_LISTS};
+use crate::tests::text::Piece::{Bytes, Spaced, Starts};
+use crate::tests::text::Pieces;
+
+/// The options of the first of two runs.
+const FIRST: &str = "--slack 0ms --batch 1 --hands 0 --checkpoint c --every 5";
+
+/// The options of the second run.
+const SECOND: &str = "--slack 0ms --batch 7 --hands 3 --checkpoint c --every 5";
+
+/// The same without hands, and with one.
+pub(crate) const ALONE: &str = "--slack 0ms --batch 7 --hands 0 --checkpoint c --every 5";
+
+pub(crate) const BESIDE: &str = "--slack 0ms --batch 7 --hands 1 --checkpoint c --every 5";
+
+/// The first of two runs. Each line of the reference's example is a round, and a cut is kept after the rounds 5 and 10.
+pub(crate) const FIRST_RUN: Row = found!(
+    "a first run",
+    REFERENCE,
+    ELEVEN,
+    REFERENCE_LISTS,
+    words: Words::Find(FIRST),
+    kept: Some(AFTER_TEN),
+);
+
+/// A run that goes on from the second cut.
+const SECOND_RUN: Row = found!(
+    "the lines behind those that were listed",
+    REFERENCE,
+    ELEVEN,
+    &[r#"2 ["elkbee"] 0:6 0:8 0:10"#],
+    words: Words::Find(SECOND),
+    held: Held::FirstRun,
+);
+
+/// A run that goes on from the second cut, with other fields.
+macro_rules! second_run {
+    ($shows:expr $(, $field:ident: $value:expr)* $(,)?) => {
+        row_like!(SECOND_RUN, shows: $shows $(, $field: $value)*)
+    };
+}
+
+/// A second run that is refused with this line.
+macro_rules! not_resumed {
+    ($shows:expr, $line:expr $(, $field:ident: $value:expr)* $(,)?) => {
+        second_run!(
+            $shows,
+            listed: &[],
+            status: 7,
+            told: Told::Lines(&[$line])
+            $(, $field: $value)*
+        )
+    };
+}
+
+/// The query of the example with a pipe.
+const PIPED: &str =
+    r#"sequence by user.name [process where process.name == "attrib"] [process where process.name == "bash"] [process where process.name == "cat"] | head 1"#;
+
+/// The first five lines of the example.
+const FIVE: Pieces = &[Starts(
+    "1000 root attrib, 2000 root attrib, 3000 elkbee bash, 4000 root bash, 5000 root bash",
+)];
+
+/// A mapping of the fields alone that the query names.
+const TWO_FIELDS: Pieces = &[Bytes(br#"{"process.name":"keyword","user.name":"keyword"}"#)];
+
+/// What is done with the disk that the first run left.
+static RESUMED: &[Row] = &[
+    SECOND_RUN,
+    second_run!(
+        "another batch, other hands, another name and other rounds",
+        words: Words::Find("--slack 0ms --batch 4096 --hands 5 --checkpoint other --every 1000000"),
+    ),
+    second_run!(
+        "places of events from before the cut",
+        listed: &[r#"2 ["elkbee"] 0:6@506 0:8@712 0:10@913"#],
+        words: Words::Find("--slack 0ms --places --checkpoint c --every 5"),
+    ),
+    second_run!(
+        "the whole listing without a checkpoint",
+        listed: REFERENCE_LISTS,
+        words: Words::Find("--slack 0ms"),
+    ),
+    second_run!(
+        "faults of the disk that a run doesn't come to",
+        fails: &[(Object::Disk, 40), (Object::Shelf, 5)],
+    ),
+];
+
+/// Runs that the disk of the first run refuses.
+static REFUSED: &[Row] = &[
+    not_resumed!("another query", "checkpoint: Differs query", query: PIPED),
+    not_resumed!("another mapping", "checkpoint: Differs mapping", fields: TWO_FIELDS),
+    not_resumed!(
+        "a tiebreaker",
+        "checkpoint: Differs tiebreaker",
+        words: Words::Find("--tiebreaker event.sequence --slack 0ms --checkpoint c --every 5"),
+    ),
+    not_resumed!(
+        "another slack",
+        "checkpoint: Differs slack",
+        words: Words::Find("--slack 1ms --batch 1 --hands 0 --checkpoint c --every 5"),
+    ),
+    not_resumed!("a further shard", "checkpoint: Differs shards", more: &[&[]]),
+    not_resumed!(
+        "a shard that is cut short",
+        "checkpoint: Short shard 0 offset 1015 had 506",
+        shard: FIVE,
+    ),
+    not_resumed!(
+        "a query that differs before a short shard",
+        "checkpoint: Differs query",
+        query: PIPED,
+        shard: FIVE,
+    ),
+    ended!(
+        "a missing shard before the disk",
+        1,
+        "no file t",
+        query: PIPED,
+        words: Words::Line("find --query q --fields f --slack 0ms --checkpoint c --every 5 t"),
+        held: Held::FirstRun,
+    ),
+];
+
+#[test]
+fn later_runs_go_on(rt: HostRuntime) {
+    check(&rt, rt.alloc(), &[RESUMED, REFUSED]);
+}
+
+/// A first run with hands.
+const FIRST_WITH_HANDS: Row = Row {
+    words: Words::Find("--slack 0ms --batch 1 --hands 2 --checkpoint c --every 1"),
+    kept: None,
+    ..FIRST_RUN
+};
+
+/// A run with hands that goes on from it, and lists the last lines.
+static LATER: &[Row] = &[second_run!(
+    "hands again",
+    listed: REFERENCE_LISTS,
+    share: Share::End,
+    words: Words::Find("--slack 0ms --batch 2 --hands 3 --checkpoint c --every 1"),
+    held: Held::FirstWithHands,
+)];
+
+/// Which rounds end with a cut depends on what hands read meanwhile. Whatever cut is the last one, a later run lists the lines
+/// behind those that it counts.
+#[test]
+fn later_runs_go_on_from_runs_with_hands(rt: HostRuntime) {
+    check(&rt, rt.alloc(), &[LATER, LATER, LATER]);
+}
+
+/// The example behind a shard of one line.
+const TWO_SHARDS: Row = found!(
+    "two shards",
+    REFERENCE,
+    &[Starts("1000 root vi")],
+    &[r#"1 ["root"] 1:2 1:4 1:9"#, r#"2 ["elkbee"] 1:6 1:8 1:10"#],
+    more: &[ELEVEN],
+    words: Words::Find(FIRST),
+);
+
+/// The same after the shard of one line grew by a byte.
+static GROWN: &[Row] = &[Row {
+    shard: &[Starts("1000 root vi"), Bytes(b" ")],
+    listed: &[],
+    status: 7,
+    told: Told::Lines(&["checkpoint: Grown shard 0"]),
+    held: Held::TwoShards,
+    ..TWO_SHARDS
+}];
+
+#[test]
+fn shard_that_was_read_must_not_grow(rt: HostRuntime) {
+    check(&rt, rt.alloc(), &[GROWN]);
+}
+
+/// The first runs that leave what a disk holds.
+static EXAMPLE: Row = FIRST_RUN;
+
+static WITH_HANDS: Row = FIRST_WITH_HANDS;
+
+static OF_TWO_SHARDS: Row = TWO_SHARDS;
+
+/// The first run that leaves what a disk holds, where one does.
+pub(crate) fn first_run(held: Held) -> Option<&'static Row> {
+    match held {
+        Held::FirstRun | Held::DamagedBefore => Some(&EXAMPLE),
+        Held::FirstWithHands => Some(&WITH_HANDS),
+        Held::TwoShards => Some(&OF_TWO_SHARDS),
+        _ => None,
+    }
+}
+
+/// A first run that ends with a fault of the disk.
+const DISK_FAULT: Row = Row {
+    listed: &[],
+    status: 6,
+    told: Told::Lines(&["checkpoint disk fault"]),
+    kept: None,
+    ..FIRST_RUN
+};
+
+/// A first run with this fault of the disk.
+macro_rules! disk_fails {
+    ($shows:expr $(, $field:ident: $value:expr)* $(,)?) => {
+        row_like!(DISK_FAULT, shows: $shows $(, $field: $value)*)
+    };
+}
+
+/// Faults of the disk and of the shelf that hands it out.
+static FAULTS: &[Row] = &[
+    disk_fails!("the first call of the disk", fails: &[(Object::Disk, 1)]),
+    disk_fails!("the shelf's call for it", fails: &[(Object::Shelf, 4)]),
+    // What was listed before stands: the first match is written in round 10, before the second cut is put.
+    disk_fails!(
+        "the last call of the disk",
+        listed: &[r#"1 ["root"] 0:2 0:4 0:9"#],
+        fails: &[(Object::Disk, 16)],
+    ),
+    disk_fails!("what can't be told", fails: &[(Object::Disk, 1), (Object::Err, 1)]),
+    Row {
+        fails: &[(Object::Disk, 17)],
+        ..FIRST_RUN
+    },
+];
+
+/// Runs on disks that are damaged or hold a cut that can't be gone on from.
+static DAMAGED: &[Row] = &[
+    not_resumed!("a damaged area", "checkpoint: Damaged area 0 at 0", held: Held::Damaged),
+    Row {
+        shows: "a damaged area, by a first run",
+        listed: &[],
+        status: 7,
+        told: Told::Lines(&["checkpoint: Damaged area 0 at 0"]),
+        held: Held::Damaged,
+        kept: None,
+        ..FIRST_RUN
+    },
+];
+
+/// A run on a disk whose older area is damaged.
+static DAMAGED_BEFORE: &[Row] = &[
+    second_run!("a damaged area that is older", held: Held::DamagedBefore),
+];
+
+/// A run on a disk whose cut can't be gone on from.
+static UNFIT: &[Row] = &[
+    not_resumed!("a cut that fits no run", "checkpoint: Unfit", held: Held::Unfit),
+];
+
+#[test]
+fn disks_fail_and_are_damaged(rt: HostRuntime) {
+    check(&rt, rt.alloc(), &[FAULTS, DAMAGED, DAMAGED_BEFORE, UNFIT]);
+}
+
+/// A run that puts a cut on a disk that has the last generation.
+static LAST_GENERATION: &[Row] = &[second_run!(
+    "the last generation",
+    words: Words::Find("--slack 0ms --batch 1 --hands 0 --checkpoint c --every 1"),
+    status: 9,
+    told: Told::Lines(&["limit: generation"]),
+    held: Held::LastGeneration,
+)];
+
+/// The example with a space in place of each line feed.
+const SPACED: Pieces = &[Spaced(
+    "1000 root attrib, 2000 root attrib, 3000 elkbee bash, 4000 root bash, 5000 root bash, 6000 elkbee attrib, 7000 root attrib, 8000 elkbee bash, 9000 root cat, 10000 elkbee cat, 11000 root cat",
+)];
+
+/// Runs on the disk that the first run left in format 1, of which no cut has places.
+static OF_FIRST_FORMAT: &[Row] = &[
+    second_run!("a cut without places", held: Held::FirstFormat),
+    second_run!(
+        "a cut without places, and the places",
+        listed: &[r#"2 ["elkbee"] 0:6@506 0:8@712 0:10@913"#],
+        held: Held::FirstFormat,
+        words: Words::Find("--slack 0ms --batch 7 --hands 3 --places --checkpoint c --every 5"),
+    ),
+    not_resumed!(
+        "a cut whose lines aren't there",
+        "checkpoint: NoLine shard 0 line 6",
+        shard: SPACED,
+        held: Held::FirstFormat,
+    ),
+];
+
+/// A run on the disk that the first run left in format 2.
+static OF_SECOND_FORMAT: &[Row] = &[
+    second_run!("a cut with masks of 128 stages", held: Held::SecondFormat),
+];
+
+#[test]
+fn cuts_of_older_formats_are_read(rt: HostRuntime) {
+    check(
+        &rt,
+        rt.alloc(),
+        &[OF_FIRST_FORMAT, OF_SECOND_FORMAT, LAST_GENERATION],
+    );
+}
