@@ -2,12 +2,13 @@
 use Rattle.std.proofs.Common.{◌≡◌, ℕ, ◌/◌, ◌%◌, zero, suc, ◌<◌, ℤ, pos, negsuc, Bool, true, false, ◌&&◌, List, [], ◌∷◌, ◌++◌, ap, sym, ◌∙◌, append_assoc, arith, refl}
 use Rattle.std.specs.String.{string_bytes}
 use Rattle.std.specs.Str.{chars, IsUtf8, IsAscii}
-use Rattle.std.specs.Prelude.{String, encode_utf8, Result, Ok, Err, OnOk, nat_lt, ◌==◌, if◌then◌else◌}
+use Rattle.std.specs.Prelude.{String, encode_utf8, Result, Ok, Err, OnOk, nat_lt, ◌==◌, if◌then◌else◌, codes}
 use Rattle.std.proofs.lemmas.Str.{chars-append, chars-nil, chars_past_char, chars-IsAscii, IsUtf8-string_bytes}
 use Rattle.std.proofs.lemmas.List.{append-nil}
 use Rattle.std.proofs.lemmas.Bool.{false≢true}
 use Rattle.std.proofs.lemmas.Bool.Decides.{nat_tests}
 use Rattle.std.specs.Fmt.{digits, digits_onto, digit_glyph, signed_decimal}
+use Rattle.eql_values.specs.Shown.{hex_digit, upper_digits, escape_by_number}
 use Rattle.eql_parser.specs.Adding.{Adds, all_ascii}
 use Rattle.eql_parser.specs.Printed.{is_one}
 
@@ -77,6 +78,12 @@ ascii_decimal n = ascii_digits 64 n [] refl
 pub ascii_number : (n : ℤ) → all_ascii (signed_decimal n) ≡ true
 ascii_number (pos n) = ascii_decimal n
 ascii_number (negsuc n) = ascii_decimal (suc n)
+
+-- the escape of a character was written part by part
+pub escape_on : (page : List ℕ) (c : ℕ) (rest : List ℕ) → page ++ (codes "\\u{" ++ (upper_digits c ++ (hex_digit (c / 16 % 16) ∷ hex_digit (c % 16) ∷ (codes "}" ++ rest)))) ≡ page ++ (escape_by_number c ++ rest)
+escape_on page c rest =
+    let lower : List ℕ = hex_digit (c / 16 % 16) ∷ hex_digit (c % 16) ∷ codes "}" in
+    ap (λ text. page ++ text) (sym (append_assoc (codes "\\u{") (upper_digits c ++ lower) rest ∙ ap (λ text. codes "\\u{" ++ text) (append_assoc (upper_digits c) lower rest)))
 
 -- a last part was written
 pub adds_ok : {A E : Type 0} (r : Result A E) (page middle after : List ℕ) (f g : List ℕ → List ℕ) → OnOk r (Adds middle after f) → ((rest : List ℕ) → middle ++ f rest ≡ page ++ g rest)

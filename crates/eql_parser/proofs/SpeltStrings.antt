@@ -1,18 +1,19 @@
 -- What is printed for a string or a name in backticks reads as that token, whatever follows.
 use Rattle.std.proofs.Common.{◌≡◌, ℕ, ◌+◌, ◌<◌, ◌≤◌, Bool, true, false, List, [], ◌∷◌, ◌++◌, cond, refl, sym, ap, subst, ◌∙◌, arith, inr, ◌==◌, ◌&&◌, ◌/◌, ◌%◌, ◌*◌, Some}
-use Rattle.std.specs.Prelude.{codes}
+use Rattle.std.specs.Prelude.{codes, nat_lt}
 use Rattle.std.proofs.lemmas.Bool.{false≢true}
 use Rattle.std.proofs.lemmas.Bool.Decides.{nat_tests}
 use Rattle.std.proofs.lemmas.Str.{encode_ascii, chars-encodes}
 use lib.Utf8.{encode, encodes, next, scalar, scalars}
 use lib.Dec.{ltb}
+use Rattle.eql_values.specs.Shown.{hex_digit, is_hidden, escape_by_number}
 use Rattle.eql_lexer.specs.declared.token.Tok.{Tok}
 use Rattle.eql_lexer.specs.declared.token.Tok.TheVariants as tok
 use Rattle.eql_lexer.specs.Bytes.{is_hex, hex_number}
 use Rattle.eql_lexer.specs.Escapes.{escape, unicode}
 use Rattle.eql_lexer.specs.Strings.{IsPlain, IsContent, closed, plain, escaped, triple, quoted_name, name_behind, with_byte, is_name}
 use Rattle.eql_parser.specs.Printed as p
-use Rattle.eql_parser.specs.Printed.{hex_digit, is_control, all_escaped, string_shown, name_shown}
+use Rattle.eql_parser.specs.Printed.{all_escaped, string_shown, name_shown}
 use Rattle.eql_parser.proofs.Canonical.{OneLine, IsThere, IsName}
 use Rattle.eql_parser.proofs.Spelt.{Spelt}
 
@@ -54,33 +55,62 @@ hex_is d h = grind (arith, nat_tests)
 hex_small : (d : ℕ) → d < 16 → hex_digit d < 128
 hex_small d h = grind (arith, nat_tests)
 
-hex_two : (c : ℕ) → c < 128 → hex_number 0 (hex_digit (c / 16) ∷ hex_digit (c % 16) ∷ []) ≡ c
-hex_two c h =
-    let a : c / 16 < 16 = omega (arith, h) in
-    let b : c % 16 < 16 = omega arith in
-    two (c / 16) (c % 16) a b (omega arith)
-  where
-    one : (d : ℕ) → d < 16 → Rattle.eql_lexer.specs.Bytes.hex_digit (hex_digit d) ≡ d
-    one d x = grind (arith, nat_tests)
+hex_back : (d : ℕ) → d < 16 → Rattle.eql_lexer.specs.Bytes.hex_digit (hex_digit d) ≡ d
+hex_back d h = grind (arith, nat_tests)
 
+hex_two : (c : ℕ) → c < 256 → hex_number 0 (hex_digit (c / 16 % 16) ∷ hex_digit (c % 16) ∷ []) ≡ c
+hex_two c h = two (c / 16 % 16) (c % 16) (omega arith) (omega arith) (omega (arith, h))
+  where
     two : (a b : ℕ) → a < 16 → b < 16 → a * 16 + b ≡ c → hex_number 0 (hex_digit a ∷ hex_digit b ∷ []) ≡ c
-    two a b x y e = omega (arith, one a x, one b y, e)
+    two a b x y e = omega (arith, hex_back a x, hex_back b y, e)
+
+hex_four : (c : ℕ) → c < 65536 → hex_number 0 (hex_digit (c / 4096) ∷ hex_digit (c / 256 % 16) ∷ hex_digit (c / 16 % 16) ∷ hex_digit (c % 16) ∷ []) ≡ c
+hex_four c h = four (c / 4096) (c / 256 % 16) (c / 16 % 16) (c % 16) (omega (arith, h)) (omega arith) (omega arith) (omega arith) (omega (arith, h))
+  where
+    four : (a b d e : ℕ) → a < 16 → b < 16 → d < 16 → e < 16 → ((a * 16 + b) * 16 + d) * 16 + e ≡ c
+        → hex_number 0 (hex_digit a ∷ hex_digit b ∷ hex_digit d ∷ hex_digit e ∷ []) ≡ c
+    four a b d e w x y z is = omega (arith, hex_back a w, hex_back b x, hex_back d y, hex_back e z, is)
 
 unicode_two : (a b v : ℕ) (more : List ℕ) → is_hex a ≡ true → is_hex b ≡ true → hex_number 0 (a ∷ b ∷ []) ≡ v → scalar v ≡ true → unicode (123 ∷ a ∷ b ∷ 125 ∷ more) ≡ Some (v, more)
 unicode_two a b v more h k e s = rw (h, k, e, s) refl
 
-code_s : (c : ℕ) (cs s rest : List ℕ) → is_control c ≡ true → scalar c ≡ true → IsContent (encodes cs) s rest
-    → IsContent (encodes (codes "\\u{" ++ hex_digit (c / 16) ∷ hex_digit (c % 16) ∷ 125 ∷ cs)) (encode c ++ s) rest
+unicode_four : (a b d e v : ℕ) (more : List ℕ) → is_hex a ≡ true → is_hex b ≡ true → is_hex d ≡ true → is_hex e ≡ true → hex_number 0 (a ∷ b ∷ d ∷ e ∷ []) ≡ v → scalar v ≡ true
+    → unicode (123 ∷ a ∷ b ∷ d ∷ e ∷ 125 ∷ more) ≡ Some (v, more)
+unicode_four a b d e v more w x y z is s = rw (w, x, y, z, is, s) refl
+
+digit_bytes : (d : ℕ) (more : List ℕ) → d < 16 → encodes (hex_digit d ∷ more) ≡ hex_digit d ∷ encodes more
+digit_bytes d more h = ap (λ bs. bs ++ encodes more) (encode_ascii (hex_digit d) (hex_small d h))
+
+hidden_small : (c : ℕ) → is_hidden c ≡ true → c < 65536
+hidden_small c h = grind (arith, nat_tests)
+
+-- a character by its number, in two digits or four
+code_s : (c : ℕ) (cs s rest : List ℕ) → is_hidden c ≡ true → scalar c ≡ true → IsContent (encodes cs) s rest
+    → IsContent (encodes (escape_by_number c ++ cs)) (encode c ++ s) rest
 unfolding encode
-code_s c cs s rest h u k =
-    let small : c < 128 = grind (arith, nat_tests) in
-    let a : c / 16 < 16 = omega (arith, small) in
-    let b : c % 16 < 16 = omega arith in
-    let bytes : encodes (codes "\\u{" ++ hex_digit (c / 16) ∷ hex_digit (c % 16) ∷ 125 ∷ cs) ≡ 92 ∷ 117 ∷ 123 ∷ hex_digit (c / 16) ∷ hex_digit (c % 16) ∷ 125 ∷ encodes cs =
-    ap (λ x. 92 ∷ 117 ∷ 123 ∷ (x ++ (encode (hex_digit (c % 16)) ++ (125 ∷ encodes cs)))) (encode_ascii (hex_digit (c / 16)) (hex_small (c / 16) a))
-    ∙ ap (λ x. 92 ∷ 117 ∷ 123 ∷ hex_digit (c / 16) ∷ (x ++ (125 ∷ encodes cs))) (encode_ascii (hex_digit (c % 16)) (hex_small (c % 16) b)) in
-    subst (λ text. IsContent text (encode c ++ s) rest) (sym bytes)
-    (escaped refl (unicode_two (hex_digit (c / 16)) (hex_digit (c % 16)) c (encodes cs) (hex_is (c / 16) a) (hex_is (c % 16) b) (hex_two c small) u) refl k)
+code_s c cs s rest h u k = by (nat_lt c 256) refl
+  where
+    by : (b : Bool) → nat_lt c 256 ≡ b
+        → IsContent (encodes ((codes "\\u{" ++ (cond b [] (hex_digit (c / 4096) ∷ hex_digit (c / 256 % 16) ∷ []) ++ (hex_digit (c / 16 % 16) ∷ hex_digit (c % 16) ∷ codes "}"))) ++ cs)) (encode c ++ s) rest
+    by true small =
+        let low : c < 256 = grind (arith, nat_tests) in
+        let y : c / 16 % 16 < 16 = omega arith in
+        let z : c % 16 < 16 = omega arith in
+        subst (λ text. IsContent (92 ∷ 117 ∷ 123 ∷ text) (encode c ++ s) rest)
+        (sym (digit_bytes (c / 16 % 16) (hex_digit (c % 16) ∷ 125 ∷ cs) y ∙ ap (λ bs. hex_digit (c / 16 % 16) ∷ bs) (digit_bytes (c % 16) (125 ∷ cs) z)))
+        (escaped refl (unicode_two (hex_digit (c / 16 % 16)) (hex_digit (c % 16)) c (encodes cs) (hex_is (c / 16 % 16) y) (hex_is (c % 16) z) (hex_two c low) u) refl k)
+    by false large =
+        let w : c / 4096 < 16 = let below = hidden_small c h in omega (arith, below) in
+        let x : c / 256 % 16 < 16 = omega arith in
+        let y : c / 16 % 16 < 16 = omega arith in
+        let z : c % 16 < 16 = omega arith in
+        subst (λ text. IsContent (92 ∷ 117 ∷ 123 ∷ text) (encode c ++ s) rest)
+        (sym (digit_bytes (c / 4096) (hex_digit (c / 256 % 16) ∷ hex_digit (c / 16 % 16) ∷ hex_digit (c % 16) ∷ 125 ∷ cs) w
+        ∙ ap (λ bs. hex_digit (c / 4096) ∷ bs) (digit_bytes (c / 256 % 16) (hex_digit (c / 16 % 16) ∷ hex_digit (c % 16) ∷ 125 ∷ cs) x
+        ∙ ap (λ bs. hex_digit (c / 256 % 16) ∷ bs) (digit_bytes (c / 16 % 16) (hex_digit (c % 16) ∷ 125 ∷ cs) y
+        ∙ ap (λ bs. hex_digit (c / 16 % 16) ∷ bs) (digit_bytes (c % 16) (125 ∷ cs) z)))))
+        (escaped refl (unicode_four (hex_digit (c / 4096)) (hex_digit (c / 256 % 16)) (hex_digit (c / 16 % 16)) (hex_digit (c % 16)) c (encodes cs)
+        (hex_is (c / 4096) w) (hex_is (c / 256 % 16) x) (hex_is (c / 16 % 16) y) (hex_is (c % 16) z) (hex_four c (hidden_small c h)) u) refl k)
 
 choose : (b : Bool) (xs ys t rest : List ℕ) → (b ≡ true → IsContent (encodes xs) t rest) → (b ≡ false → IsContent (encodes ys) t rest) → IsContent (encodes (cond b xs ys)) t rest
 choose true xs ys t rest h k = h refl
@@ -94,7 +124,7 @@ escaped_s c cs s rest u k =
     choose (c == 9) _ _ _ rest (λ e. short_s c 9 116 (encodes cs) s rest (equal c 9 e) refl k) (λ _.
     choose (c == 92) _ _ _ rest (λ e. short_s c 92 92 (encodes cs) s rest (equal c 92 e) refl k) (λ b.
     choose (c == 34) _ _ _ rest (λ e. short_s c 34 34 (encodes cs) s rest (equal c 34 e) refl k) (λ q.
-    choose (is_control c) _ _ _ rest (λ e. code_s c cs s rest e u k) (λ _.
+    choose (is_hidden c) _ _ _ rest (λ e. code_s c cs s rest e u k) (λ _.
     plain_content (encode c) (encodes cs) s rest (encode_plain c (unequal c 34 q, unequal c 92 b, unequal c 10 n)) k))))))
 
 both : (a b : Bool) → a && b ≡ true → (a ≡ true) × (b ≡ true)

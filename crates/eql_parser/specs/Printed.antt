@@ -1,7 +1,8 @@
 -- The canonical text of a query, as a list of characters: one text for all ways to write a query that differ only in blanks, comments, escapes,
 -- parentheses that change nothing, and ways to name a field. Each function puts the text of a part before the rest of the text.
-use Rattle.std.specs.Prelude.{ℕ, zero, suc, ℤ, pos, ◌+◌, ◌/◌, ◌%◌, ◌==◌, ◌||◌, nat_lt, Bool, true, false, if◌then◌else◌, List, [], ◌∷◌, ◌++◌, Option, Some, None, codes}
+use Rattle.std.specs.Prelude.{ℕ, zero, suc, ℤ, pos, ◌==◌, Bool, true, false, if◌then◌else◌, List, [], ◌∷◌, ◌++◌, Option, Some, None, codes}
 use Rattle.std.specs.Fmt.{signed_decimal}
+use Rattle.eql_values.specs.Shown.{is_hidden, escape_by_number}
 use Rattle.eql_values.specs.declared.value.Value.{Value}
 use Rattle.eql_values.specs.declared.value.Value.TheVariants as value
 use Rattle.eql_query.specs.declared.expr.CmpOp.{CmpOp}
@@ -20,15 +21,7 @@ use Rattle.eql_query.specs.Tree.{Tree, Trees, none, more}
 use Rattle.eql_query.specs.Tree as t
 use Rattle.eql_query.specs.QueryTree.{TermTree, BodyTree, event, sequence, QueryTree}
 
--- a hexadecimal digit in lower case
-abbrev pub hex_digit : ℕ → ℕ
-hex_digit n = if nat_lt n 10 then 48 + n else 87 + n
-
--- a control character is written by its number, in two hexadecimal digits
-abbrev pub is_control : ℕ → Bool
-is_control c = nat_lt c 32 || (c == 127)
-
--- a character of a string in quotes
+-- a character of a string in quotes: what steers a terminal or turns the line is written by its number
 abbrev pub char_shown : ℕ → List ℕ → List ℕ
 char_shown c rest =
     if c == 10 then codes "\\n" ++ rest
@@ -36,7 +29,7 @@ char_shown c rest =
     else if c == 9 then codes "\\t" ++ rest
     else if c == 92 then codes "\\\\" ++ rest
     else if c == 34 then codes "\\\"" ++ rest
-    else if is_control c then codes "\\u{" ++ hex_digit (c / 16) ∷ hex_digit (c % 16) ∷ 125 ∷ rest
+    else if is_hidden c then escape_by_number c ++ rest
     else c ∷ rest
 
 abbrev pub all_escaped : List ℕ → List ℕ → List ℕ
@@ -47,7 +40,7 @@ all_escaped (c ∷ cs) rest = char_shown c (all_escaped cs rest)
 abbrev pub string_shown : List ℕ → List ℕ → List ℕ
 string_shown s rest = 34 ∷ all_escaped s (34 ∷ rest)
 
--- a backtick in a name is doubled
+-- a backtick in a name is doubled; a name has no escapes, so each other character stands as it is
 abbrev pub name_shown : List ℕ → List ℕ → List ℕ
 name_shown [] rest = rest
 name_shown (c ∷ cs) rest = if c == 96 then 96 ∷ 96 ∷ name_shown cs rest else c ∷ name_shown cs rest

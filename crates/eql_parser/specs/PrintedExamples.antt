@@ -1,5 +1,5 @@
 -- The canonical text of worked queries.
-use Rattle.std.specs.Prelude.{◌≡◌, pos, neg_ℤ, true, false, [], ◌∷◌, Some, None, codes, refl}
+use Rattle.std.specs.Prelude.{◌≡◌, pos, neg_ℤ, true, false, [], ◌∷◌, ◌++◌, Some, None, codes, refl}
 use Rattle.eql_values.specs.declared.value.Value.TheVariants as value
 use Rattle.eql_query.specs.declared.expr.CmpOp.TheVariants as cmp
 use Rattle.eql_query.specs.declared.expr.PatOp.TheVariants as pat
@@ -57,3 +57,9 @@ members = refl
 -- a quote, a backslash, a line feed, a tab, a carriage return, and two other control characters
 escapes : string_shown (34 ∷ 92 ∷ 10 ∷ 9 ∷ 13 ∷ 27 ∷ 127 ∷ []) [] ≡ codes "\"\\\"\\\\\\n\\t\\r\\u{1b}\\u{7f}\""
 escapes = refl
+
+-- on both sides of 127 to 159, a letter beyond ASCII, a separator of lines, and marks of direction
+hidden : string_shown (126 ∷ 127 ∷ 133 ∷ 159 ∷ 160 ∷ 233 ∷ 8232 ∷ 8206 ∷ 8238 ∷ 8239 ∷ 8294 ∷ []) []
+    ≡ 34 ∷ 126 ∷ codes "\\u{7f}\\u{85}\\u{9f}" ++ 160 ∷ 233 ∷ codes "\\u{2028}\\u{200e}\\u{202e}" ++ 8239 ∷ codes "\\u{2066}\""
+unfolding lib.Utf8.encode
+hidden = refl

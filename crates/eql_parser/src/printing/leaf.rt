@@ -2,7 +2,8 @@
 ghost use Rattle.std.specs.Prelude.{◌≡◌, ◌<◌, ◌++◌, ◌∷◌, ◌/◌, ◌%◌, codes, OnOk};
 ghost use Rattle.std.specs.Str.{chars};
 ghost use Rattle.eql_parser.specs.Adding.{Adds};
-ghost use Rattle.eql_parser.specs.Printed.{hex_digit, is_control, char_shown, all_escaped, string_shown, name_shown, field_shown, literal_shown};
+ghost use Rattle.eql_values.specs.Shown.{hex_digit, is_hidden, upper_digits, escape_by_number};
+ghost use Rattle.eql_parser.specs.Printed.{char_shown, all_escaped, string_shown, name_shown, field_shown, literal_shown};
 
 use super::page::Page;
 use super::symbol::bool_text;
@@ -10,33 +11,55 @@ use eql_query::FieldRef;
 use eql_values::{Memory, Text, Value};
 
 /// A hexadecimal digit in lower case.
-fn hex_digit(number: u8) -> char
+fn hex_digit(number: u32) -> char
     requires { number < 16 }
     ensures { result ≡ hex_digit number }
 {
-    if number < 10 {
-        char::from(b'0' + number)
-    } else {
-        char::from(b'a' - 10 + number)
-    }
+    char::from_digit(number, 16).unwrap_or('0')
 }
 
-/// Whether a character is a control character of ASCII.
-fn is_control(c: char) -> bool
-    ensures { result ≡ is_control c }
+/// Whether a character is written by its number.
+fn is_hidden(c: char) -> bool
+    ensures { result ≡ is_hidden c }
 {
-    c < ' ' || c == '\u{7f}'
+    matches!(c,
+        '\0'..='\u{1f}'
+        | '\u{7f}'..='\u{9f}'
+        | '\u{200e}'..='\u{200f}'
+        | '\u{2028}'..='\u{202e}'
+        | '\u{2066}'..='\u{2069}')
+}
+
+/// Writes the upper two hexadecimal digits of a number, where it has more than two.
+fn put_upper(page: &mut Page, number: u32) -> Result<(), Memory>
+    requires { number < 65536 }
+    ensures { OnOk result (Adds page.old page.new (λ rest. upper_digits number ++ rest)) }
+{
+    if number < 256 {
+        return Ok(());
+    }
+    page.put_char(hex_digit(number / 4096))?;
+    page.put_char(hex_digit(number / 256 % 16))
+}
+
+/// Writes the lower two, and the brace behind them.
+fn put_lower(page: &mut Page, number: u32) -> Result<(), Memory>
+    ensures { OnOk result (Adds page.old page.new (λ rest.
+        hex_digit (number / 16 % 16) ∷ hex_digit (number % 16) ∷ codes "}" ++ rest)) }
+{
+    page.put_char(hex_digit(number / 16 % 16))?;
+    page.put_char(hex_digit(number % 16))?;
+    page.put("}")
 }
 
 /// Writes a character by its number.
-fn put_code(page: &mut Page, code: u8) -> Result<(), Memory>
-    ensures { OnOk result (Adds page.old page.new (λ rest.
-        codes "\\u{" ++ hex_digit (code / 16) ∷ hex_digit (code % 16) ∷ 125 ∷ rest)) }
+fn put_code(page: &mut Page, number: u32) -> Result<(), Memory>
+    requires { number < 65536 }
+    ensures { OnOk result (Adds page.old page.new (λ rest. escape_by_number number ++ rest)) }
 {
     page.put("\\u{")?;
-    page.put_char(hex_digit(code / 16))?;
-    page.put_char(hex_digit(code % 16))?;
-    page.put("}")
+    put_upper(page, number)?;
+    put_lower(page, number)
 }
 
 /// Writes a character of a string.
@@ -49,7 +72,7 @@ fn put_escaped(page: &mut Page, c: char) -> Result<(), Memory>
         '\t' => page.put("\\t"),
         '\\' => page.put("\\\\"),
         '"' => page.put("\\\""),
-        c if is_control(c) => put_code(page, c as u8),
+        c if is_hidden(c) => put_code(page, c as u32),
         c => page.put_char(c),
     }
 }

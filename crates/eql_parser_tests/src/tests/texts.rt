@@ -239,6 +239,7 @@ any where 1 % 2 => any where (1 % 2)
 any where length() => any where length()
 any where startsWith~(a, "x") => any where startsWith~(`a`, "x")
 any where p not in~ (-7, true) or not null like "a\n\u{1b}\"" or length("é", 2) >= 5 % -3 => any where ((`p` not in~ (-7, true)) or (not (null like "a\n\u{1b}\"")) or (length("é", 2) >= (5 % (-3))))
+any where a == "\u{0000202E}\u{085}\u{7f}" or a : ("\u{2069}é", "\u{2028}*") => any where ((`a` == "\u{202e}\u{85}\u{7f}") or (`a` : ("\u{2069}é", "\u{2028}*")))
 "#;
 
 /// Whether what stands behind the last ` => ` of a row is the canonical text of what stands before it, or its refusal.

@@ -418,6 +418,16 @@ static CANONICAL: &[Row] = &[
         &["any where ((`a``b.c` like \"\\\\\\u{01}\") and (?`d e` != null))"],
         fields: &[Bytes(br#"{"a`b.c":"keyword"}"#)],
     ),
+    printed!(
+        "no character of a string steers a terminal or turns the line",
+        "any where user.name : (\"exe\u{202e}gpj\u{85}\", \"\"\"\u{2028}\u{7f}é\"\"\")",
+        &[r#"any where (`user.name` : ("exe\u{202e}gpj\u{85}", "\u{2028}\u{7f}é"))"#],
+    ),
+    printed!(
+        "a name in backticks has no escapes",
+        "any where ?`a\u{202e}b` != null",
+        &["any where (?`a\u{202e}b` != null)"],
+    ),
 ];
 
 #[test]
