@@ -1,5 +1,6 @@
 -- The cuts of a run, put one after another.
 use Rattle.std.proofs.Common.{◌≡◌, ◌≢◌, ◌+◌, ℕ, ℤ, List, [], ◌∷◌, ◌++◌, Option, None, Some, length, refl, sym, ap, ◌∙◌, subst, arith, All, length-append}
+use Rattle.std.specs.Prelude.{Ok, Err}
 use Rattle.std.proofs.lemmas.List.Elements.{All-append, All-weaker}
 use Rattle.eql_values.specs.declared.item.Item.{Item}
 use Rattle.eql_values.specs.declared.found.Match.{Match}
@@ -24,10 +25,9 @@ use Rattle.eql_ckdisk.specs.Keeping.{LeavesNoMore}
 use Rattle.eql_ckdisk.specs.Putting.{last_cut}
 use Rattle.eql_ckdisk.specs.Runs.{last_after}
 use Rattle.eql_ckdisk.proofs.RunLemmas.{go_on}
-use Rattle.eql_conductor.specs.declared.plan.End.{End as Ends}
-use Rattle.eql_conductor.specs.declared.plan.End.TheVariants as end
 use Rattle.eql_conductor.specs.declared.plan.Keep.{Keep}
 use Rattle.eql_conductor.specs.declared.plan.RunPlan.{RunPlan}
+use Rattle.eql_conductor.specs.declared.stop.Stop.{Stop}
 use Rattle.eql_conductor.specs.Benches.{Known, StaysSame}
 use Rattle.eql_conductor.specs.PartRounds.{AreAtRest, pending_after}
 use Rattle.eql_conductor.specs.Rounds.{BenchIsOfTexts, CountsAreInRange, GoesTo, IsInRange, found_by}
@@ -76,12 +76,13 @@ module _ (old mid new : CkState) (before between_them now : Option History) (cut
   mid_generation = ap (λ (last : LastCut). last.generation) h.state_is ∙ generation_on (last_cut old) cuts
 
   -- a run that came to its end
-  pub run_put_each : (head : CutHead) (from : Mark) (a : Known) (book : BookState) → All (IsRunCut head from a book) cuts → RunPuts head from a book old mid before between_them cuts end.Done
-  run_put_each head from a book are = record {
+  pub run_put_each : (head : CutHead) (from : Mark) (a : Known) (book : BookState) (done : Unit {0}) → All (IsRunCut head from a book) cuts
+      → RunPuts head from a book old mid before between_them cuts (Ok done)
+  run_put_each head from a book done are = record {
     are_cuts = are;
     puts = h.puts;
-    state_is = λ e. h.state_is;
-    holds = λ e. h.holds;
+    state_is = h.state_is;
+    holds = h.holds;
     generation_from = let g = mid_generation in omega (arith, g);
     generation_to = let g = mid_generation in omega (arith, g);
     full = λ e. absurd (let k = e in cc);
@@ -89,14 +90,14 @@ module _ (old mid new : CkState) (before between_them now : Option History) (cut
   }
 
   -- and one that was stopped after further cuts
-  pub run_puts_on : (head : CutHead) (from later : Mark) (a b : Known) (book after : BookState) (more : List Cut) (answer : Ends) → answer ≢ end.Done
+  pub run_puts_on : (head : CutHead) (from later : Mark) (a b : Known) (book after : BookState) (more : List Cut) (by : Stop)
       → All (IsRunCut head from a book) cuts → All (IsRunCut head from a book) more
-      → RunPuts head later b after mid new between_them now more answer → RunPuts head from a book old new before now (cuts ++ more) answer
-  run_puts_on head from later a b book after more answer apart are also k = record {
+      → RunPuts head later b after mid new between_them now more (Err by) → RunPuts head from a book old new before now (cuts ++ more) (Err by)
+  run_puts_on head from later a b book after more by are also k = record {
     are_cuts = All-append (IsRunCut head from a book) cuts more are also;
     puts = puts_join (last_cut old) cuts more before between_them now h.puts (subst (λ (last : LastCut). PutsCuts last more between_them now) h.state_is k.puts);
-    state_is = λ e. absurd (apart e);
-    holds = λ e. absurd (apart e);
+    state_is = tt;
+    holds = tt;
     generation_from = let g = mid_generation in let f = k.generation_from in omega (arith, g, f);
     generation_to = let g = mid_generation in let t = k.generation_to in let l = length-append cuts more in omega (arith, g, t, l);
     full = k.full;

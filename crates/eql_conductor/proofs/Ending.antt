@@ -14,7 +14,6 @@ use Rattle.eql_values.specs.Marks.{low_of}
 use Rattle.eql_laws.specs.Belows.{between}
 use Rattle.eql_laws.specs.Lateness.{IsAtMost}
 use Rattle.eql_laws.proofs.MarkLemmas.{at_most_end, at_most_self, at_most_trans}
-use Rattle.eql_lane.specs.declared.ops.ShardLimit.TheVariants as limit
 use Rattle.eql_lane.specs.Lanes.{LaneState, Setting, low}
 use Rattle.eql_outside.specs.Moments.{History}
 use Rattle.eql_outside.specs.Written.{WroteAll, WroteFront}
@@ -26,23 +25,21 @@ use Rattle.eql_book.specs.Listing.{listing}
 use Rattle.eql_cut.specs.declared.cut.Cut.{Cut}
 use Rattle.eql_cut.specs.declared.cut.CutHead.{CutHead}
 use Rattle.eql_ckdisk.specs.Putting.{Stands, last_cut}
-use Rattle.eql_conductor.specs.declared.plan.End.{End as Ends}
-use Rattle.eql_conductor.specs.declared.plan.End.TheVariants as end
 use Rattle.eql_conductor.specs.declared.plan.Keep.{Keep}
 use Rattle.eql_conductor.specs.declared.plan.RunPlan.{RunPlan}
 use Rattle.eql_conductor.specs.declared.stop.Stop.{Stop}
 use Rattle.eql_conductor.specs.declared.stop.Stop.TheVariants as stop
 use Rattle.eql_conductor.specs.Benches.{Known, StaysSame}
 use Rattle.eql_conductor.specs.Bounds.{AreSized, RoundsSpend}
-use Rattle.eql_conductor.specs.Going.{LanesGo}
+use Rattle.eql_conductor.specs.Going.{LanesGo, RunResult}
 use Rattle.eql_conductor.specs.LaneRounds.{IsSafe, LanesAreAt}
 use Rattle.eql_conductor.specs.PartRounds.{AreAtRest, pending_after}
 use Rattle.eql_conductor.specs.Rounds.{BenchIsOfTexts, CountsAreInRange, GoesTo, RoundRests, RoundStops, StopsOut, found_by}
 use Rattle.eql_conductor.specs.RoundNotes.{NotesRoundFront, NotesRound}
-use Rattle.eql_conductor.specs.RunNotes.{NotesCut, Place, PlaysRound, PlaysRoundsFront, PlaysRounds, RunNotes, NotesSaveFront, NotesSave, cut_after, place_behind, place, round_count, start}
+use Rattle.eql_conductor.specs.RunNotes.{NotesCut, Place, PlaysRound, PlaysRoundsFront, PlaysRounds, NotesSaveFront, NotesSave, cut_after, place_behind, place, start}
 use Rattle.eql_conductor.specs.RunBounds.{RunIsBounded}
 use Rattle.eql_conductor.specs.Records.{ListsTold, Ran}
-use Rattle.eql_conductor.specs.Running.{CountsRound, CutGoes, CutStops, IsAtMark, IsTaken, KeepPuts, KeepStands, KeepStops, KeepsOne, PassesRound, RanAll, RanTo, StepStops, end_by, end_of, time_of}
+use Rattle.eql_conductor.specs.Running.{CountsRound, CutGoes, CutStops, IsAtMark, IsTaken, KeepPuts, KeepStands, KeepStops, KeepsOne, PassesRound, RanAll, RanTo, StepStops, time_of}
 use Rattle.eql_conductor.specs.Runs.{cut_time, IsRunCut, KeepGoes, MayKeepIf, MayRun, RanWhole, RunIs, RunStops, RunStopsAt, WroteLinesOf, lines_before_end, lines_by, whole_lines}
 use Rattle.eql_conductor.specs.Saving.{IsSavedAt, SavesNoCut, SavesCut}
 use Rattle.eql_conductor.proofs.Bounded.{run_bounded}
@@ -51,7 +48,7 @@ use Rattle.eql_conductor.proofs.BoundsSpent.{rounds_stay}
 use Rattle.eql_conductor.proofs.Broken.{wrote_none}
 use Rattle.eql_conductor.proofs.DueCuts.{not_due, put_one}
 use Rattle.eql_conductor.proofs.NotedRuns.{broken_in_rounds, cut_self, keep_broke, lanes_in_rounds, round_broke, round_played, rounds_broke, rounds_end, rounds_more, rounds_none}
-use Rattle.eql_conductor.proofs.Causes.{full_by, not_done, out_not_full}
+use Rattle.eql_conductor.proofs.Causes.{err_is, out_not_full}
 use Rattle.eql_conductor.proofs.Cutting.{cuts_on, keep_puts_more, keep_puts_none, puts_none, run_put_each, run_puts_on, taken_is}
 use Rattle.eql_conductor.proofs.Goings.{goes_join, goes_rests, goes_self, goes_stays, texts_go}
 use Rattle.eql_conductor.proofs.Joins.{between_joins, between_self, book_joins, found_joins, lines_by_joins}
@@ -232,27 +229,11 @@ module _ (from : Mark) (a b : Known) (book mid then : BookState) (before between
     end_run_stops = record { mark = End; later = goes.later; safe = safe_at End b b (goes.lanes None at.lanes) go; after_cuts = at_most; told = stopped_end }
 
 -- ---- by how it was stopped
-run_is : (by : Stop) (from : Mark) (a c : Known) (book then : BookState) (before now : Option (List ℕ)) (cuts : List Cut) → RunStops from a c book then before now cuts
-    → RunIs from a c book then before now cuts (end_by by)
-run_is (stop.Read s) from a c book then before now cuts h = h
-run_is stop.Write from a c book then before now cuts h = h
-run_is stop.Disk from a c book then before now cuts h = h
-run_is stop.Memory from a c book then before now cuts h = h
-run_is (stop.Limit of) from a c book then before now cuts h = h
-
-is_stopped : (by : Stop) (from : Mark) (a c : Known) (book then : BookState) (before now : Option (List ℕ)) (cuts : List Cut) → RunIs from a c book then before now cuts (end_by by)
-    → RunStops from a c book then before now cuts
-is_stopped (stop.Read s) from a c book then before now cuts h = h
-is_stopped stop.Write from a c book then before now cuts h = h
-is_stopped stop.Disk from a c book then before now cuts h = h
-is_stopped stop.Memory from a c book then before now cuts h = h
-is_stopped (stop.Limit of) from a c book then before now cuts h = h
-
 was_saved : (head : CutHead) (time : ℤ) (b : Known) (book : BookState) (cut : Cut) → IsSavedAt head time b book cut → IsTaken head (At time) b book cut
 was_saved head time b book cut is = record { mark_is = ap At (sym is.mark_is); saved = subst (λ (t : ℤ). IsSavedAt head t b book cut) (sym is.mark_is) is }
 
 -- in the words of the listing
-lists_told : BookIsKept → EndIsWhole → (plan : RunPlan) (a c : Known) (book then : BookState) (before now : Option (List ℕ)) (cuts : List Cut) (answer : Ends)
+lists_told : BookIsKept → EndIsWhole → (plan : RunPlan) (a c : Known) (book then : BookState) (before now : Option (List ℕ)) (cuts : List Cut) (answer : RunResult)
     → RunIs plan.mark a c book then before now cuts answer → ListsTold plan a c book then before now cuts answer
 lists_told kept whole plan a c book then before now cuts answer is = λ rules reads slack texts all began.
     run_listed kept whole rules reads slack texts plan.mark all a c book then before now began cuts answer is
@@ -274,54 +255,54 @@ module _ {D : Type 0} (history : D → Option History) (count : D → ℕ) where
   put_stands cuts (Some k) None h = tt
   put_stands cuts (Some k) (Some l) h = h.stands
 
-  keeps_none : (head : CutHead) (from : Mark) (a : Known) (book : BookState) (answer : Ends) (keep : Option (Keep D)) → answer ≢ end.Done → answer ≢ end.Limit limit.Generation
-      → StandsStill keep → KeepGoes history count head from a book [] answer keep keep
-  keeps_none head from a book answer None apart other stands = (refl, other)
-  keeps_none head from a book answer (Some k) apart other stands = record {
+  keeps_none : (head : CutHead) (from : Mark) (a : Known) (book : BookState) (by : Stop) (keep : Option (Keep D)) → by ≢ stop.Generation
+      → StandsStill keep → KeepGoes history count head from a book [] (Err by) keep keep
+  keeps_none head from a book by None other stands = (refl, λ e. other (err_is by stop.Generation e))
+  keeps_none head from a book by (Some k) other stands = record {
     are_cuts = All-nil (IsRunCut head from a book);
     puts = puts_none (last_cut k.state) (history k.disk);
-    state_is = λ e. absurd (apart e);
-    holds = λ e. absurd (apart e);
+    state_is = tt;
+    holds = tt;
     generation_from = omega arith;
     generation_to = omega arith;
-    full = λ e. absurd (other e);
+    full = λ e. absurd (other (err_is by stop.Generation e));
     stands = λ disk memory. stands;
   }
 
   keeps_stopped : (head : CutHead) (from : Mark) (a : Known) (book : BookState) (by : Stop) (cuts : List Cut) (keep kept : Option (Keep D)) → All (IsRunCut head from a book) cuts
-      → KeepStops history count by cuts keep kept → KeepGoes history count head from a book cuts (end_by by) keep kept
+      → KeepStops history count by cuts keep kept → KeepGoes history count head from a book cuts (Err by) keep kept
   keeps_stopped head from a book by cuts None kept are h = absurd h
   keeps_stopped head from a book by cuts (Some k) None are h = absurd h
   keeps_stopped head from a book by cuts (Some k) (Some l) are h = record {
     are_cuts = are;
     puts = h.puts;
-    state_is = λ e. absurd (not_done by e);
-    holds = λ e. absurd (not_done by e);
+    state_is = tt;
+    holds = tt;
     generation_from = let e = ap (λ last. last.generation) h.state_is in omega (arith, e);
     generation_to = let e = ap (λ last. last.generation) h.state_is in omega (arith, e);
-    full = λ e. h.full (full_by by e);
-    stands = λ disk memory. h.stands (λ e. disk (ap end_by e)) (λ e. memory (ap end_by e));
+    full = λ e. h.full (err_is by stop.Generation e);
+    stands = λ disk memory. h.stands (λ e. disk (ap Err e)) (λ e. memory (ap Err e));
   }
 
-  keeps_done : (head : CutHead) (from : Mark) (a : Known) (book : BookState) (cuts : List Cut) (keep kept : Option (Keep D)) → All (IsRunCut head from a book) cuts
-      → KeepPuts history count cuts keep kept → KeepGoes history count head from a book cuts end.Done keep kept
-  keeps_done head from a book cuts None None are h = (h, λ e. absurd (let k = e in cc))
-  keeps_done head from a book cuts None (Some l) are h = absurd h
-  keeps_done head from a book cuts (Some k) None are h = absurd h
-  keeps_done head from a book cuts (Some k) (Some l) are h = run_put_each k.state l.state l.state (history k.disk) (history l.disk) (history l.disk) cuts h head from a book are
+  keeps_done : (head : CutHead) (from : Mark) (a : Known) (book : BookState) (cuts : List Cut) (done : Unit {0}) (keep kept : Option (Keep D)) → All (IsRunCut head from a book) cuts
+      → KeepPuts history count cuts keep kept → KeepGoes history count head from a book cuts (Ok done) keep kept
+  keeps_done head from a book cuts done None None are h = (h, λ e. absurd (let k = e in cc))
+  keeps_done head from a book cuts done None (Some l) are h = absurd h
+  keeps_done head from a book cuts done (Some k) None are h = absurd h
+  keeps_done head from a book cuts done (Some k) (Some l) are h = run_put_each k.state l.state l.state (history k.disk) (history l.disk) (history l.disk) cuts h head from a book done are
 
-  keeps_on : (head : CutHead) (from later : Mark) (a b : Known) (book after : BookState) (cuts more : List Cut) (answer : Ends) (keep mid kept : Option (Keep D)) → answer ≢ end.Done
+  keeps_on : (head : CutHead) (from later : Mark) (a b : Known) (book after : BookState) (cuts more : List Cut) (by : Stop) (keep mid kept : Option (Keep D))
       → All (IsRunCut head from a book) cuts → All (IsRunCut head from a book) more → KeepPuts history count cuts keep mid
-      → KeepGoes history count head later b after more answer mid kept → KeepGoes history count head from a book (cuts ++ more) answer keep kept
-  keeps_on head from later a b book after cuts more answer None None None apart are also h k = ((λ i. h i ++ k.0 i), k.1)
-  keeps_on head from later a b book after cuts more answer None None (Some l) apart are also h k = absurd k
-  keeps_on head from later a b book after cuts more answer None (Some m) kept apart are also h k = absurd h
-  keeps_on head from later a b book after cuts more answer (Some o) None kept apart are also h k = absurd h
-  keeps_on head from later a b book after cuts more answer (Some o) (Some m) None apart are also h k = absurd k
-  keeps_on head from later a b book after cuts more answer (Some o) (Some m) (Some l) apart are also h k =
-      run_puts_on o.state m.state l.state (history o.disk) (history m.disk) (history l.disk) cuts h head from later a b book after more answer apart are also k
+      → KeepGoes history count head later b after more (Err by) mid kept → KeepGoes history count head from a book (cuts ++ more) (Err by) keep kept
+  keeps_on head from later a b book after cuts more by None None None are also h k = ((λ i. h i ++ k.0 i), k.1)
+  keeps_on head from later a b book after cuts more by None None (Some l) are also h k = absurd k
+  keeps_on head from later a b book after cuts more by None (Some m) kept are also h k = absurd h
+  keeps_on head from later a b book after cuts more by (Some o) None kept are also h k = absurd h
+  keeps_on head from later a b book after cuts more by (Some o) (Some m) None are also h k = absurd k
+  keeps_on head from later a b book after cuts more by (Some o) (Some m) (Some l) are also h k =
+      run_puts_on o.state m.state l.state (history o.disk) (history m.disk) (history l.disk) cuts h head from later a b book after more by are also k
 
-  more_are : (head : CutHead) (later : Mark) (b : Known) (after : BookState) (more : List Cut) (answer : Ends) (mid kept : Option (Keep D))
+  more_are : (head : CutHead) (later : Mark) (b : Known) (after : BookState) (more : List Cut) (answer : RunResult) (mid kept : Option (Keep D))
       → KeepGoes history count head later b after more answer mid kept → All (IsRunCut head later b after) more
   more_are head later b after more answer None None k = subst (All (IsRunCut head later b after)) (sym k.0) (All-nil (IsRunCut head later b after))
   more_are head later b after more answer None (Some l) k = absurd k
@@ -347,7 +328,7 @@ module _ {D : Type 0} (history : D → Option History) (count : D → ℕ) where
 
   pub saved_stops : {X : Type 0} (r : Result X Stop) (head : CutHead) (time : ℤ) (b c : Known) (book : BookState) (k l : Keep D)
       → OnErr r (SavesNoCut head time b book k.state l.state (history k.disk) (history l.disk))
-      → (r ≡ Err (stop.Limit limit.Generation) → (last_cut l.state).generation ≡ 2 ^ 63)
+      → (r ≡ Err stop.Generation → (last_cut l.state).generation ≡ 2 ^ 63)
       → IfErr r (λ (by : Stop). (by ≢ stop.Disk) → (by ≢ stop.Memory) → Stands (last_cut l.state) (history l.disk)) → OnErr r (NotesSaveFront b c)
       → IfErr r (CutStops history count head (At time) (Some time) b c book (Some k) (Some l))
   saved_stops (Ok x) head time b c book k l h full stands noted = tt
@@ -377,12 +358,12 @@ module _ {D : Type 0} (history : D → Option History) (count : D → ℕ) where
   module _ (plan : RunPlan) (at : Place) (b c : Known) (book then : BookState) (before now : Option (List ℕ)) (keep : Option (Keep D)) (go : LanesGo b c) where
     -- a round stopped
     pub round_stopped : (by : Stop) → IsAtMark at.mark b book → FitsPipes book.pipes book.kept → RoundStops at.mark b book then before now → NotesRoundFront at.mark plan.batch b c
-        → end_by by ≢ end.Limit limit.Generation → KeepStands history count plan b keep → StepStops history count plan at b c book then before now keep keep by
+        → by ≢ stop.Generation → KeepStands history count plan b keep → StepStops history count plan at b c book then before now keep keep by
     round_stopped by is fits h broken other stands = record {
       ran = record {
         cuts = [];
-        is = run_is by at.mark b c book then before now [] (round_run_stops at.mark b c book then before now is go fits h);
-        keeps = keeps_none plan.head at.mark b book (end_by by) keep (not_done by) other (kept_stands plan b keep stands);
+        is = round_run_stops at.mark b c book then before now is go fits h;
+        keeps = keeps_none plan.head at.mark b book by keep other (kept_stands plan b keep stands);
         wrote = All-nil (WroteLinesOf at.mark b book before now);
         rise = tt;
       };
@@ -426,8 +407,8 @@ module _ {D : Type 0} (history : D → Option History) (count : D → ℕ) where
     cut_stopped by go h = record {
       ran = record {
         cuts = h.cuts;
-        is = run_is by at.mark a c book then before now h.cuts (cut_run_stops at.mark mark a b c book then before now h.cuts is_at.lanes go goes
-            (All-weaker (IsTaken plan.head mark b then) (λ (cut : Cut). IsAtMost (At cut.mark) mark) (λ cut taken. subst (λ (m : Mark). IsAtMost m mark) taken.mark_is (at_most_self mark)) h.cuts h.are));
+        is = cut_run_stops at.mark mark a b c book then before now h.cuts is_at.lanes go goes
+            (All-weaker (IsTaken plan.head mark b then) (λ (cut : Cut). IsAtMost (At cut.mark) mark) (λ cut taken. subst (λ (m : Mark). IsAtMost m mark) taken.mark_is (at_most_self mark)) h.cuts h.are);
         keeps = keeps_stopped plan.head at.mark a book by h.cuts keep kept (All-weaker (IsTaken plan.head mark b then) (IsRunCut plan.head at.mark a book) one_is h.cuts h.are) h.keeps;
         wrote = taken_wrote at.mark mark a b book then before now goes plan.head h.cuts h.are;
         rise = taken_rise at.mark mark a b book then before now goes plan.head h.cuts h.are h.one;
@@ -457,14 +438,6 @@ module _ {D : Type 0} (history : D → Option History) (count : D → ℕ) where
 
   abbrev BrokenAt : RunPlan → (a c : Known) → ℕ → List ℤ → Type 0
   BrokenAt plan a c n times = (k : PlaysRoundsFront plan.batch plan.every (start plan) times a c) × (length k.rounds ≡ n)
-
-  stopped_with : (by : Stop) (plan : RunPlan) (times : List ℤ) (a c : Known) (k : PlaysRoundsFront plan.batch plan.every (start plan) times a c) → RunIsBounded (suc (length k.rounds)) a c
-      → (notes : RunNotes plan times a c (end_by by)) × RunIsBounded (round_count plan times a c (end_by by) notes) a c
-  stopped_with (stop.Read s) plan times a c k h = (k, h)
-  stopped_with stop.Write plan times a c k h = (k, h)
-  stopped_with stop.Disk plan times a c k h = (k, h)
-  stopped_with stop.Memory plan times a c k h = (k, h)
-  stopped_with (stop.Limit of) plan times a c k h = (k, h)
 
   module _ (plan : RunPlan) (at : Place) (n : ℕ) (a b c : Known) (book mid then : BookState) (before between_them now : Option (List ℕ)) (keep kept_mid kept : Option (Keep D))
       (same : StaysSame a b) (begins : at.mark ≢ End) (h : RanTo history count plan at n a b book mid before between_them keep kept_mid) where
@@ -540,28 +513,26 @@ module _ {D : Type 0} (history : D → Option History) (count : D → ℕ) where
           run_bounded (suc (length k.rounds)) n (4 * suc (length k.rounds)) a c (omega (arith, e)) both.same (rounds_stay n a b c same on spent) (sized_on a c both sized) k.parts
           (broken_in_rounds plan.batch plan.every (start plan) times a c k) k.in_rounds
 
-      pub ran_stops : (by : Stop) → StepStops history count plan at b c mid then between_them now kept_mid kept by → Ran history count plan a c book then before now keep kept (end_by by)
+      pub ran_stops : (by : Stop) → StepStops history count plan at b c mid then between_them now kept_mid kept by → Ran history count plan a c book then before now keep kept (Err by)
       ran_stops by k =
           let more : List Cut = k.ran.cuts in
           let all : List ℤ = map cut_time (h.cuts ++ more) in
           let broke = rounds_broke plan.batch plan.every (start plan) at times a b same h.noted c (map cut_time more) (inl begins) k.noted in
           let broken : BrokenAt plan a c n all = subst (BrokenAt plan a c n) (sym (map-append cut_time h.cuts more)) (broke.0, broke.1 ∙ h.rounds) in
-          let notes = stopped_with by plan all a c broken.0 (broken_bound all broken.0 broken.1) in
-          let stopped : RunStops at.mark b c mid then between_them now more = is_stopped by at.mark b c mid then between_them now more k.ran.is in
-          let more_cuts : All (IsRunCut plan.head at.mark b mid) more = more_are plan.head at.mark b mid more (end_by by) kept_mid kept k.ran.keeps in
-          let is : RunIs plan.mark a c book then before now (h.cuts ++ more) (end_by by) =
-          run_is by plan.mark a c book then before now (h.cuts ++ more)
-          (run_stops_on plan.mark at.mark a b c book mid then before between_them now h.cuts more same h.goes h.at_most stopped) in
+          let stopped : RunStops at.mark b c mid then between_them now more = k.ran.is in
+          let more_cuts : All (IsRunCut plan.head at.mark b mid) more = more_are plan.head at.mark b mid more (Err by) kept_mid kept k.ran.keeps in
+          let is : RunStops plan.mark a c book then before now (h.cuts ++ more) =
+          run_stops_on plan.mark at.mark a b c book mid then before between_them now h.cuts more same h.goes h.at_most stopped in
           record {
             cuts = h.cuts ++ more;
             is = is;
-            listed = lists_told book_is_kept end_is_whole plan a c book then before now (h.cuts ++ more) (end_by by) is;
-            keeps = keeps_on plan.head plan.mark at.mark a b book mid h.cuts more (end_by by) keep kept_mid kept (not_done by) h.are_cuts
+            listed = lists_told book_is_kept end_is_whole plan a c book then before now (h.cuts ++ more) (Err by) is;
+            keeps = keeps_on plan.head plan.mark at.mark a b book mid h.cuts more by keep kept_mid kept h.are_cuts
                 (cuts_on plan.head plan.mark at.mark a b book mid before between_them same h.goes more more_cuts) h.puts k.ran.keeps;
             wrote = wrote_on plan.mark at.mark a b c book mid then before between_them now h.cuts more same h.goes h.at_most stopped plan.head h.wrote more_cuts k.ran.wrote;
             rise = rise_on plan.mark at.mark h.cuts more h.goes.later h.at_most h.rise k.ran.rise;
-            notes = notes.0;
-            bound = notes.1;
+            notes = broken.0;
+            bound = broken_bound all broken.0 broken.1;
           }
 
   -- ---- the end
@@ -570,12 +541,13 @@ module _ {D : Type 0} (history : D → Option History) (count : D → ℕ) where
     abbrev h : RanTo history count plan (place End all.counts) (all.n + 1) a b book mid before between_them keep kept
     h = all.ran
 
-    pub ran_done : then ≡ mid → mid.whole ≡ true → WroteAll (listing mid.places (held_back mid)) between_them now → Ran history count plan a b book then before now keep kept end.Done
-    ran_done still whole wrote = let is = ran_whole plan.mark a b book mid then before between_them now h.cuts at h.goes still whole wrote in record {
+    pub ran_done : (done : Unit {0}) → then ≡ mid → mid.whole ≡ true → WroteAll (listing mid.places (held_back mid)) between_them now
+        → Ran history count plan a b book then before now keep kept (Ok done)
+    ran_done done still whole wrote = let is = ran_whole plan.mark a b book mid then before between_them now h.cuts at h.goes still whole wrote in record {
       cuts = h.cuts;
       is = is;
-      listed = lists_told book_is_kept end_is_whole plan a b book then before now h.cuts end.Done is;
-      keeps = keeps_done plan.head plan.mark a book h.cuts keep kept h.are_cuts h.puts;
+      listed = lists_told book_is_kept end_is_whole plan a b book then before now h.cuts (Ok done) is;
+      keeps = keeps_done plan.head plan.mark a book h.cuts done keep kept h.are_cuts h.puts;
       wrote = all_stay plan.mark a book before between_them now (λ reads slack texts rules all of was. (listing mid.places (held_back mid), wrote)) h.cuts h.wrote;
       rise = h.rise;
       notes = record { to = place End all.counts; ended = refl; played = h.noted };
@@ -583,8 +555,8 @@ module _ {D : Type 0} (history : D → Option History) (count : D → ℕ) where
           (lanes_in_rounds plan.batch plan.every (start plan) (place End all.counts) (map cut_time h.cuts) a b h.noted) h.noted.in_rounds;
     }
 
-    pub ran_end_stops : (by : Stop) → then.whole ≡ false → WroteFront (listing mid.places (held_back mid)) between_them now → end_by by ≢ end.Limit limit.Generation
-        → Ran history count plan a b book then before now keep kept (end_by by)
+    pub ran_end_stops : (by : Stop) → then.whole ≡ false → WroteFront (listing mid.places (held_back mid)) between_them now → by ≢ stop.Generation
+        → Ran history count plan a b book then before now keep kept (Err by)
     ran_end_stops by spoilt wrote other =
         let times : List ℤ = map cut_time (h.cuts ++ []) in
         let ended = rounds_end plan.batch plan.every (start plan) (place End all.counts) (map cut_time h.cuts) a b go.same h.noted in
@@ -594,29 +566,28 @@ module _ {D : Type 0} (history : D → Option History) (count : D → ℕ) where
         let bound : RunIsBounded (suc (length k.rounds)) a b =
         run_bounded (suc (length k.rounds)) all.n (4 * suc (length k.rounds)) a b (omega (arith, e)) go.same all.spent (sized_on a b go sized) k.parts
         (broken_in_rounds plan.batch plan.every (start plan) times a b k) k.in_rounds in
-        let notes = stopped_with by plan times a b k bound in
-        let is : RunIs plan.mark a b book then before now (h.cuts ++ []) (end_by by) =
-        run_is by plan.mark a b book then before now (h.cuts ++ []) (end_run_stops plan.mark a b book mid then before between_them now (h.cuts ++ []) at h.goes spoilt wrote
-        (All-append (λ (cut : Cut). IsAtMost (At cut.mark) End) h.cuts [] h.at_most (All-nil (λ (cut : Cut). IsAtMost (At cut.mark) End))) (lanes_go_self b)) in
+        let is : RunStops plan.mark a b book then before now (h.cuts ++ []) =
+        end_run_stops plan.mark a b book mid then before between_them now (h.cuts ++ []) at h.goes spoilt wrote
+        (All-append (λ (cut : Cut). IsAtMost (At cut.mark) End) h.cuts [] h.at_most (All-nil (λ (cut : Cut). IsAtMost (At cut.mark) End))) (lanes_go_self b) in
         record {
           cuts = h.cuts ++ [];
           is = is;
-          listed = lists_told book_is_kept end_is_whole plan a b book then before now (h.cuts ++ []) (end_by by) is;
-          keeps = keeps_on plan.head plan.mark End a b book mid h.cuts [] (end_by by) keep kept kept (not_done by) h.are_cuts (All-nil (IsRunCut plan.head plan.mark a book)) h.puts
-              (keeps_none plan.head End b mid (end_by by) kept (not_done by) other (put_stands h.cuts keep kept h.puts));
+          listed = lists_told book_is_kept end_is_whole plan a b book then before now (h.cuts ++ []) (Err by) is;
+          keeps = keeps_on plan.head plan.mark End a b book mid h.cuts [] by keep kept kept h.are_cuts (All-nil (IsRunCut plan.head plan.mark a book)) h.puts
+              (keeps_none plan.head End b mid by kept other (put_stands h.cuts keep kept h.puts));
           wrote = All-append (WroteLinesOf plan.mark a book before now) h.cuts []
               (all_stay plan.mark a book before between_them now (λ reads slack texts rules all of was. front_more (listing mid.places (held_back mid)) between_them now wrote) h.cuts h.wrote)
               (All-nil (WroteLinesOf plan.mark a book before now));
           rise = rise_on plan.mark End h.cuts [] h.goes.later h.at_most h.rise tt;
-          notes = notes.0;
-          bound = notes.1;
+          notes = k;
+          bound = bound;
         }
 
     -- as the book was ended or not
-    pub book_ended : {X : Type 0} (r : Result X Stop) → mid.whole ≡ true → OnOk r (then ≡ mid) → OnOk r (WroteAll (listing mid.places (held_back mid)) between_them now)
+    pub book_ended : (r : RunResult) → mid.whole ≡ true → OnOk r (then ≡ mid) → OnOk r (WroteAll (listing mid.places (held_back mid)) between_them now)
         → OnErr r (then.whole ≡ false) → OnErr r (WroteFront (listing mid.places (held_back mid)) between_them now) → IfErr r StopsOut
-        → Ran history count plan a b book then before now keep kept (end_of r)
-    book_ended (Ok x) whole still wrote spoilt front out = ran_done still whole wrote
+        → Ran history count plan a b book then before now keep kept r
+    book_ended (Ok done) whole still wrote spoilt front out = ran_done done still whole wrote
     book_ended (Err by) whole still wrote spoilt front out = ran_end_stops by spoilt front (out_not_full by out)
 
   -- ---- by its plan

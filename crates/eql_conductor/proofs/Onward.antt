@@ -182,8 +182,8 @@ stops_on (stop.Limit (limit.Lines s)) a b c go went h =
     let l = was_lane a b s go.same h.0 in
     (l, λ y here. subst (λ (set : Setting). IsOutOfLines set y) (go.same.set s l) (h.1 y here), went_on a b c went h.2)
 stops_on (stop.Limit (limit.Bytes s)) a b c go went h = (was_lane a b s go.same h.0, h.1, went_on a b c went h.2)
-stops_on (stop.Limit limit.Turns) a b c go went h = (subst (λ (n : ℕ). n < c.worn) went.worn h.0, λ k. h.1 k ∙ went.failed k)
-stops_on (stop.Limit limit.Generation) a b c go went h = absurd h
+stops_on stop.Worn a b c go went h = (subst (λ (n : ℕ). n < c.worn) went.worn h.0, λ k. h.1 k ∙ went.failed k)
+stops_on stop.Generation a b c go went h = absurd h
 stops_on stop.Write a b c go went h = absurd h
 stops_on stop.Disk a b c go went h = absurd h
 stops_on stop.Memory a b c go went h = went_on a b c went h

@@ -1,7 +1,7 @@
 -- What the records of runs say in the words of the listing, and of the cuts of texts. No law says it, since it would range over what is known of
 -- a bench before and after a run, which is of `Type 1`.
 use Rattle.std.proofs.Common.{◌≡◌, ℕ, ℤ, List, [], ◌∷◌, drop, take, Option, Some, subst}
-use Rattle.std.specs.Prelude.{All}
+use Rattle.std.specs.Prelude.{All, Ok, Err}
 use Rattle.std.proofs.lemmas.List.Elements.{All-cons, All-head, All-nil, All-tail, All-weaker}
 use Rattle.eql_values.specs.declared.found.Holder.{Holder}
 use Rattle.eql_values.specs.declared.order.Mark.{Mark}
@@ -16,9 +16,8 @@ use Rattle.eql_cut.specs.declared.cut.Cut.{Cut}
 use Rattle.eql_cut.specs.declared.cut.CutHead.{CutHead}
 use Rattle.eql_cut.specs.Domain.{kept_by}
 use Rattle.eql_parts.specs.PartSteps.{Rules}
-use Rattle.eql_conductor.specs.declared.plan.End.{End as Ends}
-use Rattle.eql_conductor.specs.declared.plan.End.TheVariants as end
 use Rattle.eql_conductor.specs.Benches.{Known}
+use Rattle.eql_conductor.specs.Going.{RunResult}
 use Rattle.eql_conductor.specs.Openings.{IsCutOfTexts, IsSafeCut}
 use Rattle.eql_conductor.specs.Runs.{IsRunCut, RanWhole, RunIs, RunStops, WroteLinesOf}
 use Rattle.eql_conductor.specs.RunLaws.{BeginsTold, ListsByAnswer, StopsListed, lines_after, listed_by, rules_of}
@@ -44,13 +43,9 @@ module _ (kept : BookIsKept) (whole : EndIsWhole) (rules : Rules) (reads : Reads
   }
 
   -- a run over told texts wrote the lines after those that its book counts, or stopped within them
-  pub run_listed : (cuts : List Cut) (answer : Ends) → RunIs from old new book then before now cuts answer → ListsByAnswer rules reads slack texts from new book then before now cuts answer
-  run_listed cuts end.Done is = done_listed is
-  run_listed cuts (end.ReadFault s) is = stopped_listed cuts is
-  run_listed cuts end.WriteFault is = stopped_listed cuts is
-  run_listed cuts end.DiskFault is = stopped_listed cuts is
-  run_listed cuts end.Memory is = stopped_listed cuts is
-  run_listed cuts (end.Limit of) is = stopped_listed cuts is
+  pub run_listed : (cuts : List Cut) (answer : RunResult) → RunIs from old new book then before now cuts answer → ListsByAnswer rules reads slack texts from new book then before now cuts answer
+  run_listed cuts (Ok done) is = done_listed is
+  run_listed cuts (Err by) is = stopped_listed cuts is
 
 -- and of the lines after those, it wrote those that each of its cuts counts
 module _ (kept : BookIsKept) (whole : EndIsWhole) (rules : Rules) (reads : Reads) (slack : Option ℤ) (texts : List (List ℕ)) (from : Mark) (all : List Holder) (old : Known)

@@ -1,5 +1,5 @@
 -- How a bench goes on over several calls of the conductor, and why it stops.
-use Rattle.std.specs.Prelude.{◌≡◌, ◌≢◌, ◌<◌, ◌≤◌, ℕ}
+use Rattle.std.specs.Prelude.{◌≡◌, ◌≢◌, ◌<◌, ◌≤◌, ℕ, Result}
 use Rattle.eql_outside.specs.Outside.{Rose}
 use Rattle.eql_laws.specs.Counting.{greatest_bytes}
 use Rattle.eql_laws.specs.Lateness.{IsAtMost}
@@ -46,13 +46,17 @@ abbrev pub StopsBy : Stop → Known → Known → Type 0
 StopsBy (stop.Read s) old new = (s < old.lanes) × FaultRose s old new × FailsAt s old new
 StopsBy (stop.Limit (limit.Lines s)) old new = (s < old.lanes) × ((y : LaneState) → new.lane s y → IsOutOfLines (old.set s) y) × Went old new
 StopsBy (stop.Limit (limit.Bytes s)) old new = (s < old.lanes) × ((y : LaneState) → new.lane s y → y.taken ≡ greatest_bytes) × Went old new
-StopsBy (stop.Limit limit.Turns) old new = (old.worn < new.worn) × NoFeedFailed old new
-StopsBy (stop.Limit limit.Generation) old new = ⊥
+StopsBy stop.Worn old new = (old.worn < new.worn) × NoFeedFailed old new
+StopsBy stop.Generation old new = ⊥
 StopsBy stop.Write old new = ⊥
 StopsBy stop.Disk old new = ⊥
 StopsBy stop.Memory old new = Went old new
 
+-- how a run ends: it came to its end, or it stopped
+abbrev pub RunResult : Type 0
+RunResult = Result (Unit {0}) Stop
+
 -- why it stops where an operation wasn't played
 abbrev pub stop_by : NotPlayed → Stop
-stop_by (not_played.Worn word) = stop.Limit limit.Turns
+stop_by (not_played.Worn word) = stop.Worn
 stop_by not_played.Memory = stop.Memory

@@ -9,7 +9,6 @@ use Rattle.eql_values.specs.Accepted.{Reads}
 use Rattle.eql_values.specs.Matching.{matches}
 use Rattle.eql_laws.specs.Belows.{IsMarkTime, between, greatest_slack}
 use Rattle.eql_laws.specs.Lateness.{IsAtMost}
-use Rattle.eql_lane.specs.declared.ops.ShardLimit.TheVariants as limit
 use Rattle.eql_outside.specs.Written.{WroteAll, WroteFront}
 use Rattle.eql_book.specs.Books.{BookState, book_after, let_out}
 use Rattle.eql_book.specs.Listing.{listing}
@@ -98,7 +97,7 @@ StopsAt by old new = StopsBy by old new ⊎ (StopsOut by × Went old new)
 
 -- it stops at a cut for want of memory, by a fault of the disk, or at the greatest generation
 abbrev pub StopsKeeping : Stop → Type 0
-StopsKeeping by = (by ≡ stop.Disk) ⊎ ((by ≡ stop.Memory) ⊎ (by ≡ stop.Limit limit.Generation))
+StopsKeeping by = (by ≡ stop.Disk) ⊎ ((by ≡ stop.Memory) ⊎ (by ≡ stop.Generation))
 
 -- why a cut isn't kept: by a call of the bench, or by the disk, where no call of the bench failed
 abbrev pub StopsSaving : Stop → (old new : Known) → Type 0

@@ -1,5 +1,5 @@
 -- What the record of a run says in the words of the listing, and of the cuts of texts.
-use Rattle.std.specs.Prelude.{◌≡◌, ◌<◌, ◌≤◌, ◌^◌, ◌++◌, ℕ, ℤ, ◌≤ℤ◌, pos, true, List, [], Option, Some, All, drop, length}
+use Rattle.std.specs.Prelude.{◌≡◌, ◌<◌, ◌≤◌, ◌^◌, ◌++◌, ℕ, ℤ, ◌≤ℤ◌, pos, true, List, [], Option, Some, All, drop, length, Ok, Err}
 use Rattle.eql_values.specs.declared.found.Holder.{Holder}
 use Rattle.eql_values.specs.declared.found.Match.{Match}
 use Rattle.eql_values.specs.declared.found.Numbered.{Numbered}
@@ -23,9 +23,8 @@ use Rattle.eql_cut.specs.declared.cut.Cut.{Cut}
 use Rattle.eql_cut.specs.Domain.{kept_by}
 use Rattle.eql_lane.specs.Lanes.{LaneState}
 use Rattle.eql_parts.specs.PartSteps.{PartState, Rules, alive_by, mark_time}
-use Rattle.eql_conductor.specs.declared.plan.End.{End as Ends}
-use Rattle.eql_conductor.specs.declared.plan.End.TheVariants as end
 use Rattle.eql_conductor.specs.Benches.{Known}
+use Rattle.eql_conductor.specs.Going.{RunResult}
 use Rattle.eql_conductor.specs.LaneRounds.{IsSafe}
 use Rattle.eql_conductor.specs.Openings.{IsCutOfTexts, IsSafeCut, OpensFresh, OpensFrom, SuitsBench, TellsTexts}
 use Rattle.eql_conductor.specs.PartRounds.{AreAtRest}
@@ -89,9 +88,9 @@ module _ (rules : Rules) (reads : Reads) (slack : Option ℤ) (texts : List (Lis
     pub so : StopsInLines rules reads slack texts from mark book then before now
 
   -- what it wrote, by its result
-  abbrev pub ListsByAnswer : (from : Mark) (new : Known) (book then : BookState) (before now : Option (List ℕ)) (cuts : List Cut) → Ends → Type 0
-  ListsByAnswer from new book then before now cuts end.Done = WroteAll (lines_after rules reads slack texts book) before now
-  ListsByAnswer from new book then before now cuts answer = StopsListed from new book then before now cuts
+  abbrev pub ListsByAnswer : (from : Mark) (new : Known) (book then : BookState) (before now : Option (List ℕ)) (cuts : List Cut) → RunResult → Type 0
+  ListsByAnswer from new book then before now cuts (Ok done) = WroteAll (lines_after rules reads slack texts book) before now
+  ListsByAnswer from new book then before now cuts (Err by) = StopsListed from new book then before now cuts
 
 -- ---- how a run begins
 -- a fresh book counts the matches below the start, which are none

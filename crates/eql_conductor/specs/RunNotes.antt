@@ -1,14 +1,13 @@
 -- What the conductor plays in a run, as notes: round by round, from the lows that it looked at.
-use Rattle.std.specs.Prelude.{◌≡◌, ◌≢◌, ◌⊎◌, ◌<◌, ◌*◌, ◌%◌, ◌==◌, ◌++◌, ℕ, ℤ, suc, pos, if◌then◌else◌, List, [], ◌∷◌, Option, None, Some, All, length, refl}
+use Rattle.std.specs.Prelude.{◌≡◌, ◌≢◌, ◌⊎◌, ◌<◌, ◌*◌, ◌%◌, ◌==◌, ◌++◌, ℕ, ℤ, suc, pos, if◌then◌else◌, List, [], ◌∷◌, Option, None, Some, All, length, refl, Ok, Err}
 use Rattle.std.specs.Option.{option_to_list}
 use Rattle.eql_values.specs.declared.order.Mark.{Mark}
 use Rattle.eql_values.specs.declared.order.Mark.TheVariants.{Start, At, End}
 use Rattle.eql_conductor.specs.declared.note.Note.{Note}
 use Rattle.eql_conductor.specs.declared.note.Note.TheVariants as note
-use Rattle.eql_conductor.specs.declared.plan.End.{End as Ends}
-use Rattle.eql_conductor.specs.declared.plan.End.TheVariants as end
 use Rattle.eql_conductor.specs.declared.plan.RunPlan.{RunPlan}
 use Rattle.eql_conductor.specs.Benches.{Known}
+use Rattle.eql_conductor.specs.Going.{RunResult}
 use Rattle.eql_conductor.specs.RoundNotes.{low_at, counted_mark, lane_round, LanesGrow, GrewFront, LanesGrowFront, PlaysParts, PartsGrowInRounds}
 
 -- ---- how far a run is
@@ -139,18 +138,14 @@ pub record RanToEnd (plan : RunPlan) (times : List ℤ) (old new : Known) : Type
   pub played : PlaysRounds plan.batch plan.every (start plan) to times old new
 
 -- a run that is done played whole rounds, up to the end and with the cuts that were due, and any other may have broken off in its last round
-abbrev pub RunNotes : RunPlan → (times : List ℤ) → (old new : Known) → Ends → Type 0
-RunNotes plan times old new end.Done = RanToEnd plan times old new
-RunNotes plan times old new answer = PlaysRoundsFront plan.batch plan.every (start plan) times old new
+abbrev pub RunNotes : RunPlan → (times : List ℤ) → (old new : Known) → RunResult → Type 0
+RunNotes plan times old new (Ok done) = RanToEnd plan times old new
+RunNotes plan times old new (Err by) = PlaysRoundsFront plan.batch plan.every (start plan) times old new
 
 -- how many rounds it had, with the one that broke off
-abbrev pub round_count : (plan : RunPlan) (times : List ℤ) (old new : Known) (answer : Ends) → RunNotes plan times old new answer → ℕ
-round_count plan times old new end.Done notes = length notes.played.rounds
-round_count plan times old new (end.ReadFault s) notes = suc (length notes.rounds)
-round_count plan times old new end.WriteFault notes = suc (length notes.rounds)
-round_count plan times old new end.DiskFault notes = suc (length notes.rounds)
-round_count plan times old new end.Memory notes = suc (length notes.rounds)
-round_count plan times old new (end.Limit of) notes = suc (length notes.rounds)
+abbrev pub round_count : (plan : RunPlan) (times : List ℤ) (old new : Known) (answer : RunResult) → RunNotes plan times old new answer → ℕ
+round_count plan times old new (Ok done) notes = length notes.played.rounds
+round_count plan times old new (Err by) notes = suc (length notes.rounds)
 
 -- ---- a worked run: of two lanes and a cut after each second counted round, of which the second round doesn't count
 abbrev four_rounds : List (List Mark)

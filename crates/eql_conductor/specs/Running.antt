@@ -1,10 +1,9 @@
 -- How a run of the conductor goes from round to round, and what one step of it does.
-use Rattle.std.specs.Prelude.{◌≡◌, ◌≢◌, ◌≤◌, ◌+◌, ◌^◌, ℕ, ℤ, true, List, [], ◌∷◌, Option, None, Some, IfSome, All, length, map, Result, Ok, Err}
+use Rattle.std.specs.Prelude.{◌≡◌, ◌≢◌, ◌≤◌, ◌+◌, ◌^◌, ℕ, ℤ, true, List, [], ◌∷◌, Option, None, Some, IfSome, All, length, map, Err}
 use Rattle.eql_values.specs.declared.found.Holder.{Holder}
 use Rattle.eql_values.specs.declared.order.Mark.{Mark}
 use Rattle.eql_values.specs.declared.order.Mark.TheVariants.{Start, At, End}
 use Rattle.eql_laws.specs.Lateness.{IsAtMost}
-use Rattle.eql_lane.specs.declared.ops.ShardLimit.TheVariants as limit
 use Rattle.eql_outside.specs.Moments.{History}
 use Rattle.eql_parts.specs.PartSteps.{Rules}
 use Rattle.eql_book.specs.Books.{BookState}
@@ -14,33 +13,19 @@ use Rattle.eql_cut.specs.Rising.{RiseFrom}
 use Rattle.eql_ckdisk.specs.declared.state.CkState.{CkState}
 use Rattle.eql_ckdisk.specs.Putting.{Stands, last_cut}
 use Rattle.eql_ckdisk.specs.Runs.{last_after}
-use Rattle.eql_conductor.specs.declared.plan.End.{End as Ends}
-use Rattle.eql_conductor.specs.declared.plan.End.TheVariants as end
 use Rattle.eql_conductor.specs.declared.plan.Keep.{Keep}
 use Rattle.eql_conductor.specs.declared.plan.RunPlan.{RunPlan}
 use Rattle.eql_conductor.specs.declared.stop.Stop.{Stop}
 use Rattle.eql_conductor.specs.declared.stop.Stop.TheVariants as stop
 use Rattle.eql_conductor.specs.Benches.{Known}
 use Rattle.eql_conductor.specs.Bounds.{RoundsSpend}
+use Rattle.eql_conductor.specs.Going.{RunResult}
 use Rattle.eql_conductor.specs.LaneRounds.{LanesAreAt}
 use Rattle.eql_conductor.specs.PartRounds.{AreAtRest, AreSomehowFull}
 use Rattle.eql_conductor.specs.Rounds.{GoesTo, RoundRests}
 use Rattle.eql_conductor.specs.RunNotes.{NotesCut, Place, RoundBrokeOff, PlaysRound, PlaysRounds, NotesSaveFront, place, start}
 use Rattle.eql_conductor.specs.Runs.{IsRunCut, KeepGoes, LastHolds, RunIs, WroteLinesOf, cut_time}
 use Rattle.eql_conductor.specs.Saving.{BookKeepsNumbers, IsHeadOf, IsSavedAt, PutsCuts}
-
--- how a run ends that this stopped
-abbrev pub end_by : Stop → Ends
-end_by (stop.Read s) = end.ReadFault s
-end_by stop.Write = end.WriteFault
-end_by stop.Disk = end.DiskFault
-end_by stop.Memory = end.Memory
-end_by (stop.Limit of) = end.Limit of
-
--- how a run ends that goes on to its end, or is stopped
-abbrev pub end_of : {X : Type 0} → Result X Stop → Ends
-end_of (Ok x) = end.Done
-end_of (Err by) = end_by by
 
 -- between two rounds: each lane handed out all that lies below a mark, the parts are at rest there, and the book is whole
 pub record IsAtMark (mark : Mark) (b : Known) (book : BookState) : Type 0 where
@@ -76,7 +61,7 @@ pub record PutsEach (old new : CkState) (before now : Option History) (cuts : Li
 pub record PutStops (by : Stop) (old new : CkState) (before now : Option History) (cuts : List Cut) : Type 0 where
   pub puts : PutsCuts (last_cut old) cuts before now
   pub state_is : last_cut new ≡ last_cut old
-  pub full : by ≡ stop.Limit limit.Generation → (last_cut new).generation ≡ 2 ^ 63
+  pub full : by ≡ stop.Generation → (last_cut new).generation ≡ 2 ^ 63
   pub stands : (by ≢ stop.Disk) → (by ≢ stop.Memory) → Stands (last_cut new) now
 
 -- ---- with cuts or without, by what is told of a disk and by the count of its faults
@@ -143,7 +128,7 @@ module _ {D : Type 0} (history : D → Option History) (count : D → ℕ) where
   StepIs plan at old new book then before now keep kept (Some mark) = CountsRound plan at mark old new book then before now keep kept
 
   -- a run from a mark, as it ended
-  pub record RanFrom (head : CutHead) (from : Mark) (old new : Known) (book then : BookState) (before now : Option (List ℕ)) (keep kept : Option (Keep D)) (answer : Ends) : Type 0 where
+  pub record RanFrom (head : CutHead) (from : Mark) (old new : Known) (book then : BookState) (before now : Option (List ℕ)) (keep kept : Option (Keep D)) (answer : RunResult) : Type 0 where
     pub cuts : List Cut
     pub is : RunIs from old new book then before now cuts answer
     pub keeps : KeepGoes history count head from old book cuts answer keep kept
@@ -152,7 +137,7 @@ module _ {D : Type 0} (history : D → Option History) (count : D → ℕ) where
 
   -- or it stopped there: a run of this round alone
   pub record StepStops (plan : RunPlan) (at : Place) (old new : Known) (book then : BookState) (before now : Option (List ℕ)) (keep kept : Option (Keep D)) (by : Stop) : Type 0 where
-    pub ran : RanFrom plan.head at.mark old new book then before now keep kept (end_by by)
+    pub ran : RanFrom plan.head at.mark old new book then before now keep kept (Err by)
     pub noted : RoundBrokeOff plan.batch plan.every at (map cut_time ran.cuts) old new
 
   -- ---- rounds

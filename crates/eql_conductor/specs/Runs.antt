@@ -1,5 +1,5 @@
 -- What a run of the conductor does, from its first round to its end.
-use Rattle.std.specs.Prelude.{◌≡◌, ◌≢◌, ◌≤◌, ◌<◌, ◌+◌, ◌^◌, ◌++◌, ℕ, ℤ, true, List, [], ◌∷◌, Option, None, Some, IfSome, All, length}
+use Rattle.std.specs.Prelude.{◌≡◌, ◌≢◌, ◌≤◌, ◌<◌, ◌+◌, ◌^◌, ◌++◌, ℕ, ℤ, true, List, [], ◌∷◌, Option, None, Some, IfSome, OnOk, All, length, Result, Ok, Err}
 use Rattle.eql_values.specs.declared.found.Holder.{Holder}
 use Rattle.eql_values.specs.declared.found.Match.{Match}
 use Rattle.eql_values.specs.declared.order.Mark.{Mark}
@@ -27,13 +27,13 @@ use Rattle.eql_ckdisk.specs.Cuts.{Holds}
 use Rattle.eql_ckdisk.specs.Found.{LastCut}
 use Rattle.eql_ckdisk.specs.Putting.{Stands, last_cut}
 use Rattle.eql_ckdisk.specs.Runs.{last_after}
-use Rattle.eql_conductor.specs.declared.plan.End.{End as Ends}
-use Rattle.eql_conductor.specs.declared.plan.End.TheVariants as end
 use Rattle.eql_conductor.specs.declared.plan.Keep.{Keep}
 use Rattle.eql_conductor.specs.declared.plan.RunPlan.{RunPlan}
+use Rattle.eql_conductor.specs.declared.stop.Stop.{Stop}
+use Rattle.eql_conductor.specs.declared.stop.Stop.TheVariants as stop
 use Rattle.eql_conductor.specs.Benches.{Known, NoFeedFailed}
 use Rattle.eql_conductor.specs.Bounds.{AreSized}
-use Rattle.eql_conductor.specs.Going.{FailsAt, FaultRose}
+use Rattle.eql_conductor.specs.Going.{FailsAt, FaultRose, RunResult}
 use Rattle.eql_conductor.specs.LaneRounds.{IsSafe, LanesAreAt}
 use Rattle.eql_conductor.specs.PartRounds.{AreAtRest, AreSomehowFull, pending_after}
 use Rattle.eql_conductor.specs.Rounds.{BenchIsOfTexts, IsInRange, found_by}
@@ -96,9 +96,9 @@ pub record RunStops (from : Mark) (old new : Known) (book then : BookState) (bef
   pub told : (reads : Reads) (slack : Option ℤ) (texts : List (List ℕ)) (rules : Rules) (all : List Holder) → BenchIsOfTexts reads slack texts from old → AreAtRest rules all from old
       → RunStopsAt rules all reads slack texts from mark book then before now
 
-abbrev pub RunIs : (from : Mark) (old new : Known) (book then : BookState) (before now : Option (List ℕ)) (cuts : List Cut) → Ends → Type 0
-RunIs from old new book then before now cuts end.Done = RanWhole from old new book then before now
-RunIs from old new book then before now cuts answer = RunStops from old new book then before now cuts
+abbrev pub RunIs : (from : Mark) (old new : Known) (book then : BookState) (before now : Option (List ℕ)) (cuts : List Cut) → RunResult → Type 0
+RunIs from old new book then before now cuts (Ok done) = RanWhole from old new book then before now
+RunIs from old new book then before now cuts (Err by) = RunStops from old new book then before now cuts
 
 -- ---- which cuts a run puts
 -- what a cut keeps of told texts: what lies before the lanes' places, and what is pending and alive at its time, and the book's state, once all
@@ -134,28 +134,32 @@ LastHolds last (cut ∷ next ∷ cuts) disk = LastHolds last (next ∷ cuts) dis
 
 -- a run that keeps cuts: those that it put, one after another. Where it came to its end, the state says where the last of them stands. Where
 -- neither the disk failed nor memory ran out, a further cut may be put as things are
-pub record RunPuts (head : CutHead) (from : Mark) (old : Known) (book : BookState) (state then : CkState) (before now : Option History) (cuts : List Cut) (answer : Ends) : Type 0 where
+pub record RunPuts (head : CutHead) (from : Mark) (old : Known) (book : BookState) (state then : CkState) (before now : Option History) (cuts : List Cut) (answer : RunResult) : Type 0 where
   pub are_cuts : All (IsRunCut head from old book) cuts
   pub puts : PutsCuts (last_cut state) cuts before now
-  pub state_is : answer ≡ end.Done → last_cut then ≡ last_after (last_cut state) cuts
-  pub holds : answer ≡ end.Done → LastHolds (last_cut then) cuts now
+  pub state_is : OnOk answer (last_cut then ≡ last_after (last_cut state) cuts)
+  pub holds : OnOk answer (LastHolds (last_cut then) cuts now)
   pub generation_from : (last_cut state).generation ≤ (last_cut then).generation
   pub generation_to : (last_cut then).generation ≤ (last_cut state).generation + length cuts
-  pub full : answer ≡ end.Limit limit.Generation → (last_cut then).generation ≡ 2 ^ 63
-  pub stands : (answer ≢ end.DiskFault) → (answer ≢ end.Memory) → Stands (last_cut then) now
+  pub full : answer ≡ Err stop.Generation → (last_cut then).generation ≡ 2 ^ 63
+  pub stands : answer ≢ Err stop.Disk → answer ≢ Err stop.Memory → Stands (last_cut then) now
 
 -- ---- why a run ends
--- by the bench, and the counts of faults of the sink and of the disk
-abbrev pub EndsBy : Ends → (old new : Known) (sink_before sink_now disk_before disk_now : ℕ) → Type 0
-EndsBy end.Done old new sb sn db dn = NoFeedFailed old new × (new.worn ≡ old.worn) × (sn ≡ sb) × (dn ≡ db)
-EndsBy (end.ReadFault s) old new sb sn db dn = (s < old.lanes) × FaultRose s old new × FailsAt s old new × (sn ≡ sb) × (dn ≡ db)
-EndsBy end.WriteFault old new sb sn db dn = NoFeedFailed old new × (new.worn ≡ old.worn) × (Rose sb sn × (sb ≤ sn)) × (dn ≡ db)
-EndsBy end.DiskFault old new sb sn db dn = NoFeedFailed old new × (new.worn ≡ old.worn) × (sn ≡ sb) × (Rose db dn × (db ≤ dn))
-EndsBy end.Memory old new sb sn db dn = NoFeedFailed old new × (new.worn ≡ old.worn) × (sn ≡ sb) × (dn ≡ db)
-EndsBy (end.Limit (limit.Lines s)) old new sb sn db dn = (s < old.lanes) × ((y : LaneState) → new.lane s y → IsOutOfLines (old.set s) y) × NoFeedFailed old new × (new.worn ≡ old.worn) × (sn ≡ sb) × (dn ≡ db)
-EndsBy (end.Limit (limit.Bytes s)) old new sb sn db dn = (s < old.lanes) × ((y : LaneState) → new.lane s y → y.taken ≡ greatest_bytes) × NoFeedFailed old new × (new.worn ≡ old.worn) × (sn ≡ sb) × (dn ≡ db)
-EndsBy (end.Limit limit.Turns) old new sb sn db dn = (old.worn < new.worn) × NoFeedFailed old new × (sn ≡ sb) × (dn ≡ db)
-EndsBy (end.Limit limit.Generation) old new sb sn db dn = NoFeedFailed old new × (new.worn ≡ old.worn) × (sn ≡ sb) × (dn ≡ db)
+-- why it stops: by the bench, and the counts of faults of the sink and of the disk
+abbrev pub StopsFor : Stop → (old new : Known) (sink_before sink_now disk_before disk_now : ℕ) → Type 0
+StopsFor (stop.Read s) old new sb sn db dn = (s < old.lanes) × FaultRose s old new × FailsAt s old new × (sn ≡ sb) × (dn ≡ db)
+StopsFor stop.Write old new sb sn db dn = NoFeedFailed old new × (new.worn ≡ old.worn) × (Rose sb sn × (sb ≤ sn)) × (dn ≡ db)
+StopsFor stop.Disk old new sb sn db dn = NoFeedFailed old new × (new.worn ≡ old.worn) × (sn ≡ sb) × (Rose db dn × (db ≤ dn))
+StopsFor stop.Memory old new sb sn db dn = NoFeedFailed old new × (new.worn ≡ old.worn) × (sn ≡ sb) × (dn ≡ db)
+StopsFor (stop.Limit (limit.Lines s)) old new sb sn db dn = (s < old.lanes) × ((y : LaneState) → new.lane s y → IsOutOfLines (old.set s) y) × NoFeedFailed old new × (new.worn ≡ old.worn) × (sn ≡ sb) × (dn ≡ db)
+StopsFor (stop.Limit (limit.Bytes s)) old new sb sn db dn = (s < old.lanes) × ((y : LaneState) → new.lane s y → y.taken ≡ greatest_bytes) × NoFeedFailed old new × (new.worn ≡ old.worn) × (sn ≡ sb) × (dn ≡ db)
+StopsFor stop.Generation old new sb sn db dn = NoFeedFailed old new × (new.worn ≡ old.worn) × (sn ≡ sb) × (dn ≡ db)
+StopsFor stop.Worn old new sb sn db dn = (old.worn < new.worn) × NoFeedFailed old new × (sn ≡ sb) × (dn ≡ db)
+
+-- and where it comes to its end, nothing failed
+abbrev pub EndsBy : {A : Type 0} → Result A Stop → (old new : Known) (sink_before sink_now disk_before disk_now : ℕ) → Type 0
+EndsBy (Ok done) old new sb sn db dn = NoFeedFailed old new × (new.worn ≡ old.worn) × (sn ≡ sb) × (dn ≡ db)
+EndsBy (Err by) old new sb sn db dn = StopsFor by old new sb sn db dn
 
 -- ---- a run with cuts or without
 -- no call of the disk that keeps them is planned to fail
@@ -174,8 +178,8 @@ module _ {D : Type 0} (history : D → Option History) (count : D → ℕ) where
   MayKeepIf plan b None = plan.every ≡ None
   MayKeepIf plan b (Some k) = (plan.every ≢ None) × MayKeep plan b k.state (history k.disk)
 
-  abbrev pub KeepGoes : CutHead → Mark → Known → BookState → List Cut → Ends → Option (Keep D) → Option (Keep D) → Type 0
-  KeepGoes head from old book cuts answer None None = (cuts ≡ []) × (answer ≢ end.Limit limit.Generation)
+  abbrev pub KeepGoes : CutHead → Mark → Known → BookState → List Cut → RunResult → Option (Keep D) → Option (Keep D) → Type 0
+  KeepGoes head from old book cuts answer None None = (cuts ≡ []) × (answer ≢ Err stop.Generation)
   KeepGoes head from old book cuts answer None (Some k) = ⊥
   KeepGoes head from old book cuts answer (Some k) None = ⊥
   KeepGoes head from old book cuts answer (Some k) (Some l) = RunPuts head from old book k.state l.state (history k.disk) (history l.disk) cuts answer

@@ -27,5 +27,6 @@ pub use laws::{
     rounds_find, run_cuts_are_of_texts, run_cuts_are_safe, runs_go_on, runs_list, told_runs_begin,
 };
 pub use note::Note;
-pub use plan::{End, Keep, RunPlan};
+pub use plan::{Keep, Run, RunPlan};
 pub use run::Conductor;
+pub use stop::Stop;

@@ -1,8 +1,8 @@
-//! What a run of the conductor is by, and how it ends.
+//! What a run of the conductor is by.
 
+use eql_book::Book;
 use eql_ckdisk::CkState;
 use eql_cut::CutHead;
-use eql_lane::ShardLimit;
 use eql_values::Mark;
 
 /// How a run goes.
@@ -27,22 +27,13 @@ pub struct Keep<D> {
     pub state: CkState,
 }
 
-/// How a run ends.
-#[derive(Clone, Copy, PartialEq, Eq)]
-pub enum End {
-    /// All shards were read, and all lines were written.
-    Done,
-    /// The source of a shard failed.
-    ReadFault {
-        /// The shard, from 0.
-        shard: u32,
-    },
-    /// The sink failed.
-    WriteFault,
-    /// The disk failed.
-    DiskFault,
-    /// Memory ran out.
-    Memory,
-    /// A number reached its limit.
-    Limit(ShardLimit),
+/// What a run carries from its beginning to its end.
+#[derive(Drop)]
+pub struct Run<D> {
+    /// How it goes.
+    pub plan: RunPlan,
+    /// What was found, and what the pipes hold back.
+    pub book: Book,
+    /// Where it keeps its cuts, if it does.
+    pub keep: Option<Keep<D>>,
 }

@@ -8,12 +8,12 @@ ghost use Rattle.eql_book.specs.Listing.{listing};
 ghost use Rattle.eql_conductor.specs.declared.stop.Stop.TheVariants.{Disk as DiskFailed, Write as SinkFailed};
 ghost use Rattle.eql_conductor.specs.Going.{LanesGo};
 ghost use Rattle.eql_conductor.specs.Rounds.{StopsOut};
-ghost use Rattle.eql_conductor.specs.Records.{Ran};
-ghost use Rattle.eql_conductor.specs.Running.{RanAll, end_by, end_of};
+ghost use Rattle.eql_conductor.specs.Records.{ConductorRan, Ran, run_of};
+ghost use Rattle.eql_conductor.specs.Running.{RanAll};
 ghost use Rattle.eql_conductor.specs.Runs.{EndsBy, IsKeptUnfailing, MayKeepIf, MayRun, disk_faults};
 
 use crate::bench::Bench;
-use crate::plan::{End, Keep, RunPlan};
+use crate::plan::{Keep, RunPlan};
 use crate::stepping::play_and_keep;
 use crate::stop::Stop;
 use eql_book::{Book, listing_is_whole};
@@ -23,19 +23,6 @@ use std::alloc::Global;
 
 /// What plays the lanes and the parts of a bench in rounds.
 pub struct Conductor {}
-
-// How a run ends that this stopped.
-fn ended(by: Stop) -> End
-    ensures { result ≡ end_by by }
-{
-    match by {
-        Stop::Read { shard } => End::ReadFault { shard },
-        Stop::Write => End::WriteFault,
-        Stop::Disk => End::DiskFault,
-        Stop::Memory => End::Memory,
-        Stop::Limit(of) => End::Limit(of),
-    }
-}
 
 // Plays rounds until one comes to the end of all lanes.
 fn play_rounds<B: Bench, K: Sink, D: Disk>(
@@ -51,10 +38,10 @@ fn play_rounds<B: Bench, K: Sink, D: Disk>(
     ensures ran { OnOk result (RanAll D.history D.fault_count plan.now
         (B.known bench.old) (B.known bench.new) book.old book.new
         (K.written sink.old) (K.written sink.new) keep.old keep.new) }
-    ensures ended { IfErr result (λ stop. Ran D.history D.fault_count plan.now
+    ensures stopped { IfErr result (λ stop. Ran D.history D.fault_count plan.now
         (B.known bench.old) (B.known bench.new) book.old book.new
-        (K.written sink.old) (K.written sink.new) keep.old keep.new (end_by stop)) }
-    ensures cause { EndsBy (end_of result) (B.known bench.old) (B.known bench.new)
+        (K.written sink.old) (K.written sink.new) keep.old keep.new (Err stop)) }
+    ensures cause { EndsBy result (B.known bench.old) (B.known bench.new)
         (K.fault_count sink.old) (K.fault_count sink.new)
         (disk_faults D.history D.fault_count keep.old)
         (disk_faults D.history D.fault_count keep.new) }
@@ -109,39 +96,7 @@ fn end_book<K: Sink>(alloc: Global, book: &mut Book, sink: &mut K) -> Result<(),
     }
 }
 
-// Plays all rounds, and ends the book.
-fn run_rounds<B: Bench, K: Sink, D: Disk>(
-    alloc: Global,
-    plan: &RunPlan,
-    bench: &mut B,
-    book: &mut Book,
-    sink: &mut K,
-    keep: &mut Option<Keep<D>>,
-) -> Result<(), Stop>
-    requires may { MayRun plan.now (B.known bench.old) book.old }
-    requires keeps { MayKeepIf D.history D.fault_count plan.now (B.known bench.old) keep.old }
-    ensures ran { Ran D.history D.fault_count plan.now (B.known bench.old) (B.known bench.new)
-        book.old book.new (K.written sink.old) (K.written sink.new) keep.old keep.new
-        (end_of result) }
-    ensures cause { EndsBy (end_of result) (B.known bench.old) (B.known bench.new)
-        (K.fault_count sink.old) (K.fault_count sink.new)
-        (disk_faults D.history D.fault_count keep.old)
-        (disk_faults D.history D.fault_count keep.new) }
-    ensures goes { LanesGo (B.known bench.old) (B.known bench.new) }
-    ensures silent { K.written sink.old ≡ None → K.written sink.new ≡ None }
-    ensures unfailing { IsUnfailing (K.fault_plan sink.old)
-        → (result ≢ Err SinkFailed) × IsUnfailing (K.fault_plan sink.new) }
-    ensures unfailing_disk { IsKeptUnfailing D.fault_plan keep.old
-        → (result ≢ Err DiskFailed) × IsKeptUnfailing D.fault_plan keep.new }
-{
-    listing_is_whole();
-    play_rounds(alloc, plan, bench, book, sink, keep)?;
-    end_book(alloc, book, sink)
-}
-
 impl Conductor {
-    ghost use Rattle.eql_conductor.specs.declared.plan.End.TheVariants.{DiskFault, WriteFault as SinkFault};
-
     /// Plays rounds until each shard was read to its end or something is refused. A round feeds each
     /// lane, looks at each, takes what lies below the least low, has it played by the parts, and gives
     /// what they find to the book. Every so many rounds that took something a cut is kept.
@@ -152,37 +107,18 @@ impl Conductor {
         book: &mut Book,
         sink: &mut K,
         keep: &mut Option<Keep<D>>,
-    ) -> End
+    ) -> Result<(), Stop>
         requires may { MayRun plan.now (B.known bench.old) book.old }
         requires keeps { MayKeepIf D.history D.fault_count plan.now (B.known bench.old) keep.old }
 
-        // What was written, of told texts in the words of the listing, and which cuts were put:
-        // their times rise, and the lines that they count were written.
-        ensures ran { Ran D.history D.fault_count plan.now (B.known bench.old) (B.known bench.new)
-            book.old book.new (K.written sink.old) (K.written sink.new) keep.old keep.new result }
-
-        // Why it ended. No count of faults rises but where its fault is returned.
-        ensures cause { EndsBy result (B.known bench.old) (B.known bench.new)
-            (K.fault_count sink.old) (K.fault_count sink.new)
-            (disk_faults D.history D.fault_count keep.old)
-            (disk_faults D.history D.fault_count keep.new) }
-
-        // What stays of the lanes and parts whatever is returned, and that no count or low of a
-        // lane falls.
-        ensures goes { LanesGo (B.known bench.old) (B.known bench.new) }
-        ensures silent { K.written sink.old ≡ None → K.written sink.new ≡ None }
-
-        // A sink of which no write is planned to fail.
-        ensures unfailing { IsUnfailing (K.fault_plan sink.old)
-            → (result ≢ SinkFault) × IsUnfailing (K.fault_plan sink.new) }
-
-        // A disk of which no call is planned to fail.
-        ensures unfailing_disk { IsKeptUnfailing D.fault_plan keep.old
-            → (result ≢ DiskFault) × IsKeptUnfailing D.fault_plan keep.new }
+        // What was written and kept, why it ended, what stays of lanes and parts, and that sink and
+        // disk go on as they are planned.
+        ensures ran { ConductorRan K.Sink D.Disk (B.known bench.old) (B.known bench.new)
+            sink.old sink.new (run_of plan.now book.old keep.old)
+            (run_of plan.now book.new keep.new) result }
     {
-        match run_rounds(alloc, plan, bench, book, sink, keep) {
-            Ok(()) => End::Done,
-            Err(by) => ended(by),
-        }
+        listing_is_whole();
+        play_rounds(alloc, plan, bench, book, sink, keep)?;
+        end_book(alloc, book, sink)
     }
 }

@@ -4,13 +4,12 @@ ghost use Rattle.eql_values.specs.declared.found.Holder.{Holder};
 ghost use Rattle.eql_values.specs.declared.order.Mark.TheVariants.{At as AtTime};
 ghost use Rattle.eql_outside.specs.Outside.{Rose};
 ghost use Rattle.eql_outside.specs.Unfailing.{IsUnfailing};
-ghost use Rattle.eql_lane.specs.declared.ops.ShardLimit.TheVariants.{Generation};
 ghost use Rattle.eql_parts.specs.PartSteps.{Rules};
 ghost use Rattle.eql_cut.specs.Domain.{IsCut};
 ghost use Rattle.eql_ckdisk.specs.Cuts.{Holds};
 ghost use Rattle.eql_ckdisk.specs.Found.{next};
 ghost use Rattle.eql_ckdisk.specs.Putting.{Stands, last_cut};
-ghost use Rattle.eql_conductor.specs.declared.stop.Stop.TheVariants.{Disk as DiskFailed, Limit as AtLimit, Memory as OutOfMemory};
+ghost use Rattle.eql_conductor.specs.declared.stop.Stop.TheVariants.{Disk as DiskFailed, Generation, Memory as OutOfMemory};
 ghost use Rattle.eql_conductor.specs.Benches.{Rests};
 ghost use Rattle.eql_conductor.specs.Going.{LanesGo, StopsBy, Went};
 ghost use Rattle.eql_conductor.specs.LaneRounds.{LanesAreAt};
@@ -27,7 +26,6 @@ use crate::stop::Stop;
 use eql_book::Book;
 use eql_ckdisk::{CkRefused, put, puts_go_on};
 use eql_cut::{Cut, CutHead};
-use eql_lane::ShardLimit;
 use eql_outside::Disk;
 use eql_values::{Holders, LaneCuts, Memory};
 use std::alloc::Global;
@@ -123,7 +121,7 @@ fn put_cut<D: Disk>(alloc: Global, keep: &mut Keep<D>, cut: &Cut) -> Result<(), 
     ensures stands_yet { IfErr result (λ stop. (stop ≢ DiskFailed) → (stop ≢ OutOfMemory)
         → Stands (last_cut keep.new.state) (D.history keep.new.disk)) }
     ensures stops { IfErr result StopsKeeping }
-    ensures full { result ≡ Err (AtLimit Generation)
+    ensures full { result ≡ Err Generation
         → (last_cut keep.new.state).generation ≡ 2 ^ 63 }
     ensures cause { result ≡ Err DiskFailed
         → Rose (D.fault_count keep.old.disk) (D.fault_count keep.new.disk) }
@@ -138,7 +136,7 @@ fn put_cut<D: Disk>(alloc: Global, keep: &mut Keep<D>, cut: &Cut) -> Result<(), 
         Ok(()) => Ok(()),
         Err(CkRefused::DiskFault) => Err(Stop::Disk),
         Err(CkRefused::Memory) => Err(Stop::Memory),
-        Err(CkRefused::Generation) => Err(Stop::Limit(ShardLimit::Generation)),
+        Err(CkRefused::Generation) => Err(Stop::Generation),
         Err(CkRefused::Damaged { area: _, at: _ }) => unreachable!(),
     }
 }
@@ -174,7 +172,7 @@ pub(crate) fn save<B: Bench, D: Disk>(
         StopsSaving stop (B.known bench.old) (B.known bench.new)) }
     ensures notes { OnOk result (NotesSave (B.known bench.old) (B.known bench.new)) }
     ensures broken_notes { OnErr result (NotesSaveFront (B.known bench.old) (B.known bench.new)) }
-    ensures full { result ≡ Err (AtLimit Generation)
+    ensures full { result ≡ Err Generation
         → (last_cut keep.new.state).generation ≡ 2 ^ 63 }
     ensures stands_yet { IfErr result (λ stop. (stop ≢ DiskFailed) → (stop ≢ OutOfMemory)
         → Stands (last_cut keep.new.state) (D.history keep.new.disk)) }

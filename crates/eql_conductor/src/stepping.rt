@@ -5,7 +5,7 @@ ghost use Rattle.eql_conductor.specs.declared.stop.Stop.TheVariants.{Disk as Dis
 ghost use Rattle.eql_conductor.specs.Bounds.{RoundSpends};
 ghost use Rattle.eql_conductor.specs.Going.{LanesGo};
 ghost use Rattle.eql_conductor.specs.RunNotes.{place};
-ghost use Rattle.eql_conductor.specs.Running.{IsAtMark, KeepStands, StepIs, StepStops, end_of};
+ghost use Rattle.eql_conductor.specs.Running.{IsAtMark, KeepStands, StepIs, StepStops};
 ghost use Rattle.eql_conductor.specs.Runs.{EndsBy, IsKeptUnfailing, disk_faults};
 
 use crate::advance::play_round;
@@ -42,7 +42,7 @@ pub(crate) fn play_and_keep<B: Bench, K: Sink, D: Disk>(
         (B.known bench.old) (B.known bench.new) book.old book.new
         (K.written sink.old) (K.written sink.new) keep.old keep.new) }
     ensures spends { IfOk result (RoundSpends last (B.known bench.old) (B.known bench.new)) }
-    ensures cause { EndsBy (end_of result) (B.known bench.old) (B.known bench.new)
+    ensures cause { EndsBy result (B.known bench.old) (B.known bench.new)
         (K.fault_count sink.old) (K.fault_count sink.new)
         (disk_faults D.history D.fault_count keep.old)
         (disk_faults D.history D.fault_count keep.new) }

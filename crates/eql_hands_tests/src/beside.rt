@@ -8,12 +8,12 @@ use crate::meeting::{Flag, MeetingSource};
 use crate::opening::{fresh_lane, source_over};
 use crate::plans::plan_of;
 use eql_book::Book;
-use eql_conductor::{Keep, RunPlan};
+use eql_conductor::{Run, RunPlan, Stop};
 use eql_cut::CutHead;
 use eql_hands::NoGate;
 use eql_lane::Lane;
 use eql_outside::{MemDisk, MemSink, Source};
-use eql_search::{Stop, search};
+use eql_search::{Rules, search};
 use eql_stages::{Plan, PlanReader};
 use eql_values::{BookCut, Holders, LineReader, Mark, Memory, NameKinds, PipeStates, Pipes, Text};
 use std::alloc::Global;
@@ -64,15 +64,21 @@ fn search_two<R: Threads + Wait + Sync, S: Source + Send + Sync>(
 ) -> Result<(), Stop>
     requires two { AreTwo ⟦<PlanReader as LineReader>⟧.read_of lanes.old.items }
 {
-    let Ok(mut book) = fresh_book(alloc) else {
+    let Ok(book) = fresh_book(alloc) else {
         return Err(Stop::Memory);
     };
     let plan = run_plan(alloc);
     let none = Holders::of(Vec::new(alloc));
-    let mut keep: Option<Keep<MemDisk>> = None;
-    search(
-        rt, alloc, lanes, 1, None, none, &plan, 4, &mut book, sink, &mut keep, &NoGate,
-    )
+    let rules = Rules {
+        stages: 1,
+        span: None,
+    };
+    let mut run: Run<MemDisk> = Run {
+        plan,
+        book,
+        keep: None,
+    };
+    search(rt, alloc, lanes, rules, none, &mut run, 4, sink, &NoGate)
 }
 
 /// Lanes over two sources, the first one's shard 0 and the other one's 1.

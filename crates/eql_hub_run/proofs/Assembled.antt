@@ -1,38 +1,40 @@
 -- What a run beside hands did, put together.
 use Rattle.std.proofs.Common.{◌≡◌, ◌≢◌, inl, inr, ◌≤◌, ◌<◌, ◌^◌, ℕ, List, Option, None, Some, length, refl, sym, ap, ◌∙◌, subst, arith}
-use Rattle.std.specs.Prelude.{All, IfSome, get_or, slice_get}
+use Rattle.std.specs.Prelude.{All, IfSome, Ok, Err, get_or, slice_get}
 use Rattle.std.specs.List.{AllZip, count_by}
 use Rattle.std.proofs.lemmas.Option.{same_Some, slice_get_within}
 use Rattle.eql_values.specs.Accepted.{Reads}
+use Rattle.eql_values.specs.declared.reader.LineReader as readers
 use Rattle.eql_outside.specs.Outside.{Rose}
-use Rattle.eql_outside.specs.Moments.{History}
 use Rattle.eql_outside.specs.Plans.{FaultPlan}
 use Rattle.eql_outside.specs.Unfailing.{IsUnfailing}
+use Rattle.eql_outside.specs.declared.disk.Disk as disks
+use Rattle.eql_outside.specs.declared.sink.Sink as sinks
+use Rattle.eql_outside.specs.declared.source.Source as sources
 use Rattle.eql_laws.specs.Counting.{greatest_bytes}
 use Rattle.eql_lane.specs.declared.ops.LaneOp.{LaneOp}
 use Rattle.eql_lane.specs.declared.ops.LaneReply.{LaneReply}
-use Rattle.eql_lane.specs.declared.ops.LimitOf.{LimitOf}
+use Rattle.eql_lane.specs.declared.ops.ShardLimit.{ShardLimit}
 use Rattle.eql_lane.specs.declared.ops.ShardLimit.TheVariants as limit
 use Rattle.eql_lane.specs.Lanes.{IsOutOfLines, LaneState, Setting}
 use Rattle.eql_lane.specs.Plays.{DidNotFail}
 use Rattle.eql_lane.specs.Views.{IsTextOf, LaneView, setting_of}
 use Rattle.eql_parts.specs.PartSteps.{PartView}
-use Rattle.eql_book.specs.Books.{BookState}
 use Rattle.eql_turn_lock.specs.declared.history.Entry.{Entry}
 use Rattle.eql_turn_lock.specs.declared.view.Ended.{Ended}
 use Rattle.eql_turn_lock.specs.declared.view.View.{View}
 use Rattle.eql_turn_lock.specs.Calls.{Closes}
 use Rattle.eql_turn_lock.specs.History.{IsLegal}
 use Rattle.eql_turn_lock.specs.Passes.{IsEndedIn, KnowsHistory}
-use Rattle.eql_conductor.specs.declared.plan.End.{End as Ends}
-use Rattle.eql_conductor.specs.declared.plan.End.TheVariants as end
-use Rattle.eql_conductor.specs.declared.plan.Keep.{Keep}
-use Rattle.eql_conductor.specs.declared.plan.RunPlan.{RunPlan}
+use Rattle.eql_conductor.specs.declared.plan.Run.{Run}
+use Rattle.eql_conductor.specs.declared.stop.Stop.{Stop}
+use Rattle.eql_conductor.specs.declared.stop.Stop.TheVariants as stop
 use Rattle.eql_conductor.specs.Benches.{ComesByFeeds, Known, NoFeedFailed}
-use Rattle.eql_conductor.specs.Going.{LanesGo}
-use Rattle.eql_conductor.specs.Records.{Ran}
+use Rattle.eql_conductor.specs.Going.{LanesGo, RunResult}
+use Rattle.eql_conductor.specs.Records.{ConductorRan}
 use Rattle.eql_conductor.specs.RunNotes.{round_count}
 use Rattle.eql_conductor.specs.Runs.{EndsBy, MayRun, disk_faults}
+use Rattle.eql_conductor.proofs.Causes.{err_is}
 use Rattle.eql_hub.specs.declared.step.HandFault.{HandFault}
 use Rattle.eql_hub.specs.declared.step.HandFault.TheVariants as fault
 use Rattle.eql_hub.specs.Hands.{HandView, HubView, LaneKnown, PartKnown}
@@ -45,47 +47,63 @@ use Rattle.eql_lock_bench.specs.Benched.{IsBenchHand}
 use Rattle.eql_lock_bench.specs.Locked.{entry_failed, known_by, mine_in}
 use Rattle.eql_lock_bench.proofs.Closings.{Further, closes_from, fails_as_planned, none_fail, same_lane}
 use Rattle.eql_lock_bench.proofs.LaneRuns.{Stands, fed_all}
-use Rattle.eql_hub_run.specs.Beside.{HasHandCause, IsOwn, IsSameBench, RanBeside, TellsRead, bench_of, rank}
-use Rattle.eql_hub_run.specs.Gathers.{GathersHands, HandsAre, IsEndOf, IsKept, IsLeastOf, IsUnplayedHand, LaneIsFine, PartIsFine, end_of_fault}
+use Rattle.eql_hub_run.specs.Beside.{HasHandCause, IsOwn, IsSameBench, RanBeside, TellsRead, bench_of, rank, stop_rank}
+use Rattle.eql_hub_run.specs.Gathers.{GathersHands, HandsAre, IsEndOf, IsKept, IsLeastOf, IsUnplayedHand, LaneIsFine, PartIsFine, stop_of_fault}
 use Rattle.eql_hub_run.specs.Workers.{HoldsAtPlace, Has, HandDid, HasPlayed, IsFailure, IsLimit, IsNoRead, IsWhole, HandMeets, MeetsWorn, WorkerView}
 use Rattle.eql_hub_run.proofs.Moves.{fed_moves, rose_behind}
 use Rattle.eql_hub_run.proofs.Hands.{at_all, all_places}
-use Rattle.eql_hub_run.proofs.Histories.{IsCalm, didnt, all_calm, all_one, has_own, run_at, run_bytes, run_calm, run_failed, run_further, run_generation, run_lines, run_stands, run_turns}
+use Rattle.eql_hub_run.proofs.Histories.{IsCalm, didnt, all_calm, all_one, has_own, run_at, run_bytes, run_calm, run_failed, run_further, run_lines, run_stands}
 use Rattle.eql_hub_run.proofs.Worn.{FewNotes, few_notes}
 use Rattle.eql_hub_run.proofs.Beginning.{began, began_with, begins, may_run}
+use Rattle.eql_hub_run.proofs.Seats.{told_no_disk, told_no_write}
 use Rattle.eql_hub_run.proofs.Ended.{AllEnd, EndsAt, all_end, kept_words, none_worn_in, own_lanes, own_parts, there_in}
 
 -- ---- ends by their statuses
-least_reads : (answer : Ends) → rank answer ≤ 0 → (s : ℕ) × (answer ≡ end.ReadFault s)
-least_reads (end.ReadFault s) l = (s, refl)
-least_reads end.WriteFault l = absurd (omega (arith, l))
-least_reads end.DiskFault l = absurd (omega (arith, l))
-least_reads end.Memory l = absurd (omega (arith, l))
-least_reads (end.Limit of) l = absurd (omega (arith, l))
-least_reads end.Done l = absurd (omega (arith, l))
+least_reads : (answer : RunResult) → rank answer ≤ 0 → (s : ℕ) × (answer ≡ Err (stop.Read s))
+least_reads (Err (stop.Read s)) l = (s, refl)
+least_reads (Err stop.Write) l = absurd (omega (arith, l))
+least_reads (Err stop.Disk) l = absurd (omega (arith, l))
+least_reads (Err stop.Memory) l = absurd (omega (arith, l))
+least_reads (Err (stop.Limit of)) l = absurd (omega (arith, l))
+least_reads (Err stop.Generation) l = absurd (omega (arith, l))
+least_reads (Err stop.Worn) l = absurd (omega (arith, l))
+least_reads (Ok done) l = absurd (omega (arith, l))
 
 -- where no file is told as failed, none of the conductor's feeds failed
-not_read_none : (ended : Ends) (first last : Known) (sb sn db dn : ℕ) → ((s : ℕ) → ended ≢ end.ReadFault s) → EndsBy ended first last sb sn db dn → NoFeedFailed first last
-not_read_none end.Done first last sb sn db dn not cause = cause.0
-not_read_none (end.ReadFault s) first last sb sn db dn not cause = absurd (not s refl)
-not_read_none end.WriteFault first last sb sn db dn not cause = cause.0
-not_read_none end.DiskFault first last sb sn db dn not cause = cause.0
-not_read_none end.Memory first last sb sn db dn not cause = cause.0
-not_read_none (end.Limit (limit.Lines s)) first last sb sn db dn not cause = cause.2
-not_read_none (end.Limit (limit.Bytes s)) first last sb sn db dn not cause = cause.2
-not_read_none (end.Limit limit.Turns) first last sb sn db dn not cause = cause.1
-not_read_none (end.Limit limit.Generation) first last sb sn db dn not cause = cause.0
+not_read_none : (ended : RunResult) (first last : Known) (sb sn db dn : ℕ) → ((s : ℕ) → ended ≢ Err (stop.Read s)) → EndsBy ended first last sb sn db dn → NoFeedFailed first last
+not_read_none (Ok done) first last sb sn db dn not cause = cause.0
+not_read_none (Err (stop.Read s)) first last sb sn db dn not cause = absurd (not s refl)
+not_read_none (Err stop.Write) first last sb sn db dn not cause = cause.0
+not_read_none (Err stop.Disk) first last sb sn db dn not cause = cause.0
+not_read_none (Err stop.Memory) first last sb sn db dn not cause = cause.0
+not_read_none (Err (stop.Limit (limit.Lines s))) first last sb sn db dn not cause = cause.2
+not_read_none (Err (stop.Limit (limit.Bytes s))) first last sb sn db dn not cause = cause.2
+not_read_none (Err stop.Generation) first last sb sn db dn not cause = cause.0
+not_read_none (Err stop.Worn) first last sb sn db dn not cause = cause.1
 
 all_not_failed : (es : List (Entry LaneOp LaneReply)) → All (λ (e : Entry LaneOp LaneReply). DidNotFail e.reply) es → All IsCalm es
 all_not_failed es all k d l = didnt (get_or es k d).reply (all k d l)
 
-module _ {S L : Type 0} (left lent_as : S → Option (List ℕ)) (fault_plan : S → Option FaultPlan) (read_of : L → Reads) (text : ℕ → Option (List ℕ)) (olds news : List (LaneView S L)) (parts lefts : List PartView)
+module _ {S L : Type 0} (source : sources.Ghosts S) (reader : readers.Ghosts L) (text : ℕ → Option (List ℕ)) (olds news : List (LaneView S L)) (parts lefts : List PartView)
     (hub : HubView) (first last joined : HandView S L) (split : ℕ) (workers : List (WorkerView S L)) (hands : List (HandView S L))
-    (few : length olds ≤ 256) (of : AreOfTexts left text olds) (unplayed : IsUnplayedHand split olds parts first) (is : IsBenchHand left lent_as fault_plan read_of text hub first last)
+    (few : length olds ≤ 256) (of : AreOfTexts source.left text olds) (unplayed : IsUnplayedHand split olds parts first)
+    (is : IsBenchHand source.left source.lent_as source.fault_plan reader.read_of text hub first last)
     (played : All (HasPlayed hub) workers) (are : HandsAre workers hands) (many : length workers ≤ 65536)
     (gathered : GathersHands (All (λ (w : WorkerView S L). IsNoRead w.met) workers) hands last joined)
-    (lanes_close : AllZip (Closes (IsLaneTurn left lent_as fault_plan read_of) is_open_lane) joined.lanes.views news)
+    (lanes_close : AllZip (Closes (IsLaneTurn source.left source.lent_as source.fault_plan reader.read_of) is_open_lane) joined.lanes.views news)
     (parts_close : AllZip (Closes IsPartTurn is_open_part) joined.parts.views lefts) where
+  abbrev left : S → Option (List ℕ)
+  left = source.left
+
+  abbrev lent_as : S → Option (List ℕ)
+  lent_as = source.lent_as
+
+  abbrev fault_plan : S → Option FaultPlan
+  fault_plan = source.fault_plan
+
+  abbrev read_of : L → Reads
+  read_of = reader.read_of
+
   abbrev Turns : LaneView S L → LaneOp → LaneReply → LaneView S L → Type 0
   Turns = IsLaneTurn left lent_as fault_plan read_of
 
@@ -300,15 +318,15 @@ module _ {S L : Type 0} (left lent_as : S → Option (List ℕ)) (fault_plan : S
 
     -- ---- a fault that a hand met
     -- why it is told, and that a hand can tell it
-    record FaultIs (answer : Ends) : Type 0 where
-      pub because : HasHandCause read_of text olds news answer
-      pub not_own : IsOwn answer → ⊥
-      pub not_turns : answer ≢ end.Limit limit.Turns
-      pub planned : (s : ℕ) (old : LaneView S L) → slice_get olds s ≡ Some old → IsUnfailing (fault_plan old.source) → answer ≢ end.ReadFault s
+    record FaultIs (by : Stop) : Type 0 where
+      pub because : HasHandCause read_of text olds news (Err by)
+      pub not_own : IsOwn (Err by) → ⊥
+      pub not_worn : by ≢ stop.Worn
+      pub planned : (s : ℕ) (old : LaneView S L) → slice_get olds s ≡ Some old → IsUnfailing (fault_plan old.source) → by ≢ stop.Read s
 
     module _ (shards : (s : ℕ) (old : LaneView S L) → slice_get olds s ≡ Some old → old.shard ≡ s) (hand : HandView S L) (whole : IsWhole hub hand)
         (kept_lanes : IsKept joined.lanes.views hand.lanes.views) (kept_parts : IsKept joined.parts.views hand.parts.views) where
-      same_shard : (s r : ℕ) → end.ReadFault s ≡ end.ReadFault r → s ≡ r
+      same_shard : (s r : ℕ) → stop.Read s ≡ stop.Read r → s ≡ r
       same_shard s r e = cc
 
       -- no source that isn't planned to fail did
@@ -319,7 +337,7 @@ module _ {S L : Type 0} (left lent_as : S → Option (List ℕ)) (fault_plan : S
           let e = all_one (λ (d : Entry LaneOp LaneReply). DidNotFail d.reply) IsFailure end_at.ends.closes.log both.0 has in
           e.1 e.2.0 e.2.1
 
-      read_is : (s : ℕ) → HoldsAtPlace hand.lanes.views s (λ (v : LaneKnown S L). Has IsFailure v.mine) → FaultIs (end.ReadFault s)
+      read_is : (s : ℕ) → HoldsAtPlace hand.lanes.views s (λ (v : LaneKnown S L). Has IsFailure v.mine) → FaultIs (stop.Read s)
       read_is s met =
           let o = lane_under hand whole s met.one met.there in
           let has = in_log s o.0 o.1 IsFailure hand met.one kept_lanes met.there met.so in
@@ -330,13 +348,13 @@ module _ {S L : Type 0} (left lent_as : S → Option (List ℕ)) (fault_plan : S
                   (failed_rose s old there (in_log s old there IsFailure hand met.one kept_lanes met.there met.so)),
             );
             not_own = λ own_one. own_one;
-            not_turns = λ e. absurd cc;
+            not_worn = λ e. absurd cc;
             planned = λ r old there u e.
                 let same_s : s ≡ r = same_shard s r e in
                 none_failed r old there u (in_log r old there IsFailure hand met.one kept_lanes (subst (λ (j : ℕ). slice_get hand.lanes.views j ≡ Some met.one) same_s met.there) met.so);
           }
 
-      limit_is : (of_it : LimitOf) (s : ℕ) → HoldsAtPlace hand.lanes.views s (λ (v : LaneKnown S L). Has (IsLimit of_it) v.mine) → FaultIs (end.Limit of_it)
+      limit_is : (of_it : ShardLimit) (s : ℕ) → HoldsAtPlace hand.lanes.views s (λ (v : LaneKnown S L). Has (IsLimit of_it) v.mine) → FaultIs (stop.Limit of_it)
       limit_is (limit.Lines shard) s met =
           let o = lane_under hand whole s met.one met.there in
           let end_at = at s o.0 o.1 in
@@ -344,7 +362,7 @@ module _ {S L : Type 0} (left lent_as : S → Option (List ℕ)) (fault_plan : S
           (in_log s o.0 o.1 (IsLimit (limit.Lines shard)) hand met.one kept_lanes met.there met.so) in
           let e : shard ≡ s = told.0 ∙ shards s o.0 o.1 in
           record {
-            because = subst (λ (r : ℕ). HasHandCause read_of text olds news (end.Limit (limit.Lines r))) (sym e) (
+            because = subst (λ (r : ℕ). HasHandCause read_of text olds news (Err (stop.Limit (limit.Lines r)))) (sym e) (
               inside s o.0 o.1,
               λ old new there f. at_new s old new there f (λ (l : LaneView S L). IsOutOfLines (setting_of read_of (text s) old) l.state)
                   (let end_here = at s old there in
@@ -352,7 +370,7 @@ module _ {S L : Type 0} (left lent_as : S → Option (List ℕ)) (fault_plan : S
                   (in_log s old there (IsLimit (limit.Lines shard)) hand met.one kept_lanes met.there met.so)).1),
             );
             not_own = λ own_one. own_one;
-            not_turns = λ f. absurd cc;
+            not_worn = λ f. absurd cc;
             planned = λ r old there u f. absurd cc;
           }
       limit_is (limit.Bytes shard) s met =
@@ -362,38 +380,28 @@ module _ {S L : Type 0} (left lent_as : S → Option (List ℕ)) (fault_plan : S
           (in_log s o.0 o.1 (IsLimit (limit.Bytes shard)) hand met.one kept_lanes met.there met.so) in
           let e : shard ≡ s = told.0 ∙ shards s o.0 o.1 in
           record {
-            because = subst (λ (r : ℕ). HasHandCause read_of text olds news (end.Limit (limit.Bytes r))) (sym e) (
+            because = subst (λ (r : ℕ). HasHandCause read_of text olds news (Err (stop.Limit (limit.Bytes r)))) (sym e) (
               inside s o.0 o.1,
               λ new f. at_new s o.0 new o.1 f (λ (l : LaneView S L). l.state.taken ≡ greatest_bytes) told.1,
             );
             not_own = λ own_one. own_one;
-            not_turns = λ f. absurd cc;
+            not_worn = λ f. absurd cc;
             planned = λ r old there u f. absurd cc;
           }
-      limit_is limit.Turns s met =
-          let o = lane_under hand whole s met.one met.there in
-          let end_at = at s o.0 o.1 in
-          absurd (run_turns left lent_as fault_plan read_of (text s) (set s o.0 o.1) end_at.ends.closes.log o.0 end_at.new end_at.ends.legal (stands s o.0 o.1)
-          (in_log s o.0 o.1 (IsLimit limit.Turns) hand met.one kept_lanes met.there met.so))
-      limit_is limit.Generation s met =
-          let o = lane_under hand whole s met.one met.there in
-          let end_at = at s o.0 o.1 in
-          absurd (run_generation left lent_as fault_plan read_of (text s) (set s o.0 o.1) end_at.ends.closes.log o.0 end_at.new end_at.ends.legal (stands s o.0 o.1)
-          (in_log s o.0 o.1 (IsLimit limit.Generation) hand met.one kept_lanes met.there met.so))
 
-      fault_is : (met : HandFault) → HandMeets hand met → FaultIs (end_of_fault met)
+      fault_is : (met : HandFault) → HandMeets hand met → FaultIs (stop_of_fault met)
       fault_is (fault.Read s) met = read_is s met
-      fault_is fault.Memory met = record { because = tt; not_own = λ own_one. own_one; not_turns = λ e. absurd cc; planned = λ s old there u e. absurd cc }
-      fault_is (fault.Limit of_it) (inl (s, met)) = limit_is of_it s met
-      fault_is (fault.Limit of_it) (inr (same_of, inl (s, met))) = absurd (lane_worn hand whole kept_lanes s met)
-      fault_is (fault.Limit of_it) (inr (same_of, inr (s, met))) = absurd (part_worn hand whole kept_parts s met)
+      fault_is fault.Memory met = record { because = tt; not_own = λ own_one. own_one; not_worn = λ e. absurd cc; planned = λ s old there u e. absurd cc }
+      fault_is (fault.Limit of_it) (s, met) = limit_is of_it s met
+      fault_is fault.Worn (inl (s, met)) = absurd (lane_worn hand whole kept_lanes s met)
+      fault_is fault.Worn (inr (s, met)) = absurd (part_worn hand whole kept_parts s met)
 
     -- ---- how the conductor ended
     module _ (sb sn db dn : ℕ) where
       -- a lane whose source isn't planned to fail has no feed of the conductor that failed
-      conductor_planned : (ended : Ends) → EndsBy ended one two sb sn db dn → (s : ℕ) (old : LaneView S L) → slice_get olds s ≡ Some old → IsUnfailing (fault_plan old.source) → ended ≢ end.ReadFault s
+      conductor_planned : (ended : RunResult) → EndsBy ended one two sb sn db dn → (s : ℕ) (old : LaneView S L) → slice_get olds s ≡ Some old → IsUnfailing (fault_plan old.source) → ended ≢ Err (stop.Read s)
       conductor_planned ended cause s old there u e =
-          let because = subst (λ (a : Ends). EndsBy a one two sb sn db dn) e cause in
+          let because = subst (λ (a : RunResult). EndsBy a one two sb sn db dn) e cause in
           let at_end = at s old there in
           let knows : KnowsHistory Turns is_open_lane at_end.before = at_all (KnowsHistory Turns is_open_lane) last.lanes.views s at_end.before at_end.last_there is.knows.lanes in
           let none = fails_as_planned left lent_as fault_plan read_of at_end.before old knows at_end.ends.opened u in
@@ -401,22 +409,22 @@ module _ {S L : Type 0} (left lent_as : S → Option (List ℕ)) (fault_plan : S
           let b = ap (λ (o : Option (LaneKnown S L)). count_by entry_failed (mine_in o)) at_end.last_there in
           omega (arith, a, b, none)
 
-      conductor_turns : (ended : Ends) → EndsBy ended one two sb sn db dn → ended ≢ end.Limit limit.Turns
-      conductor_turns ended cause e =
-          let because = subst (λ (a : Ends). EndsBy a one two sb sn db dn) e cause in
+      conductor_worn : (ended : RunResult) → EndsBy ended one two sb sn db dn → ended ≢ Err stop.Worn
+      conductor_worn ended cause e =
+          let because = subst (λ (a : RunResult). EndsBy a one two sb sn db dn) e cause in
           let a = because.0 in
           let b = none_worn in
           omega (arith, a, b)
 
       -- why it is told what a hand could have told too
-      conductor_cause : (ended : Ends) → LanesGo one two → EndsBy ended one two sb sn db dn → HasHandCause read_of text olds news ended
-      conductor_cause end.Done goes cause = tt
-      conductor_cause end.WriteFault goes cause = tt
-      conductor_cause end.DiskFault goes cause = tt
-      conductor_cause end.Memory goes cause = tt
-      conductor_cause (end.Limit limit.Turns) goes cause = tt
-      conductor_cause (end.Limit limit.Generation) goes cause = tt
-      conductor_cause (end.ReadFault s) goes cause = (
+      conductor_cause : (ended : RunResult) → LanesGo one two → EndsBy ended one two sb sn db dn → HasHandCause read_of text olds news ended
+      conductor_cause (Ok done) goes cause = tt
+      conductor_cause (Err stop.Write) goes cause = tt
+      conductor_cause (Err stop.Disk) goes cause = tt
+      conductor_cause (Err stop.Memory) goes cause = tt
+      conductor_cause (Err stop.Generation) goes cause = tt
+      conductor_cause (Err stop.Worn) goes cause = tt
+      conductor_cause (Err (stop.Read s)) goes cause = (
         (let a = cause.0 in let b = same.lanes in omega (arith, a, b)),
         λ old new there e. at_new s old new there e (λ (l : LaneView S L). Rose old.state.faults l.state.faults)
             (let f = fed s old there in
@@ -430,14 +438,14 @@ module _ {S L : Type 0} (left lent_as : S → Option (List ℕ)) (fault_plan : S
             rose_behind old.state.faults f.state.faults (at s old there).new.state.faults (omega (arith, a, up))
             (subst (λ (x : LaneState). Rose x.faults f.state.faults) x_is rose.2) moved.rise),
       )
-      conductor_cause (end.Limit (limit.Lines s)) goes cause = (
+      conductor_cause (Err (stop.Limit (limit.Lines s))) goes cause = (
         (let a = cause.0 in let b = same.lanes in omega (arith, a, b)),
         λ old new there e. at_new s old new there e (λ (l : LaneView S L). IsOutOfLines (setting_of read_of (text s) old) l.state)
             (let f = fed s old there in
             let out = cause.1 f.state f.was in
             (fed_moves (set s old there) f.state (at s old there).new.state f.fed).lines (record { lines = out.lines; byte = out.byte })),
       )
-      conductor_cause (end.Limit (limit.Bytes s)) goes cause = (
+      conductor_cause (Err (stop.Limit (limit.Bytes s))) goes cause = (
         (let a = cause.0 in let b = same.lanes in omega (arith, a, b)),
         λ new e.
             let o = old_of s new e in
@@ -446,24 +454,26 @@ module _ {S L : Type 0} (left lent_as : S → Option (List ℕ)) (fault_plan : S
       )
 
   -- ---- the whole run
-  module _ {D : Type 0} (history : D → Option History) (count : D → ℕ) (plan : RunPlan) (book then : BookState) (before now : Option (List ℕ)) (sink_before sink_now : ℕ) (keep kept : Option (Keep D))
-      (ended answer : Ends) (may : MayRun plan (bench_known read_of text (bench_of olds parts)) book) (told : IsLeastOf ended workers answer)
-      (ran : Ran history count plan one two book then before now keep kept ended) (cause : EndsBy ended one two sink_before sink_now (disk_faults history count keep) (disk_faults history count kept))
-      (goes : LanesGo one two) where
+  module _ {K D : Type 0} (output : sinks.Ghosts K) (disk : disks.Ghosts D) (sink sink' : K) (run run' : Run D) (ended answer : RunResult)
+      (may : MayRun run.plan (bench_known read_of text (bench_of olds parts)) run.book) (told : IsLeastOf ended workers answer)
+      (ran : ConductorRan output disk one two sink sink' run run' ended) where
+    abbrev goes : LanesGo one two
+    goes = ran.goes
+
     own_few : FewNotes two
     own_few =
         let starts = began_with read_of text olds parts one same in
-        few_notes one two (began read_of text olds parts one same) starts (may_run (bench_known read_of text (bench_of olds parts)) one same plan book may).sized
+        few_notes one two (began read_of text olds parts one same) starts (may_run (bench_known read_of text (bench_of olds parts)) one same run.plan run.book may).sized
         (let a = same.lanes in omega (arith, a, few)) goes.same.lanes goes.same.parts
         (λ s l. goes.same.some_lane s l (began read_of text olds parts one same s, starts.was s l))
-        (round_count plan _ one two ended ran.notes) ran.bound
+        (round_count run.plan _ one two ended ran.ran.notes) ran.ran.bound
 
     shards_are : (s : ℕ) (old : LaneView S L) → slice_get olds s ≡ Some old → old.shard ≡ s
     shards_are s old there =
         let a = may.lanes.are.shard s (slice_get_within olds s old there) in
         ap (λ (t : Setting). t.shard) (sym (ap (listed.set_in read_of (text s)) there)) ∙ a
 
-    not_read : (TellsRead answer → ⊥) → (s : ℕ) → ended ≢ end.ReadFault s
+    not_read : (TellsRead answer → ⊥) → (s : ℕ) → ended ≢ Err (stop.Read s)
     not_read quiet s e =
         let a = told.least in
         let b = ap rank e in
@@ -472,22 +482,44 @@ module _ {S L : Type 0} (left lent_as : S → Option (List ℕ)) (fault_plan : S
 
     calm : (TellsRead answer → ⊥) → Quiet
     calm quiet = all_places (λ (w : WorkerView S L). IsNoRead w.met) workers (λ k worker there.
-        by worker.met (at_all (λ (w : WorkerView S L). IfSome w.met (λ (met : HandFault). rank answer ≤ rank (end_of_fault met))) workers k worker there told.each))
+        by worker.met (at_all (λ (w : WorkerView S L). IfSome w.met (λ (met : HandFault). rank answer ≤ stop_rank (stop_of_fault met))) workers k worker there told.each))
       where
-        by : (met : Option HandFault) → IfSome met (λ (f : HandFault). rank answer ≤ rank (end_of_fault f)) → IsNoRead met
+        by : (met : Option HandFault) → IfSome met (λ (f : HandFault). rank answer ≤ stop_rank (stop_of_fault f)) → IsNoRead met
         by None h = tt
         by (Some fault.Memory) h = tt
         by (Some (fault.Limit of_it)) h = tt
+        by (Some fault.Worn) h = tt
         by (Some (fault.Read s)) h = let r = least_reads answer h in absurd (quiet (subst TellsRead (sym r.1) tt))
 
     -- what is told is the conductor's end, or a fault that a hand met
-    by_hand : Has (λ (worker : WorkerView S L). (met : HandFault) × (worker.met ≡ Some met) × (answer ≡ end_of_fault met)) workers → FaultIs own_few answer
-    by_hand has =
-        let e = all_one HandOf (λ (worker : WorkerView S L). (met : HandFault) × (worker.met ≡ Some met) × (answer ≡ end_of_fault met)) workers hands_of has in
-        let met : HandMeets e.1.hand e.2.0 = subst (λ (o : Option HandFault). IfSome o (HandMeets e.1.hand)) e.2.1 e.1.hand_did.fault_is in
-        subst (FaultIs own_few) (sym e.2.2) (fault_is own_few shards_are e.1.hand e.1.whole e.1.lanes_kept e.1.parts_kept e.2.0 met)
+    record ByHand : Type 0 where
+      pub by : Stop
+      pub is_told : answer ≡ Err by
+      pub so : FaultIs own_few by
 
-    pub ran_beside : RanBeside left lent_as fault_plan read_of history count text plan olds news parts book then before now sink_before sink_now keep kept answer
+    by_hand : Has (λ (worker : WorkerView S L). (met : HandFault) × (worker.met ≡ Some met) × (answer ≡ Err (stop_of_fault met))) workers → ByHand
+    by_hand has =
+        let e = all_one HandOf (λ (worker : WorkerView S L). (met : HandFault) × (worker.met ≡ Some met) × (answer ≡ Err (stop_of_fault met))) workers hands_of has in
+        let met : HandMeets e.1.hand e.2.0 = subst (λ (o : Option HandFault). IfSome o (HandMeets e.1.hand)) e.2.1 e.1.hand_did.fault_is in
+        record {
+          by = stop_of_fault e.2.0;
+          is_told = e.2.2;
+          so = fault_is own_few shards_are e.1.hand e.1.whole e.1.lanes_kept e.1.parts_kept e.2.0 met;
+        }
+
+    abbrev sink_before : ℕ
+    sink_before = output.fault_count sink
+
+    abbrev sink_now : ℕ
+    sink_now = output.fault_count sink'
+
+    abbrev disk_before : ℕ
+    disk_before = disk_faults disk.history disk.fault_count run.keep
+
+    abbrev disk_now : ℕ
+    disk_now = disk_faults disk.history disk.fault_count run'.keep
+
+    pub ran_beside : RanBeside source reader output disk text olds news parts sink sink' run run' answer
     ran_beside = record {
       first = first;
       last = last;
@@ -499,11 +531,11 @@ module _ {S L : Type 0} (left lent_as : S → Option (List ℕ)) (fault_plan : S
           tie = λ e. sym (told.tie e);
           own = λ own_one. elim told.from [
             | inl e ↦ sym e
-            | inr has ↦ absurd ((by_hand has).not_own own_one)
+            | inr has ↦ let h = by_hand has in absurd (h.so.not_own (subst IsOwn h.is_told own_one))
           ];
         };
-        ran = ran;
-        cause = cause;
+        ran = ran.ran;
+        cause = ran.cause;
         goes = goes;
         lanes = λ s new e.
             let o = old_of s new e in
@@ -514,30 +546,35 @@ module _ {S L : Type 0} (left lent_as : S → Option (List ℕ)) (fault_plan : S
                   (subst (λ (u : Setting). ComesByFeeds u f.state (at s o.0 o.1).new.state) (sym (set_is s o.0 o.1)) f.fed),
             );
         hand_cause = elim told.from [
-          | inl e ↦ subst (HasHandCause read_of text olds news) (sym e)
-              (conductor_cause own_few sink_before sink_now (disk_faults history count keep) (disk_faults history count kept) ended goes cause)
-          | inr has ↦ (by_hand has).because
+          | inl e ↦ subst (HasHandCause read_of text olds news) (sym e) (conductor_cause own_few sink_before sink_now disk_before disk_now ended goes ran.cause)
+          | inr has ↦ let h = by_hand has in subst (HasHandCause read_of text olds news) (sym h.is_told) h.so.because
         ];
-        not_turns =
-            let not_ended = conductor_turns own_few sink_before sink_now (disk_faults history count keep) (disk_faults history count kept) ended cause in (
+        not_worn =
+            let not_ended = conductor_worn own_few sink_before sink_now disk_before disk_now ended ran.cause in (
               not_ended,
               elim told.from [
                 | inl e ↦ λ f. not_ended (sym e ∙ f)
-                | inr has ↦ (by_hand has).not_turns
+                | inr has ↦ λ f. let h = by_hand has in h.so.not_worn (err_is h.by stop.Worn (sym h.is_told ∙ f))
               ],
             );
         planned = λ s old there u.
-            let not_ended = conductor_planned own_few sink_before sink_now (disk_faults history count keep) (disk_faults history count kept) ended cause s old there u in (
+            let not_ended = conductor_planned own_few sink_before sink_now disk_before disk_now ended ran.cause s old there u in (
               not_ended,
               elim told.from [
                 | inl e ↦ λ f. not_ended (sym e ∙ f)
-                | inr has ↦ (by_hand has).planned s old there u
+                | inr has ↦ λ f. let h = by_hand has in h.so.planned s old there u (err_is h.by (stop.Read s) (sym h.is_told ∙ f))
               ],
             );
         on = lanes_on (TellsRead answer → ⊥) (λ quiet.
-            not_read_none ended one two sink_before sink_now (disk_faults history count keep) (disk_faults history count kept) (not_read quiet) cause) calm;
+            not_read_none ended one two sink_before sink_now disk_before disk_now (not_read quiet) ran.cause) calm;
         texts = texts_stay;
         read = read_on;
         lines = lines_on;
+        follows = record {
+          silent = ran.follows.silent;
+          unfailing = λ u. let both = ran.follows.unfailing u in (told_no_write ended workers answer told both.0, both.1);
+          unfailing_disk = λ u. let both = ran.follows.unfailing_disk u in (told_no_disk ended workers answer told both.0, both.1);
+        };
+        plan_is = ran.plan_is;
       };
     }

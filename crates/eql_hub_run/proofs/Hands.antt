@@ -78,8 +78,8 @@ module _ {S L : Type 0} (left lent_as : S → Option (List ℕ)) (fault_plan : S
   ends (did.Fed lane) place v w fine (is, (lines, plays)) = answered (lane_reply.Fed lines) v w refl plays
   ends (did.Fault (fault.Read shard)) place v w fine h = absurd fine
   ends (did.Fault fault.Memory) place v w fine (lines, plays) = answered (lane_reply.Memory lines) v w refl plays
-  ends (did.Fault (fault.Limit of)) place v w fine (inl plays) = answered (lane_reply.Limit of) v w refl plays
-  ends (did.Fault (fault.Limit of)) place v w fine (inr (is, (word, r))) = refused (lane_op.Feed batch) (not_now.Worn word (lane_op.Feed batch)) v w r
+  ends (did.Fault (fault.Limit of)) place v w fine plays = answered (lane_reply.Limit of) v w refl plays
+  ends (did.Fault fault.Worn) place v w fine (word, r) = refused (lane_op.Feed batch) (not_now.Worn word (lane_op.Feed batch)) v w r
   ends (did.Turned part) place v w fine h = absurd h
   ends did.Nothing place v w fine h = absurd h
 
@@ -156,7 +156,7 @@ module _ {S L : Type 0} (left lent_as : S → Option (List ℕ)) (fault_plan : S
           so = has_last IsFailure v.mine (entry v.number (lane_op.Feed batch) (lane_reply.Failed lines)) w.mine plays.1.mine (lines, refl);
         }
         by fault.Memory place v w is h = tt
-        by (fault.Limit of) place v w is (inl plays) = inl (
+        by (fault.Limit of) place v w is plays = (
           place,
           record {
             one = w;
@@ -164,10 +164,7 @@ module _ {S L : Type 0} (left lent_as : S → Option (List ℕ)) (fault_plan : S
             so = has_last (IsLimit of) v.mine (entry v.number (lane_op.Feed batch) (lane_reply.Limit of)) w.mine plays.1.mine refl;
           },
         )
-        by (fault.Limit of) place v w is (inr (same, (word, r))) = inr (
-          same,
-          inl (place, record { one = w; there = is; so = has_last (λ (n : ℕ). 2 ^ 63 ≤ n) v.looked word w.looked r.3 r.2 }),
-        )
+        by fault.Worn place v w is (word, r) = inl (place, record { one = w; there = is; so = has_last (λ (n : ℕ). 2 ^ 63 ≤ n) v.looked word w.looked r.3 r.2 })
 
     part_met : (f : HandFault) (old new : HandView S L) → StepEndsAtPart left lent_as fault_plan read_of batch (did.Fault f) old new → HandMeets new f
     part_met f old new e = by f e.part e.before e.after e.is e.ends
@@ -175,10 +172,8 @@ module _ {S L : Type 0} (left lent_as : S → Option (List ℕ)) (fault_plan : S
         by : (f : HandFault) (place : ℕ) (v w : PartKnown) → slice_get new.parts.views place ≡ Some w → PartEnds batch (did.Fault f) place v w → HandMeets new f
         by (fault.Read shard) place v w is h = absurd h
         by fault.Memory place v w is h = tt
-        by (fault.Limit of) place v w is (same, (word, r)) = inr (
-          same,
-          inr (place, record { one = w; there = is; so = has_last (λ (n : ℕ). 2 ^ 63 ≤ n) v.looked word w.looked r.3 r.2 }),
-        )
+        by (fault.Limit of) place v w is h = absurd h
+        by fault.Worn place v w is (word, r) = inr (place, record { one = w; there = is; so = has_last (λ (n : ℕ). 2 ^ 63 ≤ n) v.looked word w.looked r.3 r.2 })
 
     step_met : (f : HandFault) (old new : HandView S L) → Steps left lent_as fault_plan read_of batch alone (did.Fault f) old new → HandMeets new f
     step_met f old new (inl h) = lane_met f old new h

@@ -33,7 +33,7 @@ use Rattle.eql_lock_bench.proofs.Counted.{count_cons}
 use Rattle.eql_lock_bench.proofs.LaneRuns.{Stands, stands_on}
 use Rattle.eql_lock_bench.proofs.Runs.{legal_keeps, legal_split}
 use Rattle.eql_hub_run.specs.Workers.{Has, IsFailure, IsLimit}
-use Rattle.eql_hub_run.proofs.Moves.{Moves, moves_on, moves_self, rose_before, rose_behind, step_bytes, step_failed, step_generation, step_lines, step_moves, step_turns}
+use Rattle.eql_hub_run.proofs.Moves.{Moves, moves_on, moves_self, rose_before, rose_behind, step_bytes, step_failed, step_lines, step_moves}
 
 -- ---- one of a list
 module _ {X : Type 0} where
@@ -213,16 +213,6 @@ module _ {S L : Type 0} (left lent_as : S → Option (List ℕ)) (fault_plan : S
         let step = subst (λ (r : LaneReply). IsLaneStep set c.before.state c.one.op r c.after.state) c.so c.step in
         let told = step_bytes set c.before.state c.one.op shard c.after.state step in
         (told.0, c.last.bytes told.1)
-
-    pub run_turns : (es : List (Entry LaneOp LaneReply)) (x y : LaneView S L) → IsLegal Turns x es y → Is x → Has (IsLimit limit.Turns) es → ⊥
-    run_turns es x y legal is has =
-        let c = came (IsLimit limit.Turns) es x y legal is has in
-        step_turns set c.before.state c.one.op c.after.state (subst (λ (r : LaneReply). IsLaneStep set c.before.state c.one.op r c.after.state) c.so c.step)
-
-    pub run_generation : (es : List (Entry LaneOp LaneReply)) (x y : LaneView S L) → IsLegal Turns x es y → Is x → Has (IsLimit limit.Generation) es → ⊥
-    run_generation es x y legal is has =
-        let c = came (IsLimit limit.Generation) es x y legal is has in
-        step_generation set c.before.state c.one.op c.after.state (subst (λ (r : LaneReply). IsLaneStep set c.before.state c.one.op r c.after.state) c.so c.step)
 
     -- ---- over a told text
     pub run_at : (t : List ℕ) → set.text ≡ Some t → (es : List (Entry LaneOp LaneReply)) (x y : LaneView S L) → IsLegal Turns x es y → Is x

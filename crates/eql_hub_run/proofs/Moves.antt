@@ -100,8 +100,6 @@ module _ (set : Setting) where
   feed_moves x max (reply.Failed n) y step = moves_reads x n y step.feeds.reads (inr step.faults)
   feed_moves x max (reply.Limit (limit.Lines shard)) y step = moves_reads x step.1.n y step.1.feeds.reads (inl step.1.faults)
   feed_moves x max (reply.Limit (limit.Bytes shard)) y step = moves_reads x step.1.n y step.1.feeds.reads (inl step.1.faults)
-  feed_moves x max (reply.Limit limit.Turns) y step = absurd step
-  feed_moves x max (reply.Limit limit.Generation) y step = absurd step
   feed_moves x max (reply.Memory n) y step = moves_reads x n y step.feeds.reads (inl step.faults)
   feed_moves x max (reply.Taken items) y step = absurd step
   feed_moves x max (reply.Low mark) y step = absurd step
@@ -187,15 +185,3 @@ module _ (set : Setting) where
   step_bytes x (op.Take mark) shard y step = absurd step
   step_bytes x op.Look shard y step = absurd step
   step_bytes x op.Snap shard y step = absurd step
-
-  pub step_turns : (x : LaneState) (o : LaneOp) (y : LaneState) → IsLaneStep set x o (reply.Limit limit.Turns) y → ⊥
-  step_turns x (op.Feed max) y step = step
-  step_turns x (op.Take mark) y step = step
-  step_turns x op.Look y step = step
-  step_turns x op.Snap y step = step
-
-  pub step_generation : (x : LaneState) (o : LaneOp) (y : LaneState) → IsLaneStep set x o (reply.Limit limit.Generation) y → ⊥
-  step_generation x (op.Feed max) y step = step
-  step_generation x (op.Take mark) y step = step
-  step_generation x op.Look y step = step
-  step_generation x op.Snap y step = step

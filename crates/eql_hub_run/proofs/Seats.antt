@@ -1,72 +1,79 @@
--- What the conductor may begin with, what its hand is afterwards, and which ends no hand tells.
-use Rattle.std.proofs.Common.{◌≢◌, inl, inr, ℕ, List, Option, sym, ◌∙◌}
-use Rattle.eql_values.specs.Accepted.{Reads}
-use Rattle.eql_outside.specs.Moments.{History}
-use Rattle.eql_outside.specs.Plans.{FaultPlan}
-use Rattle.eql_lane.specs.Views.{LaneView}
-use Rattle.eql_parts.specs.PartSteps.{PartView}
-use Rattle.eql_book.specs.Books.{BookState}
-use Rattle.eql_conductor.specs.declared.plan.End.{End as Ends}
-use Rattle.eql_conductor.specs.declared.plan.End.TheVariants as end
-use Rattle.eql_conductor.specs.declared.plan.Keep.{Keep}
-use Rattle.eql_conductor.specs.declared.plan.RunPlan.{RunPlan}
+-- How the conductor takes its seat at a hub, and which ends no hand tells.
+use Rattle.std.proofs.Common.{◌≢◌, inl, inr, ℕ, List, Option, length, sym, ◌∙◌}
+use Rattle.std.specs.Prelude.{Err}
+use Rattle.eql_outside.specs.declared.disk.Disk as disks
+use Rattle.eql_outside.specs.declared.source.Source as sources
+use Rattle.eql_values.specs.declared.reader.LineReader as readers
+use Rattle.eql_conductor.specs.declared.plan.Run.{Run}
+use Rattle.eql_conductor.specs.declared.stop.Stop.TheVariants as stop
+use Rattle.eql_conductor.specs.Benches.{Known}
+use Rattle.eql_conductor.specs.Going.{RunResult}
 use Rattle.eql_conductor.specs.Runs.{MayKeepIf, MayRun}
+use Rattle.eql_conductor.proofs.Causes.{err_is}
 use Rattle.eql_hub.specs.declared.step.HandFault.{HandFault}
 use Rattle.eql_hub.specs.declared.step.HandFault.TheVariants as fault
-use Rattle.eql_hub.specs.Hands.{HandView, HubView, IsHandOf, Knows}
+use Rattle.eql_hub.specs.Hands.{HandView, HubView, IsFirst}
 use Rattle.eql_replay.specs.Listed.{bench_known}
-use Rattle.eql_replay.specs.Opened.{AreOfTexts}
-use Rattle.eql_lock_bench.specs.Benched.{IsBenchHand}
+use Rattle.eql_replay.specs.Pools.{PoolView}
+use Rattle.eql_lock_bench.specs.Benched.{AreOfTexts}
 use Rattle.eql_lock_bench.proofs.Beginnings.{fresh_texts}
 use Rattle.eql_lock_bench.specs.Locked.{known_by}
-use Rattle.eql_hub_run.specs.Beside.{bench_of}
-use Rattle.eql_hub_run.specs.Conducted.{MayConduct}
-use Rattle.eql_hub_run.specs.Gathers.{IsLeastOf, IsUnplayedHand, end_of_fault}
-use Rattle.eql_hub_run.specs.Workers.{IsWhole, WorkerView}
+use Rattle.eql_hub_run.specs.Beside.{IsSameBench, bench_of}
+use Rattle.eql_hub_run.specs.Conducted.{MayConduct, opened}
+use Rattle.eql_hub_run.specs.Gathers.{IsLeastOf, stop_of_fault}
+use Rattle.eql_hub_run.specs.Workers.{WorkerView}
 use Rattle.eql_hub_run.proofs.Beginning.{begins, may_keep, may_run, unplayed_fresh}
 use Rattle.eql_hub_run.proofs.Splits.{hand_first}
 
 -- ---- before
-pub may_conduct : {S L D : Type 0} (left lent_as : S → Option (List ℕ)) (fault_plan : S → Option FaultPlan) (read_of : L → Reads) (history : D → Option History) (count : D → ℕ)
-    (text : ℕ → Option (List ℕ)) (hub : HubView) (plan : RunPlan) (book : BookState) (keep : Option (Keep D)) (made : ℕ) (lanes : List (LaneView S L)) (parts : List PartView) (hand : HandView S L)
-    → IsHandOf hub hand → Knows left lent_as fault_plan read_of hand → IsUnplayedHand made lanes parts hand → AreOfTexts left text lanes
-    → MayRun plan (bench_known read_of text (bench_of lanes parts)) book → MayKeepIf history count plan (bench_known read_of text (bench_of lanes parts)) keep
-    → MayConduct left lent_as fault_plan read_of history count text hub plan book keep hand
-may_conduct left lent_as fault_plan read_of history count text hub plan book keep made lanes parts hand own knows unplayed of may keeps =
-    let same = begins left lent_as fault_plan read_of text made lanes parts hand unplayed in
-    record {
-      own = own;
-      first = hand_first made lanes parts hand unplayed;
-      knows = knows;
-      texts = fresh_texts left text lanes hand.lanes.views (unplayed_fresh made lanes hand.lanes.views unplayed.lanes_are) of.each;
-      may = may_run (bench_known read_of text (bench_of lanes parts)) (known_by left lent_as fault_plan read_of text hand) same plan book may;
-      keeps = may_keep (bench_known read_of text (bench_of lanes parts)) (known_by left lent_as fault_plan read_of text hand) same history count plan keep keeps;
-    }
+module _ {S L D : Type 0} (source : sources.Ghosts S) (reader : readers.Ghosts L) (disk : disks.Ghosts D) (text : ℕ → Option (List ℕ)) (hub : HubView)
+    (hand : HandView S L) (workers : List (WorkerView S L)) (run : Run D) (may : MayConduct source reader disk text hub hand workers run) where
+  abbrev pool : PoolView S L
+  pool = opened hand
+
+  abbrev seat : Known
+  seat = known_by source.left source.lent_as source.fault_plan reader.read_of text hand
+
+  abbrev given : Known
+  given = bench_known reader.read_of text (bench_of pool.lanes pool.parts)
+
+  same : IsSameBench given seat
+  same = begins source.left source.lent_as source.fault_plan reader.read_of text (length workers) pool.lanes pool.parts hand may.unplayed
+
+  pub seat_first : IsFirst hand
+  seat_first = hand_first (length workers) pool.lanes pool.parts hand may.unplayed
+
+  pub seat_texts : AreOfTexts source.left text hand.lanes.views
+  seat_texts = fresh_texts source.left text pool.lanes hand.lanes.views (unplayed_fresh (length workers) pool.lanes hand.lanes.views may.unplayed.lanes_are) may.texts.each
+
+  pub seat_may : MayRun run.plan seat run.book
+  seat_may = may_run given seat same run.plan run.book may.may
+
+  pub seat_keeps : MayKeepIf disk.history disk.fault_count run.plan seat run.keep
+  seat_keeps = may_keep given seat same disk.history disk.fault_count run.plan run.keep may.keeps
 
 -- ---- after
-pub given_whole : {S L : Type 0} (left lent_as : S → Option (List ℕ)) (fault_plan : S → Option FaultPlan) (read_of : L → Reads) (text : ℕ → Option (List ℕ)) (hub : HubView) (taken given : HandView S L)
-    → IsBenchHand left lent_as fault_plan read_of text hub taken given → IsWhole hub given
-given_whole left lent_as fault_plan read_of text hub taken given is = record { own = is.own; lane_count = is.lane_count; part_count = is.part_count }
-
-not_write : (met : HandFault) → end_of_fault met ≢ end.WriteFault
+not_write : (met : HandFault) → stop_of_fault met ≢ stop.Write
 not_write (fault.Read s) e = absurd cc
 not_write fault.Memory e = absurd cc
 not_write (fault.Limit of) e = absurd cc
+not_write fault.Worn e = absurd cc
 
-not_disk : (met : HandFault) → end_of_fault met ≢ end.DiskFault
+not_disk : (met : HandFault) → stop_of_fault met ≢ stop.Disk
 not_disk (fault.Read s) e = absurd cc
 not_disk fault.Memory e = absurd cc
 not_disk (fault.Limit of) e = absurd cc
+not_disk fault.Worn e = absurd cc
 
-module _ {S L : Type 0} (ended : Ends) (workers : List (WorkerView S L)) (answer : Ends) (told : IsLeastOf ended workers answer) where
-  pub told_no_write : ended ≢ end.WriteFault → answer ≢ end.WriteFault
+module _ {S L : Type 0} (ended : RunResult) (workers : List (WorkerView S L)) (answer : RunResult) (told : IsLeastOf ended workers answer) where
+  pub told_no_write : ended ≢ Err stop.Write → answer ≢ Err stop.Write
   told_no_write not e = elim told.from [
     | inl same ↦ not (sym same ∙ e)
-    | inr has ↦ not_write has.so.0 (sym has.so.2 ∙ e)
+    | inr has ↦ not_write has.so.0 (err_is (stop_of_fault has.so.0) stop.Write (sym has.so.2 ∙ e))
   ]
 
-  pub told_no_disk : ended ≢ end.DiskFault → answer ≢ end.DiskFault
+  pub told_no_disk : ended ≢ Err stop.Disk → answer ≢ Err stop.Disk
   told_no_disk not e = elim told.from [
     | inl same ↦ not (sym same ∙ e)
-    | inr has ↦ not_disk has.so.0 (sym has.so.2 ∙ e)
+    | inr has ↦ not_disk has.so.0 (err_is (stop_of_fault has.so.0) stop.Disk (sym has.so.2 ∙ e))
   ]

@@ -1,23 +1,23 @@
 -- What a run of the conductor over a hub does, with other hands beside it, by the lanes that it was given and those that it hands back.
-use Rattle.std.specs.Prelude.{◌≡◌, ◌≢◌, ◌≤◌, ◌<◌, ℕ, List, [], Option, Some, length, slice_get}
-use Rattle.eql_outside.specs.Moments.{History}
+use Rattle.std.specs.Prelude.{◌≡◌, ◌≢◌, ◌≤◌, ◌<◌, ℕ, List, [], Option, Some, length, slice_get, Ok, Err}
 use Rattle.eql_outside.specs.Outside.{Rose}
-use Rattle.eql_outside.specs.Plans.{FaultPlan}
 use Rattle.eql_outside.specs.Unfailing.{IsUnfailing}
+use Rattle.eql_outside.specs.declared.disk.Disk as disks
+use Rattle.eql_outside.specs.declared.sink.Sink as sinks
+use Rattle.eql_outside.specs.declared.source.Source as sources
 use Rattle.eql_values.specs.Accepted.{Reads}
+use Rattle.eql_values.specs.declared.reader.LineReader as readers
 use Rattle.eql_laws.specs.Counting.{greatest_bytes}
 use Rattle.eql_lane.specs.declared.ops.ShardLimit.TheVariants as limit
 use Rattle.eql_lane.specs.Lanes.{IsOutOfLines, LaneState}
 use Rattle.eql_lane.specs.Views.{LaneView, setting_of}
 use Rattle.eql_parts.specs.PartSteps.{PartState, PartView}
-use Rattle.eql_book.specs.Books.{BookState}
-use Rattle.eql_conductor.specs.declared.plan.End.{End as Ends}
-use Rattle.eql_conductor.specs.declared.plan.End.TheVariants as end
-use Rattle.eql_conductor.specs.declared.plan.Keep.{Keep}
-use Rattle.eql_conductor.specs.declared.plan.RunPlan.{RunPlan}
+use Rattle.eql_conductor.specs.declared.plan.Run.{Run}
+use Rattle.eql_conductor.specs.declared.stop.Stop.{Stop}
+use Rattle.eql_conductor.specs.declared.stop.Stop.TheVariants as stop
 use Rattle.eql_conductor.specs.Benches.{ComesByFeeds, Known}
-use Rattle.eql_conductor.specs.Going.{LanesGo}
-use Rattle.eql_conductor.specs.Records.{Ran}
+use Rattle.eql_conductor.specs.Going.{LanesGo, RunResult}
+use Rattle.eql_conductor.specs.Records.{FollowsPlans, Ran}
 use Rattle.eql_conductor.specs.Runs.{EndsBy, disk_faults}
 use Rattle.eql_hub.specs.Hands.{HandView}
 use Rattle.eql_lock_bench.specs.Locked.{known_by}
@@ -25,27 +25,32 @@ use Rattle.eql_replay.specs.Listed.{bench_known, BenchView}
 use Rattle.eql_replay.specs.Opened.{AreOfTexts, LanesGoOn, LanesReadFurther, LanesReadOn}
 
 -- ---- which of several ends is told: the one with the least status
--- the order of ends by their statuses: a file can't be read, the output can't be written, the disk fails, memory runs out, a limit is reached; and last
--- that all is done
-abbrev pub rank : Ends → ℕ
-rank (end.ReadFault s) = 0
-rank end.WriteFault = 1
-rank end.DiskFault = 2
-rank end.Memory = 3
-rank (end.Limit of) = 4
-rank end.Done = 5
+-- the order of stops by their statuses: a file can't be read, the output can't be written, the disk fails, memory runs out, a limit is reached
+abbrev pub stop_rank : Stop → ℕ
+stop_rank (stop.Read s) = 0
+stop_rank stop.Write = 1
+stop_rank stop.Disk = 2
+stop_rank stop.Memory = 3
+stop_rank (stop.Limit of) = 4
+stop_rank stop.Generation = 4
+stop_rank stop.Worn = 4
+
+-- and last that all is done
+abbrev pub rank : RunResult → ℕ
+rank (Err by) = stop_rank by
+rank (Ok done) = 5
 
 -- an end that a hand can't tell, since it has neither sink nor disk
-abbrev pub IsOwn : Ends → Type 0
-IsOwn end.WriteFault = Unit {0}
-IsOwn end.DiskFault = Unit {0}
-IsOwn (end.Limit limit.Generation) = Unit {0}
-IsOwn end.Done = Unit {0}
+abbrev pub IsOwn : RunResult → Type 0
+IsOwn (Ok done) = Unit {0}
+IsOwn (Err stop.Write) = Unit {0}
+IsOwn (Err stop.Disk) = Unit {0}
+IsOwn (Err stop.Generation) = Unit {0}
 IsOwn answer = ⊥
 
 -- the conductor ended so, and this is told: it isn't later in the order, and it is the conductor's where it has the same place there, and where no
 -- hand can tell it
-pub record IsTold (ended answer : Ends) : Type 0 where
+pub record IsTold (ended answer : RunResult) : Type 0 where
   pub least : rank answer ≤ rank ended
   pub tie : rank answer ≡ rank ended → ended ≡ answer
   pub own : IsOwn answer → ended ≡ answer
@@ -72,43 +77,49 @@ bench_of lanes parts = record { pool = record { lanes = lanes; parts = parts }; 
 
 -- ---- why an end is told
 -- a file is told as failed
-abbrev pub TellsRead : Ends → Type 0
-TellsRead (end.ReadFault s) = Unit {0}
+abbrev pub TellsRead : RunResult → Type 0
+TellsRead (Err (stop.Read s)) = Unit {0}
 TellsRead answer = ⊥
 
 module _ {S L : Type 0} (read_of : L → Reads) (text : ℕ → Option (List ℕ)) (olds news : List (LaneView S L)) where
   -- why this is told, by the lanes before and after, where a hand can tell it
-  abbrev pub HasHandCause : Ends → Type 0
-  HasHandCause (end.ReadFault s) = (s < length olds) × ((old new : LaneView S L) → slice_get olds s ≡ Some old → slice_get news s ≡ Some new → Rose old.state.faults new.state.faults)
-  HasHandCause (end.Limit (limit.Lines s)) = (s < length olds) × ((old new : LaneView S L) → slice_get olds s ≡ Some old → slice_get news s ≡ Some new → IsOutOfLines (setting_of read_of (text s) old) new.state)
-  HasHandCause (end.Limit (limit.Bytes s)) = (s < length olds) × ((new : LaneView S L) → slice_get news s ≡ Some new → new.state.taken ≡ greatest_bytes)
+  abbrev pub HasHandCause : RunResult → Type 0
+  HasHandCause (Err (stop.Read s)) = (s < length olds) × ((old new : LaneView S L) → slice_get olds s ≡ Some old → slice_get news s ≡ Some new → Rose old.state.faults new.state.faults)
+  HasHandCause (Err (stop.Limit (limit.Lines s))) = (s < length olds) × ((old new : LaneView S L) → slice_get olds s ≡ Some old → slice_get news s ≡ Some new → IsOutOfLines (setting_of read_of (text s) old) new.state)
+  HasHandCause (Err (stop.Limit (limit.Bytes s))) = (s < length olds) × ((new : LaneView S L) → slice_get news s ≡ Some new → new.state.taken ≡ greatest_bytes)
   HasHandCause answer = Unit {0}
 
 -- ---- the run
-module _ {S L D : Type 0} (left lent_as : S → Option (List ℕ)) (fault_plan : S → Option FaultPlan) (read_of : L → Reads) (history : D → Option History) (count : D → ℕ)
-    (text : ℕ → Option (List ℕ)) (plan : RunPlan) (olds news : List (LaneView S L)) where
+module _ {S L K D : Type 0} (source : sources.Ghosts S) (reader : readers.Ghosts L) (output : sinks.Ghosts K) (disk : disks.Ghosts D) (text : ℕ → Option (List ℕ))
+    (olds news : List (LaneView S L)) (parts : List PartView) (sink sink' : K) where
   -- by what was known of the bench first and last: the conductor ran over the lanes and parts, and ended so; hands fed lanes and turned parts
   -- meanwhile; this is told, and these are the lanes then
-  pub record HubRan (first last : Known) (parts : List PartView) (book then : BookState) (before now : Option (List ℕ)) (sink_before sink_now : ℕ) (keep kept : Option (Keep D)) (answer : Ends) : Type 0 where
-    pub begins : IsSameBench (bench_known read_of text (bench_of olds parts)) first
-    pub ended : Ends
+  pub record HubRan (first last : Known) (run run' : Run D) (answer : RunResult) : Type 0 where
+    pub begins : IsSameBench (bench_known reader.read_of text (bench_of olds parts)) first
+    pub ended : RunResult
     pub told : IsTold ended answer
-    pub ran : Ran history count plan first last book then before now keep kept ended
-    pub cause : EndsBy ended first last sink_before sink_now (disk_faults history count keep) (disk_faults history count kept)
+    pub ran : Ran disk.history disk.fault_count run.plan first last run.book run'.book (output.written sink) (output.written sink') run.keep run'.keep ended
+    pub cause : EndsBy ended first last (output.fault_count sink) (output.fault_count sink')
+        (disk_faults disk.history disk.fault_count run.keep) (disk_faults disk.history disk.fault_count run'.keep)
     pub goes : LanesGo first last
     -- each lane comes by feeds of hands from a state that it might have at the conductor's end
     pub lanes : (s : ℕ) (new : LaneView S L) → slice_get news s ≡ Some new → (x : LaneState) × last.lane s x × ComesByFeeds (first.set s) x new.state
-    pub hand_cause : HasHandCause read_of text olds news answer
-    pub not_turns : (ended ≢ end.Limit limit.Turns) × (answer ≢ end.Limit limit.Turns)
-    pub planned : (s : ℕ) (lane : LaneView S L) → slice_get olds s ≡ Some lane → IsUnfailing (fault_plan lane.source) → (ended ≢ end.ReadFault s) × (answer ≢ end.ReadFault s)
+    pub hand_cause : HasHandCause reader.read_of text olds news answer
+    pub not_worn : (ended ≢ Err stop.Worn) × (answer ≢ Err stop.Worn)
+    pub planned : (s : ℕ) (lane : LaneView S L) → slice_get olds s ≡ Some lane → IsUnfailing (source.fault_plan lane.source)
+        → (ended ≢ Err (stop.Read s)) × (answer ≢ Err (stop.Read s))
     -- no lane's faults rose where none is told
-    pub on : LanesGoOn left lent_as fault_plan read_of (λ s. TellsRead answer → ⊥) olds news
-    pub texts : AreOfTexts left text news
-    pub read : LanesReadOn read_of text olds news
+    pub on : LanesGoOn source.left source.lent_as source.fault_plan reader.read_of (λ s. TellsRead answer → ⊥) olds news
+    pub texts : AreOfTexts source.left text news
+    pub read : LanesReadOn reader.read_of text olds news
     pub lines : LanesReadFurther text olds news
+    -- the sink and the disk go on as they are planned, and the plan of the run is as it was
+    pub follows : FollowsPlans output disk sink sink' run run' answer
+    pub plan_is : run'.plan ≡ run.plan
 
   -- so it ran, by what the first hand knew as the bench took it and as the bench gave it back
-  pub record RanBeside (parts : List PartView) (book then : BookState) (before now : Option (List ℕ)) (sink_before sink_now : ℕ) (keep kept : Option (Keep D)) (answer : Ends) : Type 0 where
+  pub record RanBeside (before now : Run D) (answer : RunResult) : Type 0 where
     pub first : HandView S L
     pub last : HandView S L
-    pub run : HubRan (known_by left lent_as fault_plan read_of text first) (known_by left lent_as fault_plan read_of text last) parts book then before now sink_before sink_now keep kept answer
+    pub run : HubRan (known_by source.left source.lent_as source.fault_plan reader.read_of text first)
+        (known_by source.left source.lent_as source.fault_plan reader.read_of text last) before now answer

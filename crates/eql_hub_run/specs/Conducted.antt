@@ -1,34 +1,41 @@
--- What the conductor's run over a bench of locks did, by the first hand as the bench took it and as it gave it back.
-use Rattle.std.specs.Prelude.{ℕ, List, Option}
-use Rattle.eql_values.specs.Accepted.{Reads}
-use Rattle.eql_outside.specs.Moments.{History}
-use Rattle.eql_outside.specs.Plans.{FaultPlan}
-use Rattle.eql_book.specs.Books.{BookState}
-use Rattle.eql_conductor.specs.declared.plan.End.{End as Ends}
-use Rattle.eql_conductor.specs.declared.plan.Keep.{Keep}
-use Rattle.eql_conductor.specs.declared.plan.RunPlan.{RunPlan}
-use Rattle.eql_conductor.specs.Going.{LanesGo}
-use Rattle.eql_conductor.specs.Records.{Ran}
-use Rattle.eql_conductor.specs.Runs.{EndsBy, MayKeepIf, MayRun, disk_faults}
-use Rattle.eql_hub.specs.Hands.{HandView, HubView, IsFirst, IsHandOf, Knows}
-use Rattle.eql_lock_bench.specs.Benched.{AreOfTexts, IsBenchHand}
-use Rattle.eql_lock_bench.specs.Locked.{known_by}
+-- With what the conductor may run over a hub: the first hand, from which those of the workers were split off.
+use Rattle.std.specs.Prelude.{◌≤◌, ℕ, List, [], ◌∷◌, Option, None, Some, All, length}
+use Rattle.eql_outside.specs.declared.disk.Disk as disks
+use Rattle.eql_outside.specs.declared.source.Source as sources
+use Rattle.eql_values.specs.declared.reader.LineReader as readers
+use Rattle.eql_turn_lock.specs.declared.view.View.{View}
+use Rattle.eql_conductor.specs.declared.plan.Run.{Run}
+use Rattle.eql_conductor.specs.Runs.{MayKeepIf, MayRun}
+use Rattle.eql_hub.specs.Hands.{HandView, HubView, IsHandOf, Knows}
+use Rattle.eql_replay.specs.Listed.{bench_known}
+use Rattle.eql_replay.specs.Opened.{AreOfTexts}
+use Rattle.eql_replay.specs.Pools.{PoolView}
+use Rattle.eql_hub_run.specs.Beside.{bench_of}
+use Rattle.eql_hub_run.specs.Gathers.{IsUnplayedHand}
+use Rattle.eql_hub_run.specs.Workers.{MayStart, WorkerView}
 
-module _ {S L D : Type 0} (left lent_as : S → Option (List ℕ)) (fault_plan : S → Option FaultPlan) (read_of : L → Reads) (history : D → Option History) (count : D → ℕ)
-    (text : ℕ → Option (List ℕ)) (hub : HubView) (plan : RunPlan) where
-  -- the conductor may begin with this hand
-  pub record MayConduct (book : BookState) (keep : Option (Keep D)) (hand : HandView S L) : Type 0 where
-    pub own : IsHandOf hub hand
-    pub first : IsFirst hand
-    pub knows : Knows left lent_as fault_plan read_of hand
-    pub texts : AreOfTexts left text hand.lanes.views
-    pub may : MayRun plan (known_by left lent_as fault_plan read_of text hand) book
-    pub keeps : MayKeepIf history count plan (known_by left lent_as fault_plan read_of text hand) keep
+-- the values of which locks were made, as their first passes tell them
+abbrev pub with_opening : {T : Type 0} → Option T → List T → List T
+with_opening None values = values
+with_opening (Some value) values = value ∷ values
 
-  -- it ran, and ended so
-  pub record Conducts (book then : BookState) (before now : Option (List ℕ)) (sink_before sink_now : ℕ) (keep kept : Option (Keep D)) (ended : Ends) (taken given : HandView S L) : Type 0 where
-    pub is : IsBenchHand left lent_as fault_plan read_of text hub taken given
-    pub ran : Ran history count plan (known_by left lent_as fault_plan read_of text taken) (known_by left lent_as fault_plan read_of text given) book then before now keep kept ended
-    pub cause : EndsBy ended (known_by left lent_as fault_plan read_of text taken) (known_by left lent_as fault_plan read_of text given) sink_before sink_now
-        (disk_faults history count keep) (disk_faults history count kept)
-    pub goes : LanesGo (known_by left lent_as fault_plan read_of text taken) (known_by left lent_as fault_plan read_of text given)
+abbrev pub openings : {T O R : Type 0} → List (View T O R) → List T
+openings [] = []
+openings (v ∷ vs) = with_opening v.opening (openings vs)
+
+-- the lanes and parts of which a hub was made, as its first hand tells them
+abbrev pub opened : {S L : Type 0} → HandView S L → PoolView S L
+opened hand = record { lanes = openings hand.lanes.views; parts = openings hand.parts.views }
+
+-- no hand of the hub has played, and a run may begin over its lanes and parts
+pub record MayConduct {S L D : Type 0} (source : sources.Ghosts S) (reader : readers.Ghosts L) (disk : disks.Ghosts D) (text : ℕ → Option (List ℕ))
+    (hub : HubView) (hand : HandView S L) (workers : List (WorkerView S L)) (run : Run D) : Type 0 where
+  pub own : IsHandOf hub hand
+  pub knows : Knows source.left source.lent_as source.fault_plan reader.read_of hand
+  pub unplayed : IsUnplayedHand (length workers) (opened hand).lanes (opened hand).parts hand
+  pub start : All (MayStart hub) workers
+  pub few : length (opened hand).lanes ≤ 256
+  pub many : length workers ≤ 65536
+  pub texts : AreOfTexts source.left text (opened hand).lanes
+  pub may : MayRun run.plan (bench_known reader.read_of text (bench_of (opened hand).lanes (opened hand).parts)) run.book
+  pub keeps : MayKeepIf disk.history disk.fault_count run.plan (bench_known reader.read_of text (bench_of (opened hand).lanes (opened hand).parts)) run.keep

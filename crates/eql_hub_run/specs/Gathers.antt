@@ -1,5 +1,5 @@
 -- How hands are split off the first one, and what it knows once they were joined into it.
-use Rattle.std.specs.Prelude.{◌≡◌, ◌⊎◌, ◌≤◌, ◌+◌, ◌^◌, ℕ, List, [], Some, All, IfSome, length, slice_get}
+use Rattle.std.specs.Prelude.{◌≡◌, ◌⊎◌, ◌≤◌, ◌+◌, ◌^◌, ℕ, List, [], Some, All, IfSome, length, slice_get, Err}
 use Rattle.std.specs.List.{count_by}
 use Rattle.eql_lane.specs.declared.ops.LaneOp.{LaneOp}
 use Rattle.eql_lane.specs.declared.ops.LaneReply.{LaneReply}
@@ -10,13 +10,14 @@ use Rattle.eql_parts.specs.PartSteps.{PartView}
 use Rattle.eql_turn_lock.specs.declared.view.Ended.{Ended}
 use Rattle.eql_turn_lock.specs.declared.view.View.{View}
 use Rattle.eql_turn_lock.specs.History.{StartsWith}
-use Rattle.eql_conductor.specs.declared.plan.End.{End as Ends}
-use Rattle.eql_conductor.specs.declared.plan.End.TheVariants as end
+use Rattle.eql_conductor.specs.declared.stop.Stop.{Stop}
+use Rattle.eql_conductor.specs.declared.stop.Stop.TheVariants as stop
+use Rattle.eql_conductor.specs.Going.{RunResult}
 use Rattle.eql_hub.specs.declared.step.HandFault.{HandFault}
 use Rattle.eql_hub.specs.declared.step.HandFault.TheVariants as fault
 use Rattle.eql_hub.specs.Hands.{HandView, LaneKnown, PartKnown}
 use Rattle.eql_lock_bench.specs.Locked.{entry_failed}
-use Rattle.eql_hub_run.specs.Beside.{rank}
+use Rattle.eql_hub_run.specs.Beside.{rank, stop_rank}
 use Rattle.eql_hub_run.specs.Workers.{Has, WorkerView}
 
 -- ---- the first hand after splits
@@ -83,16 +84,17 @@ module _ {S L : Type 0} where
       × ((k : ℕ) (worker : WorkerView S L) → slice_get workers k ≡ Some worker → (hand : HandView S L) × (slice_get hands k ≡ Some hand) × (worker.hand ≡ Some hand))
 
 -- ---- what is told
--- how a run ends by the fault of a hand
-abbrev pub end_of_fault : HandFault → Ends
-end_of_fault (fault.Read shard) = end.ReadFault shard
-end_of_fault fault.Memory = end.Memory
-end_of_fault (fault.Limit of) = end.Limit of
+-- how a run stops by the fault of a hand
+abbrev pub stop_of_fault : HandFault → Stop
+stop_of_fault (fault.Read shard) = stop.Read shard
+stop_of_fault fault.Memory = stop.Memory
+stop_of_fault (fault.Limit of) = stop.Limit of
+stop_of_fault fault.Worn = stop.Worn
 
 -- the conductor ended so, these workers met what they met, and this is told: it comes last after none of these, and is one of them; the conductor's
 -- where that has the same place in the order
-pub record IsLeastOf {S L : Type 0} (ended : Ends) (workers : List (WorkerView S L)) (answer : Ends) : Type 0 where
+pub record IsLeastOf {S L : Type 0} (ended : RunResult) (workers : List (WorkerView S L)) (answer : RunResult) : Type 0 where
   pub least : rank answer ≤ rank ended
   pub tie : rank answer ≡ rank ended → answer ≡ ended
-  pub each : All (λ (worker : WorkerView S L). IfSome worker.met (λ (met : HandFault). rank answer ≤ rank (end_of_fault met))) workers
-  pub from : (answer ≡ ended) ⊎ Has (λ (worker : WorkerView S L). (met : HandFault) × (worker.met ≡ Some met) × (answer ≡ end_of_fault met)) workers
+  pub each : All (λ (worker : WorkerView S L). IfSome worker.met (λ (met : HandFault). rank answer ≤ stop_rank (stop_of_fault met))) workers
+  pub from : (answer ≡ ended) ⊎ Has (λ (worker : WorkerView S L). (met : HandFault) × (worker.met ≡ Some met) × (answer ≡ Err (stop_of_fault met))) workers

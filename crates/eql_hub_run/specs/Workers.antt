@@ -4,8 +4,7 @@ use Rattle.std.specs.List.{count_by}
 use Rattle.eql_lane.specs.declared.ops.LaneOp.{LaneOp}
 use Rattle.eql_lane.specs.declared.ops.LaneReply.{LaneReply}
 use Rattle.eql_lane.specs.declared.ops.LaneReply.TheVariants as lane_reply
-use Rattle.eql_lane.specs.declared.ops.LimitOf.{LimitOf}
-use Rattle.eql_lane.specs.declared.ops.ShardLimit.TheVariants as limit
+use Rattle.eql_lane.specs.declared.ops.ShardLimit.{ShardLimit}
 use Rattle.eql_turn_lock.specs.declared.history.Entry.{Entry}
 use Rattle.eql_turn_lock.specs.declared.view.View.{View}
 use Rattle.eql_hub.specs.declared.step.HandFault.{HandFault}
@@ -31,7 +30,7 @@ pub record HoldsAtPlace {X : Type 0} (list : List X) (place : ℕ) (P : X → Ty
 abbrev pub IsFailure : Entry LaneOp LaneReply → Type 0
 IsFailure entry = (lines : ℕ) × (entry.reply ≡ lane_reply.Failed lines)
 
-abbrev pub IsLimit : LimitOf → Entry LaneOp LaneReply → Type 0
+abbrev pub IsLimit : ShardLimit → Entry LaneOp LaneReply → Type 0
 IsLimit of entry = entry.reply ≡ lane_reply.Limit of
 
 -- a pass met a worn word
@@ -48,14 +47,16 @@ IsNoRead None = Unit {0}
 IsNoRead (Some (fault.Read shard)) = ⊥
 IsNoRead (Some fault.Memory) = Unit {0}
 IsNoRead (Some (fault.Limit of)) = Unit {0}
+IsNoRead (Some fault.Worn) = Unit {0}
 
 module _ {S L : Type 0} where
   -- the hand met this fault: at which lane or part, and by which entry or word
   abbrev pub HandMeets : HandView S L → HandFault → Type 0
   HandMeets hand (fault.Read shard) = HoldsAtPlace hand.lanes.views shard (λ (view : LaneKnown S L). Has IsFailure view.mine)
   HandMeets hand fault.Memory = Unit {0}
-  HandMeets hand (fault.Limit of) = ((place : ℕ) × HoldsAtPlace hand.lanes.views place (λ (view : LaneKnown S L). Has (IsLimit of) view.mine))
-      ⊎ ((of ≡ limit.Turns) × (((place : ℕ) × HoldsAtPlace hand.lanes.views place (λ (view : LaneKnown S L). MeetsWorn view)) ⊎ ((place : ℕ) × HoldsAtPlace hand.parts.views place (λ (view : PartKnown). MeetsWorn view))))
+  HandMeets hand (fault.Limit of) = (place : ℕ) × HoldsAtPlace hand.lanes.views place (λ (view : LaneKnown S L). Has (IsLimit of) view.mine)
+  HandMeets hand fault.Worn = ((place : ℕ) × HoldsAtPlace hand.lanes.views place (λ (view : LaneKnown S L). MeetsWorn view))
+      ⊎ ((place : ℕ) × HoldsAtPlace hand.parts.views place (λ (view : PartKnown). MeetsWorn view))
 
   -- a hand that began with no entries of its own ran, and met this fault or none
   pub record HandDid (met : Option HandFault) (hand : HandView S L) : Type 0 where

@@ -2,54 +2,57 @@
 ghost use Rattle.std.specs.Prelude.{◌≡◌, All, List};
 ghost use Rattle.eql_hub.specs.Hands.{HandView, IsFirst};
 ghost use Rattle.eql_hub_run.specs.Beside.{rank};
-ghost use Rattle.eql_hub_run.specs.Gathers.{GathersHands, HandsAre, IsLeastOf, end_of_fault};
+ghost use Rattle.eql_hub_run.specs.Gathers.{GathersHands, HandsAre, IsLeastOf, stop_of_fault};
 ghost use Rattle.eql_hub_run.specs.Workers.{HasPlayed, IsNoRead, IsWhole};
 
 use crate::workers::Worker;
-use eql_conductor::End;
+use eql_conductor::Stop;
 use eql_hub::{Hand, HandFault, Hub};
 use eql_outside::Source;
 use eql_values::LineReader;
 use std::sync::ledger::Ledger;
 
 // The order of ends by their statuses, the one that is told first at 0.
-fn order_of(end: End) -> u32
+fn order_of(end: Result<(), Stop>) -> u32
     ensures { result ≡ rank end }
 {
     match end {
-        End::ReadFault { shard: _ } => 0,
-        End::WriteFault => 1,
-        End::DiskFault => 2,
-        End::Memory => 3,
-        End::Limit(_) => 4,
-        End::Done => 5,
+        Err(Stop::Read { shard: _ }) => 0,
+        Err(Stop::Write) => 1,
+        Err(Stop::Disk) => 2,
+        Err(Stop::Memory) => 3,
+        Err(Stop::Limit(_)) => 4,
+        Err(Stop::Generation) => 4,
+        Err(Stop::Worn) => 4,
+        Ok(()) => 5,
     }
 }
 
-// How a run ends by the fault of a hand.
-fn end_of(met: HandFault) -> End
-    ensures { result ≡ end_of_fault met }
+// How a run stops by the fault of a hand.
+fn stop_of(met: HandFault) -> Stop
+    ensures { result ≡ stop_of_fault met }
 {
     match met {
-        HandFault::Read { shard } => End::ReadFault { shard },
-        HandFault::Memory => End::Memory,
-        HandFault::Limit(of) => End::Limit(of),
+        HandFault::Read { shard } => Stop::Read { shard },
+        HandFault::Memory => Stop::Memory,
+        HandFault::Limit(of) => Stop::Limit(of),
+        HandFault::Worn => Stop::Worn,
     }
 }
 
 /// What is told: how the conductor ended, or the first fault of a hand that comes before that in the order of statuses.
 pub(crate) fn told<S: Source, L: LineReader, G: Ledger>(
-    ended: End,
+    ended: Result<(), Stop>,
     workers: &[Worker<S, L, G>],
-) -> End
+) -> Result<(), Stop>
     ensures { IsLeastOf ended workers.now result }
 {
     let mut answer = ended;
     for worker in workers {
         if let Some(met) = worker.met {
-            let other = end_of(met);
-            if order_of(other) < order_of(answer) {
-                answer = other;
+            let by = stop_of(met);
+            if order_of(Err(by)) < order_of(answer) {
+                answer = Err(by);
             }
         }
     }

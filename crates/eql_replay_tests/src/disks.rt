@@ -5,7 +5,7 @@ ghost use Rattle.eql_ckdisk.specs.Putting.{Stands, last_cut};
 
 use crate::starting::{Way, run_fresh, run_from};
 use eql_ckdisk::{CkRefused, CkState, Recovered, recover};
-use eql_conductor::{End, Keep};
+use eql_conductor::{Keep, Stop};
 use eql_cut::Cut;
 use eql_outside::{Disk, MemDisk, MemSink};
 use eql_replay::Foreigns;
@@ -17,7 +17,7 @@ use std::test::Fail;
 #[derive(Drop)]
 pub(crate) struct Ended {
     pub(crate) listed: u64,
-    pub(crate) end: End,
+    pub(crate) end: Result<(), Stop>,
     pub(crate) disk: MemDisk,
 }
 
@@ -81,7 +81,7 @@ pub(crate) fn go_on(
         }
         Err(CkRefused::DiskFault) => Ok(Ended {
             listed: 0,
-            end: End::DiskFault,
+            end: Err(Stop::Disk),
             disk,
         }),
         Err(_) => Err(Fail::new("nothing is recovered")),

@@ -10,7 +10,7 @@ use crate::random::{Split, log_of, plays_of, split_by};
 use crate::starting::Way;
 use crate::worked::{ELEVEN, LISTED, starts};
 use eql_ckdisk::recover;
-use eql_conductor::End;
+use eql_conductor::Stop;
 use eql_outside::{MemDisk, MemSink};
 use eql_replay::Foreigns;
 use eql_stages::Plan;
@@ -134,7 +134,7 @@ fn check_rest<R: Abort>(
     for (choice, batch) in [(0, 1), (1, 7), (5, 1)] {
         let areas = stopped.ended.disk.crashed(alloc, choice)?;
         let rest = run(alloc, search, batch, every, areas, NONE)?;
-        assert!(rt; rest.ended.end == End::Done);
+        assert!(rt; rest.ended.end.is_ok());
         let listed = rest.ended.listed;
         let whole = joined(alloc, front, listed, rest.listing.as_str())?;
         assert!(rt;
@@ -154,12 +154,12 @@ fn check_fault<R: Abort>(
     faults: Faults,
 ) -> Result<bool, Fail> {
     let ran = run(alloc, search, 1, every, empty(alloc), faults)?;
-    if ran.ended.end == End::Done {
+    if ran.ended.end.is_ok() {
         assert_eq!(rt; ran.listing.as_str(), search.listing.as_str());
         return Ok(true);
     }
     let is_cause = match (faults.disk, ran.ended.end) {
-        (Some(_), End::DiskFault) | (None, End::WriteFault) => true,
+        (Some(_), Err(Stop::Disk)) | (None, Err(Stop::Write)) => true,
         _ => false,
     };
     assert!(rt; is_cause);
@@ -262,7 +262,7 @@ fn cuts_are_put_when_they_are_due(rt: HostRuntime) -> Result<(), Fail> {
     let alloc = rt.alloc();
     let search = reference(alloc)?;
     let ran = run(alloc, &search, 1, 5, empty(alloc), NONE)?;
-    assert!(rt; ran.ended.end == End::Done);
+    assert!(rt; ran.ended.end.is_ok());
     assert_eq!(rt; ran.listing.as_str(), LISTED);
     let (a, b) = ran.ended.disk.crashed(alloc, 0)?;
     let mut disk = MemDisk::new(alloc, a, b, Vec::new(alloc), None)?;
@@ -275,7 +275,7 @@ fn cuts_are_put_when_they_are_due(rt: HostRuntime) -> Result<(), Fail> {
     assert_eq!(rt; lane.offset, 1015);
     let areas = ran.ended.disk.crashed(alloc, 0)?;
     let rest = run(alloc, &search, 7, 5, areas, NONE)?;
-    assert!(rt; rest.ended.end == End::Done);
+    assert!(rt; rest.ended.end.is_ok());
     assert_eq!(rt; rest.listing.as_str(), "2 [\"elkbee\"] 0:6 0:8 0:10\n");
     let none = run(alloc, &search, 1, 100, empty(alloc), NONE)?;
     assert_eq!(rt; none.listing.as_str(), LISTED);

@@ -1,6 +1,6 @@
 //! What a run without cuts lists.
 use crate::starting::{Way, run_fresh};
-use eql_conductor::{End, Keep};
+use eql_conductor::Keep;
 use eql_outside::{MemDisk, MemSink};
 use eql_replay::Foreigns;
 use eql_stages::Plan;
@@ -39,6 +39,6 @@ pub(crate) fn list(
     let end = run_fresh(alloc, plan, texts, way, plays, &mut sink, &mut keep)?;
     Ok(Listed {
         listing: written(alloc, &sink)?,
-        is_done: end == End::Done,
+        is_done: end.is_ok(),
     })
 }

@@ -3,7 +3,6 @@ use crate::listed::written;
 use crate::plans::{REFERENCE, plan_of};
 use crate::scribe::run_noted;
 use crate::worked::starts;
-use eql_conductor::End;
 use eql_outside::MemSink;
 use std::alloc::{AllocError, Global};
 use std::fmt::Write;
@@ -77,7 +76,7 @@ fn three_rounds_are_played_so(rt: HostRuntime) -> Result<(), Fail> {
     let mut sink = MemSink::new(alloc, Vec::new(alloc));
     let plan = plan_of(alloc, REFERENCE)?;
     let noted = run_noted(alloc, &plan, &texts, 2, Vec::new(alloc), &mut sink)?;
-    assert!(rt; noted.end == End::Done);
+    assert!(rt; noted.end.is_ok());
     assert_eq!(rt; noted.lanes.as_str(), LANES_PLAYED);
     assert_eq!(rt; noted.parts.as_str(), parts.as_str());
     let listing = written(alloc, &sink)?;

@@ -11,7 +11,7 @@ use crate::opening::MemLane;
 use crate::parts::{PARTS, Sought, make_parts};
 use eql_auto::Steps;
 use eql_book::Book;
-use eql_conductor::{End, Keep, RunPlan, cut_runs_begin, cuts_may_begin, fresh_runs_begin};
+use eql_conductor::{Keep, RunPlan, Stop, cut_runs_begin, cuts_may_begin, fresh_runs_begin};
 use eql_lane::Lane;
 use eql_outside::{Disk, MemDisk, MemSink, MemSource};
 use eql_replay::{Foreign, Foreigns, ListBench, Opening, replay};
@@ -119,7 +119,7 @@ fn replay_over<L: LineReader + Drop, G: Ledger, T: Opening<MemSource, L>>(
     book: &mut Book,
     sink: &mut MemSink,
     keep: &mut Option<Keep<MemDisk>>,
-) -> Result<End, Fail>
+) -> Result<Result<(), Stop>, Fail>
     requires ledger { (blank.name ≡ G.name) × (blank.parts ≡ G.parts) × (0 < G.parts) }
     requires opening { (lanes.items ≡ T.lanes) × (plays.items ≡ T.plays) }
     requires untold { (s : ℕ) → T.text s ≡ None }
@@ -146,7 +146,7 @@ pub(crate) fn run_over(
     book: &mut Book,
     sink: &mut MemSink,
     keep: &mut Option<Keep<MemDisk>>,
-) -> Result<End, Fail>
+) -> Result<Result<(), Stop>, Fail>
     requires starts { let rules : Rules = record { stages = sought.stages; span = sought.span }
         in Starts plan.now rules lanes.items holders.now book.old }
     requires whole { book.old.whole ≡ true }

@@ -9,7 +9,7 @@ use crate::running::open_bench;
 use crate::starting::{fresh_book, head_of, sought_by};
 use eql_book::Book;
 use eql_ckdisk::recover;
-use eql_conductor::{Bench, Conductor, End, Keep, NotPlayed, RunPlan};
+use eql_conductor::{Bench, Conductor, Keep, NotPlayed, RunPlan, Stop};
 use eql_lane::{Lane, LaneOp, LaneReply};
 use eql_outside::{Disk, MemDisk, MemSink, MemSource};
 use eql_parts::{PartOp, PartReply};
@@ -140,7 +140,7 @@ impl<B: Bench> Bench for Scribe<B> {
 /// How a run ended, and what was played on lanes and on parts.
 #[derive(Drop)]
 pub(crate) struct Noted {
-    pub(crate) end: End,
+    pub(crate) end: Result<(), Stop>,
     pub(crate) lanes: String,
     pub(crate) parts: String,
 }

@@ -10,7 +10,7 @@ use crate::opening::{fresh_lanes, lanes_from};
 use crate::parts::Sought;
 use crate::running::run_over;
 use eql_book::Book;
-use eql_conductor::{End, Keep, RunPlan, cuts_may_begin};
+use eql_conductor::{Keep, RunPlan, Stop, cuts_may_begin};
 use eql_cut::{Cut, CutHead, fits};
 use eql_outside::{Disk, MemDisk, MemSink};
 use eql_replay::Foreigns;
@@ -89,7 +89,7 @@ pub(crate) fn run_fresh(
     plays: Vec<Foreigns>,
     sink: &mut MemSink,
     keep: &mut Option<Keep<MemDisk>>,
-) -> Result<End, Fail>
+) -> Result<Result<(), Stop>, Fail>
     requires keeps { MayKeepBy ⟦<MemDisk as Disk>⟧.history way.every keep.old }
 {
     if !is_slack(way.slack) {
@@ -127,7 +127,7 @@ pub(crate) fn run_from(
     cut: Cut,
     sink: &mut MemSink,
     keep: &mut Option<Keep<MemDisk>>,
-) -> Result<End, Fail>
+) -> Result<Result<(), Stop>, Fail>
     requires cut { IsCut cut }
     requires keeps { MayKeepBy ⟦<MemDisk as Disk>⟧.history way.every keep.old }
 {

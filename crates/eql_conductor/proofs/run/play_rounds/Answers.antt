@@ -1,11 +1,10 @@
 use Rattle.std.proofs.Common.{◌+◌, None, Some, suc, add-one, arith, refl, ◌∙◌}
 use Rattle.std.proofs.lemmas.Result.{err_from_is_err_and}
 use Rattle.eql_values.specs.declared.order.Mark.TheVariants.{End}
-use Rattle.eql_conductor.specs.Running.{end_by}
 use Rattle.eql_conductor.specs.Runs.{disk_faults}
 use Rattle.eql_conductor.proofs.Onward.{lanes_go_on, lanes_go_self, went_on, went_self}
 use Rattle.eql_conductor.proofs.Goings.{at_mark_goes}
-use Rattle.eql_conductor.proofs.Causes.{ends_on}
+use Rattle.eql_conductor.proofs.Causes.{stops_for_on}
 use Rattle.eql_conductor.specs.RunNotes.{place}
 use Rattle.eql_conductor.proofs.BoundsSpent.{rounds_more, rounds_none, rounds_stay}
 use Rattle.eql_conductor.proofs.Cutting.{keep_stands_on}
@@ -41,8 +40,8 @@ play_and_keep-requires-clause-stands g c =
     keep_stands_on g.D.Disk.history g.D.Disk.fault_count c.args.plan.now (g.B.Bench.known c.args.bench.now) (g.B.Bench.known c.loop-round.bench) c.loop-round.invariant.ran.cuts c.args.keep.now c.loop-round.keep c.loop-round.invariant.goes.same
     (may_keep g.D.Disk.history g.D.Disk.fault_count c.args.plan.now (g.B.Bench.known c.args.bench.now) c.args.keep.now c.requires.keeps) c.loop-round.invariant.ran.puts
 
-pub returns-in_err-mark-clause-ended : goal.returns-in_err-mark-clause-ended
-returns-in_err-mark-clause-ended g c =
+pub returns-in_err-mark-clause-stopped : goal.returns-in_err-mark-clause-stopped
+returns-in_err-mark-clause-stopped g c =
     let p = err_from_is_err_and c.from_residual.result c.from_residual.ensures.1 in
     rw (p.1, p.2)
     (ran_stops g.D.Disk.history g.D.Disk.fault_count c.args.plan.now (place c.loop-round.last c.loop-round.count) c.loop-round.round (g.B.Bench.known c.args.bench.now) (g.B.Bench.known c.loop-round.bench) (g.B.Bench.known c.play_and_keep.new.bench)
@@ -54,10 +53,10 @@ pub returns-in_err-mark-clause-cause : goal.returns-in_err-mark-clause-cause
 returns-in_err-mark-clause-cause g c =
     let p = err_from_is_err_and c.from_residual.result c.from_residual.ensures.1 in
     rw (p.1, p.2)
-    (ends_on (g.B.Bench.known c.args.bench.now) (g.B.Bench.known c.loop-round.bench) (g.B.Bench.known c.play_and_keep.new.bench)
+    (stops_for_on (g.B.Bench.known c.args.bench.now) (g.B.Bench.known c.loop-round.bench) (g.B.Bench.known c.play_and_keep.new.bench)
     (g.K.Sink.fault_count c.args.sink.now) (g.K.Sink.fault_count c.loop-round.sink) (g.K.Sink.fault_count c.play_and_keep.new.sink)
     (disk_faults g.D.Disk.history g.D.Disk.fault_count c.args.keep.now) (disk_faults g.D.Disk.history g.D.Disk.fault_count c.loop-round.keep) (disk_faults g.D.Disk.history g.D.Disk.fault_count c.play_and_keep.new.keep)
-    c.loop-round.invariant.goes c.loop-round.invariant.went c.loop-round.invariant.sink c.loop-round.invariant.disk (end_by c.in_err-mark.field-0.0) c.in_err-mark.ensures.cause)
+    c.loop-round.invariant.goes c.loop-round.invariant.went c.loop-round.invariant.sink c.loop-round.invariant.disk c.in_err-mark.field-0.0 c.in_err-mark.ensures.cause)
 
 pub returns-in_err-mark-clause-goes : goal.returns-in_err-mark-clause-goes
 returns-in_err-mark-clause-goes g c =

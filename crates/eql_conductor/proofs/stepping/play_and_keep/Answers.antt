@@ -1,11 +1,10 @@
 use Rattle.std.proofs.Common.{◌+◌, Err, Some, add-one, refl, ap}
 use Rattle.std.proofs.lemmas.Result.{err_from_is_err_and}
-use Rattle.eql_conductor.specs.Running.{end_by}
 use Rattle.eql_conductor.specs.Runs.{disk_faults}
-use Rattle.eql_conductor.specs.declared.stop.Stop.TheVariants.{Disk}
+use Rattle.eql_conductor.specs.declared.stop.Stop.TheVariants.{Disk, Write}
 use Rattle.eql_conductor.proofs.Onward.{lanes_go_on}
 use Rattle.eql_conductor.proofs.Goings.{at_mark_goes}
-use Rattle.eql_conductor.proofs.Causes.{cut_ends, ends_on, err_is, not_full, round_not_disk}
+use Rattle.eql_conductor.proofs.Causes.{cut_ends, err_is, not_full, round_ends, round_not_disk, stops_for_on}
 use Rattle.eql_conductor.specs.RunNotes.{place}
 use Rattle.eql_conductor.proofs.BoundsSpent.{round_stays}
 use Rattle.eql_conductor.proofs.Cutting.{stands_on}
@@ -20,6 +19,16 @@ returns-in_err-play_round-clause-stopped g c =
     c.args.book.now c.play_round.new.book (g.K.Sink.written c.args.sink.now) (g.K.Sink.written c.play_round.new.sink) c.args.keep.now c.play_round.ensures.goes c.in_err-play_round.field-0.0
     c.requires.at c.fits.ensures c.in_err-play_round.ensures.broken c.in_err-play_round.ensures.broken_notes
     (not_full c.in_err-play_round.field-0.0 (g.B.Bench.known c.args.bench.now) (g.B.Bench.known c.play_round.new.bench) c.in_err-play_round.ensures.stops) c.requires.stands)
+
+pub returns-in_err-play_round-clause-cause : goal.returns-in_err-play_round-clause-cause
+returns-in_err-play_round-clause-cause g c =
+    let p = err_from_is_err_and c.from_residual.result c.from_residual.ensures.1 in
+    let by = c.in_err-play_round.field-0.0 in
+    let disk = disk_faults g.D.Disk.history g.D.Disk.fault_count c.args.keep.now in
+    rw (p.1, p.2)
+    (round_ends (g.B.Bench.known c.args.bench.now) (g.B.Bench.known c.play_round.new.bench) (g.K.Sink.fault_count c.args.sink.now) (g.K.Sink.fault_count c.play_round.new.sink) disk disk
+    by c.in_err-play_round.ensures.stops
+    (λ e. c.in_err-play_round.ensures.cause (ap Err e)) (λ apart. c.in_err-play_round.ensures.steady (λ e. apart (err_is by Write e))) c.play_round.ensures.counts refl)
 
 pub returns-in_err-play_round-clause-unfailing_disk : goal.returns-in_err-play_round-clause-unfailing_disk
 returns-in_err-play_round-clause-unfailing_disk g c =
@@ -62,8 +71,8 @@ returns-in_err-keep_cut-in-Some-clause-cause g c =
     let disk_before = disk_faults g.D.Disk.history g.D.Disk.fault_count c.args.keep.now in
     let disk_now = disk_faults g.D.Disk.history g.D.Disk.fault_count c.keep_cut.new.keep in
     rw (p.1, p.2)
-    (ends_on (g.B.Bench.known c.args.bench.now) (g.B.Bench.known c.play_round.new.bench) (g.B.Bench.known c.keep_cut.new.bench) sink_before sink_now sink_now disk_before disk_before disk_now
-    c.play_round.ensures.goes c.in_ok-play_round.ensures.went (c.in_ok-play_round.ensures.steady (λ e. cc)) refl (end_by by)
+    (stops_for_on (g.B.Bench.known c.args.bench.now) (g.B.Bench.known c.play_round.new.bench) (g.B.Bench.known c.keep_cut.new.bench) sink_before sink_now sink_now disk_before disk_before disk_now
+    c.play_round.ensures.goes c.in_ok-play_round.ensures.went (c.in_ok-play_round.ensures.steady (λ e. cc)) refl by
     (cut_ends (g.B.Bench.known c.play_round.new.bench) (g.B.Bench.known c.keep_cut.new.bench) sink_now sink_now disk_before disk_now by c.in_err-keep_cut-in-Some.ensures.stops
     (λ e. c.in_err-keep_cut-in-Some.ensures.cause (ap Err e)) (λ apart. c.in_err-keep_cut-in-Some.ensures.steady (λ e. apart (err_is by Disk e))) c.keep_cut.ensures.counts refl))
 
