@@ -31,7 +31,7 @@ use Rattle.eql_inputs.specs.declared.error.Refused.TheVariants as refused
 use Rattle.eql_inputs.specs.declared.error.InputError.{InputError}
 use Rattle.eql_inputs.specs.declared.error.InputError.TheVariants as error
 use Rattle.eql_inputs.specs.Fronts.{IsFrontOf, IsMissing}
-use Rattle.eql_inputs.specs.Errors.{HasInputCause, FaultsFollow, CountFollows, AbsencesFollow}
+use Rattle.eql_inputs.specs.Errors.{HasInputCause, FaultsFollow, CountFollows, AbsencesFollow, IsNoFault}
 use Rattle.eql_inputs.specs.Steps.{naming, GotQuery, GotMapping, GotChecked, HasQueryCause, HasMappingCause, HasCheckCause, StopsReading, IsQueryText, StopsSpelling, StopsParsing, StopsQuery, error_of_map, StopsMapping, error_of_check, StopsChecking}
 
 -- a front that is shorter than it may be is the whole text
@@ -314,6 +314,15 @@ calm_absence (error.Refused (refused.Mapping r)) a b calm same = same
 calm_absence (error.Refused (refused.Broken r)) a b calm same = same
 calm_absence (error.Read n) a b calm same = absurd calm
 calm_absence error.Memory a b calm same = same
+
+calm_no_fault : (h : InputError) → IsOfText h → IsNoFault h
+calm_no_fault (error.Refused r) calm = tt
+calm_no_fault (error.Read n) calm = absurd calm
+calm_no_fault error.Memory calm = tt
+
+pub text_no_fault : {T : Type 0} (r : Result T InputError) → IfErr r IsOfText → IfErr r IsNoFault
+text_no_fault (Ok x) calm = tt
+text_no_fault (Err h) calm = calm_no_fault h calm
 
 pub text_faults : {T : Type 0} (r : Result T InputError) (a b : List ℕ → ℕ) → IfErr r IsOfText → FaultsAreSame a b
     → MatchResult r (λ _. FaultsAreSame a b) (λ h. FaultsFollow h a b)

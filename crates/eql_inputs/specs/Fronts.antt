@@ -1,6 +1,10 @@
 -- What is read of a file: its first bytes.
-use Rattle.std.specs.Prelude.{◌≡◌, ◌≤◌, ◌++◌, ℕ, List, [], take, drop, length, Option, Some, None, IfSome}
+use Rattle.std.specs.Prelude.{◌≡◌, ◌≢◌, ◌≤◌, ◌<◌, ◌++◌, ℕ, List, [], take, drop, length, Option, Some, None, IfSome, Result, Err}
 use Rattle.eql_outside.specs.Outside.{file_named}
+use Rattle.eql_outside.specs.Unfailing.{IsUnfailing}
+use Rattle.eql_outside.specs.declared.refused.OutRefused.{OutRefused}
+use Rattle.eql_outside.specs.declared.refused.OutRefused.TheVariants as refused
+use Rattle.eql_outside.specs.declared.source.Source as sources
 use Rattle.eql_runs.specs.Files.{Files}
 
 -- the bytes are the first of the file of this name, as many of them as are kept at most
@@ -30,6 +34,15 @@ pub record TookOf (all : List ℕ) (most : ℕ) (left : Option (List ℕ)) : Typ
 -- the same, where the source tells
 abbrev pub TakesAtMost : ℕ → (left left_now : Option (List ℕ)) → Type 0
 TakesAtMost most left left_now = IfSome left (λ all. TookOf all most left_now)
+
+-- a call took of a source so many bytes at most, and returned that it failed where it did. The source keeps its name, and
+-- where no take of it fails it goes on so
+pub record ReadsSource {A S : Type 0} (source : sources.Ghosts S) (most : ℕ) (old new : S) (answer : Result A OutRefused) : Type 0 where
+  pub takes : TakesAtMost most (source.left old) (source.left new)
+  pub failed : answer ≡ Err refused.Failed → 0 < source.fault_count new
+  pub steady : answer ≢ Err refused.Failed → source.fault_count new ≡ source.fault_count old
+  pub named : source.lent_as new ≡ source.lent_as old
+  pub unfailing : IsUnfailing (source.fault_plan old) → (answer ≢ Err refused.Failed) × IsUnfailing (source.fault_plan new)
 
 -- the next n bytes of a source were put at the end of a text
 pub record HasTaken (all : List ℕ) (left : Option (List ℕ)) (before after : List ℕ) : Type 0 where

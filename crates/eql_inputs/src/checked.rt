@@ -1,12 +1,10 @@
 //! The query and the mapping of a command, read and checked.
-ghost use Rattle.std.specs.Prelude.{◌≡◌, ◌≤◌, IfOk, IfErr, MatchResult};
-ghost use Rattle.eql_outside.specs.Faults.{FaultsAreSame};
+ghost use Rattle.std.specs.Prelude.{◌≡◌, IfOk, IfErr};
 ghost use Rattle.eql_query.specs.QueryTree.{query_tree};
 ghost use Rattle.eql_check.specs.Kinds.{kind_at};
 ghost use Rattle.eql_check.specs.Typing.{IsChecked};
 ghost use Rattle.eql_check.specs.Used.{used_fields};
-ghost use Rattle.eql_inputs.specs.Errors.{FaultsFollow, CountFollows, AbsencesFollow, IsNoFault};
-ghost use Rattle.eql_inputs.specs.Shelves.{KeepsShelf, LendsAsMany, NeverFails};
+ghost use Rattle.eql_inputs.specs.Shelves.{ReadsShelf};
 ghost use Rattle.eql_inputs.specs.Steps.{GotQuery, GotMapping, GotChecked, HasQueryCause, HasMappingCause, HasCheckCause, StopsChecking};
 
 use crate::error::InputError;
@@ -42,23 +40,7 @@ fn read_query<'a, H: Shelf>(
     ensures query { IfOk result
         (λ tree. GotQuery query.now (H.files shelf.old) (query_tree tree)) }
     ensures cause { IfErr result (HasQueryCause query.now (H.files shelf.old)) }
-    ensures faults { MatchResult result
-        (λ _. FaultsAreSame (H.faults_of shelf.old) (H.faults_of shelf.new))
-        (λ error. FaultsFollow error (H.faults_of shelf.old) (H.faults_of shelf.new)) }
-    ensures count { MatchResult result
-        (λ _. H.fault_count shelf.new ≡ H.fault_count shelf.old)
-        (λ error. CountFollows error (H.fault_count shelf.old) (H.fault_count shelf.new)) }
-    ensures absences { MatchResult result
-        (λ _. H.absent_count shelf.new ≡ H.absent_count shelf.old)
-        (λ error. AbsencesFollow error (H.absent_count shelf.old) (H.absent_count shelf.new)) }
-    ensures counts { (H.fault_count shelf.old ≤ H.fault_count shelf.new)
-        × (H.absent_count shelf.old ≤ H.absent_count shelf.new) }
-    ensures kept { KeepsShelf H.files H.source_plans H.disk_history H.is_out H.disk_fault_count
-        H.disk_plan shelf.old shelf.new }
-    ensures lent { LendsAsMany (H.lent_count shelf.old) (H.lent_count shelf.new) }
-    ensures unfailing { NeverFails (H.fault_plan shelf.old) (H.source_plans shelf.old)
-        → IfErr result IsNoFault
-        × NeverFails (H.fault_plan shelf.new) (H.source_plans shelf.new) }
+    ensures shelf { ReadsShelf H.Shelf shelf.old shelf.new result }
 {
     let text = read_file(alloc, query, shelf, QUERY_BYTES)?;
     query_in(alloc, text.as_slice())
@@ -73,23 +55,7 @@ fn read_mapping<'a, H: Shelf>(
     ensures mapping { IfOk result
         (λ mapping. GotMapping fields.now (H.files shelf.old) mapping) }
     ensures cause { IfErr result (HasMappingCause fields.now (H.files shelf.old)) }
-    ensures faults { MatchResult result
-        (λ _. FaultsAreSame (H.faults_of shelf.old) (H.faults_of shelf.new))
-        (λ error. FaultsFollow error (H.faults_of shelf.old) (H.faults_of shelf.new)) }
-    ensures count { MatchResult result
-        (λ _. H.fault_count shelf.new ≡ H.fault_count shelf.old)
-        (λ error. CountFollows error (H.fault_count shelf.old) (H.fault_count shelf.new)) }
-    ensures absences { MatchResult result
-        (λ _. H.absent_count shelf.new ≡ H.absent_count shelf.old)
-        (λ error. AbsencesFollow error (H.absent_count shelf.old) (H.absent_count shelf.new)) }
-    ensures counts { (H.fault_count shelf.old ≤ H.fault_count shelf.new)
-        × (H.absent_count shelf.old ≤ H.absent_count shelf.new) }
-    ensures kept { KeepsShelf H.files H.source_plans H.disk_history H.is_out H.disk_fault_count
-        H.disk_plan shelf.old shelf.new }
-    ensures lent { LendsAsMany (H.lent_count shelf.old) (H.lent_count shelf.new) }
-    ensures unfailing { NeverFails (H.fault_plan shelf.old) (H.source_plans shelf.old)
-        → IfErr result IsNoFault
-        × NeverFails (H.fault_plan shelf.new) (H.source_plans shelf.new) }
+    ensures shelf { ReadsShelf H.Shelf shelf.old shelf.new result }
 {
     let text = read_file(alloc, fields, shelf, MAPPING_BYTES)?;
     mapping_of(alloc, text.as_slice())
@@ -129,23 +95,7 @@ pub fn read_checked<'a, H: Shelf>(
     ensures fields { IfOk result (λ inputs. inputs.checked.fields
         ≡ used_fields (kind_at inputs.mapping) (query_tree inputs.checked.query)) }
     ensures cause { IfErr result (HasCheckCause query.now fields.now (H.files shelf.old)) }
-    ensures faults { MatchResult result
-        (λ _. FaultsAreSame (H.faults_of shelf.old) (H.faults_of shelf.new))
-        (λ error. FaultsFollow error (H.faults_of shelf.old) (H.faults_of shelf.new)) }
-    ensures count { MatchResult result
-        (λ _. H.fault_count shelf.new ≡ H.fault_count shelf.old)
-        (λ error. CountFollows error (H.fault_count shelf.old) (H.fault_count shelf.new)) }
-    ensures absences { MatchResult result
-        (λ _. H.absent_count shelf.new ≡ H.absent_count shelf.old)
-        (λ error. AbsencesFollow error (H.absent_count shelf.old) (H.absent_count shelf.new)) }
-    ensures counts { (H.fault_count shelf.old ≤ H.fault_count shelf.new)
-        × (H.absent_count shelf.old ≤ H.absent_count shelf.new) }
-    ensures kept { KeepsShelf H.files H.source_plans H.disk_history H.is_out H.disk_fault_count
-        H.disk_plan shelf.old shelf.new }
-    ensures lent { LendsAsMany (H.lent_count shelf.old) (H.lent_count shelf.new) }
-    ensures unfailing { NeverFails (H.fault_plan shelf.old) (H.source_plans shelf.old)
-        → IfErr result IsNoFault
-        × NeverFails (H.fault_plan shelf.new) (H.source_plans shelf.new) }
+    ensures shelf { ReadsShelf H.Shelf shelf.old shelf.new result }
 {
     let tree = read_query(alloc, query, shelf)?;
     let mapping = read_mapping(alloc, fields, shelf)?;

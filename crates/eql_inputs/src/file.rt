@@ -1,11 +1,9 @@
 //! Reading a file of the shelf, up to a number of bytes.
-ghost use Rattle.std.specs.Prelude.{◌≡◌, ◌≤◌, ◌<◌, IfOk, IfErr, MatchResult, length, string_bytes};
-ghost use Rattle.eql_outside.specs.Faults.{FaultsAreSame};
+ghost use Rattle.std.specs.Prelude.{◌≡◌, ◌≤◌, ◌<◌, IfOk, IfErr, length, string_bytes};
 ghost use Rattle.eql_outside.specs.Unfailing.{IsUnfailing};
 ghost use Rattle.eql_inputs.specs.Fronts.{IsFrontOf, IsMissing};
-ghost use Rattle.eql_inputs.specs.Errors.{FaultsFollow, CountFollows, AbsencesFollow, IsNoFault};
 ghost use Rattle.eql_inputs.specs.Shards.{IsWholeFile};
-ghost use Rattle.eql_inputs.specs.Shelves.{KeepsShelf, LendsAsMany, LendsMore, NeverFails};
+ghost use Rattle.eql_inputs.specs.Shelves.{OpensShelf, ReadsShelf};
 ghost use Rattle.eql_inputs.specs.Steps.{StopsReading};
 
 use crate::error::{InputError, Refused};
@@ -26,25 +24,8 @@ pub(crate) fn open_file<'a, H: Shelf>(
     ensures named { IfOk result (λ source. H.Src.lent_as source ≡ Some name.now) }
     ensures cause { IfErr result
         (StopsReading name.now (IsMissing name.now (H.files shelf.old))) }
-    ensures faults { MatchResult result
-        (λ _. FaultsAreSame (H.faults_of shelf.old) (H.faults_of shelf.new))
-        (λ error. FaultsFollow error (H.faults_of shelf.old) (H.faults_of shelf.new)) }
-    ensures count { MatchResult result
-        (λ _. H.fault_count shelf.new ≡ H.fault_count shelf.old)
-        (λ error. CountFollows error (H.fault_count shelf.old) (H.fault_count shelf.new)) }
-    ensures absences { MatchResult result
-        (λ _. H.absent_count shelf.new ≡ H.absent_count shelf.old)
-        (λ error. AbsencesFollow error (H.absent_count shelf.old) (H.absent_count shelf.new)) }
-    ensures counts { (H.fault_count shelf.old ≤ H.fault_count shelf.new)
-        × (H.absent_count shelf.old ≤ H.absent_count shelf.new) }
-    ensures kept { KeepsShelf H.files H.source_plans H.disk_history H.is_out H.disk_fault_count
-        H.disk_plan shelf.old shelf.new }
-    ensures lent { MatchResult result
-        (λ _. LendsMore 1 (H.lent_count shelf.old) (H.lent_count shelf.new))
-        (λ _. LendsAsMany (H.lent_count shelf.old) (H.lent_count shelf.new)) }
-    ensures unfailing { NeverFails (H.fault_plan shelf.old) (H.source_plans shelf.old)
-        → MatchResult result (λ source. IsUnfailing (H.Src.fault_plan source)) IsNoFault
-        × NeverFails (H.fault_plan shelf.new) (H.source_plans shelf.new) }
+    ensures shelf { OpensShelf H.Shelf 1 (λ source. IsUnfailing (H.Src.fault_plan source))
+        shelf.old shelf.new result }
 {
     unfailing_stays();
     match shelf.source(alloc, name.name()) {
@@ -69,23 +50,7 @@ pub fn read_file<'a, H: Shelf>(
     ensures few { IfOk result (λ text. length text.items ≤ most) }
     ensures cause { IfErr result
         (StopsReading name.now (IsMissing name.now (H.files shelf.old))) }
-    ensures faults { MatchResult result
-        (λ _. FaultsAreSame (H.faults_of shelf.old) (H.faults_of shelf.new))
-        (λ error. FaultsFollow error (H.faults_of shelf.old) (H.faults_of shelf.new)) }
-    ensures count { MatchResult result
-        (λ _. H.fault_count shelf.new ≡ H.fault_count shelf.old)
-        (λ error. CountFollows error (H.fault_count shelf.old) (H.fault_count shelf.new)) }
-    ensures absences { MatchResult result
-        (λ _. H.absent_count shelf.new ≡ H.absent_count shelf.old)
-        (λ error. AbsencesFollow error (H.absent_count shelf.old) (H.absent_count shelf.new)) }
-    ensures counts { (H.fault_count shelf.old ≤ H.fault_count shelf.new)
-        × (H.absent_count shelf.old ≤ H.absent_count shelf.new) }
-    ensures kept { KeepsShelf H.files H.source_plans H.disk_history H.is_out H.disk_fault_count
-        H.disk_plan shelf.old shelf.new }
-    ensures lent { LendsAsMany (H.lent_count shelf.old) (H.lent_count shelf.new) }
-    ensures unfailing { NeverFails (H.fault_plan shelf.old) (H.source_plans shelf.old)
-        → IfErr result IsNoFault
-        × NeverFails (H.fault_plan shelf.new) (H.source_plans shelf.new) }
+    ensures shelf { ReadsShelf H.Shelf shelf.old shelf.new result }
 {
     let mut source = open_file(alloc, name, shelf)?;
     let read = read_front(alloc, &mut source, most);

@@ -1,7 +1,6 @@
 //! Reading the first bytes of a source.
-ghost use Rattle.std.specs.Prelude.{◌≡◌, ◌≢◌, ◌≤◌, ◌<◌, ◌-◌, true, false, [], Ok, Err, IfOk, IsOk, length, vec_len};
-ghost use Rattle.eql_outside.specs.Unfailing.{IsUnfailing};
-ghost use Rattle.eql_inputs.specs.Fronts.{TakesFront, TakesAtMost, HasRead, IsAtEnd};
+ghost use Rattle.std.specs.Prelude.{◌≡◌, ◌≤◌, ◌<◌, ◌-◌, true, false, [], Ok, IfOk, IsOk, length, vec_len};
+ghost use Rattle.eql_inputs.specs.Fronts.{ReadsSource, TakesFront, HasRead, IsAtEnd};
 
 use eql_outside::{OutRefused, Source};
 use std::alloc::Global;
@@ -24,13 +23,8 @@ fn read_piece<S: Source>(
     ensures end { result ≡ Ok false
         → IsAtEnd (S.left source.old) × (text.new.items ≡ text.old.items) }
     ensures few { IsOk result → vec_len text.new ≤ most }
-    ensures takes { TakesAtMost (most - vec_len text.old) (S.left source.old) (S.left source.new) }
-    ensures failed { result ≡ Err OutRefused.Failed → 0 < S.fault_count source.new }
-    ensures steady { result ≢ Err OutRefused.Failed
-        → S.fault_count source.new ≡ S.fault_count source.old }
-    ensures named { S.lent_as source.new ≡ S.lent_as source.old }
-    ensures unfailing { IsUnfailing (S.fault_plan source.old)
-        → (result ≢ Err OutRefused.Failed) × IsUnfailing (S.fault_plan source.new) }
+    ensures source { ReadsSource S.Source (most - vec_len text.old)
+        source.old source.new result }
 {
     let wanted = piece.len().min(most - text.len());
     let Ok(n) = source.take(&mut piece[..wanted]) else {
@@ -56,13 +50,7 @@ fn read_pieces<S: Source>(
     requires empty { text.old.items ≡ [] }
     ensures front { IsOk result → TakesFront (S.left source.old) most text.new.items }
     ensures few { IsOk result → length text.new.items ≤ most }
-    ensures takes { TakesAtMost most (S.left source.old) (S.left source.new) }
-    ensures failed { result ≡ Err OutRefused.Failed → 0 < S.fault_count source.new }
-    ensures steady { result ≢ Err OutRefused.Failed
-        → S.fault_count source.new ≡ S.fault_count source.old }
-    ensures named { S.lent_as source.new ≡ S.lent_as source.old }
-    ensures unfailing { IsUnfailing (S.fault_plan source.old)
-        → (result ≢ Err OutRefused.Failed) × IsUnfailing (S.fault_plan source.new) }
+    ensures source { ReadsSource S.Source most source.old source.new result }
 {
     'pieces: while text.len() < most {
         match read_piece(source, piece, most, text) {
@@ -84,13 +72,7 @@ pub fn read_front<S: Source>(
     requires { 0 < most }
     ensures front { IfOk result (λ text. TakesFront (S.left source.old) most text.items) }
     ensures few { IfOk result (λ text. length text.items ≤ most) }
-    ensures takes { TakesAtMost most (S.left source.old) (S.left source.new) }
-    ensures failed { result ≡ Err OutRefused.Failed → 0 < S.fault_count source.new }
-    ensures steady { result ≢ Err OutRefused.Failed
-        → S.fault_count source.new ≡ S.fault_count source.old }
-    ensures named { S.lent_as source.new ≡ S.lent_as source.old }
-    ensures unfailing { IsUnfailing (S.fault_plan source.old)
-        → (result ≢ Err OutRefused.Failed) × IsUnfailing (S.fault_plan source.new) }
+    ensures source { ReadsSource S.Source most source.old source.new result }
 {
     let Ok(mut piece) = Vec::from_elem(alloc, 0u8, most.min(PIECE_BYTES)) else {
         return Err(OutRefused::Memory);

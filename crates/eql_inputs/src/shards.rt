@@ -1,10 +1,10 @@
 //! The shards of a command, opened.
-ghost use Rattle.std.specs.Prelude.{◌≡◌, ◌≤◌, ◌-◌, [], All, IfOk, IfErr, IfSome, IsOk, MatchResult, Some, length, map, vec_capacity};
+ghost use Rattle.std.specs.Prelude.{◌≡◌, ◌≤◌, ◌-◌, [], All, IfOk, IfErr, IfSome, IsOk, Some, length, map, vec_capacity};
 ghost use Rattle.eql_outside.specs.Faults.{FaultsAreSame};
 ghost use Rattle.eql_outside.specs.Unfailing.{IsUnfailing};
-ghost use Rattle.eql_inputs.specs.Errors.{FaultsFollow, CountFollows, AbsencesFollow, IsNoFault};
+ghost use Rattle.eql_inputs.specs.Errors.{IsNoFault};
 ghost use Rattle.eql_inputs.specs.Shards.{AreWholeFiles, HasShardsCause};
-ghost use Rattle.eql_inputs.specs.Shelves.{KeepsShelf, LendsAsMany, LendsMore, NeverFails};
+ghost use Rattle.eql_inputs.specs.Shelves.{CountsAreTold, KeepsShelf, LendsMore, NeverFails, OpensShelf};
 
 use crate::error::InputError;
 use crate::file::open_file;
@@ -47,17 +47,7 @@ fn open_all<'a, H: Shelf>(
         ≡ map (λ name. Some name) shards.now }
     ensures fresh { All (λ source. H.Src.fault_count source ≡ 0) sources.new.items }
     ensures cause { IfErr result (HasShardsCause shards.now (H.files shelf.old)) }
-    ensures faults { MatchResult result
-        (λ _. FaultsAreSame (H.faults_of shelf.old) (H.faults_of shelf.new))
-        (λ error. FaultsFollow error (H.faults_of shelf.old) (H.faults_of shelf.new)) }
-    ensures count { MatchResult result
-        (λ _. H.fault_count shelf.new ≡ H.fault_count shelf.old)
-        (λ error. CountFollows error (H.fault_count shelf.old) (H.fault_count shelf.new)) }
-    ensures absences { MatchResult result
-        (λ _. H.absent_count shelf.new ≡ H.absent_count shelf.old)
-        (λ error. AbsencesFollow error (H.absent_count shelf.old) (H.absent_count shelf.new)) }
-    ensures counts { (H.fault_count shelf.old ≤ H.fault_count shelf.new)
-        × (H.absent_count shelf.old ≤ H.absent_count shelf.new) }
+    ensures told { CountsAreTold H.Shelf shelf.old shelf.new result }
     ensures kept { KeepsShelf H.files H.source_plans H.disk_history H.is_out H.disk_fault_count
         H.disk_plan shelf.old shelf.new }
     ensures lent { LendsMore (length sources.new.items)
@@ -91,26 +81,9 @@ pub fn open_shards<'a, H: Shelf>(
     ensures fresh { IfOk result
         (λ sources. All (λ source. H.Src.fault_count source ≡ 0) sources.items) }
     ensures cause { IfErr result (HasShardsCause shards.now (H.files shelf.old)) }
-    ensures faults { MatchResult result
-        (λ _. FaultsAreSame (H.faults_of shelf.old) (H.faults_of shelf.new))
-        (λ error. FaultsFollow error (H.faults_of shelf.old) (H.faults_of shelf.new)) }
-    ensures count { MatchResult result
-        (λ _. H.fault_count shelf.new ≡ H.fault_count shelf.old)
-        (λ error. CountFollows error (H.fault_count shelf.old) (H.fault_count shelf.new)) }
-    ensures absences { MatchResult result
-        (λ _. H.absent_count shelf.new ≡ H.absent_count shelf.old)
-        (λ error. AbsencesFollow error (H.absent_count shelf.old) (H.absent_count shelf.new)) }
-    ensures counts { (H.fault_count shelf.old ≤ H.fault_count shelf.new)
-        × (H.absent_count shelf.old ≤ H.absent_count shelf.new) }
-    ensures kept { KeepsShelf H.files H.source_plans H.disk_history H.is_out H.disk_fault_count
-        H.disk_plan shelf.old shelf.new }
-    ensures lent { MatchResult result
-        (λ _. LendsMore (length shards.now) (H.lent_count shelf.old) (H.lent_count shelf.new))
-        (λ _. LendsAsMany (H.lent_count shelf.old) (H.lent_count shelf.new)) }
-    ensures unfailing { NeverFails (H.fault_plan shelf.old) (H.source_plans shelf.old)
-        → MatchResult result
-        (λ sources. All (λ source. IsUnfailing (H.Src.fault_plan source)) sources.items) IsNoFault
-        × NeverFails (H.fault_plan shelf.new) (H.source_plans shelf.new) }
+    ensures shelf { OpensShelf H.Shelf (length shards.now)
+        (λ sources. All (λ source. IsUnfailing (H.Src.fault_plan source)) sources.items)
+        shelf.old shelf.new result }
 {
     let names = shards.items().as_slice();
     let mut sources = match Vec::with_capacity(alloc, names.len()) {

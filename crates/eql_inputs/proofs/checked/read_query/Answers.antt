@@ -2,7 +2,8 @@ use Rattle.std.proofs.Common.{subst, List, ℕ}
 use Rattle.std.proofs.lemmas.Result.{err_from_is_err_and, IfOk-weaker, IfErr-weaker}
 use Rattle.eql_query.specs.QueryTree.{query_tree}
 use Rattle.eql_inputs.specs.Steps.{IsQueryText, StopsQuery}
-use Rattle.eql_inputs.proofs.ErrorLemmas.{query_unread, query_got, query_stopped, query_calm, text_faults, text_count, text_absence}
+use Rattle.eql_inputs.proofs.ErrorLemmas.{query_unread, query_got, query_stopped, query_calm}
+use Rattle.eql_inputs.proofs.ShelfLemmas.{refused_alike, reads_text}
 use Rattle.eql_inputs.proofs.checked.read_query.Goals as goal
 
 pub returns-in_err-text-clause-cause : goal.returns-in_err-text-clause-cause
@@ -21,17 +22,12 @@ returns-clause-cause g c =
     (λ error stop. query_stopped _ _ _ error c.in_ok-text.ensures.front
     (subst (λ (x : List ℕ). StopsQuery x error) c.as_slice.ensures.value stop)) c.query_in.ensures.cause
 
-pub returns-clause-faults : goal.returns-clause-faults
-returns-clause-faults g c =
-    text_faults c.query_in.result _ _ (IfErr-weaker c.query_in.result _ _ (λ error stop. query_calm _ error stop) c.query_in.ensures.cause)
-    c.in_ok-text.ensures.faults
+pub returns-in_err-text-clause-shelf : goal.returns-in_err-text-clause-shelf
+returns-in_err-text-clause-shelf g c =
+    let p = err_from_is_err_and c.from_residual.result c.from_residual.ensures.1 in
+    rw (p.1, p.2) (refused_alike g.H.Shelf _ _ _ c.in_err-text.ensures.shelf)
 
-pub returns-clause-count : goal.returns-clause-count
-returns-clause-count g c =
-    text_count c.query_in.result _ _ (IfErr-weaker c.query_in.result _ _ (λ error stop. query_calm _ error stop) c.query_in.ensures.cause)
-    c.in_ok-text.ensures.count
-
-pub returns-clause-absences : goal.returns-clause-absences
-returns-clause-absences g c =
-    text_absence c.query_in.result _ _ (IfErr-weaker c.query_in.result _ _ (λ error stop. query_calm _ error stop) c.query_in.ensures.cause)
-    c.in_ok-text.ensures.absences
+pub returns-clause-shelf : goal.returns-clause-shelf
+returns-clause-shelf g c =
+    reads_text g.H.Shelf c.in_ok-text.text c.query_in.result _ _
+    (IfErr-weaker c.query_in.result _ _ (λ error stop. query_calm _ error stop) c.query_in.ensures.cause) c.in_ok-text.ensures.shelf
