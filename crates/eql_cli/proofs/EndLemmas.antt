@@ -698,7 +698,7 @@ stops_ready words asked is law files disk now err err' h status same cause ready
 -- where no count rose, a run didn't stop for a fault. That of the disk counts where the command asks for one
 module _ (asked : Command) (files : Option Files) (disk now : Option History) (err-text err-text' : Option (List ℕ))
     (reads reads' disks disks' out out' err mid err' : ℕ) (read : ¬ Rose reads reads') (on_disk : AsksDisk asked → ¬ Rose disks disks')
-    (write : ¬ Rose out out') (error : ¬ Rose err err') where
+    (write : ¬ Rose out out') (report : ¬ Rose err err') where
   pub is_calm : (h : FindError) → HasCommandCause asked files disk now err-text err-text' h → CountFollows {A = Unit {0}} (Err h) reads reads'
       → DiskFollows {A = Unit {0}} (Err h) disks disks' → OutFollows {A = Unit {0}} (Err h) out out' → ErrFollows {A = Unit {0}} (Err h) err mid
       → (IsReport h → err' ≡ mid) → ¬ IsFault h
@@ -710,7 +710,7 @@ module _ (asked : Command) (files : Option Files) (disk now : Option History) (e
   is_calm run.Write cause c d o e silent fault = write o
   is_calm (run.Limit l) cause c d o e silent fault = fault
   is_calm run.Generation cause c d o e silent fault = fault
-  is_calm (run.Report by.Failed) cause c d o e silent fault = error (subst (λ (n : ℕ). Rose err n) (sym (silent tt)) e)
+  is_calm (run.Report by.Failed) cause c d o e silent fault = report (subst (λ (n : ℕ). Rose err n) (sym (silent tt)) e)
   is_calm (run.Report by.Memory) cause c d o e silent fault = fault
 
 -- where no read failed, the status isn't that of a read fault; nor is it that of a fault of the disk where that didn't fail

@@ -9,8 +9,9 @@ ghost use Rattle.eql_find.specs.Errors.{IsReport, cut_refusal_of, limit_of, run_
 ghost use Rattle.eql_cli.specs.Telling.{TellsRun};
 
 use eql_cut::Differs;
-use eql_find::{CutStop, FindError, ShardLimit};
+use eql_find::{CutStop, FindError};
 use eql_inputs::{tell_error, tell_text};
+use eql_lane::ShardLimit;
 use eql_outside::Sink;
 use eql_values::Memory;
 use eql_words::usage;
@@ -39,8 +40,8 @@ fn limit_line(alloc: Global, limit: ShardLimit) -> Result<String, Memory>
     ensures { IfOk result (λ line. string_bytes line ≡ limit_text (limit_of limit)) }
 {
     match limit {
-        ShardLimit::Lines(shard) => Ok(format!(in alloc; "limit: lines shard {}\n", shard)?),
-        ShardLimit::Bytes(shard) => Ok(format!(in alloc; "limit: bytes shard {}\n", shard)?),
+        ShardLimit::Lines { shard } => Ok(format!(in alloc; "limit: lines shard {}\n", shard)?),
+        ShardLimit::Bytes { shard } => Ok(format!(in alloc; "limit: bytes shard {}\n", shard)?),
     }
 }
 

@@ -1,7 +1,7 @@
 -- What a run over lanes returns: its listing and its report, and why it errors.
 use native.Mathlib.Omega.{arith}
-use Rattle.std.proofs.Common.{◌≡◌, ◌≢◌, ◌<◌, ◌+◌, ◌^◌, ℕ, zero, suc, ℤ, List, [], ◌∷◌, ◌++◌, Option, Some, None, Ok, Err, refl, sym, ap, ap₂, ◌∙◌, subst, length, map}
-use Rattle.std.specs.Prelude.{IfSome, Result, All, slice_get, drop}
+use Rattle.std.proofs.Common.{◌≡◌, ◌≢◌, ◌<◌, ◌+◌, ◌^◌, ℕ, zero, suc, ℤ, List, [], ◌∷◌, ◌++◌, Option, Some, None, Err, refl, sym, ap, ap₂, ◌∙◌, subst, length, map}
+use Rattle.std.specs.Prelude.{IfSome, All, slice_get, drop}
 use Rattle.std.proofs.lemmas.List.{take_all, length-map}
 use Rattle.std.proofs.lemmas.List.Elements.{All-nil}
 use Rattle.std.proofs.lemmas.Option.{none-some, slice_get_within}
@@ -9,6 +9,8 @@ use Rattle.eql_values.specs.Accepted.{Reads}
 use Rattle.eql_values.specs.Lines.{lines_of}
 use Rattle.eql_values.specs.declared.cut.Counts.{Counts}
 use Rattle.eql_outside.specs.Outside.{Rose}
+use Rattle.eql_outside.specs.declared.refused.OutRefused.{OutRefused}
+use Rattle.eql_outside.specs.declared.refused.OutRefused.TheVariants as refused_by
 use Rattle.eql_outside.specs.Written.{WroteAll, WroteFront}
 use Rattle.eql_laws.specs.Counting.{greatest_lines}
 use Rattle.eql_stages.specs.Planned.{line_of, planned_query}
@@ -16,15 +18,15 @@ use Rattle.eql_words.specs.declared.commands.Find.{Find}
 use Rattle.eql_words.specs.Bounds.{FindIsBounded}
 use Rattle.eql_lane.specs.Slacks.{nanos_of}
 use Rattle.eql_lane.specs.Views.{LaneView}
-use Rattle.eql_lane.specs.declared.ops.LimitOf.TheVariants as reached
+use Rattle.eql_lane.specs.declared.ops.ShardLimit.TheVariants as limit
 use Rattle.eql_cut.specs.declared.cut.Cut.{Cut}
+use Rattle.eql_conductor.specs.declared.stop.Stop.{Stop}
+use Rattle.eql_conductor.specs.declared.stop.Stop.TheVariants as stop
 use Rattle.eql_conductor.specs.LaneRounds.{text_at}
 use Rattle.eql_resume.specs.Beginnings.{Rest}
 use Rattle.eql_runs.specs.Runs.{GoesBeyond, WroteCounted, many_bytes, many_lines}
 use Rattle.eql_runs.specs.Searches.{Search, matches_of, plan_of, reads_of, report_lines, report_of, rest_of, shard_counts_from, slack_of}
 use Rattle.eql_runs.specs.Starts.{IsCutOf}
-use Rattle.eql_search.specs.declared.stop.Stop.{Stop}
-use Rattle.eql_search.specs.declared.stop.Stop.TheVariants as stop
 use Rattle.eql_search.specs.Answers.{AreSteadyBut, BecameAt, CountWhole, HasSearchCause, IsNoFault, IsRead, RanOutOfBytes, RanOutOfLines, WereRead}
 use Rattle.eql_search.specs.Searches.{AreTextsOf}
 use Rattle.eql_find.specs.declared.error.FindError.{FindError}
@@ -32,13 +34,13 @@ use Rattle.eql_find.specs.declared.error.FindError.TheVariants as run
 use Rattle.eql_find.specs.declared.plan.PlannedQuery.{PlannedQuery}
 use Rattle.eql_find.specs.Errors.{DiskFollows, ErrFollows, IsFault, IsReport, OutFollows}
 use Rattle.eql_find.specs.Reports.{counts_in}
-use Rattle.eql_find.specs.Running.{AreSearched, IsBeyondOn, StartsOver}
+use Rattle.eql_find.specs.Running.{IsBeyondOn, StartsOver}
 use Rattle.eql_find.specs.Searching.{AreCutsOf, LaneFaultsFollow, WroteReportOf, LanesStop, bare, search_in}
-use Rattle.eql_find.specs.Stops.{IsErrorOf, read, write, disk, memory, lines, bytes, generation}
+use Rattle.eql_find.specs.Stops.{IsErrorOf, read, write, disk, memory, limited, generation}
 use Rattle.eql_find.proofs.KeepLemmas.{are_cuts_of}
 use Rattle.eql_find.proofs.RunLemmas.{StartsSo}
-use Rattle.eql_find.proofs.SearchLemmas.{slack_same, told_each, told_two}
-use Rattle.eql_find.proofs.StayLemmas.{own_of, rose_over, steady_over}
+use Rattle.eql_find.proofs.SearchLemmas.{AreSearched, slack_same, told_each, told_two}
+use Rattle.eql_find.proofs.StayLemmas.{own_of, rose_over}
 
 -- all of a text is a front of it
 pub front_of_all : (text : List ℕ) (before now : Option (List ℕ)) → WroteAll text before now → WroteFront text before now
@@ -201,21 +203,15 @@ module _ {S L : Type 0} (left : S → Option (List ℕ)) (find : Find) (told : O
   -- why the run errors, by why its search stopped
   pub stopped_by : (search : Search) (StartsOver : List (List ℕ) → Type 0) (before now disk_before disk_now : ℕ) (err err' : Option (List ℕ)) (why : Stop) (h : FindError)
       → HasSearchCause told why mids news before now disk_before disk_now
-      → (Rose disk_before disk_now → find.checkpoint ≢ None) → (why ≡ stop.Limit reached.Generation → find.checkpoint ≢ None)
+      → (Rose disk_before disk_now → find.checkpoint ≢ None) → (why ≡ stop.Generation → find.checkpoint ≢ None)
       → IsErrorOf find.shards why h → LanesStop find search told StartsOver (IsBeyondOn lanes) err err' h
   stopped_by search StartsOver before now d e err err' _ _ cause rose ends (read shard name named) = tt
   stopped_by search StartsOver before now d e err err' _ _ cause rose ends write = tt
   stopped_by search StartsOver before now d e err err' _ _ cause rose ends disk = rose cause
   stopped_by search StartsOver before now d e err err' _ _ cause rose ends memory = tt
-  stopped_by search StartsOver before now d e err err' _ _ cause rose ends (lines shard) = (within shard cause.old cause.was, beyond_lines shard cause)
-  stopped_by search StartsOver before now d e err err' _ _ cause rose ends (bytes shard) = (within shard cause.old cause.was, beyond_bytes shard cause)
+  stopped_by search StartsOver before now d e err err' _ _ cause rose ends (limited (limit.Lines shard)) = (within shard cause.old cause.was, beyond_lines shard cause)
+  stopped_by search StartsOver before now d e err err' _ _ cause rose ends (limited (limit.Bytes shard)) = (within shard cause.old cause.was, beyond_bytes shard cause)
   stopped_by search StartsOver before now d e err err' _ _ cause rose ends generation = ends refl
-
-  pub err_steady : {T : Type 0} (r : Result T Stop) (why : Stop) → r ≡ Err why → AreSteadyBut (λ shard. IsRead r) mids news
-      → AreSteadyBut (λ shard. IsRead {A = T} (Err why)) lanes news
-  err_steady {T = T} r why is steady =
-      steady_over lanes mids news taken (λ shard. IsRead {A = T} (Err why))
-      (subst (λ (a : Result T Stop). AreSteadyBut (λ shard. IsRead a) mids news) is steady)
 
   pub faults_by : (T : Type 0) (before now disk_before disk_now : ℕ) (why : Stop) (h : FindError) → HasSearchCause told why mids news before now disk_before disk_now
       → AreSteadyBut (λ shard. IsRead {A = T} (Err why)) lanes news → IsErrorOf find.shards why h → LaneFaultsFollow {A = T} find (Err h) lanes news
@@ -227,16 +223,8 @@ module _ {S L : Type 0} (left : S → Option (List ℕ)) (find : Find) (told : O
   faults_by T before now d f _ _ cause steady write = steady
   faults_by T before now d f _ _ cause steady disk = steady
   faults_by T before now d f _ _ cause steady memory = steady
-  faults_by T before now d f _ _ cause steady (lines of) = steady
-  faults_by T before now d f _ _ cause steady (bytes of) = steady
+  faults_by T before now d f _ _ cause steady (limited of) = steady
   faults_by T before now d f _ _ cause steady generation = steady
-
-  -- a search that was done leaves the faults of all lanes
-  pub faults_done : {T : Type 0} (r : Result T Stop) (x : T) → r ≡ Ok x → AreSteadyBut (λ shard. IsRead r) mids news
-      → AreSteadyBut (λ shard. ⊥) lanes news
-  faults_done {T = T} r x is steady =
-      steady_over lanes mids news taken (λ shard. ⊥)
-      (subst (λ (a : Result T Stop). AreSteadyBut (λ shard. IsRead a) mids news) is steady)
 
 -- the counts of the disk, of the output and of the error output, by why the search stopped
 module _ {S L : Type 0} (A : Type 0) (shards : List (List ℕ)) (told : Option (List (List ℕ))) (olds news : List (LaneView S L)) (before now disk_before disk_now : ℕ) where
@@ -246,8 +234,7 @@ module _ {S L : Type 0} (A : Type 0) (shards : List (List ℕ)) (told : Option (
   disk_as _ _ cause steady write = steady (λ e. absurd cc) (λ e. e)
   disk_as _ _ cause steady disk = cause
   disk_as _ _ cause steady memory = steady (λ e. absurd cc) (λ e. e)
-  disk_as _ _ cause steady (lines shard) = steady (λ e. absurd cc) (λ e. e)
-  disk_as _ _ cause steady (bytes shard) = steady (λ e. absurd cc) (λ e. e)
+  disk_as _ _ cause steady (limited of) = steady (λ e. absurd cc) (λ e. e)
   disk_as _ _ cause steady generation = steady (λ e. absurd cc) (λ e. e)
 
   pub out_as : (why : Stop) (h : FindError) → HasSearchCause told why olds news before now disk_before disk_now
@@ -256,8 +243,7 @@ module _ {S L : Type 0} (A : Type 0) (shards : List (List ℕ)) (told : Option (
   out_as _ _ cause steady write = cause
   out_as _ _ cause steady disk = steady (λ e. absurd cc) (λ e. e)
   out_as _ _ cause steady memory = steady (λ e. absurd cc) (λ e. e)
-  out_as _ _ cause steady (lines shard) = steady (λ e. absurd cc) (λ e. e)
-  out_as _ _ cause steady (bytes shard) = steady (λ e. absurd cc) (λ e. e)
+  out_as _ _ cause steady (limited of) = steady (λ e. absurd cc) (λ e. e)
   out_as _ _ cause steady generation = steady (λ e. absurd cc) (λ e. e)
 
 pub err_as : (A : Type 0) (shards : List (List ℕ)) (n : ℕ) (why : Stop) (h : FindError) → IsErrorOf shards why h → ErrFollows {A = A} (Err h) n n
@@ -265,24 +251,21 @@ err_as A shards n _ _ (read shard name named) = refl
 err_as A shards n _ _ write = refl
 err_as A shards n _ _ disk = refl
 err_as A shards n _ _ memory = refl
-err_as A shards n _ _ (lines shard) = refl
-err_as A shards n _ _ (bytes shard) = refl
+err_as A shards n _ _ (limited of) = refl
 err_as A shards n _ _ generation = refl
 
--- an answer that is an error is no other one
-pub no_other : {T : Type 0} (r : Result T Stop) (why other : Stop) → r ≡ Err why → why ≢ other → r ≢ Err other
-no_other r why other is apart = λ e. apart (let same = sym is ∙ e in cc)
-
-pub unread : {T : Type 0} (r : Result T Stop) (why : Stop) → r ≡ Err why → ¬ IsRead {A = T} (Err why) → ¬ IsRead r
-unread {T = T} r why is none = λ read. none (subst (λ (a : Result T Stop). IsRead a) is read)
+-- the counts of the error output, where it refused the report
+pub refused_as : (A : Type 0) (why : OutRefused) (before now : ℕ) → (why ≡ refused_by.Failed → Rose before now) → (why ≢ refused_by.Failed → now ≡ before)
+    → ErrFollows {A = A} (Err (run.Report why)) before now
+refused_as A refused_by.Failed before now rose steady = rose refl
+refused_as A refused_by.Memory before now rose steady = steady (λ e. cc)
 
 pub calm_by : (shards : List (List ℕ)) (why : Stop) (h : FindError) → IsNoFault why → IsErrorOf shards why h → ¬ IsFault h
 calm_by shards _ _ calm (read shard name named) fault = absurd calm
 calm_by shards _ _ calm write fault = absurd calm
 calm_by shards _ _ calm disk fault = absurd calm
 calm_by shards _ _ calm memory fault = fault
-calm_by shards _ _ calm (lines shard) fault = fault
-calm_by shards _ _ calm (bytes shard) fault = fault
+calm_by shards _ _ calm (limited of) fault = fault
 calm_by shards _ _ calm generation fault = fault
 
 -- a search that stopped refused no report
@@ -291,16 +274,14 @@ no_report shards _ _ (read shard name named) report = report
 no_report shards _ _ write report = report
 no_report shards _ _ disk report = report
 no_report shards _ _ memory report = report
-no_report shards _ _ (lines shard) report = report
-no_report shards _ _ (bytes shard) report = report
+no_report shards _ _ (limited of) report = report
 no_report shards _ _ generation report = report
 
 -- the end of the generations is told where the search told it, and nowhere else
-pub ends_by : (shards : List (List ℕ)) (why : Stop) (h : FindError) → IsErrorOf shards why h → h ≡ run.Generation → why ≡ stop.Limit reached.Generation
+pub ends_by : (shards : List (List ℕ)) (why : Stop) (h : FindError) → IsErrorOf shards why h → h ≡ run.Generation → why ≡ stop.Generation
 ends_by shards _ _ (read shard name named) e = absurd cc
 ends_by shards _ _ write e = absurd cc
 ends_by shards _ _ disk e = absurd cc
 ends_by shards _ _ memory e = absurd cc
-ends_by shards _ _ (lines shard) e = absurd cc
-ends_by shards _ _ (bytes shard) e = absurd cc
+ends_by shards _ _ (limited of) e = absurd cc
 ends_by shards _ _ generation e = refl

@@ -19,35 +19,35 @@ use Rattle.eql_laws.specs.Places.{ReadTo, lows_from}
 use Rattle.eql_words.specs.declared.commands.Checkpoint.{Checkpoint}
 use Rattle.eql_words.specs.declared.commands.Find.{Find}
 use Rattle.eql_words.specs.Bounds.{FindIsBounded}
-use Rattle.eql_lane.specs.declared.ops.LimitOf.TheVariants as reached
 use Rattle.eql_cut.specs.declared.cut.Cut.{Cut}
 use Rattle.eql_cut.specs.declared.cut.CutHead.{CutHead}
 use Rattle.eql_cut.specs.Rising.{RiseFrom}
 use Rattle.eql_ckdisk.specs.Found.{LastCut}
 use Rattle.eql_ckdisk.specs.Putting.{last_cut}
 use Rattle.eql_conductor.specs.declared.plan.Keep.{Keep}
+use Rattle.eql_conductor.specs.declared.stop.Stop.{Stop}
+use Rattle.eql_conductor.specs.declared.stop.Stop.TheVariants as stop
 use Rattle.eql_conductor.specs.Runs.{disk_faults}
 use Rattle.eql_conductor.specs.Saving.{PutsCuts}
 use Rattle.eql_runs.specs.Runs.{WroteCounted}
 use Rattle.eql_runs.specs.Searches.{Search, matches_of, nanos_in, pipes_of, reads_of}
 use Rattle.eql_runs.specs.Starts.{IsCutOf}
-use Rattle.eql_search.specs.declared.stop.Stop.{Stop}
-use Rattle.eql_search.specs.declared.stop.Stop.TheVariants as stop
 use Rattle.eql_search.specs.Answers.{IsRead}
 use Rattle.eql_search.specs.Keeping.{IsLaterCut, IsSearchCut, KeepsOn}
 use Rattle.eql_find.specs.declared.error.FindError.{FindError}
 use Rattle.eql_find.specs.declared.error.FindError.TheVariants as run
 use Rattle.eql_find.specs.declared.plan.PlannedQuery.{PlannedQuery}
-use Rattle.eql_find.specs.Running.{AreSearched, KeepsIfAsked}
+use Rattle.eql_find.specs.Running.{KeepsIfAsked}
 use Rattle.eql_find.specs.Searching.{KeepsAs, rules_in, search_in}
+use Rattle.eql_find.proofs.SearchLemmas.{AreSearched}
 
-not_disk : {A : Type 0} (answer : Result A Stop) → answer ≡ Err (stop.Limit reached.Generation) → answer ≡ Err stop.Disk → ⊥
+not_disk : {A : Type 0} (answer : Result A Stop) → answer ≡ Err stop.Generation → answer ≡ Err stop.Disk → ⊥
 not_disk answer at disk = cc
 
-not_memory : {A : Type 0} (answer : Result A Stop) → answer ≡ Err (stop.Limit reached.Generation) → answer ≡ Err stop.Memory → ⊥
+not_memory : {A : Type 0} (answer : Result A Stop) → answer ≡ Err stop.Generation → answer ≡ Err stop.Memory → ⊥
 not_memory answer at memory = cc
 
-not_read : {A : Type 0} (answer : Result A Stop) → answer ≡ Err (stop.Limit reached.Generation) → IsRead answer → ⊥
+not_read : {A : Type 0} (answer : Result A Stop) → answer ≡ Err stop.Generation → IsRead answer → ⊥
 not_read answer at read = subst (λ (a : Result _ Stop). IsRead a) at read
 
 none_rose : Rose 0 0 → ⊥
@@ -60,22 +60,7 @@ puts_none last None = tt
 puts_none last (Some h) = (0, refl)
 
 module _ {D : Type 0} (history : D → Option History) where
-  -- a search that wasn't begun, for want of memory, leaves the disk as it was
-  pub keeps_none : (A : Type 0) (head : CutHead) (from : Mark) (Are : List Cut → Type 0) → Are [] → (keep : Option (Keep D))
-      → KeepsOn history {A = A} head from Are keep keep (Err stop.Memory)
-  keeps_none A head from Are none None = λ e. cc
-  keeps_none A head from Are none (Some k) = record {
-    cuts = [];
-    are_later = All-nil (IsLaterCut head from);
-    are_cuts = none;
-    rise = tt;
-    puts = puts_none (last_cut k.state) (history k.disk);
-    stands = λ disk memory unread. absurd (memory refl);
-    last = tt;
-    ended = λ e. absurd cc;
-  }
-
-  -- and so does a run
+  -- a run that wasn't begun, for want of memory, leaves the disk as it was
   pub keeps_nothing : (A : Type 0) (head : CutHead) (from : Mark) (Are : List Cut → Type 0) → Are [] → (keep : Option (Keep D)) (h : FindError)
       → h ≢ run.Generation → KeepsAs history {A = A} head from Are keep keep (Err h)
   keeps_nothing A head from Are none None h other = λ e. other cc
@@ -106,15 +91,10 @@ module _ {D : Type 0} (history : D → Option History) where
     ended = h.ended;
   }
 
-  -- the same from the same mark
-  pub keeps_from : {A : Type 0} (head : CutHead) (from mark : Mark) (Are : List Cut → Type 0) → from ≡ mark → (keep kept : Option (Keep D)) (answer : Result A Stop)
-      → KeepsOn history head from Are keep kept answer → KeepsOn history head mark Are keep kept answer
-  keeps_from head from mark Are same keep kept answer h = subst (λ (m : Mark). KeepsOn history head m Are keep kept answer) same h
-
   -- ---- a search's cuts are those of its run
   pub keeps_as : {A B : Type 0} (head : CutHead) (from mark : Mark) (Are Be : List Cut → Type 0) → from ≡ mark → ((cuts : List Cut) → Are cuts → Be cuts)
       → (keep kept : Option (Keep D)) (answer : Result A Stop) (r : Result B FindError)
-      → (r ≡ Err run.Generation → answer ≡ Err (stop.Limit reached.Generation)) → KeepsOn history head from Are keep kept answer
+      → (r ≡ Err run.Generation → answer ≡ Err stop.Generation) → KeepsOn history head from Are keep kept answer
       → KeepsAs history head mark Be keep kept r
   keeps_as head from mark Are Be same f None None answer r ends h = λ e. h (ends e)
   keeps_as head from mark Are Be same f None (Some l) answer r ends h = h
@@ -126,7 +106,7 @@ module _ {D : Type 0} (history : D → Option History) where
     rise = subst (λ (m : Mark). RiseFrom m h.cuts) same h.rise;
     puts = h.puts;
     at_end = λ e.
-        let at : answer ≡ Err (stop.Limit reached.Generation) = ends e in
+        let at : answer ≡ Err stop.Generation = ends e in
         let end = h.ended at in
         (end.0, end.1, h.stands (λ disk. not_disk answer at disk) (λ memory. not_memory answer at memory) (not_read answer at));
   }
@@ -144,7 +124,7 @@ module _ {D : Type 0} (history : D → Option History) where
   rose_keeps count head from Are (Some k) kept answer h rose = λ none. none-some k (sym none)
 
   pub end_keeps : {A : Type 0} (head : CutHead) (from : Mark) (Are : List Cut → Type 0) (keep kept : Option (Keep D)) (answer : Result A Stop)
-      → answer ≡ Err (stop.Limit reached.Generation) → KeepsOn history head from Are keep kept answer → keep ≢ None
+      → answer ≡ Err stop.Generation → KeepsOn history head from Are keep kept answer → keep ≢ None
   end_keeps head from Are None None answer at h = absurd (h at)
   end_keeps head from Are None (Some l) answer at h = absurd h
   end_keeps head from Are (Some k) kept answer at h = λ none. none-some k (sym none)

@@ -35,4 +35,4 @@ pub mod OverLemmas
 pub mod GivingLemmas
 pub mod OutcomeLemmas
 pub mod Sends
-pub mod LaneLemmas
+pub mod LaneRuns

@@ -30,7 +30,7 @@ use Rattle.eql_runs.specs.Starts.{BeginsWith}
 use Rattle.eql_search.specs.Beginnings.{MayBegin, MayKeepOn, cuts_of, run_by}
 use Rattle.eql_search.specs.Searches.{AreBegun, AreBegunFrom, AreTextsOf, Rules, reads_by, slack_by}
 use Rattle.eql_find.specs.declared.plan.PlannedQuery.{PlannedQuery}
-use Rattle.eql_find.specs.Running.{KeepsIfAsked, StartsOver, every_of, plan_in}
+use Rattle.eql_find.specs.Running.{KeepsIfAsked, StartsOver, every_of, plan_in, rest_over}
 use Rattle.eql_find.specs.Searching.{BeganWith, StartsOn, bare, head_in, places_in, rules_in, search_in}
 use Rattle.eql_find.specs.Starting.{Begun, IsOwn, pipes_of, stages_of, values_of}
 use Rattle.eql_find.proofs.AllowingLemmas.{BeginLaws, ascend_by, bare_cuts, fresh_ascend, may_fresh, may_from}
@@ -45,10 +45,6 @@ own_suits find p cut suits = record { is_cut = suits.is_cut; head_is = refl; fit
 own_count : {S L : Type 0} (find : Find) (p : PlannedQuery) (lanes : List (LaneView S L)) (cut : Cut)
     → Suits (stages_of p) (values_of p) (pipes_of p) (head_in find p) cut → length lanes ≡ length find.shards → length lanes ≡ length cut.lanes
 own_count find p lanes cut suits many = many ∙ sym (suits.is_cut.stands.lane_for_each ∙ ap CutHead.shards suits.head_is)
-
--- a search with what is pending, once it has its places
-abbrev pub placed_rest : {S L : Type 0} → Rest → List (LaneView S L) → Rest
-placed_rest rest lanes = placed_if rest.unplaced (listed_place (places_in lanes)) rest
 
 -- a search begins so over texts
 abbrev pub StartsSo : {S L : Type 0} → Find → PlannedQuery → List (List ℕ) → List (LaneView S L) → Rest → Type 0
@@ -68,7 +64,7 @@ module _ {S L : Type 0} (laws : BeginLaws) (find : Find) (p : PlannedQuery) (bou
   may_at : (told : Option (List (List ℕ))) (format : ℕ) (o : Option Cut) → IfSome o (λ cut. find.checkpoint ≢ None)
       → IfSome o (Suits (stages_of p) (values_of p) (pipes_of p) (head_in find p))
       → IfSome o (λ cut. format ≡ 1 → IsUnplaced (orders_in cut)) → BeganWith told (format == 1) o lanes → rest ≡ rest_by (pipes_of p) (format == 1) o
-      → (let r = placed_rest rest lanes in MayBegin (rules_in (search_in find p)) (pipes_of p) r.mark (cuts_of lanes) r.holders r.book)
+      → (let r = rest_over lanes rest in MayBegin (rules_in (search_in find p)) (pipes_of p) r.mark (cuts_of lanes) r.holders r.book)
   may_at told format None asked suits bare_of began is = may_fresh find p lanes (format == 1) began rest is
   may_at told format (Some cut) asked suits bare_of began is =
       subst (λ (u : Bool). let r = placed_if u (listed_place (places_in lanes)) rest in
@@ -79,7 +75,7 @@ module _ {S L : Type 0} (laws : BeginLaws) (find : Find) (p : PlannedQuery) (bou
   starts_at : (ts : List (List ℕ)) (format generation : ℕ) (o : Option Cut) → IfSome o (λ cut. find.checkpoint ≢ None)
       → IfSome o (Suits (stages_of p) (values_of p) (pipes_of p) (head_in find p))
       → IfSome o (λ cut. format ≡ 1 → IsUnplaced (orders_in cut)) → BeganWith (Some ts) (format == 1) o lanes → rest ≡ rest_by (pipes_of p) (format == 1) o
-      → BeginsWith (search_in find p) ts (disk_holding format generation o) → StartsSo find p ts lanes (placed_rest rest lanes)
+      → BeginsWith (search_in find p) ts (disk_holding format generation o) → StartsSo find p ts lanes (rest_over lanes rest)
   starts_at ts format generation None asked suits bare_of began is begins = starts_fresh find p ts lanes (format == 1) rest is
   starts_at ts format generation (Some cut) asked suits bare_of began is begins =
       subst (λ (u : Bool). StartsSo find p ts lanes (placed_if u (listed_place (places_in lanes)) rest)) (sym (ap Rest.unplaced is))
@@ -91,7 +87,7 @@ module _ {S L : Type 0} (laws : BeginLaws) (find : Find) (p : PlannedQuery) (bou
   lines_ascend told begun own began = ascend_at told begun.format begun.cut own.asked own.suits own.unplaced began
 
   -- lanes whose places were taken, with what is pending at its places
-  module _ (mids : List (LaneView S L)) (placed : Rest) (taken : mids ≡ map bare lanes) (placed_is : placed ≡ placed_rest rest lanes) where
+  module _ (mids : List (LaneView S L)) (placed : Rest) (taken : mids ≡ map bare lanes) (placed_is : placed ≡ rest_over lanes rest) where
     same_cuts : cuts_of lanes ≡ cuts_of mids
     same_cuts = sym (ap cuts_of taken ∙ bare_cuts lanes)
 
@@ -100,14 +96,14 @@ module _ {S L : Type 0} (laws : BeginLaws) (find : Find) (p : PlannedQuery) (bou
         → MayBegin (rules_in (search_in find p)) (pipes_of p) placed.mark (cuts_of mids) placed.holders placed.book
     may_begin told begun own began is =
         subst (λ (r : Rest). MayBegin (rules_in (search_in find p)) (pipes_of p) r.mark (cuts_of mids) r.holders r.book) (sym placed_is)
-        (subst (λ (cs : List LaneCut). let r = placed_rest rest lanes in MayBegin (rules_in (search_in find p)) (pipes_of p) r.mark cs r.holders r.book) same_cuts
+        (subst (λ (cs : List LaneCut). let r = rest_over lanes rest in MayBegin (rules_in (search_in find p)) (pipes_of p) r.mark cs r.holders r.book) same_cuts
         (may_at told begun.format begun.cut own.asked own.suits own.unplaced began is))
 
     -- over texts with which the run may begin the search begins with nothing, or with a cut of them
     pub starts : (told : Option (List (List ℕ))) (ts : List (List ℕ)) → told ≡ Some ts → StartsOver told find p lanes rest ts → StartsSo find p ts mids placed
     starts told ts e s =
         subst (λ (r : Rest). StartsSo find p ts mids r) (sym placed_is)
-        (subst (λ (cs : List LaneCut). let r = placed_rest rest lanes in StartsOn (search_in find p) ts r.mark cs r.holders r.book) same_cuts
+        (subst (λ (cs : List LaneCut). let r = rest_over lanes rest in StartsOn (search_in find p) ts r.mark cs r.holders r.book) same_cuts
         (starts_at ts s.begun.format s.begun.generation s.begun.cut s.own.asked s.own.suits s.own.unplaced
         (subst (λ (o : Option (List (List ℕ))). BeganWith o (s.begun.format == 1) s.begun.cut lanes) e s.began) s.rest_is s.begins))
 
@@ -120,7 +116,7 @@ listed_of : (u : Bool) (place : ℕ → ℕ → ℕ) (rest : Rest) → (placed_i
 listed_of true place rest = refl
 listed_of false place rest = refl
 
-module _ {S L : Type 0} (lanes : List (LaneView S L)) (rest placed : Rest) (placed_is : placed ≡ placed_rest rest lanes) where
+module _ {S L : Type 0} (lanes : List (LaneView S L)) (rest placed : Rest) (placed_is : placed ≡ rest_over lanes rest) where
   pub same_mark : placed.mark ≡ rest.mark
   same_mark = ap Rest.mark placed_is ∙ mark_of rest.unplaced (listed_place (places_in lanes)) rest
 

@@ -1,12 +1,11 @@
 -- A search over lanes, in the words of runs.
 use native.Mathlib.Omega.{arith}
-use Rattle.std.proofs.Common.{◌≡◌, ◌≤◌, ◌<◌, ◌^◌, ℕ, suc, ℤ, true, List, [], ◌∷◌, length, Option, Some, None, Ok, Err, refl, sym, ap, ◌∙◌, subst}
-use Rattle.std.specs.Prelude.{All, Result, IfErr, IfSome, OnErr, OnOk}
+use Rattle.std.proofs.Common.{◌≡◌, ◌≤◌, ◌<◌, ◌^◌, ℕ, suc, ℤ, List, [], ◌∷◌, length, Option, Some, None, Ok, Err, refl, sym, ap, ◌∙◌, subst}
+use Rattle.std.specs.Prelude.{All, Result, IfSome, OnErr, OnOk}
 use Rattle.std.specs.Option.{option_map}
 use Rattle.std.proofs.lemmas.Option.{slice_get_within}
 use Rattle.std.proofs.lemmas.List.{append-nil}
-use Rattle.std.proofs.lemmas.List.Elements.{All-nil}
-use Rattle.std.proofs.lemmas.Result.{IfErr-weaker, on_err_weaker, on_ok_weaker}
+use Rattle.std.proofs.lemmas.Result.{on_err_weaker, on_ok_weaker}
 use Rattle.eql_values.specs.Accepted.{Reads}
 use Rattle.eql_values.specs.declared.found.Holder.{Holder}
 use Rattle.eql_values.specs.declared.order.Mark.{Mark}
@@ -20,22 +19,23 @@ use Rattle.eql_stages.specs.Stages.{stages_in, span_in}
 use Rattle.eql_words.specs.declared.commands.Find.{Find}
 use Rattle.eql_lane.specs.Slacks.{nanos_of}
 use Rattle.eql_lane.specs.Views.{LaneView}
-use Rattle.eql_lane.specs.declared.ops.LimitOf.TheVariants as reached
+use Rattle.eql_lane.specs.declared.ops.ShardLimit.TheVariants as limit
 use Rattle.eql_book.specs.Books.{BookState}
 use Rattle.eql_cut.specs.declared.cut.Cut.{Cut}
+use Rattle.eql_conductor.specs.declared.stop.Stop.{Stop}
+use Rattle.eql_conductor.specs.declared.stop.Stop.TheVariants as stop
 use Rattle.eql_resume.specs.Beginnings.{Rest}
 use Rattle.eql_runs.specs.RunLaws.{MatchesAreFew}
 use Rattle.eql_runs.specs.Searches.{Search, matches_of, nanos_in, pipes_of, plan_of, reads_of, slack_of}
 use Rattle.eql_runs.specs.Searches as runs
 use Rattle.eql_runs.specs.Runs as written
-use Rattle.eql_search.specs.declared.stop.Stop.{Stop}
-use Rattle.eql_search.specs.declared.stop.Stop.TheVariants as stop
+use Rattle.eql_search.specs.declared.rules.Rules.{Rules as Asked}
 use Rattle.eql_search.specs.Answers.{HasSearchCause, WereRead}
 use Rattle.eql_search.specs.Beginnings.{BeginsOn, MayBegin, cuts_of, start_at}
-use Rattle.eql_search.specs.Keeping.{AreSearchCuts, IsSearchCut, WroteCounted}
+use Rattle.eql_search.specs.Keeping.{AreSearchCuts, WroteCounted}
 use Rattle.eql_search.specs.Searches.{AreTextsOf, HasNumbers, Rules, reads_by, rest_of, rules_of, slack_by}
 use Rattle.eql_find.specs.declared.plan.PlannedQuery.{PlannedQuery}
-use Rattle.eql_find.specs.Running.{AreSearched}
+use Rattle.eql_find.specs.Running.{book_in}
 use Rattle.eql_find.specs.Searching.{StartsOn, rules_in, search_in}
 use Rattle.eql_find.specs.Starting.{pipes_of as own_pipes}
 use Rattle.eql_find.specs.Stops.{MayStop}
@@ -45,11 +45,11 @@ pub slack_same : (slack : Option ℕ) → nanos_of slack ≡ option_map nanos_in
 slack_same None = refl
 slack_same (Some ms) = refl
 
-pub rules_are : {S L : Type 0} (read_of : L → Reads) (find : Find) (p : PlannedQuery) (lanes : List (LaneView S L)) (stages : ℕ) (span : Option ℤ)
+pub rules_are : {S L : Type 0} (read_of : L → Reads) (find : Find) (p : PlannedQuery) (lanes : List (LaneView S L)) (asked : Asked)
     → planned_query p.plan ≡ plan_of (search_in find p) → reads_by read_of lanes ≡ line_of (planned_query p.plan) → slack_by read_of lanes ≡ nanos_of find.slack
-    → stages ≡ length (stages_in (planned_query p.plan).query.body) → span ≡ span_in (planned_query p.plan).query.body
-    → rules_of read_of stages span lanes ≡ rules_in (search_in find p)
-rules_are read_of find p lanes stages span plan reads slack count is =
+    → asked.stages ≡ length (stages_in (planned_query p.plan).query.body) → asked.span ≡ span_in (planned_query p.plan).query.body
+    → rules_of read_of asked lanes ≡ rules_in (search_in find p)
+rules_are read_of find p lanes asked plan reads slack count is =
     let reads_is : reads_by read_of lanes ≡ reads_of (search_in find p) = reads ∙ ap line_of plan in
     let slack_is : slack_by read_of lanes ≡ slack_of (search_in find p) = slack ∙ slack_same find.slack in
     λ i. record { reads = reads_is i; slack = slack_is i; stages = count i; span = is i }
@@ -81,22 +81,25 @@ told_both (Some ts) P Q R f a b = f ts refl a b
 pub told_at : (told : Option (List (List ℕ))) (P : List (List ℕ) → Type 0) → IfSome told P → (ts : List (List ℕ)) → told ≡ Some ts → P ts
 told_at told P h ts e = subst (λ (o : Option (List (List ℕ))). IfSome o P) e h
 
+-- ---- what a search put
+-- cuts that a search put are cuts of its texts, and what they count behind the first lines was written, where each match of the texts has a number
+abbrev pub AreSearched : Search → (texts : List (List ℕ)) → (listed : ℕ) → (out out' : Option (List ℕ)) → List Cut → Type 0
+AreSearched search texts listed out out' cuts =
+    length (matches_of search texts) < 2 ^ 64
+    → AreSearchCuts (rules_in search) (pipes_of search) texts cuts × All (written.WroteCounted search texts listed out out') cuts
+
 -- ---- answers
 pub ok_both : {T E P Q R : Type 0} (r : Result T E) → (P → Q → R) → OnOk r P → OnOk r Q → OnOk r R
 ok_both (Ok x) f p q = f p q
 ok_both (Err e) f p q = tt
 
 -- ---- what a search does
--- the book of a run before its search
-abbrev pub own_book : Find → PlannedQuery → Rest → BookState
-own_book find p rest = record { pipes = own_pipes p; places = find.places; kept = rest.book; whole = true }
-
 -- a search over lanes by these rules, from a mark, what is pending and a book, is that of the words from what the rest is
 module _ {S L : Type 0} (left : S → Option (List ℕ)) (few : MatchesAreFew) (find : Find) (p : PlannedQuery) (told : Option (List (List ℕ)))
     (olds : List (LaneView S L)) (rules : Rules) (rest : Rest) (mark : Mark) (holders : List Holder) (book : BookState)
     (checked : IfSome told (λ ts. IsChecked (kind_at p.mapping) (search_in find p).query)) (texts_of : IfSome told (λ ts. AreTextsOf left ts olds))
     (count : length olds ≤ greatest_shards) (rules_is : rules ≡ rules_in (search_in find p)) (mark_is : mark ≡ rest.mark)
-    (holders_is : holders ≡ rest.holders) (book_is : book ≡ own_book find p rest) where
+    (holders_is : holders ≡ rest.holders) (book_is : book ≡ book_in find p rest.book) where
   -- what it begins with is nothing, or a cut of texts; and the same in words of the run
   abbrev Begins : List (List ℕ) → Type 0
   Begins ts = BeginsOn rules book.pipes ts (start_at mark (cuts_of olds) holders book.kept)
@@ -180,17 +183,8 @@ module _ {S L : Type 0} (left : S → Option (List ℕ)) (few : MatchesAreFew) (
     are_searched = told_each told (λ ts. Begins ts → HasNumbers rules ts → Searched rules book ts)
         (λ ts. Starts ts → AreSearched (search_in find p) ts rest.book.listed before now cuts)
         (λ ts e h begins less.
-        subst (λ (r : Rules). Searched r (own_book find p rest) ts) rules_is
+        subst (λ (r : Rules). Searched r (book_in find p rest.book) ts) rules_is
         (subst (λ (b : BookState). Searched rules b ts) book_is (h (starts_at ts begins) (numbers_of ts less))))
-
--- a search that wasn't begun put no cuts
-pub none_searched : (search : Search) (told : Option (List (List ℕ))) (Starts : List (List ℕ) → Type 0) (listed : ℕ) (before now : Option (List ℕ))
-    → IfSome told (λ ts. Starts ts → AreSearched search ts listed before now [])
-none_searched search None Starts listed before now = tt
-none_searched search (Some ts) Starts listed before now = λ starts less. (
-  λ slack is from to. All-nil (IsSearchCut (rules_in search) (pipes_of search) ts slack),
-  All-nil (written.WroteCounted search ts listed before now),
-)
 
 -- nothing written is a front
 front_none : (lines : List ℕ) (before : Option (List ℕ)) → WroteFront lines before before
@@ -203,18 +197,13 @@ fronts_none None Starts lines before = tt
 fronts_none (Some ts) Starts lines before = λ starts. front_none (lines ts) before
 
 -- ---- why it stops
-may_by : {S L : Type 0} (texts : Option (List (List ℕ))) (shards : ℕ) (olds news : List (LaneView S L)) → length olds ≡ shards
+pub may_by : {S L : Type 0} (texts : Option (List (List ℕ))) (shards : ℕ) (olds news : List (LaneView S L)) → length olds ≡ shards
     → (before now disk_before disk_now : ℕ) (why : Stop) → HasSearchCause texts why olds news before now disk_before disk_now → MayStop shards why
 may_by texts shards olds news count before now d e (stop.Read shard) cause = let within = slice_get_within olds shard cause.old cause.was in omega (arith, count, within)
 may_by texts shards olds news count before now d e stop.Write cause = tt
 may_by texts shards olds news count before now d e stop.Disk cause = tt
 may_by texts shards olds news count before now d e stop.Memory cause = tt
-may_by texts shards olds news count before now d e (stop.Limit (reached.Lines shard)) cause = let within = slice_get_within olds shard cause.old cause.was in omega (arith, count, within)
-may_by texts shards olds news count before now d e (stop.Limit (reached.Bytes shard)) cause = let within = slice_get_within olds shard cause.old cause.was in omega (arith, count, within)
-may_by texts shards olds news count before now d e (stop.Limit reached.Turns) cause = absurd cause
-may_by texts shards olds news count before now d e (stop.Limit reached.Generation) cause = tt
-
-pub may_stop : {T S L : Type 0} (texts : Option (List (List ℕ))) (shards : ℕ) (olds news : List (LaneView S L)) → length olds ≡ shards
-    → (before now disk_before disk_now : ℕ) (r : Result T Stop) → IfErr r (λ why. HasSearchCause texts why olds news before now disk_before disk_now)
-    → IfErr r (MayStop shards)
-may_stop texts shards olds news count before now d e r = IfErr-weaker r _ _ (may_by texts shards olds news count before now d e)
+may_by texts shards olds news count before now d e (stop.Limit (limit.Lines shard)) cause = let within = slice_get_within olds shard cause.old cause.was in omega (arith, count, within)
+may_by texts shards olds news count before now d e (stop.Limit (limit.Bytes shard)) cause = let within = slice_get_within olds shard cause.old cause.was in omega (arith, count, within)
+may_by texts shards olds news count before now d e stop.Generation cause = tt
+may_by texts shards olds news count before now d e stop.Worn cause = absurd cause

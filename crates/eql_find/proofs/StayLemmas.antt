@@ -50,17 +50,6 @@ module _ {S L : Type 0} (left lent_as : S → Option (List ℕ)) where
   stays_taken lanes mids (inr e) = subst (λ (ls : List (LaneView S L)). AllZip (StaysSource left lent_as) lanes ls) (sym e) (bare_stay lanes)
 
   module _ (read_of : L → Reads) where
-    -- lanes of which nothing is done
-    pub stay_lanes : (lanes : List (LaneView S L)) → AllZip (StaysLane left lent_as read_of) lanes lanes
-    stay_lanes [] = tt
-    stay_lanes (l ∷ ls) = (
-      record {
-        same = record { shard = refl; slack = refl; reads = refl; named = refl; places = refl; silent = λ h. h };
-        counts = omega arith;
-      },
-      stay_lanes ls,
-    )
-
     bare_searched : (lanes news : List (LaneView S L)) → AllZip (StaysLane left lent_as read_of) (map bare lanes) news
         → AllZip (StaysSource left lent_as) lanes news
     bare_searched [] [] h = tt

@@ -4,15 +4,13 @@ use Rattle.std.specs.Borrow.{Bor}
 use Rattle.std.proofs.lemmas.Option.{slice_get_read}
 use Rattle.eql_lane.specs.declared.make.LaneRefused.{LaneRefused}
 use Rattle.eql_lane.specs.declared.make.LaneRefused.TheVariants as refused
-use Rattle.eql_lane.specs.declared.ops.LimitOf.{LimitOf}
-use Rattle.eql_lane.specs.declared.ops.LimitOf.TheVariants as reached
+use Rattle.eql_lane.specs.declared.ops.ShardLimit.{ShardLimit}
+use Rattle.eql_conductor.specs.declared.stop.Stop.{Stop}
+use Rattle.eql_conductor.specs.declared.stop.Stop.TheVariants as stop
 use Rattle.eql_inputs.specs.declared.error.InputError.TheVariants as error
-use Rattle.eql_search.specs.declared.stop.Stop.{Stop}
-use Rattle.eql_search.specs.declared.stop.Stop.TheVariants as stop
 use Rattle.eql_find.specs.declared.error.CutStop.TheVariants as cut
 use Rattle.eql_find.specs.declared.error.FindError.TheVariants as run
-use Rattle.eql_find.specs.declared.error.ShardLimit.TheVariants as limit
-use Rattle.eql_find.specs.Stops.{IsErrorAt, IsErrorOf, MayStop, read, write, disk, memory, lines, bytes, generation, short, no_line, grown, failed, unmade}
+use Rattle.eql_find.specs.Stops.{IsErrorAt, IsErrorOf, MayStop, read, write, disk, memory, limited, generation, short, no_line, grown, failed, unmade}
 
 pub error_read : (shards items : List (List ℕ)) (why : Stop) (shard : ℕ) (name : Bor (List ℕ)) → why ≡ stop.Read shard → items ≡ shards
     → MayStop (length shards) why → name.now ≡ get_or items shard name.now → IsErrorOf shards why (run.Files (error.Read name))
@@ -30,14 +28,11 @@ module _ (shards : List (List ℕ)) (why : Stop) where
   pub error_memory : why ≡ stop.Memory → IsErrorOf shards why (run.Files error.Memory)
   error_memory is = subst (λ (w : Stop). IsErrorOf shards w (run.Files error.Memory)) (sym is) memory
 
-  pub error_lines : (of : LimitOf) (shard : ℕ) → why ≡ stop.Limit of → of ≡ reached.Lines shard → IsErrorOf shards why (run.Limit (limit.Lines shard))
-  error_lines of shard is by = subst (λ (w : Stop). IsErrorOf shards w (run.Limit (limit.Lines shard))) (sym (is ∙ ap stop.Limit by)) (lines shard)
+  pub error_limit : (of : ShardLimit) → why ≡ stop.Limit of → IsErrorOf shards why (run.Limit of)
+  error_limit of is = subst (λ (w : Stop). IsErrorOf shards w (run.Limit of)) (sym is) (limited of)
 
-  pub error_bytes : (of : LimitOf) (shard : ℕ) → why ≡ stop.Limit of → of ≡ reached.Bytes shard → IsErrorOf shards why (run.Limit (limit.Bytes shard))
-  error_bytes of shard is by = subst (λ (w : Stop). IsErrorOf shards w (run.Limit (limit.Bytes shard))) (sym (is ∙ ap stop.Limit by)) (bytes shard)
-
-  pub error_generation : (of : LimitOf) → why ≡ stop.Limit of → of ≡ reached.Generation → IsErrorOf shards why run.Generation
-  error_generation of is by = subst (λ (w : Stop). IsErrorOf shards w run.Generation) (sym (is ∙ ap stop.Limit by)) generation
+  pub error_generation : why ≡ stop.Generation → IsErrorOf shards why run.Generation
+  error_generation is = subst (λ (w : Stop). IsErrorOf shards w run.Generation) (sym is) generation
 
 -- the error of a lane that isn't made
 module _ (shards items : List (List ℕ)) (shard : ℕ) (why : LaneRefused) where

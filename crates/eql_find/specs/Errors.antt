@@ -3,6 +3,8 @@ use Rattle.std.specs.Prelude.{◌≡◌, ℕ, List, Result, Ok, Err}
 use Rattle.eql_outside.specs.Outside.{Rose}
 use Rattle.eql_outside.specs.Faults.{FaultsAreSame}
 use Rattle.eql_outside.specs.declared.refused.OutRefused.TheVariants as refused_by
+use Rattle.eql_lane.specs.declared.ops.ShardLimit.{ShardLimit}
+use Rattle.eql_lane.specs.declared.ops.ShardLimit.TheVariants as limit
 use Rattle.eql_runs.specs.CutRefusals.{CutRefusal, damaged, differs, unfit, short, no_line, grown}
 use Rattle.eql_runs.specs.Runs.{many_lines, many_bytes}
 use Rattle.eql_runs.specs.Runs as runs
@@ -14,8 +16,6 @@ use Rattle.eql_find.specs.declared.error.CutStop.{CutStop}
 use Rattle.eql_find.specs.declared.error.CutStop.TheVariants as cut
 use Rattle.eql_find.specs.declared.error.FindError.{FindError}
 use Rattle.eql_find.specs.declared.error.FindError.TheVariants as run
-use Rattle.eql_find.specs.declared.error.ShardLimit.{ShardLimit}
-use Rattle.eql_find.specs.declared.error.ShardLimit.TheVariants as limit
 use Rattle.eql_find.specs.Lanes.{RoseAmong}
 
 -- the status of a run that stops so

@@ -1,5 +1,7 @@
 -- A run over lanes: what must hold where it begins, and over which texts it may begin so.
-use Rattle.std.specs.Prelude.{◌≡◌, ◌==◌, ◌^◌, ◌<◌, ℕ, List, All, IsTrue, length, slice_get, Option, None, Some, IfSome}
+use Rattle.std.specs.Prelude.{◌≡◌, ◌==◌, ℕ, true, List, IsTrue, length, slice_get, Option, None, Some, IfSome}
+use Rattle.eql_values.specs.declared.cut.BookCut.{BookCut}
+use Rattle.eql_values.specs.declared.found.Holder.{Holder}
 use Rattle.eql_values.specs.declared.order.Mark.{Mark}
 use Rattle.eql_values.specs.Accepted.{Reads}
 use Rattle.eql_outside.specs.Moments.{History}
@@ -11,20 +13,20 @@ use Rattle.eql_words.specs.declared.commands.Checkpoint.{Checkpoint}
 use Rattle.eql_words.specs.declared.commands.Find.{Find}
 use Rattle.eql_lane.specs.Slacks.{nanos_of}
 use Rattle.eql_lane.specs.Views.{LaneView}
+use Rattle.eql_book.specs.Books.{BookState}
 use Rattle.eql_cut.specs.CutValues.{names_ascend}
-use Rattle.eql_cut.specs.declared.cut.Cut.{Cut}
+use Rattle.eql_cut.specs.Placing.{listed_place}
 use Rattle.eql_cut.specs.declared.cut.CutHead.{CutHead}
 use Rattle.eql_ckdisk.specs.Putting.{Stands, last_cut}
 use Rattle.eql_conductor.specs.declared.plan.Keep.{Keep}
 use Rattle.eql_conductor.specs.declared.plan.RunPlan.{RunPlan}
-use Rattle.eql_resume.specs.Beginnings.{Rest, rest_by}
-use Rattle.eql_runs.specs.Runs.{GoesBeyond, ShardLimit, WroteCounted, shard_of}
-use Rattle.eql_runs.specs.Searches.{Search, matches_of, plan_of, pipes_of as search_pipes}
+use Rattle.eql_resume.specs.Beginnings.{Rest, placed_if, rest_by}
+use Rattle.eql_runs.specs.Runs.{GoesBeyond, ShardLimit, shard_of}
+use Rattle.eql_runs.specs.Searches.{plan_of}
 use Rattle.eql_runs.specs.Starts.{BeginsWith}
-use Rattle.eql_search.specs.Keeping.{AreSearchCuts}
 use Rattle.eql_search.specs.Searches.{AreBegunFrom, AreTextsOf}
 use Rattle.eql_find.specs.declared.plan.PlannedQuery.{PlannedQuery}
-use Rattle.eql_find.specs.Searching.{BeganWith, head_in, rules_in, search_in}
+use Rattle.eql_find.specs.Searching.{BeganWith, head_in, places_in, search_in}
 use Rattle.eql_find.specs.Starting.{Begun, IsOwn, on_begun, pipes_of}
 
 -- after how many rounds a cut is kept
@@ -35,9 +37,22 @@ every_of (Some checkpoint) = Some checkpoint.every
 abbrev pub every_asked : Find → Option ℕ
 every_asked find = every_of find.checkpoint
 
--- how a search goes that begins at this mark
+-- how a search goes that begins at this mark, and with which book
 abbrev pub plan_in : Find → CutHead → Mark → RunPlan
 plan_in find head mark = record { batch = find.batch; every = every_asked find; head = head; mark = mark }
+
+abbrev pub book_in : Find → PlannedQuery → BookCut → BookState
+book_in find p from = record { pipes = pipes_of p; places = find.places; kept = from; whole = true }
+
+-- what is pending where a run begins over these lanes, with the places that they found
+abbrev pub rest_over : {S L : Type 0} → List (LaneView S L) → Rest → Rest
+rest_over lanes rest = placed_if rest.unplaced (listed_place (places_in lanes)) rest
+
+-- the mark, the pending sequences and the book of a search that begins with these
+pub record BeginsAs (find : Find) (p : PlannedQuery) (rest : Rest) (mark : Mark) (holders : List Holder) (book : BookState) : Type 0 where
+  pub mark_is : mark ≡ rest.mark
+  pub holders_are : holders ≡ rest.holders
+  pub book_is : book ≡ book_in find p rest.book
 
 -- a run keeps cuts exactly when it has a checkpoint, on a disk that stands as the state says
 module _ {D : Type 0} (history : D → Option History) where
@@ -80,9 +95,3 @@ pub record IsBeyondOn {S L : Type 0} (lanes : List (LaneView S L)) (texts : List
   pub text : List ℕ
   pub there : slice_get texts (shard_of limit) ≡ Some text
   pub beyond : GoesBeyond limit (Some lane.state.cut) text
-
--- cuts that a search put are cuts of its texts, and what they count behind the first lines was written, where each match of the texts has a number
-abbrev pub AreSearched : Search → (texts : List (List ℕ)) → (listed : ℕ) → (out out' : Option (List ℕ)) → List Cut → Type 0
-AreSearched search texts listed out out' cuts =
-    length (matches_of search texts) < 2 ^ 64
-    → AreSearchCuts (rules_in search) (search_pipes search) texts cuts × All (WroteCounted search texts listed out out') cuts

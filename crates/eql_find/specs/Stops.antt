@@ -3,26 +3,25 @@ use Rattle.std.specs.Prelude.{◌≡◌, ◌<◌, ℕ, List, slice_get, Some}
 use Rattle.std.specs.Borrow.{Bor}
 use Rattle.eql_lane.specs.declared.make.LaneRefused.{LaneRefused}
 use Rattle.eql_lane.specs.declared.make.LaneRefused.TheVariants as refused
-use Rattle.eql_lane.specs.declared.ops.LimitOf.TheVariants as reached
+use Rattle.eql_lane.specs.declared.ops.ShardLimit.{ShardLimit}
+use Rattle.eql_lane.specs.declared.ops.ShardLimit.TheVariants as limit
+use Rattle.eql_conductor.specs.declared.stop.Stop.{Stop}
+use Rattle.eql_conductor.specs.declared.stop.Stop.TheVariants as stop
 use Rattle.eql_inputs.specs.declared.error.InputError.TheVariants as error
-use Rattle.eql_search.specs.declared.stop.Stop.{Stop}
-use Rattle.eql_search.specs.declared.stop.Stop.TheVariants as stop
 use Rattle.eql_find.specs.declared.error.CutStop.TheVariants as cut
 use Rattle.eql_find.specs.declared.error.FindError.{FindError}
 use Rattle.eql_find.specs.declared.error.FindError.TheVariants as run
-use Rattle.eql_find.specs.declared.error.ShardLimit.TheVariants as limit
 
--- why a search over as many shards may stop: a shard that is told is one of them, and no other number than those of a shard
--- and the generation of the disk reaches its limit
+-- why a search over as many shards may stop: a shard that is told is one of them, and no lock is worn
 abbrev pub MayStop : (shards : ℕ) → Stop → Type 0
 MayStop shards (stop.Read shard) = shard < shards
 MayStop shards stop.Write = Unit {0}
 MayStop shards stop.Disk = Unit {0}
 MayStop shards stop.Memory = Unit {0}
-MayStop shards (stop.Limit (reached.Lines shard)) = shard < shards
-MayStop shards (stop.Limit (reached.Bytes shard)) = shard < shards
-MayStop shards (stop.Limit reached.Turns) = ⊥
-MayStop shards (stop.Limit reached.Generation) = Unit {0}
+MayStop shards (stop.Limit (limit.Lines shard)) = shard < shards
+MayStop shards (stop.Limit (limit.Bytes shard)) = shard < shards
+MayStop shards stop.Generation = Unit {0}
+MayStop shards stop.Worn = ⊥
 
 -- the error of a stop, over shards of these names
 pub data IsErrorOf (shards : List (List ℕ)) : Stop → FindError → Type 0 where
@@ -32,9 +31,8 @@ pub data IsErrorOf (shards : List (List ℕ)) : Stop → FindError → Type 0 wh
   write : IsErrorOf shards stop.Write run.Write
   disk : IsErrorOf shards stop.Disk run.Disk
   memory : IsErrorOf shards stop.Memory (run.Files error.Memory)
-  lines : (shard : ℕ) → IsErrorOf shards (stop.Limit (reached.Lines shard)) (run.Limit (limit.Lines shard))
-  bytes : (shard : ℕ) → IsErrorOf shards (stop.Limit (reached.Bytes shard)) (run.Limit (limit.Bytes shard))
-  generation : IsErrorOf shards (stop.Limit reached.Generation) run.Generation
+  limited : (of : ShardLimit) → IsErrorOf shards (stop.Limit of) (run.Limit of)
+  generation : IsErrorOf shards stop.Generation run.Generation
 
 -- the error where the lane of this shard isn't made
 pub data IsErrorAt (shards : List (List ℕ)) (shard : ℕ) : LaneRefused → FindError → Type 0 where

@@ -4,16 +4,8 @@ ghost use Rattle.eql_find.specs.Errors.{run_status_of};
 
 use eql_cut::Differs;
 use eql_inputs::InputError;
+use eql_lane::ShardLimit;
 use eql_outside::OutRefused;
-
-/// A limit that a shard, counted from 0, reached.
-#[derive(Clone, Copy, PartialEq, Eq)]
-pub enum ShardLimit {
-    /// It has more than 4,294,967,294 lines, with those that were counted before it went on from a cut.
-    Lines(u32),
-    /// It has 1,099,511,627,776 bytes or more.
-    Bytes(u32),
-}
 
 /// Why the cut that the disk holds is refused. Shards count from 0.
 #[derive(Drop)]

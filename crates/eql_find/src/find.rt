@@ -1,8 +1,7 @@
 //! The run.
 ghost use Rattle.std.specs.Prelude.{◌≡◌, ◌≢◌, ◌-◌, All, IfErr, IfSome, None, Some, false, length, map, ℕ, List, Option};
-ghost use Rattle.eql_conductor.specs.Runs.{IsKeptUnfailing, disk_faults};
+ghost use Rattle.eql_conductor.specs.Runs.{IsKeptUnfailing};
 ghost use Rattle.eql_inputs.specs.Shards.{AreWholeFiles};
-ghost use Rattle.eql_inputs.specs.Shelves.{KeepsShelf};
 ghost use Rattle.eql_outside.specs.Unfailing.{IsUnfailing, AreUnfailing};
 ghost use Rattle.eql_words.specs.Bounds.{FindIsBounded};
 ghost use Rattle.eql_runs.specs.Outcomes.{DiskIsSame};
@@ -10,7 +9,7 @@ ghost use Rattle.eql_find.specs.Errors.{IsFault};
 ghost use Rattle.eql_find.specs.Finding.{IsPlanOf, texts_told};
 ghost use Rattle.eql_find.specs.Outcomes.{FaultsAreTold, FindEnds};
 ghost use Rattle.eql_find.specs.Running.{KeepsIfAsked};
-ghost use Rattle.eql_find.specs.Starting.{BeginsOnDisk, IsFreshKeep, disk_after};
+ghost use Rattle.eql_find.specs.Starting.{BeginsOnDisk, IsFreshKeep};
 
 use crate::checkpoint::{Start, give_keep, start_run};
 use crate::error::FindError;
@@ -19,82 +18,17 @@ use crate::plan::{PlannedQuery, read_plan};
 use crate::running::run_lanes;
 use crate::stops::error_at;
 use eql_ckdisk::puts_go_on;
-use eql_conductor::Keep;
-use eql_cut::CutHead;
 use eql_hands::Gate;
 use eql_inputs::open_shards;
-use eql_lane::LaneStart;
 use eql_outside::{Shelf, Sink, crashes_leave_images};
-use eql_resume::Pending;
 use eql_runs::{disks_hold_one_thing, spans_change_no_fit, tested_cuts_are_accepted};
 use eql_words::Find;
 use std::alloc::Global;
 use std::sync::Wait;
 use std::thread::Threads;
 
-/// Makes lanes over sources, searches them, writes the listing and then the report, and gives the sources back.
-fn run_over<'a, R: Threads + Wait + Sync, H: Shelf, K: Sink, E: Sink, W: Gate + Sync>(
-    rt: &R,
-    alloc: Global,
-    sources: Vec<H::Src>,
-    starts: Vec<LaneStart>,
-    rest: Pending,
-    head: CutHead,
-    planned: &PlannedQuery,
-    find: &'a Find,
-    shelf: &mut H,
-    out: &mut K,
-    err: &mut E,
-    keep: &mut Option<Keep<H::Dsk>>,
-    gate: &W,
-) -> Result<(), FindError<'a>>
-    ghost known_texts: { Option (List (List ℕ)) }
-    requires told { known_texts ≡ texts_told (H.files shelf.old) find.now.shards }
-    requires bounds { FindIsBounded find.now }
-    requires plan { IsPlanOf find.now (H.files shelf.old) planned.now }
-    requires whole { AreWholeFiles find.now.shards (H.files shelf.old)
-        (map H.Src.left sources.items) }
-    requires named { map H.Src.lent_as sources.items ≡ map (λ name. Some name) find.now.shards }
-    requires fresh { All (λ source. H.Src.fault_count source ≡ 0) sources.items }
-    requires begins { BeginsOnDisk find.now planned.now (H.disk_history shelf.old)
-        head keep.old starts.items rest }
-    requires keeps { KeepsIfAsked H.Dsk.history find.now.checkpoint keep.old }
-    requires kept { IsFreshKeep H.Dsk.history H.Dsk.fault_count
-        (H.disk_history shelf.old) keep.old }
-    ensures ends { FindEnds K.Sink E.Sink find.now (H.files shelf.old) (H.disk_history shelf.old)
-        (disk_after H.Dsk.history (H.disk_history shelf.old) keep.new)
-        out.old out.new err.old err.new result }
-    ensures told { FaultsAreTold K.Sink E.Sink H.Shelf shelf.old shelf.new
-        (disk_faults H.Dsk.history H.Dsk.fault_count keep.old)
-        (disk_faults H.Dsk.history H.Dsk.fault_count keep.new)
-        out.old out.new err.old err.new result }
-    ensures unfailing { All (λ source. IsUnfailing (H.Src.fault_plan source)) sources.items
-        → IsUnfailing (K.fault_plan out.old) → IsUnfailing (E.fault_plan err.old)
-        → IsKeptUnfailing H.Dsk.fault_plan keep.old → IfErr result (λ error. ¬ IsFault error) }
-    ensures kept { KeepsShelf H.files H.source_plans H.disk_history H.is_out H.disk_fault_count
-        H.disk_plan shelf.old shelf.new }
-    ensures lent { IfSome (H.lent_count shelf.old)
-        (λ n. H.lent_count shelf.new ≡ Some (n - length find.now.shards)) }
-    ensures no_keep { keep.old ≡ None → keep.new ≡ None }
-    ensures some_keep { keep.old ≢ None → keep.new ≢ None }
-{
-    crashes_leave_images();
-    puts_go_on();
-    disks_hold_one_thing();
-    spans_change_no_fit();
-    tested_cuts_are_accepted();
-    let mut lanes = match make_lanes(alloc, sources, &planned.plan, find.slack, starts, shelf) {
-        Ok(lanes) => lanes,
-        Err(stop) => return Err(error_at(stop, &find.shards)),
-    };
-    let ran = run_lanes(
-        rt, alloc, &mut lanes, rest, head, planned, find, out, err, keep, gate,
-    );
-    give_lanes(lanes, shelf);
-    ran
-}
-
-/// Runs from what was found to begin with, and gives sources and disk back.
+/// Runs from what was found to begin with: makes lanes over the sources, searches them, writes the listing and then the
+/// report, and gives sources and disk back.
 fn run_start<'a, R: Threads + Wait + Sync, H: Shelf, K: Sink, E: Sink, W: Gate + Sync>(
     rt: &R,
     alloc: Global,
@@ -107,6 +41,8 @@ fn run_start<'a, R: Threads + Wait + Sync, H: Shelf, K: Sink, E: Sink, W: Gate +
     err: &mut E,
     gate: &W,
 ) -> Result<(), FindError<'a>>
+    ghost known_texts: { Option (List (List ℕ)) }
+    requires told { known_texts ≡ texts_told (H.files shelf.old) find.now.shards }
     requires bounds { FindIsBounded find.now }
     requires plan { IsPlanOf find.now (H.files shelf.old) planned.now }
     requires whole { AreWholeFiles find.now.shards (H.files shelf.old)
@@ -133,15 +69,28 @@ fn run_start<'a, R: Threads + Wait + Sync, H: Shelf, K: Sink, E: Sink, W: Gate +
     ensures back { find.now.checkpoint ≢ None → H.is_out shelf.new ≡ false }
     ensures disk_kept { find.now.checkpoint ≡ None → DiskIsSame H.Shelf shelf.old shelf.new }
 {
+    crashes_leave_images();
+    puts_go_on();
+    disks_hold_one_thing();
+    spans_change_no_fit();
+    tested_cuts_are_accepted();
     let Start {
         head,
-        mut keep,
+        keep,
         lanes,
         rest,
     } = start;
-    let ran = run_over(
-        rt, alloc, sources, lanes, rest, head, planned, find, shelf, out, err, &mut keep, gate,
+    let mut lanes = match make_lanes(alloc, sources, &planned.plan, find.slack, lanes, shelf) {
+        Ok(lanes) => lanes,
+        Err(stop) => {
+            give_keep(keep, shelf);
+            return Err(error_at(stop, &find.shards));
+        }
+    };
+    let (ran, keep) = run_lanes(
+        rt, alloc, &mut lanes, rest, head, keep, planned, find, out, err, gate,
     );
+    give_lanes(lanes, shelf);
     give_keep(keep, shelf);
     ran
 }

@@ -12,5 +12,5 @@ mod report;
 mod running;
 mod stops;
 
-pub use error::{CutStop, FindError, ShardLimit};
+pub use error::{CutStop, FindError};
 pub use find::find_matches;

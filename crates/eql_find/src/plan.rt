@@ -1,8 +1,6 @@
 //! The plan of a search.
-ghost use Rattle.std.specs.Prelude.{◌≡◌, ◌≤◌, IfErr, IfOk, IsTrue, MatchResult};
-ghost use Rattle.eql_outside.specs.Faults.{FaultsAreSame};
-ghost use Rattle.eql_inputs.specs.Errors.{AbsencesFollow, CountFollows, FaultsFollow, IsNoFault};
-ghost use Rattle.eql_inputs.specs.Shelves.{KeepsShelf, LendsAsMany, NeverFails};
+ghost use Rattle.std.specs.Prelude.{◌≡◌, IfErr, IfOk, IsTrue};
+ghost use Rattle.eql_inputs.specs.Shelves.{ReadsShelf};
 ghost use Rattle.eql_inputs.specs.Steps.{HasCheckCause};
 ghost use Rattle.eql_cut.specs.CutValues.{names_ascend};
 ghost use Rattle.eql_words.specs.Bounds.{FindIsBounded};
@@ -37,23 +35,7 @@ pub(crate) fn read_plan<'a, H: Shelf>(
     ensures plan { IfOk result (IsPlanOf find.now (H.files shelf.old)) }
     ensures cause { IfErr result (HasCheckCause find.now.query find.now.fields
         (H.files shelf.old)) }
-    ensures faults { MatchResult result
-        (λ _. FaultsAreSame (H.faults_of shelf.old) (H.faults_of shelf.new))
-        (λ error. FaultsFollow error (H.faults_of shelf.old) (H.faults_of shelf.new)) }
-    ensures count { MatchResult result
-        (λ _. H.fault_count shelf.new ≡ H.fault_count shelf.old)
-        (λ error. CountFollows error (H.fault_count shelf.old) (H.fault_count shelf.new)) }
-    ensures absences { MatchResult result
-        (λ _. H.absent_count shelf.new ≡ H.absent_count shelf.old)
-        (λ error. AbsencesFollow error (H.absent_count shelf.old) (H.absent_count shelf.new)) }
-    ensures counts { (H.fault_count shelf.old ≤ H.fault_count shelf.new)
-        × (H.absent_count shelf.old ≤ H.absent_count shelf.new) }
-    ensures kept { KeepsShelf H.files H.source_plans H.disk_history H.is_out H.disk_fault_count
-        H.disk_plan shelf.old shelf.new }
-    ensures lent { LendsAsMany (H.lent_count shelf.old) (H.lent_count shelf.new) }
-    ensures unfailing { NeverFails (H.fault_plan shelf.old) (H.source_plans shelf.old)
-        → IfErr result IsNoFault
-        × NeverFails (H.fault_plan shelf.new) (H.source_plans shelf.new) }
+    ensures shelf { ReadsShelf H.Shelf shelf.old shelf.new result }
 {
     let inputs = read_checked(alloc, &find.query, &find.fields, shelf)?;
     match plan_of(alloc, inputs.checked, find) {

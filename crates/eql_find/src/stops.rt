@@ -2,11 +2,11 @@
 ghost use Rattle.std.specs.Prelude.{◌≡◌, ◌<◌, length};
 ghost use Rattle.eql_find.specs.Stops.{IsErrorAt, IsErrorOf, MayStop};
 
-use crate::error::{CutStop, FindError, ShardLimit};
+use crate::error::{CutStop, FindError};
 use crate::lanes::NotMade;
+use eql_conductor::Stop;
 use eql_inputs::InputError;
-use eql_lane::{LaneRefused, LimitOf};
-use eql_search::Stop;
+use eql_lane::LaneRefused;
 use eql_words::Names;
 
 /// The error of a run over these shards whose search stopped so.
@@ -19,10 +19,9 @@ pub(crate) fn error_of<'a>(stop: Stop, shards: &'a Names) -> FindError<'a>
         Stop::Write => FindError::Write,
         Stop::Disk => FindError::Disk,
         Stop::Memory => FindError::Files(InputError::Memory),
-        Stop::Limit(LimitOf::Lines { shard }) => FindError::Limit(ShardLimit::Lines(shard)),
-        Stop::Limit(LimitOf::Bytes { shard }) => FindError::Limit(ShardLimit::Bytes(shard)),
-        Stop::Limit(LimitOf::Generation) => FindError::Generation,
-        Stop::Limit(_) => unreachable!(),
+        Stop::Limit(limit) => FindError::Limit(limit),
+        Stop::Generation => FindError::Generation,
+        Stop::Worn => unreachable!(),
     }
 }
 

@@ -1,5 +1,5 @@
 -- The generations of a disk come to their end only where they began far up: a run has no more cuts than rounds, and those are bounded by its lanes.
-use Rattle.std.proofs.Common.{◌≡◌, inl, inr, ◌≤◌, ◌<◌, ◌*◌, ◌^◌, ℕ, zero, suc, ℤ, List, [], ◌∷◌, ◌++◌, map, Option, None, Some, length, length-append, refl, sym, ap, ◌∙◌, arith}
+use Rattle.std.proofs.Common.{◌≡◌, inl, inr, ◌≤◌, ◌<◌, ◌*◌, ◌^◌, ℕ, zero, suc, ℤ, List, [], ◌∷◌, ◌++◌, map, Option, None, Some, Ok, Err, length, length-append, refl, sym, ap, ◌∙◌, arith}
 use Rattle.std.specs.Prelude.{slice_get}
 use Rattle.std.specs.Option.{option_to_list}
 use Rattle.std.proofs.lemmas.List.{length-map}
@@ -10,8 +10,7 @@ use Rattle.eql_lane.specs.Lanes.{LaneState, beginning_lane, fresh_cut as fresh_l
 use Rattle.eql_lane.specs.Views.{LaneView}
 use Rattle.eql_parts.specs.PartSteps.{PartView}
 use Rattle.eql_cut.specs.declared.cut.Cut.{Cut}
-use Rattle.eql_conductor.specs.declared.plan.End.{End as Ends}
-use Rattle.eql_conductor.specs.declared.plan.End.TheVariants as end
+use Rattle.eql_conductor.specs.Going.{RunResult}
 use Rattle.eql_conductor.specs.declared.plan.RunPlan.{RunPlan}
 use Rattle.eql_conductor.specs.Benches.{ComesByFeeds, Known}
 use Rattle.eql_conductor.specs.Bounds.{AreSized, IsSized, held_count}
@@ -47,16 +46,12 @@ module _ (plan : RunPlan) (times : List ℤ) (old new : Known) where
         omega (arith, a, b, c)
   ]
 
-  few_times : (answer : Ends) (notes : RunNotes plan times old new answer) → length times ≤ round_count plan times old new answer notes
-  few_times end.Done notes =
+  few_times : (answer : RunResult) (notes : RunNotes plan times old new answer) → length times ≤ round_count plan times old new answer notes
+  few_times (Ok done) notes =
       let a = ap length notes.played.times_are in
       let b = fewer_times plan.every (start plan) notes.played.rounds in
       omega (arith, a, b)
-  few_times (end.ReadFault s) notes = few_broken notes
-  few_times end.WriteFault notes = few_broken notes
-  few_times end.DiskFault notes = few_broken notes
-  few_times end.Memory notes = few_broken notes
-  few_times (end.Limit of) notes = few_broken notes
+  few_times (Err by) notes = few_broken notes
 
 -- ---- no more rounds than the lanes allow
 total_bytes : (n : ℕ) (f : ℕ → ℕ) → ((s : ℕ) → s < n → f s ≤ greatest_bytes) → total_to n f ≤ greatest_bytes * n
@@ -129,7 +124,7 @@ module _ {S L : Type 0} (read_of : L → Reads) (text : ℕ → Option (List ℕ
       let e = same.lanes in
       omega (arith, a, b, c, e, few)
 
-  pub few_cuts : (plan : RunPlan) (cuts : List Cut) (answer : Ends) (notes : RunNotes plan (map cut_time cuts) first last answer) → RunIsBounded (round_count plan (map cut_time cuts) first last answer notes) first last
+  pub few_cuts : (plan : RunPlan) (cuts : List Cut) (answer : RunResult) (notes : RunNotes plan (map cut_time cuts) first last answer) → RunIsBounded (round_count plan (map cut_time cuts) first last answer notes) first last
       → length cuts ≤ 2 ^ 51
   few_cuts plan cuts answer notes bounded =
       let a = few_times plan (map cut_time cuts) first last answer notes in

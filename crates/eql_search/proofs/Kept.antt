@@ -1,10 +1,13 @@
 -- Which cuts a run put on its disk.
 use Rattle.std.proofs.Common.{◌≡◌, ◌≤◌, ◌^◌, ℕ, ℤ, List, [], Option, None, Some, Ok, Err, All, length, refl, arith, subst}
-use Rattle.std.specs.Prelude.{◌≤ℤ◌, pos, IfSome, OnOk, Result}
+use Rattle.std.specs.Prelude.{◌≤ℤ◌, pos, IfSome, OnOk}
 use Rattle.std.proofs.lemmas.List.Elements.{All-nil, All-weaker}
 use Rattle.eql_outside.specs.Moments.{History}
-use Rattle.eql_outside.specs.Plans.{FaultPlan}
+use Rattle.eql_outside.specs.declared.disk.Disk as disks
+use Rattle.eql_outside.specs.declared.sink.Sink as sinks
+use Rattle.eql_outside.specs.declared.source.Source as sources
 use Rattle.eql_values.specs.Accepted.{Reads}
+use Rattle.eql_values.specs.declared.reader.LineReader as readers
 use Rattle.eql_values.specs.declared.found.Holder.{Holder}
 use Rattle.eql_values.specs.declared.order.Mark.{Mark}
 use Rattle.eql_laws.specs.Alive.{IsSpan}
@@ -20,23 +23,21 @@ use Rattle.eql_cut.specs.Rising.{RiseFrom}
 use Rattle.eql_ckdisk.specs.declared.state.CkState.{CkState}
 use Rattle.eql_ckdisk.specs.Putting.{Stands, last_cut}
 use Rattle.eql_ckdisk.specs.Runs.{last_after}
-use Rattle.eql_conductor.specs.declared.plan.End.{End as Ends}
-use Rattle.eql_conductor.specs.declared.plan.End.TheVariants as end
 use Rattle.eql_conductor.specs.declared.plan.Keep.{Keep}
+use Rattle.eql_conductor.specs.declared.plan.Run.{Run as Carried}
 use Rattle.eql_conductor.specs.declared.plan.RunPlan.{RunPlan}
+use Rattle.eql_conductor.specs.declared.stop.Stop.TheVariants as stop
 use Rattle.eql_conductor.specs.Benches.{Known}
+use Rattle.eql_conductor.specs.Going.{RunResult}
 use Rattle.eql_conductor.specs.LaneRounds.{text_at}
 use Rattle.eql_conductor.specs.RunLaws.{BeginsTold, rules_of}
-use Rattle.eql_conductor.specs.Runs.{IsRunCut, KeepGoes, LastHolds, RunPuts, WroteLinesOf}
+use Rattle.eql_conductor.specs.Runs.{IsRunCut, KeepGoes, LastHolds, MayKeepIf, RunPuts, WroteLinesOf}
 use Rattle.eql_conductor.proofs.Cutting.{puts_none}
 use Rattle.eql_conductor.proofs.Recorded.{run_cut_is, run_cut_is_safe, wrote_to_cuts}
-use Rattle.eql_hub_run.specs.Beside.{IsSameBench, IsTold, RanFrom, bench_of}
+use Rattle.eql_hub_run.specs.Beside.{HubRan, IsSameBench, IsTold, bench_of}
 use Rattle.eql_replay.specs.Listed.{bench_known}
-use Rattle.eql_search.specs.declared.stop.Stop.{Stop}
-use Rattle.eql_search.specs.declared.stop.Stop.TheVariants as stop
 use Rattle.eql_search.specs.Beginnings.{BeginsOn, MayKeepOn, cuts_of, run_by, start_at}
 use Rattle.eql_search.specs.Keeping.{AreSearchCuts, IsLaterCut, IsSearchCut, KeepsOn, PutsThese, WroteCounted}
-use Rattle.eql_search.specs.Running.{end_of}
 use Rattle.eql_search.specs.Searches.{AreBegunFrom, AreTextsOf, HasNumbers, Rules}
 use Rattle.eql_search.proofs.Generations.{few_cuts}
 use Rattle.eql_search.proofs.Lines.{begins_told}
@@ -44,19 +45,16 @@ use Rattle.eql_search.proofs.Opened.{BeginsSo}
 use Rattle.eql_search.proofs.Texts.{for_some, of_some}
 use Rattle.eql_search.proofs.Told.{done_then, generation_then, no_disk, no_memory}
 
--- ---- answers by their ends
-module _ {A : Type 0} where
-  pub ends_memory : (r : Result A Stop) → end_of r ≡ end.Memory → r ≡ Err stop.Memory
-  ends_memory (Ok a) e = absurd cc
-  ends_memory (Err (stop.Read s)) e = absurd cc
-  ends_memory (Err stop.Write) e = absurd cc
-  ends_memory (Err stop.Disk) e = absurd cc
-  ends_memory (Err stop.Memory) e = refl
-  ends_memory (Err (stop.Limit of)) e = absurd cc
+-- ---- cuts may be kept
+-- a search keeps them as a run over its lanes may
+pub may_keep : {S L D : Type 0} (history : D → Option History) (count : D → ℕ) (read_of : L → Reads) (text : ℕ → Option (List ℕ)) (lanes : List (LaneView S L)) (parts : List PartView)
+    (plan : RunPlan) (keep : Option (Keep D)) → MayKeepOn history plan (length lanes) keep → MayKeepIf history count plan (bench_known read_of text (bench_of lanes parts)) keep
+may_keep history count read_of text lanes parts plan None may = may
+may_keep history count read_of text lanes parts plan (Some k) may = (may.0, record { every = may.1; head = record { names = may.2; shards = may.3 }; stands = may.4 })
 
 -- ---- nothing was put
-module _ (A : Type 0) {D : Type 0} (history : D → Option History) (head : CutHead) (from : Mark) (Are : List Cut → Type 0) (are : Are []) where
-  puts_nothing : (k : Keep D) → Stands (last_cut k.state) (history k.disk) → PutsThese {A = A} head from Are k.state k.state (history k.disk) (history k.disk) (Err stop.Memory)
+module _ {D : Type 0} (history : D → Option History) (head : CutHead) (from : Mark) (Are : List Cut → Type 0) (are : Are []) where
+  puts_nothing : (k : Keep D) → Stands (last_cut k.state) (history k.disk) → PutsThese {A = Unit {0}} head from Are k.state k.state (history k.disk) (history k.disk) (Err stop.Memory)
   puts_nothing k stands = record {
     cuts = [];
     are_later = All-nil (IsLaterCut head from);
@@ -68,16 +66,29 @@ module _ (A : Type 0) {D : Type 0} (history : D → Option History) (head : CutH
     ended = λ e. absurd cc;
   }
 
-  pub keeps_nothing : (plan : RunPlan) (lanes : ℕ) (keep : Option (Keep D)) → MayKeepOn history plan lanes keep → KeepsOn history {A = A} head from Are keep keep (Err stop.Memory)
+  pub keeps_nothing : (plan : RunPlan) (lanes : ℕ) (keep : Option (Keep D)) → MayKeepOn history plan lanes keep → KeepsOn history {A = Unit {0}} head from Are keep keep (Err stop.Memory)
   keeps_nothing plan lanes None may = λ e. cc
   keeps_nothing plan lanes (Some k) may = puts_nothing k may.4
 
-module _ (A : Type 0) {S L D : Type 0} (left lent_as : S → Option (List ℕ)) (fault_plan : S → Option FaultPlan) (read_of : L → Reads) (history : D → Option History) (count : D → ℕ) (reads : Reads) (slack : Option ℤ)
-    (stages : ℕ) (span : Option ℤ) (told : Option (List (List ℕ))) (plan : RunPlan) (olds news : List (LaneView S L)) (holders : List Holder) (parts : List PartView) (book then : BookState) (before now : Option (List ℕ)) (sink_before sink_now : ℕ)
-    (first last : Known) (begun : AreBegunFrom read_of reads slack 0 olds) (is_span : IsSpan span) (few : length olds ≤ 256)
-    (texts_are : IfSome told (λ (texts : List (List ℕ)). AreTextsOf left texts olds))
-    (begins : BeginsSo left read_of reads slack stages span (text_at told) olds holders parts plan book plan.mark)
-    (same : IsSameBench (bench_known read_of (text_at told) (bench_of olds parts)) first) where
+module _ {S L K D : Type 0} (source : sources.Ghosts S) (reader : readers.Ghosts L) (output : sinks.Ghosts K) (disk : disks.Ghosts D) (reads : Reads) (slack : Option ℤ)
+    (stages : ℕ) (span : Option ℤ) (told : Option (List (List ℕ))) (olds news : List (LaneView S L)) (holders : List Holder) (parts : List PartView)
+    (sink sink' : K) (carried carried' : Carried D)
+    (first last : Known) (begun : AreBegunFrom reader.read_of reads slack 0 olds) (is_span : IsSpan span) (few : length olds ≤ 256)
+    (texts_are : IfSome told (λ (texts : List (List ℕ)). AreTextsOf source.left texts olds))
+    (begins : BeginsSo source.left reader.read_of reads slack stages span (text_at told) olds holders parts carried.plan carried.book carried.plan.mark)
+    (same : IsSameBench (bench_known reader.read_of (text_at told) (bench_of olds parts)) first) where
+  abbrev plan : RunPlan
+  plan = carried.plan
+
+  abbrev book : BookState
+  book = carried.book
+
+  abbrev before : Option (List ℕ)
+  before = output.written sink
+
+  abbrev now : Option (List ℕ)
+  now = output.written sink'
+
   abbrev rules : PartRules
   rules = record { stages = stages; span = span }
 
@@ -87,12 +98,12 @@ module _ (A : Type 0) {S L D : Type 0} (left lent_as : S → Option (List ℕ)) 
   abbrev On : List (List ℕ) → Type 0
   On texts = BeginsOn by book.pipes texts (start_at plan.mark (cuts_of olds) holders book.kept)
 
-  begun_told : (texts : List (List ℕ)) → told ≡ Some texts → AreTextsOf left texts olds → On texts → HasNumbers by texts → BeginsTold rules reads slack texts plan.mark holders first book
+  begun_told : (texts : List (List ℕ)) → told ≡ Some texts → AreTextsOf source.left texts olds → On texts → HasNumbers by texts → BeginsTold rules reads slack texts plan.mark holders first book
   begun_told texts e are on numbers =
-      begins_told A left lent_as fault_plan read_of history count reads slack stages span told plan olds news holders parts book then before now sink_before sink_now None None first last begun is_span begins same texts e are on numbers
+      begins_told source reader output disk reads slack stages span told olds news holders parts sink sink' carried carried' first last begun is_span begins same texts e are on numbers
 
   -- a cut of the run, over told texts
-  search_cut : (texts : List (List ℕ)) → told ≡ Some texts → AreTextsOf left texts olds → On texts → HasNumbers by texts → (bound : ℤ) → slack ≡ Some bound → pos 0 ≤ℤ bound → bound ≤ℤ greatest_slack
+  search_cut : (texts : List (List ℕ)) → told ≡ Some texts → AreTextsOf source.left texts olds → On texts → HasNumbers by texts → (bound : ℤ) → slack ≡ Some bound → pos 0 ≤ℤ bound → bound ≤ℤ greatest_slack
       → (cut : Cut) → IsRunCut plan.head plan.mark first book cut → IsSearchCut by book.pipes texts bound cut
   search_cut texts e are on numbers bound is low high cut made =
       let run : Run = run_by by book.pipes 0 bound in
@@ -112,20 +123,24 @@ module _ (A : Type 0) {S L D : Type 0} (left lent_as : S → Option (List ℕ)) 
   search_cuts cuts made wrote =
       for_some told (λ (texts : List (List ℕ)). On texts → HasNumbers by texts
       → AreSearchCuts by book.pipes texts cuts × All (WroteCounted by book.pipes book.places book.kept.listed texts before now) cuts) (λ texts e on numbers.
-      let are = of_some told (λ (ts : List (List ℕ)). AreTextsOf left ts olds) texts e texts_are in (
+      let are = of_some told (λ (ts : List (List ℕ)). AreTextsOf source.left ts olds) texts e texts_are in (
         λ bound is low high.
             All-weaker (IsRunCut plan.head plan.mark first book) (IsSearchCut by book.pipes texts bound) (search_cut texts e are on numbers bound is low high) cuts made,
         wrote_to_cuts book_is_kept end_is_whole rules reads slack texts plan.mark holders first book before now (begun_told texts e are on numbers) plan.head cuts made wrote,
       ))
 
-  module _ (r : Result A Stop) (ended : Ends) (told_as : IsTold ended (end_of r)) where
+  module _ (r : RunResult) (ended : RunResult) (told_as : IsTold ended r) where
     later_cut : (cut : Cut) → IsRunCut plan.head plan.mark first book cut → IsLaterCut plan.head plan.mark cut
     later_cut cut made = record { head_is = made.head_is; is_cut = made.is_cut; later = made.later }
 
-    last_of : (state then_state : CkState) (disk disk_now : Option History) (cuts : List Cut) (a : Result A Stop) → IsTold ended (end_of a)
+    last_of : (state then_state : CkState) (disk disk_now : Option History) (cuts : List Cut) (a : RunResult) → IsTold ended a
         → RunPuts plan.head plan.mark first book state then_state disk disk_now cuts ended
         → OnOk a ((last_cut then_state ≡ last_after (last_cut state) cuts) × LastHolds (last_cut then_state) cuts disk_now)
-    last_of state then_state disk disk_now cuts (Ok a) at puts = let done = done_then ended a at in (puts.state_is done, puts.holds done)
+    last_of state then_state disk disk_now cuts (Ok a) at puts =
+        let done = done_then ended a at in (
+          subst (λ (e : RunResult). OnOk e (last_cut then_state ≡ last_after (last_cut state) cuts)) done puts.state_is,
+          subst (λ (e : RunResult). OnOk e (LastHolds (last_cut then_state) cuts disk_now)) done puts.holds,
+        )
     last_of state then_state disk disk_now cuts (Err of) at puts = tt
 
     these : (state then_state : CkState) (disk disk_now : Option History) (cuts : List Cut) → length cuts ≤ 2 ^ 51 → All (WroteLinesOf plan.mark first book before now) cuts → RiseFrom plan.mark cuts
@@ -145,16 +160,15 @@ module _ (A : Type 0) {S L D : Type 0} (left lent_as : S → Option (List ℕ)) 
     }
 
     goes : (keep kept : Option (Keep D)) (cuts : List Cut) → length cuts ≤ 2 ^ 51 → All (WroteLinesOf plan.mark first book before now) cuts → RiseFrom plan.mark cuts
-        → KeepGoes history count plan.head plan.mark first book cuts ended keep kept → KeepsOn history plan.head plan.mark Are keep kept r
+        → KeepGoes disk.history disk.fault_count plan.head plan.mark first book cuts ended keep kept → KeepsOn disk.history plan.head plan.mark Are keep kept r
     goes None None cuts few_of wrote rise kept_so = λ e. kept_so.1 (generation_then ended r e told_as)
     goes None (Some l) cuts few_of wrote rise kept_so = absurd kept_so
     goes (Some k) None cuts few_of wrote rise kept_so = absurd kept_so
-    goes (Some k) (Some l) cuts few_of wrote rise kept_so = these k.state l.state (history k.disk) (history l.disk) cuts few_of wrote rise kept_so
+    goes (Some k) (Some l) cuts few_of wrote rise kept_so = these k.state l.state (disk.history k.disk) (disk.history l.disk) cuts few_of wrote rise kept_so
 
-  pub keeps : (r : Result A Stop) (keep kept : Option (Keep D))
-      → RanFrom left lent_as fault_plan read_of history count (text_at told) plan olds news first last parts book then before now sink_before sink_now keep kept (end_of r)
-      → KeepsOn history plan.head plan.mark Are keep kept r
-  keeps r keep kept run =
-      goes r run.ended run.told keep kept run.ran.cuts
-      (few_cuts read_of (text_at told) olds news parts first last same run.goes.same.lanes run.lanes run.on.count few begins.begins.sized plan run.ran.cuts run.ended run.ran.notes run.ran.bound)
+  pub keeps : (r : RunResult) → HubRan source reader output disk (text_at told) olds news parts sink sink' first last carried carried' r
+      → KeepsOn disk.history plan.head plan.mark Are carried.keep carried'.keep r
+  keeps r run =
+      goes r run.ended run.told carried.keep carried'.keep run.ran.cuts
+      (few_cuts reader.read_of (text_at told) olds news parts first last same run.goes.same.lanes run.lanes run.on.count few begins.begins.sized plan run.ran.cuts run.ended run.ran.notes run.ran.bound)
       run.ran.wrote run.ran.rise run.ran.keeps

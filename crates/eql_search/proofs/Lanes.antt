@@ -4,12 +4,14 @@ use Rattle.std.specs.Prelude.{◌==◌, IfSome, IsTrue, slice_get}
 use Rattle.std.specs.List.{AllZip}
 use Rattle.std.proofs.lemmas.List.{append-nil}
 use Rattle.std.proofs.lemmas.Option.{same_Some, slice_get_within}
-use Rattle.eql_outside.specs.Moments.{History}
-use Rattle.eql_outside.specs.Plans.{FaultPlan}
+use Rattle.eql_outside.specs.declared.disk.Disk as disks
+use Rattle.eql_outside.specs.declared.sink.Sink as sinks
+use Rattle.eql_outside.specs.declared.source.Source as sources
 use Rattle.eql_values.specs.Accepted.{Reads}
 use Rattle.eql_values.specs.declared.cut.LaneCut.{LaneCut}
 use Rattle.eql_values.specs.declared.order.Mark.{Mark}
 use Rattle.eql_values.specs.declared.order.Mark.TheVariants.{End}
+use Rattle.eql_values.specs.declared.reader.LineReader as readers
 use Rattle.eql_values.specs.Lines.{begin_with, lines_of}
 use Rattle.eql_values.specs.Marks.{low_of}
 use Rattle.eql_laws.specs.Counting.{IsShardText, counts_of, greatest_bytes, greatest_lines}
@@ -22,17 +24,14 @@ use Rattle.eql_lane.specs.Views.{IsTextOf, LaneView, setting_of}
 use Rattle.eql_lane.proofs.FeedLines.{lines_both}
 use Rattle.eql_parts.specs.PartSteps.{PartView}
 use Rattle.eql_conductor.specs.LaneCalls.{IsOfText}
-use Rattle.eql_book.specs.Books.{BookState}
-use Rattle.eql_conductor.specs.declared.plan.End.{End as Ends}
-use Rattle.eql_conductor.specs.declared.plan.Keep.{Keep}
-use Rattle.eql_conductor.specs.declared.plan.RunPlan.{RunPlan}
+use Rattle.eql_conductor.specs.declared.plan.Run.{Run}
 use Rattle.eql_conductor.specs.Benches.{Known}
 use Rattle.eql_conductor.specs.Bounds.{AreSized, IsSized}
-use Rattle.eql_conductor.specs.Going.{GoesOnward}
+use Rattle.eql_conductor.specs.Going.{GoesOnward, RunResult}
 use Rattle.eql_conductor.specs.LaneRounds.{IsSafeAt, text_at}
 use Rattle.eql_conductor.specs.Rounds.{BenchIsOfTexts}
 use Rattle.eql_conductor.proofs.Onward.{fed_onward, onward_on}
-use Rattle.eql_hub_run.specs.Beside.{RanFrom, bench_of}
+use Rattle.eql_hub_run.specs.Beside.{HubRan, bench_of}
 use Rattle.eql_replay.specs.Listed.{HasLane, bench_known, set_in}
 use Rattle.eql_replay.specs.Opened.{IsAtPlace}
 use Rattle.eql_replay.proofs.Places.{there_or}
@@ -96,13 +95,13 @@ count_whole reads slack shard (text ∷ texts) (lane ∷ lanes) e each =
           each (suc k) t one was is ∙ ap (λ (n : ℕ). counts_of reads slack n t) next),
     )
 
-module _ {S L D : Type 0} (left lent_as : S → Option (List ℕ)) (fault_plan : S → Option FaultPlan) (read_of : L → Reads) (history : D → Option History) (count : D → ℕ) (reads : Reads) (slack : Option ℤ)
-    (told : Option (List (List ℕ))) (plan : RunPlan) (olds news : List (LaneView S L)) (parts : List PartView) (book then : BookState) (before now : Option (List ℕ)) (sink_before sink_now : ℕ)
-    (keep kept : Option (Keep D)) (answer : Ends) (first last : Known) (begun : AreBegunFrom read_of reads slack 0 olds)
-    (run : RanFrom left lent_as fault_plan read_of history count (text_at told) plan olds news first last parts book then before now sink_before sink_now keep kept answer)
-    (sizes : AreSized (bench_known read_of (text_at told) (bench_of olds parts))) where
+module _ {S L K D : Type 0} (source : sources.Ghosts S) (reader : readers.Ghosts L) (output : sinks.Ghosts K) (disk : disks.Ghosts D) (reads : Reads) (slack : Option ℤ)
+    (told : Option (List (List ℕ))) (olds news : List (LaneView S L)) (parts : List PartView) (sink sink' : K) (carried carried' : Run D)
+    (answer : RunResult) (first last : Known) (begun : AreBegunFrom reader.read_of reads slack 0 olds)
+    (run : HubRan source reader output disk (text_at told) olds news parts sink sink' first last carried carried' answer)
+    (sizes : AreSized (bench_known reader.read_of (text_at told) (bench_of olds parts))) where
   abbrev bench : Known
-  bench = bench_known read_of (text_at told) (bench_of olds parts)
+  bench = bench_known reader.read_of (text_at told) (bench_of olds parts)
 
   -- ---- at its place
   pub as_many : length news ≡ length olds
@@ -127,39 +126,39 @@ module _ {S L D : Type 0} (left lent_as : S → Option (List ℕ)) (fault_plan :
 
     pub onward : GoesOnward (first.set s) old.state new.state
     onward =
-        let left = run.lanes s new is in
-        let on = run.goes.each s (known_first s within) left.0 left.1 in
+        let stood = run.lanes s new is in
+        let on = run.goes.each s (known_first s within) stood.0 stood.1 in
         let set : Setting = first.set s in
-        let fed : GoesOnward set left.0 new.state = fed_onward set left.0 new.state left.2 in
-        subst (λ (x : LaneState). GoesOnward set x new.state) (old_is on.0 (run.begins.lane_from s on.0 on.1)) (onward_on set on.0 left.0 new.state on.2 fed)
+        let fed : GoesOnward set stood.0 new.state = fed_onward set stood.0 new.state stood.2 in
+        subst (λ (x : LaneState). GoesOnward set x new.state) (old_is on.0 (run.begins.lane_from s on.0 on.1)) (onward_on set on.0 stood.0 new.state on.2 fed)
 
     -- what is so of its low in each state that it might have at the conductor's end is so of it now
     pub low_on : (mark : Mark) → IsSafeAt s mark last → IsAtMost mark (low (first.set s) new.state)
     low_on mark safe =
-        let left = run.lanes s new is in
+        let stood = run.lanes s new is in
         let set : Setting = first.set s in
-        let at : IsAtMost mark (low set left.0) = subst (λ (u : Setting). IsAtMost mark (low u left.0)) (run.goes.same.set s (known_first s within)) (safe.low_is left.0 left.1) in
-        at_most_trans mark (low set left.0) (low set new.state) at (fed_onward set left.0 new.state left.2).low_up
+        let at : IsAtMost mark (low set stood.0) = subst (λ (u : Setting). IsAtMost mark (low u stood.0)) (run.goes.same.set s (known_first s within)) (safe.low_is stood.0 stood.1) in
+        at_most_trans mark (low set stood.0) (low set new.state) at (fed_onward set stood.0 new.state stood.2).low_up
 
     -- and where it is closed in each of them it is closed now
     pub closed_on : ((x : LaneState) → last.lane s x → x.cut.closed ≡ true) → new.state.cut.closed ≡ true
     closed_on closed =
-        let left = run.lanes s new is in
+        let stood = run.lanes s new is in
         let set : Setting = first.set s in
-        let up : IsAtMost (low set left.0) (low set new.state) = (fed_onward set left.0 new.state left.2).low_up in
+        let up : IsAtMost (low set stood.0) (low set new.state) = (fed_onward set stood.0 new.state stood.2).low_up in
         closed_low new.state.cut.closed set.slack new.state.cut.best
-        (subst (λ (c : Bool). IsAtMost (low_of c set.slack left.0.cut.best) (low set new.state)) (closed left.0 left.1) up)
+        (subst (λ (c : Bool). IsAtMost (low_of c set.slack stood.0.cut.best) (low set new.state)) (closed stood.0 stood.1) up)
 
     sized : IsSized new.state
     sized = onward.sized (sizes.each s within old.state has_then)
 
-    pub lane_stays : StaysLane left lent_as read_of old new
+    pub lane_stays : StaysLane source.left source.lent_as reader.read_of old new
     lane_stays = record { same = (run.on.each s old new was is).same; counts = onward.faults }
 
     -- ---- by a text that is told
     module _ (t : List ℕ) (named : text_at told s ≡ Some t) where
-      is_text : IsTextOf left (Some t) new
-      is_text = subst (λ (o : Option (List ℕ)). IsTextOf left o new) named (run.texts.each s new is)
+      is_text : IsTextOf source.left (Some t) new
+      is_text = subst (λ (o : Option (List ℕ)). IsTextOf source.left o new) named (run.texts.each s new is)
 
       lines_over : new.state.cut.counts.lines ≡ greatest_lines → new.state.cut.offset < new.state.taken
           → greatest_lines < old.state.cut.counts.lines + length (lines_of (drop old.state.cut.offset t))
@@ -179,8 +178,8 @@ module _ {S L D : Type 0} (left lent_as : S → Option (List ℕ)) (fault_plan :
       bytes_over most = let a = is_text.within in omega (arith, a, most)
 
       -- where it had read its text up to a place
-      module _ (at_then : IsAtPlace (setting_of read_of (Some t) old) t old.state) where
-        at_now : IsAtPlace (setting_of read_of (Some t) new) t new.state
+      module _ (at_then : IsAtPlace (setting_of reader.read_of (Some t) old) t old.state) where
+        at_now : IsAtPlace (setting_of reader.read_of (Some t) new) t new.state
         at_now = run.read.each s old new was is t named at_then
 
         -- what was read of it are so many bytes
@@ -200,7 +199,7 @@ module _ {S L D : Type 0} (left lent_as : S → Option (List ℕ)) (fault_plan :
         pub counts_are : new.state.cut.closed ≡ true → new.state.cut.counts ≡ counts_of reads slack s t
         counts_are closed =
             let same = (run.on.each s old new was is).same in
-            let one = begun_at read_of reads slack olds begun s old was in
+            let one = begun_at reader.read_of reads slack olds begun s old was in
             ap (λ (cut : LaneCut). cut.counts) at_now.is.cut
             ∙ (λ i. counts_of ((same.reads ∙ one.reads_are) i) ((same.slack ∙ one.slack_is) i) ((same.shard ∙ one.shard_is) i) (all_read closed i))
 
@@ -239,11 +238,11 @@ module _ {S L D : Type 0} (left lent_as : S → Option (List ℕ)) (fault_plan :
         by (Some t) e = bytes_over t e most
 
   -- ---- all of them
-  pub lanes_stay : AllZip (StaysLane left lent_as read_of) olds news
-  lanes_stay = zip_by (StaysLane left lent_as read_of) olds news as_many lane_stays
+  pub lanes_stay : AllZip (StaysLane source.left source.lent_as reader.read_of) olds news
+  lanes_stay = zip_by (StaysLane source.left source.lent_as reader.read_of) olds news as_many lane_stays
 
-  pub texts_stay : IfSome told (λ (texts : List (List ℕ)). AreTextsOf left texts olds) → IfSome told (λ (texts : List (List ℕ)). AreTextsOf left texts news)
-  texts_stay are = told_again left told olds news as_many are run.texts
+  pub texts_stay : IfSome told (λ (texts : List (List ℕ)). AreTextsOf source.left texts olds) → IfSome told (λ (texts : List (List ℕ)). AreTextsOf source.left texts news)
+  texts_stay are = told_again source.left told olds news as_many are run.texts
 
   -- every lane is closed
   abbrev pub Closed : Type 0
@@ -252,14 +251,14 @@ module _ {S L D : Type 0} (left lent_as : S → Option (List ℕ)) (fault_plan :
   pub all_closed : Closed → All IsClosed news
   all_closed closed = all_by IsClosed news closed
 
-  module _ (texts : List (List ℕ)) (e : told ≡ Some texts) (are : AreTextsOf left texts olds) (mark : Mark) (of_texts : BenchIsOfTexts reads slack texts mark bench) where
+  module _ (texts : List (List ℕ)) (e : told ≡ Some texts) (are : AreTextsOf source.left texts olds) (mark : Mark) (of_texts : BenchIsOfTexts reads slack texts mark bench) where
     -- each lane had read its text up to a place
-    was_at : (s : ℕ) (old : LaneView S L) (t : List ℕ) → slice_get olds s ≡ Some old → slice_get texts s ≡ Some t → IsAtPlace (setting_of read_of (Some t) old) t old.state
+    was_at : (s : ℕ) (old : LaneView S L) (t : List ℕ) → slice_get olds s ≡ Some old → slice_get texts s ≡ Some t → IsAtPlace (setting_of reader.read_of (Some t) old) t old.state
     was_at s old t was named =
         let at = of_texts.lanes.each s (slice_get_within olds s old was) old.state (record { lane = old; there = was; state_is = refl }) in
         let of : IsOfText (bench.set s) mark old.state t = of_some (slice_get texts s) (IsOfText (bench.set s) mark old.state) t named at.told in
-        let set : bench.set s ≡ setting_of read_of (Some t) old =
-        ap (set_in read_of (text_at told s)) was ∙ ap (λ (o : Option (List ℕ)). setting_of read_of o old) (ap (λ (o : Option (List (List ℕ))). text_at o s) e ∙ named) in
+        let set : bench.set s ≡ setting_of reader.read_of (Some t) old =
+        ap (set_in reader.read_of (text_at told s)) was ∙ ap (λ (o : Option (List ℕ)). setting_of reader.read_of o old) (ap (λ (o : Option (List (List ℕ))). text_at o s) e ∙ named) in
         record { mark = mark; is = subst (λ (u : Setting). LaneIs u t mark old.state) set of.is }
 
     named_at : (s : ℕ) (t : List ℕ) → slice_get texts s ≡ Some t → text_at told s ≡ Some t
@@ -274,13 +273,13 @@ module _ {S L D : Type 0} (left lent_as : S → Option (List ℕ)) (fault_plan :
     -- the texts are of the size that shards may have, where every lane is closed
     pub texts_fit : Closed → All IsShardText texts
     texts_fit closed =
-        all_told left IsShardText texts olds are (λ s old t was there.
+        all_told source.left IsShardText texts olds are (λ s old t was there.
         let one = new_at s old was in
         fits_shard s old one.0 was one.1 t (named_at s t there) (was_at s old t was there) (closed s one.0 one.1))
 
     pub were_read : Closed → WereRead reads slack texts news
     were_read closed = record {
-      counts = count_whole reads slack 0 texts news (told_count left texts olds are ∙ sym as_many) (λ s t new there is.
+      counts = count_whole reads slack 0 texts news (told_count source.left texts olds are ∙ sym as_many) (λ s t new there is.
           let one = old_at s new is in
           let here : s ≡ 0 + s = omega arith in
           counts_are s one.0 new one.1 is t (named_at s t there) (was_at s one.0 t one.1 there) (closed s new is)

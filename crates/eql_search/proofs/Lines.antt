@@ -1,11 +1,12 @@
 -- What a run wrote, in the words of the listing.
 use Rattle.std.proofs.Common.{◌≡◌, ◌^◌, ◌-◌, ◌++◌, ℕ, ℤ, true, List, [], drop, length, Option, Some, Ok, Err, All, refl, sym, ap, ◌∙◌, arith, subst, append_assoc}
-use Rattle.std.specs.Prelude.{OnErr, OnOk, Result, slice_get}
+use Rattle.std.specs.Prelude.{OnErr, OnOk, slice_get}
 use Rattle.std.proofs.lemmas.List.{append-nil, drop_at, take-append-drop}
 use Rattle.std.proofs.lemmas.List.Concat.{flat_map-append}
 use Rattle.std.proofs.lemmas.Option.{slice_get_within}
-use Rattle.eql_outside.specs.Moments.{History}
-use Rattle.eql_outside.specs.Plans.{FaultPlan}
+use Rattle.eql_outside.specs.declared.disk.Disk as disks
+use Rattle.eql_outside.specs.declared.sink.Sink as sinks
+use Rattle.eql_outside.specs.declared.source.Source as sources
 use Rattle.eql_outside.specs.Written.{WroteAll, WroteFront}
 use Rattle.eql_outside.proofs.WrittenLemmas.{writes_on}
 use Rattle.eql_values.specs.declared.cut.BookCut.{BookCut}
@@ -15,6 +16,7 @@ use Rattle.eql_values.specs.declared.found.Match.{Match}
 use Rattle.eql_values.specs.declared.found.Numbered.{Numbered}
 use Rattle.eql_values.specs.declared.order.Mark.{Mark}
 use Rattle.eql_values.specs.declared.order.Mark.TheVariants.{Start, At, End}
+use Rattle.eql_values.specs.declared.reader.LineReader as readers
 use Rattle.eql_values.specs.Accepted.{Reads, below}
 use Rattle.eql_values.specs.Matching.{after, matches}
 use Rattle.eql_values.specs.Numbering.{early_output, numbered_matches, pipe_output}
@@ -35,11 +37,10 @@ use Rattle.eql_book.specs.Books.{BookState, countable_matches, held_back, let_ou
 use Rattle.eql_book.specs.Listing.{listing, match_line}
 use Rattle.eql_book.proofs.Wholes.{end_is_whole}
 use Rattle.eql_cut.specs.declared.cut.Cut.{Cut}
-use Rattle.eql_conductor.specs.declared.plan.End.{End as Ends}
-use Rattle.eql_conductor.specs.declared.plan.End.TheVariants as end
-use Rattle.eql_conductor.specs.declared.plan.Keep.{Keep}
+use Rattle.eql_conductor.specs.declared.plan.Run.{Run}
 use Rattle.eql_conductor.specs.declared.plan.RunPlan.{RunPlan}
 use Rattle.eql_conductor.specs.Benches.{Known}
+use Rattle.eql_conductor.specs.Going.{RunResult}
 use Rattle.eql_conductor.specs.LaneRounds.{IsSafe, text_at}
 use Rattle.eql_conductor.specs.PartRounds.{AreAtRest}
 use Rattle.eql_conductor.specs.Records.{Ran}
@@ -47,13 +48,11 @@ use Rattle.eql_conductor.specs.Rounds.{BenchIsOfTexts, found_by}
 use Rattle.eql_conductor.specs.RunLaws.{BeginsTold, HavePlayed, StopsListed, found_below}
 use Rattle.eql_conductor.specs.Runs.{RunStops, lines_before_end, lines_by}
 use Rattle.eql_conductor.proofs.Broken.{wrote_none}
-use Rattle.eql_hub_run.specs.Beside.{IsSameBench, RanFrom, bench_of}
+use Rattle.eql_hub_run.specs.Beside.{HubRan, IsSameBench, bench_of}
 use Rattle.eql_replay.specs.Listed.{bench_known}
 use Rattle.eql_replay.proofs.Places.{there_or}
-use Rattle.eql_search.specs.declared.stop.Stop.{Stop}
 use Rattle.eql_search.specs.Answers.{IsClosed, WereRead}
 use Rattle.eql_search.specs.Beginnings.{BeginsOn, cuts_of, start_at}
-use Rattle.eql_search.specs.Running.{end_of}
 use Rattle.eql_search.specs.Searches.{AreBegunFrom, AreTextsOf, HasNumbers, Rules, rest_of}
 use Rattle.eql_search.proofs.Begun.{same_rests, same_texts}
 use Rattle.eql_search.proofs.Lanes.{all_closed, as_many, closed_low, closed_on, known_last, low_on, texts_fit, were_read}
@@ -139,57 +138,72 @@ front_of_all bytes before now wrote =
     subst (λ (l : List ℕ). WroteFront l before now) (append-nil bytes) (writes_on.front bytes [] before now now wrote (wrote_none [] now))
 
 -- ---- a run
-module _ (A : Type 0) {S L D : Type 0} (left lent_as : S → Option (List ℕ)) (fault_plan : S → Option FaultPlan) (read_of : L → Reads) (history : D → Option History) (count : D → ℕ) (reads : Reads) (slack : Option ℤ)
-    (stages : ℕ) (span : Option ℤ) (told : Option (List (List ℕ))) (plan : RunPlan) (olds news : List (LaneView S L)) (holders : List Holder) (parts : List PartView) (book then : BookState) (before now : Option (List ℕ)) (sink_before sink_now : ℕ)
-    (keep kept : Option (Keep D)) (first last : Known) (begun : AreBegunFrom read_of reads slack 0 olds) (is_span : IsSpan span)
-    (begins : BeginsSo left read_of reads slack stages span (text_at told) olds holders parts plan book plan.mark)
-    (same : IsSameBench (bench_known read_of (text_at told) (bench_of olds parts)) first) where
+module _ {S L K D : Type 0} (source : sources.Ghosts S) (reader : readers.Ghosts L) (output : sinks.Ghosts K) (disk : disks.Ghosts D) (reads : Reads) (slack : Option ℤ)
+    (stages : ℕ) (span : Option ℤ) (told : Option (List (List ℕ))) (olds news : List (LaneView S L)) (holders : List Holder) (parts : List PartView)
+    (sink sink' : K) (carried carried' : Run D) (first last : Known) (begun : AreBegunFrom reader.read_of reads slack 0 olds) (is_span : IsSpan span)
+    (begins : BeginsSo source.left reader.read_of reads slack stages span (text_at told) olds holders parts carried.plan carried.book carried.plan.mark)
+    (same : IsSameBench (bench_known reader.read_of (text_at told) (bench_of olds parts)) first) where
   abbrev rules : PartRules
   rules = record { stages = stages; span = span }
 
   abbrev by : Rules
   by = record { reads = reads; slack = slack; stages = stages; span = span }
 
+  abbrev plan : RunPlan
+  plan = carried.plan
+
+  abbrev book : BookState
+  book = carried.book
+
+  abbrev then : BookState
+  then = carried'.book
+
+  abbrev before : Option (List ℕ)
+  before = output.written sink
+
+  abbrev now : Option (List ℕ)
+  now = output.written sink'
+
   abbrev bench : Known
-  bench = bench_known read_of (text_at told) (bench_of olds parts)
+  bench = bench_known reader.read_of (text_at told) (bench_of olds parts)
 
-  abbrev Beside : Result A Stop → Type 0
-  Beside r = RanFrom left lent_as fault_plan read_of history count (text_at told) plan olds news first last parts book then before now sink_before sink_now keep kept (end_of r)
+  abbrev Beside : RunResult → Type 0
+  Beside r = HubRan source reader output disk (text_at told) olds news parts sink sink' first last carried carried' r
 
-  abbrev RanTo : Ends → Type 0
-  RanTo ended = Ran history count plan first last book then before now keep kept ended
+  abbrev RanTo : RunResult → Type 0
+  RanTo ended = Ran disk.history disk.fault_count plan first last book then before now carried.keep carried'.keep ended
 
   abbrev On : List (List ℕ) → Type 0
   On texts = BeginsOn by book.pipes texts (start_at plan.mark (cuts_of olds) holders book.kept)
 
   -- an answer without a stop is that of a run to its end
-  done_ran : (a : A) → Beside (Ok a) → RanTo end.Done
+  done_ran : (a : Unit {0}) → Beside (Ok a) → RanTo (Ok a)
   done_ran a run = subst RanTo (done_then run.ended a run.told) run.ran
 
   abbrev Closed : Type 0
   Closed = (s : ℕ) (new : LaneView S L) → slice_get news s ≡ Some new → new.state.cut.closed ≡ true
 
-  old_of : (r : Result A Stop) → Beside r → (s : ℕ) (new : LaneView S L) → slice_get news s ≡ Some new → (old : LaneView S L) × (slice_get olds s ≡ Some old)
+  old_of : (r : RunResult) → Beside r → (s : ℕ) (new : LaneView S L) → slice_get news s ≡ Some new → (old : LaneView S L) × (slice_get olds s ≡ Some old)
   old_of r run s new is =
-      there_or olds s (let a = slice_get_within news s new is in let b = as_many left lent_as fault_plan read_of history count reads slack told plan olds news parts book then before now sink_before sink_now keep kept (end_of r) first last begun run begins.begins.sized in omega (arith, a, b))
+      there_or olds s (let a = slice_get_within news s new is in let b = as_many source reader output disk reads slack told olds news parts sink sink' carried carried' r first last begun run begins.begins.sized in omega (arith, a, b))
 
   -- at the end every lane is closed
-  closed_by : (r : Result A Stop) → Beside r → RanTo end.Done → Closed
-  closed_by r run ran s new is =
+  closed_by : (r : RunResult) (a : Unit {0}) → Beside r → RanTo (Ok a) → Closed
+  closed_by r a run ran s new is =
       let one = old_of r run s new is in
-      closed_on left lent_as fault_plan read_of history count reads slack told plan olds news parts book then before now sink_before sink_now keep kept (end_of r) first last begun run begins.begins.sized s one.0 new one.1 is
-      (λ x has. ran.is.closed s (known_last left lent_as fault_plan read_of history count reads slack told plan olds news parts book then before now sink_before sink_now keep kept (end_of r) first last begun run begins.begins.sized s (slice_get_within olds s one.0 one.1)) x has)
+      closed_on source reader output disk reads slack told olds news parts sink sink' carried carried' r first last begun run begins.begins.sized s one.0 new one.1 is
+      (λ x has. ran.is.closed s (known_last source reader output disk reads slack told olds news parts sink sink' carried carried' r first last begun run begins.begins.sized s (slice_get_within olds s one.0 one.1)) x has)
 
   -- and so it is where the end is safe
-  closed_at : (r : Result A Stop) → Beside r → IsSafe End last → Closed
+  closed_at : (r : RunResult) → Beside r → IsSafe End last → Closed
   closed_at r run safe s new is =
       let one = old_of r run s new is in
       let inside = slice_get_within olds s one.0 one.1 in
       closed_low new.state.cut.closed (first.set s).slack new.state.cut.best
-      (low_on left lent_as fault_plan read_of history count reads slack told plan olds news parts book then before now sink_before sink_now keep kept (end_of r) first last begun run begins.begins.sized s one.0 new one.1 is End
-      (safe.each s (known_last left lent_as fault_plan read_of history count reads slack told plan olds news parts book then before now sink_before sink_now keep kept (end_of r) first last begun run begins.begins.sized s inside)))
+      (low_on source reader output disk reads slack told olds news parts sink sink' carried carried' r first last begun run begins.begins.sized s one.0 new one.1 is End
+      (safe.each s (known_last source reader output disk reads slack told olds news parts sink sink' carried carried' r first last begun run begins.begins.sized s inside)))
 
-  module _ (texts : List (List ℕ)) (e : told ≡ Some texts) (are : AreTextsOf left texts olds) (on : On texts) where
+  module _ (texts : List (List ℕ)) (e : told ≡ Some texts) (are : AreTextsOf source.left texts olds) (on : On texts) where
     played : HavePlayed rules reads slack texts plan.mark holders book
     played = begins.played texts on
 
@@ -211,15 +225,15 @@ module _ (A : Type 0) {S L D : Type 0} (left lent_as : S → Option (List ℕ)) 
       numbers = numbers;
     }
 
-    pub wrote_whole : (r : Result A Stop) → Beside r → OnOk r (HasNumbers by texts → WroteAll (rest_of by book.pipes book.places book.kept.listed texts) before now)
+    pub wrote_whole : (r : RunResult) → Beside r → OnOk r (HasNumbers by texts → WroteAll (rest_of by book.pipes book.places book.kept.listed texts) before now)
     wrote_whole (Ok done) run = λ numbers. (done_ran done run).listed rules reads slack texts holders (begins_told numbers)
     wrote_whole (Err stopped) run = tt
 
     -- ---- a stop
     -- where every lane is closed the texts are of the size that shards may have
-    fit : (r : Result A Stop) → Beside r → Closed → All IsShardText texts
+    fit : (r : RunResult) → Beside r → Closed → All IsShardText texts
     fit r run closed =
-        texts_fit left lent_as fault_plan read_of history count reads slack told plan olds news parts book then before now sink_before sink_now keep kept (end_of r) first last begun run begins.begins.sized
+        texts_fit source reader output disk reads slack told olds news parts sink sink' carried carried' r first last begun run begins.begins.sized
         texts e are plan.mark of_bench closed
 
     early : WroteFront (lines_before_end book (found_by rules holders (between reads slack texts plan.mark End))) before now → WroteFront (rest_of by book.pipes book.places book.kept.listed texts) before now
@@ -228,7 +242,7 @@ module _ (A : Type 0) {S L D : Type 0} (left lent_as : S → Option (List ℕ)) 
         (sym (found_on rules reads slack texts is_span plan.mark holders book played))
         (before_end book (found_below rules reads slack texts plan.mark) (found_by rules holders (between reads slack texts plan.mark End)) before now played.counted wrote)
 
-    module _ (few_then : All IsShardText texts → HasNumbers by texts) (r : Result A Stop) (run : Beside r) where
+    module _ (few_then : All IsShardText texts → HasNumbers by texts) (r : RunResult) (run : Beside r) where
       -- by the mark at which the conductor stopped
       front_at : (cuts : List Cut) → (HasNumbers by texts → StopsListed rules reads slack texts plan.mark last book then before now cuts) → (mark : Mark) → IsSafe mark last
           → WroteFront (lines_by mark book (found_by rules holders (between reads slack texts plan.mark End))) before now
@@ -244,32 +258,28 @@ module _ (A : Type 0) {S L D : Type 0} (left lent_as : S → Option (List ℕ)) 
           front_at cuts listed stops.mark stops.safe (stops.told reads slack texts rules holders of_first rests_first).front
 
       -- by the end of the conductor, whichever is told
-      front_by : (ended : Ends) → RanTo ended → WroteFront (rest_of by book.pipes book.places book.kept.listed texts) before now
-      front_by end.Done ran =
+      front_by : (ended : RunResult) → RanTo ended → WroteFront (rest_of by book.pipes book.places book.kept.listed texts) before now
+      front_by (Ok done) ran =
           front_of_all (rest_of by book.pipes book.places book.kept.listed texts) before now
-          (ran.listed rules reads slack texts holders (begins_told (few_then (fit r run (closed_by r run ran)))))
-      front_by (end.ReadFault s) ran = stopped_front ran.cuts ran.is (λ numbers. ran.listed rules reads slack texts holders (begins_told numbers))
-      front_by end.WriteFault ran = stopped_front ran.cuts ran.is (λ numbers. ran.listed rules reads slack texts holders (begins_told numbers))
-      front_by end.DiskFault ran = stopped_front ran.cuts ran.is (λ numbers. ran.listed rules reads slack texts holders (begins_told numbers))
-      front_by end.Memory ran = stopped_front ran.cuts ran.is (λ numbers. ran.listed rules reads slack texts holders (begins_told numbers))
-      front_by (end.Limit of) ran = stopped_front ran.cuts ran.is (λ numbers. ran.listed rules reads slack texts holders (begins_told numbers))
+          (ran.listed rules reads slack texts holders (begins_told (few_then (fit r run (closed_by r done run ran)))))
+      front_by (Err of) ran = stopped_front ran.cuts ran.is (λ numbers. ran.listed rules reads slack texts holders (begins_told numbers))
 
-    pub wrote_front : (r : Result A Stop) → Beside r
+    pub wrote_front : (r : RunResult) → Beside r
         → OnErr r ((All IsShardText texts → HasNumbers by texts) → WroteFront (rest_of by book.pipes book.places book.kept.listed texts) before now)
     wrote_front (Ok done) run = tt
     wrote_front (Err of) run = λ few_then. front_by few_then (Err of) run run.ended run.ran
 
   -- ---- the end
-  pub lanes_closed : (r : Result A Stop) → Beside r → OnOk r (All IsClosed news)
+  pub lanes_closed : (r : RunResult) → Beside r → OnOk r (All IsClosed news)
   lanes_closed (Ok a) run =
-      let r : Result A Stop = Ok a in
-      all_closed left lent_as fault_plan read_of history count reads slack told plan olds news parts book then before now sink_before sink_now keep kept (end_of r) first last begun run begins.begins.sized
-      (closed_by r run (done_ran a run))
+      let r : RunResult = Ok a in
+      all_closed source reader output disk reads slack told olds news parts sink sink' carried carried' r first last begun run begins.begins.sized
+      (closed_by r a run (done_ran a run))
   lanes_closed (Err of) run = tt
 
-  pub texts_read : (texts : List (List ℕ)) → told ≡ Some texts → AreTextsOf left texts olds → On texts → (r : Result A Stop) → Beside r → OnOk r (WereRead reads slack texts news)
+  pub texts_read : (texts : List (List ℕ)) → told ≡ Some texts → AreTextsOf source.left texts olds → On texts → (r : RunResult) → Beside r → OnOk r (WereRead reads slack texts news)
   texts_read texts e are on (Ok a) run =
-      let r : Result A Stop = Ok a in
-      were_read left lent_as fault_plan read_of history count reads slack told plan olds news parts book then before now sink_before sink_now keep kept (end_of r) first last begun run begins.begins.sized
-      texts e are plan.mark (begins.of_texts texts (named told texts e) are on) (closed_by r run (done_ran a run))
+      let r : RunResult = Ok a in
+      were_read source reader output disk reads slack told olds news parts sink sink' carried carried' r first last begun run begins.begins.sized
+      texts e are plan.mark (begins.of_texts texts (named told texts e) are on) (closed_by r a run (done_ran a run))
   texts_read texts e are on (Err of) run = tt

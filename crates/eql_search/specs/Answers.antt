@@ -6,12 +6,12 @@ use Rattle.eql_outside.specs.Unfailing.{IsUnfailing}
 use Rattle.eql_values.specs.Accepted.{Reads}
 use Rattle.eql_values.specs.Lines.{lines_of}
 use Rattle.eql_laws.specs.Counting.{counts_of, greatest_lines, greatest_bytes, IsShardText}
-use Rattle.eql_lane.specs.declared.ops.LimitOf.{LimitOf}
+use Rattle.eql_lane.specs.declared.ops.ShardLimit.{ShardLimit}
 use Rattle.eql_lane.specs.declared.ops.ShardLimit.TheVariants as limit
 use Rattle.eql_lane.specs.Views.{IsSameLane, LaneView}
+use Rattle.eql_conductor.specs.declared.stop.Stop.{Stop}
+use Rattle.eql_conductor.specs.declared.stop.Stop.TheVariants as stop
 use Rattle.eql_conductor.specs.LaneRounds.{text_at}
-use Rattle.eql_search.specs.declared.stop.Stop.{Stop}
-use Rattle.eql_search.specs.declared.stop.Stop.TheVariants as stop
 
 module _ {S L : Type 0} where
   -- the faults of a lane's source are as many as before
@@ -70,21 +70,21 @@ module _ {S L : Type 0} where
     pub bytes : new.state.taken ≡ greatest_bytes
     pub beyond : IfSome text (λ t. greatest_bytes ≤ length t)
 
-  -- a lane came to this limit of its shard, or the disk to the end of its generations
-  abbrev pub HasLimitAt : (texts : Option (List (List ℕ))) → LimitOf → (olds news : List (LaneView S L)) → Type 0
+  -- a lane came to this limit of its shard
+  abbrev pub HasLimitAt : (texts : Option (List (List ℕ))) → ShardLimit → (olds news : List (LaneView S L)) → Type 0
   HasLimitAt texts (limit.Lines shard) olds news = BecameAt shard olds news (RanOutOfLines (text_at texts shard))
   HasLimitAt texts (limit.Bytes shard) olds news = BecameAt shard olds news (RanOutOfBytes (text_at texts shard))
-  HasLimitAt texts limit.Turns olds news = ⊥
-  HasLimitAt texts limit.Generation olds news = Unit {0}
 
   -- why a search stopped: by the texts of its lanes, where they are told, by its lanes before and after, and by the faults of its sink and of its
-  -- disk before and after
+  -- disk before and after. No lock is worn
   abbrev pub HasSearchCause : (texts : Option (List (List ℕ))) → Stop → (olds news : List (LaneView S L)) → (before now disk_before disk_now : ℕ) → Type 0
   HasSearchCause texts (stop.Read shard) olds news before now disk_before disk_now = BecameAt shard olds news RoseFaults
   HasSearchCause texts stop.Write olds news before now disk_before disk_now = Rose before now
   HasSearchCause texts stop.Disk olds news before now disk_before disk_now = Rose disk_before disk_now
   HasSearchCause texts stop.Memory olds news before now disk_before disk_now = Unit {0}
   HasSearchCause texts (stop.Limit of) olds news before now disk_before disk_now = HasLimitAt texts of olds news
+  HasSearchCause texts stop.Generation olds news before now disk_before disk_now = Unit {0}
+  HasSearchCause texts stop.Worn olds news before now disk_before disk_now = ⊥
 
 module _ {S L : Type 0} (left : S → Option (List ℕ)) where
   -- what stays of a lane whatever is returned, and that the count of its faults doesn't fall
@@ -104,3 +104,5 @@ IsNoFault stop.Write = ⊥
 IsNoFault stop.Disk = ⊥
 IsNoFault stop.Memory = Unit {0}
 IsNoFault (stop.Limit of) = Unit {0}
+IsNoFault stop.Generation = Unit {0}
+IsNoFault stop.Worn = Unit {0}

@@ -8,7 +8,6 @@ use Rattle.eql_outside.specs.Moments.{History}
 use Rattle.eql_outside.specs.Written.{WroteThrough}
 use Rattle.eql_laws.specs.Belows.{IsMarkTime, greatest_slack}
 use Rattle.eql_laws.specs.Lateness.{IsAtMost}
-use Rattle.eql_lane.specs.declared.ops.ShardLimit.TheVariants as limit
 use Rattle.eql_cut.specs.declared.cut.Cut.{Cut}
 use Rattle.eql_cut.specs.declared.cut.CutHead.{CutHead}
 use Rattle.eql_cut.specs.Domain.{IsCut, kept_by}
@@ -18,11 +17,11 @@ use Rattle.eql_ckdisk.specs.declared.state.CkState.{CkState}
 use Rattle.eql_ckdisk.specs.Putting.{Stands, last_cut}
 use Rattle.eql_ckdisk.specs.Runs.{last_after}
 use Rattle.eql_conductor.specs.declared.plan.Keep.{Keep}
+use Rattle.eql_conductor.specs.declared.stop.Stop.{Stop}
+use Rattle.eql_conductor.specs.declared.stop.Stop.TheVariants as stop
 use Rattle.eql_conductor.specs.Openings.{IsCutOfTexts, IsSafeCut}
 use Rattle.eql_conductor.specs.Runs.{LastHolds}
 use Rattle.eql_conductor.specs.Saving.{PutsCuts}
-use Rattle.eql_search.specs.declared.stop.Stop.{Stop}
-use Rattle.eql_search.specs.declared.stop.Stop.TheVariants as stop
 use Rattle.eql_search.specs.Answers.{IsRead}
 use Rattle.eql_search.specs.Searches.{Rules, found_in}
 use Rattle.eql_search.specs.Beginnings.{run_by}
@@ -60,13 +59,13 @@ pub record PutsThese {A : Type 0} (head : CutHead) (from : Mark) (Are : List Cut
   pub puts : PutsCuts (last_cut state) cuts before now
   pub stands : answer ≢ Err stop.Disk → answer ≢ Err stop.Memory → ¬ IsRead answer → Stands (last_cut then) now
   pub last : OnOk answer ((last_cut then ≡ last_after (last_cut state) cuts) × LastHolds (last_cut then) cuts now)
-  pub ended : answer ≡ Err (stop.Limit limit.Generation)
+  pub ended : answer ≡ Err stop.Generation
       → ((last_cut then).generation ≡ 2 ^ 63) × (2 ^ 62 ≤ (last_cut state).generation)
 
 module _ {D : Type 0} (history : D → Option History) where
   -- what became of the disk of a search
   abbrev pub KeepsOn : {A : Type 0} → CutHead → Mark → (List Cut → Type 0) → (keep kept : Option (Keep D)) → Result A Stop → Type 0
-  KeepsOn head from Are None None answer = answer ≢ Err (stop.Limit limit.Generation)
+  KeepsOn head from Are None None answer = answer ≢ Err stop.Generation
   KeepsOn head from Are None (Some l) answer = ⊥
   KeepsOn head from Are (Some k) None answer = ⊥
   KeepsOn head from Are (Some k) (Some l) answer =

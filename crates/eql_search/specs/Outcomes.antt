@@ -1,5 +1,5 @@
 -- What is asked of a search and with what it may begin, and what is known where it ended.
-use Rattle.std.specs.Prelude.{◌≡◌, ◌≢◌, ◌≤◌, ℕ, ℤ, true, List, length, All, Option, None, IfErr, IfSome, OnErr, OnOk, Result, Err}
+use Rattle.std.specs.Prelude.{◌≡◌, ◌≢◌, ◌≤◌, ℕ, true, List, length, All, Option, None, IfErr, IfSome, OnErr, OnOk, Result, Err}
 use Rattle.std.specs.List.{AllZip}
 use Rattle.eql_outside.specs.Written.{WroteAll, WroteFront}
 use Rattle.eql_outside.specs.declared.disk.Disk as disks
@@ -14,10 +14,12 @@ use Rattle.eql_lane.specs.Views.{LaneView}
 use Rattle.eql_book.specs.Books.{BookState}
 use Rattle.eql_cut.specs.declared.cut.Cut.{Cut}
 use Rattle.eql_conductor.specs.declared.plan.Keep.{Keep}
+use Rattle.eql_conductor.specs.declared.plan.Run.{Run}
 use Rattle.eql_conductor.specs.declared.plan.RunPlan.{RunPlan}
+use Rattle.eql_conductor.specs.declared.stop.Stop.{Stop}
+use Rattle.eql_conductor.specs.declared.stop.Stop.TheVariants as stop
 use Rattle.eql_conductor.specs.Runs.{disk_faults}
-use Rattle.eql_search.specs.declared.stop.Stop.{Stop}
-use Rattle.eql_search.specs.declared.stop.Stop.TheVariants as stop
+use Rattle.eql_search.specs.declared.rules.Rules.{Rules as Asked}
 use Rattle.eql_search.specs.Answers.{AreSteadyBut, HasSearchCause, IsClosed, IsRead, StaysLane, WereRead}
 use Rattle.eql_search.specs.Beginnings.{BeginsOn, MayBegin, MayKeepOn, cuts_of, start_at}
 use Rattle.eql_search.specs.Keeping.{AreSearchCuts, WroteCounted}
@@ -25,25 +27,24 @@ use Rattle.eql_search.specs.Searches.{AreBegun, AreTextsOf, HasNumbers, Rules, r
 
 -- ---- the beginning
 -- the numbers that a search is asked with: lines at once, stages, a span in nanoseconds, and hands
-pub record AreInBounds (plan : RunPlan) (stages : ℕ) (span : Option ℤ) (hands : ℕ) : Type 0 where
+pub record AreInBounds (plan : RunPlan) (rules : Asked) (hands : ℕ) : Type 0 where
   pub batch_from : 1 ≤ plan.batch
   pub batch_to : plan.batch ≤ 4096
-  pub stages_from : 1 ≤ stages
-  pub stages_to : stages ≤ 256
-  pub is_span : IsSpan span
+  pub stages_from : 1 ≤ rules.stages
+  pub stages_to : rules.stages ≤ 256
+  pub is_span : IsSpan rules.span
   pub hands_to : hands ≤ 65536
 
 -- lanes, pending sequences, book and disk with which a search may begin. The texts of the lanes are told or not
 pub record MaySearch {S L D : Type 0} (source : sources.Ghosts S) (reader : readers.Ghosts L) (disk : disks.Ghosts D)
-    (known_texts : Option (List (List ℕ))) (stages : ℕ) (span : Option ℤ) (plan : RunPlan) (lanes : List (LaneView S L))
-    (holders : List Holder) (book : BookState) (keep : Option (Keep D)) : Type 0 where
+    (known_texts : Option (List (List ℕ))) (rules : Asked) (lanes : List (LaneView S L)) (holders : List Holder) (run : Run D) : Type 0 where
   pub some : 1 ≤ length lanes
   pub few : length lanes ≤ 256
   pub begun : AreBegun reader.read_of lanes
   pub texts_are : IfSome known_texts (λ texts. AreTextsOf source.left texts lanes)
-  pub whole : book.whole ≡ true
-  pub begins : MayBegin (rules_of reader.read_of stages span lanes) book.pipes plan.mark (cuts_of lanes) holders book.kept
-  pub keeps : MayKeepOn disk.history plan (length lanes) keep
+  pub whole : run.book.whole ≡ true
+  pub begins : MayBegin (rules_of reader.read_of rules lanes) run.book.pipes run.plan.mark (cuts_of lanes) holders run.book.kept
+  pub keeps : MayKeepOn disk.history run.plan (length lanes) run.keep
 
 -- by which rules a search goes, and with what it begins
 pub record Beginning : Type 0 where
@@ -53,10 +54,9 @@ pub record Beginning : Type 0 where
   pub holders : List Holder
   pub book : BookState
 
-abbrev pub beginning_of : {S L : Type 0} → readers.Ghosts L → (stages : ℕ) → (span : Option ℤ) → RunPlan → List (LaneView S L) → List Holder
-    → BookState → Beginning
-beginning_of reader stages span plan lanes holders book =
-    record { rules = rules_of reader.read_of stages span lanes; plan = plan; cuts = cuts_of lanes; holders = holders; book = book }
+abbrev pub beginning_of : {S L D : Type 0} → readers.Ghosts L → Asked → List (LaneView S L) → List Holder → Run D → Beginning
+beginning_of reader rules lanes holders run =
+    record { rules = rules_of reader.read_of rules lanes; plan = run.plan; cuts = cuts_of lanes; holders = holders; book = run.book }
 
 -- what it begins with is nothing, or a cut of these texts
 abbrev pub BeginsOver : Beginning → List (List ℕ) → Type 0

@@ -9,6 +9,7 @@ use Rattle.eql_values.specs.Numbering.{numbered_matches, pipe_output}
 use Rattle.eql_lane.specs.Lanes.{beginning_lane}
 use Rattle.eql_lane.specs.Views.{LaneView, IsTextOf}
 use Rattle.eql_book.specs.Listing.{listing}
+use Rattle.eql_search.specs.declared.rules.Rules.{Rules as Asked}
 
 -- what lines give, the slack, the stages of the query and its span; times in nanoseconds
 pub record Rules : Type 0 where
@@ -56,8 +57,8 @@ module _ {S L : Type 0} (read_of : L → Reads) where
   AreBegun lanes = AreBegunFrom (reads_by lanes) (slack_by lanes) 0 lanes
 
   -- the rules of a search over lanes
-  abbrev pub rules_of : ℕ → Option ℤ → List (LaneView S L) → Rules
-  rules_of stages span lanes = record { reads = reads_by lanes; slack = slack_by lanes; stages = stages; span = span }
+  abbrev pub rules_of : Asked → List (LaneView S L) → Rules
+  rules_of rules lanes = record { reads = reads_by lanes; slack = slack_by lanes; stages = rules.stages; span = rules.span }
 
 module _ {S L : Type 0} (left : S → Option (List ℕ)) where
   -- these are texts of which the lanes are, one a lane

@@ -3,8 +3,8 @@
 #![tactic(auto)]
 
 mod parting;
+mod rules;
 mod run;
-mod stop;
 
+pub use rules::Rules;
 pub use run::search;
-pub use stop::Stop;

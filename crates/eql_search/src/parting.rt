@@ -3,6 +3,7 @@ ghost use Rattle.std.specs.Prelude.{◌≡◌, ◌≢◌, ◌≤◌, ◌<◌, �
 ghost use Rattle.eql_conductor.specs.Finding.{own_of};
 ghost use Rattle.eql_search.specs.Running.{AreOwnParts, MayBeginPart, list_at};
 
+use crate::rules::Rules;
 use eql_auto::Steps;
 use eql_hub::TurnedPart;
 use eql_parts::{Part, part_of};
@@ -62,30 +63,29 @@ fn take_list(alloc: Global, lists: &mut Vec<Vec<Holder>>, place: usize) -> Vec<H
     replace(&mut lists[place], Vec::new(alloc))
 }
 
-/// Sixteen parts, each with the pending sequences of its keys that are alive at the mark. The span is in nanoseconds. Each
-/// has a count of probes of its own, made from one part of the share.
+/// Sixteen parts, each with the pending sequences of its keys that are alive at the mark. Each has a count of probes of its
+/// own, made from one part of the share.
 pub(crate) fn make_parts<G: Ledger>(
     alloc: Global,
-    stages: u32,
-    span: Option<i128>,
+    rules: Rules,
     holders: Holders,
     mark: Mark,
     mut share: Share<G>,
 ) -> Result<Vec<TurnedPart<G>>, Memory>
-    requires stages_from { 1 ≤ stages }
-    requires stages_to { stages ≤ 256 }
-    requires may { (p : ℕ) → MayBeginPart stages mark (own_of holders p) }
+    requires stages_from { 1 ≤ rules.stages }
+    requires stages_to { rules.stages ≤ 256 }
+    requires may { (p : ℕ) → MayBeginPart rules.stages mark (own_of holders p) }
     requires shares { 16 ≤ share.parts }
     requires nothing { share.amount ≡ 0 }
     ensures { IfOk result (λ parts.
-        AreOwnParts (record { stages = stages; span = span }) holders mark parts.items) }
+        AreOwnParts (record { stages = rules.stages; span = rules.span }) holders mark parts.items) }
 {
     let mut lists = split(alloc, holders)?;
     let mut parts = Vec::new(alloc);
     for number in 0..PARTS {
         let own = Holders::of(take_list(alloc, &mut lists, number));
         let mut steps = Steps::of(share.split_off(1, 0));
-        let part = Part::new(alloc, stages, span, own, mark, &mut steps)?;
+        let part = Part::new(alloc, rules.stages, rules.span, own, mark, &mut steps)?;
         let turned = TurnedPart::new(part, steps);
         parts.push(turned)?;
     }

@@ -1,11 +1,14 @@
-use Rattle.std.proofs.Common.{Option, ap, refl, subst, sym, ◌∙◌}
+use denote.Param.Send.{sendable}
+use Rattle.std.proofs.Common.{◌≡◌, Option, ap, map, refl, subst, sym, ◌∙◌}
 use Rattle.eql_outside.specs.Moments.{History, DiskTells}
 use Rattle.eql_ckdisk.specs.Going.{Goes}
 use Rattle.eql_ckdisk.specs.Keeping.{LeavesNoMore}
 use Rattle.eql_runs.specs.Files.{Files}
 use Rattle.eql_runs.specs.Runs.{KeepsCuts}
+use Rattle.eql_inputs.specs.Shards.{AreWholeFiles}
+use Rattle.eql_find.specs.Finding.{IsPlanOf}
 use Rattle.eql_find.specs.Outcomes.{FindEnds}
-use Rattle.eql_find.specs.Starting.{IsFreshKeep}
+use Rattle.eql_find.specs.Starting.{BeginsOnDisk, IsFreshKeep}
 use Rattle.eql_find.proofs.DiskLemmas.{recovered_keeps}
 use Rattle.eql_find.proofs.GivingLemmas.{back_by, fresh_keep, keeps_if_asked, over_both}
 use Rattle.eql_find.proofs.EarlyErrors.{none_is_some}
@@ -14,15 +17,20 @@ use Rattle.eql_find.proofs.OutcomeLemmas.{disk_then, kept_disk, none_falls, rise
 use Rattle.eql_find.proofs.UnbegunLemmas.{unbegun, unbegun_cause}
 use Rattle.eql_find.proofs.find.run_shards.Goals as goal
 
-pub run_start-requires-clause-keeps : goal.run_start-requires-clause-keeps
-run_start-requires-clause-keeps g c =
-    λ κs lives. keeps_if_asked g.H.Dsk.Disk.history g.H.Dsk.Disk.fault_count _ _ _ c.in-Ok.ensures.keeps.0 c.in-Ok.ensures.keeps.1
-
-pub run_start-requires-clause-kept : goal.run_start-requires-clause-kept
-run_start-requires-clause-kept g c =
+pub run_start-requires : goal.run_start-requires
+run_start-requires g c =
     λ κs lives.
-    subst (λ (d : Option History). IsFreshKeep g.H.Dsk.Disk.history g.H.Dsk.Disk.fault_count d c.in-Ok.start.keep) (sym c.in-Ok.ensures.still)
-    (fresh_keep g.H.Dsk.Disk.history g.H.Dsk.Disk.fault_count c.args.find.now.checkpoint _ c.in-Ok.start.keep c.in-Ok.ensures.keeps.0 c.in-Ok.ensures.keeps.1)
+    let still : g.H.Shelf.disk_history c.start_run.new.shelf ≡ g.H.Shelf.disk_history c.args.shelf.now = c.in-Ok.ensures.still in
+    let kept = c.in-Ok.ensures.kept in
+    let start = c.in-Ok.start in
+    let files : g.H.Shelf.files c.start_run.new.shelf ≡ g.H.Shelf.files c.args.shelf.now = kept.files_are in
+    let plan = subst (λ (fs : Option Files). IsPlanOf c.args.find.now fs c.args.planned.now) (sym files) c.requires.plan in
+    let whole = subst (λ (fs : Option Files). AreWholeFiles c.args.find.now.shards fs (map g.H.Src.Source.left c.args.sources.items)) (sym files) c.requires.whole in
+    let begins = subst (λ (d : Option History). BeginsOnDisk c.args.find.now c.args.planned.now d start.head start.keep start.lanes.items start.rest) (sym still) c.in-Ok.ensures.begins in
+    let keeps = keeps_if_asked g.H.Dsk.Disk.history g.H.Dsk.Disk.fault_count _ _ _ c.in-Ok.ensures.keeps.0 c.in-Ok.ensures.keeps.1 in
+    let fresh = subst (λ (d : Option History). IsFreshKeep g.H.Dsk.Disk.history g.H.Dsk.Disk.fault_count d start.keep) (sym still)
+    (fresh_keep g.H.Dsk.Disk.history g.H.Dsk.Disk.fault_count c.args.find.now.checkpoint _ start.keep c.in-Ok.ensures.keeps.0 c.in-Ok.ensures.keeps.1) in
+    (lives.0, (lives.1.0, (lives.1.1.0, (lives.1.1.1.0, (lives.1.1.1.1.0, (lives.1.1.1.1.1.0, (lives.1.1.1.1.1.1, (search (sendable, c.type_bounds.send-H-Src), (search (sendable, c.type_bounds.sync-R), (search (sendable, c.type_bounds.sync-W), (search (sendable, c.type_bounds.sync-H-Src), (refl, (c.requires.bounds, (plan, (whole, (c.requires.named, (c.requires.fresh, (begins, (keeps, fresh)))))))))))))))))))
 
 -- it isn't begun
 pub returns-in-Err-clause-ends : goal.returns-in-Err-clause-ends

@@ -10,7 +10,7 @@ use Rattle.eql_search.proofs.parting.make_parts.Goals as goal
 pub loop-number-preserved : goal.loop-number-preserved
 loop-number-preserved g c =
     let n = c.loop-number.number in
-    let rules : Rules = record { stages = c.args.stages; span = c.args.span } in
+    let rules : Rules = record { stages = c.args.rules.stages; span = c.args.rules.span } in
     let own_is : c.of-own.result ≡ own_of c.args.holders n = c.of-own.ensures ∙ c.take_list.ensures.taken ∙ c.loop-number.invariant.left n (omega arith) in
     let part_is : c.in_ok-part.part ≡ own_part rules c.args.holders c.args.mark n =
     subst (λ (own : List Holder). let part : PartView = record { rules = rules; state = begun_part rules own c.args.mark } in c.in_ok-part.part ≡ part) own_is (c.in_ok-part.ensures {u = tt}) in

@@ -9,5 +9,5 @@ invariant-loop-number g l = record {
   left : (p : ℕ) → l.number ≤ p → list_at l.lists.items p ≡ own_of l.fn.holders p;
   shares : 16 ≤ l.share.parts + l.number;
   nothing : l.share.amount ≡ 0;
-  made : AreOwnTo l.number (record { stages = l.stages; span = l.span }) l.fn.holders l.mark l.parts.items;
+  made : AreOwnTo l.number (record { stages = l.rules.stages; span = l.rules.span }) l.fn.holders l.mark l.parts.items;
 }

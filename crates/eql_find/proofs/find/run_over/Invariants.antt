@@ -1,4 +1,0 @@
-use Rattle.eql_find.proofs.find.run_over.Given as goal
-
-abbrev pub ghost-run_lanes : goal.ghost-run_lanes
-ghost-run_lanes g a = g.known_texts

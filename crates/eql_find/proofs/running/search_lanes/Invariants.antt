@@ -1,4 +1,0 @@
-use Rattle.eql_find.proofs.running.search_lanes.Given as goal
-
-abbrev pub ghost-search : goal.ghost-search
-ghost-search g a = g.known_texts
