@@ -5,17 +5,16 @@ use Rattle.eql_outside.specs.Moments.{History, DiskTells}
 use Rattle.eql_cut.specs.declared.cut.Cut.{Cut}
 use Rattle.eql_cut.specs.Whole.{IsText, IsTextOf, IsNoText}
 use Rattle.eql_ckdisk.specs.declared.refused.CkRefused.{CkRefused}
-use Rattle.eql_ckdisk.specs.declared.refused.CkRefused.TheVariants as ck
 use Rattle.eql_ckdisk.specs.declared.find.LastText.{LastText}
 use Rattle.eql_ckdisk.specs.declared.recovery.Recovered.{Recovered}
-use Rattle.eql_ckdisk.specs.Found.{Found, nothing, text, damaged, found_on, Finds, EachFinds, LastCut, IsAt, next}
+use Rattle.eql_ckdisk.specs.Found.{Found, nothing, text, damaged, foreign, found_on, Finds, EachFinds, LastCut, IsAt, next}
 use Rattle.eql_ckdisk.specs.Going.{Keeps}
 use Rattle.eql_ckdisk.specs.Keeping.{all_kept, KeepsAll}
 use Rattle.eql_ckdisk.specs.Heads.{IsTextFound}
 use Rattle.eql_ckdisk.specs.Putting.{last_cut, Stands, text_at, PutsText, HasPutText}
 use Rattle.eql_ckdisk.specs.Cuts.{FindsCut, IsFound, Holds, KeepsOrPuts, Puts}
 use Rattle.eql_ckdisk.specs.Recovering.{IsAnswer}
-use Rattle.eql_ckdisk.specs.Refusing.{number_of, IsDamaged, IsDamagedHead, IfDamaged}
+use Rattle.eql_ckdisk.specs.Refusing.{number_of, IsDamaged, RefusesFound, TellsFound}
 use Rattle.eql_ckdisk.proofs.Settling.{seen_alone}
 use Rattle.eql_ckdisk.proofs.RunLemmas.{goes_as}
 
@@ -28,6 +27,7 @@ pub none_found : (last : LastText) → last.text ≡ None → (f : Found) → Is
 none_found last is nothing there = (refl, there.1)
 none_found last is (text area g bytes) there = absurd (subst (λ (o : Option (Vec ℕ Global)). IsSomeAnd o (λ v. v.items ≡ bytes)) is there.0)
 none_found last is (damaged area g) there = absurd there
+none_found last is (foreign area) there = absurd there
 
 -- a text: it was found
 pub text_found : (last : LastText) (v : Vec ℕ Global) → last.text ≡ Some v → (f : Found) → IsTextFound last f
@@ -37,6 +37,7 @@ text_found last v is (text area g bytes) there =
     let same : v.items ≡ bytes = subst (λ (o : Option (Vec ℕ Global)). IsSomeAnd o (λ w. w.items ≡ bytes)) is there.0 in
     (λ i. text (sym there.1 i) (sym there.2 i) (sym same i))
 text_found last v is (damaged area g) there = absurd there
+text_found last v is (foreign area) there = absurd there
 
 pub cut_found : (last : LastText) (v : Vec ℕ Global) (format : ℕ) (cut : Cut) → last.text ≡ Some v
     → IsTextOf format cut v.items → (f : Found) → IsTextFound last f → FindsCut (last_cut last.state) format cut f
@@ -46,11 +47,6 @@ pub damage_found : (last : LastText) (v : Vec ℕ Global) (number at : ℕ) → 
     → number ≡ number_of last.state.area → IsNoText v.items → (f : Found) → IsTextFound last f → IsDamaged number at f
 damage_found last v number at is area no_text f there =
     subst (IsDamaged number at) (sym (text_found last v is f there)) (area, no_text)
-
-head_damage : (number at : ℕ) (f : Found) → IsDamagedHead number at f → IsDamaged number at f
-head_damage number at nothing is = absurd is
-head_damage number at (text area g bytes) is = absurd is
-head_damage number at (damaged area g) is = is
 
 -- what was found stands where the answer says
 pub is_at : (last : LastCut) (format : ℕ) (answer : Option Cut) (f : Found) → IsFound last format answer f
@@ -90,29 +86,9 @@ module _ (last : LastText) (r : Recovered) (o p : Option History) (kept : DiskTe
   pub answer_stands : Stands (last_cut r.state) p
   answer_stands = one_stands (last_cut r.state) r.format r.cut o p kept answers_seen
 
--- a head that is damaged
-pub head_each : (e : CkRefused) (o p : Option History) → DiskTells KeepsAll o p
-    → IfDamaged e (λ number at. IfSome p (λ k. IsDamagedHead number at (found_on (seen_areas k.now))))
-    → IfDamaged e (λ number at. IfSome p (λ k. EachFinds (IsDamaged number at) k.now))
-head_each ck.DiskFault o p kept is = tt
-head_each (ck.Damaged number at) o p kept is =
-    each_image (IsDamaged number at) o p kept (if_some (λ (k : History). IsDamagedHead number at (found_on (seen_areas k.now))) (λ (k : History). IsDamaged number at (found_on (seen_areas k.now))) p (λ k d. head_damage number at (found_on (seen_areas k.now)) d) is)
-head_each ck.Generation o p kept is = tt
-head_each ck.Memory o p kept is = tt
-
--- a text that is no cut's
-pub text_each : (last : LastText) (e : CkRefused) (o p : Option History) → DiskTells KeepsAll o p
-    → IfSome p (λ k. IsTextFound last (found_on (seen_areas k.now)))
-    → IfDamaged e (λ number at. (f : Found) → IsTextFound last f → IsDamaged number at f) → IfDamaged e (λ number at. IfSome p (λ k. EachFinds (IsDamaged number at) k.now))
-text_each last ck.DiskFault o p kept there is = tt
-text_each last (ck.Damaged number at) o p kept there is =
-    each_image (IsDamaged number at) o p kept (if_some (λ (k : History). IsTextFound last (found_on (seen_areas k.now))) (λ (k : History). IsDamaged number at (found_on (seen_areas k.now))) p (λ k d. is (found_on (seen_areas k.now)) d) there)
-text_each last ck.Generation o p kept there is = tt
-text_each last ck.Memory o p kept there is = tt
-
 -- what is said of a refusal after both areas were kept
 abbrev Said : CkRefused → Option History → Type 0
-Said e q = IfDamaged e (λ number at. IfSome q (λ k. EachFinds (IsDamaged number at) k.now))
+Said e q = IfSome q (λ k. EachFinds (RefusesFound e) k.now)
 
 refused_so : (r : Result Recovered CkRefused) (y e : CkRefused) (p q : Option History) → r ≡ Err y → y ≡ e → q ≡ p
     → Said e p → IfErr r (λ z. Said z q)
@@ -120,29 +96,27 @@ refused_so r y e p q is same here said =
     subst (λ (x : Result Recovered CkRefused). IfErr x (λ z. Said z q)) (sym is)
     (subst (λ (z : CkRefused). Said z q) (sym same) (subst (Said e) (sym here) said))
 
-pub head_refused : (r : Result Recovered CkRefused) (y e : CkRefused) (o p q : Option History) → r ≡ Err y → y ≡ e
-    → q ≡ p → DiskTells KeepsAll o p
-    → IfDamaged e (λ number at. IfSome p (λ k. IsDamagedHead number at (found_on (seen_areas k.now)))) → IfErr r (λ z. Said z q)
-head_refused r y e o p q is same here kept damage = refused_so r y e p q is same here (head_each e o p kept damage)
+-- by what was found
+pub found_refused : (r : Result Recovered CkRefused) (y e : CkRefused) (o p q : Option History) → r ≡ Err y → y ≡ e
+    → q ≡ p → DiskTells KeepsAll o p → IfSome p (λ k. RefusesFound e (found_on (seen_areas k.now)))
+    → IfErr r (λ z. Said z q)
+found_refused r y e o p q is same here kept there = refused_so r y e p q is same here (each_image (RefusesFound e) o p kept there)
 
+-- by a text that was found
 pub text_refused : (last : LastText) (r : Result Recovered CkRefused) (y e : CkRefused) (o p q : Option History)
     → r ≡ Err y → y ≡ e → q ≡ p → DiskTells KeepsAll o p
-    → IfSome p (λ k. IsTextFound last (found_on (seen_areas k.now))) → IfDamaged e (λ number at. (f : Found) → IsTextFound last f → IsDamaged number at f)
+    → IfSome p (λ k. IsTextFound last (found_on (seen_areas k.now))) → ((f : Found) → IsTextFound last f → RefusesFound e f)
     → IfErr r (λ z. Said z q)
-text_refused last r y e o p q is same here kept there damage = refused_so r y e p q is same here (text_each last e o p kept there damage)
+text_refused last r y e o p q is same here kept there so =
+    found_refused r y e o p q is same here kept
+    (if_some (λ (k : History). IsTextFound last (found_on (seen_areas k.now))) (λ (k : History). RefusesFound e (found_on (seen_areas k.now))) p (λ k is_found. so (found_on (seen_areas k.now)) is_found) there)
 
--- what holds of a refusal holds where it is damage
-if_any : (e : CkRefused) (A : Type 0) → A → IfDamaged e (λ number at. A)
-if_any ck.DiskFault A a = tt
-if_any (ck.Damaged area at) A a = a
-if_any ck.Generation A a = tt
-if_any ck.Memory A a = tt
-
-pub kept_refused : (r : Result Recovered CkRefused) (y : CkRefused) (o p q : Option History) → r ≡ Err y → q ≡ p → DiskTells KeepsAll o p
-    → IfErr r (λ e. IfDamaged e (λ number at. DiskTells KeepsAll o q))
+-- what reads gave is kept
+pub kept_refused : (r : Result Recovered CkRefused) (y : CkRefused) (o p q : Option History) → r ≡ Err y → q ≡ p
+    → DiskTells KeepsAll o p → IfErr r (λ e. TellsFound e → DiskTells KeepsAll o q)
 kept_refused r y o p q is same kept =
-    subst (λ (x : Result Recovered CkRefused). IfErr x (λ e. IfDamaged e (λ number at. DiskTells KeepsAll o q))) (sym is)
-    (if_any y (DiskTells KeepsAll o q) (subst (λ (x : Option History). DiskTells KeepsAll o x) (sym same) kept))
+    subst (λ (x : Result Recovered CkRefused). IfErr x (λ e. TellsFound e → DiskTells KeepsAll o q)) (sym is)
+    (λ tells. subst (λ (x : Option History). DiskTells KeepsAll o x) (sym same) kept)
 
 -- a text of a cut is put
 module _ (last : LastCut) (cut : Cut) (bytes : List ℕ) (t : IsText 3 cut bytes) where

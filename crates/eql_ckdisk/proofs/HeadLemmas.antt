@@ -7,12 +7,16 @@ use Rattle.eql_outside.specs.Areas.{store}
 use Rattle.eql_outside.specs.Moments.{History}
 use Rattle.std.specs.Int.{w64, from_le_bytes}
 use Rattle.eql_ckdisk.specs.declared.head.Head.{Head}
-use Rattle.eql_ckdisk.specs.Found.{is_open, generation_in}
+use Rattle.eql_ckdisk.specs.Found.{is_open, is_foreign, generation_in}
 use Rattle.eql_ckdisk.specs.Heads.{IsHead}
 
 front_open : (x : List ℕ) → is_open (take 17 x) ≡ is_open x
 front_open [] = refl
 front_open (gate ∷ rest) = refl
+
+front_foreign : (x : List ℕ) → is_foreign (take 17 x) ≡ is_foreign x
+front_foreign [] = refl
+front_foreign (gate ∷ rest) = refl
 
 front_part : (from : ℕ) (x : List ℕ) → from + 8 ≤ 17 → take 8 (drop from (take 17 x)) ≡ take 8 (drop from x)
 front_part from x fits =
@@ -28,6 +32,7 @@ whole_head x head is = ⊎_elim
     let all : generation_in x ≡ from_le_bytes w64 (take 8 (drop 1 x)) = cond-true (leb 17 (length x)) _ _ (le-leb 17 (length x) long) in
     let r : IsHead x head = record {
       open_is = is.open_is ∙ front_open x;
+      foreign_is = is.foreign_is ∙ front_foreign x;
       generation_is = is.generation_is ∙ front ∙ ap (from_le_bytes w64) (front_part 1 x (omega arith)) ∙ sym all;
       length_is = λ h. is.length_is (omega arith) ∙ ap (from_le_bytes w64) (front_part 9 x (omega arith));
     } in

@@ -3,18 +3,26 @@ use Rattle.std.proofs.Common.{◌≡◌, ℕ, ◌+◌, ◌≤◌, ◌<◌, ◌^�
 use Rattle.eql_outside.specs.declared.disk.Area.{Area}
 use Rattle.eql_outside.specs.Areas.{Write}
 use Rattle.eql_outside.specs.Moments.{History, DiskTells}
-use Rattle.eql_ckdisk.specs.Found.{Found, nothing, text, damaged, generation_of, Finds, LastCut, IsAt, next_area, next, block}
+use Rattle.eql_ckdisk.specs.Found.{Found, nothing, text, damaged, foreign, generation_of, Finds, LastCut, IsAt, next_area, next, block}
 use Rattle.eql_ckdisk.specs.Going.{Goes, Keeps}
 use Rattle.eql_ckdisk.specs.Writing.{WritesAndSyncs, WroteThrough}
 use Rattle.eql_outside.specs.DiskLaws.{ImagesAreThere}
 use Rattle.eql_ckdisk.specs.Putting.{Stands, text_at, PutsText, HasPutText}
 use Rattle.eql_ckdisk.proofs.Moving.{stays}
+use Rattle.eql_ckdisk.proofs.Taken.{IsOwn}
 use Rattle.eql_ckdisk.proofs.PutSteps.{OtherFinds, others_at_start, first, second, third, done}
 
 at_generation : (last : LastCut) (f : Found) → IsAt last f → generation_of f ≡ last.generation
 at_generation last nothing at = sym at
 at_generation last (text a g bytes) at = at.1
 at_generation last (damaged a g) at = absurd at
+at_generation last (foreign a) at = absurd at
+
+at_own : (last : LastCut) (f : Found) → IsAt last f → IsOwn f
+at_own last nothing at = tt
+at_own last (text a g bytes) at = tt
+at_own last (damaged a g) at = absurd at
+at_own last (foreign a) at = absurd at
 
 -- nothing was done
 pub put_nothing : (last : LastCut) (bytes : List ℕ) (o p : Option History) → p ≡ o → DiskTells (PutsText last bytes) o p
@@ -54,7 +62,7 @@ module _ (there : ImagesAreThere) (last : LastCut) (bytes : List ℕ) (limit : l
   put_first None (Some k) told = told
   put_first (Some h) None told = told
   put_first (Some h) (Some k) told = λ f at finds.
-      here f at h k (first area f g bytes (older f at) (from f at) (to f at) short h k k k (others f at h finds) finds told)
+      here f at h k (first area f g bytes (at_own last f at) (older f at) (from f at) (to f at) short h k k k (others f at h finds) finds told)
 
   module _ (blk : List ℕ) (is_block : blk ≡ block (last.generation + 1) bytes) where
     pub put_second : (o p q : Option History) → DiskTells (WroteThrough area shut) o p
@@ -66,14 +74,14 @@ module _ (there : ImagesAreThere) (last : LastCut) (bytes : List ℕ) (limit : l
     put_second (Some h) (Some j) None one two = two
     put_second (Some h) (Some j) (Some k) one two = λ f at finds.
         here f at h k
-        (second area f g bytes (older f at) (from f at) (to f at) short h j k k (others f at h finds) finds one
+        (second area f g bytes (at_own last f at) (older f at) (from f at) (to f at) short h j k k (others f at h finds) finds one
         (subst (λ (x : List ℕ). WritesAndSyncs area (record { at = 1; bytes = x }) j k) is_block two))
 
     third_goes : (h i j k : History) → WroteThrough area shut h i
         → WroteThrough area (record { at = 1; bytes = blk }) i j → WritesAndSyncs area open_ j k → PutsText last bytes h k
     third_goes h i j k one two three = λ f at finds.
         here f at h k
-        (third area f g bytes (older f at) (from f at) (to f at) short h i j k (others f at h finds) finds one
+        (third area f g bytes (at_own last f at) (older f at) (from f at) (to f at) short h i j k (others f at h finds) finds one
         (subst (λ (x : List ℕ). WroteThrough area (record { at = 1; bytes = x }) i j) is_block two) three)
 
     pub put_third : (o p q r : Option History) → DiskTells (WroteThrough area shut) o p
@@ -101,7 +109,7 @@ module _ (there : ImagesAreThere) (last : LastCut) (bytes : List ℕ) (limit : l
     put_done (Some h) (Some i) (Some j) (Some k) (f, at, finds) one two three = record {
       going = third_goes h i j k one two three.going;
       finds = subst (λ (x : Area). Finds (text x g bytes) k.now) is_area
-          (done area f g bytes (older f at) (from f at) (to f at) short h i j k (others f at h finds) finds one
+          (done area f g bytes (at_own last f at) (older f at) (from f at) (to f at) short h i j k (others f at h finds) finds one
           (subst (λ (x : List ℕ). WroteThrough area (record { at = 1; bytes = x }) i j) is_block two) three);
     }
 

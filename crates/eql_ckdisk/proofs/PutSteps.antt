@@ -5,11 +5,11 @@ use Rattle.eql_outside.specs.declared.disk.Area.TheVariants.{A, B}
 use Rattle.eql_outside.specs.Areas.{Areas, Write, MayLeave, Moment, IsImage, store, with_store, settled_store, area_with, other_area, bytes_of}
 use Rattle.eql_outside.specs.DiskLaws.{ImagesAreThere}
 use Rattle.eql_outside.specs.Moments.{History}
-use Rattle.eql_ckdisk.specs.Found.{Found, text, found_on, is_open, generation_in, holds, generation_of, Finds, LastCut, IsAt, next_area, block}
+use Rattle.eql_ckdisk.specs.Found.{Found, text, found_on, is_open, is_foreign, generation_in, holds, generation_of, Finds, LastCut, IsAt, next_area, block}
 use Rattle.eql_ckdisk.specs.Going.{Goes, Keeps}
 use Rattle.eql_ckdisk.specs.Writing.{with_bytes, LandsAsOne, WritesAndSyncs, WroteThrough}
 use Rattle.eql_ckdisk.proofs.Moving.{goes_further}
-use Rattle.eql_ckdisk.proofs.Taken.{alone, closed, newer, other_stands, alone_generation}
+use Rattle.eql_ckdisk.proofs.Taken.{IsOwn, alone, alone_own, closed, newer, other_stands, alone_generation}
 use Rattle.eql_ckdisk.proofs.Blocks.{block_generation, block_holds}
 
 -- the other area stands for f, whatever a crash leaves of it
@@ -39,18 +39,22 @@ others_at_start there last f m at finds c left = here (next_area last) (λ image
     here A stands c left = stands (record { a = m.a.kept; b = c }) (record { a = (there.kept m).a; b = left })
     here B stands c left = stands (record { a = c; b = m.b.kept }) (record { a = left; b = (there.kept m).b })
 
-closed_with : (area : Area) (f : Found) (m : Moment) (image : Areas) (c : List ℕ) → OtherFinds area f m
-    → IsImage m image → is_open c ≡ false → found_on (with_bytes area c image) ≡ f
-closed_with A f m image c of i shut = closed A (record { a = c; b = image.b }) shut ∙ of image.b i.b
-closed_with B f m image c of i shut = closed B (record { a = image.a; b = c }) shut ∙ of image.a i.a
+-- the area begins with a closed gate
+abbrev IsShut : List ℕ → Type 0
+IsShut c = (is_foreign c ≡ false) × (is_open c ≡ false)
 
-open_with : (area : Area) (f : Found) (m : Moment) (image : Areas) (c : List ℕ) → OtherFinds area f m
+closed_with : (area : Area) (f : Found) (m : Moment) (image : Areas) (c : List ℕ) → OtherFinds area f m
+    → IsImage m image → IsShut c → found_on (with_bytes area c image) ≡ f
+closed_with A f m image c of i shut = closed A (record { a = c; b = image.b }) shut.0 shut.1 ∙ of image.b i.b
+closed_with B f m image c of i shut = closed B (record { a = image.a; b = c }) shut.0 shut.1 ∙ of image.a i.a
+
+open_with : (area : Area) (f : Found) (m : Moment) (image : Areas) (c : List ℕ) → IsOwn f → OtherFinds area f m
     → IsImage m image → is_open c ≡ true → generation_of f < generation_in c
     → found_on (with_bytes area c image) ≡ holds area c
-open_with A f m image c of i is lt =
-    newer A (record { a = c; b = image.b }) is (λ o. subst (λ n. n < generation_in c) (sym (alone_generation B image.b f (of image.b i.b) o)) lt)
-open_with B f m image c of i is lt =
-    newer B (record { a = image.a; b = c }) is (λ o. subst (λ n. n < generation_in c) (sym (alone_generation A image.a f (of image.a i.a) o)) lt)
+open_with A f m image c own of i is lt =
+    newer A (record { a = c; b = image.b }) is (alone_own B image.b f own (of image.b i.b)) (λ o. subst (λ n. n < generation_in c) (sym (alone_generation B image.b f (of image.b i.b) o)) lt)
+open_with B f m image c own of i is lt =
+    newer B (record { a = image.a; b = c }) is (alone_own A image.a f own (of image.a i.a)) (λ o. subst (λ n. n < generation_in c) (sym (alone_generation A image.a f (of image.a i.a) o)) lt)
 
 with_same : (area : Area) (image : Areas) → with_bytes area (bytes_of area image) image ≡ image
 with_same A image = refl
@@ -59,11 +63,17 @@ with_same B image = refl
 same_with : (area : Area) (image : Areas) (c : List ℕ) → c ≡ bytes_of area image → with_bytes area c image ≡ image
 same_with area image c is = ap (λ (x : List ℕ). with_bytes area x image) is ∙ with_same area image
 
-shut_front : (c : List ℕ) → take 1 c ≡ 0 ∷ [] → is_open c ≡ false
-shut_front [] is = refl
-shut_front (gate ∷ rest) is = let zero_ : gate ≡ 0 = cc in subst (λ (x : ℕ). is_open (x ∷ rest) ≡ false) (sym zero_) refl
+shut_zero : (rest : List ℕ) → IsShut (0 ∷ rest)
+shut_zero rest = (refl, refl)
 
-module _ (area : Area) (f : Found) (g : ℕ) (bytes : List ℕ) (older : generation_of f < g) (from : 1 ≤ g) (to : g ≤ 2 ^ 63) (short : length bytes < 2 ^ 64) where
+shut_front : (c : List ℕ) → take 1 c ≡ 0 ∷ [] → IsShut c
+shut_front [] is = (refl, refl)
+shut_front (gate ∷ rest) is = let zero_ : gate ≡ 0 = cc in subst (λ (x : ℕ). IsShut (x ∷ rest)) (sym zero_) (shut_zero rest)
+
+shut_as : (c rest : List ℕ) → c ≡ 0 ∷ rest → IsShut c
+shut_as c rest is = subst IsShut (sym is) (shut_zero rest)
+
+module _ (area : Area) (f : Found) (g : ℕ) (bytes : List ℕ) (own : IsOwn f) (older : generation_of f < g) (from : 1 ≤ g) (to : g ≤ 2 ^ 63) (short : length bytes < 2 ^ 64) where
   abbrev new : Found
   new = text area g bytes
 
@@ -79,12 +89,12 @@ module _ (area : Area) (f : Found) (g : ℕ) (bytes : List ℕ) (older : generat
   shuts : (m : Moment) → OtherFinds area f m → Finds f m → LandsAsOne area shut f (text area g bytes) m
   shuts m of finds image i c lands = inl (⊎_elim
       (λ (e : c ≡ bytes_of area image). ap found_on (same_with area image c e) ∙ finds image i)
-      (λ (e : c ≡ 0 ∷ drop 1 (bytes_of area image)). closed_with area f m image c of i (ap is_open e))
+      (λ (e : c ≡ 0 ∷ drop 1 (bytes_of area image)). closed_with area f m image c of i (shut_as c (drop 1 (bytes_of area image)) e))
       (lands.whole refl (omega arith)))
 
   -- while the gate is closed the other area counts
   shut_finds : (m : Moment) (rest : List ℕ) → Ready area f (0 ∷ rest) m → Finds f m
-  shut_finds m rest r image i = ap found_on (sym (with_same area image)) ∙ closed_with area f m image (bytes_of area image) r.others i (ap is_open (r.mine image i))
+  shut_finds m rest r image i = ap found_on (sym (with_same area image)) ∙ closed_with area f m image (bytes_of area image) r.others i (shut_as (bytes_of area image) rest (r.mine image i))
 
   fills : (m : Moment) (rest : List ℕ) → Ready area f (0 ∷ rest) m → LandsAsOne area fill f (text area g bytes) m
   fills m rest r image i c lands =
@@ -97,13 +107,13 @@ module _ (area : Area) (f : Found) (g : ℕ) (bytes : List ℕ) (older : generat
   open_finds : (m : Moment) (rest : List ℕ) (image : Areas) → OtherFinds area f m → IsImage m image
       → found_on (with_bytes area (1 ∷ (block g bytes ++ rest)) image) ≡ text area g bytes
   open_finds m rest image of i =
-      open_with area f m image (1 ∷ (block g bytes ++ rest)) of i refl (subst (λ n. generation_of f < n) (sym (block_generation g bytes rest from to short)) older)
+      open_with area f m image (1 ∷ (block g bytes ++ rest)) own of i refl (subst (λ n. generation_of f < n) (sym (block_generation g bytes rest from to short)) older)
       ∙ block_holds g bytes rest from to short area
 
   opens : (m : Moment) (rest : List ℕ) → Ready area f (0 ∷ (block g bytes ++ rest)) m
       → LandsAsOne area open_ f (text area g bytes) m
   opens m rest r image i c lands = ⊎_elim
-      (λ (e : c ≡ bytes_of area image). inl (closed_with area f m image c r.others i (ap is_open (e ∙ r.mine image i))))
+      (λ (e : c ≡ bytes_of area image). inl (closed_with area f m image c r.others i (shut_as c (block g bytes ++ rest) (e ∙ r.mine image i))))
       (λ (e : c ≡ 1 ∷ drop 1 (bytes_of area image)).
       let is : c ≡ 1 ∷ (block g bytes ++ rest) = e ∙ ap (λ (x : List ℕ). 1 ∷ drop 1 x) (r.mine image i) in
       inr (ap (λ (x : List ℕ). found_on (with_bytes area x image)) is ∙ open_finds m rest image r.others i))

@@ -10,12 +10,12 @@ use Rattle.eql_outside.specs.DiskLaws.{ImagesAreThere}
 use Rattle.eql_outside.specs.Moments.{History, DiskTells}
 use Rattle.eql_cut.specs.declared.cut.Cut.{Cut}
 use Rattle.eql_cut.specs.Whole.{IsText}
-use Rattle.eql_ckdisk.specs.Found.{Found, nothing, text, damaged, found_on, generation_of, LastCut, next}
+use Rattle.eql_ckdisk.specs.Found.{Found, nothing, text, damaged, foreign, found_on, generation_of, LastCut, next}
 use Rattle.eql_ckdisk.specs.Going.{Steps, Goes, IsAtLeast, IsNoOlder}
 use Rattle.eql_ckdisk.specs.Keeping.{LeavesNoMore}
 use Rattle.eql_ckdisk.specs.Putting.{StandsAt, Stands, text_at}
 use Rattle.eql_ckdisk.specs.Cuts.{FindsPut, IsFound, KeepsOrPuts, Puts}
-use Rattle.eql_ckdisk.specs.Refusing.{IsDamaged}
+use Rattle.eql_ckdisk.specs.Refusing.{IsDamaged, IsForeign}
 use Rattle.eql_ckdisk.specs.Runs.{last_after, IsFoundAt, FindsOneOf, KeepsStartOr, KeepsOneOf, PutsAll}
 use Rattle.eql_ckdisk.specs.Laws.{PutsGoOn, PutsKeepEachMoment, AddsNothing, RecoveryAddsNothing, FoundIsOne, PutsAreNoOlder, PutsAreFound}
 use Rattle.eql_ckdisk.proofs.Moving.{goes_further}
@@ -191,11 +191,13 @@ abbrev area_in : Found → Area
 area_in nothing = A
 area_in (text area generation bytes) = area
 area_in (damaged area generation) = area
+area_in (foreign area) = area
 
 abbrev text_in : Found → List ℕ
 text_in nothing = []
 text_in (text area generation bytes) = bytes
 text_in (damaged area generation) = []
+text_in (foreign area) = []
 
 same_text : (a b : LastCut) (x y : List ℕ) → text_at a x ≡ text_at b y → (a ≡ b) × (x ≡ y)
 same_text a b x y is = ((λ i. record { area = ap area_in is i; generation = ap generation_of is i }), ap text_in is)
@@ -225,5 +227,10 @@ no_damage last format (Some cut) number at f (bytes, is, t) damage =
     let d : IsDamaged number at (text_at last bytes) = subst (IsDamaged number at) is damage in
     d.1 format cut t.is
 
+ours_alone : (last : LastCut) (format : ℕ) (answer : Option Cut) (number : ℕ) (f : Found)
+    → IsFound last format answer f → IsForeign number f → ⊥
+ours_alone last format None number f is other = subst (IsForeign number) is.0 other
+ours_alone last format (Some cut) number f (bytes, is, t) other = subst (IsForeign number) is other
+
 pub found_is_one : FoundIsOne
-found_is_one = record { one = one_answer; sound = no_damage }
+found_is_one = record { one = one_answer; sound = no_damage; own = ours_alone }

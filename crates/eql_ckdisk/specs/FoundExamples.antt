@@ -2,7 +2,7 @@
 use Rattle.std.specs.Prelude.{◌≡◌, ◌^◌, ◌+◌, ℕ, List, [], ◌∷◌, refl}
 use Rattle.eql_outside.specs.declared.disk.Area.TheVariants.{A, B}
 use Rattle.eql_outside.specs.Areas.{Areas}
-use Rattle.eql_ckdisk.specs.Found.{nothing, text, damaged, found_on, next}
+use Rattle.eql_ckdisk.specs.Found.{nothing, text, damaged, foreign, found_on, next}
 
 abbrev both : List ℕ → List ℕ → Areas
 both a b = record { a = a; b = b }
@@ -23,9 +23,29 @@ high top = 1 ∷ 1 ∷ 0 ∷ 0 ∷ 0 ∷ 0 ∷ 0 ∷ 0 ∷ top ∷ 0 ∷ 0 ∷ 0
 pub empty_areas : found_on (both [] []) ≡ nothing
 empty_areas = refl
 
--- a closed gate, be it 0 or 2
-pub closed_gates : found_on (both (third 0 2) (third 2 2)) ≡ nothing
+-- a closed gate
+pub closed_gates : found_on (both (third 0 2) (0 ∷ [])) ≡ nothing
 closed_gates = refl
+
+-- an area that begins as a line of JSON, in each place and in both, beside an empty one, a closed one and an open one
+pub foreign_first : found_on (both (123 ∷ 34 ∷ []) []) ≡ foreign A
+foreign_first = refl
+
+pub foreign_second : found_on (both (third 0 2) (123 ∷ 34 ∷ [])) ≡ foreign B
+foreign_second = refl
+
+pub foreign_both : found_on (both (123 ∷ []) (123 ∷ [])) ≡ foreign A
+foreign_both = refl
+
+pub foreign_beside_text : found_on (both (third 1 2) (123 ∷ 34 ∷ [])) ≡ foreign B
+foreign_beside_text = refl
+
+-- the least first byte of another program's, and the greatest
+pub foreign_least : found_on (both (third 2 2) later) ≡ foreign A
+foreign_least = refl
+
+pub foreign_greatest : found_on (both [] (255 ∷ [])) ≡ foreign B
+foreign_greatest = refl
 
 pub open_first : found_on (both (third 1 2) []) ≡ text A 3 (7 ∷ 8 ∷ [])
 open_first = refl

@@ -8,7 +8,7 @@ use Rattle.eql_ckdisk.specs.Going.{Goes, IsNoOlder}
 use Rattle.eql_ckdisk.specs.Keeping.{LeavesNoMore}
 use Rattle.eql_ckdisk.specs.Putting.{Stands}
 use Rattle.eql_ckdisk.specs.Cuts.{FindsPut, IsFound, Puts}
-use Rattle.eql_ckdisk.specs.Refusing.{IsDamaged}
+use Rattle.eql_ckdisk.specs.Refusing.{IsDamaged, IsForeign}
 use Rattle.eql_ckdisk.specs.Runs.{last_after, KeepsStartOr, PutsAll}
 
 -- how a run of puts is joined of its parts
@@ -47,13 +47,15 @@ pub record AddsNothing (h k : History) : Type 0 where
 abbrev pub RecoveryAddsNothing : Type 0
 RecoveryAddsNothing = (h k : History) → Goes LeavesNoMore h k → AddsNothing h k
 
--- what was found has one result, and has none where it is damaged
+-- what was found has one result, and has none where it is damaged or another program's
 pub record FoundIsOne : Type 0 where
   pub one : (last other : LastCut) (format other_format : ℕ) (answer other_answer : Option Cut) (f : Found)
       → IsFound last format answer f → IsFound other other_format other_answer f
       → (answer ≡ other_answer) × (format ≡ other_format) × (last.generation ≡ other.generation)
   pub sound : (last : LastCut) (format : ℕ) (answer : Option Cut) (number at : ℕ) (f : Found)
       → IsFound last format answer f → IsDamaged number at f → ⊥
+  pub own : (last : LastCut) (format : ℕ) (answer : Option Cut) (number : ℕ) (f : Found)
+      → IsFound last format answer f → IsForeign number f → ⊥
 
 -- a recovery that finds a cut that was put returns that cut, with its place
 abbrev pub PutsAreFound : Type 0

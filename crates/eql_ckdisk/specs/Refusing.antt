@@ -1,4 +1,4 @@
--- How a disk's refusal is handed on, and what is damaged.
+-- How a disk's refusal is handed on, what is damaged, and what is another program's.
 use Rattle.std.specs.Prelude.{◌≡◌, ℕ}
 use Rattle.eql_outside.specs.declared.disk.Area.{Area}
 use Rattle.eql_outside.specs.declared.disk.Area.TheVariants.{A, B}
@@ -7,7 +7,7 @@ use Rattle.eql_outside.specs.declared.refused.OutRefused.TheVariants as out
 use Rattle.eql_cut.specs.Whole.{IsNoText}
 use Rattle.eql_ckdisk.specs.declared.refused.CkRefused.{CkRefused}
 use Rattle.eql_ckdisk.specs.declared.refused.CkRefused.TheVariants as ck
-use Rattle.eql_ckdisk.specs.Found.{Found, nothing, text, damaged}
+use Rattle.eql_ckdisk.specs.Found.{Found, nothing, text, damaged, foreign}
 
 abbrev pub refusing : OutRefused → CkRefused
 refusing out.Failed = ck.DiskFault
@@ -23,16 +23,34 @@ abbrev pub IsDamaged : ℕ → ℕ → Found → Type 0
 IsDamaged number at nothing = ⊥
 IsDamaged number at (text area generation bytes) = (number ≡ number_of area) × IsNoText bytes
 IsDamaged number at (damaged area generation) = (number ≡ number_of area) × (at ≡ 0)
+IsDamaged number at (foreign area) = ⊥
 
 -- the same, but for texts that are no cut's
 abbrev pub IsDamagedHead : ℕ → ℕ → Found → Type 0
 IsDamagedHead number at nothing = ⊥
 IsDamagedHead number at (text area generation bytes) = ⊥
 IsDamagedHead number at (damaged area generation) = (number ≡ number_of area) × (at ≡ 0)
+IsDamagedHead number at (foreign area) = ⊥
 
--- what is said of the area and the place of a damage
-abbrev pub IfDamaged : CkRefused → (ℕ → ℕ → Type 0) → Type 0
-IfDamaged ck.DiskFault P = Unit {0}
-IfDamaged (ck.Damaged area at) P = P area at
-IfDamaged ck.Generation P = Unit {0}
-IfDamaged ck.Memory P = Unit {0}
+-- what was found is another program's area, of this number
+abbrev pub IsForeign : ℕ → Found → Type 0
+IsForeign number nothing = ⊥
+IsForeign number (text area generation bytes) = ⊥
+IsForeign number (damaged area generation) = ⊥
+IsForeign number (foreign area) = number ≡ number_of area
+
+-- what was found is so, by a refusal that tells of it
+abbrev pub RefusesFound : CkRefused → Found → Type 0
+RefusesFound ck.DiskFault found = Unit {0}
+RefusesFound (ck.Damaged number at) found = IsDamaged number at found
+RefusesFound (ck.Foreign number) found = IsForeign number found
+RefusesFound ck.Generation found = Unit {0}
+RefusesFound ck.Memory found = Unit {0}
+
+-- a refusal that tells of what the areas hold
+abbrev pub TellsFound : CkRefused → Type 0
+TellsFound ck.DiskFault = ⊥
+TellsFound (ck.Damaged number at) = Unit {0}
+TellsFound (ck.Foreign number) = Unit {0}
+TellsFound ck.Generation = ⊥
+TellsFound ck.Memory = ⊥

@@ -7,7 +7,7 @@ ghost use Rattle.eql_outside.specs.Unfailing.{IsUnfailing};
 ghost use Rattle.eql_ckdisk.specs.Found.{found_on, holds};
 ghost use Rattle.eql_ckdisk.specs.Going.{Goes};
 ghost use Rattle.eql_ckdisk.specs.Keeping.{LeavesNoMore, KeepsAll};
-ghost use Rattle.eql_ckdisk.specs.Refusing.{number_of, IfDamaged, IsDamagedHead};
+ghost use Rattle.eql_ckdisk.specs.Refusing.{number_of, RefusesFound};
 
 use crate::head::{HEAD_BYTES, Head};
 use crate::refused::CkRefused;
@@ -44,6 +44,15 @@ fn damaged_in(area: Area) -> CkRefused
     }
 }
 
+// The refusal of an area that another program wrote.
+fn foreign_in(area: Area) -> CkRefused
+    ensures { result ≡ CkRefused.Foreign (number_of area) }
+{
+    CkRefused::Foreign {
+        area: area_number(area),
+    }
+}
+
 /// Keeps what reads give of both areas.
 pub(crate) fn settle<D: Disk>(alloc: Global, disk: &mut D) -> Result<(), OutRefused>
     ensures ok { OnOk result (DiskTells KeepsAll (D.history disk.old) (D.history disk.new)) }
@@ -76,8 +85,8 @@ impl LastText {
         ensures found { IfOk result (λ last. IfSome (D.history disk.old)
             (λ h. IsTextFound last (holds area (store area h.now).seen))) }
         ensures sound { IfOk result (λ last. IsNoneOrText last.text last.state.generation) }
-        ensures damaged { IfErr result (λ e. IfDamaged e (λ number at. IfSome (D.history disk.old)
-            (λ h. IsDamagedHead number at (holds area (store area h.now).seen)))) }
+        ensures refuses { IfErr result (λ e. IfSome (D.history disk.old)
+            (λ h. RefusesFound e (holds area (store area h.now).seen))) }
         ensures limit { result ≢ Err CkRefused.Generation }
         ensures same { D.history disk.new ≡ D.history disk.old }
         ensures cause { result ≡ Err CkRefused.DiskFault
@@ -102,13 +111,13 @@ impl LastText {
         })
     }
 
-    /// Finds the text that counts.
+    /// Finds the text that counts, where neither area is another program's.
     pub(crate) fn find<D: Disk>(alloc: Global, disk: &mut D) -> Result<LastText, CkRefused>
         ensures found { IfOk result (λ last. IfSome (D.history disk.old)
             (λ h. IsTextFound last (found_on (seen_areas h.now)))) }
         ensures sound { IfOk result (λ last. IsNoneOrText last.text last.state.generation) }
-        ensures damaged { IfErr result (λ e. IfDamaged e (λ number at. IfSome (D.history disk.old)
-            (λ h. IsDamagedHead number at (found_on (seen_areas h.now))))) }
+        ensures refuses { IfErr result (λ e. IfSome (D.history disk.old)
+            (λ h. RefusesFound e (found_on (seen_areas h.now)))) }
         ensures limit { result ≢ Err CkRefused.Generation }
         ensures same { D.history disk.new ≡ D.history disk.old }
         ensures cause { result ≡ Err CkRefused.DiskFault
@@ -121,6 +130,12 @@ impl LastText {
     {
         let a = Head::read(alloc, disk, Area::A)?;
         let b = Head::read(alloc, disk, Area::B)?;
+        if a.foreign {
+            return Err(foreign_in(Area::A));
+        }
+        if b.foreign {
+            return Err(foreign_in(Area::B));
+        }
         if a.open && (!b.open || b.generation <= a.generation) {
             return LastText::in_area(alloc, disk, Area::A, a);
         }

@@ -4,6 +4,7 @@ ghost use Rattle.std.specs.Int.{w64, from_le_bytes};
 ghost use Rattle.eql_outside.specs.Areas.{store};
 ghost use Rattle.eql_outside.specs.Outside.{Rose};
 ghost use Rattle.eql_outside.specs.Unfailing.{IsUnfailing};
+ghost use Rattle.eql_ckdisk.specs.Found as found;
 
 use eql_outside::{Area, Disk, OutRefused, unfailing_stays};
 use std::alloc::Global;
@@ -16,6 +17,8 @@ pub(crate) const HEAD_BYTES: u64 = 17;
 pub(crate) struct Head {
     /// Whether the gate is open.
     pub(crate) open: bool,
+    /// Whether another program wrote the area.
+    pub(crate) foreign: bool,
     /// The generation.
     pub(crate) generation: u64,
     /// The length of the text, in bytes.
@@ -32,6 +35,16 @@ fn number(bytes: &[u8]) -> u64
     ])
 }
 
+// Whether another program wrote an area that begins with these bytes.
+fn is_foreign(bytes: &[u8]) -> bool
+    ensures { result ≡ found.is_foreign bytes.now }
+{
+    match bytes.first() {
+        Some(&gate) => gate != 0 && gate != 1,
+        None => false,
+    }
+}
+
 impl Head {
     ghost use Rattle.eql_ckdisk.specs.Heads.{IsHead};
 
@@ -40,15 +53,18 @@ impl Head {
         ensures { IsHead bytes.now result }
     {
         let open = bytes.first() == Some(&1);
+        let foreign = is_foreign(bytes);
         if bytes.len() < 17 {
             return Head {
                 open,
+                foreign,
                 generation: 0,
                 length: 0,
             };
         }
         Head {
             open,
+            foreign,
             generation: number(&bytes[1..9]),
             length: number(&bytes[9..17]),
         }

@@ -33,7 +33,7 @@ pub fn puts_are_found()
     ensures { PutsAreFound }
 {}
 
-/// What is found has one result of a recovery, and none where it is damaged.
+/// What is found has one result of a recovery, and none where it is damaged or another program's.
 pub fn found_is_one()
     ensures { FoundIsOne }
 {}

@@ -9,7 +9,7 @@ ghost use Rattle.eql_outside.specs.Unfailing.{IsUnfailing};
 ghost use Rattle.eql_ckdisk.specs.Found.{block, next};
 ghost use Rattle.eql_ckdisk.specs.Cuts.{Holds, Puts};
 ghost use Rattle.eql_ckdisk.specs.Putting.{HasPutText, PutsText, Stands, last_cut};
-ghost use Rattle.eql_ckdisk.specs.Refusing.{IfDamaged};
+ghost use Rattle.eql_ckdisk.specs.Refusing.{TellsFound};
 
 use crate::refused::CkRefused;
 use crate::state::{CkState, GREATEST};
@@ -97,7 +97,7 @@ pub fn put<D: Disk>(
     ensures limit { (result ≡ Err CkRefused.Generation)
         ↔ ((last_cut state.old).generation ≡ 2 ^ 63) }
     ensures untouched { result ≡ Err CkRefused.Generation → disk.new ≡ disk.old }
-    ensures undamaged { IfErr result (λ e. IfDamaged e (λ _ _. ⊥)) }
+    ensures undamaged { IfErr result (λ e. TellsFound e → ⊥) }
 
     // The disk's count rises where its fault is returned, and nowhere else.
     ensures cause { result ≡ Err CkRefused.DiskFault

@@ -8,7 +8,7 @@ ghost use Rattle.eql_ckdisk.specs.Going.{Goes};
 ghost use Rattle.eql_ckdisk.specs.Keeping.{LeavesNoMore, KeepsAll};
 ghost use Rattle.eql_ckdisk.specs.Putting.{Stands, last_cut};
 ghost use Rattle.eql_ckdisk.specs.Recovering.{IsAnswer, IsSound};
-ghost use Rattle.eql_ckdisk.specs.Refusing.{IfDamaged, IsDamaged};
+ghost use Rattle.eql_ckdisk.specs.Refusing.{RefusesFound, TellsFound};
 
 use crate::find::{LastText, area_number, settle};
 use crate::refused::CkRefused;
@@ -38,8 +38,8 @@ impl Recovered {
             (λ r. (f : Found) → IsTextFound last f → IsAnswer r f) }
         ensures sound { IfOk result IsSound }
         ensures state { IfOk result (λ r. r.state ≡ last.state) }
-        ensures damaged { IfErr result (λ e. IfDamaged e
-            (λ area at. (f : Found) → IsTextFound last f → IsDamaged area at f)) }
+        ensures refuses { IfErr result
+            (λ e. (f : Found) → IsTextFound last f → RefusesFound e f) }
         ensures limit { result ≢ Err CkRefused.Generation }
         ensures fault { result ≢ Err CkRefused.DiskFault }
     {
@@ -70,9 +70,9 @@ impl Recovered {
 ///
 /// # Errors
 ///
-/// [`CkRefused::DiskFault`] where a call on the disk failed; [`CkRefused::Damaged`] where the area that counts has a
-/// generation outside 1 to 2^63, fewer bytes than its length says, or a text that is no cut's;
-/// [`CkRefused::Memory`] where memory ran out.
+/// [`CkRefused::DiskFault`] where a call on the disk failed; [`CkRefused::Foreign`] where an area isn't empty and its
+/// first byte is neither 0 nor 1; [`CkRefused::Damaged`] where the area that counts has a generation outside 1 to 2^63,
+/// fewer bytes than its length says, or a text that is no cut's; [`CkRefused::Memory`] where memory ran out.
 pub fn recover<D: Disk>(alloc: Global, disk: &mut D) -> Result<Recovered, CkRefused>
     // Of any disk: a cut has a text in its format, and a generation from 1 on.
     ensures sound { IfOk result IsSound }
@@ -85,10 +85,10 @@ pub fn recover<D: Disk>(alloc: Global, disk: &mut D) -> Result<Recovered, CkRefu
 
     // At each moment of the call, whatever it returns.
     ensures moments { DiskTells (Goes LeavesNoMore) (D.history disk.old) (D.history disk.new) }
-    ensures damaged { IfErr result (λ e. IfDamaged e (λ area at. IfSome (D.history disk.new)
-        (λ k. EachFinds (IsDamaged area at) k.now))) }
-    ensures damaged_kept { IfErr result (λ e. IfDamaged e
-        (λ area at. DiskTells KeepsAll (D.history disk.old) (D.history disk.new))) }
+    ensures refuses { IfErr result (λ e. IfSome (D.history disk.new)
+        (λ k. EachFinds (RefusesFound e) k.now)) }
+    ensures refuses_kept { IfErr result (λ e. TellsFound e
+        → DiskTells KeepsAll (D.history disk.old) (D.history disk.new)) }
     ensures limit { result ≢ Err CkRefused.Generation }
 
     // The disk's count rises where its fault is returned, and nowhere else.

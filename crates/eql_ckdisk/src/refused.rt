@@ -19,6 +19,12 @@ pub enum CkRefused {
         /// of the text is at fault.
         at: u64,
     },
+    /// Another program wrote an area: it isn't empty, and its first byte is neither 0 nor 1.
+    #[error("checkpoint area {area} is another program's")]
+    Foreign {
+        /// The area, 0 or 1.
+        area: u32,
+    },
     /// The last generation is the greatest that is given, 2^63.
     #[error("no greater generation is given")]
     Generation,
