@@ -14,6 +14,8 @@ enum Finds {
     Cut(i128, Area, u64),
     /// An area that is damaged, and where.
     Damaged(u32, u64),
+    /// An area that another program wrote.
+    Foreign(u32),
     /// A fault of the disk.
     Fault,
 }
@@ -42,7 +44,11 @@ macro_rules! area_row {
 /// Areas of every kind. A text has 91 bytes, 5b.
 static ROWS: &[Row] = &[
     area_row!("two empty areas" => Finds::Nothing; "", ""),
-    area_row!("closed" => Finds::Nothing; "00 0100000000000000 5b00000000000000 T", "02"),
+    area_row!("closed" => Finds::Nothing; "00 0100000000000000 5b00000000000000 T", "00"),
+    area_row!("a closed gate beside a cut" => Finds::Cut(2, Area::B, 2);
+        "00", "01 0200000000000000 5b00000000000000 U"),
+    area_row!("both areas another program's" => Finds::Foreign(0); "7b", "7b"),
+    area_row!("another program's beside a damaged area" => Finds::Foreign(1); "01", "7b"),
     area_row!("one in area 0" => Finds::Cut(1, Area::A, 1);
         "01 0100000000000000 5b00000000000000 T", ""),
     area_row!("one in area 1" => Finds::Cut(2, Area::B, 2);
@@ -104,6 +110,7 @@ fn is_found<D: Disk>(alloc: Global, disk: &mut D, expected: Finds) -> bool {
         }
         Err(refused) => match expected {
             Finds::Damaged(area, at) => refused == CkRefused::Damaged { area, at },
+            Finds::Foreign(area) => refused == CkRefused::Foreign { area },
             Finds::Fault => refused == CkRefused::DiskFault,
             _ => false,
         },
@@ -127,6 +134,43 @@ fn areas_are_read(rt: HostRuntime) -> Result<(), Fail> {
     Ok(())
 }
 
+/// First bytes of areas that other programs wrote, as of logs and of texts.
+static FOREIGN: &[&str] = &["02", "0a 01", "23 21", "5b", "7b 22 0100000000000000", "ff"];
+
+/// An area that holds the cut with the mark 1.
+const CUT: &str = "01 0100000000000000 5b00000000000000 T";
+
+/// Whether a recovery refuses these areas as another program's, of which this is the first, and leaves both as they are.
+fn is_left(alloc: Global, a: &str, b: &str, area: u32) -> Result<bool, Fail> {
+    let mut disk = disk_of(alloc, a, b, None)?;
+    let is_refused = is_found(alloc, &mut disk, Finds::Foreign(area));
+    let left = disk.crashed(alloc, 0);
+    drop(disk);
+    let (left_a, left_b) = left?;
+    let (bytes_a, bytes_b) = (bytes_of(alloc, a)?, bytes_of(alloc, b)?);
+    Ok(
+        is_refused
+            && left_a.as_slice() == bytes_a.as_slice()
+            && left_b.as_slice() == bytes_b.as_slice(),
+    )
+}
+
+/// The first of the areas which is not left as it is, in either place beside a cut, or nothing where there is none.
+fn touched_area(alloc: Global) -> Result<&'static str, Fail> {
+    for &area in FOREIGN {
+        if !is_left(alloc, area, CUT, 0)? || !is_left(alloc, CUT, area, 1)? {
+            return Ok(area);
+        }
+    }
+    Ok("")
+}
+
+#[test]
+fn foreign_areas_are_left(rt: HostRuntime) -> Result<(), Fail> {
+    assert_eq!(rt; touched_area(rt.alloc())?, "");
+    Ok(())
+}
+
 /// The areas before a put, the mark of the cut that is put, and the areas after it, if it isn't refused for its
 /// generation.
 struct Put {
@@ -139,9 +183,9 @@ struct Put {
 static PUTS: &[Put] = &[
     Put {
         a: "",
-        b: "07 ff",
+        b: "00 ff",
         mark: 1,
-        then: Some(("01 0100000000000000 5b00000000000000 T", "07 ff")),
+        then: Some(("01 0100000000000000 5b00000000000000 T", "00 ff")),
     },
     // What stood behind the new text stays.
     Put {
