@@ -74,6 +74,7 @@ fn cut_line(alloc: Global, why: &CutStop) -> Result<String, Memory>
     ensures { IfOk result (λ line. string_bytes line ≡ cut_text (cut_refusal_of why.now)) }
 {
     match why {
+        CutStop::Foreign { area } => Ok(format!(in alloc; "checkpoint: Foreign area {}\n", area)?),
         CutStop::Damaged { area, at } => {
             Ok(format!(in alloc; "checkpoint: Damaged area {} at {}\n", area, at)?)
         }

@@ -16,7 +16,7 @@ use Rattle.eql_runs.specs.Files.{Files}
 use Rattle.eql_runs.specs.RunLaws.{TestedIsAccepted}
 use Rattle.eql_runs.specs.Runs.{Finds, IsFindAccepted, Searches, Trusts}
 use Rattle.eql_runs.specs.Searches.{rest_of, report_lines, report_of, shard_counts_from}
-use Rattle.eql_runs.specs.Starts.{BeginsWith, DiskHolds, IsTrusted, OnDisk, a_cut, bad_head, bad_text, listed_on, nothing_kept, start_asked, start_for}
+use Rattle.eql_runs.specs.Starts.{BeginsWith, DiskHolds, IsTrusted, OnDisk, a_cut, bad_head, bad_text, listed_on, not_ours, nothing_kept, start_asked, start_for}
 use Rattle.eql_find.specs.declared.plan.PlannedQuery.{PlannedQuery}
 use Rattle.eql_find.specs.Finding.{FindsAll, FindsListing, FindsSome, IsReportOf}
 use Rattle.eql_find.specs.Running.{StartsOver}
@@ -31,6 +31,7 @@ begins_of find p texts nothing_kept tested trusted = tt
 begins_of find p texts (a_cut format generation cut) tested trusted = record { head = tested.head; fits = tested.fits; is_cut = trusted tested.head }
 begins_of find p texts (bad_head area) tested trusted = absurd tested
 begins_of find p texts (bad_text area) tested trusted = absurd tested
+begins_of find p texts (not_ours area) tested trusted = absurd tested
 
 -- with what a run begins, by its words and its disk
 pub start_is : (find : Find) (format generation : ℕ) (o : Option Cut) (on : OnDisk) → IfSome o (λ cut. find.checkpoint ≢ None)

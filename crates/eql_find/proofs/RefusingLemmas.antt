@@ -23,7 +23,7 @@ use Rattle.eql_cut.specs.declared.cut.CutHead.{CutHead}
 use Rattle.eql_cut.specs.Domain.{kept_by}
 use Rattle.eql_cut.specs.Fitting.{run_of as bare_run}
 use Rattle.eql_ckdisk.specs.Found.{found_on}
-use Rattle.eql_runs.specs.CutRefusals.{CutRefusal, CutRefuses, FoundRefuses, IsTestedCut, NoneIsRefusedBefore, ShardRefuses, by_found, by_shard, grown, has_no_line, head_damaged, head_differs, is_grown, is_short, is_unfit, no_line, short, text_damaged}
+use Rattle.eql_runs.specs.CutRefusals.{CutRefusal, CutRefuses, FoundRefuses, IsTestedCut, NoneIsRefusedBefore, ShardRefuses, by_found, by_shard, grown, has_no_line, head_damaged, head_differs, is_foreign, is_grown, is_short, is_unfit, no_line, short, text_damaged}
 use Rattle.eql_runs.specs.Files.{Files}
 use Rattle.eql_runs.specs.RunLaws.{DiskHoldsOne, FitsAtAnySpan}
 use Rattle.eql_runs.specs.Runs.{RefusesCut, Searches}
@@ -52,6 +52,7 @@ module _ (spans : FitsAtAnySpan) (find : Find) (p : PlannedQuery) where
   found_refuses : (head : CutHead) (on : OnDisk) (r : CutRefusal)
       → FoundRefuses head (bare_run (stages_of p) (values_of p) (pipes_of p) head.slack) on r
       → FoundRefuses head (run_of (search_in find p) head.slack) on r
+  found_refuses head _ _ (is_foreign area) = is_foreign area
   found_refuses head _ _ (head_damaged area) = head_damaged area
   found_refuses head _ _ (text_damaged area at) = text_damaged area at
   found_refuses head _ _ (head_differs format generation cut d differs) = head_differs format generation cut d differs

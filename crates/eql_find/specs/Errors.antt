@@ -5,7 +5,7 @@ use Rattle.eql_outside.specs.Faults.{FaultsAreSame}
 use Rattle.eql_outside.specs.declared.refused.OutRefused.TheVariants as refused_by
 use Rattle.eql_lane.specs.declared.ops.ShardLimit.{ShardLimit}
 use Rattle.eql_lane.specs.declared.ops.ShardLimit.TheVariants as limit
-use Rattle.eql_runs.specs.CutRefusals.{CutRefusal, damaged, differs, unfit, short, no_line, grown}
+use Rattle.eql_runs.specs.CutRefusals.{CutRefusal, foreign, damaged, differs, unfit, short, no_line, grown}
 use Rattle.eql_runs.specs.Runs.{many_lines, many_bytes}
 use Rattle.eql_runs.specs.Runs as runs
 use Rattle.eql_inputs.specs.declared.error.InputError.{InputError}
@@ -36,6 +36,7 @@ limit_of (limit.Bytes shard) = many_bytes shard
 
 -- why the cut is refused, in the words of runs
 abbrev pub cut_refusal_of : CutStop → CutRefusal
+cut_refusal_of (cut.Foreign area) = foreign area
 cut_refusal_of (cut.Damaged area at) = damaged area at
 cut_refusal_of (cut.Differs d) = differs d
 cut_refusal_of cut.Unfit = unfit

@@ -128,6 +128,7 @@ IsDiskOrMemory (run.Report r) = ⊥
 -- the error of a refusal
 abbrev pub IsErrorOfStart : StartRefused → FindError → Type 0
 IsErrorOfStart by.Disk h = h ≡ run.Disk
+IsErrorOfStart (by.Foreign area) h = h ≡ run.Cut (cut.Foreign area)
 IsErrorOfStart (by.Damaged area at) h = h ≡ run.Cut (cut.Damaged area at)
 IsErrorOfStart (by.Differs d) h = h ≡ run.Cut (cut.Differs d)
 IsErrorOfStart by.Unfit h = h ≡ run.Cut cut.Unfit

@@ -41,6 +41,7 @@ fn error_of_start<'a>(refused: StartRefused) -> FindError<'a>
 {
     match refused {
         StartRefused::Disk => FindError::Disk,
+        StartRefused::Foreign { area } => FindError::Cut(CutStop::Foreign { area }),
         StartRefused::Damaged { area, at } => FindError::Cut(CutStop::Damaged { area, at }),
         StartRefused::Differs(differs) => FindError::Cut(CutStop::Differs(differs)),
         StartRefused::Unfit => FindError::Cut(CutStop::Unfit),

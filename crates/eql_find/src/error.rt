@@ -10,6 +10,11 @@ use eql_outside::OutRefused;
 /// Why the cut that the disk holds is refused. Shards count from 0.
 #[derive(Drop)]
 pub enum CutStop {
+    /// Another program wrote an area.
+    Foreign {
+        /// The area, 0 or 1.
+        area: u32,
+    },
     /// The area that counts is damaged.
     Damaged {
         /// The area, 0 or 1.

@@ -21,9 +21,9 @@ use Rattle.eql_ckdisk.specs.Found as areas
 use Rattle.eql_ckdisk.specs.Keeping.{KeepsAll, all_kept}
 use Rattle.eql_ckdisk.specs.Putting.{last_cut}
 use Rattle.eql_ckdisk.specs.Recovering.{IsAnswer, IsNoneOrCut}
-use Rattle.eql_ckdisk.specs.Refusing.{IfDamaged, IsDamaged}
-use Rattle.eql_runs.specs.CutRefusals.{FoundRefuses, damaged, head_damaged, head_differs, is_unfit, text_damaged}
-use Rattle.eql_runs.specs.Starts.{StandsFor, a_cut, bad_head, bad_text}
+use Rattle.eql_ckdisk.specs.Refusing.{IsDamaged, IsForeign, RefusesFound, TellsFound}
+use Rattle.eql_runs.specs.CutRefusals.{FoundRefuses, damaged, foreign, head_damaged, head_differs, is_foreign, is_unfit, text_damaged}
+use Rattle.eql_runs.specs.Starts.{StandsFor, a_cut, bad_head, bad_text, not_ours}
 use Rattle.eql_resume.specs.declared.finding.StartRefused.{StartRefused}
 use Rattle.eql_resume.specs.declared.finding.StartRefused.TheVariants as by
 use Rattle.eql_resume.specs.Finding.{HasResumeCause, HasCutCause, HasFoundCause, IsRefusedBy, disk_holding, refused_by}
@@ -79,30 +79,30 @@ module _ (stages values : ℕ) (pipes : List Pipe) (head : CutHead) where
     stands = (is.0, refl);
     refuses = subst (λ (n : ℕ). FoundRefuses head (run_of stages values pipes head.slack) (bad_head number) (damaged number n)) (sym is.1) (head_damaged number);
   }
+  by_damage (areas.foreign area) number at is = absurd is
 
-  by_refusal : (e : CkRefused) (o : Option History) → IfDamaged e (λ number at. IfSome o (λ h. IsDamaged number at (found_on (seen_areas h.now))))
+  by_foreign : (f : Found) (number : ℕ) → IsForeign number f → IsRefusedBy stages values pipes head f (foreign number)
+  by_foreign f number is = record { on = not_ours number; stands = is; refuses = is_foreign number }
+
+  -- what is refused of each image now is what reads gave
+  by_refusal : (seen : (m : Moment) → IsImage m (seen_areas m)) (e : CkRefused) (o p : Option History) → (TellsFound e → DiskTells KeepsAll o p)
+      → IfSome p (λ k. EachFinds (RefusesFound e) k.now)
       → IfSome o (λ h. HasResumeCause (found_on (seen_areas h.now)) stages values pipes head (refused_by e))
-  by_refusal e None is = tt
-  by_refusal ck.DiskFault (Some h) is = tt
-  by_refusal (ck.Damaged number at) (Some h) is = by_damage (found_on (seen_areas h.now)) number at is
-  by_refusal ck.Generation (Some h) is = tt
-  by_refusal ck.Memory (Some h) is = tt
-
-  -- a damage of each image now is that of what reads gave
-  damage_seen : (seen : (m : Moment) → IsImage m (seen_areas m)) (e : CkRefused) (o p : Option History) → IfDamaged e (λ number at. DiskTells KeepsAll o p)
-      → IfDamaged e (λ number at. IfSome p (λ k. EachFinds (IsDamaged number at) k.now))
-      → IfDamaged e (λ number at. IfSome o (λ h. IsDamaged number at (found_on (seen_areas h.now))))
-  damage_seen seen ck.DiskFault o p kept each = tt
-  damage_seen seen (ck.Damaged number at) o p kept each = seen_now seen (IsDamaged number at) o p kept each
-  damage_seen seen ck.Generation o p kept each = tt
-  damage_seen seen ck.Memory o p kept each = tt
+  by_refusal seen e None p kept each = tt
+  by_refusal seen ck.DiskFault (Some h) p kept each = tt
+  by_refusal seen (ck.Foreign number) (Some h) p kept each =
+      by_foreign (found_on (seen_areas h.now)) number (seen_now seen (IsForeign number) (Some h) p (kept tt) each)
+  by_refusal seen (ck.Damaged number at) (Some h) p kept each =
+      by_damage (found_on (seen_areas h.now)) number at (seen_now seen (IsDamaged number at) (Some h) p (kept tt) each)
+  by_refusal seen ck.Generation (Some h) p kept each = tt
+  by_refusal seen ck.Memory (Some h) p kept each = tt
 
   pub refused_there : (seen : (m : Moment) → IsImage m (seen_areas m)) (e : CkRefused) (r : StartRefused) (o p : Option History) → r ≡ refused_by e
-      → IfDamaged e (λ number at. DiskTells KeepsAll o p) → IfDamaged e (λ number at. IfSome p (λ k. EachFinds (IsDamaged number at) k.now))
+      → (TellsFound e → DiskTells KeepsAll o p) → IfSome p (λ k. EachFinds (RefusesFound e) k.now)
       → IfSome o (λ h. HasResumeCause (found_on (seen_areas h.now)) stages values pipes head r)
   refused_there seen e r o p is kept each =
       subst (λ (x : StartRefused). IfSome o (λ h. HasResumeCause (found_on (seen_areas h.now)) stages values pipes head x)) (sym is)
-      (by_refusal e o (damage_seen seen e o p kept each))
+      (by_refusal seen e o p kept each)
 
   -- a cut is refused
   misfit : (cut : Cut) → cut.head ≡ head → ¬ (FitsRun stages values pipes cut) → ¬ (Fits (run_of stages values pipes head.slack) head.shards (kept_by cut))
@@ -111,6 +111,7 @@ module _ (stages values : ℕ) (pipes : List Pipe) (head : CutHead) where
   by_cut : (format generation : ℕ) (cut : Cut) (f : Found) (r : StartRefused) → StandsFor (a_cut format generation cut) f
       → HasCutCause stages values pipes head cut r → HasResumeCause f stages values pipes head r
   by_cut format generation cut f by.Disk stands is = tt
+  by_cut format generation cut f (by.Foreign area) stands is = absurd is
   by_cut format generation cut f (by.Damaged area at) stands is = absurd is
   by_cut format generation cut f (by.Differs d) stands is =
       record { on = a_cut format generation cut; stands = stands; refuses = head_differs format generation cut d is }

@@ -11,7 +11,7 @@ use Rattle.eql_ckdisk.specs.declared.refused.CkRefused.TheVariants as ck
 use Rattle.eql_ckdisk.specs.Found.{Found}
 use Rattle.eql_ckdisk.specs.Putting.{last_cut}
 use Rattle.eql_runs.specs.Starts.{OnDisk, nothing_kept, a_cut, StandsFor}
-use Rattle.eql_runs.specs.CutRefusals.{CutRefusal, damaged, differs, unfit, FoundRefuses}
+use Rattle.eql_runs.specs.CutRefusals.{CutRefusal, foreign, damaged, differs, unfit, FoundRefuses}
 use Rattle.eql_resume.specs.declared.finding.FoundCut.{FoundCut}
 use Rattle.eql_resume.specs.declared.finding.StartRefused.{StartRefused}
 use Rattle.eql_resume.specs.declared.finding.StartRefused.TheVariants as by
@@ -33,6 +33,7 @@ on_of start = disk_holding start.format (last_cut start.state).generation start.
 -- the refusal, in words of runs, where it is one by the cut
 abbrev pub refusal_of : StartRefused → Option CutRefusal
 refusal_of by.Disk = None
+refusal_of (by.Foreign area) = Some (foreign area)
 refusal_of (by.Damaged area at) = Some (damaged area at)
 refusal_of (by.Differs d) = Some (differs d)
 refusal_of by.Unfit = Some unfit
@@ -46,6 +47,7 @@ pub record IsRefusedBy (stages values : ℕ) (pipes : List Pipe) (head : CutHead
 
 abbrev pub HasResumeCause : Found → (stages values : ℕ) → List Pipe → CutHead → StartRefused → Type 0
 HasResumeCause f stages values pipes head by.Disk = Unit {0}
+HasResumeCause f stages values pipes head (by.Foreign area) = IsRefusedBy stages values pipes head f (foreign area)
 HasResumeCause f stages values pipes head (by.Damaged area at) = IsRefusedBy stages values pipes head f (damaged area at)
 HasResumeCause f stages values pipes head (by.Differs d) = IsRefusedBy stages values pipes head f (differs d)
 HasResumeCause f stages values pipes head by.Unfit = IsRefusedBy stages values pipes head f unfit
@@ -54,6 +56,7 @@ HasResumeCause f stages values pipes head by.Memory = Unit {0}
 -- why a cut isn't one of a run of this head
 abbrev pub HasCutCause : (stages values : ℕ) → List Pipe → CutHead → Cut → StartRefused → Type 0
 HasCutCause stages values pipes head cut by.Disk = ⊥
+HasCutCause stages values pipes head cut (by.Foreign area) = ⊥
 HasCutCause stages values pipes head cut (by.Damaged area at) = ⊥
 HasCutCause stages values pipes head cut (by.Differs d) = difference cut.head head ≡ Some d
 HasCutCause stages values pipes head cut by.Unfit = (cut.head ≡ head) × ¬ (FitsRun stages values pipes cut)
@@ -67,6 +70,7 @@ HasFoundCause stages values pipes head (Some cut) refused = HasCutCause stages v
 -- the refusal of a disk as that of a run
 abbrev pub refused_by : CkRefused → StartRefused
 refused_by ck.DiskFault = by.Disk
+refused_by (ck.Foreign area) = by.Foreign area
 refused_by (ck.Damaged area at) = by.Damaged area at
 refused_by ck.Generation = by.Memory
 refused_by ck.Memory = by.Memory

@@ -36,6 +36,11 @@ pub struct FoundCut {
 pub enum StartRefused {
     /// The disk failed.
     Disk,
+    /// Another program wrote an area.
+    Foreign {
+        /// The area, 0 or 1.
+        area: u32,
+    },
     /// The area that counts is damaged.
     Damaged {
         /// The area, 0 or 1.
@@ -58,6 +63,7 @@ fn refusal_of(refused: CkRefused) -> StartRefused
 {
     match refused {
         CkRefused::DiskFault => StartRefused::Disk,
+        CkRefused::Foreign { area } => StartRefused::Foreign { area },
         CkRefused::Damaged { area, at } => StartRefused::Damaged { area, at },
         CkRefused::Generation => unreachable!(),
         CkRefused::Memory => StartRefused::Memory,

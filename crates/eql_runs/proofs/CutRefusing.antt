@@ -24,12 +24,12 @@ use Rattle.eql_cut.specs.Domain.{kept_by}
 use Rattle.eql_cut.specs.Placing.{NamesLine, lifted_lane}
 use Rattle.eql_cut.specs.Placed.{ShardHasLine, place_in_texts, cut_at_places}
 use Rattle.eql_cut.specs.PlacedLaws.{NamedWereRead, NamesStay}
-use Rattle.eql_runs.specs.CutRefusals.{CutRefusal, CutRefuses, FoundRefuses, IsLostLine, NoneIsRefusedBefore, ShardRefuses, StandsBefore, by_found, by_shard, differs, has_no_line, head_damaged, head_differs, is_grown, is_short, is_unfit, no_line, short, text_damaged}
+use Rattle.eql_runs.specs.CutRefusals.{CutRefusal, CutRefuses, FoundRefuses, IsLostLine, NoneIsRefusedBefore, ShardRefuses, StandsBefore, by_found, by_shard, differs, has_no_line, head_damaged, head_differs, is_foreign, is_grown, is_short, is_unfit, no_line, short, text_damaged}
 use Rattle.eql_runs.specs.Refusals.{Refusal}
 use Rattle.eql_runs.specs.Refusals as refusal
 use Rattle.eql_runs.specs.RunLaws.{IsSameRefusal, other_place, same}
 use Rattle.eql_runs.specs.Searches.{Search, nanos_in, reads_of, run_of}
-use Rattle.eql_runs.specs.Starts.{BeginsWith, IsCutOf, IsHeadOf, OnDisk, a_cut, bad_head, bad_text, meant_by, nothing_kept}
+use Rattle.eql_runs.specs.Starts.{BeginsWith, IsCutOf, IsHeadOf, OnDisk, a_cut, bad_head, bad_text, meant_by, not_ours, nothing_kept}
 use Rattle.eql_runs.proofs.Heads.{no_difference, one_head}
 
 -- the laws on which this rests
@@ -109,6 +109,7 @@ same_differs cut head d is e = none-some d (sym (no_difference head) ∙ ap (λ 
 
 one_of_found : (search : Search) (on : OnDisk) (a b : CutHead) (r s : CutRefusal) → a ≡ b → FoundRefuses a (run_of search a.slack) on r
     → FoundRefuses b (run_of search b.slack) on s → Same r s
+one_of_found search on a b _ _ heads (is_foreign area) (is_foreign _) = same
 one_of_found search on a b _ _ heads (head_damaged area) (head_damaged _) = same
 one_of_found search on a b _ _ heads (text_damaged area at) (text_damaged _ to) = other_place
 one_of_found search on a b _ _ heads (head_differs format generation cut d is) (head_differs _ _ _ e also) =
@@ -289,6 +290,7 @@ pub begins_or_refused : (laws : CutLaws) (search : Search) (texts : List (List �
 begins_or_refused laws search texts reading nothing_kept _ begins (by_found _ head r is refused) = elim refused [ ]
 begins_or_refused laws search texts reading (bad_head area) _ begins refused = begins
 begins_or_refused laws search texts reading (bad_text area) _ begins refused = begins
+begins_or_refused laws search texts reading (not_ours area) _ begins refused = begins
 begins_or_refused laws search texts reading (a_cut format generation cut) _ begins (by_found _ head r is refused) =
     found_or_fits search (length texts) format generation cut head r is begins.head begins.fits refused
 begins_or_refused laws search texts reading (a_cut format generation cut) _ begins (by_shard _ _ _ own fits shard text there none r refused) =

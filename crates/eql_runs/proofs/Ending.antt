@@ -19,14 +19,14 @@ use Rattle.eql_words.specs.declared.commands.Command.TheVariants as command
 use Rattle.eql_words.specs.declared.commands.Find.{Find}
 use Rattle.eql_words.specs.Bounds.{CommandsAreBounded}
 use Rattle.eql_words.specs.Commands.{command_of}
-use Rattle.eql_runs.specs.CutRefusals.{CutRefusal, CutRefuses, by_found, damaged, differs, head_damaged, head_differs, text_damaged}
+use Rattle.eql_runs.specs.CutRefusals.{CutRefusal, CutRefuses, by_found, damaged, differs, foreign, head_damaged, head_differs, is_foreign, text_damaged}
 use Rattle.eql_runs.specs.Files.{Files, IsWithin}
 use Rattle.eql_runs.specs.Refusals.{Names, Refusal}
 use Rattle.eql_runs.specs.Refusals as refusal
 use Rattle.eql_runs.specs.Runs.{AreTrusted, AreWithin, IsRefused, RefusesCut, Runs, Searches, Trusts, Writes, by_cut, by_files}
 use Rattle.eql_runs.specs.RunLaws.{NoRunIsLeftOut}
 use Rattle.eql_runs.specs.Searches.{Search, rest_of, report_of}
-use Rattle.eql_runs.specs.Starts.{BeginsWith, IsHeadOf, IsTrusted, OnDisk, StandsFor, a_cut, bad_head, bad_text, listed_on, nothing_kept, start_asked, start_for}
+use Rattle.eql_runs.specs.Starts.{BeginsWith, IsHeadOf, IsTrusted, OnDisk, StandsFor, a_cut, bad_head, bad_text, listed_on, not_ours, nothing_kept, start_asked, start_for}
 use Rattle.eql_runs.specs.Summaries.{made_lines}
 use Rattle.eql_runs.proofs.Counting.{texts_count}
 use Rattle.eql_runs.proofs.Covering.{CoverLaws, NoneOrSome, none_or_some, HasAll, AllOrRefused, texts_there, all_or_refused}
@@ -151,6 +151,11 @@ module _ (laws : EndLaws) (find : Find) (files : Files) (the : TheSearch find fi
       refuses_from find files on the (damaged area 0)
       (subst (λ (x : OnDisk). CutRefuses the.search the.texts x (damaged area 0)) (sym start)
       (by_found on (head_of the.search (length the.texts) slack) (damaged area 0) (is_head the.search (length the.texts) slack e) (text_damaged area 0)))
+  by_disk (not_ours area) f slack stands e start =
+      let on = not_ours area in
+      refuses_from find files on the (foreign area)
+      (subst (λ (x : OnDisk). CutRefuses the.search the.texts x (foreign area)) (sym start)
+      (by_found on (head_of the.search (length the.texts) slack) (foreign area) (is_head the.search (length the.texts) slack e) (is_foreign area)))
   by_disk (a_cut format generation cut) f slack stands e start =
       by_cut_there format generation cut f slack stands e start
       (none_or_some (difference cut.head (head_of the.search (length the.texts) slack)))

@@ -14,7 +14,7 @@ use Rattle.eql_words.specs.Commands.{command_of}
 use Rattle.eql_runs.specs.Files.{Files, IsWithin}
 use Rattle.eql_runs.specs.Runs.{AreWithin, CanRun, Finds, GoesBeyond, IsBeyond, SearchesBeyond, ShardLimit, Runs, bytes_before, lane_on, lines_before, many_bytes, many_lines, shard_of}
 use Rattle.eql_runs.specs.Searches.{Search}
-use Rattle.eql_runs.specs.Starts.{BeginsWith, IsCutOf, OnDisk, a_cut, bad_head, bad_text, meant_by, nothing_kept, start_for}
+use Rattle.eql_runs.specs.Starts.{BeginsWith, IsCutOf, OnDisk, a_cut, bad_head, bad_text, not_ours, meant_by, nothing_kept, start_for}
 use Rattle.eql_runs.proofs.CutRefusing.{ShardAt, drop_front, own_shard}
 use Rattle.eql_runs.proofs.Listing.{one_search}
 use Rattle.eql_runs.proofs.Reading.{QueryLaws, one_texts}
@@ -80,6 +80,7 @@ module _ (law : LinesGoOn) (search : Search) (texts : List (List ℕ)) (all : Al
   not_beyond nothing_kept (many_lines shard) begins b = fresh_lines shard b.0 b.1 b.2
   not_beyond (bad_head area) (many_lines shard) begins b = begins
   not_beyond (bad_text area) (many_lines shard) begins b = begins
+  not_beyond (not_ours area) (many_lines shard) begins b = begins
   not_beyond (a_cut format generation cut) (many_lines shard) begins b =
       cut_lines format generation cut begins.is_cut shard b.0 b.1 (slice_get cut.lanes shard) refl b.2
 

@@ -6,7 +6,7 @@ use Rattle.eql_runs.specs.CutRefusals.{CutRefusal, CutRefuses, IsTested, by_foun
 use Rattle.eql_runs.specs.Files.{Files}
 use Rattle.eql_runs.specs.Runs.{IsFindAccepted, RefusesCut, Searches}
 use Rattle.eql_runs.specs.Searches.{Search, rest_of, report_of}
-use Rattle.eql_runs.specs.Starts.{BeginsWith, IsTrusted, OnDisk, a_cut, bad_head, bad_text, listed_on, nothing_kept, start_for}
+use Rattle.eql_runs.specs.Starts.{BeginsWith, IsTrusted, OnDisk, a_cut, bad_head, bad_text, not_ours, listed_on, nothing_kept, start_for}
 use Rattle.eql_runs.proofs.CutRefusing.{found_or_fits}
 use Rattle.eql_runs.proofs.Listing.{one_search, search_or_refused}
 use Rattle.eql_runs.proofs.Reading.{QueryLaws, one_texts}
@@ -21,6 +21,7 @@ tested_or_refused : (search : Search) (texts : List (List ℕ)) (on : OnDisk) (r
 tested_or_refused search texts nothing_kept _ tested (by_found _ head r is refused) = elim refused [ ]
 tested_or_refused search texts (bad_head area) _ tested refused = tested
 tested_or_refused search texts (bad_text area) _ tested refused = tested
+tested_or_refused search texts (not_ours area) _ tested refused = tested
 tested_or_refused search texts (a_cut format generation cut) _ tested (by_found _ head r is refused) =
     found_or_fits search (length texts) format generation cut head r is tested.head tested.fits refused
 tested_or_refused search texts (a_cut format generation cut) _ tested (by_shard _ _ _ own fits shard text there none r refused) =
@@ -33,6 +34,7 @@ tested_begins search texts (a_cut format generation cut) tested trusted =
     record { head = tested.head; fits = tested.fits; is_cut = trusted tested.head }
 tested_begins search texts (bad_head area) tested trusted = absurd tested
 tested_begins search texts (bad_text area) tested trusted = absurd tested
+tested_begins search texts (not_ours area) tested trusted = absurd tested
 
 pub tested_is_accepted : (laws : QueryLaws) (find : Find) (files : Files) (on : OnDisk) (search : Search) (texts : List (List ℕ))
     → Searches find files search texts → IsTested search texts (start_for find on) → IsFindAccepted find files on

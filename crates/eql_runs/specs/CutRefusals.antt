@@ -12,10 +12,11 @@ use Rattle.eql_cut.specs.Agreeing.{difference}
 use Rattle.eql_cut.specs.Domain.{kept_by}
 use Rattle.eql_cut.specs.Placing.{NamesLine}
 use Rattle.eql_runs.specs.Searches.{Search, run_of}
-use Rattle.eql_runs.specs.Starts.{OnDisk, nothing_kept, a_cut, bad_head, bad_text, IsHeadOf}
+use Rattle.eql_runs.specs.Starts.{OnDisk, nothing_kept, a_cut, bad_head, bad_text, not_ours, IsHeadOf}
 
 -- why a cut is refused
 pub data CutRefusal : Type 0 where
+  foreign : (area : ℕ) → CutRefusal
   damaged : (area at : ℕ) → CutRefusal
   differs : Differs → CutRefusal
   unfit : CutRefusal
@@ -33,6 +34,7 @@ differing (what.Shards cut now) = codes "shards"
 
 -- the line that is told of it
 abbrev pub cut_text : CutRefusal → List ℕ
+cut_text (foreign area) = codes "checkpoint: Foreign area " ++ decimal area ++ codes "\n"
 cut_text (damaged area at) = codes "checkpoint: Damaged area " ++ decimal area ++ codes " at " ++ decimal at ++ codes "\n"
 cut_text (differs d) = codes "checkpoint: Differs " ++ differing d ++ codes "\n"
 cut_text unfit = codes "checkpoint: Unfit\n"
@@ -42,9 +44,10 @@ cut_text (short shard offset had) =
 cut_text (no_line shard line) = codes "checkpoint: NoLine shard " ++ decimal shard ++ codes " line " ++ decimal line ++ codes "\n"
 cut_text (grown shard) = codes "checkpoint: Grown shard " ++ decimal shard ++ codes "\n"
 
--- why what is on the disk is refused by a run of this head, which depends so on its cuts: the area is damaged, or the cut is of
--- another run, or doesn't fit. Of a text that is no cut's any place may be told
+-- why what is on the disk is refused by a run of this head, which depends so on its cuts: another program wrote an area, or the
+-- area is damaged, or the cut is of another run, or doesn't fit. Of a text that is no cut's any place may be told
 pub data FoundRefuses (head : CutHead) (run : Run) : OnDisk → CutRefusal → Type 0 where
+  is_foreign : (area : ℕ) → FoundRefuses head run (not_ours area) (foreign area)
   head_damaged : (area : ℕ) → FoundRefuses head run (bad_head area) (damaged area 0)
   text_damaged : (area at : ℕ) → FoundRefuses head run (bad_text area) (damaged area at)
   head_differs :
@@ -107,3 +110,4 @@ IsTested search texts nothing_kept = Unit {0}
 IsTested search texts (a_cut format generation cut) = IsTestedCut search texts format cut
 IsTested search texts (bad_head area) = ⊥
 IsTested search texts (bad_text area) = ⊥
+IsTested search texts (not_ours area) = ⊥

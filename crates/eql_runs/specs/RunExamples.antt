@@ -5,7 +5,7 @@ use Rattle.eql_lexer.specs.declared.refusal.LexRefused.TheVariants as lexed
 use Rattle.eql_query.specs.QueryTree.{event}
 use Rattle.eql_query.specs.Tree as t
 use Rattle.eql_words.specs.declared.commands.Command.TheVariants as command
-use Rattle.eql_runs.specs.CutRefusals.{short, unfit}
+use Rattle.eql_runs.specs.CutRefusals.{foreign, short, unfit}
 use Rattle.eql_runs.specs.Files.{Files, first_missing}
 use Rattle.eql_runs.specs.Refusals.{no_file, lex, cut, refusal_status, refusal_text}
 use Rattle.eql_runs.specs.Runs.{names_of}
@@ -38,6 +38,12 @@ unfit_is_told :
     × (refusal_text (cut unfit) ≡ codes "checkpoint: Unfit\n")
 unfolding lib.Utf8.encode
 unfit_is_told = (refl, refl)
+
+foreign_is_told :
+    (refusal_status (cut (foreign 1)) ≡ 7)
+    × (refusal_text (cut (foreign 1)) ≡ codes "checkpoint: Foreign area 1\n")
+unfolding digits lib.Utf8.encode
+foreign_is_told = (refl, refl)
 
 short_is_told :
     refusal_text (cut (short 0 1015 506)) ≡ codes "checkpoint: Short shard 0 offset 1015 had 506\n"

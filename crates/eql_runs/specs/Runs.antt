@@ -24,7 +24,7 @@ use Rattle.eql_cut.specs.Rising.{RiseFrom}
 use Rattle.eql_ckdisk.specs.Found.{LastCut}
 use Rattle.eql_ckdisk.specs.Runs.{PutsAll}
 use Rattle.eql_runs.specs.Searches.{Search, listed_of, matches_of, rest_of, report_of, report_lines}
-use Rattle.eql_runs.specs.Starts.{OnDisk, nothing_kept, a_cut, bad_head, bad_text, DiskHolds, generation_on, listed_on, mark_on, start_for, BeginsWith, IsTrusted, IsHeadOf, IsCutOf}
+use Rattle.eql_runs.specs.Starts.{OnDisk, nothing_kept, a_cut, bad_head, bad_text, not_ours, DiskHolds, generation_on, listed_on, mark_on, start_for, BeginsWith, IsTrusted, IsHeadOf, IsCutOf}
 use Rattle.eql_runs.specs.CutRefusals.{CutRefusal, CutRefuses}
 use Rattle.eql_runs.specs.Summaries.{Makes}
 use Rattle.eql_runs.specs.Files.{Files, first_missing, HasQuery, HasChecked, HasTexts, IsWithin}
@@ -188,6 +188,7 @@ lane_on nothing_kept shard = None
 lane_on (a_cut format generation cut) shard = slice_get cut.lanes shard
 lane_on (bad_head area) shard = None
 lane_on (bad_text area) shard = None
+lane_on (not_ours area) shard = None
 
 -- a text is beyond the limit: the lines that were counted and those behind them are too many, or there are too many bytes
 abbrev pub GoesBeyond : ShardLimit → Option LaneCut → List ℕ → Type 0

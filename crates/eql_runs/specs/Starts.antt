@@ -16,20 +16,21 @@ use Rattle.eql_cut.specs.Whole.{IsNoText, IsTextOf}
 use Rattle.eql_cut.specs.Placed.{cut_at_places}
 use Rattle.eql_ckdisk.specs.Found.{Found, found_on, text}
 use Rattle.eql_ckdisk.specs.Found as areas
-use Rattle.eql_ckdisk.specs.Refusing.{IsDamagedHead, number_of}
+use Rattle.eql_ckdisk.specs.Refusing.{IsDamagedHead, IsForeign, number_of}
 use Rattle.eql_parser.specs.Printed.{query_shown}
 use Rattle.eql_words.specs.declared.commands.Checkpoint.{Checkpoint}
 use Rattle.eql_words.specs.declared.commands.Find.{Find}
 use Rattle.eql_runs.specs.Searches.{Search, nanos_in, reads_of, run_of}
 
 -- ---- what a disk holds
--- no cut; a cut, with the format of its text and its generation; or an area, by its number, of which the head is damaged, or
--- of which the text is no cut's
+-- no cut; a cut, with the format of its text and its generation; or an area, by its number, of which the head is damaged, of
+-- which the text is no cut's, or that another program wrote
 pub data OnDisk : Type 0 where
   nothing_kept : OnDisk
   a_cut : (format generation : ℕ) → Cut → OnDisk
   bad_head : (area : ℕ) → OnDisk
   bad_text : (area : ℕ) → OnDisk
+  not_ours : (area : ℕ) → OnDisk
 
 -- what both areas stand for
 abbrev pub StandsFor : OnDisk → Found → Type 0
@@ -40,6 +41,7 @@ StandsFor (bad_head number) f = IsDamagedHead number 0 f
 StandsFor (bad_text number) f =
     (area : Area) × (generation : ℕ) × (bytes : List ℕ) × (f ≡ text area generation bytes)
     × (number ≡ number_of area) × IsNoText bytes
+StandsFor (not_ours number) f = IsForeign number f
 
 -- a disk that tells holds it, by what reads give
 abbrev pub DiskHolds : Option History → OnDisk → Type 0
@@ -50,6 +52,7 @@ generation_on nothing_kept = 0
 generation_on (a_cut format generation cut) = generation
 generation_on (bad_head area) = 0
 generation_on (bad_text area) = 0
+generation_on (not_ours area) = 0
 
 -- how many lines of the listing were written before, by what the disk holds
 abbrev pub listed_on : OnDisk → ℕ
@@ -57,6 +60,7 @@ listed_on nothing_kept = 0
 listed_on (a_cut format generation cut) = cut.book.listed
 listed_on (bad_head area) = 0
 listed_on (bad_text area) = 0
+listed_on (not_ours area) = 0
 
 -- from which mark a run goes on
 abbrev pub mark_on : OnDisk → Mark
@@ -64,6 +68,7 @@ mark_on nothing_kept = Start
 mark_on (a_cut format generation cut) = At cut.mark
 mark_on (bad_head area) = Start
 mark_on (bad_text area) = Start
+mark_on (not_ours area) = Start
 
 -- what a run begins with: nothing where it keeps none
 abbrev pub start_asked : Option Checkpoint → OnDisk → OnDisk
@@ -101,12 +106,13 @@ pub record IsOwnCut (search : Search) (texts : List (List ℕ)) (format : ℕ) (
   pub fits : Fits (run_of search cut.head.slack) (length texts) (kept_by cut)
   pub is_cut : IsCutOf search cut.head.slack texts (meant_by format texts cut)
 
--- a run over these texts may begin so: with nothing, or with a cut of it; never with damage
+-- a run over these texts may begin so: with nothing, or with a cut of it
 abbrev pub BeginsWith : Search → List (List ℕ) → OnDisk → Type 0
 BeginsWith search texts nothing_kept = Unit {0}
 BeginsWith search texts (a_cut format generation cut) = IsOwnCut search texts format cut
 BeginsWith search texts (bad_head area) = ⊥
 BeginsWith search texts (bad_text area) = ⊥
+BeginsWith search texts (not_ours area) = ⊥
 
 -- the one thing that a run can't test: a cut that says it is of this search over these texts is one of them
 abbrev pub IsTrusted : Search → List (List ℕ) → OnDisk → Type 0
@@ -116,3 +122,4 @@ IsTrusted search texts (a_cut format generation cut) =
     → IsCutOf search cut.head.slack texts (meant_by format texts cut)
 IsTrusted search texts (bad_head area) = Unit {0}
 IsTrusted search texts (bad_text area) = Unit {0}
+IsTrusted search texts (not_ours area) = Unit {0}

@@ -63,7 +63,8 @@ pub fn disks_hold_one_thing()
     ensures { DiskHoldsOne }
 {}
 
-/// Whatever bytes both areas of a disk are, they stand for something: no cut, a cut, or an area that is damaged.
+/// Whatever bytes both areas of a disk are, they stand for something: no cut, a cut, or an area that is damaged or another
+/// program's.
 pub fn disks_hold_something()
     ensures { DiskHoldsSomething }
 {

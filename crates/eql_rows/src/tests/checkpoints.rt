@@ -191,7 +191,9 @@ static OF_TWO_SHARDS: Row = TWO_SHARDS;
 /// The first run that leaves what a disk holds, where one does.
 pub(crate) fn first_run(held: Held) -> Option<&'static Row> {
     match held {
-        Held::FirstRun | Held::DamagedBefore => Some(&EXAMPLE),
+        Held::FirstRun | Held::DamagedBefore | Held::ForeignBefore | Held::ForeignBehind => {
+            Some(&EXAMPLE)
+        }
         Held::FirstWithHands => Some(&WITH_HANDS),
         Held::TwoShards => Some(&OF_TWO_SHARDS),
         _ => None,
@@ -255,9 +257,63 @@ static UNFIT: &[Row] = &[
     not_resumed!("a cut that fits no run", "checkpoint: Unfit", held: Held::Unfit),
 ];
 
+/// Runs on disks of which another program wrote an area.
+static FOREIGN: &[Row] = &[
+    not_resumed!(
+        "a line as the first area",
+        "checkpoint: Foreign area 0",
+        held: Held::ForeignFirst,
+    ),
+    not_resumed!(
+        "a line as the second area",
+        "checkpoint: Foreign area 1",
+        held: Held::ForeignSecond,
+    ),
+    not_resumed!("a line as each area", "checkpoint: Foreign area 0", held: Held::ForeignBoth),
+    not_resumed!(
+        "a line before the cut that counts",
+        "checkpoint: Foreign area 0",
+        held: Held::ForeignBefore,
+    ),
+    not_resumed!(
+        "a line behind an older cut",
+        "checkpoint: Foreign area 1",
+        held: Held::ForeignBehind,
+    ),
+    not_resumed!(
+        "a line before a cut of another query",
+        "checkpoint: Foreign area 0",
+        query: PIPED,
+        held: Held::ForeignBefore,
+    ),
+    Row {
+        shows: "a line as the second area, by a first run",
+        listed: &[],
+        status: 7,
+        told: Told::Lines(&["checkpoint: Foreign area 1"]),
+        held: Held::ForeignSecond,
+        kept: None,
+        ..FIRST_RUN
+    },
+];
+
+/// Runs on disks whose first byte is one that a run leaves.
+static OWN_BYTES: &[Row] = &[
+    not_resumed!("the byte 1 alone", "checkpoint: Damaged area 0 at 0", held: Held::OpenByte),
+    Row {
+        shows: "the byte 0 before a line",
+        held: Held::ClosedLine,
+        ..FIRST_RUN
+    },
+];
+
 #[test]
-fn disks_fail_and_are_damaged(rt: HostRuntime) {
-    check(&rt, rt.alloc(), &[FAULTS, DAMAGED, DAMAGED_BEFORE, UNFIT]);
+fn disks_fail_and_are_refused(rt: HostRuntime) {
+    check(
+        &rt,
+        rt.alloc(),
+        &[FAULTS, DAMAGED, DAMAGED_BEFORE, UNFIT, FOREIGN, OWN_BYTES],
+    );
 }
 
 /// A run that puts a cut on a disk that has the last generation.

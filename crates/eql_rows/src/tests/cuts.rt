@@ -1,4 +1,4 @@
-//! Two cuts of one run in the formats 1 and 2, written by hand, and disks that hold them.
+//! Two cuts of one run in the formats 1 and 2, written by hand, disks that hold them, and disks that hold no cut.
 //!
 //! The run is the first one of `checkpoints`: the reference's example of sequences, a line each round. It keeps a cut after five
 //! lines and after ten. Numbers have their lowest byte first.
@@ -163,6 +163,44 @@ static DAMAGED: Disk = Disk {
     second: &[],
 };
 
+/// A line of a log.
+const LINE: &[&[Part]] = &[&[Bytes(b"{\"@timestamp\":1000}\n")]];
+
+/// A disk with a line as its first area.
+static FOREIGN_FIRST: Disk = Disk {
+    has_places: true,
+    first: LINE,
+    second: &[],
+};
+
+/// A disk with a line as its second area.
+static FOREIGN_SECOND: Disk = Disk {
+    has_places: true,
+    first: &[],
+    second: LINE,
+};
+
+/// A disk with a line as each area.
+static FOREIGN_BOTH: Disk = Disk {
+    has_places: true,
+    first: LINE,
+    second: LINE,
+};
+
+/// A disk whose first area has the byte 1 alone.
+static OPEN_BYTE: Disk = Disk {
+    has_places: true,
+    first: &[&[Bytes(b"\x01")]],
+    second: &[],
+};
+
+/// A disk whose first area has the byte 0 before a line.
+static CLOSED_LINE: Disk = Disk {
+    has_places: true,
+    first: &[&[Bytes(b"\0{\"@timestamp\":1000}\n")]],
+    second: &[],
+};
+
 /// The disk of which a part is written by hand, where one is.
 fn written_on(held: Held) -> Option<&'static Disk> {
     match held {
@@ -171,6 +209,11 @@ fn written_on(held: Held) -> Option<&'static Disk> {
         Held::LastGeneration => Some(&LAST_GENERATION),
         Held::Unfit => Some(&UNFIT),
         Held::Damaged | Held::DamagedBefore => Some(&DAMAGED),
+        Held::OpenByte => Some(&OPEN_BYTE),
+        Held::ClosedLine => Some(&CLOSED_LINE),
+        Held::ForeignFirst | Held::ForeignBefore => Some(&FOREIGN_FIRST),
+        Held::ForeignSecond | Held::ForeignBehind => Some(&FOREIGN_SECOND),
+        Held::ForeignBoth => Some(&FOREIGN_BOTH),
         Held::Nothing | Held::FirstRun | Held::FirstWithHands | Held::TwoShards => None,
     }
 }

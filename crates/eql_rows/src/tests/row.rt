@@ -71,6 +71,20 @@ pub(crate) enum Held {
     Unfit,
     /// A damaged area.
     Damaged,
+    /// A first area whose only byte is 1.
+    OpenByte,
+    /// A first area whose first byte is 0, and then a line.
+    ClosedLine,
+    /// A line as its first area.
+    ForeignFirst,
+    /// A line as its second area.
+    ForeignSecond,
+    /// A line as each area.
+    ForeignBoth,
+    /// What the first run of the example left, but for the first area, which is a line.
+    ForeignBefore,
+    /// What the first run of the example left, but for the second area, which is a line.
+    ForeignBehind,
 }
 
 /// How much of what a row lists its output gets.

@@ -309,6 +309,16 @@ fn keeps(alloc: Global, areas: &Areas, row: &Row) -> bool {
     }
 }
 
+/// Whether two texts are the same bytes.
+fn is_same(text: &[u8], other: &[u8]) -> bool {
+    text == other
+}
+
+/// Whether areas are as they were before a row, where that is a run that its disk refuses.
+fn are_left(row: &Row, before: &Areas, now: &Areas) -> bool {
+    row.status != 7 || is_same(&before.first, &now.first) && is_same(&before.second, &now.second)
+}
+
 /// Runs a row on a disk with these areas, which are then what it left, and returns whether it gave what the row says. The hands
 /// pass a gate.
 fn goes<R: Threads + Wait + Sync, W: Gate + Sync>(
@@ -320,9 +330,11 @@ fn goes<R: Threads + Wait + Sync, W: Gate + Sync>(
     came: &mut String,
 ) -> Result<bool, Memory> {
     let (ran, disk) = run(rt, alloc, row, row.fails, areas, None, gate)?;
-    *areas = Areas::left_by(alloc, &disk, 0)?;
+    let left = Areas::left_by(alloc, &disk, 0)?;
     drop(disk);
-    Ok(is_as_said(alloc, row, row.listed, &ran, came)? && keeps(alloc, areas, row))
+    let stays = are_left(row, areas, &left);
+    *areas = left;
+    Ok(is_as_said(alloc, row, row.listed, &ran, came)? && stays && keeps(alloc, areas, row))
 }
 
 /// Runs a row on what its disk holds, and returns whether it gave what the row says, and so did the run before.

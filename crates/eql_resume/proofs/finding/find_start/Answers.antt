@@ -7,7 +7,7 @@ use Rattle.eql_resume.proofs.finding.find_start.Goals as goal
 pub returns-in-Err-clause-cause : goal.returns-in-Err-clause-cause
 returns-in-Err-clause-cause g c =
     refused_there c.args.stages c.args.values c.args.pipes.now c.args.head.now c.crashes_leave_images.ensures.images.seen c.in-Err.refused _ _ _
-    c.refusal_of.ensures c.in-Err.ensures.damaged_kept c.in-Err.ensures.damaged
+    c.refusal_of.ensures c.in-Err.ensures.refuses_kept c.in-Err.ensures.refuses
 
 pub returns-clause-holds : goal.returns-clause-holds
 returns-clause-holds g c = held_there c.crashes_leave_images.ensures.images.seen c.in-Ok.found _ _ c.in-Ok.ensures.kept c.in-Ok.ensures.found
