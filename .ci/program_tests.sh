@@ -216,25 +216,26 @@ printf '\1\1\0\0\0\0\0\0\0\1\0\0\0\0\0\0\0\0' >damaged.0
 not_resumed 'Damaged area 0 at 0' damaged "${words[@]}" eleven.json
 { head -c 30 c.1; } >damaged.1
 not_resumed 'Damaged area 1 at 0' damaged "${words[@]}" eleven.json
-# A log, the one that was rotated before it, and the log's name for the checkpoint. Whatever else is there, another program's file stays.
+# A log, the one that was rotated before it, and the log's name for the checkpoint, in as many rounds as lines.
+often=(--batch 1 --hands 0)
 cp eleven.json eve.json
 cp five.json eve.json.1
-not_resumed 'Foreign area 1' eve.json "${words[@]}" eve.json
+not_resumed 'Foreign area 1' eve.json "${words[@]}" "${often[@]}" eve.json
 want '' ''
 cmp five.json eve.json.1 >got.out 2>got.err && [ -f eve.json.0 ] && [ ! -s eve.json.0 ]
 judge "checkpoint: another program's second file stays" $? 0
 cp five.json eve.json.0
-not_resumed 'Foreign area 0' eve.json "${words[@]}" eve.json
-cp c.0 beside.0
+not_resumed 'Foreign area 0' eve.json "${words[@]}" "${often[@]}" eve.json
+cp first.0 beside.0
 cp five.json beside.1
-not_resumed 'Foreign area 1' beside "${words[@]}" eleven.json
+not_resumed 'Foreign area 1' beside "${words[@]}" "${often[@]}" eleven.json
 want '' ''
-{ cmp five.json eve.json.0 && cmp five.json eve.json.1 && cmp c.0 beside.0 && cmp five.json beside.1; } >got.out 2>got.err
+{ cmp five.json eve.json.0 && cmp five.json eve.json.1 && cmp first.0 beside.0 && cmp five.json beside.1; } >got.out 2>got.err
 judge "checkpoint: another program's files stay, and a cut beside one" $? 0
 : >empties.0
 printf '\0%s' "$(cat five.json)" >empties.1
 expect 'checkpoint: an empty file, and one that begins with 0' 0 "$both" "$eleven" \
-    "${kept[@]}" --batch 1 --hands 0 --checkpoint empties --every 5 eleven.json
+    "${kept[@]}" "${often[@]}" --checkpoint empties --every 5 eleven.json
 not_resumed 'Differs query' c --query piped.eql --fields kept.json --slack 0ms eleven.json
 not_resumed 'Differs mapping' c --query kept.eql --fields fields.json --slack 0ms eleven.json
 not_resumed 'Differs tiebreaker' c "${words[@]}" --tiebreaker event.sequence eleven.json
