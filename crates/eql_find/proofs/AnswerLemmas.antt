@@ -33,7 +33,7 @@ use Rattle.eql_find.specs.declared.error.FindError.{FindError}
 use Rattle.eql_find.specs.declared.error.FindError.TheVariants as run
 use Rattle.eql_find.specs.declared.plan.PlannedQuery.{PlannedQuery}
 use Rattle.eql_find.specs.Errors.{DiskFollows, ErrFollows, IsFault, IsReport, OutFollows}
-use Rattle.eql_find.specs.Reports.{counts_in}
+use Rattle.eql_shards.specs.Reports.{counts_in}
 use Rattle.eql_find.specs.Running.{IsBeyondOn, StartsOver}
 use Rattle.eql_find.specs.Searching.{AreCutsOf, LaneFaultsFollow, WroteReportOf, LanesStop, bare, search_in}
 use Rattle.eql_find.specs.Stops.{IsErrorOf, read, write, disk, memory, limited, generation}

@@ -20,7 +20,7 @@ use Rattle.eql_resume.specs.Beginnings.{LaneBegins, LanesBegin}
 use Rattle.eql_resume.specs.Lifted.{WasLifted, WereLifted}
 use Rattle.eql_search.specs.Beginnings.{cuts_of}
 use Rattle.eql_search.specs.Searches.{AreBegunFrom, IsBegunLane}
-use Rattle.eql_find.specs.Lanes.{AreOver, IsOver}
+use Rattle.eql_shards.specs.Lanes.{AreOver, IsOver}
 use Rattle.eql_find.specs.Searching.{BeganFrom, BeganWith, IsFresh, places_in}
 use Rattle.eql_find.proofs.TextLemmas.{parts_of}
 

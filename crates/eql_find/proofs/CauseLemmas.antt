@@ -22,7 +22,7 @@ use Rattle.eql_runs.specs.Files.{Files, HasTexts, first_missing}
 use Rattle.eql_runs.specs.Runs.{IfFound, IsFindAccepted, Searches, GenerationsEnd, GoesBeyond, IsBeyond, IsNamed, Reaches, ShardLimit, lane_on, many_bytes, many_lines, shard_file, shard_of}
 use Rattle.eql_runs.specs.Searches.{Search, report_lines}
 use Rattle.eql_runs.specs.Starts.{DiskHolds, OnDisk, start_for}
-use Rattle.eql_inputs.specs.Shards.{AreWholeFiles}
+use Rattle.eql_shards.specs.Shards.{AreWholeFiles}
 use Rattle.eql_inputs.specs.declared.error.InputError.TheVariants as error
 use Rattle.eql_search.specs.Beginnings.{cuts_of}
 use Rattle.eql_find.specs.declared.error.FindError.{FindError}

@@ -11,8 +11,10 @@ use Rattle.eql_outside.specs.Plans.{FaultPlan}
 use Rattle.eql_lane.specs.Views.{LaneView}
 use Rattle.eql_lane.specs.declared.make.LaneStart.{LaneStart}
 use Rattle.eql_search.specs.Answers.{AreSteadyBut, BecameAt, RoseFaults}
-use Rattle.eql_find.specs.Lanes.{AreOver, NoSourceFailed, SomeSourceFailed, StaysSource, lane_returned}
-use Rattle.eql_find.proofs.MakingLemmas.{made_faults, made_named, rose_from_none}
+use Rattle.eql_shards.specs.Giving.{NoSourceFailed, SomeSourceFailed, lane_returned}
+use Rattle.eql_shards.specs.Lanes.{AreOver}
+use Rattle.eql_find.specs.LaneOutcomes.{StaysSource}
+use Rattle.eql_shards.proofs.MakingLemmas.{made_faults, made_named, rose_from_none}
 use Rattle.eql_find.proofs.TextLemmas.{parts_of}
 
 -- lanes with no faults, over sources that were lent under these names

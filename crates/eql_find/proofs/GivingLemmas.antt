@@ -19,7 +19,7 @@ use Rattle.eql_find.specs.Errors.{DiskFollows, FaultsFollow}
 use Rattle.eql_find.specs.Running.{KeepsIfAsked}
 use Rattle.eql_find.specs.Searching.{KeepsAs}
 use Rattle.eql_find.specs.Starting.{IsFreshKeep, KeepsFor}
-use Rattle.eql_find.proofs.MakingLemmas.{rose_from_none}
+use Rattle.eql_shards.proofs.MakingLemmas.{rose_from_none}
 
 -- ---- where a run keeps its cuts
 module _ {D : Type 0} (history : D → Option History) (count : D → ℕ) where

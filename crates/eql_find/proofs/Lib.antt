@@ -1,11 +1,6 @@
 pub mod EarlyErrors
 pub mod NamesLemmas
-pub mod BackLemmas
-pub mod ShelfLemmas
-pub mod MakingLemmas
 pub mod BookLemmas
-pub mod PlainText
-pub mod ReportLemmas
 pub mod StopLemmas
 pub mod TextLemmas
 pub mod FailLemmas

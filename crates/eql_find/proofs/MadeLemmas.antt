@@ -26,7 +26,7 @@ use Rattle.eql_resume.specs.Beginnings.{LanesBegin}
 use Rattle.eql_resume.specs.Finding.{Suits}
 use Rattle.eql_find.specs.declared.plan.PlannedQuery.{PlannedQuery}
 use Rattle.eql_find.specs.Finding.{IsPlanOf}
-use Rattle.eql_find.specs.Lanes.{Serves, StopsMakingAt}
+use Rattle.eql_shards.specs.Lanes.{Serves, StopsMakingAt}
 use Rattle.eql_find.specs.Searching.{head_in, search_in}
 use Rattle.eql_find.specs.Starting.{Begun, IsFound, IsOwn, on_begun, pipes_of, stages_of, values_of}
 use Rattle.eql_outside.specs.Plans.{FaultPlan}

@@ -27,13 +27,13 @@ use Rattle.eql_runs.specs.Files.{Files}
 use Rattle.eql_runs.specs.RunLaws.{DiskHoldsOne, FitsAtAnySpan, TestedIsAccepted}
 use Rattle.eql_runs.specs.Runs.{IfFound, RefusesCut}
 use Rattle.eql_runs.specs.Starts.{DiskHolds, OnDisk, start_for}
-use Rattle.eql_inputs.specs.Shards.{AreWholeFiles}
+use Rattle.eql_shards.specs.Shards.{AreWholeFiles}
 use Rattle.eql_resume.specs.Beginnings.{LanesBegin, Rest}
 use Rattle.eql_resume.specs.Finding.{Suits, disk_holding}
 use Rattle.eql_find.specs.declared.error.FindError.{FindError}
 use Rattle.eql_find.specs.declared.plan.PlannedQuery.{PlannedQuery}
 use Rattle.eql_find.specs.Finding.{HasFindCause, IsPlanOf, texts_told}
-use Rattle.eql_find.specs.Lanes.{AreOver, StopsMakingAt, StopsMaking}
+use Rattle.eql_shards.specs.Lanes.{AreOver, StopsMakingAt, StopsMaking}
 use Rattle.eql_find.specs.Running.{BeginsRun, KeepsIfAsked}
 use Rattle.eql_find.specs.Searching.{BeganWith, head_in}
 use Rattle.eql_find.specs.Starting.{BeginsOnDisk, pipes_of, stages_of, values_of}
@@ -43,7 +43,7 @@ use Rattle.eql_find.proofs.BeginningLemmas.{are_begun, began_with}
 use Rattle.eql_find.proofs.CauseLemmas.{read_cause}
 use Rattle.eql_find.proofs.FoundLemmas.{Runs, start_is, the_run}
 use Rattle.eql_find.proofs.MadeLemmas.{begun_is, fresh_or_refused, made_refuses, made_tested}
-use Rattle.eql_find.proofs.MakingLemmas.{over_long, over_serve}
+use Rattle.eql_shards.proofs.MakingLemmas.{over_long, over_serve}
 use Rattle.eql_find.proofs.RefusingLemmas.{refusal_at}
 use Rattle.eql_find.proofs.TextLemmas.{as_many, plan_is, searches_in, texts_over, told_all}
 

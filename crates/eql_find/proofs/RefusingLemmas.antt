@@ -32,7 +32,7 @@ use Rattle.eql_runs.specs.Starts.{DiskHolds, IsHeadOf, OnDisk, StandsFor, a_cut,
 use Rattle.eql_resume.specs.Beginnings.{LaneBegins}
 use Rattle.eql_resume.specs.Finding.{IsRefusedBy, Suits}
 use Rattle.eql_find.specs.declared.plan.PlannedQuery.{PlannedQuery}
-use Rattle.eql_find.specs.Lanes.{Serves}
+use Rattle.eql_shards.specs.Lanes.{Serves}
 use Rattle.eql_find.specs.Searching.{head_in, search_in}
 use Rattle.eql_find.specs.Starting.{pipes_of, stages_of, values_of}
 use Rattle.eql_find.proofs.TextLemmas.{begins_asked, head_is}

@@ -23,11 +23,13 @@ use Rattle.eql_find.specs.declared.error.CutStop.TheVariants as cut
 use Rattle.eql_find.specs.declared.error.FindError.{FindError}
 use Rattle.eql_find.specs.declared.error.FindError.TheVariants as run
 use Rattle.eql_find.specs.Errors.{FaultsFollow, CountFollows, DiskFollows, OutFollows, ErrFollows, IsFault, IsReport, TellsNothing}
-use Rattle.eql_find.specs.Lanes.{AreOver, CameBack, StaysSource, StopsMaking, lane_returned}
+use Rattle.eql_shards.specs.Giving.{CameBack, lane_returned}
+use Rattle.eql_shards.specs.Lanes.{AreOver, StopsMaking}
+use Rattle.eql_find.specs.LaneOutcomes.{StaysSource}
 use Rattle.eql_find.specs.Searching.{LaneFaultsFollow}
 use Rattle.eql_find.specs.Stops.{IsErrorAt, short, no_line, grown, failed, unmade}
 use Rattle.eql_find.proofs.FailLemmas.{AreNamed, none_failed_lanes, some_failed_lane}
-use Rattle.eql_find.proofs.MakingLemmas.{by_failure, not_failed}
+use Rattle.eql_shards.proofs.MakingLemmas.{by_failure, not_failed}
 use Rattle.eql_find.proofs.TextLemmas.{as_many, parts_of}
 
 -- sources of which no take fails make such lanes

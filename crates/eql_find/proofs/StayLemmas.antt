@@ -12,7 +12,7 @@ use Rattle.eql_outside.specs.Plans.{FaultPlan}
 use Rattle.eql_outside.specs.Unfailing.{IsUnfailing}
 use Rattle.eql_lane.specs.Views.{LaneView}
 use Rattle.eql_search.specs.Answers.{AreUnfailing, BecameAt, RoseFaults, AreSteadyBut, StaysLane}
-use Rattle.eql_find.specs.Lanes.{StaysSource}
+use Rattle.eql_find.specs.LaneOutcomes.{StaysSource}
 use Rattle.eql_find.specs.Searching.{bare}
 
 -- ---- the lane of a shard

@@ -27,9 +27,9 @@ use Rattle.eql_runs.specs.Starts.{IsHeadOf, OnDisk, start_asked}
 use Rattle.eql_search.specs.Searches.{AreTextsOf}
 use Rattle.eql_find.specs.declared.plan.PlannedQuery.{PlannedQuery}
 use Rattle.eql_find.specs.Finding.{IsPlanOf, text_told, texts_in}
-use Rattle.eql_find.specs.Lanes.{AreOver}
+use Rattle.eql_shards.specs.Lanes.{AreOver}
 use Rattle.eql_find.specs.Searching.{head_in, search_in, slack_told}
-use Rattle.eql_find.proofs.MakingLemmas.{made_text}
+use Rattle.eql_shards.proofs.MakingLemmas.{made_text}
 
 -- equal lists have equal firsts and equal rests
 pub parts_of : {X : Type 0} (x y : X) (xs ys : List X) → x ∷ xs ≡ y ∷ ys → (x ≡ y) × (xs ≡ ys)

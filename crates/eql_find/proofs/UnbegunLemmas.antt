@@ -10,7 +10,7 @@ use Rattle.eql_runs.specs.Files.{Files}
 use Rattle.eql_runs.specs.RunLaws.{DiskHoldsOne, FitsAtAnySpan}
 use Rattle.eql_runs.specs.Runs.{IfFound, RefusesCut, Searches}
 use Rattle.eql_runs.specs.Searches.{Search}
-use Rattle.eql_inputs.specs.Shards.{AreWholeFiles}
+use Rattle.eql_shards.specs.Shards.{AreWholeFiles}
 use Rattle.eql_inputs.specs.declared.error.InputError.TheVariants as error
 use Rattle.eql_find.specs.declared.error.CutStop.{CutStop}
 use Rattle.eql_find.specs.declared.error.FindError.{FindError}

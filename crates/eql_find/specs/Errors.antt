@@ -1,5 +1,5 @@
 -- Why a run stops, and what its counts of faults say then.
-use Rattle.std.specs.Prelude.{◌≡◌, ℕ, List, Result, Ok, Err}
+use Rattle.std.specs.Prelude.{◌≡◌, ◌≤◌, ℕ, List, Result, Ok, Err}
 use Rattle.eql_outside.specs.Outside.{Rose}
 use Rattle.eql_outside.specs.Faults.{FaultsAreSame}
 use Rattle.eql_outside.specs.declared.refused.OutRefused.TheVariants as refused_by
@@ -16,7 +16,6 @@ use Rattle.eql_find.specs.declared.error.CutStop.{CutStop}
 use Rattle.eql_find.specs.declared.error.CutStop.TheVariants as cut
 use Rattle.eql_find.specs.declared.error.FindError.{FindError}
 use Rattle.eql_find.specs.declared.error.FindError.TheVariants as run
-use Rattle.eql_find.specs.Lanes.{RoseAmong}
 
 -- the status of a run that stops so
 abbrev pub run_status_of : FindError → ℕ
@@ -88,6 +87,11 @@ IsFault (run.Limit l) = ⊥
 IsFault run.Generation = ⊥
 IsFault (run.Report refused_by.Failed) = Unit {0}
 IsFault (run.Report refused_by.Memory) = ⊥
+
+-- the faults of this name rose in a call, and those of no name are fewer
+pub record RoseAmong (name : List ℕ) (before now : List ℕ → ℕ) : Type 0 where
+  pub rose : Rose (before name) (now name)
+  pub counts : (any : List ℕ) → before any ≤ now any
 
 -- several files may fail at once, of which one is told: those of its name rose. Where none is told, none did
 abbrev pub FileFaultsFollow : InputError → (before now : List ℕ → ℕ) → Type 0

@@ -1,5 +1,5 @@
 -- How a run over its lanes ended.
-use Rattle.std.specs.Prelude.{◌≡◌, ◌≤◌, ℕ, List, Option, IfErr, IfSome, OnErr, OnOk, Result}
+use Rattle.std.specs.Prelude.{◌≡◌, ◌≤◌, ℕ, List, Option, None, IfErr, IfSome, OnErr, OnOk, Result}
 use Rattle.eql_outside.specs.Written.{WroteAll, WroteFront}
 use Rattle.eql_outside.specs.declared.disk.Disk as disks
 use Rattle.eql_outside.specs.declared.sink.Sink as sinks
@@ -15,6 +15,12 @@ use Rattle.eql_find.specs.declared.plan.PlannedQuery.{PlannedQuery}
 use Rattle.eql_find.specs.Errors.{DiskFollows, ErrFollows, IsReport, OutFollows, TellsNothing}
 use Rattle.eql_find.specs.Running.{IsBeyondOn, StartsOver}
 use Rattle.eql_find.specs.Searching.{AreCutsOf, KeepsAs, LaneFaultsFollow, LanesStop, search_in}
+
+-- what no run changes of a lane: the name of its source, and that the source doesn't tell; the count of its faults doesn't fall
+pub record StaysSource {S L : Type 0} (left lent_as : S → Option (List ℕ)) (old new : LaneView S L) : Type 0 where
+  pub named : lent_as new.source ≡ lent_as old.source
+  pub silent : left old.source ≡ None → left new.source ≡ None
+  pub counts : old.state.faults ≤ new.state.faults
 
 module _ {K E : Type 0} (output : sinks.Ghosts K) (errors : sinks.Ghosts E) where
   -- what was written, which cuts were put, and why the run stopped. What is said of texts holds where they are told, and what the run begins with is

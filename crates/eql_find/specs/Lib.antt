@@ -1,6 +1,4 @@
 pub mod Errors
-pub mod Lanes
-pub mod Reports
 pub mod Stops
 pub mod Searching
 pub mod Starting

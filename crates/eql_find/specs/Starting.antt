@@ -2,7 +2,6 @@
 use Rattle.std.specs.Prelude.{◌≡◌, ◌≢◌, ◌==◌, ℕ, List, length, Option, None, Some, IfSome, IsTrue, map}
 use Rattle.eql_values.specs.declared.cut.Pipe.{Pipe}
 use Rattle.eql_outside.specs.Areas.{seen_areas}
-use Rattle.eql_outside.specs.Faults.{FaultsAreSame}
 use Rattle.eql_outside.specs.Moments.{History, DiskTells}
 use Rattle.eql_outside.specs.Outside.{Rose}
 use Rattle.eql_outside.specs.Plans.{FaultPlan}
@@ -19,7 +18,6 @@ use Rattle.eql_ckdisk.specs.Found.{found_on}
 use Rattle.eql_ckdisk.specs.Keeping.{KeepsAll}
 use Rattle.eql_ckdisk.specs.Putting.{Stands, last_cut}
 use Rattle.eql_conductor.specs.declared.plan.Keep.{Keep}
-use Rattle.eql_runs.specs.Files.{Files}
 use Rattle.eql_runs.specs.Starts.{OnDisk, StandsFor}
 use Rattle.eql_inputs.specs.declared.error.InputError.TheVariants as error
 use Rattle.eql_resume.specs.declared.finding.StartRefused.{StartRefused}
@@ -101,16 +99,6 @@ module _ {D : Type 0} (plan : D → Option FaultPlan) where
   abbrev pub plan_after : Option FaultPlan → Option (Keep D) → Option FaultPlan
   plan_after before None = before
   plan_after before (Some k) = plan k.disk
-
--- a shelf is the same but for its disk
-pub record ChangesOnlyDisk {S : Type 0} (files : S → Option Files) (plans : S → Option (List (List ℕ × List ℕ))) (faults absences : S → ℕ)
-    (names : S → List ℕ → ℕ) (lent : S → Option ℕ) (before now : S) : Type 0 where
-  pub files_are : files now ≡ files before
-  pub plans_are : plans now ≡ plans before
-  pub faults_are : faults now ≡ faults before
-  pub absences_are : absences now ≡ absences before
-  pub names_are : FaultsAreSame (names before) (names now)
-  pub lent_are : lent now ≡ lent before
 
 -- ---- why it isn't begun
 -- the disk failed, or memory ran out

@@ -4,13 +4,14 @@ ghost use Rattle.eql_ckdisk.specs.Going.{Goes};
 ghost use Rattle.eql_ckdisk.specs.Keeping.{LeavesNoMore};
 ghost use Rattle.eql_cut.specs.CutValues.{names_ascend};
 ghost use Rattle.eql_conductor.specs.Runs.{IsKeptUnfailing};
+ghost use Rattle.eql_outside.specs.Keeping.{KeepsSources};
 ghost use Rattle.eql_outside.specs.Moments.{DiskTells};
 ghost use Rattle.eql_outside.specs.Outside.{Rose};
 ghost use Rattle.eql_outside.specs.Unfailing.{IsUnfailing};
 ghost use Rattle.eql_words.specs.Bounds.{FindIsBounded};
 ghost use Rattle.eql_find.specs.Errors.{IsFault};
 ghost use Rattle.eql_find.specs.Searching.{head_in};
-ghost use Rattle.eql_find.specs.Starting.{BeginsOnDisk, ChangesOnlyDisk, DiskRose, HasStartCause, IsDiskOrMemory, IsErrorOfStart, KeepsFor, disk_after, plan_after};
+ghost use Rattle.eql_find.specs.Starting.{BeginsOnDisk, DiskRose, HasStartCause, IsDiskOrMemory, IsErrorOfStart, KeepsFor, disk_after, plan_after};
 
 use crate::error::{CutStop, FindError};
 use crate::plan::{PlannedQuery, head_of};
@@ -63,7 +64,7 @@ fn open_disk<'a, H: Shelf>(
     ensures steady { OnOk result (H.disk_fault_count shelf.new ≡ H.disk_fault_count shelf.old) }
     ensures counts { H.disk_fault_count shelf.old ≤ H.disk_fault_count shelf.new }
     ensures not_out { OnErr result (H.is_out shelf.new ≡ H.is_out shelf.old) }
-    ensures kept { ChangesOnlyDisk H.files H.source_plans H.fault_count H.absent_count H.faults_of
+    ensures kept { KeepsSources H.files H.source_plans H.fault_count H.absent_count H.faults_of
         H.lent_count shelf.old shelf.new }
     ensures history { (H.disk_history shelf.new ≡ H.disk_history shelf.old)
         × (H.disk_plan shelf.new ≡ H.disk_plan shelf.old) }
@@ -85,7 +86,7 @@ pub(crate) fn give_keep<H: Shelf>(keep: Option<Keep<H::Dsk>>, shelf: &mut H)
         × (H.disk_plan shelf.new ≡ plan_after H.Dsk.fault_plan (H.disk_plan shelf.old) keep) }
     ensures back { IfSome keep (λ _. H.is_out shelf.new ≡ false) }
     ensures none { keep ≡ None → shelf.new ≡ shelf.old }
-    ensures kept { ChangesOnlyDisk H.files H.source_plans H.fault_count H.absent_count H.faults_of
+    ensures kept { KeepsSources H.files H.source_plans H.fault_count H.absent_count H.faults_of
         H.lent_count shelf.old shelf.new }
     ensures raised { IfSome keep (λ k. 0 < H.Dsk.fault_count k.disk
         → Rose (H.disk_fault_count shelf.old) (H.disk_fault_count shelf.new)) }
@@ -200,7 +201,7 @@ pub(crate) fn start_run<'a, H: Shelf>(
         × (find.now.checkpoint ≢ None
         → KeepsFor H.Dsk.history H.Dsk.fault_count (H.disk_history shelf.old) start.keep)) }
     ensures cause { IfErr result (HasStartCause find.now planned.now (H.disk_history shelf.old)) }
-    ensures kept { ChangesOnlyDisk H.files H.source_plans H.fault_count H.absent_count H.faults_of
+    ensures kept { KeepsSources H.files H.source_plans H.fault_count H.absent_count H.faults_of
         H.lent_count shelf.old shelf.new }
     ensures moments { DiskTells (Goes LeavesNoMore)
         (H.disk_history shelf.old) (H.disk_history shelf.new) }

@@ -1,7 +1,7 @@
 //! The run.
 ghost use Rattle.std.specs.Prelude.{◌≡◌, ◌≢◌, ◌-◌, All, IfErr, IfSome, None, Some, false, length, map, ℕ, List, Option};
 ghost use Rattle.eql_conductor.specs.Runs.{IsKeptUnfailing};
-ghost use Rattle.eql_inputs.specs.Shards.{AreWholeFiles};
+ghost use Rattle.eql_shards.specs.Shards.{AreWholeFiles};
 ghost use Rattle.eql_outside.specs.Unfailing.{IsUnfailing, AreUnfailing};
 ghost use Rattle.eql_words.specs.Bounds.{FindIsBounded};
 ghost use Rattle.eql_runs.specs.Outcomes.{DiskIsSame};
@@ -13,15 +13,14 @@ ghost use Rattle.eql_find.specs.Starting.{BeginsOnDisk, IsFreshKeep};
 
 use crate::checkpoint::{Start, give_keep, start_run};
 use crate::error::FindError;
-use crate::lanes::{give_lanes, give_sources, make_lanes};
 use crate::plan::{PlannedQuery, read_plan};
 use crate::running::run_lanes;
 use crate::stops::error_at;
 use eql_ckdisk::puts_go_on;
 use eql_hands::Gate;
-use eql_inputs::open_shards;
 use eql_outside::{Shelf, Sink, crashes_leave_images};
 use eql_runs::{disks_hold_one_thing, spans_change_no_fit, tested_cuts_are_accepted};
+use eql_shards::{give_lanes, give_sources, make_lanes, open_shards};
 use eql_words::Find;
 use std::alloc::Global;
 use std::sync::Wait;
@@ -80,7 +79,7 @@ fn run_start<'a, R: Threads + Wait + Sync, H: Shelf, K: Sink, E: Sink, W: Gate +
         lanes,
         rest,
     } = start;
-    let mut lanes = match make_lanes(alloc, sources, &planned.plan, find.slack, lanes, shelf) {
+    let mut lanes = match make_lanes(alloc, sources, planned, find.slack, lanes, shelf) {
         Ok(lanes) => lanes,
         Err(stop) => {
             give_keep(keep, shelf);

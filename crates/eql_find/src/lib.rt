@@ -6,9 +6,7 @@
 mod checkpoint;
 mod error;
 mod find;
-mod lanes;
 mod plan;
-mod report;
 mod running;
 mod stops;
 

@@ -1,8 +1,9 @@
-//! The plan of a search.
+//! The plan of a search, and the readers of lines that it gives the lanes.
 ghost use Rattle.std.specs.Prelude.{◌≡◌, IfErr, IfOk, IsTrue};
 ghost use Rattle.eql_inputs.specs.Shelves.{ReadsShelf};
 ghost use Rattle.eql_inputs.specs.Steps.{HasCheckCause};
 ghost use Rattle.eql_cut.specs.CutValues.{names_ascend};
+ghost use Rattle.eql_stages.specs.Planned.{line_of, planned_query};
 ghost use Rattle.eql_words.specs.Bounds.{FindIsBounded};
 ghost use Rattle.eql_find.specs.Finding.{IsPlanOf};
 ghost use Rattle.eql_find.specs.Searching.{head_in};
@@ -12,7 +13,8 @@ use eql_cut::CutHead;
 use eql_inputs::{InputError, read_checked};
 use eql_outside::Shelf;
 use eql_parser::print;
-use eql_stages::Plan;
+use eql_shards::Readers;
+use eql_stages::{Plan, PlanReader};
 use eql_values::{Memory, Text};
 use eql_words::Find;
 use std::alloc::Global;
@@ -24,6 +26,16 @@ pub(crate) struct PlannedQuery {
     pub plan: Plan,
     /// The mapping.
     pub mapping: Mapping,
+}
+
+impl Readers for PlannedQuery {
+    type Reader = PlanReader;
+
+    ghost reads = { λ planned. line_of (planned_query planned.plan) };
+
+    fn reader(&self, alloc: Global) -> Result<PlanReader, Memory> {
+        PlanReader::new(alloc, &self.plan)
+    }
 }
 
 /// Reads the query and the mapping of a search, and plans it.

@@ -3,10 +3,10 @@ ghost use Rattle.std.specs.Prelude.{◌≡◌, ◌<◌, length};
 ghost use Rattle.eql_find.specs.Stops.{IsErrorAt, IsErrorOf, MayStop};
 
 use crate::error::{CutStop, FindError};
-use crate::lanes::NotMade;
 use eql_conductor::Stop;
 use eql_inputs::InputError;
 use eql_lane::LaneRefused;
+use eql_shards::NotMade;
 use eql_words::Names;
 
 /// The error of a run over these shards whose search stopped so.

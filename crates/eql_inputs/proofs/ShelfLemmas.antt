@@ -1,7 +1,6 @@
 -- What a shelf keeps and lends from call to call, and the plans of its sources.
 use native.Mathlib.Omega.{arith}
-use Rattle.std.proofs.Common.{◌≡◌, ℕ, ◌+◌, ◌-◌, ◌≤◌, Bool, List, Option, Some, None, Result, Ok, Err, refl, ap, ◌∙◌, subst}
-use Rattle.std.specs.Option.{IfSome}
+use Rattle.std.proofs.Common.{◌≡◌, ℕ, Bool, List, Option, Some, None, Result, Ok, Err, refl, ◌∙◌, subst}
 use Rattle.std.specs.Result.{IfErr}
 use Rattle.eql_outside.specs.Faults.{FaultsAreSame}
 use Rattle.eql_outside.specs.Moments.{History}
@@ -9,7 +8,7 @@ use Rattle.eql_outside.specs.Plans.{FaultPlan}
 use Rattle.eql_outside.specs.declared.shelf.Shelf as shelves
 use Rattle.eql_runs.specs.Files.{Files}
 use Rattle.eql_inputs.specs.declared.error.InputError.{InputError}
-use Rattle.eql_inputs.specs.Shelves.{CountsAreTold, KeepsShelf, LendsAsMany, LendsMore, ReadsShelf}
+use Rattle.eql_inputs.specs.Shelves.{CountsAreTold, KeepsShelf, LendsAsMany, ReadsShelf}
 use Rattle.eql_inputs.proofs.ErrorLemmas.{IsOfText, absence_later, count_later, faults_later, same_later, text_absence, text_count, text_faults, text_no_fault}
 
 -- no call, and one after another
@@ -32,32 +31,7 @@ keeps_later first then = record {
   plan_is = then.plan_is ∙ first.plan_is;
 }
 
--- no source is lent, some are and then others, and as many come back
-pub lends_none : (before : Option ℕ) → LendsMore 0 before before
-lends_none None = tt
-lends_none (Some n) = ap Some (omega arith)
-
-pub lends_on : (i j k : ℕ) (before mid now : Option ℕ) → i + j ≡ k → LendsMore i before mid → LendsMore j mid now → LendsMore k before now
-lends_on i j k None mid now is first then = tt
-lends_on i j k (Some n) mid now is first then =
-    subst (λ (x : Option ℕ). LendsMore j x now) first then ∙ ap Some (omega (arith, is))
-
--- none of these came back yet, and one more did
-pub none_back : (all : ℕ) (before : Option ℕ) → IfSome before (λ lent. before ≡ Some (lent - (all - all)))
-none_back all None = tt
-none_back all (Some n) = ap Some (omega arith)
-
-pub one_back :
-    (all left less : ℕ) (before mid now : Option ℕ) → left ≡ less + 1 → left ≤ all → IfSome before (λ lent. mid ≡ Some (lent - (all - left)))
-    → IfSome mid (λ lent. now ≡ Some (lent - 1)) → IfSome before (λ lent. now ≡ Some (lent - (all - less)))
-one_back all left less None mid now is few first then = tt
-one_back all left less (Some n) mid now is few first then =
-    subst (λ (x : Option ℕ). IfSome x (λ lent. now ≡ Some (lent - 1))) first then ∙ ap Some (omega (arith, is, few))
-
-pub lends_still : (n : ℕ) (before mid now : Option ℕ) → LendsMore n before mid → LendsAsMany mid now → LendsMore n before now
-lends_still n None mid now first then = tt
-lends_still n (Some k) mid now first then = subst (λ (x : Option ℕ). LendsAsMany x now) first then
-
+-- as many are lent as before, and then again
 many_later : (before mid now : Option ℕ) → LendsAsMany before mid → LendsAsMany mid now → LendsAsMany before now
 many_later None mid now first then = tt
 many_later (Some k) mid now first then = subst (λ (x : Option ℕ). LendsAsMany x now) first then

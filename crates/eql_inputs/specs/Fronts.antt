@@ -1,4 +1,4 @@
--- What is read of a file: its first bytes.
+-- What is opened and read of a file: all of it, and its first bytes.
 use Rattle.std.specs.Prelude.{◌≡◌, ◌≢◌, ◌≤◌, ◌<◌, ◌++◌, ℕ, List, [], take, drop, length, Option, Some, None, IfSome, Result, Err}
 use Rattle.eql_outside.specs.Outside.{file_named}
 use Rattle.eql_outside.specs.Unfailing.{IsUnfailing}
@@ -6,6 +6,16 @@ use Rattle.eql_outside.specs.declared.refused.OutRefused.{OutRefused}
 use Rattle.eql_outside.specs.declared.refused.OutRefused.TheVariants as refused
 use Rattle.eql_outside.specs.declared.source.Source as sources
 use Rattle.eql_runs.specs.Files.{Files}
+
+-- this is left of a source over the file of this name: all of it
+pub record IsWhole (name : List ℕ) (files : Files) (left : Option (List ℕ)) : Type 0 where
+  pub text : List ℕ
+  pub there : file_named name files ≡ Some text
+  pub left_is : left ≡ Some text
+
+-- the same, where the shelf tells its files
+abbrev pub IsWholeFile : List ℕ → Option Files → Option (List ℕ) → Type 0
+IsWholeFile name files left = IfSome files (λ fs. IsWhole name fs left)
 
 -- the bytes are the first of the file of this name, as many of them as are kept at most
 pub record IsFileFront (name : List ℕ) (files : Files) (most : ℕ) (bytes : List ℕ) : Type 0 where

@@ -1,5 +1,4 @@
 pub mod Fronts
 pub mod Errors
 pub mod Steps
-pub mod Shards
 pub mod Shelves

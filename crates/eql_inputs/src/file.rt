@@ -1,8 +1,7 @@
-//! Reading a file of the shelf, up to a number of bytes.
+//! Opening a file of the shelf, and reading one up to a number of bytes.
 ghost use Rattle.std.specs.Prelude.{◌≡◌, ◌≤◌, ◌<◌, IfOk, IfErr, length, string_bytes};
 ghost use Rattle.eql_outside.specs.Unfailing.{IsUnfailing};
-ghost use Rattle.eql_inputs.specs.Fronts.{IsFrontOf, IsMissing};
-ghost use Rattle.eql_inputs.specs.Shards.{IsWholeFile};
+ghost use Rattle.eql_inputs.specs.Fronts.{IsFrontOf, IsMissing, IsWholeFile};
 ghost use Rattle.eql_inputs.specs.Shelves.{OpensShelf, ReadsShelf};
 ghost use Rattle.eql_inputs.specs.Steps.{StopsReading};
 
@@ -13,7 +12,7 @@ use eql_words::Name;
 use std::alloc::Global;
 
 /// Opens the file of this name: a source over it, from its first byte on, whose count of faults is 0.
-pub(crate) fn open_file<'a, H: Shelf>(
+pub fn open_file<'a, H: Shelf>(
     alloc: Global,
     name: &'a Name,
     shelf: &mut H,

@@ -1,5 +1,4 @@
-//! Reading the files that a command names: its query and mapping, checked, and its shards as open sources; and telling
-//! why that stopped.
+//! Reading the files that a command names: its query and mapping, checked; opening one; and telling why that stopped.
 #![tactic(auto)]
 
 mod checked;
@@ -7,12 +6,10 @@ mod error;
 mod file;
 mod front;
 mod query;
-mod shards;
 mod tell;
 
 pub use checked::{Inputs, read_checked};
 pub use error::{InputError, Refused};
-pub use file::read_file;
+pub use file::{open_file, read_file};
 pub use front::read_front;
-pub use shards::open_shards;
 pub use tell::{tell_error, tell_text};

@@ -1,6 +1,7 @@
 //! The files that words name: a query and a mapping as long as they may be, and shards of which one isn't there.
-use eql_inputs::{InputError, open_shards, read_checked, tell_error};
+use eql_inputs::{InputError, read_checked, tell_error};
 use eql_outside::{MemDisk, MemFile, MemShelf, MemSink, MemSource, Shelf, Source};
+use eql_shards::open_shards;
 use eql_values::Memory;
 use eql_words::{Name, Names};
 use std::alloc::{AllocError, Global};

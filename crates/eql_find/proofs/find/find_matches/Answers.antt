@@ -5,7 +5,7 @@ use Rattle.eql_outside.specs.Unfailing.{IsUnfailing}
 use Rattle.eql_query.specs.QueryTree.{query_tree}
 use Rattle.eql_runs.specs.Files.{Files}
 use Rattle.eql_inputs.specs.Errors.{AbsencesFollow, CountFollows}
-use Rattle.eql_inputs.specs.Shards.{HasShardsCause}
+use Rattle.eql_shards.specs.Shards.{HasShardsCause}
 use Rattle.eql_find.specs.Outcomes.{FindEnds}
 use Rattle.eql_inputs.proofs.ErrorLemmas.{faults_later}
 use Rattle.eql_find.proofs.FileLemmas.{file_disk, file_faults, file_out}

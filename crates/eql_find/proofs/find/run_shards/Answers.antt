@@ -5,14 +5,14 @@ use Rattle.eql_ckdisk.specs.Going.{Goes}
 use Rattle.eql_ckdisk.specs.Keeping.{LeavesNoMore}
 use Rattle.eql_runs.specs.Files.{Files}
 use Rattle.eql_runs.specs.Runs.{KeepsCuts}
-use Rattle.eql_inputs.specs.Shards.{AreWholeFiles}
+use Rattle.eql_shards.specs.Shards.{AreWholeFiles}
 use Rattle.eql_find.specs.Finding.{IsPlanOf}
 use Rattle.eql_find.specs.Outcomes.{FindEnds}
 use Rattle.eql_find.specs.Starting.{BeginsOnDisk, IsFreshKeep}
 use Rattle.eql_find.proofs.DiskLemmas.{recovered_keeps}
 use Rattle.eql_find.proofs.GivingLemmas.{back_by, fresh_keep, keeps_if_asked, over_both}
 use Rattle.eql_find.proofs.EarlyErrors.{none_is_some}
-use Rattle.eql_find.proofs.MakingLemmas.{none_failed}
+use Rattle.eql_shards.proofs.BackLemmas.{none_failed}
 use Rattle.eql_find.proofs.OutcomeLemmas.{disk_then, kept_disk, none_falls, rises_then, same_disk, then_stays, told_then}
 use Rattle.eql_find.proofs.UnbegunLemmas.{unbegun, unbegun_cause}
 use Rattle.eql_find.proofs.find.run_shards.Goals as goal
@@ -48,34 +48,34 @@ returns-in-Err-clause-ends g c =
           c.requires.plan c.requires.whole c.in-Err.ensures.cause;
       moments = λ asked.
           subst (λ (d : Option History). DiskTells (KeepsCuts c.args.find.now (g.H.Shelf.files c.args.shelf.now) (g.K.Sink.written c.args.out.now) (g.K.Sink.written c.args.out.now)) (g.H.Shelf.disk_history c.args.shelf.now) d)
-          (sym c.give_sources.ensures.kept.history_is) (recovered_keeps c.puts_go_on.ensures _ _ _ _ _ _ c.in-Err.ensures.moments);
+          (sym c.give_sources.ensures.back.kept.history_is) (recovered_keeps c.puts_go_on.ensures _ _ _ _ _ _ c.in-Err.ensures.moments);
       cut_kept = λ refusal.
-          subst (λ (d : Option History). DiskTells (Goes LeavesNoMore) (g.H.Shelf.disk_history c.args.shelf.now) d) (sym c.give_sources.ensures.kept.history_is)
+          subst (λ (d : Option History). DiskTells (Goes LeavesNoMore) (g.H.Shelf.disk_history c.args.shelf.now) d) (sym c.give_sources.ensures.back.kept.history_is)
           c.in-Err.ensures.moments;
     }
 
 pub returns-in-Err-clause-told : goal.returns-in-Err-clause-told
 returns-in-Err-clause-told g c =
     let by = unbegun c.args.find.now c.args.planned.now _ c.in-Err.error c.in-Err.ensures.cause in
-    let back = c.give_sources.ensures.back.none (none_failed g.H.Src.Source.lent_as g.H.Src.Source.fault_count c.args.sources.items c.requires.fresh) in
+    let back = c.give_sources.ensures.back.came.none (none_failed g.H.Src.Source.lent_as g.H.Src.Source.fault_count c.args.sources.items c.requires.fresh) in
     let kept = c.in-Err.ensures.kept in
     record {
       faults = by.faults _ _ (λ name. back.1 name ∙ kept.names_are name);
       count = by.count _ _ (back.0 ∙ kept.faults_are);
-      absences = by.absence _ _ (c.give_sources.ensures.counts.1 ∙ kept.absences_are);
-      disk = by.disk _ _ _ c.in-Err.ensures.fault c.give_sources.ensures.kept.faults_are;
+      absences = by.absence _ _ (c.give_sources.ensures.back.absences_are ∙ kept.absences_are);
+      disk = by.disk _ _ _ c.in-Err.ensures.fault c.give_sources.ensures.back.kept.faults_are;
       out = by.out _;
       err = by.err _;
-      reads_rise = rises_then _ _ _ kept.faults_are c.give_sources.ensures.counts.0;
-      absences_rise = none_falls _ _ (c.give_sources.ensures.counts.1 ∙ kept.absences_are);
-      disks_rise = then_stays _ _ _ c.in-Err.ensures.counts c.give_sources.ensures.kept.faults_are;
+      reads_rise = rises_then _ _ _ kept.faults_are c.give_sources.ensures.back.came.counts.0;
+      absences_rise = none_falls _ _ (c.give_sources.ensures.back.absences_are ∙ kept.absences_are);
+      disks_rise = then_stays _ _ _ c.in-Err.ensures.counts c.give_sources.ensures.back.kept.faults_are;
       writes_rise = none_falls _ _ refl;
       errors_rise = none_falls _ _ refl;
     }
 
 pub returns-in-Err-clause-disk_kept : goal.returns-in-Err-clause-disk_kept
 returns-in-Err-clause-disk_kept g c =
-    λ none. disk_then g.H.Shelf _ _ _ (same_disk g.H.Shelf _ _ (c.in-Err.ensures.untouched none)) (kept_disk g.H.Shelf _ _ c.give_sources.ensures.kept)
+    λ none. disk_then g.H.Shelf _ _ _ (same_disk g.H.Shelf _ _ (c.in-Err.ensures.untouched none)) (kept_disk g.H.Shelf _ _ c.give_sources.ensures.back.kept)
 
 -- it is begun
 pub returns-in-Ok-clause-ends : goal.returns-in-Ok-clause-ends

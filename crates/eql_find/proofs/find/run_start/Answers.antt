@@ -113,7 +113,7 @@ pub returns-clause-ends : goal.returns-clause-ends
 returns-clause-ends g c =
     let ran = c.run_lanes-ran in
     let kept = ran.result.1 in
-    let same = c.give_keep-2.ensures.taken.0 ∙ ap (λ (d : Option History). disk_after g.H.Dsk.Disk.history d kept) (c.give_lanes.ensures.kept.history_is ∙ c.make_lanes.ensures.kept.history_is) in
+    let same = c.give_keep-2.ensures.taken.0 ∙ ap (λ (d : Option History). disk_after g.H.Dsk.Disk.history d kept) (c.give_lanes.ensures.back.kept.history_is ∙ c.make_lanes.ensures.kept.history_is) in
     let runs = over_runs g.H.Src.Source.left g.H.Src.Source.lent_as g.H.Src.Source.fault_count g.H.Src.Source.fault_plan reads_by _ _ _ _ _ c.requires.1.1.1.1.1.1.1.1.1.1.1.0 _ _ _ _ _ c.requires.1.1.1.1.1.1.1.1.1.1.1.1.0 c.requires.1.1.1.1.1.1.1.1.1.1.1.1.1.0 c.requires.1.1.1.1.1.1.1.1.1.1.1.1.1.1.0 c.requires.1.1.1.1.1.1.1.1.1.1.1.1.1.1.1.0 c.requires.1.1.1.1.1.1.1.1.1.1.1.1.1.1.1.1.1.0 c.in-Ok.lanes.items c.in-Ok.ensures.made
     c.spans_change_no_fit.ensures c.disks_hold_one_thing.ensures c.tested_cuts_are_accepted.ensures.accepted in
     let begun = began g.H.Src.Source.left g.H.Src.Source.lent_as g.H.Src.Source.fault_count g.H.Src.Source.fault_plan reads_by _ _ _ _ _ c.requires.1.1.1.1.1.1.1.1.1.1.1.0 _ _ _ _ _ c.requires.1.1.1.1.1.1.1.1.1.1.1.1.0 c.requires.1.1.1.1.1.1.1.1.1.1.1.1.1.0 c.requires.1.1.1.1.1.1.1.1.1.1.1.1.1.1.0 c.requires.1.1.1.1.1.1.1.1.1.1.1.1.1.1.1.0 c.requires.1.1.1.1.1.1.1.1.1.1.1.1.1.1.1.1.1.0 c.in-Ok.lanes.items c.in-Ok.ensures.made in
@@ -147,20 +147,20 @@ returns-clause-told g c =
     let ran = c.run_lanes-ran in
     let told = ran.ensures.told in
     let kept = c.give_keep-2.ensures.kept in
-    let disks = c.give_lanes.ensures.kept.faults_are ∙ c.make_lanes.ensures.kept.faults_are in
-    let absences = c.give_lanes.ensures.counts.1 ∙ c.in-Ok.ensures.counts.1 in
+    let disks = c.give_lanes.ensures.back.kept.faults_are ∙ c.make_lanes.ensures.kept.faults_are in
+    let absences = c.give_lanes.ensures.back.absences_are ∙ c.in-Ok.ensures.counts.1 in
     let named = named_over g.H.Src.Source.left g.H.Src.Source.lent_as g.H.Src.Source.fault_count g.H.Src.Source.fault_plan reads_by _ _ 0 c.args.sources.items c.args.start.lanes.items c.in-Ok.lanes.items c.args.find.now.shards c.in-Ok.ensures.made c.requires.1.1.1.1.1.1.1.1.1.1.1.1.1.1.1.0 c.requires.1.1.1.1.1.1.1.1.1.1.1.1.1.1.1.1.0 in
     record {
       faults =
           then_faults _ _ _ ran.result.0 kept.names_are
           (faults_then _ _ _ c.in-Ok.ensures.steady_named ran.result.0
           (faults_as g.H.Src.Source.left g.H.Src.Source.lent_as c.args.find.now c.in-Ok.lanes.items ran.new.lanes.items _ _ _ _ named
-          ran.ensures.lanes c.give_lanes.ensures.back ran.result.0 told.faults));
+          ran.ensures.lanes c.give_lanes.ensures.back.came ran.result.0 told.faults));
       count =
           subst (λ (n : ℕ). CountFollows ran.result.0 (g.H.Shelf.fault_count c.args.shelf.now) n) (sym kept.faults_are)
           (count_then _ _ _ c.in-Ok.ensures.steady ran.result.0
           (count_as g.H.Src.Source.left g.H.Src.Source.lent_as c.args.find.now c.in-Ok.lanes.items ran.new.lanes.items _ _ _ _ named
-          ran.ensures.lanes c.give_lanes.ensures.back ran.result.0 told.faults));
+          ran.ensures.lanes c.give_lanes.ensures.back.came ran.result.0 told.faults));
       absences =
           subst (λ (n : ℕ). AbsencesFollow ran.result.0 (g.H.Shelf.absent_count c.args.shelf.now) n) (sym kept.absences_are)
           (absence_as _ (λ r told. told) ran.result.0 _ _ ran.ensures.ends.cause absences);
@@ -173,7 +173,7 @@ returns-clause-told g c =
           }) told.disk);
       out = told.out;
       err = told.err;
-      reads_rise = then_stays _ _ _ (rises_then _ _ _ c.in-Ok.ensures.steady c.give_lanes.ensures.counts.0) kept.faults_are;
+      reads_rise = then_stays _ _ _ (rises_then _ _ _ c.in-Ok.ensures.steady c.give_lanes.ensures.back.came.counts.0) kept.faults_are;
       absences_rise = then_stays _ _ _ (none_falls _ _ absences) kept.absences_are;
       disks_rise = rises_then _ _ _ disks c.give_keep-2.ensures.counts;
       writes_rise = told.writes_rise;
@@ -185,7 +185,7 @@ returns-clause-unfailing g c =
     λ all disk out err. c.run_lanes-ran.ensures.unfailing (unfailing_over g.H.Src.Source.left g.H.Src.Source.lent_as g.H.Src.Source.fault_count g.H.Src.Source.fault_plan reads_by _ _ 0 c.args.sources.items c.args.start.lanes.items c.in-Ok.lanes.items c.in-Ok.ensures.made all) out err disk
 
 pub returns-clause-kept : goal.returns-clause-kept
-returns-clause-kept g c = c.give_keep-2.ensures.kept.files_are ∙ c.give_lanes.ensures.kept.files_are ∙ c.make_lanes.ensures.kept.files_are
+returns-clause-kept g c = c.give_keep-2.ensures.kept.files_are ∙ c.give_lanes.ensures.back.kept.files_are ∙ c.make_lanes.ensures.kept.files_are
 
 pub returns-clause-lent : goal.returns-clause-lent
 returns-clause-lent g c =
@@ -193,7 +193,7 @@ returns-clause-lent g c =
     (lent_all _ _ _ _ _
     (zip_long _ c.in-Ok.lanes.items c.run_lanes-ran.new.lanes.items c.run_lanes-ran.ensures.lanes
     ∙ lane_count g.H.Src.Source.left g.H.Src.Source.lent_as g.H.Src.Source.fault_count g.H.Src.Source.fault_plan reads_by _ _ _ _ _ c.requires.1.1.1.1.1.1.1.1.1.1.1.0 _ _ _ _ _ c.requires.1.1.1.1.1.1.1.1.1.1.1.1.0 c.requires.1.1.1.1.1.1.1.1.1.1.1.1.1.0 c.requires.1.1.1.1.1.1.1.1.1.1.1.1.1.1.0 c.requires.1.1.1.1.1.1.1.1.1.1.1.1.1.1.1.0 c.requires.1.1.1.1.1.1.1.1.1.1.1.1.1.1.1.1.1.0 c.in-Ok.lanes.items c.in-Ok.ensures.made)
-    c.in-Ok.ensures.lent c.give_lanes.ensures.lent)
+    c.in-Ok.ensures.lent c.give_lanes.ensures.back.lent)
 
 pub returns-clause-back : goal.returns-clause-back
 returns-clause-back g c =
@@ -207,5 +207,5 @@ returns-clause-disk_kept g c =
     λ none.
     let ran = c.run_lanes-ran in
     let gone = still_none g.H.Dsk.Disk.history g.H.Dsk.Disk.fault_count _ _ _ ran.result.0 c.args.start.keep ran.result.1 ran.ensures.ends.keeps (keeps_none g.H.Dsk.Disk.history g.H.Dsk.Disk.fault_count c.args.find.now.checkpoint c.args.start.keep c.requires.1.1.1.1.1.1.1.1.1.1.1.1.1.1.1.1.1.1.0 none) in
-    disk_then g.H.Shelf _ _ _ (disk_then g.H.Shelf _ _ _ (kept_disk g.H.Shelf _ _ c.make_lanes.ensures.kept) (kept_disk g.H.Shelf _ _ c.give_lanes.ensures.kept))
+    disk_then g.H.Shelf _ _ _ (disk_then g.H.Shelf _ _ _ (kept_disk g.H.Shelf _ _ c.make_lanes.ensures.kept) (kept_disk g.H.Shelf _ _ c.give_lanes.ensures.back.kept))
     (same_disk g.H.Shelf _ _ (c.give_keep-2.ensures.none gone))

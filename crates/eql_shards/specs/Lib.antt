@@ -1,0 +1,4 @@
+pub mod Shards
+pub mod Lanes
+pub mod Giving
+pub mod Reports
