@@ -1,5 +1,6 @@
 -- How a run of the program ended: what its status says of the words, the files, the sinks and the disk.
 use Rattle.std.specs.Prelude.{◌≡◌, ◌≢◌, ◌⊎◌, ◌≤◌, ◌<◌, ℕ, List, Option, Some, None, IfSome, false}
+use Rattle.eql_outside.specs.Keeping.{KeepsDisk}
 use Rattle.eql_outside.specs.Moments.{DiskTells, History}
 use Rattle.eql_outside.specs.Outside.{Rose}
 use Rattle.eql_outside.specs.Unfailing.{AreUnfailing, IsUnfailing}
@@ -24,11 +25,8 @@ abbrev pub IsRefusal : ℕ → Type 0
 IsRefusal status = (status ≡ 1) ⊎ (status ≡ 2) ⊎ (status ≡ 3) ⊎ (status ≡ 7)
 
 -- the disk of a shelf is as it was
-pub record DiskIsSame {H Src Dsk : Type 0} (shelf : shelves.Ghosts H Src Dsk) (old new : H) : Type 0 where
-  pub history_is : shelf.disk_history new ≡ shelf.disk_history old
-  pub out_is : shelf.is_out new ≡ shelf.is_out old
-  pub faults_are : shelf.disk_fault_count new ≡ shelf.disk_fault_count old
-  pub plan_is : shelf.disk_plan new ≡ shelf.disk_plan old
+abbrev pub DiskIsSame : {H Src Dsk : Type 0} → (shelf : shelves.Ghosts H Src Dsk) → (old new : H) → Type 0
+DiskIsSame shelf old new = KeepsDisk shelf.disk_history shelf.is_out shelf.disk_fault_count shelf.disk_plan old new
 
 module _ {H Src Dsk K E : Type 0} (shelf : shelves.Ghosts H Src Dsk) (output : sinks.Ghosts K) (errors : sinks.Ghosts E) where
   -- a run of these words ended with this status. Each field says what the clause of its name at the top call says
