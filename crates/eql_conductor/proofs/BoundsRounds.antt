@@ -179,9 +179,3 @@ gave_out_more n mark a b c same h one = record {
 
 pub gave_out_all : (n : ℕ) (mark : Mark) (a b : Known) → n ≡ a.lanes → GaveOutTo n mark a b → AllGaveOut mark a b
 gave_out_all n mark a b e h = record { each = λ s l. h.done s l (subst (λ (m : ℕ). s < m) (sym e) l) }
-
--- parts played then
-pub gave_out_rest : (mark : Mark) (a b c : Known) → StaysSame a b → LanesRest b c → AllGaveOut mark a b → AllGaveOut mark a c
-gave_out_rest mark a b c same rests h = record {
-  each = λ s l. lane_gave_on s mark a b c l same (h.each s l) (rests.each s (is_lane a b s same l));
-}

@@ -14,6 +14,7 @@ use Rattle.eql_laws.specs.Belows.{HasRoutesInOrder}
 use Rattle.eql_laws.specs.Lateness.{IsAtMost}
 use Rattle.eql_laws.proofs.BelowLemmas.{sorted_ascends}
 use Rattle.eql_laws.proofs.Elements.{All-flat_map}
+use Rattle.eql_book.specs.Books.{BookState}
 use Rattle.eql_parts.specs.PartSteps.{CanDeliver, Rules}
 use Rattle.eql_parts.specs.Spreading.{part_number}
 use Rattle.eql_conductor.specs.Benches.{Known}
@@ -22,7 +23,7 @@ use Rattle.eql_conductor.specs.Handed.{LanesHand, sizes}
 use Rattle.eql_conductor.specs.LaneRounds.{AllHandOver, LanesAreAt}
 use Rattle.eql_conductor.specs.PartRounds.{AreAtRest, pending_after}
 use Rattle.eql_conductor.specs.RoundNotes.{GrewBy, NotesParts, delivered_to}
-use Rattle.eql_conductor.specs.Rounds.{found_by}
+use Rattle.eql_conductor.specs.Rounds.{Gave, PlaysTo, found_by}
 use Rattle.eql_conductor.proofs.FittingLaws.{after_fitting, fitting_ascends, found_fitting, routed_fitting}
 use Rattle.eql_conductor.proofs.Handing.{handed_all}
 use Rattle.eql_conductor.proofs.Merged.{all_ascend, between_is, can_deliver}
@@ -59,7 +60,7 @@ module _ (items all : List Item) (e : items ≡ fitting all) where
     below = All-filter has_routes (λ (x : Item). is_below mark x ≡ true) all h.below;
   })
 
-  found_same : (rules : Rules) (holders : List Holder) → found_by rules holders items ≡ found_by rules holders all
+  pub found_same : (rules : Rules) (holders : List Holder) → found_by rules holders items ≡ found_by rules holders all
   found_same rules holders = ap (found_by rules holders) e ∙ found_fitting rules.stages rules.span holders all
 
   pending_same : (rules : Rules) (holders : List Holder) → pending_after rules holders items ≡ pending_after rules holders all
@@ -68,13 +69,12 @@ module _ (items all : List Item) (e : items ≡ fitting all) where
   delivered_same : (p : ℕ) → delivered_to items p ≡ delivered_to all p
   delivered_same p = ap (λ (l : List Item). delivered_to l p) e ∙ ap (λ (l : List Item). length l) (routed_fitting part_number p all)
 
-  pub finds_all : (last : Mark) (b : Known) (found : List Match) → ((rules : Rules) (holders : List Holder) → AreAtRest rules holders last b → found ≡ found_by rules holders items)
-      → (rules : Rules) (holders : List Holder) → AreAtRest rules holders last b → found ≡ found_by rules holders all
-  finds_all last b found h rules holders was = h rules holders was ∙ found_same rules holders
-
-  pub plays_all : (last mark : Mark) (b c : Known) → ((rules : Rules) (holders : List Holder) → AreAtRest rules holders last b → AreAtRest rules (pending_after rules holders items) mark c)
-      → (rules : Rules) (holders : List Holder) → AreAtRest rules holders last b → AreAtRest rules (pending_after rules holders all) mark c
-  plays_all last mark b c h rules holders was = subst (λ (l : List Holder). AreAtRest rules l mark c) (pending_same rules holders) (h rules holders was)
+  pub plays_all : (rules : Rules) (holders : List Holder) (mark : Mark) (c : Known) (book then : BookState) (before now : Option (List ℕ))
+      → PlaysTo rules holders items mark c book then before now → PlaysTo rules holders all mark c book then before now
+  plays_all rules holders mark c book then before now h = record {
+    parts = subst (λ (l : List Holder). AreAtRest rules l mark c) (pending_same rules holders) h.parts;
+    gave = subst (λ (l : List Match). Gave l book then before now) (found_same rules holders) h.gave;
+  }
 
   pub notes_all : (b c : Known) → NotesParts (delivered_to items) 3 b c → NotesParts (delivered_to all) 3 b c
   notes_all b c h = record {

@@ -32,6 +32,7 @@ pub mod LaneNotes
 pub mod PartNotes
 pub mod Handing
 pub mod NotedRounds
+pub mod TakenRounds
 pub mod NotedCuts
 pub mod NotedRuns
 pub mod Bounded

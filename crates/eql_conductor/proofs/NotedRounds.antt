@@ -12,7 +12,8 @@ use Rattle.eql_conductor.specs.declared.note.Note.{Note}
 use Rattle.eql_conductor.specs.declared.note.Note.TheVariants as note
 use Rattle.eql_conductor.specs.Benches.{Known, StaysSame, LanesRest, PartNotesStay, Rests}
 use Rattle.eql_conductor.specs.Handed.{AllHandOut}
-use Rattle.eql_conductor.specs.RoundNotes.{low_at, counted_mark, took, lane_round, LanesGrow, GrewFront, NotesLanes, NotesLanesFront, NotesLooks, NotesLooksFront, GrewBy, NotesParts, PlaysParts, NotesAdvance, NotesAdvanceFront, NotesRound, NotesRoundFront, delivered_to}
+use Rattle.eql_conductor.specs.Reading.{NotesReading, NotesReadingFront}
+use Rattle.eql_conductor.specs.RoundNotes.{low_at, counted_mark, took, lane_round, LanesGrow, GrewFront, NotesLanes, NotesLanesFront, NotesLooks, NotesLooksFront, GrewBy, NotesParts, PlaysParts, NotesRound, NotesRoundFront, delivered_to}
 use Rattle.eql_conductor.proofs.Resting.{same_on, is_lane, is_part}
 use Rattle.eql_conductor.proofs.LaneNotes.{below_or, front_all, parts_stay_on}
 use Rattle.eql_conductor.proofs.PartNotes.{grew_none}
@@ -67,54 +68,23 @@ played_after others a b c same handed stay h = record {
   };
 }
 
--- ---- what lies below a mark was taken and played
-module _ (mark : Mark) (items : List Item) (a b c : Known) (same : StaysSame a b) (handed : AllHandOut (length items) a b) (took_all : NotesLanes (λ s. note.Took mark ∷ []) a b)
-    (rest : LanesRest b c) (played : NotesParts (delivered_to items) 3 b c) where
-  lanes_after : LanesGrow (λ s. note.Took mark ∷ []) a c
-  lanes_after = record { each = λ s l. played.lanes.each s (is_lane a b s same l) ∙ took_all.lanes.each s l }
-
-  parts_after : PlaysParts 3 a c
-  parts_after = record {
-    items = items;
-    handed = handed_to (length items) (length items + 0) a c (omega arith) (handed_on (length items) 0 a b c same handed (handed_none b c (rest_hands b c rest)));
-    parts = record {
-      each = λ p l.
-          subst (λ (x : List Note). GrewBy (delivered_to items p) 3 x (c.part_notes p)) (took_all.parts.each p l) (played.parts.each p (is_part a b p same l));
-    };
-  }
-
-  pub advance_noted : NotesAdvance mark a c
-  advance_noted = record { lanes = lanes_after; parts = parts_after }
-
-  pub advance_broken : NotesAdvanceFront mark a c
-  advance_broken = record {
-    lanes = record { each = λ s l. front_all (a.lane_notes s) (note.Took mark ∷ []) (c.lane_notes s) (lanes_after.each s l) };
-    parts = parts_after;
-  }
-
-pub taking_broken : (mark : Mark) (a b : Known) → AllHandOut 0 a b → NotesLanesFront (λ s. note.Took mark ∷ []) a b → NotesAdvanceFront mark a b
-taking_broken mark a b handed h = record { lanes = h.lanes; parts = none_played 3 a b handed h.parts }
-
--- ---- a round
+-- ---- the reading half of a round
 pub rests_handed : (a b : Known) → Rests a b → AllHandOut 0 a b
 rests_handed a b h = handed_none a b (rest_hands a b h.lanes)
 
-pub feeding_broken : (last : Mark) (batch : ℕ) (a b : Known) → Rests a b → NotesLanesFront (λ s. note.Fed batch ∷ []) a b → NotesRoundFront last batch a b
-feeding_broken last batch a b rests h = let lows : List Mark = replicate a.lanes End in record {
+pub feeding_broken : (last : Mark) (batch : ℕ) (a b : Known) → NotesLanesFront (λ s. note.Fed batch ∷ []) a b → NotesReadingFront last batch a b
+feeding_broken last batch a b h = let lows : List Mark = replicate a.lanes End in record {
   lows = lows;
   count = length-replicate a.lanes End;
   lanes = record {
     each = λ s l.
         front_longer (a.lane_notes s) (note.Fed batch ∷ []) (note.Looked (low_at lows s) ∷ took (counted_mark last lows)) (b.lane_notes s) (h.lanes.each s l);
   };
-  parts = none_played 3 a b (rests_handed a b rests) h.parts;
+  parts = h.parts;
 }
 
 module _ (last : Mark) (batch : ℕ) (a b c : Known) (rests : Rests a b) (then : Rests b c) (fed : NotesLanes (λ s. note.Fed batch ∷ []) a b) where
-  both_handed : AllHandOut 0 a c
-  both_handed = handed_on 0 0 a b c rests.same (rests_handed a b rests) (rests_handed b c then)
-
-  pub looking_broken : NotesLooksFront b c → NotesRoundFront last batch a c
+  pub looking_broken : NotesLooksFront b c → NotesReadingFront last batch a c
   looking_broken h = record {
     lows = h.lows;
     count = h.count ∙ rests.same.lanes;
@@ -123,7 +93,7 @@ module _ (last : Mark) (batch : ℕ) (a b c : Known) (rests : Rests a b) (then :
           front_behind (a.lane_notes s) (note.Fed batch ∷ []) (note.Looked (low_at h.lows s) ∷ took (counted_mark last h.lows)) (b.lane_notes s) (c.lane_notes s) (fed.lanes.each s l)
           (front_longer (b.lane_notes s) (note.Looked (low_at h.lows s) ∷ []) (took (counted_mark last h.lows)) (c.lane_notes s) (h.noted.lanes.each s (is_lane a b s rests.same l)));
     };
-    parts = none_played 3 a c both_handed (parts_stay_on a b c rests.same fed.parts h.noted.parts);
+    parts = parts_stay_on a b c rests.same fed.parts h.noted.parts;
   }
 
   module _ (mark : Mark) (looked : NotesLooks b c mark) where
@@ -136,13 +106,13 @@ module _ (last : Mark) (batch : ℕ) (a b c : Known) (rests : Rests a b) (then :
     parts_stood = parts_stay_on a b c rests.same fed.parts looked.noted.parts
 
     -- it doesn't count
-    pub round_passes : is_le (mark_cmp mark last) ≡ true → NotesRound last batch a c None
-    round_passes le = let counts = counted_is last mark looked.lows true looked.least le in record {
+    pub read_passes : is_le (mark_cmp mark last) ≡ true → NotesReading last batch a c None
+    read_passes le = let counts = counted_is last mark looked.lows true looked.least le in record {
       lows = looked.lows;
       count = looked.count ∙ rests.same.lanes;
       counts = sym counts;
       lanes = record { each = λ s l. looked_at s l ∙ ap (λ (m : Option Mark). a.lane_notes s ++ lane_round batch (low_at looked.lows s) m) (sym counts) };
-      parts = none_played 3 a c both_handed parts_stood;
+      parts = parts_stood;
     }
 
     module _ (d : Known) (le : is_le (mark_cmp mark last) ≡ false) where
@@ -153,8 +123,8 @@ module _ (last : Mark) (batch : ℕ) (a b c : Known) (rests : Rests a b) (then :
       same_looked = same_on a b c rests.same then.same
 
       -- it counts
-      pub round_noted : NotesAdvance mark c d → NotesRound last batch a d (Some mark)
-      round_noted h = record {
+      pub read_noted : NotesLanes (λ s. note.Took mark ∷ []) c d → NotesReading last batch a d (Some mark)
+      read_noted h = record {
         lows = looked.lows;
         count = looked.count ∙ rests.same.lanes;
         counts = sym counts_by;
@@ -164,11 +134,11 @@ module _ (last : Mark) (batch : ℕ) (a b c : Known) (rests : Rests a b) (then :
               ∙ append_assoc (a.lane_notes s) (note.Fed batch ∷ note.Looked (low_at looked.lows s) ∷ []) (note.Took mark ∷ [])
               ∙ ap (λ (m : Option Mark). a.lane_notes s ++ lane_round batch (low_at looked.lows s) m) (sym counts_by);
         };
-        parts = played_after 3 a c d same_looked both_handed parts_stood h.parts;
+        parts = parts_stay_on a c d same_looked parts_stood h.parts;
       }
 
-      pub round_broken : NotesAdvanceFront mark c d → NotesRoundFront last batch a d
-      round_broken h = record {
+      pub read_broken : NotesLanesFront (λ s. note.Took mark ∷ []) c d → NotesReadingFront last batch a d
+      read_broken h = record {
         lows = looked.lows;
         count = looked.count ∙ rests.same.lanes;
         lanes = record {
@@ -177,5 +147,49 @@ module _ (last : Mark) (batch : ℕ) (a b c : Known) (rests : Rests a b) (then :
               (front_behind (a.lane_notes s) (note.Fed batch ∷ note.Looked (low_at looked.lows s) ∷ []) (note.Took mark ∷ []) (c.lane_notes s) (d.lane_notes s) (looked_at s l)
               (h.lanes.each s (is_lane a c s same_looked l)));
         };
-        parts = played_after 3 a c d same_looked both_handed parts_stood h.parts;
+        parts = parts_stay_on a c d same_looked parts_stood h.parts;
       }
+
+-- ---- a round
+-- it doesn't count
+pub round_passes : (last : Mark) (batch : ℕ) (a b : Known) → Rests a b → NotesReading last batch a b None → NotesRound last batch a b None
+round_passes last batch a b rests h = record {
+  lows = h.lows;
+  count = h.count;
+  counts = h.counts;
+  lanes = h.lanes;
+  parts = none_played 3 a b (rests_handed a b rests) h.parts;
+}
+
+-- it broke off before any part played
+pub reading_broken : (last : Mark) (batch : ℕ) (a b : Known) → AllHandOut 0 a b → NotesReadingFront last batch a b → NotesRoundFront last batch a b
+reading_broken last batch a b handed h = record { lows = h.lows; count = h.count; lanes = h.lanes; parts = none_played 3 a b handed h.parts }
+
+-- what was taken was played
+module _ (last : Mark) (batch : ℕ) (items : List Item) (a b c : Known) (counted : Option Mark) (same : StaysSame a b) (handed : AllHandOut (length items) a b)
+    (read : NotesReading last batch a b counted) (rest : LanesRest b c) (played : NotesParts (delivered_to items) 3 b c) where
+  lanes_after : LanesGrow (λ s. lane_round batch (low_at read.lows s) (counted_mark last read.lows)) a c
+  lanes_after = record { each = λ s l. played.lanes.each s (is_lane a b s same l) ∙ read.lanes.each s l }
+
+  parts_after : PlaysParts 3 a c
+  parts_after = record {
+    items = items;
+    handed = handed_to (length items) (length items + 0) a c (omega arith) (handed_on (length items) 0 a b c same handed (handed_none b c (rest_hands b c rest)));
+    parts = record {
+      each = λ p l.
+          subst (λ (x : List Note). GrewBy (delivered_to items p) 3 x (c.part_notes p)) (read.parts.each p l) (played.parts.each p (is_part a b p same l));
+    };
+  }
+
+  pub round_noted : NotesRound last batch a c counted
+  round_noted = record { lows = read.lows; count = read.count; counts = read.counts; lanes = lanes_after; parts = parts_after }
+
+  pub round_broken : NotesRoundFront last batch a c
+  round_broken = record {
+    lows = read.lows;
+    count = read.count;
+    lanes = record {
+      each = λ s l. front_all (a.lane_notes s) (lane_round batch (low_at read.lows s) (counted_mark last read.lows)) (c.lane_notes s) (lanes_after.each s l);
+    };
+    parts = parts_after;
+  }

@@ -11,6 +11,7 @@ pub mod Rounds
 pub mod Handed
 pub mod Fitting
 pub mod RoundNotes
+pub mod Reading
 pub mod Snaps
 pub mod Saving
 pub mod RunNotes

@@ -171,15 +171,6 @@ pub record PartsGrowInRounds (rounds : ℕ) (old new : Known) : Type 0 where
   pub each : (p : ℕ) → p < old.parts → GrewInRounds others_in rounds (old.part_notes p) (new.part_notes p)
 
 -- ---- a round
--- what lies below a mark was taken and played
-pub record NotesAdvance (mark : Mark) (old new : Known) : Type 0 where
-  pub lanes : LanesGrow (λ s. note.Took mark ∷ []) old new
-  pub parts : PlaysParts 3 old new
-
-pub record NotesAdvanceFront (mark : Mark) (old new : Known) : Type 0 where
-  pub lanes : LanesGrowFront (λ s. note.Took mark ∷ []) old new
-  pub parts : PlaysParts 3 old new
-
 -- a round with these lows: each lane was fed and looked at, and where the least low is greater than the last mark it was taken from up to that
 pub record NotesRound (last : Mark) (batch : ℕ) (old new : Known) (answer : Option Mark) : Type 0 where
   pub lows : List Mark

@@ -1,23 +1,25 @@
-//! A round of the conductor: the lanes are fed and looked at, and where the least low is greater than the last mark, what lies
-//! below it is taken and played, and what is found is given to the book.
-ghost use Rattle.std.specs.Prelude.{◌≡◌, ◌≢◌, ◌≤◌, None, Err, false, true, IfErr, IfOk, OnErr, OnOk};
-ghost use Rattle.eql_laws.specs.Lateness.{IsAtMost};
+//! A round of the conductor: what is read of the lanes is played by the parts, and what they find is given to the book.
+ghost use Rattle.std.specs.Prelude.{◌≡◌, ◌≢◌, ◌≤◌, List, None, Err, false, true, IfErr, IfOk, OnErr, OnOk};
+ghost use Rattle.eql_values.specs.declared.found.Holder.{Holder};
 ghost use Rattle.eql_outside.specs.Outside.{Rose};
 ghost use Rattle.eql_outside.specs.Unfailing.{IsUnfailing};
 ghost use Rattle.eql_outside.specs.Written.{WroteFront};
 ghost use Rattle.eql_book.specs.Books.{let_out};
 ghost use Rattle.eql_book.specs.Listing.{listing};
+ghost use Rattle.eql_parts.specs.PartSteps.{CanDeliver, Rules};
 ghost use Rattle.eql_conductor.specs.declared.stop.Stop.TheVariants.{Write as SinkFailed};
-ghost use Rattle.eql_conductor.specs.Bounds.{AllGaveOut, RoundSpends};
+ghost use Rattle.eql_conductor.specs.Benches.{LanesRest, StaysSame};
+ghost use Rattle.eql_conductor.specs.Bounds.{RoundSpends};
 ghost use Rattle.eql_conductor.specs.Going.{LanesGo, Went};
-ghost use Rattle.eql_conductor.specs.LaneRounds.{IsSafe, LanesAreAt};
-ghost use Rattle.eql_conductor.specs.PartRounds.{AreSomehowAtRest};
-ghost use Rattle.eql_conductor.specs.RoundNotes.{NotesAdvanceFront, NotesAdvance, NotesRoundFront, NotesRound};
-ghost use Rattle.eql_conductor.specs.Rounds.{CountsAreInRange, Gave, RoundBreaks, GoesTo, RoundIs, RoundStops, StopsAt, StopsOut};
+ghost use Rattle.eql_conductor.specs.LaneRounds.{LanesAreAt};
+ghost use Rattle.eql_conductor.specs.PartRounds.{AreAtRest, AreSomehowAtRest};
+ghost use Rattle.eql_conductor.specs.RoundNotes.{NotesParts, NotesRoundFront, NotesRound, delivered_to};
+ghost use Rattle.eql_conductor.specs.Rounds.{CountsAreInRange, Gave, PlaysTo, RoundIs, RoundStops, StopsAt, StopsOut, found_by};
 
 use crate::bench::Bench;
-use crate::feeding::{feed_all, look_all};
-use crate::round::{play_parts, take_in_order};
+use crate::reading::TakenRound;
+use crate::round::play_parts;
+use crate::run::Conductor;
 use crate::stop::Stop;
 use eql_book::Book;
 use eql_outside::{OutRefused, Sink};
@@ -55,44 +57,46 @@ fn add_found<K: Sink>(
     }
 }
 
-// Takes what lies below a safe mark, has it played, and gives what is found to the book.
+// Has what a round took played, and gives what is found to the book.
 fn advance<B: Bench, K: Sink>(
     alloc: Global,
     bench: &mut B,
     book: &mut Book,
     sink: &mut K,
+    taken: &TakenRound,
     last: Mark,
-    mark: Mark,
     batch: u32,
 ) -> Result<(), Stop>
     requires batch { (1 ≤ batch) × (batch ≤ 4096) }
-    requires lanes { LanesAreAt None last (B.known bench.old) }
-    requires safe { IsSafe mark (B.known bench.old) }
-    requires later { IsAtMost last mark }
+    requires can { CanDeliver last taken.now.items taken.now.mark }
     requires some { AreSomehowAtRest last (B.known bench.old) }
     requires whole { book.old.whole ≡ true }
-    ensures round { OnOk result (GoesTo last mark (B.known bench.old) (B.known bench.new)
+    ensures played { (rules : Rules) (all : List Holder)
+        → AreAtRest rules all last (B.known bench.old)
+        → OnOk result (PlaysTo rules all taken.now.items taken.now.mark (B.known bench.new)
         book.old book.new (K.written sink.old) (K.written sink.new)) }
-    ensures broken { OnErr result (RoundBreaks last mark (B.known bench.old)
-        book.old book.new (K.written sink.old) (K.written sink.new)) }
-    ensures goes { LanesGo (B.known bench.old) (B.known bench.new) }
+    ensures kept { OnErr result (book.new.whole ≡ true → book.new ≡ book.old) }
+    ensures front { (rules : Rules) (all : List Holder)
+        → AreAtRest rules all last (B.known bench.old)
+        → OnErr result (WroteFront (listing book.old.places
+        (let_out book.old.pipes book.old.kept (found_by rules all taken.now.items)))
+        (K.written sink.old) (K.written sink.new)) }
+    ensures same { StaysSame (B.known bench.old) (B.known bench.new) }
+    ensures lanes { LanesRest (B.known bench.old) (B.known bench.new) }
     ensures went { OnOk result (Went (B.known bench.old) (B.known bench.new)) }
     ensures stops { IfErr result (λ stop. StopsAt stop (B.known bench.old) (B.known bench.new)) }
+    ensures notes { NotesParts (delivered_to taken.now.items) 3
+        (B.known bench.old) (B.known bench.new) }
     ensures silent { K.written sink.old ≡ None → K.written sink.new ≡ None }
     ensures cause { result ≡ Err SinkFailed
         → Rose (K.fault_count sink.old) (K.fault_count sink.new) }
     ensures steady { result ≢ Err SinkFailed
         → K.fault_count sink.new ≡ K.fault_count sink.old }
     ensures counts { K.fault_count sink.old ≤ K.fault_count sink.new }
-    ensures gave { OnOk result (AllGaveOut mark (B.known bench.old) (B.known bench.new)) }
-    ensures notes { OnOk result (NotesAdvance mark (B.known bench.old) (B.known bench.new)) }
-    ensures broken_notes { OnErr result (NotesAdvanceFront mark
-        (B.known bench.old) (B.known bench.new)) }
     ensures unfailing { IsUnfailing (K.fault_plan sink.old)
         → (result ≢ Err SinkFailed) × IsUnfailing (K.fault_plan sink.new) }
 {
-    let items = take_in_order(alloc, bench, last, mark)?;
-    let found = play_parts(alloc, bench, &items, last, mark, batch)?;
+    let found = play_parts(alloc, bench, &taken.items, last, taken.mark, batch)?;
     add_found(alloc, book, found, sink)
 }
 
@@ -131,11 +135,11 @@ pub(crate) fn play_round<B: Bench, K: Sink>(
     ensures unfailing { IsUnfailing (K.fault_plan sink.old)
         → (result ≢ Err SinkFailed) × IsUnfailing (K.fault_plan sink.new) }
 {
-    feed_all(bench, batch)?;
-    let mark = look_all(bench)?;
-    if mark <= last {
-        return Ok(None);
+    match Conductor::take_round(alloc, bench, last, batch)? {
+        None => Ok(None),
+        Some(taken) => {
+            advance(alloc, bench, book, sink, &taken, last, batch)?;
+            Ok(Some(taken.mark))
+        }
     }
-    advance(alloc, bench, book, sink, last, mark, batch)?;
-    Ok(Some(mark))
 }

@@ -11,6 +11,7 @@ mod laws;
 mod note;
 mod plan;
 mod playing;
+mod reading;
 mod round;
 mod routing;
 mod run;
@@ -28,5 +29,6 @@ pub use laws::{
 };
 pub use note::Note;
 pub use plan::{Keep, Run, RunPlan};
+pub use reading::TakenRound;
 pub use run::Conductor;
 pub use stop::Stop;
