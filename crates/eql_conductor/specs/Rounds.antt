@@ -1,5 +1,5 @@
 -- What a round of the conductor does.
-use Rattle.std.specs.Prelude.{◌≡◌, ◌⊎◌, ◌<◌, ℕ, ℤ, ◌≤ℤ◌, pos, true, List, Option, None, Some, length}
+use Rattle.std.specs.Prelude.{◌≡◌, ◌≢◌, ◌⊎◌, ◌<◌, ◌≤◌, ℕ, ℤ, ◌≤ℤ◌, pos, true, List, Option, None, Some, length, Result, Err}
 use Rattle.eql_values.specs.declared.item.Item.{Item}
 use Rattle.eql_values.specs.declared.found.Match.{Match}
 use Rattle.eql_values.specs.declared.found.Holder.{Holder}
@@ -9,7 +9,10 @@ use Rattle.eql_values.specs.Accepted.{Reads}
 use Rattle.eql_values.specs.Matching.{matches}
 use Rattle.eql_laws.specs.Belows.{IsMarkTime, between, greatest_slack}
 use Rattle.eql_laws.specs.Lateness.{IsAtMost}
+use Rattle.eql_outside.specs.Outside.{Rose}
+use Rattle.eql_outside.specs.Unfailing.{IsUnfailing}
 use Rattle.eql_outside.specs.Written.{WroteAll, WroteFront}
+use Rattle.eql_outside.specs.declared.sink.Sink as sinks
 use Rattle.eql_book.specs.Books.{BookState, book_after, let_out}
 use Rattle.eql_book.specs.Listing.{listing}
 use Rattle.eql_parts.specs.PartSteps.{Rules}
@@ -90,6 +93,15 @@ pub record RoundStops (last : Mark) (old : Known) (book then : BookState) (befor
 -- the conductor stops for want of memory, or by a fault of the sink
 abbrev pub StopsOut : Stop → Type 0
 StopsOut by = (by ≡ stop.Write) ⊎ (by ≡ stop.Memory)
+
+-- the count of a sink's faults rises where its fault is told, and nowhere else. A sink that doesn't tell goes on so, and one of which no write is
+-- planned to fail isn't told as failed, and stays such
+pub record TellsSink {A K : Type 0} (output : sinks.Ghosts K) (before now : K) (answer : Result A Stop) : Type 0 where
+  pub silent : output.written before ≡ None → output.written now ≡ None
+  pub cause : answer ≡ Err stop.Write → Rose (output.fault_count before) (output.fault_count now)
+  pub steady : answer ≢ Err stop.Write → output.fault_count now ≡ output.fault_count before
+  pub counts : output.fault_count before ≤ output.fault_count now
+  pub unfailing : IsUnfailing (output.fault_plan before) → (answer ≢ Err stop.Write) × IsUnfailing (output.fault_plan now)
 
 -- why a round stops: by a call of the bench, or by the book, where no call of the bench failed
 abbrev pub StopsAt : Stop → (old new : Known) → Type 0

@@ -1,5 +1,5 @@
 -- What a cut keeps of a bench and a book at a mark, and what putting it does to a disk.
-use Rattle.std.specs.Prelude.{◌≡◌, ◌≤◌, ℕ, ℤ, List, [], ◌∷◌, Option, IfSome, All, IsTrue, length, map}
+use Rattle.std.specs.Prelude.{◌≡◌, ◌≢◌, ◌≤◌, ℕ, ℤ, List, [], ◌∷◌, Option, IfSome, All, IsTrue, length, map, Result, Err}
 use Rattle.eql_values.specs.declared.cut.BookCut.{BookCut}
 use Rattle.eql_values.specs.declared.cut.LaneCut.{LaneCut}
 use Rattle.eql_values.specs.declared.found.Holder.{Holder}
@@ -13,6 +13,9 @@ use Rattle.eql_laws.specs.Books.{NumbersAscend, kept_of}
 use Rattle.eql_laws.specs.Lanes.{lanes_from}
 use Rattle.eql_laws.specs.Places.{ReadTo, ArePlaces, lows_from, whole}
 use Rattle.eql_outside.specs.Moments.{History, DiskTells}
+use Rattle.eql_outside.specs.Outside.{Rose}
+use Rattle.eql_outside.specs.Unfailing.{IsUnfailing}
+use Rattle.eql_outside.specs.declared.disk.Disk as disks
 use Rattle.eql_book.specs.Books.{BookState}
 use Rattle.eql_cut.specs.declared.cut.Cut.{Cut}
 use Rattle.eql_cut.specs.declared.cut.CutHead.{CutHead}
@@ -24,6 +27,8 @@ use Rattle.eql_ckdisk.specs.Cuts.{Holds}
 use Rattle.eql_ckdisk.specs.Putting.{Stands, last_cut}
 use Rattle.eql_ckdisk.specs.Runs.{PutsAll}
 use Rattle.eql_parts.specs.PartSteps.{Rules}
+use Rattle.eql_conductor.specs.declared.stop.Stop.{Stop}
+use Rattle.eql_conductor.specs.declared.stop.Stop.TheVariants as stop
 use Rattle.eql_conductor.specs.Benches.{Known}
 use Rattle.eql_conductor.specs.PartRounds.{AreAtRest, pending_after}
 use Rattle.eql_conductor.specs.Rounds.{BenchIsOfTexts}
@@ -80,3 +85,11 @@ pub record SavesNoCut (head : CutHead) (time : ℤ) (b : Known) (book : BookStat
   pub are_saved : All (IsSavedAt head time b book) cuts
   pub puts : PutsCuts (last_cut old) cuts before now
   pub state_is : last_cut new ≡ last_cut old
+
+-- the count of a disk's faults rises where its fault is told, and nowhere else. A disk of which no call is planned to fail isn't told as failed, and
+-- stays such
+pub record TellsDisk {A D : Type 0} (disk : disks.Ghosts D) (before now : D) (answer : Result A Stop) : Type 0 where
+  pub cause : answer ≡ Err stop.Disk → Rose (disk.fault_count before) (disk.fault_count now)
+  pub steady : answer ≢ Err stop.Disk → disk.fault_count now ≡ disk.fault_count before
+  pub counts : disk.fault_count before ≤ disk.fault_count now
+  pub unfailing : IsUnfailing (disk.fault_plan before) → (answer ≢ Err stop.Disk) × IsUnfailing (disk.fault_plan now)

@@ -1,20 +1,17 @@
 //! A round of the conductor: what is read of the lanes is played by the parts, and what they find is given to the book.
-ghost use Rattle.std.specs.Prelude.{◌≡◌, ◌≢◌, ◌≤◌, List, None, Err, false, true, IfErr, IfOk, OnErr, OnOk};
+ghost use Rattle.std.specs.Prelude.{◌≡◌, ◌≤◌, List, None, false, true, IfErr, IfOk, OnErr, OnOk};
 ghost use Rattle.eql_values.specs.declared.found.Holder.{Holder};
-ghost use Rattle.eql_outside.specs.Outside.{Rose};
-ghost use Rattle.eql_outside.specs.Unfailing.{IsUnfailing};
 ghost use Rattle.eql_outside.specs.Written.{WroteFront};
 ghost use Rattle.eql_book.specs.Books.{let_out};
 ghost use Rattle.eql_book.specs.Listing.{listing};
 ghost use Rattle.eql_parts.specs.PartSteps.{CanDeliver, Rules};
-ghost use Rattle.eql_conductor.specs.declared.stop.Stop.TheVariants.{Write as SinkFailed};
 ghost use Rattle.eql_conductor.specs.Benches.{LanesRest, StaysSame};
 ghost use Rattle.eql_conductor.specs.Bounds.{RoundSpends};
 ghost use Rattle.eql_conductor.specs.Going.{LanesGo, Went};
 ghost use Rattle.eql_conductor.specs.LaneRounds.{LanesAreAt};
 ghost use Rattle.eql_conductor.specs.PartRounds.{AreAtRest, AreSomehowAtRest};
 ghost use Rattle.eql_conductor.specs.RoundNotes.{NotesParts, NotesRoundFront, NotesRound, delivered_to};
-ghost use Rattle.eql_conductor.specs.Rounds.{CountsAreInRange, Gave, PlaysTo, RoundIs, RoundStops, StopsAt, StopsOut, found_by};
+ghost use Rattle.eql_conductor.specs.Rounds.{CountsAreInRange, Gave, PlaysTo, RoundIs, RoundStops, StopsAt, StopsOut, TellsSink, found_by};
 
 use crate::bench::Bench;
 use crate::reading::TakenRound;
@@ -41,14 +38,7 @@ fn add_found<K: Sink>(
         (listing book.old.places (let_out book.old.pipes book.old.kept found))
         (K.written sink.old) (K.written sink.new)) }
     ensures out { IfErr result StopsOut }
-    ensures silent { K.written sink.old ≡ None → K.written sink.new ≡ None }
-    ensures cause { result ≡ Err SinkFailed
-        → Rose (K.fault_count sink.old) (K.fault_count sink.new) }
-    ensures steady { result ≢ Err SinkFailed
-        → K.fault_count sink.new ≡ K.fault_count sink.old }
-    ensures counts { K.fault_count sink.old ≤ K.fault_count sink.new }
-    ensures unfailing { IsUnfailing (K.fault_plan sink.old)
-        → (result ≢ Err SinkFailed) × IsUnfailing (K.fault_plan sink.new) }
+    ensures faults { TellsSink K.Sink sink.old sink.new result }
 {
     match book.add(alloc, found, sink) {
         Ok(()) => Ok(()),
@@ -87,14 +77,7 @@ fn advance<B: Bench, K: Sink>(
     ensures stops { IfErr result (λ stop. StopsAt stop (B.known bench.old) (B.known bench.new)) }
     ensures notes { NotesParts (delivered_to taken.now.items) 3
         (B.known bench.old) (B.known bench.new) }
-    ensures silent { K.written sink.old ≡ None → K.written sink.new ≡ None }
-    ensures cause { result ≡ Err SinkFailed
-        → Rose (K.fault_count sink.old) (K.fault_count sink.new) }
-    ensures steady { result ≢ Err SinkFailed
-        → K.fault_count sink.new ≡ K.fault_count sink.old }
-    ensures counts { K.fault_count sink.old ≤ K.fault_count sink.new }
-    ensures unfailing { IsUnfailing (K.fault_plan sink.old)
-        → (result ≢ Err SinkFailed) × IsUnfailing (K.fault_plan sink.new) }
+    ensures faults { TellsSink K.Sink sink.old sink.new result }
 {
     let found = play_parts(alloc, bench, &taken.items, last, taken.mark, batch)?;
     add_found(alloc, book, found, sink)
@@ -121,19 +104,12 @@ pub(crate) fn play_round<B: Bench, K: Sink>(
     ensures goes { LanesGo (B.known bench.old) (B.known bench.new) }
     ensures went { OnOk result (Went (B.known bench.old) (B.known bench.new)) }
     ensures stops { IfErr result (λ stop. StopsAt stop (B.known bench.old) (B.known bench.new)) }
-    ensures silent { K.written sink.old ≡ None → K.written sink.new ≡ None }
-    ensures cause { result ≡ Err SinkFailed
-        → Rose (K.fault_count sink.old) (K.fault_count sink.new) }
-    ensures steady { result ≢ Err SinkFailed
-        → K.fault_count sink.new ≡ K.fault_count sink.old }
-    ensures counts { K.fault_count sink.old ≤ K.fault_count sink.new }
     ensures spends { IfOk result (RoundSpends last (B.known bench.old) (B.known bench.new)) }
     ensures in_range { IfOk result (CountsAreInRange last (B.known bench.old)) }
     ensures notes { IfOk result (NotesRound last batch (B.known bench.old) (B.known bench.new)) }
     ensures broken_notes { OnErr result (NotesRoundFront last batch
         (B.known bench.old) (B.known bench.new)) }
-    ensures unfailing { IsUnfailing (K.fault_plan sink.old)
-        → (result ≢ Err SinkFailed) × IsUnfailing (K.fault_plan sink.new) }
+    ensures faults { TellsSink K.Sink sink.old sink.new result }
 {
     match Conductor::take_round(alloc, bench, last, batch)? {
         None => Ok(None),

@@ -1,7 +1,6 @@
 //! A cut between two rounds, every so many of them.
 ghost use Rattle.std.specs.Prelude.{◌≡◌, ◌≢◌, ◌≤◌, ◌%◌, ◌↔◌, Some, Err, IfErr, IfSome, IsSomeAnd, IsTrue, OnOk};
 ghost use Rattle.eql_outside.specs.Outside.{Rose};
-ghost use Rattle.eql_outside.specs.Unfailing.{IsUnfailing};
 ghost use Rattle.eql_ckdisk.specs.Putting.{Stands, last_cut};
 ghost use Rattle.eql_conductor.specs.declared.stop.Stop.TheVariants.{Disk as DiskFailed};
 ghost use Rattle.eql_conductor.specs.Going.{LanesGo, Went};
@@ -9,7 +8,7 @@ ghost use Rattle.eql_conductor.specs.Rounds.{StopsSaving};
 ghost use Rattle.eql_conductor.specs.RunNotes.{cut_after};
 ghost use Rattle.eql_conductor.specs.Running.{CutGoes, CutStops, IsAtMark, KeepStands, time_in};
 ghost use Rattle.eql_conductor.specs.Runs.{IsKeptUnfailing, disk_faults};
-ghost use Rattle.eql_conductor.specs.Saving.{IsHeadOf};
+ghost use Rattle.eql_conductor.specs.Saving.{IsHeadOf, TellsDisk};
 
 use crate::bench::Bench;
 use crate::plan::{Keep, RunPlan};
@@ -52,13 +51,7 @@ fn keep_at<B: Bench, D: Disk>(
     ensures went { OnOk result (Went (B.known bench.old) (B.known bench.new)) }
     ensures stops { IfErr result (λ stop.
         StopsSaving stop (B.known bench.old) (B.known bench.new)) }
-    ensures cause { result ≡ Err DiskFailed
-        → Rose (D.fault_count keep.old.disk) (D.fault_count keep.new.disk) }
-    ensures steady { result ≢ Err DiskFailed
-        → D.fault_count keep.new.disk ≡ D.fault_count keep.old.disk }
-    ensures counts { D.fault_count keep.old.disk ≤ D.fault_count keep.new.disk }
-    ensures unfailing { IsUnfailing (D.fault_plan keep.old.disk)
-        → (result ≢ Err DiskFailed) × IsUnfailing (D.fault_plan keep.new.disk) }
+    ensures faults { TellsDisk D.Disk keep.old.disk keep.new.disk result }
 {
     match mark {
         Mark::At(time) => save(alloc, head, bench, book, keep, time),

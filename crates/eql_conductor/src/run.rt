@@ -1,13 +1,12 @@
 //! A run of the conductor: round after round, until all shards were read.
-ghost use Rattle.std.specs.Prelude.{◌≡◌, ◌≢◌, ◌≤◌, None, Err, false, true, IfErr, OnErr, OnOk};
-ghost use Rattle.eql_outside.specs.Outside.{Rose};
+ghost use Rattle.std.specs.Prelude.{◌≡◌, ◌≢◌, None, Err, false, true, IfErr, OnErr, OnOk};
 ghost use Rattle.eql_outside.specs.Unfailing.{IsUnfailing};
 ghost use Rattle.eql_outside.specs.Written.{WroteAll, WroteFront};
 ghost use Rattle.eql_book.specs.Books.{held_back};
 ghost use Rattle.eql_book.specs.Listing.{listing};
 ghost use Rattle.eql_conductor.specs.declared.stop.Stop.TheVariants.{Disk as DiskFailed, Write as SinkFailed};
 ghost use Rattle.eql_conductor.specs.Going.{LanesGo};
-ghost use Rattle.eql_conductor.specs.Rounds.{StopsOut};
+ghost use Rattle.eql_conductor.specs.Rounds.{StopsOut, TellsSink};
 ghost use Rattle.eql_conductor.specs.Records.{ConductorRan, Ran, run_of};
 ghost use Rattle.eql_conductor.specs.Running.{RanAll};
 ghost use Rattle.eql_conductor.specs.Runs.{EndsBy, IsKeptUnfailing, MayKeepIf, MayRun, disk_faults};
@@ -80,14 +79,7 @@ fn end_book<K: Sink>(alloc: Global, book: &mut Book, sink: &mut K) -> Result<(),
     ensures front { OnErr result (WroteFront (listing book.old.places (held_back book.old))
         (K.written sink.old) (K.written sink.new)) }
     ensures out { IfErr result StopsOut }
-    ensures silent { K.written sink.old ≡ None → K.written sink.new ≡ None }
-    ensures cause { result ≡ Err SinkFailed
-        → Rose (K.fault_count sink.old) (K.fault_count sink.new) }
-    ensures steady { result ≢ Err SinkFailed
-        → K.fault_count sink.new ≡ K.fault_count sink.old }
-    ensures counts { K.fault_count sink.old ≤ K.fault_count sink.new }
-    ensures unfailing { IsUnfailing (K.fault_plan sink.old)
-        → (result ≢ Err SinkFailed) × IsUnfailing (K.fault_plan sink.new) }
+    ensures faults { TellsSink K.Sink sink.old sink.new result }
 {
     match book.end(alloc, sink) {
         Ok(()) => Ok(()),

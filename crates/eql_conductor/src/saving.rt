@@ -1,9 +1,7 @@
 //! A cut of all lanes, parts and the book between two rounds, put on the disk.
-ghost use Rattle.std.specs.Prelude.{◌≡◌, ◌≢◌, ◌≤◌, ◌^◌, ◌∷◌, [], true, List, ℕ, Option, None, Err, IfErr, IfOk, IfSome, OnErr, OnOk};
+ghost use Rattle.std.specs.Prelude.{◌≡◌, ◌≢◌, ◌^◌, ◌∷◌, [], true, List, ℕ, Option, None, Err, IfErr, IfOk, IfSome, OnErr, OnOk};
 ghost use Rattle.eql_values.specs.declared.found.Holder.{Holder};
 ghost use Rattle.eql_values.specs.declared.order.Mark.TheVariants.{At as AtTime};
-ghost use Rattle.eql_outside.specs.Outside.{Rose};
-ghost use Rattle.eql_outside.specs.Unfailing.{IsUnfailing};
 ghost use Rattle.eql_parts.specs.PartSteps.{Rules};
 ghost use Rattle.eql_cut.specs.Domain.{IsCut};
 ghost use Rattle.eql_ckdisk.specs.Cuts.{Holds};
@@ -16,7 +14,7 @@ ghost use Rattle.eql_conductor.specs.LaneRounds.{LanesAreAt};
 ghost use Rattle.eql_conductor.specs.PartRounds.{AreAtRest, AreSomehowFull};
 ghost use Rattle.eql_conductor.specs.RunNotes.{NotesSaveFront, NotesSave};
 ghost use Rattle.eql_conductor.specs.Rounds.{StopsKeeping, StopsSaving};
-ghost use Rattle.eql_conductor.specs.Saving.{BookKeepsNumbers, IsHeadOf, IsSavedAt, SavesNoCut, PutsCuts, SavesCut};
+ghost use Rattle.eql_conductor.specs.Saving.{BookKeepsNumbers, IsHeadOf, IsSavedAt, SavesNoCut, PutsCuts, SavesCut, TellsDisk};
 
 use crate::bench::Bench;
 use crate::plan::Keep;
@@ -123,13 +121,7 @@ fn put_cut<D: Disk>(alloc: Global, keep: &mut Keep<D>, cut: &Cut) -> Result<(), 
     ensures stops { IfErr result StopsKeeping }
     ensures full { result ≡ Err Generation
         → (last_cut keep.new.state).generation ≡ 2 ^ 63 }
-    ensures cause { result ≡ Err DiskFailed
-        → Rose (D.fault_count keep.old.disk) (D.fault_count keep.new.disk) }
-    ensures steady { result ≢ Err DiskFailed
-        → D.fault_count keep.new.disk ≡ D.fault_count keep.old.disk }
-    ensures counts { D.fault_count keep.old.disk ≤ D.fault_count keep.new.disk }
-    ensures unfailing { IsUnfailing (D.fault_plan keep.old.disk)
-        → (result ≢ Err DiskFailed) × IsUnfailing (D.fault_plan keep.new.disk) }
+    ensures faults { TellsDisk D.Disk keep.old.disk keep.new.disk result }
 {
     puts_go_on();
     match put(alloc, &mut keep.disk, &mut keep.state, cut) {
@@ -176,13 +168,7 @@ pub(crate) fn save<B: Bench, D: Disk>(
         → (last_cut keep.new.state).generation ≡ 2 ^ 63 }
     ensures stands_yet { IfErr result (λ stop. (stop ≢ DiskFailed) → (stop ≢ OutOfMemory)
         → Stands (last_cut keep.new.state) (D.history keep.new.disk)) }
-    ensures cause { result ≡ Err DiskFailed
-        → Rose (D.fault_count keep.old.disk) (D.fault_count keep.new.disk) }
-    ensures steady { result ≢ Err DiskFailed
-        → D.fault_count keep.new.disk ≡ D.fault_count keep.old.disk }
-    ensures counts { D.fault_count keep.old.disk ≤ D.fault_count keep.new.disk }
-    ensures unfailing { IsUnfailing (D.fault_plan keep.old.disk)
-        → (result ≢ Err DiskFailed) × IsUnfailing (D.fault_plan keep.new.disk) }
+    ensures faults { TellsDisk D.Disk keep.old.disk keep.new.disk result }
 {
     let cut = take_cut(alloc, head, bench, book, time)?;
     put_cut(alloc, keep, &cut)

@@ -5,7 +5,7 @@ use Rattle.eql_outside.specs.Written.{WroteFront}
 use Rattle.eql_book.specs.Books.{let_out}
 use Rattle.eql_book.specs.Listing.{listing}
 use Rattle.eql_conductor.specs.Rounds.{Gave, StopsAt, StopsOut, found_by}
-use Rattle.eql_conductor.proofs.Broken.{is_spoilt, no_write, on_err, wrote_none}
+use Rattle.eql_conductor.proofs.Broken.{is_spoilt, on_err, sink_still, wrote_none}
 use Rattle.eql_conductor.proofs.advance.advance.Goals as goal
 
 pub returns-in_err-found-clause-kept : goal.returns-in_err-found-clause-kept
@@ -21,10 +21,11 @@ returns-in_err-found-clause-stops g c =
     let p = err_from_is_err_and c.from_residual.result c.from_residual.ensures.1 in
     rw (p.1, p.2) (inl c.in_err-found.ensures.stops)
 
-pub returns-in_err-found-clause-cause : goal.returns-in_err-found-clause-cause
-returns-in_err-found-clause-cause g c =
+pub returns-in_err-found-clause-faults : goal.returns-in_err-found-clause-faults
+returns-in_err-found-clause-faults g c =
     let p = err_from_is_err_and c.from_residual.result c.from_residual.ensures.1 in
-    rw (p.1, p.2) (λ e. absurd (no_write c.in_err-found.field-0.0 (g.B.Bench.known c.args.bench.now) (g.B.Bench.known c.play_parts.new.bench) c.in_err-found.ensures.stops e))
+    rw (p.1, p.2)
+    (sink_still g.K.Sink c.args.sink.now c.in_err-found.field-0.0 (g.B.Bench.known c.args.bench.now) (g.B.Bench.known c.play_parts.new.bench) c.in_err-found.ensures.stops)
 
 pub returns-clause-played : goal.returns-clause-played
 returns-clause-played g c =

@@ -1,9 +1,9 @@
-use Rattle.std.proofs.Common.{inl, Some}
+use Rattle.std.proofs.Common.{inl, None, Some}
 use Rattle.std.proofs.lemmas.Result.{err_from_is_err_and}
 use Rattle.eql_conductor.specs.Reading.{TakesBelow, TakesNone}
 use Rattle.eql_conductor.proofs.Onward.{lanes_go_on, rest_goes, went_on}
 use Rattle.eql_conductor.proofs.Stays.{some_stay}
-use Rattle.eql_conductor.proofs.Broken.{no_write, on_err, round_rests, stops_at_on, stops_before}
+use Rattle.eql_conductor.proofs.Broken.{on_err, round_rests, sink_goes, sink_passes, sink_still, sink_stops, stops_at_on, stops_before}
 use Rattle.eql_conductor.proofs.BoundsSpent.{round_stays}
 use Rattle.eql_conductor.proofs.FittingRounds.{can_fitting, notes_all}
 use Rattle.eql_conductor.proofs.NotedRounds.{reading_broken, round_broken, round_noted, round_passes}
@@ -19,10 +19,11 @@ returns-in_err-take_round-clause-stops g c =
     let p = err_from_is_err_and c.from_residual.result c.from_residual.ensures.1 in
     rw (p.1, p.2) (inl c.in_err-take_round.ensures.stops)
 
-pub returns-in_err-take_round-clause-cause : goal.returns-in_err-take_round-clause-cause
-returns-in_err-take_round-clause-cause g c =
+pub returns-in_err-take_round-clause-faults : goal.returns-in_err-take_round-clause-faults
+returns-in_err-take_round-clause-faults g c =
     let p = err_from_is_err_and c.from_residual.result c.from_residual.ensures.1 in
-    rw (p.1, p.2) (λ e. absurd (no_write c.in_err-take_round.field-0.0 (g.B.Bench.known c.args.bench.now) (g.B.Bench.known c.take_round.new.bench) c.in_err-take_round.ensures.stops e))
+    rw (p.1, p.2)
+    (sink_still g.K.Sink c.args.sink.now c.in_err-take_round.field-0.0 (g.B.Bench.known c.args.bench.now) (g.B.Bench.known c.take_round.new.bench) c.in_err-take_round.ensures.stops)
 
 pub returns-in_err-take_round-clause-broken_notes : goal.returns-in_err-take_round-clause-broken_notes
 returns-in_err-take_round-clause-broken_notes g c =
@@ -107,3 +108,14 @@ pub returns-in_ok-advance-in-Some-clause-notes : goal.returns-in_ok-advance-in-S
 returns-in_ok-advance-in-Some-clause-notes g c =
     let took : TakesBelow c.args.last c.args.batch (g.B.Bench.known c.args.bench.now) (g.B.Bench.known c.take_round.new.bench) c.in-Some.taken = rw c.in-Some.is at c.in_ok-take_round.ensures.round in
     round_noted c.args.last c.args.batch took.fitting.all (g.B.Bench.known c.args.bench.now) (g.B.Bench.known c.take_round.new.bench) (g.B.Bench.known c.advance.new.bench) (Some c.in-Some.taken.mark) c.take_round.ensures.goes.same took.fitting.handed took.reads.notes c.advance.ensures.lanes (notes_all c.in-Some.taken.items took.fitting.all took.fitting.items_are (g.B.Bench.known c.take_round.new.bench) (g.B.Bench.known c.advance.new.bench) c.advance.ensures.notes)
+
+pub returns-in-None-clause-faults : goal.returns-in-None-clause-faults
+returns-in-None-clause-faults g c = sink_passes g.K.Sink c.args.sink.now None
+
+pub returns-in_err-advance-in-Some-clause-faults : goal.returns-in_err-advance-in-Some-clause-faults
+returns-in_err-advance-in-Some-clause-faults g c =
+    let p = err_from_is_err_and c.from_residual-in_err-advance-in-Some.result c.from_residual-in_err-advance-in-Some.ensures.1 in
+    rw (p.1, p.2) (sink_stops g.K.Sink c.args.sink.now c.advance.new.sink c.in_err-advance-in-Some.field-0.0 c.in_err-advance-in-Some.ensures.faults)
+
+pub returns-in_ok-advance-in-Some-clause-faults : goal.returns-in_ok-advance-in-Some-clause-faults
+returns-in_ok-advance-in-Some-clause-faults g c = sink_goes g.K.Sink c.args.sink.now c.advance.new.sink tt (Some c.in-Some.taken.mark) c.in_ok-advance-in-Some.ensures.faults

@@ -2,6 +2,7 @@ use Rattle.std.proofs.Common.{Some, rules}
 use Rattle.std.proofs.lemmas.Int.{to_z-of_z}
 use Rattle.std.specs.Int.{w128}
 use Rattle.eql_conductor.specs.Running.{time_in}
+use Rattle.eql_conductor.proofs.Broken.{disk_passes}
 use Rattle.eql_conductor.proofs.DueCuts.{no_time}
 use Rattle.eql_conductor.proofs.Ending.{none_goes, saved_goes, saved_stops}
 use Rattle.eql_conductor.proofs.keeping.keep_at.Goals as goal
@@ -24,3 +25,6 @@ returns-in-At-clause-stopped g c =
 pub returns-in-Start-clause-goes_on : goal.returns-in-Start-clause-goes_on
 returns-in-Start-clause-goes_on g c =
     none_goes g.D.Disk.history g.D.Disk.fault_count c.args.head.now c.args.mark (time_in c.args.mark) (g.B.Bench.known c.args.bench.now) c.args.book.now (Some c.args.keep.now) (no_time c.args.mark c.in-Start.is)
+
+pub returns-in-Start-clause-faults : goal.returns-in-Start-clause-faults
+returns-in-Start-clause-faults g c = disk_passes g.D.Disk c.args.keep.now.disk tt

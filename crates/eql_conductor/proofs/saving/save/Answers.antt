@@ -1,6 +1,6 @@
-use Rattle.std.proofs.lemmas.Result.{on_ok_weaker}
+use Rattle.std.proofs.lemmas.Result.{err_from_is_err_and, on_ok_weaker}
 use Rattle.eql_values.specs.declared.order.Mark.TheVariants.{At}
-use Rattle.eql_conductor.proofs.Broken.{on_err}
+use Rattle.eql_conductor.proofs.Broken.{disk_still, on_err}
 use Rattle.eql_conductor.proofs.NotedCuts.{save_breaks}
 use Rattle.eql_conductor.proofs.Onward.{rest_goes}
 use Rattle.eql_conductor.proofs.Stays.{lanes_stay, parts_stay}
@@ -29,3 +29,8 @@ returns-clause-goes g c =
 pub returns-clause-broken_notes : goal.returns-clause-broken_notes
 returns-clause-broken_notes g c =
     on_err c.put_cut.result (save_breaks (g.B.Bench.known c.args.bench.now) (g.B.Bench.known c.take_cut.new.bench) c.in_ok-cut.ensures.notes)
+
+pub returns-in_err-cut-clause-faults : goal.returns-in_err-cut-clause-faults
+returns-in_err-cut-clause-faults g c =
+    let p = err_from_is_err_and c.from_residual.result c.from_residual.ensures.1 in
+    rw (p.1, p.2) (disk_still g.D.Disk c.args.keep.now.disk c.in_err-cut.field-0.0 (g.B.Bench.known c.args.bench.now) (g.B.Bench.known c.take_cut.new.bench) c.in_err-cut.ensures.stops)

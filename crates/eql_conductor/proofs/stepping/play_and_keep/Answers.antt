@@ -28,7 +28,7 @@ returns-in_err-play_round-clause-cause g c =
     rw (p.1, p.2)
     (round_ends (g.B.Bench.known c.args.bench.now) (g.B.Bench.known c.play_round.new.bench) (g.K.Sink.fault_count c.args.sink.now) (g.K.Sink.fault_count c.play_round.new.sink) disk disk
     by c.in_err-play_round.ensures.stops
-    (λ e. c.in_err-play_round.ensures.cause (ap Err e)) (λ apart. c.in_err-play_round.ensures.steady (λ e. apart (err_is by Write e))) c.play_round.ensures.counts refl)
+    (λ e. c.in_err-play_round.ensures.faults.cause (ap Err e)) (λ apart. c.in_err-play_round.ensures.faults.steady (λ e. apart (err_is by Write e))) c.in_err-play_round.ensures.faults.counts refl)
 
 pub returns-in_err-play_round-clause-unfailing_disk : goal.returns-in_err-play_round-clause-unfailing_disk
 returns-in_err-play_round-clause-unfailing_disk g c =
@@ -72,7 +72,7 @@ returns-in_err-keep_cut-in-Some-clause-cause g c =
     let disk_now = disk_faults g.D.Disk.history g.D.Disk.fault_count c.keep_cut.new.keep in
     rw (p.1, p.2)
     (stops_for_on (g.B.Bench.known c.args.bench.now) (g.B.Bench.known c.play_round.new.bench) (g.B.Bench.known c.keep_cut.new.bench) sink_before sink_now sink_now disk_before disk_before disk_now
-    c.play_round.ensures.goes c.in_ok-play_round.ensures.went (c.in_ok-play_round.ensures.steady (λ e. cc)) refl by
+    c.play_round.ensures.goes c.in_ok-play_round.ensures.went (c.in_ok-play_round.ensures.faults.steady (λ e. cc)) refl by
     (cut_ends (g.B.Bench.known c.play_round.new.bench) (g.B.Bench.known c.keep_cut.new.bench) sink_now sink_now disk_before disk_now by c.in_err-keep_cut-in-Some.ensures.stops
     (λ e. c.in_err-keep_cut-in-Some.ensures.cause (ap Err e)) (λ apart. c.in_err-keep_cut-in-Some.ensures.steady (λ e. apart (err_is by Disk e))) c.keep_cut.ensures.counts refl))
 

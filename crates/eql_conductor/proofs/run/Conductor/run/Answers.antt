@@ -46,11 +46,11 @@ returns g c =
         cause = book_ends (g.B.Bench.known c.args.bench.now) (g.B.Bench.known c.play_rounds.new.bench)
             (g.K.Sink.fault_count c.args.sink.now) (g.K.Sink.fault_count c.play_rounds.new.sink) (g.K.Sink.fault_count c.end_book.new.sink)
             (disk_faults g.D.Disk.history g.D.Disk.fault_count c.args.keep.now) (disk_faults g.D.Disk.history g.D.Disk.fault_count c.play_rounds.new.keep)
-            c.in_ok-play_rounds.ensures.cause c.end_book.result c.end_book.ensures.out c.end_book.ensures.cause c.end_book.ensures.steady c.end_book.ensures.counts;
+            c.in_ok-play_rounds.ensures.cause c.end_book.result c.end_book.ensures.out c.end_book.ensures.faults.cause c.end_book.ensures.faults.steady c.end_book.ensures.faults.counts;
         goes = c.play_rounds.ensures.goes;
         follows = record {
-          silent = λ e. c.end_book.ensures.silent (c.play_rounds.ensures.silent e);
-          unfailing = λ u. c.end_book.ensures.unfailing (c.play_rounds.ensures.unfailing u).1;
+          silent = λ e. c.end_book.ensures.faults.silent (c.play_rounds.ensures.silent e);
+          unfailing = λ u. c.end_book.ensures.faults.unfailing (c.play_rounds.ensures.unfailing u).1;
           unfailing_disk = λ u. ((λ e. out_not_disk c.end_book.result c.end_book.ensures.out e), (c.play_rounds.ensures.unfailing_disk u).1);
         };
         plan_is = refl;
