@@ -35,14 +35,15 @@ use Rattle.eql_outside.specs.Written.{WroteFront}
 use Rattle.eql_outside.proofs.WrittenLemmas.{writes_on}
 use Rattle.eql_book.specs.Books.{BookState, book_after, held_back, kept_after, let_out}
 use Rattle.eql_book.specs.Listing.{listing, match_line}
-use Rattle.eql_book.specs.Laws.{BookIsKept, EndIsWhole, FreshIsOfNone}
+use Rattle.eql_book.specs.Laws.{BookIsKept, EndIsWhole, FreshIsOfNone, fresh_cut as fresh_book}
 use Rattle.eql_cut.specs.declared.cut.Cut.{Cut}
 use Rattle.eql_cut.specs.Domain.{kept_by}
 use Rattle.eql_parts.specs.PartSteps.{Rules, alive_by, mark_time}
+use Rattle.eql_conductor.specs.Openings.{IsCutOfTexts}
 use Rattle.eql_conductor.specs.PartRounds.{pending_after}
 use Rattle.eql_conductor.specs.Rounds.{found_by}
 use Rattle.eql_conductor.specs.Runs.{IsCutOf, lines_before_end, lines_by, whole_lines}
-use Rattle.eql_conductor.specs.RunLaws.{CutHavePlayed, FreshHavePlayed, FreshListsAll, HaveNumbers, HavePlayed, RunCutsAreOfTexts, RunCutsFit, RunsStopInLines, RunsWriteLines, WereGiven, found_below, lines_after, listed_by, rules_of}
+use Rattle.eql_conductor.specs.RunLaws.{HaveNumbers, HavePlayed, RunCutsAreOfTexts, RunCutsFit, RunsStopInLines, RunsWriteLines, WereGiven, found_below, lines_after, listed_by, rules_of}
 
 -- ---- what pipes let out from a book on
 module _ (book_is_kept : BookIsKept) (end_is_whole : EndIsWhole) (pipes : List Pipe) (found more : List Match) (few : length (found ++ more) < 2 ^ 64) where
@@ -189,7 +190,9 @@ none_below : (items : List Item) → filter (is_below Start) items ≡ []
 none_below [] = refl
 none_below (item ∷ items) = none_below items
 
-pub fresh_have_played : FreshIsOfNone → FreshHavePlayed
+-- a fresh book counts the matches below the start, which are none
+pub fresh_have_played : FreshIsOfNone → (rules : Rules) (reads : Reads) (slack : Option ℤ) (texts : List (List ℕ)) (book : BookState)
+    → book.kept ≡ fresh_book book.pipes → HavePlayed rules reads slack texts Start [] book
 fresh_have_played fresh_is_of_none rules reads slack texts book e =
     let none : below reads slack texts Start ≡ [] = ap sorted_items (none_below (accepted_from reads slack 0 texts)) in
     record {
@@ -197,11 +200,10 @@ fresh_have_played fresh_is_of_none rules reads slack texts book e =
       counted = e ∙ fresh_is_of_none book.pipes ∙ ap (λ (items : List Item). book_of book.pipes (matches rules.stages rules.span [] items)) (sym none);
     }
 
-pub fresh_lists_all : FreshListsAll
-fresh_lists_all rules reads slack texts book e =
-    ap (λ (k : BookCut). listing book.places (drop k.listed (listed_by rules reads slack texts book.pipes))) e
-
-pub cut_have_played : CutHavePlayed
+-- a cut of texts has what is pending then, and a book that begins with it counts the matches below its time
+pub cut_have_played : (run : Run) (reads : Reads) (texts : List (List ℕ)) (kept : Kept) (book : BookState)
+    → IsCutOfTexts run reads texts kept → book.pipes ≡ run.pipes → book.kept ≡ kept.book
+    → HavePlayed (rules_of run) reads (Some run.slack) texts (At kept.time) kept.holders book
 cut_have_played run reads texts kept book is pipes kept_is =
     let at : List (List ℕ) → Kept = λ ts. record {
       time = kept.time;

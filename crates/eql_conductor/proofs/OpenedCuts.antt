@@ -18,7 +18,7 @@ use Rattle.eql_values.specs.Marks.{is_below, is_safe, low_of}
 use Rattle.eql_laws.specs.Belows.{IsReading}
 use Rattle.eql_laws.specs.Books.{IsKeptMatch, StateFits, StateStands}
 use Rattle.eql_laws.specs.Cuts.{IsHeldBack, IsPending, held_back}
-use Rattle.eql_laws.specs.Fitting.{Kept, Run}
+use Rattle.eql_laws.specs.Fitting.{Fits, Kept, Run}
 use Rattle.eql_laws.specs.Lanes.{IsKeptBy, LaneFits, LanesFit, lane_at, lanes_from}
 use Rattle.eql_laws.specs.Lateness.{IsAtMost}
 use Rattle.eql_laws.specs.Places.{ArePlaces, IsPlace, ReadTo, lows_from, whole}
@@ -36,7 +36,7 @@ use Rattle.eql_conductor.specs.Bounds.{IsSized}
 use Rattle.eql_conductor.specs.LaneRounds.{text_at}
 use Rattle.eql_conductor.specs.PartRounds.{IsAtRest, AreAtRest}
 use Rattle.eql_conductor.specs.Saving.{BookKeepsNumbers, KeepsNumbers}
-use Rattle.eql_conductor.specs.Openings.{BeginsAt, CutRunsBegin, CutRunsHaveTexts, FitIsSafe, IsCutOfTexts, IsSafeCut, OpensFrom, PlacesMakeSafe, SuitsBench, TellsTexts}
+use Rattle.eql_conductor.specs.Openings.{BeginsAt, CutRunsBegin, CutRunsHaveTexts, IsCutOfTexts, IsSafeCut, OpensFrom, SuitsBench, TellsTexts}
 use Rattle.eql_conductor.specs.RunLaws.{RunCutsAreSafe}
 use Rattle.eql_conductor.proofs.BoundsOpenings.{fit_is_sized}
 use Rattle.eql_conductor.proofs.Opened.{begun_rests, lanes_begin, may_run_at, parts_begin, sized_begin}
@@ -149,16 +149,13 @@ all_safe : (slack t : ℤ) (shard : ℕ) (lanes : List LaneCut) → LanesFit sla
 all_safe slack t shard [] fits = refl
 all_safe slack t shard (lane ∷ lanes) fits = true_both _ _ (fit_low slack t shard lane fits.0) (all_safe slack t (shard + 1) lanes fits.1)
 
-pub fit_is_safe : FitIsSafe
+-- a cut that fits is safe
+pub fit_is_safe : (run : Run) (shards : ℕ) (kept : Kept) → Fits run shards kept → IsSafeCut (Some run.slack) kept
 fit_is_safe run shards kept fits = all_safe run.slack kept.time 0 kept.lanes fits.lanes
 
 same_lows : (reads : Reads) (slack : Option ℤ) (mark : Mark) (shard : ℕ) (shards : List ReadTo) → map (low_in slack) (lanes_from reads slack shard mark shards) ≡ lows_from reads slack shard shards
 same_lows reads slack mark shard [] = refl
 same_lows reads slack mark shard (r ∷ shards) = ap (λ (lows : List Mark). low_in slack (lane_at reads slack shard mark r) ∷ lows) (same_lows reads slack mark (shard + 1) shards)
-
-pub safe_by_places : PlacesMakeSafe
-safe_by_places run reads t shards safe =
-    subst (λ (lows : List Mark). IsTrue (is_safe (At t) lows)) (sym (same_lows reads (Some run.slack) (At t) 0 shards)) safe
 
 pub run_cuts_are_safe : RunCutsAreSafe
 run_cuts_are_safe run reads texts from all book cut of =

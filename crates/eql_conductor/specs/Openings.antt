@@ -8,7 +8,7 @@ use Rattle.eql_values.specs.Accepted.{Reads}
 use Rattle.eql_values.specs.Marks.{is_safe, low_of}
 use Rattle.eql_laws.specs.Alive.{HoldersAreInOrder}
 use Rattle.eql_laws.specs.Fitting.{Fits, Kept, Run, StandsInOrder, cut_of}
-use Rattle.eql_laws.specs.Places.{ArePlaces, ReadTo, lows_from, whole}
+use Rattle.eql_laws.specs.Places.{ArePlaces, ReadTo, whole}
 use Rattle.eql_laws.specs.Shapes.{HasStageBefore, IsFull}
 use Rattle.eql_lane.specs.Lanes.{LaneState, beginning_lane, fresh_cut as fresh_lane}
 use Rattle.eql_lane.specs.Starts.{MayBegin}
@@ -130,14 +130,6 @@ abbrev pub CutRunsHaveTexts : Known → Type 0
 CutRunsHaveTexts b = (lane : ℕ → LaneState) (part : ℕ → PartState) (rules : Rules) (run : Run) (reads : Reads) (texts : List (List ℕ)) (kept : Kept)
     → OpensFrom b lane part rules kept → IsCutOfTexts run reads texts kept → IsSafeCut (Some run.slack) kept → TellsTexts reads (Some run.slack) texts b
     → BenchIsOfTexts reads (Some run.slack) texts (At kept.time) b
-
--- a cut that fits is safe, and so is one of texts whose time is at most the low at each place
-abbrev pub FitIsSafe : Type 0
-FitIsSafe = (run : Run) (shards : ℕ) (kept : Kept) → Fits run shards kept → IsSafeCut (Some run.slack) kept
-
-abbrev pub PlacesMakeSafe : Type 0
-PlacesMakeSafe = (run : Run) (reads : Reads) (t : ℤ) (shards : List ReadTo) → IsTrue (is_safe (At t) (lows_from reads (Some run.slack) 0 shards))
-    → IsSafeCut (Some run.slack) (cut_of run reads t shards)
 
 -- ---- what lanes, parts and a book are made of
 -- pending sequences with which a part of so many stages may begin at a time

@@ -93,22 +93,6 @@ module _ (rules : Rules) (reads : Reads) (slack : Option ℤ) (texts : List (Lis
   ListsByAnswer from new book then before now cuts (Err by) = StopsListed from new book then before now cuts
 
 -- ---- how a run begins
--- a fresh book counts the matches below the start, which are none
-abbrev pub FreshHavePlayed : Type 0
-FreshHavePlayed = (rules : Rules) (reads : Reads) (slack : Option ℤ) (texts : List (List ℕ)) (book : BookState)
-    → book.kept ≡ fresh_book book.pipes → HavePlayed rules reads slack texts Start [] book
-
--- and after it come all lines
-abbrev pub FreshListsAll : Type 0
-FreshListsAll = (rules : Rules) (reads : Reads) (slack : Option ℤ) (texts : List (List ℕ)) (book : BookState)
-    → book.kept ≡ fresh_book book.pipes → lines_after rules reads slack texts book ≡ listing book.places (listed_by rules reads slack texts book.pipes)
-
--- a cut of texts has what is pending then, and a book that begins with it counts the matches below its time
-abbrev pub CutHavePlayed : Type 0
-CutHavePlayed = (run : Run) (reads : Reads) (texts : List (List ℕ)) (kept : Kept) (book : BookState)
-    → IsCutOfTexts run reads texts kept → book.pipes ≡ run.pipes → book.kept ≡ kept.book
-    → HavePlayed (rules_of run) reads (Some run.slack) texts (At kept.time) kept.holders book
-
 -- a bench that begins afresh, with a fresh book, begins a run over the texts of its lanes
 abbrev pub FreshRunsAreTold : Known → Type 0
 FreshRunsAreTold b = (lane : ℕ → LaneState) (part : ℕ → PartState) (rules : Rules) (reads : Reads) (slack : Option ℤ) (texts : List (List ℕ)) (book : BookState)

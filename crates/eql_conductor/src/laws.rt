@@ -3,8 +3,8 @@
 ghost use Rattle.eql_conductor.specs.Finding.{RoundsFind};
 ghost use Rattle.eql_conductor.specs.LaneCalls.{FeedKeepsLane, TakeMovesLane};
 ghost use Rattle.eql_conductor.specs.PartCalls.{CollectMovesPart, DeliverMovesPart, TurnKeepsPart};
-ghost use Rattle.eql_conductor.specs.Openings.{CutRunsBegin, CutRunsHaveTexts, FitIsSafe, FitMayBegin, FreshRunsBegin, PlacesMakeSafe};
-ghost use Rattle.eql_conductor.specs.RunLaws.{CutHavePlayed, CutRunsAreTold, FreshHavePlayed, FreshListsAll, FreshRunsAreTold, RunCutsAreOfTexts, RunCutsAreSafe, RunCutsFit, RunsStopInLines, RunsWriteLines};
+ghost use Rattle.eql_conductor.specs.Openings.{CutRunsBegin, CutRunsHaveTexts, FitMayBegin, FreshRunsBegin};
+ghost use Rattle.eql_conductor.specs.RunLaws.{CutRunsAreTold, FreshRunsAreTold, RunCutsAreOfTexts, RunCutsAreSafe, RunCutsFit, RunsStopInLines, RunsWriteLines};
 
 use crate::bench::Bench;
 use eql_book::listing_is_whole;
@@ -26,12 +26,6 @@ pub fn cuts_may_begin()
     ensures { FitMayBegin }
 {}
 
-/// The time of a cut that fits is safe, and so is one that is at most the low at each place.
-pub fn cut_times_are_safe()
-    ensures fitting { FitIsSafe }
-    ensures places { PlacesMakeSafe }
-{}
-
 /// Feeds keep what is known of a lane at a mark, and a take moves it to a greater mark.
 pub fn lanes_go_on()
     ensures feeds { FeedKeepsLane }
@@ -50,16 +44,6 @@ pub fn parts_go_on()
 pub fn rounds_find()
     ensures { RoundsFind }
 {}
-
-/// Where a run begins, all events below its mark were played: none where it begins afresh, and
-/// those below the time of the cut that it goes on from.
-pub fn runs_go_on()
-    ensures fresh { FreshHavePlayed }
-    ensures all { FreshListsAll }
-    ensures cut { CutHavePlayed }
-{
-    listing_is_whole();
-}
 
 /// Over lanes that tell their texts a run begins so that all events below its mark were played.
 pub fn told_runs_begin<B: Bench>(bench: &B)

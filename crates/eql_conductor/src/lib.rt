@@ -24,8 +24,8 @@ mod taking;
 
 pub use bench::{Bench, NotPlayed};
 pub use laws::{
-    cut_runs_begin, cut_times_are_safe, cuts_may_begin, fresh_runs_begin, lanes_go_on, parts_go_on,
-    rounds_find, run_cuts_are_of_texts, run_cuts_are_safe, runs_go_on, runs_list, told_runs_begin,
+    cut_runs_begin, cuts_may_begin, fresh_runs_begin, lanes_go_on, parts_go_on, rounds_find,
+    run_cuts_are_of_texts, run_cuts_are_safe, runs_list, told_runs_begin,
 };
 pub use note::Note;
 pub use plan::{Keep, Run, RunPlan};
