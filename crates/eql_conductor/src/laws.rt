@@ -7,7 +7,6 @@ ghost use Rattle.eql_conductor.specs.Openings.{CutRunsBegin, CutRunsHaveTexts, F
 ghost use Rattle.eql_conductor.specs.RunLaws.{CutRunsAreTold, FreshRunsAreTold, RunCutsAreOfTexts, RunCutsAreSafe, RunCutsFit, RunsStopInLines, RunsWriteLines};
 
 use crate::bench::Bench;
-use eql_book::listing_is_whole;
 
 /// A run may begin where all lanes and parts are fresh, whatever others fed and turned since.
 pub fn fresh_runs_begin<B: Bench>(bench: &B)
@@ -49,18 +48,14 @@ pub fn rounds_find()
 pub fn told_runs_begin<B: Bench>(bench: &B)
     ensures fresh { FreshRunsAreTold (B.known bench.now) }
     ensures cut { CutRunsAreTold (B.known bench.now) }
-{
-    listing_is_whole();
-}
+{}
 
 /// The lines of a run over told texts are those of the listing after the ones that its book counts.
 /// A run that stops writes a front of them, and its book was given the matches below its mark.
 pub fn runs_list()
     ensures whole { RunsWriteLines }
     ensures stopped { RunsStopInLines }
-{
-    listing_is_whole();
-}
+{}
 
 /// A cut that a run over told texts puts is the cut of these texts at places, so a run that goes on
 /// from it goes on with the same texts. Where these and the slack, 0 to 36,500 days, are those that a
@@ -68,9 +63,7 @@ pub fn runs_list()
 pub fn run_cuts_are_of_texts()
     ensures texts { RunCutsAreOfTexts }
     ensures fitting { RunCutsFit }
-{
-    listing_is_whole();
-}
+{}
 
 /// At the time of such a cut no further event of its lanes can come below it, so the lanes that begin
 /// with it have the texts.

@@ -15,7 +15,7 @@ use crate::bench::Bench;
 use crate::plan::{Keep, RunPlan};
 use crate::stepping::play_and_keep;
 use crate::stop::Stop;
-use eql_book::{Book, listing_is_whole};
+use eql_book::Book;
 use eql_outside::{Disk, OutRefused, Sink};
 use eql_values::Mark;
 use std::alloc::Global;
@@ -51,7 +51,6 @@ fn play_rounds<B: Bench, K: Sink, D: Disk>(
     ensures unfailing_disk { IsKeptUnfailing D.fault_plan keep.old
         → (result ≢ Err DiskFailed) × IsKeptUnfailing D.fault_plan keep.new }
 {
-    listing_is_whole();
     book.fits();
     // There are fewer lanes than 2^32, so that the rounds end long before the loop does.
     bench.lanes();
@@ -109,7 +108,6 @@ impl Conductor {
             sink.old sink.new (run_of plan.now book.old keep.old)
             (run_of plan.now book.new keep.new) result }
     {
-        listing_is_whole();
         play_rounds(alloc, plan, bench, book, sink, keep)?;
         end_book(alloc, book, sink)
     }

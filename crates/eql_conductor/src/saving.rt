@@ -22,7 +22,7 @@ use crate::snapping::{snap_lanes, snap_parts};
 use crate::standing::types_say;
 use crate::stop::Stop;
 use eql_book::Book;
-use eql_ckdisk::{CkRefused, put, puts_go_on};
+use eql_ckdisk::{CkRefused, put};
 use eql_cut::{Cut, CutHead};
 use eql_outside::Disk;
 use eql_values::{Holders, LaneCuts, Memory};
@@ -123,7 +123,6 @@ fn put_cut<D: Disk>(alloc: Global, keep: &mut Keep<D>, cut: &Cut) -> Result<(), 
         → (last_cut keep.new.state).generation ≡ 2 ^ 63 }
     ensures faults { TellsDisk D.Disk keep.old.disk keep.new.disk result }
 {
-    puts_go_on();
     match put(alloc, &mut keep.disk, &mut keep.state, cut) {
         Ok(()) => Ok(()),
         Err(CkRefused::DiskFault) => Err(Stop::Disk),

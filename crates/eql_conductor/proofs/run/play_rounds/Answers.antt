@@ -1,6 +1,7 @@
 use Rattle.std.proofs.Common.{◌+◌, None, Some, suc, add-one, arith, refl, ◌∙◌}
 use Rattle.std.proofs.lemmas.Result.{err_from_is_err_and}
 use Rattle.eql_values.specs.declared.order.Mark.TheVariants.{End}
+use Rattle.eql_book.proofs.Wholes.{book_is_kept, end_is_whole}
 use Rattle.eql_conductor.specs.Runs.{disk_faults}
 use Rattle.eql_conductor.proofs.Onward.{lanes_go_on, lanes_go_self, went_on, went_self}
 use Rattle.eql_conductor.proofs.Goings.{at_mark_goes}
@@ -47,7 +48,7 @@ returns-in_err-mark-clause-stopped g c =
     (ran_stops g.D.Disk.history g.D.Disk.fault_count c.args.plan.now (place c.loop-round.last c.loop-round.count) c.loop-round.round (g.B.Bench.known c.args.bench.now) (g.B.Bench.known c.loop-round.bench) (g.B.Bench.known c.play_and_keep.new.bench)
     c.args.book.now c.loop-round.book c.play_and_keep.new.book (g.K.Sink.written c.args.sink.now) (g.K.Sink.written c.loop-round.sink) (g.K.Sink.written c.play_and_keep.new.sink)
     c.args.keep.now c.loop-round.keep c.play_and_keep.new.keep c.loop-round.invariant.goes.same c.loop-round.invariant.before_end c.loop-round.invariant.ran
-    c.listing_is_whole.ensures.kept c.listing_is_whole.ensures.end c.loop-round.invariant.spent c.requires.may.sized c.loop-round.invariant.goes c.play_and_keep.ensures.goes c.in_err-mark.field-0.0 c.in_err-mark.ensures.stopped)
+    book_is_kept end_is_whole c.loop-round.invariant.spent c.requires.may.sized c.loop-round.invariant.goes c.play_and_keep.ensures.goes c.in_err-mark.field-0.0 c.in_err-mark.ensures.stopped)
 
 pub returns-in_err-mark-clause-cause : goal.returns-in_err-mark-clause-cause
 returns-in_err-mark-clause-cause g c =
