@@ -47,3 +47,5 @@ pub mod Ending
 pub mod Snapped
 pub mod Gathered
 pub mod Saved
+pub mod Lists
+pub mod GoingOn

@@ -22,3 +22,5 @@ pub mod RunLaws
 pub mod Records
 pub mod Running
 pub mod PartLists
+pub mod Lists
+pub mod GoingOn

@@ -31,23 +31,22 @@ use Rattle.eql_conductor.specs.declared.stop.Stop.{Stop}
 use Rattle.eql_conductor.specs.declared.stop.Stop.TheVariants as stop
 use Rattle.eql_conductor.specs.Benches.{ComesByFeeds, Known, NoFeedFailed}
 use Rattle.eql_conductor.specs.Going.{LanesGo, RunResult}
+use Rattle.eql_conductor.specs.GoingOn.{AreOfTexts, IsAtPlace, LaneGoesOn, LanesGoOn, LanesReadFurther, LanesReadOn, ReadsFurther}
+use Rattle.eql_conductor.specs.Lists.{known_in, set_in}
 use Rattle.eql_conductor.specs.Records.{ConductorRan}
 use Rattle.eql_conductor.specs.RunNotes.{round_count}
 use Rattle.eql_conductor.specs.Runs.{EndsBy, MayRun, disk_faults}
 use Rattle.eql_conductor.proofs.Causes.{err_is}
+use Rattle.eql_conductor.proofs.GoingOn.{further_self}
 use Rattle.eql_hub.specs.declared.step.HandFault.{HandFault}
 use Rattle.eql_hub.specs.declared.step.HandFault.TheVariants as fault
 use Rattle.eql_hub.specs.Hands.{HandView, HubView, LaneKnown, PartKnown}
 use Rattle.eql_hub.specs.Turns.{IsLaneTurn, IsPartTurn, is_open_lane, is_open_part}
-use Rattle.eql_replay.specs.Listed as listed
-use Rattle.eql_replay.specs.Listed.{bench_known}
-use Rattle.eql_replay.specs.Opened.{AreOfTexts, IsAtPlace, LaneGoesOn, LanesGoOn, LanesReadFurther, LanesReadOn, ReadsFurther}
-use Rattle.eql_replay.proofs.Further.{self}
 use Rattle.eql_lock_bench.specs.Benched.{IsBenchHand}
 use Rattle.eql_lock_bench.specs.Locked.{entry_failed, known_by, mine_in}
 use Rattle.eql_lock_bench.proofs.Closings.{Further, closes_from, fails_as_planned, none_fail, same_lane}
 use Rattle.eql_lock_bench.proofs.LaneRuns.{Stands, fed_all}
-use Rattle.eql_hub_run.specs.Beside.{HasHandCause, IsOwn, IsSameBench, RanBeside, TellsRead, bench_of, rank, stop_rank}
+use Rattle.eql_hub_run.specs.Beside.{HasHandCause, IsOwn, IsSameBench, RanBeside, TellsRead, rank, stop_rank}
 use Rattle.eql_hub_run.specs.Gathers.{GathersHands, HandsAre, IsEndOf, IsKept, IsLeastOf, IsUnplayedHand, LaneIsFine, PartIsFine, stop_of_fault}
 use Rattle.eql_hub_run.specs.Workers.{HoldsAtPlace, Has, HandDid, HasPlayed, IsFailure, IsLimit, IsNoRead, IsWhole, HandMeets, MeetsWorn, WorkerView}
 use Rattle.eql_hub_run.proofs.Moves.{fed_moves, rose_behind}
@@ -116,7 +115,7 @@ module _ {S L : Type 0} (source : sources.Ghosts S) (reader : readers.Ghosts L) 
   abbrev two : Known
   two = known_by left lent_as fault_plan read_of text last
 
-  same : IsSameBench (bench_known read_of text (bench_of olds parts)) one
+  same : IsSameBench (known_in read_of text olds parts) one
   same = begins left lent_as fault_plan read_of text split olds parts first unplayed
 
   lanes_end : AllEnd Turns is_open_lane (LaneIsFine Quiet) (length hands) olds last.lanes.views joined.lanes.views news
@@ -167,7 +166,7 @@ module _ {S L : Type 0} (source : sources.Ghosts S) (reader : readers.Ghosts L) 
 
     -- the setting by what is known of the bench
     set_is : one.set k ≡ set
-    set_is = same.set k ∙ ap (listed.set_in read_of (text k)) there
+    set_is = same.set k ∙ ap (set_in read_of (text k)) there
 
     inside : k < length olds
     inside = slice_get_within olds k old there
@@ -225,7 +224,7 @@ module _ {S L : Type 0} (source : sources.Ghosts S) (reader : readers.Ghosts L) 
           subst (λ (u : Setting). IsAtPlace u t at.new.state) (sym set_stays) now
 
       further : ReadsFurther t old.state at.new.state
-      further = run_further left lent_as fault_plan read_of (Some t) told_set t refl old.state at.ends.closes.log old at.new at.ends.legal told_stands (self told_set t refl old.state)
+      further = run_further left lent_as fault_plan read_of (Some t) told_set t refl old.state at.ends.closes.log old at.new at.ends.legal told_stands (further_self told_set t refl old.state)
 
   -- ---- all lanes
   at_new : (k : ℕ) (old new : LaneView S L) (there : slice_get olds k ≡ Some old) → slice_get news k ≡ Some new → (P : LaneView S L → Type 0) → P (at k old there).new → P new
@@ -455,7 +454,7 @@ module _ {S L : Type 0} (source : sources.Ghosts S) (reader : readers.Ghosts L) 
 
   -- ---- the whole run
   module _ {K D : Type 0} (output : sinks.Ghosts K) (disk : disks.Ghosts D) (sink sink' : K) (run run' : Run D) (ended answer : RunResult)
-      (may : MayRun run.plan (bench_known read_of text (bench_of olds parts)) run.book) (told : IsLeastOf ended workers answer)
+      (may : MayRun run.plan (known_in read_of text olds parts) run.book) (told : IsLeastOf ended workers answer)
       (ran : ConductorRan output disk one two sink sink' run run' ended) where
     abbrev goes : LanesGo one two
     goes = ran.goes
@@ -463,7 +462,7 @@ module _ {S L : Type 0} (source : sources.Ghosts S) (reader : readers.Ghosts L) 
     own_few : FewNotes two
     own_few =
         let starts = began_with read_of text olds parts one same in
-        few_notes one two (began read_of text olds parts one same) starts (may_run (bench_known read_of text (bench_of olds parts)) one same run.plan run.book may).sized
+        few_notes one two (began read_of text olds parts one same) starts (may_run (known_in read_of text olds parts) one same run.plan run.book may).sized
         (let a = same.lanes in omega (arith, a, few)) goes.same.lanes goes.same.parts
         (λ s l. goes.same.some_lane s l (began read_of text olds parts one same s, starts.was s l))
         (round_count run.plan _ one two ended ran.ran.notes) ran.ran.bound
@@ -471,7 +470,7 @@ module _ {S L : Type 0} (source : sources.Ghosts S) (reader : readers.Ghosts L) 
     shards_are : (s : ℕ) (old : LaneView S L) → slice_get olds s ≡ Some old → old.shard ≡ s
     shards_are s old there =
         let a = may.lanes.are.shard s (slice_get_within olds s old there) in
-        ap (λ (t : Setting). t.shard) (sym (ap (listed.set_in read_of (text s)) there)) ∙ a
+        ap (λ (t : Setting). t.shard) (sym (ap (set_in read_of (text s)) there)) ∙ a
 
     not_read : (TellsRead answer → ⊥) → (s : ℕ) → ended ≢ Err (stop.Read s)
     not_read quiet s e =
@@ -526,55 +525,54 @@ module _ {S L : Type 0} (source : sources.Ghosts S) (reader : readers.Ghosts L) 
       run = record {
         begins = same;
         ended = ended;
-        told = record {
-          least = told.least;
-          tie = λ e. sym (told.tie e);
-          own = λ own_one. elim told.from [
-            | inl e ↦ sym e
-            | inr has ↦ let h = by_hand has in absurd (h.so.not_own (subst IsOwn h.is_told own_one))
+        conductor = ran;
+        hands = record {
+          told = record {
+            least = told.least;
+            tie = λ e. sym (told.tie e);
+            own = λ own_one. elim told.from [
+              | inl e ↦ sym e
+              | inr has ↦ let h = by_hand has in absurd (h.so.not_own (subst IsOwn h.is_told own_one))
+            ];
+          };
+          lanes = λ s new e.
+              let o = old_of s new e in
+              let f = fed s o.0 o.1 in (
+                f.state,
+                f.was,
+                at_new s o.0 new o.1 e (λ (l : LaneView S L). ComesByFeeds (one.set s) f.state l.state)
+                    (subst (λ (u : Setting). ComesByFeeds u f.state (at s o.0 o.1).new.state) (sym (set_is s o.0 o.1)) f.fed),
+              );
+          hand_cause = elim told.from [
+            | inl e ↦ subst (HasHandCause read_of text olds news) (sym e) (conductor_cause own_few sink_before sink_now disk_before disk_now ended goes ran.cause)
+            | inr has ↦ let h = by_hand has in subst (HasHandCause read_of text olds news) (sym h.is_told) h.so.because
           ];
+          not_worn =
+              let not_ended = conductor_worn own_few sink_before sink_now disk_before disk_now ended ran.cause in (
+                not_ended,
+                elim told.from [
+                  | inl e ↦ λ f. not_ended (sym e ∙ f)
+                  | inr has ↦ λ f. let h = by_hand has in h.so.not_worn (err_is h.by stop.Worn (sym h.is_told ∙ f))
+                ],
+              );
+          planned = λ s old there u.
+              let not_ended = conductor_planned own_few sink_before sink_now disk_before disk_now ended ran.cause s old there u in (
+                not_ended,
+                elim told.from [
+                  | inl e ↦ λ f. not_ended (sym e ∙ f)
+                  | inr has ↦ λ f. let h = by_hand has in h.so.planned s old there u (err_is h.by (stop.Read s) (sym h.is_told ∙ f))
+                ],
+              );
+          on = lanes_on (TellsRead answer → ⊥) (λ quiet.
+              not_read_none ended one two sink_before sink_now disk_before disk_now (not_read quiet) ran.cause) calm;
+          texts = texts_stay;
+          read = read_on;
+          lines = lines_on;
+          follows = record {
+            silent = ran.follows.silent;
+            unfailing = λ u. let both = ran.follows.unfailing u in (told_no_write ended workers answer told both.0, both.1);
+            unfailing_disk = λ u. let both = ran.follows.unfailing_disk u in (told_no_disk ended workers answer told both.0, both.1);
+          };
         };
-        ran = ran.ran;
-        cause = ran.cause;
-        goes = goes;
-        lanes = λ s new e.
-            let o = old_of s new e in
-            let f = fed s o.0 o.1 in (
-              f.state,
-              f.was,
-              at_new s o.0 new o.1 e (λ (l : LaneView S L). ComesByFeeds (one.set s) f.state l.state)
-                  (subst (λ (u : Setting). ComesByFeeds u f.state (at s o.0 o.1).new.state) (sym (set_is s o.0 o.1)) f.fed),
-            );
-        hand_cause = elim told.from [
-          | inl e ↦ subst (HasHandCause read_of text olds news) (sym e) (conductor_cause own_few sink_before sink_now disk_before disk_now ended goes ran.cause)
-          | inr has ↦ let h = by_hand has in subst (HasHandCause read_of text olds news) (sym h.is_told) h.so.because
-        ];
-        not_worn =
-            let not_ended = conductor_worn own_few sink_before sink_now disk_before disk_now ended ran.cause in (
-              not_ended,
-              elim told.from [
-                | inl e ↦ λ f. not_ended (sym e ∙ f)
-                | inr has ↦ λ f. let h = by_hand has in h.so.not_worn (err_is h.by stop.Worn (sym h.is_told ∙ f))
-              ],
-            );
-        planned = λ s old there u.
-            let not_ended = conductor_planned own_few sink_before sink_now disk_before disk_now ended ran.cause s old there u in (
-              not_ended,
-              elim told.from [
-                | inl e ↦ λ f. not_ended (sym e ∙ f)
-                | inr has ↦ λ f. let h = by_hand has in h.so.planned s old there u (err_is h.by (stop.Read s) (sym h.is_told ∙ f))
-              ],
-            );
-        on = lanes_on (TellsRead answer → ⊥) (λ quiet.
-            not_read_none ended one two sink_before sink_now disk_before disk_now (not_read quiet) ran.cause) calm;
-        texts = texts_stay;
-        read = read_on;
-        lines = lines_on;
-        follows = record {
-          silent = ran.follows.silent;
-          unfailing = λ u. let both = ran.follows.unfailing u in (told_no_write ended workers answer told both.0, both.1);
-          unfailing_disk = λ u. let both = ran.follows.unfailing_disk u in (told_no_disk ended workers answer told both.0, both.1);
-        };
-        plan_is = ran.plan_is;
       };
     }

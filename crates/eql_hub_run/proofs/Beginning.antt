@@ -1,5 +1,5 @@
 -- What is known of the bench as a run begins, by the lanes and parts of which the hub was made.
-use Rattle.std.proofs.Common.{◌≡◌, ◌<◌, ℕ, zero, suc, List, [], ◌∷◌, map, Option, None, Some, length, refl, sym, ap, ◌∙◌, subst, arith}
+use Rattle.std.proofs.Common.{◌≡◌, ℕ, suc, List, [], ◌∷◌, map, Option, None, Some, refl, sym, ap, ◌∙◌, subst, arith}
 use Rattle.std.specs.Prelude.{get_or, slice_get}
 use Rattle.std.specs.List.{count_by}
 use Rattle.std.proofs.lemmas.Option.{slice_get-get_or, slice_get_within}
@@ -18,14 +18,14 @@ use Rattle.eql_turn_lock.specs.History.{IsLegal}
 use Rattle.eql_conductor.specs.declared.plan.Keep.{Keep}
 use Rattle.eql_conductor.specs.declared.plan.RunPlan.{RunPlan}
 use Rattle.eql_conductor.specs.Benches.{Known}
+use Rattle.eql_conductor.specs.Lists.{known_in, rules_in, set_in}
 use Rattle.eql_conductor.specs.Runs.{MayKeepIf, MayRun}
+use Rattle.eql_conductor.proofs.Lists.{there_or}
 use Rattle.eql_hub.specs.Hands.{HandView}
 use Rattle.eql_hub.specs.Turns.{IsLaneTurn, IsPartTurn}
-use Rattle.eql_replay.specs.Listed as listed
-use Rattle.eql_replay.specs.Listed.{bench_known}
-use Rattle.eql_lock_bench.specs.Locked.{MayBe, entry_failed, known_by, lane_state, noted_lane, noted_part, part_state, rules_in, set_in}
+use Rattle.eql_lock_bench.specs.Locked.{MayBe, entry_failed, known_by, lane_state, noted_lane, noted_part, part_state}
 use Rattle.eql_lock_bench.proofs.Beginnings.{AreFresh, fresh_count, fresh_mine, fresh_openings, fresh_state, fresh_worn}
-use Rattle.eql_hub_run.specs.Beside.{IsSameBench, bench_of}
+use Rattle.eql_hub_run.specs.Beside.{IsSameBench}
 use Rattle.eql_hub_run.specs.Gathers.{AreUnplayed, IsUnplayed, IsUnplayedHand}
 use Rattle.eql_hub_run.proofs.Worn.{BeganWith}
 
@@ -65,29 +65,21 @@ module _ {T O R : Type 0} where
       }
 
 -- ---- a bench that begins
-same_set : {S L : Type 0} (read_of : L → Reads) (text : Option (List ℕ)) (lane : Option (LaneView S L)) → set_in read_of text lane ≡ listed.set_in read_of text lane
-same_set read_of text None = refl
-same_set read_of text (Some lane) = refl
-
-same_rules : (part : Option PartView) → rules_in part ≡ listed.rules_in part
-same_rules None = refl
-same_rules (Some part) = refl
-
 abbrev pub state_in : {S L : Type 0} → Option (LaneView S L) → LaneState
 state_in None = beginning_lane fresh_cut 0
 state_in (Some lane) = lane.state
 
 module _ {S L : Type 0} (left lent_as : S → Option (List ℕ)) (fault_plan : S → Option FaultPlan) (read_of : L → Reads) (text : ℕ → Option (List ℕ))
     (made : ℕ) (olds : List (LaneView S L)) (parts : List PartView) (first : HandView S L) (are : IsUnplayedHand made olds parts first) where
-  pub begins : IsSameBench (bench_known read_of text (bench_of olds parts)) (known_by left lent_as fault_plan read_of text first)
+  pub begins : IsSameBench (known_in read_of text olds parts) (known_by left lent_as fault_plan read_of text first)
   begins =
       let lanes = unplayed_fresh made olds first.lanes.views are.lanes_are in
       let turned = unplayed_fresh made parts first.parts.views are.parts_are in
       record {
         lanes = fresh_count olds first.lanes.views lanes;
         parts = fresh_count parts first.parts.views turned;
-        set = λ s. ap (set_in read_of (text s)) (fresh_openings olds first.lanes.views lanes s) ∙ same_set read_of (text s) (slice_get olds s);
-        rules = λ p. ap rules_in (fresh_openings parts first.parts.views turned p) ∙ same_rules (slice_get parts p);
+        set = λ s. ap (set_in read_of (text s)) (fresh_openings olds first.lanes.views lanes s);
+        rules = λ p. ap rules_in (fresh_openings parts first.parts.views turned p);
         lane_to = λ s x has.
             subst (MayBe (IsLaneTurn left lent_as fault_plan read_of) lane_state first.lanes.views s) (sym has.state_is)
             (may_begin (IsLaneTurn left lent_as fault_plan read_of) lane_state made olds first.lanes.views are.lanes_are s has.lane has.there);
@@ -151,23 +143,15 @@ module _ (a b : Known) (same : IsSameBench a b) where
   )
 
 -- the state in which each lane began
-module _ {S L : Type 0} (read_of : L → Reads) (text : ℕ → Option (List ℕ)) (olds : List (LaneView S L)) (parts : List PartView) (b : Known) (same : IsSameBench (bench_known read_of text (bench_of olds parts)) b) where
+module _ {S L : Type 0} (read_of : L → Reads) (text : ℕ → Option (List ℕ)) (olds : List (LaneView S L)) (parts : List PartView) (b : Known) (same : IsSameBench (known_in read_of text olds parts) b) where
   abbrev pub began : ℕ → LaneState
   began s = state_in (slice_get olds s)
-
-  lane_at : (s : ℕ) → s < length olds → (lane : LaneView S L) × (slice_get olds s ≡ Some lane)
-  lane_at s l = there olds s l
-    where
-      there : (lanes : List (LaneView S L)) (k : ℕ) → k < length lanes → (lane : LaneView S L) × (slice_get lanes k ≡ Some lane)
-      there [] k h = absurd (omega (arith, h))
-      there (lane ∷ lanes) zero h = (lane, refl)
-      there (lane ∷ lanes) (suc k) h = there lanes k (omega (arith, h))
 
   pub began_with : BeganWith began b
   began_with = record {
     is = λ s l x has. let old = same.lane_from s x has in old.state_is ∙ sym (ap state_in old.there);
     was = λ s l.
-        let one = lane_at s (let d = same.lanes in omega (arith, d, l)) in
+        let one = there_or olds s (let d = same.lanes in omega (arith, d, l)) in
         same.lane_to s (began s) (record { lane = one.0; there = one.1; state_is = ap state_in one.1 });
     lane_notes = same.lane_notes;
     part_notes = same.part_notes;

@@ -22,12 +22,9 @@ use Rattle.eql_turn_lock.specs.declared.view.View.{View}
 use Rattle.eql_turn_lock.specs.Calls.{Closes}
 use Rattle.eql_turn_lock.specs.History.{IsLegal, calls_by}
 use Rattle.eql_turn_lock.specs.Passes.{IsEndedIn}
+use Rattle.eql_conductor.specs.GoingOn.{IsAtPlace, ReadsFurther}
+use Rattle.eql_conductor.proofs.GoingOn.{step_at, step_faults, step_further}
 use Rattle.eql_hub.specs.Turns.{IsLaneTurn}
-use Rattle.eql_replay.specs.Noting.{did_fail as noted_fail}
-use Rattle.eql_replay.specs.Opened.{IsAtPlace, ReadsFurther}
-use Rattle.eql_replay.proofs.Further.{step_further}
-use Rattle.eql_replay.proofs.Goings.{step_faults}
-use Rattle.eql_replay.proofs.Readings.{step_at}
 use Rattle.eql_lock_bench.specs.Locked.{did_fail, entry_failed}
 use Rattle.eql_lock_bench.proofs.Counted.{count_cons}
 use Rattle.eql_lock_bench.proofs.LaneRuns.{Stands, stands_on}
@@ -103,16 +100,8 @@ didnt (lane_reply.Low mark) none = refl
 didnt (lane_reply.Cut cut) none = refl
 didnt (lane_reply.Memory n) none = refl
 
-told_alike : (reply : LaneReply) → did_fail reply ≡ false → noted_fail reply ≡ false
-told_alike (lane_reply.Failed n) none = none
-told_alike (lane_reply.Fed n) none = refl
-told_alike (lane_reply.Held n) none = refl
-told_alike lane_reply.Closed none = refl
-told_alike (lane_reply.Limit of) none = refl
-told_alike (lane_reply.Taken items) none = refl
-told_alike (lane_reply.Low mark) none = refl
-told_alike (lane_reply.Cut cut) none = refl
-told_alike (lane_reply.Memory n) none = refl
+unfailed : (reply : LaneReply) → did_fail reply ≡ false → DidNotFail reply
+unfailed reply none n e = let failed : did_fail reply ≡ true = ap did_fail e in let both : false ≡ true = sym none ∙ failed in absurd cc
 
 -- where none of the closing pass's own entries failed, and none of those of the passes that were joined in, none failed at all
 pub all_calm : {T : Type 0} (step_of : T → LaneOp → LaneReply → T → Type 0) (is_open : LaneOp → Bool) (w : View T LaneOp LaneReply) (value : T) (closes : Closes step_of is_open w value)
@@ -159,7 +148,7 @@ module _ {S L : Type 0} (left lent_as : S → Option (List ℕ)) (fault_plan : S
     run_calm [] x y same is calm = ap (λ (z : LaneView S L). z.state.faults) (sym same)
     run_calm (e ∷ es) x y (after, turn, rest) is calm =
         run_calm es after y rest (next x e.op e.reply after turn is) (All-tail IsCalm e es calm)
-        ∙ step_faults set x.state e.op e.reply after.state (told_alike e.reply (All-head IsCalm e es calm)) (step_in x e.op e.reply after turn is)
+        ∙ step_faults set x.state e.op e.reply after.state (unfailed e.reply (All-head IsCalm e es calm)) (step_in x e.op e.reply after turn is)
 
     -- ---- an entry of a history
     -- it came at a state, and left another, from which the history went on

@@ -8,17 +8,16 @@ use Rattle.eql_conductor.specs.declared.plan.Run.{Run}
 use Rattle.eql_conductor.specs.declared.stop.Stop.TheVariants as stop
 use Rattle.eql_conductor.specs.Benches.{Known}
 use Rattle.eql_conductor.specs.Going.{RunResult}
+use Rattle.eql_conductor.specs.Lists.{PoolView, known_in}
 use Rattle.eql_conductor.specs.Runs.{MayKeepIf, MayRun}
 use Rattle.eql_conductor.proofs.Causes.{err_is}
 use Rattle.eql_hub.specs.declared.step.HandFault.{HandFault}
 use Rattle.eql_hub.specs.declared.step.HandFault.TheVariants as fault
 use Rattle.eql_hub.specs.Hands.{HandView, HubView, IsFirst}
-use Rattle.eql_replay.specs.Listed.{bench_known}
-use Rattle.eql_replay.specs.Pools.{PoolView}
 use Rattle.eql_lock_bench.specs.Benched.{AreOfTexts}
 use Rattle.eql_lock_bench.proofs.Beginnings.{fresh_texts}
 use Rattle.eql_lock_bench.specs.Locked.{known_by}
-use Rattle.eql_hub_run.specs.Beside.{IsSameBench, bench_of}
+use Rattle.eql_hub_run.specs.Beside.{IsSameBench}
 use Rattle.eql_hub_run.specs.Conducted.{MayConduct, opened}
 use Rattle.eql_hub_run.specs.Gathers.{IsLeastOf, stop_of_fault}
 use Rattle.eql_hub_run.specs.Workers.{WorkerView}
@@ -35,7 +34,7 @@ module _ {S L D : Type 0} (source : sources.Ghosts S) (reader : readers.Ghosts L
   seat = known_by source.left source.lent_as source.fault_plan reader.read_of text hand
 
   abbrev given : Known
-  given = bench_known reader.read_of text (bench_of pool.lanes pool.parts)
+  given = known_in reader.read_of text pool.lanes pool.parts
 
   same : IsSameBench given seat
   same = begins source.left source.lent_as source.fault_plan reader.read_of text (length workers) pool.lanes pool.parts hand may.unplayed

@@ -1,5 +1,5 @@
 -- What a run of the conductor over a hub does, with other hands beside it, by the lanes that it was given and those that it hands back.
-use Rattle.std.specs.Prelude.{◌≡◌, ◌≢◌, ◌≤◌, ◌<◌, ℕ, List, [], Option, Some, length, slice_get, Ok, Err}
+use Rattle.std.specs.Prelude.{◌≡◌, ◌≢◌, ◌≤◌, ◌<◌, ℕ, List, Option, Some, length, slice_get, Ok, Err}
 use Rattle.eql_outside.specs.Outside.{Rose}
 use Rattle.eql_outside.specs.Unfailing.{IsUnfailing}
 use Rattle.eql_outside.specs.declared.disk.Disk as disks
@@ -16,13 +16,12 @@ use Rattle.eql_conductor.specs.declared.plan.Run.{Run}
 use Rattle.eql_conductor.specs.declared.stop.Stop.{Stop}
 use Rattle.eql_conductor.specs.declared.stop.Stop.TheVariants as stop
 use Rattle.eql_conductor.specs.Benches.{ComesByFeeds, Known}
-use Rattle.eql_conductor.specs.Going.{LanesGo, RunResult}
-use Rattle.eql_conductor.specs.Records.{FollowsPlans, Ran}
-use Rattle.eql_conductor.specs.Runs.{EndsBy, disk_faults}
+use Rattle.eql_conductor.specs.Going.{RunResult}
+use Rattle.eql_conductor.specs.GoingOn.{AreOfTexts, LanesGoOn, LanesReadFurther, LanesReadOn}
+use Rattle.eql_conductor.specs.Lists.{known_in}
+use Rattle.eql_conductor.specs.Records.{ConductorRan, FollowsPlans}
 use Rattle.eql_hub.specs.Hands.{HandView}
 use Rattle.eql_lock_bench.specs.Locked.{known_by}
-use Rattle.eql_replay.specs.Listed.{bench_known, BenchView}
-use Rattle.eql_replay.specs.Opened.{AreOfTexts, LanesGoOn, LanesReadFurther, LanesReadOn}
 
 -- ---- which of several ends is told: the one with the least status
 -- the order of stops by their statuses: a file can't be read, the output can't be written, the disk fails, memory runs out, a limit is reached
@@ -71,10 +70,6 @@ pub record IsSameBench (a b : Known) : Type 0 where
   pub failed : (s : ℕ) → b.failed s ≡ a.failed s
   pub worn : b.worn ≡ a.worn
 
--- a bench of these lanes and parts, on which nothing was played
-abbrev pub bench_of : {S L : Type 0} → List (LaneView S L) → List PartView → BenchView S L
-bench_of lanes parts = record { pool = record { lanes = lanes; parts = parts }; calls = 0; notes = [] }
-
 -- ---- why an end is told
 -- a file is told as failed
 abbrev pub TellsRead : RunResult → Type 0
@@ -92,16 +87,10 @@ module _ {S L : Type 0} (read_of : L → Reads) (text : ℕ → Option (List ℕ
 -- ---- the run
 module _ {S L K D : Type 0} (source : sources.Ghosts S) (reader : readers.Ghosts L) (output : sinks.Ghosts K) (disk : disks.Ghosts D) (text : ℕ → Option (List ℕ))
     (olds news : List (LaneView S L)) (parts : List PartView) (sink sink' : K) where
-  -- by what was known of the bench first and last: the conductor ran over the lanes and parts, and ended so; hands fed lanes and turned parts
-  -- meanwhile; this is told, and these are the lanes then
-  pub record HubRan (first last : Known) (run run' : Run D) (answer : RunResult) : Type 0 where
-    pub begins : IsSameBench (bench_known reader.read_of text (bench_of olds parts)) first
-    pub ended : RunResult
+  -- hands fed lanes and turned parts beside a conductor that ended so, by what was known of the bench first and last: this is told, and these are the
+  -- lanes then
+  pub record HandsPlayed (first last : Known) (run run' : Run D) (ended answer : RunResult) : Type 0 where
     pub told : IsTold ended answer
-    pub ran : Ran disk.history disk.fault_count run.plan first last run.book run'.book (output.written sink) (output.written sink') run.keep run'.keep ended
-    pub cause : EndsBy ended first last (output.fault_count sink) (output.fault_count sink')
-        (disk_faults disk.history disk.fault_count run.keep) (disk_faults disk.history disk.fault_count run'.keep)
-    pub goes : LanesGo first last
     -- each lane comes by feeds of hands from a state that it might have at the conductor's end
     pub lanes : (s : ℕ) (new : LaneView S L) → slice_get news s ≡ Some new → (x : LaneState) × last.lane s x × ComesByFeeds (first.set s) x new.state
     pub hand_cause : HasHandCause reader.read_of text olds news answer
@@ -113,9 +102,15 @@ module _ {S L K D : Type 0} (source : sources.Ghosts S) (reader : readers.Ghosts
     pub texts : AreOfTexts source.left text news
     pub read : LanesReadOn reader.read_of text olds news
     pub lines : LanesReadFurther text olds news
-    -- the sink and the disk go on as they are planned, and the plan of the run is as it was
+    -- the sink and the disk go on as they are planned
     pub follows : FollowsPlans output disk sink sink' run run' answer
-    pub plan_is : run'.plan ≡ run.plan
+
+  -- the conductor ran over a bench of these lanes and parts, and hands played beside it
+  pub record HubRan (first last : Known) (run run' : Run D) (answer : RunResult) : Type 0 where
+    pub begins : IsSameBench (known_in reader.read_of text olds parts) first
+    pub ended : RunResult
+    pub conductor : ConductorRan output disk first last sink sink' run run' ended
+    pub hands : HandsPlayed first last run run' ended answer
 
   -- so it ran, by what the first hand knew as the bench took it and as the bench gave it back
   pub record RanBeside (before now : Run D) (answer : RunResult) : Type 0 where

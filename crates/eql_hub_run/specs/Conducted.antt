@@ -5,12 +5,10 @@ use Rattle.eql_outside.specs.declared.source.Source as sources
 use Rattle.eql_values.specs.declared.reader.LineReader as readers
 use Rattle.eql_turn_lock.specs.declared.view.View.{View}
 use Rattle.eql_conductor.specs.declared.plan.Run.{Run}
+use Rattle.eql_conductor.specs.GoingOn.{AreOfTexts}
+use Rattle.eql_conductor.specs.Lists.{PoolView, known_in}
 use Rattle.eql_conductor.specs.Runs.{MayKeepIf, MayRun}
 use Rattle.eql_hub.specs.Hands.{HandView, HubView, IsHandOf, Knows}
-use Rattle.eql_replay.specs.Listed.{bench_known}
-use Rattle.eql_replay.specs.Opened.{AreOfTexts}
-use Rattle.eql_replay.specs.Pools.{PoolView}
-use Rattle.eql_hub_run.specs.Beside.{bench_of}
 use Rattle.eql_hub_run.specs.Gathers.{IsUnplayedHand}
 use Rattle.eql_hub_run.specs.Workers.{MayStart, WorkerView}
 
@@ -37,5 +35,5 @@ pub record MayConduct {S L D : Type 0} (source : sources.Ghosts S) (reader : rea
   pub few : length (opened hand).lanes ≤ 256
   pub many : length workers ≤ 65536
   pub texts : AreOfTexts source.left text (opened hand).lanes
-  pub may : MayRun run.plan (bench_known reader.read_of text (bench_of (opened hand).lanes (opened hand).parts)) run.book
-  pub keeps : MayKeepIf disk.history disk.fault_count run.plan (bench_known reader.read_of text (bench_of (opened hand).lanes (opened hand).parts)) run.keep
+  pub may : MayRun run.plan (known_in reader.read_of text (opened hand).lanes (opened hand).parts) run.book
+  pub keeps : MayKeepIf disk.history disk.fault_count run.plan (known_in reader.read_of text (opened hand).lanes (opened hand).parts) run.keep

@@ -1,9 +1,9 @@
 //! The run.
 ghost use Rattle.std.specs.Prelude.{◌≡◌, ◌≤◌, IfNone, IfSome, length};
+ghost use Rattle.eql_conductor.specs.GoingOn.{AreOfTexts};
+ghost use Rattle.eql_conductor.specs.Lists.{known_in};
 ghost use Rattle.eql_conductor.specs.Runs.{MayKeepIf, MayRun};
-ghost use Rattle.eql_replay.specs.Listed.{bench_known};
-ghost use Rattle.eql_replay.specs.Opened.{AreOfTexts};
-ghost use Rattle.eql_hub_run.specs.Beside.{RanBeside, bench_of};
+ghost use Rattle.eql_hub_run.specs.Beside.{RanBeside};
 ghost use Rattle.eql_hub_run.specs.Conducted.{MayConduct, opened};
 
 use crate::conducting::play_beside;
@@ -95,10 +95,10 @@ pub fn run_hub<
     requires few { length lanes.items ≤ 256 }
     requires hands { hands ≤ 65536 }
     requires texts { AreOfTexts S.left T.text lanes.items }
-    requires may { MayRun run.old.plan
-        (bench_known L.read_of T.text (bench_of lanes.items parts.items)) run.old.book }
+    requires may { MayRun run.old.plan (known_in L.read_of T.text lanes.items parts.items)
+        run.old.book }
     requires keeps { MayKeepIf D.history D.fault_count run.old.plan
-        (bench_known L.read_of T.text (bench_of lanes.items parts.items)) run.old.keep }
+        (known_in L.read_of T.text lanes.items parts.items) run.old.keep }
     ensures ran { IfSome result.0 (RanBeside S.Source L.LineReader K.Sink D.Disk T.text
         lanes.items result.1.items parts.items sink.old sink.new run.old run.new) }
     ensures unplayed { IfNone result.0 ((result.1.items ≡ lanes.items)

@@ -1,7 +1,7 @@
 //! Further hands, split off the first one.
 ghost use Rattle.std.specs.Prelude.{◌≤◌, All, length};
+ghost use Rattle.eql_conductor.specs.Lists.{PoolView};
 ghost use Rattle.eql_hub.specs.Hands.{IsFirst, Knows};
-ghost use Rattle.eql_replay.specs.Pools.{PoolView};
 ghost use Rattle.eql_hub_run.specs.Gathers.{IsUnplayedHand};
 ghost use Rattle.eql_hub_run.specs.Workers.{IsWhole, MayStart};
 

@@ -14,10 +14,11 @@ use Rattle.eql_turn_lock.specs.declared.view.View.{View}
 use Rattle.eql_turn_lock.specs.History.{IsLegal}
 use Rattle.eql_turn_lock.specs.Passes.{first_view, split_view}
 use Rattle.eql_conductor.specs.Benches.{Known}
+use Rattle.eql_conductor.specs.Lists.{rules_in, set_in}
 use Rattle.eql_hub.specs.Hands.{HandView, LaneKnown}
 use Rattle.eql_hub.specs.Turns.{IsLaneTurn, IsPartTurn}
 use Rattle.eql_lock_bench.specs.Benched.{AreOfTexts}
-use Rattle.eql_lock_bench.specs.Locked.{MayBe, entry_failed, is_worn, known_by, lane_state, mine_in, noted_lane, noted_part, opening_in, part_state, rules_in, set_in, worn_in, worn_of}
+use Rattle.eql_lock_bench.specs.Locked.{MayBe, entry_failed, is_worn, known_by, lane_state, mine_in, noted_lane, noted_part, opening_in, part_state, worn_in, worn_of}
 
 -- a pass of a lock round this value has seen nothing, called nothing and met nothing
 pub record IsFresh {T O R : Type 0} (value : T) (view : View T O R) : Type 0 where

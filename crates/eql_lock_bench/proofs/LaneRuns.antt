@@ -26,11 +26,12 @@ use Rattle.eql_conductor.specs.declared.bench.NotPlayed.{NotPlayed}
 use Rattle.eql_conductor.specs.declared.bench.NotPlayed.TheVariants as not_played
 use Rattle.eql_conductor.specs.Benches.{FailsBy, ComesByFeeds, CallsLane, LeavesLane, LanePlays, LeavesPart, StaysSame, WasNotPlayed}
 use Rattle.eql_conductor.specs.Notes.{lane_note}
+use Rattle.eql_conductor.specs.Lists.{rules_in, set_in}
 use Rattle.eql_conductor.proofs.Resting.{fed_on, fed_once, fed_self, same_or, turned_self}
 use Rattle.eql_hub.specs.Hands.{HandView, LaneKnown}
 use Rattle.eql_hub.specs.Turns.{IsLaneTurn, IsPartTurn, is_open_lane}
 use Rattle.eql_lock_bench.specs.Benched.{AreOfTexts}
-use Rattle.eql_lock_bench.specs.Locked.{MayBe, did_fail, entry_failed, known_by, lane_state, mine_in, noted_lane, noted_part, opening_in, part_state, rules_in, set_in, told_of, worn_in, worn_of}
+use Rattle.eql_lock_bench.specs.Locked.{MayBe, did_fail, entry_failed, known_by, lane_state, mine_in, noted_lane, noted_part, opening_in, part_state, told_of, worn_in, worn_of}
 use Rattle.eql_lock_bench.proofs.Counted.{count_snoc, worn_in_rises, worn_in_stays, worn_rises, worn_stays}
 use Rattle.eql_lock_bench.proofs.Placed.{changed_count, changed_else, changed_here, is_after, may_back, may_seen, same_each, some_state}
 use Rattle.eql_lock_bench.proofs.Runs.{IsOpenTo, led, legal_keeps}

@@ -27,10 +27,11 @@ use Rattle.eql_conductor.specs.declared.bench.NotPlayed.{NotPlayed}
 use Rattle.eql_conductor.specs.declared.bench.NotPlayed.TheVariants as not_played
 use Rattle.eql_conductor.specs.Benches.{LeavesLane, CallsPart, LeavesPart, PartPlays, StaysSame, ComesByTurns, WasNotPlayed}
 use Rattle.eql_conductor.specs.Notes.{part_note}
+use Rattle.eql_conductor.specs.Lists.{rules_in, set_in}
 use Rattle.eql_conductor.proofs.Resting.{fed_self, same_or, turned_on, turned_once, turned_self}
 use Rattle.eql_hub.specs.Hands.{HandView, PartKnown}
 use Rattle.eql_hub.specs.Turns.{IsLaneTurn, IsPartTurn, is_open_part}
-use Rattle.eql_lock_bench.specs.Locked.{MayBe, entry_failed, known_by, lane_state, mine_in, noted_lane, noted_part, opening_in, part_state, rules_in, set_in, told_of, worn_in, worn_of}
+use Rattle.eql_lock_bench.specs.Locked.{MayBe, entry_failed, known_by, lane_state, mine_in, noted_lane, noted_part, opening_in, part_state, told_of, worn_in, worn_of}
 use Rattle.eql_lock_bench.proofs.Counted.{worn_in_rises, worn_in_stays, worn_rises, worn_stays}
 use Rattle.eql_lock_bench.proofs.Placed.{changed_count, changed_else, changed_here, is_after, may_back, may_seen, same_each, some_state}
 use Rattle.eql_lock_bench.proofs.Runs.{IsOpenTo, led, legal_keeps}

@@ -2,16 +2,15 @@
 use Rattle.std.specs.Prelude.{◌≡◌, ◌+◌, ◌^◌, ℕ, Bool, true, false, nat_le, List, [], Option, None, Some, Result, Ok, Err, length, map, slice_get}
 use Rattle.std.specs.List.{count_by, sum_by}
 use Rattle.eql_values.specs.Accepted.{Reads}
-use Rattle.eql_values.specs.declared.reader.LineGot.TheVariants as got
 use Rattle.eql_outside.specs.Plans.{FaultPlan}
 use Rattle.eql_lane.specs.declared.ops.LaneOp.{LaneOp}
 use Rattle.eql_lane.specs.declared.ops.LaneReply.{LaneReply}
 use Rattle.eql_lane.specs.declared.ops.LaneReply.TheVariants as lane_reply
-use Rattle.eql_lane.specs.Lanes.{LaneState, Setting}
-use Rattle.eql_lane.specs.Views.{LaneView, setting_of}
+use Rattle.eql_lane.specs.Lanes.{LaneState}
+use Rattle.eql_lane.specs.Views.{LaneView}
 use Rattle.eql_parts.specs.declared.ops.PartOp.{PartOp}
 use Rattle.eql_parts.specs.declared.ops.PartReply.{PartReply}
-use Rattle.eql_parts.specs.PartSteps.{PartState, PartView, Rules}
+use Rattle.eql_parts.specs.PartSteps.{PartState, PartView}
 use Rattle.eql_turn_lock.specs.declared.history.Entry.{Entry}
 use Rattle.eql_turn_lock.specs.declared.refused.NotNow.{NotNow}
 use Rattle.eql_turn_lock.specs.declared.refused.NotNow.TheVariants as not_now
@@ -24,6 +23,7 @@ use Rattle.eql_conductor.specs.declared.bench.NotPlayed.{NotPlayed}
 use Rattle.eql_conductor.specs.declared.bench.NotPlayed.TheVariants as not_played
 use Rattle.eql_conductor.specs.declared.note.Note.{Note}
 use Rattle.eql_conductor.specs.Benches.{Known}
+use Rattle.eql_conductor.specs.Lists.{rules_in, set_in}
 use Rattle.eql_conductor.specs.Notes.{lane_note, part_note}
 
 -- the value in a place may be in this state: what the pass has seen leads there from the value at `make`
@@ -44,15 +44,6 @@ opening_in (Some view) = view.opening
 abbrev pub mine_in : {T O R : Type 0} → Option (View T O R) → List (Entry O R)
 mine_in None = []
 mine_in (Some view) = view.mine
-
--- what no step changes of a lane, by its text, and of a part; and what stands for it where there is none
-abbrev pub set_in : {S L : Type 0} → (L → Reads) → Option (List ℕ) → Option (LaneView S L) → Setting
-set_in read_of text None = record { text = None; shard = 0; slack = None; reads = λ shard line bytes. got.Blank }
-set_in read_of text (Some lane) = setting_of read_of text lane
-
-abbrev pub rules_in : Option PartView → Rules
-rules_in None = record { stages = 0; span = None }
-rules_in (Some part) = part.rules
 
 -- the state of a lane, and of a part
 abbrev pub lane_state : {S L : Type 0} → LaneView S L → LaneState

@@ -14,13 +14,13 @@ use Rattle.eql_conductor.specs.LaneCalls.{LaneIsAt}
 use Rattle.eql_conductor.specs.LaneRounds.{LanesAreAt, text_at}
 use Rattle.eql_conductor.specs.PartRounds.{IsAtRest, AreAtRest}
 use Rattle.eql_conductor.specs.Rounds.{BenchIsOfTexts}
+use Rattle.eql_conductor.specs.Lists.{PoolView, rules_in, set_in}
+use Rattle.eql_conductor.proofs.Lists.{there_or}
 use Rattle.eql_replay.specs.declared.foreign.Foreign.{Foreign}
 use Rattle.eql_replay.specs.declared.noted.Noted.{Noted}
-use Rattle.eql_replay.specs.Listed.{known_of, rules_in, set_in}
+use Rattle.eql_replay.specs.Listed.{known_of}
 use Rattle.eql_replay.specs.Noting.{fails_in}
 use Rattle.eql_replay.specs.Opened.{FeedsElsewhere, IsQuiet, NoneFeeds}
-use Rattle.eql_replay.specs.Pools.{PoolView}
-use Rattle.eql_replay.proofs.Places.{there_or}
 
 -- a lane is of the shard of its place, is read as a reader reads, and is known at the mark
 pub record IsLaneAt {S L : Type 0} (read_of : L → Reads) (text told : Option (List ℕ)) (s : ℕ) (mark : Mark) (lane : LaneView S L) : Type 0 where

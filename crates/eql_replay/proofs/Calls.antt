@@ -13,14 +13,15 @@ use Rattle.eql_parts.specs.declared.ops.PartOp.{PartOp}
 use Rattle.eql_parts.specs.declared.ops.PartReply.{PartReply}
 use Rattle.eql_parts.specs.PartSteps.{IsPartStep, PartState, PartView, Rules}
 use Rattle.eql_conductor.specs.Benches.{CallsLane, LeavesLane, LanePlays, CallsPart, LeavesPart, PartPlays}
+use Rattle.eql_conductor.specs.GoingOn.{AreOfTexts}
+use Rattle.eql_conductor.specs.Lists.{HasLane, HasPart, PoolView, rules_in, set_in}
 use Rattle.eql_conductor.specs.Notes.{lane_note, part_note}
 use Rattle.eql_conductor.proofs.Resting.{fed_self, same_or, turned_self}
 use Rattle.eql_replay.specs.declared.noted.Noted.{Noted}
 use Rattle.eql_replay.specs.declared.noted.Noted.TheVariants.{OfLane, OfPart}
-use Rattle.eql_replay.specs.Listed.{HasLane, HasPart, known_of, rules_in, set_in}
+use Rattle.eql_replay.specs.Listed.{known_of}
 use Rattle.eql_replay.specs.Noting.{did_fail}
-use Rattle.eql_replay.specs.Opened.{AreOfTexts}
-use Rattle.eql_replay.specs.Pools.{PoolView, PlaysLaneAt, PlaysPartAt}
+use Rattle.eql_replay.specs.Pools.{PlaysLaneAt, PlaysPartAt}
 use Rattle.eql_replay.proofs.Places.{else_there, here}
 use Rattle.eql_replay.proofs.NoteLemmas.{fails_by, lane_not_noted, lane_noted, none_fails, other_fails, other_lane_noted, other_part_noted, part_not_noted, part_noted}
 

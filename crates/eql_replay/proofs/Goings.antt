@@ -1,81 +1,27 @@
 -- How lanes go on from their beginning.
-use Rattle.std.proofs.Common.{◌≡◌, inl, inr, ℕ, false, List, [], ◌∷◌, Option, None, Some, All, refl, sym, ap, ◌∙◌, subst}
+use Rattle.std.proofs.Common.{◌≡◌, inl, inr, ℕ, true, false, List, [], ◌∷◌, Option, None, Some, All, refl, sym, ap, ◌∙◌, subst}
 use Rattle.std.specs.Prelude.{slice_get}
 use Rattle.std.proofs.lemmas.List.Elements.{All-head, All-tail}
 use Rattle.eql_values.specs.Accepted.{Reads}
-use Rattle.eql_values.specs.declared.order.Mark.{Mark}
 use Rattle.eql_outside.specs.Plans.{FaultPlan}
 use Rattle.eql_lane.specs.declared.ops.LaneOp.{LaneOp}
 use Rattle.eql_lane.specs.declared.ops.LaneOp.TheVariants as op
 use Rattle.eql_lane.specs.declared.ops.LaneReply.{LaneReply}
 use Rattle.eql_lane.specs.declared.ops.LaneReply.TheVariants as reply
-use Rattle.eql_lane.specs.declared.ops.ShardLimit.TheVariants as limit
-use Rattle.eql_lane.specs.Lanes.{IsFeedStep, IsLaneStep, IsLookStep, IsSnapStep, IsTakeStep, LaneState, Setting}
 use Rattle.eql_lane.specs.Plays.{DidNotFail}
 use Rattle.eql_lane.specs.Views.{IsSameLane, LaneView, setting_of}
+use Rattle.eql_conductor.specs.GoingOn.{LaneGoesOn, LanesGoOn}
+use Rattle.eql_conductor.specs.Lists.{PoolView}
+use Rattle.eql_conductor.proofs.GoingOn.{step_faults}
 use Rattle.eql_conductor.proofs.Resting.{same_or}
 use Rattle.eql_replay.specs.declared.foreign.Foreign.{Foreign}
 use Rattle.eql_replay.specs.declared.foreign.Foreign.TheVariants.{Feed, Turn}
 use Rattle.eql_replay.specs.Noting.{did_fail}
-use Rattle.eql_replay.specs.Opened.{FeedsElsewhere, LaneGoesOn, LanesGoOn}
-use Rattle.eql_replay.specs.Pools.{ForeignsPlay, ForeignPlays, PlaysLaneAt, PoolView}
+use Rattle.eql_replay.specs.Opened.{FeedsElsewhere}
+use Rattle.eql_replay.specs.Pools.{ForeignsPlay, ForeignPlays, PlaysLaneAt}
 use Rattle.eql_replay.proofs.Calls.{is_after, lane_count, lane_else}
 
--- ---- only a feed that fails counts a fault
-same_faults : (x y : LaneState) → y ≡ x → y.faults ≡ x.faults
-same_faults x y e = ap (λ (z : LaneState). z.faults) e
-
-feed_faults : (set : Setting) (x : LaneState) (max : ℕ) (answer : LaneReply) (y : LaneState) → did_fail answer ≡ false → IsFeedStep set x max answer y → y.faults ≡ x.faults
-feed_faults set x max (reply.Fed n) y none step = step.faults
-feed_faults set x max (reply.Held k) y none step = same_faults x y step.2
-feed_faults set x max reply.Closed y none step = step.faults
-feed_faults set x max (reply.Failed n) y none step = absurd cc
-feed_faults set x max (reply.Limit (limit.Lines shard)) y none step = step.1.faults
-feed_faults set x max (reply.Limit (limit.Bytes shard)) y none step = step.1.faults
-feed_faults set x max (reply.Memory n) y none step = step.faults
-feed_faults set x max (reply.Taken items) y none step = absurd step
-feed_faults set x max (reply.Low mark) y none step = absurd step
-feed_faults set x max (reply.Cut cut) y none step = absurd step
-
-take_faults : (set : Setting) (x : LaneState) (mark : Mark) (answer : LaneReply) (y : LaneState) → IsTakeStep set x mark answer y → y.faults ≡ x.faults
-take_faults set x mark (reply.Taken items) y step = step.faults
-take_faults set x mark (reply.Memory n) y step = same_faults x y step.1
-take_faults set x mark (reply.Fed n) y step = absurd step
-take_faults set x mark (reply.Held k) y step = absurd step
-take_faults set x mark reply.Closed y step = absurd step
-take_faults set x mark (reply.Failed n) y step = absurd step
-take_faults set x mark (reply.Limit of) y step = absurd step
-take_faults set x mark (reply.Low m) y step = absurd step
-take_faults set x mark (reply.Cut cut) y step = absurd step
-
-look_faults : (set : Setting) (x : LaneState) (answer : LaneReply) (y : LaneState) → IsLookStep set x answer y → y.faults ≡ x.faults
-look_faults set x (reply.Low mark) y step = same_faults x y step.1
-look_faults set x (reply.Taken items) y step = absurd step
-look_faults set x (reply.Memory n) y step = absurd step
-look_faults set x (reply.Fed n) y step = absurd step
-look_faults set x (reply.Held k) y step = absurd step
-look_faults set x reply.Closed y step = absurd step
-look_faults set x (reply.Failed n) y step = absurd step
-look_faults set x (reply.Limit of) y step = absurd step
-look_faults set x (reply.Cut cut) y step = absurd step
-
-snap_faults : (x : LaneState) (answer : LaneReply) (y : LaneState) → IsSnapStep x answer y → y.faults ≡ x.faults
-snap_faults x (reply.Cut cut) y step = same_faults x y step.1
-snap_faults x (reply.Memory n) y step = same_faults x y step.1
-snap_faults x (reply.Low mark) y step = absurd step
-snap_faults x (reply.Taken items) y step = absurd step
-snap_faults x (reply.Fed n) y step = absurd step
-snap_faults x (reply.Held k) y step = absurd step
-snap_faults x reply.Closed y step = absurd step
-snap_faults x (reply.Failed n) y step = absurd step
-snap_faults x (reply.Limit of) y step = absurd step
-
-pub step_faults : (set : Setting) (x : LaneState) (o : LaneOp) (answer : LaneReply) (y : LaneState) → did_fail answer ≡ false → IsLaneStep set x o answer y → y.faults ≡ x.faults
-step_faults set x (op.Feed max) answer y none step = feed_faults set x max answer y none step
-step_faults set x (op.Take mark) answer y none step = take_faults set x mark answer y step
-step_faults set x op.Look answer y none step = look_faults set x answer y step
-step_faults set x op.Snap answer y none step = snap_faults x answer y step
-
+-- ---- whether an answer is a failure
 pub didnt : (answer : LaneReply) → DidNotFail answer → did_fail answer ≡ false
 didnt (reply.Failed n) h = absurd (h n refl)
 didnt (reply.Fed n) h = refl
@@ -87,6 +33,10 @@ didnt (reply.Low mark) h = refl
 didnt (reply.Cut cut) h = refl
 didnt (reply.Memory n) h = refl
 
+unfailed : (answer : LaneReply) → did_fail answer ≡ false → DidNotFail answer
+unfailed answer none n e = let failed : did_fail answer ≡ true = ap did_fail e in let both : false ≡ true = sym none ∙ failed in absurd cc
+
+-- ---- lanes
 module _ {S L : Type 0} (left lent_as : S → Option (List ℕ)) (fault_plan : S → Option FaultPlan) (read_of : L → Reads) where
   same_lane : (a b c : LaneView S L) → IsSameLane left lent_as read_of a b → IsSameLane left lent_as read_of b c → IsSameLane left lent_as read_of a c
   same_lane a b c h k = record {
@@ -113,7 +63,7 @@ module _ {S L : Type 0} (left lent_as : S → Option (List ℕ)) (fault_plan : S
 
   -- a lane played, and nothing failed while it was quiet
   module _ (s : ℕ) (o : LaneOp) (answer : LaneReply) (old new : List (LaneView S L)) (played : PlaysLaneAt left lent_as fault_plan read_of s o answer old new) where
-    stays_steady : did_fail answer ≡ false → played.after.state.faults ≡ played.before.state.faults
+    stays_steady : DidNotFail answer → played.after.state.faults ≡ played.before.state.faults
     stays_steady none =
         step_faults (setting_of read_of None played.before) played.before.state o answer played.after.state none (played.plays None tt).step
 
@@ -124,8 +74,8 @@ module _ {S L : Type 0} (left lent_as : S → Option (List ℕ)) (fault_plan : S
       unfailing = λ u.
           let was = on.unfailing u in
           let is = played.unfailing was.0 in
-          (is.1, stays_steady (didnt answer is.0) ∙ was.1);
-      steady = λ q. stays_steady (none q) ∙ on.steady (goes q);
+          (is.1, stays_steady is.0 ∙ was.1);
+      steady = λ q. stays_steady (unfailed answer (none q)) ∙ on.steady (goes q);
     }
 
     other_on : (quiet now : Type 0) (one lane : LaneView S L) → (now → quiet) → LaneGoesOn left lent_as fault_plan read_of quiet one lane → LaneGoesOn left lent_as fault_plan read_of now one lane

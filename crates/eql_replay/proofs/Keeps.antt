@@ -13,6 +13,8 @@ use Rattle.eql_parts.specs.declared.ops.PartOp.TheVariants as part_op
 use Rattle.eql_parts.specs.declared.ops.PartReply.{PartReply}
 use Rattle.eql_parts.specs.PartSteps.{PartView}
 use Rattle.eql_conductor.specs.declared.note.Note.{Note}
+use Rattle.eql_conductor.specs.GoingOn.{AreOfTexts, LanesGoOn, LanesReadFurther, LanesReadOn}
+use Rattle.eql_conductor.specs.Lists.{PoolView}
 use Rattle.eql_conductor.specs.Notes.{part_note}
 use Rattle.eql_conductor.proofs.Resting.{same_or}
 use Rattle.eql_replay.specs.declared.foreign.Foreign.{Foreign}
@@ -20,8 +22,8 @@ use Rattle.eql_replay.specs.declared.noted.Noted.{Noted}
 use Rattle.eql_replay.specs.declared.noted.Noted.TheVariants.{OfLane, OfPart}
 use Rattle.eql_replay.specs.Listed.{BenchView}
 use Rattle.eql_replay.specs.Noting.{asked_note, did_fail, fails_in, told_note}
-use Rattle.eql_replay.specs.Opened.{AreOfTexts, FeedsElsewhere, IsBench, IsQuiet, LanesGoOn, LanesReadFurther, LanesReadOn, list_at, list_in}
-use Rattle.eql_replay.specs.Pools.{ForeignsPlay, ForeignPlays, IsPlay, PlaysLaneAt, PlaysPartAt, PoolView}
+use Rattle.eql_replay.specs.Opened.{FeedsElsewhere, IsBench, IsQuiet, list_at, list_in}
+use Rattle.eql_replay.specs.Pools.{ForeignsPlay, ForeignPlays, IsPlay, PlaysLaneAt, PlaysPartAt}
 use Rattle.eql_replay.proofs.Calls.{lane_count, part_count, texts_stay}
 use Rattle.eql_replay.proofs.Goings.{didnt, all_on as all_go_on, lanes_begin, lanes_on, lanes_quieter}
 use Rattle.eql_replay.proofs.NoteLemmas.{didnt_fail, last_didnt, none_before, none_fails, other_fails}

@@ -18,13 +18,14 @@ use Rattle.eql_conductor.specs.declared.note.Note.{Note}
 use Rattle.eql_conductor.specs.Notes.{lane_note, part_note}
 use Rattle.eql_conductor.specs.declared.bench.NotPlayed.TheVariants as not_played
 use Rattle.eql_conductor.specs.Benches.{FailsBy, ComesByFeeds, Known, LanePlays, MayPlay, PartPlays, Rests, StaysSame, ComesByTurns, TurnsTimes, WasNotPlayed}
+use Rattle.eql_conductor.specs.GoingOn.{AreOfTexts}
+use Rattle.eql_conductor.specs.Lists.{PoolView, rules_in, set_in}
 use Rattle.eql_conductor.proofs.Resting.{fed_on, fed_once, is_lane, is_part, lane_rests, lanes_on, part_rests, parts_on, rests_on, rests_self, same_on, turned_on, turned_once}
 use Rattle.eql_replay.specs.declared.foreign.Foreign.{Foreign}
 use Rattle.eql_replay.specs.declared.foreign.Foreign.TheVariants.{Feed, Turn}
 use Rattle.eql_replay.specs.declared.noted.Noted.{Noted}
-use Rattle.eql_replay.specs.Listed.{known_of, rules_in, set_in}
-use Rattle.eql_replay.specs.Opened.{AreOfTexts}
-use Rattle.eql_replay.specs.Pools.{ForeignsPlay, ForeignPlays, PoolView}
+use Rattle.eql_replay.specs.Listed.{known_of}
+use Rattle.eql_replay.specs.Pools.{ForeignsPlay, ForeignPlays}
 use Rattle.eql_replay.proofs.Calls.{has_lane, has_part, lane_called, lane_count, lane_else, lane_stays, lanes_stay, part_called, part_count, part_else, part_stays, parts_stay, rules_stay, sets_stay, texts_stay}
 
 module _ {S L : Type 0} (left lent_as : S → Option (List ℕ)) (fault_plan : S → Option FaultPlan) (read_of : L → Reads) where

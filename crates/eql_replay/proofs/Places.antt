@@ -1,5 +1,5 @@
 -- What stands in a place of a list once one was set.
-use Rattle.std.proofs.Common.{◌≡◌, ◌≢◌, ℕ, zero, suc, ◌<◌, List, [], ◌∷◌, Some, length, refl, ap, arith}
+use Rattle.std.proofs.Common.{◌≡◌, ◌≢◌, ℕ, zero, suc, List, [], ◌∷◌, Some, refl, ap}
 use Rattle.std.specs.Prelude.{slice_get, slice_set}
 
 module _ {X : Type 0} where
@@ -14,8 +14,3 @@ module _ {X : Type 0} where
   else_there (z ∷ xs) zero (suc j) x apart = refl
   else_there (z ∷ xs) (suc k) zero x apart = refl
   else_there (z ∷ xs) (suc k) (suc j) x apart = else_there xs k j x (λ e. apart (ap suc e))
-
-  pub there_or : (xs : List X) (k : ℕ) → k < length xs → (x : X) × (slice_get xs k ≡ Some x)
-  there_or [] k h = absurd (omega (arith, h))
-  there_or (x ∷ xs) zero h = (x, refl)
-  there_or (x ∷ xs) (suc k) h = there_or xs k (omega (arith, h))

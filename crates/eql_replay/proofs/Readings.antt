@@ -2,71 +2,22 @@
 use Rattle.std.proofs.Common.{◌≡◌, inl, inr, ℕ, List, [], ◌∷◌, Option, Some, refl, sym, ◌∙◌, subst}
 use Rattle.std.specs.Prelude.{slice_get}
 use Rattle.eql_values.specs.Accepted.{Reads}
-use Rattle.eql_values.specs.declared.order.Mark.{Mark}
 use Rattle.eql_outside.specs.Plans.{FaultPlan}
 use Rattle.eql_lane.specs.declared.ops.LaneOp.{LaneOp}
 use Rattle.eql_lane.specs.declared.ops.LaneOp.TheVariants as op
 use Rattle.eql_lane.specs.declared.ops.LaneReply.{LaneReply}
-use Rattle.eql_lane.specs.declared.ops.LaneReply.TheVariants as reply
-use Rattle.eql_lane.specs.Lanes.{IsLaneStep, IsLookStep, IsSnapStep, IsTakeStep, LaneState, Setting, greater, lesser, low}
+use Rattle.eql_lane.specs.Lanes.{Setting}
 use Rattle.eql_lane.specs.Views.{LaneView, IsTextOf, setting_of}
-use Rattle.eql_lane.proofs.Keeping.{feed_keeps, take_keeps}
+use Rattle.eql_conductor.specs.GoingOn.{AreOfTexts, IsAtPlace, LanesReadOn}
+use Rattle.eql_conductor.specs.Lists.{PoolView}
+use Rattle.eql_conductor.proofs.GoingOn.{step_at}
 use Rattle.eql_conductor.proofs.Resting.{same_or}
 use Rattle.eql_replay.specs.declared.foreign.Foreign.{Foreign}
 use Rattle.eql_replay.specs.declared.foreign.Foreign.TheVariants.{Feed, Turn}
-use Rattle.eql_replay.specs.Opened.{AreOfTexts, IsAtPlace, LanesReadOn}
-use Rattle.eql_replay.specs.Pools.{ForeignsPlay, ForeignPlays, PlaysLaneAt, PoolView}
+use Rattle.eql_replay.specs.Pools.{ForeignsPlay, ForeignPlays, PlaysLaneAt}
 use Rattle.eql_replay.proofs.Calls.{is_after, lane_else, same_setting}
 use Rattle.eql_replay.proofs.Others.{foreign_texts}
 
--- ---- each step keeps it
-module _ (set : Setting) (t : List ℕ) where
-  stays_at : (x y : LaneState) → y ≡ x → IsAtPlace set t x → IsAtPlace set t y
-  stays_at x y e at = subst (IsAtPlace set t) (sym e) at
-
-  take_at : (x : LaneState) (mark : Mark) (answer : LaneReply) (y : LaneState) → IsTakeStep set x mark answer y → IsAtPlace set t x → IsAtPlace set t y
-  take_at x mark (reply.Taken items) y step at = record {
-    mark = greater at.mark (lesser mark (low set x));
-    is = (take_keeps set t at.mark mark x items y step at.is).is;
-  }
-  take_at x mark (reply.Memory n) y step at = stays_at x y step.1 at
-  take_at x mark (reply.Fed n) y step at = absurd step
-  take_at x mark (reply.Held k) y step at = absurd step
-  take_at x mark reply.Closed y step at = absurd step
-  take_at x mark (reply.Failed n) y step at = absurd step
-  take_at x mark (reply.Limit of) y step at = absurd step
-  take_at x mark (reply.Low m) y step at = absurd step
-  take_at x mark (reply.Cut cut) y step at = absurd step
-
-  look_at : (x : LaneState) (answer : LaneReply) (y : LaneState) → IsLookStep set x answer y → IsAtPlace set t x → IsAtPlace set t y
-  look_at x (reply.Low mark) y step at = stays_at x y step.1 at
-  look_at x (reply.Taken items) y step at = absurd step
-  look_at x (reply.Memory n) y step at = absurd step
-  look_at x (reply.Fed n) y step at = absurd step
-  look_at x (reply.Held k) y step at = absurd step
-  look_at x reply.Closed y step at = absurd step
-  look_at x (reply.Failed n) y step at = absurd step
-  look_at x (reply.Limit of) y step at = absurd step
-  look_at x (reply.Cut cut) y step at = absurd step
-
-  snap_at : (x : LaneState) (answer : LaneReply) (y : LaneState) → IsSnapStep x answer y → IsAtPlace set t x → IsAtPlace set t y
-  snap_at x (reply.Cut cut) y step at = stays_at x y step.1 at
-  snap_at x (reply.Memory n) y step at = stays_at x y step.1 at
-  snap_at x (reply.Low mark) y step at = absurd step
-  snap_at x (reply.Taken items) y step at = absurd step
-  snap_at x (reply.Fed n) y step at = absurd step
-  snap_at x (reply.Held k) y step at = absurd step
-  snap_at x reply.Closed y step at = absurd step
-  snap_at x (reply.Failed n) y step at = absurd step
-  snap_at x (reply.Limit of) y step at = absurd step
-
-  pub step_at : (x : LaneState) (o : LaneOp) (answer : LaneReply) (y : LaneState) → set.text ≡ Some t → IsLaneStep set x o answer y → IsAtPlace set t x → IsAtPlace set t y
-  step_at x (op.Feed max) answer y e step at = record { mark = at.mark; is = feed_keeps set t at.mark x max answer y e step at.is }
-  step_at x (op.Take mark) answer y e step at = take_at x mark answer y step at
-  step_at x op.Look answer y e step at = look_at x answer y step at
-  step_at x op.Snap answer y e step at = snap_at x answer y step at
-
--- ---- lanes
 module _ {S L : Type 0} (left lent_as : S → Option (List ℕ)) (fault_plan : S → Option FaultPlan) (read_of : L → Reads) (text : ℕ → Option (List ℕ)) where
   -- each lane goes on from itself
   pub read_self : (lanes : List (LaneView S L)) → LanesReadOn read_of text lanes lanes

@@ -1,4 +1,4 @@
--- Lanes and parts in lists, and what plays do to them.
+-- What plays do to lanes and parts in lists.
 use Rattle.std.specs.Prelude.{◌≡◌, ◌≤◌, ◌<◌, ℕ, List, [], ◌∷◌, Option, Some, slice_get, slice_set}
 use Rattle.eql_values.specs.Accepted.{Reads}
 use Rattle.eql_outside.specs.Plans.{FaultPlan}
@@ -12,13 +12,9 @@ use Rattle.eql_parts.specs.declared.ops.PartOp.{PartOp}
 use Rattle.eql_parts.specs.declared.ops.PartOp.TheVariants as part_op
 use Rattle.eql_parts.specs.declared.ops.PartReply.{PartReply}
 use Rattle.eql_parts.specs.PartSteps.{PartView, IsPartStep}
+use Rattle.eql_conductor.specs.Lists.{PoolView}
 use Rattle.eql_replay.specs.declared.foreign.Foreign.{Foreign}
 use Rattle.eql_replay.specs.declared.foreign.Foreign.TheVariants.{Feed, Turn}
-
--- lanes and parts, each in its place
-pub record PoolView (S L : Type 0) : Type 0 where
-  pub lanes : List (LaneView S L)
-  pub parts : List PartView
 
 -- the place is there, and as many may be read or played
 abbrev pub IsPlay : (lanes parts : ℕ) → Foreign → Type 0

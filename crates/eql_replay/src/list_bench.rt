@@ -2,8 +2,9 @@
 ghost use Rattle.std.specs.Prelude.{◌≡◌, ◌≤◌, ◌<◌, ◌^◌, ◌+◌, [], All, IfErr, IfOk, length, min};
 ghost use Rattle.eql_lane.specs.Lanes.{LaneAllows};
 ghost use Rattle.eql_conductor.specs.Benches.{LanePlays, MayPlay, PartPlays, WasNotPlayed};
+ghost use Rattle.eql_conductor.specs.GoingOn.{AreOfTexts, LanesGoOn, LanesReadFurther, LanesReadOn};
 ghost use Rattle.eql_replay.specs.Listed.{bench_known};
-ghost use Rattle.eql_replay.specs.Opened.{AreOfTexts, FailsAsPlanned, IsQuiet, IsLaneCall, LanesGoOn, LanesReadFurther, IsPartCall, LanesReadOn, list_at};
+ghost use Rattle.eql_replay.specs.Opened.{FailsAsPlanned, IsQuiet, IsLaneCall, IsPartCall, list_at};
 ghost use Rattle.eql_replay.specs.Pools.{ForeignsPlay, IsPlay};
 
 use crate::foreign::Foreigns;

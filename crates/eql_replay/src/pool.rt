@@ -22,7 +22,7 @@ pub(crate) struct Pool<S: Source, L: LineReader, G: Ledger> {
 }
 
 impl<S: Source, L: LineReader, G: Ledger> Model for Pool<S, L, G> {
-    ghost use Rattle.eql_replay.specs.Pools.{PoolView};
+    ghost use Rattle.eql_conductor.specs.Lists.{PoolView};
 
     ghost Value = { PoolView S L };
 

@@ -23,11 +23,12 @@ use Rattle.eql_conductor.specs.Finding.{own_of}
 use Rattle.eql_book.specs.Books.{BookState}
 use Rattle.eql_conductor.specs.declared.plan.Keep.{Keep}
 use Rattle.eql_conductor.specs.declared.plan.RunPlan.{RunPlan}
+use Rattle.eql_conductor.specs.GoingOn.{AreOfTexts}
+use Rattle.eql_conductor.specs.Lists.{rules_in, set_in}
 use Rattle.eql_conductor.specs.Openings.{CutRunsBegin, FitMayBegin, FreshRunsBegin, IsBegun, IsPlanned, OpensAt, begun_part}
 use Rattle.eql_conductor.specs.Runs.{MayKeepIf, MayRun}
-use Rattle.eql_replay.specs.Listed.{BenchView, bench_known, known_of, rules_in, set_in}
-use Rattle.eql_replay.specs.Opened.{AreOfTexts}
-use Rattle.eql_replay.proofs.Places.{there_or}
+use Rattle.eql_conductor.proofs.Lists.{there_or}
+use Rattle.eql_replay.specs.Listed.{BenchView, bench_known, known_of}
 use Rattle.eql_replay_tests.specs.Opens.{AllMayHold, BeginAll, BeginsWith, IsFreshAt, MayKeepOver, PartsBegin, StandsAt, Starts, StartsAs}
 use Rattle.eql_replay_tests.proofs.Pushed.{each_more, each_none}
 

@@ -19,10 +19,10 @@ use Rattle.eql_conductor.specs.Benches.{Known}
 use Rattle.eql_conductor.specs.Bounds.{AreSized}
 use Rattle.eql_conductor.specs.Going.{RunResult}
 use Rattle.eql_conductor.specs.LaneRounds.{text_at}
+use Rattle.eql_conductor.specs.Lists.{known_in}
 use Rattle.eql_conductor.specs.Runs.{EndsBy, disk_faults}
-use Rattle.eql_hub_run.specs.Beside.{HubRan, bench_of}
-use Rattle.eql_replay.specs.Listed.{bench_known}
-use Rattle.eql_replay.proofs.Places.{there_or}
+use Rattle.eql_conductor.proofs.Lists.{there_or}
+use Rattle.eql_hub_run.specs.Beside.{HubRan}
 use Rattle.eql_search.specs.Answers.{AreSteadyBut, AreUnfailing, BecameAt, HasSearchCause, HasLimitAt, IsNoFault, IsRead, RanOutOfBytes, RanOutOfLines, RoseFaults}
 use Rattle.eql_search.specs.Searches.{AreBegunFrom}
 use Rattle.eql_search.proofs.Lanes.{as_many, out_of_bytes, out_of_lines}
@@ -84,7 +84,7 @@ module _ (first last : Known) (sink_before sink_now disk_before disk_now : ℕ) 
 module _ {S L K D : Type 0} (source : sources.Ghosts S) (reader : readers.Ghosts L) (output : sinks.Ghosts K) (disk : disks.Ghosts D) (reads : Reads) (slack : Option ℤ)
     (told : Option (List (List ℕ))) (olds news : List (LaneView S L)) (parts : List PartView) (sink sink' : K) (carried carried' : Run D)
     (first last : Known) (begun : AreBegunFrom reader.read_of reads slack 0 olds)
-    (sizes : AreSized (bench_known reader.read_of (text_at told) (bench_of olds parts))) where
+    (sizes : AreSized (known_in reader.read_of (text_at told) olds parts)) where
   abbrev Ran : RunResult → Type 0
   Ran r = HubRan source reader output disk (text_at told) olds news parts sink sink' first last carried carried' r
 
@@ -116,29 +116,29 @@ module _ {S L K D : Type 0} (source : sources.Ghosts S) (reader : readers.Ghosts
   limit_at : (of : ShardLimit) → Ran (Err (stop.Limit of)) → HasLimitAt told of olds news
   limit_at (limit.Lines s) run =
       let r : RunResult = Err (stop.Limit (limit.Lines s)) in
-      became_at r run s run.hand_cause.0 (RanOutOfLines (text_at told s)) (λ old new was is.
+      became_at r run s run.hands.hand_cause.0 (RanOutOfLines (text_at told s)) (λ old new was is.
       out_of_lines source reader output disk reads slack told olds news parts sink sink' carried carried' r first last begun run sizes s old new was is
-      (setting_of reader.read_of (text_at told s) old) (run.hand_cause.1 old new was is))
+      (setting_of reader.read_of (text_at told s) old) (run.hands.hand_cause.1 old new was is))
   limit_at (limit.Bytes s) run =
       let r : RunResult = Err (stop.Limit (limit.Bytes s)) in
-      became_at r run s run.hand_cause.0 (RanOutOfBytes (text_at told s)) (λ old new was is.
+      became_at r run s run.hands.hand_cause.0 (RanOutOfBytes (text_at told s)) (λ old new was is.
       out_of_bytes source reader output disk reads slack told olds news parts sink sink' carried carried' r first last begun run sizes s old new was is
-      (run.hand_cause.1 new is))
+      (run.hands.hand_cause.1 new is))
 
   rose_at : (s : ℕ) → Ran (Err (stop.Read s)) → BecameAt s olds news RoseFaults
   rose_at s run =
       let r : RunResult = Err (stop.Read s) in
-      became_at r run s run.hand_cause.0 RoseFaults (λ old new was is. run.hand_cause.1 old new was is)
+      became_at r run s run.hands.hand_cause.0 RoseFaults (λ old new was is. run.hands.hand_cause.1 old new was is)
 
   -- what the conductor's end says of sink and disk
   abbrev CountsBy : RunResult → Type 0
   CountsBy ended = EndsBy ended first last sink_before sink_now disk_before disk_now
 
   wrote_fault : Ran (Err stop.Write) → Rose sink_before sink_now
-  wrote_fault run = let by : CountsBy (Err stop.Write) = subst CountsBy (write_then run.ended run.told) run.cause in by.2.0
+  wrote_fault run = let by : CountsBy (Err stop.Write) = subst CountsBy (write_then run.ended run.hands.told) run.conductor.cause in by.2.0
 
   disk_fault : Ran (Err stop.Disk) → Rose disk_before disk_now
-  disk_fault run = let by : CountsBy (Err stop.Disk) = subst CountsBy (disk_then run.ended run.told) run.cause in by.3.0
+  disk_fault run = let by : CountsBy (Err stop.Disk) = subst CountsBy (disk_then run.ended run.hands.told) run.conductor.cause in by.3.0
 
   pub has_cause : (r : RunResult) → Ran r → IfErr r (λ why. HasSearchCause told why olds news sink_before sink_now disk_before disk_now)
   has_cause (Ok done) run = tt
@@ -148,18 +148,18 @@ module _ {S L K D : Type 0} (source : sources.Ghosts S) (reader : readers.Ghosts
   has_cause (Err stop.Memory) run = tt
   has_cause (Err (stop.Limit of)) run = limit_at of run
   has_cause (Err stop.Generation) run = tt
-  has_cause (Err stop.Worn) run = absurd (run.not_worn.1 refl)
+  has_cause (Err stop.Worn) run = absurd (run.hands.not_worn.1 refl)
 
   -- ---- no other count rose
   pub reads_steady : (r : RunResult) → Ran r → AreSteadyBut (λ shard. IsRead r) olds news
-  reads_steady (Ok a) run s old new untold was is = (run.on.each s old new was is).steady (λ tells. tells)
+  reads_steady (Ok a) run s old new untold was is = (run.hands.on.each s old new was is).steady (λ tells. tells)
   reads_steady (Err (stop.Read k)) run s old new untold was is = absurd (untold tt)
-  reads_steady (Err stop.Write) run s old new untold was is = (run.on.each s old new was is).steady (λ tells. tells)
-  reads_steady (Err stop.Disk) run s old new untold was is = (run.on.each s old new was is).steady (λ tells. tells)
-  reads_steady (Err stop.Memory) run s old new untold was is = (run.on.each s old new was is).steady (λ tells. tells)
-  reads_steady (Err (stop.Limit of)) run s old new untold was is = (run.on.each s old new was is).steady (λ tells. tells)
-  reads_steady (Err stop.Generation) run s old new untold was is = (run.on.each s old new was is).steady (λ tells. tells)
-  reads_steady (Err stop.Worn) run s old new untold was is = (run.on.each s old new was is).steady (λ tells. tells)
+  reads_steady (Err stop.Write) run s old new untold was is = (run.hands.on.each s old new was is).steady (λ tells. tells)
+  reads_steady (Err stop.Disk) run s old new untold was is = (run.hands.on.each s old new was is).steady (λ tells. tells)
+  reads_steady (Err stop.Memory) run s old new untold was is = (run.hands.on.each s old new was is).steady (λ tells. tells)
+  reads_steady (Err (stop.Limit of)) run s old new untold was is = (run.hands.on.each s old new was is).steady (λ tells. tells)
+  reads_steady (Err stop.Generation) run s old new untold was is = (run.hands.on.each s old new was is).steady (λ tells. tells)
+  reads_steady (Err stop.Worn) run s old new untold was is = (run.hands.on.each s old new was is).steady (λ tells. tells)
 
   -- what a run leaves of the counts of sink and disk
   pub record CountsSo (r : RunResult) : Type 0 where
@@ -170,10 +170,10 @@ module _ {S L K D : Type 0} (source : sources.Ghosts S) (reader : readers.Ghosts
 
   pub counts_so : (r : RunResult) → Ran r → CountsSo r
   counts_so r run = record {
-    sink_stays = λ other unread. sink_same first last sink_before sink_now disk_before disk_now run.ended run.cause (no_write run.ended r run.told other unread);
-    sink_counts = sink_rises first last sink_before sink_now disk_before disk_now run.ended run.cause;
-    disk_stays = λ other unread. disk_same first last sink_before sink_now disk_before disk_now run.ended run.cause (no_disk run.ended r run.told other unread);
-    disk_counts = disk_rises first last sink_before sink_now disk_before disk_now run.ended run.cause;
+    sink_stays = λ other unread. sink_same first last sink_before sink_now disk_before disk_now run.ended run.conductor.cause (no_write run.ended r run.hands.told other unread);
+    sink_counts = sink_rises first last sink_before sink_now disk_before disk_now run.ended run.conductor.cause;
+    disk_stays = λ other unread. disk_same first last sink_before sink_now disk_before disk_now run.ended run.conductor.cause (no_disk run.ended r run.hands.told other unread);
+    disk_counts = disk_rises first last sink_before sink_now disk_before disk_now run.ended run.conductor.cause;
   }
 
   -- ---- where no call is planned to fail
@@ -186,11 +186,11 @@ module _ {S L K D : Type 0} (source : sources.Ghosts S) (reader : readers.Ghosts
         all_by (λ (lane : LaneView S L). IsUnfailing (source.fault_plan lane.source)) news (λ s new is.
         let same = many r run in
         let one = there_or olds s (let within = slice_get_within news s new is in omega (arith, within, same)) in
-        ((run.on.each s one.0 new one.1 is).unfailing (old_unfailing s one.0 one.1)).0)
+        ((run.hands.on.each s one.0 new one.1 is).unfailing (old_unfailing s one.0 one.1)).0)
 
     pub no_fault : (r : RunResult) → Ran r → r ≢ Err stop.Write → r ≢ Err stop.Disk → IfErr r IsNoFault
     no_fault (Ok done) run wrote put = tt
-    no_fault (Err (stop.Read s)) run wrote put = let one = there_or olds s run.hand_cause.0 in (run.planned s one.0 one.1 (old_unfailing s one.0 one.1)).1 refl
+    no_fault (Err (stop.Read s)) run wrote put = let one = there_or olds s run.hands.hand_cause.0 in (run.hands.planned s one.0 one.1 (old_unfailing s one.0 one.1)).1 refl
     no_fault (Err stop.Write) run wrote put = wrote refl
     no_fault (Err stop.Disk) run wrote put = put refl
     no_fault (Err stop.Memory) run wrote put = tt

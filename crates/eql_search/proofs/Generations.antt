@@ -15,12 +15,12 @@ use Rattle.eql_conductor.specs.declared.plan.RunPlan.{RunPlan}
 use Rattle.eql_conductor.specs.Benches.{ComesByFeeds, Known}
 use Rattle.eql_conductor.specs.Bounds.{AreSized, IsSized, held_count}
 use Rattle.eql_conductor.specs.Handed.{total_to}
+use Rattle.eql_conductor.specs.Lists.{known_in}
 use Rattle.eql_conductor.specs.RunBounds.{IsBoundedBy, RunIsBounded, bytes_in, events_in}
 use Rattle.eql_conductor.specs.RunNotes.{Place, PlaysRoundsFront, RunNotes, cut_due, cut_times, next_place, round_count, start}
 use Rattle.eql_conductor.specs.Runs.{cut_time}
-use Rattle.eql_hub_run.specs.Beside.{IsSameBench, bench_of}
-use Rattle.eql_replay.specs.Listed.{bench_known}
-use Rattle.eql_replay.proofs.Places.{there_or}
+use Rattle.eql_conductor.proofs.Lists.{there_or}
+use Rattle.eql_hub_run.specs.Beside.{IsSameBench}
 
 -- ---- no more cuts than rounds
 one_at_most : {X : Type 0} (o : Option X) → length (option_to_list o) ≤ 1
@@ -73,10 +73,10 @@ state_in None = beginning_lane fresh_lane 0
 state_in (Some lane) = lane.state
 
 module _ {S L : Type 0} (read_of : L → Reads) (text : ℕ → Option (List ℕ)) (olds news : List (LaneView S L)) (parts : List PartView) (first last : Known)
-    (same : IsSameBench (bench_known read_of text (bench_of olds parts)) first) (as_many : last.lanes ≡ first.lanes)
+    (same : IsSameBench (known_in read_of text olds parts) first) (as_many : last.lanes ≡ first.lanes)
     (left : (s : ℕ) (new : LaneView S L) → slice_get news s ≡ Some new → (x : LaneState) × last.lane s x × ComesByFeeds (first.set s) x new.state)
     (many : length news ≡ length olds) (few : length olds ≤ 256)
-    (sizes : AreSized (bench_known read_of text (bench_of olds parts))) where
+    (sizes : AreSized (known_in read_of text olds parts)) where
   -- the states with which the lanes began, and such as they might have at the conductor's end
   abbrev began : ℕ → LaneState
   began s = state_in (slice_get olds s)

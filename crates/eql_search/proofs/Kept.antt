@@ -30,12 +30,12 @@ use Rattle.eql_conductor.specs.declared.stop.Stop.TheVariants as stop
 use Rattle.eql_conductor.specs.Benches.{Known}
 use Rattle.eql_conductor.specs.Going.{RunResult}
 use Rattle.eql_conductor.specs.LaneRounds.{text_at}
+use Rattle.eql_conductor.specs.Lists.{known_in}
 use Rattle.eql_conductor.specs.RunLaws.{BeginsTold, rules_of}
 use Rattle.eql_conductor.specs.Runs.{IsRunCut, KeepGoes, LastHolds, MayKeepIf, RunPuts, WroteLinesOf}
 use Rattle.eql_conductor.proofs.Cutting.{puts_none}
 use Rattle.eql_conductor.proofs.Recorded.{run_cut_is, run_cut_is_safe, wrote_to_cuts}
-use Rattle.eql_hub_run.specs.Beside.{HubRan, IsSameBench, IsTold, bench_of}
-use Rattle.eql_replay.specs.Listed.{bench_known}
+use Rattle.eql_hub_run.specs.Beside.{HubRan, IsSameBench, IsTold}
 use Rattle.eql_search.specs.Beginnings.{BeginsOn, MayKeepOn, cuts_of, run_by, start_at}
 use Rattle.eql_search.specs.Keeping.{AreSearchCuts, IsLaterCut, IsSearchCut, KeepsOn, PutsThese, WroteCounted}
 use Rattle.eql_search.specs.Searches.{AreBegunFrom, AreTextsOf, HasNumbers, Rules}
@@ -48,7 +48,7 @@ use Rattle.eql_search.proofs.Told.{done_then, generation_then, no_disk, no_memor
 -- ---- cuts may be kept
 -- a search keeps them as a run over its lanes may
 pub may_keep : {S L D : Type 0} (history : D → Option History) (count : D → ℕ) (read_of : L → Reads) (text : ℕ → Option (List ℕ)) (lanes : List (LaneView S L)) (parts : List PartView)
-    (plan : RunPlan) (keep : Option (Keep D)) → MayKeepOn history plan (length lanes) keep → MayKeepIf history count plan (bench_known read_of text (bench_of lanes parts)) keep
+    (plan : RunPlan) (keep : Option (Keep D)) → MayKeepOn history plan (length lanes) keep → MayKeepIf history count plan (known_in read_of text lanes parts) keep
 may_keep history count read_of text lanes parts plan None may = may
 may_keep history count read_of text lanes parts plan (Some k) may = (may.0, record { every = may.1; head = record { names = may.2; shards = may.3 }; stands = may.4 })
 
@@ -76,7 +76,7 @@ module _ {S L K D : Type 0} (source : sources.Ghosts S) (reader : readers.Ghosts
     (first last : Known) (begun : AreBegunFrom reader.read_of reads slack 0 olds) (is_span : IsSpan span) (few : length olds ≤ 256)
     (texts_are : IfSome told (λ (texts : List (List ℕ)). AreTextsOf source.left texts olds))
     (begins : BeginsSo source.left reader.read_of reads slack stages span (text_at told) olds holders parts carried.plan carried.book carried.plan.mark)
-    (same : IsSameBench (bench_known reader.read_of (text_at told) (bench_of olds parts)) first) where
+    (same : IsSameBench (known_in reader.read_of (text_at told) olds parts) first) where
   abbrev plan : RunPlan
   plan = carried.plan
 
@@ -169,6 +169,7 @@ module _ {S L K D : Type 0} (source : sources.Ghosts S) (reader : readers.Ghosts
   pub keeps : (r : RunResult) → HubRan source reader output disk (text_at told) olds news parts sink sink' first last carried carried' r
       → KeepsOn disk.history plan.head plan.mark Are carried.keep carried'.keep r
   keeps r run =
-      goes r run.ended run.told carried.keep carried'.keep run.ran.cuts
-      (few_cuts reader.read_of (text_at told) olds news parts first last same run.goes.same.lanes run.lanes run.on.count few begins.begins.sized plan run.ran.cuts run.ended run.ran.notes run.ran.bound)
-      run.ran.wrote run.ran.rise run.ran.keeps
+      let ran = run.conductor.ran in
+      goes r run.ended run.hands.told carried.keep carried'.keep ran.cuts
+      (few_cuts reader.read_of (text_at told) olds news parts first last same run.conductor.goes.same.lanes run.hands.lanes run.hands.on.count few begins.begins.sized plan ran.cuts run.ended ran.notes ran.bound)
+      ran.wrote ran.rise ran.keeps

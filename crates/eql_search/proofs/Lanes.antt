@@ -28,13 +28,13 @@ use Rattle.eql_conductor.specs.declared.plan.Run.{Run}
 use Rattle.eql_conductor.specs.Benches.{Known}
 use Rattle.eql_conductor.specs.Bounds.{AreSized, IsSized}
 use Rattle.eql_conductor.specs.Going.{GoesOnward, RunResult}
+use Rattle.eql_conductor.specs.GoingOn.{IsAtPlace}
 use Rattle.eql_conductor.specs.LaneRounds.{IsSafeAt, text_at}
+use Rattle.eql_conductor.specs.Lists.{HasLane, known_in, set_in}
 use Rattle.eql_conductor.specs.Rounds.{BenchIsOfTexts}
+use Rattle.eql_conductor.proofs.Lists.{there_or}
 use Rattle.eql_conductor.proofs.Onward.{fed_onward, onward_on}
-use Rattle.eql_hub_run.specs.Beside.{HubRan, bench_of}
-use Rattle.eql_replay.specs.Listed.{HasLane, bench_known, set_in}
-use Rattle.eql_replay.specs.Opened.{IsAtPlace}
-use Rattle.eql_replay.proofs.Places.{there_or}
+use Rattle.eql_hub_run.specs.Beside.{HubRan}
 use Rattle.eql_search.specs.Answers.{CountWhole, IsClosed, RanOutOfBytes, RanOutOfLines, StaysLane, WereRead}
 use Rattle.eql_search.specs.Searches.{AreBegunFrom, AreTextsOf}
 use Rattle.eql_search.proofs.Places.{all_by, zip_by}
@@ -99,20 +99,20 @@ module _ {S L K D : Type 0} (source : sources.Ghosts S) (reader : readers.Ghosts
     (told : Option (List (List ℕ))) (olds news : List (LaneView S L)) (parts : List PartView) (sink sink' : K) (carried carried' : Run D)
     (answer : RunResult) (first last : Known) (begun : AreBegunFrom reader.read_of reads slack 0 olds)
     (run : HubRan source reader output disk (text_at told) olds news parts sink sink' first last carried carried' answer)
-    (sizes : AreSized (bench_known reader.read_of (text_at told) (bench_of olds parts))) where
+    (sizes : AreSized (known_in reader.read_of (text_at told) olds parts)) where
   abbrev bench : Known
-  bench = bench_known reader.read_of (text_at told) (bench_of olds parts)
+  bench = known_in reader.read_of (text_at told) olds parts
 
   -- ---- at its place
   pub as_many : length news ≡ length olds
-  as_many = run.on.count
+  as_many = run.hands.on.count
 
   -- a lane that is there is one of those that were known first, and last
   pub known_first : (s : ℕ) → s < length olds → s < first.lanes
   known_first s l = let e = run.begins.lanes in omega (arith, l, e)
 
   pub known_last : (s : ℕ) → s < length olds → s < last.lanes
-  known_last s l = let e = run.goes.same.lanes in let m = known_first s l in omega (arith, m, e)
+  known_last s l = let e = run.conductor.goes.same.lanes in let m = known_first s l in omega (arith, m, e)
 
   module _ (s : ℕ) (old new : LaneView S L) (was : slice_get olds s ≡ Some old) (is : slice_get news s ≡ Some new) where
     pub within : s < length olds
@@ -126,8 +126,8 @@ module _ {S L K D : Type 0} (source : sources.Ghosts S) (reader : readers.Ghosts
 
     pub onward : GoesOnward (first.set s) old.state new.state
     onward =
-        let stood = run.lanes s new is in
-        let on = run.goes.each s (known_first s within) stood.0 stood.1 in
+        let stood = run.hands.lanes s new is in
+        let on = run.conductor.goes.each s (known_first s within) stood.0 stood.1 in
         let set : Setting = first.set s in
         let fed : GoesOnward set stood.0 new.state = fed_onward set stood.0 new.state stood.2 in
         subst (λ (x : LaneState). GoesOnward set x new.state) (old_is on.0 (run.begins.lane_from s on.0 on.1)) (onward_on set on.0 stood.0 new.state on.2 fed)
@@ -135,15 +135,15 @@ module _ {S L K D : Type 0} (source : sources.Ghosts S) (reader : readers.Ghosts
     -- what is so of its low in each state that it might have at the conductor's end is so of it now
     pub low_on : (mark : Mark) → IsSafeAt s mark last → IsAtMost mark (low (first.set s) new.state)
     low_on mark safe =
-        let stood = run.lanes s new is in
+        let stood = run.hands.lanes s new is in
         let set : Setting = first.set s in
-        let at : IsAtMost mark (low set stood.0) = subst (λ (u : Setting). IsAtMost mark (low u stood.0)) (run.goes.same.set s (known_first s within)) (safe.low_is stood.0 stood.1) in
+        let at : IsAtMost mark (low set stood.0) = subst (λ (u : Setting). IsAtMost mark (low u stood.0)) (run.conductor.goes.same.set s (known_first s within)) (safe.low_is stood.0 stood.1) in
         at_most_trans mark (low set stood.0) (low set new.state) at (fed_onward set stood.0 new.state stood.2).low_up
 
     -- and where it is closed in each of them it is closed now
     pub closed_on : ((x : LaneState) → last.lane s x → x.cut.closed ≡ true) → new.state.cut.closed ≡ true
     closed_on closed =
-        let stood = run.lanes s new is in
+        let stood = run.hands.lanes s new is in
         let set : Setting = first.set s in
         let up : IsAtMost (low set stood.0) (low set new.state) = (fed_onward set stood.0 new.state stood.2).low_up in
         closed_low new.state.cut.closed set.slack new.state.cut.best
@@ -153,17 +153,17 @@ module _ {S L K D : Type 0} (source : sources.Ghosts S) (reader : readers.Ghosts
     sized = onward.sized (sizes.each s within old.state has_then)
 
     pub lane_stays : StaysLane source.left source.lent_as reader.read_of old new
-    lane_stays = record { same = (run.on.each s old new was is).same; counts = onward.faults }
+    lane_stays = record { same = (run.hands.on.each s old new was is).same; counts = onward.faults }
 
     -- ---- by a text that is told
     module _ (t : List ℕ) (named : text_at told s ≡ Some t) where
       is_text : IsTextOf source.left (Some t) new
-      is_text = subst (λ (o : Option (List ℕ)). IsTextOf source.left o new) named (run.texts.each s new is)
+      is_text = subst (λ (o : Option (List ℕ)). IsTextOf source.left o new) named (run.hands.texts.each s new is)
 
       lines_over : new.state.cut.counts.lines ≡ greatest_lines → new.state.cut.offset < new.state.taken
           → greatest_lines < old.state.cut.counts.lines + length (lines_of (drop old.state.cut.offset t))
       lines_over most byte =
-          let on = run.lines.each s old new was is t named in
+          let on = run.hands.lines.each s old new was is t named in
           let a = on.offset in
           let b = on.lines in
           let c = ap (λ (l : List ℕ). length l) on.parts in
@@ -180,7 +180,7 @@ module _ {S L K D : Type 0} (source : sources.Ghosts S) (reader : readers.Ghosts
       -- where it had read its text up to a place
       module _ (at_then : IsAtPlace (setting_of reader.read_of (Some t) old) t old.state) where
         at_now : IsAtPlace (setting_of reader.read_of (Some t) new) t new.state
-        at_now = run.read.each s old new was is t named at_then
+        at_now = run.hands.read.each s old new was is t named at_then
 
         -- what was read of it are so many bytes
         offset_is : new.state.cut.offset ≡ length at_now.is.place.first
@@ -198,7 +198,7 @@ module _ {S L K D : Type 0} (source : sources.Ghosts S) (reader : readers.Ghosts
 
         pub counts_are : new.state.cut.closed ≡ true → new.state.cut.counts ≡ counts_of reads slack s t
         counts_are closed =
-            let same = (run.on.each s old new was is).same in
+            let same = (run.hands.on.each s old new was is).same in
             let one = begun_at reader.read_of reads slack olds begun s old was in
             ap (λ (cut : LaneCut). cut.counts) at_now.is.cut
             ∙ (λ i. counts_of ((same.reads ∙ one.reads_are) i) ((same.slack ∙ one.slack_is) i) ((same.shard ∙ one.shard_is) i) (all_read closed i))
@@ -242,7 +242,7 @@ module _ {S L K D : Type 0} (source : sources.Ghosts S) (reader : readers.Ghosts
   lanes_stay = zip_by (StaysLane source.left source.lent_as reader.read_of) olds news as_many lane_stays
 
   pub texts_stay : IfSome told (λ (texts : List (List ℕ)). AreTextsOf source.left texts olds) → IfSome told (λ (texts : List (List ℕ)). AreTextsOf source.left texts news)
-  texts_stay are = told_again source.left told olds news as_many are run.texts
+  texts_stay are = told_again source.left told olds news as_many are run.hands.texts
 
   -- every lane is closed
   abbrev pub Closed : Type 0

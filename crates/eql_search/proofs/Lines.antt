@@ -42,15 +42,15 @@ use Rattle.eql_conductor.specs.declared.plan.RunPlan.{RunPlan}
 use Rattle.eql_conductor.specs.Benches.{Known}
 use Rattle.eql_conductor.specs.Going.{RunResult}
 use Rattle.eql_conductor.specs.LaneRounds.{IsSafe, text_at}
+use Rattle.eql_conductor.specs.Lists.{known_in}
 use Rattle.eql_conductor.specs.PartRounds.{AreAtRest}
 use Rattle.eql_conductor.specs.Records.{Ran}
 use Rattle.eql_conductor.specs.Rounds.{BenchIsOfTexts, found_by}
 use Rattle.eql_conductor.specs.RunLaws.{BeginsTold, HavePlayed, StopsListed, found_below}
 use Rattle.eql_conductor.specs.Runs.{RunStops, lines_before_end, lines_by}
 use Rattle.eql_conductor.proofs.Broken.{wrote_none}
-use Rattle.eql_hub_run.specs.Beside.{HubRan, IsSameBench, bench_of}
-use Rattle.eql_replay.specs.Listed.{bench_known}
-use Rattle.eql_replay.proofs.Places.{there_or}
+use Rattle.eql_conductor.proofs.Lists.{there_or}
+use Rattle.eql_hub_run.specs.Beside.{HubRan, IsSameBench}
 use Rattle.eql_search.specs.Answers.{IsClosed, WereRead}
 use Rattle.eql_search.specs.Beginnings.{BeginsOn, cuts_of, start_at}
 use Rattle.eql_search.specs.Searches.{AreBegunFrom, AreTextsOf, HasNumbers, Rules, rest_of}
@@ -142,7 +142,7 @@ module _ {S L K D : Type 0} (source : sources.Ghosts S) (reader : readers.Ghosts
     (stages : ℕ) (span : Option ℤ) (told : Option (List (List ℕ))) (olds news : List (LaneView S L)) (holders : List Holder) (parts : List PartView)
     (sink sink' : K) (carried carried' : Run D) (first last : Known) (begun : AreBegunFrom reader.read_of reads slack 0 olds) (is_span : IsSpan span)
     (begins : BeginsSo source.left reader.read_of reads slack stages span (text_at told) olds holders parts carried.plan carried.book carried.plan.mark)
-    (same : IsSameBench (bench_known reader.read_of (text_at told) (bench_of olds parts)) first) where
+    (same : IsSameBench (known_in reader.read_of (text_at told) olds parts) first) where
   abbrev rules : PartRules
   rules = record { stages = stages; span = span }
 
@@ -165,7 +165,7 @@ module _ {S L K D : Type 0} (source : sources.Ghosts S) (reader : readers.Ghosts
   now = output.written sink'
 
   abbrev bench : Known
-  bench = bench_known reader.read_of (text_at told) (bench_of olds parts)
+  bench = known_in reader.read_of (text_at told) olds parts
 
   abbrev Beside : RunResult → Type 0
   Beside r = HubRan source reader output disk (text_at told) olds news parts sink sink' first last carried carried' r
@@ -178,7 +178,7 @@ module _ {S L K D : Type 0} (source : sources.Ghosts S) (reader : readers.Ghosts
 
   -- an answer without a stop is that of a run to its end
   done_ran : (a : Unit {0}) → Beside (Ok a) → RanTo (Ok a)
-  done_ran a run = subst RanTo (done_then run.ended a run.told) run.ran
+  done_ran a run = subst RanTo (done_then run.ended a run.hands.told) run.conductor.ran
 
   abbrev Closed : Type 0
   Closed = (s : ℕ) (new : LaneView S L) → slice_get news s ≡ Some new → new.state.cut.closed ≡ true
@@ -267,7 +267,7 @@ module _ {S L K D : Type 0} (source : sources.Ghosts S) (reader : readers.Ghosts
     pub wrote_front : (r : RunResult) → Beside r
         → OnErr r ((All IsShardText texts → HasNumbers by texts) → WroteFront (rest_of by book.pipes book.places book.kept.listed texts) before now)
     wrote_front (Ok done) run = tt
-    wrote_front (Err of) run = λ few_then. front_by few_then (Err of) run run.ended run.ran
+    wrote_front (Err of) run = λ few_then. front_by few_then (Err of) run run.ended run.conductor.ran
 
   -- ---- the end
   pub lanes_closed : (r : RunResult) → Beside r → OnOk r (All IsClosed news)

@@ -24,17 +24,16 @@ use Rattle.eql_book.specs.Laws.{fresh_cut as fresh_book}
 use Rattle.eql_book.proofs.Wholes.{fresh_is_of_none}
 use Rattle.eql_conductor.specs.declared.plan.RunPlan.{RunPlan}
 use Rattle.eql_conductor.specs.Benches.{Known}
+use Rattle.eql_conductor.specs.Lists.{known_in, rules_in, set_in}
 use Rattle.eql_conductor.specs.Openings.{BeginsAt, CutBegins, FreshBegins, IsBegun, IsCutOfTexts, IsPlanned, OpensAt, OpensFresh, OpensFrom, SuitsBench, TellsTexts, begun_part}
 use Rattle.eql_conductor.specs.Rounds.{BenchIsOfTexts}
 use Rattle.eql_conductor.specs.RunLaws.{HavePlayed}
 use Rattle.eql_conductor.specs.Runs.{MayRun}
+use Rattle.eql_conductor.proofs.Lists.{there_or}
 use Rattle.eql_conductor.proofs.Listed.{cut_have_played, fresh_have_played}
 use Rattle.eql_conductor.proofs.MayBegin.{fit_may_begin}
 use Rattle.eql_conductor.proofs.Opened.{fresh_runs_begin}
 use Rattle.eql_conductor.proofs.OpenedCuts.{cut_runs_begin, cut_runs_have_texts, fit_is_safe}
-use Rattle.eql_hub_run.specs.Beside.{bench_of}
-use Rattle.eql_replay.specs.Listed.{bench_known, rules_in, set_in}
-use Rattle.eql_replay.proofs.Places.{there_or}
 use Rattle.eql_search.specs.Beginnings.{BeginsFrom, BeginsOn, MayBegin, cuts_of, run_by, start_at}
 use Rattle.eql_search.specs.Running.{AreOwnParts, MayBeginPart}
 use Rattle.eql_search.specs.Searches.{AreBegunFrom, AreTextsOf, Rules}
@@ -66,7 +65,7 @@ module _ {S L : Type 0} (left : S → Option (List ℕ)) (read_of : L → Reads)
 
   -- what is known of the bench
   abbrev known : Known
-  known = bench_known read_of text (bench_of lanes parts)
+  known = known_in read_of text lanes parts
 
   -- what a search begins with is a cut of these texts, where there is one
   abbrev On : Mark → List (List ℕ) → Type 0

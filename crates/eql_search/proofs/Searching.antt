@@ -180,7 +180,7 @@ module _ {S L K D : Type 0} (source : sources.Ghosts S) (reader : readers.Ghosts
             steady = reads_steady source reader output disk reads slack told olds news parts sink sink' carried carried' first last begun opened.begins.sized r run;
             writes_steady = counts.sink_stays;
             disk_steady = counts.disk_stays;
-            follows = run.follows;
+            follows = run.hands.follows;
             unfailing = λ quiet wrote put. (
               no_fault source reader output disk reads slack told olds news parts sink sink' carried carried' first last begun opened.begins.sized quiet r run wrote put,
               lanes_unfailing source reader output disk reads slack told olds news parts sink sink' carried carried' first last begun opened.begins.sized quiet r run,

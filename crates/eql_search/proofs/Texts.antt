@@ -4,8 +4,8 @@ use Rattle.std.specs.Prelude.{IfSome, slice_get}
 use Rattle.std.proofs.lemmas.List.Elements.{All-cons, All-nil}
 use Rattle.eql_values.specs.Accepted.{Reads}
 use Rattle.eql_lane.specs.Views.{IsTextOf, LaneView}
+use Rattle.eql_conductor.specs.GoingOn.{AreOfTexts}
 use Rattle.eql_conductor.specs.LaneRounds.{text_at}
-use Rattle.eql_replay.specs.Opened.{AreOfTexts}
 use Rattle.eql_search.specs.Searches.{AreBegunFrom, AreTextsOf, IsBegunLane}
 
 -- what holds of the one that there may be

@@ -2,7 +2,7 @@
 ghost use Rattle.std.specs.Prelude.{◌≡◌, ◌≤◌, ℕ, List, Option, true, IfErr, length};
 ghost use Rattle.eql_outside.specs.Unfailing.{IsUnfailing};
 ghost use Rattle.eql_conductor.specs.Runs.{IsKeptUnfailing};
-ghost use Rattle.eql_replay.specs.Opened.{AreOfTexts};
+ghost use Rattle.eql_conductor.specs.GoingOn.{AreOfTexts};
 ghost use Rattle.eql_search.specs.Answers.{AreUnfailing, IsNoFault};
 ghost use Rattle.eql_search.specs.Beginnings.{MayBegin, MayKeepOn, cuts_of};
 ghost use Rattle.eql_search.specs.Keeping.{KeepsOn};
