@@ -128,7 +128,7 @@ fn put_cut<D: Disk>(alloc: Global, keep: &mut Keep<D>, cut: &Cut) -> Result<(), 
         Err(CkRefused::DiskFault) => Err(Stop::Disk),
         Err(CkRefused::Memory) => Err(Stop::Memory),
         Err(CkRefused::Generation) => Err(Stop::Generation),
-        Err(CkRefused::Damaged { area: _, at: _ }) => unreachable!(),
+        Err(CkRefused::Damaged { .. } | CkRefused::Foreign { .. }) => unreachable!(),
     }
 }
 
