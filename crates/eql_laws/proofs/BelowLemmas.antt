@@ -27,13 +27,13 @@ use Rattle.eql_values.specs.Ordered.{in_order}
 use Rattle.eql_values.proofs.InOrder.{in_order-sorted}
 use Rattle.eql_values.specs.Reading.{IsTime, IsReadAt}
 use Rattle.eql_values.specs.Routes.{RoutesAreInOrder, RoutesStand}
-use Rattle.eql_laws.specs.Belows.{IsReading, HasRoutesInOrder, SortedAscends, BelowAscends, SortingEachSortsAll, SortingGoesOn, SortingKeepsBelow, BelowGrows, IsAcceptedOf, AcceptedComeFromText, IsBelow, BelowAre, OpenLowIsTime, OpenLowIsAtLeast, IsMarkTime, greatest_slack}
+use Rattle.eql_laws.specs.Belows.{IsReading, HasRoutesInOrder, SortedAscends, BelowAscends, BelowGrows, IsAcceptedOf, AcceptedComeFromText, IsBelow, BelowAre, OpenLowIsTime, OpenLowIsAtLeast, IsMarkTime, greatest_slack}
 use Rattle.eql_laws.specs.Lateness.{IsAtMost, larger, best_of}
 use Rattle.eql_laws.proofs.Lists.{filter_implied}
 use Rattle.eql_laws.proofs.Elements.{All-filter_map, All-passed, All-in_order}
 use Rattle.eql_laws.proofs.Facts.{left_holds, right_holds, is_less}
 use Rattle.eql_laws.proofs.MarkLemmas.{below_up, times_le}
-use Rattle.eql_laws.proofs.Sorting.{Entry, pair, back, bare, OfPlace, filter_sorted, sorted_each, sorted_more}
+use Rattle.eql_laws.proofs.Sorting.{Entry, pair, back, bare, OfPlace, filter_sorted, sorted_more}
 
 -- whether an item is below a mark is said by its place
 of_place : (m : Mark) → OfPlace (is_below m)
@@ -44,13 +44,14 @@ of_place End i = refl
 not_of_place : (m : Mark) → OfPlace (λ i. not (is_below m i))
 not_of_place m i = ap not (of_place m i)
 
-pub sorted_below : SortingKeepsBelow
+-- what lies below a mark, and what doesn't, may be taken before or after putting in order
+pub sorted_below : (mark : Mark) (items : List Item)
+    → (filter (is_below mark) (sorted_items items) ≡ sorted_items (filter (is_below mark) items))
+    × (filter (λ item. not (is_below mark item)) (sorted_items items) ≡ sorted_items (filter (λ item. not (is_below mark item)) items))
 sorted_below mark items = (filter_sorted (is_below mark) (of_place mark) items, filter_sorted (λ i. not (is_below mark i)) (not_of_place mark) items)
 
-pub sorted_one_by_one : SortingEachSortsAll
-sorted_one_by_one lists = sorted_each (λ (items : List Item). items) lists
-
-pub sorted_with_more : SortingGoesOn
+-- further items may be put in order with those that stand in order
+pub sorted_with_more : (a b : List Item) → sorted_items (sorted_items a ++ b) ≡ sorted_items (a ++ b)
 sorted_with_more a b = sorted_more a b
 
 earlier_time : (t u : ℤ) (r : Ordering) → r ≡ int_cmp t u → (o : Ordering) → T (is_lt (ordering_then r o)) → t ≤ℤ u

@@ -21,7 +21,7 @@ use Rattle.eql_values.specs.OrderKeys.{order_cmp}
 use Rattle.eql_values.specs.Ordered.{found_or}
 use Rattle.eql_laws.specs.Merging.{by_slot}
 use Rattle.eql_laws.specs.Slots.{Slots, chain_moved_on, chain_coming, slots_after}
-use Rattle.eql_laws.specs.Shapes.{IsReady, IsFull, FirstIsBefore, FirstsFall, AfterFalls, OpeningFinds}
+use Rattle.eql_laws.specs.Shapes.{IsReady, IsFull, FirstIsBefore, FirstsFall, OpeningFinds}
 use Rattle.eql_laws.proofs.Stepping.{holder_step, holder_start}
 use Rattle.eql_laws.proofs.Elements.{some_is}
 use Rattle.eql_laws.proofs.Facts.{left_holds, right_holds}
@@ -183,7 +183,9 @@ module _ (m : ℕ) (span : Option ℤ) (holders : List Holder) (items : List Ite
   falls_from key (suc j) zero c d lt e f = absurd (no_zero key d f)
   falls_from key (suc j) (suc k) c d lt e f = falls_after key j k c d (omega (arith, lt)) (is_held key (suc j) c e) (is_held key (suc k) d f)
 
-pub after_falls : AfterFalls
+-- of two pending sequences of one key that at the greater stage has the lesser first event, where it was so at the start
+pub after_falls : (m : ℕ) (span : Option ℤ) (holders : List Holder) (items : List Item)
+    → Ascend items → All (IsReady items) holders → All IsFull holders → FirstsFall holders → FirstsFall (after m span holders items)
 after_falls m span holders items up ready full falls = falls_from m span holders items up ready full falls
 
 -- a look-up in holders in order

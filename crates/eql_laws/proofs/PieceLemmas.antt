@@ -23,9 +23,9 @@ use Rattle.eql_values.specs.Orders.{key_cmp}
 use Rattle.eql_values.specs.Routes.{RoutesAreInOrder}
 use Rattle.eql_values.specs.Routing.{with_routes, routed_items}
 use Rattle.eql_laws.specs.Alive.{ItemsComeFrom}
-use Rattle.eql_laws.specs.Belows.{HasRoutesInOrder, from_to, between}
-use Rattle.eql_laws.specs.Pieces.{PiecesAscend, BetweenAscends, RoutedKeepsPieces, TimesKeep, TimesComeAfter, TimesComeBetween}
-use Rattle.eql_laws.proofs.BelowLemmas.{All-sorted, sorted_ascends, routes_in_order}
+use Rattle.eql_laws.specs.Belows.{from_to, between}
+use Rattle.eql_laws.specs.Pieces.{RoutedKeepsPieces, TimesKeep, TimesComeAfter, TimesComeBetween}
+use Rattle.eql_laws.proofs.BelowLemmas.{All-sorted}
 use Rattle.eql_laws.proofs.Elements.{All-passed}
 use Rattle.eql_laws.proofs.Facts.{holds_true}
 use Rattle.eql_laws.proofs.Lists.{map_filter}
@@ -34,16 +34,11 @@ after_pieces : (event : OrderKey) (a b : List Item) → AllAreAfter event (a ++ 
 after_pieces event [] b h = (tt, h)
 after_pieces event (item ∷ a) b h = let rest = after_pieces event a b h.1 in ((h.0, rest.0), rest.1)
 
-pub ascending_pieces : PiecesAscend
+-- a beginning of ascending items ascends, and so does the rest
+pub ascending_pieces : (a b : List Item) → Ascend (a ++ b) → Ascend a × Ascend b
 ascending_pieces [] b up = (tt, up)
 ascending_pieces (item ∷ a) b up =
     let rest = ascending_pieces a b up.2 in ((up.0, (after_pieces item.order a b up.1).0, rest.0), rest.1)
-
-pub between_ascends : BetweenAscends
-between_ascends reads slack texts from to reading =
-    sorted_ascends (from_to from to (accepted_from reads slack 0 texts))
-    (All-filter (is_below to) HasRoutesInOrder (filter (λ item. not (is_below from item)) (accepted_from reads slack 0 texts))
-    (All-filter (λ item. not (is_below from item)) HasRoutesInOrder (accepted_from reads slack 0 texts) (routes_in_order reads slack 0 texts reading)))
 
 module _ (part : List Value → ℕ) (p : ℕ) where
   abbrev of_part : Route → Bool

@@ -1,7 +1,6 @@
 -- Items in the order of their places.
-use Rattle.std.proofs.Common.{◌≡◌, Bool, cond, List, [], ◌∷◌, ◌++◌, map, Option, None, refl, sym, ap, ◌∙◌}
+use Rattle.std.proofs.Common.{◌≡◌, Bool, cond, List, [], ◌++◌, map, Option, None, refl, sym, ap, ◌∙◌}
 use Rattle.std.specs.Prelude.{filter}
-use Rattle.std.specs.List.{flat_map}
 use Rattle.std.specs.declared.cmp.Ordering.TheVariants.{Equal}
 use Rattle.std.specs.FinMap.Entries.{find, where_key, find-where_key, is_sorted-where_key}
 use Rattle.std.proofs.lemmas.List.{map-append}
@@ -44,17 +43,6 @@ find_more q xs ys = ap (find order_cmp q) (map-append pair xs ys) ∙ find-appen
 pub sorted_more : (xs ys : List Item) → sorted_items (sorted_items xs ++ ys) ≡ sorted_items (xs ++ ys)
 sorted_more xs ys = sorted_alike (sorted_items xs ++ ys) (xs ++ ys) (λ q.
     find_more q (sorted_items xs) ys ∙ ap (λ (o : Option (List Route)). found_or o (find order_cmp q (map pair ys))) (find_sorted q xs) ∙ sym (find_more q xs ys))
-
--- lists that stand in order one by one, put in order together
-pub sorted_each : {X : Type 0} (f : X → List Item) (xs : List X) → sorted_items (flat_map (λ x. sorted_items (f x)) xs) ≡ sorted_items (flat_map f xs)
-sorted_each {X} f xs = sorted_alike (flat_map (λ x. sorted_items (f x)) xs) (flat_map f xs) (λ q. same q xs)
-  where
-    same : (q : OrderKey) (xs : List X) → find order_cmp q (map pair (flat_map (λ x. sorted_items (f x)) xs)) ≡ find order_cmp q (map pair (flat_map f xs))
-    same q [] = refl
-    same q (x ∷ xs) =
-        find_more q (sorted_items (f x)) (flat_map (λ x. sorted_items (f x)) xs)
-        ∙ (λ i. found_or (find_sorted q (f x) i) (same q xs i))
-        ∙ sym (find_more q (f x) (flat_map f xs))
 
 -- a test of an item's place
 abbrev pub OfPlace : (Item → Bool) → Type 0

@@ -1,6 +1,5 @@
 -- Laws of the events below a mark: they stand in order, and grow by what lies between two marks.
 use Rattle.std.specs.Prelude.{◌≡◌, ◌<◌, ◌≤◌, ℕ, ℤ, ◌≤ℤ◌, ◌-ℤ◌, pos, neg_ℤ, true, false, not, List, ◌++◌, Option, Some, IfSome, filter, length, All}
-use Rattle.std.specs.List.{flat_map}
 use Rattle.eql_values.specs.declared.item.Item.{Item}
 use Rattle.eql_values.specs.declared.order.Mark.{Mark}
 use Rattle.eql_values.specs.declared.order.Mark.TheVariants.{At}
@@ -28,20 +27,6 @@ SortedAscends = (items : List Item) → All HasRoutesInOrder items → Ascend (s
 -- so the events below a mark ascend
 abbrev pub BelowAscends : Type 0
 BelowAscends = (reads : Reads) (slack : Option ℤ) (texts : List (List ℕ)) (mark : Mark) → IsReading reads → Ascend (below reads slack texts mark)
-
--- putting lists in order one by one, and then all of them, is putting all in order at once
-abbrev pub SortingEachSortsAll : Type 0
-SortingEachSortsAll = (lists : List (List Item)) → sorted_items (flat_map sorted_items lists) ≡ sorted_items (flat_map (λ (items : List Item). items) lists)
-
--- further items may be put in order with those that stand in order
-abbrev pub SortingGoesOn : Type 0
-SortingGoesOn = (a b : List Item) → sorted_items (sorted_items a ++ b) ≡ sorted_items (a ++ b)
-
--- what lies below a mark, and what doesn't, may be taken before or after putting in order
-abbrev pub SortingKeepsBelow : Type 0
-SortingKeepsBelow = (mark : Mark) (items : List Item)
-    → (filter (is_below mark) (sorted_items items) ≡ sorted_items (filter (is_below mark) items))
-    × (filter (λ item. not (is_below mark item)) (sorted_items items) ≡ sorted_items (filter (λ item. not (is_below mark item)) items))
 
 -- of items those from one mark on and below another
 abbrev pub from_to : (from to : Mark) → List Item → List Item

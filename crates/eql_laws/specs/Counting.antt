@@ -1,5 +1,5 @@
 -- Laws of the counts of a text's lines: what became of each.
-use Rattle.std.specs.Prelude.{◌≡◌, ◌↔◌, ◌≤◌, ◌+◌, if◌then◌else◌, ℕ, ℤ, Bool, true, false, List, [], ◌∷◌, Option, Some, None, IfSome, All, map, filter, length, ◌++◌, IsTrue}
+use Rattle.std.specs.Prelude.{◌≡◌, ◌↔◌, ◌≤◌, ◌+◌, if◌then◌else◌, ℕ, ℤ, List, [], ◌∷◌, Option, Some, None, All, map, length, ◌++◌, IsTrue}
 use Rattle.std.specs.List.{filter_map}
 use Rattle.eql_values.specs.declared.item.Item.{Item}
 use Rattle.eql_values.specs.declared.cut.FirstBad.{FirstBad}
@@ -10,16 +10,6 @@ use Rattle.eql_values.specs.Accepted.{Reads, readable, is_late, accepted_items}
 use Rattle.eql_values.specs.Lines.{Line, lines_of, lines_in}
 use Rattle.eql_laws.specs.Lateness.{larger, late_by, best_of, best_from, accepted_by}
 use Rattle.eql_laws.specs.Places.{ReadTo, whole, is_line_end, lines_after}
-
--- the line is blank
-abbrev pub is_blank_line : LineGot → Bool
-is_blank_line got.Blank = true
-is_blank_line (got.Item item) = false
-is_blank_line (got.Bad reason) = false
-
--- the blank ones among these lines
-abbrev pub blank : Reads → ℕ → List Line → List Line
-blank reads shard lines = filter (λ (line : Line). is_blank_line (reads shard line.number line.bytes)) lines
 
 -- the line of this number, where it is rejected
 abbrev pub bad_at : ℕ → LineGot → Option FirstBad
@@ -101,19 +91,6 @@ CountsStepOn = (reads : Reads) (slack : Option ℤ) (shard : ℕ) (best : Option
 pub record CountsStand (counts : Counts) : Type 0 where
   pub fewer : counts.accepted + counts.late + counts.rejected ≤ counts.lines
   pub first_bad : (counts.first ≡ None) ↔ (counts.rejected ≡ 0)
-
-abbrev pub CountsOfStand : Type 0
-CountsOfStand = (reads : Reads) (slack : Option ℤ) (shard : ℕ) (text : List ℕ) → CountsStand (counts_of reads slack shard text)
-
--- each line is one of four: it is blank, accepted, late or rejected
-abbrev pub LinesAreOfFour : Type 0
-LinesAreOfFour = (reads : Reads) (slack : Option ℤ) (shard : ℕ) (text : List ℕ) → let counts = counts_of reads slack shard text in
-    counts.lines ≡ length (blank reads shard (lines_in text)) + counts.accepted + counts.late + counts.rejected
-
--- the first bad line is a line of the text
-abbrev pub FirstBadIsLine : Type 0
-FirstBadIsLine = (reads : Reads) (slack : Option ℤ) (shard : ℕ) (text : List ℕ)
-    → IfSome (counts_of reads slack shard text).first (λ (bad : FirstBad). (1 ≤ bad.line) × (bad.line ≤ length (lines_of text)))
 
 -- the greatest number of lines of a shard, and of its bytes
 abbrev pub greatest_lines : ℕ

@@ -11,9 +11,8 @@ use Rattle.eql_values.specs.declared.found.Match.{Match}
 use Rattle.eql_values.specs.declared.found.Numbered.{Numbered}
 use Rattle.eql_values.specs.declared.reader.LineGot.TheVariants as got
 use Rattle.eql_values.specs.Accepted.{Reads}
-use Rattle.eql_values.specs.Lines.{lines_in}
 use Rattle.eql_laws.specs.Books.{book_of, completing}
-use Rattle.eql_laws.specs.Counting.{counts_of, counts_from, blank}
+use Rattle.eql_laws.specs.Counting.{counts_of, counts_from}
 use Rattle.eql_laws.specs.Fitting.{Run, cut_of}
 use Rattle.eql_laws.specs.Lanes.{lane_at, least_of}
 use Rattle.eql_laws.specs.Places.{ReadTo, lines_after}
@@ -44,9 +43,6 @@ six_read_on : counts_from by_bytes (Some (pos 5)) 0 (Some (pos 20)) (record { li
     (lines_after (20 ∷ 10 ∷ 13 ∷ 10 ∷ []) (10 ∷ 1 ∷ 10 ∷ 1 ∷ 2 ∷ 10 ∷ 16 ∷ []))
     ≡ record { lines = 6; accepted = 2; late = 1; rejected = 2; first = Some (record { line = 4; reason = NotJson }) }
 six_read_on = refl
-
-one_blank : blank by_bytes 0 (lines_in six) ≡ record { number = 3; at = 4; bytes = [] } ∷ []
-one_blank = refl
 
 -- of a shard that was read up to its fifth line, which begins at byte 8, a cut at 16 keeps the events of the first and the fourth line; the second's is below 16
 four_lines_read : lane_at by_bytes (Some (pos 5)) 2 (At (pos 16))

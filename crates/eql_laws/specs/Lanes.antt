@@ -1,6 +1,5 @@
--- Laws of what a cut keeps of shards: each lane is as a checkpoint is to say it, and so is the mark.
-use Rattle.std.specs.Prelude.{◌≡◌, ◌≤◌, ◌+◌, if◌then◌else◌, not, ℕ, ℤ, ◌≤ℤ◌, ◌-ℤ◌, pos, false, List, [], ◌∷◌, Option, Some, IfSome, map, length, All, IsTrue}
-use Rattle.std.specs.List.{list_any, list_all}
+-- What a cut keeps of shards, the law that each lane is as a checkpoint is to say it, and the least of marks.
+use Rattle.std.specs.Prelude.{◌≡◌, ◌≤◌, ◌+◌, if◌then◌else◌, ℕ, ℤ, ◌≤ℤ◌, ◌-ℤ◌, false, List, [], ◌∷◌, Option, Some, IfSome, map, length, All, IsTrue}
 use Rattle.std.specs.Ordering.{is_le}
 use Rattle.eql_values.specs.declared.item.Item.{Item}
 use Rattle.eql_values.specs.declared.order.Mark.{Mark}
@@ -10,9 +9,9 @@ use Rattle.eql_values.specs.Accepted.{Reads, readable}
 use Rattle.eql_values.specs.Ascending.{Ascend}
 use Rattle.eql_values.specs.Lines.{lines_in}
 use Rattle.eql_values.specs.Marks.{mark_cmp, is_below, is_safe}
-use Rattle.eql_values.specs.Reading.{IsTime, time_bound}
+use Rattle.eql_values.specs.Reading.{IsTime}
 use Rattle.eql_values.specs.Routes.{RoutesStand}
-use Rattle.eql_laws.specs.Belows.{IsReading, IsMarkTime, greatest_slack}
+use Rattle.eql_laws.specs.Belows.{IsReading}
 use Rattle.eql_laws.specs.Counting.{counts_of, CountsStand, greatest_lines, greatest_bytes, IsShardText, front}
 use Rattle.eql_laws.specs.Cuts.{held_back}
 use Rattle.eql_laws.specs.Lateness.{best_of}
@@ -68,18 +67,3 @@ LanesOfFit = (reads : Reads) (slack t : ℤ) (shards : List ReadTo) → IsReadin
 abbrev pub least_of : List Mark → Mark
 least_of [] = End
 least_of (mark ∷ marks) = if is_le (mark_cmp mark (least_of marks)) then mark else least_of marks
-
--- the least of the shards' lows: it is safe; where it has a time, that is the time of a mark and some shard is open; where all shards are closed it is the end
-pub record LeastLowIsSafe (reads : Reads) (slack : ℤ) (shards : List ReadTo) : Type 0 where
-  pub safe : IsTrue (is_safe (least_of (lows_from reads (Some slack) 0 shards)) (lows_from reads (Some slack) 0 shards))
-  pub in_range : (t : ℤ) → least_of (lows_from reads (Some slack) 0 shards) ≡ At t → IsMarkTime t
-  pub some_open : (t : ℤ) → least_of (lows_from reads (Some slack) 0 shards) ≡ At t → IsTrue (list_any (λ (r : ReadTo). not r.closed) shards)
-  pub all_closed : IsTrue (list_all (λ (r : ReadTo). r.closed) shards) → least_of (lows_from reads (Some slack) 0 shards) ≡ End
-
-abbrev pub LeastLowFits : Type 0
-LeastLowFits = (reads : Reads) (slack : ℤ) (shards : List ReadTo) → IsReading reads → pos 0 ≤ℤ slack → slack ≤ℤ greatest_slack → LeastLowIsSafe reads slack shards
-
--- any safe time is within the bound above, where some shard is open
-abbrev pub SafeTimeIsBounded : Type 0
-SafeTimeIsBounded = (reads : Reads) (slack t : ℤ) (shards : List ReadTo) → IsReading reads → pos 0 ≤ℤ slack
-    → IsTrue (is_safe (At t) (lows_from reads (Some slack) 0 shards)) → IsTrue (list_any (λ (r : ReadTo). not r.closed) shards) → t ≤ℤ time_bound

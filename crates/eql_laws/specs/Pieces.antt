@@ -9,15 +9,7 @@ use Rattle.eql_values.specs.Accepted.{Reads}
 use Rattle.eql_values.specs.Ascending.{AllAreAfter, Ascend}
 use Rattle.eql_values.specs.Routing.{routed_items}
 use Rattle.eql_laws.specs.Alive.{ItemsComeFrom}
-use Rattle.eql_laws.specs.Belows.{IsReading, between}
-
--- a beginning of ascending items ascends, and so does the rest
-abbrev pub PiecesAscend : Type 0
-PiecesAscend = (a b : List Item) → Ascend (a ++ b) → Ascend a × Ascend b
-
--- what lies between two marks ascends
-abbrev pub BetweenAscends : Type 0
-BetweenAscends = (reads : Reads) (slack : Option ℤ) (texts : List (List ℕ)) (from to : Mark) → IsReading reads → Ascend (between reads slack texts from to)
+use Rattle.eql_laws.specs.Belows.{between}
 
 -- the items of a part: those of two lists one after the other, no more than all, and ascending where all ascend
 pub record RoutedKeeps (part : List Value → ℕ) (p : ℕ) : Type 0 where

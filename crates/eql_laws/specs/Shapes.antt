@@ -100,10 +100,6 @@ abbrev pub FirstsFall : List Holder → Type 0
 FirstsFall holders = (key : List Value) (j k : ℕ) (c d : List OrderKey) → j < k
     → opening_of holders key j ≡ Some c → opening_of holders key k ≡ Some d → FirstIsBefore d c
 
-abbrev pub AfterFalls : Type 0
-AfterFalls = (m : ℕ) (span : Option ℤ) (holders : List Holder) (items : List Item)
-    → Ascend items → All (IsReady items) holders → All IsFull holders → FirstsFall holders → FirstsFall (after m span holders items)
-
 -- of pending sequences in order each is the one that a look-up finds
 abbrev pub OpeningFinds : Type 0
 OpeningFinds = (holders : List Holder) → HoldersAreInOrder holders → All (λ (h : Holder). opening_of holders h.key h.stage ≡ Some h.chain) holders

@@ -1,17 +1,10 @@
 //! Laws of the events below a mark: they stand in order, and grow by what lies between two marks.
-ghost use Rattle.eql_laws.specs.Belows.{SortedAscends, BelowAscends, SortingEachSortsAll, SortingGoesOn, SortingKeepsBelow, BelowGrows, AcceptedComeFromText, BelowAre, OpenLowIsTime, OpenLowIsAtLeast};
+ghost use Rattle.eql_laws.specs.Belows.{SortedAscends, BelowAscends, BelowGrows, AcceptedComeFromText, BelowAre, OpenLowIsTime, OpenLowIsAtLeast};
 
 /// Events put in order ascend, and so do those below a mark.
 pub fn below_ascends()
     ensures sorted { SortedAscends }
     ensures below { BelowAscends }
-{}
-
-/// Putting events in order goes together with doing so list by list, with more events, and with leaving out by a mark.
-pub fn sorted_together()
-    ensures each { SortingEachSortsAll }
-    ensures more { SortingGoesOn }
-    ensures below { SortingKeepsBelow }
 {}
 
 /// The events below the greater of two marks are those below the lesser, followed by those between.

@@ -26,13 +26,13 @@ mod together;
 pub use alive::{
     after_in_order, dead_after, dead_alike, dead_by_slot, dead_for_good, dead_matches,
 };
-pub use belows::{accepted_are, below_ascends, below_grows, open_low, sorted_together};
+pub use belows::{accepted_are, below_ascends, below_grows, open_low};
 pub use books::{book_fits, found_by_events, found_is_few, pipes_go_on};
 pub use bounds::{keys_fit, masks_fit, times_fit};
-pub use counts::{counts_go_on, fronts_fit, lines_are_counted};
+pub use counts::{counts_go_on, fronts_fit};
 pub use cuts::{found_fits, held_back_fits, none_is_lost, pending_fits, routes_stay};
 pub use fitting::cuts_fit;
-pub use lanes::{lanes_fit, marks_fit};
+pub use lanes::lanes_fit;
 pub use lateness::{
     accepted_by_best, accepted_split, best_goes_on, late_by_best, low_rises, none_comes_below,
 };
@@ -41,12 +41,11 @@ pub use parts::{
     after_routed, keys_gather, keys_merge, matches_routed, own_holders, part_apart, part_looks_up,
     parts_find_all, parts_gather,
 };
-pub use pieces::{pieces_ascend, routed_pieces, times_keep};
+pub use pieces::{routed_pieces, times_keep};
 pub use places::{accepted_goes_on, late, lines_go_on, numbered_go_on, readable_goes_on};
 pub use resuming::{book_goes_on, listing_resumes};
 pub use shapes::{
-    chains_are_full, chains_ascend, events_and_keys_stay, first_events_fall, matches_in_order,
-    opening_finds,
+    chains_are_full, chains_ascend, events_and_keys_stay, matches_in_order, opening_finds,
 };
 pub use splits::{after_split, matches_split};
 pub use steps::{chain_reads, chain_step, slot_start, slot_step};

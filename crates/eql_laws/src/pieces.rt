@@ -1,11 +1,5 @@
 //! Laws of pieces of lists of events: what a part, a beginning or a rest keeps of the order and the times of the whole.
-ghost use Rattle.eql_laws.specs.Pieces.{PiecesAscend, BetweenAscends, RoutedKeepsPieces, TimesKeep, TimesComeAfter, TimesComeBetween};
-
-/// Pieces of ascending events ascend, and so does what lies between two marks.
-pub fn pieces_ascend()
-    ensures pieces { PiecesAscend }
-    ensures between { BetweenAscends }
-{}
+ghost use Rattle.eql_laws.specs.Pieces.{RoutedKeepsPieces, TimesKeep, TimesComeAfter, TimesComeBetween};
 
 /// What the events of a part keep: pieces, number, order and times.
 pub fn routed_pieces()

@@ -1,5 +1,5 @@
 //! Laws of the shape of matches and pending sequences.
-ghost use Rattle.eql_laws.specs.Shapes.{MatchesAscend, AfterIsReady, MatchesAreFull, AfterIsFull, AfterHasStages, EventsStay, KeysStay, MatchesAreInOrder, AfterFalls, OpeningFinds};
+ghost use Rattle.eql_laws.specs.Shapes.{MatchesAscend, AfterIsReady, MatchesAreFull, AfterIsFull, AfterHasStages, EventsStay, KeysStay, MatchesAreInOrder, OpeningFinds};
 
 /// By ascending events, from sequences that stand before them, matches ascend, and what is pending stands before later events.
 pub fn chains_ascend()
@@ -23,11 +23,6 @@ pub fn events_and_keys_stay()
 /// By ascending events the matches ascend strictly by last event, and then by key.
 pub fn matches_in_order()
     ensures { MatchesAreInOrder }
-{}
-
-/// Of two pending sequences of one key that at the greater stage has the lesser first event, where it was so at the start.
-pub fn first_events_fall()
-    ensures { AfterFalls }
 {}
 
 /// Of pending sequences in order each is the one that a look-up finds.
