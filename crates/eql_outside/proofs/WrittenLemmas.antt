@@ -3,7 +3,7 @@ use Rattle.std.proofs.Common.{◌≡◌, ℕ, ◌+◌, List, ◌++◌, take, dro
 use Rattle.std.proofs.Math.Seq.{take-append-add, take-append_seam}
 use Rattle.std.proofs.lemmas.List.{take-append-drop}
 use Rattle.eql_outside.specs.Outside.{AppendsSome}
-use Rattle.eql_outside.specs.Written.{WroteAll, WroteFront, WroteBut, WritesGoOn}
+use Rattle.eql_outside.specs.Written.{WroteAll, WroteFront, WroteBut}
 
 all_on : (first then : List ℕ) (before mid now : Option (List ℕ)) → WroteAll first before mid → WroteAll then mid now → WroteAll (first ++ then) before now
 all_on first then None mid now h k = tt
@@ -30,6 +30,13 @@ rest_sent first then None mid now h k = tt
 rest_sent first then (Some w) mid now h k =
     subst (λ (m : Option (List ℕ)). WroteAll then m now) h.1 k
     ∙ ap Some (append_assoc w h.0 then ∙ ap (λ x. w ++ x) h.2)
+
+-- all of one text and then all or a front of another are all or a front of the two, and a front of a text is one of a longer text
+pub record WritesGoOn : Type 0 where
+  pub all : (first then : List ℕ) (before mid now : Option (List ℕ)) → WroteAll first before mid → WroteAll then mid now → WroteAll (first ++ then) before now
+  pub front : (first then : List ℕ) (before mid now : Option (List ℕ)) → WroteAll first before mid → WroteFront then mid now → WroteFront (first ++ then) before now
+  pub longer : (first then : List ℕ) (before now : Option (List ℕ)) → WroteFront first before now → WroteFront (first ++ then) before now
+  pub waits : (first then : List ℕ) (before mid now : Option (List ℕ)) → WroteBut then (first ++ then) before mid → WroteAll then mid now → WroteAll (first ++ then) before now
 
 pub writes_on : WritesGoOn
 writes_on = record { all = all_on; front = front_on; longer = front_longer; waits = rest_sent }

@@ -40,10 +40,3 @@ through_it = (99 ∷ [], refl)
 
 pub untold : WroteAll (97 ∷ []) None None
 untold = tt
-
--- all of one text and then all or a front of another are all or a front of the two, and a front of a text is one of a longer text
-pub record WritesGoOn : Type 0 where
-  pub all : (first then : List ℕ) (before mid now : Option (List ℕ)) → WroteAll first before mid → WroteAll then mid now → WroteAll (first ++ then) before now
-  pub front : (first then : List ℕ) (before mid now : Option (List ℕ)) → WroteAll first before mid → WroteFront then mid now → WroteFront (first ++ then) before now
-  pub longer : (first then : List ℕ) (before now : Option (List ℕ)) → WroteFront first before now → WroteFront (first ++ then) before now
-  pub waits : (first then : List ℕ) (before mid now : Option (List ℕ)) → WroteBut then (first ++ then) before mid → WroteAll then mid now → WroteAll (first ++ then) before now

@@ -2,17 +2,11 @@
 ghost use Rattle.eql_outside.specs.DiskLaws.{WholeLands, ImagesAreThere, SeenIsLeft};
 ghost use Rattle.eql_outside.specs.Faults.{RosesAgree};
 ghost use Rattle.eql_outside.specs.Unfailing.{StaysUnfailing};
-ghost use Rattle.eql_outside.specs.Written.{WritesGoOn};
 
 /// How counts of faults by name go from call to call: a call in which those of one name rose and one in which none
 /// did are, in either order, one in which those of that name rose.
 pub fn faults_are_counted_by_name()
     ensures { RosesAgree }
-{}
-
-/// How what was written goes from call to call: all of a text and then all or a front of another.
-pub fn writes_go_on()
-    ensures { WritesGoOn }
 {}
 
 /// Objects of which no call is planned to fail: the next call doesn't, they stay so, and the sources of a shelf whose files

@@ -17,7 +17,7 @@ mod supply;
 pub use disk::file::FileDisk;
 pub use disk::memory::MemDisk;
 pub use disk::{Area, Disk};
-pub use laws::{crashes_leave_images, faults_are_counted_by_name, unfailing_stays, writes_go_on};
+pub use laws::{crashes_leave_images, faults_are_counted_by_name, unfailing_stays};
 pub use refused::{Failed, OutRefused};
 pub use shelf::Shelf;
 pub use shelf::file::FileShelf;
