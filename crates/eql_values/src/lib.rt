@@ -28,7 +28,7 @@ pub use memory::Memory;
 pub use order::{Mark, OrderKey};
 pub use places::{Lines, PlaceLists, Places};
 pub use reader::{LineGot, LineReader};
-pub use shown::push_shown;
+pub use shown::{hex_digit, is_hidden, push_hex_digit, push_shown};
 pub use span::is_in_time;
 pub use text::{Text, Texts};
 pub use value::{Key, Kind, Literals, NameKinds, Slots, Value};

@@ -1,4 +1,5 @@
-//! How names and texts of the input are printed in messages.
+//! How names and texts of the input are printed in messages, and what other printers share of
+//! that.
 ghost use Rattle.std.specs.Prelude.{◌≡◌, ◌<◌, ◌++◌, ◌∷◌, [], encode_utf8_all, string_bytes, OnOk};
 ghost use Rattle.std.specs.Str.{chars};
 ghost use Rattle.eql_values.specs.Shown.{hex_digit, upper_digits, escape_by_number};
@@ -8,15 +9,17 @@ use crate::memory::Memory;
 use std::alloc::AllocError;
 
 /// A hexadecimal digit in lower case.
-fn hex_digit(number: u32) -> char
+pub fn hex_digit(number: u32) -> char
     requires { number < 16 }
     ensures { result ≡ hex_digit number }
 {
     char::from_digit(number, 16).unwrap_or('0')
 }
 
-/// Whether a character is written by its number.
-fn is_hidden(c: char) -> bool
+/// Whether a character steers a terminal or changes how a line is read, and so is written by its
+/// number: a control character, a separator of lines or paragraphs, or a mark that turns the
+/// direction of writing.
+pub fn is_hidden(c: char) -> bool
     ensures { result ≡ is_hidden c }
 {
     matches!(c,
@@ -28,7 +31,7 @@ fn is_hidden(c: char) -> bool
 }
 
 /// Puts a hexadecimal digit at the end of a line.
-fn push_digit(line: &mut String, number: u32) -> Result<(), AllocError>
+pub fn push_hex_digit(line: &mut String, number: u32) -> Result<(), AllocError>
     requires { number < 16 }
     ensures { OnOk result
         (string_bytes line.new ≡ string_bytes line.old ++ hex_digit number ∷ []) }
@@ -45,8 +48,8 @@ fn push_upper(line: &mut String, number: u32) -> Result<(), AllocError>
     if number < 256 {
         return Ok(());
     }
-    push_digit(line, number / 4096)?;
-    push_digit(line, number / 256 % 16)
+    push_hex_digit(line, number / 4096)?;
+    push_hex_digit(line, number / 256 % 16)
 }
 
 /// Puts the escape of a character's number at the end of a line.
@@ -57,8 +60,8 @@ fn push_number(line: &mut String, number: u32) -> Result<(), AllocError>
 {
     line.push_str("\\u{")?;
     push_upper(line, number)?;
-    push_digit(line, number / 16 % 16)?;
-    push_digit(line, number % 16)?;
+    push_hex_digit(line, number / 16 % 16)?;
+    push_hex_digit(line, number % 16)?;
     line.push('}')
 }
 

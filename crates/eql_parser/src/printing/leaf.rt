@@ -1,34 +1,14 @@
 //! How strings, names of fields, and literals are written.
-ghost use Rattle.std.specs.Prelude.{◌≡◌, ◌<◌, ◌++◌, ◌∷◌, ◌/◌, ◌%◌, codes, OnOk};
+ghost use Rattle.std.specs.Prelude.{◌<◌, ◌++◌, ◌∷◌, ◌/◌, ◌%◌, codes, OnOk};
 ghost use Rattle.std.specs.Str.{chars};
 ghost use Rattle.eql_parser.specs.Adding.{Adds};
-ghost use Rattle.eql_values.specs.Shown.{hex_digit, is_hidden, upper_digits, escape_by_number};
+ghost use Rattle.eql_values.specs.Shown.{hex_digit, upper_digits, escape_by_number};
 ghost use Rattle.eql_parser.specs.Printed.{char_shown, all_escaped, string_shown, name_shown, field_shown, literal_shown};
 
 use super::page::Page;
 use super::symbol::bool_text;
 use eql_query::FieldRef;
-use eql_values::{Memory, Text, Value};
-
-/// A hexadecimal digit in lower case.
-fn hex_digit(number: u32) -> char
-    requires { number < 16 }
-    ensures { result ≡ hex_digit number }
-{
-    char::from_digit(number, 16).unwrap_or('0')
-}
-
-/// Whether a character is written by its number.
-fn is_hidden(c: char) -> bool
-    ensures { result ≡ is_hidden c }
-{
-    matches!(c,
-        '\0'..='\u{1f}'
-        | '\u{7f}'..='\u{9f}'
-        | '\u{200e}'..='\u{200f}'
-        | '\u{2028}'..='\u{202e}'
-        | '\u{2066}'..='\u{2069}')
-}
+use eql_values::{Memory, Text, Value, hex_digit, is_hidden};
 
 /// Writes the upper two hexadecimal digits of a number, where it has more than two.
 fn put_upper(page: &mut Page, number: u32) -> Result<(), Memory>
