@@ -1,5 +1,6 @@
 -- What a call of a shelf leaves as it was, and which counts it raises. A shelf is told by its ghost members.
 use Rattle.std.specs.Prelude.{◌≡◌, ◌≤◌, ℕ, Bool, List, Option}
+use Rattle.eql_outside.specs.declared.refused.DiskHeld.{DiskHeld}
 use Rattle.eql_outside.specs.Faults.{FaultsAreSame, RoseUnder}
 use Rattle.eql_outside.specs.Moments.{History}
 use Rattle.eql_outside.specs.Outside.{Rose}
@@ -18,11 +19,13 @@ pub record RisesUnderWhere {S : Type 0} (counts : S → List ℕ → ℕ) (name 
 
 -- what is told of the disk is as before
 pub record KeepsDisk {S : Type 0} (history : S → Option History) (out : S → Bool) (faults : S → ℕ) (plan : S → Option FaultPlan)
-    (before now : S) : Type 0 where
+    (held : S → DiskHeld → ℕ) (free : S → Bool) (before now : S) : Type 0 where
   pub history_is : history now ≡ history before
   pub out_is : out now ≡ out before
   pub faults_are : faults now ≡ faults before
   pub plan_is : plan now ≡ plan before
+  pub held_are : (why : DiskHeld) → held now why ≡ held before why
+  pub free_is : free now ≡ free before
 
 -- what is told of the files and their sources is as before
 pub record KeepsSources {S : Type 0} (files plans : S → Option (List (List ℕ × List ℕ))) (faults absences : S → ℕ)

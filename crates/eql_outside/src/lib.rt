@@ -5,6 +5,7 @@
 
 mod disk;
 mod faults;
+mod holding;
 mod laws;
 mod plan;
 mod refused;
@@ -18,11 +19,12 @@ pub use disk::file::FileDisk;
 pub use disk::memory::MemDisk;
 pub use disk::{Area, Disk};
 pub use laws::{crashes_leave_images, faults_are_counted_by_name, unfailing_stays};
-pub use refused::{Failed, OutRefused};
+pub use refused::{DiskHeld, DiskRefused, Failed, OutRefused};
 pub use shelf::Shelf;
-pub use shelf::file::FileShelf;
+pub use shelf::file::{FileShelf, Locks};
 pub use shelf::memory::{MemFile, MemShelf};
 pub use sink::memory::MemSink;
+pub use sink::stdout::KeptStdout;
 pub use sink::stream::StdSink;
 pub use sink::{Sink, WritesAlike};
 pub use source::file::FileSource;

@@ -1,12 +1,13 @@
 //! What a shelf is: where files stand under their names.
-ghost use Rattle.std.specs.Prelude.{◌≡◌, ◌<◌, ◌↔◌, ◌+◌, ◌-◌, ℕ, Bool, true, false, List, Option, Some, None, Ok, Err, IfOk, IfSome, IsErr, IsSomeAnd, MatchOption, string_bytes};
+ghost use Rattle.std.specs.Prelude.{◌≡◌, ◌≢◌, ◌<◌, ◌↔◌, ◌+◌, ◌-◌, ℕ, Bool, true, false, List, Option, Some, None, Ok, Err, IfOk, IfSome, IsErr, IsSomeAnd, MatchOption, string_bytes};
 ghost use Rattle.eql_outside.specs.Outside.{file_named};
 ghost use Rattle.eql_outside.specs.Keeping.{RisesWhere, RisesUnderWhere, KeepsDisk, KeepsSources};
 ghost use Rattle.eql_outside.specs.Moments.{History};
 ghost use Rattle.eql_outside.specs.Plans.{FaultPlan, fresh_plan, plan_after_call, FailsNext};
+ghost use Rattle.eql_outside.specs.declared.refused.DiskHeld.{DiskHeld};
 
 use crate::disk::Disk;
-use crate::refused::OutRefused;
+use crate::refused::{DiskHeld, DiskRefused, OutRefused};
 use crate::source::Source;
 use std::alloc::Global;
 
@@ -46,6 +47,12 @@ pub trait Shelf {
     /// How often `disk` failed or a disk came back that had failed.
     ghost disk_fault_count: { Self → ℕ };
 
+    /// How often the disk wasn't handed out for this reason.
+    ghost held_count: { Self → DiskHeld → ℕ };
+
+    /// Whether the shelf tells that its disk isn't held.
+    ghost is_free: { Self → Bool } = { λ _. false };
+
     /// Which calls of the disk fail, as it was last given back, where the shelf tells.
     ghost disk_plan: { Self → Option FaultPlan } = { λ _. None };
 
@@ -67,7 +74,7 @@ pub trait Shelf {
             (λ s. Self.Src.lent_as s ≡ Some (string_bytes name.now))) }
         ensures kept { files self.new ≡ files self.old }
         ensures disk_kept { KeepsDisk disk_history is_out disk_fault_count disk_plan
-            self.old self.new }
+            held_count is_free self.old self.new }
 
         // One more is lent where a source is handed out, and none elsewhere.
         ensures lends { IfSome (lent_count self.old) (λ n. IfOk result
@@ -101,7 +108,7 @@ pub trait Shelf {
         ensures returned { IfSome (lent_count self.old)
             (λ n. lent_count self.new ≡ Some (n - 1)) }
         ensures disk_kept { KeepsDisk disk_history is_out disk_fault_count disk_plan
-            self.old self.new }
+            held_count is_free self.old self.new }
         ensures faults { RisesWhere fault_count (0 < Self.Src.fault_count src) self.old self.new }
         ensures faults_named { RisesUnderWhere faults_of (Self.Src.lent_as src)
             (0 < Self.Src.fault_count src) self.old self.new }
@@ -110,8 +117,9 @@ pub trait Shelf {
         ensures plans_kept { source_plans self.new ≡ source_plans self.old };
 
     /// The disk as it stands, with its moments and its plan, and with count 0. It is made with empty areas where there
-    /// is none of the name.
-    fn disk(&mut self, alloc: Global, name: &String) -> Result<Self::Dsk, OutRefused>
+    /// is none of the name. Where another run has it, or a file of it is one that the shelf has lent or is there for both
+    /// areas, it isn't handed out, and isn't touched.
+    fn disk(&mut self, alloc: Global, name: &String) -> Result<Self::Dsk, DiskRefused>
         ensures as_it_stands { IfOk result (λ d. (Self.Dsk.history d ≡ disk_history self.old)
             × (Self.Dsk.fault_plan d ≡ disk_plan self.old)) }
         ensures fresh { IfOk result (λ d. Self.Dsk.fault_count d ≡ 0) }
@@ -123,12 +131,20 @@ pub trait Shelf {
             lent_count self.old self.new }
 
         // The count of the disk's faults rises where the call fails, and nowhere else.
-        ensures faults { RisesWhere disk_fault_count (result ≡ Err OutRefused.Failed)
+        ensures faults { RisesWhere disk_fault_count (result ≡ Err DiskRefused.Failed)
             self.old self.new }
+
+        // Of the counts of what holds it that of the reason told rises, and no other. A shelf that
+        // tells that its disk isn't held never refuses so.
+        ensures held { (why : DiskHeld) → RisesWhere (λ shelf. held_count shelf why)
+            (result ≡ Err (DiskRefused.Held why)) self.old self.new }
+        ensures free { is_free self.old ≡ true → (why : DiskHeld)
+            → result ≢ Err (DiskRefused.Held why) }
+        ensures free_kept { is_free self.new ≡ is_free self.old }
 
         // A shelf with a plan fails where that says so, and nowhere else.
         ensures planned { IfSome (fault_plan self.old)
-            (λ plan. (result ≡ Err OutRefused.Failed) ↔ FailsNext plan) }
+            (λ plan. (result ≡ Err DiskRefused.Failed) ↔ FailsNext plan) }
         ensures numbered { IfSome (fault_plan self.old)
             (λ plan. fault_plan self.new ≡ Some (plan_after_call plan)) };
 
@@ -142,6 +158,8 @@ pub trait Shelf {
             lent_count self.old self.new }
         ensures faults { RisesWhere disk_fault_count (0 < Self.Dsk.fault_count disk)
             self.old self.new }
+        ensures held_kept { ((why : DiskHeld) → held_count self.new why ≡ held_count self.old why)
+            × (is_free self.new ≡ is_free self.old) }
         ensures numbered { fault_plan self.new ≡ fault_plan self.old };
 
     /// How often `source` failed or a source came back that had failed. The number stands still at the greatest

@@ -4,12 +4,14 @@ ghost use Rattle.std.specs.Prelude.{◌≡◌, ◌≤◌, IfOk, false, refl};
 
 use crate::tests::table::see_true;
 use eql_outside::{
-    Area, Disk, Failed, FileShelf, FileSource, MemDisk, MemFile, MemShelf, MemSink, MemSource,
-    OutRefused, ReadsAlike, Shelf, Sink, Source, StdSink, Supply, WritesAlike,
+    Area, Disk, DiskHeld, DiskRefused, Failed, FileShelf, FileSource, KeptStdout, MemDisk, MemFile,
+    MemShelf, MemSink, MemSource, OutRefused, ReadsAlike, Shelf, Sink, Source, StdSink, Supply,
+    WritesAlike,
 };
 use eql_values::Memory;
 use std::alloc::Global;
 use std::io::{Error, ErrorKind, Read, Write};
+use std::os::unix::fs::symlink;
 use std::{fs, io, process};
 
 /// One call that is made of a source.
@@ -179,6 +181,64 @@ fn memory_sink_keeps_bytes(rt: HostRuntime) {
     see_true(&rt, are_kept(rt.alloc()));
 }
 
+/// Bytes that are written, what is kept then, what the sink returns where it is asked to keep them, and what is kept
+/// after that.
+type Asked = (
+    &'static [u8],
+    &'static [u8],
+    Result<(), OutRefused>,
+    &'static [u8],
+);
+
+/// Writes of which each is to be kept. The fourth call fails.
+static ASKED: &[Asked] = &[
+    (b"one", b"", Ok(()), b"one"),
+    (b" two", b"one", Err(OutRefused::Failed), b"one"),
+    (b"", b"one", Ok(()), b"one two"),
+];
+
+/// Whether a sink in memory has kept this.
+fn has_kept(sink: &MemSink, bytes: &[u8]) -> bool {
+    sink.kept()[..] == bytes[..]
+}
+
+/// Whether what a sink in memory keeps is as it should be.
+fn are_asked(alloc: Global, sink: &mut MemSink) -> bool {
+    for (bytes, before, answer, after) in ASKED {
+        let is_written = sink.write(alloc, *bytes).is_ok() && has_kept(sink, *before);
+        if !is_written || sink.keep(alloc) != *answer || !has_kept(sink, *after) {
+            return false;
+        }
+    }
+    true
+}
+
+/// Whether that is so, and one call was a fault.
+fn are_asked_of_one(alloc: Global) -> Result<bool, Memory> {
+    let mut sink = MemSink::new(alloc, one_call(alloc, 4)?);
+    let is_right = are_asked(alloc, &mut sink) && sink.faults() == 1;
+    drop(sink);
+    Ok(is_right)
+}
+
+#[test]
+fn memory_sink_keeps_what_was_written(rt: HostRuntime) {
+    see_true(&rt, are_asked_of_one(rt.alloc()));
+}
+
+/// Whether standard output can be kept: it is a file, or something else of which nothing is to be kept.
+fn is_output_kept(rt: &HostRuntime) -> Result<bool, Memory> {
+    let mut sink = StdSink::new(KeptStdout::new(rt.stdout(), rt.clone()?));
+    let answer = sink.keep(rt.alloc());
+    drop(sink);
+    Ok(answer == Ok(()))
+}
+
+#[test]
+fn standard_output_is_kept(rt: HostRuntime) {
+    see_true(&rt, is_output_kept(&rt));
+}
+
 /// A writer that takes two bytes at a time, and none of a piece that begins with a full stop.
 #[derive(Drop)]
 struct Slow {
@@ -331,7 +391,7 @@ fn own_path(rt: &HostRuntime, name: &str) -> Result<String, Memory> {
 
 /// A shelf of files.
 fn file_shelf(rt: &HostRuntime) -> Result<FileShelf<HostRuntime>, Memory> {
-    Ok(FileShelf::new(rt.clone()?))
+    Ok(FileShelf::new(rt.alloc(), rt.clone()?))
 }
 
 /// Whether a shelf lends a file that is written, and says that it is absent when it is removed.
@@ -633,6 +693,17 @@ fn crash_tears_each_pending_write(rt: HostRuntime) {
     see_true(&rt, is_made_and_torn(rt.alloc()));
 }
 
+/// What a shelf says of a disk that it doesn't hand out.
+fn said_of_refusal(refused: DiskRefused) -> &'static str {
+    match refused {
+        DiskRefused::Held(DiskHeld::Busy) => "busy",
+        DiskRefused::Held(DiskHeld::Shared(Area::A)) => "first shared",
+        DiskRefused::Held(DiskHeld::Shared(Area::B)) => "second shared",
+        DiskRefused::Failed => "failed",
+        DiskRefused::Memory => "memory",
+    }
+}
+
 /// Asks a shelf for its disk, makes runs of it, and gives it back.
 fn said_of_disk<H: Shelf>(alloc: Global, shelf: &mut H, name: &String, runs: &[Run]) -> &'static str
     ensures back { H.is_out shelf.old ≡ false → H.is_out shelf.new ≡ false }
@@ -643,7 +714,7 @@ fn said_of_disk<H: Shelf>(alloc: Global, shelf: &mut H, name: &String, runs: &[R
             shelf.give_disk(disk);
             lent(is_right)
         }
-        Err(_) => "failed",
+        Err(refused) => said_of_refusal(refused),
     }
 }
 
@@ -765,4 +836,207 @@ fn are_disks_kept(rt: &HostRuntime) -> Result<bool, Memory> {
 #[test]
 fn file_disk_keeps_bytes_in_two_files(rt: HostRuntime) {
     see_true(&rt, are_disks_kept(&rt));
+}
+
+/// Whether a shelf whose second call fails, and whose disk is held so, says this, then that it failed, and then this.
+fn is_held_said<H: Shelf>(alloc: Global, shelf: &mut H, says: &str) -> Result<bool, Memory> {
+    let name = String::from_str(alloc, "c")?;
+    let is_right = is_said_of_disk(alloc, shelf, &name, &[], says, 0)
+        && is_said_of_disk(alloc, shelf, &name, &[], "failed", 1)
+        && is_said_of_disk(alloc, shelf, &name, &[], says, 1);
+    drop(name);
+    Ok(is_right)
+}
+
+/// Why the disk of a shelf in memory is held, and what the shelf says then.
+static HELD: &[(DiskHeld, &str)] = &[
+    (DiskHeld::Busy, "busy"),
+    (DiskHeld::Shared(Area::A), "first shared"),
+    (DiskHeld::Shared(Area::B), "second shared"),
+];
+
+/// Whether a shelf whose disk is held says so.
+fn is_held_for(alloc: Global, why: DiskHeld, says: &str) -> Result<bool, Memory> {
+    let mut shelf = shelf_of_disk(alloc)?.holding(why);
+    let is_right = is_held_said(alloc, &mut shelf, says);
+    drop(shelf);
+    is_right
+}
+
+/// Whether that is so for each reason.
+fn are_held(alloc: Global) -> Result<bool, Memory> {
+    for &(why, says) in HELD {
+        if !is_held_for(alloc, why, says)? {
+            return Ok(false);
+        }
+    }
+    Ok(true)
+}
+
+#[test]
+fn memory_shelf_tells_that_its_disk_is_held(rt: HostRuntime) {
+    see_true(&rt, are_held(rt.alloc()));
+}
+
+/// Whether of two shelves the other one says this of a disk while the first one has it, and lends it then.
+fn is_busy<H: Shelf>(alloc: Global, shelf: &mut H, other: &mut H, path: &String) -> bool {
+    match shelf.disk(alloc, path) {
+        Ok(disk) => {
+            let while_out = said_of_disk(alloc, other, path, &[]);
+            shelf.give_disk(disk);
+            while_out == "busy" && said_of_disk(alloc, other, path, FILLED) == "lent"
+        }
+        Err(_) => false,
+    }
+}
+
+/// Whether that is so of two shelves of files.
+fn is_busy_in_files(rt: &HostRuntime, path: &String) -> Result<bool, Memory> {
+    let mut shelf = file_shelf(rt)?;
+    let mut other = file_shelf(rt)?;
+    let is_right = is_busy(rt.alloc(), &mut shelf, &mut other, path);
+    drop(other);
+    drop(shelf);
+    Ok(is_right)
+}
+
+/// Whether one run at a time has a disk, and the files of its areas hold what the second one wrote.
+fn is_one_at_a_time(rt: &HostRuntime) -> Result<bool, Memory> {
+    let path = own_path(rt, "eql_outside_busy")?;
+    let is_busy = is_busy_in_files(rt, &path);
+    let is_held = are_areas(rt, &path);
+    drop(path);
+    Ok(is_busy? && is_held?)
+}
+
+#[test]
+fn file_disk_is_of_one_run_at_a_time(rt: HostRuntime) {
+    see_true(&rt, is_one_at_a_time(&rt));
+}
+
+/// A link that stands where a file of a disk is looked for.
+struct Linked {
+    /// The end of its name.
+    area: &'static str,
+    /// The end of the name of the file to which it leads: that of the log, or of the first area.
+    to: &'static str,
+    /// Whether it is a symbolic link, and not a second name of the file.
+    is_symbolic: bool,
+    /// What a shelf says of the disk.
+    says: &'static str,
+}
+
+/// A link from here to there, and what a shelf says of the disk.
+macro_rules! linked {
+    ($area:expr, $to:expr, $is_symbolic:expr, $says:expr) => {
+        Linked {
+            area: $area,
+            to: $to,
+            is_symbolic: $is_symbolic,
+            says: $says,
+        }
+    };
+}
+
+/// Links to a log and between the areas.
+static LINKED: &[Linked] = &[
+    linked!(".0", ".log", false, "first shared"),
+    linked!(".0", ".log", true, "first shared"),
+    linked!(".1", ".log", false, "second shared"),
+    linked!(".1", ".log", true, "second shared"),
+    linked!(".1", ".0", false, "second shared"),
+    linked!(".1", ".0", true, "second shared"),
+];
+
+/// The path with this end.
+fn ending(alloc: Global, path: &String, end: &str) -> Result<String, Memory> {
+    Ok(format!(in alloc; "{}{}", path, end)?)
+}
+
+/// Whether a link is made.
+fn is_linked(rt: &HostRuntime, path: &String, linked: &Linked) -> Result<bool, Memory> {
+    let to = ending(rt.alloc(), path, linked.to)?;
+    let link = ending(rt.alloc(), path, linked.area)?;
+    let is_written = fs::write(rt, &to, "abcd").is_ok();
+    let made = if linked.is_symbolic {
+        symlink(rt, &to, &link)
+    } else {
+        fs::hard_link(rt, &to, &link)
+    };
+    let is_made = made.is_ok();
+    drop(link);
+    drop(to);
+    Ok(is_written && is_made)
+}
+
+/// What a shelf says of the disk once it has lent the log, if there is one, and got it back.
+fn said_behind_the_log<H: Shelf>(
+    alloc: Global,
+    shelf: &mut H,
+    path: &String,
+) -> Result<&'static str, Memory> {
+    let log = ending(alloc, path, ".log")?;
+    let of_log = said_of_file(alloc, shelf, &log, &[]);
+    drop(log);
+    if of_log == "failed" {
+        return Ok("no log");
+    }
+    Ok(said_of_disk(alloc, shelf, path, FILLED))
+}
+
+/// What a new shelf of files says so.
+fn said_by_files(rt: &HostRuntime, path: &String) -> Result<&'static str, Memory> {
+    let mut shelf = file_shelf(rt)?;
+    let says = said_behind_the_log(rt.alloc(), &mut shelf, path);
+    drop(shelf);
+    says
+}
+
+/// Whether the file with this end holds what was written there first.
+fn is_untouched(rt: &HostRuntime, path: &String, end: &str) -> Result<bool, Memory> {
+    let file = ending(rt.alloc(), path, end)?;
+    let is_right = is_held(rt, &file, "abcd");
+    drop(file);
+    Ok(is_right)
+}
+
+/// Removes a file, if it is there.
+fn remove(rt: &HostRuntime, path: &String, end: &str) -> Result<(), Memory> {
+    let file = ending(rt.alloc(), path, end)?;
+    let _ = fs::remove_file(rt, &file);
+    drop(file);
+    Ok(())
+}
+
+/// Removes the log and the files of the areas.
+fn remove_all(rt: &HostRuntime, path: &String) -> Result<(), Memory> {
+    remove(rt, path, ".log")?;
+    remove(rt, path, ".0")?;
+    remove(rt, path, ".1")
+}
+
+/// Whether a shelf says what it should of a disk with such a link, and the file to which that leads is untouched.
+fn is_refused(rt: &HostRuntime, path: &String, linked: &Linked) -> Result<bool, Memory> {
+    let is_linked = is_linked(rt, path, linked)?;
+    let says = said_by_files(rt, path)?;
+    let is_untouched = is_untouched(rt, path, linked.to)?;
+    remove_all(rt, path)?;
+    Ok(is_linked && is_untouched && says == linked.says)
+}
+
+/// Whether that is so of each link.
+fn are_refused(rt: &HostRuntime) -> Result<bool, Memory> {
+    let path = own_path(rt, "eql_outside_linked")?;
+    for linked in LINKED {
+        if !is_refused(rt, &path, linked)? {
+            return Ok(false);
+        }
+    }
+    drop(path);
+    Ok(true)
+}
+
+#[test]
+fn file_disk_has_no_area_in_a_file_that_is_in_use(rt: HostRuntime) {
+    see_true(&rt, are_refused(&rt));
 }

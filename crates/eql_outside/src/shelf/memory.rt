@@ -1,13 +1,14 @@
 //! The shelf over files in memory, with a disk in memory. It can be told which of its calls fail, and which calls of
 //! its sources and its disk.
-ghost use Rattle.std.specs.Prelude.{◌≡◌, ◌≤◌, Some, false, IfOk};
+ghost use Rattle.std.specs.Prelude.{◌≡◌, ◌≤◌, Some, true, false, is_none, IfOk};
 ghost use Rattle.eql_outside.specs.Plans.{fresh_plan};
 
 use crate::disk::Disk;
 use crate::disk::memory::MemDisk;
 use crate::faults::{Lent, NameFaults};
+use crate::holding::HeldCounts;
 use crate::plan::PlannedFaults;
-use crate::refused::OutRefused;
+use crate::refused::{DiskHeld, DiskRefused, OutRefused};
 use crate::shelf::Shelf;
 use crate::shelf::find::find_named;
 use crate::source::Source;
@@ -39,6 +40,8 @@ pub struct MemShelf {
     disk: MemDisk,
     out: bool,
     disk_faults: u64,
+    held: Option<DiskHeld>,
+    held_counts: HeldCounts,
 }
 
 // A drop of its own: where a shelf is dropped there is one call, and not one for each part.
@@ -53,12 +56,15 @@ impl Drop for MemShelf {
             disk: _,
             out: _,
             disk_faults: _,
+            held: _,
+            held_counts: _,
         } = self;
     }
 }
 
 impl MemShelf {
     ghost use Rattle.std.specs.Prelude.{ℕ, List};
+    ghost use Rattle.eql_outside.specs.Keeping.{KeepsSources};
     ghost use Rattle.eql_outside.specs.Memory.{contents, planned_fails};
 
     /// A shelf of these files and this disk, with the numbers, from 1, of its calls of `source` and `disk` that fail.
@@ -86,6 +92,9 @@ impl MemShelf {
             ≡ ⟦<MemDisk as Disk>⟧.fault_plan disk) }
         ensures disk_faults { IfOk result (λ s. ⟦<MemShelf as Shelf>⟧.disk_fault_count s ≡ 0) }
         ensures is_in { IfOk result (λ s. ⟦<MemShelf as Shelf>⟧.is_out s ≡ false) }
+        ensures held { IfOk result
+            (λ s. (why : DiskHeld) → ⟦<MemShelf as Shelf>⟧.held_count s why ≡ 0) }
+        ensures free { IfOk result (λ s. ⟦<MemShelf as Shelf>⟧.is_free s ≡ true) }
     {
         Ok(MemShelf {
             files,
@@ -96,7 +105,32 @@ impl MemShelf {
             disk,
             out: false,
             disk_faults: 0,
+            held: None,
+            held_counts: HeldCounts::none(),
         })
+    }
+
+    /// The same shelf, of which the disk is held for this reason from now on.
+    pub fn holding(self, why: DiskHeld) -> MemShelf
+        ensures held { ⟦<MemShelf as Shelf>⟧.is_free result ≡ false }
+        ensures files_kept { KeepsSources ⟦<MemShelf as Shelf>⟧.files
+            ⟦<MemShelf as Shelf>⟧.source_plans ⟦<MemShelf as Shelf>⟧.fault_count
+            ⟦<MemShelf as Shelf>⟧.absent_count ⟦<MemShelf as Shelf>⟧.faults_of
+            ⟦<MemShelf as Shelf>⟧.lent_count self result }
+        ensures plan_kept { ⟦<MemShelf as Shelf>⟧.fault_plan result
+            ≡ ⟦<MemShelf as Shelf>⟧.fault_plan self }
+        ensures disk_kept { (⟦<MemShelf as Shelf>⟧.disk_history result
+            ≡ ⟦<MemShelf as Shelf>⟧.disk_history self)
+            × (⟦<MemShelf as Shelf>⟧.disk_plan result ≡ ⟦<MemShelf as Shelf>⟧.disk_plan self)
+            × (⟦<MemShelf as Shelf>⟧.disk_fault_count result
+            ≡ ⟦<MemShelf as Shelf>⟧.disk_fault_count self)
+            × (⟦<MemShelf as Shelf>⟧.is_out result ≡ ⟦<MemShelf as Shelf>⟧.is_out self) }
+        ensures counts_kept { (any : DiskHeld) → ⟦<MemShelf as Shelf>⟧.held_count result any
+            ≡ ⟦<MemShelf as Shelf>⟧.held_count self any }
+    {
+        let mut shelf = self;
+        shelf.held = Some(why);
+        shelf
     }
 
     /// The disk, as it was last given back, or as the shelf was made with it.
@@ -116,6 +150,8 @@ impl MemShelf {
             disk,
             out: _,
             disk_faults: _,
+            held: _,
+            held_counts: _,
         } = self;
         disk
     }
@@ -127,6 +163,7 @@ impl Shelf for MemShelf {
     type Dsk = MemDisk;
 
     ghost use Rattle.eql_outside.specs.Faults.{faults_in};
+    ghost use Rattle.eql_outside.specs.Holding.{held_in};
     ghost use Rattle.eql_outside.specs.MemDisks.{history_of};
     ghost use Rattle.eql_outside.specs.Memory.{contents, planned_fails};
     ghost use Rattle.eql_outside.specs.Planned.{plan_of};
@@ -152,6 +189,10 @@ impl Shelf for MemShelf {
     ghost disk_fault_count = { λ s. s.disk_faults };
 
     ghost disk_plan = { λ s. Some (plan_of s.disk.planned) };
+
+    ghost held_count = { λ s. held_in s.held_counts };
+
+    ghost is_free = { λ s. is_none s.held };
 
     fn source(&mut self, alloc: Global, name: &String) -> Result<Option<MemSource>, OutRefused> {
         let fails = self.planned.next();
@@ -188,10 +229,14 @@ impl Shelf for MemShelf {
         }
     }
 
-    fn disk(&mut self, alloc: Global, _name: &String) -> Result<MemDisk, OutRefused> {
+    fn disk(&mut self, alloc: Global, _name: &String) -> Result<MemDisk, DiskRefused> {
         if self.planned.next() {
             self.disk_faults = self.disk_faults.saturating_add(1);
-            return Err(OutRefused::Failed);
+            return Err(DiskRefused::Failed);
+        }
+        if let Some(why) = self.held {
+            self.held_counts.add(why);
+            return Err(DiskRefused::Held(why));
         }
         let disk = self.disk.copy(alloc)?;
         self.out = true;

@@ -69,6 +69,16 @@ impl<W: WritesAlike> Sink for StdSink<W> {
         }
     }
 
+    fn keep(&mut self, _alloc: Global) -> Result<(), OutRefused> {
+        match self.to.keep_written() {
+            Ok(()) => Ok(()),
+            Err(_) => {
+                self.faults = self.faults.saturating_add(1);
+                Err(OutRefused::Failed)
+            }
+        }
+    }
+
     fn faults(&self) -> u64 {
         self.faults
     }
