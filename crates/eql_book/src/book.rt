@@ -85,6 +85,7 @@ impl Book {
             (listing self.old.places (let_out self.old.pipes self.old.kept matches))
             (K.written sink.old) (K.written sink.new)) }
         ensures refused { OnErr result (self.new.whole ≡ false) }
+        ensures keeps { K.kept sink.new ≡ K.kept sink.old }
         ensures silent { K.written sink.old ≡ None → K.written sink.new ≡ None }
         ensures cause { result ≡ Err OutRefused.Failed
             → Rose (K.fault_count sink.old) (K.fault_count sink.new) }
@@ -113,6 +114,7 @@ impl Book {
         ensures front { OnErr result (WroteFront (listing self.old.places (held_back self.old))
             (K.written sink.old) (K.written sink.new)) }
         ensures refused { OnErr result (self.new.whole ≡ false) }
+        ensures keeps { K.kept sink.new ≡ K.kept sink.old }
         ensures silent { K.written sink.old ≡ None → K.written sink.new ≡ None }
         ensures cause { result ≡ Err OutRefused.Failed
             → Rose (K.fault_count sink.old) (K.fault_count sink.new) }

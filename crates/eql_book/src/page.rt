@@ -74,6 +74,7 @@ impl Page {
         ensures part { OnErr result
             (WroteFront (string_bytes self.old.waiting ++ match_line self.old.places found.now)
             (K.written sink.old) (K.written sink.new)) }
+        ensures keeps { K.kept sink.new ≡ K.kept sink.old }
         ensures silent { K.written sink.old ≡ None → K.written sink.new ≡ None }
         ensures cause { result ≡ Err OutRefused.Failed
             → Rose (K.fault_count sink.old) (K.fault_count sink.new) }
@@ -100,6 +101,7 @@ impl Page {
         ensures part { OnErr result
             (WroteFront (string_bytes self.old.waiting)
             (K.written sink.old) (K.written sink.new)) }
+        ensures keeps { K.kept sink.new ≡ K.kept sink.old }
         ensures silent { K.written sink.old ≡ None → K.written sink.new ≡ None }
         ensures cause { result ≡ Err OutRefused.Failed
             → Rose (K.fault_count sink.old) (K.fault_count sink.new) }

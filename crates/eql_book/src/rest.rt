@@ -63,6 +63,7 @@ fn print_range<K: Sink>(
         (string_bytes page.old.waiting
         ++ listing page.old.places (take (to - from) (drop from kept.now.items)))
         (K.written sink.old) (K.written sink.new)) }
+    ensures keeps { K.kept sink.new ≡ K.kept sink.old }
     ensures silent { K.written sink.old ≡ None → K.written sink.new ≡ None }
     ensures cause { result ≡ Err OutRefused.Failed
         → Rose (K.fault_count sink.old) (K.fault_count sink.new) }
@@ -98,6 +99,7 @@ fn write_tail<K: Sink>(
     ensures part { OnErr result (WroteFront
         (listing page.old.places (pipe_output (pipes_of after.now) tail.now.kept.items))
         (K.written sink.old) (K.written sink.new)) }
+    ensures keeps { K.kept sink.new ≡ K.kept sink.old }
     ensures silent { K.written sink.old ≡ None → K.written sink.new ≡ None }
     ensures cause { result ≡ Err OutRefused.Failed
         → Rose (K.fault_count sink.old) (K.fault_count sink.new) }
@@ -145,6 +147,7 @@ pub(crate) fn write_rest<K: Sink>(
         (listing page.old.places
         (piped_from (pipes_of gates.now.items) (seen_of gates.now.items) []))
         (K.written sink.old) (K.written sink.new)) }
+    ensures keeps { K.kept sink.new ≡ K.kept sink.old }
     ensures silent { K.written sink.old ≡ None → K.written sink.new ≡ None }
     ensures cause { result ≡ Err OutRefused.Failed
         → Rose (K.fault_count sink.old) (K.fault_count sink.new) }

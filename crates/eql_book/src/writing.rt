@@ -34,6 +34,7 @@ fn write_match<K: Sink>(
         (string_bytes page.old.waiting ++ listing page.old.places
         (let_out (pipes_of ledger.old.gates.items) (kept_of ledger.old) (found ∷ [])))
         (K.written sink.old) (K.written sink.new)) }
+    ensures keeps { K.kept sink.new ≡ K.kept sink.old }
     ensures silent { K.written sink.old ≡ None → K.written sink.new ≡ None }
     ensures cause { result ≡ Err OutRefused.Failed
         → Rose (K.fault_count sink.old) (K.fault_count sink.new) }
@@ -69,6 +70,7 @@ fn write_matches<K: Sink>(
         (string_bytes page.old.waiting ++ listing page.old.places
         (let_out (pipes_of ledger.old.gates.items) (kept_of ledger.old) matches))
         (K.written sink.old) (K.written sink.new)) }
+    ensures keeps { K.kept sink.new ≡ K.kept sink.old }
     ensures silent { K.written sink.old ≡ None → K.written sink.new ≡ None }
     ensures cause { result ≡ Err OutRefused.Failed
         → Rose (K.fault_count sink.old) (K.fault_count sink.new) }
@@ -104,6 +106,7 @@ pub(crate) fn write_all<K: Sink>(
     ensures part { OnErr result (WroteFront (listing page.old.places
         (let_out (pipes_of ledger.old.gates.items) (kept_of ledger.old) matches))
         (K.written sink.old) (K.written sink.new)) }
+    ensures keeps { K.kept sink.new ≡ K.kept sink.old }
     ensures silent { K.written sink.old ≡ None → K.written sink.new ≡ None }
     ensures cause { result ≡ Err OutRefused.Failed
         → Rose (K.fault_count sink.old) (K.fault_count sink.new) }

@@ -21,6 +21,11 @@ pub out_not_full : (by : Stop) → StopsOut by → by ≢ stop.Generation
 out_not_full by (inl h) e = cc
 out_not_full by (inr h) e = cc
 
+-- nor is a fault of the disk
+pub out_apart : (by : Stop) → StopsOut by → by ≢ stop.Disk
+out_apart by (inl h) e = cc
+out_apart by (inr h) e = cc
+
 -- and no round comes to it
 pub not_full : (by : Stop) (a b : Known) → StopsAt by a b → by ≢ stop.Generation
 not_full by a b (inl h) e = subst (λ (s : Stop). StopsBy s a b) e h
@@ -58,14 +63,19 @@ module _ (a b : Known) (s sn d dn : ℕ) where
       subst (λ (x : Stop). StopsFor x a b s sn d dn) (sym e) (went.failed, went.worn, (cause e, counts), de)
   round_ends by (inr (inr e, went)) cause steady counts de = memory_ends by e (steady (λ w. let k = sym e ∙ w in cc)) de went
 
-  -- or by the disk
-  pub cut_ends : (by : Stop) → StopsSaving by a b → (by ≡ stop.Disk → Rose d dn) → (by ≢ stop.Disk → dn ≡ d) → d ≤ dn → sn ≡ s → StopsFor by a b s sn d dn
-  cut_ends by (inl h) cause steady counts se = bench_ends by se (steady (not_disk by h)) h
-  cut_ends by (inr (inl e, went)) cause steady counts se =
-      subst (λ (x : Stop). StopsFor x a b s sn d dn) (sym e) (went.failed, went.worn, se, (cause e, counts))
-  cut_ends by (inr (inr (inl e), went)) cause steady counts se = memory_ends by e se (steady (λ w. let k = sym e ∙ w in cc)) went
-  cut_ends by (inr (inr (inr e), went)) cause steady counts se =
-      subst (λ (x : Stop). StopsFor x a b s sn d dn) (sym e) (went.failed, went.worn, se, steady (λ w. let k = sym e ∙ w in cc))
+  -- or by the sink or the disk
+  pub cut_ends : (by : Stop) → StopsSaving by a b → (by ≡ stop.Write → Rose s sn) → (by ≢ stop.Write → sn ≡ s) → s ≤ sn
+      → (by ≡ stop.Disk → Rose d dn) → (by ≢ stop.Disk → dn ≡ d) → d ≤ dn → StopsFor by a b s sn d dn
+  cut_ends by (inl h) cause steady counts disk_cause disk_steady disk_counts = bench_ends by (steady (not_write by h)) (disk_steady (not_disk by h)) h
+  cut_ends by (inr (inl out, went)) cause steady counts disk_cause disk_steady disk_counts =
+      round_ends by (inr (out, went)) cause steady counts (disk_steady (out_apart by out))
+  cut_ends by (inr (inr (inl e), went)) cause steady counts disk_cause disk_steady disk_counts =
+      subst (λ (x : Stop). StopsFor x a b s sn d dn) (sym e) (went.failed, went.worn, steady (λ w. let k = sym e ∙ w in cc), (disk_cause e, disk_counts))
+  cut_ends by (inr (inr (inr (inl e)), went)) cause steady counts disk_cause disk_steady disk_counts =
+      memory_ends by e (steady (λ w. let k = sym e ∙ w in cc)) (disk_steady (λ w. let k = sym e ∙ w in cc)) went
+  cut_ends by (inr (inr (inr (inr e)), went)) cause steady counts disk_cause disk_steady disk_counts =
+      subst (λ (x : Stop). StopsFor x a b s sn d dn) (sym e)
+      (went.failed, went.worn, steady (λ w. let k = sym e ∙ w in cc), disk_steady (λ w. let k = sym e ∙ w in cc))
 
 -- neither a round nor the end of the book fails by the disk
 pub round_not_disk : (by : Stop) (a b : Known) → StopsAt by a b → by ≢ stop.Disk

@@ -33,6 +33,7 @@ use Rattle.eql_conductor.specs.Benches.{Known, StaysSame}
 use Rattle.eql_conductor.specs.Bounds.{AreSized, RoundsSpend}
 use Rattle.eql_conductor.specs.Going.{LanesGo, RunResult}
 use Rattle.eql_conductor.specs.LaneRounds.{IsSafe, LanesAreAt}
+use Rattle.eql_conductor.specs.Outputs.{Output, KeepsFor}
 use Rattle.eql_conductor.specs.PartRounds.{AreAtRest, pending_after}
 use Rattle.eql_conductor.specs.Rounds.{BenchIsOfTexts, CountsAreInRange, GoesTo, RoundRests, RoundStops, StopsOut, found_by}
 use Rattle.eql_conductor.specs.RoundNotes.{NotesRoundFront, NotesRound}
@@ -40,7 +41,7 @@ use Rattle.eql_conductor.specs.RunNotes.{NotesCut, Place, PlaysRound, PlaysRound
 use Rattle.eql_conductor.specs.RunBounds.{RunIsBounded}
 use Rattle.eql_conductor.specs.Records.{ListsTold, Ran}
 use Rattle.eql_conductor.specs.Running.{CountsRound, CutGoes, CutStops, IsAtMark, IsTaken, KeepPuts, KeepStands, KeepStops, KeepsOne, PassesRound, RanAll, RanTo, StepStops, time_of}
-use Rattle.eql_conductor.specs.Runs.{cut_time, IsRunCut, KeepGoes, MayKeepIf, MayRun, RanWhole, RunIs, RunStops, RunStopsAt, WroteLinesOf, lines_before_end, lines_by, whole_lines}
+use Rattle.eql_conductor.specs.Runs.{cut_time, IsRunCut, KeepGoes, KeptLinesOf, MayKeepIf, MayRun, RanWhole, RunIs, RunStops, RunStopsAt, WroteLinesOf, lines_before_end, lines_by, whole_lines}
 use Rattle.eql_conductor.specs.Saving.{IsSavedAt, SavesNoCut, SavesCut}
 use Rattle.eql_conductor.proofs.Bounded.{run_bounded}
 use Rattle.eql_conductor.proofs.BoundsOpenings.{sized_on}
@@ -56,7 +57,7 @@ use Rattle.eql_conductor.proofs.Numbers.{book_none}
 use Rattle.eql_conductor.proofs.Onward.{lanes_go_on, lanes_go_self}
 use Rattle.eql_conductor.proofs.Recorded.{run_listed}
 use Rattle.eql_conductor.proofs.Resting.{was_lane}
-use Rattle.eql_conductor.proofs.Through.{WroteMore, all_stay, both_wrote, front_more, goes_more, lines_at, rise_on, taken_rise, taken_wrote}
+use Rattle.eql_conductor.proofs.Through.{WroteMore, all_stay, both_wrote, front_more, goes_more, keeps_for_on, kept_on, kept_still, lines_at, no_cuts, rise_on, taken_rise, taken_wrote}
 
 -- ---- lanes
 pub safe_at : (mark : Mark) (b c : Known) → LanesAreAt None mark b → LanesGo b c → IsSafe mark c
@@ -310,32 +311,34 @@ module _ {D : Type 0} (history : D → Option History) (count : D → ℕ) where
   more_are head later b after more answer (Some m) (Some l) k = k.are_cuts
 
   -- ---- a cut that was put, or wasn't
-  pub saved_goes : {X : Type 0} (r : Result X Stop) (head : CutHead) (time : ℤ) (b c : Known) (book : BookState) (k l : Keep D)
+  pub saved_goes : {X : Type 0} (r : Result X Stop) (head : CutHead) (time : ℤ) (b c : Known) (book : BookState) (output output' : Output) (k l : Keep D)
       → ((texts : Option (List (List ℕ))) → LanesAreAt texts (At time) b → OnOk r (LanesAreAt texts (At time) c))
       → ((rules : Rules) (all : List Holder) → AreAtRest rules all (At time) b → OnOk r (AreAtRest rules all (At time) c))
-      → OnOk r (SavesCut head time b book k.state l.state (history k.disk) (history l.disk)) → OnOk r (NotesSave b c)
-      → OnOk r (CutGoes history count head (At time) (Some time) b c book (Some k) (Some l))
-  saved_goes (Err by) head time b c book k l lanes parts h noted = tt
-  saved_goes (Ok x) head time b c book k l lanes parts h noted = record {
+      → OnOk r (SavesCut head time b book output output' k.state l.state (history k.disk) (history l.disk)) → OnOk r (NotesSave b c)
+      → OnOk r (CutGoes history count head (At time) (Some time) b c book output output' (Some k) (Some l))
+  saved_goes (Err by) head time b c book output output' k l lanes parts h noted = tt
+  saved_goes (Ok x) head time b c book output output' k l lanes parts h noted = record {
     lanes = lanes;
     parts = parts;
     cut = Some h.cut;
     is = was_saved head time b book h.cut h.is_saved;
+    lines_kept = h.lines_kept;
     keeps = record { puts = h.puts; state_is = h.state_is; holds = h.holds; stands = h.stands };
     time_is = ap Some h.is_saved.mark_is;
     noted = record { lanes = noted.lanes; parts = noted.parts };
   }
 
-  pub saved_stops : {X : Type 0} (r : Result X Stop) (head : CutHead) (time : ℤ) (b c : Known) (book : BookState) (k l : Keep D)
-      → OnErr r (SavesNoCut head time b book k.state l.state (history k.disk) (history l.disk))
+  pub saved_stops : {X : Type 0} (r : Result X Stop) (head : CutHead) (time : ℤ) (b c : Known) (book : BookState) (output output' : Output) (k l : Keep D)
+      → OnErr r (SavesNoCut head time b book output output' k.state l.state (history k.disk) (history l.disk))
       → (r ≡ Err stop.Generation → (last_cut l.state).generation ≡ 2 ^ 63)
       → IfErr r (λ (by : Stop). (by ≢ stop.Disk) → (by ≢ stop.Memory) → Stands (last_cut l.state) (history l.disk)) → OnErr r (NotesSaveFront b c)
-      → IfErr r (CutStops history count head (At time) (Some time) b c book (Some k) (Some l))
-  saved_stops (Ok x) head time b c book k l h full stands noted = tt
-  saved_stops (Err by) head time b c book k l h full stands noted = record {
+      → IfErr r (CutStops history count head (At time) (Some time) b c book output output' (Some k) (Some l))
+  saved_stops (Ok x) head time b c book output output' k l h full stands noted = tt
+  saved_stops (Err by) head time b c book output output' k l h full stands noted = record {
     cuts = h.cuts;
     are = All-weaker (IsSavedAt head time b book) (IsTaken head (At time) b book) (was_saved head time b book) h.cuts h.are_saved;
     one = h.one;
+    lines_kept = h.lines_kept;
     keeps = record { puts = h.puts; state_is = h.state_is; full = λ e. full (ap Err e); stands = stands };
     time = time;
     time_is = refl;
@@ -343,56 +346,65 @@ module _ {D : Type 0} (history : D → Option History) (count : D → ℕ) where
   }
 
   -- none was due
-  pub none_goes : (head : CutHead) (mark : Mark) (due : Option ℤ) (b : Known) (book : BookState) (keep : Option (Keep D)) → None ≡ due → CutGoes history count head mark due b b book keep keep
-  none_goes head mark due b book keep e = record {
+  pub none_goes : (head : CutHead) (mark : Mark) (due : Option ℤ) (b : Known) (book : BookState) (output : Output) (keep : Option (Keep D)) → None ≡ due → CutGoes history count head mark due b b book output output keep keep
+  none_goes head mark due b book output keep e = record {
     lanes = λ texts at. at;
     parts = λ rules all rest. rest;
     cut = None;
     is = tt;
+    lines_kept = refl;
     keeps = refl;
     time_is = e;
     noted = subst (λ (t : Option ℤ). NotesCut t b b) e (cut_self b);
   }
 
   -- ---- one step
-  module _ (plan : RunPlan) (at : Place) (b c : Known) (book then : BookState) (before now : Option (List ℕ)) (keep : Option (Keep D)) (go : LanesGo b c) where
+  module _ (plan : RunPlan) (at : Place) (b c : Known) (book then : BookState) (before now : Output) (keep : Option (Keep D)) (go : LanesGo b c)
+      (kept_is : now.kept ≡ before.kept) where
     -- a round stopped
-    pub round_stopped : (by : Stop) → IsAtMark at.mark b book → FitsPipes book.pipes book.kept → RoundStops at.mark b book then before now → NotesRoundFront at.mark plan.batch b c
+    pub round_stopped : (by : Stop) → IsAtMark at.mark b book → FitsPipes book.pipes book.kept → RoundStops at.mark b book then before.written now.written → NotesRoundFront at.mark plan.batch b c
         → by ≢ stop.Generation → KeepStands history count plan b keep → StepStops history count plan at b c book then before now keep keep by
     round_stopped by is fits h broken other stands = record {
       ran = record {
         cuts = [];
-        is = round_run_stops at.mark b c book then before now is go fits h;
+        is = round_run_stops at.mark b c book then before.written now.written is go fits h;
         keeps = keeps_none plan.head at.mark b book by keep other (kept_stands plan b keep stands);
-        wrote = All-nil (WroteLinesOf at.mark b book before now);
+        wrote = All-nil (WroteLinesOf at.mark b book before.written now.written);
         rise = tt;
       };
+      lines_kept = kept_is;
       noted = round_broke plan.batch plan.every at b c broken;
     }
 
     -- it didn't count
-    pub passed : RoundRests at.mark b c book then before now → NotesRound at.mark plan.batch b c None → PassesRound history count plan at b c book then before now keep keep
+    pub passed : RoundRests at.mark b c book then before.written now.written → NotesRound at.mark plan.batch b c None → PassesRound history count plan at b c book then before now keep keep
     passed rests noted = record {
       rests = rests;
+      kept_is = kept_is;
       keeps = refl;
       noted = round_played plan.batch plan.every at b c None noted c go.same None (sym (not_due plan.every at.counts)) (cut_self c);
     }
 
-  module _ (plan : RunPlan) (at : Place) (mark : Mark) (a b c : Known) (book then : BookState) (before now : Option (List ℕ)) (keep kept : Option (Keep D))
-      (is_at : IsAtMark at.mark a book) (same : StaysSame a b) (goes : GoesTo at.mark mark a b book then before now) (in_range : CountsAreInRange at.mark a (Some mark))
-      (noted : NotesRound at.mark plan.batch a b (Some mark)) (n : ℕ) (next : n ≡ suc at.counts) where
+  module _ (plan : RunPlan) (at : Place) (mark : Mark) (a b c : Known) (book then : BookState) (before mid now : Output) (keep kept : Option (Keep D))
+      (is_at : IsAtMark at.mark a book) (same : StaysSame a b) (went : GoesTo at.mark mark a b book then before.written mid.written) (in_range : CountsAreInRange at.mark a (Some mark))
+      (noted : NotesRound at.mark plan.batch a b (Some mark)) (kept_is : mid.kept ≡ before.kept) (wrote_is : now.written ≡ mid.written) (n : ℕ) (next : n ≡ suc at.counts) where
+    -- nothing was written for the cut
+    goes : GoesTo at.mark mark a b book then before.written now.written
+    goes = subst (λ (written : Option (List ℕ)). GoesTo at.mark mark a b book then before.written written) (sym wrote_is) went
+
     one_is : (cut : Cut) → IsTaken plan.head mark b then cut → IsRunCut plan.head at.mark a book cut
-    one_is cut taken = taken_is plan.head at.mark mark a b book then before now cut same goes in_range taken
+    one_is cut taken = taken_is plan.head at.mark mark a b book then before.written now.written cut same goes in_range taken
 
     due_is : cut_after plan.every n (Some mark) ≡ cut_after plan.every (suc at.counts) (Some mark)
     due_is = ap (λ (k : ℕ). cut_after plan.every k (Some mark)) next
 
     -- it counted, and a cut was kept where one was due
-    pub counted : CutGoes history count plan.head mark (cut_after plan.every n (Some mark)) b c then keep kept → CountsRound history count plan at mark a c book then before now keep kept
+    pub counted : CutGoes history count plan.head mark (cut_after plan.every n (Some mark)) b c then mid now keep kept → CountsRound history count plan at mark a c book then before now keep kept
     counted h = record {
-      goes = goes_stays at.mark mark a b c book then before now h.lanes h.parts goes;
+      goes = goes_stays at.mark mark a b c book then before.written now.written h.lanes h.parts goes;
       cut = h.cut;
       is = one_of h.cut h.is;
+      lines_kept = keeps_for_on (option_to_list h.cut) before mid now kept_is h.lines_kept;
       keeps = h.keeps;
       noted = round_played plan.batch plan.every at a b (Some mark) noted c same (time_of h.cut) (h.time_is ∙ due_is) (subst (λ (t : Option ℤ). NotesCut t b c) (sym h.time_is) h.noted);
     }
@@ -402,31 +414,34 @@ module _ {D : Type 0} (history : D → Option History) (count : D → ℕ) where
         one_of (Some cut) h = (h.mark_is, one_is cut h)
 
     -- it counted, and a cut stopped
-    pub cut_stopped : (by : Stop) → LanesGo b c → CutStops history count plan.head mark (cut_after plan.every n (Some mark)) b c then keep kept by
+    pub cut_stopped : (by : Stop) → LanesGo b c → CutStops history count plan.head mark (cut_after plan.every n (Some mark)) b c then mid now keep kept by
         → StepStops history count plan at a c book then before now keep kept by
     cut_stopped by go h = record {
       ran = record {
         cuts = h.cuts;
-        is = cut_run_stops at.mark mark a b c book then before now h.cuts is_at.lanes go goes
+        is = cut_run_stops at.mark mark a b c book then before.written now.written h.cuts is_at.lanes go goes
             (All-weaker (IsTaken plan.head mark b then) (λ (cut : Cut). IsAtMost (At cut.mark) mark) (λ cut taken. subst (λ (m : Mark). IsAtMost m mark) taken.mark_is (at_most_self mark)) h.cuts h.are);
         keeps = keeps_stopped plan.head at.mark a book by h.cuts keep kept (All-weaker (IsTaken plan.head mark b then) (IsRunCut plan.head at.mark a book) one_is h.cuts h.are) h.keeps;
-        wrote = taken_wrote at.mark mark a b book then before now goes plan.head h.cuts h.are;
-        rise = taken_rise at.mark mark a b book then before now goes plan.head h.cuts h.are h.one;
+        wrote = taken_wrote at.mark mark a b book then before.written now.written goes plan.head h.cuts h.are;
+        rise = taken_rise at.mark mark a b book then before.written now.written goes plan.head h.cuts h.are h.one;
       };
+      lines_kept = keeps_for_on h.cuts before mid now kept_is h.lines_kept;
       noted = keep_broke plan.batch plan.every at a b (Some mark) noted c same h.time (sym due_is ∙ h.time_is) (map cut_time h.cuts)
           (put_one plan.head mark b then plan.every n h.time h.time_is h.cuts h.are h.one) h.noted;
     }
 
   -- ---- step by step
-  pub ran_none : (plan : RunPlan) (a : Known) (book : BookState) (w : Option (List ℕ)) (keep : Option (Keep D)) → FitsPipes book.pipes book.kept → KeepStands history count plan a keep
+  pub ran_none : (plan : RunPlan) (a : Known) (book : BookState) (w : Output) (keep : Option (Keep D)) → FitsPipes book.pipes book.kept → KeepStands history count plan a keep
       → RanTo history count plan (start plan) 0 a a book book w w keep keep
   ran_none plan a book w keep fits stands = let none = rounds_none plan.batch plan.every (start plan) a in record {
-    goes = goes_self plan.mark a book w fits;
+    goes = goes_self plan.mark a book w.written fits;
     cuts = [];
     are_cuts = All-nil (IsRunCut plan.head plan.mark a book);
     at_most = All-nil (λ (cut : Cut). IsAtMost (At cut.mark) plan.mark);
     puts = keep_puts_none history count plan a keep stands;
-    wrote = All-nil (WroteLinesOf plan.mark a book w w);
+    wrote = All-nil (WroteLinesOf plan.mark a book w.written w.written);
+    lines_kept = All-nil (KeptLinesOf plan.mark a book w w.kept);
+    kept_is = λ e. refl;
     rise = tt;
     noted = none.0;
     rounds = none.1;
@@ -439,7 +454,7 @@ module _ {D : Type 0} (history : D → Option History) (count : D → ℕ) where
   abbrev BrokenAt : RunPlan → (a c : Known) → ℕ → List ℤ → Type 0
   BrokenAt plan a c n times = (k : PlaysRoundsFront plan.batch plan.every (start plan) times a c) × (length k.rounds ≡ n)
 
-  module _ (plan : RunPlan) (at : Place) (n : ℕ) (a b c : Known) (book mid then : BookState) (before between_them now : Option (List ℕ)) (keep kept_mid kept : Option (Keep D))
+  module _ (plan : RunPlan) (at : Place) (n : ℕ) (a b c : Known) (book mid then : BookState) (before between_them now : Output) (keep kept_mid kept : Option (Keep D))
       (same : StaysSame a b) (begins : at.mark ≢ End) (h : RanTo history count plan at n a b book mid before between_them keep kept_mid) where
     abbrev times : List ℤ
     times = map cut_time h.cuts
@@ -452,49 +467,59 @@ module _ {D : Type 0} (history : D → Option History) (count : D → ℕ) where
 
     pub ran_rests : PassesRound history count plan at b c mid then between_them now kept_mid kept → RanTo history count plan at (n + 1) a c book then before now keep kept
     ran_rests passed = let k = more_rounds None None times (append-nil times) passed.noted in record {
-      goes = goes_rests plan.mark at.mark a b c book mid then before between_them now h.goes passed.rests;
+      goes = goes_rests plan.mark at.mark a b c book mid then before.written between_them.written now.written h.goes passed.rests;
       cuts = h.cuts;
       are_cuts = h.are_cuts;
       at_most = h.at_most;
       puts = subst (KeepPuts history count h.cuts keep) (sym passed.keeps) h.puts;
-      wrote = subst (λ (w : Option (List ℕ)). All (WroteLinesOf plan.mark a book before w) h.cuts) (sym passed.rests.wrote_is) h.wrote;
+      wrote = subst (λ (w : Option (List ℕ)). All (WroteLinesOf plan.mark a book before.written w) h.cuts) (sym passed.rests.wrote_is) h.wrote;
+      lines_kept = kept_still plan.mark a book before between_them now h.cuts h.kept_is h.lines_kept passed.kept_is;
+      kept_is = λ e. passed.kept_is ∙ h.kept_is e;
       rise = h.rise;
       noted = k.0;
       rounds = k.1;
     }
 
-    wrote_still : (mark : Mark) → GoesTo at.mark mark b c mid then between_them now → All (WroteLinesOf plan.mark a book before now) h.cuts
+    wrote_still : (mark : Mark) → GoesTo at.mark mark b c mid then between_them.written now.written → All (WroteLinesOf plan.mark a book before.written now.written) h.cuts
     wrote_still mark goes =
-        all_stay plan.mark a book before between_them now (λ reads slack texts rules all of was.
-        goes_more at.mark mark b c mid then between_them now rules (pending_after rules all h.goes.items) goes (h.goes.played rules all was).parts) h.cuts h.wrote
+        all_stay plan.mark a book before.written between_them.written now.written (λ reads slack texts rules all of was.
+        goes_more at.mark mark b c mid then between_them.written now.written rules (pending_after rules all h.goes.items) goes (h.goes.played rules all was).parts) h.cuts h.wrote
 
-    ran_one : (mark : Mark) (goes : GoesTo at.mark mark b c mid then between_them now) (cut : Option Cut) → IfSome cut (λ c. (mark ≡ At c.mark) × IsRunCut plan.head at.mark b mid c)
+    ran_one : (mark : Mark) (goes : GoesTo at.mark mark b c mid then between_them.written now.written) (cut : Option Cut) → KeepsFor (option_to_list cut) between_them now → IfSome cut (λ c. (mark ≡ At c.mark) × IsRunCut plan.head at.mark b mid c)
         → KeepsOne history count cut kept_mid kept → PlaysRound plan.batch plan.every at (time_of cut) b c (Some mark)
         → RanTo history count plan (place_behind at (Some mark)) (n + 1) a c book then before now keep kept
-    ran_one mark goes None is keeps noted = let k = more_rounds None (Some mark) times (append-nil times) noted in record {
-      goes = goes_join plan.mark at.mark mark a b c book mid then before between_them now same h.goes goes;
+    ran_one mark goes None lines is keeps noted = let k = more_rounds None (Some mark) times (append-nil times) noted in record {
+      goes = goes_join plan.mark at.mark mark a b c book mid then before.written between_them.written now.written same h.goes goes;
       cuts = h.cuts;
       are_cuts = h.are_cuts;
       at_most = All-weaker (λ (cut : Cut). IsAtMost (At cut.mark) at.mark) (λ (cut : Cut). IsAtMost (At cut.mark) mark) (λ cut le. at_most_trans (At cut.mark) at.mark mark le goes.later) h.cuts h.at_most;
       puts = subst (KeepPuts history count h.cuts keep) (sym keeps) h.puts;
       wrote = wrote_still mark goes;
+      lines_kept = kept_still plan.mark a book before between_them now h.cuts h.kept_is h.lines_kept lines;
+      kept_is = λ e. lines ∙ h.kept_is e;
       rise = h.rise;
       noted = k.0;
       rounds = k.1;
     }
-    ran_one mark goes (Some cut) is keeps noted =
+    ran_one mark goes (Some cut) lines is keeps noted =
         let k = more_rounds (Some cut.mark) (Some mark) (map cut_time (h.cuts ++ cut ∷ [])) (sym (map-append cut_time h.cuts (cut ∷ []))) noted in
-        let went : GoesTo plan.mark mark a c book then before now = goes_join plan.mark at.mark mark a b c book mid then before between_them now same h.goes goes in record {
+        let went : GoesTo plan.mark mark a c book then before.written now.written = goes_join plan.mark at.mark mark a b c book mid then before.written between_them.written now.written same h.goes goes in
+        let wrote : All (WroteLinesOf plan.mark a book before.written now.written) (h.cuts ++ cut ∷ []) =
+        All-append (WroteLinesOf plan.mark a book before.written now.written) h.cuts (cut ∷ []) (wrote_still mark goes)
+        (All-cons (WroteLinesOf plan.mark a book before.written now.written) cut []
+        (lines_at plan.mark mark a c book then before.written now.written went cut is.0) (All-nil (WroteLinesOf plan.mark a book before.written now.written))) in
+        record {
           goes = went;
           cuts = h.cuts ++ cut ∷ [];
           are_cuts = All-append (IsRunCut plan.head plan.mark a book) h.cuts (cut ∷ []) h.are_cuts
-              (cuts_on plan.head plan.mark at.mark a b book mid before between_them same h.goes (cut ∷ []) (All-cons (IsRunCut plan.head at.mark b mid) cut [] is.1 (All-nil (IsRunCut plan.head at.mark b mid))));
+              (cuts_on plan.head plan.mark at.mark a b book mid before.written between_them.written same h.goes (cut ∷ []) (All-cons (IsRunCut plan.head at.mark b mid) cut [] is.1 (All-nil (IsRunCut plan.head at.mark b mid))));
           at_most = All-append (λ (cut : Cut). IsAtMost (At cut.mark) mark) h.cuts (cut ∷ [])
               (All-weaker (λ (cut : Cut). IsAtMost (At cut.mark) at.mark) (λ (cut : Cut). IsAtMost (At cut.mark) mark) (λ cut le. at_most_trans (At cut.mark) at.mark mark le goes.later) h.cuts h.at_most)
               (All-cons (λ (cut : Cut). IsAtMost (At cut.mark) mark) cut [] (subst (λ (m : Mark). IsAtMost m mark) is.0 (at_most_self mark)) (All-nil (λ (cut : Cut). IsAtMost (At cut.mark) mark)));
           puts = keep_puts_more history count h.cuts cut keep kept_mid kept h.puts keeps;
-          wrote = All-append (WroteLinesOf plan.mark a book before now) h.cuts (cut ∷ []) (wrote_still mark goes)
-              (All-cons (WroteLinesOf plan.mark a book before now) cut [] (lines_at plan.mark mark a c book then before now went cut is.0) (All-nil (WroteLinesOf plan.mark a book before now)));
+          wrote = wrote;
+          lines_kept = kept_on plan.mark a book before between_them now h.cuts h.kept_is h.lines_kept (cut ∷ []) lines wrote;
+          kept_is = λ e. no_cuts h.cuts cut e;
           rise = rise_on plan.mark at.mark h.cuts (cut ∷ []) h.goes.later h.at_most h.rise (subst (IsAtMost at.mark) is.0 goes.later, tt);
           noted = k.0;
           rounds = k.1;
@@ -503,7 +528,7 @@ module _ {D : Type 0} (history : D → Option History) (count : D → ℕ) where
     pub ran_counted : (mark : Mark) (counts : ℕ) → counts ≡ suc at.counts → CountsRound history count plan at mark b c mid then between_them now kept_mid kept
         → RanTo history count plan (place mark counts) (n + 1) a c book then before now keep kept
     ran_counted mark counts e k =
-        subst (λ (m : ℕ). RanTo history count plan (place mark m) (n + 1) a c book then before now keep kept) (sym e) (ran_one mark k.goes k.cut k.is k.keeps k.noted)
+        subst (λ (m : ℕ). RanTo history count plan (place mark m) (n + 1) a c book then before now keep kept) (sym e) (ran_one mark k.goes k.cut k.lines_kept k.is k.keeps k.noted)
 
     -- a step stopped
     module _ (book_is_kept : BookIsKept) (end_is_whole : EndIsWhole) (spent : RoundsSpend n a b) (sized : AreSized a) (go : LanesGo a b) (on : LanesGo b c) where
@@ -519,43 +544,47 @@ module _ {D : Type 0} (history : D → Option History) (count : D → ℕ) where
           let all : List ℤ = map cut_time (h.cuts ++ more) in
           let broke = rounds_broke plan.batch plan.every (start plan) at times a b same h.noted c (map cut_time more) (inl begins) k.noted in
           let broken : BrokenAt plan a c n all = subst (BrokenAt plan a c n) (sym (map-append cut_time h.cuts more)) (broke.0, broke.1 ∙ h.rounds) in
-          let stopped : RunStops at.mark b c mid then between_them now more = k.ran.is in
+          let stopped : RunStops at.mark b c mid then between_them.written now.written more = k.ran.is in
           let more_cuts : All (IsRunCut plan.head at.mark b mid) more = more_are plan.head at.mark b mid more (Err by) kept_mid kept k.ran.keeps in
-          let is : RunStops plan.mark a c book then before now (h.cuts ++ more) =
-          run_stops_on plan.mark at.mark a b c book mid then before between_them now h.cuts more same h.goes h.at_most stopped in
+          let is : RunStops plan.mark a c book then before.written now.written (h.cuts ++ more) =
+          run_stops_on plan.mark at.mark a b c book mid then before.written between_them.written now.written h.cuts more same h.goes h.at_most stopped in
+          let wrote : All (WroteLinesOf plan.mark a book before.written now.written) (h.cuts ++ more) =
+          wrote_on plan.mark at.mark a b c book mid then before.written between_them.written now.written h.cuts more same h.goes h.at_most stopped plan.head h.wrote more_cuts k.ran.wrote in
           record {
             cuts = h.cuts ++ more;
             is = is;
-            listed = lists_told book_is_kept end_is_whole plan a c book then before now (h.cuts ++ more) (Err by) is;
+            listed = lists_told book_is_kept end_is_whole plan a c book then before.written now.written (h.cuts ++ more) (Err by) is;
             keeps = keeps_on plan.head plan.mark at.mark a b book mid h.cuts more by keep kept_mid kept h.are_cuts
-                (cuts_on plan.head plan.mark at.mark a b book mid before between_them same h.goes more more_cuts) h.puts k.ran.keeps;
-            wrote = wrote_on plan.mark at.mark a b c book mid then before between_them now h.cuts more same h.goes h.at_most stopped plan.head h.wrote more_cuts k.ran.wrote;
+                (cuts_on plan.head plan.mark at.mark a b book mid before.written between_them.written same h.goes more more_cuts) h.puts k.ran.keeps;
+            wrote = wrote;
+            lines_kept = kept_on plan.mark a book before between_them now h.cuts h.kept_is h.lines_kept more k.lines_kept wrote;
             rise = rise_on plan.mark at.mark h.cuts more h.goes.later h.at_most h.rise k.ran.rise;
             notes = broken.0;
             bound = broken_bound all broken.0 broken.1;
           }
 
   -- ---- the end
-  module _ (plan : RunPlan) (a b : Known) (book mid then : BookState) (before between_them now : Option (List ℕ)) (keep kept : Option (Keep D))
+  module _ (plan : RunPlan) (a b : Known) (book mid then : BookState) (before between_them now : Output) (keep kept : Option (Keep D)) (kept_is : now.kept ≡ between_them.kept)
       (book_is_kept : BookIsKept) (end_is_whole : EndIsWhole) (at : IsAtMark plan.mark a book) (sized : AreSized a) (go : LanesGo a b) (all : RanAll history count plan a b book mid before between_them keep kept) where
     abbrev h : RanTo history count plan (place End all.counts) (all.n + 1) a b book mid before between_them keep kept
     h = all.ran
 
-    pub ran_done : (done : Unit {0}) → then ≡ mid → mid.whole ≡ true → WroteAll (listing mid.places (held_back mid)) between_them now
+    pub ran_done : (done : Unit {0}) → then ≡ mid → mid.whole ≡ true → WroteAll (listing mid.places (held_back mid)) between_them.written now.written
         → Ran history count plan a b book then before now keep kept (Ok done)
-    ran_done done still whole wrote = let is = ran_whole plan.mark a b book mid then before between_them now h.cuts at h.goes still whole wrote in record {
+    ran_done done still whole wrote = let is = ran_whole plan.mark a b book mid then before.written between_them.written now.written h.cuts at h.goes still whole wrote in record {
       cuts = h.cuts;
       is = is;
-      listed = lists_told book_is_kept end_is_whole plan a b book then before now h.cuts (Ok done) is;
+      listed = lists_told book_is_kept end_is_whole plan a b book then before.written now.written h.cuts (Ok done) is;
       keeps = keeps_done plan.head plan.mark a book h.cuts done keep kept h.are_cuts h.puts;
-      wrote = all_stay plan.mark a book before between_them now (λ reads slack texts rules all of was. (listing mid.places (held_back mid), wrote)) h.cuts h.wrote;
+      wrote = all_stay plan.mark a book before.written between_them.written now.written (λ reads slack texts rules all of was. (listing mid.places (held_back mid), wrote)) h.cuts h.wrote;
+      lines_kept = kept_still plan.mark a book before between_them now h.cuts h.kept_is h.lines_kept kept_is;
       rise = h.rise;
       notes = record { to = place End all.counts; ended = refl; played = h.noted };
       bound = run_bounded (length h.noted.rounds) all.n (4 * length h.noted.rounds) a b (let e = h.rounds in omega (arith, e)) go.same all.spent (sized_on a b go sized) h.noted.parts
           (lanes_in_rounds plan.batch plan.every (start plan) (place End all.counts) (map cut_time h.cuts) a b h.noted) h.noted.in_rounds;
     }
 
-    pub ran_end_stops : (by : Stop) → then.whole ≡ false → WroteFront (listing mid.places (held_back mid)) between_them now → by ≢ stop.Generation
+    pub ran_end_stops : (by : Stop) → then.whole ≡ false → WroteFront (listing mid.places (held_back mid)) between_them.written now.written → by ≢ stop.Generation
         → Ran history count plan a b book then before now keep kept (Err by)
     ran_end_stops by spoilt wrote other =
         let times : List ℤ = map cut_time (h.cuts ++ []) in
@@ -566,26 +595,29 @@ module _ {D : Type 0} (history : D → Option History) (count : D → ℕ) where
         let bound : RunIsBounded (suc (length k.rounds)) a b =
         run_bounded (suc (length k.rounds)) all.n (4 * suc (length k.rounds)) a b (omega (arith, e)) go.same all.spent (sized_on a b go sized) k.parts
         (broken_in_rounds plan.batch plan.every (start plan) times a b k) k.in_rounds in
-        let is : RunStops plan.mark a b book then before now (h.cuts ++ []) =
-        end_run_stops plan.mark a b book mid then before between_them now (h.cuts ++ []) at h.goes spoilt wrote
+        let is : RunStops plan.mark a b book then before.written now.written (h.cuts ++ []) =
+        end_run_stops plan.mark a b book mid then before.written between_them.written now.written (h.cuts ++ []) at h.goes spoilt wrote
         (All-append (λ (cut : Cut). IsAtMost (At cut.mark) End) h.cuts [] h.at_most (All-nil (λ (cut : Cut). IsAtMost (At cut.mark) End))) (lanes_go_self b) in
+        let wrote_cuts : All (WroteLinesOf plan.mark a book before.written now.written) (h.cuts ++ []) =
+        All-append (WroteLinesOf plan.mark a book before.written now.written) h.cuts []
+        (all_stay plan.mark a book before.written between_them.written now.written (λ reads slack texts rules all of was. front_more (listing mid.places (held_back mid)) between_them.written now.written wrote) h.cuts h.wrote)
+        (All-nil (WroteLinesOf plan.mark a book before.written now.written)) in
         record {
           cuts = h.cuts ++ [];
           is = is;
-          listed = lists_told book_is_kept end_is_whole plan a b book then before now (h.cuts ++ []) (Err by) is;
+          listed = lists_told book_is_kept end_is_whole plan a b book then before.written now.written (h.cuts ++ []) (Err by) is;
           keeps = keeps_on plan.head plan.mark End a b book mid h.cuts [] by keep kept kept h.are_cuts (All-nil (IsRunCut plan.head plan.mark a book)) h.puts
               (keeps_none plan.head End b mid by kept other (put_stands h.cuts keep kept h.puts));
-          wrote = All-append (WroteLinesOf plan.mark a book before now) h.cuts []
-              (all_stay plan.mark a book before between_them now (λ reads slack texts rules all of was. front_more (listing mid.places (held_back mid)) between_them now wrote) h.cuts h.wrote)
-              (All-nil (WroteLinesOf plan.mark a book before now));
+          wrote = wrote_cuts;
+          lines_kept = kept_on plan.mark a book before between_them now h.cuts h.kept_is h.lines_kept [] kept_is wrote_cuts;
           rise = rise_on plan.mark End h.cuts [] h.goes.later h.at_most h.rise tt;
           notes = k;
           bound = bound;
         }
 
     -- as the book was ended or not
-    pub book_ended : (r : RunResult) → mid.whole ≡ true → OnOk r (then ≡ mid) → OnOk r (WroteAll (listing mid.places (held_back mid)) between_them now)
-        → OnErr r (then.whole ≡ false) → OnErr r (WroteFront (listing mid.places (held_back mid)) between_them now) → IfErr r StopsOut
+    pub book_ended : (r : RunResult) → mid.whole ≡ true → OnOk r (then ≡ mid) → OnOk r (WroteAll (listing mid.places (held_back mid)) between_them.written now.written)
+        → OnErr r (then.whole ≡ false) → OnErr r (WroteFront (listing mid.places (held_back mid)) between_them.written now.written) → IfErr r StopsOut
         → Ran history count plan a b book then before now keep kept r
     book_ended (Ok done) whole still wrote spoilt front out = ran_done done still whole wrote
     book_ended (Err by) whole still wrote spoilt front out = ran_end_stops by spoilt front (out_not_full by out)

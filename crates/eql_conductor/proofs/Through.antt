@@ -1,5 +1,6 @@
--- That the lines which a cut counts were written, and that the times of cuts rise.
-use Rattle.std.proofs.Common.{◌≡◌, ◌≤◌, ℕ, ℤ, List, [], ◌∷◌, ◌++◌, Option, None, Some, length, sym, ap, ◌∙◌, arith, subst, append_assoc, All, take}
+-- That the lines which a cut counts were written and are kept, and that the times of cuts rise.
+use Rattle.std.proofs.Common.{◌≡◌, ◌≤◌, ℕ, ℤ, List, [], ◌∷◌, ◌++◌, Option, None, Some, length, refl, sym, ap, ◌∙◌, arith, subst, append_assoc, All, take}
+use Rattle.std.specs.Prelude.{IfSome}
 use Rattle.std.proofs.lemmas.List.{append-nil}
 use Rattle.std.proofs.lemmas.List.Elements.{All-append, All-cons, All-head, All-nil, All-tail, All-weaker}
 use Rattle.eql_values.specs.declared.item.Item.{Item}
@@ -18,10 +19,11 @@ use Rattle.eql_cut.specs.declared.cut.Cut.{Cut}
 use Rattle.eql_cut.specs.declared.cut.CutHead.{CutHead}
 use Rattle.eql_cut.specs.Rising.{RiseFrom}
 use Rattle.eql_conductor.specs.Benches.{Known, StaysSame}
+use Rattle.eql_conductor.specs.Outputs.{Output, KeepsAll, KeepsFor}
 use Rattle.eql_conductor.specs.PartRounds.{AreAtRest, pending_after}
 use Rattle.eql_conductor.specs.Rounds.{BenchIsOfTexts, GoesTo, found_by}
 use Rattle.eql_conductor.specs.Running.{IsTaken}
-use Rattle.eql_conductor.specs.Runs.{IsRunCut, WroteLinesOf, lines_before_end}
+use Rattle.eql_conductor.specs.Runs.{IsRunCut, KeptLinesOf, WroteLinesOf, lines_before_end}
 use Rattle.eql_conductor.proofs.Goings.{texts_go}
 use Rattle.eql_conductor.proofs.Joins.{between_joins, found_joins, lines_join}
 
@@ -118,6 +120,87 @@ module _ (from to : Mark) (a b : Known) (book mid : BookState) (before between_t
     pub both_wrote : (cuts more : List Cut) → All (WroteLinesOf from a book before now) cuts → All (IsRunCut head to b mid) more → All (WroteLinesOf to b mid between_them now) more
         → All (WroteLinesOf from a book before now) (cuts ++ more)
     both_wrote cuts more wrote are also = All-append (WroteLinesOf from a book before now) cuts more wrote (on_wrote more are also)
+
+-- ---- the lines of cuts that are kept
+-- before cuts are put all that was written is kept, whatever was written before
+pub keeps_for_on : (cuts : List Cut) (before mid now : Output) → mid.kept ≡ before.kept → KeepsFor cuts mid now → KeepsFor cuts before now
+keeps_for_on [] before mid now e h = h ∙ e
+keeps_for_on (cut ∷ cuts) before mid now e h = subst (λ (kept : Option (List ℕ)). IfSome kept (λ _. now.kept ≡ now.written)) e h
+
+pub no_cuts : (cuts : List Cut) (cut : Cut) → cuts ++ cut ∷ [] ≡ [] → {X : Type 0} → X
+no_cuts [] cut e {X} = absurd (let f = e in cc)
+no_cuts (one ∷ cuts) cut e {X} = absurd (let f = e in cc)
+
+module _ (from : Mark) (a : Known) (book : BookState) where
+  -- where it was told what is written and kept, it is told still what is kept
+  abbrev TellsKept : (before : Output) (kept : Option (List ℕ)) → Type 0
+  TellsKept before kept = IfSome before.kept (λ _. IfSome before.written (λ _. (bytes : List ℕ) × (kept ≡ Some bytes)))
+
+  abbrev TellsOfTexts : (before : Output) (kept : Option (List ℕ)) → Type 0
+  TellsOfTexts before kept =
+      (reads : Reads) (slack : Option ℤ) (texts : List (List ℕ)) (rules : Rules) (all : List Holder) → BenchIsOfTexts reads slack texts from a → AreAtRest rules all from a
+      → TellsKept before kept
+
+  -- so it is after cuts, whose lines are kept, and before any
+  told_first : (before kept : Option (List ℕ)) → kept ≡ before → IfSome before (λ _. (bytes : List ℕ) × (kept ≡ Some bytes))
+  told_first None kept e = tt
+  told_first (Some bytes) kept e = (bytes, e)
+
+  told_with : (bytes : List ℕ) (written kept now : Option (List ℕ)) → IfSome kept (λ _. WroteThrough bytes written now)
+      → IfSome kept (λ _. IfSome written (λ _. (all : List ℕ) × (now ≡ Some all)))
+  told_with bytes written None now h = tt
+  told_with bytes None (Some k) now h = tt
+  told_with bytes (Some w) (Some k) now h = ((w ++ bytes) ++ h.0, h.1)
+
+  if_told : (written kept : Option (List ℕ)) (X : Type 0) → IfSome kept (λ _. X) → IfSome kept (λ _. IfSome written (λ _. X))
+  if_told written None X h = tt
+  if_told None (Some k) X h = tt
+  if_told (Some w) (Some k) X h = h
+
+  -- with the texts put in
+  lines_in : (written kept now : Option (List ℕ)) (cut : Cut) → IfSome kept (λ _. WroteLinesOf from a book written now cut)
+      → (reads : Reads) (slack : Option ℤ) (texts : List (List ℕ)) (rules : Rules) (all : List Holder) → BenchIsOfTexts reads slack texts from a → AreAtRest rules all from a
+      → IfSome kept (λ _. WroteThrough (lines_before_end book (found_by rules all (between reads slack texts from (At cut.mark)))) written now)
+  lines_in written None now cut h reads slack texts rules all of was = tt
+  lines_in written (Some k) now cut h reads slack texts rules all of was = h reads slack texts rules all of was
+
+  still_told : (before : Output) (kept : Option (List ℕ)) (cuts : List Cut) → (cuts ≡ [] → kept ≡ before.kept) → All (KeptLinesOf from a book before kept) cuts → TellsOfTexts before kept
+  still_told before kept [] same lines = λ reads slack texts rules all of was.
+      if_told before.written before.kept ((bytes : List ℕ) × (kept ≡ Some bytes)) (told_first before.kept kept (same refl))
+  still_told before kept (cut ∷ cuts) same lines = λ reads slack texts rules all of was.
+      told_with (lines_before_end book (found_by rules all (between reads slack texts from (At cut.mark)))) before.written before.kept kept
+      (lines_in before.written before.kept kept cut (All-head (KeptLinesOf from a book before kept) cut cuts lines) reads slack texts rules all of was)
+
+  -- so what was written is kept, once all that was written is
+  is_all : (mid : Option (List ℕ)) (X : Type 0) → ((bytes : List ℕ) × (mid ≡ Some bytes)) → IfSome mid (λ _. X) → X
+  is_all mid X told h = subst (λ (m : Option (List ℕ)). IfSome m (λ _. X)) told.1 h
+
+  kept_through : (bytes : List ℕ) (written mid kept now : Option (List ℕ)) → IfSome written (λ _. (all : List ℕ) × (mid ≡ Some all)) → IfSome mid (λ _. kept ≡ now)
+      → WroteThrough bytes written now → WroteThrough bytes written kept
+  kept_through bytes None mid kept now told keeps wrote = tt
+  kept_through bytes (Some w) mid kept now told keeps wrote = subst (WroteThrough bytes (Some w)) (sym (is_all mid (kept ≡ now) told keeps)) wrote
+
+  one_kept : (written kept mid now_kept now : Option (List ℕ)) (cut : Cut) → TellsOfTexts (record { written = written; kept = kept }) mid → IfSome mid (λ _. now_kept ≡ now)
+      → WroteLinesOf from a book written now cut → IfSome kept (λ _. WroteLinesOf from a book written now_kept cut)
+  one_kept written None mid now_kept now cut told keeps wrote = tt
+  one_kept written (Some k) mid now_kept now cut told keeps wrote = λ reads slack texts rules all of was.
+      kept_through (lines_before_end book (found_by rules all (between reads slack texts from (At cut.mark)))) written mid now_kept now
+      (told reads slack texts rules all of was) keeps (wrote reads slack texts rules all of was)
+
+  module _ (before mid now : Output) (cuts : List Cut) (same : cuts ≡ [] → mid.kept ≡ before.kept) (lines : All (KeptLinesOf from a book before mid.kept) cuts) where
+    all_kept : (all : List Cut) → KeepsAll mid now → All (WroteLinesOf from a book before.written now.written) all → All (KeptLinesOf from a book before now.kept) all
+    all_kept all keeps wrote =
+        let told : TellsOfTexts before mid.kept = still_told before mid.kept cuts same lines in
+        All-weaker (WroteLinesOf from a book before.written now.written) (KeptLinesOf from a book before now.kept)
+        (λ cut one. one_kept before.written before.kept mid.kept now.kept now.written cut told keeps one) all wrote
+
+    pub kept_still : now.kept ≡ mid.kept → All (KeptLinesOf from a book before now.kept) cuts
+    kept_still e = subst (λ (kept : Option (List ℕ)). All (KeptLinesOf from a book before kept) cuts) (sym e) lines
+
+    pub kept_on : (more : List Cut) → KeepsFor more mid now → All (WroteLinesOf from a book before.written now.written) (cuts ++ more)
+        → All (KeptLinesOf from a book before now.kept) (cuts ++ more)
+    kept_on [] keeps wrote = All-append (KeptLinesOf from a book before now.kept) cuts [] (kept_still keeps) (All-nil (KeptLinesOf from a book before now.kept))
+    kept_on (cut ∷ more) keeps wrote = all_kept (cuts ++ cut ∷ more) keeps wrote
 
 -- ---- times
 rise_later : (from to : Mark) (cuts : List Cut) → IsAtMost from to → RiseFrom to cuts → RiseFrom from cuts

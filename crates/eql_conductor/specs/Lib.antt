@@ -13,6 +13,7 @@ pub mod Fitting
 pub mod RoundNotes
 pub mod Reading
 pub mod Snaps
+pub mod Outputs
 pub mod Saving
 pub mod RunNotes
 pub mod RunBounds

@@ -17,10 +17,11 @@ use Rattle.eql_conductor.specs.declared.stop.Stop.{Stop}
 use Rattle.eql_conductor.specs.declared.stop.Stop.TheVariants as stop
 use Rattle.eql_conductor.specs.Benches.{Known}
 use Rattle.eql_conductor.specs.Going.{LanesGo, RunResult}
+use Rattle.eql_conductor.specs.Outputs.{Output, output_of}
 use Rattle.eql_conductor.specs.RunBounds.{RunIsBounded}
 use Rattle.eql_conductor.specs.RunLaws.{BeginsTold, ListsByAnswer}
 use Rattle.eql_conductor.specs.RunNotes.{RunNotes, round_count}
-use Rattle.eql_conductor.specs.Runs.{EndsBy, IsKeptUnfailing, KeepGoes, RunIs, WroteLinesOf, cut_time, disk_faults}
+use Rattle.eql_conductor.specs.Runs.{EndsBy, IsKeptUnfailing, KeepGoes, KeptLinesOf, RunIs, WroteLinesOf, cut_time, disk_faults}
 
 -- over told texts, of which all events below its mark were played before, it wrote the lines of the listing after those that its book counts, or
 -- stopped within them
@@ -30,13 +31,14 @@ ListsTold plan old new book then before now cuts answer =
     → ListsByAnswer rules reads slack texts plan.mark new book then before now cuts answer
 
 module _ {D : Type 0} (history : D → Option History) (count : D → ℕ) where
-  -- which cuts a run put, what it wrote, the lines that each cut counts among it, and what it played for that, round by round
-  pub record Ran (plan : RunPlan) (old new : Known) (book then : BookState) (before now : Option (List ℕ)) (keep kept : Option (Keep D)) (answer : RunResult) : Type 0 where
+  -- which cuts a run put, what it wrote, the lines that each cut counts among it, also of what is kept, and what it played for that, round by round
+  pub record Ran (plan : RunPlan) (old new : Known) (book then : BookState) (before now : Output) (keep kept : Option (Keep D)) (answer : RunResult) : Type 0 where
     pub cuts : List Cut
-    pub is : RunIs plan.mark old new book then before now cuts answer
-    pub listed : ListsTold plan old new book then before now cuts answer
+    pub is : RunIs plan.mark old new book then before.written now.written cuts answer
+    pub listed : ListsTold plan old new book then before.written now.written cuts answer
     pub keeps : KeepGoes history count plan.head plan.mark old book cuts answer keep kept
-    pub wrote : All (WroteLinesOf plan.mark old book before now) cuts
+    pub wrote : All (WroteLinesOf plan.mark old book before.written now.written) cuts
+    pub lines_kept : All (KeptLinesOf plan.mark old book before now.kept) cuts
     pub rise : RiseFrom plan.mark cuts
     pub notes : RunNotes plan (map cut_time cuts) old new answer
     pub bound : RunIsBounded (round_count plan (map cut_time cuts) old new answer notes) old new
@@ -47,7 +49,7 @@ abbrev pub run_of : {D : Type 0} → RunPlan → BookState → Option (Keep D) �
 run_of plan book keep = record { plan = plan; book = book; keep = keep }
 
 module _ {K D : Type 0} (output : sinks.Ghosts K) (disk : disks.Ghosts D) where
-  -- a sink that doesn't tell goes on so. Where no write is planned to fail, none is told as failed and none is planned to fail then; and so of the
+  -- a sink that doesn't tell goes on so. Where no call of it is planned to fail, none is told as failed and none is planned to fail then; and so of the
   -- calls of the disk that keeps the cuts
   pub record FollowsPlans {A : Type 0} (sink sink' : K) (run run' : Run D) (answer : Result A Stop) : Type 0 where
     pub silent : output.written sink ≡ None → output.written sink' ≡ None
@@ -57,8 +59,8 @@ module _ {K D : Type 0} (output : sinks.Ghosts K) (disk : disks.Ghosts D) where
   -- the conductor ran over a bench, of which this was known before and then
   pub record ConductorRan (old new : Known) (sink sink' : K) (run run' : Run D) (answer : RunResult) : Type 0 where
     -- what was written, of told texts in the words of the listing, and which cuts were put: their times rise, and the lines that they count were
-    -- written
-    pub ran : Ran disk.history disk.fault_count run.plan old new run.book run'.book (output.written sink) (output.written sink') run.keep run'.keep answer
+    -- written and are kept
+    pub ran : Ran disk.history disk.fault_count run.plan old new run.book run'.book (output_of output sink) (output_of output sink') run.keep run'.keep answer
     -- why it ended. No count of faults rises but where its fault is returned
     pub cause : EndsBy answer old new (output.fault_count sink) (output.fault_count sink')
         (disk_faults disk.history disk.fault_count run.keep) (disk_faults disk.history disk.fault_count run'.keep)

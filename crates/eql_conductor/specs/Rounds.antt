@@ -94,7 +94,7 @@ pub record RoundStops (last : Mark) (old : Known) (book then : BookState) (befor
 abbrev pub StopsOut : Stop → Type 0
 StopsOut by = (by ≡ stop.Write) ⊎ (by ≡ stop.Memory)
 
--- the count of a sink's faults rises where its fault is told, and nowhere else. A sink that doesn't tell goes on so, and one of which no write is
+-- the count of a sink's faults rises where its fault is told, and nowhere else. A sink that doesn't tell goes on so, and one of which no call is
 -- planned to fail isn't told as failed, and stays such
 pub record TellsSink {A K : Type 0} (output : sinks.Ghosts K) (before now : K) (answer : Result A Stop) : Type 0 where
   pub silent : output.written before ≡ None → output.written now ≡ None
@@ -111,6 +111,6 @@ StopsAt by old new = StopsBy by old new ⊎ (StopsOut by × Went old new)
 abbrev pub StopsKeeping : Stop → Type 0
 StopsKeeping by = (by ≡ stop.Disk) ⊎ ((by ≡ stop.Memory) ⊎ (by ≡ stop.Generation))
 
--- why a cut isn't kept: by a call of the bench, or by the disk, where no call of the bench failed
+-- why a cut isn't kept: by a call of the bench, or by the sink or the disk, where no call of the bench failed
 abbrev pub StopsSaving : Stop → (old new : Known) → Type 0
-StopsSaving by old new = StopsBy by old new ⊎ (StopsKeeping by × Went old new)
+StopsSaving by old new = StopsBy by old new ⊎ ((StopsOut by ⊎ StopsKeeping by) × Went old new)

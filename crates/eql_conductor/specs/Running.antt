@@ -1,5 +1,6 @@
 -- How a run of the conductor goes from round to round, and what one step of it does.
 use Rattle.std.specs.Prelude.{◌≡◌, ◌≢◌, ◌≤◌, ◌+◌, ◌^◌, ℕ, ℤ, true, List, [], ◌∷◌, Option, None, Some, IfSome, All, length, map, Err}
+use Rattle.std.specs.Option.{option_to_list}
 use Rattle.eql_values.specs.declared.found.Holder.{Holder}
 use Rattle.eql_values.specs.declared.order.Mark.{Mark}
 use Rattle.eql_values.specs.declared.order.Mark.TheVariants.{Start, At, End}
@@ -21,10 +22,11 @@ use Rattle.eql_conductor.specs.Benches.{Known}
 use Rattle.eql_conductor.specs.Bounds.{RoundsSpend}
 use Rattle.eql_conductor.specs.Going.{RunResult}
 use Rattle.eql_conductor.specs.LaneRounds.{LanesAreAt}
+use Rattle.eql_conductor.specs.Outputs.{Output, KeepsFor}
 use Rattle.eql_conductor.specs.PartRounds.{AreAtRest, AreSomehowFull}
 use Rattle.eql_conductor.specs.Rounds.{GoesTo, RoundRests}
 use Rattle.eql_conductor.specs.RunNotes.{NotesCut, Place, RoundBrokeOff, PlaysRound, PlaysRounds, NotesSaveFront, place, start}
-use Rattle.eql_conductor.specs.Runs.{IsRunCut, KeepGoes, LastHolds, RunIs, WroteLinesOf, cut_time}
+use Rattle.eql_conductor.specs.Runs.{IsRunCut, KeepGoes, KeptLinesOf, LastHolds, RunIs, WroteLinesOf, cut_time}
 use Rattle.eql_conductor.specs.Saving.{BookKeepsNumbers, IsHeadOf, IsSavedAt, PutsCuts}
 
 -- between two rounds: each lane handed out all that lies below a mark, the parts are at rest there, and the book is whole
@@ -89,20 +91,22 @@ module _ {D : Type 0} (history : D → Option History) (count : D → ℕ) where
   KeepStops by cuts keep kept = ⊥
 
   -- between two rounds a cut was kept where one of this time is due: lanes and parts stay as they were at the mark
-  pub record CutGoes (head : CutHead) (mark : Mark) (due : Option ℤ) (old new : Known) (book : BookState) (keep kept : Option (Keep D)) : Type 0 where
+  pub record CutGoes (head : CutHead) (mark : Mark) (due : Option ℤ) (old new : Known) (book : BookState) (before now : Output) (keep kept : Option (Keep D)) : Type 0 where
     pub lanes : (texts : Option (List (List ℕ))) → LanesAreAt texts mark old → LanesAreAt texts mark new
     pub parts : (rules : Rules) (all : List Holder) → AreAtRest rules all mark old → AreAtRest rules all mark new
     pub cut : Option Cut
     pub is : IfSome cut (IsTaken head mark old book)
+    pub lines_kept : KeepsFor (option_to_list cut) before now
     pub keeps : KeepsOne cut keep kept
     pub time_is : time_of cut ≡ due
     pub noted : NotesCut due old new
 
   -- or it stopped there
-  pub record CutStops (head : CutHead) (mark : Mark) (due : Option ℤ) (old new : Known) (book : BookState) (keep kept : Option (Keep D)) (by : Stop) : Type 0 where
+  pub record CutStops (head : CutHead) (mark : Mark) (due : Option ℤ) (old new : Known) (book : BookState) (before now : Output) (keep kept : Option (Keep D)) (by : Stop) : Type 0 where
     pub cuts : List Cut
     pub are : All (IsTaken head mark old book) cuts
     pub one : length cuts ≤ 1
+    pub lines_kept : KeepsFor cuts before now
     pub keeps : KeepStops by cuts keep kept
     pub time : ℤ
     pub time_is : due ≡ Some time
@@ -110,51 +114,56 @@ module _ {D : Type 0} (history : D → Option History) (count : D → ℕ) where
 
   -- ---- one round
   -- a round that counted, and then a cut where one was due
-  pub record CountsRound (plan : RunPlan) (at : Place) (mark : Mark) (old new : Known) (book then : BookState) (before now : Option (List ℕ)) (keep kept : Option (Keep D)) : Type 0 where
-    pub goes : GoesTo at.mark mark old new book then before now
+  pub record CountsRound (plan : RunPlan) (at : Place) (mark : Mark) (old new : Known) (book then : BookState) (before now : Output) (keep kept : Option (Keep D)) : Type 0 where
+    pub goes : GoesTo at.mark mark old new book then before.written now.written
     pub cut : Option Cut
     pub is : IfSome cut (λ c. (mark ≡ At c.mark) × IsRunCut plan.head at.mark old book c)
+    pub lines_kept : KeepsFor (option_to_list cut) before now
     pub keeps : KeepsOne cut keep kept
     pub noted : PlaysRound plan.batch plan.every at (time_of cut) old new (Some mark)
 
   -- one that didn't count, after which no cut is due
-  pub record PassesRound (plan : RunPlan) (at : Place) (old new : Known) (book then : BookState) (before now : Option (List ℕ)) (keep kept : Option (Keep D)) : Type 0 where
-    pub rests : RoundRests at.mark old new book then before now
+  pub record PassesRound (plan : RunPlan) (at : Place) (old new : Known) (book then : BookState) (before now : Output) (keep kept : Option (Keep D)) : Type 0 where
+    pub rests : RoundRests at.mark old new book then before.written now.written
+    pub kept_is : now.kept ≡ before.kept
     pub keeps : kept ≡ keep
     pub noted : PlaysRound plan.batch plan.every at None old new None
 
-  abbrev pub StepIs : RunPlan → Place → (old new : Known) → (book then : BookState) → (before now : Option (List ℕ)) → (keep kept : Option (Keep D)) → Option Mark → Type 0
+  abbrev pub StepIs : RunPlan → Place → (old new : Known) → (book then : BookState) → (before now : Output) → (keep kept : Option (Keep D)) → Option Mark → Type 0
   StepIs plan at old new book then before now keep kept None = PassesRound plan at old new book then before now keep kept
   StepIs plan at old new book then before now keep kept (Some mark) = CountsRound plan at mark old new book then before now keep kept
 
   -- a run from a mark, as it ended
-  pub record RanFrom (head : CutHead) (from : Mark) (old new : Known) (book then : BookState) (before now : Option (List ℕ)) (keep kept : Option (Keep D)) (answer : RunResult) : Type 0 where
+  pub record RanFrom (head : CutHead) (from : Mark) (old new : Known) (book then : BookState) (before now : Output) (keep kept : Option (Keep D)) (answer : RunResult) : Type 0 where
     pub cuts : List Cut
-    pub is : RunIs from old new book then before now cuts answer
+    pub is : RunIs from old new book then before.written now.written cuts answer
     pub keeps : KeepGoes history count head from old book cuts answer keep kept
-    pub wrote : All (WroteLinesOf from old book before now) cuts
+    pub wrote : All (WroteLinesOf from old book before.written now.written) cuts
     pub rise : RiseFrom from cuts
 
   -- or it stopped there: a run of this round alone
-  pub record StepStops (plan : RunPlan) (at : Place) (old new : Known) (book then : BookState) (before now : Option (List ℕ)) (keep kept : Option (Keep D)) (by : Stop) : Type 0 where
+  pub record StepStops (plan : RunPlan) (at : Place) (old new : Known) (book then : BookState) (before now : Output) (keep kept : Option (Keep D)) (by : Stop) : Type 0 where
     pub ran : RanFrom plan.head at.mark old new book then before now keep kept (Err by)
+    pub lines_kept : KeepsFor ran.cuts before now
     pub noted : RoundBrokeOff plan.batch plan.every at (map cut_time ran.cuts) old new
 
   -- ---- rounds
   -- so many rounds from the plan's mark on, with the cuts that were put
-  pub record RanTo (plan : RunPlan) (at : Place) (n : ℕ) (old new : Known) (book then : BookState) (before now : Option (List ℕ)) (keep kept : Option (Keep D)) : Type 0 where
-    pub goes : GoesTo plan.mark at.mark old new book then before now
+  pub record RanTo (plan : RunPlan) (at : Place) (n : ℕ) (old new : Known) (book then : BookState) (before now : Output) (keep kept : Option (Keep D)) : Type 0 where
+    pub goes : GoesTo plan.mark at.mark old new book then before.written now.written
     pub cuts : List Cut
     pub are_cuts : All (IsRunCut plan.head plan.mark old book) cuts
     pub at_most : All (λ (cut : Cut). IsAtMost (At cut.mark) at.mark) cuts
     pub puts : KeepPuts cuts keep kept
-    pub wrote : All (WroteLinesOf plan.mark old book before now) cuts
+    pub wrote : All (WroteLinesOf plan.mark old book before.written now.written) cuts
+    pub lines_kept : All (KeptLinesOf plan.mark old book before now.kept) cuts
+    pub kept_is : cuts ≡ [] → now.kept ≡ before.kept
     pub rise : RiseFrom plan.mark cuts
     pub noted : PlaysRounds plan.batch plan.every (start plan) at (map cut_time cuts) old new
     pub rounds : length noted.rounds ≡ n
 
   -- all rounds, of which the last one came to the end
-  pub record RanAll (plan : RunPlan) (old new : Known) (book then : BookState) (before now : Option (List ℕ)) (keep kept : Option (Keep D)) : Type 0 where
+  pub record RanAll (plan : RunPlan) (old new : Known) (book then : BookState) (before now : Output) (keep kept : Option (Keep D)) : Type 0 where
     pub n : ℕ
     pub counts : ℕ
     pub ran : RanTo plan (place End counts) (n + 1) old new book then before now keep kept

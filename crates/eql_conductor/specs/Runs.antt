@@ -35,6 +35,7 @@ use Rattle.eql_conductor.specs.Benches.{Known, NoFeedFailed}
 use Rattle.eql_conductor.specs.Bounds.{AreSized}
 use Rattle.eql_conductor.specs.Going.{FailsAt, FaultRose, RunResult}
 use Rattle.eql_conductor.specs.LaneRounds.{IsSafe, LanesAreAt}
+use Rattle.eql_conductor.specs.Outputs.{Output}
 use Rattle.eql_conductor.specs.PartRounds.{AreAtRest, AreSomehowFull, pending_after}
 use Rattle.eql_conductor.specs.Rounds.{BenchIsOfTexts, IsInRange, found_by}
 use Rattle.eql_conductor.specs.Saving.{AreLanesOf, BookKeepsNumbers, IsHeadOf, PutsCuts}
@@ -122,6 +123,10 @@ abbrev pub WroteLinesOf : (from : Mark) (old : Known) (book : BookState) (before
 WroteLinesOf from old book before now cut =
     (reads : Reads) (slack : Option ℤ) (texts : List (List ℕ)) (rules : Rules) (all : List Holder) → BenchIsOfTexts reads slack texts from old → AreAtRest rules all from old
     → WroteThrough (lines_before_end book (found_by rules all (between reads slack texts from (At cut.mark)))) before now
+
+-- and where it was told what is kept, they are kept behind all that was written before
+abbrev pub KeptLinesOf : (from : Mark) (old : Known) (book : BookState) (before : Output) (kept : Option (List ℕ)) → Cut → Type 0
+KeptLinesOf from old book before kept cut = IfSome before.kept (λ _. WroteLinesOf from old book before.written kept cut)
 
 abbrev pub cut_time : Cut → ℤ
 cut_time cut = cut.mark

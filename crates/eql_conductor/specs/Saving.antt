@@ -30,6 +30,7 @@ use Rattle.eql_parts.specs.PartSteps.{Rules}
 use Rattle.eql_conductor.specs.declared.stop.Stop.{Stop}
 use Rattle.eql_conductor.specs.declared.stop.Stop.TheVariants as stop
 use Rattle.eql_conductor.specs.Benches.{Known}
+use Rattle.eql_conductor.specs.Outputs.{Output, KeepsAll, KeepsFor}
 use Rattle.eql_conductor.specs.PartRounds.{AreAtRest, pending_after}
 use Rattle.eql_conductor.specs.Rounds.{BenchIsOfTexts}
 
@@ -69,20 +70,22 @@ pub record IsSavedAt (head : CutHead) (time : ℤ) (b : Known) (book : BookState
 abbrev pub PutsCuts : LastCut → List Cut → (before now : Option History) → Type 0
 PutsCuts last cuts before now = DiskTells (PutsAll last cuts) before now
 
--- a cut was put, and stands alone: the state says where
-pub record SavesCut (head : CutHead) (time : ℤ) (b : Known) (book : BookState) (old new : CkState) (before now : Option History) : Type 0 where
+-- a cut was put behind all that was written, which is kept, and stands alone: the state says where
+pub record SavesCut (head : CutHead) (time : ℤ) (b : Known) (book : BookState) (output output' : Output) (old new : CkState) (before now : Option History) : Type 0 where
   pub cut : Cut
   pub is_saved : IsSavedAt head time b book cut
+  pub lines_kept : KeepsAll output output'
   pub puts : PutsCuts (last_cut old) (cut ∷ []) before now
   pub state_is : last_cut new ≡ next (last_cut old)
   pub holds : IfSome now (λ k. Holds (last_cut new) cut k.now)
   pub stands : Stands (last_cut new) now
 
 -- none was put whole: at each moment there stands what stood before, or the cut
-pub record SavesNoCut (head : CutHead) (time : ℤ) (b : Known) (book : BookState) (old new : CkState) (before now : Option History) : Type 0 where
+pub record SavesNoCut (head : CutHead) (time : ℤ) (b : Known) (book : BookState) (output output' : Output) (old new : CkState) (before now : Option History) : Type 0 where
   pub cuts : List Cut
   pub one : length cuts ≤ 1
   pub are_saved : All (IsSavedAt head time b book) cuts
+  pub lines_kept : KeepsFor cuts output output'
   pub puts : PutsCuts (last_cut old) cuts before now
   pub state_is : last_cut new ≡ last_cut old
 

@@ -38,6 +38,7 @@ fn add_found<K: Sink>(
         (listing book.old.places (let_out book.old.pipes book.old.kept found))
         (K.written sink.old) (K.written sink.new)) }
     ensures out { IfErr result StopsOut }
+    ensures keeps { K.kept sink.new ≡ K.kept sink.old }
     ensures faults { TellsSink K.Sink sink.old sink.new result }
 {
     match book.add(alloc, found, sink) {
@@ -77,6 +78,7 @@ fn advance<B: Bench, K: Sink>(
     ensures stops { IfErr result (λ stop. StopsAt stop (B.known bench.old) (B.known bench.new)) }
     ensures notes { NotesParts (delivered_to taken.now.items) 3
         (B.known bench.old) (B.known bench.new) }
+    ensures keeps { K.kept sink.new ≡ K.kept sink.old }
     ensures faults { TellsSink K.Sink sink.old sink.new result }
 {
     let found = play_parts(alloc, bench, &taken.items, last, taken.mark, batch)?;
@@ -109,6 +111,7 @@ pub(crate) fn play_round<B: Bench, K: Sink>(
     ensures notes { IfOk result (NotesRound last batch (B.known bench.old) (B.known bench.new)) }
     ensures broken_notes { OnErr result (NotesRoundFront last batch
         (B.known bench.old) (B.known bench.new)) }
+    ensures keeps { K.kept sink.new ≡ K.kept sink.old }
     ensures faults { TellsSink K.Sink sink.old sink.new result }
 {
     match Conductor::take_round(alloc, bench, last, batch)? {

@@ -6,6 +6,7 @@ ghost use Rattle.eql_book.specs.Books.{held_back};
 ghost use Rattle.eql_book.specs.Listing.{listing};
 ghost use Rattle.eql_conductor.specs.declared.stop.Stop.TheVariants.{Disk as DiskFailed, Write as SinkFailed};
 ghost use Rattle.eql_conductor.specs.Going.{LanesGo};
+ghost use Rattle.eql_conductor.specs.Outputs.{output_of};
 ghost use Rattle.eql_conductor.specs.Rounds.{StopsOut, TellsSink};
 ghost use Rattle.eql_conductor.specs.Records.{ConductorRan, Ran, run_of};
 ghost use Rattle.eql_conductor.specs.Running.{RanAll};
@@ -36,10 +37,10 @@ fn play_rounds<B: Bench, K: Sink, D: Disk>(
     requires keeps { MayKeepIf D.history D.fault_count plan.now (B.known bench.old) keep.old }
     ensures ran { OnOk result (RanAll D.history D.fault_count plan.now
         (B.known bench.old) (B.known bench.new) book.old book.new
-        (K.written sink.old) (K.written sink.new) keep.old keep.new) }
+        (output_of K.Sink sink.old) (output_of K.Sink sink.new) keep.old keep.new) }
     ensures stopped { IfErr result (λ stop. Ran D.history D.fault_count plan.now
         (B.known bench.old) (B.known bench.new) book.old book.new
-        (K.written sink.old) (K.written sink.new) keep.old keep.new (Err stop)) }
+        (output_of K.Sink sink.old) (output_of K.Sink sink.new) keep.old keep.new (Err stop)) }
     ensures cause { EndsBy result (B.known bench.old) (B.known bench.new)
         (K.fault_count sink.old) (K.fault_count sink.new)
         (disk_faults D.history D.fault_count keep.old)
@@ -77,6 +78,7 @@ fn end_book<K: Sink>(alloc: Global, book: &mut Book, sink: &mut K) -> Result<(),
     ensures spoilt { OnErr result (book.new.whole ≡ false) }
     ensures front { OnErr result (WroteFront (listing book.old.places (held_back book.old))
         (K.written sink.old) (K.written sink.new)) }
+    ensures keeps { K.kept sink.new ≡ K.kept sink.old }
     ensures out { IfErr result StopsOut }
     ensures faults { TellsSink K.Sink sink.old sink.new result }
 {
@@ -90,7 +92,8 @@ fn end_book<K: Sink>(alloc: Global, book: &mut Book, sink: &mut K) -> Result<(),
 impl Conductor {
     /// Plays rounds until each shard was read to its end or something is refused. A round feeds each
     /// lane, looks at each, takes what lies below the least low, has it played by the parts, and gives
-    /// what they find to the book. Every so many rounds that took something a cut is kept.
+    /// what they find to the book. Every so many rounds that took something a cut is put, once the
+    /// lines that it counts are kept.
     pub fn run<B: Bench, K: Sink, D: Disk>(
         alloc: Global,
         plan: &RunPlan,
@@ -102,8 +105,8 @@ impl Conductor {
         requires may { MayRun plan.now (B.known bench.old) book.old }
         requires keeps { MayKeepIf D.history D.fault_count plan.now (B.known bench.old) keep.old }
 
-        // What was written and kept, why it ended, what stays of lanes and parts, and that sink and
-        // disk go on as they are planned.
+        // What was written and kept, and which cuts were put, why it ended, what stays of lanes and
+        // parts, and that sink and disk go on as they are planned.
         ensures ran { ConductorRan K.Sink D.Disk (B.known bench.old) (B.known bench.new)
             sink.old sink.new (run_of plan.now book.old keep.old)
             (run_of plan.now book.new keep.new) result }

@@ -1,4 +1,4 @@
-//! A cut of all lanes, parts and the book between two rounds, put on the disk.
+//! A cut of all lanes, parts and the book between two rounds, put on the disk once the lines that it counts are kept.
 ghost use Rattle.std.specs.Prelude.{◌≡◌, ◌≢◌, ◌^◌, ◌∷◌, [], true, List, ℕ, Option, None, Err, IfErr, IfOk, IfSome, OnErr, OnOk};
 ghost use Rattle.eql_values.specs.declared.found.Holder.{Holder};
 ghost use Rattle.eql_values.specs.declared.order.Mark.TheVariants.{At as AtTime};
@@ -11,9 +11,10 @@ ghost use Rattle.eql_conductor.specs.declared.stop.Stop.TheVariants.{Disk as Dis
 ghost use Rattle.eql_conductor.specs.Benches.{Rests};
 ghost use Rattle.eql_conductor.specs.Going.{LanesGo, StopsBy, Went};
 ghost use Rattle.eql_conductor.specs.LaneRounds.{LanesAreAt};
+ghost use Rattle.eql_conductor.specs.Outputs.{KeepsAll, output_of};
 ghost use Rattle.eql_conductor.specs.PartRounds.{AreAtRest, AreSomehowFull};
 ghost use Rattle.eql_conductor.specs.RunNotes.{NotesSaveFront, NotesSave};
-ghost use Rattle.eql_conductor.specs.Rounds.{StopsKeeping, StopsSaving};
+ghost use Rattle.eql_conductor.specs.Rounds.{StopsKeeping, StopsOut, StopsSaving, TellsSink};
 ghost use Rattle.eql_conductor.specs.Saving.{BookKeepsNumbers, IsHeadOf, IsSavedAt, SavesNoCut, PutsCuts, SavesCut, TellsDisk};
 
 use crate::bench::Bench;
@@ -24,7 +25,7 @@ use crate::stop::Stop;
 use eql_book::Book;
 use eql_ckdisk::{CkRefused, put};
 use eql_cut::{Cut, CutHead};
-use eql_outside::Disk;
+use eql_outside::{Disk, OutRefused, Sink};
 use eql_values::{Holders, LaneCuts, Memory};
 use std::alloc::Global;
 
@@ -104,6 +105,22 @@ fn take_cut<B: Bench>(
     }
 }
 
+// Has all that was written kept.
+fn keep_written<K: Sink>(alloc: Global, sink: &mut K) -> Result<(), Stop>
+    ensures same { K.written sink.new ≡ K.written sink.old }
+    ensures kept { OnOk result
+        (KeepsAll (output_of K.Sink sink.old) (output_of K.Sink sink.new)) }
+    ensures refused { OnErr result (K.kept sink.new ≡ K.kept sink.old) }
+    ensures out { IfErr result StopsOut }
+    ensures faults { TellsSink K.Sink sink.old sink.new result }
+{
+    match sink.keep(alloc) {
+        Ok(()) => Ok(()),
+        Err(OutRefused::Failed) => Err(Stop::Write),
+        Err(OutRefused::Memory) => Err(Stop::Memory),
+    }
+}
+
 // Puts a cut on the disk.
 fn put_cut<D: Disk>(alloc: Global, keep: &mut Keep<D>, cut: &Cut) -> Result<(), Stop>
     requires stands { Stands (last_cut keep.old.state) (D.history keep.old.disk) }
@@ -132,12 +149,14 @@ fn put_cut<D: Disk>(alloc: Global, keep: &mut Keep<D>, cut: &Cut) -> Result<(), 
     }
 }
 
-/// Takes a cut of lanes and parts that rest at a time, and of the book, and puts it on the disk.
-pub(crate) fn save<B: Bench, D: Disk>(
+/// Takes a cut of lanes and parts that rest at a time, and of the book, has kept what was written,
+/// and puts the cut on the disk.
+pub(crate) fn save<B: Bench, K: Sink, D: Disk>(
     alloc: Global,
     head: &CutHead,
     bench: &mut B,
     book: &Book,
+    sink: &mut K,
     keep: &mut Keep<D>,
     time: i128,
 ) -> Result<(), Stop>
@@ -154,8 +173,10 @@ pub(crate) fn save<B: Bench, D: Disk>(
         → AreAtRest rules all (AtTime time) (B.known bench.old)
         → OnOk result (AreAtRest rules all (AtTime time) (B.known bench.new)) }
     ensures saved { OnOk result (SavesCut head.now time (B.known bench.old) book.now
+        (output_of K.Sink sink.old) (output_of K.Sink sink.new)
         keep.old.state keep.new.state (D.history keep.old.disk) (D.history keep.new.disk)) }
     ensures not_saved { OnErr result (SavesNoCut head.now time (B.known bench.old) book.now
+        (output_of K.Sink sink.old) (output_of K.Sink sink.new)
         keep.old.state keep.new.state (D.history keep.old.disk) (D.history keep.new.disk)) }
     ensures goes { LanesGo (B.known bench.old) (B.known bench.new) }
     ensures went { OnOk result (Went (B.known bench.old) (B.known bench.new)) }
@@ -167,8 +188,11 @@ pub(crate) fn save<B: Bench, D: Disk>(
         → (last_cut keep.new.state).generation ≡ 2 ^ 63 }
     ensures stands_yet { IfErr result (λ stop. (stop ≢ DiskFailed) → (stop ≢ OutOfMemory)
         → Stands (last_cut keep.new.state) (D.history keep.new.disk)) }
+    ensures same { K.written sink.new ≡ K.written sink.old }
+    ensures sink_faults { TellsSink K.Sink sink.old sink.new result }
     ensures faults { TellsDisk D.Disk keep.old.disk keep.new.disk result }
 {
     let cut = take_cut(alloc, head, bench, book, time)?;
+    keep_written(alloc, sink)?;
     put_cut(alloc, keep, &cut)
 }

@@ -4,6 +4,7 @@ ghost use Rattle.eql_outside.specs.Unfailing.{IsUnfailing};
 ghost use Rattle.eql_conductor.specs.declared.stop.Stop.TheVariants.{Disk as DiskFailed, Write as SinkFailed};
 ghost use Rattle.eql_conductor.specs.Bounds.{RoundSpends};
 ghost use Rattle.eql_conductor.specs.Going.{LanesGo};
+ghost use Rattle.eql_conductor.specs.Outputs.{output_of};
 ghost use Rattle.eql_conductor.specs.RunNotes.{place};
 ghost use Rattle.eql_conductor.specs.Running.{IsAtMark, KeepStands, StepIs, StepStops};
 ghost use Rattle.eql_conductor.specs.Runs.{EndsBy, IsKeptUnfailing, disk_faults};
@@ -37,10 +38,10 @@ pub(crate) fn play_and_keep<B: Bench, K: Sink, D: Disk>(
     requires count { count < 2 ^ 128 - 1 }
     ensures step { IfOk result (StepIs D.history D.fault_count plan.now (place last count)
         (B.known bench.old) (B.known bench.new) book.old book.new
-        (K.written sink.old) (K.written sink.new) keep.old keep.new) }
+        (output_of K.Sink sink.old) (output_of K.Sink sink.new) keep.old keep.new) }
     ensures stopped { IfErr result (StepStops D.history D.fault_count plan.now (place last count)
         (B.known bench.old) (B.known bench.new) book.old book.new
-        (K.written sink.old) (K.written sink.new) keep.old keep.new) }
+        (output_of K.Sink sink.old) (output_of K.Sink sink.new) keep.old keep.new) }
     ensures spends { IfOk result (RoundSpends last (B.known bench.old) (B.known bench.new)) }
     ensures cause { EndsBy result (B.known bench.old) (B.known bench.new)
         (K.fault_count sink.old) (K.fault_count sink.new)
@@ -57,7 +58,7 @@ pub(crate) fn play_and_keep<B: Bench, K: Sink, D: Disk>(
     match play_round(alloc, bench, book, sink, last, plan.batch)? {
         None => Ok(None),
         Some(mark) => {
-            keep_cut(alloc, plan, bench, book, keep, mark, count + 1)?;
+            keep_cut(alloc, plan, bench, book, sink, keep, mark, count + 1)?;
             Ok(Some(mark))
         }
     }

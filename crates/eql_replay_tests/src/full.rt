@@ -3,7 +3,6 @@ use crate::listed::written;
 use crate::plans::{REFERENCE, plan_of};
 use crate::scribe::run_noted;
 use crate::worked::starts;
-use eql_outside::MemSink;
 use eql_replay::{Foreign, Foreigns};
 use std::alloc::Global;
 use std::fmt::Write;
@@ -40,8 +39,7 @@ fn a_full_lane_waits_until_its_events_are_taken(rt: HostRuntime) -> Result<(), F
     let first = many_events(alloc, 65_537)?;
     let second = starts(alloc, &[(10, "root", "attrib"), (20, "root", "bash")])?;
     let texts = vec![in alloc; first, second]?;
-    let mut sink = MemSink::new(alloc, Vec::new(alloc));
-    let noted = run_noted(alloc, &plan, &texts, 100, fill(alloc)?, &mut sink)?;
+    let noted = run_noted(alloc, &plan, &texts, 100, fill(alloc)?)?;
     let mut lanes = String::new(alloc);
     lanes.push_str("0 held 65536;1 fed 1;0 low 66536;1 low 10;0 took to 10;1 took to 10;")?;
     lanes.push_str("0 held 65536;1 fed 1;0 low 66536;1 low 20;0 took to 20;1 took to 20;")?;
@@ -51,7 +49,7 @@ fn a_full_lane_waits_until_its_events_are_taken(rt: HostRuntime) -> Result<(), F
     assert_eq!(rt; noted.lanes.as_str(), lanes.as_str());
     assert!(rt; noted.end.is_ok());
     assert_eq!(rt;
-        written(alloc, &sink)?.as_str(),
+        written(alloc, &noted.sink)?.as_str(),
         "1 [\"root\"] 1:1 1:2 0:65538\n"
     );
     Ok(())

@@ -1,8 +1,8 @@
-//! Runs that keep cuts, stopped at each call of the disk and at each write of the sink, and gone on from what is found.
+//! Runs that keep cuts, stopped at each call of the disk and of the sink, and gone on from what is found.
 use crate::dice::Dice;
 use crate::disks::{Ended, go_on};
 use crate::expected::listing_of;
-use crate::listed::written;
+use crate::listed::{kept, written};
 use crate::logs::{accepted, texts_of};
 use crate::plans::{REFERENCE, plan_of};
 use crate::queries::{QUERIES, SPAN};
@@ -29,29 +29,30 @@ struct Search {
     listing: String,
 }
 
-/// The calls that fail: of the disk all from a number on, and of the sink's writes that of a number.
+/// The calls that fail: of the disk all from a number on, and of the sink that of a number.
 #[derive(Clone, Copy)]
 struct Faults {
     disk: Option<u64>,
-    write: Option<u64>,
+    sink: Option<u64>,
 }
 
 const NONE: Faults = Faults {
     disk: None,
-    write: None,
+    sink: None,
 };
 
-/// How a run ended, and what it wrote.
+/// How a run ended, what it wrote, and what of it is kept.
 #[derive(Drop)]
 struct Ran {
     ended: Ended,
     listing: String,
+    kept: String,
 }
 
-/// The sink whose write of this number fails.
-fn sink_of(alloc: Global, write: Option<u64>) -> Result<MemSink, Fail> {
+/// The sink whose call of this number fails.
+fn sink_of(alloc: Global, call: Option<u64>) -> Result<MemSink, Fail> {
     let mut fails = Vec::new(alloc);
-    if let Some(number) = write {
+    if let Some(number) = call {
         fails.push(number)?;
     }
     Ok(MemSink::new(alloc, fails))
@@ -83,7 +84,7 @@ fn run(
     };
     let (a, b) = areas;
     let disk = MemDisk::new(alloc, a, b, Vec::new(alloc), faults.disk)?;
-    let mut sink = sink_of(alloc, faults.write)?;
+    let mut sink = sink_of(alloc, faults.sink)?;
     let plays = others(alloc, search, every)?;
     let ended = go_on(
         alloc,
@@ -97,6 +98,7 @@ fn run(
     Ok(Ran {
         ended,
         listing: written(alloc, &sink)?,
+        kept: kept(alloc, &sink)?,
     })
 }
 
@@ -120,8 +122,26 @@ fn joined(alloc: Global, first: &str, count: u64, then: &str) -> Result<String, 
     Ok(text)
 }
 
-/// Goes on from what a crash may leave of the disk of a run that stopped. What was written before the cut that is found,
-/// and what is written from there on, are the listing.
+/// Whether these lines before the cut that is found, and what is written from there on, are the listing.
+fn check_joined<R: Abort>(
+    rt: &R,
+    alloc: Global,
+    search: &Search,
+    front: &str,
+    rest: &Ran,
+) -> Result<(), Fail> {
+    let listed = rest.ended.listed;
+    assert!(rt; search.listing.starts_with(front), "written\n{front}");
+    let whole = joined(alloc, front, listed, rest.listing.as_str())?;
+    assert!(rt;
+        whole.as_str() == search.listing.as_str(),
+        "of {listed} lines, and then\n{whole}"
+    );
+    Ok(())
+}
+
+/// Goes on from what a crash may leave of the disk of a run that stopped: from all that was written, and from what a
+/// power cut leaves of it, which is what was kept.
 fn check_rest<R: Abort>(
     rt: &R,
     alloc: Global,
@@ -129,18 +149,12 @@ fn check_rest<R: Abort>(
     every: u32,
     stopped: &Ran,
 ) -> Result<(), Fail> {
-    let front = stopped.listing.as_str();
-    assert!(rt; search.listing.starts_with(front), "written\n{front}");
     for (choice, batch) in [(0, 1), (1, 7), (5, 1)] {
         let areas = stopped.ended.disk.crashed(alloc, choice)?;
         let rest = run(alloc, search, batch, every, areas, NONE)?;
         assert!(rt; rest.ended.end.is_ok());
-        let listed = rest.ended.listed;
-        let whole = joined(alloc, front, listed, rest.listing.as_str())?;
-        assert!(rt;
-            whole.as_str() == search.listing.as_str(),
-            "of {listed} lines, and then\n{whole}"
-        );
+        check_joined(rt, alloc, search, stopped.listing.as_str(), &rest)?;
+        check_joined(rt, alloc, search, stopped.kept.as_str(), &rest)?;
     }
     Ok(())
 }
@@ -167,22 +181,22 @@ fn check_fault<R: Abort>(
     Ok(false)
 }
 
-/// The fault of a call of the disk of this number, or else of a write.
+/// The fault of a call of the disk of this number, or else of the sink.
 fn fault_at(number: u64, of_disk: bool) -> Faults {
     if of_disk {
         Faults {
             disk: Some(number),
-            write: None,
+            sink: None,
         }
     } else {
         Faults {
             disk: None,
-            write: Some(number),
+            sink: Some(number),
         }
     }
 }
 
-/// Stops a run at each call of the disk, or else at each write. Returns how many of them it makes.
+/// Stops a run at each call of the disk, or else of the sink. Returns how many of them it makes.
 fn calls_in<R: Abort>(
     rt: &R,
     alloc: Global,
@@ -227,19 +241,20 @@ fn made_up(alloc: Global, seed: u64, query: usize) -> Result<Search, Fail> {
 }
 
 /// A recovery of two empty areas makes four calls, and a cut six. The reference's example, read line by line, has a round
-/// with a mark for each of its eleven times. Its matches are written in two of them.
+/// with a mark for each of its eleven times. Its matches are written in two of them, and before each cut what was written is
+/// kept.
 #[test]
 fn the_references_example_goes_on_from_each_stop(rt: HostRuntime) -> Result<(), Fail> {
     let alloc = rt.alloc();
     let search = reference(alloc)?;
-    for (every, calls) in [(1, 4 + 6 * 11), (2, 4 + 6 * 5)] {
-        assert_eq!(rt; calls_in(&rt, alloc, &search, every, true)?, calls);
-        assert_eq!(rt; calls_in(&rt, alloc, &search, every, false)?, 2);
+    for (every, cuts) in [(1, 11), (2, 5)] {
+        assert_eq!(rt; calls_in(&rt, alloc, &search, every, true)?, 4 + 6 * cuts);
+        assert_eq!(rt; calls_in(&rt, alloc, &search, every, false)?, 2 + cuts);
     }
     Ok(())
 }
 
-/// Two logs over two shards, while others feed and turn. Each run has more cuts than one, and more writes.
+/// Two logs over two shards, while others feed and turn. Each run has more cuts than one, and more calls of the sink.
 #[test]
 fn made_up_logs_go_on_from_each_stop(rt: HostRuntime) -> Result<(), Fail> {
     let alloc = rt.alloc();
@@ -247,8 +262,8 @@ fn made_up_logs_go_on_from_each_stop(rt: HostRuntime) -> Result<(), Fail> {
         let search = made_up(alloc, seed, query)?;
         for every in [1, 2] {
             let calls = calls_in(&rt, alloc, &search, every, true)?;
-            let writes = calls_in(&rt, alloc, &search, every, false)?;
-            assert!(rt; 4 + 6 < calls && 1 < writes, "{calls} {writes}");
+            let sends = calls_in(&rt, alloc, &search, every, false)?;
+            assert!(rt; 4 + 6 < calls && 2 < sends, "{calls} {sends}");
         }
     }
     Ok(())
@@ -281,5 +296,26 @@ fn cuts_are_put_when_they_are_due(rt: HostRuntime) -> Result<(), Fail> {
     assert_eq!(rt; none.listing.as_str(), LISTED);
     let (a, b) = none.ended.disk.crashed(alloc, 1)?;
     assert!(rt; a.is_empty() && b.is_empty());
+    Ok(())
+}
+
+/// With a cut after each fifth round the calls of the sink are: keep, before the cut after round 5; the write of the first
+/// line; keep, before the cut after round 10; the write of the other line. Where a keep fails, the run stops by a fault of the
+/// sink, its cut isn't put, and what was kept before stays.
+#[test]
+fn no_cut_is_put_whose_lines_are_not_kept(rt: HostRuntime) -> Result<(), Fail> {
+    let alloc = rt.alloc();
+    let search = reference(alloc)?;
+    for (call, generation, lines) in [(1, 0, 0), (3, 1, 1)] {
+        let ran = run(alloc, &search, 1, 5, empty(alloc), fault_at(call, false))?;
+        assert!(rt; matches!(ran.ended.end, Err(Stop::Write)));
+        assert_eq!(rt; ran.listing.lines().count(), lines);
+        assert_eq!(rt; ran.kept.as_str(), "");
+        let (a, b) = ran.ended.disk.crashed(alloc, 0)?;
+        let mut disk = MemDisk::new(alloc, a, b, Vec::new(alloc), None)?;
+        assert_eq!(rt; recover(alloc, &mut disk)?.state.generation(), generation);
+    }
+    let ran = run(alloc, &search, 1, 5, empty(alloc), NONE)?;
+    assert_eq!(rt; ran.kept.as_str(), "1 [\"root\"] 0:2 0:4 0:9\n");
     Ok(())
 }

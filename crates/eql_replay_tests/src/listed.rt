@@ -20,7 +20,13 @@ pub(crate) fn written(alloc: Global, sink: &MemSink) -> Result<String, Fail> {
     Ok(String::from_str(alloc, text)?)
 }
 
-/// Runs afresh without cuts, with a sink of which no write fails.
+/// Those of them that are kept.
+pub(crate) fn kept(alloc: Global, sink: &MemSink) -> Result<String, Fail> {
+    let text = str::from_utf8(sink.kept())?;
+    Ok(String::from_str(alloc, text)?)
+}
+
+/// Runs afresh without cuts, with a sink of which no call fails.
 pub(crate) fn list(
     alloc: Global,
     plan: &Plan,

@@ -1,9 +1,8 @@
-//! What the conductor plays on lanes and parts, call by call, in a run of two lanes.
+//! What the conductor plays on lanes and parts, call by call, in a run of two lanes, and which calls of the sink it makes.
 use crate::listed::written;
 use crate::plans::{REFERENCE, plan_of};
 use crate::scribe::run_noted;
-use crate::worked::starts;
-use eql_outside::MemSink;
+use crate::worked::{ELEVEN, starts};
 use std::alloc::{AllocError, Global};
 use std::fmt::Write;
 use std::test::Fail;
@@ -67,19 +66,32 @@ fn two_texts(alloc: Global) -> Result<Vec<Vec<u8>>, Fail> {
     Ok(vec![in alloc; first, second]?)
 }
 
-/// Two lanes are read line by line in three rounds, with a cut after the second.
+/// Two lanes are read line by line in three rounds, with a cut after the second. The match is written in the third.
 #[test]
 fn three_rounds_are_played_so(rt: HostRuntime) -> Result<(), Fail> {
     let alloc = rt.alloc();
     let texts = two_texts(alloc)?;
     let parts = parts_played(alloc)?;
-    let mut sink = MemSink::new(alloc, Vec::new(alloc));
     let plan = plan_of(alloc, REFERENCE)?;
-    let noted = run_noted(alloc, &plan, &texts, 2, Vec::new(alloc), &mut sink)?;
+    let noted = run_noted(alloc, &plan, &texts, 2, Vec::new(alloc))?;
     assert!(rt; noted.end.is_ok());
     assert_eq!(rt; noted.lanes.as_str(), LANES_PLAYED);
     assert_eq!(rt; noted.parts.as_str(), parts.as_str());
-    let listing = written(alloc, &sink)?;
+    assert_eq!(rt; noted.calls.as_str(), "kept;wrote 23;");
+    let listing = written(alloc, &noted.sink)?;
     assert_eq!(rt; listing.as_str(), "1 [\"root\"] 0:1 0:2 1:2\n");
+    Ok(())
+}
+
+/// The reference's example, read line by line, has cuts after rounds 5 and 10. Before each all is kept: nothing, and the
+/// line that was written in round 10. The other is written in round 11.
+#[test]
+fn lines_are_written_and_then_kept(rt: HostRuntime) -> Result<(), Fail> {
+    let alloc = rt.alloc();
+    let texts = vec![in alloc; starts(alloc, &ELEVEN)?]?;
+    let plan = plan_of(alloc, REFERENCE)?;
+    let noted = run_noted(alloc, &plan, &texts, 5, Vec::new(alloc))?;
+    assert!(rt; noted.end.is_ok());
+    assert_eq!(rt; noted.calls.as_str(), "kept;wrote 23;kept;wrote 26;");
     Ok(())
 }

@@ -1,4 +1,4 @@
-//! A bench that writes down what is played on it and what is returned, and a run over it.
+//! A bench that writes down what is played on it and what is returned, a sink that writes down its calls, and a run over both.
 ghost use Rattle.std.specs.Prelude.{◌≡◌, ◌<◌, ℕ, None, length, true};
 ghost use Rattle.eql_parts.specs.PartSteps.{Rules};
 ghost use Rattle.eql_replay_tests.specs.Opens.{MayKeepOver, Starts};
@@ -11,7 +11,7 @@ use eql_book::Book;
 use eql_ckdisk::recover;
 use eql_conductor::{Bench, Conductor, Keep, NotPlayed, RunPlan, Stop};
 use eql_lane::{Lane, LaneOp, LaneReply};
-use eql_outside::{Disk, MemDisk, MemSink, MemSource};
+use eql_outside::{Disk, MemDisk, MemSink, MemSource, OutRefused, Sink};
 use eql_parts::{PartOp, PartReply};
 use eql_replay::{Foreigns, ListBench, Opening};
 use eql_stages::{Plan, PlanReader};
@@ -137,15 +137,59 @@ impl<B: Bench> Bench for Scribe<B> {
     }
 }
 
+/// A sink that writes down its calls.
+#[derive(Drop)]
+struct SinkScribe<K: Sink> {
+    sink: K,
+    calls: String,
+}
+
+impl<K: Sink> Sink for SinkScribe<K> {
+    ghost written = { λ s. K.written s.sink };
+
+    ghost kept = { λ s. K.kept s.sink };
+
+    ghost fault_count = { λ s. K.fault_count s.sink };
+
+    ghost fault_plan = { λ s. K.fault_plan s.sink };
+
+    fn write(&mut self, alloc: Global, bytes: &[u8]) -> Result<(), OutRefused> {
+        let done = self.sink.write(alloc, bytes);
+        let count = bytes.len();
+        let _ = write!(self.calls, "wrote {count};");
+        done
+    }
+
+    fn keep(&mut self, alloc: Global) -> Result<(), OutRefused> {
+        let done = self.sink.keep(alloc);
+        let _ = write!(self.calls, "kept;");
+        done
+    }
+
+    fn faults(&self) -> u64 {
+        self.sink.faults()
+    }
+}
+
 /// How a run ended, and what was played on lanes and on parts.
+#[derive(Drop)]
+struct Played {
+    end: Result<(), Stop>,
+    lanes: String,
+    parts: String,
+}
+
+/// The same, with the calls of the sink, and the sink as the run left it.
 #[derive(Drop)]
 pub(crate) struct Noted {
     pub(crate) end: Result<(), Stop>,
     pub(crate) lanes: String,
     pub(crate) parts: String,
+    pub(crate) calls: String,
+    pub(crate) sink: MemSink,
 }
 
-/// Runs over such a bench, and writes down what is played.
+/// Runs over such a bench and sink, and writes down what is played.
 fn note_over<L: LineReader + Drop, G: Ledger, T: Opening<MemSource, L>>(
     alloc: Global,
     plan: &RunPlan,
@@ -155,9 +199,9 @@ fn note_over<L: LineReader + Drop, G: Ledger, T: Opening<MemSource, L>>(
     plays: Vec<Foreigns>,
     blank: Blank,
     book: &mut Book,
-    sink: &mut MemSink,
+    sink: &mut SinkScribe<MemSink>,
     keep: &mut Option<Keep<MemDisk>>,
-) -> Result<Noted, Fail>
+) -> Result<Played, Fail>
     requires ledger { (blank.name ≡ G.name) × (blank.parts ≡ G.parts) × (0 < G.parts) }
     requires opening { (lanes.items ≡ T.lanes) × (plays.items ≡ T.plays) }
     requires untold { (s : ℕ) → T.text s ≡ None }
@@ -181,7 +225,7 @@ fn note_over<L: LineReader + Drop, G: Ledger, T: Opening<MemSource, L>>(
         lanes,
         parts,
     } = scribe;
-    Ok(Noted { end, lanes, parts })
+    Ok(Played { end, lanes, parts })
 }
 
 /// A run afresh that reads line by line with no slack, and keeps a cut after each so many rounds that count.
@@ -191,7 +235,6 @@ pub(crate) fn run_noted(
     texts: &Vec<Vec<u8>>,
     every: u32,
     plays: Vec<Foreigns>,
-    sink: &mut MemSink,
 ) -> Result<Noted, Fail> {
     if every == 0 {
         return Err(Fail::new("no rounds"));
@@ -209,8 +252,12 @@ pub(crate) fn run_noted(
     let mut disk = MemDisk::new(alloc, a, b, Vec::new(alloc), None)?;
     let state = recover(alloc, &mut disk)?.state;
     let mut keep = Some(Keep { disk, state });
+    let mut scribe = SinkScribe {
+        sink: MemSink::new(alloc, Vec::new(alloc)),
+        calls: String::new(alloc),
+    };
     let blank = Blank::new(1);
-    note_over::<PlanReader, Brand, Brand>(
+    let Played { end, lanes, parts } = note_over::<PlanReader, Brand, Brand>(
         alloc,
         &go,
         sought_by(plan),
@@ -219,7 +266,15 @@ pub(crate) fn run_noted(
         plays,
         blank,
         &mut book,
-        sink,
+        &mut scribe,
         &mut keep,
-    )
+    )?;
+    let SinkScribe { sink, calls } = scribe;
+    Ok(Noted {
+        end,
+        lanes,
+        parts,
+        calls,
+        sink,
+    })
 }

@@ -31,13 +31,14 @@ use Rattle.eql_conductor.specs.Benches.{Known}
 use Rattle.eql_conductor.specs.Going.{RunResult}
 use Rattle.eql_conductor.specs.LaneRounds.{text_at}
 use Rattle.eql_conductor.specs.Lists.{known_in}
+use Rattle.eql_conductor.specs.Outputs.{Output, output_of}
 use Rattle.eql_conductor.specs.RunLaws.{BeginsTold, rules_of}
-use Rattle.eql_conductor.specs.Runs.{IsRunCut, KeepGoes, LastHolds, MayKeepIf, RunPuts, WroteLinesOf}
+use Rattle.eql_conductor.specs.Runs.{IsRunCut, KeepGoes, KeptLinesOf, LastHolds, MayKeepIf, RunPuts, WroteLinesOf}
 use Rattle.eql_conductor.proofs.Cutting.{puts_none}
 use Rattle.eql_conductor.proofs.Recorded.{run_cut_is, run_cut_is_safe, wrote_to_cuts}
 use Rattle.eql_hub_run.specs.Beside.{HubRan, IsSameBench, IsTold}
 use Rattle.eql_search.specs.Beginnings.{BeginsOn, MayKeepOn, cuts_of, run_by, start_at}
-use Rattle.eql_search.specs.Keeping.{AreSearchCuts, IsLaterCut, IsSearchCut, KeepsOn, PutsThese, WroteCounted}
+use Rattle.eql_search.specs.Keeping.{AreSearchCuts, IsLaterCut, IsSearchCut, KeepsOn, KeptCounted, PutsThese, WroteCounted}
 use Rattle.eql_search.specs.Searches.{AreBegunFrom, AreTextsOf, HasNumbers, Rules}
 use Rattle.eql_search.proofs.Generations.{few_cuts}
 use Rattle.eql_search.proofs.Lines.{begins_told}
@@ -83,11 +84,11 @@ module _ {S L K D : Type 0} (source : sources.Ghosts S) (reader : readers.Ghosts
   abbrev book : BookState
   book = carried.book
 
-  abbrev before : Option (List ℕ)
-  before = output.written sink
+  abbrev before : Output
+  before = output_of output sink
 
-  abbrev now : Option (List ℕ)
-  now = output.written sink'
+  abbrev now : Output
+  now = output_of output sink'
 
   abbrev rules : PartRules
   rules = record { stages = stages; span = span }
@@ -115,18 +116,39 @@ module _ {S L K D : Type 0} (source : sources.Ghosts S) (reader : readers.Ghosts
         in_range = (made.told reads (Some bound) texts rules holders began.texts_are began.rests).in_range low high;
       }
 
-  abbrev pub Are : List Cut → Type 0
-  Are cuts =
-      IfSome told (λ texts. On texts → HasNumbers by texts → AreSearchCuts by book.pipes texts cuts × All (WroteCounted by book.pipes book.places book.kept.listed texts before now) cuts)
+  -- of such a cut the lines were written and kept
+  abbrev Wrote : List (List ℕ) → Cut → Type 0
+  Wrote texts = WroteCounted by book.pipes book.places book.kept.listed texts before.written now.written
 
-  search_cuts : (cuts : List Cut) → All (IsRunCut plan.head plan.mark first book) cuts → All (WroteLinesOf plan.mark first book before now) cuts → Are cuts
-  search_cuts cuts made wrote =
-      for_some told (λ (texts : List (List ℕ)). On texts → HasNumbers by texts
-      → AreSearchCuts by book.pipes texts cuts × All (WroteCounted by book.pipes book.places book.kept.listed texts before now) cuts) (λ texts e on numbers.
-      let are = of_some told (λ (ts : List (List ℕ)). AreTextsOf source.left ts olds) texts e texts_are in (
+  abbrev Kept : List (List ℕ) → Cut → Type 0
+  Kept texts = KeptCounted by book.pipes book.places book.kept.listed texts before.written before.kept now.kept
+
+  kept_cuts : (texts : List (List ℕ)) → BeginsTold rules reads slack texts plan.mark holders first book → (kept : Option (List ℕ)) (cuts : List Cut)
+      → All (IsRunCut plan.head plan.mark first book) cuts → All (λ (cut : Cut). IfSome kept (λ _. WroteLinesOf plan.mark first book before.written now.kept cut)) cuts
+      → All (KeptCounted by book.pipes book.places book.kept.listed texts before.written kept now.kept) cuts
+  kept_cuts texts began None cuts made lines = lines
+  kept_cuts texts began (Some bytes) cuts made lines =
+      wrote_to_cuts book_is_kept end_is_whole rules reads slack texts plan.mark holders first book before.written now.kept began plan.head cuts made lines
+
+  abbrev pub Are : List Cut → Type 0
+  Are cuts = IfSome told (λ texts. On texts → HasNumbers by texts → AreSearchCuts by book.pipes texts cuts × All (Wrote texts) cuts × All (Kept texts) cuts)
+
+  abbrev WroteLines : List Cut → Type 0
+  WroteLines = All (WroteLinesOf plan.mark first book before.written now.written)
+
+  abbrev KeptLines : List Cut → Type 0
+  KeptLines = All (KeptLinesOf plan.mark first book before now.kept)
+
+  search_cuts : (cuts : List Cut) → All (IsRunCut plan.head plan.mark first book) cuts → WroteLines cuts → KeptLines cuts → Are cuts
+  search_cuts cuts made wrote kept =
+      for_some told (λ (texts : List (List ℕ)). On texts → HasNumbers by texts → AreSearchCuts by book.pipes texts cuts × All (Wrote texts) cuts × All (Kept texts) cuts)
+      (λ texts e on numbers.
+      let are = of_some told (λ (ts : List (List ℕ)). AreTextsOf source.left ts olds) texts e texts_are in
+      let began = begun_told texts e are on numbers in (
         λ bound is low high.
             All-weaker (IsRunCut plan.head plan.mark first book) (IsSearchCut by book.pipes texts bound) (search_cut texts e are on numbers bound is low high) cuts made,
-        wrote_to_cuts book_is_kept end_is_whole rules reads slack texts plan.mark holders first book before now (begun_told texts e are on numbers) plan.head cuts made wrote,
+        wrote_to_cuts book_is_kept end_is_whole rules reads slack texts plan.mark holders first book before.written now.written began plan.head cuts made wrote,
+        kept_cuts texts began before.kept cuts made kept,
       ))
 
   module _ (r : RunResult) (ended : RunResult) (told_as : IsTold ended r) where
@@ -143,12 +165,12 @@ module _ {S L K D : Type 0} (source : sources.Ghosts S) (reader : readers.Ghosts
         )
     last_of state then_state disk disk_now cuts (Err of) at puts = tt
 
-    these : (state then_state : CkState) (disk disk_now : Option History) (cuts : List Cut) → length cuts ≤ 2 ^ 51 → All (WroteLinesOf plan.mark first book before now) cuts → RiseFrom plan.mark cuts
+    these : (state then_state : CkState) (disk disk_now : Option History) (cuts : List Cut) → length cuts ≤ 2 ^ 51 → WroteLines cuts → KeptLines cuts → RiseFrom plan.mark cuts
         → RunPuts plan.head plan.mark first book state then_state disk disk_now cuts ended → PutsThese plan.head plan.mark Are state then_state disk disk_now r
-    these state then_state disk disk_now cuts few_of wrote rise puts = record {
+    these state then_state disk disk_now cuts few_of wrote lines rise puts = record {
       cuts = cuts;
       are_later = All-weaker (IsRunCut plan.head plan.mark first book) (IsLaterCut plan.head plan.mark) later_cut cuts puts.are_cuts;
-      are_cuts = search_cuts cuts puts.are_cuts wrote;
+      are_cuts = search_cuts cuts puts.are_cuts wrote lines;
       rise = rise;
       puts = puts.puts;
       stands = λ disk_fault memory unread. puts.stands (no_disk ended r told_as disk_fault unread) (no_memory ended r told_as memory unread);
@@ -159,12 +181,12 @@ module _ {S L K D : Type 0} (source : sources.Ghosts S) (reader : readers.Ghosts
           (full, omega (arith, full, to, few_of));
     }
 
-    goes : (keep kept : Option (Keep D)) (cuts : List Cut) → length cuts ≤ 2 ^ 51 → All (WroteLinesOf plan.mark first book before now) cuts → RiseFrom plan.mark cuts
+    goes : (keep kept : Option (Keep D)) (cuts : List Cut) → length cuts ≤ 2 ^ 51 → WroteLines cuts → KeptLines cuts → RiseFrom plan.mark cuts
         → KeepGoes disk.history disk.fault_count plan.head plan.mark first book cuts ended keep kept → KeepsOn disk.history plan.head plan.mark Are keep kept r
-    goes None None cuts few_of wrote rise kept_so = λ e. kept_so.1 (generation_then ended r e told_as)
-    goes None (Some l) cuts few_of wrote rise kept_so = absurd kept_so
-    goes (Some k) None cuts few_of wrote rise kept_so = absurd kept_so
-    goes (Some k) (Some l) cuts few_of wrote rise kept_so = these k.state l.state (disk.history k.disk) (disk.history l.disk) cuts few_of wrote rise kept_so
+    goes None None cuts few_of wrote lines rise kept_so = λ e. kept_so.1 (generation_then ended r e told_as)
+    goes None (Some l) cuts few_of wrote lines rise kept_so = absurd kept_so
+    goes (Some k) None cuts few_of wrote lines rise kept_so = absurd kept_so
+    goes (Some k) (Some l) cuts few_of wrote lines rise kept_so = these k.state l.state (disk.history k.disk) (disk.history l.disk) cuts few_of wrote lines rise kept_so
 
   pub keeps : (r : RunResult) → HubRan source reader output disk (text_at told) olds news parts sink sink' first last carried carried' r
       → KeepsOn disk.history plan.head plan.mark Are carried.keep carried'.keep r
@@ -172,4 +194,4 @@ module _ {S L K D : Type 0} (source : sources.Ghosts S) (reader : readers.Ghosts
       let ran = run.conductor.ran in
       goes r run.ended run.hands.told carried.keep carried'.keep ran.cuts
       (few_cuts reader.read_of (text_at told) olds news parts first last same run.conductor.goes.same.lanes run.hands.lanes run.hands.on.count few begins.begins.sized plan ran.cuts run.ended ran.notes ran.bound)
-      ran.wrote ran.rise ran.keeps
+      ran.wrote ran.lines_kept ran.rise ran.keeps

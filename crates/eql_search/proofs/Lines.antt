@@ -44,6 +44,7 @@ use Rattle.eql_conductor.specs.Going.{RunResult}
 use Rattle.eql_conductor.specs.LaneRounds.{IsSafe, text_at}
 use Rattle.eql_conductor.specs.Lists.{known_in}
 use Rattle.eql_conductor.specs.PartRounds.{AreAtRest}
+use Rattle.eql_conductor.specs.Outputs.{output_of}
 use Rattle.eql_conductor.specs.Records.{Ran}
 use Rattle.eql_conductor.specs.Rounds.{BenchIsOfTexts, found_by}
 use Rattle.eql_conductor.specs.RunLaws.{BeginsTold, HavePlayed, StopsListed, found_below}
@@ -171,7 +172,7 @@ module _ {S L K D : Type 0} (source : sources.Ghosts S) (reader : readers.Ghosts
   Beside r = HubRan source reader output disk (text_at told) olds news parts sink sink' first last carried carried' r
 
   abbrev RanTo : RunResult → Type 0
-  RanTo ended = Ran disk.history disk.fault_count plan first last book then before now carried.keep carried'.keep ended
+  RanTo ended = Ran disk.history disk.fault_count plan first last book then (output_of output sink) (output_of output sink') carried.keep carried'.keep ended
 
   abbrev On : List (List ℕ) → Type 0
   On texts = BeginsOn by book.pipes texts (start_at plan.mark (cuts_of olds) holders book.kept)

@@ -31,7 +31,7 @@ use Rattle.eql_lock_bench.specs.Locked.{known_by}
 use Rattle.eql_search.specs.declared.rules.Rules.{Rules as Asked}
 use Rattle.eql_search.specs.Answers.{AreUnfailing, HasSearchCause, IsClosed, IsNoFault, IsRead, AreSteadyBut, StaysLane, WereRead}
 use Rattle.eql_search.specs.Beginnings.{BeginsOn, MayBegin, MayKeepOn, cuts_of, start_at}
-use Rattle.eql_search.specs.Keeping.{AreSearchCuts, IsSearchCut, KeepsOn, WroteCounted}
+use Rattle.eql_search.specs.Keeping.{AreSearchCuts, IsSearchCut, KeepsOn, KeptCounted, WroteCounted}
 use Rattle.eql_search.specs.Running.{DidNotBegin, TriesToSearch}
 use Rattle.eql_search.specs.Searches.{AreBegunFrom, AreTextsOf, HasNumbers, Rules, rest_of}
 use Rattle.eql_search.proofs.Causes.{counts_so, has_cause, lanes_unfailing, no_fault, reads_steady}
@@ -86,6 +86,7 @@ module _ {S L K D : Type 0} (source : sources.Ghosts S) (reader : readers.Ghosts
   CutsOf sink' cuts texts =
       On texts → HasNumbers by texts
       → AreSearchCuts by book.pipes texts cuts × All (WroteCounted by book.pipes book.places book.kept.listed texts (output.written sink) (output.written sink')) cuts
+      × All (KeptCounted by book.pipes book.places book.kept.listed texts (output.written sink) (output.kept sink) (output.kept sink')) cuts
 
   abbrev Cuts : (sink' : K) → List Cut → Type 0
   Cuts sink' cuts = IfSome told (CutsOf sink' cuts)
@@ -125,6 +126,7 @@ module _ {S L K D : Type 0} (source : sources.Ghosts S) (reader : readers.Ghosts
           (for_some told (CutsOf sink []) (λ texts e on numbers. (
             λ bound is low high. All-nil (IsSearchCut by book.pipes texts bound),
             All-nil (WroteCounted by book.pipes book.places book.kept.listed texts (output.written sink) (output.written sink)),
+            All-nil (KeptCounted by book.pipes book.places book.kept.listed texts (output.written sink) (output.kept sink) (output.kept sink)),
           ))) plan (length olds) carried.keep may_keep;
       closed = tt;
       read = tt;

@@ -1,5 +1,5 @@
 -- Which cuts a search puts on its disk.
-use Rattle.std.specs.Prelude.{◌≡◌, ◌≢◌, ◌≤◌, ◌^◌, ◌≤ℤ◌, pos, ℕ, ℤ, Bool, List, drop, take, Option, None, Some, Result, Err, OnOk, All}
+use Rattle.std.specs.Prelude.{◌≡◌, ◌≢◌, ◌≤◌, ◌^◌, ◌≤ℤ◌, pos, ℕ, ℤ, Bool, List, drop, take, Option, None, Some, Result, Err, OnOk, IfSome, All}
 use Rattle.eql_values.specs.declared.cut.Pipe.{Pipe}
 use Rattle.eql_values.specs.declared.order.Mark.{Mark}
 use Rattle.eql_values.specs.declared.order.Mark.TheVariants.{At}
@@ -41,6 +41,10 @@ AreSearchCuts rules pipes texts cuts =
 abbrev pub WroteCounted : Rules → List Pipe → (places : Bool) → (listed : ℕ) → (texts : List (List ℕ)) → (before now : Option (List ℕ)) → Cut → Type 0
 WroteCounted rules pipes places listed texts before now cut =
     WroteThrough (listing places (drop listed (take cut.book.listed (pipe_output pipes (numbered_matches (found_in rules texts)))))) before now
+
+-- and they were kept, where the sink tells what it keeps
+abbrev pub KeptCounted : Rules → List Pipe → (places : Bool) → (listed : ℕ) → (texts : List (List ℕ)) → (before kept kept' : Option (List ℕ)) → Cut → Type 0
+KeptCounted rules pipes places listed texts before kept kept' cut = IfSome kept (λ bytes. WroteCounted rules pipes places listed texts before kept' cut)
 
 -- a cut with this head, at a time from the mark on
 pub record IsLaterCut (head : CutHead) (from : Mark) (cut : Cut) : Type 0 where

@@ -22,7 +22,7 @@ use Rattle.eql_conductor.specs.Runs.{disk_faults}
 use Rattle.eql_search.specs.declared.rules.Rules.{Rules as Asked}
 use Rattle.eql_search.specs.Answers.{AreSteadyBut, HasSearchCause, IsClosed, IsRead, StaysLane, WereRead}
 use Rattle.eql_search.specs.Beginnings.{BeginsOn, MayBegin, MayKeepOn, cuts_of, start_at}
-use Rattle.eql_search.specs.Keeping.{AreSearchCuts, WroteCounted}
+use Rattle.eql_search.specs.Keeping.{AreSearchCuts, KeptCounted, WroteCounted}
 use Rattle.eql_search.specs.Searches.{AreBegun, AreTextsOf, HasNumbers, Rules, rest_of, rules_of}
 
 -- ---- the beginning
@@ -78,11 +78,12 @@ module _ {K : Type 0} (output : sinks.Ghosts K) where
     -- a sink that doesn't tell goes on so
     pub silent : output.written sink ≡ None → output.written sink' ≡ None
 
-  -- over such texts these are cuts of them, and the lines that they count were written
+  -- over such texts these are cuts of them, and the lines that they count were written and kept
   abbrev pub AreCutsFrom : (known_texts : Option (List (List ℕ))) → Beginning → (sink sink' : K) → List Cut → Type 0
   AreCutsFrom known_texts from sink sink' cuts = IfSome known_texts (λ texts. BeginsOver from texts → HasNumbers from.rules texts
       → AreSearchCuts from.rules from.book.pipes texts cuts
-      × All (WroteCounted from.rules from.book.pipes from.book.places from.book.kept.listed texts (output.written sink) (output.written sink')) cuts)
+      × All (WroteCounted from.rules from.book.pipes from.book.places from.book.kept.listed texts (output.written sink) (output.written sink')) cuts
+      × All (KeptCounted from.rules from.book.pipes from.book.places from.book.kept.listed texts (output.written sink) (output.kept sink) (output.kept sink')) cuts)
 
   -- why it stopped, and that no fault was passed over: of several at once a read fault is told. No count falls
   pub record StopsForCause {A S L D : Type 0} (disk : disks.Ghosts D) (known_texts : Option (List (List ℕ))) (olds news : List (LaneView S L))

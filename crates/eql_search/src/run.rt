@@ -125,7 +125,7 @@ pub fn search<
         (beginning_of L.LineReader rules lanes.old.items holders run.old)
         sink.old sink.new result }
 
-    // Which cuts were put on the disk, and that the lines that they count were written.
+    // Which cuts were put on the disk, and that the lines that they count were written and kept.
     ensures keeps { KeepsOn D.history run.old.plan.head run.old.plan.mark
         (AreCutsFrom K.Sink known_texts
         (beginning_of L.LineReader rules lanes.old.items holders run.old)

@@ -22,6 +22,7 @@ loop-index-preserved g c =
           (g.K.Sink.written c.args.sink.now) (g.K.Sink.written loop.sink) (g.K.Sink.written c.add.new.sink)
           loop.invariant.from (sym c.get.ensures ∙ ap option_copied c.in-Some.is) (omega (arith, c.loop-index-test.true, c.requires.within))
           (ap (λ (p : Bool). match_line p x) loop.invariant.places) loop.invariant.printed added.printed;
+      keeps = c.add.ensures.keeps ∙ loop.invariant.keeps;
       silent = λ none. c.add.ensures.silent (loop.invariant.silent none);
       unfailing = λ never. (c.add.ensures.unfailing (loop.invariant.unfailing never)).1;
       steady = added.steady (λ e. cc) ∙ loop.invariant.steady;

@@ -23,6 +23,7 @@ loop-found-init g c =
       places = refl;
       kept = start_kept c.args.ledger.now;
       printed = no_line c.args.page.now.places (string_bytes c.args.page.now.waiting) _ (g.K.Sink.written c.args.sink.now) (start_out c.args.ledger.now);
+      keeps = refl;
       silent = λ none. none;
       unfailing = λ never. never;
       steady = refl;
@@ -51,6 +52,7 @@ loop-found-preserved g c =
           (listing loop.page.places (let_out (pipes_of loop.ledger.gates.items) (kept_of loop.ledger) (m ∷ [])))
           (g.K.Sink.written c.args.sink.now) (g.K.Sink.written loop.sink) (g.K.Sink.written c.write_match.new.sink)
           (λ i. listing (inv.places i) (let_out (inv.pipes i) (inv.kept i) (m ∷ []))) inv.printed wrote.printed;
+      keeps = c.write_match.ensures.keeps ∙ inv.keeps;
       silent = λ none. c.write_match.ensures.silent (inv.silent none);
       unfailing = λ never. (c.write_match.ensures.unfailing (inv.unfailing never)).1;
       steady = wrote.steady (λ e. cc) ∙ inv.steady;

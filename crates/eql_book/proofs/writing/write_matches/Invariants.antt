@@ -17,6 +17,7 @@ invariant-loop-found g l = record {
   printed : WroteBut (string_bytes l.page.waiting)
       (string_bytes l.initial.page.waiting ++ listing l.initial.page.places (let_out (pipes_of l.initial.ledger.gates.items) (kept_of l.initial.ledger) l.yielded))
       (g.K.Sink.written l.initial.sink) (g.K.Sink.written l.sink);
+  keeps : g.K.Sink.kept l.sink ≡ g.K.Sink.kept l.initial.sink;
   silent : g.K.Sink.written l.initial.sink ≡ None → g.K.Sink.written l.sink ≡ None;
   unfailing : IsUnfailing (g.K.Sink.fault_plan l.initial.sink) → IsUnfailing (g.K.Sink.fault_plan l.sink);
   steady : g.K.Sink.fault_count l.sink ≡ g.K.Sink.fault_count l.initial.sink;

@@ -2,6 +2,7 @@ use Rattle.std.proofs.Common.{◌+◌, None, Some, suc, add-one, arith, refl, �
 use Rattle.std.proofs.lemmas.Result.{err_from_is_err_and}
 use Rattle.eql_values.specs.declared.order.Mark.TheVariants.{End}
 use Rattle.eql_book.proofs.Wholes.{book_is_kept, end_is_whole}
+use Rattle.eql_conductor.specs.Outputs.{output_of}
 use Rattle.eql_conductor.specs.Runs.{disk_faults}
 use Rattle.eql_conductor.proofs.Onward.{lanes_go_on, lanes_go_self, went_on, went_self}
 use Rattle.eql_conductor.proofs.Goings.{at_mark_goes}
@@ -16,7 +17,7 @@ use Rattle.eql_conductor.proofs.run.play_rounds.Goals.{in_default, in-Some+else-
 
 pub loop-round-init : goal.loop-round-init
 loop-round-init g c = record {
-  ran = ran_none g.D.Disk.history g.D.Disk.fault_count c.args.plan.now (g.B.Bench.known c.args.bench.now) c.args.book.now (g.K.Sink.written c.args.sink.now) c.args.keep.now
+  ran = ran_none g.D.Disk.history g.D.Disk.fault_count c.args.plan.now (g.B.Bench.known c.args.bench.now) c.args.book.now (output_of g.K.Sink c.args.sink.now) c.args.keep.now
       c.fits.ensures (may_keep g.D.Disk.history g.D.Disk.fault_count c.args.plan.now (g.B.Bench.known c.args.bench.now) c.args.keep.now c.requires.keeps);
   spent = rounds_none (g.B.Bench.known c.args.bench.now) (lanes_go_self (g.B.Bench.known c.args.bench.now));
   before_end = c.requires.may.before_end;
@@ -46,7 +47,7 @@ returns-in_err-mark-clause-stopped g c =
     let p = err_from_is_err_and c.from_residual.result c.from_residual.ensures.1 in
     rw (p.1, p.2)
     (ran_stops g.D.Disk.history g.D.Disk.fault_count c.args.plan.now (place c.loop-round.last c.loop-round.count) c.loop-round.round (g.B.Bench.known c.args.bench.now) (g.B.Bench.known c.loop-round.bench) (g.B.Bench.known c.play_and_keep.new.bench)
-    c.args.book.now c.loop-round.book c.play_and_keep.new.book (g.K.Sink.written c.args.sink.now) (g.K.Sink.written c.loop-round.sink) (g.K.Sink.written c.play_and_keep.new.sink)
+    c.args.book.now c.loop-round.book c.play_and_keep.new.book (output_of g.K.Sink c.args.sink.now) (output_of g.K.Sink c.loop-round.sink) (output_of g.K.Sink c.play_and_keep.new.sink)
     c.args.keep.now c.loop-round.keep c.play_and_keep.new.keep c.loop-round.invariant.goes.same c.loop-round.invariant.before_end c.loop-round.invariant.ran
     book_is_kept end_is_whole c.loop-round.invariant.spent c.requires.may.sized c.loop-round.invariant.goes c.play_and_keep.ensures.goes c.in_err-mark.field-0.0 c.in_err-mark.ensures.stopped)
 
@@ -68,7 +69,7 @@ returns-then-eq-clause-ran g c = record {
   n = c.loop-round.round;
   counts = suc c.loop-round.count;
   ran = ran_counted g.D.Disk.history g.D.Disk.fault_count c.args.plan.now (place c.loop-round.last c.loop-round.count) c.loop-round.round (g.B.Bench.known c.args.bench.now) (g.B.Bench.known c.loop-round.bench) (g.B.Bench.known c.play_and_keep.new.bench)
-      c.args.book.now c.loop-round.book c.play_and_keep.new.book (g.K.Sink.written c.args.sink.now) (g.K.Sink.written c.loop-round.sink) (g.K.Sink.written c.play_and_keep.new.sink)
+      c.args.book.now c.loop-round.book c.play_and_keep.new.book (output_of g.K.Sink c.args.sink.now) (output_of g.K.Sink c.loop-round.sink) (output_of g.K.Sink c.play_and_keep.new.sink)
       c.args.keep.now c.loop-round.keep c.play_and_keep.new.keep c.loop-round.invariant.goes.same c.loop-round.invariant.before_end c.loop-round.invariant.ran
       End (suc c.loop-round.count) refl (rw (is_end c.in-Some.mark c.if-eq.ensures) at (rw c.in-Some.is at c.in_ok-mark.ensures.step));
   spent = rounds_stay c.loop-round.round (g.B.Bench.known c.args.bench.now) (g.B.Bench.known c.loop-round.bench) (g.B.Bench.known c.play_and_keep.new.bench) c.loop-round.invariant.goes.same c.play_and_keep.ensures.goes c.loop-round.invariant.spent;
@@ -84,12 +85,12 @@ loop-round-preserved g c =
       ran = elim c.match-branch-2.branch [
         | in_default w ↦ rw (w.last-is, w.count-is)
             (ran_rests g.D.Disk.history g.D.Disk.fault_count c.args.plan.now (place c.loop-round.last c.loop-round.count) c.loop-round.round (g.B.Bench.known c.args.bench.now) (g.B.Bench.known c.loop-round.bench) (g.B.Bench.known c.play_and_keep.new.bench)
-            c.args.book.now c.loop-round.book c.play_and_keep.new.book (g.K.Sink.written c.args.sink.now) (g.K.Sink.written c.loop-round.sink) (g.K.Sink.written c.play_and_keep.new.sink)
+            c.args.book.now c.loop-round.book c.play_and_keep.new.book (output_of g.K.Sink c.args.sink.now) (output_of g.K.Sink c.loop-round.sink) (output_of g.K.Sink c.play_and_keep.new.sink)
             c.args.keep.now c.loop-round.keep c.play_and_keep.new.keep c.loop-round.invariant.goes.same c.loop-round.invariant.before_end c.loop-round.invariant.ran
             (rw w.in_default.is at c.in_ok-mark.ensures.step))
         | in-Some+else-eq w ↦ rw (w.last-is, w.count-is)
             (ran_counted g.D.Disk.history g.D.Disk.fault_count c.args.plan.now (place c.loop-round.last c.loop-round.count) c.loop-round.round (g.B.Bench.known c.args.bench.now) (g.B.Bench.known c.loop-round.bench) (g.B.Bench.known c.play_and_keep.new.bench)
-            c.args.book.now c.loop-round.book c.play_and_keep.new.book (g.K.Sink.written c.args.sink.now) (g.K.Sink.written c.loop-round.sink) (g.K.Sink.written c.play_and_keep.new.sink)
+            c.args.book.now c.loop-round.book c.play_and_keep.new.book (output_of g.K.Sink c.args.sink.now) (output_of g.K.Sink c.loop-round.sink) (output_of g.K.Sink c.play_and_keep.new.sink)
             c.args.keep.now c.loop-round.keep c.play_and_keep.new.keep c.loop-round.invariant.goes.same c.loop-round.invariant.before_end c.loop-round.invariant.ran
             w.in-Some.mark (c.loop-round.count + 1) (add-one c.loop-round.count) (rw w.in-Some.is at c.in_ok-mark.ensures.step))
       ];

@@ -3,6 +3,7 @@ use Rattle.eql_values.specs.declared.order.Mark.TheVariants.{End}
 use Rattle.eql_outside.specs.Unfailing.{IsUnfailing}
 use Rattle.eql_conductor.specs.Bounds.{RoundsSpend}
 use Rattle.eql_conductor.specs.Going.{LanesGo, Went}
+use Rattle.eql_conductor.specs.Outputs.{output_of}
 use Rattle.eql_conductor.specs.RunNotes.{place}
 use Rattle.eql_conductor.specs.Running.{RanTo}
 use Rattle.eql_conductor.specs.Runs.{IsKeptUnfailing, disk_faults}
@@ -11,7 +12,7 @@ use Rattle.eql_conductor.proofs.run.play_rounds.Given as goal
 abbrev pub invariant-loop-round : goal.invariant-loop-round
 invariant-loop-round g l = record {
   ran : RanTo g.D.Disk.history g.D.Disk.fault_count l.plan (place l.last l.count) l.round (g.B.Bench.known l.fn.bench) (g.B.Bench.known l.bench) l.fn.book l.book
-      (g.K.Sink.written l.fn.sink) (g.K.Sink.written l.sink) l.fn.keep l.keep;
+      (output_of g.K.Sink l.fn.sink) (output_of g.K.Sink l.sink) l.fn.keep l.keep;
   spent : RoundsSpend l.round (g.B.Bench.known l.fn.bench) (g.B.Bench.known l.bench);
   before_end : l.last ≢ End;
   goes : LanesGo (g.B.Bench.known l.fn.bench) (g.B.Bench.known l.bench);

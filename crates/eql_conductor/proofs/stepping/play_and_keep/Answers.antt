@@ -5,6 +5,7 @@ use Rattle.eql_conductor.specs.declared.stop.Stop.TheVariants.{Disk, Write}
 use Rattle.eql_conductor.proofs.Onward.{lanes_go_on}
 use Rattle.eql_conductor.proofs.Goings.{at_mark_goes}
 use Rattle.eql_conductor.proofs.Causes.{cut_ends, err_is, not_full, round_ends, round_not_disk, stops_for_on}
+use Rattle.eql_conductor.specs.Outputs.{output_of}
 use Rattle.eql_conductor.specs.RunNotes.{place}
 use Rattle.eql_conductor.proofs.BoundsSpent.{round_stays}
 use Rattle.eql_conductor.proofs.Cutting.{stands_on}
@@ -16,7 +17,8 @@ returns-in_err-play_round-clause-stopped g c =
     let p = err_from_is_err_and c.from_residual.result c.from_residual.ensures.1 in
     rw (p.1, p.2)
     (round_stopped g.D.Disk.history g.D.Disk.fault_count c.args.plan.now (place c.args.last c.args.count) (g.B.Bench.known c.args.bench.now) (g.B.Bench.known c.play_round.new.bench)
-    c.args.book.now c.play_round.new.book (g.K.Sink.written c.args.sink.now) (g.K.Sink.written c.play_round.new.sink) c.args.keep.now c.play_round.ensures.goes c.in_err-play_round.field-0.0
+    c.args.book.now c.play_round.new.book (output_of g.K.Sink c.args.sink.now) (output_of g.K.Sink c.play_round.new.sink) c.args.keep.now c.play_round.ensures.goes c.play_round.ensures.keeps
+    c.in_err-play_round.field-0.0
     c.requires.at c.fits.ensures c.in_err-play_round.ensures.broken c.in_err-play_round.ensures.broken_notes
     (not_full c.in_err-play_round.field-0.0 (g.B.Bench.known c.args.bench.now) (g.B.Bench.known c.play_round.new.bench) c.in_err-play_round.ensures.stops) c.requires.stands)
 
@@ -40,7 +42,7 @@ returns-in_err-play_round-clause-unfailing_disk g c =
 pub returns-in-None-clause-step : goal.returns-in-None-clause-step
 returns-in-None-clause-step g c =
     passed g.D.Disk.history g.D.Disk.fault_count c.args.plan.now (place c.args.last c.args.count) (g.B.Bench.known c.args.bench.now) (g.B.Bench.known c.play_round.new.bench)
-    c.args.book.now c.play_round.new.book (g.K.Sink.written c.args.sink.now) (g.K.Sink.written c.play_round.new.sink) c.args.keep.now c.play_round.ensures.goes
+    c.args.book.now c.play_round.new.book (output_of g.K.Sink c.args.sink.now) (output_of g.K.Sink c.play_round.new.sink) c.args.keep.now c.play_round.ensures.goes c.play_round.ensures.keeps
     (rw c.in-None.is at c.in_ok-play_round.ensures.round) (rw c.in-None.is at c.in_ok-play_round.ensures.notes)
 
 pub keep_cut-requires-clause-stands : goal.keep_cut-requires-clause-stands
@@ -57,9 +59,9 @@ returns-in_err-keep_cut-in-Some-clause-stopped g c =
     let p = err_from_is_err_and c.from_residual-in_err-keep_cut-in-Some.result c.from_residual-in_err-keep_cut-in-Some.ensures.1 in
     rw (p.1, p.2)
     (cut_stopped g.D.Disk.history g.D.Disk.fault_count c.args.plan.now (place c.args.last c.args.count) c.in-Some.mark (g.B.Bench.known c.args.bench.now) (g.B.Bench.known c.play_round.new.bench) (g.B.Bench.known c.keep_cut.new.bench)
-    c.args.book.now c.play_round.new.book (g.K.Sink.written c.args.sink.now) (g.K.Sink.written c.play_round.new.sink) c.args.keep.now c.keep_cut.new.keep
+    c.args.book.now c.play_round.new.book (output_of g.K.Sink c.args.sink.now) (output_of g.K.Sink c.play_round.new.sink) (output_of g.K.Sink c.keep_cut.new.sink) c.args.keep.now c.keep_cut.new.keep
     c.requires.at c.play_round.ensures.goes.same (rw c.in-Some.is at c.in_ok-play_round.ensures.round) (rw c.in-Some.is at c.in_ok-play_round.ensures.in_range) (rw c.in-Some.is at c.in_ok-play_round.ensures.notes)
-    (c.args.count + 1) (add-one c.args.count)
+    c.play_round.ensures.keeps c.keep_cut.ensures.same (c.args.count + 1) (add-one c.args.count)
     c.in_err-keep_cut-in-Some.field-0.0 c.keep_cut.ensures.goes c.in_err-keep_cut-in-Some.ensures.stopped)
 
 pub returns-in_err-keep_cut-in-Some-clause-cause : goal.returns-in_err-keep_cut-in-Some-clause-cause
@@ -67,14 +69,17 @@ returns-in_err-keep_cut-in-Some-clause-cause g c =
     let p = err_from_is_err_and c.from_residual-in_err-keep_cut-in-Some.result c.from_residual-in_err-keep_cut-in-Some.ensures.1 in
     let by = c.in_err-keep_cut-in-Some.field-0.0 in
     let sink_before = g.K.Sink.fault_count c.args.sink.now in
-    let sink_now = g.K.Sink.fault_count c.play_round.new.sink in
+    let sink_mid = g.K.Sink.fault_count c.play_round.new.sink in
+    let sink_now = g.K.Sink.fault_count c.keep_cut.new.sink in
+    let sink = c.in_err-keep_cut-in-Some.ensures.sink_faults in
     let disk_before = disk_faults g.D.Disk.history g.D.Disk.fault_count c.args.keep.now in
     let disk_now = disk_faults g.D.Disk.history g.D.Disk.fault_count c.keep_cut.new.keep in
     rw (p.1, p.2)
-    (stops_for_on (g.B.Bench.known c.args.bench.now) (g.B.Bench.known c.play_round.new.bench) (g.B.Bench.known c.keep_cut.new.bench) sink_before sink_now sink_now disk_before disk_before disk_now
+    (stops_for_on (g.B.Bench.known c.args.bench.now) (g.B.Bench.known c.play_round.new.bench) (g.B.Bench.known c.keep_cut.new.bench) sink_before sink_mid sink_now disk_before disk_before disk_now
     c.play_round.ensures.goes c.in_ok-play_round.ensures.went (c.in_ok-play_round.ensures.faults.steady (λ e. cc)) refl by
-    (cut_ends (g.B.Bench.known c.play_round.new.bench) (g.B.Bench.known c.keep_cut.new.bench) sink_now sink_now disk_before disk_now by c.in_err-keep_cut-in-Some.ensures.stops
-    (λ e. c.in_err-keep_cut-in-Some.ensures.cause (ap Err e)) (λ apart. c.in_err-keep_cut-in-Some.ensures.steady (λ e. apart (err_is by Disk e))) c.keep_cut.ensures.counts refl))
+    (cut_ends (g.B.Bench.known c.play_round.new.bench) (g.B.Bench.known c.keep_cut.new.bench) sink_mid sink_now disk_before disk_now by c.in_err-keep_cut-in-Some.ensures.stops
+    (λ e. sink.cause (ap Err e)) (λ apart. sink.steady (λ e. apart (err_is by Write e))) sink.counts
+    (λ e. c.in_err-keep_cut-in-Some.ensures.cause (ap Err e)) (λ apart. c.in_err-keep_cut-in-Some.ensures.steady (λ e. apart (err_is by Disk e))) c.keep_cut.ensures.counts))
 
 pub returns-in_err-keep_cut-in-Some-clause-goes : goal.returns-in_err-keep_cut-in-Some-clause-goes
 returns-in_err-keep_cut-in-Some-clause-goes g c =
@@ -83,9 +88,9 @@ returns-in_err-keep_cut-in-Some-clause-goes g c =
 pub returns-in_ok-keep_cut-in-Some-clause-step : goal.returns-in_ok-keep_cut-in-Some-clause-step
 returns-in_ok-keep_cut-in-Some-clause-step g c =
     counted g.D.Disk.history g.D.Disk.fault_count c.args.plan.now (place c.args.last c.args.count) c.in-Some.mark (g.B.Bench.known c.args.bench.now) (g.B.Bench.known c.play_round.new.bench) (g.B.Bench.known c.keep_cut.new.bench)
-    c.args.book.now c.play_round.new.book (g.K.Sink.written c.args.sink.now) (g.K.Sink.written c.play_round.new.sink) c.args.keep.now c.keep_cut.new.keep
+    c.args.book.now c.play_round.new.book (output_of g.K.Sink c.args.sink.now) (output_of g.K.Sink c.play_round.new.sink) (output_of g.K.Sink c.keep_cut.new.sink) c.args.keep.now c.keep_cut.new.keep
     c.requires.at c.play_round.ensures.goes.same (rw c.in-Some.is at c.in_ok-play_round.ensures.round) (rw c.in-Some.is at c.in_ok-play_round.ensures.in_range) (rw c.in-Some.is at c.in_ok-play_round.ensures.notes)
-    (c.args.count + 1) (add-one c.args.count)
+    c.play_round.ensures.keeps c.keep_cut.ensures.same (c.args.count + 1) (add-one c.args.count)
     c.in_ok-keep_cut-in-Some.ensures.goes_on
 
 pub returns-in_ok-keep_cut-in-Some-clause-spends : goal.returns-in_ok-keep_cut-in-Some-clause-spends

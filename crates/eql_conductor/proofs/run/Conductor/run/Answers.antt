@@ -2,6 +2,7 @@ use Rattle.std.proofs.Common.{refl}
 use Rattle.std.proofs.lemmas.Result.{err_from_is_err_and}
 use Rattle.eql_values.specs.declared.order.Mark.TheVariants.{End}
 use Rattle.eql_book.proofs.Wholes.{book_is_kept, end_is_whole}
+use Rattle.eql_conductor.specs.Outputs.{output_of}
 use Rattle.eql_conductor.specs.Runs.{disk_faults}
 use Rattle.eql_conductor.proofs.Causes.{book_ends, out_not_disk}
 use Rattle.eql_conductor.proofs.Goings.{at_mark_goes}
@@ -41,8 +42,8 @@ returns g c =
     record {
       ran = record {
         ran = book_ended g.D.Disk.history g.D.Disk.fault_count c.args.plan.now (g.B.Bench.known c.args.bench.now) (g.B.Bench.known c.play_rounds.new.bench)
-            c.args.book.now c.play_rounds.new.book c.end_book.new.book (g.K.Sink.written c.args.sink.now) (g.K.Sink.written c.play_rounds.new.sink) (g.K.Sink.written c.end_book.new.sink)
-            c.args.keep.now c.play_rounds.new.keep book_is_kept end_is_whole start c.requires.may.sized c.play_rounds.ensures.goes c.in_ok-play_rounds.ensures.ran c.end_book.result at.whole
+            c.args.book.now c.play_rounds.new.book c.end_book.new.book (output_of g.K.Sink c.args.sink.now) (output_of g.K.Sink c.play_rounds.new.sink) (output_of g.K.Sink c.end_book.new.sink)
+            c.args.keep.now c.play_rounds.new.keep c.end_book.ensures.keeps book_is_kept end_is_whole start c.requires.may.sized c.play_rounds.ensures.goes c.in_ok-play_rounds.ensures.ran c.end_book.result at.whole
             c.end_book.ensures.still c.end_book.ensures.lines c.end_book.ensures.spoilt c.end_book.ensures.front c.end_book.ensures.out;
         cause = book_ends (g.B.Bench.known c.args.bench.now) (g.B.Bench.known c.play_rounds.new.bench)
             (g.K.Sink.fault_count c.args.sink.now) (g.K.Sink.fault_count c.play_rounds.new.sink) (g.K.Sink.fault_count c.end_book.new.sink)
