@@ -2,7 +2,7 @@
 #![tactic(auto)]
 
 use eql_cli::{NoGate, eql_main};
-use eql_outside::{FileShelf, StdSink};
+use eql_outside::{FileShelf, KeptStdout, StdSink};
 use std::env;
 use std::io::ErrorKind;
 use std::process::ExitCode;
@@ -36,8 +36,11 @@ fn main(rt: HostRuntime) -> ExitCode {
     let Ok(files) = rt.clone() else {
         return ExitCode::from(OUT_OF_MEMORY);
     };
-    let mut shelf = FileShelf::new(files);
-    let out = StdSink::new(rt.stdout());
+    let Ok(own) = rt.clone() else {
+        return ExitCode::from(OUT_OF_MEMORY);
+    };
+    let mut shelf = FileShelf::new(rt.alloc(), files);
+    let out = StdSink::new(KeptStdout::new(rt.stdout(), own));
     let err = StdSink::new(rt.stderr());
     let ended = eql_main(&rt, rt.alloc(), &words, &mut shelf, out, err, &NoGate);
     ExitCode::from(ended.status)

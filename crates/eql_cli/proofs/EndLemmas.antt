@@ -1,32 +1,35 @@
 -- How a run of a command ends, by why it stopped.
 use native.Mathlib.Omega.{arith}
-use Rattle.std.proofs.Common.{◌≡◌, ◌≢◌, ℕ, ◌<◌, ◌≤◌, ◌⊎◌, inl, inr, List, Option, Some, None, Err, refl, sym, ap, ◌∙◌, subst}
+use Rattle.std.proofs.Common.{◌≡◌, ◌≢◌, ℕ, Bool, true, ◌<◌, ◌≤◌, ◌⊎◌, inl, inr, List, Option, Some, None, Err, refl, sym, ap, ◌∙◌, subst}
 use Rattle.std.specs.Prelude.{IfSome, IsSomeAnd, codes}
 use Rattle.std.proofs.lemmas.Option.{none-some, same_Some}
 use Rattle.eql_outside.specs.Moments.{History}
 use Rattle.eql_outside.specs.Outside.{Rose, AppendsSome}
 use Rattle.eql_outside.specs.Written.{WroteFront}
 use Rattle.eql_outside.specs.Written as written
+use Rattle.eql_outside.specs.declared.refused.DiskHeld.{DiskHeld}
 use Rattle.eql_outside.specs.declared.refused.OutRefused.TheVariants as by
 use Rattle.eql_words.specs.declared.commands.Command.{Command}
 use Rattle.eql_words.specs.declared.commands.Command.TheVariants as command
 use Rattle.eql_words.specs.declared.commands.Find.{Find}
 use Rattle.eql_words.specs.Commands.{command_of}
-use Rattle.eql_runs.specs.CutRefusals.{CutRefusal, cut_text}
+use Rattle.eql_runs.specs.CutRefusals.{CutRefusal, cut_text, held_text}
 use Rattle.eql_runs.specs.Files.{Files}
 use Rattle.eql_runs.specs.Refusals.{Names, Refusal, Refuses, refusal_status, refusal_text}
 use Rattle.eql_runs.specs.Refusals as refusal
-use Rattle.eql_runs.specs.RunLaws.{StatusIsOne, WritesOrIsRefused, ReadyIsNotRefused}
-use Rattle.eql_runs.specs.Runs.{AreTrusted, AskDisk, AsksDisk, CanRun, files_for, files_known, IfFound, IfTold, IsAccepted, IsFindAccepted, IsReady, IsRefused, IsReportOf, files_over, ReachesLimit, limit_text, names_of, IsRefusedAs, RefusesCut, ReportsOn, Runs, SearchesBeyond, Tells, TellsFront, Writes, WroteAll, WroteListing, WroteSome, by_cut, by_disk, by_files, by_shard}
+use Rattle.eql_runs.specs.RunLaws.{CheckedIsAccepted, StatusIsOne, WritesOrIsRefused, ReadyIsNotRefused}
+use Rattle.eql_runs.specs.Runs.{AreTrusted, AskDisk, AsksDisk, CanRun, files_for, files_known, IfFound, IfTold, IsAccepted, IsFindAccepted, IsReady, IsRefused, IsReportOf, files_over, ReachesLimit, limit_text, names_of, IsRefusedAs, RefusesCut, ReportsOn, Runs, Searches, SearchesBeyond, Tells, TellsFront, Writes, WroteAll, WroteListing, WroteSome, by_cut, by_disk, by_files, by_shard}
 use Rattle.eql_runs.specs.Runs as runs
+use Rattle.eql_runs.specs.Searches.{Search}
 use Rattle.eql_runs.specs.Starts.{DiskHolds, OnDisk}
+use Rattle.eql_runs.proofs.Reading.{none_missing}
 use Rattle.eql_inputs.specs.declared.error.Refused.{Refused}
 use Rattle.eql_inputs.specs.declared.error.Refused.TheVariants as refused
 use Rattle.eql_inputs.specs.declared.error.InputError.TheVariants as error
 use Rattle.eql_inputs.specs.Errors.{status_of, text_of, refusal_of}
 use Rattle.eql_find.specs.declared.error.FindError.{FindError}
 use Rattle.eql_find.specs.declared.error.FindError.TheVariants as run
-use Rattle.eql_find.specs.Errors.{run_status_of, cut_refusal_of, limit_of, IsRefusal, IsReport, IsFault, TellsNothing, FaultsFollow, CountFollows, AbsencesFollow, DiskFollows, OutFollows, ErrFollows}
+use Rattle.eql_find.specs.Errors.{run_status_of, cut_refusal_of, limit_of, IsRefusal, IsReport, IsFault, TellsNothing, FaultsFollow, CountFollows, AbsencesFollow, DiskFollows, OutFollows, ErrFollows, HeldFollows, reason_in}
 use Rattle.eql_find.specs.Finding.{ReportsFront}
 use Rattle.eql_find.specs.Finding as found
 use Rattle.eql_cli.specs.Running.{AsksFind, HasCommandCause, IfRun, IsAcceptedBy, IsTrustedBy, RunsAll, RunsListing, RunsSome}
@@ -42,6 +45,7 @@ never_done (run.Files (error.Refused (refused.Broken r))) e = omega (arith, e)
 never_done (run.Files (error.Read name)) e = omega (arith, e)
 never_done (run.Files error.Memory) e = omega (arith, e)
 never_done (run.Cut why) e = omega (arith, e)
+never_done (run.Held why) e = omega (arith, e)
 never_done run.Disk e = omega (arith, e)
 never_done run.Write e = omega (arith, e)
 never_done (run.Limit l) e = omega (arith, e)
@@ -60,6 +64,7 @@ pub refused_by_status : (h : FindError)
     → (run_status_of h ≡ 1) ⊎ (run_status_of h ≡ 2) ⊎ (run_status_of h ≡ 3) ⊎ (run_status_of h ≡ 7) → IsRefusal h
 refused_by_status (run.Files (error.Refused r)) e = tt
 refused_by_status (run.Cut why) e = tt
+refused_by_status (run.Held why) e = tt
 refused_by_status (run.Files (error.Read name)) e = absurd (too_great _ e (omega arith) (λ seven. omega (arith, seven)))
 refused_by_status (run.Files error.Memory) e = absurd (too_great _ e (omega arith) (λ seven. omega (arith, seven)))
 refused_by_status run.Disk e = absurd (too_great _ e (omega arith) (λ seven. omega (arith, seven)))
@@ -79,6 +84,7 @@ never_usage (run.Files (error.Refused (refused.Broken r))) e = omega (arith, e)
 never_usage (run.Files (error.Read name)) e = omega (arith, e)
 never_usage (run.Files error.Memory) e = omega (arith, e)
 never_usage (run.Cut why) e = omega (arith, e)
+never_usage (run.Held why) e = omega (arith, e)
 never_usage run.Disk e = omega (arith, e)
 never_usage run.Write e = omega (arith, e)
 never_usage (run.Limit l) e = omega (arith, e)
@@ -103,6 +109,7 @@ absent_by_status (run.Files (error.Refused (refused.Broken r))) before now rose 
 absent_by_status (run.Files (error.Read name)) before now rose e = absurd (omega (arith, e))
 absent_by_status (run.Files error.Memory) before now rose e = absurd (omega (arith, e))
 absent_by_status (run.Cut why) before now rose e = absurd (omega (arith, e))
+absent_by_status (run.Held why) before now rose e = absurd (omega (arith, e))
 absent_by_status run.Disk before now rose e = absurd (omega (arith, e))
 absent_by_status run.Write before now rose e = absurd (omega (arith, e))
 absent_by_status (run.Limit l) before now rose e = absurd (omega (arith, e))
@@ -119,6 +126,7 @@ read_by_status (run.Files (error.Refused (refused.Broken r))) before now rose e 
 read_by_status (run.Files (error.Read name)) before now rose e = rose
 read_by_status (run.Files error.Memory) before now rose e = absurd (omega (arith, e))
 read_by_status (run.Cut why) before now rose e = absurd (omega (arith, e))
+read_by_status (run.Held why) before now rose e = absurd (omega (arith, e))
 read_by_status run.Disk before now rose e = absurd (omega (arith, e))
 read_by_status run.Write before now rose e = absurd (omega (arith, e))
 read_by_status (run.Limit l) before now rose e = absurd (omega (arith, e))
@@ -135,6 +143,7 @@ disk_by_status (run.Files (error.Refused (refused.Broken r))) before now rose e 
 disk_by_status (run.Files (error.Read name)) before now rose e = absurd (omega (arith, e))
 disk_by_status (run.Files error.Memory) before now rose e = absurd (omega (arith, e))
 disk_by_status (run.Cut why) before now rose e = absurd (omega (arith, e))
+disk_by_status (run.Held why) before now rose e = absurd (omega (arith, e))
 disk_by_status run.Disk before now rose e = rose
 disk_by_status run.Write before now rose e = absurd (omega (arith, e))
 disk_by_status (run.Limit l) before now rose e = absurd (omega (arith, e))
@@ -153,6 +162,7 @@ write_by_status (run.Files (error.Refused (refused.Broken r))) out out' err mid 
 write_by_status (run.Files (error.Read name)) out out' err mid err' o x silent e = absurd (omega (arith, e))
 write_by_status (run.Files error.Memory) out out' err mid err' o x silent e = absurd (omega (arith, e))
 write_by_status (run.Cut why) out out' err mid err' o x silent e = absurd (omega (arith, e))
+write_by_status (run.Held why) out out' err mid err' o x silent e = absurd (omega (arith, e))
 write_by_status run.Disk out out' err mid err' o x silent e = absurd (omega (arith, e))
 write_by_status run.Write out out' err mid err' o x silent e = inl o
 write_by_status (run.Limit l) out out' err mid err' o x silent e = absurd (omega (arith, e))
@@ -170,6 +180,7 @@ report_by_status (run.Files (error.Refused (refused.Broken r))) out out' o e cal
 report_by_status (run.Files (error.Read name)) out out' o e calm = absurd (omega (arith, e))
 report_by_status (run.Files error.Memory) out out' o e calm = absurd (omega (arith, e))
 report_by_status (run.Cut why) out out' o e calm = absurd (omega (arith, e))
+report_by_status (run.Held why) out out' o e calm = absurd (omega (arith, e))
 report_by_status run.Disk out out' o e calm = absurd (omega (arith, e))
 report_by_status run.Write out out' o e calm = absurd (calm o)
 report_by_status (run.Limit l) out out' o e calm = absurd (omega (arith, e))
@@ -183,6 +194,7 @@ read_told (run.Files (error.Refused r)) before now same lt = absurd (omega (arit
 read_told (run.Files (error.Read name)) before now same lt = refl
 read_told (run.Files error.Memory) before now same lt = absurd (omega (arith, same, lt))
 read_told (run.Cut why) before now same lt = absurd (omega (arith, same, lt))
+read_told (run.Held why) before now same lt = absurd (omega (arith, same, lt))
 read_told run.Disk before now same lt = absurd (omega (arith, same, lt))
 read_told run.Write before now same lt = absurd (omega (arith, same, lt))
 read_told (run.Limit l) before now same lt = absurd (omega (arith, same, lt))
@@ -199,6 +211,7 @@ absence_told (run.Files (error.Refused (refused.Broken r))) before now same lt =
 absence_told (run.Files (error.Read name)) before now same lt = absurd (omega (arith, same, lt))
 absence_told (run.Files error.Memory) before now same lt = absurd (omega (arith, same, lt))
 absence_told (run.Cut why) before now same lt = absurd (omega (arith, same, lt))
+absence_told (run.Held why) before now same lt = absurd (omega (arith, same, lt))
 absence_told run.Disk before now same lt = absurd (omega (arith, same, lt))
 absence_told run.Write before now same lt = absurd (omega (arith, same, lt))
 absence_told (run.Limit l) before now same lt = absurd (omega (arith, same, lt))
@@ -210,6 +223,7 @@ write_told (run.Files (error.Refused r)) before now same lt = absurd (omega (ari
 write_told (run.Files (error.Read name)) before now same lt = inr refl
 write_told (run.Files error.Memory) before now same lt = absurd (omega (arith, same, lt))
 write_told (run.Cut why) before now same lt = absurd (omega (arith, same, lt))
+write_told (run.Held why) before now same lt = absurd (omega (arith, same, lt))
 write_told run.Disk before now same lt = absurd (omega (arith, same, lt))
 write_told run.Write before now same lt = inl refl
 write_told (run.Limit l) before now same lt = absurd (omega (arith, same, lt))
@@ -221,11 +235,35 @@ disk_told (run.Files (error.Refused r)) before now same lt = absurd (omega (arit
 disk_told (run.Files (error.Read name)) before now same lt = inr refl
 disk_told (run.Files error.Memory) before now same lt = absurd (omega (arith, same, lt))
 disk_told (run.Cut why) before now same lt = absurd (omega (arith, same, lt))
+disk_told (run.Held why) before now same lt = absurd (omega (arith, same, lt))
 disk_told run.Disk before now same lt = inl refl
 disk_told run.Write before now same lt = absurd (omega (arith, same, lt))
 disk_told (run.Limit l) before now same lt = absurd (omega (arith, same, lt))
 disk_told run.Generation before now same lt = absurd (omega (arith, same, lt))
 disk_told (run.Report x) before now same lt = absurd (omega (arith, same, lt))
+
+-- nor is a disk that is held
+pub held_told : (h : FindError) (before now : DiskHeld → ℕ) → HeldFollows (reason_in h) before now → (why : DiskHeld) → before why < now why
+    → run_status_of h ≡ 7
+held_told (run.Files h) before now same why lt = let e = same why in absurd (omega (arith, e, lt))
+held_told (run.Cut r) before now same why lt = refl
+held_told (run.Held r) before now rose why lt = refl
+held_told run.Disk before now same why lt = let e = same why in absurd (omega (arith, e, lt))
+held_told run.Write before now same why lt = let e = same why in absurd (omega (arith, e, lt))
+held_told (run.Limit l) before now same why lt = let e = same why in absurd (omega (arith, e, lt))
+held_told run.Generation before now same why lt = let e = same why in absurd (omega (arith, e, lt))
+held_told (run.Report x) before now same why lt = let e = same why in absurd (omega (arith, e, lt))
+
+-- where the files are those of a search, no refusal is by them
+refused_cut : CheckedIsAccepted → (words : List (List ℕ)) (find : Find) → command_of words ≡ Some (command.Find find) → (files : Files)
+    (search : Search) (texts : List (List ℕ)) → Searches find files search texts → (on : OnDisk) (r : Refusal) → IsRefused words files on r
+    → refusal_status r ≡ 7
+refused_cut law words find is files search texts s on _ (by_files c own names named r refuses) =
+    let same : c ≡ command.Find find = same_Some c (command.Find find) (sym own ∙ is) in
+    let these : names ≡ found.names_in find = same_Some names (found.names_in find) (sym named ∙ ap names_of same) in
+    absurd (law (found.names_in find) files search.query search.mapping r s.checked (none_missing find.shards files texts s.there)
+    (subst (λ (x : Names). Refuses x files r) these refuses))
+refused_cut law words find is files search texts s on _ (by_cut f own r refuses) = refl
 
 -- ---- a command
 -- a search that keeps its state keeps it on a disk
@@ -243,6 +281,7 @@ cut_by_status asked files disk now err err' (run.Files (error.Refused (refused.B
 cut_by_status asked files disk now err err' (run.Files (error.Read name)) cause e = absurd (omega (arith, e))
 cut_by_status asked files disk now err err' (run.Files error.Memory) cause e = absurd (omega (arith, e))
 cut_by_status asked files disk now err err' (run.Cut why) cause e = asks_disk asked cause.0
+cut_by_status asked files disk now err err' (run.Held why) cause e = asks_disk asked cause.0
 cut_by_status asked files disk now err err' run.Disk cause e = absurd (omega (arith, e))
 cut_by_status asked files disk now err err' run.Write cause e = absurd (omega (arith, e))
 cut_by_status asked files disk now err err' (run.Limit l) cause e = absurd (omega (arith, e))
@@ -428,12 +467,13 @@ module _ (words : List (List ℕ)) (asked : Command) (is : command_of words ≡ 
       → IsRefused words fs on (refusal.cut r)
   refuses_cut find same fs on r refuses = by_cut find (is ∙ ap (λ (c : Command). Some c) same) r refuses
 
-  module _ (apart : WritesOrIsRefused) (disk now : Option History) (before after : List ℕ → ℕ) (err err' : Option (List ℕ)) where
+  module _ (apart : WritesOrIsRefused) (disk now : Option History) (before after : List ℕ → ℕ) (held held' : DiskHeld → ℕ)
+      (err err' : Option (List ℕ)) where
     refused_so : (files : Option Files) (r : Refused) → HasCommandCause asked files disk now err err' (run.Files (error.Refused r))
-        → WroteFront (text_of (error.Refused r)) err err' → TellsFront words files disk now before after (status_of (error.Refused r)) err err'
+        → WroteFront (text_of (error.Refused r)) err err' → TellsFront words files disk now before after held held' (status_of (error.Refused r)) err err'
     refused_so files r cause told = (
       refusal_text (refusal_of r),
-      subst (λ (n : ℕ). Tells words files disk now before after n (refusal_text (refusal_of r))) (sym (same_status r))
+      subst (λ (n : ℕ). Tells words files disk now before after held held' n (refusal_text (refusal_of r))) (sym (same_status r))
           (runs.refused asked is cause.0 cause.1 (refusal_of r) cause.2.0 cause.2.1),
       told,
     )
@@ -466,7 +506,7 @@ module _ (words : List (List ℕ)) (asked : Command) (is : command_of words ≡ 
     too_far find same limit fs on h = record { accepted = search_accepted find same fs on h.accepted; beyond = h.beyond }
 
     cut_told : (files : Option Files) (r : CutRefusal) (asks : AsksFind asked) → IfFound asks.find files disk (λ fs on. RefusesCut asks.find fs on r)
-        → WroteFront (cut_text r) err err' → TellsFront words files disk now before after 7 err err'
+        → WroteFront (cut_text r) err err' → TellsFront words files disk now before after held held' 7 err err'
     cut_told files r asks refuses told = (
       cut_text r,
       runs.cut_refused (asked, is, asks_disk asked asks) r
@@ -476,38 +516,43 @@ module _ (words : List (List ℕ)) (asked : Command) (is : command_of words ≡ 
     )
 
     pub told_so : (files : Option Files) (h : FindError) → HasCommandCause asked files disk now err err' h → FaultsFollow {A = Unit {0}} (Err h) before after
-        → TellsRun h err err' → TellsFront words files disk now before after (run_status_of h) err err'
-    told_so files (run.Files (error.Refused r)) cause faults told = refused_so files r cause told
-    told_so files (run.Files (error.Read name)) cause faults told = (
+        → HeldFollows (reason_in h) held held' → TellsRun h err err' → TellsFront words files disk now before after held held' (run_status_of h) err err'
+    told_so files (run.Files (error.Refused r)) cause faults rose told = refused_so files r cause told
+    told_so files (run.Files (error.Read name)) cause faults rose told = (
       text_of (error.Read name),
       runs.read_fault asked is cause.0 cause.1 name.now cause.2.0 faults.rose cause.2.1,
       told,
     )
-    told_so files (run.Files error.Memory) cause faults told = (codes "out of memory\n", runs.memory, told)
-    told_so files (run.Cut why) cause faults told = cut_told files (cut_refusal_of why) cause.0 cause.1 told
-    told_so files run.Disk cause faults told = (
+    told_so files (run.Files error.Memory) cause faults rose told = (codes "out of memory\n", runs.memory, told)
+    told_so files (run.Cut why) cause faults rose told = cut_told files (cut_refusal_of why) cause.0 cause.1 told
+    told_so files (run.Held why) cause faults rose told = (
+      held_text why,
+      runs.disk_held cause.0.find (is ∙ ap (λ (c : Command). Some c) cause.0.is_find) cause.0.has_disk cause.1 why rose.rose,
+      told,
+    )
+    told_so files run.Disk cause faults rose told = (
       codes "checkpoint disk fault\n",
       runs.disk_fault cause.0.find (is ∙ ap (λ (c : Command). Some c) cause.0.is_find) cause.0.has_disk cause.1,
       told,
     )
-    told_so files run.Write cause faults told = (codes "write fault\n", runs.write_fault (accepted_so apart files disk cause), told)
-    told_so files (run.Limit l) cause faults told = (
+    told_so files run.Write cause faults rose told = (codes "write fault\n", runs.write_fault (accepted_so apart files disk cause), told)
+    told_so files (run.Limit l) cause faults rose told = (
       limit_text (limit_of l),
       runs.limit cause.0 (is ∙ ap (λ (c : Command). Some c) cause.1) (limit_of l) cause.2
           (told_by_search (found.GoesTooFar cause.0 (limit_of l)) (runs.GoesTooFar words cause.0 (limit_of l))
           (too_far cause.0 cause.1 (limit_of l)) cause.0 cause.1 files disk cause.3),
       told,
     )
-    told_so files run.Generation cause faults told = (
+    told_so files run.Generation cause faults rose told = (
       codes "limit: generation\n",
       runs.generation (asked, is, asks_disk asked cause.0)
           (told_by_search (IsFindAccepted cause.0.find) (IsAccepted words) (search_accepted cause.0.find cause.0.is_find) cause.0.find
           cause.0.is_find files disk cause.1) cause.2,
       told,
     )
-    told_so files (run.Report by.Failed) cause faults told =
+    told_so files (run.Report by.Failed) cause faults rose told =
         (cause.2.report, runs.report_refused cause.2.report (reports files cause.0 cause.1 cause.2), cause.2.wrote)
-    told_so files (run.Report by.Memory) cause faults told =
+    told_so files (run.Report by.Memory) cause faults rose told =
         (cause.2.report, runs.report_unmade cause.2.report (reports files cause.0 cause.1 cause.2), cause.2.wrote)
 
   limited : (find : Find) → asked ≡ command.Find find → (limit : runs.ShardLimit) (files : Option Files) (disk : Option History)
@@ -528,6 +573,7 @@ module _ (words : List (List ℕ)) (asked : Command) (is : command_of words ≡ 
   limit_by_status files disk now err err' (run.Files (error.Read name)) cause e = absurd (omega (arith, e))
   limit_by_status files disk now err err' (run.Files error.Memory) cause e = absurd (omega (arith, e))
   limit_by_status files disk now err err' (run.Cut why) cause e = absurd (omega (arith, e))
+  limit_by_status files disk now err err' (run.Held why) cause e = absurd (omega (arith, e))
   limit_by_status files disk now err err' run.Disk cause e = absurd (omega (arith, e))
   limit_by_status files disk now err err' run.Write cause e = absurd (omega (arith, e))
   limit_by_status files disk now err err' (run.Limit l) cause e = by_shard cause.0 (is ∙ ap (λ (c : Command). Some c) cause.1) (limited cause.0 cause.1 (limit_of l) files disk cause.3)
@@ -542,28 +588,29 @@ module _ (words : List (List ℕ)) (asked : Command) (is : command_of words ≡ 
   -- a run that is ready stops for a fault or for want of memory alone
   module _ (law : ReadyIsNotRefused) (fs : Files) (disk now : Option History) (err err' : Option (List ℕ)) (on : OnDisk)
       (holds : AskDisk words → DiskHolds disk on) (ready : CanRun words fs on) where
-    pub ready_stops : (h : FindError) → HasCommandCause asked (Some fs) disk now err err' h → ¬ IsFault h → run_status_of h ≡ 8
-    ready_stops (run.Files (error.Refused r)) cause calm =
+    pub ready_stops : (h : FindError) → HasCommandCause asked (Some fs) disk now err err' h → ¬ IsFault h → reason_in h ≡ None → run_status_of h ≡ 8
+    ready_stops (run.Files (error.Refused r)) cause calm free =
         absurd ((law words fs on ready).0 (refusal_of r) (refuses_own fs on cause.0 cause.1 (refusal_of r) cause.2.1))
-    ready_stops (run.Files (error.Read name)) cause calm = absurd (calm tt)
-    ready_stops (run.Files error.Memory) cause calm = refl
-    ready_stops (run.Cut why) cause calm =
+    ready_stops (run.Files (error.Read name)) cause calm free = absurd (calm tt)
+    ready_stops (run.Files error.Memory) cause calm free = refl
+    ready_stops (run.Cut why) cause calm free =
         let a = cause.0 in
         let refuses = cause.1 on (search_holds disk on holds a.find a.is_find) in
         absurd ((law words fs on ready).0 (refusal.cut (cut_refusal_of why)) (refuses_cut a.find a.is_find fs on (cut_refusal_of why) refuses))
-    ready_stops run.Disk cause calm = absurd (calm tt)
-    ready_stops run.Write cause calm = absurd (calm tt)
-    ready_stops (run.Limit l) cause calm =
+    ready_stops (run.Held why) cause calm free = absurd (none-some why (sym free))
+    ready_stops run.Disk cause calm free = absurd (calm tt)
+    ready_stops run.Write cause calm free = absurd (calm tt)
+    ready_stops (run.Limit l) cause calm free =
         let far = cause.3 on (search_holds disk on holds cause.0 cause.1) in
         absurd ((law words fs on ready).1 cause.0 (limit_of l) (is ∙ ap (λ (c : Command). Some c) cause.1) far.beyond)
-    ready_stops run.Generation cause calm =
+    ready_stops run.Generation cause calm free =
         let high = cause.2.began on (holds_on disk on holds (asks_disk asked cause.0)) in
         absurd (omega (arith, high, ready.generation))
-    ready_stops (run.Report by.Failed) cause calm = absurd (calm tt)
-    ready_stops (run.Report by.Memory) cause calm = refl
+    ready_stops (run.Report by.Failed) cause calm free = absurd (calm tt)
+    ready_stops (run.Report by.Memory) cause calm free = refl
 
   -- a run that is refused stops by that refusal, unless a read or the disk fails
-  module _ (one : StatusIsOne) (apart : WritesOrIsRefused) (fs : Files) (disk now : Option History) (err err' : Option (List ℕ)) (on : OnDisk)
+  module _ (one : StatusIsOne) (checked : CheckedIsAccepted) (apart : WritesOrIsRefused) (fs : Files) (disk now : Option History) (err err' : Option (List ℕ)) (on : OnDisk)
       (holds : AskDisk words → DiskHolds disk on) (r : Refusal) (refuses : IsRefused words fs on r) where
     never_accepted : {A : Type 0} → IsAccepted words fs on → A
     never_accepted a = absurd (a.accepts r refuses)
@@ -578,6 +625,9 @@ module _ (words : List (List ℕ)) (asked : Command) (is : command_of words ≡ 
         let a = cause.0 in
         let own = cause.1 on (search_holds disk on holds a.find a.is_find) in
         inl (one words fs on (refusal.cut (cut_refusal_of why)) r (refuses_cut a.find a.is_find fs on (cut_refusal_of why) own) refuses)
+    refused_as (run.Held why) cause calm steady =
+        let a = cause.0 in
+        inl (sym (refused_cut checked words a.find (is ∙ ap (λ (c : Command). Some c) a.is_find) fs cause.1.0 cause.1.1 cause.1.2 on r refuses))
     refused_as run.Disk cause calm steady = absurd (steady refl)
     refused_as run.Write cause calm steady =
         never_accepted (accepted_by apart words asked is fs on (accepted_over asked fs disk cause on (holds_on disk on holds)))
@@ -592,40 +642,45 @@ module _ (words : List (List ℕ)) (asked : Command) (is : command_of words ≡ 
         never_accepted (search_accepted cause.0 cause.1 fs on of_run.accepted)
 
   module _ {E : Type 0} (apart : WritesOrIsRefused) (written : E → Option (List ℕ)) (first mid last : E) (files : Option Files)
-      (disk now : Option History) (before after : List ℕ → ℕ) where
+      (disk now : Option History) (before after : List ℕ → ℕ) (held held' : DiskHeld → ℕ) where
     -- what is told of a run that stopped, with nothing told before it
     pub told_by : (h : FindError) → HasCommandCause asked files disk now (written first) (written mid) h → FaultsFollow {A = Unit {0}} (Err h) before after
+        → HeldFollows (reason_in h) held held'
         → (TellsNothing h → mid ≡ first) → TellsRun h (written mid) (written last) → (IsReport h → last ≡ mid)
-        → TellsFront words files disk now before after (run_status_of h) (written first) (written last)
-    told_by (run.Files h) cause faults quiet told silent =
-        told_so apart disk now before after (written first) (written last) files (run.Files h) cause faults
+        → TellsFront words files disk now before after held held' (run_status_of h) (written first) (written last)
+    told_by (run.Files h) cause faults rose quiet told silent =
+        told_so apart disk now before after held held' (written first) (written last) files (run.Files h) cause faults rose
         (subst (λ (x : E). TellsRun (run.Files h) (written x) (written last)) (quiet tt) told)
-    told_by (run.Cut why) cause faults quiet told silent =
-        told_so apart disk now before after (written first) (written last) files (run.Cut why) cause faults
+    told_by (run.Cut why) cause faults rose quiet told silent =
+        told_so apart disk now before after held held' (written first) (written last) files (run.Cut why) cause faults rose
         (subst (λ (x : E). TellsRun (run.Cut why) (written x) (written last)) (quiet tt) told)
-    told_by run.Disk cause faults quiet told silent =
-        told_so apart disk now before after (written first) (written last) files run.Disk cause faults
+    told_by (run.Held why) cause faults rose quiet told silent =
+        told_so apart disk now before after held held' (written first) (written last) files (run.Held why) cause faults rose
+        (subst (λ (x : E). TellsRun (run.Held why) (written x) (written last)) (quiet tt) told)
+    told_by run.Disk cause faults rose quiet told silent =
+        told_so apart disk now before after held held' (written first) (written last) files run.Disk cause faults rose
         (subst (λ (x : E). TellsRun run.Disk (written x) (written last)) (quiet tt) told)
-    told_by run.Write cause faults quiet told silent =
-        told_so apart disk now before after (written first) (written last) files run.Write cause faults
+    told_by run.Write cause faults rose quiet told silent =
+        told_so apart disk now before after held held' (written first) (written last) files run.Write cause faults rose
         (subst (λ (x : E). TellsRun run.Write (written x) (written last)) (quiet tt) told)
-    told_by (run.Limit l) cause faults quiet told silent =
-        told_so apart disk now before after (written first) (written last) files (run.Limit l) cause faults
+    told_by (run.Limit l) cause faults rose quiet told silent =
+        told_so apart disk now before after held held' (written first) (written last) files (run.Limit l) cause faults rose
         (subst (λ (x : E). TellsRun (run.Limit l) (written x) (written last)) (quiet tt) told)
-    told_by run.Generation cause faults quiet told silent =
-        told_so apart disk now before after (written first) (written last) files run.Generation cause faults
+    told_by run.Generation cause faults rose quiet told silent =
+        told_so apart disk now before after held held' (written first) (written last) files run.Generation cause faults rose
         (subst (λ (x : E). TellsRun run.Generation (written x) (written last)) (quiet tt) told)
-    told_by (run.Report o) cause faults quiet told silent =
-        told_so apart disk now before after (written first) (written last) files (run.Report o)
-        (subst (λ (x : E). HasCommandCause asked files disk now (written first) (written x) (run.Report o)) (sym (silent tt)) cause) faults tt
+    told_by (run.Report o) cause faults rose quiet told silent =
+        told_so apart disk now before after held held' (written first) (written last) files (run.Report o)
+        (subst (λ (x : E). HasCommandCause asked files disk now (written first) (written x) (run.Report o)) (sym (silent tt)) cause) faults rose tt
 
     pub told_of : (h : FindError) (status : ℕ) → status ≡ run_status_of h → HasCommandCause asked files disk now (written first) (written mid) h
         → FaultsFollow {A = Unit {0}} (Err h) before after
+        → HeldFollows (reason_in h) held held'
         → (TellsNothing h → mid ≡ first) → TellsRun h (written mid) (written last) → (IsReport h → last ≡ mid)
-        → TellsFront words files disk now before after status (written first) (written last)
-    told_of h status same cause faults quiet told silent =
-        subst (λ (n : ℕ). TellsFront words files disk now before after n (written first) (written last)) (sym same)
-        (told_by h cause faults quiet told silent)
+        → TellsFront words files disk now before after held held' status (written first) (written last)
+    told_of h status same cause faults rose quiet told silent =
+        subst (λ (n : ℕ). TellsFront words files disk now before after held held' n (written first) (written last)) (sym same)
+        (told_by h cause faults rose quiet told silent)
 
   pub limit_of_status : (files : Option Files) (disk now : Option History) (err err' : Option (List ℕ)) (h : FindError) (status : ℕ)
       → status ≡ run_status_of h → HasCommandCause asked files disk now err err' h → status ≡ 9 → ReachesLimit words files disk now
@@ -638,12 +693,12 @@ module _ (words : List (List ℕ)) (asked : Command) (is : command_of words ≡ 
   pub ready_over : (files : Option Files) (disk : Option History) → IsReady words files disk → IsSomeAnd (files_for asked files) (ReadyOver disk)
   ready_over files disk ready = subst (λ (o : Option Files). IsSomeAnd o (ReadyOver disk)) (known_is files) ready
 
-  pub stops_exact : StatusIsOne → WritesOrIsRefused → (files : Option Files) (disk now : Option History) (err err' : Option (List ℕ)) (h : FindError)
+  pub stops_exact : StatusIsOne → CheckedIsAccepted → WritesOrIsRefused → (files : Option Files) (disk now : Option History) (err err' : Option (List ℕ)) (h : FindError)
       (status : ℕ) → status ≡ run_status_of h → HasCommandCause asked files disk now err err' h → ¬ (run_status_of h ≡ 4) → ¬ (run_status_of h ≡ 6)
       → IsRefusedAs words files disk status
-  stops_exact one apart None disk now err err' h status same cause calm steady = tt
-  stops_exact one apart (Some fs) disk now err err' h status same cause calm steady = λ on r holds refuses.
-      by (refusal_status r) (refused_as one apart fs disk now err err' on holds r refuses h cause calm steady)
+  stops_exact one checked apart None disk now err err' h status same cause calm steady = tt
+  stops_exact one checked apart (Some fs) disk now err err' h status same cause calm steady = λ on r holds refuses.
+      by (refusal_status r) (refused_as one checked apart fs disk now err err' on holds r refuses h cause calm steady)
     where
       by : (n : ℕ) → (run_status_of h ≡ n) ⊎ (run_status_of h ≡ 8) → (status ≡ n) ⊎ (status ≡ 8)
       by n (inl e) = inl (same ∙ e)
@@ -666,6 +721,7 @@ made_stops hands events files disk now err err' (run.Files (error.Refused r)) ca
 made_stops hands events files disk now err err' (run.Files (error.Read name)) cause calm = absurd (calm tt)
 made_stops hands events files disk now err err' (run.Files error.Memory) cause calm = refl
 made_stops hands events files disk now err err' (run.Cut why) cause calm = absurd (asks_disk (command.Made hands events) cause.0)
+made_stops hands events files disk now err err' (run.Held why) cause calm = absurd (asks_disk (command.Made hands events) cause.0)
 made_stops hands events files disk now err err' run.Disk cause calm = absurd (calm tt)
 made_stops hands events files disk now err err' run.Write cause calm = absurd (calm tt)
 made_stops hands events files disk now err err' (run.Limit l) cause calm = cc
@@ -676,24 +732,24 @@ made_stops hands events files disk now err err' (run.Report by.Memory) cause cal
 -- a run that is ready and doesn't stop for a fault stops for want of memory
 ready_errors : (words : List (List ℕ)) (asked : Command) → command_of words ≡ Some asked → ReadyIsNotRefused → (files : Option Files)
     (disk now : Option History) (err err' : Option (List ℕ)) (h : FindError) → HasCommandCause asked files disk now err err' h → IsReady words files disk
-    → ¬ IsFault h → run_status_of h ≡ 8
-ready_errors words (command.Made hands events) is law files disk now err err' h cause ready calm =
+    → ¬ IsFault h → reason_in h ≡ None → run_status_of h ≡ 8
+ready_errors words (command.Made hands events) is law files disk now err err' h cause ready calm free =
     made_stops hands events files disk now err err' h cause calm
-ready_errors words (command.Find f) is law None disk now err err' h cause ready calm = absurd (ready_over words (command.Find f) is None disk ready)
-ready_errors words (command.Find f) is law (Some fs) disk now err err' h cause ready calm =
+ready_errors words (command.Find f) is law None disk now err err' h cause ready calm free = absurd (ready_over words (command.Find f) is None disk ready)
+ready_errors words (command.Find f) is law (Some fs) disk now err err' h cause ready calm free =
     let there = ready_over words (command.Find f) is (Some fs) disk ready in
-    ready_stops words (command.Find f) is law fs disk now err err' there.0 there.1 there.2 h cause calm
-ready_errors words (command.Check query fields) is law None disk now err err' h cause ready calm =
+    ready_stops words (command.Find f) is law fs disk now err err' there.0 there.1 there.2 h cause calm free
+ready_errors words (command.Check query fields) is law None disk now err err' h cause ready calm free =
     absurd (ready_over words (command.Check query fields) is None disk ready)
-ready_errors words (command.Check query fields) is law (Some fs) disk now err err' h cause ready calm =
+ready_errors words (command.Check query fields) is law (Some fs) disk now err err' h cause ready calm free =
     let there = ready_over words (command.Check query fields) is (Some fs) disk ready in
-    ready_stops words (command.Check query fields) is law fs disk now err err' there.0 there.1 there.2 h cause calm
+    ready_stops words (command.Check query fields) is law fs disk now err err' there.0 there.1 there.2 h cause calm free
 
 pub stops_ready : (words : List (List ℕ)) (asked : Command) → command_of words ≡ Some asked → ReadyIsNotRefused → (files : Option Files)
     (disk now : Option History) (err err' : Option (List ℕ)) (h : FindError) (status : ℕ) → status ≡ run_status_of h
-    → HasCommandCause asked files disk now err err' h → IsReady words files disk → ¬ IsFault h → (status ≡ 0) ⊎ (status ≡ 8)
-stops_ready words asked is law files disk now err err' h status same cause ready calm =
-    inr (same ∙ ready_errors words asked is law files disk now err err' h cause ready calm)
+    → HasCommandCause asked files disk now err err' h → IsReady words files disk → ¬ IsFault h → reason_in h ≡ None → (status ≡ 0) ⊎ (status ≡ 8)
+stops_ready words asked is law files disk now err err' h status same cause ready calm free =
+    inr (same ∙ ready_errors words asked is law files disk now err err' h cause ready calm free)
 
 -- where no count rose, a run didn't stop for a fault. That of the disk counts where the command asks for one
 module _ (asked : Command) (files : Option Files) (disk now : Option History) (err-text err-text' : Option (List ℕ))
@@ -706,6 +762,7 @@ module _ (asked : Command) (files : Option Files) (disk now : Option History) (e
   is_calm (run.Files (error.Read name)) cause c d o e silent fault = read c
   is_calm (run.Files error.Memory) cause c d o e silent fault = fault
   is_calm (run.Cut why) cause c d o e silent fault = fault
+  is_calm (run.Held why) cause c d o e silent fault = fault
   is_calm run.Disk cause c d o e silent fault = on_disk (asks_disk asked cause.0) d
   is_calm run.Write cause c d o e silent fault = write o
   is_calm (run.Limit l) cause c d o e silent fault = fault
@@ -727,6 +784,7 @@ disk_is_asked asked files disk now err err' (run.Files (error.Refused (refused.B
 disk_is_asked asked files disk now err err' (run.Files (error.Read name)) cause e = absurd (omega (arith, e))
 disk_is_asked asked files disk now err err' (run.Files error.Memory) cause e = absurd (omega (arith, e))
 disk_is_asked asked files disk now err err' (run.Cut why) cause e = absurd (omega (arith, e))
+disk_is_asked asked files disk now err err' (run.Held why) cause e = absurd (omega (arith, e))
 disk_is_asked asked files disk now err err' run.Disk cause e = asks_disk asked cause.0
 disk_is_asked asked files disk now err err' run.Write cause e = absurd (omega (arith, e))
 disk_is_asked asked files disk now err err' (run.Limit l) cause e = absurd (omega (arith, e))
@@ -739,3 +797,27 @@ pub no_disk : (asked : Command) (files : Option Files) (disk now : Option Histor
     → ¬ (run_status_of h ≡ 6)
 no_disk asked files disk now err err' h disks disks' cause d calm e =
     calm (disk_is_asked asked files disk now err err' h cause e) (disk_by_status h disks disks' d e)
+
+-- no reason is told where none rose, or where the disk is free. Both count where the command asks for a disk
+module _ (asked : Command) (files : Option Files) (disk now : Option History) (err err' : Option (List ℕ)) where
+  pub none_rose : (held held' : DiskHeld → ℕ) → (AsksDisk asked → (why : DiskHeld) → ¬ (Rose (held why) (held' why))) → (h : FindError)
+      → HasCommandCause asked files disk now err err' h → HeldFollows (reason_in h) held held' → reason_in h ≡ None
+  none_rose held held' never (run.Files h) cause follow = refl
+  none_rose held held' never (run.Cut why) cause follow = refl
+  none_rose held held' never (run.Held why) cause follow = absurd (never (asks_disk asked cause.0) why follow.rose)
+  none_rose held held' never run.Disk cause follow = refl
+  none_rose held held' never run.Write cause follow = refl
+  none_rose held held' never (run.Limit l) cause follow = refl
+  none_rose held held' never run.Generation cause follow = refl
+  none_rose held held' never (run.Report r) cause follow = refl
+
+  pub is_free : (free : Bool) → (AsksDisk asked → free ≡ true) → (h : FindError) → HasCommandCause asked files disk now err err' h
+      → (free ≡ true → reason_in h ≡ None) → reason_in h ≡ None
+  is_free free asks (run.Files h) cause none = refl
+  is_free free asks (run.Cut why) cause none = refl
+  is_free free asks (run.Held why) cause none = none (asks (asks_disk asked cause.0))
+  is_free free asks run.Disk cause none = refl
+  is_free free asks run.Write cause none = refl
+  is_free free asks (run.Limit l) cause none = refl
+  is_free free asks run.Generation cause none = refl
+  is_free free asks (run.Report r) cause none = refl

@@ -12,16 +12,17 @@ use Rattle.eql_words.specs.declared.commands.Command.{Command}
 use Rattle.eql_words.specs.Commands.{command_of}
 use Rattle.eql_runs.specs.Files.{Files}
 use Rattle.eql_runs.specs.Outcomes.{DiskIsSame, IsRefusal, RunEnds}
-use Rattle.eql_runs.specs.RunLaws.{ReadyIsNotRefused, StatusIsOne, WritesOrIsRefused}
+use Rattle.eql_runs.specs.RunLaws.{CheckedIsAccepted, ReadyIsNotRefused, StatusIsOne, WritesOrIsRefused}
 use Rattle.eql_runs.specs.Runs.{AreTrusted, AskDisk, AsksDisk, CanRun, files_over, IsReady, IsRefusedAs, Tells, Writes, WroteSome}
 use Rattle.eql_runs.specs.Starts.{DiskHolds, OnDisk}
 use Rattle.eql_find.specs.declared.error.FindError.{FindError}
 use Rattle.eql_find.specs.Errors.{IsFault, IsReport, run_status_of}
+use Rattle.eql_inputs.proofs.ShelfLemmas.{disk_still}
 use Rattle.eql_find.proofs.EarlyErrors.{same_no_more}
 use Rattle.eql_find.specs.Outcomes.{FaultsAreTold}
 use Rattle.eql_cli.specs.Outcomes.{CommandEnds}
 use Rattle.eql_cli.specs.Telling.{TellsRun}
-use Rattle.eql_cli.proofs.EndLemmas.{absence_told, absent_by_status, accepted_so, cut_by_status, disk_by_status, disk_told, done_exact, is_calm, limit_of_status, listed_by, never_ended, never_usage, no_disk, no_read, read_by_status, read_told, refused_by_status, stops_exact, stops_ready, told_of, write_by_status, write_told, wrote_all, wrote_some}
+use Rattle.eql_cli.proofs.EndLemmas.{absence_told, absent_by_status, accepted_so, cut_by_status, disk_by_status, disk_told, done_exact, held_told, is_calm, is_free, limit_of_status, listed_by, never_ended, never_usage, no_disk, no_read, none_rose, read_by_status, read_told, refused_by_status, stops_exact, stops_ready, told_of, write_by_status, write_told, wrote_all, wrote_some}
 use Rattle.eql_cli.proofs.KeepLemmas.{ask_words, keep_words, kept_words, not_refused}
 
 -- status 0 is of no refusal
@@ -82,7 +83,8 @@ module _ {H Src Dsk K E : Type 0} (shelf : shelves.Ghosts H Src Dsk) (output : s
     (words : List (List ℕ)) where
   pub early_ends : (old : H) (out : K) (err err' : E) (status : ℕ) → (status ≡ 2) ⊎ (status ≡ 8) → (status ≡ 2 → command_of words ≡ None)
       → (text : List ℕ)
-      → Tells words (shelf.files old) (shelf.disk_history old) (shelf.disk_history old) (shelf.faults_of old) (shelf.faults_of old) status text
+      → Tells words (shelf.files old) (shelf.disk_history old) (shelf.disk_history old) (shelf.faults_of old) (shelf.faults_of old)
+      (shelf.held_count old) (shelf.held_count old) status text
       → WroteFront text (errors.written err) (errors.written err') → errors.fault_count err ≤ errors.fault_count err'
       → RunEnds shelf output errors words old old out out err err' status
   early_ends old out err err' status early none text tells wrote rise = record {
@@ -104,19 +106,22 @@ module _ {H Src Dsk K E : Type 0} (shelf : shelves.Ghosts H Src Dsk) (output : s
     absences_told = λ more. absurd (omega (arith, more));
     writes_told = λ more. absurd (omega (arith, more));
     disks_told = λ more. absurd (omega (arith, more));
+    held_told = λ why more. absurd (omega (arith, more));
     errors_told = λ more e. omega (arith, early, e);
-    complete = λ ready read disk write error. early_ready words (shelf.files old) (shelf.disk_history old) status early none ready;
-    grounded = λ ready reads sources disk writes tells. early_ready words (shelf.files old) (shelf.disk_history old) status early none ready;
+    complete = λ ready read disk held write error. early_ready words (shelf.files old) (shelf.disk_history old) status early none ready;
+    grounded = λ ready reads sources disk free writes tells. early_ready words (shelf.files old) (shelf.disk_history old) status early none ready;
     exact = λ calm steady. early_refused words (shelf.files old) (shelf.disk_history old) status early none;
     kept = refl;
     lent = same_lent (shelf.lent_count old);
     back = λ e. e;
     cut_kept = λ refusal. same_no_more (shelf.disk_history old) (shelf.disk_history old) refl;
-    moments = kept_words words (shelf.files old) (output.written out) (output.written out) (shelf.disk_history old);
-    disk_kept = λ never. record { history_is = refl; out_is = refl; faults_are = refl; plan_is = refl };
+    moments =
+        kept_words words (shelf.files old) (output.written out) (output.written out) (output.kept out) (output.kept out) (shelf.disk_history old);
+    disk_kept = λ never. disk_still shelf old;
     reads_rise = omega arith;
     absences_rise = omega arith;
     disks_rise = omega arith;
+    held_rise = λ why. omega arith;
     writes_rise = omega arith;
     errors_rise = rise;
   }
@@ -159,27 +164,29 @@ module _ {H Src Dsk K E : Type 0} (shelf : shelves.Ghosts H Src Dsk) (output : s
       absences_told = λ more. absurd (omega (arith, more, faults.absences));
       writes_told = λ more. absurd (omega (arith, more, faults.out));
       disks_told = λ more. absurd (omega (arith, more, faults.disk));
+      held_told = λ why more. let same = faults.held.follow why in absurd (omega (arith, more, same));
       errors_told = λ more e. omega (arith, more, faults.err);
-      complete = λ ready read disk write error. inl refl;
-      grounded = λ ready reads sources disk writes tells. inl refl;
+      complete = λ ready read disk held write error. inl refl;
+      grounded = λ ready reads sources disk free writes tells. inl refl;
       exact = λ calm steady. done_exact words asked is apart (shelf.files old) (shelf.disk_history old) 0 ends.accepted;
       kept = kept;
       lent = lent;
       back = back;
       cut_kept = λ refusal. done_is_no_refusal refusal;
       moments =
-          keep_words words asked is (shelf.files old) (output.written out) (output.written out') (shelf.disk_history old) (shelf.disk_history new)
-          ends.moments;
+          keep_words words asked is (shelf.files old) (output.written out) (output.written out') (output.kept out) (output.kept out')
+          (shelf.disk_history old) (shelf.disk_history new) ends.moments;
       disk_kept = λ never. disk_kept (λ asks. never (asks_so asks));
       reads_rise = faults.reads_rise;
       absences_rise = faults.absences_rise;
       disks_rise = faults.disks_rise;
+      held_rise = faults.held.rise;
       writes_rise = faults.writes_rise;
       errors_rise = faults.errors_rise;
     }
 
     -- a run that stopped, and was told of
-    pub stopped_ends : (mid err' : E) (h : FindError) (status : ℕ) → ReadyIsNotRefused → StatusIsOne
+    pub stopped_ends : (mid err' : E) (h : FindError) (status : ℕ) → ReadyIsNotRefused → StatusIsOne → CheckedIsAccepted
         → CommandEnds output errors {A = Unit {0}} asked (shelf.files old) (shelf.disk_history old) (shelf.disk_history new) out out' err mid
         (Err h)
         → FaultsAreTold output errors {A = Unit {0}} shelf old new (shelf.disk_fault_count old) (shelf.disk_fault_count new) out out' err mid
@@ -195,7 +202,7 @@ module _ {H Src Dsk K E : Type 0} (shelf : shelves.Ghosts H Src Dsk) (output : s
         → (IsReport h → err' ≡ mid)
         → errors.fault_count mid ≤ errors.fault_count err'
         → RunEnds shelf output errors words old new out out' err err' status
-    stopped_ends mid err' h status law one ends faults unfailing kept lent back disk_kept same tells silent rise = record {
+    stopped_ends mid err' h status law one checked ends faults unfailing kept lent back disk_kept same tells silent rise = record {
       done = λ e. absurd (never_ended h status same e);
       accepted = λ e. absurd (never_ended h status same e);
       prefix = λ other.
@@ -206,7 +213,8 @@ module _ {H Src Dsk K E : Type 0} (shelf : shelves.Ghosts H Src Dsk) (output : s
       refused = λ refusal. ends.untouched (refused_by_status h (refused_so h status same refusal));
       told = λ other.
           told_of words asked is apart errors.written err mid err' (shelf.files old) (shelf.disk_history old) (shelf.disk_history new)
-          (shelf.faults_of old) (shelf.faults_of new) h status same ends.cause faults.faults ends.quiet tells silent;
+          (shelf.faults_of old) (shelf.faults_of new) (shelf.held_count old) (shelf.held_count new) h status same ends.cause faults.faults
+          faults.held.follow ends.quiet tells silent;
       absent = λ e. absent_by_status h (shelf.absent_count old) (shelf.absent_count new) faults.absences (sym same ∙ e);
       words = λ e. absurd (never_usage h (sym same ∙ e));
       no_words = λ none. no_command none;
@@ -228,20 +236,25 @@ module _ {H Src Dsk K E : Type 0} (shelf : shelves.Ghosts H Src Dsk) (output : s
       disks_told = λ more.
           subst (λ (n : ℕ). (n ≡ 6) ⊎ (n ≡ 4)) (sym same)
           (disk_told h (shelf.disk_fault_count old) (shelf.disk_fault_count new) faults.disk more);
+      held_told = λ why more. same ∙ held_told h (shelf.held_count old) (shelf.held_count new) faults.held.follow why more;
       errors_told = λ more e. never_ended h status same e;
-      complete = λ ready read disk write error.
+      complete = λ ready read disk held write error.
           stops_ready words asked is law (shelf.files old) (shelf.disk_history old) (shelf.disk_history new) (errors.written err)
           (errors.written mid) h status same ends.cause ready
           (is_calm asked (shelf.files old) (shelf.disk_history old) (shelf.disk_history new) (errors.written err) (errors.written mid)
           (shelf.fault_count old) (shelf.fault_count new) (shelf.disk_fault_count old) (shelf.disk_fault_count new) (output.fault_count out)
           (output.fault_count out') (errors.fault_count err) (errors.fault_count mid) (errors.fault_count err') read
           (λ asks. disk (asks_so asks)) write error h ends.cause faults.count faults.disk faults.out faults.err
-          (λ report. ap errors.fault_count (silent report)));
-      grounded = λ ready reads sources disk writes tells.
+          (λ report. ap errors.fault_count (silent report)))
+          (none_rose asked (shelf.files old) (shelf.disk_history old) (shelf.disk_history new) (errors.written err) (errors.written mid)
+          (shelf.held_count old) (shelf.held_count new) (λ asks. held (asks_so asks)) h ends.cause faults.held.follow);
+      grounded = λ ready reads sources disk free writes tells.
           stops_ready words asked is law (shelf.files old) (shelf.disk_history old) (shelf.disk_history new) (errors.written err)
-          (errors.written mid) h status same ends.cause ready (unfailing reads sources (λ asks. disk (asks_so asks)) writes tells);
+          (errors.written mid) h status same ends.cause ready (unfailing reads sources (λ asks. disk (asks_so asks)) writes tells)
+          (is_free asked (shelf.files old) (shelf.disk_history old) (shelf.disk_history new) (errors.written err) (errors.written mid)
+          (shelf.is_free old) (λ asks. free (asks_so asks)) h ends.cause faults.held.free);
       exact = λ calm steady.
-          stops_exact words asked is one apart (shelf.files old) (shelf.disk_history old) (shelf.disk_history new) (errors.written err)
+          stops_exact words asked is one checked apart (shelf.files old) (shelf.disk_history old) (shelf.disk_history new) (errors.written err)
           (errors.written mid) h status same ends.cause (no_read h (shelf.fault_count old) (shelf.fault_count new) faults.count calm)
           (no_disk asked (shelf.files old) (shelf.disk_history old) (shelf.disk_history new) (errors.written err) (errors.written mid) h
           (shelf.disk_fault_count old) (shelf.disk_fault_count new) ends.cause faults.disk (λ asks. steady (asks_so asks)));
@@ -250,12 +263,13 @@ module _ {H Src Dsk K E : Type 0} (shelf : shelves.Ghosts H Src Dsk) (output : s
       back = back;
       cut_kept = λ refusal. ends.cut_kept (refused_by_status h (refused_so h status same refusal));
       moments =
-          keep_words words asked is (shelf.files old) (output.written out) (output.written out') (shelf.disk_history old) (shelf.disk_history new)
-          ends.moments;
+          keep_words words asked is (shelf.files old) (output.written out) (output.written out') (output.kept out) (output.kept out')
+          (shelf.disk_history old) (shelf.disk_history new) ends.moments;
       disk_kept = λ never. disk_kept (λ asks. never (asks_so asks));
       reads_rise = faults.reads_rise;
       absences_rise = faults.absences_rise;
       disks_rise = faults.disks_rise;
+      held_rise = faults.held.rise;
       writes_rise = faults.writes_rise;
       errors_rise = omega (arith, faults.errors_rise, rise);
     }

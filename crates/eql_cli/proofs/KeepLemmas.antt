@@ -22,15 +22,15 @@ use Rattle.eql_find.proofs.EarlyErrors.{same_keeps, same_no_more}
 use Rattle.eql_cli.specs.Running.{KeepsDisk}
 
 -- a disk on which nothing is done keeps what it holds
-pub kept_disk : (asked : Command) (files : Option Files) (out out' : Option (List ℕ)) (disk now : Option History) → now ≡ disk
-    → KeepsDisk asked files out out' disk now
-kept_disk (command.Find f) files out out' disk now same = λ has. same_keeps f files out out' disk now same
-kept_disk (command.Check query fields) files out out' disk now same = tt
-kept_disk (command.Made hands events) files out out' disk now same = tt
+pub kept_disk : (asked : Command) (files : Option Files) (out out' kept kept' : Option (List ℕ)) (disk now : Option History) → now ≡ disk
+    → KeepsDisk asked files out out' kept kept' disk now
+kept_disk (command.Find f) files out out' kept kept' disk now same = λ has. same_keeps f files out out' kept kept' disk now same
+kept_disk (command.Check query fields) files out out' kept kept' disk now same = tt
+kept_disk (command.Made hands events) files out out' kept kept' disk now same = tt
 
-pub kept_words : (words : List (List ℕ)) (files : Option Files) (out out' : Option (List ℕ)) (disk : Option History)
-    → KeepDisk words files out out' disk disk
-kept_words words files out out' disk = λ find is has. same_keeps find files out out' disk disk refl
+pub kept_words : (words : List (List ℕ)) (files : Option Files) (out out' kept kept' : Option (List ℕ)) (disk : Option History)
+    → KeepDisk words files out out' kept kept' disk disk
+kept_words words files out out' kept kept' disk = λ find is has. same_keeps find files out out' kept kept' disk disk refl
 
 -- nor is what it stands for changed, where the run is refused or not
 pub none_changed : (r : Result (Unit {0}) FindError) (disk now : Option History) → now ≡ disk
@@ -39,9 +39,9 @@ none_changed (Ok done) disk now same = tt
 none_changed (Err h) disk now same = λ refusal. same_no_more disk now same
 
 -- a search that is this command
-pub found_keeps : (asked : Command) (find : Find) → asked ≡ command.Find find → (files : Option Files) (out out' : Option (List ℕ))
-    (disk now : Option History) → (find.checkpoint ≢ None → moments.DiskTells (KeepsCuts find files out out') disk now) → KeepsDisk asked files out out' disk now
-found_keeps asked find is files out out' disk now keeps = subst (λ (c : Command). KeepsDisk c files out out' disk now) (sym is) keeps
+pub found_keeps : (asked : Command) (find : Find) → asked ≡ command.Find find → (files : Option Files) (out out' kept kept' : Option (List ℕ))
+    (disk now : Option History) → (find.checkpoint ≢ None → moments.DiskTells (KeepsCuts find files out out' kept kept') disk now) → KeepsDisk asked files out out' kept kept' disk now
+found_keeps asked find is files out out' kept kept' disk now keeps = subst (λ (c : Command). KeepsDisk c files out out' kept kept' disk now) (sym is) keeps
 
 pub asks_found : (asked : Command) (find : Find) → asked ≡ command.Find find → find.checkpoint ≢ None → AsksDisk asked
 asks_found asked find is has = subst (λ (c : Command). AsksDisk c) (sym is) has
@@ -54,11 +54,11 @@ pub not_asked : (asked : Command) (find : Find) → asked ≡ command.Find find 
 not_asked asked find is never = never_some find.checkpoint (λ has. never (asks_found asked find is has))
 
 -- words that are this command
-pub keep_words : (words : List (List ℕ)) (asked : Command) → command_of words ≡ Some asked → (files : Option Files) (out out' : Option (List ℕ))
-    (disk now : Option History) → KeepsDisk asked files out out' disk now → KeepDisk words files out out' disk now
-keep_words words asked is files out out' disk now keeps = λ find is_find has.
+pub keep_words : (words : List (List ℕ)) (asked : Command) → command_of words ≡ Some asked → (files : Option Files) (out out' kept kept' : Option (List ℕ))
+    (disk now : Option History) → KeepsDisk asked files out out' kept kept' disk now → KeepDisk words files out out' kept kept' disk now
+keep_words words asked is files out out' kept kept' disk now keeps = λ find is_find has.
     let e : asked ≡ command.Find find = same_Some asked (command.Find find) (sym is ∙ is_find) in
-    subst (λ (c : Command). KeepsDisk c files out out' disk now) e keeps has
+    subst (λ (c : Command). KeepsDisk c files out out' kept kept' disk now) e keeps has
 
 pub ask_words : (words : List (List ℕ)) (asked : Command) → command_of words ≡ Some asked → AsksDisk asked → AskDisk words
 ask_words words asked is asks = (asked, is, asks)

@@ -24,6 +24,7 @@ stop_cause query fields (Some fs) tree kinds got run.Write stops = (
   record { tree = tree; kinds = kinds; checked = got; bytes_are = refl; report_is = refl },
 )
 stop_cause query fields files tree kinds got (run.Cut why) stops = absurd stops
+stop_cause query fields files tree kinds got (run.Held why) stops = absurd stops
 stop_cause query fields files tree kinds got run.Disk stops = absurd stops
 stop_cause query fields files tree kinds got (run.Limit l) stops = absurd stops
 stop_cause query fields files tree kinds got run.Generation stops = absurd stops

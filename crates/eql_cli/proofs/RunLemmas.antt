@@ -45,6 +45,7 @@ cause_of_find find files disk now err err' (run.Files (error.Refused r)) cause =
 cause_of_find find files disk now err err' (run.Files (error.Read name)) cause = (names_in find, refl, cause)
 cause_of_find find files disk now err err' (run.Files error.Memory) cause = tt
 cause_of_find find files disk now err err' (run.Cut why) cause = (record { find = find; is_find = refl; has_disk = cause.0 }, cause.1)
+cause_of_find find files disk now err err' (run.Held why) cause = (record { find = find; is_find = refl; has_disk = cause.0 }, cause.1)
 cause_of_find find files disk now err err' run.Disk cause = (record { find = find; is_find = refl; has_disk = cause.0 }, cause.1)
 cause_of_find find files disk now err err' run.Write cause = cause
 cause_of_find find files disk now err err' (run.Limit l) cause = (find, refl, cause.0, cause.1)
@@ -98,6 +99,7 @@ printed_some asked query fields is files disk out out' h =
 check_reports : (query fields : List ℕ) (files : Option Files) (h : FindError) → printing.HasPrintCause query fields files h → ¬ IsReport h
 check_reports query fields files (run.Files h) cause report = report
 check_reports query fields files (run.Cut why) cause report = report
+check_reports query fields files (run.Held why) cause report = report
 check_reports query fields files run.Disk cause report = report
 check_reports query fields files run.Write cause report = report
 check_reports query fields files (run.Limit l) cause report = report
@@ -119,6 +121,7 @@ cause_of_check query fields files disk now err (run.Files (error.Refused r)) cau
 cause_of_check query fields files disk now err (run.Files (error.Read name)) cause = (naming query fields [], refl, cause)
 cause_of_check query fields files disk now err (run.Files error.Memory) cause = tt
 cause_of_check query fields files disk now err (run.Cut why) cause = absurd cause
+cause_of_check query fields files disk now err (run.Held why) cause = absurd cause
 cause_of_check query fields files disk now err run.Disk cause = absurd cause
 cause_of_check query fields files disk now err run.Write cause = accepted_by_check query fields files disk cause
 cause_of_check query fields files disk now err (run.Limit l) cause = absurd cause
@@ -163,6 +166,7 @@ made_some asked hands events is files disk out out' h =
 made_reports : (h : FindError) → StopsWriting h → ¬ IsReport h
 made_reports (run.Files h) stops report = report
 made_reports (run.Cut why) stops report = report
+made_reports (run.Held why) stops report = report
 made_reports run.Disk stops report = report
 made_reports run.Write stops report = report
 made_reports (run.Limit l) stops report = report
@@ -179,6 +183,7 @@ cause_of_made hands events files disk now out out' err (run.Files (error.Refused
 cause_of_made hands events files disk now out out' err (run.Files (error.Read name)) front stops = absurd stops
 cause_of_made hands events files disk now out out' err (run.Files error.Memory) front stops = tt
 cause_of_made hands events files disk now out out' err (run.Cut why) front stops = absurd stops
+cause_of_made hands events files disk now out out' err (run.Held why) front stops = absurd stops
 cause_of_made hands events files disk now out out' err run.Disk front stops = absurd stops
 cause_of_made hands events files disk now out out' err run.Write front stops = λ on holds. (front.0, front.1, front.2)
 cause_of_made hands events files disk now out out' err (run.Limit l) front stops = absurd stops
@@ -200,6 +205,7 @@ module _ {T : Type 0} where
   made_untouched (Err (run.Files (error.Read name))) old new stops = absurd stops
   made_untouched (Err (run.Files error.Memory)) old new stops = λ none. absurd none
   made_untouched (Err (run.Cut why)) old new stops = absurd stops
+  made_untouched (Err (run.Held why)) old new stops = absurd stops
   made_untouched (Err run.Disk) old new stops = absurd stops
   made_untouched (Err run.Write) old new stops = λ none. absurd none
   made_untouched (Err (run.Limit l)) old new stops = absurd stops
@@ -212,6 +218,7 @@ made_faults (Err (run.Files (error.Refused r))) faults stops = absurd stops
 made_faults (Err (run.Files (error.Read name))) faults stops = absurd stops
 made_faults (Err (run.Files error.Memory)) faults stops = λ name. refl
 made_faults (Err (run.Cut why)) faults stops = absurd stops
+made_faults (Err (run.Held why)) faults stops = absurd stops
 made_faults (Err run.Disk) faults stops = absurd stops
 made_faults (Err run.Write) faults stops = λ name. refl
 made_faults (Err (run.Limit l)) faults stops = absurd stops
@@ -224,6 +231,7 @@ made_count (Err (run.Files (error.Refused r))) count stops = absurd stops
 made_count (Err (run.Files (error.Read name))) count stops = absurd stops
 made_count (Err (run.Files error.Memory)) count stops = refl
 made_count (Err (run.Cut why)) count stops = absurd stops
+made_count (Err (run.Held why)) count stops = absurd stops
 made_count (Err run.Disk) count stops = absurd stops
 made_count (Err run.Write) count stops = refl
 made_count (Err (run.Limit l)) count stops = absurd stops
@@ -236,6 +244,7 @@ made_absences (Err (run.Files (error.Refused r))) count stops = absurd stops
 made_absences (Err (run.Files (error.Read name))) count stops = absurd stops
 made_absences (Err (run.Files error.Memory)) count stops = refl
 made_absences (Err (run.Cut why)) count stops = absurd stops
+made_absences (Err (run.Held why)) count stops = absurd stops
 made_absences (Err run.Disk) count stops = absurd stops
 made_absences (Err run.Write) count stops = refl
 made_absences (Err (run.Limit l)) count stops = absurd stops
@@ -246,6 +255,7 @@ pub made_errors : (r : Result (Unit {0}) FindError) (count : ℕ) → IfErr r St
 made_errors (Ok x) count stops = refl
 made_errors (Err (run.Files h)) count stops = refl
 made_errors (Err (run.Cut why)) count stops = absurd stops
+made_errors (Err (run.Held why)) count stops = absurd stops
 made_errors (Err run.Disk) count stops = absurd stops
 made_errors (Err run.Write) count stops = refl
 made_errors (Err (run.Limit l)) count stops = absurd stops
@@ -258,6 +268,7 @@ made_disks (Err (run.Files (error.Refused r))) count stops = absurd stops
 made_disks (Err (run.Files (error.Read name))) count stops = absurd stops
 made_disks (Err (run.Files error.Memory)) count stops = refl
 made_disks (Err (run.Cut why)) count stops = absurd stops
+made_disks (Err (run.Held why)) count stops = absurd stops
 made_disks (Err run.Disk) count stops = absurd stops
 made_disks (Err run.Write) count stops = refl
 made_disks (Err (run.Limit l)) count stops = absurd stops
@@ -275,6 +286,7 @@ pub check_errors : (query fields : List ℕ) (files : Option Files) (r : Result 
 check_errors query fields files (Ok x) count cause = refl
 check_errors query fields files (Err (run.Files h)) count cause = refl
 check_errors query fields files (Err (run.Cut why)) count cause = absurd cause
+check_errors query fields files (Err (run.Held why)) count cause = absurd cause
 check_errors query fields files (Err run.Disk) count cause = absurd cause
 check_errors query fields files (Err run.Write) count cause = refl
 check_errors query fields files (Err (run.Limit l)) count cause = absurd cause
@@ -289,6 +301,7 @@ check_disks query fields files (Err (run.Files (error.Refused r))) before now sa
 check_disks query fields files (Err (run.Files (error.Read name))) before now same cause = tt
 check_disks query fields files (Err (run.Files error.Memory)) before now same cause = same
 check_disks query fields files (Err (run.Cut why)) before now same cause = absurd cause
+check_disks query fields files (Err (run.Held why)) before now same cause = absurd cause
 check_disks query fields files (Err run.Disk) before now same cause = absurd cause
 check_disks query fields files (Err run.Write) before now same cause = same
 check_disks query fields files (Err (run.Limit l)) before now same cause = absurd cause

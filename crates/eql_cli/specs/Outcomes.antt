@@ -20,5 +20,5 @@ module _ {K E : Type 0} (output : sinks.Ghosts K) (errors : sinks.Ghosts E) wher
     pub untouched : IfErr answer (λ error. IsRefusal error → out' ≡ out)
     pub quiet : IfErr answer (λ error. TellsNothing error → err' ≡ err)
     pub cause : IfErr answer (HasCommandCause asked files disk now (errors.written err) (errors.written err'))
-    pub moments : KeepsDisk asked files (output.written out) (output.written out') disk now
+    pub moments : KeepsDisk asked files (output.written out) (output.written out') (output.kept out) (output.kept out') disk now
     pub cut_kept : IfErr answer (λ error. IsRefusal error → DiskTells (Goes LeavesNoMore) disk now)

@@ -27,6 +27,7 @@ PrintsSome query fields files out out' =
 abbrev pub HasPrintCause : (query fields : List ℕ) → Option Files → FindError → Type 0
 HasPrintCause query fields files (run.Files h) = inputs.HasInputCause (naming query fields []) files h
 HasPrintCause query fields files (run.Cut why) = ⊥
+HasPrintCause query fields files (run.Held why) = ⊥
 HasPrintCause query fields files run.Disk = ⊥
 HasPrintCause query fields files run.Write =
     IfSome files (λ fs. (bytes : List ℕ) × (report : List ℕ) × Prints query fields fs bytes report)
@@ -40,6 +41,7 @@ StopsWriting (run.Files (error.Refused r)) = ⊥
 StopsWriting (run.Files (error.Read name)) = ⊥
 StopsWriting (run.Files error.Memory) = Unit {0}
 StopsWriting (run.Cut why) = ⊥
+StopsWriting (run.Held why) = ⊥
 StopsWriting run.Disk = ⊥
 StopsWriting run.Write = Unit {0}
 StopsWriting (run.Limit l) = ⊥

@@ -78,6 +78,9 @@ abbrev pub HasCommandCause : Command → Option Files → (disk now : Option His
 HasCommandCause asked files disk now err err' (run.Files h) = HasFilesCause asked files h
 HasCommandCause asked files disk now err err' (run.Cut r) =
     (asks : AsksFind asked) × IfFound asks.find files disk (λ fs on. RefusesCut asks.find fs on (cut_refusal_of r))
+HasCommandCause asked files disk now err err' (run.Held why) =
+    (asks : AsksFind asked)
+    × IfSome files (λ fs. (search : Search) × (texts : List (List ℕ)) × Searches asks.find fs search texts)
 HasCommandCause asked files disk now err err' run.Disk =
     (asks : AsksFind asked)
     × IfSome files (λ fs. (search : Search) × (texts : List (List ℕ)) × Searches asks.find fs search texts)
@@ -90,8 +93,9 @@ HasCommandCause asked files disk now err err' run.Generation =
 HasCommandCause asked files disk now err err' (run.Report r) =
     (find : Find) × (asked ≡ command.Find find) × ReportsFront find files disk err err'
 
--- a command that keeps its state on a disk keeps its cuts there, and writes what they count
-abbrev pub KeepsDisk : Command → Option Files → (out out' : Option (List ℕ)) → (disk now : Option History) → Type 0
-KeepsDisk (command.Find f) files out out' disk now = f.checkpoint ≢ None → moments.DiskTells (KeepsCuts f files out out') disk now
-KeepsDisk (command.Check query fields) files out out' disk now = Unit {0}
-KeepsDisk (command.Made hands events) files out out' disk now = Unit {0}
+-- a command that keeps its state on a disk keeps its cuts there, and writes what they count, which is kept
+abbrev pub KeepsDisk : Command → Option Files → (out out' kept kept' : Option (List ℕ)) → (disk now : Option History) → Type 0
+KeepsDisk (command.Find f) files out out' kept kept' disk now =
+    f.checkpoint ≢ None → moments.DiskTells (KeepsCuts f files out out' kept kept') disk now
+KeepsDisk (command.Check query fields) files out out' kept kept' disk now = Unit {0}
+KeepsDisk (command.Made hands events) files out out' kept kept' disk now = Unit {0}

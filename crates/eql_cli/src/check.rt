@@ -4,6 +4,7 @@ ghost use Rattle.eql_outside.specs.Unfailing.{IsUnfailing, AreUnfailing};
 ghost use Rattle.eql_outside.specs.Written.{WroteAll, WroteFront};
 ghost use Rattle.eql_query.specs.QueryTree.{query_tree};
 ghost use Rattle.eql_parser.specs.Printed.{query_shown};
+ghost use Rattle.eql_runs.specs.Outcomes.{DiskIsSame};
 ghost use Rattle.eql_find.specs.Errors.{AbsencesFollow, CountFollows, FaultsFollow, IsFault, IsRefusal, OutFollows};
 ghost use Rattle.eql_cli.specs.Printing.{HasPrintCause, PrintsAll, PrintsSome, StopsWriting};
 
@@ -79,10 +80,7 @@ pub(crate) fn check_query<'a, H: Shelf, K: Sink>(
         → AreUnfailing (H.source_plans shelf.old) → IsUnfailing (K.fault_plan out.old)
         → IfErr result (λ error. ¬ IsFault error) }
     ensures kept { H.files shelf.new ≡ H.files shelf.old }
-    ensures disk_kept { (H.disk_history shelf.new ≡ H.disk_history shelf.old)
-        × (H.is_out shelf.new ≡ H.is_out shelf.old)
-        × (H.disk_fault_count shelf.new ≡ H.disk_fault_count shelf.old)
-        × (H.disk_plan shelf.new ≡ H.disk_plan shelf.old) }
+    ensures disk_kept { DiskIsSame H.Shelf shelf.old shelf.new }
     ensures lent { IfSome (H.lent_count shelf.old) (λ n. H.lent_count shelf.new ≡ Some n) }
 {
     match read_checked(alloc, query, fields, shelf) {

@@ -1,7 +1,8 @@
 //! The top call.
-ghost use Rattle.std.specs.Prelude.{◌≡◌, ◌≢◌, ◌⊎◌, ◌≤◌, ◌<◌, None, IfSome, Some, false};
+ghost use Rattle.std.specs.Prelude.{◌≡◌, ◌≢◌, ◌⊎◌, ◌≤◌, ◌<◌, None, IfSome, Some, true, false};
 ghost use Rattle.eql_outside.specs.Moments as moments;
 ghost use Rattle.eql_outside.specs.Outside.{Rose};
+ghost use Rattle.eql_outside.specs.declared.refused.DiskHeld.{DiskHeld};
 ghost use Rattle.eql_outside.specs.Unfailing.{IsUnfailing, AreUnfailing};
 ghost use Rattle.eql_words.specs.Commands.{command_of};
 ghost use Rattle.eql_words.specs.Words.{bytes_of};
@@ -21,7 +22,7 @@ use std::thread::Threads;
 #[derive(Drop)]
 pub struct Ended<K, E> {
     /// 0 done; 1 a file isn't there; 2 the words are no command; 3 the query or the mapping is refused; 4 a read fault; 5 a
-    /// write fault; 6 a fault of the checkpoint's disk; 7 the checkpoint is refused; 8 out of memory; 9 a limit is reached.
+    /// write fault; 6 a fault of the checkpoint's disk; 7 the checkpoint is refused or held; 8 out of memory; 9 a limit is reached.
     pub status: u8,
     /// The output, with the listing, the canonical text or the summary.
     pub out: K,
@@ -88,7 +89,8 @@ pub fn eql_main<R: Threads + Wait + Sync, H: Shelf, K: Sink, E: Sink, G: Gate + 
     ensures told { result.status ≢ 0
         → TellsFront (bytes_of words.now.items) (H.files shelf.old)
         (H.disk_history shelf.old) (H.disk_history shelf.new)
-        (H.faults_of shelf.old) (H.faults_of shelf.new) result.status
+        (H.faults_of shelf.old) (H.faults_of shelf.new)
+        (H.held_count shelf.old) (H.held_count shelf.new) result.status
         (E.written err) (E.written result.err) }
 
     // The causes that the objects count, and the words.
@@ -109,8 +111,8 @@ pub fn eql_main<R: Threads + Wait + Sync, H: Shelf, K: Sink, E: Sink, G: Gate + 
         → ReachesLimit (bytes_of words.now.items) (H.files shelf.old)
         (H.disk_history shelf.old) (H.disk_history shelf.new) }
 
-    // No fault is passed over, and no absent file: where several faults come at once the read
-    // fault is told.
+    // No fault is passed over, no absent file, and no disk that is held: where several faults come
+    // at once the read fault is told.
     ensures reads_told { H.fault_count shelf.old < H.fault_count shelf.new → result.status ≡ 4 }
     ensures absences_told { H.absent_count shelf.old < H.absent_count shelf.new
         → result.status ≡ 1 }
@@ -118,15 +120,20 @@ pub fn eql_main<R: Threads + Wait + Sync, H: Shelf, K: Sink, E: Sink, G: Gate + 
         → (result.status ≡ 5) ⊎ (result.status ≡ 4) }
     ensures disks_told { H.disk_fault_count shelf.old < H.disk_fault_count shelf.new
         → (result.status ≡ 6) ⊎ (result.status ≡ 4) }
+    ensures held_told { (why : DiskHeld)
+        → H.held_count shelf.old why < H.held_count shelf.new why → result.status ≡ 7 }
     ensures errors_told { E.fault_count err < E.fault_count result.err → result.status ≢ 0 }
 
-    // A run with good words, files and checkpoint in which nothing fails is done, unless memory
-    // ran out; and nothing fails over objects of which no call is planned to fail.
+    // A run with good words, files and checkpoint in which nothing fails, and of which the disk
+    // isn't held, is done, unless memory ran out; and nothing fails over objects of which no call
+    // is planned to fail.
     ensures complete { IsReady (bytes_of words.now.items) (H.files shelf.old)
         (H.disk_history shelf.old)
         → ¬ (Rose (H.fault_count shelf.old) (H.fault_count shelf.new))
         → (AskDisk (bytes_of words.now.items)
         → ¬ (Rose (H.disk_fault_count shelf.old) (H.disk_fault_count shelf.new)))
+        → (AskDisk (bytes_of words.now.items) → (why : DiskHeld)
+        → ¬ (Rose (H.held_count shelf.old why) (H.held_count shelf.new why)))
         → ¬ (Rose (K.fault_count out) (K.fault_count result.out))
         → ¬ (Rose (E.fault_count err) (E.fault_count result.err))
         → (result.status ≡ 0) ⊎ (result.status ≡ 8) }
@@ -134,6 +141,7 @@ pub fn eql_main<R: Threads + Wait + Sync, H: Shelf, K: Sink, E: Sink, G: Gate + 
         (H.disk_history shelf.old)
         → IsUnfailing (H.fault_plan shelf.old) → AreUnfailing (H.source_plans shelf.old)
         → (AskDisk (bytes_of words.now.items) → IsUnfailing (H.disk_plan shelf.old))
+        → (AskDisk (bytes_of words.now.items) → H.is_free shelf.old ≡ true)
         → IsUnfailing (K.fault_plan out) → IsUnfailing (E.fault_plan err)
         → (result.status ≡ 0) ⊎ (result.status ≡ 8) }
 
@@ -151,21 +159,24 @@ pub fn eql_main<R: Threads + Wait + Sync, H: Shelf, K: Sink, E: Sink, G: Gate + 
     ensures back { H.is_out shelf.old ≡ false → H.is_out shelf.new ≡ false }
 
     // With a checkpoint each image of the disk at each moment stands for what was there, or for a
-    // cut of the run, and the lines that a cut counts were written. Without one the disk is as it
-    // was.
+    // cut of the run, and the lines that a cut counts were written, and kept. Without one the disk
+    // is as it was.
     ensures moments { KeepDisk (bytes_of words.now.items) (H.files shelf.old)
-        (K.written out) (K.written result.out)
+        (K.written out) (K.written result.out) (K.kept out) (K.kept result.out)
         (H.disk_history shelf.old) (H.disk_history shelf.new) }
     ensures disk_kept { ¬ (AskDisk (bytes_of words.now.items))
         → (H.disk_history shelf.new ≡ H.disk_history shelf.old)
         × (H.is_out shelf.new ≡ H.is_out shelf.old)
         × (H.disk_fault_count shelf.new ≡ H.disk_fault_count shelf.old)
-        × (H.disk_plan shelf.new ≡ H.disk_plan shelf.old) }
+        × (H.disk_plan shelf.new ≡ H.disk_plan shelf.old)
+        × ((why : DiskHeld) → H.held_count shelf.new why ≡ H.held_count shelf.old why)
+        × (H.is_free shelf.new ≡ H.is_free shelf.old) }
 
     // No count falls.
     ensures counts { (H.fault_count shelf.old ≤ H.fault_count shelf.new)
         × (H.absent_count shelf.old ≤ H.absent_count shelf.new)
         × (H.disk_fault_count shelf.old ≤ H.disk_fault_count shelf.new)
+        × ((why : DiskHeld) → H.held_count shelf.old why ≤ H.held_count shelf.new why)
         × (K.fault_count out ≤ K.fault_count result.out)
         × (E.fault_count err ≤ E.fault_count result.err) }
 {

@@ -3,7 +3,7 @@
 ghost use Rattle.std.specs.Prelude.{◌≡◌, ◌≤◌, IfOk, codes, string_bytes};
 ghost use Rattle.eql_outside.specs.Written.{WroteFront};
 ghost use Rattle.eql_words.specs.Usage.{usage_text};
-ghost use Rattle.eql_runs.specs.CutRefusals.{cut_text, differing};
+ghost use Rattle.eql_runs.specs.CutRefusals.{cut_text, differing, held_text};
 ghost use Rattle.eql_runs.specs.Runs.{limit_text};
 ghost use Rattle.eql_find.specs.Errors.{IsReport, cut_refusal_of, limit_of, run_status_of};
 ghost use Rattle.eql_cli.specs.Telling.{TellsRun};
@@ -12,7 +12,7 @@ use eql_cut::Differs;
 use eql_find::{CutStop, FindError};
 use eql_inputs::{tell_error, tell_text};
 use eql_lane::ShardLimit;
-use eql_outside::Sink;
+use eql_outside::{Area, DiskHeld, Sink};
 use eql_values::Memory;
 use eql_words::usage;
 use std::alloc::Global;
@@ -104,6 +104,27 @@ fn tell_cut<E: Sink>(alloc: Global, why: &CutStop, err: &mut E)
     }
 }
 
+/// The line of an area whose file serves for something else. It is that of another program's.
+fn shared_line(area: Area) -> &'static str
+    ensures { result.now ≡ held_text (DiskHeld.Shared area) }
+{
+    match area {
+        Area::A => "checkpoint: Foreign area 0\n",
+        Area::B => "checkpoint: Foreign area 1\n",
+    }
+}
+
+/// Tells why the disk of a checkpoint is held.
+fn tell_held<E: Sink>(alloc: Global, why: DiskHeld, err: &mut E)
+    ensures told { WroteFront (held_text why) (E.written err.old) (E.written err.new) }
+    ensures counts { E.fault_count err.old ≤ E.fault_count err.new }
+{
+    match why {
+        DiskHeld::Busy => tell_text(alloc, b"checkpoint: Busy\n", err),
+        DiskHeld::Shared(area) => tell_text(alloc, shared_line(area).as_bytes(), err),
+    }
+}
+
 /// Tells why a run stopped. Where its report was refused nothing more is told.
 fn tell_run<'a, E: Sink>(alloc: Global, error: &FindError<'a>, err: &mut E)
     ensures told { TellsRun error.now (E.written err.old) (E.written err.new) }
@@ -113,6 +134,7 @@ fn tell_run<'a, E: Sink>(alloc: Global, error: &FindError<'a>, err: &mut E)
     match error {
         FindError::Files(error) => tell_error(alloc, error, err),
         FindError::Cut(why) => tell_cut(alloc, why, err),
+        FindError::Held(why) => tell_held(alloc, *why, err),
         FindError::Disk => tell_text(alloc, b"checkpoint disk fault\n", err),
         FindError::Write => tell_text(alloc, b"write fault\n", err),
         FindError::Limit(limit) => tell_limit(alloc, *limit, err),

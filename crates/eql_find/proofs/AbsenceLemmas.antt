@@ -1,6 +1,7 @@
 -- A run that came to its shards tells no file as not there, and one that searched them refuses nothing.
 use Rattle.std.proofs.Common.{◌≡◌, ℕ, List, Ok, Err}
 use Rattle.std.specs.Prelude.{IfErr, Result}
+use Rattle.eql_outside.specs.declared.refused.DiskHeld.{DiskHeld}
 use Rattle.eql_lane.specs.declared.make.LaneRefused.{LaneRefused}
 use Rattle.eql_inputs.specs.declared.error.InputError.TheVariants as error
 use Rattle.eql_inputs.specs.declared.error.Refused.{Refused}
@@ -27,6 +28,7 @@ absence_as Cause none (Err (run.Files (error.Refused r))) before now stops same 
 absence_as Cause none (Err (run.Files (error.Read name))) before now stops same = same
 absence_as Cause none (Err (run.Files error.Memory)) before now stops same = same
 absence_as Cause none (Err (run.Cut why)) before now stops same = same
+absence_as Cause none (Err (run.Held why)) before now stops same = same
 absence_as Cause none (Err run.Disk) before now stops same = same
 absence_as Cause none (Err run.Write) before now stops same = same
 absence_as Cause none (Err (run.Limit l)) before now stops same = same
@@ -34,14 +36,15 @@ absence_as Cause none (Err run.Generation) before now stops same = same
 absence_as Cause none (Err (run.Report r)) before now stops same = same
 
 pub none_refused : (Cause : FindError → Type 0) (P : Type 0) → ((r : Refused) → ¬ (Cause (run.Files (error.Refused r)))) → ((why : CutStop) → ¬ (Cause (run.Cut why)))
-    → (r : Result (Unit {0}) FindError) → IfErr r Cause → IfErr r (λ h. IsRefusal h → P)
-none_refused Cause P files cut (Ok done) stops = tt
-none_refused Cause P files cut (Err (run.Files (error.Refused r))) stops = absurd (files r stops)
-none_refused Cause P files cut (Err (run.Files (error.Read name))) stops = λ refusal. absurd refusal
-none_refused Cause P files cut (Err (run.Files error.Memory)) stops = λ refusal. absurd refusal
-none_refused Cause P files cut (Err (run.Cut why)) stops = absurd (cut why stops)
-none_refused Cause P files cut (Err run.Disk) stops = λ refusal. absurd refusal
-none_refused Cause P files cut (Err run.Write) stops = λ refusal. absurd refusal
-none_refused Cause P files cut (Err (run.Limit l)) stops = λ refusal. absurd refusal
-none_refused Cause P files cut (Err run.Generation) stops = λ refusal. absurd refusal
-none_refused Cause P files cut (Err (run.Report r)) stops = λ refusal. absurd refusal
+    → ((why : DiskHeld) → ¬ (Cause (run.Held why))) → (r : Result (Unit {0}) FindError) → IfErr r Cause → IfErr r (λ h. IsRefusal h → P)
+none_refused Cause P files cut held (Ok done) stops = tt
+none_refused Cause P files cut held (Err (run.Files (error.Refused r))) stops = absurd (files r stops)
+none_refused Cause P files cut held (Err (run.Files (error.Read name))) stops = λ refusal. absurd refusal
+none_refused Cause P files cut held (Err (run.Files error.Memory)) stops = λ refusal. absurd refusal
+none_refused Cause P files cut held (Err (run.Cut why)) stops = absurd (cut why stops)
+none_refused Cause P files cut held (Err (run.Held why)) stops = absurd (held why stops)
+none_refused Cause P files cut held (Err run.Disk) stops = λ refusal. absurd refusal
+none_refused Cause P files cut held (Err run.Write) stops = λ refusal. absurd refusal
+none_refused Cause P files cut held (Err (run.Limit l)) stops = λ refusal. absurd refusal
+none_refused Cause P files cut held (Err run.Generation) stops = λ refusal. absurd refusal
+none_refused Cause P files cut held (Err (run.Report r)) stops = λ refusal. absurd refusal

@@ -24,7 +24,7 @@ use Rattle.eql_conductor.specs.declared.stop.Stop.{Stop}
 use Rattle.eql_conductor.specs.declared.stop.Stop.TheVariants as stop
 use Rattle.eql_conductor.specs.LaneRounds.{text_at}
 use Rattle.eql_resume.specs.Beginnings.{Rest}
-use Rattle.eql_runs.specs.Runs.{GoesBeyond, WroteCounted, many_bytes, many_lines}
+use Rattle.eql_runs.specs.Runs.{GoesBeyond, KeptCounted, WroteCounted, many_bytes, many_lines}
 use Rattle.eql_runs.specs.Searches.{Search, matches_of, plan_of, reads_of, report_lines, report_of, rest_of, shard_counts_from, slack_of}
 use Rattle.eql_runs.specs.Starts.{IsCutOf}
 use Rattle.eql_search.specs.Answers.{AreSteadyBut, BecameAt, CountWhole, HasSearchCause, IsNoFault, IsRead, RanOutOfBytes, RanOutOfLines, WereRead}
@@ -129,22 +129,23 @@ module _ {S L : Type 0} (find : Find) (p : PlannedQuery) (told : Option (List (L
       counts_are = counted;
     }
 
-  -- the cuts that it put are cuts of the search, and what they count was written
-  pub cuts_are : FindIsBounded find → (out out' : Option (List ℕ)) (cuts : List Cut)
-      → IfSome told (λ ts. StartsSo find p ts mids placed → AreSearched (search_in find p) ts placed.book.listed out out' cuts)
-      → AreCutsOf (search_in find p) told rest.book.listed out out' (StartsOver told find p lanes rest) cuts
-  cuts_are bounds out out' cuts = of_started (λ ts. AreSearched (search_in find p) ts placed.book.listed out out' cuts)
+  -- the cuts that it put are cuts of the search, and what they count was written and kept
+  pub cuts_are : FindIsBounded find → (out out' kept kept' : Option (List ℕ)) (cuts : List Cut)
+      → IfSome told (λ ts. StartsSo find p ts mids placed → AreSearched (search_in find p) ts placed.book.listed out out' kept kept' cuts)
+      → AreCutsOf (search_in find p) told rest.book.listed out out' kept kept' (StartsOver told find p lanes rest) cuts
+  cuts_are bounds out out' kept kept' cuts = of_started (λ ts. AreSearched (search_in find p) ts placed.book.listed out out' kept kept' cuts)
       (λ ts. length (matches_of (search_in find p) ts) < 2 ^ 64 → (slack : ℕ) → find.slack ≡ Some slack
-      → All (λ (cut : Cut). IsCutOf (search_in find p) slack ts cut) cuts × All (WroteCounted (search_in find p) ts rest.book.listed out out') cuts)
-      (λ ts are. are_cuts_of find p bounds ts rest.book.listed out out' cuts
-      (subst (λ (n : ℕ). AreSearched (search_in find p) ts n out out' cuts) listed_is are))
+      → All (λ (cut : Cut). IsCutOf (search_in find p) slack ts cut) cuts × All (WroteCounted (search_in find p) ts rest.book.listed out out') cuts
+      × All (KeptCounted (search_in find p) ts rest.book.listed out kept kept') cuts)
+      (λ ts are. are_cuts_of find p bounds ts rest.book.listed out out' kept kept' cuts
+      (subst (λ (n : ℕ). AreSearched (search_in find p) ts n out out' kept kept' cuts) listed_is are))
 
 -- no cuts are such
-pub no_cuts : (search : Search) (told : Option (List (List ℕ))) (listed : ℕ) (out out' : Option (List ℕ)) (StartsOver : List (List ℕ) → Type 0)
-    → AreCutsOf search told listed out out' StartsOver []
-no_cuts search None listed out out' StartsOver = tt
-no_cuts search (Some ts) listed out out' StartsOver =
-    λ started less slack is. (All-nil (IsCutOf search slack ts), All-nil (WroteCounted search ts listed out out'))
+pub no_cuts : (search : Search) (told : Option (List (List ℕ))) (listed : ℕ) (out out' kept kept' : Option (List ℕ)) (StartsOver : List (List ℕ) → Type 0)
+    → AreCutsOf search told listed out out' kept kept' StartsOver []
+no_cuts search None listed out out' kept kept' StartsOver = tt
+no_cuts search (Some ts) listed out out' kept kept' StartsOver =
+    λ started less slack is. (All-nil (IsCutOf search slack ts), All-nil (WroteCounted search ts listed out out'), All-nil (KeptCounted search ts listed out kept kept'))
 
 -- ---- errors
 -- the text of a lane, by its shard

@@ -171,6 +171,7 @@ module _ {S L : Type 0} (find : Find) (p : PlannedQuery) (told : Option (List (L
   run_cause (run.Files (error.Read name)) err err' stops failed ends = read_cause find files p lefts failed.shard name.now is whole failed.named
   run_cause (run.Files error.Memory) err err' stops failed ends = tt
   run_cause (run.Cut why) err err' stops failed ends = absurd stops
+  run_cause (run.Held why) err err' stops failed ends = absurd stops
   run_cause run.Disk err err' stops failed ends = (stops, searched_by)
   run_cause run.Write err err' stops failed ends = of_each _ (λ fs on holds run. run.accepted)
   run_cause (run.Limit l) err err' stops failed ends = (

@@ -22,10 +22,11 @@ recovered_puts law last cuts before mid now first puts = law.joined last [] cuts
 no_last : LastCut
 no_last = record { area = A; generation = 0 }
 
-put_none : (find : Find) (files : Option Files) (out out' : Option (List ℕ)) (h k : History) → PutsAll no_last [] h k → KeepsCuts find files out out' h k
-put_none find None out out' h k puts =
+put_none : (find : Find) (files : Option Files) (out out' kept kept' : Option (List ℕ)) (h k : History) → PutsAll no_last [] h k
+    → KeepsCuts find files out out' kept kept' h k
+put_none find None out out' kept kept' h k puts =
     record { last = no_last; cuts = []; puts = puts; goes_on = λ on holds some. absurd (some refl); are_of = tt }
-put_none find (Some fs) out out' h k puts = record {
+put_none find (Some fs) out out' kept kept' h k puts = record {
   last = no_last;
   cuts = [];
   puts = puts;
@@ -33,13 +34,13 @@ put_none find (Some fs) out out' h k puts = record {
   are_of = λ on search texts holds searches trusted few i d less. absurd (omega (arith, less));
 }
 
-told_none : (find : Find) (files : Option Files) (out out' : Option (List ℕ)) (before now : Option History) → DiskTells (PutsAll no_last []) before now
-    → DiskTells (KeepsCuts find files out out') before now
-told_none find files out out' None None puts = tt
-told_none find files out out' None (Some k) puts = puts
-told_none find files out out' (Some h) None puts = puts
-told_none find files out out' (Some h) (Some k) puts = put_none find files out out' h k puts
+told_none : (find : Find) (files : Option Files) (out out' kept kept' : Option (List ℕ)) (before now : Option History)
+    → DiskTells (PutsAll no_last []) before now → DiskTells (KeepsCuts find files out out' kept kept') before now
+told_none find files out out' kept kept' None None puts = tt
+told_none find files out out' kept kept' None (Some k) puts = puts
+told_none find files out out' kept kept' (Some h) None puts = puts
+told_none find files out out' kept kept' (Some h) (Some k) puts = put_none find files out out' kept kept' h k puts
 
-pub recovered_keeps : PutsGoOn → (find : Find) (files : Option Files) (out out' : Option (List ℕ)) (before now : Option History)
-    → DiskTells (Goes LeavesNoMore) before now → DiskTells (KeepsCuts find files out out') before now
-recovered_keeps law find files out out' before now going = told_none find files out out' before now (law.recovery no_last before now going)
+pub recovered_keeps : PutsGoOn → (find : Find) (files : Option Files) (out out' kept kept' : Option (List ℕ)) (before now : Option History)
+    → DiskTells (Goes LeavesNoMore) before now → DiskTells (KeepsCuts find files out out' kept kept') before now
+recovered_keeps law find files out out' kept kept' before now going = told_none find files out out' kept kept' before now (law.recovery no_last before now going)

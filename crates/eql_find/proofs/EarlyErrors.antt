@@ -16,15 +16,15 @@ none_is_some find (Some fs) disk None = λ on holds trusted. tt
 none_is_some find (Some fs) disk (Some w) = λ on holds trusted. inl refl
 
 -- a disk on which nothing is done keeps what it holds
-still : (find : Find) (files : Option Files) (out out' : Option (List ℕ)) (h : History) → KeepsCuts find files out out' h h
-still find None out out' h = record {
+still : (find : Find) (files : Option Files) (out out' kept kept' : Option (List ℕ)) (h : History) → KeepsCuts find files out out' kept kept' h h
+still find None out out' kept kept' h = record {
   last = record { area = A; generation = 0 };
   cuts = [];
   puts = (0, refl);
   goes_on = λ on holds some. absurd (some refl);
   are_of = tt;
 }
-still find (Some fs) out out' h = record {
+still find (Some fs) out out' kept kept' h = record {
   last = record { area = A; generation = 0 };
   cuts = [];
   puts = (0, refl);
@@ -32,14 +32,16 @@ still find (Some fs) out out' h = record {
   are_of = λ on search texts holds searches trusted few k d less. absurd (omega (arith, less));
 }
 
-still_keeps : (find : Find) (files : Option Files) (out out' : Option (List ℕ)) (h : Option History) → DiskTells (KeepsCuts find files out out') h h
-still_keeps find files out out' None = tt
-still_keeps find files out out' (Some h) = still find files out out' h
+still_keeps : (find : Find) (files : Option Files) (out out' kept kept' : Option (List ℕ)) (h : Option History)
+    → DiskTells (KeepsCuts find files out out' kept kept') h h
+still_keeps find files out out' kept kept' None = tt
+still_keeps find files out out' kept kept' (Some h) = still find files out out' kept kept' h
 
-pub same_keeps : (find : Find) (files : Option Files) (out out' : Option (List ℕ)) (before now : Option History) → now ≡ before
-    → DiskTells (KeepsCuts find files out out') before now
-same_keeps find files out out' before now same =
-    subst (λ (d : Option History). DiskTells (KeepsCuts find files out out') before d) (sym same) (still_keeps find files out out' before)
+pub same_keeps : (find : Find) (files : Option Files) (out out' kept kept' : Option (List ℕ)) (before now : Option History) → now ≡ before
+    → DiskTells (KeepsCuts find files out out' kept kept') before now
+same_keeps find files out out' kept kept' before now same =
+    subst (λ (d : Option History). DiskTells (KeepsCuts find files out out' kept kept') before d) (sym same)
+    (still_keeps find files out out' kept kept' before)
 
 -- and stands for no more than before
 still_no_more : (h : Option History) → DiskTells (Goes LeavesNoMore) h h

@@ -87,6 +87,7 @@ module _ {D : Type 0} (history : D → Option History) (count : D → ℕ) where
   disk_told start keep kept (Err (run.Files (error.Read name))) before now fresh gave told = tt
   disk_told start keep kept (Err (run.Files error.Memory)) before now fresh gave told = back_same kept before now gave (told ∙ fresh_count start keep fresh)
   disk_told start keep kept (Err (run.Cut why)) before now fresh gave told = back_same kept before now gave (told ∙ fresh_count start keep fresh)
+  disk_told start keep kept (Err (run.Held why)) before now fresh gave told = back_same kept before now gave (told ∙ fresh_count start keep fresh)
   disk_told start keep kept (Err run.Disk) before now fresh gave told =
       back_rose kept before now (disk_faults history count keep) gave (fresh_count start keep fresh) told
   disk_told start keep kept (Err run.Write) before now fresh gave told = back_same kept before now gave (told ∙ fresh_count start keep fresh)
@@ -110,6 +111,7 @@ then_faults before mid now (Err (run.Files (error.Read name))) same h = record {
 }
 then_faults before mid now (Err (run.Files error.Memory)) same h = λ name. same name ∙ h name
 then_faults before mid now (Err (run.Cut why)) same h = λ name. same name ∙ h name
+then_faults before mid now (Err (run.Held why)) same h = λ name. same name ∙ h name
 then_faults before mid now (Err run.Disk) same h = λ name. same name ∙ h name
 then_faults before mid now (Err run.Write) same h = λ name. same name ∙ h name
 then_faults before mid now (Err (run.Limit l)) same h = λ name. same name ∙ h name

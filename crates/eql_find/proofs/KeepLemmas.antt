@@ -29,7 +29,7 @@ use Rattle.eql_conductor.specs.declared.stop.Stop.{Stop}
 use Rattle.eql_conductor.specs.declared.stop.Stop.TheVariants as stop
 use Rattle.eql_conductor.specs.Runs.{disk_faults}
 use Rattle.eql_conductor.specs.Saving.{PutsCuts}
-use Rattle.eql_runs.specs.Runs.{WroteCounted}
+use Rattle.eql_runs.specs.Runs.{KeptCounted, WroteCounted}
 use Rattle.eql_runs.specs.Searches.{Search, matches_of, nanos_in, pipes_of, reads_of}
 use Rattle.eql_runs.specs.Starts.{IsCutOf}
 use Rattle.eql_search.specs.Answers.{IsRead}
@@ -151,15 +151,17 @@ is_cut_of search slack ts cut h =
       kept_is = h.is_cut.kept_is;
     }
 
-pub are_cuts_of : (find : Find) (p : PlannedQuery) → FindIsBounded find → (ts : List (List ℕ)) (listed : ℕ) (out out' : Option (List ℕ)) (cuts : List Cut)
-    → AreSearched (search_in find p) ts listed out out' cuts → length (matches_of (search_in find p) ts) < 2 ^ 64
+pub are_cuts_of : (find : Find) (p : PlannedQuery) → FindIsBounded find → (ts : List (List ℕ)) (listed : ℕ) (out out' kept kept' : Option (List ℕ)) (cuts : List Cut)
+    → AreSearched (search_in find p) ts listed out out' kept kept' cuts → length (matches_of (search_in find p) ts) < 2 ^ 64
     → (slack : ℕ) → find.slack ≡ Some slack
     → All (λ (cut : Cut). IsCutOf (search_in find p) slack ts cut) cuts × All (WroteCounted (search_in find p) ts listed out out') cuts
-are_cuts_of find p bounds ts listed out out' cuts are less slack is =
+    × All (KeptCounted (search_in find p) ts listed out kept kept') cuts
+are_cuts_of find p bounds ts listed out out' kept kept' cuts are less slack is =
     let most : slack ≤ 3153600000000 = subst (λ (o : Option ℕ). IfSome o (λ (time : ℕ). time ≤ 3153600000000)) is bounds.slack in
     let both = are less in (
       All-weaker (IsSearchCut (rules_in (search_in find p)) (pipes_of (search_in find p)) ts (nanos_in slack)) (IsCutOf (search_in find p) slack ts)
           (is_cut_of (search_in find p) slack ts) cuts
           (both.0 (nanos_in slack) (ap (option_map nanos_in) is) (omega (arith, ints)) (omega (arith, ints))),
       both.1,
+      both.2,
     )

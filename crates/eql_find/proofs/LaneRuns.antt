@@ -80,7 +80,8 @@ module _ {K : Type 0} (output : sinks.Ghosts K) where
     pub read : OnOk answer (IfSome known_texts (λ texts. StartsRest find p lanes rest texts
         → WereRead (line_of (planned_query p.plan)) (nanos_of find.slack) texts lanes'))
     pub keeps : KeepsOn disk.history head rest.mark (λ (cuts : List Cut). IfSome known_texts (λ texts. StartsRest find p lanes rest texts
-        → AreSearched (search_in find p) texts rest.book.listed (output.written out) (output.written out') cuts)) keep keep' answer
+        → AreSearched (search_in find p) texts rest.book.listed (output.written out) (output.written out') (output.kept out) (output.kept out') cuts))
+        keep keep' answer
     pub stay : AllZip (StaysLane source.left source.lent_as read_of) lanes lanes'
 
 -- ---- with what it begins
@@ -167,7 +168,7 @@ module _ {S L K D : Type 0} (source : sources.Ghosts S) (reader : readers.Ghosts
       (ends : LanesEnd source reader known (beginning_of reader rules lanes holders run) lanes news r) where
     abbrev Are : List Cut → Type 0
     Are cuts = IfSome known (λ texts. StartsRest find p lanes rest texts
-        → AreSearched (search_in find p) texts rest.book.listed (output.written sink) (output.written sink') cuts)
+        → AreSearched (search_in find p) texts rest.book.listed (output.written sink) (output.written sink') (output.kept sink) (output.kept sink') cuts)
 
     pub searches : SearchesLanes output source reader.read_of disk known find p lanes news rest head sink sink' run.keep run'.keep r
     searches = record {
@@ -184,7 +185,7 @@ module _ {S L K D : Type 0} (source : sources.Ghosts S) (reader : readers.Ghosts
           subst (λ (x : RunPlan). KeepsOn disk.history x.head x.mark Are run.keep run'.keep r) planned
           (keeps_weaker disk.history run.plan.head run.plan.mark _ Are
           (searching.are_searched source.left few find p known lanes by rest run.plan.mark holders run.book may.checked may.texts_are count by_is
-          asked.begins.mark_is asked.begins.holders_are asked.begins.book_is (output.written sink) (output.written sink'))
+          asked.begins.mark_is asked.begins.holders_are asked.begins.book_is (output.written sink) (output.written sink') (output.kept sink) (output.kept sink'))
           run.keep run'.keep r keeps);
       stay = ends.stay;
     }

@@ -28,6 +28,7 @@ pub mod EndingLemmas
 pub mod PuttingLemmas
 pub mod OverLemmas
 pub mod GivingLemmas
+pub mod HeldLemmas
 pub mod OutcomeLemmas
 pub mod Sends
 pub mod LaneRuns

@@ -1,15 +1,15 @@
 -- Calls before a run, which leave its shelf as it was in its counts or on its disk.
 use native.Mathlib.Omega.{arith}
-use Rattle.std.proofs.Common.{◌≡◌, ◌≤◌, ℕ, ap, subst, ◌∙◌}
+use Rattle.std.proofs.Common.{◌≡◌, ◌≤◌, ℕ, None, ap, subst}
 use Rattle.std.specs.Prelude.{Result}
 use Rattle.eql_outside.specs.Faults.{FaultsAreSame}
 use Rattle.eql_outside.specs.declared.shelf.Shelf as shelves
 use Rattle.eql_outside.specs.declared.sink.Sink as sinks
 use Rattle.eql_runs.specs.Outcomes.{DiskIsSame}
-use Rattle.eql_inputs.specs.Shelves.{KeepsShelf}
 use Rattle.eql_find.specs.declared.error.FindError.{FindError}
-use Rattle.eql_find.specs.Errors.{AbsencesFollow, DiskFollows}
+use Rattle.eql_find.specs.Errors.{AbsencesFollow, DiskFollows, HeldIsTold, reason_told}
 use Rattle.eql_find.specs.Outcomes.{FaultsAreTold}
+use Rattle.eql_find.proofs.HeldLemmas.{held_then}
 use Rattle.eql_find.proofs.ShardLemmas.{count_then, faults_then}
 
 -- a count that stays doesn't fall
@@ -31,21 +31,8 @@ module _ {H Src Dsk : Type 0} (shelf : shelves.Ghosts H Src Dsk) where
     out_is = ap shelf.is_out same;
     faults_are = ap shelf.disk_fault_count same;
     plan_is = ap shelf.disk_plan same;
-  }
-
-  -- and that of a shelf that keeps its disk
-  pub kept_disk : (old new : H)
-      → KeepsShelf shelf.files shelf.source_plans shelf.disk_history shelf.is_out shelf.disk_fault_count shelf.disk_plan old new
-      → DiskIsSame shelf old new
-  kept_disk old new kept =
-      record { history_is = kept.history_is; out_is = kept.out_is; faults_are = kept.faults_are; plan_is = kept.plan_is }
-
-  pub disk_then : (old mid new : H) → DiskIsSame shelf old mid → DiskIsSame shelf mid new → DiskIsSame shelf old new
-  disk_then old mid new first second = record {
-    history_is = second.history_is ∙ first.history_is;
-    out_is = second.out_is ∙ first.out_is;
-    faults_are = second.faults_are ∙ first.faults_are;
-    plan_is = second.plan_is ∙ first.plan_is;
+    held_are = λ why. ap (λ (s : H). shelf.held_count s why) same;
+    free_is = ap shelf.is_free same;
   }
 
   -- a call that changes no count, before a run
@@ -53,13 +40,15 @@ module _ {H Src Dsk : Type 0} (shelf : shelves.Ghosts H Src Dsk) where
     pub told_then : (old mid new : H) (out out' : K) (err err' : E) (r : Result (Unit {0}) FindError)
         → FaultsAreSame (shelf.faults_of old) (shelf.faults_of mid) → shelf.fault_count mid ≡ shelf.fault_count old
         → shelf.absent_count mid ≡ shelf.absent_count old → shelf.disk_fault_count mid ≡ shelf.disk_fault_count old
+        → HeldIsTold shelf old mid None
         → FaultsAreTold output errors shelf mid new (shelf.disk_fault_count mid) (shelf.disk_fault_count new) out out' err err' r
         → FaultsAreTold output errors shelf old new (shelf.disk_fault_count old) (shelf.disk_fault_count new) out out' err err' r
-    told_then old mid new out out' err err' r names reads absences disks told = record {
+    told_then old mid new out out' err err' r names reads absences disks held told = record {
       faults = faults_then (shelf.faults_of old) (shelf.faults_of mid) (shelf.faults_of new) names r told.faults;
       count = count_then (shelf.fault_count old) (shelf.fault_count mid) (shelf.fault_count new) reads r told.count;
       absences = subst (λ (n : ℕ). AbsencesFollow r n (shelf.absent_count new)) absences told.absences;
       disk = subst (λ (n : ℕ). DiskFollows r n (shelf.disk_fault_count new)) disks told.disk;
+      held = held_then shelf (reason_told r) old mid new held told.held;
       out = told.out;
       err = told.err;
       reads_rise = rises_then (shelf.fault_count old) (shelf.fault_count mid) (shelf.fault_count new) reads told.reads_rise;

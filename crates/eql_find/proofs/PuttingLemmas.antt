@@ -21,7 +21,7 @@ use Rattle.eql_conductor.specs.declared.plan.Keep.{Keep}
 use Rattle.eql_conductor.specs.Saving.{PutsCuts}
 use Rattle.eql_runs.specs.Files.{Files}
 use Rattle.eql_runs.specs.RunLaws.{DiskHoldsOne, SearchIsOne}
-use Rattle.eql_runs.specs.Runs.{IsPut, KeepsCuts, Searches, Trusts, WroteCounted}
+use Rattle.eql_runs.specs.Runs.{IsPut, KeepsCuts, KeptCounted, Searches, Trusts, WroteCounted}
 use Rattle.eql_runs.specs.Searches.{Search, matches_of}
 use Rattle.eql_runs.specs.Starts.{DiskHolds, IsCutOf, IsHeadOf, IsTrusted, OnDisk, generation_on, listed_on, mark_on}
 use Rattle.eql_resume.specs.Beginnings.{Rest, rest_by}
@@ -54,37 +54,44 @@ mark_is p u format generation (Some cut) rest is = ap Rest.mark is
 
 -- what the cuts of a run are, of the search that is made
 module _ (find : Find) (p : PlannedQuery) (bounds : FindIsBounded find) (asked : find.checkpoint ≢ None) (head : CutHead) (own : head ≡ head_in find p)
-    (texts : List (List ℕ)) (many : length texts ≡ length find.shards) (from : Mark) (listed : ℕ) (out out' : Option (List ℕ)) where
+    (texts : List (List ℕ)) (many : length texts ≡ length find.shards) (from : Mark) (listed : ℕ) (out out' safe safe' : Option (List ℕ)) where
   abbrev IsOwnCut : Cut → Type 0
   IsOwnCut cut = IsCutOf (search_in find p) (slack_told find.slack) texts cut
 
   abbrev Wrote : Cut → Type 0
   Wrote cut = WroteCounted (search_in find p) texts listed out out' cut
 
-  one_put : (cut : Cut) → IsLaterCut head from cut → IsOwnCut cut → Wrote cut → IsPut (search_in find p) texts listed out out' cut
-  one_put cut later is wrote =
+  abbrev Kept : Cut → Type 0
+  Kept cut = KeptCounted (search_in find p) texts listed out safe safe' cut
+
+  one_put : (cut : Cut) → IsLaterCut head from cut → IsOwnCut cut → Wrote cut → Kept cut
+      → IsPut (search_in find p) texts listed out out' safe safe' cut
+  one_put cut later is wrote keeps =
       let same : cut.head ≡ head_in find p = later.head_is ∙ own in
       record {
         head = subst (λ (h : CutHead). IsHeadOf (search_in find p) (length texts) h) (sym same) (head_is find p (length texts) bounds asked many);
         is_cut = subst (λ (slack : ℕ). IsCutOf (search_in find p) slack texts cut) (sym (ap CutHead.slack same)) is;
         wrote = wrote;
+        keeps = keeps;
       }
 
-  all_put : (cuts : List Cut) → All (IsLaterCut head from) cuts → All (λ (cut : Cut). IsOwnCut cut) cuts → All Wrote cuts
-      → All (IsPut (search_in find p) texts listed out out') cuts
-  all_put [] later are wrote = All-nil (IsPut (search_in find p) texts listed out out')
-  all_put (cut ∷ cuts) later are wrote =
-      All-cons (IsPut (search_in find p) texts listed out out') cut cuts
-      (one_put cut (All-head (IsLaterCut head from) cut cuts later) (All-head (λ (cut : Cut). IsOwnCut cut) cut cuts are) (All-head Wrote cut cuts wrote))
-      (all_put cuts (All-tail (IsLaterCut head from) cut cuts later) (All-tail (λ (cut : Cut). IsOwnCut cut) cut cuts are) (All-tail Wrote cut cuts wrote))
+  all_put : (cuts : List Cut) → All (IsLaterCut head from) cuts → All (λ (cut : Cut). IsOwnCut cut) cuts → All Wrote cuts → All Kept cuts
+      → All (IsPut (search_in find p) texts listed out out' safe safe') cuts
+  all_put [] later are wrote keeps = All-nil (IsPut (search_in find p) texts listed out out' safe safe')
+  all_put (cut ∷ cuts) later are wrote keeps =
+      All-cons (IsPut (search_in find p) texts listed out out' safe safe') cut cuts
+      (one_put cut (All-head (IsLaterCut head from) cut cuts later) (All-head (λ (cut : Cut). IsOwnCut cut) cut cuts are) (All-head Wrote cut cuts wrote)
+      (All-head Kept cut cuts keeps))
+      (all_put cuts (All-tail (IsLaterCut head from) cut cuts later) (All-tail (λ (cut : Cut). IsOwnCut cut) cut cuts are) (All-tail Wrote cut cuts wrote)
+      (All-tail Kept cut cuts keeps))
 
 module _ {S L : Type 0} (go_on : PutsGoOn) (images : ImagesAreThere) (one : DiskHoldsOne) (search_one : SearchIsOne) (find : Find) (p : PlannedQuery)
     (bounds : FindIsBounded find) (disk : Option History) (files : Option Files) (told : Option (List (List ℕ))) (lanes : List (LaneView S L)) (rest : Rest)
     (begun : Begun) (found_so : IsFound find disk begun) (rest_is : rest ≡ rest_by (pipes_of p) (begun.format == 1) begun.cut)
-    (runs : Runs find p told lanes rest disk files) (head : CutHead) (own : head ≡ head_in find p) (out out' : Option (List ℕ)) where
+    (runs : Runs find p told lanes rest disk files) (head : CutHead) (own : head ≡ head_in find p) (out out' safe safe' : Option (List ℕ)) where
   -- what the search says of its cuts
   abbrev AreOwn : Option (List (List ℕ)) → List Cut → Type 0
-  AreOwn o cuts = AreCutsOf (search_in find p) o rest.book.listed out out' (StartsOver told find p lanes rest) cuts
+  AreOwn o cuts = AreCutsOf (search_in find p) o rest.book.listed out out' safe safe' (StartsOver told find p lanes rest) cuts
 
   -- a search that is trusted on the disk is trusted
   trusts_by : (fs : Files) (on : OnDisk) (search : Search) (texts : List (List ℕ)) → find.checkpoint ≢ None → Searches find fs search texts
@@ -97,7 +104,7 @@ module _ {S L : Type 0} (go_on : PutsGoOn) (images : ImagesAreThere) (one : Disk
   are_put : (cuts : List Cut) (fs : Files) (on : OnDisk) (search : Search) (texts : List (List ℕ)) → find.checkpoint ≢ None
       → TheRun find p told lanes rest fs on → All (IsLaterCut head rest.mark) cuts → AreOwn told cuts
       → Searches find fs search texts → IsTrusted search texts on → length (matches_of search texts) < 2 ^ 64
-      → All (IsPut search texts (listed_on on) out out') cuts
+      → All (IsPut search texts (listed_on on) out out' safe safe') cuts
   are_put cuts fs on search texts asked run later are searches trusted few =
       let same = search_one find fs (search_in find p) search run.texts texts run.searches searches in
       let own_few : length (matches_of (search_in find p) run.texts) < 2 ^ 64 =
@@ -106,21 +113,21 @@ module _ {S L : Type 0} (go_on : PutsGoOn) (images : ImagesAreThere) (one : Disk
       let these = subst (λ (o : Option (List (List ℕ))). AreOwn o cuts) run.told_is are in
       let all = these (run.started (trusts_by fs on search texts asked searches trusted)) own_few (slack_told find.slack) (asked_slack find bounds asked) in
       let many = texts_long find.shards fs run.texts run.searches.there in
-      let put = all_put find p bounds asked head own run.texts many rest.mark rest.book.listed out out' cuts later all.0 all.1 in
+      let put = all_put find p bounds asked head own run.texts many rest.mark rest.book.listed out out' safe safe' cuts later all.0 all.1 all.2 in
       let listed : rest.book.listed ≡ listed_on on = run.listed ∙ ap listed_on (begins_asked find.checkpoint on asked) in
-      subst (λ (n : ℕ). All (IsPut search texts n out out') cuts) listed
-      (subst (λ (s : Search). All (IsPut s texts rest.book.listed out out') cuts) same.0
-      (subst (λ (ts : List (List ℕ)). All (IsPut (search_in find p) ts rest.book.listed out out') cuts) same.1 put))
+      subst (λ (n : ℕ). All (IsPut search texts n out out' safe safe') cuts) listed
+      (subst (λ (s : Search). All (IsPut s texts rest.book.listed out out' safe safe') cuts) same.0
+      (subst (λ (ts : List (List ℕ)). All (IsPut (search_in find p) ts rest.book.listed out out' safe safe') cuts) same.1 put))
 
   are_of : (cuts : List Cut) (h : History) → disk ≡ Some h → find.checkpoint ≢ None → All (IsLaterCut head rest.mark) cuts → AreOwn told cuts
       → IfSome files (λ fs. (on : OnDisk) (search : Search) (texts : List (List ℕ)) → DiskHolds (Some h) on
       → Searches find fs search texts → IsTrusted search texts on → length (matches_of search texts) < 2 ^ 64
-      → All (IsPut search texts (listed_on on) out out') cuts)
+      → All (IsPut search texts (listed_on on) out out' safe safe') cuts)
   are_of cuts h is asked later are = by files runs
     where
       by : (o : Option Files) → Runs find p told lanes rest disk o → IfSome o (λ fs. (on : OnDisk) (search : Search) (texts : List (List ℕ)) → DiskHolds (Some h) on
           → Searches find fs search texts → IsTrusted search texts on → length (matches_of search texts) < 2 ^ 64
-          → All (IsPut search texts (listed_on on) out out') cuts)
+          → All (IsPut search texts (listed_on on) out out' safe safe') cuts)
       by None r = tt
       by (Some fs) r = λ on search texts holds searches trusted few.
           let own_holds = subst (λ (o : Option History). DiskHolds o on) (sym is) holds in
@@ -137,7 +144,7 @@ module _ {S L : Type 0} (go_on : PutsGoOn) (images : ImagesAreThere) (one : Disk
 
   by_cuts : (last : LastCut) (cuts : List Cut) (before start now : Option History) → disk ≡ start → find.checkpoint ≢ None
       → DiskTells KeepsAll start before → Stands last before → PutsCuts last cuts before now → All (IsLaterCut head rest.mark) cuts → RiseFrom rest.mark cuts
-      → AreOwn told cuts → DiskTells (KeepsCuts find files out out') start now
+      → AreOwn told cuts → DiskTells (KeepsCuts find files out out' safe safe') start now
   by_cuts last cuts None None None is asked kept stands puts later rise are = tt
   by_cuts last cuts None None (Some k) is asked kept stands puts later rise are = absurd puts
   by_cuts last cuts (Some j) None now is asked kept stands puts later rise are = absurd kept
@@ -155,7 +162,7 @@ module _ {S L : Type 0} (go_on : PutsGoOn) (images : ImagesAreThere) (one : Disk
     pub keeps_cuts : (keep kept : Option (Keep D)) → find.checkpoint ≢ None → KeepsIfAsked history find.checkpoint keep
         → IsFreshKeep history count disk keep
         → KeepsAs history head rest.mark (AreOwn told) keep kept r
-        → DiskTells (KeepsCuts find files out out') disk (disk_after history disk kept)
+        → DiskTells (KeepsCuts find files out out' safe safe') disk (disk_after history disk kept)
     keeps_cuts None None asked may fresh keeps = absurd (no_keep find.checkpoint asked may)
       where
         no_keep : (c : Option Checkpoint) → c ≢ None → KeepsIfAsked history c None → ⊥
@@ -169,16 +176,16 @@ module _ {S L : Type 0} (go_on : PutsGoOn) (images : ImagesAreThere) (one : Disk
 
 -- a run that put none
 pub none_put : {D : Type 0} (history : D → Option History) (count : D → ℕ) → PutsGoOn → (find : Find) (files : Option Files)
-    (out out' : Option (List ℕ)) (disk : Option History) (keep : Option (Keep D)) → find.checkpoint ≢ None
+    (out out' safe safe' : Option (List ℕ)) (disk : Option History) (keep : Option (Keep D)) → find.checkpoint ≢ None
     → KeepsIfAsked history find.checkpoint keep → IsFreshKeep history count disk keep
-    → DiskTells (KeepsCuts find files out out') disk (disk_after history disk keep)
-none_put history count go_on find files out out' disk None asked may fresh = absurd (no_keep find.checkpoint asked may)
+    → DiskTells (KeepsCuts find files out out' safe safe') disk (disk_after history disk keep)
+none_put history count go_on find files out out' safe safe' disk None asked may fresh = absurd (no_keep find.checkpoint asked may)
   where
     no_keep : (c : Option Checkpoint) → c ≢ None → KeepsIfAsked history c None → ⊥
     no_keep None asked h = asked refl
     no_keep (Some c) asked h = h
-none_put history count go_on find files out out' disk (Some k) asked may fresh =
-    recovered_keeps go_on find files out out' disk (history k.disk) (kept_no_more disk (history k.disk) fresh.2)
+none_put history count go_on find files out out' safe safe' disk (Some k) asked may fresh =
+    recovered_keeps go_on find files out out' safe safe' disk (history k.disk) (kept_no_more disk (history k.disk) fresh.2)
 
 -- nor changed what the disk stands for
 pub none_changed : {D : Type 0} (history : D → Option History) (count : D → ℕ) (disk : Option History) (keep : Option (Keep D))

@@ -32,7 +32,7 @@ use Rattle.eql_runs.specs.Runs as written
 use Rattle.eql_search.specs.declared.rules.Rules.{Rules as Asked}
 use Rattle.eql_search.specs.Answers.{HasSearchCause, WereRead}
 use Rattle.eql_search.specs.Beginnings.{BeginsOn, MayBegin, cuts_of, start_at}
-use Rattle.eql_search.specs.Keeping.{AreSearchCuts, WroteCounted}
+use Rattle.eql_search.specs.Keeping.{AreSearchCuts, KeptCounted, WroteCounted}
 use Rattle.eql_search.specs.Searches.{AreTextsOf, HasNumbers, Rules, reads_by, rest_of, rules_of, slack_by}
 use Rattle.eql_find.specs.declared.plan.PlannedQuery.{PlannedQuery}
 use Rattle.eql_find.specs.Running.{book_in}
@@ -82,11 +82,13 @@ pub told_at : (told : Option (List (List ℕ))) (P : List (List ℕ) → Type 0)
 told_at told P h ts e = subst (λ (o : Option (List (List ℕ))). IfSome o P) e h
 
 -- ---- what a search put
--- cuts that a search put are cuts of its texts, and what they count behind the first lines was written, where each match of the texts has a number
-abbrev pub AreSearched : Search → (texts : List (List ℕ)) → (listed : ℕ) → (out out' : Option (List ℕ)) → List Cut → Type 0
-AreSearched search texts listed out out' cuts =
+-- cuts that a search put are cuts of its texts, and what they count behind the first lines was written and kept, where each match of the texts has a
+-- number
+abbrev pub AreSearched : Search → (texts : List (List ℕ)) → (listed : ℕ) → (out out' kept kept' : Option (List ℕ)) → List Cut → Type 0
+AreSearched search texts listed out out' kept kept' cuts =
     length (matches_of search texts) < 2 ^ 64
     → AreSearchCuts (rules_in search) (pipes_of search) texts cuts × All (written.WroteCounted search texts listed out out') cuts
+    × All (written.KeptCounted search texts listed out kept kept') cuts
 
 -- ---- answers
 pub ok_both : {T E P Q R : Type 0} (r : Result T E) → (P → Q → R) → OnOk r P → OnOk r Q → OnOk r R
@@ -173,15 +175,16 @@ module _ {S L : Type 0} (left : S → Option (List ℕ)) (few : MatchesAreFew) (
       (λ ts e h begins.
       subst (λ (x : Reads). WereRead x slack ts news) same (subst (λ (x : Option ℤ). WereRead rules.reads x ts news) equal (h (starts_at ts begins)))))
 
-  -- which cuts it puts, and that what they count was written
-  module _ (before now : Option (List ℕ)) (cuts : List Cut) where
+  -- which cuts it puts, and that what they count was written and kept
+  module _ (before now kept kept' : Option (List ℕ)) (cuts : List Cut) where
     abbrev Searched : Rules → BookState → List (List ℕ) → Type 0
     Searched r b ts = AreSearchCuts r b.pipes ts cuts × All (WroteCounted r b.pipes b.places b.kept.listed ts before now) cuts
+        × All (KeptCounted r b.pipes b.places b.kept.listed ts before kept kept') cuts
 
     pub are_searched : IfSome told (λ ts. Begins ts → HasNumbers rules ts → Searched rules book ts)
-        → IfSome told (λ ts. Starts ts → AreSearched (search_in find p) ts rest.book.listed before now cuts)
+        → IfSome told (λ ts. Starts ts → AreSearched (search_in find p) ts rest.book.listed before now kept kept' cuts)
     are_searched = told_each told (λ ts. Begins ts → HasNumbers rules ts → Searched rules book ts)
-        (λ ts. Starts ts → AreSearched (search_in find p) ts rest.book.listed before now cuts)
+        (λ ts. Starts ts → AreSearched (search_in find p) ts rest.book.listed before now kept kept' cuts)
         (λ ts e h begins less.
         subst (λ (r : Rules). Searched r (book_in find p rest.book) ts) rules_is
         (subst (λ (b : BookState). Searched rules b ts) book_is (h (starts_at ts begins) (numbers_of ts less))))

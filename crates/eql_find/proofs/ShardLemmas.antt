@@ -163,6 +163,7 @@ module _ {S L : Type 0} (left lent_as : S → Option (List ℕ)) (find : Find)
       record { rose = (back.one name.now (some_failed_lane left lent_as fails.shard name.now find.shards olds news fails.named named stays fails.rose)).1; counts = back.counts.1 }
   faults_as (Err (run.Files error.Memory)) fails = (none_back fails).1
   faults_as (Err (run.Cut why)) fails = (none_back fails).1
+  faults_as (Err (run.Held why)) fails = (none_back fails).1
   faults_as (Err run.Disk) fails = (none_back fails).1
   faults_as (Err run.Write) fails = (none_back fails).1
   faults_as (Err run.Generation) fails = (none_back fails).1
@@ -176,6 +177,7 @@ module _ {S L : Type 0} (left lent_as : S → Option (List ℕ)) (find : Find)
       (back.one name.now (some_failed_lane left lent_as fails.shard name.now find.shards olds news fails.named named stays fails.rose)).0
   count_as (Err (run.Files error.Memory)) fails = (none_back fails).0
   count_as (Err (run.Cut why)) fails = (none_back fails).0
+  count_as (Err (run.Held why)) fails = (none_back fails).0
   count_as (Err run.Disk) fails = (none_back fails).0
   count_as (Err run.Write) fails = (none_back fails).0
   count_as (Err run.Generation) fails = (none_back fails).0
@@ -207,6 +209,7 @@ faults_then before mid now same (Err (run.Files (error.Read name))) h = record {
 }
 faults_then before mid now same (Err (run.Files error.Memory)) h = λ name. h name ∙ same name
 faults_then before mid now same (Err (run.Cut why)) h = λ name. h name ∙ same name
+faults_then before mid now same (Err (run.Held why)) h = λ name. h name ∙ same name
 faults_then before mid now same (Err run.Disk) h = λ name. h name ∙ same name
 faults_then before mid now same (Err run.Write) h = λ name. h name ∙ same name
 faults_then before mid now same (Err run.Generation) h = λ name. h name ∙ same name

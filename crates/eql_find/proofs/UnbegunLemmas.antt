@@ -57,6 +57,16 @@ unbegun find p disk (run.Cut why) cause = record {
   quiet = tt;
   no_report = λ h. h;
 }
+unbegun find p disk (run.Held why) cause = record {
+  faults = λ names names' same. same;
+  count = λ before now same. same;
+  absence = λ before now same. same;
+  disk = λ before mid now rose same. same ∙ rose;
+  out = λ n. refl;
+  err = λ n. refl;
+  quiet = tt;
+  no_report = λ h. h;
+}
 unbegun find p disk run.Disk cause = record {
   faults = λ names names' same. same;
   count = λ before now same. same;
@@ -93,6 +103,7 @@ module _ (spans : FitsAtAnySpan) (one : DiskHoldsOne) (find : Find) (p : Planned
   unbegun_cause files now err err' (run.Files (error.Read name)) is whole cause = absurd cause
   unbegun_cause files now err err' (run.Files error.Memory) is whole cause = tt
   unbegun_cause files now err err' (run.Cut why) is whole cause = (cause.0, refused_cut files why is whole cause)
+  unbegun_cause files now err err' (run.Held why) is whole cause = (cause, searched files is whole)
   unbegun_cause files now err err' run.Disk is whole cause = (cause, searched files is whole)
   unbegun_cause files now err err' run.Write is whole cause = absurd cause
   unbegun_cause files now err err' (run.Limit l) is whole cause = absurd cause

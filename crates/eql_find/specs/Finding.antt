@@ -70,6 +70,8 @@ abbrev pub HasFindCause : Find → Option Files → (disk now : Option History) 
 HasFindCause find files disk now err err' (run.Files h) = inputs.HasInputCause (names_in find) files h
 HasFindCause find files disk now err err' (run.Cut r) =
     (find.checkpoint ≢ None) × IfFound find files disk (λ fs on. RefusesCut find fs on (cut_refusal_of r))
+HasFindCause find files disk now err err' (run.Held why) =
+    (find.checkpoint ≢ None) × IfSome files (λ fs. (search : Search) × (texts : List (List ℕ)) × Searches find fs search texts)
 HasFindCause find files disk now err err' run.Disk =
     (find.checkpoint ≢ None) × IfSome files (λ fs. (search : Search) × (texts : List (List ℕ)) × Searches find fs search texts)
 HasFindCause find files disk now err err' run.Write = IfFound find files disk (IsFindAccepted find)

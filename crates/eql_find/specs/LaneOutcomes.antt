@@ -36,7 +36,7 @@ module _ {K E : Type 0} (output : sinks.Ghosts K) (errors : sinks.Ghosts E) wher
     pub listed : IfErr answer (λ error. IsReport error → IfSome known_texts (λ texts. StartsOver known_texts find p lanes rest texts
         → WroteAll (rest_of (search_in find p) rest.book.listed texts) (output.written out) (output.written out')))
     pub keeps : KeepsAs disk.history head rest.mark (AreCutsOf (search_in find p) known_texts rest.book.listed (output.written out) (output.written out')
-        (StartsOver known_texts find p lanes rest)) keep keep' answer
+        (output.kept out) (output.kept out') (StartsOver known_texts find p lanes rest)) keep keep' answer
     pub quiet : IfErr answer (λ error. TellsNothing error → err' ≡ err)
     pub cause : IfErr answer (LanesStop find (search_in find p) known_texts (StartsOver known_texts find p lanes rest) (IsBeyondOn lanes)
         (errors.written err) (errors.written err'))

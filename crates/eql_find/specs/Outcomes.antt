@@ -10,7 +10,7 @@ use Rattle.eql_runs.specs.Files.{Files}
 use Rattle.eql_runs.specs.Runs.{IfFound, IsFindAccepted, KeepsCuts}
 use Rattle.eql_find.specs.declared.error.FindError.{FindError}
 use Rattle.eql_find.specs.Finding.{FindsAll, FindsListing, FindsSome, HasFindCause}
-use Rattle.eql_find.specs.Errors.{AbsencesFollow, CountFollows, DiskFollows, ErrFollows, FaultsFollow, IsRefusal, IsReport, OutFollows, TellsNothing}
+use Rattle.eql_find.specs.Errors.{AbsencesFollow, CountFollows, DiskFollows, ErrFollows, FaultsFollow, HeldIsTold, IsRefusal, IsReport, OutFollows, TellsNothing, reason_told}
 
 module _ {K E : Type 0} (output : sinks.Ghosts K) (errors : sinks.Ghosts E) where
   -- what was written, why the run stopped, and what its disk came to hold, by its files and by its disk before and now
@@ -23,18 +23,20 @@ module _ {K E : Type 0} (output : sinks.Ghosts K) (errors : sinks.Ghosts E) wher
     pub untouched : IfErr answer (λ error. IsRefusal error → out' ≡ out)
     pub quiet : IfErr answer (λ error. TellsNothing error → err' ≡ err)
     pub cause : IfErr answer (HasFindCause find files disk now (errors.written err) (errors.written err'))
-    -- with a checkpoint each image at each moment stands for what was there, or for a cut of the run, whose lines were written
-    pub moments : find.checkpoint ≢ None → DiskTells (KeepsCuts find files (output.written out) (output.written out')) disk now
-    -- where the files or the cut are refused each image at each moment is one of those at the start
+    -- with a checkpoint each image at each moment stands for what was there, or for a cut of the run, whose lines were written and kept
+    pub moments : find.checkpoint ≢ None
+        → DiskTells (KeepsCuts find files (output.written out) (output.written out') (output.kept out) (output.kept out')) disk now
+    -- where the files or the disk are refused each image at each moment is one of those at the start
     pub cut_kept : IfErr answer (λ error. IsRefusal error → DiskTells (Goes LeavesNoMore) disk now)
 
-  -- the counts of faults follow what is told, and none falls. Those of the disk are counted so often before and now
+  -- the counts of faults and of what holds the disk follow what is told, and none falls. The disk's faults are counted so often before and now
   pub record FaultsAreTold {A H Src Dsk : Type 0} (shelf : shelves.Ghosts H Src Dsk) (old new : H) (disk_before disk_now : ℕ)
       (listing listing' : K) (report report' : E) (answer : Result A FindError) : Type 0 where
     pub faults : FaultsFollow answer (shelf.faults_of old) (shelf.faults_of new)
     pub count : CountFollows answer (shelf.fault_count old) (shelf.fault_count new)
     pub absences : AbsencesFollow answer (shelf.absent_count old) (shelf.absent_count new)
     pub disk : DiskFollows answer disk_before disk_now
+    pub held : HeldIsTold shelf old new (reason_told answer)
     pub out : OutFollows answer (output.fault_count listing) (output.fault_count listing')
     pub err : ErrFollows answer (errors.fault_count report) (errors.fault_count report')
     pub reads_rise : shelf.fault_count old ≤ shelf.fault_count new

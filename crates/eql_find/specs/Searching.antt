@@ -21,7 +21,7 @@ use Rattle.eql_ckdisk.specs.declared.state.CkState.{CkState}
 use Rattle.eql_ckdisk.specs.Putting.{Stands, last_cut}
 use Rattle.eql_conductor.specs.declared.plan.Keep.{Keep}
 use Rattle.eql_conductor.specs.Saving.{PutsCuts}
-use Rattle.eql_runs.specs.Runs.{ShardLimit, WroteCounted, shard_of}
+use Rattle.eql_runs.specs.Runs.{KeptCounted, ShardLimit, WroteCounted, shard_of}
 use Rattle.eql_runs.specs.Searches.{Search, matches_of, pipes_of, reads_of, report_lines, shard_counts_from, slack_of, stages_of}
 use Rattle.eql_runs.specs.Starts.{IsCutOf}
 use Rattle.eql_inputs.specs.declared.error.InputError.TheVariants as error
@@ -128,13 +128,15 @@ module _ {D : Type 0} (history : D → Option History) where
   KeepsAs head from Are (Some k) (Some l) answer =
       RunPutsCuts head from Are k.state l.state (history k.disk) (history l.disk) (answer ≡ Err run.Generation)
 
--- where a run may begin so over told texts, these are cuts of the search over them, and what they count behind the first lines was written
-abbrev pub AreCutsOf : Search → (texts : Option (List (List ℕ))) → (listed : ℕ) → (out out' : Option (List ℕ))
+-- where a run may begin so over told texts, these are cuts of the search over them, and what they count behind the first lines was written and
+-- kept
+abbrev pub AreCutsOf : Search → (texts : Option (List (List ℕ))) → (listed : ℕ) → (out out' kept kept' : Option (List ℕ))
     → (Started : List (List ℕ) → Type 0) → List Cut → Type 0
-AreCutsOf search texts listed out out' Started cuts =
+AreCutsOf search texts listed out out' kept kept' Started cuts =
     IfSome texts (λ ts. Started ts → length (matches_of search ts) < 2 ^ 64
     → (slack : ℕ) → search.slack ≡ Some slack
-    → All (λ (cut : Cut). IsCutOf search slack ts cut) cuts × All (WroteCounted search ts listed out out') cuts)
+    → All (λ (cut : Cut). IsCutOf search slack ts cut) cuts × All (WroteCounted search ts listed out out') cuts
+    × All (KeptCounted search ts listed out kept kept') cuts)
 
 -- ---- why it stops
 -- `Started` says that the run may begin so over texts, `Beyond` that a shard of them is beyond a limit
@@ -144,6 +146,7 @@ LanesStop find search texts Started Beyond err err' (run.Files (error.Refused r)
 LanesStop find search texts Started Beyond err err' (run.Files (error.Read name)) = Unit {0}
 LanesStop find search texts Started Beyond err err' (run.Files error.Memory) = Unit {0}
 LanesStop find search texts Started Beyond err err' (run.Cut why) = ⊥
+LanesStop find search texts Started Beyond err err' (run.Held why) = ⊥
 LanesStop find search texts Started Beyond err err' run.Disk = find.checkpoint ≢ None
 LanesStop find search texts Started Beyond err err' run.Write = Unit {0}
 LanesStop find search texts Started Beyond err err' (run.Limit l) =
@@ -164,6 +167,7 @@ LaneFaultsFollow find (Err (run.Files (error.Refused r))) olds news = AreSteadyB
 LaneFaultsFollow find (Err (run.Files (error.Read name))) olds news = LaneFailed find name.now olds news
 LaneFaultsFollow find (Err (run.Files error.Memory)) olds news = AreSteadyBut (λ s. ⊥) olds news
 LaneFaultsFollow find (Err (run.Cut why)) olds news = AreSteadyBut (λ s. ⊥) olds news
+LaneFaultsFollow find (Err (run.Held why)) olds news = AreSteadyBut (λ s. ⊥) olds news
 LaneFaultsFollow find (Err run.Disk) olds news = AreSteadyBut (λ s. ⊥) olds news
 LaneFaultsFollow find (Err run.Write) olds news = AreSteadyBut (λ s. ⊥) olds news
 LaneFaultsFollow find (Err (run.Limit l)) olds news = AreSteadyBut (λ s. ⊥) olds news

@@ -101,12 +101,13 @@ module _ {D : Type 0} (plan : D → Option FaultPlan) where
   plan_after before (Some k) = plan k.disk
 
 -- ---- why it isn't begun
--- the disk failed, or memory ran out
+-- the disk is held or failed, or memory ran out
 abbrev pub IsDiskOrMemory : FindError → Type 0
 IsDiskOrMemory (run.Files (error.Refused r)) = ⊥
 IsDiskOrMemory (run.Files (error.Read name)) = ⊥
 IsDiskOrMemory (run.Files error.Memory) = Unit {0}
 IsDiskOrMemory (run.Cut why) = ⊥
+IsDiskOrMemory (run.Held why) = Unit {0}
 IsDiskOrMemory run.Disk = Unit {0}
 IsDiskOrMemory run.Write = ⊥
 IsDiskOrMemory (run.Limit l) = ⊥
@@ -130,6 +131,7 @@ HasStartCause find p disk (run.Files error.Memory) = Unit {0}
 HasStartCause find p disk (run.Cut why) =
     (find.checkpoint ≢ None)
     × IfSome disk (λ h. IsRefusedBy (stages_of p) (values_of p) (pipes_of p) (head_in find p) (found_on (seen_areas h.now)) (cut_refusal_of why))
+HasStartCause find p disk (run.Held why) = find.checkpoint ≢ None
 HasStartCause find p disk run.Disk = find.checkpoint ≢ None
 HasStartCause find p disk run.Write = ⊥
 HasStartCause find p disk (run.Limit l) = ⊥
@@ -140,6 +142,7 @@ HasStartCause find p disk (run.Report r) = ⊥
 abbrev pub DiskRose : FindError → (before now : ℕ) → Type 0
 DiskRose (run.Files h) before now = now ≡ before
 DiskRose (run.Cut why) before now = now ≡ before
+DiskRose (run.Held why) before now = now ≡ before
 DiskRose run.Disk before now = Rose before now
 DiskRose run.Write before now = now ≡ before
 DiskRose (run.Limit l) before now = now ≡ before

@@ -9,7 +9,7 @@ ghost use Rattle.eql_outside.specs.Moments.{DiskTells};
 ghost use Rattle.eql_outside.specs.Outside.{Rose};
 ghost use Rattle.eql_outside.specs.Unfailing.{IsUnfailing};
 ghost use Rattle.eql_words.specs.Bounds.{FindIsBounded};
-ghost use Rattle.eql_find.specs.Errors.{IsFault};
+ghost use Rattle.eql_find.specs.Errors.{HeldIsTold, IsFault, reason_in, reason_told};
 ghost use Rattle.eql_find.specs.Searching.{head_in};
 ghost use Rattle.eql_find.specs.Starting.{BeginsOnDisk, DiskRose, HasStartCause, IsDiskOrMemory, IsErrorOfStart, KeepsFor, disk_after, plan_after};
 
@@ -19,7 +19,7 @@ use eql_conductor::Keep;
 use eql_cut::CutHead;
 use eql_inputs::InputError;
 use eql_lane::LaneStart;
-use eql_outside::{Disk, OutRefused, Shelf, unfailing_stays};
+use eql_outside::{Disk, DiskRefused, Shelf, unfailing_stays};
 use eql_resume::{Pending, StartRefused, begin, find_start};
 use eql_words::{Checkpoint, Find};
 use std::alloc::Global;
@@ -38,7 +38,8 @@ pub(crate) struct Start<D> {
 
 /// Why a run isn't begun, as a error.
 fn error_of_start<'a>(refused: StartRefused) -> FindError<'a>
-    ensures { IsErrorOfStart refused result }
+    ensures of { IsErrorOfStart refused result }
+    ensures none { reason_in result ≡ None }
 {
     match refused {
         StartRefused::Disk => FindError::Disk,
@@ -68,14 +69,16 @@ fn open_disk<'a, H: Shelf>(
         H.lent_count shelf.old shelf.new }
     ensures history { (H.disk_history shelf.new ≡ H.disk_history shelf.old)
         × (H.disk_plan shelf.new ≡ H.disk_plan shelf.old) }
+    ensures held { HeldIsTold H.Shelf shelf.old shelf.new (reason_told result) }
     ensures unfailing { IsUnfailing (H.fault_plan shelf.old)
         → IfErr result (λ error. ¬ IsFault error) }
 {
     unfailing_stays();
     match shelf.disk(alloc, checkpoint.name.name()) {
         Ok(disk) => Ok(disk),
-        Err(OutRefused::Failed) => Err(FindError::Disk),
-        Err(OutRefused::Memory) => Err(FindError::Files(InputError::Memory)),
+        Err(DiskRefused::Held(why)) => Err(FindError::Held(why)),
+        Err(DiskRefused::Failed) => Err(FindError::Disk),
+        Err(DiskRefused::Memory) => Err(FindError::Files(InputError::Memory)),
     }
 }
 
@@ -93,6 +96,7 @@ pub(crate) fn give_keep<H: Shelf>(keep: Option<Keep<H::Dsk>>, shelf: &mut H)
     ensures same { IfSome keep (λ k. H.Dsk.fault_count k.disk ≡ 0
         → H.disk_fault_count shelf.new ≡ H.disk_fault_count shelf.old) }
     ensures counts { H.disk_fault_count shelf.old ≤ H.disk_fault_count shelf.new }
+    ensures held { HeldIsTold H.Shelf shelf.old shelf.new None }
 {
     if let Some(Keep { disk, state: _ }) = keep {
         shelf.give_disk(disk);
@@ -117,6 +121,7 @@ fn start_on<'a, D: Disk>(
     ensures keeps { IfOk result (λ start.
         KeepsFor D.history D.fault_count (D.history disk) start.keep) }
     ensures cause { IfErr result (λ r. HasStartCause find.now planned.now (D.history disk) r.0) }
+    ensures not_held { IfErr result (λ r. reason_in r.0 ≡ None) }
     ensures moments { IfErr result (λ r.
         DiskTells (Goes LeavesNoMore) (D.history disk) (D.history r.1)) }
     ensures fault { IfErr result (λ r. DiskRose r.0 (D.fault_count disk) (D.fault_count r.1)) }
@@ -187,7 +192,7 @@ fn start_afresh<'a, D: Disk>(
 }
 
 /// Finds what a run begins with: what the shelf's disk holds where it has a checkpoint, and nothing else. Where that is
-/// refused the disk goes back.
+/// refused the disk goes back, and where the disk is held it doesn't come out.
 pub(crate) fn start_run<'a, H: Shelf>(
     alloc: Global,
     planned: &PlannedQuery,
@@ -210,6 +215,7 @@ pub(crate) fn start_run<'a, H: Shelf>(
         (H.disk_fault_count shelf.old) (H.disk_fault_count shelf.new)) }
     ensures steady { OnOk result (H.disk_fault_count shelf.new ≡ H.disk_fault_count shelf.old) }
     ensures counts { H.disk_fault_count shelf.old ≤ H.disk_fault_count shelf.new }
+    ensures held { HeldIsTold H.Shelf shelf.old shelf.new (reason_told result) }
     ensures out { OnErr result (H.is_out shelf.old ≡ false → H.is_out shelf.new ≡ false) }
     ensures untouched { find.now.checkpoint ≡ None → shelf.new ≡ shelf.old }
     ensures unfailing { IsUnfailing (H.fault_plan shelf.old)

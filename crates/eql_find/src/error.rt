@@ -5,7 +5,7 @@ ghost use Rattle.eql_find.specs.Errors.{run_status_of};
 use eql_cut::Differs;
 use eql_inputs::InputError;
 use eql_lane::ShardLimit;
-use eql_outside::OutRefused;
+use eql_outside::{DiskHeld, OutRefused};
 
 /// Why the cut that the disk holds is refused. Shards count from 0.
 #[derive(Drop)]
@@ -56,6 +56,8 @@ pub enum FindError<'a> {
     Files(InputError<'a>),
     /// The cut that the disk of the checkpoint holds is refused.
     Cut(CutStop),
+    /// The disk of the checkpoint is held: another run has it, or a file of it serves for something else.
+    Held(DiskHeld),
     /// The disk of the checkpoint failed.
     Disk,
     /// The output failed.
@@ -69,14 +71,14 @@ pub enum FindError<'a> {
 }
 
 impl<'a> FindError<'a> {
-    /// The status of a run that stops so: that of its files, 7 for a cut that is refused, 6 for a fault of the disk,
-    /// 5 for a write fault, 9 for a limit, and 8 for want of memory.
+    /// The status of a run that stops so: that of its files, 7 for a disk that is held and for a cut that is refused,
+    /// 6 for a fault of the disk, 5 for a write fault, 9 for a limit, and 8 for want of memory.
     pub fn status(&self) -> u8
         ensures { result ≡ run_status_of self.now }
     {
         match self {
             FindError::Files(error) => error.status(),
-            FindError::Cut(_) => 7,
+            FindError::Cut(_) | FindError::Held(_) => 7,
             FindError::Disk => 6,
             FindError::Write | FindError::Report(OutRefused::Failed) => 5,
             FindError::Limit(_) | FindError::Generation => 9,

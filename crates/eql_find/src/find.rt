@@ -148,7 +148,7 @@ fn run_shards<'a, R: Threads + Wait + Sync, H: Shelf, K: Sink, E: Sink, W: Gate 
 /// none, and puts cuts on the disk. What the shelf lent goes back to it, the disk too.
 ///
 /// On `Ok` listing and report are there whole, the listing from the line after those that the cut counts. Else `out`
-/// got a front of the listing, nothing at all where the files or the cut are refused, and `err` nothing. Where the
+/// got a front of the listing, nothing at all where the files, the disk or its cut are refused, and `err` nothing. Where the
 /// report alone was refused the listing is there whole, and `err` got a front of the report.
 pub fn find_matches<'a, R: Threads + Wait + Sync, H: Shelf, K: Sink, E: Sink, W: Gate + Sync>(
     rt: &R,
@@ -165,7 +165,7 @@ pub fn find_matches<'a, R: Threads + Wait + Sync, H: Shelf, K: Sink, E: Sink, W:
     ensures ends { FindEnds K.Sink E.Sink find.now (H.files shelf.old) (H.disk_history shelf.old)
         (H.disk_history shelf.new) out.old out.new err.old err.new result }
 
-    // No fault is passed over.
+    // No fault is passed over, nor a disk that is held.
     ensures told { FaultsAreTold K.Sink E.Sink H.Shelf shelf.old shelf.new
         (H.disk_fault_count shelf.old) (H.disk_fault_count shelf.new)
         out.old out.new err.old err.new result }

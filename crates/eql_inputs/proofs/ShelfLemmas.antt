@@ -1,35 +1,40 @@
 -- What a shelf keeps and lends from call to call, and the plans of its sources.
 use native.Mathlib.Omega.{arith}
-use Rattle.std.proofs.Common.{◌≡◌, ℕ, Bool, List, Option, Some, None, Result, Ok, Err, refl, ◌∙◌, subst}
+use Rattle.std.proofs.Common.{◌≡◌, ℕ, Option, Some, None, Result, Ok, Err, refl, ◌∙◌, subst}
 use Rattle.std.specs.Result.{IfErr}
 use Rattle.eql_outside.specs.Faults.{FaultsAreSame}
-use Rattle.eql_outside.specs.Moments.{History}
-use Rattle.eql_outside.specs.Plans.{FaultPlan}
 use Rattle.eql_outside.specs.declared.shelf.Shelf as shelves
-use Rattle.eql_runs.specs.Files.{Files}
+use Rattle.eql_runs.specs.Outcomes.{DiskIsSame}
 use Rattle.eql_inputs.specs.declared.error.InputError.{InputError}
 use Rattle.eql_inputs.specs.Shelves.{CountsAreTold, KeepsShelf, LendsAsMany, ReadsShelf}
 use Rattle.eql_inputs.proofs.ErrorLemmas.{IsOfText, absence_later, count_later, faults_later, same_later, text_absence, text_count, text_faults, text_no_fault}
 
 -- no call, and one after another
-pub keeps_still :
-    {S : Type 0} (files : S → Option Files) (plans : S → Option (List (List ℕ × List ℕ))) (history : S → Option History)
-    (out : S → Bool) (faults : S → ℕ) (plan : S → Option FaultPlan) (a : S) → KeepsShelf files plans history out faults plan a a
-keeps_still files plans history out faults plan a =
-    record { files_are = refl; plans_are = refl; history_is = refl; out_is = refl; faults_are = refl; plan_is = refl }
+module _ {H Src Dsk : Type 0} (shelf : shelves.Ghosts H Src Dsk) where
+  pub disk_still : (a : H) → DiskIsSame shelf a a
+  disk_still a =
+      record { history_is = refl; out_is = refl; faults_are = refl; plan_is = refl; held_are = λ why. refl; free_is = refl }
 
-pub keeps_later :
-    {S : Type 0} {files : S → Option Files} {plans : S → Option (List (List ℕ × List ℕ))} {history : S → Option History}
-    {out : S → Bool} {faults : S → ℕ} {plan : S → Option FaultPlan} {a b c : S} → KeepsShelf files plans history out faults plan a b
-    → KeepsShelf files plans history out faults plan b c → KeepsShelf files plans history out faults plan a c
-keeps_later first then = record {
-  files_are = then.files_are ∙ first.files_are;
-  plans_are = then.plans_are ∙ first.plans_are;
-  history_is = then.history_is ∙ first.history_is;
-  out_is = then.out_is ∙ first.out_is;
-  faults_are = then.faults_are ∙ first.faults_are;
-  plan_is = then.plan_is ∙ first.plan_is;
-}
+  pub disk_then : (a b c : H) → DiskIsSame shelf a b → DiskIsSame shelf b c → DiskIsSame shelf a c
+  disk_then a b c first then = record {
+    history_is = then.history_is ∙ first.history_is;
+    out_is = then.out_is ∙ first.out_is;
+    faults_are = then.faults_are ∙ first.faults_are;
+    plan_is = then.plan_is ∙ first.plan_is;
+    held_are = λ why. then.held_are why ∙ first.held_are why;
+    free_is = then.free_is ∙ first.free_is;
+  }
+
+module _ {H Src Dsk : Type 0} {shelf : shelves.Ghosts H Src Dsk} where
+  pub keeps_still : {a : H} → KeepsShelf shelf a a
+  keeps_still {a} = record { files_are = refl; plans_are = refl; disk_is = disk_still shelf a }
+
+  pub keeps_later : {a b c : H} → KeepsShelf shelf a b → KeepsShelf shelf b c → KeepsShelf shelf a c
+  keeps_later {a} {b} {c} first then = record {
+    files_are = then.files_are ∙ first.files_are;
+    plans_are = then.plans_are ∙ first.plans_are;
+    disk_is = disk_then shelf a b c first.disk_is then.disk_is;
+  }
 
 -- as many are lent as before, and then again
 many_later : (before mid now : Option ℕ) → LendsAsMany before mid → LendsAsMany mid now → LendsAsMany before now

@@ -1,23 +1,12 @@
 -- What a shelf tells of a call that reads its files: what was counted, what it keeps, what it lent, and when no call of it fails.
-use Rattle.std.specs.Prelude.{◌≡◌, ◌≤◌, ◌+◌, ℕ, Bool, List, Option, Some, None, IfErr, IfSome, MatchResult, Result, refl}
+use Rattle.std.specs.Prelude.{◌≡◌, ◌≤◌, ◌+◌, ℕ, List, Option, Some, None, IfErr, IfSome, MatchResult, Result, refl}
 use Rattle.eql_outside.specs.Faults.{FaultsAreSame}
-use Rattle.eql_outside.specs.Moments.{History}
 use Rattle.eql_outside.specs.Plans.{FaultPlan}
 use Rattle.eql_outside.specs.Unfailing.{IsUnfailing, AreUnfailing}
 use Rattle.eql_outside.specs.declared.shelf.Shelf as shelves
-use Rattle.eql_runs.specs.Files.{Files}
+use Rattle.eql_runs.specs.Outcomes.{DiskIsSame}
 use Rattle.eql_inputs.specs.declared.error.InputError.{InputError}
 use Rattle.eql_inputs.specs.Errors.{AbsencesFollow, CountFollows, FaultsFollow, IsNoFault}
-
--- by what a shelf tells, it is before and after a call the same in its files, the plans of their sources and its disk
-pub record KeepsShelf {S : Type 0} (files : S → Option Files) (plans : S → Option (List (List ℕ × List ℕ)))
-    (history : S → Option History) (out : S → Bool) (faults : S → ℕ) (plan : S → Option FaultPlan) (before now : S) : Type 0 where
-  pub files_are : files now ≡ files before
-  pub plans_are : plans now ≡ plans before
-  pub history_is : history now ≡ history before
-  pub out_is : out now ≡ out before
-  pub faults_are : faults now ≡ faults before
-  pub plan_is : plan now ≡ plan before
 
 -- so many more sources are lent than before, where the shelf tells
 abbrev pub LendsMore : ℕ → Option ℕ → Option ℕ → Type 0
@@ -32,6 +21,12 @@ abbrev pub NeverFails : Option FaultPlan → Option (List (List ℕ × List ℕ)
 NeverFails plan plans = IsUnfailing plan × AreUnfailing plans
 
 module _ {H Src Dsk : Type 0} (shelf : shelves.Ghosts H Src Dsk) where
+  -- by what a shelf tells, it is before and after a call the same in its files, the plans of their sources and its disk
+  pub record KeepsShelf (old new : H) : Type 0 where
+    pub files_are : shelf.files new ≡ shelf.files old
+    pub plans_are : shelf.source_plans new ≡ shelf.source_plans old
+    pub disk_is : DiskIsSame shelf old new
+
   -- the counts of faults and of absences follow what a call returned, and none falls
   pub record CountsAreTold {A : Type 0} (old new : H) (answer : Result A InputError) : Type 0 where
     pub faults : MatchResult answer (λ _. FaultsAreSame (shelf.faults_of old) (shelf.faults_of new))
@@ -46,7 +41,7 @@ module _ {H Src Dsk : Type 0} (shelf : shelves.Ghosts H Src Dsk) where
   -- nothing else changes, and all that was lent came back. Where no call of the shelf fails, no read fault is returned
   pub record ReadsShelf {A : Type 0} (old new : H) (answer : Result A InputError) : Type 0 where
     pub told : CountsAreTold old new answer
-    pub kept : KeepsShelf shelf.files shelf.source_plans shelf.disk_history shelf.is_out shelf.disk_fault_count shelf.disk_plan old new
+    pub kept : KeepsShelf old new
     pub lent : LendsAsMany (shelf.lent_count old) (shelf.lent_count new)
     pub unfailing : NeverFails (shelf.fault_plan old) (shelf.source_plans old)
         → IfErr answer IsNoFault × NeverFails (shelf.fault_plan new) (shelf.source_plans new)
@@ -54,7 +49,7 @@ module _ {H Src Dsk : Type 0} (shelf : shelves.Ghosts H Src Dsk) where
   -- the same of a call that lends so many sources where it returns what is `Ok`. Where no call of the shelf fails, they are sound
   pub record OpensShelf {A : Type 0} (many : ℕ) (IsSound : A → Type 0) (old new : H) (answer : Result A InputError) : Type 0 where
     pub told : CountsAreTold old new answer
-    pub kept : KeepsShelf shelf.files shelf.source_plans shelf.disk_history shelf.is_out shelf.disk_fault_count shelf.disk_plan old new
+    pub kept : KeepsShelf old new
     pub lent : MatchResult answer (λ _. LendsMore many (shelf.lent_count old) (shelf.lent_count new))
         (λ _. LendsAsMany (shelf.lent_count old) (shelf.lent_count new))
     pub unfailing : NeverFails (shelf.fault_plan old) (shelf.source_plans old)

@@ -1,7 +1,10 @@
--- Why a run is refused by the cut that its checkpoint's disk holds, in the order in which the causes count.
+-- Why a run is refused by the disk of its checkpoint, which may be held, and by the cut on it, in the order in which the causes
+-- count.
 use Rattle.std.specs.Prelude.{◌≡◌, ◌<◌, ◌≤◌, ◌++◌, ℕ, true, List, Some, length, slice_get, take, drop, codes}
 use Rattle.std.specs.Fmt.{decimal}
 use Rattle.eql_values.specs.declared.cut.LaneCut.{LaneCut}
+use Rattle.eql_outside.specs.declared.refused.DiskHeld.{DiskHeld}
+use Rattle.eql_outside.specs.declared.refused.DiskHeld.TheVariants.{Busy, Shared}
 use Rattle.eql_laws.specs.Fitting.{Fits, Run}
 use Rattle.eql_lane.specs.Noting.{IsWholeLine}
 use Rattle.eql_cut.specs.declared.cut.Cut.{Cut}
@@ -11,6 +14,7 @@ use Rattle.eql_cut.specs.declared.compare.Differs.TheVariants as what
 use Rattle.eql_cut.specs.Agreeing.{difference}
 use Rattle.eql_cut.specs.Domain.{kept_by}
 use Rattle.eql_cut.specs.Placing.{NamesLine}
+use Rattle.eql_ckdisk.specs.Refusing.{number_of}
 use Rattle.eql_runs.specs.Searches.{Search, run_of}
 use Rattle.eql_runs.specs.Starts.{OnDisk, nothing_kept, a_cut, bad_head, bad_text, not_ours, IsHeadOf}
 
@@ -43,6 +47,11 @@ cut_text (short shard offset had) =
     ++ codes "\n"
 cut_text (no_line shard line) = codes "checkpoint: NoLine shard " ++ decimal shard ++ codes " line " ++ decimal line ++ codes "\n"
 cut_text (grown shard) = codes "checkpoint: Grown shard " ++ decimal shard ++ codes "\n"
+
+-- the line that is told of a disk that is held. A file that serves for something else is told as one of another program
+abbrev pub held_text : DiskHeld → List ℕ
+held_text Busy = codes "checkpoint: Busy\n"
+held_text (Shared area) = cut_text (foreign (number_of area))
 
 -- why what is on the disk is refused by a run of this head, which depends so on its cuts: another program wrote an area, or the
 -- area is damaged, or the cut is of another run, or doesn't fit. Of a text that is no cut's any place may be told

@@ -4,6 +4,7 @@ use Rattle.std.specs.Fmt.{decimal}
 use Rattle.std.specs.List.{slice_get}
 use Rattle.eql_values.specs.declared.value.Kind.{Kind}
 use Rattle.eql_values.specs.Lines.{lines_of}
+use Rattle.eql_outside.specs.declared.refused.DiskHeld.{DiskHeld}
 use Rattle.eql_outside.specs.Outside.{Rose, AppendsSome}
 use Rattle.eql_outside.specs.Written.{WroteFront, WroteThrough}
 use Rattle.eql_outside.specs.Written as written
@@ -25,7 +26,7 @@ use Rattle.eql_ckdisk.specs.Found.{LastCut}
 use Rattle.eql_ckdisk.specs.Runs.{PutsAll}
 use Rattle.eql_runs.specs.Searches.{Search, listed_of, matches_of, rest_of, report_of, report_lines}
 use Rattle.eql_runs.specs.Starts.{OnDisk, nothing_kept, a_cut, bad_head, bad_text, not_ours, DiskHolds, generation_on, listed_on, mark_on, start_for, BeginsWith, IsTrusted, IsHeadOf, IsCutOf}
-use Rattle.eql_runs.specs.CutRefusals.{CutRefusal, CutRefuses}
+use Rattle.eql_runs.specs.CutRefusals.{CutRefusal, CutRefuses, held_text}
 use Rattle.eql_runs.specs.Summaries.{Makes}
 use Rattle.eql_runs.specs.Files.{Files, first_missing, HasQuery, HasChecked, HasTexts, IsWithin}
 use Rattle.eql_runs.specs.Refusals.{Names, Refusal, Refuses, refusal_status, refusal_text, printed_name}
@@ -244,45 +245,50 @@ pub record GoesTooFar (words : List (List ℕ)) (find : Find) (limit : ShardLimi
   pub beyond : SearchesBeyond find files on limit
 
 -- a run of these words that ends with this status, above 0, has this text to tell: its cause holds
--- of the words, of the files and the disk where they are told, and of the faults of each file's name
--- before and after
+-- of the words, of the files and the disk where they are told, and of counts before and after: of the
+-- faults of each file's name, and of how often the disk was held for each reason
 pub data Tells (words : List (List ℕ)) (files : Option Files) (disk now : Option History) (before after : List ℕ → ℕ)
-    : ℕ → List ℕ → Type 0 where
-  usage : command_of words ≡ None → Tells words files disk now before after 2 usage_text
+    (held held' : DiskHeld → ℕ) : ℕ → List ℕ → Type 0 where
+  usage : command_of words ≡ None → Tells words files disk now before after held held' 2 usage_text
   refused :
       (command : Command) → command_of words ≡ Some command → (names : Names)
       → names_of command ≡ Some names → (r : Refusal) → NamesOwn names r
       → IfSome files (λ fs. Refuses names fs r)
-      → Tells words files disk now before after (refusal_status r) (refusal_text r)
+      → Tells words files disk now before after held held' (refusal_status r) (refusal_text r)
   cut_refused :
       AskDisk words → (r : CutRefusal) → IfTold words files disk (λ fs on. IsRefused words fs on (refusal.cut r))
-      → Tells words files disk now before after 7 (refusal_text (refusal.cut r))
+      → Tells words files disk now before after held held' 7 (refusal_text (refusal.cut r))
   read_fault :
       (command : Command) → command_of words ≡ Some command → (names : Names)
       → names_of command ≡ Some names → (name : List ℕ) → IsNamed names name
       → Rose (before name) (after name) → IfSome files (λ fs. Reaches names fs name)
-      → Tells words files disk now before after 4 (codes "read fault: " ++ printed_name name ++ codes "\n")
+      → Tells words files disk now before after held held' 4 (codes "read fault: " ++ printed_name name ++ codes "\n")
   write_fault :
       IfTold words files disk (IsAccepted words)
-      → Tells words files disk now before after 5 (codes "write fault\n")
+      → Tells words files disk now before after held held' 5 (codes "write fault\n")
   report_refused :
       (report : List ℕ) → ReportsOn words files disk report
-      → Tells words files disk now before after 5 report
+      → Tells words files disk now before after held held' 5 report
+  disk_held :
+      (find : Find) → command_of words ≡ Some (command.Find find) → find.checkpoint ≢ None
+      → IfSome files (λ fs. (search : Search) × (texts : List (List ℕ)) × Searches find fs search texts)
+      → (why : DiskHeld) → Rose (held why) (held' why)
+      → Tells words files disk now before after held held' 7 (held_text why)
   disk_fault :
       (find : Find) → command_of words ≡ Some (command.Find find) → find.checkpoint ≢ None
       → IfSome files (λ fs. (search : Search) × (texts : List (List ℕ)) × Searches find fs search texts)
-      → Tells words files disk now before after 6 (codes "checkpoint disk fault\n")
-  memory : Tells words files disk now before after 8 (codes "out of memory\n")
+      → Tells words files disk now before after held held' 6 (codes "checkpoint disk fault\n")
+  memory : Tells words files disk now before after held held' 8 (codes "out of memory\n")
   report_unmade :
       (report : List ℕ) → ReportsOn words files disk report
-      → Tells words files disk now before after 8 report
+      → Tells words files disk now before after held held' 8 report
   limit :
       (find : Find) → command_of words ≡ Some (command.Find find) → (limit : ShardLimit)
       → shard_of limit < length find.shards → IfTold words files disk (GoesTooFar words find limit)
-      → Tells words files disk now before after 9 (limit_text limit)
+      → Tells words files disk now before after held held' 9 (limit_text limit)
   generation :
       AskDisk words → IfTold words files disk (IsAccepted words) → GenerationsEnd disk now
-      → Tells words files disk now before after 9 (codes "limit: generation\n")
+      → Tells words files disk now before after held held' 9 (codes "limit: generation\n")
 
 -- where files and disk are told, the run was one that writes bytes and a report, and where the sinks
 -- tell too they got just these. A cut that was found is trusted
@@ -308,10 +314,10 @@ WroteListing words files disk out out' =
 
 -- a run of this status told a text whose cause holds, or a front of it, which may be empty
 abbrev pub TellsFront :
-    List (List ℕ) → Option Files → (disk now : Option History) → (before after : List ℕ → ℕ) → ℕ
-    → (err err' : Option (List ℕ)) → Type 0
-TellsFront words files disk now before after status err err' =
-    (text : List ℕ) × Tells words files disk now before after status text × WroteFront text err err'
+    List (List ℕ) → Option Files → (disk now : Option History) → (before after : List ℕ → ℕ)
+    → (held held' : DiskHeld → ℕ) → ℕ → (err err' : Option (List ℕ)) → Type 0
+TellsFront words files disk now before after held held' status err err' =
+    (text : List ℕ) × Tells words files disk now before after held held' status text × WroteFront text err err'
 
 -- each shard of the search that the words ask for can be read to its end
 abbrev pub AreWithin : List (List ℕ) → Files → Type 0
@@ -349,17 +355,22 @@ abbrev pub WroteCounted : Search → (texts : List (List ℕ)) → (listed : ℕ
 WroteCounted search texts listed out out' cut =
     WroteThrough (listing search.places (drop listed (take cut.book.listed (listed_of search texts)))) out out'
 
--- a cut that a run puts is one of its search and its texts, and what it counts was written
-pub record IsPut (search : Search) (texts : List (List ℕ)) (listed : ℕ) (out out' : Option (List ℕ)) (cut : Cut) : Type 0 where
+-- and they were kept behind what had been written before, where the output tells what it keeps
+abbrev pub KeptCounted : Search → (texts : List (List ℕ)) → (listed : ℕ) → (out kept kept' : Option (List ℕ)) → Cut → Type 0
+KeptCounted search texts listed out kept kept' cut = IfSome kept (λ bytes. WroteCounted search texts listed out kept' cut)
+
+-- a cut that a run puts is one of its search and its texts, and what it counts was written and kept
+pub record IsPut (search : Search) (texts : List (List ℕ)) (listed : ℕ) (out out' kept kept' : Option (List ℕ)) (cut : Cut) : Type 0 where
   pub head : IsHeadOf search (length texts) cut.head
   pub is_cut : IsCutOf search cut.head.slack texts cut
   pub wrote : WroteCounted search texts listed out out' cut
+  pub keeps : KeptCounted search texts listed out kept kept' cut
 
 -- at each moment of the run each image of the disk stands for what an image at its start stands for, or for one of some cuts
 -- that were put one after another; none is of an older generation than one before it. Where the disk is told, the generations
 -- go on from that of the cut that was found, and the times of the cuts too. Where the files are told as well, these are cuts of
--- the search and its texts, and the run wrote the lines that each of them counts
-pub record KeepsCuts (find : Find) (files : Option Files) (out out' : Option (List ℕ)) (before now : History) : Type 0 where
+-- the search and its texts, and the run wrote the lines that each of them counts, which are kept
+pub record KeepsCuts (find : Find) (files : Option Files) (out out' kept kept' : Option (List ℕ)) (before now : History) : Type 0 where
   pub last : LastCut
   pub cuts : List Cut
   pub puts : PutsAll last cuts before now
@@ -367,4 +378,4 @@ pub record KeepsCuts (find : Find) (files : Option Files) (out out' : Option (Li
   pub are_of :
       IfSome files (λ fs. (on : OnDisk) (search : Search) (texts : List (List ℕ)) → DiskHolds (Some before) on
       → Searches find fs search texts → IsTrusted search texts on → length (matches_of search texts) < 2 ^ 64
-      → All (IsPut search texts (listed_on on) out out') cuts)
+      → All (IsPut search texts (listed_on on) out out' kept kept') cuts)

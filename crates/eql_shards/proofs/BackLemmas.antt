@@ -9,9 +9,10 @@ use Rattle.std.proofs.lemmas.List.{append-nil, append_assoc}
 use Rattle.std.proofs.lemmas.List.Elements.{All-head, All-tail}
 use Rattle.eql_outside.specs.Outside.{Rose}
 use Rattle.eql_outside.specs.Faults.{FaultsAreSame, RoseFor, RoseUnder}
-use Rattle.eql_outside.specs.Keeping.{KeepsDisk, RisesUnderWhere, RisesWhere}
+use Rattle.eql_outside.specs.Keeping.{RisesUnderWhere, RisesWhere}
 use Rattle.eql_outside.specs.declared.shelf.Shelf as shelves
 use Rattle.eql_lane.specs.Views.{LaneView}
+use Rattle.eql_runs.specs.Outcomes.{DiskIsSame}
 use Rattle.eql_inputs.specs.Shelves.{KeepsShelf}
 use Rattle.eql_shards.specs.Giving.{CameBack, NoSourceFailed, Returned, SomeSourceFailed, TakesBack, lane_returned, return_of}
 use Rattle.eql_inputs.proofs.ShelfLemmas.{keeps_later, keeps_still}
@@ -146,14 +147,14 @@ module _ {H Src Dsk : Type 0} (shelf : shelves.Ghosts H Src Dsk) where
     pub came : CameOne back (shelf.fault_count old) (shelf.fault_count new) (shelf.faults_of old) (shelf.faults_of new)
     pub absences_are : shelf.absent_count new ≡ shelf.absent_count old
     pub lent : IfSome (shelf.lent_count old) (λ n. shelf.lent_count new ≡ Some (n - 1))
-    pub kept : KeepsShelf shelf.files shelf.source_plans shelf.disk_history shelf.is_out shelf.disk_fault_count shelf.disk_plan old new
+    pub kept : KeepsShelf shelf old new
     pub plan_is : shelf.fault_plan new ≡ shelf.fault_plan old
 
   pub takes_one : (back : Returned) (old new : H) → RisesWhere shelf.fault_count (0 < back.faults) old new
       → RisesUnderWhere shelf.faults_of back.name (0 < back.faults) old new → shelf.absent_count new ≡ shelf.absent_count old
       → IfSome (shelf.lent_count old) (λ n. shelf.lent_count new ≡ Some (n - 1)) → shelf.files new ≡ shelf.files old
       → shelf.source_plans new ≡ shelf.source_plans old
-      → KeepsDisk shelf.disk_history shelf.is_out shelf.disk_fault_count shelf.disk_plan old new
+      → DiskIsSame shelf old new
       → shelf.fault_plan new ≡ shelf.fault_plan old → TakesOne back old new
   takes_one back old new all each absences lent files plans disk plan = record {
     came = one_source shelf.fault_count shelf.faults_of back old new all each;
@@ -162,10 +163,7 @@ module _ {H Src Dsk : Type 0} (shelf : shelves.Ghosts H Src Dsk) where
     kept = record {
       files_are = files;
       plans_are = plans;
-      history_is = disk.history_is;
-      out_is = disk.out_is;
-      faults_are = disk.faults_are;
-      plan_is = disk.plan_is;
+      disk_is = disk;
     };
     plan_is = plan;
   }
@@ -194,7 +192,7 @@ module _ {H Src Dsk : Type 0} (shelf : shelves.Ghosts H Src Dsk) where
       };
       absences_are = refl;
       lent = none_back (shelf.lent_count old);
-      kept = keeps_still _ _ _ _ _ _ _;
+      kept = keeps_still;
       plan_is = refl;
     };
   }

@@ -64,7 +64,7 @@ module _ {H Src Dsk : Type 0} (shelf : shelves.Ghosts H Src Dsk) where
   pub went_back : {A B : Type 0} (many : ℕ) (IsSound : A → Type 0) (Opened : Type 0) (lent_as : Src → Option (List ℕ)) (faults : Src → ℕ)
       (given : List Src) (e : InputError) (old mid new : H) → All (λ source. faults source ≡ 0) given
       → CountsAreTold shelf old mid (let r : Result B InputError = Err e in r)
-      → KeepsShelf shelf.files shelf.source_plans shelf.disk_history shelf.is_out shelf.disk_fault_count shelf.disk_plan old mid
+      → KeepsShelf shelf old mid
       → LendsMore (length given) (shelf.lent_count old) (shelf.lent_count mid)
       → (NeverFails (shelf.fault_plan old) (shelf.source_plans old)
       → IsNoFault e × Opened × NeverFails (shelf.fault_plan mid) (shelf.source_plans mid))

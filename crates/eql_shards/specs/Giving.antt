@@ -53,5 +53,5 @@ module _ {H Src Dsk : Type 0} (shelf : shelves.Ghosts H Src Dsk) where
     pub came : CameBack (map back_of given) (shelf.fault_count old) (shelf.fault_count new) (shelf.faults_of old) (shelf.faults_of new)
     pub absences_are : shelf.absent_count new ≡ shelf.absent_count old
     pub lent : IfSome (shelf.lent_count old) (λ n. shelf.lent_count new ≡ Some (n - length given))
-    pub kept : KeepsShelf shelf.files shelf.source_plans shelf.disk_history shelf.is_out shelf.disk_fault_count shelf.disk_plan old new
+    pub kept : KeepsShelf shelf old new
     pub plan_is : shelf.fault_plan new ≡ shelf.fault_plan old

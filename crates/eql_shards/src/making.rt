@@ -78,8 +78,7 @@ fn fill_lanes<H: Shelf, F: Readers>(
         (λ n. H.lent_count shelf.new ≡ Some (n - 1))) }
     ensures counts { (H.fault_count shelf.old ≤ H.fault_count shelf.new)
         × (H.absent_count shelf.new ≡ H.absent_count shelf.old) }
-    ensures kept { KeepsShelf H.files H.source_plans H.disk_history H.is_out H.disk_fault_count
-        H.disk_plan shelf.old shelf.new }
+    ensures kept { KeepsShelf H.Shelf shelf.old shelf.new }
 {
     let mut shard: u32 = 0;
     for start in starts {
@@ -134,8 +133,7 @@ pub fn make_lanes<H: Shelf, F: Readers>(
         (FaultsAreSame (H.faults_of shelf.old) (H.faults_of shelf.new)) }
     ensures counts { (H.fault_count shelf.old ≤ H.fault_count shelf.new)
         × (H.absent_count shelf.new ≡ H.absent_count shelf.old) }
-    ensures kept { KeepsShelf H.files H.source_plans H.disk_history H.is_out H.disk_fault_count
-        H.disk_plan shelf.old shelf.new }
+    ensures kept { KeepsShelf H.Shelf shelf.old shelf.new }
 {
     faults_are_counted_by_name();
     let mut lanes = match Vec::with_capacity(alloc, sources.len()) {

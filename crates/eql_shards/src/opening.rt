@@ -28,8 +28,7 @@ fn open_all<'a, H: Shelf>(
     ensures fresh { All (λ source. H.Src.fault_count source ≡ 0) sources.new.items }
     ensures cause { IfErr result (HasShardsCause shards.now (H.files shelf.old)) }
     ensures told { CountsAreTold H.Shelf shelf.old shelf.new result }
-    ensures kept { KeepsShelf H.files H.source_plans H.disk_history H.is_out H.disk_fault_count
-        H.disk_plan shelf.old shelf.new }
+    ensures kept { KeepsShelf H.Shelf shelf.old shelf.new }
     ensures lent { LendsMore (length sources.new.items)
         (H.lent_count shelf.old) (H.lent_count shelf.new) }
     ensures many { IsOk result → length sources.new.items ≡ length shards.now }

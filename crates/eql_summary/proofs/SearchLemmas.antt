@@ -80,6 +80,7 @@ module _ (hands events : ℕ) where
     made_stops disk now err err' (run.Files (error.Read name)) cause calm = absurd (calm tt)
     made_stops disk now err err' (run.Files error.Memory) cause calm = tt
     made_stops disk now err err' (run.Cut why) cause calm = absurd (cause.0 refl)
+    made_stops disk now err err' (run.Held why) cause calm = absurd (cause.0 refl)
     made_stops disk now err err' run.Disk cause calm = absurd (calm tt)
     made_stops disk now err err' run.Write cause calm = absurd (calm tt)
     made_stops disk now err err' (run.Limit l) cause calm =

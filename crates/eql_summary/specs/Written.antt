@@ -20,6 +20,7 @@ IsWant (run.Files (error.Refused r)) = ⊥
 IsWant (run.Files (error.Read name)) = ⊥
 IsWant (run.Files error.Memory) = Unit {0}
 IsWant (run.Cut why) = ⊥
+IsWant (run.Held why) = ⊥
 IsWant run.Disk = ⊥
 IsWant run.Write = ⊥
 IsWant (run.Limit l) = ⊥

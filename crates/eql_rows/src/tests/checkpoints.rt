@@ -1,10 +1,12 @@
-//! Runs with a checkpoint: how later runs go on from what is kept, which cuts are refused, and faults of the disk.
-use crate::tests::kept::AFTER_TEN;
+//! Runs with a checkpoint: how later runs go on from what is kept, which cuts are refused, disks that are held, and faults of
+//! the disk and of the output.
+use crate::tests::kept::{AFTER_FIVE, AFTER_TEN, NOTHING};
 use crate::tests::row::{Held, Object, Row, Share, Told, Words, ended, found, row_like};
 use crate::tests::run::check;
 use crate::tests::sequences::{ELEVEN, REFERENCE, REFERENCE_LISTS};
 use crate::tests::text::Piece::{Bytes, Spaced, Starts};
 use crate::tests::text::Pieces;
+use eql_outside::{Area, DiskHeld};
 
 /// The options of the first of two runs.
 const FIRST: &str = "--slack 0ms --batch 1 --hands 0 --checkpoint c --every 5";
@@ -306,6 +308,154 @@ static OWN_BYTES: &[Row] = &[
         ..FIRST_RUN
     },
 ];
+
+/// Runs whose disk is held. Both areas stay as they are.
+static HELD: &[Row] = &[
+    not_resumed!(
+        "a disk that another run has",
+        "checkpoint: Busy",
+        in_use: Some(DiskHeld::Busy),
+    ),
+    not_resumed!(
+        "a first area that serves for something else",
+        "checkpoint: Foreign area 0",
+        in_use: Some(DiskHeld::Shared(Area::A)),
+    ),
+    not_resumed!(
+        "a second area that serves for something else",
+        "checkpoint: Foreign area 1",
+        in_use: Some(DiskHeld::Shared(Area::B)),
+    ),
+    not_resumed!(
+        "a disk that another run has, and what can't be told",
+        "checkpoint: Busy",
+        in_use: Some(DiskHeld::Busy),
+        fails: &[(Object::Err, 1)],
+    ),
+    not_resumed!(
+        "a disk that another run has before what it holds",
+        "checkpoint: Busy",
+        held: Held::Damaged,
+        in_use: Some(DiskHeld::Busy),
+    ),
+    not_resumed!(
+        "an area that serves for something else before a cut of another query",
+        "checkpoint: Foreign area 1",
+        query: PIPED,
+        in_use: Some(DiskHeld::Shared(Area::B)),
+    ),
+    not_resumed!(
+        "a disk that another run has before a shard that is cut short",
+        "checkpoint: Busy",
+        shard: FIVE,
+        in_use: Some(DiskHeld::Busy),
+    ),
+    Row {
+        shows: "a disk that another run has, by a first run",
+        listed: &[],
+        status: 7,
+        told: Told::Lines(&["checkpoint: Busy"]),
+        in_use: Some(DiskHeld::Busy),
+        kept: Some(NOTHING),
+        ..FIRST_RUN
+    },
+];
+
+/// Runs that don't come to the disk that is held, or don't ask for it.
+static HELD_FOR_OTHERS: &[Row] = &[
+    second_run!(
+        "the whole listing beside a disk that another run has",
+        listed: REFERENCE_LISTS,
+        words: Words::Find("--slack 0ms"),
+        in_use: Some(DiskHeld::Busy),
+    ),
+    second_run!(
+        "the whole listing beside an area that serves for something else",
+        listed: REFERENCE_LISTS,
+        words: Words::Find("--slack 0ms"),
+        in_use: Some(DiskHeld::Shared(Area::A)),
+    ),
+    ended!(
+        "a missing shard before a disk that is held",
+        1,
+        "no file t",
+        words: Words::Line("find --query q --fields f --slack 0ms --checkpoint c --every 5 s0 t"),
+        held: Held::FirstRun,
+        in_use: Some(DiskHeld::Busy),
+    ),
+    ended!(
+        "a refused query before a disk that is held",
+        3,
+        "parse: Syntax at 1",
+        query: "x",
+        words: Words::Find(SECOND),
+        held: Held::FirstRun,
+        in_use: Some(DiskHeld::Shared(Area::A)),
+    ),
+    disk_fails!(
+        "a call for the disk that fails, though it is held",
+        fails: &[(Object::Shelf, 4)],
+        in_use: Some(DiskHeld::Busy),
+    ),
+];
+
+#[test]
+fn held_disks_are_refused(rt: HostRuntime) {
+    check(&rt, rt.alloc(), &[HELD, HELD_FOR_OTHERS]);
+}
+
+/// First runs in which a call of the output fails. The lines that a cut counts are kept before it is put: by the first call
+/// those of the first cut, which are none. The second writes the first match, the third has it kept, and the fourth writes the
+/// second match.
+static UNKEPT: &[Row] = &[
+    Row {
+        shows: "the call that has the lines of the first cut kept",
+        listed: &[],
+        status: 5,
+        told: Told::Lines(&["write fault"]),
+        fails: &[(Object::Out, 1)],
+        kept: Some(NOTHING),
+        ..FIRST_RUN
+    },
+    Row {
+        shows: "the write between both cuts",
+        listed: &[],
+        status: 5,
+        told: Told::Lines(&["write fault"]),
+        fails: &[(Object::Out, 2)],
+        kept: Some(AFTER_FIVE),
+        ..FIRST_RUN
+    },
+    Row {
+        shows: "the call that has the lines of the second cut kept",
+        listed: &[r#"1 ["root"] 0:2 0:4 0:9"#],
+        status: 5,
+        told: Told::Lines(&["write fault"]),
+        fails: &[(Object::Out, 3)],
+        share: Share::Whole,
+        kept: Some(AFTER_FIVE),
+        ..FIRST_RUN
+    },
+    Row {
+        shows: "the write behind both cuts",
+        listed: &[r#"1 ["root"] 0:2 0:4 0:9"#],
+        status: 5,
+        told: Told::Lines(&["write fault"]),
+        fails: &[(Object::Out, 4)],
+        share: Share::Whole,
+        ..FIRST_RUN
+    },
+    Row {
+        shows: "a call of the output that isn't made",
+        fails: &[(Object::Out, 5)],
+        ..FIRST_RUN
+    },
+];
+
+#[test]
+fn lines_of_a_cut_are_kept_before_it_is_put(rt: HostRuntime) {
+    check(&rt, rt.alloc(), &[UNKEPT]);
+}
 
 #[test]
 fn disks_fail_and_are_refused(rt: HostRuntime) {

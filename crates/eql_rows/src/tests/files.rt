@@ -64,7 +64,7 @@ fn all_go<R: Threads + Wait + Sync, H: Shelf>(
 #[test]
 fn files_of_the_system_are_opened(rt: HostRuntime) {
     let mut came = String::new(rt.alloc());
-    let mut shelf = FileShelf::new(rt.clone().expect(&rt, "memory"));
+    let mut shelf = FileShelf::new(rt.alloc(), rt.clone().expect(&rt, "memory"));
     let seen = all_go(&rt, rt.alloc(), &mut shelf, &mut came);
     drop(shelf);
     see(&rt, seen, came.as_str());

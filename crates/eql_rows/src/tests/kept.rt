@@ -29,7 +29,7 @@ macro_rules! cut_at {
 pub(crate) use cut_at;
 
 /// What a disk keeps that has no cut.
-const NOTHING: Kept = cut_at!(0, 0, 0, 0);
+pub(crate) const NOTHING: Kept = cut_at!(0, 0, 0, 0);
 
 /// The cut that the first run of the example keeps after five lines, and the one after ten.
 pub(crate) const AFTER_FIVE: Kept = cut_at!(1, 5, 506, 0);

@@ -5,6 +5,7 @@
 //! a `static`, which a check reads as one value. An array of rows that functions make costs half a second for each call.
 use crate::tests::kept::Kept;
 use crate::tests::text::{Piece, Pieces};
+use eql_outside::DiskHeld;
 
 /// What a run calls, where a call may fail.
 #[derive(Clone, Copy, PartialEq, Eq)]
@@ -15,7 +16,7 @@ pub(crate) enum Object {
     Fields,
     /// The shard of this number, from 0, by its takes.
     Shard(usize),
-    /// The output, by its writes.
+    /// The output, by its writes and the calls that have them kept.
     Out,
     /// The error output, by its writes.
     Err,
@@ -117,6 +118,8 @@ pub(crate) struct Row {
     pub(crate) piece: usize,
     /// What the disk holds before.
     pub(crate) held: Held,
+    /// Why the disk isn't handed out, where it is in use.
+    pub(crate) in_use: Option<DiskHeld>,
     pub(crate) fails: &'static [Failing],
     pub(crate) status: u8,
     /// The lines of which the output gets a share.
@@ -141,6 +144,7 @@ pub(crate) const PLAIN: Row = Row {
     copies: 0,
     piece: 7,
     held: Held::Nothing,
+    in_use: None,
     fails: &[],
     status: 0,
     listed: &[],

@@ -194,7 +194,11 @@ pub(crate) fn run<R: Threads + Wait + Sync, W: Gate + Sync>(
     let disk = disk_of(alloc, areas, fails, stop)?;
     let words = words_of(alloc, row)?;
     let given = given_of(alloc, row, fails)?;
-    let mut shelf = MemShelf::new(alloc, given.files, disk, given.fails)?;
+    let shelf = MemShelf::new(alloc, given.files, disk, given.fails)?;
+    let mut shelf = match row.in_use {
+        Some(why) => shelf.holding(why),
+        None => shelf,
+    };
     let ran = eql_main(rt, alloc, &words, &mut shelf, given.out, given.err, gate);
     Ok((ran, shelf.into_disk()))
 }

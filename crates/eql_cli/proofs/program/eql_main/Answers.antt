@@ -23,6 +23,7 @@ returns g c =
       absences_told = e.absences_told;
       writes_told = e.writes_told;
       disks_told = e.disks_told;
+      held_told = e.held_told;
       errors_told = e.errors_told;
       complete = e.complete;
       grounded = e.grounded;
@@ -33,6 +34,6 @@ returns g c =
       moments = e.moments;
       disk_kept = λ never.
           let same = e.disk_kept never in
-          (same.history_is, same.out_is, same.faults_are, same.plan_is);
-      counts = (e.reads_rise, e.absences_rise, e.disks_rise, e.writes_rise, e.errors_rise);
+          (same.history_is, same.out_is, same.faults_are, same.plan_is, same.held_are, same.free_is);
+      counts = (e.reads_rise, e.absences_rise, e.disks_rise, e.held_rise, e.writes_rise, e.errors_rise);
     }

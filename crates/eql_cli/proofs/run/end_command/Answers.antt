@@ -17,6 +17,6 @@ returns-in-Err g c =
     let tell = c.tell_end.ensures in
     record {
       ends = λ words is.
-          stopped_ends g.H.Shelf g.K.Sink g.E.Sink words c.args.command.now is laws.apart _ _ _ _ _ _ _ c.in-Err.error _ laws.ready laws.status
+          stopped_ends g.H.Shelf g.K.Sink g.E.Sink words c.args.command.now is laws.apart _ _ _ _ _ _ _ c.in-Err.error _ laws.ready laws.status laws.accepted
           run.ends run.told run.unfailing run.kept run.lent run.back run.disk_kept tell.status tell.told tell.quiet tell.counts;
     }

@@ -1,5 +1,7 @@
 use Rattle.std.proofs.Common.{refl, arith}
 use Rattle.std.proofs.lemmas.Result.{IfErr-weaker, on_err_weaker, on_ok_weaker}
+use Rattle.eql_inputs.proofs.ShelfLemmas.{disk_still}
+use Rattle.eql_find.proofs.HeldLemmas.{held_as, kept_held, no_reason, same_held}
 use Rattle.eql_cli.proofs.RunLemmas.{found_all, found_accepted, found_listing, found_some, find_cause, none_told, printed_all, printed_accepted, printed_listing, printed_some, check_cause, check_disks, check_errors, made_all, made_accepted, made_listing, made_some, made_cause, made_untouched, made_faults, made_count, made_absences, made_disks, made_errors}
 use Rattle.eql_cli.proofs.KeepLemmas.{asks_found, found_keeps, kept_disk, none_changed, not_asked}
 use Rattle.eql_cli.proofs.run.run_command.Goals as goal
@@ -19,7 +21,7 @@ returns-in-Find-clause-ends g c =
       untouched = e.untouched;
       quiet = e.quiet;
       cause = IfErr-weaker found _ _ (find_cause asked find is _ _ _ _ _) e.cause;
-      moments = found_keeps asked find is _ _ _ _ _ e.moments;
+      moments = found_keeps asked find is _ _ _ _ _ _ _ e.moments;
       cut_kept = e.cut_kept;
     }
 
@@ -50,8 +52,8 @@ returns-in-Check-clause-ends g c =
       untouched = e.untouched;
       quiet = none_told printed _;
       cause = IfErr-weaker printed _ _ (check_cause asked query fields is _ _ _ _) e.cause;
-      moments = kept_disk asked _ _ _ _ _ e.disk_kept.0;
-      cut_kept = none_changed printed _ _ e.disk_kept.0;
+      moments = kept_disk asked _ _ _ _ _ _ _ e.disk_kept.history_is;
+      cut_kept = none_changed printed _ _ e.disk_kept.history_is;
     }
 
 pub returns-in-Check-clause-told : goal.returns-in-Check-clause-told
@@ -63,21 +65,20 @@ returns-in-Check-clause-told g c =
     record {
       reads_rise = e.counts.0;
       absences_rise = e.counts.1;
-      disks_rise = omega (arith, e.disk_kept.2);
+      disks_rise = omega (arith, e.disk_kept.faults_are);
       writes_rise = e.counts.2;
       errors_rise = omega arith;
       faults = e.faults;
       count = e.count;
       absences = e.absences;
-      disk = check_disks query fields _ printed _ _ e.disk_kept.2 e.cause;
+      disk = check_disks query fields _ printed _ _ e.disk_kept.faults_are e.cause;
+      held = held_as g.H.Shelf _ _ _ (no_reason _ (λ why stops. stops) printed e.cause) (kept_held g.H.Shelf _ _ e.disk_kept);
       out = e.out;
       err = check_errors query fields _ printed _ e.cause;
     }
 
 pub returns-in-Check-clause-disk_kept : goal.returns-in-Check-clause-disk_kept
-returns-in-Check-clause-disk_kept g c = λ never.
-    let same = c.check_query.ensures.disk_kept in
-    record { history_is = same.0; out_is = same.1; faults_are = same.2; plan_is = same.3 }
+returns-in-Check-clause-disk_kept g c = λ never. c.check_query.ensures.disk_kept
 
 pub returns-in-Made-clause-ends : goal.returns-in-Made-clause-ends
 returns-in-Made-clause-ends g c =
@@ -95,7 +96,7 @@ returns-in-Made-clause-ends g c =
       untouched = made_untouched made _ _ e.stops;
       quiet = none_told made _;
       cause = made_cause asked hands events is _ _ _ _ _ _ made e.prefix e.stops;
-      moments = kept_disk asked _ _ _ _ _ refl;
+      moments = kept_disk asked _ _ _ _ _ _ _ refl;
       cut_kept = none_changed made _ _ refl;
     }
 
@@ -113,9 +114,10 @@ returns-in-Made-clause-told g c =
       count = made_count made _ e.stops;
       absences = made_absences made _ e.stops;
       disk = made_disks made _ e.stops;
+      held = held_as g.H.Shelf _ _ _ (no_reason _ (λ why stops. stops) made e.stops) (same_held g.H.Shelf _ _ refl);
       out = e.out;
       err = made_errors made _ e.stops;
     }
 
 pub returns-in-Made-clause-disk_kept : goal.returns-in-Made-clause-disk_kept
-returns-in-Made-clause-disk_kept g c = λ never. record { history_is = refl; out_is = refl; faults_are = refl; plan_is = refl }
+returns-in-Made-clause-disk_kept g c = λ never. disk_still g.H.Shelf _

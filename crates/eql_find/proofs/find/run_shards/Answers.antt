@@ -5,6 +5,7 @@ use Rattle.eql_ckdisk.specs.Going.{Goes}
 use Rattle.eql_ckdisk.specs.Keeping.{LeavesNoMore}
 use Rattle.eql_runs.specs.Files.{Files}
 use Rattle.eql_runs.specs.Runs.{KeepsCuts}
+use Rattle.eql_inputs.proofs.ShelfLemmas.{disk_then}
 use Rattle.eql_shards.specs.Shards.{AreWholeFiles}
 use Rattle.eql_find.specs.Finding.{IsPlanOf}
 use Rattle.eql_find.specs.Outcomes.{FindEnds}
@@ -13,7 +14,8 @@ use Rattle.eql_find.proofs.DiskLemmas.{recovered_keeps}
 use Rattle.eql_find.proofs.GivingLemmas.{back_by, fresh_keep, keeps_if_asked, over_both}
 use Rattle.eql_find.proofs.EarlyErrors.{none_is_some}
 use Rattle.eql_shards.proofs.BackLemmas.{none_failed}
-use Rattle.eql_find.proofs.OutcomeLemmas.{disk_then, kept_disk, none_falls, rises_then, same_disk, then_stays, told_then}
+use Rattle.eql_find.proofs.HeldLemmas.{held_later, kept_held}
+use Rattle.eql_find.proofs.OutcomeLemmas.{none_falls, rises_then, same_disk, then_stays, told_then}
 use Rattle.eql_find.proofs.UnbegunLemmas.{unbegun, unbegun_cause}
 use Rattle.eql_find.proofs.find.run_shards.Goals as goal
 
@@ -47,10 +49,10 @@ returns-in-Err-clause-ends g c =
           unbegun_cause c.spans_change_no_fit.ensures c.disks_hold_one_thing.ensures c.args.find.now c.args.planned.now c.requires.bounds _ _ _ _ _ _ c.in-Err.error
           c.requires.plan c.requires.whole c.in-Err.ensures.cause;
       moments = λ asked.
-          subst (λ (d : Option History). DiskTells (KeepsCuts c.args.find.now (g.H.Shelf.files c.args.shelf.now) (g.K.Sink.written c.args.out.now) (g.K.Sink.written c.args.out.now)) (g.H.Shelf.disk_history c.args.shelf.now) d)
-          (sym c.give_sources.ensures.back.kept.history_is) (recovered_keeps c.puts_go_on.ensures _ _ _ _ _ _ c.in-Err.ensures.moments);
+          subst (λ (d : Option History). DiskTells (KeepsCuts c.args.find.now (g.H.Shelf.files c.args.shelf.now) (g.K.Sink.written c.args.out.now) (g.K.Sink.written c.args.out.now) (g.K.Sink.kept c.args.out.now) (g.K.Sink.kept c.args.out.now)) (g.H.Shelf.disk_history c.args.shelf.now) d)
+          (sym c.give_sources.ensures.back.kept.disk_is.history_is) (recovered_keeps c.puts_go_on.ensures _ _ _ _ _ _ _ _ c.in-Err.ensures.moments);
       cut_kept = λ refusal.
-          subst (λ (d : Option History). DiskTells (Goes LeavesNoMore) (g.H.Shelf.disk_history c.args.shelf.now) d) (sym c.give_sources.ensures.back.kept.history_is)
+          subst (λ (d : Option History). DiskTells (Goes LeavesNoMore) (g.H.Shelf.disk_history c.args.shelf.now) d) (sym c.give_sources.ensures.back.kept.disk_is.history_is)
           c.in-Err.ensures.moments;
     }
 
@@ -63,19 +65,20 @@ returns-in-Err-clause-told g c =
       faults = by.faults _ _ (λ name. back.1 name ∙ kept.names_are name);
       count = by.count _ _ (back.0 ∙ kept.faults_are);
       absences = by.absence _ _ (c.give_sources.ensures.back.absences_are ∙ kept.absences_are);
-      disk = by.disk _ _ _ c.in-Err.ensures.fault c.give_sources.ensures.back.kept.faults_are;
+      disk = by.disk _ _ _ c.in-Err.ensures.fault c.give_sources.ensures.back.kept.disk_is.faults_are;
+      held = held_later g.H.Shelf _ _ _ _ c.in-Err.ensures.held (kept_held g.H.Shelf _ _ c.give_sources.ensures.back.kept.disk_is);
       out = by.out _;
       err = by.err _;
       reads_rise = rises_then _ _ _ kept.faults_are c.give_sources.ensures.back.came.counts.0;
       absences_rise = none_falls _ _ (c.give_sources.ensures.back.absences_are ∙ kept.absences_are);
-      disks_rise = then_stays _ _ _ c.in-Err.ensures.counts c.give_sources.ensures.back.kept.faults_are;
+      disks_rise = then_stays _ _ _ c.in-Err.ensures.counts c.give_sources.ensures.back.kept.disk_is.faults_are;
       writes_rise = none_falls _ _ refl;
       errors_rise = none_falls _ _ refl;
     }
 
 pub returns-in-Err-clause-disk_kept : goal.returns-in-Err-clause-disk_kept
 returns-in-Err-clause-disk_kept g c =
-    λ none. disk_then g.H.Shelf _ _ _ (same_disk g.H.Shelf _ _ (c.in-Err.ensures.untouched none)) (kept_disk g.H.Shelf _ _ c.give_sources.ensures.back.kept)
+    λ none. disk_then g.H.Shelf _ _ _ (same_disk g.H.Shelf _ _ (c.in-Err.ensures.untouched none)) c.give_sources.ensures.back.kept.disk_is
 
 -- it is begun
 pub returns-in-Ok-clause-ends : goal.returns-in-Ok-clause-ends
@@ -86,7 +89,7 @@ returns-in-Ok-clause-ends g c =
 pub returns-in-Ok-clause-told : goal.returns-in-Ok-clause-told
 returns-in-Ok-clause-told g c =
     let kept = c.in-Ok.ensures.kept in
-    told_then g.H.Shelf g.K.Sink g.E.Sink _ _ _ _ _ _ _ c.run_start.result kept.names_are kept.faults_are kept.absences_are c.in-Ok.ensures.steady c.run_start.ensures.told
+    told_then g.H.Shelf g.K.Sink g.E.Sink _ _ _ _ _ _ _ c.run_start.result kept.names_are kept.faults_are kept.absences_are c.in-Ok.ensures.steady c.in-Ok.ensures.held c.run_start.ensures.told
 
 pub returns-in-Ok-clause-unfailing : goal.returns-in-Ok-clause-unfailing
 returns-in-Ok-clause-unfailing g c =

@@ -1,9 +1,10 @@
 use denote.Param.Send.{sendable}
-use Rattle.std.proofs.Common.{Option, Err, ℕ, ap, subst, sym, ◌∙◌, refl, length}
+use Rattle.std.proofs.Common.{Option, Err, None, ℕ, ap, subst, sym, ◌∙◌, refl, length}
 use Rattle.std.specs.Prelude.{◌-◌, ◌≡◌, IfSome, Some}
 use Rattle.std.proofs.lemmas.Result.{IfErr-weaker, on_err_weaker, on_ok_weaker}
 use Rattle.eql_outside.specs.Moments.{History}
 use Rattle.eql_stages.specs.Matching.{reads_by}
+use Rattle.eql_inputs.proofs.ShelfLemmas.{disk_then}
 use Rattle.eql_find.specs.Errors.{AbsencesFollow, CountFollows, DiskFollows}
 use Rattle.eql_find.specs.Outcomes.{FindEnds}
 use Rattle.eql_find.specs.Starting.{disk_after}
@@ -14,7 +15,8 @@ use Rattle.eql_find.proofs.EndingLemmas.{generations_end}
 use Rattle.eql_find.proofs.FailLemmas.{named_over}
 use Rattle.eql_find.proofs.FoundLemmas.{found_all, found_listing, found_some}
 use Rattle.eql_find.proofs.GivingLemmas.{disk_told, keeps_none, keeps_some, still_none, still_some, then_faults, there}
-use Rattle.eql_find.proofs.OutcomeLemmas.{disk_then, kept_disk, none_falls, rises_then, same_disk, then_stays}
+use Rattle.eql_find.proofs.HeldLemmas.{held_as, held_then, kept_held, made_reason, no_reason}
+use Rattle.eql_find.proofs.OutcomeLemmas.{none_falls, rises_then, same_disk, then_stays}
 use Rattle.eql_find.proofs.OverLemmas.{began, lane_count, made_cause, over_runs, run_begins, sources_few, start_on, starts_many}
 use Rattle.eql_find.proofs.PuttingLemmas.{keeps_cuts, none_changed, none_put}
 use Rattle.eql_find.proofs.ShardLemmas.{count_as, count_then, faults_as, faults_then, lent_all, made_error, may_make, unfailing_over, zip_long}
@@ -37,7 +39,7 @@ error_at-requires g c = may_make g.H.Src.Source.left g.H.Src.Source.lent_as g.H.
 pub returns-in-Err-clause-ends : goal.returns-in-Err-clause-ends
 returns-in-Err-clause-ends g c =
     let made = made_error g.H.Src.Source.left g.H.Src.Source.lent_as g.H.Src.Source.fault_count g.H.Src.Source.fault_plan _ _ _ c.requires.1.1.1.1.1.1.1.1.1.1.1.1.1.1.1.0 _ _ _ _ c.in-Err.stop.why c.in-Err.stop.shard c.error_at.result c.in-Err.ensures.stopped c.error_at.ensures in
-    let same = c.give_keep.ensures.taken.0 ∙ ap (λ (d : Option History). disk_after g.H.Dsk.Disk.history d c.args.start.keep) c.make_lanes.ensures.kept.history_is in
+    let same = c.give_keep.ensures.taken.0 ∙ ap (λ (d : Option History). disk_after g.H.Dsk.Disk.history d c.args.start.keep) c.make_lanes.ensures.kept.disk_is.history_is in
     subst (λ (d : Option History). FindEnds g.K.Sink g.E.Sink {A = Unit {0}} c.args.find.now (g.H.Shelf.files c.args.shelf.now) (g.H.Shelf.disk_history c.args.shelf.now) d c.args.out.now c.args.out.now c.args.err.now c.args.err.now (Err c.error_at.result)) (sym same)
     (record {
       done = tt;
@@ -49,7 +51,7 @@ returns-in-Err-clause-ends g c =
       cause =
           made_cause g.H.Src.Source.left g.H.Src.Source.lent_as g.H.Src.Source.fault_count g.H.Src.Source.fault_plan reads_by _ _ _ _ _ c.requires.1.1.1.1.1.1.1.1.1.1.1.0 _ _ _ _ _ c.requires.1.1.1.1.1.1.1.1.1.1.1.1.0 c.requires.1.1.1.1.1.1.1.1.1.1.1.1.1.0 c.requires.1.1.1.1.1.1.1.1.1.1.1.1.1.1.0 c.requires.1.1.1.1.1.1.1.1.1.1.1.1.1.1.1.0 c.requires.1.1.1.1.1.1.1.1.1.1.1.1.1.1.1.1.1.0
           c.spans_change_no_fit.ensures c.disks_hold_one_thing.ensures c.in-Err.stop.why c.in-Err.stop.shard c.error_at.result _ _ _ _ _ _ _ c.in-Err.ensures.stopped c.error_at.ensures;
-      moments = λ asked. none_put g.H.Dsk.Disk.history g.H.Dsk.Disk.fault_count c.puts_go_on.ensures c.args.find.now _ _ _ _ c.args.start.keep asked c.requires.1.1.1.1.1.1.1.1.1.1.1.1.1.1.1.1.1.1.0 c.requires.1.1.1.1.1.1.1.1.1.1.1.1.1.1.1.1.1.1.1;
+      moments = λ asked. none_put g.H.Dsk.Disk.history g.H.Dsk.Disk.fault_count c.puts_go_on.ensures c.args.find.now _ _ _ _ _ _ c.args.start.keep asked c.requires.1.1.1.1.1.1.1.1.1.1.1.1.1.1.1.1.1.1.0 c.requires.1.1.1.1.1.1.1.1.1.1.1.1.1.1.1.1.1.1.1;
       cut_kept = λ refusal. none_changed g.H.Dsk.Disk.history g.H.Dsk.Disk.fault_count _ c.args.start.keep c.requires.1.1.1.1.1.1.1.1.1.1.1.1.1.1.1.1.1.1.1;
     })
 
@@ -57,7 +59,7 @@ pub returns-in-Err-clause-told : goal.returns-in-Err-clause-told
 returns-in-Err-clause-told g c =
     let made = made_error g.H.Src.Source.left g.H.Src.Source.lent_as g.H.Src.Source.fault_count g.H.Src.Source.fault_plan _ _ _ c.requires.1.1.1.1.1.1.1.1.1.1.1.1.1.1.1.0 _ _ _ _ c.in-Err.stop.why c.in-Err.stop.shard c.error_at.result c.in-Err.ensures.stopped c.error_at.ensures in
     let kept = c.give_keep.ensures.kept in
-    let disks = c.make_lanes.ensures.kept.faults_are in
+    let disks = c.make_lanes.ensures.kept.disk_is.faults_are in
     record {
       faults = then_faults _ _ _ (Err c.error_at.result) kept.names_are made.faults;
       count = subst (λ (n : ℕ). CountFollows {A = Unit {0}} (Err c.error_at.result) (g.H.Shelf.fault_count c.args.shelf.now) n) (sym kept.faults_are) made.count;
@@ -71,6 +73,9 @@ returns-in-Err-clause-told g c =
             raised = c.give_keep.ensures.raised;
             same = c.give_keep.ensures.same;
           }) (made.disk _));
+      held =
+          held_as g.H.Shelf _ _ _ (made_reason c.args.find.now.shards c.in-Err.stop.shard c.in-Err.stop.why c.error_at.result c.error_at.ensures)
+          (held_then g.H.Shelf None _ _ _ (kept_held g.H.Shelf _ _ c.make_lanes.ensures.kept.disk_is) c.give_keep.ensures.held);
       out = made.out _;
       err = made.err _;
       reads_rise = then_stays _ _ _ c.in-Err.ensures.counts.0 kept.faults_are;
@@ -100,7 +105,7 @@ pub returns-in-Err-clause-disk_kept : goal.returns-in-Err-clause-disk_kept
 returns-in-Err-clause-disk_kept g c =
     λ none.
     let gone = keeps_none g.H.Dsk.Disk.history g.H.Dsk.Disk.fault_count c.args.find.now.checkpoint c.args.start.keep c.requires.1.1.1.1.1.1.1.1.1.1.1.1.1.1.1.1.1.1.0 none in
-    disk_then g.H.Shelf _ _ _ (kept_disk g.H.Shelf _ _ c.make_lanes.ensures.kept) (same_disk g.H.Shelf _ _ (c.give_keep.ensures.none gone))
+    disk_then g.H.Shelf _ _ _ c.make_lanes.ensures.kept.disk_is (same_disk g.H.Shelf _ _ (c.give_keep.ensures.none gone))
 
 -- all were made
 pub run_lanes-ran-requires : goal.run_lanes-ran-requires
@@ -113,7 +118,7 @@ pub returns-clause-ends : goal.returns-clause-ends
 returns-clause-ends g c =
     let ran = c.run_lanes-ran in
     let kept = ran.result.1 in
-    let same = c.give_keep-2.ensures.taken.0 ∙ ap (λ (d : Option History). disk_after g.H.Dsk.Disk.history d kept) (c.give_lanes.ensures.back.kept.history_is ∙ c.make_lanes.ensures.kept.history_is) in
+    let same = c.give_keep-2.ensures.taken.0 ∙ ap (λ (d : Option History). disk_after g.H.Dsk.Disk.history d kept) (c.give_lanes.ensures.back.kept.disk_is.history_is ∙ c.make_lanes.ensures.kept.disk_is.history_is) in
     let runs = over_runs g.H.Src.Source.left g.H.Src.Source.lent_as g.H.Src.Source.fault_count g.H.Src.Source.fault_plan reads_by _ _ _ _ _ c.requires.1.1.1.1.1.1.1.1.1.1.1.0 _ _ _ _ _ c.requires.1.1.1.1.1.1.1.1.1.1.1.1.0 c.requires.1.1.1.1.1.1.1.1.1.1.1.1.1.0 c.requires.1.1.1.1.1.1.1.1.1.1.1.1.1.1.0 c.requires.1.1.1.1.1.1.1.1.1.1.1.1.1.1.1.0 c.requires.1.1.1.1.1.1.1.1.1.1.1.1.1.1.1.1.1.0 c.in-Ok.lanes.items c.in-Ok.ensures.made
     c.spans_change_no_fit.ensures c.disks_hold_one_thing.ensures c.tested_cuts_are_accepted.ensures.accepted in
     let begun = began g.H.Src.Source.left g.H.Src.Source.lent_as g.H.Src.Source.fault_count g.H.Src.Source.fault_plan reads_by _ _ _ _ _ c.requires.1.1.1.1.1.1.1.1.1.1.1.0 _ _ _ _ _ c.requires.1.1.1.1.1.1.1.1.1.1.1.1.0 c.requires.1.1.1.1.1.1.1.1.1.1.1.1.1.0 c.requires.1.1.1.1.1.1.1.1.1.1.1.1.1.1.0 c.requires.1.1.1.1.1.1.1.1.1.1.1.1.1.1.1.0 c.requires.1.1.1.1.1.1.1.1.1.1.1.1.1.1.1.1.1.0 c.in-Ok.lanes.items c.in-Ok.ensures.made in
@@ -128,7 +133,7 @@ returns-clause-ends g c =
       listed =
           IfErr-weaker ran.result.0 _ _
           (λ error told report. found_listing c.args.find.now c.args.planned.now _ c.in-Ok.lanes.items c.args.start.rest _ _ _ _ runs (told report)) ran.ensures.ends.listed;
-      untouched = none_refused _ _ (λ r told. told) (λ why told. told) ran.result.0 ran.ensures.ends.cause;
+      untouched = none_refused _ _ (λ r told. told) (λ why told. told) (λ why told. told) ran.result.0 ran.ensures.ends.cause;
       quiet = ran.ensures.ends.quiet;
       cause =
           all_causes c.args.find.now c.args.planned.now _ c.in-Ok.lanes.items ran.new.lanes.items c.args.start.rest _ _ _ c.requires.1.1.1.1.1.1.1.1.1.1.1.1.1.0 _ c.requires.1.1.1.1.1.1.1.1.1.1.1.1.1.1.0
@@ -138,8 +143,8 @@ returns-clause-ends g c =
       moments = λ asked.
           keeps_cuts c.puts_go_on.ensures c.crashes_leave_images.ensures.images c.disks_hold_one_thing.ensures c.tested_cuts_are_accepted.ensures.one c.args.find.now c.args.planned.now
           c.requires.1.1.1.1.1.1.1.1.1.1.1.1.0 _ _ _ c.in-Ok.lanes.items c.args.start.rest c.requires.1.1.1.1.1.1.1.1.1.1.1.1.1.1.1.1.1.0.begun c.requires.1.1.1.1.1.1.1.1.1.1.1.1.1.1.1.1.1.0.is_found c.requires.1.1.1.1.1.1.1.1.1.1.1.1.1.1.1.1.1.0.rest_is runs
-          c.args.start.head c.requires.1.1.1.1.1.1.1.1.1.1.1.1.1.1.1.1.1.0.head_is (g.K.Sink.written c.args.out.now) (g.K.Sink.written ran.new.out) g.H.Dsk.Disk.history g.H.Dsk.Disk.fault_count ran.result.0 c.args.start.keep kept asked c.requires.1.1.1.1.1.1.1.1.1.1.1.1.1.1.1.1.1.1.0 c.requires.1.1.1.1.1.1.1.1.1.1.1.1.1.1.1.1.1.1.1 ran.ensures.ends.keeps;
-      cut_kept = none_refused _ _ (λ r told. told) (λ why told. told) ran.result.0 ran.ensures.ends.cause;
+          c.args.start.head c.requires.1.1.1.1.1.1.1.1.1.1.1.1.1.1.1.1.1.0.head_is (g.K.Sink.written c.args.out.now) (g.K.Sink.written ran.new.out) (g.K.Sink.kept c.args.out.now) (g.K.Sink.kept ran.new.out) g.H.Dsk.Disk.history g.H.Dsk.Disk.fault_count ran.result.0 c.args.start.keep kept asked c.requires.1.1.1.1.1.1.1.1.1.1.1.1.1.1.1.1.1.1.0 c.requires.1.1.1.1.1.1.1.1.1.1.1.1.1.1.1.1.1.1.1 ran.ensures.ends.keeps;
+      cut_kept = none_refused _ _ (λ r told. told) (λ why told. told) (λ why told. told) ran.result.0 ran.ensures.ends.cause;
     })
 
 pub returns-clause-told : goal.returns-clause-told
@@ -147,7 +152,7 @@ returns-clause-told g c =
     let ran = c.run_lanes-ran in
     let told = ran.ensures.told in
     let kept = c.give_keep-2.ensures.kept in
-    let disks = c.give_lanes.ensures.back.kept.faults_are ∙ c.make_lanes.ensures.kept.faults_are in
+    let disks = c.give_lanes.ensures.back.kept.disk_is.faults_are ∙ c.make_lanes.ensures.kept.disk_is.faults_are in
     let absences = c.give_lanes.ensures.back.absences_are ∙ c.in-Ok.ensures.counts.1 in
     let named = named_over g.H.Src.Source.left g.H.Src.Source.lent_as g.H.Src.Source.fault_count g.H.Src.Source.fault_plan reads_by _ _ 0 c.args.sources.items c.args.start.lanes.items c.in-Ok.lanes.items c.args.find.now.shards c.in-Ok.ensures.made c.requires.1.1.1.1.1.1.1.1.1.1.1.1.1.1.1.0 c.requires.1.1.1.1.1.1.1.1.1.1.1.1.1.1.1.1.0 in
     record {
@@ -171,6 +176,11 @@ returns-clause-told g c =
             raised = c.give_keep-2.ensures.raised;
             same = c.give_keep-2.ensures.same;
           }) told.disk);
+      held =
+          held_as g.H.Shelf _ _ _ (no_reason _ (λ why stops. stops) ran.result.0 ran.ensures.ends.cause)
+          (held_then g.H.Shelf None _ _ _
+          (kept_held g.H.Shelf _ _ (disk_then g.H.Shelf _ _ _ c.make_lanes.ensures.kept.disk_is c.give_lanes.ensures.back.kept.disk_is))
+          c.give_keep-2.ensures.held);
       out = told.out;
       err = told.err;
       reads_rise = then_stays _ _ _ (rises_then _ _ _ c.in-Ok.ensures.steady c.give_lanes.ensures.back.came.counts.0) kept.faults_are;
@@ -207,5 +217,5 @@ returns-clause-disk_kept g c =
     λ none.
     let ran = c.run_lanes-ran in
     let gone = still_none g.H.Dsk.Disk.history g.H.Dsk.Disk.fault_count _ _ _ ran.result.0 c.args.start.keep ran.result.1 ran.ensures.ends.keeps (keeps_none g.H.Dsk.Disk.history g.H.Dsk.Disk.fault_count c.args.find.now.checkpoint c.args.start.keep c.requires.1.1.1.1.1.1.1.1.1.1.1.1.1.1.1.1.1.1.0 none) in
-    disk_then g.H.Shelf _ _ _ (disk_then g.H.Shelf _ _ _ (kept_disk g.H.Shelf _ _ c.make_lanes.ensures.kept) (kept_disk g.H.Shelf _ _ c.give_lanes.ensures.back.kept))
+    disk_then g.H.Shelf _ _ _ (disk_then g.H.Shelf _ _ _ c.make_lanes.ensures.kept.disk_is c.give_lanes.ensures.back.kept.disk_is)
     (same_disk g.H.Shelf _ _ (c.give_keep-2.ensures.none gone))

@@ -89,7 +89,7 @@ returns-in-Err-clause-ends g c = record {
   done = tt;
   prefix = fronts_none g.known_texts _ (rest_of (search_in c.args.find.now c.args.planned.now) c.args.rest.book.listed) _;
   listed = λ report. absurd report;
-  keeps = keeps_nothing g.D.Disk.history (Unit {0}) c.args.head c.args.rest.mark _ (no_cuts (search_in c.args.find.now c.args.planned.now) g.known_texts c.args.rest.book.listed (g.K.Sink.written c.args.out.now) (g.K.Sink.written c.args.out.now) _) c.args.keep _ (λ e. absurd cc);
+  keeps = keeps_nothing g.D.Disk.history (Unit {0}) c.args.head c.args.rest.mark _ (no_cuts (search_in c.args.find.now c.args.planned.now) g.known_texts c.args.rest.book.listed (g.K.Sink.written c.args.out.now) (g.K.Sink.written c.args.out.now) (g.K.Sink.kept c.args.out.now) (g.K.Sink.kept c.args.out.now) _) c.args.keep _ (λ e. absurd cc);
   quiet = λ nothing. refl;
   cause = tt;
 }
@@ -141,7 +141,7 @@ returns-in-Ok-write_report-clause-ends g c =
       listed = tt;
       keeps =
           keeps_as g.D.Disk.history c.args.head placed.mark rest.mark _ _ (same_mark lanes rest placed refl)
-          (cuts_are c.args.find.now c.args.planned.now g.known_texts lanes mids news rest placed start listed bounds (g.K.Sink.written c.args.out.now) (g.K.Sink.written c.search.new.sink)) c.args.keep c.search.new.run.keep _ _ (λ e. absurd cc) ends.keeps;
+          (cuts_are c.args.find.now c.args.planned.now g.known_texts lanes mids news rest placed start listed bounds (g.K.Sink.written c.args.out.now) (g.K.Sink.written c.search.new.sink) (g.K.Sink.kept c.args.out.now) (g.K.Sink.kept c.search.new.sink)) c.args.keep c.search.new.run.keep _ _ (λ e. absurd cc) ends.keeps;
       quiet = tt;
       cause = tt;
     }
@@ -203,7 +203,7 @@ returns-in-Ok-search-clause-ends g c =
       listed = λ report. listing_all c.args.find.now c.args.planned.now g.known_texts lanes mids news rest placed start listed _ _ ends.whole;
       keeps =
           keeps_as g.D.Disk.history c.args.head placed.mark rest.mark _ _ (same_mark lanes rest placed refl)
-          (cuts_are c.args.find.now c.args.planned.now g.known_texts lanes mids news rest placed start listed bounds (g.K.Sink.written c.args.out.now) (g.K.Sink.written c.search.new.sink)) c.args.keep c.search.new.run.keep _ _ (λ e. absurd cc) ends.keeps;
+          (cuts_are c.args.find.now c.args.planned.now g.known_texts lanes mids news rest placed start listed bounds (g.K.Sink.written c.args.out.now) (g.K.Sink.written c.search.new.sink) (g.K.Sink.kept c.args.out.now) (g.K.Sink.kept c.search.new.sink)) c.args.keep c.search.new.run.keep _ _ (λ e. absurd cc) ends.keeps;
       quiet = λ nothing. absurd nothing;
       cause =
           report_by c.args.find.now c.args.planned.now g.known_texts lanes mids news rest placed start listed b.plan_is ends.read _ _
@@ -267,7 +267,7 @@ returns-clause-ends g c =
       listed = λ report. absurd (no_report c.args.find.now.shards c.in-Err-search.stop c.error_of.result c.error_of.ensures report);
       keeps =
           keeps_as g.D.Disk.history c.args.head placed.mark rest.mark _ _ (same_mark lanes rest placed refl)
-          (cuts_are c.args.find.now c.args.planned.now g.known_texts lanes mids news rest placed start listed bounds (g.K.Sink.written c.args.out.now) (g.K.Sink.written c.search.new.sink)) c.args.keep c.search.new.run.keep _ _ (λ e. ap Err (ends_by c.args.find.now.shards c.in-Err-search.stop c.error_of.result c.error_of.ensures cc)) ends.keeps;
+          (cuts_are c.args.find.now c.args.planned.now g.known_texts lanes mids news rest placed start listed bounds (g.K.Sink.written c.args.out.now) (g.K.Sink.written c.search.new.sink) (g.K.Sink.kept c.args.out.now) (g.K.Sink.kept c.search.new.sink)) c.args.keep c.search.new.run.keep _ _ (λ e. ap Err (ends_by c.args.find.now.shards c.in-Err-search.stop c.error_of.result c.error_of.ensures cc)) ends.keeps;
       quiet = λ nothing. refl;
       cause =
           stopped_by g.S.Source.left c.args.find.now g.known_texts lanes mids news taken b.texts_of b.many (search_in c.args.find.now c.args.planned.now) _ _ _ _ _ _ _ c.in-Err-search.stop c.error_of.result e.stops.cause

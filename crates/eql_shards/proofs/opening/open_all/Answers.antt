@@ -19,7 +19,7 @@ loop-name-init g c = record {
   faults = λ name. refl;
   count = refl;
   absences = refl;
-  kept = keeps_still _ _ _ _ _ _ _;
+  kept = keeps_still;
   lent = rw c.requires.empty (lends_none _);
   unfailing = λ never. rw c.requires.empty (All-nil _, never);
 }

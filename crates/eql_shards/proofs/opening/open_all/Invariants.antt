@@ -17,7 +17,7 @@ invariant-loop-name g l = record {
   faults : FaultsAreSame (g.H.Shelf.faults_of l.fn.shelf) (g.H.Shelf.faults_of l.shelf);
   count : g.H.Shelf.fault_count l.shelf ≡ g.H.Shelf.fault_count l.fn.shelf;
   absences : g.H.Shelf.absent_count l.shelf ≡ g.H.Shelf.absent_count l.fn.shelf;
-  kept : KeepsShelf g.H.Shelf.files g.H.Shelf.source_plans g.H.Shelf.disk_history g.H.Shelf.is_out g.H.Shelf.disk_fault_count g.H.Shelf.disk_plan l.fn.shelf l.shelf;
+  kept : KeepsShelf g.H.Shelf l.fn.shelf l.shelf;
   lent : LendsMore (length l.sources.items) (g.H.Shelf.lent_count l.fn.shelf) (g.H.Shelf.lent_count l.shelf);
   unfailing : NeverFails (g.H.Shelf.fault_plan l.fn.shelf) (g.H.Shelf.source_plans l.fn.shelf)
       → All (λ source. IsUnfailing (g.H.Src.Source.fault_plan source)) l.sources.items
