@@ -254,9 +254,138 @@ expect 'checkpoint: two shards' 0 $'1 ["root"] 1:2 1:4 1:9\n2 ["elkbee"] 1:6 1:8
     "${kept[@]}" --batch 1 --hands 0 --checkpoint two --every 5 one.json eleven.json
 { cat one.json; printf ' '; } >grown.json
 not_resumed 'Grown shard 0' two "${words[@]}" grown.json eleven.json
+# Its disk is held: a lock of another process, another run, and files that the run reads too or that are one, by whatever links.
+flock c.0 "$program" "${kept[@]}" --checkpoint c --every 5 eleven.json >got.out 2>got.err
+status=$?
+want '' $'checkpoint: Busy\n'
+judge 'checkpoint: a lock of another process' "$status" 7
+mkfifo slow
+"$program" "${kept[@]}" "${often[@]}" --checkpoint shared --every 5 slow >slow.out 2>slow.err &
+slow=$!
+exec 8>slow
+head -n 10 eleven.json >&8
+for ((tries = 0; tries < 100; tries++)); do
+    if [ -s shared.0 ] || [ -s shared.1 ]; then break; fi
+    sleep 0.1
+done
+not_resumed Busy shared "${words[@]}" eleven.json
+exec 8>&-
+wait "$slow"
+status=$?
+mv slow.out got.out && mv slow.err got.err
+want "$both" $'shard 0: lines 10 accepted 10 late 0 rejected 0\n'
+judge 'checkpoint: the run that another one found busy' "$status" 0
+ln eleven.json read.0
+not_resumed 'Foreign area 0' read "${words[@]}" eleven.json
+ln -s eleven.json read-too.1
+not_resumed 'Foreign area 1' read-too "${words[@]}" eleven.json
+ln kept.eql asked.0
+not_resumed 'Foreign area 0' asked "${words[@]}" eleven.json
+cp first.0 twice.0
+ln -s twice.0 twice.1
+not_resumed 'Foreign area 1' twice "${words[@]}" eleven.json
+want '' ''
+{ head -n 5 eleven.json | cmp - five.json && cmp first.0 twice.0; } >got.out 2>got.err
+judge 'checkpoint: files that serve for something else stay' $? 0
+expect 'checkpoint: one that is held, of a run without' 0 "$both" "$eleven" "${kept[@]}" eleven.json
 want '' ''
 cmp c.0 first.0 >got.out 2>got.err && cmp c.1 first.1 >>got.out 2>>got.err
 judge 'checkpoint: a refused run changes nothing' $? 0
+
+# An area that is one file with the query, the mapping, a shard or the other area, by a hard or a symbolic link, is told by its number,
+# and each file stays as it is in the folder `was`. A file without a byte, or that begins with 0 or 1, would else be taken for an area.
+: >blank.json
+printf '\0%s' "$(cat five.json)" >zero.json
+mkdir was
+cp kept.eql kept.json blank.json zero.json eleven.json was
+one_file() { # AREA DISK SHARD..
+    local area=$1 disk=$2 file status
+    shift 2
+    want '' "checkpoint: Foreign area $area"$'\n'
+    "$program" "${kept[@]}" "${often[@]}" --checkpoint "$disk" --every 1 "$@" >got.out 2>got.err <"${input:-/dev/null}"
+    status=$?
+    for file in was/*; do cmp "${file#was/}" "$file" || cp "$file" .; done >>got.out 2>>got.err
+    judge "checkpoint: an area that is one file: $disk.$area" "$status" 7
+}
+for kind in hard symbolic; do
+    for area in 0 1; do
+        for file in kept.eql kept.json blank.json zero.json; do
+            disk=$kind-$area-$file
+            if [ "$kind" = hard ]; then ln "$file" "$disk.$area"; else ln -s "$file" "$disk.$area"; fi
+            one_file "$area" "$disk" blank.json zero.json eleven.json
+        done
+    done
+done
+ln zero.json input.0
+input=zero.json one_file 0 input eleven.json /dev/stdin
+: >pair-hard.0 && ln pair-hard.0 pair-hard.1
+: >pair-symbolic.0 && ln -s pair-symbolic.0 pair-symbolic.1
+ln -s pair-back.1 pair-back.0 && cp c.1 pair-back.1
+cp c.1 pair-cut.0 && ln pair-cut.0 pair-cut.1
+cp pair-{hard,symbolic,back,cut}.? was
+for disk in pair-hard pair-symbolic pair-back pair-cut; do one_file 1 "$disk" eleven.json; done
+ln -s pair-new.0 pair-new.1
+: >was/pair-new.0
+one_file 1 pair-new eleven.json
+
+# A second run with the checkpoint of one that is at work is refused, and changes nothing. The first one waits behind its last cut at a
+# shard that is a pipe, and goes on. One that was killed keeps nobody out.
+mkfifo slow.json
+begin_slow() { # DISK
+    exec 7<>slow.json
+    "$program" "${kept[@]}" "${often[@]}" --checkpoint "$1" --every 5 slow.json >first.out 2>first.err 7>&- &
+    process=$!
+    cat eleven.json >&7
+    for _ in {1..400}; do
+        [ "$(wc -l <first.out)" -lt 2 ] || break
+        sleep 0.05
+    done
+}
+begin_slow busy
+cp busy.0 held.0 && cp busy.1 held.1
+for hands in 0 2; do not_resumed Busy busy "${words[@]}" --hands "$hands" eleven.json; done
+want '' ''
+cmp busy.0 held.0 >got.out 2>got.err && cmp busy.1 held.1 >>got.out 2>>got.err
+judge 'checkpoint: the files of a run at work stay' $? 0
+expect 'a run without a checkpoint beside one with it' 0 "$both" "$eleven" "${kept[@]}" eleven.json
+expect 'a run with another checkpoint' 0 "$both" "$eleven" "${kept[@]}" --checkpoint not-busy --every 5 eleven.json
+exec 7>&-
+wait "$process"
+status=$?
+want "$both" "$eleven"
+cp first.out got.out && cp first.err got.err
+judge 'checkpoint: the first of two runs goes on' "$status" 0
+resume 'after a run that ended' busy
+begin_slow killed
+kill -KILL "$process"
+wait "$process" 2>/dev/null
+exec 7>&-
+resume 'after a run that was killed' killed
+
+# A listing that is no file and can't be kept by a disk, and files that have no name any more or may not be read.
+want "$both" "$eleven"
+"$program" "${kept[@]}" "${often[@]}" --checkpoint piped --every 1 eleven.json 2>got.err | cat >got.out
+judge 'checkpoint: a listing through a pipe' "${PIPESTATUS[0]}" 0
+want '' "$eleven"
+: >got.out
+"$program" "${kept[@]}" "${often[@]}" --checkpoint dropped --every 1 eleven.json >/dev/null 2>got.err
+judge 'checkpoint: a listing that is dropped' $? 0
+want "$both" "$eleven"
+exec 8>gone.out
+exec 9<gone.out
+rm gone.out
+"$program" "${kept[@]}" "${often[@]}" --checkpoint gone --every 1 eleven.json >&8 2>got.err
+status=$?
+cat <&9 >got.out
+exec 8>&- 9<&-
+judge 'checkpoint: a listing in a file that was removed' "$status" 0
+: >unread.out
+chmod 200 unread.out
+"$program" "${kept[@]}" "${often[@]}" --checkpoint unread --every 1 eleven.json >unread.out 2>got.err
+status=$?
+chmod 600 unread.out
+cp unread.out got.out
+judge 'checkpoint: a listing that may not be read' "$status" 0
 
 # Status 6: the disk's files can't be opened, read or written. Status 9: its generations come to their end. What was found before
 # stays written.
