@@ -1,6 +1,7 @@
 -- Worked examples of what a cut keeps, computed. A line is an event at as many nanoseconds as its first byte says, and its second byte, where there
 -- is one, is the mask of its one route, which has no key values; a line that begins with byte 1 is rejected.
 use Rattle.std.specs.Prelude.{◌≡◌, ◌==◌, if◌then◌else◌, ℕ, pos, false, List, [], ◌∷◌, Some, None, refl}
+use Rattle.eql_digest.specs.Digests.{start, with_bytes}
 use Rattle.eql_values.specs.declared.order.OrderKey.{OrderKey}
 use Rattle.eql_values.specs.declared.order.Mark.TheVariants.{At, End}
 use Rattle.eql_values.specs.declared.item.Route.{Route}
@@ -49,6 +50,7 @@ four_lines_read : lane_at by_bytes (Some (pos 5)) 2 (At (pos 16))
     (record { first = 17 ∷ 10 ∷ 14 ∷ 10 ∷ 1 ∷ 10 ∷ 21 ∷ 10 ∷ []; rest = 22 ∷ 10 ∷ 23 ∷ []; closed = false })
     ≡ record {
       offset = 8;
+      digest = with_bytes start (17 ∷ 10 ∷ 14 ∷ 10 ∷ 1 ∷ 10 ∷ 21 ∷ 10 ∷ []);
       closed = false;
       best = Some (pos 21);
       counts = record { lines = 4; accepted = 3; late = 0; rejected = 1; first = Some (record { line = 3; reason = NotJson }) };
@@ -97,6 +99,7 @@ two_shards_cut : cut_of two_stages by_bytes (pos 25) two_shards
       lanes =
           record {
             offset = 12;
+            digest = with_bytes start (21 ∷ 1 ∷ 10 ∷ 23 ∷ 2 ∷ 10 ∷ 24 ∷ 1 ∷ 10 ∷ 30 ∷ 1 ∷ 10 ∷ []);
             closed = false;
             best = Some (pos 30);
             counts = record { lines = 4; accepted = 4; late = 0; rejected = 0; first = None };
@@ -104,6 +107,7 @@ two_shards_cut : cut_of two_stages by_bytes (pos 25) two_shards
           }
           ∷ record {
             offset = 6;
+            digest = with_bytes start (22 ∷ 1 ∷ 10 ∷ 31 ∷ 2 ∷ 10 ∷ []);
             closed = false;
             best = Some (pos 31);
             counts = record { lines = 2; accepted = 2; late = 0; rejected = 0; first = None };

@@ -1,6 +1,7 @@
 -- What a cut keeps of shards, the law that each lane is as a checkpoint is to say it, and the least of marks.
 use Rattle.std.specs.Prelude.{◌≡◌, ◌≤◌, ◌+◌, if◌then◌else◌, ℕ, ℤ, ◌≤ℤ◌, ◌-ℤ◌, false, List, [], ◌∷◌, Option, Some, IfSome, map, length, All, IsTrue}
 use Rattle.std.specs.Ordering.{is_le}
+use Rattle.eql_digest.specs.Digests.{start, with_bytes}
 use Rattle.eql_values.specs.declared.item.Item.{Item}
 use Rattle.eql_values.specs.declared.order.Mark.{Mark}
 use Rattle.eql_values.specs.declared.order.Mark.TheVariants.{At, End}
@@ -21,6 +22,7 @@ use Rattle.eql_laws.specs.Places.{ReadTo, lows_from}
 abbrev pub lane_at : Reads → Option ℤ → ℕ → Mark → ReadTo → LaneCut
 lane_at reads slack shard mark r = record {
   offset = length r.first;
+  digest = with_bytes start r.first;
   closed = r.closed;
   best = best_of (readable reads shard (lines_in r.first));
   counts = counts_of reads slack shard r.first;

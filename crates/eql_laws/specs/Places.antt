@@ -1,5 +1,5 @@
 -- Laws of texts that were read up to a place: the lines before it and after it, and what below a safe mark is known there.
-use Rattle.std.specs.Prelude.{◌≡◌, ◌≢◌, not, codes, refl, ℕ, ◌+◌, ℤ, Bool, true, List, [], ◌∷◌, ◌++◌, ◌==◌, Option, map, filter, length, IsTrue}
+use Rattle.std.specs.Prelude.{◌≡◌, ◌≢◌, not, codes, refl, ℕ, ◌+◌, ℤ, Bool, true, false, List, [], ◌∷◌, ◌++◌, ◌==◌, Option, map, filter, length, IsTrue}
 use Rattle.std.specs.List.{list_all}
 use Rattle.eql_values.specs.declared.order.Mark.{Mark}
 use Rattle.eql_values.specs.Accepted.{Reads, readable, accepted_items, below}
@@ -90,10 +90,11 @@ pub record ReadTo : Type 0 where
 abbrev pub whole : ReadTo → List ℕ
 whole r = r.first ++ r.rest
 
--- the place is the start or the end of a line, and where the shard was closed its text's end
+-- the place is the start or the end of a line: where the shard was closed it is its text's end, and else whole lines end there
 pub record IsPlace (r : ReadTo) : Type 0 where
   pub line_end : IsTrue (is_line_end r.first r.rest)
   pub at_end : r.closed ≡ true → r.rest ≡ []
+  pub whole_lines : r.closed ≡ false → IsTrue (ends_line r.first)
 
 -- the low of a shard at its place
 abbrev pub low_at : Reads → Option ℤ → ℕ → ReadTo → Mark

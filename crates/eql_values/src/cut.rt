@@ -3,6 +3,7 @@ ghost use Rattle.std.specs.Prelude.{◌≡◌};
 
 use crate::found::Numbereds;
 use crate::item::Items;
+use eql_digest::Digest;
 use std::alloc::AllocError;
 use std::marker::Model;
 
@@ -57,6 +58,8 @@ pub struct Counts {
 pub struct LaneCut {
     /// The bytes of the lines that were read, with their line ends.
     pub offset: u64,
+    /// The digest of these bytes.
+    pub digest: Digest,
     /// Whether the shard was read to its end.
     pub closed: bool,
     /// The greatest timestamp of a readable line, in nanoseconds since the epoch.
@@ -74,6 +77,7 @@ impl Clone for LaneCut {
         let items = self.items.clone()?;
         Ok(LaneCut {
             offset: self.offset,
+            digest: self.digest,
             closed: self.closed,
             best: self.best,
             counts: self.counts,

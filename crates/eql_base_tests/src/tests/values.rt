@@ -1,5 +1,6 @@
 //! Shared values: how texts are shown, the test of a span, copies, and equality of mappings.
 use crate::tests::table::{Asked, field, is_bool, see, see_true};
+use eql_digest::Digest;
 use eql_values::{
     BookCut, Chain, Counts, Holder, Holders, Item, ItemLists, Items, Key, Kind, LaneCut, LaneCuts,
     Mask, Match, Memory, NameKinds, Numbered, Numbereds, OrderKey, PipeState, PipeStates, Route,
@@ -217,11 +218,19 @@ const COUNTS: Counts = Counts {
     first: None,
 };
 
+/// A digest of some bytes.
+const DIGEST: Digest = Digest {
+    lanes: [1, 2, 3, 4, 5, 6, 7, 8],
+    word: 9,
+    length: 120,
+};
+
 /// What a cut keeps of one shard with one event.
 fn lanes(alloc: Global) -> Result<LaneCuts, Memory> {
     let lane = LaneCut {
         items: items(alloc)?,
         offset: 120,
+        digest: DIGEST,
         closed: true,
         best: Some(-4),
         counts: COUNTS,
@@ -231,7 +240,11 @@ fn lanes(alloc: Global) -> Result<LaneCuts, Memory> {
 
 /// Whether what is kept of a shard is as it was made, but for its events.
 fn is_read(lane: &LaneCut) -> bool {
-    lane.offset == 120 && lane.closed && lane.best == Some(-4) && lane.counts == COUNTS
+    lane.offset == 120
+        && lane.digest == DIGEST
+        && lane.closed
+        && lane.best == Some(-4)
+        && lane.counts == COUNTS
 }
 
 /// Whether what is kept of a shard is as it was made.
