@@ -2,13 +2,16 @@
 use Rattle.std.proofs.Common.{◌≡◌, ◌⊎◌, inl, inr, ℕ, zero, suc, ◌<◌, ◌≤◌, true, ◌&&◌, ltb, leb, eqb, List, refl, sym, arith}
 use Rattle.std.proofs.lemmas.Bool.{ltb-true, leb-true, eqb-true, and_parts}
 use Rattle.std.specs.Int.{w32, w64}
+use Rattle.eql_digest.specs.Checksums.{checksum_of}
 use Rattle.eql_values.specs.OrderKeys.{events_ascend}
 use Rattle.eql_values.specs.declared.found.Numbered.{Numbered}
+use Rattle.eql_cut.specs.declared.cut.Cut.{Cut}
 use Rattle.eql_cut.specs.declared.reader.Version.{Version}
-use Rattle.eql_cut.specs.Formats.{number, both, only, option, list, byte, never, case}
+use Rattle.eql_cut.specs.declared.reader.Version.TheVariants as version
+use Rattle.eql_cut.specs.Formats.{number, both, by, only, option, list, byte, never, case}
 use Rattle.eql_cut.specs.Values.{signed_16, order, text, field, lane}
-use Rattle.eql_cut.specs.CutValues.{kind_of, rank_of, field_kind, names_ascend, mapping, chain, match_, is_full, holder, holders_ascend, holders, numbered_match, numbers_ascend, kept_matches, state_of, seen_by, pipe_state, book, head, has_lanes, cut, version_of, number_of, version_byte, exactly, header_of, header, cut_file}
-use Rattle.eql_cut.proofs.Laws.{Lawful, eight, four, by_lawful, both_lawful, as_lawful, only_lawful, option_lawful, list_lawful, byte_lawful, never_lawful, case_lawful}
+use Rattle.eql_cut.specs.CutValues.{kind_of, rank_of, field_kind, names_ascend, mapping, chain, match_, is_full, holder, holders_ascend, holders, numbered_match, numbers_ascend, kept_matches, state_of, seen_by, pipe_state, book, head, has_lanes, cut, version_of, number_of, version_byte, exactly, header_of, header, closing, unclosed, cut_file}
+use Rattle.eql_cut.proofs.Laws.{Lawful, eight, four, by_lawful, both_lawful, as_lawful, only_lawful, the_number_lawful, option_lawful, list_lawful, byte_lawful, empty_lawful, never_lawful, case_lawful}
 use Rattle.eql_cut.proofs.ValueLaws.{signed_16_lawful, order_lawful, text_lawful, field_lawful, lane_lawful}
 
 rank_back : (n : ℕ) → n < 4 → rank_of (kind_of n) ≡ n
@@ -38,10 +41,10 @@ module _ (v : Version) where
   chain_lawful = only_lawful events_ascend (list (order v)) (list_lawful (order v) (order_lawful v))
 
   match_lawful : Lawful (match_ v)
-  match_lawful = as_lawful _ _ (both (list field) (chain v)) (both_lawful _ _ (list_lawful field field_lawful) chain_lawful) (λ x fits. refl)
+  match_lawful = as_lawful _ _ (both (list (field v)) (chain v)) (both_lawful _ _ (list_lawful (field v) (field_lawful v)) chain_lawful) (λ x fits. refl)
 
   holder_lawful : Lawful (holder v)
-  holder_lawful = only_lawful is_full _ (as_lawful _ _ (both (list field) (both (number w32) (chain v))) (both_lawful _ _ (list_lawful field field_lawful) (both_lawful _ _ four chain_lawful)) (λ x fits. refl))
+  holder_lawful = only_lawful is_full _ (as_lawful _ _ (both (list (field v)) (both (number w32) (chain v))) (both_lawful _ _ (list_lawful (field v) (field_lawful v)) (both_lawful _ _ four chain_lawful)) (λ x fits. refl))
 
   holders_lawful : Lawful (holders v)
   holders_lawful = only_lawful holders_ascend (list (holder v)) (list_lawful (holder v) holder_lawful)
@@ -64,18 +67,19 @@ module _ (v : Version) where
   cut_lawful = only_lawful has_lanes _ (as_lawful _ _ (both head (both signed_16 (both (list (lane v)) (both (holders v) (book v)))))
       (both_lawful _ _ head_lawful (both_lawful _ _ signed_16_lawful (both_lawful _ _ (list_lawful (lane v) (lane_lawful v)) (both_lawful _ _ holders_lawful book_lawful)))) (λ x fits. refl))
 
-number_back : (n : ℕ) → 1 ≤ n → n ≤ 3 → number_of (version_of n) ≡ n
+number_back : (n : ℕ) → 1 ≤ n → n ≤ 4 → number_of (version_of n) ≡ n
 number_back zero low high = absurd (omega arith)
 number_back (suc zero) low high = refl
 number_back (suc (suc zero)) low high = refl
 number_back (suc (suc (suc zero))) low high = refl
-number_back (suc (suc (suc (suc n)))) low high = absurd (omega arith)
+number_back (suc (suc (suc (suc zero)))) low high = refl
+number_back (suc (suc (suc (suc (suc n))))) low high = absurd (omega arith)
 
-within : (n : ℕ) → (leb 1 n && leb n 3) ≡ true → number_of (version_of n) ≡ n
-within n is = let p = and_parts (leb 1 n) (leb n 3) is in number_back n (leb-true 1 n p.0) (leb-true n 3 p.1)
+within : (n : ℕ) → (leb 1 n && leb n 4) ≡ true → number_of (version_of n) ≡ n
+within n is = let p = and_parts (leb 1 n) (leb n 4) is in number_back n (leb-true 1 n p.0) (leb-true n 4 p.1)
 
 version_byte_lawful : Lawful version_byte
-version_byte_lawful = as_lawful version_of number_of _ (only_lawful (λ n. leb 1 n && leb n 3) byte byte_lawful) (λ n fits. within n fits.1)
+version_byte_lawful = as_lawful version_of number_of _ (only_lawful (λ n. leb 1 n && leb n 4) byte byte_lawful) (λ n fits. within n fits.1)
 
 exactly_lawful : (n : ℕ) → Lawful (exactly n)
 exactly_lawful n = only_lawful (λ b. eqb b n) byte byte_lawful
@@ -90,5 +94,16 @@ header_lawful = as_lawful _ header_of _
     let d = eqb-true x.1.1.1.0 0x43 fits.1.1.1.0.1 in
     λ i. (sym a i, (sym b i, (sym c i, (sym d i, x.1.1.1.1)))))
 
+pub unclosed_lawful : Lawful unclosed
+unclosed_lawful = by_lawful header cut header_lawful cut_lawful
+
+closing_lawful : (v : Version) (bytes : List ℕ) → Lawful (closing v bytes)
+closing_lawful version.One bytes = empty_lawful
+closing_lawful version.Two bytes = empty_lawful
+closing_lawful version.Three bytes = empty_lawful
+closing_lawful version.Four bytes = the_number_lawful w64 (checksum_of bytes) eight
+
 pub cut_file_lawful : Lawful cut_file
-cut_file_lawful = by_lawful header cut header_lawful cut_lawful
+cut_file_lawful =
+    as_lawful _ _ (by unclosed (λ (x : Version × Cut). closing x.0 (unclosed.text x))) (by_lawful unclosed _ unclosed_lawful (λ x. closing_lawful x.0 (unclosed.text x)))
+    (λ x fits. refl)

@@ -1,14 +1,15 @@
 -- A format reads back what it spells, and reads nothing else.
-use Rattle.std.proofs.Common.{◌≡◌, ◌⊎◌, inl, inr, ⊎_elim, ℕ, zero, suc, ◌+◌, ◌^◌, ◌≤◌, ◌<◌, Bool, true, false, cond, ltb, eqb, List, [], ◌∷◌, ◌++◌, length, take, drop, All, Option, Some, None, IfSome, refl, sym, ◌∙◌, ap, subst, arith, append_assoc, append-nil}
+use Rattle.std.proofs.Common.{◌≡◌, ◌⊎◌, inl, inr, ⊎_elim, ℕ, zero, suc, ◌+◌, ◌-◌, ◌^◌, ◌≤◌, ◌<◌, Bool, true, false, cond, ltb, eqb, List, [], ◌∷◌, ◌++◌, length, take, drop, All, Option, Some, None, IfSome, refl, sym, ◌∙◌, ap, subst, arith, append_assoc, append-nil, length-append}
 use Rattle.std.proofs.lemmas.Bool.{ltb-false, le-ltb, eqb-true, cond-true, cond-false, cases_Bool, eq-eqb}
 use Rattle.std.proofs.lemmas.List.{take-append-drop, get_or-append-add, length-take-le}
 use Rattle.std.proofs.lemmas.List.Elements.{All-head, All-tail, All-cons}
 use Rattle.std.proofs.lemmas.Nat.{le_bytes_4, le_bytes_8, from_le_bytes-to_le_bytes_4, from_le_bytes-to_le_bytes_8}
-use Rattle.std.specs.Int.{w32, w64, to_le_bytes, from_le_bytes}
+use Rattle.std.specs.Int.{Width, w32, w64, to_le_bytes, from_le_bytes}
 use Rattle.std.specs.List.{flat_map}
-use Rattle.eql_cut.specs.Formats.{IsBytes, Format, ◌>>=◌, number, number_text, number_read, both, by, seen_as, only, option, truth, times, list, at_end, whole, byte, empty, never, case}
+use Rattle.std.proofs.Math.Seq.{take-append_seam}
+use Rattle.eql_cut.specs.Formats.{IsBytes, Format, ◌>>=◌, number, number_text, number_read, both, by, seen_as, only, the_number, option, truth, times, list, so_many, at_end, whole, byte, empty, never, case}
 
-rest_is_bytes : (front rest : List ℕ) → IsBytes (front ++ rest) → IsBytes rest
+pub rest_is_bytes : (front rest : List ℕ) → IsBytes (front ++ rest) → IsBytes rest
 rest_is_bytes front rest all i = subst (λ b. b < 256) (get_or-append-add front rest i 0) (all (length front + i))
 
 tail_is_bytes : (b : ℕ) (rest : List ℕ) → IsBytes (b ∷ rest) → IsBytes rest
@@ -23,7 +24,7 @@ bind_some : {A B : Type 0} (o : Option A) (f : A → Option B) (y : B) → (o >>
 bind_some None f y is = absurd (cc)
 bind_some (Some x) f y is = (x, refl, is)
 
-guard_some : {A : Type 0} (b : Bool) (x y : A) → cond b None (Some x) ≡ Some y → (b ≡ false) × (x ≡ y)
+pub guard_some : {A : Type 0} (b : Bool) (x y : A) → cond b None (Some x) ≡ Some y → (b ≡ false) × (x ≡ y)
 guard_some true x y is = absurd (cc)
 guard_some false x y is = (refl, cc)
 
@@ -143,6 +144,9 @@ module _ {A : Type 0} (test : A → Bool) (f : Format A) (lf : Lawful f) where
     exact = only_exact;
   }
 
+pub the_number_lawful : (w : Width) (n : ℕ) → Lawful (number w) → Lawful (the_number w n)
+the_number_lawful w n lw = as_lawful (λ (m : ℕ). tt) (λ u. n) (only (λ m. eqb m n) (number w)) (only_lawful (λ m. eqb m n) (number w) lw) (λ m fits. sym (eqb-true m n fits.1))
+
 module _ {A : Type 0} (f : Format A) (lf : Lawful f) where
   abbrev some_read : List ℕ → Option (Option A × List ℕ)
   some_read bytes = f.read bytes >>= λ x. Some (Some x.0, x.1)
@@ -202,6 +206,12 @@ module _ {A : Type 0} (f : Format A) (lf : Lawful f) where
         spelt ∙ joined (flat_map f.text (x.0 ∷ y.0)) (flat_map f.text xs) y.1 rest (ap (flat_map f.text) ends.0) ends.1,
       )
 
+  so_many_again : (n : ℕ) (xs : List A) (rest : List ℕ) → (so_many n f).Fits xs → times f.read n (flat_map f.text xs ++ rest) ≡ Some (xs, rest)
+  so_many_again n xs rest fits = ap (λ k. times f.read k (flat_map f.text xs ++ rest)) (sym fits.0) ∙ times_again xs rest fits.1
+
+  pub so_many_lawful : (n : ℕ) → Lawful (so_many n f)
+  so_many_lawful n = record { again = so_many_again n; exact = λ bytes xs rest all is. let e = times_exact n bytes xs rest all is in ((e.0, e.1), e.2) }
+
   list_exact : (bytes : List ℕ) (xs : List A) (rest : List ℕ) → IsBytes bytes → (list f).read bytes ≡ Some (xs, rest) → (list f).Fits xs × (bytes ≡ (list f).text xs ++ rest)
   list_exact bytes xs rest all is =
       let one = bind_some (number_read w64 bytes) (λ n. times f.read n.0 n.1) (xs, rest) is in
@@ -220,6 +230,14 @@ module _ {A : Type 0} (f : Format A) (lf : Lawful f) where
         ∙ times_again xs rest fits.1;
     exact = list_exact;
   }
+
+  -- what was read is in front of what is left
+  pub read_front : (bytes : List ℕ) (a : A) (rest : List ℕ) → IsBytes bytes → f.read bytes ≡ Some (a, rest) → (length rest ≤ length bytes) × (take (length bytes - length rest) bytes ≡ f.text a)
+  read_front bytes a rest all is =
+      let spelt : bytes ≡ f.text a ++ rest = (lf.exact bytes a rest all is).1 in
+      let counted : length bytes ≡ length (f.text a) + length rest = ap length spelt ∙ length-append (f.text a) rest in
+      let front : length bytes - length rest ≡ length (f.text a) = omega (arith, counted) in
+      (omega (arith, counted), ap (λ n. take n bytes) front ∙ ap (take (length (f.text a))) spelt ∙ take-append_seam (f.text a) rest)
 
   -- a value is read of all bytes exactly when they are its spelling
   pub whole_again : (a : A) (bytes : List ℕ) → f.Fits a → bytes ≡ f.text a → whole f bytes ≡ Some a

@@ -4,8 +4,10 @@ pub mod ValueLaws
 pub mod TextBytes
 pub mod Keyed
 pub mod CutLaws
+pub mod Closings
 pub mod Standing
 pub mod WholeLaws
+pub mod Changed
 pub mod FitLaws
 pub mod FitLanes
 pub mod FitHolders

@@ -36,7 +36,7 @@ chain_old chain fits = All-weaker order_without.Fits (λ (x : OrderKey). x.at �
 lane_old : (l : LaneCut) → (lane version.One).Fits l → IsUnplaced (lane_orders l)
 lane_old l fits =
     All-map (λ (x : OrderKey). x.at ≡ 0) (λ (i : Item). i.order) l.items
-    (All-weaker (item version.One).Fits (λ (i : Item). i.order.at ≡ 0) (λ i f. order_old i.order f.0.0) l.items fits.0.1.1.1.1.0.1)
+    (All-weaker (item version.One).Fits (λ (i : Item). i.order.at ≡ 0) (λ i f. order_old i.order f.0.0) l.items fits.0.1.1.1.1.1.0.1)
 
 holder_old : (h : Holder) → (holder version.One).Fits h → IsUnplaced h.chain
 holder_old h fits = chain_old h.chain fits.0.0.1.1.0.1
@@ -62,6 +62,7 @@ old_by : (v : Version) (c : Cut) → number_of v ≡ 1 → (cut v).Fits c → Is
 old_by version.One c is fits = cut_old c fits
 old_by version.Two c is fits = absurd (omega (arith, is))
 old_by version.Three c is fits = absurd (omega (arith, is))
+old_by version.Four c is fits = absurd (omega (arith, is))
 
 pub first_format : (c : Cut) (bytes : List ℕ) → IsText 1 c bytes → IsUnplaced (orders_in c)
 first_format c bytes text = old_by text.version c text.number text.fits

@@ -57,6 +57,7 @@ module _ (place : ℕ → ℕ → ℕ) where
   lane_back lane all =
       λ i. record {
         offset = lane.offset;
+        digest = lane.digest;
         closed = lane.closed;
         best = lane.best;
         counts = lane.counts;

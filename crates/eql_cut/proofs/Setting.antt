@@ -53,7 +53,7 @@ module _ (p q : ℕ → ℕ → ℕ) where
       λ i. alike x (left_of Agree (orders x) (flat_map orders xs) all) i ∷ same_each orders set other alike xs (right_of Agree (orders x) (flat_map orders xs) all) i
 
   same_lane : (lane : LaneCut) → All Agree (lane_orders lane) → lifted_lane p lane ≡ lifted_lane q lane
-  same_lane lane all = λ i. record { offset = lane.offset; closed = lane.closed; best = lane.best; counts = lane.counts; items = same_items lane.items all i }
+  same_lane lane all = λ i. record { offset = lane.offset; digest = lane.digest; closed = lane.closed; best = lane.best; counts = lane.counts; items = same_items lane.items all i }
 
   same_holder : (h : Holder) → All Agree h.chain → lifted_holder p h ≡ lifted_holder q h
   same_holder h all = λ i. record { key = h.key; stage = h.stage; chain = same_chain h.chain all i }
@@ -96,6 +96,7 @@ module _ (p q : ℕ → ℕ → ℕ) where
   twice_lane : (lane : LaneCut) → lifted_lane p (lifted_lane q lane) ≡ lifted_lane p lane
   twice_lane lane = λ i. record {
     offset = lane.offset;
+    digest = lane.digest;
     closed = lane.closed;
     best = lane.best;
     counts = lane.counts;

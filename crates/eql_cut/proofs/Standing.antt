@@ -67,7 +67,7 @@ module _ (v : Version) where
 
   lane_stands : ItemsBack → (l : LaneCut) → (lane v).Fits l → Ascend l.items × All (λ (i : Item). RoutesStand i.routes) l.items
   lane_stands back l fits =
-      let items = fits.0.1.1.1.1 in
+      let items = fits.0.1.1.1.1.1 in
       let all : All (λ (i : Item). RoutesStand i.routes) l.items = All-weaker (item v).Fits (λ (i : Item). RoutesStand i.routes) item_stands l.items items.0.1 in
       (back l.items (All-weaker (λ (i : Item). RoutesStand i.routes) (λ (i : Item). RoutesAreInOrder i.routes) (λ i stands. stands.0) l.items all) items.1, all)
 

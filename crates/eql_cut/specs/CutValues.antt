@@ -1,9 +1,10 @@
 -- The formats of a whole cut.
 use mathlib.Core.Logic.{inl, inr}
-use Rattle.std.specs.Prelude.{ℕ, ℤ, ◌==◌, ◌&&◌, ◌⊎◌, ◌++◌, nat_lt, nat_le, if◌then◌else◌, Bool, List, length, Option, All, IsTrue}
+use Rattle.std.specs.Prelude.{ℕ, ℤ, ◌==◌, ◌&&◌, ◌⊎◌, nat_lt, nat_le, if◌then◌else◌, Bool, List, length, Option, All, IsTrue}
 use Rattle.std.specs.FinMap.Entries.{is_sorted}
 use Rattle.std.specs.Ordering.{nat_cmp}
 use Rattle.std.specs.Int.{w32, w64}
+use Rattle.eql_digest.specs.Checksums.{checksum_of}
 use Rattle.eql_values.specs.declared.order.OrderKey.{OrderKey}
 use Rattle.eql_values.specs.declared.value.Value.{Value}
 use Rattle.eql_values.specs.declared.value.Kind.{Kind}
@@ -23,7 +24,7 @@ use Rattle.eql_cut.specs.declared.cut.CutHead.{CutHead}
 use Rattle.eql_cut.specs.declared.cut.Cut.{Cut}
 use Rattle.eql_cut.specs.declared.reader.Version.{Version}
 use Rattle.eql_cut.specs.declared.reader.Version.TheVariants as version
-use Rattle.eql_cut.specs.Formats.{Format, number, both, by, seen_as, only, option, list, byte, never, case}
+use Rattle.eql_cut.specs.Formats.{Format, number, both, by, seen_as, only, the_number, option, list, byte, empty, never, case}
 use Rattle.eql_cut.specs.Values.{signed_16, order, text, field, lane, items_ascend}
 
 abbrev pub kind_of : ℕ → Kind
@@ -50,7 +51,7 @@ abbrev pub chain : Version → Format (List OrderKey)
 chain v = only events_ascend (list (order v))
 
 abbrev pub match_ : Version → Format Match
-match_ v = seen_as (λ (x : List Value × List OrderKey). record { key = x.0; chain = x.1 }) (λ m. (m.key, m.chain)) (both (list field) (chain v))
+match_ v = seen_as (λ (x : List Value × List OrderKey). record { key = x.0; chain = x.1 }) (λ m. (m.key, m.chain)) (both (list (field v)) (chain v))
 
 -- a pending sequence has as many events as its stage says
 abbrev pub is_full : Holder → Bool
@@ -59,7 +60,7 @@ is_full h = length h.chain == h.stage
 abbrev pub holder : Version → Format Holder
 holder v =
     only is_full
-    (seen_as (λ (x : List Value × (ℕ × List OrderKey)). record { key = x.0; stage = x.1.0; chain = x.1.1 }) (λ h. (h.key, (h.stage, h.chain))) (both (list field) (both (number w32) (chain v))))
+    (seen_as (λ (x : List Value × (ℕ × List OrderKey)). record { key = x.0; stage = x.1.0; chain = x.1.1 }) (λ h. (h.key, (h.stage, h.chain))) (both (list (field v)) (both (number w32) (chain v))))
 
 abbrev pub holders_ascend : List Holder → Bool
 holders_ascend holders = is_sorted slot_cmp (by_slot holders)
@@ -108,15 +109,16 @@ cut v =
 
 -- the byte of a format
 abbrev pub version_of : ℕ → Version
-version_of n = if n == 1 then version.One else if n == 2 then version.Two else version.Three
+version_of n = if n == 1 then version.One else if n == 2 then version.Two else if n == 3 then version.Three else version.Four
 
 abbrev pub number_of : Version → ℕ
 number_of version.One = 1
 number_of version.Two = 2
 number_of version.Three = 3
+number_of version.Four = 4
 
 abbrev pub version_byte : Format Version
-version_byte = seen_as version_of number_of (only (λ n. nat_le 1 n && nat_le n 3) byte)
+version_byte = seen_as version_of number_of (only (λ n. nat_le 1 n && nat_le n 4) byte)
 
 -- a byte that is always the same
 abbrev pub exactly : ℕ → Format ℕ
@@ -131,13 +133,24 @@ header =
     seen_as (λ (x : ℕ × (ℕ × (ℕ × (ℕ × Version)))). x.1.1.1.1) header_of
     (both (exactly 0x45) (both (exactly 0x51) (both (exactly 0x4c) (both (exactly 0x43) version_byte))))
 
+-- what closes a text of these bytes: in the first three formats nothing, and in the fourth their checksum
+abbrev pub closing : Version → List ℕ → Format (Unit {0})
+closing version.One bytes = empty
+closing version.Two bytes = empty
+closing version.Three bytes = empty
+closing version.Four bytes = the_number w64 (checksum_of bytes)
+
+-- a cut with its format, up to what closes its text
+abbrev pub unclosed : Format (Version × Cut)
+unclosed = by header cut
+
 -- a cut with its format
 abbrev pub cut_file : Format (Version × Cut)
-cut_file = by header cut
+cut_file = seen_as (λ (x : (Version × Cut) × Unit {0}). x.0) (λ x. (x, tt)) (by unclosed (λ x. closing x.0 (unclosed.text x)))
 
--- the text of a cut in a format
+-- the text of a cut in a format: the bytes at the front and the cut, and what closes them
 abbrev pub cut_text : Version → Cut → List ℕ
-cut_text v c = header.text v ++ (cut v).text c
+cut_text v c = cut_file.text (v, c)
 
 -- the orders that no width says: of what a pipe has seen, and of a whole cut
 abbrev pub IsOrderedState : PipeState → Type 0

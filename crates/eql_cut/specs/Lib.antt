@@ -7,6 +7,7 @@ pub mod Agreeing
 pub mod Domain
 pub mod Rising
 pub mod Whole
+pub mod Changed
 pub mod Fitting
 pub mod Placing
 pub mod Lifting

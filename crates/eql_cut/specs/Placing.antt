@@ -66,7 +66,7 @@ module _ (place : (shard line : ℕ) → ℕ) where
   lifted_item item = record { order = lifted_order item.order; routes = item.routes }
 
   abbrev pub lifted_lane : LaneCut → LaneCut
-  lifted_lane lane = record { offset = lane.offset; closed = lane.closed; best = lane.best; counts = lane.counts; items = map lifted_item lane.items }
+  lifted_lane lane = record { offset = lane.offset; digest = lane.digest; closed = lane.closed; best = lane.best; counts = lane.counts; items = map lifted_item lane.items }
 
   abbrev pub lifted_holder : Holder → Holder
   lifted_holder h = record { key = h.key; stage = h.stage; chain = lifted_chain h.chain }

@@ -1,14 +1,16 @@
 -- The formats of the values that a cut holds.
-use Rattle.std.specs.Prelude.{ℕ, ℤ, ◌+◌, ◌*◌, ◌/◌, ◌%◌, ◌^◌, ◌==◌, if◌then◌else◌, Bool, ◌&&◌, nat_lt, List, Option, ◌⊎◌}
+use Rattle.std.specs.Prelude.{ℕ, ℤ, ◌+◌, ◌*◌, ◌/◌, ◌%◌, ◌^◌, ◌<◌, ◌==◌, if◌then◌else◌, Bool, ◌&&◌, nat_lt, List, [], length, take, drop, Option, Some, None, ◌⊎◌}
 use Rattle.std.specs.List.{list_all}
 use Rattle.std.specs.FinMap.Entries.{is_sorted}
 use Rattle.eql_values.specs.Orders.{key_cmp}
 use Rattle.eql_values.specs.Adjacent.{by_key, by_order}
 use Rattle.eql_values.specs.OrderKeys.{order_cmp}
-use Rattle.std.specs.Int.{w32, w64, w128, cast_signed, cast_unsigned}
+use Rattle.std.specs.Int.{w32, w64, w128, cast_signed, cast_unsigned, to_be_bytes, from_be_bytes}
 use mathlib.Core.Logic.{inl, inr}
 use Rattle.std.specs.Str.{chars, is_utf8}
 use Rattle.std.proofs.Math.Utf8.{encodes}
+use Rattle.eql_digest.specs.declared.digest.Digest.{Digest}
+use Rattle.eql_digest.specs.Digests.{start, with_bytes}
 use Rattle.eql_values.specs.declared.order.OrderKey.{OrderKey}
 use Rattle.eql_values.specs.declared.value.Value.{Value}
 use Rattle.eql_values.specs.declared.value.Value.TheVariants as value
@@ -23,7 +25,7 @@ use Rattle.eql_values.specs.declared.cut.LaneCut.{LaneCut}
 use Rattle.eql_values.specs.Routes.{says_something}
 use Rattle.eql_cut.specs.declared.reader.Version.{Version}
 use Rattle.eql_cut.specs.declared.reader.Version.TheVariants as version
-use Rattle.eql_cut.specs.Formats.{Format, number, both, seen_as, only, option, truth, list, byte, empty, never, case}
+use Rattle.eql_cut.specs.Formats.{Format, number, both, seen_as, only, the_number, option, truth, list, so_many, byte, empty, never, case}
 
 -- a number of 16 bytes
 abbrev pub sixteen : Format ℕ
@@ -51,10 +53,36 @@ abbrev pub order : Version → Format OrderKey
 order version.One = order_without
 order version.Two = order_with_place
 order version.Three = order_with_place
+order version.Four = order_with_place
 
 -- a text, by its UTF-8 bytes
 abbrev pub text : Format (List ℕ)
 text = seen_as chars encodes (only is_utf8 (list byte))
+
+-- the four bytes of an address, the highest first
+unfoldable pub octets_text : ℕ → List ℕ
+octets_text n = to_be_bytes w32 n
+
+unfoldable pub octets_read : List ℕ → Option (ℕ × List ℕ)
+octets_read bytes = if nat_lt (length bytes) 4 then None else Some (from_be_bytes w32 (take 4 bytes), drop 4 bytes)
+
+abbrev pub octets : Format ℕ
+octets = record { Fits = λ n. n < 2 ^ 32; text = octets_text; read = octets_read }
+
+-- what stands in front of an address of 32 bits in one of 128 bits: ten bytes of 0 and two of 255
+abbrev pub in_front : Format (Unit {0} × Unit {0})
+in_front = both (the_number w64 0) (the_number w32 0xffff0000)
+
+-- an address in 16 bytes
+abbrev pub mapped : Format ℕ
+mapped = seen_as (λ (x : (Unit {0} × Unit {0}) × ℕ). x.1) (λ ip. ((tt, tt), ip)) (both in_front octets)
+
+-- an address; the first three formats have four bytes, the lowest first
+abbrev pub address : Version → Format ℕ
+address version.One = number w32
+address version.Two = number w32
+address version.Three = number w32
+address version.Four = mapped
 
 -- a value of a field: its kind, and what it holds
 abbrev pub value_of : Unit {0} ⊎ (Bool ⊎ (ℤ ⊎ (List ℕ ⊎ (ℕ ⊎ ⊥)))) → Value
@@ -72,8 +100,8 @@ parts_of (value.Long n) = inr (inr (inl n))
 parts_of (value.Text t) = inr (inr (inr (inl t)))
 parts_of (value.Ip ip) = inr (inr (inr (inr (inl ip))))
 
-abbrev pub field : Format Value
-field = seen_as value_of parts_of (case 0 empty (case 1 truth (case 2 signed_8 (case 3 text (case 4 (number w32) never)))))
+abbrev pub field : Version → Format Value
+field v = seen_as value_of parts_of (case 0 empty (case 1 truth (case 2 signed_8 (case 3 text (case 4 (address v) never)))))
 
 -- a mask; the first two formats have no stage above 128
 abbrev pub mask_of_two : Format Mask
@@ -86,10 +114,11 @@ abbrev pub mask : Version → Format Mask
 mask version.One = mask_of_one
 mask version.Two = mask_of_one
 mask version.Three = mask_of_two
+mask version.Four = mask_of_two
 
 -- a route of an event
 abbrev pub route : Version → Format Route
-route v = seen_as (λ (x : List Value × (Mask × Bool)). record { key = x.0; mask = x.1.0; until = x.1.1 }) (λ r. (r.key, (r.mask, r.until))) (both (list field) (both (mask v) truth))
+route v = seen_as (λ (x : List Value × (Mask × Bool)). record { key = x.0; mask = x.1.0; until = x.1.1 }) (λ r. (r.key, (r.mask, r.until))) (both (list (field v)) (both (mask v) truth))
 
 -- the routes of an event ascend strictly by key, and each has a stage or ends its key
 abbrev pub routes_stand : List Route → Bool
@@ -136,7 +165,24 @@ counts =
     (λ c. (c.lines, (c.accepted, (c.late, (c.rejected, c.first)))))
     (both (number w32) (both (number w32) (both (number w32) (both (number w32) (option first_bad)))))
 
+-- a digest; the first three formats have none, which is read as that of no bytes
+abbrev pub digest_of_ten : Format Digest
+digest_of_ten =
+    seen_as (λ (x : List ℕ × (ℕ × ℕ)). record { lanes = x.0; word = x.1.0; length = x.1.1 }) (λ d. (d.lanes, (d.word, d.length)))
+    (both (so_many 8 (number w64)) (both (number w64) (number w64)))
+
+abbrev pub digest_of_none : Format Digest
+digest_of_none = seen_as (λ (u : Unit {0}). with_bytes start []) (λ d. tt) empty
+
+abbrev pub digest : Version → Format Digest
+digest version.One = digest_of_none
+digest version.Two = digest_of_none
+digest version.Three = digest_of_none
+digest version.Four = digest_of_ten
+
 abbrev pub lane : Version → Format LaneCut
 lane v =
-    seen_as (λ (x : ℕ × (Bool × (Option ℤ × (Counts × List Item)))). record { offset = x.0; closed = x.1.0; best = x.1.1.0; counts = x.1.1.1.0; items = x.1.1.1.1 })
-    (λ l. (l.offset, (l.closed, (l.best, (l.counts, l.items))))) (both (number w64) (both truth (both (option signed_16) (both counts (items v)))))
+    seen_as
+    (λ (x : ℕ × (Digest × (Bool × (Option ℤ × (Counts × List Item))))). record { offset = x.0; digest = x.1.0; closed = x.1.1.0; best = x.1.1.1.0; counts = x.1.1.1.1.0; items = x.1.1.1.1.1 })
+    (λ l. (l.offset, (l.digest, (l.closed, (l.best, (l.counts, l.items))))))
+    (both (number w64) (both (digest v) (both truth (both (option signed_16) (both counts (items v))))))

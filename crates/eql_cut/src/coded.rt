@@ -20,8 +20,8 @@ pub trait Coded {
     fn write(&self, to: &mut Vec<u8>) -> Result<(), AllocError>
         requires { ordered self.now }
         ensures text { OnOk result
-            (to.new.items ≡ to.old.items ++ (format version.Three).text self.now) }
-        ensures fits { OnOk result ((format version.Three).Fits self.now) };
+            (to.new.items ≡ to.old.items ++ (format version.Four).text self.now) }
+        ensures fits { OnOk result ((format version.Four).Fits self.now) };
 
     /// Reads a value at the front of what is left.
     fn read(from: &mut Reader, alloc: Global, of: Version) -> Result<Self, CutRefused>

@@ -1,8 +1,10 @@
 //! Laws of cuts, each the contract of a function that does nothing.
+ghost use Rattle.eql_cut.specs.Changed.{ChangesAreFound, TurnedBitsAreFound};
 ghost use Rattle.eql_cut.specs.Lifting.{FirstFormatHasNoPlaces, LiftedStands, LiftedFits};
 ghost use Rattle.eql_cut.specs.Lifting.{LiftedIsPlaced};
 ghost use Rattle.eql_cut.specs.Whole.{TextsAreDecided};
 
+use eql_digest::bursts_are_found;
 use eql_laws::opening_finds;
 use eql_values::{orders_agree_with_equality, orders_told_alike};
 
@@ -31,3 +33,12 @@ pub fn lifted_cuts_are_placed()
 pub fn texts_are_decided()
     ensures { TextsAreDecided }
 {}
+
+/// A text of format 4 in which up to 64 bits in a row are changed is the text of no cut in that format, and one in which a
+/// bit is turned round is the text of no cut at all.
+pub fn changed_texts_are_found()
+    ensures changes { ChangesAreFound }
+    ensures bits { TurnedBitsAreFound }
+{
+    bursts_are_found();
+}

@@ -4,6 +4,7 @@ ghost use Rattle.eql_cut.specs.Values.{items_ascend};
 
 use crate::coded::Coded;
 use crate::reader::{CutRefused, Reader, Version};
+use eql_digest::Digest;
 use eql_values::{Counts, Items, LaneCut};
 use std::alloc::{AllocError, Global};
 
@@ -16,6 +17,7 @@ impl Coded for LaneCut {
 
     fn write(&self, to: &mut Vec<u8>) -> Result<(), AllocError> {
         self.offset.write(to)?;
+        self.digest.write(to)?;
         self.closed.write(to)?;
         self.best.write(to)?;
         self.counts.write(to)?;
@@ -25,6 +27,7 @@ impl Coded for LaneCut {
     fn read(from: &mut Reader, alloc: Global, of: Version) -> Result<LaneCut, CutRefused> {
         Ok(LaneCut {
             offset: u64::read(from, alloc, of)?,
+            digest: Digest::read(from, alloc, of)?,
             closed: bool::read(from, alloc, of)?,
             best: Option::read(from, alloc, of)?,
             counts: Counts::read(from, alloc, of)?,

@@ -1,4 +1,4 @@
-//! Cuts: what a run keeps so that a later run can go on, and the text of it in three formats.
+//! Cuts: what a run keeps so that a later run can go on, and the text of it in four formats.
 #![tactic(auto)]
 
 mod books;
@@ -7,6 +7,7 @@ mod coded;
 mod compare;
 mod counts;
 mod cut;
+mod digests;
 mod fitting;
 mod heads;
 mod keeping;
@@ -28,7 +29,8 @@ pub use compare::{Differs, agree};
 pub use cut::{Cut, CutHead};
 pub use fitting::fits;
 pub use keeping::{
-    first_format_has_no_places, lifted_cuts_are_placed, lifted_cuts_fit, texts_are_decided,
+    changed_texts_are_found, first_format_has_no_places, lifted_cuts_are_placed, lifted_cuts_fit,
+    texts_are_decided,
 };
 pub use lifting::{lift, named};
 pub use placed_laws::{

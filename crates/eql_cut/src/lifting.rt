@@ -67,6 +67,7 @@ impl Placed for LaneCut {
         let items = lift_each(alloc, self.items.into_items(), places)?;
         Ok(LaneCut {
             offset: self.offset,
+            digest: self.digest,
             closed: self.closed,
             best: self.best,
             counts: self.counts,

@@ -12,18 +12,18 @@ use std::alloc::{AllocError, Global};
 pub(crate) fn write_list<T: Coded>(items: &[T], to: &mut Vec<u8>) -> Result<(), AllocError>
     requires { All T.ordered items.now }
     ensures text { OnOk result
-        (to.new.items ≡ to.old.items ++ (list (T.format version.Three)).text items.now) }
-    ensures fits { OnOk result ((list (T.format version.Three)).Fits items.now) }
+        (to.new.items ≡ to.old.items ++ (list (T.format version.Four)).text items.now) }
+    ensures fits { OnOk result ((list (T.format version.Four)).Fits items.now) }
 {
     (items.len() as u64).write(to)?;
     write_each(items, to)
 }
 
-fn write_each<T: Coded>(items: &[T], to: &mut Vec<u8>) -> Result<(), AllocError>
+pub(crate) fn write_each<T: Coded>(items: &[T], to: &mut Vec<u8>) -> Result<(), AllocError>
     requires { All T.ordered items.now }
     ensures text { OnOk result
-        (to.new.items ≡ to.old.items ++ flat_map (T.format version.Three).text items.now) }
-    ensures fits { OnOk result (All (T.format version.Three).Fits items.now) }
+        (to.new.items ≡ to.old.items ++ flat_map (T.format version.Four).text items.now) }
+    ensures fits { OnOk result (All (T.format version.Four).Fits items.now) }
 {
     for item in items {
         item.write(to)?;

@@ -26,7 +26,7 @@ impl Coded for OrderKey {
     fn read(from: &mut Reader, alloc: Global, of: Version) -> Result<OrderKey, CutRefused> {
         match of {
             Version::One => without_place(from, alloc, of),
-            Version::Two | Version::Three => with_place(from, alloc, of),
+            Version::Two | Version::Three | Version::Four => with_place(from, alloc, of),
         }
     }
 }

@@ -39,12 +39,14 @@ impl<T: Drop> From<AllocFailed<T>> for CutRefused {
 /// The formats of a cut's text. The last is written, and all are read.
 #[derive(Clone, Copy, Debug, PartialEq, Eq)]
 pub enum Version {
-    /// Orders have no place, and masks no stage above 128.
+    /// As `Two`, and orders have no place.
     One,
-    /// Masks have no stage above 128.
+    /// As `Three`, and masks have no stage above 128.
     Two,
-    /// All is there.
+    /// Lanes have no digest, addresses have four bytes, and nothing closes the text.
     Three,
+    /// All is there.
+    Four,
 }
 
 /// Bytes, of which those before a place were read.
@@ -84,6 +86,13 @@ impl<'a> Reader<'a> {
         ensures { IsTrue result ↔ (self.now.left.now ≡ []) }
     {
         self.left.is_empty()
+    }
+
+    /// The number of bytes that are left.
+    pub(crate) fn count_left(&self) -> usize
+        ensures { result ≡ length self.now.left.now }
+    {
+        self.left.len()
     }
 
     /// The number of bytes that were read.

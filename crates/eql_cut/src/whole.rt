@@ -2,7 +2,9 @@
 ghost use Rattle.std.specs.Prelude.{◌≡◌, ◌++◌, OnOk, IfOk, IfErr};
 ghost use Rattle.eql_cut.specs.declared.reader.Version.TheVariants as version;
 ghost use Rattle.eql_cut.specs.Reading.{Reads, Answers, IfDamaged};
-ghost use Rattle.eql_cut.specs.CutValues.{cut, cut_file, cut_text, IsOrderedCut};
+ghost use Rattle.std.specs.Int.{w64};
+ghost use Rattle.eql_cut.specs.Formats.{the_number};
+ghost use Rattle.eql_cut.specs.CutValues.{cut, unclosed, closing, cut_file, cut_text, IsOrderedCut};
 ghost use Rattle.eql_cut.specs.CutValues.{header, exactly, version_byte, number_of};
 ghost use Rattle.eql_cut.specs.Domain.{IsCut};
 ghost use Rattle.eql_cut.specs.Whole.{IsText, IsTextBehind, IsTextOf, IsNoText};
@@ -10,6 +12,7 @@ ghost use Rattle.eql_cut.specs.Whole.{IsText, IsTextBehind, IsTextOf, IsNoText};
 use crate::coded::Coded;
 use crate::cut::Cut;
 use crate::reader::{CutRefused, Reader, Version};
+use eql_digest::checksum;
 use eql_values::{Memory, orders_told_alike};
 use std::alloc::Global;
 
@@ -18,7 +21,7 @@ use std::alloc::Global;
 pub struct Decoded {
     /// The cut.
     pub cut: Cut,
-    /// The format, 1 to 3.
+    /// The format, 1 to 4.
     pub format: u8,
 }
 
@@ -42,6 +45,7 @@ impl Version {
             Version::One => 1,
             Version::Two => 2,
             Version::Three => 3,
+            Version::Four => 4,
         }
     }
 
@@ -54,6 +58,7 @@ impl Version {
             Some([1]) => Ok(Version::One),
             Some([2]) => Ok(Version::Two),
             Some([3]) => Ok(Version::Three),
+            Some([4]) => Ok(Version::Four),
             _ => Err(CutRefused::Damaged { at }),
         }
     }
@@ -71,21 +76,60 @@ impl Version {
     }
 }
 
+/// Reads the text of a cut up to what closes it.
+fn read_unclosed(from: &mut Reader, alloc: Global) -> Result<(Version, Cut), CutRefused>
+    ensures { Reads unclosed result from.old.left.now from.new.left.now }
+{
+    let version = Version::read(from)?;
+    let cut = Cut::read(from, alloc, version)?;
+    Ok((version, cut))
+}
+
+/// Reads a number, which is to be this one.
+fn expect_number(from: &mut Reader, alloc: Global, number: u64) -> Result<(), CutRefused>
+    ensures { Reads (the_number w64 number) result from.old.left.now from.new.left.now }
+{
+    let at = from.place();
+    let found = u64::read(from, alloc, Version::Four)?;
+    if found == number {
+        Ok(())
+    } else {
+        Err(CutRefused::Damaged { at })
+    }
+}
+
+/// Reads what closes a text of these bytes.
+fn read_closing(
+    from: &mut Reader,
+    alloc: Global,
+    of: Version,
+    bytes: &[u8],
+) -> Result<(), CutRefused>
+    ensures { Reads (closing of bytes.now) result from.old.left.now from.new.left.now }
+{
+    match of {
+        Version::One | Version::Two | Version::Three => Ok(()),
+        Version::Four => expect_number(from, alloc, checksum(bytes)),
+    }
+}
+
 /// Writes the text of a cut behind the bytes of a head.
 ///
 /// It takes memory at once for about as much as the text of its pending sequences needs, so that what is written
 /// seldom has to move.
 fn write_whole(alloc: Global, head: &[u8], given: &Cut) -> Result<Vec<u8>, Memory>
     requires { IsOrderedCut given.now }
-    ensures text { IfOk result (λ v. v.items ≡ head.now ++ cut_text version.Three given.now) }
-    ensures fits { OnOk result ((cut version.Three).Fits given.now) }
+    ensures text { IfOk result (λ v. v.items ≡ head.now ++ cut_text version.Four given.now) }
+    ensures fits { OnOk result ((cut version.Four).Fits given.now) }
 {
     let pending = given.holders.items().len();
     let room = pending.saturating_mul(100).saturating_add(64);
     let mut to = Vec::with_capacity(alloc, head.len().saturating_add(room))?;
     to.extend_from_slice(head)?;
-    to.extend_from_slice(&[0x45, 0x51, 0x4c, 0x43, 3])?;
+    to.extend_from_slice(&[0x45, 0x51, 0x4c, 0x43, 4])?;
     given.write(&mut to)?;
+    let sum = checksum(&to[head.len()..]);
+    sum.write(&mut to)?;
     Ok(to)
 }
 
@@ -94,16 +138,16 @@ fn read_whole(alloc: Global, bytes: &[u8]) -> Result<(Version, Cut), CutRefused>
     ensures { Answers cut_file result bytes.now }
 {
     let mut from = Reader::new(bytes);
-    let version = Version::read(&mut from)?;
-    let cut = Cut::read(&mut from, alloc, version)?;
-    if from.is_done() {
-        Ok((version, cut))
-    } else {
-        Err(CutRefused::Damaged { at: from.place() })
+    let (version, cut) = read_unclosed(&mut from, alloc)?;
+    let unclosed = &bytes[..bytes.len() - from.count_left()];
+    match read_closing(&mut from, alloc, version, unclosed) {
+        Ok(()) if from.is_done() => Ok((version, cut)),
+        Ok(()) => Err(CutRefused::Damaged { at: from.place() }),
+        Err(refused) => Err(refused),
     }
 }
 
-/// The text of a cut in format 3.
+/// The text of a cut in format 4.
 ///
 /// The cut is to stand in the orders and counts that a text has; `decode` gives no other.
 ///
@@ -112,13 +156,13 @@ fn read_whole(alloc: Global, bytes: &[u8]) -> Result<(Version, Cut), CutRefused>
 /// [`Memory`] where memory ran out.
 pub fn encode(alloc: Global, cut: &Cut) -> Result<Vec<u8>, Memory>
     requires { IsCut cut.now }
-    ensures { IfOk result (λ bytes. IsText 3 cut.now bytes.items) }
+    ensures { IfOk result (λ bytes. IsText 4 cut.now bytes.items) }
 {
     orders_told_alike();
     write_whole(alloc, &[], cut)
 }
 
-/// The bytes of the head, and behind them the text of a cut in format 3.
+/// The bytes of the head, and behind them the text of a cut in format 4.
 ///
 /// So a text that is to stand behind other bytes needs no second copy. The cut is to stand as `encode` asks.
 ///
@@ -133,7 +177,7 @@ pub fn encode_behind(alloc: Global, head: &[u8], cut: &Cut) -> Result<Vec<u8>, M
     write_whole(alloc, head, cut)
 }
 
-/// The cut that the bytes spell, all of them, in any of the three formats.
+/// The cut that the bytes spell, all of them, in any of the four formats.
 ///
 /// # Errors
 ///

@@ -1,5 +1,5 @@
 //! Which runs a cut fits: a cut that fits a run of three stages, and what breaks each rule.
-use crate::tests::bytes::{push_hex, text_of};
+use crate::tests::bytes::push_hex;
 use eql_cut::{Cut, decode, fits};
 use eql_values::{Pipe, Pipes};
 use std::alloc::{AllocError, Global};
@@ -126,16 +126,16 @@ fn own_part<'a>(parts: &'a str, name: &str) -> Option<&'a str> {
 }
 
 /// Puts the cut that fits, with the parts of a row in place of its own. Returns how many of them were put.
-fn push_cut(spread: &mut Vec<Option<u8>>, parts: &str) -> Result<usize, AllocError> {
+fn push_cut(bytes: &mut Vec<u8>, parts: &str) -> Result<usize, AllocError> {
     let mut count = 0usize;
     for part in FITTING.lines() {
         let (name, hex) = part.split_once(' ').unwrap_or((part, ""));
         match own_part(parts, name) {
             Some(own) => {
-                push_hex(spread, own.as_bytes(), true)?;
+                push_hex(bytes, own.as_bytes())?;
                 count = count.saturating_add(1);
             }
-            None => push_hex(spread, hex.as_bytes(), true)?,
+            None => push_hex(bytes, hex.as_bytes())?,
         }
     }
     Ok(count)
@@ -143,10 +143,10 @@ fn push_cut(spread: &mut Vec<Option<u8>>, parts: &str) -> Result<usize, AllocErr
 
 /// The bytes of the cut that fits with the parts of a row; none where not each of them is put.
 fn cut_with(alloc: Global, parts: &str) -> Result<Vec<u8>, AllocError> {
-    let mut spread = Vec::new(alloc);
-    let count = push_cut(&mut spread, parts)?;
+    let mut bytes = Vec::new(alloc);
+    let count = push_cut(&mut bytes, parts)?;
     if parts.split('=').count() == count.saturating_add(1) {
-        text_of(alloc, &spread)
+        Ok(bytes)
     } else {
         Ok(Vec::new(alloc))
     }

@@ -3,7 +3,7 @@ ghost use Rattle.std.specs.Prelude.{IfOk};
 ghost use Rattle.eql_cut.specs.Domain.{IsCut};
 ghost use Rattle.eql_cut.specs.Placing.{IsUnplaced, LinesAscend, orders_in};
 
-use crate::tests::bytes::text_in;
+use crate::tests::bytes::{closed, spread_of, text_in};
 use crate::tests::places::are_named;
 use eql_cut::{Cut, decode, encode, first_format_has_no_places, lift, lifted_cuts_fit};
 use eql_values::{PlaceLists, Places};
@@ -20,8 +20,14 @@ f
 1 0500000000000000 02000000
 1 e8030000000000000000000000000000
 1 0200000000000000
-// The first lane: 900 bytes, open, best 1200; 9 lines, all accepted.
-1 8403000000000000 00
+// The first lane: 900 bytes with the digest of none, open, best 1200; 9 lines, all accepted.
+1 8403000000000000
+w 08c9bcf367e6096a 3ba7ca8485ae67bb
+w 2bf894fe72f36e3c f1361d5f3af54fa5
+w d182e6ad7f520e51 1f6c3e2b8c68059b
+w 6bbd41fbabd9831f 79217e1319cde05b
+w 0000000000000000 0000000000000000
+1 00
 1 01 b0040000000000000000000000000000
 1 09000000 09000000 00000000 00000000 00
 // Its event at 1000, at line 9; a route by no values, of stage 1.
@@ -32,8 +38,14 @@ f
 1 01000000000000000000000000000000
 3 00000000000000000000000000000000
 1 00
-// The second lane: 77 bytes, closed, best 800; 3 lines, all accepted.
-1 4d00000000000000 01
+// The second lane: 77 bytes with the digest of none, closed, best 800; 3 lines, all accepted.
+1 4d00000000000000
+w 08c9bcf367e6096a 3ba7ca8485ae67bb
+w 2bf894fe72f36e3c f1361d5f3af54fa5
+w d182e6ad7f520e51 1f6c3e2b8c68059b
+w 6bbd41fbabd9831f 79217e1319cde05b
+w 0000000000000000 0000000000000000
+1 01
 1 01 20030000000000000000000000000000
 1 03000000 03000000 00000000 00000000 00
 1 0000000000000000
@@ -91,7 +103,7 @@ fn is_text(alloc: Global, cut: &Cut, text: &[u8]) -> bool
     }
 }
 
-/// Whether the cut with its places has this text in format 3.
+/// Whether the cut with its places has this text in format 4.
 fn is_lifted_as(alloc: Global, cut: Cut, places: PlaceLists, text: &[u8]) -> bool
     requires unplaced { IsUnplaced (orders_in cut) }
     requires stands { IsCut cut }
@@ -104,9 +116,9 @@ fn is_lifted_as(alloc: Global, cut: Cut, places: PlaceLists, text: &[u8]) -> boo
     }
 }
 
-/// Whether the cut of the first format has the text of format 3 with its places.
+/// Whether the cut of the first format has the text of format 4 with the places of format 3.
 fn is_lifted(alloc: Global) -> Result<bool, Fail> {
-    let text = text_in(alloc, PARTS, 3)?;
+    let text = closed(alloc, &spread_of(alloc, PARTS, 3)?.fourth, 4)?;
     let places = noted(alloc)?;
     Ok(is_lifted_as(alloc, first_cut(alloc)?, places, &text))
 }

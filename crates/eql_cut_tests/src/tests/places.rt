@@ -42,5 +42,6 @@ fn lines_are_named(rt: HostRuntime) {
         are_named(rt.alloc(), PARTS, 1, NAMED)
             && are_named(rt.alloc(), PARTS, 2, NAMED)
             && are_named(rt.alloc(), PARTS, 3, NAMED)
+            && are_named(rt.alloc(), PARTS, 4, NAMED)
     );
 }

@@ -1,6 +1,7 @@
 //! The text of a cut, by bytes that were written by hand.
-use crate::tests::bytes::{PARTS, push_hex, spread_of, text_in, text_of};
+use crate::tests::bytes::{PARTS, Spread, closed, push_hex, spread_of, text_in};
 use eql_cut::{Cut, CutRefused, decode, encode};
+use eql_digest::Digest;
 use eql_values::{
     FirstBad, Holder, Kind, LaneCut, OrderKey, PipeState, Reason, Route, Text, Value,
 };
@@ -63,7 +64,7 @@ fn is_route(route: &Route, key: &Value, low: u128, high: u128, until: bool) -> b
 
 /// Whether the events of the first lane are those of the text.
 fn are_events(lane: &LaneCut, format: u8, text: &Value) -> bool {
-    let top = if format == 3 { 1 << 127 } else { 0 };
+    let top = if format >= 3 { 1 << 127 } else { 0 };
     match lane.items.items().as_slice() {
         [first, second] => {
             let by_first = match first.routes.items().as_slice() {
@@ -86,6 +87,28 @@ fn are_events(lane: &LaneCut, format: u8, text: &Value) -> bool {
     }
 }
 
+/// The digest of the lane with this first number of its own, which is that of no bytes before format 4.
+fn digest(format: u8, first: u64, word: u64, length: u64) -> Digest {
+    if format < 4 {
+        return Digest::new();
+    }
+    let mut lanes = [first; 8];
+    for i in 0..8 {
+        lanes[i] = first.wrapping_add(i as u64);
+    }
+    Digest {
+        lanes,
+        word,
+        length,
+    }
+}
+
+/// Whether the digests of the lanes are those of the text.
+fn are_digests(open: &LaneCut, closed: &LaneCut, format: u8) -> bool {
+    open.digest == digest(format, 0x0102_0304_0506_0701, 0x9988_7766, 300)
+        && closed.digest == digest(format, 0xffff_ffff_ffff_fff0, 0, 77)
+}
+
 /// Whether the lanes are those of the text.
 fn are_lanes(cut: &Cut, format: u8, text: &Value) -> bool {
     let bad = FirstBad {
@@ -100,6 +123,7 @@ fn are_lanes(cut: &Cut, format: u8, text: &Value) -> bool {
                 && open.best == Some(1200)
                 && (counts.lines, counts.accepted, counts.late, counts.rejected) == (9, 4, 1, 2)
                 && counts.first == Some(bad)
+                && are_digests(open, closed, format)
                 && are_events(open, format, text)
                 && closed.offset == 77
                 && closed.closed
@@ -179,7 +203,7 @@ fn is_read(alloc: Global, format: u8) -> Result<bool, AllocError> {
 
 /// Whether the texts of all formats are read.
 fn are_read(alloc: Global) -> Result<bool, AllocError> {
-    Ok(is_read(alloc, 1)? && is_read(alloc, 2)? && is_read(alloc, 3)?)
+    Ok(is_read(alloc, 1)? && is_read(alloc, 2)? && is_read(alloc, 3)? && is_read(alloc, 4)?)
 }
 
 #[test]
@@ -187,23 +211,15 @@ fn texts_of_each_format_are_read(rt: HostRuntime) {
     assert!(rt; are_read(rt.alloc()) == Ok(true));
 }
 
-/// The text that is written in format 3 where a text has these places: what has no byte is 0.
-fn third_of(alloc: Global, spread: &[Option<u8>]) -> Result<Vec<u8>, AllocError> {
-    let mut third = Vec::new(alloc);
-    for place in spread {
-        third.push(place.unwrap_or(0))?;
-    }
-    if let Some(format) = third.get_mut(4) {
-        *format = 3;
-    }
-    Ok(third)
-}
-
-/// Whether a text is read in its format, and written as this one in format 3. None where it's refused at one of its bytes.
-fn is_written_as(alloc: Global, text: &[u8], format: u8, third: &[u8]) -> Option<bool> {
+/// Whether a text is read in its format, and written in format 4 with these bytes before its checksum. None where it's refused
+/// at one of its bytes.
+fn is_written_as(alloc: Global, text: &[u8], format: u8, fourth: &[u8]) -> Option<bool> {
     match decode(alloc, text) {
         Ok(read) => match encode(alloc, &read.cut) {
-            Ok(written) => Some(read.format == format && written.as_slice() == third),
+            Ok(written) => {
+                let is_closed = written.len().saturating_sub(8) == fourth.len();
+                Some(read.format == format && is_closed && written.starts_with(fourth))
+            }
             Err(_) => Some(false),
         },
         Err(CutRefused::Damaged { at }) if at <= text.len() as u64 => None,
@@ -211,15 +227,10 @@ fn is_written_as(alloc: Global, text: &[u8], format: u8, third: &[u8]) -> Option
     }
 }
 
-/// Whether the text that has these places is written in format 3 with the same bytes. None where it's refused.
-fn is_written(
-    alloc: Global,
-    spread: &[Option<u8>],
-    format: u8,
-) -> Result<Option<bool>, AllocError> {
-    let text = text_of(alloc, spread)?;
-    let third = third_of(alloc, spread)?;
-    Ok(is_written_as(alloc, &text, format, &third))
+/// Whether the text of these bytes is written in format 4 with just those. None where it's refused.
+fn is_written(alloc: Global, spread: &Spread, format: u8) -> Result<Option<bool>, AllocError> {
+    let text = closed(alloc, &spread.own, format)?;
+    Ok(is_written_as(alloc, &text, format, &spread.fourth))
 }
 
 /// Whether the text of a format is written so.
@@ -230,45 +241,52 @@ fn is_whole_written(alloc: Global, format: u8) -> Result<bool, AllocError> {
 
 /// Whether the texts of all formats are written so.
 fn are_written(alloc: Global) -> Result<bool, AllocError> {
-    Ok(is_whole_written(alloc, 1)? && is_whole_written(alloc, 2)? && is_whole_written(alloc, 3)?)
+    Ok(
+        is_whole_written(alloc, 1)?
+            && is_whole_written(alloc, 2)?
+            && is_whole_written(alloc, 3)?
+            && is_whole_written(alloc, 4)?,
+    )
 }
 
 #[test]
-fn texts_are_written_in_format_3(rt: HostRuntime) {
+fn texts_are_written_in_format_4(rt: HostRuntime) {
     assert!(rt; are_written(rt.alloc()) == Ok(true));
 }
 
-/// Puts a byte at a place.
-fn put(spread: &mut [Option<u8>], at: usize, byte: u8) {
-    if let Some(place) = spread.get_mut(at) {
-        *place = Some(byte);
+/// What stands in place of a byte, one after the other: each of its bits is turned round, and then 0, 1, 2 and 255.
+fn other_than(whole: u8, way: u8) -> u8 {
+    match way {
+        0..=7 => whole ^ 1 << way,
+        8..=10 => way - 8,
+        _ => 255,
     }
 }
 
-/// Whether each byte at a place that has this one is refused, or written in format 3 at just that place.
+/// Whether each such byte at a place is refused, or written in format 4 at just that place.
 fn byte_counts(
     alloc: Global,
-    spread: &mut [Option<u8>],
+    spread: &mut Spread,
     at: usize,
     whole: u8,
     format: u8,
 ) -> Result<bool, AllocError> {
     let mut counts = true;
-    for other in 0..=255u8 {
-        put(spread, at, other);
+    for way in 0..12u8 {
+        spread.set(at, other_than(whole, way));
         counts = counts && is_written(alloc, spread, format)? != Some(false);
     }
-    put(spread, at, whole);
+    spread.set(at, whole);
     Ok(counts)
 }
 
-/// Whether each text that differs in one byte from that of the format is refused, or is written in
-/// format 3 with just that byte.
+/// Whether each text that differs in one byte from that of the format, and in its checksum, is refused, or is written in
+/// format 4 with just that byte.
 fn every_byte_counts(alloc: Global, format: u8) -> Result<bool, AllocError> {
     let mut spread = spread_of(alloc, PARTS, format)?;
     let mut count = true;
-    for at in 0..spread.len() {
-        if let Some(Some(whole)) = spread.get(at).copied() {
+    for at in 0..spread.own.len() {
+        if let Some(whole) = spread.own.get(at).copied() {
             count = count && byte_counts(alloc, &mut spread, at, whole, format)?;
         }
     }
@@ -288,6 +306,57 @@ fn every_byte_of_format_2_counts(rt: HostRuntime) {
 #[test]
 fn every_byte_of_format_3_counts(rt: HostRuntime) {
     assert!(rt; every_byte_counts(rt.alloc(), 3) == Ok(true));
+}
+
+#[test]
+fn every_byte_of_format_4_counts(rt: HostRuntime) {
+    assert!(rt; every_byte_counts(rt.alloc(), 4) == Ok(true));
+}
+
+/// Whether a text is damaged with each bit of one byte turned round.
+fn are_bits_damage(alloc: Global, text: &mut [u8], at: usize) -> bool {
+    let mut damaged = true;
+    for bit in 0..8u32 {
+        if let Some(byte) = text.get_mut(at) {
+            *byte ^= 1 << bit;
+        }
+        damaged = damaged && damage(alloc, text).is_some();
+        if let Some(byte) = text.get_mut(at) {
+            *byte ^= 1 << bit;
+        }
+    }
+    damaged
+}
+
+/// Whether the text of format 4 is damaged with any bit turned round.
+fn is_each_bit_damage(alloc: Global) -> Result<bool, AllocError> {
+    let mut text = text_in(alloc, PARTS, 4)?;
+    let mut damaged = true;
+    for at in 0..text.len() {
+        damaged = damaged && are_bits_damage(alloc, &mut text, at);
+    }
+    Ok(damaged)
+}
+
+#[test]
+fn each_bit_of_format_4_is_told(rt: HostRuntime) {
+    assert!(rt; is_each_bit_damage(rt.alloc()) == Ok(true));
+}
+
+/// The last eight bytes of the text in format 4: the rest of one long division that was worked out apart from the program.
+const CLOSING: &str = "b8ad07031f1dff70";
+
+/// Whether the text of format 4 has these bytes at its end.
+fn is_closed(alloc: Global) -> Result<bool, AllocError> {
+    let text = text_in(alloc, PARTS, 4)?;
+    let mut closing = Vec::new(alloc);
+    push_hex(&mut closing, CLOSING.as_bytes())?;
+    Ok(text.ends_with(&closing))
+}
+
+#[test]
+fn a_text_is_closed_by_its_checksum(rt: HostRuntime) {
+    assert!(rt; is_closed(rt.alloc()) == Ok(true));
 }
 
 /// The place at which bytes are damaged; none where they aren't.
@@ -318,7 +387,7 @@ fn is_whole(alloc: Global, format: u8) -> Result<bool, AllocError> {
 
 /// Whether the texts of all formats are whole.
 fn are_whole(alloc: Global) -> Result<bool, AllocError> {
-    Ok(is_whole(alloc, 1)? && is_whole(alloc, 2)? && is_whole(alloc, 3)?)
+    Ok(is_whole(alloc, 1)? && is_whole(alloc, 2)? && is_whole(alloc, 3)? && is_whole(alloc, 4)?)
 }
 
 #[test]
@@ -331,17 +400,19 @@ static REFUSED: &[(&str, u64)] = &[
     ("", 0),
     ("00", 0),
     ("45514c43", 4),
-    ("45514c43 04", 4),
+    ("45514c43 05", 4),
+    ("45514c43 00", 4),
     // A text, and then a list, with a length above the number of bytes that are there.
     ("45514c43 03 ffffffffffffffff 71", 5),
     ("45514c43 03 0100000000000000 71 ffffffffffffffff", 22),
+    ("45514c43 04 0100000000000000 71 ffffffffffffffff", 22),
 ];
 
 /// The place at which bytes in hexadecimal are damaged.
 fn damage_of(alloc: Global, hex: &str) -> Result<Option<u64>, AllocError> {
-    let mut spread = Vec::new(alloc);
-    push_hex(&mut spread, hex.as_bytes(), true)?;
-    Ok(damage(alloc, &text_of(alloc, &spread)?))
+    let mut bytes = Vec::new(alloc);
+    push_hex(&mut bytes, hex.as_bytes())?;
+    Ok(damage(alloc, &bytes))
 }
 
 #[test]

@@ -5,6 +5,6 @@ use Rattle.eql_cut.proofs.lists.write_each.Given as goal
 
 abbrev pub invariant-loop-item : goal.invariant-loop-item
 invariant-loop-item g l = record {
-  text : l.to.items ≡ l.fn.to.items ++ flat_map (g.T.Coded.format version.Three).text (take l.item-index l.items);
-  fits : All (g.T.Coded.format version.Three).Fits (take l.item-index l.items);
+  text : l.to.items ≡ l.fn.to.items ++ flat_map (g.T.Coded.format version.Four).text (take l.item-index l.items);
+  fits : All (g.T.Coded.format version.Four).Fits (take l.item-index l.items);
 }

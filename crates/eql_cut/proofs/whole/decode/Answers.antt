@@ -13,4 +13,4 @@ returns-in-Ok-clause-stands c =
     stands c.orders_told_alike.ensures.back c.in-Ok.version c.in-Ok.cut c.args.bytes.now (λ i. omega (arith, c.type_inv.bytes i)) c.in-Ok.ensures
 
 pub returns-in-Err-clause-damaged : goal.returns-in-Err-clause-damaged
-returns-in-Err-clause-damaged c = damaged c.in-Err.refused c.args.bytes.now c.in-Err.ensures
+returns-in-Err-clause-damaged c = damaged c.in-Err.refused c.args.bytes.now (λ i. omega (arith, c.type_inv.bytes i)) c.in-Err.ensures
